@@ -1,0 +1,3 @@
+pub mod Memories
+pub mod Histories
+pub mod Logs

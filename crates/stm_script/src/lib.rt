@@ -1,0 +1,9 @@
+//! Workloads: operations and what they mean, scripts over any access, and reports of what they did.
+#![tactic(auto)]
+
+pub mod lists;
+pub mod op;
+pub mod region;
+pub mod replies;
+pub mod report;
+pub mod workload;

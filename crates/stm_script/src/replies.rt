@@ -1,0 +1,80 @@
+//! Room for the replies and emits of an attempt.
+ghost use Rattle.std.specs.Prelude.{◌≡◌, ◌<◌, ◌+◌, [], ◌∷◌, ◌++◌, IfOk, length};
+ghost use Rattle.stm_script.specs.Outputs.{Output};
+
+use crate::lists::Words;
+use std::alloc::Global;
+use std::marker::Model;
+use stm_model::memory::Memory;
+
+/// The replies and emits so far, with room for `room` of each.
+#[derive(Drop, Debug)]
+pub struct Replies {
+    replies: Vec<u64>,
+    emits: Vec<u64>,
+    room: usize,
+}
+
+impl Model for Replies {
+    ghost use Rattle.std.specs.Prelude.{ℕ, ◌≤◌, vec_capacity};
+    ghost use Rattle.stm_script.specs.Outputs.{Output};
+
+    ghost Value = { Output };
+
+    ghost view = { λ r. record { replies = r.replies.items; emits = r.emits.items; room = r.room } };
+
+    ghost invariant = { λ r. (r.room ≤ vec_capacity r.replies) × (r.room ≤ vec_capacity r.emits) };
+}
+
+impl Replies {
+    /// Room for `ops` replies and as many emits. Memory may be refused.
+    pub fn new(alloc: Global, ops: usize) -> Result<Replies, Memory>
+        ensures { IfOk result (λ r. r ≡ record { replies = []; emits = []; room = ops }) }
+    {
+        let mut replies = Vec::new(alloc);
+        replies.reserve(ops)?;
+        let mut emits = Vec::new(alloc);
+        emits.reserve(ops)?;
+        Ok(Replies {
+            replies,
+            emits,
+            room: ops,
+        })
+    }
+
+    /// Drops what is there and keeps the room.
+    pub fn clear(&mut self)
+        ensures { self.new ≡ record self.old { replies = []; emits = [] } }
+    {
+        self.replies.clear();
+        self.emits.clear();
+    }
+
+    /// The replies and the emits.
+    pub fn into_words(self) -> (Words, Words)
+        ensures { (result.0 ≡ self.replies) × (result.1 ≡ self.emits) }
+    {
+        let Replies {
+            replies,
+            emits,
+            room: _,
+        } = self;
+        (Words::new(replies), Words::new(emits))
+    }
+
+    /// Adds a reply. Takes no memory.
+    pub fn reply(&mut self, v: u64)
+        requires { length self.old.replies < self.old.room }
+        ensures { self.new ≡ record self.old { replies = self.old.replies ++ v ∷ [] } }
+    {
+        self.replies.push_reserved(v);
+    }
+
+    /// Adds an emit. Takes no memory.
+    pub fn emit(&mut self, v: u64)
+        requires { length self.old.emits < self.old.room }
+        ensures { self.new ≡ record self.old { emits = self.old.emits ++ v ∷ [] } }
+    {
+        self.emits.push_reserved(v);
+    }
+}

@@ -1,0 +1,107 @@
+//! Workloads: what callers are to do, and over which memory.
+ghost use Rattle.std.specs.Prelude.{◌≡◌};
+
+use crate::lists::Script;
+use std::marker::Model;
+use stm_model::alg::Alg;
+
+/// The sizes and the start of a memory.
+#[derive(Clone, Copy, Drop, Debug, PartialEq, Eq)]
+pub struct Header {
+    /// Words of the heap.
+    pub words: usize,
+    /// Ownership records.
+    pub records: usize,
+    /// Slots of the ring.
+    pub ring: usize,
+    pub callers: usize,
+    /// Length of each read log.
+    pub reads: usize,
+    /// Length of each write log and undo log.
+    pub writes: usize,
+    /// The clock at the start, at most 2^62.
+    pub clock: u64,
+    /// The algorithm at the start.
+    pub alg: Alg,
+    /// Whether the words 64 to 1,023 are those of the four structures.
+    pub structs: bool,
+}
+
+/// One thing that a caller is to do.
+#[derive(Drop, Debug)]
+pub enum Item {
+    Tx { caller: usize, script: Script },
+    Switch { caller: usize, alg: Alg },
+}
+
+/// What all callers are to do; each takes its own items in this order.
+#[derive(Drop, Debug)]
+pub struct Items {
+    items: Vec<Item>,
+}
+
+impl Model for Items {
+    ghost use Rattle.std.specs.Prelude.{List};
+    ghost use Rattle.stm_script.specs.declared.workload.Item.{Item};
+
+    ghost Value = { List Item };
+
+    ghost view = { λ i. i.items.items };
+}
+
+impl Items {
+    pub fn new(items: Vec<Item>) -> Items
+        ensures { result ≡ items.items }
+    {
+        Items { items }
+    }
+
+    pub fn as_slice(&self) -> &[Item]
+        ensures { result.now ≡ self.now }
+    {
+        self.items.as_slice()
+    }
+}
+
+/// So many turns of one caller.
+#[derive(Clone, Copy, Drop, Debug, PartialEq, Eq)]
+pub struct Go {
+    pub caller: usize,
+    pub turns: u32,
+}
+
+/// A schedule: whose turns come, in order.
+#[derive(Drop, Debug)]
+pub struct Gos {
+    items: Vec<Go>,
+}
+
+impl Model for Gos {
+    ghost use Rattle.std.specs.Prelude.{List};
+    ghost use Rattle.stm_script.specs.declared.workload.Go.{Go};
+
+    ghost Value = { List Go };
+
+    ghost view = { λ g. g.items.items };
+}
+
+impl Gos {
+    pub fn new(items: Vec<Go>) -> Gos
+        ensures { result ≡ items.items }
+    {
+        Gos { items }
+    }
+
+    pub fn as_slice(&self) -> &[Go]
+        ensures { result.now ≡ self.now }
+    {
+        self.items.as_slice()
+    }
+}
+
+#[derive(Drop, Debug)]
+pub struct Workload {
+    pub header: Header,
+    pub items: Items,
+    pub schedule: Gos,
+}
