@@ -1,3 +1,9 @@
 pub mod Memories
 pub mod Histories
 pub mod Logs
+pub mod Overlays
+pub mod HistoryLaws
+pub mod Plains
+pub mod PlainLaws
+pub mod Statements
+pub mod Settling

@@ -1,5 +1,5 @@
 -- Memories, write sets, and what explains a read set.
-use Rattle.std.specs.Prelude.{ℕ, ◌≡◌, ◌==◌, if◌then◌else◌, List, [], ◌∷◌, length, slice_index, slice_set, Option, Some, None}
+use Rattle.std.specs.Prelude.{ℕ, ◌≡◌, ◌==◌, if◌then◌else◌, List, [], ◌∷◌, length, slice_index, slice_set, Option, Some, None, Bool, true, false}
 
 -- A memory is the list of its words. A read set and a write set are lists of address and value, with one item an address.
 
@@ -32,3 +32,7 @@ Once (w ∷ ws) = (item_at w.0 ws ≡ None) × Once ws
 abbrev pub Explains : List ℕ → List (ℕ × ℕ) → Type 0
 Explains memory [] = Unit {0}
 Explains memory (r ∷ rs) = (slice_index memory r.0 ≡ r.1) × Explains memory rs
+
+abbrev pub is_empty : List (ℕ × ℕ) → Bool
+is_empty [] = true
+is_empty (w ∷ ws) = false

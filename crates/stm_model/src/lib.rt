@@ -4,6 +4,8 @@
 
 pub mod access;
 pub mod alg;
+pub mod laws;
 pub mod memory;
+pub mod plain;
 pub mod rule;
 pub mod stop;
