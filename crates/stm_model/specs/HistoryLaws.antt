@@ -54,7 +54,7 @@ memory_at-entry floor (x ∷ es) m (suc k) d asc lt =
     let up = time-above x.time es k asc.1 (omega arith) d in
     let t = (get_or es k d).time in
     memory_at-past t x es m (omega arith) ∙ (memory_at-entry x.time es (overlay m x.writes) k d asc.1 (omega arith)
-      ∙ ap (λ y. overlay y (get_or es k d).writes) (sym (memory_at-past (t - 1) x es m (omega arith))))
+    ∙ ap (λ y. overlay y (get_or es k d).writes) (sym (memory_at-past (t - 1) x es m (omega arith))))
 
 -- the times of a history end within the limit
 abbrev pub Within : ℕ → List Entry → Type 0

@@ -19,8 +19,8 @@ abbrev pub Reads : Log → ℕ → ℕ → Log → Type 0
 Reads l a v k =
     (k.writes ≡ l.writes)
     × MatchOption (item_at a l.writes)
-        (MatchOption (item_at a l.reads) (k.reads ≡ l.reads ++ (a, v) ∷ []) (λ x. (v ≡ x) × (k.reads ≡ l.reads)))
-        (λ x. (v ≡ x) × (k.reads ≡ l.reads))
+    (MatchOption (item_at a l.reads) (k.reads ≡ l.reads ++ (a, v) ∷ []) (λ x. (v ≡ x) × (k.reads ≡ l.reads)))
+    (λ x. (v ≡ x) × (k.reads ≡ l.reads))
 
 -- the log's writes are as after a put; their order is left open
 abbrev pub Writes : Log → ℕ → ℕ → Log → Type 0

@@ -132,5 +132,6 @@ overlay-same m ws vs h = same_list (overlay m ws) (overlay m vs) (overlay-length
 pub writes-see : (m : List ℕ) (l : Log) (a v : ℕ) (k : Log) → Writes l a v k
     → (Explains m k.reads → Explains m l.reads) × (overlay m k.writes ≡ set (overlay m l.writes) a v)
 writes-see m l a v k w = (
-    subst (Explains m) w.0,
-    overlay-same m k.writes (put a v l.writes) w.1 ∙ overlay-put m a v l.writes)
+  subst (Explains m) w.0,
+  overlay-same m k.writes (put a v l.writes) w.1 ∙ overlay-put m a v l.writes,
+)

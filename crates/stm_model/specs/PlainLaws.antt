@@ -91,7 +91,7 @@ writes-set i zero j (x ∷ ws) w v b e q lt = let s : j ≡ i = omega arith in r
 writes-set i (suc k) j (x ∷ ws) w v b e q lt = behind x.own (writes-set (suc i) k j ws w v b e (omega arith) (omega arith))
   where
     behind : (o : Option ℕ) → item_at b (writes_from (suc i) (set ws k w)) ≡ (if j == b then Some v else item_at b (writes_from (suc i) ws))
-      → item_at b (own_item i o (writes_from (suc i) (set ws k w))) ≡ (if j == b then Some v else item_at b (own_item i o (writes_from (suc i) ws)))
+        → item_at b (own_item i o (writes_from (suc i) (set ws k w))) ≡ (if j == b then Some v else item_at b (own_item i o (writes_from (suc i) ws)))
     behind None h = h
     behind (Some x) h = let n : j ≢ i = omega arith in grind (arith, nat_tests, h, n)
 

@@ -78,8 +78,8 @@ pub openings-settled : (i : ℕ) (ws : List PlainWord) → length ws ≤ i → o
 openings-settled i ws le =
     let d : PlainWord = record { opening = 0; own = None } in
     same_list (openings (change_first settled i ws)) (overlay (openings ws) (own_writes ws))
-      (openings-length (change_first settled i ws) ∙ (length-change_first settled i ws ∙ sym (overlay-length (openings ws) (own_writes ws) ∙ openings-length ws)))
-      (λ k. settled-each i ws d le k (ltb k (length ws)) refl)
+    (openings-length (change_first settled i ws) ∙ (length-change_first settled i ws ∙ sym (overlay-length (openings ws) (own_writes ws) ∙ openings-length ws)))
+    (λ k. settled-each i ws d le k (ltb k (length ws)) refl)
 
 pub any_own-writes : (k : ℕ) (ws : List PlainWord) → any_own ws ≡ not (is_empty (writes_from k ws))
 any_own-writes k [] = refl
@@ -118,6 +118,7 @@ any_own-end ws i b le h = or-none b (any_own (drop i ws)) (past ws i le) ∙ (h 
     past [] (suc k) h = refl
     past (x ∷ l) zero h = absurd (omega arith)
     past (x ∷ l) (suc k) h = past l k (omega arith)
+
     or-none : (x y : Bool) → y ≡ false → x ≡ x || y
     or-none true y e = refl
     or-none false y e = sym e

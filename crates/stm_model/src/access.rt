@@ -13,8 +13,11 @@ pub trait Access {
     ghost use Rattle.stm_model.specs.declared.stop.Stop.{Stop};
 
     ghost log: { Self → Log };
+
     ghost good: { Self → List ℕ → Type 0 };
+
     ghost words: { Self → ℕ };
+
     ghost stopped: { Self → Option Stop };
 
     // a call leads from a value to one that this relates to it
@@ -48,6 +51,7 @@ pub trait Access {
         ensures keeps { keeps self.old self.new };
 
     ghost keeps_refl: { (x : Self) → keeps x x };
+
     ghost keeps_trans: { (x y z : Self) → keeps x y → keeps y z → keeps x z };
     // a log has one item an address in its reads, and one in its writes
     ghost once: { (x : Self) → IsLog (log x) };

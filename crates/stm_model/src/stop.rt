@@ -5,15 +5,32 @@
 #[derive(Clone, Copy, Drop, Debug, PartialEq, Eq)]
 pub enum Cause {
     /// The clock was `now`, where the attempt had begun at `had`.
-    Clock { had: u64, now: u64 },
+    Clock {
+        had: u64,
+        now: u64,
+    },
     /// The record's `word` was locked by another, or newer than the `start` compared with.
-    Record { index: usize, word: u64, start: u64 },
+    Record {
+        index: usize,
+        word: u64,
+        start: u64,
+    },
     /// The record was `before`, and then `after`.
-    Moved { index: usize, before: u64, after: u64 },
+    Moved {
+        index: usize,
+        before: u64,
+        after: u64,
+    },
     /// The ring's entry of this `time` met the attempt's read filter in these `bits`.
-    Filter { time: u64, bits: u64 },
+    Filter {
+        time: u64,
+        bits: u64,
+    },
     /// The ring no longer reaches back from `clock` to `start`.
-    Overrun { start: u64, clock: u64 },
+    Overrun {
+        start: u64,
+        clock: u64,
+    },
 }
 
 /// Why an attempt has ended without a commit.

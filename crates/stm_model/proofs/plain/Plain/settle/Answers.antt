@@ -11,15 +11,16 @@ loop-i-preserved c =
     let ws = c.self.inside.words.items in
     let xs = c.loop-i.self-inside.words.items in
     let w = c.index.result.now in
-    let inside : c.loop-i.i < length ws = omega (arith, c.loop-i-test.true, c.len-i-end.ensures) in
-    (change-step settled ws xs c.loop-i.i w _ c.loop-i.invariant.0 c.index.ensures inside (ap (λ v. record { opening = v; own = None }) (sym (value-of w c.value.result c.value.ensures))),
-     any_own-step ws xs c.loop-i.i w c.loop-i.wrote c.is_some-wrote.result c.loop-i.invariant.0 c.index.ensures inside c.is_some-wrote.ensures c.loop-i.invariant.1)
+    let inside : c.loop-i.i < length ws = omega (arith, c.loop-i-test.true, c.len-i-end.ensures) in (
+      change-step settled ws xs c.loop-i.i w _ c.loop-i.invariant.0 c.index.ensures inside (ap (λ v. record { opening = v; own = None }) (sym (value-of w c.value.result c.value.ensures))),
+      any_own-step ws xs c.loop-i.i w c.loop-i.wrote c.is_some-wrote.result c.loop-i.invariant.0 c.index.ensures inside c.is_some-wrote.ensures c.loop-i.invariant.1,
+    )
 
 pub returns-clause-wrote : goal.returns-clause-wrote
 returns-clause-wrote c =
     let ws = c.self.inside.words.items in
     any_own-end ws c.loop-i.i c.loop-i.wrote (omega (arith, c.loop-i-test.false, c.len-i-end.ensures)) c.loop-i.invariant.1
-      ∙ ap (λ l. not (is_empty (own_writes l))) c.self.view_is
+    ∙ ap (λ l. not (is_empty (own_writes l))) c.self.view_is
 
 pub returns-clause-settled : goal.returns-clause-settled
 returns-clause-settled c =

@@ -11,7 +11,7 @@ returns-clause-value c =
     let v = c.value-v.result in
     let found = subst (λ (w : PlainWord). MatchOption w.own (v ≡ w.opening) (λ x. v ≡ x)) c.index.ensures c.value-v.ensures in
     subst (λ (ws : List PlainWord). Reads (plain_log ws) c.args.a v (plain_log ws)) c.self.view_is
-      (plain-reads c.self.inside.words.items c.args.a c.index.result.now v (subst (λ (xs : List PlainWord). c.args.a < length xs) (sym c.self.view_is) c.requires.within) found)
+    (plain-reads c.self.inside.words.items c.args.a c.index.result.now v (subst (λ (xs : List PlainWord). c.args.a < length xs) (sym c.self.view_is) c.requires.within) found)
 
 pub returns-clause-explained : goal.returns-clause-explained
 returns-clause-explained c = plain-explained c.args.self.now

@@ -9,7 +9,7 @@ pub returns-clause-value : goal.returns-clause-value
 returns-clause-value c =
     let ws = c.self.inside.words.items in
     subst (λ (xs : List PlainWord). Writes (plain_log xs) c.args.a c.args.v (plain_log (slice_set ws c.args.a (record { opening = c.index.result.now.opening; own = Some c.args.v })))) c.self.view_is
-      (plain-writes ws c.args.a c.index.result.now _ c.args.v (subst (λ (xs : List PlainWord). c.args.a < length xs) (sym c.self.view_is) c.requires.within) (ap (λ (w : PlainWord). w.opening) c.index.ensures) refl)
+    (plain-writes ws c.args.a c.index.result.now _ c.args.v (subst (λ (xs : List PlainWord). c.args.a < length xs) (sym c.self.view_is) c.requires.within) (ap (λ (w : PlainWord). w.opening) c.index.ensures) refl)
 
 pub returns-clause-explained : goal.returns-clause-explained
 returns-clause-explained c = plain-explained (slice_set c.self.inside.words.items c.args.a (record { opening = c.index.result.now.opening; own = Some c.args.v }))
