@@ -1,0 +1,3 @@
+#![tactic(auto)]
+mod command;
+pub mod status;

@@ -1,0 +1,36 @@
+//! How a call of `bench` ended.
+
+/// How a call of `bench` ended, and what it wrote by that.
+#[derive(Clone, Copy, Drop, Debug, PartialEq, Eq)]
+pub enum Status {
+    /// The report.
+    Ok,
+    /// The usage line: the words aren't a command.
+    Usage,
+    /// `refused L C name`: the text read isn't a workload; `line` and `code` are those of its first
+    /// fault. Lines count from 1; line 0 stands for the whole text.
+    Refused { line: usize, code: u32 },
+    /// `read fault`: the source failed.
+    ReadFault,
+    /// A prefix of the text that was to be written: the sink failed.
+    WriteFault,
+    /// Nothing: memory was refused.
+    Memory,
+    /// `clock full C`: a transaction was to begin, and the clock stood at its limit, 2^62.
+    ClockFull { clock: u64 },
+}
+
+impl Status {
+    /// The exit status of a program that ends so: 0 for `Ok`, then 1 to 6 in the order above.
+    pub fn exit_code(self) -> u8 {
+        match self {
+            Status::Ok => 0,
+            Status::Usage => 1,
+            Status::Refused { .. } => 2,
+            Status::ReadFault => 3,
+            Status::WriteFault => 4,
+            Status::Memory => 5,
+            Status::ClockFull { .. } => 6,
+        }
+    }
+}
