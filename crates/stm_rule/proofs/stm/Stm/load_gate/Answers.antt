@@ -1,0 +1,14 @@
+use Rattle.rule_base.specs.GateSteps.{load_gate, CanLoadGate}
+use Rattle.rule_base.specs.StepKinds.{Nothing}
+use Rattle.stm_rule.specs.Kept.{good_of}
+use Rattle.stm_rule.specs.Laws.{loads_gate}
+use Rattle.stm_rule.specs.Product.{Whole}
+use Rattle.stm_rule.proofs.Allowing.{law_of}
+use Rattle.stm_rule.proofs.stm.Stm.load_gate.Goals as goal
+
+pub load_as-requires-clause-law : goal.load_as-requires-clause-law
+load_as-requires-clause-law g c =
+    let f = c.args.self.now.config in
+    let m = good_of g.K.MemRule.good f c.args.self.now.rule in
+    let n = c.args.caller in
+    law_of (Whole m f) load_gate Nothing n CanLoadGate c.args.seat.now.me.0.view (loads_gate m f n) c.requires.view

@@ -1,0 +1,5 @@
+pub mod Product
+pub mod NoteSteps
+pub mod Frames
+pub mod Laws
+pub mod Kept

@@ -1,0 +1,5 @@
+//! The one rule over the shared table: opening, descriptors, notes, steps, closing.
+#![tactic(auto)]
+
+mod kinds;
+pub mod stm;
