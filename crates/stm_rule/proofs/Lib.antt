@@ -1,1 +1,3 @@
 mod Allowing
+mod Splitting
+mod Learning

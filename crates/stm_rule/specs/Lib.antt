@@ -3,3 +3,5 @@ pub mod NoteSteps
 pub mod Frames
 pub mod Laws
 pub mod Kept
+pub mod Refusals
+pub mod Callers

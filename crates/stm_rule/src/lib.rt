@@ -1,5 +1,10 @@
 //! The one rule over the shared table: opening, descriptors, notes, steps, closing.
 #![tactic(auto)]
 
+pub mod desc;
 mod kinds;
+pub mod note;
+pub mod opening;
+pub mod refusal;
+mod splits;
 pub mod stm;
