@@ -1,3 +1,5 @@
 mod Allowing
 mod Splitting
 mod Learning
+mod Opens
+pub mod Dealing

@@ -5,3 +5,4 @@ pub mod Laws
 pub mod Kept
 pub mod Refusals
 pub mod Callers
+pub mod Openings
