@@ -1,0 +1,137 @@
+-- What contracts see of a caller: its part in the history, its attempt, and the words that its steps found.
+use Rattle.std.specs.Prelude.{ℕ, ◌≡◌, ◌≤◌, ◌+◌, ◌||◌, max, not, Bool, true, false, if◌then◌else◌, List, [], ◌∷◌, ◌++◌, reverse, replicate, Contains, Option, Some, None}
+use Rattle.stm_model.specs.declared.alg.Alg.{Alg}
+use Rattle.stm_model.specs.declared.alg.Alg.TheVariants.{Cgl, Tml, OrecLazy, OrecEager, RingSw, Serial}
+use Rattle.stm_model.specs.Histories.{Entry, Ascending}
+use Rattle.stm_model.specs.HistoryLaws.{Within}
+use Rattle.stm_model.specs.Logs.{Log}
+use Rattle.stm_model.specs.Memories.{is_empty}
+use Rattle.rule_base.specs.declared.layout.At.{At}
+use Rattle.rule_base.specs.declared.layout.At.TheVariants.{Clock}
+use Rattle.rule_base.specs.declared.seats.Role.{Role}
+use Rattle.rule_base.specs.declared.seats.Role.TheVariants.{Dealer, Caller, Note, Spent}
+use Rattle.rule_base.specs.declared.views.Phase.{Phase}
+use Rattle.rule_base.specs.declared.views.Phase.TheVariants.{Idle, Announced, Turned, Aiming, In, Closing}
+use Rattle.rule_base.specs.declared.views.TrailItem.{TrailItem}
+use Rattle.rule_base.specs.declared.views.View.{View}
+use Rattle.rule_base.specs.Bridge.{items, public_history}
+use Rattle.tx_answers.specs.declared.answers.TxState.{TxState}
+use Rattle.tx_answers.specs.declared.answers.TxState.TheVariants as states
+
+pub record Known : Type 0 where
+  -- its own entries, and all that it has seen, which are those up to its front; the oldest first
+  pub made : List Entry
+  pub seen : List Entry
+  pub front : ℕ
+  -- in an attempt, or closing the gate; whether it has closed the gate; the algorithm
+  pub running : Bool
+  pub closing : Bool
+  pub holds : Bool
+  pub alg : Alg
+  -- the attempt was made irrevocable in flight
+  pub granted : Bool
+  -- by how much its steps raised the clock, in all and when its attempt began
+  pub rises : ℕ
+  pub base : ℕ
+  -- the greatest clock that it found
+  pub top : ℕ
+  -- what its steps found, the latest first
+  pub trail : List TrailItem
+  pub installs : List Alg
+  pub start : ℕ
+  pub log : Log
+
+abbrev pub is_in : Phase → Bool
+is_in Idle = false
+is_in Announced = false
+is_in Turned = false
+is_in Aiming = false
+is_in In = true
+is_in Closing = false
+
+abbrev pub is_closing : Phase → Bool
+is_closing Idle = false
+is_closing Announced = false
+is_closing Turned = false
+is_closing Aiming = false
+is_closing In = false
+is_closing Closing = true
+
+abbrev pub number_or_zero : Option ℕ → ℕ
+number_or_zero None = 0
+number_or_zero (Some n) = n
+
+abbrev pub clock_in : At → Option ℕ → ℕ
+clock_in Clock found = number_or_zero found
+clock_in place found = 0
+
+-- the greatest clock among what was found
+abbrev pub top_of : List TrailItem → ℕ
+top_of [] = 0
+top_of (i ∷ is) = max (clock_in i.place i.found) (top_of is)
+
+abbrev pub known_of : View → Known
+known_of v = record {
+  made = public_history v.history.made;
+  seen = public_history v.history.seen;
+  front = v.history.front;
+  running = is_in v.gate.phase;
+  closing = is_closing v.gate.phase;
+  holds = v.gate.holds;
+  alg = v.gate.algorithm;
+  granted = v.gate.granted;
+  rises = v.steps.rises;
+  base = v.steps.rises_at_begin;
+  top = top_of v.steps.trail;
+  trail = v.steps.trail;
+  installs = reverse v.steps.installs;
+  start = v.attempt.start;
+  log = record { reads = items v.attempt.reads; writes = items v.attempt.stores };
+}
+
+-- a caller's number
+abbrev pub caller_of : Role → ℕ
+caller_of (Dealer n) = 0
+caller_of (Caller n) = n
+caller_of Note = 0
+caller_of Spent = 0
+
+abbrev pub no_log : Log
+no_log = record { reads = []; writes = [] }
+
+abbrev pub zeros : ℕ → List ℕ
+zeros words = replicate words 0
+
+abbrev pub IsIdle : Known → Type 0
+IsIdle v = (v.running ≡ false) × (v.closing ≡ false)
+
+abbrev pub state_of : Known → TxState
+state_of v = if v.running then states.Running v.alg else (if v.closing then states.Closing v.alg else states.Idle)
+
+-- an attempt can't be cancelled: by its algorithm, by a write, or since it was granted
+abbrev pub is_sure : Alg → Bool → Bool → Bool
+is_sure Cgl granted wrote = true
+is_sure Tml granted wrote = granted || wrote
+is_sure OrecLazy granted wrote = granted
+is_sure OrecEager granted wrote = granted
+is_sure RingSw granted wrote = granted
+is_sure Serial granted wrote = granted
+
+abbrev pub is_irrevocable : Known → Bool
+is_irrevocable v = is_sure v.alg v.granted (not (is_empty v.log.writes))
+
+-- by how much its steps raised the clock, with what an open attempt may still raise it
+abbrev pub owed : Known → ℕ
+owed v = if v.running then v.base + 2 else v.rises
+
+-- it has seen at least as much, up to a later front: what it saw before begins what it sees now
+pub record Grows (v w : Known) : Type 0 where
+  pub later : List Entry
+  pub is : w.seen ≡ v.seen ++ later
+  pub ascending : Ascending v.front later
+  pub up_to : Within w.front later
+  pub front_rose : v.front ≤ w.front
+
+-- a step between the two found this number at this place
+abbrev pub Found : At → ℕ → Known → Known → Type 0
+Found place n v w = (more : List TrailItem) × (w.trail ≡ more ++ v.trail) × Contains more (record { place = place; found = Some n })

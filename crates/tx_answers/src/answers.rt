@@ -1,0 +1,74 @@
+//! The answers of the calls of an attempt. Clocks, times, starts and words of the memory's table are `u64`.
+use stm_model::alg::Alg;
+use stm_model::stop::Cause;
+
+/// What a try to begin an attempt comes to.
+#[derive(Clone, Copy, Drop, Debug, PartialEq, Eq)]
+pub enum Begin {
+    /// An attempt of this algorithm is under way.
+    Begun(Alg),
+    /// The gate is closed by another caller: this is its word.
+    Closed { gate: u64 },
+    /// Another caller's attempt is in the way: this is the lock word, or the odd clock.
+    Held { word: u64 },
+    /// The clock is at its limit, 2^62.
+    ClockFull { clock: u64 },
+}
+
+/// What a read in an attempt comes to. All answers but a value end the attempt.
+#[derive(Clone, Copy, Drop, Debug, PartialEq, Eq)]
+pub enum Read {
+    Value(u64),
+    /// Another transaction came in between.
+    Conflict(Cause),
+    /// The read log has its length.
+    Full { limit: usize },
+}
+
+/// What a write in an attempt comes to. All answers but `Done` end the attempt.
+#[derive(Clone, Copy, Drop, Debug, PartialEq, Eq)]
+pub enum Write {
+    Done,
+    /// Another transaction came in between.
+    Conflict(Cause),
+    /// The write or undo log has its length.
+    Full { limit: usize },
+    /// The clock is at its limit, 2^62.
+    ClockFull { clock: u64 },
+}
+
+/// What a try to commit comes to. All answers but `Again` end the attempt.
+#[derive(Clone, Copy, Drop, Debug, PartialEq, Eq)]
+pub enum Commit {
+    /// What it wrote stands from this time on.
+    Committed { time: u64 },
+    /// It wrote nothing. What it read is the memory at this time, its start.
+    ReadOnly { time: u64 },
+    /// Another transaction came in between.
+    Conflict(Cause),
+    /// Another commit was faster: word 0 is the clock, 1 the lock. It may be tried again.
+    Again { word: u64, had: u64, now: u64 },
+    /// The clock is at its limit, 2^62.
+    ClockFull { clock: u64 },
+}
+
+/// What a try to cancel comes to.
+#[derive(Clone, Copy, Drop, Debug, PartialEq, Eq)]
+pub enum Cancel {
+    /// It left no trace. What it read is the memory at this time, its start.
+    Cancelled { time: u64 },
+    /// It can only be committed: nothing has changed.
+    Irrevocable,
+}
+
+/// Where a descriptor stands between two calls.
+#[derive(Clone, Copy, Drop, Debug, PartialEq, Eq)]
+pub enum TxState {
+    Idle,
+    /// In an attempt.
+    Running(Alg),
+    /// In an attempt, in the middle of its commit.
+    Committing(Alg),
+    /// It closed the gate.
+    Closing(Alg),
+}
