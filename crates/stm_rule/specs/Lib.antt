@@ -1,8 +1,10 @@
 pub mod Product
 pub mod NoteSteps
 pub mod Frames
+pub mod Findings
 pub mod Laws
 pub mod Kept
 pub mod Refusals
+pub mod Attempts
 pub mod Callers
 pub mod Openings

@@ -2,11 +2,13 @@
 ghost use Rattle.std.specs.Prelude.{◌≡◌, ℕ, ◌<◌, [], Some};
 ghost use Rattle.rule_base.specs.declared.seats.Role.TheVariants.{Caller};
 ghost use Rattle.rule_base.specs.declared.views.Phase.TheVariants.{Idle};
+ghost use Rattle.stm_rule.specs.Attempts.{IsOutside};
 ghost use Rattle.stm_rule.specs.Callers.{IsOf, IsSameCaller, IsNoteOf, Learns, handle_of};
 
 use crate::note::Note;
 use crate::stm::{Stm, Token};
 use std::marker::Model;
+use stm_model::alg::Alg;
 use stm_model::rule::MemRule;
 
 /// One caller's handle on a memory. It is used by one thread at a time, and sent between threads.
@@ -18,6 +20,11 @@ pub struct Desc<K: MemRule> {
     pub seat: Token<K>,
     /// The caller's number.
     pub number: usize,
+    /// Whether an attempt runs; if so, under which algorithm, its start, and whether it wrote.
+    pub running: bool,
+    pub algorithm: Alg,
+    pub start: u64,
+    pub wrote: bool,
 }
 
 impl<K: MemRule> Model for Desc<K> {
@@ -27,7 +34,7 @@ impl<K: MemRule> Model for Desc<K> {
 
     ghost view = { λ d. handle_of d.seat };
 
-    ghost invariant = { λ d. IsTied d.number d.seat.me };
+    ghost invariant = { λ d. IsTied K.good d.number d.running d.algorithm d.start d.wrote d.seat.me };
 }
 
 impl<K: MemRule> Desc<K> {
@@ -35,9 +42,17 @@ impl<K: MemRule> Desc<K> {
         requires role { seat.me.0.who.role ≡ Caller number }
         requires number { number < seat.me.0.who.config.callers }
         requires bare { (seat.me.0.gathered ≡ []) × (seat.me.1 ≡ []) }
+        requires outside { IsOutside seat.me.0.view }
         ensures { result ≡ handle_of seat }
     {
-        Desc { seat, number }
+        Desc {
+            seat,
+            number,
+            running: false,
+            algorithm: Alg::Cgl,
+            start: 0,
+            wrote: false,
+        }
     }
 
     /// A note of what this caller has seen. It takes no memory, and always returns.
