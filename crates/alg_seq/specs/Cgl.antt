@@ -14,5 +14,5 @@ use Rattle.tx_answers.specs.Known.{Grows, known_of}
 pub record CanBegin (v : View) : Type 0 where
   pub phase : v.gate.phase ≡ In
   pub algorithm : v.gate.algorithm ≡ Cgl
-  pub open : v.gate.holds ≡ false
+  pub reopened : v.gate.holds ≡ false
   pub free : v.lock.taken ≡ false

@@ -1,12 +1,15 @@
 -- Each kind of step keeps the one rule.
-use Rattle.std.proofs.Common.{◌≡◌, ℕ, ◌+◌, ◌<◌, ◌≤◌, List, ◌++◌, Bool, true, false, arith, refl, sym, subst, ap, ◌∙◌, le_refl}
+use Rattle.std.proofs.Common.{◌≡◌, ◌≢◌, ℕ, zero, suc, ◌+◌, ◌<◌, ◌≤◌, List, ◌++◌, Bool, true, false, arith, refl, sym, subst, ap, ◌∙◌, le_refl}
+use Rattle.std.specs.Prelude.{ltb}
+use Rattle.std.proofs.lemmas.Bool.Decides.{nat_tests}
 use Rattle.rule_base.specs.declared.layout.Config.{Config}
 use Rattle.rule_base.specs.declared.views.Phase.{Phase}
 use Rattle.rule_base.specs.declared.views.Phase.TheVariants.{Idle, Announced, In}
 use Rattle.rule_base.specs.declared.views.SeenHistory.{SeenHistory}
 use Rattle.rule_base.specs.declared.views.View.{View}
 use Rattle.rule_base.specs.GateSteps.{announce, CanAnnounce, load_gate, CanLoadGate, depart, CanDepart}
-use Rattle.rule_base.specs.GateRule.{gate_scene, GateRule}
+use Rattle.rule_base.specs.Encodings.{holder_of}
+use Rattle.rule_base.specs.GateRule.{gate_scene, GateRule, may_hold}
 use Rattle.rule_base.specs.GateLaws.{gate_scene-kept, announce-gate, load_gate-gate, depart-gate}
 use Rattle.rule_base.specs.History.{upto}
 use Rattle.rule_base.specs.declared.entries.Entry.{Entry}
@@ -27,12 +30,38 @@ use Rattle.rule_seq.specs.CglLaws as cgl
 use Rattle.rule_seq.specs.LockRule.{lock_scene, LockRule}
 use Rattle.rule_seq.specs.LockLemmas.{lock_scene-kept, lock-phase}
 use Rattle.stm_rule.specs.NoteSteps.{hear, Hears, load_end, CanLoadEnd, Ends}
+use Rattle.stm_rule.specs.Findings.{NamesOther, FindsLock, FindsGate}
 use Rattle.stm_rule.specs.Frames.{unlocked, LeavesGate, by-cgl}
 use Rattle.stm_rule.specs.Product.{Whole}
 
 module _ (good : (ℕ → ℕ) → Type 0) (c : Config) (n : ℕ) where
-  pub takes_lock : StepLaw (Whole good c) (take_lock n) Nothing n CanTakeLock
-  takes_lock = by-cgl good c (take_lock n) Nothing n CanTakeLock (record { gate = λ w. refl; status = λ w. refl; view = λ w. refl }) (λ v m. (m.phase, m.algorithm)) (cgl.takes_lock good c n)
+  -- a caller that does something is one of the callers
+  is_caller : (w : World) → Whole good c w → (k : ℕ) → ((w.views k).gate.phase ≡ Idle → ⊥) → k < c.callers
+  is_caller w g k busy = go (ltb k c.callers) refl
+    where
+      go : (t : Bool) → ltb k c.callers ≡ t → k < c.callers
+      go true q = grind (arith, nat_tests)
+      go false q = absurd (busy (g.gate.far k (grind (arith, nat_tests))))
+
+  taker : (w : World) → Whole good c w → (x : ℕ) → w.lock ≡ x → x ≢ 0 → (w.views n).lock.taken ≡ false → NamesOther c n x
+  taker w g zero e other free = absurd (other refl)
+  taker w g (suc k) e other free = let word : w.lock ≡ 1 + k = omega arith in let taken : (w.views k).lock.taken ≡ true = g.lock.owner k word in
+      (k, is_caller w g k (λ idle. let i : In ≡ Idle = sym (g.lock.inside k taken) ∙ idle in cc), (λ same. let t : true ≡ false = sym (subst (λ (m : ℕ). (w.views m).lock.taken ≡ true) same taken) ∙ free in cc), omega arith)
+
+  closer : (w : World) → Whole good c w → (x : ℕ) → w.gate ≡ x → holder_of x ≢ 0 → (w.views n).gate.holds ≡ false → NamesOther c n (holder_of x)
+  closer w g x e other free = go (holder_of x) (ap holder_of e) other
+    where
+      go : (h : ℕ) → holder_of w.gate ≡ h → h ≢ 0 → NamesOther c n h
+      go zero q closed = absurd (closed refl)
+      go (suc k) q closed = let word : holder_of w.gate ≡ 1 + k = omega arith in let holds : (w.views k).gate.holds ≡ true = g.gate.owner k word in
+          (k, is_caller w g k (λ idle. let f : true ≡ false = sym (g.gate.holding k holds) ∙ ap may_hold idle in cc), (λ same. let t : true ≡ false = sym (subst (λ (m : ℕ). (w.views m).gate.holds ≡ true) same holds) ∙ free in cc), omega arith)
+
+  -- what an exchange of the lock shows: another word than 0 is another caller's
+  takes_lock_alone : StepLaw (Whole good c) (take_lock n) Nothing n CanTakeLock
+  takes_lock_alone = by-cgl good c (take_lock n) Nothing n CanTakeLock (record { gate = λ w. refl; status = λ w. refl; view = λ w. refl }) (λ v m. (m.phase, m.algorithm)) (cgl.takes_lock good c n)
+
+  pub takes_lock : StepLaw (Whole good c) (take_lock n) (FindsLock c n) n CanTakeLock
+  takes_lock w g may = let o = takes_lock_alone w g may in record { rule = o.rule; advances = o.advances; shown = λ other. taker w g w.lock refl other may.free }
 
   pub loads_start : StepLaw (Whole good c) load_start (Begins good c) n CanLoadStart
   loads_start = by-cgl good c load_start (Begins good c) n CanLoadStart (record { gate = λ w. refl; status = λ w. refl; view = λ w. refl }) (λ v m. (m.has.phase, m.has.algorithm)) (cgl.loads_start good c n)
@@ -72,7 +101,7 @@ module _ (good : (ℕ → ℕ) → Type 0) (c : Config) (n : ℕ) where
       out : (w.views n).gate.phase ≡ In → ⊥
       out e = let k : Idle ≡ In = sym may ∙ e in cc
 
-  pub loads_gate : StepLaw (Whole good c) load_gate Nothing n CanLoadGate
+  pub loads_gate : StepLaw (Whole good c) load_gate (FindsGate c n) n CanLoadGate
   loads_gate w g may = record {
     rule = record {
       history = history-kept good c w x n v refl refl refl refl g.history;
@@ -83,7 +112,7 @@ module _ (good : (ℕ → ℕ) → Type 0) (c : Config) (n : ℕ) where
       cgl = λ e. subst (CglRule c.words) (sym (cgl_scene-kept w x n v refl refl refl refl refl refl)) (g.cgl e);
     };
     advances = advances-same w x refl (le_refl w.clock) (le_refl w.done) refl;
-    shown = tt;
+    shown = record { built = g.built; closer = λ free other. closer w g w.gate refl other free };
   }
     where
       x : World

@@ -3,6 +3,7 @@ ghost use Rattle.std.specs.Prelude.{◌≡◌, ℕ, ◌<◌, ◌≤◌, List};
 ghost use Rattle.rule_base.specs.GateSteps.{announce, CanAnnounce, load_gate, CanLoadGate, depart, CanDepart};
 ghost use Rattle.rule_base.specs.StepKinds.{Nothing};
 ghost use Rattle.rule_seq.specs.CglSteps.{take_lock, CanTakeLock, load_start, CanLoadStart, Begins, load_heap, CanLoadHeap, Loads, store_heap, CanStoreHeap, store_clock, CanStoreClock, Commits, free_lock, CanFreeLock};
+ghost use Rattle.stm_rule.specs.Findings.{FindsGate, FindsLock};
 ghost use Rattle.stm_rule.specs.Kept.{good_of, SeatTells, IsSameSeat, IsSeatOf, view_of};
 ghost use Rattle.stm_rule.specs.NoteSteps.{hear, Hears, load_end, CanLoadEnd, Ends};
 
@@ -28,7 +29,7 @@ impl<K: MemRule> Stm<K> {
         requires seat { IsSeatOf self.now.table.shared.table_id caller seat.old }
         requires view { CanLoadGate (view_of seat.old) }
         ensures same { IsSameSeat seat.old seat.new }
-        ensures step { SeatTells load_gate Nothing seat.old.me.0 result seat.new.me.0 }
+        ensures step { SeatTells load_gate (FindsGate self.now.config caller) seat.old.me.0 result seat.new.me.0 }
     {
         self.load_as::<Brand, usize>(seat, At::Gate, &caller)
     }
@@ -50,7 +51,7 @@ impl<K: MemRule> Stm<K> {
         requires caller { caller < self.now.config.callers }
         requires view { CanTakeLock (view_of seat.old) }
         ensures same { IsSameSeat seat.old seat.new }
-        ensures step { SeatTells (take_lock caller) Nothing seat.old.me.0 result seat.new.me.0 }
+        ensures step { SeatTells (take_lock caller) (FindsLock self.now.config caller) seat.old.me.0 result seat.new.me.0 }
     {
         self.exchange_as::<Brand, usize>(seat, At::Lock, 0, 1 + caller as u64, &caller)
     }

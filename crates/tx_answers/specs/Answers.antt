@@ -76,6 +76,10 @@ pub record Quits (v w : Known) : Type 0 where
   pub ends : Ends v w
   pub made : w.made ≡ v.made
   pub rises : w.rises ≤ v.base + 1
+  pub closing : w.closing ≡ v.closing
+  pub alg : w.alg ≡ v.alg
+  pub granted : w.granted ≡ v.granted
+  pub base : w.base ≡ v.base
   -- once irrevocable, an attempt is not refused
   pub revocable : is_irrevocable v ≡ false
 
