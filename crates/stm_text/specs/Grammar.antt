@@ -16,7 +16,7 @@ use Rattle.stm_text.specs.declared.parse.Mode.TheVariants.{Run, Step as Stepwise
 use Rattle.stm_text.specs.declared.parse.ParseError.{ParseError}
 use Rattle.stm_text.specs.declared.parse.ParseError.TheVariants.{Fault, Memory}
 use Rattle.stm_text.specs.Lines.{Line, lines_of, words_of, any_bad, number_of}
-use Rattle.stm_text.specs.Drafts.{Writing, after}
+use Rattle.stm_text.specs.Drafts.{Writing, after, opening}
 
 -- A table's answer is Ok, or Err of the lowest code.
 
@@ -56,17 +56,21 @@ abbrev pub most_callers : Mode → ℕ
 most_callers Run = 1
 most_callers Stepwise = 32
 
+-- a line that gives a number its name and its range
+abbrev pub sized : List ℕ → ℕ → ℕ → List ℕ → List ℕ → Result ℕ ℕ
+sized name low high w v = named name w (number low high v)
+
 -- THE HEADER, line by line: what a name and a value make of it
 abbrev pub header_line : Mode → Place → Header → List ℕ → List ℕ → Result Header ℕ
 header_line m Version h w v = named (codes "stm") w (named (codes "1") v (Ok h))
-header_line m Words h w v = named (codes "words") w (number 1 65536 v >>= λ n. Ok (record h { words = n }))
-header_line m Callers h w v = named (codes "callers") w (number 1 (most_callers m) v >>= λ n. Ok (record h { callers = n }))
-header_line m Records h w v = named (codes "records") w (number 1 4096 v >>= λ n. Ok (record h { records = n }))
-header_line m Ring h w v = named (codes "ring") w (number 2 64 v >>= λ n. Ok (record h { ring = n }))
-header_line m Reads h w v = named (codes "reads") w (number 1 4096 v >>= λ n. Ok (record h { reads = n }))
-header_line m Writes h w v = named (codes "writes") w (number 1 4096 v >>= λ n. Ok (record h { writes = n }))
-header_line m Clock h w v = named (codes "clock") w (number 0 (2 ^ 62) v >>= λ n. Ok (record h { clock = n }))
-header_line m Algorithm h w v = named (codes "alg") w (algorithm v >>= λ a. Ok (record h { alg = a }))
+header_line m Words h w v = sized (codes "words") 1 65536 w v >>= λ n. Ok (record h { words = n })
+header_line m Callers h w v = sized (codes "callers") 1 (most_callers m) w v >>= λ n. Ok (record h { callers = n })
+header_line m Records h w v = sized (codes "records") 1 4096 w v >>= λ n. Ok (record h { records = n })
+header_line m Ring h w v = sized (codes "ring") 2 64 w v >>= λ n. Ok (record h { ring = n })
+header_line m Reads h w v = sized (codes "reads") 1 4096 w v >>= λ n. Ok (record h { reads = n })
+header_line m Writes h w v = sized (codes "writes") 1 4096 w v >>= λ n. Ok (record h { writes = n })
+header_line m Clock h w v = sized (codes "clock") 0 (2 ^ 62) w v >>= λ n. Ok (record h { clock = n })
+header_line m Algorithm h w v = named (codes "alg") w (algorithm v) >>= λ a. Ok (record h { alg = a })
 header_line m Structures h w v = named (codes "structs") w (named (codes "off") v (Ok (record h { structs = false })))
 header_line m p h w v = Err WORD
 
@@ -91,6 +95,10 @@ begun d caller = if ltb (length d.items) 65536 then Ok (Begin caller) else Err M
 abbrev pub added : Writing → Op → Result Step ℕ
 added d op = if ltb (length d.ops) 4096 then Ok (Add op) else Err MANY
 
+-- an address
+abbrev pub address : Writing → List ℕ → Result ℕ ℕ
+address d a = formed (number_of a) >>= below d.header.words
+
 -- an address and a value, both of the form before the address is in range
 abbrev pub operands : Writing → List ℕ → List ℕ → Result (ℕ × ℕ) ℕ
 operands d a v = formed (number_of a) >>= λ i. formed (number_of v) >>= λ n. below d.header.words i >>= λ j. Ok (j, n)
@@ -104,7 +112,7 @@ one_word p w = Err WORD
 -- LINES OF TWO WORDS
 abbrev pub two_words : Place → Mode → Writing → List ℕ → List ℕ → Result Step ℕ
 two_words Items m d w v = named (codes "tx") w (formed (number_of v) >>= below d.header.callers >>= begun d)
-two_words Ops m d w v = named (codes "read") w (formed (number_of v) >>= below d.header.words >>= λ a. added d (Read a))
+two_words Ops m d w v = named (codes "read") w (address d v >>= λ a. added d (Read a))
 two_words p m d w v = header_line m p d.header w v >>= λ h. Ok (Head (next_line p) h)
 
 -- LINES OF THREE WORDS
@@ -140,16 +148,6 @@ go_on (Ok step) d k ls rest = rest (after step d)
 abbrev pub parsed : Mode → Writing → ℕ → List Line → Result Workload (ℕ × ℕ)
 parsed m d k [] = Err (k, UNENDED)
 parsed m d k (l ∷ ls) = go_on (step_of m d l) d k ls (λ e. parsed m e (k + 1) ls)
-
--- before the first line; each number of the header is the least that it may be until its line comes
-abbrev pub opening : Writing
-opening = record {
-  place = Version;
-  header = record { words = 1; records = 1; ring = 2; callers = 1; reads = 1; writes = 1; clock = 0; alg = Cgl; structs = false };
-  items = [];
-  caller = 0;
-  ops = [];
-}
 
 -- the workload of a text, or the line and the code of its first fault
 abbrev pub workload_of : Mode → List ℕ → Result Workload (ℕ × ℕ)

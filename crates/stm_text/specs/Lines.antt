@@ -1,5 +1,5 @@
 -- Lines of a text, words of a line, numbers.
-use Rattle.std.specs.Prelude.{ℕ, ◌+◌, ◌-◌, ◌*◌, ◌^◌, Bool, true, false, ◌&&◌, ◌||◌, List, [], ◌∷◌, leb, ltb, ◌==◌, if◌then◌else◌, Option, Some, None}
+use Rattle.std.specs.Prelude.{ℕ, ◌≢◌, ◌≢◌, ◌+◌, ◌-◌, ◌*◌, ◌^◌, Bool, true, false, ◌&&◌, ◌||◌, List, [], ◌∷◌, leb, ltb, ◌==◌, if◌then◌else◌, Option, Some, None}
 
 -- a line, and whether an LF ended it
 pub record Line : Type 0 where
@@ -41,3 +41,8 @@ abbrev pub number_of : List ℕ → Option ℕ
 number_of [] = None
 number_of (b ∷ []) = number_from 0 (b ∷ [])
 number_of (b ∷ c ∷ bs) = if b == 48 then None else number_from 0 (b ∷ c ∷ bs)
+
+-- no byte is b
+abbrev pub Lacks : ℕ → List ℕ → Type 0
+Lacks b [] = Unit {0}
+Lacks b (x ∷ xs) = (x ≢ b) × Lacks b xs

@@ -3,5 +3,7 @@
 
 pub mod code;
 pub mod draft;
+pub mod lines;
 pub mod parse;
 pub mod report;
+pub mod table;
