@@ -35,3 +35,20 @@ lacks-snoc b x (y ∷ xs) h n = (h.0, lacks-snoc b x xs h.1 n)
 -- a list, cut at a place
 pub cut-at : (i : ℕ) (bs : List ℕ) (b : ℕ) (r : List ℕ) → drop i bs ≡ b ∷ r → bs ≡ take i bs ++ b ∷ r
 cut-at i bs b r h = sym (take-append-drop i bs) ∙ ap (λ t. take i bs ++ t) h
+
+-- a line cut at its first space
+pub words_of-cut : (bs : List ℕ) (i : ℕ) (r : List ℕ) → Lacks 32 (take i bs) → drop i bs ≡ 32 ∷ r → words_of bs ≡ take i bs ∷ words_of r
+words_of-cut bs i r h at = ap words_of (cut-at i bs 32 r at) ∙ words_of-first (take i bs) r h
+
+some-word : (x : ℕ) (l : List (List ℕ)) (w : List ℕ) (ws : List (List ℕ)) → l ≡ w ∷ ws → with_letter x l ≡ (x ∷ w) ∷ ws
+some-word x l w ws h = ap (with_letter x) h
+
+some-by : (x : ℕ) (xs : List ℕ) (b : Bool) → (w : List ℕ) × (ws : List (List ℕ)) × (words_of xs ≡ w ∷ ws)
+    → (w : List ℕ) × (ws : List (List ℕ)) × ((if b then [] ∷ words_of xs else with_letter x (words_of xs)) ≡ w ∷ ws)
+some-by x xs true h = ([], words_of xs, refl)
+some-by x xs false h = (x ∷ h.0, h.1, some-word x (words_of xs) h.0 h.1 h.2)
+
+-- each line has a word, which may be empty
+pub words_of-some : (xs : List ℕ) → (w : List ℕ) × (ws : List (List ℕ)) × (words_of xs ≡ w ∷ ws)
+words_of-some [] = ([], [], refl)
+words_of-some (x ∷ xs) = some-by x xs (x == 32) (words_of-some xs)

@@ -1,5 +1,5 @@
 -- The workload text: what may stand on a line, and the first fault.
-use Rattle.std.specs.Prelude.{ℕ, ◌≡◌, ◌+◌, ◌^◌, false, ◌&&◌, List, [], ◌∷◌, length, leb, ltb, if◌then◌else◌, Option, Some, None, Result, Ok, Err, codes, bytes_eq}
+use Rattle.std.specs.Prelude.{MatchResult, ℕ, ◌≡◌, ◌+◌, ◌^◌, false, ◌&&◌, List, [], ◌∷◌, length, leb, ltb, if◌then◌else◌, Option, Some, None, Result, Ok, Err, codes, bytes_eq}
 use Rattle.stm_model.specs.declared.alg.Alg.{Alg}
 use Rattle.stm_model.specs.declared.alg.Alg.TheVariants.{Cgl}
 use Rattle.stm_script.specs.declared.op.Op.{Op}
@@ -157,3 +157,7 @@ workload_of m text = if ltb 16777216 (length text) then Err (0, LONG) else parse
 abbrev pub IsFirstFault : ParseError → Result Workload (ℕ × ℕ) → Type 0
 IsFirstFault (Fault line code) w = w ≡ Err (line, code)
 IsFirstFault Memory w = Unit {0}
+
+-- what was read is the workload, or names the first fault
+abbrev pub Answers : Result Workload ParseError → Result Workload (ℕ × ℕ) → Type 0
+Answers r w = MatchResult r (λ read. w ≡ Ok read) (λ e. IsFirstFault e w)
