@@ -30,9 +30,12 @@ row_lines [] = []
 row_lines (r ∷ rs) = row_line r ++ row_lines rs
 
 -- `mem a v`
+abbrev pub memory_line : ℕ × ℕ → List ℕ
+memory_line p = codes "mem" ++ (spaced (p.0 ∷ p.1 ∷ []) ++ 10 ∷ [])
+
 abbrev pub memory_lines : List (ℕ × ℕ) → List ℕ
 memory_lines [] = []
-memory_lines (p ∷ ps) = (codes "mem" ++ (spaced (p.0 ∷ p.1 ∷ []) ++ 10 ∷ [])) ++ memory_lines ps
+memory_lines (p ∷ ps) = memory_line p ++ memory_lines ps
 
 abbrev pub report_bytes : Report → List ℕ
 report_bytes r = codes "report 1\n" ++ (row_lines r.rows ++ (memory_lines r.memory ++ codes "end\n"))
