@@ -1,0 +1,9 @@
+//! Texts: workloads read from their text, and reports written as theirs.
+#![tactic(auto)]
+
+pub mod code;
+pub mod draft;
+pub mod lines;
+pub mod parse;
+pub mod report;
+pub mod table;
