@@ -1,0 +1,6 @@
+pub mod LockRule
+pub mod CglRule
+pub mod CglSteps
+pub mod CglRuns
+pub mod LockLemmas
+pub mod CglLaws
