@@ -1,3 +1,7 @@
+//! What `stm_bench` does: the commands, from the words of the command line and the bytes read to the
+//! bytes written and the exit status.
 #![tactic(auto)]
+
 mod command;
+mod plain_run;
 pub mod status;
