@@ -60,9 +60,10 @@ after-all r p k (x ∷ rows) placed numbered mine low caller seq =
     let head : x.seq ≡ k = cc in
     let tail : map (λ (y : Row). y.seq) rows ≡ counted (suc k) (length rows) = cc in
     let up = rank-after x p x.kind refl placed.0 in
-    let le : rank r ≤ rank x = let a = up.0 in omega arith in
-    (before-by r x (lt-or-eq (rank r) (rank x) (ltb (rank r) (rank x)) refl le) caller (All-head (λ (y : Row). y.caller ≡ 0) x rows mine) (omega arith),
-     after-all r x.place (suc k) rows placed.1 tail (All-tail (λ (y : Row). y.caller ≡ 0) x rows mine) (let b = up.1 in omega arith) caller (omega arith))
+    let le : rank r ≤ rank x = let a = up.0 in omega arith in (
+      before-by r x (lt-or-eq (rank r) (rank x) (ltb (rank r) (rank x)) refl le) caller (All-head (λ (y : Row). y.caller ≡ 0) x rows mine) (omega arith),
+      after-all r x.place (suc k) rows placed.1 tail (All-tail (λ (y : Row). y.caller ≡ 0) x rows mine) (let b = up.1 in omega arith) caller (omega arith),
+    )
 
 rank-own : (x : Row) (k : Kind) → x.kind ≡ k → rank x ≤ 2 * x.place + 1
 rank-own x W is = let c : code x.kind ≡ 0 = ap code is in omega arith
@@ -73,9 +74,10 @@ pub ordered-placed : (p k : ℕ) (rows : List Row) → Placed p rows → map (λ
 ordered-placed p k [] placed numbered mine = tt
 ordered-placed p k (x ∷ rows) placed numbered mine =
     let head : x.seq ≡ k = cc in
-    let tail : map (λ (y : Row). y.seq) rows ≡ counted (suc k) (length rows) = cc in
-    (after-all x x.place (suc k) rows placed.1 tail (All-tail (λ (y : Row). y.caller ≡ 0) x rows mine) (rank-own x x.kind refl) (All-head (λ (y : Row). y.caller ≡ 0) x rows mine) (omega arith),
-     ordered-placed x.place (suc k) rows placed.1 tail (All-tail (λ (y : Row). y.caller ≡ 0) x rows mine))
+    let tail : map (λ (y : Row). y.seq) rows ≡ counted (suc k) (length rows) = cc in (
+      after-all x x.place (suc k) rows placed.1 tail (All-tail (λ (y : Row). y.caller ≡ 0) x rows mine) (rank-own x x.kind refl) (All-head (λ (y : Row). y.caller ≡ 0) x rows mine) (omega arith),
+      ordered-placed x.place (suc k) rows placed.1 tail (All-tail (λ (y : Row). y.caller ≡ 0) x rows mine),
+    )
 
 ascends-by : (floor p : ℕ) (k : Kind) (q : ℕ) (rest : List ℕ) → floor ≤ p → q ≡ place_after p k → ((f : ℕ) → f ≤ q → Ascends f rest) → Ascends floor (writer_to k q rest)
 ascends-by floor p W q rest le at next = (omega arith, next q (omega arith))
@@ -125,7 +127,7 @@ complete-by : (n : ℕ) (items : List Item) (rows : List Row) (t : Bool) → (n 
 complete-by n items rows true e im rm numbered long =
     let zero_is : 0 ≡ n = grind (arith, nat_tests) in
     subst (λ k. map (λ (x : Row). x.seq) (rows_of k rows) ≡ counted 0 (length (scripts_of k items))) zero_is
-      (ap (map (λ (x : Row). x.seq)) (rows_of-mine rows rm) ∙ (numbered ∙ ap (counted 0) long))
+    (ap (map (λ (x : Row). x.seq)) (rows_of-mine rows rm) ∙ (numbered ∙ ap (counted 0) long))
 complete-by n items rows false e im rm numbered long =
     let other : n ≢ 0 = grind (arith, nat_tests) in
     ap (map (λ (x : Row). x.seq)) (rows_of-other n rows other rm) ∙ sym (ap (λ l. counted 0 (length l)) (scripts_of-other n items other im))

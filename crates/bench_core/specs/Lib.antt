@@ -1,2 +1,4 @@
 pub mod Commands
+pub mod Messages
 pub mod PlainRuns
+pub mod Outcomes

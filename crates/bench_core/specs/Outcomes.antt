@@ -14,32 +14,44 @@ use Rattle.bench_core.specs.Commands.{IsRun}
 use Rattle.bench_core.specs.Messages.{usage_line, read_fault_line, refused_line, clock_full_line}
 use Rattle.bench_core.specs.PlainRuns.{Placed, StoodAtLimit}
 
--- the text is a workload's, and what is said is a report that replays it
-pub record Reported (text said : List ℕ) : Type 0 where
+-- the run went to its end, and what is said is a report that replays the workload
+pub record RanToEnd (w : Workload) (said : List ℕ) : Type 0 where
+  pub report : Report
+  pub replays : Replays w report
+  pub placed : Placed w.header.clock report.rows
+  pub is : said ≡ report_bytes report
+
+-- the run came to a transaction at the clock's limit
+pub record RanToLimit (w : Workload) (clock : ℕ) (said : List ℕ) : Type 0 where
+  pub stood : StoodAtLimit w clock
+  pub is : said ≡ clock_full_line clock
+
+-- what is said of a run
+abbrev pub SaidOfRun : Workload → Status → List ℕ → Type 0
+SaidOfRun w Done said = RanToEnd w said
+SaidOfRun w (ClockFull clock) said = RanToLimit w clock said
+SaidOfRun w (Refused line code) said = ⊥
+SaidOfRun w Usage said = ⊥
+SaidOfRun w ReadFault said = ⊥
+SaidOfRun w WriteFault said = ⊥
+SaidOfRun w Memory said = ⊥
+
+-- the text is a workload's, and this is said of its run
+pub record WasRun (text : List ℕ) (status : Status) (said : List ℕ) : Type 0 where
   pub workload : Workload
   pub parses : workload_of Run text ≡ Ok workload
-  pub report : Report
-  pub replays : Replays workload report
-  pub placed : Placed workload.header.clock report.rows
-  pub is : said ≡ report_bytes report
+  pub run : SaidOfRun workload status said
 
 -- the text isn't a workload's; what is said is its first fault
 pub record IsRefused (text : List ℕ) (line code : ℕ) (said : List ℕ) : Type 0 where
   pub fault : workload_of Run text ≡ Err (line, code)
   pub is : said ≡ refused_line line code
 
--- the text is a workload's, whose run came to a transaction at the clock's limit
-pub record HitLimit (text : List ℕ) (clock : ℕ) (said : List ℕ) : Type 0 where
-  pub workload : Workload
-  pub parses : workload_of Run text ≡ Ok workload
-  pub stood : StoodAtLimit workload clock
-  pub is : said ≡ clock_full_line clock
-
 -- what is said of a text that was read
 abbrev pub SaidOf : List ℕ → Status → List ℕ → Type 0
-SaidOf text Done said = Reported text said
+SaidOf text Done said = WasRun text Done said
 SaidOf text (Refused line code) said = IsRefused text line code said
-SaidOf text (ClockFull clock) said = HitLimit text clock said
+SaidOf text (ClockFull clock) said = WasRun text (ClockFull clock) said
 SaidOf text Usage said = ⊥
 SaidOf text ReadFault said = ⊥
 SaidOf text WriteFault said = ⊥

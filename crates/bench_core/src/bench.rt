@@ -1,7 +1,8 @@
 //! The top call.
-ghost use Rattle.std.specs.Prelude.{◌≡◌, ◌<◌, ◌≤◌, IfOk, length};
-ghost use Rattle.bench_core.specs.Commands.{IsRun};
-ghost use Rattle.bench_core.specs.Outcomes.{SaidOf, Says, Ends};
+ghost use Rattle.std.specs.Prelude.{IfOk};
+ghost use Rattle.bench_core.specs.Outcomes.{SaidOfRun, SaidOf, Says, Ends};
+ghost use Rattle.stm_text.specs.Built.{IsBuilt};
+ghost use Rattle.stm_text.specs.declared.parse.Mode.TheVariants.{Run};
 
 use crate::command::is_run;
 use crate::messages;
@@ -31,7 +32,13 @@ struct Saying {
 /// whole once it is made. Every other end writes one line, or with `Memory` nothing; see [`Status`].
 ///
 /// `rt` is the runtime value that waiting calls take; none of those that are built waits.
-pub fn bench<R, S: Source, K: Sink>(_rt: &R, alloc: Global, words: &[&str], source: &mut S, sink: &mut K) -> Status
+pub fn bench<R, S: Source, K: Sink>(
+    _rt: &R,
+    alloc: Global,
+    words: &[&str],
+    source: &mut S,
+    sink: &mut K,
+) -> Status
     ensures { Ends S.left S.faults words.now source.old source.new K.held K.faults sink.old sink.new result }
 {
     let Ok(saying) = say(alloc, words, source) else {
@@ -79,6 +86,8 @@ fn execute(alloc: Global, text: &[u8]) -> Result<Saying, Memory>
 
 /// What is to be written of a workload.
 fn report(alloc: Global, workload: &Workload) -> Result<Saying, Memory>
+    requires { IsBuilt Run workload.now }
+    ensures { IfOk result (λ s. SaidOfRun workload.now s.status s.text.items) }
 {
     match run(alloc, workload) {
         Ok(report) => Ok(Saying {

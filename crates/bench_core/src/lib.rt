@@ -2,6 +2,8 @@
 //! bytes written and the exit status.
 #![tactic(auto)]
 
+pub mod bench;
 mod command;
+mod messages;
 mod plain_run;
 pub mod status;

@@ -1,9 +1,9 @@
 //! `run` over plain memory, for one caller.
-ghost use Rattle.std.specs.Prelude.{◌≡◌, ◌<◌, ◌≤◌, ◌^◌, [], length, map, IfOk, IfErr};
+ghost use Rattle.std.specs.Prelude.{◌≡◌, ◌<◌, ◌≤◌, ◌^◌, [], ◌∷◌, ◌++◌, length, IfOk, IfErr, OnOk};
 ghost use Rattle.stm_model.specs.Plains.{openings, own_writes};
 ghost use Rattle.stm_script.specs.Operations.{ScriptFits};
 ghost use Rattle.stm_script.specs.Scripts.{run_row};
-ghost use Rattle.stm_script.specs.Reports.{Replays, RowFits, regions_of, zeros};
+ghost use Rattle.stm_script.specs.Reports.{Replays, RowFits, scripts_of, zeros};
 ghost use Rattle.stm_text.specs.Built.{IsBuilt};
 ghost use Rattle.stm_text.specs.declared.parse.Mode.TheVariants.{Run};
 ghost use Rattle.bench_core.specs.PlainRuns.{Placed, IsRunSoFar, place_after, IsStopCause};
@@ -62,8 +62,31 @@ pub fn run(alloc: Global, workload: &Workload) -> Result<Report, RunError>
     ensures placed { IfOk result (λ r. Placed workload.now.header.clock r.rows) }
     ensures stopped { IfErr result (IsStopCause workload.now) }
 {
-    let regions = Regions::none(alloc);
     let mut memory = opening(alloc, workload.header.words)?;
+    let rows = transact_all(alloc, workload, &mut memory)?;
+    let words = values(alloc, &memory)?;
+    let memory = pairs(alloc, words.as_slice())?;
+    Ok(Report {
+        rows: Rows::new(rows),
+        memory,
+    })
+}
+
+/// Runs all transactions, from a memory of zeros.
+fn transact_all(
+    alloc: Global,
+    workload: &Workload,
+    memory: &mut Plain,
+) -> Result<Vec<Row>, RunError>
+    requires built { IsBuilt Run workload.now }
+    requires opened { openings memory.old ≡ zeros workload.now.header.words }
+    requires fresh { own_writes memory.old ≡ [] }
+    requires length { length memory.old ≡ workload.now.header.words }
+    ensures rows { IfOk result (λ rows. IsRunSoFar workload.now rows.items (openings memory.new)) }
+    ensures all { IfOk result (λ rows. length rows.items ≡ length (scripts_of 0 workload.now.items)) }
+    ensures stopped { IfErr result (IsStopCause workload.now) }
+{
+    let regions = Regions::none(alloc);
     let mut clock = workload.header.clock;
     let mut rows = Vec::new(alloc);
     for item in workload.items.as_slice() {
@@ -71,15 +94,19 @@ pub fn run(alloc: Global, workload: &Workload) -> Result<Report, RunError>
             if clock >= LIMIT {
                 return Err(RunError::ClockFull { clock });
             }
-            let row = transact(alloc, &mut memory, &regions, script, clock, rows.len())?;
+            let row = transact(alloc, memory, &regions, script, clock, rows.len())?;
             clock = row.place;
-            rows.push(row)?;
+            push_row(&mut rows, row)?;
         }
     }
-    Ok(Report {
-        rows: Rows::new(rows),
-        memory: pairs(alloc, values(alloc, &memory)?.as_slice())?,
-    })
+    Ok(rows)
+}
+
+fn push_row(rows: &mut Vec<Row>, row: Row) -> Result<(), AllocError>
+    ensures { OnOk result (rows.new.items ≡ rows.old.items ++ row ∷ []) }
+{
+    rows.push(row)?;
+    Ok(())
 }
 
 /// A memory of zeros.
@@ -97,7 +124,7 @@ fn opening(alloc: Global, words: usize) -> Result<Plain, Memory>
 }
 
 /// The words of a memory with no open attempt, as they stand.
-fn values(alloc: Global, memory: &Plain) -> Result<Vec<u64>, Memory>
+fn values(alloc: Global, memory: &Plain) -> Result<Vec<u64>, AllocError>
     ensures { IfOk result (λ v. v.items ≡ openings memory.now) }
 {
     let mut values = Vec::new(alloc);
@@ -108,7 +135,14 @@ fn values(alloc: Global, memory: &Plain) -> Result<Vec<u64>, Memory>
 }
 
 /// Runs one transaction of caller 0 and commits it.
-fn transact(alloc: Global, memory: &mut Plain, regions: &Regions, script: &Script, clock: u64, seq: usize) -> Result<Row, Memory>
+fn transact(
+    alloc: Global,
+    memory: &mut Plain,
+    regions: &Regions,
+    script: &Script,
+    clock: u64,
+    seq: usize,
+) -> Result<Row, Memory>
     requires fits { ScriptFits regions.now (length memory.old) script.now }
     requires fresh { own_writes memory.old ≡ [] }
     requires clock { clock < 2 ^ 62 }
