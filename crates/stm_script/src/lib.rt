@@ -5,6 +5,7 @@ pub mod interpret;
 pub mod lists;
 pub mod op;
 pub mod operation;
+pub mod pairs;
 pub mod region;
 pub mod replies;
 pub mod report;
