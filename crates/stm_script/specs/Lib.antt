@@ -4,4 +4,7 @@ pub mod Operations
 pub mod OperationLaws
 pub mod Scripts
 pub mod ScriptLaws
+pub mod Keeping
+pub mod KeepingLaws
+pub mod Workloads
 pub mod Reports
