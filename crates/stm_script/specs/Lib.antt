@@ -8,3 +8,5 @@ pub mod Keeping
 pub mod KeepingLaws
 pub mod Workloads
 pub mod Reports
+pub mod Parts
+pub mod GrowthLaws
