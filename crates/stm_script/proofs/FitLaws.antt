@@ -1,10 +1,10 @@
 -- What a caller knows of its rows holds at their places of the one history.
-use Rattle.std.proofs.Common.{ℕ, zero, suc, ◌≡◌, ◌≢◌, ◌<◌, ◌≤◌, ◌+◌, ◌-◌, ◌*◌, List, [], ◌∷◌, ◌++◌, Bool, true, false, refl, sym, ap, ◌∙◌, arith, subst, inl, inr, length, get_or}
-use Rattle.std.specs.Prelude.{◌||◌, All, Contains}
+use Rattle.std.proofs.Common.{ℕ, ◌≡◌, ◌≤◌, ◌-◌, List, [], ◌∷◌, Bool, true, false, refl, sym, ap, ◌∙◌, subst, length}
+use Rattle.std.specs.Prelude.{◌||◌, Contains}
 use Rattle.std.proofs.lemmas.List.Elements.{All-contains}
 use Rattle.stm_model.specs.Memories.{overlay, Explains}
-use Rattle.stm_model.specs.Histories.{Entry, memory_at, Ascending, IsLegal}
-use Rattle.stm_model.specs.HistoryLaws.{memory_at-early, memory_at-append, memory_at-entry, length-memory_at}
+use Rattle.stm_model.specs.Histories.{Entry, memory_at, IsLegal}
+use Rattle.stm_model.specs.HistoryLaws.{memory_at-entry, length-memory_at}
 use Rattle.stm_script.specs.declared.op.Op.{Op}
 use Rattle.stm_script.specs.declared.op.Op.TheVariants.{Read, Write, Add, Cancel}
 use Rattle.stm_script.specs.declared.region.Region.{Region}
@@ -61,7 +61,7 @@ module _ (regions : List Region) where
       let before : m ≡ memory_at (before_of r.kind r.place) es opening = ap (λ t. memory_at (t - 1) es opening) row.time ∙ sym (ap (λ j. memory_at (before_of j r.place) es opening) is) in
       record {
         fits = subst (RowFits regions script r) before fit;
-        after = ap (λ x. (run_row regions r.kind script x).memory) (sym before) ∙ (left ∙ (sym step ∙ ap (λ t. memory_at t es opening) row.time))
+        after = ap (λ x. (run_row regions r.kind script x).memory) (sym before) ∙ (left ∙ (sym step ∙ ap (λ t. memory_at t es opening) row.time));
       }
   fits-by good opening floor es script made seen front r R is legal begins within h =
       let same = seen-same r.place front es seen opening begins h.0 in
@@ -69,14 +69,14 @@ module _ (regions : List Region) where
       let fit : RowFits regions script r (memory_at (before_of r.kind r.place) es opening) = subst (RowFits regions script r) before h.1 in
       record {
         fits = fit;
-        after = quiet-by r script (memory_at (before_of r.kind r.place) es opening) is fit ∙ ap (λ j. memory_at (before_of j r.place) es opening) is
+        after = quiet-by r script (memory_at (before_of r.kind r.place) es opening) is fit ∙ ap (λ j. memory_at (before_of j r.place) es opening) is;
       }
   fits-by good opening floor es script made seen front r C is legal begins within h =
       let same = seen-same r.place front es seen opening begins h.0 in
       let before : memory_at r.place seen opening ≡ memory_at (before_of r.kind r.place) es opening = sym same ∙ sym (ap (λ j. memory_at (before_of j r.place) es opening) is) in
       record {
         fits = subst (RowFits regions script r) before h.1;
-        after = ap (λ k. (run_row regions k script (memory_at (before_of r.kind r.place) es opening)).memory) is ∙ ap (λ j. memory_at (before_of j r.place) es opening) is
+        after = ap (λ k. (run_row regions k script (memory_at (before_of r.kind r.place) es opening)).memory) is ∙ ap (λ j. memory_at (before_of j r.place) es opening) is;
       }
 
   pub fits-in : (good : List ℕ → Type 0) (opening : List ℕ) (floor : ℕ) (es : List Entry) (script : Row → List Op) (made seen : List Entry) (front : ℕ) (r : Row)

@@ -1,5 +1,5 @@
 -- Ordered rows with the same numbers in them have them in the same order.
-use Rattle.std.proofs.Common.{ℕ, zero, suc, ◌≡◌, ◌≢◌, ◌<◌, ◌≤◌, ◌+◌, ◌-◌, ◌*◌, List, [], ◌∷◌, ◌++◌, Bool, true, false, refl, sym, ap, ◌∙◌, arith, subst, inl, inr}
+use Rattle.std.proofs.Common.{ℕ, ◌≡◌, ◌≢◌, ◌<◌, ◌≤◌, ◌+◌, List, [], ◌∷◌, Bool, true, false, refl, sym, ap, ◌∙◌, arith, inl, inr}
 use Rattle.std.specs.Prelude.{◌==◌, ◌⊎◌, ltb, if◌then◌else◌, sum_by, map}
 use Rattle.std.proofs.lemmas.Bool.Decides.{nat_tests}
 use Rattle.std.proofs.lemmas.List.Sums.{sum_by-cons}
@@ -7,7 +7,7 @@ use Rattle.stm_model.specs.Histories.{Entry, Ascending}
 use Rattle.stm_script.specs.declared.report.Row.{Row}
 use Rattle.stm_script.specs.declared.report.Kind.{Kind}
 use Rattle.stm_script.specs.declared.report.Kind.TheVariants.{W, R, C}
-use Rattle.stm_script.specs.Reports.{Ordered, AllAfter, IsBefore, rank, code, writer_to, writers, writers_by, rows_of}
+use Rattle.stm_script.specs.Reports.{Ordered, AllAfter, IsBefore, rank, code, writer_to, writers_by, rows_of}
 
 -- the order of pairs, by the first number and then the second
 abbrev pub Less : ℕ × ℕ → ℕ × ℕ → Type 0

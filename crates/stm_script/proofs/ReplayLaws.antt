@@ -1,6 +1,5 @@
 -- The rows of a history, in order, are the replay of one thread.
-use Rattle.std.proofs.Common.{ℕ, zero, suc, ◌≡◌, ◌≢◌, ◌<◌, ◌≤◌, ◌+◌, ◌-◌, ◌*◌, List, [], ◌∷◌, ◌++◌, Bool, true, false, refl, sym, ap, ◌∙◌, arith, subst, inl, inr}
-use Rattle.std.specs.Prelude.{◌⊎◌}
+use Rattle.std.proofs.Common.{ℕ, ◌≡◌, ◌<◌, ◌≤◌, ◌+◌, ◌-◌, ◌*◌, List, [], ◌∷◌, refl, sym, ap, ◌∙◌, arith, subst, inl, inr}
 use Rattle.stm_model.specs.Memories.{overlay}
 use Rattle.stm_model.specs.Histories.{Entry, memory_at, memory_after, Ascending}
 use Rattle.stm_model.specs.HistoryLaws.{memory_at-early, memory_at-past, memory_at-first}
@@ -95,7 +94,7 @@ module _ (regions : List Region) where
       let a = memory_at-past r.place e es m le in
       record {
         fits = subst (RowFits regions script r) b h.fits;
-        after = ap (λ x. (run_row regions r.kind script x).memory) (sym b) ∙ (h.after ∙ a)
+        after = ap (λ x. (run_row regions r.kind script x).memory) (sym b) ∙ (h.after ∙ a);
       }
 
   code-small : (k : Kind) → code k ≤ 1
@@ -122,9 +121,10 @@ module _ (regions : List Region) where
       let up = reader-floor r rs floor es one after e asc in
       let now : memory_at r.place es m ≡ m = memory_at-early r.place r.place es m (omega arith) up in
       let before : memory_at (before_of r.kind r.place) es m ≡ m = ap (λ b. memory_at b es m) (ap (λ j. before_of j r.place) is ∙ at r.place) ∙ now in
-      let next : (run_row regions r.kind (script r) m).memory ≡ m = ap (λ y. (run_row regions r.kind (script r) y).memory) (sym before) ∙ (fit.after ∙ now) in
-      (subst (RowFits regions (script r) r) before fit.fits,
-       subst (λ y. Replay regions script y rs (memory_after es m)) (sym next) (rest floor es m asc e fits))
+      let next : (run_row regions r.kind (script r) m).memory ≡ m = ap (λ y. (run_row regions r.kind (script r) y).memory) (sym before) ∙ (fit.after ∙ now) in (
+        subst (RowFits regions (script r) r) before fit.fits,
+        subst (λ y. Replay regions script y rs (memory_after es m)) (sym next) (rest floor es m asc e fits),
+      )
 
   -- THE THEOREM, by the kind of the first row
   replay-step : (script : Row → List Op) (r : Row) (k : Kind) → r.kind ≡ k → (rs : List Row) (floor : ℕ) (es : List Entry) (m : List ℕ)
@@ -137,13 +137,14 @@ module _ (regions : List Region) where
       let low = asc.0 in
       let kind : code r.kind ≡ 0 = ap code is in
       let before : memory_at (before_of r.kind r.place) (x ∷ es) m ≡ m =
-          ap (λ k. memory_at (before_of k r.place) (x ∷ es) m) is ∙ memory_at-early (r.place - 1) (x.time - 1) (x ∷ es) m (omega arith) (omega arith, asc.1) in
+      ap (λ k. memory_at (before_of k r.place) (x ∷ es) m) is ∙ memory_at-early (r.place - 1) (x.time - 1) (x ∷ es) m (omega arith) (omega arith, asc.1) in
       let now : memory_at r.place (x ∷ es) m ≡ overlay m x.writes = ap (λ k. memory_at k (x ∷ es) m) same ∙ memory_at-first x es m asc.1 in
       let next : (run_row regions r.kind (script r) m).memory ≡ overlay m x.writes = ap (λ y. (run_row regions r.kind (script r) y).memory) (sym before) ∙ (fit.after ∙ now) in
-      let past = writers-past rs x.time es (cc) asc.1 in
-      (subst (RowFits regions (script r) r) before fit.fits,
-       subst (λ y. Replay regions script y rs (memory_after es (overlay m x.writes))) (sym next)
-          (rest x.time es (overlay m x.writes) asc.1 (cc) (all-rest script x es m r rs (omega arith) kind after past fits)))
+      let past = writers-past rs x.time es (cc) asc.1 in (
+        subst (RowFits regions (script r) r) before fit.fits,
+        subst (λ y. Replay regions script y rs (memory_after es (overlay m x.writes))) (sym next)
+            (rest x.time es (overlay m x.writes) asc.1 (cc) (all-rest script x es m r rs (omega arith) kind after past fits)),
+      )
   replay-step script r R is rs floor es m after ord asc e fit fits rest =
       reads-on script r rs floor es m is (λ p. refl) (ap code is) after asc e fit fits rest
   replay-step script r C is rs floor es m after ord asc e fit fits rest =

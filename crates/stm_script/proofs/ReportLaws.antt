@@ -1,28 +1,26 @@
 -- THE REPLAY THEOREM, from what each caller knows.
-use Rattle.std.proofs.Common.{ℕ, zero, suc, ◌≡◌, ◌≢◌, ◌<◌, ◌≤◌, ◌+◌, ◌-◌, ◌*◌, List, [], ◌∷◌, ◌++◌, Bool, true, false, refl, sym, ap, ◌∙◌, arith, subst, inl, inr, length, get_or}
-use Rattle.std.specs.Prelude.{◌==◌, ◌⊎◌, ltb, leb, sum_by, map, All, Contains, IsPermutation, if◌then◌else◌}
+use Rattle.std.proofs.Common.{ℕ, zero, suc, ◌≡◌, ◌≢◌, ◌<◌, ◌≤◌, ◌+◌, List, [], ◌∷◌, ◌++◌, Bool, true, false, refl, sym, ap, ◌∙◌, arith, subst, length, get_or}
+use Rattle.std.specs.Prelude.{◌==◌, sum_by, map, All, IsPermutation, if◌then◌else◌}
 use Rattle.std.proofs.lemmas.Bool.Decides.{nat_tests}
 use Rattle.std.proofs.lemmas.List.Sums.{sum_by-cons, sum_by-append}
 use Rattle.std.proofs.lemmas.List.Sorted.{sum_by-IsPermutation, All-permutation}
 use Rattle.std.proofs.lemmas.List.Elements.{All-head, All-tail, All-append}
-use Rattle.stm_model.specs.Histories.{Entry, memory_at, memory_after, Ascending, IsLegal}
+use Rattle.stm_model.specs.Histories.{Entry, memory_after, Ascending, IsLegal}
 use Rattle.stm_model.specs.HistoryLaws.{memory_at-all}
-use Rattle.stm_script.specs.declared.op.Op.{Op}
 use Rattle.stm_script.specs.declared.region.Region.{Region}
 use Rattle.stm_script.specs.declared.report.Kind.{Kind}
 use Rattle.stm_script.specs.declared.report.Kind.TheVariants.{W, R, C}
-use Rattle.stm_script.specs.declared.report.Report.{Report}
 use Rattle.stm_script.specs.declared.report.Row.{Row}
 use Rattle.stm_script.specs.declared.workload.Header.{Header}
 use Rattle.stm_script.specs.declared.workload.Item.{Item}
 use Rattle.stm_script.specs.declared.workload.Item.TheVariants.{Tx, Switch}
 use Rattle.stm_script.specs.declared.workload.Workload.{Workload}
-use Rattle.stm_script.specs.Reports.{Replay, Replays, Shows, Ordered, Ascends, Apart, writers, writers_by, writer_to, rows_of, counted, scripts_of, script_of, regions_of, zeros, nonzero}
-use Rattle.stm_script.specs.Workloads.{ItemFits, ItemsFit}
-use Rattle.stm_script.specs.Parts.{times, RowIn, BeginsWith, Part, PartIn, all_rows, Gathers, IsGathered, ReportReplays}
+use Rattle.stm_script.specs.Reports.{Ordered, Ascends, Apart, writers, writers_by, writer_to, rows_of, counted, scripts_of, script_of, regions_of, zeros, nonzero}
+use Rattle.stm_script.specs.Workloads.{ItemFits}
+use Rattle.stm_script.specs.Parts.{times, Part, PartIn, all_rows, ReportReplays}
 use Rattle.stm_script.proofs.FitLaws.{fits-in}
 use Rattle.stm_script.proofs.ReplayLaws.{FitsAt, AllFitAt, replays}
-use Rattle.stm_script.proofs.MergeLaws.{count, same_rising, row_weight, entry_weight, count-writers, count-stamps, stamps, rising-writers, rising-stamps, Mine, keys, rising-keys, mine-rows_of, ordered-rows_of, key_weight, count-keys, seqs-keys}
+use Rattle.stm_script.proofs.MergeLaws.{count, same_rising, row_weight, entry_weight, count-writers, count-stamps, stamps, rising-writers, rising-stamps, keys, rising-keys, mine-rows_of, ordered-rows_of, key_weight, count-keys, seqs-keys}
 
 -- places with callers, and places alone
 places-by : (k : Kind) (p c : ℕ) (xs : List ℕ) (ys : List (ℕ × ℕ)) → xs ≡ map (λ (x : ℕ × ℕ). x.0) ys → writer_to k p xs ≡ map (λ (x : ℕ × ℕ). x.0) (writer_to k (p, c) ys)
@@ -124,14 +122,15 @@ module _ (good : List ℕ → Type 0) (w : Workload) (es : List Entry) where
   parts-fit [] legal h = λ k d lt. absurd (omega arith)
   parts-fit (p ∷ ps) legal h =
       All-append (λ (r : Row). FitsAt (regions_of w.header) (script_of w.items r) es (zeros w.header.words) r) p.rows (all_rows ps)
-        (one-fits p legal (All-head (PartIn good w es) p ps h)) (parts-fit ps legal (All-tail (PartIn good w es) p ps h))
+      (one-fits p legal (All-head (PartIn good w es) p ps h)) (parts-fit ps legal (All-tail (PartIn good w es) p ps h))
 
   as-list : (rows : List Row) → All (λ (r : Row). FitsAt (regions_of w.header) (script_of w.items r) es (zeros w.header.words) r) rows
       → AllFitAt (regions_of w.header) (script_of w.items) rows es (zeros w.header.words)
   as-list [] h = tt
-  as-list (r ∷ rs) h =
-      (All-head (λ (x : Row). FitsAt (regions_of w.header) (script_of w.items x) es (zeros w.header.words) x) r rs h,
-       as-list rs (All-tail (λ (x : Row). FitsAt (regions_of w.header) (script_of w.items x) es (zeros w.header.words) x) r rs h))
+  as-list (r ∷ rs) h = (
+    All-head (λ (x : Row). FitsAt (regions_of w.header) (script_of w.items x) es (zeros w.header.words) x) r rs h,
+    as-list rs (All-tail (λ (x : Row). FitsAt (regions_of w.header) (script_of w.items x) es (zeros w.header.words) x) r rs h),
+  )
 
   part-counts : (t : ℕ × ℕ) (parts : List Part) → All (PartIn good w es) parts
       → sum_by (row_weight t) (all_rows parts) ≡ sum_by (λ (p : Part). sum_by (entry_weight t) p.made) parts
@@ -140,7 +139,7 @@ module _ (good : List ℕ → Type 0) (w : Workload) (es : List Entry) where
       let one = All-head (PartIn good w es) p ps h in
       let part : Part → ℕ = λ q. sum_by (entry_weight t) q.made in
       let stamped : writers_by p.rows ≡ stamps p.made =
-          writers-mine p.caller p.rows one.worked.mine ∙ (ap (map (λ (k : ℕ). let x : ℕ × ℕ = (k, p.caller) in x)) one.worked.writers ∙ sym (stamps-mine p.caller p.made one.owned)) in
+      writers-mine p.caller p.rows one.worked.mine ∙ (ap (map (λ (k : ℕ). let x : ℕ × ℕ = (k, p.caller) in x)) one.worked.writers ∙ sym (stamps-mine p.caller p.made one.owned)) in
       let mine : sum_by (row_weight t) p.rows ≡ sum_by (entry_weight t) p.made = sym (count-writers t p.rows) ∙ (ap (count t) stamped ∙ count-stamps t p.made) in
       let rest = part-counts t ps (All-tail (PartIn good w es) p ps h) in
       sum_by-append (row_weight t) p.rows (all_rows ps) ∙ ((ap (λ n. n + sum_by (row_weight t) (all_rows ps)) mine ∙ ap (λ n. sum_by (entry_weight t) p.made + n) rest) ∙ sym (sum_by-cons part p ps))
@@ -158,9 +157,9 @@ module _ (good : List ℕ → Type 0) (w : Workload) (es : List Entry) where
 
   own-rows : (n : ℕ) (p : Part) → p.caller ≡ n → PartIn good w es p → IsWhole w.items n p.rows
   own-rows n p who one = record {
-      ordered = one.worked.ordered;
-      numbered = one.worked.numbered ∙ (ap (counted 0) one.whole ∙ ap (λ c. counted 0 (length (scripts_of c w.items))) who);
-    }
+    ordered = one.worked.ordered;
+    numbered = one.worked.numbered ∙ (ap (counted 0) one.whole ∙ ap (λ c. counted 0 (length (scripts_of c w.items))) who);
+  }
 
   whole-by : (n k c : ℕ) (p : Part) (ps : List Part) (b : Bool) → (n == k) ≡ b → k ≤ n → p.caller ≡ k → PartIn good w es p
       → map (λ (q : Part). q.caller) ps ≡ counted (suc k) c → All (PartIn good w es) ps
@@ -190,18 +189,18 @@ module _ (good : List ℕ → Type 0) (w : Workload) (es : List Entry) where
       let one = All-head (PartIn good w es) p ps h in
       let more = All-tail (PartIn good w es) p ps h in
       whole-by n k c p ps (n == k) refl le who one rest more
-        (λ up. whole-from n (suc k) c ps up rest more (λ far. out (omega arith)))
+      (λ up. whole-from n (suc k) c ps up rest more (λ far. out (omega arith)))
 
   -- in the report each caller's rows come in the order of the text
   complete : (n : ℕ) (parts : List Part) (rows : List Row) → IsWhole w.items n (rows_of n (all_rows parts)) → IsPermutation (all_rows parts) rows → Ordered rows
       → map (λ (r : Row). r.seq) (rows_of n rows) ≡ counted 0 (length (scripts_of n w.items))
   complete n parts rows whole moved ordered =
       let counts : (t : ℕ × ℕ) → count t (keys (rows_of n rows)) ≡ count t (keys (rows_of n (all_rows parts))) = λ t.
-          count-keys n t rows ∙ (sum_by-IsPermutation (key_weight n t) (all_rows parts) rows moved ∙ sym (count-keys n t (all_rows parts))) in
+      count-keys n t rows ∙ (sum_by-IsPermutation (key_weight n t) (all_rows parts) rows moved ∙ sym (count-keys n t (all_rows parts))) in
       let same : keys (rows_of n rows) ≡ keys (rows_of n (all_rows parts)) =
-          same_rising (keys (rows_of n rows)) (keys (rows_of n (all_rows parts)))
-            (rising-keys n (rows_of n rows) (mine-rows_of n rows) (ordered-rows_of n rows ordered))
-            (rising-keys n (rows_of n (all_rows parts)) (mine-rows_of n (all_rows parts)) whole.ordered) counts in
+      same_rising (keys (rows_of n rows)) (keys (rows_of n (all_rows parts)))
+      (rising-keys n (rows_of n rows) (mine-rows_of n rows) (ordered-rows_of n rows ordered))
+      (rising-keys n (rows_of n (all_rows parts)) (mine-rows_of n (all_rows parts)) whole.ordered) counts in
       seqs-keys (rows_of n rows) ∙ (ap (map (λ (x : ℕ × ℕ). x.1)) same ∙ (sym (seqs-keys (rows_of n (all_rows parts))) ∙ whole.numbered))
 
 pub report-replays : (good : List ℕ → Type 0) → ReportReplays good
@@ -210,15 +209,16 @@ report-replays good w es clock parts report h =
     let opening = zeros w.header.words in
     let fit = as-list good w es rows (All-permutation (λ (r : Row). FitsAt (regions_of w.header) (script_of w.items r) es (zeros w.header.words) r) (all_rows parts) rows h.moved (parts-fit good w es parts h.legal h.each)) in
     let counts : (t : ℕ × ℕ) → count t (writers_by rows) ≡ count t (stamps es) = λ t.
-        count-writers t rows ∙ (sum_by-IsPermutation (row_weight t) (all_rows parts) rows h.moved ∙ (part-counts good w es t parts h.each ∙ (sym (h.gathers (entry_weight t)) ∙ sym (count-stamps t es)))) in
+    count-writers t rows ∙ (sum_by-IsPermutation (row_weight t) (all_rows parts) rows h.moved ∙ (part-counts good w es t parts h.each ∙ (sym (h.gathers (entry_weight t)) ∙ sym (count-stamps t es)))) in
     let stamped : writers_by rows ≡ stamps es = same_rising (writers_by rows) (stamps es) (rising-writers rows h.ordered) (rising-stamps w.header.clock es h.legal.ascending) counts in
-    let same : writers rows ≡ times es = writers-places rows ∙ (ap (map (λ (x : ℕ × ℕ). x.0)) stamped ∙ sym (times-stamps es)) in
-    (record {
-       ordered = h.ordered;
-       apart = subst Apart (sym same) (apart-times w.header.clock es h.legal.ascending);
-       complete = λ n. complete good w es n parts rows (whole-from good w es n 0 w.header.callers parts (omega arith) h.callers h.each (λ far. scripts-other (regions_of w.header) w.header n w.items (omega arith) h.items)) h.moved h.ordered;
-       last = memory_after es opening;
-       replay = replays (regions_of w.header) (script_of w.items) rows w.header.clock es opening h.ordered h.legal.ascending same fit;
-       memory = h.memory ∙ ap (nonzero 0) (memory_at-all clock es opening h.times);
-     },
-     record { writers = stamped; opened = refl; memory = h.memory })
+    let same : writers rows ≡ times es = writers-places rows ∙ (ap (map (λ (x : ℕ × ℕ). x.0)) stamped ∙ sym (times-stamps es)) in (
+      record {
+        ordered = h.ordered;
+        apart = subst Apart (sym same) (apart-times w.header.clock es h.legal.ascending);
+        complete = λ n. complete good w es n parts rows (whole-from good w es n 0 w.header.callers parts (omega arith) h.callers h.each (λ far. scripts-other (regions_of w.header) w.header n w.items (omega arith) h.items)) h.moved h.ordered;
+        last = memory_after es opening;
+        replay = replays (regions_of w.header) (script_of w.items) rows w.header.clock es opening h.ordered h.legal.ascending same fit;
+        memory = h.memory ∙ ap (nonzero 0) (memory_at-all clock es opening h.times);
+      },
+      record { writers = stamped; opened = refl; memory = h.memory },
+    )

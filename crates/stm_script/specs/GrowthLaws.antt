@@ -1,5 +1,5 @@
 -- What a caller has seen only grows, and so do its rows.
-use Rattle.std.proofs.Common.{ℕ, zero, suc, ◌≡◌, ◌<◌, ◌≤◌, ◌+◌, ◌*◌, List, [], ◌∷◌, ◌++◌, Bool, true, false, refl, sym, ap, ◌∙◌, arith, append_assoc, subst, length, get_or, inl, inr, length-append}
+use Rattle.std.proofs.Common.{ℕ, zero, suc, ◌≡◌, ◌<◌, ◌≤◌, ◌+◌, List, [], ◌∷◌, ◌++◌, Bool, true, false, refl, sym, ap, ◌∙◌, arith, append_assoc, subst, length, get_or, inl, inr}
 use Rattle.std.specs.Prelude.{◌⊎◌, ltb, All, Contains, map}
 use Rattle.std.proofs.lemmas.Bool.Decides.{nat_tests}
 use Rattle.std.proofs.lemmas.List.Elements.{Contains-append_left, Contains-append_right, All-append, All-head, All-tail}
@@ -50,7 +50,7 @@ grew-trans s f t g u h a b =
       is = b.is ∙ (ap (λ w. w ++ b.later) a.is ∙ append_assoc s a.later b.later);
       ascending = ascending-append f g a.later b.later a.ascending a.up_to a.front_rose b.ascending;
       up_to = within-append g h a.later b.later a.up_to b.front_rose b.up_to;
-      front_rose = omega arith
+      front_rose = omega arith;
     }
 
 pub grew-begins : (s : List Entry) (f : ℕ) (t : List Entry) (g : ℕ) → Grew s f t g → BeginsWith t s f
@@ -157,13 +157,13 @@ module _ (good : List ℕ → Type 0) (opening : List ℕ) (regions : List Regio
   pub worked-grows : (caller : ℕ) (made seen : List Entry) (front : ℕ) (seen' : List Entry) (front' : ℕ) (rows : List Row)
       → Grew seen front seen' front' → Worked good opening regions script caller made seen front rows → Worked good opening regions script caller made seen' front' rows
   worked-grows caller made seen front seen' front' rows grew h = record {
-      writers = h.writers;
-      each = λ k d lt. row-by made seen made seen' front front' (get_or rows k d) (get_or rows k d).kind (λ e c. c) grew (h.each k d lt);
-      mine = h.mine;
-      numbered = h.numbered;
-      ordered = h.ordered;
-      places = higher front front' rows grew.front_rose h.places
-    }
+    writers = h.writers;
+    each = λ k d lt. row-by made seen made seen' front front' (get_or rows k d) (get_or rows k d).kind (λ e c. c) grew (h.each k d lt);
+    mine = h.mine;
+    numbered = h.numbered;
+    ordered = h.ordered;
+    places = higher front front' rows grew.front_rose h.places;
+  }
 
   -- the next row of a caller comes behind its others
   next-ordered : (caller : ℕ) (made seen : List Entry) (front : ℕ) (rows : List Row) (r : Row)
@@ -171,7 +171,7 @@ module _ (good : List ℕ → Type 0) (opening : List ℕ) (regions : List Regio
   next-ordered caller made seen front rows r h who seq next =
       let low = counted-below 0 (length rows) rows h.numbered in
       ordered-append rows r h.ordered
-        (λ k d lt. before-ranked (get_or rows k d) r (rank-next front (get_or rows k d) r r.kind refl (h.places k d lt) next) (h.mine k d lt ∙ sym who) (let b = low k d lt in omega arith))
+      (λ k d lt. before-ranked (get_or rows k d) r (rank-next front (get_or rows k d) r r.kind refl (h.places k d lt) next) (h.mine k d lt ∙ sym who) (let b = low k d lt in omega arith))
 
   -- a row more, of an entry more
   pub worked-wrote : (caller : ℕ) (made seen : List Entry) (front : ℕ) (seen' : List Entry) (front' : ℕ) (rows : List Row) (r : Row) (e : Entry)
@@ -184,13 +184,13 @@ module _ (good : List ℕ → Type 0) (opening : List ℕ) (regions : List Regio
       record {
         writers = writers-append rows (r ∷ []) ∙ (ap (λ k. writers rows ++ writer_to k r.place []) is ∙ (ap (λ w. w ++ r.place ∷ []) h.writers ∙ (ap (λ p. times made ++ p ∷ []) (sym row.time) ∙ sym (times-append made (e ∷ [])))));
         each = All-append P rows (r ∷ [])
-          (λ k d lt. row-by made seen made' seen' front front' (get_or rows k d) (get_or rows k d).kind (λ x c. Contains-append_left made (e ∷ []) x c) grew (h.each k d lt))
-          (one-row P r (subst (λ k. by_kind k ((x : Entry) × Contains made' x × RowOf good (length opening) regions (script r) r x) ((r.place ≤ front') × RowFits regions (script r) r (memory_at r.place seen' opening))) (sym is)
+            (λ k d lt. row-by made seen made' seen' front front' (get_or rows k d) (get_or rows k d).kind (λ x c. Contains-append_left made (e ∷ []) x c) grew (h.each k d lt))
+            (one-row P r (subst (λ k. by_kind k ((x : Entry) × Contains made' x × RowOf good (length opening) regions (script r) r x) ((r.place ≤ front') × RowFits regions (script r) r (memory_at r.place seen' opening))) (sym is)
             (e, Contains-append_right made (e ∷ []) e (0, omega arith, refl), row)));
         mine = All-append (λ (x : Row). x.caller ≡ caller) rows (r ∷ []) h.mine (one-row (λ (x : Row). x.caller ≡ caller) r who);
         numbered = numbered-append 0 rows r h.numbered (omega arith);
         ordered = next-ordered caller made seen front rows r h who seq (subst (λ k. NextPlace front k r.place) (sym is) next);
-        places = All-append (λ (x : Row). x.place ≤ front') rows (r ∷ []) (higher front front' rows grew.front_rose h.places) (one-row (λ (x : Row). x.place ≤ front') r top)
+        places = All-append (λ (x : Row). x.place ≤ front') rows (r ∷ []) (higher front front' rows grew.front_rose h.places) (one-row (λ (x : Row). x.place ≤ front') r top);
       }
 
   -- a row more that left the memory as it was
@@ -207,7 +207,7 @@ module _ (good : List ℕ → Type 0) (opening : List ℕ) (regions : List Regio
         mine = All-append (λ (x : Row). x.caller ≡ caller) rows (r ∷ []) h.mine (one-row (λ (x : Row). x.caller ≡ caller) r who);
         numbered = numbered-append 0 rows r h.numbered (omega arith);
         ordered = next-ordered caller made seen front rows r h who seq next;
-        places = All-append (λ (x : Row). x.place ≤ front') rows (r ∷ []) old.places (one-row (λ (x : Row). x.place ≤ front') r top)
+        places = All-append (λ (x : Row). x.place ≤ front') rows (r ∷ []) old.places (one-row (λ (x : Row). x.place ≤ front') r top);
       }
 
   pub worked-read : (caller : ℕ) (made seen : List Entry) (front : ℕ) (seen' : List Entry) (front' : ℕ) (rows : List Row) (r : Row)
@@ -216,8 +216,8 @@ module _ (good : List ℕ → Type 0) (opening : List ℕ) (regions : List Regio
       → Worked good opening regions script caller made seen' front' (rows ++ r ∷ [])
   worked-read caller made seen front seen' front' rows r grew h is who seq next top fit =
       other-row caller made seen front seen' front' rows r grew h (ap (λ k. writer_to k r.place []) is)
-        (subst (λ k. by_kind k ((x : Entry) × Contains made x × RowOf good (length opening) regions (script r) r x) ((r.place ≤ front') × RowFits regions (script r) r (memory_at r.place seen' opening))) (sym is) (top, fit))
-        who seq (subst (λ k. NextPlace front k r.place) (sym is) next) top
+      (subst (λ k. by_kind k ((x : Entry) × Contains made x × RowOf good (length opening) regions (script r) r x) ((r.place ≤ front') × RowFits regions (script r) r (memory_at r.place seen' opening))) (sym is) (top, fit))
+      who seq (subst (λ k. NextPlace front k r.place) (sym is) next) top
 
   pub worked-cancelled : (caller : ℕ) (made seen : List Entry) (front : ℕ) (seen' : List Entry) (front' : ℕ) (rows : List Row) (r : Row)
       → Grew seen front seen' front' → Worked good opening regions script caller made seen front rows
@@ -225,5 +225,5 @@ module _ (good : List ℕ → Type 0) (opening : List ℕ) (regions : List Regio
       → Worked good opening regions script caller made seen' front' (rows ++ r ∷ [])
   worked-cancelled caller made seen front seen' front' rows r grew h is who seq next top fit =
       other-row caller made seen front seen' front' rows r grew h (ap (λ k. writer_to k r.place []) is)
-        (subst (λ k. by_kind k ((x : Entry) × Contains made x × RowOf good (length opening) regions (script r) r x) ((r.place ≤ front') × RowFits regions (script r) r (memory_at r.place seen' opening))) (sym is) (top, fit))
-        who seq (subst (λ k. NextPlace front k r.place) (sym is) next) top
+      (subst (λ k. by_kind k ((x : Entry) × Contains made x × RowOf good (length opening) regions (script r) r x) ((r.place ≤ front') × RowFits regions (script r) r (memory_at r.place seen' opening))) (sym is) (top, fit))
+      who seq (subst (λ k. NextPlace front k r.place) (sym is) next) top

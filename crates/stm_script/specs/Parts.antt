@@ -1,5 +1,5 @@
 -- What each caller knows of its rows when all have ended.
-use Rattle.std.specs.Prelude.{ℕ, ◌≡◌, ◌≤◌, ◌<◌, List, [], ◌∷◌, ◌++◌, All, Contains, IsPermutation, length, map, sum_by}
+use Rattle.std.specs.Prelude.{ℕ, ◌≡◌, ◌≤◌, List, [], ◌∷◌, ◌++◌, All, Contains, IsPermutation, length, map, sum_by}
 use Rattle.stm_model.specs.Memories.{overlay, Explains}
 use Rattle.stm_model.specs.Histories.{Entry, memory_at, Ascending, IsLegal}
 use Rattle.stm_model.specs.HistoryLaws.{Within}

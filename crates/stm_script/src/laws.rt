@@ -7,5 +7,4 @@ use stm_model::rule::MemRule;
 /// thread does that runs the transactions in the report's order; and the report shows that history.
 pub fn report_replays<K: MemRule>(_rule: &K)
     ensures { ReportReplays (K.good _rule.now) }
-{
-}
+{}
