@@ -1,1 +1,5 @@
 mod Rooms
+mod ReplayLaws
+mod FitLaws
+mod MergeLaws
+mod ReportLaws

@@ -4,4 +4,9 @@ pub mod Operations
 pub mod OperationLaws
 pub mod Scripts
 pub mod ScriptLaws
+pub mod Keeping
+pub mod KeepingLaws
+pub mod Workloads
 pub mod Reports
+pub mod Parts
+pub mod GrowthLaws

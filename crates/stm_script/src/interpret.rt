@@ -1,6 +1,7 @@
 //! Scripts over any access.
 ghost use Rattle.std.specs.Prelude.{◌≡◌, ◌<◌, ◌≤◌, ◌+◌, ◌++◌, ◌∷◌, [], ℕ, None, Some, All, IfOk, OnOk, IfErr, length, take, true};
-ghost use Rattle.stm_model.specs.Logs.{SameMemories, IsExplained, IsReadStop};
+ghost use Rattle.stm_model.specs.Logs.{SameMemories, IsExplained, IsReadStop, Keeps};
+ghost use Rattle.stm_script.specs.Keeping.{ScriptKeeps};
 ghost use Rattle.stm_script.specs.Operations.{OpFits, ScriptFits, OnlyReads};
 ghost use Rattle.stm_script.specs.Scripts.{run, before_cancel, has_cancel, ran_to_end, HasEnd};
 ghost use Rattle.stm_script.specs.ScriptLaws.{GaveOver, ran_one};
@@ -60,6 +61,7 @@ fn perform_all<A: Access>(
     requires room { HasRoom out.old (length ops.now) }
     ensures gave { OnOk result (GaveOver (A.good acc.old) (A.words acc.old) (run regions.now ops.now) (A.log acc.old) out.old (A.log acc.new) out.new) }
     ensures explained { OnOk result (IsExplained (A.good acc.old) (A.words acc.old) (A.log acc.old) → IsExplained (A.good acc.new) (A.words acc.new) (A.log acc.new)) }
+    ensures keeps_rule { OnOk result (ScriptKeeps (A.good acc.old) (A.words acc.old) regions.now ops.now → Keeps (A.good acc.old) (A.words acc.old) (A.log acc.old) → Keeps (A.good acc.old) (A.words acc.old) (A.log acc.new)) }
     ensures kept_room { out.new.room ≡ out.old.room }
     ensures room { OnOk result ((n : ℕ) → HasRoom out.old (length ops.now + n) → HasRoom out.new n) }
     ensures goes { OnOk result (A.stopped acc.new ≡ None) }
@@ -111,6 +113,8 @@ pub fn interpret<A: Access>(
     requires room { HasRoom out.old (length script.now) }
     ensures gave { OnOk result (GaveOver (A.good acc.old) (A.words acc.old) (ran_to_end regions.now kind script.now) (A.log acc.old) out.old (A.log acc.new) out.new) }
     ensures explained { OnOk result (IsExplained (A.good acc.old) (A.words acc.old) (A.log acc.old) → IsExplained (A.good acc.new) (A.words acc.new) (A.log acc.new)) }
+    // what the caller owes for a commit stays met where each operation keeps the rule on memories
+    ensures keeps_rule { OnOk result (ScriptKeeps (A.good acc.old) (A.words acc.old) regions.now script.now → Keeps (A.good acc.old) (A.words acc.old) (A.log acc.old) → Keeps (A.good acc.old) (A.words acc.old) (A.log acc.new)) }
     ensures kept_room { out.new.room ≡ out.old.room }
     ensures goes { OnOk result (A.stopped acc.new ≡ None) }
     ensures stops { IfErr result (λ s. A.stopped acc.new ≡ Some s) }

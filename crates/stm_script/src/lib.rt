@@ -2,6 +2,7 @@
 #![tactic(auto)]
 
 pub mod interpret;
+pub mod laws;
 pub mod lists;
 pub mod op;
 pub mod operation;

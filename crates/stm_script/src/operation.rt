@@ -1,6 +1,7 @@
 //! One operation over any access.
 ghost use Rattle.std.specs.Prelude.{◌≡◌, ◌<◌, ◌^◌, ◌+◌, ◌%◌, slice_index, None, Some, false, IfOk, OnOk, IfErr, length};
-ghost use Rattle.stm_model.specs.Logs.{SameMemories, IsExplained, IsReadStop};
+ghost use Rattle.stm_model.specs.Logs.{SameMemories, IsExplained, IsReadStop, Keeps};
+ghost use Rattle.stm_script.specs.Keeping.{OpKeeps};
 ghost use Rattle.stm_script.specs.Operations.{OpFits, is_cancel, OnlyReads, DoesOver, effect_of, stores, replies};
 
 use crate::op::Op;
@@ -20,6 +21,8 @@ pub fn run_op<A: Access>(acc: &mut A, regions: &Regions, op: &Op) -> Result<u64,
     ensures reply { IfOk result (λ r. DoesOver (A.good acc.old) (A.words acc.old) (effect_of regions.now op.now) (A.log acc.old) r (A.log acc.new)) }
     ensures range { IfOk result (λ r. r < 2 ^ 64) }
     ensures explained { OnOk result (IsExplained (A.good acc.new) (A.words acc.new) (A.log acc.new)) }
+    // what the caller owes for a commit stays met where the operation keeps the rule on memories
+    ensures keeps_rule { OnOk result (OpKeeps (A.good acc.old) (A.words acc.old) regions.now op.now → Keeps (A.good acc.old) (A.words acc.old) (A.log acc.old) → Keeps (A.good acc.old) (A.words acc.old) (A.log acc.new)) }
     ensures goes { OnOk result (A.stopped acc.new ≡ None) }
     ensures stops { IfErr result (λ s. A.stopped acc.new ≡ Some s) }
     ensures cause { OnlyReads op.now → IfErr result IsReadStop }

@@ -5,6 +5,8 @@ use Rattle.std.proofs.lemmas.List.Elements.{All-get_or}
 use Rattle.std.proofs.lemmas.Result.{err_from_is_err_and}
 use Rattle.stm_script.specs.Operations.{OnlyReads}
 use Rattle.stm_script.specs.ScriptLaws.{GivesOn, gives-step, gives-none}
+use Rattle.stm_script.specs.Scripts.{run}
+use Rattle.stm_script.specs.KeepingLaws.{keeps-gave, keeps-run}
 use Rattle.stm_script.proofs.Rooms.{room-reply}
 use Rattle.stm_script.specs.declared.op.Op.TheVariants.{Read}
 use Rattle.stm_script.proofs.interpret.perform_all.Goals as goal
@@ -38,6 +40,12 @@ returns-clause-gave g c = λ m good len ex.
     let none : drop c.loop-op.op-index s ≡ [] = drop_of_length-le s c.loop-op-test.false in
     let all = subst (λ ops. GivesOn c.args.regions.now s ops m (g.A.Access.log c.args.acc.now) c.args.out.now (g.A.Access.log c.loop-op.acc) c.loop-op.out) none (c.loop-op.invariant.on m good len ex) in
     all _ _ (gives-none c.args.regions.now m _ _ ex)
+
+pub returns-clause-keeps_rule : goal.returns-clause-keeps_rule
+returns-clause-keeps_rule g c = λ each.
+    let good = g.A.Access.good c.args.acc.now in
+    let words = g.A.Access.words c.args.acc.now in
+    keeps-gave good words (run c.args.regions.now c.args.ops.now) (g.A.Access.log c.args.acc.now) c.args.out.now (g.A.Access.log c.loop-op.acc) c.loop-op.out (returns-clause-gave g c) (keeps-run good words c.args.regions.now c.args.ops.now each)
 
 pub returns-clause-room : goal.returns-clause-room
 returns-clause-room g c = λ n h. let k = c.loop-op.invariant.left n h in let a = k.0 in let b = k.1 in let lt = c.loop-op-test.false in (omega arith, omega arith)
