@@ -3,6 +3,7 @@
 
 pub mod code;
 pub mod draft;
+pub mod laws;
 pub mod lines;
 pub mod parse;
 pub mod report;
