@@ -1,5 +1,5 @@
 -- One report per text.
-use Rattle.std.proofs.Common.{ℕ, zero, suc, ◌≡◌, ◌≢◌, ◌<◌, ◌≤◌, ◌+◌, ◌-◌, ◌^◌, List, [], ◌∷◌, ◌++◌, refl, sym, ap, ◌∙◌, subst, arith, length, append_assoc}
+use Rattle.std.proofs.Common.{ℕ, ◌≡◌, ◌<◌, ◌≤◌, ◌^◌, List, [], ◌∷◌, ◌++◌, refl, sym, ap, ◌∙◌, subst, arith, append_assoc}
 use Rattle.std.specs.Prelude.{All, codes}
 use Rattle.std.specs.Fmt.{decimal}
 use Rattle.std.proofs.lemmas.List.Elements.{All-head, All-tail, All-cons, All-nil}
@@ -7,7 +7,7 @@ use Rattle.stm_script.specs.declared.report.Kind.{Kind}
 use Rattle.stm_script.specs.declared.report.Kind.TheVariants.{W, R, C}
 use Rattle.stm_script.specs.declared.report.Row.{Row}
 use Rattle.stm_script.specs.declared.report.Report.{Report}
-use Rattle.stm_text.specs.Reports.{spaced, emitted, letter_of, row_line, row_lines, memory_line, memory_lines, report_bytes, IsWord, RowFits, ReportFits}
+use Rattle.stm_text.specs.Reports.{spaced, emitted, letter_of, row_line, row_lines, memory_lines, report_bytes, IsWord, RowFits, ReportFits}
 use Rattle.stm_text.proofs.Decimals.{IsDigit, NoDigit, StartsDigit, digits-decimal, decimal-cut, head-same}
 
 -- no number follows: neither a digit nor a space and then a digit
@@ -185,7 +185,7 @@ memory-cut (p ∷ ps) (q ∷ qs) ap' aq is =
     let qn : List ℕ = q.0 ∷ q.1 ∷ [] in
     let whole = sym (memory-first p ps (codes "end\n")) ∙ (is ∙ memory-first q qs (codes "end\n")) in
     let words = spaced-cut pn qn x y (two-words p (All-head WordsFit p ps ap')) (two-words q (All-head WordsFit q qs aq)) (line-end (memory_lines ps ++ codes "end\n")) (line-end (memory_lines qs ++ codes "end\n"))
-        (after-mem (spaced pn ++ x) (spaced qn ++ y) whole) in
+    (after-mem (spaced pn ++ x) (spaced qn ++ y) whole) in
     let rest = memory-cut ps qs (All-tail WordsFit p ps ap') (All-tail WordsFit q qs aq) (head-same 10 10 (memory_lines ps ++ codes "end\n") (memory_lines qs ++ codes "end\n") words.1).1 in
     ap (λ k. k ∷ ps) (pair-same p q words.0) ∙ ap (λ t. q ∷ t) rest
   where

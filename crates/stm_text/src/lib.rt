@@ -8,3 +8,5 @@ pub mod lines;
 pub mod parse;
 pub mod report;
 pub mod table;
+#[cfg(test)]
+mod tests;
