@@ -1,15 +1,13 @@
 -- What the grammar gives fits.
-use Rattle.std.proofs.Common.{ℕ, zero, suc, ◌≡◌, ◌≢◌, ◌<◌, ◌≤◌, ◌+◌, ◌-◌, ◌*◌, ◌^◌, List, [], ◌∷◌, ◌++◌, Bool, true, false, ◌&&◌, Option, Some, None, Result, Ok, Err, refl, sym, ap, ◌∙◌, subst, arith, length, length-append}
+use Rattle.std.proofs.Common.{ℕ, ◌≡◌, ◌≢◌, ◌<◌, ◌≤◌, ◌+◌, ◌-◌, ◌*◌, ◌^◌, List, [], ◌∷◌, ◌++◌, Bool, true, false, ◌&&◌, Option, Some, None, Result, Ok, Err, refl, sym, ap, subst, arith, length, length-append}
 use Rattle.std.specs.Prelude.{◌==◌, if◌then◌else◌, leb, ltb, codes, bytes_eq, All}
 use Rattle.std.proofs.lemmas.Bool.Decides.{nat_tests}
 use Rattle.std.proofs.lemmas.List.Elements.{All-nil, All-push}
-use Rattle.stm_model.specs.declared.alg.Alg.{Alg}
 use Rattle.stm_model.specs.declared.alg.Alg.TheVariants.{Cgl}
 use Rattle.stm_script.specs.declared.op.Op.{Op}
-use Rattle.stm_script.specs.declared.op.Op.TheVariants.{Read, Write, Add as Sum, Cancel}
+use Rattle.stm_script.specs.declared.op.Op.TheVariants.{Read, Write, Add as Sum}
 use Rattle.stm_script.specs.declared.workload.Header.{Header}
-use Rattle.stm_script.specs.declared.workload.Item.{Item}
-use Rattle.stm_script.specs.declared.workload.Item.TheVariants.{Tx, Switch}
+use Rattle.stm_script.specs.declared.workload.Item.TheVariants.{Tx}
 use Rattle.stm_script.specs.declared.workload.Workload.{Workload}
 use Rattle.stm_text.specs.declared.draft.Place.{Place}
 use Rattle.stm_text.specs.declared.draft.Place.TheVariants.{Version, Words, Callers, Records, Ring, Reads, Writes, Clock, Algorithm, Structures, Items, Ops}
@@ -17,9 +15,9 @@ use Rattle.stm_text.specs.declared.draft.Step.{Step}
 use Rattle.stm_text.specs.declared.draft.Step.TheVariants.{Head, Begin, Add, End, Done}
 use Rattle.stm_text.specs.declared.parse.Mode.{Mode}
 use Rattle.stm_text.specs.declared.parse.Mode.TheVariants.{Run, Step as Stepwise}
-use Rattle.stm_text.specs.Lines.{Line, lines_of, words_of, any_bad, number_from, number_of}
+use Rattle.stm_text.specs.Lines.{Line, words_of, any_bad, number_from, number_of}
 use Rattle.stm_text.specs.Drafts.{Writing, after, opening}
-use Rattle.stm_text.specs.Grammar.{◌>>=◌, named, formed, ranged, below, number, algorithm, most_callers, sized, header_line, next_line, begun, added, address, operands, one_word, two_words, three_words, by_words, step_of, ended, go_on, parsed, workload_of}
+use Rattle.stm_text.specs.Grammar.{◌>>=◌, named, formed, ranged, below, number, algorithm, most_callers, sized, header_line, next_line, begun, added, address, operands, one_word, two_words, three_words, filled, by_words, step_of, ended, go_on, parsed}
 use Rattle.stm_text.specs.Built.{HeaderFits, OpFits, ScriptFits, ItemFits, IsBuilt}
 
 -- what an answer gives, where it is Ok
@@ -171,7 +169,8 @@ head-sound m d p h i o f = record {
   count = omega (arith, ap length i);
   items = subst (All (ItemFits h)) (sym i) (All-nil (ItemFits h));
   ops = subst (ScriptFits h.words) (sym o) (none-fit h.words);
-  here = head-by (next_line p) (record d { place = next_line p; header = h }) i o (next-by p) }
+  here = head-by (next_line p) (record d { place = next_line p; header = h }) i o (next-by p);
+}
 
 -- a step leaves what fits
 abbrev Leaves : Mode → Writing → Step → Type 0
@@ -180,16 +179,19 @@ Leaves m d step = Sound m (after step d)
 begun-sound : (m : Mode) (d : Writing) (c : ℕ) → Sound m d → c < d.header.callers → Gives (Leaves m d) (begun d c)
 begun-sound m d c s lt = if-gives (Leaves m d) (ltb (length d.items) 65536) (Ok (Begin c)) 10
     (λ e. let room : length d.items < 65536 = grind (arith, nat_tests) in
-        record { header = s.header; count = s.count; items = s.items; ops = s.ops; here = (room, lt) })
+    record { header = s.header; count = s.count; items = s.items; ops = s.ops; here = (room, lt) })
 
 added-sound : (m : Mode) (d : Writing) (op : Op) → Sound m d → At Ops d → d.place ≡ Ops → OpFits d.header.words op → Gives (Leaves m d) (added d op)
 added-sound m d op s at p fits = if-gives (Leaves m d) (ltb (length d.ops) 4096) (Ok (Add op)) 10
     (λ e. let room : length d.ops < 4096 = grind (arith, nat_tests) in
-        let more : Writing = record d { ops = d.ops ++ op ∷ [] } in
-        record {
-            header = s.header; count = s.count; items = s.items;
-            ops = record { count = omega (arith, length-append d.ops (op ∷ [])); each = All-push (OpFits d.header.words) d.ops op s.ops.each fits };
-            here = subst (λ q. At q more) (sym p) at })
+    let more : Writing = record d { ops = d.ops ++ op ∷ [] } in
+    record {
+      header = s.header;
+      count = s.count;
+      items = s.items;
+      ops = record { count = omega (arith, length-append d.ops (op ∷ [])); each = All-push (OpFits d.header.words) d.ops op s.ops.each fits };
+      here = subst (λ q. At q more) (sym p) at;
+    })
 
 ended-sound : (m : Mode) (d : Writing) → Sound m d → At Ops d → Sound m (after End d)
 ended-sound m d s at = record {
@@ -197,7 +199,8 @@ ended-sound m d s at = record {
   count = let room = at.0 in omega (arith, length-append d.items (Tx d.caller d.ops ∷ []));
   items = All-push (ItemFits d.header) d.items (Tx d.caller d.ops) s.items (at.1, s.ops);
   ops = none-fit d.header.words;
-  here = refl }
+  here = refl;
+}
 
 address-fits : (d : Writing) (a : List ℕ) → Gives (λ k. k < d.header.words) (address d a)
 address-fits d a =
@@ -277,11 +280,18 @@ three-sound m d Clock w a v s at e = tt
 three-sound m d Algorithm w a v s at e = tt
 three-sound m d Structures w a v s at e = tt
 
+filled-gives : (P : Step → Type 0) (w : List ℕ) (rest : Result Step ℕ) → Gives P rest → Gives P (filled w rest)
+filled-gives P [] rest h = tt
+filled-gives P (b ∷ bs) rest h = h
+
 words-sound : (m : Mode) (d : Writing) (ws : List (List ℕ)) → Sound m d → Gives (Leaves m d) (by_words m d ws)
 words-sound m d [] s = tt
 words-sound m d (w ∷ []) s = one-sound m d d.place w s s.here
-words-sound m d (w ∷ v ∷ []) s = two-sound m d d.place w v s s.here refl
-words-sound m d (w ∷ a ∷ v ∷ []) s = three-sound m d d.place w a v s s.here refl
+words-sound m d (w ∷ v ∷ []) s =
+    filled-gives (Leaves m d) v (two_words d.place m d w v) (two-sound m d d.place w v s s.here refl)
+words-sound m d (w ∷ a ∷ v ∷ []) s =
+    filled-gives (Leaves m d) a (filled v (three_words d.place d w a v))
+    (filled-gives (Leaves m d) v (three_words d.place d w a v) (three-sound m d d.place w a v s s.here refl))
 words-sound m d (w ∷ a ∷ v ∷ x ∷ ws) s = tt
 
 step-sound : (m : Mode) (d : Writing) (l : Line) → Sound m d → Gives (Leaves m d) (step_of m d l)
@@ -310,13 +320,39 @@ parsed-built m d k (l ∷ ls) s =
 
 opening-sound : (m : Mode) → Sound m opening
 opening-sound Run = record {
-  header = record { words = (omega arith, omega arith); callers = (omega arith, omega arith); records = (omega arith, omega arith); ring = (omega arith, omega arith);
-    reads = (omega arith, omega arith); writes = (omega arith, omega arith); clock = omega arith; alg = refl; structs = refl };
-  count = omega arith; items = All-nil (ItemFits opening.header); ops = none-fit 1; here = (refl, refl) }
+  header = record {
+    words = (omega arith, omega arith);
+    callers = (omega arith, omega arith);
+    records = (omega arith, omega arith);
+    ring = (omega arith, omega arith);
+    reads = (omega arith, omega arith);
+    writes = (omega arith, omega arith);
+    clock = omega arith;
+    alg = refl;
+    structs = refl;
+  };
+  count = omega arith;
+  items = All-nil (ItemFits opening.header);
+  ops = none-fit 1;
+  here = (refl, refl);
+}
 opening-sound Stepwise = record {
-  header = record { words = (omega arith, omega arith); callers = (omega arith, omega arith); records = (omega arith, omega arith); ring = (omega arith, omega arith);
-    reads = (omega arith, omega arith); writes = (omega arith, omega arith); clock = omega arith; alg = refl; structs = refl };
-  count = omega arith; items = All-nil (ItemFits opening.header); ops = none-fit 1; here = (refl, refl) }
+  header = record {
+    words = (omega arith, omega arith);
+    callers = (omega arith, omega arith);
+    records = (omega arith, omega arith);
+    ring = (omega arith, omega arith);
+    reads = (omega arith, omega arith);
+    writes = (omega arith, omega arith);
+    clock = omega arith;
+    alg = refl;
+    structs = refl;
+  };
+  count = omega arith;
+  items = All-nil (ItemFits opening.header);
+  ops = none-fit 1;
+  here = (refl, refl);
+}
 
 -- a workload of lines from the start on fits
 pub lines-built : (m : Mode) (ls : List Line) → Gives (IsBuilt m) (parsed m opening 1 ls)

@@ -1,3 +1,5 @@
 pub mod LineLaws
 pub mod ParseLaws
 pub mod BuiltLaws
+pub mod Decimals
+pub mod ReportLaws

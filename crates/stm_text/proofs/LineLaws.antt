@@ -1,9 +1,9 @@
 -- Laws of lines and words.
-use Rattle.std.proofs.Common.{ℕ, zero, suc, ◌≡◌, ◌≢◌, ◌<◌, ◌≤◌, ◌+◌, ◌-◌, List, [], ◌∷◌, ◌++◌, Bool, true, false, refl, sym, ap, ◌∙◌, arith, length, take, drop}
+use Rattle.std.proofs.Common.{ℕ, ◌≡◌, ◌≢◌, List, [], ◌∷◌, ◌++◌, Bool, true, false, refl, sym, ap, ◌∙◌, arith, take, drop}
 use Rattle.std.specs.Prelude.{◌==◌, if◌then◌else◌}
 use Rattle.std.proofs.lemmas.Bool.Decides.{nat_tests}
 use Rattle.std.proofs.lemmas.List.{take-append-drop}
-use Rattle.stm_text.specs.Lines.{Line, with_byte, lines_of, with_letter, words_of, Lacks}
+use Rattle.stm_text.specs.Lines.{lines_of, with_letter, words_of, Lacks}
 
 differs : (x b : ℕ) → x ≢ b → (x == b) ≡ false
 differs x b n = grind (arith, nat_tests)

@@ -122,11 +122,16 @@ three_words Ops d w a v =
     else named (codes "add") w (operands d a v >>= λ p. added d (Sum p.0 p.1))
 three_words p d w a v = Err WORD
 
+-- what a line leads to where this word of it isn't empty: a space too many makes an empty word
+abbrev pub filled : List ℕ → Result Step ℕ → Result Step ℕ
+filled [] rest = Err WORD
+filled (b ∷ bs) rest = rest
+
 -- a line by its words
 abbrev pub by_words : Mode → Writing → List (List ℕ) → Result Step ℕ
 by_words m d (w ∷ []) = one_word d.place w
-by_words m d (w ∷ v ∷ []) = two_words d.place m d w v
-by_words m d (w ∷ a ∷ v ∷ []) = three_words d.place d w a v
+by_words m d (w ∷ v ∷ []) = filled v (two_words d.place m d w v)
+by_words m d (w ∷ a ∷ v ∷ []) = filled a (filled v (three_words d.place d w a v))
 by_words m d ws = Err WORD
 
 -- THE TABLE: what a line does after those before it, or its lowest code

@@ -1,5 +1,5 @@
 -- The report text.
-use Rattle.std.specs.Prelude.{ℕ, List, [], ◌∷◌, ◌++◌, codes}
+use Rattle.std.specs.Prelude.{ℕ, ◌≡◌, ◌<◌, ◌^◌, List, [], ◌∷◌, ◌++◌, All, codes}
 use Rattle.std.specs.Fmt.{decimal}
 use Rattle.stm_script.specs.declared.report.Kind.{Kind}
 use Rattle.stm_script.specs.declared.report.Kind.TheVariants.{W, R, C}
@@ -39,3 +39,24 @@ memory_lines (p ∷ ps) = memory_line p ++ memory_lines ps
 
 abbrev pub report_bytes : Report → List ℕ
 report_bytes r = codes "report 1\n" ++ (row_lines r.rows ++ (memory_lines r.memory ++ codes "end\n"))
+
+-- a number of 64 bits
+abbrev pub IsWord : ℕ → Type 0
+IsWord n = n < 2 ^ 64
+
+-- a row's numbers are words
+pub record RowFits (r : Row) : Type 0 where
+  pub place : IsWord r.place
+  pub caller : IsWord r.caller
+  pub seq : IsWord r.seq
+  pub replies : All IsWord r.replies
+  pub emits : All IsWord r.emits
+
+-- a report's numbers are words, as they are in each report that code holds
+pub record ReportFits (r : Report) : Type 0 where
+  pub rows : All RowFits r.rows
+  pub memory : All (λ p. IsWord p.0 × IsWord p.1) r.memory
+
+-- one report per text
+abbrev pub OneReportPerText : Type 0
+OneReportPerText = (r s : Report) → ReportFits r → ReportFits s → report_bytes r ≡ report_bytes s → r ≡ s

@@ -3,7 +3,10 @@
 
 pub mod code;
 pub mod draft;
+pub mod laws;
 pub mod lines;
 pub mod parse;
 pub mod report;
 pub mod table;
+#[cfg(test)]
+mod tests;

@@ -49,13 +49,7 @@ pub fn number(word: &[u8]) -> Option<u64>
     match word {
         [] => None,
         [_] => digits(word),
-        [first, ..] => {
-            if *first == b'0' {
-                None
-            } else {
-                digits(word)
-            }
-        }
+        [first, ..] => { if *first == b'0' { None } else { digits(word) } }
     }
 }
 

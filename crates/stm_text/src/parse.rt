@@ -6,10 +6,9 @@ ghost use Rattle.stm_text.specs.Lines.{lines_of, any_bad};
 ghost use Rattle.stm_text.specs.declared.code.TheConstants.{BYTES, UNENDED};
 ghost use Rattle.stm_text.specs.Built.{IsBuilt};
 
-use crate::code;
 use crate::draft::{Draft, Step};
-use crate::lines;
 use crate::table::step_of;
+use crate::{code, lines};
 use std::alloc::{AllocError, Global};
 use stm_script::workload::Workload;
 use thiserror::Error;
@@ -72,7 +71,7 @@ fn read_lines(alloc: Global, mode: Mode, text: &[u8]) -> Result<Workload, ParseE
     let mut rest = text;
     let mut number = 1usize;
     while let Some(i) = lines::find(b'\n', rest) {
-        let step = match step_of(mode, &draft, &rest[..i], true) {
+        let step = match step_of(mode, &draft, &rest[..i]) {
             Ok(step) => step,
             Err(code) => return Err(ParseError::Fault { line: number, code }),
         };

@@ -1,12 +1,11 @@
 //! What may stand on a line: the table of the grammar, row by row.
-ghost use Rattle.std.specs.Prelude.{◌≡◌, Ok, Err, codes};
-ghost use Rattle.stm_text.specs.Grammar.{algorithm, most_callers, sized, header_line, next_line, below, formed, named, address, operands, one_word, two_words, three_words, by_words, step_of};
+ghost use Rattle.std.specs.Prelude.{◌≡◌, true, Ok, Err, codes};
+ghost use Rattle.stm_text.specs.Grammar.{algorithm, most_callers, sized, header_line, next_line, below, formed, named, address, operands, one_word, two_words, three_words, filled, by_words, step_of};
 ghost use Rattle.stm_text.specs.Lines.{number_of, words_of, Line};
 
-use crate::code;
 use crate::draft::{Draft, Place, Step};
-use crate::lines;
 use crate::parse::Mode;
+use crate::{code, lines};
 use stm_model::alg::Alg;
 use stm_script::op::Op;
 use stm_script::workload::Header;
@@ -161,8 +160,11 @@ fn one_word(place: Place, w: &[u8]) -> Result<Step, u32>
 }
 
 fn two_words(mode: Mode, draft: &Draft, w: &[u8], v: &[u8]) -> Result<Step, u32>
-    ensures { result ≡ two_words draft.now.place mode draft.now w.now v.now }
+    ensures { result ≡ filled v.now (two_words draft.now.place mode draft.now w.now v.now) }
 {
+    if v.is_empty() {
+        return Err(code::WORD);
+    }
     match draft.place() {
         Place::Items => {
             if !lines::is(w, b"tx") {
@@ -184,8 +186,11 @@ fn two_words(mode: Mode, draft: &Draft, w: &[u8], v: &[u8]) -> Result<Step, u32>
 }
 
 fn three_words(draft: &Draft, w: &[u8], a: &[u8], v: &[u8]) -> Result<Step, u32>
-    ensures { result ≡ three_words draft.now.place draft.now w.now a.now v.now }
+    ensures { result ≡ filled a.now (filled v.now (three_words draft.now.place draft.now w.now a.now v.now)) }
 {
+    if a.is_empty() || v.is_empty() {
+        return Err(code::WORD);
+    }
     match draft.place() {
         Place::Ops => {
             if lines::is(w, b"write") {
@@ -220,15 +225,13 @@ fn by_words(mode: Mode, draft: &Draft, line: &[u8]) -> Result<Step, u32>
     }
 }
 
-/// What a line does after those before it, or its lowest code.
-pub fn step_of(mode: Mode, draft: &Draft, line: &[u8], ended: bool) -> Result<Step, u32>
-    ensures { result ≡ step_of mode draft.now (record { bytes = line.now; ended = ended }) }
+/// What a line that an LF ends does after those before it, or its lowest code.
+pub fn step_of(mode: Mode, draft: &Draft, line: &[u8]) -> Result<Step, u32>
+    ensures { result ≡ step_of mode draft.now (record { bytes = line.now; ended = true }) }
 {
     if lines::is_any_bad(line) {
-        return Err(code::BYTES);
+        Err(code::BYTES)
+    } else {
+        by_words(mode, draft, line)
     }
-    if !ended {
-        return Err(code::UNENDED);
-    }
-    by_words(mode, draft, line)
 }

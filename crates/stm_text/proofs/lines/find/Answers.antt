@@ -1,4 +1,4 @@
-use Rattle.std.proofs.Common.{◌≡◌, ◌++◌, ◌∷◌, [], ◌+◌, take, get_or, add-one, sym, subst, ◌∙◌, ap, ℕ}
+use Rattle.std.proofs.Common.{◌≡◌, ◌++◌, ◌∷◌, [], ◌+◌, take, get_or, add-one, sym, subst}
 use Rattle.std.proofs.Math.Seq.{take-suc}
 use Rattle.stm_text.proofs.LineLaws.{lacks-snoc}
 use Rattle.stm_text.specs.Lines.{Lacks}

@@ -1,4 +1,4 @@
-use Rattle.std.proofs.Common.{◌≡◌, take}
+use Rattle.std.proofs.Common.{take}
 use Rattle.stm_text.specs.Lines.{Lacks}
 use Rattle.stm_text.proofs.lines.find.Given as goal
 

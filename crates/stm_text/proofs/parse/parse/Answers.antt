@@ -1,4 +1,4 @@
-use Rattle.std.proofs.Common.{ℕ, ◌≡◌, List, Result, Ok, Err, subst, IfOk}
+use Rattle.std.proofs.Common.{ℕ, Result, Ok, Err, subst, IfOk}
 use Rattle.stm_script.specs.declared.workload.Workload.{Workload}
 use Rattle.stm_text.specs.declared.parse.Mode.{Mode}
 use Rattle.stm_text.specs.declared.parse.ParseError.{ParseError}

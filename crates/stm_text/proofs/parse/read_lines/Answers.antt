@@ -1,6 +1,6 @@
-use Rattle.std.proofs.Common.{◌≡◌, ◌≤◌, ◌<◌, ◌-◌, ◌∙◌, ◌∷◌, ◌+◌, [], List, ℕ, Err, sym, ap, subst, drop, take, arith, length, length-drop}
-use Rattle.stm_text.specs.Grammar.{parsed, ended, Answers}
-use Rattle.stm_text.specs.Lines.{lines_of, any_bad}
+use Rattle.std.proofs.Common.{◌≡◌, ◌-◌, ◌∙◌, ◌∷◌, ◌+◌, Err, sym, ap, subst, drop, arith, length, length-drop}
+use Rattle.stm_text.specs.Grammar.{parsed, Answers}
+use Rattle.stm_text.specs.Lines.{lines_of}
 use Rattle.stm_text.proofs.ParseLaws.{parsed-fault, parsed-step, parsed-done, parsed-last}
 use Rattle.stm_text.proofs.parse.read_lines.Goals as goal
 

@@ -1,6 +1,5 @@
-use Rattle.std.proofs.Common.{◌≡◌, ◌∙◌, ◌∷◌, ◌+◌, [], List, ℕ, sym, ap, drop, take}
-use Rattle.stm_text.specs.Grammar.{by_words, one_word, three_words}
-use Rattle.stm_text.specs.Lines.{words_of}
+use Rattle.std.proofs.Common.{◌∙◌, ◌∷◌, ◌+◌, sym, ap, drop, take}
+use Rattle.stm_text.specs.Grammar.{by_words, one_word}
 use Rattle.stm_text.proofs.LineLaws.{words_of-one, words_of-cut, words_of-some}
 use Rattle.stm_text.proofs.table.by_words.Goals as goal
 
@@ -13,7 +12,7 @@ pub returns-in_default-find : goal.returns-in_default-find
 returns-in_default-find c =
     let at = c.in-Some.ensures.2 ∙ ap (λ t. 32 ∷ t) (sym c.past-rest.ensures) in
     let ws = words_of-cut c.args.line.now c.in-Some.i c.past-rest.result.now c.in-Some.ensures.1 at
-        ∙ ap (λ t. take c.in-Some.i c.args.line.now ∷ t) (words_of-one c.past-rest.result.now c.in_default-find.ensures) in
+    ∙ ap (λ t. take c.in-Some.i c.args.line.now ∷ t) (words_of-one c.past-rest.result.now c.in_default-find.ensures) in
     c.two_words.ensures ∙ sym (ap (by_words c.args.mode c.args.draft.now) ws)
 
 pub returns-in-None : goal.returns-in-None
@@ -21,7 +20,7 @@ returns-in-None c =
     let at = c.in-Some.ensures.2 ∙ ap (λ t. 32 ∷ t) (sym c.past-rest.ensures) in
     let under = c.in-Some-find.ensures.2 ∙ ap (λ t. 32 ∷ t) (sym c.past-last.ensures) in
     let rest = words_of-cut c.past-rest.result.now c.in-Some-find.j c.past-last.result.now c.in-Some-find.ensures.1 under
-        ∙ ap (λ t. take c.in-Some-find.j c.past-rest.result.now ∷ t) (words_of-one c.past-last.result.now c.in-None.ensures) in
+    ∙ ap (λ t. take c.in-Some-find.j c.past-rest.result.now ∷ t) (words_of-one c.past-last.result.now c.in-None.ensures) in
     let ws = words_of-cut c.args.line.now c.in-Some.i c.past-rest.result.now c.in-Some.ensures.1 at ∙ ap (λ t. take c.in-Some.i c.args.line.now ∷ t) rest in
     c.three_words.ensures ∙ sym (ap (by_words c.args.mode c.args.draft.now) ws)
 
