@@ -1,8 +1,8 @@
 -- The rows of one caller, in the order of its transactions, are a report's.
-use Rattle.std.proofs.Common.{ℕ, zero, suc, ◌≡◌, ◌≢◌, ◌<◌, ◌≤◌, ◌+◌, ◌*◌, List, [], ◌∷◌, ◌++◌, Bool, true, false, refl, sym, ap, ◌∙◌, arith, subst, inl, inr, length, get_or, drop, length-append}
-use Rattle.std.specs.Prelude.{◌⊎◌, ◌==◌, ltb, map, All, if◌then◌else◌, slice_index_or}
+use Rattle.std.proofs.Common.{ℕ, suc, ◌≡◌, ◌≢◌, ◌<◌, ◌≤◌, ◌+◌, ◌*◌, List, [], ◌∷◌, ◌++◌, Bool, true, false, refl, sym, ap, ◌∙◌, arith, subst, inl, inr, length}
+use Rattle.std.specs.Prelude.{◌⊎◌, ◌==◌, ltb, map, All}
 use Rattle.std.proofs.lemmas.Bool.Decides.{nat_tests}
-use Rattle.std.proofs.lemmas.List.Elements.{All-head, All-tail, All-append}
+use Rattle.std.proofs.lemmas.List.Elements.{All-head, All-tail}
 use Rattle.stm_script.specs.declared.op.Op.{Op}
 use Rattle.stm_script.specs.declared.region.Region.{Region}
 use Rattle.stm_script.specs.declared.report.Kind.{Kind}
@@ -10,9 +10,8 @@ use Rattle.stm_script.specs.declared.report.Kind.TheVariants.{W, R, C}
 use Rattle.stm_script.specs.declared.report.Row.{Row}
 use Rattle.stm_script.specs.declared.workload.Item.{Item}
 use Rattle.stm_script.specs.declared.workload.Item.TheVariants.{Tx, Switch}
-use Rattle.stm_script.specs.declared.workload.Workload.{Workload}
 use Rattle.stm_script.specs.Scripts.{run_row}
-use Rattle.stm_script.specs.Reports.{RowFits, Replay, code, rank, IsBefore, AllAfter, Ordered, writer_to, writers, Ascends, Apart, rows_of, counted, scripts_of, script_of}
+use Rattle.stm_script.specs.Reports.{RowFits, Replay, code, rank, IsBefore, AllAfter, Ordered, writer_to, writers, Ascends, Apart, rows_of, counted, scripts_of}
 use Rattle.bench_core.specs.PlainRuns.{place_after, Placed, clock_after}
 
 abbrev Mine : List Row → Type 0

@@ -1,5 +1,5 @@
 -- One transaction over plain memory, and the row that tells it.
-use Rattle.std.proofs.Common.{ℕ, ◌≡◌, ◌<◌, List, [], ◌∷◌, ◌++◌, Bool, true, false, refl, sym, ap, ◌∙◌, subst, length}
+use Rattle.std.proofs.Common.{ℕ, ◌≡◌, List, [], true, false, refl, sym, ap, ◌∙◌, subst, length}
 use Rattle.std.specs.Prelude.{not, ◌||◌}
 use Rattle.stm_model.specs.Memories.{overlay, Explains, is_empty}
 use Rattle.stm_model.specs.Logs.{Log}

@@ -1,6 +1,5 @@
 -- The rows of a whole run, with the memory that they leave, are a report that replays the workload.
 use Rattle.std.proofs.Common.{ℕ, ◌≡◌, List, length, subst, sym, refl}
-use Rattle.stm_script.specs.declared.report.Report.{Report}
 use Rattle.stm_script.specs.declared.report.Row.{Row}
 use Rattle.stm_script.specs.declared.workload.Workload.{Workload}
 use Rattle.stm_script.specs.Reports.{Replays, nonzero, scripts_of}

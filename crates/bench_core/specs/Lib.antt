@@ -2,3 +2,4 @@ pub mod Commands
 pub mod Messages
 pub mod PlainRuns
 pub mod Outcomes
+pub mod Statuses

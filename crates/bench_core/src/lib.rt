@@ -7,3 +7,5 @@ mod command;
 mod messages;
 mod plain_run;
 pub mod status;
+#[cfg(test)]
+mod tests;

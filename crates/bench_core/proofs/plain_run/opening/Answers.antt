@@ -1,4 +1,4 @@
-use Rattle.std.proofs.Common.{◌≡◌, ap, ◌∙◌}
+use Rattle.std.proofs.Common.{ap, ◌∙◌}
 use Rattle.stm_model.specs.Plains.{openings, own_writes}
 use Rattle.bench_core.proofs.PlainMemoryLaws.{openings-zeros, writes-zeros}
 use Rattle.bench_core.proofs.plain_run.opening.Goals as goal

@@ -1,4 +1,4 @@
-use Rattle.std.proofs.Common.{◌≡◌, ◌∙◌, ap}
+use Rattle.std.proofs.Common.{◌∙◌, ap}
 use Rattle.stm_script.specs.Reports.{nonzero}
 use Rattle.bench_core.proofs.WholeRuns.{replays-whole}
 use Rattle.bench_core.proofs.plain_run.run.Goals as goal

@@ -1,4 +1,4 @@
-use Rattle.std.proofs.Common.{◌≡◌, ℕ, List, refl, sym, ap, ◌∙◌, length}
+use Rattle.std.proofs.Common.{ℕ, refl, sym, ap}
 use Rattle.stm_model.specs.Plains.{openings}
 use Rattle.stm_model.specs.PlainLaws.{openings-length}
 use Rattle.stm_script.specs.declared.report.Kind.{Kind}

@@ -6,7 +6,7 @@ use Rattle.stm_script.specs.declared.report.Row.{Row}
 use Rattle.stm_script.specs.Scripts.{run_row}
 use Rattle.stm_script.specs.Reports.{RowFits}
 use Rattle.stm_script.specs.declared.workload.Item.{Item}
-use Rattle.bench_core.proofs.SoFarLaws.{Goes, goes-next, goes-all, goes-limit, built-item, built-script}
+use Rattle.bench_core.proofs.SoFarLaws.{Goes, goes-next, goes-all, built-item}
 use Rattle.bench_core.proofs.plain_run.transact_all.Goals.{in-Tx+else-clock-ge-LIMIT+in_ok-row+in_ok-push_row, in_default}
 use Rattle.bench_core.proofs.plain_run.transact_all.Goals as goal
 
