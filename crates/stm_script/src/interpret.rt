@@ -133,3 +133,47 @@ pub fn interpret<A: Access>(
         }
     }
 }
+
+#[cfg(test)]
+mod tests {
+    use super::*;
+    use crate::lists::Words;
+    use std::alloc::Global;
+    use std::test::Fail;
+    use stm_model::plain::{Plain, PlainWord};
+
+    /// What the script replies over the words 5 and 2^64 - 1.
+    fn replies(alloc: Global, ops: Vec<Op>, kind: Kind) -> Result<Words, Fail>
+        requires fits { ScriptFits [] 2 ops.items }
+        requires ends { HasEnd kind ops.items }
+    {
+        let five = PlainWord {
+            opening: 5,
+            own: None,
+        };
+        let most = PlainWord {
+            opening: u64::MAX,
+            own: None,
+        };
+        let mut plain = Plain::new(vec![in alloc; five, most]?);
+        let script = Script::new(ops);
+        let mut out = Replies::new(alloc, script.as_slice().len())?;
+        interpret(&mut plain, &Regions::none(alloc), &script, kind, &mut out)?;
+        let (replies, _) = out.into_words();
+        Ok(replies)
+    }
+
+    #[test]
+    fn replies_by_kind(rt: HostRuntime) -> Result<(), Fail> {
+        let alloc = rt.alloc();
+        let ops = vec![in alloc; Op::Write(0, 7), Op::Add(1, 2), Op::Cancel, Op::Read(0)]?;
+        let committed = replies(alloc, ops, Kind::W)?;
+        assert_eq!(rt; committed.as_slice(), [7, 1, 0, 7].as_slice());
+        let ops = vec![in alloc; Op::Write(0, 7), Op::Add(1, 2), Op::Cancel, Op::Read(0)]?;
+        let cancelled = replies(alloc, ops, Kind::C)?;
+        assert_eq!(rt; cancelled.as_slice(), [7, 1, 1].as_slice());
+        let read = replies(alloc, vec![in alloc; Op::Read(1), Op::Cancel]?, Kind::R)?;
+        assert_eq!(rt; read.as_slice(), [u64::MAX, 0].as_slice());
+        Ok(())
+    }
+}

@@ -8,3 +8,14 @@ use stm_model::rule::MemRule;
 pub fn report_replays<K: MemRule>(_rule: &K)
     ensures { ReportReplays (K.good _rule.now) }
 {}
+
+#[cfg(test)]
+mod tests {
+    use super::*;
+    use stm_model::rule::AnyMem;
+
+    #[test]
+    fn holds_for_any_memory() {
+        report_replays(&AnyMem);
+    }
+}
