@@ -3,3 +3,4 @@ pub mod Drafts
 pub mod Grammar
 pub mod Built
 pub mod Reports
+pub mod Texts
