@@ -62,7 +62,7 @@ impl Plain {
     pub fn settle(&mut self) -> bool
         ensures wrote { result ≡ not (is_empty (own_writes self.old)) }
         ensures settled { openings self.new ≡ overlay (openings self.old) (own_writes self.old) }
-            ensures cleared { own_writes self.new ≡ [] }
+        ensures cleared { own_writes self.new ≡ [] }
         ensures length { length self.new ≡ length self.old }
     {
         let mut wrote = false;
