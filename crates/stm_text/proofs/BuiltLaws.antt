@@ -25,18 +25,18 @@ abbrev pub Gives : {A B : Type 0} → (A → Type 0) → Result A B → Type 0
 Gives P (Ok a) = P a
 Gives P (Err c) = Unit {0}
 
-then-gives : {A B : Type 0} (P : A → Type 0) (Q : B → Type 0) (r : Result A ℕ) (next : A → Result B ℕ) → Gives P r → ((a : A) → P a → Gives Q (next a)) → Gives Q (r >>= next)
+pub then-gives : {A B : Type 0} (P : A → Type 0) (Q : B → Type 0) (r : Result A ℕ) (next : A → Result B ℕ) → Gives P r → ((a : A) → P a → Gives Q (next a)) → Gives Q (r >>= next)
 then-gives P Q (Ok a) next h g = g a h
 then-gives P Q (Err c) next h g = tt
 
-if-gives : {A : Type 0} (P : A → Type 0) (b : Bool) (x : Result A ℕ) (code : ℕ) → (b ≡ true → Gives P x) → Gives P (if b then x else Err code)
+pub if-gives : {A : Type 0} (P : A → Type 0) (b : Bool) (x : Result A ℕ) (code : ℕ) → (b ≡ true → Gives P x) → Gives P (if b then x else Err code)
 if-gives P true x code h = h refl
 if-gives P false x code h = tt
 
 named-gives : {A : Type 0} (P : A → Type 0) (name w : List ℕ) (rest : Result A ℕ) → Gives P rest → Gives P (named name w rest)
 named-gives P name w rest h = if-gives P (bytes_eq w name) rest 4 (λ _. h)
 
-abbrev Fits64 : Option ℕ → Type 0
+abbrev pub Fits64 : Option ℕ → Type 0
 Fits64 None = Unit {0}
 Fits64 (Some n) = n < 2 ^ 64
 
@@ -46,7 +46,7 @@ digit-fits n b bs true h true e = h e
 digit-fits n b bs true h false e = tt
 digit-fits n b bs false h x e = tt
 
-number_from-fits : (n : ℕ) (bs : List ℕ) → n < 2 ^ 64 → Fits64 (number_from n bs)
+pub number_from-fits : (n : ℕ) (bs : List ℕ) → n < 2 ^ 64 → Fits64 (number_from n bs)
 number_from-fits n [] h = h
 number_from-fits n (b ∷ bs) h =
     digit-fits n b bs (leb 48 b && leb b 57) (λ e. number_from-fits (n * 10 + (b - 48)) bs (grind (arith, nat_tests))) (ltb (n * 10 + (b - 48)) (2 ^ 64)) refl
@@ -55,12 +55,12 @@ zero-fits : (b : Bool) (o : Option ℕ) → Fits64 o → Fits64 (if b then None 
 zero-fits true o h = tt
 zero-fits false o h = h
 
-number_of-fits : (w : List ℕ) → Fits64 (number_of w)
+pub number_of-fits : (w : List ℕ) → Fits64 (number_of w)
 number_of-fits [] = tt
 number_of-fits (b ∷ []) = number_from-fits 0 (b ∷ []) (omega arith)
 number_of-fits (b ∷ c ∷ bs) = zero-fits (b == 48) (number_from 0 (b ∷ c ∷ bs)) (number_from-fits 0 (b ∷ c ∷ bs) (omega arith))
 
-formed-by : (o : Option ℕ) → Fits64 o → Gives (λ n. n < 2 ^ 64) (formed o)
+pub formed-by : (o : Option ℕ) → Fits64 o → Gives (λ n. n < 2 ^ 64) (formed o)
 formed-by None h = tt
 formed-by (Some n) h = h
 
@@ -70,7 +70,7 @@ formed-fits w = formed-by (number_of w) (number_of-fits w)
 below-fits : (end n : ℕ) → Gives (λ k. k < end) (below end n)
 below-fits end n = if-gives (λ k. k < end) (ltb n end) (Ok n) 6 (λ e. grind (arith, nat_tests))
 
-both-true : (x y : Bool) → (x && y) ≡ true → (x ≡ true) × (y ≡ true)
+pub both-true : (x y : Bool) → (x && y) ≡ true → (x ≡ true) × (y ≡ true)
 both-true true y h = (refl, h)
 both-true false y h = cc
 
@@ -119,18 +119,18 @@ header_line-fits m Items h w v f = tt
 header_line-fits m Ops h w v f = tt
 
 -- what stands at a place
-abbrev At : Place → Writing → Type 0
+abbrev pub At : Place → Writing → Type 0
 At Items d = d.ops ≡ []
 At Ops d = (length d.items < 65536) × (d.caller < d.header.callers)
 At p d = (d.items ≡ []) × (d.ops ≡ [])
 
 -- what is read so far fits
-record Sound (m : Mode) (d : Writing) : Type 0 where
-  header : HeaderFits m d.header
-  count : length d.items ≤ 65536
-  items : All (ItemFits d.header) d.items
-  ops : ScriptFits d.header.words d.ops
-  here : At d.place d
+pub record Sound (m : Mode) (d : Writing) : Type 0 where
+  pub header : HeaderFits m d.header
+  pub count : length d.items ≤ 65536
+  pub items : All (ItemFits d.header) d.items
+  pub ops : ScriptFits d.header.words d.ops
+  pub here : At d.place d
 
 none-fit : (words : ℕ) → ScriptFits words []
 none-fit words = record { count = omega arith; each = All-nil (OpFits words) }
@@ -173,7 +173,7 @@ head-sound m d p h i o f = record {
 }
 
 -- a step leaves what fits
-abbrev Leaves : Mode → Writing → Step → Type 0
+abbrev pub Leaves : Mode → Writing → Step → Type 0
 Leaves m d step = Sound m (after step d)
 
 begun-sound : (m : Mode) (d : Writing) (c : ℕ) → Sound m d → c < d.header.callers → Gives (Leaves m d) (begun d c)
@@ -255,7 +255,7 @@ two-sound m d Clock w v s at e = heads-sound m d Clock w v s at
 two-sound m d Algorithm w v s at e = heads-sound m d Algorithm w v s at
 two-sound m d Structures w v s at e = heads-sound m d Structures w v s at
 
-if-both : {A : Type 0} (P : A → Type 0) (b : Bool) (x y : Result A ℕ) → Gives P x → Gives P y → Gives P (if b then x else y)
+pub if-both : {A : Type 0} (P : A → Type 0) (b : Bool) (x y : Result A ℕ) → Gives P x → Gives P y → Gives P (if b then x else y)
 if-both P true x y h g = h
 if-both P false x y h g = g
 
@@ -280,7 +280,7 @@ three-sound m d Clock w a v s at e = tt
 three-sound m d Algorithm w a v s at e = tt
 three-sound m d Structures w a v s at e = tt
 
-filled-gives : (P : Step → Type 0) (w : List ℕ) (rest : Result Step ℕ) → Gives P rest → Gives P (filled w rest)
+pub filled-gives : (P : Step → Type 0) (w : List ℕ) (rest : Result Step ℕ) → Gives P rest → Gives P (filled w rest)
 filled-gives P [] rest h = tt
 filled-gives P (b ∷ bs) rest h = h
 
@@ -294,7 +294,7 @@ words-sound m d (w ∷ a ∷ v ∷ []) s =
     (filled-gives (Leaves m d) v (three_words d.place d w a v) (three-sound m d d.place w a v s s.here refl))
 words-sound m d (w ∷ a ∷ v ∷ x ∷ ws) s = tt
 
-step-sound : (m : Mode) (d : Writing) (l : Line) → Sound m d → Gives (Leaves m d) (step_of m d l)
+pub step-sound : (m : Mode) (d : Writing) (l : Line) → Sound m d → Gives (Leaves m d) (step_of m d l)
 step-sound m d l s =
     let words : Result Step ℕ = by_words m d (words_of l.bytes) in
     if-both (Leaves m d) (any_bad l.bytes) (Err 2) (if l.ended then words else Err 3) tt
@@ -318,7 +318,7 @@ parsed-built m d k [] s = tt
 parsed-built m d k (l ∷ ls) s =
     go_on-built m d k ls (step_of m d l) (λ e. parsed m e (k + 1) ls) (step-sound m d l s) s (λ e t. parsed-built m e (k + 1) ls t)
 
-opening-sound : (m : Mode) → Sound m opening
+pub opening-sound : (m : Mode) → Sound m opening
 opening-sound Run = record {
   header = record {
     words = (omega arith, omega arith);

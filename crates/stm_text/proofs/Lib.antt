@@ -6,3 +6,4 @@ pub mod ReportLaws
 pub mod WordLaws
 pub mod Numbers
 pub mod TextLaws
+pub mod OneText

@@ -1,6 +1,6 @@
 -- The text of a workload that fits is read as that workload.
-use Rattle.std.proofs.Common.{ℕ, ◌≡◌, ◌≢◌, ◌<◌, ◌≤◌, ◌+◌, ◌^◌, List, [], ◌∷◌, ◌++◌, true, false, Result, Ok, refl, sym, ap, ◌∙◌, arith, length, append_assoc, append-nil, length-append}
-use Rattle.std.specs.Prelude.{leb, ltb, codes, bytes_eq, All}
+use Rattle.std.proofs.Common.{ℕ, ◌≡◌, ◌≢◌, ◌<◌, ◌≤◌, ◌+◌, ◌^◌, List, [], ◌∷◌, ◌++◌, true, false, Result, Ok, refl, sym, ap, subst, ◌∙◌, arith, length, append_assoc, append-nil, length-append}
+use Rattle.std.specs.Prelude.{leb, ltb, codes, map, bytes_eq, All}
 use Rattle.std.specs.Fmt.{decimal}
 use Rattle.std.proofs.lemmas.Bool.Decides.{nat_tests}
 use Rattle.std.proofs.lemmas.List.Elements.{All-head, All-tail}
@@ -21,7 +21,7 @@ use Rattle.stm_text.specs.Lines.{Line, lines_of, words_of, any_bad, number_of}
 use Rattle.stm_text.specs.Drafts.{Writing, after, opening}
 use Rattle.stm_text.specs.Grammar.{◌>>=◌, formed, ranged, below, number, most_callers, sized, next_line, begun, added, address, operands, two_words, three_words, filled, by_words, step_of, go_on, parsed, workload_of}
 use Rattle.stm_text.specs.Built.{HeaderFits, OpFits, ItemFits, IsBuilt}
-use Rattle.stm_text.specs.Texts.{joined, line, op_words, ops_text, items_text, text_of}
+use Rattle.stm_text.specs.Texts.{joined, line, op_words, items_lines, header_lines, lines_text, text_of}
 use Rattle.stm_text.proofs.LineLaws.{lines_of-first}
 use Rattle.stm_text.proofs.Decimals.{StartsDigit, digits-decimal}
 use Rattle.stm_text.proofs.WordLaws.{Visible, seen, AllVisible, visible-decimal, joined-good, joined-lacks, words_of-joined}
@@ -138,21 +138,16 @@ op-read m h items c ops k (Sum a v) rest small fits room =
     (add-words m h items c ops a v within (omega arith) fits.1 room) (adds (Sum a v))
 op-read m h items c ops k Cancel rest small fits room = absurd fits
 
-snoc-append : (ops : List Op) (op : Op) (rest : List Op) → (ops ++ op ∷ []) ++ rest ≡ ops ++ op ∷ rest
-snoc-append ops op rest = append_assoc ops (op ∷ []) rest
-
 -- the lines of operations
-ops-read : (m : Mode) (h : Header) (items : List Item) (c : ℕ) (before : List Op) (k : ℕ) (ops : List Op) (rest : List ℕ) → h.words ≤ 65536 → length before + length ops ≤ 4096 → All (OpFits h.words) ops
-    → (j : ℕ) × (parsed m (in_tx h items c before) k (lines_of (ops_text ops ++ rest)) ≡ parsed m (in_tx h items c (before ++ ops)) j (lines_of rest))
-ops-read m h items c before k [] rest small room fits =
-    (k, ap (λ o. parsed m (in_tx h items c o) k (lines_of rest)) (sym (append-nil before)))
-ops-read m h items c before k (op ∷ ops) rest small room fits =
-    let next = ops-read m h items c (before ++ op ∷ []) (k + 1) ops rest small (omega (arith, length-append before (op ∷ []))) (All-tail (OpFits h.words) op ops fits) in
-    let cut : (line (op_words op) ++ ops_text ops) ++ rest ≡ line (op_words op) ++ (ops_text ops ++ rest) = append_assoc (line (op_words op)) (ops_text ops) rest in (
+ops-read : (m : Mode) (h : Header) (items : List Item) (c : ℕ) (before : List Op) (k : ℕ) (ops : List Op) (more : List (List (List ℕ))) → h.words ≤ 65536 → length before + length ops ≤ 4096 → All (OpFits h.words) ops
+    → (j : ℕ) × (parsed m (in_tx h items c before) k (lines_of (lines_text (map op_words ops ++ more))) ≡ parsed m (in_tx h items c (before ++ ops)) j (lines_of (lines_text more)))
+ops-read m h items c before k [] more small room fits =
+    (k, ap (λ o. parsed m (in_tx h items c o) k (lines_of (lines_text more))) (sym (append-nil before)))
+ops-read m h items c before k (op ∷ ops) more small room fits =
+    let next = ops-read m h items c (before ++ op ∷ []) (k + 1) ops more small (omega (arith, length-append before (op ∷ []))) (All-tail (OpFits h.words) op ops fits) in (
       next.0,
-      ap (λ t. parsed m (in_tx h items c before) k (lines_of t)) cut
-          ∙ (op-read m h items c before k op (ops_text ops ++ rest) small (All-head (OpFits h.words) op ops fits) (omega arith)
-          ∙ (next.1 ∙ ap (λ o. parsed m (in_tx h items c o) next.0 (lines_of rest)) (snoc-append before op ops))),
+      op-read m h items c before k op (lines_text (map op_words ops ++ more)) small (All-head (OpFits h.words) op ops fits) (omega arith)
+          ∙ (next.1 ∙ ap (λ o. parsed m (in_tx h items c o) next.0 (lines_of (lines_text more))) (append_assoc before (op ∷ []) ops)),
     )
 
 tx-read : (m : Mode) (h : Header) (items : List Item) (c k caller : ℕ) (rest : List ℕ) → caller < h.callers → h.callers ≤ 32 → length items < 65536
@@ -169,32 +164,33 @@ end-read : (m : Mode) (h : Header) (items : List Item) (c k : ℕ) (ops : List O
     → parsed m (in_tx h items c ops) k (lines_of (line (codes "end" ∷ []) ++ rest)) ≡ parsed m (between h (items ++ Tx c ops ∷ []) c) (k + 1) (lines_of rest)
 end-read m h items c k ops rest = step-read m (in_tx h items c ops) k (codes "end") [] rest End (seen (codes "end") refl, tt) refl (λ e. cc)
 
-done-read : (m : Mode) (h : Header) (items : List Item) (c k : ℕ)
-    → parsed m (between h items c) k (lines_of (line (codes "done" ∷ []))) ≡ Ok (record { header = h; items = items; schedule = [] })
-done-read m h items c k =
-    ap (λ t. parsed m (between h items c) k (lines_of t)) (sym (append-nil (line (codes "done" ∷ []))))
-    ∙ line-read m (between h items c) k (codes "done") [] [] (seen (codes "done") refl, tt)
+-- the line `done`
+abbrev done_line : List (List (List ℕ))
+done_line = (codes "done" ∷ []) ∷ []
 
-regroup : (a b c d e : List ℕ) → ((a ++ (b ++ c)) ++ d) ++ e ≡ a ++ (b ++ (c ++ (d ++ e)))
-regroup a b c d e = simp append_assoc
+done-read : (m : Mode) (h : Header) (items : List Item) (c k : ℕ)
+    → parsed m (between h items c) k (lines_of (lines_text done_line)) ≡ Ok (record { header = h; items = items; schedule = [] })
+done-read m h items c k = line-read m (between h items c) k (codes "done") [] [] (seen (codes "done") refl, tt)
+
+regroup : (o e i d : List (List (List ℕ))) → ((o ++ e) ++ i) ++ d ≡ o ++ (e ++ (i ++ d))
+regroup o e i d = simp append_assoc
 
 -- the lines of items, and `done`
 items-read : (m : Mode) (h : Header) (before : List Item) (c k : ℕ) (items : List Item) → h.words ≤ 65536 → h.callers ≤ 32 → length before + length items ≤ 65536 → All (ItemFits h) items
-    → parsed m (between h before c) k (lines_of (items_text items ++ line (codes "done" ∷ []))) ≡ Ok (record { header = h; items = before ++ items; schedule = [] })
+    → parsed m (between h before c) k (lines_of (lines_text (items_lines items ++ done_line))) ≡ Ok (record { header = h; items = before ++ items; schedule = [] })
 items-read m h before c k [] small few room fits =
     done-read m h before c k ∙ ap (λ is. Ok (record { header = h; items = is; schedule = [] })) (sym (append-nil before))
 items-read m h before c k (Tx caller ops ∷ items) small few room fits =
     let here = All-head (ItemFits h) (Tx caller ops) items fits in
-    let rest : List ℕ = items_text items ++ line (codes "done" ∷ []) in
-    let tx : List ℕ = line (codes "tx" ∷ decimal caller ∷ []) in
-    let end : List ℕ = line (codes "end" ∷ []) in
-    let cut : ((tx ++ (ops_text ops ++ end)) ++ items_text items) ++ line (codes "done" ∷ []) ≡ tx ++ (ops_text ops ++ (end ++ rest)) = regroup tx (ops_text ops) end (items_text items) (line (codes "done" ∷ [])) in
+    let end : List (List (List ℕ)) = (codes "end" ∷ []) ∷ [] in
+    let rest : List (List (List ℕ)) = items_lines items ++ done_line in
+    let tx : List (List ℕ) = codes "tx" ∷ decimal caller ∷ [] in
     let count = here.1.count in
     let script = ops-read m h before caller [] (k + 1) ops (end ++ rest) small (omega arith) here.1.each in
     let next = items-read m h (before ++ Tx caller ops ∷ []) caller (script.0 + 1) items small few (omega (arith, length-append before (Tx caller ops ∷ []))) (All-tail (ItemFits h) (Tx caller ops) items fits) in
-    ap (λ t. parsed m (between h before c) k (lines_of t)) cut
-    ∙ (tx-read m h before c k caller (ops_text ops ++ (end ++ rest)) here.0 few (omega arith)
-    ∙ (script.1 ∙ (end-read m h before caller script.0 ops rest
+    ap (λ t. parsed m (between h before c) k (lines_of (line tx ++ lines_text t))) (regroup (map op_words ops) end (items_lines items) done_line)
+    ∙ (tx-read m h before c k caller (lines_text (map op_words ops ++ (end ++ rest))) here.0 few (omega arith)
+    ∙ (script.1 ∙ (end-read m h before caller script.0 ops (lines_text rest)
     ∙ (next ∙ ap (λ is. Ok (record { header = h; items = is; schedule = [] })) (append_assoc before (Tx caller ops ∷ []) items)))))
 items-read m h before c k (Switch caller alg ∷ items) small few room fits =
     absurd (All-head (ItemFits h) (Switch caller alg) items fits)
@@ -281,24 +277,11 @@ few-callers : (m : Mode) → most_callers m ≤ 32
 few-callers Run = omega arith
 few-callers Stepwise = omega arith
 
--- the text of a header, with what isn't built off
-abbrev head_text : Header → List ℕ → List ℕ
-head_text h rest =
-    line (codes "stm" ∷ codes "1" ∷ [])
-    ++ (line (codes "words" ∷ decimal h.words ∷ [])
-    ++ (line (codes "callers" ∷ decimal h.callers ∷ [])
-    ++ (line (codes "records" ∷ decimal h.records ∷ [])
-    ++ (line (codes "ring" ∷ decimal h.ring ∷ [])
-    ++ (line (codes "reads" ∷ decimal h.reads ∷ [])
-    ++ (line (codes "writes" ∷ decimal h.writes ∷ [])
-    ++ (line (codes "clock" ∷ decimal h.clock ∷ [])
-    ++ (line (codes "alg" ∷ codes "CGL" ∷ [])
-    ++ (line (codes "structs" ∷ codes "off" ∷ []) ++ rest)))))))))
-
 -- the ten lines of a header
-head-read : (m : Mode) (h : Header) (rest : List ℕ) → HeaderFits m h
-    → parsed m opening 1 (lines_of (head_text h rest)) ≡ parsed m (between (record h { alg = Cgl; structs = false }) [] 0) 11 (lines_of rest)
-head-read m h rest f =
+head-read : (m : Mode) (h : Header) (more : List (List (List ℕ))) → HeaderFits m h
+    → parsed m opening 1 (lines_of (lines_text (header_lines (record h { alg = Cgl; structs = false }) ++ more))) ≡ parsed m (between (record h { alg = Cgl; structs = false }) [] 0) 11 (lines_of (lines_text more))
+head-read m h more f =
+    let rest : List ℕ = lines_text more in
     let h0 : Header = opening.header in
     let h1 : Header = record h0 { words = h.words } in
     let h2 : Header = record h1 { callers = h.callers } in
@@ -329,30 +312,30 @@ head-read m h rest f =
     ∙ structs-read m h8 10 rest))))))))
 
 all-read : (m : Mode) (h : Header) (items : List Item) → HeaderFits m h → length items ≤ 65536 → All (ItemFits h) items
-    → parsed m opening 1 (lines_of (head_text h (items_text items ++ line (codes "done" ∷ [])))) ≡ Ok (record { header = record h { alg = Cgl; structs = false }; items = items; schedule = [] })
+    → let all : Workload = record { header = record h { alg = Cgl; structs = false }; items = items; schedule = [] } in
+    parsed m opening 1 (lines_of (text_of all)) ≡ Ok all
 all-read m h items f room fits =
     let few = few-callers m in
     let callers = f.callers.1 in
-    head-read m h (items_text items ++ line (codes "done" ∷ [])) f
+    head-read m h (items_lines items ++ done_line) f
     ∙ items-read m (record h { alg = Cgl; structs = false }) [] 0 11 items f.words.1 (omega arith) (omega arith) fits
 
 short-enough : (m : Mode) (t : List ℕ) → length t ≤ 16777216 → workload_of m t ≡ parsed m opening 1 (lines_of t)
 short-enough m t le = let p : ltb 16777216 (length t) ≡ false = grind (arith, nat_tests) in rw p
 
+workload-same : (w : Workload) → record w.header { alg = Cgl; structs = false } ≡ w.header → w.schedule ≡ []
+    → (let off : Workload = record { header = record w.header { alg = Cgl; structs = false }; items = w.items; schedule = [] } in off) ≡ w
+workload-same w h s =
+    ap (λ x. let g : Workload = record { header = x; items = w.items; schedule = [] } in g) h ∙ ap (λ x. let g : Workload = record w { schedule = x } in g) (sym s)
+
 header-same : (h : Header) → h.alg ≡ Cgl → h.structs ≡ false → record h { alg = Cgl; structs = false } ≡ h
 header-same h a b =
     ap (λ x. let g : Header = record h { alg = x; structs = false } in g) (sym a) ∙ ap (λ x. let g : Header = record h { structs = x } in g) (sym b)
-
-text-same : (w : Workload) → w.header.alg ≡ Cgl → w.header.structs ≡ false → text_of w ≡ head_text w.header (items_text w.items ++ line (codes "done" ∷ []))
-text-same w a b =
-    ap (λ x. text_of (record w { header = record w.header { alg = x } })) a ∙ ap (λ x. text_of (record w { header = record w.header { alg = Cgl; structs = x } })) b
 
 -- the text of a workload that fits is read as that workload
 pub workload_of-text_of : (m : Mode) (w : Workload) → IsBuilt m w → length (text_of w) ≤ 16777216 → workload_of m (text_of w) ≡ Ok w
 workload_of-text_of m w b le =
     let h = b.header in
-    short-enough m (text_of w) le
-    ∙ (ap (λ t. parsed m opening 1 (lines_of t)) (text-same w h.alg h.structs)
-    ∙ (all-read m w.header w.items h b.count b.items
-    ∙ (ap (λ x. Ok (record { header = x; items = w.items; schedule = [] })) (header-same w.header h.alg h.structs)
-    ∙ ap (λ x. Ok (record { header = w.header; items = w.items; schedule = x })) (sym b.schedule))))
+    let off : Workload = record { header = record w.header { alg = Cgl; structs = false }; items = w.items; schedule = [] } in
+    let same : off ≡ w = workload-same w (header-same w.header h.alg h.structs) b.schedule in
+    short-enough m (text_of w) le ∙ subst (λ x. parsed m opening 1 (lines_of (text_of x)) ≡ Ok x) same (all-read m w.header w.items h b.count b.items)

@@ -1,10 +1,11 @@
 -- The text of a workload, by the grammar's rules.
-use Rattle.std.specs.Prelude.{ℕ, ◌≡◌, ◌≤◌, Bool, true, false, List, [], ◌∷◌, ◌++◌, length, Ok, codes}
+use Rattle.std.specs.Prelude.{ℕ, ◌≡◌, ◌≤◌, Bool, true, false, List, [], ◌∷◌, ◌++◌, length, map, Ok, codes}
 use Rattle.std.specs.Fmt.{decimal}
 use Rattle.stm_model.specs.declared.alg.Alg.{Alg}
 use Rattle.stm_model.specs.declared.alg.Alg.TheVariants.{Cgl, Tml, OrecLazy, OrecEager, RingSw, Serial}
 use Rattle.stm_script.specs.declared.op.Op.{Op}
 use Rattle.stm_script.specs.declared.op.Op.TheVariants.{Read, Write, Add, Cancel}
+use Rattle.stm_script.specs.declared.workload.Header.{Header}
 use Rattle.stm_script.specs.declared.workload.Item.{Item}
 use Rattle.stm_script.specs.declared.workload.Item.TheVariants.{Tx, Switch}
 use Rattle.stm_script.specs.declared.workload.Workload.{Workload}
@@ -40,33 +41,45 @@ op_words (Write a v) = codes "write" ∷ decimal a ∷ decimal v ∷ []
 op_words (Add a k) = codes "add" ∷ decimal a ∷ decimal k ∷ []
 op_words Cancel = codes "cancel" ∷ []
 
-abbrev pub ops_text : List Op → List ℕ
-ops_text [] = []
-ops_text (op ∷ ops) = line (op_words op) ++ ops_text ops
+-- `tx caller`, its operations, `end`
+abbrev pub item_lines : Item → List (List (List ℕ))
+item_lines (Tx caller script) = (codes "tx" ∷ decimal caller ∷ []) ∷ (map op_words script ++ (codes "end" ∷ []) ∷ [])
+item_lines (Switch caller alg) = (codes "switch" ∷ decimal caller ∷ name_of alg ∷ []) ∷ []
 
-abbrev pub item_text : Item → List ℕ
-item_text (Tx caller script) = line (codes "tx" ∷ decimal caller ∷ []) ++ (ops_text script ++ line (codes "end" ∷ []))
-item_text (Switch caller alg) = line (codes "switch" ∷ decimal caller ∷ name_of alg ∷ [])
+abbrev pub items_lines : List Item → List (List (List ℕ))
+items_lines [] = []
+items_lines (i ∷ is) = item_lines i ++ items_lines is
 
-abbrev pub items_text : List Item → List ℕ
-items_text [] = []
-items_text (i ∷ is) = item_text i ++ items_text is
+abbrev pub header_lines : Header → List (List (List ℕ))
+header_lines h =
+    (codes "stm" ∷ codes "1" ∷ [])
+    ∷ (codes "words" ∷ decimal h.words ∷ [])
+    ∷ (codes "callers" ∷ decimal h.callers ∷ [])
+    ∷ (codes "records" ∷ decimal h.records ∷ [])
+    ∷ (codes "ring" ∷ decimal h.ring ∷ [])
+    ∷ (codes "reads" ∷ decimal h.reads ∷ [])
+    ∷ (codes "writes" ∷ decimal h.writes ∷ [])
+    ∷ (codes "clock" ∷ decimal h.clock ∷ [])
+    ∷ (codes "alg" ∷ name_of h.alg ∷ [])
+    ∷ (codes "structs" ∷ switch_of h.structs ∷ [])
+    ∷ []
+
+-- the lines of a workload that has no schedule
+abbrev pub workload_lines : Workload → List (List (List ℕ))
+workload_lines w = header_lines w.header ++ (items_lines w.items ++ (codes "done" ∷ []) ∷ [])
+
+abbrev pub lines_text : List (List (List ℕ)) → List ℕ
+lines_text [] = []
+lines_text (ws ∷ more) = line ws ++ lines_text more
 
 -- the text of a workload that has no schedule
 abbrev pub text_of : Workload → List ℕ
-text_of w =
-    line (codes "stm" ∷ codes "1" ∷ [])
-    ++ (line (codes "words" ∷ decimal w.header.words ∷ [])
-    ++ (line (codes "callers" ∷ decimal w.header.callers ∷ [])
-    ++ (line (codes "records" ∷ decimal w.header.records ∷ [])
-    ++ (line (codes "ring" ∷ decimal w.header.ring ∷ [])
-    ++ (line (codes "reads" ∷ decimal w.header.reads ∷ [])
-    ++ (line (codes "writes" ∷ decimal w.header.writes ∷ [])
-    ++ (line (codes "clock" ∷ decimal w.header.clock ∷ [])
-    ++ (line (codes "alg" ∷ name_of w.header.alg ∷ [])
-    ++ (line (codes "structs" ∷ switch_of w.header.structs ∷ [])
-    ++ (items_text w.items ++ line (codes "done" ∷ [])))))))))))
+text_of w = lines_text (workload_lines w)
 
 -- the text of a workload that fits is read as that workload
 abbrev pub TextIsRead : Type 0
 TextIsRead = (m : Mode) (w : Workload) → IsBuilt m w → length (text_of w) ≤ 16777216 → workload_of m (text_of w) ≡ Ok w
+
+-- a text that is read as a workload is that workload's text
+abbrev pub OneTextPerWorkload : Type 0
+OneTextPerWorkload = (m : Mode) (text : List ℕ) (w : Workload) → workload_of m text ≡ Ok w → text ≡ text_of w

@@ -2,11 +2,11 @@
 #![tactic(auto)]
 
 pub mod code;
-pub mod draft;
+mod draft;
 pub mod laws;
-pub mod lines;
+mod lines;
 pub mod parse;
 pub mod report;
-pub mod table;
+mod table;
 #[cfg(test)]
 mod tests;
