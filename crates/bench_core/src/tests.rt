@@ -128,9 +128,9 @@ fn says_why_there_is_no_report(rt: HostRuntime) -> Result<(), Fail> {
             "read fault\n",
         ),
         (
-            outcome(&rt, &run, text.as_str(), &[], 8)?,
+            outcome(&rt, &run, text.as_str(), &[], 6)?,
             Status::WriteFault,
-            "report 1",
+            "report",
         ),
         (
             outcome(&rt, &["stm_bench"], text.as_str(), &[], 0)?,
