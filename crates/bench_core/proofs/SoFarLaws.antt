@@ -1,5 +1,5 @@
 -- A run goes on by one transaction.
-use Rattle.std.proofs.Common.{ℕ, zero, suc, ◌≡◌, ◌<◌, ◌≤◌, ◌+◌, ◌^◌, List, [], ◌∷◌, ◌++◌, true, refl, sym, ap, ◌∙◌, arith, subst, length, get_or, drop, length-append}
+use Rattle.std.proofs.Common.{ℕ, zero, suc, ◌≡◌, ◌<◌, ◌≤◌, ◌+◌, List, [], ◌∷◌, ◌++◌, true, refl, sym, ap, ◌∙◌, arith, subst, length, get_or, drop, length-append}
 use Rattle.std.specs.Prelude.{◌==◌, All, slice_index_or}
 use Rattle.std.proofs.lemmas.Bool.Decides.{nat_tests}
 use Rattle.std.proofs.lemmas.List.{drop_more, length-drop}
@@ -18,7 +18,7 @@ use Rattle.stm_script.specs.Reports.{RowFits, Replay, regions_of, script_of, scr
 use Rattle.stm_text.specs.Built.{IsBuilt, ItemFits}
 use Rattle.stm_text.specs.Built.{OpFits as Built, ScriptFits as BuiltScript}
 use Rattle.stm_text.specs.declared.parse.Mode.TheVariants.{Run}
-use Rattle.bench_core.specs.PlainRuns.{IsRunSoFar, StoodAtLimit, place_after, clock_after}
+use Rattle.bench_core.specs.PlainRuns.{IsRunSoFar, place_after, clock_after}
 use Rattle.bench_core.proofs.PlainRunLaws.{replay-append, placed-append, clock_after-append, numbered-append, ItemMine}
 
 -- an operation of the grammar fits a memory without regions
@@ -129,11 +129,3 @@ goes-all w i rows memory clock le h =
     let count = length-drop (length rows) (scripts_of 0 w.items) in
     let within = h.so_far.within in
     omega arith
-
--- no transaction to come is left out where one stands at hand
-pub goes-limit : (w : Workload) (i : ℕ) (d : Item) (caller : ℕ) (script : List Op) (rows : List Row) (memory : List ℕ) (clock : ℕ) → IsBuilt Run w → i < length w.items → Tx caller script ≡ get_or w.items i d
-    → Goes w (drop i w.items) rows memory clock → 2 ^ 62 ≤ clock → StoodAtLimit w clock
-goes-limit w i d caller script rows memory clock built lt is h limit =
-    let own = built-script w caller script built (built-item w (Tx caller script) i d built is lt) in
-    let next = next-script w.items i d caller script (length rows) lt is own.1 h.left in
-    record { rows = rows; memory = memory; so_far = h.so_far; next = next.0; reached = h.reached; limit = limit }

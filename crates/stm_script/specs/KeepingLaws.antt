@@ -10,11 +10,9 @@ use Rattle.stm_model.specs.declared.stop.Stop.{Stop}
 use Rattle.stm_script.specs.declared.op.Op.{Op}
 use Rattle.stm_script.specs.declared.op.Op.TheVariants.{Read, Write, Add, Cancel}
 use Rattle.stm_script.specs.declared.region.Region.{Region}
-use Rattle.stm_script.specs.declared.report.Kind.{Kind}
-use Rattle.stm_script.specs.declared.report.Kind.TheVariants.{W, R, C}
 use Rattle.stm_script.specs.Operations.{Effect, effect_of, DoesOver, is_cancel}
 use Rattle.stm_script.specs.Outputs.{Output}
-use Rattle.stm_script.specs.Scripts.{Ran, run, before_cancel, ran_to_end}
+use Rattle.stm_script.specs.Scripts.{Ran, run, before_cancel}
 use Rattle.stm_script.specs.ScriptLaws.{GaveOver}
 use Rattle.stm_script.specs.Keeping.{KeepsGood, OpKeeps, ScriptKeeps}
 
@@ -36,10 +34,6 @@ length-effect regions (Write a v) m = simp length-set
 length-effect regions (Add a k) m = simp length-set
 length-effect regions Cancel m = refl
 
-pub length-run : (regions : List Region) (ops : List Op) (m : List ℕ) → length (run regions ops m).memory ≡ length m
-length-run regions [] m = refl
-length-run regions (op ∷ ops) m = length-run regions ops (effect_of regions op m).memory ∙ length-effect regions op m
-
 -- operations that each keep the rule keep it one after the other
 pub keeps-run : (good : List ℕ → Type 0) (words : ℕ) (regions : List Region) (ops : List Op) → ScriptKeeps good words regions ops → KeepsGood good words (λ m. (run regions ops m).memory)
 keeps-run good words regions [] h = λ m fine len. fine
@@ -59,20 +53,9 @@ keeps-before good words regions (op ∷ ops) h =
     let P : Op → Type 0 = OpKeeps good words regions in
     keeps-before-by good words regions (is_cancel op) op (before_cancel ops) (All-head P op ops h) (keeps-before good words regions ops (All-tail P op ops h))
 
-pub keeps-to_end : (good : List ℕ → Type 0) (words : ℕ) (regions : List Region) (kind : Kind) (ops : List Op) → ScriptKeeps good words regions ops → KeepsGood good words (λ m. (ran_to_end regions kind ops m).memory)
-keeps-to_end good words regions W ops h = keeps-run good words regions ops h
-keeps-to_end good words regions R ops h = keeps-run good words regions ops h
-keeps-to_end good words regions C ops h = keeps-before good words regions ops h
-
 -- as the clauses of run_op and interpret say it
 pub keeps-op : (good : List ℕ → Type 0) (words : ℕ) (regions : List Region) (op it : Op) (l k : Log) (result : Result ℕ Stop) → op ≡ it
     → IfOk result (λ r. DoesOver good words (effect_of regions it) l r k)
     → OnOk result (OpKeeps good words regions op → Keeps good words l → Keeps good words k)
 keeps-op good words regions op it l k (Ok r) is does = keeps-does good words (effect_of regions op) l r k (subst (λ o. DoesOver good words (effect_of regions o) l r k) (sym is) does)
 keeps-op good words regions op it l k (Err s) is does = tt
-
-pub keeps-script : (good : List ℕ → Type 0) (words : ℕ) (regions : List Region) (kind : Kind) (ops : List Op) (l : Log) (before : Output) (k : Log) (after : Output)
-    → GaveOver good words (ran_to_end regions kind ops) l before k after
-    → ScriptKeeps good words regions ops → Keeps good words l → Keeps good words k
-keeps-script good words regions kind ops l before k after gave h =
-    keeps-gave good words (ran_to_end regions kind ops) l before k after gave (keeps-to_end good words regions kind ops h)
