@@ -3,3 +3,5 @@ mod Splitting
 mod Learning
 mod Opens
 pub mod Dealing
+pub mod Closing
+mod Last

@@ -6,3 +6,4 @@ pub mod Kept
 pub mod Refusals
 pub mod Callers
 pub mod Openings
+pub mod Closings

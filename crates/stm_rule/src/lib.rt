@@ -2,6 +2,7 @@
 #![tactic(auto)]
 
 pub mod desc;
+pub mod ending;
 mod kinds;
 pub mod note;
 pub mod opening;
