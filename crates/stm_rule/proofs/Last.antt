@@ -35,11 +35,11 @@ use Rattle.rule_base.specs.StepsRule.{steps_scene, all_rises, ClocksWithin}
 use Rattle.rule_base.specs.World.{World, Lies}
 use Rattle.stm_rule.specs.declared.stm.Key.{Key}
 use Rattle.stm_rule.specs.Callers.{Handle, IsPrefix, AllIdle}
-use Rattle.stm_rule.specs.Closings.{installs_of, installs_by, installs_from, Ended, ended_of, ending_of, Told, AllTold, Closes}
+use Rattle.stm_rule.specs.Closings.{shown, installs_of, installs_by, installs_from, Ended, ended_of, ending_of, Told, AllTold, Closes}
 use Rattle.stm_rule.specs.Kept.{good_of, Rule, Kept, SeatTells}
 use Rattle.stm_rule.specs.NoteSteps.{load_end, Ends}
 use Rattle.stm_rule.specs.Product.{Whole}
-use Rattle.stm_rule.proofs.Closing.{shown, Every, every_shown, every_and, every_idle, every_number, rises_sum, rises_alike, installs_map, installs_found, rests, same_history}
+use Rattle.stm_rule.proofs.Gathering.{Every, every_shown, every_and, every_idle, every_number, rises_sum, rises_alike, installs_map, installs_found, rests, same_history}
 use Rattle.stm_rule.proofs.Learning.{prefix_of}
 
 -- the words from o on, where they are those of a memory

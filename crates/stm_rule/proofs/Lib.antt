@@ -3,5 +3,5 @@ mod Splitting
 mod Learning
 mod Opens
 pub mod Dealing
-pub mod Closing
+pub mod Gathering
 mod Last

@@ -41,6 +41,11 @@ abbrev pub ending_of : {K : Type 0} → SeatView K → Ending
 ending_of s = record { opening = s.who.config.clock; clock = s.view.history.front; history = s.view.history.seen; count = s.who.config.callers; callers = claimed s.who.role s.view s.gathered }
 
 module _ {K : Type 0} where
+  -- the callers of the descriptors, with their views
+  abbrev pub shown : List (Handle K) → List Gathered
+  shown [] = []
+  shown (d ∷ ds) = claimed d.who.role d.view (shown ds)
+
   -- all that caller n did is in the history, which begins with what it had seen, and no clock in its trail exceeds the clock
   pub record Told (e : Ended) (n : ℕ) (d : Handle K) : Type 0 where
     pub made : made_of d.view ≡ made_by n e.history

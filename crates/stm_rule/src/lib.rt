@@ -1,6 +1,7 @@
 //! The one rule over the shared table: opening, descriptors, notes, steps, closing.
 #![tactic(auto)]
 
+pub mod closing;
 pub mod desc;
 pub mod ending;
 mod kinds;

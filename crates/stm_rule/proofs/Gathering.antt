@@ -1,5 +1,5 @@
 -- What is known of all descriptors at the closing.
-use Rattle.std.proofs.Common.{◌≡◌, ◌≢◌, ◌⊎◌, ℕ, zero, suc, ◌+◌, ◌-◌, ◌<◌, ◌≤◌, List, [], ◌∷◌, ◌++◌, Bool, true, false, length, get_or, set, replicate, take, drop, map, sym, refl, ap, ◌∙◌, subst, inl, inr, ⊎_elim, arith, le_refl, leb, eqb}
+use Rattle.std.proofs.Common.{◌≡◌, ◌≢◌, ◌⊎◌, ℕ, zero, suc, ◌+◌, ◌-◌, ◌<◌, ◌≤◌, List, [], ◌∷◌, ◌++◌, Bool, true, false, length, get_or, set, replicate, take, drop, map, sym, refl, ap, ◌∙◌, subst, inl, inr, ⊎_elim, arith, le_refl, leb, eqb, append_assoc}
 use Rattle.std.proofs.lemmas.Bool.Decides.{leb_tells, eqb_tells, nat_tests}
 use Rattle.std.proofs.lemmas.List.Elements.{Contains-append_left, Contains-append_right, Contains-append_cases}
 use Rattle.std.proofs.lemmas.List.Sums.{sum_by-cons}
@@ -28,15 +28,10 @@ use Rattle.rule_base.specs.Notes.{claimed, gathers}
 use Rattle.rule_base.specs.StepsRule.{all_rises}
 use Rattle.rule_base.specs.World.{World}
 use Rattle.stm_rule.specs.Callers.{Handle, IsOf, AllIdle}
-use Rattle.stm_rule.specs.Closings.{installs_of, installs_by, installs_from}
+use Rattle.stm_rule.specs.Closings.{shown, installs_of, installs_by, installs_from}
 use Rattle.stm_rule.specs.Product.{is_built, Whole}
 
 module _ {K : Type 0} where
-  -- the callers of the descriptors, with their views
-  abbrev pub shown : List (Handle K) → List Gathered
-  shown [] = []
-  shown (d ∷ ds) = claimed d.who.role d.view (shown ds)
-
   -- a fact of each descriptor's view, by the caller's number
   abbrev pub Every : (ℕ → View → Type 0) → ℕ → List (Handle K) → Type 0
   Every P n [] = Unit {0}
@@ -82,6 +77,54 @@ module _ {K : Type 0} where
   pub installs_map : (gs : List Gathered) (n : ℕ) (ds : List (Handle K)) → Every (λ k v. installs_by gs k ≡ installs_of v) n ds → installs_from n (length ds) gs ≡ map (λ (d : Handle K). installs_of d.view) ds
   installs_map gs n [] e = refl
   installs_map gs n (d ∷ ds) e = λ i. e.0 i ∷ installs_map gs (suc n) ds e.1 i
+
+claimed_append : (r : Role) (v : View) (gs hs : List Gathered) → claimed r v (gs ++ hs) ≡ claimed r v gs ++ hs
+claimed_append (Dealer k) v gs hs = refl
+claimed_append (Caller n) v gs hs = refl
+claimed_append Note v gs hs = refl
+claimed_append Spent v gs hs = refl
+
+module _ {K : Type 0} where
+  pub shown_append : (ds es : List (Handle K)) → shown (ds ++ es) ≡ shown ds ++ shown es
+  shown_append [] es = refl
+  shown_append (d ∷ ds) es = ap (claimed d.who.role d.view) (shown_append ds es) ∙ claimed_append d.who.role d.view (shown ds) (shown es)
+
+  -- the callers from n on, each idle, of one table
+  abbrev pub AllHere : TableId → ℕ → List (Handle K) → Type 0
+  AllHere t n [] = Unit {0}
+  AllHere t n (d ∷ ds) = (d.table ≡ t) × (d.who.role ≡ Caller n) × (d.view.gate.phase ≡ Idle) × AllHere t (suc n) ds
+
+  pub all_here : (t : TableId) (c : Config) (rule : K) (n : ℕ) (ds : List (Handle K)) → AllIdle t c rule n ds → AllHere t n ds
+  all_here t c rule n [] a = tt
+  all_here t c rule n (d ∷ ds) a = (a.0.table, a.1, a.2, all_here t c rule (suc n) ds a.3)
+
+  pub here_split : (t : TableId) (n : ℕ) (ds : List (Handle K)) (d : Handle K) → AllHere t n (ds ++ d ∷ []) → AllHere t n ds × (d.table ≡ t) × (d.view.gate.phase ≡ Idle)
+  here_split t n [] d a = (tt, a.0, a.2)
+  here_split t n (x ∷ ds) d a = let r = here_split t (suc n) ds d a.3 in ((a.0, a.1, a.2, r.0), r.1, r.2)
+
+  pub idle_last : (t : TableId) (c : Config) (rule : K) (n : ℕ) (ds : List (Handle K)) (d : Handle K) → AllIdle t c rule n (ds ++ d ∷ []) → IsOf d t c rule × (d.view.gate.phase ≡ Idle)
+  idle_last t c rule n [] d a = (a.0, a.2)
+  idle_last t c rule n (x ∷ ds) d a = idle_last t c rule (suc n) ds d a.3
+
+  -- the first seat shows the last descriptor
+  pub shown_first : (all ds : List (Handle K)) (d : Handle K) (s : SeatView K) (m : ℕ) → all ≡ ds ++ d ∷ [] → d.who.role ≡ Caller m → s.view ≡ d.view → s.gathered ≡ [] → shown all ≡ shown ds ++ (s.gathered ++ record { caller = m; view = s.view } ∷ [])
+  shown_first all ds d s m is role view bare =
+      ap shown is ∙ shown_append ds (d ∷ []) ∙ ap (λ (r : Role). shown ds ++ claimed r d.view []) role ∙ ap (λ (v : View). shown ds ++ record { caller = m; view = v } ∷ []) (sym view) ∙ ap (λ (l : List Gathered). shown ds ++ (l ++ record { caller = m; view = s.view } ∷ [])) (sym bare)
+
+  -- and after another was gathered, one more
+  pub shown_next : (all old ds : List (Handle K)) (d : Handle K) (s t s' : SeatView K) (m k : ℕ) → shown all ≡ shown old ++ (s.gathered ++ record { caller = m; view = s.view } ∷ []) → old ≡ ds ++ d ∷ [] → d.who.role ≡ Caller k → t.who.role ≡ Caller k → t.view ≡ d.view → t.gathered ≡ [] → s' ≡ gathers s t
+      → shown all ≡ shown ds ++ (s'.gathered ++ record { caller = m; view = s'.view } ∷ [])
+  shown_next all old ds d s t s' m k before is role their view bare next =
+      let own : List Gathered = record { caller = m; view = s.view } ∷ [] in
+      let one : List Gathered = record { caller = k; view = d.view } ∷ [] in
+      let olds : shown old ≡ shown ds ++ one = ap shown is ∙ shown_append ds (d ∷ []) ∙ ap (λ (r : Role). shown ds ++ claimed r d.view []) role in
+      let joined : s'.gathered ≡ one ++ s.gathered = ap (λ (q : SeatView K). q.gathered) next ∙ ap (λ (r : Role). claimed r t.view t.gathered ++ s.gathered) their ∙ ap (λ (v : View). record { caller = k; view = v } ∷ (t.gathered ++ s.gathered)) view ∙ ap (λ (l : List Gathered). record { caller = k; view = d.view } ∷ (l ++ s.gathered)) bare in
+      let same : s'.view ≡ s.view = ap (λ (q : SeatView K). q.view) next in
+      before ∙ ap (λ (l : List Gathered). l ++ (s.gathered ++ own)) olds ∙ regroup (shown ds) one s.gathered own
+      ∙ ap (λ (l : List Gathered). shown ds ++ (l ++ own)) (sym joined) ∙ ap (λ (v : View). shown ds ++ (s'.gathered ++ record { caller = m; view = v } ∷ [])) (sym same)
+    where
+      regroup : (a b x y : List Gathered) → (a ++ b) ++ (x ++ y) ≡ a ++ ((b ++ x) ++ y)
+      regroup a b x y = simp append_assoc
 
 pub rises_alike : (m : ℕ) (vs ws : ℕ → Steps) → ((k : ℕ) → k < m → (vs k).rises ≡ (ws k).rises) → all_rises m vs ≡ all_rises m ws
 rises_alike zero vs ws e = refl
