@@ -1,9 +1,10 @@
 -- The clauses of the history after a step that adds no entry, and after one that does.
-use Rattle.std.proofs.Common.{◌≡◌, ℕ, ◌+◌, ◌<◌, ◌≤◌, ◌∷◌, Bool, true, false, arith, sym, subst, ap, ◌∙◌, le_refl, le_trans}
-use Rattle.std.specs.Prelude.{if◌then◌else◌}
+use Rattle.std.proofs.Common.{◌≡◌, ℕ, ◌+◌, ◌<◌, ◌≤◌, List, ◌∷◌, Bool, true, false, arith, refl, sym, subst, ap, ◌∙◌, le_refl, le_trans}
+use Rattle.std.specs.Prelude.{nat_le, if◌then◌else◌}
 use Rattle.rule_base.specs.declared.entries.Entry.{Entry}
 use Rattle.rule_base.specs.declared.layout.Config.{Config}
 use Rattle.rule_base.specs.declared.layout.TheConstants.{CLOCK_LIMIT}
+use Rattle.rule_base.specs.declared.views.SeenHistory.{SeenHistory}
 use Rattle.rule_base.specs.declared.views.View.{View}
 use Rattle.rule_base.specs.Encodings.{alg_of, has_ring}
 use Rattle.rule_base.specs.History.{Follows, upto}
@@ -11,6 +12,7 @@ use Rattle.rule_base.specs.World.{World, put, parts, horizon}
 use Rattle.rule_base.specs.StepKinds.{Advances}
 use Rattle.rule_base.specs.HistoryRule.{HistoryScene, history_scene, KnowsHistory, HistoryRule}
 use Rattle.rule_base.specs.HistoryLemmas.{upto-all, below-more}
+use Rattle.rule_base.specs.Notes.{learned_history}
 use Rattle.rule_base.specs.PutLemmas.{put-all, parts-put, parts-kept}
 
 choice-grows : (b : Bool) (d k e l : ℕ) → d ≤ e → k ≤ l → (if b then d else k) ≤ (if b then e else l)
@@ -117,3 +119,29 @@ module _ (good : (ℕ → ℕ) → Type 0) (c : Config) where
         history = history i;
         views = (ap (λ f. parts (λ (u : View). u.history) f) views ∙ parts-put (λ (u : View). u.history) w.views n v ∙ ap (put (history_scene w).views n) own) i;
       }
+
+  -- what a caller knows after it learnt a note
+  learned_knows : (clock : ℕ) (history : List Entry) (n : ℕ) (h k : SeenHistory) → KnowsHistory c clock history n h → k.seen ≡ upto history k.front → k.front ≤ clock → KnowsHistory c clock history n (learned_history h k)
+  learned_knows clock history n h k o seen front = go (nat_le h.front k.front) refl
+    where
+      go : (b : Bool) → nat_le h.front k.front ≡ b → KnowsHistory c clock history n (if b
+          then record { made = h.made; seen = k.seen; front = k.front; told = record { seen = h.seen; front = h.front } }
+          else record { made = h.made; seen = h.seen; front = h.front; told = record { seen = k.seen; front = k.front } })
+      go true q = record { made = o.made; seen = seen; front = front; opened = let a = o.opened in let l : h.front ≤ k.front = grind (arith, q) in omega arith; told = o.seen; told_front = grind (arith, q) }
+      go false q = record { made = o.made; seen = o.seen; front = o.front; opened = o.opened; told = seen; told_front = grind (arith, q) }
+
+  -- the caller learnt a note
+  pub history-learned : (w x : World) (n : ℕ) (v : View) (k : SeenHistory) → x.views ≡ put w.views n v → x.clock ≡ w.clock → x.history ≡ w.history → v.history ≡ learned_history (w.views n).history k → k.seen ≡ upto w.history k.front → k.front ≤ w.clock
+      → HistoryRule good c (history_scene w) → HistoryRule good c (history_scene x)
+  history-learned w x n v k views clock history own seen front r = subst (HistoryRule good c) (sym path) (record {
+      legal = r.legal;
+      below = r.below;
+      opened = r.opened;
+      limit = r.limit;
+      known = put-all (history_scene w).views n (learned_history (w.views n).history k) (KnowsHistory c w.clock w.history) (learned_knows w.clock w.history n (w.views n).history k (r.known n) seen front) (λ m d. r.known m) })
+    where
+      path : history_scene x ≡ record { clock = w.clock; history = w.history; views = put (history_scene w).views n (learned_history (w.views n).history k) }
+      path = λ i. record {
+        clock = clock i;
+        history = history i;
+        views = (ap (λ f. parts (λ (u : View). u.history) f) views ∙ parts-put (λ (u : View). u.history) w.views n v ∙ ap (put (history_scene w).views n) own) i }

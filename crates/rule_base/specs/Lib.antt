@@ -6,7 +6,11 @@ pub mod StepKinds
 pub mod HistoryRule
 pub mod StepsRule
 pub mod Opening
+pub mod GateRule
+pub mod GateSteps
+pub mod GateLaws
 pub mod Seating
+pub mod Notes
 pub mod Runs
 pub mod Bridge
 pub mod BridgeLemmas
@@ -21,3 +25,4 @@ pub mod HistoryRuleLemmas
 pub mod RunLemmas
 pub mod ListLemmas
 pub mod SeatLemmas
+pub mod NoteLemmas

@@ -11,6 +11,7 @@ use Rattle.rule_base.specs.World.{World}
 use Rattle.rule_seq.specs.CglRule.{CglWorld}
 use Rattle.rule_seq.specs.CglRuns.{CglStep, cgl_kind, CglMay, CglKeepsAlong, CglOpens, CglCommits}
 use Rattle.rule_seq.specs.CglRuns.CglStep.{takes_lock, loads_start, loads_heap, stores_heap, stores_clock, frees_lock}
+use Rattle.rule_seq.specs.CglOpening.{cgl_world-opening}
 use Rattle.rule_seq.specs.CglLaws as laws
 
 one_step : (good : (ℕ → ℕ) → Type 0) (c : Config) (n : ℕ) (s : CglStep) (w : World) → CglWorld good c w → CglMay good c n s (w.views n) → CglWorld good c (world_after (cgl_kind n s) n w)
@@ -24,16 +25,8 @@ one_step good c n frees_lock w r m = (laws.frees_lock good c n w r m.1).rule
 pub cgl_keeps_along_lem : (good : (ℕ → ℕ) → Type 0) (c : Config) → CglKeepsAlong good c
 cgl_keeps_along_lem good c = keeps-along cgl_kind (CglMay good c) (CglWorld good c) (one_step good c)
 
-opens : (good : (ℕ → ℕ) → Type 0) (c : Config) → IsConfig c → good (λ a. 0) → CglOpens good c
-opens good c config start gates = record {
-  history = opening-history good c config.clock start;
-  steps = opening-steps c;
-  lock = record { mine = λ n e. absurd cc; owner = λ n e. absurd (omega arith); inside = λ n e. absurd cc };
-  cgl = record { free = λ e a. refl; holder = λ n e. absurd cc };
-}
-
 pub cgl_opens_lem : (good : List ℕ → Type 0) (c : Config) → IsConfig c → good (replicate c.words 0) → CglOpens (of_words good c.words) c
-cgl_opens_lem good c config start = opens (of_words good c.words) c config (subst good (sym (words_of-zeros c.words)) start)
+cgl_opens_lem good c config start = cgl_world-opening (of_words good c.words) c config (subst good (sym (words_of-zeros c.words)) start)
 
 pub cgl_commits_lem : (good : (ℕ → ℕ) → Type 0) (c : Config) → CglCommits good c
 cgl_commits_lem good c gates a x phase alg callers clock inside small keeps = (

@@ -4,3 +4,4 @@ pub mod CglSteps
 pub mod CglRuns
 pub mod LockLemmas
 pub mod CglLaws
+pub mod CglOpening

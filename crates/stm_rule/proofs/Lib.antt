@@ -1,0 +1,7 @@
+mod Allowing
+mod Splitting
+mod Learning
+mod Opens
+pub mod Dealing
+pub mod Gathering
+mod Last

@@ -1,0 +1,132 @@
+-- The table at the opening meets the rule.
+use Rattle.std.proofs.Common.{◌≡◌, ◌≢◌, ◌⊎◌, ℕ, zero, suc, ◌+◌, ◌*◌, ◌<◌, ◌≤◌, List, [], ◌∷◌, ◌++◌, Bool, true, false, length, replicate, get_or, refl, sym, ap, ◌∙◌, subst, arith, inl, inr}
+use Rattle.std.proofs.lemmas.List.{length-replicate}
+use Rattle.std.proofs.lemmas.Bool.Decides.{nat_tests}
+use Rattle.std.specs.Prelude.{Contains, nat_le, ◌&&◌, if◌then◌else◌, Option, Some, None}
+use mathlib.Core.Option.{some, some-injective, some-ne-none}
+use lib.ListN.{get_elem?}
+use Rattle.atomic_table.specs.Table.{State, opening}
+use Rattle.rule_base.specs.declared.layout.At.{At}
+use Rattle.rule_base.specs.declared.layout.At.TheVariants.{Clock, Lock, Gate, Base, Done, Status, Record, Slot, Heap}
+use Rattle.rule_base.specs.declared.layout.Config.{Config}
+use Rattle.rule_base.specs.declared.layout.TheConstants.{MAX_WORDS, MAX_RECORDS, MIN_RING, MAX_RING, MAX_CALLERS, MAX_LOG, CLOCK_LIMIT}
+use Rattle.rule_base.specs.declared.seats.Gathered.{Gathered}
+use Rattle.rule_base.specs.declared.seats.Role.TheVariants.{Dealer, Caller, Note, Spent}
+use Rattle.rule_base.specs.declared.seats.SeatView.{SeatView}
+use Rattle.rule_base.specs.BridgeLemmas.{words_of-zeros}
+use Rattle.rule_base.specs.GateRule.{gate_scene, GateRule}
+use Rattle.rule_base.specs.ListLemmas.{contains-none}
+use Rattle.rule_base.specs.Opening.{first_view, opening_world}
+use Rattle.rule_base.specs.Places.{IsConfig, offset, size, InRange, ring_words}
+use Rattle.rule_base.specs.Seating.{Claims, Seats}
+use Rattle.rule_base.specs.World.{Lies, fetch}
+use Rattle.rule_seq.specs.CglOpening.{cgl_world-opening}
+use Rattle.rule_seq.specs.CglRule.{CglWorld}
+use Rattle.stm_rule.specs.declared.refusal.NewError.TheVariants.{Words, Records, Ring, Callers, Logs, Memory}
+use Rattle.stm_rule.specs.declared.refusal.NewError.TheVariants as faults
+use Rattle.stm_rule.specs.declared.stm.Key.{Key}
+use Rattle.stm_rule.specs.Kept.{good_of, Rule, Kept, newcomer}
+use Rattle.stm_rule.specs.Openings.{opening_words}
+use Rattle.stm_rule.specs.Product.{Whole}
+use Rattle.stm_rule.specs.Refusals.{in_range, first_fault}
+
+zeros_at : (n k : ℕ) → get_or {A = ℕ} (replicate n 0) k 0 ≡ 0
+zeros_at zero k = refl
+zeros_at (suc n) zero = refl
+zeros_at (suc n) (suc k) = zeros_at n k
+
+-- behind the first five words there are zeros
+past_five : (c : Config) (i k : ℕ) → i ≡ 5 + k → get_or (opening_words c) i 0 ≡ 0
+past_five c i k e = let s : i ≡ suc (suc (suc (suc (suc k)))) = omega arith in
+    ap (λ j. get_or (opening_words c) j 0) s ∙ zeros_at (c.callers + c.records + ring_words c + c.words) k
+
+pub length_opening : (c : Config) → length (opening_words c) ≡ size c
+length_opening c = let l : length {A = ℕ} (replicate (c.callers + c.records + ring_words c + c.words) 0) ≡ c.callers + c.records + ring_words c + c.words = length-replicate (c.callers + c.records + ring_words c + c.words) 0 in omega arith
+
+opening_lies : (c : Config) → Lies c (opening_world c) (opening_words c)
+opening_lies c = record { long = length_opening c; each = each }
+  where
+    each : (p : At) → InRange c p → get_or (opening_words c) (offset c p) 0 ≡ fetch (opening_world c) p
+    each Clock r = refl
+    each Lock r = refl
+    each Gate r = refl
+    each Base r = refl
+    each Done r = refl
+    each (Status k) r = past_five c (5 + k) k refl
+    each (Record i) r = past_five c (5 + c.callers + i) (c.callers + i) (omega arith)
+    each (Slot i) r = past_five c (5 + c.callers + c.records + i) (c.callers + c.records + i) (omega arith)
+    each (Heap a) r = past_five c (5 + c.callers + c.records + ring_words c + a) (c.callers + c.records + ring_words c + a) (omega arith)
+
+opening_gate : (c : Config) → GateRule c.callers (gate_scene (opening_world c))
+opening_gate c = record {
+  quiet = λ k e. refl;
+  mine = λ n e. absurd cc;
+  owner = λ n e. absurd (omega arith);
+  holding = λ n e. absurd cc;
+  closing = λ n e. absurd cc;
+  checked = λ n k e. absurd cc;
+  seen = λ n k e. refl;
+  named = λ n e. absurd cc;
+  far = λ n l. refl }
+
+-- the opening words and the first views meet the rule
+pub whole_opens : (good : (ℕ → ℕ) → Type 0) (c : Config) → IsConfig c → good (λ a. 0) → Whole good c (opening_world c)
+whole_opens good c config start = let w = cgl_world-opening good c config start (λ n. (first_view c).gate) in record {
+  history = w.history; steps = w.steps; gate = opening_gate c; built = refl; lock = w.lock; cgl = λ e. w.cgl }
+
+only : {A : Type 0} (x : A) (j : ℕ) (y : A) → get_elem? (x ∷ []) j ≡ some y → (j ≡ 0) × (x ≡ y)
+only x zero y e = (refl, some-injective x y e)
+only x (suc j) y e = absurd (some-ne-none y (sym e))
+
+module _ {K : Type 0} (good : K → List ℕ → Type 0) (c : Config) (rule : K) where
+  abbrev key : Key K
+  key = record { config = c; rule = rule }
+
+  no_claim : (n j : ℕ) (s : SeatView K) → get_elem? (newcomer key ∷ []) j ≡ some s → Claims s n → ⊥
+  no_claim n j s e p = go (subst (λ (y : SeatView K). Claims y n) (sym (only (newcomer key) j s e).1) p)
+    where
+      go : Claims (newcomer key) n → ⊥
+      go (inl x) = cc
+      go (inr g) = contains-none g.0 g.1
+
+  opening_seats : Seats rule c (opening_world c) (newcomer key ∷ [])
+  opening_seats = record {
+    here = λ j n s e q. absurd (no_claim n j s e (inl q));
+    joined = λ j s g e h. absurd (no_claim g.caller j s e (inr (g, h, refl)));
+    one = λ i j n s t ei ej p q. absurd (no_claim n i s ei p);
+    apart = λ j n s g e q h. absurd (no_claim n j s e (inl q));
+    within = λ j n s e p. absurd (no_claim n j s e p);
+    note = λ j s e q. absurd (let x : Dealer 0 ≡ Note = ap (λ (y : SeatView K). y.who.role) (only (newcomer key) j s e).1 ∙ q in cc);
+    undealt = λ j k n s e q l. refl;
+    dealt = λ i j k n s t ei ej q p. absurd (no_claim n j t ej p);
+    dealer = λ i j k l s t ei ej p q. (only (newcomer key) i s ei).0 ∙ sym (only (newcomer key) j t ej).0;
+    config = λ j s e d. ap (λ (y : SeatView K). y.who.config) (sym (only (newcomer key) j s e).1);
+    memory_rule = λ j s e d. ap (λ (y : SeatView K). y.who.rule) (sym (only (newcomer key) j s e).1) }
+
+  pub opening_kept : (ws : List ℕ) → IsConfig c → good rule (replicate c.words 0) → ws ≡ opening_words c → Kept good key (opening ws [] (newcomer key))
+  opening_kept ws config start is = record {
+    world = opening_world c;
+    lies = subst (Lies c (opening_world c)) (sym is) (opening_lies c);
+    seats = opening_seats;
+    holds = whole_opens (good_of good c rule) c config (subst (good rule) (sym (words_of-zeros c.words)) start) }
+
+-- a configuration without a fault has its numbers in range
+within : (low n high : ℕ) → in_range low n high ≡ true → (low ≤ n) × (n ≤ high)
+within low n high e = (grind (arith, nat_tests, e), grind (arith, nat_tests, e))
+
+pub no_fault : (c : Config) → first_fault c ≡ None → IsConfig c
+no_fault c e = go (in_range 1 c.words MAX_WORDS) (in_range 1 c.records MAX_RECORDS) (in_range MIN_RING c.ring MAX_RING) (in_range 1 c.callers MAX_CALLERS) (in_range 1 c.reads MAX_LOG) (in_range 1 c.writes MAX_LOG) (nat_le c.clock CLOCK_LIMIT)
+    refl refl refl refl refl refl refl e
+  where
+    go : (w r s k l m t : Bool) → in_range 1 c.words MAX_WORDS ≡ w → in_range 1 c.records MAX_RECORDS ≡ r → in_range MIN_RING c.ring MAX_RING ≡ s → in_range 1 c.callers MAX_CALLERS ≡ k → in_range 1 c.reads MAX_LOG ≡ l → in_range 1 c.writes MAX_LOG ≡ m → nat_le c.clock CLOCK_LIMIT ≡ t
+        → (if w then (if r then (if s then (if k then (if l && m then (if t then None else Some faults.Clock) else Some Logs) else Some Callers) else Some Ring) else Some Records) else Some Words) ≡ None → IsConfig c
+    go true true true true true true true a b d f g h i e = record {
+      words = within 1 c.words MAX_WORDS a; records = within 1 c.records MAX_RECORDS b; ring = within MIN_RING c.ring MAX_RING d; callers = within 1 c.callers MAX_CALLERS f;
+      reads = within 1 c.reads MAX_LOG g; writes = within 1 c.writes MAX_LOG h; clock = grind (arith, nat_tests, i) }
+    go false r s k l m t a b d f g h i e = absurd cc
+    go true false s k l m t a b d f g h i e = absurd cc
+    go true true false k l m t a b d f g h i e = absurd cc
+    go true true true false l m t a b d f g h i e = absurd cc
+    go true true true true false m t a b d f g h i e = absurd cc
+    go true true true true true false t a b d f g h i e = absurd cc
+    go true true true true true true false a b d f g h i e = absurd cc

@@ -1,0 +1,62 @@
+-- A step of one family keeps the clauses of the others.
+use Rattle.std.proofs.Common.{◌≡◌, ℕ, ◌+◌, ◌<◌, ◌≤◌, Bool, true, false, arith, refl, sym, subst, ap, ◌∙◌, le_refl}
+use Rattle.std.specs.Prelude.{if◌then◌else◌}
+use Rattle.stm_model.specs.declared.alg.Alg.{Alg}
+use Rattle.stm_model.specs.declared.alg.Alg.TheVariants.{Cgl, Tml, OrecLazy, OrecEager, RingSw, Serial}
+use Rattle.rule_base.specs.declared.layout.Config.{Config}
+use Rattle.rule_base.specs.declared.views.Phase.{Phase}
+use Rattle.rule_base.specs.declared.views.Phase.TheVariants.{Idle, Announced, In}
+use Rattle.rule_base.specs.declared.views.View.{View}
+use Rattle.rule_base.specs.Encodings.{alg_of, has_ring}
+use Rattle.rule_base.specs.GateRule.{gate_scene, GateRule}
+use Rattle.rule_base.specs.GateLaws.{gate_scene-kept}
+use Rattle.rule_base.specs.StepKinds.{StepKind, answer, view_after, world_after, Outcome, StepLaw}
+use Rattle.rule_base.specs.World.{World, put, horizon}
+use Rattle.rule_seq.specs.CglRule.{CglWorld}
+use Rattle.rule_seq.specs.LockRule.{lock_scene, LockRule}
+use Rattle.stm_rule.specs.Product.{is_built, Whole}
+
+no_ring : (a : Alg) → is_built a ≡ true → has_ring a ≡ false
+no_ring Cgl e = refl
+no_ring Tml e = refl
+no_ring OrecLazy e = refl
+no_ring OrecEager e = refl
+no_ring RingSw e = absurd cc
+no_ring Serial e = refl
+
+-- starts are loaded from the clock
+pub horizon-clock : (good : (ℕ → ℕ) → Type 0) (c : Config) (w : World) → Whole good c w → horizon w ≡ w.clock
+horizon-clock good c w g = ap (λ (b : Bool). if b then w.done else w.clock) (no_ring (alg_of w.gate) g.built)
+
+-- who has no attempt has no lock
+pub unlocked : (good : (ℕ → ℕ) → Type 0) (c : Config) (w : World) (n : ℕ) → Whole good c w → ((w.views n).gate.phase ≡ In → ⊥) → (w.views n).lock.taken ≡ false
+unlocked good c w n g out = go (w.views n).lock.taken refl
+  where
+    go : (b : Bool) → (w.views n).lock.taken ≡ b → b ≡ false
+    go true t = absurd (out (g.lock.inside n t))
+    go false t = refl
+
+-- the step leaves the gate, the statuses and what the caller knows of them alone
+pub record LeavesGate (kind : StepKind) (n : ℕ) : Type 0 where
+  pub gate : (w : World) → (world_after kind n w).gate ≡ w.gate
+  pub status : (w : World) → (world_after kind n w).status ≡ w.status
+  pub view : (w : World) → (kind.after w (w.views n) (answer kind w)).gate ≡ (w.views n).gate
+
+-- a step of an attempt of CGL
+pub by-cgl : (good : (ℕ → ℕ) → Type 0) (c : Config) (kind : StepKind) (shows : World → View → ℕ → Type 0) (n : ℕ) (May : View → Type 0) → LeavesGate kind n → ((v : View) → May v → (v.gate.phase ≡ In) × (v.gate.algorithm ≡ Cgl))
+    → StepLaw (CglWorld good c) kind shows n May → StepLaw (Whole good c) kind shows n May
+by-cgl good c kind shows n May leaves inside law w g may =
+    let i = inside (w.views n) may in
+    let named : alg_of w.gate ≡ Cgl = g.gate.named n i.0 ∙ i.1 in
+    let o = law w (record { history = g.history; steps = g.steps; lock = g.lock; cgl = g.cgl named }) may in record {
+      rule = record {
+        history = o.rule.history;
+        steps = o.rule.steps;
+        gate = subst (GateRule c.callers) (sym (gate_scene-kept w (world_after kind n w) n (view_after kind w (w.views n) (answer kind w)) refl (leaves.status w) (leaves.gate w) (leaves.view w))) g.gate;
+        built = subst (λ (k : ℕ). is_built (alg_of k) ≡ true) (sym (leaves.gate w)) g.built;
+        lock = o.rule.lock;
+        cgl = λ e. o.rule.cgl;
+      };
+      advances = o.advances;
+      shown = o.shown;
+    }

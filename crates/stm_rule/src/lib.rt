@@ -1,0 +1,12 @@
+//! The one rule over the shared table: opening, descriptors, notes, steps, closing.
+#![tactic(auto)]
+
+pub mod closing;
+pub mod desc;
+pub mod ending;
+mod kinds;
+pub mod note;
+pub mod opening;
+pub mod refusal;
+mod splits;
+pub mod stm;
