@@ -5,3 +5,4 @@ mod Opens
 pub mod Dealing
 pub mod Gathering
 mod Last
+mod CoreLaws

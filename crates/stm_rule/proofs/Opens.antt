@@ -43,7 +43,7 @@ past_five c i k e = let s : i ≡ suc (suc (suc (suc (suc k)))) = omega arith in
 pub length_opening : (c : Config) → length (opening_words c) ≡ size c
 length_opening c = let l : length {A = ℕ} (replicate (c.callers + c.records + ring_words c + c.words) 0) ≡ c.callers + c.records + ring_words c + c.words = length-replicate (c.callers + c.records + ring_words c + c.words) 0 in omega arith
 
-opening_lies : (c : Config) → Lies c (opening_world c) (opening_words c)
+pub opening_lies : (c : Config) → Lies c (opening_world c) (opening_words c)
 opening_lies c = record { long = length_opening c; each = each }
   where
     each : (p : At) → InRange c p → get_or (opening_words c) (offset c p) 0 ≡ fetch (opening_world c) p

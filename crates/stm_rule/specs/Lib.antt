@@ -7,3 +7,4 @@ pub mod Refusals
 pub mod Callers
 pub mod Openings
 pub mod Closings
+pub mod CoreRuns

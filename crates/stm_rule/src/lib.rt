@@ -5,6 +5,7 @@ pub mod closing;
 pub mod desc;
 pub mod ending;
 mod kinds;
+pub mod laws;
 pub mod note;
 pub mod opening;
 pub mod refusal;
