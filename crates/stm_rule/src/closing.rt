@@ -75,7 +75,11 @@ pub fn close<K: MemRule + Drop>(
     stm.load_end(&mut seat, number);
     let closed = Closed::of(&seat);
     let from = stm.config.place(At::Heap(0));
-    let Stm { table, config, rule: _ } = stm;
+    let Stm {
+        table,
+        config,
+        rule: _,
+    } = stm;
     let table = table.close_with(seat);
     read_out(&table, from, config.words, &mut words);
     table.free();
