@@ -7,7 +7,7 @@ ghost use Rattle.stm_rule.specs.Callers.{IsOf, IsSameCaller};
 ghost use Rattle.stm_rule.specs.Kept.{IsSameSeat, IsSeatOf, good_of, view_of};
 ghost use Rattle.tx_answers.specs.Answers.{HasRead, HasWritten, KeepsRule, Commits};
 ghost use Rattle.tx_answers.specs.Known.{known_of, caller_of};
-ghost use Rattle.alg_seq.specs.Cgl.{CanBegin, CglBegins};
+ghost use Rattle.alg_seq.specs.Cgl.{CanBegin, Starts};
 
 use rule_base::layout::CLOCK_LIMIT;
 use stm_model::rule::MemRule;
@@ -22,7 +22,7 @@ pub fn begin<K: MemRule>(seat: &mut Token<K>, stm: &Stm<K>, caller: usize) -> Re
     requires caller { caller < stm.now.config.callers }
     requires view { CanBegin (view_of seat.old) }
     ensures same { IsSameSeat seat.old seat.new × (seat.new.me.0 ≡ record seat.old.me.0 { view = view_of seat.new }) }
-    ensures begins { CglBegins (good_of K.good stm.now.config stm.now.rule) stm.now.config caller result (view_of seat.old) (view_of seat.new) }
+    ensures begins { Starts (K.good stm.now.rule) stm.now.config caller result (view_of seat.old) (view_of seat.new) }
 {
     let found = stm.take_lock(seat, caller);
     if found != 0 {

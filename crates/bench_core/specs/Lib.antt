@@ -1,1 +1,5 @@
 pub mod Commands
+pub mod Messages
+pub mod PlainRuns
+pub mod Outcomes
+pub mod Statuses

@@ -1,3 +1,11 @@
+//! What `stm_bench` does: the commands, from the words of the command line and the bytes read to the
+//! bytes written and the exit status.
 #![tactic(auto)]
+
+pub mod bench;
 mod command;
+mod messages;
+mod plain_run;
 pub mod status;
+#[cfg(test)]
+mod tests;

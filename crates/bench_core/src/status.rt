@@ -1,4 +1,5 @@
 //! How a call of `bench` ended.
+ghost use Rattle.std.specs.Prelude.{◌≡◌};
 
 /// How a call of `bench` ended, and what it wrote by that.
 #[derive(Clone, Copy, Drop, Debug, PartialEq, Eq)]
@@ -21,8 +22,12 @@ pub enum Status {
 }
 
 impl Status {
+    ghost use Rattle.bench_core.specs.Statuses.{exit_code_of};
+
     /// The exit status of a program that ends so: 0 for `Ok`, then 1 to 6 in the order above.
-    pub fn exit_code(self) -> u8 {
+    pub fn exit_code(self) -> u8
+        ensures { result ≡ exit_code_of self }
+    {
         match self {
             Status::Ok => 0,
             Status::Usage => 1,

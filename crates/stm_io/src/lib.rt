@@ -4,4 +4,6 @@
 pub mod adapters;
 pub mod ends;
 pub mod memory;
+#[cfg(test)]
+mod tests;
 pub mod whole;

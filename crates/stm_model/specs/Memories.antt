@@ -1,5 +1,5 @@
 -- Memories, write sets, and what explains a read set.
-use Rattle.std.specs.Prelude.{ℕ, ◌≡◌, ◌==◌, if◌then◌else◌, List, [], ◌∷◌, length, slice_index, slice_set, Option, Some, None, Bool, true, false}
+use Rattle.std.specs.Prelude.{ℕ, ◌≡◌, ◌==◌, if◌then◌else◌, List, [], ◌∷◌, slice_index, slice_set, Option, Some, None, Bool, true, false}
 
 -- A memory is the list of its words. A read set and a write set are lists of address and value, with one item an address.
 

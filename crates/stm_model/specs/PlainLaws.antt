@@ -1,10 +1,10 @@
 -- Laws of what a plain memory stands for.
-use Rattle.std.proofs.Common.{ℕ, zero, suc, ◌≡◌, ◌≢◌, ◌<◌, ◌≤◌, ◌+◌, List, [], ◌∷◌, ◌++◌, length, get_or, set, Bool, true, false, refl, sym, ap, ◌∙◌, arith, subst}
+use Rattle.std.proofs.Common.{ℕ, zero, suc, ◌≡◌, ◌≢◌, ◌<◌, ◌+◌, List, [], ◌∷◌, ◌++◌, length, get_or, set, Bool, true, false, refl, sym, ap, ◌∙◌, arith}
 use Rattle.std.specs.Prelude.{Option, Some, None, ◌==◌, if◌then◌else◌, MatchOption}
 use Rattle.std.proofs.lemmas.Bool.Decides.{nat_tests}
 use Rattle.stm_model.specs.Memories.{item_at, put, Once, Explains}
-use Rattle.stm_model.specs.Logs.{Log, IsLog, Reads, Writes, IsExplained}
-use Rattle.stm_model.specs.Plains.{openings, reads_from, own_item, writes_from, own_writes, plain_log}
+use Rattle.stm_model.specs.Logs.{IsLog, Reads, Writes, IsExplained}
+use Rattle.stm_model.specs.Plains.{openings, reads_from, own_item, writes_from, plain_log}
 use Rattle.stm_model.specs.declared.plain.PlainWord.{PlainWord}
 
 same_yes : (a : ℕ) → (a == a) ≡ true

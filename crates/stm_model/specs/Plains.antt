@@ -1,5 +1,5 @@
 -- What a plain memory stands for.
-use Rattle.std.specs.Prelude.{ℕ, zero, suc, List, [], ◌∷◌, Option, None, Some, Bool, true, false, ◌||◌, is_some}
+use Rattle.std.specs.Prelude.{ℕ, zero, suc, List, [], ◌∷◌, Option, None, Some, Bool, false, ◌||◌, is_some}
 use Rattle.stm_model.specs.Logs.{Log}
 use Rattle.stm_model.specs.declared.plain.PlainWord.{PlainWord}
 

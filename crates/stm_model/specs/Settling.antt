@@ -1,10 +1,9 @@
 -- Laws of a commit and a cancel over plain memory.
-use Rattle.std.proofs.Common.{ℕ, zero, suc, ◌≡◌, ◌≢◌, ◌<◌, ◌≤◌, ◌+◌, List, [], ◌∷◌, length, get_or, set, drop, Bool, true, false, refl, sym, ap, ◌∙◌, arith}
+use Rattle.std.proofs.Common.{ℕ, zero, suc, ◌≡◌, ◌<◌, ◌≤◌, ◌+◌, List, [], ◌∷◌, length, get_or, set, drop, Bool, true, false, refl, sym, ap, ◌∙◌, arith}
 use Rattle.std.specs.Prelude.{Option, Some, None, ltb, is_some, not, ◌||◌, MatchOption}
-use Rattle.std.proofs.Math.ListN.{length-set}
 use Rattle.std.proofs.lemmas.List.{drop_more}
 use Rattle.std.proofs.lemmas.Bool.Decides.{nat_tests}
-use Rattle.stm_model.specs.Memories.{overlay, is_empty, item_at}
+use Rattle.stm_model.specs.Memories.{overlay, is_empty}
 use Rattle.stm_model.specs.Overlays.{overlay-length, overlay-at_some, overlay-at_none, same_list, get_past}
 use Rattle.stm_model.specs.Plains.{openings, own_item, writes_from, own_writes, value_of, settled, forgotten, change_first, any_own}
 use Rattle.stm_model.specs.PlainLaws.{writes-at, openings-length}

@@ -63,6 +63,7 @@ impl Plain {
         ensures wrote { result ≡ not (is_empty (own_writes self.old)) }
         ensures settled { openings self.new ≡ overlay (openings self.old) (own_writes self.old) }
         ensures cleared { own_writes self.new ≡ [] }
+        ensures length { length self.new ≡ length self.old }
     {
         let mut wrote = false;
         for i in 0..self.words.len() {
@@ -80,6 +81,7 @@ impl Plain {
     pub fn forget(&mut self)
         ensures opened { openings self.new ≡ openings self.old }
         ensures cleared { own_writes self.new ≡ [] }
+        ensures length { length self.new ≡ length self.old }
     {
         for i in 0..self.words.len() {
             let opening = self.words[i].opening;

@@ -8,3 +8,5 @@ pub mod Refusals
 pub mod Attempts
 pub mod Callers
 pub mod Openings
+pub mod Closings
+pub mod CoreRuns

@@ -1,8 +1,11 @@
 //! The one rule over the shared table: opening, descriptors, notes, steps, closing.
 #![tactic(auto)]
 
+pub mod closing;
 pub mod desc;
+pub mod ending;
 mod kinds;
+pub mod laws;
 pub mod note;
 pub mod opening;
 pub mod refusal;

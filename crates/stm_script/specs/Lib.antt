@@ -1,1 +1,12 @@
 pub mod Outputs
+pub mod Regions
+pub mod Operations
+pub mod OperationLaws
+pub mod Scripts
+pub mod ScriptLaws
+pub mod Keeping
+pub mod KeepingLaws
+pub mod Workloads
+pub mod Reports
+pub mod Parts
+pub mod GrowthLaws

@@ -1,4 +1,4 @@
-use Rattle.std.proofs.Common.{◌≡◌, ◌≤◌, ◌+◌, ◌++◌, ◌-◌, ◌∙◌, ap, sym, subst, arith, length, length-drop, take, drop}
+use Rattle.std.proofs.Common.{◌≤◌, ◌++◌, ◌-◌, ◌∙◌, ap, sym, subst, arith, length, length-drop, take}
 use Rattle.std.proofs.lemmas.List.{take_rest}
 use Rattle.std.proofs.Math.Seq.{take-add}
 use Rattle.stm_io.specs.Ends.{Gained}

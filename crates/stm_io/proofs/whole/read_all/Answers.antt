@@ -1,7 +1,6 @@
-use Rattle.std.proofs.Common.{◌≡◌, ◌≤◌, ◌++◌, ap, arith, length, length-append, length-take, take}
+use Rattle.std.proofs.Common.{◌≤◌, ◌++◌, arith, length, length-append, length-take, take}
 use Rattle.std.proofs.lemmas.Result.{err_from_is_err_and}
-use Rattle.stm_io.specs.Ends.{Took, TookSome}
-use Rattle.stm_io.specs.Laws.{Took-append, IsText_at_end, IsText_at_limit}
+use Rattle.stm_io.specs.Laws.{Took-append}
 use Rattle.stm_io.proofs.whole.read_all.Goals as goal
 
 pub returns-in_err-extend_from_slice-in-Ok-clause-lost :

@@ -1,4 +1,4 @@
-use Rattle.std.proofs.Common.{refl, sym, ap, ◌∙◌, arith}
+use Rattle.std.proofs.Common.{refl, ap, ◌∙◌, arith}
 use Rattle.stm_model.specs.Plains.{openings, own_writes, forgotten}
 use Rattle.stm_model.specs.Settling.{change-step, openings-forgotten, writes-changed}
 use Rattle.stm_model.proofs.plain.Plain.forget.Goals as goal

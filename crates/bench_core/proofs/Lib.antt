@@ -1,0 +1,5 @@
+mod PlainRunLaws
+mod PlainMemoryLaws
+mod TransactLaws
+mod SoFarLaws
+mod WholeRuns

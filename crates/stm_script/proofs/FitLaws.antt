@@ -1,0 +1,86 @@
+-- What a caller knows of its rows holds at their places of the one history.
+use Rattle.std.proofs.Common.{ℕ, ◌≡◌, ◌≤◌, ◌-◌, List, [], ◌∷◌, Bool, true, false, refl, sym, ap, ◌∙◌, subst, length}
+use Rattle.std.specs.Prelude.{◌||◌, Contains}
+use Rattle.std.proofs.lemmas.List.Elements.{All-contains}
+use Rattle.stm_model.specs.Memories.{overlay, Explains}
+use Rattle.stm_model.specs.Histories.{Entry, memory_at, IsLegal}
+use Rattle.stm_model.specs.HistoryLaws.{memory_at-entry, length-memory_at}
+use Rattle.stm_script.specs.declared.op.Op.{Op}
+use Rattle.stm_script.specs.declared.op.Op.TheVariants.{Read, Write, Add, Cancel}
+use Rattle.stm_script.specs.declared.region.Region.{Region}
+use Rattle.stm_script.specs.declared.report.Kind.{Kind}
+use Rattle.stm_script.specs.declared.report.Kind.TheVariants.{W, R, C}
+use Rattle.stm_script.specs.declared.report.Row.{Row}
+use Rattle.stm_script.specs.Operations.{effect_of}
+use Rattle.stm_script.specs.Scripts.{run, run_row, KindFits}
+use Rattle.stm_script.specs.Reports.{RowFits}
+use Rattle.stm_script.specs.Parts.{RowOf, RowIn, by_kind, BeginsWith}
+use Rattle.stm_script.specs.GrowthLaws.{seen-same}
+use Rattle.stm_script.proofs.ReplayLaws.{before_of, FitsAt}
+
+module _ (regions : List Region) where
+  -- a script that wrote nothing leaves the memory
+  op-quiet : (op : Op) (m : List ℕ) → (effect_of regions op m).wrote ≡ false → (effect_of regions op m).memory ≡ m
+  op-quiet (Read a) m h = refl
+  op-quiet (Write a v) m h = absurd cc
+  op-quiet (Add a k) m h = absurd cc
+  op-quiet Cancel m h = refl
+
+  or-left : (a b : Bool) → a || b ≡ false → a ≡ false
+  or-left true b h = absurd cc
+  or-left false b h = refl
+
+  or-right : (a b : Bool) → a || b ≡ false → b ≡ false
+  or-right true b h = absurd cc
+  or-right false b h = h
+
+  pub run-quiet : (ops : List Op) (m : List ℕ) → (run regions ops m).wrote ≡ false → (run regions ops m).memory ≡ m
+  run-quiet [] m h = refl
+  run-quiet (op ∷ ops) m h =
+      let one = op-quiet op m (or-left (effect_of regions op m).wrote (run regions ops (effect_of regions op m).memory).wrote h) in
+      run-quiet ops (effect_of regions op m).memory (or-right (effect_of regions op m).wrote (run regions ops (effect_of regions op m).memory).wrote h) ∙ one
+
+  quiet-by : (r : Row) (script : List Op) (m : List ℕ) → r.kind ≡ R → RowFits regions script r m → (run_row regions r.kind script m).memory ≡ m
+  quiet-by r script m is h =
+      ap (λ k. (run_row regions k script m).memory) is ∙ run-quiet script m (subst (λ k. KindFits k script (run_row regions k script m).wrote) is h.kind)
+
+  fits-by : (good : List ℕ → Type 0) (opening : List ℕ) (floor : ℕ) (es : List Entry) (script : List Op) (made seen : List Entry) (front : ℕ) (r : Row) (k : Kind) → r.kind ≡ k
+      → IsLegal good opening floor es → BeginsWith es seen front → ((e : Entry) → Contains made e → Contains es e)
+      → by_kind k ((e : Entry) × Contains made e × RowOf good (length opening) regions script r e) ((r.place ≤ front) × RowFits regions script r (memory_at r.place seen opening))
+      → FitsAt regions script es opening r
+  fits-by good opening floor es script made seen front r W is legal begins within h =
+      let e = h.0 in
+      let row = h.2 in
+      let at = within h.0 h.1 in
+      let m = memory_at (e.time - 1) es opening in
+      let reads : Explains m e.reads = All-contains (λ x. Explains (memory_at (x.time - 1) es opening) x.reads) es e legal.reads at in
+      let long = length-memory_at (e.time - 1) es opening in
+      let fit = row.fits m (legal.good_always (e.time - 1)) long reads in
+      let left = row.left m (legal.good_always (e.time - 1)) long reads in
+      let step : memory_at e.time es opening ≡ overlay m e.writes = subst (λ x. memory_at x.time es opening ≡ overlay (memory_at (x.time - 1) es opening) x.writes) at.2 (memory_at-entry floor es opening at.0 e legal.ascending at.1) in
+      let before : m ≡ memory_at (before_of r.kind r.place) es opening = ap (λ t. memory_at (t - 1) es opening) row.time ∙ sym (ap (λ j. memory_at (before_of j r.place) es opening) is) in
+      record {
+        fits = subst (RowFits regions script r) before fit;
+        after = ap (λ x. (run_row regions r.kind script x).memory) (sym before) ∙ (left ∙ (sym step ∙ ap (λ t. memory_at t es opening) row.time));
+      }
+  fits-by good opening floor es script made seen front r R is legal begins within h =
+      let same = seen-same r.place front es seen opening begins h.0 in
+      let before : memory_at r.place seen opening ≡ memory_at (before_of r.kind r.place) es opening = sym same ∙ sym (ap (λ j. memory_at (before_of j r.place) es opening) is) in
+      let fit : RowFits regions script r (memory_at (before_of r.kind r.place) es opening) = subst (RowFits regions script r) before h.1 in
+      record {
+        fits = fit;
+        after = quiet-by r script (memory_at (before_of r.kind r.place) es opening) is fit ∙ ap (λ j. memory_at (before_of j r.place) es opening) is;
+      }
+  fits-by good opening floor es script made seen front r C is legal begins within h =
+      let same = seen-same r.place front es seen opening begins h.0 in
+      let before : memory_at r.place seen opening ≡ memory_at (before_of r.kind r.place) es opening = sym same ∙ sym (ap (λ j. memory_at (before_of j r.place) es opening) is) in
+      record {
+        fits = subst (RowFits regions script r) before h.1;
+        after = ap (λ k. (run_row regions k script (memory_at (before_of r.kind r.place) es opening)).memory) is ∙ ap (λ j. memory_at (before_of j r.place) es opening) is;
+      }
+
+  pub fits-in : (good : List ℕ → Type 0) (opening : List ℕ) (floor : ℕ) (es : List Entry) (script : Row → List Op) (made seen : List Entry) (front : ℕ) (r : Row)
+      → IsLegal good opening floor es → BeginsWith es seen front → ((e : Entry) → Contains made e → Contains es e)
+      → RowIn good opening regions script made seen front r → FitsAt regions (script r) es opening r
+  fits-in good opening floor es script made seen front r legal begins within h =
+      fits-by good opening floor es (script r) made seen front r r.kind refl legal begins within h

@@ -1,0 +1,5 @@
+mod Rooms
+mod ReplayLaws
+mod FitLaws
+mod MergeLaws
+mod ReportLaws

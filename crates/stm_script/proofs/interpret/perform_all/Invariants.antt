@@ -1,0 +1,22 @@
+use Rattle.std.proofs.Common.{◌≡◌, ◌-◌, ◌+◌, List, None, length, drop, ℕ}
+use Rattle.stm_model.specs.Memories.{Explains}
+use Rattle.stm_model.specs.Logs.{SameMemories, IsExplained}
+use Rattle.stm_script.specs.Outputs.{HasRoom}
+use Rattle.stm_script.specs.ScriptLaws.{GivesOn}
+use Rattle.stm_script.specs.Operations.{ScriptFits}
+use Rattle.stm_script.proofs.interpret.perform_all.Given as goal
+
+abbrev pub invariant-loop-op : goal.invariant-loop-op
+invariant-loop-op g l = record {
+  going : g.A.Access.stopped l.acc ≡ None;
+  words : g.A.Access.words l.acc ≡ g.A.Access.words l.fn.acc;
+  good : SameMemories (g.A.Access.good l.fn.acc) (g.A.Access.good l.acc);
+  keeps : g.A.Access.keeps l.fn.acc l.acc;
+  within : ScriptFits l.regions (g.A.Access.words l.fn.acc) l.ops;
+  kept_room : l.out.room ≡ l.fn.out.room;
+  room : HasRoom l.out (length l.ops - l.op-index);
+  left : (n : ℕ) → HasRoom l.fn.out (length l.ops + n) → HasRoom l.out (length l.ops - l.op-index + n);
+  explained : IsExplained (g.A.Access.good l.fn.acc) (g.A.Access.words l.fn.acc) (g.A.Access.log l.fn.acc) → IsExplained (g.A.Access.good l.acc) (g.A.Access.words l.acc) (g.A.Access.log l.acc);
+  on : (m : List ℕ) → g.A.Access.good l.fn.acc m → length m ≡ g.A.Access.words l.fn.acc → Explains m (g.A.Access.log l.acc).reads
+      → GivesOn l.regions l.ops (drop l.op-index l.ops) m (g.A.Access.log l.fn.acc) l.fn.out (g.A.Access.log l.acc) l.out;
+}

@@ -1,0 +1,64 @@
+-- What an operation does to a memory.
+use Rattle.std.specs.Prelude.{ℕ, ◌≡◌, ◌<◌, ◌+◌, ◌%◌, ◌^◌, Bool, true, false, ◌||◌, not, List, [], length, slice_index, slice_set, All}
+use Rattle.stm_model.specs.Memories.{overlay, Explains, is_empty}
+use Rattle.stm_model.specs.Logs.{Log}
+use Rattle.stm_script.specs.declared.op.Op.{Op}
+use Rattle.stm_script.specs.declared.op.Op.TheVariants.{Read, Write, Add, Cancel}
+use Rattle.stm_script.specs.declared.region.Region.{Region}
+use Rattle.stm_script.specs.Regions.{IsPlain}
+
+-- what an operation replies, what it emits, the memory after it, and whether it wrote
+pub record Effect : Type 0 where
+  pub reply : ℕ
+  pub emits : List ℕ
+  pub memory : List ℕ
+  pub wrote : Bool
+
+-- a reply that leaves the memory
+abbrev pub replies : ℕ → List ℕ → Effect
+replies r m = record { reply = r; emits = []; memory = m; wrote = false }
+
+-- the value goes to the address, and is the reply
+abbrev pub stores : ℕ → ℕ → List ℕ → Effect
+stores a v m = record { reply = v; emits = []; memory = slice_set m a v; wrote = true }
+
+-- THE TABLE; a cancel is meant here as in a transaction that commits
+abbrev pub effect_of : List Region → Op → List ℕ → Effect
+effect_of regions (Read a) m = replies (slice_index m a) m
+effect_of regions (Write a v) m = stores a v m
+effect_of regions (Add a k) m = stores a ((slice_index m a + k) % 2 ^ 64) m
+effect_of regions Cancel m = replies 0 m
+
+-- an operation that a memory of so many words and these regions takes
+abbrev pub OpFits : List Region → ℕ → Op → Type 0
+OpFits regions words (Read a) = (a < words) × IsPlain regions a
+OpFits regions words (Write a v) = (a < words) × IsPlain regions a
+OpFits regions words (Add a k) = (a < words) × IsPlain regions a
+OpFits regions words Cancel = Unit {0}
+
+abbrev pub is_cancel : Op → Bool
+is_cancel (Read a) = false
+is_cancel (Write a v) = false
+is_cancel (Add a k) = false
+is_cancel Cancel = true
+
+abbrev pub ScriptFits : List Region → ℕ → List Op → Type 0
+ScriptFits regions words ops = All (OpFits regions words) ops
+
+-- over the memory m under the log l an operation had this effect, and left the log k
+pub record Does (effect : List ℕ → Effect) (m : List ℕ) (l : Log) (reply : ℕ) (k : Log) : Type 0 where
+  pub explained : Explains m l.reads
+  pub replied : reply ≡ (effect (overlay m l.writes)).reply
+  pub left : overlay m k.writes ≡ (effect (overlay m l.writes)).memory
+  pub wrote : not (is_empty k.writes) ≡ not (is_empty l.writes) || (effect (overlay m l.writes)).wrote
+
+-- it did so over every good memory that explains the log
+abbrev pub DoesOver : (List ℕ → Type 0) → ℕ → (List ℕ → Effect) → Log → ℕ → Log → Type 0
+DoesOver good words effect l reply k = (m : List ℕ) → good m → length m ≡ words → Explains m k.reads → Does effect m l reply k
+
+-- an operation that never writes
+abbrev pub OnlyReads : Op → Type 0
+OnlyReads (Read a) = Unit {0}
+OnlyReads (Write a v) = ⊥
+OnlyReads (Add a k) = ⊥
+OnlyReads Cancel = Unit {0}

@@ -1,0 +1,15 @@
+-- Which items a workload may have.
+use Rattle.std.specs.Prelude.{◌<◌, List, All}
+use Rattle.stm_script.specs.declared.region.Region.{Region}
+use Rattle.stm_script.specs.declared.workload.Header.{Header}
+use Rattle.stm_script.specs.declared.workload.Item.{Item}
+use Rattle.stm_script.specs.declared.workload.Item.TheVariants.{Tx, Switch}
+use Rattle.stm_script.specs.Operations.{ScriptFits}
+
+-- an item of a caller of the header; a script is one that its memory takes
+abbrev pub ItemFits : List Region → Header → Item → Type 0
+ItemFits regions header (Tx caller script) = (caller < header.callers) × ScriptFits regions header.words script
+ItemFits regions header (Switch caller alg) = caller < header.callers
+
+abbrev pub ItemsFit : List Region → Header → List Item → Type 0
+ItemsFit regions header items = All (ItemFits regions header) items

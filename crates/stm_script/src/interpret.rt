@@ -1,0 +1,179 @@
+//! Scripts over any access.
+ghost use Rattle.std.specs.Prelude.{◌≡◌, ◌<◌, ◌≤◌, ◌+◌, ◌++◌, ◌∷◌, [], ℕ, None, Some, All, IfOk, OnOk, IfErr, length, take, true};
+ghost use Rattle.stm_model.specs.Logs.{SameMemories, IsExplained, IsReadStop, Keeps};
+ghost use Rattle.stm_script.specs.Keeping.{ScriptKeeps};
+ghost use Rattle.stm_script.specs.Operations.{OpFits, ScriptFits, OnlyReads};
+ghost use Rattle.stm_script.specs.Scripts.{run, before_cancel, has_cancel, ran_to_end, HasEnd};
+ghost use Rattle.stm_script.specs.ScriptLaws.{GaveOver, ran_one};
+ghost use Rattle.stm_script.specs.Outputs.{HasRoom};
+
+use crate::lists::Script;
+use crate::op::Op;
+use crate::operation::run_op;
+use crate::region::Regions;
+use crate::replies::Replies;
+use crate::report::Kind;
+use stm_model::access::Access;
+use stm_model::stop::Stop;
+
+/// Runs one operation and adds its reply to `out`; a cancel replies 0 and does nothing, as in a
+/// transaction that commits. Takes no memory beyond what the access takes.
+///
+/// # Errors
+/// The Stop of the access, from then on in `stopped`; `out` may then have gained nothing.
+pub fn perform<A: Access>(
+    acc: &mut A,
+    regions: &Regions,
+    op: &Op,
+    out: &mut Replies,
+) -> Result<u64, Stop>
+    requires going { A.stopped acc.old ≡ None }
+    requires within { OpFits regions.now (A.words acc.old) op.now }
+    requires room { HasRoom out.old 1 }
+    ensures gave { OnOk result (GaveOver (A.good acc.old) (A.words acc.old) (ran_one regions.now op.now) (A.log acc.old) out.old (A.log acc.new) out.new) }
+    ensures told { IfOk result (λ r. out.new ≡ record out.old { replies = out.old.replies ++ r ∷ [] }) }
+    ensures explained { OnOk result (IsExplained (A.good acc.old) (A.words acc.old) (A.log acc.old) → IsExplained (A.good acc.new) (A.words acc.new) (A.log acc.new)) }
+    ensures kept_room { out.new.room ≡ out.old.room }
+    ensures goes { OnOk result (A.stopped acc.new ≡ None) }
+    ensures stops { IfErr result (λ s. A.stopped acc.new ≡ Some s) }
+    ensures cause { OnlyReads op.now → IfErr result IsReadStop }
+    ensures good { SameMemories (A.good acc.old) (A.good acc.new) }
+    ensures words { A.words acc.new ≡ A.words acc.old }
+    ensures keeps { A.keeps acc.old acc.new }
+{
+    let reply = match op {
+        Op::Cancel => 0,
+        _ => run_op(acc, regions, op)?,
+    };
+    out.reply(reply);
+    Ok(reply)
+}
+
+/// Runs the operations in order, each as in a transaction that commits.
+fn perform_all<A: Access>(
+    acc: &mut A,
+    regions: &Regions,
+    ops: &[Op],
+    out: &mut Replies,
+) -> Result<(), Stop>
+    requires going { A.stopped acc.old ≡ None }
+    requires within { ScriptFits regions.now (A.words acc.old) ops.now }
+    requires room { HasRoom out.old (length ops.now) }
+    ensures gave { OnOk result (GaveOver (A.good acc.old) (A.words acc.old) (run regions.now ops.now) (A.log acc.old) out.old (A.log acc.new) out.new) }
+    ensures explained { OnOk result (IsExplained (A.good acc.old) (A.words acc.old) (A.log acc.old) → IsExplained (A.good acc.new) (A.words acc.new) (A.log acc.new)) }
+    ensures keeps_rule { OnOk result (ScriptKeeps (A.good acc.old) (A.words acc.old) regions.now ops.now → Keeps (A.good acc.old) (A.words acc.old) (A.log acc.old) → Keeps (A.good acc.old) (A.words acc.old) (A.log acc.new)) }
+    ensures kept_room { out.new.room ≡ out.old.room }
+    ensures room { OnOk result ((n : ℕ) → HasRoom out.old (length ops.now + n) → HasRoom out.new n) }
+    ensures goes { OnOk result (A.stopped acc.new ≡ None) }
+    ensures stops { IfErr result (λ s. A.stopped acc.new ≡ Some s) }
+    ensures cause { All OnlyReads ops.now → IfErr result IsReadStop }
+    ensures good { SameMemories (A.good acc.old) (A.good acc.new) }
+    ensures words { A.words acc.new ≡ A.words acc.old }
+    ensures keeps { A.keeps acc.old acc.new }
+{
+    for op in ops {
+        perform(acc, regions, op, out)?;
+    }
+    Ok(())
+}
+
+/// How many operations stand before the first cancel.
+fn first_cancel(ops: &[Op]) -> usize
+    requires { has_cancel ops.now ≡ true }
+    ensures before { take result ops.now ≡ before_cancel ops.now }
+    ensures within { result < length ops.now }
+{
+    let mut end = 0;
+    for op in ops {
+        if op.is_cancel() {
+            return end;
+        }
+        end += 1;
+    }
+    unreachable!()
+}
+
+/// Runs a script to the end that a transaction of this kind comes to: all operations for W and R, and
+/// for C those up to the first cancel, which replies 1; what was written before it is for the caller to
+/// cancel. Replies and emits are added to `out`. Takes no memory beyond what the access takes.
+///
+/// # Errors
+/// The Stop of the access, from then on in `stopped`; never ClockFull where every operation only reads.
+/// `out` has then gained the replies up to the operation that was stopped.
+pub fn interpret<A: Access>(
+    acc: &mut A,
+    regions: &Regions,
+    script: &Script,
+    kind: Kind,
+    out: &mut Replies,
+) -> Result<(), Stop>
+    requires going { A.stopped acc.old ≡ None }
+    requires within { ScriptFits regions.now (A.words acc.old) script.now }
+    requires ends { HasEnd kind script.now }
+    requires room { HasRoom out.old (length script.now) }
+    ensures gave { OnOk result (GaveOver (A.good acc.old) (A.words acc.old) (ran_to_end regions.now kind script.now) (A.log acc.old) out.old (A.log acc.new) out.new) }
+    ensures explained { OnOk result (IsExplained (A.good acc.old) (A.words acc.old) (A.log acc.old) → IsExplained (A.good acc.new) (A.words acc.new) (A.log acc.new)) }
+    // what the caller owes for a commit stays met where each operation keeps the rule on memories
+    ensures keeps_rule { OnOk result (ScriptKeeps (A.good acc.old) (A.words acc.old) regions.now script.now → Keeps (A.good acc.old) (A.words acc.old) (A.log acc.old) → Keeps (A.good acc.old) (A.words acc.old) (A.log acc.new)) }
+    ensures kept_room { out.new.room ≡ out.old.room }
+    ensures goes { OnOk result (A.stopped acc.new ≡ None) }
+    ensures stops { IfErr result (λ s. A.stopped acc.new ≡ Some s) }
+    ensures cause { All OnlyReads script.now → IfErr result IsReadStop }
+    ensures good { SameMemories (A.good acc.old) (A.good acc.new) }
+    ensures words { A.words acc.new ≡ A.words acc.old }
+    ensures keeps { A.keeps acc.old acc.new }
+{
+    let ops = script.as_slice();
+    match kind {
+        Kind::W | Kind::R => perform_all(acc, regions, ops, out),
+        Kind::C => {
+            perform_all(acc, regions, &ops[..first_cancel(ops)], out)?;
+            out.reply(1);
+            Ok(())
+        }
+    }
+}
+
+#[cfg(test)]
+mod tests {
+    use super::*;
+    use crate::lists::Words;
+    use std::alloc::Global;
+    use std::test::Fail;
+    use stm_model::plain::{Plain, PlainWord};
+
+    /// What the script replies over the words 5 and 2^64 - 1.
+    fn replies(alloc: Global, ops: Vec<Op>, kind: Kind) -> Result<Words, Fail>
+        requires fits { ScriptFits [] 2 ops.items }
+        requires ends { HasEnd kind ops.items }
+    {
+        let five = PlainWord {
+            opening: 5,
+            own: None,
+        };
+        let most = PlainWord {
+            opening: u64::MAX,
+            own: None,
+        };
+        let mut plain = Plain::new(vec![in alloc; five, most]?);
+        let script = Script::new(ops);
+        let mut out = Replies::new(alloc, script.as_slice().len())?;
+        interpret(&mut plain, &Regions::none(alloc), &script, kind, &mut out)?;
+        let (replies, _) = out.into_words();
+        Ok(replies)
+    }
+
+    #[test]
+    fn replies_by_kind(rt: HostRuntime) -> Result<(), Fail> {
+        let alloc = rt.alloc();
+        let ops = vec![in alloc; Op::Write(0, 7), Op::Add(1, 2), Op::Cancel, Op::Read(0)]?;
+        let committed = replies(alloc, ops, Kind::W)?;
+        assert_eq!(rt; committed.as_slice(), [7, 1, 0, 7].as_slice());
+        let ops = vec![in alloc; Op::Write(0, 7), Op::Add(1, 2), Op::Cancel, Op::Read(0)]?;
+        let cancelled = replies(alloc, ops, Kind::C)?;
+        assert_eq!(rt; cancelled.as_slice(), [7, 1, 1].as_slice());
+        let read = replies(alloc, vec![in alloc; Op::Read(1), Op::Cancel]?, Kind::R)?;
+        assert_eq!(rt; read.as_slice(), [u64::MAX, 0].as_slice());
+        Ok(())
+    }
+}

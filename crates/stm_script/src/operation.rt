@@ -1,0 +1,90 @@
+//! One operation over any access.
+ghost use Rattle.std.specs.Prelude.{◌≡◌, ◌<◌, ◌^◌, ◌+◌, ◌%◌, slice_index, None, Some, false, IfOk, OnOk, IfErr, length};
+ghost use Rattle.stm_model.specs.Logs.{SameMemories, IsExplained, IsReadStop, Keeps};
+ghost use Rattle.stm_script.specs.Keeping.{OpKeeps};
+ghost use Rattle.stm_script.specs.Operations.{OpFits, is_cancel, OnlyReads, DoesOver, effect_of, stores, replies};
+
+use crate::op::Op;
+use crate::region::Regions;
+use stm_model::access::Access;
+use stm_model::stop::Stop;
+
+/// Runs one operation, any but `cancel`, and answers its reply, which is that of every good memory that
+/// explains the log. Takes no memory beyond what the access takes.
+///
+/// # Errors
+/// The Stop of the access, from then on in `stopped`. Never ClockFull where the operation only reads.
+pub fn run_op<A: Access>(acc: &mut A, regions: &Regions, op: &Op) -> Result<u64, Stop>
+    requires plain { is_cancel op.now ≡ false }
+    requires going { A.stopped acc.old ≡ None }
+    requires within { OpFits regions.now (A.words acc.old) op.now }
+    ensures reply { IfOk result (λ r. DoesOver (A.good acc.old) (A.words acc.old) (effect_of regions.now op.now) (A.log acc.old) r (A.log acc.new)) }
+    ensures range { IfOk result (λ r. r < 2 ^ 64) }
+    ensures explained { OnOk result (IsExplained (A.good acc.new) (A.words acc.new) (A.log acc.new)) }
+    // what the caller owes for a commit stays met where the operation keeps the rule on memories
+    ensures keeps_rule { OnOk result (OpKeeps (A.good acc.old) (A.words acc.old) regions.now op.now → Keeps (A.good acc.old) (A.words acc.old) (A.log acc.old) → Keeps (A.good acc.old) (A.words acc.old) (A.log acc.new)) }
+    ensures goes { OnOk result (A.stopped acc.new ≡ None) }
+    ensures stops { IfErr result (λ s. A.stopped acc.new ≡ Some s) }
+    ensures cause { OnlyReads op.now → IfErr result IsReadStop }
+    ensures good { SameMemories (A.good acc.old) (A.good acc.new) }
+    ensures words { A.words acc.new ≡ A.words acc.old }
+    ensures keeps { A.keeps acc.old acc.new }
+{
+    match *op {
+        Op::Read(a) => read(acc, a),
+        Op::Write(a, v) => write(acc, a, v),
+        Op::Add(a, k) => add(acc, a, k),
+        Op::Cancel => unreachable!(),
+    }
+}
+
+fn read<A: Access>(acc: &mut A, a: usize) -> Result<u64, Stop>
+    requires going { A.stopped acc.old ≡ None }
+    requires within { a < A.words acc.old }
+    ensures reply { IfOk result (λ r. DoesOver (A.good acc.old) (A.words acc.old) (λ m. replies (slice_index m a) m) (A.log acc.old) r (A.log acc.new)) }
+    ensures range { IfOk result (λ r. r < 2 ^ 64) }
+    ensures explained { OnOk result (IsExplained (A.good acc.new) (A.words acc.new) (A.log acc.new)) }
+    ensures goes { OnOk result (A.stopped acc.new ≡ None) }
+    ensures stops { IfErr result (λ s. A.stopped acc.new ≡ Some s) }
+    ensures cause { IfErr result IsReadStop }
+    ensures good { SameMemories (A.good acc.old) (A.good acc.new) }
+    ensures words { A.words acc.new ≡ A.words acc.old }
+    ensures keeps { A.keeps acc.old acc.new }
+{
+    let found = acc.read(a)?;
+    Ok(found)
+}
+
+fn write<A: Access>(acc: &mut A, a: usize, v: u64) -> Result<u64, Stop>
+    requires going { A.stopped acc.old ≡ None }
+    requires within { a < A.words acc.old }
+    ensures reply { IfOk result (λ r. DoesOver (A.good acc.old) (A.words acc.old) (stores a v) (A.log acc.old) r (A.log acc.new)) }
+    ensures range { IfOk result (λ r. r < 2 ^ 64) }
+    ensures explained { OnOk result (IsExplained (A.good acc.new) (A.words acc.new) (A.log acc.new)) }
+    ensures goes { OnOk result (A.stopped acc.new ≡ None) }
+    ensures stops { IfErr result (λ s. A.stopped acc.new ≡ Some s) }
+    ensures good { SameMemories (A.good acc.old) (A.good acc.new) }
+    ensures words { A.words acc.new ≡ A.words acc.old }
+    ensures keeps { A.keeps acc.old acc.new }
+{
+    acc.write(a, v)?;
+    Ok(v)
+}
+
+fn add<A: Access>(acc: &mut A, a: usize, k: u64) -> Result<u64, Stop>
+    requires going { A.stopped acc.old ≡ None }
+    requires within { a < A.words acc.old }
+    ensures reply { IfOk result (λ r. DoesOver (A.good acc.old) (A.words acc.old) (λ m. stores a ((slice_index m a + k) % 2 ^ 64) m) (A.log acc.old) r (A.log acc.new)) }
+    ensures range { IfOk result (λ r. r < 2 ^ 64) }
+    ensures explained { OnOk result (IsExplained (A.good acc.new) (A.words acc.new) (A.log acc.new)) }
+    ensures goes { OnOk result (A.stopped acc.new ≡ None) }
+    ensures stops { IfErr result (λ s. A.stopped acc.new ≡ Some s) }
+    ensures good { SameMemories (A.good acc.old) (A.good acc.new) }
+    ensures words { A.words acc.new ≡ A.words acc.old }
+    ensures keeps { A.keeps acc.old acc.new }
+{
+    let found = acc.read(a)?;
+    let sum = found.wrapping_add(k);
+    acc.write(a, sum)?;
+    Ok(sum)
+}

@@ -1,0 +1,359 @@
+-- What the grammar gives fits.
+use Rattle.std.proofs.Common.{ℕ, ◌≡◌, ◌≢◌, ◌<◌, ◌≤◌, ◌+◌, ◌-◌, ◌*◌, ◌^◌, List, [], ◌∷◌, ◌++◌, Bool, true, false, ◌&&◌, Option, Some, None, Result, Ok, Err, refl, sym, ap, subst, arith, length, length-append}
+use Rattle.std.specs.Prelude.{◌==◌, if◌then◌else◌, leb, ltb, codes, bytes_eq, All}
+use Rattle.std.proofs.lemmas.Bool.Decides.{nat_tests}
+use Rattle.std.proofs.lemmas.List.Elements.{All-nil, All-push}
+use Rattle.stm_model.specs.declared.alg.Alg.TheVariants.{Cgl}
+use Rattle.stm_script.specs.declared.op.Op.{Op}
+use Rattle.stm_script.specs.declared.op.Op.TheVariants.{Read, Write, Add as Sum}
+use Rattle.stm_script.specs.declared.workload.Header.{Header}
+use Rattle.stm_script.specs.declared.workload.Item.TheVariants.{Tx}
+use Rattle.stm_script.specs.declared.workload.Workload.{Workload}
+use Rattle.stm_text.specs.declared.draft.Place.{Place}
+use Rattle.stm_text.specs.declared.draft.Place.TheVariants.{Version, Words, Callers, Records, Ring, Reads, Writes, Clock, Algorithm, Structures, Items, Ops}
+use Rattle.stm_text.specs.declared.draft.Step.{Step}
+use Rattle.stm_text.specs.declared.draft.Step.TheVariants.{Head, Begin, Add, End, Done}
+use Rattle.stm_text.specs.declared.parse.Mode.{Mode}
+use Rattle.stm_text.specs.declared.parse.Mode.TheVariants.{Run, Step as Stepwise}
+use Rattle.stm_text.specs.Lines.{Line, words_of, any_bad, number_from, number_of}
+use Rattle.stm_text.specs.Drafts.{Writing, after, opening}
+use Rattle.stm_text.specs.Grammar.{◌>>=◌, named, formed, ranged, below, number, algorithm, most_callers, sized, header_line, next_line, begun, added, address, operands, one_word, two_words, three_words, filled, by_words, step_of, ended, go_on, parsed}
+use Rattle.stm_text.specs.Built.{HeaderFits, OpFits, ScriptFits, ItemFits, IsBuilt}
+
+-- what an answer gives, where it is Ok
+abbrev pub Gives : {A B : Type 0} → (A → Type 0) → Result A B → Type 0
+Gives P (Ok a) = P a
+Gives P (Err c) = Unit {0}
+
+pub then-gives : {A B : Type 0} (P : A → Type 0) (Q : B → Type 0) (r : Result A ℕ) (next : A → Result B ℕ) → Gives P r → ((a : A) → P a → Gives Q (next a)) → Gives Q (r >>= next)
+then-gives P Q (Ok a) next h g = g a h
+then-gives P Q (Err c) next h g = tt
+
+pub if-gives : {A : Type 0} (P : A → Type 0) (b : Bool) (x : Result A ℕ) (code : ℕ) → (b ≡ true → Gives P x) → Gives P (if b then x else Err code)
+if-gives P true x code h = h refl
+if-gives P false x code h = tt
+
+named-gives : {A : Type 0} (P : A → Type 0) (name w : List ℕ) (rest : Result A ℕ) → Gives P rest → Gives P (named name w rest)
+named-gives P name w rest h = if-gives P (bytes_eq w name) rest 4 (λ _. h)
+
+abbrev pub Fits64 : Option ℕ → Type 0
+Fits64 None = Unit {0}
+Fits64 (Some n) = n < 2 ^ 64
+
+digit-fits : (n b : ℕ) (bs : List ℕ) (d : Bool) → (ltb (n * 10 + (b - 48)) (2 ^ 64) ≡ true → Fits64 (number_from (n * 10 + (b - 48)) bs)) → (x : Bool) → ltb (n * 10 + (b - 48)) (2 ^ 64) ≡ x
+    → Fits64 (if d && x then number_from (n * 10 + (b - 48)) bs else None)
+digit-fits n b bs true h true e = h e
+digit-fits n b bs true h false e = tt
+digit-fits n b bs false h x e = tt
+
+pub number_from-fits : (n : ℕ) (bs : List ℕ) → n < 2 ^ 64 → Fits64 (number_from n bs)
+number_from-fits n [] h = h
+number_from-fits n (b ∷ bs) h =
+    digit-fits n b bs (leb 48 b && leb b 57) (λ e. number_from-fits (n * 10 + (b - 48)) bs (grind (arith, nat_tests))) (ltb (n * 10 + (b - 48)) (2 ^ 64)) refl
+
+zero-fits : (b : Bool) (o : Option ℕ) → Fits64 o → Fits64 (if b then None else o)
+zero-fits true o h = tt
+zero-fits false o h = h
+
+pub number_of-fits : (w : List ℕ) → Fits64 (number_of w)
+number_of-fits [] = tt
+number_of-fits (b ∷ []) = number_from-fits 0 (b ∷ []) (omega arith)
+number_of-fits (b ∷ c ∷ bs) = zero-fits (b == 48) (number_from 0 (b ∷ c ∷ bs)) (number_from-fits 0 (b ∷ c ∷ bs) (omega arith))
+
+pub formed-by : (o : Option ℕ) → Fits64 o → Gives (λ n. n < 2 ^ 64) (formed o)
+formed-by None h = tt
+formed-by (Some n) h = h
+
+formed-fits : (w : List ℕ) → Gives (λ n. n < 2 ^ 64) (formed (number_of w))
+formed-fits w = formed-by (number_of w) (number_of-fits w)
+
+below-fits : (end n : ℕ) → Gives (λ k. k < end) (below end n)
+below-fits end n = if-gives (λ k. k < end) (ltb n end) (Ok n) 6 (λ e. grind (arith, nat_tests))
+
+pub both-true : (x y : Bool) → (x && y) ≡ true → (x ≡ true) × (y ≡ true)
+both-true true y h = (refl, h)
+both-true false y h = cc
+
+ranged-fits : (low high n : ℕ) → Gives (λ k. (low ≤ k) × (k ≤ high)) (ranged low high n)
+ranged-fits low high n = if-gives (λ k. (low ≤ k) × (k ≤ high)) (leb low n && leb n high) (Ok n) 6
+    (λ e. let two = both-true (leb low n) (leb n high) e in (grind (arith, nat_tests), grind (arith, nat_tests)))
+
+sized-fits : (name : List ℕ) (low high : ℕ) (w v : List ℕ) → Gives (λ k. (low ≤ k) × (k ≤ high)) (sized name low high w v)
+sized-fits name low high w v =
+    named-gives (λ k. (low ≤ k) × (k ≤ high)) name w (number low high v)
+    (then-gives (λ n. n < 2 ^ 64) (λ k. (low ≤ k) × (k ≤ high)) (formed (number_of v)) (ranged low high) (formed-fits v) (λ n h. ranged-fits low high n))
+
+header_line-fits : (m : Mode) (p : Place) (h : Header) (w v : List ℕ) → HeaderFits m h → Gives (HeaderFits m) (header_line m p h w v)
+header_line-fits m Version h w v f =
+    named-gives (HeaderFits m) (codes "stm") w (named (codes "1") v (Ok h)) (named-gives (HeaderFits m) (codes "1") v (Ok h) f)
+header_line-fits m Words h w v f =
+    then-gives (λ k. (1 ≤ k) × (k ≤ 65536)) (HeaderFits m) (sized (codes "words") 1 65536 w v) (λ n. Ok (record h { words = n })) (sized-fits (codes "words") 1 65536 w v)
+    (λ n k. record { words = k; callers = f.callers; records = f.records; ring = f.ring; reads = f.reads; writes = f.writes; clock = f.clock; alg = f.alg; structs = f.structs })
+header_line-fits m Callers h w v f =
+    then-gives (λ k. (1 ≤ k) × (k ≤ most_callers m)) (HeaderFits m) (sized (codes "callers") 1 (most_callers m) w v) (λ n. Ok (record h { callers = n })) (sized-fits (codes "callers") 1 (most_callers m) w v)
+    (λ n k. record { words = f.words; callers = k; records = f.records; ring = f.ring; reads = f.reads; writes = f.writes; clock = f.clock; alg = f.alg; structs = f.structs })
+header_line-fits m Records h w v f =
+    then-gives (λ k. (1 ≤ k) × (k ≤ 4096)) (HeaderFits m) (sized (codes "records") 1 4096 w v) (λ n. Ok (record h { records = n })) (sized-fits (codes "records") 1 4096 w v)
+    (λ n k. record { words = f.words; callers = f.callers; records = k; ring = f.ring; reads = f.reads; writes = f.writes; clock = f.clock; alg = f.alg; structs = f.structs })
+header_line-fits m Ring h w v f =
+    then-gives (λ k. (2 ≤ k) × (k ≤ 64)) (HeaderFits m) (sized (codes "ring") 2 64 w v) (λ n. Ok (record h { ring = n })) (sized-fits (codes "ring") 2 64 w v)
+    (λ n k. record { words = f.words; callers = f.callers; records = f.records; ring = k; reads = f.reads; writes = f.writes; clock = f.clock; alg = f.alg; structs = f.structs })
+header_line-fits m Reads h w v f =
+    then-gives (λ k. (1 ≤ k) × (k ≤ 4096)) (HeaderFits m) (sized (codes "reads") 1 4096 w v) (λ n. Ok (record h { reads = n })) (sized-fits (codes "reads") 1 4096 w v)
+    (λ n k. record { words = f.words; callers = f.callers; records = f.records; ring = f.ring; reads = k; writes = f.writes; clock = f.clock; alg = f.alg; structs = f.structs })
+header_line-fits m Writes h w v f =
+    then-gives (λ k. (1 ≤ k) × (k ≤ 4096)) (HeaderFits m) (sized (codes "writes") 1 4096 w v) (λ n. Ok (record h { writes = n })) (sized-fits (codes "writes") 1 4096 w v)
+    (λ n k. record { words = f.words; callers = f.callers; records = f.records; ring = f.ring; reads = f.reads; writes = k; clock = f.clock; alg = f.alg; structs = f.structs })
+header_line-fits m Clock h w v f =
+    then-gives (λ k. (0 ≤ k) × (k ≤ 2 ^ 62)) (HeaderFits m) (sized (codes "clock") 0 (2 ^ 62) w v) (λ n. Ok (record h { clock = n })) (sized-fits (codes "clock") 0 (2 ^ 62) w v)
+    (λ n k. record { words = f.words; callers = f.callers; records = f.records; ring = f.ring; reads = f.reads; writes = f.writes; clock = k.1; alg = f.alg; structs = f.structs })
+header_line-fits m Algorithm h w v f =
+    then-gives (λ a. a ≡ Cgl) (HeaderFits m) (named (codes "alg") w (algorithm v)) (λ a. Ok (record h { alg = a }))
+    (named-gives (λ a. a ≡ Cgl) (codes "alg") w (algorithm v) (if-gives (λ a. a ≡ Cgl) (bytes_eq v (codes "CGL")) (Ok Cgl) 7 (λ _. refl)))
+    (λ a k. record { words = f.words; callers = f.callers; records = f.records; ring = f.ring; reads = f.reads; writes = f.writes; clock = f.clock; alg = k; structs = f.structs })
+header_line-fits m Structures h w v f =
+    named-gives (HeaderFits m) (codes "structs") w (named (codes "off") v (Ok (record h { structs = false })))
+    (named-gives (HeaderFits m) (codes "off") v (Ok (record h { structs = false }))
+    (record { words = f.words; callers = f.callers; records = f.records; ring = f.ring; reads = f.reads; writes = f.writes; clock = f.clock; alg = f.alg; structs = refl }))
+header_line-fits m Items h w v f = tt
+header_line-fits m Ops h w v f = tt
+
+-- what stands at a place
+abbrev pub At : Place → Writing → Type 0
+At Items d = d.ops ≡ []
+At Ops d = (length d.items < 65536) × (d.caller < d.header.callers)
+At p d = (d.items ≡ []) × (d.ops ≡ [])
+
+-- what is read so far fits
+pub record Sound (m : Mode) (d : Writing) : Type 0 where
+  pub header : HeaderFits m d.header
+  pub count : length d.items ≤ 65536
+  pub items : All (ItemFits d.header) d.items
+  pub ops : ScriptFits d.header.words d.ops
+  pub here : At d.place d
+
+none-fit : (words : ℕ) → ScriptFits words []
+none-fit words = record { count = omega arith; each = All-nil (OpFits words) }
+
+head-by : (q : Place) (d : Writing) → (d.items ≡ []) → (d.ops ≡ []) → q ≢ Ops → At q d
+head-by Items d i o n = o
+head-by Ops d i o n = absurd (n refl)
+head-by Version d i o n = (i, o)
+head-by Words d i o n = (i, o)
+head-by Callers d i o n = (i, o)
+head-by Records d i o n = (i, o)
+head-by Ring d i o n = (i, o)
+head-by Reads d i o n = (i, o)
+head-by Writes d i o n = (i, o)
+head-by Clock d i o n = (i, o)
+head-by Algorithm d i o n = (i, o)
+head-by Structures d i o n = (i, o)
+
+next-by : (p : Place) → next_line p ≢ Ops
+next-by Version e = cc
+next-by Words e = cc
+next-by Callers e = cc
+next-by Records e = cc
+next-by Ring e = cc
+next-by Reads e = cc
+next-by Writes e = cc
+next-by Clock e = cc
+next-by Algorithm e = cc
+next-by Structures e = cc
+next-by Items e = cc
+next-by Ops e = cc
+
+head-sound : (m : Mode) (d : Writing) (p : Place) (h : Header) → (d.items ≡ []) → (d.ops ≡ []) → HeaderFits m h → Sound m (after (Head (next_line p) h) d)
+head-sound m d p h i o f = record {
+  header = f;
+  count = omega (arith, ap length i);
+  items = subst (All (ItemFits h)) (sym i) (All-nil (ItemFits h));
+  ops = subst (ScriptFits h.words) (sym o) (none-fit h.words);
+  here = head-by (next_line p) (record d { place = next_line p; header = h }) i o (next-by p);
+}
+
+-- a step leaves what fits
+abbrev pub Leaves : Mode → Writing → Step → Type 0
+Leaves m d step = Sound m (after step d)
+
+begun-sound : (m : Mode) (d : Writing) (c : ℕ) → Sound m d → c < d.header.callers → Gives (Leaves m d) (begun d c)
+begun-sound m d c s lt = if-gives (Leaves m d) (ltb (length d.items) 65536) (Ok (Begin c)) 10
+    (λ e. let room : length d.items < 65536 = grind (arith, nat_tests) in
+    record { header = s.header; count = s.count; items = s.items; ops = s.ops; here = (room, lt) })
+
+added-sound : (m : Mode) (d : Writing) (op : Op) → Sound m d → At Ops d → d.place ≡ Ops → OpFits d.header.words op → Gives (Leaves m d) (added d op)
+added-sound m d op s at p fits = if-gives (Leaves m d) (ltb (length d.ops) 4096) (Ok (Add op)) 10
+    (λ e. let room : length d.ops < 4096 = grind (arith, nat_tests) in
+    let more : Writing = record d { ops = d.ops ++ op ∷ [] } in
+    record {
+      header = s.header;
+      count = s.count;
+      items = s.items;
+      ops = record { count = omega (arith, length-append d.ops (op ∷ [])); each = All-push (OpFits d.header.words) d.ops op s.ops.each fits };
+      here = subst (λ q. At q more) (sym p) at;
+    })
+
+ended-sound : (m : Mode) (d : Writing) → Sound m d → At Ops d → Sound m (after End d)
+ended-sound m d s at = record {
+  header = s.header;
+  count = let room = at.0 in omega (arith, length-append d.items (Tx d.caller d.ops ∷ []));
+  items = All-push (ItemFits d.header) d.items (Tx d.caller d.ops) s.items (at.1, s.ops);
+  ops = none-fit d.header.words;
+  here = refl;
+}
+
+address-fits : (d : Writing) (a : List ℕ) → Gives (λ k. k < d.header.words) (address d a)
+address-fits d a =
+    then-gives (λ n. n < 2 ^ 64) (λ k. k < d.header.words) (formed (number_of a)) (below d.header.words) (formed-fits a) (λ n h. below-fits d.header.words n)
+
+operands-fit : (d : Writing) (a v : List ℕ) → Gives (λ p. (p.0 < d.header.words) × (p.1 < 2 ^ 64)) (operands d a v)
+operands-fit d a v =
+    let P : ℕ × ℕ → Type 0 = λ p. (p.0 < d.header.words) × (p.1 < 2 ^ 64) in
+    then-gives (λ n. n < 2 ^ 64) P (formed (number_of a)) (λ i. formed (number_of v) >>= λ n. below d.header.words i >>= λ j. Ok (j, n)) (formed-fits a)
+    (λ i h. then-gives (λ n. n < 2 ^ 64) P (formed (number_of v)) (λ n. below d.header.words i >>= λ j. Ok (j, n)) (formed-fits v)
+    (λ n k. then-gives (λ j. j < d.header.words) P (below d.header.words i) (λ j. Ok (j, n)) (below-fits d.header.words i) (λ j l. (l, k))))
+
+one-sound : (m : Mode) (d : Writing) (p : Place) (w : List ℕ) → Sound m d → At p d → Gives (Leaves m d) (one_word p w)
+one-sound m d Items w s at = named-gives (Leaves m d) (codes "done") w (Ok Done) s
+one-sound m d Ops w s at = named-gives (Leaves m d) (codes "end") w (Ok End) (ended-sound m d s at)
+one-sound m d Version w s at = tt
+one-sound m d Words w s at = tt
+one-sound m d Callers w s at = tt
+one-sound m d Records w s at = tt
+one-sound m d Ring w s at = tt
+one-sound m d Reads w s at = tt
+one-sound m d Writes w s at = tt
+one-sound m d Clock w s at = tt
+one-sound m d Algorithm w s at = tt
+one-sound m d Structures w s at = tt
+
+heads-sound : (m : Mode) (d : Writing) (p : Place) (w v : List ℕ) → Sound m d → (d.items ≡ []) × (d.ops ≡ [])
+    → Gives (Leaves m d) (header_line m p d.header w v >>= λ h. Ok (Head (next_line p) h))
+heads-sound m d p w v s at =
+    then-gives (HeaderFits m) (Leaves m d) (header_line m p d.header w v) (λ h. Ok (Head (next_line p) h)) (header_line-fits m p d.header w v s.header)
+    (λ h f. head-sound m d p h at.0 at.1 f)
+
+two-sound : (m : Mode) (d : Writing) (p : Place) (w v : List ℕ) → Sound m d → At p d → d.place ≡ p → Gives (Leaves m d) (two_words p m d w v)
+two-sound m d Items w v s at e =
+    let P : ℕ → Type 0 = λ c. c < d.header.callers in
+    let callers : Result ℕ ℕ = formed (number_of v) >>= below d.header.callers in
+    named-gives (Leaves m d) (codes "tx") w (callers >>= begun d)
+    (then-gives P (Leaves m d) callers (begun d)
+    (then-gives (λ n. n < 2 ^ 64) P (formed (number_of v)) (below d.header.callers) (formed-fits v) (λ n h. below-fits d.header.callers n))
+    (λ c lt. begun-sound m d c s lt))
+two-sound m d Ops w v s at e =
+    named-gives (Leaves m d) (codes "read") w (address d v >>= λ a. added d (Read a))
+    (then-gives (λ a. a < d.header.words) (Leaves m d) (address d v) (λ a. added d (Read a)) (address-fits d v) (λ a lt. added-sound m d (Read a) s at e lt))
+two-sound m d Version w v s at e = heads-sound m d Version w v s at
+two-sound m d Words w v s at e = heads-sound m d Words w v s at
+two-sound m d Callers w v s at e = heads-sound m d Callers w v s at
+two-sound m d Records w v s at e = heads-sound m d Records w v s at
+two-sound m d Ring w v s at e = heads-sound m d Ring w v s at
+two-sound m d Reads w v s at e = heads-sound m d Reads w v s at
+two-sound m d Writes w v s at e = heads-sound m d Writes w v s at
+two-sound m d Clock w v s at e = heads-sound m d Clock w v s at
+two-sound m d Algorithm w v s at e = heads-sound m d Algorithm w v s at
+two-sound m d Structures w v s at e = heads-sound m d Structures w v s at
+
+pub if-both : {A : Type 0} (P : A → Type 0) (b : Bool) (x y : Result A ℕ) → Gives P x → Gives P y → Gives P (if b then x else y)
+if-both P true x y h g = h
+if-both P false x y h g = g
+
+three-sound : (m : Mode) (d : Writing) (p : Place) (w a v : List ℕ) → Sound m d → At p d → d.place ≡ p → Gives (Leaves m d) (three_words p d w a v)
+three-sound m d Ops w a v s at e =
+    let P : ℕ × ℕ → Type 0 = λ p. (p.0 < d.header.words) × (p.1 < 2 ^ 64) in
+    let writes : Result Step ℕ = operands d a v >>= λ p. added d (Write p.0 p.1) in
+    let adds : Result Step ℕ = operands d a v >>= λ p. added d (Sum p.0 p.1) in
+    if-both (Leaves m d) (bytes_eq w (codes "write")) writes (named (codes "add") w adds)
+    (then-gives P (Leaves m d) (operands d a v) (λ p. added d (Write p.0 p.1)) (operands-fit d a v) (λ p h. added-sound m d (Write p.0 p.1) s at e h))
+    (named-gives (Leaves m d) (codes "add") w adds
+    (then-gives P (Leaves m d) (operands d a v) (λ p. added d (Sum p.0 p.1)) (operands-fit d a v) (λ p h. added-sound m d (Sum p.0 p.1) s at e h)))
+three-sound m d Items w a v s at e = tt
+three-sound m d Version w a v s at e = tt
+three-sound m d Words w a v s at e = tt
+three-sound m d Callers w a v s at e = tt
+three-sound m d Records w a v s at e = tt
+three-sound m d Ring w a v s at e = tt
+three-sound m d Reads w a v s at e = tt
+three-sound m d Writes w a v s at e = tt
+three-sound m d Clock w a v s at e = tt
+three-sound m d Algorithm w a v s at e = tt
+three-sound m d Structures w a v s at e = tt
+
+pub filled-gives : (P : Step → Type 0) (w : List ℕ) (rest : Result Step ℕ) → Gives P rest → Gives P (filled w rest)
+filled-gives P [] rest h = tt
+filled-gives P (b ∷ bs) rest h = h
+
+words-sound : (m : Mode) (d : Writing) (ws : List (List ℕ)) → Sound m d → Gives (Leaves m d) (by_words m d ws)
+words-sound m d [] s = tt
+words-sound m d (w ∷ []) s = one-sound m d d.place w s s.here
+words-sound m d (w ∷ v ∷ []) s =
+    filled-gives (Leaves m d) v (two_words d.place m d w v) (two-sound m d d.place w v s s.here refl)
+words-sound m d (w ∷ a ∷ v ∷ []) s =
+    filled-gives (Leaves m d) a (filled v (three_words d.place d w a v))
+    (filled-gives (Leaves m d) v (three_words d.place d w a v) (three-sound m d d.place w a v s s.here refl))
+words-sound m d (w ∷ a ∷ v ∷ x ∷ ws) s = tt
+
+pub step-sound : (m : Mode) (d : Writing) (l : Line) → Sound m d → Gives (Leaves m d) (step_of m d l)
+step-sound m d l s =
+    let words : Result Step ℕ = by_words m d (words_of l.bytes) in
+    if-both (Leaves m d) (any_bad l.bytes) (Err 2) (if l.ended then words else Err 3) tt
+    (if-both (Leaves m d) l.ended words (Err 3) (words-sound m d (words_of l.bytes) s) tt)
+
+ended-built : (m : Mode) (d : Writing) (k : ℕ) (ls : List Line) → Sound m d → Gives (IsBuilt m) (ended d k ls)
+ended-built m d k [] s = record { header = s.header; count = s.count; items = s.items; schedule = refl }
+ended-built m d k (l ∷ ls) s = tt
+
+go_on-built : (m : Mode) (d : Writing) (k : ℕ) (ls : List Line) (r : Result Step ℕ) (rest : Writing → Result Workload (ℕ × ℕ)) → Gives (Leaves m d) r → Sound m d → ((e : Writing) → Sound m e → Gives (IsBuilt m) (rest e))
+    → Gives (IsBuilt m) (go_on r d k ls rest)
+go_on-built m d k ls (Err c) rest h s g = tt
+go_on-built m d k ls (Ok Done) rest h s g = ended-built m d (k + 1) ls s
+go_on-built m d k ls (Ok (Head p x)) rest h s g = g (after (Head p x) d) h
+go_on-built m d k ls (Ok (Begin c)) rest h s g = g (after (Begin c) d) h
+go_on-built m d k ls (Ok (Add op)) rest h s g = g (after (Add op) d) h
+go_on-built m d k ls (Ok End) rest h s g = g (after End d) h
+
+parsed-built : (m : Mode) (d : Writing) (k : ℕ) (ls : List Line) → Sound m d → Gives (IsBuilt m) (parsed m d k ls)
+parsed-built m d k [] s = tt
+parsed-built m d k (l ∷ ls) s =
+    go_on-built m d k ls (step_of m d l) (λ e. parsed m e (k + 1) ls) (step-sound m d l s) s (λ e t. parsed-built m e (k + 1) ls t)
+
+pub opening-sound : (m : Mode) → Sound m opening
+opening-sound Run = record {
+  header = record {
+    words = (omega arith, omega arith);
+    callers = (omega arith, omega arith);
+    records = (omega arith, omega arith);
+    ring = (omega arith, omega arith);
+    reads = (omega arith, omega arith);
+    writes = (omega arith, omega arith);
+    clock = omega arith;
+    alg = refl;
+    structs = refl;
+  };
+  count = omega arith;
+  items = All-nil (ItemFits opening.header);
+  ops = none-fit 1;
+  here = (refl, refl);
+}
+opening-sound Stepwise = record {
+  header = record {
+    words = (omega arith, omega arith);
+    callers = (omega arith, omega arith);
+    records = (omega arith, omega arith);
+    ring = (omega arith, omega arith);
+    reads = (omega arith, omega arith);
+    writes = (omega arith, omega arith);
+    clock = omega arith;
+    alg = refl;
+    structs = refl;
+  };
+  count = omega arith;
+  items = All-nil (ItemFits opening.header);
+  ops = none-fit 1;
+  here = (refl, refl);
+}
+
+-- a workload of lines from the start on fits
+pub lines-built : (m : Mode) (ls : List Line) → Gives (IsBuilt m) (parsed m opening 1 ls)
+lines-built m ls = parsed-built m opening 1 ls (opening-sound m)

@@ -1,0 +1,461 @@
+-- A text that is read as a workload is that workload's text.
+use Rattle.std.proofs.Common.{ℕ, ◌≡◌, ◌≢◌, ◌<◌, ◌+◌, ◌-◌, ◌*◌, ◌^◌, List, [], ◌∷◌, ◌++◌, Bool, true, false, ◌&&◌, Option, Some, None, Result, Ok, Err, refl, sym, ap, ◌∙◌, subst, arith, rules, length, take, get_or, append_assoc, append-nil}
+use Rattle.std.specs.Prelude.{◌==◌, if◌then◌else◌, leb, ltb, codes, map, bytes_eq}
+use Rattle.std.specs.Fmt.{decimal}
+use Rattle.std.proofs.lemmas.Fmt.{decimal-digits_value}
+use Rattle.std.proofs.lemmas.Str.Parse.{IsNumeralModel, IsDigitsTest, FoldsDigits, numerals_by_fold}
+use Rattle.std.proofs.lemmas.Bool.Decides.{nat_tests}
+use Rattle.std.proofs.lemmas.Slice.Eq.{bytes_eq-Decides}
+use Rattle.stm_model.specs.declared.alg.Alg.{Alg}
+use Rattle.stm_model.specs.declared.alg.Alg.TheVariants.{Cgl}
+use Rattle.stm_script.specs.declared.op.Op.{Op}
+use Rattle.stm_script.specs.declared.op.Op.TheVariants.{Read, Write, Add as Sum}
+use Rattle.stm_script.specs.declared.workload.Header.{Header}
+use Rattle.stm_script.specs.declared.workload.Item.{Item}
+use Rattle.stm_script.specs.declared.workload.Item.TheVariants.{Tx}
+use Rattle.stm_script.specs.declared.workload.Workload.{Workload}
+use Rattle.stm_text.specs.declared.draft.Place.{Place}
+use Rattle.stm_text.specs.declared.draft.Place.TheVariants.{Version, Words, Callers, Records, Ring, Reads, Writes, Clock, Algorithm, Structures, Items, Ops}
+use Rattle.stm_text.specs.declared.draft.Step.{Step}
+use Rattle.stm_text.specs.declared.draft.Step.TheVariants.{Head, Begin, Add, End, Done}
+use Rattle.stm_text.specs.declared.parse.Mode.{Mode}
+use Rattle.stm_text.specs.Lines.{Line, with_byte, lines_of, with_letter, words_of, any_bad, number_from, number_of}
+use Rattle.stm_text.specs.Drafts.{Writing, after, opening}
+use Rattle.stm_text.specs.Grammar.{◌>>=◌, named, formed, ranged, below, number, algorithm, most_callers, sized, header_line, next_line, begun, added, address, operands, one_word, two_words, three_words, filled, by_words, step_of, ended, go_on, parsed, workload_of}
+use Rattle.stm_text.specs.Texts.{joined, line, name_of, op_words, item_lines, items_lines, header_lines, workload_lines, lines_text, text_of}
+use Rattle.stm_text.proofs.LineLaws.{words_of-some}
+use Rattle.stm_text.proofs.Decimals.{IsDigit, Digits}
+use Rattle.stm_text.proofs.BuiltLaws.{Gives, then-gives, if-gives, if-both, filled-gives, Fits64, number_from-fits, At, Sound, Leaves, step-sound, opening-sound}
+
+-- words and lines, put together again
+
+joined-letter : (b : ℕ) (w : List ℕ) (ws : List (List ℕ)) → joined ((b ∷ w) ∷ ws) ≡ b ∷ joined (w ∷ ws)
+joined-letter b w [] = refl
+joined-letter b w (v ∷ ws) = refl
+
+same-byte : (b c : ℕ) → (b == c) ≡ true → b ≡ c
+same-byte b c e = grind (arith, nat_tests)
+
+joined-by : (b : ℕ) (bs w : List ℕ) (ws : List (List ℕ)) (t : Bool) → (t ≡ true → b ≡ 32) → words_of bs ≡ w ∷ ws → joined (words_of bs) ≡ bs → joined (if t then [] ∷ words_of bs else with_letter b (words_of bs)) ≡ b ∷ bs
+joined-by b bs w ws true space is whole =
+    let e = space refl in
+    ap (λ x. joined ([] ∷ x)) is ∙ (ap (λ x. 32 ∷ joined x) (sym is) ∙ (ap (λ x. 32 ∷ x) whole ∙ ap (λ x. x ∷ bs) (sym e)))
+joined-by b bs w ws false space is whole =
+    ap (λ x. joined (with_letter b x)) is ∙ (joined-letter b w ws ∙ (ap (λ x. b ∷ joined x) (sym is) ∙ ap (λ x. b ∷ x) whole))
+
+joined-words_of : (bs : List ℕ) → joined (words_of bs) ≡ bs
+joined-words_of [] = refl
+joined-words_of (b ∷ bs) =
+    let some = words_of-some bs in joined-by b bs some.0 some.1 (b == 32) (same-byte b 32) some.2 (joined-words_of bs)
+
+abbrev end_of : Bool → List ℕ
+end_of true = 10 ∷ []
+end_of false = []
+
+abbrev unlines : List Line → List ℕ
+unlines [] = []
+unlines (l ∷ ls) = l.bytes ++ (end_of l.ended ++ unlines ls)
+
+unlines-byte : (b : ℕ) (ls : List Line) → unlines (with_byte b ls) ≡ b ∷ unlines ls
+unlines-byte b [] = refl
+unlines-byte b (l ∷ ls) = refl
+
+unlines-by : (b : ℕ) (bs : List ℕ) (t : Bool) → (t ≡ true → b ≡ 10) → unlines (lines_of bs) ≡ bs → unlines (if t then record { bytes = []; ended = true } ∷ lines_of bs else with_byte b (lines_of bs)) ≡ b ∷ bs
+unlines-by b bs true end whole = let e = end refl in ap (λ x. 10 ∷ x) whole ∙ ap (λ x. x ∷ bs) (sym e)
+unlines-by b bs false end whole = unlines-byte b (lines_of bs) ∙ ap (λ x. b ∷ x) whole
+
+unlines-lines_of : (bs : List ℕ) → unlines (lines_of bs) ≡ bs
+unlines-lines_of [] = refl
+unlines-lines_of (b ∷ bs) = unlines-by b bs (b == 10) (same-byte b 10) (unlines-lines_of bs)
+
+abbrev made : List (List ℕ) → Line
+made ws = record { bytes = joined ws; ended = true }
+
+unlines-made : (lines : List (List (List ℕ))) → unlines (map made lines) ≡ lines_text lines
+unlines-made [] = refl
+unlines-made (ws ∷ lines) =
+    sym (append_assoc (joined ws) (10 ∷ []) (unlines (map made lines))) ∙ ap (λ t. line ws ++ t) (unlines-made lines)
+
+-- a number's only text
+
+abbrev value : ℕ → List ℕ → ℕ
+value n [] = n
+value n (b ∷ bs) = value (n * 10 + (b - 48)) bs
+
+tells : IsDigitsTest Digits
+tells = search rules
+
+folds : FoldsDigits value
+folds = search rules
+
+own : IsNumeralModel Digits (value 0)
+own = numerals_by_fold Digits tells value folds
+
+says-by : (n b k : ℕ) (bs : List ℕ) (low high fits : Bool) → (low ≡ true → high ≡ true → IsDigit b) → (number_from (n * 10 + (b - 48)) bs ≡ Some k → Digits bs × (value (n * 10 + (b - 48)) bs ≡ k))
+    → (if low && high && fits then number_from (n * 10 + (b - 48)) bs else None) ≡ Some k → Digits (b ∷ bs) × (value n (b ∷ bs) ≡ k)
+says-by n b k bs true true true digit rest is = let r = rest is in ((digit refl refl, r.0), r.1)
+says-by n b k bs true true false digit rest is = cc
+says-by n b k bs true false fits digit rest is = cc
+says-by n b k bs false high fits digit rest is = cc
+
+number_from-says : (n k : ℕ) (bs : List ℕ) → number_from n bs ≡ Some k → Digits bs × (value n bs ≡ k)
+number_from-says n k [] is = (tt, cc)
+number_from-says n k (b ∷ bs) is =
+    says-by n b k bs (leb 48 b) (leb b 57) (ltb (n * 10 + (b - 48)) (2 ^ 64))
+    (λ p q. (grind (arith, nat_tests), grind (arith, nat_tests)))
+    (number_from-says (n * 10 + (b - 48)) k bs) is
+
+fits-by : (n : ℕ) (o : Option ℕ) → Fits64 o → o ≡ Some n → n < 2 ^ 64
+fits-by n o h is = subst Fits64 is h
+
+decimal-by : (n : ℕ) (bs : List ℕ) → 0 < length bs → (get_or bs 0 0 ≡ 48 → length bs ≡ 1) → number_from 0 bs ≡ Some n → bs ≡ decimal n
+decimal-by n bs some zeros is =
+    let says = number_from-says 0 n bs is in
+    let fits = fits-by n (number_from 0 bs) (number_from-fits 0 bs (omega arith)) is in
+    let value-is = says.1 in
+    sym (decimal-digits_value own bs says.0 some zeros (omega arith)) ∙ ap decimal says.1
+
+no-zero-by : (b : ℕ) (o : Option ℕ) (n : ℕ) (t : Bool) → (b == 48) ≡ t → (if t then None else o) ≡ Some n → (o ≡ Some n) × (b ≢ 48)
+no-zero-by b o n true e is = cc
+no-zero-by b o n false e is = (is, λ z. grind (arith, nat_tests))
+
+number_of-says : (n : ℕ) (w : List ℕ) → number_of w ≡ Some n → w ≡ decimal n
+number_of-says n [] is = cc
+number_of-says n (b ∷ []) is = decimal-by n (b ∷ []) (omega arith) (λ z. refl) is
+number_of-says n (b ∷ c ∷ bs) is =
+    let two = no-zero-by b (number_from 0 (b ∷ c ∷ bs)) n (b == 48) refl is in
+    decimal-by n (b ∷ c ∷ bs) (omega arith) (λ z. absurd (two.1 z)) two.0
+
+-- what an answer says of the words
+
+formed-says-by : (w : List ℕ) (o : Option ℕ) → ((n : ℕ) → o ≡ Some n → w ≡ decimal n) → Gives (λ n. w ≡ decimal n) (formed o)
+formed-says-by w None h = tt
+formed-says-by w (Some n) h = h n refl
+
+formed-says : (w : List ℕ) → Gives (λ n. w ≡ decimal n) (formed (number_of w))
+formed-says w = formed-says-by w (number_of w) (λ n is. number_of-says n w is)
+
+named-says : {A : Type 0} (P : A → Type 0) (name w : List ℕ) (rest : Result A ℕ) → (w ≡ name → Gives P rest) → Gives P (named name w rest)
+named-says P name w rest h = if-gives P (bytes_eq w name) rest 4 (λ e. h ((bytes_eq-Decides w name).0 e))
+
+below-says : (end n : ℕ) (w : List ℕ) → w ≡ decimal n → Gives (λ k. w ≡ decimal k) (below end n)
+below-says end n w is = if-gives (λ k. w ≡ decimal k) (ltb n end) (Ok n) 6 (λ e. is)
+
+ranged-says : (low high n : ℕ) (w : List ℕ) → w ≡ decimal n → Gives (λ k. w ≡ decimal k) (ranged low high n)
+ranged-says low high n w is = if-gives (λ k. w ≡ decimal k) (leb low n && leb n high) (Ok n) 6 (λ e. is)
+
+abbrev Names : List ℕ → List ℕ → List ℕ → ℕ → Type 0
+Names name w v n = (w ≡ name) × (v ≡ decimal n)
+
+sized-says : (name : List ℕ) (low high : ℕ) (w v : List ℕ) → Gives (Names name w v) (sized name low high w v)
+sized-says name low high w v = named-says (Names name w v) name w (number low high v)
+    (λ is. then-gives (λ n. v ≡ decimal n) (Names name w v) (formed (number_of v)) (ranged low high) (formed-says v)
+    (λ n h. gives-with (λ k. v ≡ decimal k) (Names name w v) (ranged low high n) (ranged-says low high n v h) (λ k g. (is, g))))
+  where
+    gives-with : {A : Type 0} (P Q : A → Type 0) (r : Result A ℕ) → Gives P r → ((a : A) → P a → Q a) → Gives Q r
+    gives-with P Q (Ok a) h g = g a h
+    gives-with P Q (Err c) h g = tt
+
+-- the lines so far
+
+abbrev rank : Place → ℕ
+rank Version = 0
+rank Words = 1
+rank Callers = 2
+rank Records = 3
+rank Ring = 4
+rank Reads = 5
+rank Writes = 6
+rank Clock = 7
+rank Algorithm = 8
+rank Structures = 9
+rank Items = 10
+rank Ops = 10
+
+abbrev head_so_far : Place → Header → List (List (List ℕ))
+head_so_far p h = take (rank p) (header_lines h)
+
+abbrev open_lines : Place → Writing → List (List (List ℕ))
+open_lines Ops d = (codes "tx" ∷ decimal d.caller ∷ []) ∷ map op_words d.ops
+open_lines p d = []
+
+abbrev written_at : Place → Writing → List (List (List ℕ))
+written_at p d = head_so_far p d.header ++ (items_lines d.items ++ open_lines p d)
+
+-- a line of the header is the next one
+abbrev HeadGrows : Place → Header → List ℕ → List ℕ → Header → Type 0
+HeadGrows p h w v g = head_so_far (next_line p) g ≡ head_so_far p h ++ (w ∷ v ∷ []) ∷ []
+
+two-same : (xs : List (List (List ℕ))) (a b w v : List ℕ) → w ≡ a → v ≡ b → xs ++ (a ∷ b ∷ []) ∷ [] ≡ xs ++ (w ∷ v ∷ []) ∷ []
+two-same xs a b w v p q = ap (λ x. xs ++ (x ∷ b ∷ []) ∷ []) (sym p) ∙ ap (λ x. xs ++ (w ∷ x ∷ []) ∷ []) (sym q)
+
+number-grows : (p : Place) (h : Header) (name : List ℕ) (low high : ℕ) (w v : List ℕ) (set : ℕ → Header) → ((n : ℕ) → head_so_far (next_line p) (set n) ≡ head_so_far p h ++ (name ∷ decimal n ∷ []) ∷ [])
+    → Gives (HeadGrows p h w v) (sized name low high w v >>= λ n. Ok (set n))
+number-grows p h name low high w v set next =
+    then-gives (Names name w v) (HeadGrows p h w v) (sized name low high w v) (λ n. Ok (set n)) (sized-says name low high w v)
+    (λ n is. next n ∙ two-same (head_so_far p h) name (decimal n) w v is.0 is.1)
+
+header_line-grows : (m : Mode) (p : Place) (h : Header) (w v : List ℕ) → Gives (HeadGrows p h w v) (header_line m p h w v)
+header_line-grows m Version h w v =
+    named-says (HeadGrows Version h w v) (codes "stm") w (named (codes "1") v (Ok h))
+    (λ a. named-says (HeadGrows Version h w v) (codes "1") v (Ok h) (λ b. two-same [] (codes "stm") (codes "1") w v a b))
+header_line-grows m Words h w v = number-grows Words h (codes "words") 1 65536 w v (λ n. record h { words = n }) (λ n. refl)
+header_line-grows m Callers h w v = number-grows Callers h (codes "callers") 1 (most_callers m) w v (λ n. record h { callers = n }) (λ n. refl)
+header_line-grows m Records h w v = number-grows Records h (codes "records") 1 4096 w v (λ n. record h { records = n }) (λ n. refl)
+header_line-grows m Ring h w v = number-grows Ring h (codes "ring") 2 64 w v (λ n. record h { ring = n }) (λ n. refl)
+header_line-grows m Reads h w v = number-grows Reads h (codes "reads") 1 4096 w v (λ n. record h { reads = n }) (λ n. refl)
+header_line-grows m Writes h w v = number-grows Writes h (codes "writes") 1 4096 w v (λ n. record h { writes = n }) (λ n. refl)
+header_line-grows m Clock h w v = number-grows Clock h (codes "clock") 0 (2 ^ 62) w v (λ n. record h { clock = n }) (λ n. refl)
+header_line-grows m Algorithm h w v =
+    let Says : Alg → Type 0 = λ a. (w ≡ codes "alg") × (v ≡ name_of a) in
+    then-gives Says (HeadGrows Algorithm h w v) (named (codes "alg") w (algorithm v)) (λ a. Ok (record h { alg = a }))
+    (named-says Says (codes "alg") w (algorithm v) (λ a. if-gives Says (bytes_eq v (codes "CGL")) (Ok Cgl) 7 (λ e. (a, (bytes_eq-Decides v (codes "CGL")).0 e))))
+    (λ a is. two-same (head_so_far Algorithm h) (codes "alg") (name_of a) w v is.0 is.1)
+header_line-grows m Structures h w v =
+    let off : Header = record h { structs = false } in
+    named-says (HeadGrows Structures h w v) (codes "structs") w (named (codes "off") v (Ok off))
+    (λ a. named-says (HeadGrows Structures h w v) (codes "off") v (Ok off) (λ b. two-same (head_so_far Structures h) (codes "structs") (codes "off") w v a b))
+header_line-grows m Items h w v = tt
+header_line-grows m Ops h w v = tt
+
+map-append : {A B : Type 0} (f : A → B) (xs ys : List A) → map f (xs ++ ys) ≡ map f xs ++ map f ys
+map-append f [] ys = refl
+map-append f (x ∷ xs) ys = ap (λ t. f x ∷ t) (map-append f xs ys)
+
+items_lines-append : (is js : List Item) → items_lines (is ++ js) ≡ items_lines is ++ items_lines js
+items_lines-append [] js = refl
+items_lines-append (i ∷ is) js =
+    ap (λ t. item_lines i ++ t) (items_lines-append is js) ∙ sym (append_assoc (item_lines i) (items_lines is) (items_lines js))
+
+-- what stands after a line is what stood before it, and the line
+abbrev Grows : Place → Writing → List (List ℕ) → Step → Type 0
+Grows p d ws (Head q h) = written_at q (after (Head q h) d) ≡ written_at p d ++ ws ∷ []
+Grows p d ws (Begin c) = written_at Ops (after (Begin c) d) ≡ written_at p d ++ ws ∷ []
+Grows p d ws (Add op) = (d.place ≡ Ops) × (written_at Ops (after (Add op) d) ≡ written_at p d ++ ws ∷ [])
+Grows p d ws End = written_at Items (after End d) ≡ written_at p d ++ ws ∷ []
+Grows p d ws Done = (d.place ≡ Items) × (ws ≡ (codes "done" ∷ []))
+
+none-between : (a b x : List (List (List ℕ))) (items : List Item) → items ≡ [] → a ≡ b ++ x → a ++ (items_lines items ++ []) ≡ (b ++ (items_lines items ++ [])) ++ x
+none-between a b x items none is =
+    subst (λ i. a ++ (items_lines i ++ []) ≡ (b ++ (items_lines i ++ [])) ++ x) (sym none) (append-nil a ∙ (is ∙ ap (λ t. t ++ x) (sym (append-nil b))))
+
+begin-grows : (a b x : List (List (List ℕ))) (ops : List Op) → ops ≡ [] → a ++ (b ++ (x ++ map op_words ops)) ≡ (a ++ (b ++ [])) ++ x
+begin-grows a b x ops none =
+    subst (λ o. a ++ (b ++ (x ++ map op_words o)) ≡ (a ++ (b ++ [])) ++ x) (sym none)
+    (ap (λ t. a ++ (b ++ t)) (append-nil x) ∙ (sym (append_assoc a b x) ∙ ap (λ t. (a ++ t) ++ x) (sym (append-nil b))))
+
+snoc-grows : (a b c x : List (List (List ℕ))) → a ++ (b ++ (c ++ x)) ≡ (a ++ (b ++ c)) ++ x
+snoc-grows a b c x = simp append_assoc
+
+add-grows : (d : Writing) (op : Op) → written_at Ops (after (Add op) d) ≡ written_at Ops d ++ op_words op ∷ []
+add-grows d op =
+    ap (λ t. head_so_far Ops d.header ++ (items_lines d.items ++ ((codes "tx" ∷ decimal d.caller ∷ []) ∷ t))) (map-append op_words d.ops (op ∷ []))
+    ∙ snoc-grows (head_so_far Ops d.header) (items_lines d.items) (open_lines Ops d) (op_words op ∷ [])
+
+end-regroup : (a i t o e : List (List (List ℕ))) → a ++ ((i ++ ((t ++ (o ++ e)) ++ [])) ++ []) ≡ (a ++ (i ++ (t ++ o))) ++ e
+end-regroup a i t o e = simp (append_assoc, append-nil)
+
+end-grows : (d : Writing) → written_at Items (after End d) ≡ written_at Ops d ++ (codes "end" ∷ []) ∷ []
+end-grows d =
+    ap (λ t. head_so_far Items d.header ++ (t ++ [])) (items_lines-append d.items (Tx d.caller d.ops ∷ []))
+    ∙ end-regroup (head_so_far Items d.header) (items_lines d.items) ((codes "tx" ∷ decimal d.caller ∷ []) ∷ []) (map op_words d.ops) ((codes "end" ∷ []) ∷ [])
+
+one-line : (xs : List (List (List ℕ))) (a w : List ℕ) → w ≡ a → xs ++ (a ∷ []) ∷ [] ≡ xs ++ (w ∷ []) ∷ []
+one-line xs a w p = ap (λ x. xs ++ (x ∷ []) ∷ []) (sym p)
+
+three-same : (xs : List (List (List ℕ))) (a b c w v x : List ℕ) → w ≡ a → v ≡ b → x ≡ c → xs ++ (a ∷ b ∷ c ∷ []) ∷ [] ≡ xs ++ (w ∷ v ∷ x ∷ []) ∷ []
+three-same xs a b c w v x p q r =
+    ap (λ y. xs ++ (y ∷ b ∷ c ∷ []) ∷ []) (sym p) ∙ (ap (λ y. xs ++ (w ∷ y ∷ c ∷ []) ∷ []) (sym q) ∙ ap (λ y. xs ++ (w ∷ v ∷ y ∷ []) ∷ []) (sym r))
+
+one-grows : (d : Writing) (p : Place) (w : List ℕ) → d.place ≡ p → Gives (Grows p d (w ∷ [])) (one_word p w)
+one-grows d Items w e = named-says (Grows Items d (w ∷ [])) (codes "done") w (Ok Done) (λ is. (e, ap (λ x. x ∷ []) is))
+one-grows d Ops w e = named-says (Grows Ops d (w ∷ [])) (codes "end") w (Ok End) (λ is. end-grows d ∙ one-line (written_at Ops d) (codes "end") w is)
+one-grows d Version w e = tt
+one-grows d Words w e = tt
+one-grows d Callers w e = tt
+one-grows d Records w e = tt
+one-grows d Ring w e = tt
+one-grows d Reads w e = tt
+one-grows d Writes w e = tt
+one-grows d Clock w e = tt
+one-grows d Algorithm w e = tt
+one-grows d Structures w e = tt
+
+added-grows : (d : Writing) (ws : List (List ℕ)) (op : Op) → d.place ≡ Ops → written_at Ops d ++ op_words op ∷ [] ≡ written_at Ops d ++ ws ∷ [] → Gives (Grows Ops d ws) (added d op)
+added-grows d ws op e same = if-gives (Grows Ops d ws) (ltb (length d.ops) 4096) (Ok (Add op)) 10 (λ _. (e, add-grows d op ∙ same))
+
+address-says : (d : Writing) (a : List ℕ) → Gives (λ k. a ≡ decimal k) (address d a)
+address-says d a =
+    then-gives (λ n. a ≡ decimal n) (λ k. a ≡ decimal k) (formed (number_of a)) (below d.header.words) (formed-says a) (λ n is. below-says d.header.words n a is)
+
+operands-say : (d : Writing) (a v : List ℕ) → Gives (λ p. (a ≡ decimal p.0) × (v ≡ decimal p.1)) (operands d a v)
+operands-say d a v =
+    let P : ℕ × ℕ → Type 0 = λ p. (a ≡ decimal p.0) × (v ≡ decimal p.1) in
+    then-gives (λ n. a ≡ decimal n) P (formed (number_of a)) (λ i. formed (number_of v) >>= λ n. below d.header.words i >>= λ j. Ok (j, n)) (formed-says a)
+    (λ i h. then-gives (λ n. v ≡ decimal n) P (formed (number_of v)) (λ n. below d.header.words i >>= λ j. Ok (j, n)) (formed-says v)
+    (λ n k. then-gives (λ j. a ≡ decimal j) P (below d.header.words i) (λ j. Ok (j, n)) (below-says d.header.words i a h) (λ j l. (l, k))))
+
+heads-grow : (m : Mode) (d : Writing) (p : Place) (w v : List ℕ) → d.items ≡ [] → open_lines p d ≡ []
+    → ((h : Header) → open_lines (next_line p) (after (Head (next_line p) h) d) ≡ [])
+    → Gives (Grows p d (w ∷ v ∷ [])) (header_line m p d.header w v >>= λ h. Ok (Head (next_line p) h))
+heads-grow m d p w v none here opens =
+    then-gives (HeadGrows p d.header w v) (Grows p d (w ∷ v ∷ [])) (header_line m p d.header w v) (λ h. Ok (Head (next_line p) h)) (header_line-grows m p d.header w v)
+    (λ h is.
+    ap (λ t. head_so_far (next_line p) h ++ (items_lines d.items ++ t)) (opens h)
+    ∙ (none-between (head_so_far (next_line p) h) (head_so_far p d.header) ((w ∷ v ∷ []) ∷ []) d.items none is
+    ∙ ap (λ t. (head_so_far p d.header ++ (items_lines d.items ++ t)) ++ (w ∷ v ∷ []) ∷ []) (sym here)))
+
+two-grows : (m : Mode) (d : Writing) (p : Place) (w v : List ℕ) → At p d → d.place ≡ p → Gives (Grows p d (w ∷ v ∷ [])) (two_words p m d w v)
+two-grows m d Items w v at e =
+    let P : ℕ → Type 0 = λ c. v ≡ decimal c in
+    let callers : Result ℕ ℕ = formed (number_of v) >>= below d.header.callers in
+    named-says (Grows Items d (w ∷ v ∷ [])) (codes "tx") w (callers >>= begun d)
+    (λ name. then-gives P (Grows Items d (w ∷ v ∷ [])) callers (begun d)
+    (then-gives P P (formed (number_of v)) (below d.header.callers) (formed-says v) (λ n is. below-says d.header.callers n v is))
+    (λ c is. if-gives (Grows Items d (w ∷ v ∷ [])) (ltb (length d.items) 65536) (Ok (Begin c)) 10
+    (λ _. begin-grows (head_so_far Items d.header) (items_lines d.items) ((codes "tx" ∷ decimal c ∷ []) ∷ []) d.ops at
+    ∙ two-same (written_at Items d) (codes "tx") (decimal c) w v name is)))
+two-grows m d Ops w v at e =
+    named-says (Grows Ops d (w ∷ v ∷ [])) (codes "read") w (address d v >>= λ a. added d (Read a))
+    (λ name. then-gives (λ a. v ≡ decimal a) (Grows Ops d (w ∷ v ∷ [])) (address d v) (λ a. added d (Read a)) (address-says d v)
+    (λ a is. added-grows d (w ∷ v ∷ []) (Read a) e (two-same (written_at Ops d) (codes "read") (decimal a) w v name is)))
+two-grows m d Version w v at e = heads-grow m d Version w v at.0 refl (λ h. refl)
+two-grows m d Words w v at e = heads-grow m d Words w v at.0 refl (λ h. refl)
+two-grows m d Callers w v at e = heads-grow m d Callers w v at.0 refl (λ h. refl)
+two-grows m d Records w v at e = heads-grow m d Records w v at.0 refl (λ h. refl)
+two-grows m d Ring w v at e = heads-grow m d Ring w v at.0 refl (λ h. refl)
+two-grows m d Reads w v at e = heads-grow m d Reads w v at.0 refl (λ h. refl)
+two-grows m d Writes w v at e = heads-grow m d Writes w v at.0 refl (λ h. refl)
+two-grows m d Clock w v at e = heads-grow m d Clock w v at.0 refl (λ h. refl)
+two-grows m d Algorithm w v at e = heads-grow m d Algorithm w v at.0 refl (λ h. refl)
+two-grows m d Structures w v at e = heads-grow m d Structures w v at.0 refl (λ h. refl)
+
+if-else-says : (P : Step → Type 0) (name w : List ℕ) (x y : Result Step ℕ) → (w ≡ name → Gives P x) → Gives P y → Gives P (if bytes_eq w name then x else y)
+if-else-says P name w x y h g = by (bytes_eq w name) (λ e. h ((bytes_eq-Decides w name).0 e))
+  where
+    by : (b : Bool) → (b ≡ true → Gives P x) → Gives P (if b then x else y)
+    by true f = f refl
+    by false f = g
+
+three-grows : (d : Writing) (p : Place) (w a v : List ℕ) → d.place ≡ p → Gives (Grows p d (w ∷ a ∷ v ∷ [])) (three_words p d w a v)
+three-grows d Ops w a v e =
+    let ws : List (List ℕ) = w ∷ a ∷ v ∷ [] in
+    let P : ℕ × ℕ → Type 0 = λ p. (a ≡ decimal p.0) × (v ≡ decimal p.1) in
+    let writes : Result Step ℕ = operands d a v >>= λ p. added d (Write p.0 p.1) in
+    let adds : Result Step ℕ = operands d a v >>= λ p. added d (Sum p.0 p.1) in
+    if-else-says (Grows Ops d ws) (codes "write") w writes (named (codes "add") w adds)
+    (λ name. then-gives P (Grows Ops d ws) (operands d a v) (λ p. added d (Write p.0 p.1)) (operands-say d a v)
+    (λ p is. added-grows d ws (Write p.0 p.1) e (three-same (written_at Ops d) (codes "write") (decimal p.0) (decimal p.1) w a v name is.0 is.1)))
+    (named-says (Grows Ops d ws) (codes "add") w adds
+    (λ name. then-gives P (Grows Ops d ws) (operands d a v) (λ p. added d (Sum p.0 p.1)) (operands-say d a v)
+    (λ p is. added-grows d ws (Sum p.0 p.1) e (three-same (written_at Ops d) (codes "add") (decimal p.0) (decimal p.1) w a v name is.0 is.1))))
+three-grows d Items w a v e = tt
+three-grows d Version w a v e = tt
+three-grows d Words w a v e = tt
+three-grows d Callers w a v e = tt
+three-grows d Records w a v e = tt
+three-grows d Ring w a v e = tt
+three-grows d Reads w a v e = tt
+three-grows d Writes w a v e = tt
+three-grows d Clock w a v e = tt
+three-grows d Algorithm w a v e = tt
+three-grows d Structures w a v e = tt
+
+words-grow : (m : Mode) (d : Writing) (ws : List (List ℕ)) → At d.place d → Gives (Grows d.place d ws) (by_words m d ws)
+words-grow m d [] at = tt
+words-grow m d (w ∷ []) at = one-grows d d.place w refl
+words-grow m d (w ∷ v ∷ []) at =
+    filled-gives (Grows d.place d (w ∷ v ∷ [])) v (two_words d.place m d w v) (two-grows m d d.place w v at refl)
+words-grow m d (w ∷ a ∷ v ∷ []) at =
+    let P : Step → Type 0 = Grows d.place d (w ∷ a ∷ v ∷ []) in
+    filled-gives P a (filled v (three_words d.place d w a v)) (filled-gives P v (three_words d.place d w a v) (three-grows d d.place w a v refl))
+words-grow m d (w ∷ a ∷ v ∷ x ∷ ws) at = tt
+
+-- a line that makes a step has an LF
+abbrev Ends : Line → Writing → Step → Type 0
+Ends l d step = (l.ended ≡ true) × Grows d.place d (words_of l.bytes) step
+
+step-grows : (m : Mode) (d : Writing) (l : Line) → At d.place d → Gives (Ends l d) (step_of m d l)
+step-grows m d l at =
+    let words : Result Step ℕ = by_words m d (words_of l.bytes) in
+    if-both (Ends l d) (any_bad l.bytes) (Err 2) (if l.ended then words else Err 3) tt
+    (if-gives (Ends l d) l.ended words 3 (λ e. ended-gives words e (words-grow m d (words_of l.bytes) at)))
+  where
+    ended-gives : (r : Result Step ℕ) → l.ended ≡ true → Gives (Grows d.place d (words_of l.bytes)) r → Gives (Ends l d) r
+    ended-gives (Ok step) e h = (e, h)
+    ended-gives (Err c) e h = tt
+
+line-made : (l : Line) → l.ended ≡ true → l ≡ made (words_of l.bytes)
+line-made l e =
+    ap (λ x. let k : Line = record { bytes = l.bytes; ended = x } in k) e ∙ ap (λ x. let k : Line = record { bytes = x; ended = true } in k) (sym (joined-words_of l.bytes))
+
+-- the lines so far and those to come are the workload's
+abbrev IsWhole : List (List (List ℕ)) → List Line → Workload → Type 0
+IsWhole before ls w = map made before ++ ls ≡ map made (workload_lines w)
+
+whole-step : (before after' : List (List (List ℕ))) (l : Line) (ls : List Line) (w : Workload) → l.ended ≡ true → after' ≡ before ++ words_of l.bytes ∷ [] → IsWhole after' ls w → IsWhole before (l ∷ ls) w
+whole-step before after' l ls w e grows whole =
+    ap (λ x. map made before ++ x ∷ ls) (line-made l e)
+    ∙ (sym (append_assoc (map made before) (made (words_of l.bytes) ∷ []) ls)
+    ∙ (ap (λ t. t ++ ls) (sym (map-append made before (words_of l.bytes ∷ []))) ∙ (ap (λ t. map made t ++ ls) (sym grows) ∙ whole)))
+
+done-regroup : (h i x : List (List (List ℕ))) → (h ++ (i ++ [])) ++ x ≡ h ++ (i ++ x)
+done-regroup h i x = simp (append_assoc, append-nil)
+
+ended-whole : (d : Writing) (k : ℕ) (l : Line) (ls : List Line) → Ends l d Done → Gives (IsWhole (written_at d.place d) (l ∷ ls)) (ended d k ls)
+ended-whole d k l [] h =
+    let place = h.1.0 in
+    let w : Workload = record { header = d.header; items = d.items; schedule = [] } in
+    let end : IsWhole (written_at Items d ++ words_of l.bytes ∷ []) [] w =
+    append-nil (map made (written_at Items d ++ words_of l.bytes ∷ []))
+    ∙ (ap (λ x. map made (written_at Items d ++ x ∷ [])) h.1.1
+    ∙ ap (map made) (done-regroup (header_lines d.header) (items_lines d.items) ((codes "done" ∷ []) ∷ []))) in
+    subst (λ p. IsWhole (written_at p d) (l ∷ []) w) (sym place) (whole-step (written_at Items d) (written_at Items d ++ words_of l.bytes ∷ []) l [] w h.0 refl end)
+ended-whole d k l (x ∷ ls) h = tt
+
+gives-with : {A B : Type 0} (P Q : A → Type 0) (r : Result A B) → Gives P r → ((a : A) → P a → Q a) → Gives Q r
+gives-with P Q (Ok a) h g = g a h
+gives-with P Q (Err c) h g = tt
+
+go_on-whole : (m : Mode) (d : Writing) (k : ℕ) (l : Line) (ls : List Line) (r : Result Step ℕ) (rest : Writing → Result Workload (ℕ × ℕ)) → Gives (Leaves m d) r → Gives (Ends l d) r
+    → ((e : Writing) → Sound m e → Gives (IsWhole (written_at e.place e) ls) (rest e))
+    → Gives (IsWhole (written_at d.place d) (l ∷ ls)) (go_on r d k ls rest)
+go_on-whole m d k l ls (Err c) rest s h g = tt
+go_on-whole m d k l ls (Ok Done) rest s h g = ended-whole d (k + 1) l ls h
+go_on-whole m d k l ls (Ok (Head q x)) rest s h g =
+    let e : Writing = after (Head q x) d in
+    gives-with (IsWhole (written_at q e) ls) (IsWhole (written_at d.place d) (l ∷ ls)) (rest e) (g e s) (λ w whole. whole-step (written_at d.place d) (written_at q e) l ls w h.0 h.1 whole)
+go_on-whole m d k l ls (Ok (Begin c)) rest s h g =
+    let e : Writing = after (Begin c) d in
+    gives-with (IsWhole (written_at Ops e) ls) (IsWhole (written_at d.place d) (l ∷ ls)) (rest e) (g e s) (λ w whole. whole-step (written_at d.place d) (written_at Ops e) l ls w h.0 h.1 whole)
+go_on-whole m d k l ls (Ok (Add op)) rest s h g =
+    let e : Writing = after (Add op) d in
+    let place = h.1.0 in
+    let grows : written_at d.place e ≡ written_at d.place d ++ words_of l.bytes ∷ [] = ap (λ p. written_at p e) place ∙ h.1.1 in
+    gives-with (IsWhole (written_at d.place e) ls) (IsWhole (written_at d.place d) (l ∷ ls)) (rest e) (g e s) (λ w whole. whole-step (written_at d.place d) (written_at d.place e) l ls w h.0 grows whole)
+go_on-whole m d k l ls (Ok End) rest s h g =
+    let e : Writing = after End d in
+    gives-with (IsWhole (written_at Items e) ls) (IsWhole (written_at d.place d) (l ∷ ls)) (rest e) (g e s) (λ w whole. whole-step (written_at d.place d) (written_at Items e) l ls w h.0 h.1 whole)
+
+parsed-whole : (m : Mode) (d : Writing) (k : ℕ) (ls : List Line) → Sound m d → Gives (IsWhole (written_at d.place d) ls) (parsed m d k ls)
+parsed-whole m d k [] s = tt
+parsed-whole m d k (l ∷ ls) s =
+    go_on-whole m d k l ls (step_of m d l) (λ e. parsed m e (k + 1) ls) (step-sound m d l s) (step-grows m d l s.here) (λ e t. parsed-whole m e (k + 1) ls t)
+
+text-whole : (m : Mode) (text : List ℕ) → Gives (λ w. text ≡ text_of w) (parsed m opening 1 (lines_of text))
+text-whole m text =
+    gives-with (IsWhole [] (lines_of text)) (λ w. text ≡ text_of w) (parsed m opening 1 (lines_of text)) (parsed-whole m opening 1 (lines_of text) (opening-sound m))
+    (λ w whole. sym (unlines-lines_of text) ∙ (ap unlines whole ∙ unlines-made (workload_lines w)))
+
+given : {A B : Type 0} (P : A → Type 0) (r : Result A B) (a : A) → Gives P r → r ≡ Ok a → P a
+given P r a h is = subst (Gives P) is h
+
+-- a text that is read as a workload is that workload's text
+pub one-text : (m : Mode) (text : List ℕ) (w : Workload) → workload_of m text ≡ Ok w → text ≡ text_of w
+one-text m text w is =
+    given (λ x. text ≡ text_of x) (workload_of m text) w
+    (by (ltb 16777216 (length text)) (parsed m opening 1 (lines_of text)) (text-whole m text)) is
+  where
+    by : (b : Bool) (r : Result Workload (ℕ × ℕ)) → Gives (λ x. text ≡ text_of x) r → Gives (λ x. text ≡ text_of x) (if b then Err (0, 1) else r)
+    by true r h = tt
+    by false r h = h

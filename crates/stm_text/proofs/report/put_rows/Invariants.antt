@@ -1,0 +1,6 @@
+use Rattle.std.proofs.Common.{◌≡◌, ◌++◌, drop, string_bytes}
+use Rattle.stm_text.specs.Reports.{row_lines}
+use Rattle.stm_text.proofs.report.put_rows.Given as goal
+
+abbrev pub invariant-loop-row : goal.invariant-loop-row
+invariant-loop-row l = string_bytes l.text ++ row_lines (drop l.row-index l.rows) ≡ string_bytes l.initial.text ++ row_lines l.rows

@@ -1,0 +1,168 @@
+-- The workload text: what may stand on a line, and the first fault.
+use Rattle.std.specs.Prelude.{MatchResult, ℕ, ◌≡◌, ◌+◌, ◌^◌, false, ◌&&◌, List, [], ◌∷◌, length, leb, ltb, if◌then◌else◌, Option, Some, None, Result, Ok, Err, codes, bytes_eq}
+use Rattle.stm_model.specs.declared.alg.Alg.{Alg}
+use Rattle.stm_model.specs.declared.alg.Alg.TheVariants.{Cgl}
+use Rattle.stm_script.specs.declared.op.Op.{Op}
+use Rattle.stm_script.specs.declared.op.Op.TheVariants.{Read, Write, Add as Sum}
+use Rattle.stm_script.specs.declared.workload.Header.{Header}
+use Rattle.stm_script.specs.declared.workload.Workload.{Workload}
+use Rattle.stm_text.specs.declared.code.TheConstants.{LONG, BYTES, UNENDED, WORD, NUMBER, RANGE, ALG, MANY, EXTRA}
+use Rattle.stm_text.specs.declared.draft.Place.{Place}
+use Rattle.stm_text.specs.declared.draft.Place.TheVariants.{Version, Words, Callers, Records, Ring, Reads, Writes, Clock, Algorithm, Structures, Items, Ops}
+use Rattle.stm_text.specs.declared.draft.Step.{Step}
+use Rattle.stm_text.specs.declared.draft.Step.TheVariants.{Head, Begin, Add, End, Done}
+use Rattle.stm_text.specs.declared.parse.Mode.{Mode}
+use Rattle.stm_text.specs.declared.parse.Mode.TheVariants.{Run, Step as Stepwise}
+use Rattle.stm_text.specs.declared.parse.ParseError.{ParseError}
+use Rattle.stm_text.specs.declared.parse.ParseError.TheVariants.{Fault, Memory}
+use Rattle.stm_text.specs.Lines.{Line, lines_of, words_of, any_bad, number_of}
+use Rattle.stm_text.specs.Drafts.{Writing, after, opening}
+
+-- A table's answer is Ok, or Err of the lowest code.
+
+-- what an answer leads to, where it is Ok
+infixl 10 ◌>>=◌
+abbrev pub ◌>>=◌ : {A B : Type 0} → Result A ℕ → (A → Result B ℕ) → Result B ℕ
+Ok x >>= next = next x
+Err code >>= next = Err code
+
+-- what follows a word where it is the one named
+abbrev pub named : {A : Type 0} → List ℕ → List ℕ → Result A ℕ → Result A ℕ
+named name word rest = if bytes_eq word name then rest else Err WORD
+
+-- a number of the form
+abbrev pub formed : Option ℕ → Result ℕ ℕ
+formed None = Err NUMBER
+formed (Some n) = Ok n
+
+-- a number from low to high
+abbrev pub ranged : ℕ → ℕ → ℕ → Result ℕ ℕ
+ranged low high n = if leb low n && leb n high then Ok n else Err RANGE
+
+-- a number below an end
+abbrev pub below : ℕ → ℕ → Result ℕ ℕ
+below end n = if ltb n end then Ok n else Err RANGE
+
+-- a word that is a number from low to high
+abbrev pub number : ℕ → ℕ → List ℕ → Result ℕ ℕ
+number low high word = formed (number_of word) >>= ranged low high
+
+-- the algorithms that are built
+abbrev pub algorithm : List ℕ → Result Alg ℕ
+algorithm word = if bytes_eq word (codes "CGL") then Ok Cgl else Err ALG
+
+-- how many callers a command takes at most
+abbrev pub most_callers : Mode → ℕ
+most_callers Run = 1
+most_callers Stepwise = 32
+
+-- a line that gives a number its name and its range
+abbrev pub sized : List ℕ → ℕ → ℕ → List ℕ → List ℕ → Result ℕ ℕ
+sized name low high w v = named name w (number low high v)
+
+-- THE HEADER, line by line: what a name and a value make of it
+abbrev pub header_line : Mode → Place → Header → List ℕ → List ℕ → Result Header ℕ
+header_line m Version h w v = named (codes "stm") w (named (codes "1") v (Ok h))
+header_line m Words h w v = sized (codes "words") 1 65536 w v >>= λ n. Ok (record h { words = n })
+header_line m Callers h w v = sized (codes "callers") 1 (most_callers m) w v >>= λ n. Ok (record h { callers = n })
+header_line m Records h w v = sized (codes "records") 1 4096 w v >>= λ n. Ok (record h { records = n })
+header_line m Ring h w v = sized (codes "ring") 2 64 w v >>= λ n. Ok (record h { ring = n })
+header_line m Reads h w v = sized (codes "reads") 1 4096 w v >>= λ n. Ok (record h { reads = n })
+header_line m Writes h w v = sized (codes "writes") 1 4096 w v >>= λ n. Ok (record h { writes = n })
+header_line m Clock h w v = sized (codes "clock") 0 (2 ^ 62) w v >>= λ n. Ok (record h { clock = n })
+header_line m Algorithm h w v = named (codes "alg") w (algorithm v) >>= λ a. Ok (record h { alg = a })
+header_line m Structures h w v = named (codes "structs") w (named (codes "off") v (Ok (record h { structs = false })))
+header_line m p h w v = Err WORD
+
+-- the line that follows one of the header
+abbrev pub next_line : Place → Place
+next_line Version = Words
+next_line Words = Callers
+next_line Callers = Records
+next_line Records = Ring
+next_line Ring = Reads
+next_line Reads = Writes
+next_line Writes = Clock
+next_line Clock = Algorithm
+next_line Algorithm = Structures
+next_line p = Items
+
+-- one more item
+abbrev pub begun : Writing → ℕ → Result Step ℕ
+begun d caller = if ltb (length d.items) 65536 then Ok (Begin caller) else Err MANY
+
+-- one more operation
+abbrev pub added : Writing → Op → Result Step ℕ
+added d op = if ltb (length d.ops) 4096 then Ok (Add op) else Err MANY
+
+-- an address
+abbrev pub address : Writing → List ℕ → Result ℕ ℕ
+address d a = formed (number_of a) >>= below d.header.words
+
+-- an address and a value, both of the form before the address is in range
+abbrev pub operands : Writing → List ℕ → List ℕ → Result (ℕ × ℕ) ℕ
+operands d a v = formed (number_of a) >>= λ i. formed (number_of v) >>= λ n. below d.header.words i >>= λ j. Ok (j, n)
+
+-- LINES OF ONE WORD
+abbrev pub one_word : Place → List ℕ → Result Step ℕ
+one_word Items w = named (codes "done") w (Ok Done)
+one_word Ops w = named (codes "end") w (Ok End)
+one_word p w = Err WORD
+
+-- LINES OF TWO WORDS
+abbrev pub two_words : Place → Mode → Writing → List ℕ → List ℕ → Result Step ℕ
+two_words Items m d w v = named (codes "tx") w (formed (number_of v) >>= below d.header.callers >>= begun d)
+two_words Ops m d w v = named (codes "read") w (address d v >>= λ a. added d (Read a))
+two_words p m d w v = header_line m p d.header w v >>= λ h. Ok (Head (next_line p) h)
+
+-- LINES OF THREE WORDS
+abbrev pub three_words : Place → Writing → List ℕ → List ℕ → List ℕ → Result Step ℕ
+three_words Ops d w a v =
+    if bytes_eq w (codes "write") then operands d a v >>= (λ p. added d (Write p.0 p.1))
+    else named (codes "add") w (operands d a v >>= λ p. added d (Sum p.0 p.1))
+three_words p d w a v = Err WORD
+
+-- what a line leads to where this word of it isn't empty: a space too many makes an empty word
+abbrev pub filled : List ℕ → Result Step ℕ → Result Step ℕ
+filled [] rest = Err WORD
+filled (b ∷ bs) rest = rest
+
+-- a line by its words
+abbrev pub by_words : Mode → Writing → List (List ℕ) → Result Step ℕ
+by_words m d (w ∷ []) = one_word d.place w
+by_words m d (w ∷ v ∷ []) = filled v (two_words d.place m d w v)
+by_words m d (w ∷ a ∷ v ∷ []) = filled a (filled v (three_words d.place d w a v))
+by_words m d ws = Err WORD
+
+-- THE TABLE: what a line does after those before it, or its lowest code
+abbrev pub step_of : Mode → Writing → Line → Result Step ℕ
+step_of m d l = if any_bad l.bytes then Err BYTES else (if l.ended then by_words m d (words_of l.bytes) else Err UNENDED)
+
+-- the workload, where no line follows `done`
+abbrev pub ended : Writing → ℕ → List Line → Result Workload (ℕ × ℕ)
+ended d k [] = Ok (record { header = d.header; items = d.items; schedule = [] })
+ended d k (l ∷ ls) = Err (k, EXTRA)
+
+-- what comes of a line with the number k and the lines that follow it
+abbrev pub go_on : Result Step ℕ → Writing → ℕ → List Line → (Writing → Result Workload (ℕ × ℕ)) → Result Workload (ℕ × ℕ)
+go_on (Err code) d k ls rest = Err (k, code)
+go_on (Ok Done) d k ls rest = ended d (k + 1) ls
+go_on (Ok step) d k ls rest = rest (after step d)
+
+-- the workload of the lines from the number k on, or the first line at fault and its lowest code
+abbrev pub parsed : Mode → Writing → ℕ → List Line → Result Workload (ℕ × ℕ)
+parsed m d k [] = Err (k, UNENDED)
+parsed m d k (l ∷ ls) = go_on (step_of m d l) d k ls (λ e. parsed m e (k + 1) ls)
+
+-- the workload of a text, or the line and the code of its first fault
+abbrev pub workload_of : Mode → List ℕ → Result Workload (ℕ × ℕ)
+workload_of m text = if ltb 16777216 (length text) then Err (0, LONG) else parsed m opening 1 (lines_of text)
+
+-- an error names the first fault; want of memory is free
+abbrev pub IsFirstFault : ParseError → Result Workload (ℕ × ℕ) → Type 0
+IsFirstFault (Fault line code) w = w ≡ Err (line, code)
+IsFirstFault Memory w = Unit {0}
+
+-- what was read is the workload, or names the first fault
+abbrev pub Answers : Result Workload ParseError → Result Workload (ℕ × ℕ) → Type 0
+Answers r w = MatchResult r (λ read. w ≡ Ok read) (λ e. IsFirstFault e w)

@@ -1,0 +1,20 @@
+//! The codes of faults in a workload text. Where a line has several, the lowest counts.
+
+/// The text is longer than 16,777,216 bytes. On line 0, before all others.
+pub const LONG: u32 = 1;
+/// The line has a byte outside 32 to 126.
+pub const BYTES: u32 = 2;
+/// The line has no LF; or the text ends before `done`, on the line after the last.
+pub const UNENDED: u32 = 3;
+/// A word that isn't allowed here; or too many or too few words or spaces.
+pub const WORD: u32 = 4;
+/// A number that isn't of the form: decimal, without sign and leading zeros, below 2^64.
+pub const NUMBER: u32 = 5;
+/// A number out of its range.
+pub const RANGE: u32 = 6;
+/// No such algorithm, or one that isn't built.
+pub const ALG: u32 = 7;
+/// The 65,537th item, or the 4,097th operation of a transaction.
+pub const MANY: u32 = 10;
+/// A byte after the `done` line: on the line after it, before all others of that line.
+pub const EXTRA: u32 = 11;

@@ -1,0 +1,176 @@
+//! A workload as far as it is read.
+ghost use Rattle.std.specs.Prelude.{◌≡◌, OnOk, []};
+ghost use Rattle.stm_text.specs.Drafts.{after, opening};
+ghost use Rattle.stm_text.specs.Grammar.{begun, added};
+
+use crate::code;
+use std::alloc::{AllocError, Global};
+use std::marker::Model;
+use std::mem;
+use stm_model::alg::Alg;
+use stm_script::lists::Script;
+use stm_script::op::Op;
+use stm_script::workload::{Gos, Header, Item, Items, Workload};
+
+/// The line that comes next.
+#[derive(Clone, Copy, Drop)]
+pub enum Place {
+    Version,
+    Words,
+    Callers,
+    Records,
+    Ring,
+    Reads,
+    Writes,
+    Clock,
+    Algorithm,
+    Structures,
+    /// `tx` or `done`.
+    Items,
+    /// An operation or `end`.
+    Ops,
+}
+
+/// What a line does.
+#[derive(Clone, Copy, Drop)]
+pub enum Step {
+    /// A line of the header: the line that comes next, and the header then.
+    Head(Place, Header),
+    /// `tx` of this caller.
+    Begin(usize),
+    Add(Op),
+    End,
+    Done,
+}
+
+/// A workload as far as it is read, with the transaction that is open.
+#[derive(Drop)]
+pub struct Draft {
+    place: Place,
+    header: Header,
+    items: Vec<Item>,
+    caller: usize,
+    ops: Vec<Op>,
+}
+
+impl Model for Draft {
+    ghost use Rattle.stm_text.specs.Drafts.{Writing};
+
+    ghost Value = { Writing };
+
+    ghost view = { λ d. record { place = d.place; header = d.header; items = d.items.items; caller = d.caller; ops = d.ops.items } };
+}
+
+/// Items of a workload, at most.
+const MOST_ITEMS: usize = 65536;
+/// Operations of a transaction, at most.
+const MOST_OPS: usize = 4096;
+
+impl Draft {
+    /// Before the first line.
+    pub fn new(alloc: Global) -> Draft
+        ensures { result ≡ opening }
+    {
+        Draft {
+            place: Place::Version,
+            header: Header {
+                words: 1,
+                records: 1,
+                ring: 2,
+                callers: 1,
+                reads: 1,
+                writes: 1,
+                clock: 0,
+                alg: Alg::Cgl,
+                structs: false,
+            },
+            items: Vec::new(alloc),
+            caller: 0,
+            ops: Vec::new(alloc),
+        }
+    }
+
+    pub fn place(&self) -> Place
+        ensures { result ≡ self.now.place }
+    {
+        self.place
+    }
+
+    pub fn header(&self) -> Header
+        ensures { result ≡ self.now.header }
+    {
+        self.header
+    }
+
+    /// One more item, where it isn't one too many.
+    pub fn begun(&self, caller: usize) -> Result<Step, u32>
+        ensures { result ≡ begun self.now caller }
+    {
+        if self.items.len() < MOST_ITEMS {
+            Ok(Step::Begin(caller))
+        } else {
+            Err(code::MANY)
+        }
+    }
+
+    /// One more operation, where it isn't one too many.
+    pub fn added(&self, op: Op) -> Result<Step, u32>
+        ensures { result ≡ added self.now op }
+    {
+        if self.ops.len() < MOST_OPS {
+            Ok(Step::Add(op))
+        } else {
+            Err(code::MANY)
+        }
+    }
+
+    /// Goes on past a line. Memory may be refused.
+    pub fn take(&mut self, alloc: Global, step: Step) -> Result<(), AllocError>
+        ensures { OnOk result (self.new ≡ after step self.old) }
+    {
+        match step {
+            Step::Head(place, header) => {
+                self.place = place;
+                self.header = header;
+                Ok(())
+            }
+            Step::Begin(caller) => {
+                self.place = Place::Ops;
+                self.caller = caller;
+                Ok(())
+            }
+            Step::Add(op) => {
+                self.ops.push(op)?;
+                Ok(())
+            }
+            Step::End => {
+                let script = Script::new(mem::replace(&mut self.ops, Vec::new(alloc)));
+                self.items.push(Item::Tx {
+                    caller: self.caller,
+                    script,
+                })?;
+                self.place = Place::Items;
+                Ok(())
+            }
+            Step::Done => Ok(()),
+        }
+    }
+
+    /// The workload that is read.
+    pub fn into_workload(self, alloc: Global) -> Workload
+        ensures { result ≡ record { header = self.header; items = self.items; schedule = [] } }
+    {
+        let Draft {
+            place: _,
+            header,
+            items,
+            caller: _,
+            ops: _,
+        } = self;
+        Workload {
+            header,
+            items: Items::new(items),
+            schedule: Gos::new(Vec::new(alloc)),
+        }
+    }
+}

@@ -1,0 +1,114 @@
+//! Workloads, read from their text.
+ghost use Rattle.std.specs.Prelude.{◌≡◌, ◌≤◌, length, if◌then◌else◌, IfOk, IfErr, Ok};
+ghost use Rattle.stm_text.specs.Grammar.{workload_of, parsed, ended, IsFirstFault, Answers};
+ghost use Rattle.stm_text.specs.Drafts.{opening};
+ghost use Rattle.stm_text.specs.Lines.{lines_of, any_bad};
+ghost use Rattle.stm_text.specs.declared.code.TheConstants.{BYTES, UNENDED};
+ghost use Rattle.stm_text.specs.Built.{IsBuilt};
+
+use crate::draft::{Draft, Step};
+use crate::table::step_of;
+use crate::{code, lines};
+use std::alloc::{AllocError, Global};
+use stm_script::workload::Workload;
+use thiserror::Error;
+
+/// The command that a workload is for.
+#[derive(Clone, Copy, Drop, Debug, PartialEq, Eq)]
+pub enum Mode {
+    /// `run`, which takes one caller.
+    Run,
+    /// `step`, which takes 1 to 32 callers.
+    Step,
+}
+
+/// Why a text gives no workload.
+#[derive(Clone, Copy, Drop, Debug, PartialEq, Eq, Error)]
+pub enum ParseError {
+    /// The text isn't in the grammar: its first line at fault, counted from 1 (0 for a text that is too
+    /// long), and in that line the lowest code.
+    #[error("fault {code} in line {line}")]
+    Fault { line: usize, code: u32 },
+    #[error("out of memory")]
+    Memory,
+}
+
+impl From<AllocError> for ParseError {
+    ghost use Rattle.std.specs.Prelude.{◌≡◌};
+    ghost use Rattle.stm_text.specs.declared.parse.ParseError.TheVariants.{Memory};
+
+    ghost from_gives = { λ _ e. e ≡ Memory };
+
+    fn from(_: AllocError) -> ParseError {
+        ParseError::Memory
+    }
+}
+
+/// The bytes of a text, at most.
+const LONGEST: usize = 16777216;
+
+/// The workload of a text, or its first fault. The text is gone through line by line, once.
+pub fn parse(alloc: Global, bytes: &[u8], mode: Mode) -> Result<Workload, ParseError>
+    ensures workload { IfOk result (λ w. workload_of mode bytes.now ≡ Ok w) }
+    ensures built { IfOk result (IsBuilt mode) }
+    ensures fault { IfErr result (λ e. IsFirstFault e (workload_of mode bytes.now)) }
+{
+    if bytes.len() > LONGEST {
+        return Err(ParseError::Fault {
+            line: 0,
+            code: code::LONG,
+        });
+    }
+    read_lines(alloc, mode, bytes)
+}
+
+/// The lines of a text from the first one on.
+fn read_lines(alloc: Global, mode: Mode, text: &[u8]) -> Result<Workload, ParseError>
+    requires { length text.now ≤ 16777216 }
+    ensures { Answers result (parsed mode opening 1 (lines_of text.now)) }
+{
+    let mut draft = Draft::new(alloc);
+    let mut rest = text;
+    let mut number = 1usize;
+    while let Some(i) = lines::find(b'\n', rest) {
+        let step = match step_of(mode, &draft, &rest[..i]) {
+            Ok(step) => step,
+            Err(code) => return Err(ParseError::Fault { line: number, code }),
+        };
+        rest = lines::past(rest, i);
+        number += 1;
+        if let Step::Done = step {
+            return finished(alloc, draft, number, rest);
+        }
+        draft.take(alloc, step)?;
+    }
+    Err(ParseError::Fault {
+        line: number,
+        code: unended(rest),
+    })
+}
+
+/// The lowest code of a line without an LF.
+fn unended(line: &[u8]) -> u32
+    ensures { result ≡ (if any_bad line.now then BYTES else UNENDED) }
+{
+    if lines::is_any_bad(line) {
+        code::BYTES
+    } else {
+        code::UNENDED
+    }
+}
+
+/// The workload, where nothing follows `done`.
+fn finished(alloc: Global, draft: Draft, line: usize, rest: &[u8]) -> Result<Workload, ParseError>
+    ensures { Answers result (ended draft line (lines_of rest.now)) }
+{
+    if rest.is_empty() {
+        Ok(draft.into_workload(alloc))
+    } else {
+        Err(ParseError::Fault {
+            line,
+            code: code::EXTRA,
+        })
+    }
+}

@@ -1,0 +1,97 @@
+//! Reports, written as their text.
+ghost use Rattle.std.specs.Prelude.{◌≡◌, ◌∷◌, ◌++◌, codes, IfOk, OnOk, string_bytes};
+ghost use Rattle.std.specs.Fmt.{decimal};
+ghost use Rattle.stm_text.specs.Reports.{spaced, emitted, letter_of, row_line, row_lines, memory_line, memory_lines, report_bytes};
+
+use std::alloc::{AllocError, Global};
+use stm_model::memory::Memory;
+use stm_script::report::{Kind, Report, Row};
+
+/// The text of a report. Memory may be refused.
+pub fn report_text(alloc: Global, report: &Report) -> Result<Vec<u8>, Memory>
+    ensures { IfOk result (λ t. t.items ≡ report_bytes report.now) }
+{
+    let mut text = String::new(alloc);
+    text.push_str("report 1\n")?;
+    put_rows(&mut text, report.rows.as_slice())?;
+    put_memory(&mut text, report.memory.as_slice())?;
+    text.push_str("end\n")?;
+    Ok(text.into_bytes())
+}
+
+fn put_rows(text: &mut String, rows: &[Row]) -> Result<(), AllocError>
+    ensures { OnOk result (string_bytes text.new ≡ string_bytes text.old ++ row_lines rows.now) }
+{
+    for row in rows {
+        put_row(text, row)?;
+    }
+    Ok(())
+}
+
+fn put_memory(text: &mut String, words: &[(usize, u64)]) -> Result<(), AllocError>
+    ensures { OnOk result (string_bytes text.new ≡ string_bytes text.old ++ memory_lines words.now) }
+{
+    for word in words {
+        put_word(text, word.0 as u64, word.1)?;
+    }
+    Ok(())
+}
+
+/// `mem a v`.
+fn put_word(text: &mut String, a: u64, v: u64) -> Result<(), AllocError>
+    ensures { OnOk result (string_bytes text.new ≡ string_bytes text.old ++ memory_line (a, v)) }
+{
+    text.push_str("mem")?;
+    put_number(text, a)?;
+    put_number(text, v)?;
+    text.push_str("\n")
+}
+
+/// `K place caller seq : r1 r2 ..`, and the emits.
+fn put_row(text: &mut String, row: &Row) -> Result<(), AllocError>
+    ensures { OnOk result (string_bytes text.new ≡ string_bytes text.old ++ row_line row.now) }
+{
+    text.push_str(letter(row.kind))?;
+    put_number(text, row.place)?;
+    put_number(text, row.caller as u64)?;
+    put_number(text, row.seq as u64)?;
+    text.push_str(" :")?;
+    put_numbers(text, row.replies.as_slice())?;
+    put_emits(text, row.emits.as_slice())?;
+    text.push_str("\n")
+}
+
+fn letter(kind: Kind) -> &'static str
+    ensures { result.now ≡ letter_of kind }
+{
+    match kind {
+        Kind::W => "W",
+        Kind::R => "R",
+        Kind::C => "C",
+    }
+}
+
+fn put_emits(text: &mut String, emits: &[u64]) -> Result<(), AllocError>
+    ensures { OnOk result (string_bytes text.new ≡ string_bytes text.old ++ emitted emits.now) }
+{
+    if emits.is_empty() {
+        return Ok(());
+    }
+    text.push_str(" !")?;
+    put_numbers(text, emits)
+}
+
+fn put_numbers(text: &mut String, numbers: &[u64]) -> Result<(), AllocError>
+    ensures { OnOk result (string_bytes text.new ≡ string_bytes text.old ++ spaced numbers.now) }
+{
+    for n in numbers {
+        put_number(text, *n)?;
+    }
+    Ok(())
+}
+
+fn put_number(text: &mut String, n: u64) -> Result<(), AllocError>
+    ensures { OnOk result (string_bytes text.new ≡ string_bytes text.old ++ (32 ∷ decimal n)) }
+{
+    write!(text, " {n}")
+}

@@ -1,0 +1,237 @@
+//! What may stand on a line: the table of the grammar, row by row.
+ghost use Rattle.std.specs.Prelude.{◌≡◌, true, Ok, Err, codes};
+ghost use Rattle.stm_text.specs.Grammar.{algorithm, most_callers, sized, header_line, next_line, below, formed, named, address, operands, one_word, two_words, three_words, filled, by_words, step_of};
+ghost use Rattle.stm_text.specs.Lines.{number_of, words_of, Line};
+
+use crate::draft::{Draft, Place, Step};
+use crate::parse::Mode;
+use crate::{code, lines};
+use stm_model::alg::Alg;
+use stm_script::op::Op;
+use stm_script::workload::Header;
+
+/// The clock of a header, at most.
+const LAST_CLOCK: u64 = 4611686018427387904;
+
+/// A word that is a number.
+fn formed(word: &[u8]) -> Result<u64, u32>
+    ensures { result ≡ formed (number_of word.now) }
+{
+    lines::number(word).ok_or(code::NUMBER)
+}
+
+/// A number below an end.
+fn below(end: usize, n: u64) -> Result<usize, u32>
+    ensures { result ≡ below end n }
+{
+    if n < end as u64 {
+        Ok(n as usize)
+    } else {
+        Err(code::RANGE)
+    }
+}
+
+/// A line that gives a number its name and its range.
+fn sized(name: &[u8], low: u64, high: u64, w: &[u8], v: &[u8]) -> Result<u64, u32>
+    ensures { result ≡ sized name.now low high w.now v.now }
+{
+    if !lines::is(w, name) {
+        return Err(code::WORD);
+    }
+    let n = formed(v)?;
+    if low <= n && n <= high {
+        Ok(n)
+    } else {
+        Err(code::RANGE)
+    }
+}
+
+/// A name and a word that stand as they are written.
+fn fixed(name: &[u8], word: &[u8], w: &[u8], v: &[u8]) -> Result<(), u32>
+    ensures { result ≡ named name.now w.now (named word.now v.now (Ok tt)) }
+{
+    if lines::is(w, name) && lines::is(v, word) {
+        Ok(())
+    } else {
+        Err(code::WORD)
+    }
+}
+
+/// The algorithms that are built.
+fn algorithm(w: &[u8], v: &[u8]) -> Result<Alg, u32>
+    ensures { result ≡ named (codes "alg") w.now (algorithm v.now) }
+{
+    if !lines::is(w, b"alg") {
+        Err(code::WORD)
+    } else if lines::is(v, b"CGL") {
+        Ok(Alg::Cgl)
+    } else {
+        Err(code::ALG)
+    }
+}
+
+fn most_callers(mode: Mode) -> u64
+    ensures { result ≡ most_callers mode }
+{
+    match mode {
+        Mode::Run => 1,
+        Mode::Step => 32,
+    }
+}
+
+/// A line of the header: the header then.
+fn header_line(mode: Mode, place: Place, h: Header, w: &[u8], v: &[u8]) -> Result<Header, u32>
+    ensures { result ≡ header_line mode place h w.now v.now }
+{
+    let mut next = h;
+    match place {
+        Place::Version => fixed(b"stm", b"1", w, v)?,
+        Place::Words => next.words = sized(b"words", 1, 65536, w, v)? as usize,
+        Place::Callers => next.callers = sized(b"callers", 1, most_callers(mode), w, v)? as usize,
+        Place::Records => next.records = sized(b"records", 1, 4096, w, v)? as usize,
+        Place::Ring => next.ring = sized(b"ring", 2, 64, w, v)? as usize,
+        Place::Reads => next.reads = sized(b"reads", 1, 4096, w, v)? as usize,
+        Place::Writes => next.writes = sized(b"writes", 1, 4096, w, v)? as usize,
+        Place::Clock => next.clock = sized(b"clock", 0, LAST_CLOCK, w, v)?,
+        Place::Algorithm => next.alg = algorithm(w, v)?,
+        Place::Structures => {
+            fixed(b"structs", b"off", w, v)?;
+            next.structs = false;
+        }
+        Place::Items | Place::Ops => return Err(code::WORD),
+    }
+    Ok(next)
+}
+
+/// The line that follows one of the header.
+fn next_line(place: Place) -> Place
+    ensures { result ≡ next_line place }
+{
+    match place {
+        Place::Version => Place::Words,
+        Place::Words => Place::Callers,
+        Place::Callers => Place::Records,
+        Place::Records => Place::Ring,
+        Place::Ring => Place::Reads,
+        Place::Reads => Place::Writes,
+        Place::Writes => Place::Clock,
+        Place::Clock => Place::Algorithm,
+        Place::Algorithm => Place::Structures,
+        Place::Structures | Place::Items | Place::Ops => Place::Items,
+    }
+}
+
+/// An address.
+fn address(draft: &Draft, word: &[u8]) -> Result<usize, u32>
+    ensures { result ≡ address draft.now word.now }
+{
+    below(draft.header().words, formed(word)?)
+}
+
+/// An address and a value, both of the form before the address is in range.
+fn operands(draft: &Draft, a: &[u8], v: &[u8]) -> Result<(usize, u64), u32>
+    ensures { result ≡ operands draft.now a.now v.now }
+{
+    let at = formed(a)?;
+    let value = formed(v)?;
+    Ok((below(draft.header().words, at)?, value))
+}
+
+fn one_word(place: Place, w: &[u8]) -> Result<Step, u32>
+    ensures { result ≡ one_word place w.now }
+{
+    match place {
+        Place::Items => {
+            if lines::is(w, b"done") {
+                Ok(Step::Done)
+            } else {
+                Err(code::WORD)
+            }
+        }
+        Place::Ops => {
+            if lines::is(w, b"end") {
+                Ok(Step::End)
+            } else {
+                Err(code::WORD)
+            }
+        }
+        _ => Err(code::WORD),
+    }
+}
+
+fn two_words(mode: Mode, draft: &Draft, w: &[u8], v: &[u8]) -> Result<Step, u32>
+    ensures { result ≡ filled v.now (two_words draft.now.place mode draft.now w.now v.now) }
+{
+    if v.is_empty() {
+        return Err(code::WORD);
+    }
+    match draft.place() {
+        Place::Items => {
+            if !lines::is(w, b"tx") {
+                return Err(code::WORD);
+            }
+            draft.begun(below(draft.header().callers, formed(v)?)?)
+        }
+        Place::Ops => {
+            if !lines::is(w, b"read") {
+                return Err(code::WORD);
+            }
+            draft.added(Op::Read(address(draft, v)?))
+        }
+        place => {
+            let header = header_line(mode, place, draft.header(), w, v)?;
+            Ok(Step::Head(next_line(place), header))
+        }
+    }
+}
+
+fn three_words(draft: &Draft, w: &[u8], a: &[u8], v: &[u8]) -> Result<Step, u32>
+    ensures { result ≡ filled a.now (filled v.now (three_words draft.now.place draft.now w.now a.now v.now)) }
+{
+    if a.is_empty() || v.is_empty() {
+        return Err(code::WORD);
+    }
+    match draft.place() {
+        Place::Ops => {
+            if lines::is(w, b"write") {
+                let (at, value) = operands(draft, a, v)?;
+                return draft.added(Op::Write(at, value));
+            }
+            if lines::is(w, b"add") {
+                let (at, value) = operands(draft, a, v)?;
+                return draft.added(Op::Add(at, value));
+            }
+            Err(code::WORD)
+        }
+        _ => Err(code::WORD),
+    }
+}
+
+/// A line by its words.
+fn by_words(mode: Mode, draft: &Draft, line: &[u8]) -> Result<Step, u32>
+    ensures { result ≡ by_words mode draft.now (words_of line.now) }
+{
+    let Some(i) = lines::find(b' ', line) else {
+        return one_word(draft.place(), line);
+    };
+    let rest = lines::past(line, i);
+    let Some(j) = lines::find(b' ', rest) else {
+        return two_words(mode, draft, &line[..i], rest);
+    };
+    let last = lines::past(rest, j);
+    match lines::find(b' ', last) {
+        None => three_words(draft, &line[..i], &rest[..j], last),
+        Some(_) => Err(code::WORD),
+    }
+}
+
+/// What a line that an LF ends does after those before it, or its lowest code.
+pub fn step_of(mode: Mode, draft: &Draft, line: &[u8]) -> Result<Step, u32>
+    ensures { result ≡ step_of mode draft.now (record { bytes = line.now; ended = true }) }
+{
+    if lines::is_any_bad(line) {
+        Err(code::BYTES)
+    } else {
+        by_words(mode, draft, line)
+    }
+}

@@ -1,0 +1,317 @@
+use crate::parse::{Mode, ParseError, parse};
+use crate::report::report_text;
+use std::alloc::{AllocError, Global};
+use std::process::Abort;
+use std::test::Fail;
+use stm_model::alg::Alg;
+use stm_script::lists::Words;
+use stm_script::op::Op;
+use stm_script::report::{Kind, Pairs, Report, Row, Rows};
+use stm_script::workload::{Header, Item, Workload};
+
+/// Two transactions that add and one that reads.
+const LINES: [&str; 20] = [
+    "stm 1",
+    "words 8",
+    "callers 1",
+    "records 4",
+    "ring 4",
+    "reads 256",
+    "writes 256",
+    "clock 0",
+    "alg CGL",
+    "structs off",
+    "tx 0",
+    "add 3 1",
+    "end",
+    "tx 0",
+    "add 3 1",
+    "end",
+    "tx 0",
+    "read 3",
+    "end",
+    "done",
+];
+
+/// Those lines with another in one's place, counted from 1.
+fn with_line(alloc: Global, number: usize, other: &str) -> Result<String, AllocError> {
+    let mut text = String::new(alloc);
+    for (i, line) in LINES.iter().enumerate() {
+        text.push_str(if i + 1 == number { other } else { *line })?;
+        text.push_str("\n")?;
+    }
+    Ok(text)
+}
+
+/// The header of those lines, and what follows it.
+fn with_body(alloc: Global, body: &str) -> Result<String, AllocError> {
+    let mut text = String::new(alloc);
+    for (i, line) in LINES.iter().enumerate() {
+        if i < 10 {
+            text.push_str(line)?;
+            text.push_str("\n")?;
+        }
+    }
+    text.push_str(body)?;
+    Ok(text)
+}
+
+fn fault(alloc: Global, text: &[u8], mode: Mode) -> Option<(usize, u32)> {
+    match parse(alloc, text, mode) {
+        Err(ParseError::Fault { line, code }) => Some((line, code)),
+        _ => None,
+    }
+}
+
+#[test]
+fn refuses_lines(rt: HostRuntime) -> Result<(), Fail> {
+    let table = [
+        (1, "stm 2", 4),
+        (1, "stm", 4),
+        (1, "stm 1 ", 4),
+        (1, " stm 1", 4),
+        (1, "stm  1", 4),
+        (1, "", 4),
+        (1, "stm\t1", 2),
+        (2, "words 0", 6),
+        (2, "words 65537", 6),
+        (2, "words 08", 5),
+        (2, "words +8", 5),
+        (2, "words ", 4),
+        (2, "words 18446744073709551616", 5),
+        (2, "words 18446744073709551615", 6),
+        (2, "words", 4),
+        (2, "words 8 8", 4),
+        (2, "records 4", 4),
+        (3, "callers 0", 6),
+        (3, "callers 2", 6),
+        (4, "records 4097", 6),
+        (5, "ring 1", 6),
+        (5, "ring 65", 6),
+        (6, "reads 0", 6),
+        (7, "writes 4097", 6),
+        (8, "clock 4611686018427387905", 6),
+        (8, "clock -1", 5),
+        (9, "alg TML", 7),
+        (9, "alg none", 7),
+        (9, "algorithm CGL", 4),
+        (10, "structs on", 4),
+        (11, "tx 1", 6),
+        (11, "tx x", 5),
+        (11, "tx", 4),
+        (11, "tx ", 4),
+        (11, "switch 0 CGL", 4),
+        (11, "schedule", 4),
+        (11, "read 0", 4),
+        (12, "add 8 1", 6),
+        (12, "add 9 01", 5),
+        (12, "add 03 1", 5),
+        (12, "add 3 18446744073709551616", 5),
+        (12, "add 3", 4),
+        (12, "add 3 1 1", 4),
+        (12, "add  3", 4),
+        (12, "add x ", 4),
+        (12, "emit 3", 4),
+        (12, "cancel", 4),
+        (12, "done", 4),
+        (12, "read 8", 6),
+        (12, "write 8 0", 6),
+        (12, "write 0 \x7f", 2),
+        (13, "end ", 4),
+        (20, "done ", 4),
+    ];
+    for (line, other, code) in table {
+        let text = with_line(rt.alloc(), line, other)?;
+        assert_eq!(rt;
+            fault(rt.alloc(), text.as_bytes(), Mode::Run),
+            Some((line, code)),
+            "{other}"
+        );
+    }
+    Ok(())
+}
+
+#[test]
+fn refuses_ends(rt: HostRuntime) -> Result<(), Fail> {
+    let table = [
+        ("", 11, 3),
+        ("done", 11, 3),
+        ("don\te", 11, 2),
+        ("tx 0\n", 12, 3),
+        ("done\n\n", 12, 11),
+        ("done\n\tx", 12, 11),
+    ];
+    for (body, line, code) in table {
+        let text = with_body(rt.alloc(), body)?;
+        assert_eq!(rt;
+            fault(rt.alloc(), text.as_bytes(), Mode::Run),
+            Some((line, code)),
+            "{body}"
+        );
+    }
+    assert_eq!(rt; fault(rt.alloc(), b"", Mode::Run), Some((1, 3)));
+    Ok(())
+}
+
+#[test]
+fn counts_callers_by_mode(rt: HostRuntime) -> Result<(), Fail> {
+    let most = with_line(rt.alloc(), 3, "callers 32")?;
+    assert!(rt; parse(rt.alloc(), most.as_bytes(), Mode::Step).is_ok());
+    let many = with_line(rt.alloc(), 3, "callers 33")?;
+    assert_eq!(rt;
+        fault(rt.alloc(), many.as_bytes(), Mode::Step),
+        Some((3, 6))
+    );
+    Ok(())
+}
+
+/// The header, and a line so many times.
+fn repeated(
+    alloc: Global,
+    first: &str,
+    line: &str,
+    times: usize,
+    last: &str,
+) -> Result<String, AllocError> {
+    let mut text = with_body(alloc, first)?;
+    for _ in 0..times {
+        text.push_str(line)?;
+    }
+    text.push_str(last)?;
+    Ok(text)
+}
+
+#[test]
+fn refuses_too_many(rt: HostRuntime) -> Result<(), Fail> {
+    let items = repeated(rt.alloc(), "", "tx 0\nend\n", 65536, "done\n")?;
+    assert!(rt; parse(rt.alloc(), items.as_bytes(), Mode::Run).is_ok());
+    let more = repeated(rt.alloc(), "", "tx 0\nend\n", 65536, "tx 0\n")?;
+    assert_eq!(rt;
+        fault(rt.alloc(), more.as_bytes(), Mode::Run),
+        Some((131083, 10))
+    );
+    let ops = repeated(rt.alloc(), "tx 0\n", "read 0\n", 4096, "end\ndone\n")?;
+    assert!(rt; parse(rt.alloc(), ops.as_bytes(), Mode::Run).is_ok());
+    for (last, code) in [("read 0\n", 10), ("read 8\n", 6)] {
+        let more = repeated(rt.alloc(), "tx 0\n", "read 0\n", 4096, last)?;
+        assert_eq!(rt;
+            fault(rt.alloc(), more.as_bytes(), Mode::Run),
+            Some((4108, code))
+        );
+    }
+    for (length, line, code) in [(16777216, 1, 4), (16777217, 0, 1)] {
+        let long = vec![in rt.alloc(); b'\n'; length]?;
+        assert_eq!(rt;
+            fault(rt.alloc(), long.as_slice(), Mode::Run),
+            Some((line, code))
+        );
+    }
+    Ok(())
+}
+
+fn assert_scripts(rt: &impl Abort, read: &Workload, scripts: &[&[Op]]) {
+    let items = read.items.as_slice();
+    assert_eq!(rt; items.len(), scripts.len());
+    for (item, ops) in items.iter().zip(scripts) {
+        match item {
+            Item::Tx { caller, script } => {
+                assert_eq!(rt; *caller, 0);
+                assert_eq!(rt; script.as_slice(), *ops);
+            }
+            Item::Switch { caller: _, alg: _ } => panic!(rt; "a switch"),
+        }
+    }
+}
+
+#[test]
+fn reads_workloads(rt: HostRuntime) -> Result<(), Fail> {
+    let header = Header {
+        words: 8,
+        records: 4,
+        ring: 4,
+        callers: 1,
+        reads: 256,
+        writes: 256,
+        clock: 0,
+        alg: Alg::Cgl,
+        structs: false,
+    };
+    let adds: &[&[Op]] = &[&[Op::Add(3, 1)], &[Op::Add(3, 1)], &[Op::Read(3)]];
+    let none: &[&[Op]] = &[];
+    let reads: &[&[Op]] = &[&[Op::Read(5)], &[Op::Write(5, 9)]];
+    let writes: &[&[Op]] = &[&[Op::Write(2, 7), Op::Read(2), Op::Write(2, 8)]];
+    let table = [
+        (
+            "tx 0\nadd 3 1\nend\ntx 0\nadd 3 1\nend\ntx 0\nread 3\nend\ndone\n",
+            adds,
+        ),
+        ("done\n", none),
+        ("tx 0\nread 5\nend\ntx 0\nwrite 5 9\nend\ndone\n", reads),
+        ("tx 0\nwrite 2 7\nread 2\nwrite 2 8\nend\ndone\n", writes),
+    ];
+    for (body, scripts) in table {
+        let text = with_body(rt.alloc(), body)?;
+        let read = parse(rt.alloc(), text.as_bytes(), Mode::Run)?;
+        assert_eq!(rt; read.header, header);
+        assert_scripts(&rt, &read, scripts);
+        assert!(rt; read.schedule.as_slice().is_empty());
+    }
+    Ok(())
+}
+
+fn row(
+    alloc: Global,
+    kind: Kind,
+    place: u64,
+    caller: usize,
+    seq: usize,
+    replies: &[u64],
+    emits: &[u64],
+) -> Result<Row, AllocError> {
+    Ok(Row {
+        kind,
+        place,
+        caller,
+        seq,
+        replies: Words::new(replies.to_vec(alloc)?),
+        emits: Words::new(emits.to_vec(alloc)?),
+    })
+}
+
+#[test]
+fn writes_reports(rt: HostRuntime) -> Result<(), Fail> {
+    let mut rows = Vec::new(rt.alloc());
+    rows.push(row(rt.alloc(), Kind::C, 0, 0, 0, &[5, 5, 1], &[])?)?;
+    rows.push(row(rt.alloc(), Kind::W, 1, 0, 1, &[5, 6, 1, 5], &[5])?)?;
+    rows.push(row(rt.alloc(), Kind::R, 1, 31, 10, &[], &[])?)?;
+    rows.push(row(
+        rt.alloc(),
+        Kind::W,
+        4611686018427387904,
+        1,
+        0,
+        &[18446744073709551615],
+        &[7, 0],
+    )?)?;
+    let memory = vec![in rt.alloc(); (0, 5), (65535, 18446744073709551615)]?;
+    let report = Report {
+        rows: Rows::new(rows),
+        memory: Pairs::new(memory),
+    };
+    let text = report_text(rt.alloc(), &report)?;
+    let want =
+        b"report 1\nC 0 0 0 : 5 5 1\nW 1 0 1 : 5 6 1 5 ! 5\nR 1 31 10 :\nW 4611686018427387904 1 0 : 18446744073709551615 ! 7 0\nmem 0 5\nmem 65535 18446744073709551615\nend\n";
+    assert_eq!(rt; text.as_slice(), want.as_slice());
+    Ok(())
+}
+
+#[test]
+fn writes_empty_report(rt: HostRuntime) -> Result<(), Fail> {
+    let report = Report {
+        rows: Rows::new(Vec::new(rt.alloc())),
+        memory: Pairs::new(Vec::new(rt.alloc())),
+    };
+    let text = report_text(rt.alloc(), &report)?;
+    assert_eq!(rt; text.as_slice(), b"report 1\nend\n".as_slice());
+    Ok(())
+}
