@@ -1,9 +1,8 @@
 -- What contracts see of a descriptor and of a note.
-use Rattle.std.specs.Prelude.{ℕ, ◌≡◌, ◌<◌, max, suc, Bool, List, [], ◌∷◌, ◌++◌, Some}
+use Rattle.std.specs.Prelude.{ℕ, ◌≡◌, ◌<◌, max, suc, List, [], ◌∷◌, ◌++◌, Some}
 use Rattle.atomic_table.specs.Seated.{TableId}
 use Rattle.atomic_table.specs.Table.{Me}
 use Rattle.atomic_table.specs.declared.shared.Seat.{Seat}
-use Rattle.stm_model.specs.declared.alg.Alg.{Alg}
 use Rattle.stm_model.specs.Histories as public
 use Rattle.rule_base.specs.declared.layout.Config.{Config}
 use Rattle.rule_base.specs.declared.seats.Role.TheVariants.{Caller, Note}
@@ -13,7 +12,6 @@ use Rattle.rule_base.specs.declared.views.Phase.TheVariants.{Idle}
 use Rattle.rule_base.specs.declared.views.View.{View}
 use Rattle.rule_base.specs.Bridge.{public_history}
 use Rattle.rule_base.specs.Opening.{first_view}
-use Rattle.stm_rule.specs.Attempts.{good_by, Stands}
 
 -- the table that it belongs to, what it stands for, and what it knows
 pub record Handle (K : Type 0) : Type 0 where
@@ -51,12 +49,11 @@ module _ {K : Type 0} where
   handle_of s = record { table = s.table_id; who = s.me.0.who; view = s.me.0.view }
 
   -- the fields of a descriptor agree with its seat
-  pub record IsTied (good : K → List ℕ → Type 0) (number : ℕ) (running : Bool) (algorithm : Alg) (start : ℕ) (wrote : Bool) (me : Me (Unit {0}) (SeatView K)) : Type 0 where
+  pub record IsTied (number : ℕ) (me : Me (Unit {0}) (SeatView K)) : Type 0 where
     pub named : me.0.who.role ≡ Caller number
     pub low : number < me.0.who.config.callers
     pub bare : me.0.gathered ≡ []
     pub empty : me.1 ≡ []
-    pub stands : Stands (good_by good me.0.who.rule) me.0.who.config algorithm start wrote running me.0.view
 
   pub record IsNote (me : Me (Unit {0}) (SeatView K)) : Type 0 where
     pub note : me.0.who.role ≡ Note

@@ -28,13 +28,14 @@ pub struct Desc<K: MemRule> {
 }
 
 impl<K: MemRule> Model for Desc<K> {
+    ghost use Rattle.stm_rule.specs.Attempts.{good_by, Stands};
     ghost use Rattle.stm_rule.specs.Callers.{Handle, IsTied, handle_of};
 
     ghost Value = { Handle K };
 
     ghost view = { λ d. handle_of d.seat };
 
-    ghost invariant = { λ d. IsTied K.good d.number d.running d.algorithm d.start d.wrote d.seat.me };
+    ghost invariant = { λ d. IsTied d.number d.seat.me × Stands (good_by K.good d.seat.me.0.who.rule) d.seat.me.0.who.config d.algorithm d.start d.wrote d.running d.seat.me.0.view };
 }
 
 impl<K: MemRule> Desc<K> {
