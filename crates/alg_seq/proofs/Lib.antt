@@ -1,0 +1,4 @@
+pub mod Logging
+pub mod Opacity
+pub mod CglCalls
+pub mod Standing

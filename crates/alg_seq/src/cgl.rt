@@ -73,16 +73,15 @@ pub fn commit<K: MemRule>(desc: &mut Desc<K>, stm: &Stm<K>) -> Commit
 {
     let caller = desc.number;
     let start = desc.start;
-    let wrote = desc.wrote;
-    if wrote {
-        stm.store_clock(&mut desc.seat, caller, start + 1);
+    desc.running = false;
+    if !desc.wrote {
+        stm.free_lock(&mut desc.seat, caller);
+        stm.depart(&mut desc.seat, caller);
+        return Commit::ReadOnly { time: start };
     }
+    let time = start + 1;
+    stm.store_clock(&mut desc.seat, caller, time);
     stm.free_lock(&mut desc.seat, caller);
     stm.depart(&mut desc.seat, caller);
-    desc.running = false;
-    if wrote {
-        Commit::Committed { time: start + 1 }
-    } else {
-        Commit::ReadOnly { time: start }
-    }
+    Commit::Committed { time }
 }

@@ -3,7 +3,7 @@ use Rattle.std.specs.Prelude.{ℕ, ◌≡◌, ◌≢◌, ◌+◌, ◌<◌, Bool,
 use Rattle.stm_model.specs.declared.alg.Alg.{Alg}
 use Rattle.stm_model.specs.declared.alg.Alg.TheVariants.{Cgl}
 use Rattle.rule_base.specs.declared.layout.Config.{Config}
-use Rattle.rule_base.specs.declared.seats.Who.{Who}
+use Rattle.rule_base.specs.declared.layout.TheConstants.{CLOCK_LIMIT}
 use Rattle.rule_base.specs.declared.views.Phase.TheVariants.{Idle, In}
 use Rattle.rule_base.specs.declared.views.View.{View}
 use Rattle.rule_base.specs.Bridge.{of_words}
@@ -44,6 +44,8 @@ module _ (good : List ℕ → Type 0) (c : Config) (algorithm : Alg) (clock : �
     -- it has the lock, and loaded its start
     pub taken : algorithm ≡ Cgl → v.lock.taken ≡ true
     pub started : algorithm ≡ Cgl → v.lock.started ≡ true
+    -- a next time is within the limit
+    pub low : algorithm ≡ Cgl → clock < CLOCK_LIMIT
 
   -- by whether an attempt runs
   abbrev pub Stands : Bool → View → Type 0

@@ -19,12 +19,12 @@ pub record Carries (v w : Known) : Type 0 where
 pub grows-same : (v w : Known) → w.seen ≡ v.seen → w.front ≡ v.front → Grows v w
 grows-same v w s f = record { later = []; is = s ∙ sym (append-nil v.seen); ascending = tt; up_to = tt; front_rose = omega arith }
 
-ascending-append : (a b : ℕ) (xs ys : List Entry) → Ascending a xs → Within b xs → a ≤ b → Ascending b ys → Ascending a (xs ++ ys)
+pub ascending-append : (a b : ℕ) (xs ys : List Entry) → Ascending a xs → Within b xs → a ≤ b → Ascending b ys → Ascending a (xs ++ ys)
 ascending-append a b [] [] h u le k = tt
 ascending-append a b [] (y ∷ ys) h u le k = (let z = k.0 in omega arith, k.1)
 ascending-append a b (x ∷ xs) ys h u le k = (h.0, ascending-append x.time b xs ys h.1 u.1 u.0 k)
 
-within-append : (b c : ℕ) (xs ys : List Entry) → Within b xs → b ≤ c → Within c ys → Within c (xs ++ ys)
+pub within-append : (b c : ℕ) (xs ys : List Entry) → Within b xs → b ≤ c → Within c ys → Within c (xs ++ ys)
 within-append b c [] ys u le k = k
 within-append b c (x ∷ xs) ys u le k = (let z = u.0 in omega arith, within-append b c xs ys u.1 le k)
 
