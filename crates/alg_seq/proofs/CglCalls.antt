@@ -158,7 +158,9 @@ module _ (good : List ℕ → Type 0) (c : Config) (n : ℕ) where
         inside = record {
           phase = can.phase; named = can.algorithm; built = refl; reopened = can.reopened; ungranted = can.ungranted; start = refl; front = refl; rises = can.rises;
           legal = b.legal; below = b.below; sees = λ a. refl; reads_inside = λ a e. absurd cc; clean = λ e. refl; dirty = λ e. absurd cc; taken = λ e. refl; started = λ e. refl; low = λ e. low };
-        made = refl; grows = grows-started v f.0 l.0 clock b; fresh = b.front; reads = refl; rises = refl; installs = refl })
+        made = refl; grows = grows-started v f.0 l.0 clock b; fresh = b.front; reads = refl; rises = refl; installs = refl;
+        opaque = opaque-at good c n (started f.0 l.0 v clock) clock refl refl b.legal b.below (λ a. refl) (λ a e. absurd cc);
+        steps = (record { place = Clock; found = Some clock } ∷ record { place = Lock; found = Some 0 } ∷ [], refl) })
     where
       first : t ≡ locked f.0 v
       first = f.2 ∙ ap (λ k. view_after (take_lock n) f.0 v k) zero

@@ -1,13 +1,14 @@
 -- What the calls of CGL ask and tell where the caller is not between two calls.
-use Rattle.std.specs.Prelude.{ℕ, ◌≡◌, ◌≤◌, ◌<◌, false, true, List, [], Result, Ok, Err}
+use Rattle.std.specs.Prelude.{ℕ, ◌≡◌, ◌≤◌, ◌<◌, false, true, List, [], ◌++◌, Result, Ok, Err}
 use Rattle.stm_model.specs.declared.alg.Alg.TheVariants.{Cgl}
 use Rattle.rule_base.specs.declared.layout.Config.{Config}
 use Rattle.rule_base.specs.declared.views.Phase.TheVariants.{In}
+use Rattle.rule_base.specs.declared.views.TrailItem.{TrailItem}
 use Rattle.rule_base.specs.declared.views.View.{View}
 use Rattle.stm_rule.specs.Attempts.{IsInside}
 use Rattle.tx_answers.specs.declared.answers.Begin.{Begin}
 use Rattle.tx_answers.specs.declared.answers.Begin.TheVariants.{Begun, Closed, Held, ClockFull}
-use Rattle.tx_answers.specs.Answers.{FindsFull, NamesOther}
+use Rattle.tx_answers.specs.Answers.{FindsFull, NamesOther, IsOpaque}
 use Rattle.tx_answers.specs.Known.{Known, Grows, Found, known_of, no_log}
 use Rattle.rule_base.specs.declared.layout.At.TheVariants.{Lock}
 
@@ -38,6 +39,8 @@ module _ (good : List ℕ → Type 0) (c : Config) (n : ℕ) where
     pub reads : w.attempt.reads ≡ []
     pub rises : w.steps.rises ≡ v.steps.rises
     pub installs : w.steps.installs ≡ v.steps.installs
+    pub opaque : IsOpaque good c n (known_of w)
+    pub steps : (more : List TrailItem) × (w.steps.trail ≡ more ++ v.steps.trail)
 
   -- what `begin` tells
   abbrev pub Refuses : Begin → View → View → Type 0

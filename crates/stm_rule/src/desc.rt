@@ -25,9 +25,12 @@ pub struct Desc<K: MemRule> {
     pub algorithm: Alg,
     pub start: u64,
     pub wrote: bool,
+    /// Whether it closed the gate.
+    pub holds: bool,
 }
 
 impl<K: MemRule> Model for Desc<K> {
+    ghost use Rattle.std.specs.Prelude.{◌≡◌};
     ghost use Rattle.stm_rule.specs.Attempts.{good_by, Stands};
     ghost use Rattle.stm_rule.specs.Callers.{Handle, IsTied, handle_of};
 
@@ -35,7 +38,7 @@ impl<K: MemRule> Model for Desc<K> {
 
     ghost view = { λ d. handle_of d.seat };
 
-    ghost invariant = { λ d. IsTied d.number d.seat.me × Stands (good_by K.good d.seat.me.0.who.rule) d.seat.me.0.who.config d.algorithm d.start d.wrote d.running d.seat.me.0.view };
+    ghost invariant = { λ d. IsTied d.number d.seat.me × Stands (good_by K.good d.seat.me.0.who.rule) d.seat.me.0.who.config d.algorithm d.start d.wrote d.running d.seat.me.0.view × (d.holds ≡ d.seat.me.0.view.gate.holds) };
 }
 
 impl<K: MemRule> Desc<K> {
@@ -53,6 +56,7 @@ impl<K: MemRule> Desc<K> {
             algorithm: Alg::Cgl,
             start: 0,
             wrote: false,
+            holds: false,
         }
     }
 

@@ -137,8 +137,7 @@ pub fn is_irrevocable<K: MemRule>(desc: &Desc<K>) -> bool
 pub fn holds_gate<K: MemRule>(desc: &Desc<K>) -> bool
     ensures { result ≡ (known desc.now).holds }
 {
-    let _ = desc;
-    false
+    desc.holds
 }
 
 /// The start of the running attempt, a clock.

@@ -38,9 +38,9 @@ impl<'a, K: MemRule> Access for Live<'a, K> {
 
     ghost keeps = { λ s t. Frames s.desc.now t.desc.now × (t.stm ≡ s.stm) × (t.desc.ghost_name ≡ s.desc.ghost_name) };
 
-    ghost keeps_refl = { λ s. (frames-refl s.desc.now, (refl, refl)) };
+    ghost keeps_refl = { λ s. (frames-refl s.desc.now, refl, refl) };
 
-    ghost keeps_trans = { λ s t u a b. (frames-trans s.desc.now t.desc.now u.desc.now a.0 b.0, (b.1.0 ∙ a.1.0, b.1.1 ∙ a.1.1)) };
+    ghost keeps_trans = { λ s t u a b. (frames-trans s.desc.now t.desc.now u.desc.now a.0 b.0, b.1 ∙ a.1, b.2 ∙ a.2) };
 
     ghost once = { λ s. log-once s.desc.now.view };
 
