@@ -2,6 +2,7 @@
 ghost use Rattle.std.specs.Prelude.{◌≡◌, is_none, true};
 ghost use Rattle.std.proofs.Common.{refl, ◌∙◌};
 ghost use Rattle.stm_rule.specs.Callers.{IsOf};
+ghost use Rattle.tx_answers.specs.Answers.{is_fair};
 ghost use Rattle.stm_tx.specs.Descs.{known, Frames, frames-refl, frames-trans};
 
 use crate::calls::{read, write};
@@ -21,6 +22,7 @@ pub struct Live<'a, K: MemRule> {
     pub stm: &'a Stm<K>,
     pub stopped: Option<Stop>,
     pub ghost own: { IsOf desc.now stm.now.table.shared.table_id stm.now.config stm.now.rule },
+    pub ghost fair: { is_fair (known desc.now) stopped ≡ true },
     pub ghost runs: { (known desc.now).running ≡ is_none stopped },
 }
 

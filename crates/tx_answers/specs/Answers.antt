@@ -1,9 +1,11 @@
 -- When each answer comes, and what stands after it.
-use Rattle.std.specs.Prelude.{ℕ, ◌≡◌, ◌≢◌, ◌<◌, ◌≤◌, ◌+◌, ◌%◌, ◌^◌, ◌⊎◌, Bool, true, false, List, [], ◌∷◌, ◌++◌, length}
+use Rattle.std.specs.Prelude.{ℕ, ◌≡◌, ◌≢◌, ◌<◌, ◌≤◌, ◌+◌, ◌%◌, ◌^◌, ◌⊎◌, ◌==◌, ◌&&◌, leb, not, Option, Some, None, Bool, true, false, List, [], ◌∷◌, ◌++◌, length}
 use Rattle.stm_model.specs.declared.alg.Alg.{Alg}
 use Rattle.stm_model.specs.declared.alg.Alg.TheVariants.{Cgl, Tml, OrecLazy, OrecEager, RingSw, Serial}
 use Rattle.stm_model.specs.declared.stop.Cause.{Cause}
 use Rattle.stm_model.specs.declared.stop.Cause.TheVariants as causes
+use Rattle.stm_model.specs.declared.stop.Stop.{Stop}
+use Rattle.stm_model.specs.declared.stop.Stop.TheVariants as stops
 use Rattle.stm_model.specs.Histories.{Entry, memory_at, IsLegal}
 use Rattle.stm_model.specs.Logs.{Log, Reads, Writes, IsExplained, Sees, Keeps}
 use Rattle.stm_model.specs.Memories.{is_empty}
@@ -90,6 +92,17 @@ Conflicts (causes.Record index word start) v w = (has_records v.alg ≡ true) ×
 Conflicts (causes.Moved index before after) v w = (has_records v.alg ≡ true) × (before ≢ after) × Found (Record index) before v w × Found (Record index) after v w
 Conflicts (causes.Filter time bits) v w = (v.alg ≡ RingSw) × (v.start < time) × (bits ≢ 0)
 Conflicts (causes.Overrun start clock) v w = (v.alg ≡ RingSw) × Found Clock clock v w
+
+-- what the numbers of a Stop say by themselves
+abbrev pub is_fair : Known → Option Stop → Bool
+is_fair v None = true
+is_fair v (Some (stops.Conflict (causes.Clock had now))) = not (had == now)
+is_fair v (Some (stops.Conflict (causes.Record index word start))) = true
+is_fair v (Some (stops.Conflict (causes.Moved index before after))) = not (before == after)
+is_fair v (Some (stops.Conflict (causes.Filter time bits))) = not (bits == 0)
+is_fair v (Some (stops.Conflict (causes.Overrun start clock))) = true
+is_fair v (Some (stops.Full limit)) = true
+is_fair v (Some (stops.ClockFull clock)) = leb CLOCK_LIMIT clock && leb clock v.top
 
 -- another commit was faster: at the clock, or at the lock
 abbrev pub IsAgain : ℕ → ℕ → ℕ → Known → Known → Type 0
