@@ -35,7 +35,8 @@ module _ (callers : ℕ) where
         checked = λ m k e. grind (arith, r.checked m k, e);
         seen = λ m k e. grind (arith, r.seen m k, e);
         named = λ m e. grind (arith, r.named m, e);
-        far = λ m e. grind (arith, r.far m, e, low) }
+        far = λ m e. grind (arith, r.far m, e, low);
+      }
 
   pub load_gate-gate : (w : World) (n : ℕ) → CanLoadGate (w.views n) → GateRule callers (gate_scene w) → GateRule callers (gate_scene (world_after load_gate n w))
   load_gate-gate w n announced g = subst (GateRule callers) (sym (gate_scene-put w (world_after load_gate n w) n (view_after load_gate w (w.views n) w.gate) refl)) (law (gate_scene w) g announced)
@@ -50,7 +51,8 @@ module _ (callers : ℕ) where
         checked = λ m k e. grind (arith, r.checked m k, e);
         seen = λ m k e. grind (arith, r.seen m k, r.checked m k, r.mine m, e);
         named = λ m e. grind (arith, r.named m, e);
-        far = λ m e. grind (arith, r.far m, r.far n, e, announced) }
+        far = λ m e. grind (arith, r.far m, r.far n, e, announced);
+      }
 
   pub depart-gate : (w : World) (n : ℕ) → CanDepart (w.views n) → GateRule callers (gate_scene w) → GateRule callers (gate_scene (world_after (depart n) n w))
   depart-gate w n may g = subst (GateRule callers) (sym (gate_scene-put w (world_after (depart n) n w) n (view_after (depart n) w (w.views n) 0) refl)) (by (gate_scene w) (w.views n).gate.phase refl may.phase may.reopened g)
@@ -67,7 +69,8 @@ module _ (callers : ℕ) where
         checked = λ m k e. grind (arith, r.checked m k, e);
         seen = λ m k e. grind (arith, r.seen m k, e, seen m);
         named = λ m e. grind (arith, r.named m, e, out);
-        far = λ m e. grind (arith, r.far m, e, far) }
+        far = λ m e. grind (arith, r.far m, e, far);
+      }
 
       by : (s : GateScene) (p : Phase) → (s.views n).phase ≡ p → departs p ≡ true → ((s.views n).phase ≡ In → (s.views n).holds ≡ false) → GateRule callers s
           → GateRule callers (record s { status = put s.status n 0; views = put s.views n (record (s.views n) { phase = departed (s.views n).phase }) })

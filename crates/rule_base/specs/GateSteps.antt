@@ -15,8 +15,10 @@ announce n = record {
   act = Store announced;
   after = λ w v x. record v {
     gate = record v.gate { phase = Announced };
-    steps = record v.steps { rises_at_begin = v.steps.rises } };
-  grown = same_history }
+    steps = record v.steps { rises_at_begin = v.steps.rises };
+  };
+  grown = same_history;
+}
 
 abbrev pub CanAnnounce : View → Type 0
 CanAnnounce v = v.gate.phase ≡ Idle
@@ -27,7 +29,8 @@ load_gate = record {
   place = Gate;
   act = Load;
   after = λ w v gate. record v { gate = record v.gate { phase = if holder_of gate == 0 then In else Turned; algorithm = alg_of gate } };
-  grown = same_history }
+  grown = same_history;
+}
 
 abbrev pub CanLoadGate : View → Type 0
 CanLoadGate v = v.gate.phase ≡ Announced
@@ -51,7 +54,8 @@ depart n = record {
   place = Status n;
   act = Store 0;
   after = λ w v x. record v { gate = record v.gate { phase = departed v.gate.phase } };
-  grown = same_history }
+  grown = same_history;
+}
 
 pub record CanDepart (v : View) : Type 0 where
   pub phase : departs v.gate.phase ≡ true

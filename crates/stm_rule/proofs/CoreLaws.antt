@@ -35,14 +35,33 @@ core_opens_lem good c config start = (whole_opens (of_words good c.words) c conf
 
 pub core_commits_lem : (good : (ℕ → ℕ) → Type 0) (c : Config) → CoreCommits good c
 core_commits_lem good c a x callers clock inside small keeps = (
-  ( (callers, refl),
-    ((callers, refl),
-    ((callers, record { phase = refl; algorithm = refl; free = refl }),
-    ((callers, record { has = record { phase = refl; algorithm = refl; taken = refl }; unstarted = refl }),
-    ((callers, record { has = record { phase = refl; algorithm = refl; taken = refl }; started = refl; inside = inside }),
-    ((callers, record { has = record { phase = refl; algorithm = refl; taken = refl }; started = refl; inside = inside; small = small }),
-    ((callers, record { has = record { phase = refl; algorithm = refl; taken = refl }; started = refl; time = refl; limit = omega arith; wrote = λ e. cc; keeps = keeps }),
-    ((callers, record { has = record { phase = refl; algorithm = refl; taken = refl }; unstored = refl }),
-    ((callers, record { phase = refl; reopened = λ e. refl; unlocked = refl }),
-    tt))))))))),
-  refl)
+  (
+    (callers, refl),
+    (
+      (callers, refl),
+      (
+        (callers, record { phase = refl; algorithm = refl; free = refl }),
+        (
+          (callers, record { has = record { phase = refl; algorithm = refl; taken = refl }; unstarted = refl }),
+          (
+            (callers, record { has = record { phase = refl; algorithm = refl; taken = refl }; started = refl; inside = inside }),
+            (
+              (callers, record { has = record { phase = refl; algorithm = refl; taken = refl }; started = refl; inside = inside; small = small }),
+              (
+                (callers, record { has = record { phase = refl; algorithm = refl; taken = refl }; started = refl; time = refl; limit = omega arith; wrote = λ e. cc; keeps = keeps }),
+                (
+                  (callers, record { has = record { phase = refl; algorithm = refl; taken = refl }; unstored = refl }),
+                  (
+                    (callers, record { phase = refl; reopened = λ e. refl; unlocked = refl }),
+                    tt,
+                  ),
+                ),
+              ),
+            ),
+          ),
+        ),
+      ),
+    ),
+  ),
+  refl,
+)

@@ -42,9 +42,10 @@ module _ {K : Type 0} where
   every_shown P t c rule n [] a h = tt
   every_shown P t c rule n (d ∷ ds) a h =
       let is : claimed d.who.role d.view (shown ds) ≡ record { caller = n; view = d.view } ∷ shown ds = ap (λ r. claimed r d.view (shown ds)) a.1 in
-      let k : (g : Gathered) → Contains (record { caller = n; view = d.view } ∷ shown ds) g → P g.caller g.view = λ g x. h g (subst (λ (l : List Gathered). Contains l g) (sym is) x) in
-      (k (record { caller = n; view = d.view }) (0, omega arith, refl),
-        every_shown P t c rule (suc n) ds a.3 (λ g x. k g (Contains-append_right (record { caller = n; view = d.view } ∷ []) (shown ds) g x)))
+      let k : (g : Gathered) → Contains (record { caller = n; view = d.view } ∷ shown ds) g → P g.caller g.view = λ g x. h g (subst (λ (l : List Gathered). Contains l g) (sym is) x) in (
+        k (record { caller = n; view = d.view }) (0, omega arith, refl),
+        every_shown P t c rule (suc n) ds a.3 (λ g x. k g (Contains-append_right (record { caller = n; view = d.view } ∷ []) (shown ds) g x)),
+      )
 
   pub every_and : (P Q : ℕ → View → Type 0) (n : ℕ) (ds : List (Handle K)) → Every P n ds → Every Q n ds → Every (λ k v. P k v × Q k v) n ds
   every_and P Q n [] p q = tt
@@ -58,9 +59,9 @@ module _ {K : Type 0} where
   pub every_number : (P : ℕ → View → Type 0) (Q : ℕ → Type 0) → ((k : ℕ) (v : View) → P k v → Q k) → (n : ℕ) (ds : List (Handle K)) → Every P n ds → (k : ℕ) → n ≤ k → k < n + length ds → Q k
   every_number P Q f n [] e k low high = absurd (omega arith)
   every_number P Q f n (d ∷ ds) e k low high = ⊎_elim
-    (λ (t : (eqb k n ≡ true) × (k ≡ n)). subst Q (sym t.1) (f n d.view e.0))
-    (λ (t : (eqb k n ≡ false) × (k ≢ n)). let q = t.1 in every_number P Q f (suc n) ds e.1 k (omega arith) (omega arith))
-    (eqb_tells k n)
+      (λ (t : (eqb k n ≡ true) × (k ≡ n)). subst Q (sym t.1) (f n d.view e.0))
+      (λ (t : (eqb k n ≡ false) × (k ≢ n)). let q = t.1 in every_number P Q f (suc n) ds e.1 k (omega arith) (omega arith))
+      (eqb_tells k n)
 
   -- the rises of the callers are those of the descriptors
   pub rises_sum : (vs : ℕ → Steps) (n : ℕ) (ds : List (Handle K)) → Every (λ k v. (vs k).rises ≡ v.steps.rises) n ds → all_rises (n + length ds) vs ≡ all_rises n vs + sum_by (λ (d : Handle K). d.view.steps.rises) ds
@@ -134,11 +135,11 @@ rises_alike (suc m) vs ws e = let r = rises_alike m vs ws (λ k l. e k (omega ar
 pub installs_found : (f : ℕ → List Alg) (gs : List Gathered) (k : ℕ) (v : View) → ((g : Gathered) → Contains gs g → installs_of g.view ≡ f g.caller) → Contains gs (record { caller = k; view = v }) → installs_by gs k ≡ f k
 installs_found f [] k v all h = absurd (contains-none (record { caller = k; view = v }) h)
 installs_found f (g ∷ gs) k v all h = ⊎_elim
-  (λ (t : (eqb g.caller k ≡ true) × (g.caller ≡ k)). ap (λ (b : Bool). if b then installs_of g.view else installs_by gs k) t.0 ∙ all g (0, omega arith, refl) ∙ ap f t.1)
-  (λ (t : (eqb g.caller k ≡ false) × (g.caller ≢ k)). ap (λ (b : Bool). if b then installs_of g.view else installs_by gs k) t.0
+    (λ (t : (eqb g.caller k ≡ true) × (g.caller ≡ k)). ap (λ (b : Bool). if b then installs_of g.view else installs_by gs k) t.0 ∙ all g (0, omega arith, refl) ∙ ap f t.1)
+    (λ (t : (eqb g.caller k ≡ false) × (g.caller ≢ k)). ap (λ (b : Bool). if b then installs_of g.view else installs_by gs k) t.0
     ∙ installs_found f gs k v (λ x c. all x (Contains-append_right (g ∷ []) gs x c))
-      (⊎_elim (λ (e : g ≡ record { caller = k; view = v }). absurd (t.1 (ap (λ (y : Gathered). y.caller) e))) (λ c. c) (contains-cons g gs (record { caller = k; view = v }) h)))
-  (eqb_tells g.caller k)
+    (⊎_elim (λ (e : g ≡ record { caller = k; view = v }). absurd (t.1 (ap (λ (y : Gathered). y.caller) e))) (λ c. c) (contains-cons g gs (record { caller = k; view = v }) h)))
+    (eqb_tells g.caller k)
 
 built_cgl : (a : Alg) → is_built a ≡ true → a ≡ Cgl
 built_cgl Cgl e = refl
@@ -162,6 +163,6 @@ rests good c w g idle = (g.cgl (built_cgl (alg_of w.gate) g.built)).free (free w
 -- two worlds whose callers made the same have one history
 pub same_history : (good : (ℕ → ℕ) → Type 0) (c : Config) (w x : World) → Whole good c w → Whole good c x → ((k : ℕ) → k < c.callers → (x.views k).history.made ≡ (w.views k).history.made) → x.history ≡ w.history
 same_history good c w x g h same = merged x.history w.history (x.clock + 1) (w.clock + 1) h.history.below g.history.below (λ n. ⊎_elim
-  (λ (t : (leb c.callers n ≡ true) × (c.callers ≤ n)). made_by-none good c x.history n t.1 h.history.legal ∙ sym (made_by-none good c w.history n t.1 g.history.legal))
-  (λ (t : (leb c.callers n ≡ false) × (n < c.callers)). sym (h.history.known n).made ∙ same n t.1 ∙ (g.history.known n).made)
-  (leb_tells c.callers n))
+    (λ (t : (leb c.callers n ≡ true) × (c.callers ≤ n)). made_by-none good c x.history n t.1 h.history.legal ∙ sym (made_by-none good c w.history n t.1 g.history.legal))
+    (λ (t : (leb c.callers n ≡ false) × (n < c.callers)). sym (h.history.known n).made ∙ same n t.1 ∙ (g.history.known n).made)
+    (leb_tells c.callers n))

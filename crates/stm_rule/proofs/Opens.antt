@@ -67,12 +67,19 @@ opening_gate c = record {
   checked = λ n k e. absurd cc;
   seen = λ n k e. refl;
   named = λ n e. absurd cc;
-  far = λ n l. refl }
+  far = λ n l. refl;
+}
 
 -- the opening words and the first views meet the rule
 pub whole_opens : (good : (ℕ → ℕ) → Type 0) (c : Config) → IsConfig c → good (λ a. 0) → Whole good c (opening_world c)
 whole_opens good c config start = let w = cgl_world-opening good c config start (λ n. (first_view c).gate) in record {
-  history = w.history; steps = w.steps; gate = opening_gate c; built = refl; lock = w.lock; cgl = λ e. w.cgl }
+  history = w.history;
+  steps = w.steps;
+  gate = opening_gate c;
+  built = refl;
+  lock = w.lock;
+  cgl = λ e. w.cgl;
+}
 
 only : {A : Type 0} (x : A) (j : ℕ) (y : A) → get_elem? (x ∷ []) j ≡ some y → (j ≡ 0) × (x ≡ y)
 only x zero y e = (refl, some-injective x y e)
@@ -101,14 +108,16 @@ module _ {K : Type 0} (good : K → List ℕ → Type 0) (c : Config) (rule : K)
     dealt = λ i j k n s t ei ej q p. absurd (no_claim n j t ej p);
     dealer = λ i j k l s t ei ej p q. (only (newcomer key) i s ei).0 ∙ sym (only (newcomer key) j t ej).0;
     config = λ j s e d. ap (λ (y : SeatView K). y.who.config) (sym (only (newcomer key) j s e).1);
-    memory_rule = λ j s e d. ap (λ (y : SeatView K). y.who.rule) (sym (only (newcomer key) j s e).1) }
+    memory_rule = λ j s e d. ap (λ (y : SeatView K). y.who.rule) (sym (only (newcomer key) j s e).1);
+  }
 
   pub opening_kept : (ws : List ℕ) → IsConfig c → good rule (replicate c.words 0) → ws ≡ opening_words c → Kept good key (opening ws [] (newcomer key))
   opening_kept ws config start is = record {
     world = opening_world c;
     lies = subst (Lies c (opening_world c)) (sym is) (opening_lies c);
     seats = opening_seats;
-    holds = whole_opens (good_of good c rule) c config (subst (good rule) (sym (words_of-zeros c.words)) start) }
+    holds = whole_opens (good_of good c rule) c config (subst (good rule) (sym (words_of-zeros c.words)) start);
+  }
 
 -- a configuration without a fault has its numbers in range
 within : (low n high : ℕ) → in_range low n high ≡ true → (low ≤ n) × (n ≤ high)
@@ -121,8 +130,14 @@ no_fault c e = go (in_range 1 c.words MAX_WORDS) (in_range 1 c.records MAX_RECOR
     go : (w r s k l m t : Bool) → in_range 1 c.words MAX_WORDS ≡ w → in_range 1 c.records MAX_RECORDS ≡ r → in_range MIN_RING c.ring MAX_RING ≡ s → in_range 1 c.callers MAX_CALLERS ≡ k → in_range 1 c.reads MAX_LOG ≡ l → in_range 1 c.writes MAX_LOG ≡ m → nat_le c.clock CLOCK_LIMIT ≡ t
         → (if w then (if r then (if s then (if k then (if l && m then (if t then None else Some faults.Clock) else Some Logs) else Some Callers) else Some Ring) else Some Records) else Some Words) ≡ None → IsConfig c
     go true true true true true true true a b d f g h i e = record {
-      words = within 1 c.words MAX_WORDS a; records = within 1 c.records MAX_RECORDS b; ring = within MIN_RING c.ring MAX_RING d; callers = within 1 c.callers MAX_CALLERS f;
-      reads = within 1 c.reads MAX_LOG g; writes = within 1 c.writes MAX_LOG h; clock = grind (arith, nat_tests, i) }
+      words = within 1 c.words MAX_WORDS a;
+      records = within 1 c.records MAX_RECORDS b;
+      ring = within MIN_RING c.ring MAX_RING d;
+      callers = within 1 c.callers MAX_CALLERS f;
+      reads = within 1 c.reads MAX_LOG g;
+      writes = within 1 c.writes MAX_LOG h;
+      clock = grind (arith, nat_tests, i);
+    }
     go false r s k l m t a b d f g h i e = absurd cc
     go true false s k l m t a b d f g h i e = absurd cc
     go true true false k l m t a b d f g h i e = absurd cc

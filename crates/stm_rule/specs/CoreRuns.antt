@@ -60,6 +60,6 @@ module _ (good : (ℕ → ℕ) → Type 0) (c : Config) where
   -- from the opening, below the clock's limit, these steps are allowed, and the history is then this one entry
   abbrev pub CoreCommits : Type 0
   CoreCommits = (a x : ℕ) → 0 < c.callers → c.clock < CLOCK_LIMIT → a < c.words → x < 2 ^ 64 → Keeps good (record { at = a; value = 0 } ∷ []) (record { at = a; value = x } ∷ [])
-    → Allowed core_kind CoreMay (one_attempt (c.clock + 1) a x) (opening_world c)
+      → Allowed core_kind CoreMay (one_attempt (c.clock + 1) a x) (opening_world c)
       × ((run core_kind CoreMay (one_attempt (c.clock + 1) a x) (opening_world c)).history
-        ≡ record { time = c.clock + 1; caller = 0; number = 0; reads = record { at = a; value = 0 } ∷ []; writes = record { at = a; value = x } ∷ [] } ∷ [])
+      ≡ record { time = c.clock + 1; caller = 0; number = 0; reads = record { at = a; value = 0 } ∷ []; writes = record { at = a; value = x } ∷ [] } ∷ [])

@@ -11,17 +11,14 @@ use stm_model::rule::MemRule;
 /// Whatever steps of the core any callers take, each allowed where it comes, the rule holds after each.
 pub fn core_keeps_along<K: MemRule>()
     ensures { (rule : K) (c : Config) → CoreKeepsAlong (good_of K.good c rule) c }
-{
-}
+{}
 
 /// The opening words and the first views meet the rule.
 pub fn core_opens<K: MemRule>()
     ensures { (rule : K) (c : Config) → IsConfig c → K.good rule (replicate c.words 0) → CoreOpens (good_of K.good c rule) c }
-{
-}
+{}
 
 /// These laws speak of some runs: an attempt from the opening is one.
 pub fn core_commits<K: MemRule>()
     ensures { (rule : K) (c : Config) → CoreCommits (good_of K.good c rule) c }
-{
-}
+{}
