@@ -3,7 +3,6 @@ use Rattle.std.proofs.Common.{ℕ, List, replicate, refl, sym, subst, arith}
 use Rattle.rule_base.specs.declared.layout.Config.{Config}
 use Rattle.rule_base.specs.Bridge.{of_words}
 use Rattle.rule_base.specs.BridgeLemmas.{words_of-zeros}
-use Rattle.rule_base.specs.OpeningLemmas.{opening-history, opening-steps}
 use Rattle.rule_base.specs.Places.{IsConfig}
 use Rattle.rule_base.specs.RunLemmas.{keeps-along}
 use Rattle.rule_base.specs.StepKinds.{world_after}

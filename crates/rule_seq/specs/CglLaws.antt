@@ -29,10 +29,11 @@ cgl_scene-kept w x n v is clock lock heap history own = λ i. record { clock = c
 -- a step of a caller that has no lock
 pub cgl-outside : (words : ℕ) (w x : World) (n : ℕ) (v : View) → x.views ≡ put w.views n v → x.clock ≡ w.clock → x.lock ≡ w.lock → x.heap ≡ w.heap → x.history ≡ w.history → v.lock.taken ≡ false → CglRule words (cgl_scene w) → CglRule words (cgl_scene x)
 cgl-outside words w x n v is clock lock heap history out r = subst (CglRule words) (sym path) (record {
-    free = r.free;
-    holder = put-all (cgl_scene w).views n (cgl_view v) (λ m k. k.lock.taken ≡ true → CglHolder words (record (cgl_scene w) { views = put (cgl_scene w).views n (cgl_view v) }) k)
+  free = r.free;
+  holder = put-all (cgl_scene w).views n (cgl_view v) (λ m k. k.lock.taken ≡ true → CglHolder words (record (cgl_scene w) { views = put (cgl_scene w).views n (cgl_view v) }) k)
       (λ t. absurd cc)
-      (λ m d t. let h = r.holder m t in record { stored = h.stored; unstored = h.unstored; start = h.start; front = h.front; sees = h.sees; reads_inside = h.reads_inside; stores_inside = h.stores_inside; stores_small = h.stores_small }) })
+      (λ m d t. let h = r.holder m t in record { stored = h.stored; unstored = h.unstored; start = h.start; front = h.front; sees = h.sees; reads_inside = h.reads_inside; stores_inside = h.stores_inside; stores_small = h.stores_small });
+})
   where
     path : cgl_scene x ≡ record (cgl_scene w) { views = put (cgl_scene w).views n (cgl_view v) }
     path = λ i. record { clock = clock i; lock = lock i; heap = heap i; history = history i; views = (ap (parts cgl_view) is ∙ parts-put cgl_view w.views n v) i }

@@ -1,5 +1,5 @@
 -- Every list of steps of the core keeps the rule.
-use Rattle.std.proofs.Common.{◌≡◌, ℕ, ◌+◌, ◌≤◌, ◌<◌, List, replicate, refl, sym, subst, arith}
+use Rattle.std.proofs.Common.{ℕ, List, replicate, refl, sym, subst, arith}
 use Rattle.rule_base.specs.declared.layout.Config.{Config}
 use Rattle.rule_base.specs.Bridge.{of_words}
 use Rattle.rule_base.specs.BridgeLemmas.{words_of-zeros}

@@ -1,17 +1,12 @@
 -- What is known of all descriptors at the closing.
-use Rattle.std.proofs.Common.{◌≡◌, ◌≢◌, ◌⊎◌, ℕ, zero, suc, ◌+◌, ◌-◌, ◌<◌, ◌≤◌, List, [], ◌∷◌, ◌++◌, Bool, true, false, length, get_or, set, replicate, take, drop, map, sym, refl, ap, ◌∙◌, subst, inl, inr, ⊎_elim, arith, le_refl, leb, eqb, append_assoc}
-use Rattle.std.proofs.lemmas.Bool.Decides.{leb_tells, eqb_tells, nat_tests}
-use Rattle.std.proofs.lemmas.List.Elements.{Contains-append_left, Contains-append_right, Contains-append_cases}
+use Rattle.std.proofs.Common.{◌≡◌, ◌≢◌, ℕ, zero, suc, ◌+◌, ◌<◌, ◌≤◌, List, [], ◌∷◌, ◌++◌, Bool, true, false, length, map, sym, refl, ap, ◌∙◌, subst, ⊎_elim, arith, leb, eqb, append_assoc}
+use Rattle.std.proofs.lemmas.Bool.Decides.{leb_tells, eqb_tells}
+use Rattle.std.proofs.lemmas.List.Elements.{Contains-append_right}
 use Rattle.std.proofs.lemmas.List.Sums.{sum_by-cons}
-use Rattle.std.specs.Prelude.{Contains, slice_index, sum_by, ◌==◌, if◌then◌else◌}
-use mathlib.Core.Option.{some}
-use lib.ListN.{get_elem?}
+use Rattle.std.specs.Prelude.{Contains, sum_by, if◌then◌else◌}
 use Rattle.atomic_table.specs.Seated.{TableId}
-use Rattle.atomic_table.specs.Table.{State}
 use Rattle.stm_model.specs.declared.alg.Alg.{Alg}
 use Rattle.stm_model.specs.declared.alg.Alg.TheVariants.{Cgl, Tml, OrecLazy, OrecEager, RingSw, Serial}
-use Rattle.stm_model.specs.Histories as public
-use Rattle.rule_base.specs.declared.entries.Entry.{Entry}
 use Rattle.rule_base.specs.declared.layout.Config.{Config}
 use Rattle.rule_base.specs.declared.seats.Gathered.{Gathered}
 use Rattle.rule_base.specs.declared.seats.Role.{Role}
@@ -21,8 +16,8 @@ use Rattle.rule_base.specs.declared.views.Phase.TheVariants.{Idle, In}
 use Rattle.rule_base.specs.declared.views.Steps.{Steps}
 use Rattle.rule_base.specs.declared.views.View.{View}
 use Rattle.rule_base.specs.Encodings.{alg_of}
-use Rattle.rule_base.specs.History.{Below, made_by, upto, word_now}
-use Rattle.rule_base.specs.HistoryLemmas.{merged, made_by-none, upto-all, upto-begins}
+use Rattle.rule_base.specs.History.{word_now}
+use Rattle.rule_base.specs.HistoryLemmas.{merged, made_by-none}
 use Rattle.rule_base.specs.ListLemmas.{contains-cons, contains-none}
 use Rattle.rule_base.specs.Notes.{claimed, gathers}
 use Rattle.rule_base.specs.StepsRule.{all_rises}

@@ -1,17 +1,16 @@
 -- The table at the opening meets the rule.
-use Rattle.std.proofs.Common.{◌≡◌, ◌≢◌, ◌⊎◌, ℕ, zero, suc, ◌+◌, ◌*◌, ◌<◌, ◌≤◌, List, [], ◌∷◌, ◌++◌, Bool, true, false, length, replicate, get_or, refl, sym, ap, ◌∙◌, subst, arith, inl, inr}
+use Rattle.std.proofs.Common.{◌≡◌, ℕ, zero, suc, ◌+◌, ◌≤◌, List, [], ◌∷◌, Bool, true, false, length, replicate, get_or, refl, sym, ap, ◌∙◌, subst, arith, inl, inr}
 use Rattle.std.proofs.lemmas.List.{length-replicate}
 use Rattle.std.proofs.lemmas.Bool.Decides.{nat_tests}
-use Rattle.std.specs.Prelude.{Contains, nat_le, ◌&&◌, if◌then◌else◌, Option, Some, None}
+use Rattle.std.specs.Prelude.{nat_le, ◌&&◌, if◌then◌else◌, Some, None}
 use mathlib.Core.Option.{some, some-injective, some-ne-none}
 use lib.ListN.{get_elem?}
-use Rattle.atomic_table.specs.Table.{State, opening}
+use Rattle.atomic_table.specs.Table.{opening}
 use Rattle.rule_base.specs.declared.layout.At.{At}
 use Rattle.rule_base.specs.declared.layout.At.TheVariants.{Clock, Lock, Gate, Base, Done, Status, Record, Slot, Heap}
 use Rattle.rule_base.specs.declared.layout.Config.{Config}
 use Rattle.rule_base.specs.declared.layout.TheConstants.{MAX_WORDS, MAX_RECORDS, MIN_RING, MAX_RING, MAX_CALLERS, MAX_LOG, CLOCK_LIMIT}
-use Rattle.rule_base.specs.declared.seats.Gathered.{Gathered}
-use Rattle.rule_base.specs.declared.seats.Role.TheVariants.{Dealer, Caller, Note, Spent}
+use Rattle.rule_base.specs.declared.seats.Role.TheVariants.{Dealer, Note}
 use Rattle.rule_base.specs.declared.seats.SeatView.{SeatView}
 use Rattle.rule_base.specs.BridgeLemmas.{words_of-zeros}
 use Rattle.rule_base.specs.GateRule.{gate_scene, GateRule}
@@ -21,11 +20,10 @@ use Rattle.rule_base.specs.Places.{IsConfig, offset, size, InRange, ring_words}
 use Rattle.rule_base.specs.Seating.{Claims, Seats}
 use Rattle.rule_base.specs.World.{Lies, fetch}
 use Rattle.rule_seq.specs.CglOpening.{cgl_world-opening}
-use Rattle.rule_seq.specs.CglRule.{CglWorld}
 use Rattle.stm_rule.specs.declared.refusal.NewError.TheVariants.{Words, Records, Ring, Callers, Logs, Memory}
 use Rattle.stm_rule.specs.declared.refusal.NewError.TheVariants as faults
 use Rattle.stm_rule.specs.declared.stm.Key.{Key}
-use Rattle.stm_rule.specs.Kept.{good_of, Rule, Kept, newcomer}
+use Rattle.stm_rule.specs.Kept.{good_of, Kept, newcomer}
 use Rattle.stm_rule.specs.Openings.{opening_words}
 use Rattle.stm_rule.specs.Product.{Whole}
 use Rattle.stm_rule.specs.Refusals.{in_range, first_fault}

@@ -1,19 +1,17 @@
 -- A step of one family keeps the clauses of the others.
-use Rattle.std.proofs.Common.{◌≡◌, ℕ, ◌+◌, ◌<◌, ◌≤◌, Bool, true, false, arith, refl, sym, subst, ap, ◌∙◌, le_refl}
+use Rattle.std.proofs.Common.{◌≡◌, ℕ, Bool, true, false, refl, sym, subst, ap, ◌∙◌}
 use Rattle.std.specs.Prelude.{if◌then◌else◌}
 use Rattle.stm_model.specs.declared.alg.Alg.{Alg}
 use Rattle.stm_model.specs.declared.alg.Alg.TheVariants.{Cgl, Tml, OrecLazy, OrecEager, RingSw, Serial}
 use Rattle.rule_base.specs.declared.layout.Config.{Config}
-use Rattle.rule_base.specs.declared.views.Phase.{Phase}
-use Rattle.rule_base.specs.declared.views.Phase.TheVariants.{Idle, Announced, In}
+use Rattle.rule_base.specs.declared.views.Phase.TheVariants.{In}
 use Rattle.rule_base.specs.declared.views.View.{View}
 use Rattle.rule_base.specs.Encodings.{alg_of, has_ring}
-use Rattle.rule_base.specs.GateRule.{gate_scene, GateRule}
+use Rattle.rule_base.specs.GateRule.{GateRule}
 use Rattle.rule_base.specs.GateLaws.{gate_scene-kept}
-use Rattle.rule_base.specs.StepKinds.{StepKind, answer, view_after, world_after, Outcome, StepLaw}
-use Rattle.rule_base.specs.World.{World, put, horizon}
+use Rattle.rule_base.specs.StepKinds.{StepKind, answer, view_after, world_after, StepLaw}
+use Rattle.rule_base.specs.World.{World, horizon}
 use Rattle.rule_seq.specs.CglRule.{CglWorld}
-use Rattle.rule_seq.specs.LockRule.{lock_scene, LockRule}
 use Rattle.stm_rule.specs.Product.{is_built, Whole}
 
 no_ring : (a : Alg) → is_built a ≡ true → has_ring a ≡ false

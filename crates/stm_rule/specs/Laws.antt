@@ -1,12 +1,11 @@
 -- Each kind of step keeps the one rule.
-use Rattle.std.proofs.Common.{◌≡◌, ℕ, ◌+◌, ◌<◌, ◌≤◌, List, ◌++◌, Bool, true, false, arith, refl, sym, subst, ap, ◌∙◌, le_refl}
+use Rattle.std.proofs.Common.{◌≡◌, ℕ, ◌+◌, ◌<◌, List, ◌++◌, refl, sym, subst, ap, ◌∙◌, le_refl}
 use Rattle.rule_base.specs.declared.layout.Config.{Config}
-use Rattle.rule_base.specs.declared.views.Phase.{Phase}
 use Rattle.rule_base.specs.declared.views.Phase.TheVariants.{Idle, Announced, In}
 use Rattle.rule_base.specs.declared.views.SeenHistory.{SeenHistory}
 use Rattle.rule_base.specs.declared.views.View.{View}
 use Rattle.rule_base.specs.GateSteps.{announce, CanAnnounce, load_gate, CanLoadGate, depart, CanDepart}
-use Rattle.rule_base.specs.GateRule.{gate_scene, GateRule}
+use Rattle.rule_base.specs.GateRule.{GateRule}
 use Rattle.rule_base.specs.GateLaws.{gate_scene-kept, announce-gate, load_gate-gate, depart-gate}
 use Rattle.rule_base.specs.History.{upto}
 use Rattle.rule_base.specs.declared.entries.Entry.{Entry}
@@ -15,19 +14,19 @@ use Rattle.rule_base.specs.HistoryLemmas.{upto-begins}
 use Rattle.rule_base.specs.HistoryRuleLemmas.{advances-same, history-kept, history-seen, history-learned}
 use Rattle.rule_base.specs.Notes.{learned_history}
 use Rattle.rule_base.specs.Seating.{IsSeen}
-use Rattle.rule_base.specs.StepKinds.{StepKind, answer, view_after, world_after, Advances, Nothing, Outcome, StepLaw}
+use Rattle.rule_base.specs.StepKinds.{view_after, world_after, Nothing, StepLaw}
 use Rattle.rule_base.specs.StepsLemmas.{steps-kept}
 use Rattle.rule_base.specs.StepsRule.{steps_scene, StepsRule}
 use Rattle.rule_base.specs.PutLemmas.{parts-kept}
-use Rattle.rule_base.specs.World.{World, put, parts}
-use Rattle.rule_seq.specs.CglRule.{cgl_scene, CglRule}
+use Rattle.rule_base.specs.World.{World, put}
+use Rattle.rule_seq.specs.CglRule.{CglRule}
 use Rattle.rule_seq.specs.CglSteps.{take_lock, CanTakeLock, load_start, CanLoadStart, Begins, load_heap, CanLoadHeap, Loads, store_heap, CanStoreHeap, store_clock, CanStoreClock, Commits, free_lock, CanFreeLock}
 use Rattle.rule_seq.specs.CglLaws.{cgl_scene-kept, cgl-outside}
 use Rattle.rule_seq.specs.CglLaws as cgl
-use Rattle.rule_seq.specs.LockRule.{lock_scene, LockRule}
+use Rattle.rule_seq.specs.LockRule.{LockRule}
 use Rattle.rule_seq.specs.LockLemmas.{lock_scene-kept, lock-phase}
 use Rattle.stm_rule.specs.NoteSteps.{hear, Hears, load_end, CanLoadEnd, Ends}
-use Rattle.stm_rule.specs.Frames.{unlocked, LeavesGate, by-cgl}
+use Rattle.stm_rule.specs.Frames.{unlocked, by-cgl}
 use Rattle.stm_rule.specs.Product.{Whole}
 
 module _ (good : (ℕ → ℕ) → Type 0) (c : Config) (n : ℕ) where
