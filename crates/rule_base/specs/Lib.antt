@@ -26,3 +26,4 @@ pub mod RunLemmas
 pub mod ListLemmas
 pub mod SeatLemmas
 pub mod NoteLemmas
+pub mod SeenLemmas

@@ -1,14 +1,15 @@
 -- The closing law, from the seat in which all callers came together.
-use Rattle.std.proofs.Common.{◌≡◌, ℕ, zero, suc, ◌+◌, ◌<◌, ◌≤◌, List, [], ◌∷◌, ◌++◌, length, get_or, replicate, take, drop, map, sym, refl, ap, ◌∙◌, subst, ⊎_elim, arith, le_refl}
+use Rattle.std.proofs.Common.{◌≡◌, ◌≢◌, ◌⊎◌, ℕ, zero, suc, ◌+◌, ◌<◌, ◌≤◌, List, [], ◌∷◌, ◌++◌, Bool, true, false, length, get_or, replicate, take, drop, map, sym, refl, ap, ◌∙◌, subst, ⊎_elim, arith, le_refl}
 use Rattle.std.proofs.Math.Seq.{drop-cons}
-use Rattle.std.proofs.lemmas.List.Elements.{Contains-append_right, Contains-append_cases}
-use Rattle.std.specs.Prelude.{Contains, sum_by}
+use Rattle.std.proofs.lemmas.List.Elements.{Contains-append_left, Contains-append_right, Contains-append_cases}
+use Rattle.std.specs.Prelude.{Contains, sum_by, Some}
 use mathlib.Core.Option.{some}
 use lib.ListN.{get_elem?}
 use Rattle.atomic_table.specs.Seated.{TableId}
 use Rattle.atomic_table.specs.Table.{State}
 use Rattle.stm_model.specs.declared.alg.Alg.{Alg}
 use Rattle.stm_model.specs.Histories.{memory_at, IsLegal}
+use Rattle.stm_model.specs.HistoryLaws.{Within}
 use Rattle.stm_model.specs.Histories as public
 use Rattle.rule_base.specs.declared.entries.Entry.{Entry}
 use Rattle.rule_base.specs.declared.layout.At.TheVariants.{Heap}
@@ -16,27 +17,31 @@ use Rattle.rule_base.specs.declared.layout.Config.{Config}
 use Rattle.rule_base.specs.declared.layout.TheConstants.{CLOCK_LIMIT}
 use Rattle.rule_base.specs.declared.seats.Gathered.{Gathered}
 use Rattle.rule_base.specs.declared.seats.Role.{Role}
-use Rattle.rule_base.specs.declared.seats.Role.TheVariants.{Caller}
+use Rattle.rule_base.specs.declared.seats.Role.TheVariants.{Caller, Spent}
 use Rattle.rule_base.specs.declared.seats.SeatView.{SeatView}
+use Rattle.rule_base.specs.declared.seats.Who.{Who}
 use Rattle.rule_base.specs.declared.views.Phase.TheVariants.{Idle}
 use Rattle.rule_base.specs.declared.views.Steps.{Steps}
 use Rattle.rule_base.specs.declared.views.View.{View}
 use Rattle.rule_base.specs.Bridge.{public_history, words_of}
-use Rattle.rule_base.specs.BridgeLemmas.{memories, words_of-same, legal-public, public_history-made_by}
-use Rattle.rule_base.specs.History.{upto, word_now, word_at}
+use Rattle.rule_base.specs.BridgeLemmas.{memories, words_of-same, legal-public, public_history-made_by, public_history-append}
+use Rattle.rule_base.specs.SeenLemmas.{upto-rest, within-public}
+use Rattle.rule_base.specs.History.{Below, made_by, upto, word_now, word_at}
 use Rattle.rule_base.specs.HistoryLemmas.{made_by-none, upto-all, upto-begins, word_at-all}
 use Rattle.rule_base.specs.ListLemmas.{contains-cons}
 use Rattle.rule_base.specs.Notes.{claimed}
-use Rattle.rule_base.specs.Places.{offset}
+use Rattle.rule_base.specs.Places.{offset, size, InRange, ring_words}
+use Rattle.rule_base.specs.Seating.{Stands}
 use Rattle.rule_base.specs.StepKinds.{view_after}
 use Rattle.rule_base.specs.StepsRule.{steps_scene, all_rises, ClocksWithin}
-use Rattle.rule_base.specs.World.{World}
-use Rattle.stm_rule.specs.Callers.{Handle, IsPrefix, AllIdle}
+use Rattle.rule_base.specs.World.{World, Lies}
+use Rattle.stm_rule.specs.declared.stm.Key.{Key}
+use Rattle.stm_rule.specs.Callers.{Handle, BeginsHistory, AllIdle}
 use Rattle.stm_rule.specs.Closings.{shown, installs_of, installs_by, installs_from, Ended, ended_of, ending_of, Told, AllTold, Closes}
 use Rattle.stm_rule.specs.Kept.{good_of, Rule, Kept, SeatTells}
 use Rattle.stm_rule.specs.NoteSteps.{load_end, Ends}
-use Rattle.stm_rule.proofs.Gathering.{Every, every_shown, every_and, every_idle, every_number, rises_sum, installs_map, installs_found, rests, same_history}
-use Rattle.stm_rule.proofs.Learning.{prefix_of}
+use Rattle.stm_rule.specs.Product.{Whole}
+use Rattle.stm_rule.proofs.Gathering.{Every, every_shown, every_and, every_idle, every_number, rises_sum, rises_alike, installs_map, installs_found, rests, same_history}
 
 -- the words from o on, where they are those of a memory
 words_from : (ws : List ℕ) (n o : ℕ) (m : ℕ → ℕ) → o + n ≤ length ws → ((a : ℕ) → a < n → get_or ws (o + a) 0 ≡ m a) → take n (drop o ws) ≡ words_of n m
@@ -52,12 +57,12 @@ module _ {K : Type 0} (good : K → List ℕ → Type 0) (c : Config) (rule : K)
   all_told t w n [] e g history clock stand = tt
   all_told t w n (d ∷ ds) e g history clock stand =
       let k = g.history.known n in
-      let all : upto w.history w.clock ≡ w.history = upto-all w.history (w.clock + 1) w.clock g.history.below (le_refl (w.clock + 1)) in
-      let m = upto-begins w.history (w.clock + 1) (w.views n).history.front w.clock g.history.below k.front in
-      let prefix : IsPrefix (public_history (w.views n).history.seen) (public_history w.history) = prefix_of m.0 w.history (w.views n).history.seen (sym all ∙ m.1 ∙ ap (λ l. m.0 ++ l) (sym k.seen)) in
+      let rest = upto-rest w.history (w.clock + 1) (w.views n).history.front g.history.below in
+      let split : public_history w.history ≡ public_history (w.views n).history.seen ++ public_history rest.0 = ap public_history (rest.1.0 ∙ ap (λ l. rest.0 ++ l) (sym k.seen)) ∙ public_history-append rest.0 (w.views n).history.seen in
+      let begins : BeginsHistory (public_history (w.views n).history.seen) (w.views n).history.front (public_history w.history) = (public_history rest.0, split, rest.1.1) in
       let here : Told e n (record { table = d.table; who = d.who; view = w.views n }) = record {
         made = ap public_history k.made ∙ public_history-made_by n w.history ∙ ap (public.made_by n) (sym history);
-        seen = subst (IsPrefix (public_history (w.views n).history.seen)) (sym history) prefix;
+        seen = subst (BeginsHistory (public_history (w.views n).history.seen) (w.views n).history.front) (sym history) begins;
         clocks = subst (λ (x : ℕ). ClocksWithin x (w.views n).steps.trail) (sym clock) (g.steps.trail n);
       } in (
         subst (λ (v : View). Told e n (record { table = d.table; who = d.who; view = v })) stand.0 here,
@@ -171,6 +176,7 @@ module _ {K : Type 0} (good : K → List ℕ → Type 0) (c : Config) (rule : K)
       opening = ap (λ (q : SeatView K). q.who.config.clock) next ∙ ap (λ (q : Config). q.clock) config;
       clock = clock_is ∙ risen;
       limit = subst (λ (k : ℕ). k ≤ CLOCK_LIMIT) (sym clock_is) told.1.rule.history.limit;
+      times = subst (λ (k : ℕ). Within k (public_history u.view.history.seen)) (sym clock_is) (subst (λ (h : List Entry). Within w.clock (public_history h)) (sym seen_is) (within-public w.history w.clock told.1.rule.history.below));
       legal = subst (λ (h : List Entry). IsLegal (good rule) (replicate c.words 0) c.clock (public_history h)) (sym seen_is) (legal-public (good rule) c w.history (w.clock + 1) told.1.rule.history.below told.1.rule.history.legal);
       words = words_are ∙ ap (λ k. memory_at k (public_history w.history) (replicate c.words 0)) (sym clock_is) ∙ ap (λ (h : List Entry). memory_at u.view.history.front (public_history h) (replicate c.words 0)) (sym seen_is);
       told = all_told t w 0 ds (ended_of (ending_of u)) told.1.rule (ap public_history seen_is) clock_is stand;

@@ -10,3 +10,4 @@ pub mod Callers
 pub mod Openings
 pub mod Closings
 pub mod CoreRuns
+pub mod CallerLemmas

@@ -11,3 +11,5 @@ pub mod opening;
 pub mod refusal;
 mod splits;
 pub mod stm;
+#[cfg(test)]
+mod tests;
