@@ -72,7 +72,7 @@ module _ (good : List ℕ → Type 0) (c : Config) (n : ℕ) where
       → EndsAt good c n start (known_of v) (known_of w) × ((known_of w).rises ≡ (known_of v).base) × (is_empty (known_of v).log.writes ≡ true)
   tells-ended k start v u w i t s = subst (λ (x : View). Goal x) (sym path) (record {
         ends = record {
-          idle = (ap (λ p. is_in (departed p)) i.phase, ap (λ p. is_closing (departed p)) i.phase);
+          idle = (ap departed i.phase, ap (λ p. is_in (departed p)) i.phase, ap (λ p. is_closing (departed p)) i.phase);
           grows = grows-same (known_of v) (known_of last) refl refl;
           pays = (let r = i.rises in omega arith);
           installs = refl };
@@ -97,7 +97,7 @@ module _ (good : List ℕ → Type 0) (c : Config) (n : ℕ) where
       → Tells free_lock Nothing s 0 u → Tells (depart n) Nothing u 0 w → CommitsAt good c n (start + 1) (known_of v) (known_of w)
   tells-committed start v s u w i r t d = subst (λ (x : View). CommitsAt good c n (start + 1) (known_of v) (known_of x)) (sym path) (record {
         ends = record {
-          idle = (ap (λ p. is_in (departed p)) i.phase, ap (λ p. is_closing (departed p)) i.phase);
+          idle = (ap departed i.phase, ap (λ p. is_in (departed p)) i.phase, ap (λ p. is_closing (departed p)) i.phase);
           grows = record {
             later = made ∷ [];
             is = ap (λ h. h ++ made ∷ []) (sym (ap public_history r.1.seen));

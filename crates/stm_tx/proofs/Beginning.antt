@@ -34,7 +34,7 @@ tells-of kind shows s n t h = (h.0, h.1, ap (λ x. x.view) h.3)
 
 -- a descriptor that is idle is outside
 pub outside-of : (good : List ℕ → Type 0) (c : Config) (a : Alg) (clock : ℕ) (wrote running : Bool) (v : View) → IsIdle (known_of v) → Stands good c a clock wrote running v → IsOutside v
-outside-of good c a clock wrote true v idle s = absurd (let e : true ≡ false = sym (ap is_in s.phase) ∙ idle.0 in cc)
+outside-of good c a clock wrote true v idle s = absurd (let e : true ≡ false = sym (ap is_in s.phase) ∙ idle.1 in cc)
 outside-of good c a clock wrote false v idle s = s
 
 abbrev pub FoundIn : At → ℕ → List TrailItem → List TrailItem → Type 0
@@ -57,7 +57,7 @@ module _ (good : List ℕ → Type 0) (c : Config) (n : ℕ) where
   pub tells-closed : (gate : ℕ) (v s t w : View) → n < c.callers → IsOutside v → holder_of gate ≢ 0 → Tells (announce n) Nothing v 1 s → Tells load_gate (FindsGate c n) s gate t → Tells (depart n) Nothing t 0 w
       → Begins good c n (Closed gate) (known_of v) (known_of w)
   tells-closed gate v s t w low out other a l d = subst (λ (y : View). Begins good c n (Closed gate) (known_of v) (known_of y)) (sym path)
-      (record { idle = (ap (λ b. is_in (departed (if b then In else Turned))) apart, ap (λ b. is_closing (departed (if b then In else Turned))) apart);
+      (record { idle = (ap (λ b. departed (if b then In else Turned)) apart, ap (λ b. is_in (departed (if b then In else Turned))) apart, ap (λ b. is_closing (departed (if b then In else Turned))) apart);
           made = refl; grows = grows-same (known_of v) (known_of last) refl refl; rises = refl; installs = refl },
         (record { place = Status n; found = None } ∷ record { place = Gate; found = Some gate } ∷ record { place = Status n; found = None } ∷ [], refl, (1, omega arith, refl)),
         who, two who.0 n c.callers who.1 low who.2)
@@ -118,7 +118,7 @@ module _ (good : List ℕ → Type 0) (c : Config) (n : ℕ) where
   -- a refusal, after the caller has departed
   stays : (gate : ℕ) (v s t u w : View) → Tells (announce n) Nothing v 1 s → Tells load_gate (FindsGate c n) s gate t → Waits t u → Tells (depart n) Nothing u 0 w → Stays (known_of v) (known_of w)
   stays gate v s t u w a l b d = subst (λ (y : View). Stays (known_of v) (known_of y)) (sym d.2) (record {
-        idle = (ap (λ p. is_in (departed p)) b.can.phase, ap (λ p. is_closing (departed p)) b.can.phase);
+        idle = (ap departed b.can.phase, ap (λ p. is_in (departed p)) b.can.phase, ap (λ p. is_closing (departed p)) b.can.phase);
         made = b.made ∙ ap (λ y. (known_of y).made) path;
         grows = record { later = b.grows.later; is = b.grows.is ∙ ap (λ h. h ++ b.grows.later) (ap (λ y. (known_of y).seen) path); ascending = subst (λ f. Ascending f b.grows.later) front b.grows.ascending; up_to = b.grows.up_to; front_rose = (let r = b.grows.front_rose in let f = front in omega arith) };
         rises = b.rises ∙ ap (λ (y : View). y.steps.rises) path;

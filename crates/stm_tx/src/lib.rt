@@ -3,3 +3,5 @@
 
 pub mod calls;
 pub mod live;
+#[cfg(test)]
+mod tests;

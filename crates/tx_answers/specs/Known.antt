@@ -23,6 +23,7 @@ pub record Known : Type 0 where
   pub made : List Entry
   pub seen : List Entry
   pub front : ℕ
+  pub phase : Phase
   -- in an attempt, or closing the gate; whether it has closed the gate; the algorithm
   pub running : Bool
   pub closing : Bool
@@ -75,6 +76,7 @@ known_of v = record {
   made = public_history v.history.made;
   seen = public_history v.history.seen;
   front = v.history.front;
+  phase = v.gate.phase;
   running = is_in v.gate.phase;
   closing = is_closing v.gate.phase;
   holds = v.gate.holds;
@@ -103,7 +105,7 @@ abbrev pub zeros : ℕ → List ℕ
 zeros words = replicate words 0
 
 abbrev pub IsIdle : Known → Type 0
-IsIdle v = (v.running ≡ false) × (v.closing ≡ false)
+IsIdle v = (v.phase ≡ Idle) × (v.running ≡ false) × (v.closing ≡ false)
 
 abbrev pub state_of : Known → TxState
 state_of v = if v.running then states.Running v.alg else (if v.closing then states.Closing v.alg else states.Idle)

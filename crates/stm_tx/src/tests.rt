@@ -1,0 +1,118 @@
+//! What no clause says: that an attempt begins, commits and is refused at all, on one thread.
+ghost use Rattle.std.specs.Prelude.{◌≡◌, ◌<◌, None};
+
+use crate::calls::{cancel, commit, holds_gate, is_irrevocable, read, start, state, try_begin, write};
+use crate::live::Live;
+use rule_base::layout::{CLOCK_LIMIT, Config};
+use std::alloc::Global;
+use std::test::Fail;
+use stm_model::access::Access;
+use stm_model::alg::Alg;
+use stm_model::rule::AnyMem;
+use stm_model::stop::Stop;
+use stm_rule::refusal::NewError;
+use stm_rule::stm::Stm;
+use tx_answers::answers::{Begin, Cancel, Commit, Read, TxState, Write};
+
+const PAIR: Config = Config {
+    words: 8,
+    records: 4,
+    ring: 4,
+    callers: 2,
+    reads: 256,
+    writes: 256,
+    clock: 0,
+};
+
+/// Caller 0 writes 5 to word 0, and caller 1, which learns of it, reads it. Answers whether all went so.
+fn one_writes_the_other_reads(alloc: Global) -> Result<bool, NewError> {
+    let (stm, mut descs) = Stm::new(alloc, PAIR, AnyMem)?;
+    let Some(mut second) = descs.pop() else {
+        return Ok(false);
+    };
+    let Some(mut first) = descs.pop() else {
+        return Ok(false);
+    };
+    let Begin::Begun(Alg::Cgl) = try_begin(&mut first, &stm) else {
+        return Ok(false);
+    };
+    let Begin::Held { word: 1 } = try_begin(&mut second, &stm) else {
+        return Ok(false);
+    };
+    let Write::Done = write(&mut first, &stm, 0, 5) else {
+        return Ok(false);
+    };
+    let Cancel::Irrevocable = cancel(&mut first, &stm) else {
+        return Ok(false);
+    };
+    let Commit::Committed { time: 1 } = commit(&mut first, &stm) else {
+        return Ok(false);
+    };
+    let note = first.tell(&stm);
+    second.learn(&stm, note);
+    let Begin::Begun(Alg::Cgl) = try_begin(&mut second, &stm) else {
+        return Ok(false);
+    };
+    if start(&second) != 1 || !is_irrevocable(&second) || holds_gate(&second) {
+        return Ok(false);
+    }
+    let Read::Value(5) = read(&mut second, &stm, 0) else {
+        return Ok(false);
+    };
+    let Commit::ReadOnly { time: 1 } = commit(&mut second, &stm) else {
+        return Ok(false);
+    };
+    Ok(state(&first) == TxState::Idle)
+}
+
+/// What a try to begin comes to where the clock opens at its limit.
+fn begin_at_the_limit(alloc: Global) -> Result<Begin, NewError> {
+    let config = Config {
+        callers: 1,
+        clock: CLOCK_LIMIT,
+        ..PAIR
+    };
+    let (stm, mut descs) = Stm::new(alloc, config, AnyMem)?;
+    match descs.pop() {
+        Some(mut desc) => Ok(try_begin(&mut desc, &stm)),
+        None => Err(NewError::Memory),
+    }
+}
+
+/// Adds 1 to the word at `a`, through the bound, and answers it.
+fn add_one<A: Access>(acc: &mut A, a: usize) -> Result<u64, Stop>
+    requires going { A.stopped acc.old ≡ None }
+    requires within { a < A.words acc.old }
+{
+    let old = acc.read(a)?;
+    acc.write(a, old.wrapping_add(1))?;
+    acc.read(a)
+}
+
+/// What a word is after 1 was added to it in an attempt.
+fn add_in_an_attempt(alloc: Global) -> Result<Option<u64>, NewError> {
+    let (stm, mut descs) = Stm::new(alloc, PAIR, AnyMem)?;
+    let Some(mut desc) = descs.pop() else {
+        return Ok(None);
+    };
+    let Begin::Begun(_) = try_begin(&mut desc, &stm) else {
+        return Ok(None);
+    };
+    let mut live = Live {
+        desc: &mut desc,
+        stm: &stm,
+        stopped: None,
+    };
+    match add_one(&mut live, 7) {
+        Ok(value) => Ok(Some(value)),
+        Err(_) => Ok(None),
+    }
+}
+
+#[test]
+fn two_callers_take_turns(rt: HostRuntime) -> Result<(), Fail> {
+    assert_eq!(rt; one_writes_the_other_reads(rt.alloc()), Ok(true));
+    assert_eq!(rt; begin_at_the_limit(rt.alloc()), Ok(Begin::ClockFull { clock: CLOCK_LIMIT }));
+    assert_eq!(rt; add_in_an_attempt(rt.alloc()), Ok(Some(1)));
+    Ok(())
+}
