@@ -1,5 +1,8 @@
 //! What no clause says: that an attempt begins, commits and is refused at all, on one thread.
 ghost use Rattle.std.specs.Prelude.{◌≡◌, ◌<◌, None};
+ghost use Rattle.stm_rule.specs.Callers.{IsOf};
+ghost use Rattle.tx_answers.specs.Known.{IsIdle};
+ghost use Rattle.stm_tx.specs.Descs.{known};
 
 use crate::calls::{cancel, commit, holds_gate, is_irrevocable, read, start, state, try_begin, write};
 use crate::live::Live;
@@ -8,8 +11,9 @@ use std::alloc::Global;
 use std::test::Fail;
 use stm_model::access::Access;
 use stm_model::alg::Alg;
-use stm_model::rule::AnyMem;
+use stm_model::rule::{AnyMem, MemRule};
 use stm_model::stop::Stop;
+use stm_rule::desc::Desc;
 use stm_rule::refusal::NewError;
 use stm_rule::stm::Stm;
 use tx_answers::answers::{Begin, Cancel, Commit, Read, TxState, Write};
@@ -89,23 +93,32 @@ fn add_one<A: Access>(acc: &mut A, a: usize) -> Result<u64, Stop>
     acc.read(a)
 }
 
-/// What a word is after 1 was added to it in an attempt.
-fn add_in_an_attempt(alloc: Global) -> Result<Option<u64>, NewError> {
-    let (stm, mut descs) = Stm::new(alloc, PAIR, AnyMem)?;
-    let Some(mut desc) = descs.pop() else {
-        return Ok(None);
-    };
-    let Begin::Begun(_) = try_begin(&mut desc, &stm) else {
-        return Ok(None);
+/// Adds 1 to the last word in an attempt, and answers it.
+fn begin_and_add<K: MemRule>(desc: &mut Desc<K>, stm: &Stm<K>) -> Option<u64>
+    requires stm { IsOf desc.old stm.now.table.shared.table_id stm.now.config stm.now.rule }
+    requires idle { IsIdle (known desc.old) }
+    requires inside { 7 < stm.now.config.words }
+{
+    let Begin::Begun(_) = try_begin(desc, stm) else {
+        return None;
     };
     let mut live = Live {
-        desc: &mut desc,
-        stm: &stm,
+        desc,
+        stm,
         stopped: None,
     };
     match add_one(&mut live, 7) {
-        Ok(value) => Ok(Some(value)),
-        Err(_) => Ok(None),
+        Ok(value) => Some(value),
+        Err(_) => None,
+    }
+}
+
+/// What a word is after 1 was added to it in an attempt.
+fn add_in_an_attempt(alloc: Global) -> Result<Option<u64>, NewError> {
+    let (stm, mut descs) = Stm::new(alloc, PAIR, AnyMem)?;
+    match descs.pop() {
+        Some(mut desc) => Ok(begin_and_add(&mut desc, &stm)),
+        None => Ok(None),
     }
 }
 
