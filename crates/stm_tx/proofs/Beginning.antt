@@ -26,7 +26,7 @@ use Rattle.alg_seq.specs.Cgl.{CanBegin, Waits, StartsAt, Refuses}
 use Rattle.tx_answers.specs.declared.answers.Begin.{Begin}
 use Rattle.tx_answers.specs.declared.answers.Begin.TheVariants.{Begun, Closed, Held, ClockFull}
 use Rattle.tx_answers.specs.Answers.{Begins, BeginsAt, Stays, FindsFull, NamesOther, IsHeld}
-use Rattle.tx_answers.specs.Known.{Known, Found, Grows, IsIdle, known_of, is_in, is_closing, no_log}
+use Rattle.tx_answers.specs.Known.{is_offered, Known, Found, Grows, IsIdle, known_of, is_in, is_closing, no_log}
 use Rattle.tx_answers.specs.KnownLaws.{grows-same}
 
 pub tells-of : {K : Type 0} → (kind : StepKind) (shows : World → View → ℕ → Type 0) (s : SeatView K) (n : ℕ) (t : SeatView K) → SeatTells kind shows s n t → Tells kind shows s.view n t.view
@@ -84,7 +84,7 @@ module _ (good : List ℕ → Type 0) (c : Config) (n : ℕ) where
         grows = record { later = b.grows.later; is = b.grows.is ∙ ap (λ h. h ++ b.grows.later) seen; ascending = subst (λ f. Ascending f b.grows.later) front b.grows.ascending; up_to = b.grows.up_to; front_rose = (let r = b.grows.front_rose in let f = front in omega arith) };
         fresh = (let r = b.fresh in let f = front in let e = i.start in omega arith);
         log = ap (λ r. record { reads = items r; writes = items w.attempt.stores }) b.reads ∙ ap (λ r. record { reads = []; writes = items r }) (i.clean refl);
-        opaque = b.opaque; named = i.named ∙ sym cgl; granted = i.ungranted; holds = i.reopened;
+        opaque = b.opaque; named = i.named ∙ sym cgl; offered = ap is_offered cgl; granted = i.ungranted; holds = i.reopened;
         rises = b.rises ∙ rises; base = sym i.rises ∙ (b.rises ∙ rises); installs = ap reverse (b.installs ∙ installs);
         gate = (gate, (b.steps.0 ++ early, b.steps.1 ∙ (ap (λ x. b.steps.0 ++ x) trail ∙ sym (append_assoc b.steps.0 early v.steps.trail)), Contains-append_right b.steps.0 early (record { place = Gate; found = Some gate }) (0, omega arith, refl)), zero, refl) }
     where

@@ -23,7 +23,7 @@ use Rattle.tx_answers.specs.declared.answers.Read.{Read}
 use Rattle.tx_answers.specs.declared.answers.Read.TheVariants.{Value, Conflict, Full}
 use Rattle.tx_answers.specs.declared.answers.Write.{Write}
 use Rattle.tx_answers.specs.declared.answers.Write.TheVariants.{Done, Conflict, Full, ClockFull}
-use Rattle.tx_answers.specs.Known.{Known, Grows, Found, IsIdle, is_irrevocable, no_log, zeros}
+use Rattle.tx_answers.specs.Known.{Known, Grows, Found, IsIdle, is_offered, is_irrevocable, no_log, zeros}
 
 -- the entry that a commit makes of the log: the caller has made this many before
 abbrev pub entry : ℕ → ℕ → ℕ → Log → Entry
@@ -133,6 +133,7 @@ module _ (good : List ℕ → Type 0) (c : Config) (n : ℕ) where
     pub log : w.log ≡ no_log
     pub opaque : IsOpaque w
     pub named : w.alg ≡ alg
+    pub offered : is_offered alg ≡ true
     pub granted : w.granted ≡ false
     pub holds : w.holds ≡ false
     pub rises : w.rises ≡ v.rises

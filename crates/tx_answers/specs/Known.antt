@@ -110,6 +110,15 @@ IsIdle v = (v.phase ≡ Idle) × (v.running ≡ false) × (v.closing ≡ false)
 abbrev pub state_of : Known → TxState
 state_of v = if v.running then states.Running v.alg else (if v.closing then states.Closing v.alg else states.Idle)
 
+-- the algorithms that are built
+abbrev pub is_offered : Alg → Bool
+is_offered Cgl = true
+is_offered Tml = false
+is_offered OrecLazy = false
+is_offered OrecEager = false
+is_offered RingSw = false
+is_offered Serial = false
+
 -- an attempt can't be cancelled: by its algorithm, by a write, or since it was granted
 abbrev pub is_sure : Alg → Bool → Bool → Bool
 is_sure Cgl granted wrote = true
