@@ -1,6 +1,6 @@
 -- How the cells of an attempt read as items of its log.
-use Rattle.std.proofs.Common.{ℕ, ◌≡◌, ◌≢◌, ◌<◌, List, [], ◌∷◌, ◌++◌, Bool, true, false, refl, sym, ap, ◌∙◌, arith, subst}
-use Rattle.std.specs.Prelude.{Option, Some, None, MatchOption, ◌==◌, if◌then◌else◌}
+use Rattle.std.proofs.Common.{ℕ, ◌≡◌, ◌≢◌, ◌<◌, List, [], ◌∷◌, ◌++◌, Bool, true, false, refl, sym, ap, ◌∙◌, arith}
+use Rattle.std.specs.Prelude.{Some, None, ◌==◌, if◌then◌else◌}
 use Rattle.std.proofs.lemmas.Bool.Decides.{nat_tests}
 use Rattle.stm_model.specs.Logs.{Log, Reads}
 use Rattle.stm_model.specs.Memories.{item_at, put, is_empty}

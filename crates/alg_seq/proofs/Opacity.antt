@@ -1,5 +1,5 @@
 -- What an attempt knows of the memory at its start, as a user is told it.
-use Rattle.std.proofs.Common.{ℕ, ◌≡◌, ◌<◌, ◌≤◌, ◌+◌, ◌-◌, List, [], ◌∷◌, ◌++◌, Bool, true, false, refl, sym, ap, ◌∙◌, arith, subst, length, replicate, le_refl, append_assoc}
+use Rattle.std.proofs.Common.{ℕ, ◌≡◌, ◌<◌, ◌≤◌, ◌+◌, ◌-◌, List, [], ◌∷◌, ◌++◌, Bool, true, false, refl, sym, ap, ◌∙◌, arith, subst, le_refl, append_assoc}
 use Rattle.std.proofs.lemmas.List.{length-replicate, append-nil}
 use Rattle.std.proofs.lemmas.Bool.Decides.{nat_tests}
 use Rattle.std.specs.Prelude.{nat_le, if◌then◌else◌}
@@ -32,16 +32,16 @@ module _ (good : List ℕ → Type 0) (c : Config) (n : ℕ) where
 
   pub opaque-at : (v : View) (s : ℕ) → v.attempt.start ≡ s → v.history.front ≡ s → Legal (of_words good c.words) c v.history.seen → Below v.history.seen (s + 1)
       → Explains (word_now v.history.seen) v.attempt.reads → Inside c.words v.attempt.reads → IsOpaque good c n (known_of v)
-  opaque-at v s is front legal below sees inside = 
+  opaque-at v s is front legal below sees inside =
       let kept = kept-at v.history.seen s legal below in
       let all = sees-at v.history.seen s v.attempt.reads below sees inside in
       subst (λ (k : ℕ). good (memory_at k (public_history v.history.seen) (zeros c.words)) → public_memories.Explains (memory_at k (public_history v.history.seen) (zeros c.words)) (items v.attempt.reads) → IsOpaque good c n (known_of v)) is
-        (λ g e. record {
-          reach = (let a = is in let b = front in omega arith);
-          sees = e;
-          kept = g;
-          explained = (memory_at v.attempt.start (public_history v.history.seen) (zeros c.words), g, length-memory_at v.attempt.start (public_history v.history.seen) (zeros c.words) ∙ length-replicate c.words 0, e);
-        }) kept all
+      (λ g e. record {
+        reach = (let a = is in let b = front in omega arith);
+        sees = e;
+        kept = g;
+        explained = (memory_at v.attempt.start (public_history v.history.seen) (zeros c.words), g, length-memory_at v.attempt.start (public_history v.history.seen) (zeros c.words) ∙ length-replicate c.words 0, e);
+      }) kept all
 
 -- what a later clock shows comes after what was seen
 pub later-seen : (h : List Entry) (front clock : ℕ) → Below h (clock + 1) → front ≤ clock
@@ -58,7 +58,9 @@ later-seen (e ∷ h) front clock b le = by (nat_le e.time front) refl (λ lt. la
         let lt : front < e.time = grind (arith, nat_tests) in
         let r = rec lt in
         let last = public_entry e in
-        let top = b.0 in
-        (r.0 ++ last ∷ [], ap (λ l. l ++ last ∷ []) r.1 ∙ append_assoc (public_history (upto h front)) r.0 (last ∷ []),
+        let top = b.0 in (
+          r.0 ++ last ∷ [],
+          ap (λ l. l ++ last ∷ []) r.1 ∙ append_assoc (public_history (upto h front)) r.0 (last ∷ []),
           ascending-append front (e.time - 1) r.0 (last ∷ []) r.2 r.3 (omega arith) (omega arith, tt),
-          within-append (e.time - 1) clock r.0 (last ∷ []) r.3 (omega arith) (omega arith, tt))
+          within-append (e.time - 1) clock r.0 (last ∷ []) r.3 (omega arith) (omega arith, tt),
+        )

@@ -1,15 +1,14 @@
 -- What a running descriptor's invariant says, and what a step tells of the view.
 use Rattle.std.proofs.Common.{ℕ, ◌≡◌, List, Bool, true, false, sym, ap, ◌∙◌, subst}
-use Rattle.std.specs.Prelude.{Option, Some, None}
+use Rattle.std.specs.Prelude.{Option, Some}
 use Rattle.stm_model.specs.declared.alg.Alg.{Alg}
 use Rattle.stm_model.specs.declared.alg.Alg.TheVariants.{Cgl}
 use Rattle.rule_base.specs.declared.layout.Config.{Config}
 use Rattle.rule_base.specs.declared.seats.SeatView.{SeatView}
-use Rattle.rule_base.specs.declared.views.Phase.TheVariants.{Idle}
 use Rattle.rule_base.specs.declared.views.View.{View}
 use Rattle.rule_base.specs.StepKinds.{StepKind, Tells}
 use Rattle.rule_base.specs.World.{World}
-use Rattle.stm_rule.specs.Attempts.{good_by, IsInside, IsOutside, Stands}
+use Rattle.stm_rule.specs.Attempts.{good_by, IsInside, Stands}
 use Rattle.stm_rule.specs.Callers.{Handle}
 use Rattle.stm_rule.specs.Kept.{SeatTells}
 use Rattle.tx_answers.specs.Known.{known_of, is_in}

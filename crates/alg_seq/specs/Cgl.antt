@@ -1,5 +1,5 @@
 -- What the calls of CGL ask and tell where the caller is not between two calls.
-use Rattle.std.specs.Prelude.{ℕ, ◌≡◌, ◌≤◌, ◌<◌, false, true, List, [], ◌++◌, Result, Ok, Err}
+use Rattle.std.specs.Prelude.{ℕ, ◌≡◌, ◌≤◌, false, List, [], ◌++◌, Result, Ok, Err}
 use Rattle.stm_model.specs.declared.alg.Alg.TheVariants.{Cgl}
 use Rattle.rule_base.specs.declared.layout.Config.{Config}
 use Rattle.rule_base.specs.declared.views.Phase.TheVariants.{In}
@@ -9,7 +9,7 @@ use Rattle.stm_rule.specs.Attempts.{IsInside}
 use Rattle.tx_answers.specs.declared.answers.Begin.{Begin}
 use Rattle.tx_answers.specs.declared.answers.Begin.TheVariants.{Begun, Closed, Held, ClockFull}
 use Rattle.tx_answers.specs.Answers.{FindsFull, NamesOther, IsOpaque}
-use Rattle.tx_answers.specs.Known.{Known, Grows, Found, known_of, no_log}
+use Rattle.tx_answers.specs.Known.{Grows, Found, known_of}
 use Rattle.rule_base.specs.declared.layout.At.TheVariants.{Lock}
 
 -- the caller found the gate open under CGL

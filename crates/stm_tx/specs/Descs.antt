@@ -1,5 +1,5 @@
 -- What contracts see of a descriptor.
-use Rattle.std.proofs.Common.{◌≡◌, refl, ◌∙◌}
+use Rattle.std.proofs.Common.{refl, ◌∙◌}
 use Rattle.stm_model.specs.Logs.{IsLog}
 use Rattle.rule_base.specs.declared.views.View.{View}
 use Rattle.rule_base.specs.BridgeLemmas.{items-once}

@@ -4,7 +4,9 @@ ghost use Rattle.stm_rule.specs.Callers.{IsOf};
 ghost use Rattle.tx_answers.specs.Known.{IsIdle};
 ghost use Rattle.stm_tx.specs.Descs.{known};
 
-use crate::calls::{cancel, commit, holds_gate, is_irrevocable, read, start, state, try_begin, write};
+use crate::calls::{
+    cancel, commit, holds_gate, is_irrevocable, read, start, state, try_begin, write,
+};
 use crate::live::Live;
 use rule_base::layout::{CLOCK_LIMIT, Config};
 use std::alloc::Global;
@@ -125,7 +127,10 @@ fn add_in_an_attempt(alloc: Global) -> Result<Option<u64>, NewError> {
 #[test]
 fn two_callers_take_turns(rt: HostRuntime) -> Result<(), Fail> {
     assert_eq!(rt; one_writes_the_other_reads(rt.alloc()), Ok(true));
-    assert_eq!(rt; begin_at_the_limit(rt.alloc()), Ok(Begin::ClockFull { clock: CLOCK_LIMIT }));
+    assert_eq!(rt;
+        begin_at_the_limit(rt.alloc()),
+        Ok(Begin::ClockFull { clock: CLOCK_LIMIT })
+    );
     assert_eq!(rt; add_in_an_attempt(rt.alloc()), Ok(Some(1)));
     Ok(())
 }

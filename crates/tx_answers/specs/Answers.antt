@@ -12,7 +12,7 @@ use Rattle.stm_model.specs.Memories.{is_empty}
 use Rattle.rule_base.specs.declared.layout.At.TheVariants.{Clock, Lock, Gate, Record}
 use Rattle.rule_base.specs.declared.layout.Config.{Config}
 use Rattle.rule_base.specs.declared.layout.TheConstants.{CLOCK_LIMIT}
-use Rattle.rule_base.specs.Encodings.{taken_lock, holder_of, alg_of, has_records}
+use Rattle.rule_base.specs.Encodings.{holder_of, alg_of, has_records}
 use Rattle.tx_answers.specs.declared.answers.Begin.{Begin}
 use Rattle.tx_answers.specs.declared.answers.Begin.TheVariants.{Begun, Closed, Held, ClockFull}
 use Rattle.tx_answers.specs.declared.answers.Cancel.{Cancel}

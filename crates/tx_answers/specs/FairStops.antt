@@ -1,5 +1,5 @@
 -- A refusal's numbers are fair.
-use Rattle.std.proofs.Common.{ℕ, ◌≡◌, ◌≢◌, ◌≤◌, true, false, refl, arith}
+use Rattle.std.proofs.Common.{ℕ, ◌≡◌, ◌≢◌, ◌≤◌, true, refl, arith}
 use Rattle.std.proofs.lemmas.Bool.Decides.{nat_tests}
 use Rattle.std.specs.Prelude.{Some, ◌==◌, not, leb, ◌&&◌}
 use Rattle.stm_model.specs.declared.stop.Cause.{Cause}

@@ -1,4 +1,4 @@
-use Rattle.std.proofs.Common.{◌≡◌, ◌≢◌, ◌<◌, ◌≤◌, arith, rules}
+use Rattle.std.proofs.Common.{◌≡◌, ◌≢◌, ◌<◌, ◌≤◌, rules}
 use Rattle.rule_base.specs.declared.layout.TheConstants.{CLOCK_LIMIT}
 use Rattle.rule_base.specs.StepKinds.{Nothing}
 use Rattle.rule_seq.specs.CglSteps.{take_lock, load_start, Begins, free_lock}
@@ -33,7 +33,7 @@ returns-then-clock-ge-CLOCK_LIMIT-clause-begins g c =
     let zero : x ≡ 0 = search rules in
     let high : CLOCK_LIMIT ≤ clock = search rules in
     tells-full good f n x clock s.view t.view u.view w.view c.requires.view zero high (tells-of (take_lock n) (FindsLock f n) s x t c.take_lock-found.ensures.step)
-      (tells-of load_start (Begins (good_of g.K.MemRule.good f c.args.stm.now.rule) f) t clock u c.load_start-clock.ensures.step) (tells-of free_lock Nothing u 0 w c.free_lock.ensures.step)
+    (tells-of load_start (Begins (good_of g.K.MemRule.good f c.args.stm.now.rule) f) t clock u c.load_start-clock.ensures.step) (tells-of free_lock Nothing u 0 w c.free_lock.ensures.step)
 
 pub returns-clause-begins : goal.returns-clause-begins
 returns-clause-begins g c =
@@ -48,4 +48,4 @@ returns-clause-begins g c =
     let zero : x ≡ 0 = search rules in
     let low : clock < CLOCK_LIMIT = search rules in
     tells-started good f n x clock s.view t.view w.view c.requires.view zero low (tells-of (take_lock n) (FindsLock f n) s x t c.take_lock-found.ensures.step)
-      (tells-of load_start (Begins (good_of g.K.MemRule.good f c.args.stm.now.rule) f) t clock w c.load_start-clock.ensures.step)
+    (tells-of load_start (Begins (good_of g.K.MemRule.good f c.args.stm.now.rule) f) t clock w c.load_start-clock.ensures.step)

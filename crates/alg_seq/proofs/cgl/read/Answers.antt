@@ -18,5 +18,5 @@ returns-clause-read g c =
     let w = c.load_heap.new.seat.me.0 in
     let i = inside-of g.K.MemRule.good f c.args.stm.now.rule (handle_of d.seat) c.args.desc.now d.running d.algorithm d.start d.wrote d.wrote c.desc.view_is c.requires.stm.config c.requires.stm.rule c.requires.running c.requires.algorithm refl c.desc.invariant.1 in
     subst (λ (h : Handle g.row.K.Denot). HasRead good f (caller_of h.who.role) c.args.a (Value c.load_heap.result) (known_of h.view) (known_of w.view)) c.desc.view_is
-      (tells-read good f (caller_of s.who.role) c.args.a c.load_heap.result d.start d.wrote s.view w.view c.requires.inside i
-        (tells-of (load_heap c.args.a) (Loads (good_of g.K.MemRule.good f c.args.stm.now.rule) f c.args.a) s c.load_heap.result w c.load_heap.ensures.step))
+    (tells-read good f (caller_of s.who.role) c.args.a c.load_heap.result d.start d.wrote s.view w.view c.requires.inside i
+    (tells-of (load_heap c.args.a) (Loads (good_of g.K.MemRule.good f c.args.stm.now.rule) f c.args.a) s c.load_heap.result w c.load_heap.ensures.step))
