@@ -95,10 +95,17 @@ sure-along v w wrote alg granted is h = (λ i. is_sure (alg i) (granted i) (is i
 
 pub carries-goes : (v w : Known) → v.running ≡ true → v.closing ≡ false → GoesOn v w → (is_irrevocable v ≡ true → is_irrevocable w ≡ true) → Carries v w
 carries-goes v w running closing g sure = record {
-    made = g.made; grows = g.grows; closing = g.closing ∙ sym closing; alg = g.alg; granted = g.granted; installs = g.installs; base = g.base;
-    pays = owed-goes v w g.running running g.base;
-    going = λ r. (running, g.start);
-    sure = λ r i. (g.running, sure i) }
+  made = g.made;
+  grows = g.grows;
+  closing = g.closing ∙ sym closing;
+  alg = g.alg;
+  granted = g.granted;
+  installs = g.installs;
+  base = g.base;
+  pays = owed-goes v w g.running running g.base;
+  going = λ r. (running, g.start);
+  sure = λ r i. (g.running, sure i);
+}
   where
     owed-goes : (v w : Known) → w.running ≡ true → v.running ≡ true → w.base ≡ v.base → owed w ≤ owed v
     owed-goes v w now before b = grind (arith, now, before, b)
@@ -111,13 +118,21 @@ carries-wrote v w a x running closing g writes = carries-goes v w running closin
 
 pub carries-quits : (v w : Known) → v.running ≡ true → Quits v w → Carries v w
 carries-quits v w running q = record {
-    made = q.made; grows = q.ends.grows; closing = q.closing; alg = q.alg; granted = q.granted; installs = q.ends.installs; base = q.base;
-    pays = owed-quits v w q.ends.idle.1 running q.ends.pays;
-    going = λ r. absurd (elim-no w.running r q.ends.idle.1);
-    sure = λ r i. absurd (elim-no (is_irrevocable v) i q.revocable) }
+  made = q.made;
+  grows = q.ends.grows;
+  closing = q.closing;
+  alg = q.alg;
+  granted = q.granted;
+  installs = q.ends.installs;
+  base = q.base;
+  pays = owed-quits v w q.ends.idle.1 running q.ends.pays;
+  going = λ r. absurd (elim-no w.running r q.ends.idle.1);
+  sure = λ r i. absurd (elim-no (is_irrevocable v) i q.revocable);
+}
   where
     owed-quits : (v w : Known) → w.running ≡ false → v.running ≡ true → w.rises ≤ v.base + 2 → owed w ≤ owed v
     owed-quits v w out in_it b = grind (arith, out, in_it, b)
+
     elim-no : (b : Bool) → b ≡ true → b ≡ false → ⊥
     elim-no true p q = cc
     elim-no false p q = cc
