@@ -1,5 +1,5 @@
-mod PlainRunLaws
-mod PlainMemoryLaws
-mod TransactLaws
-mod SoFarLaws
-mod WholeRuns
+mod Calls
+mod GoingLaws
+mod RowLaws
+mod TurnLaws
+mod RunLaws

@@ -1,5 +1,8 @@
+pub mod Places
+pub mod Goings
+pub mod Workers
+pub mod Runs
 pub mod Commands
 pub mod Messages
-pub mod PlainRuns
 pub mod Outcomes
 pub mod Statuses

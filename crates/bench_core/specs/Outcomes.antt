@@ -1,10 +1,10 @@
 -- What a call of `bench` read and wrote, by the status that it answers.
-use Rattle.std.specs.Prelude.{ℕ, ◌≡◌, List, Option, Ok, Err}
+use Rattle.std.specs.Prelude.{ℕ, ◌≡◌, List, Option, Some, None, Ok, Err, MatchOption}
 use Rattle.std.specs.Borrow.{Bor}
+use Rattle.stm_rule.specs.Closings.{Ended}
 use Rattle.stm_io.specs.Ends.{Rose, IsText, Gained, GainedSome}
 use Rattle.stm_script.specs.declared.report.Report.{Report}
 use Rattle.stm_script.specs.declared.workload.Workload.{Workload}
-use Rattle.stm_script.specs.Reports.{Replays}
 use Rattle.stm_text.specs.declared.parse.Mode.TheVariants.{Run}
 use Rattle.stm_text.specs.Grammar.{workload_of}
 use Rattle.stm_text.specs.Reports.{report_bytes}
@@ -12,50 +12,54 @@ use Rattle.bench_core.specs.declared.status.Status.{Status}
 use Rattle.bench_core.specs.declared.status.Status.TheVariants.{Ok as Done, Usage, Refused, ReadFault, WriteFault, Memory, ClockFull}
 use Rattle.bench_core.specs.Commands.{IsRun}
 use Rattle.bench_core.specs.Messages.{usage_line, read_fault_line, refused_line, clock_full_line}
-use Rattle.bench_core.specs.PlainRuns.{Placed, StoodAtLimit}
+use Rattle.bench_core.specs.Runs.{IsShown, IsFull}
 
--- the run went to its end, and what is said is a report that replays the workload
-pub record RanToEnd (w : Workload) (said : List ℕ) : Type 0 where
+-- the run went to its end, and what is said is a report that replays the workload and shows the closed memory's history
+pub record RanToEnd (w : Workload) (closed : Ended) (said : List ℕ) : Type 0 where
   pub report : Report
-  pub replays : Replays w report
-  pub placed : Placed w.header.clock report.rows
+  pub shown : IsShown w report closed
   pub is : said ≡ report_bytes report
 
 -- the run came to a transaction at the clock's limit
-pub record RanToLimit (w : Workload) (clock : ℕ) (said : List ℕ) : Type 0 where
-  pub stood : StoodAtLimit w clock
+pub record RanToLimit (w : Workload) (clock : ℕ) (closed : Ended) (said : List ℕ) : Type 0 where
+  pub full : IsFull w clock closed
   pub is : said ≡ clock_full_line clock
 
--- what is said of a run
-abbrev pub SaidOfRun : Workload → Status → List ℕ → Type 0
-SaidOfRun w Done said = RanToEnd w said
-SaidOfRun w (ClockFull clock) said = RanToLimit w clock said
-SaidOfRun w (Refused line code) said = ⊥
-SaidOfRun w Usage said = ⊥
-SaidOfRun w ReadFault said = ⊥
-SaidOfRun w WriteFault said = ⊥
-SaidOfRun w Memory said = ⊥
+-- what is said of a run that left this closed memory
+abbrev pub SaidOfRun : Workload → Status → Option Ended → List ℕ → Type 0
+SaidOfRun w Done closed said = MatchOption closed ⊥ (λ c. RanToEnd w c said)
+SaidOfRun w (ClockFull clock) closed said = MatchOption closed ⊥ (λ c. RanToLimit w clock c said)
+SaidOfRun w (Refused line code) closed said = ⊥
+SaidOfRun w Usage closed said = ⊥
+SaidOfRun w ReadFault closed said = ⊥
+SaidOfRun w WriteFault closed said = ⊥
+SaidOfRun w Memory closed said = ⊥
 
 -- the text is a workload's, and this is said of its run
-pub record WasRun (text : List ℕ) (status : Status) (said : List ℕ) : Type 0 where
+pub record WasRun (text : List ℕ) (status : Status) (closed : Option Ended) (said : List ℕ) : Type 0 where
   pub workload : Workload
   pub parses : workload_of Run text ≡ Ok workload
-  pub run : SaidOfRun workload status said
+  pub run : SaidOfRun workload status closed said
 
 -- the text isn't a workload's; what is said is its first fault
 pub record IsRefused (text : List ℕ) (line code : ℕ) (said : List ℕ) : Type 0 where
   pub fault : workload_of Run text ≡ Err (line, code)
   pub is : said ≡ refused_line line code
 
--- what is said of a text that was read
-abbrev pub SaidOf : List ℕ → Status → List ℕ → Type 0
-SaidOf text Done said = WasRun text Done said
-SaidOf text (Refused line code) said = IsRefused text line code said
-SaidOf text (ClockFull clock) said = WasRun text (ClockFull clock) said
-SaidOf text Usage said = ⊥
-SaidOf text ReadFault said = ⊥
-SaidOf text WriteFault said = ⊥
-SaidOf text Memory said = ⊥
+-- what is said of a text that was read; without a run no closed memory is left
+abbrev pub SaidOf : List ℕ → Status → Option Ended → List ℕ → Type 0
+SaidOf text Done closed said = WasRun text Done closed said
+SaidOf text (Refused line code) closed said = IsRefused text line code said × (closed ≡ None)
+SaidOf text (ClockFull clock) closed said = WasRun text (ClockFull clock) closed said
+SaidOf text Usage closed said = ⊥
+SaidOf text ReadFault closed said = ⊥
+SaidOf text WriteFault closed said = ⊥
+SaidOf text Memory closed said = ⊥
+
+-- what is left behind: the closed memory of this call's run, or what was there
+abbrev pub kept : Option Ended → Option Ended → Option Ended
+kept None last = last
+kept (Some closed) last = Some closed
 
 module _ {S : Type 0} (left : S → Option (List ℕ)) (faults : S → ℕ) (words : List (Bor (List ℕ))) (source source' : S) where
   -- the words aren't the command; the source is untouched
@@ -71,28 +75,30 @@ module _ {S : Type 0} (left : S → Option (List ℕ)) (faults : S → ℕ) (wor
     pub is : said ≡ read_fault_line
 
   -- all that was left was read, or its first 16,777,217 bytes
-  pub record HasRead (status : Status) (said : List ℕ) : Type 0 where
+  pub record HasRead (status : Status) (closed : Option Ended) (said : List ℕ) : Type 0 where
     pub words_are : IsRun words
     pub text : List ℕ
     pub read : IsText 16777217 (left source) text
     pub calm : faults source' ≡ faults source
-    pub of : SaidOf text status said
+    pub of : SaidOf text status closed said
 
   -- what is to be written by each status, and why
-  abbrev pub Says : Status → List ℕ → Type 0
-  Says Usage said = Misused said
-  Says ReadFault said = Unread said
-  Says Done said = HasRead Done said
-  Says (Refused line code) said = HasRead (Refused line code) said
-  Says (ClockFull clock) said = HasRead (ClockFull clock) said
-  Says WriteFault said = ⊥
-  Says Memory said = ⊥
+  abbrev pub Says : Status → Option Ended → List ℕ → Type 0
+  Says Usage closed said = Misused said × (closed ≡ None)
+  Says ReadFault closed said = Unread said × (closed ≡ None)
+  Says Done closed said = HasRead Done closed said
+  Says (Refused line code) closed said = HasRead (Refused line code) closed said
+  Says (ClockFull clock) closed said = HasRead (ClockFull clock) closed said
+  Says WriteFault closed said = ⊥
+  Says Memory closed said = ⊥
 
-  module _ {K : Type 0} (held : K → Option (List ℕ)) (broken : K → ℕ) (sink sink' : K) where
-    -- the whole text was written, and no put failed
+  module _ {K : Type 0} (held : K → Option (List ℕ)) (broken : K → ℕ) (sink sink' : K) (last last' : Option Ended) where
+    -- the whole text was written, no put failed, and the closed memory of the run is kept, where there was a run
     pub record Wrote (status : Status) : Type 0 where
       pub said : List ℕ
-      pub says : Says status said
+      pub closed : Option Ended
+      pub says : Says status closed said
+      pub leaves : last' ≡ kept closed last
       pub written : Gained (held sink) (held sink') said
       pub whole : broken sink' ≡ broken sink
 
@@ -100,13 +106,16 @@ module _ {S : Type 0} (left : S → Option (List ℕ)) (faults : S → ℕ) (wor
     pub record WroteSome : Type 0 where
       pub status : Status
       pub said : List ℕ
-      pub says : Says status said
+      pub closed : Option Ended
+      pub says : Says status closed said
+      pub leaves : last' ≡ last
       pub some : GainedSome (held sink) (held sink') said
       pub cause : Rose (broken sink) (broken sink')
 
     -- nothing was written
     pub record WroteNothing : Type 0 where
       pub nothing : held sink' ≡ held sink
+      pub leaves : last' ≡ last
       pub whole : broken sink' ≡ broken sink
 
     abbrev pub Ends : Status → Type 0

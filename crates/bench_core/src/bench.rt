@@ -1,17 +1,19 @@
 //! The top call.
-ghost use Rattle.std.specs.Prelude.{IfOk};
-ghost use Rattle.bench_core.specs.Outcomes.{SaidOfRun, SaidOf, Says, Ends};
+ghost use Rattle.std.specs.Prelude.{◌≡◌, IfOk};
+ghost use Rattle.bench_core.specs.Outcomes.{SaidOfRun, SaidOf, Says, Ends, kept};
 ghost use Rattle.stm_text.specs.Built.{IsBuilt};
 ghost use Rattle.stm_text.specs.declared.parse.Mode.TheVariants.{Run};
 
 use crate::command::is_run;
 use crate::messages;
-use crate::plain_run::{RunError, run};
+use crate::run::{Ran, run};
 use crate::status::Status;
 use std::alloc::Global;
+use std::sync::Wait;
 use stm_io::ends::{Failed, Sink, Source};
 use stm_io::whole::{ReadError, put_all, read_all};
 use stm_model::memory::Memory;
+use stm_rule::ending::Closed;
 use stm_script::workload::Workload;
 use stm_text::parse::{Mode, ParseError, parse};
 use stm_text::report::report_text;
@@ -19,11 +21,12 @@ use stm_text::report::report_text;
 /// How many bytes of a text are read: one more than a workload's text may have.
 const MOST_READ: usize = 16777217;
 
-/// A status, and the whole text that it writes.
+/// A status, the whole text that it writes, and the closed memory of a run.
 #[derive(Drop)]
 struct Saying {
     status: Status,
     text: Vec<u8>,
+    closed: Option<Closed>,
 }
 
 /// Does what the words of the command line ask: `words` are the program's name and `run`.
@@ -31,73 +34,99 @@ struct Saying {
 /// `run` reads the workload's text from `source`, runs its transactions, and writes the report to `sink`,
 /// whole once it is made. Every other end writes one line, or with `Memory` nothing; see [`Status`].
 ///
-/// `rt` is the runtime value that waiting calls take; none of those that are built waits.
-pub fn bench<R, S: Source, K: Sink>(
-    _rt: &R,
+/// `Ok` and `ClockFull` leave in `last` the closed memory of this call's run; every other status leaves
+/// `last` as it was.
+///
+/// `rt` is the runtime value that waiting calls take: a transaction that does not get the memory begins
+/// again, for as long as it takes.
+pub fn bench<R: Wait, S: Source, K: Sink>(
+    rt: &R,
     alloc: Global,
     words: &[&str],
     source: &mut S,
     sink: &mut K,
+    last: &mut Option<Closed>,
 ) -> Status
-    ensures { Ends S.left S.faults words.now source.old source.new K.held K.faults sink.old sink.new result }
+    ensures { Ends S.left S.faults words.now source.old source.new K.held K.faults sink.old sink.new last.old last.new result }
 {
-    let Ok(saying) = say(alloc, words, source) else {
+    let Ok(saying) = say(rt, alloc, words, source) else {
         return Status::Memory;
     };
     match put_all(sink, saying.text.as_slice()) {
-        Ok(()) => saying.status,
+        Ok(()) => {
+            keep(last, saying.closed);
+            saying.status
+        }
         Err(Failed) => Status::WriteFault,
     }
 }
 
+/// Keeps the closed memory, where there is one.
+fn keep(last: &mut Option<Closed>, closed: Option<Closed>)
+    ensures { last.new ≡ kept closed last.old }
+{
+    if let Some(closed) = closed {
+        *last = Some(closed);
+    }
+}
+
 /// What is to be written, made whole before any of it is.
-fn say<S: Source>(alloc: Global, words: &[&str], source: &mut S) -> Result<Saying, Memory>
-    ensures { IfOk result (λ s. Says S.left S.faults words.now source.old source.new s.status s.text.items) }
+fn say<R: Wait, S: Source>(
+    rt: &R,
+    alloc: Global,
+    words: &[&str],
+    source: &mut S,
+) -> Result<Saying, Memory>
+    ensures { IfOk result (λ s. Says S.left S.faults words.now source.old source.new s.status s.closed s.text.items) }
 {
     if !is_run(words) {
         return Ok(Saying {
             status: Status::Usage,
             text: messages::usage(alloc)?,
+            closed: None,
         });
     }
     match read_all(alloc, source, MOST_READ) {
-        Ok(text) => execute(alloc, text.as_slice()),
+        Ok(text) => execute(rt, alloc, text.as_slice()),
         Err(ReadError::Failed) => Ok(Saying {
             status: Status::ReadFault,
             text: messages::read_fault(alloc)?,
+            closed: None,
         }),
         Err(ReadError::Memory) => Err(Memory),
     }
 }
 
 /// What is to be written of a text that was read.
-fn execute(alloc: Global, text: &[u8]) -> Result<Saying, Memory>
-    ensures { IfOk result (λ s. SaidOf text.now s.status s.text.items) }
+fn execute<R: Wait>(rt: &R, alloc: Global, text: &[u8]) -> Result<Saying, Memory>
+    ensures { IfOk result (λ s. SaidOf text.now s.status s.closed s.text.items) }
 {
     match parse(alloc, text, Mode::Run) {
-        Ok(workload) => report(alloc, &workload),
+        Ok(workload) => report(rt, alloc, &workload),
         Err(ParseError::Fault { line, code }) => Ok(Saying {
             status: Status::Refused { line, code },
             text: messages::refused(alloc, line, code)?,
+            closed: None,
         }),
         Err(ParseError::Memory) => Err(Memory),
     }
 }
 
 /// What is to be written of a workload.
-fn report(alloc: Global, workload: &Workload) -> Result<Saying, Memory>
+fn report<R: Wait>(rt: &R, alloc: Global, workload: &Workload) -> Result<Saying, Memory>
     requires { IsBuilt Run workload.now }
-    ensures { IfOk result (λ s. SaidOfRun workload.now s.status s.text.items) }
+    ensures { IfOk result (λ s. SaidOfRun workload.now s.status s.closed s.text.items) }
 {
-    match run(alloc, workload) {
-        Ok(report) => Ok(Saying {
+    match run(rt, alloc, workload)? {
+        Ran::ToEnd { report, closed } => Ok(Saying {
             status: Status::Ok,
             text: report_text(alloc, &report)?,
+            closed: Some(closed),
         }),
-        Err(RunError::ClockFull { clock }) => Ok(Saying {
+        Ran::ToLimit { clock, closed } => Ok(Saying {
             status: Status::ClockFull { clock },
             text: messages::clock_full(alloc, clock)?,
+            closed: Some(closed),
         }),
-        Err(RunError::Memory) => Err(Memory),
     }
 }

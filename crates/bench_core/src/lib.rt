@@ -5,7 +5,9 @@
 pub mod bench;
 mod command;
 mod messages;
-mod plain_run;
+pub mod run;
+pub mod said;
 pub mod status;
 #[cfg(test)]
 mod tests;
+pub mod worker;

@@ -1,6 +1,8 @@
 //! `bench` over sources and sinks in memory.
 use crate::bench::bench;
 use crate::status::Status;
+use std::alloc::Global;
+use std::sync::Wait;
 use std::test::Fail;
 use stm_io::memory::{MemSink, MemSource};
 
@@ -10,16 +12,17 @@ const HEADER: &str =
 /// What `bench` answers and writes over these bytes, where the source fails at the calls `takes` and the
 /// sink has room for `room` bytes.
 fn outcome(
-    rt: &HostRuntime,
+    rt: &impl Wait,
+    alloc: Global,
     words: &[&str],
     text: &str,
     takes: &[u64],
     room: usize,
 ) -> Result<(Status, String), Fail> {
-    let alloc = rt.alloc();
     let mut source = MemSource::new(text.as_bytes().to_vec(alloc)?, takes.to_vec(alloc)?);
     let mut sink = MemSink::new(alloc, room, Vec::new(alloc))?;
-    let status = bench(rt, alloc, words, &mut source, &mut sink);
+    let mut last = None;
+    let status = bench(rt, alloc, words, &mut source, &mut sink, &mut last);
     let held = String::from_utf8(sink.held().to_vec(alloc)?)?;
     Ok((status, held))
 }
@@ -58,7 +61,14 @@ fn reports_what_was_run(rt: HostRuntime) -> Result<(), Fail> {
     ];
     for (items, report) in table {
         let text = workload(&rt, "words 8", "words 8", items)?;
-        let (status, held) = outcome(&rt, &["stm_bench", "run"], text.as_str(), &[], 4096)?;
+        let (status, held) = outcome(
+            &rt,
+            rt.alloc(),
+            &["stm_bench", "run"],
+            text.as_str(),
+            &[],
+            4096,
+        )?;
         assert_eq!(rt; status, Status::Ok);
         assert_eq!(rt; held.as_str(), report);
     }
@@ -78,62 +88,76 @@ fn says_why_there_is_no_report(rt: HostRuntime) -> Result<(), Fail> {
     let full = "clock full 4611686018427387904\n";
     let table = [
         (
-            outcome(&rt, &["stm_bench"], text.as_str(), &[], 4096)?,
+            outcome(&rt, rt.alloc(), &["stm_bench"], text.as_str(), &[], 4096)?,
             Status::Usage,
             usage,
         ),
         (
-            outcome(&rt, &[], text.as_str(), &[], 4096)?,
+            outcome(&rt, rt.alloc(), &[], text.as_str(), &[], 4096)?,
             Status::Usage,
             usage,
         ),
         (
-            outcome(&rt, &["stm_bench", "run", "run"], text.as_str(), &[], 4096)?,
+            outcome(
+                &rt,
+                rt.alloc(),
+                &["stm_bench", "run", "run"],
+                text.as_str(),
+                &[],
+                4096,
+            )?,
             Status::Usage,
             usage,
         ),
         (
-            outcome(&rt, &["stm_bench", "step"], text.as_str(), &[], 4096)?,
+            outcome(
+                &rt,
+                rt.alloc(),
+                &["stm_bench", "step"],
+                text.as_str(),
+                &[],
+                4096,
+            )?,
             Status::Usage,
             usage,
         ),
         (
-            outcome(&rt, &run, no_words.as_str(), &[], 4096)?,
+            outcome(&rt, rt.alloc(), &run, no_words.as_str(), &[], 4096)?,
             Status::Refused { line: 2, code: 6 },
             "refused 2 6 range\n",
         ),
         (
-            outcome(&rt, &run, "", &[], 4096)?,
+            outcome(&rt, rt.alloc(), &run, "", &[], 4096)?,
             Status::Refused { line: 1, code: 3 },
             "refused 1 3 unended\n",
         ),
         (
-            outcome(&rt, &run, HEADER, &[], 4096)?,
+            outcome(&rt, rt.alloc(), &run, HEADER, &[], 4096)?,
             Status::Refused { line: 11, code: 3 },
             "refused 11 3 unended\n",
         ),
         (
-            outcome(&rt, &run, at_limit.as_str(), &[], 4096)?,
+            outcome(&rt, rt.alloc(), &run, at_limit.as_str(), &[], 4096)?,
             Status::ClockFull { clock: limit },
             full,
         ),
         (
-            outcome(&rt, &run, near_limit.as_str(), &[], 4096)?,
+            outcome(&rt, rt.alloc(), &run, near_limit.as_str(), &[], 4096)?,
             Status::ClockFull { clock: limit },
             full,
         ),
         (
-            outcome(&rt, &run, text.as_str(), &[0], 4096)?,
+            outcome(&rt, rt.alloc(), &run, text.as_str(), &[0], 4096)?,
             Status::ReadFault,
             "read fault\n",
         ),
         (
-            outcome(&rt, &run, text.as_str(), &[], 6)?,
+            outcome(&rt, rt.alloc(), &run, text.as_str(), &[], 6)?,
             Status::WriteFault,
             "report",
         ),
         (
-            outcome(&rt, &["stm_bench"], text.as_str(), &[], 0)?,
+            outcome(&rt, rt.alloc(), &["stm_bench"], text.as_str(), &[], 0)?,
             Status::WriteFault,
             "",
         ),
@@ -157,11 +181,25 @@ fn names_every_fault_of_the_text(rt: HostRuntime) -> Result<(), Fail> {
     ];
     for (items, said) in table {
         let text = workload(&rt, "words 8", "words 8", items)?;
-        let (_, held) = outcome(&rt, &["stm_bench", "run"], text.as_str(), &[], 4096)?;
+        let (_, held) = outcome(
+            &rt,
+            rt.alloc(),
+            &["stm_bench", "run"],
+            text.as_str(),
+            &[],
+            4096,
+        )?;
         assert_eq!(rt; held.as_str(), said);
     }
     let text = workload(&rt, "alg CGL", "alg TML", "done\n")?;
-    let (_, held) = outcome(&rt, &["stm_bench", "run"], text.as_str(), &[], 4096)?;
+    let (_, held) = outcome(
+        &rt,
+        rt.alloc(),
+        &["stm_bench", "run"],
+        text.as_str(),
+        &[],
+        4096,
+    )?;
     assert_eq!(rt; held.as_str(), "refused 9 7 alg\n");
     Ok(())
 }

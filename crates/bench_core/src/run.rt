@@ -1,0 +1,174 @@
+//! `run`: the transactions of the one caller, over a transactional memory.
+ghost use Rattle.std.specs.Prelude.{◌≡◌, ◌<◌, ◌≤◌, ◌^◌, [], ◌∷◌, ◌++◌, replicate, IfOk, OnOk, MatchOption};
+ghost use Rattle.stm_text.specs.Built.{IsBuilt};
+ghost use Rattle.stm_text.specs.declared.parse.Mode.TheVariants.{Run};
+ghost use Rattle.stm_rule.specs.Callers.{IsSameCaller};
+ghost use Rattle.stm_tx.specs.Descs.{known};
+ghost use Rattle.bench_core.specs.Places.{clock_of};
+ghost use Rattle.bench_core.specs.Runs.{HasRun, config_of, longest};
+ghost use Rattle.bench_core.specs.Workers.{Sound, Starts, Loaded};
+
+use crate::said::{Phase, Said};
+use crate::worker::Worker;
+use rule_base::layout::Config;
+use std::alloc::{AllocError, Global};
+use std::sync::Wait;
+use stm_model::memory::Memory;
+use stm_model::rule::{AnyMem, MemRule};
+use stm_rule::closing::close;
+use stm_rule::desc::Desc;
+use stm_rule::ending::Closed;
+use stm_rule::stm::Stm;
+use stm_script::laws::report_replays;
+use stm_script::pairs::pairs;
+use stm_script::region::Regions;
+use stm_script::replies::Replies;
+use stm_script::report::{Report, Rows};
+use stm_script::workload::{Header, Item, Workload};
+use tx_answers::answers::Begin;
+
+/// What a run came to, with the closed memory.
+#[derive(Drop)]
+pub enum Ran {
+    /// All transactions have ended.
+    ToEnd { report: Report, closed: Closed },
+    /// A transaction was to begin, and the clock stood at its limit.
+    ToLimit { clock: u64, closed: Closed },
+}
+
+/// Runs the transactions of the one caller in the order of the text.
+///
+/// # Errors
+/// Memory, where it is refused; all of it but the report's is taken before the first transaction begins.
+pub fn run<R: Wait>(rt: &R, alloc: Global, workload: &Workload) -> Result<Ran, Memory>
+    requires { IsBuilt Run workload.now }
+    ensures { IfOk result (HasRun workload.now) }
+{
+    let Ok((stm, mut descs)) = Stm::new(alloc, config_of(&workload.header), AnyMem) else {
+        return Err(Memory);
+    };
+    let Some(desc) = descs.pop() else {
+        unreachable!()
+    };
+    let mut worker = start(alloc, desc, workload.items.as_slice())?;
+    let full = work(rt, &stm, &mut worker);
+    let Worker { desc, rows, .. } = worker;
+    descs.push_reserved(desc);
+    report_replays(&AnyMem);
+    let Ok((words, closed)) = close(alloc, stm, descs) else {
+        return Err(Memory);
+    };
+    match full {
+        Some(clock) => Ok(Ran::ToLimit { clock, closed }),
+        None => {
+            let memory = pairs(alloc, words.as_slice())?;
+            let rows = Rows::new(rows);
+            Ok(Ran::ToEnd {
+                report: Report { rows, memory },
+                closed,
+            })
+        }
+    }
+}
+
+/// The sizes of the memory that a header asks for.
+fn config_of(header: &Header) -> Config
+    ensures { result ≡ config_of header.now }
+{
+    Config {
+        words: header.words,
+        records: header.records,
+        ring: header.ring,
+        callers: header.callers,
+        reads: header.reads,
+        writes: header.writes,
+        clock: header.clock,
+    }
+}
+
+/// Turns until nothing is left, or a begin finds the clock at its limit: then that clock.
+fn work<R: Wait, K: MemRule>(rt: &R, stm: &Stm<K>, w: &mut Worker<K>) -> Option<u64>
+    requires sound { Sound (K.good stm.now.rule) stm.now.table.shared.table_id stm.now.config stm.now.rule w.old }
+    ensures sound { Sound (K.good stm.now.rule) stm.now.table.shared.table_id stm.now.config stm.now.rule w.new }
+    ensures same { IsSameCaller w.old.desc w.new.desc }
+    ensures all { w.new.all.now ≡ w.old.all.now }
+    ensures regions { w.new.regions ≡ w.old.regions }
+    ensures between { w.new.phase ≡ Phase.Between }
+    ensures done { MatchOption result (w.new.left.now ≡ []) (λ clock. (2 ^ 62 ≤ clock) × Loaded (known w.new.desc) clock) }
+{
+    for _ in rt.forever() {
+        let said = w.turn(stm);
+        if let Said::Idle = said {
+            return None;
+        }
+        if let Some(clock) = clock_of(said) {
+            return Some(clock);
+        }
+    }
+    unreachable!()
+}
+
+/// The clock that a begin found at its limit.
+fn clock_of(said: Said) -> Option<u64>
+    ensures { result ≡ clock_of said }
+{
+    match said {
+        Said::TryBegin(Begin::ClockFull { clock }) => Some(clock),
+        _ => None,
+    }
+}
+
+/// A worker that has done nothing, with room for all its rows and replies.
+fn start<'a, K: MemRule>(
+    alloc: Global,
+    desc: Desc<K>,
+    items: &'a [Item],
+) -> Result<Worker<'a, K>, Memory>
+    ensures { IfOk result (Starts desc items.now (longest items.now)) }
+{
+    let room = longest(items);
+    let mut rows = Vec::new(alloc);
+    rows.reserve(items.len())?;
+    Ok(Worker {
+        desc,
+        all: items,
+        left: items,
+        phase: Phase::Between,
+        rest: &[],
+        out: Replies::new(alloc, room)?,
+        regions: Regions::none(alloc),
+        rows,
+        spare: rooms(alloc, items.len(), room)?,
+    })
+}
+
+/// Room for the replies of so many transactions.
+fn rooms(alloc: Global, count: usize, room: usize) -> Result<Vec<Replies>, Memory>
+    ensures { IfOk result (λ spare. spare.items ≡ replicate count (record { replies = []; emits = []; room = room })) }
+{
+    let mut spare = Vec::new(alloc);
+    for _ in 0..count {
+        push_room(&mut spare, Replies::new(alloc, room)?)?;
+    }
+    Ok(spare)
+}
+
+fn push_room(spare: &mut Vec<Replies>, room: Replies) -> Result<(), AllocError>
+    ensures { OnOk result (spare.new.items ≡ spare.old.items ++ room ∷ []) }
+{
+    spare.push(room)?;
+    Ok(())
+}
+
+/// The length of the longest script.
+fn longest(items: &[Item]) -> usize
+    ensures { result ≡ longest items.now }
+{
+    let mut most = 0;
+    for item in items {
+        if let Item::Tx { caller: _, script } = item {
+            most = most.max(script.as_slice().len());
+        }
+    }
+    most
+}
