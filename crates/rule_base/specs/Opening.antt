@@ -1,5 +1,5 @@
 -- The words and the views at the opening.
-use Rattle.std.specs.Prelude.{[], false, None}
+use Rattle.std.specs.Prelude.{[], false}
 use Rattle.stm_model.specs.declared.alg.Alg.TheVariants.{Cgl}
 use Rattle.rule_base.specs.declared.layout.Config.{Config}
 use Rattle.rule_base.specs.declared.views.Phase.TheVariants.{Idle}
@@ -11,7 +11,7 @@ abbrev pub first_view : Config → View
 first_view c = record {
   history = record { made = []; seen = []; front = c.clock; told = record { seen = []; front = c.clock } };
   steps = record { trail = []; rises = 0; rises_at_begin = 0; installs = [] };
-  gate = record { phase = Idle; algorithm = Cgl; aim = None; holds = false; checked = []; calm = false; time = 0; rebased = false; granted = false };
+  gate = record { phase = Idle; algorithm = Cgl; aim = 0; holds = false; checked = []; calm = false; time = 0; rebased = false; completed = false; granted = false };
   attempt = record { start = 0; reads = []; stores = [] };
   lock = record { taken = false; started = false; clocked = false; undo = [] };
   tml = record { inside = false; writer = false; loaded = false; from = 0; value = 0 };

@@ -54,7 +54,7 @@ pub struct GateView {
     /// The algorithm of the gate that it loaded last.
     pub algorithm: Alg,
     /// The open gate word that it loaded to close it.
-    pub aim: Option<u64>,
+    pub aim: u64,
     /// It closed the gate, and did not reopen it yet.
     pub holds: bool,
     /// The callers that it has seen idle since.
@@ -64,6 +64,8 @@ pub struct GateView {
     pub time: u64,
     /// BASE is `time`.
     pub rebased: bool,
+    /// DONE is `time`.
+    pub completed: bool,
     /// The attempt was promoted.
     pub granted: bool,
 }

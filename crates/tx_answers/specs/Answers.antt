@@ -9,16 +9,22 @@ use Rattle.stm_model.specs.declared.stop.Stop.TheVariants as stops
 use Rattle.stm_model.specs.Histories.{Entry, memory_at, IsLegal}
 use Rattle.stm_model.specs.Logs.{Log, Reads, Writes, IsExplained, Sees, Keeps}
 use Rattle.stm_model.specs.Memories.{is_empty}
-use Rattle.rule_base.specs.declared.layout.At.TheVariants.{Clock, Lock, Gate, Record}
+use Rattle.rule_base.specs.declared.layout.At.TheVariants.{Clock, Lock, Gate, Status, Record}
 use Rattle.rule_base.specs.declared.layout.Config.{Config}
 use Rattle.rule_base.specs.declared.layout.TheConstants.{CLOCK_LIMIT}
+use Rattle.rule_base.specs.declared.views.Phase.TheVariants.{Closing}
 use Rattle.rule_base.specs.Encodings.{holder_of, alg_of, has_records}
+use Rattle.rule_base.specs.History.{member}
 use Rattle.tx_answers.specs.declared.answers.Begin.{Begin}
 use Rattle.tx_answers.specs.declared.answers.Begin.TheVariants.{Begun, Closed, Held, ClockFull}
 use Rattle.tx_answers.specs.declared.answers.Cancel.{Cancel}
 use Rattle.tx_answers.specs.declared.answers.Cancel.TheVariants.{Cancelled, Irrevocable}
+use Rattle.tx_answers.specs.declared.answers.CloseGate.{CloseGate}
+use Rattle.tx_answers.specs.declared.answers.CloseGate.TheVariants as gates
 use Rattle.tx_answers.specs.declared.answers.Commit.{Commit}
 use Rattle.tx_answers.specs.declared.answers.Commit.TheVariants.{Committed, ReadOnly, Conflict, Again, ClockFull}
+use Rattle.tx_answers.specs.declared.answers.Look.{Look}
+use Rattle.tx_answers.specs.declared.answers.Look.TheVariants.{Quiet, Busy}
 use Rattle.tx_answers.specs.declared.answers.Read.{Read}
 use Rattle.tx_answers.specs.declared.answers.Read.TheVariants.{Value, Conflict, Full}
 use Rattle.tx_answers.specs.declared.answers.Write.{Write}
@@ -65,6 +71,21 @@ pub record GoesOn (v w : Known) : Type 0 where
   pub rises : w.rises ≡ v.rises
   pub start : v.start ≤ w.start
   pub installs : w.installs ≡ v.installs
+
+-- the caller holds the gate that it closed, and is in no attempt
+pub record HoldsClosed (w : Known) : Type 0 where
+  pub phase : w.phase ≡ Closing
+  pub running : w.running ≡ false
+  pub closing : w.closing ≡ true
+  pub holds : w.holds ≡ true
+  pub ungranted : w.granted ≡ false
+
+-- a call on the gate that the caller holds, but for what it is for: no caller seen idle is forgotten
+pub record KeepsClosed (v w : Known) : Type 0 where
+  pub holds : HoldsClosed w
+  pub made : w.made ≡ v.made
+  pub grows : Grows v w
+  pub checked : (k : ℕ) → member v.checked k ≡ true → member w.checked k ≡ true
 
 -- the attempt ended
 pub record Ends (v w : Known) : Type 0 where
@@ -209,3 +230,56 @@ module _ (good : List ℕ → Type 0) (c : Config) (n : ℕ) where
   abbrev pub Cancels : Cancel → Known → Known → Type 0
   Cancels (Cancelled time) v w = EndsAt time v w × (w.rises ≤ v.base + 1) × (is_irrevocable v ≡ false)
   Cancels Irrevocable v w = (w ≡ v) × (is_irrevocable v ≡ true)
+
+  -- all callers but this one were seen idle since it closed the gate
+  abbrev pub SeesQuiet : Known → Type 0
+  SeesQuiet w = (k : ℕ) → k < c.callers → k ≢ n → member w.checked k ≡ true
+
+  -- the gate was loaded open, and is closed; nobody is seen yet
+  pub record ClosesGate (v w : Known) : Type 0 where
+    pub closed : KeepsClosed v w
+    pub unseen : w.checked ≡ []
+    pub unsettled : w.settled ≡ false
+    pub rises : w.rises ≡ v.rises
+    pub installs : w.installs ≡ v.installs
+    pub gate : (word : ℕ) × Found Gate word v w × (holder_of word ≡ 0) × (alg_of word ≡ w.alg)
+    pub offered : is_offered w.alg ≡ true
+
+  -- what `close_gate` tells. One caller alone is never refused for another
+  abbrev pub Closes : CloseGate → Known → Known → Type 0
+  Closes gates.Closed v w = ClosesGate v w
+  Closes (gates.Taken gate) v w = Stays v w × Found Gate gate v w × NamesOther (holder_of gate) × (1 < c.callers)
+
+  -- what a look leaves alone
+  pub record Looked (v w : Known) : Type 0 where
+    pub closed : KeepsClosed v w
+    pub settled : w.settled ≡ v.settled
+    pub alg : w.alg ≡ v.alg
+    pub rises : w.rises ≡ v.rises
+    pub installs : w.installs ≡ v.installs
+
+  -- another caller was not idle, and all before it are seen
+  pub record IsBusy (k status : ℕ) (v w : Known) : Type 0 where
+    pub other : (k < c.callers) × (k ≢ n) × (1 < c.callers)
+    pub announced : 0 < status
+    pub found : Found (Status k) status v w
+    pub before : (j : ℕ) → j < k → j ≢ n → member w.checked j ≡ true
+
+  -- what `look` tells
+  abbrev pub Looks : Look → Known → Known → Type 0
+  Looks Quiet v w = Looked v w × SeesQuiet w
+  Looks (Busy caller status) v w = Looked v w × IsBusy caller status v w
+
+  -- what `install` does: the gate stays closed, under this algorithm, with BASE and DONE at the clock
+  pub record Installs (alg : Alg) (v w : Known) : Type 0 where
+    pub closed : KeepsClosed v w
+    pub quiet : SeesQuiet w
+    pub settled : w.settled ≡ true
+    pub named : w.alg ≡ alg
+    pub rises : w.rises ≤ v.rises + 1
+    pub installs : w.installs ≡ v.installs ++ alg ∷ []
+
+  -- what `reopen` does
+  pub record Reopens (v w : Known) : Type 0 where
+    pub stays : Stays v w
+    pub reopened : w.holds ≡ false

@@ -1,5 +1,5 @@
 -- What contracts see of a caller: its part in the history, its attempt, and the words that its steps found.
-use Rattle.std.specs.Prelude.{ℕ, ◌≡◌, ◌≤◌, ◌+◌, ◌||◌, max, not, Bool, true, false, if◌then◌else◌, List, [], ◌∷◌, ◌++◌, reverse, replicate, Contains, Option, Some, None}
+use Rattle.std.specs.Prelude.{ℕ, ◌≡◌, ◌≤◌, ◌+◌, ◌||◌, ◌&&◌, max, not, Bool, true, false, if◌then◌else◌, List, [], ◌∷◌, ◌++◌, reverse, replicate, Contains, Option, Some, None}
 use Rattle.stm_model.specs.declared.alg.Alg.{Alg}
 use Rattle.stm_model.specs.declared.alg.Alg.TheVariants.{Cgl, Tml, OrecLazy, OrecEager, RingSw, Serial}
 use Rattle.stm_model.specs.Histories.{Entry, Ascending}
@@ -10,6 +10,7 @@ use Rattle.rule_base.specs.declared.layout.At.{At}
 use Rattle.rule_base.specs.declared.layout.At.TheVariants.{Clock}
 use Rattle.rule_base.specs.declared.seats.Role.{Role}
 use Rattle.rule_base.specs.declared.seats.Role.TheVariants.{Dealer, Caller, Note, Spent}
+use Rattle.rule_base.specs.declared.views.GateView.{GateView}
 use Rattle.rule_base.specs.declared.views.Phase.{Phase}
 use Rattle.rule_base.specs.declared.views.Phase.TheVariants.{Idle, Announced, Turned, Aiming, In, Closing}
 use Rattle.rule_base.specs.declared.views.TrailItem.{TrailItem}
@@ -29,6 +30,9 @@ pub record Known : Type 0 where
   pub closing : Bool
   pub holds : Bool
   pub alg : Alg
+  -- the callers that it has seen idle since it closed the gate; and whether it installed since: BASE and DONE are the clock
+  pub checked : List ℕ
+  pub settled : Bool
   -- the attempt was made irrevocable in flight
   pub granted : Bool
   -- by how much its steps raised the clock, in all and when its attempt began
@@ -71,6 +75,10 @@ abbrev pub top_of : List TrailItem → ℕ
 top_of [] = 0
 top_of (i ∷ is) = max (clock_in i.place i.found) (top_of is)
 
+-- it loaded the clock at rest, and BASE and DONE are that clock
+abbrev pub is_settled : GateView → Bool
+is_settled g = g.calm && g.rebased && g.completed
+
 abbrev pub known_of : View → Known
 known_of v = record {
   made = public_history v.history.made;
@@ -81,6 +89,8 @@ known_of v = record {
   closing = is_closing v.gate.phase;
   holds = v.gate.holds;
   alg = v.gate.algorithm;
+  checked = v.gate.checked;
+  settled = is_settled v.gate;
   granted = v.gate.granted;
   rises = v.steps.rises;
   base = v.steps.rises_at_begin;

@@ -1,4 +1,4 @@
-//! The answers of the calls of an attempt. Clocks, times, starts and words of the memory's table are `u64`.
+//! The answers of the calls of an attempt and of the gate. Clocks, times, starts and words of the memory's table are `u64`.
 use stm_model::alg::Alg;
 use stm_model::stop::Cause;
 
@@ -59,6 +59,24 @@ pub enum Cancel {
     Cancelled { time: u64 },
     /// It can only be committed: nothing has changed.
     Irrevocable,
+}
+
+/// What a try to close the gate comes to.
+#[derive(Clone, Copy, Drop, Debug, PartialEq, Eq)]
+pub enum CloseGate {
+    /// The caller holds the gate: no attempt begins until it reopens it.
+    Closed,
+    /// Another caller holds it: this is the gate's word.
+    Taken { gate: u64 },
+}
+
+/// What a look at the other callers comes to, by a caller that holds the gate.
+#[derive(Clone, Copy, Drop, Debug, PartialEq, Eq)]
+pub enum Look {
+    /// Each other caller was seen idle since the gate was closed: no other attempt is open.
+    Quiet,
+    /// This caller was not idle: its status word.
+    Busy { caller: usize, status: u64 },
 }
 
 /// Where a descriptor stands between two calls.
