@@ -1,13 +1,13 @@
 -- What a descriptor keeps of its attempt beside its seat, and what stands of the view then.
-use Rattle.std.specs.Prelude.{ℕ, ◌≡◌, ◌≢◌, ◌+◌, ◌<◌, Bool, true, false, List, [], Option, Some, None}
+use Rattle.std.specs.Prelude.{ℕ, ◌≡◌, ◌≢◌, ◌+◌, ◌<◌, ◌≤◌, Bool, true, false, List, [], Option, Some, None}
 use Rattle.stm_model.specs.declared.alg.Alg.{Alg}
 use Rattle.stm_model.specs.declared.alg.Alg.TheVariants.{Cgl}
 use Rattle.rule_base.specs.declared.layout.Config.{Config}
 use Rattle.rule_base.specs.declared.layout.TheConstants.{CLOCK_LIMIT}
-use Rattle.rule_base.specs.declared.views.Phase.TheVariants.{Idle, In}
+use Rattle.rule_base.specs.declared.views.Phase.TheVariants.{Idle, In, Closing}
 use Rattle.rule_base.specs.declared.views.View.{View}
 use Rattle.rule_base.specs.Bridge.{of_words}
-use Rattle.rule_base.specs.History.{word_now, Inside, Below, Explains, Legal}
+use Rattle.rule_base.specs.History.{member, word_now, Inside, Below, Explains, Legal}
 use Rattle.stm_rule.specs.Product.{is_built}
 
 -- what the user keeps true of memory, for the value that a seat carries
@@ -21,6 +21,19 @@ pub record IsOutside (v : View) : Type 0 where
   pub reopened : v.gate.holds ≡ false
   pub ungranted : v.gate.granted ≡ false
   pub unlocked : v.lock.taken ≡ false
+  pub disowned : v.owned.held ≡ []
+
+-- caller n has closed the gate, which names this algorithm, and has seen idle the callers below `next`
+pub record IsClosing (callers n : ℕ) (algorithm : Alg) (next : ℕ) (v : View) : Type 0 where
+  pub phase : v.gate.phase ≡ Closing
+  pub holds : v.gate.holds ≡ true
+  pub named : v.gate.algorithm ≡ algorithm
+  pub built : is_built algorithm ≡ true
+  pub ungranted : v.gate.granted ≡ false
+  pub unlocked : v.lock.taken ≡ false
+  pub disowned : v.owned.held ≡ []
+  pub low : next ≤ callers
+  pub seen : (k : ℕ) → k < next → k ≢ n → member v.gate.checked k ≡ true
 
 module _ (good : List ℕ → Type 0) (c : Config) (algorithm : Alg) (clock : ℕ) (wrote : Bool) where
   -- an attempt of this algorithm runs, which began at this clock, and wrote or not
@@ -30,6 +43,7 @@ module _ (good : List ℕ → Type 0) (c : Config) (algorithm : Alg) (clock : �
     pub built : is_built algorithm ≡ true
     pub reopened : v.gate.holds ≡ false
     pub ungranted : v.gate.granted ≡ false
+    pub disowned : v.owned.held ≡ []
     pub start : v.attempt.start ≡ clock
     pub front : v.history.front ≡ clock
     -- its steps have not raised the clock
@@ -47,7 +61,9 @@ module _ (good : List ℕ → Type 0) (c : Config) (algorithm : Alg) (clock : �
     -- a next time is within the limit
     pub low : algorithm ≡ Cgl → clock < CLOCK_LIMIT
 
-  -- by whether an attempt runs
-  abbrev pub Stands : Bool → View → Type 0
-  Stands true v = IsInside v
-  Stands false v = IsOutside v
+  -- by whether an attempt runs, and whether the caller has closed the gate
+  module _ (n next : ℕ) where
+    abbrev pub Stands : Bool → Bool → View → Type 0
+    Stands true holds v = IsInside v
+    Stands false true v = IsClosing c.callers n algorithm next v
+    Stands false false v = IsOutside v

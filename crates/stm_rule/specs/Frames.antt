@@ -1,14 +1,19 @@
 -- A step of one family keeps the clauses of the others.
-use Rattle.std.proofs.Common.{◌≡◌, ℕ, Bool, true, false, refl, sym, subst, ap, ◌∙◌}
-use Rattle.std.specs.Prelude.{if◌then◌else◌}
+use Rattle.std.proofs.Common.{◌≡◌, ℕ, ◌<◌, Bool, true, false, refl, sym, subst, ap, ◌∙◌, arith}
+use Rattle.std.specs.Prelude.{if◌then◌else◌, ltb}
+use Rattle.std.proofs.lemmas.Bool.Decides.{nat_tests}
 use Rattle.stm_model.specs.declared.alg.Alg.{Alg}
 use Rattle.stm_model.specs.declared.alg.Alg.TheVariants.{Cgl, Tml, OrecLazy, OrecEager, RingSw, Serial}
 use Rattle.rule_base.specs.declared.layout.Config.{Config}
-use Rattle.rule_base.specs.declared.views.Phase.TheVariants.{In}
+use Rattle.rule_base.specs.declared.views.GateView.{GateView}
+use Rattle.rule_base.specs.declared.views.Ownership.{Ownership}
+use Rattle.rule_base.specs.declared.views.Phase.TheVariants.{Idle, In}
 use Rattle.rule_base.specs.declared.views.View.{View}
 use Rattle.rule_base.specs.Encodings.{alg_of, has_ring}
 use Rattle.rule_base.specs.GateRule.{GateRule}
 use Rattle.rule_base.specs.GateLaws.{gate_scene-kept}
+use Rattle.rule_base.specs.InstallLaws.{install-raised, nobody-calm}
+use Rattle.rule_base.specs.RecordLemmas.{records-stay}
 use Rattle.rule_base.specs.StepKinds.{StepKind, answer, view_after, world_after, StepLaw}
 use Rattle.rule_base.specs.World.{World, horizon}
 use Rattle.rule_seq.specs.CglRule.{CglWorld}
@@ -34,11 +39,21 @@ unlocked good c w n g out = go (w.views n).lock.taken refl
     go true t = absurd (out (g.lock.inside n t))
     go false t = refl
 
--- the step leaves the gate, the statuses and what the caller knows of them alone
+-- a caller that does something is one of the callers
+pub is-caller : (good : (ℕ → ℕ) → Type 0) (c : Config) (w : World) → Whole good c w → (k : ℕ) → ((w.views k).gate.phase ≡ Idle → ⊥) → k < c.callers
+is-caller good c w g k busy = go (ltb k c.callers) refl
+  where
+    go : (t : Bool) → ltb k c.callers ≡ t → k < c.callers
+    go true q = grind (arith, nat_tests)
+    go false q = absurd (busy (g.gate.far k (grind (arith, nat_tests))))
+
+-- the step leaves the gate, the statuses and what the caller knows of them alone, and BASE, DONE and the records
 pub record LeavesGate (kind : StepKind) (n : ℕ) : Type 0 where
   pub gate : (w : World) → (world_after kind n w).gate ≡ w.gate
   pub status : (w : World) → (world_after kind n w).status ≡ w.status
   pub view : (w : World) → (kind.after w (w.views n) (answer kind w)).gate ≡ (w.views n).gate
+  pub marks : (w : World) → ((world_after kind n w).base ≡ w.base) × ((world_after kind n w).done ≡ w.done)
+  pub records : (w : World) → ((world_after kind n w).records ≡ w.records) × ((kind.after w (w.views n) (answer kind w)).owned ≡ (w.views n).owned)
 
 -- a step of an attempt of CGL
 pub by-cgl : (good : (ℕ → ℕ) → Type 0) (c : Config) (kind : StepKind) (shows : World → View → ℕ → Type 0) (n : ℕ) (May : View → Type 0) → LeavesGate kind n → ((v : View) → May v → (v.gate.phase ≡ In) × (v.gate.algorithm ≡ Cgl))
@@ -50,7 +65,10 @@ by-cgl good c kind shows n May leaves inside law w g may =
       rule = record {
         history = o.rule.history;
         steps = o.rule.steps;
-        gate = subst (GateRule c.callers) (sym (gate_scene-kept w (world_after kind n w) n (view_after kind w (w.views n) (answer kind w)) refl (leaves.status w) (leaves.gate w) (leaves.view w))) g.gate;
+        gate = subst (GateRule c.callers) (sym (gate_scene-kept w x n v refl (leaves.status w) (leaves.gate w) (leaves.view w))) g.gate;
+        install = install-raised c.callers w x n v refl o.advances.clock (leaves.marks w).0 (leaves.marks w).1 (leaves.view w)
+            (nobody-calm c.callers w n i.0 g.gate g.install (is-caller good c w g n (λ idle. let e : In ≡ Idle = sym i.0 ∙ idle in cc))) g.install;
+        records = records-stay w x n v refl o.advances.clock (leaves.records w).0 (ap (λ (q : Ownership). q.held) (leaves.records w).1) (ap (λ (q : GateView). q.phase) (leaves.view w)) g.records;
         built = subst (λ (k : ℕ). is_built (alg_of k) ≡ true) (sym (leaves.gate w)) g.built;
         lock = o.rule.lock;
         cgl = λ e. o.rule.cgl;
@@ -58,3 +76,9 @@ by-cgl good c kind shows n May leaves inside law w g may =
       advances = o.advances;
       shown = o.shown;
     }
+  where
+    x : World
+    x = world_after kind n w
+
+    v : View
+    v = view_after kind w (w.views n) (answer kind w)
