@@ -270,3 +270,27 @@ module _ (callers : ℕ) where
             aimed = λ m e. grind (arith, out m, e, closing);
             far = λ m e. grind (arith, r.far m, e);
           }
+
+  -- a step that changes what its caller knows for installing, and nothing else at the gate
+  pub gate-marked : (w x : World) (n : ℕ) (v : View) (calm rebased completed : Bool) (time : ℕ) → x.views ≡ put w.views n v → x.status ≡ w.status → x.gate ≡ w.gate → v.gate ≡ record (w.views n).gate { calm = calm; time = time; rebased = rebased; completed = completed }
+      → GateRule callers (gate_scene w) → GateRule callers (gate_scene x)
+  gate-marked w x n v calm rebased completed time is status gate own r = subst (GateRule callers) (sym path) (law (gate_scene w) r)
+    where
+      path : gate_scene x ≡ record (gate_scene w) { views = put (gate_scene w).views n (record (w.views n).gate { calm = calm; time = time; rebased = rebased; completed = completed }) }
+      path = λ i. record { status = status i; gate = gate i; views = (ap (parts (λ (u : View). u.gate)) is ∙ (parts-put (λ (u : View). u.gate) w.views n v ∙ ap (put (gate_scene w).views n) own)) i }
+
+      law : (s : GateScene) → GateRule callers s → GateRule callers (record s { views = put s.views n (record (s.views n) { calm = calm; time = time; rebased = rebased; completed = completed }) })
+      law s r = record {
+        quiet = λ m e. grind (arith, r.quiet m, e);
+        mine = λ m e. grind (arith, r.mine m, e);
+        owner = λ m e. grind (arith, r.owner m, e);
+        holding = λ m e. grind (arith, r.holding m, e);
+        closing = λ m e. grind (arith, r.closing m, e);
+        checked = λ m k e. grind (arith, r.checked m k, e);
+        seen = λ m k e. grind (arith, r.seen m k, e);
+        named = λ m e. grind (arith, r.named m, e);
+        held = λ m e. grind (arith, r.held m, e);
+        formed = r.formed;
+        aimed = λ m e. grind (arith, r.aimed m, e);
+        far = λ m e. grind (arith, r.far m, e);
+      }

@@ -52,7 +52,7 @@ core_commits_lem good c a x callers clock inside small keeps = (
                 (
                   (callers, record { has = record { phase = refl; algorithm = refl; taken = refl }; unstored = refl }),
                   (
-                    (callers, record { phase = refl; reopened = λ e. refl; unlocked = refl }),
+                    (callers, record { phase = refl; reopened = λ e. refl; unlocked = refl; disowned = refl }),
                     tt,
                   ),
                 ),

@@ -42,7 +42,7 @@ module _ (good : (ℕ → ℕ) → Type 0) (c : Config) (n : ℕ) where
   taker w g (suc k) e other free = let word : w.lock ≡ 1 + k = omega arith in let taken : (w.views k).lock.taken ≡ true = g.lock.owner k word in
       (k, is-caller good c w g k (λ idle. let i : In ≡ Idle = sym (g.lock.inside k taken) ∙ idle in cc), (λ same. let t : true ≡ false = sym (subst (λ (m : ℕ). (w.views m).lock.taken ≡ true) same taken) ∙ free in cc), omega arith)
 
-  closer : (w : World) → Whole good c w → (x : ℕ) → w.gate ≡ x → holder_of x ≢ 0 → (w.views n).gate.holds ≡ false → NamesOther c n (holder_of x)
+  pub closer : (w : World) → Whole good c w → (x : ℕ) → w.gate ≡ x → holder_of x ≢ 0 → (w.views n).gate.holds ≡ false → NamesOther c n (holder_of x)
   closer w g x e other free = go (holder_of x) (ap holder_of e) other
     where
       go : (h : ℕ) → holder_of w.gate ≡ h → h ≢ 0 → NamesOther c n h

@@ -3,6 +3,9 @@ pub mod NoteSteps
 pub mod Frames
 pub mod Findings
 pub mod Laws
+pub mod ClosingLaws
+pub mod RestLaws
+pub mod InstallingLaws
 pub mod Kept
 pub mod Refusals
 pub mod Attempts
