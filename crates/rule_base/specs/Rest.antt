@@ -2,12 +2,14 @@
 use Rattle.std.specs.Prelude.{ℕ, ◌≡◌, ◌≢◌, ◌≤◌, ◌+◌, ◌%◌, true, false, List, []}
 use Rattle.stm_model.specs.declared.alg.Alg.TheVariants.{Tml, RingSw}
 use Rattle.rule_base.specs.declared.entries.Cell.{Cell}
+use Rattle.rule_base.specs.declared.layout.Config.{Config}
 use Rattle.rule_base.specs.declared.views.Phase.{Phase}
 use Rattle.rule_base.specs.declared.views.Phase.TheVariants.{Idle, Announced, Turned, Aiming, In, Closing}
 use Rattle.rule_base.specs.declared.views.View.{View}
 use Rattle.rule_base.specs.Encodings.{alg_of, holder_of, has_records, is_owned, version_of}
 use Rattle.rule_base.specs.GateRule.{rests}
 use Rattle.rule_base.specs.History.{over, touches, word_at}
+use Rattle.rule_base.specs.InstallSteps.{HasChecked}
 use Rattle.rule_base.specs.World.{World}
 
 -- the own writes that lie in the heap: who is in no attempt has none
@@ -39,3 +41,14 @@ pub record Rest (n : ℕ) (w : World) : Type 0 where
 pub record AtRest (n : ℕ) (w : World) : Type 0 where
   pub rest : Rest n w
   pub outside : (w.views n).gate.phase ≡ Closing
+
+-- caller n has closed the gate and seen all others idle since
+pub record IsQuiet (c : Config) (n : ℕ) (w : World) : Type 0 where
+  pub closing : (w.views n).gate.phase ≡ Closing
+  pub checked : HasChecked c.callers n (w.views n)
+
+-- it has also installed the algorithm that the gate names
+pub record HasInstalled (n : ℕ) (w : World) : Type 0 where
+  pub calm : (w.views n).gate.calm ≡ true
+  pub rebased : (w.views n).gate.rebased ≡ true
+  pub completed : (w.views n).gate.completed ≡ true

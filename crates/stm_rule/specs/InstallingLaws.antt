@@ -16,6 +16,7 @@ use Rattle.rule_base.specs.HistoryRule.{HistoryRule, history_scene}
 use Rattle.rule_base.specs.HistoryRuleLemmas.{history-raised}
 use Rattle.rule_base.specs.PutLemmas.{put-all, parts-kept}
 use Rattle.rule_base.specs.RecordLemmas.{records-stay}
+use Rattle.rule_base.specs.Rest.{IsQuiet}
 use Rattle.rule_base.specs.StepsLemmas.{steps-raised}
 use Rattle.rule_base.specs.StepKinds.{view_after, world_after, Nothing, StepLaw}
 use Rattle.rule_base.specs.World.{World, put}
@@ -25,7 +26,7 @@ use Rattle.rule_seq.specs.LockLemmas.{lock_scene-kept}
 use Rattle.rule_seq.specs.LockRule.{LockRule}
 use Rattle.stm_rule.specs.Frames.{LeavesMemory, advances-built, by-gate, cgl-stays, unlocked, disowned}
 use Rattle.stm_rule.specs.Product.{is_built, Whole}
-use Rattle.stm_rule.specs.RestLaws.{IsQuiet, nobody-takes, heap-rests}
+use Rattle.stm_rule.specs.RestLaws.{nobody-takes, heap-rests}
 
 module _ (good : (ℕ → ℕ) → Type 0) (c : Config) (n : ℕ) where
   -- who has loaded the clock to install has seen all others idle

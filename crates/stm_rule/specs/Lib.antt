@@ -4,13 +4,14 @@ pub mod Frames
 pub mod Findings
 pub mod Laws
 pub mod ClosingLaws
+pub mod Openings
+pub mod CoreRuns
+pub mod Quiescence
 pub mod RestLaws
 pub mod InstallingLaws
 pub mod Kept
 pub mod Refusals
 pub mod Attempts
 pub mod Callers
-pub mod Openings
 pub mod Closings
-pub mod CoreRuns
 pub mod CallerLemmas

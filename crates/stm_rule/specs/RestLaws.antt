@@ -12,21 +12,10 @@ use Rattle.rule_base.specs.GateLaws.{others-rest}
 use Rattle.rule_base.specs.GateRule.{rests}
 use Rattle.rule_base.specs.History.{over, touches, word_at, word_now}
 use Rattle.rule_base.specs.HistoryLemmas.{word_at-all}
-use Rattle.rule_base.specs.InstallSteps.{HasChecked}
-use Rattle.rule_base.specs.Rest.{in_place, in_place_at, Rest, AtRest}
+use Rattle.rule_base.specs.Rest.{in_place_at, AtRest, IsQuiet, HasInstalled}
 use Rattle.rule_base.specs.World.{World}
 use Rattle.stm_rule.specs.Product.{is_built, Whole}
-
--- caller n has closed the gate and seen all others idle since
-pub record IsQuiet (c : Config) (n : ℕ) (w : World) : Type 0 where
-  pub closing : (w.views n).gate.phase ≡ Closing
-  pub checked : HasChecked c.callers n (w.views n)
-
--- it has also installed the algorithm that the gate names
-pub record HasInstalled (n : ℕ) (w : World) : Type 0 where
-  pub calm : (w.views n).gate.calm ≡ true
-  pub rebased : (w.views n).gate.rebased ≡ true
-  pub completed : (w.views n).gate.completed ≡ true
+use Rattle.stm_rule.specs.Quiescence.{IsInstalled}
 
 module _ (good : (ℕ → ℕ) → Type 0) (c : Config) (n : ℕ) (w : World) (g : Whole good c w) (quiet : IsQuiet c n w) where
   nobody_in : (m : ℕ) → (w.views m).gate.phase ≡ In → ⊥
@@ -81,10 +70,12 @@ module _ (good : (ℕ → ℕ) → Type 0) (c : Config) (n : ℕ) (w : World) (g
   }
 
   -- THE LAW OF INSTALLING: the next algorithm starts from rest, with BASE and DONE at the clock
-  pub installed-rests : HasInstalled n w → AtRest n w × (w.base ≡ w.clock) × (w.done ≡ w.clock) × (alg_of w.gate ≡ (w.views n).gate.algorithm)
+  pub installed-rests : HasInstalled n w → AtRest n w × IsInstalled n w
   installed-rests i = (
     quiet-rests,
-    (let t = g.install.time n i.calm in let b = (g.install.rebased n i.rebased).1 in omega arith),
-    (let t = g.install.time n i.calm in let d = (g.install.completed n i.completed).1 in omega arith),
-    g.gate.held n (g.gate.closing n quiet.closing),
+    record {
+      base = (let t = g.install.time n i.calm in let b = (g.install.rebased n i.rebased).1 in omega arith);
+      done = (let t = g.install.time n i.calm in let d = (g.install.completed n i.completed).1 in omega arith);
+      named = g.gate.held n (g.gate.closing n quiet.closing);
+    },
   )
