@@ -12,6 +12,7 @@ pub mod InstallingLaws
 pub mod Kept
 pub mod Refusals
 pub mod Attempts
+pub mod StandLemmas
 pub mod Callers
 pub mod Closings
 pub mod CallerLemmas
