@@ -2,6 +2,7 @@
 #![tactic(auto)]
 
 pub mod calls;
+pub mod gate;
 pub mod live;
 #[cfg(test)]
 mod tests;
