@@ -4,11 +4,11 @@ ghost use Rattle.stm_text.specs.Built.{IsBuilt};
 ghost use Rattle.stm_text.specs.declared.parse.Mode.TheVariants.{Run};
 ghost use Rattle.stm_rule.specs.Callers.{IsSameCaller};
 ghost use Rattle.stm_tx.specs.Descs.{known};
-ghost use Rattle.bench_core.specs.Places.{clock_of};
+ghost use Rattle.stm_trace.specs.Places.{clock_of};
 ghost use Rattle.bench_core.specs.Runs.{HasRun, config_of, longest};
 ghost use Rattle.bench_core.specs.Workers.{Sound, Starts, Loaded};
 
-use crate::said::{Phase, Said};
+use crate::turnstile::Open;
 use crate::worker::Worker;
 use rule_base::layout::Config;
 use std::alloc::{AllocError, Global};
@@ -24,7 +24,8 @@ use stm_script::pairs::pairs;
 use stm_script::region::Regions;
 use stm_script::replies::Replies;
 use stm_script::report::{Report, Rows};
-use stm_script::workload::{Header, Item, Workload};
+use stm_script::workload::{Header, Workload};
+use stm_trace::said::{Phase, Said};
 use tx_answers::answers::Begin;
 
 /// What a run came to, with the closed memory.
