@@ -3,3 +3,6 @@
 
 pub mod line;
 pub mod said;
+#[cfg(test)]
+mod tests;
+pub mod text;
