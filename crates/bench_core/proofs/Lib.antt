@@ -1,5 +1,7 @@
 mod Calls
+mod FairLaws
 mod GoingLaws
+mod RoomLaws
 mod RowLaws
 mod TurnLaws
 mod RunLaws

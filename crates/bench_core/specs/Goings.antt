@@ -1,5 +1,5 @@
 -- An attempt in the middle of its script.
-use Rattle.std.specs.Prelude.{ℕ, ◌≡◌, not, Bool, false, List, [], length}
+use Rattle.std.specs.Prelude.{ℕ, ◌≡◌, not, Bool, true, false, List, [], length}
 use Rattle.stm_model.specs.declared.alg.Alg.{Alg}
 use Rattle.stm_model.specs.Memories.{Explains, is_empty}
 use Rattle.stm_model.specs.Logs.{Log, IsExplained, Keeps}
@@ -8,7 +8,7 @@ use Rattle.stm_script.specs.declared.region.Region.{Region}
 use Rattle.stm_script.specs.Keeping.{ScriptKeeps}
 use Rattle.stm_script.specs.Operations.{ScriptFits}
 use Rattle.stm_script.specs.Outputs.{Output, HasRoom}
-use Rattle.stm_script.specs.Scripts.{before_cancel}
+use Rattle.stm_script.specs.Scripts.{before_cancel, has_cancel}
 use Rattle.stm_script.specs.ScriptLaws.{GivesOn}
 use Rattle.tx_answers.specs.Known.{Known, is_irrevocable}
 
@@ -30,5 +30,6 @@ pub record Going (good : List ℕ → Type 0) (words : ℕ) (regions : List Regi
   pub ungranted : v.granted ≡ false
   pub writer : wrote ≡ not (is_empty v.log.writes)
   pub on : (m : List ℕ) → good m → length m ≡ words → Explains m v.log.reads → GivesOn regions script rest m no_log no_replies v.log out
+  pub ends : has_cancel rest ≡ true → has_cancel script ≡ true
   -- and so up to the first cancel, while the attempt can be cancelled
   pub cut : is_irrevocable v ≡ false → (m : List ℕ) → good m → length m ≡ words → Explains m v.log.reads → GivesOn regions (before_cancel script) (before_cancel rest) m no_log no_replies v.log out

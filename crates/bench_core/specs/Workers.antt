@@ -117,11 +117,11 @@ pub record Roomy {K : Type 0} (w : Worker K) : Type 0 where
   pub spare : w.spare.items ++ cleared w.out ∷ [] ≡ spares w.left.now
   pub rows : vec_len w.rows + length w.spare.items ≤ vec_capacity w.rows
 
--- nothing is done, and there is room for all
-pub record Starts {K : Type 0} (desc : Handle K) (items : List Item) (w : Worker K) : Type 0 where
+-- nothing is done, and there is room for all; alg is the memory's algorithm at the start
+pub record Starts {K : Type 0} (desc : Handle K) (items : List Item) (alg : Alg) (w : Worker K) : Type 0 where
   pub is_desc : w.desc ≡ desc
   pub all : w.all.now ≡ items
-  pub at : place_of w ≡ record { caller = caller_of desc.who.role; left = items; phase = Between; alg = Cgl; rest = []; replies = []; emits = []; wrote = false; rows = [] }
+  pub at : place_of w ≡ record { caller = caller_of desc.who.role; left = items; phase = Between; alg = alg; rest = []; replies = []; emits = []; wrote = false; rows = [] }
   pub regions : w.regions ≡ []
   pub roomy : Roomy w
 

@@ -144,12 +144,18 @@ fn push_room(spare: &mut Vec<Replies>, room: Replies) -> Result<(), AllocError>
 }
 
 impl<'a, K: MemRule> Worker<'a, K> {
-    /// A worker that has done nothing, with room for all its rows and replies.
+    /// A worker that has done nothing, with room for all its rows and replies; `alg` is the memory's
+    /// algorithm at the start.
     ///
     /// # Errors
     /// Memory, where it is refused.
-    pub fn new(alloc: Global, desc: Desc<K>, items: &'a [Item]) -> Result<Worker<'a, K>, Memory>
-        ensures { IfOk result (Starts desc items.now) }
+    pub fn new(
+        alloc: Global,
+        desc: Desc<K>,
+        items: &'a [Item],
+        alg: Alg,
+    ) -> Result<Worker<'a, K>, Memory>
+        ensures { IfOk result (Starts desc items.now alg) }
     {
         let mut spare = rooms(alloc, items)?;
         let out = match spare.pop() {
@@ -163,7 +169,7 @@ impl<'a, K: MemRule> Worker<'a, K> {
             all: items,
             left: items,
             phase: Phase::Between,
-            alg: Alg::Cgl,
+            alg,
             rest: &[],
             out,
             wrote: false,
