@@ -2,7 +2,6 @@
 #![tactic(auto)]
 
 pub mod calls;
-pub mod gate;
 pub mod live;
 #[cfg(test)]
 mod tests;
