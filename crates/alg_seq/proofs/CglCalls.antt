@@ -157,7 +157,7 @@ module _ (good : List ℕ → Type 0) (c : Config) (n : ℕ) where
   pub tells-held : (x : ℕ) (v w : View) → CanBegin v → x ≢ 0 → Tells (take_lock n) (FindsLock c n) v x w → Waits v w × Found Lock x (known_of v) (known_of w) × NamesOther good c n x
   tells-held x v w can other t = subst (λ (y : View). Waits v y × Found Lock x (known_of v) (known_of y) × NamesOther good c n x) (sym t.2) (
     record {
-      can = record { phase = can.phase; algorithm = can.algorithm; reopened = can.reopened; ungranted = can.ungranted; unlocked = ap (λ (b : Bool). (if b then fresh_lock else v.lock).taken) apart ∙ can.unlocked; rises = can.rises };
+      can = record { phase = can.phase; algorithm = can.algorithm; reopened = can.reopened; ungranted = can.ungranted; disowned = can.disowned; unlocked = ap (λ (b : Bool). (if b then fresh_lock else v.lock).taken) apart ∙ can.unlocked; rises = can.rises };
       made = refl;
       grows = grows-same (known_of v) (known_of last) refl refl;
       rises = refl;
@@ -192,6 +192,7 @@ module _ (good : List ℕ → Type 0) (c : Config) (n : ℕ) where
       built = refl;
       reopened = can.reopened;
       ungranted = can.ungranted;
+      disowned = can.disowned;
       start = refl;
       front = refl;
       rises = can.rises;
@@ -228,7 +229,7 @@ module _ (good : List ℕ → Type 0) (c : Config) (n : ℕ) where
       → Waits v w × FindsFull clock (known_of v) (known_of w)
   tells-full found clock v t u w can zero high f l r = subst (λ (y : View). Waits v y × FindsFull clock (known_of v) (known_of y)) (sym path) (
     record {
-      can = record { phase = can.phase; algorithm = can.algorithm; reopened = can.reopened; ungranted = can.ungranted; unlocked = refl; rises = can.rises };
+      can = record { phase = can.phase; algorithm = can.algorithm; reopened = can.reopened; ungranted = can.ungranted; disowned = can.disowned; unlocked = refl; rises = can.rises };
       made = refl;
       grows = g;
       rises = refl;

@@ -19,6 +19,7 @@ pub record CanBegin (v : View) : Type 0 where
   pub reopened : v.gate.holds ≡ false
   pub ungranted : v.gate.granted ≡ false
   pub unlocked : v.lock.taken ≡ false
+  pub disowned : v.owned.held ≡ []
   pub rises : v.steps.rises ≡ v.steps.rises_at_begin
 
 -- what a refusal leaves: the caller found the gate open, and has no lock

@@ -1,12 +1,17 @@
 -- Each kind of step at the gate keeps the gate's clauses.
-use Rattle.std.proofs.Common.{◌≡◌, ℕ, ◌<◌, ◌≤◌, true, false, arith, refl, sym, subst, ap, ◌∙◌}
-use Rattle.std.specs.Prelude.{if◌then◌else◌, ◌==◌}
+use Rattle.std.proofs.Common.{◌≡◌, ◌≢◌, ℕ, ◌+◌, ◌<◌, ◌≤◌, List, ◌∷◌, Bool, true, false, eqb, arith, refl, sym, subst, ap, ◌∙◌}
+use Rattle.std.specs.Prelude.{if◌then◌else◌, ◌==◌, ltb}
+use Rattle.std.proofs.lemmas.Bool.{eqb-true}
+use Rattle.std.proofs.lemmas.Bool.Decides.{nat_tests}
+use Rattle.stm_model.specs.declared.alg.Alg.{Alg}
 use Rattle.rule_base.specs.declared.views.Phase.{Phase}
 use Rattle.rule_base.specs.declared.views.Phase.TheVariants.{Idle, Announced, Turned, Aiming, In, Closing}
 use Rattle.rule_base.specs.declared.views.View.{View}
-use Rattle.rule_base.specs.Encodings.{alg_of, holder_of}
+use Rattle.rule_base.specs.Encodings.{alg_of, holder_of, gate_word}
+use Rattle.rule_base.specs.EncodingLemmas.{alg_of-gate, holder_of-gate}
 use Rattle.rule_base.specs.GateRule.{rests, is_silent, may_hold, GateScene, gate_scene, GateRule}
-use Rattle.rule_base.specs.GateSteps.{announce, CanAnnounce, load_gate, CanLoadGate, departs, departed, depart, CanDepart}
+use Rattle.rule_base.specs.GateSteps.{announce, CanAnnounce, load_gate, CanLoadGate, departs, departed, depart, CanDepart, aim, CanAim, closed_at, take_gate, CanTakeGate, check, CanCheck, opened, reopen, CanReopen}
+use Rattle.rule_base.specs.InstallSteps.{HasChecked, install}
 use Rattle.rule_base.specs.History.{member}
 use Rattle.rule_base.specs.PutLemmas.{parts-put, parts-kept}
 use Rattle.rule_base.specs.StepKinds.{view_after, world_after}
@@ -20,7 +25,18 @@ gate_scene-put w x n v is = λ i. record { status = x.status; gate = x.gate; vie
 pub gate_scene-kept : (w x : World) (n : ℕ) (v : View) → x.views ≡ put w.views n v → x.status ≡ w.status → x.gate ≡ w.gate → v.gate ≡ (w.views n).gate → gate_scene x ≡ gate_scene w
 gate_scene-kept w x n v is status gate own = λ i. record { status = status i; gate = gate i; views = (ap (parts (λ (u : View). u.gate)) is ∙ parts-kept (λ (u : View). u.gate) w.views n v own) i }
 
+-- who has seen all others idle since it closed the gate is alone: they are in no transaction, and neither aim nor close
+pub others-rest-at : (callers n : ℕ) (s : GateScene) → (s.views n).phase ≡ Closing → ((k : ℕ) → k < callers → k ≢ n → member (s.views n).checked k ≡ true) → GateRule callers s → (k : ℕ) → k ≢ n → rests (s.views k).phase ≡ true
+others-rest-at callers n s closing quiet r k other = go (ltb k callers) refl
+  where
+    go : (b : Bool) → ltb k callers ≡ b → rests (s.views k).phase ≡ true
+    go true q = r.seen n k (quiet k (grind (arith, nat_tests)) other)
+    go false q = ap rests (r.far k (grind (arith, nat_tests)))
+
 module _ (callers : ℕ) where
+  pub others-rest : (w : World) (n : ℕ) → (w.views n).gate.phase ≡ Closing → HasChecked callers n (w.views n) → GateRule callers (gate_scene w) → (k : ℕ) → k ≢ n → rests (w.views k).gate.phase ≡ true
+  others-rest w n closing quiet g = others-rest-at callers n (gate_scene w) closing quiet g
+
   pub announce-gate : (w : World) (n : ℕ) → n < callers → CanAnnounce (w.views n) → GateRule callers (gate_scene w) → GateRule callers (gate_scene (world_after (announce n) n w))
   announce-gate w n low idle g = subst (GateRule callers) (sym (gate_scene-put w (world_after (announce n) n w) n (view_after (announce n) w (w.views n) 1) refl)) (law (gate_scene w) g idle)
     where
@@ -34,6 +50,9 @@ module _ (callers : ℕ) where
         checked = λ m k e. grind (arith, r.checked m k, e);
         seen = λ m k e. grind (arith, r.seen m k, e);
         named = λ m e. grind (arith, r.named m, e);
+        held = λ m e. grind (arith, r.held m, e);
+        formed = r.formed;
+        aimed = λ m e. grind (arith, r.aimed m, e);
         far = λ m e. grind (arith, r.far m, e, low);
       }
 
@@ -50,6 +69,9 @@ module _ (callers : ℕ) where
         checked = λ m k e. grind (arith, r.checked m k, e);
         seen = λ m k e. grind (arith, r.seen m k, r.checked m k, r.mine m, e);
         named = λ m e. grind (arith, r.named m, e);
+        held = λ m e. grind (arith, r.held m, r.holding m, e, announced);
+        formed = r.formed;
+        aimed = λ m e. grind (arith, r.aimed m, e);
         far = λ m e. grind (arith, r.far m, r.far n, e, announced);
       }
 
@@ -57,9 +79,9 @@ module _ (callers : ℕ) where
   depart-gate w n may g = subst (GateRule callers) (sym (gate_scene-put w (world_after (depart n) n w) n (view_after (depart n) w (w.views n) 0) refl)) (by (gate_scene w) (w.views n).gate.phase refl may.phase may.reopened g)
     where
       -- the phase after is p
-      law : (s : GateScene) (p : Phase) → is_silent p ≡ true → ((s.views n).holds ≡ true → may_hold p ≡ true) → (p ≡ Closing → (s.views n).holds ≡ true) → ((k : ℕ) → member (s.views k).checked n ≡ true → rests p ≡ true) → (p ≡ In → ⊥) → (callers ≤ n → p ≡ Idle) → GateRule callers s
+      law : (s : GateScene) (p : Phase) → is_silent p ≡ true → ((s.views n).holds ≡ true → may_hold p ≡ true) → (p ≡ Closing → (s.views n).holds ≡ true) → ((k : ℕ) → member (s.views k).checked n ≡ true → rests p ≡ true) → (p ≡ In → ⊥) → (p ≡ Aiming → ⊥) → (callers ≤ n → p ≡ Idle) → GateRule callers s
           → GateRule callers (record s { status = put s.status n 0; views = put s.views n (record (s.views n) { phase = p }) })
-      law s p silent hold closing seen out far r = record {
+      law s p silent hold closing seen out unaimed far r = record {
         quiet = λ m e. grind (arith, r.quiet m, e, silent);
         mine = λ m e. grind (arith, r.mine m, e);
         owner = λ m e. grind (arith, r.owner m, e);
@@ -68,6 +90,9 @@ module _ (callers : ℕ) where
         checked = λ m k e. grind (arith, r.checked m k, e);
         seen = λ m k e. grind (arith, r.seen m k, e, seen m);
         named = λ m e. grind (arith, r.named m, e, out);
+        held = λ m e. grind (arith, r.held m, e);
+        formed = r.formed;
+        aimed = λ m e. grind (arith, r.aimed m, e, unaimed);
         far = λ m e. grind (arith, r.far m, e, far);
       }
 
@@ -76,9 +101,196 @@ module _ (callers : ℕ) where
       by s Idle is d reopened r = absurd cc
       by s Announced is d reopened r = absurd cc
       by s Turned is d reopened r = subst (λ (q : Phase). GateRule callers (record s { status = put s.status n 0; views = put s.views n (record (s.views n) { phase = departed q }) })) (sym is)
-          (law s Idle refl (λ h. grind (arith, r.holding n h, is)) (λ e. absurd cc) (λ k e. refl) (λ e. cc) (λ l. refl) r)
+          (law s Idle refl (λ h. grind (arith, r.holding n h, is)) (λ e. absurd cc) (λ k e. refl) (λ e. cc) (λ e. cc) (λ l. refl) r)
       by s Aiming is d reopened r = absurd cc
       by s In is d reopened r = subst (λ (q : Phase). GateRule callers (record s { status = put s.status n 0; views = put s.views n (record (s.views n) { phase = departed q }) })) (sym is)
-          (law s Idle refl (λ h. absurd (let o = reopened is in cc)) (λ e. absurd cc) (λ k e. refl) (λ e. cc) (λ l. refl) r)
+          (law s Idle refl (λ h. absurd (let o = reopened is in cc)) (λ e. absurd cc) (λ k e. refl) (λ e. cc) (λ e. cc) (λ l. refl) r)
       by s Closing is d reopened r = subst (λ (q : Phase). GateRule callers (record s { status = put s.status n 0; views = put s.views n (record (s.views n) { phase = departed q }) })) (sym is)
-          (law s Closing refl (λ h. refl) (λ e. r.closing n is) (λ k e. grind (arith, r.seen k n e, is)) (λ e. cc) (λ l. grind (arith, r.far n l, is)) r)
+          (law s Closing refl (λ h. refl) (λ e. r.closing n is) (λ k e. grind (arith, r.seen k n e, is)) (λ e. cc) (λ e. cc) (λ l. grind (arith, r.far n l, is)) r)
+
+  pub aim-gate : (w : World) (n : ℕ) → CanAim (w.views n) → GateRule callers (gate_scene w) → GateRule callers (gate_scene (world_after aim n w))
+  aim-gate w n announced g = subst (GateRule callers) (sym (gate_scene-put w (world_after aim n w) n (view_after aim w (w.views n) w.gate) refl)) (law (gate_scene w) g announced)
+    where
+      -- an open gate's word is that of holder 0
+      open_word : (s : GateScene) → GateRule callers s → holder_of s.gate ≡ 0 → s.gate ≡ gate_word 0 (alg_of s.gate)
+      open_word s r e = r.formed ∙ ap (λ h. gate_word h (alg_of s.gate)) e
+
+      law : (s : GateScene) → GateRule callers s → (s.views n).phase ≡ Announced → GateRule callers (record s { views = put s.views n (record (s.views n) { phase = if holder_of s.gate == 0 then Aiming else Turned; algorithm = alg_of s.gate; aim = s.gate }) })
+      law s r announced = record {
+        quiet = λ m e. grind (arith, r.quiet m, e, announced);
+        mine = λ m e. grind (arith, r.mine m, e);
+        owner = λ m e. grind (arith, r.owner m, e);
+        holding = λ m e. grind (arith, r.holding m, e, announced);
+        closing = λ m e. grind (arith, r.closing m, e);
+        checked = λ m k e. grind (arith, r.checked m k, e);
+        seen = λ m k e. grind (arith, r.seen m k, r.checked m k, r.mine m, e);
+        named = λ m e. grind (arith, r.named m, e);
+        held = λ m e. grind (arith, r.held m, r.holding m, e, announced);
+        formed = r.formed;
+        aimed = λ m e. grind (arith, r.aimed m, e, open_word s r);
+        far = λ m e. grind (arith, r.far m, r.far n, e, announced);
+      }
+
+  pub take_gate-gate : (word : ℕ) (w : World) (n : ℕ) → n < callers → CanTakeGate word (w.views n) → GateRule callers (gate_scene w) → GateRule callers (gate_scene (world_after (take_gate n word) n w))
+  take_gate-gate word w n low may g = go (eqb w.gate word) (λ e. eqb-true w.gate word e)
+    where
+      next : Bool → View
+      next b = record (view_after (take_gate n word) w (w.views n) w.gate) { gate = if b then closed_at word (w.views n).gate else record (w.views n).gate { phase = Turned } }
+
+      at : Bool → World
+      at b = record w { gate = if b then gate_word (1 + n) (alg_of word) else w.gate; views = put w.views n (next b) }
+
+      -- nobody holds the open gate, and nobody is seen
+      law : (s : GateScene) → GateRule callers s → (s.views n).phase ≡ Aiming → s.gate ≡ word → holder_of s.gate ≡ 0
+          → GateRule callers (record s { gate = gate_word (1 + n) (alg_of word); views = put s.views n (closed_at word (s.views n)) })
+      law s r aiming is free =
+          let h : holder_of (gate_word (1 + n) (alg_of word)) ≡ 1 + n = holder_of-gate (1 + n) (alg_of word) in
+          let a : alg_of (gate_word (1 + n) (alg_of word)) ≡ alg_of word = alg_of-gate (1 + n) (alg_of word) in
+          let same : alg_of s.gate ≡ alg_of word = ap alg_of is in
+          record {
+            quiet = λ m e. grind (arith, r.quiet m, e);
+            mine = λ m e. grind (arith, r.mine m, e, h, free);
+            owner = λ m e. grind (arith, e, h);
+            holding = λ m e. grind (arith, r.holding m, e);
+            closing = λ m e. grind (arith, r.closing m, e);
+            checked = λ m k e. grind (arith, r.checked m k, e);
+            seen = λ m k e. grind (arith, r.seen m k, r.checked m k, r.mine m, e, free);
+            named = λ m e. grind (arith, r.named m, e, a, same);
+            held = λ m e. grind (arith, r.mine m, e, a, free);
+            formed = sym (ap (λ k. gate_word k (alg_of (gate_word (1 + n) (alg_of word)))) h ∙ ap (gate_word (1 + n)) a);
+            aimed = λ m e. grind (arith, r.aimed m, e, a, same);
+            far = λ m e. grind (arith, r.far m, e, low);
+          }
+
+      refused : (s : GateScene) → GateRule callers s → (s.views n).phase ≡ Aiming → GateRule callers (record s { views = put s.views n (record (s.views n) { phase = Turned }) })
+      refused s r aiming = record {
+        quiet = λ m e. grind (arith, r.quiet m, e, aiming);
+        mine = λ m e. grind (arith, r.mine m, e);
+        owner = λ m e. grind (arith, r.owner m, e);
+        holding = λ m e. grind (arith, r.holding m, e, aiming);
+        closing = λ m e. grind (arith, r.closing m, e);
+        checked = λ m k e. grind (arith, r.checked m k, e);
+        seen = λ m k e. grind (arith, r.seen m k, e);
+        named = λ m e. grind (arith, r.named m, e);
+        held = λ m e. grind (arith, r.held m, e);
+        formed = r.formed;
+        aimed = λ m e. grind (arith, r.aimed m, e);
+        far = λ m e. grind (arith, r.far m, e, low);
+      }
+
+      go : (b : Bool) → (b ≡ true → w.gate ≡ word) → GateRule callers (gate_scene (at b))
+      go true e =
+          let aimed : word ≡ gate_word 0 (alg_of w.gate) = sym may.aimed ∙ g.aimed n may.phase in
+          let free : holder_of w.gate ≡ 0 = ap holder_of (e refl ∙ aimed) ∙ holder_of-gate 0 (alg_of w.gate) in
+          subst (GateRule callers) (sym (gate_scene-put w (at true) n (next true) refl)) (law (gate_scene w) g may.phase (e refl) free)
+      go false e = subst (GateRule callers) (sym (gate_scene-put w (at false) n (next false) refl)) (refused (gate_scene w) g may.phase)
+
+  pub check-gate : (k : ℕ) (w : World) (n : ℕ) → CanCheck n k (w.views n) → GateRule callers (gate_scene w) → GateRule callers (gate_scene (world_after (check k) n w))
+  check-gate k w n may g = subst (GateRule callers) (sym (gate_scene-put w (world_after (check k) n w) n (view_after (check k) w (w.views n) (w.status k)) refl)) (go (gate_scene w) (eqb (w.status k) 0) (λ e. eqb-true (w.status k) 0 e) g may.holds)
+    where
+      -- another caller whose status is 0 isn't closing, since it would hold the gate
+      idle : (s : GateScene) → GateRule callers s → (s.views n).holds ≡ true → s.status k ≡ 0 → rests (s.views k).phase ≡ true
+      idle s r holds zero = by (s.views k).phase refl (r.quiet k zero)
+        where
+          by : (p : Phase) → (s.views k).phase ≡ p → is_silent (s.views k).phase ≡ true → rests (s.views k).phase ≡ true
+          by Idle is q = ap rests is
+          by Announced is q = ap rests is
+          by Turned is q = ap rests is
+          by Aiming is q = absurd (let e : false ≡ true = sym (ap is_silent is) ∙ q in cc)
+          by In is q = absurd (let e : false ≡ true = sym (ap is_silent is) ∙ q in cc)
+          by Closing is q = absurd (may.other (let a = r.mine k (r.closing k is) in let b = r.mine n holds in omega arith))
+
+      law : (s : GateScene) (seen : List ℕ) → GateRule callers s → (s.views n).holds ≡ true → ((j : ℕ) → member seen j ≡ true → rests (s.views j).phase ≡ true) → GateRule callers (record s { views = put s.views n (record (s.views n) { checked = seen }) })
+      law s seen r holds rest = record {
+        quiet = λ m e. grind (arith, r.quiet m, e);
+        mine = λ m e. grind (arith, r.mine m, e);
+        owner = λ m e. grind (arith, r.owner m, e);
+        holding = λ m e. grind (arith, r.holding m, e);
+        closing = λ m e. grind (arith, r.closing m, e);
+        checked = λ m j e. grind (arith, r.checked m j, e, holds);
+        seen = λ m j e. grind (arith, r.seen m j, e, rest j);
+        named = λ m e. grind (arith, r.named m, e);
+        held = λ m e. grind (arith, r.held m, e);
+        formed = r.formed;
+        aimed = λ m e. grind (arith, r.aimed m, e);
+        far = λ m e. grind (arith, r.far m, e);
+      }
+
+      one_more : (s : GateScene) (j : ℕ) → GateRule callers s → rests (s.views k).phase ≡ true → member (k ∷ (s.views n).checked) j ≡ true → rests (s.views j).phase ≡ true
+      one_more s j r rest e = grind (arith, r.seen n j, rest, e)
+
+      go : (s : GateScene) (b : Bool) → (b ≡ true → s.status k ≡ 0) → GateRule callers s → (s.views n).holds ≡ true
+          → GateRule callers (record s { views = put s.views n (record (s.views n) { checked = if b then k ∷ (s.views n).checked else (s.views n).checked }) })
+      go s true zero r holds = law s (k ∷ (s.views n).checked) r holds (λ j e. one_more s j r (idle s r holds (zero refl)) e)
+      go s false zero r holds = law s (s.views n).checked r holds (r.seen n)
+
+  pub reopen-gate : (alg : Alg) (w : World) (n : ℕ) → CanReopen alg (w.views n) → GateRule callers (gate_scene w) → GateRule callers (gate_scene (world_after (reopen alg) n w))
+  reopen-gate alg w n may g = subst (GateRule callers) (sym (gate_scene-put w (world_after (reopen alg) n w) n (view_after (reopen alg) w (w.views n) (gate_word 0 alg)) refl))
+      (law (gate_scene w) g (g.closing n may.phase) (g.held n (g.closing n may.phase) ∙ may.named))
+    where
+      law : (s : GateScene) → GateRule callers s → (s.views n).holds ≡ true → alg_of s.gate ≡ alg → GateRule callers (record s { gate = gate_word 0 alg; views = put s.views n (opened (s.views n)) })
+      law s r holds same =
+          let h : holder_of (gate_word 0 alg) ≡ 0 = holder_of-gate 0 alg in
+          let a : alg_of (gate_word 0 alg) ≡ alg = alg_of-gate 0 alg in
+          record {
+            quiet = λ m e. grind (arith, r.quiet m, e);
+            mine = λ m e. grind (arith, r.mine m, r.mine n holds, e);
+            owner = λ m e. absurd (grind (arith, e, h));
+            holding = λ m e. grind (arith, r.holding m, e);
+            closing = λ m e. grind (arith, r.closing m, e);
+            checked = λ m k e. grind (arith, r.checked m k, e);
+            seen = λ m k e. grind (arith, r.seen m k, e);
+            named = λ m e. grind (arith, r.named m, e, a, same);
+            held = λ m e. grind (arith, r.held m, e, a, same);
+            formed = sym (ap (λ k. gate_word k (alg_of (gate_word 0 alg))) h ∙ ap (gate_word 0) a);
+            aimed = λ m e. grind (arith, r.aimed m, e, a, same);
+            far = λ m e. grind (arith, r.far m, e);
+          }
+
+  pub install-gate : (alg : Alg) (w : World) (n : ℕ) → (w.views n).gate.phase ≡ Closing → HasChecked callers n (w.views n) → GateRule callers (gate_scene w) → GateRule callers (gate_scene (world_after (install n alg) n w))
+  install-gate alg w n closing quiet g = subst (GateRule callers) (sym (gate_scene-put w (world_after (install n alg) n w) n (view_after (install n alg) w (w.views n) (gate_word (1 + n) alg)) refl))
+      (law (gate_scene w) g closing (g.closing n closing) (others-rest w n closing quiet g))
+    where
+      law : (s : GateScene) → GateRule callers s → (s.views n).phase ≡ Closing → (s.views n).holds ≡ true → ((k : ℕ) → k ≢ n → rests (s.views k).phase ≡ true)
+          → GateRule callers (record s { gate = gate_word (1 + n) alg; views = put s.views n (record (s.views n) { algorithm = alg }) })
+      law s r closing holds out =
+          let h : holder_of (gate_word (1 + n) alg) ≡ 1 + n = holder_of-gate (1 + n) alg in
+          let a : alg_of (gate_word (1 + n) alg) ≡ alg = alg_of-gate (1 + n) alg in
+          record {
+            quiet = λ m e. grind (arith, r.quiet m, e);
+            mine = λ m e. grind (arith, r.mine m, r.mine n holds, e, h);
+            owner = λ m e. grind (arith, e, h, holds);
+            holding = λ m e. grind (arith, r.holding m, e);
+            closing = λ m e. grind (arith, r.closing m, e);
+            checked = λ m k e. grind (arith, r.checked m k, e);
+            seen = λ m k e. grind (arith, r.seen m k, e);
+            named = λ m e. grind (arith, out m, e, a, closing);
+            held = λ m e. grind (arith, r.mine m, r.mine n holds, e, a);
+            formed = sym (ap (λ k. gate_word k (alg_of (gate_word (1 + n) alg))) h ∙ ap (gate_word (1 + n)) a);
+            aimed = λ m e. grind (arith, out m, e, closing);
+            far = λ m e. grind (arith, r.far m, e);
+          }
+
+  -- a step that changes what its caller knows for installing, and nothing else at the gate
+  pub gate-marked : (w x : World) (n : ℕ) (v : View) (calm rebased completed : Bool) (time : ℕ) → x.views ≡ put w.views n v → x.status ≡ w.status → x.gate ≡ w.gate → v.gate ≡ record (w.views n).gate { calm = calm; time = time; rebased = rebased; completed = completed }
+      → GateRule callers (gate_scene w) → GateRule callers (gate_scene x)
+  gate-marked w x n v calm rebased completed time is status gate own r = subst (GateRule callers) (sym path) (law (gate_scene w) r)
+    where
+      path : gate_scene x ≡ record (gate_scene w) { views = put (gate_scene w).views n (record (w.views n).gate { calm = calm; time = time; rebased = rebased; completed = completed }) }
+      path = λ i. record { status = status i; gate = gate i; views = (ap (parts (λ (u : View). u.gate)) is ∙ (parts-put (λ (u : View). u.gate) w.views n v ∙ ap (put (gate_scene w).views n) own)) i }
+
+      law : (s : GateScene) → GateRule callers s → GateRule callers (record s { views = put s.views n (record (s.views n) { calm = calm; time = time; rebased = rebased; completed = completed }) })
+      law s r = record {
+        quiet = λ m e. grind (arith, r.quiet m, e);
+        mine = λ m e. grind (arith, r.mine m, e);
+        owner = λ m e. grind (arith, r.owner m, e);
+        holding = λ m e. grind (arith, r.holding m, e);
+        closing = λ m e. grind (arith, r.closing m, e);
+        checked = λ m k e. grind (arith, r.checked m k, e);
+        seen = λ m k e. grind (arith, r.seen m k, e);
+        named = λ m e. grind (arith, r.named m, e);
+        held = λ m e. grind (arith, r.held m, e);
+        formed = r.formed;
+        aimed = λ m e. grind (arith, r.aimed m, e);
+        far = λ m e. grind (arith, r.far m, e);
+      }

@@ -1,12 +1,14 @@
--- The kinds of step by which a caller comes to an attempt and leaves it.
-use Rattle.std.specs.Prelude.{ℕ, ◌≡◌, ◌==◌, if◌then◌else◌, Bool, true, false}
+-- The kinds of step at the gate: a caller comes to an attempt and leaves it, closes the gate, looks at the others, and reopens.
+use Rattle.std.specs.Prelude.{ℕ, ◌≡◌, ◌≢◌, ◌+◌, ◌==◌, if◌then◌else◌, Bool, true, false, [], ◌∷◌}
+use Rattle.stm_model.specs.declared.alg.Alg.{Alg}
 use Rattle.rule_base.specs.declared.layout.At.TheVariants.{Gate, Status}
+use Rattle.rule_base.specs.declared.views.GateView.{GateView}
 use Rattle.rule_base.specs.declared.views.Phase.{Phase}
 use Rattle.rule_base.specs.declared.views.Phase.TheVariants.{Idle, Announced, Turned, Aiming, In, Closing}
 use Rattle.rule_base.specs.declared.views.View.{View}
-use Rattle.rule_base.specs.Encodings.{alg_of, holder_of, announced}
+use Rattle.rule_base.specs.Encodings.{alg_of, holder_of, gate_word, announced}
 use Rattle.rule_base.specs.StepKinds.{StepKind, same_history}
-use Rattle.rule_base.specs.StepKinds.Act.{Load, Store}
+use Rattle.rule_base.specs.StepKinds.Act.{Load, Store, Exchange}
 
 -- store 1 in the own status
 abbrev pub announce : ℕ → StepKind
@@ -59,6 +61,66 @@ depart n = record {
 
 pub record CanDepart (v : View) : Type 0 where
   pub phase : departs v.gate.phase ≡ true
-  -- an attempt has reopened the gate and freed the lock before
+  -- an attempt has reopened the gate, freed the lock and given back its records before
   pub reopened : v.gate.phase ≡ In → v.gate.holds ≡ false
   pub unlocked : v.lock.taken ≡ false
+  pub disowned : v.owned.held ≡ []
+
+-- load the gate to close it: an open one is aimed at
+abbrev pub aim : StepKind
+aim = record {
+  place = Gate;
+  act = Load;
+  after = λ w v gate. record v { gate = record v.gate { phase = if holder_of gate == 0 then Aiming else Turned; algorithm = alg_of gate; aim = gate } };
+  grown = same_history;
+}
+
+abbrev pub CanAim : View → Type 0
+CanAim v = v.gate.phase ≡ Announced
+
+-- the caller has closed the gate that had this word, and has seen nobody idle since
+abbrev pub closed_at : ℕ → GateView → GateView
+closed_at word g = record g { phase = Closing; algorithm = alg_of word; holds = true; checked = []; calm = false; rebased = false; completed = false }
+
+-- exchange the gate, the open word aimed at for the own one
+abbrev pub take_gate : ℕ → ℕ → StepKind
+take_gate n word = record {
+  place = Gate;
+  act = Exchange word (gate_word (1 + n) (alg_of word));
+  after = λ w v found. record v { gate = if found == word then closed_at word v.gate else record v.gate { phase = Turned } };
+  grown = same_history;
+}
+
+pub record CanTakeGate (word : ℕ) (v : View) : Type 0 where
+  pub phase : v.gate.phase ≡ Aiming
+  pub aimed : v.gate.aim ≡ word
+
+-- load another's status: 0 is idle
+abbrev pub check : ℕ → StepKind
+check k = record {
+  place = Status k;
+  act = Load;
+  after = λ w v status. record v { gate = record v.gate { checked = if status == 0 then k ∷ v.gate.checked else v.gate.checked } };
+  grown = same_history;
+}
+
+pub record CanCheck (n k : ℕ) (v : View) : Type 0 where
+  pub holds : v.gate.holds ≡ true
+  pub other : k ≢ n
+
+-- the caller no longer holds the gate
+abbrev pub opened : GateView → GateView
+opened g = record g { phase = Idle; holds = false; checked = []; calm = false; rebased = false; completed = false }
+
+-- store the open gate
+abbrev pub reopen : Alg → StepKind
+reopen alg = record {
+  place = Gate;
+  act = Store (gate_word 0 alg);
+  after = λ w v x. record v { gate = opened v.gate };
+  grown = same_history;
+}
+
+pub record CanReopen (alg : Alg) (v : View) : Type 0 where
+  pub phase : v.gate.phase ≡ Closing
+  pub named : v.gate.algorithm ≡ alg

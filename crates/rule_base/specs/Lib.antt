@@ -9,6 +9,12 @@ pub mod Opening
 pub mod GateRule
 pub mod GateSteps
 pub mod GateLaws
+pub mod InstallRule
+pub mod InstallSteps
+pub mod RecordRule
+pub mod Rest
+pub mod InstallLaws
+pub mod RecordLemmas
 pub mod Seating
 pub mod Notes
 pub mod Runs

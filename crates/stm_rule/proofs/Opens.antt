@@ -1,5 +1,5 @@
 -- The table at the opening meets the rule.
-use Rattle.std.proofs.Common.{◌≡◌, ℕ, zero, suc, ◌+◌, ◌≤◌, List, [], ◌∷◌, Bool, true, false, length, replicate, get_or, refl, sym, ap, ◌∙◌, subst, arith, inl, inr}
+use Rattle.std.proofs.Common.{◌≡◌, ℕ, zero, suc, ◌+◌, ◌≤◌, List, [], ◌∷◌, Bool, true, false, length, replicate, get_or, refl, sym, ap, ◌∙◌, subst, arith, le_refl, inl, inr}
 use Rattle.std.proofs.lemmas.List.{length-replicate}
 use Rattle.std.proofs.lemmas.Bool.Decides.{nat_tests}
 use Rattle.std.specs.Prelude.{nat_le, ◌&&◌, if◌then◌else◌, Some, None}
@@ -14,6 +14,8 @@ use Rattle.rule_base.specs.declared.seats.Role.TheVariants.{Dealer, Note}
 use Rattle.rule_base.specs.declared.seats.SeatView.{SeatView}
 use Rattle.rule_base.specs.BridgeLemmas.{words_of-zeros}
 use Rattle.rule_base.specs.GateRule.{gate_scene, GateRule}
+use Rattle.rule_base.specs.InstallRule.{install_scene, InstallRule}
+use Rattle.rule_base.specs.RecordRule.{record_scene, RecordRule}
 use Rattle.rule_base.specs.ListLemmas.{contains-none}
 use Rattle.rule_base.specs.Opening.{first_view, opening_world}
 use Rattle.rule_base.specs.Places.{IsConfig, offset, size, InRange, ring_words}
@@ -65,7 +67,28 @@ opening_gate c = record {
   checked = λ n k e. absurd cc;
   seen = λ n k e. refl;
   named = λ n e. absurd cc;
+  held = λ n e. absurd cc;
+  formed = refl;
+  aimed = λ n e. absurd cc;
   far = λ n l. refl;
+}
+
+opening_install : (c : Config) → InstallRule c.callers (install_scene (opening_world c))
+opening_install c = record {
+  base = le_refl c.clock;
+  done = le_refl c.clock;
+  closing = λ n e. absurd cc;
+  alone = λ n k e. absurd cc;
+  time = λ n e. absurd cc;
+  rebased = λ n e. absurd cc;
+  completed = λ n e. absurd cc;
+}
+
+opening_records : (c : Config) → RecordRule (record_scene (opening_world c))
+opening_records c = record {
+  free = λ r e. (let z : 0 ≤ c.clock = omega arith in z);
+  owned = λ r e. absurd cc;
+  inside = λ n r e. absurd cc;
 }
 
 -- the opening words and the first views meet the rule
@@ -74,6 +97,8 @@ whole_opens good c config start = let w = cgl_world-opening good c config start 
   history = w.history;
   steps = w.steps;
   gate = opening_gate c;
+  install = opening_install c;
+  records = opening_records c;
   built = refl;
   lock = w.lock;
   cgl = λ e. w.cgl;

@@ -1,10 +1,12 @@
 -- Every list of steps of the core: at the gate, of CGL, and with notes.
-use Rattle.std.specs.Prelude.{ℕ, ◌≡◌, ◌+◌, ◌<◌, ◌^◌, List, [], ◌∷◌}
+use Rattle.std.specs.Prelude.{ℕ, ◌≡◌, ◌+◌, ◌<◌, ◌^◌, true, List, [], ◌∷◌}
+use Rattle.stm_model.specs.declared.alg.Alg.{Alg}
 use Rattle.rule_base.specs.declared.layout.Config.{Config}
 use Rattle.rule_base.specs.declared.layout.TheConstants.{CLOCK_LIMIT}
 use Rattle.rule_base.specs.declared.views.View.{View}
-use Rattle.rule_base.specs.GateSteps.{announce, CanAnnounce, load_gate, CanLoadGate, depart, CanDepart}
+use Rattle.rule_base.specs.GateSteps.{announce, CanAnnounce, load_gate, CanLoadGate, depart, CanDepart, aim, CanAim, take_gate, CanTakeGate, check, CanCheck, reopen, CanReopen}
 use Rattle.rule_base.specs.History.{Keeps}
+use Rattle.rule_base.specs.InstallSteps.{settle, CanSettle, even_clock, CanEvenClock, store_base, store_done, CanMark, install, CanInstall}
 use Rattle.rule_base.specs.Opening.{opening_world}
 use Rattle.rule_base.specs.Runs.{run, Allowed, KeepsAlong}
 use Rattle.rule_base.specs.StepKinds.{StepKind}
@@ -13,13 +15,22 @@ use Rattle.rule_seq.specs.CglRuns.{CglStep, cgl_kind, MayAs}
 use Rattle.rule_seq.specs.CglRuns.CglStep.{takes_lock, loads_start, loads_heap, stores_heap, stores_clock, frees_lock}
 use Rattle.stm_rule.specs.NoteSteps.{hear, load_end, CanLoadEnd}
 use Rattle.stm_rule.specs.Openings.{opening_words}
-use Rattle.stm_rule.specs.Product.{Whole}
+use Rattle.stm_rule.specs.Product.{is_built, Whole}
 
 -- a step by its kind and its numbers
 pub data CoreStep : Type 0 where
   announces : CoreStep
   loads_gate : CoreStep
   departs : CoreStep
+  aims : CoreStep
+  takes_gate : (word : ℕ) → CoreStep
+  checks : (other : ℕ) → CoreStep
+  reopens : (alg : Alg) → CoreStep
+  settles : CoreStep
+  evens_clock : (time : ℕ) → CoreStep
+  stores_base : (time : ℕ) → CoreStep
+  stores_done : (time : ℕ) → CoreStep
+  installs : (alg : Alg) → CoreStep
   of_cgl : (step : CglStep) → CoreStep
   hears : CoreStep
   loads_end : CoreStep
@@ -28,22 +39,40 @@ abbrev pub core_kind : ℕ → CoreStep → StepKind
 core_kind n announces = announce n
 core_kind n loads_gate = load_gate
 core_kind n departs = depart n
+core_kind n aims = aim
+core_kind n (takes_gate word) = take_gate n word
+core_kind n (checks other) = check other
+core_kind n (reopens alg) = reopen alg
+core_kind n settles = settle
+core_kind n (evens_clock time) = even_clock time
+core_kind n (stores_base time) = store_base time
+core_kind n (stores_done time) = store_done time
+core_kind n (installs alg) = install n alg
 core_kind n (of_cgl step) = cgl_kind n step
 core_kind n hears = hear
 core_kind n loads_end = load_end
 
 module _ (good : (ℕ → ℕ) → Type 0) (c : Config) where
-  abbrev pub CoreMayAs : CoreStep → View → Type 0
-  CoreMayAs announces v = CanAnnounce v
-  CoreMayAs loads_gate v = CanLoadGate v
-  CoreMayAs departs v = CanDepart v
-  CoreMayAs (of_cgl step) v = MayAs good c step v
-  CoreMayAs hears v = Unit {0}
-  CoreMayAs loads_end v = CanLoadEnd v
+  abbrev pub CoreMayAs : ℕ → CoreStep → View → Type 0
+  CoreMayAs n announces v = CanAnnounce v
+  CoreMayAs n loads_gate v = CanLoadGate v
+  CoreMayAs n departs v = CanDepart v
+  CoreMayAs n aims v = CanAim v
+  CoreMayAs n (takes_gate word) v = CanTakeGate word v
+  CoreMayAs n (checks other) v = CanCheck n other v
+  CoreMayAs n (reopens alg) v = CanReopen alg v
+  CoreMayAs n settles v = CanSettle c.callers n v
+  CoreMayAs n (evens_clock time) v = CanEvenClock time v
+  CoreMayAs n (stores_base time) v = CanMark time v
+  CoreMayAs n (stores_done time) v = CanMark time v
+  CoreMayAs n (installs alg) v = (is_built alg ≡ true) × CanInstall alg v
+  CoreMayAs n (of_cgl step) v = MayAs good c step v
+  CoreMayAs n hears v = Unit {0}
+  CoreMayAs n loads_end v = CanLoadEnd v
 
   -- a caller of this memory may take the step where its view allows it
   abbrev pub CoreMay : ℕ → CoreStep → View → Type 0
-  CoreMay n s v = (n < c.callers) × CoreMayAs s v
+  CoreMay n s v = (n < c.callers) × CoreMayAs n s v
 
   -- whatever steps of the core any callers take, each allowed where it comes, the rule holds after each
   abbrev pub CoreKeepsAlong : Type 0

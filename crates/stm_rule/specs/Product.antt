@@ -6,6 +6,8 @@ use Rattle.rule_base.specs.declared.layout.Config.{Config}
 use Rattle.rule_base.specs.Encodings.{alg_of}
 use Rattle.rule_base.specs.GateRule.{gate_scene, GateRule}
 use Rattle.rule_base.specs.HistoryRule.{history_scene, HistoryRule}
+use Rattle.rule_base.specs.InstallRule.{install_scene, InstallRule}
+use Rattle.rule_base.specs.RecordRule.{record_scene, RecordRule}
 use Rattle.rule_base.specs.StepsRule.{steps_scene, StepsRule}
 use Rattle.rule_base.specs.World.{World}
 use Rattle.rule_seq.specs.CglRule.{cgl_scene, CglRule}
@@ -25,6 +27,8 @@ pub record Whole (good : (ℕ → ℕ) → Type 0) (c : Config) (w : World) : Ty
   pub history : HistoryRule good c (history_scene w)
   pub steps : StepsRule c (steps_scene w)
   pub gate : GateRule c.callers (gate_scene w)
+  pub install : InstallRule c.callers (install_scene w)
+  pub records : RecordRule (record_scene w)
   pub built : is_built (alg_of w.gate) ≡ true
   pub lock : LockRule (lock_scene w)
   pub cgl : alg_of w.gate ≡ Cgl → CglRule c.words (cgl_scene w)

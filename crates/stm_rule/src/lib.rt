@@ -4,6 +4,7 @@
 pub mod closing;
 pub mod desc;
 pub mod ending;
+mod gate_kinds;
 mod kinds;
 pub mod laws;
 pub mod note;

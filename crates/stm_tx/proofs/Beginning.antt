@@ -28,14 +28,6 @@ use Rattle.tx_answers.specs.Answers.{Begins, BeginsAt, Stays, NamesOther, IsHeld
 use Rattle.tx_answers.specs.Known.{IsIdle, known_of, is_in, is_closing, is_offered}
 use Rattle.tx_answers.specs.KnownLaws.{grows-same}
 
-pub tells-of : {K : Type 0} → (kind : StepKind) (shows : World → View → ℕ → Type 0) (s : SeatView K) (n : ℕ) (t : SeatView K) → SeatTells kind shows s n t → Tells kind shows s.view n t.view
-tells-of kind shows s n t h = (h.0, h.1, ap (λ x. x.view) h.3)
-
--- a descriptor that is idle is outside
-pub outside-of : (good : List ℕ → Type 0) (c : Config) (a : Alg) (clock : ℕ) (wrote running : Bool) (v : View) → IsIdle (known_of v) → Stands good c a clock wrote running v → IsOutside v
-outside-of good c a clock wrote true v idle s = absurd (let e : true ≡ false = sym (ap is_in s.phase) ∙ idle.1 in cc)
-outside-of good c a clock wrote false v idle s = s
-
 abbrev pub FoundIn : At → ℕ → List TrailItem → List TrailItem → Type 0
 FoundIn place x before after = (more : List TrailItem) × (after ≡ more ++ before) × Contains more (record { place = place; found = Some x })
 

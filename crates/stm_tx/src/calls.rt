@@ -121,6 +121,8 @@ pub fn state<K: MemRule>(desc: &Desc<K>) -> TxState
 {
     if desc.running {
         TxState::Running(desc.algorithm)
+    } else if desc.holds {
+        TxState::Closing(desc.algorithm)
     } else {
         TxState::Idle
     }

@@ -237,7 +237,9 @@ module _ (good : List ℕ → Type 0) (c : Config) (n : ℕ) where
 
   -- the gate was loaded open, and is closed; nobody is seen yet
   pub record ClosesGate (v w : Known) : Type 0 where
-    pub closed : KeepsClosed v w
+    pub holds : HoldsClosed w
+    pub made : w.made ≡ v.made
+    pub grows : Grows v w
     pub unseen : w.checked ≡ []
     pub unsettled : w.settled ≡ false
     pub rises : w.rises ≡ v.rises

@@ -5,7 +5,7 @@ use Rattle.rule_seq.specs.CglSteps.{take_lock, load_start, Begins, free_lock}
 use Rattle.stm_rule.specs.Findings.{FindsLock}
 use Rattle.stm_rule.specs.Kept.{good_of}
 use Rattle.alg_seq.proofs.CglCalls.{tells-held, tells-started, tells-full}
-use Rattle.alg_seq.proofs.Standing.{tells-of}
+use Rattle.stm_rule.specs.StandLemmas.{tells-of}
 use Rattle.alg_seq.proofs.cgl.begin.Goals as goal
 
 pub returns-then-found-ne0-clause-begins : goal.returns-then-found-ne0-clause-begins

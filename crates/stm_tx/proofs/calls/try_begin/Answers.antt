@@ -1,5 +1,6 @@
 use Rattle.std.proofs.Common.{subst, sym, ap, ◌≡◌, ◌≢◌, ◌<◌, rules}
 use Rattle.stm_model.specs.declared.alg.Alg.TheVariants.{Cgl}
+use Rattle.rule_base.specs.declared.views.Phase.TheVariants.{Idle}
 use Rattle.rule_base.specs.Encodings.{holder_of, alg_of}
 use Rattle.rule_base.specs.GateSteps.{announce, load_gate, depart}
 use Rattle.rule_base.specs.StepKinds.{Nothing}
@@ -9,7 +10,8 @@ use Rattle.stm_rule.specs.Findings.{FindsGate}
 use Rattle.tx_answers.specs.declared.answers.Begin.TheVariants.{Begun, Closed}
 use Rattle.tx_answers.specs.Answers.{Begins}
 use Rattle.tx_answers.specs.Known.{IsIdle, known_of, caller_of}
-use Rattle.stm_tx.proofs.Beginning.{tells-of, outside-of, tells-closed, tells-begun, tells-refused}
+use Rattle.stm_rule.specs.StandLemmas.{tells-of, outside-of}
+use Rattle.stm_tx.proofs.Beginning.{tells-closed, tells-begun, tells-refused}
 use Rattle.stm_tx.proofs.calls.try_begin.Goals as goal
 
 pub returns-then-holder_of-ne0-clause-begins : goal.returns-then-holder_of-ne0-clause-begins
@@ -22,7 +24,7 @@ returns-then-holder_of-ne0-clause-begins g c =
     let gate = c.load_gate-gate.result in
     let t = c.load_gate-gate.new.seat.me.0 in
     let w = c.depart.new.seat.me.0 in
-    let out = outside-of (good_by g.K.MemRule.good v.who.rule) v.who.config d.algorithm d.start d.wrote d.running v.view (subst (λ (h : Handle g.row.K.Denot). IsIdle (known_of h.view)) (sym c.desc.view_is) c.requires.idle) c.desc.invariant.1 in
+    let out = outside-of (good_by g.K.MemRule.good v.who.rule) v.who.config d.algorithm d.start d.wrote d.number d.next d.running d.holds v.view (subst (λ (h : Handle g.row.K.Denot). h.view.gate.phase ≡ Idle) (sym c.desc.view_is) c.requires.idle.0) c.desc.invariant.1 in
     let other : holder_of gate ≢ 0 = search rules in
     let low : d.number < f.callers = search rules in
     let name : caller_of v.who.role ≡ d.number = ap caller_of c.desc.invariant.0.named in
@@ -41,7 +43,7 @@ returns-in-Ok-clause-begins g c =
     let gate = c.load_gate-gate.result in
     let t = c.load_gate-gate.new.seat.me.0 in
     let w = c.begin-begun.new.seat.me.0 in
-    let out = outside-of (good_by g.K.MemRule.good v.who.rule) v.who.config d.algorithm d.start d.wrote d.running v.view (subst (λ (h : Handle g.row.K.Denot). IsIdle (known_of h.view)) (sym c.desc.view_is) c.requires.idle) c.desc.invariant.1 in
+    let out = outside-of (good_by g.K.MemRule.good v.who.rule) v.who.config d.algorithm d.start d.wrote d.number d.next d.running d.holds v.view (subst (λ (h : Handle g.row.K.Denot). h.view.gate.phase ≡ Idle) (sym c.desc.view_is) c.requires.idle.0) c.desc.invariant.1 in
     let zero : holder_of gate ≡ 0 = search rules in
     let algorithm = c.alg_of-algorithm.result in
     let cgl : alg_of gate ≡ Cgl = search rules in

@@ -1,0 +1,29 @@
+-- BASE and DONE, and what who installs an algorithm knows, under every algorithm.
+use Rattle.std.specs.Prelude.{ℕ, ◌≡◌, ◌≢◌, ◌<◌, ◌≤◌, true}
+use Rattle.rule_base.specs.declared.views.GateView.{GateView}
+use Rattle.rule_base.specs.declared.views.Phase.TheVariants.{Closing}
+use Rattle.rule_base.specs.declared.views.View.{View}
+use Rattle.rule_base.specs.History.{member}
+use Rattle.rule_base.specs.World.{World, parts}
+
+-- what these clauses see of the world
+pub record InstallScene : Type 0 where
+  pub clock : ℕ
+  pub base : ℕ
+  pub done : ℕ
+  pub views : ℕ → GateView
+
+abbrev pub install_scene : World → InstallScene
+install_scene w = record { clock = w.clock; base = w.base; done = w.done; views = parts (λ (v : View). v.gate) w.views }
+
+pub record InstallRule (callers : ℕ) (s : InstallScene) : Type 0 where
+  -- neither is ahead of the clock: storing the clock there takes nothing back
+  pub base : s.base ≤ s.clock
+  pub done : s.done ≤ s.clock
+  -- who loaded the clock to install has closed the gate and seen all others idle, so the clock stands until it reopens
+  pub closing : (n : ℕ) → (s.views n).calm ≡ true → (s.views n).phase ≡ Closing
+  pub alone : (n k : ℕ) → (s.views n).calm ≡ true → k < callers → k ≢ n → member (s.views n).checked k ≡ true
+  pub time : (n : ℕ) → (s.views n).calm ≡ true → s.clock ≡ (s.views n).time
+  -- what it stored in BASE and in DONE is that clock: the next algorithm starts from both
+  pub rebased : (n : ℕ) → (s.views n).rebased ≡ true → ((s.views n).calm ≡ true) × (s.base ≡ (s.views n).time)
+  pub completed : (n : ℕ) → (s.views n).completed ≡ true → ((s.views n).calm ≡ true) × (s.done ≡ (s.views n).time)

@@ -1,0 +1,36 @@
+-- What stands while a caller holds the quiet gate, as statements.
+use Rattle.std.specs.Prelude.{ℕ, ◌≡◌, ◌≢◌, List, [], ◌∷◌}
+use Rattle.rule_base.specs.declared.layout.Config.{Config}
+use Rattle.rule_base.specs.Encodings.{alg_of}
+use Rattle.rule_base.specs.Rest.{AtRest, IsQuiet, HasInstalled}
+use Rattle.rule_base.specs.Runs.{run, Allowed}
+use Rattle.rule_base.specs.World.{World}
+use Rattle.stm_rule.specs.CoreRuns.{CoreStep, core_kind, CoreMay}
+use Rattle.stm_rule.specs.Product.{Whole}
+
+-- none of the steps is caller n's
+abbrev pub OfOthers : ℕ → List (ℕ × CoreStep) → Type 0
+OfOthers n [] = Unit {0}
+OfOthers n (s ∷ ss) = (s.0 ≢ n) × OfOthers n ss
+
+-- BASE and DONE are the clock, and the gate names the algorithm that caller n installed
+pub record IsInstalled (n : ℕ) (w : World) : Type 0 where
+  pub base : w.base ≡ w.clock
+  pub done : w.done ≡ w.clock
+  pub named : alg_of w.gate ≡ (w.views n).gate.algorithm
+
+module _ (good : (ℕ → ℕ) → Type 0) (c : Config) where
+  -- who has closed the gate and seen all others idle is alone with the memory
+  abbrev pub QuietRests : Type 0
+  QuietRests = (n : ℕ) (w : World) → Whole good c w → IsQuiet c n w → AtRest n w
+
+  -- and so it stays, whatever steps the others take, until it takes one itself: the history and the clock stand still
+  abbrev pub RestLasts : Type 0
+  RestLasts = (n : ℕ) (w : World) (steps : List (ℕ × CoreStep)) → Whole good c w → IsQuiet c n w → OfOthers n steps → Allowed core_kind (CoreMay good c) steps w
+      → AtRest n (run core_kind (CoreMay good c) steps w)
+      × ((run core_kind (CoreMay good c) steps w).history ≡ w.history)
+      × ((run core_kind (CoreMay good c) steps w).clock ≡ w.clock)
+
+  -- who has installed an algorithm since is at rest under it
+  abbrev pub InstalledRests : Type 0
+  InstalledRests = (n : ℕ) (w : World) → Whole good c w → IsQuiet c n w → HasInstalled n w → AtRest n w × IsInstalled n w
