@@ -30,7 +30,7 @@ pub stays : (v w : Known) → answers.Stays v w → Rests v w × IsIdle w
 stays v w h = (record { made = h.made; grows = grew v w h.grows; rises = h.rises; installs = h.installs }, h.idle)
 
 pub closes : (good : List ℕ → Type 0) (c : Config) (n : ℕ) (v w : Known) → answers.ClosesGate good c n v w → Rests v w × answers.HoldsClosed w
-closes good c n v w h = (record { made = h.closed.made; grows = grew v w h.closed.grows; rises = h.rises; installs = h.installs }, h.closed.holds)
+closes good c n v w h = (record { made = h.made; grows = grew v w h.grows; rises = h.rises; installs = h.installs }, h.holds)
 
 pub looks : (good : List ℕ → Type 0) (c : Config) (n : ℕ) (v w : Known) → answers.Looked good c n v w → Rests v w × answers.HoldsClosed w
 looks good c n v w h = (record { made = h.closed.made; grows = grew v w h.closed.grows; rises = h.rises; installs = h.installs }, h.closed.holds)
@@ -46,8 +46,8 @@ pub record SwitchesAt (alg : Alg) (v w : Known) : Type 0 where
   pub rises : w.rises ≤ v.rises + 1
   pub installs : w.installs ≡ v.installs ++ alg ∷ []
 
-pub switches : (good : List ℕ → Type 0) (c : Config) (n : ℕ) (alg : Alg) (v x w : Known) → answers.Installs good c n alg v x → answers.Reopens good c n x w → SwitchesAt alg v w
-switches good c n alg v x w h r = record {
+pub switches : (good : List ℕ → Type 0) (c : Config) (n m : ℕ) (alg : Alg) (v x w : Known) → answers.Installs good c n alg v x → answers.Reopens good c m x w → SwitchesAt alg v w
+switches good c n m alg v x w h r = record {
   idle = r.stays.idle;
   made = r.stays.made ∙ h.closed.made;
   grows = grew-trans v.seen v.front x.seen x.front w.seen w.front (grew v x h.closed.grows) (grew x w r.stays.grows);

@@ -32,18 +32,28 @@ spare-next left spare out b h = last-same spare (spares (rest_of left)) (cleared
 pub room-of : (left : List Item) (spare : List Output) (out : Output) → BeforeTx left → spare ++ cleared out ∷ [] ≡ spares left → out.room ≡ length (script_at left)
 room-of left spare out b h = ap (λ (o : Output). o.room) (spare-next left spare out b h).1
 
-some-last : {A : Type 0} (xs : List A) (x : A) → [] ≡ xs ++ x ∷ [] → ⊥
-some-last [] x e = absurd cc
-some-last (y ∷ xs) x e = absurd cc
-
 -- there always is one
-pub some-spare : (left : List Item) → [] ≡ spares left → ⊥
-some-spare [] e = absurd cc
-some-spare (Tx caller script ∷ items) e = some-last (spares items) (blank (length script)) e
-some-spare (Switch caller alg ∷ items) e = some-spare items e
+pub some-spare : (left : List Item) → 0 < length (spares left)
+some-spare [] = omega arith
+some-spare (Tx caller script ∷ items) = let l = length-append (spares items) (blank (length script) ∷ []) in omega arith
+some-spare (Switch caller alg ∷ items) = some-spare items
+
+-- so there is room behind an open transaction
+pub room-left : (left : List Item) (spare : List Output) (out : Output) → BeforeTx left → spare ++ cleared out ∷ [] ≡ spares left → 0 < length spare
+room-left left spare out b h = subst (λ l. 0 < length l) (sym (spare-next left spare out b h).0) (some-spare (rest_of left))
 
 -- each is empty
 pub spare-empty : (left : List Item) (spare : List Output) (out : Output) → spare ++ out ∷ [] ≡ spares left → out ≡ cleared out
 spare-empty [] spare out e = let is = (last-same spare [] out (blank 0) e).1 in is ∙ ap cleared (sym is)
 spare-empty (Tx caller script ∷ items) spare out e = let is = (last-same spare (spares items) out (blank (length script)) e).1 in is ∙ ap cleared (sym is)
 spare-empty (Switch caller alg ∷ items) spare out e = spare-empty items spare out e
+
+-- what was the last spare is now in use
+pub room-ended : (left : List Item) (spare less : List Output) (out fresh : Output) → BeforeTx left → spare ++ cleared out ∷ [] ≡ spares left → spare ≡ less ++ fresh ∷ [] → (fresh ≡ cleared fresh) × (less ++ cleared fresh ∷ [] ≡ spares (rest_of left))
+room-ended left spare less out fresh b h was =
+    let next = sym was ∙ (spare-next left spare out b h).0 in
+    let empty = spare-empty (rest_of left) less fresh next in
+    (empty, ap (λ o. less ++ o ∷ []) (sym empty) ∙ next)
+
+pub one-less : {A : Type 0} (xs ys : List A) (x : A) → xs ≡ ys ++ x ∷ [] → length xs ≡ length ys + 1
+one-less xs ys x e = ap length e ∙ length-append ys (x ∷ [])

@@ -1,6 +1,6 @@
 use Rattle.std.proofs.Common.{ap, sym, ◌≡◌, ◌∙◌, true, false}
 use Rattle.std.specs.Prelude.{◌||◌}
-use Rattle.bench_core.proofs.TurnLaws.{operated, sure-now}
+use Rattle.bench_core.proofs.TurnLaws.{operated, runs-now, sure-now}
 use Rattle.bench_core.proofs.worker.Worker.operation.Goals as goal
 
 pub returns-in-Ok : goal.returns-in-Ok
@@ -13,5 +13,5 @@ returns-in-Ok g c = record {
 -- an attempt of CGL goes on
 pub returns-in-Err : goal.returns-in-Err
 returns-in-Err g c =
-    let runs = c.operate.ensures.frames.1.sure in
-    absurd (let t : true ≡ false = cc in cc)
+    let on = (c.operate.ensures.frames.1.sure (runs-now (g.K.MemRule.good c.args.stm.now.rule) c.args.stm.now.table.shared.table_id c.args.stm.now.config c.args.stm.now.rule c.args.self.now c.requires.sound c.requires.inside).0 (sure-now (g.K.MemRule.good c.args.stm.now.rule) c.args.stm.now.table.shared.table_id c.args.stm.now.config c.args.stm.now.rule c.args.self.now c.requires.sound c.requires.inside)).0 in
+    absurd (let t : true ≡ false = sym on ∙ c.in-Err.ensures.runs in cc)
