@@ -1,7 +1,7 @@
 -- From the clauses of a call to what its turn did.
-use Rattle.std.proofs.Common.{ℕ, zero, suc, ◌≡◌, ◌≤◌, ◌+◌, ◌*◌, ◌^◌, Bool, true, false, List, [], ◌∷◌, ◌++◌, length, get_or, drop, refl, sym, ap, ◌∙◌, arith, subst, length-append, append_assoc}
+use Rattle.std.proofs.Common.{ℕ, zero, suc, ◌≡◌, ◌≤◌, ◌+◌, ◌*◌, ◌^◌, Bool, true, false, List, [], ◌∷◌, ◌++◌, length, get_or, drop, refl, sym, ap, ◌∙◌, arith, subst, length-append, append_assoc, inl, inr}
 use Rattle.std.proofs.lemmas.List.{append-nil}
-use Rattle.std.specs.Prelude.{◌==◌, ◌||◌, not, None, MatchOption, slice_index_or, if◌then◌else◌}
+use Rattle.std.specs.Prelude.{◌⊎◌, ◌==◌, ◌||◌, not, None, MatchOption, slice_index_or, if◌then◌else◌}
 use Rattle.std.proofs.lemmas.Bool.Decides.{nat_tests}
 use Rattle.std.specs.Borrow.{Bor}
 use Rattle.atomic_table.specs.Seated.{TableId}
@@ -187,6 +187,14 @@ rest-closing p e = subst Rest (sym e) tt
 pub rest-quiet : (p : Phase) → p ≡ Quiet → Rest p
 rest-quiet p e = subst Rest (sym e) tt
 
+pub rest-closed : (p : Phase) → (p ≡ Closing) ⊎ (p ≡ Quiet) → Rest p
+rest-closed p (inl e) = rest-closing p e
+rest-closed p (inr e) = rest-quiet p e
+
+at-closed : (good : List ℕ → Type 0) (c : Config) (n : ℕ) (p : Phase) (v : Known) → (p ≡ Closing) ⊎ (p ≡ Quiet) → IsAt good c n p v → HoldsClosed v
+at-closed good c n p v (inl e) h = subst (λ q. IsAt good c n q v) e h
+at-closed good c n p v (inr e) h = (subst (λ q. IsAt good c n q v) e h).0
+
 when-rest : (p : Phase) → Rest p → (P : Type 0) → WhenInside p P
 when-rest Between r P = tt
 when-rest Inside r P = absurd r
@@ -252,6 +260,9 @@ module _ {K : Type 0} (good : List ℕ → Type 0) (table : TableId) (config : C
 
   pub at-now : (p : Phase) → u.phase ≡ p → IsAt good config (caller_of u.desc.who.role) p (known u.desc)
   at-now p e = subst (λ q. IsAt good config (caller_of u.desc.who.role) q (known u.desc)) e s.at
+
+  pub closed-now : (u.phase ≡ Closing) ⊎ (u.phase ≡ Quiet) → HoldsClosed (known u.desc)
+  closed-now e = at-closed good config (caller_of u.desc.who.role) u.phase (known u.desc) e s.at
 
   -- an attempt of CGL can only be committed
   pub sure-now : u.phase ≡ Inside → is_irrevocable (known u.desc) ≡ true
