@@ -1,5 +1,5 @@
 -- What a worker takes from the answers of the calls.
-use Rattle.std.proofs.Common.{ℕ, ◌≡◌, ◌<◌, ◌≤◌, ◌+◌, ◌^◌, true, false, List, [], ◌∷◌, ◌++◌, refl, sym, ap, ◌∙◌, arith, subst}
+use Rattle.std.proofs.Common.{ℕ, ◌≡◌, ◌<◌, ◌≤◌, ◌+◌, ◌^◌, true, false, List, [], ◌∷◌, ◌++◌, refl, sym, ◌∙◌, arith, subst}
 use Rattle.std.specs.Prelude.{Some, Contains, not}
 use Rattle.std.proofs.lemmas.List.Elements.{Contains-append_left}
 use Rattle.rule_base.specs.declared.layout.Config.{Config}

@@ -1,5 +1,5 @@
 -- The numbers of an answer are such as its cause allows.
-use Rattle.std.proofs.Common.{ℕ, ◌≡◌, ◌≢◌, ◌<◌, ◌+◌, List, arith}
+use Rattle.std.proofs.Common.{ℕ, ◌≢◌, ◌<◌, List, arith}
 use Rattle.rule_base.specs.declared.layout.Config.{Config}
 use Rattle.stm_script.specs.declared.workload.Header.{Header}
 use Rattle.tx_answers.specs.Answers as answers

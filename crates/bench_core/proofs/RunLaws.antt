@@ -1,6 +1,6 @@
 -- From the start of a run to its end.
-use Rattle.std.proofs.Common.{ℕ, zero, suc, ◌≡◌, ◌<◌, ◌≤◌, ◌+◌, ◌*◌, ◌^◌, Bool, true, false, List, [], ◌∷◌, ◌++◌, length, get_or, drop, refl, sym, ap, ◌∙◌, arith, subst, length-append}
-use Rattle.std.specs.Prelude.{Some, ◌==◌, if◌then◌else◌, max, All, Contains, sum_by, IsPermutation}
+use Rattle.std.proofs.Common.{ℕ, zero, suc, ◌≡◌, ◌<◌, ◌≤◌, ◌+◌, ◌^◌, Bool, true, false, List, [], ◌∷◌, ◌++◌, length, get_or, drop, refl, sym, ap, ◌∙◌, arith, subst, length-append}
+use Rattle.std.specs.Prelude.{Some, ◌==◌, if◌then◌else◌, All, Contains, sum_by, IsPermutation}
 use Rattle.std.proofs.lemmas.Bool.Decides.{nat_tests}
 use Rattle.std.proofs.lemmas.List.Elements.{All-head, All-tail}
 use Rattle.std.proofs.lemmas.List.Sorted.{IsPermutation-refl}
@@ -18,7 +18,6 @@ use Rattle.stm_script.specs.declared.workload.Item.{Item}
 use Rattle.stm_script.specs.declared.workload.Item.TheVariants.{Tx, Switch}
 use Rattle.stm_script.specs.declared.workload.Workload.{Workload}
 use Rattle.stm_script.specs.Operations.{OpFits, ScriptFits}
-use Rattle.stm_script.specs.Outputs.{Output}
 use Rattle.stm_script.specs.Parts.{Part, PartIn, IsGathered, ReportReplays}
 use Rattle.stm_script.specs.Reports.{scripts_of, nonzero, zeros, counted, Ordered, Shows}
 use Rattle.stm_script.specs.Workloads.{ItemFits}

@@ -1,5 +1,5 @@
 -- From the clauses of a call to what its turn did.
-use Rattle.std.proofs.Common.{ℕ, zero, suc, ◌≡◌, ◌≤◌, ◌+◌, ◌*◌, ◌^◌, Bool, true, false, List, [], ◌∷◌, ◌++◌, length, get_or, drop, refl, sym, ap, ◌∙◌, arith, subst, length-append, append_assoc, inl, inr}
+use Rattle.std.proofs.Common.{ℕ, zero, suc, ◌≡◌, ◌≤◌, ◌+◌, ◌^◌, Bool, true, false, List, [], ◌∷◌, ◌++◌, length, get_or, drop, refl, sym, ap, ◌∙◌, arith, subst, length-append, append_assoc, inl, inr}
 use Rattle.std.proofs.lemmas.List.{append-nil}
 use Rattle.std.specs.Prelude.{◌⊎◌, ◌==◌, ◌||◌, not, None, MatchOption, slice_index_or, if◌then◌else◌}
 use Rattle.std.proofs.lemmas.Bool.Decides.{nat_tests}
@@ -39,10 +39,10 @@ use Rattle.stm_trace.specs.declared.said.Phase.TheVariants.{Between, Inside, Clo
 use Rattle.stm_trace.specs.declared.said.Said.{Said}
 use Rattle.stm_trace.specs.declared.said.Said.TheVariants.{TryBegin, Reply, TryCancel, TryCommit, Installed}
 use Rattle.stm_trace.specs.Places.{Place, script_at, rest_of, ended, after, clock_of, writes}
-use Rattle.stm_trace.specs.Turns.{BeforeTx, BeforeSwitch, SwitchesTo, Next, MaySay, IsFair, sure}
+use Rattle.stm_trace.specs.Turns.{BeforeTx, SwitchesTo, Next, MaySay, IsFair, sure}
 use Rattle.bench_core.specs.declared.worker.Worker.{Worker}
 use Rattle.bench_core.specs.Goings.{Going, no_log, no_replies}
-use Rattle.bench_core.specs.Workers.{place_of, HasSizes, IsAt, Loaded, WhenInside, ToSwitch, ItemsFit, switches_of, DidSwitches, Works, WorksSince, Pays, Stands, cleared, blank, spares, EndsWith, installed, Sound, Turned, Refused}
+use Rattle.bench_core.specs.Workers.{place_of, HasSizes, IsAt, Loaded, WhenInside, ToSwitch, ItemsFit, switches_of, DidSwitches, Works, WorksSince, Pays, Stands, cleared, spares, EndsWith, installed, Sound, Turned, Refused}
 use Rattle.bench_core.proofs.Calls.{grew, Rests, SwitchesAt, BeginsAt, CommitsAt, QuitsAt}
 use Rattle.bench_core.proofs.GoingLaws.{going-begun, going-step, going-refused, gave-all, gave-cut}
 use Rattle.bench_core.proofs.RoomLaws.{room-of}

@@ -1,4 +1,4 @@
-use Rattle.std.proofs.Common.{refl, ◌≡◌, arith}
+use Rattle.std.proofs.Common.{refl}
 use Rattle.rule_base.specs.Encodings.{holder_of}
 use Rattle.stm_trace.specs.declared.said.Phase.TheVariants.{Closing}
 use Rattle.stm_trace.specs.declared.said.Said.TheVariants.{TryClose}

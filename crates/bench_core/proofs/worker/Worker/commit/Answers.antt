@@ -1,7 +1,7 @@
 use Rattle.tx_answers.specs.Known.{known_of, caller_of}
 use Rattle.std.proofs.Common.{true}
 use Rattle.bench_core.proofs.Calls.{commits, quits}
-use Rattle.bench_core.proofs.TurnLaws.{committed, readonly, never}
+use Rattle.bench_core.proofs.TurnLaws.{committed, readonly}
 use Rattle.bench_core.proofs.worker.Worker.commit.Goals as goal
 
 pub returns-in-Committed : goal.returns-in-Committed

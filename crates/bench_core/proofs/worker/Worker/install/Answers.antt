@@ -1,8 +1,6 @@
 use Rattle.tx_answers.specs.Known.{known_of, caller_of}
-use Rattle.std.proofs.Common.{◌∙◌, ap, subst, sym}
-use Rattle.stm_trace.specs.declared.said.Phase.TheVariants.{Quiet}
 use Rattle.bench_core.proofs.Calls.{switches}
-use Rattle.bench_core.proofs.TurnLaws.{switched, switch-offered, at-now, own-same, same-twice}
+use Rattle.bench_core.proofs.TurnLaws.{switched, same-twice}
 use Rattle.bench_core.proofs.worker.Worker.install.Goals as goal
 
 pub returns : goal.returns

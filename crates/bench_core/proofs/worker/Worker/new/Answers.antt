@@ -1,7 +1,6 @@
-use Rattle.std.proofs.Common.{rules, ◌≡◌, ◌++◌, ◌∷◌, [], ◌+◌, ◌<◌, ◌≤◌, length, refl, sym, ap, ◌∙◌, subst, arith}
-use Rattle.std.specs.Prelude.{vec_len, vec_capacity}
+use Rattle.std.proofs.Common.{rules, ◌≡◌, ◌++◌, ◌∷◌, [], ◌<◌, length, refl, sym, ap, ◌∙◌, subst}
 use Rattle.tx_answers.specs.Known.{caller_of}
-use Rattle.bench_core.specs.Workers.{cleared, spares}
+use Rattle.bench_core.specs.Workers.{spares}
 use Rattle.bench_core.proofs.RoomLaws.{some-spare, spare-empty, start-at}
 use Rattle.bench_core.proofs.worker.Worker.new.Goals as goal
 
