@@ -6,3 +6,4 @@ pub mod Played
 pub mod PlayLaws
 pub mod TurnLaws
 pub mod WholeLaws
+pub mod Told
