@@ -8,7 +8,7 @@ ghost use Rattle.std.specs.Prelude.{◌≡◌, ℕ, ◌<◌, true};
 ghost use Rattle.stm_rule.specs.Callers.{IsOf, IsSameCaller};
 ghost use Rattle.tx_answers.specs.Answers.{Closes, Looks, Looked, Installs, Reopens, HoldsClosed, SeesQuiet};
 ghost use Rattle.tx_answers.specs.Known.{IsIdle, caller_of, is_offered, known_of};
-ghost use Rattle.stm_gate.specs.Looking.{SeesBelow, Follows, Finds};
+ghost use Rattle.stm_gate.specs.Looking.{SeesBelow, Finds};
 
 use rule_base::words::{alg_of, holder_of};
 use stm_model::alg::Alg;
@@ -84,7 +84,6 @@ fn look_at<K: MemRule>(desc: &mut Desc<K>, stm: &Stm<K>, other: usize) -> u64
     ensures same { IsSameCaller desc.old desc.new }
     ensures looked { Looked (K.good stm.now.rule) stm.now.config (caller_of desc.old.who.role) (known_of desc.old.view) (known_of desc.new.view) }
     ensures own { caller_of desc.old.who.role < stm.now.config.callers }
-    ensures trail { Follows (known_of desc.old.view) (known_of desc.new.view) }
     ensures found { Finds (caller_of desc.old.who.role) other result (known_of desc.old.view) (known_of desc.new.view) }
 {
     let caller = desc.number;

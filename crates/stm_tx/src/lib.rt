@@ -3,6 +3,8 @@
 #![tactic(auto)]
 
 pub mod calls;
+#[cfg(test)]
+mod gate_tests;
 pub mod live;
 #[cfg(test)]
 mod tests;

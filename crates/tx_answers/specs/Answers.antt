@@ -13,6 +13,7 @@ use Rattle.rule_base.specs.declared.layout.At.TheVariants.{Clock, Lock, Gate, St
 use Rattle.rule_base.specs.declared.layout.Config.{Config}
 use Rattle.rule_base.specs.declared.layout.TheConstants.{CLOCK_LIMIT}
 use Rattle.rule_base.specs.declared.views.Phase.TheVariants.{Closing}
+use Rattle.rule_base.specs.declared.views.TrailItem.{TrailItem}
 use Rattle.rule_base.specs.Encodings.{holder_of, alg_of, has_records}
 use Rattle.rule_base.specs.History.{member}
 use Rattle.tx_answers.specs.declared.answers.Begin.{Begin}
@@ -86,6 +87,11 @@ pub record KeepsClosed (v w : Known) : Type 0 where
   pub made : w.made ≡ v.made
   pub grows : Grows v w
   pub checked : (k : ℕ) → member v.checked k ≡ true → member w.checked k ≡ true
+
+-- each of these steps loaded the status of a caller that was not yet seen idle
+abbrev pub OfUnseen : List ℕ → List TrailItem → Type 0
+OfUnseen checked [] = Unit {0}
+OfUnseen checked (i ∷ is) = ((k : ℕ) × (i.place ≡ Status k) × (member checked k ≡ false)) × OfUnseen checked is
 
 -- the attempt ended
 pub record Ends (v w : Known) : Type 0 where
@@ -252,9 +258,10 @@ module _ (good : List ℕ → Type 0) (c : Config) (n : ℕ) where
   Closes gates.Closed v w = ClosesGate v w
   Closes (gates.Taken gate) v w = Stays v w × Found Gate gate v w × NamesOther (holder_of gate) × (1 < c.callers)
 
-  -- what a look leaves alone
+  -- what a look leaves alone: it goes on where the last one stopped
   pub record Looked (v w : Known) : Type 0 where
     pub closed : KeepsClosed v w
+    pub steps : (more : List TrailItem) × (w.trail ≡ more ++ v.trail) × OfUnseen v.checked more
     pub settled : w.settled ≡ v.settled
     pub alg : w.alg ≡ v.alg
     pub rises : w.rises ≡ v.rises

@@ -2,7 +2,7 @@ use Rattle.std.proofs.Common.{◌≡◌, ◌≤◌}
 use Rattle.stm_rule.specs.Callers.{IsOf, IsSameCaller}
 use Rattle.tx_answers.specs.Answers.{HoldsClosed, Looked}
 use Rattle.tx_answers.specs.Known.{caller_of, known_of}
-use Rattle.stm_gate.specs.Looking.{SeesBelow, Follows}
+use Rattle.stm_gate.specs.Looking.{SeesBelow}
 use Rattle.stm_gate.proofs.gate.look.Given as goal
 
 abbrev pub invariant-loop-other : goal.invariant-loop-other
@@ -12,4 +12,3 @@ invariant-loop-other g l =
     × IsSameCaller l.fn.desc l.desc
     × SeesBelow n l.other (known_of l.desc.view)
     × Looked (g.K.MemRule.good l.stm.rule) l.stm.config n (known_of l.fn.desc.view) (known_of l.desc.view)
-    × Follows (known_of l.fn.desc.view) (known_of l.desc.view)

@@ -2,25 +2,36 @@ use Rattle.std.proofs.Common.{subst, sym, ap, ◌∙◌, ◌≡◌, ◌≢◌, r
 use Rattle.rule_base.specs.GateSteps.{check}
 use Rattle.rule_base.specs.StepKinds.{Nothing}
 use Rattle.stm_rule.specs.Callers.{Handle}
-use Rattle.tx_answers.specs.Known.{known_of, caller_of}
-use Rattle.stm_gate.specs.Looking.{Follows, Finds, SeesBelow}
 use Rattle.stm_rule.specs.StandLemmas.{tells-of}
-use Rattle.stm_gate.proofs.Seeing.{tells-follows, tells-busy}
+use Rattle.tx_answers.specs.Answers.{HoldsClosed, Looked}
+use Rattle.tx_answers.specs.Known.{known_of, caller_of}
+use Rattle.stm_gate.specs.Looking.{Finds, SeesBelow}
+use Rattle.stm_gate.proofs.Seeing.{tells-busy, tells-looked}
 use Rattle.stm_gate.proofs.gate.look_at.Goals as goal
 
-pub returns-then-status-eq0-clause-trail : goal.returns-then-status-eq0-clause-trail
-returns-then-status-eq0-clause-trail g c =
+pub returns-then-status-eq0-clause-looked : goal.returns-then-status-eq0-clause-looked
+returns-then-status-eq0-clause-looked g c =
+    let f = c.args.stm.now.config in
+    let good = g.K.MemRule.good c.args.stm.now.rule in
     let v = c.desc.inside.seat.me.0 in
+    let x = c.check-status.result in
     let w = c.check-status.new.seat.me.0 in
-    subst (λ (h : Handle g.row.K.Denot). Follows (known_of h.view) (known_of w.view)) c.desc.view_is
-    (tells-follows c.args.other c.check-status.result v.view w.view (tells-of (check c.args.other) Nothing v c.check-status.result w c.check-status.ensures.step))
+    let holds = subst (λ (h : Handle g.row.K.Denot). HoldsClosed (known_of h.view)) (sym c.desc.view_is) c.requires.closing in
+    let seen = subst (λ (h : Handle g.row.K.Denot). SeesBelow (caller_of h.who.role) c.args.other (known_of h.view)) (sym c.desc.view_is) c.requires.seen in
+    subst (λ (h : Handle g.row.K.Denot). Looked good f (caller_of h.who.role) (known_of h.view) (known_of w.view)) c.desc.view_is
+    (tells-looked good f (caller_of v.who.role) c.args.other x v.view w.view holds seen (tells-of (check c.args.other) Nothing v x w c.check-status.ensures.step))
 
-pub returns-else-status-eq0-clause-trail : goal.returns-else-status-eq0-clause-trail
-returns-else-status-eq0-clause-trail g c =
+pub returns-else-status-eq0-clause-looked : goal.returns-else-status-eq0-clause-looked
+returns-else-status-eq0-clause-looked g c =
+    let f = c.args.stm.now.config in
+    let good = g.K.MemRule.good c.args.stm.now.rule in
     let v = c.desc.inside.seat.me.0 in
+    let x = c.check-status.result in
     let w = c.check-status.new.seat.me.0 in
-    subst (λ (h : Handle g.row.K.Denot). Follows (known_of h.view) (known_of w.view)) c.desc.view_is
-    (tells-follows c.args.other c.check-status.result v.view w.view (tells-of (check c.args.other) Nothing v c.check-status.result w c.check-status.ensures.step))
+    let holds = subst (λ (h : Handle g.row.K.Denot). HoldsClosed (known_of h.view)) (sym c.desc.view_is) c.requires.closing in
+    let seen = subst (λ (h : Handle g.row.K.Denot). SeesBelow (caller_of h.who.role) c.args.other (known_of h.view)) (sym c.desc.view_is) c.requires.seen in
+    subst (λ (h : Handle g.row.K.Denot). Looked good f (caller_of h.who.role) (known_of h.view) (known_of w.view)) c.desc.view_is
+    (tells-looked good f (caller_of v.who.role) c.args.other x v.view w.view holds seen (tells-of (check c.args.other) Nothing v x w c.check-status.ensures.step))
 
 pub returns-else-status-eq0-clause-found : goal.returns-else-status-eq0-clause-found
 returns-else-status-eq0-clause-found g c =
