@@ -3,5 +3,6 @@ mod FairLaws
 mod GoingLaws
 mod RoomLaws
 mod RowLaws
+mod StartLaws
 mod TurnLaws
 mod RunLaws

@@ -34,9 +34,9 @@ use Rattle.stm_tx.specs.Descs.{known}
 use Rattle.stm_trace.specs.declared.said.Phase.TheVariants.{Between}
 use Rattle.bench_core.specs.declared.worker.Worker.{Worker}
 use Rattle.bench_core.specs.Runs.{config_of, IsShown, IsFull}
-use Rattle.bench_core.specs.Workers.{IsAt, Loaded, WhenInside, ToSwitch, DidSwitches, Works, Pays, Stands, Starts, Sound}
+use Rattle.bench_core.specs.Workers.{Loaded, Works, Pays, Stands, Starts, Sound}
 use Rattle.bench_core.specs.Workers.{ItemsFit as OwnItems}
-use Rattle.bench_core.specs.Goings.{Going}
+use Rattle.bench_core.proofs.StartLaws.{starts-sound}
 use Rattle.stm_model.specs.declared.alg.Alg.{Alg}
 use Rattle.stm_trace.specs.Places.{Place, script_at}
 use Rattle.stm_trace.specs.Turns.{BeforeTx}
@@ -137,47 +137,11 @@ module _ (good : List ℕ → Type 0) (w : Workload) (config : Config) (built : 
   one-caller : w.header.callers ≡ 1
   one-caller = let h = built.header.callers in omega (arith, h.0, h.1)
 
-  -- a caller that has taken no step has done nothing
-  start-works : (n : ℕ) (all : List Item) → Works good config.words [] all n (known_of (first_view config)) []
-  start-works n all = record {
-    writers = refl;
-    each = λ i d lt. absurd (omega arith);
-    mine = λ i d lt. absurd (omega arith);
-    numbered = refl;
-    ordered = tt;
-    places = λ i d lt. absurd (omega arith);
-  }
-
 module _ {K : Type 0} (good : List ℕ → Type 0) (w : Workload) (table : TableId) (config : Config) (rule : K) (built : IsBuilt Run w) (sized : config ≡ config_of w.header) where
   pub sound-start : ((m : List ℕ) → good m) → (d : Handle K) (alg : Alg) (u : Worker K) → IsOf d table config rule → caller_of d.who.role ≡ 0 → d.view ≡ first_view config → Starts d w.items alg u → Sound good table config rule u
   sound-start every d alg u own caller view s =
-      let who : caller_of u.desc.who.role ≡ 0 = ap (λ (x : Handle K). caller_of x.who.role) s.is_desc ∙ caller in
-      let knows : known u.desc ≡ known_of (first_view config) = ap known s.is_desc ∙ ap known_of view in
-      let phase : u.phase ≡ Between = ap (λ (p : Place). p.phase) s.at in
-      let left : u.left.now ≡ w.items = ap (λ (p : Place). p.left) s.at in
-      let none : u.rows.items ≡ [] = ap (λ (p : Place). p.rows) s.at in
-      let count = ap length none in
-      let whole : u.left.now ≡ u.all.now = left ∙ sym s.all in
-      let items : OwnItems good config.words [] 0 w.items = subst (λ n. OwnItems good n [] 0 w.items) (sym (words-are good w config built sized)) (items-own good every w.header w.items built.items (let h = built.header.callers in h.1)) in
-      let pays : Pays u.all.now u.left.now (known_of (first_view config)).rises = subst (λ l. Pays u.all.now l 0) (sym whole) (omega arith) in
-      let stands : Stands good config.words u.regions u.all.now u.left.now (caller_of u.desc.who.role) (known u.desc) u.rows.items Between =
-      subst (λ rs. Stands good config.words rs u.all.now u.left.now (caller_of u.desc.who.role) (known u.desc) u.rows.items Between) (sym s.regions)
-      (subst (λ v. Stands good config.words [] u.all.now u.left.now (caller_of u.desc.who.role) v u.rows.items Between) (sym knows)
-      (subst (λ rows. Stands good config.words [] u.all.now u.left.now (caller_of u.desc.who.role) (known_of (first_view config)) rows Between) (sym none) (start-works good w config built sized (caller_of u.desc.who.role) u.all.now, pays))) in
-      record {
-        own = subst (λ (x : Handle K). IsOf x table config rule) (sym s.is_desc) own;
-        at = subst (λ p. IsAt good config (caller_of u.desc.who.role) p (known u.desc)) (sym phase) (subst IsIdle (sym knows) (refl, refl, refl));
-        stands = subst (Stands good config.words u.regions u.all.now u.left.now (caller_of u.desc.who.role) (known u.desc) u.rows.items) (sym phase) stands;
-        todo = ap (scripts_of (caller_of u.desc.who.role)) whole ∙ ap (λ (rows : List Row). drop (length rows) (scripts_of (caller_of u.desc.who.role) u.all.now)) (sym none);
-        within = omega arith;
-        switched = subst (λ v. DidSwitches u.all.now u.left.now v) (sym knows) (subst (λ l. DidSwitches u.all.now l (known_of (first_view config))) (sym whole) ([], refl));
-        fits = subst (λ l. OwnItems good config.words u.regions (caller_of u.desc.who.role) l) (sym left)
-            (subst (λ rs. OwnItems good config.words rs (caller_of u.desc.who.role) w.items) (sym s.regions)
-            (subst (λ n. OwnItems good config.words [] n w.items) (sym who) items));
-        roomy = s.roomy;
-        turning = subst (λ p. ToSwitch p u.left.now) (sym phase) tt;
-        going = subst (λ p. WhenInside p (Going good config.words u.regions (script_at u.left.now) u.rest.now (known u.desc) u.alg u.out u.wrote × BeforeTx u.left.now)) (sym phase) tt;
-      }
+      starts-sound good table config rule d w.items alg u own (ap known_of view)
+      (subst (λ n. OwnItems good config.words [] n w.items) (sym caller) (subst (λ n. OwnItems good n [] 0 w.items) (sym (words-are good w config built sized)) (items-own good every w.header w.items built.items (let h = built.header.callers in h.1)))) s
 
   -- what stands when a run has come to its end or to the clock's limit
   pub record Stood (u : Worker K) : Type 0 where
