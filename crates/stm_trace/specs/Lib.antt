@@ -7,3 +7,4 @@ pub mod PlayLaws
 pub mod TurnLaws
 pub mod WholeLaws
 pub mod Told
+pub mod FairLaws
