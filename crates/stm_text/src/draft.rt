@@ -1,6 +1,7 @@
 //! A workload as far as it is read.
 ghost use Rattle.std.specs.Prelude.{◌≡◌, OnOk};
 ghost use Rattle.stm_text.specs.Drafts.{after, opening};
+ghost use Rattle.stm_text.specs.declared.draft.Step.TheVariants.{End};
 ghost use Rattle.stm_text.specs.Grammar.{one_item, begun, changed, added, planned};
 
 use crate::code;
@@ -186,15 +187,7 @@ impl Draft {
                 self.ops.push(op)?;
                 Ok(())
             }
-            Step::End => {
-                let script = Script::new(mem::replace(&mut self.ops, Vec::new(alloc)));
-                self.items.push(Item::Tx {
-                    caller: self.caller,
-                    script,
-                })?;
-                self.place = Place::Items;
-                Ok(())
-            }
+            Step::End => self.close(alloc),
             Step::Schedule => {
                 self.place = Place::Turns;
                 Ok(())
@@ -206,6 +199,19 @@ impl Draft {
             }
             Step::Done => Ok(()),
         }
+    }
+
+    /// The open transaction becomes an item. Memory may be refused.
+    fn close(&mut self, alloc: Global) -> Result<(), AllocError>
+        ensures { OnOk result (self.new ≡ after End self.old) }
+    {
+        let script = Script::new(mem::replace(&mut self.ops, Vec::new(alloc)));
+        self.items.push(Item::Tx {
+            caller: self.caller,
+            script,
+        })?;
+        self.place = Place::Items;
+        Ok(())
     }
 
     /// The workload that is read.
