@@ -182,6 +182,8 @@ fn refuses_schedules(rt: HostRuntime) -> Result<(), Fail> {
         ("schedule\nswitch 0 CGL\n", 12, 4),
         ("schedule \n", 11, 4),
         ("schedule\ngo 0 600000\ngo 0 400001\n", 13, 10),
+        ("schedule\ngo 0 1000000\ngo 0 1\n", 13, 10),
+        ("schedule\ngo 0 1000000\ngo 1 1\n", 13, 6),
         ("schedule\ngo 0 600000\ngo 0 400000\n", 14, 3),
         ("schedule\ndone\n\n", 13, 11),
     ];
