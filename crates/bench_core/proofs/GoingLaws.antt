@@ -1,17 +1,17 @@
 -- An attempt goes on by one operation.
 use Rattle.std.proofs.Common.{ℕ, zero, suc, ◌≡◌, ◌≤◌, Bool, true, false, List, [], ◌∷◌, ◌++◌, length, refl, sym, ap, ◌∙◌, arith, subst, get_or, ◌<◌}
-use Rattle.std.proofs.lemmas.List.{append-nil}
+use Rattle.std.proofs.lemmas.List.{append-nil, append_cancel_left}
 use Rattle.std.proofs.lemmas.List.Elements.{All-head, All-tail}
-use Rattle.std.specs.Prelude.{All, not, ◌||◌, if◌then◌else◌}
+use Rattle.std.specs.Prelude.{All, ◌==◌, ltb, slice_index, not, ◌||◌, if◌then◌else◌}
 use Rattle.stm_model.specs.declared.alg.Alg.{Alg}
 use Rattle.stm_model.specs.Logs.{Log, IsExplained, Keeps}
 use Rattle.stm_model.specs.Memories.{overlay, Explains, is_empty}
 use Rattle.stm_script.specs.declared.op.Op.{Op}
-use Rattle.stm_script.specs.declared.op.Op.TheVariants.{Read, Write, Add, Cancel}
+use Rattle.stm_script.specs.declared.op.Op.TheVariants.{Read, Write, Add, Move, Cancel}
 use Rattle.stm_script.specs.declared.region.Region.{Region}
 use Rattle.stm_script.specs.Keeping.{OpKeeps, ScriptKeeps}
 use Rattle.stm_script.specs.KeepingLaws.{keeps-gave, keeps-run}
-use Rattle.stm_script.specs.Operations.{OpFits, ScriptFits, is_cancel}
+use Rattle.stm_script.specs.Operations.{OpFits, ScriptFits, is_cancel, effect_of, replies, moved}
 use Rattle.stm_script.specs.Outputs.{Output, HasRoom}
 use Rattle.stm_script.specs.Scripts.{run, before_cancel, has_cancel}
 use Rattle.stm_script.specs.ScriptLaws.{Gave, GaveOver, GivesOn, ran_one, gives-step, gives-none}
@@ -55,11 +55,20 @@ one-of {A = A} P x h = λ i d lt. at i d lt
     at zero d lt = h
     at (suc i) d lt = absurd (omega arith)
 
-one-wrote : (regions : List Region) (op : Op) (m : List ℕ) → (ran_one regions op m).wrote ≡ writes op
+one-wrote : (regions : List Region) (op : Op) (m : List ℕ) → (ran_one regions op m).wrote ≡ writes op (effect_of regions op m).reply
 one-wrote regions (Read a) m = refl
 one-wrote regions (Write a v) m = refl
 one-wrote regions (Add a k) m = refl
+one-wrote regions (Move a b k) m = by (ltb (slice_index m a) k)
+  where
+    by : (less : Bool) → (if less then replies 0 m else record { reply = 1; emits = []; memory = moved a b k m; wrote = true }).wrote || false ≡ ((if less then replies 0 m else record { reply = 1; emits = []; memory = moved a b k m; wrote = true }).reply == 1)
+    by true = refl
+    by false = refl
 one-wrote regions Cancel m = refl
+
+-- the reply that was told is that of the operation
+one-reply : (xs : List ℕ) (r s : ℕ) → xs ++ r ∷ [] ≡ xs ++ s ∷ [] → r ≡ s
+one-reply xs r s e = let h = append_cancel_left xs (r ∷ []) (s ∷ []) e in cc
 
 not-sure : (a b : Bool) → (a ≡ true → b ≡ true) → b ≡ false → a ≡ false
 not-sure true b up off = absurd (let e = up refl in cc)
@@ -76,15 +85,17 @@ or-false false = refl
 cut-plain : (op : Op) (rest : List Op) → is_cancel op ≡ false → before_cancel (op ∷ rest) ≡ op ∷ before_cancel rest
 cut-plain op rest h = ap (λ b. if b then [] else op ∷ before_cancel rest) h
 
-pub going-step : (good : List ℕ → Type 0) (words : ℕ) (regions : List Region) (script : List Op) (op : Op) (rest : List Op) (v w : Known) (alg : Alg) (out next : Output) (wrote : Bool)
-    → is_cancel op ≡ false → Going good words regions script (op ∷ rest) v alg out wrote → GaveOver good words (ran_one regions op) v.log out w.log next → IsExplained good words w.log
+pub going-step : (good : List ℕ → Type 0) (words : ℕ) (regions : List Region) (script : List Op) (op : Op) (rest : List Op) (v w : Known) (alg : Alg) (out next : Output) (wrote : Bool) (reply : ℕ)
+    → is_cancel op ≡ false → next ≡ record out { replies = out.replies ++ reply ∷ [] } → Going good words regions script (op ∷ rest) v alg out wrote → GaveOver good words (ran_one regions op) v.log out w.log next → IsExplained good words w.log
     → w.alg ≡ v.alg → w.granted ≡ v.granted → (is_irrevocable v ≡ true → is_irrevocable w ≡ true) → HasRoom next (length rest)
-    → Going good words regions script rest w alg next (wrote || writes op)
-going-step good words regions script op rest v w alg out next wrote plain g gave ex same grant up room =
+    → Going good words regions script rest w alg next (wrote || writes op reply)
+going-step good words regions script op rest v w alg out next wrote reply plain told g gave ex same grant up room =
     let m = ex.0 in
     let here = gave m ex.1 ex.2 ex.3 in
-    let more : not (is_empty w.log.writes) ≡ not (is_empty v.log.writes) || writes op =
-    here.wrote ∙ ap (λ b. not (is_empty v.log.writes) || b) (one-wrote regions op (overlay m v.log.writes)) in
+    let same_reply : (effect_of regions op (overlay m v.log.writes)).reply ≡ reply =
+    one-reply out.replies (effect_of regions op (overlay m v.log.writes)).reply reply (sym here.replied ∙ ap (λ (o : Output). o.replies) told) in
+    let more : not (is_empty w.log.writes) ≡ not (is_empty v.log.writes) || writes op reply =
+    here.wrote ∙ ap (λ b. not (is_empty v.log.writes) || b) (one-wrote regions op (overlay m v.log.writes) ∙ ap (writes op) same_reply) in
     record {
       fits = All-tail (OpFits regions words) op rest g.fits;
       rule = All-tail (OpKeeps good words regions) op rest g.rule;
@@ -93,7 +104,7 @@ going-step good words regions script op rest v w alg out next wrote plain g gave
       keeps = keeps-gave good words (ran_one regions op) v.log out w.log next gave (keeps-run good words regions (op ∷ []) (one-of (OpKeeps good words regions) op (All-head (OpKeeps good words regions) op rest g.rule))) g.keeps;
       named = same ∙ g.named;
       ungranted = grant ∙ g.ungranted;
-      writer = ap (λ b. b || writes op) g.writer ∙ sym more;
+      writer = ap (λ b. b || writes op reply) g.writer ∙ sym more;
       on = λ x fine len e. gives-step regions script op rest x no_log no_replies v.log out w.log next (g.on x fine len (gave x fine len e).explained) (gave x fine len e);
       ends = λ h. g.ends (or-right (is_cancel op) (has_cancel rest) h);
       cut = λ off x fine len e.

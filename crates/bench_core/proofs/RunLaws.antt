@@ -10,7 +10,7 @@ use Rattle.rule_base.specs.declared.layout.Config.{Config}
 use Rattle.rule_base.specs.Opening.{first_view}
 use Rattle.stm_model.specs.Histories.{Entry, made_by, memory_at, IsLegal}
 use Rattle.stm_script.specs.declared.op.Op.{Op}
-use Rattle.stm_script.specs.declared.op.Op.TheVariants.{Read, Write, Add, Cancel}
+use Rattle.stm_script.specs.declared.op.Op.TheVariants.{Read, Write, Add, Move, Cancel}
 use Rattle.stm_script.specs.declared.report.Report.{Report}
 use Rattle.stm_script.specs.declared.report.Row.{Row}
 use Rattle.stm_script.specs.declared.workload.Header.{Header}
@@ -29,7 +29,7 @@ use Rattle.rule_base.specs.declared.layout.At.TheVariants.{Clock}
 use Rattle.rule_base.specs.declared.views.TrailItem.{TrailItem}
 use Rattle.rule_base.specs.StepsRule.{ClocksWithin}
 use Rattle.stm_rule.specs.Callers.{Handle, IsOf, IsSameCaller, AllOpened}
-use Rattle.tx_answers.specs.Known.{IsIdle, known_of, caller_of}
+use Rattle.tx_answers.specs.Known.{is_offered, known_of, caller_of}
 use Rattle.stm_tx.specs.Descs.{known}
 use Rattle.stm_trace.specs.declared.said.Phase.TheVariants.{Between}
 use Rattle.bench_core.specs.declared.worker.Worker.{Worker}
@@ -46,14 +46,15 @@ op-fits : (words : ℕ) (op : Op) → BuiltOp words op → OpFits [] words op
 op-fits words (Read a) h = (h, λ i d lt. absurd (omega arith))
 op-fits words (Write a v) h = (h.0, λ i d lt. absurd (omega arith))
 op-fits words (Add a k) h = (h.0, λ i d lt. absurd (omega arith))
-op-fits words Cancel h = absurd h
+op-fits words (Move a b k) h = (h.0, (λ i d lt. absurd (omega arith)), h.1, λ i d lt. absurd (omega arith))
+op-fits words Cancel h = tt
 
 script-fits : (words : ℕ) (script : List Op) → BuiltScript words script → ScriptFits [] words script
 script-fits words script h = λ i d lt. op-fits words (get_or script i d) (h.each i d lt)
 
 item-fits : (h : Header) (item : Item) → BuiltItem h item → ItemFits [] h item
 item-fits h (Tx caller script) b = (b.0, script-fits h.words script b.1)
-item-fits h (Switch caller alg) b = absurd b
+item-fits h (Switch caller alg) b = b.0
 
 -- the items of a workload are those of its one caller
 pub items-own : (good : List ℕ → Type 0) → ((m : List ℕ) → good m) → (h : Header) (items : List Item) → All (BuiltItem h) items → h.callers ≤ 1 → OwnItems good h.words [] 0 items
@@ -62,7 +63,10 @@ items-own good every h (Tx caller script ∷ items) b one =
     let head = All-head (BuiltItem h) (Tx caller script) items b in
     let below = head.0 in
     (omega arith, script-fits h.words script head.1, λ i d lt. λ m fine len. every _, items-own good every h items (All-tail (BuiltItem h) (Tx caller script) items b) one)
-items-own good every h (Switch caller alg ∷ items) b one = absurd (All-head (BuiltItem h) (Switch caller alg) items b)
+items-own good every h (Switch caller alg ∷ items) b one =
+    let head = All-head (BuiltItem h) (Switch caller alg) items b in
+    let below = head.0 in
+    (omega arith, ap is_offered head.1, items-own good every h items (All-tail (BuiltItem h) (Switch caller alg) items b) one)
 
 -- of one descriptor that was popped none are left
 pub opened-one : {K : Type 0} (table : TableId) (c : Config) (rule : K) (all rest : List (Handle K)) (d : Handle K) → all ≡ rest ++ d ∷ [] → length all ≡ 1 → AllOpened table c rule 0 all → (rest ≡ []) × IsOf d table c rule × (caller_of d.who.role ≡ 0) × (d.view ≡ first_view c)

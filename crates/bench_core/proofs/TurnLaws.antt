@@ -149,7 +149,7 @@ began-at : (at : Place) (n : ℕ) (ops : List Op) (o : Output) (alg : Alg) → n
     → record at { caller = n; phase = Inside; alg = alg; rest = ops; replies = o.replies; emits = o.emits; wrote = false } ≡ after at (TryBegin (Begun alg))
 began-at at n ops o alg c r a b = cc
 
-operated-at : (at : Place) (n : ℕ) (ops : List Op) (o : Output) (wrote : Bool) (op : Op) (reply : ℕ) → n ≡ at.caller → ops ≡ rest_of at.rest → wrote ≡ at.wrote || writes op → o.replies ≡ at.replies ++ reply ∷ [] → o.emits ≡ at.emits
+operated-at : (at : Place) (n : ℕ) (ops : List Op) (o : Output) (wrote : Bool) (op : Op) (reply : ℕ) → n ≡ at.caller → ops ≡ rest_of at.rest → wrote ≡ at.wrote || writes op reply → o.replies ≡ at.replies ++ reply ∷ [] → o.emits ≡ at.emits
     → record at { caller = n; rest = ops; replies = o.replies; emits = o.emits; wrote = wrote } ≡ after at (Reply op reply)
 operated-at at n ops o wrote op reply c r w a b = cc
 
@@ -370,7 +370,7 @@ module _ {K : Type 0} (good : List ℕ → Type 0) (table : TableId) (config : C
           regions = refl;
         }
 
-    pub operated : (op : Op) (reply : ℕ) (r : Bor (List Op)) (o : Output) (wrote : Bool) → u.phase ≡ Inside → Next op u.rest.now → is_cancel op ≡ false → r.now ≡ rest_of u.rest.now → wrote ≡ u.wrote || writes op
+    pub operated : (op : Op) (reply : ℕ) (r : Bor (List Op)) (o : Output) (wrote : Bool) → u.phase ≡ Inside → Next op u.rest.now → is_cancel op ≡ false → r.now ≡ rest_of u.rest.now → wrote ≡ u.wrote || writes op reply
         → Frames u.desc d → (known d).running ≡ true
         → GaveOver good config.words (ran_one u.regions op) (known u.desc).log u.out (known d).log o
         → (IsExplained good config.words (known u.desc).log → IsExplained good config.words (known d).log) → o ≡ record u.out { replies = u.out.replies ++ reply ∷ [] }
@@ -380,7 +380,7 @@ module _ {K : Type 0} (good : List ℕ → Type 0) (table : TableId) (config : C
         let at = attempt-now inside in
         let ops = next-is op u.rest.now next in
         let g = subst (λ x. Going good config.words u.regions (script_at u.left.now) x (known u.desc) u.alg u.out u.wrote) ops at.0 in
-        let step = going-step good config.words u.regions (script_at u.left.now) op (rest_of u.rest.now) (known u.desc) (known d) u.alg u.out o u.wrote plain g gave (more g.explained)
+        let step = going-step good config.words u.regions (script_at u.left.now) op (rest_of u.rest.now) (known u.desc) (known d) u.alg u.out o u.wrote reply plain told g gave (more g.explained)
             frames.1.alg frames.1.granted (λ i. (frames.1.sure (runs-now inside).0 i).1) (room-next u.out o reply (length (rest_of u.rest.now)) told g.room) in
         let going = subst (λ x. Going good config.words u.regions (script_at u.left.now) x (known d) u.alg o wrote) (sym is)
             (subst (λ b. Going good config.words u.regions (script_at u.left.now) (rest_of u.rest.now) (known d) u.alg o b) (sym was) step) in

@@ -85,11 +85,13 @@ fn target(left: &[Item]) -> Alg
     }
 }
 
-fn writes(op: Op) -> bool
-    ensures { result ≡ writes op }
+/// Whether an operation that replied this wrote.
+fn writes(op: Op, reply: u64) -> bool
+    ensures { result ≡ writes op reply }
 {
     match op {
         Op::Write(_, _) | Op::Add(_, _) => true,
+        Op::Move(_, _, _) => reply == 1,
         Op::Read(_) | Op::Cancel => false,
     }
 }
@@ -248,7 +250,7 @@ impl<'a, K: MemRule> Worker<'a, K> {
         match operate(stm, &mut self.desc, &self.regions, op, &mut self.out) {
             Ok(reply) => {
                 self.rest = tail(self.rest);
-                self.wrote = self.wrote | writes(op);
+                self.wrote = self.wrote | writes(op, reply);
                 Said::Reply(op, reply)
             }
             Err(stop) => {

@@ -4,7 +4,7 @@ use Rattle.stm_model.specs.declared.alg.Alg.{Alg}
 use Rattle.stm_model.specs.declared.stop.Stop.{Stop}
 use Rattle.stm_model.specs.declared.stop.Stop.TheVariants.{Conflict, Full, ClockFull}
 use Rattle.stm_script.specs.declared.op.Op.{Op}
-use Rattle.stm_script.specs.declared.op.Op.TheVariants.{Read, Write, Add, Cancel}
+use Rattle.stm_script.specs.declared.op.Op.TheVariants.{Read, Write, Add, Move, Cancel}
 use Rattle.stm_script.specs.declared.report.Kind.{Kind}
 use Rattle.stm_script.specs.declared.report.Kind.TheVariants.{W, R, C}
 use Rattle.stm_script.specs.declared.report.Row.{Row}
@@ -42,11 +42,20 @@ abbrev pub rest_of : {A : Type 0} → List A → List A
 rest_of [] = []
 rest_of (x ∷ xs) = xs
 
-abbrev pub writes : Op → Bool
-writes (Read a) = false
-writes (Write a v) = true
-writes (Add a k) = true
-writes Cancel = false
+-- an operation that replied this wrote
+abbrev pub writes : Op → ℕ → Bool
+writes (Read a) reply = false
+writes (Write a v) reply = true
+writes (Add a k) reply = true
+writes (Move a b k) reply = reply == 1
+writes Cancel reply = false
+
+abbrev pub may_write : Op → Bool
+may_write (Read a) = false
+may_write (Write a v) = true
+may_write (Add a k) = true
+may_write (Move a b k) = true
+may_write Cancel = false
 
 -- a new attempt: nothing of an earlier one stays
 abbrev pub begun : Alg → Place → Place
@@ -54,7 +63,7 @@ begun alg at = record at { phase = Inside; alg = alg; rest = script_at at.left; 
 
 -- the next operation is done
 abbrev pub replied : Op → ℕ → Place → Place
-replied op reply at = record at { rest = rest_of at.rest; replies = at.replies ++ reply ∷ []; wrote = at.wrote || writes op }
+replied op reply at = record at { rest = rest_of at.rest; replies = at.replies ++ reply ∷ []; wrote = at.wrote || writes op reply }
 
 -- the attempt is over, and its script still to do
 abbrev pub given_up : Place → Place

@@ -7,7 +7,7 @@ use Rattle.stm_trace.specs.declared.line.Line.{Line}
 use Rattle.stm_trace.specs.declared.line.Line.TheVariants.{Of, Finish}
 use Rattle.stm_trace.specs.declared.said.Said.{Said}
 use Rattle.stm_trace.specs.declared.said.Said.TheVariants.{TryBegin, Reply, Stopped, TryCancel, TryCommit, TryClose, Looked, Installed, Idle, Dropped, Reopened}
-use Rattle.stm_trace.specs.Fits.{Path, IsCalm, callers, place_of, no_place}
+use Rattle.stm_trace.specs.Fits.{Path, IsCalm, callers, place_of, no_place, says}
 use Rattle.stm_trace.specs.Places.{Place, after, clock_of}
 use Rattle.stm_trace.specs.Played.{Played, Halted}
 use Rattle.stm_trace.specs.Turns.{IsFair, IsOver, MaySay, MayFinish}
@@ -53,19 +53,19 @@ module _ (h : Header) (may : Place → Said → Type 0) where
   pub path-append : (places : List Place) (xs : List Line) (mid : List Place) (ys : List Line) (last : List Place)
       → Path h may places xs mid → Path h may mid ys last → Path h may places (xs ++ ys) last
   path-append places [] mid ys last a b = subst (λ s. Path h may s ys last) (sym a) b
-  path-append places (Of n said ∷ xs) mid ys last a b = (a.0, a.1, a.2, path-append _ xs mid ys last a.3 b)
+  path-append places (Of n said ∷ xs) mid ys last a b = (a.0, a.1, a.2, path-append (says places n said) xs mid ys last a.3 b)
   path-append places (Finish ∷ xs) mid ys last a b = absurd a
 
   -- no caller comes or goes
   pub path-length : (places : List Place) (lines : List Line) (last : List Place) → Path h may places lines last → length last ≡ length places
   path-length places [] last a = ap (λ ps. length ps) (sym a)
-  path-length places (Of n said ∷ lines) last a = path-length _ lines last a.3 ∙ length-set places n (after (place_of places n) said)
+  path-length places (Of n said ∷ lines) last a = path-length (says places n said) lines last a.3 ∙ length-set places n (after (place_of places n) said)
   path-length places (Finish ∷ lines) last a = absurd a
 
   -- who says nothing stays where it stands
   pub path-others : (places : List Place) (lines : List Line) (last : List Place) (k : ℕ) → Path h may places lines last → IsSilent k (callers lines) → place_of last k ≡ place_of places k
   path-others places [] last k a others = ap (λ ps. place_of ps k) (sym a)
-  path-others places (Of n said ∷ lines) last k a others = path-others _ lines last k a.3 others.1 ∙ get_or-set_other places n k (after (place_of places n) said) no_place others.0
+  path-others places (Of n said ∷ lines) last k a others = path-others (says places n said) lines last k a.3 others.1 ∙ get_or-set_other places n k (after (place_of places n) said) no_place others.0
   path-others places (Finish ∷ lines) last k a others = absurd a
 
   -- one turn of one of many, whatever they are, of which f tells the place

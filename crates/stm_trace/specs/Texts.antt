@@ -8,7 +8,7 @@ use Rattle.stm_model.specs.declared.stop.Cause.TheVariants.{Clock, Record, Moved
 use Rattle.stm_model.specs.declared.stop.Stop.{Stop}
 use Rattle.stm_model.specs.declared.stop.Stop.TheVariants.{Conflict, Full, ClockFull}
 use Rattle.stm_script.specs.declared.op.Op.{Op}
-use Rattle.stm_script.specs.declared.op.Op.TheVariants.{Read, Write, Add, Cancel}
+use Rattle.stm_script.specs.Operations.{op_name}
 use Rattle.tx_answers.specs.declared.answers.Begin.TheVariants.{Begun, Closed, Held, ClockFull}
 use Rattle.tx_answers.specs.declared.answers.Cancel.TheVariants.{Cancelled, Irrevocable}
 use Rattle.tx_answers.specs.declared.answers.CloseGate.TheVariants.{Closed, Taken}
@@ -31,12 +31,6 @@ alg_name OrecLazy = codes "OrecLazy"
 alg_name OrecEager = codes "OrecEager"
 alg_name RingSw = codes "RingSW"
 alg_name Serial = codes "Serial"
-
-abbrev pub op_name : Op → List ℕ
-op_name (Read a) = codes "read"
-op_name (Write a v) = codes "write"
-op_name (Add a k) = codes "add"
-op_name Cancel = codes "cancel"
 
 abbrev pub cause_bytes : Cause → List ℕ
 cause_bytes (Clock had now) = codes " conflict clock" ++ spaced (had ∷ now ∷ [])

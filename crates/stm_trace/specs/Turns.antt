@@ -23,7 +23,7 @@ use Rattle.tx_answers.specs.declared.answers.Look.TheVariants.{Quiet, Busy}
 use Rattle.stm_trace.specs.declared.said.Phase.TheVariants.{Between, Inside, Closing, Quiet}
 use Rattle.stm_trace.specs.declared.said.Said.{Said}
 use Rattle.stm_trace.specs.declared.said.Said.TheVariants.{TryBegin, Reply, Stopped, TryCancel, TryCommit, TryClose, Looked, Installed, Idle, Dropped, Reopened}
-use Rattle.stm_trace.specs.Places.{Place, writes}
+use Rattle.stm_trace.specs.Places.{Place, may_write}
 
 -- a transaction comes next
 abbrev pub BeforeTx : List Item → Type 0
@@ -145,7 +145,7 @@ module _ (h : Header) where
   abbrev pub IsFairStop : Place → Op → Stop → Type 0
   IsFairStop at op (Conflict cause) = HasOthers × IsFairCause at cause
   IsFairStop at op (Full limit) = IsFairLimit at limit
-  IsFairStop at op (ClockFull clock) = (CLOCK_LIMIT ≤ clock) × (asks_at_write at.alg ≡ true) × (writes op ≡ true)
+  IsFairStop at op (ClockFull clock) = (CLOCK_LIMIT ≤ clock) × (asks_at_write at.alg ≡ true) × (may_write op ≡ true)
 
   -- THE NUMBERS of each answer are such as its cause allows; who can't be cancelled is not refused
   abbrev pub IsFair : Place → Said → Type 0

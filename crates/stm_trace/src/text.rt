@@ -2,7 +2,7 @@
 ghost use Rattle.std.specs.Prelude.{◌≡◌, ◌∷◌, ◌++◌, [], codes, IfOk, OnOk, string_bytes};
 ghost use Rattle.std.specs.Fmt.{decimal};
 ghost use Rattle.stm_trace.specs.declared.said.Said.{Said};
-ghost use Rattle.stm_trace.specs.Texts.{alg_name, op_name, spaced, cause_bytes, stop_bytes, said_bytes, line_bytes, trace_bytes};
+ghost use Rattle.stm_trace.specs.Texts.{alg_name, spaced, cause_bytes, stop_bytes, said_bytes, line_bytes, trace_bytes};
 
 use crate::line::Line;
 use crate::said::Said;
@@ -79,7 +79,7 @@ fn put_reply(text: &mut String, op: Op, reply: u64) -> Result<(), AllocError>
     ensures { OnOk result (string_bytes text.new ≡ string_bytes text.old ++ said_bytes (Said.Reply op reply)) }
 {
     text.push_str(" ")?;
-    put_one(text, op_name(op), reply)
+    put_one(text, op.name(), reply)
 }
 
 /// `NAME`, and why the operation ended the attempt.
@@ -87,7 +87,7 @@ fn put_stopped(text: &mut String, op: Op, stop: Stop) -> Result<(), AllocError>
     ensures { OnOk result (string_bytes text.new ≡ string_bytes text.old ++ said_bytes (Said.Stopped op stop)) }
 {
     text.push_str(" ")?;
-    text.push_str(op_name(op))?;
+    text.push_str(op.name())?;
     put_stop(text, stop)
 }
 
@@ -171,17 +171,6 @@ fn alg_name(alg: Alg) -> &'static str
         Alg::OrecEager => "OrecEager",
         Alg::RingSw => "RingSW",
         Alg::Serial => "Serial",
-    }
-}
-
-fn op_name(op: Op) -> &'static str
-    ensures { result.now ≡ op_name op }
-{
-    match op {
-        Op::Read(_) => "read",
-        Op::Write(_, _) => "write",
-        Op::Add(_, _) => "add",
-        Op::Cancel => "cancel",
     }
 }
 
