@@ -126,4 +126,3 @@ quits good c n time v w h = record { idle = h.ends.idle; grows = grew v w h.ends
 
 pub loaded : (clock : ℕ) (v w : Known) → answers.FindsFull clock v w → (2 ^ 62 ≤ clock) × Loaded w clock
 loaded clock v w h = (h.limit, let f = h.found in subst (λ t. Contains t (record { place = Clock; found = Some clock })) (sym f.1) (Contains-append_left f.0 v.trail (record { place = Clock; found = Some clock }) f.2))
-

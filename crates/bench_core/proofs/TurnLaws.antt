@@ -381,9 +381,9 @@ module _ {K : Type 0} (good : List ℕ → Type 0) (table : TableId) (config : C
         let ops = next-is op u.rest.now next in
         let g = subst (λ x. Going good config.words u.regions (script_at u.left.now) x (known u.desc) u.alg u.out u.wrote) ops at.0 in
         let step = going-step good config.words u.regions (script_at u.left.now) op (rest_of u.rest.now) (known u.desc) (known d) u.alg u.out o u.wrote reply plain told g gave (more g.explained)
-            frames.1.alg frames.1.granted (λ i. (frames.1.sure (runs-now inside).0 i).1) (room-next u.out o reply (length (rest_of u.rest.now)) told g.room) in
+        frames.1.alg frames.1.granted (λ i. (frames.1.sure (runs-now inside).0 i).1) (room-next u.out o reply (length (rest_of u.rest.now)) told g.room) in
         let going = subst (λ x. Going good config.words u.regions (script_at u.left.now) x (known d) u.alg o wrote) (sym is)
-            (subst (λ b. Going good config.words u.regions (script_at u.left.now) (rest_of u.rest.now) (known d) u.alg o b) (sym was) step) in
+        (subst (λ b. Going good config.words u.regions (script_at u.left.now) (rest_of u.rest.now) (known d) u.alg o b) (sym was) step) in
         record {
           sound = sound-of u.phase u.alg r o wrote u.passed (subst (λ p. IsAt good config (caller_of u.desc.who.role) p (known d)) (sym inside) (runs, frames.1.alg ∙ (runs-now inside).1)) (cleared-told u.out o (u.out.replies ++ reply ∷ []) told) frames.1.installs
               (subst (Stands good config.words u.regions u.all.now u.left.now (caller_of u.desc.who.role) (known d) u.rows.items) (sym inside)

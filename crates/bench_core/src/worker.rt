@@ -77,10 +77,7 @@ fn target(left: &[Item]) -> Alg
 {
     match left.first() {
         Some(Item::Switch { caller: _, alg }) => *alg,
-        Some(Item::Tx {
-            caller: _,
-            script: _,
-        }) => unreachable!(),
+        Some(Item::Tx { .. }) => unreachable!(),
         None => unreachable!(),
     }
 }

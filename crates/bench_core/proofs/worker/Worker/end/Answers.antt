@@ -28,13 +28,15 @@ returns g c =
     let some = c.requires.roomy.rows in
     let long = ap (λ (w : Worker g.row.K.Denot). vec_len w.rows) is in
     let wide = ap (λ (w : Worker g.row.K.Denot). vec_capacity w.rows) is in
-    record { ends = record {
-      at = search rules;
-      desc = ap (λ (w : Worker g.row.K.Denot). w.desc) is;
-      all = ap (λ (w : Worker g.row.K.Denot). w.all.now) is;
-      regions = ap (λ (w : Worker g.row.K.Denot). w.regions) is;
-      roomy = record {
-        spare = ap (λ o. c.pop.new.self.items ++ cleared o ∷ []) c.replace.ensures.after ∙ (room.1 ∙ ap spares (sym left));
-        rows = (let a = c.push_reserved.ensures.len in let b = c.push_reserved.ensures.capacity in omega arith);
+    record {
+      ends = record {
+        at = search rules;
+        desc = ap (λ (w : Worker g.row.K.Denot). w.desc) is;
+        all = ap (λ (w : Worker g.row.K.Denot). w.all.now) is;
+        regions = ap (λ (w : Worker g.row.K.Denot). w.regions) is;
+        roomy = record {
+          spare = ap (λ o. c.pop.new.self.items ++ cleared o ∷ []) c.replace.ensures.after ∙ (room.1 ∙ ap spares (sym left));
+          rows = (let a = c.push_reserved.ensures.len in let b = c.push_reserved.ensures.capacity in omega arith);
+        };
       };
-    } }
+    }
