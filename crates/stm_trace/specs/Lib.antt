@@ -6,5 +6,6 @@ pub mod Played
 pub mod PlayLaws
 pub mod TurnLaws
 pub mod WholeLaws
+pub mod RoundLaws
 pub mod Told
 pub mod FairLaws

@@ -1,5 +1,5 @@
 -- Some turns behind others.
-use Rattle.std.proofs.Common.{ℕ, zero, suc, ◌≡◌, ◌≢◌, ◌<◌, List, [], ◌∷◌, ◌++◌, length, get_or, set, refl, sym, ap, ◌∙◌, subst, append_assoc}
+use Rattle.std.proofs.Common.{ℕ, zero, suc, ◌≡◌, ◌≢◌, ◌<◌, List, [], ◌∷◌, ◌++◌, length, get_or, set, refl, sym, ap, ◌∙◌, subst, append_assoc, true}
 use Rattle.std.specs.Prelude.{map, Some, None, replicate}
 use Rattle.std.proofs.lemmas.List.{length-map, get_or-map, map-set, length-set, get_or-set_other}
 use Rattle.stm_script.specs.declared.workload.Header.{Header}
@@ -10,7 +10,8 @@ use Rattle.stm_trace.specs.declared.said.Said.TheVariants.{TryBegin, Reply, Stop
 use Rattle.stm_trace.specs.Fits.{Path, IsCalm, callers, place_of, no_place, says}
 use Rattle.stm_trace.specs.Places.{Place, after, clock_of}
 use Rattle.stm_trace.specs.Played.{Played, Halted}
-use Rattle.stm_trace.specs.Turns.{IsFair, IsOver, MaySay, MayFinish}
+use Rattle.stm_trace.specs.Turns.{IsFair, IsOver, MaySay, MayWind, MayFinish, sure}
+use Rattle.stm_trace.specs.declared.said.Phase.TheVariants.{Inside}
 
 pub append-nil : {A : Type 0} (xs : List A) → xs ++ [] ≡ xs
 append-nil [] = refl
@@ -39,6 +40,20 @@ may-finish at (Installed alg) still m = m
 may-finish at Idle still m = absurd (still m)
 may-finish at Dropped still m = m
 may-finish at Reopened still m = m
+
+-- who can't cancel its open attempt says the same once the schedule is over
+pub may-wind : (at : Place) (said : Said) → at.phase ≡ Inside → sure at ≡ true → MaySay at said → MayWind at said
+may-wind at (TryBegin b) here is m = (here, is, m)
+may-wind at (Reply op reply) here is m = (here, is, m)
+may-wind at (Stopped op stop) here is m = (here, is, m)
+may-wind at (TryCancel c) here is m = (here, is, m)
+may-wind at (TryCommit c) here is m = (here, is, m)
+may-wind at (TryClose c) here is m = (here, is, m)
+may-wind at (Looked l) here is m = (here, is, m)
+may-wind at (Installed alg) here is m = (here, is, m)
+may-wind at Idle here is m = (here, is, m)
+may-wind at Dropped here is m = absurd m
+may-wind at Reopened here is m = absurd m
 
 -- no turn is the caller's
 abbrev pub IsSilent : ℕ → List ℕ → Type 0
