@@ -12,7 +12,6 @@ use Rattle.stm_model.specs.Histories.{Entry, made_by, memory_at, IsLegal}
 use Rattle.stm_script.specs.declared.op.Op.{Op}
 use Rattle.stm_script.specs.declared.op.Op.TheVariants.{Read, Write, Add, Move, Cancel}
 use Rattle.stm_script.specs.declared.report.Report.{Report}
-use Rattle.stm_script.specs.declared.report.Row.{Row}
 use Rattle.stm_script.specs.declared.workload.Header.{Header}
 use Rattle.stm_script.specs.declared.workload.Item.{Item}
 use Rattle.stm_script.specs.declared.workload.Item.TheVariants.{Tx, Switch}
@@ -38,8 +37,6 @@ use Rattle.bench_core.specs.Workers.{Loaded, Works, Pays, Stands, Starts, Sound}
 use Rattle.bench_core.specs.Workers.{ItemsFit as OwnItems}
 use Rattle.bench_core.proofs.StartLaws.{starts-sound}
 use Rattle.stm_model.specs.declared.alg.Alg.{Alg}
-use Rattle.stm_trace.specs.Places.{Place, script_at}
-use Rattle.stm_trace.specs.Turns.{BeforeTx}
 
 -- an operation of the grammar fits a memory without regions
 op-fits : (words : ℕ) (op : Op) → BuiltOp words op → OpFits [] words op

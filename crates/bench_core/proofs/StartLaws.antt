@@ -1,5 +1,5 @@
 -- A worker that has done nothing.
-use Rattle.std.proofs.Common.{ℕ, ◌≡◌, ◌≤◌, ◌+◌, ◌*◌, List, [], ◌++◌, length, drop, refl, sym, ap, ◌∙◌, arith, subst}
+use Rattle.std.proofs.Common.{ℕ, ◌≡◌, List, [], length, drop, refl, sym, ap, ◌∙◌, arith, subst}
 use Rattle.atomic_table.specs.Seated.{TableId}
 use Rattle.rule_base.specs.declared.layout.Config.{Config}
 use Rattle.rule_base.specs.Opening.{first_view}
