@@ -1,5 +1,5 @@
 -- What a worker takes from the answers of the calls.
-use Rattle.std.proofs.Common.{ℕ, ◌≡◌, ◌<◌, ◌≤◌, ◌+◌, ◌^◌, true, false, List, [], ◌∷◌, ◌++◌, refl, sym, ap, ◌∙◌, arith, subst}
+use Rattle.std.proofs.Common.{ℕ, ◌≡◌, ◌<◌, ◌≤◌, ◌+◌, ◌^◌, true, false, List, [], ◌∷◌, ◌++◌, refl, sym, ◌∙◌, arith, subst}
 use Rattle.std.specs.Prelude.{Some, Contains, not}
 use Rattle.std.proofs.lemmas.List.Elements.{Contains-append_left}
 use Rattle.rule_base.specs.declared.layout.Config.{Config}
@@ -8,10 +8,10 @@ use Rattle.stm_model.specs.Histories.{Entry, memory_at}
 use Rattle.stm_model.specs.Logs.{IsExplained}
 use Rattle.stm_model.specs.declared.alg.Alg.{Alg}
 use Rattle.stm_model.specs.declared.alg.Alg.TheVariants.{Cgl, Tml, OrecLazy, OrecEager, RingSw, Serial}
-use Rattle.stm_script.specs.GrowthLaws.{Grew}
+use Rattle.stm_script.specs.GrowthLaws.{Grew, grew-trans}
 use Rattle.stm_script.specs.Reports.{zeros}
 use Rattle.tx_answers.specs.Answers as answers
-use Rattle.tx_answers.specs.Known.{Known, Grows, IsIdle, is_offered, is_irrevocable, is_sure}
+use Rattle.tx_answers.specs.Known.{Known, Grows, IsIdle, is_offered}
 use Rattle.rule_base.specs.declared.layout.At.TheVariants.{Clock}
 use Rattle.bench_core.specs.Workers.{Loaded}
 use Rattle.bench_core.specs.Goings.{no_log}
@@ -19,25 +19,54 @@ use Rattle.bench_core.specs.Goings.{no_log}
 pub grew : (v w : Known) → Grows v w → Grew v.seen v.front w.seen w.front
 grew v w g = record { later = g.later; is = g.is; ascending = g.ascending; up_to = g.up_to; front_rose = g.front_rose }
 
--- nothing began
-pub record Stays (v w : Known) : Type 0 where
-  pub idle : IsIdle w
+-- what was made stays, and no step raised the clock or installed
+pub record Rests (v w : Known) : Type 0 where
   pub made : w.made ≡ v.made
   pub grows : Grew v.seen v.front w.seen w.front
   pub rises : w.rises ≡ v.rises
+  pub installs : w.installs ≡ v.installs
 
-pub stays : (v w : Known) → answers.Stays v w → Stays v w
-stays v w h = record { idle = h.idle; made = h.made; grows = grew v w h.grows; rises = h.rises }
+pub stays : (v w : Known) → answers.Stays v w → Rests v w × IsIdle w
+stays v w h = (record { made = h.made; grows = grew v w h.grows; rises = h.rises; installs = h.installs }, h.idle)
 
-pub record BeginsAt (good : List ℕ → Type 0) (c : Config) (v w : Known) : Type 0 where
+pub closes : (good : List ℕ → Type 0) (c : Config) (n : ℕ) (v w : Known) → answers.ClosesGate good c n v w → Rests v w × answers.HoldsClosed w
+closes good c n v w h = (record { made = h.made; grows = grew v w h.grows; rises = h.rises; installs = h.installs }, h.holds)
+
+pub looks : (good : List ℕ → Type 0) (c : Config) (n : ℕ) (v w : Known) → answers.Looked good c n v w → Rests v w × answers.HoldsClosed w
+looks good c n v w h = (record { made = h.closed.made; grows = grew v w h.closed.grows; rises = h.rises; installs = h.installs }, h.closed.holds)
+
+pub reopens : (good : List ℕ → Type 0) (c : Config) (n : ℕ) (v w : Known) → answers.Reopens good c n v w → Rests v w × IsIdle w
+reopens good c n v w h = stays v w h.stays
+
+-- an algorithm was installed, and the gate opened again
+pub record SwitchesAt (alg : Alg) (v w : Known) : Type 0 where
+  pub idle : IsIdle w
+  pub made : w.made ≡ v.made
+  pub grows : Grew v.seen v.front w.seen w.front
+  pub rises : w.rises ≤ v.rises + 1
+  pub installs : w.installs ≡ v.installs ++ alg ∷ []
+
+pub switches : (good : List ℕ → Type 0) (c : Config) (n m : ℕ) (alg : Alg) (v x w : Known) → answers.Installs good c n alg v x → answers.Reopens good c m x w → SwitchesAt alg v w
+switches good c n m alg v x w h r = record {
+  idle = r.stays.idle;
+  made = r.stays.made ∙ h.closed.made;
+  grows = grew-trans v.seen v.front x.seen x.front w.seen w.front (grew v x h.closed.grows) (grew x w r.stays.grows);
+  rises = (let a = h.rises in let b = r.stays.rises in omega arith);
+  installs = r.stays.installs ∙ h.installs;
+}
+
+pub record BeginsAt (good : List ℕ → Type 0) (c : Config) (alg : Alg) (v w : Known) : Type 0 where
   pub running : w.running ≡ true
-  pub alg : w.alg ≡ Cgl
+  pub named : w.alg ≡ alg
+  pub is_cgl : alg ≡ Cgl
   pub made : w.made ≡ v.made
   pub grows : Grew v.seen v.front w.seen w.front
   pub fresh : v.front ≤ w.start
   pub log : w.log ≡ no_log
   pub explained : IsExplained good c.words w.log
   pub base : w.base ≡ v.rises
+  pub ungranted : w.granted ≡ false
+  pub installs : w.installs ≡ v.installs
 
 -- CGL alone is offered
 offered-cgl : (a : Alg) → is_offered a ≡ true → a ≡ Cgl
@@ -48,8 +77,20 @@ offered-cgl OrecEager h = absurd cc
 offered-cgl RingSw h = absurd cc
 offered-cgl Serial h = absurd cc
 
-pub begins : (good : List ℕ → Type 0) (c : Config) (n : ℕ) (alg : Alg) (v w : Known) → answers.BeginsAt good c n alg v w → BeginsAt good c v w
-begins good c n alg v w h = record { running = h.running; alg = h.named ∙ offered-cgl alg h.offered; made = h.made; grows = grew v w h.grows; fresh = h.fresh; log = h.log; explained = h.opaque.explained; base = h.base }
+pub begins : (good : List ℕ → Type 0) (c : Config) (n : ℕ) (alg : Alg) (v w : Known) → answers.BeginsAt good c n alg v w → BeginsAt good c alg v w
+begins good c n alg v w h = record {
+  running = h.running;
+  named = h.named;
+  is_cgl = offered-cgl alg h.offered;
+  made = h.made;
+  grows = grew v w h.grows;
+  fresh = h.fresh;
+  log = h.log;
+  explained = h.opaque.explained;
+  base = h.base;
+  ungranted = h.granted;
+  installs = h.installs;
+}
 
 pub record CommitsAt (time : ℕ) (v w : Known) : Type 0 where
   pub idle : IsIdle w
@@ -63,11 +104,13 @@ pub record CommitsAt (time : ℕ) (v w : Known) : Type 0 where
   pub front : time ≤ w.front
   pub wrote : is_empty v.log.writes ≡ false
   pub pays : w.rises ≤ v.base + 2
+  pub installs : w.installs ≡ v.installs
 
 pub commits : (good : List ℕ → Type 0) (c : Config) (n time : ℕ) (v w : Known) → answers.CommitsAt good c n time v w → CommitsAt time v w
-commits good c n time v w h = record { idle = h.ends.idle; grows = grew v w h.ends.grows; entry = answers.entry time n (Rattle.std.specs.Prelude.length v.made) v.log; made = h.made; timed = refl; reads = refl; writes = refl; later = h.later; front = (let e = h.front in omega arith); wrote = h.wrote; pays = h.ends.pays }
+commits good c n time v w h = record { idle = h.ends.idle; grows = grew v w h.ends.grows; entry = answers.entry time n (Rattle.std.specs.Prelude.length v.made) v.log; made = h.made; timed = refl; reads = refl; writes = refl; later = h.later; front = (let e = h.front in omega arith); wrote = h.wrote; pays = h.ends.pays; installs = h.ends.installs }
 
-pub record ReadsAt (good : List ℕ → Type 0) (c : Config) (time : ℕ) (v w : Known) : Type 0 where
+-- the attempt ended at its start, without an entry
+pub record QuitsAt (good : List ℕ → Type 0) (c : Config) (time : ℕ) (v w : Known) : Type 0 where
   pub idle : IsIdle w
   pub grows : Grew v.seen v.front w.seen w.front
   pub made : w.made ≡ v.made
@@ -75,15 +118,11 @@ pub record ReadsAt (good : List ℕ → Type 0) (c : Config) (time : ℕ) (v w :
   pub front : time ≤ w.front
   pub kept : good (memory_at time w.seen (zeros c.words))
   pub explained : Explains (memory_at time w.seen (zeros c.words)) v.log.reads
-  pub wrote : is_empty v.log.writes ≡ true
   pub pays : w.rises ≤ v.base + 2
+  pub installs : w.installs ≡ v.installs
 
-pub reads : (good : List ℕ → Type 0) (c : Config) (n time : ℕ) (v w : Known) → answers.EndsAt good c n time v w × (w.rises ≡ v.base) × (is_empty v.log.writes ≡ true) → ReadsAt good c time v w
-reads good c n time v w h = record { idle = h.0.ends.idle; grows = grew v w h.0.ends.grows; made = h.0.made; start = h.0.is_start; front = h.0.seen; kept = h.0.kept; explained = h.0.sees; wrote = h.2; pays = h.0.ends.pays }
+pub quits : (good : List ℕ → Type 0) (c : Config) (n time : ℕ) (v w : Known) → answers.EndsAt good c n time v w → QuitsAt good c time v w
+quits good c n time v w h = record { idle = h.ends.idle; grows = grew v w h.ends.grows; made = h.made; start = h.is_start; front = h.seen; kept = h.kept; explained = h.sees; pays = h.ends.pays; installs = h.ends.installs }
 
 pub loaded : (clock : ℕ) (v w : Known) → answers.FindsFull clock v w → (2 ^ 62 ≤ clock) × Loaded w clock
 loaded clock v w h = (h.limit, let f = h.found in subst (λ t. Contains t (record { place = Clock; found = Some clock })) (sym f.1) (Contains-append_left f.0 v.trail (record { place = Clock; found = Some clock }) f.2))
-
--- an attempt of CGL can't be refused
-pub never : (v w : Known) → v.alg ≡ Cgl → is_irrevocable v ≡ false → ⊥
-never v w cgl h = let e : true ≡ false = sym (ap (λ a. is_sure a v.granted (not (is_empty v.log.writes))) cgl) ∙ h in absurd cc

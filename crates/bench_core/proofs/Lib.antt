@@ -1,5 +1,8 @@
 mod Calls
+mod FairLaws
 mod GoingLaws
+mod RoomLaws
 mod RowLaws
+mod StartLaws
 mod TurnLaws
 mod RunLaws

@@ -1,6 +1,6 @@
 -- From the start of a run to its end.
-use Rattle.std.proofs.Common.{ℕ, zero, suc, ◌≡◌, ◌<◌, ◌≤◌, ◌+◌, ◌*◌, ◌^◌, Bool, true, false, List, [], ◌∷◌, ◌++◌, length, get_or, drop, refl, sym, ap, ◌∙◌, arith, subst, length-append}
-use Rattle.std.specs.Prelude.{Some, ◌==◌, if◌then◌else◌, max, All, Contains, sum_by, IsPermutation}
+use Rattle.std.proofs.Common.{ℕ, zero, suc, ◌≡◌, ◌<◌, ◌≤◌, ◌+◌, ◌^◌, Bool, true, false, List, [], ◌∷◌, ◌++◌, length, get_or, drop, refl, sym, ap, ◌∙◌, arith, subst, length-append}
+use Rattle.std.specs.Prelude.{Some, ◌==◌, if◌then◌else◌, All, Contains, sum_by, IsPermutation}
 use Rattle.std.proofs.lemmas.Bool.Decides.{nat_tests}
 use Rattle.std.proofs.lemmas.List.Elements.{All-head, All-tail}
 use Rattle.std.proofs.lemmas.List.Sorted.{IsPermutation-refl}
@@ -10,15 +10,13 @@ use Rattle.rule_base.specs.declared.layout.Config.{Config}
 use Rattle.rule_base.specs.Opening.{first_view}
 use Rattle.stm_model.specs.Histories.{Entry, made_by, memory_at, IsLegal}
 use Rattle.stm_script.specs.declared.op.Op.{Op}
-use Rattle.stm_script.specs.declared.op.Op.TheVariants.{Read, Write, Add, Cancel}
+use Rattle.stm_script.specs.declared.op.Op.TheVariants.{Read, Write, Add, Move, Cancel}
 use Rattle.stm_script.specs.declared.report.Report.{Report}
-use Rattle.stm_script.specs.declared.report.Row.{Row}
 use Rattle.stm_script.specs.declared.workload.Header.{Header}
 use Rattle.stm_script.specs.declared.workload.Item.{Item}
 use Rattle.stm_script.specs.declared.workload.Item.TheVariants.{Tx, Switch}
 use Rattle.stm_script.specs.declared.workload.Workload.{Workload}
 use Rattle.stm_script.specs.Operations.{OpFits, ScriptFits}
-use Rattle.stm_script.specs.Outputs.{Output}
 use Rattle.stm_script.specs.Parts.{Part, PartIn, IsGathered, ReportReplays}
 use Rattle.stm_script.specs.Reports.{scripts_of, nonzero, zeros, counted, Ordered, Shows}
 use Rattle.stm_script.specs.Workloads.{ItemFits}
@@ -30,42 +28,42 @@ use Rattle.rule_base.specs.declared.layout.At.TheVariants.{Clock}
 use Rattle.rule_base.specs.declared.views.TrailItem.{TrailItem}
 use Rattle.rule_base.specs.StepsRule.{ClocksWithin}
 use Rattle.stm_rule.specs.Callers.{Handle, IsOf, IsSameCaller, AllOpened}
-use Rattle.tx_answers.specs.Known.{IsIdle, known_of, caller_of}
+use Rattle.tx_answers.specs.Known.{is_offered, known_of, caller_of}
 use Rattle.stm_tx.specs.Descs.{known}
-use Rattle.bench_core.specs.declared.said.Phase.TheVariants.{Between}
+use Rattle.stm_trace.specs.declared.said.Phase.TheVariants.{Between}
 use Rattle.bench_core.specs.declared.worker.Worker.{Worker}
-use Rattle.bench_core.specs.Runs.{config_of, longest, IsShown, IsFull}
-use Rattle.bench_core.specs.Workers.{IsAt, Loaded, WhenInside, Works, Stands, Starts, Sound}
+use Rattle.bench_core.specs.Runs.{config_of, IsShown, IsFull}
+use Rattle.bench_core.specs.Workers.{Loaded, Works, Pays, Stands, Starts, Sound}
 use Rattle.bench_core.specs.Workers.{ItemsFit as OwnItems}
-use Rattle.bench_core.specs.Goings.{Going}
-use Rattle.bench_core.specs.Places.{script_at, BeforeTx}
+use Rattle.bench_core.proofs.StartLaws.{starts-sound}
+use Rattle.stm_model.specs.declared.alg.Alg.{Alg}
 
 -- an operation of the grammar fits a memory without regions
 op-fits : (words : ℕ) (op : Op) → BuiltOp words op → OpFits [] words op
 op-fits words (Read a) h = (h, λ i d lt. absurd (omega arith))
 op-fits words (Write a v) h = (h.0, λ i d lt. absurd (omega arith))
 op-fits words (Add a k) h = (h.0, λ i d lt. absurd (omega arith))
-op-fits words Cancel h = absurd h
+op-fits words (Move a b k) h = (h.0, (λ i d lt. absurd (omega arith)), h.1, λ i d lt. absurd (omega arith))
+op-fits words Cancel h = tt
 
 script-fits : (words : ℕ) (script : List Op) → BuiltScript words script → ScriptFits [] words script
 script-fits words script h = λ i d lt. op-fits words (get_or script i d) (h.each i d lt)
 
 item-fits : (h : Header) (item : Item) → BuiltItem h item → ItemFits [] h item
 item-fits h (Tx caller script) b = (b.0, script-fits h.words script b.1)
-item-fits h (Switch caller alg) b = absurd b
-
-left-max : (a b c : ℕ) → max a b ≤ c → (a ≤ c) × (b ≤ c)
-left-max a b c h = (grind (arith, nat_tests), grind (arith, nat_tests))
+item-fits h (Switch caller alg) b = b.0
 
 -- the items of a workload are those of its one caller
-pub items-own : (good : List ℕ → Type 0) → ((m : List ℕ) → good m) → (h : Header) (room : ℕ) (items : List Item) → All (BuiltItem h) items → h.callers ≤ 1 → longest items ≤ room → OwnItems good h.words [] 0 room items
-items-own good every h room [] b one le = tt
-items-own good every h room (Tx caller script ∷ items) b one le =
+pub items-own : (good : List ℕ → Type 0) → ((m : List ℕ) → good m) → (h : Header) (items : List Item) → All (BuiltItem h) items → h.callers ≤ 1 → OwnItems good h.words [] 0 items
+items-own good every h [] b one = tt
+items-own good every h (Tx caller script ∷ items) b one =
     let head = All-head (BuiltItem h) (Tx caller script) items b in
     let below = head.0 in
-    let most = left-max (length script) (longest items) room le in
-    (omega arith, script-fits h.words script head.1, λ i d lt. λ m fine len. every _, most.0, items-own good every h room items (All-tail (BuiltItem h) (Tx caller script) items b) one most.1)
-items-own good every h room (Switch caller alg ∷ items) b one le = absurd (All-head (BuiltItem h) (Switch caller alg) items b)
+    (omega arith, script-fits h.words script head.1, λ i d lt. λ m fine len. every _, items-own good every h items (All-tail (BuiltItem h) (Tx caller script) items b) one)
+items-own good every h (Switch caller alg ∷ items) b one =
+    let head = All-head (BuiltItem h) (Switch caller alg) items b in
+    let below = head.0 in
+    (omega arith, ap is_offered head.1, items-own good every h items (All-tail (BuiltItem h) (Switch caller alg) items b) one)
 
 -- of one descriptor that was popped none are left
 pub opened-one : {K : Type 0} (table : TableId) (c : Config) (rule : K) (all rest : List (Handle K)) (d : Handle K) → all ≡ rest ++ d ∷ [] → length all ≡ 1 → AllOpened table c rule 0 all → (rest ≡ []) × IsOf d table c rule × (caller_of d.who.role ≡ 0) × (d.view ≡ first_view c)
@@ -83,15 +81,6 @@ clock-within t trail x w h = at trail h.0 w h.1 h.2
 
 sum-one : {A : Type 0} (f : A → ℕ) (x : A) → sum_by f (x ∷ []) ≡ f x
 sum-one f x = let e : f x + 0 ≡ f x = omega arith in sum_by-cons f x [] ∙ e
-
-scripts-few : (n : ℕ) (items : List Item) → length (scripts_of n items) ≤ length items
-scripts-few n [] = omega arith
-scripts-few n (Tx caller script ∷ items) = by (caller == n) (scripts-few n items)
-  where
-    by : (b : Bool) → length (scripts_of n items) ≤ length items → length (if b then script ∷ scripts_of n items else scripts_of n items) ≤ suc (length items)
-    by true r = omega arith
-    by false r = omega arith
-scripts-few n (Switch caller alg ∷ items) = let r = scripts-few n items in omega arith
 
 drop-none : {A : Type 0} (n : ℕ) (xs : List A) → [] ≡ drop n xs → length xs ≤ n
 drop-none n [] h = omega arith
@@ -149,42 +138,11 @@ module _ (good : List ℕ → Type 0) (w : Workload) (config : Config) (built : 
   one-caller : w.header.callers ≡ 1
   one-caller = let h = built.header.callers in omega (arith, h.0, h.1)
 
-  -- a caller that has taken no step has done nothing
-  start-works : (n : ℕ) (all : List Item) → Works good config.words [] all n (known_of (first_view config)) []
-  start-works n all = record {
-    writers = refl;
-    each = λ i d lt. absurd (omega arith);
-    mine = λ i d lt. absurd (omega arith);
-    numbered = refl;
-    ordered = tt;
-    places = λ i d lt. absurd (omega arith);
-  }
-
 module _ {K : Type 0} (good : List ℕ → Type 0) (w : Workload) (table : TableId) (config : Config) (rule : K) (built : IsBuilt Run w) (sized : config ≡ config_of w.header) where
-  pub sound-start : ((m : List ℕ) → good m) → (d : Handle K) (u : Worker K) → IsOf d table config rule → caller_of d.who.role ≡ 0 → d.view ≡ first_view config → Starts d w.items (longest w.items) u → Sound good table config rule u
-  sound-start every d u own caller view s =
-      let who : caller_of u.desc.who.role ≡ 0 = ap (λ (x : Handle K). caller_of x.who.role) s.is_desc ∙ caller in
-      let knows : known u.desc ≡ known_of (first_view config) = ap known s.is_desc ∙ ap known_of view in
-      let room : u.out.room ≡ longest w.items = ap (λ (o : Output). o.room) s.out in
-      let count = ap length s.rows in
-      let items : OwnItems good config.words [] 0 (longest w.items) w.items = subst (λ n. OwnItems good n [] 0 (longest w.items) w.items) (sym (words-are good w config built sized)) (items-own good every w.header (longest w.items) w.items built.items (let h = built.header.callers in h.1) (omega arith)) in
-      let stands : Stands good config.words u.regions u.all.now (caller_of u.desc.who.role) (known u.desc) u.rows.items Between =
-      subst (λ rs. Stands good config.words rs u.all.now (caller_of u.desc.who.role) (known u.desc) u.rows.items Between) (sym s.regions)
-      (subst (λ v. Stands good config.words [] u.all.now (caller_of u.desc.who.role) v u.rows.items Between) (sym knows)
-      (subst (λ rows. Stands good config.words [] u.all.now (caller_of u.desc.who.role) (known_of (first_view config)) rows Between) (sym s.rows) (start-works good w config built sized (caller_of u.desc.who.role) u.all.now, omega arith))) in
-      record {
-        own = subst (λ (x : Handle K). IsOf x table config rule) (sym s.is_desc) own;
-        at = subst (λ p. IsAt p (known u.desc)) (sym s.phase) (subst IsIdle (sym knows) (refl, refl, refl));
-        stands = subst (Stands good config.words u.regions u.all.now (caller_of u.desc.who.role) (known u.desc) u.rows.items) (sym s.phase) stands;
-        todo = ap (scripts_of (caller_of u.desc.who.role)) (s.left ∙ sym s.all) ∙ ap (λ (rows : List Row). drop (length rows) (scripts_of (caller_of u.desc.who.role) u.all.now)) (sym s.rows);
-        within = omega arith;
-        fits = subst (λ l. OwnItems good config.words u.regions (caller_of u.desc.who.role) u.out.room l) (sym s.left)
-            (subst (λ rs. OwnItems good config.words rs (caller_of u.desc.who.role) u.out.room w.items) (sym s.regions)
-            (subst (λ n. OwnItems good config.words [] n u.out.room w.items) (sym who)
-            (subst (λ n. OwnItems good config.words [] 0 n w.items) (sym room) items)));
-        roomy = s.roomy;
-        going = subst (λ p. WhenInside p (Going good config.words u.regions (script_at u.left.now) u.rest.now (known u.desc).log u.out × BeforeTx u.left.now)) (sym s.phase) tt;
-      }
+  pub sound-start : ((m : List ℕ) → good m) → (d : Handle K) (alg : Alg) (u : Worker K) → IsOf d table config rule → caller_of d.who.role ≡ 0 → d.view ≡ first_view config → Starts d w.items alg u → Sound good table config rule u
+  sound-start every d alg u own caller view s =
+      starts-sound good table config rule d w.items alg u own (ap known_of view)
+      (subst (λ n. OwnItems good config.words [] n w.items) (sym caller) (subst (λ n. OwnItems good n [] 0 w.items) (sym (words-are good w config built sized)) (items-own good every w.header w.items built.items (let h = built.header.callers in h.1)))) s
 
   -- what stands when a run has come to its end or to the clock's limit
   pub record Stood (u : Worker K) : Type 0 where
@@ -194,8 +152,8 @@ module _ {K : Type 0} (good : List ℕ → Type 0) (w : Workload) (table : Table
     pub all : u.all.now ≡ w.items
     pub regions : u.regions ≡ []
 
-  pub stood : (d : Handle K) (u v : Worker K) → caller_of d.who.role ≡ 0 → Starts d w.items (longest w.items) u → Sound good table config rule v → IsSameCaller u.desc v.desc → v.all.now ≡ u.all.now → v.regions ≡ u.regions → v.phase ≡ Between → Stood v
-  stood d u v caller s sound same all regions between = record {
+  pub stood : (d : Handle K) (alg : Alg) (u v : Worker K) → caller_of d.who.role ≡ 0 → Starts d w.items alg u → Sound good table config rule v → IsSameCaller u.desc v.desc → v.all.now ≡ u.all.now → v.regions ≡ u.regions → v.phase ≡ Between → Stood v
+  stood d alg u v caller s sound same all regions between = record {
     sound = sound;
     between = between;
     caller = ap (λ x. caller_of x.role) same.who ∙ (ap (λ (x : Handle K). caller_of x.who.role) s.is_desc ∙ caller);
@@ -203,13 +161,13 @@ module _ {K : Type 0} (good : List ℕ → Type 0) (w : Workload) (table : Table
     regions = regions ∙ s.regions;
   }
 
-  stood-works : (u : Worker K) → Stood u → Works good w.header.words [] w.items 0 (known u.desc) u.rows.items × ((known u.desc).rises ≤ 2 * length u.rows.items)
+  stood-works : (u : Worker K) → Stood u → Works good w.header.words [] w.items 0 (known u.desc) u.rows.items × Pays w.items u.left.now (known u.desc).rises
   stood-works u s =
-      subst (λ n. Stands good n [] w.items 0 (known u.desc) u.rows.items Between) (words-are good w config built sized)
-      (subst (λ rs. Stands good config.words rs w.items 0 (known u.desc) u.rows.items Between) s.regions
-      (subst (λ x. Stands good config.words u.regions x 0 (known u.desc) u.rows.items Between) s.all
-      (subst (λ n. Stands good config.words u.regions u.all.now n (known u.desc) u.rows.items Between) s.caller
-      (subst (Stands good config.words u.regions u.all.now (caller_of u.desc.who.role) (known u.desc) u.rows.items) s.between s.sound.stands))))
+      subst (λ n. Stands good n [] w.items u.left.now 0 (known u.desc) u.rows.items Between) (words-are good w config built sized)
+      (subst (λ rs. Stands good config.words rs w.items u.left.now 0 (known u.desc) u.rows.items Between) s.regions
+      (subst (λ x. Stands good config.words u.regions x u.left.now 0 (known u.desc) u.rows.items Between) s.all
+      (subst (λ n. Stands good config.words u.regions u.all.now u.left.now n (known u.desc) u.rows.items Between) s.caller
+      (subst (Stands good config.words u.regions u.all.now u.left.now (caller_of u.desc.who.role) (known u.desc) u.rows.items) s.between s.sound.stands))))
 
   stood-within : (u : Worker K) → Stood u → length u.rows.items ≤ length (scripts_of 0 w.items)
   stood-within u s = subst (λ x. length u.rows.items ≤ length (scripts_of 0 x)) s.all (subst (λ n. length u.rows.items ≤ length (scripts_of n u.all.now)) s.caller s.sound.within)
@@ -260,6 +218,4 @@ module _ {K : Type 0} (good : List ℕ → Type 0) (w : Workload) (table : Table
       let opening : config.clock ≡ w.header.clock = ap (λ (x : Config). x.clock) sized in
       let rises = c.clock ∙ ap (λ n. config.clock + n) (sum-one (λ (d : Handle K). (known d).rises) u.desc) in
       let two = (stood-works u s).1 in
-      let within = stood-within u s in
-      let few = scripts-few 0 w.items in
       record { opening = c.opening ∙ opening; found = omega arith; limit = omega arith; bound = omega arith }

@@ -1,4 +1,3 @@
-pub mod Places
 pub mod Goings
 pub mod Workers
 pub mod Runs

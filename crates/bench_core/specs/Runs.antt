@@ -1,10 +1,8 @@
 -- What a run comes to.
-use Rattle.std.specs.Prelude.{ℕ, ◌≡◌, ◌≤◌, ◌+◌, ◌*◌, ◌^◌, max, List, [], ◌∷◌, length}
+use Rattle.std.specs.Prelude.{ℕ, ◌≡◌, ◌≤◌, ◌+◌, ◌*◌, ◌^◌, length}
 use Rattle.rule_base.specs.declared.layout.Config.{Config}
 use Rattle.stm_script.specs.declared.report.Report.{Report}
 use Rattle.stm_script.specs.declared.workload.Header.{Header}
-use Rattle.stm_script.specs.declared.workload.Item.{Item}
-use Rattle.stm_script.specs.declared.workload.Item.TheVariants.{Tx, Switch}
 use Rattle.stm_script.specs.declared.workload.Workload.{Workload}
 use Rattle.stm_script.specs.Reports.{Replays, Shows}
 use Rattle.stm_rule.specs.Closings.{Ended}
@@ -14,12 +12,6 @@ use Rattle.bench_core.specs.declared.run.Ran.TheVariants.{ToEnd, ToLimit}
 -- the sizes of the memory
 abbrev pub config_of : Header → Config
 config_of h = record { words = h.words; records = h.records; ring = h.ring; callers = h.callers; reads = h.reads; writes = h.writes; clock = h.clock }
-
--- the length of the longest script
-abbrev pub longest : List Item → ℕ
-longest [] = 0
-longest (Tx caller script ∷ items) = max (length script) (longest items)
-longest (Switch caller alg ∷ items) = longest items
 
 -- the report replays the workload, and shows the one history of the memory that was closed
 pub record IsShown (w : Workload) (report : Report) (closed : Ended) : Type 0 where

@@ -6,8 +6,8 @@ pub mod bench;
 mod command;
 mod messages;
 pub mod run;
-pub mod said;
 pub mod status;
 #[cfg(test)]
 mod tests;
+pub mod turnstile;
 pub mod worker;

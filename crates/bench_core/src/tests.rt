@@ -51,6 +51,10 @@ fn reports_what_was_run(rt: HostRuntime) -> Result<(), Fail> {
             "report 1\nW 1 0 0 : 7 7 8\nmem 2 8\nend\n",
         ),
         (
+            "tx 0\nwrite 3 9\ncancel\nmove 3 4 2\nend\nswitch 0 CGL\ntx 0\nmove 3 4 8\nread 4\nend\ndone\n",
+            "report 1\nW 1 0 0 : 9 0 1\nR 1 0 1 : 0 2\nmem 3 7\nmem 4 2\nend\n",
+        ),
+        (
             "tx 0\nend\ntx 0\nwrite 1 0\nend\ndone\n",
             "report 1\nR 0 0 0 :\nW 1 0 1 : 0\nend\n",
         ),
@@ -174,7 +178,7 @@ fn names_every_fault_of_the_text(rt: HostRuntime) -> Result<(), Fail> {
     let table = [
         ("\u{e9}\n", "refused 11 2 bytes\n"),
         ("tx 0\nread 1", "refused 12 3 unended\n"),
-        ("switch 0 CGL\ndone\n", "refused 11 4 word\n"),
+        ("schedule\ndone\n", "refused 11 4 word\n"),
         ("tx 00\nend\ndone\n", "refused 11 5 number\n"),
         ("tx 1\nend\ndone\n", "refused 11 6 range\n"),
         ("done\n\n", "refused 12 11 extra\n"),

@@ -1,17 +1,17 @@
 -- What a caller knows of its rows holds at their places of the one history.
-use Rattle.std.proofs.Common.{ℕ, ◌≡◌, ◌≤◌, ◌-◌, List, [], ◌∷◌, Bool, true, false, refl, sym, ap, ◌∙◌, subst, length}
-use Rattle.std.specs.Prelude.{◌||◌, Contains}
+use Rattle.std.proofs.Common.{ℕ, ◌≡◌, ◌≤◌, ◌-◌, List, [], ◌∷◌, Bool, true, false, refl, sym, ap, ◌∙◌, subst, length, get_or}
+use Rattle.std.specs.Prelude.{◌||◌, ltb, if◌then◌else◌, Contains}
 use Rattle.std.proofs.lemmas.List.Elements.{All-contains}
 use Rattle.stm_model.specs.Memories.{overlay, Explains}
 use Rattle.stm_model.specs.Histories.{Entry, memory_at, IsLegal}
 use Rattle.stm_model.specs.HistoryLaws.{memory_at-entry, length-memory_at}
 use Rattle.stm_script.specs.declared.op.Op.{Op}
-use Rattle.stm_script.specs.declared.op.Op.TheVariants.{Read, Write, Add, Cancel}
+use Rattle.stm_script.specs.declared.op.Op.TheVariants.{Read, Write, Add, Move, Cancel}
 use Rattle.stm_script.specs.declared.region.Region.{Region}
 use Rattle.stm_script.specs.declared.report.Kind.{Kind}
 use Rattle.stm_script.specs.declared.report.Kind.TheVariants.{W, R, C}
 use Rattle.stm_script.specs.declared.report.Row.{Row}
-use Rattle.stm_script.specs.Operations.{effect_of}
+use Rattle.stm_script.specs.Operations.{replies, moved, effect_of}
 use Rattle.stm_script.specs.Scripts.{run, run_row, KindFits}
 use Rattle.stm_script.specs.Reports.{RowFits}
 use Rattle.stm_script.specs.Parts.{RowOf, RowIn, by_kind, BeginsWith}
@@ -19,11 +19,18 @@ use Rattle.stm_script.specs.GrowthLaws.{seen-same}
 use Rattle.stm_script.proofs.ReplayLaws.{before_of, FitsAt}
 
 module _ (regions : List Region) where
+  -- a move that wrote nothing leaves the memory
+  moves-quiet : (a b k : ℕ) (m : List ℕ) (t : Bool) → (if t then replies 0 m else record { reply = 1; emits = []; memory = moved a b k m; wrote = true }).wrote ≡ false
+      → (if t then replies 0 m else record { reply = 1; emits = []; memory = moved a b k m; wrote = true }).memory ≡ m
+  moves-quiet a b k m true h = refl
+  moves-quiet a b k m false h = absurd cc
+
   -- a script that wrote nothing leaves the memory
   op-quiet : (op : Op) (m : List ℕ) → (effect_of regions op m).wrote ≡ false → (effect_of regions op m).memory ≡ m
   op-quiet (Read a) m h = refl
   op-quiet (Write a v) m h = absurd cc
   op-quiet (Add a k) m h = absurd cc
+  op-quiet (Move a b k) m h = moves-quiet a b k m (ltb (get_or m a 0) k) h
   op-quiet Cancel m h = refl
 
   or-left : (a b : Bool) → a || b ≡ false → a ≡ false

@@ -1,6 +1,6 @@
 -- What keeps the rule on memories leads from a log that keeps it to one that does.
-use Rattle.std.proofs.Common.{ℕ, ◌≡◌, List, [], ◌∷◌, length, Bool, true, false, refl, sym, ◌∙◌, subst}
-use Rattle.std.specs.Prelude.{Result, Ok, Err, IfOk, OnOk, if◌then◌else◌}
+use Rattle.std.proofs.Common.{ℕ, ◌≡◌, List, [], ◌∷◌, length, get_or, Bool, true, false, refl, sym, ◌∙◌, subst}
+use Rattle.std.specs.Prelude.{Result, Ok, Err, IfOk, OnOk, ltb, if◌then◌else◌}
 use Rattle.std.proofs.Math.ListN.{length-set}
 use Rattle.std.proofs.lemmas.List.Elements.{All-head, All-tail}
 use Rattle.stm_model.specs.Memories.{overlay}
@@ -8,9 +8,9 @@ use Rattle.stm_model.specs.Logs.{Log, Keeps}
 use Rattle.stm_model.specs.Overlays.{overlay-length}
 use Rattle.stm_model.specs.declared.stop.Stop.{Stop}
 use Rattle.stm_script.specs.declared.op.Op.{Op}
-use Rattle.stm_script.specs.declared.op.Op.TheVariants.{Read, Write, Add, Cancel}
+use Rattle.stm_script.specs.declared.op.Op.TheVariants.{Read, Write, Add, Move, Cancel}
 use Rattle.stm_script.specs.declared.region.Region.{Region}
-use Rattle.stm_script.specs.Operations.{Effect, effect_of, DoesOver, is_cancel}
+use Rattle.stm_script.specs.Operations.{Effect, replies, moved, effect_of, DoesOver, is_cancel}
 use Rattle.stm_script.specs.Outputs.{Output}
 use Rattle.stm_script.specs.Scripts.{Ran, run, before_cancel}
 use Rattle.stm_script.specs.ScriptLaws.{GaveOver}
@@ -28,10 +28,16 @@ keeps-gave good words ran l before k after gave rule h = λ m fine len ex.
     let d = gave m fine len ex in
     subst good (sym d.left) (rule (overlay m l.writes) (h m fine len d.explained) (overlay-length m l.writes ∙ len))
 
+length-moves : (a b k : ℕ) (m : List ℕ) (t : Bool)
+    → length (if t then replies 0 m else record { reply = 1; emits = []; memory = moved a b k m; wrote = true }).memory ≡ length m
+length-moves a b k m true = refl
+length-moves a b k m false = simp length-set
+
 pub length-effect : (regions : List Region) (op : Op) (m : List ℕ) → length (effect_of regions op m).memory ≡ length m
 length-effect regions (Read a) m = refl
 length-effect regions (Write a v) m = simp length-set
 length-effect regions (Add a k) m = simp length-set
+length-effect regions (Move a b k) m = length-moves a b k m (ltb (get_or m a 0) k)
 length-effect regions Cancel m = refl
 
 -- operations that each keep the rule keep it one after the other

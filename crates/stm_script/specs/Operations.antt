@@ -1,9 +1,9 @@
 -- What an operation does to a memory.
-use Rattle.std.specs.Prelude.{ℕ, ◌≡◌, ◌<◌, ◌+◌, ◌%◌, ◌^◌, Bool, true, false, ◌||◌, not, List, [], length, slice_index, slice_set, All}
+use Rattle.std.specs.Prelude.{ℕ, ◌≡◌, ◌<◌, ◌+◌, ◌-◌, ◌%◌, ◌^◌, Bool, true, false, ◌||◌, not, ltb, if◌then◌else◌, List, [], length, slice_index, slice_set, All, codes}
 use Rattle.stm_model.specs.Memories.{overlay, Explains, is_empty}
 use Rattle.stm_model.specs.Logs.{Log}
 use Rattle.stm_script.specs.declared.op.Op.{Op}
-use Rattle.stm_script.specs.declared.op.Op.TheVariants.{Read, Write, Add, Cancel}
+use Rattle.stm_script.specs.declared.op.Op.TheVariants.{Read, Write, Add, Move, Cancel}
 use Rattle.stm_script.specs.declared.region.Region.{Region}
 use Rattle.stm_script.specs.Regions.{IsPlain}
 
@@ -22,11 +22,22 @@ replies r m = record { reply = r; emits = []; memory = m; wrote = false }
 abbrev pub stores : ℕ → ℕ → List ℕ → Effect
 stores a v m = record { reply = v; emits = []; memory = slice_set m a v; wrote = true }
 
+-- a less k, and then b plus k
+abbrev pub moved : ℕ → ℕ → ℕ → List ℕ → List ℕ
+moved a b k m =
+    let less : List ℕ = slice_set m a (slice_index m a - k) in
+    slice_set less b ((slice_index less b + k) % 2 ^ 64)
+
+-- nothing where a has less than k
+abbrev pub moves : ℕ → ℕ → ℕ → List ℕ → Effect
+moves a b k m = if ltb (slice_index m a) k then replies 0 m else record { reply = 1; emits = []; memory = moved a b k m; wrote = true }
+
 -- THE TABLE; a cancel is meant here as in a transaction that commits
 abbrev pub effect_of : List Region → Op → List ℕ → Effect
 effect_of regions (Read a) m = replies (slice_index m a) m
 effect_of regions (Write a v) m = stores a v m
 effect_of regions (Add a k) m = stores a ((slice_index m a + k) % 2 ^ 64) m
+effect_of regions (Move a b k) m = moves a b k m
 effect_of regions Cancel m = replies 0 m
 
 -- an operation that a memory of so many words and these regions takes
@@ -34,13 +45,23 @@ abbrev pub OpFits : List Region → ℕ → Op → Type 0
 OpFits regions words (Read a) = (a < words) × IsPlain regions a
 OpFits regions words (Write a v) = (a < words) × IsPlain regions a
 OpFits regions words (Add a k) = (a < words) × IsPlain regions a
+OpFits regions words (Move a b k) = (a < words) × IsPlain regions a × (b < words) × IsPlain regions b
 OpFits regions words Cancel = Unit {0}
 
 abbrev pub is_cancel : Op → Bool
 is_cancel (Read a) = false
 is_cancel (Write a v) = false
 is_cancel (Add a k) = false
+is_cancel (Move a b k) = false
 is_cancel Cancel = true
+
+-- an operation's word
+abbrev pub op_name : Op → List ℕ
+op_name (Read a) = codes "read"
+op_name (Write a v) = codes "write"
+op_name (Add a k) = codes "add"
+op_name (Move a b k) = codes "move"
+op_name Cancel = codes "cancel"
 
 abbrev pub ScriptFits : List Region → ℕ → List Op → Type 0
 ScriptFits regions words ops = All (OpFits regions words) ops
@@ -61,4 +82,5 @@ abbrev pub OnlyReads : Op → Type 0
 OnlyReads (Read a) = Unit {0}
 OnlyReads (Write a v) = ⊥
 OnlyReads (Add a k) = ⊥
+OnlyReads (Move a b k) = ⊥
 OnlyReads Cancel = Unit {0}

@@ -176,4 +176,28 @@ mod tests {
         assert_eq!(rt; read.as_slice(), [u64::MAX, 0].as_slice());
         Ok(())
     }
+
+    #[test]
+    fn moves_where_there_is_enough(rt: HostRuntime) -> Result<(), Fail> {
+        let alloc = rt.alloc();
+        let ops = vec![in alloc;
+            Op::Move(0, 1, 6),
+            Op::Read(0),
+            Op::Move(0, 1, 5),
+            Op::Read(0),
+            Op::Read(1),
+        ]?;
+        let apart = replies(alloc, ops, Kind::W)?;
+        assert_eq!(rt; apart.as_slice(), [0, 5, 1, 0, 4].as_slice());
+        let ops = vec![in alloc; Op::Move(0, 0, 3), Op::Read(0), Op::Move(0, 0, 9)]?;
+        let same = replies(alloc, ops, Kind::W)?;
+        assert_eq!(rt; same.as_slice(), [1, 5, 0].as_slice());
+        Ok(())
+    }
+
+    #[test]
+    fn names_operations(rt: HostRuntime) {
+        assert_eq!(rt; Op::Move(0, 1, 2).name(), "move");
+        assert_eq!(rt; Op::Cancel.name(), "cancel");
+    }
 }

@@ -10,13 +10,16 @@ pub enum Op {
     Write(usize, u64),
     /// `add a k`: the word at `a` becomes its sum with `k`; replies the sum.
     Add(usize, u64),
+    /// `move a b k`: where the word at `a` is less than `k` nothing happens, and the reply is 0. Else it
+    /// becomes less by `k`, then the word at `b` becomes its sum with `k`; replies 1. `a` and `b` may be one.
+    Move(usize, usize, u64),
     /// `cancel`: in a cancelled transaction the first one ends the script and replies 1; in one that
     /// commits it replies 0 and the script goes on.
     Cancel,
 }
 
 impl Op {
-    ghost use Rattle.stm_script.specs.Operations.{is_cancel};
+    ghost use Rattle.stm_script.specs.Operations.{is_cancel, op_name};
 
     /// Whether the operation is `cancel`.
     pub fn is_cancel(&self) -> bool
@@ -26,7 +29,21 @@ impl Op {
             Op::Read(_) => false,
             Op::Write(_, _) => false,
             Op::Add(_, _) => false,
+            Op::Move(_, _, _) => false,
             Op::Cancel => true,
+        }
+    }
+
+    /// Its word, as workloads and traces have it.
+    pub fn name(&self) -> &'static str
+        ensures { result.now ≡ op_name self.now }
+    {
+        match self {
+            Op::Read(_) => "read",
+            Op::Write(_, _) => "write",
+            Op::Add(_, _) => "add",
+            Op::Move(_, _, _) => "move",
+            Op::Cancel => "cancel",
         }
     }
 }

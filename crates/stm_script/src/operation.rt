@@ -2,7 +2,7 @@
 ghost use Rattle.std.specs.Prelude.{◌≡◌, ◌<◌, ◌^◌, ◌+◌, ◌%◌, slice_index, None, Some, false, IfOk, OnOk, IfErr, length};
 ghost use Rattle.stm_model.specs.Logs.{SameMemories, IsExplained, IsReadStop, Keeps};
 ghost use Rattle.stm_script.specs.Keeping.{OpKeeps};
-ghost use Rattle.stm_script.specs.Operations.{OpFits, is_cancel, OnlyReads, DoesOver, effect_of, stores, replies};
+ghost use Rattle.stm_script.specs.Operations.{OpFits, is_cancel, OnlyReads, DoesOver, effect_of, stores, moves, replies};
 
 use crate::op::Op;
 use crate::region::Regions;
@@ -34,6 +34,7 @@ pub fn run_op<A: Access>(acc: &mut A, regions: &Regions, op: &Op) -> Result<u64,
         Op::Read(a) => read(acc, a),
         Op::Write(a, v) => write(acc, a, v),
         Op::Add(a, k) => add(acc, a, k),
+        Op::Move(a, b, k) => move_between(acc, a, b, k),
         Op::Cancel => unreachable!(),
     }
 }
@@ -87,4 +88,27 @@ fn add<A: Access>(acc: &mut A, a: usize, k: u64) -> Result<u64, Stop>
     let sum = found.wrapping_add(k);
     acc.write(a, sum)?;
     Ok(sum)
+}
+
+fn move_between<A: Access>(acc: &mut A, a: usize, b: usize, k: u64) -> Result<u64, Stop>
+    requires going { A.stopped acc.old ≡ None }
+    requires from { a < A.words acc.old }
+    requires onto { b < A.words acc.old }
+    ensures reply { IfOk result (λ r. DoesOver (A.good acc.old) (A.words acc.old) (moves a b k) (A.log acc.old) r (A.log acc.new)) }
+    ensures range { IfOk result (λ r. r < 2 ^ 64) }
+    ensures explained { OnOk result (IsExplained (A.good acc.new) (A.words acc.new) (A.log acc.new)) }
+    ensures goes { OnOk result (A.stopped acc.new ≡ None) }
+    ensures stops { IfErr result (λ s. A.stopped acc.new ≡ Some s) }
+    ensures good { SameMemories (A.good acc.old) (A.good acc.new) }
+    ensures words { A.words acc.new ≡ A.words acc.old }
+    ensures keeps { A.keeps acc.old acc.new }
+{
+    let found = acc.read(a)?;
+    if found < k {
+        return Ok(0);
+    }
+    acc.write(a, found - k)?;
+    let other = acc.read(b)?;
+    acc.write(b, other.wrapping_add(k))?;
+    Ok(1)
 }

@@ -3,22 +3,24 @@ use Rattle.std.proofs.Common.{ℕ, ◌≡◌, ◌≢◌, ◌<◌, ◌≤◌, ◌
 use Rattle.std.specs.Prelude.{◌==◌, if◌then◌else◌, leb, ltb, codes, bytes_eq, All}
 use Rattle.std.proofs.lemmas.Bool.Decides.{nat_tests}
 use Rattle.std.proofs.lemmas.List.Elements.{All-nil, All-push}
+use Rattle.stm_model.specs.declared.alg.Alg.{Alg}
 use Rattle.stm_model.specs.declared.alg.Alg.TheVariants.{Cgl}
 use Rattle.stm_script.specs.declared.op.Op.{Op}
-use Rattle.stm_script.specs.declared.op.Op.TheVariants.{Read, Write, Add as Sum}
+use Rattle.stm_script.specs.declared.op.Op.TheVariants.{Read, Write, Add as Sum, Move, Cancel}
 use Rattle.stm_script.specs.declared.workload.Header.{Header}
-use Rattle.stm_script.specs.declared.workload.Item.TheVariants.{Tx}
+use Rattle.stm_script.specs.declared.workload.Item.TheVariants.{Tx, Switch}
+use Rattle.stm_script.specs.declared.workload.Go.{Go}
 use Rattle.stm_script.specs.declared.workload.Workload.{Workload}
 use Rattle.stm_text.specs.declared.draft.Place.{Place}
-use Rattle.stm_text.specs.declared.draft.Place.TheVariants.{Version, Words, Callers, Records, Ring, Reads, Writes, Clock, Algorithm, Structures, Items, Ops}
+use Rattle.stm_text.specs.declared.draft.Place.TheVariants.{Version, Words, Callers, Records, Ring, Reads, Writes, Clock, Algorithm, Structures, Items, Ops, Turns}
 use Rattle.stm_text.specs.declared.draft.Step.{Step}
-use Rattle.stm_text.specs.declared.draft.Step.TheVariants.{Head, Begin, Add, End, Done}
+use Rattle.stm_text.specs.declared.draft.Step.TheVariants.{Head, Begin, Change, Add, End, Schedule, Turn, Done}
 use Rattle.stm_text.specs.declared.parse.Mode.{Mode}
 use Rattle.stm_text.specs.declared.parse.Mode.TheVariants.{Run, Step as Stepwise}
 use Rattle.stm_text.specs.Lines.{Line, words_of, any_bad, number_from, number_of}
 use Rattle.stm_text.specs.Drafts.{Writing, after, opening}
-use Rattle.stm_text.specs.Grammar.{◌>>=◌, named, formed, ranged, below, number, algorithm, most_callers, sized, header_line, next_line, begun, added, address, operands, one_word, two_words, three_words, filled, by_words, step_of, ended, go_on, parsed}
-use Rattle.stm_text.specs.Built.{HeaderFits, OpFits, ScriptFits, ItemFits, IsBuilt}
+use Rattle.stm_text.specs.Grammar.{◌>>=◌, named, formed, ranged, below, number, algorithm, most_callers, sized, header_line, next_line, begun, changed, added, planned, scheduled, caller_of, address, operands, move_of, go_of, one_word, two_words, three_words, four_words, filled, by_words, step_of, ended, go_on, parsed}
+use Rattle.stm_text.specs.Built.{HeaderFits, OpFits, ScriptFits, ItemFits, GoFits, all_turns, ScheduleFits, IsBuilt}
 
 -- what an answer gives, where it is Ok
 abbrev pub Gives : {A B : Type 0} → (A → Type 0) → Result A B → Type 0
@@ -83,6 +85,9 @@ sized-fits name low high w v =
     named-gives (λ k. (low ≤ k) × (k ≤ high)) name w (number low high v)
     (then-gives (λ n. n < 2 ^ 64) (λ k. (low ≤ k) × (k ≤ high)) (formed (number_of v)) (ranged low high) (formed-fits v) (λ n h. ranged-fits low high n))
 
+algorithm-fits : (w : List ℕ) → Gives (λ a. a ≡ Cgl) (algorithm w)
+algorithm-fits w = if-gives (λ a. a ≡ Cgl) (bytes_eq w (codes "CGL")) (Ok Cgl) 7 (λ _. refl)
+
 header_line-fits : (m : Mode) (p : Place) (h : Header) (w v : List ℕ) → HeaderFits m h → Gives (HeaderFits m) (header_line m p h w v)
 header_line-fits m Version h w v f =
     named-gives (HeaderFits m) (codes "stm") w (named (codes "1") v (Ok h)) (named-gives (HeaderFits m) (codes "1") v (Ok h) f)
@@ -109,7 +114,7 @@ header_line-fits m Clock h w v f =
     (λ n k. record { words = f.words; callers = f.callers; records = f.records; ring = f.ring; reads = f.reads; writes = f.writes; clock = k.1; alg = f.alg; structs = f.structs })
 header_line-fits m Algorithm h w v f =
     then-gives (λ a. a ≡ Cgl) (HeaderFits m) (named (codes "alg") w (algorithm v)) (λ a. Ok (record h { alg = a }))
-    (named-gives (λ a. a ≡ Cgl) (codes "alg") w (algorithm v) (if-gives (λ a. a ≡ Cgl) (bytes_eq v (codes "CGL")) (Ok Cgl) 7 (λ _. refl)))
+    (named-gives (λ a. a ≡ Cgl) (codes "alg") w (algorithm v) (algorithm-fits v))
     (λ a k. record { words = f.words; callers = f.callers; records = f.records; ring = f.ring; reads = f.reads; writes = f.writes; clock = f.clock; alg = k; structs = f.structs })
 header_line-fits m Structures h w v f =
     named-gives (HeaderFits m) (codes "structs") w (named (codes "off") v (Ok (record h { structs = false })))
@@ -117,12 +122,14 @@ header_line-fits m Structures h w v f =
     (record { words = f.words; callers = f.callers; records = f.records; ring = f.ring; reads = f.reads; writes = f.writes; clock = f.clock; alg = f.alg; structs = refl }))
 header_line-fits m Items h w v f = tt
 header_line-fits m Ops h w v f = tt
+header_line-fits m Turns h w v f = tt
 
 -- what stands at a place
-abbrev pub At : Place → Writing → Type 0
-At Items d = d.ops ≡ []
-At Ops d = (length d.items < 65536) × (d.caller < d.header.callers)
-At p d = (d.items ≡ []) × (d.ops ≡ [])
+abbrev pub At : Mode → Place → Writing → Type 0
+At m Items d = (d.ops ≡ []) × (d.schedule ≡ [])
+At m Ops d = (length d.items < 65536) × (d.caller < d.header.callers) × (d.schedule ≡ [])
+At m Turns d = (d.ops ≡ []) × (m ≡ Stepwise)
+At m p d = (d.items ≡ []) × (d.ops ≡ []) × (d.schedule ≡ [])
 
 -- what is read so far fits
 pub record Sound (m : Mode) (d : Writing) : Type 0 where
@@ -130,24 +137,31 @@ pub record Sound (m : Mode) (d : Writing) : Type 0 where
   pub count : length d.items ≤ 65536
   pub items : All (ItemFits d.header) d.items
   pub ops : ScriptFits d.header.words d.ops
-  pub here : At d.place d
+  pub schedule : ScheduleFits m d.header d.schedule
+  pub turns : d.turns ≡ all_turns d.schedule
+  pub here : At m d.place d
 
 none-fit : (words : ℕ) → ScriptFits words []
 none-fit words = record { count = omega arith; each = All-nil (OpFits words) }
 
-head-by : (q : Place) (d : Writing) → (d.items ≡ []) → (d.ops ≡ []) → q ≢ Ops → At q d
-head-by Items d i o n = o
-head-by Ops d i o n = absurd (n refl)
-head-by Version d i o n = (i, o)
-head-by Words d i o n = (i, o)
-head-by Callers d i o n = (i, o)
-head-by Records d i o n = (i, o)
-head-by Ring d i o n = (i, o)
-head-by Reads d i o n = (i, o)
-head-by Writes d i o n = (i, o)
-head-by Clock d i o n = (i, o)
-head-by Algorithm d i o n = (i, o)
-head-by Structures d i o n = (i, o)
+none-planned : (m : Mode) (h : Header) → ScheduleFits m h []
+none-planned Run h = refl
+none-planned Stepwise h = (All-nil (GoFits h), omega arith)
+
+head-by : (m : Mode) (q : Place) (d : Writing) → (d.items ≡ []) → (d.ops ≡ []) → (d.schedule ≡ []) → q ≢ Ops → q ≢ Turns → At m q d
+head-by m Items d i o s n t = (o, s)
+head-by m Ops d i o s n t = absurd (n refl)
+head-by m Turns d i o s n t = absurd (t refl)
+head-by m Version d i o s n t = (i, o, s)
+head-by m Words d i o s n t = (i, o, s)
+head-by m Callers d i o s n t = (i, o, s)
+head-by m Records d i o s n t = (i, o, s)
+head-by m Ring d i o s n t = (i, o, s)
+head-by m Reads d i o s n t = (i, o, s)
+head-by m Writes d i o s n t = (i, o, s)
+head-by m Clock d i o s n t = (i, o, s)
+head-by m Algorithm d i o s n t = (i, o, s)
+head-by m Structures d i o s n t = (i, o, s)
 
 next-by : (p : Place) → next_line p ≢ Ops
 next-by Version e = cc
@@ -162,26 +176,87 @@ next-by Algorithm e = cc
 next-by Structures e = cc
 next-by Items e = cc
 next-by Ops e = cc
+next-by Turns e = cc
 
-head-sound : (m : Mode) (d : Writing) (p : Place) (h : Header) → (d.items ≡ []) → (d.ops ≡ []) → HeaderFits m h → Sound m (after (Head (next_line p) h) d)
-head-sound m d p h i o f = record {
+next-no_turns : (p : Place) → next_line p ≢ Turns
+next-no_turns Version e = cc
+next-no_turns Words e = cc
+next-no_turns Callers e = cc
+next-no_turns Records e = cc
+next-no_turns Ring e = cc
+next-no_turns Reads e = cc
+next-no_turns Writes e = cc
+next-no_turns Clock e = cc
+next-no_turns Algorithm e = cc
+next-no_turns Structures e = cc
+next-no_turns Items e = cc
+next-no_turns Ops e = cc
+next-no_turns Turns e = cc
+
+head-sound : (m : Mode) (d : Writing) (p : Place) (h : Header) → (d.items ≡ []) × (d.ops ≡ []) × (d.schedule ≡ []) → d.turns ≡ all_turns d.schedule → HeaderFits m h → Sound m (after (Head (next_line p) h) d)
+head-sound m d p h none turns f = let i = none.0 in let o = none.1 in record {
   header = f;
   count = omega (arith, ap length i);
   items = subst (All (ItemFits h)) (sym i) (All-nil (ItemFits h));
   ops = subst (ScriptFits h.words) (sym o) (none-fit h.words);
-  here = head-by (next_line p) (record d { place = next_line p; header = h }) i o (next-by p);
+  schedule = subst (ScheduleFits m h) (sym none.2) (none-planned m h);
+  turns = turns;
+  here = head-by m (next_line p) (record d { place = next_line p; header = h }) i o none.2 (next-by p) (next-no_turns p);
 }
 
 -- a step leaves what fits
 abbrev pub Leaves : Mode → Writing → Step → Type 0
 Leaves m d step = Sound m (after step d)
 
-begun-sound : (m : Mode) (d : Writing) (c : ℕ) → Sound m d → c < d.header.callers → Gives (Leaves m d) (begun d c)
-begun-sound m d c s lt = if-gives (Leaves m d) (ltb (length d.items) 65536) (Ok (Begin c)) 10
+begun-sound : (m : Mode) (d : Writing) (c : ℕ) → Sound m d → d.schedule ≡ [] → c < d.header.callers → Gives (Leaves m d) (begun d c)
+begun-sound m d c s none lt = if-gives (Leaves m d) (ltb (length d.items) 65536) (Ok (Begin c)) 10
     (λ e. let room : length d.items < 65536 = grind (arith, nat_tests) in
-    record { header = s.header; count = s.count; items = s.items; ops = s.ops; here = (room, lt) })
+    record { header = s.header; count = s.count; items = s.items; ops = s.ops; schedule = s.schedule; turns = s.turns; here = (room, lt, none) })
 
-added-sound : (m : Mode) (d : Writing) (op : Op) → Sound m d → At Ops d → d.place ≡ Ops → OpFits d.header.words op → Gives (Leaves m d) (added d op)
+changed-sound : (m : Mode) (d : Writing) (c : ℕ) (alg : Alg) → Sound m d → At m Items d → d.place ≡ Items → c < d.header.callers → alg ≡ Cgl → Gives (Leaves m d) (changed d c alg)
+changed-sound m d c alg s at p lt is = if-gives (Leaves m d) (ltb (length d.items) 65536) (Ok (Change c alg)) 10
+    (λ e. let room : length d.items < 65536 = grind (arith, nat_tests) in
+    let more : Writing = record d { items = d.items ++ Switch c alg ∷ [] } in
+    record {
+      header = s.header;
+      count = omega (arith, length-append d.items (Switch c alg ∷ []));
+      items = All-push (ItemFits d.header) d.items (Switch c alg) s.items (lt, is);
+      ops = s.ops;
+      schedule = s.schedule;
+      turns = s.turns;
+      here = subst (λ q. At m q more) (sym p) at;
+    })
+
+all_turns-push : (gos : List Go) (go : Go) → all_turns (gos ++ go ∷ []) ≡ all_turns gos + go.turns
+all_turns-push [] go = omega arith
+all_turns-push (g ∷ gos) go = let e = all_turns-push gos go in omega arith
+
+more-fits : (m : Mode) (h : Header) (gos : List Go) (go : Go) → m ≡ Stepwise → ScheduleFits m h gos → GoFits h go → all_turns gos + go.turns ≤ 1000000 → ScheduleFits m h (gos ++ go ∷ [])
+more-fits Run h gos go is s g le = absurd cc
+more-fits Stepwise h gos go is s g le = let e = all_turns-push gos go in (All-push (GoFits h) gos go s.0 g, omega arith)
+
+planned-sound : (m : Mode) (d : Writing) (go : Go) → Sound m d → At m Turns d → d.place ≡ Turns → GoFits d.header go → Gives (Leaves m d) (planned d go)
+planned-sound m d go s at p fits = if-gives (Leaves m d) (leb (d.turns + go.turns) 1000000) (Ok (Turn go (d.turns + go.turns))) 10
+    (λ e. let turns = s.turns in
+    let most : d.turns + go.turns ≤ 1000000 = grind (arith, nat_tests) in
+    let sum = all_turns-push d.schedule go in
+    let more : Writing = record d { schedule = d.schedule ++ go ∷ []; turns = d.turns + go.turns } in
+    record {
+      header = s.header;
+      count = s.count;
+      items = s.items;
+      ops = s.ops;
+      schedule = more-fits m d.header d.schedule go at.1 s.schedule fits (omega arith);
+      turns = omega arith;
+      here = subst (λ q. At m q more) (sym p) at;
+    })
+
+scheduled-sound : (m : Mode) (d : Writing) → Sound m d → At m Items d → Gives (Leaves m d) (scheduled m)
+scheduled-sound Run d s at = tt
+scheduled-sound Stepwise d s at =
+    record { header = s.header; count = s.count; items = s.items; ops = s.ops; schedule = s.schedule; turns = s.turns; here = (at.0, refl) }
+
+added-sound : (m : Mode) (d : Writing) (op : Op) → Sound m d → At m Ops d → d.place ≡ Ops → OpFits d.header.words op → Gives (Leaves m d) (added d op)
 added-sound m d op s at p fits = if-gives (Leaves m d) (ltb (length d.ops) 4096) (Ok (Add op)) 10
     (λ e. let room : length d.ops < 4096 = grind (arith, nat_tests) in
     let more : Writing = record d { ops = d.ops ++ op ∷ [] } in
@@ -190,16 +265,20 @@ added-sound m d op s at p fits = if-gives (Leaves m d) (ltb (length d.ops) 4096)
       count = s.count;
       items = s.items;
       ops = record { count = omega (arith, length-append d.ops (op ∷ [])); each = All-push (OpFits d.header.words) d.ops op s.ops.each fits };
-      here = subst (λ q. At q more) (sym p) at;
+      schedule = s.schedule;
+      turns = s.turns;
+      here = subst (λ q. At m q more) (sym p) at;
     })
 
-ended-sound : (m : Mode) (d : Writing) → Sound m d → At Ops d → Sound m (after End d)
+ended-sound : (m : Mode) (d : Writing) → Sound m d → At m Ops d → Sound m (after End d)
 ended-sound m d s at = record {
   header = s.header;
   count = let room = at.0 in omega (arith, length-append d.items (Tx d.caller d.ops ∷ []));
   items = All-push (ItemFits d.header) d.items (Tx d.caller d.ops) s.items (at.1, s.ops);
   ops = none-fit d.header.words;
-  here = refl;
+  schedule = s.schedule;
+  turns = s.turns;
+  here = (refl, at.2);
 }
 
 address-fits : (d : Writing) (a : List ℕ) → Gives (λ k. k < d.header.words) (address d a)
@@ -213,34 +292,63 @@ operands-fit d a v =
     (λ i h. then-gives (λ n. n < 2 ^ 64) P (formed (number_of v)) (λ n. below d.header.words i >>= λ j. Ok (j, n)) (formed-fits v)
     (λ n k. then-gives (λ j. j < d.header.words) P (below d.header.words i) (λ j. Ok (j, n)) (below-fits d.header.words i) (λ j l. (l, k))))
 
-one-sound : (m : Mode) (d : Writing) (p : Place) (w : List ℕ) → Sound m d → At p d → Gives (Leaves m d) (one_word p w)
-one-sound m d Items w s at = named-gives (Leaves m d) (codes "done") w (Ok Done) s
-one-sound m d Ops w s at = named-gives (Leaves m d) (codes "end") w (Ok End) (ended-sound m d s at)
-one-sound m d Version w s at = tt
-one-sound m d Words w s at = tt
-one-sound m d Callers w s at = tt
-one-sound m d Records w s at = tt
-one-sound m d Ring w s at = tt
-one-sound m d Reads w s at = tt
-one-sound m d Writes w s at = tt
-one-sound m d Clock w s at = tt
-one-sound m d Algorithm w s at = tt
-one-sound m d Structures w s at = tt
+caller-fits : (d : Writing) (v : List ℕ) → Gives (λ c. c < d.header.callers) (caller_of d v)
+caller-fits d v =
+    then-gives (λ n. n < 2 ^ 64) (λ c. c < d.header.callers) (formed (number_of v)) (below d.header.callers) (formed-fits v) (λ n h. below-fits d.header.callers n)
 
-heads-sound : (m : Mode) (d : Writing) (p : Place) (w v : List ℕ) → Sound m d → (d.items ≡ []) × (d.ops ≡ [])
+move-fits : (d : Writing) (a b v : List ℕ) → Gives (OpFits d.header.words) (move_of d a b v)
+move-fits d a b v =
+    let w = d.header.words in
+    let P : Op → Type 0 = OpFits w in
+    then-gives (λ n. n < 2 ^ 64) P (formed (number_of a)) (λ i. formed (number_of b) >>= λ j. formed (number_of v) >>= λ n. below w i >>= λ x. below w j >>= λ y. Ok (Move x y n)) (formed-fits a)
+    (λ i h. then-gives (λ n. n < 2 ^ 64) P (formed (number_of b)) (λ j. formed (number_of v) >>= λ n. below w i >>= λ x. below w j >>= λ y. Ok (Move x y n)) (formed-fits b)
+    (λ j g. then-gives (λ n. n < 2 ^ 64) P (formed (number_of v)) (λ n. below w i >>= λ x. below w j >>= λ y. Ok (Move x y n)) (formed-fits v)
+    (λ n k. then-gives (λ x. x < w) P (below w i) (λ x. below w j >>= λ y. Ok (Move x y n)) (below-fits w i)
+    (λ x l. then-gives (λ y. y < w) P (below w j) (λ y. Ok (Move x y n)) (below-fits w j) (λ y u. (l, u, k))))))
+
+go-fits : (d : Writing) (a v : List ℕ) → Gives (GoFits d.header) (go_of d a v)
+go-fits d a v =
+    let P : Go → Type 0 = GoFits d.header in
+    let made : ℕ → ℕ → Result Go ℕ = λ c t. Ok (record { caller = c; turns = t }) in
+    then-gives (λ n. n < 2 ^ 64) P (formed (number_of a)) (λ i. formed (number_of v) >>= λ n. below d.header.callers i >>= λ c. ranged 1 1000000 n >>= made c) (formed-fits a)
+    (λ i h. then-gives (λ n. n < 2 ^ 64) P (formed (number_of v)) (λ n. below d.header.callers i >>= λ c. ranged 1 1000000 n >>= made c) (formed-fits v)
+    (λ n k. then-gives (λ c. c < d.header.callers) P (below d.header.callers i) (λ c. ranged 1 1000000 n >>= made c) (below-fits d.header.callers i)
+    (λ c l. then-gives (λ t. (1 ≤ t) × (t ≤ 1000000)) P (ranged 1 1000000 n) (made c) (ranged-fits 1 1000000 n) (λ t u. (l, u.0, u.1)))))
+
+pub if-both : {A : Type 0} (P : A → Type 0) (b : Bool) (x y : Result A ℕ) → Gives P x → Gives P y → Gives P (if b then x else y)
+if-both P true x y h g = h
+if-both P false x y h g = g
+
+one-sound : (m : Mode) (d : Writing) (p : Place) (w : List ℕ) → Sound m d → At m p d → d.place ≡ p → Gives (Leaves m d) (one_word p m d w)
+one-sound m d Items w s at e =
+    if-both (Leaves m d) (bytes_eq w (codes "done")) (Ok Done) (named (codes "schedule") w (scheduled m)) s
+    (named-gives (Leaves m d) (codes "schedule") w (scheduled m) (scheduled-sound m d s at))
+one-sound m d Ops w s at e =
+    if-both (Leaves m d) (bytes_eq w (codes "cancel")) (added d Cancel) (named (codes "end") w (Ok End)) (added-sound m d Cancel s at e tt)
+    (named-gives (Leaves m d) (codes "end") w (Ok End) (ended-sound m d s at))
+one-sound m d Turns w s at e = named-gives (Leaves m d) (codes "done") w (Ok Done) s
+one-sound m d Version w s at e = tt
+one-sound m d Words w s at e = tt
+one-sound m d Callers w s at e = tt
+one-sound m d Records w s at e = tt
+one-sound m d Ring w s at e = tt
+one-sound m d Reads w s at e = tt
+one-sound m d Writes w s at e = tt
+one-sound m d Clock w s at e = tt
+one-sound m d Algorithm w s at e = tt
+one-sound m d Structures w s at e = tt
+
+heads-sound : (m : Mode) (d : Writing) (p : Place) (w v : List ℕ) → Sound m d → (d.items ≡ []) × (d.ops ≡ []) × (d.schedule ≡ [])
     → Gives (Leaves m d) (header_line m p d.header w v >>= λ h. Ok (Head (next_line p) h))
 heads-sound m d p w v s at =
     then-gives (HeaderFits m) (Leaves m d) (header_line m p d.header w v) (λ h. Ok (Head (next_line p) h)) (header_line-fits m p d.header w v s.header)
-    (λ h f. head-sound m d p h at.0 at.1 f)
+    (λ h f. head-sound m d p h at s.turns f)
 
-two-sound : (m : Mode) (d : Writing) (p : Place) (w v : List ℕ) → Sound m d → At p d → d.place ≡ p → Gives (Leaves m d) (two_words p m d w v)
+two-sound : (m : Mode) (d : Writing) (p : Place) (w v : List ℕ) → Sound m d → At m p d → d.place ≡ p → Gives (Leaves m d) (two_words p m d w v)
 two-sound m d Items w v s at e =
-    let P : ℕ → Type 0 = λ c. c < d.header.callers in
-    let callers : Result ℕ ℕ = formed (number_of v) >>= below d.header.callers in
-    named-gives (Leaves m d) (codes "tx") w (callers >>= begun d)
-    (then-gives P (Leaves m d) callers (begun d)
-    (then-gives (λ n. n < 2 ^ 64) P (formed (number_of v)) (below d.header.callers) (formed-fits v) (λ n h. below-fits d.header.callers n))
-    (λ c lt. begun-sound m d c s lt))
+    named-gives (Leaves m d) (codes "tx") w (caller_of d v >>= begun d)
+    (then-gives (λ c. c < d.header.callers) (Leaves m d) (caller_of d v) (begun d) (caller-fits d v) (λ c lt. begun-sound m d c s at.1 lt))
+two-sound m d Turns w v s at e = tt
 two-sound m d Ops w v s at e =
     named-gives (Leaves m d) (codes "read") w (address d v >>= λ a. added d (Read a))
     (then-gives (λ a. a < d.header.words) (Leaves m d) (address d v) (λ a. added d (Read a)) (address-fits d v) (λ a lt. added-sound m d (Read a) s at e lt))
@@ -255,11 +363,7 @@ two-sound m d Clock w v s at e = heads-sound m d Clock w v s at
 two-sound m d Algorithm w v s at e = heads-sound m d Algorithm w v s at
 two-sound m d Structures w v s at e = heads-sound m d Structures w v s at
 
-pub if-both : {A : Type 0} (P : A → Type 0) (b : Bool) (x y : Result A ℕ) → Gives P x → Gives P y → Gives P (if b then x else y)
-if-both P true x y h g = h
-if-both P false x y h g = g
-
-three-sound : (m : Mode) (d : Writing) (p : Place) (w a v : List ℕ) → Sound m d → At p d → d.place ≡ p → Gives (Leaves m d) (three_words p d w a v)
+three-sound : (m : Mode) (d : Writing) (p : Place) (w a v : List ℕ) → Sound m d → At m p d → d.place ≡ p → Gives (Leaves m d) (three_words p d w a v)
 three-sound m d Ops w a v s at e =
     let P : ℕ × ℕ → Type 0 = λ p. (p.0 < d.header.words) × (p.1 < 2 ^ 64) in
     let writes : Result Step ℕ = operands d a v >>= λ p. added d (Write p.0 p.1) in
@@ -268,7 +372,14 @@ three-sound m d Ops w a v s at e =
     (then-gives P (Leaves m d) (operands d a v) (λ p. added d (Write p.0 p.1)) (operands-fit d a v) (λ p h. added-sound m d (Write p.0 p.1) s at e h))
     (named-gives (Leaves m d) (codes "add") w adds
     (then-gives P (Leaves m d) (operands d a v) (λ p. added d (Sum p.0 p.1)) (operands-fit d a v) (λ p h. added-sound m d (Sum p.0 p.1) s at e h)))
-three-sound m d Items w a v s at e = tt
+three-sound m d Items w a v s at e =
+    let switches : Result Step ℕ = caller_of d a >>= λ c. algorithm v >>= λ alg. changed d c alg in
+    named-gives (Leaves m d) (codes "switch") w switches
+    (then-gives (λ c. c < d.header.callers) (Leaves m d) (caller_of d a) (λ c. algorithm v >>= λ alg. changed d c alg) (caller-fits d a)
+    (λ c lt. then-gives (λ alg. alg ≡ Cgl) (Leaves m d) (algorithm v) (λ alg. changed d c alg) (algorithm-fits v) (λ alg is. changed-sound m d c alg s at e lt is)))
+three-sound m d Turns w a v s at e =
+    named-gives (Leaves m d) (codes "go") w (go_of d a v >>= planned d)
+    (then-gives (GoFits d.header) (Leaves m d) (go_of d a v) (planned d) (go-fits d a v) (λ go fits. planned-sound m d go s at e fits))
 three-sound m d Version w a v s at e = tt
 three-sound m d Words w a v s at e = tt
 three-sound m d Callers w a v s at e = tt
@@ -280,19 +391,40 @@ three-sound m d Clock w a v s at e = tt
 three-sound m d Algorithm w a v s at e = tt
 three-sound m d Structures w a v s at e = tt
 
+four-sound : (m : Mode) (d : Writing) (p : Place) (w a b v : List ℕ) → Sound m d → At m p d → d.place ≡ p → Gives (Leaves m d) (four_words p d w a b v)
+four-sound m d Ops w a b v s at e =
+    named-gives (Leaves m d) (codes "move") w (move_of d a b v >>= added d)
+    (then-gives (OpFits d.header.words) (Leaves m d) (move_of d a b v) (added d) (move-fits d a b v) (λ op fits. added-sound m d op s at e fits))
+four-sound m d Version w a b v s at e = tt
+four-sound m d Words w a b v s at e = tt
+four-sound m d Callers w a b v s at e = tt
+four-sound m d Records w a b v s at e = tt
+four-sound m d Ring w a b v s at e = tt
+four-sound m d Reads w a b v s at e = tt
+four-sound m d Writes w a b v s at e = tt
+four-sound m d Clock w a b v s at e = tt
+four-sound m d Algorithm w a b v s at e = tt
+four-sound m d Structures w a b v s at e = tt
+four-sound m d Items w a b v s at e = tt
+four-sound m d Turns w a b v s at e = tt
+
 pub filled-gives : (P : Step → Type 0) (w : List ℕ) (rest : Result Step ℕ) → Gives P rest → Gives P (filled w rest)
 filled-gives P [] rest h = tt
 filled-gives P (b ∷ bs) rest h = h
 
 words-sound : (m : Mode) (d : Writing) (ws : List (List ℕ)) → Sound m d → Gives (Leaves m d) (by_words m d ws)
 words-sound m d [] s = tt
-words-sound m d (w ∷ []) s = one-sound m d d.place w s s.here
+words-sound m d (w ∷ []) s = one-sound m d d.place w s s.here refl
 words-sound m d (w ∷ v ∷ []) s =
     filled-gives (Leaves m d) v (two_words d.place m d w v) (two-sound m d d.place w v s s.here refl)
 words-sound m d (w ∷ a ∷ v ∷ []) s =
     filled-gives (Leaves m d) a (filled v (three_words d.place d w a v))
     (filled-gives (Leaves m d) v (three_words d.place d w a v) (three-sound m d d.place w a v s s.here refl))
-words-sound m d (w ∷ a ∷ v ∷ x ∷ ws) s = tt
+words-sound m d (w ∷ a ∷ b ∷ v ∷ []) s =
+    let four : Result Step ℕ = four_words d.place d w a b v in
+    filled-gives (Leaves m d) a (filled b (filled v four))
+    (filled-gives (Leaves m d) b (filled v four) (filled-gives (Leaves m d) v four (four-sound m d d.place w a b v s s.here refl)))
+words-sound m d (w ∷ a ∷ b ∷ v ∷ x ∷ ws) s = tt
 
 pub step-sound : (m : Mode) (d : Writing) (l : Line) → Sound m d → Gives (Leaves m d) (step_of m d l)
 step-sound m d l s =
@@ -301,7 +433,7 @@ step-sound m d l s =
     (if-both (Leaves m d) l.ended words (Err 3) (words-sound m d (words_of l.bytes) s) tt)
 
 ended-built : (m : Mode) (d : Writing) (k : ℕ) (ls : List Line) → Sound m d → Gives (IsBuilt m) (ended d k ls)
-ended-built m d k [] s = record { header = s.header; count = s.count; items = s.items; schedule = refl }
+ended-built m d k [] s = record { header = s.header; count = s.count; items = s.items; schedule = s.schedule }
 ended-built m d k (l ∷ ls) s = tt
 
 go_on-built : (m : Mode) (d : Writing) (k : ℕ) (ls : List Line) (r : Result Step ℕ) (rest : Writing → Result Workload (ℕ × ℕ)) → Gives (Leaves m d) r → Sound m d → ((e : Writing) → Sound m e → Gives (IsBuilt m) (rest e))
@@ -310,7 +442,10 @@ go_on-built m d k ls (Err c) rest h s g = tt
 go_on-built m d k ls (Ok Done) rest h s g = ended-built m d (k + 1) ls s
 go_on-built m d k ls (Ok (Head p x)) rest h s g = g (after (Head p x) d) h
 go_on-built m d k ls (Ok (Begin c)) rest h s g = g (after (Begin c) d) h
+go_on-built m d k ls (Ok (Change c a)) rest h s g = g (after (Change c a) d) h
 go_on-built m d k ls (Ok (Add op)) rest h s g = g (after (Add op) d) h
+go_on-built m d k ls (Ok Schedule) rest h s g = g (after Schedule d) h
+go_on-built m d k ls (Ok (Turn go all)) rest h s g = g (after (Turn go all) d) h
 go_on-built m d k ls (Ok End) rest h s g = g (after End d) h
 
 parsed-built : (m : Mode) (d : Writing) (k : ℕ) (ls : List Line) → Sound m d → Gives (IsBuilt m) (parsed m d k ls)
@@ -334,7 +469,9 @@ opening-sound Run = record {
   count = omega arith;
   items = All-nil (ItemFits opening.header);
   ops = none-fit 1;
-  here = (refl, refl);
+  schedule = none-planned Run opening.header;
+  turns = refl;
+  here = (refl, refl, refl);
 }
 opening-sound Stepwise = record {
   header = record {
@@ -351,7 +488,9 @@ opening-sound Stepwise = record {
   count = omega arith;
   items = All-nil (ItemFits opening.header);
   ops = none-fit 1;
-  here = (refl, refl);
+  schedule = none-planned Stepwise opening.header;
+  turns = refl;
+  here = (refl, refl, refl);
 }
 
 -- a workload of lines from the start on fits

@@ -1,6 +1,6 @@
 -- A text that is read as a workload is that workload's text.
-use Rattle.std.proofs.Common.{ℕ, ◌≡◌, ◌≢◌, ◌<◌, ◌+◌, ◌-◌, ◌*◌, ◌^◌, List, [], ◌∷◌, ◌++◌, Bool, true, false, ◌&&◌, Option, Some, None, Result, Ok, Err, refl, sym, ap, ◌∙◌, subst, arith, rules, length, take, get_or, append_assoc, append-nil}
-use Rattle.std.specs.Prelude.{◌==◌, if◌then◌else◌, leb, ltb, codes, map, bytes_eq}
+use Rattle.std.proofs.Common.{ℕ, ◌≡◌, ◌≢◌, ◌<◌, ◌+◌, ◌-◌, ◌*◌, ◌^◌, List, [], ◌∷◌, ◌++◌, Bool, true, false, ◌&&◌, Option, Some, None, Result, Ok, Err, refl, sym, ap, ◌∙◌, subst, arith, rules, length, take, get_or, append_assoc, append-nil, inl, inr}
+use Rattle.std.specs.Prelude.{◌==◌, ◌⊎◌, if◌then◌else◌, leb, ltb, codes, map, bytes_eq}
 use Rattle.std.specs.Fmt.{decimal}
 use Rattle.std.proofs.lemmas.Fmt.{decimal-digits_value}
 use Rattle.std.proofs.lemmas.Str.Parse.{IsNumeralModel, IsDigitsTest, FoldsDigits, numerals_by_fold}
@@ -9,20 +9,22 @@ use Rattle.std.proofs.lemmas.Slice.Eq.{bytes_eq-Decides}
 use Rattle.stm_model.specs.declared.alg.Alg.{Alg}
 use Rattle.stm_model.specs.declared.alg.Alg.TheVariants.{Cgl}
 use Rattle.stm_script.specs.declared.op.Op.{Op}
-use Rattle.stm_script.specs.declared.op.Op.TheVariants.{Read, Write, Add as Sum}
+use Rattle.stm_script.specs.declared.op.Op.TheVariants.{Read, Write, Add as Sum, Move, Cancel}
 use Rattle.stm_script.specs.declared.workload.Header.{Header}
 use Rattle.stm_script.specs.declared.workload.Item.{Item}
-use Rattle.stm_script.specs.declared.workload.Item.TheVariants.{Tx}
+use Rattle.stm_script.specs.declared.workload.Item.TheVariants.{Tx, Switch}
+use Rattle.stm_script.specs.declared.workload.Go.{Go}
 use Rattle.stm_script.specs.declared.workload.Workload.{Workload}
 use Rattle.stm_text.specs.declared.draft.Place.{Place}
-use Rattle.stm_text.specs.declared.draft.Place.TheVariants.{Version, Words, Callers, Records, Ring, Reads, Writes, Clock, Algorithm, Structures, Items, Ops}
+use Rattle.stm_text.specs.declared.draft.Place.TheVariants.{Version, Words, Callers, Records, Ring, Reads, Writes, Clock, Algorithm, Structures, Items, Ops, Turns}
 use Rattle.stm_text.specs.declared.draft.Step.{Step}
-use Rattle.stm_text.specs.declared.draft.Step.TheVariants.{Head, Begin, Add, End, Done}
+use Rattle.stm_text.specs.declared.draft.Step.TheVariants.{Head, Begin, Change, Add, End, Schedule, Turn, Done}
 use Rattle.stm_text.specs.declared.parse.Mode.{Mode}
+use Rattle.stm_text.specs.declared.parse.Mode.TheVariants.{Run, Step as Stepwise}
 use Rattle.stm_text.specs.Lines.{Line, with_byte, lines_of, with_letter, words_of, any_bad, number_from, number_of}
 use Rattle.stm_text.specs.Drafts.{Writing, after, opening}
-use Rattle.stm_text.specs.Grammar.{◌>>=◌, named, formed, ranged, below, number, algorithm, most_callers, sized, header_line, next_line, begun, added, address, operands, one_word, two_words, three_words, filled, by_words, step_of, ended, go_on, parsed, workload_of}
-use Rattle.stm_text.specs.Texts.{joined, line, name_of, op_words, item_lines, items_lines, header_lines, workload_lines, lines_text, text_of}
+use Rattle.stm_text.specs.Grammar.{◌>>=◌, named, formed, ranged, below, number, algorithm, most_callers, sized, header_line, next_line, begun, changed, added, planned, scheduled, caller_of, address, operands, move_of, go_of, one_word, two_words, three_words, four_words, filled, by_words, step_of, ended, go_on, parsed, workload_of}
+use Rattle.stm_text.specs.Texts.{joined, line, name_of, op_words, item_lines, items_lines, header_lines, go_words, section_lines, schedule_lines, lines_with, lines_text, AreLinesOf, IsTextOf}
 use Rattle.stm_text.proofs.LineLaws.{words_of-some}
 use Rattle.stm_text.proofs.Decimals.{IsDigit, Digits}
 use Rattle.stm_text.proofs.BuiltLaws.{Gives, then-gives, if-gives, if-both, filled-gives, Fits64, number_from-fits, At, Sound, Leaves, step-sound, opening-sound}
@@ -147,14 +149,17 @@ ranged-says low high n w is = if-gives (λ k. w ≡ decimal k) (leb low n && leb
 abbrev Names : List ℕ → List ℕ → List ℕ → ℕ → Type 0
 Names name w v n = (w ≡ name) × (v ≡ decimal n)
 
+gives-with : {A B : Type 0} (P Q : A → Type 0) (r : Result A B) → Gives P r → ((a : A) → P a → Q a) → Gives Q r
+gives-with P Q (Ok a) h g = g a h
+gives-with P Q (Err c) h g = tt
+
+algorithm-says : (w : List ℕ) → Gives (λ a. w ≡ name_of a) (algorithm w)
+algorithm-says w = if-gives (λ a. w ≡ name_of a) (bytes_eq w (codes "CGL")) (Ok Cgl) 7 (λ e. (bytes_eq-Decides w (codes "CGL")).0 e)
+
 sized-says : (name : List ℕ) (low high : ℕ) (w v : List ℕ) → Gives (Names name w v) (sized name low high w v)
 sized-says name low high w v = named-says (Names name w v) name w (number low high v)
     (λ is. then-gives (λ n. v ≡ decimal n) (Names name w v) (formed (number_of v)) (ranged low high) (formed-says v)
     (λ n h. gives-with (λ k. v ≡ decimal k) (Names name w v) (ranged low high n) (ranged-says low high n v h) (λ k g. (is, g))))
-  where
-    gives-with : {A : Type 0} (P Q : A → Type 0) (r : Result A ℕ) → Gives P r → ((a : A) → P a → Q a) → Gives Q r
-    gives-with P Q (Ok a) h g = g a h
-    gives-with P Q (Err c) h g = tt
 
 -- the lines so far
 
@@ -171,12 +176,14 @@ rank Algorithm = 8
 rank Structures = 9
 rank Items = 10
 rank Ops = 10
+rank Turns = 10
 
 abbrev head_so_far : Place → Header → List (List (List ℕ))
 head_so_far p h = take (rank p) (header_lines h)
 
 abbrev open_lines : Place → Writing → List (List (List ℕ))
 open_lines Ops d = (codes "tx" ∷ decimal d.caller ∷ []) ∷ map op_words d.ops
+open_lines Turns d = section_lines d.schedule
 open_lines p d = []
 
 abbrev written_at : Place → Writing → List (List (List ℕ))
@@ -209,7 +216,7 @@ header_line-grows m Clock h w v = number-grows Clock h (codes "clock") 0 (2 ^ 62
 header_line-grows m Algorithm h w v =
     let Says : Alg → Type 0 = λ a. (w ≡ codes "alg") × (v ≡ name_of a) in
     then-gives Says (HeadGrows Algorithm h w v) (named (codes "alg") w (algorithm v)) (λ a. Ok (record h { alg = a }))
-    (named-says Says (codes "alg") w (algorithm v) (λ a. if-gives Says (bytes_eq v (codes "CGL")) (Ok Cgl) 7 (λ e. (a, (bytes_eq-Decides v (codes "CGL")).0 e))))
+    (named-says Says (codes "alg") w (algorithm v) (λ a. gives-with (λ x. v ≡ name_of x) Says (algorithm v) (algorithm-says v) (λ x is. (a, is))))
     (λ a is. two-same (head_so_far Algorithm h) (codes "alg") (name_of a) w v is.0 is.1)
 header_line-grows m Structures h w v =
     let off : Header = record h { structs = false } in
@@ -217,6 +224,7 @@ header_line-grows m Structures h w v =
     (λ a. named-says (HeadGrows Structures h w v) (codes "off") v (Ok off) (λ b. two-same (head_so_far Structures h) (codes "structs") (codes "off") w v a b))
 header_line-grows m Items h w v = tt
 header_line-grows m Ops h w v = tt
+header_line-grows m Turns h w v = tt
 
 map-append : {A B : Type 0} (f : A → B) (xs ys : List A) → map f (xs ++ ys) ≡ map f xs ++ map f ys
 map-append f [] ys = refl
@@ -231,9 +239,12 @@ items_lines-append (i ∷ is) js =
 abbrev Grows : Place → Writing → List (List ℕ) → Step → Type 0
 Grows p d ws (Head q h) = written_at q (after (Head q h) d) ≡ written_at p d ++ ws ∷ []
 Grows p d ws (Begin c) = written_at Ops (after (Begin c) d) ≡ written_at p d ++ ws ∷ []
+Grows p d ws (Change c a) = (d.place ≡ Items) × (written_at Items (after (Change c a) d) ≡ written_at p d ++ ws ∷ [])
 Grows p d ws (Add op) = (d.place ≡ Ops) × (written_at Ops (after (Add op) d) ≡ written_at p d ++ ws ∷ [])
 Grows p d ws End = written_at Items (after End d) ≡ written_at p d ++ ws ∷ []
-Grows p d ws Done = (d.place ≡ Items) × (ws ≡ (codes "done" ∷ []))
+Grows p d ws Schedule = written_at Turns (after Schedule d) ≡ written_at p d ++ ws ∷ []
+Grows p d ws (Turn go all) = (d.place ≡ Turns) × (written_at Turns (after (Turn go all) d) ≡ written_at p d ++ ws ∷ [])
+Grows p d ws Done = ((d.place ≡ Items) ⊎ (d.place ≡ Turns)) × (ws ≡ (codes "done" ∷ []))
 
 none-between : (a b x : List (List (List ℕ))) (items : List Item) → items ≡ [] → a ≡ b ++ x → a ++ (items_lines items ++ []) ≡ (b ++ (items_lines items ++ [])) ++ x
 none-between a b x items none is =
@@ -260,6 +271,24 @@ end-grows d =
     ap (λ t. head_so_far Items d.header ++ (t ++ [])) (items_lines-append d.items (Tx d.caller d.ops ∷ []))
     ∙ end-regroup (head_so_far Items d.header) (items_lines d.items) ((codes "tx" ∷ decimal d.caller ∷ []) ∷ []) (map op_words d.ops) ((codes "end" ∷ []) ∷ [])
 
+change-regroup : (a i x : List (List (List ℕ))) → a ++ ((i ++ x) ++ []) ≡ (a ++ (i ++ [])) ++ x
+change-regroup a i x = simp (append_assoc, append-nil)
+
+change-grows : (d : Writing) (c : ℕ) (a : Alg) → written_at Items (after (Change c a) d) ≡ written_at Items d ++ (codes "switch" ∷ decimal c ∷ name_of a ∷ []) ∷ []
+change-grows d c a =
+    ap (λ t. head_so_far Items d.header ++ (t ++ [])) (items_lines-append d.items (Switch c a ∷ []))
+    ∙ change-regroup (head_so_far Items d.header) (items_lines d.items) ((codes "switch" ∷ decimal c ∷ name_of a ∷ []) ∷ [])
+
+schedule-grows : (d : Writing) → d.schedule ≡ [] → written_at Turns (after Schedule d) ≡ written_at Items d ++ (codes "schedule" ∷ []) ∷ []
+schedule-grows d none =
+    ap (λ gs. head_so_far Items d.header ++ (items_lines d.items ++ section_lines gs)) none
+    ∙ snoc-grows (head_so_far Items d.header) (items_lines d.items) [] ((codes "schedule" ∷ []) ∷ [])
+
+turn-grows : (d : Writing) (go : Go) (all : ℕ) → written_at Turns (after (Turn go all) d) ≡ written_at Turns d ++ go_words go ∷ []
+turn-grows d go all =
+    ap (λ t. head_so_far Turns d.header ++ (items_lines d.items ++ ((codes "schedule" ∷ []) ∷ t))) (map-append go_words d.schedule (go ∷ []))
+    ∙ snoc-grows (head_so_far Turns d.header) (items_lines d.items) (section_lines d.schedule) (go_words go ∷ [])
+
 one-line : (xs : List (List (List ℕ))) (a w : List ℕ) → w ≡ a → xs ++ (a ∷ []) ∷ [] ≡ xs ++ (w ∷ []) ∷ []
 one-line xs a w p = ap (λ x. xs ++ (x ∷ []) ∷ []) (sym p)
 
@@ -267,22 +296,48 @@ three-same : (xs : List (List (List ℕ))) (a b c w v x : List ℕ) → w ≡ a 
 three-same xs a b c w v x p q r =
     ap (λ y. xs ++ (y ∷ b ∷ c ∷ []) ∷ []) (sym p) ∙ (ap (λ y. xs ++ (w ∷ y ∷ c ∷ []) ∷ []) (sym q) ∙ ap (λ y. xs ++ (w ∷ v ∷ y ∷ []) ∷ []) (sym r))
 
-one-grows : (d : Writing) (p : Place) (w : List ℕ) → d.place ≡ p → Gives (Grows p d (w ∷ [])) (one_word p w)
-one-grows d Items w e = named-says (Grows Items d (w ∷ [])) (codes "done") w (Ok Done) (λ is. (e, ap (λ x. x ∷ []) is))
-one-grows d Ops w e = named-says (Grows Ops d (w ∷ [])) (codes "end") w (Ok End) (λ is. end-grows d ∙ one-line (written_at Ops d) (codes "end") w is)
-one-grows d Version w e = tt
-one-grows d Words w e = tt
-one-grows d Callers w e = tt
-one-grows d Records w e = tt
-one-grows d Ring w e = tt
-one-grows d Reads w e = tt
-one-grows d Writes w e = tt
-one-grows d Clock w e = tt
-one-grows d Algorithm w e = tt
-one-grows d Structures w e = tt
+four-same : (xs : List (List (List ℕ))) (a b c e w v x y : List ℕ) → w ≡ a → v ≡ b → x ≡ c → y ≡ e → xs ++ (a ∷ b ∷ c ∷ e ∷ []) ∷ [] ≡ xs ++ (w ∷ v ∷ x ∷ y ∷ []) ∷ []
+four-same xs a b c e w v x y p q r t =
+    ap (λ z. xs ++ (z ∷ b ∷ c ∷ e ∷ []) ∷ []) (sym p)
+    ∙ (ap (λ z. xs ++ (w ∷ z ∷ c ∷ e ∷ []) ∷ []) (sym q) ∙ (ap (λ z. xs ++ (w ∷ v ∷ z ∷ e ∷ []) ∷ []) (sym r) ∙ ap (λ z. xs ++ (w ∷ v ∷ x ∷ z ∷ []) ∷ []) (sym t)))
+
+if-else-says : (P : Step → Type 0) (name w : List ℕ) (x y : Result Step ℕ) → (w ≡ name → Gives P x) → Gives P y → Gives P (if bytes_eq w name then x else y)
+if-else-says P name w x y h g = by (bytes_eq w name) (λ e. h ((bytes_eq-Decides w name).0 e))
+  where
+    by : (b : Bool) → (b ≡ true → Gives P x) → Gives P (if b then x else y)
+    by true f = f refl
+    by false f = g
 
 added-grows : (d : Writing) (ws : List (List ℕ)) (op : Op) → d.place ≡ Ops → written_at Ops d ++ op_words op ∷ [] ≡ written_at Ops d ++ ws ∷ [] → Gives (Grows Ops d ws) (added d op)
 added-grows d ws op e same = if-gives (Grows Ops d ws) (ltb (length d.ops) 4096) (Ok (Add op)) 10 (λ _. (e, add-grows d op ∙ same))
+
+scheduled-grows : (m : Mode) (d : Writing) (w : List ℕ) → d.schedule ≡ [] → w ≡ codes "schedule" → Gives (Grows Items d (w ∷ [])) (scheduled m)
+scheduled-grows Run d w none is = tt
+scheduled-grows Stepwise d w none is = schedule-grows d none ∙ one-line (written_at Items d) (codes "schedule") w is
+
+one-grows : (m : Mode) (d : Writing) (p : Place) (w : List ℕ) → At m p d → d.place ≡ p → Gives (Grows p d (w ∷ [])) (one_word p m d w)
+one-grows m d Items w at e =
+    if-else-says (Grows Items d (w ∷ [])) (codes "done") w (Ok Done) (named (codes "schedule") w (scheduled m)) (λ is. (inl e, ap (λ x. x ∷ []) is))
+    (named-says (Grows Items d (w ∷ [])) (codes "schedule") w (scheduled m) (λ is. scheduled-grows m d w at.1 is))
+one-grows m d Ops w at e =
+    if-else-says (Grows Ops d (w ∷ [])) (codes "cancel") w (added d Cancel) (named (codes "end") w (Ok End))
+    (λ is. added-grows d (w ∷ []) Cancel e (one-line (written_at Ops d) (codes "cancel") w is))
+    (named-says (Grows Ops d (w ∷ [])) (codes "end") w (Ok End) (λ is. end-grows d ∙ one-line (written_at Ops d) (codes "end") w is))
+one-grows m d Turns w at e = named-says (Grows Turns d (w ∷ [])) (codes "done") w (Ok Done) (λ is. (inr e, ap (λ x. x ∷ []) is))
+one-grows m d Version w at e = tt
+one-grows m d Words w at e = tt
+one-grows m d Callers w at e = tt
+one-grows m d Records w at e = tt
+one-grows m d Ring w at e = tt
+one-grows m d Reads w at e = tt
+one-grows m d Writes w at e = tt
+one-grows m d Clock w at e = tt
+one-grows m d Algorithm w at e = tt
+one-grows m d Structures w at e = tt
+
+caller-says : (d : Writing) (v : List ℕ) → Gives (λ c. v ≡ decimal c) (caller_of d v)
+caller-says d v =
+    then-gives (λ n. v ≡ decimal n) (λ c. v ≡ decimal c) (formed (number_of v)) (below d.header.callers) (formed-says v) (λ n is. below-says d.header.callers n v is)
 
 address-says : (d : Writing) (a : List ℕ) → Gives (λ k. a ≡ decimal k) (address d a)
 address-says d a =
@@ -295,6 +350,34 @@ operands-say d a v =
     (λ i h. then-gives (λ n. v ≡ decimal n) P (formed (number_of v)) (λ n. below d.header.words i >>= λ j. Ok (j, n)) (formed-says v)
     (λ n k. then-gives (λ j. a ≡ decimal j) P (below d.header.words i) (λ j. Ok (j, n)) (below-says d.header.words i a h) (λ j l. (l, k))))
 
+abbrev IsMove : List ℕ → List ℕ → List ℕ → Op → Type 0
+IsMove a b v op = op_words op ≡ codes "move" ∷ a ∷ b ∷ v ∷ []
+
+move-same : (a b v x y z : List ℕ) → a ≡ x → b ≡ y → v ≡ z → codes "move" ∷ x ∷ y ∷ z ∷ [] ≡ codes "move" ∷ a ∷ b ∷ v ∷ []
+move-same a b v x y z p q r = cc
+
+move-says : (d : Writing) (a b v : List ℕ) → Gives (IsMove a b v) (move_of d a b v)
+move-says d a b v =
+    let w = d.header.words in
+    let P : Op → Type 0 = IsMove a b v in
+    then-gives (λ n. a ≡ decimal n) P (formed (number_of a)) (λ i. formed (number_of b) >>= λ j. formed (number_of v) >>= λ n. below w i >>= λ x. below w j >>= λ y. Ok (Move x y n)) (formed-says a)
+    (λ i h. then-gives (λ n. b ≡ decimal n) P (formed (number_of b)) (λ j. formed (number_of v) >>= λ n. below w i >>= λ x. below w j >>= λ y. Ok (Move x y n)) (formed-says b)
+    (λ j g. then-gives (λ n. v ≡ decimal n) P (formed (number_of v)) (λ n. below w i >>= λ x. below w j >>= λ y. Ok (Move x y n)) (formed-says v)
+    (λ n k. then-gives (λ x. a ≡ decimal x) P (below w i) (λ x. below w j >>= λ y. Ok (Move x y n)) (below-says w i a h)
+    (λ x l. then-gives (λ y. b ≡ decimal y) P (below w j) (λ y. Ok (Move x y n)) (below-says w j b g)
+    (λ y u. move-same a b v (decimal x) (decimal y) (decimal n) l u k)))))
+
+abbrev IsGo : List ℕ → List ℕ → Go → Type 0
+IsGo a v go = (a ≡ decimal go.caller) × (v ≡ decimal go.turns)
+
+go-says : (d : Writing) (a v : List ℕ) → Gives (IsGo a v) (go_of d a v)
+go-says d a v =
+    let made : ℕ → ℕ → Result Go ℕ = λ c t. Ok (record { caller = c; turns = t }) in
+    then-gives (λ n. a ≡ decimal n) (IsGo a v) (formed (number_of a)) (λ i. formed (number_of v) >>= λ n. below d.header.callers i >>= λ c. ranged 1 1000000 n >>= made c) (formed-says a)
+    (λ i h. then-gives (λ n. v ≡ decimal n) (IsGo a v) (formed (number_of v)) (λ n. below d.header.callers i >>= λ c. ranged 1 1000000 n >>= made c) (formed-says v)
+    (λ n k. then-gives (λ c. a ≡ decimal c) (IsGo a v) (below d.header.callers i) (λ c. ranged 1 1000000 n >>= made c) (below-says d.header.callers i a h)
+    (λ c l. then-gives (λ t. v ≡ decimal t) (IsGo a v) (ranged 1 1000000 n) (made c) (ranged-says 1 1000000 n v k) (λ t u. (l, u)))))
+
 heads-grow : (m : Mode) (d : Writing) (p : Place) (w v : List ℕ) → d.items ≡ [] → open_lines p d ≡ []
     → ((h : Header) → open_lines (next_line p) (after (Head (next_line p) h) d) ≡ [])
     → Gives (Grows p d (w ∷ v ∷ [])) (header_line m p d.header w v >>= λ h. Ok (Head (next_line p) h))
@@ -305,16 +388,15 @@ heads-grow m d p w v none here opens =
     ∙ (none-between (head_so_far (next_line p) h) (head_so_far p d.header) ((w ∷ v ∷ []) ∷ []) d.items none is
     ∙ ap (λ t. (head_so_far p d.header ++ (items_lines d.items ++ t)) ++ (w ∷ v ∷ []) ∷ []) (sym here)))
 
-two-grows : (m : Mode) (d : Writing) (p : Place) (w v : List ℕ) → At p d → d.place ≡ p → Gives (Grows p d (w ∷ v ∷ [])) (two_words p m d w v)
+two-grows : (m : Mode) (d : Writing) (p : Place) (w v : List ℕ) → At m p d → d.place ≡ p → Gives (Grows p d (w ∷ v ∷ [])) (two_words p m d w v)
 two-grows m d Items w v at e =
     let P : ℕ → Type 0 = λ c. v ≡ decimal c in
-    let callers : Result ℕ ℕ = formed (number_of v) >>= below d.header.callers in
-    named-says (Grows Items d (w ∷ v ∷ [])) (codes "tx") w (callers >>= begun d)
-    (λ name. then-gives P (Grows Items d (w ∷ v ∷ [])) callers (begun d)
-    (then-gives P P (formed (number_of v)) (below d.header.callers) (formed-says v) (λ n is. below-says d.header.callers n v is))
+    named-says (Grows Items d (w ∷ v ∷ [])) (codes "tx") w (caller_of d v >>= begun d)
+    (λ name. then-gives P (Grows Items d (w ∷ v ∷ [])) (caller_of d v) (begun d) (caller-says d v)
     (λ c is. if-gives (Grows Items d (w ∷ v ∷ [])) (ltb (length d.items) 65536) (Ok (Begin c)) 10
-    (λ _. begin-grows (head_so_far Items d.header) (items_lines d.items) ((codes "tx" ∷ decimal c ∷ []) ∷ []) d.ops at
+    (λ _. begin-grows (head_so_far Items d.header) (items_lines d.items) ((codes "tx" ∷ decimal c ∷ []) ∷ []) d.ops at.0
     ∙ two-same (written_at Items d) (codes "tx") (decimal c) w v name is)))
+two-grows m d Turns w v at e = tt
 two-grows m d Ops w v at e =
     named-says (Grows Ops d (w ∷ v ∷ [])) (codes "read") w (address d v >>= λ a. added d (Read a))
     (λ name. then-gives (λ a. v ≡ decimal a) (Grows Ops d (w ∷ v ∷ [])) (address d v) (λ a. added d (Read a)) (address-says d v)
@@ -330,12 +412,15 @@ two-grows m d Clock w v at e = heads-grow m d Clock w v at.0 refl (λ h. refl)
 two-grows m d Algorithm w v at e = heads-grow m d Algorithm w v at.0 refl (λ h. refl)
 two-grows m d Structures w v at e = heads-grow m d Structures w v at.0 refl (λ h. refl)
 
-if-else-says : (P : Step → Type 0) (name w : List ℕ) (x y : Result Step ℕ) → (w ≡ name → Gives P x) → Gives P y → Gives P (if bytes_eq w name then x else y)
-if-else-says P name w x y h g = by (bytes_eq w name) (λ e. h ((bytes_eq-Decides w name).0 e))
-  where
-    by : (b : Bool) → (b ≡ true → Gives P x) → Gives P (if b then x else y)
-    by true f = f refl
-    by false f = g
+changed-grows : (d : Writing) (c : ℕ) (alg : Alg) (w a v : List ℕ) → d.place ≡ Items → w ≡ codes "switch" → a ≡ decimal c → v ≡ name_of alg → Gives (Grows Items d (w ∷ a ∷ v ∷ [])) (changed d c alg)
+changed-grows d c alg w a v e p q r =
+    if-gives (Grows Items d (w ∷ a ∷ v ∷ [])) (ltb (length d.items) 65536) (Ok (Change c alg)) 10
+    (λ _. (e, change-grows d c alg ∙ three-same (written_at Items d) (codes "switch") (decimal c) (name_of alg) w a v p q r))
+
+planned-grows : (d : Writing) (go : Go) (w a v : List ℕ) → d.place ≡ Turns → w ≡ codes "go" → IsGo a v go → Gives (Grows Turns d (w ∷ a ∷ v ∷ [])) (planned d go)
+planned-grows d go w a v e p is =
+    if-gives (Grows Turns d (w ∷ a ∷ v ∷ [])) (leb (d.turns + go.turns) 1000000) (Ok (Turn go (d.turns + go.turns))) 10
+    (λ _. (e, turn-grows d go (d.turns + go.turns) ∙ three-same (written_at Turns d) (codes "go") (decimal go.caller) (decimal go.turns) w a v p is.0 is.1))
 
 three-grows : (d : Writing) (p : Place) (w a v : List ℕ) → d.place ≡ p → Gives (Grows p d (w ∷ a ∷ v ∷ [])) (three_words p d w a v)
 three-grows d Ops w a v e =
@@ -349,7 +434,15 @@ three-grows d Ops w a v e =
     (named-says (Grows Ops d ws) (codes "add") w adds
     (λ name. then-gives P (Grows Ops d ws) (operands d a v) (λ p. added d (Sum p.0 p.1)) (operands-say d a v)
     (λ p is. added-grows d ws (Sum p.0 p.1) e (three-same (written_at Ops d) (codes "add") (decimal p.0) (decimal p.1) w a v name is.0 is.1))))
-three-grows d Items w a v e = tt
+three-grows d Items w a v e =
+    let P : Step → Type 0 = Grows Items d (w ∷ a ∷ v ∷ []) in
+    named-says P (codes "switch") w (caller_of d a >>= λ c. algorithm v >>= λ alg. changed d c alg)
+    (λ name. then-gives (λ c. a ≡ decimal c) P (caller_of d a) (λ c. algorithm v >>= λ alg. changed d c alg) (caller-says d a)
+    (λ c k. then-gives (λ alg. v ≡ name_of alg) P (algorithm v) (λ alg. changed d c alg) (algorithm-says v) (λ alg l. changed-grows d c alg w a v e name k l)))
+three-grows d Turns w a v e =
+    let P : Step → Type 0 = Grows Turns d (w ∷ a ∷ v ∷ []) in
+    named-says P (codes "go") w (go_of d a v >>= planned d)
+    (λ name. then-gives (IsGo a v) P (go_of d a v) (planned d) (go-says d a v) (λ go is. planned-grows d go w a v e name is))
 three-grows d Version w a v e = tt
 three-grows d Words w a v e = tt
 three-grows d Callers w a v e = tt
@@ -361,21 +454,44 @@ three-grows d Clock w a v e = tt
 three-grows d Algorithm w a v e = tt
 three-grows d Structures w a v e = tt
 
-words-grow : (m : Mode) (d : Writing) (ws : List (List ℕ)) → At d.place d → Gives (Grows d.place d ws) (by_words m d ws)
+four-grows : (d : Writing) (p : Place) (w a b v : List ℕ) → d.place ≡ p → Gives (Grows p d (w ∷ a ∷ b ∷ v ∷ [])) (four_words p d w a b v)
+four-grows d Ops w a b v e =
+    let ws : List (List ℕ) = w ∷ a ∷ b ∷ v ∷ [] in
+    named-says (Grows Ops d ws) (codes "move") w (move_of d a b v >>= added d)
+    (λ name. then-gives (IsMove a b v) (Grows Ops d ws) (move_of d a b v) (added d) (move-says d a b v)
+    (λ op is. added-grows d ws op e (ap (λ x. written_at Ops d ++ x ∷ []) is ∙ four-same (written_at Ops d) (codes "move") a b v w a b v name refl refl refl)))
+four-grows d Version w a b v e = tt
+four-grows d Words w a b v e = tt
+four-grows d Callers w a b v e = tt
+four-grows d Records w a b v e = tt
+four-grows d Ring w a b v e = tt
+four-grows d Reads w a b v e = tt
+four-grows d Writes w a b v e = tt
+four-grows d Clock w a b v e = tt
+four-grows d Algorithm w a b v e = tt
+four-grows d Structures w a b v e = tt
+four-grows d Items w a b v e = tt
+four-grows d Turns w a b v e = tt
+
+words-grow : (m : Mode) (d : Writing) (ws : List (List ℕ)) → At m d.place d → Gives (Grows d.place d ws) (by_words m d ws)
 words-grow m d [] at = tt
-words-grow m d (w ∷ []) at = one-grows d d.place w refl
+words-grow m d (w ∷ []) at = one-grows m d d.place w at refl
 words-grow m d (w ∷ v ∷ []) at =
     filled-gives (Grows d.place d (w ∷ v ∷ [])) v (two_words d.place m d w v) (two-grows m d d.place w v at refl)
 words-grow m d (w ∷ a ∷ v ∷ []) at =
     let P : Step → Type 0 = Grows d.place d (w ∷ a ∷ v ∷ []) in
     filled-gives P a (filled v (three_words d.place d w a v)) (filled-gives P v (three_words d.place d w a v) (three-grows d d.place w a v refl))
-words-grow m d (w ∷ a ∷ v ∷ x ∷ ws) at = tt
+words-grow m d (w ∷ a ∷ b ∷ v ∷ []) at =
+    let P : Step → Type 0 = Grows d.place d (w ∷ a ∷ b ∷ v ∷ []) in
+    let four : Result Step ℕ = four_words d.place d w a b v in
+    filled-gives P a (filled b (filled v four)) (filled-gives P b (filled v four) (filled-gives P v four (four-grows d d.place w a b v refl)))
+words-grow m d (w ∷ a ∷ b ∷ v ∷ x ∷ ws) at = tt
 
 -- a line that makes a step has an LF
 abbrev Ends : Line → Writing → Step → Type 0
 Ends l d step = (l.ended ≡ true) × Grows d.place d (words_of l.bytes) step
 
-step-grows : (m : Mode) (d : Writing) (l : Line) → At d.place d → Gives (Ends l d) (step_of m d l)
+step-grows : (m : Mode) (d : Writing) (l : Line) → At m d.place d → Gives (Ends l d) (step_of m d l)
 step-grows m d l at =
     let words : Result Step ℕ = by_words m d (words_of l.bytes) in
     if-both (Ends l d) (any_bad l.bytes) (Err 2) (if l.ended then words else Err 3) tt
@@ -389,73 +505,114 @@ line-made : (l : Line) → l.ended ≡ true → l ≡ made (words_of l.bytes)
 line-made l e =
     ap (λ x. let k : Line = record { bytes = l.bytes; ended = x } in k) e ∙ ap (λ x. let k : Line = record { bytes = x; ended = true } in k) (sym (joined-words_of l.bytes))
 
--- the lines so far and those to come are the workload's
-abbrev IsWhole : List (List (List ℕ)) → List Line → Workload → Type 0
-IsWhole before ls w = map made before ++ ls ≡ map made (workload_lines w)
+-- the lines so far and those to come are these
+abbrev Meets : List (List (List ℕ)) → List Line → List (List (List ℕ)) → Type 0
+Meets before ls lines = map made before ++ ls ≡ map made lines
 
-whole-step : (before after' : List (List (List ℕ))) (l : Line) (ls : List Line) (w : Workload) → l.ended ≡ true → after' ≡ before ++ words_of l.bytes ∷ [] → IsWhole after' ls w → IsWhole before (l ∷ ls) w
-whole-step before after' l ls w e grows whole =
+-- they are the workload's
+abbrev IsWhole : Mode → List (List (List ℕ)) → List Line → Workload → Type 0
+IsWhole m before ls w = (lines : List (List (List ℕ))) × AreLinesOf m w lines × Meets before ls lines
+
+meets-step : (before after' : List (List (List ℕ))) (l : Line) (ls : List Line) (lines : List (List (List ℕ))) → l.ended ≡ true → after' ≡ before ++ words_of l.bytes ∷ [] → Meets after' ls lines → Meets before (l ∷ ls) lines
+meets-step before after' l ls lines e grows whole =
     ap (λ x. map made before ++ x ∷ ls) (line-made l e)
     ∙ (sym (append_assoc (map made before) (made (words_of l.bytes) ∷ []) ls)
     ∙ (ap (λ t. t ++ ls) (sym (map-append made before (words_of l.bytes ∷ []))) ∙ (ap (λ t. map made t ++ ls) (sym grows) ∙ whole)))
 
-done-regroup : (h i x : List (List (List ℕ))) → (h ++ (i ++ [])) ++ x ≡ h ++ (i ++ x)
-done-regroup h i x = simp (append_assoc, append-nil)
+whole-step : (m : Mode) (before after' : List (List (List ℕ))) (l : Line) (ls : List Line) (w : Workload) → l.ended ≡ true → after' ≡ before ++ words_of l.bytes ∷ [] → IsWhole m after' ls w → IsWhole m before (l ∷ ls) w
+whole-step m before after' l ls w e grows whole = (whole.0, whole.1, meets-step before after' l ls whole.0 e grows whole.2)
 
-ended-whole : (d : Writing) (k : ℕ) (l : Line) (ls : List Line) → Ends l d Done → Gives (IsWhole (written_at d.place d) (l ∷ ls)) (ended d k ls)
-ended-whole d k l [] h =
-    let place = h.1.0 in
-    let w : Workload = record { header = d.header; items = d.items; schedule = [] } in
-    let end : IsWhole (written_at Items d ++ words_of l.bytes ∷ []) [] w =
-    append-nil (map made (written_at Items d ++ words_of l.bytes ∷ []))
-    ∙ (ap (λ x. map made (written_at Items d ++ x ∷ [])) h.1.1
-    ∙ ap (map made) (done-regroup (header_lines d.header) (items_lines d.items) ((codes "done" ∷ []) ∷ []))) in
-    subst (λ p. IsWhole (written_at p d) (l ∷ []) w) (sym place) (whole-step (written_at Items d) (written_at Items d ++ words_of l.bytes ∷ []) l [] w h.0 refl end)
-ended-whole d k l (x ∷ ls) h = tt
+done-regroup : (h i s x : List (List (List ℕ))) → (h ++ (i ++ s)) ++ x ≡ h ++ (i ++ (s ++ x))
+done-regroup h i s x = simp append_assoc
 
-gives-with : {A B : Type 0} (P Q : A → Type 0) (r : Result A B) → Gives P r → ((a : A) → P a → Q a) → Gives Q r
-gives-with P Q (Ok a) h g = g a h
-gives-with P Q (Err c) h g = tt
+-- the workload of a draft
+abbrev whole : Writing → Workload
+whole d = record { header = d.header; items = d.items; schedule = d.schedule }
 
-go_on-whole : (m : Mode) (d : Writing) (k : ℕ) (l : Line) (ls : List Line) (r : Result Step ℕ) (rest : Writing → Result Workload (ℕ × ℕ)) → Gives (Leaves m d) r → Gives (Ends l d) r
-    → ((e : Writing) → Sound m e → Gives (IsWhole (written_at e.place e) ls) (rest e))
-    → Gives (IsWhole (written_at d.place d) (l ∷ ls)) (go_on r d k ls rest)
-go_on-whole m d k l ls (Err c) rest s h g = tt
-go_on-whole m d k l ls (Ok Done) rest s h g = ended-whole d (k + 1) l ls h
-go_on-whole m d k l ls (Ok (Head q x)) rest s h g =
+done-meets : (d : Writing) (l : Line) (before section : List (List (List ℕ))) → l.ended ≡ true → words_of l.bytes ≡ codes "done" ∷ [] → before ≡ header_lines d.header ++ (items_lines d.items ++ section)
+    → Meets before (l ∷ []) (lines_with section (whole d))
+done-meets d l before section e is same =
+    let end : Meets (before ++ words_of l.bytes ∷ []) [] (lines_with section (whole d)) =
+    append-nil (map made (before ++ words_of l.bytes ∷ []))
+    ∙ (ap (λ x. map made (before ++ x ∷ [])) is
+    ∙ (ap (λ x. map made (x ++ (codes "done" ∷ []) ∷ [])) same
+    ∙ ap (map made) (done-regroup (header_lines d.header) (items_lines d.items) section ((codes "done" ∷ []) ∷ [])))) in
+    meets-step before (before ++ words_of l.bytes ∷ []) l [] (lines_with section (whole d)) e refl end
+
+plain-are : (m : Mode) (w : Workload) → w.schedule ≡ [] → AreLinesOf m w (lines_with [] w)
+plain-are m w none = inl (ap (λ gs. lines_with (schedule_lines gs) w) (sym none))
+
+section-are : (m : Mode) (w : Workload) (gos : List Go) → w.schedule ≡ gos → m ≡ Stepwise → AreLinesOf m w (lines_with (section_lines gos) w)
+section-are m w [] none step = inr (step, none, refl)
+section-are m w (g ∷ gs) is step = inl (ap (λ x. lines_with (schedule_lines x) w) (sym is))
+
+done-whole : (m : Mode) (d : Writing) (l : Line) → Sound m d → l.ended ≡ true → words_of l.bytes ≡ codes "done" ∷ [] → (d.place ≡ Items) ⊎ (d.place ≡ Turns) → IsWhole m (written_at d.place d) (l ∷ []) (whole d)
+done-whole m d l s e is (inl place) =
+    let at : At m Items d = subst (λ p. At m p d) place s.here in
+    (lines_with [] (whole d), plain-are m (whole d) at.1, done-meets d l (written_at d.place d) [] e is (ap (λ p. written_at p d) place))
+done-whole m d l s e is (inr place) =
+    let at : At m Turns d = subst (λ p. At m p d) place s.here in (
+      lines_with (section_lines d.schedule) (whole d),
+      section-are m (whole d) d.schedule refl at.1,
+      done-meets d l (written_at d.place d) (section_lines d.schedule) e is (ap (λ p. written_at p d) place),
+    )
+
+ended-whole : (m : Mode) (d : Writing) (k : ℕ) (l : Line) (ls : List Line) → Sound m d → Ends l d Done → Gives (IsWhole m (written_at d.place d) (l ∷ ls)) (ended d k ls)
+ended-whole m d k l [] s h = done-whole m d l s h.0 h.1.1 h.1.0
+ended-whole m d k l (x ∷ ls) s h = tt
+
+go_on-whole : (m : Mode) (d : Writing) (k : ℕ) (l : Line) (ls : List Line) (r : Result Step ℕ) (rest : Writing → Result Workload (ℕ × ℕ)) → Sound m d → Gives (Leaves m d) r → Gives (Ends l d) r
+    → ((e : Writing) → Sound m e → Gives (IsWhole m (written_at e.place e) ls) (rest e))
+    → Gives (IsWhole m (written_at d.place d) (l ∷ ls)) (go_on r d k ls rest)
+go_on-whole m d k l ls (Err c) rest now s h g = tt
+go_on-whole m d k l ls (Ok Done) rest now s h g = ended-whole m d (k + 1) l ls now h
+go_on-whole m d k l ls (Ok (Head q x)) rest now s h g =
     let e : Writing = after (Head q x) d in
-    gives-with (IsWhole (written_at q e) ls) (IsWhole (written_at d.place d) (l ∷ ls)) (rest e) (g e s) (λ w whole. whole-step (written_at d.place d) (written_at q e) l ls w h.0 h.1 whole)
-go_on-whole m d k l ls (Ok (Begin c)) rest s h g =
+    gives-with (IsWhole m (written_at q e) ls) (IsWhole m (written_at d.place d) (l ∷ ls)) (rest e) (g e s) (λ w whole. whole-step m (written_at d.place d) (written_at q e) l ls w h.0 h.1 whole)
+go_on-whole m d k l ls (Ok (Begin c)) rest now s h g =
     let e : Writing = after (Begin c) d in
-    gives-with (IsWhole (written_at Ops e) ls) (IsWhole (written_at d.place d) (l ∷ ls)) (rest e) (g e s) (λ w whole. whole-step (written_at d.place d) (written_at Ops e) l ls w h.0 h.1 whole)
-go_on-whole m d k l ls (Ok (Add op)) rest s h g =
+    gives-with (IsWhole m (written_at Ops e) ls) (IsWhole m (written_at d.place d) (l ∷ ls)) (rest e) (g e s) (λ w whole. whole-step m (written_at d.place d) (written_at Ops e) l ls w h.0 h.1 whole)
+go_on-whole m d k l ls (Ok End) rest now s h g =
+    let e : Writing = after End d in
+    gives-with (IsWhole m (written_at Items e) ls) (IsWhole m (written_at d.place d) (l ∷ ls)) (rest e) (g e s) (λ w whole. whole-step m (written_at d.place d) (written_at Items e) l ls w h.0 h.1 whole)
+go_on-whole m d k l ls (Ok Schedule) rest now s h g =
+    let e : Writing = after Schedule d in
+    gives-with (IsWhole m (written_at Turns e) ls) (IsWhole m (written_at d.place d) (l ∷ ls)) (rest e) (g e s) (λ w whole. whole-step m (written_at d.place d) (written_at Turns e) l ls w h.0 h.1 whole)
+go_on-whole m d k l ls (Ok (Change c a)) rest now s h g =
+    let e : Writing = after (Change c a) d in
+    let place = h.1.0 in
+    let grows : written_at d.place e ≡ written_at d.place d ++ words_of l.bytes ∷ [] = ap (λ p. written_at p e) place ∙ h.1.1 in
+    gives-with (IsWhole m (written_at d.place e) ls) (IsWhole m (written_at d.place d) (l ∷ ls)) (rest e) (g e s) (λ w whole. whole-step m (written_at d.place d) (written_at d.place e) l ls w h.0 grows whole)
+go_on-whole m d k l ls (Ok (Add op)) rest now s h g =
     let e : Writing = after (Add op) d in
     let place = h.1.0 in
     let grows : written_at d.place e ≡ written_at d.place d ++ words_of l.bytes ∷ [] = ap (λ p. written_at p e) place ∙ h.1.1 in
-    gives-with (IsWhole (written_at d.place e) ls) (IsWhole (written_at d.place d) (l ∷ ls)) (rest e) (g e s) (λ w whole. whole-step (written_at d.place d) (written_at d.place e) l ls w h.0 grows whole)
-go_on-whole m d k l ls (Ok End) rest s h g =
-    let e : Writing = after End d in
-    gives-with (IsWhole (written_at Items e) ls) (IsWhole (written_at d.place d) (l ∷ ls)) (rest e) (g e s) (λ w whole. whole-step (written_at d.place d) (written_at Items e) l ls w h.0 h.1 whole)
+    gives-with (IsWhole m (written_at d.place e) ls) (IsWhole m (written_at d.place d) (l ∷ ls)) (rest e) (g e s) (λ w whole. whole-step m (written_at d.place d) (written_at d.place e) l ls w h.0 grows whole)
+go_on-whole m d k l ls (Ok (Turn go all)) rest now s h g =
+    let e : Writing = after (Turn go all) d in
+    let place = h.1.0 in
+    let grows : written_at d.place e ≡ written_at d.place d ++ words_of l.bytes ∷ [] = ap (λ p. written_at p e) place ∙ h.1.1 in
+    gives-with (IsWhole m (written_at d.place e) ls) (IsWhole m (written_at d.place d) (l ∷ ls)) (rest e) (g e s) (λ w whole. whole-step m (written_at d.place d) (written_at d.place e) l ls w h.0 grows whole)
 
-parsed-whole : (m : Mode) (d : Writing) (k : ℕ) (ls : List Line) → Sound m d → Gives (IsWhole (written_at d.place d) ls) (parsed m d k ls)
+parsed-whole : (m : Mode) (d : Writing) (k : ℕ) (ls : List Line) → Sound m d → Gives (IsWhole m (written_at d.place d) ls) (parsed m d k ls)
 parsed-whole m d k [] s = tt
 parsed-whole m d k (l ∷ ls) s =
-    go_on-whole m d k l ls (step_of m d l) (λ e. parsed m e (k + 1) ls) (step-sound m d l s) (step-grows m d l s.here) (λ e t. parsed-whole m e (k + 1) ls t)
+    go_on-whole m d k l ls (step_of m d l) (λ e. parsed m e (k + 1) ls) s (step-sound m d l s) (step-grows m d l s.here) (λ e t. parsed-whole m e (k + 1) ls t)
 
-text-whole : (m : Mode) (text : List ℕ) → Gives (λ w. text ≡ text_of w) (parsed m opening 1 (lines_of text))
+text-whole : (m : Mode) (text : List ℕ) → Gives (λ w. IsTextOf m w text) (parsed m opening 1 (lines_of text))
 text-whole m text =
-    gives-with (IsWhole [] (lines_of text)) (λ w. text ≡ text_of w) (parsed m opening 1 (lines_of text)) (parsed-whole m opening 1 (lines_of text) (opening-sound m))
-    (λ w whole. sym (unlines-lines_of text) ∙ (ap unlines whole ∙ unlines-made (workload_lines w)))
+    gives-with (IsWhole m [] (lines_of text)) (λ w. IsTextOf m w text) (parsed m opening 1 (lines_of text)) (parsed-whole m opening 1 (lines_of text) (opening-sound m))
+    (λ w whole. (whole.0, whole.1, sym (unlines-lines_of text) ∙ (ap unlines whole.2 ∙ unlines-made whole.0)))
 
 given : {A B : Type 0} (P : A → Type 0) (r : Result A B) (a : A) → Gives P r → r ≡ Ok a → P a
 given P r a h is = subst (Gives P) is h
 
 -- a text that is read as a workload is that workload's text
-pub one-text : (m : Mode) (text : List ℕ) (w : Workload) → workload_of m text ≡ Ok w → text ≡ text_of w
+pub one-text : (m : Mode) (text : List ℕ) (w : Workload) → workload_of m text ≡ Ok w → IsTextOf m w text
 one-text m text w is =
-    given (λ x. text ≡ text_of x) (workload_of m text) w
+    given (λ x. IsTextOf m x text) (workload_of m text) w
     (by (ltb 16777216 (length text)) (parsed m opening 1 (lines_of text)) (text-whole m text)) is
   where
-    by : (b : Bool) (r : Result Workload (ℕ × ℕ)) → Gives (λ x. text ≡ text_of x) r → Gives (λ x. text ≡ text_of x) (if b then Err (0, 1) else r)
+    by : (b : Bool) (r : Result Workload (ℕ × ℕ)) → Gives (λ x. IsTextOf m x text) r → Gives (λ x. IsTextOf m x text) (if b then Err (0, 1) else r)
     by true r h = tt
     by false r h = h

@@ -1,27 +1,29 @@
 -- The text of a workload that fits is read as that workload.
-use Rattle.std.proofs.Common.{ℕ, ◌≡◌, ◌≢◌, ◌<◌, ◌≤◌, ◌+◌, ◌^◌, List, [], ◌∷◌, ◌++◌, true, false, Result, Ok, refl, sym, ap, subst, ◌∙◌, arith, length, append_assoc, append-nil, length-append}
+use Rattle.std.proofs.Common.{ℕ, ◌≡◌, ◌≢◌, ◌<◌, ◌≤◌, ◌+◌, ◌^◌, List, [], ◌∷◌, ◌++◌, true, false, Result, Ok, inl, inr, refl, sym, ap, subst, ◌∙◌, arith, length, append_assoc, append-nil, length-append}
 use Rattle.std.specs.Prelude.{leb, ltb, codes, map, bytes_eq, All}
 use Rattle.std.specs.Fmt.{decimal}
 use Rattle.std.proofs.lemmas.Bool.Decides.{nat_tests}
-use Rattle.std.proofs.lemmas.List.Elements.{All-head, All-tail}
+use Rattle.std.proofs.lemmas.List.Elements.{All-nil, All-head, All-tail}
+use Rattle.stm_model.specs.declared.alg.Alg.{Alg}
 use Rattle.stm_model.specs.declared.alg.Alg.TheVariants.{Cgl}
 use Rattle.stm_script.specs.declared.op.Op.{Op}
-use Rattle.stm_script.specs.declared.op.Op.TheVariants.{Read, Write, Add as Sum, Cancel}
+use Rattle.stm_script.specs.declared.op.Op.TheVariants.{Read, Write, Add as Sum, Move, Cancel}
 use Rattle.stm_script.specs.declared.workload.Header.{Header}
 use Rattle.stm_script.specs.declared.workload.Item.{Item}
 use Rattle.stm_script.specs.declared.workload.Item.TheVariants.{Tx, Switch}
+use Rattle.stm_script.specs.declared.workload.Go.{Go}
 use Rattle.stm_script.specs.declared.workload.Workload.{Workload}
 use Rattle.stm_text.specs.declared.draft.Place.{Place}
-use Rattle.stm_text.specs.declared.draft.Place.TheVariants.{Version, Words, Callers, Records, Ring, Reads, Writes, Clock, Algorithm, Structures, Items, Ops}
+use Rattle.stm_text.specs.declared.draft.Place.TheVariants.{Version, Words, Callers, Records, Ring, Reads, Writes, Clock, Algorithm, Structures, Items, Ops, Turns}
 use Rattle.stm_text.specs.declared.draft.Step.{Step}
-use Rattle.stm_text.specs.declared.draft.Step.TheVariants.{Head, Begin, Add, End, Done}
+use Rattle.stm_text.specs.declared.draft.Step.TheVariants.{Head, Begin, Change, Add, End, Schedule, Turn, Done}
 use Rattle.stm_text.specs.declared.parse.Mode.{Mode}
 use Rattle.stm_text.specs.declared.parse.Mode.TheVariants.{Run, Step as Stepwise}
 use Rattle.stm_text.specs.Lines.{Line, lines_of, words_of, any_bad, number_of}
 use Rattle.stm_text.specs.Drafts.{Writing, after, opening}
-use Rattle.stm_text.specs.Grammar.{◌>>=◌, formed, ranged, below, number, most_callers, sized, next_line, begun, added, address, operands, two_words, three_words, filled, by_words, step_of, go_on, parsed, workload_of}
-use Rattle.stm_text.specs.Built.{HeaderFits, OpFits, ItemFits, IsBuilt}
-use Rattle.stm_text.specs.Texts.{joined, line, op_words, items_lines, header_lines, lines_text, text_of}
+use Rattle.stm_text.specs.Grammar.{◌>>=◌, formed, ranged, below, number, most_callers, sized, next_line, begun, changed, added, planned, caller_of, address, operands, move_of, go_of, two_words, three_words, four_words, filled, by_words, step_of, go_on, parsed, workload_of}
+use Rattle.stm_text.specs.Built.{HeaderFits, OpFits, ItemFits, GoFits, all_turns, ScheduleFits, IsBuilt}
+use Rattle.stm_text.specs.Texts.{joined, line, name_of, op_words, items_lines, header_lines, go_words, section_lines, schedule_lines, lines_with, lines_text, AreLinesOf, IsTextOf}
 use Rattle.stm_text.proofs.LineLaws.{lines_of-first}
 use Rattle.stm_text.proofs.Decimals.{StartsDigit, digits-decimal}
 use Rattle.stm_text.proofs.WordLaws.{Visible, seen, AllVisible, visible-decimal, joined-good, joined-lacks, words_of-joined}
@@ -51,7 +53,10 @@ step-read m d k w ws rest step seen is more =
     go-by : (step : Step) (d : Writing) (k : ℕ) (ls : List Line) (rest : Writing → Result Workload (ℕ × ℕ)) → step ≢ Done → go_on (Ok step) d k ls rest ≡ rest (after step d)
     go-by (Head p h) d k ls rest n = refl
     go-by (Begin c) d k ls rest n = refl
+    go-by (Change c a) d k ls rest n = refl
     go-by (Add op) d k ls rest n = refl
+    go-by Schedule d k ls rest n = refl
+    go-by (Turn g t) d k ls rest n = refl
     go-by End d k ls rest n = refl
     go-by Done d k ls rest n = absurd (n refl)
 
@@ -82,13 +87,23 @@ added-room d op lt = let p : ltb (length d.ops) 4096 ≡ true = grind (arith, na
 begun-room : (d : Writing) (c : ℕ) → length d.items < 65536 → begun d c ≡ Ok (Begin c)
 begun-room d c lt = let p : ltb (length d.items) 65536 ≡ true = grind (arith, nat_tests) in rw p
 
+changed-room : (d : Writing) (c : ℕ) (a : Alg) → length d.items < 65536 → changed d c a ≡ Ok (Change c a)
+changed-room d c a lt = let p : ltb (length d.items) 65536 ≡ true = grind (arith, nat_tests) in rw p
+
+planned-room : (d : Writing) (go : Go) → d.turns + go.turns ≤ 1000000 → planned d go ≡ Ok (Turn go (d.turns + go.turns))
+planned-room d go le = let p : leb (d.turns + go.turns) 1000000 ≡ true = grind (arith, nat_tests) in rw p
+
 -- within a transaction
 abbrev in_tx : Header → List Item → ℕ → List Op → Writing
-in_tx h items caller ops = record { place = Ops; header = h; items = items; caller = caller; ops = ops }
+in_tx h items caller ops = record { place = Ops; header = h; items = items; caller = caller; ops = ops; schedule = []; turns = 0 }
 
 -- between transactions
 abbrev between : Header → List Item → ℕ → Writing
-between h items caller = record { place = Items; header = h; items = items; caller = caller; ops = [] }
+between h items caller = record { place = Items; header = h; items = items; caller = caller; ops = []; schedule = []; turns = 0 }
+
+-- within the schedule
+abbrev planning : Header → List Item → ℕ → List Go → ℕ → Writing
+planning h items caller gos all = record { place = Turns; header = h; items = items; caller = caller; ops = []; schedule = gos; turns = all }
 
 operands-decimal : (d : Writing) (a v : ℕ) → a < d.header.words → a < 2 ^ 64 → v < 2 ^ 64 → operands d (decimal a) (decimal v) ≡ Ok (a, v)
 operands-decimal d a v within fits value =
@@ -119,6 +134,27 @@ add-words m h items c ops a v within fits value room =
     ∙ (filled-decimal v (three_words Ops d (codes "add") (decimal a) (decimal v)) value
     ∙ (ap (λ r. r >>= λ p. added d (Sum p.0 p.1)) (operands-decimal d a v within fits value) ∙ added-room d (Sum a v) room))
 
+move_of-decimal : (d : Writing) (a b v : ℕ) → a < d.header.words → b < d.header.words → a < 2 ^ 64 → b < 2 ^ 64 → v < 2 ^ 64 → move_of d (decimal a) (decimal b) (decimal v) ≡ Ok (Move a b v)
+move_of-decimal d a b v from onto fa fb fv =
+    let w = d.header.words in
+    ap (λ r. r >>= λ i. formed (number_of (decimal b)) >>= λ j. formed (number_of (decimal v)) >>= λ n. below w i >>= λ x. below w j >>= λ y. Ok (Move x y n)) (formed-decimal a fa)
+    ∙ (ap (λ r. r >>= λ j. formed (number_of (decimal v)) >>= λ n. below w a >>= λ x. below w j >>= λ y. Ok (Move x y n)) (formed-decimal b fb)
+    ∙ (ap (λ r. r >>= λ n. below w a >>= λ x. below w b >>= λ y. Ok (Move x y n)) (formed-decimal v fv)
+    ∙ (ap (λ r. r >>= λ x. below w b >>= λ y. Ok (Move x y v)) (below-end w a from) ∙ ap (λ r. r >>= λ y. Ok (Move a y v)) (below-end w b onto))))
+
+move-words : (m : Mode) (h : Header) (items : List Item) (c : ℕ) (ops : List Op) (a b v : ℕ) → a < h.words → b < h.words → a < 2 ^ 64 → b < 2 ^ 64 → v < 2 ^ 64 → length ops < 4096
+    → by_words m (in_tx h items c ops) (codes "move" ∷ decimal a ∷ decimal b ∷ decimal v ∷ []) ≡ Ok (Add (Move a b v))
+move-words m h items c ops a b v from onto fa fb fv room =
+    let d : Writing = in_tx h items c ops in
+    let four : Result Step ℕ = four_words Ops d (codes "move") (decimal a) (decimal b) (decimal v) in
+    filled-decimal a (filled (decimal b) (filled (decimal v) four)) fa
+    ∙ (filled-decimal b (filled (decimal v) four) fb
+    ∙ (filled-decimal v four fv
+    ∙ (ap (λ r. r >>= added d) (move_of-decimal d a b v from onto fa fb fv) ∙ added-room d (Move a b v) room)))
+
+cancel-words : (m : Mode) (h : Header) (items : List Item) (c : ℕ) (ops : List Op) → length ops < 4096 → by_words m (in_tx h items c ops) (codes "cancel" ∷ []) ≡ Ok (Add Cancel)
+cancel-words m h items c ops room = added-room (in_tx h items c ops) Cancel room
+
 adds : (op : Op) → Add op ≢ Done
 adds op e = cc
 
@@ -136,7 +172,14 @@ op-read m h items c ops k (Sum a v) rest small fits room =
     let within = fits.0 in
     step-read m (in_tx h items c ops) k (codes "add") (decimal a ∷ decimal v ∷ []) rest (Add (Sum a v)) (seen (codes "add") refl, (visible-decimal a (omega arith), (visible-decimal v fits.1, tt)))
     (add-words m h items c ops a v within (omega arith) fits.1 room) (adds (Sum a v))
-op-read m h items c ops k Cancel rest small fits room = absurd fits
+op-read m h items c ops k (Move a b v) rest small fits room =
+    let from = fits.0 in
+    let onto = fits.1 in
+    step-read m (in_tx h items c ops) k (codes "move") (decimal a ∷ decimal b ∷ decimal v ∷ []) rest (Add (Move a b v))
+    (seen (codes "move") refl, (visible-decimal a (omega arith), (visible-decimal b (omega arith), (visible-decimal v fits.2, tt))))
+    (move-words m h items c ops a b v from onto (omega arith) (omega arith) fits.2 room) (adds (Move a b v))
+op-read m h items c ops k Cancel rest small fits room =
+    step-read m (in_tx h items c ops) k (codes "cancel") [] rest (Add Cancel) (seen (codes "cancel") refl, tt) (cancel-words m h items c ops room) (adds Cancel)
 
 -- the lines of operations
 ops-read : (m : Mode) (h : Header) (items : List Item) (c : ℕ) (before : List Op) (k : ℕ) (ops : List Op) (more : List (List (List ℕ))) → h.words ≤ 65536 → length before + length ops ≤ 4096 → All (OpFits h.words) ops
@@ -150,19 +193,68 @@ ops-read m h items c before k (op ∷ ops) more small room fits =
           ∙ (next.1 ∙ ap (λ o. parsed m (in_tx h items c o) next.0 (lines_of (lines_text more))) (append_assoc before (op ∷ []) ops)),
     )
 
+caller-decimal : (d : Writing) (c : ℕ) → c < d.header.callers → c < 2 ^ 64 → caller_of d (decimal c) ≡ Ok c
+caller-decimal d c within fits = ap (λ r. r >>= below d.header.callers) (formed-decimal c fits) ∙ below-end d.header.callers c within
+
 tx-read : (m : Mode) (h : Header) (items : List Item) (c k caller : ℕ) (rest : List ℕ) → caller < h.callers → h.callers ≤ 32 → length items < 65536
     → parsed m (between h items c) k (lines_of (line (codes "tx" ∷ decimal caller ∷ []) ++ rest)) ≡ parsed m (in_tx h items caller []) (k + 1) (lines_of rest)
 tx-read m h items c k caller rest within small room =
     let d : Writing = between h items c in
     let fits : caller < 2 ^ 64 = omega arith in
-    let at : (formed (number_of (decimal caller)) >>= below h.callers) ≡ Ok caller = ap (λ r. r >>= below h.callers) (formed-decimal caller fits) ∙ below-end h.callers caller within in
     let words : by_words m d (codes "tx" ∷ decimal caller ∷ []) ≡ Ok (Begin caller) =
-    filled-decimal caller (two_words Items m d (codes "tx") (decimal caller)) fits ∙ (ap (λ r. r >>= begun d) at ∙ begun-room d caller room) in
+    filled-decimal caller (two_words Items m d (codes "tx") (decimal caller)) fits ∙ (ap (λ r. r >>= begun d) (caller-decimal d caller within fits) ∙ begun-room d caller room) in
     step-read m d k (codes "tx") (decimal caller ∷ []) rest (Begin caller) (seen (codes "tx") refl, (visible-decimal caller fits, tt)) words (λ e. cc)
 
 end-read : (m : Mode) (h : Header) (items : List Item) (c k : ℕ) (ops : List Op) (rest : List ℕ)
     → parsed m (in_tx h items c ops) k (lines_of (line (codes "end" ∷ []) ++ rest)) ≡ parsed m (between h (items ++ Tx c ops ∷ []) c) (k + 1) (lines_of rest)
 end-read m h items c k ops rest = step-read m (in_tx h items c ops) k (codes "end") [] rest End (seen (codes "end") refl, tt) refl (λ e. cc)
+
+change-not : (c : ℕ) (a : Alg) → Change c a ≢ Done
+change-not c a e = cc
+
+switch-read : (m : Mode) (h : Header) (items : List Item) (c k caller : ℕ) (alg : Alg) (rest : List ℕ) → caller < h.callers → h.callers ≤ 32 → length items < 65536 → alg ≡ Cgl
+    → parsed m (between h items c) k (lines_of (line (codes "switch" ∷ decimal caller ∷ name_of alg ∷ []) ++ rest)) ≡ parsed m (between h (items ++ Switch caller alg ∷ []) c) (k + 1) (lines_of rest)
+switch-read m h items c k caller alg rest within small room is =
+    subst (λ a. parsed m (between h items c) k (lines_of (line (codes "switch" ∷ decimal caller ∷ name_of a ∷ []) ++ rest)) ≡ parsed m (between h (items ++ Switch caller a ∷ []) c) (k + 1) (lines_of rest))
+    (sym is)
+    (let d : Writing = between h items c in
+    let fits : caller < 2 ^ 64 = omega arith in
+    let words : by_words m d (codes "switch" ∷ decimal caller ∷ codes "CGL" ∷ []) ≡ Ok (Change caller Cgl) =
+    filled-decimal caller (three_words Items d (codes "switch") (decimal caller) (codes "CGL")) fits
+    ∙ (ap (λ r. r >>= λ x. changed d x Cgl) (caller-decimal d caller within fits) ∙ changed-room d caller Cgl room) in
+    step-read m d k (codes "switch") (decimal caller ∷ codes "CGL" ∷ []) rest (Change caller Cgl) (seen (codes "switch") refl, (visible-decimal caller fits, (seen (codes "CGL") refl, tt))) words (change-not caller Cgl))
+
+regroup : (o e i d : List (List (List ℕ))) → ((o ++ e) ++ i) ++ d ≡ o ++ (e ++ (i ++ d))
+regroup o e i d = simp append_assoc
+
+-- the lines of items
+items-read : (m : Mode) (h : Header) (before : List Item) (c k : ℕ) (items : List Item) (more : List (List (List ℕ))) → h.words ≤ 65536 → h.callers ≤ 32 → length before + length items ≤ 65536 → All (ItemFits h) items
+    → (x : ℕ) × (j : ℕ) × (parsed m (between h before c) k (lines_of (lines_text (items_lines items ++ more))) ≡ parsed m (between h (before ++ items) x) j (lines_of (lines_text more)))
+items-read m h before c k [] more small few room fits =
+    (c, k, ap (λ is. parsed m (between h is c) k (lines_of (lines_text more))) (sym (append-nil before)))
+items-read m h before c k (Tx caller ops ∷ items) more small few room fits =
+    let here = All-head (ItemFits h) (Tx caller ops) items fits in
+    let end : List (List (List ℕ)) = (codes "end" ∷ []) ∷ [] in
+    let rest : List (List (List ℕ)) = items_lines items ++ more in
+    let tx : List (List ℕ) = codes "tx" ∷ decimal caller ∷ [] in
+    let count = here.1.count in
+    let script = ops-read m h before caller [] (k + 1) ops (end ++ rest) small (omega arith) here.1.each in
+    let next = items-read m h (before ++ Tx caller ops ∷ []) caller (script.0 + 1) items more small few (omega (arith, length-append before (Tx caller ops ∷ []))) (All-tail (ItemFits h) (Tx caller ops) items fits) in (
+      next.0,
+      next.1,
+      ap (λ t. parsed m (between h before c) k (lines_of (line tx ++ lines_text t))) (regroup (map op_words ops) end (items_lines items) more)
+          ∙ (tx-read m h before c k caller (lines_text (map op_words ops ++ (end ++ rest))) here.0 few (omega arith)
+          ∙ (script.1 ∙ (end-read m h before caller script.0 ops (lines_text rest)
+          ∙ (next.2 ∙ ap (λ is. parsed m (between h is next.0) next.1 (lines_of (lines_text more))) (append_assoc before (Tx caller ops ∷ []) items))))),
+    )
+items-read m h before c k (Switch caller alg ∷ items) more small few room fits =
+    let here = All-head (ItemFits h) (Switch caller alg) items fits in
+    let next = items-read m h (before ++ Switch caller alg ∷ []) c (k + 1) items more small few (omega (arith, length-append before (Switch caller alg ∷ []))) (All-tail (ItemFits h) (Switch caller alg) items fits) in (
+      next.0,
+      next.1,
+      switch-read m h before c k caller alg (lines_text (items_lines items ++ more)) here.0 few (omega arith) here.1
+          ∙ (next.2 ∙ ap (λ is. parsed m (between h is next.0) next.1 (lines_of (lines_text more))) (append_assoc before (Switch caller alg ∷ []) items)),
+    )
 
 -- the line `done`
 abbrev done_line : List (List (List ℕ))
@@ -172,32 +264,67 @@ done-read : (m : Mode) (h : Header) (items : List Item) (c k : ℕ)
     → parsed m (between h items c) k (lines_of (lines_text done_line)) ≡ Ok (record { header = h; items = items; schedule = [] })
 done-read m h items c k = line-read m (between h items c) k (codes "done") [] [] (seen (codes "done") refl, tt)
 
-regroup : (o e i d : List (List (List ℕ))) → ((o ++ e) ++ i) ++ d ≡ o ++ (e ++ (i ++ d))
-regroup o e i d = simp append_assoc
+plan-done : (m : Mode) (h : Header) (items : List Item) (c : ℕ) (gos : List Go) (all k : ℕ)
+    → parsed m (planning h items c gos all) k (lines_of (lines_text done_line)) ≡ Ok (record { header = h; items = items; schedule = gos })
+plan-done m h items c gos all k = line-read m (planning h items c gos all) k (codes "done") [] [] (seen (codes "done") refl, tt)
 
--- the lines of items, and `done`
-items-read : (m : Mode) (h : Header) (before : List Item) (c k : ℕ) (items : List Item) → h.words ≤ 65536 → h.callers ≤ 32 → length before + length items ≤ 65536 → All (ItemFits h) items
-    → parsed m (between h before c) k (lines_of (lines_text (items_lines items ++ done_line))) ≡ Ok (record { header = h; items = before ++ items; schedule = [] })
-items-read m h before c k [] small few room fits =
-    done-read m h before c k ∙ ap (λ is. Ok (record { header = h; items = is; schedule = [] })) (sym (append-nil before))
-items-read m h before c k (Tx caller ops ∷ items) small few room fits =
-    let here = All-head (ItemFits h) (Tx caller ops) items fits in
-    let end : List (List (List ℕ)) = (codes "end" ∷ []) ∷ [] in
-    let rest : List (List (List ℕ)) = items_lines items ++ done_line in
-    let tx : List (List ℕ) = codes "tx" ∷ decimal caller ∷ [] in
-    let count = here.1.count in
-    let script = ops-read m h before caller [] (k + 1) ops (end ++ rest) small (omega arith) here.1.each in
-    let next = items-read m h (before ++ Tx caller ops ∷ []) caller (script.0 + 1) items small few (omega (arith, length-append before (Tx caller ops ∷ []))) (All-tail (ItemFits h) (Tx caller ops) items fits) in
-    ap (λ t. parsed m (between h before c) k (lines_of (line tx ++ lines_text t))) (regroup (map op_words ops) end (items_lines items) done_line)
-    ∙ (tx-read m h before c k caller (lines_text (map op_words ops ++ (end ++ rest))) here.0 few (omega arith)
-    ∙ (script.1 ∙ (end-read m h before caller script.0 ops (lines_text rest)
-    ∙ (next ∙ ap (λ is. Ok (record { header = h; items = is; schedule = [] })) (append_assoc before (Tx caller ops ∷ []) items)))))
-items-read m h before c k (Switch caller alg ∷ items) small few room fits =
-    absurd (All-head (ItemFits h) (Switch caller alg) items fits)
+go_of-decimal : (d : Writing) (go : Go) → GoFits d.header go → go.caller < 2 ^ 64 → go_of d (decimal go.caller) (decimal go.turns) ≡ Ok go
+go_of-decimal d go fits small =
+    let t = fits.2 in
+    let made : ℕ → ℕ → Result Go ℕ = λ c n. Ok (record { caller = c; turns = n }) in
+    ap (λ r. r >>= λ i. formed (number_of (decimal go.turns)) >>= λ n. below d.header.callers i >>= λ c. ranged 1 1000000 n >>= made c) (formed-decimal go.caller small)
+    ∙ (ap (λ r. r >>= λ n. below d.header.callers go.caller >>= λ c. ranged 1 1000000 n >>= made c) (formed-decimal go.turns (omega arith))
+    ∙ (ap (λ r. r >>= λ c. ranged 1 1000000 go.turns >>= made c) (below-end d.header.callers go.caller fits.0)
+    ∙ ap (λ r. r >>= made go.caller) (ranged-within 1 1000000 go.turns fits.1 fits.2)))
+
+turn-not : (go : Go) (all : ℕ) → Turn go all ≢ Done
+turn-not go all e = cc
+
+go-read : (m : Mode) (h : Header) (items : List Item) (c : ℕ) (gos : List Go) (all k : ℕ) (go : Go) (rest : List ℕ) → h.callers ≤ 32 → GoFits h go → all + go.turns ≤ 1000000
+    → parsed m (planning h items c gos all) k (lines_of (line (go_words go) ++ rest)) ≡ parsed m (planning h items c (gos ++ go ∷ []) (all + go.turns)) (k + 1) (lines_of rest)
+go-read m h items c gos all k go rest few fits room =
+    let d : Writing = planning h items c gos all in
+    let within = fits.0 in
+    let most = fits.2 in
+    let small : go.caller < 2 ^ 64 = omega arith in
+    let turns : go.turns < 2 ^ 64 = omega arith in
+    let three : Result Step ℕ = three_words Turns d (codes "go") (decimal go.caller) (decimal go.turns) in
+    let words : by_words m d (go_words go) ≡ Ok (Turn go (all + go.turns)) =
+    filled-decimal go.caller (filled (decimal go.turns) three) small
+    ∙ (filled-decimal go.turns three turns
+    ∙ (ap (λ r. r >>= planned d) (go_of-decimal d go fits small) ∙ planned-room d go room)) in
+    step-read m d k (codes "go") (decimal go.caller ∷ decimal go.turns ∷ []) rest (Turn go (all + go.turns)) (seen (codes "go") refl, (visible-decimal go.caller small, (visible-decimal go.turns turns, tt))) words (turn-not go (all + go.turns))
+
+-- the lines of turns, and `done`
+gos-read : (m : Mode) (h : Header) (items : List Item) (c : ℕ) (before : List Go) (all k : ℕ) (gos : List Go) → h.callers ≤ 32 → All (GoFits h) gos → all + all_turns gos ≤ 1000000
+    → parsed m (planning h items c before all) k (lines_of (lines_text (map go_words gos ++ done_line))) ≡ Ok (record { header = h; items = items; schedule = before ++ gos })
+gos-read m h items c before all k [] few fits room =
+    plan-done m h items c before all k ∙ ap (λ gs. Ok (record { header = h; items = items; schedule = gs })) (sym (append-nil before))
+gos-read m h items c before all k (go ∷ gos) few fits room =
+    go-read m h items c before all k go (lines_text (map go_words gos ++ done_line)) few (All-head (GoFits h) go gos fits) (omega arith)
+    ∙ (gos-read m h items c (before ++ go ∷ []) (all + go.turns) (k + 1) gos few (All-tail (GoFits h) go gos fits) (omega arith)
+    ∙ ap (λ gs. Ok (record { header = h; items = items; schedule = gs })) (append_assoc before (go ∷ []) gos))
+
+schedule-read : (h : Header) (items : List Item) (c k : ℕ) (rest : List ℕ)
+    → parsed Stepwise (between h items c) k (lines_of (line (codes "schedule" ∷ []) ++ rest)) ≡ parsed Stepwise (planning h items c [] 0) (k + 1) (lines_of rest)
+schedule-read h items c k rest = step-read Stepwise (between h items c) k (codes "schedule") [] rest Schedule (seen (codes "schedule") refl, tt) refl (λ e. cc)
+
+-- a schedule with its line, and `done`
+section-read : (h : Header) (items : List Item) (c k : ℕ) (gos : List Go) → h.callers ≤ 32 → ScheduleFits Stepwise h gos
+    → parsed Stepwise (between h items c) k (lines_of (lines_text (section_lines gos ++ done_line))) ≡ Ok (record { header = h; items = items; schedule = gos })
+section-read h items c k gos few fits =
+    schedule-read h items c k (lines_text (map go_words gos ++ done_line)) ∙ gos-read Stepwise h items c [] 0 (k + 1) gos few fits.0 (let most = fits.1 in omega arith)
+
+-- a schedule, and `done`
+plan-read : (m : Mode) (h : Header) (items : List Item) (c k : ℕ) (gos : List Go) → h.callers ≤ 32 → ScheduleFits m h gos
+    → parsed m (between h items c) k (lines_of (lines_text (schedule_lines gos ++ done_line))) ≡ Ok (record { header = h; items = items; schedule = gos })
+plan-read m h items c k [] few fits = done-read m h items c k
+plan-read Run h items c k (go ∷ gos) few fits = absurd cc
+plan-read Stepwise h items c k (go ∷ gos) few fits = section-read h items c k (go ∷ gos) few fits
 
 -- within the header
 abbrev in_header : Place → Header → Writing
-in_header p h = record { place = p; header = h; items = []; caller = 0; ops = [] }
+in_header p h = record { place = p; header = h; items = []; caller = 0; ops = []; schedule = []; turns = 0 }
 
 not-done : (p : Place) (h : Header) → Head p h ≢ Done
 not-done p h e = cc
@@ -311,31 +438,66 @@ head-read m h more f =
     ∙ (alg-read m h7 9 t9
     ∙ structs-read m h8 10 rest))))))))
 
-all-read : (m : Mode) (h : Header) (items : List Item) → HeaderFits m h → length items ≤ 65536 → All (ItemFits h) items
-    → let all : Workload = record { header = record h { alg = Cgl; structs = false }; items = items; schedule = [] } in
-    parsed m opening 1 (lines_of (text_of all)) ≡ Ok all
-all-read m h items f room fits =
+-- the header as it stands where what isn't built is off
+abbrev off : Header → Header
+off h = record h { alg = Cgl; structs = false }
+
+-- the lines of a header, items, and what follows them
+front-read : (m : Mode) (h : Header) (items : List Item) (more : List (List (List ℕ))) → HeaderFits m h → length items ≤ 65536 → All (ItemFits h) items
+    → (x : ℕ) × (j : ℕ) × (parsed m opening 1 (lines_of (lines_text (header_lines (off h) ++ (items_lines items ++ more)))) ≡ parsed m (between (off h) items x) j (lines_of (lines_text more)))
+front-read m h items more f room fits =
     let few = few-callers m in
     let callers = f.callers.1 in
-    head-read m h (items_lines items ++ done_line) f
-    ∙ items-read m (record h { alg = Cgl; structs = false }) [] 0 11 items f.words.1 (omega arith) (omega arith) fits
+    let body = items-read m (off h) [] 0 11 items more f.words.1 (omega arith) (omega arith) fits in
+    (body.0, body.1, head-read m h (items_lines items ++ more) f ∙ body.2)
+
+abbrev whole : Header → List Item → List Go → Workload
+whole h items gos = record { header = h; items = items; schedule = gos }
+
+all-read : (m : Mode) (h : Header) (items : List Item) (gos : List Go) → HeaderFits m h → length items ≤ 65536 → All (ItemFits h) items → ScheduleFits m h gos
+    → parsed m opening 1 (lines_of (lines_text (lines_with (schedule_lines gos) (whole (off h) items gos)))) ≡ Ok (whole (off h) items gos)
+all-read m h items gos f room fits plan =
+    let few = few-callers m in
+    let callers = f.callers.1 in
+    let front = front-read m h items (schedule_lines gos ++ done_line) f room fits in
+    front.2 ∙ plan-read m (off h) items front.0 front.1 gos (omega arith) (plan-off m h gos plan)
+  where
+    plan-off : (m : Mode) (h : Header) (gos : List Go) → ScheduleFits m h gos → ScheduleFits m (off h) gos
+    plan-off Run h gos p = p
+    plan-off Stepwise h gos p = p
+
+bare-read : (h : Header) (items : List Item) → HeaderFits Stepwise h → length items ≤ 65536 → All (ItemFits h) items
+    → parsed Stepwise opening 1 (lines_of (lines_text (lines_with (section_lines []) (whole (off h) items [])))) ≡ Ok (whole (off h) items [])
+bare-read h items f room fits =
+    let callers = f.callers.1 in
+    let front = front-read Stepwise h items (section_lines [] ++ done_line) f room fits in
+    front.2 ∙ section-read (off h) items front.0 front.1 [] (omega arith) (All-nil (GoFits (off h)), omega arith)
 
 short-enough : (m : Mode) (t : List ℕ) → length t ≤ 16777216 → workload_of m t ≡ parsed m opening 1 (lines_of t)
 short-enough m t le = let p : ltb 16777216 (length t) ≡ false = grind (arith, nat_tests) in rw p
 
-workload-same : (w : Workload) → record w.header { alg = Cgl; structs = false } ≡ w.header → w.schedule ≡ []
-    → (let off : Workload = record { header = record w.header { alg = Cgl; structs = false }; items = w.items; schedule = [] } in off) ≡ w
-workload-same w h s =
-    ap (λ x. let g : Workload = record { header = x; items = w.items; schedule = [] } in g) h ∙ ap (λ x. let g : Workload = record w { schedule = x } in g) (sym s)
-
-header-same : (h : Header) → h.alg ≡ Cgl → h.structs ≡ false → record h { alg = Cgl; structs = false } ≡ h
+header-same : (h : Header) → h.alg ≡ Cgl → h.structs ≡ false → off h ≡ h
 header-same h a b =
     ap (λ x. let g : Header = record h { alg = x; structs = false } in g) (sym a) ∙ ap (λ x. let g : Header = record h { structs = x } in g) (sym b)
 
--- the text of a workload that fits is read as that workload
-pub workload_of-text_of : (m : Mode) (w : Workload) → IsBuilt m w → length (text_of w) ≤ 16777216 → workload_of m (text_of w) ≡ Ok w
-workload_of-text_of m w b le =
+lines-read : (m : Mode) (w : Workload) (lines : List (List (List ℕ))) → IsBuilt m w → AreLinesOf m w lines → parsed m opening 1 (lines_of (lines_text lines)) ≡ Ok w
+lines-read m w lines b (inl is) =
     let h = b.header in
-    let off : Workload = record { header = record w.header { alg = Cgl; structs = false }; items = w.items; schedule = [] } in
-    let same : off ≡ w = workload-same w (header-same w.header h.alg h.structs) b.schedule in
-    short-enough m (text_of w) le ∙ subst (λ x. parsed m opening 1 (lines_of (text_of x)) ≡ Ok x) same (all-read m w.header w.items h b.count b.items)
+    let same = header-same w.header h.alg h.structs in
+    ap (λ ls. parsed m opening 1 (lines_of (lines_text ls))) is
+    ∙ subst (λ x. parsed m opening 1 (lines_of (lines_text (lines_with (schedule_lines w.schedule) (whole x w.items w.schedule)))) ≡ Ok (whole x w.items w.schedule)) same
+    (all-read m w.header w.items w.schedule h b.count b.items b.schedule)
+lines-read Run w lines b (inr is) = absurd cc
+lines-read Stepwise w lines b (inr is) =
+    let h = b.header in
+    let same = header-same w.header h.alg h.structs in
+    let bare : parsed Stepwise opening 1 (lines_of (lines_text (lines_with (section_lines []) (whole w.header w.items [])))) ≡ Ok (whole w.header w.items []) =
+    subst (λ x. parsed Stepwise opening 1 (lines_of (lines_text (lines_with (section_lines []) (whole x w.items [])))) ≡ Ok (whole x w.items [])) same
+    (bare-read w.header w.items h b.count b.items) in
+    ap (λ ls. parsed Stepwise opening 1 (lines_of (lines_text ls))) is.2
+    ∙ (bare ∙ ap (λ gs. Ok (whole w.header w.items gs)) (sym is.1))
+
+-- a text of a workload that fits is read as that workload
+pub text-read : (m : Mode) (w : Workload) (text : List ℕ) → IsBuilt m w → IsTextOf m w text → length text ≤ 16777216 → workload_of m text ≡ Ok w
+text-read m w text b is le =
+    short-enough m text le ∙ (ap (λ t. parsed m opening 1 (lines_of t)) is.2 ∙ lines-read m w is.0 b is.1)

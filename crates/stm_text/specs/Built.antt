@@ -1,13 +1,15 @@
 -- What a workload of the grammar fits.
-use Rattle.std.specs.Prelude.{ℕ, ◌≡◌, ◌≤◌, ◌<◌, ◌^◌, false, List, [], length, All}
+use Rattle.std.specs.Prelude.{ℕ, ◌≡◌, ◌≤◌, ◌<◌, ◌+◌, ◌^◌, false, List, [], ◌∷◌, length, All}
 use Rattle.stm_model.specs.declared.alg.Alg.TheVariants.{Cgl}
 use Rattle.stm_script.specs.declared.op.Op.{Op}
-use Rattle.stm_script.specs.declared.op.Op.TheVariants.{Read, Write, Add, Cancel}
+use Rattle.stm_script.specs.declared.op.Op.TheVariants.{Read, Write, Add, Move, Cancel}
 use Rattle.stm_script.specs.declared.workload.Header.{Header}
 use Rattle.stm_script.specs.declared.workload.Item.{Item}
 use Rattle.stm_script.specs.declared.workload.Item.TheVariants.{Tx, Switch}
+use Rattle.stm_script.specs.declared.workload.Go.{Go}
 use Rattle.stm_script.specs.declared.workload.Workload.{Workload}
 use Rattle.stm_text.specs.declared.parse.Mode.{Mode}
+use Rattle.stm_text.specs.declared.parse.Mode.TheVariants.{Run, Step as Stepwise}
 use Rattle.stm_text.specs.Grammar.{most_callers}
 
 -- the numbers of a header are in their ranges; what isn't built is off
@@ -22,26 +24,41 @@ pub record HeaderFits (m : Mode) (h : Header) : Type 0 where
   pub alg : h.alg ≡ Cgl
   pub structs : h.structs ≡ false
 
--- an operation that is built, on an address below the number of words
+-- an operation that is built, on addresses below the number of words
 abbrev pub OpFits : ℕ → Op → Type 0
 OpFits words (Read a) = a < words
 OpFits words (Write a v) = (a < words) × (v < 2 ^ 64)
 OpFits words (Add a k) = (a < words) × (k < 2 ^ 64)
-OpFits words Cancel = ⊥
+OpFits words (Move a b k) = (a < words) × (b < words) × (k < 2 ^ 64)
+OpFits words Cancel = Unit {0}
 
 -- at most 4,096 operations that fit
 pub record ScriptFits (words : ℕ) (ops : List Op) : Type 0 where
   pub count : length ops ≤ 4096
   pub each : All (OpFits words) ops
 
--- a transaction of a caller of the header
+-- a transaction, or a switch to an algorithm that is built, of a caller of the header
 abbrev pub ItemFits : Header → Item → Type 0
 ItemFits h (Tx caller script) = (caller < h.callers) × ScriptFits h.words script
-ItemFits h (Switch caller alg) = ⊥
+ItemFits h (Switch caller alg) = (caller < h.callers) × (alg ≡ Cgl)
 
--- at most 65,536 items that fit the header, and no schedule
+-- turns of a caller of the header
+abbrev pub GoFits : Header → Go → Type 0
+GoFits h go = (go.caller < h.callers) × (1 ≤ go.turns) × (go.turns ≤ 1000000)
+
+-- the turns of a schedule in all
+abbrev pub all_turns : List Go → ℕ
+all_turns [] = 0
+all_turns (go ∷ gos) = go.turns + all_turns gos
+
+-- at most 1,000,000 turns in all; run takes no schedule
+abbrev pub ScheduleFits : Mode → Header → List Go → Type 0
+ScheduleFits Run h gos = gos ≡ []
+ScheduleFits Stepwise h gos = All (GoFits h) gos × (all_turns gos ≤ 1000000)
+
+-- at most 65,536 items that fit the header, and a schedule that fits it
 pub record IsBuilt (m : Mode) (w : Workload) : Type 0 where
   pub header : HeaderFits m w.header
   pub count : length w.items ≤ 65536
   pub items : All (ItemFits w.header) w.items
-  pub schedule : w.schedule ≡ []
+  pub schedule : ScheduleFits m w.header w.schedule

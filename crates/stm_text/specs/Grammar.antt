@@ -3,14 +3,15 @@ use Rattle.std.specs.Prelude.{MatchResult, ℕ, ◌≡◌, ◌+◌, ◌^◌, fal
 use Rattle.stm_model.specs.declared.alg.Alg.{Alg}
 use Rattle.stm_model.specs.declared.alg.Alg.TheVariants.{Cgl}
 use Rattle.stm_script.specs.declared.op.Op.{Op}
-use Rattle.stm_script.specs.declared.op.Op.TheVariants.{Read, Write, Add as Sum}
+use Rattle.stm_script.specs.declared.op.Op.TheVariants.{Read, Write, Add as Sum, Move, Cancel}
 use Rattle.stm_script.specs.declared.workload.Header.{Header}
+use Rattle.stm_script.specs.declared.workload.Go.{Go}
 use Rattle.stm_script.specs.declared.workload.Workload.{Workload}
 use Rattle.stm_text.specs.declared.code.TheConstants.{LONG, BYTES, UNENDED, WORD, NUMBER, RANGE, ALG, MANY, EXTRA}
 use Rattle.stm_text.specs.declared.draft.Place.{Place}
-use Rattle.stm_text.specs.declared.draft.Place.TheVariants.{Version, Words, Callers, Records, Ring, Reads, Writes, Clock, Algorithm, Structures, Items, Ops}
+use Rattle.stm_text.specs.declared.draft.Place.TheVariants.{Version, Words, Callers, Records, Ring, Reads, Writes, Clock, Algorithm, Structures, Items, Ops, Turns}
 use Rattle.stm_text.specs.declared.draft.Step.{Step}
-use Rattle.stm_text.specs.declared.draft.Step.TheVariants.{Head, Begin, Add, End, Done}
+use Rattle.stm_text.specs.declared.draft.Step.TheVariants.{Head, Begin, Change, Add, End, Schedule, Turn, Done}
 use Rattle.stm_text.specs.declared.parse.Mode.{Mode}
 use Rattle.stm_text.specs.declared.parse.Mode.TheVariants.{Run, Step as Stepwise}
 use Rattle.stm_text.specs.declared.parse.ParseError.{ParseError}
@@ -88,12 +89,31 @@ next_line Algorithm = Structures
 next_line p = Items
 
 -- one more item
+abbrev pub one_item : Writing → Step → Result Step ℕ
+one_item d step = if ltb (length d.items) 65536 then Ok step else Err MANY
+
 abbrev pub begun : Writing → ℕ → Result Step ℕ
-begun d caller = if ltb (length d.items) 65536 then Ok (Begin caller) else Err MANY
+begun d caller = one_item d (Begin caller)
+
+abbrev pub changed : Writing → ℕ → Alg → Result Step ℕ
+changed d caller alg = one_item d (Change caller alg)
 
 -- one more operation
 abbrev pub added : Writing → Op → Result Step ℕ
 added d op = if ltb (length d.ops) 4096 then Ok (Add op) else Err MANY
+
+-- so many turns more
+abbrev pub planned : Writing → Go → Result Step ℕ
+planned d go = if leb (d.turns + go.turns) 1000000 then Ok (Turn go (d.turns + go.turns)) else Err MANY
+
+-- a schedule is for step alone
+abbrev pub scheduled : Mode → Result Step ℕ
+scheduled Run = Err WORD
+scheduled Stepwise = Ok Schedule
+
+-- a caller
+abbrev pub caller_of : Writing → List ℕ → Result ℕ ℕ
+caller_of d v = formed (number_of v) >>= below d.header.callers
 
 -- an address
 abbrev pub address : Writing → List ℕ → Result ℕ ℕ
@@ -103,16 +123,30 @@ address d a = formed (number_of a) >>= below d.header.words
 abbrev pub operands : Writing → List ℕ → List ℕ → Result (ℕ × ℕ) ℕ
 operands d a v = formed (number_of a) >>= λ i. formed (number_of v) >>= λ n. below d.header.words i >>= λ j. Ok (j, n)
 
+-- two addresses and a value: all of the form before an address is in range
+abbrev pub move_of : Writing → List ℕ → List ℕ → List ℕ → Result Op ℕ
+move_of d a b v =
+    formed (number_of a) >>= λ i. formed (number_of b) >>= λ j. formed (number_of v) >>= λ n.
+    below d.header.words i >>= λ x. below d.header.words j >>= λ y. Ok (Move x y n)
+
+-- a caller and its turns, both of the form before either is in range
+abbrev pub go_of : Writing → List ℕ → List ℕ → Result Go ℕ
+go_of d a v =
+    formed (number_of a) >>= λ i. formed (number_of v) >>= λ n.
+    below d.header.callers i >>= λ c. ranged 1 1000000 n >>= λ t. Ok (record { caller = c; turns = t })
+
 -- LINES OF ONE WORD
-abbrev pub one_word : Place → List ℕ → Result Step ℕ
-one_word Items w = named (codes "done") w (Ok Done)
-one_word Ops w = named (codes "end") w (Ok End)
-one_word p w = Err WORD
+abbrev pub one_word : Place → Mode → Writing → List ℕ → Result Step ℕ
+one_word Items m d w = if bytes_eq w (codes "done") then Ok Done else named (codes "schedule") w (scheduled m)
+one_word Ops m d w = if bytes_eq w (codes "cancel") then added d Cancel else named (codes "end") w (Ok End)
+one_word Turns m d w = named (codes "done") w (Ok Done)
+one_word p m d w = Err WORD
 
 -- LINES OF TWO WORDS
 abbrev pub two_words : Place → Mode → Writing → List ℕ → List ℕ → Result Step ℕ
-two_words Items m d w v = named (codes "tx") w (formed (number_of v) >>= below d.header.callers >>= begun d)
+two_words Items m d w v = named (codes "tx") w (caller_of d v >>= begun d)
 two_words Ops m d w v = named (codes "read") w (address d v >>= λ a. added d (Read a))
+two_words Turns m d w v = Err WORD
 two_words p m d w v = header_line m p d.header w v >>= λ h. Ok (Head (next_line p) h)
 
 -- LINES OF THREE WORDS
@@ -120,7 +154,14 @@ abbrev pub three_words : Place → Writing → List ℕ → List ℕ → List �
 three_words Ops d w a v =
     if bytes_eq w (codes "write") then operands d a v >>= (λ p. added d (Write p.0 p.1))
     else named (codes "add") w (operands d a v >>= λ p. added d (Sum p.0 p.1))
+three_words Items d w a v = named (codes "switch") w (caller_of d a >>= λ c. algorithm v >>= λ alg. changed d c alg)
+three_words Turns d w a v = named (codes "go") w (go_of d a v >>= planned d)
 three_words p d w a v = Err WORD
+
+-- LINES OF FOUR WORDS
+abbrev pub four_words : Place → Writing → List ℕ → List ℕ → List ℕ → List ℕ → Result Step ℕ
+four_words Ops d w a b v = named (codes "move") w (move_of d a b v >>= added d)
+four_words p d w a b v = Err WORD
 
 -- what a line leads to where this word of it isn't empty: a space too many makes an empty word
 abbrev pub filled : List ℕ → Result Step ℕ → Result Step ℕ
@@ -129,9 +170,10 @@ filled (b ∷ bs) rest = rest
 
 -- a line by its words
 abbrev pub by_words : Mode → Writing → List (List ℕ) → Result Step ℕ
-by_words m d (w ∷ []) = one_word d.place w
+by_words m d (w ∷ []) = one_word d.place m d w
 by_words m d (w ∷ v ∷ []) = filled v (two_words d.place m d w v)
 by_words m d (w ∷ a ∷ v ∷ []) = filled a (filled v (three_words d.place d w a v))
+by_words m d (w ∷ a ∷ b ∷ v ∷ []) = filled a (filled b (filled v (four_words d.place d w a b v)))
 by_words m d ws = Err WORD
 
 -- THE TABLE: what a line does after those before it, or its lowest code
@@ -140,7 +182,7 @@ step_of m d l = if any_bad l.bytes then Err BYTES else (if l.ended then by_words
 
 -- the workload, where no line follows `done`
 abbrev pub ended : Writing → ℕ → List Line → Result Workload (ℕ × ℕ)
-ended d k [] = Ok (record { header = d.header; items = d.items; schedule = [] })
+ended d k [] = Ok (record { header = d.header; items = d.items; schedule = d.schedule })
 ended d k (l ∷ ls) = Err (k, EXTRA)
 
 -- what comes of a line with the number k and the lines that follow it

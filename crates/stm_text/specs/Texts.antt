@@ -1,15 +1,17 @@
 -- The text of a workload, by the grammar's rules.
-use Rattle.std.specs.Prelude.{ℕ, ◌≡◌, ◌≤◌, Bool, true, false, List, [], ◌∷◌, ◌++◌, length, map, Ok, codes}
+use Rattle.std.specs.Prelude.{ℕ, ◌≡◌, ◌≤◌, ◌⊎◌, Bool, true, false, List, [], ◌∷◌, ◌++◌, length, map, Ok, codes}
 use Rattle.std.specs.Fmt.{decimal}
 use Rattle.stm_model.specs.declared.alg.Alg.{Alg}
 use Rattle.stm_model.specs.declared.alg.Alg.TheVariants.{Cgl, Tml, OrecLazy, OrecEager, RingSw, Serial}
 use Rattle.stm_script.specs.declared.op.Op.{Op}
-use Rattle.stm_script.specs.declared.op.Op.TheVariants.{Read, Write, Add, Cancel}
+use Rattle.stm_script.specs.declared.op.Op.TheVariants.{Read, Write, Add, Move, Cancel}
 use Rattle.stm_script.specs.declared.workload.Header.{Header}
 use Rattle.stm_script.specs.declared.workload.Item.{Item}
 use Rattle.stm_script.specs.declared.workload.Item.TheVariants.{Tx, Switch}
+use Rattle.stm_script.specs.declared.workload.Go.{Go}
 use Rattle.stm_script.specs.declared.workload.Workload.{Workload}
 use Rattle.stm_text.specs.declared.parse.Mode.{Mode}
+use Rattle.stm_text.specs.declared.parse.Mode.TheVariants.{Step as Stepwise}
 use Rattle.stm_text.specs.Grammar.{workload_of}
 use Rattle.stm_text.specs.Built.{IsBuilt}
 
@@ -39,6 +41,7 @@ abbrev pub op_words : Op → List (List ℕ)
 op_words (Read a) = codes "read" ∷ decimal a ∷ []
 op_words (Write a v) = codes "write" ∷ decimal a ∷ decimal v ∷ []
 op_words (Add a k) = codes "add" ∷ decimal a ∷ decimal k ∷ []
+op_words (Move a b k) = codes "move" ∷ decimal a ∷ decimal b ∷ decimal k ∷ []
 op_words Cancel = codes "cancel" ∷ []
 
 -- `tx caller`, its operations, `end`
@@ -64,22 +67,44 @@ header_lines h =
     ∷ (codes "structs" ∷ switch_of h.structs ∷ [])
     ∷ []
 
--- the lines of a workload that has no schedule
+abbrev pub go_words : Go → List (List ℕ)
+go_words go = codes "go" ∷ decimal go.caller ∷ decimal go.turns ∷ []
+
+-- `schedule` and its lines
+abbrev pub section_lines : List Go → List (List (List ℕ))
+section_lines gos = (codes "schedule" ∷ []) ∷ map go_words gos
+
+-- those of a schedule that isn't empty
+abbrev pub schedule_lines : List Go → List (List (List ℕ))
+schedule_lines [] = []
+schedule_lines (go ∷ gos) = section_lines (go ∷ gos)
+
+-- the lines of a workload whose schedule has these
+abbrev pub lines_with : List (List (List ℕ)) → Workload → List (List (List ℕ))
+lines_with schedule w = header_lines w.header ++ (items_lines w.items ++ (schedule ++ (codes "done" ∷ []) ∷ []))
+
 abbrev pub workload_lines : Workload → List (List (List ℕ))
-workload_lines w = header_lines w.header ++ (items_lines w.items ++ (codes "done" ∷ []) ∷ [])
+workload_lines w = lines_with (schedule_lines w.schedule) w
 
 abbrev pub lines_text : List (List (List ℕ)) → List ℕ
 lines_text [] = []
 lines_text (ws ∷ more) = line ws ++ lines_text more
 
--- the text of a workload that has no schedule
+-- the text of a workload
 abbrev pub text_of : Workload → List ℕ
 text_of w = lines_text (workload_lines w)
 
--- the text of a workload that fits is read as that workload
+-- its lines; where the schedule is empty the line `schedule` may stand under step
+abbrev pub AreLinesOf : Mode → Workload → List (List (List ℕ)) → Type 0
+AreLinesOf m w lines = (lines ≡ workload_lines w) ⊎ ((m ≡ Stepwise) × (w.schedule ≡ []) × (lines ≡ lines_with (section_lines []) w))
+
+abbrev pub IsTextOf : Mode → Workload → List ℕ → Type 0
+IsTextOf m w text = (lines : List (List (List ℕ))) × AreLinesOf m w lines × (text ≡ lines_text lines)
+
+-- a text of a workload that fits is read as that workload
 abbrev pub TextIsRead : Type 0
-TextIsRead = (m : Mode) (w : Workload) → IsBuilt m w → length (text_of w) ≤ 16777216 → workload_of m (text_of w) ≡ Ok w
+TextIsRead = (m : Mode) (w : Workload) (text : List ℕ) → IsBuilt m w → IsTextOf m w text → length text ≤ 16777216 → workload_of m text ≡ Ok w
 
 -- a text that is read as a workload is that workload's text
 abbrev pub OneTextPerWorkload : Type 0
-OneTextPerWorkload = (m : Mode) (text : List ℕ) (w : Workload) → workload_of m text ≡ Ok w → text ≡ text_of w
+OneTextPerWorkload = (m : Mode) (text : List ℕ) (w : Workload) → workload_of m text ≡ Ok w → IsTextOf m w text

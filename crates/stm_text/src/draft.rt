@@ -1,7 +1,8 @@
 //! A workload as far as it is read.
-ghost use Rattle.std.specs.Prelude.{◌≡◌, OnOk, []};
+ghost use Rattle.std.specs.Prelude.{◌≡◌, OnOk};
 ghost use Rattle.stm_text.specs.Drafts.{after, opening};
-ghost use Rattle.stm_text.specs.Grammar.{begun, added};
+ghost use Rattle.stm_text.specs.declared.draft.Step.TheVariants.{End};
+ghost use Rattle.stm_text.specs.Grammar.{one_item, begun, changed, added, planned};
 
 use crate::code;
 use std::alloc::{AllocError, Global};
@@ -10,7 +11,7 @@ use std::mem;
 use stm_model::alg::Alg;
 use stm_script::lists::Script;
 use stm_script::op::Op;
-use stm_script::workload::{Gos, Header, Item, Items, Workload};
+use stm_script::workload::{Go, Gos, Header, Item, Items, Workload};
 
 /// The line that comes next.
 #[derive(Clone, Copy, Drop)]
@@ -25,10 +26,12 @@ pub enum Place {
     Clock,
     Algorithm,
     Structures,
-    /// `tx` or `done`.
+    /// `tx`, `switch`, `schedule` or `done`.
     Items,
     /// An operation or `end`.
     Ops,
+    /// `go` or `done`.
+    Turns,
 }
 
 /// What a line does.
@@ -38,8 +41,13 @@ pub enum Step {
     Head(Place, Header),
     /// `tx` of this caller.
     Begin(usize),
+    /// `switch` of this caller to this algorithm.
+    Change(usize, Alg),
     Add(Op),
     End,
+    Schedule,
+    /// `go`, and the turns of the schedule in all then.
+    Turn(Go, u32),
     Done,
 }
 
@@ -51,6 +59,8 @@ pub struct Draft {
     items: Vec<Item>,
     caller: usize,
     ops: Vec<Op>,
+    schedule: Vec<Go>,
+    turns: u32,
 }
 
 impl Model for Draft {
@@ -58,13 +68,15 @@ impl Model for Draft {
 
     ghost Value = { Writing };
 
-    ghost view = { λ d. record { place = d.place; header = d.header; items = d.items.items; caller = d.caller; ops = d.ops.items } };
+    ghost view = { λ d. record { place = d.place; header = d.header; items = d.items.items; caller = d.caller; ops = d.ops.items; schedule = d.schedule.items; turns = d.turns } };
 }
 
 /// Items of a workload, at most.
 const MOST_ITEMS: usize = 65536;
 /// Operations of a transaction, at most.
 const MOST_OPS: usize = 4096;
+/// Turns of a schedule in all, at most.
+const MOST_TURNS: u64 = 1000000;
 
 impl Draft {
     /// Before the first line.
@@ -87,6 +99,8 @@ impl Draft {
             items: Vec::new(alloc),
             caller: 0,
             ops: Vec::new(alloc),
+            schedule: Vec::new(alloc),
+            turns: 0,
         }
     }
 
@@ -103,14 +117,28 @@ impl Draft {
     }
 
     /// One more item, where it isn't one too many.
-    pub fn begun(&self, caller: usize) -> Result<Step, u32>
-        ensures { result ≡ begun self.now caller }
+    fn one_item(&self, step: Step) -> Result<Step, u32>
+        ensures { result ≡ one_item self.now step }
     {
         if self.items.len() < MOST_ITEMS {
-            Ok(Step::Begin(caller))
+            Ok(step)
         } else {
             Err(code::MANY)
         }
+    }
+
+    /// A transaction, where it isn't one item too many.
+    pub fn begun(&self, caller: usize) -> Result<Step, u32>
+        ensures { result ≡ begun self.now caller }
+    {
+        self.one_item(Step::Begin(caller))
+    }
+
+    /// A switch, where it isn't one item too many.
+    pub fn changed(&self, caller: usize, alg: Alg) -> Result<Step, u32>
+        ensures { result ≡ changed self.now caller alg }
+    {
+        self.one_item(Step::Change(caller, alg))
     }
 
     /// One more operation, where it isn't one too many.
@@ -119,6 +147,18 @@ impl Draft {
     {
         if self.ops.len() < MOST_OPS {
             Ok(Step::Add(op))
+        } else {
+            Err(code::MANY)
+        }
+    }
+
+    /// So many turns more, where they aren't too many in all.
+    pub fn planned(&self, go: Go) -> Result<Step, u32>
+        ensures { result ≡ planned self.now go }
+    {
+        let all = u64::from(self.turns) + u64::from(go.turns);
+        if all <= MOST_TURNS {
+            Ok(Step::Turn(go, all as u32))
         } else {
             Err(code::MANY)
         }
@@ -139,26 +179,44 @@ impl Draft {
                 self.caller = caller;
                 Ok(())
             }
+            Step::Change(caller, alg) => {
+                self.items.push(Item::Switch { caller, alg })?;
+                Ok(())
+            }
             Step::Add(op) => {
                 self.ops.push(op)?;
                 Ok(())
             }
-            Step::End => {
-                let script = Script::new(mem::replace(&mut self.ops, Vec::new(alloc)));
-                self.items.push(Item::Tx {
-                    caller: self.caller,
-                    script,
-                })?;
-                self.place = Place::Items;
+            Step::End => self.close(alloc),
+            Step::Schedule => {
+                self.place = Place::Turns;
+                Ok(())
+            }
+            Step::Turn(go, all) => {
+                self.schedule.push(go)?;
+                self.turns = all;
                 Ok(())
             }
             Step::Done => Ok(()),
         }
     }
 
+    /// The open transaction becomes an item. Memory may be refused.
+    fn close(&mut self, alloc: Global) -> Result<(), AllocError>
+        ensures { OnOk result (self.new ≡ after End self.old) }
+    {
+        let script = Script::new(mem::replace(&mut self.ops, Vec::new(alloc)));
+        self.items.push(Item::Tx {
+            caller: self.caller,
+            script,
+        })?;
+        self.place = Place::Items;
+        Ok(())
+    }
+
     /// The workload that is read.
-    pub fn into_workload(self, alloc: Global) -> Workload
-        ensures { result ≡ record { header = self.header; items = self.items; schedule = [] } }
+    pub fn into_workload(self) -> Workload
+        ensures { result ≡ record { header = self.header; items = self.items; schedule = self.schedule } }
     {
         let Draft {
             place: _,
@@ -166,11 +224,13 @@ impl Draft {
             items,
             caller: _,
             ops: _,
+            schedule,
+            turns: _,
         } = self;
         Workload {
             header,
             items: Items::new(items),
-            schedule: Gos::new(Vec::new(alloc)),
+            schedule: Gos::new(schedule),
         }
     }
 }

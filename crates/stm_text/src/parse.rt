@@ -18,7 +18,7 @@ use thiserror::Error;
 pub enum Mode {
     /// `run`, which takes one caller.
     Run,
-    /// `step`, which takes 1 to 32 callers.
+    /// `step`, which takes 1 to 32 callers and a schedule.
     Step,
 }
 
@@ -78,7 +78,7 @@ fn read_lines(alloc: Global, mode: Mode, text: &[u8]) -> Result<Workload, ParseE
         rest = lines::past(rest, i);
         number += 1;
         if let Step::Done = step {
-            return finished(alloc, draft, number, rest);
+            return finished(draft, number, rest);
         }
         draft.take(alloc, step)?;
     }
@@ -100,11 +100,11 @@ fn unended(line: &[u8]) -> u32
 }
 
 /// The workload, where nothing follows `done`.
-fn finished(alloc: Global, draft: Draft, line: usize, rest: &[u8]) -> Result<Workload, ParseError>
+fn finished(draft: Draft, line: usize, rest: &[u8]) -> Result<Workload, ParseError>
     ensures { Answers result (ended draft line (lines_of rest.now)) }
 {
     if rest.is_empty() {
-        Ok(draft.into_workload(alloc))
+        Ok(draft.into_workload())
     } else {
         Err(ParseError::Fault {
             line,

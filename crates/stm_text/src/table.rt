@@ -1,6 +1,6 @@
 //! What may stand on a line: the table of the grammar, row by row.
 ghost use Rattle.std.specs.Prelude.{◌≡◌, true, Ok, Err, codes};
-ghost use Rattle.stm_text.specs.Grammar.{algorithm, most_callers, sized, header_line, next_line, below, formed, named, address, operands, one_word, two_words, three_words, filled, by_words, step_of};
+ghost use Rattle.stm_text.specs.Grammar.{algorithm, most_callers, ranged, sized, header_line, next_line, below, formed, named, scheduled, caller_of, address, operands, move_of, go_of, one_word, two_words, three_words, four_words, filled, by_words, step_of};
 ghost use Rattle.stm_text.specs.Lines.{number_of, words_of, Line};
 
 use crate::draft::{Draft, Place, Step};
@@ -8,10 +8,12 @@ use crate::parse::Mode;
 use crate::{code, lines};
 use stm_model::alg::Alg;
 use stm_script::op::Op;
-use stm_script::workload::Header;
+use stm_script::workload::{Go, Header};
 
 /// The clock of a header, at most.
 const LAST_CLOCK: u64 = 4611686018427387904;
+/// Turns of one line of a schedule, at most.
+const MOST_TURNS: u64 = 1000000;
 
 /// A word that is a number.
 fn formed(word: &[u8]) -> Result<u64, u32>
@@ -31,6 +33,17 @@ fn below(end: usize, n: u64) -> Result<usize, u32>
     }
 }
 
+/// A number from low to high.
+fn ranged(low: u64, high: u64, n: u64) -> Result<u64, u32>
+    ensures { result ≡ ranged low high n }
+{
+    if low <= n && n <= high {
+        Ok(n)
+    } else {
+        Err(code::RANGE)
+    }
+}
+
 /// A line that gives a number its name and its range.
 fn sized(name: &[u8], low: u64, high: u64, w: &[u8], v: &[u8]) -> Result<u64, u32>
     ensures { result ≡ sized name.now low high w.now v.now }
@@ -38,12 +51,7 @@ fn sized(name: &[u8], low: u64, high: u64, w: &[u8], v: &[u8]) -> Result<u64, u3
     if !lines::is(w, name) {
         return Err(code::WORD);
     }
-    let n = formed(v)?;
-    if low <= n && n <= high {
-        Ok(n)
-    } else {
-        Err(code::RANGE)
-    }
+    ranged(low, high, formed(v)?)
 }
 
 /// A name and a word that stand as they are written.
@@ -58,15 +66,24 @@ fn fixed(name: &[u8], word: &[u8], w: &[u8], v: &[u8]) -> Result<(), u32>
 }
 
 /// The algorithms that are built.
-fn algorithm(w: &[u8], v: &[u8]) -> Result<Alg, u32>
-    ensures { result ≡ named (codes "alg") w.now (algorithm v.now) }
+fn algorithm(word: &[u8]) -> Result<Alg, u32>
+    ensures { result ≡ algorithm word.now }
 {
-    if !lines::is(w, b"alg") {
-        Err(code::WORD)
-    } else if lines::is(v, b"CGL") {
+    if lines::is(word, b"CGL") {
         Ok(Alg::Cgl)
     } else {
         Err(code::ALG)
+    }
+}
+
+/// A line that names the algorithm at the start.
+fn first_algorithm(w: &[u8], v: &[u8]) -> Result<Alg, u32>
+    ensures { result ≡ named (codes "alg") w.now (algorithm v.now) }
+{
+    if lines::is(w, b"alg") {
+        algorithm(v)
+    } else {
+        Err(code::WORD)
     }
 }
 
@@ -93,12 +110,12 @@ fn header_line(mode: Mode, place: Place, h: Header, w: &[u8], v: &[u8]) -> Resul
         Place::Reads => next.reads = sized(b"reads", 1, 4096, w, v)? as usize,
         Place::Writes => next.writes = sized(b"writes", 1, 4096, w, v)? as usize,
         Place::Clock => next.clock = sized(b"clock", 0, LAST_CLOCK, w, v)?,
-        Place::Algorithm => next.alg = algorithm(w, v)?,
+        Place::Algorithm => next.alg = first_algorithm(w, v)?,
         Place::Structures => {
             fixed(b"structs", b"off", w, v)?;
             next.structs = false;
         }
-        Place::Items | Place::Ops => return Err(code::WORD),
+        Place::Items | Place::Ops | Place::Turns => return Err(code::WORD),
     }
     Ok(next)
 }
@@ -117,8 +134,15 @@ fn next_line(place: Place) -> Place
         Place::Writes => Place::Clock,
         Place::Clock => Place::Algorithm,
         Place::Algorithm => Place::Structures,
-        Place::Structures | Place::Items | Place::Ops => Place::Items,
+        Place::Structures | Place::Items | Place::Ops | Place::Turns => Place::Items,
     }
+}
+
+/// A caller of the header.
+fn caller_of(draft: &Draft, word: &[u8]) -> Result<usize, u32>
+    ensures { result ≡ caller_of draft.now word.now }
+{
+    below(draft.header().callers, formed(word)?)
 }
 
 /// An address.
@@ -137,11 +161,52 @@ fn operands(draft: &Draft, a: &[u8], v: &[u8]) -> Result<(usize, u64), u32>
     Ok((below(draft.header().words, at)?, value))
 }
 
-fn one_word(place: Place, w: &[u8]) -> Result<Step, u32>
-    ensures { result ≡ one_word place w.now }
+/// Two addresses and a value, all of the form before an address is in range.
+fn move_of(draft: &Draft, a: &[u8], b: &[u8], v: &[u8]) -> Result<Op, u32>
+    ensures { result ≡ move_of draft.now a.now b.now v.now }
 {
-    match place {
+    let source = formed(a)?;
+    let target = formed(b)?;
+    let value = formed(v)?;
+    let words = draft.header().words;
+    let from = below(words, source)?;
+    Ok(Op::Move(from, below(words, target)?, value))
+}
+
+/// A caller and its turns, both of the form before either is in range.
+fn go_of(draft: &Draft, a: &[u8], v: &[u8]) -> Result<Go, u32>
+    ensures { result ≡ go_of draft.now a.now v.now }
+{
+    let number = formed(a)?;
+    let turns = formed(v)?;
+    let caller = below(draft.header().callers, number)?;
+    let turns = ranged(1, MOST_TURNS, turns)? as u32;
+    Ok(Go { caller, turns })
+}
+
+fn scheduled(mode: Mode) -> Result<Step, u32>
+    ensures { result ≡ scheduled mode }
+{
+    match mode {
+        Mode::Run => Err(code::WORD),
+        Mode::Step => Ok(Step::Schedule),
+    }
+}
+
+fn one_word(mode: Mode, draft: &Draft, w: &[u8]) -> Result<Step, u32>
+    ensures { result ≡ one_word draft.now.place mode draft.now w.now }
+{
+    match draft.place() {
         Place::Items => {
+            if lines::is(w, b"done") {
+                return Ok(Step::Done);
+            }
+            if lines::is(w, b"schedule") {
+                return scheduled(mode);
+            }
+            Err(code::WORD)
+        }
+        Place::Turns => {
             if lines::is(w, b"done") {
                 Ok(Step::Done)
             } else {
@@ -149,6 +214,9 @@ fn one_word(place: Place, w: &[u8]) -> Result<Step, u32>
             }
         }
         Place::Ops => {
+            if lines::is(w, b"cancel") {
+                return draft.added(Op::Cancel);
+            }
             if lines::is(w, b"end") {
                 Ok(Step::End)
             } else {
@@ -170,7 +238,7 @@ fn two_words(mode: Mode, draft: &Draft, w: &[u8], v: &[u8]) -> Result<Step, u32>
             if !lines::is(w, b"tx") {
                 return Err(code::WORD);
             }
-            draft.begun(below(draft.header().callers, formed(v)?)?)
+            draft.begun(caller_of(draft, v)?)
         }
         Place::Ops => {
             if !lines::is(w, b"read") {
@@ -178,6 +246,7 @@ fn two_words(mode: Mode, draft: &Draft, w: &[u8], v: &[u8]) -> Result<Step, u32>
             }
             draft.added(Op::Read(address(draft, v)?))
         }
+        Place::Turns => Err(code::WORD),
         place => {
             let header = header_line(mode, place, draft.header(), w, v)?;
             Ok(Step::Head(next_line(place), header))
@@ -203,6 +272,36 @@ fn three_words(draft: &Draft, w: &[u8], a: &[u8], v: &[u8]) -> Result<Step, u32>
             }
             Err(code::WORD)
         }
+        Place::Items => {
+            if !lines::is(w, b"switch") {
+                return Err(code::WORD);
+            }
+            let caller = caller_of(draft, a)?;
+            draft.changed(caller, algorithm(v)?)
+        }
+        Place::Turns => {
+            if !lines::is(w, b"go") {
+                return Err(code::WORD);
+            }
+            draft.planned(go_of(draft, a, v)?)
+        }
+        _ => Err(code::WORD),
+    }
+}
+
+fn four_words(draft: &Draft, w: &[u8], a: &[u8], b: &[u8], v: &[u8]) -> Result<Step, u32>
+    ensures { result ≡ filled a.now (filled b.now (filled v.now (four_words draft.now.place draft.now w.now a.now b.now v.now))) }
+{
+    if a.is_empty() || b.is_empty() || v.is_empty() {
+        return Err(code::WORD);
+    }
+    match draft.place() {
+        Place::Ops => {
+            if !lines::is(w, b"move") {
+                return Err(code::WORD);
+            }
+            draft.added(move_of(draft, a, b, v)?)
+        }
         _ => Err(code::WORD),
     }
 }
@@ -212,15 +311,19 @@ fn by_words(mode: Mode, draft: &Draft, line: &[u8]) -> Result<Step, u32>
     ensures { result ≡ by_words mode draft.now (words_of line.now) }
 {
     let Some(i) = lines::find(b' ', line) else {
-        return one_word(draft.place(), line);
+        return one_word(mode, draft, line);
     };
     let rest = lines::past(line, i);
     let Some(j) = lines::find(b' ', rest) else {
         return two_words(mode, draft, &line[..i], rest);
     };
-    let last = lines::past(rest, j);
+    let more = lines::past(rest, j);
+    let Some(k) = lines::find(b' ', more) else {
+        return three_words(draft, &line[..i], &rest[..j], more);
+    };
+    let last = lines::past(more, k);
     match lines::find(b' ', last) {
-        None => three_words(draft, &line[..i], &rest[..j], last),
+        None => four_words(draft, &line[..i], &rest[..j], &more[..k], last),
         Some(_) => Err(code::WORD),
     }
 }

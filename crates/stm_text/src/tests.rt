@@ -7,7 +7,7 @@ use stm_model::alg::Alg;
 use stm_script::lists::Words;
 use stm_script::op::Op;
 use stm_script::report::{Kind, Pairs, Report, Row, Rows};
-use stm_script::workload::{Header, Item, Workload};
+use stm_script::workload::{Go, Header, Item, Workload};
 
 /// Two transactions that add and one that reads.
 const LINES: [&str; 20] = [
@@ -100,7 +100,12 @@ fn refuses_lines(rt: HostRuntime) -> Result<(), Fail> {
         (11, "tx x", 5),
         (11, "tx", 4),
         (11, "tx ", 4),
-        (11, "switch 0 CGL", 4),
+        (11, "switch 0", 4),
+        (11, "switch 0 CGL 1", 4),
+        (11, "switch x TML", 5),
+        (11, "switch 1 TML", 6),
+        (11, "switch 0 TML", 7),
+        (11, "go 0 1", 4),
         (11, "schedule", 4),
         (11, "read 0", 4),
         (12, "add 8 1", 6),
@@ -112,7 +117,17 @@ fn refuses_lines(rt: HostRuntime) -> Result<(), Fail> {
         (12, "add  3", 4),
         (12, "add x ", 4),
         (12, "emit 3", 4),
-        (12, "cancel", 4),
+        (12, "irrev", 4),
+        (12, "cancel ", 4),
+        (12, "cancel 1", 4),
+        (12, "move 8 1", 4),
+        (12, "move 8  1", 4),
+        (12, "move 8 9 1 1", 4),
+        (12, "move 8 01 1", 5),
+        (12, "move 8 9 x", 5),
+        (12, "move 8 0 1", 6),
+        (12, "move 0 8 1", 6),
+        (12, "switch 0 CGL", 4),
         (12, "done", 4),
         (12, "read 8", 6),
         (12, "write 8 0", 6),
@@ -154,6 +169,41 @@ fn refuses_ends(rt: HostRuntime) -> Result<(), Fail> {
 }
 
 #[test]
+fn refuses_schedules(rt: HostRuntime) -> Result<(), Fail> {
+    let table = [
+        ("schedule\ngo 0 0\n", 12, 6),
+        ("schedule\ngo 0 1000001\n", 12, 6),
+        ("schedule\ngo 1 1\n", 12, 6),
+        ("schedule\ngo 1 x\n", 12, 5),
+        ("schedule\ngo 0\n", 12, 4),
+        ("schedule\ngo 0 1 1\n", 12, 4),
+        ("schedule\nschedule\n", 12, 4),
+        ("schedule\ntx 0\n", 12, 4),
+        ("schedule\nswitch 0 CGL\n", 12, 4),
+        ("schedule \n", 11, 4),
+        ("schedule\ngo 0 600000\ngo 0 400001\n", 13, 10),
+        ("schedule\ngo 0 1000000\ngo 0 1\n", 13, 10),
+        ("schedule\ngo 0 1000000\ngo 1 1\n", 13, 6),
+        ("schedule\ngo 0 600000\ngo 0 400000\n", 14, 3),
+        ("schedule\ndone\n\n", 13, 11),
+    ];
+    for (body, line, code) in table {
+        let text = with_body(rt.alloc(), body)?;
+        assert_eq!(rt;
+            fault(rt.alloc(), text.as_bytes(), Mode::Step),
+            Some((line, code)),
+            "{body}"
+        );
+        assert_eq!(rt;
+            fault(rt.alloc(), text.as_bytes(), Mode::Run),
+            Some((11, 4)),
+            "{body}"
+        );
+    }
+    Ok(())
+}
+
+#[test]
 fn counts_callers_by_mode(rt: HostRuntime) -> Result<(), Fail> {
     let most = with_line(rt.alloc(), 3, "callers 32")?;
     assert!(rt; parse(rt.alloc(), most.as_bytes(), Mode::Step).is_ok());
@@ -189,6 +239,11 @@ fn refuses_too_many(rt: HostRuntime) -> Result<(), Fail> {
     assert_eq!(rt;
         fault(rt.alloc(), more.as_bytes(), Mode::Run),
         Some((131083, 10))
+    );
+    let switch = repeated(rt.alloc(), "", "switch 0 CGL\n", 65536, "switch 0 CGL\n")?;
+    assert_eq!(rt;
+        fault(rt.alloc(), switch.as_bytes(), Mode::Run),
+        Some((65547, 10))
     );
     let ops = repeated(rt.alloc(), "tx 0\n", "read 0\n", 4096, "end\ndone\n")?;
     assert!(rt; parse(rt.alloc(), ops.as_bytes(), Mode::Run).is_ok());
@@ -256,6 +311,48 @@ fn reads_workloads(rt: HostRuntime) -> Result<(), Fail> {
         assert_scripts(&rt, &read, scripts);
         assert!(rt; read.schedule.as_slice().is_empty());
     }
+    Ok(())
+}
+
+#[test]
+fn reads_step_workloads(rt: HostRuntime) -> Result<(), Fail> {
+    let mut text = with_line(rt.alloc(), 3, "callers 2")?;
+    let Some(end) = text.find("tx 0") else {
+        panic!(rt; "no transaction");
+    };
+    text.truncate(end);
+    text.push_str("tx 1\nmove 2 3 4\ncancel\nend\nswitch 1 CGL\ntx 0\nend\n")?;
+    text.push_str("schedule\ngo 1 2\ngo 0 999998\ndone\n")?;
+    let read = parse(rt.alloc(), text.as_bytes(), Mode::Step)?;
+    let ops: &[Op] = &[Op::Move(2, 3, 4), Op::Cancel];
+    match read.items.as_slice() {
+        [
+            Item::Tx { caller: 1, script },
+            Item::Switch {
+                caller: 1,
+                alg: Alg::Cgl,
+            },
+            Item::Tx {
+                caller: 0,
+                script: empty,
+            },
+        ] => {
+            assert_eq!(rt; script.as_slice(), ops);
+            assert!(rt; empty.as_slice().is_empty());
+        }
+        _ => panic!(rt; "other items"),
+    }
+    let turns = [
+        Go {
+            caller: 1,
+            turns: 2,
+        },
+        Go {
+            caller: 0,
+            turns: 999998,
+        },
+    ];
+    assert_eq!(rt; read.schedule.as_slice(), turns.as_slice());
     Ok(())
 }
 

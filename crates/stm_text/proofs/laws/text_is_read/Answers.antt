@@ -1,5 +1,5 @@
-use Rattle.stm_text.proofs.TextLaws.{workload_of-text_of}
+use Rattle.stm_text.proofs.TextLaws.{text-read}
 use Rattle.stm_text.proofs.laws.text_is_read.Goals as goal
 
 pub returns : goal.returns
-returns c = workload_of-text_of
+returns c = text-read

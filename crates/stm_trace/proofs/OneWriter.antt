@@ -1,0 +1,39 @@
+-- The trace of one transaction that writes.
+use Rattle.std.proofs.Common.{ℕ, ◌≡◌, [], ◌∷◌, refl, true, arith}
+use Rattle.std.proofs.lemmas.List.Sorted.{IsPermutation-refl}
+use Rattle.stm_model.specs.declared.alg.Alg.{Alg}
+use Rattle.stm_script.specs.declared.op.Op.TheVariants.{Write}
+use Rattle.stm_script.specs.declared.workload.Header.{Header}
+use Rattle.tx_answers.specs.declared.answers.Begin.TheVariants.{Begun}
+use Rattle.tx_answers.specs.declared.answers.Commit.TheVariants.{Committed}
+use Rattle.stm_trace.specs.declared.line.Line.TheVariants.{Of, Finish}
+use Rattle.stm_trace.specs.declared.said.Phase.TheVariants.{Between}
+use Rattle.stm_trace.specs.declared.said.Said.TheVariants.{TryBegin, Reply, TryCommit}
+use Rattle.stm_trace.specs.Fits.{first_place}
+use Rattle.stm_trace.specs.Places.{Place}
+use Rattle.stm_trace.specs.Told.{OneWriterFits, one_writer, one_writer_rows}
+use Rattle.stm_trace.specs.Turns.{IsOver}
+use Rattle.std.proofs.lemmas.List.Elements.{All-nil, All-cons}
+
+abbrev done : Header → Alg → ℕ → ℕ → ℕ → Place
+done h alg a v time = record { caller = 0; left = []; phase = Between; alg = alg; rest = []; replies = []; emits = []; wrote = true; rows = one_writer_rows v time }
+
+pub writer-fits : OneWriterFits
+writer-fits h alg a v time memory =
+    let start : Place = first_place (one_writer h a v) 0 in
+    record {
+      calm = (refl, (refl, (refl, tt)));
+      now = done h alg a v time ∷ [];
+      finished = record {
+        first = Finish ∷ [];
+        second = Of 0 (TryBegin (Begun alg)) ∷ Of 0 (Reply (Write a v) v) ∷ Of 0 (TryCommit (Committed time)) ∷ [];
+        parts = refl;
+        middle = start ∷ [];
+        wound = record { first = []; second = []; parts = refl; middle = start ∷ []; played = refl; order = refl; path = refl; rises = tt };
+        closed = All-cons (λ (at : Place). at.phase ≡ Between) start [] refl (All-nil (λ (at : Place). at.phase ≡ Between));
+        path = (omega arith, (refl, tt), tt, (omega arith, (refl, refl, refl), tt, (omega arith, (refl, refl), refl, refl)));
+        rises = (omega arith, (omega arith, (omega arith, tt)));
+      };
+      over = All-cons IsOver (done h alg a v time) [] (refl, refl) (All-nil IsOver);
+      told = IsPermutation-refl (one_writer_rows v time);
+    }

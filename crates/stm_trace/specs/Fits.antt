@@ -1,0 +1,122 @@
+-- WHAT A TRACE IS: which lines are the trace of a workload, and which rows they tell.
+use Rattle.std.specs.Prelude.{ℕ, ◌≡◌, ◌<◌, ◌≤◌, ◌⊎◌, false, Some, None, List, [], ◌∷◌, ◌++◌, length, map, replicate, All, slice_index_or, slice_set, IsPermutation}
+use Rattle.stm_model.specs.declared.alg.Alg.TheVariants.{Cgl}
+use Rattle.stm_script.specs.declared.report.Report.{Report}
+use Rattle.stm_script.specs.declared.report.Row.{Row}
+use Rattle.stm_script.specs.declared.workload.Go.{Go}
+use Rattle.stm_script.specs.declared.workload.Header.{Header}
+use Rattle.stm_script.specs.declared.workload.Workload.{Workload}
+use Rattle.stm_script.specs.Reports.{counted}
+use Rattle.stm_trace.specs.declared.line.Line.{Line}
+use Rattle.stm_trace.specs.declared.line.Line.TheVariants.{Of, Finish}
+use Rattle.stm_trace.specs.declared.said.Phase.TheVariants.{Between}
+use Rattle.stm_trace.specs.declared.said.Said.{Said}
+use Rattle.stm_trace.specs.Places.{Place, after, clock_of, items_of}
+use Rattle.stm_trace.specs.Turns.{MaySay, MayWind, MayFinish, IsFair, IsOver}
+
+-- where a caller stands at first
+abbrev pub first_place : Workload → ℕ → Place
+first_place w n = record { caller = n; left = items_of n w.items; phase = Between; alg = w.header.alg; rest = []; replies = []; emits = []; wrote = false; rows = [] }
+
+abbrev pub first_places : Workload → List Place
+first_places w = map (first_place w) (counted 0 w.header.callers)
+
+abbrev pub no_place : Place
+no_place = record { caller = 0; left = []; phase = Between; alg = Cgl; rest = []; replies = []; emits = []; wrote = false; rows = [] }
+
+abbrev pub place_of : List Place → ℕ → Place
+place_of places n = slice_index_or places n no_place
+
+-- the caller says this: its place is the one after it, and the others stand
+abbrev pub says : List Place → ℕ → Said → List Place
+says places n said = slice_set places n (after (place_of places n) said)
+
+-- whose turns the lines are
+abbrev pub callers : List Line → List ℕ
+callers [] = []
+callers (Of n said ∷ lines) = n ∷ callers lines
+callers (Finish ∷ lines) = callers lines
+
+-- whose turns a schedule has
+abbrev pub turns : List Go → List ℕ
+turns [] = []
+turns (go ∷ gos) = replicate go.turns go.caller ++ turns gos
+
+-- ascending, from low on
+abbrev pub Rising : ℕ → List ℕ → Type 0
+Rising low [] = Unit {0}
+Rising low (n ∷ ns) = (low ≤ n) × Rising n ns
+
+-- no line tells of a full clock
+abbrev pub IsCalm : List Line → Type 0
+IsCalm [] = Unit {0}
+IsCalm (Of n said ∷ lines) = (clock_of said ≡ None) × IsCalm lines
+IsCalm (Finish ∷ lines) = IsCalm lines
+
+-- the rows that the callers have
+abbrev pub all_told : List Place → List Row
+all_told [] = []
+all_told (at ∷ places) = at.rows ++ all_told places
+
+-- h is the workload's header
+module _ (h : Header) where
+  -- each line may come where its caller stands, as the lines before it tell, with fair numbers; behind them the callers stand at last
+  abbrev pub Path : (Place → Said → Type 0) → List Place → List Line → List Place → Type 0
+  Path may places [] last = places ≡ last
+  Path may places (Of n said ∷ lines) last = (n < length places) × may (place_of places n) said × IsFair h (place_of places n) said × Path may (says places n said) lines last
+  Path may places (Finish ∷ lines) last = ⊥
+
+  -- in the schedule: the lines are its first turns
+  pub record Scheduled (start : List Place) (schedule : List Go) (lines : List Line) (now : List Place) : Type 0 where
+    pub path : Path MaySay start lines now
+    pub later : List ℕ
+    pub order : callers lines ++ later ≡ turns schedule
+
+  -- behind it, while attempts and closings end, each caller's in turn
+  pub record Winding (start : List Place) (schedule : List Go) (lines : List Line) (now : List Place) : Type 0 where
+    pub first : List Line
+    pub second : List Line
+    pub parts : lines ≡ first ++ (Finish ∷ second)
+    pub middle : List Place
+    pub played : Path MaySay start first middle
+    pub order : callers first ≡ turns schedule
+    pub path : Path MayWind middle second now
+    pub rises : Rising 0 (callers second)
+
+  -- no attempt and no closing is open, and each caller in turn goes on until nothing is left
+  pub record Finishing (start : List Place) (schedule : List Go) (lines : List Line) (now : List Place) : Type 0 where
+    pub first : List Line
+    pub second : List Line
+    pub parts : lines ≡ first ++ second
+    pub middle : List Place
+    pub wound : Winding start schedule first middle
+    pub closed : All (λ (at : Place). at.phase ≡ Between) middle
+    pub path : Path MayFinish middle second now
+    pub rises : Rising 0 (callers second)
+
+  -- the lines are those of a schedule and its end, and the rows those that they tell, in some order
+  pub record IsWhole (start : List Place) (schedule : List Go) (lines : List Line) (rows : List Row) : Type 0 where
+    pub calm : IsCalm lines
+    pub now : List Place
+    pub finished : Finishing start schedule lines now
+    pub over : All IsOver now
+    pub told : IsPermutation (all_told now) rows
+
+  -- the last line, and no other, tells of a full clock: this one
+  pub record IsCut (start : List Place) (schedule : List Go) (lines : List Line) (clock : ℕ) : Type 0 where
+    pub before : List Line
+    pub caller : ℕ
+    pub said : Said
+    pub parts : lines ≡ before ++ Of caller said ∷ []
+    pub calm : IsCalm before
+    pub full : clock_of said ≡ Some clock
+    pub now : List Place
+    pub reached : Scheduled start schedule lines now ⊎ (Winding start schedule lines now ⊎ Finishing start schedule lines now)
+
+-- THE TRACE FITS the workload and its report
+abbrev pub TraceFits : Workload → List Line → Report → Type 0
+TraceFits w lines report = IsWhole w.header (first_places w) w.schedule lines report.rows
+
+-- the trace fits the workload up to a clock that was found full
+abbrev pub TraceFitsSoFar : Workload → List Line → ℕ → Type 0
+TraceFitsSoFar w lines clock = IsCut w.header (first_places w) w.schedule lines clock

@@ -1,0 +1,133 @@
+-- Where a caller stands, as what was said so far tells.
+use Rattle.std.specs.Prelude.{ℕ, ◌==◌, Bool, true, false, ◌||◌, List, [], ◌∷◌, ◌++◌, length, Option, Some, None, if◌then◌else◌}
+use Rattle.stm_model.specs.declared.alg.Alg.{Alg}
+use Rattle.stm_model.specs.declared.stop.Stop.{Stop}
+use Rattle.stm_model.specs.declared.stop.Stop.TheVariants.{Conflict, Full, ClockFull}
+use Rattle.stm_script.specs.declared.op.Op.{Op}
+use Rattle.stm_script.specs.declared.op.Op.TheVariants.{Read, Write, Add, Move, Cancel}
+use Rattle.stm_script.specs.declared.report.Kind.{Kind}
+use Rattle.stm_script.specs.declared.report.Kind.TheVariants.{W, R, C}
+use Rattle.stm_script.specs.declared.report.Row.{Row}
+use Rattle.stm_script.specs.declared.workload.Item.{Item}
+use Rattle.stm_script.specs.declared.workload.Item.TheVariants.{Tx, Switch}
+use Rattle.tx_answers.specs.declared.answers.Begin.TheVariants.{Begun, Closed, Held, ClockFull}
+use Rattle.tx_answers.specs.declared.answers.Cancel.TheVariants.{Cancelled, Irrevocable}
+use Rattle.tx_answers.specs.declared.answers.CloseGate.TheVariants.{Closed, Taken}
+use Rattle.tx_answers.specs.declared.answers.Commit.TheVariants.{Committed, ReadOnly, Conflict, Again, ClockFull}
+use Rattle.tx_answers.specs.declared.answers.Look.TheVariants.{Quiet, Busy}
+use Rattle.stm_trace.specs.declared.said.Phase.{Phase}
+use Rattle.stm_trace.specs.declared.said.Phase.TheVariants.{Between, Inside, Closing, Quiet}
+use Rattle.stm_trace.specs.declared.said.Said.{Said}
+use Rattle.stm_trace.specs.declared.said.Said.TheVariants.{TryBegin, Reply, Stopped, TryCancel, TryCommit, TryClose, Looked, Installed, Idle, Dropped, Reopened}
+
+-- what the caller has still to do; of its last attempt the algorithm, and of an open one the operations still to come, the replies so far, and whether it wrote; and its rows
+pub record Place : Type 0 where
+  pub caller : ℕ
+  pub left : List Item
+  pub phase : Phase
+  pub alg : Alg
+  pub rest : List Op
+  pub replies : List ℕ
+  pub emits : List ℕ
+  pub wrote : Bool
+  pub rows : List Row
+
+-- the operations of the first item
+abbrev pub script_at : List Item → List Op
+script_at [] = []
+script_at (Tx caller script ∷ items) = script
+script_at (Switch caller alg ∷ items) = []
+
+abbrev pub rest_of : {A : Type 0} → List A → List A
+rest_of [] = []
+rest_of (x ∷ xs) = xs
+
+-- an operation that replied this wrote
+abbrev pub writes : Op → ℕ → Bool
+writes (Read a) reply = false
+writes (Write a v) reply = true
+writes (Add a k) reply = true
+writes (Move a b k) reply = reply == 1
+writes Cancel reply = false
+
+abbrev pub may_write : Op → Bool
+may_write (Read a) = false
+may_write (Write a v) = true
+may_write (Add a k) = true
+may_write (Move a b k) = true
+may_write Cancel = false
+
+-- a new attempt: nothing of an earlier one stays
+abbrev pub begun : Alg → Place → Place
+begun alg at = record at { phase = Inside; alg = alg; rest = script_at at.left; replies = []; emits = []; wrote = false }
+
+-- the next operation is done
+abbrev pub replied : Op → ℕ → Place → Place
+replied op reply at = record at { rest = rest_of at.rest; replies = at.replies ++ reply ∷ []; wrote = at.wrote || writes op reply }
+
+-- the attempt is over, and its script still to do
+abbrev pub given_up : Place → Place
+given_up at = record at { phase = Between; replies = []; emits = [] }
+
+-- the transaction has ended, and has its row
+abbrev pub row_at : Kind → ℕ → Place → Row
+row_at kind time at = record { kind = kind; place = time; caller = at.caller; seq = length at.rows; replies = at.replies; emits = at.emits }
+
+abbrev pub ended : Kind → ℕ → Place → Place
+ended kind time at = record at { phase = Between; left = rest_of at.left; replies = []; emits = []; rows = at.rows ++ row_at kind time at ∷ [] }
+
+-- where the caller stands after this was said
+abbrev pub after : Place → Said → Place
+after at (TryBegin (Begun alg)) = begun alg at
+after at (TryBegin (Closed gate)) = at
+after at (TryBegin (Held word)) = at
+after at (TryBegin (ClockFull clock)) = at
+after at (Reply op reply) = replied op reply at
+after at (Stopped op stop) = given_up at
+after at (TryCancel (Cancelled time)) = ended C time (record at { replies = at.replies ++ 1 ∷ [] })
+after at (TryCancel Irrevocable) = replied Cancel 0 at
+after at (TryCommit (Committed time)) = ended W time at
+after at (TryCommit (ReadOnly time)) = ended R time at
+after at (TryCommit (Conflict cause)) = given_up at
+after at (TryCommit (Again word had now)) = at
+after at (TryCommit (ClockFull clock)) = given_up at
+after at (TryClose Closed) = record at { phase = Closing }
+after at (TryClose (Taken gate)) = at
+after at (Looked Quiet) = record at { phase = Quiet }
+after at (Looked (Busy caller status)) = at
+after at (Installed alg) = record at { phase = Between; left = rest_of at.left }
+after at Idle = at
+after at Dropped = given_up at
+after at Reopened = record at { phase = Between }
+
+-- the clock that was found at its limit
+abbrev pub stop_clock : Stop → Option ℕ
+stop_clock (Conflict cause) = None
+stop_clock (Full limit) = None
+stop_clock (ClockFull clock) = Some clock
+
+abbrev pub clock_of : Said → Option ℕ
+clock_of (TryBegin (Begun alg)) = None
+clock_of (TryBegin (Closed gate)) = None
+clock_of (TryBegin (Held word)) = None
+clock_of (TryBegin (ClockFull clock)) = Some clock
+clock_of (Reply op reply) = None
+clock_of (Stopped op stop) = stop_clock stop
+clock_of (TryCancel c) = None
+clock_of (TryCommit (Committed time)) = None
+clock_of (TryCommit (ReadOnly time)) = None
+clock_of (TryCommit (Conflict cause)) = None
+clock_of (TryCommit (Again word had now)) = None
+clock_of (TryCommit (ClockFull clock)) = Some clock
+clock_of (TryClose c) = None
+clock_of (Looked l) = None
+clock_of (Installed alg) = None
+clock_of Idle = None
+clock_of Dropped = None
+clock_of Reopened = None
+
+-- the items of one caller, in the order of the text
+abbrev pub items_of : ℕ → List Item → List Item
+items_of n [] = []
+items_of n (Tx caller script ∷ items) = if caller == n then Tx caller script ∷ items_of n items else items_of n items
+items_of n (Switch caller alg ∷ items) = if caller == n then Switch caller alg ∷ items_of n items else items_of n items

@@ -1,0 +1,154 @@
+-- Some turns behind others.
+use Rattle.std.proofs.Common.{ℕ, zero, suc, ◌≡◌, ◌≢◌, ◌<◌, List, [], ◌∷◌, ◌++◌, length, get_or, set, refl, sym, ap, ◌∙◌, subst, append_assoc, true}
+use Rattle.std.specs.Prelude.{map, Some, None, replicate}
+use Rattle.std.proofs.lemmas.List.{length-map, get_or-map, map-set, length-set, get_or-set_other}
+use Rattle.stm_script.specs.declared.workload.Header.{Header}
+use Rattle.stm_trace.specs.declared.line.Line.{Line}
+use Rattle.stm_trace.specs.declared.line.Line.TheVariants.{Of, Finish}
+use Rattle.stm_trace.specs.declared.said.Said.{Said}
+use Rattle.stm_trace.specs.declared.said.Said.TheVariants.{TryBegin, Reply, Stopped, TryCancel, TryCommit, TryClose, Looked, Installed, Idle, Dropped, Reopened}
+use Rattle.stm_trace.specs.Fits.{Path, IsCalm, callers, place_of, no_place, says}
+use Rattle.stm_trace.specs.Places.{Place, after, clock_of}
+use Rattle.stm_trace.specs.Played.{Played, Halted}
+use Rattle.stm_trace.specs.Turns.{IsFair, IsOver, MaySay, MayWind, MayFinish, sure}
+use Rattle.stm_trace.specs.declared.said.Phase.TheVariants.{Inside}
+
+pub append-nil : {A : Type 0} (xs : List A) → xs ++ [] ≡ xs
+append-nil [] = refl
+append-nil (x ∷ xs) = ap (λ w. x ∷ w) (append-nil xs)
+
+pub callers-append : (xs ys : List Line) → callers (xs ++ ys) ≡ callers xs ++ callers ys
+callers-append [] ys = refl
+callers-append (Of n said ∷ xs) ys = ap (λ w. n ∷ w) (callers-append xs ys)
+callers-append (Finish ∷ xs) ys = callers-append xs ys
+
+pub calm-append : (xs ys : List Line) → IsCalm xs → IsCalm ys → IsCalm (xs ++ ys)
+calm-append [] ys a b = b
+calm-append (Of n said ∷ xs) ys a b = (a.0, calm-append xs ys a.1 b)
+calm-append (Finish ∷ xs) ys a b = calm-append xs ys a b
+
+-- who isn't at the end says what may be said while the schedule goes on
+pub may-finish : (at : Place) (said : Said) → (IsOver at → ⊥) → MaySay at said → MayFinish at said
+may-finish at (TryBegin b) still m = m
+may-finish at (Reply op reply) still m = m
+may-finish at (Stopped op stop) still m = m
+may-finish at (TryCancel c) still m = m
+may-finish at (TryCommit c) still m = m
+may-finish at (TryClose c) still m = m
+may-finish at (Looked l) still m = m
+may-finish at (Installed alg) still m = m
+may-finish at Idle still m = absurd (still m)
+may-finish at Dropped still m = m
+may-finish at Reopened still m = m
+
+-- who can't cancel its open attempt says the same once the schedule is over
+pub may-wind : (at : Place) (said : Said) → at.phase ≡ Inside → sure at ≡ true → MaySay at said → MayWind at said
+may-wind at (TryBegin b) here is m = (here, is, m)
+may-wind at (Reply op reply) here is m = (here, is, m)
+may-wind at (Stopped op stop) here is m = (here, is, m)
+may-wind at (TryCancel c) here is m = (here, is, m)
+may-wind at (TryCommit c) here is m = (here, is, m)
+may-wind at (TryClose c) here is m = (here, is, m)
+may-wind at (Looked l) here is m = (here, is, m)
+may-wind at (Installed alg) here is m = (here, is, m)
+may-wind at Idle here is m = (here, is, m)
+may-wind at Dropped here is m = absurd m
+may-wind at Reopened here is m = absurd m
+
+-- no turn is the caller's
+abbrev pub IsSilent : ℕ → List ℕ → Type 0
+IsSilent k [] = Unit {0}
+IsSilent k (n ∷ ns) = (k ≢ n) × IsSilent k ns
+
+pub silent-replicate : (k n turns : ℕ) → k ≢ n → IsSilent k (replicate turns n)
+silent-replicate k n zero other = tt
+silent-replicate k n (suc turns) other = (other, silent-replicate k n turns other)
+
+module _ (h : Header) (may : Place → Said → Type 0) where
+  pub path-append : (places : List Place) (xs : List Line) (mid : List Place) (ys : List Line) (last : List Place)
+      → Path h may places xs mid → Path h may mid ys last → Path h may places (xs ++ ys) last
+  path-append places [] mid ys last a b = subst (λ s. Path h may s ys last) (sym a) b
+  path-append places (Of n said ∷ xs) mid ys last a b = (a.0, a.1, a.2, path-append (says places n said) xs mid ys last a.3 b)
+  path-append places (Finish ∷ xs) mid ys last a b = absurd a
+
+  -- no caller comes or goes
+  pub path-length : (places : List Place) (lines : List Line) (last : List Place) → Path h may places lines last → length last ≡ length places
+  path-length places [] last a = ap (λ ps. length ps) (sym a)
+  path-length places (Of n said ∷ lines) last a = path-length (says places n said) lines last a.3 ∙ length-set places n (after (place_of places n) said)
+  path-length places (Finish ∷ lines) last a = absurd a
+
+  -- who says nothing stays where it stands
+  pub path-others : (places : List Place) (lines : List Line) (last : List Place) (k : ℕ) → Path h may places lines last → IsSilent k (callers lines) → place_of last k ≡ place_of places k
+  path-others places [] last k a others = ap (λ ps. place_of ps k) (sym a)
+  path-others places (Of n said ∷ lines) last k a others = path-others (says places n said) lines last k a.3 others.1 ∙ get_or-set_other places n k (after (place_of places n) said) no_place others.0
+  path-others places (Finish ∷ lines) last k a others = absurd a
+
+  -- one turn of one of many, whatever they are, of which f tells the place
+  pub path-one : {W : Type 0} (f : W → Place) (ws : List W) (n : ℕ) (d w : W) (said : Said)
+      → n < length ws → may (f (get_or ws n d)) said → IsFair h (f (get_or ws n d)) said → f w ≡ after (f (get_or ws n d)) said
+      → Path h may (map f ws) (Of n said ∷ []) (map f (set ws n w))
+  path-one f ws n d w said lt here fair now =
+      let e : place_of (map f ws) n ≡ f (get_or ws n d) = get_or-map f ws n d no_place lt in
+      let next = ap (λ a. set (map f ws) n a) (ap (λ a. after a said) e ∙ sym now) ∙ sym (map-set f ws n w) in
+      (subst (λ k. n < k) (sym (length-map ws f)) lt, subst (λ a. may a said) (sym e) here, subst (λ a. IsFair h a said) (sym e) fair, next)
+
+  pub played-none : (places : List Place) (lines : List Line) → Played h may places places lines lines []
+  played-none places lines = record { more = []; lines = sym (append-nil lines); path = refl; turned = refl; calm = tt }
+
+  module _ {W : Type 0} (f : W → Place) (ws : List W) (n : ℕ) (d w : W) (said : Said) (old new : List Line)
+      (lt : n < length ws) (here : may (f (get_or ws n d)) said) (fair : IsFair h (f (get_or ws n d)) said) (now : f w ≡ after (f (get_or ws n d)) said)
+      (lines : new ≡ old ++ Of n said ∷ []) where
+    pub played-one : clock_of said ≡ None → Played h may (map f ws) (map f (set ws n w)) old new (n ∷ [])
+    played-one calm = record { more = Of n said ∷ []; lines = lines; path = path-one f ws n d w said lt here fair now; turned = refl; calm = (calm, tt) }
+
+    pub halted-one : (clock : ℕ) → clock_of said ≡ Some clock → Halted h may (map f ws) (map f (set ws n w)) old new (n ∷ []) clock
+    halted-one clock full = record {
+      more = Of n said ∷ [];
+      lines = lines;
+      path = path-one f ws n d w said lt here fair now;
+      later = [];
+      turned = refl;
+      full = record { before = []; caller = n; said = said; parts = refl; calm = tt; full = full };
+    }
+
+  module _ (ps qs rs : List Place) (a b c : List Line) (first second : List ℕ) where
+    pub played-append : Played h may ps qs a b first → Played h may qs rs b c second → Played h may ps rs a c (first ++ second)
+    played-append p q = record {
+      more = p.more ++ q.more;
+      lines = q.lines ∙ (ap (λ w. w ++ q.more) p.lines ∙ append_assoc a p.more q.more);
+      path = path-append ps p.more qs q.more rs p.path q.path;
+      turned = callers-append p.more q.more ∙ (ap (λ w. w ++ callers q.more) p.turned ∙ ap (λ w. first ++ w) q.turned);
+      calm = calm-append p.more q.more p.calm q.calm;
+    }
+
+    pub halted-append : (clock : ℕ) → Played h may ps qs a b first → Halted h may qs rs b c second clock → Halted h may ps rs a c (first ++ second) clock
+    halted-append clock p q = record {
+      more = p.more ++ q.more;
+      lines = q.lines ∙ (ap (λ w. w ++ q.more) p.lines ∙ append_assoc a p.more q.more);
+      path = path-append ps p.more qs q.more rs p.path q.path;
+      later = q.later;
+      turned = ap (λ w. w ++ q.later) (callers-append p.more q.more) ∙ (append_assoc (callers p.more) (callers q.more) q.later ∙ (ap (λ w. w ++ (callers q.more ++ q.later)) p.turned ∙ ap (λ w. first ++ w) q.turned));
+      full = record {
+        before = p.more ++ q.full.before;
+        caller = q.full.caller;
+        said = q.full.said;
+        parts = ap (λ w. p.more ++ w) q.full.parts ∙ sym (append_assoc p.more q.full.before (Of q.full.caller q.full.said ∷ []));
+        calm = calm-append p.more q.full.before p.calm q.full.calm;
+        full = q.full.full;
+      };
+    }
+
+  module _ (ps qs : List Place) (a b : List Line) (order : List ℕ) where
+    pub played-as : (other : List ℕ) → order ≡ other → Played h may ps qs a b order → Played h may ps qs a b other
+    played-as other e p = subst (λ o. Played h may ps qs a b o) e p
+
+    -- more was to come
+    pub halted-early : (more other : List ℕ) (clock : ℕ) → order ++ more ≡ other → Halted h may ps qs a b order clock → Halted h may ps qs a b other clock
+    halted-early more other clock e p = record {
+      more = p.more;
+      lines = p.lines;
+      path = p.path;
+      later = p.later ++ more;
+      turned = sym (append_assoc (callers p.more) p.later more) ∙ (ap (λ w. w ++ more) p.turned ∙ e);
+      full = p.full;
+    }

@@ -1,0 +1,172 @@
+-- THE TABLE OF TURNS: what may be said where a caller stands, and with which numbers.
+use Rattle.std.specs.Prelude.{ℕ, ◌≡◌, ◌≢◌, ◌<◌, ◌≤◌, ◌+◌, ◌⊎◌, Bool, true, false, List, [], ◌∷◌}
+use Rattle.rule_base.specs.Encodings.{holder_of, has_records, is_owned, owner_of, version_of}
+use Rattle.rule_base.specs.declared.layout.TheConstants.{CLOCK_LIMIT}
+use Rattle.stm_model.specs.declared.alg.Alg.{Alg}
+use Rattle.stm_model.specs.declared.alg.Alg.TheVariants.{Cgl, Tml, OrecLazy, OrecEager, RingSw, Serial}
+use Rattle.stm_model.specs.declared.stop.Cause.{Cause}
+use Rattle.stm_model.specs.declared.stop.Cause.TheVariants.{Clock, Record, Moved, Filter, Overrun}
+use Rattle.stm_model.specs.declared.stop.Stop.{Stop}
+use Rattle.stm_model.specs.declared.stop.Stop.TheVariants.{Conflict, Full, ClockFull}
+use Rattle.stm_script.specs.declared.op.Op.{Op}
+use Rattle.stm_script.specs.declared.op.Op.TheVariants.{Cancel}
+use Rattle.stm_script.specs.Operations.{is_cancel}
+use Rattle.stm_script.specs.declared.workload.Header.{Header}
+use Rattle.stm_script.specs.declared.workload.Item.{Item}
+use Rattle.stm_script.specs.declared.workload.Item.TheVariants.{Tx, Switch}
+use Rattle.tx_answers.specs.Known.{is_sure}
+use Rattle.tx_answers.specs.declared.answers.Begin.TheVariants.{Begun, Closed, Held, ClockFull}
+use Rattle.tx_answers.specs.declared.answers.Cancel.TheVariants.{Cancelled, Irrevocable}
+use Rattle.tx_answers.specs.declared.answers.CloseGate.TheVariants.{Closed, Taken}
+use Rattle.tx_answers.specs.declared.answers.Commit.TheVariants.{Committed, ReadOnly, Conflict, Again, ClockFull}
+use Rattle.tx_answers.specs.declared.answers.Look.TheVariants.{Quiet, Busy}
+use Rattle.stm_trace.specs.declared.said.Phase.TheVariants.{Between, Inside, Closing, Quiet}
+use Rattle.stm_trace.specs.declared.said.Said.{Said}
+use Rattle.stm_trace.specs.declared.said.Said.TheVariants.{TryBegin, Reply, Stopped, TryCancel, TryCommit, TryClose, Looked, Installed, Idle, Dropped, Reopened}
+use Rattle.stm_trace.specs.Places.{Place, may_write}
+
+-- a transaction comes next
+abbrev pub BeforeTx : List Item → Type 0
+BeforeTx [] = ⊥
+BeforeTx (Tx caller script ∷ items) = Unit {0}
+BeforeTx (Switch caller alg ∷ items) = ⊥
+
+-- a switch comes next
+abbrev pub BeforeSwitch : List Item → Type 0
+BeforeSwitch [] = ⊥
+BeforeSwitch (Tx caller script ∷ items) = ⊥
+BeforeSwitch (Switch caller alg ∷ items) = Unit {0}
+
+-- a switch to this algorithm comes next
+abbrev pub SwitchesTo : Alg → List Item → Type 0
+SwitchesTo alg [] = ⊥
+SwitchesTo alg (Tx caller script ∷ items) = ⊥
+SwitchesTo alg (Switch caller to ∷ items) = to ≡ alg
+
+-- this operation comes next
+abbrev pub Next : Op → List Op → Type 0
+Next op [] = ⊥
+Next op (o ∷ ops) = o ≡ op
+
+-- the open attempt can't be cancelled
+abbrev pub sure : Place → Bool
+sure at = is_sure at.alg false at.wrote
+
+-- nothing is left to the caller
+abbrev pub IsOver : Place → Type 0
+IsOver at = (at.phase ≡ Between) × (at.left ≡ [])
+
+-- where it may be said, while the schedule goes on
+abbrev pub MaySay : Place → Said → Type 0
+MaySay at (TryBegin b) = (at.phase ≡ Between) × BeforeTx at.left
+MaySay at (Reply op reply) = (at.phase ≡ Inside) × Next op at.rest × (is_cancel op ≡ false)
+MaySay at (Stopped op stop) = (at.phase ≡ Inside) × Next op at.rest × (is_cancel op ≡ false)
+MaySay at (TryCancel c) = (at.phase ≡ Inside) × Next Cancel at.rest
+MaySay at (TryCommit c) = (at.phase ≡ Inside) × (at.rest ≡ [])
+MaySay at (TryClose c) = (at.phase ≡ Between) × BeforeSwitch at.left
+MaySay at (Looked l) = at.phase ≡ Closing
+MaySay at (Installed alg) = (at.phase ≡ Quiet) × SwitchesTo alg at.left
+MaySay at Idle = IsOver at
+MaySay at Dropped = ⊥
+MaySay at Reopened = ⊥
+
+-- once the schedule is over, until no attempt and no closing is open: an attempt that can't be cancelled goes on to its end
+abbrev pub MayWind : Place → Said → Type 0
+MayWind at Dropped = (at.phase ≡ Inside) × (sure at ≡ false)
+MayWind at Reopened = (at.phase ≡ Closing) ⊎ (at.phase ≡ Quiet)
+MayWind at said = (at.phase ≡ Inside) × (sure at ≡ true) × MaySay at said
+
+-- and then: nobody says that nothing is left
+abbrev pub MayFinish : Place → Said → Type 0
+MayFinish at Idle = ⊥
+MayFinish at said = MaySay at said
+
+-- the algorithm has a read log; a write or undo log
+abbrev pub has_reads : Alg → Bool
+has_reads Cgl = false
+has_reads Tml = false
+has_reads OrecLazy = true
+has_reads OrecEager = true
+has_reads RingSw = false
+has_reads Serial = false
+
+abbrev pub has_writes : Alg → Bool
+has_writes Cgl = false
+has_writes Tml = false
+has_writes OrecLazy = true
+has_writes OrecEager = true
+has_writes RingSw = true
+has_writes Serial = true
+
+-- a write loads the clock; a writer's commit does
+abbrev pub asks_at_write : Alg → Bool
+asks_at_write Cgl = false
+asks_at_write Tml = true
+asks_at_write OrecLazy = false
+asks_at_write OrecEager = true
+asks_at_write RingSw = false
+asks_at_write Serial = true
+
+abbrev pub asks_at_commit : Alg → Bool
+asks_at_commit Cgl = false
+asks_at_commit Tml = false
+asks_at_commit OrecLazy = true
+asks_at_commit OrecEager = true
+asks_at_commit RingSw = true
+asks_at_commit Serial = false
+
+-- h is the workload's header
+module _ (h : Header) where
+  -- the number, as that of a holder, names another caller of the header
+  abbrev pub NamesOther : Place → ℕ → Type 0
+  NamesOther at holder = (holder ≢ 0) × (holder ≢ 1 + at.caller) × (holder < 1 + h.callers)
+
+  -- another caller's doing: with one caller there is none
+  abbrev pub HasOthers : Type 0
+  HasOthers = 1 < h.callers
+
+  -- a conflict comes under the algorithm of the attempt, with the inequality of its cause
+  abbrev pub IsFairCause : Place → Cause → Type 0
+  IsFairCause at (Clock had now) = (at.alg ≡ Tml) × (had ≢ now)
+  IsFairCause at (Record index word start) = (has_records at.alg ≡ true) × (index < h.records)
+      × (((is_owned word ≡ true) × (owner_of word ≢ at.caller)) ⊎ ((is_owned word ≡ false) × (start < version_of word)))
+  IsFairCause at (Moved index before after) = (has_records at.alg ≡ true) × (index < h.records) × (before ≢ after)
+  IsFairCause at (Filter time bits) = (at.alg ≡ RingSw) × (0 < time) × (bits ≢ 0)
+  IsFairCause at (Overrun start clock) = (at.alg ≡ RingSw) × (start + h.ring ≤ clock)
+
+  -- another commit was faster: at the clock, or at the lock
+  abbrev pub IsFairAgain : Place → ℕ → ℕ → ℕ → Type 0
+  IsFairAgain at word had now = ((word ≡ 0) × (has_records at.alg ≡ true) × (had ≢ now)) ⊎ ((word ≡ 1) × (at.alg ≡ RingSw) × (had ≡ 0) × NamesOther at now)
+
+  -- the length of a log that the algorithm has
+  abbrev pub IsFairLimit : Place → ℕ → Type 0
+  IsFairLimit at limit = ((has_reads at.alg ≡ true) × (limit ≡ h.reads)) ⊎ ((has_writes at.alg ≡ true) × (limit ≡ h.writes))
+
+  abbrev pub IsFairStop : Place → Op → Stop → Type 0
+  IsFairStop at op (Conflict cause) = HasOthers × IsFairCause at cause
+  IsFairStop at op (Full limit) = IsFairLimit at limit
+  IsFairStop at op (ClockFull clock) = (CLOCK_LIMIT ≤ clock) × (asks_at_write at.alg ≡ true) × (may_write op ≡ true)
+
+  -- THE NUMBERS of each answer are such as its cause allows; who can't be cancelled is not refused
+  abbrev pub IsFair : Place → Said → Type 0
+  IsFair at (TryBegin (Begun alg)) = Unit {0}
+  IsFair at (TryBegin (Closed gate)) = HasOthers × NamesOther at (holder_of gate)
+  IsFair at (TryBegin (Held word)) = HasOthers × (word ≢ 0)
+  IsFair at (TryBegin (ClockFull clock)) = CLOCK_LIMIT ≤ clock
+  IsFair at (Reply op reply) = Unit {0}
+  IsFair at (Stopped op stop) = (sure at ≡ false) × IsFairStop at op stop
+  IsFair at (TryCancel (Cancelled time)) = sure at ≡ false
+  IsFair at (TryCancel Irrevocable) = sure at ≡ true
+  IsFair at (TryCommit (Committed time)) = at.wrote ≡ true
+  IsFair at (TryCommit (ReadOnly time)) = at.wrote ≡ false
+  IsFair at (TryCommit (Conflict cause)) = (sure at ≡ false) × HasOthers × IsFairCause at cause
+  IsFair at (TryCommit (Again word had now)) = (sure at ≡ false) × HasOthers × IsFairAgain at word had now
+  IsFair at (TryCommit (ClockFull clock)) = (sure at ≡ false) × (CLOCK_LIMIT ≤ clock) × (asks_at_commit at.alg ≡ true) × (at.wrote ≡ true)
+  IsFair at (TryClose Closed) = Unit {0}
+  IsFair at (TryClose (Taken gate)) = HasOthers × NamesOther at (holder_of gate)
+  IsFair at (Looked Quiet) = Unit {0}
+  IsFair at (Looked (Busy caller status)) = HasOthers × (caller < h.callers) × (caller ≢ at.caller) × (status ≢ 0)
+  IsFair at (Installed alg) = Unit {0}
+  IsFair at Idle = Unit {0}
+  IsFair at Dropped = Unit {0}
+  IsFair at Reopened = Unit {0}

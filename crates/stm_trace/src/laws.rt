@@ -1,0 +1,30 @@
+//! Laws of traces, each as the contract of a function.
+ghost use Rattle.stm_trace.specs.Told.{ItemsHaveScripts, OneWriterFits, TellsEachOnce};
+
+/// Each caller's own items have the scripts that it has among all.
+pub fn items_have_scripts()
+    ensures { ItemsHaveScripts }
+{}
+
+/// The report of a trace that fits has one row for each transaction, and no other: those of each caller are
+/// numbered from 0.
+pub fn tells_each_once()
+    ensures { TellsEachOnce }
+{}
+
+/// A begin, a write and a commit are the trace of a workload with the one transaction.
+pub fn one_writer_fits()
+    ensures { OneWriterFits }
+{}
+
+#[cfg(test)]
+mod tests {
+    use super::*;
+
+    #[test]
+    fn laws_are_called() {
+        items_have_scripts();
+        tells_each_once();
+        one_writer_fits();
+    }
+}
