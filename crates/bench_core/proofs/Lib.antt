@@ -2,4 +2,7 @@ mod Calls
 mod GoingLaws
 mod RowLaws
 mod TurnLaws
-mod RunLaws
+mod OrderLaws
+mod ShareLaws
+mod HistoryLaws
+mod CrewLaws

@@ -2,6 +2,8 @@ pub mod Places
 pub mod Goings
 pub mod Workers
 pub mod Runs
+pub mod Shares
+pub mod Crews
 pub mod Commands
 pub mod Messages
 pub mod Outcomes

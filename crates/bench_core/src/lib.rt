@@ -4,10 +4,14 @@
 
 pub mod bench;
 mod command;
+pub mod crew;
 mod messages;
+pub mod order;
 pub mod run;
 pub mod said;
+pub mod shares;
 pub mod status;
 #[cfg(test)]
 mod tests;
+pub mod turnstile;
 pub mod worker;

@@ -1,18 +1,24 @@
-//! `run`: the transactions of the one caller, over a transactional memory.
-ghost use Rattle.std.specs.Prelude.{◌≡◌, ◌<◌, ◌≤◌, ◌^◌, [], ◌∷◌, ◌++◌, replicate, IfOk, OnOk, MatchOption};
+//! `run`: the transactions of all callers, over a transactional memory.
+ghost use Rattle.std.specs.Prelude.{◌≡◌, [], ◌∷◌, ◌++◌, replicate, IfOk, OnOk};
 ghost use Rattle.stm_text.specs.Built.{IsBuilt};
 ghost use Rattle.stm_text.specs.declared.parse.Mode.TheVariants.{Run};
 ghost use Rattle.stm_rule.specs.Callers.{IsSameCaller};
-ghost use Rattle.stm_tx.specs.Descs.{known};
+ghost use Rattle.bench_core.specs.Crews.{IsThrough};
 ghost use Rattle.bench_core.specs.Places.{clock_of};
 ghost use Rattle.bench_core.specs.Runs.{HasRun, config_of, longest};
-ghost use Rattle.bench_core.specs.Workers.{Sound, Starts, Loaded};
+ghost use Rattle.bench_core.specs.Workers.{Sound, Starts};
 
+use crate::crew::{dismiss, muster, run_all};
+use crate::order::order;
 use crate::said::{Phase, Said};
+use crate::shares::part;
+use crate::turnstile::Turnstile;
 use crate::worker::Worker;
 use rule_base::layout::Config;
 use std::alloc::{AllocError, Global};
+use std::hint;
 use std::sync::Wait;
+use std::thread::Threads;
 use stm_model::memory::Memory;
 use stm_model::rule::{AnyMem, MemRule};
 use stm_rule::closing::close;
@@ -36,31 +42,44 @@ pub enum Ran {
     ToLimit { clock: u64, closed: Closed },
 }
 
-/// Runs the transactions of the one caller in the order of the text.
+/// Runs the transactions of all callers, each caller's in the order of the text, on a thread a caller.
+///
+/// Where several callers find the clock at its limit, the clock is that of the lowest of them.
 ///
 /// # Errors
-/// Memory, where it is refused; all of it but the report's is taken before the first transaction begins.
-pub fn run<R: Wait>(rt: &R, alloc: Global, workload: &Workload) -> Result<Ran, Memory>
-    requires { IsBuilt Run workload.now }
-    ensures { IfOk result (HasRun workload.now) }
+/// Memory, where it is refused; all of it but the memory's own words at its closing and the report's pairs is
+/// taken before the first transaction begins.
+pub fn run<R: Threads + Wait + Sync, G: Turnstile + Sync>(
+    rt: &R,
+    alloc: Global,
+    workload: Workload,
+    turnstile: &G,
+) -> Result<Ran, Memory>
+    requires { IsBuilt Run workload }
+    ensures { IfOk result (HasRun workload) }
 {
-    let Ok((stm, mut descs)) = Stm::new(alloc, config_of(&workload.header), AnyMem) else {
+    let Workload {
+        header,
+        items,
+        schedule: _,
+    } = workload;
+    let Ok((stm, descs)) = Stm::new(alloc, config_of(&header), AnyMem) else {
         return Err(Memory);
     };
-    let Some(desc) = descs.pop() else {
-        unreachable!()
-    };
-    let mut worker = start(alloc, desc, workload.items.as_slice())?;
-    let full = work(rt, &stm, &mut worker);
-    let Worker { desc, rows, .. } = worker;
-    descs.push_reserved(desc);
+    let mut rows = Vec::with_capacity(alloc, items.as_slice().len())?;
+    let mut idle = Vec::with_capacity(alloc, header.callers)?;
+    let shares = part(alloc, header.callers, items.into_vec())?;
+    let mut runners = muster(alloc, descs, shares.as_slice())?;
+    run_all(rt, &stm, turnstile, runners.as_mut_slice());
+    let full = dismiss(runners, &mut idle, &mut rows);
     report_replays(&AnyMem);
-    let Ok((words, closed)) = close(alloc, stm, descs) else {
+    let Ok((words, closed)) = close(alloc, stm, idle) else {
         return Err(Memory);
     };
     match full {
         Some(clock) => Ok(Ran::ToLimit { clock, closed }),
         None => {
+            order(rows.as_mut_slice());
             let memory = pairs(alloc, words.as_slice())?;
             let rows = Rows::new(rows);
             Ok(Ran::ToEnd {
@@ -86,15 +105,21 @@ fn config_of(header: &Header) -> Config
     }
 }
 
-/// Turns until nothing is left, or a begin finds the clock at its limit: then that clock.
-fn work<R: Wait, K: MemRule>(rt: &R, stm: &Stm<K>, w: &mut Worker<K>) -> Option<u64>
+/// Turns until nothing is left, or a begin finds the clock at its limit: then that clock. A call that another
+/// caller stood in the way of is made again at once.
+pub(crate) fn work<R: Wait, K: MemRule, G: Turnstile>(
+    rt: &R,
+    stm: &Stm<K>,
+    _turnstile: &G,
+    w: &mut Worker<K>,
+) -> Option<u64>
     requires sound { Sound (K.good stm.now.rule) stm.now.table.shared.table_id stm.now.config stm.now.rule w.old }
     ensures sound { Sound (K.good stm.now.rule) stm.now.table.shared.table_id stm.now.config stm.now.rule w.new }
     ensures same { IsSameCaller w.old.desc w.new.desc }
     ensures all { w.new.all.now ≡ w.old.all.now }
     ensures regions { w.new.regions ≡ w.old.regions }
     ensures between { w.new.phase ≡ Phase.Between }
-    ensures done { MatchOption result (w.new.left.now ≡ []) (λ clock. (2 ^ 62 ≤ clock) × Loaded (known w.new.desc) clock) }
+    ensures through { IsThrough w.new result }
 {
     for _ in rt.forever() {
         let said = w.turn(stm);
@@ -104,8 +129,19 @@ fn work<R: Wait, K: MemRule>(rt: &R, stm: &Stm<K>, w: &mut Worker<K>) -> Option<
         if let Some(clock) = clock_of(said) {
             return Some(clock);
         }
+        if is_refused(said) {
+            hint::spin_loop();
+        }
     }
     unreachable!()
+}
+
+/// Another caller stood in the way of the call.
+fn is_refused(said: Said) -> bool {
+    match said {
+        Said::TryBegin(Begin::Closed { .. } | Begin::Held { .. }) => true,
+        _ => false,
+    }
 }
 
 /// The clock that a begin found at its limit.
@@ -119,7 +155,7 @@ fn clock_of(said: Said) -> Option<u64>
 }
 
 /// A worker that has done nothing, with room for all its rows and replies.
-fn start<'a, K: MemRule>(
+pub(crate) fn start<'a, K: MemRule>(
     alloc: Global,
     desc: Desc<K>,
     items: &'a [Item],

@@ -1,9 +1,11 @@
 //! `bench` over sources and sinks in memory.
 use crate::bench::bench;
 use crate::status::Status;
+use crate::turnstile::Open;
 use std::alloc::Global;
 use std::sync::Wait;
 use std::test::Fail;
+use std::thread::Threads;
 use stm_io::memory::{MemSink, MemSource};
 
 const HEADER: &str =
@@ -12,7 +14,7 @@ const HEADER: &str =
 /// What `bench` answers and writes over these bytes, where the source fails at the calls `takes` and the
 /// sink has room for `room` bytes.
 fn outcome(
-    rt: &impl Wait,
+    rt: &(impl Threads + Wait + Sync),
     alloc: Global,
     words: &[&str],
     text: &str,
@@ -22,7 +24,7 @@ fn outcome(
     let mut source = MemSource::new(text.as_bytes().to_vec(alloc)?, takes.to_vec(alloc)?);
     let mut sink = MemSink::new(alloc, room, Vec::new(alloc))?;
     let mut last = None;
-    let status = bench(rt, alloc, words, &mut source, &mut sink, &mut last);
+    let status = bench(rt, alloc, words, &mut source, &mut sink, &Open, &mut last);
     let held = String::from_utf8(sink.held().to_vec(alloc)?)?;
     Ok((status, held))
 }

@@ -1,0 +1,47 @@
+-- The workers of all callers, one after the other.
+use Rattle.std.proofs.Common.{ℕ, zero, suc, ◌≡◌, ◌<◌, ◌≤◌, ◌+◌, List, [], ◌∷◌, ◌++◌, length, get_or, refl, sym, ap, ◌∙◌, arith, subst}
+use Rattle.std.specs.Prelude.{Option, Some, None}
+use Rattle.std.specs.Option.{option_or}
+use Rattle.std.proofs.Common.{append_assoc}
+use Rattle.crossbeam_utils.specs.declared.cache_padded.CachePadded.{CachePadded}
+use Rattle.stm_script.specs.declared.workload.Item.{Item}
+use Rattle.stm_rule.specs.Callers.{Handle}
+use Rattle.bench_core.specs.declared.crew.Runner.{Runner}
+use Rattle.bench_core.specs.Crews.{worker_in, Mustered}
+use Rattle.bench_core.specs.Runs.{longest}
+use Rattle.bench_core.specs.Workers.{Starts}
+
+pub mustered-length : {K : Type 0} (share : ℕ → List Item) (n : ℕ) (ds : List (Handle K)) (rs : List (CachePadded (Runner K))) → Mustered share n ds rs → length rs ≡ length ds
+mustered-length share n [] [] m = refl
+mustered-length share n [] (r ∷ rs) m = absurd m
+mustered-length share n (d ∷ ds) [] m = absurd m
+mustered-length share n (d ∷ ds) (r ∷ rs) m = ap suc (mustered-length share (suc n) ds rs m.1)
+
+-- one worker more
+pub mustered-more : {K : Type 0} (share : ℕ → List Item) (n : ℕ) (ds : List (Handle K)) (rs : List (CachePadded (Runner K))) (d : Handle K) (r : CachePadded (Runner K)) (items : List Item)
+    → Mustered share n ds rs → items ≡ share (n + length rs) → Starts d items (longest items) (worker_in r) → Mustered share n (ds ++ d ∷ []) (rs ++ r ∷ [])
+mustered-more share n [] [] d r items m is s =
+    let e : n + 0 ≡ n = omega arith in
+    (subst (λ k. Starts d k (longest k) (worker_in r)) (is ∙ ap share e) s, tt)
+mustered-more share n [] (x ∷ rs) d r items m is s = absurd m
+mustered-more share n (y ∷ ds) [] d r items m is s = absurd m
+mustered-more share n (y ∷ ds) (x ∷ rs) d r items m is s =
+    let e : n + suc (length rs) ≡ suc n + length rs = omega arith in
+    (m.0, mustered-more share (suc n) ds rs d r items m.1 (is ∙ ap share e) s)
+
+-- the same shares under another name
+pub mustered-same : {K : Type 0} (share other : ℕ → List Item) (callers n : ℕ) (ds : List (Handle K)) (rs : List (CachePadded (Runner K)))
+    → ((k : ℕ) → k < callers → share k ≡ other k) → n + length ds ≤ callers → Mustered share n ds rs → Mustered other n ds rs
+mustered-same share other callers n [] [] same le m = tt
+mustered-same share other callers n [] (r ∷ rs) same le m = absurd m
+mustered-same share other callers n (d ∷ ds) [] same le m = absurd m
+mustered-same share other callers n (d ∷ ds) (r ∷ rs) same le m =
+    (subst (λ k. Starts d k (longest k) (worker_in r)) (same n (omega arith)) m.0, mustered-same share other callers (suc n) ds rs same (omega arith) m.1)
+
+pub or-assoc : {A : Type 0} (a b c : Option A) → option_or (option_or a b) c ≡ option_or a (option_or b c)
+or-assoc None b c = refl
+or-assoc (Some x) b c = refl
+
+pub nothing-left : {A : Type 0} (xs : List A) → length xs ≡ 0 → xs ≡ []
+nothing-left [] h = refl
+nothing-left (x ∷ xs) h = absurd (omega arith)
