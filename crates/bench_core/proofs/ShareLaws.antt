@@ -1,5 +1,5 @@
 -- A workload parted by caller.
-use Rattle.std.proofs.Common.{ℕ, zero, suc, ◌≡◌, ◌<◌, ◌≤◌, ◌+◌, Bool, true, false, List, [], ◌∷◌, ◌++◌, length, get_or, map, refl, sym, ap, ◌∙◌, arith, subst}
+use Rattle.std.proofs.Common.{ℕ, zero, suc, ◌≡◌, ◌<◌, ◌≤◌, ◌+◌, Bool, true, false, List, [], ◌∷◌, ◌++◌, length, get_or, map, take, drop, refl, sym, ap, ◌∙◌, arith, subst}
 use Rattle.std.specs.Prelude.{◌==◌, if◌then◌else◌, All, replicate, slice_set, slice_index_or}
 use Rattle.std.proofs.lemmas.Bool.Decides.{nat_tests}
 use Rattle.std.proofs.lemmas.List.Elements.{All-head, All-tail}
@@ -146,3 +146,16 @@ total-more n (suc m) (Switch caller alg) items = let rest = total-more (suc n) m
 pub total-few : (n m : ℕ) (items : List Item) → total n m items ≤ length items
 total-few n m [] = let e = total-none n m in omega arith
 total-few n m (i ∷ items) = let a = total-more n m i items in let b = total-few n m items in omega arith
+
+pub all-middle : {A : Type 0} (P : A → Type 0) (xs : List A) (y : A) (zs : List A) → All P (xs ++ y ∷ zs) → P y
+all-middle P [] y zs h = All-head P y zs h
+all-middle P (x ∷ xs) y zs h = all-middle P xs y zs (All-tail P x (xs ++ y ∷ zs) h)
+
+-- what a slice that was lent whole left
+pub written : {A : Type 0} (n : ℕ) (xs ys : List A) → length xs ≡ n → length ys ≡ n → take n (xs ++ drop (length xs) ys) ≡ xs
+written zero [] [] a b = refl
+written zero (x ∷ xs) ys a b = absurd (omega arith)
+written zero [] (y ∷ ys) a b = absurd (omega arith)
+written (suc n) [] ys a b = absurd (omega arith)
+written (suc n) (x ∷ xs) [] a b = absurd (omega arith)
+written (suc n) (x ∷ xs) (y ∷ ys) a b = ap (λ l. x ∷ l) (written n xs ys (omega arith) (omega arith))

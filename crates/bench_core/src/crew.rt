@@ -6,7 +6,7 @@ ghost use Rattle.bench_core.specs.declared.crew.Runner.{Runner};
 ghost use Rattle.bench_core.specs.Crews.{Mustered, IsReady, Finished, descs_in, rows_in, first_full};
 
 use crate::run::{start, work};
-use crate::shares::Share;
+use crate::shares::{Share, share_of};
 use crate::turnstile::Turnstile;
 use crate::worker::Worker;
 use crossbeam_utils::CachePadded;
@@ -38,7 +38,7 @@ pub fn muster<'a, K: MemRule>(
 {
     let mut runners = Vec::with_capacity(alloc, descs.len())?;
     for desc in descs {
-        let items = shares[runners.len()].as_slice();
+        let items = share_of(shares, runners.len());
         let worker = start(alloc, desc, items)?;
         runners.push_reserved(CachePadded::new(Runner { worker, full: None }));
     }

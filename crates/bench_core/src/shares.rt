@@ -45,6 +45,14 @@ impl Share {
     }
 }
 
+/// What this caller is to do.
+pub fn share_of(shares: &[Share], caller: usize) -> &[Item]
+    requires { caller < length shares.now }
+    ensures { result.now ≡ slice_index_or shares.now caller [] }
+{
+    shares[caller].as_slice()
+}
+
 /// What each of `callers` callers is to do. Memory may be refused.
 pub fn part(alloc: Global, callers: usize, items: Vec<Item>) -> Result<Vec<Share>, Memory>
     requires { All (λ i. caller_in i < callers) items.items }
