@@ -6,3 +6,4 @@ mod OrderLaws
 mod ShareLaws
 mod HistoryLaws
 mod CrewLaws
+mod RunLaws

@@ -1,5 +1,5 @@
 //! The order of a report's rows.
-ghost use Rattle.std.specs.Prelude.{◌≡◌, IsPermutation};
+ghost use Rattle.std.specs.Prelude.{◌≡◌, length, IsPermutation};
 ghost use Rattle.stm_script.specs.Reports.{Ordered, code};
 
 use stm_script::report::{Kind, Row};
@@ -17,6 +17,7 @@ fn code(kind: Kind) -> u8
 /// Puts rows into the order of a report. It takes no memory.
 pub fn order(rows: &mut [Row])
     ensures moved { IsPermutation rows.old rows.new }
+    ensures count { length rows.new ≡ length rows.old }
     ensures ordered { Ordered rows.new }
 {
     rows.sort_unstable_by_key(|r| (r.place, code(r.kind), r.caller, r.seq));
