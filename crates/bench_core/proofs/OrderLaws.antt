@@ -1,5 +1,5 @@
 -- A sort by the key of the report gives the order of the report.
-use Rattle.std.proofs.Common.{ℕ, zero, suc, ◌≡◌, ◌<◌, ◌≤◌, ◌+◌, ◌*◌, Bool, true, false, List, [], ◌∷◌, length, get_or, refl, sym, ap, ◌∙◌, arith, subst, inl, inr, cond}
+use Rattle.std.proofs.Common.{ℕ, suc, ◌≡◌, ◌<◌, ◌≤◌, ◌+◌, Bool, true, false, List, [], ◌∷◌, length, get_or, refl, sym, ap, ◌∙◌, arith, subst, inl, inr, cond}
 use Rattle.std.specs.Prelude.{◌⊎◌, nat_lt, ◌==◌}
 use Rattle.std.specs.declared.cmp.Ordering.{Ordering}
 use Rattle.std.specs.declared.cmp.Ordering.TheVariants.{Less, Equal, Greater}
@@ -8,7 +8,7 @@ use Rattle.std.proofs.lemmas.Bool.Decides.{nat_tests}
 use Rattle.stm_script.specs.declared.report.Row.{Row}
 use Rattle.stm_script.specs.declared.report.Kind.{Kind}
 use Rattle.stm_script.specs.declared.report.Kind.TheVariants.{W, R, C}
-use Rattle.stm_script.specs.Reports.{Ordered, AllAfter, IsBefore, rank, code}
+use Rattle.stm_script.specs.Reports.{Ordered, AllAfter, IsBefore, code}
 
 then-assoc : (a b c : Ordering) → ordering_then (ordering_then a b) c ≡ ordering_then a (ordering_then b c)
 then-assoc Less b c = refl
@@ -49,7 +49,7 @@ pub neighbours : (r x : Row) → is_lt (ordering_then (ordering_then (ordering_t
 neighbours r x h =
     let a = nat_cmp x.place r.place in let b = nat_cmp (code x.kind) (code r.kind) in let c = nat_cmp x.caller r.caller in let d = nat_cmp x.seq r.seq in
     let e : ordering_then (ordering_then (ordering_then a b) c) d ≡ ordering_then a (ordering_then b (ordering_then c d)) =
-        then-assoc (ordering_then a b) c d ∙ then-assoc a b (ordering_then c d) in
+    then-assoc (ordering_then a b) c d ∙ then-assoc a b (ordering_then c d) in
     outer r x (step r.place x.place (ordering_then b (ordering_then c d)) (ap is_lt (sym e) ∙ h))
 
 tail-trans : (a b c s t u : ℕ) → (a < b) ⊎ ((a ≡ b) × (s ≤ t)) → (b < c) ⊎ ((b ≡ c) × (t ≤ u)) → (a < c) ⊎ ((a ≡ c) × (s ≤ u))

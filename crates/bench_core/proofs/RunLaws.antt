@@ -1,10 +1,9 @@
 -- From the start of a run to its end.
-use Rattle.std.proofs.Common.{ℕ, zero, suc, ◌≡◌, ◌<◌, ◌≤◌, ◌+◌, ◌*◌, ◌^◌, Bool, true, false, List, [], ◌∷◌, ◌++◌, length, get_or, take, drop, map, refl, sym, ap, ◌∙◌, arith, subst, length-append}
+use Rattle.std.proofs.Common.{ℕ, zero, suc, ◌≡◌, ◌<◌, ◌≤◌, ◌*◌, ◌^◌, true, List, [], ◌∷◌, ◌++◌, length, get_or, take, drop, map, refl, sym, ap, ◌∙◌, arith, subst, length-append}
 use Rattle.std.specs.Prelude.{Option, Some, None, ◌==◌, if◌then◌else◌, slice_index_or, max, All, Contains, sum_by, IsPermutation}
 use Rattle.std.specs.Option.{option_or}
 use Rattle.std.proofs.lemmas.Bool.Decides.{nat_tests}
 use Rattle.std.proofs.lemmas.List.Elements.{All-head, All-tail}
-use Rattle.std.proofs.lemmas.List.Sorted.{IsPermutation-refl}
 use Rattle.std.proofs.lemmas.List.Sums.{sum_by-cons}
 use Rattle.atomic_table.specs.Seated.{TableId}
 use Rattle.rule_base.specs.declared.layout.Config.{Config}
@@ -31,20 +30,19 @@ use Rattle.stm_rule.specs.Closings.{Ended, Closes}
 use Rattle.rule_base.specs.declared.layout.At.TheVariants.{Clock}
 use Rattle.rule_base.specs.declared.views.TrailItem.{TrailItem}
 use Rattle.rule_base.specs.StepsRule.{ClocksWithin}
-use Rattle.stm_rule.specs.Callers.{Handle, IsOf, IsSameCaller, AllOpened}
+use Rattle.stm_rule.specs.Callers.{Handle, IsOf, AllOpened}
 use Rattle.tx_answers.specs.Known.{IsIdle, known_of, caller_of}
 use Rattle.stm_tx.specs.Descs.{known}
 use Rattle.bench_core.specs.declared.said.Phase.TheVariants.{Between}
 use Rattle.bench_core.specs.declared.worker.Worker.{Worker}
 use Rattle.bench_core.specs.Runs.{config_of, longest, IsShown, IsFull}
-use Rattle.bench_core.specs.Workers.{IsAt, Loaded, WhenInside, Works, Stands, Starts, Sound}
+use Rattle.bench_core.specs.Workers.{IsAt, WhenInside, Works, Stands, Starts, Sound}
 use Rattle.bench_core.specs.Workers.{ItemsFit as OwnItems}
 use Rattle.bench_core.specs.Goings.{Going}
 use Rattle.bench_core.specs.Places.{script_at, BeforeTx}
 use Rattle.crossbeam_utils.specs.declared.cache_padded.CachePadded.{CachePadded}
 use Rattle.crossbeam_utils.specs.Padded.{padded_value}
 use Rattle.rule_base.specs.declared.seats.Role.TheVariants.{Caller}
-use Rattle.rule_base.specs.declared.views.GateView.{GateView}
 use Rattle.stm_script.specs.declared.report.Kind.{Kind}
 use Rattle.stm_script.specs.declared.report.Kind.TheVariants.{W, R, C}
 use Rattle.stm_script.specs.Parts.{Worked, RowOf, RowIn, by_kind, all_rows, times}
@@ -212,15 +210,17 @@ module _ {K : Type 0} (good : List ℕ → Type 0) (w : Workload) (table : Table
   stood n (d ∷ ds) (r ∷ rs) [] opened begun len h = absurd (omega arith)
   stood n (d ∷ ds) (r ∷ rs) (s ∷ ss) opened begun len h =
       let one = h 0 r (omega arith) in
-      let b = begun.0 in
-      (record {
-        sound = one.sound;
-        between = one.between;
-        role = ap (λ x. x.role) one.same.who ∙ (ap (λ (x : Handle K). x.who.role) b.is_desc ∙ opened.1);
-        all = one.all ∙ b.all;
-        regions = one.regions ∙ b.regions;
-        through = one.through;
-      }, stood (suc n) ds rs ss opened.3 begun.1 (omega arith) (λ i x lt. h (suc i) x (omega arith)))
+      let b = begun.0 in (
+        record {
+          sound = one.sound;
+          between = one.between;
+          role = ap (λ x. x.role) one.same.who ∙ (ap (λ (x : Handle K). x.who.role) b.is_desc ∙ opened.1);
+          all = one.all ∙ b.all;
+          regions = one.regions ∙ b.regions;
+          through = one.through;
+        },
+        stood (suc n) ds rs ss opened.3 begun.1 (omega arith) (λ i x lt. h (suc i) x (omega arith)),
+      )
 
   -- the shares that were handed out are those of the workload
   own-shares : (sh : List (List Item)) (ds : List (Handle K)) (rs : List (CachePadded (Runner K))) → sh ≡ shares_of w.header.callers w.items → length ds ≡ config.callers → Mustered (λ n. slice_index_or sh n []) 0 ds rs → Mustered (λ n. items_of n w.items) 0 ds rs

@@ -1,5 +1,5 @@
 -- A workload parted by caller.
-use Rattle.std.proofs.Common.{ℕ, zero, suc, ◌≡◌, ◌<◌, ◌≤◌, ◌+◌, Bool, true, false, List, [], ◌∷◌, ◌++◌, length, get_or, map, take, drop, refl, sym, ap, ◌∙◌, arith, subst}
+use Rattle.std.proofs.Common.{ℕ, zero, suc, ◌≡◌, ◌<◌, ◌≤◌, ◌+◌, Bool, true, false, List, [], ◌∷◌, ◌++◌, length, get_or, map, take, drop, refl, sym, ap, ◌∙◌, arith}
 use Rattle.std.specs.Prelude.{◌==◌, if◌then◌else◌, All, replicate, slice_set, slice_index_or}
 use Rattle.std.proofs.lemmas.Bool.Decides.{nat_tests}
 use Rattle.std.proofs.lemmas.List.Elements.{All-head, All-tail}
@@ -46,7 +46,7 @@ items-append n (x ∷ items) i = by (caller_in x == n) (caller_in i == n) (items
   where
     by : (b c : Bool) → items_of n (items ++ i ∷ []) ≡ (if c then items_of n items ++ i ∷ [] else items_of n items)
         → (if b then x ∷ items_of n (items ++ i ∷ []) else items_of n (items ++ i ∷ []))
-            ≡ (if c then (if b then x ∷ items_of n items else items_of n items) ++ i ∷ [] else (if b then x ∷ items_of n items else items_of n items))
+        ≡ (if c then (if b then x ∷ items_of n items else items_of n items) ++ i ∷ [] else (if b then x ∷ items_of n items else items_of n items))
     by true true r = ap (λ l. x ∷ l) r
     by true false r = ap (λ l. x ∷ l) r
     by false true r = r

@@ -58,9 +58,12 @@ pub fn run_all<R: Threads + Wait + Sync, K: MemRule + Send + Sync, G: Turnstile 
     ensures done { (i : ℕ) (d : CachePadded (Runner K)) → i < length runners.old → Finished (K.good stm.now.rule) stm.now.table.shared.table_id stm.now.config stm.now.rule (slice_index_or runners.old i d) (slice_index_or runners.new i d) }
 {
     let threads = runners.len();
-    thread::for_each_mut(rt, runners, threads, &|_, runner| {
-        run_one(rt, stm, turnstile, runner)
-    });
+    thread::for_each_mut(
+        rt,
+        runners,
+        threads,
+        &|_, runner| { run_one(rt, stm, turnstile, runner) },
+    );
 }
 
 /// Runs one worker.

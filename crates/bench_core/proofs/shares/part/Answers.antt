@@ -1,6 +1,6 @@
-use Rattle.std.proofs.Common.{◌≡◌, ◌<◌, ◌≤◌, ◌++◌, ◌∷◌, [], All, length, slice_set, slice_index_or, sym, ap, ◌∙◌, arith, subst, append_assoc}
+use Rattle.std.proofs.Common.{◌≡◌, ◌<◌, ◌++◌, ◌∷◌, [], All, length, slice_set, slice_index_or, sym, ap, ◌∙◌, arith, subst, append_assoc}
 use Rattle.std.specs.Vec.Iter.{into_iter_items}
-use Rattle.bench_core.specs.Shares.{caller_in, items_of, shares_of}
+use Rattle.bench_core.specs.Shares.{caller_in, shares_of}
 use Rattle.bench_core.proofs.ShareLaws.{all-middle, handed, share-at, shares-length, written}
 use Rattle.bench_core.proofs.shares.part.Goals as goal
 
@@ -23,8 +23,8 @@ loop-item-preserved c =
     let below : caller_in x < c.args.callers = all-middle (λ i. caller_in i < c.args.callers) at.yielded x (into_iter_items c.next.new.self) (subst (All (λ i. caller_in i < c.args.callers)) (sym all) c.requires) in
     let was = c.as_mut_slice.ensures.value ∙ at.invariant.handed in
     let now : c.hand.new.shares ≡ shares_of c.args.callers (at.yielded ++ x ∷ []) =
-        c.in_ok-hand.ensures ∙ (ap (λ l. slice_set l (caller_in x) (slice_index_or l (caller_in x) [] ++ x ∷ [])) was
-        ∙ (ap (λ l. slice_set (shares_of c.args.callers at.yielded) (caller_in x) (l ++ x ∷ [])) (share-at c.args.callers at.yielded (caller_in x) [] below) ∙ sym (handed c.args.callers at.yielded x below))) in
+    c.in_ok-hand.ensures ∙ (ap (λ l. slice_set l (caller_in x) (slice_index_or l (caller_in x) [] ++ x ∷ [])) was
+    ∙ (ap (λ l. slice_set (shares_of c.args.callers at.yielded) (caller_in x) (l ++ x ∷ [])) (share-at c.args.callers at.yielded (caller_in x) [] below) ∙ sym (handed c.args.callers at.yielded x below))) in
     let old = ap length at.invariant.handed ∙ shares-length 0 c.args.callers at.yielded in
     let long = ap length now ∙ shares-length 0 c.args.callers (at.yielded ++ x ∷ []) in
     let slice = ap length c.as_mut_slice.ensures.value in
