@@ -19,7 +19,7 @@ use Rattle.stm_text.specs.declared.parse.Mode.{Mode}
 use Rattle.stm_text.specs.declared.parse.Mode.TheVariants.{Run, Step as Stepwise}
 use Rattle.stm_text.specs.Lines.{Line, lines_of, words_of, any_bad, number_of}
 use Rattle.stm_text.specs.Drafts.{Writing, after, opening}
-use Rattle.stm_text.specs.Grammar.{◌>>=◌, formed, ranged, below, number, most_callers, sized, next_line, begun, added, address, operands, two_words, three_words, filled, by_words, step_of, go_on, parsed, workload_of}
+use Rattle.stm_text.specs.Grammar.{◌>>=◌, formed, ranged, below, number, sized, next_line, begun, added, address, operands, two_words, three_words, filled, by_words, step_of, go_on, parsed, workload_of}
 use Rattle.stm_text.specs.Built.{HeaderFits, OpFits, ItemFits, IsBuilt}
 use Rattle.stm_text.specs.Texts.{joined, line, op_words, items_lines, header_lines, lines_text, text_of}
 use Rattle.stm_text.proofs.LineLaws.{lines_of-first}
@@ -227,11 +227,11 @@ words-read m h k n rest le ge =
     number-read m h Words k (codes "words") n rest (record h { words = n }) (seen (codes "words") refl) (omega arith)
     (field-set (sized (codes "words") 1 65536 (codes "words") (decimal n)) (λ v. record h { words = v }) Callers n (sized-decimal (codes "words") 1 65536 n refl le ge (omega arith)))
 
-callers-read : (m : Mode) (h : Header) (k n : ℕ) (rest : List ℕ) → 1 ≤ n → n ≤ most_callers m → most_callers m ≤ 32
+callers-read : (m : Mode) (h : Header) (k n : ℕ) (rest : List ℕ) → 1 ≤ n → n ≤ 32
     → parsed m (in_header Callers h) k (lines_of (line (codes "callers" ∷ decimal n ∷ []) ++ rest)) ≡ parsed m (in_header Records (record h { callers = n })) (k + 1) (lines_of rest)
-callers-read m h k n rest le ge few =
+callers-read m h k n rest le ge =
     number-read m h Callers k (codes "callers") n rest (record h { callers = n }) (seen (codes "callers") refl) (omega arith)
-    (field-set (sized (codes "callers") 1 (most_callers m) (codes "callers") (decimal n)) (λ v. record h { callers = v }) Records n (sized-decimal (codes "callers") 1 (most_callers m) n refl le ge (omega arith)))
+    (field-set (sized (codes "callers") 1 32 (codes "callers") (decimal n)) (λ v. record h { callers = v }) Records n (sized-decimal (codes "callers") 1 32 n refl le ge (omega arith)))
 
 records-read : (m : Mode) (h : Header) (k n : ℕ) (rest : List ℕ) → 1 ≤ n → n ≤ 4096
     → parsed m (in_header Records h) k (lines_of (line (codes "records" ∷ decimal n ∷ []) ++ rest)) ≡ parsed m (in_header Ring (record h { records = n })) (k + 1) (lines_of rest)
@@ -273,12 +273,8 @@ structs-read : (m : Mode) (h : Header) (k : ℕ) (rest : List ℕ)
 structs-read m h k rest =
     step-read m (in_header Structures h) k (codes "structs") (codes "off" ∷ []) rest (Head Items (record h { structs = false })) (seen (codes "structs") refl, (seen (codes "off") refl, tt)) refl (not-done Items (record h { structs = false }))
 
-few-callers : (m : Mode) → most_callers m ≤ 32
-few-callers Run = omega arith
-few-callers Stepwise = omega arith
-
 -- the ten lines of a header
-head-read : (m : Mode) (h : Header) (more : List (List (List ℕ))) → HeaderFits m h
+head-read : (m : Mode) (h : Header) (more : List (List (List ℕ))) → HeaderFits h
     → parsed m opening 1 (lines_of (lines_text (header_lines (record h { alg = Cgl; structs = false }) ++ more))) ≡ parsed m (between (record h { alg = Cgl; structs = false }) [] 0) 11 (lines_of (lines_text more))
 head-read m h more f =
     let rest : List ℕ = lines_text more in
@@ -302,7 +298,7 @@ head-read m h more f =
     let t1 : List ℕ = line (codes "words" ∷ decimal h.words ∷ []) ++ t2 in
     version-read m h0 1 t1
     ∙ (words-read m h0 2 h.words t2 f.words.0 f.words.1
-    ∙ (callers-read m h1 3 h.callers t3 f.callers.0 f.callers.1 (few-callers m)
+    ∙ (callers-read m h1 3 h.callers t3 f.callers.0 f.callers.1
     ∙ (records-read m h2 4 h.records t4 f.records.0 f.records.1
     ∙ (ring-read m h3 5 h.ring t5 f.ring.0 f.ring.1
     ∙ (reads-read m h4 6 h.reads t6 f.reads.0 f.reads.1
@@ -311,11 +307,10 @@ head-read m h more f =
     ∙ (alg-read m h7 9 t9
     ∙ structs-read m h8 10 rest))))))))
 
-all-read : (m : Mode) (h : Header) (items : List Item) → HeaderFits m h → length items ≤ 65536 → All (ItemFits h) items
+all-read : (m : Mode) (h : Header) (items : List Item) → HeaderFits h → length items ≤ 65536 → All (ItemFits h) items
     → let all : Workload = record { header = record h { alg = Cgl; structs = false }; items = items; schedule = [] } in
     parsed m opening 1 (lines_of (text_of all)) ≡ Ok all
 all-read m h items f room fits =
-    let few = few-callers m in
     let callers = f.callers.1 in
     head-read m h (items_lines items ++ done_line) f
     ∙ items-read m (record h { alg = Cgl; structs = false }) [] 0 11 items f.words.1 (omega arith) (omega arith) fits
