@@ -13,5 +13,7 @@ pub mod shares;
 pub mod status;
 #[cfg(test)]
 mod tests;
+#[cfg(test)]
+mod thread_tests;
 pub mod turnstile;
 pub mod worker;

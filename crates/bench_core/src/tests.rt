@@ -78,6 +78,37 @@ fn reports_what_was_run(rt: HostRuntime) -> Result<(), Fail> {
 }
 
 #[test]
+fn reports_at_the_end_of_the_clock(rt: HostRuntime) -> Result<(), Fail> {
+    let table = [
+        ("clock 4611686018427387904", "done\n", "report 1\nend\n"),
+        (
+            "clock 4611686018427387903",
+            "tx 0\nread 3\nend\ndone\n",
+            "report 1\nR 4611686018427387903 0 0 : 0\nend\n",
+        ),
+        (
+            "clock 4611686018427387903",
+            "tx 0\nadd 3 1\nend\ndone\n",
+            "report 1\nW 4611686018427387904 0 0 : 1\nmem 3 1\nend\n",
+        ),
+    ];
+    for (clock, items, report) in table {
+        let text = workload(&rt, "clock 0", clock, items)?;
+        let (status, held) = outcome(
+            &rt,
+            rt.alloc(),
+            &["stm_bench", "run"],
+            text.as_str(),
+            &[],
+            4096,
+        )?;
+        assert_eq!(rt; status, Status::Ok);
+        assert_eq!(rt; held.as_str(), report);
+    }
+    Ok(())
+}
+
+#[test]
 fn says_why_there_is_no_report(rt: HostRuntime) -> Result<(), Fail> {
     let items = "tx 0\nadd 3 1\nend\ntx 0\nadd 3 1\nend\ntx 0\nread 3\nend\ndone\n";
     let usage = "usage: stm_bench run [--policy P] / step / gen N T SEED\n";
