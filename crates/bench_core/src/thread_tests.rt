@@ -8,15 +8,16 @@ use std::test::Fail;
 use std::thread::Threads;
 use stm_io::memory::{MemSink, MemSource};
 
-/// The text of a workload of so many callers, each of which adds 1 to word 3 so many times, a transaction
-/// an addition.
+/// The text of a workload of so many callers, each of which has so many transactions of 20 additions of 1 to
+/// word 3.
 fn adds(alloc: Global, callers: usize, clock: u64, times: usize) -> Result<String, Fail> {
+    let additions = "add 3 1\n".repeat(alloc, 20)?;
     let mut text = format!(in alloc;
         "stm 1\nwords 8\ncallers {callers}\nrecords 4\nring 4\nreads 256\nwrites 256\nclock {clock}\nalg CGL\nstructs off\n"
     )?;
     for _ in 0..times {
         for caller in 0..callers {
-            let item = format!(in alloc; "tx {caller}\nadd 3 1\nend\n")?;
+            let item = format!(in alloc; "tx {caller}\n{additions}end\n")?;
             text.push_str(item.as_str())?;
         }
     }
@@ -48,7 +49,7 @@ fn outcome(
 
 #[test]
 fn sums_the_adds_of_32_callers(rt: HostRuntime) -> Result<(), Fail> {
-    let text = adds(rt.alloc(), 32, 0, 1000)?;
+    let text = adds(rt.alloc(), 32, 0, 50)?;
     for _ in 0..3 {
         let (status, held) = outcome(&rt, rt.alloc(), text.as_str())?;
         assert_eq!(rt; status, Status::Ok);
