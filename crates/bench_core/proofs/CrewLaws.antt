@@ -1,7 +1,5 @@
 -- The workers of all callers, one after the other.
 use Rattle.std.proofs.Common.{ℕ, suc, ◌≡◌, ◌<◌, ◌≤◌, ◌+◌, List, [], ◌∷◌, ◌++◌, length, refl, ap, ◌∙◌, arith, subst}
-use Rattle.std.specs.Prelude.{Option, Some, None}
-use Rattle.std.specs.Option.{option_or}
 use Rattle.crossbeam_utils.specs.declared.cache_padded.CachePadded.{CachePadded}
 use Rattle.stm_script.specs.declared.workload.Item.{Item}
 use Rattle.stm_rule.specs.Callers.{Handle}
@@ -36,11 +34,3 @@ mustered-same share other callers n [] (r ∷ rs) same le m = absurd m
 mustered-same share other callers n (d ∷ ds) [] same le m = absurd m
 mustered-same share other callers n (d ∷ ds) (r ∷ rs) same le m =
     (subst (λ k. Starts d k (longest k) (worker_in r)) (same n (omega arith)) m.0, mustered-same share other callers (suc n) ds rs same (omega arith) m.1)
-
-pub or-assoc : {A : Type 0} (a b c : Option A) → option_or (option_or a b) c ≡ option_or a (option_or b c)
-or-assoc None b c = refl
-or-assoc (Some x) b c = refl
-
-pub nothing-left : {A : Type 0} (xs : List A) → length xs ≡ 0 → xs ≡ []
-nothing-left [] h = refl
-nothing-left (x ∷ xs) h = absurd (omega arith)

@@ -7,9 +7,6 @@ use Rattle.std.proofs.lemmas.List.Sums.{sum_by-cons}
 use Rattle.stm_model.specs.Histories.{Entry, made_by}
 use Rattle.bench_core.proofs.ShareLaws.{all-cons}
 
-sum-none : {A : Type 0} (h : A → ℕ) → sum_by h [] ≡ 0
-sum-none h = refl
-
 -- a count over the entries of m callers, from caller n on
 abbrev pub dealt : (Entry → ℕ) → ℕ → ℕ → List Entry → ℕ
 dealt h n zero es = 0
