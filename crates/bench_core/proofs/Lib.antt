@@ -5,4 +5,8 @@ mod RoomLaws
 mod RowLaws
 mod StartLaws
 mod TurnLaws
+mod OrderLaws
+mod ShareLaws
+mod HistoryLaws
+mod CrewLaws
 mod RunLaws

@@ -4,10 +4,15 @@
 
 pub mod bench;
 mod command;
+pub mod crew;
 mod messages;
+pub mod order;
 pub mod run;
+pub mod shares;
 pub mod status;
 #[cfg(test)]
 mod tests;
+#[cfg(test)]
+mod thread_tests;
 pub mod turnstile;
 pub mod worker;
