@@ -1,11 +1,13 @@
 -- The workers of all callers, one after the other.
 use Rattle.std.proofs.Common.{ℕ, suc, ◌≡◌, ◌<◌, ◌≤◌, ◌+◌, List, [], ◌∷◌, ◌++◌, length, refl, ap, ◌∙◌, arith, subst}
+use Rattle.atomic_table.specs.Seated.{TableId}
 use Rattle.crossbeam_utils.specs.declared.cache_padded.CachePadded.{CachePadded}
+use Rattle.rule_base.specs.declared.layout.Config.{Config}
 use Rattle.stm_model.specs.declared.alg.Alg.{Alg}
 use Rattle.stm_script.specs.declared.workload.Item.{Item}
 use Rattle.stm_rule.specs.Callers.{Handle}
 use Rattle.bench_core.specs.declared.crew.Runner.{Runner}
-use Rattle.bench_core.specs.Crews.{worker_in, Mustered}
+use Rattle.bench_core.specs.Crews.{worker_in, Mustered, Finished}
 use Rattle.bench_core.specs.Workers.{Starts}
 
 pub mustered-length : {K : Type 0} (share : ℕ → List Item) (alg : Alg) (n : ℕ) (ds : List (Handle K)) (rs : List (CachePadded (Runner K))) → Mustered share alg n ds rs → length rs ≡ length ds
@@ -34,3 +36,7 @@ mustered-same share other alg callers n [] (r ∷ rs) same le m = absurd m
 mustered-same share other alg callers n (d ∷ ds) [] same le m = absurd m
 mustered-same share other alg callers n (d ∷ ds) (r ∷ rs) same le m =
     (subst (λ k. Starts d k alg (worker_in r)) (same n (omega arith)) m.0, mustered-same share other alg callers (suc n) ds rs same (omega arith) m.1)
+
+-- a worker's run, told of what was lent and given back
+pub finished-as : {K : Type 0} (good : List ℕ → Type 0) (table : TableId) (config : Config) (rule : K) (x y r s : CachePadded (Runner K)) → x ≡ r → y ≡ s → Finished good table config rule x y → Finished good table config rule r s
+finished-as good table config rule x y r s lent left f = subst (λ b. Finished good table config rule r b) left (subst (λ a. Finished good table config rule a y) lent f)

@@ -1,5 +1,5 @@
 -- From the start of a run to its end.
-use Rattle.std.proofs.Common.{ℕ, zero, suc, ◌≡◌, ◌<◌, ◌≤◌, ◌*◌, ◌^◌, true, List, [], ◌∷◌, ◌++◌, length, get_or, take, drop, map, refl, sym, ap, ◌∙◌, arith, subst, length-append}
+use Rattle.std.proofs.Common.{ℕ, zero, suc, ◌≡◌, ◌<◌, ◌≤◌, ◌+◌, ◌*◌, ◌^◌, true, List, [], ◌∷◌, ◌++◌, length, get_or, take, drop, map, refl, sym, ap, ◌∙◌, arith, subst, length-append}
 use Rattle.std.specs.Prelude.{Option, Some, None, ◌==◌, if◌then◌else◌, slice_index_or, max, All, Contains, sum_by, IsPermutation}
 use Rattle.std.specs.Option.{option_or}
 use Rattle.std.proofs.lemmas.Bool.Decides.{nat_tests}
@@ -342,12 +342,11 @@ module _ {K : Type 0} (good : List ℕ → Type 0) (w : Workload) (table : Table
       omega arith
 
   -- the items that are still to be done
-  left_items : List (CachePadded (Runner K)) → ℕ
+  abbrev pub left_items : List (CachePadded (Runner K)) → ℕ
   left_items [] = 0
   left_items (r ∷ rs) = length (worker_in r).left.now + left_items rs
 
   rises-total : (n : ℕ) (rs : List (CachePadded (Runner K))) → Each Stood n rs → sum_by (λ (d : Handle K). d.view.steps.rises) (descs_in rs) + 2 * left_items rs ≤ 2 * all_items n (length rs) w.items
-  unfolding left_items
   rises-total n [] h = omega arith
   rises-total n (r ∷ rs) h =
       let u = worker_in r in
@@ -397,7 +396,6 @@ module _ {K : Type 0} (good : List ℕ → Type 0) (w : Workload) (table : Table
     pub left : 1 ≤ left_items rs
 
   met-first : (n : ℕ) (rs : List (CachePadded (Runner K))) (closed : Ended) (clock : ℕ) → Each Stood n rs → AllTold closed n (descs_in rs) → first_full rs ≡ Some clock → MetFirst n rs closed clock
-  unfolding left_items
   met-first n [] closed clock h told is = absurd cc
   met-first n (r ∷ rs) closed clock h told is = by (padded_value r).full h.0.through is (met-first (suc n) rs closed clock h.1 told.1)
     where

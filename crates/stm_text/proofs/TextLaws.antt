@@ -460,7 +460,7 @@ all-read m h items gos f room fits plan =
     plan-off Run h gos p = p
     plan-off Stepwise h gos p = p
 
-bare-read : (h : Header) (items : List Item) → HeaderFits Stepwise h → length items ≤ 65536 → All (ItemFits h) items
+bare-read : (h : Header) (items : List Item) → HeaderFits h → length items ≤ 65536 → All (ItemFits h) items
     → parsed Stepwise opening 1 (lines_of (lines_text (lines_with (section_lines []) (whole (off h) items [])))) ≡ Ok (whole (off h) items [])
 bare-read h items f room fits =
     let callers = f.callers.1 in

@@ -26,11 +26,11 @@ loop-desc-preserved g c =
     let len = c.len-in-loop-desc.ensures in
     let at_is : c.len-in-loop-desc.result ≡ 0 + length at.runners.items = grind (arith, at.runners.ok, at.runners.small) in
     let items : c.share_of-items.result.now ≡ share (0 + length at.runners.items) = c.share_of-items.ensures ∙ ap share at_is in
-    let begins : Starts x c.share_of-items.result.now c.args.alg (worker_in c.new-2.result) = subst (λ r. Starts x c.share_of-items.result.now c.args.alg r.worker) (sym c.new-2.ensures) c.in_ok-worker.ensures in
+    let begins : Starts x c.share_of-items.result.now c.args.alg (worker_in c.new-in-loop-desc.result) = subst (λ r. Starts x c.share_of-items.result.now c.args.alg r.worker) (sym c.new-in-loop-desc.ensures) c.in_ok-worker.ensures in
     record {
       all = append_assoc at.yielded (x ∷ []) _ ∙ rw (← steps) at.invariant.all;
       len = (let was = at.invariant.len in let gone = c.in-Some.ensures.steps.1 in omega arith);
-      begun = subst (Mustered share c.args.alg 0 (at.yielded ++ x ∷ [])) (sym c.push_reserved.ensures.items) (mustered-more share c.args.alg 0 at.yielded at.runners.items x c.new-2.result c.share_of-items.result.now at.invariant.begun items begins);
+      begun = subst (Mustered share c.args.alg 0 (at.yielded ++ x ∷ [])) (sym c.push_reserved.ensures.items) (mustered-more share c.args.alg 0 at.yielded at.runners.items x c.new-in-loop-desc.result c.share_of-items.result.now at.invariant.begun items begins);
       room = (let was = at.invariant.room in let pushed = c.push_reserved.ensures.len in let kept = c.push_reserved.ensures.capacity in omega arith);
       each = (let was = at.invariant.each in omega arith);
     }
