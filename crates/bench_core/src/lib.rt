@@ -15,4 +15,6 @@ mod tests;
 #[cfg(test)]
 mod thread_tests;
 pub mod turnstile;
+#[cfg(test)]
+mod turnstile_tests;
 pub mod worker;
