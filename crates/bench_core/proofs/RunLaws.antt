@@ -1,6 +1,6 @@
 -- From the start of a run to its end.
 use Rattle.std.proofs.Common.{ℕ, zero, suc, ◌≡◌, ◌<◌, ◌≤◌, ◌+◌, ◌*◌, ◌^◌, true, List, [], ◌∷◌, ◌++◌, length, get_or, take, drop, map, refl, sym, ap, ◌∙◌, arith, subst, length-append}
-use Rattle.std.specs.Prelude.{Option, Some, None, ◌==◌, if◌then◌else◌, slice_index_or, max, All, Contains, sum_by, IsPermutation}
+use Rattle.std.specs.Prelude.{Option, Some, None, ◌==◌, if◌then◌else◌, slice_index_or, All, Contains, sum_by, IsPermutation}
 use Rattle.std.specs.Option.{option_or}
 use Rattle.std.proofs.lemmas.Bool.Decides.{nat_tests}
 use Rattle.std.proofs.lemmas.List.Elements.{All-head, All-tail}
@@ -19,7 +19,6 @@ use Rattle.stm_script.specs.declared.workload.Item.{Item}
 use Rattle.stm_script.specs.declared.workload.Item.TheVariants.{Tx, Switch}
 use Rattle.stm_script.specs.declared.workload.Workload.{Workload}
 use Rattle.stm_script.specs.Operations.{OpFits, ScriptFits}
-use Rattle.stm_script.specs.Outputs.{Output}
 use Rattle.stm_script.specs.Parts.{Part, PartIn, IsGathered, ReportReplays}
 use Rattle.stm_script.specs.Reports.{scripts_of, nonzero, zeros, counted, Ordered, Shows}
 use Rattle.stm_script.specs.Workloads.{ItemFits}
@@ -36,11 +35,10 @@ use Rattle.stm_tx.specs.Descs.{known}
 use Rattle.stm_trace.specs.declared.said.Phase.TheVariants.{Between}
 use Rattle.bench_core.specs.declared.worker.Worker.{Worker}
 use Rattle.bench_core.specs.Runs.{config_of, IsShown, IsFull}
-use Rattle.bench_core.specs.Workers.{IsAt, WhenInside, ToSwitch, DidSwitches, Works, Pays, Stands, Starts, Sound}
+use Rattle.bench_core.specs.Workers.{IsAt, Works, Pays, Stands, Starts, Sound}
 use Rattle.bench_core.specs.Workers.{ItemsFit as OwnItems}
-use Rattle.bench_core.specs.Goings.{Going}
 use Rattle.stm_model.specs.declared.alg.Alg.{Alg}
-use Rattle.stm_trace.specs.Places.{Place, script_at, caller_in, items_of}
+use Rattle.stm_trace.specs.Places.{caller_in, items_of}
 use Rattle.stm_trace.specs.Turns.{BeforeTx}
 use Rattle.crossbeam_utils.specs.declared.cache_padded.CachePadded.{CachePadded}
 use Rattle.crossbeam_utils.specs.Padded.{padded_value}

@@ -59,6 +59,31 @@ fn sums_the_adds_of_32_callers(rt: HostRuntime) -> Result<(), Fail> {
     Ok(())
 }
 
+/// The text of a workload of two callers, each of which adds 1 to word 3 and then switches, 50 times.
+fn adds_between_switches(alloc: Global) -> Result<String, Fail> {
+    let mut text = String::from_str(
+        alloc,
+        "stm 1\nwords 8\ncallers 2\nrecords 4\nring 4\nreads 256\nwrites 256\nclock 0\nalg CGL\nstructs off\n",
+    )?;
+    for _ in 0..50 {
+        text.push_str("tx 0\nadd 3 1\nend\nswitch 0 CGL\ntx 1\nadd 3 1\nend\nswitch 1 CGL\n")?;
+    }
+    text.push_str("done\n")?;
+    Ok(text)
+}
+
+#[test]
+fn sums_the_adds_between_switches(rt: HostRuntime) -> Result<(), Fail> {
+    let text = adds_between_switches(rt.alloc())?;
+    for _ in 0..3 {
+        let (status, held) = outcome(&rt, rt.alloc(), text.as_str())?;
+        assert_eq!(rt; status, Status::Ok);
+        assert!(rt; held.starts_with("report 1\nW 1 "));
+        assert!(rt; held.ends_with("\nmem 3 100\nend\n"));
+    }
+    Ok(())
+}
+
 #[test]
 fn finds_the_clock_full_with_several_callers(rt: HostRuntime) -> Result<(), Fail> {
     let table = [
