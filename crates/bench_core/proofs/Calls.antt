@@ -46,12 +46,20 @@ pub record SwitchesAt (alg : Alg) (v w : Known) : Type 0 where
   pub rises : w.rises ≤ v.rises + 1
   pub installs : w.installs ≡ v.installs ++ alg ∷ []
 
+one-rise : (alg : Alg) → answers.install_rise alg ≤ 1
+one-rise Cgl = omega arith
+one-rise Tml = omega arith
+one-rise OrecLazy = omega arith
+one-rise OrecEager = omega arith
+one-rise RingSw = omega arith
+one-rise Serial = omega arith
+
 pub switches : (good : List ℕ → Type 0) (c : Config) (n m : ℕ) (alg : Alg) (v x w : Known) → answers.Installs good c n alg v x → answers.Reopens good c m x w → SwitchesAt alg v w
 switches good c n m alg v x w h r = record {
   idle = r.stays.idle;
   made = r.stays.made ∙ h.closed.made;
   grows = grew-trans v.seen v.front x.seen x.front w.seen w.front (grew v x h.closed.grows) (grew x w r.stays.grows);
-  rises = (let a = h.rises in let b = r.stays.rises in omega arith);
+  rises = (let a = h.rises in let b = r.stays.rises in let o = one-rise alg in omega arith);
   installs = r.stays.installs ∙ h.installs;
 }
 

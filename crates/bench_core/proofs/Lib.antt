@@ -10,3 +10,4 @@ mod ShareLaws
 mod HistoryLaws
 mod CrewLaws
 mod RunLaws
+mod OpeningLaws

@@ -3,11 +3,11 @@ use Rattle.std.proofs.Common.{ℕ, zero, suc, ◌≡◌, ◌<◌, ◌≤◌, ◌
 use Rattle.std.specs.Prelude.{Option, Some, None, ◌==◌, if◌then◌else◌, slice_index_or, All, Contains, sum_by, IsPermutation}
 use Rattle.std.specs.Option.{option_or}
 use Rattle.std.proofs.lemmas.Bool.Decides.{nat_tests}
+use Rattle.std.proofs.lemmas.List.{append-nil}
 use Rattle.std.proofs.lemmas.List.Elements.{All-head, All-tail}
 use Rattle.std.proofs.lemmas.List.Sums.{sum_by-cons}
 use Rattle.atomic_table.specs.Seated.{TableId}
 use Rattle.rule_base.specs.declared.layout.Config.{Config}
-use Rattle.rule_base.specs.Opening.{first_view}
 use Rattle.stm_model.specs.Histories.{Entry, made_by, memory_at, IsLegal}
 use Rattle.stm_script.specs.declared.op.Op.{Op}
 use Rattle.stm_script.specs.declared.region.Region.{Region}
@@ -25,20 +25,22 @@ use Rattle.stm_script.specs.Workloads.{ItemFits}
 use Rattle.stm_text.specs.Built.{IsBuilt}
 use Rattle.stm_text.specs.Built.{OpFits as BuiltOp, ScriptFits as BuiltScript, ItemFits as BuiltItem}
 use Rattle.stm_text.specs.declared.parse.Mode.TheVariants.{Run}
-use Rattle.stm_rule.specs.Closings.{Ended, Closes}
+use Rattle.stm_rule.specs.Closings.{Ended, Closes, installs_of}
 use Rattle.rule_base.specs.declared.layout.At.TheVariants.{Clock}
 use Rattle.rule_base.specs.declared.views.TrailItem.{TrailItem}
 use Rattle.rule_base.specs.StepsRule.{ClocksWithin}
-use Rattle.stm_rule.specs.Callers.{Handle, IsOf, AllOpened}
-use Rattle.tx_answers.specs.Known.{IsIdle, known_of, caller_of, is_offered}
+use Rattle.stm_rule.specs.Callers.{Handle, IsOf}
+use Rattle.bench_core.specs.Firsts.{IsNew, first_installs, AllNew}
+use Rattle.tx_answers.specs.Known.{IsIdle, caller_of, is_offered}
 use Rattle.stm_tx.specs.Descs.{known}
 use Rattle.stm_trace.specs.declared.said.Phase.TheVariants.{Between}
 use Rattle.bench_core.specs.declared.worker.Worker.{Worker}
-use Rattle.bench_core.specs.Runs.{config_of, IsShown, IsFull}
+use Rattle.bench_core.specs.Runs.{config_of, installs_for, IsShown, IsFull}
 use Rattle.bench_core.specs.Workers.{IsAt, Works, Pays, Stands, Starts, Sound}
+use Rattle.bench_core.specs.Workers.{switches_of}
 use Rattle.bench_core.specs.Workers.{ItemsFit as OwnItems}
 use Rattle.stm_model.specs.declared.alg.Alg.{Alg}
-use Rattle.stm_trace.specs.Places.{caller_in, items_of}
+use Rattle.stm_trace.specs.Places.{Place, caller_in, items_of}
 use Rattle.stm_trace.specs.Turns.{BeforeTx}
 use Rattle.crossbeam_utils.specs.declared.cache_padded.CachePadded.{CachePadded}
 use Rattle.crossbeam_utils.specs.Padded.{padded_value}
@@ -150,17 +152,17 @@ module _ (good : List ℕ → Type 0) (w : Workload) (config : Config) (built : 
   words-are = ap (λ (c : Config). c.words) sized
 
 module _ {K : Type 0} (good : List ℕ → Type 0) (w : Workload) (table : TableId) (config : Config) (rule : K) (built : IsBuilt Run w) (sized : config ≡ config_of w.header) where
-  sound-start : ((m : List ℕ) → good m) → (alg : Alg) (n : ℕ) (d : Handle K) (u : Worker K) → IsOf d table config rule → d.who.role ≡ Caller n → d.view ≡ first_view config → Starts d (items_of n w.items) alg u → Sound good table config rule u
-  sound-start every alg n d u own role view s =
+  sound-start : ((m : List ℕ) → good m) → (alg : Alg) (these : List Alg) (n : ℕ) (d : Handle K) (u : Worker K) → IsOf d table config rule → d.who.role ≡ Caller n → IsNew these (known d) → Starts d (items_of n w.items) alg u → Sound good table config rule u
+  sound-start every alg these n d u own role new s =
       let items = items_of n w.items in
       let owned : OwnItems good config.words [] n items = subst (λ k. OwnItems good k [] n items) (sym (words-are good w config built sized)) (items-own good every w.header n items (own-all (BuiltItem w.header) n w.items built.items)) in
-      starts-sound good table config rule d items alg u own (ap known_of view) (subst (λ k. OwnItems good config.words [] k items) (sym (ap caller_of role)) owned) s
+      starts-sound good table config rule d items alg these u own new (subst (λ k. OwnItems good config.words [] k items) (sym (ap caller_of role)) owned) s
 
-  pub ready : ((m : List ℕ) → good m) → (alg : Alg) (n : ℕ) (ds : List (Handle K)) (rs : List (CachePadded (Runner K))) → AllOpened table config rule n ds → Mustered (λ k. items_of k w.items) alg n ds rs → All (IsReady good table config rule) rs
+  pub ready : ((m : List ℕ) → good m) → (alg : Alg) (n : ℕ) (ds : List (Handle K)) (rs : List (CachePadded (Runner K))) → AllNew table config rule alg n ds → Mustered (λ k. items_of k w.items) alg n ds rs → All (IsReady good table config rule) rs
   ready every alg n [] [] opened begun = λ i d lt. absurd (omega arith)
   ready every alg n [] (r ∷ rs) opened begun = absurd begun
   ready every alg n (d ∷ ds) [] opened begun = absurd begun
-  ready every alg n (d ∷ ds) (r ∷ rs) opened begun = all-cons (IsReady good table config rule) r rs (record { sound = sound-start every alg n d (worker_in r) opened.0 opened.1 opened.2 begun.0 }) (ready every alg (suc n) ds rs opened.3 begun.1)
+  ready every alg n (d ∷ ds) (r ∷ rs) opened begun = all-cons (IsReady good table config rule) r rs (record { sound = sound-start every alg (first_installs alg n) n d (worker_in r) opened.0 opened.1 opened.2 begun.0 }) (ready every alg (suc n) ds rs opened.3 begun.1)
 
   -- what stands of caller n when it has come to its end or to the clock's limit
   pub record Stood (n : ℕ) (r : CachePadded (Runner K)) : Type 0 where
@@ -170,15 +172,26 @@ module _ {K : Type 0} (good : List ℕ → Type 0) (w : Workload) (table : Table
     pub all : (worker_in r).all.now ≡ items_of n w.items
     pub regions : (worker_in r).regions ≡ []
     pub through : IsThrough (worker_in r) (padded_value r).full
+    pub switched : (known (worker_in r).desc).installs ++ switches_of (worker_in r).left.now ≡ installs_for w n
 
-  pub stood : (alg : Alg) (n : ℕ) (ds : List (Handle K)) (rs ss : List (CachePadded (Runner K))) → AllOpened table config rule n ds → Mustered (λ k. items_of k w.items) alg n ds rs → length ss ≡ length rs
+  -- what a caller is to install
+  all-installs : (n : ℕ) → first_installs w.header.alg n ++ switches_of (items_of n w.items) ≡ installs_for w n
+  all-installs zero = refl
+  all-installs (suc n) = refl
+
+  starts-switches : (alg : Alg) (n : ℕ) (d : Handle K) (u : Worker K) → alg ≡ w.header.alg → IsNew (first_installs alg n) (known d) → Starts d (items_of n w.items) alg u → (known u.desc).installs ++ switches_of u.left.now ≡ installs_for w n
+  starts-switches alg n d u is new s =
+      ap (λ l. l ++ switches_of u.left.now) (ap (λ (x : Handle K). (known x).installs) s.is_desc ∙ (new.done.installs ∙ ap (λ a. first_installs a n) is))
+      ∙ (ap (λ (p : Place). first_installs w.header.alg n ++ switches_of p.left) s.at ∙ all-installs n)
+
+  pub stood : (alg : Alg) → alg ≡ w.header.alg → (n : ℕ) (ds : List (Handle K)) (rs ss : List (CachePadded (Runner K))) → AllNew table config rule alg n ds → Mustered (λ k. items_of k w.items) alg n ds rs → length ss ≡ length rs
       → ((i : ℕ) (d : CachePadded (Runner K)) → i < length rs → Finished good table config rule (get_or rs i d) (get_or ss i d)) → Each Stood n ss
-  stood alg n [] [] [] opened begun len h = tt
-  stood alg n [] [] (s ∷ ss) opened begun len h = absurd (omega arith)
-  stood alg n [] (r ∷ rs) ss opened begun len h = absurd begun
-  stood alg n (d ∷ ds) [] ss opened begun len h = absurd begun
-  stood alg n (d ∷ ds) (r ∷ rs) [] opened begun len h = absurd (omega arith)
-  stood alg n (d ∷ ds) (r ∷ rs) (s ∷ ss) opened begun len h =
+  stood alg is n [] [] [] opened begun len h = tt
+  stood alg is n [] [] (s ∷ ss) opened begun len h = absurd (omega arith)
+  stood alg is n [] (r ∷ rs) ss opened begun len h = absurd begun
+  stood alg is n (d ∷ ds) [] ss opened begun len h = absurd begun
+  stood alg is n (d ∷ ds) (r ∷ rs) [] opened begun len h = absurd (omega arith)
+  stood alg is n (d ∷ ds) (r ∷ rs) (s ∷ ss) opened begun len h =
       let one = h 0 r (omega arith) in
       let b = begun.0 in (
         record {
@@ -188,8 +201,9 @@ module _ {K : Type 0} (good : List ℕ → Type 0) (w : Workload) (table : Table
           all = one.all ∙ b.all;
           regions = one.regions ∙ b.regions;
           through = one.through;
+          switched = one.switched ∙ starts-switches alg n d (worker_in r) is opened.2 b;
         },
-        stood alg (suc n) ds rs ss opened.3 begun.1 (omega arith) (λ i x lt. h (suc i) x (omega arith)),
+        stood alg is (suc n) ds rs ss opened.3 begun.1 (omega arith) (λ i x lt. h (suc i) x (omega arith)),
       )
 
   -- the shares that were handed out are those of the workload
@@ -199,7 +213,7 @@ module _ {K : Type 0} (good : List ℕ → Type 0) (w : Workload) (table : Table
       mustered-same (λ n. slice_index_or sh n []) (λ n. items_of n w.items) alg w.header.callers 0 ds rs (λ n lt. ap (λ l. slice_index_or l n []) is ∙ share-at w.header.callers w.items n [] lt) (omega arith) begun
 
   -- the workers before their run, lent as a slice
-  pub lent-ready : ((m : List ℕ) → good m) → (alg : Alg) (sh : List (List Item)) (ds : List (Handle K)) (rs lent : List (CachePadded (Runner K))) → AllOpened table config rule 0 ds → length ds ≡ config.callers → sh ≡ shares_of w.header.callers w.items
+  pub lent-ready : ((m : List ℕ) → good m) → (alg : Alg) (sh : List (List Item)) (ds : List (Handle K)) (rs lent : List (CachePadded (Runner K))) → AllNew table config rule alg 0 ds → length ds ≡ config.callers → sh ≡ shares_of w.header.callers w.items
       → Mustered (λ n. slice_index_or sh n []) alg 0 ds rs → lent ≡ rs → All (IsReady good table config rule) lent × (0 < length lent)
   lent-ready every alg sh ds rs lent opened count is begun same =
       let long = ap length same in
@@ -214,15 +228,15 @@ module _ {K : Type 0} (good : List ℕ → Type 0) (w : Workload) (table : Table
     pub each : Each Stood 0 rs
     pub count : length rs ≡ config.callers
 
-  pub joined : (alg : Alg) (sh : List (List Item)) (ds : List (Handle K)) (rs lent ran : List (CachePadded (Runner K))) (len : ℕ) → AllOpened table config rule 0 ds → length ds ≡ config.callers → sh ≡ shares_of w.header.callers w.items
+  pub joined : (alg : Alg) → alg ≡ w.header.alg → (sh : List (List Item)) (ds : List (Handle K)) (rs lent ran : List (CachePadded (Runner K))) (len : ℕ) → AllNew table config rule alg 0 ds → length ds ≡ config.callers → sh ≡ shares_of w.header.callers w.items
       → Mustered (λ n. slice_index_or sh n []) alg 0 ds rs → lent ≡ rs → length lent ≡ len → length ran ≡ length lent
       → ((i : ℕ) (d : CachePadded (Runner K)) → i < length lent → Finished good table config rule (get_or lent i d) (get_or ran i d)) → Joined ran (take len (ran ++ drop (length ran) rs))
-  joined alg sh ds rs lent ran len opened count is begun same long kept done =
+  joined alg own sh ds rs lent ran len opened count is begun same long kept done =
       let all = ap length same in
       let each = mustered-length (λ n. slice_index_or sh n []) alg 0 ds rs begun in
       record {
         is = written len ran rs (omega arith) (omega arith);
-        each = stood alg 0 ds rs ran opened (own-shares alg sh ds rs is count begun) (omega arith) (λ i d lt. subst (λ l. Finished good table config rule (get_or l i d) (get_or ran i d)) same (done i d (omega arith)));
+        each = stood alg own 0 ds rs ran opened (own-shares alg sh ds rs is count begun) (omega arith) (λ i d lt. subst (λ l. Finished good table config rule (get_or l i d) (get_or ran i d)) same (done i d (omega arith)));
         count = omega arith;
       }
 
@@ -417,6 +431,15 @@ module _ {K : Type 0} (good : List ℕ → Type 0) (w : Workload) (table : Table
   all-made : (count : Entry → ℕ) (rs : List (CachePadded (Runner K))) (ws : List ℕ) (closed : Ended) → length rs ≡ config.callers → Closes good config (descs_in rs) ws closed → dealt count 0 (length rs) closed.history ≡ sum_by count closed.history
   all-made count rs ws closed len c = ap (λ m. dealt count 0 m closed.history) len ∙ dealt-all count config.callers closed.history (all-below config.callers closed.history c.nobody_else)
 
+  -- each caller has installed what the text says
+  installs-all : (n : ℕ) (rs : List (CachePadded (Runner K))) → Each Stood n rs → first_full rs ≡ None → map (λ (d : Handle K). installs_of d.view) (descs_in rs) ≡ map (installs_for w) (counted n (length rs))
+  installs-all n [] h none = refl
+  installs-all n (r ∷ rs) h none =
+      let both = none-full n r (first_full rs) h.0 none in
+      let head : (known (worker_in r).desc).installs ≡ installs_for w n = sym (append-nil (known (worker_in r).desc).installs) ∙ (ap (λ l. (known (worker_in r).desc).installs ++ switches_of l) (sym both.0) ∙ h.0.switched) in
+      let rest = installs-all (suc n) rs h.1 both.1 in
+      ap (λ x. x ∷ map (λ (d : Handle K). installs_of d.view) (descs_in rs)) head ∙ ap (λ l. installs_for w n ∷ l) rest
+
   pub shown : ReportReplays good → (rs : List (CachePadded (Runner K))) (ws : List ℕ) (closed : Ended) (report : Report) → Each Stood 0 rs → length rs ≡ config.callers → first_full rs ≡ None → Closes good config (descs_in rs) ws closed
       → IsPermutation (rows_in rs) report.rows → Ordered report.rows → report.memory ≡ nonzero 0 ws → IsShown w report closed
   shown theorem rs ws closed report stood len none c moved ordered memory =
@@ -433,7 +456,11 @@ module _ {K : Type 0} (good : List ℕ → Type 0) (w : Workload) (table : Table
         memory = memory ∙ ap (nonzero 0) (c.words ∙ ap (λ (x : Config). memory_at closed.clock closed.history (zeros x.words)) sized);
       } in
       let both = theorem w closed.history closed.clock parts report gathered in
-      record { replays = both.0; shows = subst (λ k. Shows closed.history k closed.clock w report) (sym (c.opening ∙ ap (λ (x : Config). x.clock) sized)) both.1 }
+      record {
+        replays = both.0;
+        shows = subst (λ k. Shows closed.history k closed.clock w report) (sym (c.opening ∙ ap (λ (x : Config). x.clock) sized)) both.1;
+        installs = c.installs ∙ (installs-all 0 rs stood none ∙ ap (λ k. map (installs_for w) (counted 0 k)) (len ∙ ap (λ (x : Config). x.callers) sized));
+      }
 
   pub full : (rs : List (CachePadded (Runner K))) (ws : List ℕ) (closed : Ended) (clock : ℕ) → Each Stood 0 rs → length rs ≡ config.callers → first_full rs ≡ Some clock → Closes good config (descs_in rs) ws closed → IsFull w clock closed
   full rs ws closed clock stood len is c =

@@ -2,26 +2,27 @@
 use Rattle.std.proofs.Common.{ℕ, ◌≡◌, List, [], length, drop, refl, sym, ap, ◌∙◌, arith, subst}
 use Rattle.atomic_table.specs.Seated.{TableId}
 use Rattle.rule_base.specs.declared.layout.Config.{Config}
-use Rattle.rule_base.specs.Opening.{first_view}
 use Rattle.stm_model.specs.declared.alg.Alg.{Alg}
 use Rattle.stm_script.specs.declared.report.Row.{Row}
 use Rattle.stm_script.specs.declared.workload.Item.{Item}
+use Rattle.stm_script.specs.Parts.{times}
 use Rattle.stm_script.specs.Reports.{scripts_of}
 use Rattle.stm_rule.specs.Callers.{Handle, IsOf}
-use Rattle.tx_answers.specs.Known.{IsIdle, known_of, caller_of}
+use Rattle.tx_answers.specs.Known.{Known, IsIdle, caller_of}
 use Rattle.stm_tx.specs.Descs.{known}
 use Rattle.stm_trace.specs.declared.said.Phase.TheVariants.{Between}
 use Rattle.stm_trace.specs.Places.{Place, script_at}
 use Rattle.stm_trace.specs.Turns.{BeforeTx}
 use Rattle.bench_core.specs.declared.worker.Worker.{Worker}
+use Rattle.bench_core.specs.Firsts.{IsNew}
 use Rattle.bench_core.specs.Goings.{Going}
 use Rattle.bench_core.specs.Workers.{IsAt, WhenInside, ToSwitch, ItemsFit, DidSwitches, Works, Pays, Stands, Starts, Sound}
 
 module _ {K : Type 0} (good : List ℕ → Type 0) (table : TableId) (config : Config) (rule : K) where
-  -- a caller that has taken no step has done nothing
-  start-works : (n : ℕ) (all : List Item) → Works good config.words [] all n (known_of (first_view config)) []
-  start-works n all = record {
-    writers = refl;
+  -- a caller that has made nothing has done nothing
+  start-works : (n : ℕ) (all : List Item) (v : Known) → v.made ≡ [] → Works good config.words [] all n v []
+  start-works n all v none = record {
+    writers = sym (ap times none);
     each = λ i d lt. absurd (omega arith);
     mine = λ i d lt. absurd (omega arith);
     numbered = refl;
@@ -29,28 +30,29 @@ module _ {K : Type 0} (good : List ℕ → Type 0) (table : TableId) (config : C
     places = λ i d lt. absurd (omega arith);
   }
 
-  pub starts-sound : (d : Handle K) (items : List Item) (alg : Alg) (u : Worker K) → IsOf d table config rule → known d ≡ known_of (first_view config) → ItemsFit good config.words [] (caller_of d.who.role) items → Starts d items alg u
+  pub starts-sound : (d : Handle K) (items : List Item) (alg : Alg) (these : List Alg) (u : Worker K) → IsOf d table config rule → IsNew these (known d) → ItemsFit good config.words [] (caller_of d.who.role) items → Starts d items alg u
       → Sound good table config rule u
-  starts-sound d items alg u own first fits s =
+  starts-sound d items alg these u own new fits s =
       let who : caller_of u.desc.who.role ≡ caller_of d.who.role = ap (λ (x : Handle K). caller_of x.who.role) s.is_desc in
-      let knows : known u.desc ≡ known_of (first_view config) = ap known s.is_desc ∙ first in
+      let knows : known u.desc ≡ known d = ap known s.is_desc in
       let phase : u.phase ≡ Between = ap (λ (p : Place). p.phase) s.at in
       let left : u.left.now ≡ items = ap (λ (p : Place). p.left) s.at in
       let none : u.rows.items ≡ [] = ap (λ (p : Place). p.rows) s.at in
       let count = ap length none in
       let whole : u.left.now ≡ u.all.now = left ∙ sym s.all in
-      let pays : Pays u.all.now u.left.now (known_of (first_view config)).rises = subst (λ l. Pays u.all.now l 0) (sym whole) (omega arith) in
+      let rises = new.done.rises in
+      let pays : Pays u.all.now u.left.now (known d).rises = subst (λ l. Pays u.all.now l (known d).rises) (sym whole) (omega arith) in
       let stands : Stands good config.words u.regions u.all.now u.left.now (caller_of u.desc.who.role) (known u.desc) u.rows.items Between =
       subst (λ rs. Stands good config.words rs u.all.now u.left.now (caller_of u.desc.who.role) (known u.desc) u.rows.items Between) (sym s.regions)
       (subst (λ v. Stands good config.words [] u.all.now u.left.now (caller_of u.desc.who.role) v u.rows.items Between) (sym knows)
-      (subst (λ rows. Stands good config.words [] u.all.now u.left.now (caller_of u.desc.who.role) (known_of (first_view config)) rows Between) (sym none) (start-works (caller_of u.desc.who.role) u.all.now, pays))) in
+      (subst (λ rows. Stands good config.words [] u.all.now u.left.now (caller_of u.desc.who.role) (known d) rows Between) (sym none) (start-works (caller_of u.desc.who.role) u.all.now (known d) new.done.made, pays))) in
       record {
         own = subst (λ (x : Handle K). IsOf x table config rule) (sym s.is_desc) own;
-        at = subst (λ p. IsAt good config (caller_of u.desc.who.role) p (known u.desc)) (sym phase) (subst IsIdle (sym knows) (refl, refl, refl));
+        at = subst (λ p. IsAt good config (caller_of u.desc.who.role) p (known u.desc)) (sym phase) (subst IsIdle (sym knows) new.idle);
         stands = subst (Stands good config.words u.regions u.all.now u.left.now (caller_of u.desc.who.role) (known u.desc) u.rows.items) (sym phase) stands;
         todo = ap (scripts_of (caller_of u.desc.who.role)) whole ∙ ap (λ (rows : List Row). drop (length rows) (scripts_of (caller_of u.desc.who.role) u.all.now)) (sym none);
         within = omega arith;
-        switched = subst (λ v. DidSwitches u.all.now u.left.now v) (sym knows) (subst (λ l. DidSwitches u.all.now l (known_of (first_view config))) (sym whole) ([], refl));
+        switched = subst (λ v. DidSwitches u.all.now u.left.now v) (sym knows) (subst (λ l. DidSwitches u.all.now l (known d)) (sym whole) ((known d).installs, refl));
         fits = subst (λ l. ItemsFit good config.words u.regions (caller_of u.desc.who.role) l) (sym left)
             (subst (λ rs. ItemsFit good config.words rs (caller_of u.desc.who.role) items) (sym s.regions)
             (subst (λ n. ItemsFit good config.words [] n items) (sym who) fits));

@@ -14,7 +14,7 @@ use Rattle.stm_model.specs.declared.alg.Alg.{Alg}
 use Rattle.stm_trace.specs.declared.said.Phase.TheVariants.{Between}
 use Rattle.stm_trace.specs.Turns.{BeforeTx}
 use Rattle.bench_core.specs.declared.worker.Worker.{Worker}
-use Rattle.bench_core.specs.Workers.{Loaded, Sound, Starts}
+use Rattle.bench_core.specs.Workers.{Loaded, Sound, Starts, switches_of}
 
 module _ {K : Type 0} where
   abbrev pub worker_in : CachePadded (Runner K) → Worker K
@@ -49,6 +49,10 @@ module _ {K : Type 0} where
   abbrev pub IsThrough : Worker K → Option ℕ → Type 0
   IsThrough w full = MatchOption full (w.left.now ≡ []) (MetLimit w)
 
+  -- what was installed between the two, and what is still to be switched to, is what was to be switched to
+  abbrev pub Switches : Worker K → Worker K → Type 0
+  Switches v w = (known w.desc).installs ++ switches_of w.left.now ≡ (known v.desc).installs ++ switches_of v.left.now
+
   module _ (good : List ℕ → Type 0) (table : TableId) (config : Config) (rule : K) where
     pub record IsReady (r : CachePadded (Runner K)) : Type 0 where
       pub sound : Sound good table config rule (worker_in r)
@@ -59,5 +63,6 @@ module _ {K : Type 0} where
       pub same : IsSameCaller (worker_in r).desc (worker_in s).desc
       pub all : (worker_in s).all.now ≡ (worker_in r).all.now
       pub regions : (worker_in s).regions ≡ (worker_in r).regions
+      pub switched : Switches (worker_in r) (worker_in s)
       pub between : (worker_in s).phase ≡ Between
       pub through : IsThrough (worker_in s) (padded_value s).full

@@ -1,6 +1,7 @@
 pub mod Goings
 pub mod Workers
 pub mod Runs
+pub mod Firsts
 pub mod Shares
 pub mod Crews
 pub mod Commands

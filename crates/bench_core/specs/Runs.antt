@@ -1,10 +1,13 @@
 -- What a run comes to.
-use Rattle.std.specs.Prelude.{ℕ, ◌≡◌, ◌<◌, ◌≤◌, ◌+◌, ◌*◌, ◌^◌, length}
+use Rattle.std.specs.Prelude.{ℕ, zero, suc, ◌≡◌, ◌<◌, ◌≤◌, ◌+◌, ◌*◌, ◌^◌, List, ◌∷◌, map, length}
+use Rattle.stm_model.specs.declared.alg.Alg.{Alg}
 use Rattle.rule_base.specs.declared.layout.Config.{Config}
 use Rattle.stm_script.specs.declared.report.Report.{Report}
 use Rattle.stm_script.specs.declared.workload.Header.{Header}
 use Rattle.stm_script.specs.declared.workload.Workload.{Workload}
-use Rattle.stm_script.specs.Reports.{Replays, Shows}
+use Rattle.stm_script.specs.Reports.{Replays, Shows, counted}
+use Rattle.stm_trace.specs.Places.{items_of}
+use Rattle.bench_core.specs.Workers.{switches_of}
 use Rattle.stm_rule.specs.Closings.{Ended}
 use Rattle.bench_core.specs.declared.run.Ran.{Ran}
 use Rattle.bench_core.specs.declared.run.Ran.TheVariants.{ToEnd, ToLimit}
@@ -13,10 +16,16 @@ use Rattle.bench_core.specs.declared.run.Ran.TheVariants.{ToEnd, ToLimit}
 abbrev pub config_of : Header → Config
 config_of h = record { words = h.words; records = h.records; ring = h.ring; callers = h.callers; reads = h.reads; writes = h.writes; clock = h.clock }
 
--- the report replays the workload, and shows the one history of the memory that was closed
+-- what caller n installs: its switches in the order of the text, caller 0 after the header's algorithm
+abbrev pub installs_for : Workload → ℕ → List Alg
+installs_for w zero = w.header.alg ∷ switches_of (items_of 0 w.items)
+installs_for w (suc n) = switches_of (items_of (suc n) w.items)
+
+-- the report replays the workload, and shows the one history of the memory that was closed, and the installs are those of the text
 pub record IsShown (w : Workload) (report : Report) (closed : Ended) : Type 0 where
   pub replays : Replays w report
   pub shows : Shows closed.history closed.opening closed.clock w report
+  pub installs : closed.installs ≡ map (installs_for w) (counted 0 w.header.callers)
 
 -- a transaction was still to begin, and found the clock at its limit, which is that of the memory that was closed; those before it can have brought it there, each by at most two
 pub record IsFull (w : Workload) (clock : ℕ) (closed : Ended) : Type 0 where

@@ -6,6 +6,7 @@ pub mod bench;
 mod command;
 pub mod crew;
 mod messages;
+pub mod opening;
 pub mod order;
 pub mod run;
 pub mod shares;

@@ -3,17 +3,17 @@ ghost use Rattle.std.specs.Prelude.{◌≡◌, IfOk};
 ghost use Rattle.stm_text.specs.Built.{IsBuilt};
 ghost use Rattle.stm_text.specs.declared.parse.Mode.TheVariants.{Run};
 ghost use Rattle.stm_rule.specs.Callers.{IsSameCaller};
-ghost use Rattle.bench_core.specs.Crews.{IsThrough};
-ghost use Rattle.bench_core.specs.Runs.{HasRun, config_of};
+ghost use Rattle.bench_core.specs.Crews.{IsThrough, Switches};
+ghost use Rattle.bench_core.specs.Runs.{HasRun};
 ghost use Rattle.bench_core.specs.Workers.{Sound};
 ghost use Rattle.stm_trace.specs.Places.{clock_of};
 
 use crate::crew::{dismiss, muster, run_all};
+use crate::opening::open;
 use crate::order::order;
 use crate::shares::part;
 use crate::turnstile::Turnstile;
 use crate::worker::Worker;
-use rule_base::layout::Config;
 use std::alloc::Global;
 use std::hint;
 use std::sync::Wait;
@@ -27,7 +27,7 @@ use stm_rule::stm::Stm;
 use stm_script::laws::report_replays;
 use stm_script::pairs::pairs;
 use stm_script::report::{Report, Rows};
-use stm_script::workload::{Header, Workload};
+use stm_script::workload::Workload;
 use stm_trace::said::{Phase, Said};
 use tx_answers::answers::{Begin, CloseGate, Commit, Look};
 
@@ -61,9 +61,7 @@ pub fn run<R: Threads + Wait + Sync, G: Turnstile + Sync>(
         items,
         schedule: _,
     } = workload;
-    let Ok((stm, descs)) = Stm::new(alloc, config_of(&header), AnyMem) else {
-        return Err(Memory);
-    };
+    let (stm, descs) = open(rt, alloc, &header)?;
     let mut rows = Vec::with_capacity(alloc, items.as_slice().len())?;
     let mut idle = Vec::with_capacity(alloc, header.callers)?;
     let shares = part(alloc, header.callers, items.into_vec())?;
@@ -88,21 +86,6 @@ pub fn run<R: Threads + Wait + Sync, G: Turnstile + Sync>(
     }
 }
 
-/// The sizes of the memory that a header asks for.
-fn config_of(header: &Header) -> Config
-    ensures { result ≡ config_of header.now }
-{
-    Config {
-        words: header.words,
-        records: header.records,
-        ring: header.ring,
-        callers: header.callers,
-        reads: header.reads,
-        writes: header.writes,
-        clock: header.clock,
-    }
-}
-
 /// Turns until nothing is left, or a begin finds the clock at its limit: then that clock. A call that another
 /// caller stood in the way of is made again at once.
 pub(crate) fn work<R: Wait, K: MemRule, G: Turnstile>(
@@ -116,6 +99,7 @@ pub(crate) fn work<R: Wait, K: MemRule, G: Turnstile>(
     ensures same { IsSameCaller w.old.desc w.new.desc }
     ensures all { w.new.all.now ≡ w.old.all.now }
     ensures regions { w.new.regions ≡ w.old.regions }
+    ensures switched { Switches w.old w.new }
     ensures between { w.new.phase ≡ Phase.Between }
     ensures through { IsThrough w.new result }
 {

@@ -45,6 +45,15 @@ entry_rise OrecEager = 1
 entry_rise RingSw = 1
 entry_rise Serial = 1
 
+-- by how much an install may raise the clock: TML begins at an even one
+abbrev pub install_rise : Alg → ℕ
+install_rise Cgl = 0
+install_rise Tml = 1
+install_rise OrecLazy = 0
+install_rise OrecEager = 0
+install_rise RingSw = 0
+install_rise Serial = 0
+
 -- the clock was found at its limit
 pub record FindsFull (clock : ℕ) (v w : Known) : Type 0 where
   pub limit : CLOCK_LIMIT ≤ clock
@@ -286,7 +295,7 @@ module _ (good : List ℕ → Type 0) (c : Config) (n : ℕ) where
     pub quiet : SeesQuiet w
     pub settled : w.settled ≡ true
     pub named : w.alg ≡ alg
-    pub rises : w.rises ≤ v.rises + 1
+    pub rises : w.rises ≤ v.rises + install_rise alg
     pub installs : w.installs ≡ v.installs ++ alg ∷ []
 
   -- what `reopen` does

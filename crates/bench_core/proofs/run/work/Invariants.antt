@@ -1,5 +1,6 @@
 use Rattle.std.proofs.Common.{◌≡◌}
 use Rattle.stm_rule.specs.Callers.{IsSameCaller}
+use Rattle.bench_core.specs.Crews.{Switches}
 use Rattle.bench_core.specs.Workers.{Sound}
 use Rattle.bench_core.proofs.run.work.Given as goal
 
@@ -11,4 +12,5 @@ invariant-loop g l = record {
   same : IsSameCaller l.fn.w.desc l.w.desc;
   all : l.w.all.now ≡ l.fn.w.all.now;
   regions : l.w.regions ≡ l.fn.w.regions;
+  switched : Switches l.fn.w l.w;
 }
