@@ -6,3 +6,4 @@ mod RowLaws
 mod StartLaws
 mod TurnLaws
 mod RunLaws
+mod StepLaws

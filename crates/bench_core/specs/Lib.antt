@@ -5,3 +5,4 @@ pub mod Commands
 pub mod Messages
 pub mod Outcomes
 pub mod Statuses
+pub mod Steps

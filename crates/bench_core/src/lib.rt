@@ -4,9 +4,12 @@
 
 pub mod bench;
 mod command;
+pub mod finish;
 mod messages;
+pub mod rest;
 pub mod run;
 pub mod status;
+pub mod step;
 #[cfg(test)]
 mod tests;
 pub mod turnstile;
