@@ -7,3 +7,5 @@ mod StartLaws
 mod TurnLaws
 mod RunLaws
 mod StepLaws
+mod RoundLaws
+mod EndLaws

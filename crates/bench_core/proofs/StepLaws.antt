@@ -1,19 +1,14 @@
 -- From one turn of one worker to turns of many, one behind the other.
-use Rattle.std.proofs.Common.{ℕ, zero, suc, ◌≡◌, ◌<◌, ◌≤◌, ◌+◌, ◌*◌, ◌^◌, ◌-◌, List, [], ◌∷◌, ◌++◌, length, get_or, set, refl, sym, ap, ◌∙◌, arith, subst, inl, inr, length-append}
-use Rattle.std.specs.Prelude.{map, Some, None, Result, Ok, Err, All, replicate, sum_by, MatchOption, ◌⊎◌}
-use Rattle.std.proofs.lemmas.List.{get_or-map, length-set}
+use Rattle.std.proofs.Common.{ℕ, zero, suc, ◌≡◌, ◌<◌, ◌≤◌, ◌+◌, ◌*◌, ◌^◌, List, [], ◌∷◌, ◌++◌, length, get_or, set, refl, sym, ap, ◌∙◌, arith, subst, inl, inr, length-append}
+use Rattle.std.specs.Prelude.{Some, None, Ok, Err, MatchOption}
+use Rattle.std.proofs.lemmas.List.{get_or-map}
 use Rattle.std.proofs.lemmas.List.Sums.{sum_by-set}
-use Rattle.std.proofs.lemmas.List.Elements.{All-set}
 use Rattle.atomic_table.specs.Seated.{TableId}
 use Rattle.rule_base.specs.declared.layout.Config.{Config}
-use Rattle.stm_model.specs.declared.stop.Stop.{Stop}
-use Rattle.stm_model.specs.declared.stop.Stop.TheVariants as stops
-use Rattle.stm_script.specs.declared.workload.Header.{Header}
 use Rattle.tx_answers.specs.declared.answers.Begin.TheVariants as begins
 use Rattle.tx_answers.specs.declared.answers.Commit.TheVariants as commits
 use Rattle.tx_answers.specs.Known.{owed}
 use Rattle.stm_tx.specs.Descs.{known}
-use Rattle.stm_rule.specs.Callers.{IsSameCaller}
 use Rattle.stm_trace.specs.declared.line.Line.{Line}
 use Rattle.stm_trace.specs.declared.line.Line.TheVariants.{Of}
 use Rattle.stm_trace.specs.declared.said.Phase.TheVariants.{Between}
@@ -28,7 +23,7 @@ use Rattle.bench_core.specs.declared.step.Halt.{Halt}
 use Rattle.bench_core.specs.declared.step.Halt.TheVariants.{ClockFull, Memory}
 use Rattle.bench_core.specs.declared.worker.Worker.{Worker}
 use Rattle.bench_core.specs.Steps.{places, place_at, IsSame, AreSame, debts, ArePaid, FoundFull, Plays, Took, Turns}
-use Rattle.bench_core.specs.Workers.{place_of, HasSizes, Loaded, Sound, Turned}
+use Rattle.bench_core.specs.Workers.{place_of, Loaded, Turned}
 use Rattle.bench_core.proofs.TurnLaws.{same-twice}
 
 -- who found the clock full has no attempt open
@@ -127,17 +122,21 @@ module _ {K : Type 0} where
           (one-more (debts (set ws n t.now)) (debts ws) (f (get_or ws n t.was)) (f t.now) old new n said (sum_by-set f ws n t.now t.was lt) t.turned.pays t.lines)
 
       pub took-plays : clock_of said ≡ None → Plays config may ws vs old new (n ∷ []) (Ok tt)
-      took-plays calm =
-          ((λ h sizes. subst (λ x. Played h may (places ws) (places x) old new (n ∷ [])) (sym t.is)
-              (played-one h may place_of ws n t.was t.now said old new lt here (t.turned.fair h sizes) t.turned.now t.lines calm)), paid)
+      took-plays calm = (
+        (λ h sizes. subst (λ x. Played h may (places ws) (places x) old new (n ∷ [])) (sym t.is)
+            (played-one h may place_of ws n t.was t.now said old new lt here (t.turned.fair h sizes) t.turned.now t.lines calm)),
+        paid,
+      )
 
       pub took-halts : (clock : ℕ) → clock_of said ≡ Some clock → MaySay (place_of (get_or ws n t.was)) said → Plays config may ws vs old new (n ∷ []) (Err (ClockFull clock))
       took-halts clock full says =
           let between = ap (λ (p : Place). p.phase) t.turned.now ∙ full-between (place_of (get_or ws n t.was)) said clock full says in
-          let found = subst (λ o. MatchOption o (Unit {0}) (λ c. (2 ^ 62 ≤ c) × Loaded (known t.now.desc) c)) full t.turned.found in
-          ((λ h sizes. subst (λ x. Halted h may (places ws) (places x) old new (n ∷ []) clock) (sym t.is)
-              (halted-one h may place_of ws n t.was t.now said old new lt here (t.turned.fair h sizes) t.turned.now t.lines clock full)),
-          paid, subst (λ x. FoundFull x clock) (sym t.is) (found-set ws n t.now clock lt (between, found.0, found.1)))
+          let found = subst (λ o. MatchOption o (Unit {0}) (λ c. (2 ^ 62 ≤ c) × Loaded (known t.now.desc) c)) full t.turned.found in (
+            (λ h sizes. subst (λ x. Halted h may (places ws) (places x) old new (n ∷ []) clock) (sym t.is)
+                (halted-one h may place_of ws n t.was t.now said old new lt here (t.turned.fair h sizes) t.turned.now t.lines clock full)),
+            paid,
+            subst (λ x. FoundFull x clock) (sym t.is) (found-set ws n t.now clock lt (between, found.0, found.1)),
+          )
 
     -- a turn in the schedule
     pub turns-play : (ws vs : List (Worker K)) (old new : List Line) (n : ℕ) → n < length ws → Turns good table config rule ws vs old new n (Ok tt) → Plays config MaySay ws vs old new (n ∷ []) (Ok tt)

@@ -1,5 +1,5 @@
 -- What turns of many workers do, and what they say.
-use Rattle.std.specs.Prelude.{ℕ, ◌≡◌, ◌<◌, ◌≤◌, ◌+◌, ◌*◌, ◌^◌, ◌⊎◌, true, List, [], ◌∷◌, ◌++◌, length, map, replicate, All, slice_index_or, slice_set, sum_by, Some, None, Result, Ok, Err, MatchOption, IsPermutation}
+use Rattle.std.specs.Prelude.{ℕ, ◌≡◌, ◌≤◌, ◌+◌, ◌*◌, ◌^◌, ◌⊎◌, true, List, [], ◌∷◌, ◌++◌, length, map, replicate, All, slice_index_or, slice_set, sum_by, Some, None, Result, Ok, Err, IsPermutation}
 use Rattle.atomic_table.specs.Seated.{TableId}
 use Rattle.rule_base.specs.declared.layout.Config.{Config}
 use Rattle.stm_script.specs.declared.report.Row.{Row}
@@ -13,7 +13,7 @@ use Rattle.stm_trace.specs.declared.line.Line.TheVariants.{Of}
 use Rattle.stm_trace.specs.declared.said.Phase.TheVariants.{Between, Inside}
 use Rattle.stm_trace.specs.declared.said.Said.{Said}
 use Rattle.stm_trace.specs.Places.{Place, clock_of}
-use Rattle.stm_trace.specs.Turns.{MaySay, MayWind, MayFinish, IsOver, sure}
+use Rattle.stm_trace.specs.Turns.{MaySay, MayWind, IsOver, sure}
 use Rattle.stm_trace.specs.Fits.{IsWhole, IsCut, all_told}
 use Rattle.stm_trace.specs.Fits as fits
 use Rattle.stm_trace.specs.Played.{Played, Halted}

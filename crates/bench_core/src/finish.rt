@@ -140,7 +140,11 @@ fn leave<K: MemRule>(stm: &Stm<K>, w: &mut Worker<K>) -> Option<Said>
 {
     match w.phase {
         Phase::Between => None,
-        Phase::Inside => if w.drop_attempt(stm) { Some(Said::Dropped) } else { None },
+        Phase::Inside => if w.drop_attempt(stm) {
+            Some(Said::Dropped)
+        } else {
+            None
+        },
         Phase::Closing => {
             w.open_again(stm);
             Some(Said::Reopened)

@@ -1,4 +1,4 @@
-use Rattle.std.proofs.Common.{◌≡◌, ap, arith, ◌+◌, suc, [], ◌∷◌, ◌++◌, get_or, take, drop}
+use Rattle.std.proofs.Common.{◌+◌, suc, ◌++◌, get_or, take, drop}
 use Rattle.std.specs.Prelude.{replicate}
 use Rattle.stm_script.specs.declared.workload.Go.{Go}
 use Rattle.stm_trace.specs.Turns.{MaySay}
@@ -33,3 +33,7 @@ loop-go-preserved g c =
       plays = plays-as c.args.stm.now.config MaySay c.args.workers.now c.spend.new.workers c.args.trace.now.items c.spend.new.trace.items (turns (take i s) ++ replicate go.turns go.caller) (turns (take (i + 1) s)) (turns-next i s d c.loop-go-test.true)
           (plays-next c.args.stm.now.config MaySay c.args.workers.now c.loop-go.workers c.spend.new.workers c.args.trace.now.items c.loop-go.trace.items c.spend.new.trace.items (turns (take i s)) (replicate go.turns go.caller) c.loop-go.invariant.plays c.in-Ok.ensures.plays);
     }
+
+pub returns-clause-plays : goal.returns-clause-plays
+returns-clause-plays g c =
+    plays-as c.args.stm.now.config MaySay c.args.workers.now c.loop-go.workers c.args.trace.now.items c.loop-go.trace.items (turns (take c.loop-go.go-index c.args.schedule.now)) (turns c.args.schedule.now) (turns-all c.loop-go.go-index c.args.schedule.now c.loop-go-test.false) c.loop-go.invariant.plays

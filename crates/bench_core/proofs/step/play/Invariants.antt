@@ -1,4 +1,4 @@
-use Rattle.std.proofs.Common.{length, take}
+use Rattle.std.proofs.Common.{take}
 use Rattle.std.specs.Prelude.{Ok}
 use Rattle.stm_trace.specs.Turns.{MaySay}
 use Rattle.stm_trace.specs.Fits.{turns}

@@ -1,4 +1,3 @@
-use Rattle.std.proofs.Common.{length}
 use Rattle.std.specs.Prelude.{replicate, Ok}
 use Rattle.stm_trace.specs.Turns.{MaySay}
 use Rattle.bench_core.specs.Steps.{AreSound, AreSame, Plays}

@@ -24,19 +24,27 @@ pub returns-in-Some-clause-same : goal.returns-in-Some-clause-same
 returns-in-Some-clause-same g c = same-set c.args.workers.now c.args.caller c.index-workers-caller.result c.turn-said.new.self c.requires.below (worker-same (g.K.MemRule.good c.args.stm.now.rule) c.args.stm.now.table.shared.table_id c.args.stm.now.config c.args.stm.now.rule MaySay (get_or c.args.workers.now c.args.caller c.index-workers-caller.result) c.turn-said.result c.turn-said.new.self c.turn-said.ensures.turned)
 
 pub returns-in-None-clause-turns : goal.returns-in-None-clause-turns
-returns-in-None-clause-turns g c = (c.turn-said.result, record {
-  was = c.index-workers-caller.result;
-  now = c.turn-said.new.self;
-  turned = c.turn-said.ensures.turned;
-  is = refl;
-  lines = c.in-Ok.ensures.items;
-}, sym c.full_clock.ensures ∙ c.in-None.is)
+returns-in-None-clause-turns g c = (
+  c.turn-said.result,
+  record {
+    was = c.index-workers-caller.result;
+    now = c.turn-said.new.self;
+    turned = c.turn-said.ensures.turned;
+    is = refl;
+    lines = c.in-Ok.ensures.items;
+  },
+  sym c.full_clock.ensures ∙ c.in-None.is,
+)
 
 pub returns-in-Some-clause-turns : goal.returns-in-Some-clause-turns
-returns-in-Some-clause-turns g c = (c.turn-said.result, record {
-  was = c.index-workers-caller.result;
-  now = c.turn-said.new.self;
-  turned = c.turn-said.ensures.turned;
-  is = refl;
-  lines = c.in-Ok.ensures.items;
-}, sym c.full_clock.ensures ∙ c.in-Some.is)
+returns-in-Some-clause-turns g c = (
+  c.turn-said.result,
+  record {
+    was = c.index-workers-caller.result;
+    now = c.turn-said.new.self;
+    turned = c.turn-said.ensures.turned;
+    is = refl;
+    lines = c.in-Ok.ensures.items;
+  },
+  sym c.full_clock.ensures ∙ c.in-Some.is,
+)
