@@ -12,7 +12,7 @@ use Rattle.rule_base.specs.declared.entries.Entry.{Entry}
 use Rattle.rule_base.specs.declared.layout.Config.{Config}
 use Rattle.rule_base.specs.declared.views.View.{View}
 use Rattle.rule_base.specs.Bridge.{items, words_of, of_words, public_entry, public_history}
-use Rattle.rule_base.specs.BridgeLemmas.{memories, words_of-same, explains-items, legal-always}
+use Rattle.rule_base.specs.BridgeLemmas.{memories, words_of-same, explains-items, legal-always, legal-public}
 use Rattle.rule_base.specs.History.{word_at, word_now, Inside, Below, upto, Explains, Legal}
 use Rattle.rule_base.specs.HistoryLemmas.{word_at-all, upto-all}
 use Rattle.tx_answers.specs.Answers.{IsOpaque}
@@ -37,6 +37,7 @@ module _ (good : List ℕ → Type 0) (c : Config) (n : ℕ) where
       let all = sees-at v.history.seen s v.attempt.reads below sees inside in
       subst (λ (k : ℕ). good (memory_at k (public_history v.history.seen) (zeros c.words)) → public_memories.Explains (memory_at k (public_history v.history.seen) (zeros c.words)) (items v.attempt.reads) → IsOpaque good c n (known_of v)) is
       (λ g e. record {
+        legal = legal-public good c v.history.seen (s + 1) below legal;
         reach = (let a = is in let b = front in omega arith);
         sees = e;
         kept = g;

@@ -4,13 +4,9 @@ use Rattle.std.specs.Prelude.{Option, Some}
 use Rattle.stm_model.specs.declared.alg.Alg.{Alg}
 use Rattle.stm_model.specs.declared.alg.Alg.TheVariants.{Cgl}
 use Rattle.rule_base.specs.declared.layout.Config.{Config}
-use Rattle.rule_base.specs.declared.seats.SeatView.{SeatView}
 use Rattle.rule_base.specs.declared.views.View.{View}
-use Rattle.rule_base.specs.StepKinds.{StepKind, Tells}
-use Rattle.rule_base.specs.World.{World}
 use Rattle.stm_rule.specs.Attempts.{good_by, IsInside, Stands}
 use Rattle.stm_rule.specs.Callers.{Handle}
-use Rattle.stm_rule.specs.Kept.{SeatTells}
 use Rattle.tx_answers.specs.Known.{known_of, is_in}
 
 runs-by : (good : List ℕ → Type 0) (c : Config) (a : Alg) (clock : ℕ) (wrote : Bool) (n next : ℕ) (running holds : Bool) (v : View) → is_in v.gate.phase ≡ true → Stands good c a clock wrote n next running holds v → IsInside good c a clock wrote v

@@ -5,6 +5,10 @@ mod RoomLaws
 mod RowLaws
 mod StartLaws
 mod TurnLaws
+mod OrderLaws
+mod ShareLaws
+mod HistoryLaws
+mod CrewLaws
 mod RunLaws
 mod StepLaws
 mod RoundLaws

@@ -1,6 +1,8 @@
 pub mod Goings
 pub mod Workers
 pub mod Runs
+pub mod Shares
+pub mod Crews
 pub mod Commands
 pub mod Messages
 pub mod Outcomes

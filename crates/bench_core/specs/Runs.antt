@@ -1,5 +1,5 @@
 -- What a run comes to.
-use Rattle.std.specs.Prelude.{ℕ, ◌≡◌, ◌≤◌, ◌+◌, ◌*◌, ◌^◌, length}
+use Rattle.std.specs.Prelude.{ℕ, ◌≡◌, ◌<◌, ◌≤◌, ◌+◌, ◌*◌, ◌^◌, length}
 use Rattle.rule_base.specs.declared.layout.Config.{Config}
 use Rattle.stm_script.specs.declared.report.Report.{Report}
 use Rattle.stm_script.specs.declared.workload.Header.{Header}
@@ -18,12 +18,13 @@ pub record IsShown (w : Workload) (report : Report) (closed : Ended) : Type 0 wh
   pub replays : Replays w report
   pub shows : Shows closed.history closed.opening closed.clock w report
 
--- a begin loaded the clock at its limit, which is that of the memory that was closed; the workload can have brought it there
+-- a transaction was still to begin, and found the clock at its limit, which is that of the memory that was closed; those before it can have brought it there, each by at most two
 pub record IsFull (w : Workload) (clock : ℕ) (closed : Ended) : Type 0 where
   pub opening : closed.opening ≡ w.header.clock
   pub found : closed.clock ≡ clock
   pub limit : clock ≡ 2 ^ 62
-  pub bound : 2 ^ 62 ≤ w.header.clock + 4 * length w.items + 1
+  pub left : length closed.history < length w.items
+  pub bound : 2 ^ 62 + 2 ≤ w.header.clock + 2 * length w.items
 
 abbrev pub HasRun : Workload → Ran → Type 0
 HasRun w (ToEnd report closed) = IsShown w report closed

@@ -8,8 +8,10 @@ use crate::command::is_run;
 use crate::messages;
 use crate::run::{Ran, run};
 use crate::status::Status;
+use crate::turnstile::Turnstile;
 use std::alloc::Global;
 use std::sync::Wait;
+use std::thread::Threads;
 use stm_io::ends::{Failed, Sink, Source};
 use stm_io::whole::{ReadError, put_all, read_all};
 use stm_model::memory::Memory;
@@ -37,19 +39,21 @@ struct Saying {
 /// `Ok` and `ClockFull` leave in `last` the closed memory of this call's run; every other status leaves
 /// `last` as it was.
 ///
-/// `rt` is the runtime value that waiting calls take: a transaction that does not get the memory begins
-/// again, for as long as it takes.
-pub fn bench<R: Wait, S: Source, K: Sink>(
+/// `rt` is the runtime value that waiting calls and threads take: a transaction that does not get the memory
+/// begins again, for as long as it takes. `turnstile` is passed right before an attempt's first commit; see
+/// [`Turnstile`].
+pub fn bench<R: Threads + Wait + Sync, S: Source, K: Sink, G: Turnstile + Sync>(
     rt: &R,
     alloc: Global,
     words: &[&str],
     source: &mut S,
     sink: &mut K,
+    turnstile: &G,
     last: &mut Option<Closed>,
 ) -> Status
     ensures { Ends S.left S.faults words.now source.old source.new K.held K.faults sink.old sink.new last.old last.new result }
 {
-    let Ok(saying) = say(rt, alloc, words, source) else {
+    let Ok(saying) = say(rt, alloc, words, source, turnstile) else {
         return Status::Memory;
     };
     match put_all(sink, saying.text.as_slice()) {
@@ -71,11 +75,12 @@ fn keep(last: &mut Option<Closed>, closed: Option<Closed>)
 }
 
 /// What is to be written, made whole before any of it is.
-fn say<R: Wait, S: Source>(
+fn say<R: Threads + Wait + Sync, S: Source, G: Turnstile + Sync>(
     rt: &R,
     alloc: Global,
     words: &[&str],
     source: &mut S,
+    turnstile: &G,
 ) -> Result<Saying, Memory>
     ensures { IfOk result (λ s. Says S.left S.faults words.now source.old source.new s.status s.closed s.text.items) }
 {
@@ -87,7 +92,7 @@ fn say<R: Wait, S: Source>(
         });
     }
     match read_all(alloc, source, MOST_READ) {
-        Ok(text) => execute(rt, alloc, text.as_slice()),
+        Ok(text) => execute(rt, alloc, text.as_slice(), turnstile),
         Err(ReadError::Failed) => Ok(Saying {
             status: Status::ReadFault,
             text: messages::read_fault(alloc)?,
@@ -98,11 +103,16 @@ fn say<R: Wait, S: Source>(
 }
 
 /// What is to be written of a text that was read.
-fn execute<R: Wait>(rt: &R, alloc: Global, text: &[u8]) -> Result<Saying, Memory>
+fn execute<R: Threads + Wait + Sync, G: Turnstile + Sync>(
+    rt: &R,
+    alloc: Global,
+    text: &[u8],
+    turnstile: &G,
+) -> Result<Saying, Memory>
     ensures { IfOk result (λ s. SaidOf text.now s.status s.closed s.text.items) }
 {
     match parse(alloc, text, Mode::Run) {
-        Ok(workload) => report(rt, alloc, &workload),
+        Ok(workload) => report(rt, alloc, workload, turnstile),
         Err(ParseError::Fault { line, code }) => Ok(Saying {
             status: Status::Refused { line, code },
             text: messages::refused(alloc, line, code)?,
@@ -113,11 +123,16 @@ fn execute<R: Wait>(rt: &R, alloc: Global, text: &[u8]) -> Result<Saying, Memory
 }
 
 /// What is to be written of a workload.
-fn report<R: Wait>(rt: &R, alloc: Global, workload: &Workload) -> Result<Saying, Memory>
-    requires { IsBuilt Run workload.now }
-    ensures { IfOk result (λ s. SaidOfRun workload.now s.status s.closed s.text.items) }
+fn report<R: Threads + Wait + Sync, G: Turnstile + Sync>(
+    rt: &R,
+    alloc: Global,
+    workload: Workload,
+    turnstile: &G,
+) -> Result<Saying, Memory>
+    requires { IsBuilt Run workload }
+    ensures { IfOk result (λ s. SaidOfRun workload s.status s.closed s.text.items) }
 {
-    match run(rt, alloc, workload)? {
+    match run(rt, alloc, workload, turnstile)? {
         Ran::ToEnd { report, closed } => Ok(Saying {
             status: Status::Ok,
             text: report_text(alloc, &report)?,

@@ -4,13 +4,20 @@
 
 pub mod bench;
 mod command;
+pub mod crew;
 pub mod finish;
 mod messages;
+pub mod order;
 pub mod rest;
 pub mod run;
+pub mod shares;
 pub mod status;
 pub mod step;
 #[cfg(test)]
 mod tests;
+#[cfg(test)]
+mod thread_tests;
 pub mod turnstile;
+#[cfg(test)]
+mod turnstile_tests;
 pub mod worker;

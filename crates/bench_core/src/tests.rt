@@ -1,9 +1,11 @@
 //! `bench` over sources and sinks in memory.
 use crate::bench::bench;
 use crate::status::Status;
+use crate::turnstile::Open;
 use std::alloc::Global;
 use std::sync::Wait;
 use std::test::Fail;
+use std::thread::Threads;
 use stm_io::memory::{MemSink, MemSource};
 
 const HEADER: &str =
@@ -12,7 +14,7 @@ const HEADER: &str =
 /// What `bench` answers and writes over these bytes, where the source fails at the calls `takes` and the
 /// sink has room for `room` bytes.
 fn outcome(
-    rt: &impl Wait,
+    rt: &(impl Threads + Wait + Sync),
     alloc: Global,
     words: &[&str],
     text: &str,
@@ -22,7 +24,7 @@ fn outcome(
     let mut source = MemSource::new(text.as_bytes().to_vec(alloc)?, takes.to_vec(alloc)?);
     let mut sink = MemSink::new(alloc, room, Vec::new(alloc))?;
     let mut last = None;
-    let status = bench(rt, alloc, words, &mut source, &mut sink, &mut last);
+    let status = bench(rt, alloc, words, &mut source, &mut sink, &Open, &mut last);
     let held = String::from_utf8(sink.held().to_vec(alloc)?)?;
     Ok((status, held))
 }
@@ -65,6 +67,37 @@ fn reports_what_was_run(rt: HostRuntime) -> Result<(), Fail> {
     ];
     for (items, report) in table {
         let text = workload(&rt, "words 8", "words 8", items)?;
+        let (status, held) = outcome(
+            &rt,
+            rt.alloc(),
+            &["stm_bench", "run"],
+            text.as_str(),
+            &[],
+            4096,
+        )?;
+        assert_eq!(rt; status, Status::Ok);
+        assert_eq!(rt; held.as_str(), report);
+    }
+    Ok(())
+}
+
+#[test]
+fn reports_at_the_end_of_the_clock(rt: HostRuntime) -> Result<(), Fail> {
+    let table = [
+        ("clock 4611686018427387904", "done\n", "report 1\nend\n"),
+        (
+            "clock 4611686018427387903",
+            "tx 0\nread 3\nend\ndone\n",
+            "report 1\nR 4611686018427387903 0 0 : 0\nend\n",
+        ),
+        (
+            "clock 4611686018427387903",
+            "tx 0\nadd 3 1\nend\ndone\n",
+            "report 1\nW 4611686018427387904 0 0 : 1\nmem 3 1\nend\n",
+        ),
+    ];
+    for (clock, items, report) in table {
+        let text = workload(&rt, "clock 0", clock, items)?;
         let (status, held) = outcome(
             &rt,
             rt.alloc(),

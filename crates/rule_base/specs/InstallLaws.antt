@@ -1,18 +1,16 @@
 -- The clauses of BASE, of DONE and of who installs, after a step.
 use Rattle.std.proofs.Common.{◌≡◌, ◌≢◌, ℕ, ◌<◌, ◌≤◌, List, Bool, true, false, arith, refl, sym, subst, ap, ◌∙◌}
-use Rattle.std.specs.Prelude.{◌%◌, ◌+◌}
+use Rattle.std.specs.Prelude.{◌+◌}
 use Rattle.stm_model.specs.declared.alg.Alg.{Alg}
 use Rattle.rule_base.specs.declared.views.GateView.{GateView}
-use Rattle.rule_base.specs.declared.views.Phase.{Phase}
-use Rattle.rule_base.specs.declared.views.Phase.TheVariants.{Idle, Announced, Turned, Aiming, In, Closing}
+use Rattle.rule_base.specs.declared.views.Phase.TheVariants.{In, Closing}
 use Rattle.rule_base.specs.declared.views.View.{View}
 use Rattle.rule_base.specs.Encodings.{gate_word}
-use Rattle.rule_base.specs.GateLaws.{others-rest}
 use Rattle.rule_base.specs.GateRule.{rests, GateRule, gate_scene}
 use Rattle.rule_base.specs.GateSteps.{depart, departed}
 use Rattle.rule_base.specs.History.{member}
 use Rattle.rule_base.specs.InstallRule.{InstallScene, install_scene, InstallRule}
-use Rattle.rule_base.specs.InstallSteps.{settle, CanSettle, even_clock, CanEvenClock, store_base, store_done, CanMark, install, HasChecked}
+use Rattle.rule_base.specs.InstallSteps.{settle, CanSettle, even_clock, CanEvenClock, store_base, store_done, CanMark, install}
 use Rattle.rule_base.specs.PutLemmas.{parts-put, parts-kept}
 use Rattle.rule_base.specs.StepKinds.{view_after, world_after}
 use Rattle.rule_base.specs.World.{World, put, parts}

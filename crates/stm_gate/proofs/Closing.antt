@@ -1,27 +1,24 @@
 -- What the steps of closing the gate come to.
-use Rattle.std.proofs.Common.{ℕ, ◌≡◌, ◌≢◌, ◌<◌, ◌≤◌, ◌+◌, List, [], ◌∷◌, Bool, true, false, refl, sym, ap, ◌∙◌, arith, subst}
+use Rattle.std.proofs.Common.{ℕ, ◌≡◌, ◌≢◌, ◌<◌, List, [], ◌∷◌, Bool, true, false, refl, sym, ap, ◌∙◌, arith, subst}
 use Rattle.std.proofs.lemmas.Bool.Decides.{nat_tests}
 use Rattle.std.specs.Prelude.{◌==◌, if◌then◌else◌, Some, None}
 use Rattle.stm_model.specs.declared.alg.Alg.{Alg}
 use Rattle.stm_model.specs.declared.alg.Alg.TheVariants.{Cgl, Tml, OrecLazy, OrecEager, RingSw, Serial}
 use Rattle.rule_base.specs.declared.layout.At.TheVariants.{Gate, Status}
 use Rattle.rule_base.specs.declared.layout.Config.{Config}
-use Rattle.rule_base.specs.declared.seats.SeatView.{SeatView}
 use Rattle.rule_base.specs.declared.views.GateView.{GateView}
-use Rattle.rule_base.specs.declared.views.Phase.{Phase}
-use Rattle.rule_base.specs.declared.views.Phase.TheVariants.{Aiming, Turned, Closing}
+use Rattle.rule_base.specs.declared.views.Phase.TheVariants.{Aiming, Turned}
 use Rattle.rule_base.specs.declared.views.View.{View}
 use Rattle.rule_base.specs.Encodings.{holder_of, alg_of}
 use Rattle.rule_base.specs.GateSteps.{announce, aim, closed_at, take_gate, depart, departed}
-use Rattle.rule_base.specs.StepKinds.{StepKind, Nothing, Tells, view_after}
+use Rattle.rule_base.specs.StepKinds.{Nothing, Tells, view_after}
 use Rattle.rule_base.specs.World.{World}
-use Rattle.stm_rule.specs.Attempts.{IsOutside, IsClosing, Stands}
+use Rattle.stm_rule.specs.Attempts.{IsOutside}
 use Rattle.stm_rule.specs.Findings.{FindsGate, FindsTaken}
-use Rattle.stm_rule.specs.Kept.{SeatTells}
 use Rattle.stm_rule.specs.Product.{is_built}
 use Rattle.tx_answers.specs.declared.answers.CloseGate.TheVariants.{Closed, Taken}
-use Rattle.tx_answers.specs.Answers.{Closes, ClosesGate, NamesOther, HoldsClosed}
-use Rattle.tx_answers.specs.Known.{IsIdle, known_of, is_in, is_closing, is_offered, is_settled}
+use Rattle.tx_answers.specs.Answers.{Closes, ClosesGate, NamesOther}
+use Rattle.tx_answers.specs.Known.{known_of, is_in, is_closing, is_offered, is_settled}
 use Rattle.tx_answers.specs.KnownLaws.{grows-same}
 
 -- what is built is offered

@@ -1,9 +1,8 @@
 -- What looks at one caller, and one behind another, come to.
-use Rattle.std.proofs.Common.{ℕ, ◌≡◌, ◌≢◌, ◌<◌, ◌+◌, List, [], ◌∷◌, ◌++◌, Bool, true, false, refl, sym, ap, ◌∙◌, arith, subst, append_assoc}
-use Rattle.std.proofs.lemmas.List.{append-nil}
-use Rattle.std.proofs.lemmas.List.Elements.{Contains-append_left, Contains-append_right}
+use Rattle.std.proofs.Common.{ℕ, ◌≡◌, ◌≢◌, ◌<◌, List, [], ◌∷◌, ◌++◌, Bool, true, false, refl, sym, ap, ◌∙◌, arith, subst, append_assoc}
+use Rattle.std.proofs.lemmas.List.Elements.{Contains-append_left}
 use Rattle.std.proofs.lemmas.Bool.Decides.{nat_tests}
-use Rattle.std.specs.Prelude.{Some, Contains, ◌==◌, if◌then◌else◌}
+use Rattle.std.specs.Prelude.{Some, ◌==◌, if◌then◌else◌}
 use Rattle.rule_base.specs.declared.layout.At.TheVariants.{Status}
 use Rattle.rule_base.specs.declared.layout.Config.{Config}
 use Rattle.rule_base.specs.declared.views.TrailItem.{TrailItem}
@@ -11,7 +10,7 @@ use Rattle.rule_base.specs.declared.views.View.{View}
 use Rattle.rule_base.specs.GateSteps.{check}
 use Rattle.rule_base.specs.History.{member}
 use Rattle.rule_base.specs.StepKinds.{Nothing, Tells, view_after}
-use Rattle.tx_answers.specs.declared.answers.Look.TheVariants.{Quiet, Busy}
+use Rattle.tx_answers.specs.declared.answers.Look.TheVariants.{Busy}
 use Rattle.tx_answers.specs.Answers.{HoldsClosed, Looked, Looks, OfUnseen}
 use Rattle.tx_answers.specs.Known.{Known, Found, known_of}
 use Rattle.tx_answers.specs.KnownLaws.{grows-same, grows-trans}

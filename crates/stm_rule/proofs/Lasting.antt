@@ -1,9 +1,6 @@
 -- While a caller holds the quiet gate, no step of another changes the history or the clock.
-use Rattle.std.proofs.Common.{◌≡◌, ◌≢◌, ℕ, ◌<◌, List, [], ◌∷◌, Bool, true, false, refl, sym, ap, ◌∙◌, subst, arith}
-use Rattle.std.specs.Prelude.{◌==◌}
-use Rattle.std.proofs.lemmas.Bool.Decides.{nat_tests}
+use Rattle.std.proofs.Common.{◌≡◌, ◌≢◌, ℕ, ◌<◌, [], ◌∷◌, true, false, refl, sym, ap, ◌∙◌, subst}
 use Rattle.rule_base.specs.declared.layout.Config.{Config}
-use Rattle.rule_base.specs.declared.views.Phase.{Phase}
 use Rattle.rule_base.specs.declared.views.Phase.TheVariants.{In, Closing}
 use Rattle.rule_base.specs.declared.views.View.{View}
 use Rattle.rule_base.specs.GateLaws.{others-rest}
@@ -17,7 +14,7 @@ use Rattle.rule_seq.specs.CglRuns.CglStep.{takes_lock, loads_start, loads_heap, 
 use Rattle.stm_rule.specs.CoreRuns.{CoreStep, core_kind, CoreMay}
 use Rattle.stm_rule.specs.CoreRuns.CoreStep.{announces, loads_gate, departs, aims, takes_gate, checks, reopens, settles, evens_clock, stores_base, stores_done, installs, of_cgl, hears, loads_end}
 use Rattle.stm_rule.specs.Product.{Whole}
-use Rattle.stm_rule.specs.Quiescence.{OfOthers, RestLasts}
+use Rattle.stm_rule.specs.Quiescence.{RestLasts}
 use Rattle.stm_rule.specs.RestLaws.{quiet-rests}
 use Rattle.stm_rule.proofs.CoreLaws.{one_step}
 

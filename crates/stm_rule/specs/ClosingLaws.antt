@@ -1,14 +1,11 @@
 -- Each kind of step of who closes the gate, looks at the others and reopens keeps the one rule.
-use Rattle.std.proofs.Common.{◌≡◌, ◌≢◌, ℕ, zero, suc, ◌+◌, ◌<◌, List, ◌∷◌, Bool, true, false, eqb, arith, refl, sym, subst, ap, ◌∙◌, le_refl}
+use Rattle.std.proofs.Common.{◌≡◌, ◌≢◌, ℕ, ◌+◌, ◌<◌, List, ◌∷◌, Bool, true, false, arith, refl, sym, subst, ap, ◌∙◌, le_refl}
 use Rattle.std.specs.Prelude.{if◌then◌else◌, ◌==◌}
-use Rattle.std.proofs.lemmas.Bool.{eqb-true, eqb-false}
-use Rattle.std.proofs.lemmas.Bool.Decides.{nat_tests}
 use Rattle.stm_model.specs.declared.alg.Alg.{Alg}
-use Rattle.stm_model.specs.declared.alg.Alg.TheVariants.{Cgl}
 use Rattle.rule_base.specs.declared.layout.Config.{Config}
-use Rattle.rule_base.specs.declared.views.Phase.TheVariants.{Idle, Announced, Turned, Aiming, In, Closing}
+use Rattle.rule_base.specs.declared.views.Phase.TheVariants.{Announced, Turned, Aiming, In, Closing}
 use Rattle.rule_base.specs.declared.views.View.{View}
-use Rattle.rule_base.specs.EncodingLemmas.{alg_of-gate, holder_of-gate}
+use Rattle.rule_base.specs.EncodingLemmas.{alg_of-gate}
 use Rattle.rule_base.specs.Encodings.{alg_of, holder_of, gate_word}
 use Rattle.rule_base.specs.GateLaws.{aim-gate, take_gate-gate, check-gate, reopen-gate}
 use Rattle.rule_base.specs.GateRule.{may_hold}

@@ -1,17 +1,16 @@
 -- Each kind of step of who installs an algorithm keeps the one rule.
-use Rattle.std.proofs.Common.{◌≡◌, ◌≢◌, ℕ, ◌+◌, ◌<◌, ◌≤◌, true, false, arith, refl, sym, subst, ap, ◌∙◌, le_refl}
+use Rattle.std.proofs.Common.{◌≡◌, ℕ, ◌+◌, ◌<◌, ◌≤◌, true, false, arith, refl, sym, subst, ap, ◌∙◌}
 use Rattle.std.specs.Prelude.{◌%◌}
 use Rattle.stm_model.specs.declared.alg.Alg.{Alg}
-use Rattle.stm_model.specs.declared.alg.Alg.TheVariants.{Cgl}
 use Rattle.rule_base.specs.declared.layout.Config.{Config}
 use Rattle.rule_base.specs.declared.layout.TheConstants.{CLOCK_LIMIT}
 use Rattle.rule_base.specs.declared.views.Phase.TheVariants.{In, Closing}
 use Rattle.rule_base.specs.declared.views.View.{View}
 use Rattle.rule_base.specs.EncodingLemmas.{alg_of-gate}
-use Rattle.rule_base.specs.Encodings.{alg_of, gate_word}
+use Rattle.rule_base.specs.Encodings.{gate_word}
 use Rattle.rule_base.specs.GateLaws.{gate-marked, install-gate}
 use Rattle.rule_base.specs.InstallLaws.{settle-install, even_clock-install, store_base-install, store_done-install, install-install}
-use Rattle.rule_base.specs.InstallSteps.{settle, CanSettle, even_clock, CanEvenClock, store_base, store_done, CanMark, install, CanInstall, HasChecked}
+use Rattle.rule_base.specs.InstallSteps.{settle, CanSettle, even_clock, CanEvenClock, store_base, store_done, CanMark, install, CanInstall}
 use Rattle.rule_base.specs.HistoryRule.{HistoryRule, history_scene}
 use Rattle.rule_base.specs.HistoryRuleLemmas.{history-raised}
 use Rattle.rule_base.specs.PutLemmas.{put-all, parts-kept}
@@ -19,9 +18,8 @@ use Rattle.rule_base.specs.RecordLemmas.{records-stay}
 use Rattle.rule_base.specs.Rest.{IsQuiet}
 use Rattle.rule_base.specs.StepsLemmas.{steps-raised}
 use Rattle.rule_base.specs.StepKinds.{view_after, world_after, Nothing, StepLaw}
-use Rattle.rule_base.specs.World.{World, put}
+use Rattle.rule_base.specs.World.{World}
 use Rattle.rule_seq.specs.CglLaws.{cgl-from-rest}
-use Rattle.rule_seq.specs.CglRule.{CglRule, cgl_scene}
 use Rattle.rule_seq.specs.LockLemmas.{lock_scene-kept}
 use Rattle.rule_seq.specs.LockRule.{LockRule}
 use Rattle.stm_rule.specs.Frames.{LeavesMemory, advances-built, by-gate, cgl-stays, unlocked, disowned}

@@ -1,7 +1,5 @@
 -- Each kind of step keeps the one rule.
-use Rattle.std.proofs.Common.{◌≡◌, ◌≢◌, ℕ, zero, suc, ◌+◌, ◌<◌, List, ◌++◌, Bool, true, false, arith, refl, sym, subst, ap, ◌∙◌, le_refl}
-use Rattle.std.specs.Prelude.{ltb}
-use Rattle.std.proofs.lemmas.Bool.Decides.{nat_tests}
+use Rattle.std.proofs.Common.{◌≡◌, ◌≢◌, ℕ, zero, suc, ◌+◌, ◌<◌, List, ◌++◌, true, false, arith, refl, sym, subst, ap, ◌∙◌, le_refl}
 use Rattle.rule_base.specs.declared.layout.Config.{Config}
 use Rattle.rule_base.specs.declared.views.Phase.TheVariants.{Idle, Announced, In, Closing}
 use Rattle.rule_base.specs.declared.views.SeenHistory.{SeenHistory}

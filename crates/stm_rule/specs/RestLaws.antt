@@ -1,16 +1,15 @@
 -- Who has closed the gate and seen all other callers idle is alone with the memory.
-use Rattle.std.proofs.Common.{◌≡◌, ◌≢◌, ℕ, zero, suc, ◌+◌, ◌≤◌, Bool, true, false, arith, refl, sym, subst, ap, ◌∙◌, le_refl}
-use Rattle.std.specs.Prelude.{◌%◌, ◌==◌}
+use Rattle.std.proofs.Common.{◌≡◌, ℕ, zero, suc, ◌+◌, Bool, true, false, arith, refl, sym, ap, ◌∙◌, le_refl}
+use Rattle.std.specs.Prelude.{◌==◌}
 use Rattle.std.proofs.lemmas.Bool.Decides.{nat_tests}
 use Rattle.stm_model.specs.declared.alg.Alg.{Alg}
 use Rattle.stm_model.specs.declared.alg.Alg.TheVariants.{Cgl, Tml, OrecLazy, OrecEager, RingSw, Serial}
 use Rattle.rule_base.specs.declared.layout.Config.{Config}
-use Rattle.rule_base.specs.declared.views.Phase.{Phase}
 use Rattle.rule_base.specs.declared.views.Phase.TheVariants.{In, Closing}
 use Rattle.rule_base.specs.Encodings.{alg_of, is_owned, owner_of}
 use Rattle.rule_base.specs.GateLaws.{others-rest}
 use Rattle.rule_base.specs.GateRule.{rests}
-use Rattle.rule_base.specs.History.{over, touches, word_at, word_now}
+use Rattle.rule_base.specs.History.{over, word_at, word_now}
 use Rattle.rule_base.specs.HistoryLemmas.{word_at-all}
 use Rattle.rule_base.specs.Rest.{in_place_at, AtRest, IsQuiet, HasInstalled}
 use Rattle.rule_base.specs.World.{World}

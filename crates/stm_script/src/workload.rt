@@ -61,6 +61,12 @@ impl Items {
     {
         self.items.as_slice()
     }
+
+    pub fn into_vec(self) -> Vec<Item>
+        ensures { result.items ≡ self }
+    {
+        self.items
+    }
 }
 
 /// So many turns of one caller.

@@ -19,7 +19,7 @@ use Rattle.stm_text.specs.declared.parse.Mode.{Mode}
 use Rattle.stm_text.specs.declared.parse.Mode.TheVariants.{Run, Step as Stepwise}
 use Rattle.stm_text.specs.Lines.{Line, words_of, any_bad, number_from, number_of}
 use Rattle.stm_text.specs.Drafts.{Writing, after, opening}
-use Rattle.stm_text.specs.Grammar.{◌>>=◌, named, formed, ranged, below, number, algorithm, most_callers, sized, header_line, next_line, begun, changed, added, planned, scheduled, caller_of, address, operands, move_of, go_of, one_word, two_words, three_words, four_words, filled, by_words, step_of, ended, go_on, parsed}
+use Rattle.stm_text.specs.Grammar.{◌>>=◌, named, formed, ranged, below, number, algorithm, sized, header_line, next_line, begun, changed, added, planned, scheduled, caller_of, address, operands, move_of, go_of, one_word, two_words, three_words, four_words, filled, by_words, step_of, ended, go_on, parsed}
 use Rattle.stm_text.specs.Built.{HeaderFits, OpFits, ScriptFits, ItemFits, GoFits, all_turns, ScheduleFits, IsBuilt}
 
 -- what an answer gives, where it is Ok
@@ -88,37 +88,37 @@ sized-fits name low high w v =
 algorithm-fits : (w : List ℕ) → Gives (λ a. a ≡ Cgl) (algorithm w)
 algorithm-fits w = if-gives (λ a. a ≡ Cgl) (bytes_eq w (codes "CGL")) (Ok Cgl) 7 (λ _. refl)
 
-header_line-fits : (m : Mode) (p : Place) (h : Header) (w v : List ℕ) → HeaderFits m h → Gives (HeaderFits m) (header_line m p h w v)
+header_line-fits : (m : Mode) (p : Place) (h : Header) (w v : List ℕ) → HeaderFits h → Gives (HeaderFits) (header_line p h w v)
 header_line-fits m Version h w v f =
-    named-gives (HeaderFits m) (codes "stm") w (named (codes "1") v (Ok h)) (named-gives (HeaderFits m) (codes "1") v (Ok h) f)
+    named-gives (HeaderFits) (codes "stm") w (named (codes "1") v (Ok h)) (named-gives (HeaderFits) (codes "1") v (Ok h) f)
 header_line-fits m Words h w v f =
-    then-gives (λ k. (1 ≤ k) × (k ≤ 65536)) (HeaderFits m) (sized (codes "words") 1 65536 w v) (λ n. Ok (record h { words = n })) (sized-fits (codes "words") 1 65536 w v)
+    then-gives (λ k. (1 ≤ k) × (k ≤ 65536)) (HeaderFits) (sized (codes "words") 1 65536 w v) (λ n. Ok (record h { words = n })) (sized-fits (codes "words") 1 65536 w v)
     (λ n k. record { words = k; callers = f.callers; records = f.records; ring = f.ring; reads = f.reads; writes = f.writes; clock = f.clock; alg = f.alg; structs = f.structs })
 header_line-fits m Callers h w v f =
-    then-gives (λ k. (1 ≤ k) × (k ≤ most_callers m)) (HeaderFits m) (sized (codes "callers") 1 (most_callers m) w v) (λ n. Ok (record h { callers = n })) (sized-fits (codes "callers") 1 (most_callers m) w v)
+    then-gives (λ k. (1 ≤ k) × (k ≤ 32)) (HeaderFits) (sized (codes "callers") 1 32 w v) (λ n. Ok (record h { callers = n })) (sized-fits (codes "callers") 1 32 w v)
     (λ n k. record { words = f.words; callers = k; records = f.records; ring = f.ring; reads = f.reads; writes = f.writes; clock = f.clock; alg = f.alg; structs = f.structs })
 header_line-fits m Records h w v f =
-    then-gives (λ k. (1 ≤ k) × (k ≤ 4096)) (HeaderFits m) (sized (codes "records") 1 4096 w v) (λ n. Ok (record h { records = n })) (sized-fits (codes "records") 1 4096 w v)
+    then-gives (λ k. (1 ≤ k) × (k ≤ 4096)) (HeaderFits) (sized (codes "records") 1 4096 w v) (λ n. Ok (record h { records = n })) (sized-fits (codes "records") 1 4096 w v)
     (λ n k. record { words = f.words; callers = f.callers; records = k; ring = f.ring; reads = f.reads; writes = f.writes; clock = f.clock; alg = f.alg; structs = f.structs })
 header_line-fits m Ring h w v f =
-    then-gives (λ k. (2 ≤ k) × (k ≤ 64)) (HeaderFits m) (sized (codes "ring") 2 64 w v) (λ n. Ok (record h { ring = n })) (sized-fits (codes "ring") 2 64 w v)
+    then-gives (λ k. (2 ≤ k) × (k ≤ 64)) (HeaderFits) (sized (codes "ring") 2 64 w v) (λ n. Ok (record h { ring = n })) (sized-fits (codes "ring") 2 64 w v)
     (λ n k. record { words = f.words; callers = f.callers; records = f.records; ring = k; reads = f.reads; writes = f.writes; clock = f.clock; alg = f.alg; structs = f.structs })
 header_line-fits m Reads h w v f =
-    then-gives (λ k. (1 ≤ k) × (k ≤ 4096)) (HeaderFits m) (sized (codes "reads") 1 4096 w v) (λ n. Ok (record h { reads = n })) (sized-fits (codes "reads") 1 4096 w v)
+    then-gives (λ k. (1 ≤ k) × (k ≤ 4096)) (HeaderFits) (sized (codes "reads") 1 4096 w v) (λ n. Ok (record h { reads = n })) (sized-fits (codes "reads") 1 4096 w v)
     (λ n k. record { words = f.words; callers = f.callers; records = f.records; ring = f.ring; reads = k; writes = f.writes; clock = f.clock; alg = f.alg; structs = f.structs })
 header_line-fits m Writes h w v f =
-    then-gives (λ k. (1 ≤ k) × (k ≤ 4096)) (HeaderFits m) (sized (codes "writes") 1 4096 w v) (λ n. Ok (record h { writes = n })) (sized-fits (codes "writes") 1 4096 w v)
+    then-gives (λ k. (1 ≤ k) × (k ≤ 4096)) (HeaderFits) (sized (codes "writes") 1 4096 w v) (λ n. Ok (record h { writes = n })) (sized-fits (codes "writes") 1 4096 w v)
     (λ n k. record { words = f.words; callers = f.callers; records = f.records; ring = f.ring; reads = f.reads; writes = k; clock = f.clock; alg = f.alg; structs = f.structs })
 header_line-fits m Clock h w v f =
-    then-gives (λ k. (0 ≤ k) × (k ≤ 2 ^ 62)) (HeaderFits m) (sized (codes "clock") 0 (2 ^ 62) w v) (λ n. Ok (record h { clock = n })) (sized-fits (codes "clock") 0 (2 ^ 62) w v)
+    then-gives (λ k. (0 ≤ k) × (k ≤ 2 ^ 62)) (HeaderFits) (sized (codes "clock") 0 (2 ^ 62) w v) (λ n. Ok (record h { clock = n })) (sized-fits (codes "clock") 0 (2 ^ 62) w v)
     (λ n k. record { words = f.words; callers = f.callers; records = f.records; ring = f.ring; reads = f.reads; writes = f.writes; clock = k.1; alg = f.alg; structs = f.structs })
 header_line-fits m Algorithm h w v f =
-    then-gives (λ a. a ≡ Cgl) (HeaderFits m) (named (codes "alg") w (algorithm v)) (λ a. Ok (record h { alg = a }))
+    then-gives (λ a. a ≡ Cgl) (HeaderFits) (named (codes "alg") w (algorithm v)) (λ a. Ok (record h { alg = a }))
     (named-gives (λ a. a ≡ Cgl) (codes "alg") w (algorithm v) (algorithm-fits v))
     (λ a k. record { words = f.words; callers = f.callers; records = f.records; ring = f.ring; reads = f.reads; writes = f.writes; clock = f.clock; alg = k; structs = f.structs })
 header_line-fits m Structures h w v f =
-    named-gives (HeaderFits m) (codes "structs") w (named (codes "off") v (Ok (record h { structs = false })))
-    (named-gives (HeaderFits m) (codes "off") v (Ok (record h { structs = false }))
+    named-gives (HeaderFits) (codes "structs") w (named (codes "off") v (Ok (record h { structs = false })))
+    (named-gives (HeaderFits) (codes "off") v (Ok (record h { structs = false }))
     (record { words = f.words; callers = f.callers; records = f.records; ring = f.ring; reads = f.reads; writes = f.writes; clock = f.clock; alg = f.alg; structs = refl }))
 header_line-fits m Items h w v f = tt
 header_line-fits m Ops h w v f = tt
@@ -133,7 +133,7 @@ At m p d = (d.items ≡ []) × (d.ops ≡ []) × (d.schedule ≡ [])
 
 -- what is read so far fits
 pub record Sound (m : Mode) (d : Writing) : Type 0 where
-  pub header : HeaderFits m d.header
+  pub header : HeaderFits d.header
   pub count : length d.items ≤ 65536
   pub items : All (ItemFits d.header) d.items
   pub ops : ScriptFits d.header.words d.ops
@@ -193,7 +193,7 @@ next-no_turns Items e = cc
 next-no_turns Ops e = cc
 next-no_turns Turns e = cc
 
-head-sound : (m : Mode) (d : Writing) (p : Place) (h : Header) → (d.items ≡ []) × (d.ops ≡ []) × (d.schedule ≡ []) → d.turns ≡ all_turns d.schedule → HeaderFits m h → Sound m (after (Head (next_line p) h) d)
+head-sound : (m : Mode) (d : Writing) (p : Place) (h : Header) → (d.items ≡ []) × (d.ops ≡ []) × (d.schedule ≡ []) → d.turns ≡ all_turns d.schedule → HeaderFits h → Sound m (after (Head (next_line p) h) d)
 head-sound m d p h none turns f = let i = none.0 in let o = none.1 in record {
   header = f;
   count = omega (arith, ap length i);
@@ -339,9 +339,9 @@ one-sound m d Algorithm w s at e = tt
 one-sound m d Structures w s at e = tt
 
 heads-sound : (m : Mode) (d : Writing) (p : Place) (w v : List ℕ) → Sound m d → (d.items ≡ []) × (d.ops ≡ []) × (d.schedule ≡ [])
-    → Gives (Leaves m d) (header_line m p d.header w v >>= λ h. Ok (Head (next_line p) h))
+    → Gives (Leaves m d) (header_line p d.header w v >>= λ h. Ok (Head (next_line p) h))
 heads-sound m d p w v s at =
-    then-gives (HeaderFits m) (Leaves m d) (header_line m p d.header w v) (λ h. Ok (Head (next_line p) h)) (header_line-fits m p d.header w v s.header)
+    then-gives (HeaderFits) (Leaves m d) (header_line p d.header w v) (λ h. Ok (Head (next_line p) h)) (header_line-fits m p d.header w v s.header)
     (λ h f. head-sound m d p h at s.turns f)
 
 two-sound : (m : Mode) (d : Writing) (p : Place) (w v : List ℕ) → Sound m d → At m p d → d.place ≡ p → Gives (Leaves m d) (two_words p m d w v)

@@ -23,7 +23,7 @@ use Rattle.stm_text.specs.declared.parse.Mode.{Mode}
 use Rattle.stm_text.specs.declared.parse.Mode.TheVariants.{Run, Step as Stepwise}
 use Rattle.stm_text.specs.Lines.{Line, with_byte, lines_of, with_letter, words_of, any_bad, number_from, number_of}
 use Rattle.stm_text.specs.Drafts.{Writing, after, opening}
-use Rattle.stm_text.specs.Grammar.{◌>>=◌, named, formed, ranged, below, number, algorithm, most_callers, sized, header_line, next_line, begun, changed, added, planned, scheduled, caller_of, address, operands, move_of, go_of, one_word, two_words, three_words, four_words, filled, by_words, step_of, ended, go_on, parsed, workload_of}
+use Rattle.stm_text.specs.Grammar.{◌>>=◌, named, formed, ranged, below, number, algorithm, sized, header_line, next_line, begun, changed, added, planned, scheduled, caller_of, address, operands, move_of, go_of, one_word, two_words, three_words, four_words, filled, by_words, step_of, ended, go_on, parsed, workload_of}
 use Rattle.stm_text.specs.Texts.{joined, line, name_of, op_words, item_lines, items_lines, header_lines, go_words, section_lines, schedule_lines, lines_with, lines_text, AreLinesOf, IsTextOf}
 use Rattle.stm_text.proofs.LineLaws.{words_of-some}
 use Rattle.stm_text.proofs.Decimals.{IsDigit, Digits}
@@ -202,12 +202,12 @@ number-grows p h name low high w v set next =
     then-gives (Names name w v) (HeadGrows p h w v) (sized name low high w v) (λ n. Ok (set n)) (sized-says name low high w v)
     (λ n is. next n ∙ two-same (head_so_far p h) name (decimal n) w v is.0 is.1)
 
-header_line-grows : (m : Mode) (p : Place) (h : Header) (w v : List ℕ) → Gives (HeadGrows p h w v) (header_line m p h w v)
+header_line-grows : (m : Mode) (p : Place) (h : Header) (w v : List ℕ) → Gives (HeadGrows p h w v) (header_line p h w v)
 header_line-grows m Version h w v =
     named-says (HeadGrows Version h w v) (codes "stm") w (named (codes "1") v (Ok h))
     (λ a. named-says (HeadGrows Version h w v) (codes "1") v (Ok h) (λ b. two-same [] (codes "stm") (codes "1") w v a b))
 header_line-grows m Words h w v = number-grows Words h (codes "words") 1 65536 w v (λ n. record h { words = n }) (λ n. refl)
-header_line-grows m Callers h w v = number-grows Callers h (codes "callers") 1 (most_callers m) w v (λ n. record h { callers = n }) (λ n. refl)
+header_line-grows m Callers h w v = number-grows Callers h (codes "callers") 1 32 w v (λ n. record h { callers = n }) (λ n. refl)
 header_line-grows m Records h w v = number-grows Records h (codes "records") 1 4096 w v (λ n. record h { records = n }) (λ n. refl)
 header_line-grows m Ring h w v = number-grows Ring h (codes "ring") 2 64 w v (λ n. record h { ring = n }) (λ n. refl)
 header_line-grows m Reads h w v = number-grows Reads h (codes "reads") 1 4096 w v (λ n. record h { reads = n }) (λ n. refl)
@@ -380,9 +380,9 @@ go-says d a v =
 
 heads-grow : (m : Mode) (d : Writing) (p : Place) (w v : List ℕ) → d.items ≡ [] → open_lines p d ≡ []
     → ((h : Header) → open_lines (next_line p) (after (Head (next_line p) h) d) ≡ [])
-    → Gives (Grows p d (w ∷ v ∷ [])) (header_line m p d.header w v >>= λ h. Ok (Head (next_line p) h))
+    → Gives (Grows p d (w ∷ v ∷ [])) (header_line p d.header w v >>= λ h. Ok (Head (next_line p) h))
 heads-grow m d p w v none here opens =
-    then-gives (HeadGrows p d.header w v) (Grows p d (w ∷ v ∷ [])) (header_line m p d.header w v) (λ h. Ok (Head (next_line p) h)) (header_line-grows m p d.header w v)
+    then-gives (HeadGrows p d.header w v) (Grows p d (w ∷ v ∷ [])) (header_line p d.header w v) (λ h. Ok (Head (next_line p) h)) (header_line-grows m p d.header w v)
     (λ h is.
     ap (λ t. head_so_far (next_line p) h ++ (items_lines d.items ++ t)) (opens h)
     ∙ (none-between (head_so_far (next_line p) h) (head_so_far p d.header) ((w ∷ v ∷ []) ∷ []) d.items none is

@@ -21,7 +21,7 @@ use Rattle.stm_text.specs.declared.parse.Mode.{Mode}
 use Rattle.stm_text.specs.declared.parse.Mode.TheVariants.{Run, Step as Stepwise}
 use Rattle.stm_text.specs.Lines.{Line, lines_of, words_of, any_bad, number_of}
 use Rattle.stm_text.specs.Drafts.{Writing, after, opening}
-use Rattle.stm_text.specs.Grammar.{◌>>=◌, formed, ranged, below, number, most_callers, sized, next_line, begun, changed, added, planned, caller_of, address, operands, move_of, go_of, two_words, three_words, four_words, filled, by_words, step_of, go_on, parsed, workload_of}
+use Rattle.stm_text.specs.Grammar.{◌>>=◌, formed, ranged, below, number, sized, next_line, begun, changed, added, planned, caller_of, address, operands, move_of, go_of, two_words, three_words, four_words, filled, by_words, step_of, go_on, parsed, workload_of}
 use Rattle.stm_text.specs.Built.{HeaderFits, OpFits, ItemFits, GoFits, all_turns, ScheduleFits, IsBuilt}
 use Rattle.stm_text.specs.Texts.{joined, line, name_of, op_words, items_lines, header_lines, go_words, section_lines, schedule_lines, lines_with, lines_text, AreLinesOf, IsTextOf}
 use Rattle.stm_text.proofs.LineLaws.{lines_of-first}
@@ -354,11 +354,11 @@ words-read m h k n rest le ge =
     number-read m h Words k (codes "words") n rest (record h { words = n }) (seen (codes "words") refl) (omega arith)
     (field-set (sized (codes "words") 1 65536 (codes "words") (decimal n)) (λ v. record h { words = v }) Callers n (sized-decimal (codes "words") 1 65536 n refl le ge (omega arith)))
 
-callers-read : (m : Mode) (h : Header) (k n : ℕ) (rest : List ℕ) → 1 ≤ n → n ≤ most_callers m → most_callers m ≤ 32
+callers-read : (m : Mode) (h : Header) (k n : ℕ) (rest : List ℕ) → 1 ≤ n → n ≤ 32
     → parsed m (in_header Callers h) k (lines_of (line (codes "callers" ∷ decimal n ∷ []) ++ rest)) ≡ parsed m (in_header Records (record h { callers = n })) (k + 1) (lines_of rest)
-callers-read m h k n rest le ge few =
+callers-read m h k n rest le ge =
     number-read m h Callers k (codes "callers") n rest (record h { callers = n }) (seen (codes "callers") refl) (omega arith)
-    (field-set (sized (codes "callers") 1 (most_callers m) (codes "callers") (decimal n)) (λ v. record h { callers = v }) Records n (sized-decimal (codes "callers") 1 (most_callers m) n refl le ge (omega arith)))
+    (field-set (sized (codes "callers") 1 32 (codes "callers") (decimal n)) (λ v. record h { callers = v }) Records n (sized-decimal (codes "callers") 1 32 n refl le ge (omega arith)))
 
 records-read : (m : Mode) (h : Header) (k n : ℕ) (rest : List ℕ) → 1 ≤ n → n ≤ 4096
     → parsed m (in_header Records h) k (lines_of (line (codes "records" ∷ decimal n ∷ []) ++ rest)) ≡ parsed m (in_header Ring (record h { records = n })) (k + 1) (lines_of rest)
@@ -400,12 +400,8 @@ structs-read : (m : Mode) (h : Header) (k : ℕ) (rest : List ℕ)
 structs-read m h k rest =
     step-read m (in_header Structures h) k (codes "structs") (codes "off" ∷ []) rest (Head Items (record h { structs = false })) (seen (codes "structs") refl, (seen (codes "off") refl, tt)) refl (not-done Items (record h { structs = false }))
 
-few-callers : (m : Mode) → most_callers m ≤ 32
-few-callers Run = omega arith
-few-callers Stepwise = omega arith
-
 -- the ten lines of a header
-head-read : (m : Mode) (h : Header) (more : List (List (List ℕ))) → HeaderFits m h
+head-read : (m : Mode) (h : Header) (more : List (List (List ℕ))) → HeaderFits h
     → parsed m opening 1 (lines_of (lines_text (header_lines (record h { alg = Cgl; structs = false }) ++ more))) ≡ parsed m (between (record h { alg = Cgl; structs = false }) [] 0) 11 (lines_of (lines_text more))
 head-read m h more f =
     let rest : List ℕ = lines_text more in
@@ -429,7 +425,7 @@ head-read m h more f =
     let t1 : List ℕ = line (codes "words" ∷ decimal h.words ∷ []) ++ t2 in
     version-read m h0 1 t1
     ∙ (words-read m h0 2 h.words t2 f.words.0 f.words.1
-    ∙ (callers-read m h1 3 h.callers t3 f.callers.0 f.callers.1 (few-callers m)
+    ∙ (callers-read m h1 3 h.callers t3 f.callers.0 f.callers.1
     ∙ (records-read m h2 4 h.records t4 f.records.0 f.records.1
     ∙ (ring-read m h3 5 h.ring t5 f.ring.0 f.ring.1
     ∙ (reads-read m h4 6 h.reads t6 f.reads.0 f.reads.1
@@ -443,10 +439,9 @@ abbrev off : Header → Header
 off h = record h { alg = Cgl; structs = false }
 
 -- the lines of a header, items, and what follows them
-front-read : (m : Mode) (h : Header) (items : List Item) (more : List (List (List ℕ))) → HeaderFits m h → length items ≤ 65536 → All (ItemFits h) items
+front-read : (m : Mode) (h : Header) (items : List Item) (more : List (List (List ℕ))) → HeaderFits h → length items ≤ 65536 → All (ItemFits h) items
     → (x : ℕ) × (j : ℕ) × (parsed m opening 1 (lines_of (lines_text (header_lines (off h) ++ (items_lines items ++ more)))) ≡ parsed m (between (off h) items x) j (lines_of (lines_text more)))
 front-read m h items more f room fits =
-    let few = few-callers m in
     let callers = f.callers.1 in
     let body = items-read m (off h) [] 0 11 items more f.words.1 (omega arith) (omega arith) fits in
     (body.0, body.1, head-read m h (items_lines items ++ more) f ∙ body.2)
@@ -454,10 +449,9 @@ front-read m h items more f room fits =
 abbrev whole : Header → List Item → List Go → Workload
 whole h items gos = record { header = h; items = items; schedule = gos }
 
-all-read : (m : Mode) (h : Header) (items : List Item) (gos : List Go) → HeaderFits m h → length items ≤ 65536 → All (ItemFits h) items → ScheduleFits m h gos
+all-read : (m : Mode) (h : Header) (items : List Item) (gos : List Go) → HeaderFits h → length items ≤ 65536 → All (ItemFits h) items → ScheduleFits m h gos
     → parsed m opening 1 (lines_of (lines_text (lines_with (schedule_lines gos) (whole (off h) items gos)))) ≡ Ok (whole (off h) items gos)
 all-read m h items gos f room fits plan =
-    let few = few-callers m in
     let callers = f.callers.1 in
     let front = front-read m h items (schedule_lines gos ++ done_line) f room fits in
     front.2 ∙ plan-read m (off h) items front.0 front.1 gos (omega arith) (plan-off m h gos plan)
@@ -466,7 +460,7 @@ all-read m h items gos f room fits plan =
     plan-off Run h gos p = p
     plan-off Stepwise h gos p = p
 
-bare-read : (h : Header) (items : List Item) → HeaderFits Stepwise h → length items ≤ 65536 → All (ItemFits h) items
+bare-read : (h : Header) (items : List Item) → HeaderFits h → length items ≤ 65536 → All (ItemFits h) items
     → parsed Stepwise opening 1 (lines_of (lines_text (lines_with (section_lines []) (whole (off h) items [])))) ≡ Ok (whole (off h) items [])
 bare-read h items f room fits =
     let callers = f.callers.1 in

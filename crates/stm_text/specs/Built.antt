@@ -10,12 +10,11 @@ use Rattle.stm_script.specs.declared.workload.Go.{Go}
 use Rattle.stm_script.specs.declared.workload.Workload.{Workload}
 use Rattle.stm_text.specs.declared.parse.Mode.{Mode}
 use Rattle.stm_text.specs.declared.parse.Mode.TheVariants.{Run, Step as Stepwise}
-use Rattle.stm_text.specs.Grammar.{most_callers}
 
 -- the numbers of a header are in their ranges; what isn't built is off
-pub record HeaderFits (m : Mode) (h : Header) : Type 0 where
+pub record HeaderFits (h : Header) : Type 0 where
   pub words : (1 ≤ h.words) × (h.words ≤ 65536)
-  pub callers : (1 ≤ h.callers) × (h.callers ≤ most_callers m)
+  pub callers : (1 ≤ h.callers) × (h.callers ≤ 32)
   pub records : (1 ≤ h.records) × (h.records ≤ 4096)
   pub ring : (2 ≤ h.ring) × (h.ring ≤ 64)
   pub reads : (1 ≤ h.reads) × (h.reads ≤ 4096)
@@ -58,7 +57,7 @@ ScheduleFits Stepwise h gos = All (GoFits h) gos × (all_turns gos ≤ 1000000)
 
 -- at most 65,536 items that fit the header, and a schedule that fits it
 pub record IsBuilt (m : Mode) (w : Workload) : Type 0 where
-  pub header : HeaderFits m w.header
+  pub header : HeaderFits w.header
   pub count : length w.items ≤ 65536
   pub items : All (ItemFits w.header) w.items
   pub schedule : ScheduleFits m w.header w.schedule

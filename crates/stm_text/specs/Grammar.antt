@@ -52,28 +52,23 @@ number low high word = formed (number_of word) >>= ranged low high
 abbrev pub algorithm : List ℕ → Result Alg ℕ
 algorithm word = if bytes_eq word (codes "CGL") then Ok Cgl else Err ALG
 
--- how many callers a command takes at most
-abbrev pub most_callers : Mode → ℕ
-most_callers Run = 1
-most_callers Stepwise = 32
-
 -- a line that gives a number its name and its range
 abbrev pub sized : List ℕ → ℕ → ℕ → List ℕ → List ℕ → Result ℕ ℕ
 sized name low high w v = named name w (number low high v)
 
 -- THE HEADER, line by line: what a name and a value make of it
-abbrev pub header_line : Mode → Place → Header → List ℕ → List ℕ → Result Header ℕ
-header_line m Version h w v = named (codes "stm") w (named (codes "1") v (Ok h))
-header_line m Words h w v = sized (codes "words") 1 65536 w v >>= λ n. Ok (record h { words = n })
-header_line m Callers h w v = sized (codes "callers") 1 (most_callers m) w v >>= λ n. Ok (record h { callers = n })
-header_line m Records h w v = sized (codes "records") 1 4096 w v >>= λ n. Ok (record h { records = n })
-header_line m Ring h w v = sized (codes "ring") 2 64 w v >>= λ n. Ok (record h { ring = n })
-header_line m Reads h w v = sized (codes "reads") 1 4096 w v >>= λ n. Ok (record h { reads = n })
-header_line m Writes h w v = sized (codes "writes") 1 4096 w v >>= λ n. Ok (record h { writes = n })
-header_line m Clock h w v = sized (codes "clock") 0 (2 ^ 62) w v >>= λ n. Ok (record h { clock = n })
-header_line m Algorithm h w v = named (codes "alg") w (algorithm v) >>= λ a. Ok (record h { alg = a })
-header_line m Structures h w v = named (codes "structs") w (named (codes "off") v (Ok (record h { structs = false })))
-header_line m p h w v = Err WORD
+abbrev pub header_line : Place → Header → List ℕ → List ℕ → Result Header ℕ
+header_line Version h w v = named (codes "stm") w (named (codes "1") v (Ok h))
+header_line Words h w v = sized (codes "words") 1 65536 w v >>= λ n. Ok (record h { words = n })
+header_line Callers h w v = sized (codes "callers") 1 32 w v >>= λ n. Ok (record h { callers = n })
+header_line Records h w v = sized (codes "records") 1 4096 w v >>= λ n. Ok (record h { records = n })
+header_line Ring h w v = sized (codes "ring") 2 64 w v >>= λ n. Ok (record h { ring = n })
+header_line Reads h w v = sized (codes "reads") 1 4096 w v >>= λ n. Ok (record h { reads = n })
+header_line Writes h w v = sized (codes "writes") 1 4096 w v >>= λ n. Ok (record h { writes = n })
+header_line Clock h w v = sized (codes "clock") 0 (2 ^ 62) w v >>= λ n. Ok (record h { clock = n })
+header_line Algorithm h w v = named (codes "alg") w (algorithm v) >>= λ a. Ok (record h { alg = a })
+header_line Structures h w v = named (codes "structs") w (named (codes "off") v (Ok (record h { structs = false })))
+header_line p h w v = Err WORD
 
 -- the line that follows one of the header
 abbrev pub next_line : Place → Place
@@ -147,7 +142,7 @@ abbrev pub two_words : Place → Mode → Writing → List ℕ → List ℕ → 
 two_words Items m d w v = named (codes "tx") w (caller_of d v >>= begun d)
 two_words Ops m d w v = named (codes "read") w (address d v >>= λ a. added d (Read a))
 two_words Turns m d w v = Err WORD
-two_words p m d w v = header_line m p d.header w v >>= λ h. Ok (Head (next_line p) h)
+two_words p m d w v = header_line p d.header w v >>= λ h. Ok (Head (next_line p) h)
 
 -- LINES OF THREE WORDS
 abbrev pub three_words : Place → Writing → List ℕ → List ℕ → List ℕ → Result Step ℕ

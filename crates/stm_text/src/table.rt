@@ -1,6 +1,6 @@
 //! What may stand on a line: the table of the grammar, row by row.
 ghost use Rattle.std.specs.Prelude.{◌≡◌, true, Ok, Err, codes};
-ghost use Rattle.stm_text.specs.Grammar.{algorithm, most_callers, ranged, sized, header_line, next_line, below, formed, named, scheduled, caller_of, address, operands, move_of, go_of, one_word, two_words, three_words, four_words, filled, by_words, step_of};
+ghost use Rattle.stm_text.specs.Grammar.{algorithm, ranged, sized, header_line, next_line, below, formed, named, scheduled, caller_of, address, operands, move_of, go_of, one_word, two_words, three_words, four_words, filled, by_words, step_of};
 ghost use Rattle.stm_text.specs.Lines.{number_of, words_of, Line};
 
 use crate::draft::{Draft, Place, Step};
@@ -87,24 +87,15 @@ fn first_algorithm(w: &[u8], v: &[u8]) -> Result<Alg, u32>
     }
 }
 
-fn most_callers(mode: Mode) -> u64
-    ensures { result ≡ most_callers mode }
-{
-    match mode {
-        Mode::Run => 1,
-        Mode::Step => 32,
-    }
-}
-
 /// A line of the header: the header then.
-fn header_line(mode: Mode, place: Place, h: Header, w: &[u8], v: &[u8]) -> Result<Header, u32>
-    ensures { result ≡ header_line mode place h w.now v.now }
+fn header_line(place: Place, h: Header, w: &[u8], v: &[u8]) -> Result<Header, u32>
+    ensures { result ≡ header_line place h w.now v.now }
 {
     let mut next = h;
     match place {
         Place::Version => fixed(b"stm", b"1", w, v)?,
         Place::Words => next.words = sized(b"words", 1, 65536, w, v)? as usize,
-        Place::Callers => next.callers = sized(b"callers", 1, most_callers(mode), w, v)? as usize,
+        Place::Callers => next.callers = sized(b"callers", 1, 32, w, v)? as usize,
         Place::Records => next.records = sized(b"records", 1, 4096, w, v)? as usize,
         Place::Ring => next.ring = sized(b"ring", 2, 64, w, v)? as usize,
         Place::Reads => next.reads = sized(b"reads", 1, 4096, w, v)? as usize,
@@ -248,7 +239,7 @@ fn two_words(mode: Mode, draft: &Draft, w: &[u8], v: &[u8]) -> Result<Step, u32>
         }
         Place::Turns => Err(code::WORD),
         place => {
-            let header = header_line(mode, place, draft.header(), w, v)?;
+            let header = header_line(place, draft.header(), w, v)?;
             Ok(Step::Head(next_line(place), header))
         }
     }

@@ -84,7 +84,7 @@ fn refuses_lines(rt: HostRuntime) -> Result<(), Fail> {
         (2, "words 8 8", 4),
         (2, "records 4", 4),
         (3, "callers 0", 6),
-        (3, "callers 2", 6),
+        (3, "callers 33", 6),
         (4, "records 4097", 6),
         (5, "ring 1", 6),
         (5, "ring 65", 6),

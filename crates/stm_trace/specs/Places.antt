@@ -126,8 +126,11 @@ clock_of Idle = None
 clock_of Dropped = None
 clock_of Reopened = None
 
+abbrev pub caller_in : Item → ℕ
+caller_in (Tx caller script) = caller
+caller_in (Switch caller alg) = caller
+
 -- the items of one caller, in the order of the text
 abbrev pub items_of : ℕ → List Item → List Item
 items_of n [] = []
-items_of n (Tx caller script ∷ items) = if caller == n then Tx caller script ∷ items_of n items else items_of n items
-items_of n (Switch caller alg ∷ items) = if caller == n then Switch caller alg ∷ items_of n items else items_of n items
+items_of n (i ∷ items) = if caller_in i == n then i ∷ items_of n items else items_of n items

@@ -1,31 +1,28 @@
 -- What the steps of a try to begin come to.
-use Rattle.std.proofs.Common.{ℕ, ◌≡◌, ◌≢◌, ◌<◌, ◌≤◌, List, [], ◌∷◌, ◌++◌, Bool, true, false, refl, sym, ap, ◌∙◌, arith, subst, append_assoc}
+use Rattle.std.proofs.Common.{ℕ, ◌≡◌, ◌≢◌, ◌<◌, ◌≤◌, List, [], ◌∷◌, ◌++◌, false, refl, sym, ap, ◌∙◌, arith, subst, append_assoc}
 use Rattle.std.proofs.lemmas.Bool.Decides.{nat_tests}
 use Rattle.std.proofs.lemmas.List.Elements.{Contains-append_left, Contains-append_right}
 use Rattle.std.specs.Prelude.{◌==◌, if◌then◌else◌, Some, None, Contains, max, reverse}
-use Rattle.stm_model.specs.declared.alg.Alg.{Alg}
 use Rattle.stm_model.specs.declared.alg.Alg.TheVariants.{Cgl}
 use Rattle.stm_model.specs.Histories.{Ascending}
 use Rattle.rule_base.specs.declared.layout.At.{At}
 use Rattle.rule_base.specs.declared.layout.At.TheVariants.{Clock, Lock, Gate, Status}
 use Rattle.rule_base.specs.declared.layout.Config.{Config}
-use Rattle.rule_base.specs.declared.seats.SeatView.{SeatView}
 use Rattle.rule_base.specs.declared.views.Phase.TheVariants.{In, Turned}
 use Rattle.rule_base.specs.declared.views.TrailItem.{TrailItem}
 use Rattle.rule_base.specs.declared.views.View.{View}
 use Rattle.rule_base.specs.Bridge.{items}
 use Rattle.rule_base.specs.Encodings.{holder_of, alg_of}
 use Rattle.rule_base.specs.GateSteps.{announce, load_gate, depart, departed}
-use Rattle.rule_base.specs.StepKinds.{StepKind, Nothing, Tells, view_after}
+use Rattle.rule_base.specs.StepKinds.{Nothing, Tells, view_after}
 use Rattle.rule_base.specs.World.{World}
-use Rattle.stm_rule.specs.Attempts.{IsInside, IsOutside, Stands}
+use Rattle.stm_rule.specs.Attempts.{IsInside, IsOutside}
 use Rattle.stm_rule.specs.Findings.{FindsGate}
-use Rattle.stm_rule.specs.Kept.{SeatTells}
 use Rattle.alg_seq.specs.Cgl.{Waits, StartsAt, Refuses}
 use Rattle.tx_answers.specs.declared.answers.Begin.{Begin}
 use Rattle.tx_answers.specs.declared.answers.Begin.TheVariants.{Begun, Closed, Held, ClockFull}
 use Rattle.tx_answers.specs.Answers.{Begins, BeginsAt, Stays, NamesOther, IsHeld}
-use Rattle.tx_answers.specs.Known.{IsIdle, known_of, is_in, is_closing, is_offered}
+use Rattle.tx_answers.specs.Known.{known_of, is_in, is_closing, is_offered}
 use Rattle.tx_answers.specs.KnownLaws.{grows-same}
 
 abbrev pub FoundIn : At → ℕ → List TrailItem → List TrailItem → Type 0

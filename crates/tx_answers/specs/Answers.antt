@@ -143,8 +143,9 @@ module _ (good : List ℕ → Type 0) (c : Config) (n : ℕ) where
   abbrev pub NamesOther : ℕ → Type 0
   NamesOther x = (k : ℕ) × (k < c.callers) × (k ≢ n) × (x ≡ 1 + k)
 
-  -- it has read only the memory at its start, after what it has seen, and a good memory explains what it read
+  -- it has read only the memory at its start, after what it has seen, which is a legal history; and a good memory explains what it read
   pub record IsOpaque (w : Known) : Type 0 where
+    pub legal : IsLegal good (zeros c.words) c.clock w.seen
     pub reach : w.start ≤ w.front
     pub sees : Sees w.start w.seen (zeros c.words) w.log
     pub kept : good (memory_at w.start w.seen (zeros c.words))

@@ -8,7 +8,7 @@ use Rattle.stm_rule.specs.Callers.{Handle}
 use Rattle.stm_rule.specs.Findings.{FindsGate, FindsTaken}
 use Rattle.tx_answers.specs.declared.answers.CloseGate.TheVariants.{Closed, Taken}
 use Rattle.tx_answers.specs.Answers.{Closes}
-use Rattle.tx_answers.specs.Known.{IsIdle, known_of, caller_of}
+use Rattle.tx_answers.specs.Known.{known_of, caller_of}
 use Rattle.stm_rule.specs.StandLemmas.{tells-of, outside-of}
 use Rattle.stm_gate.proofs.Closing.{tells-taken, tells-refused, tells-closed}
 use Rattle.stm_gate.proofs.gate.close_gate.Goals as goal

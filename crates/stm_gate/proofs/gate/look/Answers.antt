@@ -1,5 +1,4 @@
-use Rattle.std.proofs.Common.{subst, sym, ap, ◌∙◌, ◌≡◌, ◌≢◌, ◌<◌, rules}
-use Rattle.stm_rule.specs.Callers.{IsSameCaller}
+use Rattle.std.proofs.Common.{subst, ap, ◌∙◌, ◌≡◌, ◌≢◌, ◌<◌, rules}
 use Rattle.tx_answers.specs.Answers.{Looked}
 use Rattle.tx_answers.specs.Known.{caller_of, known_of}
 use Rattle.stm_gate.specs.Looking.{Finds}

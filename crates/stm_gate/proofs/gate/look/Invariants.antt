@@ -1,6 +1,5 @@
-use Rattle.std.proofs.Common.{◌≡◌, ◌≤◌}
 use Rattle.stm_rule.specs.Callers.{IsOf, IsSameCaller}
-use Rattle.tx_answers.specs.Answers.{HoldsClosed, Looked}
+use Rattle.tx_answers.specs.Answers.{Looked}
 use Rattle.tx_answers.specs.Known.{caller_of, known_of}
 use Rattle.stm_gate.specs.Looking.{SeesBelow}
 use Rattle.stm_gate.proofs.gate.look.Given as goal

@@ -9,7 +9,7 @@ use Rattle.stm_rule.specs.Callers.{Handle}
 use Rattle.stm_rule.specs.Findings.{FindsGate}
 use Rattle.tx_answers.specs.declared.answers.Begin.TheVariants.{Begun, Closed}
 use Rattle.tx_answers.specs.Answers.{Begins}
-use Rattle.tx_answers.specs.Known.{IsIdle, known_of, caller_of}
+use Rattle.tx_answers.specs.Known.{known_of, caller_of}
 use Rattle.stm_rule.specs.StandLemmas.{tells-of, outside-of}
 use Rattle.stm_tx.proofs.Beginning.{tells-closed, tells-begun, tells-refused}
 use Rattle.stm_tx.proofs.calls.try_begin.Goals as goal
