@@ -13,3 +13,5 @@ mod RunLaws
 mod StepLaws
 mod RoundLaws
 mod EndLaws
+mod StaffLaws
+mod SettleLaws

@@ -26,8 +26,8 @@ use Rattle.stm_trace.specs.RoundLaws.{WentRound, round-none, round-next, round-h
 use Rattle.stm_trace.specs.TurnLaws.{replicate-next}
 use Rattle.stm_trace.specs.Turns.{MaySay, MayWind, MayFinish, IsOver, sure}
 use Rattle.stm_trace.specs.WholeLaws.{cut-in-schedule}
-use Rattle.bench_core.specs.declared.step.Halt.{Halt}
-use Rattle.bench_core.specs.declared.step.Halt.TheVariants.{ClockFull, Memory}
+use Rattle.bench_core.specs.declared.play.Halt.{Halt}
+use Rattle.bench_core.specs.declared.play.Halt.TheVariants.{ClockFull, Memory}
 use Rattle.bench_core.specs.declared.worker.Worker.{Worker}
 use Rattle.bench_core.specs.Steps.{places, place_at, IsClosed, IsClosing, AreSame, debts, Plays, Goes, Rounded, Rounds, Turns, Left, GaveUp, Drives}
 use Rattle.bench_core.specs.Workers.{place_of}

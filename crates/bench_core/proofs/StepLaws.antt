@@ -19,8 +19,8 @@ use Rattle.stm_trace.specs.Places.{Place, after, clock_of}
 use Rattle.stm_trace.specs.Played.{Played, Halted}
 use Rattle.stm_trace.specs.PlayLaws.{played-none, played-one, halted-one, played-append, halted-append, played-as, halted-early}
 use Rattle.stm_trace.specs.Turns.{MaySay}
-use Rattle.bench_core.specs.declared.step.Halt.{Halt}
-use Rattle.bench_core.specs.declared.step.Halt.TheVariants.{ClockFull, Memory}
+use Rattle.bench_core.specs.declared.play.Halt.{Halt}
+use Rattle.bench_core.specs.declared.play.Halt.TheVariants.{ClockFull, Memory}
 use Rattle.bench_core.specs.declared.worker.Worker.{Worker}
 use Rattle.bench_core.specs.Steps.{places, place_at, IsSame, AreSame, debts, ArePaid, FoundFull, Plays, Took, Turns}
 use Rattle.bench_core.specs.Workers.{place_of, Loaded, Turned}

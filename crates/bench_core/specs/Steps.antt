@@ -18,8 +18,8 @@ use Rattle.stm_trace.specs.Fits.{IsWhole, IsCut, all_told}
 use Rattle.stm_trace.specs.Fits as fits
 use Rattle.stm_trace.specs.Played.{Played, Halted}
 use Rattle.stm_trace.specs.RoundLaws.{WentRound, HaltedRound}
-use Rattle.bench_core.specs.declared.step.Halt.{Halt}
-use Rattle.bench_core.specs.declared.step.Halt.TheVariants.{ClockFull, Memory}
+use Rattle.bench_core.specs.declared.play.Halt.{Halt}
+use Rattle.bench_core.specs.declared.play.Halt.TheVariants.{ClockFull, Memory}
 use Rattle.bench_core.specs.declared.worker.Worker.{Worker}
 use Rattle.bench_core.specs.Workers.{place_of, HasSizes, Loaded, Sound, Turned}
 
@@ -125,6 +125,7 @@ module _ {K : Type 0} where
       pub idle : IsIdle (known w.desc)
       pub pays : (known w.desc).rises ≤ owed (known v.desc)
       pub same : IsSameCaller v.desc w.desc
+      pub rows : w.rows.items ≡ v.rows.items
       pub still : v.phase ≡ Between → known w.desc ≡ known v.desc
 
     abbrev pub AreEnded : List (Worker K) → List (Worker K) → Type 0

@@ -5,7 +5,7 @@ ghost use Rattle.stm_trace.specs.Turns.{MayWind, MayFinish, IsOver};
 ghost use Rattle.bench_core.specs.Workers.{Sound, place_of};
 ghost use Rattle.bench_core.specs.Steps.{AreSound, AreSame, IsClosed, IsClosing, Left, GaveUp, Goes, Rounds, Drives, place_at};
 
-use crate::step::{Halt, play, turn};
+use crate::play::{Halt, play, turn};
 use crate::worker::Worker;
 use std::sync::Wait;
 use stm_model::rule::MemRule;

@@ -8,11 +8,16 @@ pub mod crew;
 pub mod finish;
 mod messages;
 pub mod order;
+pub mod play;
 pub mod rest;
 pub mod run;
+mod settle;
 pub mod shares;
+mod staff;
 pub mod status;
 pub mod step;
+#[cfg(test)]
+mod step_tests;
 #[cfg(test)]
 mod tests;
 #[cfg(test)]

@@ -89,7 +89,7 @@ pub fn run<R: Threads + Wait + Sync, G: Turnstile + Sync>(
 }
 
 /// The sizes of the memory that a header asks for.
-fn config_of(header: &Header) -> Config
+pub(crate) fn config_of(header: &Header) -> Config
     ensures { result ≡ config_of header.now }
 {
     Config {

@@ -1,89 +1,93 @@
-//! Turns of the workers of all callers, in the order of a schedule.
-ghost use Rattle.std.specs.Prelude.{◌≡◌, ◌<◌, ◌∷◌, [], All, length, replicate};
-ghost use Rattle.stm_trace.specs.Turns.{MaySay};
-ghost use Rattle.stm_trace.specs.Fits.{turns};
-ghost use Rattle.bench_core.specs.Steps.{AreSound, AreSame, Turns, Plays};
+//! `step`: the transactions of all callers, in the turns of a schedule, and their trace.
+ghost use Rattle.std.specs.Prelude.{IfOk};
+ghost use Rattle.stm_text.specs.Built.{IsBuilt};
+ghost use Rattle.stm_text.specs.declared.parse.Mode.TheVariants.{Step};
+ghost use Rattle.bench_core.specs.Stepped.{HasStepped};
 
-use crate::turnstile::Open;
-use crate::worker::Worker;
-use stm_model::rule::MemRule;
+use crate::finish::drive;
+use crate::play::Halt;
+use crate::run::config_of;
+use crate::settle::{cut_short, report};
+use crate::shares::part;
+use crate::staff::hire;
+use std::alloc::Global;
+use std::sync::Wait;
+use stm_model::memory::Memory;
+use stm_model::rule::AnyMem;
+use stm_rule::ending::Closed;
 use stm_rule::stm::Stm;
-use stm_script::workload::Go;
+use stm_script::laws::report_replays;
+use stm_script::report::Report;
+use stm_script::workload::Workload;
 use stm_trace::line::Line;
 
-/// Why turns ended early.
-#[derive(Clone, Copy, Drop, Debug, PartialEq, Eq)]
-pub enum Halt {
-    /// A call found the clock at its limit.
-    ClockFull { clock: u64 },
-    /// Memory for the trace was refused.
-    Memory,
+/// What a run in turns came to: its trace, with the closed memory.
+#[derive(Drop)]
+pub enum Stepped {
+    /// All transactions have ended.
+    ToEnd {
+        lines: Vec<Line>,
+        report: Report,
+        closed: Closed,
+    },
+    /// A call found the clock at its limit; what was open then ended without a line.
+    ToLimit {
+        lines: Vec<Line>,
+        clock: u64,
+        closed: Closed,
+    },
 }
 
-/// One turn of a caller, and its line.
-pub fn turn<K: MemRule>(
-    stm: &Stm<K>,
-    workers: &mut [Worker<K>],
-    caller: usize,
-    trace: &mut Vec<Line>,
-) -> Result<(), Halt>
-    requires sound { AreSound (K.good stm.now.rule) stm.now.table.shared.table_id stm.now.config stm.now.rule workers.old }
-    requires below { caller < length workers.old }
-    ensures sound { AreSound (K.good stm.now.rule) stm.now.table.shared.table_id stm.now.config stm.now.rule workers.new }
-    ensures same { AreSame workers.old workers.new }
-    ensures turns { Turns (K.good stm.now.rule) stm.now.table.shared.table_id stm.now.config stm.now.rule workers.old workers.new trace.old.items trace.new.items caller result }
+/// Runs the transactions of all callers in the turns of the workload's schedule, and then each caller's to
+/// their end.
+///
+/// # Errors
+/// Memory, where it is refused: all of it but the trace's and the report's pairs is taken before the first
+/// turn. Whatever is open then ends.
+pub fn step<R: Wait>(rt: &R, alloc: Global, workload: Workload) -> Result<Stepped, Memory>
+    requires { IsBuilt Step workload }
+    ensures { IfOk result (HasStepped workload) }
 {
-    let said = workers[caller].turn(stm, &Open);
-    match trace.push(Line::Of { caller, said }) {
-        Ok(()) => {}
-        Err(_) => return Err(Halt::Memory),
-    }
-    match said.full_clock() {
-        None => Ok(()),
-        Some(clock) => Err(Halt::ClockFull { clock }),
-    }
-}
-
-/// The turns of a schedule.
-pub fn play<K: MemRule>(
-    stm: &Stm<K>,
-    workers: &mut [Worker<K>],
-    schedule: &[Go],
-    trace: &mut Vec<Line>,
-) -> Result<(), Halt>
-    requires sound { AreSound (K.good stm.now.rule) stm.now.table.shared.table_id stm.now.config stm.now.rule workers.old }
-    requires below { All (λ go. go.caller < length workers.old) schedule.now }
-    ensures sound { AreSound (K.good stm.now.rule) stm.now.table.shared.table_id stm.now.config stm.now.rule workers.new }
-    ensures same { AreSame workers.old workers.new }
-    ensures plays { Plays stm.now.config MaySay workers.old workers.new trace.old.items trace.new.items (turns schedule.now) result }
-{
-    for go in schedule {
-        match spend(stm, workers, *go, trace) {
-            Ok(()) => {}
-            Err(halt) => return Err(halt),
+    let Workload {
+        header,
+        items,
+        schedule,
+    } = workload;
+    let Ok((stm, descs)) = Stm::new(alloc, config_of(&header), AnyMem) else {
+        return Err(Memory);
+    };
+    let rows = Vec::with_capacity(alloc, items.as_slice().len())?;
+    let idle = Vec::with_capacity(alloc, header.callers)?;
+    let shares = part(alloc, header.callers, items.into_vec())?;
+    let mut workers = hire(alloc, descs, shares.as_slice(), header.alg)?;
+    let mut lines = Vec::new(alloc);
+    report_replays(&AnyMem);
+    match drive(
+        rt,
+        &stm,
+        workers.as_mut_slice(),
+        schedule.as_slice(),
+        &mut lines,
+    ) {
+        Ok(()) => {
+            let (report, closed) = report(alloc, stm, workers, idle, rows)?;
+            Ok(Stepped::ToEnd {
+                lines,
+                report,
+                closed,
+            })
+        }
+        Err(Halt::ClockFull { clock }) => {
+            let closed = cut_short(alloc, stm, workers, idle, rows)?;
+            Ok(Stepped::ToLimit {
+                lines,
+                clock,
+                closed,
+            })
+        }
+        Err(Halt::Memory) => {
+            cut_short(alloc, stm, workers, idle, rows)?;
+            Err(Memory)
         }
     }
-    Ok(())
-}
-
-/// The turns of one line of the schedule.
-fn spend<K: MemRule>(
-    stm: &Stm<K>,
-    workers: &mut [Worker<K>],
-    go: Go,
-    trace: &mut Vec<Line>,
-) -> Result<(), Halt>
-    requires sound { AreSound (K.good stm.now.rule) stm.now.table.shared.table_id stm.now.config stm.now.rule workers.old }
-    requires below { go.caller < length workers.old }
-    ensures sound { AreSound (K.good stm.now.rule) stm.now.table.shared.table_id stm.now.config stm.now.rule workers.new }
-    ensures same { AreSame workers.old workers.new }
-    ensures plays { Plays stm.now.config MaySay workers.old workers.new trace.old.items trace.new.items (replicate go.turns go.caller) result }
-{
-    for _i in 0..go.turns {
-        match turn(stm, workers, go.caller, trace) {
-            Ok(()) => {}
-            Err(halt) => return Err(halt),
-        }
-    }
-    Ok(())
 }

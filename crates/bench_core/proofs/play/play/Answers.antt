@@ -5,7 +5,7 @@ use Rattle.stm_trace.specs.Turns.{MaySay}
 use Rattle.stm_trace.specs.Fits.{turns}
 use Rattle.stm_trace.specs.TurnLaws.{turns-next, turns-part, turns-all}
 use Rattle.bench_core.proofs.StepLaws.{same-refl, same-trans, plays-none, plays-next, plays-halt, plays-as, plays-early}
-use Rattle.bench_core.proofs.step.play.Goals as goal
+use Rattle.bench_core.proofs.play.play.Goals as goal
 
 pub loop-go-init : goal.loop-go-init
 loop-go-init g c = record {

@@ -1,7 +1,7 @@
 use Rattle.std.specs.Prelude.{replicate, Ok}
 use Rattle.stm_trace.specs.Turns.{MaySay}
 use Rattle.bench_core.specs.Steps.{AreSound, AreSame, Plays}
-use Rattle.bench_core.proofs.step.spend.Given as goal
+use Rattle.bench_core.proofs.play.spend.Given as goal
 
 abbrev pub invariant-loop-i : goal.invariant-loop-i
 invariant-loop-i g l = record {

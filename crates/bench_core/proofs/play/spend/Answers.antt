@@ -3,7 +3,7 @@ use Rattle.std.specs.Prelude.{replicate}
 use Rattle.stm_trace.specs.Turns.{MaySay}
 use Rattle.stm_trace.specs.TurnLaws.{replicate-next, replicate-part}
 use Rattle.bench_core.proofs.StepLaws.{same-refl, same-trans, still-below, plays-none, plays-next, plays-halt, plays-as, plays-early, turns-play, turns-halt}
-use Rattle.bench_core.proofs.step.spend.Goals as goal
+use Rattle.bench_core.proofs.play.spend.Goals as goal
 
 pub loop-i-init : goal.loop-i-init
 loop-i-init g c = record {

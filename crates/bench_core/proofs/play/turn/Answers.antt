@@ -3,7 +3,7 @@ use Rattle.std.proofs.lemmas.List.Elements.{All-set}
 use Rattle.stm_trace.specs.Turns.{MaySay}
 use Rattle.bench_core.specs.Workers.{Sound}
 use Rattle.bench_core.proofs.StepLaws.{same-set, worker-same}
-use Rattle.bench_core.proofs.step.turn.Goals as goal
+use Rattle.bench_core.proofs.play.turn.Goals as goal
 
 pub returns-in-Err-clause-sound : goal.returns-in-Err-clause-sound
 returns-in-Err-clause-sound g c = All-set (Sound (g.K.MemRule.good c.args.stm.now.rule) c.args.stm.now.table.shared.table_id c.args.stm.now.config c.args.stm.now.rule) c.args.workers.now c.args.caller c.turn-said.new.self c.turn-said.ensures.turned.sound c.requires.sound

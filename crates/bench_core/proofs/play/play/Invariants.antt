@@ -3,7 +3,7 @@ use Rattle.std.specs.Prelude.{Ok}
 use Rattle.stm_trace.specs.Turns.{MaySay}
 use Rattle.stm_trace.specs.Fits.{turns}
 use Rattle.bench_core.specs.Steps.{AreSound, AreSame, Plays}
-use Rattle.bench_core.proofs.step.play.Given as goal
+use Rattle.bench_core.proofs.play.play.Given as goal
 
 abbrev pub invariant-loop-go : goal.invariant-loop-go
 invariant-loop-go g l = record {
