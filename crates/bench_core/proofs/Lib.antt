@@ -15,3 +15,4 @@ mod RoundLaws
 mod EndLaws
 mod StaffLaws
 mod SettleLaws
+mod WholeRunLaws

@@ -85,7 +85,7 @@ items-own good every h n (Switch caller alg ∷ items) b =
     (head.0, ap is_offered head.1.1, items-own good every h n items (All-tail P (Switch caller alg) items b))
 
 -- a clock that was found is at most the last
-clock-within : (t : ℕ) (trail : List TrailItem) (x : ℕ) → ClocksWithin t trail → Contains trail (record { place = Clock; found = Some x }) → x ≤ t
+pub clock-within : (t : ℕ) (trail : List TrailItem) (x : ℕ) → ClocksWithin t trail → Contains trail (record { place = Clock; found = Some x }) → x ≤ t
 clock-within t trail x w h = at trail h.0 w h.1 h.2
   where
     at : (is : List TrailItem) (k : ℕ) → ClocksWithin t is → k < length is → get_or is k (record { place = Clock; found = Some x }) ≡ record { place = Clock; found = Some x } → x ≤ t

@@ -77,17 +77,16 @@ pub fn step<R: Wait>(rt: &R, alloc: Global, workload: Workload) -> Result<Steppe
                 closed,
             })
         }
-        Err(Halt::ClockFull { clock }) => {
+        Err(halt) => {
             let closed = cut_short(alloc, stm, workers, idle, rows)?;
-            Ok(Stepped::ToLimit {
-                lines,
-                clock,
-                closed,
-            })
-        }
-        Err(Halt::Memory) => {
-            cut_short(alloc, stm, workers, idle, rows)?;
-            Err(Memory)
+            match halt {
+                Halt::ClockFull { clock } => Ok(Stepped::ToLimit {
+                    lines,
+                    clock,
+                    closed,
+                }),
+                Halt::Memory => Err(Memory),
+            }
         }
     }
 }

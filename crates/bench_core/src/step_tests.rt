@@ -10,12 +10,20 @@ use stm_trace::text::trace_text;
 
 /// The header of a workload with so many callers, from this clock on.
 fn header(alloc: Global, callers: u32, clock: &str) -> Result<String, Fail> {
-    let text = format!(in alloc; "stm 1\nwords 8\ncallers {callers}\nrecords 4\nring 4\nreads 256\nwrites 256\nclock {clock}\nalg CGL\nstructs off\n")?;
+    let text = format!(in alloc;
+        "stm 1\nwords 8\ncallers {callers}\nrecords 4\nring 4\nreads 256\nwrites 256\nclock {clock}\nalg CGL\nstructs off\n"
+    )?;
     Ok(text)
 }
 
 /// The trace of these items and this schedule, and the report or the line of a full clock.
-fn said(rt: &impl Wait, alloc: Global, callers: u32, clock: &str, body: &str) -> Result<String, Fail> {
+fn said(
+    rt: &impl Wait,
+    alloc: Global,
+    callers: u32,
+    clock: &str,
+    body: &str,
+) -> Result<String, Fail> {
     let mut text = header(alloc, callers, clock)?;
     text.push_str(body)?;
     let Ok(workload) = parse(alloc, text.as_str().as_bytes(), Mode::Step) else {
@@ -25,8 +33,16 @@ fn said(rt: &impl Wait, alloc: Global, callers: u32, clock: &str, body: &str) ->
         return Ok(String::new(alloc));
     };
     let (lines, end) = match stepped {
-        Stepped::ToEnd { lines, report, closed: _ } => (lines, report_text(alloc, &report)),
-        Stepped::ToLimit { lines, clock, closed: _ } => (lines, messages::clock_full(alloc, clock)),
+        Stepped::ToEnd {
+            lines,
+            report,
+            closed: _,
+        } => (lines, report_text(alloc, &report)),
+        Stepped::ToLimit {
+            lines,
+            clock,
+            closed: _,
+        } => (lines, messages::clock_full(alloc, clock)),
     };
     let Ok(trace) = trace_text(alloc, lines.as_slice()) else {
         return Ok(String::new(alloc));
