@@ -11,3 +11,9 @@ mod HistoryLaws
 mod CrewLaws
 mod RunLaws
 mod OpeningLaws
+mod StepLaws
+mod RoundLaws
+mod EndLaws
+mod StaffLaws
+mod SettleLaws
+mod WholeRunLaws

@@ -87,7 +87,7 @@ items-own good every h n (Switch caller alg ∷ items) b =
     (head.0, ap is_offered head.1.1, items-own good every h n items (All-tail P (Switch caller alg) items b))
 
 -- a clock that was found is at most the last
-clock-within : (t : ℕ) (trail : List TrailItem) (x : ℕ) → ClocksWithin t trail → Contains trail (record { place = Clock; found = Some x }) → x ≤ t
+pub clock-within : (t : ℕ) (trail : List TrailItem) (x : ℕ) → ClocksWithin t trail → Contains trail (record { place = Clock; found = Some x }) → x ≤ t
 clock-within t trail x w h = at trail h.0 w h.1 h.2
   where
     at : (is : List TrailItem) (k : ℕ) → ClocksWithin t is → k < length is → get_or is k (record { place = Clock; found = Some x }) ≡ record { place = Clock; found = Some x } → x ≤ t
@@ -179,7 +179,7 @@ module _ {K : Type 0} (good : List ℕ → Type 0) (w : Workload) (table : Table
   all-installs zero = refl
   all-installs (suc n) = refl
 
-  starts-switches : (alg : Alg) (n : ℕ) (d : Handle K) (u : Worker K) → alg ≡ w.header.alg → IsNew (first_installs alg n) (known d) → Starts d (items_of n w.items) alg u → (known u.desc).installs ++ switches_of u.left.now ≡ installs_for w n
+  pub starts-switches : (alg : Alg) (n : ℕ) (d : Handle K) (u : Worker K) → alg ≡ w.header.alg → IsNew (first_installs alg n) (known d) → Starts d (items_of n w.items) alg u → (known u.desc).installs ++ switches_of u.left.now ≡ installs_for w n
   starts-switches alg n d u is new s =
       ap (λ l. l ++ switches_of u.left.now) (ap (λ (x : Handle K). (known x).installs) s.is_desc ∙ (new.done.installs ∙ ap (λ a. first_installs a n) is))
       ∙ (ap (λ (p : Place). first_installs w.header.alg n ++ switches_of p.left) s.at ∙ all-installs n)

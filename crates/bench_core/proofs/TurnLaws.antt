@@ -73,13 +73,13 @@ tx-scripts good words regions n (Tx caller script ∷ items) b h =
 tx-scripts good words regions n (Switch caller alg ∷ items) b h = absurd b
 
 -- a transaction stands first
-tx-left : (left : List Item) → BeforeTx left → (switches_of left ≡ switches_of (rest_of left)) × (length left ≡ suc (length (rest_of left)))
+pub tx-left : (left : List Item) → BeforeTx left → (switches_of left ≡ switches_of (rest_of left)) × (length left ≡ suc (length (rest_of left)))
 tx-left [] b = absurd b
 tx-left (Tx caller script ∷ items) b = (refl, refl)
 tx-left (Switch caller alg ∷ items) b = absurd b
 
 -- a switch stands first
-switch-left : (n : ℕ) (alg : Alg) (left : List Item) → SwitchesTo alg left
+pub switch-left : (n : ℕ) (alg : Alg) (left : List Item) → SwitchesTo alg left
     → (switches_of left ≡ alg ∷ switches_of (rest_of left)) × (scripts_of n (rest_of left) ≡ scripts_of n left) × (spares left ≡ spares (rest_of left)) × (length left ≡ suc (length (rest_of left)))
 switch-left n alg [] h = absurd h
 switch-left n alg (Tx caller script ∷ items) h = absurd h

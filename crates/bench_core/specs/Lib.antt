@@ -8,3 +8,7 @@ pub mod Commands
 pub mod Messages
 pub mod Outcomes
 pub mod Statuses
+pub mod Staff
+pub mod Steps
+pub mod Settles
+pub mod Stepped

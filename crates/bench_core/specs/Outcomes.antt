@@ -1,18 +1,22 @@
 -- What a call of `bench` read and wrote, by the status that it answers.
-use Rattle.std.specs.Prelude.{ℕ, ◌≡◌, List, Option, Some, None, Ok, Err, MatchOption}
+use Rattle.std.specs.Prelude.{ℕ, ◌≡◌, ◌++◌, List, Option, Some, None, Ok, Err, MatchOption}
 use Rattle.std.specs.Borrow.{Bor}
 use Rattle.stm_rule.specs.Closings.{Ended}
 use Rattle.stm_io.specs.Ends.{Rose, IsText, Gained, GainedSome}
 use Rattle.stm_script.specs.declared.report.Report.{Report}
 use Rattle.stm_script.specs.declared.workload.Workload.{Workload}
-use Rattle.stm_text.specs.declared.parse.Mode.TheVariants.{Run}
+use Rattle.stm_text.specs.declared.parse.Mode.{Mode}
+use Rattle.stm_text.specs.declared.parse.Mode.TheVariants.{Run, Step as Stepwise}
 use Rattle.stm_text.specs.Grammar.{workload_of}
 use Rattle.stm_text.specs.Reports.{report_bytes}
 use Rattle.bench_core.specs.declared.status.Status.{Status}
 use Rattle.bench_core.specs.declared.status.Status.TheVariants.{Ok as Done, Usage, Refused, ReadFault, WriteFault, Memory, ClockFull}
-use Rattle.bench_core.specs.Commands.{IsRun}
+use Rattle.bench_core.specs.Commands.{Asks}
 use Rattle.bench_core.specs.Messages.{usage_line, read_fault_line, refused_line, clock_full_line}
 use Rattle.bench_core.specs.Runs.{IsShown, IsFull}
+use Rattle.bench_core.specs.Stepped.{IsTraced, IsCut}
+use Rattle.stm_trace.specs.declared.line.Line.{Line}
+use Rattle.stm_trace.specs.Texts.{trace_bytes}
 
 -- the run went to its end, and what is said is a report that replays the workload and shows the closed memory's history
 pub record RanToEnd (w : Workload) (closed : Ended) (said : List ℕ) : Type 0 where
@@ -25,36 +29,57 @@ pub record RanToLimit (w : Workload) (clock : ℕ) (closed : Ended) (said : List
   pub full : IsFull w clock closed
   pub is : said ≡ clock_full_line clock
 
+-- the run in turns went to its end, and what is said is its trace, which fits the workload and the report, and then the report
+pub record SteppedToEnd (w : Workload) (closed : Ended) (said : List ℕ) : Type 0 where
+  pub lines : List Line
+  pub report : Report
+  pub traced : IsTraced w lines report closed
+  pub is : said ≡ trace_bytes lines ++ report_bytes report
+
+-- the run in turns came to a call that found the clock at its limit, and what is said is its trace so far, and then that clock
+pub record SteppedToLimit (w : Workload) (clock : ℕ) (closed : Ended) (said : List ℕ) : Type 0 where
+  pub lines : List Line
+  pub cut : IsCut w lines clock closed
+  pub is : said ≡ trace_bytes lines ++ clock_full_line clock
+
 -- what is said of a run that left this closed memory
-abbrev pub SaidOfRun : Workload → Status → Option Ended → List ℕ → Type 0
-SaidOfRun w Done closed said = MatchOption closed ⊥ (λ c. RanToEnd w c said)
-SaidOfRun w (ClockFull clock) closed said = MatchOption closed ⊥ (λ c. RanToLimit w clock c said)
-SaidOfRun w (Refused line code) closed said = ⊥
-SaidOfRun w Usage closed said = ⊥
-SaidOfRun w ReadFault closed said = ⊥
-SaidOfRun w WriteFault closed said = ⊥
-SaidOfRun w Memory closed said = ⊥
+abbrev pub SaidAtEnd : Mode → Workload → Ended → List ℕ → Type 0
+SaidAtEnd Run w closed said = RanToEnd w closed said
+SaidAtEnd Stepwise w closed said = SteppedToEnd w closed said
+
+abbrev pub SaidAtLimit : Mode → Workload → ℕ → Ended → List ℕ → Type 0
+SaidAtLimit Run w clock closed said = RanToLimit w clock closed said
+SaidAtLimit Stepwise w clock closed said = SteppedToLimit w clock closed said
+
+abbrev pub SaidOfRun : Mode → Workload → Status → Option Ended → List ℕ → Type 0
+SaidOfRun m w Done closed said = MatchOption closed ⊥ (λ c. SaidAtEnd m w c said)
+SaidOfRun m w (ClockFull clock) closed said = MatchOption closed ⊥ (λ c. SaidAtLimit m w clock c said)
+SaidOfRun m w (Refused line code) closed said = ⊥
+SaidOfRun m w Usage closed said = ⊥
+SaidOfRun m w ReadFault closed said = ⊥
+SaidOfRun m w WriteFault closed said = ⊥
+SaidOfRun m w Memory closed said = ⊥
 
 -- the text is a workload's, and this is said of its run
-pub record WasRun (text : List ℕ) (status : Status) (closed : Option Ended) (said : List ℕ) : Type 0 where
+pub record WasRun (m : Mode) (text : List ℕ) (status : Status) (closed : Option Ended) (said : List ℕ) : Type 0 where
   pub workload : Workload
-  pub parses : workload_of Run text ≡ Ok workload
-  pub run : SaidOfRun workload status closed said
+  pub parses : workload_of m text ≡ Ok workload
+  pub run : SaidOfRun m workload status closed said
 
 -- the text isn't a workload's; what is said is its first fault
-pub record IsRefused (text : List ℕ) (line code : ℕ) (said : List ℕ) : Type 0 where
-  pub fault : workload_of Run text ≡ Err (line, code)
+pub record IsRefused (m : Mode) (text : List ℕ) (line code : ℕ) (said : List ℕ) : Type 0 where
+  pub fault : workload_of m text ≡ Err (line, code)
   pub is : said ≡ refused_line line code
 
 -- what is said of a text that was read; without a run no closed memory is left
-abbrev pub SaidOf : List ℕ → Status → Option Ended → List ℕ → Type 0
-SaidOf text Done closed said = WasRun text Done closed said
-SaidOf text (Refused line code) closed said = IsRefused text line code said × (closed ≡ None)
-SaidOf text (ClockFull clock) closed said = WasRun text (ClockFull clock) closed said
-SaidOf text Usage closed said = ⊥
-SaidOf text ReadFault closed said = ⊥
-SaidOf text WriteFault closed said = ⊥
-SaidOf text Memory closed said = ⊥
+abbrev pub SaidOf : Mode → List ℕ → Status → Option Ended → List ℕ → Type 0
+SaidOf m text Done closed said = WasRun m text Done closed said
+SaidOf m text (Refused line code) closed said = IsRefused m text line code said × (closed ≡ None)
+SaidOf m text (ClockFull clock) closed said = WasRun m text (ClockFull clock) closed said
+SaidOf m text Usage closed said = ⊥
+SaidOf m text ReadFault closed said = ⊥
+SaidOf m text WriteFault closed said = ⊥
+SaidOf m text Memory closed said = ⊥
 
 -- what is left behind: the closed memory of this call's run, or what was there
 abbrev pub kept : Option Ended → Option Ended → Option Ended
@@ -62,25 +87,27 @@ kept None last = last
 kept (Some closed) last = Some closed
 
 module _ {S : Type 0} (left : S → Option (List ℕ)) (faults : S → ℕ) (words : List (Bor (List ℕ))) (source source' : S) where
-  -- the words aren't the command; the source is untouched
+  -- the words ask for no command; the source is untouched
   pub record Misused (said : List ℕ) : Type 0 where
-    pub words_are : IsRun words → ⊥
+    pub words_are : (m : Mode) → Asks m words → ⊥
     pub left_alone : left source' ≡ left source
     pub calm : faults source' ≡ faults source
     pub is : said ≡ usage_line
 
   pub record Unread (said : List ℕ) : Type 0 where
-    pub words_are : IsRun words
+    pub command : Mode
+    pub words_are : Asks command words
     pub cause : Rose (faults source) (faults source')
     pub is : said ≡ read_fault_line
 
   -- all that was left was read, or its first 16,777,217 bytes
   pub record HasRead (status : Status) (closed : Option Ended) (said : List ℕ) : Type 0 where
-    pub words_are : IsRun words
+    pub command : Mode
+    pub words_are : Asks command words
     pub text : List ℕ
     pub read : IsText 16777217 (left source) text
     pub calm : faults source' ≡ faults source
-    pub of : SaidOf text status closed said
+    pub of : SaidOf command text status closed said
 
   -- what is to be written by each status, and why
   abbrev pub Says : Status → Option Ended → List ℕ → Type 0

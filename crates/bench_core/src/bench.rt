@@ -1,13 +1,14 @@
 //! The top call.
-ghost use Rattle.std.specs.Prelude.{◌≡◌, IfOk};
+ghost use Rattle.std.specs.Prelude.{◌≡◌, ◌++◌, IfOk};
 ghost use Rattle.bench_core.specs.Outcomes.{SaidOfRun, SaidOf, Says, Ends, kept};
 ghost use Rattle.stm_text.specs.Built.{IsBuilt};
-ghost use Rattle.stm_text.specs.declared.parse.Mode.TheVariants.{Run};
+ghost use Rattle.stm_text.specs.declared.parse.Mode.TheVariants.{Run, Step};
 
-use crate::command::is_run;
+use crate::command::asked;
 use crate::messages;
 use crate::run::{Ran, run};
 use crate::status::Status;
+use crate::step::{Stepped, step};
 use crate::turnstile::Turnstile;
 use std::alloc::Global;
 use std::sync::Wait;
@@ -19,6 +20,7 @@ use stm_rule::ending::Closed;
 use stm_script::workload::Workload;
 use stm_text::parse::{Mode, ParseError, parse};
 use stm_text::report::report_text;
+use stm_trace::text::trace_text;
 
 /// How many bytes of a text are read: one more than a workload's text may have.
 const MOST_READ: usize = 16777217;
@@ -31,10 +33,12 @@ struct Saying {
     closed: Option<Closed>,
 }
 
-/// Does what the words of the command line ask: `words` are the program's name and `run`.
+/// Does what the words of the command line ask: `words` are the program's name, and `run` or `step`.
 ///
-/// `run` reads the workload's text from `source`, runs its transactions, and writes the report to `sink`,
-/// whole once it is made. Every other end writes one line, or with `Memory` nothing; see [`Status`].
+/// Both read the workload's text from `source`. `run` runs its transactions on a thread a caller, and writes
+/// the report to `sink`, whole once it is made; `step` runs them in the turns of the text's schedule, and writes
+/// the trace before the report. Every other end writes one line, under `step` at a full clock behind the trace
+/// so far, or with `Memory` nothing; see [`Status`].
 ///
 /// `Ok` and `ClockFull` leave in `last` the closed memory of this call's run; every other status leaves
 /// `last` as it was.
@@ -84,15 +88,15 @@ fn say<R: Threads + Wait + Sync, S: Source, G: Turnstile + Sync>(
 ) -> Result<Saying, Memory>
     ensures { IfOk result (λ s. Says S.left S.faults words.now source.old source.new s.status s.closed s.text.items) }
 {
-    if !is_run(words) {
+    let Some(mode) = asked(words) else {
         return Ok(Saying {
             status: Status::Usage,
             text: messages::usage(alloc)?,
             closed: None,
         });
-    }
+    };
     match read_all(alloc, source, MOST_READ) {
-        Ok(text) => execute(rt, alloc, text.as_slice(), turnstile),
+        Ok(text) => execute(rt, alloc, mode, text.as_slice(), turnstile),
         Err(ReadError::Failed) => Ok(Saying {
             status: Status::ReadFault,
             text: messages::read_fault(alloc)?,
@@ -106,13 +110,17 @@ fn say<R: Threads + Wait + Sync, S: Source, G: Turnstile + Sync>(
 fn execute<R: Threads + Wait + Sync, G: Turnstile + Sync>(
     rt: &R,
     alloc: Global,
+    mode: Mode,
     text: &[u8],
     turnstile: &G,
 ) -> Result<Saying, Memory>
-    ensures { IfOk result (λ s. SaidOf text.now s.status s.closed s.text.items) }
+    ensures { IfOk result (λ s. SaidOf mode text.now s.status s.closed s.text.items) }
 {
-    match parse(alloc, text, Mode::Run) {
-        Ok(workload) => report(rt, alloc, workload, turnstile),
+    match parse(alloc, text, mode) {
+        Ok(workload) => match mode {
+            Mode::Run => report(rt, alloc, workload, turnstile),
+            Mode::Step => trace(rt, alloc, workload),
+        },
         Err(ParseError::Fault { line, code }) => Ok(Saying {
             status: Status::Refused { line, code },
             text: messages::refused(alloc, line, code)?,
@@ -122,7 +130,7 @@ fn execute<R: Threads + Wait + Sync, G: Turnstile + Sync>(
     }
 }
 
-/// What is to be written of a workload.
+/// What is to be written of a workload under `run`.
 fn report<R: Threads + Wait + Sync, G: Turnstile + Sync>(
     rt: &R,
     alloc: Global,
@@ -130,7 +138,7 @@ fn report<R: Threads + Wait + Sync, G: Turnstile + Sync>(
     turnstile: &G,
 ) -> Result<Saying, Memory>
     requires { IsBuilt Run workload }
-    ensures { IfOk result (λ s. SaidOfRun workload s.status s.closed s.text.items) }
+    ensures { IfOk result (λ s. SaidOfRun Run workload s.status s.closed s.text.items) }
 {
     match run(rt, alloc, workload, turnstile)? {
         Ran::ToEnd { report, closed } => Ok(Saying {
@@ -144,4 +152,45 @@ fn report<R: Threads + Wait + Sync, G: Turnstile + Sync>(
             closed: Some(closed),
         }),
     }
+}
+
+/// What is to be written of a workload under `step`.
+fn trace<R: Wait>(rt: &R, alloc: Global, workload: Workload) -> Result<Saying, Memory>
+    requires { IsBuilt Step workload }
+    ensures { IfOk result (λ s. SaidOfRun Step workload s.status s.closed s.text.items) }
+{
+    match step(rt, alloc, workload)? {
+        Stepped::ToEnd {
+            lines,
+            report,
+            closed,
+        } => Ok(Saying {
+            status: Status::Ok,
+            text: behind(
+                trace_text(alloc, lines.as_slice())?,
+                report_text(alloc, &report)?,
+            )?,
+            closed: Some(closed),
+        }),
+        Stepped::ToLimit {
+            lines,
+            clock,
+            closed,
+        } => Ok(Saying {
+            status: Status::ClockFull { clock },
+            text: behind(
+                trace_text(alloc, lines.as_slice())?,
+                messages::clock_full(alloc, clock)?,
+            )?,
+            closed: Some(closed),
+        }),
+    }
+}
+
+/// A text, and another behind it.
+fn behind(mut text: Vec<u8>, mut other: Vec<u8>) -> Result<Vec<u8>, Memory>
+    ensures { IfOk result (λ t. t.items ≡ text.items ++ other.items) }
+{
+    text.append(&mut other)?;
+    Ok(text)
 }

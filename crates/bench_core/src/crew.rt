@@ -116,7 +116,7 @@ pub fn dismiss<K: MemRule>(
 }
 
 /// Moves rows to the end of others, where there is room for them.
-fn move_rows(from: &mut Vec<Row>, to: &mut Vec<Row>)
+pub(crate) fn move_rows(from: &mut Vec<Row>, to: &mut Vec<Row>)
     requires { vec_len to.old + vec_len from.old ≤ vec_capacity to.old }
     ensures items { to.new.items ≡ to.old.items ++ from.old.items }
     ensures len { vec_len to.new ≡ vec_len to.old + vec_len from.old }

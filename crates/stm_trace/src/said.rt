@@ -1,4 +1,6 @@
 //! What a turn says, and where a caller stands.
+ghost use Rattle.std.specs.Prelude.{◌≡◌};
+
 use stm_model::alg::Alg;
 use stm_model::stop::Stop;
 use stm_script::op::Op;
@@ -24,6 +26,22 @@ pub enum Said {
     Dropped,
     /// Once the schedule is over: the closing was given up.
     Reopened,
+}
+
+impl Said {
+    ghost use Rattle.stm_trace.specs.Places.{clock_of};
+
+    /// The clock that the call found at its limit.
+    pub fn full_clock(self) -> Option<u64>
+        ensures { result ≡ clock_of self }
+    {
+        match self {
+            Said::TryBegin(Begin::ClockFull { clock }) => Some(clock),
+            Said::Stopped(_, Stop::ClockFull { clock }) => Some(clock),
+            Said::TryCommit(Commit::ClockFull { clock }) => Some(clock),
+            _ => None,
+        }
+    }
 }
 
 /// Where a caller stands.

@@ -1,0 +1,124 @@
+//! `step` over a text: the trace and what stands behind it.
+use crate::messages;
+use crate::step::{Stepped, step};
+use std::alloc::Global;
+use std::sync::Wait;
+use std::test::Fail;
+use stm_text::parse::{Mode, parse};
+use stm_text::report::report_text;
+use stm_trace::text::trace_text;
+
+/// The header of a workload with so many callers, from this clock on.
+fn header(alloc: Global, callers: u32, clock: &str) -> Result<String, Fail> {
+    let text = format!(in alloc;
+        "stm 1\nwords 8\ncallers {callers}\nrecords 4\nring 4\nreads 256\nwrites 256\nclock {clock}\nalg CGL\nstructs off\n"
+    )?;
+    Ok(text)
+}
+
+/// The trace of these items and this schedule, and the report or the line of a full clock.
+fn said(
+    rt: &impl Wait,
+    alloc: Global,
+    callers: u32,
+    clock: &str,
+    body: &str,
+) -> Result<String, Fail> {
+    let mut text = header(alloc, callers, clock)?;
+    text.push_str(body)?;
+    let Ok(workload) = parse(alloc, text.as_str().as_bytes(), Mode::Step) else {
+        return Ok(String::new(alloc));
+    };
+    let Ok(stepped) = step(rt, alloc, workload) else {
+        return Ok(String::new(alloc));
+    };
+    let (lines, end) = match stepped {
+        Stepped::ToEnd {
+            lines,
+            report,
+            closed: _,
+        } => (lines, report_text(alloc, &report)),
+        Stepped::ToLimit {
+            lines,
+            clock,
+            closed: _,
+        } => (lines, messages::clock_full(alloc, clock)),
+    };
+    let Ok(trace) = trace_text(alloc, lines.as_slice()) else {
+        return Ok(String::new(alloc));
+    };
+    let Ok(end) = end else {
+        return Ok(String::new(alloc));
+    };
+    let mut all = String::from_utf8(trace)?;
+    let end = String::from_utf8(end)?;
+    all.push_str(end.as_str())?;
+    Ok(all)
+}
+
+#[test]
+fn takes_the_turns_of_a_schedule(rt: HostRuntime) -> Result<(), Fail> {
+    let table = [
+        // one caller, no schedule
+        (
+            1,
+            "0",
+            "tx 0\nadd 3 1\nend\ntx 0\nadd 3 1\nend\ntx 0\nread 3\nend\ndone\n",
+            "finish\n0 begin CGL\n0 add 1\n0 commit committed 1\n0 begin CGL\n0 add 2\n0 commit committed 2\n0 begin CGL\n0 read 2\n0 commit readonly 2\nreport 1\nW 1 0 0 : 1\nW 2 0 1 : 2\nR 2 0 2 : 2\nmem 3 2\nend\n",
+        ),
+        (1, "0", "done\n", "finish\nreport 1\nend\n"),
+        // nothing is left
+        (
+            1,
+            "0",
+            "tx 0\nend\nschedule\ngo 0 3\ndone\n",
+            "0 begin CGL\n0 commit readonly 0\n0 idle\nfinish\nreport 1\nR 0 0 0 :\nend\n",
+        ),
+        // the clock stands at its limit
+        (
+            1,
+            "4611686018427387904",
+            "tx 0\nwrite 0 1\nend\ndone\n",
+            "finish\n0 begin clockfull 4611686018427387904\nclock full 4611686018427387904\n",
+        ),
+        (
+            1,
+            "4611686018427387903",
+            "tx 0\nwrite 0 1\nend\ntx 0\nread 0\nend\nschedule\ngo 0 4\ndone\n",
+            "0 begin CGL\n0 write 1\n0 commit committed 4611686018427387904\n0 begin clockfull 4611686018427387904\nclock full 4611686018427387904\n",
+        ),
+        // a switch waits for the others, is given up behind the schedule, and done again
+        (
+            2,
+            "0",
+            "tx 0\nwrite 0 5\ncancel\nend\nswitch 1 CGL\ntx 1\nread 0\nend\nschedule\ngo 0 2\ngo 1 2\ngo 0 2\ngo 1 1\ndone\n",
+            "0 begin CGL\n0 write 5\n1 close closed\n1 look busy 0 1\n0 cancel irrevocable\n0 commit committed 1\n1 look quiet\nfinish\n1 reopen\n1 close closed\n1 look quiet\n1 install CGL\n1 begin CGL\n1 read 5\n1 commit readonly 1\nreport 1\nW 1 0 0 : 5 0\nR 1 1 0 : 5\nmem 0 5\nend\n",
+        ),
+        // an open attempt goes on to its end behind the schedule
+        (
+            2,
+            "0",
+            "tx 0\nread 0\nend\ntx 1\nread 0\nend\nschedule\ngo 0 1\ngo 1 1\ndone\n",
+            "0 begin CGL\n1 begin held 1\nfinish\n0 read 0\n0 commit readonly 0\n1 begin CGL\n1 read 0\n1 commit readonly 0\nreport 1\nR 0 0 0 : 0\nR 0 1 0 : 0\nend\n",
+        ),
+        // a caller that holds the gate opens it again where another found the clock full
+        (
+            2,
+            "4611686018427387904",
+            "tx 0\nread 0\nend\nswitch 1 CGL\nschedule\ngo 0 1\ndone\n",
+            "0 begin clockfull 4611686018427387904\nclock full 4611686018427387904\n",
+        ),
+        // an attempt that can't be cancelled goes on to its end before any other begins
+        (
+            2,
+            "0",
+            "tx 0\nread 0\nend\ntx 1\nwrite 0 7\ncancel\nend\nschedule\ngo 1 2\ngo 0 1\ndone\n",
+            "1 begin CGL\n1 write 7\n0 begin held 2\nfinish\n1 cancel irrevocable\n1 commit committed 1\n0 begin CGL\n0 read 7\n0 commit readonly 1\nreport 1\nW 1 1 0 : 7 0\nR 1 0 0 : 7\nmem 0 7\nend\n",
+        ),
+    ];
+    for (callers, clock, body, all) in table {
+        let held = said(&rt, rt.alloc(), callers, clock, body)?;
+        assert_eq!(rt; held.as_str(), all);
+    }
+    Ok(())
+}
