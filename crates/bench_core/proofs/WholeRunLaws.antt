@@ -1,23 +1,21 @@
 -- A run in turns, from its start to its end.
-use Rattle.std.proofs.Common.{ℕ, zero, suc, ◌≡◌, ◌<◌, ◌≤◌, ◌+◌, ◌*◌, ◌^◌, List, [], ◌∷◌, ◌++◌, length, get_or, take, drop, map, refl, sym, ap, ◌∙◌, arith, subst, inl, inr, length-append}
-use Rattle.std.specs.Prelude.{None, Ok, Err, All, sum_by, slice_index_or, IsPermutation, ◌⊎◌}
+use Rattle.std.proofs.Common.{ℕ, zero, suc, ◌≡◌, ◌<◌, ◌≤◌, ◌^◌, List, [], ◌∷◌, ◌++◌, length, get_or, take, drop, map, refl, sym, ap, ◌∙◌, arith, subst, inl, inr, length-append}
+use Rattle.std.specs.Prelude.{None, Ok, Err, All, slice_index_or, IsPermutation}
 use Rattle.std.proofs.lemmas.List.Elements.{All-head, All-tail}
 use Rattle.std.proofs.lemmas.List.Sums.{sum_by-cons}
 use Rattle.atomic_table.specs.Seated.{TableId}
 use Rattle.crossbeam_utils.specs.declared.cache_padded.CachePadded.{CachePadded}
 use Rattle.rule_base.specs.declared.layout.Config.{Config}
 use Rattle.rule_base.specs.declared.seats.Role.TheVariants.{Caller}
-use Rattle.rule_base.specs.Opening.{first_view}
 use Rattle.stm_model.specs.declared.alg.Alg.{Alg}
 use Rattle.stm_script.specs.declared.report.Report.{Report}
-use Rattle.stm_script.specs.declared.report.Row.{Row}
 use Rattle.stm_script.specs.declared.workload.Go.{Go}
 use Rattle.stm_script.specs.declared.workload.Header.{Header}
 use Rattle.stm_script.specs.declared.workload.Item.{Item}
 use Rattle.stm_script.specs.declared.workload.Workload.{Workload}
 use Rattle.stm_script.specs.Parts.{ReportReplays}
-use Rattle.stm_script.specs.Reports.{counted, scripts_of, Ordered}
-use Rattle.stm_text.specs.Built.{IsBuilt, GoFits}
+use Rattle.stm_script.specs.Reports.{counted, scripts_of}
+use Rattle.stm_text.specs.Built.{IsBuilt}
 use Rattle.stm_text.specs.declared.parse.Mode.TheVariants.{Run, Step as Stepwise}
 use Rattle.stm_rule.specs.Callers.{Handle, AllIdle}
 use Rattle.stm_rule.specs.Closings.{AllTold, Closes}
@@ -25,10 +23,9 @@ use Rattle.stm_rule.specs.Closings as closings
 use Rattle.tx_answers.specs.Known.{Known, caller_of, owed}
 use Rattle.stm_tx.specs.Descs.{known}
 use Rattle.stm_trace.specs.declared.line.Line.{Line}
-use Rattle.stm_trace.specs.declared.said.Phase.TheVariants.{Between}
 use Rattle.stm_trace.specs.Fits.{first_place, first_places, all_told, TraceFits, TraceFitsSoFar}
 use Rattle.stm_trace.specs.Fits as fits
-use Rattle.stm_trace.specs.Places.{Place, items_of}
+use Rattle.stm_trace.specs.Places.{items_of}
 use Rattle.stm_trace.specs.Turns.{IsOver}
 use Rattle.bench_core.specs.declared.crew.Runner.{Runner}
 use Rattle.bench_core.specs.declared.play.Halt.TheVariants.{ClockFull}
@@ -41,10 +38,10 @@ use Rattle.bench_core.specs.Shares.{shares_of}
 use Rattle.bench_core.specs.Staff.{Hired, AreCallers, descs_of, rows_of}
 use Rattle.bench_core.specs.Stepped.{IsTraced, IsCut}
 use Rattle.bench_core.specs.Steps.{places, AreSame, AreSound, debts, FoundFull, AreEnded, Drives}
-use Rattle.bench_core.specs.Workers.{place_of, HasSizes, Loaded, Sound, Starts, switches_of}
+use Rattle.bench_core.specs.Workers.{place_of, HasSizes, Loaded, Sound, switches_of}
 use Rattle.bench_core.proofs.RunLaws.{Each, Stood, ready, starts-switches, shown, idle-all, callers-are, clock-within}
 use Rattle.bench_core.proofs.SettleLaws.{ended-rises}
-use Rattle.bench_core.proofs.ShareLaws.{all-cons, scripts-own, share-at, shares-length, total, total-few, written}
+use Rattle.bench_core.proofs.ShareLaws.{all-cons, scripts-own, share-at, total, total-few, written}
 use Rattle.bench_core.proofs.StaffLaws.{hired-length, hired-same}
 use Rattle.bench_core.proofs.StepLaws.{same-length}
 

@@ -1,59 +1,15 @@
-//! `step` over a text: the trace and what stands behind it.
-use crate::messages;
-use crate::step::{Stepped, step};
+//! `step` over a text: the trace, and what stands behind it.
+use crate::status::Status;
+use crate::tests::outcome;
 use std::alloc::Global;
-use std::sync::Wait;
 use std::test::Fail;
-use stm_text::parse::{Mode, parse};
-use stm_text::report::report_text;
-use stm_trace::text::trace_text;
 
-/// The header of a workload with so many callers, from this clock on.
-fn header(alloc: Global, callers: u32, clock: &str) -> Result<String, Fail> {
+/// A workload of so many callers, from this clock on.
+fn workload(alloc: Global, callers: u32, clock: &str, body: &str) -> Result<String, Fail> {
     let text = format!(in alloc;
-        "stm 1\nwords 8\ncallers {callers}\nrecords 4\nring 4\nreads 256\nwrites 256\nclock {clock}\nalg CGL\nstructs off\n"
+        "stm 1\nwords 8\ncallers {callers}\nrecords 4\nring 4\nreads 256\nwrites 256\nclock {clock}\nalg CGL\nstructs off\n{body}"
     )?;
     Ok(text)
-}
-
-/// The trace of these items and this schedule, and the report or the line of a full clock.
-fn said(
-    rt: &impl Wait,
-    alloc: Global,
-    callers: u32,
-    clock: &str,
-    body: &str,
-) -> Result<String, Fail> {
-    let mut text = header(alloc, callers, clock)?;
-    text.push_str(body)?;
-    let Ok(workload) = parse(alloc, text.as_str().as_bytes(), Mode::Step) else {
-        return Ok(String::new(alloc));
-    };
-    let Ok(stepped) = step(rt, alloc, workload) else {
-        return Ok(String::new(alloc));
-    };
-    let (lines, end) = match stepped {
-        Stepped::ToEnd {
-            lines,
-            report,
-            closed: _,
-        } => (lines, report_text(alloc, &report)),
-        Stepped::ToLimit {
-            lines,
-            clock,
-            closed: _,
-        } => (lines, messages::clock_full(alloc, clock)),
-    };
-    let Ok(trace) = trace_text(alloc, lines.as_slice()) else {
-        return Ok(String::new(alloc));
-    };
-    let Ok(end) = end else {
-        return Ok(String::new(alloc));
-    };
-    let mut all = String::from_utf8(trace)?;
-    let end = String::from_utf8(end)?;
-    all.push_str(end.as_str())?;
-    Ok(all)
 }
 
 #[test]
@@ -74,19 +30,6 @@ fn takes_the_turns_of_a_schedule(rt: HostRuntime) -> Result<(), Fail> {
             "tx 0\nend\nschedule\ngo 0 3\ndone\n",
             "0 begin CGL\n0 commit readonly 0\n0 idle\nfinish\nreport 1\nR 0 0 0 :\nend\n",
         ),
-        // the clock stands at its limit
-        (
-            1,
-            "4611686018427387904",
-            "tx 0\nwrite 0 1\nend\ndone\n",
-            "finish\n0 begin clockfull 4611686018427387904\nclock full 4611686018427387904\n",
-        ),
-        (
-            1,
-            "4611686018427387903",
-            "tx 0\nwrite 0 1\nend\ntx 0\nread 0\nend\nschedule\ngo 0 4\ndone\n",
-            "0 begin CGL\n0 write 1\n0 commit committed 4611686018427387904\n0 begin clockfull 4611686018427387904\nclock full 4611686018427387904\n",
-        ),
         // a switch waits for the others, is given up behind the schedule, and done again
         (
             2,
@@ -101,13 +44,6 @@ fn takes_the_turns_of_a_schedule(rt: HostRuntime) -> Result<(), Fail> {
             "tx 0\nread 0\nend\ntx 1\nread 0\nend\nschedule\ngo 0 1\ngo 1 1\ndone\n",
             "0 begin CGL\n1 begin held 1\nfinish\n0 read 0\n0 commit readonly 0\n1 begin CGL\n1 read 0\n1 commit readonly 0\nreport 1\nR 0 0 0 : 0\nR 0 1 0 : 0\nend\n",
         ),
-        // a caller that holds the gate opens it again where another found the clock full
-        (
-            2,
-            "4611686018427387904",
-            "tx 0\nread 0\nend\nswitch 1 CGL\nschedule\ngo 0 1\ndone\n",
-            "0 begin clockfull 4611686018427387904\nclock full 4611686018427387904\n",
-        ),
         // an attempt that can't be cancelled goes on to its end before any other begins
         (
             2,
@@ -117,7 +53,57 @@ fn takes_the_turns_of_a_schedule(rt: HostRuntime) -> Result<(), Fail> {
         ),
     ];
     for (callers, clock, body, all) in table {
-        let held = said(&rt, rt.alloc(), callers, clock, body)?;
+        let text = workload(rt.alloc(), callers, clock, body)?;
+        let (status, held) = outcome(
+            &rt,
+            rt.alloc(),
+            &["stm_bench", "step"],
+            text.as_str(),
+            &[],
+            4096,
+        )?;
+        assert_eq!(rt; status, Status::Ok);
+        assert_eq!(rt; held.as_str(), all);
+    }
+    Ok(())
+}
+
+#[test]
+fn ends_a_trace_at_a_full_clock(rt: HostRuntime) -> Result<(), Fail> {
+    let limit = 4611686018427387904;
+    let table = [
+        // the clock stands at its limit
+        (
+            1,
+            "4611686018427387904",
+            "tx 0\nwrite 0 1\nend\ndone\n",
+            "finish\n0 begin clockfull 4611686018427387904\nclock full 4611686018427387904\n",
+        ),
+        (
+            1,
+            "4611686018427387903",
+            "tx 0\nwrite 0 1\nend\ntx 0\nread 0\nend\nschedule\ngo 0 4\ndone\n",
+            "0 begin CGL\n0 write 1\n0 commit committed 4611686018427387904\n0 begin clockfull 4611686018427387904\nclock full 4611686018427387904\n",
+        ),
+        // a caller that holds the gate opens it again where another found the clock full
+        (
+            2,
+            "4611686018427387904",
+            "tx 0\nread 0\nend\nswitch 1 CGL\nschedule\ngo 0 1\ndone\n",
+            "0 begin clockfull 4611686018427387904\nclock full 4611686018427387904\n",
+        ),
+    ];
+    for (callers, clock, body, all) in table {
+        let text = workload(rt.alloc(), callers, clock, body)?;
+        let (status, held) = outcome(
+            &rt,
+            rt.alloc(),
+            &["stm_bench", "step"],
+            text.as_str(),
+            &[],
+            4096,
+        )?;
+        assert_eq!(rt; status, Status::ClockFull { clock: limit });
         assert_eq!(rt; held.as_str(), all);
     }
     Ok(())

@@ -13,7 +13,7 @@ const HEADER: &str =
 
 /// What `bench` answers and writes over these bytes, where the source fails at the calls `takes` and the
 /// sink has room for `room` bytes.
-fn outcome(
+pub(crate) fn outcome(
     rt: &(impl Threads + Wait + Sync),
     alloc: Global,
     words: &[&str],
@@ -150,7 +150,7 @@ fn says_why_there_is_no_report(rt: HostRuntime) -> Result<(), Fail> {
             outcome(
                 &rt,
                 rt.alloc(),
-                &["stm_bench", "step"],
+                &["stm_bench", "gen"],
                 text.as_str(),
                 &[],
                 4096,

@@ -1,5 +1,5 @@
-use Rattle.std.proofs.Common.{ℕ, ◌≡◌, ◌≤◌, ◌++◌, List, length, take, drop, sym, ap, ◌∙◌, subst, arith}
-use Rattle.std.specs.Prelude.{Err, vec_capacity}
+use Rattle.std.proofs.Common.{ℕ, ◌≡◌, ◌++◌, List, length, take, drop, sym, ap, ◌∙◌, subst, arith}
+use Rattle.std.specs.Prelude.{Err}
 use Rattle.rule_base.specs.declared.layout.Config.{Config}
 use Rattle.stm_rule.specs.Callers.{AllIdle}
 use Rattle.bench_core.specs.Settles.{Reported, CutShort}
