@@ -121,7 +121,6 @@ module _ {K : Type 0} where
       (record { role = ap (λ x. x.role) s.0.same.who ∙ h.0.role; all = s.0.all ∙ h.0.all; regions = s.0.regions ∙ h.0.regions; switched = s.0.switched ∙ h.0.switched }, own-same w (suc n) xs ys s.1 h.1)
 
   module _ (table : TableId) (config : Config) (rule : K) (items : List Item) (alg : Alg) where
-
     -- nothing is owed at the start
     owes-start : (n : ℕ) (ds : List (Handle K)) (ws : List (Worker K)) → AllNew table config rule alg n ds → Hired (λ k. items_of k items) alg n ds ws → debts ws ≡ 0
     owes-start n [] [] o h = refl
