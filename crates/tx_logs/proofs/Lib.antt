@@ -1,0 +1,4 @@
+pub mod ItemLemmas
+pub mod BucketLemmas
+pub mod PushLemmas
+pub mod FilterLemmas

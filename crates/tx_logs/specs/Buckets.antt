@@ -1,0 +1,51 @@
+-- The index of a log: what its buckets tell of the items, and what looking up an address finds there.
+use Rattle.std.specs.Prelude.{ℕ, ◌≡◌, ◌≢◌, ◌<◌, ◌≤◌, ◌+◌, ◌-◌, ◌%◌, ◌==◌, nat_lt, if◌then◌else◌, List, length, slice_index_or, MatchOption, None}
+use Rattle.std.specs.List.{sum_by}
+use Rattle.stm_model.specs.Memories.{item_at, Once}
+use Rattle.tx_logs.specs.declared.index.Bucket.{Bucket}
+use Rattle.tx_logs.specs.declared.index.Lookup.{Lookup}
+
+-- Number x where the first bucket comes again after the last; x is below twice their number.
+abbrev pub wrapped : ℕ → ℕ → ℕ
+wrapped buckets x = if nat_lt x buckets then x else x - buckets
+
+abbrev pub blank : Bucket
+blank = record { mark = 0; item = 0 }
+
+abbrev pub bucket_at : List Bucket → ℕ → Bucket
+bucket_at bs x = slice_index_or bs (wrapped (length bs) x) blank
+
+abbrev pub address_of : List (ℕ × ℕ) → ℕ → ℕ
+address_of items i = (slice_index_or items i (0, 0)).0
+
+-- a bucket is taken where its mark is the generation g: here all d buckets from x on
+abbrev pub AllTaken : ℕ → List Bucket → ℕ → ℕ → Type 0
+AllTaken g bs x d = (k : ℕ) → k < d → (bucket_at bs (x + k)).mark ≡ g
+
+abbrev pub taken : ℕ → Bucket → ℕ
+taken g b = if b.mark == g then 1 else 0
+
+-- going on from x, over taken buckets alone, one comes to a taken bucket that names item i
+pub record Reaches (g : ℕ) (bs : List Bucket) (x i : ℕ) : Type 0 where
+  pub distance : ℕ
+  pub within : distance < length bs
+  pub passed : AllTaken g bs x distance
+  pub mark : (bucket_at bs (x + distance)).mark ≡ g
+  pub item : (bucket_at bs (x + distance)).item ≡ i
+
+-- The buckets are an index of the items: one item an address; each is reached from its home, the bucket whose number is its address modulo the number of
+-- buckets; a taken bucket names an item; no mark is later than the generation; no more buckets are taken than there are items.
+pub record IsIndex (g : ℕ) (items : List (ℕ × ℕ)) (bs : List Bucket) : Type 0 where
+  pub once : Once items
+  pub reached : (i : ℕ) → i < length items → Reaches g bs (address_of items i % length bs) i
+  pub names : (x : ℕ) → x < length bs → (bucket_at bs x).mark ≡ g → (bucket_at bs x).item < length items
+  pub latest : (x : ℕ) → x < length bs → (bucket_at bs x).mark ≤ g
+  pub few : sum_by (taken g) bs ≤ length items
+
+-- Looking up a goes from its home over taken buckets of other addresses, no more than there are items, to the item of a, or to an open bucket, and then no item has a.
+pub record IsLookup (g : ℕ) (items : List (ℕ × ℕ)) (bs : List Bucket) (a : ℕ) (found : Lookup) : Type 0 where
+  pub within : found.at < length bs
+  pub distance : found.distance ≤ length items
+  pub at : found.at ≡ wrapped (length bs) (a % length bs + found.distance)
+  pub passed : AllTaken g bs (a % length bs) found.distance
+  pub answer : MatchOption found.item ((item_at a items ≡ None) × ((bucket_at bs found.at).mark ≢ g)) (λ i. (i < length items) × (address_of items i ≡ a))

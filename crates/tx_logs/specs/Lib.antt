@@ -1,0 +1,4 @@
+pub mod Buckets
+pub mod LogStates
+pub mod Filters
+pub mod Statements

@@ -1,0 +1,31 @@
+-- What contracts see of a log, and what a push makes of it.
+use Rattle.std.specs.Prelude.{ℕ, ◌≡◌, ◌<◌, ◌+◌, ◌⊎◌, ◌==◌, if◌then◌else◌, List, [], ◌∷◌, length, None, IsSome}
+use Rattle.stm_model.specs.Memories.{item_at, put}
+use Rattle.tx_logs.specs.declared.push.Repeat.{Repeat}
+use Rattle.tx_logs.specs.declared.push.Repeat.TheVariants.{Keep, Replace}
+use Rattle.tx_logs.specs.declared.push.Push.{Push}
+use Rattle.tx_logs.specs.declared.push.Push.TheVariants.{Done, Full}
+
+-- the items, address and value, in the order in which their addresses came; at most len of them
+pub record LogState : Type 0 where
+  pub items : List (ℕ × ℕ)
+  pub len : ℕ
+  pub generation : ℕ
+
+-- the list with the address's item as it is, or with a new one at the end
+abbrev pub keep : ℕ → ℕ → List (ℕ × ℕ) → List (ℕ × ℕ)
+keep a v [] = (a, v) ∷ []
+keep a v (w ∷ ws) = if w.0 == a then w ∷ ws else w ∷ keep a v ws
+
+abbrev pub pushed : Repeat → ℕ → ℕ → List (ℕ × ℕ) → List (ℕ × ℕ)
+pushed Keep a v ws = keep a v ws
+pushed Replace a v ws = put a v ws
+
+-- A push at a is done where a is in the log or there is room for it, and then the items are those given; it is refused exactly else, and then the log is as it was.
+abbrev pub Pushes : LogState → ℕ → List (ℕ × ℕ) → Push → LogState → Type 0
+Pushes old a items Done new = (IsSome (item_at a old.items) ⊎ (length old.items < old.len)) × (new ≡ record old { items = items })
+Pushes old a items (Full limit) new = (item_at a old.items ≡ None) × (length old.items ≡ old.len) × (limit ≡ old.len) × (new ≡ old)
+
+-- behind the last generation the first comes again
+abbrev pub next_generation : ℕ → ℕ
+next_generation g = if g == 4294967295 then 1 else g + 1

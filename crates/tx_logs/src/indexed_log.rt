@@ -1,0 +1,163 @@
+//! The common part of the logs: items of address and value, in the order in which the addresses came, found by
+//! an index.
+ghost use Rattle.std.specs.Prelude.{◌≡◌, ◌≤◌, ◌<◌, ◌+◌, [], IfOk, MatchResult, length, max, slice_index_or};
+ghost use Rattle.stm_model.specs.Memories.{item_at, Once};
+ghost use Rattle.tx_logs.specs.LogStates.{LogState, Pushes, next_generation, pushed};
+
+use crate::index::{Bucket, inverse_of, look_up, clear_marks};
+use crate::push::{Push, Repeat};
+use std::alloc::Global;
+use std::marker::Model;
+use stm_model::memory::Memory;
+
+/// At most `len` items, 1 to 4,096, and an index of `2 * len` buckets. It takes 16 bytes an item and 16 for its two
+/// buckets. Contracts see a `LogState`: the list of the items, `len` and the generation.
+#[derive(Drop, Debug)]
+pub struct IndexedLog {
+    items: Vec<(usize, u64)>,
+    index: Vec<Bucket>,
+    generation: u32,
+    len: usize,
+    /// What `home` needs for this number of buckets.
+    inverse: usize,
+}
+
+impl Model for IndexedLog {
+    ghost use Rattle.std.specs.Prelude.{◌≡◌, ◌≤◌, ◌<◌, ◌*◌, length, vec_capacity};
+    ghost use Rattle.tx_logs.specs.LogStates.{LogState};
+
+    ghost Value = { LogState };
+
+    ghost use Rattle.tx_logs.specs.Buckets.{IsIndex};
+
+    ghost view = { λ l. record { items = l.items.items; len = l.len; generation = l.generation } };
+
+    ghost invariant = { λ l. IsIndex l.generation l.items.items l.index.items × (length l.index.items ≡ 2 * l.len) × (length l.items.items ≤ l.len) × (1 ≤ l.len) × (l.len ≤ 4096) × (1 ≤ l.generation) × (l.len ≤ vec_capacity l.items) };
+}
+
+impl IndexedLog {
+    /// An empty log of length `len`, 1 to 4,096, with this generation, 1 to 4,294,967,295. It takes all its room at
+    /// once, and writes each bucket.
+    pub fn with_generation(alloc: Global, len: usize, generation: u32) -> Result<IndexedLog, Memory>
+        requires low { 1 ≤ len }
+        requires high { len ≤ 4096 }
+        requires counted { 1 ≤ generation }
+        ensures { IfOk result (λ l. l ≡ record { items = []; len = len; generation = generation }) }
+    {
+        let mut items = Vec::new(alloc);
+        items.reserve(len)?;
+        let mut index = Vec::new(alloc);
+        index.resize(2 * len, Bucket { mark: 0, item: 0 })?;
+        Ok(IndexedLog {
+            items,
+            index,
+            generation,
+            len,
+            inverse: inverse_of(2 * len),
+        })
+    }
+
+    /// The value at the address, if it is in the log. One lookup.
+    pub fn find(&self, a: usize) -> Option<u64>
+        ensures { result ≡ item_at a self.now.items }
+    {
+        match look_up(&self.index, &self.items, self.generation, self.inverse, a).item {
+            Some(i) => Some(self.items[i].1),
+            None => None,
+        }
+    }
+
+    /// How many buckets a find of the address looks at: 1 at least, the number of items plus 1 at most.
+    pub fn probes(&self, a: usize) -> usize
+        ensures low { 1 ≤ result }
+        ensures high { result ≤ length self.now.items + 1 }
+    {
+        look_up(&self.index, &self.items, self.generation, self.inverse, a).distance + 1
+    }
+
+    /// How many items there are, at most the length. No two have one address.
+    pub fn count(&self) -> usize
+        ensures count { result ≡ length self.now.items }
+        ensures within { result ≤ self.now.len }
+        ensures once { Once self.now.items }
+    {
+        let _ = &self.index;
+        self.items.len()
+    }
+
+    /// The address and the value of item `i`, which is below the count. The items stand in the order in which their
+    /// addresses came.
+    pub fn item(&self, i: usize) -> (usize, u64)
+        requires { i < length self.now.items }
+        ensures { result ≡ slice_index_or self.now.items i (0, 0) }
+    {
+        self.items[i]
+    }
+
+    /// The generation, 1 to 4,294,967,295: 1 more at each `clear`, and 1 again behind the last.
+    pub fn generation(&self) -> u32
+        ensures { result ≡ self.now.generation }
+    {
+        self.generation
+    }
+
+    /// Adds the value at the address, or does what `repeat` says where the address is in the log. It answers `Full`
+    /// exactly where the log has its length and the address isn't in it. One lookup; it takes no memory.
+    #[inline]
+    pub fn push(&mut self, a: usize, v: u64, repeat: Repeat) -> Push
+        ensures { Pushes self.old a (pushed repeat a v self.old.items) result self.new }
+    {
+        let found = look_up(&self.index, &self.items, self.generation, self.inverse, a);
+        if let Some(i) = found.item {
+            return match repeat {
+                Repeat::Keep => Push::Done,
+                Repeat::Replace => {
+                    self.items[i] = (a, v);
+                    Push::Done
+                }
+            };
+        }
+        let count = self.items.len();
+        if count == self.len {
+            return Push::Full { limit: self.len };
+        }
+        self.items.push_reserved((a, v));
+        self.index[found.at] = Bucket {
+            mark: self.generation,
+            item: count as u32,
+        };
+        Push::Done
+    }
+
+    /// Makes the length the greater of its old one and `len`, 1 to 4,096. Where memory is refused the log is as before.
+    /// A greater length costs a push an item into a new log, whose room is taken beside the old one's.
+    pub fn reserve(&mut self, alloc: Global, len: usize) -> Result<(), Memory>
+        requires low { 1 ≤ len }
+        requires high { len ≤ 4096 }
+        ensures { MatchResult result (λ _. self.new ≡ record self.old { len = max self.old.len len }) (λ _. self.new ≡ self.old) }
+    {
+        if len <= self.len {
+            return Ok(());
+        }
+        let mut grown = IndexedLog::with_generation(alloc, len, self.generation)?;
+        for &(a, v) in &self.items {
+            grown.push(a, v, Repeat::Keep);
+        }
+        *self = grown;
+        Ok(())
+    }
+
+    /// Empties the log and keeps its room. It raises the generation and leaves the index alone, but for the last
+    /// generation, at which it writes each bucket.
+    pub fn clear(&mut self)
+        ensures { self.new ≡ record self.old { items = []; generation = next_generation self.old.generation } }
+    {
+        self.items.clear();
+        if self.generation == u32::MAX {
+            clear_marks(&mut self.index);
+            self.generation = 1;
+        } else {
+            self.generation += 1;
+        }
+    }
+}

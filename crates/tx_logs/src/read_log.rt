@@ -1,0 +1,106 @@
+//! What an attempt has read.
+ghost use Rattle.std.specs.Prelude.{◌≡◌, ◌≤◌, ◌<◌, ◌+◌, [], IfOk, MatchResult, length, max, slice_index_or};
+ghost use Rattle.stm_model.specs.Memories.{item_at, Once};
+ghost use Rattle.tx_logs.specs.LogStates.{LogState, Pushes, next_generation, keep};
+
+use crate::indexed_log::IndexedLog;
+use crate::push::{Push, Repeat};
+use std::alloc::Global;
+use std::marker::Model;
+use stm_model::memory::Memory;
+
+/// The value first read at each address, in the order of the first reads.
+#[derive(Drop, Debug)]
+pub struct ReadLog {
+    log: IndexedLog,
+}
+
+impl Model for ReadLog {
+    ghost use Rattle.tx_logs.specs.LogStates.{LogState};
+
+    ghost Value = { LogState };
+
+    ghost view = { λ l. l.log };
+}
+
+impl ReadLog {
+    /// An empty log of length `len`, 1 to 4,096, in generation 1. It takes all its room at once, 32 bytes an item.
+    pub fn new(alloc: Global, len: usize) -> Result<ReadLog, Memory>
+        requires low { 1 ≤ len }
+        requires high { len ≤ 4096 }
+        ensures { IfOk result (λ l. l ≡ record { items = []; len = len; generation = 1 }) }
+    {
+        Ok(ReadLog {
+            log: IndexedLog::with_generation(alloc, len, 1)?,
+        })
+    }
+
+    /// Makes the length the greater of its old one and `len`, 1 to 4,096, at the cost of a push an item. Where memory
+    /// is refused the log is as before.
+    pub fn reserve(&mut self, alloc: Global, len: usize) -> Result<(), Memory>
+        requires low { 1 ≤ len }
+        requires high { len ≤ 4096 }
+        ensures { MatchResult result (λ _. self.new ≡ record self.old { len = max self.old.len len }) (λ _. self.new ≡ self.old) }
+    {
+        self.log.reserve(alloc, len)
+    }
+
+    /// Adds the value where the address is new; else the item stays as it is. `Full` comes exactly where the log has its
+    /// length and the address isn't in it, and leaves the log as it was. One lookup.
+    #[inline]
+    pub fn push(&mut self, a: usize, v: u64) -> Push
+        ensures { Pushes self.old a (keep a v self.old.items) result self.new }
+    {
+        self.log.push(a, v, Repeat::Keep)
+    }
+
+    /// The value at the address, if it is in the log. One lookup.
+    #[inline]
+    pub fn find(&self, a: usize) -> Option<u64>
+        ensures { result ≡ item_at a self.now.items }
+    {
+        self.log.find(a)
+    }
+
+    /// How many buckets a find of the address looks at: 1 at least, the number of items plus 1 at most.
+    pub fn probes(&self, a: usize) -> usize
+        ensures low { 1 ≤ result }
+        ensures high { result ≤ length self.now.items + 1 }
+    {
+        self.log.probes(a)
+    }
+
+    /// How many items there are, at most the length. No two have one address.
+    #[inline]
+    pub fn count(&self) -> usize
+        ensures count { result ≡ length self.now.items }
+        ensures within { result ≤ self.now.len }
+        ensures once { Once self.now.items }
+    {
+        self.log.count()
+    }
+
+    /// The address and the value of item `i`, which is below the count, in the order in which the addresses came.
+    #[inline]
+    pub fn item(&self, i: usize) -> (usize, u64)
+        requires { i < length self.now.items }
+        ensures { result ≡ slice_index_or self.now.items i (0, 0) }
+    {
+        self.log.item(i)
+    }
+
+    /// The generation, 1 to 4,294,967,295: 1 more at each `clear`, and 1 again behind the last.
+    pub fn generation(&self) -> u32
+        ensures { result ≡ self.now.generation }
+    {
+        self.log.generation()
+    }
+
+    /// Empties the log and keeps its room. It raises the generation and leaves the index alone, but for the last
+    /// generation, at which it writes each bucket.
+    pub fn clear(&mut self)
+        ensures { self.new ≡ record self.old { items = []; generation = next_generation self.old.generation } }
+    {
+        self.log.clear();
+    }
+}
