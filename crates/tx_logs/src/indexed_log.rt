@@ -4,7 +4,7 @@ ghost use Rattle.std.specs.Prelude.{◌≡◌, ◌≤◌, ◌<◌, ◌+◌, [], 
 ghost use Rattle.stm_model.specs.Memories.{item_at, Once};
 ghost use Rattle.tx_logs.specs.LogStates.{LogState, Pushes, next_generation, pushed};
 
-use crate::index::{Bucket, inverse_of, look_up, clear_marks};
+use crate::index::{Bucket, clear_marks, inverse_of, look_up};
 use crate::push::{Push, Repeat};
 use std::alloc::Global;
 use std::marker::Model;

@@ -9,5 +9,7 @@ pub mod indexed_log;
 pub mod laws;
 pub mod push;
 pub mod read_log;
+#[cfg(test)]
+mod tests;
 pub mod undo_log;
 pub mod write_log;

@@ -5,9 +5,7 @@
 pub enum Push {
     Done,
     /// The log has its length, `limit` items, and the address is in none. The log is as it was.
-    Full {
-        limit: usize,
-    },
+    Full { limit: usize },
 }
 
 /// What a push does at an address that is in the log.
