@@ -1,6 +1,6 @@
 //! The common part of the logs: items of address and value, in the order in which the addresses came, found by
 //! an index.
-ghost use Rattle.std.specs.Prelude.{◌≡◌, ◌≤◌, ◌<◌, ◌+◌, [], IfOk, MatchResult, length, max, slice_index_or};
+ghost use Rattle.std.specs.Prelude.{◌≡◌, ◌≤◌, ◌<◌, ◌+◌, [], IfOk, IsOk, MatchResult, length, max, slice_index_or};
 ghost use Rattle.stm_model.specs.Memories.{item_at, Once};
 ghost use Rattle.tx_logs.specs.LogStates.{LogState, Pushes, next_generation, pushed};
 
@@ -129,12 +129,14 @@ impl IndexedLog {
         Push::Done
     }
 
-    /// Makes the length the greater of its old one and `len`, 1 to 4,096. Where memory is refused the log is as before.
-    /// A greater length costs a push an item into a new log, whose room is taken beside the old one's.
+    /// Makes the length the greater of its old one and `len`, 1 to 4,096. Where memory is refused the log is as before; a
+    /// length that it has already takes none. A greater one costs a push an item into a new log, whose room is taken
+    /// beside the old one's.
     pub fn reserve(&mut self, alloc: Global, len: usize) -> Result<(), Memory>
         requires low { 1 ≤ len }
         requires high { len ≤ 4096 }
-        ensures { MatchResult result (λ _. self.new ≡ record self.old { len = max self.old.len len }) (λ _. self.new ≡ self.old) }
+        ensures reserves { MatchResult result (λ _. self.new ≡ record self.old { len = max self.old.len len }) (λ _. self.new ≡ self.old) }
+        ensures enough { len ≤ self.old.len → IsOk result }
     {
         if len <= self.len {
             return Ok(());
