@@ -13,8 +13,7 @@ use Rattle.bench_core.specs.declared.status.Status.{Status}
 use Rattle.bench_core.specs.declared.status.Status.TheVariants.{Ok as Done, Usage, Refused, ReadFault, WriteFault, Memory, ClockFull}
 use Rattle.bench_core.specs.Commands.{Asks}
 use Rattle.bench_core.specs.Messages.{usage_line, read_fault_line, refused_line, clock_full_line}
-use Rattle.bench_core.specs.Runs.{IsShown, IsFull}
-use Rattle.bench_core.specs.Stepped.{IsTraced, IsCut}
+use Rattle.stm_driver.specs.Runs.{IsShown, IsFull, IsTraced, IsCut}
 use Rattle.stm_trace.specs.declared.line.Line.{Line}
 use Rattle.stm_trace.specs.Texts.{trace_bytes}
 
@@ -145,11 +144,11 @@ module _ {S : Type 0} (left : S → Option (List ℕ)) (faults : S → ℕ) (wor
       pub leaves : last' ≡ last
       pub whole : broken sink' ≡ broken sink
 
-    abbrev pub Ends : Status → Type 0
-    Ends Done = Wrote Done
-    Ends Usage = Wrote Usage
-    Ends (Refused line code) = Wrote (Refused line code)
-    Ends ReadFault = Wrote ReadFault
-    Ends WriteFault = WroteSome
-    Ends Memory = WroteNothing
-    Ends (ClockFull clock) = Wrote (ClockFull clock)
+    abbrev pub IsOutcome : Status → Type 0
+    IsOutcome Done = Wrote Done
+    IsOutcome Usage = Wrote Usage
+    IsOutcome (Refused line code) = Wrote (Refused line code)
+    IsOutcome ReadFault = Wrote ReadFault
+    IsOutcome WriteFault = WroteSome
+    IsOutcome Memory = WroteNothing
+    IsOutcome (ClockFull clock) = Wrote (ClockFull clock)

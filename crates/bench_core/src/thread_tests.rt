@@ -1,7 +1,7 @@
 //! `bench` with several callers, each on a thread.
 use crate::bench::bench;
 use crate::status::Status;
-use crate::turnstile::Open;
+use stm_worker::turnstile::Open;
 use std::alloc::Global;
 use std::sync::Wait;
 use std::test::Fail;

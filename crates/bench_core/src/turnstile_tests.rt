@@ -1,7 +1,7 @@
 //! How often the turnstile is passed.
 use crate::bench::bench;
 use crate::status::Status;
-use crate::turnstile::Turnstile;
+use stm_worker::turnstile::Turnstile;
 use std::sync::atomic::{AtomicUsize, Ordering};
 use std::test::Fail;
 use stm_io::memory::{MemSink, MemSource};
