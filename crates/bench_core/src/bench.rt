@@ -6,14 +6,13 @@ ghost use Rattle.stm_text.specs.declared.parse.Mode.TheVariants.{Run, Step};
 
 use crate::command::asked;
 use crate::messages;
-use stm_driver::outcome::Outcome;
-use stm_driver::run::run;
 use crate::status::Status;
-use stm_driver::step::step;
-use stm_worker::turnstile::Turnstile;
 use std::alloc::Global;
 use std::sync::Wait;
 use std::thread::Threads;
+use stm_driver::outcome::Outcome;
+use stm_driver::run::run;
+use stm_driver::step::step;
 use stm_io::ends::{Failed, Sink, Source};
 use stm_io::whole::{ReadError, put_all, read_all};
 use stm_model::memory::Memory;
@@ -23,6 +22,7 @@ use stm_script::workload::Workload;
 use stm_text::parse::{Mode, ParseError, parse};
 use stm_text::report::report_text;
 use stm_trace::text::trace_text;
+use stm_worker::turnstile::Turnstile;
 
 /// How many bytes of a text are read: one more than a workload's text may have.
 const MOST_READ: usize = 16777217;
