@@ -1,6 +1,7 @@
 //! The top call.
-ghost use Rattle.std.specs.Prelude.{◌≡◌, ◌++◌, IfOk};
+ghost use Rattle.std.specs.Prelude.{◌≡◌, ◌++◌, IfOk, OnErr};
 ghost use Rattle.bench_core.specs.Outcomes.{SaidOfRun, SaidOf, Says, IsOutcome, kept};
+ghost use Rattle.stm_io.specs.Ends.{TookSome};
 ghost use Rattle.stm_text.specs.Built.{IsBuilt};
 ghost use Rattle.stm_text.specs.declared.parse.Mode.TheVariants.{Run, Step};
 
@@ -88,7 +89,8 @@ fn say<R: Threads + Wait + Sync, S: Source, G: Turnstile + Sync>(
     source: &mut S,
     turnstile: &G,
 ) -> Result<Saying, Memory>
-    ensures { IfOk result (λ s. Says S.left S.faults words.now source.old source.new s.status s.closed s.text.items) }
+    ensures says { IfOk result (λ s. Says S.left S.faults words.now source.old source.new s.status s.closed s.text.items) }
+    ensures lost { OnErr result (TookSome 16777217 (S.left source.old) (S.left source.new)) }
 {
     let Some(mode) = asked(words) else {
         return Ok(Saying {
