@@ -6,13 +6,13 @@ use Rattle.std.proofs.lemmas.List.Elements.{All-head, All-tail}
 use Rattle.std.proofs.lemmas.List.Sums.{sum_by-cons}
 use Rattle.atomic_table.specs.Seated.{TableId}
 use Rattle.rule_base.specs.declared.layout.Config.{Config}
-use Rattle.stm_model.specs.Histories.{Entry, made_by}
+use Rattle.stm_model.specs.Histories.{Entry, made_by, IsLegal}
 use Rattle.stm_script.specs.declared.region.Region.{Region}
 use Rattle.stm_script.specs.declared.workload.Go.{Go}
 use Rattle.stm_script.specs.declared.workload.Item.{Item}
 use Rattle.stm_script.specs.declared.workload.Item.TheVariants.{Tx, Switch}
 use Rattle.stm_script.specs.declared.workload.Workload.{Workload}
-use Rattle.stm_script.specs.Reports.{scripts_of}
+use Rattle.stm_script.specs.Reports.{scripts_of, zeros}
 use Rattle.stm_text.specs.Built.{ItemFits as BuiltItem}
 use Rattle.stm_rule.specs.Callers.{Handle}
 use Rattle.stm_rule.specs.Closings.{Ended, Closes, AllTold}
@@ -30,7 +30,7 @@ use Rattle.stm_driver.specs.declared.schedule.Halt.TheVariants.{ClockFull}
 use Rattle.stm_driver.specs.AllWorkers.{AreMadeIdle, MetLimit, descs_of, rows_of}
 use Rattle.stm_driver.specs.ClosedRuns.{CutShort}
 use Rattle.stm_driver.specs.Openings.{config_of}
-use Rattle.stm_driver.specs.Runs.{IsFull, IsCut}
+use Rattle.stm_driver.specs.Runs.{IsHistory, IsFull, IsCut}
 use Rattle.stm_driver.specs.Schedules.{debts, Drives, FoundFull}
 use Rattle.stm_driver.proofs.HistoryLaws.{dealt, ones}
 use Rattle.stm_driver.proofs.IdleLaws.{idle-rises}
@@ -38,6 +38,17 @@ use Rattle.stm_driver.proofs.PartingLaws.{all-cons, total, total-few, all_items,
 use Rattle.stm_driver.proofs.PreparedLaws.{Begun, sizes-of}
 use Rattle.stm_driver.proofs.ReportLaws.{all-made}
 use Rattle.stm_driver.proofs.StandingLaws.{Each, Stood, clock-within, made-few, stood-caller, stood-works, stood-todo, stood-within, rows-total}
+
+-- what is said of the history of a memory that was closed
+pub history-of : {K : Type 0} (good : List ℕ → Type 0) (w : Workload) (config : Config) → config ≡ config_of w.header → (ds : List (Handle K)) (ws : List ℕ) (closed : Ended) → Closes good config ds ws closed → IsHistory w closed
+history-of good w config sized ds ws closed c =
+    let l = c.legal in
+    let any : IsLegal (λ (m : List ℕ). Unit {0}) (zeros config.words) config.clock closed.history =
+    record { ascending = l.ascending; entries = l.entries; reads = l.reads; numbered = l.numbered; good_always = λ s. tt } in
+    record {
+      legal = subst (λ (x : Config). IsLegal (λ (m : List ℕ). Unit {0}) (zeros x.words) x.clock closed.history) sized any;
+      times = c.times;
+    }
 
 -- a transaction was still to begin
 left-some : (n : ℕ) (items : List Item) → BeforeTx items → All (λ i. caller_in i ≡ n) items → 1 ≤ length (scripts_of n items)
@@ -149,7 +160,7 @@ module _ {K : Type 0} (good : List ℕ → Type 0) (w : Workload) (table : Table
       let many = all_items-few 0 (length rs) w.items in
       let made = made-total 0 rs closed stood between c.told in
       let all = all-made good w table config rule items sized (λ (e : Entry). 1) rs ws closed len c ∙ ones closed.history in
-      record { opening = c.opening ∙ opening; found = omega arith; limit = omega arith; left = omega arith; bound = omega arith }
+      record { opening = c.opening ∙ opening; found = omega arith; limit = omega arith; history = history-of good w config sized (descs_of rs) ws closed c; left = omega arith; bound = omega arith }
 
   -- the clock that was found is at its limit, and at most the last
   found-within : (n : ℕ) (vs ws : List (Worker K)) (closed : Ended) (clock : ℕ) → AreMadeIdle table config rule vs ws → AllTold closed n (descs_of ws) → FoundFull vs clock → (2 ^ 62 ≤ clock) × (clock ≤ closed.clock)
@@ -180,5 +191,6 @@ module _ {K : Type 0} (good : List ℕ → Type 0) (w : Workload) (table : Table
         opening = c.closes.opening ∙ opening;
         found = omega (arith, low, high, limit);
         limit = omega (arith, low, high, limit);
+        history = history-of good w config sized (descs_of c.after) c.words closed c.closes;
         bound = omega (arith, low, high, limit, opening, risen, rises, paid, none);
       }

@@ -34,7 +34,7 @@ use Rattle.stm_driver.specs.Preparings.{WorkloadKeeps, IsPrepared}
 use Rattle.stm_driver.specs.Runs.{IsTraced, HasRun, HasStepped}
 use Rattle.stm_driver.specs.Schedules.{places, AreSame, AreSound, Drives}
 use Rattle.stm_driver.proofs.IdleLaws.{idle-still}
-use Rattle.stm_driver.proofs.LimitLaws.{MetSome, full, cut}
+use Rattle.stm_driver.proofs.LimitLaws.{MetSome, full, cut, history-of}
 use Rattle.stm_driver.proofs.PartingLaws.{all-cons, written}
 use Rattle.stm_driver.proofs.PreparedLaws.{AreOwn, Begun, begun, own-callers, own-same, sizes-of}
 use Rattle.stm_driver.proofs.ReportLaws.{shown}
@@ -195,7 +195,7 @@ module _ {K : Type 0} (good : List ℕ → Type 0) (w : Workload) (table : Table
     has-stepped begun ran gos lines (Err (ClockFull found)) (OutOfMemory closed) is b t d c = absurd c
     has-stepped begun ran gos lines (Err Memory) (ToEnd report closed) is b t d c = absurd c
     has-stepped begun ran gos lines (Err Memory) (ToLimit clock closed) is b t d c = absurd c
-    has-stepped begun ran gos lines (Err Memory) (OutOfMemory closed) is b t d c = record { opening = c.closes.opening ∙ ap (λ (x : Config). x.clock) sized }
+    has-stepped begun ran gos lines (Err Memory) (OutOfMemory closed) is b t d c = record { opening = c.closes.opening ∙ ap (λ (x : Config). x.clock) sized; history = history-of good w config sized (descs_of c.after) c.words closed c.closes }
 
 pub driven-between : {K : Type 0} (config : Config) (gos : List Go) (begun ran : List (Worker K)) (lines : List Line) (how : Result (Unit {0}) Halt) → Drives config gos begun ran lines how → OnOk how (All (λ (w : Worker K). w.phase ≡ Between) ran)
 driven-between config gos begun ran lines (Ok x) d = over-between ran d.1
