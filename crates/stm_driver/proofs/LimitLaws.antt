@@ -1,5 +1,5 @@
 -- A clock that was found at its limit is the last one, and what was done can have brought it there.
-use Rattle.std.proofs.Common.{ℕ, zero, suc, ◌≡◌, ◌<◌, ◌≤◌, ◌+◌, ◌*◌, ◌^◌, true, List, [], ◌∷◌, ◌++◌, length, drop, sym, ap, ◌∙◌, arith, subst, inl, inr, length-append}
+use Rattle.std.proofs.Common.{ℕ, zero, suc, ◌≡◌, ◌≤◌, ◌+◌, ◌*◌, ◌^◌, true, List, [], ◌∷◌, length, drop, sym, ap, ◌∙◌, arith, subst, inl, inr, length-append}
 use Rattle.std.specs.Prelude.{◌==◌, ◌⊎◌, if◌then◌else◌, All, sum_by, Err}
 use Rattle.std.proofs.lemmas.Bool.Decides.{nat_tests}
 use Rattle.std.proofs.lemmas.List.Elements.{All-head, All-tail}
@@ -31,7 +31,7 @@ use Rattle.stm_driver.specs.AllWorkers.{AreMadeIdle, MetLimit, descs_of, rows_of
 use Rattle.stm_driver.specs.ClosedRuns.{CutShort}
 use Rattle.stm_driver.specs.Openings.{config_of}
 use Rattle.stm_driver.specs.Runs.{IsHistory, IsFull, IsCut}
-use Rattle.stm_driver.specs.Schedules.{debts, Drives, FoundFull}
+use Rattle.stm_driver.specs.Schedules.{Drives, FoundFull}
 use Rattle.stm_driver.proofs.HistoryLaws.{dealt, ones}
 use Rattle.stm_driver.proofs.IdleLaws.{idle-rises}
 use Rattle.stm_driver.proofs.PartingLaws.{all-cons, total, total-few, all_items, all_items-few}

@@ -26,7 +26,7 @@ use Rattle.stm_driver.specs.declared.schedule.Halt.{Halt}
 use Rattle.stm_driver.specs.declared.schedule.Halt.TheVariants.{ClockFull, Memory}
 use Rattle.stm_driver.specs.declared.workers.Runner.{Runner}
 use Rattle.stm_driver.specs.AllWorkers.{worker_in, workers_in, AreCallers, descs_of, rows_of, first_full, how_of, IsReady, IsThrough, Finished}
-use Rattle.stm_driver.specs.ClosedRuns.{Reported, CutShort, Came}
+use Rattle.stm_driver.specs.ClosedRuns.{Reported, Came}
 use Rattle.stm_driver.specs.Openings.{config_of}
 use Rattle.stm_script.specs.declared.workload.Item.{Item}
 use Rattle.stm_driver.specs.Partings.{parted}

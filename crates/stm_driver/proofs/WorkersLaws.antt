@@ -1,18 +1,15 @@
 -- The workers of all callers, one after the other.
-use Rattle.std.proofs.Common.{ℕ, zero, suc, ◌≡◌, ◌<◌, ◌≤◌, ◌+◌, List, [], ◌∷◌, ◌++◌, length, get_or, set, refl, sym, ap, ◌∙◌, arith, subst}
-use Rattle.std.specs.Prelude.{Option, Some, None}
-use Rattle.std.specs.Option.{option_or}
-use Rattle.std.proofs.lemmas.List.{length-map, get_or-map, map-set}
+use Rattle.std.proofs.Common.{ℕ, zero, suc, ◌≡◌, ◌<◌, ◌≤◌, ◌+◌, List, [], ◌∷◌, ◌++◌, length, get_or, set, refl, ap, ◌∙◌, arith, subst}
+use Rattle.std.proofs.lemmas.List.{length-map, get_or-map}
 use Rattle.atomic_table.specs.Seated.{TableId}
 use Rattle.crossbeam_utils.specs.declared.cache_padded.CachePadded.{CachePadded}
-use Rattle.crossbeam_utils.specs.Padded.{padded_value}
 use Rattle.rule_base.specs.declared.layout.Config.{Config}
 use Rattle.stm_model.specs.declared.alg.Alg.{Alg}
 use Rattle.stm_script.specs.declared.workload.Item.{Item}
 use Rattle.stm_rule.specs.Callers.{Handle}
 use Rattle.stm_worker.specs.declared.worker.Worker.{Worker}
 use Rattle.stm_driver.specs.declared.workers.Runner.{Runner}
-use Rattle.stm_driver.specs.AllWorkers.{AreMade, Finished, MetLimit, IsThrough, worker_in, workers_in, first_full}
+use Rattle.stm_driver.specs.AllWorkers.{AreMade, Finished, worker_in, workers_in}
 use Rattle.stm_worker.specs.Workers.{Starts}
 
 pub made-length : {K : Type 0} (items_for : ℕ → List Item) (alg : Alg) (n : ℕ) (ds : List (Handle K)) (ws : List (Worker K)) → AreMade items_for alg n ds ws → length ws ≡ length ds

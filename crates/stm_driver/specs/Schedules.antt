@@ -1,19 +1,18 @@
 -- What turns of many workers do, and what they say.
-use Rattle.std.specs.Prelude.{ℕ, ◌≡◌, ◌≤◌, ◌+◌, ◌*◌, ◌^◌, ◌⊎◌, true, List, [], ◌∷◌, ◌++◌, length, map, replicate, All, slice_index_or, slice_set, sum_by, Some, None, Result, Ok, Err, IsPermutation}
+use Rattle.std.specs.Prelude.{ℕ, ◌≡◌, ◌≤◌, ◌+◌, ◌*◌, ◌^◌, ◌⊎◌, List, [], ◌∷◌, ◌++◌, length, map, replicate, All, slice_index_or, slice_set, sum_by, Some, None, Result, Ok, Err, IsPermutation}
 use Rattle.atomic_table.specs.Seated.{TableId}
 use Rattle.rule_base.specs.declared.layout.Config.{Config}
 use Rattle.stm_script.specs.declared.report.Row.{Row}
 use Rattle.stm_script.specs.declared.workload.Go.{Go}
 use Rattle.stm_script.specs.declared.workload.Header.{Header}
-use Rattle.stm_rule.specs.Callers.{IsOf, IsSameCaller}
-use Rattle.tx_answers.specs.Known.{IsIdle, owed}
+use Rattle.tx_answers.specs.Known.{owed}
 use Rattle.stm_tx.specs.Descs.{known}
 use Rattle.stm_trace.specs.declared.line.Line.{Line}
 use Rattle.stm_trace.specs.declared.line.Line.TheVariants.{Of}
-use Rattle.stm_trace.specs.declared.said.Phase.TheVariants.{Between, Inside}
+use Rattle.stm_trace.specs.declared.said.Phase.TheVariants.{Between}
 use Rattle.stm_trace.specs.declared.said.Said.{Said}
 use Rattle.stm_trace.specs.Places.{Place, clock_of}
-use Rattle.stm_trace.specs.Turns.{MaySay, MayWind, IsOver, sure}
+use Rattle.stm_trace.specs.Turns.{MaySay, IsOver}
 use Rattle.stm_trace.specs.Fits.{IsWhole, IsCut, all_told}
 use Rattle.stm_trace.specs.Fits as fits
 use Rattle.stm_trace.specs.Played.{Played, Halted}

@@ -1,5 +1,5 @@
-use Rattle.std.proofs.Common.{ap, sym, ◌∙◌, length, subst, ◌≡◌, ◌≤◌, refl, List, ℕ}
-use Rattle.std.specs.Prelude.{vec_capacity, OnOk, All, Ok, Err}
+use Rattle.std.proofs.Common.{ap, sym, ◌∙◌, length, subst, ◌≡◌, ◌≤◌, refl}
+use Rattle.std.specs.Prelude.{vec_capacity, OnOk, All, Err}
 use Rattle.stm_rule.specs.Callers.{AllIdle}
 use Rattle.stm_rule.specs.Closings.{Closes}
 use Rattle.stm_trace.specs.declared.said.Phase.TheVariants.{Between}

@@ -1,11 +1,11 @@
-use Rattle.std.proofs.Common.{◌≡◌, ◌<◌, ◌≤◌, ℕ, List, length, take, drop, ◌++◌, sym, ap, ◌∙◌, subst, arith}
-use Rattle.std.specs.Prelude.{All, vec_capacity}
+use Rattle.std.proofs.Common.{◌≡◌, length, take, drop, ◌++◌, sym, ap, ◌∙◌, subst, arith}
+use Rattle.std.specs.Prelude.{All}
 use Rattle.rule_base.specs.declared.layout.Config.{Config}
 use Rattle.stm_script.specs.Parts.{ReportReplays}
 use Rattle.stm_trace.specs.declared.said.Phase.TheVariants.{Between}
 use Rattle.stm_worker.specs.declared.worker.Worker.{Worker}
 use Rattle.stm_driver.specs.declared.outcome.Outcome.{Outcome}
-use Rattle.stm_driver.specs.AllWorkers.{IsReady, workers_in, rows_of, first_full, how_of}
+use Rattle.stm_driver.specs.AllWorkers.{IsReady, workers_in, first_full, how_of}
 use Rattle.stm_driver.specs.ClosedRuns.{Came}
 use Rattle.stm_driver.specs.Partings.{parted}
 use Rattle.stm_driver.specs.Preparings.{WorkloadKeeps}

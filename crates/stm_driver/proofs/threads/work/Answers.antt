@@ -1,5 +1,4 @@
-use Rattle.std.proofs.Common.{◌∙◌}
-use Rattle.stm_driver.proofs.ScheduleLaws.{worker-trans, self-same}
+use Rattle.stm_driver.proofs.ScheduleLaws.{self-same}
 use Rattle.stm_driver.proofs.threads.work.Goals as goal
 
 pub loop-init : goal.loop-init

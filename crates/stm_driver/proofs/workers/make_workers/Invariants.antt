@@ -1,7 +1,7 @@
 use Rattle.std.proofs.Common.{◌≡◌, ◌≤◌, ◌+◌, ◌++◌, [], length}
 use Rattle.std.specs.Prelude.{slice_index_or, vec_len, vec_capacity}
 use Rattle.std.specs.Vec.Iter.{into_iter_items, into_iter_len}
-use Rattle.stm_driver.specs.AllWorkers.{AreMade, worker_in, workers_in}
+use Rattle.stm_driver.specs.AllWorkers.{AreMade, workers_in}
 use Rattle.stm_driver.proofs.workers.make_workers.Given as goal
 
 abbrev pub invariant-loop-desc : goal.invariant-loop-desc
