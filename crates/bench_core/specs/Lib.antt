@@ -1,14 +1,4 @@
-pub mod Goings
-pub mod Workers
-pub mod Runs
-pub mod Firsts
-pub mod Shares
-pub mod Crews
 pub mod Commands
 pub mod Messages
 pub mod Outcomes
 pub mod Statuses
-pub mod Staff
-pub mod Steps
-pub mod Settles
-pub mod Stepped

@@ -1,8 +1,8 @@
 -- What a call of `bench` read and wrote, by the status that it answers.
-use Rattle.std.specs.Prelude.{ℕ, ◌≡◌, ◌++◌, List, Option, Some, None, Ok, Err, MatchOption}
+use Rattle.std.specs.Prelude.{ℕ, ◌≡◌, ◌≤◌, ◌++◌, length, List, Option, Some, None, Ok, Err, MatchOption}
 use Rattle.std.specs.Borrow.{Bor}
 use Rattle.stm_rule.specs.Closings.{Ended}
-use Rattle.stm_io.specs.Ends.{Rose, IsText, Gained, GainedSome}
+use Rattle.stm_io.specs.Ends.{Rose, IsText, Took, TookSome, Gained, GainedSome}
 use Rattle.stm_script.specs.declared.report.Report.{Report}
 use Rattle.stm_script.specs.declared.workload.Workload.{Workload}
 use Rattle.stm_text.specs.declared.parse.Mode.{Mode}
@@ -13,8 +13,7 @@ use Rattle.bench_core.specs.declared.status.Status.{Status}
 use Rattle.bench_core.specs.declared.status.Status.TheVariants.{Ok as Done, Usage, Refused, ReadFault, WriteFault, Memory, ClockFull}
 use Rattle.bench_core.specs.Commands.{Asks}
 use Rattle.bench_core.specs.Messages.{usage_line, read_fault_line, refused_line, clock_full_line}
-use Rattle.bench_core.specs.Runs.{IsShown, IsFull}
-use Rattle.bench_core.specs.Stepped.{IsTraced, IsCut}
+use Rattle.stm_driver.specs.Runs.{IsShown, IsFull, IsTraced, IsCut}
 use Rattle.stm_trace.specs.declared.line.Line.{Line}
 use Rattle.stm_trace.specs.Texts.{trace_bytes}
 
@@ -98,14 +97,18 @@ module _ {S : Type 0} (left : S → Option (List ℕ)) (faults : S → ℕ) (wor
     pub command : Mode
     pub words_are : Asks command words
     pub cause : Rose (faults source) (faults source')
+    -- what was taken until then is gone
+    pub lost : TookSome 16777217 (left source) (left source')
     pub is : said ≡ read_fault_line
 
-  -- all that was left was read, or its first 16,777,217 bytes
+  -- all that was left was read, or its first 16,777,217 bytes, and nothing more is gone from the source
   pub record HasRead (status : Status) (closed : Option Ended) (said : List ℕ) : Type 0 where
     pub command : Mode
     pub words_are : Asks command words
     pub text : List ℕ
     pub read : IsText 16777217 (left source) text
+    pub within : length text ≤ 16777217
+    pub taken : Took (left source) (left source') text
     pub calm : faults source' ≡ faults source
     pub of : SaidOf command text status closed said
 
@@ -139,17 +142,18 @@ module _ {S : Type 0} (left : S → Option (List ℕ)) (faults : S → ℕ) (wor
       pub some : GainedSome (held sink) (held sink') said
       pub cause : Rose (broken sink) (broken sink')
 
-    -- nothing was written
+    -- nothing was written, and at most the first 16,777,217 bytes of the source were taken
     pub record WroteNothing : Type 0 where
+      pub lost : TookSome 16777217 (left source) (left source')
       pub nothing : held sink' ≡ held sink
       pub leaves : last' ≡ last
       pub whole : broken sink' ≡ broken sink
 
-    abbrev pub Ends : Status → Type 0
-    Ends Done = Wrote Done
-    Ends Usage = Wrote Usage
-    Ends (Refused line code) = Wrote (Refused line code)
-    Ends ReadFault = Wrote ReadFault
-    Ends WriteFault = WroteSome
-    Ends Memory = WroteNothing
-    Ends (ClockFull clock) = Wrote (ClockFull clock)
+    abbrev pub IsOutcome : Status → Type 0
+    IsOutcome Done = Wrote Done
+    IsOutcome Usage = Wrote Usage
+    IsOutcome (Refused line code) = Wrote (Refused line code)
+    IsOutcome ReadFault = Wrote ReadFault
+    IsOutcome WriteFault = WroteSome
+    IsOutcome Memory = WroteNothing
+    IsOutcome (ClockFull clock) = Wrote (ClockFull clock)

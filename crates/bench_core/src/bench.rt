@@ -1,26 +1,29 @@
 //! The top call.
-ghost use Rattle.std.specs.Prelude.{◌≡◌, ◌++◌, IfOk};
-ghost use Rattle.bench_core.specs.Outcomes.{SaidOfRun, SaidOf, Says, Ends, kept};
+ghost use Rattle.std.specs.Prelude.{◌≡◌, ◌++◌, IfOk, OnErr};
+ghost use Rattle.bench_core.specs.Outcomes.{SaidOfRun, SaidOf, Says, IsOutcome, kept};
+ghost use Rattle.stm_io.specs.Ends.{TookSome};
 ghost use Rattle.stm_text.specs.Built.{IsBuilt};
 ghost use Rattle.stm_text.specs.declared.parse.Mode.TheVariants.{Run, Step};
 
 use crate::command::asked;
 use crate::messages;
-use crate::run::{Ran, run};
 use crate::status::Status;
-use crate::step::{Stepped, step};
-use crate::turnstile::Turnstile;
 use std::alloc::Global;
 use std::sync::Wait;
 use std::thread::Threads;
+use stm_driver::outcome::Outcome;
+use stm_driver::run::run;
+use stm_driver::step::step;
 use stm_io::ends::{Failed, Sink, Source};
 use stm_io::whole::{ReadError, put_all, read_all};
 use stm_model::memory::Memory;
+use stm_model::rule::AnyMem;
 use stm_rule::ending::Closed;
 use stm_script::workload::Workload;
 use stm_text::parse::{Mode, ParseError, parse};
 use stm_text::report::report_text;
 use stm_trace::text::trace_text;
+use stm_worker::turnstile::Turnstile;
 
 /// How many bytes of a text are read: one more than a workload's text may have.
 const MOST_READ: usize = 16777217;
@@ -55,7 +58,7 @@ pub fn bench<R: Threads + Wait + Sync, S: Source, K: Sink, G: Turnstile + Sync>(
     turnstile: &G,
     last: &mut Option<Closed>,
 ) -> Status
-    ensures { Ends S.left S.faults words.now source.old source.new K.held K.faults sink.old sink.new last.old last.new result }
+    ensures { IsOutcome S.left S.faults words.now source.old source.new K.held K.faults sink.old sink.new last.old last.new result }
 {
     let Ok(saying) = say(rt, alloc, words, source, turnstile) else {
         return Status::Memory;
@@ -86,7 +89,8 @@ fn say<R: Threads + Wait + Sync, S: Source, G: Turnstile + Sync>(
     source: &mut S,
     turnstile: &G,
 ) -> Result<Saying, Memory>
-    ensures { IfOk result (λ s. Says S.left S.faults words.now source.old source.new s.status s.closed s.text.items) }
+    ensures says { IfOk result (λ s. Says S.left S.faults words.now source.old source.new s.status s.closed s.text.items) }
+    ensures lost { OnErr result (TookSome 16777217 (S.left source.old) (S.left source.new)) }
 {
     let Some(mode) = asked(words) else {
         return Ok(Saying {
@@ -140,17 +144,18 @@ fn report<R: Threads + Wait + Sync, G: Turnstile + Sync>(
     requires { IsBuilt Run workload }
     ensures { IfOk result (λ s. SaidOfRun Run workload s.status s.closed s.text.items) }
 {
-    match run(rt, alloc, workload, turnstile)? {
-        Ran::ToEnd { report, closed } => Ok(Saying {
+    match run(rt, alloc, AnyMem, workload, turnstile)? {
+        Outcome::ToEnd { report, closed } => Ok(Saying {
             status: Status::Ok,
             text: report_text(alloc, &report)?,
             closed: Some(closed),
         }),
-        Ran::ToLimit { clock, closed } => Ok(Saying {
+        Outcome::ToLimit { clock, closed } => Ok(Saying {
             status: Status::ClockFull { clock },
             text: messages::clock_full(alloc, clock)?,
             closed: Some(closed),
         }),
+        Outcome::OutOfMemory { closed: _ } => Err(Memory),
     }
 }
 
@@ -159,12 +164,9 @@ fn trace<R: Wait>(rt: &R, alloc: Global, workload: Workload) -> Result<Saying, M
     requires { IsBuilt Step workload }
     ensures { IfOk result (λ s. SaidOfRun Step workload s.status s.closed s.text.items) }
 {
-    match step(rt, alloc, workload)? {
-        Stepped::ToEnd {
-            lines,
-            report,
-            closed,
-        } => Ok(Saying {
+    let (lines, outcome) = step(rt, alloc, AnyMem, workload)?;
+    match outcome {
+        Outcome::ToEnd { report, closed } => Ok(Saying {
             status: Status::Ok,
             text: behind(
                 trace_text(alloc, lines.as_slice())?,
@@ -172,11 +174,7 @@ fn trace<R: Wait>(rt: &R, alloc: Global, workload: Workload) -> Result<Saying, M
             )?,
             closed: Some(closed),
         }),
-        Stepped::ToLimit {
-            lines,
-            clock,
-            closed,
-        } => Ok(Saying {
+        Outcome::ToLimit { clock, closed } => Ok(Saying {
             status: Status::ClockFull { clock },
             text: behind(
                 trace_text(alloc, lines.as_slice())?,
@@ -184,6 +182,7 @@ fn trace<R: Wait>(rt: &R, alloc: Global, workload: Workload) -> Result<Saying, M
             )?,
             closed: Some(closed),
         }),
+        Outcome::OutOfMemory { closed: _ } => Err(Memory),
     }
 }
 

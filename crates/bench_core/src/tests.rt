@@ -1,12 +1,12 @@
 //! `bench` over sources and sinks in memory.
 use crate::bench::bench;
 use crate::status::Status;
-use crate::turnstile::Open;
 use std::alloc::Global;
 use std::sync::Wait;
 use std::test::Fail;
 use std::thread::Threads;
 use stm_io::memory::{MemSink, MemSource};
+use stm_worker::turnstile::Open;
 
 const HEADER: &str =
     "stm 1\nwords 8\ncallers 1\nrecords 4\nring 4\nreads 256\nwrites 256\nclock 0\nalg CGL\nstructs off\n";

@@ -1,12 +1,12 @@
 //! `bench` with several callers, each on a thread.
 use crate::bench::bench;
 use crate::status::Status;
-use crate::turnstile::Open;
 use std::alloc::Global;
 use std::sync::Wait;
 use std::test::Fail;
 use std::thread::Threads;
 use stm_io::memory::{MemSink, MemSource};
+use stm_worker::turnstile::Open;
 
 /// The text of a workload of so many callers, each of which has so many transactions of 20 additions of 1 to
 /// word 3.

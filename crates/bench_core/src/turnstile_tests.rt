@@ -1,10 +1,10 @@
 //! How often the turnstile is passed.
 use crate::bench::bench;
 use crate::status::Status;
-use crate::turnstile::Turnstile;
 use std::sync::atomic::{AtomicUsize, Ordering};
 use std::test::Fail;
 use stm_io::memory::{MemSink, MemSource};
+use stm_worker::turnstile::Turnstile;
 
 /// Counts how often each of two callers passes, and the passes whose `seq` isn't the count before them.
 #[derive(Drop)]

@@ -1,0 +1,14 @@
+mod StartLaws
+mod OrderLaws
+mod PartingLaws
+mod HistoryLaws
+mod WorkersLaws
+mod OpeningLaws
+mod ScheduleLaws
+mod RoundLaws
+mod IdleLaws
+mod PreparedLaws
+mod StandingLaws
+mod ReportLaws
+mod LimitLaws
+mod OutcomeLaws

@@ -1,0 +1,202 @@
+-- From the workers before the first turn to what a run came to.
+use Rattle.std.proofs.Common.{ℕ, suc, ◌≡◌, ◌<◌, ◌≤◌, List, [], ◌∷◌, ◌++◌, length, get_or, take, drop, refl, sym, ap, ◌∙◌, arith, subst, inl, inr}
+use Rattle.std.specs.Prelude.{Option, Some, None, Result, Ok, Err, IfOk, OnOk, All, IsPermutation}
+use Rattle.std.specs.Option.{option_or}
+use Rattle.std.proofs.lemmas.List.Elements.{All-head, All-tail}
+use Rattle.atomic_table.specs.Seated.{TableId}
+use Rattle.crossbeam_utils.specs.declared.cache_padded.CachePadded.{CachePadded}
+use Rattle.crossbeam_utils.specs.Padded.{padded_value}
+use Rattle.rule_base.specs.declared.layout.Config.{Config}
+use Rattle.stm_script.specs.declared.report.Report.{Report}
+use Rattle.stm_script.specs.declared.workload.Go.{Go}
+use Rattle.stm_script.specs.declared.workload.Workload.{Workload}
+use Rattle.stm_script.specs.Parts.{ReportReplays}
+use Rattle.stm_text.specs.Built.{ItemFits as BuiltItem}
+use Rattle.stm_rule.specs.Closings.{Ended, Closes}
+use Rattle.stm_trace.specs.declared.line.Line.{Line}
+use Rattle.stm_trace.specs.declared.said.Phase.TheVariants.{Between}
+use Rattle.stm_trace.specs.Fits.{all_told, first_places}
+use Rattle.stm_trace.specs.Fits as fits
+use Rattle.stm_trace.specs.Turns.{IsOver}
+use Rattle.stm_worker.specs.declared.worker.Worker.{Worker}
+use Rattle.stm_worker.specs.Workers.{place_of, Sound}
+use Rattle.stm_driver.specs.declared.outcome.Outcome.{Outcome}
+use Rattle.stm_driver.specs.declared.outcome.Outcome.TheVariants.{ToEnd, ToLimit, OutOfMemory}
+use Rattle.stm_driver.specs.declared.schedule.Halt.{Halt}
+use Rattle.stm_driver.specs.declared.schedule.Halt.TheVariants.{ClockFull, Memory}
+use Rattle.stm_driver.specs.declared.workers.Runner.{Runner}
+use Rattle.stm_driver.specs.AllWorkers.{worker_in, workers_in, AreCallers, descs_of, rows_of, first_full, how_of, IsReady, IsThrough, Finished}
+use Rattle.stm_driver.specs.ClosedRuns.{Reported, Came}
+use Rattle.stm_driver.specs.Openings.{config_of}
+use Rattle.stm_script.specs.declared.workload.Item.{Item}
+use Rattle.stm_driver.specs.Partings.{parted}
+use Rattle.stm_driver.specs.Preparings.{WorkloadKeeps, IsPrepared}
+use Rattle.stm_driver.specs.Runs.{IsTraced, HasRun, HasStepped}
+use Rattle.stm_driver.specs.Schedules.{places, AreSame, AreSound, Drives}
+use Rattle.stm_driver.proofs.IdleLaws.{idle-still}
+use Rattle.stm_driver.proofs.LimitLaws.{MetSome, full, cut, history-of}
+use Rattle.stm_driver.proofs.PartingLaws.{all-cons, written}
+use Rattle.stm_driver.proofs.PreparedLaws.{AreOwn, Begun, begun, own-callers, own-same, sizes-of}
+use Rattle.stm_driver.proofs.ReportLaws.{shown}
+use Rattle.stm_driver.proofs.ScheduleLaws.{same-length}
+use Rattle.stm_driver.proofs.StandingLaws.{Each, Stood, stood-each, rows-few}
+use Rattle.stm_driver.proofs.WorkersLaws.{workers-length}
+
+pub if-ok : {A E : Type 0} (P Q : A → Type 0) (r : Result A E) → ((a : A) → P a → Q a) → IfOk r P → IfOk r Q
+if-ok P Q (Ok a) f h = f a h
+if-ok P Q (Err e) f h = tt
+
+module _ {K : Type 0} where
+  told-rows : (ws : List (Worker K)) → all_told (places ws) ≡ rows_of ws
+  told-rows [] = refl
+  told-rows (w ∷ ws) = ap (λ rows. w.rows.items ++ rows) (told-rows ws)
+
+  -- each ran on its thread until it was through
+  abbrev AllThrough : List (CachePadded (Runner K)) → Type 0
+  AllThrough [] = Unit {0}
+  AllThrough (r ∷ rs) = IsThrough (worker_in r) (padded_value r).full × AllThrough rs
+
+  met-some : (rs : List (CachePadded (Runner K))) (clock : ℕ) → AllThrough rs → first_full rs ≡ Some clock → MetSome (workers_in rs) clock
+  met-some [] clock h is = absurd cc
+  met-some (r ∷ rs) clock h is = by (padded_value r).full h.0 is (met-some rs clock h.1)
+    where
+      by : (full : Option ℕ) → IsThrough (worker_in r) full → option_or full (first_full rs) ≡ Some clock → (first_full rs ≡ Some clock → MetSome (workers_in rs) clock) → MetSome (workers_in (r ∷ rs)) clock
+      by None through is more = inr (more is)
+      by (Some found) through is more = (let same : found ≡ clock = cc in inl (subst (λ (c : ℕ). IsThrough (worker_in r) (Some c)) same through))
+
+  none-left : (rs : List (CachePadded (Runner K))) → AllThrough rs → All (λ (w : Worker K). w.phase ≡ Between) (workers_in rs) → first_full rs ≡ None → All IsOver (places (workers_in rs))
+  none-left [] h between is = λ i d lt. absurd (omega (arith, lt))
+  none-left (r ∷ rs) h between is = by (padded_value r).full h.0 is (none-left rs h.1 (All-tail P (worker_in r) (workers_in rs) between))
+    where
+      P : Worker K → Type 0
+      P w = w.phase ≡ Between
+
+      by : (full : Option ℕ) → IsThrough (worker_in r) full → option_or full (first_full rs) ≡ None → (first_full rs ≡ None → All IsOver (places (workers_in rs))) → All IsOver (places (workers_in (r ∷ rs)))
+      by None through is more = all-cons IsOver (place_of (worker_in r)) (places (workers_in rs)) (All-head (λ (w : Worker K). w.phase ≡ Between) (worker_in r) (workers_in rs) between, through) (more is)
+      by (Some found) through is more = absurd cc
+
+  over-between : (ws : List (Worker K)) → All IsOver (places ws) → All (λ (w : Worker K). w.phase ≡ Between) ws
+  over-between [] over = λ i d lt. absurd (omega (arith, lt))
+  over-between (w ∷ ws) over =
+      all-cons (λ (w : Worker K). w.phase ≡ Between) w ws (All-head IsOver (place_of w) (places ws) over).0 (over-between ws (All-tail IsOver (place_of w) (places ws) over))
+
+  pub how-between : (ws : List (Worker K)) (found : Option ℕ) (how : Result (Unit {0}) Halt) → how ≡ how_of found → All (λ (w : Worker K). w.phase ≡ Between) ws → OnOk how (All (λ (w : Worker K). w.phase ≡ Between) ws)
+  how-between ws found (Ok x) is between = between
+  how-between ws found (Err halt) is between = tt
+
+module _ {K : Type 0} (good : List ℕ → Type 0) (w : Workload) (table : TableId) (config : Config) (rule : K) (items : All (BuiltItem w.header) w.items) (sized : config ≡ config_of w.header) where
+  -- the workers after their turns, as closing wants them
+  pub record Turned (ran : List (Worker K)) : Type 0 where
+    pub sound : AreSound good table config rule ran
+    pub own : AreOwn w 0 ran
+    pub callers : AreCallers 0 ran
+    pub count : length ran ≡ config.callers
+    pub rows : length (rows_of ran) ≤ length w.items
+
+  pub turned : (begun ran : List (Worker K)) → Begun good w table config rule items sized begun → AreSame begun ran → AreSound good table config rule ran → Turned ran
+  turned begun ran b same sound =
+      let own = own-same w 0 begun ran same b.own in
+      let count = same-length begun ran same in
+      let many = b.count in
+      let sizes = ap (λ (c : Config). c.callers) sized in
+      record {
+        sound = sound;
+        own = own;
+        callers = own-callers w 0 ran own;
+        count = omega (arith, count, many, sizes);
+        rows = rows-few good w table config rule sized 0 ran (stood-each good w table config rule sized 0 ran sound own);
+      }
+
+  stands : (ran : List (Worker K)) → Turned ran → Each (Stood good w table config rule sized) 0 ran
+  stands ran t = stood-each good w table config rule sized 0 ran t.sound t.own
+
+  -- the workers, lent as a slice for their turns, and what came back
+  pub record Done (rs ran left : List (CachePadded (Runner K))) : Type 0 where
+    pub begun : Begun good w table config rule items sized (workers_in rs)
+    pub is : left ≡ ran
+    pub turned : Turned (workers_in left)
+
+  pub done : WorkloadKeeps good w → (parts : List (List Item)) → parts ≡ parted w.header.callers w.items → (rs lent ran : List (CachePadded (Runner K))) (n : ℕ) → IsPrepared w.header parts table config rule (workers_in rs) → lent ≡ rs → length lent ≡ n
+      → AreSame (workers_in lent) (workers_in ran) → AreSound good table config rule (workers_in ran) → Done rs ran (take n (ran ++ drop (length ran) rs))
+  done keeps parts parting rs lent ran n p same long kept sound =
+      let first = begun good w table config rule items sized keeps parts (workers_in rs) parting p in
+      let also = ap length same in
+      let count = same-length (workers_in lent) (workers_in ran) kept in
+      let a = workers-length lent in
+      let b = workers-length ran in
+      let is = written n ran rs (omega (arith, also, long, count, a, b)) (omega (arith, also, long)) in
+      record {
+        begun = first;
+        is = is;
+        turned = subst (λ l. Turned (workers_in l)) (sym is) (turned (workers_in rs) (workers_in ran) first (subst (λ l. AreSame (workers_in l) (workers_in ran)) same kept) sound);
+      }
+
+  -- what all threads did
+  pub record RanAll (lent ran : List (CachePadded (Runner K))) : Type 0 where
+    pub same : AreSame (workers_in lent) (workers_in ran)
+    pub sound : AreSound good table config rule (workers_in ran)
+    pub between : All (λ (w : Worker K). w.phase ≡ Between) (workers_in ran)
+    pub through : AllThrough ran
+
+  pub ran-all : (lent ran : List (CachePadded (Runner K))) → length ran ≡ length lent → ((i : ℕ) (d : CachePadded (Runner K)) → i < length lent → Finished good table config rule (get_or lent i d) (get_or ran i d)) → RanAll lent ran
+  ran-all [] [] len h = record { same = tt; sound = λ i d lt. absurd (omega (arith, lt)); between = λ i d lt. absurd (omega (arith, lt)); through = tt }
+  ran-all [] (s ∷ ran) len h = absurd cc
+  ran-all (r ∷ lent) [] len h = absurd cc
+  ran-all (r ∷ lent) (s ∷ ran) len h =
+      let one = h 0 r (omega arith) in
+      let rest = ran-all lent ran (omega (arith, len)) (λ i d lt. h (suc i) d (omega (arith, lt))) in
+      record {
+        same = (one.same, rest.same);
+        sound = all-cons (Sound good table config rule) (worker_in s) (workers_in ran) one.sound rest.sound;
+        between = all-cons (λ (w : Worker K). w.phase ≡ Between) (worker_in s) (workers_in ran) one.between rest.between;
+        through = (one.through, rest.through);
+      }
+
+  pub all-ready : (rs : List (CachePadded (Runner K))) → AreSound good table config rule (workers_in rs) → All (IsReady good table config rule) rs
+  all-ready [] s = λ i d lt. absurd (omega (arith, lt))
+  all-ready (r ∷ rs) s =
+      all-cons (IsReady good table config rule) r rs (record { sound = All-head (Sound good table config rule) (worker_in r) (workers_in rs) s }) (all-ready rs (All-tail (Sound good table config rule) (worker_in r) (workers_in rs) s))
+
+  module _ (theorem : ReportReplays good) where
+    -- what `run` came to
+    pub has-run : (lent ran : List (CachePadded (Runner K))) (how : Result (Unit {0}) Halt) (outcome : Outcome) → RanAll lent ran → Turned (workers_in ran) → how ≡ how_of (first_full ran) → Came good config table rule (workers_in ran) how outcome → HasRun w outcome
+    has-run lent ran how outcome r t is came = by (first_full ran) refl outcome (subst (λ h. Came good config table rule (workers_in ran) h outcome) is came)
+      where
+        by : (full : Option ℕ) → first_full ran ≡ full → (o : Outcome) → Came good config table rule (workers_in ran) (how_of full) o → HasRun w o
+        by None e (ToEnd report closed) c = shown good w table config rule items sized theorem (workers_in ran) c.words closed report (stands (workers_in ran) t) t.count (none-left ran r.through r.between e) c.closes c.is
+        by None e (ToLimit clock closed) c = absurd c
+        by None e (OutOfMemory closed) c = absurd c
+        by (Some found) e (ToEnd report closed) c = absurd c
+        by (Some found) e (ToLimit clock closed) c =
+            let after = idle-still table config rule (workers_in ran) c.1.after r.between c.1.idle in
+            full good w table config rule items sized (workers_in ran) c.1.words closed clock (stands (workers_in ran) t) r.between t.count (met-some ran clock r.through (e ∙ ap Some (sym c.0)))
+            (subst (λ ws. Closes good config (descs_of ws) c.1.words closed) after c.1.closes)
+        by (Some found) e (OutOfMemory closed) c = absurd c
+
+    traced : (begun ran : List (Worker K)) (gos : List Go) (lines : List Line) (report : Report) (closed : Ended) → gos ≡ w.schedule → Begun good w table config rule items sized begun → Turned ran → Drives config gos begun ran lines (Ok tt)
+        → Reported good config ran report closed → IsTraced w lines report closed
+    traced begun ran gos lines report closed is b t drives r =
+        let whole = drives.0 w.header (sizes-of config w.header sized) report.rows (subst (λ rows. IsPermutation rows report.rows) (sym (told-rows ran)) r.is.moved) in
+        let sorted = subst (λ ps. fits.IsWhole w.header ps gos lines report.rows) b.starts whole in
+        record {
+          fits = subst (λ s. fits.IsWhole w.header (first_places w) s lines report.rows) is sorted;
+          shown = shown good w table config rule items sized theorem ran r.words closed report (stands ran t) t.count drives.1 r.closes r.is;
+        }
+
+    -- what `step` came to
+    pub has-stepped : (begun ran : List (Worker K)) (gos : List Go) (lines : List Line) (how : Result (Unit {0}) Halt) (outcome : Outcome) → gos ≡ w.schedule → Begun good w table config rule items sized begun → Turned ran → Drives config gos begun ran lines how
+        → Came good config table rule ran how outcome → HasStepped w lines outcome
+    has-stepped begun ran gos lines (Ok x) (ToEnd report closed) is b t d c = traced begun ran gos lines report closed is b t d c
+    has-stepped begun ran gos lines (Ok x) (ToLimit clock closed) is b t d c = absurd c
+    has-stepped begun ran gos lines (Ok x) (OutOfMemory closed) is b t d c = absurd c
+    has-stepped begun ran gos lines (Err (ClockFull found)) (ToEnd report closed) is b t d c = absurd c
+    has-stepped begun ran gos lines (Err (ClockFull found)) (ToLimit clock closed) is b t d c =
+        cut good w table config rule items sized begun ran gos lines clock closed is b (subst (λ k. Drives config gos begun ran lines (Err (ClockFull k))) (sym c.0) d) c.1
+    has-stepped begun ran gos lines (Err (ClockFull found)) (OutOfMemory closed) is b t d c = absurd c
+    has-stepped begun ran gos lines (Err Memory) (ToEnd report closed) is b t d c = absurd c
+    has-stepped begun ran gos lines (Err Memory) (ToLimit clock closed) is b t d c = absurd c
+    has-stepped begun ran gos lines (Err Memory) (OutOfMemory closed) is b t d c = record { opening = c.closes.opening ∙ ap (λ (x : Config). x.clock) sized; history = history-of good w config sized (descs_of c.after) c.words closed c.closes }
+
+pub driven-between : {K : Type 0} (config : Config) (gos : List Go) (begun ran : List (Worker K)) (lines : List Line) (how : Result (Unit {0}) Halt) → Drives config gos begun ran lines how → OnOk how (All (λ (w : Worker K). w.phase ≡ Between) ran)
+driven-between config gos begun ran lines (Ok x) d = over-between ran d.1
+driven-between config gos begun ran lines (Err halt) d = tt

@@ -1,0 +1,141 @@
+-- From workers whose items are all done to the report.
+use Rattle.std.proofs.Common.{ℕ, zero, suc, ◌≡◌, ◌≤◌, ◌++◌, List, [], ◌∷◌, length, get_or, drop, map, refl, sym, ap, ◌∙◌, arith, subst}
+use Rattle.std.specs.Prelude.{All, Contains, sum_by, IsPermutation, slice_index_or}
+use Rattle.std.proofs.lemmas.List.{append-nil}
+use Rattle.std.proofs.lemmas.List.Elements.{All-head, All-tail}
+use Rattle.std.proofs.lemmas.List.Sums.{sum_by-cons}
+use Rattle.atomic_table.specs.Seated.{TableId}
+use Rattle.rule_base.specs.declared.layout.Config.{Config}
+use Rattle.stm_model.specs.Histories.{Entry, made_by, memory_at, IsLegal}
+use Rattle.stm_script.specs.declared.region.Region.{Region}
+use Rattle.stm_script.specs.declared.report.Report.{Report}
+use Rattle.stm_script.specs.declared.report.Row.{Row}
+use Rattle.stm_script.specs.declared.workload.Item.{Item}
+use Rattle.stm_script.specs.declared.workload.Workload.{Workload}
+use Rattle.stm_script.specs.Parts.{Part, PartIn, IsGathered, ReportReplays, Worked, RowOf, RowIn, by_kind, all_rows}
+use Rattle.stm_script.specs.Reports.{scripts_of, script_of, nonzero, zeros, counted, Shows, RowFits}
+use Rattle.stm_text.specs.Built.{ItemFits as BuiltItem}
+use Rattle.stm_rule.specs.Callers.{Handle}
+use Rattle.stm_rule.specs.Closings.{Ended, Closes, Told, AllTold, installs_of}
+use Rattle.tx_answers.specs.Known.{caller_of}
+use Rattle.stm_tx.specs.Descs.{known}
+use Rattle.stm_trace.specs.Places.{items_of}
+use Rattle.stm_trace.specs.Turns.{IsOver}
+use Rattle.stm_worker.specs.declared.worker.Worker.{Worker}
+use Rattle.stm_worker.specs.Workers.{place_of, switches_of}
+use Rattle.stm_driver.specs.AllWorkers.{descs_of, rows_of}
+use Rattle.stm_driver.specs.ClosedRuns.{IsReport}
+use Rattle.stm_driver.specs.Openings.{config_of}
+use Rattle.stm_driver.specs.Runs.{installs_for, IsShown}
+use Rattle.stm_driver.specs.Schedules.{places}
+use Rattle.stm_driver.proofs.HistoryLaws.{dealt, dealt-all, all-below, made-own, made-within}
+use Rattle.stm_driver.proofs.PartingLaws.{all-cons, scripts-own}
+use Rattle.stm_driver.proofs.PreparedLaws.{item-fits}
+use Rattle.stm_driver.proofs.StandingLaws.{Each, Stood, stood-caller, stood-works, stood-todo, stood-within}
+
+drop-none : {A : Type 0} (n : ℕ) (xs : List A) → [] ≡ drop n xs → length xs ≤ n
+drop-none n [] h = omega arith
+drop-none zero (x ∷ xs) h = absurd cc
+drop-none (suc n) (x ∷ xs) h = let r = drop-none n xs h in omega arith
+
+-- the rows of a caller, whose scripts another list has too
+reworked : (good : List ℕ → Type 0) (opening : List ℕ) (regions : List Region) (all items : List Item) (n : ℕ) (made seen : List Entry) (front : ℕ) (rows : List Row)
+    → scripts_of n all ≡ scripts_of n items → Worked good opening regions (script_of all) n made seen front rows → Worked good opening regions (script_of items) n made seen front rows
+reworked good opening regions all items n made seen front rows same h = record {
+  writers = h.writers;
+  each = λ i d lt. row (get_or rows i d) (h.mine i d lt) (h.each i d lt);
+  mine = h.mine;
+  numbered = h.numbered;
+  ordered = h.ordered;
+  places = h.places;
+}
+  where
+    script : (r : Row) → r.caller ≡ n → script_of all r ≡ script_of items r
+    script r own = ap (λ k. slice_index_or (scripts_of k all) r.seq []) own ∙ (ap (λ s. slice_index_or s r.seq []) same ∙ ap (λ k. slice_index_or (scripts_of k items) r.seq []) (sym own))
+
+    row : (r : Row) → r.caller ≡ n → RowIn good opening regions (script_of all) made seen front r → RowIn good opening regions (script_of items) made seen front r
+    row r own at = subst (λ s. by_kind r.kind ((e : Entry) × Contains made e × RowOf good (length opening) regions s r e) ((r.place ≤ front) × RowFits regions s r (memory_at r.place seen opening))) (script r own) at
+
+module _ {K : Type 0} (good : List ℕ → Type 0) (w : Workload) (table : TableId) (config : Config) (rule : K) (items : All (BuiltItem w.header) w.items) (sized : config ≡ config_of w.header) where
+  part_of : Worker K → Part
+  part_of r = record { caller = caller_of r.desc.who.role; made = (known r.desc).made; seen = (known r.desc).seen; front = (known r.desc).front; rows = r.rows.items }
+
+  parts-callers : (n : ℕ) (rs : List (Worker K)) → Each (Stood good w table config rule sized) n rs → map (λ (p : Part). p.caller) (map part_of rs) ≡ counted n (length rs)
+  unfolding part_of
+  parts-callers n [] h = refl
+  parts-callers n (r ∷ rs) h = let head = stood-caller good w table config rule sized n r h.0 in let rest = parts-callers (suc n) rs h.1 in cc
+
+  parts-rows : (rs : List (Worker K)) → all_rows (map part_of rs) ≡ rows_of rs
+  unfolding part_of
+  parts-rows [] = refl
+  parts-rows (r ∷ rs) = ap (λ l. r.rows.items ++ l) (parts-rows rs)
+
+  -- what the caller n ends with is its part of the history
+  part-in : (n : ℕ) (r : Worker K) (closed : Ended) → Stood good w table config rule sized n r → Told closed n r.desc → IsOver (place_of r) → PartIn good w closed.history (part_of r)
+  unfolding part_of
+  part-in n r closed s told over =
+      let u = r in
+      let own = sym (stood-caller good w table config rule sized n r s) in
+      let made : (known u.desc).made ≡ made_by n closed.history = told.made in
+      let within = stood-within good w table config rule sized n r s in
+      let nothing : [] ≡ drop (length u.rows.items) (scripts_of n w.items) = sym (ap (scripts_of n) over.1) ∙ stood-todo good w table config rule sized n r s in
+      let count = drop-none (length u.rows.items) (scripts_of n w.items) nothing in
+      let whole : length u.rows.items ≡ length (scripts_of n w.items) = omega arith in
+      record {
+        worked = subst (λ k. Worked good (zeros w.header.words) [] (script_of w.items) k (known u.desc).made (known u.desc).seen (known u.desc).front u.rows.items) own
+            (reworked good (zeros w.header.words) [] (items_of n w.items) w.items n (known u.desc).made (known u.desc).seen (known u.desc).front u.rows.items (scripts-own n w.items) (stood-works good w table config rule sized n r s over.0).0);
+        begins = told.seen;
+        within = λ e h. made-within n closed.history e (subst (λ l. Contains l e) made h);
+        owned = subst (λ k. All (λ (e : Entry). e.caller ≡ k) (known u.desc).made) own (subst (All (λ (e : Entry). e.caller ≡ n)) (sym made) (made-own n closed.history));
+        whole = whole ∙ ap (λ k. length (scripts_of k w.items)) own;
+      }
+
+  parts-in : (n : ℕ) (rs : List (Worker K)) (closed : Ended) → Each (Stood good w table config rule sized) n rs → AllTold closed n (descs_of rs) → All IsOver (places rs) → All (PartIn good w closed.history) (map part_of rs)
+  parts-in n [] closed h told over = λ i d lt. absurd (omega arith)
+  parts-in n (r ∷ rs) closed h told over =
+      all-cons (PartIn good w closed.history) (part_of r) (map part_of rs) (part-in n r closed h.0 told.0 (All-head IsOver (place_of r) (places rs) over)) (parts-in (suc n) rs closed h.1 told.1 (All-tail IsOver (place_of r) (places rs) over))
+
+  dealt-parts : (count : Entry → ℕ) (n : ℕ) (rs : List (Worker K)) (closed : Ended) → AllTold closed n (descs_of rs) → sum_by (λ (p : Part). sum_by count p.made) (map part_of rs) ≡ dealt count n (length rs) closed.history
+  unfolding part_of
+  dealt-parts count n [] closed told = refl
+  dealt-parts count n (r ∷ rs) closed told =
+      let made : (known r.desc).made ≡ made_by n closed.history = told.0.made in
+      let head = ap (sum_by count) made in
+      let rest = dealt-parts count (suc n) rs closed told.1 in
+      let cons = sum_by-cons (λ (p : Part). sum_by count p.made) (part_of r) (map part_of rs) in
+      omega arith
+
+  -- all that the callers made is the history, each entry once
+  pub all-made : (count : Entry → ℕ) (rs : List (Worker K)) (ws : List ℕ) (closed : Ended) → length rs ≡ config.callers → Closes good config (descs_of rs) ws closed → dealt count 0 (length rs) closed.history ≡ sum_by count closed.history
+  all-made count rs ws closed len c = ap (λ m. dealt count 0 m closed.history) len ∙ dealt-all count config.callers closed.history (all-below config.callers closed.history c.nobody_else)
+
+  -- each caller has installed what the text says
+  installs-all : (n : ℕ) (rs : List (Worker K)) → Each (Stood good w table config rule sized) n rs → All IsOver (places rs) → map (λ (d : Handle K). installs_of d.view) (descs_of rs) ≡ map (installs_for w) (counted n (length rs))
+  installs-all n [] h over = refl
+  installs-all n (r ∷ rs) h over =
+      let none = (All-head IsOver (place_of r) (places rs) over).1 in
+      let head : (known r.desc).installs ≡ installs_for w n = sym (append-nil (known r.desc).installs) ∙ (ap (λ l. (known r.desc).installs ++ switches_of l) (sym none) ∙ h.0.own.switched) in
+      let rest = installs-all (suc n) rs h.1 (All-tail IsOver (place_of r) (places rs) over) in
+      ap (λ x. x ∷ map (λ (d : Handle K). installs_of d.view) (descs_of rs)) head ∙ ap (λ l. installs_for w n ∷ l) rest
+
+  pub shown : ReportReplays good → (rs : List (Worker K)) (ws : List ℕ) (closed : Ended) (report : Report) → Each (Stood good w table config rule sized) 0 rs → length rs ≡ config.callers → All IsOver (places rs) → Closes good config (descs_of rs) ws closed
+      → IsReport (rows_of rs) ws report → IsShown w report closed
+  shown theorem rs ws closed report stood len over c r =
+      let parts = map part_of rs in
+      let gathered : IsGathered good w closed.history closed.clock parts report = record {
+        items = λ i d lt. item-fits w.header (get_or w.items i d) (items i d lt);
+        legal = subst (λ (x : Config). IsLegal good (zeros x.words) x.clock closed.history) sized c.legal;
+        times = c.times;
+        callers = parts-callers 0 rs stood ∙ ap (counted 0) (len ∙ ap (λ (x : Config). x.callers) sized);
+        each = parts-in 0 rs closed stood c.told over;
+        gathers = λ count. sym (dealt-parts count 0 rs closed c.told ∙ all-made count rs ws closed len c);
+        moved = subst (λ l. IsPermutation l report.rows) (sym (parts-rows rs)) r.moved;
+        ordered = r.ordered;
+        memory = r.memory ∙ ap (nonzero 0) (c.words ∙ ap (λ (x : Config). memory_at closed.clock closed.history (zeros x.words)) sized);
+      } in
+      let both = theorem w closed.history closed.clock parts report gathered in
+      record {
+        replays = both.0;
+        shows = subst (λ k. Shows closed.history k closed.clock w report) (sym (c.opening ∙ ap (λ (x : Config). x.clock) sized)) both.1;
+        installs = c.installs ∙ (installs-all 0 rs stood over ∙ ap (λ k. map (installs_for w) (counted 0 k)) (len ∙ ap (λ (x : Config). x.callers) sized));
+      }

@@ -1,0 +1,183 @@
+-- From one turn of one worker to turns of many, one behind the other.
+use Rattle.std.proofs.Common.{ℕ, zero, suc, ◌≡◌, ◌<◌, ◌≤◌, ◌+◌, ◌*◌, ◌^◌, List, [], ◌∷◌, ◌++◌, length, get_or, set, refl, sym, ap, ◌∙◌, arith, subst, inl, inr, length-append}
+use Rattle.std.specs.Prelude.{Some, None, Ok, Err, MatchOption}
+use Rattle.std.proofs.lemmas.List.{get_or-map}
+use Rattle.std.proofs.lemmas.List.Sums.{sum_by-set}
+use Rattle.atomic_table.specs.Seated.{TableId}
+use Rattle.rule_base.specs.declared.layout.Config.{Config}
+use Rattle.tx_answers.specs.declared.answers.Begin.TheVariants as begins
+use Rattle.tx_answers.specs.declared.answers.Commit.TheVariants as commits
+use Rattle.tx_answers.specs.Known.{owed}
+use Rattle.stm_rule.specs.Callers.{Handle, IsSameCaller}
+use Rattle.stm_tx.specs.Descs.{known}
+use Rattle.stm_trace.specs.declared.line.Line.{Line}
+use Rattle.stm_trace.specs.declared.line.Line.TheVariants.{Of}
+use Rattle.stm_trace.specs.declared.said.Phase.TheVariants.{Between}
+use Rattle.stm_trace.specs.declared.said.Said.{Said}
+use Rattle.stm_trace.specs.declared.said.Said.TheVariants.{TryBegin, Reply, Stopped, TryCancel, TryCommit, TryClose, Looked, Installed, Idle, Dropped, Reopened}
+use Rattle.stm_trace.specs.Fits.{no_place}
+use Rattle.stm_trace.specs.Places.{Place, after, clock_of}
+use Rattle.stm_trace.specs.Played.{Played, Halted}
+use Rattle.stm_trace.specs.PlayLaws.{played-none, played-one, halted-one, played-append, halted-append, played-as, halted-early}
+use Rattle.stm_trace.specs.Turns.{MaySay}
+use Rattle.crossbeam_utils.specs.declared.cache_padded.CachePadded.{CachePadded}
+use Rattle.std.proofs.lemmas.List.Elements.{All-set}
+use Rattle.stm_driver.specs.declared.workers.Runner.{Runner}
+use Rattle.stm_driver.specs.AllWorkers.{worker_in, workers_in}
+use Rattle.stm_driver.proofs.WorkersLaws.{workers-set, worker-at}
+use Rattle.stm_driver.specs.declared.schedule.Halt.{Halt}
+use Rattle.stm_driver.specs.declared.schedule.Halt.TheVariants.{ClockFull, Memory}
+use Rattle.stm_worker.specs.declared.worker.Worker.{Worker}
+use Rattle.stm_driver.specs.Schedules.{places, place_at, AreSame, AreSound, debts, ArePaid, FoundFull, Plays, Took, Turns}
+use Rattle.stm_worker.specs.Workers.{place_of, IsSame, Loaded, Sound, Turned}
+
+-- who found the clock full has no attempt open
+full-between : (at : Place) (said : Said) (clock : ℕ) → clock_of said ≡ Some clock → MaySay at said → (after at said).phase ≡ Between
+full-between at (TryBegin (begins.Begun alg)) clock e m = absurd cc
+full-between at (TryBegin (begins.Closed gate)) clock e m = absurd cc
+full-between at (TryBegin (begins.Held word)) clock e m = absurd cc
+full-between at (TryBegin (begins.ClockFull c)) clock e m = m.0
+full-between at (Reply op reply) clock e m = absurd cc
+full-between at (Stopped op stop) clock e m = refl
+full-between at (TryCancel c) clock e m = absurd cc
+full-between at (TryCommit (commits.Committed time)) clock e m = absurd cc
+full-between at (TryCommit (commits.ReadOnly time)) clock e m = absurd cc
+full-between at (TryCommit (commits.Conflict cause)) clock e m = absurd cc
+full-between at (TryCommit (commits.Again word had now)) clock e m = absurd cc
+full-between at (TryCommit (commits.ClockFull c)) clock e m = refl
+full-between at (TryClose c) clock e m = absurd cc
+full-between at (Looked l) clock e m = absurd cc
+full-between at (Installed alg) clock e m = absurd cc
+full-between at Idle clock e m = absurd cc
+full-between at Dropped clock e m = absurd m
+full-between at Reopened clock e m = absurd m
+
+one-more : (a b c d : ℕ) (old new : List Line) (n : ℕ) (said : Said) → a + c ≡ b + d → d ≤ c + 2 → new ≡ old ++ Of n said ∷ [] → a + 2 * length old ≤ b + 2 * length new
+one-more a b c d old new n said e h lines = let l = ap length lines ∙ length-append old (Of n said ∷ []) in omega (arith, e, h, l)
+
+module _ {K : Type 0} where
+  same-twice : (d e f : Handle K) → IsSameCaller d e → IsSameCaller e f → IsSameCaller d f
+  same-twice d e f a b = record { table = b.table ∙ a.table; who = b.who ∙ a.who }
+
+  pub self-same : (w : Worker K) → IsSame w w
+  self-same w = record { same = record { table = refl; who = refl }; all = refl; regions = refl; switched = refl }
+
+  pub worker-trans : (u v w : Worker K) → IsSame u v → IsSame v w → IsSame u w
+  worker-trans u v w a b = record { same = same-twice u.desc v.desc w.desc a.same b.same; all = b.all ∙ a.all; regions = b.regions ∙ a.regions; switched = b.switched ∙ a.switched }
+
+  pub same-refl : (ws : List (Worker K)) → AreSame ws ws
+  same-refl [] = tt
+  same-refl (w ∷ ws) = (self-same w, same-refl ws)
+
+  pub same-trans : (us vs ws : List (Worker K)) → AreSame us vs → AreSame vs ws → AreSame us ws
+  same-trans [] [] [] a b = tt
+  same-trans [] [] (w ∷ ws) a b = absurd b
+  same-trans [] (v ∷ vs) ws a b = absurd a
+  same-trans (u ∷ us) [] ws a b = absurd a
+  same-trans (u ∷ us) (v ∷ vs) [] a b = absurd b
+  same-trans (u ∷ us) (v ∷ vs) (w ∷ ws) a b =
+      (worker-trans u v w a.0 b.0, same-trans us vs ws a.1 b.1)
+
+  pub same-set : (ws : List (Worker K)) (n : ℕ) (d w : Worker K) → n < length ws → IsSame (get_or ws n d) w → AreSame ws (set ws n w)
+  same-set [] n d w lt h = tt
+  same-set (x ∷ ws) zero d w lt h = (h, same-refl ws)
+  same-set (x ∷ ws) (suc n) d w lt h = (self-same x, same-set ws n d w (omega (arith, lt)) h)
+
+  pub same-length : (ws vs : List (Worker K)) → AreSame ws vs → length ws ≡ length vs
+  same-length [] [] a = refl
+  same-length [] (v ∷ vs) a = absurd a
+  same-length (w ∷ ws) [] a = absurd a
+  same-length (w ∷ ws) (v ∷ vs) a = ap suc (same-length ws vs a.1)
+
+  found-set : (ws : List (Worker K)) (n : ℕ) (w : Worker K) (clock : ℕ) → n < length ws → (w.phase ≡ Between) × (2 ^ 62 ≤ clock) × Loaded (known w.desc) clock → FoundFull (set ws n w) clock
+  found-set [] n w clock lt h = absurd (omega (arith, lt))
+  found-set (x ∷ ws) zero w clock lt h = inl h
+  found-set (x ∷ ws) (suc n) w clock lt h = inr (found-set ws n w clock (omega (arith, lt)) h)
+
+  -- where caller n stands
+  pub place-is : (ws : List (Worker K)) (n : ℕ) (d : Worker K) → n < length ws → place_at ws n ≡ place_of (get_or ws n d)
+  place-is ws n d lt = get_or-map place_of ws n d no_place lt
+
+  module _ (config : Config) (may : Place → Said → Type 0) where
+    pub plays-none : (ws : List (Worker K)) (lines : List Line) → Plays config may ws ws lines lines [] (Ok tt)
+    plays-none ws lines = ((λ h sizes. played-none h may (places ws) lines), omega arith)
+
+    pub plays-as : (ws vs : List (Worker K)) (a b : List Line) (order other : List ℕ) → order ≡ other → Plays config may ws vs a b order (Ok tt) → Plays config may ws vs a b other (Ok tt)
+    plays-as ws vs a b order other e p = ((λ h sizes. played-as h may (places ws) (places vs) a b order other e (p.0 h sizes)), p.1)
+
+    -- more was to come
+    pub plays-early : (ws vs : List (Worker K)) (a b : List Line) (order more other : List ℕ) (halt : Halt) → order ++ more ≡ other → Plays config may ws vs a b order (Err halt) → Plays config may ws vs a b other (Err halt)
+    plays-early ws vs a b order more other (ClockFull clock) e p = ((λ h sizes. halted-early h may (places ws) (places vs) a b order more other clock e (p.0 h sizes)), p.1, p.2)
+    plays-early ws vs a b order more other Memory e p = tt
+
+    module _ (us vs ws : List (Worker K)) (a b c : List Line) (first second : List ℕ) (p : Plays config may us vs a b first (Ok tt)) where
+      pub plays-next : Plays config may vs ws b c second (Ok tt) → Plays config may us ws a c (first ++ second) (Ok tt)
+      plays-next q =
+          ((λ h sizes. played-append h may (places us) (places vs) (places ws) a b c first second (p.0 h sizes) (q.0 h sizes)), let x = p.1 in let y = q.1 in omega (arith, x, y))
+
+      pub plays-halt : (halt : Halt) → Plays config may vs ws b c second (Err halt) → Plays config may us ws a c (first ++ second) (Err halt)
+      plays-halt (ClockFull clock) q =
+          ((λ h sizes. halted-append h may (places us) (places vs) (places ws) a b c first second clock (p.0 h sizes) (q.0 h sizes)), (let x = p.1 in let y = q.1 in omega (arith, x, y)), q.2)
+      plays-halt Memory q = tt
+
+  module _ (good : List ℕ → Type 0) (table : TableId) (config : Config) (rule : K) where
+    module _ (asked may : Place → Said → Type 0) (ws vs : List (Worker K)) (old new : List Line) (n : ℕ) (said : Said) (lt : n < length ws)
+        (t : Took good table config rule asked ws vs old new n said) (here : may (place_of (get_or ws n t.was)) said) where
+      paid : ArePaid ws vs old new
+      paid =
+          let f : Worker K → ℕ = λ w. owed (known w.desc) in
+          subst (λ x. ArePaid ws x old new) (sym t.is)
+          (one-more (debts (set ws n t.now)) (debts ws) (f (get_or ws n t.was)) (f t.now) old new n said (sum_by-set f ws n t.now t.was lt) t.turned.pays t.lines)
+
+      pub took-plays : clock_of said ≡ None → Plays config may ws vs old new (n ∷ []) (Ok tt)
+      took-plays calm = (
+        (λ h sizes. subst (λ x. Played h may (places ws) (places x) old new (n ∷ [])) (sym t.is)
+            (played-one h may place_of ws n t.was t.now said old new lt here (t.turned.fair h sizes) t.turned.now t.lines calm)),
+        paid,
+      )
+
+      pub took-halts : (clock : ℕ) → clock_of said ≡ Some clock → MaySay (place_of (get_or ws n t.was)) said → Plays config may ws vs old new (n ∷ []) (Err (ClockFull clock))
+      took-halts clock full says =
+          let between = ap (λ (p : Place). p.phase) t.turned.now ∙ full-between (place_of (get_or ws n t.was)) said clock full says in
+          let found = subst (λ o. MatchOption o (Unit {0}) (λ c. (2 ^ 62 ≤ c) × Loaded (known t.now.desc) c)) full t.turned.found in (
+            (λ h sizes. subst (λ x. Halted h may (places ws) (places x) old new (n ∷ []) clock) (sym t.is)
+                (halted-one h may place_of ws n t.was t.now said old new lt here (t.turned.fair h sizes) t.turned.now t.lines clock full)),
+            paid,
+            subst (λ x. FoundFull x clock) (sym t.is) (found-set ws n t.now clock lt (between, found.0, found.1)),
+          )
+
+    -- a turn in the schedule
+    pub turns-play : (ws vs : List (Worker K)) (old new : List Line) (n : ℕ) → n < length ws → Turns good table config rule ws vs old new n (Ok tt) → Plays config MaySay ws vs old new (n ∷ []) (Ok tt)
+    turns-play ws vs old new n lt h = took-plays MaySay MaySay ws vs old new n h.0 lt h.1 h.1.turned.here h.2
+
+    pub turns-halt : (ws vs : List (Worker K)) (old new : List Line) (n : ℕ) (halt : Halt) → n < length ws → Turns good table config rule ws vs old new n (Err halt) → Plays config MaySay ws vs old new (n ∷ []) (Err halt)
+    turns-halt ws vs old new n (ClockFull clock) lt h = took-halts MaySay MaySay ws vs old new n h.0 lt h.1 h.1.turned.here clock h.2 h.1.turned.here
+    turns-halt ws vs old new n Memory lt h = tt
+
+pub still-below : {K : Type 0} (ws vs : List (Worker K)) (n : ℕ) → AreSame ws vs → n < length ws → n < length vs
+still-below ws vs n same lt = let e = same-length ws vs same in omega (arith, e, lt)
+
+-- one runner of many
+pub sound-at : {K : Type 0} (good : List ℕ → Type 0) (table : TableId) (config : Config) (rule : K) (rs : List (CachePadded (Runner K))) (n : ℕ) (d : CachePadded (Runner K)) → n < length (workers_in rs) → AreSound good table config rule (workers_in rs)
+    → Sound good table config rule (worker_in (get_or rs n d))
+sound-at good table config rule rs n d lt s = subst (Sound good table config rule) (worker-at rs n d lt) (s n (worker_in d) lt)
+
+-- one runner of many is another now
+module _ {K : Type 0} (good : List ℕ → Type 0) (table : TableId) (config : Config) (rule : K) (rs : List (CachePadded (Runner K))) (n : ℕ) (d r : CachePadded (Runner K)) where
+  pub set-sound : AreSound good table config rule (workers_in rs) → Sound good table config rule (worker_in r) → AreSound good table config rule (workers_in (set rs n r))
+  set-sound s h = subst (AreSound good table config rule) (sym (workers-set rs n r)) (All-set (Sound good table config rule) (workers_in rs) n (worker_in r) h s)
+
+  module _ (lt : n < length (workers_in rs)) where
+    pub set-same : IsSame (worker_in (get_or rs n d)) (worker_in r) → AreSame (workers_in rs) (workers_in (set rs n r))
+    set-same h = subst (AreSame (workers_in rs)) (sym (workers-set rs n r)) (same-set (workers_in rs) n (worker_in d) (worker_in r) lt (subst (λ (x : Worker K). IsSame x (worker_in r)) (sym (worker-at rs n d lt)) h))
+
+    -- it took a turn
+    pub took : (may : Place → Said → Type 0) (said : Said) (old new : List Line) → Turned good table config rule may (worker_in (get_or rs n d)) said (worker_in r) → new ≡ old ++ Of n said ∷ []
+        → Took good table config rule may (workers_in rs) (workers_in (set rs n r)) old new n said
+    took may said old new t lines = record {
+      was = worker_in d;
+      now = worker_in r;
+      turned = subst (λ (x : Worker K). Turned good table config rule may x said (worker_in r)) (sym (worker-at rs n d lt)) t;
+      is = workers-set rs n r;
+      lines = lines;
+    }

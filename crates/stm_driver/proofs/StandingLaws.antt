@@ -1,0 +1,104 @@
+-- Workers of a workload, each its caller's, wherever they stand.
+use Rattle.std.proofs.Common.{ℕ, zero, suc, ◌≡◌, ◌<◌, ◌≤◌, List, [], ◌∷◌, length, get_or, drop, refl, ap, ◌∙◌, arith, subst, length-append}
+use Rattle.std.specs.Prelude.{Some}
+use Rattle.std.specs.Prelude.{Contains}
+use Rattle.std.proofs.lemmas.List.Elements.{All-head, All-tail}
+use Rattle.atomic_table.specs.Seated.{TableId}
+use Rattle.rule_base.specs.declared.layout.At.TheVariants.{Clock}
+use Rattle.rule_base.specs.declared.layout.Config.{Config}
+use Rattle.rule_base.specs.declared.views.TrailItem.{TrailItem}
+use Rattle.rule_base.specs.StepsRule.{ClocksWithin}
+use Rattle.stm_model.specs.Histories.{Entry}
+use Rattle.stm_script.specs.declared.report.Kind.{Kind}
+use Rattle.stm_script.specs.declared.report.Kind.TheVariants.{W, R, C}
+use Rattle.stm_script.specs.declared.report.Row.{Row}
+use Rattle.stm_script.specs.declared.workload.Workload.{Workload}
+use Rattle.stm_script.specs.Parts.{times}
+use Rattle.stm_script.specs.Reports.{scripts_of, writers, writer_to}
+use Rattle.tx_answers.specs.Known.{caller_of}
+use Rattle.stm_tx.specs.Descs.{known}
+use Rattle.stm_trace.specs.declared.said.Phase.TheVariants.{Between}
+use Rattle.stm_trace.specs.Places.{items_of}
+use Rattle.stm_worker.specs.declared.worker.Worker.{Worker}
+use Rattle.stm_worker.specs.Workers.{Works, Pays, Stands, Sound}
+use Rattle.stm_driver.specs.AllWorkers.{rows_of}
+use Rattle.stm_driver.specs.Openings.{config_of}
+use Rattle.stm_driver.specs.Schedules.{AreSound}
+use Rattle.stm_driver.proofs.PartingLaws.{scripts-own, total, total-few}
+use Rattle.stm_driver.proofs.PreparedLaws.{IsOwn, AreOwn}
+
+-- a clock that was found is at most the last
+pub clock-within : (t : ℕ) (trail : List TrailItem) (x : ℕ) → ClocksWithin t trail → Contains trail (record { place = Clock; found = Some x }) → x ≤ t
+clock-within t trail x w h = at trail h.0 w h.1 h.2
+  where
+    at : (is : List TrailItem) (k : ℕ) → ClocksWithin t is → k < length is → get_or is k (record { place = Clock; found = Some x }) ≡ record { place = Clock; found = Some x } → x ≤ t
+    at [] k w lt e = absurd (omega arith)
+    at (i ∷ is) zero w lt e = w.0 (ap (λ (y : TrailItem). y.place) e) x (ap (λ (y : TrailItem). y.found) e)
+    at (i ∷ is) (suc k) w lt e = at is k w.1 (omega arith) e
+
+writers-few : (rows : List Row) → length (writers rows) ≤ length rows
+writers-few [] = omega arith
+writers-few (r ∷ rows) = by r.kind (writers-few rows)
+  where
+    by : (k : Kind) → length (writers rows) ≤ length rows → length (writer_to k r.place (writers rows)) ≤ suc (length rows)
+    by W le = omega arith
+    by R le = omega arith
+    by C le = omega arith
+
+times-length : (es : List Entry) → length (times es) ≡ length es
+times-length [] = refl
+times-length (e ∷ es) = ap suc (times-length es)
+
+-- a caller has at most as many entries as rows
+pub made-few : (rows : List Row) (made : List Entry) → writers rows ≡ times made → length made ≤ length rows
+made-few rows made h = let a = writers-few rows in let b = times-length made in let e = ap length h in omega arith
+
+-- each is what its place asks
+abbrev pub Each : {A : Type 0} → (ℕ → A → Type 0) → ℕ → List A → Type 0
+Each P n [] = Unit {0}
+Each P n (x ∷ xs) = P n x × Each P (suc n) xs
+
+module _ {K : Type 0} (good : List ℕ → Type 0) (w : Workload) (table : TableId) (config : Config) (rule : K) (sized : config ≡ config_of w.header) where
+  pub record Stood (n : ℕ) (r : Worker K) : Type 0 where
+    pub sound : Sound good table config rule r
+    pub own : IsOwn w n r
+
+  pub stood-each : (n : ℕ) (ws : List (Worker K)) → AreSound good table config rule ws → AreOwn w n ws → Each Stood n ws
+  stood-each n [] s o = tt
+  stood-each n (r ∷ ws) s o =
+      (record { sound = All-head (Sound good table config rule) r ws s; own = o.0 }, stood-each (suc n) ws (All-tail (Sound good table config rule) r ws s) o.1)
+
+  pub stood-caller : (n : ℕ) (r : Worker K) → Stood n r → caller_of r.desc.who.role ≡ n
+  stood-caller n r s = ap caller_of s.own.role
+
+  pub stood-works : (n : ℕ) (r : Worker K) → Stood n r → r.phase ≡ Between → Works good w.header.words [] (items_of n w.items) n (known r.desc) r.rows.items × Pays (items_of n w.items) r.items_left.now (known r.desc).rises
+  stood-works n r s between =
+      let words : config.words ≡ w.header.words = ap (λ (c : Config). c.words) sized in
+      subst (λ k. Stands good k [] (items_of n w.items) r.items_left.now n (known r.desc) r.rows.items Between) words
+      (subst (λ rs. Stands good config.words rs (items_of n w.items) r.items_left.now n (known r.desc) r.rows.items Between) s.own.regions
+      (subst (λ x. Stands good config.words r.regions x r.items_left.now n (known r.desc) r.rows.items Between) s.own.all
+      (subst (λ k. Stands good config.words r.regions r.all.now r.items_left.now k (known r.desc) r.rows.items Between) (stood-caller n r s)
+      (subst (Stands good config.words r.regions r.all.now r.items_left.now (caller_of r.desc.who.role) (known r.desc) r.rows.items) between s.sound.stands))))
+
+  -- what is left of its scripts
+  pub stood-todo : (n : ℕ) (r : Worker K) → Stood n r → scripts_of n r.items_left.now ≡ drop (length r.rows.items) (scripts_of n w.items)
+  stood-todo n r s =
+      subst (λ k. scripts_of k r.items_left.now ≡ drop (length r.rows.items) (scripts_of k r.all.now)) (stood-caller n r s) s.sound.todo
+      ∙ ap (drop (length r.rows.items)) (ap (scripts_of n) s.own.all ∙ scripts-own n w.items)
+
+  pub stood-within : (n : ℕ) (r : Worker K) → Stood n r → length r.rows.items ≤ length (scripts_of n w.items)
+  stood-within n r s =
+      subst (λ x. length r.rows.items ≤ length x) (ap (scripts_of n) s.own.all ∙ scripts-own n w.items)
+      (subst (λ k. length r.rows.items ≤ length (scripts_of k r.all.now)) (stood-caller n r s) s.sound.within)
+
+  pub rows-total : (n : ℕ) (rs : List (Worker K)) → Each Stood n rs → length (rows_of rs) ≤ total n (length rs) w.items
+  rows-total n [] h = omega arith
+  rows-total n (r ∷ rs) h =
+      let one = stood-within n r h.0 in
+      let rest = rows-total (suc n) rs h.1 in
+      let both = length-append r.rows.items (rows_of rs) in
+      omega arith
+
+  -- there is a row for each transaction at most
+  pub rows-few : (n : ℕ) (rs : List (Worker K)) → Each Stood n rs → length (rows_of rs) ≤ length w.items
+  rows-few n rs h = let a = rows-total n rs h in let b = total-few n (length rs) w.items in omega arith

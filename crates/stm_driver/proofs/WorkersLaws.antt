@@ -1,0 +1,56 @@
+-- The workers of all callers, one after the other.
+use Rattle.std.proofs.Common.{ℕ, zero, suc, ◌≡◌, ◌<◌, ◌≤◌, ◌+◌, List, [], ◌∷◌, ◌++◌, length, get_or, set, refl, ap, ◌∙◌, arith, subst}
+use Rattle.std.proofs.lemmas.List.{length-map, get_or-map}
+use Rattle.atomic_table.specs.Seated.{TableId}
+use Rattle.crossbeam_utils.specs.declared.cache_padded.CachePadded.{CachePadded}
+use Rattle.rule_base.specs.declared.layout.Config.{Config}
+use Rattle.stm_model.specs.declared.alg.Alg.{Alg}
+use Rattle.stm_script.specs.declared.workload.Item.{Item}
+use Rattle.stm_rule.specs.Callers.{Handle}
+use Rattle.stm_worker.specs.declared.worker.Worker.{Worker}
+use Rattle.stm_driver.specs.declared.workers.Runner.{Runner}
+use Rattle.stm_driver.specs.AllWorkers.{AreMade, Finished, worker_in, workers_in}
+use Rattle.stm_worker.specs.Workers.{Starts}
+
+pub made-length : {K : Type 0} (items_for : ℕ → List Item) (alg : Alg) (n : ℕ) (ds : List (Handle K)) (ws : List (Worker K)) → AreMade items_for alg n ds ws → length ws ≡ length ds
+made-length items_for alg n [] [] m = refl
+made-length items_for alg n [] (w ∷ ws) m = absurd m
+made-length items_for alg n (d ∷ ds) [] m = absurd m
+made-length items_for alg n (d ∷ ds) (w ∷ ws) m = ap suc (made-length items_for alg (suc n) ds ws m.1)
+
+-- one worker more
+pub made-more : {K : Type 0} (items_for : ℕ → List Item) (alg : Alg) (n : ℕ) (ds : List (Handle K)) (ws : List (Worker K)) (d : Handle K) (w : Worker K) (items : List Item)
+    → AreMade items_for alg n ds ws → items ≡ items_for (n + length ws) → Starts d items alg w → AreMade items_for alg n (ds ++ d ∷ []) (ws ++ w ∷ [])
+made-more items_for alg n [] [] d w items m is s =
+    let e : n + 0 ≡ n = omega arith in
+    (subst (λ k. Starts d k alg w) (is ∙ ap items_for e) s, tt)
+made-more items_for alg n [] (x ∷ ws) d w items m is s = absurd m
+made-more items_for alg n (y ∷ ds) [] d w items m is s = absurd m
+made-more items_for alg n (y ∷ ds) (x ∷ ws) d w items m is s =
+    let e : n + suc (length ws) ≡ suc n + length ws = omega arith in
+    (m.0, made-more items_for alg (suc n) ds ws d w items m.1 (is ∙ ap items_for e) s)
+
+-- the same items under another name
+pub made-same : {K : Type 0} (items_for other : ℕ → List Item) (alg : Alg) (callers n : ℕ) (ds : List (Handle K)) (ws : List (Worker K))
+    → ((k : ℕ) → k < callers → items_for k ≡ other k) → n + length ds ≤ callers → AreMade items_for alg n ds ws → AreMade other alg n ds ws
+made-same items_for other alg callers n [] [] same le m = tt
+made-same items_for other alg callers n [] (w ∷ ws) same le m = absurd m
+made-same items_for other alg callers n (d ∷ ds) [] same le m = absurd m
+made-same items_for other alg callers n (d ∷ ds) (w ∷ ws) same le m =
+    (subst (λ k. Starts d k alg w) (same n (omega arith)) m.0, made-same items_for other alg callers (suc n) ds ws same (omega arith) m.1)
+
+-- a worker's run, told of what was lent and given back
+pub finished-as : {K : Type 0} (good : List ℕ → Type 0) (table : TableId) (config : Config) (rule : K) (x y r s : CachePadded (Runner K)) → x ≡ r → y ≡ s → Finished good table config rule x y → Finished good table config rule r s
+finished-as good table config rule x y r s lent left f = subst (λ b. Finished good table config rule r b) left (subst (λ a. Finished good table config rule a y) lent f)
+
+module _ {K : Type 0} where
+  pub workers-length : (rs : List (CachePadded (Runner K))) → length (workers_in rs) ≡ length rs
+  workers-length rs = length-map rs worker_in
+
+  pub worker-at : (rs : List (CachePadded (Runner K))) (n : ℕ) (d : CachePadded (Runner K)) → n < length (workers_in rs) → get_or (workers_in rs) n (worker_in d) ≡ worker_in (get_or rs n d)
+  worker-at rs n d lt = get_or-map worker_in rs n d (worker_in d) (subst (λ k. n < k) (workers-length rs) lt)
+
+  pub workers-set : (rs : List (CachePadded (Runner K))) (n : ℕ) (r : CachePadded (Runner K)) → workers_in (set rs n r) ≡ set (workers_in rs) n (worker_in r)
+  workers-set [] n r = refl
+  workers-set (x ∷ rs) zero r = refl
+  workers-set (x ∷ rs) (suc n) r = ap (λ ws. worker_in x ∷ ws) (workers-set rs n r)

@@ -1,0 +1,86 @@
+-- The workers of all callers.
+use Rattle.std.specs.Prelude.{ℕ, suc, ◌≡◌, ◌≤◌, ◌^◌, List, [], ◌∷◌, ◌++◌, map, Option, Some, None, MatchOption, Result, Ok, Err}
+use Rattle.std.specs.Option.{option_or}
+use Rattle.atomic_table.specs.Seated.{TableId}
+use Rattle.crossbeam_utils.specs.declared.cache_padded.CachePadded.{CachePadded}
+use Rattle.crossbeam_utils.specs.Padded.{padded_value}
+use Rattle.rule_base.specs.declared.layout.Config.{Config}
+use Rattle.rule_base.specs.declared.seats.Role.TheVariants.{Caller}
+use Rattle.stm_model.specs.declared.alg.Alg.{Alg}
+use Rattle.stm_script.specs.declared.report.Row.{Row}
+use Rattle.stm_script.specs.declared.workload.Item.{Item}
+use Rattle.stm_rule.specs.Callers.{Handle}
+use Rattle.stm_tx.specs.Descs.{known}
+use Rattle.stm_trace.specs.declared.said.Phase.TheVariants.{Between}
+use Rattle.stm_trace.specs.Turns.{BeforeTx}
+use Rattle.stm_worker.specs.declared.worker.Worker.{Worker}
+use Rattle.stm_worker.specs.Leavings.{MadeIdle}
+use Rattle.stm_worker.specs.Workers.{IsSame, Loaded, Sound, Starts}
+use Rattle.stm_driver.specs.declared.schedule.Halt.{Halt}
+use Rattle.stm_driver.specs.declared.schedule.Halt.TheVariants.{ClockFull}
+use Rattle.stm_driver.specs.declared.workers.Runner.{Runner}
+
+module _ {K : Type 0} where
+  abbrev pub worker_in : CachePadded (Runner K) → Worker K
+  worker_in r = (padded_value r).worker
+
+  abbrev pub workers_in : List (CachePadded (Runner K)) → List (Worker K)
+  workers_in rs = map worker_in rs
+
+  -- a worker for each descriptor, which has done nothing; the first is that of caller n
+  abbrev pub AreMade : (ℕ → List Item) → Alg → ℕ → List (Handle K) → List (Worker K) → Type 0
+  AreMade items alg n [] [] = Unit {0}
+  AreMade items alg n [] (w ∷ ws) = ⊥
+  AreMade items alg n (d ∷ ds) [] = ⊥
+  AreMade items alg n (d ∷ ds) (w ∷ ws) = Starts d (items n) alg w × AreMade items alg (suc n) ds ws
+
+  -- the workers are those of the callers from n on
+  abbrev pub AreCallers : ℕ → List (Worker K) → Type 0
+  AreCallers n [] = Unit {0}
+  AreCallers n (w ∷ ws) = (w.desc.who.role ≡ Caller n) × AreCallers (suc n) ws
+
+  abbrev pub descs_of : List (Worker K) → List (Handle K)
+  descs_of [] = []
+  descs_of (w ∷ ws) = w.desc ∷ descs_of ws
+
+  -- the rows of all workers, one worker after the other
+  abbrev pub rows_of : List (Worker K) → List Row
+  rows_of [] = []
+  rows_of (w ∷ ws) = w.rows.items ++ rows_of ws
+
+  -- the clock of the first worker that found it at its limit
+  abbrev pub first_full : List (CachePadded (Runner K)) → Option ℕ
+  first_full [] = None
+  first_full (r ∷ rs) = option_or (padded_value r).full (first_full rs)
+
+  -- a transaction was to begin, and found this clock, which is at its limit
+  abbrev pub MetLimit : Worker K → ℕ → Type 0
+  MetLimit w clock = (2 ^ 62 ≤ clock) × Loaded (known w.desc) clock × BeforeTx w.items_left.now
+
+  -- nothing is left, or the clock was found at its limit
+  abbrev pub IsThrough : Worker K → Option ℕ → Type 0
+  IsThrough w full = MatchOption full (w.items_left.now ≡ []) (MetLimit w)
+
+  module _ (good : List ℕ → Type 0) (table : TableId) (config : Config) (rule : K) where
+    pub record IsReady (r : CachePadded (Runner K)) : Type 0 where
+      pub sound : Sound good table config rule (worker_in r)
+
+    -- a worker before its run and after it
+    pub record Finished (r s : CachePadded (Runner K)) : Type 0 where
+      pub sound : Sound good table config rule (worker_in s)
+      pub same : IsSame (worker_in r) (worker_in s)
+      pub between : (worker_in s).phase ≡ Between
+      pub through : IsThrough (worker_in s) (padded_value s).full
+
+  module _ (table : TableId) (config : Config) (rule : K) where
+    -- each ended without a row
+    abbrev pub AreMadeIdle : List (Worker K) → List (Worker K) → Type 0
+    AreMadeIdle [] [] = Unit {0}
+    AreMadeIdle (v ∷ vs) (w ∷ ws) = MadeIdle table config rule v w × AreMadeIdle vs ws
+    AreMadeIdle (v ∷ vs) [] = ⊥
+    AreMadeIdle [] (w ∷ ws) = ⊥
+
+-- how turns ended, by the full clock that was found
+abbrev pub how_of : Option ℕ → Result (Unit {0}) Halt
+how_of None = Ok tt
+how_of (Some clock) = Err (ClockFull clock)

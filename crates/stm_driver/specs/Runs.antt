@@ -1,0 +1,69 @@
+-- What a run comes to.
+use Rattle.std.specs.Prelude.{ℕ, zero, suc, ◌≡◌, ◌<◌, ◌≤◌, ◌+◌, ◌*◌, ◌^◌, List, ◌∷◌, map, length}
+use Rattle.stm_model.specs.declared.alg.Alg.{Alg}
+use Rattle.stm_model.specs.Histories.{IsLegal}
+use Rattle.stm_model.specs.HistoryLaws.{Within}
+use Rattle.stm_script.specs.declared.report.Report.{Report}
+use Rattle.stm_script.specs.declared.workload.Workload.{Workload}
+use Rattle.stm_script.specs.Reports.{Replays, Shows, counted, zeros}
+use Rattle.stm_trace.specs.declared.line.Line.{Line}
+use Rattle.stm_trace.specs.Fits.{TraceFits, TraceFitsSoFar}
+use Rattle.stm_trace.specs.Places.{items_of}
+use Rattle.stm_worker.specs.Workers.{switches_of}
+use Rattle.stm_rule.specs.Closings.{Ended}
+use Rattle.stm_driver.specs.declared.outcome.Outcome.{Outcome}
+use Rattle.stm_driver.specs.declared.outcome.Outcome.TheVariants.{ToEnd, ToLimit, OutOfMemory}
+
+-- what caller n installs: its switches in the order of the text, caller 0 after the header's algorithm
+abbrev pub installs_for : Workload → ℕ → List Alg
+installs_for w zero = w.header.alg ∷ switches_of (items_of 0 w.items)
+installs_for w (suc n) = switches_of (items_of (suc n) w.items)
+
+-- the report replays the workload, and shows the one history of the memory that was closed, and the installs are those of the text
+pub record IsShown (w : Workload) (report : Report) (closed : Ended) : Type 0 where
+  pub replays : Replays w report
+  pub shows : Shows closed.history closed.opening closed.clock w report
+  pub installs : closed.installs ≡ map (installs_for w) (counted 0 w.header.callers)
+
+-- the history of the memory that was closed is legal, over zeros from the header's clock on, and has no entry behind the last clock
+pub record IsHistory (w : Workload) (closed : Ended) : Type 0 where
+  pub legal : IsLegal (λ m. Unit {0}) (zeros w.header.words) w.header.clock closed.history
+  pub times : Within closed.clock closed.history
+
+-- a transaction was still to begin, and found the clock at its limit, which is that of the memory that was closed; those before it can have brought it there, each by at most two
+pub record IsFull (w : Workload) (clock : ℕ) (closed : Ended) : Type 0 where
+  pub opening : closed.opening ≡ w.header.clock
+  pub found : closed.clock ≡ clock
+  pub limit : clock ≡ 2 ^ 62
+  pub history : IsHistory w closed
+  pub left : length closed.history < length w.items
+  pub bound : 2 ^ 62 + 2 ≤ w.header.clock + 2 * length w.items
+
+-- the trace fits the workload and its report, which shows the one history of the memory that was closed
+pub record IsTraced (w : Workload) (lines : List Line) (report : Report) (closed : Ended) : Type 0 where
+  pub fits : TraceFits w lines report
+  pub shown : IsShown w report closed
+
+-- the trace fits the workload up to a clock that was found at its limit, which is that of the memory that was closed; so many lines can have brought it there
+pub record IsCut (w : Workload) (lines : List Line) (clock : ℕ) (closed : Ended) : Type 0 where
+  pub fits : TraceFitsSoFar w lines clock
+  pub opening : closed.opening ≡ w.header.clock
+  pub found : closed.clock ≡ clock
+  pub limit : clock ≡ 2 ^ 62
+  pub history : IsHistory w closed
+  pub bound : 2 ^ 62 ≤ w.header.clock + 2 * length lines + 1
+
+-- the memory was closed, with nothing open
+pub record IsStopped (w : Workload) (closed : Ended) : Type 0 where
+  pub opening : closed.opening ≡ w.header.clock
+  pub history : IsHistory w closed
+
+abbrev pub HasRun : Workload → Outcome → Type 0
+HasRun w (ToEnd report closed) = IsShown w report closed
+HasRun w (ToLimit clock closed) = IsFull w clock closed
+HasRun w (OutOfMemory closed) = ⊥
+
+abbrev pub HasStepped : Workload → List Line → Outcome → Type 0
+HasStepped w lines (ToEnd report closed) = IsTraced w lines report closed
+HasStepped w lines (ToLimit clock closed) = IsCut w lines clock closed
+HasStepped w lines (OutOfMemory closed) = IsStopped w closed

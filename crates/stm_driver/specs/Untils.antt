@@ -1,0 +1,19 @@
+-- How far a caller goes on behind a schedule: what it may say, and how it stands before and behind its turns.
+use Rattle.stm_trace.specs.declared.said.Said.{Said}
+use Rattle.stm_trace.specs.Places.{Place}
+use Rattle.stm_trace.specs.Turns.{MayWind, MayFinish, IsOver}
+use Rattle.stm_worker.specs.Leavings.{HasNothingOpen, HasOnlySureOpen}
+use Rattle.stm_driver.specs.declared.finishing.Until.{Until}
+use Rattle.stm_driver.specs.declared.finishing.Until.TheVariants.{NothingOpen, NothingLeft}
+
+abbrev pub may_until : Until → Place → Said → Type 0
+may_until NothingOpen = MayWind
+may_until NothingLeft = MayFinish
+
+abbrev pub stands_until : Until → Place → Type 0
+stands_until NothingOpen = HasNothingOpen
+stands_until NothingLeft = IsOver
+
+abbrev pub ready_until : Until → Place → Type 0
+ready_until NothingOpen = HasOnlySureOpen
+ready_until NothingLeft = λ at. Unit {0}

@@ -1,0 +1,92 @@
+//! The end of a run, whatever it came to: the memory is closed.
+ghost use Rattle.std.specs.Prelude.{◌≡◌, ◌≤◌, [], All, length, vec_len, vec_capacity, IfOk, OnOk};
+ghost use Rattle.stm_trace.specs.declared.said.Phase.TheVariants.{Between};
+ghost use Rattle.stm_worker.specs.declared.worker.Worker.{Worker};
+ghost use Rattle.stm_worker.specs.Leavings.{MadeIdle};
+ghost use Rattle.stm_worker.specs.Workers.{Sound};
+ghost use Rattle.stm_driver.specs.AllWorkers.{AreCallers, AreMadeIdle, worker_in, workers_in, rows_of};
+ghost use Rattle.stm_driver.specs.Schedules.{AreSound};
+ghost use Rattle.stm_driver.specs.ClosedRuns.{Came, IsReport};
+
+use crate::order::order;
+use crate::outcome::Outcome;
+use crate::schedule::Halt;
+use crate::workers::{Runner, take_apart};
+use crossbeam_utils::CachePadded;
+use std::alloc::Global;
+use stm_model::memory::Memory;
+use stm_model::rule::MemRule;
+use stm_rule::closing::close;
+use stm_rule::desc::Desc;
+use stm_rule::stm::Stm;
+use stm_script::pairs::pairs;
+use stm_script::report::{Report, Row, Rows};
+use stm_worker::leaving::make_idle;
+
+/// Ends what is open without a row, and closes the memory. `how` is how the turns ended, and `descs` and
+/// `rows` are empty, with room for all.
+///
+/// # Errors
+/// Memory, where the words of the memory or of the report find none. All descriptors are idle then.
+pub fn close_memory<K: MemRule + Drop>(
+    alloc: Global,
+    stm: Stm<K>,
+    mut runners: Vec<CachePadded<Runner<K>>>,
+    mut descs: Vec<Desc<K>>,
+    mut rows: Vec<Row>,
+    how: Result<(), Halt>,
+) -> Result<Outcome, Memory>
+    requires sound { AreSound (K.good stm.rule) stm.table.shared.table_id stm.config stm.rule (workers_in runners.items) }
+    requires callers { AreCallers 0 (workers_in runners.items) }
+    requires all { length (workers_in runners.items) ≡ stm.config.callers }
+    requires through { OnOk how (All (λ (w : Worker K). w.phase ≡ Between) (workers_in runners.items)) }
+    requires empty { (descs.items ≡ []) × (vec_len descs ≡ 0) × (rows.items ≡ []) × (vec_len rows ≡ 0) }
+    requires descs { length (workers_in runners.items) ≤ vec_capacity descs }
+    requires rows { length (rows_of (workers_in runners.items)) ≤ vec_capacity rows }
+    ensures { IfOk result (Came (K.good stm.rule) stm.config stm.table.shared.table_id stm.rule (workers_in runners.entry.items) how) }
+{
+    make_all_idle(&stm, runners.as_mut_slice());
+    take_apart(runners, &mut descs, &mut rows);
+    let Ok((words, closed)) = close(alloc, stm, descs) else {
+        return Err(Memory);
+    };
+    match how {
+        Ok(()) => {
+            let report = report_of(alloc, rows, words.as_slice())?;
+            Ok(Outcome::ToEnd { report, closed })
+        }
+        Err(halt) => match halt {
+            Halt::ClockFull { clock } => Ok(Outcome::ToLimit { clock, closed }),
+            Halt::Memory => Ok(Outcome::OutOfMemory { closed }),
+        },
+    }
+}
+
+/// Leaves every descriptor idle.
+fn make_all_idle<K: MemRule>(stm: &Stm<K>, runners: &mut [CachePadded<Runner<K>>])
+    requires { AreSound (K.good stm.now.rule) stm.now.table.shared.table_id stm.now.config stm.now.rule (workers_in runners.old) }
+    ensures { AreMadeIdle stm.now.table.shared.table_id stm.now.config stm.now.rule (workers_in runners.old) (workers_in runners.new) }
+{
+    for runner in runners.iter_mut() {
+        idle_one(stm, runner);
+    }
+}
+
+/// Leaves one descriptor idle.
+fn idle_one<K: MemRule>(stm: &Stm<K>, runner: &mut CachePadded<Runner<K>>)
+    requires { Sound (K.good stm.now.rule) stm.now.table.shared.table_id stm.now.config stm.now.rule (worker_in runner.old) }
+    ensures { MadeIdle stm.now.table.shared.table_id stm.now.config stm.now.rule (worker_in runner.old) (worker_in runner.new) }
+{
+    let runner = &mut **runner;
+    make_idle(stm, &mut runner.worker);
+}
+
+/// The report of these rows and of the memory that has these words.
+fn report_of(alloc: Global, mut rows: Vec<Row>, words: &[u64]) -> Result<Report, Memory>
+    ensures { IfOk result (IsReport rows.items words.now) }
+{
+    order(rows.as_mut_slice());
+    let memory = pairs(alloc, words)?;
+    let rows = Rows::new(rows);
+    Ok(Report { rows, memory })
+}

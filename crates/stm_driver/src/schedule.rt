@@ -1,0 +1,102 @@
+//! Turns of the workers of all callers, in the order of a schedule.
+ghost use Rattle.std.specs.Prelude.{◌≡◌, ◌<◌, ◌∷◌, [], All, length, replicate};
+ghost use Rattle.stm_trace.specs.Turns.{MaySay};
+ghost use Rattle.stm_trace.specs.Fits.{turns};
+ghost use Rattle.stm_worker.specs.Workers.{Sound, Turned};
+ghost use Rattle.stm_driver.specs.AllWorkers.{worker_in, workers_in};
+ghost use Rattle.stm_driver.specs.Schedules.{AreSound, AreSame, Turns, Plays};
+
+use crate::workers::Runner;
+use crossbeam_utils::CachePadded;
+use stm_model::rule::MemRule;
+use stm_rule::stm::Stm;
+use stm_script::workload::Go;
+use stm_trace::line::Line;
+use stm_trace::said::Said;
+use stm_worker::turnstile::Open;
+
+/// Why turns ended early.
+#[derive(Clone, Copy, Drop, Debug, PartialEq, Eq)]
+pub enum Halt {
+    /// A call found the clock at its limit.
+    ClockFull { clock: u64 },
+    /// Memory for the trace was refused.
+    Memory,
+}
+
+/// One turn of a caller, and its line.
+pub fn turn<K: MemRule>(
+    stm: &Stm<K>,
+    runners: &mut [CachePadded<Runner<K>>],
+    caller: usize,
+    trace: &mut Vec<Line>,
+) -> Result<(), Halt>
+    requires sound { AreSound (K.good stm.now.rule) stm.now.table.shared.table_id stm.now.config stm.now.rule (workers_in runners.old) }
+    requires below { caller < length (workers_in runners.old) }
+    ensures sound { AreSound (K.good stm.now.rule) stm.now.table.shared.table_id stm.now.config stm.now.rule (workers_in runners.new) }
+    ensures same { AreSame (workers_in runners.old) (workers_in runners.new) }
+    ensures turns { Turns (K.good stm.now.rule) stm.now.table.shared.table_id stm.now.config stm.now.rule (workers_in runners.old) (workers_in runners.new) trace.old.items trace.new.items caller result }
+{
+    let said = turn_one(stm, &mut runners[caller]);
+    match trace.push(Line::Of { caller, said }) {
+        Ok(()) => {}
+        Err(_) => return Err(Halt::Memory),
+    }
+    match said.full_clock() {
+        None => Ok(()),
+        Some(clock) => Err(Halt::ClockFull { clock }),
+    }
+}
+
+/// One turn of a worker.
+fn turn_one<K: MemRule>(stm: &Stm<K>, runner: &mut CachePadded<Runner<K>>) -> Said
+    requires { Sound (K.good stm.now.rule) stm.now.table.shared.table_id stm.now.config stm.now.rule (worker_in runner.old) }
+    ensures { Turned (K.good stm.now.rule) stm.now.table.shared.table_id stm.now.config stm.now.rule MaySay (worker_in runner.old) result (worker_in runner.new) }
+{
+    let runner = &mut **runner;
+    runner.worker.turn(stm, &Open)
+}
+
+/// The turns of a schedule.
+pub fn play<K: MemRule>(
+    stm: &Stm<K>,
+    runners: &mut [CachePadded<Runner<K>>],
+    schedule: &[Go],
+    trace: &mut Vec<Line>,
+) -> Result<(), Halt>
+    requires sound { AreSound (K.good stm.now.rule) stm.now.table.shared.table_id stm.now.config stm.now.rule (workers_in runners.old) }
+    requires below { All (λ go. go.caller < length (workers_in runners.old)) schedule.now }
+    ensures sound { AreSound (K.good stm.now.rule) stm.now.table.shared.table_id stm.now.config stm.now.rule (workers_in runners.new) }
+    ensures same { AreSame (workers_in runners.old) (workers_in runners.new) }
+    ensures plays { Plays stm.now.config MaySay (workers_in runners.old) (workers_in runners.new) trace.old.items trace.new.items (turns schedule.now) result }
+{
+    for go in schedule {
+        match turns_of(stm, runners, *go, trace) {
+            Ok(()) => {}
+            Err(halt) => return Err(halt),
+        }
+    }
+    Ok(())
+}
+
+/// The turns of one line of the schedule.
+fn turns_of<K: MemRule>(
+    stm: &Stm<K>,
+    runners: &mut [CachePadded<Runner<K>>],
+    go: Go,
+    trace: &mut Vec<Line>,
+) -> Result<(), Halt>
+    requires sound { AreSound (K.good stm.now.rule) stm.now.table.shared.table_id stm.now.config stm.now.rule (workers_in runners.old) }
+    requires below { go.caller < length (workers_in runners.old) }
+    ensures sound { AreSound (K.good stm.now.rule) stm.now.table.shared.table_id stm.now.config stm.now.rule (workers_in runners.new) }
+    ensures same { AreSame (workers_in runners.old) (workers_in runners.new) }
+    ensures plays { Plays stm.now.config MaySay (workers_in runners.old) (workers_in runners.new) trace.old.items trace.new.items (replicate go.turns go.caller) result }
+{
+    for _i in 0..go.turns {
+        match turn(stm, runners, go.caller, trace) {
+            Ok(()) => {}
+            Err(halt) => return Err(halt),
+        }
+    }
+    Ok(())
+}

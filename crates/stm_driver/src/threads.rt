@@ -1,0 +1,94 @@
+//! All workers at once, each on a thread of its own.
+ghost use Rattle.std.specs.Prelude.{◌≡◌, ◌<◌, ℕ, All, length, slice_index_or};
+ghost use Rattle.crossbeam_utils.specs.declared.cache_padded.CachePadded.{CachePadded};
+ghost use Rattle.stm_trace.specs.declared.said.Phase.TheVariants.{Between};
+ghost use Rattle.stm_worker.specs.Workers.{IsSame, Sound};
+ghost use Rattle.stm_driver.specs.declared.workers.Runner.{Runner};
+ghost use Rattle.stm_driver.specs.AllWorkers.{IsThrough, IsReady, Finished};
+
+use crate::backoff::Backoff;
+use crate::workers::Runner;
+use crossbeam_utils::CachePadded;
+use std::sync::Wait;
+use std::thread;
+use std::thread::Threads;
+use stm_model::rule::MemRule;
+use stm_rule::stm::Stm;
+use stm_trace::said::{Phase, Said};
+use stm_worker::turnstile::Turnstile;
+use stm_worker::worker::Worker;
+use tx_answers::answers::{Begin, CloseGate, Commit, Look};
+
+/// Runs all workers, each to its end or to the clock's limit, on as many threads as there are workers.
+pub fn run_all<R: Threads + Wait + Sync, K: MemRule + Send + Sync, G: Turnstile + Sync>(
+    rt: &R,
+    stm: &Stm<K>,
+    turnstile: &G,
+    runners: &mut [CachePadded<Runner<K>>],
+)
+    requires some { 0 < length runners.old }
+    requires ready { All (IsReady (K.good stm.now.rule) stm.now.table.shared.table_id stm.now.config stm.now.rule) runners.old }
+    ensures count { length runners.new ≡ length runners.old }
+    ensures done { (i : ℕ) (d : CachePadded (Runner K)) → i < length runners.old → Finished (K.good stm.now.rule) stm.now.table.shared.table_id stm.now.config stm.now.rule (slice_index_or runners.old i d) (slice_index_or runners.new i d) }
+{
+    let threads = runners.len();
+    thread::for_each_mut(
+        rt,
+        runners,
+        threads,
+        &|_, runner| { run_one(rt, stm, turnstile, runner) },
+    );
+}
+
+/// Runs one worker.
+fn run_one<R: Wait, K: MemRule, G: Turnstile>(
+    rt: &R,
+    stm: &Stm<K>,
+    turnstile: &G,
+    runner: &mut CachePadded<Runner<K>>,
+)
+    requires { IsReady (K.good stm.now.rule) stm.now.table.shared.table_id stm.now.config stm.now.rule runner.old }
+    ensures { Finished (K.good stm.now.rule) stm.now.table.shared.table_id stm.now.config stm.now.rule runner.old runner.new }
+{
+    let runner = &mut **runner;
+    runner.full = work(rt, stm, turnstile, &mut runner.worker);
+}
+
+/// Turns until nothing is left, or a begin finds the clock at its limit: then that clock. A call that another
+/// caller stood in the way of is made again after a pause.
+fn work<R: Wait, K: MemRule, G: Turnstile>(
+    rt: &R,
+    stm: &Stm<K>,
+    turnstile: &G,
+    w: &mut Worker<K>,
+) -> Option<u64>
+    requires sound { Sound (K.good stm.now.rule) stm.now.table.shared.table_id stm.now.config stm.now.rule w.old }
+    ensures sound { Sound (K.good stm.now.rule) stm.now.table.shared.table_id stm.now.config stm.now.rule w.new }
+    ensures same { IsSame w.old w.new }
+    ensures between { w.new.phase ≡ Phase.Between }
+    ensures through { IsThrough w.new result }
+{
+    let mut backoff = Backoff::new();
+    for _ in rt.forever() {
+        let said = w.turn(stm, turnstile);
+        if let Said::Idle = said {
+            return None;
+        }
+        if let Some(clock) = said.full_clock() {
+            return Some(clock);
+        }
+        pause(&mut backoff, said);
+    }
+    unreachable!()
+}
+
+/// Pauses where another caller stood in the way of the call.
+fn pause(backoff: &mut Backoff, said: Said) {
+    match said {
+        Said::TryBegin(Begin::Closed { .. } | Begin::Held { .. })
+        | Said::TryCommit(Commit::Again { .. })
+        | Said::TryClose(CloseGate::Taken { .. })
+        | Said::Looked(Look::Busy { .. }) => backoff.wait(),
+        _ => backoff.reset(),
+    }
+}

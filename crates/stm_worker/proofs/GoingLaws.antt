@@ -1,0 +1,151 @@
+-- An attempt goes on by one operation.
+use Rattle.std.proofs.Common.{ℕ, zero, suc, ◌≡◌, ◌≤◌, Bool, true, false, List, [], ◌∷◌, ◌++◌, length, refl, sym, ap, ◌∙◌, arith, subst, get_or, ◌<◌}
+use Rattle.std.proofs.lemmas.List.{append-nil, append_cancel_left}
+use Rattle.std.proofs.lemmas.List.Elements.{All-head, All-tail}
+use Rattle.std.specs.Prelude.{All, ◌==◌, ltb, slice_index, not, ◌||◌, if◌then◌else◌}
+use Rattle.stm_model.specs.declared.alg.Alg.{Alg}
+use Rattle.stm_model.specs.Logs.{Log, IsExplained, Keeps}
+use Rattle.stm_model.specs.Memories.{overlay, Explains, is_empty}
+use Rattle.stm_script.specs.declared.op.Op.{Op}
+use Rattle.stm_script.specs.declared.op.Op.TheVariants.{Read, Write, Add, Move, Cancel}
+use Rattle.stm_script.specs.declared.region.Region.{Region}
+use Rattle.stm_script.specs.Keeping.{OpKeeps, ScriptKeeps}
+use Rattle.stm_script.specs.KeepingLaws.{keeps-gave, keeps-run}
+use Rattle.stm_script.specs.Operations.{OpFits, ScriptFits, is_cancel, effect_of, replies, moved}
+use Rattle.stm_script.specs.Outputs.{Output, HasRoom}
+use Rattle.stm_script.specs.Scripts.{run, before_cancel, has_cancel}
+use Rattle.stm_script.specs.ScriptLaws.{Gave, GaveOver, GivesOn, ran_one, gives-step, gives-none}
+use Rattle.tx_answers.specs.Known.{Known, is_irrevocable}
+use Rattle.stm_trace.specs.Places.{writes}
+use Rattle.stm_worker.specs.Goings.{Going, no_log, no_replies}
+
+begun-on : (regions : List Region) (ops : List Op) (m : List ℕ) (l : Log) (out : Output) → l ≡ no_log → out.replies ≡ [] → out.emits ≡ [] → GivesOn regions ops ops m no_log no_replies l out
+begun-on regions ops m l out log r e = λ j after h. again j after (subst (λ k. Gave (run regions ops) m k out j after) log h)
+  where
+    again : (j : Log) (after : Output) → Gave (run regions ops) m no_log out j after → Gave (run regions ops) m no_log no_replies j after
+    again j after h = record {
+      explained = h.explained;
+      replied = h.replied ∙ ap (λ w. w ++ (run regions ops m).replies) r;
+      emitted = h.emitted ∙ ap (λ w. w ++ (run regions ops m).emits) e;
+      left = h.left;
+      wrote = h.wrote;
+    }
+
+pub going-begun : (good : List ℕ → Type 0) (words : ℕ) (regions : List Region) (script : List Op) (v : Known) (alg : Alg) (out : Output)
+    → ScriptFits regions words script → ScriptKeeps good words regions script → length script ≤ out.room → out.replies ≡ [] → out.emits ≡ []
+    → v.log ≡ no_log → IsExplained good words v.log → v.alg ≡ alg → v.granted ≡ false → Going good words regions script script v alg out false
+going-begun good words regions script v alg out fits rule room r e log ex named ungranted = record {
+  fits = fits;
+  rule = rule;
+  room = (let a = ap length r in let b = ap length e in (omega (arith, a, room), omega (arith, b, room)));
+  explained = ex;
+  keeps = subst (Keeps good words) (sym log) (λ m fine len x. fine);
+  named = named;
+  ungranted = ungranted;
+  writer = sym (ap (λ (l : Log). not (is_empty l.writes)) log);
+  on = λ m fine len x. begun-on regions script m v.log out log r e;
+  ends = λ h. h;
+  cut = λ off m fine len x. begun-on regions (before_cancel script) m v.log out log r e;
+}
+
+one-of : {A : Type 0} (P : A → Type 0) (x : A) → P x → All P (x ∷ [])
+one-of {A = A} P x h = λ i d lt. at i d lt
+  where
+    at : (i : ℕ) (d : A) → i < 1 → P (get_or (x ∷ []) i d)
+    at zero d lt = h
+    at (suc i) d lt = absurd (omega arith)
+
+one-wrote : (regions : List Region) (op : Op) (m : List ℕ) → (ran_one regions op m).wrote ≡ writes op (effect_of regions op m).reply
+one-wrote regions (Read a) m = refl
+one-wrote regions (Write a v) m = refl
+one-wrote regions (Add a k) m = refl
+one-wrote regions (Move a b k) m = by (ltb (slice_index m a) k)
+  where
+    by : (less : Bool) → (if less then replies 0 m else record { reply = 1; emits = []; memory = moved a b k m; wrote = true }).wrote || false ≡ ((if less then replies 0 m else record { reply = 1; emits = []; memory = moved a b k m; wrote = true }).reply == 1)
+    by true = refl
+    by false = refl
+one-wrote regions Cancel m = refl
+
+-- the reply that was told is that of the operation
+one-reply : (xs : List ℕ) (r s : ℕ) → xs ++ r ∷ [] ≡ xs ++ s ∷ [] → r ≡ s
+one-reply xs r s e = let h = append_cancel_left xs (r ∷ []) (s ∷ []) e in cc
+
+not-sure : (a b : Bool) → (a ≡ true → b ≡ true) → b ≡ false → a ≡ false
+not-sure true b up off = absurd (let e = up refl in cc)
+not-sure false b up off = refl
+
+or-right : (a b : Bool) → b ≡ true → a || b ≡ true
+or-right true b h = refl
+or-right false b h = h
+
+or-false : (a : Bool) → a ≡ a || false
+or-false true = refl
+or-false false = refl
+
+cut-plain : (op : Op) (rest : List Op) → is_cancel op ≡ false → before_cancel (op ∷ rest) ≡ op ∷ before_cancel rest
+cut-plain op rest h = ap (λ b. if b then [] else op ∷ before_cancel rest) h
+
+pub going-step : (good : List ℕ → Type 0) (words : ℕ) (regions : List Region) (script : List Op) (op : Op) (rest : List Op) (v w : Known) (alg : Alg) (out next : Output) (wrote : Bool) (reply : ℕ)
+    → is_cancel op ≡ false → next ≡ record out { replies = out.replies ++ reply ∷ [] } → Going good words regions script (op ∷ rest) v alg out wrote → GaveOver good words (ran_one regions op) v.log out w.log next → IsExplained good words w.log
+    → w.alg ≡ v.alg → w.granted ≡ v.granted → (is_irrevocable v ≡ true → is_irrevocable w ≡ true) → HasRoom next (length rest)
+    → Going good words regions script rest w alg next (wrote || writes op reply)
+going-step good words regions script op rest v w alg out next wrote reply plain told g gave ex same grant up room =
+    let m = ex.0 in
+    let here = gave m ex.1 ex.2 ex.3 in
+    let same_reply : (effect_of regions op (overlay m v.log.writes)).reply ≡ reply =
+    one-reply out.replies (effect_of regions op (overlay m v.log.writes)).reply reply (sym here.replied ∙ ap (λ (o : Output). o.replies) told) in
+    let more : not (is_empty w.log.writes) ≡ not (is_empty v.log.writes) || writes op reply =
+    here.wrote ∙ ap (λ b. not (is_empty v.log.writes) || b) (one-wrote regions op (overlay m v.log.writes) ∙ ap (writes op) same_reply) in
+    record {
+      fits = All-tail (OpFits regions words) op rest g.fits;
+      rule = All-tail (OpKeeps good words regions) op rest g.rule;
+      room = room;
+      explained = ex;
+      keeps = keeps-gave good words (ran_one regions op) v.log out w.log next gave (keeps-run good words regions (op ∷ []) (one-of (OpKeeps good words regions) op (All-head (OpKeeps good words regions) op rest g.rule))) g.keeps;
+      named = same ∙ g.named;
+      ungranted = grant ∙ g.ungranted;
+      writer = ap (λ b. b || writes op reply) g.writer ∙ sym more;
+      on = λ x fine len e. gives-step regions script op rest x no_log no_replies v.log out w.log next (g.on x fine len (gave x fine len e).explained) (gave x fine len e);
+      ends = λ h. g.ends (or-right (is_cancel op) (has_cancel rest) h);
+      cut = λ off x fine len e.
+          gives-step regions (before_cancel script) op (before_cancel rest) x no_log no_replies v.log out w.log next
+          (subst (λ ops. GivesOn regions (before_cancel script) ops x no_log no_replies v.log out) (cut-plain op rest plain) (g.cut (not-sure (is_irrevocable v) (is_irrevocable w) up off) x fine len (gave x fine len e).explained))
+          (gave x fine len e);
+    }
+
+-- a cancel that is refused replies 0, and no later one will end the attempt
+pub going-refused : (good : List ℕ → Type 0) (words : ℕ) (regions : List Region) (script rest : List Op) (v : Known) (alg : Alg) (out next : Output) (wrote : Bool)
+    → Going good words regions script (Cancel ∷ rest) v alg out wrote → is_irrevocable v ≡ true → next ≡ record out { replies = out.replies ++ 0 ∷ [] } → HasRoom next (length rest)
+    → Going good words regions script rest v alg next wrote
+going-refused good words regions script rest v alg out next wrote g sure told room =
+    let one : (x : List ℕ) → Explains x v.log.reads → Gave (ran_one regions Cancel) x v.log out v.log next = λ x e. record {
+      explained = e;
+      replied = ap (λ (o : Output). o.replies) told;
+      emitted = ap (λ (o : Output). o.emits) told ∙ sym (append-nil out.emits);
+      left = refl;
+      wrote = or-false (not (is_empty v.log.writes));
+    } in
+    record {
+      fits = All-tail (OpFits regions words) Cancel rest g.fits;
+      rule = All-tail (OpKeeps good words regions) Cancel rest g.rule;
+      room = room;
+      explained = g.explained;
+      keeps = g.keeps;
+      named = g.named;
+      ungranted = g.ungranted;
+      writer = g.writer;
+      on = λ x fine len e. gives-step regions script Cancel rest x no_log no_replies v.log out v.log next (g.on x fine len e) (one x e);
+      ends = λ h. g.ends refl;
+      cut = λ off. absurd (let e : true ≡ false = sym sure ∙ off in cc);
+    }
+
+-- the script is over
+pub gave-all : (good : List ℕ → Type 0) (words : ℕ) (regions : List Region) (script rest : List Op) (v : Known) (alg : Alg) (out : Output) (wrote : Bool)
+    → Going good words regions script rest v alg out wrote → rest ≡ [] → GaveOver good words (run regions script) no_log no_replies v.log out
+gave-all good words regions script rest v alg out wrote g none = λ m fine len x.
+    subst (λ ops. GivesOn regions script ops m no_log no_replies v.log out) none (g.on m fine len x) v.log out (gives-none regions m v.log out x)
+
+-- it ends before a cancel
+pub gave-cut : (good : List ℕ → Type 0) (words : ℕ) (regions : List Region) (script rest : List Op) (v : Known) (alg : Alg) (out : Output) (wrote : Bool)
+    → Going good words regions script (Cancel ∷ rest) v alg out wrote → is_irrevocable v ≡ false → GaveOver good words (run regions (before_cancel script)) no_log no_replies v.log out
+gave-cut good words regions script rest v alg out wrote g off = λ m fine len x. g.cut off m fine len x v.log out (gives-none regions m v.log out x)

@@ -1,0 +1,6 @@
+mod Calls
+mod FairLaws
+mod GoingLaws
+mod RoomLaws
+mod RowLaws
+mod TurnLaws

@@ -1,0 +1,3 @@
+pub mod Goings
+pub mod Workers
+pub mod Leavings

@@ -1,0 +1,192 @@
+-- What a worker keeps, and what a turn does.
+use Rattle.std.specs.Prelude.{ℕ, ◌≡◌, ◌≤◌, ◌+◌, ◌*◌, ◌^◌, true, false, List, [], ◌∷◌, ◌++◌, length, drop, Contains, Some, MatchOption, vec_capacity, vec_len}
+use Rattle.atomic_table.specs.Seated.{TableId}
+use Rattle.rule_base.specs.declared.layout.At.TheVariants.{Clock}
+use Rattle.rule_base.specs.declared.layout.Config.{Config}
+use Rattle.stm_model.specs.declared.alg.Alg.{Alg}
+use Rattle.stm_model.specs.declared.alg.Alg.TheVariants.{Cgl}
+use Rattle.stm_model.specs.Histories.{Entry}
+use Rattle.stm_script.specs.declared.region.Region.{Region}
+use Rattle.stm_script.specs.declared.report.Kind.{Kind}
+use Rattle.stm_script.specs.declared.report.Row.{Row}
+use Rattle.stm_script.specs.declared.workload.Header.{Header}
+use Rattle.stm_script.specs.declared.workload.Item.{Item}
+use Rattle.stm_script.specs.declared.workload.Item.TheVariants.{Tx, Switch}
+use Rattle.stm_script.specs.GrowthLaws.{Grew}
+use Rattle.stm_script.specs.Keeping.{ScriptKeeps}
+use Rattle.stm_script.specs.Operations.{ScriptFits}
+use Rattle.stm_script.specs.Outputs.{Output}
+use Rattle.stm_script.specs.Parts.{Worked}
+use Rattle.stm_script.specs.Reports.{scripts_of, script_of, zeros}
+use Rattle.stm_rule.specs.Callers.{Handle, IsOf, IsSameCaller}
+use Rattle.tx_answers.specs.Answers.{HoldsClosed, SeesQuiet}
+use Rattle.tx_answers.specs.Known.{Known, IsIdle, caller_of, is_offered, owed}
+use Rattle.stm_tx.specs.Descs.{known}
+use Rattle.stm_trace.specs.declared.said.Phase.{Phase}
+use Rattle.stm_trace.specs.declared.said.Phase.TheVariants.{Between, Inside, Closing, Quiet}
+use Rattle.stm_trace.specs.declared.said.Said.{Said}
+use Rattle.stm_trace.specs.declared.said.Said.TheVariants.{TryBegin, Reply, Stopped, TryCancel, TryCommit, TryClose, Looked, Installed, Idle, Dropped, Reopened}
+use Rattle.stm_trace.specs.Places.{Place, after, clock_of, ended, script_at}
+use Rattle.stm_trace.specs.Turns.{BeforeTx, BeforeSwitch, IsFair, sure}
+use Rattle.stm_worker.specs.declared.worker.Worker.{Worker}
+use Rattle.stm_worker.specs.Goings.{Going}
+
+abbrev pub place_of : {K : Type 0} → Worker K → Place
+place_of w = record { caller = caller_of w.desc.who.role; left = w.items_left.now; phase = w.phase; alg = w.alg; rest = w.operations_left.now; replies = w.out.replies; emits = w.out.emits; wrote = w.wrote; rows = w.rows.items }
+
+-- the memory has the sizes of this header
+abbrev pub HasSizes : Config → Header → Type 0
+HasSizes c h = (h.words ≡ c.words) × (h.records ≡ c.records) × (h.ring ≡ c.ring) × (h.callers ≡ c.callers) × (h.reads ≡ c.reads) × (h.writes ≡ c.writes)
+
+-- the descriptor of caller n is idle, in an attempt of the one algorithm that is built, or holds the gate
+abbrev pub IsAt : (List ℕ → Type 0) → Config → ℕ → Phase → Known → Type 0
+IsAt good c n Between v = IsIdle v
+IsAt good c n Inside v = (v.running ≡ true) × (v.alg ≡ Cgl)
+IsAt good c n Closing v = HoldsClosed v
+IsAt good c n Quiet v = HoldsClosed v × SeesQuiet good c n v
+
+-- a load of the clock found this
+abbrev pub Loaded : Known → ℕ → Type 0
+Loaded v clock = Contains v.trail (record { place = Clock; found = Some clock })
+
+abbrev pub WhenInside : Phase → Type 0 → Type 0
+WhenInside Between P = Unit {0}
+WhenInside Inside P = P
+WhenInside Closing P = Unit {0}
+WhenInside Quiet P = Unit {0}
+
+-- who closes the gate has a switch to do
+abbrev pub ToSwitch : Phase → List Item → Type 0
+ToSwitch Between left = Unit {0}
+ToSwitch Inside left = Unit {0}
+ToSwitch Closing left = BeforeSwitch left
+ToSwitch Quiet left = BeforeSwitch left
+
+-- the items of caller n: each script fits and keeps the rule on memories, and each switch is to an algorithm that is built
+abbrev pub ItemsFit : (List ℕ → Type 0) → ℕ → List Region → ℕ → List Item → Type 0
+ItemsFit good words regions n [] = Unit {0}
+ItemsFit good words regions n (Tx caller script ∷ items) = (caller ≡ n) × ScriptFits regions words script × ScriptKeeps good words regions script × ItemsFit good words regions n items
+ItemsFit good words regions n (Switch caller alg ∷ items) = (caller ≡ n) × (is_offered alg ≡ true) × ItemsFit good words regions n items
+
+-- the algorithms that are switched to, in the order of the text
+abbrev pub switches_of : List Item → List Alg
+switches_of [] = []
+switches_of (Tx caller script ∷ items) = switches_of items
+switches_of (Switch caller alg ∷ items) = alg ∷ switches_of items
+
+-- what the caller has installed since it began: the switches that it did, in their order
+abbrev pub DidSwitches : List Item → List Item → Known → Type 0
+DidSwitches all left v = (first : List Alg) × (v.installs ++ switches_of left ≡ first ++ switches_of all)
+
+-- the caller's rows and what it knows: each row is what its script does
+abbrev pub Works : (List ℕ → Type 0) → ℕ → List Region → List Item → ℕ → Known → List Row → Type 0
+Works good words regions all n v rows = Worked good (zeros words) regions (script_of all) n v.made v.seen v.front rows
+
+-- the same in an open attempt, from what the caller knew when it began
+pub record WorksSince (good : List ℕ → Type 0) (words : ℕ) (regions : List Region) (all : List Item) (n : ℕ) (v : Known) (rows : List Row) : Type 0 where
+  pub seen : List Entry
+  pub front : ℕ
+  pub works : Worked good (zeros words) regions (script_of all) n v.made seen front rows
+  pub grew : Grew seen front v.seen v.front
+  pub fresh : front ≤ v.start
+
+-- the clock's rises are at most two an item that is done
+abbrev pub Pays : List Item → List Item → ℕ → Type 0
+Pays all left rises = rises + 2 * length left ≤ 2 * length all
+
+abbrev pub Stands : (List ℕ → Type 0) → ℕ → List Region → List Item → List Item → ℕ → Known → List Row → Phase → Type 0
+Stands good words regions all left n v rows Between = Works good words regions all n v rows × Pays all left v.rises
+Stands good words regions all left n v rows Inside = WorksSince good words regions all n v rows × Pays all left v.base
+Stands good words regions all left n v rows Closing = Works good words regions all n v rows × Pays all left v.rises
+Stands good words regions all left n v rows Quiet = Works good words regions all n v rows × Pays all left v.rises
+
+abbrev pub cleared : Output → Output
+cleared o = record o { replies = []; emits = [] }
+
+abbrev pub blank : ℕ → Output
+blank room = record { replies = []; emits = []; room = room }
+
+-- empty room for each script to come, the next one's last, and nothing behind the last script
+abbrev pub spares : List Item → List Output
+spares [] = blank 0 ∷ []
+spares (Tx caller script ∷ items) = spares items ++ blank (length script) ∷ []
+spares (Switch caller alg ∷ items) = spares items
+
+-- the room for the replies and rows to come is there
+pub record Roomy {K : Type 0} (w : Worker K) : Type 0 where
+  pub spare : w.spare.items ++ cleared w.out ∷ [] ≡ spares w.items_left.now
+  pub rows : vec_len w.rows + length w.spare.items ≤ vec_capacity w.rows
+
+-- what was installed between the two, and what is still to be switched to, is what was to be switched to
+abbrev pub Switches : {K : Type 0} → Worker K → Worker K → Type 0
+Switches v w = (known w.desc).installs ++ switches_of w.items_left.now ≡ (known v.desc).installs ++ switches_of v.items_left.now
+
+-- the same caller, with the same items to do, of which it passed over no switch
+pub record IsSame {K : Type 0} (v w : Worker K) : Type 0 where
+  pub same : IsSameCaller v.desc w.desc
+  pub all : w.all.now ≡ v.all.now
+  pub regions : w.regions ≡ v.regions
+  pub switched : Switches v w
+
+-- nothing is done, and there is room for all; alg is the memory's algorithm at the start
+pub record Starts {K : Type 0} (desc : Handle K) (items : List Item) (alg : Alg) (w : Worker K) : Type 0 where
+  pub is_desc : w.desc ≡ desc
+  pub all : w.all.now ≡ items
+  pub at : place_of w ≡ record { caller = caller_of desc.who.role; left = items; phase = Between; alg = alg; rest = []; replies = []; emits = []; wrote = false; rows = [] }
+  pub regions : w.regions ≡ []
+  pub roomy : Roomy w
+
+-- the row is written, and the next replies begin
+pub record EndsWith {K : Type 0} (kind : Kind) (time : ℕ) (v w : Worker K) : Type 0 where
+  pub at : place_of w ≡ ended kind time (place_of v)
+  pub desc : w.desc ≡ v.desc
+  pub all : w.all.now ≡ v.all.now
+  pub regions : w.regions ≡ v.regions
+  pub roomy : Roomy w
+
+-- what was installed in a turn
+abbrev pub installed : Said → List Alg
+installed (TryBegin b) = []
+installed (Reply op reply) = []
+installed (Stopped op stop) = []
+installed (TryCancel c) = []
+installed (TryCommit c) = []
+installed (TryClose c) = []
+installed (Looked l) = []
+installed (Installed alg) = alg ∷ []
+installed Idle = []
+installed Dropped = []
+installed Reopened = []
+
+module _ {K : Type 0} (good : List ℕ → Type 0) (table : TableId) (config : Config) (rule : K) where
+  pub record Sound (w : Worker K) : Type 0 where
+    pub own : IsOf w.desc table config rule
+    pub at : IsAt good config (caller_of w.desc.who.role) w.phase (known w.desc)
+    pub stands : Stands good config.words w.regions w.all.now w.items_left.now (caller_of w.desc.who.role) (known w.desc) w.rows.items w.phase
+    pub todo : scripts_of (caller_of w.desc.who.role) w.items_left.now ≡ drop (length w.rows.items) (scripts_of (caller_of w.desc.who.role) w.all.now)
+    pub within : length w.rows.items ≤ length (scripts_of (caller_of w.desc.who.role) w.all.now)
+    pub switched : DidSwitches w.all.now w.items_left.now (known w.desc)
+    pub fits : ItemsFit good config.words w.regions (caller_of w.desc.who.role) w.items_left.now
+    pub roomy : Roomy w
+    pub turning : ToSwitch w.phase w.items_left.now
+    pub going : WhenInside w.phase (Going good config.words w.regions (script_at w.items_left.now) w.operations_left.now (known w.desc) w.alg w.out w.wrote × BeforeTx w.items_left.now)
+
+  -- a turn says what may come at its place, by the numbers that its cause allows, and leads where that leads
+  pub record Turned (may : Place → Said → Type 0) (v : Worker K) (said : Said) (w : Worker K) : Type 0 where
+    pub sound : Sound w
+    pub here : may (place_of v) said
+    pub fair : (h : Header) → HasSizes config h → IsFair h (place_of v) said
+    pub now : place_of w ≡ after (place_of v) said
+    -- the clock's rises, by the attempt and not by the turn
+    pub pays : owed (known w.desc) ≤ owed (known v.desc) + 2
+    pub found : MatchOption (clock_of said) (Unit {0}) (λ clock. (2 ^ 62 ≤ clock) × Loaded (known w.desc) clock)
+    pub installs : (known w.desc).installs ≡ (known v.desc).installs ++ installed said
+    pub same : IsSame v w
+
+  -- the open attempt can't be cancelled, and stands as it did
+  pub record Refused (v w : Worker K) : Type 0 where
+    pub sound : Sound w
+    pub is_sure : sure (place_of v) ≡ true
+    pub now : place_of w ≡ place_of v
+    pub knows : known w.desc ≡ known v.desc
+    pub same : IsSame v w

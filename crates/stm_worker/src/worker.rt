@@ -1,0 +1,420 @@
+//! A caller's worker: one call a turn.
+ghost use Rattle.std.specs.Prelude.{◌≡◌, ◌⊎◌, ◌++◌, ◌∷◌, [], true, false, Some, is_ok, MatchBool, IfOk, IfErr, OnOk};
+ghost use Rattle.stm_model.specs.Logs.{IsExplained};
+ghost use Rattle.stm_script.specs.declared.op.Op.{Op};
+ghost use Rattle.stm_script.specs.Operations.{OpFits, is_cancel};
+ghost use Rattle.stm_script.specs.Outputs.{HasRoom};
+ghost use Rattle.stm_script.specs.ScriptLaws.{GaveOver, ran_one};
+ghost use Rattle.stm_rule.specs.Callers.{IsOf};
+ghost use Rattle.stm_tx.specs.Descs.{Frames, known};
+ghost use Rattle.tx_answers.specs.Answers.{is_fair};
+ghost use Rattle.stm_trace.specs.Places.{script_at, rest_of, writes};
+ghost use Rattle.stm_trace.specs.Turns.{BeforeTx, BeforeSwitch, SwitchesTo, Next, MaySay, MayWind};
+ghost use Rattle.stm_worker.specs.Workers.{Sound, Turned, Refused, Roomy, EndsWith, Starts, spares};
+
+use crate::turnstile::Turnstile;
+use std::alloc::{AllocError, Global};
+use std::mem;
+use stm_model::alg::Alg;
+use stm_model::memory::Memory;
+use stm_model::rule::MemRule;
+use stm_model::stop::Stop;
+use stm_rule::desc::Desc;
+use stm_rule::stm::Stm;
+use stm_script::interpret::perform;
+use stm_script::op::Op;
+use stm_script::region::Regions;
+use stm_script::replies::Replies;
+use stm_script::report::{Kind, Row};
+use stm_script::workload::Item;
+use stm_trace::said::{Phase, Said};
+use stm_tx::calls::{cancel, commit, try_begin};
+use stm_tx::gate::{close_gate, install, look, reopen};
+use stm_tx::live::Live;
+use tx_answers::answers::{Begin, Cancel, CloseGate, Commit, Look};
+
+/// A caller: what it has still to do, its open attempt, and the rows of its transactions that have ended.
+///
+/// The room for all rows and replies is there from the start, so that no turn takes memory.
+#[derive(Drop)]
+pub struct Worker<'a, K: MemRule> {
+    pub desc: Desc<K>,
+    /// All that the caller is to do.
+    pub all: &'a [Item],
+    /// What it has still to do, an open transaction or switch first.
+    pub items_left: &'a [Item],
+    pub phase: Phase,
+    /// The algorithm of the last attempt.
+    pub alg: Alg,
+    /// The operations of the open attempt that are still to come.
+    pub operations_left: &'a [Op],
+    /// What the open attempt has replied, with the room of the next transaction's script.
+    pub out: Replies,
+    /// Whether the last attempt wrote.
+    pub wrote: bool,
+    /// Whether the last attempt has passed the turnstile.
+    pub passed: bool,
+    pub regions: Regions,
+    pub rows: Vec<Row>,
+    /// Empty room for the replies of the transactions behind the next one, the last one's first.
+    pub spare: Vec<Replies>,
+}
+
+/// All but the first.
+fn tail<T>(items: &[T]) -> &[T]
+    ensures { result.now ≡ rest_of items.now }
+{
+    match items.split_first() {
+        Some((_, others)) => others,
+        None => items,
+    }
+}
+
+/// The algorithm of the switch that is to be done.
+fn target(items: &[Item]) -> Alg
+    requires here { BeforeSwitch items.now }
+    ensures { SwitchesTo result items.now }
+{
+    match items.first() {
+        Some(Item::Switch { caller: _, alg }) => *alg,
+        Some(Item::Tx { .. }) => unreachable!(),
+        None => unreachable!(),
+    }
+}
+
+/// Whether an operation that replied this wrote.
+fn writes(op: Op, reply: u64) -> bool
+    ensures { result ≡ writes op reply }
+{
+    match op {
+        Op::Write(_, _) | Op::Add(_, _) => true,
+        Op::Move(_, _, _) => reply == 1,
+        Op::Read(_) | Op::Cancel => false,
+    }
+}
+
+/// One operation of a running attempt.
+fn operate<K: MemRule>(
+    stm: &Stm<K>,
+    desc: &mut Desc<K>,
+    regions: &Regions,
+    op: Op,
+    out: &mut Replies,
+) -> Result<u64, Stop>
+    requires own { IsOf desc.old stm.now.table.shared.table_id stm.now.config stm.now.rule }
+    requires runs { (known desc.old).running ≡ true }
+    requires fits { OpFits regions.now stm.now.config.words op }
+    requires room { HasRoom out.old 1 }
+    ensures frames { Frames desc.old desc.new }
+    ensures runs { (known desc.new).running ≡ is_ok result }
+    ensures fair { IfErr result (λ s. is_fair (known desc.new) (Some s) ≡ true) }
+    ensures gave { OnOk result (GaveOver (K.good stm.now.rule) stm.now.config.words (ran_one regions.now op) (known desc.old).log out.old (known desc.new).log out.new) }
+    ensures told { IfOk result (λ r. out.new ≡ record out.old { replies = out.old.replies ++ r ∷ [] }) }
+    ensures explained { OnOk result (IsExplained (K.good stm.now.rule) stm.now.config.words (known desc.old).log → IsExplained (K.good stm.now.rule) stm.now.config.words (known desc.new).log) }
+    ensures kept { out.new.room ≡ out.old.room }
+{
+    let mut live = Live {
+        desc,
+        stm,
+        stopped: None,
+    };
+    perform(&mut live, regions, &op, out)
+}
+
+/// Empty room for the replies of each transaction, the last one's first, behind an empty one of no room.
+fn rooms(alloc: Global, items: &[Item]) -> Result<Vec<Replies>, Memory>
+    ensures { IfOk result (λ spare. spare.items ≡ spares items.now) }
+{
+    let mut spare = Vec::new(alloc);
+    push_room(&mut spare, Replies::new(alloc, 0)?)?;
+    for done in 0..items.len() {
+        if let Item::Tx { caller: _, script } = &items[items.len() - 1 - done] {
+            push_room(&mut spare, Replies::new(alloc, script.as_slice().len())?)?;
+        }
+    }
+    Ok(spare)
+}
+
+fn push_room(spare: &mut Vec<Replies>, room: Replies) -> Result<(), AllocError>
+    ensures { OnOk result (spare.new.items ≡ spare.old.items ++ room ∷ []) }
+{
+    spare.push(room)?;
+    Ok(())
+}
+
+impl<'a, K: MemRule> Worker<'a, K> {
+    /// A worker that has done nothing, with room for all its rows and replies; `alg` is the memory's
+    /// algorithm at the start.
+    ///
+    /// # Errors
+    /// Memory, where it is refused.
+    pub fn new(
+        alloc: Global,
+        desc: Desc<K>,
+        items: &'a [Item],
+        alg: Alg,
+    ) -> Result<Worker<'a, K>, Memory>
+        ensures { IfOk result (Starts desc items.now alg) }
+    {
+        let mut spare = rooms(alloc, items)?;
+        let out = match spare.pop() {
+            Some(out) => out,
+            None => unreachable!(),
+        };
+        let mut rows = Vec::new(alloc);
+        rows.reserve(spare.len())?;
+        Ok(Worker {
+            desc,
+            all: items,
+            items_left: items,
+            phase: Phase::Between,
+            alg,
+            operations_left: &[],
+            out,
+            wrote: false,
+            passed: false,
+            regions: Regions::none(alloc),
+            rows,
+            spare,
+        })
+    }
+
+    /// Makes the caller's next call, and says its answer.
+    pub fn turn<G: Turnstile>(&mut self, stm: &Stm<K>, turnstile: &G) -> Said
+        requires sound { Sound (K.good stm.now.rule) stm.now.table.shared.table_id stm.now.config stm.now.rule self.old }
+        ensures turned { Turned (K.good stm.now.rule) stm.now.table.shared.table_id stm.now.config stm.now.rule MaySay self.old result self.new }
+    {
+        match self.phase {
+            Phase::Between => {
+                let items = self.items_left;
+                match items.first() {
+                    None => Said::Idle,
+                    Some(Item::Tx { caller: _, script }) => {
+                        Said::TryBegin(self.begin(stm, script.as_slice()))
+                    }
+                    Some(Item::Switch { caller: _, alg: _ }) => Said::TryClose(self.close(stm)),
+                }
+            }
+            Phase::Inside => {
+                let operations = self.operations_left;
+                match operations.first() {
+                    None => Said::TryCommit(self.commit(stm, turnstile)),
+                    Some(Op::Cancel) => Said::TryCancel(self.cancel(stm)),
+                    Some(op) => self.operation(stm, *op),
+                }
+            }
+            Phase::Closing => Said::Looked(self.look(stm)),
+            Phase::Quiet => {
+                let alg = target(self.items_left);
+                self.install(stm, alg);
+                Said::Installed(alg)
+            }
+        }
+    }
+
+    /// Begins the next transaction, whose operations are `script`.
+    fn begin(&mut self, stm: &Stm<K>, script: &'a [Op]) -> Begin
+        requires sound { Sound (K.good stm.now.rule) stm.now.table.shared.table_id stm.now.config stm.now.rule self.old }
+        requires between { self.old.phase ≡ Phase.Between }
+        requires here { BeforeTx self.old.items_left.now }
+        requires script { script.now ≡ script_at self.old.items_left.now }
+        ensures turned { Turned (K.good stm.now.rule) stm.now.table.shared.table_id stm.now.config stm.now.rule MaySay self.old (Said.TryBegin result) self.new }
+    {
+        match try_begin(&mut self.desc, stm) {
+            Begin::Begun(alg) => {
+                self.phase = Phase::Inside;
+                self.alg = alg;
+                self.operations_left = script;
+                self.out.clear();
+                self.wrote = false;
+                self.passed = false;
+                Begin::Begun(alg)
+            }
+            Begin::Closed { gate } => Begin::Closed { gate },
+            Begin::Held { word } => Begin::Held { word },
+            Begin::ClockFull { clock } => Begin::ClockFull { clock },
+        }
+    }
+
+    /// The next operation of the open attempt, other than a cancel.
+    fn operation(&mut self, stm: &Stm<K>, op: Op) -> Said
+        requires sound { Sound (K.good stm.now.rule) stm.now.table.shared.table_id stm.now.config stm.now.rule self.old }
+        requires inside { self.old.phase ≡ Phase.Inside }
+        requires next { Next op self.old.operations_left.now }
+        requires plain { is_cancel op ≡ false }
+        ensures turned { Turned (K.good stm.now.rule) stm.now.table.shared.table_id stm.now.config stm.now.rule MaySay self.old result self.new }
+    {
+        match operate(stm, &mut self.desc, &self.regions, op, &mut self.out) {
+            Ok(reply) => {
+                self.operations_left = tail(self.operations_left);
+                self.wrote = self.wrote | writes(op, reply);
+                Said::Reply(op, reply)
+            }
+            Err(stop) => {
+                self.give_up();
+                Said::Stopped(op, stop)
+            }
+        }
+    }
+
+    /// Cancels the open attempt, or where it can't be, goes on.
+    fn cancel(&mut self, stm: &Stm<K>) -> Cancel
+        requires sound { Sound (K.good stm.now.rule) stm.now.table.shared.table_id stm.now.config stm.now.rule self.old }
+        requires inside { self.old.phase ≡ Phase.Inside }
+        requires next { Next Op.Cancel self.old.operations_left.now }
+        ensures turned { Turned (K.good stm.now.rule) stm.now.table.shared.table_id stm.now.config stm.now.rule MaySay self.old (Said.TryCancel result) self.new }
+    {
+        match cancel(&mut self.desc, stm) {
+            Cancel::Cancelled { time } => {
+                self.out.reply(1);
+                self.end(Kind::C, time);
+                Cancel::Cancelled { time }
+            }
+            Cancel::Irrevocable => {
+                self.out.reply(0);
+                self.operations_left = tail(self.operations_left);
+                Cancel::Irrevocable
+            }
+        }
+    }
+
+    /// Commits the open attempt, all of whose operations are done.
+    fn commit<G: Turnstile>(&mut self, stm: &Stm<K>, turnstile: &G) -> Commit
+        requires sound { Sound (K.good stm.now.rule) stm.now.table.shared.table_id stm.now.config stm.now.rule self.old }
+        requires inside { self.old.phase ≡ Phase.Inside }
+        requires over { self.old.operations_left.now ≡ [] }
+        ensures turned { Turned (K.good stm.now.rule) stm.now.table.shared.table_id stm.now.config stm.now.rule MaySay self.old (Said.TryCommit result) self.new }
+    {
+        self.pass(turnstile);
+        self.passed = true;
+        match commit(&mut self.desc, stm) {
+            Commit::Committed { time } => {
+                self.end(Kind::W, time);
+                Commit::Committed { time }
+            }
+            Commit::ReadOnly { time } => {
+                self.end(Kind::R, time);
+                Commit::ReadOnly { time }
+            }
+            Commit::Again { word, had, now } => Commit::Again { word, had, now },
+            Commit::Conflict(cause) => {
+                self.give_up();
+                Commit::Conflict(cause)
+            }
+            Commit::ClockFull { clock } => {
+                self.give_up();
+                Commit::ClockFull { clock }
+            }
+        }
+    }
+
+    /// Passes the turnstile, once an attempt.
+    fn pass<G: Turnstile>(&self, turnstile: &G) {
+        if !self.passed {
+            turnstile.pass(self.desc.number, self.rows.len());
+        }
+    }
+
+    /// Tries to close the gate for the next switch.
+    fn close(&mut self, stm: &Stm<K>) -> CloseGate
+        requires sound { Sound (K.good stm.now.rule) stm.now.table.shared.table_id stm.now.config stm.now.rule self.old }
+        requires between { self.old.phase ≡ Phase.Between }
+        requires here { BeforeSwitch self.old.items_left.now }
+        ensures turned { Turned (K.good stm.now.rule) stm.now.table.shared.table_id stm.now.config stm.now.rule MaySay self.old (Said.TryClose result) self.new }
+    {
+        match close_gate(&mut self.desc, stm) {
+            CloseGate::Closed => {
+                self.phase = Phase::Closing;
+                CloseGate::Closed
+            }
+            CloseGate::Taken { gate } => CloseGate::Taken { gate },
+        }
+    }
+
+    /// Looks whether the others are idle.
+    fn look(&mut self, stm: &Stm<K>) -> Look
+        requires sound { Sound (K.good stm.now.rule) stm.now.table.shared.table_id stm.now.config stm.now.rule self.old }
+        requires closing { self.old.phase ≡ Phase.Closing }
+        ensures turned { Turned (K.good stm.now.rule) stm.now.table.shared.table_id stm.now.config stm.now.rule MaySay self.old (Said.Looked result) self.new }
+    {
+        match look(&mut self.desc, stm) {
+            Look::Quiet => {
+                self.phase = Phase::Quiet;
+                Look::Quiet
+            }
+            Look::Busy { caller, status } => Look::Busy { caller, status },
+        }
+    }
+
+    /// Installs the algorithm, and opens the gate again.
+    fn install(&mut self, stm: &Stm<K>, alg: Alg)
+        requires sound { Sound (K.good stm.now.rule) stm.now.table.shared.table_id stm.now.config stm.now.rule self.old }
+        requires quiet { self.old.phase ≡ Phase.Quiet }
+        requires to { SwitchesTo alg self.old.items_left.now }
+        ensures turned { Turned (K.good stm.now.rule) stm.now.table.shared.table_id stm.now.config stm.now.rule MaySay self.old (Said.Installed alg) self.new }
+    {
+        install(&mut self.desc, stm, alg);
+        reopen(&mut self.desc, stm);
+        self.items_left = tail(self.items_left);
+        self.phase = Phase::Between;
+    }
+
+    /// Writes the row of the open transaction, whose attempt has ended.
+    fn end(&mut self, kind: Kind, place: u64)
+        requires roomy { Roomy self.old }
+        requires here { BeforeTx self.old.items_left.now }
+        ensures ends { EndsWith kind place self.old self.new }
+    {
+        let seq = self.rows.len();
+        let caller = self.desc.number;
+        let fresh = match self.spare.pop() {
+            Some(fresh) => fresh,
+            None => unreachable!(),
+        };
+        let (replies, emits) = mem::replace(&mut self.out, fresh).into_words();
+        self.rows.push_reserved(Row {
+            kind,
+            place,
+            caller,
+            seq,
+            replies,
+            emits,
+        });
+        self.items_left = tail(self.items_left);
+        self.phase = Phase::Between;
+    }
+
+    /// The attempt has ended without a row: its script is still to do.
+    fn give_up(&mut self)
+        ensures { self.new ≡ record self.old { phase = Phase.Between; out = record self.old.out { replies = []; emits = [] } } }
+    {
+        self.phase = Phase::Between;
+        self.out.clear();
+    }
+
+    /// Once the schedule is over: cancels the open attempt, and returns whether it could be; else nothing
+    /// has changed.
+    pub(crate) fn drop_attempt(&mut self, stm: &Stm<K>) -> bool
+        requires sound { Sound (K.good stm.now.rule) stm.now.table.shared.table_id stm.now.config stm.now.rule self.old }
+        requires inside { self.old.phase ≡ Phase.Inside }
+        ensures { MatchBool result (Turned (K.good stm.now.rule) stm.now.table.shared.table_id stm.now.config stm.now.rule MayWind self.old Said.Dropped self.new) (Refused (K.good stm.now.rule) stm.now.table.shared.table_id stm.now.config stm.now.rule self.old self.new) }
+    {
+        match cancel(&mut self.desc, stm) {
+            Cancel::Cancelled { time: _ } => {
+                self.give_up();
+                true
+            }
+            Cancel::Irrevocable => false,
+        }
+    }
+
+    /// Once the schedule is over: gives the closing up, and opens the gate again.
+    pub(crate) fn open_again(&mut self, stm: &Stm<K>)
+        requires sound { Sound (K.good stm.now.rule) stm.now.table.shared.table_id stm.now.config stm.now.rule self.old }
+        requires closing { (self.old.phase ≡ Phase.Closing) ⊎ (self.old.phase ≡ Phase.Quiet) }
+        ensures turned { Turned (K.good stm.now.rule) stm.now.table.shared.table_id stm.now.config stm.now.rule MayWind self.old Said.Reopened self.new }
+    {
+        reopen(&mut self.desc, stm);
+        self.phase = Phase::Between;
+    }
+}
