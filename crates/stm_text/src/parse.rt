@@ -16,9 +16,9 @@ use thiserror::Error;
 /// The command that a workload is for.
 #[derive(Clone, Copy, Drop, Debug, PartialEq, Eq)]
 pub enum Mode {
-    /// `run`, which takes one caller.
+    /// `run`, which takes no schedule.
     Run,
-    /// `step`, which takes 1 to 32 callers and a schedule.
+    /// `step`, which takes one.
     Step,
 }
 
