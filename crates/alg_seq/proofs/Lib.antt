@@ -1,4 +1,8 @@
-pub mod Logging
-pub mod Opacity
-pub mod CglCalls
-pub mod Standing
+pub mod Told
+pub mod Locked
+pub mod Beginning
+pub mod Undoing
+pub mod Keeping
+pub mod Pushing
+pub mod Granting
+mod TmlLaws

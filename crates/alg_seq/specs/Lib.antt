@@ -1,1 +1,3 @@
-pub mod Cgl
+pub mod Starts
+pub mod Storing
+pub mod Tml

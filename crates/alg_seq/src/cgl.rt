@@ -2,27 +2,28 @@
 //! begin on.
 ghost use Rattle.std.specs.Prelude.{◌≡◌, ℕ, ◌<◌, true};
 ghost use Rattle.stm_model.specs.declared.alg.Alg.TheVariants.{Cgl};
-ghost use Rattle.rule_base.specs.declared.seats.Role.TheVariants.{Caller};
-ghost use Rattle.stm_rule.specs.Callers.{IsOf, IsSameCaller};
-ghost use Rattle.stm_rule.specs.Kept.{IsSameSeat, IsSeatOf, good_of, view_of};
-ghost use Rattle.tx_answers.specs.Answers.{HasRead, HasWritten, KeepsRule, Commits};
-ghost use Rattle.tx_answers.specs.Known.{known_of, caller_of};
-ghost use Rattle.alg_seq.specs.Cgl.{CanBegin, Starts};
+ghost use Rattle.stm_rule.specs.Callers.{IsOf, IsSameCaller, IsSeatOf};
+ghost use Rattle.stm_rule.specs.Kept.{IsSameSeat, view_of};
+ghost use Rattle.tx_answers.specs.Answers.{HasRead, HasWritten, KeepsRule, Commits, Cancels, Irrevs};
+ghost use Rattle.tx_answers.specs.Known.{IsRunning};
+ghost use Rattle.stm_gate.specs.Knowing.{known, number};
+ghost use Rattle.alg_seq.specs.Starts.{CanBegin, Starts};
 
-use rule_base::layout::CLOCK_LIMIT;
+use crate::lock;
+use stm_model::config::CLOCK_LIMIT;
 use stm_model::rule::MemRule;
 use stm_rule::desc::Desc;
 use stm_rule::stm::{Stm, Token};
-use tx_answers::answers::{Begin, Commit, Read, Write};
+use tx_answers::answers::{Begin, Cancel, Commit, Irrev, Read, Write};
 
 /// Takes the lock and loads the start, which it answers, for a caller that found the gate open. Held and
-/// ClockFull leave the caller where it was, without the lock.
+/// ClockFull leave the caller where it was, without the lock. Two steps, three where the clock is at its limit.
 pub fn begin<K: MemRule>(seat: &mut Token<K>, stm: &Stm<K>, caller: usize) -> Result<u64, Begin>
-    requires seat { IsSeatOf stm.now.table.shared.table_id caller seat.old }
+    requires seat { IsSeatOf stm.now caller seat.old }
     requires caller { caller < stm.now.config.callers }
-    requires view { CanBegin (view_of seat.old) }
+    requires view { CanBegin Cgl (view_of seat.old) }
     ensures same { IsSameSeat seat.old seat.new × (seat.new.me.0 ≡ record seat.old.me.0 { view = view_of seat.new }) }
-    ensures begins { Starts (K.good stm.now.rule) stm.now.config caller result (view_of seat.old) (view_of seat.new) }
+    ensures begins { Starts (K.good stm.now.rule) stm.now.config caller Cgl result (view_of seat.old) (view_of seat.new) }
 {
     let found = stm.take_lock(seat, caller);
     if found != 0 {
@@ -36,52 +37,65 @@ pub fn begin<K: MemRule>(seat: &mut Token<K>, stm: &Stm<K>, caller: usize) -> Re
     Ok(clock)
 }
 
-/// Loads the word.
+/// Loads the word. One step.
 pub fn read<K: MemRule>(desc: &mut Desc<K>, stm: &Stm<K>, a: usize) -> Read
-    requires stm { IsOf desc.old stm.now.table.shared.table_id stm.now.config stm.now.rule }
-    requires running { (known_of desc.old.view).running ≡ true }
-    requires algorithm { (known_of desc.old.view).alg ≡ Cgl }
+    requires stm { IsOf desc.old stm.now }
+    requires running { IsRunning (known desc.old) }
+    requires algorithm { (known desc.old).alg ≡ Cgl }
     requires inside { a < stm.now.config.words }
     ensures same { IsSameCaller desc.old desc.new }
-    ensures read { HasRead (K.good stm.now.rule) stm.now.config (caller_of desc.old.who.role) a result (known_of desc.old.view) (known_of desc.new.view) }
+    ensures read { HasRead (K.good stm.now.rule) stm.now.config (number desc.old) a result (known desc.old) (known desc.new) }
 {
-    Read::Value(stm.load_heap(&mut desc.seat, desc.number, a))
+    lock::read(desc, stm, a)
 }
 
-/// Stores the word.
+/// Stores the word. One step.
 pub fn write<K: MemRule>(desc: &mut Desc<K>, stm: &Stm<K>, a: usize, x: u64) -> Write
-    requires stm { IsOf desc.old stm.now.table.shared.table_id stm.now.config stm.now.rule }
-    requires running { (known_of desc.old.view).running ≡ true }
-    requires algorithm { (known_of desc.old.view).alg ≡ Cgl }
+    requires stm { IsOf desc.old stm.now }
+    requires running { IsRunning (known desc.old) }
+    requires algorithm { (known desc.old).alg ≡ Cgl }
     requires inside { a < stm.now.config.words }
     ensures same { IsSameCaller desc.old desc.new }
-    ensures write { HasWritten (K.good stm.now.rule) stm.now.config (caller_of desc.old.who.role) a x result (known_of desc.old.view) (known_of desc.new.view) }
+    ensures write { HasWritten (K.good stm.now.rule) stm.now.config (number desc.old) a x result (known desc.old) (known desc.new) }
 {
     stm.store_heap(&mut desc.seat, desc.number, a, x);
-    desc.wrote = true;
+    desc.local.wrote = true;
     Write::Done
 }
 
-/// Raises the clock where the attempt wrote, and frees the lock.
+/// Raises the clock where the attempt wrote, and frees the lock. Three steps, two where it wrote nothing.
 pub fn commit<K: MemRule>(desc: &mut Desc<K>, stm: &Stm<K>) -> Commit
-    requires stm { IsOf desc.old stm.now.table.shared.table_id stm.now.config stm.now.rule }
-    requires running { (known_of desc.old.view).running ≡ true }
-    requires algorithm { (known_of desc.old.view).alg ≡ Cgl }
-    requires keeps { KeepsRule (K.good stm.now.rule) stm.now.config (caller_of desc.old.who.role) (known_of desc.old.view) }
+    requires stm { IsOf desc.old stm.now }
+    requires running { IsRunning (known desc.old) }
+    requires algorithm { (known desc.old).alg ≡ Cgl }
+    requires keeps { KeepsRule (K.good stm.now.rule) stm.now.config (number desc.old) (known desc.old) }
     ensures same { IsSameCaller desc.old desc.new }
-    ensures commits { Commits (K.good stm.now.rule) stm.now.config (caller_of desc.old.who.role) result (known_of desc.old.view) (known_of desc.new.view) }
+    ensures commits { Commits (K.good stm.now.rule) stm.now.config (number desc.old) result (known desc.old) (known desc.new) }
 {
-    let caller = desc.number;
-    let start = desc.start;
-    desc.running = false;
-    if !desc.wrote {
-        stm.free_lock(&mut desc.seat, caller);
-        stm.depart(&mut desc.seat, caller);
-        return Commit::ReadOnly { time: start };
-    }
-    let time = start + 1;
-    stm.store_clock(&mut desc.seat, caller, time);
-    stm.free_lock(&mut desc.seat, caller);
-    stm.depart(&mut desc.seat, caller);
-    Commit::Committed { time }
+    lock::commit(desc, stm)
+}
+
+/// An attempt can't be cancelled: no step.
+pub fn cancel<K: MemRule>(desc: &mut Desc<K>, stm: &Stm<K>) -> Cancel
+    requires stm { IsOf desc.old stm.now }
+    requires running { IsRunning (known desc.old) }
+    requires algorithm { (known desc.old).alg ≡ Cgl }
+    ensures same { IsSameCaller desc.old desc.new }
+    ensures cancels { Cancels (K.good stm.now.rule) stm.now.config (number desc.old) result (known desc.old) (known desc.new) }
+{
+    let _ = stm;
+    Cancel::Irrevocable
+}
+
+/// An attempt is irrevocable from its begin on: no step.
+pub fn become_irrevocable<K: MemRule>(desc: &mut Desc<K>, stm: &Stm<K>) -> Irrev
+    requires stm { IsOf desc.old stm.now }
+    requires running { IsRunning (known desc.old) }
+    requires algorithm { (known desc.old).alg ≡ Cgl }
+    ensures same { IsSameCaller desc.old desc.new }
+    ensures irrevs { Irrevs (K.good stm.now.rule) stm.now.config (number desc.old) result (known desc.old) (known desc.new) }
+{
+    let _number = desc.number;
+    let _ = stm;
+    Irrev::Granted
 }

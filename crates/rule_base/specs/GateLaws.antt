@@ -4,16 +4,17 @@ use Rattle.std.specs.Prelude.{if◌then◌else◌, ◌==◌, ltb}
 use Rattle.std.proofs.lemmas.Bool.{eqb-true}
 use Rattle.std.proofs.lemmas.Bool.Decides.{nat_tests}
 use Rattle.stm_model.specs.declared.alg.Alg.{Alg}
+use Rattle.rule_base.specs.declared.views.GateView.{GateView}
 use Rattle.rule_base.specs.declared.views.Phase.{Phase}
 use Rattle.rule_base.specs.declared.views.Phase.TheVariants.{Idle, Announced, Turned, Aiming, In, Closing}
 use Rattle.rule_base.specs.declared.views.View.{View}
-use Rattle.rule_base.specs.Encodings.{alg_of, holder_of, gate_word}
-use Rattle.rule_base.specs.EncodingLemmas.{alg_of-gate, holder_of-gate}
+use Rattle.rule_base.specs.Encodings.{alg_of, holder_of, gate_word, announced}
+use Rattle.rule_base.specs.EncodingLemmas.{alg_of-gate, holder_of-gate, holder_of-open}
 use Rattle.rule_base.specs.GateRule.{rests, is_silent, may_hold, GateScene, gate_scene, GateRule}
-use Rattle.rule_base.specs.GateSteps.{announce, CanAnnounce, load_gate, CanLoadGate, departs, departed, depart, CanDepart, aim, CanAim, closed_at, take_gate, CanTakeGate, check, CanCheck, opened, reopen, CanReopen}
+use Rattle.rule_base.specs.GateSteps.{announce, CanAnnounce, load_gate, CanLoadGate, departs, departed, depart, CanDepart, aim, CanAim, closed_at, take_gate, CanTakeGate, check, CanCheck, opened, reopen, CanReopen, seized, seize, CanSeize, returned, return_gate, CanReturn}
 use Rattle.rule_base.specs.InstallSteps.{HasChecked, install}
 use Rattle.rule_base.specs.History.{member}
-use Rattle.rule_base.specs.PutLemmas.{parts-put, parts-kept}
+use Rattle.rule_base.specs.PutLemmas.{put-all, parts-put, parts-kept}
 use Rattle.rule_base.specs.StepKinds.{view_after, world_after}
 use Rattle.rule_base.specs.World.{World, put, parts}
 
@@ -26,23 +27,37 @@ pub gate_scene-kept : (w x : World) (n : ℕ) (v : View) → x.views ≡ put w.v
 gate_scene-kept w x n v is status gate own = λ i. record { status = status i; gate = gate i; views = (ap (parts (λ (u : View). u.gate)) is ∙ parts-kept (λ (u : View). u.gate) w.views n v own) i }
 
 -- who has seen all others idle since it closed the gate is alone: they are in no transaction, and neither aim nor close
-pub others-rest-at : (callers n : ℕ) (s : GateScene) → (s.views n).phase ≡ Closing → ((k : ℕ) → k < callers → k ≢ n → member (s.views n).checked k ≡ true) → GateRule callers s → (k : ℕ) → k ≢ n → rests (s.views k).phase ≡ true
-others-rest-at callers n s closing quiet r k other = go (ltb k callers) refl
+pub others-rest-at : (callers n : ℕ) (s : GateScene) → ((k : ℕ) → k < callers → k ≢ n → member (s.views n).checked k ≡ true) → GateRule callers s → (k : ℕ) → k ≢ n → rests (s.views k).phase ≡ true
+others-rest-at callers n s quiet r k other = go (ltb k callers) refl
   where
     go : (b : Bool) → ltb k callers ≡ b → rests (s.views k).phase ≡ true
     go true q = r.seen n k (quiet k (grind (arith, nat_tests)) other)
     go false q = ap rests (r.far k (grind (arith, nat_tests)))
 
+-- a caller's number fits into the gate word
+pub holder-closed : (callers : ℕ) (s : GateScene) → GateRule callers s → (n : ℕ) → n < callers → (alg : Alg) → holder_of (gate_word (1 + n) alg) ≡ 1 + n
+holder-closed callers s r n low alg = let f = r.few in holder_of-gate (1 + n) alg (omega arith)
+
+-- who isn't idle is a caller
+pub is-caller-at : (callers : ℕ) (s : GateScene) → GateRule callers s → (n : ℕ) → ((s.views n).phase ≡ Idle → ⊥) → n < callers
+is-caller-at callers s r n busy = go (ltb n callers) refl
+  where
+    go : (b : Bool) → ltb n callers ≡ b → n < callers
+    go true q = grind (arith, nat_tests)
+    go false q = absurd (busy (r.far n (grind (arith, nat_tests))))
+
 module _ (callers : ℕ) where
-  pub others-rest : (w : World) (n : ℕ) → (w.views n).gate.phase ≡ Closing → HasChecked callers n (w.views n) → GateRule callers (gate_scene w) → (k : ℕ) → k ≢ n → rests (w.views k).gate.phase ≡ true
-  others-rest w n closing quiet g = others-rest-at callers n (gate_scene w) closing quiet g
+  pub others-rest : (w : World) (n : ℕ) → HasChecked callers n (w.views n) → GateRule callers (gate_scene w) → (k : ℕ) → k ≢ n → rests (w.views k).gate.phase ≡ true
+  others-rest w n quiet g = others-rest-at callers n (gate_scene w) quiet g
 
   pub announce-gate : (w : World) (n : ℕ) → n < callers → CanAnnounce (w.views n) → GateRule callers (gate_scene w) → GateRule callers (gate_scene (world_after (announce n) n w))
   announce-gate w n low idle g = subst (GateRule callers) (sym (gate_scene-put w (world_after (announce n) n w) n (view_after (announce n) w (w.views n) 1) refl)) (law (gate_scene w) g idle)
     where
-      law : (s : GateScene) → GateRule callers s → (s.views n).phase ≡ Idle → GateRule callers (record s { status = put s.status n 1; views = put s.views n (record (s.views n) { phase = Announced }) })
+      law : (s : GateScene) → GateRule callers s → (s.views n).phase ≡ Idle → GateRule callers (record s { status = put s.status n 1; views = put s.views n (record (s.views n) { phase = Announced; present = true }) })
       law s r idle = record {
         quiet = λ m e. grind (arith, r.quiet m, e);
+        status = λ m. grind (arith, r.status m);
+        absent = λ m e. grind (arith, r.absent m, e);
         mine = λ m e. grind (arith, r.mine m, e);
         owner = λ m e. grind (arith, r.owner m, e);
         holding = λ m e. grind (arith, r.holding m, e, idle);
@@ -53,6 +68,7 @@ module _ (callers : ℕ) where
         held = λ m e. grind (arith, r.held m, e);
         formed = r.formed;
         aimed = λ m e. grind (arith, r.aimed m, e);
+        few = r.few;
         far = λ m e. grind (arith, r.far m, e, low);
       }
 
@@ -62,6 +78,8 @@ module _ (callers : ℕ) where
       law : (s : GateScene) → GateRule callers s → (s.views n).phase ≡ Announced → GateRule callers (record s { views = put s.views n (record (s.views n) { phase = if holder_of s.gate == 0 then In else Turned; algorithm = alg_of s.gate }) })
       law s r announced = record {
         quiet = λ m e. grind (arith, r.quiet m, e, announced);
+        status = λ m. grind (arith, r.status m);
+        absent = λ m e. grind (arith, r.absent m, e, announced);
         mine = λ m e. grind (arith, r.mine m, e);
         owner = λ m e. grind (arith, r.owner m, e);
         holding = λ m e. grind (arith, r.holding m, e, announced);
@@ -72,6 +90,7 @@ module _ (callers : ℕ) where
         held = λ m e. grind (arith, r.held m, r.holding m, e, announced);
         formed = r.formed;
         aimed = λ m e. grind (arith, r.aimed m, e);
+        few = r.few;
         far = λ m e. grind (arith, r.far m, r.far n, e, announced);
       }
 
@@ -80,9 +99,11 @@ module _ (callers : ℕ) where
     where
       -- the phase after is p
       law : (s : GateScene) (p : Phase) → is_silent p ≡ true → ((s.views n).holds ≡ true → may_hold p ≡ true) → (p ≡ Closing → (s.views n).holds ≡ true) → ((k : ℕ) → member (s.views k).checked n ≡ true → rests p ≡ true) → (p ≡ In → ⊥) → (p ≡ Aiming → ⊥) → (callers ≤ n → p ≡ Idle) → GateRule callers s
-          → GateRule callers (record s { status = put s.status n 0; views = put s.views n (record (s.views n) { phase = p }) })
+          → GateRule callers (record s { status = put s.status n 0; views = put s.views n (record (s.views n) { phase = p; present = false }) })
       law s p silent hold closing seen out unaimed far r = record {
         quiet = λ m e. grind (arith, r.quiet m, e, silent);
+        status = λ m. grind (arith, r.status m);
+        absent = λ m e. grind (arith, r.absent m, e);
         mine = λ m e. grind (arith, r.mine m, e);
         owner = λ m e. grind (arith, r.owner m, e);
         holding = λ m e. grind (arith, r.holding m, e, hold);
@@ -93,19 +114,20 @@ module _ (callers : ℕ) where
         held = λ m e. grind (arith, r.held m, e);
         formed = r.formed;
         aimed = λ m e. grind (arith, r.aimed m, e, unaimed);
+        few = r.few;
         far = λ m e. grind (arith, r.far m, e, far);
       }
 
       by : (s : GateScene) (p : Phase) → (s.views n).phase ≡ p → departs p ≡ true → ((s.views n).phase ≡ In → (s.views n).holds ≡ false) → GateRule callers s
-          → GateRule callers (record s { status = put s.status n 0; views = put s.views n (record (s.views n) { phase = departed (s.views n).phase }) })
+          → GateRule callers (record s { status = put s.status n 0; views = put s.views n (record (s.views n) { phase = departed (s.views n).phase; present = false }) })
       by s Idle is d reopened r = absurd cc
       by s Announced is d reopened r = absurd cc
-      by s Turned is d reopened r = subst (λ (q : Phase). GateRule callers (record s { status = put s.status n 0; views = put s.views n (record (s.views n) { phase = departed q }) })) (sym is)
+      by s Turned is d reopened r = subst (λ (q : Phase). GateRule callers (record s { status = put s.status n 0; views = put s.views n (record (s.views n) { phase = departed q; present = false }) })) (sym is)
           (law s Idle refl (λ h. grind (arith, r.holding n h, is)) (λ e. absurd cc) (λ k e. refl) (λ e. cc) (λ e. cc) (λ l. refl) r)
       by s Aiming is d reopened r = absurd cc
-      by s In is d reopened r = subst (λ (q : Phase). GateRule callers (record s { status = put s.status n 0; views = put s.views n (record (s.views n) { phase = departed q }) })) (sym is)
+      by s In is d reopened r = subst (λ (q : Phase). GateRule callers (record s { status = put s.status n 0; views = put s.views n (record (s.views n) { phase = departed q; present = false }) })) (sym is)
           (law s Idle refl (λ h. absurd (let o = reopened is in cc)) (λ e. absurd cc) (λ k e. refl) (λ e. cc) (λ e. cc) (λ l. refl) r)
-      by s Closing is d reopened r = subst (λ (q : Phase). GateRule callers (record s { status = put s.status n 0; views = put s.views n (record (s.views n) { phase = departed q }) })) (sym is)
+      by s Closing is d reopened r = subst (λ (q : Phase). GateRule callers (record s { status = put s.status n 0; views = put s.views n (record (s.views n) { phase = departed q; present = false }) })) (sym is)
           (law s Closing refl (λ h. refl) (λ e. r.closing n is) (λ k e. grind (arith, r.seen k n e, is)) (λ e. cc) (λ e. cc) (λ l. grind (arith, r.far n l, is)) r)
 
   pub aim-gate : (w : World) (n : ℕ) → CanAim (w.views n) → GateRule callers (gate_scene w) → GateRule callers (gate_scene (world_after aim n w))
@@ -118,6 +140,8 @@ module _ (callers : ℕ) where
       law : (s : GateScene) → GateRule callers s → (s.views n).phase ≡ Announced → GateRule callers (record s { views = put s.views n (record (s.views n) { phase = if holder_of s.gate == 0 then Aiming else Turned; algorithm = alg_of s.gate; aim = s.gate }) })
       law s r announced = record {
         quiet = λ m e. grind (arith, r.quiet m, e, announced);
+        status = λ m. grind (arith, r.status m);
+        absent = λ m e. grind (arith, r.absent m, e, announced);
         mine = λ m e. grind (arith, r.mine m, e);
         owner = λ m e. grind (arith, r.owner m, e);
         holding = λ m e. grind (arith, r.holding m, e, announced);
@@ -128,6 +152,7 @@ module _ (callers : ℕ) where
         held = λ m e. grind (arith, r.held m, r.holding m, e, announced);
         formed = r.formed;
         aimed = λ m e. grind (arith, r.aimed m, e, open_word s r);
+        few = r.few;
         far = λ m e. grind (arith, r.far m, r.far n, e, announced);
       }
 
@@ -144,11 +169,13 @@ module _ (callers : ℕ) where
       law : (s : GateScene) → GateRule callers s → (s.views n).phase ≡ Aiming → s.gate ≡ word → holder_of s.gate ≡ 0
           → GateRule callers (record s { gate = gate_word (1 + n) (alg_of word); views = put s.views n (closed_at word (s.views n)) })
       law s r aiming is free =
-          let h : holder_of (gate_word (1 + n) (alg_of word)) ≡ 1 + n = holder_of-gate (1 + n) (alg_of word) in
+          let h : holder_of (gate_word (1 + n) (alg_of word)) ≡ 1 + n = holder-closed callers s r n low (alg_of word) in
           let a : alg_of (gate_word (1 + n) (alg_of word)) ≡ alg_of word = alg_of-gate (1 + n) (alg_of word) in
           let same : alg_of s.gate ≡ alg_of word = ap alg_of is in
           record {
             quiet = λ m e. grind (arith, r.quiet m, e);
+            status = λ m. grind (arith, r.status m);
+            absent = λ m e. grind (arith, r.absent m, e);
             mine = λ m e. grind (arith, r.mine m, e, h, free);
             owner = λ m e. grind (arith, e, h);
             holding = λ m e. grind (arith, r.holding m, e);
@@ -159,12 +186,15 @@ module _ (callers : ℕ) where
             held = λ m e. grind (arith, r.mine m, e, a, free);
             formed = sym (ap (λ k. gate_word k (alg_of (gate_word (1 + n) (alg_of word)))) h ∙ ap (gate_word (1 + n)) a);
             aimed = λ m e. grind (arith, r.aimed m, e, a, same);
+            few = r.few;
             far = λ m e. grind (arith, r.far m, e, low);
           }
 
       refused : (s : GateScene) → GateRule callers s → (s.views n).phase ≡ Aiming → GateRule callers (record s { views = put s.views n (record (s.views n) { phase = Turned }) })
       refused s r aiming = record {
         quiet = λ m e. grind (arith, r.quiet m, e, aiming);
+        status = λ m. grind (arith, r.status m);
+        absent = λ m e. grind (arith, r.absent m, e);
         mine = λ m e. grind (arith, r.mine m, e);
         owner = λ m e. grind (arith, r.owner m, e);
         holding = λ m e. grind (arith, r.holding m, e, aiming);
@@ -175,13 +205,14 @@ module _ (callers : ℕ) where
         held = λ m e. grind (arith, r.held m, e);
         formed = r.formed;
         aimed = λ m e. grind (arith, r.aimed m, e);
+        few = r.few;
         far = λ m e. grind (arith, r.far m, e, low);
       }
 
       go : (b : Bool) → (b ≡ true → w.gate ≡ word) → GateRule callers (gate_scene (at b))
       go true e =
           let aimed : word ≡ gate_word 0 (alg_of w.gate) = sym may.aimed ∙ g.aimed n may.phase in
-          let free : holder_of w.gate ≡ 0 = ap holder_of (e refl ∙ aimed) ∙ holder_of-gate 0 (alg_of w.gate) in
+          let free : holder_of w.gate ≡ 0 = ap holder_of (e refl ∙ aimed) ∙ holder_of-open (alg_of w.gate) in
           subst (GateRule callers) (sym (gate_scene-put w (at true) n (next true) refl)) (law (gate_scene w) g may.phase (e refl) free)
       go false e = subst (GateRule callers) (sym (gate_scene-put w (at false) n (next false) refl)) (refused (gate_scene w) g may.phase)
 
@@ -203,6 +234,8 @@ module _ (callers : ℕ) where
       law : (s : GateScene) (seen : List ℕ) → GateRule callers s → (s.views n).holds ≡ true → ((j : ℕ) → member seen j ≡ true → rests (s.views j).phase ≡ true) → GateRule callers (record s { views = put s.views n (record (s.views n) { checked = seen }) })
       law s seen r holds rest = record {
         quiet = λ m e. grind (arith, r.quiet m, e);
+        status = λ m. grind (arith, r.status m);
+        absent = λ m e. grind (arith, r.absent m, e);
         mine = λ m e. grind (arith, r.mine m, e);
         owner = λ m e. grind (arith, r.owner m, e);
         holding = λ m e. grind (arith, r.holding m, e);
@@ -213,6 +246,7 @@ module _ (callers : ℕ) where
         held = λ m e. grind (arith, r.held m, e);
         formed = r.formed;
         aimed = λ m e. grind (arith, r.aimed m, e);
+        few = r.few;
         far = λ m e. grind (arith, r.far m, e);
       }
 
@@ -226,14 +260,16 @@ module _ (callers : ℕ) where
 
   pub reopen-gate : (alg : Alg) (w : World) (n : ℕ) → CanReopen alg (w.views n) → GateRule callers (gate_scene w) → GateRule callers (gate_scene (world_after (reopen alg) n w))
   reopen-gate alg w n may g = subst (GateRule callers) (sym (gate_scene-put w (world_after (reopen alg) n w) n (view_after (reopen alg) w (w.views n) (gate_word 0 alg)) refl))
-      (law (gate_scene w) g (g.closing n may.phase) (g.held n (g.closing n may.phase) ∙ may.named))
+      (law (gate_scene w) g (g.closing n may.phase) (g.held n (g.closing n may.phase) ∙ may.named) may.absent)
     where
-      law : (s : GateScene) → GateRule callers s → (s.views n).holds ≡ true → alg_of s.gate ≡ alg → GateRule callers (record s { gate = gate_word 0 alg; views = put s.views n (opened (s.views n)) })
-      law s r holds same =
-          let h : holder_of (gate_word 0 alg) ≡ 0 = holder_of-gate 0 alg in
+      law : (s : GateScene) → GateRule callers s → (s.views n).holds ≡ true → alg_of s.gate ≡ alg → (s.views n).present ≡ false → GateRule callers (record s { gate = gate_word 0 alg; views = put s.views n (opened (s.views n)) })
+      law s r holds same gone =
+          let h : holder_of (gate_word 0 alg) ≡ 0 = holder_of-open alg in
           let a : alg_of (gate_word 0 alg) ≡ alg = alg_of-gate 0 alg in
           record {
             quiet = λ m e. grind (arith, r.quiet m, e);
+            status = λ m. grind (arith, r.status m);
+            absent = λ m e. grind (arith, r.absent m, e, gone);
             mine = λ m e. grind (arith, r.mine m, r.mine n holds, e);
             owner = λ m e. absurd (grind (arith, e, h));
             holding = λ m e. grind (arith, r.holding m, e);
@@ -244,20 +280,23 @@ module _ (callers : ℕ) where
             held = λ m e. grind (arith, r.held m, e, a, same);
             formed = sym (ap (λ k. gate_word k (alg_of (gate_word 0 alg))) h ∙ ap (gate_word 0) a);
             aimed = λ m e. grind (arith, r.aimed m, e, a, same);
+            few = r.few;
             far = λ m e. grind (arith, r.far m, e);
           }
 
   pub install-gate : (alg : Alg) (w : World) (n : ℕ) → (w.views n).gate.phase ≡ Closing → HasChecked callers n (w.views n) → GateRule callers (gate_scene w) → GateRule callers (gate_scene (world_after (install n alg) n w))
   install-gate alg w n closing quiet g = subst (GateRule callers) (sym (gate_scene-put w (world_after (install n alg) n w) n (view_after (install n alg) w (w.views n) (gate_word (1 + n) alg)) refl))
-      (law (gate_scene w) g closing (g.closing n closing) (others-rest w n closing quiet g))
+      (law (gate_scene w) g closing (g.closing n closing) (others-rest w n quiet g))
     where
       law : (s : GateScene) → GateRule callers s → (s.views n).phase ≡ Closing → (s.views n).holds ≡ true → ((k : ℕ) → k ≢ n → rests (s.views k).phase ≡ true)
           → GateRule callers (record s { gate = gate_word (1 + n) alg; views = put s.views n (record (s.views n) { algorithm = alg }) })
       law s r closing holds out =
-          let h : holder_of (gate_word (1 + n) alg) ≡ 1 + n = holder_of-gate (1 + n) alg in
+          let h : holder_of (gate_word (1 + n) alg) ≡ 1 + n = holder-closed callers s r n (is-caller-at callers s r n (λ idle. let e : Closing ≡ Idle = sym closing ∙ idle in cc)) alg in
           let a : alg_of (gate_word (1 + n) alg) ≡ alg = alg_of-gate (1 + n) alg in
           record {
             quiet = λ m e. grind (arith, r.quiet m, e);
+            status = λ m. grind (arith, r.status m);
+            absent = λ m e. grind (arith, r.absent m, e);
             mine = λ m e. grind (arith, r.mine m, r.mine n holds, e, h);
             owner = λ m e. grind (arith, e, h, holds);
             holding = λ m e. grind (arith, r.holding m, e);
@@ -268,29 +307,100 @@ module _ (callers : ℕ) where
             held = λ m e. grind (arith, r.mine m, r.mine n holds, e, a);
             formed = sym (ap (λ k. gate_word k (alg_of (gate_word (1 + n) alg))) h ∙ ap (gate_word (1 + n)) a);
             aimed = λ m e. grind (arith, out m, e, closing);
+            few = r.few;
             far = λ m e. grind (arith, r.far m, e);
           }
 
-  -- a step that changes what its caller knows for installing, and nothing else at the gate
-  pub gate-marked : (w x : World) (n : ℕ) (v : View) (calm rebased completed : Bool) (time : ℕ) → x.views ≡ put w.views n v → x.status ≡ w.status → x.gate ≡ w.gate → v.gate ≡ record (w.views n).gate { calm = calm; time = time; rebased = rebased; completed = completed }
-      → GateRule callers (gate_scene w) → GateRule callers (gate_scene x)
-  gate-marked w x n v calm rebased completed time is status gate own r = subst (GateRule callers) (sym path) (law (gate_scene w) r)
+  pub seize-gate : (alg : Alg) (w : World) (n : ℕ) → CanSeize alg (w.views n) → GateRule callers (gate_scene w) → GateRule callers (gate_scene (world_after (seize n alg) n w))
+  seize-gate alg w n may g = go (eqb w.gate (gate_word 0 alg)) (λ e. eqb-true w.gate (gate_word 0 alg) e)
     where
-      path : gate_scene x ≡ record (gate_scene w) { views = put (gate_scene w).views n (record (w.views n).gate { calm = calm; time = time; rebased = rebased; completed = completed }) }
-      path = λ i. record { status = status i; gate = gate i; views = (ap (parts (λ (u : View). u.gate)) is ∙ (parts-put (λ (u : View). u.gate) w.views n v ∙ ap (put (gate_scene w).views n) own)) i }
+      next : Bool → View
+      next b = record (view_after (seize n alg) w (w.views n) w.gate) { gate = if b then seized (w.views n).gate else (w.views n).gate }
 
-      law : (s : GateScene) → GateRule callers s → GateRule callers (record s { views = put s.views n (record (s.views n) { calm = calm; time = time; rebased = rebased; completed = completed }) })
-      law s r = record {
-        quiet = λ m e. grind (arith, r.quiet m, e);
-        mine = λ m e. grind (arith, r.mine m, e);
-        owner = λ m e. grind (arith, r.owner m, e);
-        holding = λ m e. grind (arith, r.holding m, e);
-        closing = λ m e. grind (arith, r.closing m, e);
-        checked = λ m k e. grind (arith, r.checked m k, e);
-        seen = λ m k e. grind (arith, r.seen m k, e);
-        named = λ m e. grind (arith, r.named m, e);
-        held = λ m e. grind (arith, r.held m, e);
+      at : Bool → World
+      at b = record w { gate = if b then gate_word (1 + n) alg else w.gate; views = put w.views n (next b) }
+
+      -- nobody holds the open gate, and nobody is seen
+      law : (s : GateScene) → GateRule callers s → (s.views n).phase ≡ In → (s.views n).algorithm ≡ alg → holder_of s.gate ≡ 0 → alg_of s.gate ≡ alg
+          → GateRule callers (record s { gate = gate_word (1 + n) alg; views = put s.views n (seized (s.views n)) })
+      law s r inside named free same =
+          let h : holder_of (gate_word (1 + n) alg) ≡ 1 + n = holder-closed callers s r n (is-caller-at callers s r n (λ idle. let e : In ≡ Idle = sym inside ∙ idle in cc)) alg in
+          let a : alg_of (gate_word (1 + n) alg) ≡ alg = alg_of-gate (1 + n) alg in
+          record {
+            quiet = λ m e. grind (arith, r.quiet m, e);
+            status = λ m. grind (arith, r.status m);
+            absent = λ m e. grind (arith, r.absent m, e);
+            mine = λ m e. grind (arith, r.mine m, e, h, free);
+            owner = λ m e. grind (arith, e, h);
+            holding = λ m e. grind (arith, r.holding m, e, inside);
+            closing = λ m e. grind (arith, r.closing m, e, inside);
+            checked = λ m k e. grind (arith, r.checked m k, e);
+            seen = λ m k e. grind (arith, r.seen m k, r.checked m k, r.mine m, e, free);
+            named = λ m e. grind (arith, r.named m, e, a, same);
+            held = λ m e. grind (arith, r.mine m, e, a, free, named);
+            formed = sym (ap (λ k. gate_word k (alg_of (gate_word (1 + n) alg))) h ∙ ap (gate_word (1 + n)) a);
+            aimed = λ m e. grind (arith, r.aimed m, e, a, same);
+            few = r.few;
+            far = λ m e. grind (arith, r.far m, e, inside);
+          }
+
+      go : (b : Bool) → (b ≡ true → w.gate ≡ gate_word 0 alg) → GateRule callers (gate_scene (at b))
+      go true e =
+          let free : holder_of w.gate ≡ 0 = ap holder_of (e refl) ∙ holder_of-open alg in
+          let same : alg_of w.gate ≡ alg = ap alg_of (e refl) ∙ alg_of-gate 0 alg in
+          subst (GateRule callers) (sym (gate_scene-put w (at true) n (next true) refl)) (law (gate_scene w) g may.phase may.named free same)
+      go false e = subst (GateRule callers) (sym (gate_scene-kept w (at false) n (next false) refl refl refl refl)) g
+
+  pub return_gate-gate : (alg : Alg) (w : World) (n : ℕ) → CanReturn alg (w.views n) → GateRule callers (gate_scene w) → GateRule callers (gate_scene (world_after (return_gate alg) n w))
+  return_gate-gate alg w n may g = subst (GateRule callers) (sym (gate_scene-put w (world_after (return_gate alg) n w) n (view_after (return_gate alg) w (w.views n) (gate_word 0 alg)) refl))
+      (law (gate_scene w) g may.holds (g.held n may.holds ∙ may.named) may.phase)
+    where
+      law : (s : GateScene) → GateRule callers s → (s.views n).holds ≡ true → alg_of s.gate ≡ alg → (s.views n).phase ≡ In → GateRule callers (record s { gate = gate_word 0 alg; views = put s.views n (returned (s.views n)) })
+      law s r holds same inside =
+          let h : holder_of (gate_word 0 alg) ≡ 0 = holder_of-open alg in
+          let a : alg_of (gate_word 0 alg) ≡ alg = alg_of-gate 0 alg in
+          record {
+            quiet = λ m e. grind (arith, r.quiet m, e);
+            status = λ m. grind (arith, r.status m);
+            absent = λ m e. grind (arith, r.absent m, e);
+            mine = λ m e. grind (arith, r.mine m, r.mine n holds, e);
+            owner = λ m e. absurd (grind (arith, e, h));
+            holding = λ m e. grind (arith, r.holding m, e);
+            closing = λ m e. grind (arith, r.closing m, e, inside);
+            checked = λ m k e. grind (arith, r.checked m k, e);
+            seen = λ m k e. grind (arith, r.seen m k, e);
+            named = λ m e. grind (arith, r.named m, e, a, same);
+            held = λ m e. grind (arith, r.held m, e, a, same);
+            formed = sym (ap (λ k. gate_word k (alg_of (gate_word 0 alg))) h ∙ ap (gate_word 0) a);
+            aimed = λ m e. grind (arith, r.aimed m, e, a, same);
+            few = r.few;
+            far = λ m e. grind (arith, r.far m, e, inside);
+          }
+
+  -- a step that changes what its caller knows as the gate's holder, and nothing else at the gate
+  pub gate-marked : (w x : World) (n : ℕ) (v : View) → x.views ≡ put w.views n v → x.status ≡ w.status → x.gate ≡ w.gate
+      → v.gate.phase ≡ (w.views n).gate.phase → v.gate.present ≡ (w.views n).gate.present → v.gate.algorithm ≡ (w.views n).gate.algorithm → v.gate.aim ≡ (w.views n).gate.aim → v.gate.holds ≡ (w.views n).gate.holds → v.gate.checked ≡ (w.views n).gate.checked
+      → GateRule callers (gate_scene w) → GateRule callers (gate_scene x)
+  gate-marked w x n v is status gate phase present algorithm aim holds checked r = subst (GateRule callers) (sym path) (law (gate_scene w) v.gate r phase present algorithm aim holds checked)
+    where
+      path : gate_scene x ≡ record (gate_scene w) { views = put (gate_scene w).views n v.gate }
+      path = λ i. record { status = status i; gate = gate i; views = (ap (parts (λ (u : View). u.gate)) is ∙ parts-put (λ (u : View). u.gate) w.views n v) i }
+
+      law : (s : GateScene) (k : GateView) → GateRule callers s → k.phase ≡ (s.views n).phase → k.present ≡ (s.views n).present → k.algorithm ≡ (s.views n).algorithm → k.aim ≡ (s.views n).aim → k.holds ≡ (s.views n).holds → k.checked ≡ (s.views n).checked → GateRule callers (record s { views = put s.views n k })
+      law s k r phase present algorithm aim holds checked = record {
+        quiet = λ m e. grind (arith, r.quiet m, e, phase);
+        status = put-all s.views n k (λ m u. s.status m ≡ (if u.present then announced else 0)) (r.status n ∙ ap (λ (b : Bool). if b then announced else 0) (sym present)) (λ m d. r.status m);
+        absent = put-all s.views n k (λ m u. u.phase ≡ Idle → u.present ≡ false) (λ e. present ∙ r.absent n (sym phase ∙ e)) (λ m d. r.absent m);
+        mine = λ m e. grind (arith, r.mine m, e, holds);
+        owner = λ m e. grind (arith, r.owner m, e, holds);
+        holding = put-all s.views n k (λ m u. u.holds ≡ true → may_hold u.phase ≡ true) (λ e. ap may_hold phase ∙ r.holding n (sym holds ∙ e)) (λ m d. r.holding m);
+        closing = λ m e. grind (arith, r.closing m, e, phase, holds);
+        checked = λ m j e. grind (arith, r.checked m j, e, checked, holds);
+        seen = λ m j e. grind (arith, r.seen m j, e, checked, phase);
+        named = λ m e. grind (arith, r.named m, e, phase, algorithm);
+        held = λ m e. grind (arith, r.held m, e, holds, algorithm);
         formed = r.formed;
-        aimed = λ m e. grind (arith, r.aimed m, e);
-        far = λ m e. grind (arith, r.far m, e);
+        aimed = λ m e. grind (arith, r.aimed m, e, phase, aim);
+        few = r.few;
+        far = λ m e. grind (arith, r.far m, e, phase);
       }

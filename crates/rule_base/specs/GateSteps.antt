@@ -8,7 +8,7 @@ use Rattle.rule_base.specs.declared.views.Phase.TheVariants.{Idle, Announced, Tu
 use Rattle.rule_base.specs.declared.views.View.{View}
 use Rattle.rule_base.specs.Encodings.{alg_of, holder_of, gate_word, announced}
 use Rattle.rule_base.specs.StepKinds.{StepKind, same_history}
-use Rattle.rule_base.specs.StepKinds.Act.{Load, Store, Exchange}
+use Rattle.rule_base.specs.declared.views.Act.TheVariants.{Load, Store, Exchange}
 
 -- store 1 in the own status
 abbrev pub announce : ℕ → StepKind
@@ -16,7 +16,7 @@ announce n = record {
   place = Status n;
   act = Store announced;
   after = λ w v x. record v {
-    gate = record v.gate { phase = Announced };
+    gate = record v.gate { phase = Announced; present = true };
     steps = record v.steps { rises_at_begin = v.steps.rises };
   };
   grown = same_history;
@@ -55,7 +55,7 @@ abbrev pub depart : ℕ → StepKind
 depart n = record {
   place = Status n;
   act = Store 0;
-  after = λ w v x. record v { gate = record v.gate { phase = departed v.gate.phase } };
+  after = λ w v x. record v { gate = record v.gate { phase = departed v.gate.phase; present = false }; tml = record v.tml { inside = false }; owned = record v.owned { inside = false }; ring_read = record v.ring_read { inside = false } };
   grown = same_history;
 }
 
@@ -65,6 +65,9 @@ pub record CanDepart (v : View) : Type 0 where
   pub reopened : v.gate.phase ≡ In → v.gate.holds ≡ false
   pub unlocked : v.lock.taken ≡ false
   pub disowned : v.owned.held ≡ []
+  pub unwritten : v.tml.writer ≡ false
+  pub uncommitted : v.ring_commit.committed ≡ false
+  pub unentered : v.gate.phase ≡ In → v.attempt.entered ≡ false
 
 -- load the gate to close it: an open one is aimed at
 abbrev pub aim : StepKind
@@ -123,4 +126,69 @@ reopen alg = record {
 
 pub record CanReopen (alg : Alg) (v : View) : Type 0 where
   pub phase : v.gate.phase ≡ Closing
+  -- its own status is 0 already: who is idle has no other
+  pub absent : v.gate.present ≡ false
   pub named : v.gate.algorithm ≡ alg
+  -- BASE and DONE have each number of the clock that the caller stored
+  pub unentered : v.attempt.entered ≡ false
+
+-- load the gate in an attempt that is to be promoted
+abbrev pub look_gate : StepKind
+look_gate = record {
+  place = Gate;
+  act = Load;
+  after = λ w v gate. v;
+  grown = same_history;
+}
+
+abbrev pub CanLookGate : View → Type 0
+CanLookGate v = v.gate.phase ≡ In
+
+-- the caller holds the gate, in its attempt, and has seen nobody idle since
+abbrev pub seized : GateView → GateView
+seized g = record g { holds = true; checked = []; calm = false; rebased = false; completed = false }
+
+-- exchange the gate, open for the own word, to promote the attempt
+abbrev pub seize : ℕ → Alg → StepKind
+seize n alg = record {
+  place = Gate;
+  act = Exchange (gate_word 0 alg) (gate_word (1 + n) alg);
+  after = λ w v found. record v { gate = if found == gate_word 0 alg then seized v.gate else v.gate };
+  grown = same_history;
+}
+
+pub record CanSeize (alg : Alg) (v : View) : Type 0 where
+  pub phase : v.gate.phase ≡ In
+  pub named : v.gate.algorithm ≡ alg
+  pub free : v.gate.holds ≡ false
+
+-- the attempt was promoted, at this clock
+abbrev pub granted_at : ℕ → GateView → GateView
+granted_at clock g = record g { calm = true; time = clock; rebased = false; completed = false; granted = true }
+
+-- the caller no longer holds the gate, and its attempt is over but for its status
+abbrev pub returned : GateView → GateView
+returned g = record g { holds = false; checked = []; calm = false; rebased = false; completed = false; granted = false }
+
+-- store the open gate at the end of an attempt that holds it
+abbrev pub return_gate : Alg → StepKind
+return_gate alg = record {
+  place = Gate;
+  act = Store (gate_word 0 alg);
+  after = λ w v x. record v { gate = returned v.gate; attempt = record v.attempt { entered = false }; tml = record v.tml { inside = false }; owned = record v.owned { inside = false }; ring_read = record v.ring_read { inside = false } };
+  grown = same_history;
+}
+
+pub record CanReturn (alg : Alg) (v : View) : Type 0 where
+  pub phase : v.gate.phase ≡ In
+  pub holds : v.gate.holds ≡ true
+  pub named : v.gate.algorithm ≡ alg
+  -- the time of its entry is in BASE and in DONE
+  pub marked : v.attempt.entered ≡ true → (v.gate.rebased ≡ true) × (v.gate.completed ≡ true)
+  -- nothing of the attempt is left in the heap, in the lock or in the records
+  pub unstored : v.attempt.stores ≡ []
+  pub unlocked : v.lock.taken ≡ false
+  pub disowned : v.owned.held ≡ []
+  pub unwritten : v.tml.writer ≡ false
+  pub uncommitted : v.ring_commit.committed ≡ false
+  pub plain : v.gate.granted ≡ false → v.attempt.entered ≡ false

@@ -3,7 +3,7 @@ use Rattle.std.proofs.Common.{◌≡◌, ℕ, ◌+◌, ◌<◌, ◌≤◌, List,
 use Rattle.std.specs.Prelude.{if◌then◌else◌, ◌==◌, ◌^◌, nat_le}
 use Rattle.rule_base.specs.declared.entries.Cell.{Cell}
 use Rattle.rule_base.specs.declared.entries.Entry.{Entry}
-use Rattle.rule_base.specs.declared.layout.Config.{Config}
+use Rattle.stm_model.specs.declared.config.Config.{Config}
 use Rattle.rule_base.specs.History.{over, touches, without, Inside, Small, word_at, word_now, last_write, Below, made_by, upto, Legal}
 
 pub over-miss : (cs : List Cell) (a d : ℕ) → touches cs a ≡ false → over cs a d ≡ d
@@ -63,6 +63,19 @@ word_at-upto (e ∷ h) f s a l = grind (arith, word_at-upto h f s a l)
 pub upto-upto : (h : List Entry) (f g : ℕ) → g ≤ f → upto (upto h f) g ≡ upto h g
 upto-upto [] f g l = refl
 upto-upto (e ∷ h) f g l = grind (arith, upto-upto h f g l)
+
+-- the memory after what is seen is that at the front
+pub word_now-upto : (h : List Entry) (s a : ℕ) → word_now (upto h s) a ≡ word_at h s a
+word_now-upto [] s a = refl
+word_now-upto (e ∷ h) s a = grind (arith, word_now-upto h s a)
+
+pub below-upto : (h : List Entry) (t f : ℕ) → Below h t → Below (upto h f) (f + 1)
+below-upto [] t f b = tt
+below-upto (e ∷ h) t f b = go (nat_le e.time f) refl (below-upto h e.time f b.1)
+  where
+    go : (x : Bool) → nat_le e.time f ≡ x → Below (upto h f) (f + 1) → Below (if x then e ∷ upto h f else upto h f) (f + 1)
+    go true q k = (grind (arith, q), subst (λ (r : List Entry). Below r e.time) (sym (upto-all h e.time f b.1 (grind (arith, q)))) b.1)
+    go false q k = k
 
 -- what is seen up to f begins what is seen up to a later g
 pub upto-begins : (h : List Entry) (t f g : ℕ) → Below h t → f ≤ g → (more : List Entry) × (upto h g ≡ more ++ upto h f)

@@ -1,7 +1,8 @@
 -- BASE and DONE, and what who installs an algorithm knows, under every algorithm.
 use Rattle.std.specs.Prelude.{ℕ, ◌≡◌, ◌≢◌, ◌<◌, ◌≤◌, true}
+use Rattle.stm_model.specs.declared.config.Config.{Config}
 use Rattle.rule_base.specs.declared.views.GateView.{GateView}
-use Rattle.rule_base.specs.declared.views.Phase.TheVariants.{Closing}
+use Rattle.rule_base.specs.declared.views.Phase.TheVariants.{In}
 use Rattle.rule_base.specs.declared.views.View.{View}
 use Rattle.rule_base.specs.History.{member}
 use Rattle.rule_base.specs.World.{World, parts}
@@ -16,13 +17,16 @@ pub record InstallScene : Type 0 where
 abbrev pub install_scene : World → InstallScene
 install_scene w = record { clock = w.clock; base = w.base; done = w.done; views = parts (λ (v : View). v.gate) w.views }
 
-pub record InstallRule (callers : ℕ) (s : InstallScene) : Type 0 where
+pub record InstallRule (c : Config) (s : InstallScene) : Type 0 where
   -- neither is ahead of the clock: storing the clock there takes nothing back
   pub base : s.base ≤ s.clock
   pub done : s.done ≤ s.clock
-  -- who loaded the clock to install has closed the gate and seen all others idle, so the clock stands until it reopens
-  pub closing : (n : ℕ) → (s.views n).calm ≡ true → (s.views n).phase ≡ Closing
-  pub alone : (n k : ℕ) → (s.views n).calm ≡ true → k < callers → k ≢ n → member (s.views n).checked k ≡ true
+  -- nor is one below the opening clock: no attempt begins before it
+  pub opened : (c.clock ≤ s.base) × (c.clock ≤ s.done)
+  -- who loaded the clock to install, or to be promoted, has closed the gate and seen all others idle, so the clock is its own until it reopens
+  pub holding : (n : ℕ) → (s.views n).calm ≡ true → (s.views n).holds ≡ true
+  pub promoted : (n : ℕ) → (s.views n).granted ≡ true → ((s.views n).calm ≡ true) × ((s.views n).phase ≡ In)
+  pub alone : (n k : ℕ) → (s.views n).calm ≡ true → k < c.callers → k ≢ n → member (s.views n).checked k ≡ true
   pub time : (n : ℕ) → (s.views n).calm ≡ true → s.clock ≡ (s.views n).time
   -- what it stored in BASE and in DONE is that clock: the next algorithm starts from both
   pub rebased : (n : ℕ) → (s.views n).rebased ≡ true → ((s.views n).calm ≡ true) × (s.base ≡ (s.views n).time)

@@ -1,14 +1,16 @@
 -- The kinds of step by which who holds the quiet gate installs an algorithm.
-use Rattle.std.specs.Prelude.{ℕ, ◌≡◌, ◌≢◌, ◌<◌, ◌+◌, ◌%◌, true, false, ◌∷◌}
+use Rattle.std.specs.Prelude.{ℕ, ◌≡◌, ◌≢◌, ◌<◌, ◌≤◌, ◌+◌, ◌%◌, true, false, ◌∷◌}
 use Rattle.stm_model.specs.declared.alg.Alg.{Alg}
 use Rattle.stm_model.specs.declared.alg.Alg.TheVariants.{Tml}
+use Rattle.stm_model.specs.declared.config.TheConstants.{CLOCK_LIMIT}
 use Rattle.rule_base.specs.declared.layout.At.TheVariants.{Clock, Gate, Base, Done}
 use Rattle.rule_base.specs.declared.views.Phase.TheVariants.{Closing}
 use Rattle.rule_base.specs.declared.views.View.{View}
 use Rattle.rule_base.specs.Encodings.{gate_word}
 use Rattle.rule_base.specs.History.{member}
 use Rattle.rule_base.specs.StepKinds.{StepKind, same_history}
-use Rattle.rule_base.specs.StepKinds.Act.{Load, Store}
+use Rattle.rule_base.specs.declared.views.Act.TheVariants.{Load, Store}
+use Rattle.rule_base.specs.World.{World}
 
 -- load the clock, which stands while the gate is closed and quiet
 abbrev pub settle : StepKind
@@ -19,12 +21,16 @@ settle = record {
   grown = same_history;
 }
 
+-- the clock is within its limit
+abbrev pub Settles : World → View → ℕ → Type 0
+Settles w v clock = clock ≤ CLOCK_LIMIT
+
 -- all callers but n were seen idle
 abbrev pub HasChecked : ℕ → ℕ → View → Type 0
 HasChecked callers n v = (k : ℕ) → k < callers → k ≢ n → member v.gate.checked k ≡ true
 
 pub record CanSettle (callers n : ℕ) (v : View) : Type 0 where
-  pub phase : v.gate.phase ≡ Closing
+  pub holds : v.gate.holds ≡ true
   pub quiet : HasChecked callers n v
 
 -- TML begins at an even clock: store the next number
@@ -34,12 +40,14 @@ even_clock t = record {
   act = Store t;
   after = λ w v x. record v {
     gate = record v.gate { time = t };
+    attempt = record v.attempt { entered = true };
     steps = record v.steps { rises = v.steps.rises + 1 };
   };
   grown = same_history;
 }
 
 pub record CanEvenClock (t : ℕ) (v : View) : Type 0 where
+  pub phase : v.gate.phase ≡ Closing
   pub calm : v.gate.calm ≡ true
   pub odd : v.gate.time % 2 ≡ 1
   pub next : t ≡ v.gate.time + 1
@@ -65,6 +73,8 @@ store_done t = record {
 }
 
 pub record CanMark (t : ℕ) (v : View) : Type 0 where
+  -- who installs, or whose attempt was promoted
+  pub closing : v.gate.granted ≡ false → v.gate.phase ≡ Closing
   pub calm : v.gate.calm ≡ true
   pub time : t ≡ v.gate.time
 
@@ -75,12 +85,14 @@ install n alg = record {
   act = Store (gate_word (1 + n) alg);
   after = λ w v x. record v {
     gate = record v.gate { algorithm = alg };
+    attempt = record v.attempt { entered = false };
     steps = record v.steps { installs = alg ∷ v.steps.installs };
   };
   grown = same_history;
 }
 
 pub record CanInstall (alg : Alg) (v : View) : Type 0 where
+  pub phase : v.gate.phase ≡ Closing
   pub calm : v.gate.calm ≡ true
   pub rebased : v.gate.rebased ≡ true
   pub completed : v.gate.completed ≡ true

@@ -5,6 +5,7 @@ pub mod World
 pub mod StepKinds
 pub mod HistoryRule
 pub mod StepsRule
+pub mod Own
 pub mod Opening
 pub mod GateRule
 pub mod GateSteps
@@ -33,3 +34,7 @@ pub mod ListLemmas
 pub mod SeatLemmas
 pub mod NoteLemmas
 pub mod SeenLemmas
+pub mod RunScene
+pub mod Regime
+pub mod RegimeLemmas
+pub mod Ranks

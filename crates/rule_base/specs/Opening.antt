@@ -1,7 +1,7 @@
 -- The words and the views at the opening.
 use Rattle.std.specs.Prelude.{[], false}
 use Rattle.stm_model.specs.declared.alg.Alg.TheVariants.{Cgl}
-use Rattle.rule_base.specs.declared.layout.Config.{Config}
+use Rattle.stm_model.specs.declared.config.Config.{Config}
 use Rattle.rule_base.specs.declared.views.Phase.TheVariants.{Idle}
 use Rattle.rule_base.specs.declared.views.View.{View}
 use Rattle.rule_base.specs.World.{World}
@@ -9,16 +9,16 @@ use Rattle.rule_base.specs.World.{World}
 -- the view of a caller that has taken no step
 abbrev pub first_view : Config → View
 first_view c = record {
-  history = record { made = []; seen = []; front = c.clock; told = record { seen = []; front = c.clock } };
+  history = record { made = []; seen = []; front = c.clock; told = record { seen = []; front = c.clock }; whole = record { seen = []; front = 0 } };
   steps = record { trail = []; rises = 0; rises_at_begin = 0; installs = [] };
-  gate = record { phase = Idle; algorithm = Cgl; aim = 0; holds = false; checked = []; calm = false; time = 0; rebased = false; completed = false; granted = false };
-  attempt = record { start = 0; reads = []; stores = [] };
-  lock = record { taken = false; started = false; clocked = false; undo = [] };
+  gate = record { phase = Idle; present = false; algorithm = Cgl; aim = 0; holds = false; checked = []; calm = false; time = 0; rebased = false; completed = false; granted = false };
+  attempt = record { start = 0; reads = []; stores = []; entered = false };
+  lock = record { taken = false; started = false; clocked = false; undo = []; irrevocable = false };
   tml = record { inside = false; writer = false; loaded = false; from = 0; value = 0 };
   owned = record { inside = false; eager = false; held = []; committed = false; time = 0; in_place = []; undo = []; back = []; raised = false };
   sample = record { sampled = false; loaded = false; from = 0; version = 0; value = 0 };
   check = record { checking = false; upto = 0; todo = [] };
-  ring_read = record { inside = false; watched = []; loaded = false; from = 0; value = 0; at = 0; checking = false; clock = 0; upto = 0; words = []; sure = false };
+  ring_read = record { inside = false; watched = []; loaded = false; from = 0; value = 0; at = 0; checking = false; clock = 0; words = []; sure = false };
   ring_commit = record { slotted = 0; writes = []; ticked = false; clock = 0; committed = false; finished = false; back = [] };
 }
 

@@ -14,11 +14,24 @@ pub struct SeenHistory {
     pub front: u64,
     /// The lesser of the two prefixes that the last learning joined.
     pub told: Prefix,
+    /// All that there was when it loaded the clock at the closing.
+    pub whole: Prefix,
 }
 
-/// A step that was taken: the word, and what a load, an exchange or a fetch_max found there.
+/// What a step does to its word.
+pub enum Act {
+    Load,
+    Store(u64),
+    /// The word wanted, and the word that is stored where it is found.
+    Exchange(u64, u64),
+    /// A fetch_max.
+    Raise(u64),
+}
+
+/// A step that was taken: the word, the act, and what a load, an exchange or a fetch_max found there.
 pub struct TrailItem {
     pub place: At,
+    pub act: Act,
     pub found: Option<u64>,
 }
 
@@ -51,11 +64,13 @@ pub enum Phase {
 /// What a caller knows of the gate.
 pub struct GateView {
     pub phase: Phase,
+    /// Its status is 1.
+    pub present: bool,
     /// The algorithm of the gate that it loaded last.
     pub algorithm: Alg,
     /// The open gate word that it loaded to close it.
     pub aim: u64,
-    /// It closed the gate, and did not reopen it yet.
+    /// It closed the gate, to install or to promote its attempt, and did not reopen it yet.
     pub holds: bool,
     /// The callers that it has seen idle since.
     pub checked: LinkedList<u64>,
@@ -77,6 +92,9 @@ pub struct Attempt {
     pub reads: LinkedList<Cell>,
     /// What it stored in the heap.
     pub stores: LinkedList<Cell>,
+    /// It raised the clock as the gate's holder, by the entry of a promoted attempt or to install: BASE and
+    /// DONE are to have that number.
+    pub entered: bool,
 }
 
 /// The lock word, under CGL, Serial and RingSW.
@@ -88,6 +106,8 @@ pub struct LockView {
     pub clocked: bool,
     /// Serial: what stood in the heap before the first store of each address.
     pub undo: LinkedList<Cell>,
+    /// No store can be taken back: from the beginning under CGL, from its grant under Serial.
+    pub irrevocable: bool,
 }
 
 /// TML.
@@ -139,6 +159,13 @@ pub struct Validation {
     pub todo: LinkedList<Cell>,
 }
 
+/// A word of the ring that was loaded: word `index` of the slot of time `time`.
+pub struct SlotWord {
+    pub time: u64,
+    pub index: u64,
+    pub value: u64,
+}
+
 /// A read and its check, under RingSW.
 pub struct RingRead {
     /// DONE was loaded as the start.
@@ -153,10 +180,8 @@ pub struct RingRead {
     /// The clock was loaded as `clock`.
     pub checking: bool,
     pub clock: u64,
-    /// The slots up to this time were loaded, and none meets the filter.
-    pub upto: u64,
-    /// The words of the next slot loaded so far.
-    pub words: LinkedList<u64>,
+    /// The words of the slots of the times from the start to that clock that were loaded so far.
+    pub words: LinkedList<SlotWord>,
     /// The clock was loaded again, in time.
     pub sure: bool,
 }

@@ -1,15 +1,14 @@
--- The clauses of CGL: one attempt at a time, in place in the heap.
+-- The clauses of CGL and Serial: one attempt at a time, in place in the heap. Serial's can be taken back until it is irrevocable, CGL's is irrevocable from its beginning.
 use Rattle.std.specs.Prelude.{ℕ, ◌≡◌, List, [], true, false}
 use Rattle.rule_base.specs.declared.entries.Entry.{Entry}
-use Rattle.rule_base.specs.declared.layout.Config.{Config}
+use Rattle.stm_model.specs.declared.config.Config.{Config}
 use Rattle.rule_base.specs.declared.views.Attempt.{Attempt}
 use Rattle.rule_base.specs.declared.views.LockView.{LockView}
 use Rattle.rule_base.specs.declared.views.View.{View}
-use Rattle.rule_base.specs.History.{over, word_now, Inside, Small, Explains}
-use Rattle.rule_base.specs.HistoryRule.{HistoryRule, history_scene}
-use Rattle.rule_base.specs.StepsRule.{StepsRule, steps_scene}
+use Rattle.rule_base.specs.History.{over, touches, word_now, Inside, Small, Explains}
+use Rattle.rule_base.specs.RunScene.{RunView, RunScene}
 use Rattle.rule_base.specs.World.{World, parts}
-use Rattle.rule_seq.specs.LockRule.{LockRule, lock_scene}
+use Rattle.rule_seq.specs.RunWorld.{RunWorld}
 
 -- what these clauses see of a view, and of the world
 pub record CglView : Type 0 where
@@ -46,15 +45,22 @@ pub record CglHolder (words : ℕ) (s : CglScene) (v : CglView) : Type 0 where
   pub reads_inside : Inside words v.attempt.reads
   pub stores_inside : Inside words v.attempt.stores
   pub stores_small : Small v.attempt.stores
+  -- what the undo log has of an address is the memory there, and until the attempt is irrevocable it has each address stored: taking all back leaves the memory
+  pub undone : (a : ℕ) → touches v.lock.undo a ≡ true → (d : ℕ) → over v.lock.undo a d ≡ word_now s.history a
+  pub covered : v.lock.irrevocable ≡ false → (a : ℕ) → touches v.attempt.stores a ≡ true → touches v.lock.undo a ≡ true
 
 pub record CglRule (words : ℕ) (s : CglScene) : Type 0 where
   -- a free lock leaves the memory after the history: the next holder, an install and closing take the heap as it is
   pub free : s.lock ≡ 0 → (a : ℕ) → s.heap a ≡ word_now s.history a
   pub holder : (n : ℕ) → (s.views n).lock.taken ≡ true → CglHolder words s (s.views n)
 
--- the rule while the gate names CGL
-pub record CglWorld (good : (ℕ → ℕ) → Type 0) (c : Config) (w : World) : Type 0 where
-  pub history : HistoryRule good c (history_scene w)
-  pub steps : StepsRule c (steps_scene w)
-  pub lock : LockRule (lock_scene w)
-  pub cgl : CglRule c.words (cgl_scene w)
+-- of the scene of what runs
+abbrev pub cgl_part : RunScene → CglScene
+cgl_part s = record { clock = s.clock; lock = s.lock; heap = s.heap; history = s.history; views = parts (λ (v : RunView). record { attempt = v.attempt; lock = v.lock; front = v.front }) s.views }
+
+abbrev pub CglRuns : Config → RunScene → Type 0
+CglRuns c s = CglRule c.words (cgl_part s)
+
+-- the rule while the gate names CGL or Serial
+abbrev pub CglWorld : ((ℕ → ℕ) → Type 0) → Config → World → Type 0
+CglWorld good c = RunWorld (CglRuns c) good c

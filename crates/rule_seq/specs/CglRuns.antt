@@ -1,8 +1,8 @@
 -- Every list of CGL's steps.
-use Rattle.std.specs.Prelude.{ℕ, ◌≡◌, ◌+◌, ◌<◌, ◌^◌, List, [], ◌∷◌}
+use Rattle.std.specs.Prelude.{false, ℕ, ◌≡◌, ◌+◌, ◌<◌, ◌^◌, List, [], ◌∷◌, Bool}
 use Rattle.stm_model.specs.declared.alg.Alg.TheVariants.{Cgl}
-use Rattle.rule_base.specs.declared.layout.Config.{Config}
-use Rattle.rule_base.specs.declared.layout.TheConstants.{CLOCK_LIMIT}
+use Rattle.stm_model.specs.declared.config.Config.{Config}
+use Rattle.stm_model.specs.declared.config.TheConstants.{CLOCK_LIMIT}
 use Rattle.rule_base.specs.declared.views.GateView.{GateView}
 use Rattle.rule_base.specs.declared.views.Phase.TheVariants.{In}
 use Rattle.rule_base.specs.declared.views.View.{View}
@@ -12,33 +12,42 @@ use Rattle.rule_base.specs.Runs.{run, Allowed, KeepsAlong}
 use Rattle.rule_base.specs.StepKinds.{StepKind}
 use Rattle.rule_base.specs.World.{World}
 use Rattle.rule_seq.specs.CglRule.{CglWorld}
-use Rattle.rule_seq.specs.CglSteps.{take_lock, CanTakeLock, load_start, CanLoadStart, load_heap, CanLoadHeap, store_heap, CanStoreHeap, store_clock, CanStoreClock, free_lock, CanFreeLock}
+use Rattle.rule_seq.specs.CglSteps.{take_lock, CanTakeLock, load_start, CanLoadStart, load_heap, CanLoadHeap, store_heap, CanStoreHeap, store_clock, CanStoreClock, free_lock, CanFreeLock, load_undo, CanLoadUndo, load_limit, CanLoadLimit, take_back, CanTakeBack}
 
 -- a step by its kind and its numbers
 pub data CglStep : Type 0 where
-  takes_lock : CglStep
+  acquires_lock : CglStep
   loads_start : CglStep
   loads_heap : (a : ℕ) → CglStep
   stores_heap : (a x : ℕ) → CglStep
   stores_clock : (t : ℕ) → CglStep
   frees_lock : CglStep
+  loads_undo : (a : ℕ) → CglStep
+  loads_limit : (grants : Bool) → CglStep
+  takes_back : (a x : ℕ) → CglStep
 
 abbrev pub cgl_kind : ℕ → CglStep → StepKind
-cgl_kind n takes_lock = take_lock n
+cgl_kind n acquires_lock = take_lock n
 cgl_kind n loads_start = load_start
 cgl_kind n (loads_heap a) = load_heap a
 cgl_kind n (stores_heap a x) = store_heap a x
 cgl_kind n (stores_clock t) = store_clock n t
 cgl_kind n frees_lock = free_lock
+cgl_kind n (loads_undo a) = load_undo a
+cgl_kind n (loads_limit grants) = load_limit grants
+cgl_kind n (takes_back a x) = take_back a x
 
 module _ (good : (ℕ → ℕ) → Type 0) (c : Config) where
   abbrev pub MayAs : CglStep → View → Type 0
-  MayAs takes_lock v = CanTakeLock v
+  MayAs acquires_lock v = CanTakeLock v
   MayAs loads_start v = CanLoadStart v
   MayAs (loads_heap a) v = CanLoadHeap c.words a v
   MayAs (stores_heap a x) v = CanStoreHeap c.words a x v
   MayAs (stores_clock t) v = CanStoreClock good t v
   MayAs frees_lock v = CanFreeLock v
+  MayAs (loads_undo a) v = CanLoadUndo a v
+  MayAs (loads_limit grants) v = CanLoadLimit v
+  MayAs (takes_back a x) v = CanTakeBack a x v
 
   -- a caller of this memory may take the step where its view allows it
   abbrev pub CglMay : ℕ → CglStep → View → Type 0
@@ -58,11 +67,11 @@ CglOpens good c = (gates : ℕ → GateView) → CglWorld good c (opened_with c 
 
 -- caller 0 reads the word at a, stores x there and commits at time t
 abbrev pub one_commit : ℕ → ℕ → ℕ → List (ℕ × CglStep)
-one_commit t a x = (0, takes_lock) ∷ (0, loads_start) ∷ (0, loads_heap a) ∷ (0, stores_heap a x) ∷ (0, stores_clock t) ∷ (0, frees_lock) ∷ []
+one_commit t a x = (0, acquires_lock) ∷ (0, loads_start) ∷ (0, loads_heap a) ∷ (0, stores_heap a x) ∷ (0, stores_clock t) ∷ (0, frees_lock) ∷ []
 
 -- below the clock's limit, a caller that the gate has let in may take these steps from the opening, and the history is then this one entry
 abbrev pub CglCommits : ((ℕ → ℕ) → Type 0) → Config → Type 0
-CglCommits good c = (gates : ℕ → GateView) (a x : ℕ) → (gates 0).phase ≡ In → (gates 0).algorithm ≡ Cgl → 0 < c.callers → c.clock < CLOCK_LIMIT → a < c.words → x < 2 ^ 64
+CglCommits good c = (gates : ℕ → GateView) (a x : ℕ) → (gates 0).phase ≡ In → (gates 0).algorithm ≡ Cgl → (gates 0).holds ≡ false → 0 < c.callers → c.clock < CLOCK_LIMIT → a < c.words → x < 2 ^ 64
     → Keeps good (record { at = a; value = 0 } ∷ []) (record { at = a; value = x } ∷ [])
     → Allowed cgl_kind (CglMay good c) (one_commit (c.clock + 1) a x) (opened_with c gates)
     × ((run cgl_kind (CglMay good c) (one_commit (c.clock + 1) a x) (opened_with c gates)).history

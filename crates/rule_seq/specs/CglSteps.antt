@@ -1,48 +1,49 @@
 -- The kinds of step that CGL takes: what each does, when a seat may take it, and what it shows.
-use Rattle.std.specs.Prelude.{ℕ, ◌≡◌, ◌≢◌, ◌+◌, ◌<◌, ◌≤◌, ◌^◌, ◌==◌, if◌then◌else◌, List, [], ◌∷◌, length, true, false}
-use Rattle.stm_model.specs.declared.alg.Alg.TheVariants.{Cgl}
+use Rattle.std.specs.Prelude.{ℕ, ◌≡◌, ◌≢◌, ◌+◌, ◌<◌, ◌≤◌, ◌^◌, ◌==◌, if◌then◌else◌, List, [], ◌∷◌, length, Bool, true, false, ltb}
+use Rattle.stm_model.specs.Algorithms.{takes_lock, is_sure}
+use Rattle.stm_model.specs.declared.alg.Alg.{Alg}
 use Rattle.rule_base.specs.declared.entries.Cell.{Cell}
 use Rattle.rule_base.specs.declared.entries.Entry.{Entry}
 use Rattle.rule_base.specs.declared.layout.At.TheVariants.{Clock, Lock, Heap}
-use Rattle.rule_base.specs.declared.layout.Config.{Config}
-use Rattle.rule_base.specs.declared.layout.TheConstants.{CLOCK_LIMIT}
+use Rattle.stm_model.specs.declared.config.Config.{Config}
+use Rattle.stm_model.specs.declared.config.TheConstants.{CLOCK_LIMIT}
 use Rattle.rule_base.specs.declared.views.Attempt.{Attempt}
 use Rattle.rule_base.specs.declared.views.LockView.{LockView}
 use Rattle.rule_base.specs.declared.views.Phase.TheVariants.{In}
 use Rattle.rule_base.specs.declared.views.View.{View}
 use Rattle.rule_base.specs.Encodings.{taken_lock}
-use Rattle.rule_base.specs.History.{over, touches, word_now, Below, upto, Explains, Keeps, Legal}
+use Rattle.rule_base.specs.History.{over, touches, without, word_now, Below, upto, Explains, Keeps, Legal}
 use Rattle.rule_base.specs.StepKinds.{StepKind, same_history}
-use Rattle.rule_base.specs.StepKinds.Act.{Load, Store, Exchange}
+use Rattle.rule_base.specs.declared.views.Act.TheVariants.{Load, Store, Exchange}
 use Rattle.rule_base.specs.World.{World}
 
 abbrev pub no_attempt : Attempt
-no_attempt = record { start = 0; reads = []; stores = [] }
+no_attempt = record { start = 0; reads = []; stores = []; entered = false }
 
-abbrev pub fresh_lock : LockView
-fresh_lock = record { taken = true; started = false; clocked = false; undo = [] }
+abbrev pub fresh_lock : Alg → LockView
+fresh_lock alg = record { taken = true; started = false; clocked = false; undo = []; irrevocable = is_sure alg false false }
 
 abbrev pub no_lock : LockView
-no_lock = record { taken = false; started = false; clocked = false; undo = [] }
+no_lock = record { taken = false; started = false; clocked = false; undo = []; irrevocable = false }
 
 -- exchange the lock, 0 for the own word
 abbrev pub take_lock : ℕ → StepKind
 take_lock n = record {
   place = Lock;
   act = Exchange 0 (taken_lock n);
-  after = λ w v found. record v { lock = if found == 0 then fresh_lock else v.lock; attempt = if found == 0 then no_attempt else v.attempt };
+  after = λ w v found. record v { lock = if found == 0 then fresh_lock v.gate.algorithm else v.lock; attempt = if found == 0 then no_attempt else v.attempt };
   grown = same_history;
 }
 
 pub record CanTakeLock (v : View) : Type 0 where
   pub phase : v.gate.phase ≡ In
-  pub algorithm : v.gate.algorithm ≡ Cgl
+  pub algorithm : takes_lock v.gate.algorithm ≡ true
   pub free : v.lock.taken ≡ false
 
--- the caller is in an attempt of CGL and has the lock
+-- the caller is in an attempt of CGL or Serial and has the lock
 pub record HasLock (v : View) : Type 0 where
   pub phase : v.gate.phase ≡ In
-  pub algorithm : v.gate.algorithm ≡ Cgl
+  pub algorithm : takes_lock v.gate.algorithm ≡ true
   pub taken : v.lock.taken ≡ true
 
 -- load the clock: the start
@@ -110,6 +111,8 @@ pub record CanStoreHeap (words a x : ℕ) (v : View) : Type 0 where
   pub started : v.lock.started ≡ true
   pub inside : a < words
   pub small : x < 2 ^ 64
+  -- a store that may be taken back is in the undo log
+  pub undoable : v.lock.irrevocable ≡ false → touches v.lock.undo a ≡ true
 
 -- the entry of caller n at time t
 abbrev pub cgl_entry : ℕ → ℕ → View → Entry
@@ -124,7 +127,7 @@ store_clock n t = record {
     history = record v.history { made = cgl_entry n t v ∷ v.history.made; seen = cgl_entry n t v ∷ w.history; front = t };
     steps = record v.steps { rises = v.steps.rises + 1 };
     attempt = no_attempt;
-    lock = record v.lock { started = false };
+    lock = record v.lock { started = false; undo = [] };
   };
   grown = λ w v x. cgl_entry n t v ∷ w.history;
 }
@@ -132,6 +135,7 @@ store_clock n t = record {
 pub record CanStoreClock (good : (ℕ → ℕ) → Type 0) (t : ℕ) (v : View) : Type 0 where
   pub has : HasLock v
   pub started : v.lock.started ≡ true
+  pub free : v.gate.holds ≡ false
   pub time : t ≡ v.attempt.start + 1
   pub limit : t ≤ CLOCK_LIMIT
   pub wrote : v.attempt.stores ≢ []
@@ -155,3 +159,54 @@ free_lock = record {
 pub record CanFreeLock (v : View) : Type 0 where
   pub has : HasLock v
   pub unstored : v.attempt.stores ≡ []
+
+-- Serial: load a heap word into the undo log, before the first store there
+abbrev pub load_undo : ℕ → StepKind
+load_undo a = record {
+  place = Heap a;
+  act = Load;
+  after = λ w v x. record v { lock = record v.lock { undo = record { at = a; value = x } ∷ v.lock.undo } };
+  grown = same_history;
+}
+
+pub record CanLoadUndo (a : ℕ) (v : View) : Type 0 where
+  pub has : HasLock v
+  pub started : v.lock.started ≡ true
+  pub revocable : v.lock.irrevocable ≡ false
+  pub fresh : touches v.lock.undo a ≡ false
+
+-- the stores can no longer be taken back
+abbrev pub fixed_lock : LockView → LockView
+fixed_lock l = record l { irrevocable = true; undo = [] }
+
+-- Serial: load the clock, before the first store or to become irrevocable: that only where the clock is below its limit
+abbrev pub load_limit : Bool → StepKind
+load_limit grants = record {
+  place = Clock;
+  act = Load;
+  after = λ w v clock. record v { lock = if (if grants then ltb clock CLOCK_LIMIT else false) then fixed_lock v.lock else record v.lock { clocked = true } };
+  grown = same_history;
+}
+
+-- the holder's start is the clock still
+abbrev pub LoadsLimit : World → View → ℕ → Type 0
+LoadsLimit w v clock = clock ≡ v.attempt.start
+
+pub record CanLoadLimit (v : View) : Type 0 where
+  pub has : HasLock v
+  pub started : v.lock.started ≡ true
+
+-- Serial: store back what the undo log has of an address
+abbrev pub take_back : ℕ → ℕ → StepKind
+take_back a x = record {
+  place = Heap a;
+  act = Store x;
+  after = λ w v n. record v { attempt = record v.attempt { stores = without v.attempt.stores a }; lock = record v.lock { undo = without v.lock.undo a } };
+  grown = same_history;
+}
+
+pub record CanTakeBack (a x : ℕ) (v : View) : Type 0 where
+  pub has : HasLock v
+  pub started : v.lock.started ≡ true
+  pub logged : touches v.lock.undo a ≡ true
+  pub value : x ≡ over v.lock.undo a 0

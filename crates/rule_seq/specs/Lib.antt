@@ -1,7 +1,14 @@
 pub mod LockRule
+pub mod AttemptRule
+pub mod AttemptLemmas
+pub mod RunWorld
 pub mod CglRule
 pub mod CglSteps
 pub mod CglRuns
 pub mod LockLemmas
 pub mod CglLaws
 pub mod CglOpening
+pub mod TmlRule
+pub mod TmlSteps
+pub mod TmlLaws
+pub mod TmlRuns

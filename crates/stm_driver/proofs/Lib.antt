@@ -6,6 +6,7 @@ mod WorkersLaws
 mod OpeningLaws
 mod ScheduleLaws
 mod RoundLaws
+mod ThreadLaws
 mod IdleLaws
 mod PreparedLaws
 mod StandingLaws

@@ -1,29 +1,53 @@
 -- The callers of a memory that caller 0 has installed an algorithm in.
-use Rattle.std.proofs.Common.{ℕ, suc, ◌≡◌, ◌<◌, List, [], ◌∷◌, length, get_or, set, refl, sym, ap, ◌∙◌, subst, arith}
-use Rattle.atomic_table.specs.Seated.{TableId}
-use Rattle.rule_base.specs.declared.layout.Config.{Config}
+use Rattle.std.proofs.Common.{ℕ, suc, ◌≡◌, ◌<◌, ◌≤◌, List, [], ◌∷◌, length, get_or, set, refl, sym, ap, ◌∙◌, subst, arith}
+use Rattle.stm_rule.specs.declared.stm.Stm.{Stm}
+use Rattle.stm_model.specs.declared.config.Config.{Config}
 use Rattle.rule_base.specs.Opening.{first_view}
 use Rattle.stm_model.specs.declared.alg.Alg.{Alg}
-use Rattle.stm_rule.specs.Callers.{Handle, IsSameCaller, AllOpened}
-use Rattle.tx_answers.specs.Known.{known_of}
+use Rattle.stm_rule.specs.Callers.{Handle, IsSameCaller, AllOpened, idle_own}
+use Rattle.tx_answers.specs.Known.{Known, known_of}
 use Rattle.stm_tx.specs.Descs.{known}
-use Rattle.stm_driver.specs.Openings.{IsNew, AllNew}
+use Rattle.stm_worker.specs.Workers.{HasLengths}
+use Rattle.stm_model.specs.Algorithms.{install_rise}
+use Rattle.stm_model.specs.declared.alg.Alg.TheVariants.{Cgl, Tml, OrecLazy, OrecEager, RingSw, Serial}
+use Rattle.stm_driver.specs.Openings.{IsNew, AllNew, SameLengths}
 
-module _ {K : Type 0} (table : TableId) (config : Config) (rule : K) (alg : Alg) where
+pub install-low : (alg : Alg) → install_rise alg ≤ 1
+install-low Cgl = omega arith
+install-low Tml = omega arith
+install-low OrecLazy = omega arith
+install-low OrecEager = omega arith
+install-low RingSw = omega arith
+install-low Serial = omega arith
+
+module _ {K : Type 0} (stm : Stm K) (alg : Alg) where
   -- a caller that has taken no step
-  new-first : (d : Handle K) → d.view ≡ first_view config → IsNew [] (known d)
-  new-first d first = subst (λ v. IsNew [] (known_of v)) (sym first) (record { idle = (refl, refl, refl); done = record { made = refl; rises = refl; installs = refl } })
+  first : Known
+  first = known_of (first_view stm.config) (idle_own stm.config)
 
-  new-others : (n : ℕ) (ds : List (Handle K)) → AllOpened table config rule (suc n) ds → AllNew table config rule alg (suc n) ds
+  is-first : (d : Handle K) → d.view ≡ first_view stm.config → d.own ≡ idle_own stm.config → known d ≡ first
+  unfolding first
+  is-first d view own = ap (λ v. known_of v d.own) view ∙ ap (known_of (first_view stm.config)) own
+
+  new-first : (d : Handle K) → d.view ≡ first_view stm.config → d.own ≡ idle_own stm.config → IsNew [] (known d)
+  unfolding first
+  new-first d view own = subst (IsNew []) (sym (is-first d view own)) (record { idle = (refl, refl, refl, refl); done = record { made = refl; rises = omega arith; installs = refl } })
+
+  long-first : (d : Handle K) → d.view ≡ first_view stm.config → d.own ≡ idle_own stm.config → HasLengths stm.config (known d)
+  unfolding first
+  long-first d view own = subst (HasLengths stm.config) (sym (is-first d view own)) (refl, refl)
+
+  new-others : (n : ℕ) (ds : List (Handle K)) → AllOpened stm (suc n) ds → AllNew stm alg (suc n) ds
   new-others n [] h = tt
-  new-others n (d ∷ ds) h = (h.0, h.1, new-first d h.2, new-others (suc n) ds h.3)
+  new-others n (d ∷ ds) h = (h.0, h.1, new-first d h.2 h.3, long-first d h.2 h.3, new-others (suc n) ds h.4)
 
   -- after caller 0 has installed
-  pub all-new : (ds : List (Handle K)) (x o d : Handle K) → AllOpened table config rule 0 ds → 0 < length ds → o ≡ get_or ds 0 x → IsSameCaller o d → IsNew (alg ∷ []) (known d) → AllNew table config rule alg 0 (set ds 0 d)
-  all-new [] x o d h some is same new = absurd (omega arith)
-  all-new (c ∷ ds) x o d h some is same new = (
+  pub all-new : (ds : List (Handle K)) (x o d : Handle K) → AllOpened stm 0 ds → 0 < length ds → o ≡ get_or ds 0 x → IsSameCaller o d → IsNew (alg ∷ []) (known d) → SameLengths (known o) (known d) → AllNew stm alg 0 (set ds 0 d)
+  all-new [] x o d h some is same new long = absurd (omega arith)
+  all-new (c ∷ ds) x o d h some is same new long = (
     record { table = same.table ∙ (ap (λ (q : Handle K). q.table) is ∙ h.0.table); config = ap (λ q. q.config) same.who ∙ (ap (λ (q : Handle K). q.who.config) is ∙ h.0.config); rule = ap (λ q. q.rule) same.who ∙ (ap (λ (q : Handle K). q.who.rule) is ∙ h.0.rule) },
     ap (λ q. q.role) same.who ∙ (ap (λ (q : Handle K). q.who.role) is ∙ h.1),
     new,
-    new-others 0 ds h.3,
+    (long.0 ∙ (ap (λ (q : Handle K). (known q).reads_limit) is ∙ (long-first c h.2 h.3).0), long.1 ∙ (ap (λ (q : Handle K). (known q).writes_limit) is ∙ (long-first c h.2 h.3).1)),
+    new-others 0 ds h.4,
   )

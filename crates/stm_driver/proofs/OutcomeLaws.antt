@@ -3,10 +3,10 @@ use Rattle.std.proofs.Common.{ℕ, suc, ◌≡◌, ◌<◌, ◌≤◌, List, [],
 use Rattle.std.specs.Prelude.{Option, Some, None, Result, Ok, Err, IfOk, OnOk, All, IsPermutation}
 use Rattle.std.specs.Option.{option_or}
 use Rattle.std.proofs.lemmas.List.Elements.{All-head, All-tail}
-use Rattle.atomic_table.specs.Seated.{TableId}
+use Rattle.stm_rule.specs.declared.stm.Stm.{Stm}
 use Rattle.crossbeam_utils.specs.declared.cache_padded.CachePadded.{CachePadded}
 use Rattle.crossbeam_utils.specs.Padded.{padded_value}
-use Rattle.rule_base.specs.declared.layout.Config.{Config}
+use Rattle.stm_model.specs.declared.config.Config.{Config}
 use Rattle.stm_script.specs.declared.report.Report.{Report}
 use Rattle.stm_script.specs.declared.workload.Go.{Go}
 use Rattle.stm_script.specs.declared.workload.Workload.{Workload}
@@ -25,9 +25,9 @@ use Rattle.stm_driver.specs.declared.outcome.Outcome.TheVariants.{ToEnd, ToLimit
 use Rattle.stm_driver.specs.declared.schedule.Halt.{Halt}
 use Rattle.stm_driver.specs.declared.schedule.Halt.TheVariants.{ClockFull, Memory}
 use Rattle.stm_driver.specs.declared.workers.Runner.{Runner}
-use Rattle.stm_driver.specs.AllWorkers.{worker_in, workers_in, AreCallers, descs_of, rows_of, first_full, how_of, IsReady, IsThrough, Finished}
+use Rattle.stm_driver.specs.AllWorkers.{worker_in, workers_in, AreCallers, descs_of, rows_of, first_full, how_of, ArePaidFor, IsReady, IsThrough, Finished}
 use Rattle.stm_driver.specs.ClosedRuns.{Reported, Came}
-use Rattle.stm_driver.specs.Openings.{config_of}
+use Rattle.stm_script.specs.Workloads.{config_of}
 use Rattle.stm_script.specs.declared.workload.Item.{Item}
 use Rattle.stm_driver.specs.Partings.{parted}
 use Rattle.stm_driver.specs.Preparings.{WorkloadKeeps, IsPrepared}
@@ -84,16 +84,16 @@ module _ {K : Type 0} where
   how-between ws found (Ok x) is between = between
   how-between ws found (Err halt) is between = tt
 
-module _ {K : Type 0} (good : List ℕ → Type 0) (w : Workload) (table : TableId) (config : Config) (rule : K) (items : All (BuiltItem w.header) w.items) (sized : config ≡ config_of w.header) where
+module _ {K : Type 0} (good : List ℕ → Type 0) (w : Workload) (stm : Stm K) (items : All (BuiltItem w.header) w.items) (sized : stm.config ≡ config_of w.header) where
   -- the workers after their turns, as closing wants them
   pub record Turned (ran : List (Worker K)) : Type 0 where
-    pub sound : AreSound good table config rule ran
+    pub sound : AreSound good stm ran
     pub own : AreOwn w 0 ran
     pub callers : AreCallers 0 ran
-    pub count : length ran ≡ config.callers
+    pub count : length ran ≡ stm.config.callers
     pub rows : length (rows_of ran) ≤ length w.items
 
-  pub turned : (begun ran : List (Worker K)) → Begun good w table config rule items sized begun → AreSame begun ran → AreSound good table config rule ran → Turned ran
+  pub turned : (begun ran : List (Worker K)) → Begun good w stm items sized begun → AreSame begun ran → AreSound good stm ran → Turned ran
   turned begun ran b same sound =
       let own = own-same w 0 begun ran same b.own in
       let count = same-length begun ran same in
@@ -104,22 +104,22 @@ module _ {K : Type 0} (good : List ℕ → Type 0) (w : Workload) (table : Table
         own = own;
         callers = own-callers w 0 ran own;
         count = omega (arith, count, many, sizes);
-        rows = rows-few good w table config rule sized 0 ran (stood-each good w table config rule sized 0 ran sound own);
+        rows = rows-few good w stm sized 0 ran (stood-each good w stm sized 0 ran sound own);
       }
 
-  stands : (ran : List (Worker K)) → Turned ran → Each (Stood good w table config rule sized) 0 ran
-  stands ran t = stood-each good w table config rule sized 0 ran t.sound t.own
+  stands : (ran : List (Worker K)) → Turned ran → Each (Stood good w stm sized) 0 ran
+  stands ran t = stood-each good w stm sized 0 ran t.sound t.own
 
   -- the workers, lent as a slice for their turns, and what came back
   pub record Done (rs ran left : List (CachePadded (Runner K))) : Type 0 where
-    pub begun : Begun good w table config rule items sized (workers_in rs)
+    pub begun : Begun good w stm items sized (workers_in rs)
     pub is : left ≡ ran
     pub turned : Turned (workers_in left)
 
-  pub done : WorkloadKeeps good w → (parts : List (List Item)) → parts ≡ parted w.header.callers w.items → (rs lent ran : List (CachePadded (Runner K))) (n : ℕ) → IsPrepared w.header parts table config rule (workers_in rs) → lent ≡ rs → length lent ≡ n
-      → AreSame (workers_in lent) (workers_in ran) → AreSound good table config rule (workers_in ran) → Done rs ran (take n (ran ++ drop (length ran) rs))
+  pub done : WorkloadKeeps good w → (parts : List (List Item)) → parts ≡ parted w.header.callers w.items → (rs lent ran : List (CachePadded (Runner K))) (n : ℕ) → IsPrepared w.header parts stm (workers_in rs) → lent ≡ rs → length lent ≡ n
+      → AreSame (workers_in lent) (workers_in ran) → AreSound good stm (workers_in ran) → Done rs ran (take n (ran ++ drop (length ran) rs))
   done keeps parts parting rs lent ran n p same long kept sound =
-      let first = begun good w table config rule items sized keeps parts (workers_in rs) parting p in
+      let first = begun good w stm items sized keeps parts (workers_in rs) parting p in
       let also = ap length same in
       let count = same-length (workers_in lent) (workers_in ran) kept in
       let a = workers-length lent in
@@ -134,12 +134,13 @@ module _ {K : Type 0} (good : List ℕ → Type 0) (w : Workload) (table : Table
   -- what all threads did
   pub record RanAll (lent ran : List (CachePadded (Runner K))) : Type 0 where
     pub same : AreSame (workers_in lent) (workers_in ran)
-    pub sound : AreSound good table config rule (workers_in ran)
+    pub sound : AreSound good stm (workers_in ran)
     pub between : All (λ (w : Worker K). w.phase ≡ Between) (workers_in ran)
     pub through : AllThrough ran
+    pub paid : ArePaidFor stm (workers_in lent) (workers_in ran)
 
-  pub ran-all : (lent ran : List (CachePadded (Runner K))) → length ran ≡ length lent → ((i : ℕ) (d : CachePadded (Runner K)) → i < length lent → Finished good table config rule (get_or lent i d) (get_or ran i d)) → RanAll lent ran
-  ran-all [] [] len h = record { same = tt; sound = λ i d lt. absurd (omega (arith, lt)); between = λ i d lt. absurd (omega (arith, lt)); through = tt }
+  pub ran-all : (lent ran : List (CachePadded (Runner K))) → length ran ≡ length lent → ((i : ℕ) (d : CachePadded (Runner K)) → i < length lent → Finished good stm (get_or lent i d) (get_or ran i d)) → RanAll lent ran
+  ran-all [] [] len h = record { same = tt; sound = λ i d lt. absurd (omega (arith, lt)); between = λ i d lt. absurd (omega (arith, lt)); through = tt; paid = tt }
   ran-all [] (s ∷ ran) len h = absurd cc
   ran-all (r ∷ lent) [] len h = absurd cc
   ran-all (r ∷ lent) (s ∷ ran) len h =
@@ -147,55 +148,56 @@ module _ {K : Type 0} (good : List ℕ → Type 0) (w : Workload) (table : Table
       let rest = ran-all lent ran (omega (arith, len)) (λ i d lt. h (suc i) d (omega (arith, lt))) in
       record {
         same = (one.same, rest.same);
-        sound = all-cons (Sound good table config rule) (worker_in s) (workers_in ran) one.sound rest.sound;
+        sound = all-cons (Sound good stm) (worker_in s) (workers_in ran) one.sound rest.sound;
         between = all-cons (λ (w : Worker K). w.phase ≡ Between) (worker_in s) (workers_in ran) one.between rest.between;
         through = (one.through, rest.through);
+        paid = (one.paid, rest.paid);
       }
 
-  pub all-ready : (rs : List (CachePadded (Runner K))) → AreSound good table config rule (workers_in rs) → All (IsReady good table config rule) rs
+  pub all-ready : (rs : List (CachePadded (Runner K))) → AreSound good stm (workers_in rs) → All (IsReady good stm) rs
   all-ready [] s = λ i d lt. absurd (omega (arith, lt))
   all-ready (r ∷ rs) s =
-      all-cons (IsReady good table config rule) r rs (record { sound = All-head (Sound good table config rule) (worker_in r) (workers_in rs) s }) (all-ready rs (All-tail (Sound good table config rule) (worker_in r) (workers_in rs) s))
+      all-cons (IsReady good stm) r rs (record { sound = All-head (Sound good stm) (worker_in r) (workers_in rs) s }) (all-ready rs (All-tail (Sound good stm) (worker_in r) (workers_in rs) s))
 
   module _ (theorem : ReportReplays good) where
     -- what `run` came to
-    pub has-run : (lent ran : List (CachePadded (Runner K))) (how : Result (Unit {0}) Halt) (outcome : Outcome) → RanAll lent ran → Turned (workers_in ran) → how ≡ how_of (first_full ran) → Came good config table rule (workers_in ran) how outcome → HasRun w outcome
-    has-run lent ran how outcome r t is came = by (first_full ran) refl outcome (subst (λ h. Came good config table rule (workers_in ran) h outcome) is came)
+    pub has-run : (lent ran : List (CachePadded (Runner K))) (how : Result (Unit {0}) Halt) (outcome : Outcome) → Begun good w stm items sized (workers_in lent) → RanAll lent ran → Turned (workers_in ran) → how ≡ how_of (first_full ran) → Came good stm (workers_in ran) how outcome → HasRun w outcome
+    has-run lent ran how outcome b r t is came = by (first_full ran) refl outcome (subst (λ h. Came good stm (workers_in ran) h outcome) is came)
       where
-        by : (full : Option ℕ) → first_full ran ≡ full → (o : Outcome) → Came good config table rule (workers_in ran) (how_of full) o → HasRun w o
-        by None e (ToEnd report closed) c = shown good w table config rule items sized theorem (workers_in ran) c.words closed report (stands (workers_in ran) t) t.count (none-left ran r.through r.between e) c.closes c.is
+        by : (full : Option ℕ) → first_full ran ≡ full → (o : Outcome) → Came good stm (workers_in ran) (how_of full) o → HasRun w o
+        by None e (ToEnd report closed) c = shown good w stm items sized theorem (workers_in ran) c.words closed report (stands (workers_in ran) t) t.count (none-left ran r.through r.between e) c.closes c.is
         by None e (ToLimit clock closed) c = absurd c
         by None e (OutOfMemory closed) c = absurd c
         by (Some found) e (ToEnd report closed) c = absurd c
         by (Some found) e (ToLimit clock closed) c =
-            let after = idle-still table config rule (workers_in ran) c.1.after r.between c.1.idle in
-            full good w table config rule items sized (workers_in ran) c.1.words closed clock (stands (workers_in ran) t) r.between t.count (met-some ran clock r.through (e ∙ ap Some (sym c.0)))
-            (subst (λ ws. Closes good config (descs_of ws) c.1.words closed) after c.1.closes)
+            let after = idle-still stm (workers_in ran) c.1.after r.between c.1.idle in
+            full good w stm items sized (workers_in lent) (workers_in ran) c.1.words closed clock b.paid r.paid (stands (workers_in ran) t) r.between t.count (met-some ran clock r.through (e ∙ ap Some (sym c.0)))
+            (subst (λ ws. Closes good stm.config (descs_of ws) c.1.words closed) after c.1.closes)
         by (Some found) e (OutOfMemory closed) c = absurd c
 
-    traced : (begun ran : List (Worker K)) (gos : List Go) (lines : List Line) (report : Report) (closed : Ended) → gos ≡ w.schedule → Begun good w table config rule items sized begun → Turned ran → Drives config gos begun ran lines (Ok tt)
-        → Reported good config ran report closed → IsTraced w lines report closed
+    traced : (begun ran : List (Worker K)) (gos : List Go) (lines : List Line) (report : Report) (closed : Ended) → gos ≡ w.schedule → Begun good w stm items sized begun → Turned ran → Drives stm.config gos begun ran lines (Ok tt)
+        → Reported good stm ran report closed → IsTraced w lines report closed
     traced begun ran gos lines report closed is b t drives r =
-        let whole = drives.0 w.header (sizes-of config w.header sized) report.rows (subst (λ rows. IsPermutation rows report.rows) (sym (told-rows ran)) r.is.moved) in
+        let whole = drives.0 w.header (sizes-of stm.config w.header sized) report.rows (subst (λ rows. IsPermutation rows report.rows) (sym (told-rows ran)) r.is.moved) in
         let sorted = subst (λ ps. fits.IsWhole w.header ps gos lines report.rows) b.starts whole in
         record {
           fits = subst (λ s. fits.IsWhole w.header (first_places w) s lines report.rows) is sorted;
-          shown = shown good w table config rule items sized theorem ran r.words closed report (stands ran t) t.count drives.1 r.closes r.is;
+          shown = shown good w stm items sized theorem ran r.words closed report (stands ran t) t.count drives.1 r.closes r.is;
         }
 
     -- what `step` came to
-    pub has-stepped : (begun ran : List (Worker K)) (gos : List Go) (lines : List Line) (how : Result (Unit {0}) Halt) (outcome : Outcome) → gos ≡ w.schedule → Begun good w table config rule items sized begun → Turned ran → Drives config gos begun ran lines how
-        → Came good config table rule ran how outcome → HasStepped w lines outcome
+    pub has-stepped : (begun ran : List (Worker K)) (gos : List Go) (lines : List Line) (how : Result (Unit {0}) Halt) (outcome : Outcome) → gos ≡ w.schedule → Begun good w stm items sized begun → Turned ran → Drives stm.config gos begun ran lines how
+        → Came good stm ran how outcome → HasStepped w lines outcome
     has-stepped begun ran gos lines (Ok x) (ToEnd report closed) is b t d c = traced begun ran gos lines report closed is b t d c
     has-stepped begun ran gos lines (Ok x) (ToLimit clock closed) is b t d c = absurd c
     has-stepped begun ran gos lines (Ok x) (OutOfMemory closed) is b t d c = absurd c
     has-stepped begun ran gos lines (Err (ClockFull found)) (ToEnd report closed) is b t d c = absurd c
     has-stepped begun ran gos lines (Err (ClockFull found)) (ToLimit clock closed) is b t d c =
-        cut good w table config rule items sized begun ran gos lines clock closed is b (subst (λ k. Drives config gos begun ran lines (Err (ClockFull k))) (sym c.0) d) c.1
+        cut good w stm items sized begun ran gos lines clock closed is b (subst (λ k. Drives stm.config gos begun ran lines (Err (ClockFull k))) (sym c.0) d) c.1
     has-stepped begun ran gos lines (Err (ClockFull found)) (OutOfMemory closed) is b t d c = absurd c
     has-stepped begun ran gos lines (Err Memory) (ToEnd report closed) is b t d c = absurd c
     has-stepped begun ran gos lines (Err Memory) (ToLimit clock closed) is b t d c = absurd c
-    has-stepped begun ran gos lines (Err Memory) (OutOfMemory closed) is b t d c = record { opening = c.closes.opening ∙ ap (λ (x : Config). x.clock) sized; history = history-of good w config sized (descs_of c.after) c.words closed c.closes }
+    has-stepped begun ran gos lines (Err Memory) (OutOfMemory closed) is b t d c = record { opening = c.closes.opening ∙ ap (λ (x : Config). x.clock) sized; history = history-of good w stm.config sized (descs_of c.after) c.words closed c.closes }
 
 pub driven-between : {K : Type 0} (config : Config) (gos : List Go) (begun ran : List (Worker K)) (lines : List Line) (how : Result (Unit {0}) Halt) → Drives config gos begun ran lines how → OnOk how (All (λ (w : Worker K). w.phase ≡ Between) ran)
 driven-between config gos begun ran lines (Ok x) d = over-between ran d.1

@@ -1,14 +1,14 @@
 -- The workers before the first turn, and what stays so of them.
-use Rattle.std.proofs.Common.{ℕ, zero, suc, ◌≡◌, ◌<◌, ◌++◌, List, [], ◌∷◌, length, get_or, map, refl, sym, ap, ◌∙◌, arith, subst}
-use Rattle.std.specs.Prelude.{All, slice_index_or}
+use Rattle.std.proofs.Common.{ℕ, zero, suc, ◌≡◌, ◌<◌, ◌≤◌, ◌+◌, ◌*◌, ◌++◌, List, [], ◌∷◌, length, get_or, map, refl, sym, ap, ◌∙◌, arith, subst}
+use Rattle.std.specs.Prelude.{All, slice_index_or, if◌then◌else◌}
 use Rattle.std.proofs.lemmas.List.Elements.{All-head, All-tail}
 use Rattle.std.proofs.lemmas.List.Sums.{sum_by-cons}
-use Rattle.atomic_table.specs.Seated.{TableId}
-use Rattle.rule_base.specs.declared.layout.Config.{Config}
+use Rattle.stm_rule.specs.declared.stm.Stm.{Stm}
+use Rattle.stm_model.specs.declared.config.Config.{Config}
 use Rattle.rule_base.specs.declared.seats.Role.TheVariants.{Caller}
 use Rattle.stm_model.specs.declared.alg.Alg.{Alg}
 use Rattle.stm_script.specs.declared.op.Op.{Op}
-use Rattle.stm_script.specs.declared.op.Op.TheVariants.{Read, Write, Add, Move, Cancel}
+use Rattle.stm_script.specs.declared.op.Op.TheVariants.{Read, Write, Add, Move, Emit, Irrev, Cancel}
 use Rattle.stm_script.specs.declared.workload.Go.{Go}
 use Rattle.stm_script.specs.declared.workload.Header.{Header}
 use Rattle.stm_script.specs.declared.workload.Item.{Item}
@@ -19,15 +19,19 @@ use Rattle.stm_script.specs.Reports.{counted}
 use Rattle.stm_script.specs.Workloads.{ItemFits}
 use Rattle.stm_text.specs.Built.{OpFits as BuiltOp, ScriptFits as BuiltScript, ItemFits as BuiltItem}
 use Rattle.stm_rule.specs.Callers.{Handle, IsOf}
-use Rattle.tx_answers.specs.Known.{Known, caller_of, is_offered, owed}
+use Rattle.tx_answers.specs.Known.{Known, caller_of, owed}
 use Rattle.stm_tx.specs.Descs.{known}
 use Rattle.stm_trace.specs.Fits.{first_place, first_places}
 use Rattle.stm_trace.specs.Places.{Place, caller_in, items_of}
 use Rattle.stm_worker.specs.declared.worker.Worker.{Worker}
-use Rattle.stm_worker.specs.Workers.{place_of, HasSizes, Sound, Starts, switches_of}
+use Rattle.stm_trace.specs.Turns.{HasSizes}
+use Rattle.stm_worker.specs.Workers.{HasLengths, place_of, Sound, Starts, switches_of}
 use Rattle.stm_worker.specs.Workers.{ItemsFit as OwnItems}
+use Rattle.stm_worker.specs.Payments.{CountsNext, PaysBut, raised}
+use Rattle.stm_worker.specs.PaymentLaws.{starts-counts}
 use Rattle.stm_driver.specs.AllWorkers.{AreMade, AreCallers}
-use Rattle.stm_driver.specs.Openings.{IsNew, first_installs, AllNew, config_of}
+use Rattle.stm_script.specs.Workloads.{config_of}
+use Rattle.stm_driver.specs.Openings.{IsNew, first_installs, AllNew}
 use Rattle.stm_driver.specs.Partings.{parted}
 use Rattle.stm_driver.specs.Preparings.{ItemKeeps, WorkloadKeeps, IsPrepared}
 use Rattle.stm_driver.specs.Runs.{installs_for}
@@ -42,6 +46,8 @@ op-fits words (Read a) h = (h, λ i d lt. absurd (omega arith))
 op-fits words (Write a v) h = (h.0, λ i d lt. absurd (omega arith))
 op-fits words (Add a k) h = (h.0, λ i d lt. absurd (omega arith))
 op-fits words (Move a b k) h = (h.0, (λ i d lt. absurd (omega arith)), h.1, λ i d lt. absurd (omega arith))
+op-fits words (Emit a) h = (h, λ i d lt. absurd (omega arith))
+op-fits words Irrev h = tt
 op-fits words Cancel h = tt
 
 script-fits : (words : ℕ) (script : List Op) → BuiltScript words script → ScriptFits [] words script
@@ -61,11 +67,11 @@ items-own good h n (Tx caller script ∷ items) b =
 items-own good h n (Switch caller alg ∷ items) b =
     let P : Item → Type 0 = λ i. (caller_in i ≡ n) × (BuiltItem h i × ItemKeeps good h.words i) in
     let head = All-head P (Switch caller alg) items b in
-    (head.0, ap is_offered head.1.0.1, items-own good h n items (All-tail P (Switch caller alg) items b))
+    (head.0, head.1.0.1, items-own good h n items (All-tail P (Switch caller alg) items b))
 
--- who has not begun owes nothing
-new-owes : (these : List Alg) (v : Known) → IsNew these v → owed v ≡ 0
-new-owes these v new = rw new.idle.1 new.done.rises
+-- who has not begun owes what it raised the clock by to install
+new-owes : (these : List Alg) (v : Known) → IsNew these v → owed v ≤ length these
+new-owes these v new = subst (λ b. (if b then v.base + 2 else v.rises) ≤ length these) (sym new.idle.1) new.done.rises
 
 module _ {K : Type 0} where
   -- each is its caller's, from caller n on, has that caller's items, and installs what they say
@@ -90,29 +96,52 @@ module _ {K : Type 0} where
   own-same w n (x ∷ xs) (y ∷ ys) s h =
       (record { role = ap (λ x. x.role) s.0.same.who ∙ h.0.role; all = s.0.all ∙ h.0.all; regions = s.0.regions ∙ h.0.regions; switched = s.0.switched ∙ h.0.switched }, own-same w (suc n) xs ys s.1 h.1)
 
-  module _ (table : TableId) (config : Config) (rule : K) (items : List Item) (alg : Alg) where
-    -- nothing is owed at the start
-    owes-start : (n : ℕ) (ds : List (Handle K)) (ws : List (Worker K)) → AllNew table config rule alg n ds → AreMade (λ k. items_of k items) alg n ds ws → debts ws ≡ 0
-    owes-start n [] [] o h = refl
+  module _ (stm : Stm K) (items : List Item) (alg : Alg) where
+    -- what the first install raised the clock by is all that is owed at the start
+    owes-start : (n : ℕ) (ds : List (Handle K)) (ws : List (Worker K)) → AllNew stm alg n ds → AreMade (λ k. items_of k items) alg n ds ws → debts ws ≤ length (first_installs alg n)
+    owes-start n [] [] o h = omega arith
     owes-start n [] (w ∷ ws) o h = absurd h
     owes-start n (d ∷ ds) [] o h = absurd h
     owes-start n (d ∷ ds) (w ∷ ws) o h =
         let s = h.0 in
-        let none : owed (known w.desc) ≡ 0 = ap (λ (x : Handle K). owed (known x)) s.is_desc ∙ new-owes (first_installs alg n) (known d) o.2 in
+        let few : owed (known w.desc) ≤ length (first_installs alg n) = subst (λ (x : Handle K). owed (known x) ≤ length (first_installs alg n)) (sym s.is_desc) (new-owes (first_installs alg n) (known d) o.2) in
         let cons = sum_by-cons (λ (x : Worker K). owed (known x.desc)) w ws in
-        let rest = owes-start (suc n) ds ws o.3 h.1 in
-        omega (arith, none, cons, rest)
+        let rest = owes-start (suc n) ds ws o.4 h.1 in
+        omega (arith, few, cons, rest)
+
+  -- nothing is done, and nothing raised but by the first install
+  abbrev pub StartPaid : Alg → ℕ → List (Worker K) → Type 0
+  StartPaid alg n [] = Unit {0}
+  StartPaid alg n (x ∷ ws) = ((each most : ℕ) → PaysBut (length (first_installs alg n)) each most x) × CountsNext x × (x.failed ≡ 0) × StartPaid alg (suc n) ws
+
+  start-pays : (d : Handle K) (items : List Item) (alg : Alg) (these : List Alg) (x : Worker K) → IsNew these (known d) → Starts d items alg x → (each most : ℕ) → PaysBut (length these) each most x
+  start-pays d items alg these x new s each most =
+      let few : raised (known x.desc) ≤ length these = subst (λ (y : Handle K). raised (known y) ≤ length these) (sym s.is_desc) (subst (λ b. (if b then (known d).base else (known d).rises) ≤ length these) (sym new.idle.1) new.done.rises) in
+      let left : x.items_left.now ≡ x.all.now = ap (λ (p : Place). p.left) s.at ∙ sym s.all in
+      let same : each * length x.items_left.now ≡ each * length x.all.now = ap (λ (l : List Item). each * length l) left in
+      omega (arith, few, same)
+
+  paid-start : (stm : Stm K) (items : List Item) (alg : Alg) (n : ℕ) (ds : List (Handle K)) (ws : List (Worker K)) → AllNew stm alg n ds → AreMade (λ k. items_of k items) alg n ds ws → StartPaid alg n ws
+  paid-start stm items alg n [] [] o h = tt
+  paid-start stm items alg n [] (x ∷ ws) o h = absurd h
+  paid-start stm items alg n (d ∷ ds) [] o h = absurd h
+  paid-start stm items alg n (d ∷ ds) (x ∷ ws) o h = (
+    start-pays d (items_of n items) alg (first_installs alg n) x o.2 h.0,
+    starts-counts x (ap (λ (p : Place). p.failed) h.0.at) (ap (λ (p : Place). p.must) h.0.at),
+    ap (λ (p : Place). p.failed) h.0.at,
+    paid-start stm items alg (suc n) ds ws o.4 h.1,
+  )
 
   -- where the callers stand at first
-  starts-at : (table : TableId) (config : Config) (rule : K) (w : Workload) (n : ℕ) (ds : List (Handle K)) (ws : List (Worker K)) → AllNew table config rule w.header.alg n ds → AreMade (λ k. items_of k w.items) w.header.alg n ds ws
+  starts-at : (stm : Stm K) (w : Workload) (n : ℕ) (ds : List (Handle K)) (ws : List (Worker K)) → AllNew stm w.header.alg n ds → AreMade (λ k. items_of k w.items) w.header.alg n ds ws
       → places ws ≡ map (first_place w) (counted n (length ws))
-  starts-at table config rule w n [] [] o h = refl
-  starts-at table config rule w n [] (x ∷ ws) o h = absurd h
-  starts-at table config rule w n (d ∷ ds) [] o h = absurd h
-  starts-at table config rule w n (d ∷ ds) (x ∷ ws) o h =
+  starts-at stm w n [] [] o h = refl
+  starts-at stm w n [] (x ∷ ws) o h = absurd h
+  starts-at stm w n (d ∷ ds) [] o h = absurd h
+  starts-at stm w n (d ∷ ds) (x ∷ ws) o h =
       let caller : caller_of d.who.role ≡ n = ap caller_of o.1 in
       let at : place_of x ≡ first_place w n = h.0.at ∙ ap (λ k. record (first_place w n) { caller = k }) caller in
-      ap (λ p. p ∷ places ws) at ∙ ap (λ ps. first_place w n ∷ ps) (starts-at table config rule w (suc n) ds ws o.3 h.1)
+      ap (λ p. p ∷ places ws) at ∙ ap (λ ps. first_place w n ∷ ps) (starts-at stm w (suc n) ds ws o.4 h.1)
 
 module _ (w : Workload) where
   -- what a caller is to install
@@ -126,11 +155,11 @@ module _ {K : Type 0} (w : Workload) where
       ap (λ l. l ++ switches_of u.items_left.now) (ap (λ (x : Handle K). (known x).installs) s.is_desc ∙ (new.done.installs ∙ ap (λ a. first_installs a n) is))
       ∙ (ap (λ (p : Place). first_installs w.header.alg n ++ switches_of p.left) s.at ∙ all-installs w n)
 
-  own-start : (table : TableId) (config : Config) (rule : K) (n : ℕ) (ds : List (Handle K)) (ws : List (Worker K)) → AllNew table config rule w.header.alg n ds → AreMade (λ k. items_of k w.items) w.header.alg n ds ws → AreOwn w n ws
-  own-start table config rule n [] [] o h = tt
-  own-start table config rule n [] (x ∷ ws) o h = absurd h
-  own-start table config rule n (d ∷ ds) [] o h = absurd h
-  own-start table config rule n (d ∷ ds) (x ∷ ws) o h =
+  own-start : (stm : Stm K) (n : ℕ) (ds : List (Handle K)) (ws : List (Worker K)) → AllNew stm w.header.alg n ds → AreMade (λ k. items_of k w.items) w.header.alg n ds ws → AreOwn w n ws
+  own-start stm n [] [] o h = tt
+  own-start stm n [] (x ∷ ws) o h = absurd h
+  own-start stm n (d ∷ ds) [] o h = absurd h
+  own-start stm n (d ∷ ds) (x ∷ ws) o h =
       let s = h.0 in (
         record {
           role = ap (λ (d : Handle K). d.who.role) s.is_desc ∙ o.1;
@@ -138,39 +167,40 @@ module _ {K : Type 0} (w : Workload) where
           regions = s.regions;
           switched = starts-switches w.header.alg n d x refl o.2 s;
         },
-        own-start table config rule (suc n) ds ws o.3 h.1,
+        own-start stm (suc n) ds ws o.4 h.1,
       )
 
 pub sizes-of : (config : Config) (h : Header) → config ≡ config_of h → HasSizes config h
 sizes-of config h e =
     (sym (ap (λ (c : Config). c.words) e), sym (ap (λ (c : Config). c.records) e), sym (ap (λ (c : Config). c.ring) e), sym (ap (λ (c : Config). c.callers) e), sym (ap (λ (c : Config). c.reads) e), sym (ap (λ (c : Config). c.writes) e))
 
-module _ {K : Type 0} (good : List ℕ → Type 0) (w : Workload) (table : TableId) (config : Config) (rule : K) (items : All (BuiltItem w.header) w.items) (sized : config ≡ config_of w.header) where
+module _ {K : Type 0} (good : List ℕ → Type 0) (w : Workload) (stm : Stm K) (items : All (BuiltItem w.header) w.items) (sized : stm.config ≡ config_of w.header) where
   -- the workers before the first turn
   pub record Begun (ws : List (Worker K)) : Type 0 where
-    pub sound : AreSound good table config rule ws
+    pub sound : AreSound good stm ws
     pub count : length ws ≡ w.header.callers
     pub own : AreOwn w 0 ws
     pub starts : places ws ≡ first_places w
-    pub owes : debts ws ≡ 0
+    pub owes : debts ws ≤ 1
+    pub paid : StartPaid w.header.alg 0 ws
 
   module _ (keeps : WorkloadKeeps good w) where
-    sound-start : (alg : Alg) (n : ℕ) (d : Handle K) (u : Worker K) → IsOf d table config rule → d.who.role ≡ Caller n → IsNew (first_installs alg n) (known d) → Starts d (items_of n w.items) alg u → Sound good table config rule u
-    sound-start alg n d u own role new s =
+    sound-start : (alg : Alg) (n : ℕ) (d : Handle K) (u : Worker K) → IsOf d stm → d.who.role ≡ Caller n → IsNew (first_installs alg n) (known d) → HasLengths stm.config (known d) → Starts d (items_of n w.items) alg u → Sound good stm u
+    sound-start alg n d u own role new long s =
         let mine = items_of n w.items in
-        let words : config.words ≡ w.header.words = ap (λ (c : Config). c.words) sized in
+        let words : stm.config.words ≡ w.header.words = ap (λ (c : Config). c.words) sized in
         let both : All (λ i. BuiltItem w.header i × ItemKeeps good w.header.words i) w.items = λ i d lt. (items i d lt, keeps i d lt) in
-        let owned : OwnItems good config.words [] n mine = subst (λ k. OwnItems good k [] n mine) (sym words) (items-own good w.header n mine (own-all (λ i. BuiltItem w.header i × ItemKeeps good w.header.words i) n w.items both)) in
-        starts-sound good table config rule d mine alg (first_installs alg n) u own new (subst (λ k. OwnItems good config.words [] k mine) (sym (ap caller_of role)) owned) s
+        let owned : OwnItems good stm.config.words [] n mine = subst (λ k. OwnItems good k [] n mine) (sym words) (items-own good w.header n mine (own-all (λ i. BuiltItem w.header i × ItemKeeps good w.header.words i) n w.items both)) in
+        starts-sound good stm d mine alg (first_installs alg n) u own new long (subst (λ k. OwnItems good stm.config.words [] k mine) (sym (ap caller_of role)) owned) s
 
-    sound-all : (alg : Alg) (n : ℕ) (ds : List (Handle K)) (ws : List (Worker K)) → AllNew table config rule alg n ds → AreMade (λ k. items_of k w.items) alg n ds ws → AreSound good table config rule ws
+    sound-all : (alg : Alg) (n : ℕ) (ds : List (Handle K)) (ws : List (Worker K)) → AllNew stm alg n ds → AreMade (λ k. items_of k w.items) alg n ds ws → AreSound good stm ws
     sound-all alg n [] [] opened made = λ i d lt. absurd (omega (arith, lt))
     sound-all alg n [] (x ∷ ws) opened made = absurd made
     sound-all alg n (d ∷ ds) [] opened made = absurd made
     sound-all alg n (d ∷ ds) (x ∷ ws) opened made =
-        all-cons (Sound good table config rule) x ws (sound-start alg n d x opened.0 opened.1 opened.2 made.0) (sound-all alg (suc n) ds ws opened.3 made.1)
+        all-cons (Sound good stm) x ws (sound-start alg n d x opened.0 opened.1 opened.2 opened.3 made.0) (sound-all alg (suc n) ds ws opened.4 made.1)
 
-    pub begun : (parts : List (List Item)) (ws : List (Worker K)) → parts ≡ parted w.header.callers w.items → IsPrepared w.header parts table config rule ws → Begun ws
+    pub begun : (parts : List (List Item)) (ws : List (Worker K)) → parts ≡ parted w.header.callers w.items → IsPrepared w.header parts stm ws → Begun ws
     begun parts ws is p =
         let callers = p.count in
         let owned = made-same (λ n. slice_index_or parts n []) (λ n. items_of n w.items) w.header.alg w.header.callers 0 p.descs ws (λ n lt. ap (λ l. slice_index_or l n []) is ∙ part-at w.header.callers w.items n [] lt) (omega (arith, callers)) p.made in
@@ -178,9 +208,10 @@ module _ {K : Type 0} (good : List ℕ → Type 0) (w : Workload) (table : Table
         record {
           sound = sound-all w.header.alg 0 p.descs ws p.new owned;
           count = long;
-          own = own-start w table config rule 0 p.descs ws p.new owned;
-          starts = starts-at table config rule w 0 p.descs ws p.new owned ∙ ap (λ k. map (first_place w) (counted 0 k)) long;
-          owes = owes-start table config rule w.items w.header.alg 0 p.descs ws p.new owned;
+          own = own-start w stm 0 p.descs ws p.new owned;
+          starts = starts-at stm w 0 p.descs ws p.new owned ∙ ap (λ k. map (first_place w) (counted 0 k)) long;
+          owes = owes-start stm w.items w.header.alg 0 p.descs ws p.new owned;
+          paid = paid-start stm w.items w.header.alg 0 p.descs ws p.new owned;
         }
 
   pub turns-below : (gos : List Go) (ws : List (Worker K)) → All (λ (go : Go). go.caller < w.header.callers) gos → Begun ws → All (λ (go : Go). go.caller < length ws) gos

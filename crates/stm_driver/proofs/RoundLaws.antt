@@ -3,28 +3,32 @@ use Rattle.std.proofs.Common.{ℕ, zero, suc, ◌≡◌, ◌<◌, ◌≤◌, ◌
 use Rattle.std.specs.Prelude.{Result, Ok, Err, replicate, ◌||◌}
 use Rattle.std.proofs.lemmas.List.{length-map}
 use Rattle.std.proofs.lemmas.List.Sums.{sum_by-set}
-use Rattle.atomic_table.specs.Seated.{TableId}
-use Rattle.rule_base.specs.declared.layout.Config.{Config}
+use Rattle.stm_rule.specs.declared.stm.Stm.{Stm}
+use Rattle.stm_model.specs.declared.config.Config.{Config}
 use Rattle.stm_model.specs.declared.alg.Alg.{Alg}
 use Rattle.stm_model.specs.declared.alg.Alg.TheVariants.{Cgl, Tml, OrecLazy, OrecEager, RingSw, Serial}
 use Rattle.stm_script.specs.declared.workload.Go.{Go}
 use Rattle.stm_script.specs.declared.workload.Header.{Header}
 use Rattle.tx_answers.specs.declared.answers.Cancel.TheVariants as cancels
 use Rattle.tx_answers.specs.declared.answers.Commit.TheVariants as commits
-use Rattle.tx_answers.specs.Known.{is_sure, owed}
+use Rattle.tx_answers.specs.declared.answers.Irrev.TheVariants as irrevs
+use Rattle.stm_model.specs.declared.stop.Stop.TheVariants as stops
+use Rattle.stm_script.specs.declared.op.Op.TheVariants.{Irrev}
+use Rattle.tx_answers.specs.Known.{owed}
+use Rattle.stm_model.specs.Algorithms.{is_sure}
 use Rattle.stm_tx.specs.Descs.{known}
 use Rattle.stm_trace.specs.declared.line.Line.{Line}
 use Rattle.stm_trace.specs.declared.line.Line.TheVariants.{Of, Finish}
 use Rattle.stm_trace.specs.declared.said.Phase.TheVariants.{Between, Inside, Closing, Quiet}
 use Rattle.stm_trace.specs.declared.said.Said.{Said}
-use Rattle.stm_trace.specs.declared.said.Said.TheVariants.{TryBegin, Reply, Stopped, TryCancel, TryCommit, TryClose, Looked, Installed, Idle, Dropped, Reopened}
+use Rattle.stm_trace.specs.declared.said.Said.TheVariants.{TryBegin, Reply, Stopped, TryCancel, TryIrrevocable, TryCommit, TryClose, Looked, Installed, Idle, Dropped, Reopened}
 use Rattle.stm_trace.specs.Fits.{turns}
-use Rattle.stm_trace.specs.Places.{Place, after, writes}
+use Rattle.stm_trace.specs.Places.{Place, after, granted_at, is_forced, sure, writes}
 use Rattle.stm_trace.specs.Played.{Played}
 use Rattle.stm_trace.specs.PlayLaws.{append-nil, may-finish, may-wind, played-none}
 use Rattle.stm_trace.specs.RoundLaws.{WentRound, round-none, round-next, round-halted, round-all, round-cut, rounds-cut, rounds-fit}
 use Rattle.stm_trace.specs.TurnLaws.{replicate-next}
-use Rattle.stm_trace.specs.Turns.{MaySay, MayWind, MayFinish, IsOver, sure}
+use Rattle.stm_trace.specs.Turns.{MaySay, MayWind, MayFinish, IsOver}
 use Rattle.stm_trace.specs.WholeLaws.{cut-in-schedule}
 use Rattle.crossbeam_utils.specs.declared.cache_padded.CachePadded.{CachePadded}
 use Rattle.stm_driver.specs.declared.workers.Runner.{Runner}
@@ -73,22 +77,42 @@ module _ {K : Type 0} (config : Config) (may : Place → Said → Type 0) (holds
     again-halts halt q =
         (k + 1, plays-early config may us ws a c (replicate k n ++ n ∷ []) [] (replicate (k + 1) n) halt (append-nil (replicate k n ++ n ∷ []) ∙ replicate-next k n) (plays-halt config may us vs ws a b c (replicate k n) (n ∷ []) p halt q))
 
-sure-or : (alg : Alg) (w b : Bool) → is_sure alg false w ≡ true → is_sure alg false (w || b) ≡ true
-sure-or alg true b h = h
-sure-or Cgl false b h = refl
-sure-or Tml false b h = absurd cc
-sure-or OrecLazy false b h = h
-sure-or OrecEager false b h = h
-sure-or RingSw false b h = h
-sure-or Serial false b h = h
+sure-or : (alg : Alg) (granted w b : Bool) → is_sure alg granted w ≡ true → is_sure alg granted (w || b) ≡ true
+sure-or alg granted true b h = h
+sure-or Cgl granted false b h = refl
+sure-or Tml true false b h = refl
+sure-or Tml false false b h = absurd cc
+sure-or OrecLazy granted false b h = h
+sure-or OrecEager granted false b h = h
+sure-or RingSw granted false b h = h
+sure-or Serial granted false b h = h
+
+granted-sure : (alg : Alg) (w : Bool) → is_sure alg true w ≡ true
+granted-sure Cgl w = refl
+granted-sure Tml w = refl
+granted-sure OrecLazy w = refl
+granted-sure OrecEager w = refl
+granted-sure RingSw w = refl
+granted-sure Serial w = refl
+
+granted-stays : (forced : Bool) (at : Place) → at.phase ≡ Inside → HasOnlySureOpen (granted_at forced at)
+granted-stays true at here = inr (here, granted-sure at.alg at.wrote)
+granted-stays false at here = inr (here, granted-sure at.alg (at.wrote || writes Irrev 1))
 
 -- who can't cancel its open attempt still can't, until it ends
 sure-stays : (at : Place) (said : Said) → at.phase ≡ Inside → sure at ≡ true → MaySay at said → HasOnlySureOpen (after at said)
 sure-stays at (TryBegin b) here is m = absurd (let e : Between ≡ Inside = sym m.0 ∙ here in cc)
-sure-stays at (Reply op reply) here is m = inr (here, sure-or at.alg at.wrote (writes op reply) is)
-sure-stays at (Stopped op stop) here is m = inl refl
+sure-stays at (Reply op reply) here is m = inr (here, sure-or at.alg at.granted at.wrote (writes op reply) is)
+sure-stays at (Stopped op (stops.Conflict cause)) here is m = inl refl
+sure-stays at (Stopped op (stops.Full limit)) here is m = inl refl
+sure-stays at (Stopped op (stops.ClockFull clock)) here is m = inl refl
 sure-stays at (TryCancel (cancels.Cancelled time)) here is m = inl refl
-sure-stays at (TryCancel cancels.Irrevocable) here is m = inr (here, sure-or at.alg at.wrote false is)
+sure-stays at (TryCancel cancels.Irrevocable) here is m = inr (here, sure-or at.alg at.granted at.wrote false is)
+sure-stays at (TryIrrevocable irrevs.Granted) here is m = granted-stays (is_forced at) at here
+sure-stays at (TryIrrevocable (irrevs.Busy caller status)) here is m = inr (here, is)
+sure-stays at (TryIrrevocable (irrevs.Taken gate)) here is m = inl refl
+sure-stays at (TryIrrevocable (irrevs.Conflict cause)) here is m = inl refl
+sure-stays at (TryIrrevocable (irrevs.ClockFull clock)) here is m = inl refl
 sure-stays at (TryCommit (commits.Committed time)) here is m = inl refl
 sure-stays at (TryCommit (commits.ReadOnly time)) here is m = inl refl
 sure-stays at (TryCommit (commits.Conflict cause)) here is m = inl refl
@@ -126,9 +150,9 @@ module _ {K : Type 0} where
       equal : (a b old new : ℕ) → a + old ≡ b + new → new ≡ old → a ≤ b
       equal a b old new e h = omega (arith, e, h)
 
-  module _ (good : List ℕ → Type 0) (table : TableId) (config : Config) (rule : K) (n : ℕ) where
+  module _ (good : List ℕ → Type 0) (stm : Stm K) (n : ℕ) where
     -- caller n has nothing to give up
-    pub left-goes : (ws : List (Worker K)) (d w : Worker K) (lines : List Line) → n < length ws → NothingToGiveUp good table config rule (get_or ws n d) w → Goes config MayWind HasOnlySureOpen ws (set ws n w) lines lines n (Ok tt)
+    pub left-goes : (ws : List (Worker K)) (d w : Worker K) (lines : List Line) → n < length ws → NothingToGiveUp good stm (get_or ws n d) w → Goes stm.config MayWind HasOnlySureOpen ws (set ws n w) lines lines n (Ok tt)
     left-goes ws d w lines lt l = (
       0,
       (
@@ -139,11 +163,11 @@ module _ {K : Type 0} where
     )
 
     -- what caller n had open is given up
-    pub gave-goes : (ws : List (Worker K)) (d w : Worker K) (said : Said) (old new : List Line) → n < length ws → GaveUp good table config rule (get_or ws n d) said w → new ≡ old ++ Of n said ∷ []
-        → Goes config MayWind HasOnlySureOpen ws (set ws n w) old new n (Ok tt)
+    pub gave-goes : (ws : List (Worker K)) (d w : Worker K) (said : Said) (old new : List Line) → n < length ws → GaveUp good stm (get_or ws n d) said w → new ≡ old ++ Of n said ∷ []
+        → Goes stm.config MayWind HasOnlySureOpen ws (set ws n w) old new n (Ok tt)
     gave-goes ws d w said old new lt t lines = (
       1,
-      took-plays good table config rule MayWind MayWind ws (set ws n w) old new n said lt (record { was = d; now = w; turned = t.turned; is = refl; lines = lines }) t.turned.here t.calm,
+      took-plays good stm MayWind MayWind ws (set ws n w) old new n said lt (record { was = d; now = w; turned = t.turned; is = refl; lines = lines }) t.turned.here t.calm,
       inl (ap (λ (p : Place). p.phase) (place-set ws n w lt) ∙ t.nothing_open),
     )
 
@@ -152,25 +176,25 @@ module _ {K : Type 0} where
       at-of d = place-is ws n d lt
 
       -- caller n goes on to the end of its attempt
-      pub wind-turn : (d : Worker K) → HasOnlySureOpen (place_at ws n) → (HasNothingOpen (place_of (get_or ws n d)) → ⊥) → Turns good table config rule ws vs old new n (Ok tt)
-          → Plays config MayWind ws vs old new (n ∷ []) (Ok tt) × HasOnlySureOpen (place_at vs n)
+      pub wind-turn : (d : Worker K) → HasOnlySureOpen (place_at ws n) → (HasNothingOpen (place_of (get_or ws n d)) → ⊥) → Turns good stm ws vs old new n (Ok tt)
+          → Plays stm.config MayWind ws vs old new (n ∷ []) (Ok tt) × HasOnlySureOpen (place_at vs n)
       wind-turn d closing unclosed h =
           let t = h.1 in
           let still = still-inside (place_at ws n) closing (λ e. unclosed (subst HasNothingOpen (at-of d) e)) in
           let at = place_of (get_or ws n t.was) in
           let here : at.phase ≡ Inside = ap (λ (p : Place). p.phase) (sym (at-of t.was)) ∙ still.0 in
           let is : sure at ≡ true = ap sure (sym (at-of t.was)) ∙ still.1 in (
-            took-plays good table config rule MaySay MayWind ws vs old new n h.0 lt t (may-wind at h.0 here is t.turned.here) h.2,
+            took-plays good stm MaySay MayWind ws vs old new n h.0 lt t (may-wind at h.0 here is t.turned.here) h.2,
             subst (λ x. HasOnlySureOpen (place_at x n)) (sym t.is) (subst HasOnlySureOpen (sym (place-set ws n t.now lt ∙ t.turned.now)) (sure-stays at h.0 here is t.turned.here)),
           )
 
-      pub wind-halt : (d : Worker K) (halt : Halt) → HasOnlySureOpen (place_at ws n) → (HasNothingOpen (place_of (get_or ws n d)) → ⊥) → Turns good table config rule ws vs old new n (Err halt)
-          → Plays config MayWind ws vs old new (n ∷ []) (Err halt)
+      pub wind-halt : (d : Worker K) (halt : Halt) → HasOnlySureOpen (place_at ws n) → (HasNothingOpen (place_of (get_or ws n d)) → ⊥) → Turns good stm ws vs old new n (Err halt)
+          → Plays stm.config MayWind ws vs old new (n ∷ []) (Err halt)
       wind-halt d (ClockFull clock) closing unclosed h =
           let t = h.1 in
           let still = still-inside (place_at ws n) closing (λ e. unclosed (subst HasNothingOpen (at-of d) e)) in
           let at = place_of (get_or ws n t.was) in
-          took-halts good table config rule MaySay MayWind ws vs old new n h.0 lt t
+          took-halts good stm MaySay MayWind ws vs old new n h.0 lt t
           (may-wind at h.0 (ap (λ (p : Place). p.phase) (sym (at-of t.was)) ∙ still.0) (ap sure (sym (at-of t.was)) ∙ still.1) t.turned.here) clock h.2 t.turned.here
       wind-halt d Memory closing unclosed h = tt
 
@@ -178,40 +202,40 @@ module _ {K : Type 0} where
       still-busy d e still over = still (subst IsOver (sym (at-of e) ∙ at-of d) over)
 
       -- caller n goes on
-      pub finish-turn : (d : Worker K) → (IsOver (place_of (get_or ws n d)) → ⊥) → Turns good table config rule ws vs old new n (Ok tt) → Plays config MayFinish ws vs old new (n ∷ []) (Ok tt)
+      pub finish-turn : (d : Worker K) → (IsOver (place_of (get_or ws n d)) → ⊥) → Turns good stm ws vs old new n (Ok tt) → Plays stm.config MayFinish ws vs old new (n ∷ []) (Ok tt)
       finish-turn d still h =
           let t = h.1 in
-          took-plays good table config rule MaySay MayFinish ws vs old new n h.0 lt t (may-finish (place_of (get_or ws n t.was)) h.0 (still-busy d t.was still) t.turned.here) h.2
+          took-plays good stm MaySay MayFinish ws vs old new n h.0 lt t (may-finish (place_of (get_or ws n t.was)) h.0 (still-busy d t.was still) t.turned.here) h.2
 
-      pub finish-halt : (d : Worker K) (halt : Halt) → (IsOver (place_of (get_or ws n d)) → ⊥) → Turns good table config rule ws vs old new n (Err halt) → Plays config MayFinish ws vs old new (n ∷ []) (Err halt)
+      pub finish-halt : (d : Worker K) (halt : Halt) → (IsOver (place_of (get_or ws n d)) → ⊥) → Turns good stm ws vs old new n (Err halt) → Plays stm.config MayFinish ws vs old new (n ∷ []) (Err halt)
       finish-halt d (ClockFull clock) still h =
           let t = h.1 in
-          took-halts good table config rule MaySay MayFinish ws vs old new n h.0 lt t (may-finish (place_of (get_or ws n t.was)) h.0 (still-busy d t.was still) t.turned.here) clock h.2 t.turned.here
+          took-halts good stm MaySay MayFinish ws vs old new n h.0 lt t (may-finish (place_of (get_or ws n t.was)) h.0 (still-busy d t.was still) t.turned.here) clock h.2 t.turned.here
       finish-halt d Memory still h = tt
 
 -- one turn more of caller n, who did not yet stand so
-module _ {K : Type 0} (good : List ℕ → Type 0) (table : TableId) (config : Config) (rule : K) (n : ℕ) (ws vs : List (Worker K)) (old new : List Line) (lt : n < length ws) where
-  pub until-turn : (u : Until) (d : Worker K) → ready_until u (place_at ws n) → (stands_until u (place_of (get_or ws n d)) → ⊥) → Turns good table config rule ws vs old new n (Ok tt)
-      → Plays config (may_until u) ws vs old new (n ∷ []) (Ok tt) × ready_until u (place_at vs n)
-  until-turn NothingOpen d ready still h = wind-turn good table config rule n ws vs old new lt d ready still h
-  until-turn NothingLeft d ready still h = (finish-turn good table config rule n ws vs old new lt d still h, tt)
+module _ {K : Type 0} (good : List ℕ → Type 0) (stm : Stm K) (n : ℕ) (ws vs : List (Worker K)) (old new : List Line) (lt : n < length ws) where
+  pub until-turn : (u : Until) (d : Worker K) → ready_until u (place_at ws n) → (stands_until u (place_of (get_or ws n d)) → ⊥) → Turns good stm ws vs old new n (Ok tt)
+      → Plays stm.config (may_until u) ws vs old new (n ∷ []) (Ok tt) × ready_until u (place_at vs n)
+  until-turn NothingOpen d ready still h = wind-turn good stm n ws vs old new lt d ready still h
+  until-turn NothingLeft d ready still h = (finish-turn good stm n ws vs old new lt d still h, tt)
 
-  pub until-halt : (u : Until) (d : Worker K) (halt : Halt) → ready_until u (place_at ws n) → (stands_until u (place_of (get_or ws n d)) → ⊥) → Turns good table config rule ws vs old new n (Err halt)
-      → Plays config (may_until u) ws vs old new (n ∷ []) (Err halt)
-  until-halt NothingOpen d halt ready still h = wind-halt good table config rule n ws vs old new lt d halt ready still h
-  until-halt NothingLeft d halt ready still h = finish-halt good table config rule n ws vs old new lt d halt still h
+  pub until-halt : (u : Until) (d : Worker K) (halt : Halt) → ready_until u (place_at ws n) → (stands_until u (place_of (get_or ws n d)) → ⊥) → Turns good stm ws vs old new n (Err halt)
+      → Plays stm.config (may_until u) ws vs old new (n ∷ []) (Err halt)
+  until-halt NothingOpen d halt ready still h = wind-halt good stm n ws vs old new lt d halt ready still h
+  until-halt NothingLeft d halt ready still h = finish-halt good stm n ws vs old new lt d halt still h
 
 -- one runner of many gave up what it had open, where it could
-module _ {K : Type 0} (good : List ℕ → Type 0) (table : TableId) (config : Config) (rule : K) (rs : List (CachePadded (Runner K))) (n : ℕ) (d r : CachePadded (Runner K)) (lt : n < length (workers_in rs)) where
-  pub none-given-up : (lines : List Line) → NothingToGiveUp good table config rule (worker_in (get_or rs n d)) (worker_in r) → Goes config MayWind HasOnlySureOpen (workers_in rs) (workers_in (set rs n r)) lines lines n (Ok tt)
+module _ {K : Type 0} (good : List ℕ → Type 0) (stm : Stm K) (rs : List (CachePadded (Runner K))) (n : ℕ) (d r : CachePadded (Runner K)) (lt : n < length (workers_in rs)) where
+  pub none-given-up : (lines : List Line) → NothingToGiveUp good stm (worker_in (get_or rs n d)) (worker_in r) → Goes stm.config MayWind HasOnlySureOpen (workers_in rs) (workers_in (set rs n r)) lines lines n (Ok tt)
   none-given-up lines h =
-      subst (λ ws. Goes config MayWind HasOnlySureOpen (workers_in rs) ws lines lines n (Ok tt)) (sym (workers-set rs n r))
-      (left-goes good table config rule n (workers_in rs) (worker_in d) (worker_in r) lines lt (subst (λ (x : Worker K). NothingToGiveUp good table config rule x (worker_in r)) (sym (worker-at rs n d lt)) h))
+      subst (λ ws. Goes stm.config MayWind HasOnlySureOpen (workers_in rs) ws lines lines n (Ok tt)) (sym (workers-set rs n r))
+      (left-goes good stm n (workers_in rs) (worker_in d) (worker_in r) lines lt (subst (λ (x : Worker K). NothingToGiveUp good stm x (worker_in r)) (sym (worker-at rs n d lt)) h))
 
-  pub given-up : (said : Said) (old new : List Line) → GaveUp good table config rule (worker_in (get_or rs n d)) said (worker_in r) → new ≡ old ++ Of n said ∷ [] → Goes config MayWind HasOnlySureOpen (workers_in rs) (workers_in (set rs n r)) old new n (Ok tt)
+  pub given-up : (said : Said) (old new : List Line) → GaveUp good stm (worker_in (get_or rs n d)) said (worker_in r) → new ≡ old ++ Of n said ∷ [] → Goes stm.config MayWind HasOnlySureOpen (workers_in rs) (workers_in (set rs n r)) old new n (Ok tt)
   given-up said old new h lines =
-      subst (λ ws. Goes config MayWind HasOnlySureOpen (workers_in rs) ws old new n (Ok tt)) (sym (workers-set rs n r))
-      (gave-goes good table config rule n (workers_in rs) (worker_in d) (worker_in r) said old new lt (subst (λ (x : Worker K). GaveUp good table config rule x said (worker_in r)) (sym (worker-at rs n d lt)) h) lines)
+      subst (λ ws. Goes stm.config MayWind HasOnlySureOpen (workers_in rs) ws old new n (Ok tt)) (sym (workers-set rs n r))
+      (gave-goes good stm n (workers_in rs) (worker_in d) (worker_in r) said old new lt (subst (λ (x : Worker K). GaveUp good stm x said (worker_in r)) (sym (worker-at rs n d lt)) h) lines)
 
 -- nothing has to be made ready for the turns to the end
 pub ready-none : {K : Type 0} (config : Config) (ws : List (Worker K)) (lines : List Line) (n : ℕ) → Goes config (may_until NothingLeft) (ready_until NothingLeft) ws ws lines lines n (Ok tt)

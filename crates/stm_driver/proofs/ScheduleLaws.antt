@@ -3,10 +3,12 @@ use Rattle.std.proofs.Common.{ℕ, zero, suc, ◌≡◌, ◌<◌, ◌≤◌, ◌
 use Rattle.std.specs.Prelude.{Some, None, Ok, Err, MatchOption}
 use Rattle.std.proofs.lemmas.List.{get_or-map}
 use Rattle.std.proofs.lemmas.List.Sums.{sum_by-set}
-use Rattle.atomic_table.specs.Seated.{TableId}
-use Rattle.rule_base.specs.declared.layout.Config.{Config}
+use Rattle.stm_rule.specs.declared.stm.Stm.{Stm}
+use Rattle.stm_model.specs.declared.config.Config.{Config}
 use Rattle.tx_answers.specs.declared.answers.Begin.TheVariants as begins
 use Rattle.tx_answers.specs.declared.answers.Commit.TheVariants as commits
+use Rattle.tx_answers.specs.declared.answers.Irrev.TheVariants as irrevs
+use Rattle.stm_model.specs.declared.stop.Stop.TheVariants as stops
 use Rattle.tx_answers.specs.Known.{owed}
 use Rattle.stm_rule.specs.Callers.{Handle, IsSameCaller}
 use Rattle.stm_tx.specs.Descs.{known}
@@ -14,7 +16,7 @@ use Rattle.stm_trace.specs.declared.line.Line.{Line}
 use Rattle.stm_trace.specs.declared.line.Line.TheVariants.{Of}
 use Rattle.stm_trace.specs.declared.said.Phase.TheVariants.{Between}
 use Rattle.stm_trace.specs.declared.said.Said.{Said}
-use Rattle.stm_trace.specs.declared.said.Said.TheVariants.{TryBegin, Reply, Stopped, TryCancel, TryCommit, TryClose, Looked, Installed, Idle, Dropped, Reopened}
+use Rattle.stm_trace.specs.declared.said.Said.TheVariants.{TryBegin, Reply, Stopped, TryCancel, TryIrrevocable, TryCommit, TryClose, Looked, Installed, Idle, Dropped, Reopened}
 use Rattle.stm_trace.specs.Fits.{no_place}
 use Rattle.stm_trace.specs.Places.{Place, after, clock_of}
 use Rattle.stm_trace.specs.Played.{Played, Halted}
@@ -32,14 +34,21 @@ use Rattle.stm_driver.specs.Schedules.{places, place_at, AreSame, AreSound, debt
 use Rattle.stm_worker.specs.Workers.{place_of, IsSame, Loaded, Sound, Turned}
 
 -- who found the clock full has no attempt open
-full-between : (at : Place) (said : Said) (clock : ℕ) → clock_of said ≡ Some clock → MaySay at said → (after at said).phase ≡ Between
+pub full-between : (at : Place) (said : Said) (clock : ℕ) → clock_of said ≡ Some clock → MaySay at said → (after at said).phase ≡ Between
 full-between at (TryBegin (begins.Begun alg)) clock e m = absurd cc
 full-between at (TryBegin (begins.Closed gate)) clock e m = absurd cc
 full-between at (TryBegin (begins.Held word)) clock e m = absurd cc
 full-between at (TryBegin (begins.ClockFull c)) clock e m = m.0
 full-between at (Reply op reply) clock e m = absurd cc
-full-between at (Stopped op stop) clock e m = refl
+full-between at (Stopped op (stops.Conflict cause)) clock e m = absurd cc
+full-between at (Stopped op (stops.Full limit)) clock e m = absurd cc
+full-between at (Stopped op (stops.ClockFull c)) clock e m = refl
 full-between at (TryCancel c) clock e m = absurd cc
+full-between at (TryIrrevocable irrevs.Granted) clock e m = absurd cc
+full-between at (TryIrrevocable (irrevs.Busy caller status)) clock e m = absurd cc
+full-between at (TryIrrevocable (irrevs.Taken gate)) clock e m = absurd cc
+full-between at (TryIrrevocable (irrevs.Conflict cause)) clock e m = absurd cc
+full-between at (TryIrrevocable (irrevs.ClockFull c)) clock e m = refl
 full-between at (TryCommit (commits.Committed time)) clock e m = absurd cc
 full-between at (TryCommit (commits.ReadOnly time)) clock e m = absurd cc
 full-between at (TryCommit (commits.Conflict cause)) clock e m = absurd cc
@@ -120,23 +129,23 @@ module _ {K : Type 0} where
           ((λ h sizes. halted-append h may (places us) (places vs) (places ws) a b c first second clock (p.0 h sizes) (q.0 h sizes)), (let x = p.1 in let y = q.1 in omega (arith, x, y)), q.2)
       plays-halt Memory q = tt
 
-  module _ (good : List ℕ → Type 0) (table : TableId) (config : Config) (rule : K) where
+  module _ (good : List ℕ → Type 0) (stm : Stm K) where
     module _ (asked may : Place → Said → Type 0) (ws vs : List (Worker K)) (old new : List Line) (n : ℕ) (said : Said) (lt : n < length ws)
-        (t : Took good table config rule asked ws vs old new n said) (here : may (place_of (get_or ws n t.was)) said) where
+        (t : Took good stm asked ws vs old new n said) (here : may (place_of (get_or ws n t.was)) said) where
       paid : ArePaid ws vs old new
       paid =
           let f : Worker K → ℕ = λ w. owed (known w.desc) in
           subst (λ x. ArePaid ws x old new) (sym t.is)
           (one-more (debts (set ws n t.now)) (debts ws) (f (get_or ws n t.was)) (f t.now) old new n said (sum_by-set f ws n t.now t.was lt) t.turned.pays t.lines)
 
-      pub took-plays : clock_of said ≡ None → Plays config may ws vs old new (n ∷ []) (Ok tt)
+      pub took-plays : clock_of said ≡ None → Plays stm.config may ws vs old new (n ∷ []) (Ok tt)
       took-plays calm = (
         (λ h sizes. subst (λ x. Played h may (places ws) (places x) old new (n ∷ [])) (sym t.is)
             (played-one h may place_of ws n t.was t.now said old new lt here (t.turned.fair h sizes) t.turned.now t.lines calm)),
         paid,
       )
 
-      pub took-halts : (clock : ℕ) → clock_of said ≡ Some clock → MaySay (place_of (get_or ws n t.was)) said → Plays config may ws vs old new (n ∷ []) (Err (ClockFull clock))
+      pub took-halts : (clock : ℕ) → clock_of said ≡ Some clock → MaySay (place_of (get_or ws n t.was)) said → Plays stm.config may ws vs old new (n ∷ []) (Err (ClockFull clock))
       took-halts clock full says =
           let between = ap (λ (p : Place). p.phase) t.turned.now ∙ full-between (place_of (get_or ws n t.was)) said clock full says in
           let found = subst (λ o. MatchOption o (Unit {0}) (λ c. (2 ^ 62 ≤ c) × Loaded (known t.now.desc) c)) full t.turned.found in (
@@ -147,10 +156,10 @@ module _ {K : Type 0} where
           )
 
     -- a turn in the schedule
-    pub turns-play : (ws vs : List (Worker K)) (old new : List Line) (n : ℕ) → n < length ws → Turns good table config rule ws vs old new n (Ok tt) → Plays config MaySay ws vs old new (n ∷ []) (Ok tt)
+    pub turns-play : (ws vs : List (Worker K)) (old new : List Line) (n : ℕ) → n < length ws → Turns good stm ws vs old new n (Ok tt) → Plays stm.config MaySay ws vs old new (n ∷ []) (Ok tt)
     turns-play ws vs old new n lt h = took-plays MaySay MaySay ws vs old new n h.0 lt h.1 h.1.turned.here h.2
 
-    pub turns-halt : (ws vs : List (Worker K)) (old new : List Line) (n : ℕ) (halt : Halt) → n < length ws → Turns good table config rule ws vs old new n (Err halt) → Plays config MaySay ws vs old new (n ∷ []) (Err halt)
+    pub turns-halt : (ws vs : List (Worker K)) (old new : List Line) (n : ℕ) (halt : Halt) → n < length ws → Turns good stm ws vs old new n (Err halt) → Plays stm.config MaySay ws vs old new (n ∷ []) (Err halt)
     turns-halt ws vs old new n (ClockFull clock) lt h = took-halts MaySay MaySay ws vs old new n h.0 lt h.1 h.1.turned.here clock h.2 h.1.turned.here
     turns-halt ws vs old new n Memory lt h = tt
 
@@ -158,26 +167,26 @@ pub still-below : {K : Type 0} (ws vs : List (Worker K)) (n : ℕ) → AreSame w
 still-below ws vs n same lt = let e = same-length ws vs same in omega (arith, e, lt)
 
 -- one runner of many
-pub sound-at : {K : Type 0} (good : List ℕ → Type 0) (table : TableId) (config : Config) (rule : K) (rs : List (CachePadded (Runner K))) (n : ℕ) (d : CachePadded (Runner K)) → n < length (workers_in rs) → AreSound good table config rule (workers_in rs)
-    → Sound good table config rule (worker_in (get_or rs n d))
-sound-at good table config rule rs n d lt s = subst (Sound good table config rule) (worker-at rs n d lt) (s n (worker_in d) lt)
+pub sound-at : {K : Type 0} (good : List ℕ → Type 0) (stm : Stm K) (rs : List (CachePadded (Runner K))) (n : ℕ) (d : CachePadded (Runner K)) → n < length (workers_in rs) → AreSound good stm (workers_in rs)
+    → Sound good stm (worker_in (get_or rs n d))
+sound-at good stm rs n d lt s = subst (Sound good stm) (worker-at rs n d lt) (s n (worker_in d) lt)
 
 -- one runner of many is another now
-module _ {K : Type 0} (good : List ℕ → Type 0) (table : TableId) (config : Config) (rule : K) (rs : List (CachePadded (Runner K))) (n : ℕ) (d r : CachePadded (Runner K)) where
-  pub set-sound : AreSound good table config rule (workers_in rs) → Sound good table config rule (worker_in r) → AreSound good table config rule (workers_in (set rs n r))
-  set-sound s h = subst (AreSound good table config rule) (sym (workers-set rs n r)) (All-set (Sound good table config rule) (workers_in rs) n (worker_in r) h s)
+module _ {K : Type 0} (good : List ℕ → Type 0) (stm : Stm K) (rs : List (CachePadded (Runner K))) (n : ℕ) (d r : CachePadded (Runner K)) where
+  pub set-sound : AreSound good stm (workers_in rs) → Sound good stm (worker_in r) → AreSound good stm (workers_in (set rs n r))
+  set-sound s h = subst (AreSound good stm) (sym (workers-set rs n r)) (All-set (Sound good stm) (workers_in rs) n (worker_in r) h s)
 
   module _ (lt : n < length (workers_in rs)) where
     pub set-same : IsSame (worker_in (get_or rs n d)) (worker_in r) → AreSame (workers_in rs) (workers_in (set rs n r))
     set-same h = subst (AreSame (workers_in rs)) (sym (workers-set rs n r)) (same-set (workers_in rs) n (worker_in d) (worker_in r) lt (subst (λ (x : Worker K). IsSame x (worker_in r)) (sym (worker-at rs n d lt)) h))
 
     -- it took a turn
-    pub took : (may : Place → Said → Type 0) (said : Said) (old new : List Line) → Turned good table config rule may (worker_in (get_or rs n d)) said (worker_in r) → new ≡ old ++ Of n said ∷ []
-        → Took good table config rule may (workers_in rs) (workers_in (set rs n r)) old new n said
+    pub took : (may : Place → Said → Type 0) (said : Said) (old new : List Line) → Turned good stm may (worker_in (get_or rs n d)) said (worker_in r) → new ≡ old ++ Of n said ∷ []
+        → Took good stm may (workers_in rs) (workers_in (set rs n r)) old new n said
     took may said old new t lines = record {
       was = worker_in d;
       now = worker_in r;
-      turned = subst (λ (x : Worker K). Turned good table config rule may x said (worker_in r)) (sym (worker-at rs n d lt)) t;
+      turned = subst (λ (x : Worker K). Turned good stm may x said (worker_in r)) (sym (worker-at rs n d lt)) t;
       is = workers-set rs n r;
       lines = lines;
     }

@@ -3,9 +3,10 @@ use Rattle.std.proofs.Common.{ℕ, zero, suc, ◌≡◌, ◌<◌, ◌≤◌, Lis
 use Rattle.std.specs.Prelude.{Some}
 use Rattle.std.specs.Prelude.{Contains}
 use Rattle.std.proofs.lemmas.List.Elements.{All-head, All-tail}
-use Rattle.atomic_table.specs.Seated.{TableId}
+use Rattle.stm_rule.specs.declared.stm.Stm.{Stm}
 use Rattle.rule_base.specs.declared.layout.At.TheVariants.{Clock}
-use Rattle.rule_base.specs.declared.layout.Config.{Config}
+use Rattle.stm_model.specs.declared.config.Config.{Config}
+use Rattle.rule_base.specs.declared.views.Act.{Act}
 use Rattle.rule_base.specs.declared.views.TrailItem.{TrailItem}
 use Rattle.rule_base.specs.StepsRule.{ClocksWithin}
 use Rattle.stm_model.specs.Histories.{Entry}
@@ -20,18 +21,18 @@ use Rattle.stm_tx.specs.Descs.{known}
 use Rattle.stm_trace.specs.declared.said.Phase.TheVariants.{Between}
 use Rattle.stm_trace.specs.Places.{items_of}
 use Rattle.stm_worker.specs.declared.worker.Worker.{Worker}
-use Rattle.stm_worker.specs.Workers.{Works, Pays, Stands, Sound}
+use Rattle.stm_worker.specs.Workers.{Works, Stands, Sound}
 use Rattle.stm_driver.specs.AllWorkers.{rows_of}
-use Rattle.stm_driver.specs.Openings.{config_of}
+use Rattle.stm_script.specs.Workloads.{config_of}
 use Rattle.stm_driver.specs.Schedules.{AreSound}
 use Rattle.stm_driver.proofs.PartingLaws.{scripts-own, total, total-few}
 use Rattle.stm_driver.proofs.PreparedLaws.{IsOwn, AreOwn}
 
 -- a clock that was found is at most the last
-pub clock-within : (t : ℕ) (trail : List TrailItem) (x : ℕ) → ClocksWithin t trail → Contains trail (record { place = Clock; found = Some x }) → x ≤ t
-clock-within t trail x w h = at trail h.0 w h.1 h.2
+pub clock-within : (t : ℕ) (trail : List TrailItem) (act : Act) (x : ℕ) → ClocksWithin t trail → Contains trail (record { place = Clock; act = act; found = Some x }) → x ≤ t
+clock-within t trail act x w h = at trail h.0 w h.1 h.2
   where
-    at : (is : List TrailItem) (k : ℕ) → ClocksWithin t is → k < length is → get_or is k (record { place = Clock; found = Some x }) ≡ record { place = Clock; found = Some x } → x ≤ t
+    at : (is : List TrailItem) (k : ℕ) → ClocksWithin t is → k < length is → get_or is k (record { place = Clock; act = act; found = Some x }) ≡ record { place = Clock; act = act; found = Some x } → x ≤ t
     at [] k w lt e = absurd (omega arith)
     at (i ∷ is) zero w lt e = w.0 (ap (λ (y : TrailItem). y.place) e) x (ap (λ (y : TrailItem). y.found) e)
     at (i ∷ is) (suc k) w lt e = at is k w.1 (omega arith) e
@@ -58,27 +59,27 @@ abbrev pub Each : {A : Type 0} → (ℕ → A → Type 0) → ℕ → List A →
 Each P n [] = Unit {0}
 Each P n (x ∷ xs) = P n x × Each P (suc n) xs
 
-module _ {K : Type 0} (good : List ℕ → Type 0) (w : Workload) (table : TableId) (config : Config) (rule : K) (sized : config ≡ config_of w.header) where
+module _ {K : Type 0} (good : List ℕ → Type 0) (w : Workload) (stm : Stm K) (sized : stm.config ≡ config_of w.header) where
   pub record Stood (n : ℕ) (r : Worker K) : Type 0 where
-    pub sound : Sound good table config rule r
+    pub sound : Sound good stm r
     pub own : IsOwn w n r
 
-  pub stood-each : (n : ℕ) (ws : List (Worker K)) → AreSound good table config rule ws → AreOwn w n ws → Each Stood n ws
+  pub stood-each : (n : ℕ) (ws : List (Worker K)) → AreSound good stm ws → AreOwn w n ws → Each Stood n ws
   stood-each n [] s o = tt
   stood-each n (r ∷ ws) s o =
-      (record { sound = All-head (Sound good table config rule) r ws s; own = o.0 }, stood-each (suc n) ws (All-tail (Sound good table config rule) r ws s) o.1)
+      (record { sound = All-head (Sound good stm) r ws s; own = o.0 }, stood-each (suc n) ws (All-tail (Sound good stm) r ws s) o.1)
 
   pub stood-caller : (n : ℕ) (r : Worker K) → Stood n r → caller_of r.desc.who.role ≡ n
   stood-caller n r s = ap caller_of s.own.role
 
-  pub stood-works : (n : ℕ) (r : Worker K) → Stood n r → r.phase ≡ Between → Works good w.header.words [] (items_of n w.items) n (known r.desc) r.rows.items × Pays (items_of n w.items) r.items_left.now (known r.desc).rises
+  pub stood-works : (n : ℕ) (r : Worker K) → Stood n r → r.phase ≡ Between → Works good w.header.words [] (items_of n w.items) n (known r.desc) r.rows.items
   stood-works n r s between =
-      let words : config.words ≡ w.header.words = ap (λ (c : Config). c.words) sized in
-      subst (λ k. Stands good k [] (items_of n w.items) r.items_left.now n (known r.desc) r.rows.items Between) words
-      (subst (λ rs. Stands good config.words rs (items_of n w.items) r.items_left.now n (known r.desc) r.rows.items Between) s.own.regions
-      (subst (λ x. Stands good config.words r.regions x r.items_left.now n (known r.desc) r.rows.items Between) s.own.all
-      (subst (λ k. Stands good config.words r.regions r.all.now r.items_left.now k (known r.desc) r.rows.items Between) (stood-caller n r s)
-      (subst (Stands good config.words r.regions r.all.now r.items_left.now (caller_of r.desc.who.role) (known r.desc) r.rows.items) between s.sound.stands))))
+      let words : stm.config.words ≡ w.header.words = ap (λ (c : Config). c.words) sized in
+      subst (λ k. Stands good k [] (items_of n w.items) n (known r.desc) r.rows.items Between) words
+      (subst (λ rs. Stands good stm.config.words rs (items_of n w.items) n (known r.desc) r.rows.items Between) s.own.regions
+      (subst (λ x. Stands good stm.config.words r.regions x n (known r.desc) r.rows.items Between) s.own.all
+      (subst (λ k. Stands good stm.config.words r.regions r.all.now k (known r.desc) r.rows.items Between) (stood-caller n r s)
+      (subst (Stands good stm.config.words r.regions r.all.now (caller_of r.desc.who.role) (known r.desc) r.rows.items) between s.sound.stands))))
 
   -- what is left of its scripts
   pub stood-todo : (n : ℕ) (r : Worker K) → Stood n r → scripts_of n r.items_left.now ≡ drop (length r.rows.items) (scripts_of n w.items)

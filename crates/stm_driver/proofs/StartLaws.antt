@@ -1,7 +1,7 @@
 -- A worker that has done nothing.
 use Rattle.std.proofs.Common.{ℕ, ◌≡◌, List, [], length, drop, refl, sym, ap, ◌∙◌, arith, subst}
-use Rattle.atomic_table.specs.Seated.{TableId}
-use Rattle.rule_base.specs.declared.layout.Config.{Config}
+use Rattle.stm_rule.specs.declared.stm.Stm.{Stm}
+use Rattle.stm_model.specs.declared.config.Config.{Config}
 use Rattle.stm_model.specs.declared.alg.Alg.{Alg}
 use Rattle.stm_script.specs.declared.report.Row.{Row}
 use Rattle.stm_script.specs.declared.workload.Item.{Item}
@@ -11,16 +11,14 @@ use Rattle.stm_rule.specs.Callers.{Handle, IsOf}
 use Rattle.tx_answers.specs.Known.{Known, IsIdle, caller_of}
 use Rattle.stm_tx.specs.Descs.{known}
 use Rattle.stm_trace.specs.declared.said.Phase.TheVariants.{Between}
-use Rattle.stm_trace.specs.Places.{Place, script_at}
-use Rattle.stm_trace.specs.Turns.{BeforeTx}
+use Rattle.stm_trace.specs.Places.{Place, most_failed}
 use Rattle.stm_worker.specs.declared.worker.Worker.{Worker}
 use Rattle.stm_driver.specs.Openings.{IsNew}
-use Rattle.stm_worker.specs.Goings.{Going}
-use Rattle.stm_worker.specs.Workers.{IsAt, WhenInside, ToSwitch, ItemsFit, DidSwitches, Works, Pays, Stands, Starts, Sound}
+use Rattle.stm_worker.specs.Workers.{IsAt, WhenInside, ToSwitch, ItemsFit, DidSwitches, HasLengths, IsCounted, IsUnderWay, Works, Stands, Starts, Sound}
 
-module _ {K : Type 0} (good : List ℕ → Type 0) (table : TableId) (config : Config) (rule : K) where
+module _ {K : Type 0} (good : List ℕ → Type 0) (stm : Stm K) where
   -- a caller that has made nothing has done nothing
-  start-works : (n : ℕ) (all : List Item) (v : Known) → v.made ≡ [] → Works good config.words [] all n v []
+  start-works : (n : ℕ) (all : List Item) (v : Known) → v.made ≡ [] → Works good stm.config.words [] all n v []
   start-works n all v none = record {
     writers = sym (ap times none);
     each = λ i d lt. absurd (omega arith);
@@ -30,33 +28,34 @@ module _ {K : Type 0} (good : List ℕ → Type 0) (table : TableId) (config : C
     places = λ i d lt. absurd (omega arith);
   }
 
-  pub starts-sound : (d : Handle K) (items : List Item) (alg : Alg) (these : List Alg) (u : Worker K) → IsOf d table config rule → IsNew these (known d) → ItemsFit good config.words [] (caller_of d.who.role) items → Starts d items alg u
-      → Sound good table config rule u
-  starts-sound d items alg these u own new fits s =
+  pub starts-sound : (d : Handle K) (items : List Item) (alg : Alg) (these : List Alg) (u : Worker K) → IsOf d stm → IsNew these (known d) → HasLengths stm.config (known d) → ItemsFit good stm.config.words [] (caller_of d.who.role) items → Starts d items alg u
+      → Sound good stm u
+  starts-sound d items alg these u own new long fits s =
       let who : caller_of u.desc.who.role ≡ caller_of d.who.role = ap (λ (x : Handle K). caller_of x.who.role) s.is_desc in
       let knows : known u.desc ≡ known d = ap known s.is_desc in
       let phase : u.phase ≡ Between = ap (λ (p : Place). p.phase) s.at in
       let left : u.items_left.now ≡ items = ap (λ (p : Place). p.left) s.at in
       let none : u.rows.items ≡ [] = ap (λ (p : Place). p.rows) s.at in
+      let failed : u.failed ≡ 0 = ap (λ (p : Place). p.failed) s.at in
       let count = ap length none in
       let whole : u.items_left.now ≡ u.all.now = left ∙ sym s.all in
-      let rises = new.done.rises in
-      let pays : Pays u.all.now u.items_left.now (known d).rises = subst (λ l. Pays u.all.now l (known d).rises) (sym whole) (omega arith) in
-      let stands : Stands good config.words u.regions u.all.now u.items_left.now (caller_of u.desc.who.role) (known u.desc) u.rows.items Between =
-      subst (λ rs. Stands good config.words rs u.all.now u.items_left.now (caller_of u.desc.who.role) (known u.desc) u.rows.items Between) (sym s.regions)
-      (subst (λ v. Stands good config.words [] u.all.now u.items_left.now (caller_of u.desc.who.role) v u.rows.items Between) (sym knows)
-      (subst (λ rows. Stands good config.words [] u.all.now u.items_left.now (caller_of u.desc.who.role) (known d) rows Between) (sym none) (start-works (caller_of u.desc.who.role) u.all.now (known d) new.done.made, pays))) in
+      let stands : Stands good stm.config.words u.regions u.all.now (caller_of u.desc.who.role) (known u.desc) u.rows.items Between =
+      subst (λ rs. Stands good stm.config.words rs u.all.now (caller_of u.desc.who.role) (known u.desc) u.rows.items Between) (sym s.regions)
+      (subst (λ v. Stands good stm.config.words [] u.all.now (caller_of u.desc.who.role) v u.rows.items Between) (sym knows)
+      (subst (λ rows. Stands good stm.config.words [] u.all.now (caller_of u.desc.who.role) (known d) rows Between) (sym none) (start-works (caller_of u.desc.who.role) u.all.now (known d) new.done.made))) in
       record {
-        own = subst (λ (x : Handle K). IsOf x table config rule) (sym s.is_desc) own;
-        at = subst (λ p. IsAt good config (caller_of u.desc.who.role) p (known u.desc)) (sym phase) (subst IsIdle (sym knows) new.idle);
-        stands = subst (Stands good config.words u.regions u.all.now u.items_left.now (caller_of u.desc.who.role) (known u.desc) u.rows.items) (sym phase) stands;
+        own = subst (λ (x : Handle K). IsOf x stm) (sym s.is_desc) own;
+        at = subst (λ p. IsAt good stm.config (caller_of u.desc.who.role) p (known u.desc)) (sym phase) (subst IsIdle (sym knows) new.idle);
+        lengths = subst (HasLengths stm.config) (sym knows) long;
+        stands = subst (Stands good stm.config.words u.regions u.all.now (caller_of u.desc.who.role) (known u.desc) u.rows.items) (sym phase) stands;
         todo = ap (scripts_of (caller_of u.desc.who.role)) whole ∙ ap (λ (rows : List Row). drop (length rows) (scripts_of (caller_of u.desc.who.role) u.all.now)) (sym none);
         within = omega arith;
+        counted = λ off. omega (arith, failed);
         switched = subst (λ v. DidSwitches u.all.now u.items_left.now v) (sym knows) (subst (λ l. DidSwitches u.all.now l (known d)) (sym whole) ((known d).installs, refl));
-        fits = subst (λ l. ItemsFit good config.words u.regions (caller_of u.desc.who.role) l) (sym left)
-            (subst (λ rs. ItemsFit good config.words rs (caller_of u.desc.who.role) items) (sym s.regions)
-            (subst (λ n. ItemsFit good config.words [] n items) (sym who) fits));
+        fits = subst (λ l. ItemsFit good stm.config.words u.regions (caller_of u.desc.who.role) l) (sym left)
+            (subst (λ rs. ItemsFit good stm.config.words rs (caller_of u.desc.who.role) items) (sym s.regions)
+            (subst (λ n. ItemsFit good stm.config.words [] n items) (sym who) fits));
         roomy = s.roomy;
         turning = subst (λ p. ToSwitch p u.items_left.now) (sym phase) tt;
-        going = subst (λ p. WhenInside p (Going good config.words u.regions (script_at u.items_left.now) u.operations_left.now (known u.desc) u.alg u.out u.wrote × BeforeTx u.items_left.now)) (sym phase) tt;
+        under_way = subst (λ p. WhenInside p (IsUnderWay good stm.config.words u)) (sym phase) tt;
       }

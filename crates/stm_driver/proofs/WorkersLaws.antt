@@ -1,9 +1,9 @@
 -- The workers of all callers, one after the other.
 use Rattle.std.proofs.Common.{ℕ, zero, suc, ◌≡◌, ◌<◌, ◌≤◌, ◌+◌, List, [], ◌∷◌, ◌++◌, length, get_or, set, refl, ap, ◌∙◌, arith, subst}
 use Rattle.std.proofs.lemmas.List.{length-map, get_or-map}
-use Rattle.atomic_table.specs.Seated.{TableId}
+use Rattle.stm_rule.specs.declared.stm.Stm.{Stm}
 use Rattle.crossbeam_utils.specs.declared.cache_padded.CachePadded.{CachePadded}
-use Rattle.rule_base.specs.declared.layout.Config.{Config}
+use Rattle.stm_model.specs.declared.config.Config.{Config}
 use Rattle.stm_model.specs.declared.alg.Alg.{Alg}
 use Rattle.stm_script.specs.declared.workload.Item.{Item}
 use Rattle.stm_rule.specs.Callers.{Handle}
@@ -40,8 +40,8 @@ made-same items_for other alg callers n (d ∷ ds) (w ∷ ws) same le m =
     (subst (λ k. Starts d k alg w) (same n (omega arith)) m.0, made-same items_for other alg callers (suc n) ds ws same (omega arith) m.1)
 
 -- a worker's run, told of what was lent and given back
-pub finished-as : {K : Type 0} (good : List ℕ → Type 0) (table : TableId) (config : Config) (rule : K) (x y r s : CachePadded (Runner K)) → x ≡ r → y ≡ s → Finished good table config rule x y → Finished good table config rule r s
-finished-as good table config rule x y r s lent left f = subst (λ b. Finished good table config rule r b) left (subst (λ a. Finished good table config rule a y) lent f)
+pub finished-as : {K : Type 0} (good : List ℕ → Type 0) (stm : Stm K) (x y r s : CachePadded (Runner K)) → x ≡ r → y ≡ s → Finished good stm x y → Finished good stm r s
+finished-as good stm x y r s lent left f = subst (λ b. Finished good stm r b) left (subst (λ a. Finished good stm a y) lent f)
 
 module _ {K : Type 0} where
   pub workers-length : (rs : List (CachePadded (Runner K))) → length (workers_in rs) ≡ length rs

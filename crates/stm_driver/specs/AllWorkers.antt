@@ -1,10 +1,10 @@
 -- The workers of all callers.
-use Rattle.std.specs.Prelude.{ℕ, suc, ◌≡◌, ◌≤◌, ◌^◌, List, [], ◌∷◌, ◌++◌, map, Option, Some, None, MatchOption, Result, Ok, Err}
+use Rattle.std.specs.Prelude.{ℕ, suc, ◌≡◌, ◌≤◌, ◌+◌, ◌*◌, ◌^◌, ◌⊎◌, length, List, [], ◌∷◌, ◌++◌, map, Option, Some, None, MatchOption, Result, Ok, Err}
 use Rattle.std.specs.Option.{option_or}
-use Rattle.atomic_table.specs.Seated.{TableId}
+use Rattle.stm_rule.specs.declared.stm.Stm.{Stm}
 use Rattle.crossbeam_utils.specs.declared.cache_padded.CachePadded.{CachePadded}
 use Rattle.crossbeam_utils.specs.Padded.{padded_value}
-use Rattle.rule_base.specs.declared.layout.Config.{Config}
+use Rattle.stm_model.specs.declared.config.Config.{Config}
 use Rattle.rule_base.specs.declared.seats.Role.TheVariants.{Caller}
 use Rattle.stm_model.specs.declared.alg.Alg.{Alg}
 use Rattle.stm_script.specs.declared.report.Row.{Row}
@@ -15,6 +15,8 @@ use Rattle.stm_trace.specs.declared.said.Phase.TheVariants.{Between}
 use Rattle.stm_trace.specs.Turns.{BeforeTx}
 use Rattle.stm_worker.specs.declared.worker.Worker.{Worker}
 use Rattle.stm_worker.specs.Leavings.{MadeIdle}
+use Rattle.stm_trace.specs.Places.{most_failed}
+use Rattle.stm_worker.specs.Payments.{CountsNext, PaysBut, raised}
 use Rattle.stm_worker.specs.Workers.{IsSame, Loaded, Sound, Starts}
 use Rattle.stm_driver.specs.declared.schedule.Halt.{Halt}
 use Rattle.stm_driver.specs.declared.schedule.Halt.TheVariants.{ClockFull}
@@ -61,22 +63,38 @@ module _ {K : Type 0} where
   abbrev pub IsThrough : Worker K → Option ℕ → Type 0
   IsThrough w full = MatchOption full (w.items_left.now ≡ []) (MetLimit w)
 
-  module _ (good : List ℕ → Type 0) (table : TableId) (config : Config) (rule : K) where
+  -- so many attempts of one transaction that fail are paid for: 16 are counted, and none where there is one caller
+  abbrev pub Enough : Stm K → ℕ → Worker K → Type 0
+  Enough stm most w = (most_failed ≤ most) ⊎ ((stm.config.callers ≡ 1) × (w.failed ≡ 0) × (1 ≤ most))
+
+  -- its items pay for what its steps raised the clock by, but for what was unpaid before
+  pub record IsPaid (stm : Stm K) (u w : Worker K) : Type 0 where
+    pub all : (unpaid each most : ℕ) → Enough stm most u → most + 2 ≤ each → CountsNext u → PaysBut unpaid each most u → raised (known w.desc) ≤ each * length w.all.now + unpaid
+
+  -- each paid
+  abbrev pub ArePaidFor : Stm K → List (Worker K) → List (Worker K) → Type 0
+  ArePaidFor stm [] [] = Unit {0}
+  ArePaidFor stm (u ∷ us) (w ∷ ws) = IsPaid stm u w × ArePaidFor stm us ws
+  ArePaidFor stm (u ∷ us) [] = ⊥
+  ArePaidFor stm [] (w ∷ ws) = ⊥
+
+  module _ (good : List ℕ → Type 0) (stm : Stm K) where
     pub record IsReady (r : CachePadded (Runner K)) : Type 0 where
-      pub sound : Sound good table config rule (worker_in r)
+      pub sound : Sound good stm (worker_in r)
 
     -- a worker before its run and after it
     pub record Finished (r s : CachePadded (Runner K)) : Type 0 where
-      pub sound : Sound good table config rule (worker_in s)
+      pub sound : Sound good stm (worker_in s)
       pub same : IsSame (worker_in r) (worker_in s)
       pub between : (worker_in s).phase ≡ Between
       pub through : IsThrough (worker_in s) (padded_value s).full
+      pub paid : IsPaid stm (worker_in r) (worker_in s)
 
-  module _ (table : TableId) (config : Config) (rule : K) where
+  module _ (stm : Stm K) where
     -- each ended without a row
     abbrev pub AreMadeIdle : List (Worker K) → List (Worker K) → Type 0
     AreMadeIdle [] [] = Unit {0}
-    AreMadeIdle (v ∷ vs) (w ∷ ws) = MadeIdle table config rule v w × AreMadeIdle vs ws
+    AreMadeIdle (v ∷ vs) (w ∷ ws) = MadeIdle stm v w × AreMadeIdle vs ws
     AreMadeIdle (v ∷ vs) [] = ⊥
     AreMadeIdle [] (w ∷ ws) = ⊥
 

@@ -1,7 +1,6 @@
 -- What closing leaves of a run, by how its turns ended.
 use Rattle.std.specs.Prelude.{ℕ, ◌≡◌, List, Result, Ok, Err, IsPermutation}
-use Rattle.atomic_table.specs.Seated.{TableId}
-use Rattle.rule_base.specs.declared.layout.Config.{Config}
+use Rattle.stm_rule.specs.declared.stm.Stm.{Stm}
 use Rattle.stm_script.specs.declared.report.Report.{Report}
 use Rattle.stm_script.specs.declared.report.Row.{Row}
 use Rattle.stm_script.specs.Reports.{nonzero, Ordered}
@@ -19,28 +18,28 @@ pub record IsReport (rows : List Row) (words : List ℕ) (report : Report) : Typ
   pub ordered : Ordered report.rows
   pub memory : report.memory ≡ nonzero 0 words
 
-module _ {K : Type 0} (good : List ℕ → Type 0) (config : Config) where
+module _ {K : Type 0} (good : List ℕ → Type 0) (stm : Stm K) where
   -- the report has the workers' rows, and the memory that was closed
   pub record Reported (ws : List (Worker K)) (report : Report) (closed : Ended) : Type 0 where
     pub words : List ℕ
-    pub closes : Closes good config (descs_of ws) words closed
+    pub closes : Closes good stm.config (descs_of ws) words closed
     pub is : IsReport (rows_of ws) words report
 
   -- all that was open ended without a row, and then the memory was closed
-  pub record CutShort (table : TableId) (rule : K) (ws : List (Worker K)) (closed : Ended) : Type 0 where
+  pub record CutShort (ws : List (Worker K)) (closed : Ended) : Type 0 where
     pub words : List ℕ
     pub after : List (Worker K)
-    pub idle : AreMadeIdle table config rule ws after
-    pub closes : Closes good config (descs_of after) words closed
+    pub idle : AreMadeIdle stm ws after
+    pub closes : Closes good stm.config (descs_of after) words closed
 
   -- what a run came to, by how its turns ended
-  abbrev pub Came : TableId → K → List (Worker K) → Result (Unit {0}) Halt → Outcome → Type 0
-  Came table rule ws (Ok x) (outcomes.ToEnd report closed) = Reported ws report closed
-  Came table rule ws (Ok x) (outcomes.ToLimit clock closed) = ⊥
-  Came table rule ws (Ok x) (outcomes.OutOfMemory closed) = ⊥
-  Came table rule ws (Err (ClockFull found)) (outcomes.ToEnd report closed) = ⊥
-  Came table rule ws (Err (ClockFull found)) (outcomes.ToLimit clock closed) = (clock ≡ found) × CutShort table rule ws closed
-  Came table rule ws (Err (ClockFull found)) (outcomes.OutOfMemory closed) = ⊥
-  Came table rule ws (Err Memory) (outcomes.ToEnd report closed) = ⊥
-  Came table rule ws (Err Memory) (outcomes.ToLimit clock closed) = ⊥
-  Came table rule ws (Err Memory) (outcomes.OutOfMemory closed) = CutShort table rule ws closed
+  abbrev pub Came : List (Worker K) → Result (Unit {0}) Halt → Outcome → Type 0
+  Came ws (Ok x) (outcomes.ToEnd report closed) = Reported ws report closed
+  Came ws (Ok x) (outcomes.ToLimit clock closed) = ⊥
+  Came ws (Ok x) (outcomes.OutOfMemory closed) = ⊥
+  Came ws (Err (ClockFull found)) (outcomes.ToEnd report closed) = ⊥
+  Came ws (Err (ClockFull found)) (outcomes.ToLimit clock closed) = (clock ≡ found) × CutShort ws closed
+  Came ws (Err (ClockFull found)) (outcomes.OutOfMemory closed) = ⊥
+  Came ws (Err Memory) (outcomes.ToEnd report closed) = ⊥
+  Came ws (Err Memory) (outcomes.ToLimit clock closed) = ⊥
+  Came ws (Err Memory) (outcomes.OutOfMemory closed) = CutShort ws closed

@@ -1,28 +1,29 @@
 -- A memory that is open for a workload: the header's algorithm is installed, and nobody has begun.
-use Rattle.std.specs.Prelude.{ℕ, zero, suc, ◌≡◌, List, [], ◌∷◌, length}
-use Rattle.atomic_table.specs.Seated.{TableId}
-use Rattle.rule_base.specs.declared.layout.Config.{Config}
+use Rattle.std.specs.Prelude.{ℕ, zero, suc, ◌≡◌, ◌≤◌, List, [], ◌∷◌, length}
+use Rattle.stm_rule.specs.declared.stm.Stm.{Stm}
 use Rattle.rule_base.specs.declared.seats.Role.TheVariants.{Caller}
 use Rattle.stm_model.specs.declared.alg.Alg.{Alg}
 use Rattle.stm_script.specs.declared.workload.Header.{Header}
+use Rattle.stm_script.specs.Workloads.{config_of}
 use Rattle.stm_rule.specs.Callers.{Handle, IsOf}
 use Rattle.tx_answers.specs.Answers.{HoldsClosed}
 use Rattle.tx_answers.specs.Known.{Known, IsIdle}
 use Rattle.stm_tx.specs.Descs.{known}
+use Rattle.stm_worker.specs.Workers.{HasLengths}
 
--- the sizes of the memory
-abbrev pub config_of : Header → Config
-config_of h = record { words = h.words; records = h.records; ring = h.ring; callers = h.callers; reads = h.reads; writes = h.writes; clock = h.clock }
-
--- it has no entry, has not raised the clock, and has installed these
+-- it has no entry, has raised the clock by one at most for each install, and has installed these
 pub record HasDone (these : List Alg) (v : Known) : Type 0 where
   pub made : v.made ≡ []
-  pub rises : v.rises ≡ 0
+  pub rises : v.rises ≤ length these
   pub installs : v.installs ≡ these
 
 pub record IsNew (these : List Alg) (v : Known) : Type 0 where
   pub idle : IsIdle v
   pub done : HasDone these v
+
+-- its logs are as long as they were
+abbrev pub SameLengths : Known → Known → Type 0
+SameLengths v w = (w.reads_limit ≡ v.reads_limit) × (w.writes_limit ≡ v.writes_limit)
 
 -- it has closed the gate
 pub record HoldsGate (v : Known) : Type 0 where
@@ -34,13 +35,13 @@ abbrev pub first_installs : Alg → ℕ → List Alg
 first_installs alg zero = alg ∷ []
 first_installs alg (suc n) = []
 
-module _ {K : Type 0} (table : TableId) (config : Config) (rule : K) (alg : Alg) where
+module _ {K : Type 0} (stm : Stm K) (alg : Alg) where
   -- the callers from n on
   abbrev pub AllNew : ℕ → List (Handle K) → Type 0
   AllNew n [] = Unit {0}
-  AllNew n (d ∷ ds) = IsOf d table config rule × (d.who.role ≡ Caller n) × IsNew (first_installs alg n) (known d) × AllNew (suc n) ds
+  AllNew n (d ∷ ds) = IsOf d stm × (d.who.role ≡ Caller n) × IsNew (first_installs alg n) (known d) × HasLengths stm.config (known d) × AllNew (suc n) ds
 
-pub record OpensFor {K : Type 0} (h : Header) (table : TableId) (config : Config) (rule : K) (ds : List (Handle K)) : Type 0 where
-  pub sized : config ≡ config_of h
+pub record OpensFor {K : Type 0} (h : Header) (stm : Stm K) (ds : List (Handle K)) : Type 0 where
+  pub sized : stm.config ≡ config_of h
   pub count : length ds ≡ h.callers
-  pub new : AllNew table config rule h.alg 0 ds
+  pub new : AllNew stm h.alg 0 ds

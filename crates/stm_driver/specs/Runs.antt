@@ -1,5 +1,5 @@
 -- What a run comes to.
-use Rattle.std.specs.Prelude.{ℕ, zero, suc, ◌≡◌, ◌<◌, ◌≤◌, ◌+◌, ◌*◌, ◌^◌, List, ◌∷◌, map, length}
+use Rattle.std.specs.Prelude.{ℕ, zero, suc, ◌≡◌, ◌<◌, ◌≤◌, ◌+◌, ◌*◌, ◌^◌, ◌==◌, if◌then◌else◌, List, ◌∷◌, map, length}
 use Rattle.stm_model.specs.declared.alg.Alg.{Alg}
 use Rattle.stm_model.specs.Histories.{IsLegal}
 use Rattle.stm_model.specs.HistoryLaws.{Within}
@@ -30,14 +30,18 @@ pub record IsHistory (w : Workload) (closed : Ended) : Type 0 where
   pub legal : IsLegal (λ m. Unit {0}) (zeros w.header.words) w.header.clock closed.history
   pub times : Within closed.clock closed.history
 
--- a transaction was still to begin, and found the clock at its limit, which is that of the memory that was closed; those before it can have brought it there, each by at most two
+-- by how much an item raises the clock at most, with the attempts of it that failed: with one caller none is in the way of another
+abbrev pub most_rises : ℕ → ℕ
+most_rises callers = if callers == 1 then 4 else 20
+
+-- a transaction was still to do, and found the clock at its limit, which is that of the memory that was closed; the first install and the items can have brought it there
 pub record IsFull (w : Workload) (clock : ℕ) (closed : Ended) : Type 0 where
   pub opening : closed.opening ≡ w.header.clock
   pub found : closed.clock ≡ clock
   pub limit : clock ≡ 2 ^ 62
   pub history : IsHistory w closed
   pub left : length closed.history < length w.items
-  pub bound : 2 ^ 62 + 2 ≤ w.header.clock + 2 * length w.items
+  pub bound : 2 ^ 62 ≤ w.header.clock + most_rises w.header.callers * length w.items + 1
 
 -- the trace fits the workload and its report, which shows the one history of the memory that was closed
 pub record IsTraced (w : Workload) (lines : List Line) (report : Report) (closed : Ended) : Type 0 where

@@ -1,7 +1,7 @@
 -- What turns of many workers do, and what they say.
 use Rattle.std.specs.Prelude.{ℕ, ◌≡◌, ◌≤◌, ◌+◌, ◌*◌, ◌^◌, ◌⊎◌, List, [], ◌∷◌, ◌++◌, length, map, replicate, All, slice_index_or, slice_set, sum_by, Some, None, Result, Ok, Err, IsPermutation}
-use Rattle.atomic_table.specs.Seated.{TableId}
-use Rattle.rule_base.specs.declared.layout.Config.{Config}
+use Rattle.stm_rule.specs.declared.stm.Stm.{Stm}
+use Rattle.stm_model.specs.declared.config.Config.{Config}
 use Rattle.stm_script.specs.declared.report.Row.{Row}
 use Rattle.stm_script.specs.declared.workload.Go.{Go}
 use Rattle.stm_script.specs.declared.workload.Header.{Header}
@@ -20,7 +20,8 @@ use Rattle.stm_trace.specs.RoundLaws.{WentRound, HaltedRound}
 use Rattle.stm_driver.specs.declared.schedule.Halt.{Halt}
 use Rattle.stm_driver.specs.declared.schedule.Halt.TheVariants.{ClockFull, Memory}
 use Rattle.stm_worker.specs.declared.worker.Worker.{Worker}
-use Rattle.stm_worker.specs.Workers.{place_of, HasSizes, IsSame, Loaded, Sound, Turned}
+use Rattle.stm_trace.specs.Turns.{HasSizes}
+use Rattle.stm_worker.specs.Workers.{place_of, IsSame, Loaded, Sound, Turned}
 
 module _ {K : Type 0} where
   abbrev pub places : List (Worker K) → List Place
@@ -73,15 +74,15 @@ module _ {K : Type 0} where
       Rounds ws vs old new (Err (ClockFull clock)) = ((h : Header) → HasSizes config h → HaltedRound h may (places ws) (places vs) old new clock) × ArePaid ws vs old new × FoundFull vs clock
       Rounds ws vs old new (Err Memory) = Unit {0}
 
-  module _ (good : List ℕ → Type 0) (table : TableId) (config : Config) (rule : K) where
+  module _ (good : List ℕ → Type 0) (stm : Stm K) where
     abbrev pub AreSound : List (Worker K) → Type 0
-    AreSound ws = All (Sound good table config rule) ws
+    AreSound ws = All (Sound good stm) ws
 
     -- caller n took a turn, and said this, which is the one line more
     pub record Took (may : Place → Said → Type 0) (ws vs : List (Worker K)) (old new : List Line) (n : ℕ) (said : Said) : Type 0 where
       pub was : Worker K
       pub now : Worker K
-      pub turned : Turned good table config rule may (slice_index_or ws n was) said now
+      pub turned : Turned good stm may (slice_index_or ws n was) said now
       pub is : vs ≡ slice_set ws n now
       pub lines : new ≡ old ++ Of n said ∷ []
 

@@ -36,14 +36,14 @@ pub fn close_memory<K: MemRule + Drop>(
     mut rows: Vec<Row>,
     how: Result<(), Halt>,
 ) -> Result<Outcome, Memory>
-    requires sound { AreSound (K.good stm.rule) stm.table.shared.table_id stm.config stm.rule (workers_in runners.items) }
+    requires sound { AreSound (K.good stm.rule) stm (workers_in runners.items) }
     requires callers { AreCallers 0 (workers_in runners.items) }
     requires all { length (workers_in runners.items) ≡ stm.config.callers }
     requires through { OnOk how (All (λ (w : Worker K). w.phase ≡ Between) (workers_in runners.items)) }
     requires empty { (descs.items ≡ []) × (vec_len descs ≡ 0) × (rows.items ≡ []) × (vec_len rows ≡ 0) }
     requires descs { length (workers_in runners.items) ≤ vec_capacity descs }
     requires rows { length (rows_of (workers_in runners.items)) ≤ vec_capacity rows }
-    ensures { IfOk result (Came (K.good stm.rule) stm.config stm.table.shared.table_id stm.rule (workers_in runners.entry.items) how) }
+    ensures { IfOk result (Came (K.good stm.rule) stm (workers_in runners.entry.items) how) }
 {
     make_all_idle(&stm, runners.as_mut_slice());
     take_apart(runners, &mut descs, &mut rows);
@@ -64,8 +64,8 @@ pub fn close_memory<K: MemRule + Drop>(
 
 /// Leaves every descriptor idle.
 fn make_all_idle<K: MemRule>(stm: &Stm<K>, runners: &mut [CachePadded<Runner<K>>])
-    requires { AreSound (K.good stm.now.rule) stm.now.table.shared.table_id stm.now.config stm.now.rule (workers_in runners.old) }
-    ensures { AreMadeIdle stm.now.table.shared.table_id stm.now.config stm.now.rule (workers_in runners.old) (workers_in runners.new) }
+    requires { AreSound (K.good stm.now.rule) stm.now (workers_in runners.old) }
+    ensures { AreMadeIdle stm.now (workers_in runners.old) (workers_in runners.new) }
 {
     for runner in runners.iter_mut() {
         idle_one(stm, runner);
@@ -74,8 +74,8 @@ fn make_all_idle<K: MemRule>(stm: &Stm<K>, runners: &mut [CachePadded<Runner<K>>
 
 /// Leaves one descriptor idle.
 fn idle_one<K: MemRule>(stm: &Stm<K>, runner: &mut CachePadded<Runner<K>>)
-    requires { Sound (K.good stm.now.rule) stm.now.table.shared.table_id stm.now.config stm.now.rule (worker_in runner.old) }
-    ensures { MadeIdle stm.now.table.shared.table_id stm.now.config stm.now.rule (worker_in runner.old) (worker_in runner.new) }
+    requires { Sound (K.good stm.now.rule) stm.now (worker_in runner.old) }
+    ensures { MadeIdle stm.now (worker_in runner.old) (worker_in runner.new) }
 {
     let runner = &mut **runner;
     make_idle(stm, &mut runner.worker);

@@ -39,10 +39,10 @@ pub fn drive<R: Wait, K: MemRule>(
     schedule: &[Go],
     trace: &mut Vec<Line>,
 ) -> Result<(), Halt>
-    requires sound { AreSound (K.good stm.now.rule) stm.now.table.shared.table_id stm.now.config stm.now.rule (workers_in runners.old) }
+    requires sound { AreSound (K.good stm.now.rule) stm.now (workers_in runners.old) }
     requires below { All (λ go. go.caller < length (workers_in runners.old)) schedule.now }
     requires empty { trace.old.items ≡ [] }
-    ensures sound { AreSound (K.good stm.now.rule) stm.now.table.shared.table_id stm.now.config stm.now.rule (workers_in runners.new) }
+    ensures sound { AreSound (K.good stm.now.rule) stm.now (workers_in runners.new) }
     ensures same { AreSame (workers_in runners.old) (workers_in runners.new) }
     ensures drives { Drives stm.now.config schedule.now (workers_in runners.old) (workers_in runners.new) trace.new.items result }
 {
@@ -69,8 +69,8 @@ fn round<R: Wait, K: MemRule>(
     until: Until,
     trace: &mut Vec<Line>,
 ) -> Result<(), Halt>
-    requires sound { AreSound (K.good stm.now.rule) stm.now.table.shared.table_id stm.now.config stm.now.rule (workers_in runners.old) }
-    ensures sound { AreSound (K.good stm.now.rule) stm.now.table.shared.table_id stm.now.config stm.now.rule (workers_in runners.new) }
+    requires sound { AreSound (K.good stm.now.rule) stm.now (workers_in runners.old) }
+    ensures sound { AreSound (K.good stm.now.rule) stm.now (workers_in runners.new) }
     ensures same { AreSame (workers_in runners.old) (workers_in runners.new) }
     ensures rounds { Rounds stm.now.config (may_until until) (stands_until until) (workers_in runners.old) (workers_in runners.new) trace.old.items trace.new.items result }
 {
@@ -92,9 +92,9 @@ fn turns_of_caller<R: Wait, K: MemRule>(
     until: Until,
     trace: &mut Vec<Line>,
 ) -> Result<(), Halt>
-    requires sound { AreSound (K.good stm.now.rule) stm.now.table.shared.table_id stm.now.config stm.now.rule (workers_in runners.old) }
+    requires sound { AreSound (K.good stm.now.rule) stm.now (workers_in runners.old) }
     requires below { caller < length (workers_in runners.old) }
-    ensures sound { AreSound (K.good stm.now.rule) stm.now.table.shared.table_id stm.now.config stm.now.rule (workers_in runners.new) }
+    ensures sound { AreSound (K.good stm.now.rule) stm.now (workers_in runners.new) }
     ensures same { AreSame (workers_in runners.old) (workers_in runners.new) }
     ensures goes { Goes stm.now.config (may_until until) (stands_until until) (workers_in runners.old) (workers_in runners.new) trace.old.items trace.new.items caller result }
 {
@@ -113,9 +113,9 @@ fn make_ready<K: MemRule>(
     until: Until,
     trace: &mut Vec<Line>,
 ) -> Result<(), Halt>
-    requires sound { AreSound (K.good stm.now.rule) stm.now.table.shared.table_id stm.now.config stm.now.rule (workers_in runners.old) }
+    requires sound { AreSound (K.good stm.now.rule) stm.now (workers_in runners.old) }
     requires below { caller < length (workers_in runners.old) }
-    ensures sound { AreSound (K.good stm.now.rule) stm.now.table.shared.table_id stm.now.config stm.now.rule (workers_in runners.new) }
+    ensures sound { AreSound (K.good stm.now.rule) stm.now (workers_in runners.new) }
     ensures same { AreSame (workers_in runners.old) (workers_in runners.new) }
     ensures goes { Goes stm.now.config (may_until until) (ready_until until) (workers_in runners.old) (workers_in runners.new) trace.old.items trace.new.items caller result }
 {
@@ -132,9 +132,9 @@ fn give_up_open<K: MemRule>(
     caller: usize,
     trace: &mut Vec<Line>,
 ) -> Result<(), Halt>
-    requires sound { AreSound (K.good stm.now.rule) stm.now.table.shared.table_id stm.now.config stm.now.rule (workers_in runners.old) }
+    requires sound { AreSound (K.good stm.now.rule) stm.now (workers_in runners.old) }
     requires below { caller < length (workers_in runners.old) }
-    ensures sound { AreSound (K.good stm.now.rule) stm.now.table.shared.table_id stm.now.config stm.now.rule (workers_in runners.new) }
+    ensures sound { AreSound (K.good stm.now.rule) stm.now (workers_in runners.new) }
     ensures same { AreSame (workers_in runners.old) (workers_in runners.new) }
     ensures goes { Goes stm.now.config MayWind HasOnlySureOpen (workers_in runners.old) (workers_in runners.new) trace.old.items trace.new.items caller result }
 {
@@ -149,8 +149,8 @@ fn give_up_open<K: MemRule>(
 
 /// Gives up what the worker has open, where that can be.
 fn give_up_one<K: MemRule>(stm: &Stm<K>, runner: &mut CachePadded<Runner<K>>) -> Option<Said>
-    requires { Sound (K.good stm.now.rule) stm.now.table.shared.table_id stm.now.config stm.now.rule (worker_in runner.old) }
-    ensures { MatchOption result (NothingToGiveUp (K.good stm.now.rule) stm.now.table.shared.table_id stm.now.config stm.now.rule (worker_in runner.old) (worker_in runner.new)) (λ said. GaveUp (K.good stm.now.rule) stm.now.table.shared.table_id stm.now.config stm.now.rule (worker_in runner.old) said (worker_in runner.new)) }
+    requires { Sound (K.good stm.now.rule) stm.now (worker_in runner.old) }
+    ensures { MatchOption result (NothingToGiveUp (K.good stm.now.rule) stm.now (worker_in runner.old) (worker_in runner.new)) (λ said. GaveUp (K.good stm.now.rule) stm.now (worker_in runner.old) said (worker_in runner.new)) }
 {
     let runner = &mut **runner;
     give_up(stm, &mut runner.worker)
@@ -165,10 +165,10 @@ fn turns_until<R: Wait, K: MemRule>(
     until: Until,
     trace: &mut Vec<Line>,
 ) -> Result<(), Halt>
-    requires sound { AreSound (K.good stm.now.rule) stm.now.table.shared.table_id stm.now.config stm.now.rule (workers_in runners.old) }
+    requires sound { AreSound (K.good stm.now.rule) stm.now (workers_in runners.old) }
     requires below { caller < length (workers_in runners.old) }
     requires ready { ready_until until (place_at (workers_in runners.old) caller) }
-    ensures sound { AreSound (K.good stm.now.rule) stm.now.table.shared.table_id stm.now.config stm.now.rule (workers_in runners.new) }
+    ensures sound { AreSound (K.good stm.now.rule) stm.now (workers_in runners.new) }
     ensures same { AreSame (workers_in runners.old) (workers_in runners.new) }
     ensures goes { Goes stm.now.config (may_until until) (stands_until until) (workers_in runners.old) (workers_in runners.new) trace.old.items trace.new.items caller result }
 {

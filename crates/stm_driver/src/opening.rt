@@ -3,12 +3,12 @@ ghost use Rattle.std.specs.Prelude.{◌≡◌, ◌∷◌, [], true, replicate, I
 ghost use Rattle.stm_text.specs.Built.{HeaderFits};
 ghost use Rattle.stm_rule.specs.Callers.{IsOf, IsSameCaller};
 ghost use Rattle.tx_answers.specs.Answers.{SeesQuiet};
-ghost use Rattle.tx_answers.specs.Known.{caller_of, is_offered};
+ghost use Rattle.tx_answers.specs.Known.{caller_of};
+ghost use Rattle.stm_model.specs.Algorithms.{is_built};
 ghost use Rattle.stm_tx.specs.Descs.{known};
-ghost use Rattle.stm_driver.specs.Openings.{IsNew, HoldsGate, OpensFor, config_of};
+ghost use Rattle.stm_driver.specs.Openings.{IsNew, HoldsGate, OpensFor, SameLengths};
 
 use crate::backoff::Backoff;
-use rule_base::layout::Config;
 use std::alloc::Global;
 use std::sync::Wait;
 use stm_model::alg::Alg;
@@ -33,38 +33,24 @@ pub fn open<R: Wait, K: MemRule + Drop>(
 ) -> Result<(Stm<K>, Vec<Desc<K>>), Memory>
     requires fits { HeaderFits header.now }
     requires good { K.good rule (replicate header.now.words 0) }
-    ensures opens { IfOk result (λ r. OpensFor header.now r.0.table.shared.table_id r.0.config r.0.rule r.1.items) }
+    ensures opens { IfOk result (λ r. OpensFor header.now r.0 r.1.items) }
     ensures rule { IfOk result (λ r. r.0.rule ≡ rule) }
 {
-    let Ok((stm, mut descs)) = Stm::new(alloc, config_of(header), rule) else {
+    let Ok((stm, mut descs)) = Stm::new(alloc, header.config(), rule) else {
         return Err(Memory);
     };
     install_first(rt, &stm, &mut descs[0], header.alg);
     Ok((stm, descs))
 }
 
-/// The sizes of the memory that a header asks for.
-fn config_of(header: &Header) -> Config
-    ensures { result ≡ config_of header.now }
-{
-    Config {
-        words: header.words,
-        records: header.records,
-        ring: header.ring,
-        callers: header.callers,
-        reads: header.reads,
-        writes: header.writes,
-        clock: header.clock,
-    }
-}
-
 /// Installs the algorithm.
 fn install_first<R: Wait, K: MemRule>(rt: &R, stm: &Stm<K>, desc: &mut Desc<K>, alg: Alg)
-    requires own { IsOf desc.old stm.now.table.shared.table_id stm.now.config stm.now.rule }
+    requires own { IsOf desc.old stm.now }
     requires new { IsNew [] (known desc.old) }
-    requires offered { is_offered alg ≡ true }
+    requires offered { is_built alg ≡ true }
     ensures same { IsSameCaller desc.old desc.new }
     ensures new { IsNew (alg ∷ []) (known desc.new) }
+    ensures lengths { SameLengths (known desc.old) (known desc.new) }
 {
     close_until_done(rt, stm, desc);
     look_until_quiet(rt, stm, desc);
@@ -74,10 +60,11 @@ fn install_first<R: Wait, K: MemRule>(rt: &R, stm: &Stm<K>, desc: &mut Desc<K>, 
 
 /// Closes the gate.
 fn close_until_done<R: Wait, K: MemRule>(rt: &R, stm: &Stm<K>, desc: &mut Desc<K>)
-    requires own { IsOf desc.old stm.now.table.shared.table_id stm.now.config stm.now.rule }
+    requires own { IsOf desc.old stm.now }
     requires new { IsNew [] (known desc.old) }
     ensures same { IsSameCaller desc.old desc.new }
     ensures closed { HoldsGate (known desc.new) }
+    ensures lengths { SameLengths (known desc.old) (known desc.new) }
 {
     let mut backoff = Backoff::new();
     for _ in rt.forever() {
@@ -91,10 +78,11 @@ fn close_until_done<R: Wait, K: MemRule>(rt: &R, stm: &Stm<K>, desc: &mut Desc<K
 
 /// Looks until all others were seen idle.
 fn look_until_quiet<R: Wait, K: MemRule>(rt: &R, stm: &Stm<K>, desc: &mut Desc<K>)
-    requires own { IsOf desc.old stm.now.table.shared.table_id stm.now.config stm.now.rule }
+    requires own { IsOf desc.old stm.now }
     requires closed { HoldsGate (known desc.old) }
     ensures same { IsSameCaller desc.old desc.new }
     ensures closed { HoldsGate (known desc.new) }
+    ensures lengths { SameLengths (known desc.old) (known desc.new) }
     ensures quiet { SeesQuiet (K.good stm.now.rule) stm.now.config (caller_of desc.new.who.role) (known desc.new) }
 {
     let mut backoff = Backoff::new();

@@ -43,7 +43,7 @@ pub fn prepare<'a, R: Wait, K: MemRule + Drop>(
     requires fits { HeaderFits header.now }
     requires good { K.good rule (replicate header.now.words 0) }
     requires parts { length parts.now ≡ header.now.callers }
-    ensures prepared { IfOk result (λ p. IsPrepared header.now parts.now p.stm.table.shared.table_id p.stm.config p.stm.rule (workers_in p.runners.items)) }
+    ensures prepared { IfOk result (λ p. IsPrepared header.now parts.now p.stm (workers_in p.runners.items)) }
     ensures rule { IfOk result (λ p. p.stm.rule ≡ rule) }
     ensures empty { IfOk result (λ p. (p.descs.items ≡ []) × (vec_len p.descs ≡ 0) × (p.rows.items ≡ []) × (vec_len p.rows ≡ 0)) }
     ensures descs { IfOk result (λ p. header.now.callers ≤ vec_capacity p.descs) }

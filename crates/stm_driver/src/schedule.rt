@@ -31,11 +31,11 @@ pub fn turn<K: MemRule>(
     caller: usize,
     trace: &mut Vec<Line>,
 ) -> Result<(), Halt>
-    requires sound { AreSound (K.good stm.now.rule) stm.now.table.shared.table_id stm.now.config stm.now.rule (workers_in runners.old) }
+    requires sound { AreSound (K.good stm.now.rule) stm.now (workers_in runners.old) }
     requires below { caller < length (workers_in runners.old) }
-    ensures sound { AreSound (K.good stm.now.rule) stm.now.table.shared.table_id stm.now.config stm.now.rule (workers_in runners.new) }
+    ensures sound { AreSound (K.good stm.now.rule) stm.now (workers_in runners.new) }
     ensures same { AreSame (workers_in runners.old) (workers_in runners.new) }
-    ensures turns { Turns (K.good stm.now.rule) stm.now.table.shared.table_id stm.now.config stm.now.rule (workers_in runners.old) (workers_in runners.new) trace.old.items trace.new.items caller result }
+    ensures turns { Turns (K.good stm.now.rule) stm.now (workers_in runners.old) (workers_in runners.new) trace.old.items trace.new.items caller result }
 {
     let said = turn_one(stm, &mut runners[caller]);
     match trace.push(Line::Of { caller, said }) {
@@ -50,8 +50,8 @@ pub fn turn<K: MemRule>(
 
 /// One turn of a worker.
 fn turn_one<K: MemRule>(stm: &Stm<K>, runner: &mut CachePadded<Runner<K>>) -> Said
-    requires { Sound (K.good stm.now.rule) stm.now.table.shared.table_id stm.now.config stm.now.rule (worker_in runner.old) }
-    ensures { Turned (K.good stm.now.rule) stm.now.table.shared.table_id stm.now.config stm.now.rule MaySay (worker_in runner.old) result (worker_in runner.new) }
+    requires { Sound (K.good stm.now.rule) stm.now (worker_in runner.old) }
+    ensures { Turned (K.good stm.now.rule) stm.now MaySay (worker_in runner.old) result (worker_in runner.new) }
 {
     let runner = &mut **runner;
     runner.worker.turn(stm, &Open)
@@ -64,9 +64,9 @@ pub fn play<K: MemRule>(
     schedule: &[Go],
     trace: &mut Vec<Line>,
 ) -> Result<(), Halt>
-    requires sound { AreSound (K.good stm.now.rule) stm.now.table.shared.table_id stm.now.config stm.now.rule (workers_in runners.old) }
+    requires sound { AreSound (K.good stm.now.rule) stm.now (workers_in runners.old) }
     requires below { All (λ go. go.caller < length (workers_in runners.old)) schedule.now }
-    ensures sound { AreSound (K.good stm.now.rule) stm.now.table.shared.table_id stm.now.config stm.now.rule (workers_in runners.new) }
+    ensures sound { AreSound (K.good stm.now.rule) stm.now (workers_in runners.new) }
     ensures same { AreSame (workers_in runners.old) (workers_in runners.new) }
     ensures plays { Plays stm.now.config MaySay (workers_in runners.old) (workers_in runners.new) trace.old.items trace.new.items (turns schedule.now) result }
 {
@@ -86,9 +86,9 @@ fn turns_of<K: MemRule>(
     go: Go,
     trace: &mut Vec<Line>,
 ) -> Result<(), Halt>
-    requires sound { AreSound (K.good stm.now.rule) stm.now.table.shared.table_id stm.now.config stm.now.rule (workers_in runners.old) }
+    requires sound { AreSound (K.good stm.now.rule) stm.now (workers_in runners.old) }
     requires below { go.caller < length (workers_in runners.old) }
-    ensures sound { AreSound (K.good stm.now.rule) stm.now.table.shared.table_id stm.now.config stm.now.rule (workers_in runners.new) }
+    ensures sound { AreSound (K.good stm.now.rule) stm.now (workers_in runners.new) }
     ensures same { AreSame (workers_in runners.old) (workers_in runners.new) }
     ensures plays { Plays stm.now.config MaySay (workers_in runners.old) (workers_in runners.new) trace.old.items trace.new.items (replicate go.turns go.caller) result }
 {

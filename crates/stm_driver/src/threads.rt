@@ -4,7 +4,7 @@ ghost use Rattle.crossbeam_utils.specs.declared.cache_padded.CachePadded.{CacheP
 ghost use Rattle.stm_trace.specs.declared.said.Phase.TheVariants.{Between};
 ghost use Rattle.stm_worker.specs.Workers.{IsSame, Sound};
 ghost use Rattle.stm_driver.specs.declared.workers.Runner.{Runner};
-ghost use Rattle.stm_driver.specs.AllWorkers.{IsThrough, IsReady, Finished};
+ghost use Rattle.stm_driver.specs.AllWorkers.{IsThrough, IsReady, IsPaid, Finished};
 
 use crate::backoff::Backoff;
 use crate::workers::Runner;
@@ -13,11 +13,12 @@ use std::sync::Wait;
 use std::thread;
 use std::thread::Threads;
 use stm_model::rule::MemRule;
+use stm_model::stop::Stop;
 use stm_rule::stm::Stm;
 use stm_trace::said::{Phase, Said};
 use stm_worker::turnstile::Turnstile;
 use stm_worker::worker::Worker;
-use tx_answers::answers::{Begin, CloseGate, Commit, Look};
+use tx_answers::answers::{Begin, CloseGate, Commit, Irrev, Look};
 
 /// Runs all workers, each to its end or to the clock's limit, on as many threads as there are workers.
 pub fn run_all<R: Threads + Wait + Sync, K: MemRule + Send + Sync, G: Turnstile + Sync>(
@@ -27,9 +28,9 @@ pub fn run_all<R: Threads + Wait + Sync, K: MemRule + Send + Sync, G: Turnstile 
     runners: &mut [CachePadded<Runner<K>>],
 )
     requires some { 0 < length runners.old }
-    requires ready { All (IsReady (K.good stm.now.rule) stm.now.table.shared.table_id stm.now.config stm.now.rule) runners.old }
+    requires ready { All (IsReady (K.good stm.now.rule) stm.now) runners.old }
     ensures count { length runners.new ≡ length runners.old }
-    ensures done { (i : ℕ) (d : CachePadded (Runner K)) → i < length runners.old → Finished (K.good stm.now.rule) stm.now.table.shared.table_id stm.now.config stm.now.rule (slice_index_or runners.old i d) (slice_index_or runners.new i d) }
+    ensures done { (i : ℕ) (d : CachePadded (Runner K)) → i < length runners.old → Finished (K.good stm.now.rule) stm.now (slice_index_or runners.old i d) (slice_index_or runners.new i d) }
 {
     let threads = runners.len();
     thread::for_each_mut(
@@ -47,8 +48,8 @@ fn run_one<R: Wait, K: MemRule, G: Turnstile>(
     turnstile: &G,
     runner: &mut CachePadded<Runner<K>>,
 )
-    requires { IsReady (K.good stm.now.rule) stm.now.table.shared.table_id stm.now.config stm.now.rule runner.old }
-    ensures { Finished (K.good stm.now.rule) stm.now.table.shared.table_id stm.now.config stm.now.rule runner.old runner.new }
+    requires { IsReady (K.good stm.now.rule) stm.now runner.old }
+    ensures { Finished (K.good stm.now.rule) stm.now runner.old runner.new }
 {
     let runner = &mut **runner;
     runner.full = work(rt, stm, turnstile, &mut runner.worker);
@@ -62,11 +63,12 @@ fn work<R: Wait, K: MemRule, G: Turnstile>(
     turnstile: &G,
     w: &mut Worker<K>,
 ) -> Option<u64>
-    requires sound { Sound (K.good stm.now.rule) stm.now.table.shared.table_id stm.now.config stm.now.rule w.old }
-    ensures sound { Sound (K.good stm.now.rule) stm.now.table.shared.table_id stm.now.config stm.now.rule w.new }
+    requires sound { Sound (K.good stm.now.rule) stm.now w.old }
+    ensures sound { Sound (K.good stm.now.rule) stm.now w.new }
     ensures same { IsSame w.old w.new }
     ensures between { w.new.phase ≡ Phase.Between }
     ensures through { IsThrough w.new result }
+    ensures paid { IsPaid stm.now w.old w.new }
 {
     let mut backoff = Backoff::new();
     for _ in rt.forever() {
@@ -86,7 +88,9 @@ fn work<R: Wait, K: MemRule, G: Turnstile>(
 fn pause(backoff: &mut Backoff, said: Said) {
     match said {
         Said::TryBegin(Begin::Closed { .. } | Begin::Held { .. })
-        | Said::TryCommit(Commit::Again { .. })
+        | Said::Stopped(_, Stop::Conflict(_))
+        | Said::TryIrrevocable(Irrev::Busy { .. } | Irrev::Taken { .. } | Irrev::Conflict(_))
+        | Said::TryCommit(Commit::Again { .. } | Commit::Conflict(_))
         | Said::TryClose(CloseGate::Taken { .. })
         | Said::Looked(Look::Busy { .. }) => backoff.wait(),
         _ => backoff.reset(),

@@ -1,2 +1,3 @@
+mod DirectLaws
 mod Closing
-mod Seeing
+mod InstallLaws

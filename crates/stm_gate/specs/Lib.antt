@@ -1,1 +1,12 @@
+pub mod Knowing
 pub mod Looking
+pub mod Leaving
+pub mod Promoting
+pub mod Logging
+pub mod Opacity
+pub mod LeavingLaws
+pub mod Standing
+pub mod InnerLaws
+pub mod LookingLaws
+pub mod PromotingLaws
+pub mod Installing

@@ -5,16 +5,22 @@
 //! status 0 knows that this caller, should it announce later, will load a closed gate and withdraw
 //! (Spear, "Lightweight, Robust Adaptivity for Software Transactional Memory", SPAA 2010).
 ghost use Rattle.std.specs.Prelude.{◌≡◌, ℕ, ◌<◌, true};
-ghost use Rattle.stm_rule.specs.Callers.{IsOf, IsSameCaller};
-ghost use Rattle.tx_answers.specs.Answers.{Closes, Looks, Looked, Installs, Reopens, HoldsClosed, SeesQuiet};
-ghost use Rattle.tx_answers.specs.Known.{IsIdle, caller_of, is_offered, known_of};
-ghost use Rattle.stm_gate.specs.Looking.{SeesBelow, Finds};
+ghost use Rattle.rule_base.specs.InstallSteps.{CanSettle};
+ghost use Rattle.rule_base.specs.declared.views.Phase.TheVariants.{Closing};
+ghost use Rattle.stm_rule.specs.Callers.{IsOf, IsSameCaller, IsSeatOf};
+ghost use Rattle.stm_rule.specs.Kept.{IsSameSeat, view_of};
+ghost use Rattle.tx_answers.specs.Answers.{Closes, Looks, Installs, Reopens, HoldsClosed, SeesQuiet};
+ghost use Rattle.tx_answers.specs.Known.{IsIdle};
+ghost use Rattle.stm_model.specs.Algorithms.{is_built};
+ghost use Rattle.stm_gate.specs.Installing.{Settles, begins_even};
+ghost use Rattle.stm_gate.specs.Knowing.{known, number};
 
+use crate::looking::look_on;
 use rule_base::words::{alg_of, holder_of};
 use stm_model::alg::Alg;
 use stm_model::rule::MemRule;
 use stm_rule::desc::Desc;
-use stm_rule::stm::Stm;
+use stm_rule::stm::{Stm, Token};
 use tx_answers::answers::{CloseGate, Look};
 
 /// Tries to close the gate. It asks for an idle descriptor, and takes four steps at most.
@@ -22,10 +28,10 @@ use tx_answers::answers::{CloseGate, Look};
 /// `Closed` leaves the descriptor closing: attempts that are open go on, and none begins until it
 /// reopens the gate. `Taken` comes only where another caller holds the gate, and leaves it idle.
 pub fn close_gate<K: MemRule>(desc: &mut Desc<K>, stm: &Stm<K>) -> CloseGate
-    requires stm { IsOf desc.old stm.now.table.shared.table_id stm.now.config stm.now.rule }
-    requires idle { IsIdle (known_of desc.old.view) }
+    requires stm { IsOf desc.old stm.now }
+    requires idle { IsIdle (known desc.old) }
     ensures same { IsSameCaller desc.old desc.new }
-    ensures closes { Closes (K.good stm.now.rule) stm.now.config (caller_of desc.old.who.role) result (known_of desc.old.view) (known_of desc.new.view) }
+    ensures closes { Closes (K.good stm.now.rule) stm.now.config (number desc.old) result (known desc.old) (known desc.new) }
 {
     let caller = desc.number;
     stm.announce(&mut desc.seat, caller);
@@ -39,9 +45,9 @@ pub fn close_gate<K: MemRule>(desc: &mut Desc<K>, stm: &Stm<K>) -> CloseGate
     if found != gate {
         return CloseGate::Taken { gate: found };
     }
-    desc.algorithm = alg_of(gate);
-    desc.holds = true;
-    desc.next = 0;
+    desc.local.algorithm = alg_of(gate);
+    desc.local.holds = true;
+    desc.local.next = 0;
     CloseGate::Closed
 }
 
@@ -49,86 +55,72 @@ pub fn close_gate<K: MemRule>(desc: &mut Desc<K>, stm: &Stm<K>) -> CloseGate
 /// up to the first that is not idle. It asks for a closing descriptor, leaves it so, and takes one step a
 /// caller that it looks at.
 pub fn look<K: MemRule>(desc: &mut Desc<K>, stm: &Stm<K>) -> Look
-    requires stm { IsOf desc.old stm.now.table.shared.table_id stm.now.config stm.now.rule }
-    requires closing { HoldsClosed (known_of desc.old.view) }
+    requires stm { IsOf desc.old stm.now }
+    requires closing { HoldsClosed (known desc.old) }
     ensures same { IsSameCaller desc.old desc.new }
-    ensures looks { Looks (K.good stm.now.rule) stm.now.config (caller_of desc.old.who.role) result (known_of desc.old.view) (known_of desc.new.view) }
+    ensures looks { Looks (K.good stm.now.rule) stm.now.config (number desc.old) result (known desc.old) (known desc.new) }
 {
-    for other in first_unseen(desc)..stm.config.callers {
-        let status = look_at(desc, stm, other);
-        if status != 0 {
-            return Look::Busy {
-                caller: other,
-                status,
-            };
-        }
-    }
-    Look::Quiet
-}
-
-/// Where the next look goes on: all callers below but this one were seen idle.
-fn first_unseen<K: MemRule>(desc: &Desc<K>) -> usize
-    requires { HoldsClosed (known_of desc.now.view) }
-    ensures { SeesBelow (caller_of desc.now.who.role) result (known_of desc.now.view) }
-{
-    desc.next
-}
-
-/// Looks at one caller, behind those already seen, and answers its status: 0 is idle. The own caller
-/// counts as idle.
-fn look_at<K: MemRule>(desc: &mut Desc<K>, stm: &Stm<K>, other: usize) -> u64
-    requires stm { IsOf desc.old stm.now.table.shared.table_id stm.now.config stm.now.rule }
-    requires closing { HoldsClosed (known_of desc.old.view) }
-    requires other { other < stm.now.config.callers }
-    requires seen { SeesBelow (caller_of desc.old.who.role) other (known_of desc.old.view) }
-    ensures same { IsSameCaller desc.old desc.new }
-    ensures looked { Looked (K.good stm.now.rule) stm.now.config (caller_of desc.old.who.role) (known_of desc.old.view) (known_of desc.new.view) }
-    ensures own { caller_of desc.old.who.role < stm.now.config.callers }
-    ensures found { Finds (caller_of desc.old.who.role) other result (known_of desc.old.view) (known_of desc.new.view) }
-{
-    let caller = desc.number;
-    if other == caller {
-        desc.next = other + 1;
-        return 0;
-    }
-    let status = stm.check(&mut desc.seat, caller, other);
-    if status == 0 {
-        desc.next = other + 1;
-    }
-    status
+    look_on(desc, stm)
 }
 
 /// Installs an algorithm: from the next begin on, attempts run under it. It asks for a closing descriptor
 /// whose last look was quiet, leaves it closing, is always done, and takes five steps at most.
 pub fn install<K: MemRule>(desc: &mut Desc<K>, stm: &Stm<K>, alg: Alg)
-    requires stm { IsOf desc.old stm.now.table.shared.table_id stm.now.config stm.now.rule }
-    requires closing { HoldsClosed (known_of desc.old.view) }
-    requires quiet { SeesQuiet (K.good stm.now.rule) stm.now.config (caller_of desc.old.who.role) (known_of desc.old.view) }
-    requires offered { is_offered alg ≡ true }
+    requires stm { IsOf desc.old stm.now }
+    requires closing { HoldsClosed (known desc.old) }
+    requires quiet { SeesQuiet (K.good stm.now.rule) stm.now.config (number desc.old) (known desc.old) }
+    requires built { is_built alg ≡ true }
     ensures same { IsSameCaller desc.old desc.new }
-    ensures installs { Installs (K.good stm.now.rule) stm.now.config (caller_of desc.old.who.role) alg (known_of desc.old.view) (known_of desc.new.view) }
+    ensures installs { Installs (K.good stm.now.rule) stm.now.config (number desc.old) alg (known desc.old) (known desc.new) }
 {
     let caller = desc.number;
-    let mut clock = stm.settle(&mut desc.seat, caller);
-    if alg == Alg::Tml && clock % 2 == 1 {
-        clock += 1;
-        stm.even_clock(&mut desc.seat, caller, clock);
-    }
+    let clock = settle_for(&mut desc.seat, stm, caller, alg);
     stm.store_base(&mut desc.seat, caller, clock);
     stm.store_done(&mut desc.seat, caller, clock);
     stm.install(&mut desc.seat, caller, alg);
-    desc.algorithm = alg;
+    desc.local.algorithm = alg;
+}
+
+/// Loads the clock, at which the algorithm is to begin, and answers it: under TML an odd one is raised first.
+fn settle_for<K: MemRule>(seat: &mut Token<K>, stm: &Stm<K>, caller: usize, alg: Alg) -> u64
+    requires seat { IsSeatOf stm.now caller seat.old }
+    requires caller { caller < stm.now.config.callers }
+    requires closing { (view_of seat.old).gate.phase ≡ Closing }
+    requires quiet { CanSettle stm.now.config.callers caller (view_of seat.old) }
+    ensures same { IsSameSeat seat.old seat.new }
+    ensures rest { seat.new.me.0 ≡ record seat.old.me.0 { view = view_of seat.new } }
+    ensures settles { Settles alg result (view_of seat.old) (view_of seat.new) }
+{
+    let clock = stm.settle(seat, caller);
+    if clock % 2 == 0 {
+        return clock;
+    }
+    if !begins_even(alg) {
+        return clock;
+    }
+    stm.even_clock(seat, caller, clock + 1);
+    clock + 1
+}
+
+/// Whether an algorithm begins at an even clock alone.
+fn begins_even(alg: Alg) -> bool
+    ensures { result ≡ begins_even alg }
+{
+    match alg {
+        Alg::Tml => true,
+        Alg::Cgl | Alg::OrecLazy | Alg::OrecEager | Alg::RingSw | Alg::Serial => false,
+    }
 }
 
 /// Reopens the gate, under the algorithm that it names. It asks for a closing descriptor, leaves it idle,
 /// is always done, and takes one step.
 pub fn reopen<K: MemRule>(desc: &mut Desc<K>, stm: &Stm<K>)
-    requires stm { IsOf desc.old stm.now.table.shared.table_id stm.now.config stm.now.rule }
-    requires closing { HoldsClosed (known_of desc.old.view) }
+    requires stm { IsOf desc.old stm.now }
+    requires closing { HoldsClosed (known desc.old) }
     ensures same { IsSameCaller desc.old desc.new }
-    ensures reopens { Reopens (K.good stm.now.rule) stm.now.config (caller_of desc.old.who.role) (known_of desc.old.view) (known_of desc.new.view) }
+    ensures reopens { Reopens (K.good stm.now.rule) stm.now.config (number desc.old) (known desc.old) (known desc.new) }
 {
     let caller = desc.number;
-    stm.reopen(&mut desc.seat, caller, desc.algorithm);
-    desc.holds = false;
+    stm.reopen(&mut desc.seat, caller, desc.local.algorithm);
+    desc.local.holds = false;
 }

@@ -1,4 +1,4 @@
-//! The algorithms.
+//! The algorithms. What is said of each by its name stands in one table, `specs/Algorithms.antt`.
 
 /// An algorithm that runs transactions behind the one interface.
 #[derive(Clone, Copy, Drop, Debug, PartialEq, Eq)]
@@ -16,4 +16,61 @@ pub enum Alg {
     RingSw,
     /// One lock, with an undo log.
     Serial,
+}
+
+/// All algorithms, by their number.
+pub const ALGORITHMS: [Alg; 6] = [
+    Alg::Cgl,
+    Alg::Tml,
+    Alg::OrecLazy,
+    Alg::OrecEager,
+    Alg::RingSw,
+    Alg::Serial,
+];
+
+impl Alg {
+    ghost use Rattle.std.specs.Prelude.{◌≡◌};
+    ghost use Rattle.stm_model.specs.Algorithms.{alg_name, alg_number, is_built};
+
+    /// Whether the algorithm is built; only such a one is installed.
+    pub fn is_built(self) -> bool
+        ensures { result ≡ is_built self }
+    {
+        match self {
+            Alg::Cgl => true,
+            Alg::Tml => true,
+            Alg::OrecLazy => false,
+            Alg::OrecEager => false,
+            Alg::RingSw => false,
+            Alg::Serial => true,
+        }
+    }
+
+    /// The name in workloads and traces.
+    pub fn name(self) -> &'static str
+        ensures { result.now ≡ alg_name self }
+    {
+        match self {
+            Alg::Cgl => "CGL",
+            Alg::Tml => "TML",
+            Alg::OrecLazy => "OrecLazy",
+            Alg::OrecEager => "OrecEager",
+            Alg::RingSw => "RingSW",
+            Alg::Serial => "Serial",
+        }
+    }
+
+    /// The number in a gate word, 0 to 5.
+    pub fn number(self) -> u64
+        ensures { result ≡ alg_number self }
+    {
+        match self {
+            Alg::Cgl => 0,
+            Alg::Tml => 1,
+            Alg::OrecLazy => 2,
+            Alg::OrecEager => 3,
+            Alg::RingSw => 4,
+            Alg::Serial => 5,
+        }
+    }
 }

@@ -4,6 +4,7 @@
 
 pub mod access;
 pub mod alg;
+pub mod config;
 pub mod laws;
 pub mod memory;
 pub mod plain;

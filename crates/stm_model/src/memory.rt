@@ -1,7 +1,7 @@
 //! Want of memory.
 use std::alloc::AllocError;
 
-/// Memory was refused. The call that answers this left everything else as it was.
+/// Memory was refused.
 #[derive(Clone, Copy, Drop, Debug, PartialEq, Eq)]
 pub struct Memory;
 

@@ -5,9 +5,9 @@ use Rattle.std.proofs.lemmas.List.Elements.{Contains-append_right}
 use Rattle.std.proofs.lemmas.List.Sums.{sum_by-cons}
 use Rattle.std.specs.Prelude.{Contains, sum_by, if◌then◌else◌}
 use Rattle.atomic_table.specs.Seated.{TableId}
+use Rattle.rule_seq.specs.AttemptLemmas.{busy-writer, busy-turn}
 use Rattle.stm_model.specs.declared.alg.Alg.{Alg}
-use Rattle.stm_model.specs.declared.alg.Alg.TheVariants.{Cgl, Tml, OrecLazy, OrecEager, RingSw, Serial}
-use Rattle.rule_base.specs.declared.layout.Config.{Config}
+use Rattle.stm_model.specs.declared.config.Config.{Config}
 use Rattle.rule_base.specs.declared.seats.Gathered.{Gathered}
 use Rattle.rule_base.specs.declared.seats.Role.{Role}
 use Rattle.rule_base.specs.declared.seats.Role.TheVariants.{Dealer, Caller, Note, Spent}
@@ -15,16 +15,21 @@ use Rattle.rule_base.specs.declared.seats.SeatView.{SeatView}
 use Rattle.rule_base.specs.declared.views.Phase.TheVariants.{Idle, In}
 use Rattle.rule_base.specs.declared.views.Steps.{Steps}
 use Rattle.rule_base.specs.declared.views.View.{View}
-use Rattle.rule_base.specs.Encodings.{alg_of}
+use Rattle.rule_base.specs.Encodings.{alg_of, holder_of}
 use Rattle.rule_base.specs.History.{word_now}
 use Rattle.rule_base.specs.HistoryLemmas.{merged, made_by-none}
 use Rattle.rule_base.specs.ListLemmas.{contains-cons, contains-none}
 use Rattle.rule_base.specs.Notes.{claimed, gathers}
 use Rattle.rule_base.specs.StepsRule.{all_rises}
 use Rattle.rule_base.specs.World.{World}
-use Rattle.stm_rule.specs.Callers.{Handle, IsOf, AllIdle}
+use Rattle.stm_rule.specs.Callers.{Handle, BelongsTo, IdleAt}
 use Rattle.stm_rule.specs.Closings.{shown, installs_of, installs_by, installs_from}
-use Rattle.stm_rule.specs.Product.{is_built, Whole}
+use Rattle.rule_base.specs.Regime.{Regime}
+use Rattle.rule_base.specs.RegimeLemmas.{regime-running}
+use Rattle.rule_base.specs.RunScene.{run_scene}
+use Rattle.stm_rule.specs.Frames.{ungranted-out, owner-holds}
+use Rattle.stm_rule.specs.Product.{Runs, Whole}
+use Rattle.stm_rule.specs.Running.{at-rest}
 
 module _ {K : Type 0} where
   -- a fact of each descriptor's view, by the caller's number
@@ -33,7 +38,7 @@ module _ {K : Type 0} where
   Every P n (d ∷ ds) = P n d.view × Every P (suc n) ds
 
   -- a fact of each caller shown is one of each descriptor
-  pub every_shown : (P : ℕ → View → Type 0) (t : TableId) (c : Config) (rule : K) (n : ℕ) (ds : List (Handle K)) → AllIdle t c rule n ds → ((g : Gathered) → Contains (shown ds) g → P g.caller g.view) → Every P n ds
+  pub every_shown : (P : ℕ → View → Type 0) (t : TableId) (c : Config) (rule : K) (n : ℕ) (ds : List (Handle K)) → IdleAt t c rule n ds → ((g : Gathered) → Contains (shown ds) g → P g.caller g.view) → Every P n ds
   every_shown P t c rule n [] a h = tt
   every_shown P t c rule n (d ∷ ds) a h =
       let is : claimed d.who.role d.view (shown ds) ≡ record { caller = n; view = d.view } ∷ shown ds = ap (λ r. claimed r d.view (shown ds)) a.1 in
@@ -46,7 +51,7 @@ module _ {K : Type 0} where
   every_and P Q n [] p q = tt
   every_and P Q n (d ∷ ds) p q = ((p.0, q.0), every_and P Q (suc n) ds p.1 q.1)
 
-  pub every_idle : (t : TableId) (c : Config) (rule : K) (n : ℕ) (ds : List (Handle K)) → AllIdle t c rule n ds → Every (λ k v. v.gate.phase ≡ Idle) n ds
+  pub every_idle : (t : TableId) (c : Config) (rule : K) (n : ℕ) (ds : List (Handle K)) → IdleAt t c rule n ds → Every (λ k v. v.gate.phase ≡ Idle) n ds
   every_idle t c rule n [] a = tt
   every_idle t c rule n (d ∷ ds) a = (a.2, every_idle t c rule (suc n) ds a.3)
 
@@ -90,7 +95,7 @@ module _ {K : Type 0} where
   AllHere t n [] = Unit {0}
   AllHere t n (d ∷ ds) = (d.table ≡ t) × (d.who.role ≡ Caller n) × (d.view.gate.phase ≡ Idle) × AllHere t (suc n) ds
 
-  pub all_here : (t : TableId) (c : Config) (rule : K) (n : ℕ) (ds : List (Handle K)) → AllIdle t c rule n ds → AllHere t n ds
+  pub all_here : (t : TableId) (c : Config) (rule : K) (n : ℕ) (ds : List (Handle K)) → IdleAt t c rule n ds → AllHere t n ds
   all_here t c rule n [] a = tt
   all_here t c rule n (d ∷ ds) a = (a.0.table, a.1, a.2, all_here t c rule (suc n) ds a.3)
 
@@ -98,7 +103,7 @@ module _ {K : Type 0} where
   here_split t n [] d a = (tt, a.0, a.2)
   here_split t n (x ∷ ds) d a = let r = here_split t (suc n) ds d a.3 in ((a.0, a.1, a.2, r.0), r.1, r.2)
 
-  pub idle_last : (t : TableId) (c : Config) (rule : K) (n : ℕ) (ds : List (Handle K)) (d : Handle K) → AllIdle t c rule n (ds ++ d ∷ []) → IsOf d t c rule × (d.view.gate.phase ≡ Idle)
+  pub idle_last : (t : TableId) (c : Config) (rule : K) (n : ℕ) (ds : List (Handle K)) (d : Handle K) → IdleAt t c rule n (ds ++ d ∷ []) → BelongsTo d t c rule × (d.view.gate.phase ≡ Idle)
   idle_last t c rule n [] d a = (a.0, a.2)
   idle_last t c rule n (x ∷ ds) d a = idle_last t c rule (suc n) ds d a.3
 
@@ -136,17 +141,9 @@ installs_found f (g ∷ gs) k v all h = ⊎_elim
     (⊎_elim (λ (e : g ≡ record { caller = k; view = v }). absurd (t.1 (ap (λ (y : Gathered). y.caller) e))) (λ c. c) (contains-cons g gs (record { caller = k; view = v }) h)))
     (eqb_tells g.caller k)
 
-built_cgl : (a : Alg) → is_built a ≡ true → a ≡ Cgl
-built_cgl Cgl e = refl
-built_cgl Tml e = absurd cc
-built_cgl OrecLazy e = absurd cc
-built_cgl OrecEager e = absurd cc
-built_cgl RingSw e = absurd cc
-built_cgl Serial e = absurd cc
-
--- where every caller is idle, the heap is the memory after the history
+-- while all callers are idle the memory lies in the heap
 pub rests : (good : (ℕ → ℕ) → Type 0) (c : Config) (w : World) → Whole good c w → ((k : ℕ) → k < c.callers → (w.views k).gate.phase ≡ Idle) → (a : ℕ) → w.heap a ≡ word_now w.history a
-rests good c w g idle = (g.cgl (built_cgl (alg_of w.gate) g.built)).free (free w.lock refl)
+rests good c w g idle = (at-rest c (alg_of w.gate) (run_scene w) (subst (λ (r : Regime). Runs c r (run_scene w)) (regime-running w ungranted) g.running) (free w.lock refl) (λ m t. let o : (w.views m).gate.phase ≡ In = g.attempts.busy m (busy-writer (w.views m) t) in let i = out m in cc) (λ m t. let o : (w.views m).gate.phase ≡ In = g.attempts.busy m (busy-turn (w.views m) t) in let i = out m in cc) (λ has r m e. let o : (w.views m).gate.phase ≡ In = g.records.inside m r (owner-holds good c w g r m e) in let i = out m in cc)).0
   where
     out : (k : ℕ) → (w.views k).gate.phase ≡ Idle
     out k = ⊎_elim (λ (t : (leb c.callers k ≡ true) × (c.callers ≤ k)). g.gate.far k t.1) (λ (t : (leb c.callers k ≡ false) × (k < c.callers)). idle k t.1) (leb_tells c.callers k)
@@ -154,6 +151,9 @@ rests good c w g idle = (g.cgl (built_cgl (alg_of w.gate) g.built)).free (free w
     free : (k : ℕ) → w.lock ≡ k → k ≡ 0
     free zero e = refl
     free (suc n) e = absurd (let o : (w.views n).gate.phase ≡ In = g.lock.inside n (g.lock.owner n (omega arith)) in let i = out n in cc)
+
+    ungranted : (n : ℕ) → holder_of w.gate ≡ 1 + n → (w.views n).gate.granted ≡ false
+    ungranted n h = ungranted-out good c w n g (λ e. let i = out n in let k : Idle ≡ In = sym i ∙ e in cc)
 
 -- two worlds whose callers made the same have one history
 pub same_history : (good : (ℕ → ℕ) → Type 0) (c : Config) (w x : World) → Whole good c w → Whole good c x → ((k : ℕ) → k < c.callers → (x.views k).history.made ≡ (w.views k).history.made) → x.history ≡ w.history

@@ -1,8 +1,9 @@
 -- While a caller holds the quiet gate, no step of another changes the history or the clock.
 use Rattle.std.proofs.Common.{◌≡◌, ◌≢◌, ℕ, ◌<◌, [], ◌∷◌, true, false, refl, sym, ap, ◌∙◌, subst}
-use Rattle.rule_base.specs.declared.layout.Config.{Config}
+use Rattle.stm_model.specs.declared.config.Config.{Config}
 use Rattle.rule_base.specs.declared.views.Phase.TheVariants.{In, Closing}
 use Rattle.rule_base.specs.declared.views.View.{View}
+use Rattle.stm_model.specs.Algorithms.{has_records}
 use Rattle.rule_base.specs.GateLaws.{others-rest}
 use Rattle.rule_base.specs.GateRule.{rests}
 use Rattle.rule_base.specs.History.{member}
@@ -10,12 +11,15 @@ use Rattle.rule_base.specs.PutLemmas.{put-else}
 use Rattle.rule_base.specs.Rest.{IsQuiet}
 use Rattle.rule_base.specs.StepKinds.{answer, view_after, world_after}
 use Rattle.rule_base.specs.World.{World}
-use Rattle.rule_seq.specs.CglRuns.CglStep.{takes_lock, loads_start, loads_heap, stores_heap, stores_clock, frees_lock}
+use Rattle.rule_seq.specs.CglRuns.CglStep.{acquires_lock, loads_start, loads_heap, stores_heap, stores_clock, frees_lock, loads_undo, loads_limit, takes_back}
+use Rattle.rule_seq.specs.TmlRuns.TmlStep.{tml_begins, tml_loads, tml_agains, tml_writes, tml_stores, tml_commits}
+use Rattle.rule_ring.specs.RingRuns.RingStep.{ring_begins, ring_loads, ring_looks, ring_words, ring_agains, ring_moves, ring_locks, ring_ticks, ring_slots, ring_enters, ring_writes, ring_dones, ring_frees}
 use Rattle.stm_rule.specs.CoreRuns.{CoreStep, core_kind, CoreMay}
-use Rattle.stm_rule.specs.CoreRuns.CoreStep.{announces, loads_gate, departs, aims, takes_gate, checks, reopens, settles, evens_clock, stores_base, stores_done, installs, of_cgl, hears, loads_end}
+use Rattle.stm_rule.specs.CoreRuns.CoreStep.{announces, loads_gate, departs, aims, takes_gate, checks, reopens, settles, evens_clock, stores_base, stores_done, installs, of_cgl, of_tml, of_ring, looks_gate, seizes, grants, look_grants, move_grants, direct_loads, direct_stores, direct_commits, returns, hears, loads_end, of_orec, orec_grants, orec_grants_all, direct_releases}
 use Rattle.stm_rule.specs.Product.{Whole}
-use Rattle.stm_rule.specs.Quiescence.{RestLasts}
-use Rattle.stm_rule.specs.RestLaws.{quiet-rests}
+use Rattle.stm_rule.specs.Quiescence.{IsInsideOf, IsPromoting, RestLasts, PromotingLasts, IsOrecPromoting, OrecPromotingLasts}
+use Rattle.stm_rule.specs.RestLaws.{quiet-rests, promoting-rests, orec-promoting-rests}
+use Rattle.rule_orec.specs.OrecRuns.OrecStep.{orec_begins, orec_samples, orec_loads, orec_confirms, orec_clocks, orec_clocks_all, orec_passes, orec_lasts, orec_looks, orec_limits, orec_locks, orec_commits, orec_writes_back, orec_times, orec_olds, orec_ups, orec_own_loads, orec_saves, orec_places, orec_restores, orec_lifts}
 use Rattle.stm_rule.proofs.CoreLaws.{one_step}
 
 module _ (good : (ℕ → ℕ) → Type 0) (c : Config) where
@@ -32,16 +36,71 @@ module _ (good : (ℕ → ℕ) → Type 0) (c : Config) where
   stands m (checks other) w g out apart may = (refl, refl)
   stands m (reopens alg) w g out apart may = (refl, refl)
   stands m settles w g out apart may = (refl, refl)
-  stands m (evens_clock time) w g out apart may = absurd (apart (g.install.closing m may.1.calm))
+  stands m (evens_clock time) w g out apart may = absurd (apart may.1.phase)
   stands m (stores_base time) w g out apart may = (refl, refl)
   stands m (stores_done time) w g out apart may = (refl, refl)
   stands m (installs alg) w g out apart may = (refl, refl)
-  stands m (of_cgl takes_lock) w g out apart may = (refl, refl)
+  stands m (of_cgl acquires_lock) w g out apart may = (refl, refl)
   stands m (of_cgl loads_start) w g out apart may = (refl, refl)
   stands m (of_cgl (loads_heap a)) w g out apart may = (refl, refl)
   stands m (of_cgl (stores_heap a x)) w g out apart may = (refl, refl)
   stands m (of_cgl (stores_clock t)) w g out apart may = absurd (out may.1.has.phase)
   stands m (of_cgl frees_lock) w g out apart may = (refl, refl)
+  stands m (of_cgl (loads_undo a)) w g out apart may = (refl, refl)
+  stands m (of_cgl (loads_limit fix)) w g out apart may = (refl, refl)
+  stands m (of_cgl (takes_back a x)) w g out apart may = (refl, refl)
+  stands m (of_tml tml_begins) w g out apart may = (refl, refl)
+  stands m (of_tml (tml_loads a)) w g out apart may = (refl, refl)
+  stands m (of_tml tml_agains) w g out apart may = (refl, refl)
+  stands m (of_tml (tml_writes start)) w g out apart may = absurd (out may.1.has.runs.phase)
+  stands m (of_tml (tml_stores a x)) w g out apart may = (refl, refl)
+  stands m (of_tml (tml_commits t)) w g out apart may = absurd (out may.1.has.runs.phase)
+  stands m (of_ring ring_begins) w g out apart may = (refl, refl)
+  stands m (of_ring (ring_loads a)) w g out apart may = (refl, refl)
+  stands m (of_ring ring_looks) w g out apart may = (refl, refl)
+  stands m (of_ring (ring_words k e i)) w g out apart may = (refl, refl)
+  stands m (of_ring (ring_agains k)) w g out apart may = (refl, refl)
+  stands m (of_ring ring_moves) w g out apart may = (refl, refl)
+  stands m (of_ring ring_locks) w g out apart may = (refl, refl)
+  stands m (of_ring ring_ticks) w g out apart may = (refl, refl)
+  stands m (of_ring (ring_slots k e i ws)) w g out apart may = (refl, refl)
+  stands m (of_ring (ring_enters t)) w g out apart may = absurd (out may.1.turn.has.runs.phase)
+  stands m (of_ring (ring_writes a x)) w g out apart may = (refl, refl)
+  stands m (of_ring (ring_dones t)) w g out apart may = (refl, refl)
+  stands m (of_ring ring_frees) w g out apart may = (refl, refl)
+  stands m (of_orec orec_begins) w g out apart may = (refl, refl)
+  stands m (of_orec (orec_samples r a)) w g out apart may = (refl, refl)
+  stands m (of_orec (orec_loads a)) w g out apart may = (refl, refl)
+  stands m (of_orec (orec_confirms r)) w g out apart may = (refl, refl)
+  stands m (of_orec (orec_clocks todo)) w g out apart may = (refl, refl)
+  stands m (of_orec orec_clocks_all) w g out apart may = (refl, refl)
+  stands m (of_orec (orec_passes r b)) w g out apart may = (refl, refl)
+  stands m (of_orec (orec_lasts r b)) w g out apart may = (refl, refl)
+  stands m (of_orec (orec_looks r)) w g out apart may = (refl, refl)
+  stands m (of_orec orec_limits) w g out apart may = (refl, refl)
+  stands m (of_orec (orec_locks r version)) w g out apart may = (refl, refl)
+  stands m (of_orec (orec_commits start writes back)) w g out apart may = absurd (out may.1.has.runs.phase)
+  stands m (of_orec (orec_writes_back a x)) w g out apart may = (refl, refl)
+  stands m (of_orec (orec_times r version)) w g out apart may = (refl, refl)
+  stands m (of_orec (orec_olds r version)) w g out apart may = (refl, refl)
+  stands m (of_orec (orec_ups r version)) w g out apart may = (refl, refl)
+  stands m (of_orec (orec_own_loads a)) w g out apart may = (refl, refl)
+  stands m (of_orec (orec_saves a)) w g out apart may = (refl, refl)
+  stands m (of_orec (orec_places a x)) w g out apart may = (refl, refl)
+  stands m (of_orec (orec_restores a x)) w g out apart may = (refl, refl)
+  stands m (of_orec (orec_lifts least)) w g out apart may = absurd (out may.1.has.runs.phase)
+  stands m looks_gate w g out apart may = (refl, refl)
+  stands m (seizes alg) w g out apart may = (refl, refl)
+  stands m grants w g out apart may = (refl, refl)
+  stands m look_grants w g out apart may = (refl, refl)
+  stands m move_grants w g out apart may = (refl, refl)
+  stands m (orec_grants r b) w g out apart may = (refl, refl)
+  stands m orec_grants_all w g out apart may = (refl, refl)
+  stands m (direct_releases r t) w g out apart may = (refl, refl)
+  stands m (direct_loads a) w g out apart may = (refl, refl)
+  stands m (direct_stores a x) w g out apart may = (refl, refl)
+  stands m (direct_commits alg t) w g out apart may = absurd (out (g.install.promoted m may.1.granted).1)
+  stands m (returns alg) w g out apart may = (refl, refl)
   stands m hears w g out apart may = (refl, refl)
   stands m loads_end w g out apart may = (refl, refl)
 
@@ -56,9 +115,58 @@ module _ (good : (ℕ → ℕ) → Type 0) (c : Config) where
   pub rest-lasts : RestLasts good c
   rest-lasts n w [] g q others allowed = (quiet-rests good c n w g q, refl, refl)
   rest-lasts n w (s ∷ ss) g q others allowed =
-      let rest = others-rest c.callers w n q.closing q.checked g.gate s.0 others.0 in
+      let rest = others-rest c.callers w n q.checked g.gate s.0 others.0 in
       let out : (w.views s.0).gate.phase ≡ In → ⊥ = λ e. (let p : false ≡ true = sym (ap rests e) ∙ rest in cc) in
       let apart : (w.views s.0).gate.phase ≡ Closing → ⊥ = λ e. (let p : false ≡ true = sym (ap rests e) ∙ rest in cc) in
       let here = stands s.0 s.1 w g out apart allowed.0 in
-      let on = rest-lasts n (world_after (core_kind s.0 s.1) s.0 w) ss (one_step good c s.0 s.1 w g allowed.0) (quiet_after n s.0 s.1 w others.0 q) others.1 allowed.1 in
+      let on = rest-lasts n (world_after (core_kind s.0 s.1) s.0 w) ss (one_step good c s.0 s.1 w g allowed.0).0 (quiet_after n s.0 s.1 w others.0 q) others.1 allowed.1 in
+      (on.0, on.1 ∙ here.0, on.2 ∙ here.1)
+
+  -- the promoter's view stays
+  promoting_after : (n m : ℕ) (s : CoreStep) (w : World) → m ≢ n → IsPromoting c n w → IsPromoting c n (world_after (core_kind m s) m w)
+  promoting_after n m s w other p =
+      let same : (world_after (core_kind m s) m w).views n ≡ w.views n = put-else w.views m n (view_after (core_kind m s) w (w.views m) (answer (core_kind m s) w)) (λ e. other (sym e)) in record {
+        phase = ap (λ (v : View). v.gate.phase) same ∙ p.phase;
+        holds = ap (λ (v : View). v.gate.holds) same ∙ p.holds;
+        checked = subst (λ (v : View). (k : ℕ) → k < c.callers → k ≢ n → member v.gate.checked k ≡ true) (sym same) p.checked;
+        inside = subst (λ (v : View). IsInsideOf v) (sym same) p.inside;
+        apart = ap (λ (v : View). v.owned.inside) same ∙ p.apart;
+        reads = ap (λ (v : View). v.tml.writer) same ∙ p.reads;
+        unlocked = ap (λ (v : View). v.lock.taken) same ∙ p.unlocked;
+        uncommitted = ap (λ (v : View). v.ring_commit.committed) same ∙ p.uncommitted;
+      }
+
+  pub promoting-lasts : PromotingLasts good c
+  promoting-lasts n w [] g p others allowed = (promoting-rests good c n w g p, refl, refl)
+  promoting-lasts n w (s ∷ ss) g p others allowed =
+      let rest = others-rest c.callers w n p.checked g.gate s.0 others.0 in
+      let out : (w.views s.0).gate.phase ≡ In → ⊥ = λ e. (let p : false ≡ true = sym (ap rests e) ∙ rest in cc) in
+      let apart : (w.views s.0).gate.phase ≡ Closing → ⊥ = λ e. (let p : false ≡ true = sym (ap rests e) ∙ rest in cc) in
+      let here = stands s.0 s.1 w g out apart allowed.0 in
+      let on = promoting-lasts n (world_after (core_kind s.0 s.1) s.0 w) ss (one_step good c s.0 s.1 w g allowed.0).0 (promoting_after n s.0 s.1 w others.0 p) others.1 allowed.1 in
+      (on.0, on.1 ∙ here.0, on.2 ∙ here.1)
+
+  -- and that of a promoter under the records
+  orec_promoting_after : (n m : ℕ) (s : CoreStep) (w : World) → m ≢ n → IsOrecPromoting c n w → IsOrecPromoting c n (world_after (core_kind m s) m w)
+  orec_promoting_after n m s w other p =
+      let same : (world_after (core_kind m s) m w).views n ≡ w.views n = put-else w.views m n (view_after (core_kind m s) w (w.views m) (answer (core_kind m s) w)) (λ e. other (sym e)) in record {
+        phase = ap (λ (v : View). v.gate.phase) same ∙ p.phase;
+        algorithm = ap (λ (v : View). has_records v.gate.algorithm) same ∙ p.algorithm;
+        holds = ap (λ (v : View). v.gate.holds) same ∙ p.holds;
+        checked = subst (λ (v : View). (k : ℕ) → k < c.callers → k ≢ n → member v.gate.checked k ≡ true) (sym same) p.checked;
+        inside = ap (λ (v : View). v.owned.inside) same ∙ p.inside;
+        open_yet = subst (λ (v : View). v.gate.granted ≡ false → v.owned.committed ≡ false) (sym same) p.open_yet;
+        reads = ap (λ (v : View). v.tml.writer) same ∙ p.reads;
+        unlocked = ap (λ (v : View). v.lock.taken) same ∙ p.unlocked;
+        uncommitted = ap (λ (v : View). v.ring_commit.committed) same ∙ p.uncommitted;
+      }
+
+  pub orec-promoting-lasts : OrecPromotingLasts good c
+  orec-promoting-lasts n w [] g p others allowed = (orec-promoting-rests good c n w g p, refl, refl)
+  orec-promoting-lasts n w (s ∷ ss) g p others allowed =
+      let rest = others-rest c.callers w n p.checked g.gate s.0 others.0 in
+      let out : (w.views s.0).gate.phase ≡ In → ⊥ = λ e. (let p : false ≡ true = sym (ap rests e) ∙ rest in cc) in
+      let apart : (w.views s.0).gate.phase ≡ Closing → ⊥ = λ e. (let p : false ≡ true = sym (ap rests e) ∙ rest in cc) in
+      let here = stands s.0 s.1 w g out apart allowed.0 in
+      let on = orec-promoting-lasts n (world_after (core_kind s.0 s.1) s.0 w) ss (one_step good c s.0 s.1 w g allowed.0).0 (orec_promoting_after n s.0 s.1 w others.0 p) others.1 allowed.1 in
       (on.0, on.1 ∙ here.0, on.2 ∙ here.1)

@@ -1,5 +1,5 @@
 -- The table at the opening meets the rule.
-use Rattle.std.proofs.Common.{◌≡◌, ℕ, zero, suc, ◌+◌, ◌≤◌, List, [], ◌∷◌, Bool, true, false, length, replicate, get_or, refl, sym, ap, ◌∙◌, subst, arith, le_refl, inl, inr}
+use Rattle.std.proofs.Common.{◌≡◌, ℕ, zero, suc, ◌≤◌, List, [], ◌∷◌, Bool, true, false, replicate, get_or, set, refl, sym, ap, ◌∙◌, subst, arith, le_refl, inl, inr}
 use Rattle.std.proofs.lemmas.List.{length-replicate}
 use Rattle.std.proofs.lemmas.Bool.Decides.{nat_tests}
 use Rattle.std.specs.Prelude.{nat_le, ◌&&◌, if◌then◌else◌, Some, None}
@@ -8,8 +8,8 @@ use lib.ListN.{get_elem?}
 use Rattle.atomic_table.specs.Table.{opening}
 use Rattle.rule_base.specs.declared.layout.At.{At}
 use Rattle.rule_base.specs.declared.layout.At.TheVariants.{Clock, Lock, Gate, Base, Done, Status, Record, Slot, Heap}
-use Rattle.rule_base.specs.declared.layout.Config.{Config}
-use Rattle.rule_base.specs.declared.layout.TheConstants.{MAX_WORDS, MAX_RECORDS, MIN_RING, MAX_RING, MAX_CALLERS, MAX_LOG, CLOCK_LIMIT}
+use Rattle.stm_model.specs.declared.config.Config.{Config}
+use Rattle.stm_model.specs.declared.config.TheConstants.{MAX_WORDS, MAX_RECORDS, MIN_RING, MAX_RING, MAX_CALLERS, MAX_LOG, CLOCK_LIMIT}
 use Rattle.rule_base.specs.declared.seats.Role.TheVariants.{Dealer, Note}
 use Rattle.rule_base.specs.declared.seats.SeatView.{SeatView}
 use Rattle.rule_base.specs.BridgeLemmas.{words_of-zeros}
@@ -18,9 +18,11 @@ use Rattle.rule_base.specs.InstallRule.{install_scene, InstallRule}
 use Rattle.rule_base.specs.RecordRule.{record_scene, RecordRule}
 use Rattle.rule_base.specs.ListLemmas.{contains-none}
 use Rattle.rule_base.specs.Opening.{first_view, opening_world}
-use Rattle.rule_base.specs.Places.{IsConfig, offset, size, InRange, ring_words}
+use Rattle.rule_base.specs.Places.{offset, size, InRange}
+use Rattle.stm_model.specs.Configs.{IsConfig}
 use Rattle.rule_base.specs.Seating.{Claims, Seats}
-use Rattle.rule_base.specs.World.{Lies, fetch}
+use Rattle.rule_base.specs.WordLemmas.{lies-write}
+use Rattle.rule_base.specs.World.{World, Lies, fetch}
 use Rattle.rule_seq.specs.CglOpening.{cgl_world-opening}
 use Rattle.stm_rule.specs.declared.refusal.NewError.TheVariants.{Words, Records, Ring, Callers, Logs, Memory}
 use Rattle.stm_rule.specs.declared.refusal.NewError.TheVariants as faults
@@ -35,30 +37,34 @@ zeros_at zero k = refl
 zeros_at (suc n) zero = refl
 zeros_at (suc n) (suc k) = zeros_at n k
 
--- behind the first five words there are zeros
-past_five : (c : Config) (i k : ℕ) → i ≡ 5 + k → get_or (opening_words c) i 0 ≡ 0
-past_five c i k e = let s : i ≡ suc (suc (suc (suc (suc k)))) = omega arith in
-    ap (λ j. get_or (opening_words c) j 0) s ∙ zeros_at (c.callers + c.records + ring_words c + c.words) k
+-- the opening before the three words that aren't 0 are stored
+abbrev zero_world : Config → World
+zero_world c = record (opening_world c) { clock = 0; base = 0; done = 0 }
 
-pub length_opening : (c : Config) → length (opening_words c) ≡ size c
-length_opening c = let l : length {A = ℕ} (replicate (c.callers + c.records + ring_words c + c.words) 0) ≡ c.callers + c.records + ring_words c + c.words = length-replicate (c.callers + c.records + ring_words c + c.words) 0 in omega arith
+zeros_lie : (c : Config) → Lies c (zero_world c) (replicate (size c) 0)
+zeros_lie c = record { long = length-replicate (size c) 0; each = each }
+  where
+    each : (p : At) → InRange c p → get_or (replicate (size c) 0) (offset c p) 0 ≡ fetch (zero_world c) p
+    each Clock r = zeros_at (size c) (offset c Clock)
+    each Lock r = zeros_at (size c) (offset c Lock)
+    each Gate r = zeros_at (size c) (offset c Gate)
+    each Base r = zeros_at (size c) (offset c Base)
+    each Done r = zeros_at (size c) (offset c Done)
+    each (Status k) r = zeros_at (size c) (offset c (Status k))
+    each (Record i) r = zeros_at (size c) (offset c (Record i))
+    each (Slot i) r = zeros_at (size c) (offset c (Slot i))
+    each (Heap a) r = zeros_at (size c) (offset c (Heap a))
 
 pub opening_lies : (c : Config) → Lies c (opening_world c) (opening_words c)
-opening_lies c = record { long = length_opening c; each = each }
-  where
-    each : (p : At) → InRange c p → get_or (opening_words c) (offset c p) 0 ≡ fetch (opening_world c) p
-    each Clock r = refl
-    each Lock r = refl
-    each Gate r = refl
-    each Base r = refl
-    each Done r = refl
-    each (Status k) r = past_five c (5 + k) k refl
-    each (Record i) r = past_five c (5 + c.callers + i) (c.callers + i) (omega arith)
-    each (Slot i) r = past_five c (5 + c.callers + c.records + i) (c.callers + c.records + i) (omega arith)
-    each (Heap a) r = past_five c (5 + c.callers + c.records + ring_words c + a) (c.callers + c.records + ring_words c + a) (omega arith)
+opening_lies c =
+    let at_clock = lies-write c (zero_world c) (replicate (size c) 0) Clock c.clock (zeros_lie c) tt in
+    let at_base = lies-write c (record (zero_world c) { clock = c.clock }) (set (replicate (size c) 0) (offset c Clock) c.clock) Base c.clock at_clock tt in
+    lies-write c (record (zero_world c) { clock = c.clock; base = c.clock }) (set (set (replicate (size c) 0) (offset c Clock) c.clock) (offset c Base) c.clock) Done c.clock at_base tt
 
-opening_gate : (c : Config) → GateRule c.callers (gate_scene (opening_world c))
-opening_gate c = record {
+opening_gate : (c : Config) → IsConfig c → GateRule c.callers (gate_scene (opening_world c))
+opening_gate c config = record {
+  status = λ k. refl;
+  absent = λ k e. refl;
   quiet = λ k e. refl;
   mine = λ n e. absurd cc;
   owner = λ n e. absurd (omega arith);
@@ -70,14 +76,17 @@ opening_gate c = record {
   held = λ n e. absurd cc;
   formed = refl;
   aimed = λ n e. absurd cc;
+  few = (let l = config.callers.1 in omega arith);
   far = λ n l. refl;
 }
 
-opening_install : (c : Config) → InstallRule c.callers (install_scene (opening_world c))
+opening_install : (c : Config) → InstallRule c (install_scene (opening_world c))
 opening_install c = record {
   base = le_refl c.clock;
   done = le_refl c.clock;
-  closing = λ n e. absurd cc;
+  opened = (le_refl c.clock, le_refl c.clock);
+  holding = λ n e. absurd cc;
+  promoted = λ n e. absurd cc;
   alone = λ n k e. absurd cc;
   time = λ n e. absurd cc;
   rebased = λ n e. absurd cc;
@@ -96,12 +105,13 @@ pub whole_opens : (good : (ℕ → ℕ) → Type 0) (c : Config) → IsConfig c 
 whole_opens good c config start = let w = cgl_world-opening good c config start (λ n. (first_view c).gate) in record {
   history = w.history;
   steps = w.steps;
-  gate = opening_gate c;
+  gate = opening_gate c config;
   install = opening_install c;
   records = opening_records c;
   built = refl;
   lock = w.lock;
-  cgl = λ e. w.cgl;
+  attempts = w.attempts;
+  running = w.runs;
 }
 
 only : {A : Type 0} (x : A) (j : ℕ) (y : A) → get_elem? (x ∷ []) j ≡ some y → (j ≡ 0) × (x ≡ y)

@@ -1,54 +1,77 @@
 -- A step of one family keeps the clauses of the others.
-use Rattle.std.proofs.Common.{◌≡◌, ℕ, ◌<◌, ◌≤◌, Bool, true, false, refl, sym, subst, ap, ◌∙◌, arith, le_refl}
-use Rattle.std.specs.Prelude.{if◌then◌else◌, ltb}
+use Rattle.std.proofs.Common.{◌≡◌, ℕ, ◌<◌, ◌≤◌, Bool, true, false, refl, sym, subst, ap, ◌∙◌, arith, le_refl, inl, inr, ⊎_elim}
+use Rattle.std.specs.Prelude.{if◌then◌else◌, ltb, ◌⊎◌}
 use Rattle.std.proofs.lemmas.Bool.Decides.{nat_tests}
 use Rattle.stm_model.specs.declared.alg.Alg.{Alg}
 use Rattle.stm_model.specs.declared.alg.Alg.TheVariants.{Cgl, Tml, OrecLazy, OrecEager, RingSw, Serial}
-use Rattle.rule_base.specs.declared.layout.Config.{Config}
+use Rattle.stm_model.specs.declared.config.Config.{Config}
 use Rattle.rule_base.specs.declared.views.GateView.{GateView}
-use Rattle.rule_base.specs.declared.views.LockView.{LockView}
-use Rattle.rule_base.specs.declared.views.Ownership.{Ownership}
-use Rattle.rule_base.specs.declared.views.SeenHistory.{SeenHistory}
 use Rattle.rule_base.specs.declared.views.Phase.TheVariants.{Idle, In}
 use Rattle.rule_base.specs.declared.views.View.{View}
-use Rattle.rule_base.specs.Encodings.{alg_of, has_ring}
-use Rattle.rule_base.specs.GateRule.{gate_scene, GateRule}
+use Rattle.rule_base.specs.Encodings.{alg_of}
+use Rattle.stm_model.specs.Algorithms.{has_ring, has_records, takes_lock, is_built}
+use Rattle.rule_base.specs.GateRule.{gate_scene, GateRule, may_hold}
 use Rattle.rule_base.specs.GateLaws.{gate_scene-kept}
-use Rattle.rule_base.specs.History.{touches, upto}
-use Rattle.rule_base.specs.HistoryRuleLemmas.{history-kept}
-use Rattle.rule_base.specs.InstallLaws.{install-raised, nobody-calm}
+use Rattle.rule_base.specs.History.{upto, touches}
+use Rattle.rule_base.specs.HistoryRuleLemmas.{choice-grows, history-kept}
+use Rattle.rule_base.specs.InstallLaws.{not-calm, install-raised, install-done, install_scene-kept, nobody-calm}
+use Rattle.rule_base.specs.Ranks.{rec_of, home_of}
+use Rattle.rule_base.specs.Ranks.Rec.{Taken}
 use Rattle.rule_base.specs.InstallRule.{install_scene, InstallRule}
-use Rattle.rule_base.specs.RecordLemmas.{records-after, records-stay}
+use Rattle.rule_base.specs.RecordLemmas.{records-after}
+use Rattle.rule_base.specs.Regime.{Regime, regime, named_in}
+use Rattle.rule_base.specs.Regime.Regime.{Running, Promoted}
+use Rattle.rule_base.specs.RegimeLemmas.{named-regime, regime-kept, regime-inside, regime-granted}
+use Rattle.rule_base.specs.RunScene.{RunView, run_view, RunScene, run_scene}
 use Rattle.rule_base.specs.StepsLemmas.{steps-kept}
 use Rattle.rule_base.specs.StepKinds.{StepKind, Advances, answer, view_after, world_after, StepLaw}
 use Rattle.rule_base.specs.World.{World, horizon}
-use Rattle.rule_seq.specs.CglLaws.{cgl_scene-kept}
-use Rattle.rule_seq.specs.CglRule.{cgl_view, cgl_scene, CglRule, CglWorld}
+use Rattle.rule_seq.specs.AttemptLemmas.{busy-owned, busy-tml, busy-writer, busy-ring, busy-turn, attempts-after}
+use Rattle.rule_seq.specs.AttemptRule.{is_busy}
+use Rattle.rule_seq.specs.CglRule.{CglWorld}
 use Rattle.rule_seq.specs.LockLemmas.{lock-phase}
-use Rattle.stm_rule.specs.Product.{is_built, Whole}
+use Rattle.rule_promoted.specs.PromotedRule.{Suits, DirectRuns, suit_part}
+use Rattle.rule_seq.specs.RunWorld.{RunWorld}
+use Rattle.rule_orec.specs.OrecRule.{OrecRuns, OrecWorld}
+use Rattle.rule_orec.specs.OrecSteps.{RunsOrec}
+use Rattle.rule_orec.specs.OrecLaws.{taken-rec}
+use Rattle.stm_rule.specs.Product.{Runs, Whole}
+use Rattle.stm_rule.specs.Running.{runs-fresh, runs-stays, run_scene-kept}
 
-no_ring : (a : Alg) → is_built a ≡ true → has_ring a ≡ false
-no_ring Cgl e = refl
-no_ring Tml e = refl
-no_ring OrecLazy e = refl
-no_ring OrecEager e = refl
-no_ring RingSw e = absurd cc
-no_ring Serial e = refl
+-- the number from which starts are loaded, where the algorithm stays
+pub same-horizon : (w x : World) → alg_of x.gate ≡ alg_of w.gate → w.clock ≤ x.clock → w.done ≤ x.done → horizon w ≤ horizon x
+same-horizon w x alg clock done = subst (λ (a : Alg). horizon w ≤ (if has_ring a then x.done else x.clock)) (sym alg) (choice-grows (has_ring (alg_of w.gate)) w.done w.clock x.done x.clock done clock)
 
--- starts are loaded from the clock
-pub horizon-clock : (good : (ℕ → ℕ) → Type 0) (c : Config) (w : World) → Whole good c w → horizon w ≡ w.clock
-horizon-clock good c w g = ap (λ (b : Bool). if b then w.done else w.clock) (no_ring (alg_of w.gate) g.built)
-
--- no entry, and the gate names an algorithm that is built before and after
-pub advances-built : (w x : World) → is_built (alg_of w.gate) ≡ true → is_built (alg_of x.gate) ≡ true → w.clock ≤ x.clock → x.history ≡ w.history → Advances w x
-advances-built w x before after up is = record {
-  clock = up;
-  horizon = (let a = of w before in let b = of x after in omega arith);
-  seen = λ f l. ap (λ h. upto h f) is;
-}
+-- it is at most the clock, and it is the clock where DONE is
+pub horizon-low : (w : World) → w.done ≤ w.clock → horizon w ≤ w.clock
+horizon-low w done = go (has_ring (alg_of w.gate))
   where
-    of : (y : World) → is_built (alg_of y.gate) ≡ true → horizon y ≡ y.clock
-    of y built = ap (λ (b : Bool). if b then y.done else y.clock) (no_ring (alg_of y.gate) built)
+    go : (b : Bool) → (if b then w.done else w.clock) ≤ w.clock
+    go true = done
+    go false = le_refl w.clock
+
+pub horizon-level : (w : World) → w.done ≡ w.clock → horizon w ≡ w.clock
+horizon-level w done = go (has_ring (alg_of w.gate))
+  where
+    go : (b : Bool) → (if b then w.done else w.clock) ≡ w.clock
+    go true = done
+    go false = refl
+
+pub ring-named : (a : Alg) → has_ring a ≡ true → a ≡ RingSw
+ring-named Cgl e = absurd cc
+ring-named Tml e = absurd cc
+ring-named OrecLazy e = absurd cc
+ring-named OrecEager e = absurd cc
+ring-named RingSw e = refl
+ring-named Serial e = absurd cc
+
+-- who is between no entry and its DONE, and owes no DONE as the gate's holder, has seen no more than the number from which starts are loaded
+pub front-within : (good : (ℕ → ℕ) → Type 0) (c : Config) (w : World) (n : ℕ) → Whole good c w → (w.views n).ring_commit.committed ≡ false → (w.views n).attempt.entered ≡ false → (w.views n).history.front ≤ horizon w
+front-within good c w n g early apart = go (has_ring (alg_of w.gate)) refl
+  where
+    go : (b : Bool) → has_ring (alg_of w.gate) ≡ b → (w.views n).history.front ≤ (if b then w.done else w.clock)
+    go true e = runs-fresh c (regime w) (run_scene w) n g.running (named-regime w ∙ ring-named (alg_of w.gate) e) early apart
+    go false e = (g.history.known n).front
 
 -- who has no attempt has no lock
 pub unlocked : (good : (ℕ → ℕ) → Type 0) (c : Config) (w : World) (n : ℕ) → Whole good c w → ((w.views n).gate.phase ≡ In → ⊥) → (w.views n).lock.taken ≡ false
@@ -56,6 +79,73 @@ unlocked good c w n g out = go (w.views n).lock.taken refl
   where
     go : (b : Bool) → (w.views n).lock.taken ≡ b → b ≡ false
     go true t = absurd (out (g.lock.inside n t))
+    go false t = refl
+
+-- and has no part in any algorithm
+pub idle : (good : (ℕ → ℕ) → Type 0) (c : Config) (w : World) (n : ℕ) → Whole good c w → ((w.views n).gate.phase ≡ In → ⊥) → is_busy (w.views n) ≡ false
+idle good c w n g out = go (is_busy (w.views n)) refl
+  where
+    go : (b : Bool) → is_busy (w.views n) ≡ b → b ≡ false
+    go true t = absurd (out (g.attempts.busy n t))
+    go false t = refl
+
+not-flag : (a b : Bool) → (a ≡ true → b ≡ true) → b ≡ false → a ≡ false
+not-flag true b up e = absurd (let f : true ≡ false = sym (up refl) ∙ e in cc)
+not-flag false b up e = refl
+
+pub unwritten : (good : (ℕ → ℕ) → Type 0) (c : Config) (w : World) (n : ℕ) → Whole good c w → ((w.views n).gate.phase ≡ In → ⊥) → (w.views n).tml.writer ≡ false
+unwritten good c w n g out = not-flag (w.views n).tml.writer (is_busy (w.views n)) (busy-writer (w.views n)) (idle good c w n g out)
+
+pub outside : (good : (ℕ → ℕ) → Type 0) (c : Config) (w : World) (n : ℕ) → Whole good c w → ((w.views n).gate.phase ≡ In → ⊥) → (w.views n).tml.inside ≡ false
+outside good c w n g out = not-flag (w.views n).tml.inside (is_busy (w.views n)) (busy-tml (w.views n)) (idle good c w n g out)
+
+pub outside-records : (good : (ℕ → ℕ) → Type 0) (c : Config) (w : World) (n : ℕ) → Whole good c w → ((w.views n).gate.phase ≡ In → ⊥) → (w.views n).owned.inside ≡ false
+outside-records good c w n g out = not-flag (w.views n).owned.inside (is_busy (w.views n)) (busy-owned (w.views n)) (idle good c w n g out)
+
+pub unread : (good : (ℕ → ℕ) → Type 0) (c : Config) (w : World) (n : ℕ) → Whole good c w → ((w.views n).gate.phase ≡ In → ⊥) → (w.views n).ring_read.inside ≡ false
+unread good c w n g out = not-flag (w.views n).ring_read.inside (is_busy (w.views n)) (busy-ring (w.views n)) (idle good c w n g out)
+
+pub uncommitted : (good : (ℕ → ℕ) → Type 0) (c : Config) (w : World) (n : ℕ) → Whole good c w → ((w.views n).gate.phase ≡ In → ⊥) → (w.views n).ring_commit.committed ≡ false
+uncommitted good c w n g out = not-flag (w.views n).ring_commit.committed (is_busy (w.views n)) (busy-turn (w.views n)) (idle good c w n g out)
+
+-- who may not hold the gate hasn't raised the clock as its holder
+pub unentered : (good : (ℕ → ℕ) → Type 0) (c : Config) (w : World) (n : ℕ) → Whole good c w → may_hold (w.views n).gate.phase ≡ false → (w.views n).attempt.entered ≡ true → ⊥
+unentered good c w n g out e = let f : true ≡ false = sym (g.attempts.entered n e) ∙ out in cc
+
+-- and owns no record
+pub bare : (good : (ℕ → ℕ) → Type 0) (c : Config) (w : World) (n : ℕ) → Whole good c w → ((w.views n).gate.phase ≡ In → ⊥) → (r : ℕ) → touches (w.views n).owned.held r ≡ false
+bare good c w n g out r = go (touches (w.views n).owned.held r) refl
+  where
+    go : (b : Bool) → touches (w.views n).owned.held r ≡ b → b ≡ false
+    go true t = absurd (out (g.records.inside n r t))
+    go false t = refl
+
+-- a record is owned by who holds it
+pub owner-holds : (good : (ℕ → ℕ) → Type 0) (c : Config) (w : World) → Whole good c w → (r m : ℕ) → rec_of (w.records r) ≡ Taken m → touches (w.views m).owned.held r ≡ true
+owner-holds good c w g r m e = let k = taken-rec (w.records r) m e in subst (λ (u : ℕ). touches (w.views u).owned.held r ≡ true) k.1 (g.records.owned r k.0)
+
+-- who holds none owns none
+pub none-apart : (good : (ℕ → ℕ) → Type 0) (c : Config) (w : World) (n : ℕ) → Whole good c w → ((r : ℕ) → touches (w.views n).owned.held r ≡ false) → (r : ℕ) → rec_of (w.records r) ≡ Taken n → ⊥
+none-apart good c w n g none r e = let f : true ≡ false = sym (owner-holds good c w g r n e) ∙ none r in cc
+
+-- who may not hold the gate doesn't
+pub unheld : (good : (ℕ → ℕ) → Type 0) (c : Config) (w : World) (n : ℕ) → Whole good c w → may_hold (w.views n).gate.phase ≡ false → (w.views n).gate.holds ≡ false
+unheld good c w n g out = go (w.views n).gate.holds refl
+  where
+    go : (b : Bool) → (w.views n).gate.holds ≡ b → b ≡ false
+    go true h = absurd (let e : true ≡ false = sym (g.gate.holding n h) ∙ out in cc)
+    go false h = refl
+
+-- who holds no gate isn't promoted
+pub ungranted : (good : (ℕ → ℕ) → Type 0) (c : Config) (w : World) (n : ℕ) → Whole good c w → (w.views n).gate.holds ≡ false → (w.views n).gate.granted ≡ false
+ungranted good c w n g free = (not-calm c (install_scene w) n g.install free).3
+
+-- nor is who is in no attempt
+pub ungranted-out : (good : (ℕ → ℕ) → Type 0) (c : Config) (w : World) (n : ℕ) → Whole good c w → ((w.views n).gate.phase ≡ In → ⊥) → (w.views n).gate.granted ≡ false
+ungranted-out good c w n g out = go (w.views n).gate.granted refl
+  where
+    go : (b : Bool) → (w.views n).gate.granted ≡ b → b ≡ false
+    go true t = absurd (out (g.install.promoted n t).1)
     go false t = refl
 
 -- a caller that does something is one of the callers
@@ -66,52 +156,58 @@ is-caller good c w g k busy = go (ltb k c.callers) refl
     go true q = grind (arith, nat_tests)
     go false q = absurd (busy (g.gate.far k (grind (arith, nat_tests))))
 
--- the step leaves the gate, the statuses and what the caller knows of them alone, and BASE, DONE and the records
+-- the rule of the records while an attempt of theirs isn't promoted
+pub orec-world : (good : (ℕ → ℕ) → Type 0) (c : Config) (w : World) (n : ℕ) → Whole good c w → RunsOrec (w.views n) → OrecWorld good c w
+orec-world good c w n g may = record { history = g.history; steps = g.steps; records = g.records; lock = g.lock; attempts = g.attempts; runs = by (w.views n).gate.algorithm may.algorithm (subst (λ (r : Regime). Runs c r (run_scene w)) (regime-inside c w n g.gate g.install may.phase may.plain) g.running) }
+  where
+    by : (a : Alg) → has_records a ≡ true → Runs c (Running a) (run_scene w) → OrecRuns c (run_scene w)
+    by Cgl e k = absurd cc
+    by Tml e k = absurd cc
+    by OrecLazy e k = k
+    by OrecEager e k = k
+    by RingSw e k = absurd cc
+    by Serial e k = absurd cc
+
+-- the step leaves the gate, the statuses and what the caller knows of them alone, and BASE and DONE
 pub record LeavesGate (kind : StepKind) (n : ℕ) : Type 0 where
   pub gate : (w : World) → (world_after kind n w).gate ≡ w.gate
   pub status : (w : World) → (world_after kind n w).status ≡ w.status
   pub view : (w : World) → (kind.after w (w.views n) (answer kind w)).gate ≡ (w.views n).gate
   pub marks : (w : World) → ((world_after kind n w).base ≡ w.base) × ((world_after kind n w).done ≡ w.done)
-  pub records : (w : World) → ((world_after kind n w).records ≡ w.records) × ((kind.after w (w.views n) (answer kind w)).owned ≡ (w.views n).owned)
 
--- the step leaves the memory, the clock, the lock and the records alone, and all that the caller knows but of the gate and its installs
-pub record LeavesMemory (kind : StepKind) (n : ℕ) : Type 0 where
-  pub clock : (w : World) → (world_after kind n w).clock ≡ w.clock
-  pub heap : (w : World) → ((world_after kind n w).heap ≡ w.heap) × ((world_after kind n w).lock ≡ w.lock) × ((world_after kind n w).records ≡ w.records)
+-- the step leaves the clock, the lock, the records and the history alone, and of what the caller knows the history, the rises and what it holds
+pub record LeavesCommon (kind : StepKind) (n : ℕ) : Type 0 where
+  pub words : (w : World) → ((world_after kind n w).clock ≡ w.clock) × ((world_after kind n w).lock ≡ w.lock) × ((world_after kind n w).records ≡ w.records)
   pub history : (w : World) → ((world_after kind n w).history ≡ w.history) × ((kind.after w (w.views n) (answer kind w)).history ≡ (w.views n).history)
   pub steps : (w : World) → ((kind.after w (w.views n) (answer kind w)).steps.trail ≡ (w.views n).steps.trail) × ((kind.after w (w.views n) (answer kind w)).steps.rises ≡ (w.views n).steps.rises)
-  pub attempt : (w : World) → ((kind.after w (w.views n) (answer kind w)).attempt ≡ (w.views n).attempt) × ((kind.after w (w.views n) (answer kind w)).lock ≡ (w.views n).lock) × ((kind.after w (w.views n) (answer kind w)).owned ≡ (w.views n).owned)
+  pub held : (w : World) → ((kind.after w (w.views n) (answer kind w)).lock.taken ≡ (w.views n).lock.taken) × ((kind.after w (w.views n) (answer kind w)).owned.held ≡ (w.views n).owned.held)
+  pub busy : (w : World) → is_busy (kind.after w (w.views n) (answer kind w)) ≡ is_busy (w.views n)
 
-module _ (good : (ℕ → ℕ) → Type 0) (c : Config) (kind : StepKind) (n : ℕ) (leaves : LeavesMemory kind n) (w : World) where
-  -- the clauses of CGL after a step at the gate that leaves them alone
-  pub cgl-stays : CglRule c.words (cgl_scene w) → CglRule c.words (cgl_scene (world_after kind n w))
-  cgl-stays r = subst (CglRule c.words) (sym (cgl_scene-kept w x n v refl (leaves.clock w) (leaves.heap w).1 (leaves.heap w).0 (leaves.history w).0 own)) r
-    where
-      x : World
-      x = world_after kind n w
+-- the step leaves all alone that the clauses of what runs see
+pub record LeavesRuns (kind : StepKind) (n : ℕ) : Type 0 where
+  pub common : LeavesCommon kind n
+  pub marks : (w : World) → ((world_after kind n w).base ≡ w.base) × ((world_after kind n w).done ≡ w.done)
+  pub memory : (w : World) → ((world_after kind n w).heap ≡ w.heap) × ((world_after kind n w).slots ≡ w.slots)
+  pub view : (w : World) → run_view (kind.after w (w.views n) (answer kind w)) ≡ run_view (w.views n)
 
-      v : View
-      v = view_after kind w (w.views n) (answer kind w)
-
-      own : cgl_view v ≡ cgl_view (w.views n)
-      own = λ i. record { attempt = (leaves.attempt w).0 i; lock = (leaves.attempt w).1 i; front = ap (λ (h : SeenHistory). h.front) (leaves.history w).1 i }
-
-  -- a step at the gate of a caller that has no lock and owns no record
-  pub by-gate : Whole good c w → (w.views n).lock.taken ≡ false → ((r : ℕ) → touches (w.views n).owned.held r ≡ true → ⊥) → is_built (alg_of (world_after kind n w).gate) ≡ true
-      → (alg_of (world_after kind n w).gate ≡ Cgl → CglRule c.words (cgl_scene (world_after kind n w))) → GateRule c.callers (gate_scene (world_after kind n w)) → InstallRule c.callers (install_scene (world_after kind n w))
+module _ (good : (ℕ → ℕ) → Type 0) (c : Config) (kind : StepKind) (n : ℕ) (w : World) where
+  -- a step at the gate, after which these clauses stand of what runs
+  pub by-running : LeavesCommon kind n → Whole good c w → ((w.views n).gate.phase ≡ In → (kind.after w (w.views n) (answer kind w)).gate.phase ≡ In) → ((kind.after w (w.views n) (answer kind w)).attempt.entered ≡ true → may_hold (kind.after w (w.views n) (answer kind w)).gate.phase ≡ true) → horizon w ≤ horizon (world_after kind n w) → is_built (alg_of (world_after kind n w).gate) ≡ true
+      → GateRule c.callers (gate_scene (world_after kind n w)) → InstallRule c (install_scene (world_after kind n w)) → Runs c (regime (world_after kind n w)) (run_scene (world_after kind n w))
       → Whole good c (world_after kind n w) × Advances w (world_after kind n w)
-  by-gate g free bare built cgl gate install = (
+  by-running leaves g phase entered level built gate install running = (
     record {
-      history = history-kept good c w x n v refl (leaves.clock w) (leaves.history w).0 (leaves.history w).1 g.history;
-      steps = steps-kept c kind n w (leaves.clock w) (leaves.steps w).0 (leaves.steps w).1 g.steps;
+      history = history-kept good c w x n v refl (leaves.words w).0 (leaves.history w).0 (leaves.history w).1 g.history;
+      steps = steps-kept c kind n w (leaves.words w).0 (leaves.steps w).0 (leaves.steps w).1 g.steps;
       gate = gate;
       install = install;
-      records = records-after w x n v refl up (leaves.heap w).2 (ap (λ (q : Ownership). q.held) (leaves.attempt w).2) (λ r t. absurd (bare r t)) g.records;
+      records = records-after w x n v refl up (leaves.words w).2 (leaves.held w).1 (λ r t. phase (g.records.inside n r t)) g.records;
+      lock = lock-phase w x n v refl (leaves.words w).1 (leaves.held w).0 (λ t. phase (g.lock.inside n (sym (leaves.held w).0 ∙ t))) g.lock;
       built = built;
-      lock = lock-phase w x n v refl (leaves.heap w).1 (ap (λ (q : LockView). q.taken) (leaves.attempt w).1) (λ t. absurd (let e : true ≡ false = sym t ∙ (ap (λ (q : LockView). q.taken) (leaves.attempt w).1 ∙ free) in cc)) g.lock;
-      cgl = cgl;
+      attempts = attempts-after w x n v refl (λ e. phase (g.attempts.busy n (sym (leaves.busy w) ∙ e))) entered g.attempts;
+      running = running;
     },
-    advances-built w x g.built built up (leaves.history w).0,
+    record { clock = up; horizon = level; seen = λ f l. ap (λ h. upto h f) (leaves.history w).0 },
   )
     where
       x : World
@@ -121,29 +217,50 @@ module _ (good : (ℕ → ℕ) → Type 0) (c : Config) (kind : StepKind) (n : �
       v = view_after kind w (w.views n) (answer kind w)
 
       up : w.clock ≤ x.clock
-      up = subst (λ (k : ℕ). w.clock ≤ k) (sym (leaves.clock w)) (le_refl w.clock)
+      up = subst (λ (k : ℕ). w.clock ≤ k) (sym (leaves.words w).0) (le_refl w.clock)
 
--- who is in no attempt owns no record
-pub disowned : (good : (ℕ → ℕ) → Type 0) (c : Config) (w : World) (n : ℕ) → Whole good c w → ((w.views n).gate.phase ≡ In → ⊥) → (r : ℕ) → touches (w.views n).owned.held r ≡ true → ⊥
-disowned good c w n g out r t = out (g.records.inside n r t)
+  -- a step at the gate that leaves what runs alone
+  pub by-gate : LeavesRuns kind n → Whole good c w → ((w.views n).gate.phase ≡ In → (kind.after w (w.views n) (answer kind w)).gate.phase ≡ In) → ((w.views n).attempt.entered ≡ true → may_hold (kind.after w (w.views n) (answer kind w)).gate.phase ≡ true)
+      → GateRule c.callers (gate_scene (world_after kind n w)) → InstallRule c (install_scene (world_after kind n w)) → regime (world_after kind n w) ≡ regime w
+      → Whole good c (world_after kind n w) × Advances w (world_after kind n w)
+  by-gate leaves g phase entered gate install same = by-running leaves.common g phase (λ e. entered (sym (ap (λ (u : RunView). u.attempt.entered) (leaves.view w)) ∙ e))
+      (same-horizon w x (sym (named-regime x) ∙ (ap named_in same ∙ named-regime w)) (subst (λ (k : ℕ). w.clock ≤ k) (sym (leaves.common.words w).0) (le_refl w.clock)) (subst (λ (k : ℕ). w.done ≤ k) (sym (leaves.marks w).1) (le_refl w.done)))
+      (ap is_built (sym (named-regime x) ∙ (ap named_in same ∙ named-regime w)) ∙ g.built) gate install
+      (runs-stays c (regime w) (regime x) (run_scene w) (run_scene x) same
+      (run_scene-kept w x n v refl (leaves.common.words w).0 (leaves.common.words w).1 (leaves.marks w).0 (leaves.marks w).1 (leaves.common.words w).2 (leaves.memory w).1 (leaves.memory w).0 (leaves.common.history w).0 (leaves.view w)) g.running)
+    where
+      x : World
+      x = world_after kind n w
 
--- a step of an attempt of CGL
-pub by-cgl : (good : (ℕ → ℕ) → Type 0) (c : Config) (kind : StepKind) (shows : World → View → ℕ → Type 0) (n : ℕ) (May : View → Type 0) → LeavesGate kind n → ((v : View) → May v → (v.gate.phase ≡ In) × (v.gate.algorithm ≡ Cgl))
-    → StepLaw (CglWorld good c) kind shows n May → StepLaw (Whole good c) kind shows n May
-by-cgl good c kind shows n May leaves inside law w g may =
-    let i = inside (w.views n) may in
-    let named : alg_of w.gate ≡ Cgl = g.gate.named n i.0 ∙ i.1 in
-    let o = law w (record { history = g.history; steps = g.steps; lock = g.lock; cgl = g.cgl named }) may in record {
+      v : View
+      v = view_after kind w (w.views n) (answer kind w)
+
+-- which clauses of what runs a step of an attempt keeps
+pub record Opens (good : (ℕ → ℕ) → Type 0) (c : Config) (kind : StepKind) (shows : World → View → ℕ → Type 0) (n : ℕ) (May : View → Type 0) (w : World) : Type 0 where
+  pub runs : Regime
+  pub is : regime w ≡ runs
+  pub law : StepLaw (RunWorld (Runs c runs) good c) kind shows n May
+  -- what the gate's holders know outlasts the step
+  pub stands : ((m : ℕ) → (w.views m).gate.calm ≡ true → ⊥) ⊎ ((world_after kind n w).clock ≡ w.clock)
+
+-- a step of an attempt, of whichever algorithm, promoted or not
+pub by-attempt : (good : (ℕ → ℕ) → Type 0) (c : Config) (kind : StepKind) (shows : World → View → ℕ → Type 0) (n : ℕ) (May : View → Type 0) → LeavesGate kind n → ((w : World) → Whole good c w → May (w.views n) → Opens good c kind shows n May w) → StepLaw (Whole good c) kind shows n May
+by-attempt good c kind shows n May leaves opens w g may =
+    let p = opens w g may in
+    let o = p.law w (record { history = g.history; steps = g.steps; records = g.records; lock = g.lock; attempts = g.attempts; runs = subst (λ (r : Regime). Runs c r (run_scene w)) p.is g.running }) may in record {
       rule = record {
         history = o.rule.history;
         steps = o.rule.steps;
         gate = subst (GateRule c.callers) (sym (gate_scene-kept w x n v refl (leaves.status w) (leaves.gate w) (leaves.view w))) g.gate;
-        install = install-raised c.callers w x n v refl o.advances.clock (leaves.marks w).0 (leaves.marks w).1 (leaves.view w)
-            (nobody-calm c.callers w n i.0 g.gate g.install (is-caller good c w g n (λ idle. let e : In ≡ Idle = sym i.0 ∙ idle in cc))) g.install;
-        records = records-stay w x n v refl o.advances.clock (leaves.records w).0 (ap (λ (q : Ownership). q.held) (leaves.records w).1) (ap (λ (q : GateView). q.phase) (leaves.view w)) g.records;
-        built = subst (λ (k : ℕ). is_built (alg_of k) ≡ true) (sym (leaves.gate w)) g.built;
+        install = ⊎_elim
+            (λ nobody. install-raised c w x n v refl o.advances.clock (leaves.marks w).0 (leaves.marks w).1 (leaves.view w) nobody g.install)
+            (λ same. subst (InstallRule c) (sym (install_scene-kept w x n v refl same (leaves.marks w).0 (leaves.marks w).1 (leaves.view w))) g.install)
+            p.stands;
+        records = o.rule.records;
+        built = ap (λ (k : ℕ). is_built (alg_of k)) (leaves.gate w) ∙ g.built;
         lock = o.rule.lock;
-        cgl = λ e. o.rule.cgl;
+        attempts = o.rule.attempts;
+        running = subst (λ (r : Regime). Runs c r (run_scene x)) (sym (regime-kept w x n v refl (leaves.gate w) (ap (λ (q : GateView). q.granted) (leaves.view w)) ∙ p.is)) o.rule.runs;
       };
       advances = o.advances;
       shown = o.shown;
@@ -154,3 +271,115 @@ by-cgl good c kind shows n May leaves inside law w g may =
 
     v : View
     v = view_after kind w (w.views n) (answer kind w)
+
+module _ (good : (ℕ → ℕ) → Type 0) (c : Config) (kind : StepKind) (shows : World → View → ℕ → Type 0) (n : ℕ) (May : View → Type 0) where
+  -- nobody knows the clock as the gate's holder while an attempt runs that doesn't know it so
+  plain : (w : World) → Whole good c w → (w.views n).gate.phase ≡ In → (w.views n).gate.calm ≡ false → (m : ℕ) → (w.views m).gate.calm ≡ true → ⊥
+  plain w g inside free = nobody-calm c w n inside free g.gate g.install (is-caller good c w g n (λ idle. let e : In ≡ Idle = sym inside ∙ idle in cc))
+
+  -- the step leaves the clock alone, or its caller doesn't hold the gate, or doesn't know the clock as its holder
+  abbrev pub Calms : Type 0
+  Calms = (w : World) → Whole good c w → May (w.views n) → (((w.views n).gate.holds ≡ false) ⊎ ((w.views n).gate.calm ≡ false)) ⊎ ((world_after kind n w).clock ≡ w.clock)
+
+  calms : (w : World) → Whole good c w → (w.views n).gate.phase ≡ In → (((w.views n).gate.holds ≡ false) ⊎ ((w.views n).gate.calm ≡ false)) ⊎ ((world_after kind n w).clock ≡ w.clock) → ((m : ℕ) → (w.views m).gate.calm ≡ true → ⊥) ⊎ ((world_after kind n w).clock ≡ w.clock)
+  calms w g inside e = ⊎_elim (λ k. inl (⊎_elim (λ free. plain w g inside (not-calm c (install_scene w) n g.install free).0) (λ free. plain w g inside free) k)) (λ same. inr same) e
+
+  -- under CGL and Serial nothing is promoted
+  never : (w : World) → Whole good c w → takes_lock (w.views n).gate.algorithm ≡ true → (w.views n).gate.granted ≡ false
+  never w g single = go (w.views n).gate.granted refl
+    where
+      by : (a : Alg) → takes_lock a ≡ true → Suits (home_of c) a (suit_part n (run_scene w)) → ⊥
+      by Cgl e k = k
+      by Tml e k = cc
+      by OrecLazy e k = cc
+      by OrecEager e k = cc
+      by RingSw e k = cc
+      by Serial e k = k
+
+      go : (b : Bool) → (w.views n).gate.granted ≡ b → b ≡ false
+      go true e = absurd (let k : DirectRuns c (w.views n).gate.algorithm n (run_scene w) = subst (λ (r : Regime). Runs c r (run_scene w)) (regime-granted c w n g.gate g.install e) g.running in by (w.views n).gate.algorithm single k.suits)
+      go false e = refl
+
+  -- a step of CGL or Serial
+  pub by-cgl : LeavesGate kind n → Calms → ((v : View) → May v → (v.gate.phase ≡ In) × (takes_lock v.gate.algorithm ≡ true)) → StepLaw (CglWorld good c) kind shows n May → StepLaw (Whole good c) kind shows n May
+  by-cgl leaves clock inside law = by-attempt good c kind shows n May leaves opens
+    where
+      opens : (w : World) → Whole good c w → May (w.views n) → Opens good c kind shows n May w
+      opens w g may =
+          let i = inside (w.views n) may in
+          let free = never w g i.1 in
+          by (w.views n).gate.algorithm i.1 (regime-inside c w n g.gate g.install i.0 free) (calms w g i.0 (clock w g may))
+        where
+          by : (a : Alg) → takes_lock a ≡ true → regime w ≡ Running a → ((m : ℕ) → (w.views m).gate.calm ≡ true → ⊥) ⊎ ((world_after kind n w).clock ≡ w.clock) → Opens good c kind shows n May w
+          by Cgl e is stands = record { runs = Running Cgl; is = is; law = law; stands = stands }
+          by Tml e is stands = absurd cc
+          by OrecLazy e is stands = absurd cc
+          by OrecEager e is stands = absurd cc
+          by RingSw e is stands = absurd cc
+          by Serial e is stands = record { runs = Running Serial; is = is; law = law; stands = stands }
+
+  -- a step of OrecLazy or OrecEager
+  pub by-orec : LeavesGate kind n → Calms → ((v : View) → May v → RunsOrec v) → StepLaw (OrecWorld good c) kind shows n May → StepLaw (Whole good c) kind shows n May
+  by-orec leaves clock inside law = by-attempt good c kind shows n May leaves opens
+    where
+      opens : (w : World) → Whole good c w → May (w.views n) → Opens good c kind shows n May w
+      opens w g may =
+          let i = inside (w.views n) may in
+          by (w.views n).gate.algorithm i.algorithm (regime-inside c w n g.gate g.install i.phase i.plain) (calms w g i.phase (clock w g may))
+        where
+          by : (a : Alg) → has_records a ≡ true → regime w ≡ Running a → ((m : ℕ) → (w.views m).gate.calm ≡ true → ⊥) ⊎ ((world_after kind n w).clock ≡ w.clock) → Opens good c kind shows n May w
+          by Cgl e is stands = absurd cc
+          by Tml e is stands = absurd cc
+          by OrecLazy e is stands = record { runs = Running OrecLazy; is = is; law = law; stands = stands }
+          by OrecEager e is stands = record { runs = Running OrecEager; is = is; law = law; stands = stands }
+          by RingSw e is stands = absurd cc
+          by Serial e is stands = absurd cc
+
+  -- a step of one algorithm that isn't promoted
+  pub by-running-of : (a : Alg) → LeavesGate kind n → Calms → ((v : View) → May v → (v.gate.phase ≡ In) × (v.gate.algorithm ≡ a) × (v.gate.granted ≡ false)) → StepLaw (RunWorld (Runs c (Running a)) good c) kind shows n May → StepLaw (Whole good c) kind shows n May
+  by-running-of a leaves clock inside law = by-attempt good c kind shows n May leaves (λ w g may.
+      let i = inside (w.views n) may in
+      record { runs = Running a; is = regime-inside c w n g.gate g.install i.0 i.2 ∙ ap Running i.1; law = law; stands = calms w g i.0 (clock w g may) })
+
+  -- a step of a promoted attempt that leaves the clock alone
+  pub by-direct : LeavesGate kind n → ((w : World) → (world_after kind n w).clock ≡ w.clock) → ((v : View) → May v → v.gate.granted ≡ true) → ((a : Alg) → StepLaw (RunWorld (Runs c (Promoted a n)) good c) kind shows n May) → StepLaw (Whole good c) kind shows n May
+  by-direct leaves clock inside law = by-attempt good c kind shows n May leaves (λ w g may.
+      record { runs = Promoted (w.views n).gate.algorithm n; is = regime-granted c w n g.gate g.install (inside (w.views n) may); law = law (w.views n).gate.algorithm; stands = inr (clock w) })
+
+-- a step by which an attempt that isn't promoted raises DONE, while nobody knows the clock as the gate's holder
+pub by-done : (good : (ℕ → ℕ) → Type 0) (c : Config) (kind : StepKind) (shows : World → View → ℕ → Type 0) (n : ℕ) (May : View → Type 0) (a : Alg) → ((w : World) → ((world_after kind n w).gate ≡ w.gate) × ((world_after kind n w).status ≡ w.status) × ((kind.after w (w.views n) (answer kind w)).gate ≡ (w.views n).gate) × ((world_after kind n w).base ≡ w.base)) → has_ring a ≡ true
+    → ((v : View) → May v → (v.gate.phase ≡ In) × (v.gate.algorithm ≡ a) × (v.gate.granted ≡ false) × (v.gate.calm ≡ false)) → ((s : RunScene) → Runs c (Running a) s → s.done ≤ s.clock) → StepLaw (RunWorld (Runs c (Running a)) good c) kind shows n May → StepLaw (Whole good c) kind shows n May
+by-done good c kind shows n May a leaves ring inside low law w g may =
+    let i = inside (w.views n) may in
+    let is : regime w ≡ Running a = regime-inside c w n g.gate g.install i.0 i.2 ∙ ap Running i.1 in
+    let o = law w (record { history = g.history; steps = g.steps; records = g.records; lock = g.lock; attempts = g.attempts; runs = subst (λ (r : Regime). Runs c r (run_scene w)) is g.running }) may in record {
+      rule = record {
+        history = o.rule.history;
+        steps = o.rule.steps;
+        gate = subst (GateRule c.callers) (sym (gate_scene-kept w x n v refl (leaves w).1 (leaves w).0 (leaves w).2)) g.gate;
+        install = install-done c w x n v refl o.advances.clock (leaves w).3 (low (run_scene x) o.rule.runs) (up o.advances.horizon) (leaves w).2
+            (nobody-calm c w n i.0 i.3 g.gate g.install (is-caller good c w g n (λ idle. let e : In ≡ Idle = sym i.0 ∙ idle in cc))) g.install;
+        records = o.rule.records;
+        built = ap (λ (k : ℕ). is_built (alg_of k)) (leaves w).0 ∙ g.built;
+        lock = o.rule.lock;
+        attempts = o.rule.attempts;
+        running = subst (λ (r : Regime). Runs c r (run_scene x)) (sym (regime-kept w x n v refl (leaves w).0 (ap (λ (q : GateView). q.granted) (leaves w).2) ∙ is)) o.rule.runs;
+      };
+      advances = o.advances;
+      shown = o.shown;
+    }
+  where
+    x : World
+    x = world_after kind n w
+
+    v : View
+    v = view_after kind w (w.views n) (answer kind w)
+
+    named : has_ring (alg_of w.gate) ≡ true
+    named = let i = inside (w.views n) may in ap has_ring (g.gate.named n i.0 ∙ i.1) ∙ ring
+
+    up : horizon w ≤ horizon x → w.done ≤ x.done
+    up l =
+        let before : horizon w ≡ w.done = ap (λ (b : Bool). if b then w.done else w.clock) named in
+        let after : horizon x ≡ x.done = ap (λ (b : Bool). if b then x.done else x.clock) (ap (λ (k : ℕ). has_ring (alg_of k)) (leaves w).0 ∙ named) in
+        omega arith

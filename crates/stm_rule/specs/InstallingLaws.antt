@@ -1,83 +1,160 @@
 -- Each kind of step of who installs an algorithm keeps the one rule.
-use Rattle.std.proofs.Common.{◌≡◌, ℕ, ◌+◌, ◌<◌, ◌≤◌, true, false, arith, refl, sym, subst, ap, ◌∙◌}
+use Rattle.std.proofs.Common.{◌≡◌, ℕ, ◌+◌, ◌<◌, ◌≤◌, List, Bool, true, false, arith, refl, sym, subst, ap, ◌∙◌, le_refl, le_trans}
 use Rattle.std.specs.Prelude.{◌%◌}
 use Rattle.stm_model.specs.declared.alg.Alg.{Alg}
-use Rattle.rule_base.specs.declared.layout.Config.{Config}
-use Rattle.rule_base.specs.declared.layout.TheConstants.{CLOCK_LIMIT}
-use Rattle.rule_base.specs.declared.views.Phase.TheVariants.{In, Closing}
+use Rattle.stm_model.specs.declared.config.Config.{Config}
+use Rattle.stm_model.specs.declared.config.TheConstants.{CLOCK_LIMIT}
+use Rattle.rule_base.specs.declared.views.Phase.TheVariants.{Idle, In, Closing}
 use Rattle.rule_base.specs.declared.views.View.{View}
 use Rattle.rule_base.specs.EncodingLemmas.{alg_of-gate}
-use Rattle.rule_base.specs.Encodings.{gate_word}
-use Rattle.rule_base.specs.GateLaws.{gate-marked, install-gate}
+use Rattle.rule_base.specs.Regime.{Regime, regime}
+use Rattle.rule_base.specs.Regime.Regime.{Running}
+use Rattle.rule_base.specs.RegimeLemmas.{regime-running, regime-kept, regime-granted}
+use Rattle.rule_base.specs.RunScene.{RunView, run_view, run_scene}
+use Rattle.rule_base.specs.Encodings.{alg_of, gate_word}
+use Rattle.rule_base.specs.GateRule.{gate_scene, may_hold}
+use Rattle.rule_base.specs.GateLaws.{gate-marked, install-gate, holder-closed, is-caller-at}
 use Rattle.rule_base.specs.InstallLaws.{settle-install, even_clock-install, store_base-install, store_done-install, install-install}
-use Rattle.rule_base.specs.InstallSteps.{settle, CanSettle, even_clock, CanEvenClock, store_base, store_done, CanMark, install, CanInstall}
+use Rattle.rule_base.specs.InstallSteps.{Settles, settle, CanSettle, even_clock, CanEvenClock, store_base, store_done, CanMark, install, CanInstall}
 use Rattle.rule_base.specs.HistoryRule.{HistoryRule, history_scene}
-use Rattle.rule_base.specs.HistoryRuleLemmas.{history-raised}
-use Rattle.rule_base.specs.PutLemmas.{put-all, parts-kept}
+use Rattle.rule_base.specs.HistoryRuleLemmas.{advances-same, history-raised}
+use Rattle.rule_base.specs.PutLemmas.{put-all, put-here, parts-kept}
 use Rattle.rule_base.specs.RecordLemmas.{records-stay}
 use Rattle.rule_base.specs.Rest.{IsQuiet}
 use Rattle.rule_base.specs.StepsLemmas.{steps-raised}
 use Rattle.rule_base.specs.StepKinds.{view_after, world_after, Nothing, StepLaw}
-use Rattle.rule_base.specs.World.{World}
-use Rattle.rule_seq.specs.CglLaws.{cgl-from-rest}
+use Rattle.rule_base.specs.World.{World, put, parts, horizon}
+use Rattle.rule_seq.specs.AttemptLemmas.{attempts-after}
+use Rattle.rule_base.specs.declared.entries.Entry.{Entry}
+use Rattle.rule_ring.specs.SlotFilter.{slot_filter}
+use Rattle.rule_ring.specs.Slots.{slot_place, writes_of, has_entry}
+use Rattle.rule_promoted.specs.PromotedRule.{direct_part, DirectRule, DirectRuns, suit_part}
+use Rattle.rule_promoted.specs.PromotedLaws.{suits-later}
+use Rattle.rule_base.specs.Ranks.{home_of}
 use Rattle.rule_seq.specs.LockLemmas.{lock_scene-kept}
 use Rattle.rule_seq.specs.LockRule.{LockRule}
-use Rattle.stm_rule.specs.Frames.{LeavesMemory, advances-built, by-gate, cgl-stays, unlocked, disowned}
-use Rattle.stm_rule.specs.Product.{is_built, Whole}
-use Rattle.stm_rule.specs.RestLaws.{nobody-takes, heap-rests}
+use Rattle.stm_rule.specs.Frames.{same-horizon, horizon-low, horizon-level, by-gate, by-running, ungranted-out}
+use Rattle.stm_rule.specs.Running.{Ready, from-rest, Moved, ease-moved, ease-own, runs-moved}
+use Rattle.stm_rule.specs.Product.{Runs, Whole}
+use Rattle.stm_model.specs.Algorithms.{is_built}
+use Rattle.stm_rule.specs.RestLaws.{quiet-regime, quiet-ease, heap-rests}
 
 module _ (good : (ℕ → ℕ) → Type 0) (c : Config) (n : ℕ) where
   -- who has loaded the clock to install has seen all others idle
-  calm_quiet : (w : World) → Whole good c w → (w.views n).gate.calm ≡ true → IsQuiet c n w
-  calm_quiet w g calm = record { closing = g.install.closing n calm; checked = λ k low other. g.install.alone n k calm low other }
+  calm_quiet : (w : World) → Whole good c w → (w.views n).gate.phase ≡ Closing → (w.views n).gate.calm ≡ true → IsQuiet c n w
+  calm_quiet w g closing calm = record { closing = closing; checked = λ k low other. g.install.alone n k calm low other }
 
-  out_of : (w : World) → (w.views n).gate.phase ≡ Closing → (w.views n).gate.phase ≡ In → ⊥
-  out_of w closing e = let k : Closing ≡ In = sym closing ∙ e in cc
-
-  pub settles : StepLaw (Whole good c) settle Nothing n (CanSettle c.callers n)
-  settles w g may = let out = out_of w may.phase in
-      let o = by-gate good c settle n leaves w g (unlocked good c w n g out) (disowned good c w n g out) g.built (λ e. cgl-stays good c settle n leaves w (g.cgl e))
-      (gate-marked c.callers w (world_after settle n w) n (view_after settle w (w.views n) w.clock) true false false w.clock refl refl refl refl g.gate) (settle-install c.callers w n may g.install) in
-      record { rule = o.0; advances = o.1; shown = tt }
+  pub settles : StepLaw (Whole good c) settle Settles n (CanSettle c.callers n)
+  settles w g may = let o = by-gate good c settle n w (record { common = record { words = λ w. (refl, refl, refl); history = λ w. (refl, refl); steps = λ w. (refl, refl); held = λ w. (refl, refl); busy = λ w. refl }; marks = λ w. (refl, refl); memory = λ w. (refl, refl); view = λ w. refl }) g (λ e. e) (λ e. g.attempts.entered n e)
+      (gate-marked c.callers w x n v refl refl refl refl refl refl refl refl refl g.gate) (settle-install c w n may g.install) (regime-kept w x n v refl refl refl) in
+      record { rule = o.0; advances = o.1; shown = g.history.limit }
     where
-      leaves : LeavesMemory settle n
-      leaves = record { clock = λ w. refl; heap = λ w. (refl, refl, refl); history = λ w. (refl, refl); steps = λ w. (refl, refl); attempt = λ w. (refl, refl, refl) }
+      x : World
+      x = world_after settle n w
+
+      v : View
+      v = view_after settle w (w.views n) w.clock
+
+  -- the gate's holder stores a word that what runs sees, BASE or DONE: it is at rest, or it is promoted
+  marked : (w x : World) (v : View) → Whole good c w → ((w.views n).gate.granted ≡ false → (w.views n).gate.phase ≡ Closing) → (w.views n).gate.calm ≡ true → x.views ≡ put w.views n v → x.clock ≡ w.clock → x.gate ≡ w.gate → Moved (run_scene w) (run_scene x) → v.gate.granted ≡ (w.views n).gate.granted → run_view v ≡ run_view (w.views n) → ((w.done ≡ w.clock) → x.done ≡ x.clock)
+      → Runs c (regime x) (run_scene x)
+  marked w x v g closing calm is clock gate moved granted own level = subst (λ (r : Regime). Runs c r (run_scene x)) (sym (regime-kept w x n v is gate granted)) (by (w.views n).gate.granted refl)
+    where
+      views : (run_scene x).views ≡ (run_scene w).views
+      views = ap (parts run_view) is ∙ parts-kept run_view w.views n v own
+
+      by : (b : Bool) → (w.views n).gate.granted ≡ b → Runs c (regime w) (run_scene x)
+      by true e =
+          let at = regime-granted c w n g.gate g.install e in
+          let d : DirectRuns c (w.views n).gate.algorithm n (run_scene w) = subst (λ (r : Regime). Runs c r (run_scene w)) at g.running in
+          subst (λ (r : Regime). Runs c r (run_scene x)) (sym at) (record {
+            direct = subst (DirectRule c.words) (sym path) d.direct;
+            suits = suits-later (home_of c) (w.views n).gate.algorithm (suit_part n (run_scene w)) (suit_part n (run_scene x)) (ap (λ k. k % 2) clock) (record {
+              lock = ap (λ (f : ℕ → RunView). (f n).lock.taken) views;
+              tml = ap (λ (f : ℕ → RunView). (f n).tml.writer) views;
+              base = moved.base;
+              stamps = λ e. (moved.history, moved.records, ap (λ (f : ℕ → RunView). (f n).owned) views, own_entered e);
+            }) d.suits;
+            ring = λ q. let k = d.ring q in record {
+              base = moved.based;
+              done = moved.within;
+              fresh = λ m o. subst (λ (t : ℕ). t ≤ x.done) (sym (moved.fronts m)) (le_trans (k.fresh m o) moved.done);
+              level = λ f. level (k.level (own_entered f));
+              slots = λ f t i b near h low. ap (λ (s : ℕ → ℕ). s (slot_place c.ring t i)) moved.slots ∙ (k.slots (own_entered f) t i (let z = moved.base in omega arith) (let z = moved.clock in omega arith) (subst (λ (l : List Entry). has_entry l t ≡ true) moved.history h) low ∙ ap (λ (l : List Entry). slot_filter.word (writes_of l t) i) (sym moved.history));
+            };
+          })
+        where
+          own_entered : (x.views n).attempt.entered ≡ false → (w.views n).attempt.entered ≡ false
+          own_entered f = sym (ap (λ (q : ℕ → RunView). (q n).attempt.entered) views) ∙ f
+
+          path : direct_part n (run_scene x) ≡ direct_part n (run_scene w)
+          path = λ i. record { clock = clock i; heap = moved.heap i; history = moved.history i; own = record { attempt = (views i n).attempt; lock = (views i n).lock; tml = (views i n).tml; front = (views i n).front } }
+      by false e =
+          let quiet = calm_quiet w g (closing e) calm in
+          let at = quiet-regime good c n w g quiet in
+          subst (λ (r : Regime). Runs c r (run_scene x)) (sym at)
+          (runs-moved c (alg_of w.gate) (run_scene w) (run_scene x) (subst (λ (r : Regime). Runs c r (run_scene w)) at g.running) (quiet-ease good c n w g quiet) (ease-moved (run_scene w) (run_scene x) moved.clock moved.records moved.heap moved.history views (quiet-ease good c n w g quiet)) moved (λ a. ap (λ k. k % 2) clock ∙ (heap-rests good c n w g quiet).1 a)
+          (λ a settled. level ((heap-rests good c n w g quiet).2 a (λ m. ap (λ (f : ℕ → RunView). (f m).attempt.entered) (sym views) ∙ settled m))))
 
   pub stores_base : (t : ℕ) → StepLaw (Whole good c) (store_base t) Nothing n (CanMark t)
-  stores_base t w g may = let out = out_of w (g.install.closing n may.calm) in
-      let o = by-gate good c (store_base t) n leaves w g (unlocked good c w n g out) (disowned good c w n g out) g.built (λ e. cgl-stays good c (store_base t) n leaves w (g.cgl e))
-      (gate-marked c.callers w (world_after (store_base t) n w) n (view_after (store_base t) w (w.views n) t) (w.views n).gate.calm true (w.views n).gate.completed (w.views n).gate.time refl refl refl refl g.gate) (store_base-install c.callers t w n may g.gate g.install) in
+  stores_base t w g may = let o = by-running good c (store_base t) n w (record { words = λ w. (refl, refl, refl); history = λ w. (refl, refl); steps = λ w. (refl, refl); held = λ w. (refl, refl); busy = λ w. refl }) g (λ e. e) (λ e. g.attempts.entered n e) (same-horizon w x refl (le_refl w.clock) (le_refl w.done)) g.built
+      (gate-marked c.callers w x n v refl refl refl refl refl refl refl refl refl g.gate) (store_base-install c t w n may g.gate g.install)
+      (marked w x v g may.closing may.calm refl refl refl (record { clock = le_refl w.clock; base = (let b = g.install.base in let k = clock in omega arith); based = (let k = clock in omega arith); done = le_refl w.done; within = g.install.done; lock = refl; records = refl; slots = refl; heap = refl; history = refl; fronts = λ m. ap (λ (f : ℕ → RunView). (f m).front) (parts-kept run_view w.views n v refl) }) refl refl (λ e. e)) in
       record { rule = o.0; advances = o.1; shown = tt }
     where
-      leaves : LeavesMemory (store_base t) n
-      leaves = record { clock = λ w. refl; heap = λ w. (refl, refl, refl); history = λ w. (refl, refl); steps = λ w. (refl, refl); attempt = λ w. (refl, refl, refl) }
+      clock : w.clock ≡ t
+      clock = g.install.time n may.calm ∙ sym may.time
+
+      x : World
+      x = world_after (store_base t) n w
+
+      v : View
+      v = view_after (store_base t) w (w.views n) t
 
   pub stores_done : (t : ℕ) → StepLaw (Whole good c) (store_done t) Nothing n (CanMark t)
-  stores_done t w g may = let out = out_of w (g.install.closing n may.calm) in
-      let o = by-gate good c (store_done t) n leaves w g (unlocked good c w n g out) (disowned good c w n g out) g.built (λ e. cgl-stays good c (store_done t) n leaves w (g.cgl e))
-      (gate-marked c.callers w (world_after (store_done t) n w) n (view_after (store_done t) w (w.views n) t) (w.views n).gate.calm (w.views n).gate.rebased true (w.views n).gate.time refl refl refl refl g.gate) (store_done-install c.callers t w n may g.gate g.install) in
+  stores_done t w g may = let o = by-running good c (store_done t) n w (record { words = λ w. (refl, refl, refl); history = λ w. (refl, refl); steps = λ w. (refl, refl); held = λ w. (refl, refl); busy = λ w. refl }) g (λ e. e) (λ e. g.attempts.entered n e) (same-horizon w x refl (le_refl w.clock) up) g.built
+      (gate-marked c.callers w x n v refl refl refl refl refl refl refl refl refl g.gate) (store_done-install c t w n may g.gate g.install)
+      (marked w x v g may.closing may.calm refl refl refl (record { clock = le_refl w.clock; base = le_refl w.base; based = g.install.base; done = up; within = (let k = clock in omega arith); lock = refl; records = refl; slots = refl; heap = refl; history = refl; fronts = λ m. ap (λ (f : ℕ → RunView). (f m).front) (parts-kept run_view w.views n v refl) }) refl refl (λ e. sym clock)) in
       record { rule = o.0; advances = o.1; shown = tt }
     where
-      leaves : LeavesMemory (store_done t) n
-      leaves = record { clock = λ w. refl; heap = λ w. (refl, refl, refl); history = λ w. (refl, refl); steps = λ w. (refl, refl); attempt = λ w. (refl, refl, refl) }
+      clock : w.clock ≡ t
+      clock = g.install.time n may.calm ∙ sym may.time
+
+      up : w.done ≤ t
+      up = (let d = g.install.done in let k = clock in omega arith)
+
+      x : World
+      x = world_after (store_done t) n w
+
+      v : View
+      v = view_after (store_done t) w (w.views n) t
 
   -- an odd clock is below its limit, which is even
   limit_even : (time t : ℕ) → time ≤ CLOCK_LIMIT → time % 2 ≡ 1 → t ≡ time + 1 → t ≤ CLOCK_LIMIT
   limit_even time t low odd next = omega arith
+
+  next_even : (time t : ℕ) → time % 2 ≡ 1 → t ≡ time + 1 → t % 2 ≡ 0
+  next_even time t odd next = omega arith
 
   pub evens_clock : (t : ℕ) → n < c.callers → StepLaw (Whole good c) (even_clock t) Nothing n (CanEvenClock t)
   evens_clock t low w g may = record {
     rule = record {
       history = subst (HistoryRule good c) (sym path) (history-raised good c (history_scene w) t up limit g.history);
       steps = steps-raised c (even_clock t) n w 1 low next refl refl g.steps;
-      gate = gate-marked c.callers w x n v (w.views n).gate.calm (w.views n).gate.rebased (w.views n).gate.completed t refl refl refl refl g.gate;
-      install = even_clock-install c.callers t w n may g.gate g.install;
+      gate = gate-marked c.callers w x n v refl refl refl refl refl refl refl refl refl g.gate;
+      install = even_clock-install c t w n may g.gate g.install;
       records = records-stay w x n v refl up refl refl refl g.records;
-      built = g.built;
       lock = subst LockRule (sym (lock_scene-kept w x n v refl refl refl refl)) g.lock;
-      cgl = λ e. cgl-from-rest c.words x nobody (heap-rests good c n w g (calm_quiet w g may.calm));
+      built = g.built;
+      attempts = attempts-after w x n v refl (λ e. g.attempts.busy n e) (λ e. ap may_hold may.phase) g.attempts;
+      running = subst (λ (r : Regime). Runs c r (run_scene x)) (sym (regime-kept w x n v refl refl refl ∙ quiet-regime good c n w g quiet))
+          (runs-moved c (alg_of w.gate) (run_scene w) (run_scene x) (subst (λ (r : Regime). Runs c r (run_scene w)) (quiet-regime good c n w g quiet) g.running) (quiet-ease good c n w g quiet)
+          (ease-own w x n v refl up refl refl refl refl refl refl refl refl (quiet-ease good c n w g quiet))
+          (record { clock = up; base = le_refl w.base; based = (let b = g.install.base in let u = up in omega arith); done = le_refl w.done; within = (let b = g.install.done in let u = up in omega arith); lock = refl; records = refl; slots = refl; heap = refl; history = refl; fronts = put-all w.views n v (λ m u. u.history.front ≡ (w.views m).history.front) refl (λ m d. refl) })
+          (λ a. next_even (w.views n).gate.time t may.odd may.next)
+          (λ a settled. absurd (let f : true ≡ false = sym (ap (λ (u : View). u.attempt.entered) (put-here w.views n v)) ∙ settled n in cc)));
     };
-    advances = advances-built w x g.built g.built up refl;
+    advances = advances-same w x refl up (le_refl w.done) refl;
     shown = tt;
   }
     where
@@ -86,6 +163,9 @@ module _ (good : (ℕ → ℕ) → Type 0) (c : Config) (n : ℕ) where
 
       v : View
       v = view_after (even_clock t) w (w.views n) t
+
+      quiet : IsQuiet c n w
+      quiet = calm_quiet w g may.phase may.calm
 
       clock : w.clock ≡ (w.views n).gate.time
       clock = g.install.time n may.calm
@@ -102,17 +182,34 @@ module _ (good : (ℕ → ℕ) → Type 0) (c : Config) (n : ℕ) where
       path : history_scene x ≡ record (history_scene w) { clock = t }
       path = λ i. record { clock = t; history = w.history; views = parts-kept (λ (u : View). u.history) w.views n v refl i }
 
-      nobody : (m : ℕ) → (x.views m).lock.taken ≡ true → ⊥
-      nobody = put-all w.views n v (λ m u. u.lock.taken ≡ true → ⊥) (nobody-takes good c n w g (calm_quiet w g may.calm) n) (λ m d. nobody-takes good c n w g (calm_quiet w g may.calm) m)
-
   pub installs : (alg : Alg) → is_built alg ≡ true → StepLaw (Whole good c) (install n alg) Nothing n (CanInstall alg)
-  installs alg built w g may = let out = out_of w (g.install.closing n may.calm) in let q = calm_quiet w g may.calm in
-      let o = by-gate good c (install n alg) n leaves w g (unlocked good c w n g out) (disowned good c w n g out) (ap is_built (alg_of-gate (1 + n) alg) ∙ built) (λ e. cgl-from-rest c.words (world_after (install n alg) n w) nobody (heap-rests good c n w g q))
-      (install-gate c.callers alg w n q.closing q.checked g.gate) (install-install c.callers alg w n g.install) in
+  installs alg built w g may = let o = by-running good c (install n alg) n w (record { words = λ w. (refl, refl, refl); history = λ w. (refl, refl); steps = λ w. (refl, refl); held = λ w. (refl, refl); busy = λ w. refl }) g (λ e. e) (λ e. absurd cc) (subst (λ (k : ℕ). horizon w ≤ k) (sym (horizon-level x ready.done)) (horizon-low w g.install.done)) (ap is_built (alg_of-gate (1 + n) alg) ∙ built)
+      (install-gate c.callers alg w n may.phase quiet.checked g.gate) (install-install c alg w n g.install)
+      (subst (λ (r : Regime). Runs c r (run_scene x)) (sym runs) (from-rest c alg (run_scene x) (ease-own w x n v refl (le_refl w.clock) refl refl refl refl refl refl refl refl (quiet-ease good c n w g quiet)) ready)) in
       record { rule = o.0; advances = o.1; shown = tt }
     where
-      leaves : LeavesMemory (install n alg) n
-      leaves = record { clock = λ w. refl; heap = λ w. (refl, refl, refl); history = λ w. (refl, refl); steps = λ w. (refl, refl); attempt = λ w. (refl, refl, refl) }
+      x : World
+      x = world_after (install n alg) n w
 
-      nobody : (m : ℕ) → ((world_after (install n alg) n w).views m).lock.taken ≡ true → ⊥
-      nobody = put-all w.views n (view_after (install n alg) w (w.views n) (gate_word (1 + n) alg)) (λ m u. u.lock.taken ≡ true → ⊥) (nobody-takes good c n w g (calm_quiet w g may.calm) n) (λ m d. nobody-takes good c n w g (calm_quiet w g may.calm) m)
+      v : View
+      v = view_after (install n alg) w (w.views n) (gate_word (1 + n) alg)
+
+      quiet : IsQuiet c n w
+      quiet = calm_quiet w g may.phase may.calm
+
+      plain : (w.views n).gate.granted ≡ false
+      plain = ungranted-out good c w n g (λ e. let k : Closing ≡ In = sym may.phase ∙ e in cc)
+
+      ready : Ready alg (run_scene x)
+      ready = record {
+        even = λ a. ap (λ k. k % 2) (g.install.time n may.calm) ∙ may.even a;
+        based = (g.install.rebased n may.rebased).1 ∙ sym (g.install.time n may.calm);
+        done = (g.install.completed n may.completed).1 ∙ sym (g.install.time n may.calm);
+        fronts = put-all w.views n v (λ m u. u.history.front ≤ w.clock) (g.history.known n).front (λ m d. (g.history.known m).front);
+      }
+
+      own : (m : ℕ) → m ≡ n → (x.views m).gate.granted ≡ false
+      own m e = ap (λ (k : ℕ). (x.views k).gate.granted) e ∙ (ap (λ (u : View). u.gate.granted) (put-here w.views n v) ∙ plain)
+
+      runs : regime x ≡ Running alg
+      runs = regime-running x (λ m h. own m (let k = holder-closed c.callers (gate_scene w) g.gate n (is-caller-at c.callers (gate_scene w) g.gate n (λ idle. let q : Closing ≡ Idle = sym may.phase ∙ idle in cc)) alg in omega arith)) ∙ ap Running (alg_of-gate (1 + n) alg)

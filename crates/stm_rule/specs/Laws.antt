@@ -1,41 +1,52 @@
 -- Each kind of step keeps the one rule.
-use Rattle.std.proofs.Common.{◌≡◌, ◌≢◌, ℕ, zero, suc, ◌+◌, ◌<◌, List, ◌++◌, true, false, arith, refl, sym, subst, ap, ◌∙◌, le_refl}
-use Rattle.rule_base.specs.declared.layout.Config.{Config}
-use Rattle.rule_base.specs.declared.views.Phase.TheVariants.{Idle, Announced, In, Closing}
+use Rattle.std.proofs.Common.{◌≤◌, ◌≡◌, ◌≢◌, ℕ, zero, suc, ◌+◌, ◌<◌, List, ◌++◌, Bool, true, false, arith, inl, inr, refl, sym, subst, ap, ◌∙◌, le_refl}
+use Rattle.std.specs.Prelude.{nat_le, if◌then◌else◌, ◌⊎◌}
+use Rattle.stm_model.specs.declared.config.Config.{Config}
+use Rattle.rule_base.specs.declared.views.Phase.{Phase}
+use Rattle.rule_base.specs.declared.views.Phase.TheVariants.{Idle, Announced, Turned, Aiming, In, Closing}
 use Rattle.rule_base.specs.declared.views.SeenHistory.{SeenHistory}
 use Rattle.rule_base.specs.declared.views.View.{View}
-use Rattle.rule_base.specs.GateSteps.{announce, CanAnnounce, load_gate, CanLoadGate, depart, CanDepart}
+use Rattle.rule_base.specs.GateSteps.{announce, CanAnnounce, load_gate, CanLoadGate, departed, depart, CanDepart}
 use Rattle.rule_base.specs.Encodings.{holder_of}
+use Rattle.stm_model.specs.Algorithms.{has_ring}
 use Rattle.rule_base.specs.GateRule.{GateRule, may_hold}
 use Rattle.rule_base.specs.GateLaws.{gate_scene-kept, announce-gate, load_gate-gate, depart-gate}
 use Rattle.rule_base.specs.History.{touches, upto}
 use Rattle.rule_base.specs.InstallLaws.{install_scene-kept, install-apart, depart-install}
+use Rattle.rule_base.specs.Regime.{regime, named_in}
+use Rattle.rule_base.specs.Regime.Regime.{Promoted}
+use Rattle.rule_base.specs.RegimeLemmas.{named-regime, regime-kept, granted-regime}
+use Rattle.rule_base.specs.RunScene.{run_view, run_scene}
+use Rattle.stm_model.specs.declared.alg.Alg.{Alg}
+use Rattle.stm_model.specs.declared.alg.Alg.TheVariants.{Tml, RingSw}
 use Rattle.rule_base.specs.InstallRule.{InstallRule}
-use Rattle.rule_base.specs.RecordLemmas.{records-after, records-stay, records-out}
+use Rattle.rule_base.specs.RecordLemmas.{records-after, records-stay}
 use Rattle.rule_base.specs.declared.entries.Entry.{Entry}
 use Rattle.rule_base.specs.HistoryRule.{KnowsHistory}
 use Rattle.rule_base.specs.HistoryLemmas.{upto-begins}
-use Rattle.rule_base.specs.HistoryRuleLemmas.{advances-same, history-kept, history-seen, history-learned}
+use Rattle.rule_base.specs.HistoryRuleLemmas.{advances-same, history-kept, history-ended, history-learned}
 use Rattle.rule_base.specs.Notes.{learned_history}
 use Rattle.rule_base.specs.Seating.{IsSeen}
 use Rattle.rule_base.specs.StepKinds.{view_after, world_after, Nothing, StepLaw}
 use Rattle.rule_base.specs.StepsLemmas.{steps-kept}
 use Rattle.rule_base.specs.StepsRule.{steps_scene, StepsRule}
 use Rattle.rule_base.specs.PutLemmas.{parts-kept}
-use Rattle.rule_base.specs.World.{World, put}
-use Rattle.rule_seq.specs.CglRule.{CglRule}
-use Rattle.rule_seq.specs.CglSteps.{take_lock, CanTakeLock, load_start, CanLoadStart, Begins, load_heap, CanLoadHeap, Loads, store_heap, CanStoreHeap, store_clock, CanStoreClock, Commits, free_lock, CanFreeLock}
-use Rattle.rule_seq.specs.CglLaws.{cgl_scene-kept, cgl-outside}
+use Rattle.rule_base.specs.World.{World, put, horizon}
+use Rattle.rule_seq.specs.AttemptLemmas.{attempts-after, attempts-stay, idle-busy}
+use Rattle.rule_seq.specs.CglSteps.{take_lock, CanTakeLock, load_start, CanLoadStart, Begins, load_heap, CanLoadHeap, Loads, store_heap, CanStoreHeap, store_clock, CanStoreClock, Commits, free_lock, CanFreeLock, load_undo, CanLoadUndo, load_limit, CanLoadLimit, take_back, CanTakeBack, LoadsLimit}
 use Rattle.rule_seq.specs.CglLaws as cgl
+use Rattle.rule_seq.specs.TmlLaws as tml
+use Rattle.rule_seq.specs.TmlSteps.{tml_begin, CanTmlBegin, TmlBegins, tml_load, CanTmlLoad, TmlLoads, tml_again, CanTmlAgain, TmlAgain, tml_write, CanTmlWrite, tml_store, CanTmlStore, tml_commit, CanTmlCommit}
 use Rattle.rule_seq.specs.LockRule.{LockRule}
 use Rattle.rule_seq.specs.LockLemmas.{lock_scene-kept, lock-phase}
 use Rattle.stm_rule.specs.NoteSteps.{hear, Hears, load_end, CanLoadEnd, Ends}
 use Rattle.stm_rule.specs.Findings.{NamesOther, FindsLock, FindsGate}
-use Rattle.stm_rule.specs.Frames.{is-caller, unlocked, by-cgl}
+use Rattle.stm_rule.specs.Frames.{front-within, is-caller, unlocked, unwritten, outside, unheld, by-cgl, by-gate, by-running-of, unread, uncommitted, unentered, outside-records, bare, none-apart}
+use Rattle.stm_rule.specs.Running.{runs-stays, runs-leave, run_scene-put, Outside, run_scene-kept}
 use Rattle.stm_rule.specs.Product.{Whole}
 
 module _ (good : (ℕ → ℕ) → Type 0) (c : Config) (n : ℕ) where
-  taker : (w : World) → Whole good c w → (x : ℕ) → w.lock ≡ x → x ≢ 0 → (w.views n).lock.taken ≡ false → NamesOther c n x
+  pub taker : (w : World) → Whole good c w → (x : ℕ) → w.lock ≡ x → x ≢ 0 → (w.views n).lock.taken ≡ false → NamesOther c n x
   taker w g zero e other free = absurd (other refl)
   taker w g (suc k) e other free = let word : w.lock ≡ 1 + k = omega arith in let taken : (w.views k).lock.taken ≡ true = g.lock.owner k word in
       (k, is-caller good c w g k (λ idle. let i : In ≡ Idle = sym (g.lock.inside k taken) ∙ idle in cc), (λ same. let t : true ≡ false = sym (subst (λ (m : ℕ). (w.views m).lock.taken ≡ true) same taken) ∙ free in cc), omega arith)
@@ -49,42 +60,59 @@ module _ (good : (ℕ → ℕ) → Type 0) (c : Config) (n : ℕ) where
           (k, is-caller good c w g k (λ idle. let f : true ≡ false = sym (g.gate.holding k holds) ∙ ap may_hold idle in cc), (λ same. let t : true ≡ false = sym (subst (λ (m : ℕ). (w.views m).gate.holds ≡ true) same holds) ∙ free in cc), omega arith)
 
   -- what an exchange of the lock shows: another word than 0 is another caller's
-  takes_lock_alone : StepLaw (Whole good c) (take_lock n) Nothing n CanTakeLock
-  takes_lock_alone = by-cgl good c (take_lock n) Nothing n CanTakeLock (record { gate = λ w. refl; status = λ w. refl; view = λ w. refl; marks = λ w. (refl, refl); records = λ w. (refl, refl) }) (λ v m. (m.phase, m.algorithm)) (cgl.takes_lock good c n)
+  acquires_lock_alone : StepLaw (Whole good c) (take_lock n) Nothing n CanTakeLock
+  acquires_lock_alone = by-cgl good c (take_lock n) Nothing n CanTakeLock (record { gate = λ w. refl; status = λ w. refl; view = λ w. refl; marks = λ w. (refl, refl) }) (λ w g m. inr refl) (λ v m. (m.phase, m.algorithm)) (cgl.acquires_lock good c n)
 
-  pub takes_lock : StepLaw (Whole good c) (take_lock n) (FindsLock c n) n CanTakeLock
-  takes_lock w g may = let o = takes_lock_alone w g may in record { rule = o.rule; advances = o.advances; shown = λ other. taker w g w.lock refl other may.free }
+  pub acquires_lock : StepLaw (Whole good c) (take_lock n) (FindsLock c n) n CanTakeLock
+  acquires_lock w g may = let o = acquires_lock_alone w g may in record { rule = o.rule; advances = o.advances; shown = λ other. taker w g w.lock refl other may.free }
 
   pub loads_start : StepLaw (Whole good c) load_start (Begins good c) n CanLoadStart
-  loads_start = by-cgl good c load_start (Begins good c) n CanLoadStart (record { gate = λ w. refl; status = λ w. refl; view = λ w. refl; marks = λ w. (refl, refl); records = λ w. (refl, refl) }) (λ v m. (m.has.phase, m.has.algorithm)) (cgl.loads_start good c n)
+  loads_start = by-cgl good c load_start (Begins good c) n CanLoadStart (record { gate = λ w. refl; status = λ w. refl; view = λ w. refl; marks = λ w. (refl, refl) }) (λ w g m. inr refl) (λ v m. (m.has.phase, m.has.algorithm)) (cgl.loads_start good c n)
 
   pub loads_heap : (a : ℕ) → StepLaw (Whole good c) (load_heap a) (Loads good c a) n (CanLoadHeap c.words a)
-  loads_heap a = by-cgl good c (load_heap a) (Loads good c a) n (CanLoadHeap c.words a) (record { gate = λ w. refl; status = λ w. refl; view = λ w. refl; marks = λ w. (refl, refl); records = λ w. (refl, refl) }) (λ v m. (m.has.phase, m.has.algorithm)) (cgl.loads_heap good c n a)
+  loads_heap a = by-cgl good c (load_heap a) (Loads good c a) n (CanLoadHeap c.words a) (record { gate = λ w. refl; status = λ w. refl; view = λ w. refl; marks = λ w. (refl, refl) }) (λ w g m. inr refl) (λ v m. (m.has.phase, m.has.algorithm)) (cgl.loads_heap good c n a)
 
   pub stores_heap : (a x : ℕ) → StepLaw (Whole good c) (store_heap a x) Nothing n (CanStoreHeap c.words a x)
-  stores_heap a x = by-cgl good c (store_heap a x) Nothing n (CanStoreHeap c.words a x) (record { gate = λ w. refl; status = λ w. refl; view = λ w. refl; marks = λ w. (refl, refl); records = λ w. (refl, refl) }) (λ v m. (m.has.phase, m.has.algorithm)) (cgl.stores_heap good c n a x)
+  stores_heap a x = by-cgl good c (store_heap a x) Nothing n (CanStoreHeap c.words a x) (record { gate = λ w. refl; status = λ w. refl; view = λ w. refl; marks = λ w. (refl, refl) }) (λ w g m. inr refl) (λ v m. (m.has.phase, m.has.algorithm)) (cgl.stores_heap good c n a x)
 
   pub stores_clock : (t : ℕ) → n < c.callers → StepLaw (Whole good c) (store_clock n t) (Commits good c n t) n (CanStoreClock good t)
-  stores_clock t low = by-cgl good c (store_clock n t) (Commits good c n t) n (CanStoreClock good t) (record { gate = λ w. refl; status = λ w. refl; view = λ w. refl; marks = λ w. (refl, refl); records = λ w. (refl, refl) }) (λ v m. (m.has.phase, m.has.algorithm)) (cgl.stores_clock good c n t low)
+  stores_clock t low = by-cgl good c (store_clock n t) (Commits good c n t) n (CanStoreClock good t) (record { gate = λ w. refl; status = λ w. refl; view = λ w. refl; marks = λ w. (refl, refl) }) (λ w g m. inl (inl m.free)) (λ v m. (m.has.phase, m.has.algorithm)) (cgl.stores_clock good c n t low)
 
   pub frees_lock : StepLaw (Whole good c) free_lock Nothing n CanFreeLock
-  frees_lock = by-cgl good c free_lock Nothing n CanFreeLock (record { gate = λ w. refl; status = λ w. refl; view = λ w. refl; marks = λ w. (refl, refl); records = λ w. (refl, refl) }) (λ v m. (m.has.phase, m.has.algorithm)) (cgl.frees_lock good c n)
+  frees_lock = by-cgl good c free_lock Nothing n CanFreeLock (record { gate = λ w. refl; status = λ w. refl; view = λ w. refl; marks = λ w. (refl, refl) }) (λ w g m. inr refl) (λ v m. (m.has.phase, m.has.algorithm)) (cgl.frees_lock good c n)
+
+  pub loads_undo : (a : ℕ) → StepLaw (Whole good c) (load_undo a) Nothing n (CanLoadUndo a)
+  loads_undo a = by-cgl good c (load_undo a) Nothing n (CanLoadUndo a) (record { gate = λ w. refl; status = λ w. refl; view = λ w. refl; marks = λ w. (refl, refl) }) (λ w g m. inr refl) (λ v m. (m.has.phase, m.has.algorithm)) (cgl.loads_undo good c n a)
+
+  pub loads_limit : (grants : Bool) → StepLaw (Whole good c) (load_limit grants) LoadsLimit n CanLoadLimit
+  loads_limit grants = by-cgl good c (load_limit grants) LoadsLimit n CanLoadLimit (record { gate = λ w. refl; status = λ w. refl; view = λ w. refl; marks = λ w. (refl, refl) }) (λ w g m. inr refl) (λ v m. (m.has.phase, m.has.algorithm)) (cgl.loads_limit good c n grants)
+
+  pub takes_back : (a x : ℕ) → StepLaw (Whole good c) (take_back a x) Nothing n (CanTakeBack a x)
+  takes_back a x = by-cgl good c (take_back a x) Nothing n (CanTakeBack a x) (record { gate = λ w. refl; status = λ w. refl; view = λ w. refl; marks = λ w. (refl, refl) }) (λ w g m. inr refl) (λ v m. (m.has.phase, m.has.algorithm)) (cgl.takes_back good c n a x)
+
+  -- the steps of TML
+  pub tml_begins : StepLaw (Whole good c) tml_begin (TmlBegins good c) n CanTmlBegin
+  tml_begins = by-running-of good c tml_begin (TmlBegins good c) n CanTmlBegin Tml (record { gate = λ w. refl; status = λ w. refl; view = λ w. refl; marks = λ w. (refl, refl) }) (λ w g m. inr refl) (λ v m. (m.runs.phase, m.runs.algorithm, m.runs.plain)) (tml.tml_begins good c n)
+
+  pub tml_loads : (a : ℕ) → StepLaw (Whole good c) (tml_load a) (TmlLoads good c a) n (CanTmlLoad c.words a)
+  tml_loads a = by-running-of good c (tml_load a) (TmlLoads good c a) n (CanTmlLoad c.words a) Tml (record { gate = λ w. refl; status = λ w. refl; view = λ w. refl; marks = λ w. (refl, refl) }) (λ w g m. inr refl) (λ v m. (m.has.runs.phase, m.has.runs.algorithm, m.has.runs.plain)) (tml.tml_loads good c n a)
+
+  pub tml_agains : StepLaw (Whole good c) tml_again (TmlAgain good c) n CanTmlAgain
+  tml_agains = by-running-of good c tml_again (TmlAgain good c) n CanTmlAgain Tml (record { gate = λ w. refl; status = λ w. refl; view = λ w. refl; marks = λ w. (refl, refl) }) (λ w g m. inr refl) (λ v m. (m.has.runs.phase, m.has.runs.algorithm, m.has.runs.plain)) (tml.tml_agains good c n)
+
+  pub tml_writes : (start : ℕ) → n < c.callers → StepLaw (Whole good c) (tml_write start) Nothing n (CanTmlWrite start)
+  tml_writes start low = by-running-of good c (tml_write start) Nothing n (CanTmlWrite start) Tml (record { gate = λ w. refl; status = λ w. refl; view = λ w. refl; marks = λ w. (refl, refl) }) (λ w g m. inl (inr m.uncalm)) (λ v m. (m.has.runs.phase, m.has.runs.algorithm, m.has.runs.plain)) (tml.tml_writes good c n start low)
+
+  pub tml_stores : (a x : ℕ) → StepLaw (Whole good c) (tml_store a x) Nothing n (CanTmlStore c.words a x)
+  tml_stores a x = by-running-of good c (tml_store a x) Nothing n (CanTmlStore c.words a x) Tml (record { gate = λ w. refl; status = λ w. refl; view = λ w. refl; marks = λ w. (refl, refl) }) (λ w g m. inr refl) (λ v m. (m.has.runs.phase, m.has.runs.algorithm, m.has.runs.plain)) (tml.tml_stores good c n a x)
+
+  pub tml_commits : (t : ℕ) → n < c.callers → StepLaw (Whole good c) (tml_commit n t) (Commits good c n t) n (CanTmlCommit good t)
+  tml_commits t low = by-running-of good c (tml_commit n t) (Commits good c n t) n (CanTmlCommit good t) Tml (record { gate = λ w. refl; status = λ w. refl; view = λ w. refl; marks = λ w. (refl, refl) }) (λ w g m. inl (inr m.uncalm)) (λ v m. (m.has.runs.phase, m.has.runs.algorithm, m.has.runs.plain)) (tml.tml_commits good c n t low)
 
   pub announces : n < c.callers → StepLaw (Whole good c) (announce n) Nothing n CanAnnounce
-  announces low w g may = record {
-    rule = record {
-      history = history-kept good c w x n v refl refl refl refl g.history;
-      steps = steps-kept c (announce n) n w refl refl refl g.steps;
-      gate = announce-gate c.callers w n low may g.gate;
-      install = install-apart c.callers w x n v refl refl refl refl open_gate refl refl refl g.install;
-      records = records-out w x n v refl (le_refl w.clock) refl refl out g.records;
-      built = g.built;
-      lock = lock-phase w x n v refl refl refl (λ t. absurd (let o = unlocked good c w n g out in cc)) g.lock;
-      cgl = λ e. subst (CglRule c.words) (sym (cgl_scene-kept w x n v refl refl refl refl refl refl)) (g.cgl e);
-    };
-    advances = advances-same w x refl (le_refl w.clock) (le_refl w.done) refl;
-    shown = tt;
-  }
+  announces low w g may = let o = by-gate good c (announce n) n w (record { common = record { words = λ w. (refl, refl, refl); history = λ w. (refl, refl); steps = λ w. (refl, refl); held = λ w. (refl, refl); busy = λ w. refl }; marks = λ w. (refl, refl); memory = λ w. (refl, refl); view = λ w. refl }) g (λ e. absurd (out e)) (λ e. absurd (unentered good c w n g (ap may_hold may) e)) (announce-gate c.callers w n low may g.gate)
+      (install-apart c w x n v refl refl refl refl (unheld good c w n g (ap may_hold may)) refl refl refl refl g.install) (regime-kept w x n v refl refl refl) in
+      record { rule = o.0; advances = o.1; shown = tt }
     where
       x : World
       x = world_after (announce n) n w
@@ -95,24 +123,10 @@ module _ (good : (ℕ → ℕ) → Type 0) (c : Config) (n : ℕ) where
       out : (w.views n).gate.phase ≡ In → ⊥
       out e = let k : Idle ≡ In = sym may ∙ e in cc
 
-      open_gate : (w.views n).gate.phase ≡ Closing → ⊥
-      open_gate e = let k : Idle ≡ Closing = sym may ∙ e in cc
-
   pub loads_gate : StepLaw (Whole good c) load_gate (FindsGate c n) n CanLoadGate
-  loads_gate w g may = record {
-    rule = record {
-      history = history-kept good c w x n v refl refl refl refl g.history;
-      steps = steps-kept c load_gate n w refl refl refl g.steps;
-      gate = load_gate-gate c.callers w n may g.gate;
-      install = install-apart c.callers w x n v refl refl refl refl open_gate refl refl refl g.install;
-      records = records-out w x n v refl (le_refl w.clock) refl refl out g.records;
-      built = g.built;
-      lock = lock-phase w x n v refl refl refl (λ t. absurd (let o = unlocked good c w n g out in cc)) g.lock;
-      cgl = λ e. subst (CglRule c.words) (sym (cgl_scene-kept w x n v refl refl refl refl refl refl)) (g.cgl e);
-    };
-    advances = advances-same w x refl (le_refl w.clock) (le_refl w.done) refl;
-    shown = record { built = g.built; closer = λ free other. closer w g w.gate refl other free };
-  }
+  loads_gate w g may = let o = by-gate good c load_gate n w (record { common = record { words = λ w. (refl, refl, refl); history = λ w. (refl, refl); steps = λ w. (refl, refl); held = λ w. (refl, refl); busy = λ w. refl }; marks = λ w. (refl, refl); memory = λ w. (refl, refl); view = λ w. refl }) g (λ e. absurd (out e)) (λ e. absurd (unentered good c w n g (ap may_hold may) e)) (load_gate-gate c.callers w n may g.gate)
+      (install-apart c w x n v refl refl refl refl (unheld good c w n g (ap may_hold may)) refl refl refl refl g.install) (regime-kept w x n v refl refl refl) in
+      record { rule = o.0; advances = o.1; shown = record { built = g.built; closer = λ free other. closer w g w.gate refl other free } }
     where
       x : World
       x = world_after load_gate n w
@@ -123,20 +137,19 @@ module _ (good : (ℕ → ℕ) → Type 0) (c : Config) (n : ℕ) where
       out : (w.views n).gate.phase ≡ In → ⊥
       out e = let k : Announced ≡ In = sym may ∙ e in cc
 
-      open_gate : (w.views n).gate.phase ≡ Closing → ⊥
-      open_gate e = let k : Announced ≡ Closing = sym may ∙ e in cc
-
   pub departs : StepLaw (Whole good c) (depart n) Nothing n CanDepart
   departs w g may = record {
     rule = record {
       history = history-kept good c w x n v refl refl refl refl g.history;
       steps = steps-kept c (depart n) n w refl refl refl g.steps;
       gate = depart-gate c.callers w n may g.gate;
-      install = depart-install c.callers w n g.install;
+      install = depart-install c w n may g.install;
       records = records-after w x n v refl (le_refl w.clock) refl refl (λ k t. absurd (let e : false ≡ true = sym (ap (λ q. touches q k) may.disowned) ∙ t in cc)) g.records;
       built = g.built;
       lock = lock-phase w x n v refl refl refl (λ t. absurd (let o = may.unlocked in cc)) g.lock;
-      cgl = λ e. subst (CglRule c.words) (sym (cgl_scene-kept w x n v refl refl refl refl refl refl)) (g.cgl e);
+      attempts = attempts-after w x n v refl (λ t. absurd (let f : true ≡ false = sym t ∙ idle-busy v refl may.unwritten refl refl may.uncommitted in cc)) (λ e. still (w.views n).gate.phase may.unentered e (g.attempts.entered n e)) g.attempts;
+      running = runs-stays c (regime w) (regime x) (record (run_scene w) { views = put (run_scene w).views n (run_view v) }) (run_scene x) (regime-kept w x n v refl refl refl) (run_scene-put w x n v refl refl refl refl refl refl refl refl refl)
+          (runs-leave c (regime w) (run_scene w) n (run_view v) (record { was = record { unlocked = may.unlocked; unwritten = may.unwritten; uncommitted = may.uncommitted }; out = record { unlocked = may.unlocked; unwritten = may.unwritten; uncommitted = may.uncommitted }; tml = refl; owned = refl; bare = bare_now; apart = none-apart good c w n g bare_now; unread = refl; entered = refl }) (inl refl) free g.running);
     };
     advances = advances-same w x refl (le_refl w.clock) (le_refl w.done) refl;
     shown = tt;
@@ -148,21 +161,25 @@ module _ (good : (ℕ → ℕ) → Type 0) (c : Config) (n : ℕ) where
       v : View
       v = view_after (depart n) w (w.views n) 0
 
+      still : (p : Phase) → (p ≡ In → (w.views n).attempt.entered ≡ false) → (w.views n).attempt.entered ≡ true → may_hold p ≡ true → may_hold (departed p) ≡ true
+      still Idle u e h = h
+      still Announced u e h = absurd cc
+      still Turned u e h = absurd cc
+      still Aiming u e h = absurd cc
+      still In u e h = absurd (let f : true ≡ false = sym e ∙ u refl in cc)
+      still Closing u e h = refl
+
+      bare_now : (r : ℕ) → touches (w.views n).owned.held r ≡ false
+      bare_now r = ap (λ q. touches q r) may.disowned
+
+      -- a promoted attempt has to reopen the gate before
+      free : (a : Alg) → regime w ≡ Promoted a n → ⊥
+      free a e = let q = granted-regime c w n g.gate g.install a e in let p = g.install.promoted n q in let f : true ≡ false = sym (g.install.holding n p.0) ∙ may.reopened p.1 in cc
+
   pub hears : StepLaw (Whole good c) hear Hears n (λ v. Unit {0})
-  hears w g may = record {
-    rule = record {
-      history = history-kept good c w x n v refl refl refl refl g.history;
-      steps = steps-kept c hear n w refl refl refl g.steps;
-      gate = subst (GateRule c.callers) (sym (gate_scene-kept w x n v refl refl refl refl)) g.gate;
-      install = subst (InstallRule c.callers) (sym (install_scene-kept w x n v refl refl refl refl refl)) g.install;
-      records = records-stay w x n v refl (le_refl w.clock) refl refl refl g.records;
-      built = g.built;
-      lock = subst LockRule (sym (lock_scene-kept w x n v refl refl refl refl)) g.lock;
-      cgl = λ e. subst (CglRule c.words) (sym (cgl_scene-kept w x n v refl refl refl refl refl refl)) (g.cgl e);
-    };
-    advances = advances-same w x refl (le_refl w.clock) (le_refl w.done) refl;
-    shown = (m.0, k.seen ∙ m.1 ∙ ap (λ l. m.0 ++ l) (sym k.told));
-  }
+  hears w g may = let o = by-gate good c hear n w (record { common = record { words = λ w. (refl, refl, refl); history = λ w. (refl, refl); steps = λ w. (refl, refl); held = λ w. (refl, refl); busy = λ w. refl }; marks = λ w. (refl, refl); memory = λ w. (refl, refl); view = λ w. refl }) g (λ e. e) (λ e. g.attempts.entered n e) (subst (GateRule c.callers) (sym (gate_scene-kept w x n v refl refl refl refl)) g.gate)
+      (subst (InstallRule c) (sym (install_scene-kept w x n v refl refl refl refl refl)) g.install) (regime-kept w x n v refl refl refl) in
+      record { rule = o.0; advances = o.1; shown = (m.0, k.seen ∙ m.1 ∙ ap (λ l. m.0 ++ l) (sym k.told)) }
     where
       x : World
       x = world_after hear n w
@@ -179,14 +196,15 @@ module _ (good : (ℕ → ℕ) → Type 0) (c : Config) (n : ℕ) where
   pub loads_end : StepLaw (Whole good c) load_end (Ends good c) n CanLoadEnd
   loads_end w g may = record {
     rule = record {
-      history = history-seen good c w x n v refl refl refl refl g.history;
+      history = history-ended good c w x n v (record { seen = w.history; front = w.clock }) refl refl refl refl g.history;
       steps = steps-kept c load_end n w refl refl refl g.steps;
       gate = subst (GateRule c.callers) (sym (gate_scene-kept w x n v refl refl refl refl)) g.gate;
-      install = subst (InstallRule c.callers) (sym (install_scene-kept w x n v refl refl refl refl refl)) g.install;
+      install = subst (InstallRule c) (sym (install_scene-kept w x n v refl refl refl refl refl)) g.install;
       records = records-stay w x n v refl (le_refl w.clock) refl refl refl g.records;
       built = g.built;
       lock = subst LockRule (sym (lock_scene-kept w x n v refl refl refl refl)) g.lock;
-      cgl = λ e. cgl-outside c.words w x n v refl refl refl refl refl (unlocked good c w n g out) (g.cgl e);
+      attempts = attempts-stay w x n v refl refl refl refl g.attempts;
+      running = runs-stays c (regime w) (regime x) (run_scene w) (run_scene x) (regime-kept w x n v refl refl refl) (run_scene-kept w x n v refl refl refl refl refl refl refl refl refl refl) g.running;
     };
     advances = advances-same w x refl (le_refl w.clock) (le_refl w.done) refl;
     shown = record { rule = g; clock = refl };
@@ -198,8 +216,17 @@ module _ (good : (ℕ → ℕ) → Type 0) (c : Config) (n : ℕ) where
       v : View
       v = view_after load_end w (w.views n) w.clock
 
-      out : (w.views n).gate.phase ≡ In → ⊥
-      out e = let i : Idle ≡ In = sym may ∙ e in cc
+  -- who is idle may tell what it has seen
+  pub tells : (w : World) → Whole good c w → (w.views n).gate.phase ≡ Idle → IsSeen w (w.views n).history
+  tells w g idle = record {
+    front = front-within good c w n g (uncommitted good c w n g (λ e. let i : Idle ≡ In = sym idle ∙ e in cc)) (settled (w.views n).attempt.entered refl);
+    within = (g.history.known n).front;
+    seen = (g.history.known n).seen;
+  }
+    where
+      settled : (b : Bool) → (w.views n).attempt.entered ≡ b → (w.views n).attempt.entered ≡ false
+      settled true e = absurd (unentered good c w n g (ap may_hold idle) e)
+      settled false e = e
 
   -- learning a note is no step, but changes what the caller knows
   pub learns : (w : World) (k : SeenHistory) → Whole good c w → IsSeen w k → (w.views n).gate.phase ≡ Idle → Whole good c (record w { views = put w.views n (record (w.views n) { history = learned_history (w.views n).history k }) })
@@ -207,11 +234,13 @@ module _ (good : (ℕ → ℕ) → Type 0) (c : Config) (n : ℕ) where
     history = history-learned good c w x n v k refl refl refl refl seen.seen seen.within g.history;
     steps = subst (StepsRule c) (sym path) g.steps;
     gate = subst (GateRule c.callers) (sym (gate_scene-kept w x n v refl refl refl refl)) g.gate;
-    install = subst (InstallRule c.callers) (sym (install_scene-kept w x n v refl refl refl refl refl)) g.install;
+    install = subst (InstallRule c) (sym (install_scene-kept w x n v refl refl refl refl refl)) g.install;
     records = records-stay w x n v refl (le_refl w.clock) refl refl refl g.records;
     built = g.built;
     lock = subst LockRule (sym (lock_scene-kept w x n v refl refl refl refl)) g.lock;
-    cgl = λ e. cgl-outside c.words w x n v refl refl refl refl refl (unlocked good c w n g out) (g.cgl e);
+    attempts = attempts-stay w x n v refl refl refl refl g.attempts;
+    running = runs-stays c (regime w) (regime x) (record (run_scene w) { views = put (run_scene w).views n (run_view v) }) (run_scene x) (regime-kept w x n v refl refl refl) (run_scene-put w x n v refl refl refl refl refl refl refl refl refl) (runs-leave c (regime w) (run_scene w) n (run_view v) (record { was = idle; out = record { unlocked = idle.unlocked; unwritten = idle.unwritten; uncommitted = idle.uncommitted }; tml = outside good c w n g out; owned = outside-records good c w n g out; bare = bare good c w n g out; apart = none-apart good c w n g (bare good c w n g out); unread = unread good c w n g out; entered = refl }) (low (nat_le k.front (w.views n).history.front) refl)
+        (λ a e. out (g.install.promoted n (granted-regime c w n g.gate g.install a e)).1) g.running);
   }
     where
       v : View
@@ -225,3 +254,18 @@ module _ (good : (ℕ → ℕ) → Type 0) (c : Config) (n : ℕ) where
 
       out : (w.views n).gate.phase ≡ In → ⊥
       out e = let i : Idle ≡ In = sym may ∙ e in cc
+
+      idle : Outside (run_view (w.views n))
+      idle = record { unlocked = unlocked good c w n g out; unwritten = unwritten good c w n g out; uncommitted = uncommitted good c w n g out }
+
+      choice : Bool → SeenHistory
+      choice b = if b
+          then record { made = (w.views n).history.made; seen = (w.views n).history.seen; front = (w.views n).history.front; told = record { seen = k.seen; front = k.front }; whole = (w.views n).history.whole }
+          else record { made = (w.views n).history.made; seen = k.seen; front = k.front; told = record { seen = (w.views n).history.seen; front = (w.views n).history.front }; whole = (w.views n).history.whole }
+
+      -- a note is no further than the number from which starts are loaded
+      low : (b : Bool) → nat_le k.front (w.views n).history.front ≡ b → ((learned_history (w.views n).history k).front ≡ (w.views n).history.front) ⊎ (named_in (regime w) ≡ RingSw → (learned_history (w.views n).history k).front ≤ w.done)
+      low false q = inr (λ e.
+          let s : horizon w ≡ w.done = ap (λ (a : Alg). if has_ring a then w.done else w.clock) (sym (named-regime w) ∙ e) in
+          subst (λ (t : ℕ). t ≤ w.done) (sym (ap (λ (b : Bool). (choice b).front) q)) (subst (λ (t : ℕ). k.front ≤ t) s seen.front))
+      low true q = inl (ap (λ (b : Bool). (choice b).front) q)

@@ -1,11 +1,15 @@
 pub mod Product
+pub mod Running
 pub mod NoteSteps
 pub mod Frames
 pub mod Findings
 pub mod Laws
+pub mod RecordLaws
+pub mod RingLaws
 pub mod ClosingLaws
 pub mod Openings
 pub mod CoreRuns
+pub mod NoteRuns
 pub mod Quiescence
 pub mod RestLaws
 pub mod InstallingLaws
@@ -16,3 +20,9 @@ pub mod StandLemmas
 pub mod Callers
 pub mod Closings
 pub mod CallerLemmas
+pub mod PromotionLaws
+pub mod RingPromotionLaws
+pub mod Irrevocable
+pub mod BesideLaws
+pub mod CheckRun
+pub mod Stamping

@@ -1,34 +1,46 @@
 -- The one rule of the shared words: the clauses of each part, side by side.
-use Rattle.std.specs.Prelude.{ℕ, ◌≡◌, Bool, true, false}
-use Rattle.stm_model.specs.declared.alg.Alg.{Alg}
+use Rattle.std.specs.Prelude.{ℕ, ◌≡◌, true}
+use Rattle.stm_model.specs.Algorithms.{is_built}
 use Rattle.stm_model.specs.declared.alg.Alg.TheVariants.{Cgl, Tml, OrecLazy, OrecEager, RingSw, Serial}
-use Rattle.rule_base.specs.declared.layout.Config.{Config}
+use Rattle.stm_model.specs.declared.config.Config.{Config}
 use Rattle.rule_base.specs.Encodings.{alg_of}
 use Rattle.rule_base.specs.GateRule.{gate_scene, GateRule}
 use Rattle.rule_base.specs.HistoryRule.{history_scene, HistoryRule}
 use Rattle.rule_base.specs.InstallRule.{install_scene, InstallRule}
 use Rattle.rule_base.specs.RecordRule.{record_scene, RecordRule}
+use Rattle.rule_base.specs.Regime.{Regime, regime}
+use Rattle.rule_base.specs.Regime.Regime.{Running, Promoted}
+use Rattle.rule_base.specs.RunScene.{RunScene, run_scene}
 use Rattle.rule_base.specs.StepsRule.{steps_scene, StepsRule}
 use Rattle.rule_base.specs.World.{World}
-use Rattle.rule_seq.specs.CglRule.{cgl_scene, CglRule}
+use Rattle.rule_ring.specs.RingRule.{RingRuns}
+use Rattle.rule_ring.specs.SlotFilter.{slot_filter}
+use Rattle.rule_seq.specs.AttemptRule.{attempt_scene, AttemptRule}
+use Rattle.rule_seq.specs.CglRule.{CglRuns}
 use Rattle.rule_seq.specs.LockRule.{lock_scene, LockRule}
+use Rattle.rule_promoted.specs.PromotedRule.{DirectRuns}
+use Rattle.rule_seq.specs.TmlRule.{TmlRuns}
+use Rattle.rule_orec.specs.OrecRule.{OrecRuns}
 
--- the algorithms whose clauses stand here
-abbrev pub is_built : Alg → Bool
-is_built Cgl = true
-is_built Tml = false
-is_built OrecLazy = false
-is_built OrecEager = false
-is_built RingSw = false
-is_built Serial = false
+-- the clauses of what runs
+abbrev pub Runs : Config → Regime → RunScene → Type 0
+Runs c (Running Cgl) = CglRuns c
+Runs c (Running Tml) = TmlRuns c
+Runs c (Running OrecLazy) = OrecRuns c
+Runs c (Running OrecEager) = OrecRuns c
+Runs c (Running RingSw) = RingRuns slot_filter c
+Runs c (Running Serial) = CglRuns c
+Runs c (Promoted alg n) = DirectRuns c alg n
 
--- good is what the user keeps true of memory. The clauses of an algorithm stand while the gate names it; the others always.
+-- good is what the user keeps true of memory. What runs has its clauses by the regime; all others stand always.
 pub record Whole (good : (ℕ → ℕ) → Type 0) (c : Config) (w : World) : Type 0 where
   pub history : HistoryRule good c (history_scene w)
   pub steps : StepsRule c (steps_scene w)
   pub gate : GateRule c.callers (gate_scene w)
-  pub install : InstallRule c.callers (install_scene w)
+  pub install : InstallRule c (install_scene w)
   pub records : RecordRule (record_scene w)
+  -- only an algorithm that is built was installed
   pub built : is_built (alg_of w.gate) ≡ true
   pub lock : LockRule (lock_scene w)
-  pub cgl : alg_of w.gate ≡ Cgl → CglRule c.words (cgl_scene w)
+  pub attempts : AttemptRule (attempt_scene w)
+  pub running : Runs c (regime w) (run_scene w)

@@ -1,80 +1,224 @@
 -- Who has closed the gate and seen all other callers idle is alone with the memory.
-use Rattle.std.proofs.Common.{◌≡◌, ℕ, zero, suc, ◌+◌, Bool, true, false, arith, refl, sym, ap, ◌∙◌, le_refl}
-use Rattle.std.specs.Prelude.{◌==◌}
+use Rattle.std.proofs.Common.{◌≡◌, ◌≢◌, ℕ, zero, suc, ◌+◌, List, [], Bool, true, false, arith, refl, sym, subst, ap, ◌∙◌, le_refl, ⊎_elim}
+use Rattle.std.specs.Prelude.{◌==◌, ◌%◌, if◌then◌else◌}
 use Rattle.std.proofs.lemmas.Bool.Decides.{nat_tests}
 use Rattle.stm_model.specs.declared.alg.Alg.{Alg}
-use Rattle.stm_model.specs.declared.alg.Alg.TheVariants.{Cgl, Tml, OrecLazy, OrecEager, RingSw, Serial}
-use Rattle.rule_base.specs.declared.layout.Config.{Config}
-use Rattle.rule_base.specs.declared.views.Phase.TheVariants.{In, Closing}
+use Rattle.stm_model.specs.declared.alg.Alg.TheVariants.{Tml, RingSw}
+use Rattle.rule_base.specs.declared.entries.Cell.{Cell}
+use Rattle.stm_model.specs.declared.config.Config.{Config}
+use Rattle.rule_base.specs.declared.views.Phase.{Phase}
+use Rattle.rule_base.specs.declared.views.Phase.TheVariants.{Idle, Announced, Turned, Aiming, In, Closing}
 use Rattle.rule_base.specs.Encodings.{alg_of, is_owned, owner_of}
+use Rattle.stm_model.specs.Algorithms.{has_records}
 use Rattle.rule_base.specs.GateLaws.{others-rest}
-use Rattle.rule_base.specs.GateRule.{rests}
-use Rattle.rule_base.specs.History.{over, word_at, word_now}
+use Rattle.rule_base.specs.GateRule.{rests, may_hold}
+use Rattle.rule_base.specs.History.{over, touches, word_now}
 use Rattle.rule_base.specs.HistoryLemmas.{word_at-all}
-use Rattle.rule_base.specs.Rest.{in_place_at, AtRest, IsQuiet, HasInstalled}
+use Rattle.rule_base.specs.InstallSteps.{HasChecked}
+use Rattle.rule_base.specs.Regime.{Regime, regime}
+use Rattle.rule_base.specs.Regime.Regime.{Running}
+use Rattle.rule_base.specs.RegimeLemmas.{regime-running, regime-granted}
+use Rattle.rule_base.specs.Rest.{own_stores, in_place, in_place_at, Rest, AtRest, IsQuiet, HasInstalled}
+use Rattle.rule_base.specs.Ranks.{rec_of, home_of}
+use Rattle.rule_base.specs.Ranks.Rec.{Taken}
+use Rattle.rule_base.specs.RunScene.{run_scene}
 use Rattle.rule_base.specs.World.{World}
-use Rattle.stm_rule.specs.Product.{is_built, Whole}
-use Rattle.stm_rule.specs.Quiescence.{IsInstalled}
+use Rattle.rule_seq.specs.AttemptLemmas.{busy-owned, busy-tml, busy-writer, busy-ring, busy-turn}
+use Rattle.rule_ring.specs.RingRule.{ring_part, RingRule}
+use Rattle.rule_ring.specs.SlotFilter.{slot_filter}
+use Rattle.rule_promoted.specs.PromotedRule.{TmlSuits, Suits, DirectRuns, suit_scene}
+use Rattle.rule_seq.specs.TmlRule.{tml_part, TmlRule}
+use Rattle.rule_orec.specs.OrecRule.{orec_scene}
+use Rattle.rule_orec.specs.OrecSteps.{RunsOrec}
+use Rattle.rule_orec.specs.OrecLaws.{full-world}
+use Rattle.rule_promoted.specs.OrecGranted.{alone-heap}
+use Rattle.stm_rule.specs.Frames.{ungranted-out, owner-holds, orec-world}
+use Rattle.stm_rule.specs.Product.{Runs, Whole}
+use Rattle.stm_rule.specs.Quiescence.{IsInsideOf, IsInstalled, IsPromoting, IsOrecPromoting}
+use Rattle.stm_rule.specs.Running.{Ease, at-rest}
 
-module _ (good : (ℕ → ℕ) → Type 0) (c : Config) (n : ℕ) (w : World) (g : Whole good c w) (quiet : IsQuiet c n w) where
-  nobody_in : (m : ℕ) → (w.views m).gate.phase ≡ In → ⊥
-  nobody_in m inside = apart (m == n) refl
+module _ (good : (ℕ → ℕ) → Type 0) (c : Config) (n : ℕ) (w : World) (g : Whole good c w) where
+  -- who isn't promoted and holds the gate has the regime of its algorithm
+  pub regime-held : (w.views n).gate.holds ≡ true → (w.views n).gate.granted ≡ false → regime w ≡ Running (alg_of w.gate)
+  regime-held holds plain = regime-running w (λ m h. subst (λ (k : ℕ). (w.views k).gate.granted ≡ false) (let o = g.gate.mine n holds in let e : n ≡ m = omega arith in e) plain)
+
+  module _ (checked : HasChecked c.callers n (w.views n)) where
+    -- the others are in no attempt
+    pub nobody-else : (m : ℕ) → m ≢ n → (w.views m).gate.phase ≡ In → ⊥
+    nobody-else m other inside = let p : false ≡ true = sym (ap rests inside) ∙ others-rest c.callers w n checked g.gate m other in cc
+
+    -- what is so of n, and of nobody who is in no attempt, is so of nobody
+    pub nobody-by : (P : ℕ → Type 0) → (P n → ⊥) → ((m : ℕ) → P m → (w.views m).gate.phase ≡ In) → (m : ℕ) → P m → ⊥
+    nobody-by P own inside m p = apart (m == n) refl
+      where
+        apart : (b : Bool) → (m == n) ≡ b → ⊥
+        apart true e = own (subst P (let same : m ≡ n = grind (arith, nat_tests, e) in same) p)
+        apart false e = nobody-else m (λ same. grind (arith, nat_tests, e, same)) (inside m p)
+
+    module _ (unlocked : (w.views n).lock.taken ≡ false) (unwritten : (w.views n).tml.writer ≡ false) (uncommitted : (w.views n).ring_commit.committed ≡ false) where
+      pub nobody-takes : (m : ℕ) → (w.views m).lock.taken ≡ true → ⊥
+      nobody-takes = nobody-by (λ m. (w.views m).lock.taken ≡ true) (λ t. let f : true ≡ false = sym t ∙ unlocked in cc) g.lock.inside
+
+      pub nobody-writes : (m : ℕ) → (w.views m).tml.writer ≡ true → ⊥
+      nobody-writes = nobody-by (λ m. (w.views m).tml.writer ≡ true) (λ t. let f : true ≡ false = sym t ∙ unwritten in cc) (λ m t. g.attempts.busy m (busy-writer (w.views m) t))
+
+      pub nobody-commits : (m : ℕ) → (w.views m).ring_commit.committed ≡ true → ⊥
+      nobody-commits = nobody-by (λ m. (w.views m).ring_commit.committed ≡ true) (λ t. let f : true ≡ false = sym t ∙ uncommitted in cc) (λ m t. g.attempts.busy m (busy-turn (w.views m) t))
+
+      lock_free : (x : ℕ) → w.lock ≡ x → w.lock ≡ 0
+      lock_free zero e = e
+      lock_free (suc k) e = absurd (nobody-takes k (g.lock.owner k (let o : w.lock ≡ 1 + k = omega arith in o)))
+
+      pub lock-rests : w.lock ≡ 0
+      lock-rests = lock_free w.lock refl
+
+      -- while its attempt isn't promoted the heap is the memory
+      pub running-rests : (w.views n).gate.holds ≡ true → (w.views n).gate.granted ≡ false → (has_records (alg_of w.gate) ≡ true → (r m : ℕ) → rec_of (w.records r) ≡ Taken m → ⊥) → ((a : ℕ) → w.heap a ≡ word_now w.history a) × (alg_of w.gate ≡ Tml → w.clock % 2 ≡ 0) × (alg_of w.gate ≡ RingSw → ((m : ℕ) → (w.views m).attempt.entered ≡ false) → w.done ≡ w.clock)
+      running-rests holds plain freed = at-rest c (alg_of w.gate) (run_scene w) (subst (λ (r : Regime). Runs c r (run_scene w)) (regime-held holds plain) g.running) lock-rests nobody-writes nobody-commits freed
+
+  record_free : (checked : HasChecked c.callers n (w.views n)) (r : ℕ) → touches (w.views n).owned.held r ≡ false → (b : Bool) → is_owned (w.records r) ≡ b → b ≡ false
+  record_free checked r bare true e = absurd (nobody-by checked (λ m. touches (w.views m).owned.held r ≡ true) (λ t. let f : true ≡ false = sym t ∙ bare in cc) (λ m t. g.records.inside m r t) (owner_of (w.records r)) (g.records.owned r e))
+  record_free checked r bare false e = refl
+
+  -- who has seen all others idle alone may have raised the clock as the gate's holder
+  pub nobody-enters : HasChecked c.callers n (w.views n) → (w.views n).attempt.entered ≡ false → (m : ℕ) → (w.views m).attempt.entered ≡ false
+  nobody-enters checked own m = go (w.views m).attempt.entered refl
     where
-      apart : (b : Bool) → (m == n) ≡ b → ⊥
-      apart true e = let same : m ≡ n = grind (arith, nat_tests, e) in let p : In ≡ Closing = sym inside ∙ (ap (λ k. (w.views k).gate.phase) same ∙ quiet.closing) in cc
-      apart false e = let p : false ≡ true = sym (ap rests inside) ∙ others-rest c.callers w n quiet.closing quiet.checked g.gate m (λ same. grind (arith, nat_tests, e, same)) in cc
+      resting : (p : Phase) → rests p ≡ true → may_hold p ≡ true → ⊥
+      resting Idle r h = cc
+      resting Announced r h = cc
+      resting Turned r h = cc
+      resting Aiming r h = cc
+      resting In r h = cc
+      resting Closing r h = cc
 
-  pub nobody-takes : (m : ℕ) → (w.views m).lock.taken ≡ true → ⊥
-  nobody-takes m t = nobody_in m (g.lock.inside m t)
+      apart : (b : Bool) → (m == n) ≡ b → (w.views m).attempt.entered ≡ true → ⊥
+      apart true q e = let same : m ≡ n = grind (arith, nat_tests, q) in let f : true ≡ false = sym (subst (λ (k : ℕ). (w.views k).attempt.entered ≡ true) same e) ∙ own in cc
+      apart false q e = resting (w.views m).gate.phase (others-rest c.callers w n checked g.gate m (λ same. grind (arith, nat_tests, q, same))) (g.attempts.entered m e)
 
-  lock_free : (x : ℕ) → w.lock ≡ x → w.lock ≡ 0
-  lock_free zero e = e
-  lock_free (suc k) e = absurd (nobody-takes k (g.lock.owner k (let o : w.lock ≡ 1 + k = omega arith in o)))
+      go : (b : Bool) → (w.views m).attempt.entered ≡ b → b ≡ false
+      go true e = absurd (apart (m == n) refl e)
+      go false e = refl
 
-  -- each algorithm that is built leaves the memory in the heap when nobody is in an attempt of it
-  heap_by : (a : Alg) → alg_of w.gate ≡ a → is_built a ≡ true → (at : ℕ) → w.heap at ≡ word_now w.history at
-  heap_by Cgl e b at = (g.cgl e).free (lock_free w.lock refl) at
-  heap_by Tml e b at = absurd cc
-  heap_by OrecLazy e b at = absurd cc
-  heap_by OrecEager e b at = absurd cc
-  heap_by RingSw e b at = absurd cc
-  heap_by Serial e b at = absurd cc
-
-  pub heap-rests : (at : ℕ) → w.heap at ≡ word_now w.history at
-  heap-rests = heap_by (alg_of w.gate) refl g.built
-
-  record_free : (r : ℕ) (b : Bool) → is_owned (w.records r) ≡ b → b ≡ false
-  record_free r true e = absurd (nobody_in (owner_of (w.records r)) (g.records.inside (owner_of (w.records r)) r (g.records.owned r e)))
-  record_free r false e = refl
-
-  not_tml : (a : Alg) → is_built a ≡ true → a ≡ Tml → ⊥
-  not_tml a b e = let f : is_built Tml ≡ true = ap is_built (sym e) ∙ b in cc
-
-  not_ring : (a : Alg) → is_built a ≡ true → a ≡ RingSw → ⊥
-  not_ring a b e = let f : is_built RingSw ≡ true = ap is_built (sym e) ∙ b in cc
-
-  -- THE LAW OF QUIESCENCE
-  pub quiet-rests : AtRest n w
-  quiet-rests = record {
-    rest = record {
-      gate = g.gate.mine n (g.gate.closing n quiet.closing);
-      others = others-rest c.callers w n quiet.closing quiet.checked g.gate;
-      heap = λ a. heap-rests a ∙ (sym (word_at-all w.history (w.clock + 1) w.clock a g.history.below (le_refl (w.clock + 1))) ∙ ap (λ p. over (in_place_at p (w.views n).attempt.stores) a (word_at w.history w.clock a)) (sym quiet.closing));
-      lock = lock_free w.lock refl;
-      records = λ r t. (record_free r (is_owned (w.records r)) refl, g.records.free r (record_free r (is_owned (w.records r)) refl));
-      even = λ e. absurd (not_tml (alg_of w.gate) g.built e);
-      done = λ e. absurd (not_ring (alg_of w.gate) g.built e);
-    };
-    outside = quiet.closing;
+  -- the parts of rest that are the same for who closes and who promotes
+  rest_of : (checked : HasChecked c.callers n (w.views n)) → (w.views n).gate.holds ≡ true → w.lock ≡ 0 → ((a : ℕ) → w.heap a ≡ over (in_place (w.views n)) a (word_now w.history a)) → (alg_of w.gate ≡ Tml → w.clock % 2 ≡ 0) → (alg_of w.gate ≡ RingSw → (w.views n).attempt.entered ≡ false → w.done ≡ w.clock) → Rest n w
+  rest_of checked holds lock heap even done = record {
+    gate = g.gate.mine n holds;
+    others = others-rest c.callers w n checked g.gate;
+    heap = λ a. heap a ∙ ap (over (in_place (w.views n)) a) (sym (word_at-all w.history (w.clock + 1) w.clock a g.history.below (le_refl (w.clock + 1))));
+    lock = lock;
+    records = λ r t. (record_free checked r t (is_owned (w.records r)) refl, g.records.free r (record_free checked r t (is_owned (w.records r)) refl));
+    even = even;
+    done = done;
   }
 
-  -- THE LAW OF INSTALLING: the next algorithm starts from rest, with BASE and DONE at the clock
-  pub installed-rests : HasInstalled n w → AtRest n w × IsInstalled n w
-  installed-rests i = (
-    quiet-rests,
-    record {
-      base = (let t = g.install.time n i.calm in let b = (g.install.rebased n i.rebased).1 in omega arith);
-      done = (let t = g.install.time n i.calm in let d = (g.install.completed n i.completed).1 in omega arith);
-      named = g.gate.held n (g.gate.closing n quiet.closing);
-    },
-  )
+  -- THE LAW OF QUIESCENCE OF A PROMOTER: its own stores lie in the heap, and all else is at rest
+  pub promoting-rests : IsPromoting c n w → Rest n w
+  promoting-rests p = rest_of p.checked p.holds (lock-rests p.checked p.unlocked p.reads p.uncommitted) (by (w.views n).gate.granted refl).0 (by (w.views n).gate.granted refl).1 (by (w.views n).gate.granted refl).2
+    where
+      own : in_place (w.views n) ≡ (w.views n).attempt.stores
+      own = ap (λ q. in_place_at q (own_stores (w.views n))) p.phase ∙ ap (λ (b : Bool). if b then (if (w.views n).gate.granted then (w.views n).attempt.stores else (w.views n).owned.in_place) else (w.views n).attempt.stores) p.apart
+
+      named : alg_of w.gate ≡ (w.views n).gate.algorithm
+      named = g.gate.named n p.phase
+
+      no_records : IsInsideOf (w.views n) → has_records (w.views n).gate.algorithm ≡ true → ⊥
+      no_records i has = ⊎_elim (λ t. let f : has_records Tml ≡ true = ap has_records (sym t.0) ∙ has in cc) (λ t. let f : has_records RingSw ≡ true = ap has_records (sym t.0) ∙ has in cc) i
+
+      -- before the grant nothing is stored
+      none : (w.views n).gate.granted ≡ false → (w.views n).attempt.stores ≡ []
+      none e = ⊎_elim
+          (λ t. let r : TmlRule c.words (tml_part (run_scene w)) = subst (λ (q : Regime). Runs c q (run_scene w)) (regime-held p.holds e ∙ ap Running (named ∙ t.0)) g.running in (r.reader n t.1).unstored p.reads)
+          (λ t. let r : RingRule slot_filter c.ring c.words (ring_part (run_scene w)) = subst (λ (q : Regime). Runs c q (run_scene w)) (regime-held p.holds e ∙ ap Running (named ∙ t.0)) g.running in (r.reader n t.1).unstored)
+          p.inside
+
+      by : (b : Bool) → (w.views n).gate.granted ≡ b → ((a : ℕ) → w.heap a ≡ over (in_place (w.views n)) a (word_now w.history a)) × (alg_of w.gate ≡ Tml → w.clock % 2 ≡ 0) × (alg_of w.gate ≡ RingSw → (w.views n).attempt.entered ≡ false → w.done ≡ w.clock)
+      by true e =
+          let d : DirectRuns c (w.views n).gate.algorithm n (run_scene w) = subst (λ (r : Regime). Runs c r (run_scene w)) (regime-granted c w n g.gate g.install e) g.running in
+          (λ a. d.direct.stored a ∙ ap (λ (l : List Cell). over l a (word_now w.history a)) (sym own), λ q. even d (sym named ∙ q), λ q f. (d.ring (sym named ∙ q)).level f)
+        where
+          even : DirectRuns c (w.views n).gate.algorithm n (run_scene w) → (w.views n).gate.algorithm ≡ Tml → w.clock % 2 ≡ 0
+          even d q = let s : TmlSuits (suit_scene n w) = subst (λ (a : Alg). Suits (home_of c) a (suit_scene n w)) q d.suits in s.even
+      by false e =
+          let r = running-rests p.checked p.unlocked p.reads p.uncommitted p.holds e (λ has. absurd (no_records p.inside (ap has_records (sym named) ∙ has))) in
+          (λ a. r.0 a ∙ ap (λ (l : List Cell). over l a (word_now w.history a)) (sym (own ∙ none e)), r.1, λ q f. r.2 q (nobody-enters p.checked f))
+
+  -- and under the records
+  pub orec-promoting-rests : IsOrecPromoting c n w → Rest n w
+  orec-promoting-rests p = rest_of p.checked p.holds (lock-rests p.checked p.unlocked p.reads p.uncommitted) (by (w.views n).gate.granted refl) (λ e. absurd (other (alg_of w.gate) e (ap has_records (g.gate.named n p.phase) ∙ p.algorithm))) (λ e. absurd (ringless (alg_of w.gate) e (ap has_records (g.gate.named n p.phase) ∙ p.algorithm)))
+    where
+      other : (a : Alg) → a ≡ Tml → has_records a ≡ true → ⊥
+      other a e has = let f : has_records Tml ≡ true = ap has_records (sym e) ∙ has in cc
+
+      ringless : (a : Alg) → a ≡ RingSw → has_records a ≡ true → ⊥
+      ringless a e has = let f : has_records RingSw ≡ true = ap has_records (sym e) ∙ has in cc
+
+      own : (b : Bool) → (w.views n).gate.granted ≡ b → in_place (w.views n) ≡ (if b then (w.views n).attempt.stores else (w.views n).owned.in_place)
+      own b e = ap (λ q. in_place_at q (own_stores (w.views n))) p.phase ∙ (ap (λ (i : Bool). if i then (if (w.views n).gate.granted then (w.views n).attempt.stores else (w.views n).owned.in_place) else (w.views n).attempt.stores) p.inside ∙ ap (λ (i : Bool). if i then (w.views n).attempt.stores else (w.views n).owned.in_place) e)
+
+      by : (b : Bool) → (w.views n).gate.granted ≡ b → (a : ℕ) → w.heap a ≡ over (in_place (w.views n)) a (word_now w.history a)
+      by true e a =
+          let d : DirectRuns c (w.views n).gate.algorithm n (run_scene w) = subst (λ (r : Regime). Runs c r (run_scene w)) (regime-granted c w n g.gate g.install e) g.running in
+          d.direct.stored a ∙ ap (λ (l : List Cell). over l a (word_now w.history a)) (sym (own true e))
+      by false e a =
+          let runs : RunsOrec (w.views n) = record { phase = p.phase; algorithm = p.algorithm; plain = e } in
+          alone-heap (home_of c) c.words (orec_scene w) n p.inside (p.open_yet e) (λ m d t. nobody-else p.checked m d (g.attempts.busy m (busy-owned (w.views m) t))) (full-world good c w (orec-world good c w n g runs)) a ∙ ap (λ (l : List Cell). over l a (word_now w.history a)) (sym (own false e))
+
+  module _ (quiet : IsQuiet c n w) where
+    out_of : (w.views n).gate.phase ≡ In → ⊥
+    out_of e = let k : In ≡ Closing = sym e ∙ quiet.closing in cc
+
+    nobody_in : (m : ℕ) → (w.views m).gate.phase ≡ In → ⊥
+    nobody_in = nobody-by quiet.checked (λ m. (w.views m).gate.phase ≡ In) out_of (λ m e. e)
+
+    free : (b : Bool) → (w.views n).lock.taken ≡ b → b ≡ false
+    free true t = absurd (nobody_in n (g.lock.inside n t))
+    free false t = refl
+
+    reads : (b : Bool) → (w.views n).tml.writer ≡ b → b ≡ false
+    reads true t = absurd (nobody_in n (g.attempts.busy n (busy-writer (w.views n) t)))
+    reads false t = refl
+
+    early : (b : Bool) → (w.views n).ring_commit.committed ≡ b → b ≡ false
+    early true t = absurd (nobody_in n (g.attempts.busy n (busy-turn (w.views n) t)))
+    early false t = refl
+
+    bare : (r : ℕ) (b : Bool) → touches (w.views n).owned.held r ≡ b → b ≡ false
+    bare r true t = absurd (nobody_in n (g.records.inside n r t))
+    bare r false t = refl
+
+    plain : (w.views n).gate.granted ≡ false
+    plain = ungranted-out good c w n g out_of
+
+    pub quiet-regime : regime w ≡ Running (alg_of w.gate)
+    quiet-regime = regime-held (g.gate.closing n quiet.closing) plain
+
+    -- no record is owned
+    pub quiet-freed : (r m : ℕ) → rec_of (w.records r) ≡ Taken m → ⊥
+    quiet-freed r m e = nobody_in m (g.records.inside m r (owner-holds good c w g r m e))
+
+    pub heap-rests : ((a : ℕ) → w.heap a ≡ word_now w.history a) × (alg_of w.gate ≡ Tml → w.clock % 2 ≡ 0) × (alg_of w.gate ≡ RingSw → ((m : ℕ) → (w.views m).attempt.entered ≡ false) → w.done ≡ w.clock)
+    heap-rests = running-rests quiet.checked (free (w.views n).lock.taken refl) (reads (w.views n).tml.writer refl) (early (w.views n).ring_commit.committed refl) (g.gate.closing n quiet.closing) plain (λ has. quiet-freed)
+
+    -- nobody is in an attempt
+    pub quiet-ease : Ease (run_scene w)
+    quiet-ease = record { heap = heap-rests.0; unlocked = λ m t. nobody_in m (g.lock.inside m t); outside = λ m t. nobody_in m (g.attempts.busy m (busy-tml (w.views m) t)); unwritten = λ m t. nobody_in m (g.attempts.busy m (busy-writer (w.views m) t)); unread = λ m t. nobody_in m (g.attempts.busy m (busy-ring (w.views m) t)); uncommitted = λ m t. nobody_in m (g.attempts.busy m (busy-turn (w.views m) t)); inside = λ m t. nobody_in m (g.attempts.busy m (busy-owned (w.views m) t)); unheld = λ m r t. nobody_in m (g.records.inside m r t); freed = quiet-freed; below = g.history.below }
+
+    -- THE LAW OF QUIESCENCE
+    pub quiet-rests : AtRest n w
+    quiet-rests = record {
+      rest = rest_of quiet.checked (g.gate.closing n quiet.closing) (lock-rests quiet.checked (free (w.views n).lock.taken refl) (reads (w.views n).tml.writer refl) (early (w.views n).ring_commit.committed refl))
+          (λ a. heap-rests.0 a ∙ ap (λ p. over (in_place_at p (own_stores (w.views n))) a (word_now w.history a)) (sym quiet.closing)) heap-rests.1 (λ e own. heap-rests.2 e (nobody-enters quiet.checked own));
+      outside = quiet.closing;
+    }
+
+    -- THE LAW OF INSTALLING: the next algorithm starts from rest, with BASE and DONE at the clock
+    pub installed-rests : HasInstalled n w → AtRest n w × IsInstalled n w
+    installed-rests i = (
+      quiet-rests,
+      record {
+        base = (let t = g.install.time n i.calm in let b = (g.install.rebased n i.rebased).1 in omega arith);
+        done = (let t = g.install.time n i.calm in let d = (g.install.completed n i.completed).1 in omega arith);
+        named = g.gate.held n (g.gate.closing n quiet.closing);
+      },
+    )

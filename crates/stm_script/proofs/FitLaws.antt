@@ -6,7 +6,7 @@ use Rattle.stm_model.specs.Memories.{overlay, Explains}
 use Rattle.stm_model.specs.Histories.{Entry, memory_at, IsLegal}
 use Rattle.stm_model.specs.HistoryLaws.{memory_at-entry, length-memory_at}
 use Rattle.stm_script.specs.declared.op.Op.{Op}
-use Rattle.stm_script.specs.declared.op.Op.TheVariants.{Read, Write, Add, Move, Cancel}
+use Rattle.stm_script.specs.declared.op.Op.TheVariants.{Read, Write, Add, Move, Emit, Irrev, Cancel}
 use Rattle.stm_script.specs.declared.region.Region.{Region}
 use Rattle.stm_script.specs.declared.report.Kind.{Kind}
 use Rattle.stm_script.specs.declared.report.Kind.TheVariants.{W, R, C}
@@ -31,6 +31,8 @@ module _ (regions : List Region) where
   op-quiet (Write a v) m h = absurd cc
   op-quiet (Add a k) m h = absurd cc
   op-quiet (Move a b k) m h = moves-quiet a b k m (ltb (get_or m a 0) k) h
+  op-quiet (Emit a) m h = refl
+  op-quiet Irrev m h = refl
   op-quiet Cancel m h = refl
 
   or-left : (a b : Bool) → a || b ≡ false → a ≡ false

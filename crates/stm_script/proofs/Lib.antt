@@ -1,3 +1,6 @@
+mod OperationLaws
+mod KeepingLaws
+mod RunLaws
 mod Rooms
 mod ReplayLaws
 mod FitLaws

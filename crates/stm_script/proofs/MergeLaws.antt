@@ -50,10 +50,6 @@ one_at-less : (t x : ℕ × ℕ) → Less t x → one_at t x ≡ 0
 one_at-less t x (inl h) = rw (test-other x.0 t.0 (λ e. absurd (omega arith))) refl
 one_at-less t x (inr h) = second-other (x.0 == t.0) (x.1 == t.1) (test-other x.1 t.1 (λ e. let k = h.1 in absurd (omega arith)))
 
-one_at-more : (t x : ℕ × ℕ) → Less x t → one_at t x ≡ 0
-one_at-more t x (inl h) = rw (test-other x.0 t.0 (λ e. absurd (omega arith))) refl
-one_at-more t x (inr h) = second-other (x.0 == t.0) (x.1 == t.1) (test-other x.1 t.1 (λ e. let k = h.1 in absurd (omega arith)))
-
 less-at_most : (t p x : ℕ × ℕ) → Less t p → AtMost p x → Less t x
 less-at_most t p x (inl h) (inl k) = inl (omega arith)
 less-at_most t p x (inl h) (inr k) = inl (let e = k.0 in omega arith)

@@ -1,11 +1,25 @@
 -- Room that a reply takes.
-use Rattle.std.proofs.Common.{ℕ, ◌≡◌, ◌+◌, ◌<◌, ap, ◌∙◌, take, List, [], ◌∷◌, ◌++◌, length, length-append, subst, sym, arith}
+use Rattle.std.proofs.Common.{ℕ, ◌≡◌, ◌+◌, ◌<◌, ◌≤◌, ap, ◌∙◌, take, List, [], ◌∷◌, ◌++◌, length, length-append, subst, sym, arith}
 use Rattle.std.proofs.lemmas.List.{length-take-le}
+use Rattle.stm_script.specs.declared.op.Op.{Op}
+use Rattle.stm_script.specs.declared.op.Op.TheVariants.{Read, Write, Add, Move, Emit, Irrev, Cancel}
+use Rattle.stm_script.specs.Operations.{emits_of}
 use Rattle.stm_script.specs.Outputs.{Output, HasRoom}
 
-pub room-reply : (o p : Output) (r n : ℕ) → p ≡ record o { replies = o.replies ++ r ∷ [] } → HasRoom o (n + 1) → HasRoom p n
-room-reply o p r n is h =
+emits-few : (op : Op) (r : ℕ) → length (emits_of op r) ≤ 1
+emits-few (Read a) r = omega arith
+emits-few (Write a v) r = omega arith
+emits-few (Add a k) r = omega arith
+emits-few (Move a b k) r = omega arith
+emits-few (Emit a) r = omega arith
+emits-few Irrev r = omega arith
+emits-few Cancel r = omega arith
+
+pub room-reply : (o p : Output) (op : Op) (r n : ℕ) → p ≡ record o { replies = o.replies ++ r ∷ []; emits = o.emits ++ emits_of op r } → HasRoom o (n + 1) → HasRoom p n
+room-reply o p op r n is h =
     let more : length (o.replies ++ r ∷ []) ≡ length o.replies + 1 = length-append o.replies (r ∷ []) in
+    let told : length (o.emits ++ emits_of op r) ≡ length o.emits + length (emits_of op r) = length-append o.emits (emits_of op r) in
+    let few = emits-few op r in
     let a = h.0 in
     let b = h.1 in
     subst (λ q. HasRoom q n) (sym is) (omega arith, omega arith)

@@ -30,9 +30,6 @@ append-nil : {A : Type 0} (xs : List A) → xs ++ [] ≡ xs
 append-nil [] = refl
 append-nil (x ∷ xs) = ap (λ w. x ∷ w) (append-nil xs)
 
-pub grew-refl : (seen : List Entry) (front : ℕ) → Grew seen front seen front
-grew-refl seen front = record { later = []; is = sym (append-nil seen); ascending = tt; up_to = tt; front_rose = omega arith }
-
 ascending-append : (a b : ℕ) (xs ys : List Entry) → Ascending a xs → Within b xs → a ≤ b → Ascending b ys → Ascending a (xs ++ ys)
 ascending-append a b [] [] h u le k = tt
 ascending-append a b [] (y ∷ ys) h u le k = (let z = k.0 in omega arith, k.1)

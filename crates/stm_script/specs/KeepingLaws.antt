@@ -1,26 +1,19 @@
 -- What keeps the rule on memories leads from a log that keeps it to one that does.
 use Rattle.std.proofs.Common.{ℕ, ◌≡◌, List, [], ◌∷◌, length, get_or, Bool, true, false, refl, sym, ◌∙◌, subst}
-use Rattle.std.specs.Prelude.{Result, Ok, Err, IfOk, OnOk, ltb, if◌then◌else◌}
+use Rattle.std.specs.Prelude.{ltb, if◌then◌else◌}
 use Rattle.std.proofs.Math.ListN.{length-set}
 use Rattle.std.proofs.lemmas.List.Elements.{All-head, All-tail}
 use Rattle.stm_model.specs.Memories.{overlay}
 use Rattle.stm_model.specs.Logs.{Log, Keeps}
 use Rattle.stm_model.specs.Overlays.{overlay-length}
-use Rattle.stm_model.specs.declared.stop.Stop.{Stop}
 use Rattle.stm_script.specs.declared.op.Op.{Op}
-use Rattle.stm_script.specs.declared.op.Op.TheVariants.{Read, Write, Add, Move, Cancel}
+use Rattle.stm_script.specs.declared.op.Op.TheVariants.{Read, Write, Add, Move, Emit, Irrev, Cancel}
 use Rattle.stm_script.specs.declared.region.Region.{Region}
-use Rattle.stm_script.specs.Operations.{Effect, replies, moved, effect_of, DoesOver, is_cancel}
+use Rattle.stm_script.specs.Operations.{replies, moved, effect_of}
 use Rattle.stm_script.specs.Outputs.{Output}
-use Rattle.stm_script.specs.Scripts.{Ran, run, before_cancel}
+use Rattle.stm_script.specs.Scripts.{Ran, run}
 use Rattle.stm_script.specs.ScriptLaws.{GaveOver}
 use Rattle.stm_script.specs.Keeping.{KeepsGood, OpKeeps, ScriptKeeps}
-
-pub keeps-does : (good : List ℕ → Type 0) (words : ℕ) (effect : List ℕ → Effect) (l : Log) (reply : ℕ) (k : Log)
-    → DoesOver good words effect l reply k → KeepsGood good words (λ m. (effect m).memory) → Keeps good words l → Keeps good words k
-keeps-does good words effect l reply k does rule h = λ m fine len ex.
-    let d = does m fine len ex in
-    subst good (sym d.left) (rule (overlay m l.writes) (h m fine len d.explained) (overlay-length m l.writes ∙ len))
 
 pub keeps-gave : (good : List ℕ → Type 0) (words : ℕ) (ran : List ℕ → Ran) (l : Log) (before : Output) (k : Log) (after : Output)
     → GaveOver good words ran l before k after → KeepsGood good words (λ m. (ran m).memory) → Keeps good words l → Keeps good words k
@@ -38,6 +31,8 @@ length-effect regions (Read a) m = refl
 length-effect regions (Write a v) m = simp length-set
 length-effect regions (Add a k) m = simp length-set
 length-effect regions (Move a b k) m = length-moves a b k m (ltb (get_or m a 0) k)
+length-effect regions (Emit a) m = refl
+length-effect regions Irrev m = refl
 length-effect regions Cancel m = refl
 
 -- operations that each keep the rule keep it one after the other
@@ -46,22 +41,3 @@ keeps-run good words regions [] h = λ m fine len. fine
 keeps-run good words regions (op ∷ ops) h = λ m fine len.
     let P : Op → Type 0 = OpKeeps good words regions in
     keeps-run good words regions ops (All-tail P op ops h) (effect_of regions op m).memory (All-head P op ops h m fine len) (length-effect regions op m ∙ len)
-
-keeps-before-by : (good : List ℕ → Type 0) (words : ℕ) (regions : List Region) (b : Bool) (op : Op) (ops : List Op)
-    → OpKeeps good words regions op → KeepsGood good words (λ m. (run regions ops m).memory)
-    → KeepsGood good words (λ m. (run regions (if b then [] else op ∷ ops) m).memory)
-keeps-before-by good words regions true op ops one rest = λ m fine len. fine
-keeps-before-by good words regions false op ops one rest = λ m fine len. rest (effect_of regions op m).memory (one m fine len) (length-effect regions op m ∙ len)
-
-pub keeps-before : (good : List ℕ → Type 0) (words : ℕ) (regions : List Region) (ops : List Op) → ScriptKeeps good words regions ops → KeepsGood good words (λ m. (run regions (before_cancel ops) m).memory)
-keeps-before good words regions [] h = λ m fine len. fine
-keeps-before good words regions (op ∷ ops) h =
-    let P : Op → Type 0 = OpKeeps good words regions in
-    keeps-before-by good words regions (is_cancel op) op (before_cancel ops) (All-head P op ops h) (keeps-before good words regions ops (All-tail P op ops h))
-
--- as the clauses of run_op and interpret say it
-pub keeps-op : (good : List ℕ → Type 0) (words : ℕ) (regions : List Region) (op it : Op) (l k : Log) (result : Result ℕ Stop) → op ≡ it
-    → IfOk result (λ r. DoesOver good words (effect_of regions it) l r k)
-    → OnOk result (OpKeeps good words regions op → Keeps good words l → Keeps good words k)
-keeps-op good words regions op it l k (Ok r) is does = keeps-does good words (effect_of regions op) l r k (subst (λ o. DoesOver good words (effect_of regions o) l r k) (sym is) does)
-keeps-op good words regions op it l k (Err s) is does = tt

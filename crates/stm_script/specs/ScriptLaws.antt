@@ -1,8 +1,8 @@
 -- A script over a log, whole and in the middle.
-use Rattle.std.specs.Prelude.{ℕ, ◌≡◌, Bool, true, false, ◌||◌, not, List, [], ◌∷◌, ◌++◌, length}
+use Rattle.std.specs.Prelude.{ℕ, ◌≡◌, Bool, true, false, ◌||◌, not, ◌<◌, List, [], ◌∷◌, ◌++◌, length, take}
 use Rattle.std.proofs.Common.{refl, sym, ap, ◌∙◌, append_assoc}
 use Rattle.stm_model.specs.Memories.{overlay, Explains, is_empty}
-use Rattle.stm_model.specs.Logs.{Log}
+use Rattle.stm_model.specs.Logs.{Log, IsExplained}
 use Rattle.stm_script.specs.declared.op.Op.{Op}
 use Rattle.stm_script.specs.declared.region.Region.{Region}
 use Rattle.stm_script.specs.Operations.{effect_of}
@@ -19,6 +19,14 @@ pub record Gave (ran : List ℕ → Ran) (m : List ℕ) (l : Log) (before : Outp
 
 abbrev pub GaveOver : (List ℕ → Type 0) → ℕ → (List ℕ → Ran) → Log → Output → Log → Output → Type 0
 GaveOver good words ran l before k after = (m : List ℕ) → good m → length m ≡ words → Explains m k.reads → Gave ran m l before k after
+
+-- the operations before the one that stopped gave this: so many of them, and the log then
+pub record GaveUpTo (good : List ℕ → Type 0) (words : ℕ) (regions : List Region) (ops : List Op) (l : Log) (before after : Output) : Type 0 where
+  pub count : ℕ
+  pub log : Log
+  pub within : count < length ops
+  pub explained : IsExplained good words l → IsExplained good words log
+  pub gave : GaveOver good words (run regions (take count ops)) l before log after
 
 -- one operation
 abbrev pub ran_one : List Region → Op → List ℕ → Ran

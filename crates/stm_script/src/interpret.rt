@@ -1,10 +1,10 @@
 //! Scripts over any access.
-ghost use Rattle.std.specs.Prelude.{◌≡◌, ◌<◌, ◌≤◌, ◌+◌, ◌++◌, ◌∷◌, [], ℕ, None, Some, All, IfOk, OnOk, IfErr, length, take, true};
+ghost use Rattle.std.specs.Prelude.{◌≡◌, ◌<◌, ◌≤◌, ◌+◌, ◌++◌, ◌∷◌, [], ℕ, None, Some, All, IfOk, OnOk, IfErr, length, ltb, take};
 ghost use Rattle.stm_model.specs.Logs.{SameMemories, IsExplained, IsReadStop, Keeps};
 ghost use Rattle.stm_script.specs.Keeping.{ScriptKeeps};
-ghost use Rattle.stm_script.specs.Operations.{OpFits, ScriptFits, OnlyReads};
-ghost use Rattle.stm_script.specs.Scripts.{run, before_cancel, has_cancel, ran_to_end, HasEnd};
-ghost use Rattle.stm_script.specs.ScriptLaws.{GaveOver, ran_one};
+ghost use Rattle.stm_script.specs.Operations.{OpFits, ScriptFits, OnlyReads, emits_of};
+ghost use Rattle.stm_script.specs.Scripts.{run, before_cancel, has_cancel, up_to_end, ran_to_end};
+ghost use Rattle.stm_script.specs.ScriptLaws.{GaveOver, GaveUpTo, ran_one};
 ghost use Rattle.stm_script.specs.Outputs.{HasRoom};
 
 use crate::lists::Script;
@@ -16,11 +16,11 @@ use crate::report::Kind;
 use stm_model::access::Access;
 use stm_model::stop::Stop;
 
-/// Runs one operation and adds its reply to `out`; a cancel replies 0 and does nothing, as in a
-/// transaction that commits. Takes no memory beyond what the access takes.
+/// Runs one operation, and adds its reply and what it emits to `out`. A cancel replies 0 and does nothing,
+/// as in a transaction that commits; an irrev replies 1 and does nothing: it is for the caller to ask.
 ///
 /// # Errors
-/// The Stop of the access, from then on in `stopped`; `out` may then have gained nothing.
+/// The Stop of the access, from then on in `stopped`. `out` is then as it was.
 pub fn perform<A: Access>(
     acc: &mut A,
     regions: &Regions,
@@ -31,7 +31,8 @@ pub fn perform<A: Access>(
     requires within { OpFits regions.now (A.words acc.old) op.now }
     requires room { HasRoom out.old 1 }
     ensures gave { OnOk result (GaveOver (A.good acc.old) (A.words acc.old) (ran_one regions.now op.now) (A.log acc.old) out.old (A.log acc.new) out.new) }
-    ensures told { IfOk result (λ r. out.new ≡ record out.old { replies = out.old.replies ++ r ∷ [] }) }
+    ensures told { IfOk result (λ r. out.new ≡ record out.old { replies = out.old.replies ++ r ∷ []; emits = out.old.emits ++ emits_of op.now r }) }
+    ensures untold { IfErr result (λ s. out.new ≡ out.old) }
     ensures explained { OnOk result (IsExplained (A.good acc.old) (A.words acc.old) (A.log acc.old) → IsExplained (A.good acc.new) (A.words acc.new) (A.log acc.new)) }
     ensures kept_room { out.new.room ≡ out.old.room }
     ensures goes { OnOk result (A.stopped acc.new ≡ None) }
@@ -43,9 +44,10 @@ pub fn perform<A: Access>(
 {
     let reply = match op {
         Op::Cancel => 0,
+        Op::Irrev => 1,
         _ => run_op(acc, regions, op)?,
     };
-    out.reply(reply);
+    out.add(op, reply);
     Ok(reply)
 }
 
@@ -60,6 +62,7 @@ fn perform_all<A: Access>(
     requires within { ScriptFits regions.now (A.words acc.old) ops.now }
     requires room { HasRoom out.old (length ops.now) }
     ensures gave { OnOk result (GaveOver (A.good acc.old) (A.words acc.old) (run regions.now ops.now) (A.log acc.old) out.old (A.log acc.new) out.new) }
+    ensures gave_up_to { IfErr result (λ s. GaveUpTo (A.good acc.old) (A.words acc.old) regions.now ops.now (A.log acc.old) out.old out.new) }
     ensures explained { OnOk result (IsExplained (A.good acc.old) (A.words acc.old) (A.log acc.old) → IsExplained (A.good acc.new) (A.words acc.new) (A.log acc.new)) }
     ensures keeps_rule { OnOk result (ScriptKeeps (A.good acc.old) (A.words acc.old) regions.now ops.now → Keeps (A.good acc.old) (A.words acc.old) (A.log acc.old) → Keeps (A.good acc.old) (A.words acc.old) (A.log acc.new)) }
     ensures kept_room { out.new.room ≡ out.old.room }
@@ -77,11 +80,11 @@ fn perform_all<A: Access>(
     Ok(())
 }
 
-/// How many operations stand before the first cancel.
+/// How many operations stand before the first cancel: all where there is none.
 fn first_cancel(ops: &[Op]) -> usize
-    requires { has_cancel ops.now ≡ true }
     ensures before { take result ops.now ≡ before_cancel ops.now }
-    ensures within { result < length ops.now }
+    ensures within { result ≤ length ops.now }
+    ensures found { ltb result (length ops.now) ≡ has_cancel ops.now }
 {
     let mut end = 0;
     for op in ops {
@@ -90,16 +93,16 @@ fn first_cancel(ops: &[Op]) -> usize
         }
         end += 1;
     }
-    unreachable!()
+    end
 }
 
 /// Runs a script to the end that a transaction of this kind comes to: all operations for W and R, and
 /// for C those up to the first cancel, which replies 1; what was written before it is for the caller to
-/// cancel. Replies and emits are added to `out`. Takes no memory beyond what the access takes.
+/// cancel. Replies and emits are added to `out`.
 ///
 /// # Errors
 /// The Stop of the access, from then on in `stopped`; never ClockFull where every operation only reads.
-/// `out` has then gained the replies up to the operation that was stopped.
+/// `out` has then gained the replies and emits of the operations before the one that was stopped.
 pub fn interpret<A: Access>(
     acc: &mut A,
     regions: &Regions,
@@ -109,9 +112,9 @@ pub fn interpret<A: Access>(
 ) -> Result<(), Stop>
     requires going { A.stopped acc.old ≡ None }
     requires within { ScriptFits regions.now (A.words acc.old) script.now }
-    requires ends { HasEnd kind script.now }
     requires room { HasRoom out.old (length script.now) }
     ensures gave { OnOk result (GaveOver (A.good acc.old) (A.words acc.old) (ran_to_end regions.now kind script.now) (A.log acc.old) out.old (A.log acc.new) out.new) }
+    ensures gave_up_to { IfErr result (λ s. GaveUpTo (A.good acc.old) (A.words acc.old) regions.now (up_to_end kind script.now) (A.log acc.old) out.old out.new) }
     ensures explained { OnOk result (IsExplained (A.good acc.old) (A.words acc.old) (A.log acc.old) → IsExplained (A.good acc.new) (A.words acc.new) (A.log acc.new)) }
     // what the caller owes for a commit stays met where each operation keeps the rule on memories
     ensures keeps_rule { OnOk result (ScriptKeeps (A.good acc.old) (A.words acc.old) regions.now script.now → Keeps (A.good acc.old) (A.words acc.old) (A.log acc.old) → Keeps (A.good acc.old) (A.words acc.old) (A.log acc.new)) }
@@ -127,7 +130,11 @@ pub fn interpret<A: Access>(
     match kind {
         Kind::W | Kind::R => perform_all(acc, regions, ops, out),
         Kind::C => {
-            perform_all(acc, regions, &ops[..first_cancel(ops)], out)?;
+            let end = first_cancel(ops);
+            perform_all(acc, regions, &ops[..end], out)?;
+            if end == ops.len() {
+                return Ok(());
+            }
             out.reply(1);
             Ok(())
         }
@@ -142,10 +149,9 @@ mod tests {
     use std::test::Fail;
     use stm_model::plain::{Plain, PlainWord};
 
-    /// What the script replies over the words 5 and 2^64 - 1.
-    fn replies(alloc: Global, ops: Vec<Op>, kind: Kind) -> Result<Words, Fail>
-        requires fits { ScriptFits [] 2 ops.items }
-        requires ends { HasEnd kind ops.items }
+    /// What the script replies and emits over the words 5 and 2^64 - 1.
+    fn outputs(alloc: Global, ops: Vec<Op>, kind: Kind) -> Result<(Words, Words), Fail>
+        requires { ScriptFits [] 2 ops.items }
     {
         let five = PlainWord {
             opening: 5,
@@ -159,7 +165,13 @@ mod tests {
         let script = Script::new(ops);
         let mut out = Replies::new(alloc, script.as_slice().len())?;
         interpret(&mut plain, &Regions::none(alloc), &script, kind, &mut out)?;
-        let (replies, _) = out.into_words();
+        Ok(out.into_words())
+    }
+
+    fn replies(alloc: Global, ops: Vec<Op>, kind: Kind) -> Result<Words, Fail>
+        requires { ScriptFits [] 2 ops.items }
+    {
+        let (replies, _) = outputs(alloc, ops, kind)?;
         Ok(replies)
     }
 
@@ -196,8 +208,38 @@ mod tests {
     }
 
     #[test]
+    fn emits_after_an_irrev(rt: HostRuntime) -> Result<(), Fail> {
+        let alloc = rt.alloc();
+        let none: &[u64] = &[];
+        let kept: &[u64] = &[7, 1, 7, 0, u64::MAX];
+        let cut: &[u64] = &[7, 1, 7, 1];
+        let table = [
+            (Kind::W, kept, [7, u64::MAX].as_slice()),
+            (Kind::C, cut, [7].as_slice()),
+        ];
+        for (kind, replies, emits) in table {
+            let ops = vec![in alloc;
+                Op::Write(0, 7),
+                Op::Irrev,
+                Op::Emit(0),
+                Op::Cancel,
+                Op::Emit(1),
+            ]?;
+            let (replied, emitted) = outputs(alloc, ops, kind)?;
+            assert_eq!(rt; replied.as_slice(), replies);
+            assert_eq!(rt; emitted.as_slice(), emits);
+        }
+        let (replied, emitted) = outputs(alloc, vec![in alloc; Op::Read(0), Op::Irrev]?, Kind::C)?;
+        assert_eq!(rt; replied.as_slice(), [5, 1].as_slice());
+        assert_eq!(rt; emitted.as_slice(), none);
+        Ok(())
+    }
+
+    #[test]
     fn names_operations(rt: HostRuntime) {
         assert_eq!(rt; Op::Move(0, 1, 2).name(), "move");
+        assert_eq!(rt; Op::Emit(0).name(), "emit");
+        assert_eq!(rt; Op::Irrev.name(), "irrev");
         assert_eq!(rt; Op::Cancel.name(), "cancel");
     }
 }

@@ -13,13 +13,18 @@ pub enum Op {
     /// `move a b k`: where the word at `a` is less than `k` nothing happens, and the reply is 0. Else it
     /// becomes less by `k`, then the word at `b` becomes its sum with `k`; replies 1. `a` and `b` may be one.
     Move(usize, usize, u64),
+    /// `emit a`: the word at `a` goes to the emits; replies it. Only an attempt that has asked to be
+    /// irrevocable emits.
+    Emit(usize),
+    /// `irrev`: asks to be irrevocable; replies 1.
+    Irrev,
     /// `cancel`: in a cancelled transaction the first one ends the script and replies 1; in one that
     /// commits it replies 0 and the script goes on.
     Cancel,
 }
 
 impl Op {
-    ghost use Rattle.stm_script.specs.Operations.{is_cancel, op_name};
+    ghost use Rattle.stm_script.specs.Operations.{is_cancel, is_irrev, op_name};
 
     /// Whether the operation is `cancel`.
     pub fn is_cancel(&self) -> bool
@@ -30,7 +35,24 @@ impl Op {
             Op::Write(_, _) => false,
             Op::Add(_, _) => false,
             Op::Move(_, _, _) => false,
+            Op::Emit(_) => false,
+            Op::Irrev => false,
             Op::Cancel => true,
+        }
+    }
+
+    /// Whether the operation is `irrev`.
+    pub fn is_irrev(&self) -> bool
+        ensures { result ≡ is_irrev self.now }
+    {
+        match self {
+            Op::Read(_) => false,
+            Op::Write(_, _) => false,
+            Op::Add(_, _) => false,
+            Op::Move(_, _, _) => false,
+            Op::Emit(_) => false,
+            Op::Irrev => true,
+            Op::Cancel => false,
         }
     }
 
@@ -43,6 +65,8 @@ impl Op {
             Op::Write(_, _) => "write",
             Op::Add(_, _) => "add",
             Op::Move(_, _, _) => "move",
+            Op::Emit(_) => "emit",
+            Op::Irrev => "irrev",
             Op::Cancel => "cancel",
         }
     }

@@ -2,20 +2,21 @@
 ghost use Rattle.std.specs.Prelude.{◌≡◌, ◌<◌, ◌^◌, ◌+◌, ◌%◌, slice_index, None, Some, false, IfOk, OnOk, IfErr, length};
 ghost use Rattle.stm_model.specs.Logs.{SameMemories, IsExplained, IsReadStop, Keeps};
 ghost use Rattle.stm_script.specs.Keeping.{OpKeeps};
-ghost use Rattle.stm_script.specs.Operations.{OpFits, is_cancel, OnlyReads, DoesOver, effect_of, stores, moves, replies};
+ghost use Rattle.stm_script.specs.Operations.{OpFits, is_irrev, is_cancel, OnlyReads, DoesOver, effect_of, stores, moves, replies};
 
 use crate::op::Op;
 use crate::region::Regions;
 use stm_model::access::Access;
 use stm_model::stop::Stop;
 
-/// Runs one operation, any but `cancel`, and answers its reply, which is that of every good memory that
-/// explains the log. Takes no memory beyond what the access takes.
+/// Runs one operation, any but `irrev` and `cancel`, and answers its reply, which is that of every good
+/// memory that explains the log. What an `emit` emits is its reply.
 ///
 /// # Errors
 /// The Stop of the access, from then on in `stopped`. Never ClockFull where the operation only reads.
 pub fn run_op<A: Access>(acc: &mut A, regions: &Regions, op: &Op) -> Result<u64, Stop>
-    requires plain { is_cancel op.now ≡ false }
+    requires no_irrev { is_irrev op.now ≡ false }
+    requires no_cancel { is_cancel op.now ≡ false }
     requires going { A.stopped acc.old ≡ None }
     requires within { OpFits regions.now (A.words acc.old) op.now }
     ensures reply { IfOk result (λ r. DoesOver (A.good acc.old) (A.words acc.old) (effect_of regions.now op.now) (A.log acc.old) r (A.log acc.new)) }
@@ -35,7 +36,8 @@ pub fn run_op<A: Access>(acc: &mut A, regions: &Regions, op: &Op) -> Result<u64,
         Op::Write(a, v) => write(acc, a, v),
         Op::Add(a, k) => add(acc, a, k),
         Op::Move(a, b, k) => move_between(acc, a, b, k),
-        Op::Cancel => unreachable!(),
+        Op::Emit(a) => read(acc, a),
+        Op::Irrev | Op::Cancel => unreachable!(),
     }
 }
 

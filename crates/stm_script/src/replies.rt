@@ -1,8 +1,10 @@
 //! Room for the replies and emits of an attempt.
 ghost use Rattle.std.specs.Prelude.{◌≡◌, ◌<◌, ◌+◌, [], ◌∷◌, ◌++◌, IfOk, length};
-ghost use Rattle.stm_script.specs.Outputs.{Output};
+ghost use Rattle.stm_script.specs.Operations.{emits_of};
+ghost use Rattle.stm_script.specs.Outputs.{Output, HasRoom};
 
 use crate::lists::Words;
+use crate::op::Op;
 use std::alloc::Global;
 use std::marker::Model;
 use stm_model::memory::Memory;
@@ -62,6 +64,20 @@ impl Replies {
         (Words::new(replies), Words::new(emits))
     }
 
+    /// Adds the reply of an operation, and what it emits. Takes no memory.
+    pub fn add(&mut self, op: &Op, reply: u64)
+        requires { HasRoom self.old 1 }
+        ensures { self.new ≡ record self.old { replies = self.old.replies ++ reply ∷ []; emits = self.old.emits ++ emits_of op.now reply } }
+    {
+        match op {
+            Op::Emit(_) => {
+                self.emit(reply);
+                self.reply(reply);
+            }
+            _ => self.reply(reply),
+        }
+    }
+
     /// Adds a reply. Takes no memory.
     pub fn reply(&mut self, v: u64)
         requires { length self.old.replies < self.old.room }
@@ -71,7 +87,7 @@ impl Replies {
     }
 
     /// Adds an emit. Takes no memory.
-    pub fn emit(&mut self, v: u64)
+    fn emit(&mut self, v: u64)
         requires { length self.old.emits < self.old.room }
         ensures { self.new ≡ record self.old { emits = self.old.emits ++ v ∷ [] } }
     {

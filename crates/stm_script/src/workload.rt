@@ -4,6 +4,14 @@ ghost use Rattle.std.specs.Prelude.{◌≡◌};
 use crate::lists::Script;
 use std::marker::Model;
 use stm_model::alg::Alg;
+use stm_model::config::Config;
+
+/// The greatest number of items of a workload.
+pub const MAX_ITEMS: usize = 65_536;
+/// The greatest number of operations of a transaction.
+pub const MAX_OPS: usize = 4_096;
+/// The greatest number of turns of a schedule, in all and in one line.
+pub const MAX_TURNS: u64 = 1_000_000;
 
 /// The sizes and the start of a memory.
 #[derive(Clone, Copy, Drop, Debug, PartialEq, Eq)]
@@ -25,6 +33,25 @@ pub struct Header {
     pub alg: Alg,
     /// Whether the words 64 to 1,023 are those of the four structures.
     pub structs: bool,
+}
+
+impl Header {
+    ghost use Rattle.stm_script.specs.Workloads.{config_of};
+
+    /// The sizes and the opening clock of the memory that the header asks for.
+    pub fn config(&self) -> Config
+        ensures { result ≡ config_of self.now }
+    {
+        Config {
+            words: self.words,
+            records: self.records,
+            ring: self.ring,
+            callers: self.callers,
+            reads: self.reads,
+            writes: self.writes,
+            clock: self.clock,
+        }
+    }
 }
 
 /// One thing that a caller is to do.

@@ -4,13 +4,17 @@ use Rattle.std.specs.Prelude.{◌==◌, if◌then◌else◌, leb, ltb, codes, by
 use Rattle.std.proofs.lemmas.Bool.Decides.{nat_tests}
 use Rattle.std.proofs.lemmas.List.Elements.{All-nil, All-push}
 use Rattle.stm_model.specs.declared.alg.Alg.{Alg}
-use Rattle.stm_model.specs.declared.alg.Alg.TheVariants.{Cgl}
+use Rattle.stm_model.specs.declared.alg.TheConstants.{ALGORITHMS}
+use Rattle.stm_model.specs.declared.config.TheConstants.{MAX_WORDS, MAX_RECORDS, MIN_RING, MAX_RING, MAX_CALLERS, MAX_LOG, CLOCK_LIMIT}
+use Rattle.stm_model.specs.Algorithms.{alg_name, is_built}
 use Rattle.stm_script.specs.declared.op.Op.{Op}
-use Rattle.stm_script.specs.declared.op.Op.TheVariants.{Read, Write, Add as Sum, Move, Cancel}
+use Rattle.stm_script.specs.declared.op.Op.TheVariants.{Read, Write, Add as Sum, Move, Emit, Irrev, Cancel}
 use Rattle.stm_script.specs.declared.workload.Header.{Header}
 use Rattle.stm_script.specs.declared.workload.Item.TheVariants.{Tx, Switch}
 use Rattle.stm_script.specs.declared.workload.Go.{Go}
 use Rattle.stm_script.specs.declared.workload.Workload.{Workload}
+use Rattle.stm_script.specs.declared.workload.TheConstants.{MAX_ITEMS, MAX_OPS, MAX_TURNS}
+use Rattle.stm_script.specs.Scripts.{has_irrev}
 use Rattle.stm_text.specs.declared.draft.Place.{Place}
 use Rattle.stm_text.specs.declared.draft.Place.TheVariants.{Version, Words, Callers, Records, Ring, Reads, Writes, Clock, Algorithm, Structures, Items, Ops, Turns}
 use Rattle.stm_text.specs.declared.draft.Step.{Step}
@@ -19,8 +23,9 @@ use Rattle.stm_text.specs.declared.parse.Mode.{Mode}
 use Rattle.stm_text.specs.declared.parse.Mode.TheVariants.{Run, Step as Stepwise}
 use Rattle.stm_text.specs.Lines.{Line, words_of, any_bad, number_from, number_of}
 use Rattle.stm_text.specs.Drafts.{Writing, after, opening}
-use Rattle.stm_text.specs.Grammar.{◌>>=◌, named, formed, ranged, below, number, algorithm, sized, header_line, next_line, begun, changed, added, planned, scheduled, caller_of, address, operands, move_of, go_of, one_word, two_words, three_words, four_words, filled, by_words, step_of, ended, go_on, parsed}
-use Rattle.stm_text.specs.Built.{HeaderFits, OpFits, ScriptFits, ItemFits, GoFits, all_turns, ScheduleFits, IsBuilt}
+use Rattle.stm_text.specs.Grammar.{◌>>=◌, named, formed, ranged, below, number, algorithm_of, algorithm, sized, header_line, next_line, begun, changed, added, emitted, planned, scheduled, caller_of, address, operands, move_of, go_of, one_word, two_words, three_words, four_words, filled, by_words, step_of, ended, go_on, parsed}
+use Rattle.stm_text.specs.Built.{HeaderFits, OpFits, IsAllowed, ScriptFits, ItemFits, GoFits, all_turns, ScheduleFits, IsBuilt}
+use Rattle.stm_text.proofs.OrderLaws.{order-snoc}
 
 -- what an answer gives, where it is Ok
 abbrev pub Gives : {A B : Type 0} → (A → Type 0) → Result A B → Type 0
@@ -34,6 +39,10 @@ then-gives P Q (Err c) next h g = tt
 pub if-gives : {A : Type 0} (P : A → Type 0) (b : Bool) (x : Result A ℕ) (code : ℕ) → (b ≡ true → Gives P x) → Gives P (if b then x else Err code)
 if-gives P true x code h = h refl
 if-gives P false x code h = tt
+
+pub if-else-gives : {A : Type 0} (P : A → Type 0) (b : Bool) (x y : Result A ℕ) → (b ≡ true → Gives P x) → Gives P y → Gives P (if b then x else y)
+if-else-gives P true x y h g = h refl
+if-else-gives P false x y h g = g
 
 named-gives : {A : Type 0} (P : A → Type 0) (name w : List ℕ) (rest : Result A ℕ) → Gives P rest → Gives P (named name w rest)
 named-gives P name w rest h = if-gives P (bytes_eq w name) rest 4 (λ _. h)
@@ -85,56 +94,59 @@ sized-fits name low high w v =
     named-gives (λ k. (low ≤ k) × (k ≤ high)) name w (number low high v)
     (then-gives (λ n. n < 2 ^ 64) (λ k. (low ≤ k) × (k ≤ high)) (formed (number_of v)) (ranged low high) (formed-fits v) (λ n h. ranged-fits low high n))
 
-algorithm-fits : (w : List ℕ) → Gives (λ a. a ≡ Cgl) (algorithm w)
-algorithm-fits w = if-gives (λ a. a ≡ Cgl) (bytes_eq w (codes "CGL")) (Ok Cgl) 7 (λ _. refl)
+algorithm_of-fits : (algs : List Alg) (w : List ℕ) → Gives (λ a. is_built a ≡ true) (algorithm_of algs w)
+algorithm_of-fits [] w = tt
+algorithm_of-fits (alg ∷ algs) w =
+    if-else-gives (λ a. is_built a ≡ true) (bytes_eq w (alg_name alg) && is_built alg) (Ok alg) (algorithm_of algs w)
+    (λ e. let two = both-true (bytes_eq w (alg_name alg)) (is_built alg) e in two.1) (algorithm_of-fits algs w)
 
-header_line-fits : (m : Mode) (p : Place) (h : Header) (w v : List ℕ) → HeaderFits h → Gives (HeaderFits) (header_line p h w v)
-header_line-fits m Version h w v f =
-    named-gives (HeaderFits) (codes "stm") w (named (codes "1") v (Ok h)) (named-gives (HeaderFits) (codes "1") v (Ok h) f)
-header_line-fits m Words h w v f =
-    then-gives (λ k. (1 ≤ k) × (k ≤ 65536)) (HeaderFits) (sized (codes "words") 1 65536 w v) (λ n. Ok (record h { words = n })) (sized-fits (codes "words") 1 65536 w v)
-    (λ n k. record { words = k; callers = f.callers; records = f.records; ring = f.ring; reads = f.reads; writes = f.writes; clock = f.clock; alg = f.alg; structs = f.structs })
-header_line-fits m Callers h w v f =
-    then-gives (λ k. (1 ≤ k) × (k ≤ 32)) (HeaderFits) (sized (codes "callers") 1 32 w v) (λ n. Ok (record h { callers = n })) (sized-fits (codes "callers") 1 32 w v)
-    (λ n k. record { words = f.words; callers = k; records = f.records; ring = f.ring; reads = f.reads; writes = f.writes; clock = f.clock; alg = f.alg; structs = f.structs })
-header_line-fits m Records h w v f =
-    then-gives (λ k. (1 ≤ k) × (k ≤ 4096)) (HeaderFits) (sized (codes "records") 1 4096 w v) (λ n. Ok (record h { records = n })) (sized-fits (codes "records") 1 4096 w v)
-    (λ n k. record { words = f.words; callers = f.callers; records = k; ring = f.ring; reads = f.reads; writes = f.writes; clock = f.clock; alg = f.alg; structs = f.structs })
-header_line-fits m Ring h w v f =
-    then-gives (λ k. (2 ≤ k) × (k ≤ 64)) (HeaderFits) (sized (codes "ring") 2 64 w v) (λ n. Ok (record h { ring = n })) (sized-fits (codes "ring") 2 64 w v)
-    (λ n k. record { words = f.words; callers = f.callers; records = f.records; ring = k; reads = f.reads; writes = f.writes; clock = f.clock; alg = f.alg; structs = f.structs })
-header_line-fits m Reads h w v f =
-    then-gives (λ k. (1 ≤ k) × (k ≤ 4096)) (HeaderFits) (sized (codes "reads") 1 4096 w v) (λ n. Ok (record h { reads = n })) (sized-fits (codes "reads") 1 4096 w v)
-    (λ n k. record { words = f.words; callers = f.callers; records = f.records; ring = f.ring; reads = k; writes = f.writes; clock = f.clock; alg = f.alg; structs = f.structs })
-header_line-fits m Writes h w v f =
-    then-gives (λ k. (1 ≤ k) × (k ≤ 4096)) (HeaderFits) (sized (codes "writes") 1 4096 w v) (λ n. Ok (record h { writes = n })) (sized-fits (codes "writes") 1 4096 w v)
-    (λ n k. record { words = f.words; callers = f.callers; records = f.records; ring = f.ring; reads = f.reads; writes = k; clock = f.clock; alg = f.alg; structs = f.structs })
-header_line-fits m Clock h w v f =
-    then-gives (λ k. (0 ≤ k) × (k ≤ 2 ^ 62)) (HeaderFits) (sized (codes "clock") 0 (2 ^ 62) w v) (λ n. Ok (record h { clock = n })) (sized-fits (codes "clock") 0 (2 ^ 62) w v)
-    (λ n k. record { words = f.words; callers = f.callers; records = f.records; ring = f.ring; reads = f.reads; writes = f.writes; clock = k.1; alg = f.alg; structs = f.structs })
-header_line-fits m Algorithm h w v f =
-    then-gives (λ a. a ≡ Cgl) (HeaderFits) (named (codes "alg") w (algorithm v)) (λ a. Ok (record h { alg = a }))
-    (named-gives (λ a. a ≡ Cgl) (codes "alg") w (algorithm v) (algorithm-fits v))
-    (λ a k. record { words = f.words; callers = f.callers; records = f.records; ring = f.ring; reads = f.reads; writes = f.writes; clock = f.clock; alg = k; structs = f.structs })
-header_line-fits m Structures h w v f =
-    named-gives (HeaderFits) (codes "structs") w (named (codes "off") v (Ok (record h { structs = false })))
-    (named-gives (HeaderFits) (codes "off") v (Ok (record h { structs = false }))
-    (record { words = f.words; callers = f.callers; records = f.records; ring = f.ring; reads = f.reads; writes = f.writes; clock = f.clock; alg = f.alg; structs = refl }))
-header_line-fits m Items h w v f = tt
-header_line-fits m Ops h w v f = tt
-header_line-fits m Turns h w v f = tt
+algorithm-fits : (w : List ℕ) → Gives (λ a. is_built a ≡ true) (algorithm w)
+algorithm-fits w = algorithm_of-fits ALGORITHMS w
+
+-- a line that gives a number, where the header fits with each number in its range
+number-fits : (name : List ℕ) (low high : ℕ) (w v : List ℕ) (set : ℕ → Header) → ((n : ℕ) → (low ≤ n) × (n ≤ high) → HeaderFits (set n)) → Gives HeaderFits (sized name low high w v >>= λ n. Ok (set n))
+number-fits name low high w v set fits =
+    then-gives (λ k. (low ≤ k) × (k ≤ high)) HeaderFits (sized name low high w v) (λ n. Ok (set n)) (sized-fits name low high w v) fits
+
+header_line-fits : (p : Place) (h : Header) (w v : List ℕ) → HeaderFits h → Gives HeaderFits (header_line p h w v)
+header_line-fits Version h w v f =
+    named-gives HeaderFits (codes "stm") w (named (codes "1") v (Ok h)) (named-gives HeaderFits (codes "1") v (Ok h) f)
+header_line-fits Words h w v f =
+    number-fits (codes "words") 1 MAX_WORDS w v (λ n. record h { words = n }) (λ n k. let c = f.config in record { config = record { words = k; records = c.records; ring = c.ring; callers = c.callers; reads = c.reads; writes = c.writes; clock = c.clock }; alg = f.alg; structs = f.structs })
+header_line-fits Callers h w v f =
+    number-fits (codes "callers") 1 MAX_CALLERS w v (λ n. record h { callers = n }) (λ n k. let c = f.config in record { config = record { words = c.words; records = c.records; ring = c.ring; callers = k; reads = c.reads; writes = c.writes; clock = c.clock }; alg = f.alg; structs = f.structs })
+header_line-fits Records h w v f =
+    number-fits (codes "records") 1 MAX_RECORDS w v (λ n. record h { records = n }) (λ n k. let c = f.config in record { config = record { words = c.words; records = k; ring = c.ring; callers = c.callers; reads = c.reads; writes = c.writes; clock = c.clock }; alg = f.alg; structs = f.structs })
+header_line-fits Ring h w v f =
+    number-fits (codes "ring") MIN_RING MAX_RING w v (λ n. record h { ring = n }) (λ n k. let c = f.config in record { config = record { words = c.words; records = c.records; ring = k; callers = c.callers; reads = c.reads; writes = c.writes; clock = c.clock }; alg = f.alg; structs = f.structs })
+header_line-fits Reads h w v f =
+    number-fits (codes "reads") 1 MAX_LOG w v (λ n. record h { reads = n }) (λ n k. let c = f.config in record { config = record { words = c.words; records = c.records; ring = c.ring; callers = c.callers; reads = k; writes = c.writes; clock = c.clock }; alg = f.alg; structs = f.structs })
+header_line-fits Writes h w v f =
+    number-fits (codes "writes") 1 MAX_LOG w v (λ n. record h { writes = n }) (λ n k. let c = f.config in record { config = record { words = c.words; records = c.records; ring = c.ring; callers = c.callers; reads = c.reads; writes = k; clock = c.clock }; alg = f.alg; structs = f.structs })
+header_line-fits Clock h w v f =
+    number-fits (codes "clock") 0 CLOCK_LIMIT w v (λ n. record h { clock = n }) (λ n k. let c = f.config in record { config = record { words = c.words; records = c.records; ring = c.ring; callers = c.callers; reads = c.reads; writes = c.writes; clock = k.1 }; alg = f.alg; structs = f.structs })
+header_line-fits Algorithm h w v f =
+    then-gives (λ a. is_built a ≡ true) HeaderFits (named (codes "alg") w (algorithm v)) (λ a. Ok (record h { alg = a }))
+    (named-gives (λ a. is_built a ≡ true) (codes "alg") w (algorithm v) (algorithm-fits v))
+    (λ a k. record { config = f.config; alg = k; structs = f.structs })
+header_line-fits Structures h w v f =
+    named-gives HeaderFits (codes "structs") w (named (codes "off") v (Ok (record h { structs = false })))
+    (named-gives HeaderFits (codes "off") v (Ok (record h { structs = false })) (record { config = f.config; alg = f.alg; structs = refl }))
+header_line-fits Items h w v f = tt
+header_line-fits Ops h w v f = tt
+header_line-fits Turns h w v f = tt
 
 -- what stands at a place
 abbrev pub At : Mode → Place → Writing → Type 0
 At m Items d = (d.ops ≡ []) × (d.schedule ≡ [])
-At m Ops d = (length d.items < 65536) × (d.caller < d.header.callers) × (d.schedule ≡ [])
+At m Ops d = (length d.items < MAX_ITEMS) × (d.caller < d.header.callers) × (d.schedule ≡ [])
 At m Turns d = (d.ops ≡ []) × (m ≡ Stepwise)
 At m p d = (d.items ≡ []) × (d.ops ≡ []) × (d.schedule ≡ [])
 
 -- what is read so far fits
 pub record Sound (m : Mode) (d : Writing) : Type 0 where
   pub header : HeaderFits d.header
-  pub count : length d.items ≤ 65536
+  pub count : length d.items ≤ MAX_ITEMS
   pub items : All (ItemFits d.header) d.items
   pub ops : ScriptFits d.header.words d.ops
   pub schedule : ScheduleFits m d.header d.schedule
@@ -142,7 +154,7 @@ pub record Sound (m : Mode) (d : Writing) : Type 0 where
   pub here : At m d.place d
 
 none-fit : (words : ℕ) → ScriptFits words []
-none-fit words = record { count = omega arith; each = All-nil (OpFits words) }
+none-fit words = record { count = omega arith; each = All-nil (OpFits words); order = tt }
 
 none-planned : (m : Mode) (h : Header) → ScheduleFits m h []
 none-planned Run h = refl
@@ -209,13 +221,13 @@ abbrev pub Leaves : Mode → Writing → Step → Type 0
 Leaves m d step = Sound m (after step d)
 
 begun-sound : (m : Mode) (d : Writing) (c : ℕ) → Sound m d → d.schedule ≡ [] → c < d.header.callers → Gives (Leaves m d) (begun d c)
-begun-sound m d c s none lt = if-gives (Leaves m d) (ltb (length d.items) 65536) (Ok (Begin c)) 10
-    (λ e. let room : length d.items < 65536 = grind (arith, nat_tests) in
+begun-sound m d c s none lt = if-gives (Leaves m d) (ltb (length d.items) MAX_ITEMS) (Ok (Begin c)) 10
+    (λ e. let room : length d.items < MAX_ITEMS = grind (arith, nat_tests) in
     record { header = s.header; count = s.count; items = s.items; ops = s.ops; schedule = s.schedule; turns = s.turns; here = (room, lt, none) })
 
-changed-sound : (m : Mode) (d : Writing) (c : ℕ) (alg : Alg) → Sound m d → At m Items d → d.place ≡ Items → c < d.header.callers → alg ≡ Cgl → Gives (Leaves m d) (changed d c alg)
-changed-sound m d c alg s at p lt is = if-gives (Leaves m d) (ltb (length d.items) 65536) (Ok (Change c alg)) 10
-    (λ e. let room : length d.items < 65536 = grind (arith, nat_tests) in
+changed-sound : (m : Mode) (d : Writing) (c : ℕ) (alg : Alg) → Sound m d → At m Items d → d.place ≡ Items → c < d.header.callers → is_built alg ≡ true → Gives (Leaves m d) (changed d c alg)
+changed-sound m d c alg s at p lt is = if-gives (Leaves m d) (ltb (length d.items) MAX_ITEMS) (Ok (Change c alg)) 10
+    (λ e. let room : length d.items < MAX_ITEMS = grind (arith, nat_tests) in
     let more : Writing = record d { items = d.items ++ Switch c alg ∷ [] } in
     record {
       header = s.header;
@@ -231,14 +243,14 @@ all_turns-push : (gos : List Go) (go : Go) → all_turns (gos ++ go ∷ []) ≡ 
 all_turns-push [] go = omega arith
 all_turns-push (g ∷ gos) go = let e = all_turns-push gos go in omega arith
 
-more-fits : (m : Mode) (h : Header) (gos : List Go) (go : Go) → m ≡ Stepwise → ScheduleFits m h gos → GoFits h go → all_turns gos + go.turns ≤ 1000000 → ScheduleFits m h (gos ++ go ∷ [])
+more-fits : (m : Mode) (h : Header) (gos : List Go) (go : Go) → m ≡ Stepwise → ScheduleFits m h gos → GoFits h go → all_turns gos + go.turns ≤ MAX_TURNS → ScheduleFits m h (gos ++ go ∷ [])
 more-fits Run h gos go is s g le = absurd cc
 more-fits Stepwise h gos go is s g le = let e = all_turns-push gos go in (All-push (GoFits h) gos go s.0 g, omega arith)
 
 planned-sound : (m : Mode) (d : Writing) (go : Go) → Sound m d → At m Turns d → d.place ≡ Turns → GoFits d.header go → Gives (Leaves m d) (planned d go)
-planned-sound m d go s at p fits = if-gives (Leaves m d) (leb (d.turns + go.turns) 1000000) (Ok (Turn go (d.turns + go.turns))) 10
+planned-sound m d go s at p fits = if-gives (Leaves m d) (leb (d.turns + go.turns) MAX_TURNS) (Ok (Turn go (d.turns + go.turns))) 10
     (λ e. let turns = s.turns in
-    let most : d.turns + go.turns ≤ 1000000 = grind (arith, nat_tests) in
+    let most : d.turns + go.turns ≤ MAX_TURNS = grind (arith, nat_tests) in
     let sum = all_turns-push d.schedule go in
     let more : Writing = record d { schedule = d.schedule ++ go ∷ []; turns = d.turns + go.turns } in
     record {
@@ -256,19 +268,22 @@ scheduled-sound Run d s at = tt
 scheduled-sound Stepwise d s at =
     record { header = s.header; count = s.count; items = s.items; ops = s.ops; schedule = s.schedule; turns = s.turns; here = (at.0, refl) }
 
-added-sound : (m : Mode) (d : Writing) (op : Op) → Sound m d → At m Ops d → d.place ≡ Ops → OpFits d.header.words op → Gives (Leaves m d) (added d op)
-added-sound m d op s at p fits = if-gives (Leaves m d) (ltb (length d.ops) 4096) (Ok (Add op)) 10
-    (λ e. let room : length d.ops < 4096 = grind (arith, nat_tests) in
+added-sound : (m : Mode) (d : Writing) (op : Op) → Sound m d → At m Ops d → d.place ≡ Ops → OpFits d.header.words op → IsAllowed (has_irrev d.ops) op → Gives (Leaves m d) (added d op)
+added-sound m d op s at p fits allowed = if-gives (Leaves m d) (ltb (length d.ops) MAX_OPS) (Ok (Add op)) 10
+    (λ e. let room : length d.ops < MAX_OPS = grind (arith, nat_tests) in
     let more : Writing = record d { ops = d.ops ++ op ∷ [] } in
     record {
       header = s.header;
       count = s.count;
       items = s.items;
-      ops = record { count = omega (arith, length-append d.ops (op ∷ [])); each = All-push (OpFits d.header.words) d.ops op s.ops.each fits };
+      ops = record { count = omega (arith, length-append d.ops (op ∷ [])); each = All-push (OpFits d.header.words) d.ops op s.ops.each fits; order = order-snoc false d.ops op s.ops.order allowed };
       schedule = s.schedule;
       turns = s.turns;
       here = subst (λ q. At m q more) (sym p) at;
     })
+
+emitted-sound : (m : Mode) (d : Writing) (a : ℕ) → Sound m d → At m Ops d → d.place ≡ Ops → a < d.header.words → Gives (Leaves m d) (emitted d a)
+emitted-sound m d a s at p fits = if-gives (Leaves m d) (has_irrev d.ops) (added d (Emit a)) 9 (λ asked. added-sound m d (Emit a) s at p fits asked)
 
 ended-sound : (m : Mode) (d : Writing) → Sound m d → At m Ops d → Sound m (after End d)
 ended-sound m d s at = record {
@@ -296,24 +311,24 @@ caller-fits : (d : Writing) (v : List ℕ) → Gives (λ c. c < d.header.callers
 caller-fits d v =
     then-gives (λ n. n < 2 ^ 64) (λ c. c < d.header.callers) (formed (number_of v)) (below d.header.callers) (formed-fits v) (λ n h. below-fits d.header.callers n)
 
-move-fits : (d : Writing) (a b v : List ℕ) → Gives (OpFits d.header.words) (move_of d a b v)
+move-fits : (d : Writing) (a b v : List ℕ) → Gives (λ op. OpFits d.header.words op × IsAllowed (has_irrev d.ops) op) (move_of d a b v)
 move-fits d a b v =
     let w = d.header.words in
-    let P : Op → Type 0 = OpFits w in
+    let P : Op → Type 0 = λ op. OpFits w op × IsAllowed (has_irrev d.ops) op in
     then-gives (λ n. n < 2 ^ 64) P (formed (number_of a)) (λ i. formed (number_of b) >>= λ j. formed (number_of v) >>= λ n. below w i >>= λ x. below w j >>= λ y. Ok (Move x y n)) (formed-fits a)
     (λ i h. then-gives (λ n. n < 2 ^ 64) P (formed (number_of b)) (λ j. formed (number_of v) >>= λ n. below w i >>= λ x. below w j >>= λ y. Ok (Move x y n)) (formed-fits b)
     (λ j g. then-gives (λ n. n < 2 ^ 64) P (formed (number_of v)) (λ n. below w i >>= λ x. below w j >>= λ y. Ok (Move x y n)) (formed-fits v)
     (λ n k. then-gives (λ x. x < w) P (below w i) (λ x. below w j >>= λ y. Ok (Move x y n)) (below-fits w i)
-    (λ x l. then-gives (λ y. y < w) P (below w j) (λ y. Ok (Move x y n)) (below-fits w j) (λ y u. (l, u, k))))))
+    (λ x l. then-gives (λ y. y < w) P (below w j) (λ y. Ok (Move x y n)) (below-fits w j) (λ y u. ((l, u, k), tt))))))
 
 go-fits : (d : Writing) (a v : List ℕ) → Gives (GoFits d.header) (go_of d a v)
 go-fits d a v =
     let P : Go → Type 0 = GoFits d.header in
     let made : ℕ → ℕ → Result Go ℕ = λ c t. Ok (record { caller = c; turns = t }) in
-    then-gives (λ n. n < 2 ^ 64) P (formed (number_of a)) (λ i. formed (number_of v) >>= λ n. below d.header.callers i >>= λ c. ranged 1 1000000 n >>= made c) (formed-fits a)
-    (λ i h. then-gives (λ n. n < 2 ^ 64) P (formed (number_of v)) (λ n. below d.header.callers i >>= λ c. ranged 1 1000000 n >>= made c) (formed-fits v)
-    (λ n k. then-gives (λ c. c < d.header.callers) P (below d.header.callers i) (λ c. ranged 1 1000000 n >>= made c) (below-fits d.header.callers i)
-    (λ c l. then-gives (λ t. (1 ≤ t) × (t ≤ 1000000)) P (ranged 1 1000000 n) (made c) (ranged-fits 1 1000000 n) (λ t u. (l, u.0, u.1)))))
+    then-gives (λ n. n < 2 ^ 64) P (formed (number_of a)) (λ i. formed (number_of v) >>= λ n. below d.header.callers i >>= λ c. ranged 1 MAX_TURNS n >>= made c) (formed-fits a)
+    (λ i h. then-gives (λ n. n < 2 ^ 64) P (formed (number_of v)) (λ n. below d.header.callers i >>= λ c. ranged 1 MAX_TURNS n >>= made c) (formed-fits v)
+    (λ n k. then-gives (λ c. c < d.header.callers) P (below d.header.callers i) (λ c. ranged 1 MAX_TURNS n >>= made c) (below-fits d.header.callers i)
+    (λ c l. then-gives (λ t. (1 ≤ t) × (t ≤ MAX_TURNS)) P (ranged 1 MAX_TURNS n) (made c) (ranged-fits 1 MAX_TURNS n) (λ t u. (l, u.0, u.1)))))
 
 pub if-both : {A : Type 0} (P : A → Type 0) (b : Bool) (x y : Result A ℕ) → Gives P x → Gives P y → Gives P (if b then x else y)
 if-both P true x y h g = h
@@ -324,8 +339,10 @@ one-sound m d Items w s at e =
     if-both (Leaves m d) (bytes_eq w (codes "done")) (Ok Done) (named (codes "schedule") w (scheduled m)) s
     (named-gives (Leaves m d) (codes "schedule") w (scheduled m) (scheduled-sound m d s at))
 one-sound m d Ops w s at e =
-    if-both (Leaves m d) (bytes_eq w (codes "cancel")) (added d Cancel) (named (codes "end") w (Ok End)) (added-sound m d Cancel s at e tt)
-    (named-gives (Leaves m d) (codes "end") w (Ok End) (ended-sound m d s at))
+    let ends : Result Step ℕ = named (codes "end") w (Ok End) in
+    if-both (Leaves m d) (bytes_eq w (codes "irrev")) (added d Irrev) (if bytes_eq w (codes "cancel") then added d Cancel else ends) (added-sound m d Irrev s at e tt tt)
+    (if-both (Leaves m d) (bytes_eq w (codes "cancel")) (added d Cancel) ends (added-sound m d Cancel s at e tt tt)
+    (named-gives (Leaves m d) (codes "end") w (Ok End) (ended-sound m d s at)))
 one-sound m d Turns w s at e = named-gives (Leaves m d) (codes "done") w (Ok Done) s
 one-sound m d Version w s at e = tt
 one-sound m d Words w s at e = tt
@@ -341,7 +358,7 @@ one-sound m d Structures w s at e = tt
 heads-sound : (m : Mode) (d : Writing) (p : Place) (w v : List ℕ) → Sound m d → (d.items ≡ []) × (d.ops ≡ []) × (d.schedule ≡ [])
     → Gives (Leaves m d) (header_line p d.header w v >>= λ h. Ok (Head (next_line p) h))
 heads-sound m d p w v s at =
-    then-gives (HeaderFits) (Leaves m d) (header_line p d.header w v) (λ h. Ok (Head (next_line p) h)) (header_line-fits m p d.header w v s.header)
+    then-gives (HeaderFits) (Leaves m d) (header_line p d.header w v) (λ h. Ok (Head (next_line p) h)) (header_line-fits p d.header w v s.header)
     (λ h f. head-sound m d p h at s.turns f)
 
 two-sound : (m : Mode) (d : Writing) (p : Place) (w v : List ℕ) → Sound m d → At m p d → d.place ≡ p → Gives (Leaves m d) (two_words p m d w v)
@@ -350,8 +367,12 @@ two-sound m d Items w v s at e =
     (then-gives (λ c. c < d.header.callers) (Leaves m d) (caller_of d v) (begun d) (caller-fits d v) (λ c lt. begun-sound m d c s at.1 lt))
 two-sound m d Turns w v s at e = tt
 two-sound m d Ops w v s at e =
-    named-gives (Leaves m d) (codes "read") w (address d v >>= λ a. added d (Read a))
-    (then-gives (λ a. a < d.header.words) (Leaves m d) (address d v) (λ a. added d (Read a)) (address-fits d v) (λ a lt. added-sound m d (Read a) s at e lt))
+    let reads : Result Step ℕ = address d v >>= λ a. added d (Read a) in
+    let emits : Result Step ℕ = address d v >>= emitted d in
+    if-both (Leaves m d) (bytes_eq w (codes "read")) reads (named (codes "emit") w emits)
+    (then-gives (λ a. a < d.header.words) (Leaves m d) (address d v) (λ a. added d (Read a)) (address-fits d v) (λ a lt. added-sound m d (Read a) s at e lt tt))
+    (named-gives (Leaves m d) (codes "emit") w emits
+    (then-gives (λ a. a < d.header.words) (Leaves m d) (address d v) (emitted d) (address-fits d v) (λ a lt. emitted-sound m d a s at e lt)))
 two-sound m d Version w v s at e = heads-sound m d Version w v s at
 two-sound m d Words w v s at e = heads-sound m d Words w v s at
 two-sound m d Callers w v s at e = heads-sound m d Callers w v s at
@@ -369,14 +390,14 @@ three-sound m d Ops w a v s at e =
     let writes : Result Step ℕ = operands d a v >>= λ p. added d (Write p.0 p.1) in
     let adds : Result Step ℕ = operands d a v >>= λ p. added d (Sum p.0 p.1) in
     if-both (Leaves m d) (bytes_eq w (codes "write")) writes (named (codes "add") w adds)
-    (then-gives P (Leaves m d) (operands d a v) (λ p. added d (Write p.0 p.1)) (operands-fit d a v) (λ p h. added-sound m d (Write p.0 p.1) s at e h))
+    (then-gives P (Leaves m d) (operands d a v) (λ p. added d (Write p.0 p.1)) (operands-fit d a v) (λ p h. added-sound m d (Write p.0 p.1) s at e h tt))
     (named-gives (Leaves m d) (codes "add") w adds
-    (then-gives P (Leaves m d) (operands d a v) (λ p. added d (Sum p.0 p.1)) (operands-fit d a v) (λ p h. added-sound m d (Sum p.0 p.1) s at e h)))
+    (then-gives P (Leaves m d) (operands d a v) (λ p. added d (Sum p.0 p.1)) (operands-fit d a v) (λ p h. added-sound m d (Sum p.0 p.1) s at e h tt)))
 three-sound m d Items w a v s at e =
     let switches : Result Step ℕ = caller_of d a >>= λ c. algorithm v >>= λ alg. changed d c alg in
     named-gives (Leaves m d) (codes "switch") w switches
     (then-gives (λ c. c < d.header.callers) (Leaves m d) (caller_of d a) (λ c. algorithm v >>= λ alg. changed d c alg) (caller-fits d a)
-    (λ c lt. then-gives (λ alg. alg ≡ Cgl) (Leaves m d) (algorithm v) (λ alg. changed d c alg) (algorithm-fits v) (λ alg is. changed-sound m d c alg s at e lt is)))
+    (λ c lt. then-gives (λ a. is_built a ≡ true) (Leaves m d) (algorithm v) (λ alg. changed d c alg) (algorithm-fits v) (λ alg is. changed-sound m d c alg s at e lt is)))
 three-sound m d Turns w a v s at e =
     named-gives (Leaves m d) (codes "go") w (go_of d a v >>= planned d)
     (then-gives (GoFits d.header) (Leaves m d) (go_of d a v) (planned d) (go-fits d a v) (λ go fits. planned-sound m d go s at e fits))
@@ -394,7 +415,7 @@ three-sound m d Structures w a v s at e = tt
 four-sound : (m : Mode) (d : Writing) (p : Place) (w a b v : List ℕ) → Sound m d → At m p d → d.place ≡ p → Gives (Leaves m d) (four_words p d w a b v)
 four-sound m d Ops w a b v s at e =
     named-gives (Leaves m d) (codes "move") w (move_of d a b v >>= added d)
-    (then-gives (OpFits d.header.words) (Leaves m d) (move_of d a b v) (added d) (move-fits d a b v) (λ op fits. added-sound m d op s at e fits))
+    (then-gives (λ op. OpFits d.header.words op × IsAllowed (has_irrev d.ops) op) (Leaves m d) (move_of d a b v) (added d) (move-fits d a b v) (λ op fits. added-sound m d op s at e fits.0 fits.1))
 four-sound m d Version w a b v s at e = tt
 four-sound m d Words w a b v s at e = tt
 four-sound m d Callers w a b v s at e = tt
@@ -453,42 +474,29 @@ parsed-built m d k [] s = tt
 parsed-built m d k (l ∷ ls) s =
     go_on-built m d k ls (step_of m d l) (λ e. parsed m e (k + 1) ls) (step-sound m d l s) s (λ e t. parsed-built m e (k + 1) ls t)
 
-pub opening-sound : (m : Mode) → Sound m opening
-opening-sound Run = record {
-  header = record {
+-- a memory opens under CGL, and so does a draft
+opening-fits : HeaderFits opening.header
+opening-fits = record {
+  config = record {
     words = (omega arith, omega arith);
-    callers = (omega arith, omega arith);
     records = (omega arith, omega arith);
     ring = (omega arith, omega arith);
+    callers = (omega arith, omega arith);
     reads = (omega arith, omega arith);
     writes = (omega arith, omega arith);
     clock = omega arith;
-    alg = refl;
-    structs = refl;
   };
-  count = omega arith;
-  items = All-nil (ItemFits opening.header);
-  ops = none-fit 1;
-  schedule = none-planned Run opening.header;
-  turns = refl;
-  here = (refl, refl, refl);
+  alg = refl;
+  structs = refl;
 }
-opening-sound Stepwise = record {
-  header = record {
-    words = (omega arith, omega arith);
-    callers = (omega arith, omega arith);
-    records = (omega arith, omega arith);
-    ring = (omega arith, omega arith);
-    reads = (omega arith, omega arith);
-    writes = (omega arith, omega arith);
-    clock = omega arith;
-    alg = refl;
-    structs = refl;
-  };
+
+pub opening-sound : (m : Mode) → Sound m opening
+opening-sound m = record {
+  header = opening-fits;
   count = omega arith;
   items = All-nil (ItemFits opening.header);
   ops = none-fit 1;
-  schedule = none-planned Stepwise opening.header;
+  schedule = none-planned m opening.header;
   turns = refl;
   here = (refl, refl, refl);
 }

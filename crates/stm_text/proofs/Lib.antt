@@ -1,4 +1,5 @@
 pub mod LineLaws
+pub mod OrderLaws
 pub mod ParseLaws
 pub mod BuiltLaws
 pub mod Decimals
@@ -6,4 +7,4 @@ pub mod ReportLaws
 pub mod WordLaws
 pub mod Numbers
 pub mod TextLaws
-pub mod OneText
+pub mod WrittenLaws

@@ -58,9 +58,6 @@ emitted-end : (es x : List ℕ) → NoNumber (emitted es ++ 10 ∷ x)
 emitted-end [] x = line-end x
 emitted-end (e ∷ es) x = (λ d. let low = d.0 in absurd (omega arith), λ e d. let low = d.0 in absurd (omega arith))
 
-emitted-first : (e : ℕ) (es x : List ℕ) → emitted (e ∷ es) ++ 10 ∷ x ≡ 32 ∷ 33 ∷ (spaced (e ∷ es) ++ 10 ∷ x)
-emitted-first e es x = refl
-
 emitted-cut : (es fs x y : List ℕ) → All IsWord es → All IsWord fs → emitted es ++ 10 ∷ x ≡ emitted fs ++ 10 ∷ y → (es ≡ fs) × (x ≡ y)
 emitted-cut [] [] x y ae af is = (refl, (head-same 10 10 x y is).1)
 emitted-cut [] (f ∷ fs) x y ae af is =

@@ -1,29 +1,37 @@
--- The text of a workload that fits is read as that workload.
-use Rattle.std.proofs.Common.{ℕ, ◌≡◌, ◌≢◌, ◌<◌, ◌≤◌, ◌+◌, ◌^◌, List, [], ◌∷◌, ◌++◌, true, false, Result, Ok, inl, inr, refl, sym, ap, subst, ◌∙◌, arith, length, append_assoc, append-nil, length-append}
-use Rattle.std.specs.Prelude.{leb, ltb, codes, map, bytes_eq, All}
+-- A text of a workload that fits is read as that workload.
+use Rattle.std.proofs.Common.{ℕ, ◌≡◌, ◌≢◌, ◌<◌, ◌≤◌, ◌+◌, ◌^◌, List, [], ◌∷◌, ◌++◌, Bool, true, false, Result, Ok, Err, inl, inr, refl, sym, ap, subst, ◌∙◌, arith, length, append_assoc, append-nil, length-append, drop}
+use Rattle.std.specs.Prelude.{if◌then◌else◌, leb, ltb, codes, map, bytes_eq, All}
 use Rattle.std.specs.Fmt.{decimal}
 use Rattle.std.proofs.lemmas.Bool.Decides.{nat_tests}
 use Rattle.std.proofs.lemmas.List.Elements.{All-nil, All-head, All-tail}
 use Rattle.stm_model.specs.declared.alg.Alg.{Alg}
-use Rattle.stm_model.specs.declared.alg.Alg.TheVariants.{Cgl}
+use Rattle.stm_model.specs.declared.alg.Alg.TheVariants.{Cgl, Tml, OrecLazy, OrecEager, RingSw, Serial}
+use Rattle.stm_model.specs.declared.alg.TheConstants.{ALGORITHMS}
+use Rattle.stm_model.specs.declared.config.TheConstants.{MAX_WORDS, MAX_RECORDS, MIN_RING, MAX_RING, MAX_CALLERS, MAX_LOG, CLOCK_LIMIT}
+use Rattle.stm_model.specs.Algorithms.{alg_name, is_built}
 use Rattle.stm_script.specs.declared.op.Op.{Op}
-use Rattle.stm_script.specs.declared.op.Op.TheVariants.{Read, Write, Add as Sum, Move, Cancel}
+use Rattle.stm_script.specs.declared.op.Op.TheVariants.{Read, Write, Add as Sum, Move, Emit, Irrev, Cancel}
 use Rattle.stm_script.specs.declared.workload.Header.{Header}
 use Rattle.stm_script.specs.declared.workload.Item.{Item}
 use Rattle.stm_script.specs.declared.workload.Item.TheVariants.{Tx, Switch}
 use Rattle.stm_script.specs.declared.workload.Go.{Go}
 use Rattle.stm_script.specs.declared.workload.Workload.{Workload}
+use Rattle.stm_script.specs.declared.workload.TheConstants.{MAX_ITEMS, MAX_OPS, MAX_TURNS}
+use Rattle.stm_script.specs.Scripts.{has_irrev}
+use Rattle.stm_text.specs.declared.code.TheConstants.{ORDER}
 use Rattle.stm_text.specs.declared.draft.Place.{Place}
 use Rattle.stm_text.specs.declared.draft.Place.TheVariants.{Version, Words, Callers, Records, Ring, Reads, Writes, Clock, Algorithm, Structures, Items, Ops, Turns}
 use Rattle.stm_text.specs.declared.draft.Step.{Step}
 use Rattle.stm_text.specs.declared.draft.Step.TheVariants.{Head, Begin, Change, Add, End, Schedule, Turn, Done}
+use Rattle.stm_text.specs.declared.parse.TheConstants.{MAX_TEXT}
 use Rattle.stm_text.specs.declared.parse.Mode.{Mode}
 use Rattle.stm_text.specs.declared.parse.Mode.TheVariants.{Run, Step as Stepwise}
 use Rattle.stm_text.specs.Lines.{Line, lines_of, words_of, any_bad, number_of}
 use Rattle.stm_text.specs.Drafts.{Writing, after, opening}
-use Rattle.stm_text.specs.Grammar.{◌>>=◌, formed, ranged, below, number, sized, next_line, begun, changed, added, planned, caller_of, address, operands, move_of, go_of, two_words, three_words, four_words, filled, by_words, step_of, go_on, parsed, workload_of}
-use Rattle.stm_text.specs.Built.{HeaderFits, OpFits, ItemFits, GoFits, all_turns, ScheduleFits, IsBuilt}
-use Rattle.stm_text.specs.Texts.{joined, line, name_of, op_words, items_lines, header_lines, go_words, section_lines, schedule_lines, lines_with, lines_text, AreLinesOf, IsTextOf}
+use Rattle.stm_text.specs.Grammar.{◌>>=◌, formed, ranged, below, number, algorithm_of, algorithm, sized, next_line, begun, changed, added, emitted, planned, caller_of, address, operands, move_of, go_of, two_words, three_words, four_words, filled, by_words, step_of, go_on, parsed, workload_of}
+use Rattle.stm_text.specs.Built.{HeaderFits, OpFits, IsAllowed, AreInOrder, ItemFits, GoFits, all_turns, ScheduleFits, IsBuilt}
+use Rattle.stm_text.specs.Texts.{joined, line, op_words, items_lines, header_lines, go_words, section_lines, schedule_lines, lines_with, lines_text, AreLinesOf, IsTextOf}
+use Rattle.stm_text.proofs.OrderLaws.{irrev-snoc}
 use Rattle.stm_text.proofs.LineLaws.{lines_of-first}
 use Rattle.stm_text.proofs.Decimals.{StartsDigit, digits-decimal}
 use Rattle.stm_text.proofs.WordLaws.{Visible, seen, AllVisible, visible-decimal, joined-good, joined-lacks, words_of-joined}
@@ -81,17 +89,17 @@ number-decimal low high n le ge lt = ap (λ r. r >>= ranged low high) (formed-de
 below-end : (end n : ℕ) → n < end → below end n ≡ Ok n
 below-end end n lt = let p : ltb n end ≡ true = grind (arith, nat_tests) in rw p
 
-added-room : (d : Writing) (op : Op) → length d.ops < 4096 → added d op ≡ Ok (Add op)
-added-room d op lt = let p : ltb (length d.ops) 4096 ≡ true = grind (arith, nat_tests) in rw p
+added-room : (d : Writing) (op : Op) → length d.ops < MAX_OPS → added d op ≡ Ok (Add op)
+added-room d op lt = let p : ltb (length d.ops) MAX_OPS ≡ true = grind (arith, nat_tests) in rw p
 
-begun-room : (d : Writing) (c : ℕ) → length d.items < 65536 → begun d c ≡ Ok (Begin c)
-begun-room d c lt = let p : ltb (length d.items) 65536 ≡ true = grind (arith, nat_tests) in rw p
+begun-room : (d : Writing) (c : ℕ) → length d.items < MAX_ITEMS → begun d c ≡ Ok (Begin c)
+begun-room d c lt = let p : ltb (length d.items) MAX_ITEMS ≡ true = grind (arith, nat_tests) in rw p
 
-changed-room : (d : Writing) (c : ℕ) (a : Alg) → length d.items < 65536 → changed d c a ≡ Ok (Change c a)
-changed-room d c a lt = let p : ltb (length d.items) 65536 ≡ true = grind (arith, nat_tests) in rw p
+changed-room : (d : Writing) (c : ℕ) (a : Alg) → length d.items < MAX_ITEMS → changed d c a ≡ Ok (Change c a)
+changed-room d c a lt = let p : ltb (length d.items) MAX_ITEMS ≡ true = grind (arith, nat_tests) in rw p
 
-planned-room : (d : Writing) (go : Go) → d.turns + go.turns ≤ 1000000 → planned d go ≡ Ok (Turn go (d.turns + go.turns))
-planned-room d go le = let p : leb (d.turns + go.turns) 1000000 ≡ true = grind (arith, nat_tests) in rw p
+planned-room : (d : Writing) (go : Go) → d.turns + go.turns ≤ MAX_TURNS → planned d go ≡ Ok (Turn go (d.turns + go.turns))
+planned-room d go le = let p : leb (d.turns + go.turns) MAX_TURNS ≡ true = grind (arith, nat_tests) in rw p
 
 -- within a transaction
 abbrev in_tx : Header → List Item → ℕ → List Op → Writing
@@ -111,14 +119,14 @@ operands-decimal d a v within fits value =
     ∙ (ap (λ r. r >>= λ n. below d.header.words a >>= λ j. Ok (j, n)) (formed-decimal v value)
     ∙ ap (λ r. r >>= λ j. Ok (j, v)) (below-end d.header.words a within))
 
-read-words : (m : Mode) (h : Header) (items : List Item) (c : ℕ) (ops : List Op) (a : ℕ) → a < h.words → a < 2 ^ 64 → length ops < 4096
+read-words : (m : Mode) (h : Header) (items : List Item) (c : ℕ) (ops : List Op) (a : ℕ) → a < h.words → a < 2 ^ 64 → length ops < MAX_OPS
     → by_words m (in_tx h items c ops) (codes "read" ∷ decimal a ∷ []) ≡ Ok (Add (Read a))
 read-words m h items c ops a within fits room =
     let d : Writing = in_tx h items c ops in
     let at : address d (decimal a) ≡ Ok a = ap (λ r. r >>= below h.words) (formed-decimal a fits) ∙ below-end h.words a within in
     filled-decimal a (two_words Ops m d (codes "read") (decimal a)) fits ∙ (ap (λ r. r >>= λ i. added d (Read i)) at ∙ added-room d (Read a) room)
 
-write-words : (m : Mode) (h : Header) (items : List Item) (c : ℕ) (ops : List Op) (a v : ℕ) → a < h.words → a < 2 ^ 64 → v < 2 ^ 64 → length ops < 4096
+write-words : (m : Mode) (h : Header) (items : List Item) (c : ℕ) (ops : List Op) (a v : ℕ) → a < h.words → a < 2 ^ 64 → v < 2 ^ 64 → length ops < MAX_OPS
     → by_words m (in_tx h items c ops) (codes "write" ∷ decimal a ∷ decimal v ∷ []) ≡ Ok (Add (Write a v))
 write-words m h items c ops a v within fits value room =
     let d : Writing = in_tx h items c ops in
@@ -126,7 +134,7 @@ write-words m h items c ops a v within fits value room =
     ∙ (filled-decimal v (three_words Ops d (codes "write") (decimal a) (decimal v)) value
     ∙ (ap (λ r. r >>= λ p. added d (Write p.0 p.1)) (operands-decimal d a v within fits value) ∙ added-room d (Write a v) room))
 
-add-words : (m : Mode) (h : Header) (items : List Item) (c : ℕ) (ops : List Op) (a v : ℕ) → a < h.words → a < 2 ^ 64 → v < 2 ^ 64 → length ops < 4096
+add-words : (m : Mode) (h : Header) (items : List Item) (c : ℕ) (ops : List Op) (a v : ℕ) → a < h.words → a < 2 ^ 64 → v < 2 ^ 64 → length ops < MAX_OPS
     → by_words m (in_tx h items c ops) (codes "add" ∷ decimal a ∷ decimal v ∷ []) ≡ Ok (Add (Sum a v))
 add-words m h items c ops a v within fits value room =
     let d : Writing = in_tx h items c ops in
@@ -142,7 +150,7 @@ move_of-decimal d a b v from onto fa fb fv =
     ∙ (ap (λ r. r >>= λ n. below w a >>= λ x. below w b >>= λ y. Ok (Move x y n)) (formed-decimal v fv)
     ∙ (ap (λ r. r >>= λ x. below w b >>= λ y. Ok (Move x y v)) (below-end w a from) ∙ ap (λ r. r >>= λ y. Ok (Move a y v)) (below-end w b onto))))
 
-move-words : (m : Mode) (h : Header) (items : List Item) (c : ℕ) (ops : List Op) (a b v : ℕ) → a < h.words → b < h.words → a < 2 ^ 64 → b < 2 ^ 64 → v < 2 ^ 64 → length ops < 4096
+move-words : (m : Mode) (h : Header) (items : List Item) (c : ℕ) (ops : List Op) (a b v : ℕ) → a < h.words → b < h.words → a < 2 ^ 64 → b < 2 ^ 64 → v < 2 ^ 64 → length ops < MAX_OPS
     → by_words m (in_tx h items c ops) (codes "move" ∷ decimal a ∷ decimal b ∷ decimal v ∷ []) ≡ Ok (Add (Move a b v))
 move-words m h items c ops a b v from onto fa fb fv room =
     let d : Writing = in_tx h items c ops in
@@ -152,51 +160,68 @@ move-words m h items c ops a b v from onto fa fb fv room =
     ∙ (filled-decimal v four fv
     ∙ (ap (λ r. r >>= added d) (move_of-decimal d a b v from onto fa fb fv) ∙ added-room d (Move a b v) room)))
 
-cancel-words : (m : Mode) (h : Header) (items : List Item) (c : ℕ) (ops : List Op) → length ops < 4096 → by_words m (in_tx h items c ops) (codes "cancel" ∷ []) ≡ Ok (Add Cancel)
+emit-words : (m : Mode) (h : Header) (items : List Item) (c : ℕ) (ops : List Op) (a : ℕ) → a < h.words → a < 2 ^ 64 → length ops < MAX_OPS → has_irrev ops ≡ true
+    → by_words m (in_tx h items c ops) (codes "emit" ∷ decimal a ∷ []) ≡ Ok (Add (Emit a))
+emit-words m h items c ops a within fits room asked =
+    let d : Writing = in_tx h items c ops in
+    let at : address d (decimal a) ≡ Ok a = ap (λ r. r >>= below h.words) (formed-decimal a fits) ∙ below-end h.words a within in
+    filled-decimal a (two_words Ops m d (codes "emit") (decimal a)) fits
+    ∙ (ap (λ r. r >>= emitted d) at ∙ (ap (λ b. if b then added d (Emit a) else Err ORDER) asked ∙ added-room d (Emit a) room))
+
+irrev-words : (m : Mode) (h : Header) (items : List Item) (c : ℕ) (ops : List Op) → length ops < MAX_OPS → by_words m (in_tx h items c ops) (codes "irrev" ∷ []) ≡ Ok (Add Irrev)
+irrev-words m h items c ops room = added-room (in_tx h items c ops) Irrev room
+
+cancel-words : (m : Mode) (h : Header) (items : List Item) (c : ℕ) (ops : List Op) → length ops < MAX_OPS → by_words m (in_tx h items c ops) (codes "cancel" ∷ []) ≡ Ok (Add Cancel)
 cancel-words m h items c ops room = added-room (in_tx h items c ops) Cancel room
 
 adds : (op : Op) → Add op ≢ Done
 adds op e = cc
 
 -- the line of an operation
-op-read : (m : Mode) (h : Header) (items : List Item) (c : ℕ) (ops : List Op) (k : ℕ) (op : Op) (rest : List ℕ) → h.words ≤ 65536 → OpFits h.words op → length ops < 4096
+op-read : (m : Mode) (h : Header) (items : List Item) (c : ℕ) (ops : List Op) (k : ℕ) (op : Op) (rest : List ℕ) → h.words ≤ MAX_WORDS → OpFits h.words op → length ops < MAX_OPS → IsAllowed (has_irrev ops) op
     → parsed m (in_tx h items c ops) k (lines_of (line (op_words op) ++ rest)) ≡ parsed m (in_tx h items c (ops ++ op ∷ [])) (k + 1) (lines_of rest)
-op-read m h items c ops k (Read a) rest small fits room =
+op-read m h items c ops k (Read a) rest small fits room allowed =
     step-read m (in_tx h items c ops) k (codes "read") (decimal a ∷ []) rest (Add (Read a)) (seen (codes "read") refl, (visible-decimal a (omega arith), tt))
     (read-words m h items c ops a fits (omega arith) room) (adds (Read a))
-op-read m h items c ops k (Write a v) rest small fits room =
+op-read m h items c ops k (Write a v) rest small fits room allowed =
     let within = fits.0 in
     step-read m (in_tx h items c ops) k (codes "write") (decimal a ∷ decimal v ∷ []) rest (Add (Write a v)) (seen (codes "write") refl, (visible-decimal a (omega arith), (visible-decimal v fits.1, tt)))
     (write-words m h items c ops a v within (omega arith) fits.1 room) (adds (Write a v))
-op-read m h items c ops k (Sum a v) rest small fits room =
+op-read m h items c ops k (Sum a v) rest small fits room allowed =
     let within = fits.0 in
     step-read m (in_tx h items c ops) k (codes "add") (decimal a ∷ decimal v ∷ []) rest (Add (Sum a v)) (seen (codes "add") refl, (visible-decimal a (omega arith), (visible-decimal v fits.1, tt)))
     (add-words m h items c ops a v within (omega arith) fits.1 room) (adds (Sum a v))
-op-read m h items c ops k (Move a b v) rest small fits room =
+op-read m h items c ops k (Move a b v) rest small fits room allowed =
     let from = fits.0 in
     let onto = fits.1 in
     step-read m (in_tx h items c ops) k (codes "move") (decimal a ∷ decimal b ∷ decimal v ∷ []) rest (Add (Move a b v))
     (seen (codes "move") refl, (visible-decimal a (omega arith), (visible-decimal b (omega arith), (visible-decimal v fits.2, tt))))
     (move-words m h items c ops a b v from onto (omega arith) (omega arith) fits.2 room) (adds (Move a b v))
-op-read m h items c ops k Cancel rest small fits room =
+op-read m h items c ops k (Emit a) rest small fits room allowed =
+    step-read m (in_tx h items c ops) k (codes "emit") (decimal a ∷ []) rest (Add (Emit a)) (seen (codes "emit") refl, (visible-decimal a (omega arith), tt))
+    (emit-words m h items c ops a fits (omega arith) room allowed) (adds (Emit a))
+op-read m h items c ops k Irrev rest small fits room allowed =
+    step-read m (in_tx h items c ops) k (codes "irrev") [] rest (Add Irrev) (seen (codes "irrev") refl, tt) (irrev-words m h items c ops room) (adds Irrev)
+op-read m h items c ops k Cancel rest small fits room allowed =
     step-read m (in_tx h items c ops) k (codes "cancel") [] rest (Add Cancel) (seen (codes "cancel") refl, tt) (cancel-words m h items c ops room) (adds Cancel)
 
 -- the lines of operations
-ops-read : (m : Mode) (h : Header) (items : List Item) (c : ℕ) (before : List Op) (k : ℕ) (ops : List Op) (more : List (List (List ℕ))) → h.words ≤ 65536 → length before + length ops ≤ 4096 → All (OpFits h.words) ops
+ops-read : (m : Mode) (h : Header) (items : List Item) (c : ℕ) (before : List Op) (k : ℕ) (ops : List Op) (more : List (List (List ℕ))) → h.words ≤ MAX_WORDS → length before + length ops ≤ MAX_OPS → All (OpFits h.words) ops → AreInOrder (has_irrev before) ops
     → (j : ℕ) × (parsed m (in_tx h items c before) k (lines_of (lines_text (map op_words ops ++ more))) ≡ parsed m (in_tx h items c (before ++ ops)) j (lines_of (lines_text more)))
-ops-read m h items c before k [] more small room fits =
+ops-read m h items c before k [] more small room fits order =
     (k, ap (λ o. parsed m (in_tx h items c o) k (lines_of (lines_text more))) (sym (append-nil before)))
-ops-read m h items c before k (op ∷ ops) more small room fits =
-    let next = ops-read m h items c (before ++ op ∷ []) (k + 1) ops more small (omega (arith, length-append before (op ∷ []))) (All-tail (OpFits h.words) op ops fits) in (
+ops-read m h items c before k (op ∷ ops) more small room fits order =
+    let next = ops-read m h items c (before ++ op ∷ []) (k + 1) ops more small (omega (arith, length-append before (op ∷ []))) (All-tail (OpFits h.words) op ops fits)
+    (subst (λ b. AreInOrder b ops) (sym (irrev-snoc before op)) order.1) in (
       next.0,
-      op-read m h items c before k op (lines_text (map op_words ops ++ more)) small (All-head (OpFits h.words) op ops fits) (omega arith)
+      op-read m h items c before k op (lines_text (map op_words ops ++ more)) small (All-head (OpFits h.words) op ops fits) (omega arith) order.0
           ∙ (next.1 ∙ ap (λ o. parsed m (in_tx h items c o) next.0 (lines_of (lines_text more))) (append_assoc before (op ∷ []) ops)),
     )
 
 caller-decimal : (d : Writing) (c : ℕ) → c < d.header.callers → c < 2 ^ 64 → caller_of d (decimal c) ≡ Ok c
 caller-decimal d c within fits = ap (λ r. r >>= below d.header.callers) (formed-decimal c fits) ∙ below-end d.header.callers c within
 
-tx-read : (m : Mode) (h : Header) (items : List Item) (c k caller : ℕ) (rest : List ℕ) → caller < h.callers → h.callers ≤ 32 → length items < 65536
+tx-read : (m : Mode) (h : Header) (items : List Item) (c k caller : ℕ) (rest : List ℕ) → caller < h.callers → h.callers ≤ MAX_CALLERS → length items < MAX_ITEMS
     → parsed m (between h items c) k (lines_of (line (codes "tx" ∷ decimal caller ∷ []) ++ rest)) ≡ parsed m (in_tx h items caller []) (k + 1) (lines_of rest)
 tx-read m h items c k caller rest within small room =
     let d : Writing = between h items c in
@@ -212,23 +237,54 @@ end-read m h items c k ops rest = step-read m (in_tx h items c ops) k (codes "en
 change-not : (c : ℕ) (a : Alg) → Change c a ≢ Done
 change-not c a e = cc
 
-switch-read : (m : Mode) (h : Header) (items : List Item) (c k caller : ℕ) (alg : Alg) (rest : List ℕ) → caller < h.callers → h.callers ≤ 32 → length items < 65536 → alg ≡ Cgl
-    → parsed m (between h items c) k (lines_of (line (codes "switch" ∷ decimal caller ∷ name_of alg ∷ []) ++ rest)) ≡ parsed m (between h (items ++ Switch caller alg ∷ []) c) (k + 1) (lines_of rest)
-switch-read m h items c k caller alg rest within small room is =
-    subst (λ a. parsed m (between h items c) k (lines_of (line (codes "switch" ∷ decimal caller ∷ name_of a ∷ []) ++ rest)) ≡ parsed m (between h (items ++ Switch caller a ∷ []) c) (k + 1) (lines_of rest))
-    (sym is)
-    (let d : Writing = between h items c in
+-- a name is a word
+visible-name : (alg : Alg) → Visible (alg_name alg)
+visible-name Cgl = seen (codes "CGL") refl
+visible-name Tml = seen (codes "TML") refl
+visible-name OrecLazy = seen (codes "OrecLazy") refl
+visible-name OrecEager = seen (codes "OrecEager") refl
+visible-name RingSw = seen (codes "RingSW") refl
+visible-name Serial = seen (codes "Serial") refl
+
+filled-name : (alg : Alg) (rest : Result Step ℕ) → filled (alg_name alg) rest ≡ rest
+filled-name Cgl rest = refl
+filled-name Tml rest = refl
+filled-name OrecLazy rest = refl
+filled-name OrecEager rest = refl
+filled-name RingSw rest = refl
+filled-name Serial rest = refl
+
+where-built : (b : Bool) (alg : Alg) (rest : Result Alg ℕ) → b ≡ true → (if b then Ok alg else rest) ≡ Ok alg
+where-built true alg rest h = refl
+where-built false alg rest h = absurd cc
+
+-- each algorithm that is built is known by its name
+algorithm-name : (alg : Alg) → is_built alg ≡ true → algorithm (alg_name alg) ≡ Ok alg
+algorithm-name Cgl h = where-built (is_built Cgl) Cgl (algorithm_of (drop 1 ALGORITHMS) (codes "CGL")) h
+algorithm-name Tml h = where-built (is_built Tml) Tml (algorithm_of (drop 2 ALGORITHMS) (codes "TML")) h
+algorithm-name OrecLazy h = where-built (is_built OrecLazy) OrecLazy (algorithm_of (drop 3 ALGORITHMS) (codes "OrecLazy")) h
+algorithm-name OrecEager h = where-built (is_built OrecEager) OrecEager (algorithm_of (drop 4 ALGORITHMS) (codes "OrecEager")) h
+algorithm-name RingSw h = where-built (is_built RingSw) RingSw (algorithm_of (drop 5 ALGORITHMS) (codes "RingSW")) h
+algorithm-name Serial h = where-built (is_built Serial) Serial (algorithm_of [] (codes "Serial")) h
+
+switch-read : (m : Mode) (h : Header) (items : List Item) (c k caller : ℕ) (alg : Alg) (rest : List ℕ) → caller < h.callers → h.callers ≤ MAX_CALLERS → length items < MAX_ITEMS → is_built alg ≡ true
+    → parsed m (between h items c) k (lines_of (line (codes "switch" ∷ decimal caller ∷ alg_name alg ∷ []) ++ rest)) ≡ parsed m (between h (items ++ Switch caller alg ∷ []) c) (k + 1) (lines_of rest)
+switch-read m h items c k caller alg rest within small room built =
+    let d : Writing = between h items c in
     let fits : caller < 2 ^ 64 = omega arith in
-    let words : by_words m d (codes "switch" ∷ decimal caller ∷ codes "CGL" ∷ []) ≡ Ok (Change caller Cgl) =
-    filled-decimal caller (three_words Items d (codes "switch") (decimal caller) (codes "CGL")) fits
-    ∙ (ap (λ r. r >>= λ x. changed d x Cgl) (caller-decimal d caller within fits) ∙ changed-room d caller Cgl room) in
-    step-read m d k (codes "switch") (decimal caller ∷ codes "CGL" ∷ []) rest (Change caller Cgl) (seen (codes "switch") refl, (visible-decimal caller fits, (seen (codes "CGL") refl, tt))) words (change-not caller Cgl))
+    let three : Result Step ℕ = three_words Items d (codes "switch") (decimal caller) (alg_name alg) in
+    let words : by_words m d (codes "switch" ∷ decimal caller ∷ alg_name alg ∷ []) ≡ Ok (Change caller alg) =
+    filled-decimal caller (filled (alg_name alg) three) fits
+    ∙ (filled-name alg three
+    ∙ (ap (λ r. r >>= λ x. algorithm (alg_name alg) >>= λ a. changed d x a) (caller-decimal d caller within fits)
+    ∙ (ap (λ r. r >>= λ a. changed d caller a) (algorithm-name alg built) ∙ changed-room d caller alg room))) in
+    step-read m d k (codes "switch") (decimal caller ∷ alg_name alg ∷ []) rest (Change caller alg) (seen (codes "switch") refl, (visible-decimal caller fits, (visible-name alg, tt))) words (change-not caller alg)
 
 regroup : (o e i d : List (List (List ℕ))) → ((o ++ e) ++ i) ++ d ≡ o ++ (e ++ (i ++ d))
 regroup o e i d = simp append_assoc
 
 -- the lines of items
-items-read : (m : Mode) (h : Header) (before : List Item) (c k : ℕ) (items : List Item) (more : List (List (List ℕ))) → h.words ≤ 65536 → h.callers ≤ 32 → length before + length items ≤ 65536 → All (ItemFits h) items
+items-read : (m : Mode) (h : Header) (before : List Item) (c k : ℕ) (items : List Item) (more : List (List (List ℕ))) → h.words ≤ MAX_WORDS → h.callers ≤ MAX_CALLERS → length before + length items ≤ MAX_ITEMS → All (ItemFits h) items
     → (x : ℕ) × (j : ℕ) × (parsed m (between h before c) k (lines_of (lines_text (items_lines items ++ more))) ≡ parsed m (between h (before ++ items) x) j (lines_of (lines_text more)))
 items-read m h before c k [] more small few room fits =
     (c, k, ap (λ is. parsed m (between h is c) k (lines_of (lines_text more))) (sym (append-nil before)))
@@ -238,7 +294,7 @@ items-read m h before c k (Tx caller ops ∷ items) more small few room fits =
     let rest : List (List (List ℕ)) = items_lines items ++ more in
     let tx : List (List ℕ) = codes "tx" ∷ decimal caller ∷ [] in
     let count = here.1.count in
-    let script = ops-read m h before caller [] (k + 1) ops (end ++ rest) small (omega arith) here.1.each in
+    let script = ops-read m h before caller [] (k + 1) ops (end ++ rest) small (omega arith) here.1.each here.1.order in
     let next = items-read m h (before ++ Tx caller ops ∷ []) caller (script.0 + 1) items more small few (omega (arith, length-append before (Tx caller ops ∷ []))) (All-tail (ItemFits h) (Tx caller ops) items fits) in (
       next.0,
       next.1,
@@ -272,15 +328,15 @@ go_of-decimal : (d : Writing) (go : Go) → GoFits d.header go → go.caller < 2
 go_of-decimal d go fits small =
     let t = fits.2 in
     let made : ℕ → ℕ → Result Go ℕ = λ c n. Ok (record { caller = c; turns = n }) in
-    ap (λ r. r >>= λ i. formed (number_of (decimal go.turns)) >>= λ n. below d.header.callers i >>= λ c. ranged 1 1000000 n >>= made c) (formed-decimal go.caller small)
-    ∙ (ap (λ r. r >>= λ n. below d.header.callers go.caller >>= λ c. ranged 1 1000000 n >>= made c) (formed-decimal go.turns (omega arith))
-    ∙ (ap (λ r. r >>= λ c. ranged 1 1000000 go.turns >>= made c) (below-end d.header.callers go.caller fits.0)
-    ∙ ap (λ r. r >>= made go.caller) (ranged-within 1 1000000 go.turns fits.1 fits.2)))
+    ap (λ r. r >>= λ i. formed (number_of (decimal go.turns)) >>= λ n. below d.header.callers i >>= λ c. ranged 1 MAX_TURNS n >>= made c) (formed-decimal go.caller small)
+    ∙ (ap (λ r. r >>= λ n. below d.header.callers go.caller >>= λ c. ranged 1 MAX_TURNS n >>= made c) (formed-decimal go.turns (omega arith))
+    ∙ (ap (λ r. r >>= λ c. ranged 1 MAX_TURNS go.turns >>= made c) (below-end d.header.callers go.caller fits.0)
+    ∙ ap (λ r. r >>= made go.caller) (ranged-within 1 MAX_TURNS go.turns fits.1 fits.2)))
 
 turn-not : (go : Go) (all : ℕ) → Turn go all ≢ Done
 turn-not go all e = cc
 
-go-read : (m : Mode) (h : Header) (items : List Item) (c : ℕ) (gos : List Go) (all k : ℕ) (go : Go) (rest : List ℕ) → h.callers ≤ 32 → GoFits h go → all + go.turns ≤ 1000000
+go-read : (m : Mode) (h : Header) (items : List Item) (c : ℕ) (gos : List Go) (all k : ℕ) (go : Go) (rest : List ℕ) → h.callers ≤ MAX_CALLERS → GoFits h go → all + go.turns ≤ MAX_TURNS
     → parsed m (planning h items c gos all) k (lines_of (line (go_words go) ++ rest)) ≡ parsed m (planning h items c (gos ++ go ∷ []) (all + go.turns)) (k + 1) (lines_of rest)
 go-read m h items c gos all k go rest few fits room =
     let d : Writing = planning h items c gos all in
@@ -296,7 +352,7 @@ go-read m h items c gos all k go rest few fits room =
     step-read m d k (codes "go") (decimal go.caller ∷ decimal go.turns ∷ []) rest (Turn go (all + go.turns)) (seen (codes "go") refl, (visible-decimal go.caller small, (visible-decimal go.turns turns, tt))) words (turn-not go (all + go.turns))
 
 -- the lines of turns, and `done`
-gos-read : (m : Mode) (h : Header) (items : List Item) (c : ℕ) (before : List Go) (all k : ℕ) (gos : List Go) → h.callers ≤ 32 → All (GoFits h) gos → all + all_turns gos ≤ 1000000
+gos-read : (m : Mode) (h : Header) (items : List Item) (c : ℕ) (before : List Go) (all k : ℕ) (gos : List Go) → h.callers ≤ MAX_CALLERS → All (GoFits h) gos → all + all_turns gos ≤ MAX_TURNS
     → parsed m (planning h items c before all) k (lines_of (lines_text (map go_words gos ++ done_line))) ≡ Ok (record { header = h; items = items; schedule = before ++ gos })
 gos-read m h items c before all k [] few fits room =
     plan-done m h items c before all k ∙ ap (λ gs. Ok (record { header = h; items = items; schedule = gs })) (sym (append-nil before))
@@ -310,13 +366,13 @@ schedule-read : (h : Header) (items : List Item) (c k : ℕ) (rest : List ℕ)
 schedule-read h items c k rest = step-read Stepwise (between h items c) k (codes "schedule") [] rest Schedule (seen (codes "schedule") refl, tt) refl (λ e. cc)
 
 -- a schedule with its line, and `done`
-section-read : (h : Header) (items : List Item) (c k : ℕ) (gos : List Go) → h.callers ≤ 32 → ScheduleFits Stepwise h gos
+section-read : (h : Header) (items : List Item) (c k : ℕ) (gos : List Go) → h.callers ≤ MAX_CALLERS → ScheduleFits Stepwise h gos
     → parsed Stepwise (between h items c) k (lines_of (lines_text (section_lines gos ++ done_line))) ≡ Ok (record { header = h; items = items; schedule = gos })
 section-read h items c k gos few fits =
     schedule-read h items c k (lines_text (map go_words gos ++ done_line)) ∙ gos-read Stepwise h items c [] 0 (k + 1) gos few fits.0 (let most = fits.1 in omega arith)
 
 -- a schedule, and `done`
-plan-read : (m : Mode) (h : Header) (items : List Item) (c k : ℕ) (gos : List Go) → h.callers ≤ 32 → ScheduleFits m h gos
+plan-read : (m : Mode) (h : Header) (items : List Item) (c k : ℕ) (gos : List Go) → h.callers ≤ MAX_CALLERS → ScheduleFits m h gos
     → parsed m (between h items c) k (lines_of (lines_text (schedule_lines gos ++ done_line))) ≡ Ok (record { header = h; items = items; schedule = gos })
 plan-read m h items c k [] few fits = done-read m h items c k
 plan-read Run h items c k (go ∷ gos) few fits = absurd cc
@@ -348,52 +404,56 @@ version-read m h k rest =
 field-set : (r : Result ℕ ℕ) (set : ℕ → Header) (p : Place) (n : ℕ) → r ≡ Ok n → (r >>= (λ v. Ok (set v)) >>= λ x. Ok (Head p x)) ≡ Ok (Head p (set n))
 field-set r set p n is = ap (λ z. z >>= (λ v. Ok (set v)) >>= λ x. Ok (Head p x)) is
 
-words-read : (m : Mode) (h : Header) (k n : ℕ) (rest : List ℕ) → 1 ≤ n → n ≤ 65536
+words-read : (m : Mode) (h : Header) (k n : ℕ) (rest : List ℕ) → 1 ≤ n → n ≤ MAX_WORDS
     → parsed m (in_header Words h) k (lines_of (line (codes "words" ∷ decimal n ∷ []) ++ rest)) ≡ parsed m (in_header Callers (record h { words = n })) (k + 1) (lines_of rest)
 words-read m h k n rest le ge =
     number-read m h Words k (codes "words") n rest (record h { words = n }) (seen (codes "words") refl) (omega arith)
-    (field-set (sized (codes "words") 1 65536 (codes "words") (decimal n)) (λ v. record h { words = v }) Callers n (sized-decimal (codes "words") 1 65536 n refl le ge (omega arith)))
+    (field-set (sized (codes "words") 1 MAX_WORDS (codes "words") (decimal n)) (λ v. record h { words = v }) Callers n (sized-decimal (codes "words") 1 MAX_WORDS n refl le ge (omega arith)))
 
-callers-read : (m : Mode) (h : Header) (k n : ℕ) (rest : List ℕ) → 1 ≤ n → n ≤ 32
+callers-read : (m : Mode) (h : Header) (k n : ℕ) (rest : List ℕ) → 1 ≤ n → n ≤ MAX_CALLERS
     → parsed m (in_header Callers h) k (lines_of (line (codes "callers" ∷ decimal n ∷ []) ++ rest)) ≡ parsed m (in_header Records (record h { callers = n })) (k + 1) (lines_of rest)
 callers-read m h k n rest le ge =
     number-read m h Callers k (codes "callers") n rest (record h { callers = n }) (seen (codes "callers") refl) (omega arith)
-    (field-set (sized (codes "callers") 1 32 (codes "callers") (decimal n)) (λ v. record h { callers = v }) Records n (sized-decimal (codes "callers") 1 32 n refl le ge (omega arith)))
+    (field-set (sized (codes "callers") 1 MAX_CALLERS (codes "callers") (decimal n)) (λ v. record h { callers = v }) Records n (sized-decimal (codes "callers") 1 MAX_CALLERS n refl le ge (omega arith)))
 
-records-read : (m : Mode) (h : Header) (k n : ℕ) (rest : List ℕ) → 1 ≤ n → n ≤ 4096
+records-read : (m : Mode) (h : Header) (k n : ℕ) (rest : List ℕ) → 1 ≤ n → n ≤ MAX_RECORDS
     → parsed m (in_header Records h) k (lines_of (line (codes "records" ∷ decimal n ∷ []) ++ rest)) ≡ parsed m (in_header Ring (record h { records = n })) (k + 1) (lines_of rest)
 records-read m h k n rest le ge =
     number-read m h Records k (codes "records") n rest (record h { records = n }) (seen (codes "records") refl) (omega arith)
-    (field-set (sized (codes "records") 1 4096 (codes "records") (decimal n)) (λ v. record h { records = v }) Ring n (sized-decimal (codes "records") 1 4096 n refl le ge (omega arith)))
+    (field-set (sized (codes "records") 1 MAX_RECORDS (codes "records") (decimal n)) (λ v. record h { records = v }) Ring n (sized-decimal (codes "records") 1 MAX_RECORDS n refl le ge (omega arith)))
 
-ring-read : (m : Mode) (h : Header) (k n : ℕ) (rest : List ℕ) → 2 ≤ n → n ≤ 64
+ring-read : (m : Mode) (h : Header) (k n : ℕ) (rest : List ℕ) → MIN_RING ≤ n → n ≤ MAX_RING
     → parsed m (in_header Ring h) k (lines_of (line (codes "ring" ∷ decimal n ∷ []) ++ rest)) ≡ parsed m (in_header Reads (record h { ring = n })) (k + 1) (lines_of rest)
 ring-read m h k n rest le ge =
     number-read m h Ring k (codes "ring") n rest (record h { ring = n }) (seen (codes "ring") refl) (omega arith)
-    (field-set (sized (codes "ring") 2 64 (codes "ring") (decimal n)) (λ v. record h { ring = v }) Reads n (sized-decimal (codes "ring") 2 64 n refl le ge (omega arith)))
+    (field-set (sized (codes "ring") MIN_RING MAX_RING (codes "ring") (decimal n)) (λ v. record h { ring = v }) Reads n (sized-decimal (codes "ring") MIN_RING MAX_RING n refl le ge (omega arith)))
 
-reads-read : (m : Mode) (h : Header) (k n : ℕ) (rest : List ℕ) → 1 ≤ n → n ≤ 4096
+reads-read : (m : Mode) (h : Header) (k n : ℕ) (rest : List ℕ) → 1 ≤ n → n ≤ MAX_LOG
     → parsed m (in_header Reads h) k (lines_of (line (codes "reads" ∷ decimal n ∷ []) ++ rest)) ≡ parsed m (in_header Writes (record h { reads = n })) (k + 1) (lines_of rest)
 reads-read m h k n rest le ge =
     number-read m h Reads k (codes "reads") n rest (record h { reads = n }) (seen (codes "reads") refl) (omega arith)
-    (field-set (sized (codes "reads") 1 4096 (codes "reads") (decimal n)) (λ v. record h { reads = v }) Writes n (sized-decimal (codes "reads") 1 4096 n refl le ge (omega arith)))
+    (field-set (sized (codes "reads") 1 MAX_LOG (codes "reads") (decimal n)) (λ v. record h { reads = v }) Writes n (sized-decimal (codes "reads") 1 MAX_LOG n refl le ge (omega arith)))
 
-writes-read : (m : Mode) (h : Header) (k n : ℕ) (rest : List ℕ) → 1 ≤ n → n ≤ 4096
+writes-read : (m : Mode) (h : Header) (k n : ℕ) (rest : List ℕ) → 1 ≤ n → n ≤ MAX_LOG
     → parsed m (in_header Writes h) k (lines_of (line (codes "writes" ∷ decimal n ∷ []) ++ rest)) ≡ parsed m (in_header Clock (record h { writes = n })) (k + 1) (lines_of rest)
 writes-read m h k n rest le ge =
     number-read m h Writes k (codes "writes") n rest (record h { writes = n }) (seen (codes "writes") refl) (omega arith)
-    (field-set (sized (codes "writes") 1 4096 (codes "writes") (decimal n)) (λ v. record h { writes = v }) Clock n (sized-decimal (codes "writes") 1 4096 n refl le ge (omega arith)))
+    (field-set (sized (codes "writes") 1 MAX_LOG (codes "writes") (decimal n)) (λ v. record h { writes = v }) Clock n (sized-decimal (codes "writes") 1 MAX_LOG n refl le ge (omega arith)))
 
-clock-read : (m : Mode) (h : Header) (k n : ℕ) (rest : List ℕ) → 0 ≤ n → n ≤ 2 ^ 62
+clock-read : (m : Mode) (h : Header) (k n : ℕ) (rest : List ℕ) → 0 ≤ n → n ≤ CLOCK_LIMIT
     → parsed m (in_header Clock h) k (lines_of (line (codes "clock" ∷ decimal n ∷ []) ++ rest)) ≡ parsed m (in_header Algorithm (record h { clock = n })) (k + 1) (lines_of rest)
 clock-read m h k n rest le ge =
     number-read m h Clock k (codes "clock") n rest (record h { clock = n }) (seen (codes "clock") refl) (omega arith)
-    (field-set (sized (codes "clock") 0 (2 ^ 62) (codes "clock") (decimal n)) (λ v. record h { clock = v }) Algorithm n (sized-decimal (codes "clock") 0 (2 ^ 62) n refl le ge (omega arith)))
+    (field-set (sized (codes "clock") 0 CLOCK_LIMIT (codes "clock") (decimal n)) (λ v. record h { clock = v }) Algorithm n (sized-decimal (codes "clock") 0 CLOCK_LIMIT n refl le ge (omega arith)))
 
-alg-read : (m : Mode) (h : Header) (k : ℕ) (rest : List ℕ)
-    → parsed m (in_header Algorithm h) k (lines_of (line (codes "alg" ∷ codes "CGL" ∷ []) ++ rest)) ≡ parsed m (in_header Structures (record h { alg = Cgl })) (k + 1) (lines_of rest)
-alg-read m h k rest =
-    step-read m (in_header Algorithm h) k (codes "alg") (codes "CGL" ∷ []) rest (Head Structures (record h { alg = Cgl })) (seen (codes "alg") refl, (seen (codes "CGL") refl, tt)) refl (not-done Structures (record h { alg = Cgl }))
+alg-read : (m : Mode) (h : Header) (k : ℕ) (alg : Alg) (rest : List ℕ) → is_built alg ≡ true
+    → parsed m (in_header Algorithm h) k (lines_of (line (codes "alg" ∷ alg_name alg ∷ []) ++ rest)) ≡ parsed m (in_header Structures (record h { alg = alg })) (k + 1) (lines_of rest)
+alg-read m h k alg rest built =
+    let next : Header = record h { alg = alg } in
+    step-read m (in_header Algorithm h) k (codes "alg") (alg_name alg ∷ []) rest (Head Structures next) (seen (codes "alg") refl, (visible-name alg, tt))
+    (filled-name alg (two_words Algorithm m (in_header Algorithm h) (codes "alg") (alg_name alg))
+    ∙ ap (λ r. r >>= (λ a. Ok (record h { alg = a })) >>= λ x. Ok (Head Structures x)) (algorithm-name alg built))
+    (not-done Structures next)
 
 structs-read : (m : Mode) (h : Header) (k : ℕ) (rest : List ℕ)
     → parsed m (in_header Structures h) k (lines_of (line (codes "structs" ∷ codes "off" ∷ []) ++ rest)) ≡ parsed m (in_header Items (record h { structs = false })) (k + 1) (lines_of rest)
@@ -402,7 +462,7 @@ structs-read m h k rest =
 
 -- the ten lines of a header
 head-read : (m : Mode) (h : Header) (more : List (List (List ℕ))) → HeaderFits h
-    → parsed m opening 1 (lines_of (lines_text (header_lines (record h { alg = Cgl; structs = false }) ++ more))) ≡ parsed m (between (record h { alg = Cgl; structs = false }) [] 0) 11 (lines_of (lines_text more))
+    → parsed m opening 1 (lines_of (lines_text (header_lines (record h { structs = false }) ++ more))) ≡ parsed m (between (record h { structs = false }) [] 0) 11 (lines_of (lines_text more))
 head-read m h more f =
     let rest : List ℕ = lines_text more in
     let h0 : Header = opening.header in
@@ -413,9 +473,9 @@ head-read m h more f =
     let h5 : Header = record h4 { reads = h.reads } in
     let h6 : Header = record h5 { writes = h.writes } in
     let h7 : Header = record h6 { clock = h.clock } in
-    let h8 : Header = record h7 { alg = Cgl } in
+    let h8 : Header = record h7 { alg = h.alg } in
     let t9 : List ℕ = line (codes "structs" ∷ codes "off" ∷ []) ++ rest in
-    let t8 : List ℕ = line (codes "alg" ∷ codes "CGL" ∷ []) ++ t9 in
+    let t8 : List ℕ = line (codes "alg" ∷ alg_name h.alg ∷ []) ++ t9 in
     let t7 : List ℕ = line (codes "clock" ∷ decimal h.clock ∷ []) ++ t8 in
     let t6 : List ℕ = line (codes "writes" ∷ decimal h.writes ∷ []) ++ t7 in
     let t5 : List ℕ = line (codes "reads" ∷ decimal h.reads ∷ []) ++ t6 in
@@ -424,35 +484,35 @@ head-read m h more f =
     let t2 : List ℕ = line (codes "callers" ∷ decimal h.callers ∷ []) ++ t3 in
     let t1 : List ℕ = line (codes "words" ∷ decimal h.words ∷ []) ++ t2 in
     version-read m h0 1 t1
-    ∙ (words-read m h0 2 h.words t2 f.words.0 f.words.1
-    ∙ (callers-read m h1 3 h.callers t3 f.callers.0 f.callers.1
-    ∙ (records-read m h2 4 h.records t4 f.records.0 f.records.1
-    ∙ (ring-read m h3 5 h.ring t5 f.ring.0 f.ring.1
-    ∙ (reads-read m h4 6 h.reads t6 f.reads.0 f.reads.1
-    ∙ (writes-read m h5 7 h.writes t7 f.writes.0 f.writes.1
-    ∙ (clock-read m h6 8 h.clock t8 (omega arith) f.clock
-    ∙ (alg-read m h7 9 t9
+    ∙ (words-read m h0 2 h.words t2 f.config.words.0 f.config.words.1
+    ∙ (callers-read m h1 3 h.callers t3 f.config.callers.0 f.config.callers.1
+    ∙ (records-read m h2 4 h.records t4 f.config.records.0 f.config.records.1
+    ∙ (ring-read m h3 5 h.ring t5 f.config.ring.0 f.config.ring.1
+    ∙ (reads-read m h4 6 h.reads t6 f.config.reads.0 f.config.reads.1
+    ∙ (writes-read m h5 7 h.writes t7 f.config.writes.0 f.config.writes.1
+    ∙ (clock-read m h6 8 h.clock t8 (omega arith) f.config.clock
+    ∙ (alg-read m h7 9 h.alg t9 f.alg
     ∙ structs-read m h8 10 rest))))))))
 
 -- the header as it stands where what isn't built is off
 abbrev off : Header → Header
-off h = record h { alg = Cgl; structs = false }
+off h = record h { structs = false }
 
 -- the lines of a header, items, and what follows them
-front-read : (m : Mode) (h : Header) (items : List Item) (more : List (List (List ℕ))) → HeaderFits h → length items ≤ 65536 → All (ItemFits h) items
+front-read : (m : Mode) (h : Header) (items : List Item) (more : List (List (List ℕ))) → HeaderFits h → length items ≤ MAX_ITEMS → All (ItemFits h) items
     → (x : ℕ) × (j : ℕ) × (parsed m opening 1 (lines_of (lines_text (header_lines (off h) ++ (items_lines items ++ more)))) ≡ parsed m (between (off h) items x) j (lines_of (lines_text more)))
 front-read m h items more f room fits =
-    let callers = f.callers.1 in
-    let body = items-read m (off h) [] 0 11 items more f.words.1 (omega arith) (omega arith) fits in
+    let callers = f.config.callers.1 in
+    let body = items-read m (off h) [] 0 11 items more f.config.words.1 (omega arith) (omega arith) fits in
     (body.0, body.1, head-read m h (items_lines items ++ more) f ∙ body.2)
 
 abbrev whole : Header → List Item → List Go → Workload
 whole h items gos = record { header = h; items = items; schedule = gos }
 
-all-read : (m : Mode) (h : Header) (items : List Item) (gos : List Go) → HeaderFits h → length items ≤ 65536 → All (ItemFits h) items → ScheduleFits m h gos
+all-read : (m : Mode) (h : Header) (items : List Item) (gos : List Go) → HeaderFits h → length items ≤ MAX_ITEMS → All (ItemFits h) items → ScheduleFits m h gos
     → parsed m opening 1 (lines_of (lines_text (lines_with (schedule_lines gos) (whole (off h) items gos)))) ≡ Ok (whole (off h) items gos)
 all-read m h items gos f room fits plan =
-    let callers = f.callers.1 in
+    let callers = f.config.callers.1 in
     let front = front-read m h items (schedule_lines gos ++ done_line) f room fits in
     front.2 ∙ plan-read m (off h) items front.0 front.1 gos (omega arith) (plan-off m h gos plan)
   where
@@ -460,31 +520,30 @@ all-read m h items gos f room fits plan =
     plan-off Run h gos p = p
     plan-off Stepwise h gos p = p
 
-bare-read : (h : Header) (items : List Item) → HeaderFits h → length items ≤ 65536 → All (ItemFits h) items
+bare-read : (h : Header) (items : List Item) → HeaderFits h → length items ≤ MAX_ITEMS → All (ItemFits h) items
     → parsed Stepwise opening 1 (lines_of (lines_text (lines_with (section_lines []) (whole (off h) items [])))) ≡ Ok (whole (off h) items [])
 bare-read h items f room fits =
-    let callers = f.callers.1 in
+    let callers = f.config.callers.1 in
     let front = front-read Stepwise h items (section_lines [] ++ done_line) f room fits in
     front.2 ∙ section-read (off h) items front.0 front.1 [] (omega arith) (All-nil (GoFits (off h)), omega arith)
 
-short-enough : (m : Mode) (t : List ℕ) → length t ≤ 16777216 → workload_of m t ≡ parsed m opening 1 (lines_of t)
-short-enough m t le = let p : ltb 16777216 (length t) ≡ false = grind (arith, nat_tests) in rw p
+short-enough : (m : Mode) (t : List ℕ) → length t ≤ MAX_TEXT → workload_of m t ≡ parsed m opening 1 (lines_of t)
+short-enough m t le = let p : ltb MAX_TEXT (length t) ≡ false = grind (arith, nat_tests) in rw p
 
-header-same : (h : Header) → h.alg ≡ Cgl → h.structs ≡ false → off h ≡ h
-header-same h a b =
-    ap (λ x. let g : Header = record h { alg = x; structs = false } in g) (sym a) ∙ ap (λ x. let g : Header = record h { structs = x } in g) (sym b)
+header-same : (h : Header) → h.structs ≡ false → off h ≡ h
+header-same h b = ap (λ x. let g : Header = record h { structs = x } in g) (sym b)
 
 lines-read : (m : Mode) (w : Workload) (lines : List (List (List ℕ))) → IsBuilt m w → AreLinesOf m w lines → parsed m opening 1 (lines_of (lines_text lines)) ≡ Ok w
 lines-read m w lines b (inl is) =
     let h = b.header in
-    let same = header-same w.header h.alg h.structs in
+    let same = header-same w.header h.structs in
     ap (λ ls. parsed m opening 1 (lines_of (lines_text ls))) is
     ∙ subst (λ x. parsed m opening 1 (lines_of (lines_text (lines_with (schedule_lines w.schedule) (whole x w.items w.schedule)))) ≡ Ok (whole x w.items w.schedule)) same
     (all-read m w.header w.items w.schedule h b.count b.items b.schedule)
 lines-read Run w lines b (inr is) = absurd cc
 lines-read Stepwise w lines b (inr is) =
     let h = b.header in
-    let same = header-same w.header h.alg h.structs in
+    let same = header-same w.header h.structs in
     let bare : parsed Stepwise opening 1 (lines_of (lines_text (lines_with (section_lines []) (whole w.header w.items [])))) ≡ Ok (whole w.header w.items []) =
     subst (λ x. parsed Stepwise opening 1 (lines_of (lines_text (lines_with (section_lines []) (whole x w.items [])))) ≡ Ok (whole x w.items [])) same
     (bare-read w.header w.items h b.count b.items) in
@@ -492,6 +551,6 @@ lines-read Stepwise w lines b (inr is) =
     ∙ (bare ∙ ap (λ gs. Ok (whole w.header w.items gs)) (sym is.1))
 
 -- a text of a workload that fits is read as that workload
-pub text-read : (m : Mode) (w : Workload) (text : List ℕ) → IsBuilt m w → IsTextOf m w text → length text ≤ 16777216 → workload_of m text ≡ Ok w
+pub text-read : (m : Mode) (w : Workload) (text : List ℕ) → IsBuilt m w → IsTextOf m w text → length text ≤ MAX_TEXT → workload_of m text ≡ Ok w
 text-read m w text b is le =
     short-enough m text le ∙ (ap (λ t. parsed m opening 1 (lines_of t)) is.2 ∙ lines-read m w is.0 b is.1)

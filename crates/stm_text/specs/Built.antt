@@ -1,26 +1,24 @@
 -- What a workload of the grammar fits.
-use Rattle.std.specs.Prelude.{ℕ, ◌≡◌, ◌≤◌, ◌<◌, ◌+◌, ◌^◌, false, List, [], ◌∷◌, length, All}
-use Rattle.stm_model.specs.declared.alg.Alg.TheVariants.{Cgl}
+use Rattle.std.specs.Prelude.{ℕ, ◌≡◌, ◌≤◌, ◌<◌, ◌+◌, ◌^◌, Bool, true, false, ◌||◌, List, [], ◌∷◌, length, All}
+use Rattle.stm_model.specs.Algorithms.{is_built}
+use Rattle.stm_model.specs.Configs.{IsConfig}
+use Rattle.stm_script.specs.Operations.{is_irrev}
+use Rattle.stm_script.specs.Workloads.{config_of}
 use Rattle.stm_script.specs.declared.op.Op.{Op}
-use Rattle.stm_script.specs.declared.op.Op.TheVariants.{Read, Write, Add, Move, Cancel}
+use Rattle.stm_script.specs.declared.op.Op.TheVariants.{Read, Write, Add, Move, Emit, Irrev, Cancel}
 use Rattle.stm_script.specs.declared.workload.Header.{Header}
 use Rattle.stm_script.specs.declared.workload.Item.{Item}
 use Rattle.stm_script.specs.declared.workload.Item.TheVariants.{Tx, Switch}
 use Rattle.stm_script.specs.declared.workload.Go.{Go}
 use Rattle.stm_script.specs.declared.workload.Workload.{Workload}
+use Rattle.stm_script.specs.declared.workload.TheConstants.{MAX_ITEMS, MAX_OPS, MAX_TURNS}
 use Rattle.stm_text.specs.declared.parse.Mode.{Mode}
 use Rattle.stm_text.specs.declared.parse.Mode.TheVariants.{Run, Step as Stepwise}
 
--- the numbers of a header are in their ranges; what isn't built is off
+-- the sizes are those of a configuration, the algorithm is built, and the structures are off
 pub record HeaderFits (h : Header) : Type 0 where
-  pub words : (1 ≤ h.words) × (h.words ≤ 65536)
-  pub callers : (1 ≤ h.callers) × (h.callers ≤ 32)
-  pub records : (1 ≤ h.records) × (h.records ≤ 4096)
-  pub ring : (2 ≤ h.ring) × (h.ring ≤ 64)
-  pub reads : (1 ≤ h.reads) × (h.reads ≤ 4096)
-  pub writes : (1 ≤ h.writes) × (h.writes ≤ 4096)
-  pub clock : h.clock ≤ 2 ^ 62
-  pub alg : h.alg ≡ Cgl
+  pub config : IsConfig (config_of h)
+  pub alg : is_built h.alg ≡ true
   pub structs : h.structs ≡ false
 
 -- an operation that is built, on addresses below the number of words
@@ -29,35 +27,48 @@ OpFits words (Read a) = a < words
 OpFits words (Write a v) = (a < words) × (v < 2 ^ 64)
 OpFits words (Add a k) = (a < words) × (k < 2 ^ 64)
 OpFits words (Move a b k) = (a < words) × (b < words) × (k < 2 ^ 64)
+OpFits words (Emit a) = a < words
+OpFits words Irrev = Unit {0}
 OpFits words Cancel = Unit {0}
 
--- at most 4,096 operations that fit
+-- an emit is allowed once the transaction has asked to be irrevocable
+abbrev pub IsAllowed : Bool → Op → Type 0
+IsAllowed asked (Emit a) = asked ≡ true
+IsAllowed asked op = Unit {0}
+
+-- each operation is allowed after those before it
+abbrev pub AreInOrder : Bool → List Op → Type 0
+AreInOrder asked [] = Unit {0}
+AreInOrder asked (op ∷ ops) = IsAllowed asked op × AreInOrder (asked || is_irrev op) ops
+
+-- operations that fit, not too many, and each emit after an irrev
 pub record ScriptFits (words : ℕ) (ops : List Op) : Type 0 where
-  pub count : length ops ≤ 4096
+  pub count : length ops ≤ MAX_OPS
   pub each : All (OpFits words) ops
+  pub order : AreInOrder false ops
 
 -- a transaction, or a switch to an algorithm that is built, of a caller of the header
 abbrev pub ItemFits : Header → Item → Type 0
 ItemFits h (Tx caller script) = (caller < h.callers) × ScriptFits h.words script
-ItemFits h (Switch caller alg) = (caller < h.callers) × (alg ≡ Cgl)
+ItemFits h (Switch caller alg) = (caller < h.callers) × (is_built alg ≡ true)
 
 -- turns of a caller of the header
 abbrev pub GoFits : Header → Go → Type 0
-GoFits h go = (go.caller < h.callers) × (1 ≤ go.turns) × (go.turns ≤ 1000000)
+GoFits h go = (go.caller < h.callers) × (1 ≤ go.turns) × (go.turns ≤ MAX_TURNS)
 
 -- the turns of a schedule in all
 abbrev pub all_turns : List Go → ℕ
 all_turns [] = 0
 all_turns (go ∷ gos) = go.turns + all_turns gos
 
--- at most 1,000,000 turns in all; run takes no schedule
+-- not too many turns in all; run takes no schedule
 abbrev pub ScheduleFits : Mode → Header → List Go → Type 0
 ScheduleFits Run h gos = gos ≡ []
-ScheduleFits Stepwise h gos = All (GoFits h) gos × (all_turns gos ≤ 1000000)
+ScheduleFits Stepwise h gos = All (GoFits h) gos × (all_turns gos ≤ MAX_TURNS)
 
--- at most 65,536 items that fit the header, and a schedule that fits it
+-- items that fit the header, not too many, and a schedule that fits it
 pub record IsBuilt (m : Mode) (w : Workload) : Type 0 where
   pub header : HeaderFits w.header
-  pub count : length w.items ≤ 65536
+  pub count : length w.items ≤ MAX_ITEMS
   pub items : All (ItemFits w.header) w.items
   pub schedule : ScheduleFits m w.header w.schedule

@@ -1,19 +1,24 @@
 -- The workload text: what may stand on a line, and the first fault.
-use Rattle.std.specs.Prelude.{MatchResult, ℕ, ◌≡◌, ◌+◌, ◌^◌, false, ◌&&◌, List, [], ◌∷◌, length, leb, ltb, if◌then◌else◌, Option, Some, None, Result, Ok, Err, codes, bytes_eq}
+use Rattle.std.specs.Prelude.{MatchResult, ℕ, ◌≡◌, ◌+◌, false, ◌&&◌, List, [], ◌∷◌, length, leb, ltb, if◌then◌else◌, Option, Some, None, Result, Ok, Err, codes, bytes_eq}
 use Rattle.stm_model.specs.declared.alg.Alg.{Alg}
-use Rattle.stm_model.specs.declared.alg.Alg.TheVariants.{Cgl}
+use Rattle.stm_model.specs.declared.alg.TheConstants.{ALGORITHMS}
+use Rattle.stm_model.specs.declared.config.TheConstants.{MAX_WORDS, MAX_RECORDS, MIN_RING, MAX_RING, MAX_CALLERS, MAX_LOG, CLOCK_LIMIT}
+use Rattle.stm_model.specs.Algorithms.{alg_name, is_built}
 use Rattle.stm_script.specs.declared.op.Op.{Op}
-use Rattle.stm_script.specs.declared.op.Op.TheVariants.{Read, Write, Add as Sum, Move, Cancel}
+use Rattle.stm_script.specs.declared.op.Op.TheVariants.{Read, Write, Add as Sum, Move, Emit, Irrev, Cancel}
 use Rattle.stm_script.specs.declared.workload.Header.{Header}
 use Rattle.stm_script.specs.declared.workload.Go.{Go}
 use Rattle.stm_script.specs.declared.workload.Workload.{Workload}
-use Rattle.stm_text.specs.declared.code.TheConstants.{LONG, BYTES, UNENDED, WORD, NUMBER, RANGE, ALG, MANY, EXTRA}
+use Rattle.stm_script.specs.declared.workload.TheConstants.{MAX_ITEMS, MAX_OPS, MAX_TURNS}
+use Rattle.stm_script.specs.Scripts.{has_irrev}
+use Rattle.stm_text.specs.declared.code.TheConstants.{LONG, BYTES, UNENDED, WORD, NUMBER, RANGE, ALG, ORDER, MANY, EXTRA}
 use Rattle.stm_text.specs.declared.draft.Place.{Place}
 use Rattle.stm_text.specs.declared.draft.Place.TheVariants.{Version, Words, Callers, Records, Ring, Reads, Writes, Clock, Algorithm, Structures, Items, Ops, Turns}
 use Rattle.stm_text.specs.declared.draft.Step.{Step}
 use Rattle.stm_text.specs.declared.draft.Step.TheVariants.{Head, Begin, Change, Add, End, Schedule, Turn, Done}
 use Rattle.stm_text.specs.declared.parse.Mode.{Mode}
 use Rattle.stm_text.specs.declared.parse.Mode.TheVariants.{Run, Step as Stepwise}
+use Rattle.stm_text.specs.declared.parse.TheConstants.{MAX_TEXT}
 use Rattle.stm_text.specs.declared.parse.ParseError.{ParseError}
 use Rattle.stm_text.specs.declared.parse.ParseError.TheVariants.{Fault, Memory}
 use Rattle.stm_text.specs.Lines.{Line, lines_of, words_of, any_bad, number_of}
@@ -48,9 +53,13 @@ below end n = if ltb n end then Ok n else Err RANGE
 abbrev pub number : ℕ → ℕ → List ℕ → Result ℕ ℕ
 number low high word = formed (number_of word) >>= ranged low high
 
--- the algorithms that are built
+-- of these algorithms the first one that is built and has this name
+abbrev pub algorithm_of : List Alg → List ℕ → Result Alg ℕ
+algorithm_of [] word = Err ALG
+algorithm_of (alg ∷ algs) word = if bytes_eq word (alg_name alg) && is_built alg then Ok alg else algorithm_of algs word
+
 abbrev pub algorithm : List ℕ → Result Alg ℕ
-algorithm word = if bytes_eq word (codes "CGL") then Ok Cgl else Err ALG
+algorithm word = algorithm_of ALGORITHMS word
 
 -- a line that gives a number its name and its range
 abbrev pub sized : List ℕ → ℕ → ℕ → List ℕ → List ℕ → Result ℕ ℕ
@@ -59,13 +68,13 @@ sized name low high w v = named name w (number low high v)
 -- THE HEADER, line by line: what a name and a value make of it
 abbrev pub header_line : Place → Header → List ℕ → List ℕ → Result Header ℕ
 header_line Version h w v = named (codes "stm") w (named (codes "1") v (Ok h))
-header_line Words h w v = sized (codes "words") 1 65536 w v >>= λ n. Ok (record h { words = n })
-header_line Callers h w v = sized (codes "callers") 1 32 w v >>= λ n. Ok (record h { callers = n })
-header_line Records h w v = sized (codes "records") 1 4096 w v >>= λ n. Ok (record h { records = n })
-header_line Ring h w v = sized (codes "ring") 2 64 w v >>= λ n. Ok (record h { ring = n })
-header_line Reads h w v = sized (codes "reads") 1 4096 w v >>= λ n. Ok (record h { reads = n })
-header_line Writes h w v = sized (codes "writes") 1 4096 w v >>= λ n. Ok (record h { writes = n })
-header_line Clock h w v = sized (codes "clock") 0 (2 ^ 62) w v >>= λ n. Ok (record h { clock = n })
+header_line Words h w v = sized (codes "words") 1 MAX_WORDS w v >>= λ n. Ok (record h { words = n })
+header_line Callers h w v = sized (codes "callers") 1 MAX_CALLERS w v >>= λ n. Ok (record h { callers = n })
+header_line Records h w v = sized (codes "records") 1 MAX_RECORDS w v >>= λ n. Ok (record h { records = n })
+header_line Ring h w v = sized (codes "ring") MIN_RING MAX_RING w v >>= λ n. Ok (record h { ring = n })
+header_line Reads h w v = sized (codes "reads") 1 MAX_LOG w v >>= λ n. Ok (record h { reads = n })
+header_line Writes h w v = sized (codes "writes") 1 MAX_LOG w v >>= λ n. Ok (record h { writes = n })
+header_line Clock h w v = sized (codes "clock") 0 CLOCK_LIMIT w v >>= λ n. Ok (record h { clock = n })
 header_line Algorithm h w v = named (codes "alg") w (algorithm v) >>= λ a. Ok (record h { alg = a })
 header_line Structures h w v = named (codes "structs") w (named (codes "off") v (Ok (record h { structs = false })))
 header_line p h w v = Err WORD
@@ -85,7 +94,7 @@ next_line p = Items
 
 -- one more item
 abbrev pub one_item : Writing → Step → Result Step ℕ
-one_item d step = if ltb (length d.items) 65536 then Ok step else Err MANY
+one_item d step = if ltb (length d.items) MAX_ITEMS then Ok step else Err MANY
 
 abbrev pub begun : Writing → ℕ → Result Step ℕ
 begun d caller = one_item d (Begin caller)
@@ -95,11 +104,15 @@ changed d caller alg = one_item d (Change caller alg)
 
 -- one more operation
 abbrev pub added : Writing → Op → Result Step ℕ
-added d op = if ltb (length d.ops) 4096 then Ok (Add op) else Err MANY
+added d op = if ltb (length d.ops) MAX_OPS then Ok (Add op) else Err MANY
+
+-- one more emit: an irrev of its transaction stands before it
+abbrev pub emitted : Writing → ℕ → Result Step ℕ
+emitted d a = if has_irrev d.ops then added d (Emit a) else Err ORDER
 
 -- so many turns more
 abbrev pub planned : Writing → Go → Result Step ℕ
-planned d go = if leb (d.turns + go.turns) 1000000 then Ok (Turn go (d.turns + go.turns)) else Err MANY
+planned d go = if leb (d.turns + go.turns) MAX_TURNS then Ok (Turn go (d.turns + go.turns)) else Err MANY
 
 -- a schedule is for step alone
 abbrev pub scheduled : Mode → Result Step ℕ
@@ -128,19 +141,23 @@ move_of d a b v =
 abbrev pub go_of : Writing → List ℕ → List ℕ → Result Go ℕ
 go_of d a v =
     formed (number_of a) >>= λ i. formed (number_of v) >>= λ n.
-    below d.header.callers i >>= λ c. ranged 1 1000000 n >>= λ t. Ok (record { caller = c; turns = t })
+    below d.header.callers i >>= λ c. ranged 1 MAX_TURNS n >>= λ t. Ok (record { caller = c; turns = t })
 
 -- LINES OF ONE WORD
 abbrev pub one_word : Place → Mode → Writing → List ℕ → Result Step ℕ
 one_word Items m d w = if bytes_eq w (codes "done") then Ok Done else named (codes "schedule") w (scheduled m)
-one_word Ops m d w = if bytes_eq w (codes "cancel") then added d Cancel else named (codes "end") w (Ok End)
+one_word Ops m d w =
+    if bytes_eq w (codes "irrev") then added d Irrev
+    else (if bytes_eq w (codes "cancel") then added d Cancel else named (codes "end") w (Ok End))
 one_word Turns m d w = named (codes "done") w (Ok Done)
 one_word p m d w = Err WORD
 
 -- LINES OF TWO WORDS
 abbrev pub two_words : Place → Mode → Writing → List ℕ → List ℕ → Result Step ℕ
 two_words Items m d w v = named (codes "tx") w (caller_of d v >>= begun d)
-two_words Ops m d w v = named (codes "read") w (address d v >>= λ a. added d (Read a))
+two_words Ops m d w v =
+    if bytes_eq w (codes "read") then address d v >>= (λ a. added d (Read a))
+    else named (codes "emit") w (address d v >>= emitted d)
 two_words Turns m d w v = Err WORD
 two_words p m d w v = header_line p d.header w v >>= λ h. Ok (Head (next_line p) h)
 
@@ -193,7 +210,7 @@ parsed m d k (l ∷ ls) = go_on (step_of m d l) d k ls (λ e. parsed m e (k + 1)
 
 -- the workload of a text, or the line and the code of its first fault
 abbrev pub workload_of : Mode → List ℕ → Result Workload (ℕ × ℕ)
-workload_of m text = if ltb 16777216 (length text) then Err (0, LONG) else parsed m opening 1 (lines_of text)
+workload_of m text = if ltb MAX_TEXT (length text) then Err (0, LONG) else parsed m opening 1 (lines_of text)
 
 -- an error names the first fault; want of memory is free
 abbrev pub IsFirstFault : ParseError → Result Workload (ℕ × ℕ) → Type 0

@@ -1,15 +1,15 @@
 -- The text of a workload, by the grammar's rules.
 use Rattle.std.specs.Prelude.{ℕ, ◌≡◌, ◌≤◌, ◌⊎◌, Bool, true, false, List, [], ◌∷◌, ◌++◌, length, map, Ok, codes}
+use Rattle.stm_model.specs.Algorithms.{alg_name}
 use Rattle.std.specs.Fmt.{decimal}
-use Rattle.stm_model.specs.declared.alg.Alg.{Alg}
-use Rattle.stm_model.specs.declared.alg.Alg.TheVariants.{Cgl, Tml, OrecLazy, OrecEager, RingSw, Serial}
 use Rattle.stm_script.specs.declared.op.Op.{Op}
-use Rattle.stm_script.specs.declared.op.Op.TheVariants.{Read, Write, Add, Move, Cancel}
+use Rattle.stm_script.specs.declared.op.Op.TheVariants.{Read, Write, Add, Move, Emit, Irrev, Cancel}
 use Rattle.stm_script.specs.declared.workload.Header.{Header}
 use Rattle.stm_script.specs.declared.workload.Item.{Item}
 use Rattle.stm_script.specs.declared.workload.Item.TheVariants.{Tx, Switch}
 use Rattle.stm_script.specs.declared.workload.Go.{Go}
 use Rattle.stm_script.specs.declared.workload.Workload.{Workload}
+use Rattle.stm_text.specs.declared.parse.TheConstants.{MAX_TEXT}
 use Rattle.stm_text.specs.declared.parse.Mode.{Mode}
 use Rattle.stm_text.specs.declared.parse.Mode.TheVariants.{Step as Stepwise}
 use Rattle.stm_text.specs.Grammar.{workload_of}
@@ -25,14 +25,6 @@ joined (w ∷ v ∷ ws) = w ++ 32 ∷ joined (v ∷ ws)
 abbrev pub line : List (List ℕ) → List ℕ
 line ws = joined ws ++ 10 ∷ []
 
-abbrev pub name_of : Alg → List ℕ
-name_of Cgl = codes "CGL"
-name_of Tml = codes "TML"
-name_of OrecLazy = codes "OrecLazy"
-name_of OrecEager = codes "OrecEager"
-name_of RingSw = codes "RingSW"
-name_of Serial = codes "Serial"
-
 abbrev pub switch_of : Bool → List ℕ
 switch_of true = codes "on"
 switch_of false = codes "off"
@@ -42,12 +34,14 @@ op_words (Read a) = codes "read" ∷ decimal a ∷ []
 op_words (Write a v) = codes "write" ∷ decimal a ∷ decimal v ∷ []
 op_words (Add a k) = codes "add" ∷ decimal a ∷ decimal k ∷ []
 op_words (Move a b k) = codes "move" ∷ decimal a ∷ decimal b ∷ decimal k ∷ []
+op_words (Emit a) = codes "emit" ∷ decimal a ∷ []
+op_words Irrev = codes "irrev" ∷ []
 op_words Cancel = codes "cancel" ∷ []
 
 -- `tx caller`, its operations, `end`
 abbrev pub item_lines : Item → List (List (List ℕ))
 item_lines (Tx caller script) = (codes "tx" ∷ decimal caller ∷ []) ∷ (map op_words script ++ (codes "end" ∷ []) ∷ [])
-item_lines (Switch caller alg) = (codes "switch" ∷ decimal caller ∷ name_of alg ∷ []) ∷ []
+item_lines (Switch caller alg) = (codes "switch" ∷ decimal caller ∷ alg_name alg ∷ []) ∷ []
 
 abbrev pub items_lines : List Item → List (List (List ℕ))
 items_lines [] = []
@@ -63,7 +57,7 @@ header_lines h =
     ∷ (codes "reads" ∷ decimal h.reads ∷ [])
     ∷ (codes "writes" ∷ decimal h.writes ∷ [])
     ∷ (codes "clock" ∷ decimal h.clock ∷ [])
-    ∷ (codes "alg" ∷ name_of h.alg ∷ [])
+    ∷ (codes "alg" ∷ alg_name h.alg ∷ [])
     ∷ (codes "structs" ∷ switch_of h.structs ∷ [])
     ∷ []
 
@@ -90,10 +84,6 @@ abbrev pub lines_text : List (List (List ℕ)) → List ℕ
 lines_text [] = []
 lines_text (ws ∷ more) = line ws ++ lines_text more
 
--- the text of a workload
-abbrev pub text_of : Workload → List ℕ
-text_of w = lines_text (workload_lines w)
-
 -- its lines; where the schedule is empty the line `schedule` may stand under step
 abbrev pub AreLinesOf : Mode → Workload → List (List (List ℕ)) → Type 0
 AreLinesOf m w lines = (lines ≡ workload_lines w) ⊎ ((m ≡ Stepwise) × (w.schedule ≡ []) × (lines ≡ lines_with (section_lines []) w))
@@ -103,8 +93,8 @@ IsTextOf m w text = (lines : List (List (List ℕ))) × AreLinesOf m w lines × 
 
 -- a text of a workload that fits is read as that workload
 abbrev pub TextIsRead : Type 0
-TextIsRead = (m : Mode) (w : Workload) (text : List ℕ) → IsBuilt m w → IsTextOf m w text → length text ≤ 16777216 → workload_of m text ≡ Ok w
+TextIsRead = (m : Mode) (w : Workload) (text : List ℕ) → IsBuilt m w → IsTextOf m w text → length text ≤ MAX_TEXT → workload_of m text ≡ Ok w
 
--- a text that is read as a workload is that workload's text
-abbrev pub OneTextPerWorkload : Type 0
-OneTextPerWorkload = (m : Mode) (text : List ℕ) (w : Workload) → workload_of m text ≡ Ok w → IsTextOf m w text
+-- a text that is read as a workload is a text of that workload
+abbrev pub TextIsWritten : Type 0
+TextIsWritten = (m : Mode) (text : List ℕ) (w : Workload) → workload_of m text ≡ Ok w → IsTextOf m w text

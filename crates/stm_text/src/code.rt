@@ -14,6 +14,8 @@ pub const NUMBER: u32 = 5;
 pub const RANGE: u32 = 6;
 /// No such algorithm, or one that isn't built.
 pub const ALG: u32 = 7;
+/// An `emit` without an earlier `irrev` in its transaction.
+pub const ORDER: u32 = 9;
 /// The 65,537th item, the 4,097th operation of a transaction, or turns past 1,000,000 in all.
 pub const MANY: u32 = 10;
 /// A byte after the `done` line: on the line after it, before all others of that line.

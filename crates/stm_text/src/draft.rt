@@ -2,7 +2,7 @@
 ghost use Rattle.std.specs.Prelude.{◌≡◌, OnOk};
 ghost use Rattle.stm_text.specs.Drafts.{after, opening};
 ghost use Rattle.stm_text.specs.declared.draft.Step.TheVariants.{End};
-ghost use Rattle.stm_text.specs.Grammar.{one_item, begun, changed, added, planned};
+ghost use Rattle.stm_text.specs.Grammar.{one_item, begun, changed, added, emitted, planned};
 
 use crate::code;
 use std::alloc::{AllocError, Global};
@@ -11,7 +11,7 @@ use std::mem;
 use stm_model::alg::Alg;
 use stm_script::lists::Script;
 use stm_script::op::Op;
-use stm_script::workload::{Go, Gos, Header, Item, Items, Workload};
+use stm_script::workload::{Go, Gos, Header, Item, Items, MAX_ITEMS, MAX_OPS, MAX_TURNS, Workload};
 
 /// The line that comes next.
 #[derive(Clone, Copy, Drop)]
@@ -59,24 +59,23 @@ pub struct Draft {
     items: Vec<Item>,
     caller: usize,
     ops: Vec<Op>,
+    // whether an irrev is among them
+    asked: bool,
     schedule: Vec<Go>,
     turns: u32,
 }
 
 impl Model for Draft {
+    ghost use Rattle.std.specs.Prelude.{◌≡◌};
+    ghost use Rattle.stm_script.specs.Scripts.{has_irrev};
     ghost use Rattle.stm_text.specs.Drafts.{Writing};
 
     ghost Value = { Writing };
 
     ghost view = { λ d. record { place = d.place; header = d.header; items = d.items.items; caller = d.caller; ops = d.ops.items; schedule = d.schedule.items; turns = d.turns } };
-}
 
-/// Items of a workload, at most.
-const MOST_ITEMS: usize = 65536;
-/// Operations of a transaction, at most.
-const MOST_OPS: usize = 4096;
-/// Turns of a schedule in all, at most.
-const MOST_TURNS: u64 = 1000000;
+    ghost invariant = { λ d. d.asked ≡ has_irrev d.ops.items };
+}
 
 impl Draft {
     /// Before the first line.
@@ -99,6 +98,7 @@ impl Draft {
             items: Vec::new(alloc),
             caller: 0,
             ops: Vec::new(alloc),
+            asked: false,
             schedule: Vec::new(alloc),
             turns: 0,
         }
@@ -120,7 +120,7 @@ impl Draft {
     fn one_item(&self, step: Step) -> Result<Step, u32>
         ensures { result ≡ one_item self.now step }
     {
-        if self.items.len() < MOST_ITEMS {
+        if self.items.len() < MAX_ITEMS {
             Ok(step)
         } else {
             Err(code::MANY)
@@ -145,10 +145,21 @@ impl Draft {
     pub fn added(&self, op: Op) -> Result<Step, u32>
         ensures { result ≡ added self.now op }
     {
-        if self.ops.len() < MOST_OPS {
+        if self.ops.len() < MAX_OPS {
             Ok(Step::Add(op))
         } else {
             Err(code::MANY)
+        }
+    }
+
+    /// One more `emit`, where an `irrev` stands before it and it isn't one operation too many.
+    pub fn emitted(&self, a: usize) -> Result<Step, u32>
+        ensures { result ≡ emitted self.now a }
+    {
+        if self.asked {
+            self.added(Op::Emit(a))
+        } else {
+            Err(code::ORDER)
         }
     }
 
@@ -157,7 +168,7 @@ impl Draft {
         ensures { result ≡ planned self.now go }
     {
         let all = u64::from(self.turns) + u64::from(go.turns);
-        if all <= MOST_TURNS {
+        if all <= MAX_TURNS {
             Ok(Step::Turn(go, all as u32))
         } else {
             Err(code::MANY)
@@ -185,6 +196,7 @@ impl Draft {
             }
             Step::Add(op) => {
                 self.ops.push(op)?;
+                self.asked |= op.is_irrev();
                 Ok(())
             }
             Step::End => self.close(alloc),
@@ -205,6 +217,7 @@ impl Draft {
     fn close(&mut self, alloc: Global) -> Result<(), AllocError>
         ensures { OnOk result (self.new ≡ after End self.old) }
     {
+        self.asked = false;
         let script = Script::new(mem::replace(&mut self.ops, Vec::new(alloc)));
         self.items.push(Item::Tx {
             caller: self.caller,
@@ -224,6 +237,7 @@ impl Draft {
             items,
             caller: _,
             ops: _,
+            asked: _,
             schedule,
             turns: _,
         } = self;

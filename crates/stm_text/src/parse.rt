@@ -18,7 +18,7 @@ use thiserror::Error;
 pub enum Mode {
     /// `run`, which takes no schedule.
     Run,
-    /// `step`, which takes one.
+    /// `step`, which may have a schedule.
     Step,
 }
 
@@ -44,8 +44,8 @@ impl From<AllocError> for ParseError {
     }
 }
 
-/// The bytes of a text, at most.
-const LONGEST: usize = 16777216;
+/// The greatest number of bytes of a text.
+pub const MAX_TEXT: usize = 16_777_216;
 
 /// The workload of a text, or its first fault. The text is gone through line by line, once.
 pub fn parse(alloc: Global, bytes: &[u8], mode: Mode) -> Result<Workload, ParseError>
@@ -53,7 +53,7 @@ pub fn parse(alloc: Global, bytes: &[u8], mode: Mode) -> Result<Workload, ParseE
     ensures built { IfOk result (IsBuilt mode) }
     ensures fault { IfErr result (λ e. IsFirstFault e (workload_of mode bytes.now)) }
 {
-    if bytes.len() > LONGEST {
+    if bytes.len() > MAX_TEXT {
         return Err(ParseError::Fault {
             line: 0,
             code: code::LONG,
@@ -64,7 +64,7 @@ pub fn parse(alloc: Global, bytes: &[u8], mode: Mode) -> Result<Workload, ParseE
 
 /// The lines of a text from the first one on.
 fn read_lines(alloc: Global, mode: Mode, text: &[u8]) -> Result<Workload, ParseError>
-    requires { length text.now ≤ 16777216 }
+    requires { length text.now ≤ MAX_TEXT }
     ensures { Answers result (parsed mode opening 1 (lines_of text.now)) }
 {
     let mut draft = Draft::new(alloc);

@@ -1,19 +1,17 @@
 //! What may stand on a line: the table of the grammar, row by row.
 ghost use Rattle.std.specs.Prelude.{◌≡◌, true, Ok, Err, codes};
-ghost use Rattle.stm_text.specs.Grammar.{algorithm, ranged, sized, header_line, next_line, below, formed, named, scheduled, caller_of, address, operands, move_of, go_of, one_word, two_words, three_words, four_words, filled, by_words, step_of};
+ghost use Rattle.stm_text.specs.Grammar.{algorithm_of, algorithm, ranged, sized, header_line, next_line, below, formed, named, scheduled, caller_of, address, operands, move_of, go_of, one_word, two_words, three_words, four_words, filled, by_words, step_of};
 ghost use Rattle.stm_text.specs.Lines.{number_of, words_of, Line};
 
 use crate::draft::{Draft, Place, Step};
 use crate::parse::Mode;
 use crate::{code, lines};
-use stm_model::alg::Alg;
+use stm_model::alg::{ALGORITHMS, Alg};
+use stm_model::config::{
+    CLOCK_LIMIT, MAX_CALLERS, MAX_LOG, MAX_RECORDS, MAX_RING, MAX_WORDS, MIN_RING,
+};
 use stm_script::op::Op;
-use stm_script::workload::{Go, Header};
-
-/// The clock of a header, at most.
-const LAST_CLOCK: u64 = 4611686018427387904;
-/// Turns of one line of a schedule, at most.
-const MOST_TURNS: u64 = 1000000;
+use stm_script::workload::{Go, Header, MAX_TURNS};
 
 /// A word that is a number.
 fn formed(word: &[u8]) -> Result<u64, u32>
@@ -65,15 +63,23 @@ fn fixed(name: &[u8], word: &[u8], w: &[u8], v: &[u8]) -> Result<(), u32>
     }
 }
 
-/// The algorithms that are built.
+/// Of these algorithms the first one that is built and has this name.
+fn algorithm_of(algs: &[Alg], word: &[u8]) -> Result<Alg, u32>
+    ensures { result ≡ algorithm_of algs.now word.now }
+{
+    for alg in algs {
+        if lines::is(word, alg.name().as_bytes()) && alg.is_built() {
+            return Ok(*alg);
+        }
+    }
+    Err(code::ALG)
+}
+
+/// The built algorithm of this name.
 fn algorithm(word: &[u8]) -> Result<Alg, u32>
     ensures { result ≡ algorithm word.now }
 {
-    if lines::is(word, b"CGL") {
-        Ok(Alg::Cgl)
-    } else {
-        Err(code::ALG)
-    }
+    algorithm_of(&ALGORITHMS, word)
 }
 
 /// A line that names the algorithm at the start.
@@ -94,13 +100,13 @@ fn header_line(place: Place, h: Header, w: &[u8], v: &[u8]) -> Result<Header, u3
     let mut next = h;
     match place {
         Place::Version => fixed(b"stm", b"1", w, v)?,
-        Place::Words => next.words = sized(b"words", 1, 65536, w, v)? as usize,
-        Place::Callers => next.callers = sized(b"callers", 1, 32, w, v)? as usize,
-        Place::Records => next.records = sized(b"records", 1, 4096, w, v)? as usize,
-        Place::Ring => next.ring = sized(b"ring", 2, 64, w, v)? as usize,
-        Place::Reads => next.reads = sized(b"reads", 1, 4096, w, v)? as usize,
-        Place::Writes => next.writes = sized(b"writes", 1, 4096, w, v)? as usize,
-        Place::Clock => next.clock = sized(b"clock", 0, LAST_CLOCK, w, v)?,
+        Place::Words => next.words = sized(b"words", 1, MAX_WORDS as u64, w, v)? as usize,
+        Place::Callers => next.callers = sized(b"callers", 1, MAX_CALLERS as u64, w, v)? as usize,
+        Place::Records => next.records = sized(b"records", 1, MAX_RECORDS as u64, w, v)? as usize,
+        Place::Ring => next.ring = sized(b"ring", MIN_RING as u64, MAX_RING as u64, w, v)? as usize,
+        Place::Reads => next.reads = sized(b"reads", 1, MAX_LOG as u64, w, v)? as usize,
+        Place::Writes => next.writes = sized(b"writes", 1, MAX_LOG as u64, w, v)? as usize,
+        Place::Clock => next.clock = sized(b"clock", 0, CLOCK_LIMIT, w, v)?,
         Place::Algorithm => next.alg = first_algorithm(w, v)?,
         Place::Structures => {
             fixed(b"structs", b"off", w, v)?;
@@ -171,7 +177,7 @@ fn go_of(draft: &Draft, a: &[u8], v: &[u8]) -> Result<Go, u32>
     let number = formed(a)?;
     let turns = formed(v)?;
     let caller = below(draft.header().callers, number)?;
-    let turns = ranged(1, MOST_TURNS, turns)? as u32;
+    let turns = ranged(1, MAX_TURNS, turns)? as u32;
     Ok(Go { caller, turns })
 }
 
@@ -205,6 +211,9 @@ fn one_word(mode: Mode, draft: &Draft, w: &[u8]) -> Result<Step, u32>
             }
         }
         Place::Ops => {
+            if lines::is(w, b"irrev") {
+                return draft.added(Op::Irrev);
+            }
             if lines::is(w, b"cancel") {
                 return draft.added(Op::Cancel);
             }
@@ -232,10 +241,13 @@ fn two_words(mode: Mode, draft: &Draft, w: &[u8], v: &[u8]) -> Result<Step, u32>
             draft.begun(caller_of(draft, v)?)
         }
         Place::Ops => {
-            if !lines::is(w, b"read") {
-                return Err(code::WORD);
+            if lines::is(w, b"read") {
+                return draft.added(Op::Read(address(draft, v)?));
             }
-            draft.added(Op::Read(address(draft, v)?))
+            if lines::is(w, b"emit") {
+                return draft.emitted(address(draft, v)?);
+            }
+            Err(code::WORD)
         }
         Place::Turns => Err(code::WORD),
         place => {

@@ -3,7 +3,7 @@ use crate::report::report_text;
 use std::alloc::{AllocError, Global};
 use std::process::Abort;
 use std::test::Fail;
-use stm_model::alg::Alg;
+use stm_model::alg::{ALGORITHMS, Alg};
 use stm_script::lists::Words;
 use stm_script::op::Op;
 use stm_script::report::{Kind, Pairs, Report, Row, Rows};
@@ -92,7 +92,7 @@ fn refuses_lines(rt: HostRuntime) -> Result<(), Fail> {
         (7, "writes 4097", 6),
         (8, "clock 4611686018427387905", 6),
         (8, "clock -1", 5),
-        (9, "alg TML", 7),
+        (9, "alg RingSW", 7),
         (9, "alg none", 7),
         (9, "algorithm CGL", 4),
         (10, "structs on", 4),
@@ -102,9 +102,9 @@ fn refuses_lines(rt: HostRuntime) -> Result<(), Fail> {
         (11, "tx ", 4),
         (11, "switch 0", 4),
         (11, "switch 0 CGL 1", 4),
-        (11, "switch x TML", 5),
-        (11, "switch 1 TML", 6),
-        (11, "switch 0 TML", 7),
+        (11, "switch x none", 5),
+        (11, "switch 1 none", 6),
+        (11, "switch 0 none", 7),
         (11, "go 0 1", 4),
         (11, "schedule", 4),
         (11, "read 0", 4),
@@ -116,8 +116,13 @@ fn refuses_lines(rt: HostRuntime) -> Result<(), Fail> {
         (12, "add 3 1 1", 4),
         (12, "add  3", 4),
         (12, "add x ", 4),
-        (12, "emit 3", 4),
-        (12, "irrev", 4),
+        (12, "emit 3", 9),
+        (12, "emit 8", 6),
+        (12, "emit 03", 5),
+        (12, "emit", 4),
+        (12, "emit 3 3", 4),
+        (12, "irrev 1", 4),
+        (12, "irrev ", 4),
         (12, "cancel ", 4),
         (12, "cancel 1", 4),
         (12, "move 8 1", 4),
@@ -141,6 +146,58 @@ fn refuses_lines(rt: HostRuntime) -> Result<(), Fail> {
             fault(rt.alloc(), text.as_bytes(), Mode::Run),
             Some((line, code)),
             "{other}"
+        );
+    }
+    Ok(())
+}
+
+#[test]
+fn takes_the_algorithms_that_are_built(rt: HostRuntime) -> Result<(), Fail> {
+    for alg in ALGORITHMS {
+        let mut line = String::new(rt.alloc());
+        line.push_str("alg ")?;
+        line.push_str(alg.name())?;
+        let text = with_line(rt.alloc(), 9, line.as_str())?;
+        match parse(rt.alloc(), text.as_bytes(), Mode::Run) {
+            Ok(read) => {
+                assert!(rt; alg.is_built(), "{line}");
+                assert_eq!(rt; read.header.alg, alg);
+            }
+            Err(error) => {
+                assert!(rt; !alg.is_built(), "{line}");
+                assert_eq!(rt; error, ParseError::Fault { line: 9, code: 7 });
+            }
+        }
+    }
+    Ok(())
+}
+
+#[test]
+fn refuses_emits_that_come_too_early(rt: HostRuntime) -> Result<(), Fail> {
+    let table = [
+        ("tx 0\nread 0\nemit 0\nirrev\n", 13, 9),
+        ("tx 0\nirrev\nend\ntx 0\nemit 3\n", 15, 9),
+        ("tx 0\ncancel\nemit 3\n", 13, 9),
+        ("tx 0\nirrev\nemit 3\nemit 8\n", 14, 6),
+        ("tx 0\nirrev\nirrev\nemit 3\nend\nirrev\n", 16, 4),
+    ];
+    for (body, line, code) in table {
+        let text = with_body(rt.alloc(), body)?;
+        assert_eq!(rt;
+            fault(rt.alloc(), text.as_bytes(), Mode::Run),
+            Some((line, code)),
+            "{body}"
+        );
+    }
+    for (first, code) in [("read 0\n", 9), ("irrev\n", 10)] {
+        let mut body = String::new(rt.alloc());
+        body.push_str("tx 0\n")?;
+        body.push_str(first)?;
+        let text = repeated(rt.alloc(), body.as_str(), "read 0\n", 4095, "emit 0\n")?;
+        assert_eq!(rt;
+            fault(rt.alloc(), text.as_bytes(), Mode::Run),
+            Some((4108, code)),
+            "{first}"
         );
     }
     Ok(())
@@ -295,7 +352,9 @@ fn reads_workloads(rt: HostRuntime) -> Result<(), Fail> {
     let none: &[&[Op]] = &[];
     let reads: &[&[Op]] = &[&[Op::Read(5)], &[Op::Write(5, 9)]];
     let writes: &[&[Op]] = &[&[Op::Write(2, 7), Op::Read(2), Op::Write(2, 8)]];
+    let emits: &[&[Op]] = &[&[Op::Irrev, Op::Emit(2), Op::Cancel, Op::Emit(3)]];
     let table = [
+        ("tx 0\nirrev\nemit 2\ncancel\nemit 3\nend\ndone\n", emits),
         (
             "tx 0\nadd 3 1\nend\ntx 0\nadd 3 1\nend\ntx 0\nread 3\nend\ndone\n",
             adds,

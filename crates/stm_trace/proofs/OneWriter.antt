@@ -1,5 +1,5 @@
 -- The trace of one transaction that writes.
-use Rattle.std.proofs.Common.{ℕ, ◌≡◌, [], ◌∷◌, refl, true, arith}
+use Rattle.std.proofs.Common.{ℕ, ◌≡◌, [], ◌∷◌, refl, true, false, arith}
 use Rattle.std.proofs.lemmas.List.Sorted.{IsPermutation-refl}
 use Rattle.stm_model.specs.declared.alg.Alg.{Alg}
 use Rattle.stm_script.specs.declared.op.Op.TheVariants.{Write}
@@ -16,7 +16,7 @@ use Rattle.stm_trace.specs.Turns.{IsOver}
 use Rattle.std.proofs.lemmas.List.Elements.{All-nil, All-cons}
 
 abbrev done : Header → Alg → ℕ → ℕ → ℕ → Place
-done h alg a v time = record { caller = 0; left = []; phase = Between; alg = alg; rest = []; replies = []; emits = []; wrote = true; rows = one_writer_rows v time }
+done h alg a v time = record { caller = 0; left = []; failed = 0; must = false; phase = Between; alg = alg; rest = []; replies = []; emits = []; wrote = true; granted = false; rows = one_writer_rows v time }
 
 pub writer-fits : OneWriterFits
 writer-fits h alg a v time memory =
@@ -31,7 +31,7 @@ writer-fits h alg a v time memory =
         middle = start ∷ [];
         wound = record { first = []; second = []; parts = refl; middle = start ∷ []; played = refl; order = refl; path = refl; rises = tt };
         closed = All-cons (λ (at : Place). at.phase ≡ Between) start [] refl (All-nil (λ (at : Place). at.phase ≡ Between));
-        path = (omega arith, (refl, tt), tt, (omega arith, (refl, refl, refl), tt, (omega arith, (refl, refl), refl, refl)));
+        path = (omega arith, (refl, tt), tt, (omega arith, ((refl, refl, refl), refl), tt, (omega arith, (refl, refl, refl), refl, refl)));
         rises = (omega arith, (omega arith, (omega arith, tt)));
       };
       over = All-cons IsOver (done h alg a v time) [] (refl, refl) (All-nil IsOver);

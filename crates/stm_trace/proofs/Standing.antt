@@ -14,12 +14,14 @@ use Rattle.tx_answers.specs.declared.answers.Begin.TheVariants.{Begun, Closed, H
 use Rattle.tx_answers.specs.declared.answers.Cancel.TheVariants.{Cancelled, Irrevocable}
 use Rattle.tx_answers.specs.declared.answers.CloseGate.TheVariants.{Closed, Taken}
 use Rattle.tx_answers.specs.declared.answers.Commit.TheVariants.{Committed, ReadOnly, Conflict, Again, ClockFull}
+use Rattle.tx_answers.specs.declared.answers.Irrev.TheVariants as irrevs
+use Rattle.stm_model.specs.declared.stop.Stop.TheVariants as stops
 use Rattle.tx_answers.specs.declared.answers.Look.TheVariants.{Quiet, Busy}
 use Rattle.stm_trace.specs.declared.said.Phase.{Phase}
 use Rattle.stm_trace.specs.declared.said.Phase.TheVariants.{Between, Inside, Closing, Quiet}
 use Rattle.stm_trace.specs.declared.said.Said.{Said}
-use Rattle.stm_trace.specs.declared.said.Said.TheVariants.{TryBegin, Reply, Stopped, TryCancel, TryCommit, TryClose, Looked, Installed, Idle, Dropped, Reopened}
-use Rattle.stm_trace.specs.Places.{Place, after, ended, row_at, rest_of, script_at, items_of}
+use Rattle.stm_trace.specs.declared.said.Said.TheVariants.{TryBegin, Reply, Stopped, TryCancel, TryIrrevocable, TryCommit, TryClose, Looked, Installed, Idle, Dropped, Reopened}
+use Rattle.stm_trace.specs.Places.{Place, after, ended, granted_at, is_forced, row_at, rest_of, script_at, items_of}
 use Rattle.stm_trace.specs.Told.{AreOf, ItemsHaveScripts}
 use Rattle.stm_trace.specs.Turns.{MaySay, MayWind, MayFinish, BeforeTx, BeforeSwitch, SwitchesTo, IsOver}
 
@@ -149,15 +151,14 @@ module _ (items : List Item) (n : ℕ) (at : Place) (s : Stands items n at) wher
   facing : (p : Phase) → at.phase ≡ p → Faces p at.left
   facing p e = subst (λ q. Faces q at.left) e s.faces
 
-to-switch : (alg : _) (left : List Item) → SwitchesTo alg left → BeforeSwitch left
-to-switch alg [] h = absurd h
-to-switch alg (Tx c script ∷ items) h = absurd h
-to-switch alg (Switch c to ∷ items) h = tt
-
 -- a cancelled transaction's row has one reply more
 rowed-cancel : (items : List Item) (n : ℕ) (at : Place) (time : ℕ) → Stands items n at → BeforeTx at.left → Stands items n (ended C time (record at { replies = at.replies ++ 1 ∷ [] }))
 rowed-cancel items n at time s b =
     rowed items n (record at { replies = at.replies ++ 1 ∷ [] }) (moved items n at s (record at { replies = at.replies ++ 1 ∷ [] }) refl refl refl s.faces) C time b
+
+stands-granted : (items : List Item) (n : ℕ) (at : Place) (forced : Bool) → Stands items n at → Stands items n (granted_at forced at)
+stands-granted items n at true s = moved items n at s (granted_at true at) refl refl refl s.faces
+stands-granted items n at false s = moved items n at s (granted_at false at) refl refl refl s.faces
 
 pub stands-said : (items : List Item) (n : ℕ) (at : Place) (said : Said) → MaySay at said → Stands items n at → Stands items n (after at said)
 stands-said items n at (TryBegin (Begun alg)) m s = moved items n at s (after at (TryBegin (Begun alg))) refl refl refl m.1
@@ -165,9 +166,16 @@ stands-said items n at (TryBegin (Closed gate)) m s = s
 stands-said items n at (TryBegin (Held word)) m s = s
 stands-said items n at (TryBegin (ClockFull clock)) m s = s
 stands-said items n at (Reply op reply) m s = moved items n at s (after at (Reply op reply)) refl refl refl s.faces
-stands-said items n at (Stopped op stop) m s = moved items n at s (after at (Stopped op stop)) refl refl refl tt
+stands-said items n at (Stopped op (stops.Conflict cause)) m s = moved items n at s (after at (Stopped op (stops.Conflict cause))) refl refl refl tt
+stands-said items n at (Stopped op (stops.Full limit)) m s = moved items n at s (after at (Stopped op (stops.Full limit))) refl refl refl tt
+stands-said items n at (Stopped op (stops.ClockFull clock)) m s = moved items n at s (after at (Stopped op (stops.ClockFull clock))) refl refl refl tt
 stands-said items n at (TryCancel (Cancelled time)) m s = rowed-cancel items n at time s (facing items n at s Inside m.0)
 stands-said items n at (TryCancel Irrevocable) m s = moved items n at s (after at (TryCancel Irrevocable)) refl refl refl s.faces
+stands-said items n at (TryIrrevocable irrevs.Granted) m s = stands-granted items n at (is_forced at) s
+stands-said items n at (TryIrrevocable (irrevs.Busy caller status)) m s = s
+stands-said items n at (TryIrrevocable (irrevs.Taken gate)) m s = moved items n at s (after at (TryIrrevocable (irrevs.Taken gate))) refl refl refl tt
+stands-said items n at (TryIrrevocable (irrevs.Conflict cause)) m s = moved items n at s (after at (TryIrrevocable (irrevs.Conflict cause))) refl refl refl tt
+stands-said items n at (TryIrrevocable (irrevs.ClockFull clock)) m s = moved items n at s (after at (TryIrrevocable (irrevs.ClockFull clock))) refl refl refl tt
 stands-said items n at (TryCommit (Committed time)) m s = rowed items n at s W time (facing items n at s Inside m.0)
 stands-said items n at (TryCommit (ReadOnly time)) m s = rowed items n at s R time (facing items n at s Inside m.0)
 stands-said items n at (TryCommit (Conflict cause)) m s = moved items n at s (after at (TryCommit (Conflict cause))) refl refl refl tt
@@ -187,6 +195,7 @@ stands-wound items n at (TryBegin b) m s = stands-said items n at (TryBegin b) m
 stands-wound items n at (Reply op reply) m s = stands-said items n at (Reply op reply) m.2 s
 stands-wound items n at (Stopped op stop) m s = stands-said items n at (Stopped op stop) m.2 s
 stands-wound items n at (TryCancel c) m s = stands-said items n at (TryCancel c) m.2 s
+stands-wound items n at (TryIrrevocable r) m s = stands-said items n at (TryIrrevocable r) m.2 s
 stands-wound items n at (TryCommit c) m s = stands-said items n at (TryCommit c) m.2 s
 stands-wound items n at (TryClose c) m s = stands-said items n at (TryClose c) m.2 s
 stands-wound items n at (Looked l) m s = stands-said items n at (Looked l) m.2 s
@@ -200,6 +209,7 @@ stands-finished items n at (TryBegin b) m s = stands-said items n at (TryBegin b
 stands-finished items n at (Reply op reply) m s = stands-said items n at (Reply op reply) m s
 stands-finished items n at (Stopped op stop) m s = stands-said items n at (Stopped op stop) m s
 stands-finished items n at (TryCancel c) m s = stands-said items n at (TryCancel c) m s
+stands-finished items n at (TryIrrevocable r) m s = stands-said items n at (TryIrrevocable r) m s
 stands-finished items n at (TryCommit c) m s = stands-said items n at (TryCommit c) m s
 stands-finished items n at (TryClose c) m s = stands-said items n at (TryClose c) m s
 stands-finished items n at (Looked l) m s = stands-said items n at (Looked l) m s

@@ -16,13 +16,13 @@ use Rattle.stm_trace.specs.Turns.{MaySay, MayWind, MayFinish, IsFair, IsOver}
 
 -- where a caller stands at first
 abbrev pub first_place : Workload → ℕ → Place
-first_place w n = record { caller = n; left = items_of n w.items; phase = Between; alg = w.header.alg; rest = []; replies = []; emits = []; wrote = false; rows = [] }
+first_place w n = record { caller = n; left = items_of n w.items; failed = 0; must = false; phase = Between; alg = w.header.alg; rest = []; replies = []; emits = []; wrote = false; granted = false; rows = [] }
 
 abbrev pub first_places : Workload → List Place
 first_places w = map (first_place w) (counted 0 w.header.callers)
 
 abbrev pub no_place : Place
-no_place = record { caller = 0; left = []; phase = Between; alg = Cgl; rest = []; replies = []; emits = []; wrote = false; rows = [] }
+no_place = record { caller = 0; left = []; failed = 0; must = false; phase = Between; alg = Cgl; rest = []; replies = []; emits = []; wrote = false; granted = false; rows = [] }
 
 abbrev pub place_of : List Place → ℕ → Place
 place_of places n = slice_index_or places n no_place

@@ -1,10 +1,12 @@
 -- Where a caller stands, as what was said so far tells.
-use Rattle.std.specs.Prelude.{ℕ, ◌==◌, Bool, true, false, ◌||◌, List, [], ◌∷◌, ◌++◌, length, Option, Some, None, if◌then◌else◌}
+use Rattle.std.specs.Prelude.{ℕ, ◌+◌, ◌==◌, leb, Bool, true, false, ◌||◌, ◌&&◌, not, List, [], ◌∷◌, ◌++◌, length, Option, Some, None, if◌then◌else◌}
+use Rattle.stm_model.specs.Algorithms.{is_sure}
 use Rattle.stm_model.specs.declared.alg.Alg.{Alg}
 use Rattle.stm_model.specs.declared.stop.Stop.{Stop}
 use Rattle.stm_model.specs.declared.stop.Stop.TheVariants.{Conflict, Full, ClockFull}
 use Rattle.stm_script.specs.declared.op.Op.{Op}
-use Rattle.stm_script.specs.declared.op.Op.TheVariants.{Read, Write, Add, Move, Cancel}
+use Rattle.stm_script.specs.declared.op.Op.TheVariants.{Read, Write, Add, Move, Cancel, Irrev, Emit}
+use Rattle.stm_script.specs.Operations.{emits_of}
 use Rattle.stm_script.specs.declared.report.Kind.{Kind}
 use Rattle.stm_script.specs.declared.report.Kind.TheVariants.{W, R, C}
 use Rattle.stm_script.specs.declared.report.Row.{Row}
@@ -14,22 +16,26 @@ use Rattle.tx_answers.specs.declared.answers.Begin.TheVariants.{Begun, Closed, H
 use Rattle.tx_answers.specs.declared.answers.Cancel.TheVariants.{Cancelled, Irrevocable}
 use Rattle.tx_answers.specs.declared.answers.CloseGate.TheVariants.{Closed, Taken}
 use Rattle.tx_answers.specs.declared.answers.Commit.TheVariants.{Committed, ReadOnly, Conflict, Again, ClockFull}
+use Rattle.tx_answers.specs.declared.answers.Irrev.TheVariants as irrevs
 use Rattle.tx_answers.specs.declared.answers.Look.TheVariants.{Quiet, Busy}
 use Rattle.stm_trace.specs.declared.said.Phase.{Phase}
 use Rattle.stm_trace.specs.declared.said.Phase.TheVariants.{Between, Inside, Closing, Quiet}
 use Rattle.stm_trace.specs.declared.said.Said.{Said}
-use Rattle.stm_trace.specs.declared.said.Said.TheVariants.{TryBegin, Reply, Stopped, TryCancel, TryCommit, TryClose, Looked, Installed, Idle, Dropped, Reopened}
+use Rattle.stm_trace.specs.declared.said.Said.TheVariants.{TryBegin, Reply, Stopped, TryCancel, TryIrrevocable, TryCommit, TryClose, Looked, Installed, Idle, Dropped, Reopened}
 
--- what the caller has still to do; of its last attempt the algorithm, and of an open one the operations still to come, the replies so far, and whether it wrote; and its rows
+-- what the caller has still to do; of its next transaction how many attempts were in somebody's way, and whether it must become irrevocable; of its last attempt the algorithm, and of an open one the operations still to come, the replies and emits so far, whether it wrote, and whether it was granted to be irrevocable; and its rows
 pub record Place : Type 0 where
   pub caller : ℕ
   pub left : List Item
+  pub failed : ℕ
+  pub must : Bool
   pub phase : Phase
   pub alg : Alg
   pub rest : List Op
   pub replies : List ℕ
   pub emits : List ℕ
   pub wrote : Bool
+  pub granted : Bool
   pub rows : List Row
 
 -- the operations of the first item
@@ -49,6 +55,8 @@ writes (Write a v) reply = true
 writes (Add a k) reply = true
 writes (Move a b k) reply = reply == 1
 writes Cancel reply = false
+writes Irrev reply = false
+writes (Emit a) reply = false
 
 abbrev pub may_write : Op → Bool
 may_write (Read a) = false
@@ -56,25 +64,60 @@ may_write (Write a v) = true
 may_write (Add a k) = true
 may_write (Move a b k) = true
 may_write Cancel = false
+may_write Irrev = false
+may_write (Emit a) = false
+
+-- so many attempts of a transaction are in somebody's way: then it must become irrevocable
+abbrev pub most_failed : ℕ
+most_failed = 16
+
+-- the open attempt can't be cancelled
+abbrev pub sure : Place → Bool
+sure at = is_sure at.alg at.granted at.wrote
+
+-- it must become irrevocable before it goes on
+abbrev pub is_forced : Place → Bool
+is_forced at = at.must && not (sure at)
 
 -- a new attempt: nothing of an earlier one stays
 abbrev pub begun : Alg → Place → Place
-begun alg at = record at { phase = Inside; alg = alg; rest = script_at at.left; replies = []; emits = []; wrote = false }
+begun alg at = record at { phase = Inside; alg = alg; rest = script_at at.left; replies = []; emits = []; wrote = false; granted = false }
 
 -- the next operation is done
 abbrev pub replied : Op → ℕ → Place → Place
-replied op reply at = record at { rest = rest_of at.rest; replies = at.replies ++ reply ∷ []; wrote = at.wrote || writes op reply }
+replied op reply at = record at { rest = rest_of at.rest; replies = at.replies ++ reply ∷ []; emits = at.emits ++ emits_of op reply; wrote = at.wrote || writes op reply }
 
 -- the attempt is over, and its script still to do
 abbrev pub given_up : Place → Place
 given_up at = record at { phase = Between; replies = []; emits = [] }
+
+-- another caller was in its way: so it is counted, until the next one must become irrevocable
+abbrev pub failed_next : Bool → ℕ → ℕ
+failed_next must failed = if must then failed else failed + 1
+
+abbrev pub must_next : Bool → ℕ → Bool
+must_next must failed = must || leb most_failed (failed + 1)
+
+abbrev pub in_the_way : Place → Place
+in_the_way at = record (given_up at) { failed = failed_next at.must at.failed; must = must_next at.must at.failed }
+
+-- by why it was stopped: a log that is too short will be so again
+abbrev pub stopped : Stop → Place → Place
+stopped (Conflict cause) at = in_the_way at
+stopped (Full limit) at = record (given_up at) { must = true }
+stopped (ClockFull clock) at = given_up at
+
+-- granted: where `irrev` asked for it that operation is done
+abbrev pub granted_at : Bool → Place → Place
+granted_at true at = record at { granted = true }
+granted_at false at = record (replied Irrev 1 at) { granted = true }
 
 -- the transaction has ended, and has its row
 abbrev pub row_at : Kind → ℕ → Place → Row
 row_at kind time at = record { kind = kind; place = time; caller = at.caller; seq = length at.rows; replies = at.replies; emits = at.emits }
 
 abbrev pub ended : Kind → ℕ → Place → Place
-ended kind time at = record at { phase = Between; left = rest_of at.left; replies = []; emits = []; rows = at.rows ++ row_at kind time at ∷ [] }
+ended kind time at = record at { left = rest_of at.left; failed = 0; must = false; phase = Between; replies = []; emits = []; rows = at.rows ++ row_at kind time at ∷ [] }
 
 -- where the caller stands after this was said
 abbrev pub after : Place → Said → Place
@@ -83,12 +126,17 @@ after at (TryBegin (Closed gate)) = at
 after at (TryBegin (Held word)) = at
 after at (TryBegin (ClockFull clock)) = at
 after at (Reply op reply) = replied op reply at
-after at (Stopped op stop) = given_up at
+after at (Stopped op stop) = stopped stop at
 after at (TryCancel (Cancelled time)) = ended C time (record at { replies = at.replies ++ 1 ∷ [] })
 after at (TryCancel Irrevocable) = replied Cancel 0 at
+after at (TryIrrevocable irrevs.Granted) = granted_at (is_forced at) at
+after at (TryIrrevocable (irrevs.Busy caller status)) = at
+after at (TryIrrevocable (irrevs.Taken gate)) = in_the_way at
+after at (TryIrrevocable (irrevs.Conflict cause)) = in_the_way at
+after at (TryIrrevocable (irrevs.ClockFull clock)) = given_up at
 after at (TryCommit (Committed time)) = ended W time at
 after at (TryCommit (ReadOnly time)) = ended R time at
-after at (TryCommit (Conflict cause)) = given_up at
+after at (TryCommit (Conflict cause)) = in_the_way at
 after at (TryCommit (Again word had now)) = at
 after at (TryCommit (ClockFull clock)) = given_up at
 after at (TryClose Closed) = record at { phase = Closing }
@@ -114,6 +162,11 @@ clock_of (TryBegin (ClockFull clock)) = Some clock
 clock_of (Reply op reply) = None
 clock_of (Stopped op stop) = stop_clock stop
 clock_of (TryCancel c) = None
+clock_of (TryIrrevocable irrevs.Granted) = None
+clock_of (TryIrrevocable (irrevs.Busy caller status)) = None
+clock_of (TryIrrevocable (irrevs.Taken gate)) = None
+clock_of (TryIrrevocable (irrevs.Conflict cause)) = None
+clock_of (TryIrrevocable (irrevs.ClockFull clock)) = Some clock
 clock_of (TryCommit (Committed time)) = None
 clock_of (TryCommit (ReadOnly time)) = None
 clock_of (TryCommit (Conflict cause)) = None

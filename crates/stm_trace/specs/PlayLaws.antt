@@ -6,11 +6,11 @@ use Rattle.stm_script.specs.declared.workload.Header.{Header}
 use Rattle.stm_trace.specs.declared.line.Line.{Line}
 use Rattle.stm_trace.specs.declared.line.Line.TheVariants.{Of, Finish}
 use Rattle.stm_trace.specs.declared.said.Said.{Said}
-use Rattle.stm_trace.specs.declared.said.Said.TheVariants.{TryBegin, Reply, Stopped, TryCancel, TryCommit, TryClose, Looked, Installed, Idle, Dropped, Reopened}
+use Rattle.stm_trace.specs.declared.said.Said.TheVariants.{TryBegin, Reply, Stopped, TryCancel, TryIrrevocable, TryCommit, TryClose, Looked, Installed, Idle, Dropped, Reopened}
 use Rattle.stm_trace.specs.Fits.{Path, IsCalm, callers, place_of, no_place, says}
-use Rattle.stm_trace.specs.Places.{Place, after, clock_of}
+use Rattle.stm_trace.specs.Places.{Place, after, clock_of, sure}
 use Rattle.stm_trace.specs.Played.{Played, Halted}
-use Rattle.stm_trace.specs.Turns.{IsFair, IsOver, MaySay, MayWind, MayFinish, sure}
+use Rattle.stm_trace.specs.Turns.{IsFair, IsOver, MaySay, MayWind, MayFinish}
 use Rattle.stm_trace.specs.declared.said.Phase.TheVariants.{Inside}
 
 pub append-nil : {A : Type 0} (xs : List A) → xs ++ [] ≡ xs
@@ -33,6 +33,7 @@ may-finish at (TryBegin b) still m = m
 may-finish at (Reply op reply) still m = m
 may-finish at (Stopped op stop) still m = m
 may-finish at (TryCancel c) still m = m
+may-finish at (TryIrrevocable r) still m = m
 may-finish at (TryCommit c) still m = m
 may-finish at (TryClose c) still m = m
 may-finish at (Looked l) still m = m
@@ -47,6 +48,7 @@ may-wind at (TryBegin b) here is m = (here, is, m)
 may-wind at (Reply op reply) here is m = (here, is, m)
 may-wind at (Stopped op stop) here is m = (here, is, m)
 may-wind at (TryCancel c) here is m = (here, is, m)
+may-wind at (TryIrrevocable r) here is m = (here, is, m)
 may-wind at (TryCommit c) here is m = (here, is, m)
 may-wind at (TryClose c) here is m = (here, is, m)
 may-wind at (Looked l) here is m = (here, is, m)

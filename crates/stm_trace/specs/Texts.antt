@@ -1,5 +1,6 @@
 -- The text of a trace.
 use Rattle.std.specs.Prelude.{ℕ, List, [], ◌∷◌, ◌++◌, codes}
+use Rattle.stm_model.specs.Algorithms.{alg_name}
 use Rattle.std.specs.Fmt.{decimal}
 use Rattle.stm_model.specs.declared.alg.Alg.{Alg}
 use Rattle.stm_model.specs.declared.alg.Alg.TheVariants.{Cgl, Tml, OrecLazy, OrecEager, RingSw, Serial}
@@ -12,24 +13,17 @@ use Rattle.tx_answers.specs.declared.answers.Begin.TheVariants.{Begun, Closed, H
 use Rattle.tx_answers.specs.declared.answers.Cancel.TheVariants.{Cancelled, Irrevocable}
 use Rattle.tx_answers.specs.declared.answers.CloseGate.TheVariants.{Closed, Taken}
 use Rattle.tx_answers.specs.declared.answers.Commit.TheVariants.{Committed, ReadOnly, Conflict, Again, ClockFull}
+use Rattle.tx_answers.specs.declared.answers.Irrev.TheVariants as irrevs
 use Rattle.tx_answers.specs.declared.answers.Look.TheVariants.{Quiet, Busy}
 use Rattle.stm_trace.specs.declared.line.Line.{Line}
 use Rattle.stm_trace.specs.declared.line.Line.TheVariants.{Of, Finish}
 use Rattle.stm_trace.specs.declared.said.Said.{Said}
-use Rattle.stm_trace.specs.declared.said.Said.TheVariants.{TryBegin, Reply, Stopped, TryCancel, TryCommit, TryClose, Looked, Installed, Idle, Dropped, Reopened}
+use Rattle.stm_trace.specs.declared.said.Said.TheVariants.{TryBegin, Reply, Stopped, TryCancel, TryIrrevocable, TryCommit, TryClose, Looked, Installed, Idle, Dropped, Reopened}
 
 -- numbers, each with a space before it
 abbrev pub spaced : List ℕ → List ℕ
 spaced [] = []
 spaced (n ∷ ns) = 32 ∷ decimal n ++ spaced ns
-
-abbrev pub alg_name : Alg → List ℕ
-alg_name Cgl = codes "CGL"
-alg_name Tml = codes "TML"
-alg_name OrecLazy = codes "OrecLazy"
-alg_name OrecEager = codes "OrecEager"
-alg_name RingSw = codes "RingSW"
-alg_name Serial = codes "Serial"
 
 abbrev pub cause_bytes : Cause → List ℕ
 cause_bytes (Clock had now) = codes " conflict clock" ++ spaced (had ∷ now ∷ [])
@@ -56,6 +50,11 @@ said_bytes (Reply op reply) = codes " " ++ (op_name op ++ spaced (reply ∷ []))
 said_bytes (Stopped op stop) = codes " " ++ (op_name op ++ stop_bytes stop)
 said_bytes (TryCancel (Cancelled time)) = codes " cancel cancelled" ++ spaced (time ∷ [])
 said_bytes (TryCancel Irrevocable) = codes " cancel irrevocable"
+said_bytes (TryIrrevocable irrevs.Granted) = codes " irrev granted"
+said_bytes (TryIrrevocable (irrevs.Busy caller status)) = codes " irrev busy" ++ spaced (caller ∷ status ∷ [])
+said_bytes (TryIrrevocable (irrevs.Taken gate)) = codes " irrev taken" ++ spaced (gate ∷ [])
+said_bytes (TryIrrevocable (irrevs.Conflict cause)) = codes " irrev" ++ cause_bytes cause
+said_bytes (TryIrrevocable (irrevs.ClockFull clock)) = codes " irrev" ++ full_clock_bytes clock
 said_bytes (TryCommit (Committed time)) = codes " commit committed" ++ spaced (time ∷ [])
 said_bytes (TryCommit (ReadOnly time)) = codes " commit readonly" ++ spaced (time ∷ [])
 said_bytes (TryCommit (Conflict cause)) = codes " commit" ++ cause_bytes cause

@@ -1,7 +1,9 @@
 -- THE TABLE OF TURNS: what may be said where a caller stands, and with which numbers.
-use Rattle.std.specs.Prelude.{ℕ, ◌≡◌, ◌≢◌, ◌<◌, ◌≤◌, ◌+◌, ◌⊎◌, Bool, true, false, List, [], ◌∷◌}
-use Rattle.rule_base.specs.Encodings.{holder_of, has_records, is_owned, owner_of, version_of}
-use Rattle.rule_base.specs.declared.layout.TheConstants.{CLOCK_LIMIT}
+use Rattle.std.specs.Prelude.{ℕ, ◌≡◌, ◌≢◌, ◌<◌, ◌≤◌, ◌+◌, ◌⊎◌, ◌||◌, Bool, true, false, List, [], ◌∷◌}
+use Rattle.rule_base.specs.Encodings.{holder_of, is_owned, owner_of, version_of}
+use Rattle.stm_model.specs.Algorithms.{has_records, has_read_log, logs_writes, closes_gate, asks_at_write, asks_at_commit, asks_at_grant}
+use Rattle.stm_model.specs.declared.config.Config.{Config}
+use Rattle.stm_model.specs.declared.config.TheConstants.{CLOCK_LIMIT}
 use Rattle.stm_model.specs.declared.alg.Alg.{Alg}
 use Rattle.stm_model.specs.declared.alg.Alg.TheVariants.{Cgl, Tml, OrecLazy, OrecEager, RingSw, Serial}
 use Rattle.stm_model.specs.declared.stop.Cause.{Cause}
@@ -9,21 +11,21 @@ use Rattle.stm_model.specs.declared.stop.Cause.TheVariants.{Clock, Record, Moved
 use Rattle.stm_model.specs.declared.stop.Stop.{Stop}
 use Rattle.stm_model.specs.declared.stop.Stop.TheVariants.{Conflict, Full, ClockFull}
 use Rattle.stm_script.specs.declared.op.Op.{Op}
-use Rattle.stm_script.specs.declared.op.Op.TheVariants.{Cancel}
-use Rattle.stm_script.specs.Operations.{is_cancel}
+use Rattle.stm_script.specs.declared.op.Op.TheVariants.{Cancel, Irrev}
+use Rattle.stm_script.specs.Operations.{is_cancel, is_irrev}
 use Rattle.stm_script.specs.declared.workload.Header.{Header}
 use Rattle.stm_script.specs.declared.workload.Item.{Item}
 use Rattle.stm_script.specs.declared.workload.Item.TheVariants.{Tx, Switch}
-use Rattle.tx_answers.specs.Known.{is_sure}
 use Rattle.tx_answers.specs.declared.answers.Begin.TheVariants.{Begun, Closed, Held, ClockFull}
 use Rattle.tx_answers.specs.declared.answers.Cancel.TheVariants.{Cancelled, Irrevocable}
 use Rattle.tx_answers.specs.declared.answers.CloseGate.TheVariants.{Closed, Taken}
 use Rattle.tx_answers.specs.declared.answers.Commit.TheVariants.{Committed, ReadOnly, Conflict, Again, ClockFull}
+use Rattle.tx_answers.specs.declared.answers.Irrev.TheVariants as irrevs
 use Rattle.tx_answers.specs.declared.answers.Look.TheVariants.{Quiet, Busy}
 use Rattle.stm_trace.specs.declared.said.Phase.TheVariants.{Between, Inside, Closing, Quiet}
 use Rattle.stm_trace.specs.declared.said.Said.{Said}
-use Rattle.stm_trace.specs.declared.said.Said.TheVariants.{TryBegin, Reply, Stopped, TryCancel, TryCommit, TryClose, Looked, Installed, Idle, Dropped, Reopened}
-use Rattle.stm_trace.specs.Places.{Place, may_write}
+use Rattle.stm_trace.specs.declared.said.Said.TheVariants.{TryBegin, Reply, Stopped, TryCancel, TryIrrevocable, TryCommit, TryClose, Looked, Installed, Idle, Dropped, Reopened}
+use Rattle.stm_trace.specs.Places.{Place, may_write, sure, is_forced}
 
 -- a transaction comes next
 abbrev pub BeforeTx : List Item → Type 0
@@ -48,21 +50,26 @@ abbrev pub Next : Op → List Op → Type 0
 Next op [] = ⊥
 Next op (o ∷ ops) = o ≡ op
 
--- the open attempt can't be cancelled
-abbrev pub sure : Place → Bool
-sure at = is_sure at.alg false at.wrote
-
 -- nothing is left to the caller
 abbrev pub IsOver : Place → Type 0
 IsOver at = (at.phase ≡ Between) × (at.left ≡ [])
 
+-- the operation asks for something of the attempt, and not of the memory
+abbrev pub is_call : Op → Bool
+is_call op = is_cancel op || is_irrev op
+
+-- the script goes on with this operation
+abbrev pub Comes : Op → Place → Type 0
+Comes op at = (at.phase ≡ Inside) × (is_forced at ≡ false) × Next op at.rest
+
 -- where it may be said, while the schedule goes on
 abbrev pub MaySay : Place → Said → Type 0
 MaySay at (TryBegin b) = (at.phase ≡ Between) × BeforeTx at.left
-MaySay at (Reply op reply) = (at.phase ≡ Inside) × Next op at.rest × (is_cancel op ≡ false)
-MaySay at (Stopped op stop) = (at.phase ≡ Inside) × Next op at.rest × (is_cancel op ≡ false)
-MaySay at (TryCancel c) = (at.phase ≡ Inside) × Next Cancel at.rest
-MaySay at (TryCommit c) = (at.phase ≡ Inside) × (at.rest ≡ [])
+MaySay at (Reply op reply) = Comes op at × (is_call op ≡ false)
+MaySay at (Stopped op stop) = Comes op at × (is_call op ≡ false)
+MaySay at (TryCancel c) = Comes Cancel at
+MaySay at (TryIrrevocable r) = ((at.phase ≡ Inside) × (is_forced at ≡ true)) ⊎ Comes Irrev at
+MaySay at (TryCommit c) = (at.phase ≡ Inside) × (is_forced at ≡ false) × (at.rest ≡ [])
 MaySay at (TryClose c) = (at.phase ≡ Between) × BeforeSwitch at.left
 MaySay at (Looked l) = at.phase ≡ Closing
 MaySay at (Installed alg) = (at.phase ≡ Quiet) × SwitchesTo alg at.left
@@ -81,39 +88,9 @@ abbrev pub MayFinish : Place → Said → Type 0
 MayFinish at Idle = ⊥
 MayFinish at said = MaySay at said
 
--- the algorithm has a read log; a write or undo log
-abbrev pub has_reads : Alg → Bool
-has_reads Cgl = false
-has_reads Tml = false
-has_reads OrecLazy = true
-has_reads OrecEager = true
-has_reads RingSw = false
-has_reads Serial = false
-
-abbrev pub has_writes : Alg → Bool
-has_writes Cgl = false
-has_writes Tml = false
-has_writes OrecLazy = true
-has_writes OrecEager = true
-has_writes RingSw = true
-has_writes Serial = true
-
--- a write loads the clock; a writer's commit does
-abbrev pub asks_at_write : Alg → Bool
-asks_at_write Cgl = false
-asks_at_write Tml = true
-asks_at_write OrecLazy = false
-asks_at_write OrecEager = true
-asks_at_write RingSw = false
-asks_at_write Serial = true
-
-abbrev pub asks_at_commit : Alg → Bool
-asks_at_commit Cgl = false
-asks_at_commit Tml = false
-asks_at_commit OrecLazy = true
-asks_at_commit OrecEager = true
-asks_at_commit RingSw = true
-asks_at_commit Serial = false
+-- the memory has the sizes of this header
+abbrev pub HasSizes : Config → Header → Type 0
+HasSizes c h = (h.words ≡ c.words) × (h.records ≡ c.records) × (h.ring ≡ c.ring) × (h.callers ≡ c.callers) × (h.reads ≡ c.reads) × (h.writes ≡ c.writes)
 
 -- h is the workload's header
 module _ (h : Header) where
@@ -140,12 +117,16 @@ module _ (h : Header) where
 
   -- the length of a log that the algorithm has
   abbrev pub IsFairLimit : Place → ℕ → Type 0
-  IsFairLimit at limit = ((has_reads at.alg ≡ true) × (limit ≡ h.reads)) ⊎ ((has_writes at.alg ≡ true) × (limit ≡ h.writes))
+  IsFairLimit at limit = ((has_read_log at.alg ≡ true) × (limit ≡ h.reads)) ⊎ ((logs_writes at.alg ≡ true) × (limit ≡ h.writes))
 
   abbrev pub IsFairStop : Place → Op → Stop → Type 0
   IsFairStop at op (Conflict cause) = HasOthers × IsFairCause at cause
   IsFairStop at op (Full limit) = IsFairLimit at limit
   IsFairStop at op (ClockFull clock) = (CLOCK_LIMIT ≤ clock) × (asks_at_write at.alg ≡ true) × (may_write op ≡ true)
+
+  -- an attempt that can be cancelled waits to be alone
+  abbrev pub IsFairWait : Place → Type 0
+  IsFairWait at = (sure at ≡ false) × (closes_gate at.alg ≡ true) × HasOthers
 
   -- THE NUMBERS of each answer are such as its cause allows; who can't be cancelled is not refused
   abbrev pub IsFair : Place → Said → Type 0
@@ -157,10 +138,15 @@ module _ (h : Header) where
   IsFair at (Stopped op stop) = (sure at ≡ false) × IsFairStop at op stop
   IsFair at (TryCancel (Cancelled time)) = sure at ≡ false
   IsFair at (TryCancel Irrevocable) = sure at ≡ true
+  IsFair at (TryIrrevocable irrevs.Granted) = Unit {0}
+  IsFair at (TryIrrevocable (irrevs.Busy caller status)) = IsFairWait at × (caller < h.callers) × (caller ≢ at.caller) × (status ≢ 0)
+  IsFair at (TryIrrevocable (irrevs.Taken gate)) = IsFairWait at × NamesOther at (holder_of gate)
+  IsFair at (TryIrrevocable (irrevs.Conflict cause)) = (sure at ≡ false) × HasOthers × IsFairCause at cause
+  IsFair at (TryIrrevocable (irrevs.ClockFull clock)) = (sure at ≡ false) × (CLOCK_LIMIT ≤ clock) × (asks_at_grant at.alg ≡ true)
   IsFair at (TryCommit (Committed time)) = at.wrote ≡ true
   IsFair at (TryCommit (ReadOnly time)) = at.wrote ≡ false
-  IsFair at (TryCommit (Conflict cause)) = (sure at ≡ false) × HasOthers × IsFairCause at cause
-  IsFair at (TryCommit (Again word had now)) = (sure at ≡ false) × HasOthers × IsFairAgain at word had now
+  IsFair at (TryCommit (Conflict cause)) = (sure at ≡ false) × HasOthers × IsFairCause at cause × (at.wrote ≡ true)
+  IsFair at (TryCommit (Again word had now)) = (sure at ≡ false) × HasOthers × IsFairAgain at word had now × (at.wrote ≡ true)
   IsFair at (TryCommit (ClockFull clock)) = (sure at ≡ false) × (CLOCK_LIMIT ≤ clock) × (asks_at_commit at.alg ≡ true) × (at.wrote ≡ true)
   IsFair at (TryClose Closed) = Unit {0}
   IsFair at (TryClose (Taken gate)) = HasOthers × NamesOther at (holder_of gate)

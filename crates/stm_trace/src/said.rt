@@ -4,7 +4,7 @@ ghost use Rattle.std.specs.Prelude.{◌≡◌};
 use stm_model::alg::Alg;
 use stm_model::stop::Stop;
 use stm_script::op::Op;
-use tx_answers::answers::{Begin, Cancel, CloseGate, Commit, Look};
+use tx_answers::answers::{Begin, Cancel, CloseGate, Commit, Irrev, Look};
 
 /// The answer of a turn's call.
 #[derive(Clone, Copy, Drop, Debug, PartialEq, Eq)]
@@ -15,6 +15,8 @@ pub enum Said {
     /// The operation, and why it ended the attempt.
     Stopped(Op, Stop),
     TryCancel(Cancel),
+    /// Asked for by the operation `irrev`, or forced on an attempt after too many that failed.
+    TryIrrevocable(Irrev),
     TryCommit(Commit),
     TryClose(CloseGate),
     Looked(Look),
@@ -38,6 +40,7 @@ impl Said {
         match self {
             Said::TryBegin(Begin::ClockFull { clock }) => Some(clock),
             Said::Stopped(_, Stop::ClockFull { clock }) => Some(clock),
+            Said::TryIrrevocable(Irrev::ClockFull { clock }) => Some(clock),
             Said::TryCommit(Commit::ClockFull { clock }) => Some(clock),
             _ => None,
         }

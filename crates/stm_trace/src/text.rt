@@ -2,7 +2,8 @@
 ghost use Rattle.std.specs.Prelude.{◌≡◌, ◌∷◌, ◌++◌, [], codes, IfOk, OnOk, string_bytes};
 ghost use Rattle.std.specs.Fmt.{decimal};
 ghost use Rattle.stm_trace.specs.declared.said.Said.{Said};
-ghost use Rattle.stm_trace.specs.Texts.{alg_name, spaced, cause_bytes, stop_bytes, said_bytes, line_bytes, trace_bytes};
+ghost use Rattle.stm_model.specs.Algorithms.{alg_name};
+ghost use Rattle.stm_trace.specs.Texts.{spaced, cause_bytes, stop_bytes, said_bytes, line_bytes, trace_bytes};
 
 use crate::line::Line;
 use crate::said::Said;
@@ -11,7 +12,7 @@ use stm_model::alg::Alg;
 use stm_model::memory::Memory;
 use stm_model::stop::{Cause, Stop};
 use stm_script::op::Op;
-use tx_answers::answers::{Begin, Cancel, CloseGate, Commit, Look};
+use tx_answers::answers::{Begin, Cancel, CloseGate, Commit, Irrev, Look};
 
 /// The text of a trace, a line for each. Memory may be refused.
 pub fn trace_text(alloc: Global, lines: &[Line]) -> Result<Vec<u8>, Memory>
@@ -53,6 +54,7 @@ fn put_said(text: &mut String, said: Said) -> Result<(), AllocError>
         Said::Reply(op, reply) => put_reply(text, op, reply),
         Said::Stopped(op, stop) => put_stopped(text, op, stop),
         Said::TryCancel(cancel) => put_cancel(text, cancel),
+        Said::TryIrrevocable(irrev) => put_irrevocable(text, irrev),
         Said::TryCommit(commit) => put_commit(text, commit),
         Said::TryClose(close) => put_close(text, close),
         Said::Looked(look) => put_look(text, look),
@@ -128,6 +130,21 @@ fn put_cancel(text: &mut String, cancel: Cancel) -> Result<(), AllocError>
     }
 }
 
+fn put_irrevocable(text: &mut String, irrev: Irrev) -> Result<(), AllocError>
+    ensures { OnOk result (string_bytes text.new ≡ string_bytes text.old ++ said_bytes (Said.TryIrrevocable irrev)) }
+{
+    match irrev {
+        Irrev::Granted => text.push_str(" irrev granted"),
+        Irrev::Busy { caller, status } => put_two(text, " irrev busy", caller as u64, status),
+        Irrev::Taken { gate } => put_one(text, " irrev taken", gate),
+        Irrev::Conflict(cause) => {
+            text.push_str(" irrev")?;
+            put_cause(text, cause)
+        }
+        Irrev::ClockFull { clock } => put_one(text, " irrev clockfull", clock),
+    }
+}
+
 fn put_commit(text: &mut String, commit: Commit) -> Result<(), AllocError>
     ensures { OnOk result (string_bytes text.new ≡ string_bytes text.old ++ said_bytes (Said.TryCommit commit)) }
 {
@@ -161,24 +178,11 @@ fn put_look(text: &mut String, look: Look) -> Result<(), AllocError>
     }
 }
 
-fn alg_name(alg: Alg) -> &'static str
-    ensures { result.now ≡ alg_name alg }
-{
-    match alg {
-        Alg::Cgl => "CGL",
-        Alg::Tml => "TML",
-        Alg::OrecLazy => "OrecLazy",
-        Alg::OrecEager => "OrecEager",
-        Alg::RingSw => "RingSW",
-        Alg::Serial => "Serial",
-    }
-}
-
 fn put_alg(text: &mut String, words: &str, alg: Alg) -> Result<(), AllocError>
     ensures { OnOk result (string_bytes text.new ≡ string_bytes text.old ++ (words.now ++ alg_name alg)) }
 {
     text.push_str(words)?;
-    text.push_str(alg_name(alg))
+    text.push_str(alg.name())
 }
 
 /// Words, and a number behind them; two; three.

@@ -1,40 +1,34 @@
 -- What the steps of a try to begin come to.
-use Rattle.std.proofs.Common.{ℕ, ◌≡◌, ◌≢◌, ◌<◌, ◌≤◌, List, [], ◌∷◌, ◌++◌, false, refl, sym, ap, ◌∙◌, arith, subst, append_assoc}
+use Rattle.std.proofs.Common.{ℕ, ◌≡◌, ◌≢◌, ◌<◌, List, [], ◌∷◌, ◌++◌, true, false, refl, sym, ap, ◌∙◌, arith, subst}
 use Rattle.std.proofs.lemmas.Bool.Decides.{nat_tests}
-use Rattle.std.proofs.lemmas.List.Elements.{Contains-append_left, Contains-append_right}
-use Rattle.std.specs.Prelude.{◌==◌, if◌then◌else◌, Some, None, Contains, max, reverse}
-use Rattle.stm_model.specs.declared.alg.Alg.TheVariants.{Cgl}
-use Rattle.stm_model.specs.Histories.{Ascending}
+use Rattle.std.specs.Prelude.{◌==◌, if◌then◌else◌, Some, None, reverse}
+use Rattle.stm_model.specs.Algorithms.{asks_at_begin}
+use Rattle.stm_model.specs.declared.alg.Alg.{Alg}
+use Rattle.stm_model.specs.declared.alg.Alg.TheVariants.{Cgl, Tml, OrecLazy, OrecEager, RingSw, Serial}
+use Rattle.stm_model.specs.declared.config.Config.{Config}
 use Rattle.rule_base.specs.declared.layout.At.{At}
 use Rattle.rule_base.specs.declared.layout.At.TheVariants.{Clock, Lock, Gate, Status}
-use Rattle.rule_base.specs.declared.layout.Config.{Config}
+use Rattle.rule_base.specs.declared.views.Act.TheVariants.{Load, Store}
 use Rattle.rule_base.specs.declared.views.Phase.TheVariants.{In, Turned}
 use Rattle.rule_base.specs.declared.views.TrailItem.{TrailItem}
 use Rattle.rule_base.specs.declared.views.View.{View}
-use Rattle.rule_base.specs.Bridge.{items}
-use Rattle.rule_base.specs.Encodings.{holder_of, alg_of}
+use Rattle.rule_base.specs.Encodings.{holder_of, alg_of, announced}
 use Rattle.rule_base.specs.GateSteps.{announce, load_gate, depart, departed}
+use Rattle.rule_base.specs.Own.{Own}
 use Rattle.rule_base.specs.StepKinds.{Nothing, Tells, view_after}
 use Rattle.rule_base.specs.World.{World}
-use Rattle.stm_rule.specs.Attempts.{IsInside, IsOutside}
+use Rattle.stm_rule.specs.declared.local.Local.{Local}
+use Rattle.stm_rule.specs.Attempts.{IsOutside}
 use Rattle.stm_rule.specs.Findings.{FindsGate}
-use Rattle.alg_seq.specs.Cgl.{Waits, StartsAt, Refuses}
 use Rattle.tx_answers.specs.declared.answers.Begin.{Begin}
 use Rattle.tx_answers.specs.declared.answers.Begin.TheVariants.{Begun, Closed, Held, ClockFull}
-use Rattle.tx_answers.specs.Answers.{Begins, BeginsAt, Stays, NamesOther, IsHeld}
-use Rattle.tx_answers.specs.Known.{known_of, is_in, is_closing, is_offered}
-use Rattle.tx_answers.specs.KnownLaws.{grows-same}
-
-abbrev pub FoundIn : At → ℕ → List TrailItem → List TrailItem → Type 0
-FoundIn place x before after = (more : List TrailItem) × (after ≡ more ++ before) × Contains more (record { place = place; found = Some x })
-
--- what some steps found, more steps before and after them found
-widen : (place : At) (x : ℕ) (a b d e early late : List TrailItem) → b ≡ early ++ a → FoundIn place x b d → e ≡ late ++ d → FoundIn place x a e
-widen place x a b d e early late p h q = (
-  late ++ (h.0 ++ early),
-  q ∙ (ap (λ t. late ++ t) (h.1 ∙ (ap (λ t. h.0 ++ t) p ∙ sym (append_assoc h.0 early a))) ∙ sym (append_assoc late (h.0 ++ early) a)),
-  Contains-append_right late (h.0 ++ early) (record { place = place; found = Some x }) (Contains-append_left h.0 early (record { place = place; found = Some x }) h.2),
-)
+use Rattle.tx_answers.specs.Answers.{Begins, BeginsAt, FindsOpen, Stays, IsHeld, start_word}
+use Rattle.tx_answers.specs.Causes.{NamesOther}
+use Rattle.tx_answers.specs.Evidence.{Found}
+use Rattle.tx_answers.specs.Known.{Grows, known_of, is_in, is_closing}
+use Rattle.tx_answers.specs.KnownLaws.{grows-same, grows-trans}
+use Rattle.stm_gate.specs.LeavingLaws.{found-later, found-earlier, finds-full}
+use Rattle.alg_seq.specs.Starts.{CanBegin, Waits, IsFresh, StartsAt, Refuses}
 
 two : (k n callers : ℕ) → k < callers → n < callers → k ≢ n → 1 < callers
 two k n callers a b apart = grind arith
@@ -43,17 +37,37 @@ module _ (good : List ℕ → Type 0) (c : Config) (n : ℕ) where
   abbrev pub looked : World → World → View → ℕ → View
   looked m l v gate = view_after load_gate l (view_after (announce n) m v 1) gate
 
-  pub tells-closed : (gate : ℕ) (v s t w : View) → n < c.callers → IsOutside v → holder_of gate ≢ 0 → Tells (announce n) Nothing v 1 s → Tells load_gate (FindsGate c n) s gate t → Tells (depart n) Nothing t 0 w
-      → Begins good c n (Closed gate) (known_of v) (known_of w)
-  tells-closed gate v s t w low out other a l d = subst (λ (y : View). Begins good c n (Closed gate) (known_of v) (known_of y)) (sym path) (
+  abbrev pub first_steps : ℕ → List TrailItem
+  first_steps gate = record { place = Gate; act = Load; found = Some gate } ∷ record { place = Status n; act = Store announced; found = None } ∷ []
+
+  pub looked-at : (gate : ℕ) (v s t : View) (a : Tells (announce n) Nothing v 1 s) (l : Tells load_gate (FindsGate c n) s gate t) → t ≡ looked a.0 l.0 v gate
+  looked-at gate v s t a l = l.2 ∙ ap (λ y. view_after load_gate l.0 y gate) a.2
+
+  pub can-begin : (gate : ℕ) (v s t : View) → IsOutside v → holder_of gate ≡ 0 → Tells (announce n) Nothing v 1 s → Tells load_gate (FindsGate c n) s gate t → CanBegin (alg_of gate) t
+  can-begin gate v s t out zero a l = subst (λ (y : View). CanBegin (alg_of gate) y) (sym (looked-at gate v s t a l)) (record {
+    phase = ap (λ b. if b then In else Turned) open_gate;
+    named = refl;
+    reopened = out.reopened;
+    ungranted = out.ungranted;
+    clear = record { unlocked = out.clear.unlocked; disowned = out.clear.disowned; unwritten = out.clear.unwritten; uncommitted = out.clear.uncommitted; unentered = out.clear.unentered; unfixed = out.clear.unfixed };
+    unentered = out.unentered;
+    rises = refl;
+  })
+    where
+      open_gate : (holder_of gate == 0) ≡ true
+      open_gate = grind (arith, nat_tests)
+
+  pub tells-closed : (gate : ℕ) (v s t w : View) (o : Own) → n < c.callers → IsOutside v → holder_of gate ≢ 0 → Tells (announce n) Nothing v 1 s → Tells load_gate (FindsGate c n) s gate t → Tells (depart n) Nothing t 0 w
+      → Begins good c n (Closed gate) (known_of v o) (known_of w o)
+  tells-closed gate v s t w o low out other a l d = subst (λ (y : View). Begins good c n (Closed gate) (known_of v o) (known_of y o)) (sym path) (
     record {
-      idle = (ap (λ b. departed (if b then In else Turned)) apart, ap (λ b. is_in (departed (if b then In else Turned))) apart, ap (λ b. is_closing (departed (if b then In else Turned))) apart);
+      idle = (ap (λ b. departed (if b then In else Turned)) apart, ap (λ b. is_in (departed (if b then In else Turned))) apart, ap (λ b. is_closing (departed (if b then In else Turned))) apart, out.reopened);
       made = refl;
-      grows = grows-same (known_of v) (known_of last) refl refl;
+      grows = grows-same (known_of v o) (known_of last o) refl refl (record { place = Status n; act = Store 0; found = None } ∷ first_steps gate) refl refl refl;
       rises = refl;
       installs = refl;
     },
-    (record { place = Status n; found = None } ∷ record { place = Gate; found = Some gate } ∷ record { place = Status n; found = None } ∷ [], refl, (1, omega arith, refl)),
+    (record { place = Status n; act = Store 0; found = None } ∷ first_steps gate, refl, Load, (1, omega arith, refl)),
     who,
     two who.0 n c.callers who.1 low who.2,
   )
@@ -64,101 +78,86 @@ module _ (good : List ℕ → Type 0) (c : Config) (n : ℕ) where
       open_before : s.gate.holds ≡ false
       open_before = ap (λ (y : View). y.gate.holds) a.2 ∙ out.reopened
 
-      who : NamesOther good c n (holder_of gate)
+      who : NamesOther c n (holder_of gate)
       who = l.1.closer open_before other
 
       last : View
       last = view_after (depart n) d.0 (looked a.0 l.0 v gate) 0
 
       path : w ≡ last
-      path = d.2 ∙ ap (λ y. view_after (depart n) d.0 y 0) (l.2 ∙ ap (λ y. view_after load_gate l.0 y gate) a.2)
+      path = d.2 ∙ ap (λ y. view_after (depart n) d.0 y 0) (looked-at gate v s t a l)
 
-  pub tells-begun : (gate start : ℕ) (v s t w : View) → IsOutside v → holder_of gate ≡ 0 → alg_of gate ≡ Cgl → Tells (announce n) Nothing v 1 s → Tells load_gate (FindsGate c n) s gate t → StartsAt good c n start t w
-      → BeginsAt good c n (alg_of gate) (known_of v) (known_of w)
-  tells-begun gate start v s t w out zero cgl a l b = record {
-    running = ap is_in i.phase;
-    closing = ap is_closing i.phase;
-    made = b.made ∙ made;
-    grows = record { later = b.grows.later; is = b.grows.is ∙ ap (λ h. h ++ b.grows.later) seen; ascending = subst (λ f. Ascending f b.grows.later) front b.grows.ascending; up_to = b.grows.up_to; front_rose = (let r = b.grows.front_rose in let f = front in omega arith) };
-    fresh = (let r = b.fresh in let f = front in let e = i.start in omega arith);
-    log = ap (λ r. record { reads = items r; writes = items w.attempt.stores }) b.reads ∙ ap (λ r. record { reads = []; writes = items r }) (i.clean refl);
-    opaque = b.opaque;
-    named = i.named ∙ sym cgl;
-    offered = ap is_offered cgl;
-    granted = i.ungranted;
-    holds = i.reopened;
-    rises = b.rises ∙ rises;
-    base = sym i.rises ∙ (b.rises ∙ rises);
-    installs = ap reverse (b.installs ∙ installs);
-    gate = (gate, (b.steps.0 ++ early, b.steps.1 ∙ (ap (λ x. b.steps.0 ++ x) trail ∙ sym (append_assoc b.steps.0 early v.steps.trail)), Contains-append_right b.steps.0 early (record { place = Gate; found = Some gate }) (0, omega arith, refl)), zero, refl);
-  }
-    where
-      i : IsInside good c Cgl start false w
-      i = b.inside
+  -- the first two steps, as the caller knows them
+  module _ (gate : ℕ) (v s t : View) (o : Own) (a : Tells (announce n) Nothing v 1 s) (l : Tells load_gate (FindsGate c n) s gate t) where
+    same : {A : Type 0} → (f : View → A) → f t ≡ f (looked a.0 l.0 v gate)
+    same f = ap f (looked-at gate v s t a l)
 
-      path : t ≡ looked a.0 l.0 v gate
-      path = l.2 ∙ ap (λ y. view_after load_gate l.0 y gate) a.2
+    pub grows-looked : Grows (known_of v o) (known_of t o)
+    grows-looked = subst (λ (y : View). Grows (known_of v o) (known_of y o)) (sym (looked-at gate v s t a l)) (grows-same (known_of v o) (known_of (looked a.0 l.0 v gate) o) refl refl (first_steps gate) refl refl refl)
 
-      early : List TrailItem
-      early = record { place = Gate; found = Some gate } ∷ record { place = Status n; found = None } ∷ []
+    pub found-gate : Found Gate gate (known_of v o) (known_of t o)
+    found-gate = subst (λ (y : View). Found Gate gate (known_of v o) (known_of y o)) (sym (looked-at gate v s t a l)) (first_steps gate, refl, Load, (0, omega arith, refl))
 
-      made : (known_of t).made ≡ (known_of v).made
-      made = ap (λ y. (known_of y).made) path
+    pub trail-looked : (known_of t o).trail ≡ first_steps gate ++ (known_of v o).trail
+    trail-looked = same (λ y. y.steps.trail)
 
-      seen : (known_of t).seen ≡ (known_of v).seen
-      seen = ap (λ y. (known_of y).seen) path
+    pub tells-begun : (start : ℕ) (w : View) (k : Local) → holder_of gate ≡ 0 → k.holds ≡ false → IsFresh o → StartsAt good c n (alg_of gate) start t w → BeginsAt good c n (alg_of gate) (known_of v o) (known_of w o)
+    tells-begun start w k zero free fresh b =
+        let i = b.inside k free in
+        let q = b.starts o fresh in
+        let g = q.keeps.grows in record {
+          running = ap is_in i.phase;
+          committing = fresh.0;
+          closing = ap is_closing i.phase;
+          made = q.keeps.made ∙ same (λ y. (known_of y o).made);
+          grows = grows-trans (known_of v o) (known_of t o) (known_of w o) grows-looked g;
+          gate = (gate, found-later Gate gate (known_of v o) (known_of t o) (known_of w o) found-gate g.more g.trail, zero, refl);
+          named = i.named;
+          built = i.built;
+          start = subst (λ x. Found (start_word (alg_of gate)) x (known_of v o) (known_of w o)) (sym q.is) (found-earlier (start_word (alg_of gate)) start (known_of v o) (known_of t o) (known_of w o) q.found (first_steps gate) trail-looked);
+          fresh = (let f = q.fresh in let s = q.is in let e : t.history.front ≡ v.history.front = same (λ y. y.history.front) in omega arith);
+          log = q.log;
+          opaque = q.opaque;
+          granted = q.granted;
+          holds = b.reopened;
+          rises = q.keeps.rises ∙ same (λ y. y.steps.rises);
+          base = sym b.rises ∙ (q.keeps.rises ∙ same (λ y. y.steps.rises));
+          installs = q.keeps.installs ∙ same (λ y. reverse y.steps.installs);
+        }
 
-      front : t.history.front ≡ v.history.front
-      front = ap (λ (y : View). y.history.front) path
+    -- a refusal, after the caller has departed
+    module _ (u w : View) (d : Tells (depart n) Nothing u 0 w) where
+      wider : (place : At) (x : ℕ) → Found place x (known_of t o) (known_of u o) → Found place x (known_of v o) (known_of w o)
+      wider place x f = found-later place x (known_of v o) (known_of u o) (known_of w o) (found-earlier place x (known_of v o) (known_of t o) (known_of u o) f (first_steps gate) trail-looked) (record { place = Status n; act = Store 0; found = None } ∷ []) (ap (λ (y : View). y.steps.trail) d.2)
 
-      rises : t.steps.rises ≡ v.steps.rises
-      rises = ap (λ (y : View). y.steps.rises) path
+      pub stays : Waits (alg_of gate) t u → Stays (known_of v o) (known_of w o)
+      stays b = let q = b.keeps o in subst (λ (y : View). Stays (known_of v o) (known_of y o)) (sym d.2) (record {
+        idle = (ap departed b.can.phase, ap (λ p. is_in (departed p)) b.can.phase, ap (λ p. is_closing (departed p)) b.can.phase, b.can.reopened);
+        made = q.made ∙ same (λ y. (known_of y o).made);
+        grows = grows-trans (known_of v o) (known_of u o) (known_of (view_after (depart n) d.0 u 0) o) (grows-trans (known_of v o) (known_of t o) (known_of u o) grows-looked q.grows)
+            (grows-same (known_of u o) (known_of (view_after (depart n) d.0 u 0) o) refl refl (record { place = Status n; act = Store 0; found = None } ∷ []) refl refl refl);
+        rises = q.rises ∙ same (λ y. y.steps.rises);
+        installs = q.installs ∙ same (λ y. reverse y.steps.installs);
+      })
 
-      installs : t.steps.installs ≡ v.steps.installs
-      installs = ap (λ (y : View). y.steps.installs) path
+      finds-open : holder_of gate ≡ 0 → Waits (alg_of gate) t u → FindsOpen good c n (alg_of gate) (known_of v o) (known_of w o)
+      finds-open zero b = let g = (b.keeps o).grows in
+          (gate, found-later Gate gate (known_of v o) (known_of u o) (known_of w o) (found-later Gate gate (known_of v o) (known_of t o) (known_of u o) found-gate g.more g.trail) (record { place = Status n; act = Store 0; found = None } ∷ []) (ap (λ (y : View). y.steps.trail) d.2), zero, refl)
 
-      trail : t.steps.trail ≡ early ++ v.steps.trail
-      trail = ap (λ (y : View). y.steps.trail) path
+      held : (alg : Alg) (word : ℕ) → IsHeld good c n alg word (known_of t o) (known_of u o) → IsHeld good c n alg word (known_of v o) (known_of w o)
+      held Cgl word h = (wider Lock word h.0, h.1)
+      held Tml word h = (wider Clock word h.0, h.1)
+      held OrecLazy word h = absurd h
+      held OrecEager word h = absurd h
+      held RingSw word h = absurd h
+      held Serial word h = (wider Lock word h.0, h.1)
 
-  -- a refusal, after the caller has departed
-  stays : (gate : ℕ) (v s t u w : View) → Tells (announce n) Nothing v 1 s → Tells load_gate (FindsGate c n) s gate t → Waits t u → Tells (depart n) Nothing u 0 w → Stays (known_of v) (known_of w)
-  stays gate v s t u w a l b d = subst (λ (y : View). Stays (known_of v) (known_of y)) (sym d.2) (record {
-    idle = (ap departed b.can.phase, ap (λ p. is_in (departed p)) b.can.phase, ap (λ p. is_closing (departed p)) b.can.phase);
-    made = b.made ∙ ap (λ y. (known_of y).made) path;
-    grows = record { later = b.grows.later; is = b.grows.is ∙ ap (λ h. h ++ b.grows.later) (ap (λ y. (known_of y).seen) path); ascending = subst (λ f. Ascending f b.grows.later) front b.grows.ascending; up_to = b.grows.up_to; front_rose = (let r = b.grows.front_rose in let f = front in omega arith) };
-    rises = b.rises ∙ ap (λ (y : View). y.steps.rises) path;
-    installs = ap reverse (b.installs ∙ ap (λ (y : View). y.steps.installs) path);
-  })
-    where
-      path : t ≡ looked a.0 l.0 v gate
-      path = l.2 ∙ ap (λ y. view_after load_gate l.0 y gate) a.2
-
-      front : t.history.front ≡ v.history.front
-      front = ap (λ (y : View). y.history.front) path
-
-  pub tells-refused : (refusal : Begin) (gate : ℕ) (v s t u w : View) → n < c.callers → Tells (announce n) Nothing v 1 s → Tells load_gate (FindsGate c n) s gate t → Refuses good c n refusal t u → Tells (depart n) Nothing u 0 w
-      → Begins good c n refusal (known_of v) (known_of w)
-  tells-refused (Begun alg) gate v s t u w low a l r d = absurd r
-  tells-refused (Closed word) gate v s t u w low a l r d = absurd r
-  tells-refused (Held word) gate v s t u w low a l r d =
-      let alg : w.gate.algorithm ≡ Cgl = ap (λ (y : View). y.gate.algorithm) d.2 ∙ r.0.can.algorithm in
-      (stays gate v s t u w a l r.0 d, (let e = r.2.3 in omega arith), subst (λ k. IsHeld good c n k word (known_of v) (known_of w)) (sym alg) (found, r.2), two r.2.0 n c.callers r.2.1 low r.2.2)
-    where
-      path : t ≡ looked a.0 l.0 v gate
-      path = l.2 ∙ ap (λ y. view_after load_gate l.0 y gate) a.2
-
-      found : FoundIn Lock word v.steps.trail w.steps.trail
-      found = widen Lock word v.steps.trail t.steps.trail u.steps.trail w.steps.trail (record { place = Gate; found = Some gate } ∷ record { place = Status n; found = None } ∷ []) (record { place = Status n; found = None } ∷ [])
-          (ap (λ (y : View). y.steps.trail) path) r.1 (ap (λ (y : View). y.steps.trail) d.2)
-  tells-refused (ClockFull clock) gate v s t u w low a l r d =
-      (stays gate v s t u w a l r.0 d, record { limit = r.1.limit; found = found; top = top }, ap (λ (y : View). y.gate.algorithm) d.2 ∙ r.0.can.algorithm)
-    where
-      path : t ≡ looked a.0 l.0 v gate
-      path = l.2 ∙ ap (λ y. view_after load_gate l.0 y gate) a.2
-
-      found : FoundIn Clock clock v.steps.trail w.steps.trail
-      found = widen Clock clock v.steps.trail t.steps.trail u.steps.trail w.steps.trail (record { place = Gate; found = Some gate } ∷ record { place = Status n; found = None } ∷ []) (record { place = Status n; found = None } ∷ [])
-          (ap (λ (y : View). y.steps.trail) path) r.1.found (ap (λ (y : View). y.steps.trail) d.2)
-
-      top : clock ≤ (known_of w).top
-      top = let e : (known_of w).top ≡ max 0 (known_of u).top = ap (λ y. (known_of y).top) d.2 in let h = r.1.top in omega arith
+      pub tells-refused : (refusal : Begin) → holder_of gate ≡ 0 → Refuses good c n (alg_of gate) refusal t u → Begins good c n refusal (known_of v o) (known_of w o)
+      tells-refused (Begun alg) zero r = absurd r
+      tells-refused (Closed word) zero r = absurd r
+      tells-refused (Held word) zero r =
+          let alg : alg_of gate ≡ w.gate.algorithm = sym (ap (λ (y : View). y.gate.algorithm) d.2 ∙ r.0.can.named) in
+          (stays r.0, subst (λ k. FindsOpen good c n k (known_of v o) (known_of w o)) alg (finds-open zero r.0), r.1, subst (λ k. IsHeld good c n k word (known_of v o) (known_of w o)) alg (held (alg_of gate) word (r.2 o)), r.3)
+      tells-refused (ClockFull clock) zero r =
+          let alg : alg_of gate ≡ w.gate.algorithm = sym (ap (λ (y : View). y.gate.algorithm) d.2 ∙ r.0.can.named) in
+          (stays r.0, subst (λ k. FindsOpen good c n k (known_of v o) (known_of w o)) alg (finds-open zero r.0), ap asks_at_begin (sym alg) ∙ r.1, finds-full clock v w o o (r.2 o).limit (wider Clock clock (r.2 o).found))

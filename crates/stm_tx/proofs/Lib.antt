@@ -1,2 +1,4 @@
 pub mod Beginning
-pub mod Stocks
+pub mod Unbuilt
+pub mod Stopping
+pub mod Sure

@@ -1,26 +1,97 @@
--- What contracts see of a descriptor.
-use Rattle.std.proofs.Common.{refl, ◌∙◌}
+-- What contracts see of a descriptor, and what an access over an attempt leaves alone.
+use Rattle.std.proofs.Common.{ℕ, ◌≡◌, List, Bool, true, refl, sym, ap, subst, ◌∙◌}
+use Rattle.std.specs.Prelude.{Option, Some, None, Result, Ok, Err}
+use Rattle.stm_model.specs.declared.stop.Stop.TheVariants as stops
+use Rattle.tx_answers.specs.declared.answers.Read.{Read}
+use Rattle.tx_answers.specs.declared.answers.Read.TheVariants as reads
+use Rattle.tx_answers.specs.declared.answers.Write.{Write}
+use Rattle.tx_answers.specs.declared.answers.Write.TheVariants as writes
+use Rattle.stm_model.specs.Algorithms.{is_built}
+use Rattle.stm_model.specs.declared.alg.Alg.{Alg}
+use Rattle.stm_model.specs.declared.alg.Alg.TheVariants.{Cgl, Tml, OrecLazy, OrecEager, RingSw, Serial}
 use Rattle.stm_model.specs.Logs.{IsLog}
+use Rattle.stm_model.specs.Memories.{Once}
+use Rattle.rule_base.specs.declared.seats.Who.{Who}
 use Rattle.rule_base.specs.declared.views.View.{View}
 use Rattle.rule_base.specs.BridgeLemmas.{items-once}
+use Rattle.rule_base.specs.Own.{Own}
+use Rattle.stm_rule.specs.declared.stm.Stm.{Stm}
+use Rattle.stm_model.specs.declared.config.Config.{Config}
+use Rattle.stm_model.specs.declared.stop.Stop.{Stop}
 use Rattle.stm_rule.specs.Callers.{Handle, IsSameCaller}
-use Rattle.tx_answers.specs.Known.{Known, known_of}
+use Rattle.tx_answers.specs.Answers.{Stops}
+use Rattle.tx_answers.specs.Known.{Known, known_of, caller_of, written_under}
 use Rattle.tx_answers.specs.KnownLaws.{Carries, carries-refl, carries-trans}
+
+-- the answers of a read and of a write as an access gives them
+abbrev pub as_read : Read → Result ℕ Stop
+as_read (reads.Value x) = Ok x
+as_read (reads.Conflict cause) = Err (stops.Conflict cause)
+as_read (reads.Full limit) = Err (stops.Full limit)
+
+abbrev pub as_write : Write → Result (Unit {0}) Stop
+as_write writes.Done = Ok tt
+as_write (writes.Conflict cause) = Err (stops.Conflict cause)
+as_write (writes.Full limit) = Err (stops.Full limit)
+as_write (writes.ClockFull clock) = Err (stops.ClockFull clock)
 
 module _ {K : Type 0} where
   abbrev pub known : Handle K → Known
-  known d = known_of d.view
+  known d = known_of d.view d.own
 
-  -- what the calls of an attempt leave alone
-  abbrev pub Frames : Handle K → Handle K → Type 0
-  Frames d e = IsSameCaller d e × Carries (known d) (known e)
+  abbrev pub number : Handle K → ℕ
+  number d = caller_of d.who.role
 
-  pub frames-refl : (d : Handle K) → Frames d d
-  frames-refl d = (record { table = refl; who = refl }, carries-refl (known d))
+module _ (good : List ℕ → Type 0) (c : Config) (n : ℕ) where
+  -- an attempt was stopped so: what was known right before the refused call, and the address that it asked for
+  pub record StoppedAt (stop : Stop) (v w : Known) : Type 0 where
+    pub before : Known
+    pub carries : Carries v before
+    pub running : before.running ≡ true
+    pub address : ℕ
+    pub stops : Stops good c n address stop before w
 
-  pub frames-trans : (d e f : Handle K) → Frames d e → Frames e f → Frames d f
-  frames-trans d e f a b = (record { table = b.0.table ∙ a.0.table; who = b.0.who ∙ a.0.who }, carries-trans (known d) (known e) (known f) a.1 b.1)
+  -- what a caller knows since it knew v: an attempt that goes on carries it; one that was stopped says where; and after that nothing changes
+  abbrev pub Since : Option Stop → Known → Option Stop → Known → Type 0
+  Since None v None w = Carries v w
+  Since None v (Some stop) w = Carries v w × StoppedAt stop v w
+  Since (Some stop) v after w = (after ≡ Some stop) × (w ≡ v)
+
+  pub since-refl : (p : Option Stop) (v : Known) → Since p v p v
+  since-refl None v = carries-refl v
+  since-refl (Some stop) v = (refl, refl)
+
+  pub since-trans : (p q r : Option Stop) (u v w : Known) → Since p u q v → Since q v r w → Since p u r w
+  since-trans None None None u v w a b = carries-trans u v w a b
+  since-trans None None (Some stop) u v w a b = (carries-trans u v w a b.0, record { before = b.1.before; carries = carries-trans u v b.1.before a b.1.carries; running = b.1.running; address = b.1.address; stops = b.1.stops })
+  since-trans None (Some stop) r u v w a b = subst (λ (o : Option Stop). Since None u o w) (sym b.0) (subst (λ (k : Known). Since None u (Some stop) k) (sym b.1) a)
+  since-trans (Some stop) q r u v w a b = let c = subst (λ (o : Option Stop). Since o v r w) a.0 b in (c.0, c.1 ∙ a.1)
+
+module _ {K : Type 0} where
+  -- what the calls of an access leave alone, by whether it had been stopped, and is
+  abbrev pub Frames : (List ℕ → Type 0) → Config → Option Stop → Handle K → Option Stop → Handle K → Type 0
+  Frames good c p d q e = IsSameCaller d e × Since good c (number d) p (known d) q (known e)
+
+  pub frames-refl : (good : List ℕ → Type 0) (c : Config) (p : Option Stop) (d : Handle K) → Frames good c p d p d
+  frames-refl good c p d = (record { table = refl; who = refl }, since-refl good c (number d) p (known d))
+
+  -- for two accesses to one memory
+  pub frames-trans : (good : K → List ℕ → Type 0) (s t : Stm K) (p q r : Option Stop) (d e f : Handle K) → t ≡ s → Frames (good s.rule) s.config p d q e → Frames (good t.rule) t.config q e r f → Frames (good s.rule) s.config p d r f
+  frames-trans good s t p q r d e f same a b =
+      let c = subst (λ (m : Stm K). Since (good m.rule) m.config (number e) q (known e) r (known f)) same b.1 in
+      let name : number e ≡ number d = ap (λ (w : Who K). caller_of w.role) a.0.who in (
+        record { table = b.0.table ∙ a.0.table; who = b.0.who ∙ a.0.who },
+        since-trans (good s.rule) s.config (number d) p q r (known d) (known e) (known f) a.1 (subst (λ n. Since (good s.rule) s.config n q (known e) r (known f)) name c),
+      )
+
+writes-once : (a : Alg) (granted : Bool) (v : View) (o : Own) → is_built a ≡ true → Once (written_under a granted v o)
+writes-once Cgl granted v o b = items-once v.attempt.stores
+writes-once Tml granted v o b = items-once v.attempt.stores
+writes-once Serial granted v o b = items-once v.attempt.stores
+writes-once OrecLazy granted v o b = absurd cc
+writes-once OrecEager granted v o b = absurd cc
+writes-once RingSw granted v o b = absurd cc
 
 -- a log has one item an address
-pub log-once : (v : View) → IsLog (known_of v).log
-log-once v = record { reads = items-once v.attempt.reads; writes = items-once v.attempt.stores }
+pub log-once : (v : View) (o : Own) → is_built v.gate.algorithm ≡ true → IsLog (known_of v o).log
+log-once v o built = record { reads = items-once v.attempt.reads; writes = writes-once v.gate.algorithm v.gate.granted v o built }

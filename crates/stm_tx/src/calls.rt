@@ -1,30 +1,35 @@
 //! The calls of an attempt. Each takes a descriptor and its memory. None takes memory, none waits, and
-//! all return.
+//! all return. The cost of each in atomic steps is said by its algorithm, in `alg_seq`.
 ghost use Rattle.std.specs.Prelude.{◌≡◌, ℕ, ◌<◌, ◌&&◌, true};
-ghost use Rattle.stm_rule.specs.Callers.{IsOf, IsSameCaller};
-ghost use Rattle.tx_answers.specs.Answers.{Begins, HasRead, HasWritten, KeepsRule, Commits, Cancels};
-ghost use Rattle.tx_answers.specs.Known.{IsIdle, is_irrevocable, state_of, caller_of};
-ghost use Rattle.stm_tx.specs.Descs.{known};
+ghost use Rattle.stm_model.specs.Algorithms.{is_built, is_sure};
+ghost use Rattle.stm_rule.specs.Callers.{IsOf, IsSameCaller, IsSeatOf};
+ghost use Rattle.stm_rule.specs.Kept.{IsSameSeat, view_of};
+ghost use Rattle.tx_answers.specs.Answers.{Begins, HasRead, HasWritten, KeepsRule, Commits, Cancels, Irrevs};
+ghost use Rattle.tx_answers.specs.Known.{IsIdle, IsRunning, is_irrevocable, state_of};
+ghost use Rattle.alg_seq.specs.Starts.{CanBegin, Starts};
+ghost use Rattle.stm_tx.specs.Descs.{known, number};
 
-use alg_seq::cgl;
+use alg_seq::{cgl, serial, tml};
 use rule_base::words::{alg_of, holder_of};
 use stm_model::alg::Alg;
 use stm_model::rule::MemRule;
 use stm_rule::desc::Desc;
-use stm_rule::stm::Stm;
-use tx_answers::answers::{Begin, Cancel, Commit, Read, TxState, Write};
+use stm_rule::stm::{Stm, Token};
+use tx_answers::answers::{Begin, Cancel, Commit, Irrev, Read, TxState, Write};
 
 /// Tries to begin an attempt under the algorithm that the gate names. It asks for an idle descriptor.
 ///
 /// `Begun` leaves the attempt running, with a start not before anything that the caller has seen; all
-/// other answers leave the descriptor idle. `Closed` comes only where another caller holds the gate,
-/// `Held` only where another caller's attempt has the lock, and `ClockFull` only under CGL with the clock
-/// at its limit.
+/// other answers leave the descriptor idle. `Closed` comes only where another caller holds the gate, `Held`
+/// only where another caller's attempt has the lock or has made the clock odd, and `ClockFull` only under
+/// CGL with the clock at its limit.
+///
+/// Two steps and the algorithm's, one more where it is refused: `Begun` costs 3 under TML, else 4.
 pub fn try_begin<K: MemRule>(desc: &mut Desc<K>, stm: &Stm<K>) -> Begin
-    requires stm { IsOf desc.old stm.now.table.shared.table_id stm.now.config stm.now.rule }
+    requires stm { IsOf desc.old stm.now }
     requires idle { IsIdle (known desc.old) }
     ensures same { IsSameCaller desc.old desc.new }
-    ensures begins { Begins (K.good stm.now.rule) stm.now.config (caller_of desc.old.who.role) result (known desc.old) (known desc.new) }
+    ensures begins { Begins (K.good stm.now.rule) stm.now.config (number desc.old) result (known desc.old) (known desc.new) }
 {
     let caller = desc.number;
     stm.announce(&mut desc.seat, caller);
@@ -34,16 +39,9 @@ pub fn try_begin<K: MemRule>(desc: &mut Desc<K>, stm: &Stm<K>) -> Begin
         return Begin::Closed { gate };
     }
     let algorithm = alg_of(gate);
-    let begun = match algorithm {
-        Alg::Cgl => cgl::begin(&mut desc.seat, stm, caller),
-        _ => unreachable!(),
-    };
-    match begun {
+    match begin_under(&mut desc.seat, stm, caller, algorithm) {
         Ok(start) => {
-            desc.running = true;
-            desc.algorithm = algorithm;
-            desc.start = start;
-            desc.wrote = false;
+            desc.local.begin(algorithm, start);
             Begin::Begun(algorithm)
         }
         Err(refusal) => {
@@ -53,99 +51,160 @@ pub fn try_begin<K: MemRule>(desc: &mut Desc<K>, stm: &Stm<K>) -> Begin
     }
 }
 
+/// The algorithm's part of a begin.
+fn begin_under<K: MemRule>(
+    seat: &mut Token<K>,
+    stm: &Stm<K>,
+    caller: usize,
+    algorithm: Alg,
+) -> Result<u64, Begin>
+    requires seat { IsSeatOf stm.now caller seat.old }
+    requires caller { caller < stm.now.config.callers }
+    requires view { CanBegin algorithm (view_of seat.old) }
+    requires built { is_built algorithm ≡ true }
+    ensures same { IsSameSeat seat.old seat.new × (seat.new.me.0 ≡ record seat.old.me.0 { view = view_of seat.new }) }
+    ensures begins { Starts (K.good stm.now.rule) stm.now.config caller algorithm result (view_of seat.old) (view_of seat.new) }
+{
+    match algorithm {
+        Alg::Cgl => cgl::begin(seat, stm, caller),
+        Alg::Tml => tml::begin(seat, stm, caller),
+        Alg::Serial => serial::begin(seat, stm, caller),
+        Alg::OrecLazy | Alg::OrecEager | Alg::RingSw => unreachable!(),
+    }
+}
+
 /// Reads the word at `a`: the attempt's last write of it, else what it read there before, else the memory
-/// at its start. It asks for a running attempt. All answers but a value end the attempt.
+/// at its start. It asks for a running attempt. All answers but a value end the attempt. One step; under
+/// TML two before the first write, and four where the attempt ends.
 pub fn read<K: MemRule>(desc: &mut Desc<K>, stm: &Stm<K>, a: usize) -> Read
-    requires stm { IsOf desc.old stm.now.table.shared.table_id stm.now.config stm.now.rule }
-    requires running { (known desc.old).running ≡ true }
+    requires stm { IsOf desc.old stm.now }
+    requires running { IsRunning (known desc.old) }
     requires inside { a < stm.now.config.words }
     ensures same { IsSameCaller desc.old desc.new }
-    ensures read { HasRead (K.good stm.now.rule) stm.now.config (caller_of desc.old.who.role) a result (known desc.old) (known desc.new) }
+    ensures read { HasRead (K.good stm.now.rule) stm.now.config (number desc.old) a result (known desc.old) (known desc.new) }
 {
-    match desc.algorithm {
+    match desc.local.algorithm {
         Alg::Cgl => cgl::read(desc, stm, a),
-        _ => unreachable!(),
+        Alg::Tml => tml::read(desc, stm, a),
+        Alg::Serial => serial::read(desc, stm, a),
+        Alg::OrecLazy | Alg::OrecEager | Alg::RingSw => unreachable!(),
     }
 }
 
 /// Writes `x` to the word at `a`, for this attempt until it commits. It asks for a running attempt. All
-/// answers but `Done` end the attempt.
+/// answers but `Done` end the attempt. One step; three at most where the attempt goes on, and where Serial
+/// takes it back two more and one for each word that it wrote.
 pub fn write<K: MemRule>(desc: &mut Desc<K>, stm: &Stm<K>, a: usize, x: u64) -> Write
-    requires stm { IsOf desc.old stm.now.table.shared.table_id stm.now.config stm.now.rule }
-    requires running { (known desc.old).running ≡ true }
+    requires stm { IsOf desc.old stm.now }
+    requires running { IsRunning (known desc.old) }
     requires inside { a < stm.now.config.words }
     ensures same { IsSameCaller desc.old desc.new }
-    ensures write { HasWritten (K.good stm.now.rule) stm.now.config (caller_of desc.old.who.role) a x result (known desc.old) (known desc.new) }
+    ensures write { HasWritten (K.good stm.now.rule) stm.now.config (number desc.old) a x result (known desc.old) (known desc.new) }
 {
-    match desc.algorithm {
+    match desc.local.algorithm {
         Alg::Cgl => cgl::write(desc, stm, a, x),
-        _ => unreachable!(),
+        Alg::Tml => tml::write(desc, stm, a, x),
+        Alg::Serial => serial::write(desc, stm, a, x),
+        Alg::OrecLazy | Alg::OrecEager | Alg::RingSw => unreachable!(),
     }
 }
 
 /// Commits the attempt. An attempt that wrote asks that it keeps the memory rule.
 ///
 /// `Committed` comes only where the attempt wrote, `ReadOnly` only where it did not. All answers but
-/// `Again` leave the descriptor idle.
+/// `Again` leave the descriptor idle. Three steps at most, five where the attempt was promoted.
 pub fn commit<K: MemRule>(desc: &mut Desc<K>, stm: &Stm<K>) -> Commit
-    requires stm { IsOf desc.old stm.now.table.shared.table_id stm.now.config stm.now.rule }
+    requires stm { IsOf desc.old stm.now }
     requires running { (known desc.old).running ≡ true }
-    requires keeps { KeepsRule (K.good stm.now.rule) stm.now.config (caller_of desc.old.who.role) (known desc.old) }
+    requires keeps { KeepsRule (K.good stm.now.rule) stm.now.config (number desc.old) (known desc.old) }
     ensures same { IsSameCaller desc.old desc.new }
-    ensures commits { Commits (K.good stm.now.rule) stm.now.config (caller_of desc.old.who.role) result (known desc.old) (known desc.new) }
+    ensures commits { Commits (K.good stm.now.rule) stm.now.config (number desc.old) result (known desc.old) (known desc.new) }
 {
-    match desc.algorithm {
+    match desc.local.algorithm {
         Alg::Cgl => cgl::commit(desc, stm),
-        _ => unreachable!(),
+        Alg::Tml => tml::commit(desc, stm),
+        Alg::Serial => serial::commit(desc, stm),
+        Alg::OrecLazy | Alg::OrecEager | Alg::RingSw => unreachable!(),
     }
 }
 
 /// Ends the attempt without a trace, or answers `Irrevocable` and changes nothing: exactly where
-/// `is_irrevocable`.
+/// `is_irrevocable`. Two steps at most, and under Serial one for each word that it wrote.
 pub fn cancel<K: MemRule>(desc: &mut Desc<K>, stm: &Stm<K>) -> Cancel
-    requires stm { IsOf desc.old stm.now.table.shared.table_id stm.now.config stm.now.rule }
+    requires stm { IsOf desc.old stm.now }
     requires running { (known desc.old).running ≡ true }
     ensures same { IsSameCaller desc.old desc.new }
-    ensures cancels { Cancels (K.good stm.now.rule) stm.now.config (caller_of desc.old.who.role) result (known desc.old) (known desc.new) }
+    ensures cancels { Cancels (K.good stm.now.rule) stm.now.config (number desc.old) result (known desc.old) (known desc.new) }
 {
-    let _ = stm;
-    match desc.algorithm {
-        Alg::Cgl => Cancel::Irrevocable,
-        _ => unreachable!(),
+    match desc.local.algorithm {
+        Alg::Cgl => cgl::cancel(desc, stm),
+        Alg::Tml => tml::cancel(desc, stm),
+        Alg::Serial => serial::cancel(desc, stm),
+        Alg::OrecLazy | Alg::OrecEager | Alg::RingSw => unreachable!(),
     }
 }
 
-/// Where the descriptor stands.
+/// Tries to make the attempt irrevocable: from `Granted` on it can only be committed, and no call of it is
+/// refused. `Busy` and `Taken` leave it running, and may be tried again; all other answers end it. No step
+/// where it is irrevocable already; one under Serial; else two to close the gate, one for each other caller
+/// that it looks at, and the load of the clock.
+pub fn try_irrevocable<K: MemRule>(desc: &mut Desc<K>, stm: &Stm<K>) -> Irrev
+    requires stm { IsOf desc.old stm.now }
+    requires running { IsRunning (known desc.old) }
+    ensures same { IsSameCaller desc.old desc.new }
+    ensures irrevs { Irrevs (K.good stm.now.rule) stm.now.config (number desc.old) result (known desc.old) (known desc.new) }
+{
+    match desc.local.algorithm {
+        Alg::Cgl => cgl::become_irrevocable(desc, stm),
+        Alg::Tml => tml::become_irrevocable(desc, stm),
+        Alg::Serial => serial::become_irrevocable(desc, stm),
+        Alg::OrecLazy | Alg::OrecEager | Alg::RingSw => unreachable!(),
+    }
+}
+
+/// Where the descriptor stands. No step.
 pub fn state<K: MemRule>(desc: &Desc<K>) -> TxState
     ensures { result ≡ state_of (known desc.now) }
 {
-    if desc.running {
-        TxState::Running(desc.algorithm)
-    } else if desc.holds {
-        TxState::Closing(desc.algorithm)
+    if desc.local.running {
+        // No algorithm that is built leaves an attempt in the middle of its commit.
+        TxState::Running(desc.local.algorithm)
+    } else if desc.local.holds {
+        TxState::Closing(desc.local.algorithm)
     } else {
         TxState::Idle
     }
 }
 
-/// Whether an attempt is running that can only be committed.
+/// Whether an attempt is running that can only be committed. No step.
 pub fn is_irrevocable<K: MemRule>(desc: &Desc<K>) -> bool
     ensures { result ≡ ((known desc.now).running && is_irrevocable (known desc.now)) }
 {
-    desc.running
+    desc.local.running && is_sure(desc.local.algorithm, desc.local.granted, desc.local.wrote)
 }
 
-/// Whether this caller has closed the gate.
+/// Whether an attempt of this algorithm can't be cancelled, by whether it was granted and whether it wrote.
+fn is_sure(algorithm: Alg, granted: bool, wrote: bool) -> bool
+    ensures { result ≡ is_sure algorithm granted wrote }
+{
+    match algorithm {
+        Alg::Cgl => true,
+        Alg::Tml => granted || wrote,
+        Alg::OrecLazy | Alg::OrecEager | Alg::RingSw | Alg::Serial => granted,
+    }
+}
+
+/// Whether this caller has closed the gate. No step.
 pub fn holds_gate<K: MemRule>(desc: &Desc<K>) -> bool
     ensures { result ≡ (known desc.now).holds }
 {
-    desc.holds
+    desc.local.holds
 }
 
-/// The start of the running attempt, a clock.
+/// The start of the running attempt, a clock. No step.
 pub fn start<K: MemRule>(desc: &Desc<K>) -> u64
     requires { (known desc.now).running ≡ true }
     ensures { result ≡ (known desc.now).start }
 {
-    desc.start
+    desc.local.start
 }

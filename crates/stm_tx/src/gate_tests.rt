@@ -7,10 +7,10 @@ ghost use Rattle.stm_tx.specs.Descs.{known};
 
 use crate::calls::{commit, holds_gate, state, try_begin};
 use crate::gate::{close_gate, install, look, reopen};
-use rule_base::layout::Config;
 use std::alloc::Global;
 use std::test::Fail;
 use stm_model::alg::Alg;
+use stm_model::config::Config;
 use stm_model::rule::{AnyMem, MemRule};
 use stm_rule::desc::Desc;
 use stm_rule::refusal::NewError;
@@ -39,8 +39,8 @@ fn closes_looks_installs<K: MemRule>(
     first: &mut Desc<K>,
     second: &mut Desc<K>,
 ) -> Option<bool>
-    requires first { IsOf first.old stm.now.table.shared.table_id stm.now.config stm.now.rule }
-    requires second { IsOf second.old stm.now.table.shared.table_id stm.now.config stm.now.rule }
+    requires first { IsOf first.old stm.now }
+    requires second { IsOf second.old stm.now }
     requires idle { IsIdle (known first.old) × IsIdle (known second.old) }
 {
     let Begin::Begun(Alg::Cgl) = try_begin(first, stm) else {
@@ -88,9 +88,9 @@ fn looks_on_and_gives_up<K: MemRule>(
     second: &mut Desc<K>,
     third: &mut Desc<K>,
 ) -> Option<bool>
-    requires first { IsOf first.old stm.now.table.shared.table_id stm.now.config stm.now.rule }
-    requires second { IsOf second.old stm.now.table.shared.table_id stm.now.config stm.now.rule }
-    requires third { IsOf third.old stm.now.table.shared.table_id stm.now.config stm.now.rule }
+    requires first { IsOf first.old stm.now }
+    requires second { IsOf second.old stm.now }
+    requires third { IsOf third.old stm.now }
     requires idle { IsIdle (known first.old) × IsIdle (known second.old) × IsIdle (known third.old) }
 {
     let Begin::Begun(Alg::Cgl) = try_begin(third, stm) else {
@@ -132,8 +132,8 @@ fn waits_for_a_dropped_attempt<K: MemRule>(
     mut first: Desc<K>,
     second: &mut Desc<K>,
 ) -> Option<bool>
-    requires first { IsOf first stm.now.table.shared.table_id stm.now.config stm.now.rule }
-    requires second { IsOf second.old stm.now.table.shared.table_id stm.now.config stm.now.rule }
+    requires first { IsOf first stm.now }
+    requires second { IsOf second.old stm.now }
     requires idle { IsIdle (known first) × IsIdle (known second.old) }
 {
     let Begin::Begun(Alg::Cgl) = try_begin(&mut first, stm) else {

@@ -1,9 +1,9 @@
 //! The access over a running attempt.
-ghost use Rattle.std.specs.Prelude.{◌≡◌, is_none, true};
+ghost use Rattle.std.specs.Prelude.{◌≡◌, is_none, true, false};
 ghost use Rattle.std.proofs.Common.{refl, ◌∙◌};
+ghost use Rattle.stm_model.specs.Algorithms.{is_built};
 ghost use Rattle.stm_rule.specs.Callers.{IsOf};
-ghost use Rattle.tx_answers.specs.Answers.{is_fair};
-ghost use Rattle.stm_tx.specs.Descs.{known, Frames, frames-refl, frames-trans};
+ghost use Rattle.stm_tx.specs.Descs.{known, as_read, as_write, Frames, frames-refl, frames-trans};
 
 use crate::calls::{read, write};
 use stm_model::access::Access;
@@ -15,15 +15,16 @@ use tx_answers::answers::{Read, Write};
 
 /// Reads and writes of a running attempt. A value, or that a write was done, is Ok; any other answer is
 /// the Stop of the same name, which is kept in `stopped` from then on. The good memories are those of the
-/// memory's rule.
+/// memory's rule. Its frame says where and why the attempt was stopped.
 #[derive(Drop)]
 pub struct Live<'a, K: MemRule> {
     pub desc: &'a mut Desc<K>,
     pub stm: &'a Stm<K>,
     pub stopped: Option<Stop>,
-    pub ghost own: { IsOf desc.now stm.now.table.shared.table_id stm.now.config stm.now.rule },
-    pub ghost fair: { is_fair (known desc.now) stopped ≡ true },
+    pub ghost own: { IsOf desc.now stm.now },
     pub ghost runs: { (known desc.now).running ≡ is_none stopped },
+    pub ghost open: { is_none stopped ≡ true → (known desc.now).committing ≡ false },
+    pub ghost built: { is_built (known desc.now).alg ≡ true },
 }
 
 impl<'a, K: MemRule> Access for Live<'a, K> {
@@ -38,32 +39,54 @@ impl<'a, K: MemRule> Access for Live<'a, K> {
 
     ghost stopped = { λ s. s.stopped };
 
-    ghost keeps = { λ s t. Frames s.desc.now t.desc.now × (t.stm ≡ s.stm) × (t.desc.ghost_name ≡ s.desc.ghost_name) };
+    ghost keeps = { λ s t. Frames (K.good s.stm.now.rule) s.stm.now.config s.stopped s.desc.now t.stopped t.desc.now × (t.stm ≡ s.stm) × (t.desc.ghost_name ≡ s.desc.ghost_name) };
 
-    ghost keeps_refl = { λ s. (frames-refl s.desc.now, refl, refl) };
+    ghost keeps_refl = { λ s. (frames-refl (K.good s.stm.now.rule) s.stm.now.config s.stopped s.desc.now, refl, refl) };
 
-    ghost keeps_trans = { λ s t u a b. (frames-trans s.desc.now t.desc.now u.desc.now a.0 b.0, b.1 ∙ a.1, b.2 ∙ a.2) };
+    ghost keeps_trans = { λ s t u a b. (frames-trans K.good s.stm.now t.stm.now s.stopped t.stopped u.stopped s.desc.now t.desc.now u.desc.now (λ k. (a.1 k).now) a.0 b.0, b.1 ∙ a.1, b.2 ∙ a.2) };
 
-    ghost once = { λ s. log-once s.desc.now.view };
+    ghost once = { λ s. log-once s.desc.now.view s.desc.now.own s.built };
 
     fn read(&mut self, a: usize) -> Result<u64, Stop> {
-        let stop = match read(self.desc, self.stm, a) {
-            Read::Value(value) => return Ok(value),
-            Read::Conflict(cause) => Stop::Conflict(cause),
-            Read::Full { limit } => Stop::Full { limit },
-        };
-        self.stopped = Some(stop);
-        Err(stop)
+        match as_read(read(self.desc, self.stm, a)) {
+            Ok(value) => Ok(value),
+            Err(stop) => {
+                self.stopped = Some(stop);
+                Err(stop)
+            }
+        }
     }
 
     fn write(&mut self, a: usize, v: u64) -> Result<(), Stop> {
-        let stop = match write(self.desc, self.stm, a, v) {
-            Write::Done => return Ok(()),
-            Write::Conflict(cause) => Stop::Conflict(cause),
-            Write::Full { limit } => Stop::Full { limit },
-            Write::ClockFull { clock } => Stop::ClockFull { clock },
-        };
-        self.stopped = Some(stop);
-        Err(stop)
+        match as_write(write(self.desc, self.stm, a, v)) {
+            Ok(()) => Ok(()),
+            Err(stop) => {
+                self.stopped = Some(stop);
+                Err(stop)
+            }
+        }
+    }
+}
+
+/// The answer of a read as an access gives it.
+fn as_read(answer: Read) -> Result<u64, Stop>
+    ensures { result ≡ as_read answer }
+{
+    match answer {
+        Read::Value(value) => Ok(value),
+        Read::Conflict(cause) => Err(Stop::Conflict(cause)),
+        Read::Full { limit } => Err(Stop::Full { limit }),
+    }
+}
+
+/// The answer of a write as an access gives it.
+fn as_write(answer: Write) -> Result<(), Stop>
+    ensures { result ≡ as_write answer }
+{
+    match answer {
+        Write::Done => Ok(()),
+        Write::Conflict(cause) => Err(Stop::Conflict(cause)),
+        Write::Full { limit } => Err(Stop::Full { limit }),
+        Write::ClockFull { clock } => Err(Stop::ClockFull { clock }),
     }
 }

@@ -8,11 +8,11 @@ use crate::calls::{
     cancel, commit, holds_gate, is_irrevocable, read, start, state, try_begin, write,
 };
 use crate::live::Live;
-use rule_base::layout::{CLOCK_LIMIT, Config};
 use std::alloc::Global;
 use std::test::Fail;
 use stm_model::access::Access;
 use stm_model::alg::Alg;
+use stm_model::config::{CLOCK_LIMIT, Config};
 use stm_model::rule::{AnyMem, MemRule};
 use stm_model::stop::Stop;
 use stm_rule::desc::Desc;
@@ -97,7 +97,7 @@ fn add_one<A: Access>(acc: &mut A, a: usize) -> Result<u64, Stop>
 
 /// Adds 1 to the last word in an attempt, and answers it.
 fn begin_and_add<K: MemRule>(desc: &mut Desc<K>, stm: &Stm<K>) -> Option<u64>
-    requires stm { IsOf desc.old stm.now.table.shared.table_id stm.now.config stm.now.rule }
+    requires stm { IsOf desc.old stm.now }
     requires idle { IsIdle (known desc.old) }
     requires inside { 7 < stm.now.config.words }
 {

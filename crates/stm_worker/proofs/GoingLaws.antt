@@ -7,15 +7,17 @@ use Rattle.stm_model.specs.declared.alg.Alg.{Alg}
 use Rattle.stm_model.specs.Logs.{Log, IsExplained, Keeps}
 use Rattle.stm_model.specs.Memories.{overlay, Explains, is_empty}
 use Rattle.stm_script.specs.declared.op.Op.{Op}
-use Rattle.stm_script.specs.declared.op.Op.TheVariants.{Read, Write, Add, Move, Cancel}
+use Rattle.stm_script.specs.declared.op.Op.TheVariants.{Read, Write, Add, Move, Emit, Irrev, Cancel}
 use Rattle.stm_script.specs.declared.region.Region.{Region}
 use Rattle.stm_script.specs.Keeping.{OpKeeps, ScriptKeeps}
 use Rattle.stm_script.specs.KeepingLaws.{keeps-gave, keeps-run}
-use Rattle.stm_script.specs.Operations.{OpFits, ScriptFits, is_cancel, effect_of, replies, moved}
+use Rattle.stm_model.specs.Algorithms.{is_sure}
+use Rattle.stm_script.specs.Operations.{OpFits, ScriptFits, is_cancel, is_irrev, effect_of, emits_of, replies, moved}
 use Rattle.stm_script.specs.Outputs.{Output, HasRoom}
-use Rattle.stm_script.specs.Scripts.{run, before_cancel, has_cancel}
+use Rattle.stm_script.specs.Scripts.{run, before_cancel, has_cancel, has_irrev}
 use Rattle.stm_script.specs.ScriptLaws.{Gave, GaveOver, GivesOn, ran_one, gives-step, gives-none}
 use Rattle.tx_answers.specs.Known.{Known, is_irrevocable}
+use Rattle.tx_answers.specs.Known as knows
 use Rattle.stm_trace.specs.Places.{writes}
 use Rattle.stm_worker.specs.Goings.{Going, no_log, no_replies}
 
@@ -33,7 +35,7 @@ begun-on regions ops m l out log r e = λ j after h. again j after (subst (λ k.
 
 pub going-begun : (good : List ℕ → Type 0) (words : ℕ) (regions : List Region) (script : List Op) (v : Known) (alg : Alg) (out : Output)
     → ScriptFits regions words script → ScriptKeeps good words regions script → length script ≤ out.room → out.replies ≡ [] → out.emits ≡ []
-    → v.log ≡ no_log → IsExplained good words v.log → v.alg ≡ alg → v.granted ≡ false → Going good words regions script script v alg out false
+    → v.log ≡ no_log → IsExplained good words v.log → v.alg ≡ alg → v.granted ≡ false → Going good words regions script script v alg false out false
 going-begun good words regions script v alg out fits rule room r e log ex named ungranted = record {
   fits = fits;
   rule = rule;
@@ -41,11 +43,12 @@ going-begun good words regions script v alg out fits rule room r e log ex named 
   explained = ex;
   keeps = subst (Keeps good words) (sym log) (λ m fine len x. fine);
   named = named;
-  ungranted = ungranted;
   writer = sym (ap (λ (l : Log). not (is_empty l.writes)) log);
+  sure = (λ i. is_sure (sym named i) (sym ungranted i) (sym (ap (λ (l : Log). not (is_empty l.writes)) log) i));
   on = λ m fine len x. begun-on regions script m v.log out log r e;
   ends = λ h. h;
   cut = λ off m fine len x. begun-on regions (before_cancel script) m v.log out log r e;
+  unasked = λ off. refl;
 }
 
 one-of : {A : Type 0} (P : A → Type 0) (x : A) → P x → All P (x ∷ [])
@@ -64,6 +67,8 @@ one-wrote regions (Move a b k) m = by (ltb (slice_index m a) k)
     by : (less : Bool) → (if less then replies 0 m else record { reply = 1; emits = []; memory = moved a b k m; wrote = true }).wrote || false ≡ ((if less then replies 0 m else record { reply = 1; emits = []; memory = moved a b k m; wrote = true }).reply == 1)
     by true = refl
     by false = refl
+one-wrote regions (Emit a) m = refl
+one-wrote regions Irrev m = refl
 one-wrote regions Cancel m = refl
 
 -- the reply that was told is that of the operation
@@ -85,11 +90,26 @@ or-false false = refl
 cut-plain : (op : Op) (rest : List Op) → is_cancel op ≡ false → before_cancel (op ∷ rest) ≡ op ∷ before_cancel rest
 cut-plain op rest h = ap (λ b. if b then [] else op ∷ before_cancel rest) h
 
-pub going-step : (good : List ℕ → Type 0) (words : ℕ) (regions : List Region) (script : List Op) (op : Op) (rest : List Op) (v w : Known) (alg : Alg) (out next : Output) (wrote : Bool) (reply : ℕ)
-    → is_cancel op ≡ false → next ≡ record out { replies = out.replies ++ reply ∷ [] } → Going good words regions script (op ∷ rest) v alg out wrote → GaveOver good words (ran_one regions op) v.log out w.log next → IsExplained good words w.log
-    → w.alg ≡ v.alg → w.granted ≡ v.granted → (is_irrevocable v ≡ true → is_irrevocable w ≡ true) → HasRoom next (length rest)
-    → Going good words regions script rest w alg next (wrote || writes op reply)
-going-step good words regions script op rest v w alg out next wrote reply plain told g gave ex same grant up room =
+cut-irrev : (op : Op) (rest : List Op) → is_irrev op ≡ false → is_cancel op ≡ false → has_irrev (before_cancel (op ∷ rest)) ≡ has_irrev (before_cancel rest)
+cut-irrev op rest unasked plain = ap has_irrev (cut-plain op rest plain) ∙ ap (λ b. b || has_irrev (before_cancel rest)) unasked
+
+-- whether the attempt has written then
+pub wrote-one : (good : List ℕ → Type 0) (words : ℕ) (regions : List Region) (op : Op) (v w : Known) (out next : Output) (wrote : Bool) (reply : ℕ)
+    → next ≡ record out { replies = out.replies ++ reply ∷ []; emits = out.emits ++ emits_of op reply } → wrote ≡ knows.wrote v → GaveOver good words (ran_one regions op) v.log out w.log next → IsExplained good words w.log → wrote || writes op reply ≡ knows.wrote w
+wrote-one good words regions op v w out next wrote reply told was gave ex =
+    let m = ex.0 in
+    let here = gave m ex.1 ex.2 ex.3 in
+    let same_reply : (effect_of regions op (overlay m v.log.writes)).reply ≡ reply =
+    one-reply out.replies (effect_of regions op (overlay m v.log.writes)).reply reply (sym here.replied ∙ ap (λ (o : Output). o.replies) told) in
+    ap (λ b. b || writes op reply) was ∙ sym (here.wrote ∙ ap (λ b. not (is_empty v.log.writes) || b) (one-wrote regions op (overlay m v.log.writes) ∙ ap (writes op) same_reply))
+
+-- an operation that the memory did: it asked for nothing, or what it asked for was granted
+pub going-step : (good : List ℕ → Type 0) (words : ℕ) (regions : List Region) (script : List Op) (op : Op) (rest : List Op) (v w : Known) (alg : Alg) (was granted : Bool) (out next : Output) (wrote : Bool) (reply : ℕ)
+    → is_cancel op ≡ false → (is_irrevocable w ≡ false → is_irrev op ≡ false) → next ≡ record out { replies = out.replies ++ reply ∷ []; emits = out.emits ++ emits_of op reply } → Going good words regions script (op ∷ rest) v alg was out wrote
+    → GaveOver good words (ran_one regions op) v.log out w.log next → IsExplained good words w.log
+    → w.alg ≡ v.alg → is_sure alg granted (wrote || writes op reply) ≡ is_irrevocable w → (is_irrevocable v ≡ true → is_irrevocable w ≡ true) → HasRoom next (length rest)
+    → Going good words regions script rest w alg granted next (wrote || writes op reply)
+going-step good words regions script op rest v w alg was granted out next wrote reply plain unasked told g gave ex same sure up room =
     let m = ex.0 in
     let here = gave m ex.1 ex.2 ex.3 in
     let same_reply : (effect_of regions op (overlay m v.log.writes)).reply ≡ reply =
@@ -103,21 +123,22 @@ going-step good words regions script op rest v w alg out next wrote reply plain 
       explained = ex;
       keeps = keeps-gave good words (ran_one regions op) v.log out w.log next gave (keeps-run good words regions (op ∷ []) (one-of (OpKeeps good words regions) op (All-head (OpKeeps good words regions) op rest g.rule))) g.keeps;
       named = same ∙ g.named;
-      ungranted = grant ∙ g.ungranted;
       writer = ap (λ b. b || writes op reply) g.writer ∙ sym more;
+      sure = sure;
       on = λ x fine len e. gives-step regions script op rest x no_log no_replies v.log out w.log next (g.on x fine len (gave x fine len e).explained) (gave x fine len e);
       ends = λ h. g.ends (or-right (is_cancel op) (has_cancel rest) h);
       cut = λ off x fine len e.
           gives-step regions (before_cancel script) op (before_cancel rest) x no_log no_replies v.log out w.log next
           (subst (λ ops. GivesOn regions (before_cancel script) ops x no_log no_replies v.log out) (cut-plain op rest plain) (g.cut (not-sure (is_irrevocable v) (is_irrevocable w) up off) x fine len (gave x fine len e).explained))
           (gave x fine len e);
+      unasked = λ off. g.unasked (not-sure (is_irrevocable v) (is_irrevocable w) up off) ∙ cut-irrev op rest (unasked off) plain;
     }
 
 -- a cancel that is refused replies 0, and no later one will end the attempt
-pub going-refused : (good : List ℕ → Type 0) (words : ℕ) (regions : List Region) (script rest : List Op) (v : Known) (alg : Alg) (out next : Output) (wrote : Bool)
-    → Going good words regions script (Cancel ∷ rest) v alg out wrote → is_irrevocable v ≡ true → next ≡ record out { replies = out.replies ++ 0 ∷ [] } → HasRoom next (length rest)
-    → Going good words regions script rest v alg next wrote
-going-refused good words regions script rest v alg out next wrote g sure told room =
+pub going-refused : (good : List ℕ → Type 0) (words : ℕ) (regions : List Region) (script rest : List Op) (v : Known) (alg : Alg) (granted : Bool) (out next : Output) (wrote : Bool)
+    → Going good words regions script (Cancel ∷ rest) v alg granted out wrote → is_irrevocable v ≡ true → next ≡ record out { replies = out.replies ++ 0 ∷ [] } → HasRoom next (length rest)
+    → Going good words regions script rest v alg granted next wrote
+going-refused good words regions script rest v alg granted out next wrote g sure told room =
     let one : (x : List ℕ) → Explains x v.log.reads → Gave (ran_one regions Cancel) x v.log out v.log next = λ x e. record {
       explained = e;
       replied = ap (λ (o : Output). o.replies) told;
@@ -132,20 +153,71 @@ going-refused good words regions script rest v alg out next wrote g sure told ro
       explained = g.explained;
       keeps = g.keeps;
       named = g.named;
-      ungranted = g.ungranted;
       writer = g.writer;
+      sure = g.sure;
       on = λ x fine len e. gives-step regions script Cancel rest x no_log no_replies v.log out v.log next (g.on x fine len e) (one x e);
       ends = λ h. g.ends refl;
       cut = λ off. absurd (let e : true ≡ false = sym sure ∙ off in cc);
+      unasked = λ off. absurd (let e : true ≡ false = sym sure ∙ off in cc);
     }
 
+-- what was asked for by `irrev` is granted, which replies 1
+pub going-asked : (good : List ℕ → Type 0) (words : ℕ) (regions : List Region) (script rest : List Op) (v w : Known) (alg : Alg) (was granted : Bool) (out next : Output) (wrote : Bool)
+    → Going good words regions script (Irrev ∷ rest) v alg was out wrote → w.log ≡ v.log → w.alg ≡ v.alg → IsExplained good words w.log → is_sure alg granted wrote ≡ true → is_irrevocable w ≡ true
+    → next ≡ record out { replies = out.replies ++ 1 ∷ [] } → HasRoom next (length rest) → Going good words regions script rest w alg granted next wrote
+going-asked good words regions script rest v w alg was granted out next wrote g log same ex sure certain told room =
+    let one : (x : List ℕ) → Explains x w.log.reads → Gave (ran_one regions Irrev) x v.log out w.log next = λ x e. record {
+      explained = subst (λ (l : Log). Explains x l.reads) log e;
+      replied = ap (λ (o : Output). o.replies) told;
+      emitted = ap (λ (o : Output). o.emits) told ∙ sym (append-nil out.emits);
+      left = ap (λ (l : Log). overlay x l.writes) log;
+      wrote = ap (λ (l : Log). not (is_empty l.writes)) log ∙ or-false (not (is_empty v.log.writes));
+    } in
+    record {
+      fits = All-tail (OpFits regions words) Irrev rest g.fits;
+      rule = All-tail (OpKeeps good words regions) Irrev rest g.rule;
+      room = room;
+      explained = ex;
+      keeps = subst (Keeps good words) (sym log) g.keeps;
+      named = same ∙ g.named;
+      writer = g.writer ∙ ap (λ (l : Log). not (is_empty l.writes)) (sym log);
+      sure = sure ∙ sym certain;
+      on = λ x fine len e. gives-step regions script Irrev rest x no_log no_replies v.log out w.log next (g.on x fine len (one x e).explained) (one x e);
+      ends = λ h. g.ends h;
+      cut = λ off. absurd (let e : true ≡ false = sym certain ∙ off in cc);
+      unasked = λ off. absurd (let e : true ≡ false = sym certain ∙ off in cc);
+    }
+
+-- the attempt knows more, and its script is where it was
+pub going-later : (good : List ℕ → Type 0) (words : ℕ) (regions : List Region) (script rest : List Op) (v w : Known) (alg : Alg) (was granted : Bool) (out : Output) (wrote : Bool)
+    → Going good words regions script rest v alg was out wrote → w.log ≡ v.log → w.alg ≡ v.alg → IsExplained good words w.log → is_sure alg granted wrote ≡ is_irrevocable w → (is_irrevocable w ≡ false → is_irrevocable v ≡ false)
+    → Going good words regions script rest w alg granted out wrote
+going-later good words regions script rest v w alg was granted out wrote g log same ex sure down = record {
+  fits = g.fits;
+  rule = g.rule;
+  room = g.room;
+  explained = ex;
+  keeps = subst (Keeps good words) (sym log) g.keeps;
+  named = same ∙ g.named;
+  writer = g.writer ∙ ap (λ (l : Log). not (is_empty l.writes)) (sym log);
+  sure = sure;
+  on = λ m fine len x. subst (λ (l : Log). GivesOn regions script rest m no_log no_replies l out) (sym log) (g.on m fine len (subst (λ (l : Log). Explains m l.reads) log x));
+  ends = g.ends;
+  cut = λ off m fine len x. subst (λ (l : Log). GivesOn regions (before_cancel script) (before_cancel rest) m no_log no_replies l out) (sym log) (g.cut (down off) m fine len (subst (λ (l : Log). Explains m l.reads) log x));
+  unasked = λ off. g.unasked (down off);
+}
+
 -- the script is over
-pub gave-all : (good : List ℕ → Type 0) (words : ℕ) (regions : List Region) (script rest : List Op) (v : Known) (alg : Alg) (out : Output) (wrote : Bool)
-    → Going good words regions script rest v alg out wrote → rest ≡ [] → GaveOver good words (run regions script) no_log no_replies v.log out
-gave-all good words regions script rest v alg out wrote g none = λ m fine len x.
+pub gave-all : (good : List ℕ → Type 0) (words : ℕ) (regions : List Region) (script rest : List Op) (v : Known) (alg : Alg) (granted : Bool) (out : Output) (wrote : Bool)
+    → Going good words regions script rest v alg granted out wrote → rest ≡ [] → GaveOver good words (run regions script) no_log no_replies v.log out
+gave-all good words regions script rest v alg granted out wrote g none = λ m fine len x.
     subst (λ ops. GivesOn regions script ops m no_log no_replies v.log out) none (g.on m fine len x) v.log out (gives-none regions m v.log out x)
 
--- it ends before a cancel
-pub gave-cut : (good : List ℕ → Type 0) (words : ℕ) (regions : List Region) (script rest : List Op) (v : Known) (alg : Alg) (out : Output) (wrote : Bool)
-    → Going good words regions script (Cancel ∷ rest) v alg out wrote → is_irrevocable v ≡ false → GaveOver good words (run regions (before_cancel script)) no_log no_replies v.log out
-gave-cut good words regions script rest v alg out wrote g off = λ m fine len x. g.cut off m fine len x v.log out (gives-none regions m v.log out x)
+-- it ends before a cancel, and no irrev is behind it
+pub gave-cut : (good : List ℕ → Type 0) (words : ℕ) (regions : List Region) (script rest : List Op) (v : Known) (alg : Alg) (granted : Bool) (out : Output) (wrote : Bool)
+    → Going good words regions script (Cancel ∷ rest) v alg granted out wrote → is_irrevocable v ≡ false → GaveOver good words (run regions (before_cancel script)) no_log no_replies v.log out
+gave-cut good words regions script rest v alg granted out wrote g off = λ m fine len x. g.cut off m fine len x v.log out (gives-none regions m v.log out x)
+
+pub cut-unasked : (good : List ℕ → Type 0) (words : ℕ) (regions : List Region) (script rest : List Op) (v : Known) (alg : Alg) (granted : Bool) (out : Output) (wrote : Bool)
+    → Going good words regions script (Cancel ∷ rest) v alg granted out wrote → is_irrevocable v ≡ false → has_irrev (before_cancel script) ≡ false
+cut-unasked good words regions script rest v alg granted out wrote g off = g.unasked off

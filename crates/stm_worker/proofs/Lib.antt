@@ -1,6 +1,8 @@
 mod Calls
-mod FairLaws
 mod GoingLaws
 mod RoomLaws
 mod RowLaws
+mod StandLaws
+mod TellLaws
 mod TurnLaws
+mod StopLaws

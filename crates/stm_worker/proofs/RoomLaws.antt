@@ -61,10 +61,10 @@ pub one-less : {A : Type 0} (xs ys : List A) (x : A) → xs ≡ ys ++ x ∷ [] �
 one-less xs ys x e = ap length e ∙ length-append ys (x ∷ [])
 
 abbrev first_at : ℕ → List Item → Alg → Place
-first_at n items alg = record { caller = n; left = items; phase = Between; alg = alg; rest = []; replies = []; emits = []; wrote = false; rows = [] }
+first_at n items alg = record { caller = n; left = items; failed = 0; must = false; phase = Between; alg = alg; rest = []; replies = []; emits = []; wrote = false; granted = false; rows = [] }
 
 -- a worker's place at first, where what is in use is empty
 pub start-at : (n : ℕ) (items : List Item) (alg : Alg) (o : Output) (rows : List Row) → o ≡ cleared o → rows ≡ []
-    → record { caller = n; left = items; phase = Between; alg = alg; rest = []; replies = o.replies; emits = o.emits; wrote = false; rows = rows } ≡ first_at n items alg
+    → record { caller = n; left = items; failed = 0; must = false; phase = Between; alg = alg; rest = []; replies = o.replies; emits = o.emits; wrote = false; granted = false; rows = rows } ≡ first_at n items alg
 start-at n items alg o rows empty none =
     let r = ap (λ (x : Output). x.replies) empty in let e = ap (λ (x : Output). x.emits) empty in cc

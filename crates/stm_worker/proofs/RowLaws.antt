@@ -15,9 +15,9 @@ use Rattle.stm_script.specs.GrowthLaws.{grew-trans, worked-wrote, worked-read, w
 use Rattle.stm_script.specs.Outputs.{Output}
 use Rattle.stm_script.specs.Parts.{Worked, RowOf}
 use Rattle.stm_script.specs.Reports.{RowFits, scripts_of, script_of, zeros}
-use Rattle.stm_script.specs.Scripts.{run, run_row, before_cancel, has_cancel}
+use Rattle.stm_script.specs.Scripts.{run, run_row, before_cancel, has_cancel, has_irrev}
 use Rattle.stm_script.specs.ScriptLaws.{GaveOver}
-use Rattle.rule_base.specs.declared.layout.Config.{Config}
+use Rattle.stm_model.specs.declared.config.Config.{Config}
 use Rattle.tx_answers.specs.Known.{Known}
 use Rattle.stm_worker.proofs.Calls.{CommitsAt, QuitsAt}
 use Rattle.stm_worker.specs.Goings.{no_log, no_replies}
@@ -73,9 +73,9 @@ module _ (good : List ℕ → Type 0) (regions : List Region) (all : List Item) 
       subst (λ made. Worked good (zeros words) regions (script_of all) n made w.seen w.front (rows ++ row ∷ [])) (sym done.made)
       (worked-read good (zeros words) regions (script_of all) n v.made h.seen h.front w.seen w.front rows row grew h.works refl refl refl (omega arith) done.front fit)
 
-  pub row-cancelled : (t : ℕ) (last : Output) → GaveOver good config.words (run regions (before_cancel script)) no_log no_replies v.log out → has_cancel script ≡ true → QuitsAt good config t v w
+  pub row-cancelled : (t : ℕ) (last : Output) → GaveOver good config.words (run regions (before_cancel script)) no_log no_replies v.log out → has_cancel script ≡ true → has_irrev (before_cancel script) ≡ false → QuitsAt good config t v w
       → last ≡ record out { replies = out.replies ++ 1 ∷ [] } → Works good config.words regions all n w (rows ++ row_of C t n (length rows) last ∷ [])
-  row-cancelled t last gave cancels done told =
+  row-cancelled t last gave cancels unasked done told =
       let words = config.words in
       let row = row_of C t n (length rows) last in
       let m = memory_at t w.seen (zeros words) in
@@ -84,7 +84,7 @@ module _ (good : List ℕ → Type 0) (regions : List Region) (all : List Item) 
       let fit : RowFits regions (script_of all row) row m = record {
         replies = ap (λ (o : Output). o.replies) told ∙ (ap (λ r. r ++ 1 ∷ []) at.replied ∙ ap (λ s. (run_row regions C s m).replies) (sym is));
         emits = ap (λ (o : Output). o.emits) told ∙ (at.emitted ∙ ap (λ s. (run_row regions C s m).emits) (sym is));
-        kind = ap has_cancel is ∙ cancels;
+        kind = (ap has_cancel is ∙ cancels, ap (λ s. has_irrev (before_cancel s)) is ∙ unasked);
       } in
       let grew = grew-trans h.seen h.front v.seen v.front w.seen w.front h.grew done.grows in
       subst (λ made. Worked good (zeros words) regions (script_of all) n made w.seen w.front (rows ++ row ∷ [])) (sym done.made)

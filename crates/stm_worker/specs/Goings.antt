@@ -1,16 +1,18 @@
 -- An attempt in the middle of its script.
-use Rattle.std.specs.Prelude.{ℕ, ◌≡◌, not, Bool, true, false, List, [], length}
+use Rattle.std.specs.Prelude.{ℕ, ◌≡◌, Bool, true, false, List, [], length}
+use Rattle.stm_model.specs.Algorithms.{is_sure}
 use Rattle.stm_model.specs.declared.alg.Alg.{Alg}
-use Rattle.stm_model.specs.Memories.{Explains, is_empty}
+use Rattle.stm_model.specs.Memories.{Explains}
 use Rattle.stm_model.specs.Logs.{Log, IsExplained, Keeps}
 use Rattle.stm_script.specs.declared.op.Op.{Op}
 use Rattle.stm_script.specs.declared.region.Region.{Region}
 use Rattle.stm_script.specs.Keeping.{ScriptKeeps}
 use Rattle.stm_script.specs.Operations.{ScriptFits}
 use Rattle.stm_script.specs.Outputs.{Output, HasRoom}
-use Rattle.stm_script.specs.Scripts.{before_cancel, has_cancel}
+use Rattle.stm_script.specs.Scripts.{before_cancel, has_cancel, has_irrev}
 use Rattle.stm_script.specs.ScriptLaws.{GivesOn}
 use Rattle.tx_answers.specs.Known.{Known, is_irrevocable}
+use Rattle.tx_answers.specs.Known as knows
 
 -- an attempt that has done nothing yet, and the replies of one
 abbrev pub no_log : Log
@@ -20,16 +22,18 @@ abbrev pub no_replies : Output
 no_replies = record { replies = []; emits = []; room = 0 }
 
 -- the rest of the script fits and has room, and what the attempt did so far is the beginning of its script, on every good memory that explains its log
-pub record Going (good : List ℕ → Type 0) (words : ℕ) (regions : List Region) (script rest : List Op) (v : Known) (alg : Alg) (out : Output) (wrote : Bool) : Type 0 where
+pub record Going (good : List ℕ → Type 0) (words : ℕ) (regions : List Region) (script rest : List Op) (v : Known) (alg : Alg) (granted : Bool) (out : Output) (wrote : Bool) : Type 0 where
   pub fits : ScriptFits regions words rest
   pub rule : ScriptKeeps good words regions rest
   pub room : HasRoom out (length rest)
   pub explained : IsExplained good words v.log
   pub keeps : Keeps good words v.log
   pub named : v.alg ≡ alg
-  pub ungranted : v.granted ≡ false
-  pub writer : wrote ≡ not (is_empty v.log.writes)
+  pub writer : wrote ≡ knows.wrote v
+  -- what was said tells whether it can be cancelled
+  pub sure : is_sure alg granted wrote ≡ is_irrevocable v
   pub on : (m : List ℕ) → good m → length m ≡ words → Explains m v.log.reads → GivesOn regions script rest m no_log no_replies v.log out
   pub ends : has_cancel rest ≡ true → has_cancel script ≡ true
-  -- and so up to the first cancel, while the attempt can be cancelled
+  -- and so up to the first cancel, while the attempt can be cancelled: then no irrev is behind it
   pub cut : is_irrevocable v ≡ false → (m : List ℕ) → good m → length m ≡ words → Explains m v.log.reads → GivesOn regions (before_cancel script) (before_cancel rest) m no_log no_replies v.log out
+  pub unasked : is_irrevocable v ≡ false → has_irrev (before_cancel script) ≡ has_irrev (before_cancel rest)

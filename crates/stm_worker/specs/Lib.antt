@@ -1,3 +1,9 @@
 pub mod Goings
+pub mod Tellings
 pub mod Workers
 pub mod Leavings
+pub mod Payments
+pub mod RiseLaws
+pub mod PaidLaws
+pub mod CountLaws
+pub mod PaymentLaws

@@ -1,11 +1,13 @@
 -- What a worker keeps, and what a turn does.
-use Rattle.std.specs.Prelude.{ℕ, ◌≡◌, ◌≤◌, ◌+◌, ◌*◌, ◌^◌, true, false, List, [], ◌∷◌, ◌++◌, length, drop, Contains, Some, MatchOption, vec_capacity, vec_len}
-use Rattle.atomic_table.specs.Seated.{TableId}
+use Rattle.std.specs.Prelude.{ℕ, ◌≡◌, ◌<◌, ◌≤◌, ◌+◌, ◌^◌, ◌&&◌, not, Bool, true, false, List, [], ◌∷◌, ◌++◌, length, drop, Contains, Some, MatchOption, vec_capacity, vec_len}
 use Rattle.rule_base.specs.declared.layout.At.TheVariants.{Clock}
-use Rattle.rule_base.specs.declared.layout.Config.{Config}
-use Rattle.stm_model.specs.declared.alg.Alg.{Alg}
-use Rattle.stm_model.specs.declared.alg.Alg.TheVariants.{Cgl}
+use Rattle.rule_base.specs.declared.views.Act.{Act}
+use Rattle.stm_model.specs.Algorithms.{is_built}
 use Rattle.stm_model.specs.Histories.{Entry}
+use Rattle.stm_model.specs.declared.alg.Alg.{Alg}
+use Rattle.stm_model.specs.declared.config.Config.{Config}
+use Rattle.stm_model.specs.declared.stop.Stop.{Stop}
+use Rattle.stm_model.specs.declared.stop.Stop.TheVariants as stops
 use Rattle.stm_script.specs.declared.region.Region.{Region}
 use Rattle.stm_script.specs.declared.report.Kind.{Kind}
 use Rattle.stm_script.specs.declared.report.Row.{Row}
@@ -19,35 +21,33 @@ use Rattle.stm_script.specs.Outputs.{Output}
 use Rattle.stm_script.specs.Parts.{Worked}
 use Rattle.stm_script.specs.Reports.{scripts_of, script_of, zeros}
 use Rattle.stm_rule.specs.Callers.{Handle, IsOf, IsSameCaller}
+use Rattle.stm_rule.specs.declared.stm.Stm.{Stm}
 use Rattle.tx_answers.specs.Answers.{HoldsClosed, SeesQuiet}
-use Rattle.tx_answers.specs.Known.{Known, IsIdle, caller_of, is_offered, owed}
+use Rattle.tx_answers.specs.Known.{Known, IsIdle, caller_of, owed}
 use Rattle.stm_tx.specs.Descs.{known}
 use Rattle.stm_trace.specs.declared.said.Phase.{Phase}
 use Rattle.stm_trace.specs.declared.said.Phase.TheVariants.{Between, Inside, Closing, Quiet}
 use Rattle.stm_trace.specs.declared.said.Said.{Said}
-use Rattle.stm_trace.specs.declared.said.Said.TheVariants.{TryBegin, Reply, Stopped, TryCancel, TryCommit, TryClose, Looked, Installed, Idle, Dropped, Reopened}
-use Rattle.stm_trace.specs.Places.{Place, after, clock_of, ended, script_at}
-use Rattle.stm_trace.specs.Turns.{BeforeTx, BeforeSwitch, IsFair, sure}
+use Rattle.stm_trace.specs.declared.said.Said.TheVariants.{TryBegin, Reply, Stopped, TryCancel, TryIrrevocable, TryCommit, TryClose, Looked, Installed, Idle, Dropped, Reopened}
+use Rattle.stm_trace.specs.Places.{Place, after, clock_of, ended, failed_next, must_next, most_failed, rest_of, script_at, sure}
+use Rattle.stm_trace.specs.Turns.{BeforeTx, BeforeSwitch, HasSizes, IsFair}
 use Rattle.stm_worker.specs.declared.worker.Worker.{Worker}
 use Rattle.stm_worker.specs.Goings.{Going}
+use Rattle.stm_worker.specs.Tellings.{Tells}
 
 abbrev pub place_of : {K : Type 0} → Worker K → Place
-place_of w = record { caller = caller_of w.desc.who.role; left = w.items_left.now; phase = w.phase; alg = w.alg; rest = w.operations_left.now; replies = w.out.replies; emits = w.out.emits; wrote = w.wrote; rows = w.rows.items }
+place_of w = record { caller = caller_of w.desc.who.role; left = w.items_left.now; failed = w.failed; must = w.must; phase = w.phase; alg = w.alg; rest = w.operations_left.now; replies = w.out.replies; emits = w.out.emits; wrote = w.wrote; granted = w.granted; rows = w.rows.items }
 
--- the memory has the sizes of this header
-abbrev pub HasSizes : Config → Header → Type 0
-HasSizes c h = (h.words ≡ c.words) × (h.records ≡ c.records) × (h.ring ≡ c.ring) × (h.callers ≡ c.callers) × (h.reads ≡ c.reads) × (h.writes ≡ c.writes)
-
--- the descriptor of caller n is idle, in an attempt of the one algorithm that is built, or holds the gate
+-- the descriptor of caller n is idle, in an attempt, or holds the gate
 abbrev pub IsAt : (List ℕ → Type 0) → Config → ℕ → Phase → Known → Type 0
 IsAt good c n Between v = IsIdle v
-IsAt good c n Inside v = (v.running ≡ true) × (v.alg ≡ Cgl)
+IsAt good c n Inside v = v.running ≡ true
 IsAt good c n Closing v = HoldsClosed v
 IsAt good c n Quiet v = HoldsClosed v × SeesQuiet good c n v
 
--- a load of the clock found this
+-- a step found the clock to be this
 abbrev pub Loaded : Known → ℕ → Type 0
-Loaded v clock = Contains v.trail (record { place = Clock; found = Some clock })
+Loaded v clock = (act : Act) × Contains v.trail (record { place = Clock; act = act; found = Some clock })
 
 abbrev pub WhenInside : Phase → Type 0 → Type 0
 WhenInside Between P = Unit {0}
@@ -66,7 +66,7 @@ ToSwitch Quiet left = BeforeSwitch left
 abbrev pub ItemsFit : (List ℕ → Type 0) → ℕ → List Region → ℕ → List Item → Type 0
 ItemsFit good words regions n [] = Unit {0}
 ItemsFit good words regions n (Tx caller script ∷ items) = (caller ≡ n) × ScriptFits regions words script × ScriptKeeps good words regions script × ItemsFit good words regions n items
-ItemsFit good words regions n (Switch caller alg ∷ items) = (caller ≡ n) × (is_offered alg ≡ true) × ItemsFit good words regions n items
+ItemsFit good words regions n (Switch caller alg ∷ items) = (caller ≡ n) × (is_built alg ≡ true) × ItemsFit good words regions n items
 
 -- the algorithms that are switched to, in the order of the text
 abbrev pub switches_of : List Item → List Alg
@@ -90,15 +90,19 @@ pub record WorksSince (good : List ℕ → Type 0) (words : ℕ) (regions : List
   pub grew : Grew seen front v.seen v.front
   pub fresh : front ≤ v.start
 
--- the clock's rises are at most two an item that is done
-abbrev pub Pays : List Item → List Item → ℕ → Type 0
-Pays all left rises = rises + 2 * length left ≤ 2 * length all
+abbrev pub Stands : (List ℕ → Type 0) → ℕ → List Region → List Item → ℕ → Known → List Row → Phase → Type 0
+Stands good words regions all n v rows Between = Works good words regions all n v rows
+Stands good words regions all n v rows Inside = WorksSince good words regions all n v rows
+Stands good words regions all n v rows Closing = Works good words regions all n v rows
+Stands good words regions all n v rows Quiet = Works good words regions all n v rows
 
-abbrev pub Stands : (List ℕ → Type 0) → ℕ → List Region → List Item → List Item → ℕ → Known → List Row → Phase → Type 0
-Stands good words regions all left n v rows Between = Works good words regions all n v rows × Pays all left v.rises
-Stands good words regions all left n v rows Inside = WorksSince good words regions all n v rows × Pays all left v.base
-Stands good words regions all left n v rows Closing = Works good words regions all n v rows × Pays all left v.rises
-Stands good words regions all left n v rows Quiet = Works good words regions all n v rows × Pays all left v.rises
+-- the logs have the lengths of the memory's configuration
+abbrev pub HasLengths : Config → Known → Type 0
+HasLengths c v = (v.reads_limit ≡ c.reads) × (v.writes_limit ≡ c.writes)
+
+-- attempts are counted until the next one must become irrevocable
+abbrev pub IsCounted : ℕ → Bool → Type 0
+IsCounted failed must = must ≡ false → failed < most_failed
 
 abbrev pub cleared : Output → Output
 cleared o = record o { replies = []; emits = [] }
@@ -132,7 +136,7 @@ pub record IsSame {K : Type 0} (v w : Worker K) : Type 0 where
 pub record Starts {K : Type 0} (desc : Handle K) (items : List Item) (alg : Alg) (w : Worker K) : Type 0 where
   pub is_desc : w.desc ≡ desc
   pub all : w.all.now ≡ items
-  pub at : place_of w ≡ record { caller = caller_of desc.who.role; left = items; phase = Between; alg = alg; rest = []; replies = []; emits = []; wrote = false; rows = [] }
+  pub at : place_of w ≡ record { caller = caller_of desc.who.role; left = items; failed = 0; must = false; phase = Between; alg = alg; rest = []; replies = []; emits = []; wrote = false; granted = false; rows = [] }
   pub regions : w.regions ≡ []
   pub roomy : Roomy w
 
@@ -144,12 +148,33 @@ pub record EndsWith {K : Type 0} (kind : Kind) (time : ℕ) (v w : Worker K) : T
   pub regions : w.regions ≡ v.regions
   pub roomy : Roomy w
 
+-- the attempt has ended without a row
+abbrev pub gave_up : {K : Type 0} → Worker K → Worker K
+gave_up w = record w { phase = Between; out = cleared w.out }
+
+-- since another caller was in its way
+abbrev pub made_way : {K : Type 0} → Worker K → Worker K
+made_way w = record w { phase = Between; out = cleared w.out; failed = failed_next w.must w.failed; must = must_next w.must w.failed }
+
+-- by why it was stopped
+abbrev pub stopped_by : {K : Type 0} → Stop → Worker K → Worker K
+stopped_by (stops.Conflict cause) w = made_way w
+stopped_by (stops.Full limit) w = record w { phase = Between; out = cleared w.out; must = true }
+stopped_by (stops.ClockFull clock) w = gave_up w
+
+-- the operation `irrev` is done, which was granted
+pub record DoneIrrev {K : Type 0} (v w : Worker K) : Type 0 where
+  pub left : w.operations_left.now ≡ rest_of v.operations_left.now
+  pub told : w.out ≡ record v.out { replies = v.out.replies ++ 1 ∷ [] }
+  pub is : w ≡ record v { operations_left = w.operations_left; out = w.out; granted = true }
+
 -- what was installed in a turn
 abbrev pub installed : Said → List Alg
 installed (TryBegin b) = []
 installed (Reply op reply) = []
 installed (Stopped op stop) = []
 installed (TryCancel c) = []
+installed (TryIrrevocable r) = []
 installed (TryCommit c) = []
 installed (TryClose c) = []
 installed (Looked l) = []
@@ -158,30 +183,41 @@ installed Idle = []
 installed Dropped = []
 installed Reopened = []
 
-module _ {K : Type 0} (good : List ℕ → Type 0) (table : TableId) (config : Config) (rule : K) where
+-- an open attempt, under an algorithm that is built: where it is in the middle of its commit its script is over; where it must become irrevocable and is not yet, it has done nothing
+pub record IsUnderWay {K : Type 0} (good : List ℕ → Type 0) (words : ℕ) (w : Worker K) : Type 0 where
+  pub going : Going good words w.regions (script_at w.items_left.now) w.operations_left.now (known w.desc) w.alg w.granted w.out w.wrote
+  pub here : BeforeTx w.items_left.now
+  pub built : is_built w.alg ≡ true
+  pub committing : (known w.desc).committing ≡ true → (w.operations_left.now ≡ []) × ((w.must && not (sure (place_of w))) ≡ false)
+  pub waits : w.must ≡ true → sure (place_of w) ≡ false → w.wrote ≡ false
+
+module _ {K : Type 0} (good : List ℕ → Type 0) (stm : Stm K) where
   pub record Sound (w : Worker K) : Type 0 where
-    pub own : IsOf w.desc table config rule
-    pub at : IsAt good config (caller_of w.desc.who.role) w.phase (known w.desc)
-    pub stands : Stands good config.words w.regions w.all.now w.items_left.now (caller_of w.desc.who.role) (known w.desc) w.rows.items w.phase
+    pub own : IsOf w.desc stm
+    pub at : IsAt good stm.config (caller_of w.desc.who.role) w.phase (known w.desc)
+    pub lengths : HasLengths stm.config (known w.desc)
+    pub stands : Stands good stm.config.words w.regions w.all.now (caller_of w.desc.who.role) (known w.desc) w.rows.items w.phase
     pub todo : scripts_of (caller_of w.desc.who.role) w.items_left.now ≡ drop (length w.rows.items) (scripts_of (caller_of w.desc.who.role) w.all.now)
     pub within : length w.rows.items ≤ length (scripts_of (caller_of w.desc.who.role) w.all.now)
+    pub counted : IsCounted w.failed w.must
     pub switched : DidSwitches w.all.now w.items_left.now (known w.desc)
-    pub fits : ItemsFit good config.words w.regions (caller_of w.desc.who.role) w.items_left.now
+    pub fits : ItemsFit good stm.config.words w.regions (caller_of w.desc.who.role) w.items_left.now
     pub roomy : Roomy w
     pub turning : ToSwitch w.phase w.items_left.now
-    pub going : WhenInside w.phase (Going good config.words w.regions (script_at w.items_left.now) w.operations_left.now (known w.desc) w.alg w.out w.wrote × BeforeTx w.items_left.now)
+    pub under_way : WhenInside w.phase (IsUnderWay good stm.config.words w)
 
-  -- a turn says what may come at its place, by the numbers that its cause allows, and leads where that leads
+  -- a turn says what may come at its place, tells what its call found, by the numbers that its cause allows, and leads where that leads
   pub record Turned (may : Place → Said → Type 0) (v : Worker K) (said : Said) (w : Worker K) : Type 0 where
     pub sound : Sound w
     pub here : may (place_of v) said
-    pub fair : (h : Header) → HasSizes config h → IsFair h (place_of v) said
+    pub told : Tells good stm.config (caller_of v.desc.who.role) said (known v.desc) (known w.desc)
     pub now : place_of w ≡ after (place_of v) said
-    -- the clock's rises, by the attempt and not by the turn
+    pub same : IsSame v w
+    -- what follows of it: the numbers of its line, the clock's rises (by the attempt and not by the turn), the clock that was found full, and what was installed
+    pub fair : (h : Header) → HasSizes stm.config h → IsFair h (place_of v) said
     pub pays : owed (known w.desc) ≤ owed (known v.desc) + 2
     pub found : MatchOption (clock_of said) (Unit {0}) (λ clock. (2 ^ 62 ≤ clock) × Loaded (known w.desc) clock)
     pub installs : (known w.desc).installs ≡ (known v.desc).installs ++ installed said
-    pub same : IsSame v w
 
   -- the open attempt can't be cancelled, and stands as it did
   pub record Refused (v w : Worker K) : Type 0 where

@@ -1,6 +1,5 @@
 //! How a worker leaves what it has open: behind a schedule, and before the memory is closed.
 ghost use Rattle.std.specs.Prelude.{◌≡◌, ◌≤◌, [], true, MatchBool, MatchOption};
-ghost use Rattle.stm_model.specs.declared.alg.Alg.TheVariants.{Cgl};
 ghost use Rattle.stm_rule.specs.Callers.{IsOf, IsSameCaller};
 ghost use Rattle.tx_answers.specs.Answers.{KeepsRule};
 ghost use Rattle.tx_answers.specs.Known.{IsIdle, caller_of, owed};
@@ -21,8 +20,8 @@ use tx_answers::answers::Cancel;
 /// Gives up what is open, where that can be: what is said of it. An attempt that can't be cancelled stays
 /// open.
 pub fn give_up<K: MemRule>(stm: &Stm<K>, w: &mut Worker<K>) -> Option<Said>
-    requires { Sound (K.good stm.now.rule) stm.now.table.shared.table_id stm.now.config stm.now.rule w.old }
-    ensures { MatchOption result (NothingToGiveUp (K.good stm.now.rule) stm.now.table.shared.table_id stm.now.config stm.now.rule w.old w.new) (λ said. GaveUp (K.good stm.now.rule) stm.now.table.shared.table_id stm.now.config stm.now.rule w.old said w.new) }
+    requires { Sound (K.good stm.now.rule) stm.now w.old }
+    ensures { MatchOption result (NothingToGiveUp (K.good stm.now.rule) stm.now w.old w.new) (λ said. GaveUp (K.good stm.now.rule) stm.now w.old said w.new) }
 {
     match w.phase {
         Phase::Between => None,
@@ -45,8 +44,8 @@ pub fn give_up<K: MemRule>(stm: &Stm<K>, w: &mut Worker<K>) -> Option<Said>
 /// Leaves the descriptor idle: ends the open attempt without a row, by a commit where it can't be cancelled,
 /// or gives the closing up.
 pub fn make_idle<K: MemRule>(stm: &Stm<K>, w: &mut Worker<K>)
-    requires { Sound (K.good stm.now.rule) stm.now.table.shared.table_id stm.now.config stm.now.rule w.old }
-    ensures { MadeIdle stm.now.table.shared.table_id stm.now.config stm.now.rule w.old w.new }
+    requires { Sound (K.good stm.now.rule) stm.now w.old }
+    ensures { MadeIdle stm.now w.old w.new }
 {
     match w.phase {
         Phase::Between => {}
@@ -58,8 +57,8 @@ pub fn make_idle<K: MemRule>(stm: &Stm<K>, w: &mut Worker<K>)
 
 /// An attempt that can't be cancelled is never refused.
 fn end_attempt<K: MemRule>(stm: &Stm<K>, desc: &mut Desc<K>)
-    requires own { IsOf desc.old stm.now.table.shared.table_id stm.now.config stm.now.rule }
-    requires runs { ((known desc.old).running ≡ true) × ((known desc.old).alg ≡ Cgl) }
+    requires own { IsOf desc.old stm.now }
+    requires runs { (known desc.old).running ≡ true }
     requires keeps { KeepsRule (K.good stm.now.rule) stm.now.config (caller_of desc.old.who.role) (known desc.old) }
     ensures same { IsSameCaller desc.old desc.new }
     ensures idle { IsIdle (known desc.new) }

@@ -1,6 +1,7 @@
 //! A caller's worker: what the caller is to do, and the one call that it makes a turn.
 #![tactic(auto)]
 
+pub mod laws;
 pub mod leaving;
 pub mod turnstile;
 pub mod worker;

@@ -1,16 +1,19 @@
 //! A caller's worker: one call a turn.
-ghost use Rattle.std.specs.Prelude.{◌≡◌, ◌⊎◌, ◌++◌, ◌∷◌, [], true, false, Some, is_ok, MatchBool, IfOk, IfErr, OnOk};
+ghost use Rattle.std.specs.Prelude.{◌≡◌, ◌⊎◌, ◌++◌, ◌∷◌, [], true, false, MatchBool, IfOk, IfErr, OnOk};
+ghost use Rattle.stm_model.specs.Algorithms.{is_built};
 ghost use Rattle.stm_model.specs.Logs.{IsExplained};
 ghost use Rattle.stm_script.specs.declared.op.Op.{Op};
-ghost use Rattle.stm_script.specs.Operations.{OpFits, is_cancel};
+ghost use Rattle.stm_script.specs.Operations.{OpFits, emits_of};
 ghost use Rattle.stm_script.specs.Outputs.{HasRoom};
 ghost use Rattle.stm_script.specs.ScriptLaws.{GaveOver, ran_one};
-ghost use Rattle.stm_rule.specs.Callers.{IsOf};
-ghost use Rattle.stm_tx.specs.Descs.{Frames, known};
-ghost use Rattle.tx_answers.specs.Answers.{is_fair};
-ghost use Rattle.stm_trace.specs.Places.{script_at, rest_of, writes};
-ghost use Rattle.stm_trace.specs.Turns.{BeforeTx, BeforeSwitch, SwitchesTo, Next, MaySay, MayWind};
-ghost use Rattle.stm_worker.specs.Workers.{Sound, Turned, Refused, Roomy, EndsWith, Starts, spares};
+ghost use Rattle.stm_rule.specs.Callers.{IsOf, IsSameCaller};
+ghost use Rattle.stm_tx.specs.Descs.{known};
+ghost use Rattle.tx_answers.specs.Known.{IsRunning, caller_of, is_irrevocable};
+ghost use Rattle.tx_answers.specs.KnownLaws.{Carries};
+ghost use Rattle.stm_trace.specs.Places.{script_at, rest_of, writes, is_forced, sure};
+ghost use Rattle.stm_trace.specs.Turns.{BeforeTx, BeforeSwitch, SwitchesTo, Next, Comes, MaySay, MayWind, is_call};
+ghost use Rattle.stm_worker.specs.Tellings.{StoppedBy};
+ghost use Rattle.stm_worker.specs.Workers.{Sound, Turned, Refused, Roomy, EndsWith, IsCounted, Starts, DoneIrrev, gave_up, made_way, stopped_by, place_of, spares};
 
 use crate::turnstile::Turnstile;
 use std::alloc::{AllocError, Global};
@@ -28,10 +31,10 @@ use stm_script::replies::Replies;
 use stm_script::report::{Kind, Row};
 use stm_script::workload::Item;
 use stm_trace::said::{Phase, Said};
-use stm_tx::calls::{cancel, commit, try_begin};
+use stm_tx::calls::{cancel, commit, is_irrevocable, try_begin, try_irrevocable};
 use stm_tx::gate::{close_gate, install, look, reopen};
 use stm_tx::live::Live;
-use tx_answers::answers::{Begin, Cancel, CloseGate, Commit, Look};
+use tx_answers::answers::{Begin, Cancel, CloseGate, Commit, Irrev, Look};
 
 /// A caller: what it has still to do, its open attempt, and the rows of its transactions that have ended.
 ///
@@ -43,6 +46,10 @@ pub struct Worker<'a, K: MemRule> {
     pub all: &'a [Item],
     /// What it has still to do, an open transaction or switch first.
     pub items_left: &'a [Item],
+    /// How many attempts of the next transaction another caller was in the way of: 16 at most.
+    pub failed: usize,
+    /// Whether the next transaction's attempts must become irrevocable before their first operation.
+    pub must: bool,
     pub phase: Phase,
     /// The algorithm of the last attempt.
     pub alg: Alg,
@@ -52,6 +59,8 @@ pub struct Worker<'a, K: MemRule> {
     pub out: Replies,
     /// Whether the last attempt wrote.
     pub wrote: bool,
+    /// Whether the last attempt was granted to be irrevocable.
+    pub granted: bool,
     /// Whether the last attempt has passed the turnstile.
     pub passed: bool,
     pub regions: Regions,
@@ -59,6 +68,10 @@ pub struct Worker<'a, K: MemRule> {
     /// Empty room for the replies of the transactions behind the next one, the last one's first.
     pub spare: Vec<Replies>,
 }
+
+/// After so many attempts of a transaction that another caller was in the way of, the next one must become
+/// irrevocable.
+const MOST_FAILED: usize = 16;
 
 /// All but the first.
 fn tail<T>(items: &[T]) -> &[T]
@@ -89,11 +102,11 @@ fn writes(op: Op, reply: u64) -> bool
     match op {
         Op::Write(_, _) | Op::Add(_, _) => true,
         Op::Move(_, _, _) => reply == 1,
-        Op::Read(_) | Op::Cancel => false,
+        Op::Read(_) | Op::Emit(_) | Op::Irrev | Op::Cancel => false,
     }
 }
 
-/// One operation of a running attempt.
+/// One operation of a running attempt, on its memory.
 fn operate<K: MemRule>(
     stm: &Stm<K>,
     desc: &mut Desc<K>,
@@ -101,15 +114,17 @@ fn operate<K: MemRule>(
     op: Op,
     out: &mut Replies,
 ) -> Result<u64, Stop>
-    requires own { IsOf desc.old stm.now.table.shared.table_id stm.now.config stm.now.rule }
-    requires runs { (known desc.old).running ≡ true }
+    requires own { IsOf desc.old stm.now }
+    requires runs { IsRunning (known desc.old) }
+    requires built { is_built (known desc.old).alg ≡ true }
     requires fits { OpFits regions.now stm.now.config.words op }
     requires room { HasRoom out.old 1 }
-    ensures frames { Frames desc.old desc.new }
-    ensures runs { (known desc.new).running ≡ is_ok result }
-    ensures fair { IfErr result (λ s. is_fair (known desc.new) (Some s) ≡ true) }
+    ensures same { IsSameCaller desc.old desc.new }
+    ensures goes { OnOk result (Carries (known desc.old) (known desc.new) × IsRunning (known desc.new)) }
+    ensures stopped { IfErr result (λ stop. StoppedBy (K.good stm.now.rule) stm.now.config (caller_of desc.old.who.role) op stop (known desc.old) (known desc.new)) }
     ensures gave { OnOk result (GaveOver (K.good stm.now.rule) stm.now.config.words (ran_one regions.now op) (known desc.old).log out.old (known desc.new).log out.new) }
-    ensures told { IfOk result (λ r. out.new ≡ record out.old { replies = out.old.replies ++ r ∷ [] }) }
+    ensures told { IfOk result (λ r. out.new ≡ record out.old { replies = out.old.replies ++ r ∷ []; emits = out.old.emits ++ emits_of op r }) }
+    ensures untold { IfErr result (λ stop. out.new ≡ out.old) }
     ensures explained { OnOk result (IsExplained (K.good stm.now.rule) stm.now.config.words (known desc.old).log → IsExplained (K.good stm.now.rule) stm.now.config.words (known desc.new).log) }
     ensures kept { out.new.room ≡ out.old.room }
 {
@@ -167,11 +182,14 @@ impl<'a, K: MemRule> Worker<'a, K> {
             desc,
             all: items,
             items_left: items,
+            failed: 0,
+            must: false,
             phase: Phase::Between,
             alg,
             operations_left: &[],
             out,
             wrote: false,
+            granted: false,
             passed: false,
             regions: Regions::none(alloc),
             rows,
@@ -181,8 +199,8 @@ impl<'a, K: MemRule> Worker<'a, K> {
 
     /// Makes the caller's next call, and says its answer.
     pub fn turn<G: Turnstile>(&mut self, stm: &Stm<K>, turnstile: &G) -> Said
-        requires sound { Sound (K.good stm.now.rule) stm.now.table.shared.table_id stm.now.config stm.now.rule self.old }
-        ensures turned { Turned (K.good stm.now.rule) stm.now.table.shared.table_id stm.now.config stm.now.rule MaySay self.old result self.new }
+        requires sound { Sound (K.good stm.now.rule) stm.now self.old }
+        ensures turned { Turned (K.good stm.now.rule) stm.now MaySay self.old result self.new }
     {
         match self.phase {
             Phase::Between => {
@@ -195,14 +213,7 @@ impl<'a, K: MemRule> Worker<'a, K> {
                     Some(Item::Switch { caller: _, alg: _ }) => Said::TryClose(self.close(stm)),
                 }
             }
-            Phase::Inside => {
-                let operations = self.operations_left;
-                match operations.first() {
-                    None => Said::TryCommit(self.commit(stm, turnstile)),
-                    Some(Op::Cancel) => Said::TryCancel(self.cancel(stm)),
-                    Some(op) => self.operation(stm, *op),
-                }
-            }
+            Phase::Inside => self.go_on(stm, turnstile),
             Phase::Closing => Said::Looked(self.look(stm)),
             Phase::Quiet => {
                 let alg = target(self.items_left);
@@ -212,13 +223,40 @@ impl<'a, K: MemRule> Worker<'a, K> {
         }
     }
 
+    /// The next call of the open attempt: before anything else it becomes irrevocable where it must.
+    fn go_on<G: Turnstile>(&mut self, stm: &Stm<K>, turnstile: &G) -> Said
+        requires sound { Sound (K.good stm.now.rule) stm.now self.old }
+        requires inside { self.old.phase ≡ Phase.Inside }
+        ensures turned { Turned (K.good stm.now.rule) stm.now MaySay self.old result self.new }
+    {
+        if self.is_forced() {
+            return Said::TryIrrevocable(self.become_irrevocable(stm, true));
+        }
+        let operations = self.operations_left;
+        match operations.first() {
+            None => Said::TryCommit(self.commit(stm, turnstile)),
+            Some(Op::Cancel) => Said::TryCancel(self.cancel(stm)),
+            Some(Op::Irrev) => Said::TryIrrevocable(self.become_irrevocable(stm, false)),
+            Some(op) => self.operation(stm, *op),
+        }
+    }
+
+    /// Whether the open attempt must become irrevocable before it goes on.
+    fn is_forced(&self) -> bool
+        requires running { (known self.now.desc).running ≡ true }
+        requires told { sure (place_of self.now) ≡ is_irrevocable (known self.now.desc) }
+        ensures { result ≡ is_forced (place_of self.now) }
+    {
+        self.must && !is_irrevocable(&self.desc)
+    }
+
     /// Begins the next transaction, whose operations are `script`.
     fn begin(&mut self, stm: &Stm<K>, script: &'a [Op]) -> Begin
-        requires sound { Sound (K.good stm.now.rule) stm.now.table.shared.table_id stm.now.config stm.now.rule self.old }
+        requires sound { Sound (K.good stm.now.rule) stm.now self.old }
         requires between { self.old.phase ≡ Phase.Between }
         requires here { BeforeTx self.old.items_left.now }
         requires script { script.now ≡ script_at self.old.items_left.now }
-        ensures turned { Turned (K.good stm.now.rule) stm.now.table.shared.table_id stm.now.config stm.now.rule MaySay self.old (Said.TryBegin result) self.new }
+        ensures turned { Turned (K.good stm.now.rule) stm.now MaySay self.old (Said.TryBegin result) self.new }
     {
         match try_begin(&mut self.desc, stm) {
             Begin::Begun(alg) => {
@@ -227,6 +265,7 @@ impl<'a, K: MemRule> Worker<'a, K> {
                 self.operations_left = script;
                 self.out.clear();
                 self.wrote = false;
+                self.granted = false;
                 self.passed = false;
                 Begin::Begun(alg)
             }
@@ -238,11 +277,10 @@ impl<'a, K: MemRule> Worker<'a, K> {
 
     /// The next operation of the open attempt, other than a cancel.
     fn operation(&mut self, stm: &Stm<K>, op: Op) -> Said
-        requires sound { Sound (K.good stm.now.rule) stm.now.table.shared.table_id stm.now.config stm.now.rule self.old }
-        requires inside { self.old.phase ≡ Phase.Inside }
-        requires next { Next op self.old.operations_left.now }
-        requires plain { is_cancel op ≡ false }
-        ensures turned { Turned (K.good stm.now.rule) stm.now.table.shared.table_id stm.now.config stm.now.rule MaySay self.old result self.new }
+        requires sound { Sound (K.good stm.now.rule) stm.now self.old }
+        requires comes { Comes op (place_of self.old) }
+        requires plain { is_call op ≡ false }
+        ensures turned { Turned (K.good stm.now.rule) stm.now MaySay self.old result self.new }
     {
         match operate(stm, &mut self.desc, &self.regions, op, &mut self.out) {
             Ok(reply) => {
@@ -251,7 +289,7 @@ impl<'a, K: MemRule> Worker<'a, K> {
                 Said::Reply(op, reply)
             }
             Err(stop) => {
-                self.give_up();
+                self.stop(stop);
                 Said::Stopped(op, stop)
             }
         }
@@ -259,10 +297,9 @@ impl<'a, K: MemRule> Worker<'a, K> {
 
     /// Cancels the open attempt, or where it can't be, goes on.
     fn cancel(&mut self, stm: &Stm<K>) -> Cancel
-        requires sound { Sound (K.good stm.now.rule) stm.now.table.shared.table_id stm.now.config stm.now.rule self.old }
-        requires inside { self.old.phase ≡ Phase.Inside }
-        requires next { Next Op.Cancel self.old.operations_left.now }
-        ensures turned { Turned (K.good stm.now.rule) stm.now.table.shared.table_id stm.now.config stm.now.rule MaySay self.old (Said.TryCancel result) self.new }
+        requires sound { Sound (K.good stm.now.rule) stm.now self.old }
+        requires comes { Comes Op.Cancel (place_of self.old) }
+        ensures turned { Turned (K.good stm.now.rule) stm.now MaySay self.old (Said.TryCancel result) self.new }
     {
         match cancel(&mut self.desc, stm) {
             Cancel::Cancelled { time } => {
@@ -278,12 +315,58 @@ impl<'a, K: MemRule> Worker<'a, K> {
         }
     }
 
+    /// Asks that the open attempt becomes irrevocable: because it must (`forced`), or by the operation `irrev`,
+    /// which then is done. Where another caller has the gate the attempt is cancelled, to begin anew.
+    fn become_irrevocable(&mut self, stm: &Stm<K>, forced: bool) -> Irrev
+        requires sound { Sound (K.good stm.now.rule) stm.now self.old }
+        requires inside { self.old.phase ≡ Phase.Inside }
+        requires forced { forced ≡ is_forced (place_of self.old) }
+        requires asked { forced ≡ false → Next Op.Irrev self.old.operations_left.now }
+        ensures turned { Turned (K.good stm.now.rule) stm.now MaySay self.old (Said.TryIrrevocable result) self.new }
+    {
+        match try_irrevocable(&mut self.desc, stm) {
+            Irrev::Granted => {
+                self.take_grant(forced);
+                Irrev::Granted
+            }
+            Irrev::Busy { caller, status } => Irrev::Busy { caller, status },
+            Irrev::Taken { gate } => {
+                cancel(&mut self.desc, stm);
+                self.make_way();
+                Irrev::Taken { gate }
+            }
+            Irrev::Conflict(cause) => {
+                self.make_way();
+                Irrev::Conflict(cause)
+            }
+            Irrev::ClockFull { clock } => {
+                self.give_up();
+                Irrev::ClockFull { clock }
+            }
+        }
+    }
+
+    /// The open attempt is irrevocable now: where `irrev` asked for it, that operation is done.
+    fn take_grant(&mut self, forced: bool)
+        requires { forced ≡ false → HasRoom self.old.out 1 }
+        ensures { MatchBool forced (self.new ≡ record self.old { granted = true }) (DoneIrrev self.old self.new) }
+    {
+        if forced {
+            self.granted = true;
+        } else {
+            self.out.reply(1);
+            self.operations_left = tail(self.operations_left);
+            self.granted = true;
+        }
+    }
+
     /// Commits the open attempt, all of whose operations are done.
     fn commit<G: Turnstile>(&mut self, stm: &Stm<K>, turnstile: &G) -> Commit
-        requires sound { Sound (K.good stm.now.rule) stm.now.table.shared.table_id stm.now.config stm.now.rule self.old }
+        requires sound { Sound (K.good stm.now.rule) stm.now self.old }
         requires inside { self.old.phase ≡ Phase.Inside }
+        requires unforced { is_forced (place_of self.old) ≡ false }
         requires over { self.old.operations_left.now ≡ [] }
-        ensures turned { Turned (K.good stm.now.rule) stm.now.table.shared.table_id stm.now.config stm.now.rule MaySay self.old (Said.TryCommit result) self.new }
+        ensures turned { Turned (K.good stm.now.rule) stm.now MaySay self.old (Said.TryCommit result) self.new }
     {
         self.pass(turnstile);
         self.passed = true;
@@ -298,7 +381,7 @@ impl<'a, K: MemRule> Worker<'a, K> {
             }
             Commit::Again { word, had, now } => Commit::Again { word, had, now },
             Commit::Conflict(cause) => {
-                self.give_up();
+                self.make_way();
                 Commit::Conflict(cause)
             }
             Commit::ClockFull { clock } => {
@@ -317,10 +400,10 @@ impl<'a, K: MemRule> Worker<'a, K> {
 
     /// Tries to close the gate for the next switch.
     fn close(&mut self, stm: &Stm<K>) -> CloseGate
-        requires sound { Sound (K.good stm.now.rule) stm.now.table.shared.table_id stm.now.config stm.now.rule self.old }
+        requires sound { Sound (K.good stm.now.rule) stm.now self.old }
         requires between { self.old.phase ≡ Phase.Between }
         requires here { BeforeSwitch self.old.items_left.now }
-        ensures turned { Turned (K.good stm.now.rule) stm.now.table.shared.table_id stm.now.config stm.now.rule MaySay self.old (Said.TryClose result) self.new }
+        ensures turned { Turned (K.good stm.now.rule) stm.now MaySay self.old (Said.TryClose result) self.new }
     {
         match close_gate(&mut self.desc, stm) {
             CloseGate::Closed => {
@@ -333,9 +416,9 @@ impl<'a, K: MemRule> Worker<'a, K> {
 
     /// Looks whether the others are idle.
     fn look(&mut self, stm: &Stm<K>) -> Look
-        requires sound { Sound (K.good stm.now.rule) stm.now.table.shared.table_id stm.now.config stm.now.rule self.old }
+        requires sound { Sound (K.good stm.now.rule) stm.now self.old }
         requires closing { self.old.phase ≡ Phase.Closing }
-        ensures turned { Turned (K.good stm.now.rule) stm.now.table.shared.table_id stm.now.config stm.now.rule MaySay self.old (Said.Looked result) self.new }
+        ensures turned { Turned (K.good stm.now.rule) stm.now MaySay self.old (Said.Looked result) self.new }
     {
         match look(&mut self.desc, stm) {
             Look::Quiet => {
@@ -348,10 +431,10 @@ impl<'a, K: MemRule> Worker<'a, K> {
 
     /// Installs the algorithm, and opens the gate again.
     fn install(&mut self, stm: &Stm<K>, alg: Alg)
-        requires sound { Sound (K.good stm.now.rule) stm.now.table.shared.table_id stm.now.config stm.now.rule self.old }
+        requires sound { Sound (K.good stm.now.rule) stm.now self.old }
         requires quiet { self.old.phase ≡ Phase.Quiet }
         requires to { SwitchesTo alg self.old.items_left.now }
-        ensures turned { Turned (K.good stm.now.rule) stm.now.table.shared.table_id stm.now.config stm.now.rule MaySay self.old (Said.Installed alg) self.new }
+        ensures turned { Turned (K.good stm.now.rule) stm.now MaySay self.old (Said.Installed alg) self.new }
     {
         install(&mut self.desc, stm, alg);
         reopen(&mut self.desc, stm);
@@ -381,12 +464,43 @@ impl<'a, K: MemRule> Worker<'a, K> {
             emits,
         });
         self.items_left = tail(self.items_left);
+        self.failed = 0;
+        self.must = false;
         self.phase = Phase::Between;
+    }
+
+    /// The attempt has ended without a row, by this stop. A log that was too short for it will be so again, so
+    /// that the next attempt must become irrevocable.
+    fn stop(&mut self, stop: Stop)
+        requires { IsCounted self.old.failed self.old.must }
+        ensures { self.new ≡ stopped_by stop self.old }
+    {
+        match stop {
+            Stop::Conflict(_) => self.make_way(),
+            Stop::Full { .. } => {
+                self.give_up();
+                self.must = true;
+            }
+            Stop::ClockFull { .. } => self.give_up(),
+        }
+    }
+
+    /// The attempt has ended without a row, since another caller was in its way. After so many the next one must
+    /// become irrevocable.
+    fn make_way(&mut self)
+        requires { IsCounted self.old.failed self.old.must }
+        ensures { self.new ≡ made_way self.old }
+    {
+        self.give_up();
+        if !self.must {
+            self.failed += 1;
+            self.must = self.failed >= MOST_FAILED;
+        }
     }
 
     /// The attempt has ended without a row: its script is still to do.
     fn give_up(&mut self)
-        ensures { self.new ≡ record self.old { phase = Phase.Between; out = record self.old.out { replies = []; emits = [] } } }
+        ensures { self.new ≡ gave_up self.old }
     {
         self.phase = Phase::Between;
         self.out.clear();
@@ -395,9 +509,9 @@ impl<'a, K: MemRule> Worker<'a, K> {
     /// Once the schedule is over: cancels the open attempt, and returns whether it could be; else nothing
     /// has changed.
     pub(crate) fn drop_attempt(&mut self, stm: &Stm<K>) -> bool
-        requires sound { Sound (K.good stm.now.rule) stm.now.table.shared.table_id stm.now.config stm.now.rule self.old }
+        requires sound { Sound (K.good stm.now.rule) stm.now self.old }
         requires inside { self.old.phase ≡ Phase.Inside }
-        ensures { MatchBool result (Turned (K.good stm.now.rule) stm.now.table.shared.table_id stm.now.config stm.now.rule MayWind self.old Said.Dropped self.new) (Refused (K.good stm.now.rule) stm.now.table.shared.table_id stm.now.config stm.now.rule self.old self.new) }
+        ensures { MatchBool result (Turned (K.good stm.now.rule) stm.now MayWind self.old Said.Dropped self.new) (Refused (K.good stm.now.rule) stm.now self.old self.new) }
     {
         match cancel(&mut self.desc, stm) {
             Cancel::Cancelled { time: _ } => {
@@ -410,9 +524,9 @@ impl<'a, K: MemRule> Worker<'a, K> {
 
     /// Once the schedule is over: gives the closing up, and opens the gate again.
     pub(crate) fn open_again(&mut self, stm: &Stm<K>)
-        requires sound { Sound (K.good stm.now.rule) stm.now.table.shared.table_id stm.now.config stm.now.rule self.old }
+        requires sound { Sound (K.good stm.now.rule) stm.now self.old }
         requires closing { (self.old.phase ≡ Phase.Closing) ⊎ (self.old.phase ≡ Phase.Quiet) }
-        ensures turned { Turned (K.good stm.now.rule) stm.now.table.shared.table_id stm.now.config stm.now.rule MayWind self.old Said.Reopened self.new }
+        ensures turned { Turned (K.good stm.now.rule) stm.now MayWind self.old Said.Reopened self.new }
     {
         reopen(&mut self.desc, stm);
         self.phase = Phase::Between;

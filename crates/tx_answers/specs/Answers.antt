@@ -1,20 +1,18 @@
 -- When each answer comes, and what stands after it.
-use Rattle.std.specs.Prelude.{ℕ, ◌≡◌, ◌≢◌, ◌<◌, ◌≤◌, ◌+◌, ◌%◌, ◌^◌, ◌⊎◌, ◌==◌, ◌&&◌, leb, not, Option, Some, None, Bool, true, false, List, [], ◌∷◌, ◌++◌, length}
+use Rattle.std.specs.Prelude.{ℕ, ◌≡◌, ◌≢◌, ◌<◌, ◌≤◌, ◌+◌, ◌%◌, ◌^◌, ◌⊎◌, max, min, Option, Some, None, Bool, true, false, List, [], ◌∷◌, ◌++◌, length}
+use Rattle.stm_model.specs.Algorithms.{is_built, has_ring, asks_at_begin, asks_at_write, asks_at_commit, asks_at_grant, closes_gate, entry_rise, quit_rise, install_rise}
 use Rattle.stm_model.specs.declared.alg.Alg.{Alg}
 use Rattle.stm_model.specs.declared.alg.Alg.TheVariants.{Cgl, Tml, OrecLazy, OrecEager, RingSw, Serial}
-use Rattle.stm_model.specs.declared.stop.Cause.{Cause}
-use Rattle.stm_model.specs.declared.stop.Cause.TheVariants as causes
+use Rattle.stm_model.specs.declared.config.Config.{Config}
 use Rattle.stm_model.specs.declared.stop.Stop.{Stop}
 use Rattle.stm_model.specs.declared.stop.Stop.TheVariants as stops
 use Rattle.stm_model.specs.Histories.{Entry, memory_at, IsLegal}
 use Rattle.stm_model.specs.Logs.{Log, Reads, Writes, IsExplained, Sees, Keeps}
-use Rattle.stm_model.specs.Memories.{is_empty}
-use Rattle.rule_base.specs.declared.layout.At.TheVariants.{Clock, Lock, Gate, Status, Record}
-use Rattle.rule_base.specs.declared.layout.Config.{Config}
-use Rattle.rule_base.specs.declared.layout.TheConstants.{CLOCK_LIMIT}
+use Rattle.rule_base.specs.declared.layout.At.{At}
+use Rattle.rule_base.specs.declared.layout.At.TheVariants.{Clock, Lock, Gate, Done, Status}
 use Rattle.rule_base.specs.declared.views.Phase.TheVariants.{Closing}
 use Rattle.rule_base.specs.declared.views.TrailItem.{TrailItem}
-use Rattle.rule_base.specs.Encodings.{holder_of, alg_of, has_records}
+use Rattle.rule_base.specs.Encodings.{holder_of, alg_of}
 use Rattle.rule_base.specs.History.{member}
 use Rattle.tx_answers.specs.declared.answers.Begin.{Begin}
 use Rattle.tx_answers.specs.declared.answers.Begin.TheVariants.{Begun, Closed, Held, ClockFull}
@@ -24,41 +22,21 @@ use Rattle.tx_answers.specs.declared.answers.CloseGate.{CloseGate}
 use Rattle.tx_answers.specs.declared.answers.CloseGate.TheVariants as gates
 use Rattle.tx_answers.specs.declared.answers.Commit.{Commit}
 use Rattle.tx_answers.specs.declared.answers.Commit.TheVariants.{Committed, ReadOnly, Conflict, Again, ClockFull}
+use Rattle.tx_answers.specs.declared.answers.Irrev.{Irrev}
+use Rattle.tx_answers.specs.declared.answers.Irrev.TheVariants as grants
 use Rattle.tx_answers.specs.declared.answers.Look.{Look}
-use Rattle.tx_answers.specs.declared.answers.Look.TheVariants.{Quiet, Busy}
+use Rattle.tx_answers.specs.declared.answers.Look.TheVariants as looks
 use Rattle.tx_answers.specs.declared.answers.Read.{Read}
 use Rattle.tx_answers.specs.declared.answers.Read.TheVariants.{Value, Conflict, Full}
 use Rattle.tx_answers.specs.declared.answers.Write.{Write}
 use Rattle.tx_answers.specs.declared.answers.Write.TheVariants.{Done, Conflict, Full, ClockFull}
-use Rattle.tx_answers.specs.Known.{Known, Grows, Found, IsIdle, is_offered, is_irrevocable, no_log, zeros}
+use Rattle.tx_answers.specs.Causes.{FindsFull, NamesOther, Conflicts, IsAgain, reads_full, writes_full}
+use Rattle.tx_answers.specs.Evidence.{Found}
+use Rattle.tx_answers.specs.Known.{Known, Grows, IsIdle, is_irrevocable, wrote, no_log, zeros}
 
 -- the entry that a commit makes of the log: the caller has made this many before
 abbrev pub entry : ℕ → ℕ → ℕ → Log → Entry
 entry time caller number l = record { time = time; caller = caller; number = number; reads = l.reads; writes = l.writes }
-
--- by how much a committed attempt raises the clock
-abbrev pub entry_rise : Alg → ℕ
-entry_rise Cgl = 1
-entry_rise Tml = 2
-entry_rise OrecLazy = 1
-entry_rise OrecEager = 1
-entry_rise RingSw = 1
-entry_rise Serial = 1
-
--- by how much an install may raise the clock: TML begins at an even one
-abbrev pub install_rise : Alg → ℕ
-install_rise Cgl = 0
-install_rise Tml = 1
-install_rise OrecLazy = 0
-install_rise OrecEager = 0
-install_rise RingSw = 0
-install_rise Serial = 0
-
--- the clock was found at its limit
-pub record FindsFull (clock : ℕ) (v w : Known) : Type 0 where
-  pub limit : CLOCK_LIMIT ≤ clock
-  pub found : Found Clock clock v w
-  pub top : clock ≤ w.top
 
 -- nothing began
 pub record Stays (v w : Known) : Type 0 where
@@ -68,19 +46,53 @@ pub record Stays (v w : Known) : Type 0 where
   pub rises : w.rises ≡ v.rises
   pub installs : w.installs ≡ v.installs
 
--- the attempt stays open
-pub record GoesOn (v w : Known) : Type 0 where
+-- where a start is loaded
+abbrev pub start_word : Alg → At
+start_word Cgl = Clock
+start_word Tml = Clock
+start_word OrecLazy = Clock
+start_word OrecEager = Clock
+start_word RingSw = Done
+start_word Serial = Clock
+
+-- how a start may move in a call: not at all; to a clock that was loaded and up to which all reads are valid; up to DONE, within the clock
+abbrev pub StartMoves : Alg → Known → Known → Type 0
+StartMoves Cgl v w = w.start ≡ v.start
+StartMoves Tml v w = w.start ≡ v.start
+StartMoves OrecLazy v w = (w.start ≡ v.start) ⊎ Found Clock w.start v w
+StartMoves OrecEager v w = (w.start ≡ v.start) ⊎ Found Clock w.start v w
+StartMoves RingSw v w = (w.start ≡ v.start) ⊎ ((clock done : ℕ) × Found Clock clock v w × Found Done done v w × (w.start ≡ max v.start (min done clock)))
+StartMoves Serial v w = w.start ≡ v.start
+
+-- by how much at most a call raises the clock that leaves the attempt open: TML's first write makes it odd, and the attempt irrevocable
+abbrev pub write_rise : Alg → Bool → ℕ
+write_rise Cgl sure = 0
+write_rise Tml true = 0
+write_rise Tml false = 1
+write_rise OrecLazy sure = 0
+write_rise OrecEager sure = 0
+write_rise RingSw sure = 0
+write_rise Serial sure = 0
+
+-- the attempt stays open, with or without the gate
+pub record Continues (v w : Known) : Type 0 where
   pub running : w.running ≡ true
   pub closing : w.closing ≡ false
   pub made : w.made ≡ v.made
   pub grows : Grows v w
   pub alg : w.alg ≡ v.alg
+  pub base : w.base ≡ v.base
+  pub rises : (v.rises ≤ w.rises) × (w.rises ≤ v.rises + write_rise v.alg (is_irrevocable v))
+  pub later : v.start ≤ w.start
+  pub installs : w.installs ≡ v.installs
+
+-- the attempt stays open, and as it was toward the others
+pub record GoesOn (v w : Known) : Type 0 where
+  pub continues : Continues v w
+  pub start : StartMoves v.alg v w
   pub granted : w.granted ≡ v.granted
   pub holds : w.holds ≡ v.holds
-  pub base : w.base ≡ v.base
-  pub rises : w.rises ≡ v.rises
-  pub start : v.start ≤ w.start
-  pub installs : w.installs ≡ v.installs
+  pub checked : w.checked ≡ v.checked
 
 -- the caller holds the gate that it closed, and is in no attempt
 pub record HoldsClosed (w : Known) : Type 0 where
@@ -102,55 +114,26 @@ abbrev pub OfUnseen : List ℕ → List TrailItem → Type 0
 OfUnseen checked [] = Unit {0}
 OfUnseen checked (i ∷ is) = ((k : ℕ) × (i.place ≡ Status k) × (member checked k ≡ false)) × OfUnseen checked is
 
--- the attempt ended
+-- the attempt ended, and the gate is not held
 pub record Ends (v w : Known) : Type 0 where
   pub idle : IsIdle w
   pub grows : Grows v w
-  pub pays : w.rises ≤ v.base + 2
+  pub alg : w.alg ≡ v.alg
+  pub base : w.base ≡ v.base
   pub installs : w.installs ≡ v.installs
 
--- the attempt ended and made no entry
+-- the attempt ended and made no entry, by a refusal: once irrevocable, it is not refused
 pub record Quits (v w : Known) : Type 0 where
   pub ends : Ends v w
   pub made : w.made ≡ v.made
-  pub rises : w.rises ≤ v.base + 1
-  pub closing : w.closing ≡ v.closing
-  pub alg : w.alg ≡ v.alg
-  pub granted : w.granted ≡ v.granted
-  pub base : w.base ≡ v.base
-  -- once irrevocable, an attempt is not refused
+  pub rises : (v.base ≤ w.rises) × (w.rises ≤ v.base + quit_rise v.alg (wrote v))
   pub revocable : is_irrevocable v ≡ false
-
--- why another transaction came in between
-abbrev pub Conflicts : Cause → Known → Known → Type 0
-Conflicts (causes.Clock had now) v w = (v.alg ≡ Tml) × (had ≡ v.start) × (had ≢ now) × Found Clock now v w
-Conflicts (causes.Record index word start) v w = (has_records v.alg ≡ true) × Found (Record index) word v w
-Conflicts (causes.Moved index before after) v w = (has_records v.alg ≡ true) × (before ≢ after) × Found (Record index) before v w × Found (Record index) after v w
-Conflicts (causes.Filter time bits) v w = (v.alg ≡ RingSw) × (v.start < time) × (bits ≢ 0)
-Conflicts (causes.Overrun start clock) v w = (v.alg ≡ RingSw) × Found Clock clock v w
-
--- what the numbers of a Stop say by themselves
-abbrev pub is_fair : Known → Option Stop → Bool
-is_fair v None = true
-is_fair v (Some (stops.Conflict (causes.Clock had now))) = not (had == now)
-is_fair v (Some (stops.Conflict (causes.Record index word start))) = true
-is_fair v (Some (stops.Conflict (causes.Moved index before after))) = not (before == after)
-is_fair v (Some (stops.Conflict (causes.Filter time bits))) = not (bits == 0)
-is_fair v (Some (stops.Conflict (causes.Overrun start clock))) = true
-is_fair v (Some (stops.Full limit)) = true
-is_fair v (Some (stops.ClockFull clock)) = leb CLOCK_LIMIT clock && leb clock v.top
-
--- another commit was faster: at the clock, or at the lock
-abbrev pub IsAgain : ℕ → ℕ → ℕ → Known → Known → Type 0
-IsAgain word had now v w =
-    ((word ≡ 0) × (has_records v.alg ≡ true) × (had ≢ now) × Found Clock now v w)
-    ⊎ ((word ≡ 1) × (v.alg ≡ RingSw) × (now ≢ 0) × Found Lock now v w)
 
 -- good is what the user keeps true of memory; c is the memory's configuration, and n the caller
 module _ (good : List ℕ → Type 0) (c : Config) (n : ℕ) where
-  -- the number, where it isn't 0, names another caller
-  abbrev pub NamesOther : ℕ → Type 0
-  NamesOther x = (k : ℕ) × (k < c.callers) × (k ≢ n) × (x ≡ 1 + k)
+  -- with one caller alone there is nobody in the way
+  abbrev pub HasOthers : Type 0
+  HasOthers = 1 < c.callers
 
   -- it has read only the memory at its start, after what it has seen, which is a legal history; and a good memory explains what it read
   pub record IsOpaque (w : Known) : Type 0 where
@@ -160,63 +143,75 @@ module _ (good : List ℕ → Type 0) (c : Config) (n : ℕ) where
     pub kept : good (memory_at w.start w.seen (zeros c.words))
     pub explained : IsExplained good c.words w.log
 
-  -- an attempt is under way, with a start not before anything that was seen
+  -- the gate was loaded open, under this algorithm
+  abbrev pub FindsOpen : Alg → Known → Known → Type 0
+  FindsOpen alg v w = (word : ℕ) × Found Gate word v w × (holder_of word ≡ 0) × (alg_of word ≡ alg)
+
+  -- an attempt is under way, with a start that was loaded, not before anything that was seen
   pub record BeginsAt (alg : Alg) (v w : Known) : Type 0 where
     pub running : w.running ≡ true
+    pub committing : w.committing ≡ false
     pub closing : w.closing ≡ false
     pub made : w.made ≡ v.made
     pub grows : Grows v w
+    pub gate : FindsOpen alg v w
+    pub named : w.alg ≡ alg
+    pub built : is_built alg ≡ true
+    pub start : Found (start_word alg) w.start v w
     pub fresh : v.front ≤ w.start
     pub log : w.log ≡ no_log
     pub opaque : IsOpaque w
-    pub named : w.alg ≡ alg
-    pub offered : is_offered alg ≡ true
     pub granted : w.granted ≡ false
     pub holds : w.holds ≡ false
     pub rises : w.rises ≡ v.rises
     pub base : w.base ≡ v.rises
     pub installs : w.installs ≡ v.installs
-    -- the gate was loaded open, under this algorithm
-    pub gate : (word : ℕ) × Found Gate word v w × (holder_of word ≡ 0) × (alg_of word ≡ alg)
 
   -- another caller has the lock, or under TML the clock
   abbrev pub IsHeld : Alg → ℕ → Known → Known → Type 0
-  IsHeld Cgl word v w = Found Lock word v w × NamesOther word
+  IsHeld Cgl word v w = Found Lock word v w × NamesOther c n word
   IsHeld Tml word v w = Found Clock word v w × (word % 2 ≡ 1)
   IsHeld OrecLazy word v w = ⊥
   IsHeld OrecEager word v w = ⊥
   IsHeld RingSw word v w = ⊥
-  IsHeld Serial word v w = Found Lock word v w × NamesOther word
+  IsHeld Serial word v w = Found Lock word v w × NamesOther c n word
 
-  -- what `try_begin` tells. One caller alone is never refused for another
+  -- what `try_begin` tells
   abbrev pub Begins : Begin → Known → Known → Type 0
   Begins (Begun alg) v w = BeginsAt alg v w
-  Begins (Closed gate) v w = Stays v w × Found Gate gate v w × NamesOther (holder_of gate) × (1 < c.callers)
-  Begins (Held word) v w = Stays v w × (0 < word) × IsHeld w.alg word v w × (1 < c.callers)
-  Begins (ClockFull clock) v w = Stays v w × FindsFull clock v w × (w.alg ≡ Cgl)
+  Begins (Closed gate) v w = Stays v w × Found Gate gate v w × NamesOther c n (holder_of gate) × HasOthers
+  Begins (Held word) v w = Stays v w × FindsOpen w.alg v w × (0 < word) × IsHeld w.alg word v w × HasOthers
+  Begins (ClockFull clock) v w = Stays v w × FindsOpen w.alg v w × (asks_at_begin w.alg ≡ true) × FindsFull clock v w
 
-  -- what `read` of a tells
+  -- a read or a write of a ended the attempt by this stop
+  abbrev pub Stops : ℕ → Stop → Known → Known → Type 0
+  Stops a (stops.Conflict cause) v w = Quits v w × Conflicts c n (Some a) cause v w × HasOthers
+  Stops a (stops.Full limit) v w =
+      Quits v w × (((reads_full a v ≡ true) × (limit ≡ v.reads_limit)) ⊎ ((writes_full a v ≡ true) × (limit ≡ v.writes_limit)))
+  Stops a (stops.ClockFull clock) v w = Quits v w × (asks_at_write v.alg ≡ true) × FindsFull clock v w
+
+  -- what `read` of a tells: Full comes exactly where the log needs room that it hasn't
   abbrev pub HasRead : ℕ → Read → Known → Known → Type 0
-  HasRead a (Value x) v w = GoesOn v w × Reads v.log a x w.log × (x < 2 ^ 64) × IsOpaque w
-  HasRead a (Conflict cause) v w = Quits v w × Conflicts cause v w × (1 < c.callers)
-  HasRead a (Full limit) v w = Quits v w
+  HasRead a (Value x) v w = GoesOn v w × (w.committing ≡ false) × Reads v.log a x w.log × (x < 2 ^ 64) × IsOpaque w × (reads_full a v ≡ false)
+  HasRead a (Conflict cause) v w = Quits v w × Conflicts c n (Some a) cause v w × HasOthers × (reads_full a v ≡ false)
+  HasRead a (Full limit) v w = Quits v w × (reads_full a v ≡ true) × (limit ≡ v.reads_limit)
 
   -- what `write` of x at a tells
   abbrev pub HasWritten : ℕ → ℕ → Write → Known → Known → Type 0
-  HasWritten a x Done v w = GoesOn v w × Writes v.log a x w.log × IsOpaque w
-  HasWritten a x (Conflict cause) v w = Quits v w × Conflicts cause v w × (1 < c.callers)
-  HasWritten a x (Full limit) v w = Quits v w
-  HasWritten a x (ClockFull clock) v w = Quits v w × FindsFull clock v w
+  HasWritten a x Done v w = GoesOn v w × (w.committing ≡ false) × Writes v.log a x w.log × IsOpaque w × (writes_full a v ≡ false)
+  HasWritten a x (Conflict cause) v w = Quits v w × Conflicts c n (Some a) cause v w × HasOthers × (writes_full a v ≡ false)
+  HasWritten a x (Full limit) v w = Quits v w × (writes_full a v ≡ true) × (limit ≡ v.writes_limit)
+  HasWritten a x (ClockFull clock) v w = Quits v w × (asks_at_write v.alg ≡ true) × FindsFull clock v w × (writes_full a v ≡ false)
 
   -- what `commit` asks: an attempt that wrote keeps the user's rule
   abbrev pub KeepsRule : Known → Type 0
-  KeepsRule v = is_empty v.log.writes ≡ false → Keeps good c.words v.log
+  KeepsRule v = wrote v ≡ true → Keeps good c.words v.log
 
   -- the attempt ended with one entry more, the latest of a legal history
   pub record CommitsAt (time : ℕ) (v w : Known) : Type 0 where
     pub ends : Ends v w
     pub rises : w.rises ≡ v.base + entry_rise v.alg
-    pub wrote : is_empty v.log.writes ≡ false
+    pub wrote : wrote v ≡ true
     pub made : w.made ≡ v.made ++ entry time n (length v.made) v.log ∷ []
     pub before : List Entry
     pub seen : w.seen ≡ before ++ entry time n (length v.made) v.log ∷ []
@@ -237,19 +232,59 @@ module _ (good : List ℕ → Type 0) (c : Config) (n : ℕ) where
   -- what `commit` tells
   abbrev pub Commits : Commit → Known → Known → Type 0
   Commits (Committed time) v w = CommitsAt time v w
-  Commits (ReadOnly time) v w = EndsAt time v w × (w.rises ≡ v.base) × (is_empty v.log.writes ≡ true)
-  Commits (Conflict cause) v w = Quits v w × Conflicts cause v w × (1 < c.callers)
-  Commits (Again word had now) v w = GoesOn v w × (w.log ≡ v.log) × IsOpaque w × IsAgain word had now v w × (1 < c.callers)
-  Commits (ClockFull clock) v w = Quits v w × FindsFull clock v w
+  Commits (ReadOnly time) v w = EndsAt time v w × (w.rises ≡ v.base) × (wrote v ≡ false)
+  Commits (Conflict cause) v w = Quits v w × Conflicts c n None cause v w × HasOthers × (wrote v ≡ true)
+  Commits (Again word had now) v w =
+      GoesOn v w × (w.committing ≡ true) × (w.log ≡ v.log) × IsOpaque w × IsAgain c n word had now v w × HasOthers × (is_irrevocable v ≡ false) × (wrote v ≡ true)
+  Commits (ClockFull clock) v w = Quits v w × (asks_at_commit v.alg ≡ true) × (wrote v ≡ true) × FindsFull clock v w
 
   -- what `cancel` tells
   abbrev pub Cancels : Cancel → Known → Known → Type 0
-  Cancels (Cancelled time) v w = EndsAt time v w × (w.rises ≤ v.base + 1) × (is_irrevocable v ≡ false)
+  Cancels (Cancelled time) v w = EndsAt time v w × (v.base ≤ w.rises) × (w.rises ≤ v.base + quit_rise v.alg (wrote v)) × (is_irrevocable v ≡ false)
   Cancels Irrevocable v w = (w ≡ v) × (is_irrevocable v ≡ true)
 
   -- all callers but this one were seen idle since it closed the gate
   abbrev pub SeesQuiet : Known → Type 0
   SeesQuiet w = (k : ℕ) → k < c.callers → k ≢ n → member w.checked k ≡ true
+
+  -- another caller was not idle, and all before it are seen
+  pub record IsBusy (k status : ℕ) (v w : Known) : Type 0 where
+    pub other : (k < c.callers) × (k ≢ n) × (1 < c.callers)
+    pub announced : 0 < status
+    pub found : Found (Status k) status v w
+    pub before : (j : ℕ) → j < k → j ≢ n → member w.checked j ≡ true
+
+  -- the attempt is irrevocable now: it was so before, and nothing changed; or its start is the clock, and but under Serial it has closed the gate and is alone
+  pub record BecomesSure (v w : Known) : Type 0 where
+    pub continues : Continues v w
+    pub still : w.rises ≡ v.rises
+    pub uncommitted : w.committing ≡ false
+    pub log : w.log ≡ v.log
+    pub sure : is_irrevocable w ≡ true
+    pub opaque : IsOpaque w
+    pub before : is_irrevocable v ≡ true → w ≡ v
+    pub now : is_irrevocable v ≡ false → (w.granted ≡ true) × Found Clock w.start v w
+    pub alone : is_irrevocable v ≡ false → closes_gate v.alg ≡ true → (w.holds ≡ true) × SeesQuiet w
+
+  -- the attempt goes on as it was, but for the gate and who was seen idle
+  pub record Waits (v w : Known) : Type 0 where
+    pub continues : Continues v w
+    pub still : w.rises ≡ v.rises
+    pub uncommitted : w.committing ≡ false
+    pub start : w.start ≡ v.start
+    pub log : w.log ≡ v.log
+    pub opaque : IsOpaque w
+    pub granted : w.granted ≡ v.granted
+    pub revocable : is_irrevocable v ≡ false
+    pub closes : closes_gate v.alg ≡ true
+
+  -- what `try_irrevocable` tells
+  abbrev pub Irrevs : Irrev → Known → Known → Type 0
+  Irrevs grants.Granted v w = BecomesSure v w
+  Irrevs (grants.Busy caller status) v w = Waits v w × (w.holds ≡ true) × IsBusy caller status v w
+  Irrevs (grants.Taken gate) v w = Waits v w × (w.holds ≡ v.holds) × (w.checked ≡ v.checked) × Found Gate gate v w × NamesOther c n (holder_of gate) × HasOthers
+  Irrevs (grants.Conflict cause) v w = Quits v w × Conflicts c n None cause v w × HasOthers
+  Irrevs (grants.ClockFull clock) v w = Quits v w × (asks_at_grant v.alg ≡ true) × FindsFull clock v w
 
   -- the gate was loaded open, and is closed; nobody is seen yet
   pub record ClosesGate (v w : Known) : Type 0 where
@@ -260,13 +295,13 @@ module _ (good : List ℕ → Type 0) (c : Config) (n : ℕ) where
     pub unsettled : w.settled ≡ false
     pub rises : w.rises ≡ v.rises
     pub installs : w.installs ≡ v.installs
-    pub gate : (word : ℕ) × Found Gate word v w × (holder_of word ≡ 0) × (alg_of word ≡ w.alg)
-    pub offered : is_offered w.alg ≡ true
+    pub gate : FindsOpen w.alg v w
+    pub built : is_built w.alg ≡ true
 
-  -- what `close_gate` tells. One caller alone is never refused for another
+  -- what `close_gate` tells
   abbrev pub Closes : CloseGate → Known → Known → Type 0
   Closes gates.Closed v w = ClosesGate v w
-  Closes (gates.Taken gate) v w = Stays v w × Found Gate gate v w × NamesOther (holder_of gate) × (1 < c.callers)
+  Closes (gates.Taken gate) v w = Stays v w × Found Gate gate v w × NamesOther c n (holder_of gate) × HasOthers
 
   -- what a look leaves alone: it goes on where the last one stopped
   pub record Looked (v w : Known) : Type 0 where
@@ -277,17 +312,10 @@ module _ (good : List ℕ → Type 0) (c : Config) (n : ℕ) where
     pub rises : w.rises ≡ v.rises
     pub installs : w.installs ≡ v.installs
 
-  -- another caller was not idle, and all before it are seen
-  pub record IsBusy (k status : ℕ) (v w : Known) : Type 0 where
-    pub other : (k < c.callers) × (k ≢ n) × (1 < c.callers)
-    pub announced : 0 < status
-    pub found : Found (Status k) status v w
-    pub before : (j : ℕ) → j < k → j ≢ n → member w.checked j ≡ true
-
   -- what `look` tells
   abbrev pub Looks : Look → Known → Known → Type 0
-  Looks Quiet v w = Looked v w × SeesQuiet w
-  Looks (Busy caller status) v w = Looked v w × IsBusy caller status v w
+  Looks looks.Quiet v w = Looked v w × SeesQuiet w
+  Looks (looks.Busy caller status) v w = Looked v w × IsBusy caller status v w
 
   -- what `install` does: the gate stays closed, under this algorithm, with BASE and DONE at the clock
   pub record Installs (alg : Alg) (v w : Known) : Type 0 where
@@ -295,10 +323,9 @@ module _ (good : List ℕ → Type 0) (c : Config) (n : ℕ) where
     pub quiet : SeesQuiet w
     pub settled : w.settled ≡ true
     pub named : w.alg ≡ alg
-    pub rises : w.rises ≤ v.rises + install_rise alg
+    pub rises : (v.rises ≤ w.rises) × (w.rises ≤ v.rises + install_rise alg)
     pub installs : w.installs ≡ v.installs ++ alg ∷ []
 
   -- what `reopen` does
-  pub record Reopens (v w : Known) : Type 0 where
-    pub stays : Stays v w
-    pub reopened : w.holds ≡ false
+  abbrev pub Reopens : Known → Known → Type 0
+  Reopens v w = Stays v w

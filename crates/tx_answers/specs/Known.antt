@@ -1,5 +1,6 @@
--- What contracts see of a caller: its part in the history, its attempt, and the words that its steps found.
-use Rattle.std.specs.Prelude.{ℕ, ◌≡◌, ◌≤◌, ◌+◌, ◌||◌, ◌&&◌, max, not, Bool, true, false, if◌then◌else◌, List, [], ◌∷◌, ◌++◌, reverse, replicate, Contains, Option, Some, None}
+-- What contracts see of a caller: its part in the history, its attempt, and the steps that it took.
+use Rattle.std.specs.Prelude.{ℕ, ◌≡◌, ◌≤◌, ◌+◌, ◌&&◌, ◌==◌, max, not, Bool, true, false, if◌then◌else◌, List, [], ◌∷◌, ◌++◌, reverse, replicate, Contains, Option, Some, None}
+use Rattle.stm_model.specs.Algorithms.{is_sure}
 use Rattle.stm_model.specs.declared.alg.Alg.{Alg}
 use Rattle.stm_model.specs.declared.alg.Alg.TheVariants.{Cgl, Tml, OrecLazy, OrecEager, RingSw, Serial}
 use Rattle.stm_model.specs.Histories.{Entry, Ascending}
@@ -11,11 +12,13 @@ use Rattle.rule_base.specs.declared.layout.At.TheVariants.{Clock}
 use Rattle.rule_base.specs.declared.seats.Role.{Role}
 use Rattle.rule_base.specs.declared.seats.Role.TheVariants.{Dealer, Caller, Note, Spent}
 use Rattle.rule_base.specs.declared.views.GateView.{GateView}
+use Rattle.rule_base.specs.declared.views.LockView.{LockView}
 use Rattle.rule_base.specs.declared.views.Phase.{Phase}
 use Rattle.rule_base.specs.declared.views.Phase.TheVariants.{Idle, Announced, Turned, Aiming, In, Closing}
 use Rattle.rule_base.specs.declared.views.TrailItem.{TrailItem}
 use Rattle.rule_base.specs.declared.views.View.{View}
 use Rattle.rule_base.specs.Bridge.{items, public_history}
+use Rattle.rule_base.specs.Own.{Own}
 use Rattle.tx_answers.specs.declared.answers.TxState.{TxState}
 use Rattle.tx_answers.specs.declared.answers.TxState.TheVariants as states
 
@@ -25,9 +28,11 @@ pub record Known : Type 0 where
   pub seen : List Entry
   pub front : ℕ
   pub phase : Phase
-  -- in an attempt, or closing the gate; whether it has closed the gate; the algorithm
+  -- in an attempt, and there in the middle of its commit; or closing the gate
   pub running : Bool
+  pub committing : Bool
   pub closing : Bool
+  -- it has closed the gate, to install or to be alone with its attempt
   pub holds : Bool
   pub alg : Alg
   -- the callers that it has seen idle since it closed the gate; and whether it installed since: BASE and DONE are the clock
@@ -40,11 +45,14 @@ pub record Known : Type 0 where
   pub base : ℕ
   -- the greatest clock that it found
   pub top : ℕ
-  -- what its steps found, the latest first
+  -- its steps, the latest first
   pub trail : List TrailItem
   pub installs : List Alg
   pub start : ℕ
   pub log : Log
+  -- how many items its read log, and its write or undo log, may have
+  pub reads_limit : ℕ
+  pub writes_limit : ℕ
 
 abbrev pub is_in : Phase → Bool
 is_in Idle = false
@@ -79,26 +87,50 @@ top_of (i ∷ is) = max (clock_in i.place i.found) (top_of is)
 abbrev pub is_settled : GateView → Bool
 is_settled g = g.calm && g.rebased && g.completed
 
-abbrev pub known_of : View → Known
-known_of v = record {
+-- the grant of an attempt: under Serial its stores can't be taken back any more, under all others it is alone
+abbrev pub granted_under : Alg → GateView → LockView → Bool
+granted_under Cgl gate lock = gate.granted
+granted_under Tml gate lock = gate.granted
+granted_under OrecLazy gate lock = gate.granted
+granted_under OrecEager gate lock = gate.granted
+granted_under RingSw gate lock = gate.granted
+granted_under Serial gate lock = lock.irrevocable
+
+-- what an attempt wrote: it lies in the heap, under a record that it holds, or still with the descriptor; once granted in the heap
+abbrev pub written_under : Alg → Bool → View → Own → List (ℕ × ℕ)
+written_under Cgl granted v own = items v.attempt.stores
+written_under Tml granted v own = items v.attempt.stores
+written_under OrecLazy false v own = items own.buffered
+written_under OrecLazy true v own = items v.attempt.stores
+written_under OrecEager false v own = items v.owned.in_place
+written_under OrecEager true v own = items v.attempt.stores
+written_under RingSw false v own = items own.buffered
+written_under RingSw true v own = items v.attempt.stores
+written_under Serial granted v own = items v.attempt.stores
+
+abbrev pub known_of : View → Own → Known
+known_of v own = record {
   made = public_history v.history.made;
   seen = public_history v.history.seen;
   front = v.history.front;
   phase = v.gate.phase;
   running = is_in v.gate.phase;
+  committing = own.committing;
   closing = is_closing v.gate.phase;
   holds = v.gate.holds;
   alg = v.gate.algorithm;
   checked = v.gate.checked;
   settled = is_settled v.gate;
-  granted = v.gate.granted;
+  granted = granted_under v.gate.algorithm v.gate v.lock;
   rises = v.steps.rises;
   base = v.steps.rises_at_begin;
   top = top_of v.steps.trail;
   trail = v.steps.trail;
   installs = reverse v.steps.installs;
   start = v.attempt.start;
-  log = record { reads = items v.attempt.reads; writes = items v.attempt.stores };
+  log = record { reads = items v.attempt.reads; writes = written_under v.gate.algorithm v.gate.granted v own };
+  reads_limit = own.reads_limit;
+  writes_limit = own.writes_limit;
 }
 
 -- a caller's number
@@ -114,45 +146,36 @@ no_log = record { reads = []; writes = [] }
 abbrev pub zeros : ℕ → List ℕ
 zeros words = replicate words 0
 
+-- in no attempt, and without the gate
 abbrev pub IsIdle : Known → Type 0
-IsIdle v = (v.phase ≡ Idle) × (v.running ≡ false) × (v.closing ≡ false)
+IsIdle v = (v.phase ≡ Idle) × (v.running ≡ false) × (v.closing ≡ false) × (v.holds ≡ false)
+
+-- in an attempt that is not in the middle of its commit
+abbrev pub IsRunning : Known → Type 0
+IsRunning v = (v.running ≡ true) × (v.committing ≡ false)
 
 abbrev pub state_of : Known → TxState
-state_of v = if v.running then states.Running v.alg else (if v.closing then states.Closing v.alg else states.Idle)
+state_of v = if v.running then (if v.committing then states.Committing v.alg else states.Running v.alg) else (if v.closing then states.Closing v.alg else states.Idle)
 
--- the algorithms that are built
-abbrev pub is_offered : Alg → Bool
-is_offered Cgl = true
-is_offered Tml = false
-is_offered OrecLazy = false
-is_offered OrecEager = false
-is_offered RingSw = false
-is_offered Serial = false
-
--- an attempt can't be cancelled: by its algorithm, by a write, or since it was granted
-abbrev pub is_sure : Alg → Bool → Bool → Bool
-is_sure Cgl granted wrote = true
-is_sure Tml granted wrote = granted || wrote
-is_sure OrecLazy granted wrote = granted
-is_sure OrecEager granted wrote = granted
-is_sure RingSw granted wrote = granted
-is_sure Serial granted wrote = granted
+-- the attempt wrote something
+abbrev pub wrote : Known → Bool
+wrote v = not (is_empty v.log.writes)
 
 abbrev pub is_irrevocable : Known → Bool
-is_irrevocable v = is_sure v.alg v.granted (not (is_empty v.log.writes))
+is_irrevocable v = is_sure v.alg v.granted (wrote v)
 
 -- by how much its steps raised the clock, with what an open attempt may still raise it
 abbrev pub owed : Known → ℕ
 owed v = if v.running then v.base + 2 else v.rises
 
--- it has seen at least as much, up to a later front: what it saw before begins what it sees now
+-- it has seen at least as much, up to a later front: what it saw before begins what it sees now; its trail has grown, and its logs are as long as they were
 pub record Grows (v w : Known) : Type 0 where
   pub later : List Entry
   pub is : w.seen ≡ v.seen ++ later
   pub ascending : Ascending v.front later
   pub up_to : Within w.front later
   pub front_rose : v.front ≤ w.front
-
--- a step between the two found this number at this place
-abbrev pub Found : At → ℕ → Known → Known → Type 0
-Found place n v w = (more : List TrailItem) × (w.trail ≡ more ++ v.trail) × Contains more (record { place = place; found = Some n })
+  pub more : List TrailItem
+  pub trail : w.trail ≡ more ++ v.trail
+  pub reads_limit : w.reads_limit ≡ v.reads_limit
+  pub writes_limit : w.writes_limit ≡ v.writes_limit

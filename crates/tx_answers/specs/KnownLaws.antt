@@ -3,6 +3,7 @@ use Rattle.std.proofs.Common.{ℕ, ◌≡◌, ◌≤◌, ◌+◌, List, [], ◌�
 use Rattle.std.specs.Prelude.{Some, not, ◌==◌, if◌then◌else◌}
 use Rattle.std.proofs.lemmas.Bool.Decides.{nat_tests}
 use Rattle.std.proofs.lemmas.List.{append-nil}
+use Rattle.stm_model.specs.Algorithms.{is_sure, quit_rise}
 use Rattle.stm_model.specs.Histories.{Entry, Ascending}
 use Rattle.stm_model.specs.HistoryLaws.{Within}
 use Rattle.stm_model.specs.Logs.{Log, Writes}
@@ -12,8 +13,16 @@ use Rattle.stm_model.specs.declared.alg.Alg.{Alg}
 use Rattle.stm_model.specs.declared.alg.Alg.TheVariants.{Cgl, Tml, OrecLazy, OrecEager, RingSw, Serial}
 use Rattle.rule_base.specs.declared.views.Phase.{Phase}
 use Rattle.rule_base.specs.declared.views.Phase.TheVariants.{Idle, Announced, Turned, Aiming, In, Closing}
+use Rattle.rule_base.specs.declared.views.TrailItem.{TrailItem}
 use Rattle.tx_answers.specs.Answers.{GoesOn, Quits}
-use Rattle.tx_answers.specs.Known.{Known, Grows, owed, is_in, is_closing, is_sure, is_irrevocable}
+use Rattle.tx_answers.specs.Known.{Known, Grows, owed, is_in, is_closing, is_irrevocable, wrote}
+
+-- an attempt that goes on was there before, toward the others as it was
+pub record IsStillIn (v w : Known) : Type 0 where
+  pub running : v.running ≡ true
+  pub start : v.start ≤ w.start
+  pub granted : w.granted ≡ v.granted
+  pub holds : w.holds ≡ v.holds
 
 -- what stays of a caller through an attempt, however it ends but by a commit
 pub record Carries (v w : Known) : Type 0 where
@@ -21,17 +30,15 @@ pub record Carries (v w : Known) : Type 0 where
   pub grows : Grows v w
   pub closing : w.closing ≡ v.closing
   pub alg : w.alg ≡ v.alg
-  pub granted : w.granted ≡ v.granted
   pub installs : w.installs ≡ v.installs
   pub base : w.base ≡ v.base
   pub pays : owed w ≤ owed v
-  -- an attempt that goes on was there before, and its start has not fallen
-  pub going : w.running ≡ true → (v.running ≡ true) × (v.start ≤ w.start)
+  pub going : w.running ≡ true → IsStillIn v w
   -- an irrevocable attempt goes on, and stays so
   pub sure : v.running ≡ true → is_irrevocable v ≡ true → (w.running ≡ true) × (is_irrevocable w ≡ true)
 
-pub grows-same : (v w : Known) → w.seen ≡ v.seen → w.front ≡ v.front → Grows v w
-grows-same v w s f = record { later = []; is = s ∙ sym (append-nil v.seen); ascending = tt; up_to = tt; front_rose = omega arith }
+pub grows-same : (v w : Known) → w.seen ≡ v.seen → w.front ≡ v.front → (more : List TrailItem) → w.trail ≡ more ++ v.trail → w.reads_limit ≡ v.reads_limit → w.writes_limit ≡ v.writes_limit → Grows v w
+grows-same v w s f more t r l = record { later = []; is = s ∙ sym (append-nil v.seen); ascending = tt; up_to = tt; front_rose = omega arith; more = more; trail = t; reads_limit = r; writes_limit = l }
 
 pub ascending-append : (a b : ℕ) (xs ys : List Entry) → Ascending a xs → Within b xs → a ≤ b → Ascending b ys → Ascending a (xs ++ ys)
 ascending-append a b [] [] h u le k = tt
@@ -51,10 +58,14 @@ grows-trans u v w a b =
       ascending = ascending-append u.front v.front a.later b.later a.ascending a.up_to a.front_rose b.ascending;
       up_to = within-append v.front w.front a.later b.later a.up_to b.front_rose b.up_to;
       front_rose = omega arith;
+      more = b.more ++ a.more;
+      trail = b.trail ∙ (ap (λ t. b.more ++ t) a.trail ∙ sym (append_assoc b.more a.more u.trail));
+      reads_limit = b.reads_limit ∙ a.reads_limit;
+      writes_limit = b.writes_limit ∙ a.writes_limit;
     }
 
 pub carries-refl : (v : Known) → Carries v v
-carries-refl v = record { made = refl; grows = grows-same v v refl refl; closing = refl; alg = refl; granted = refl; installs = refl; base = refl; pays = omega arith; going = λ r. (r, le_refl v.start); sure = λ r i. (r, i) }
+carries-refl v = record { made = refl; grows = grows-same v v refl refl [] refl refl refl; closing = refl; alg = refl; installs = refl; base = refl; pays = omega arith; going = λ r. record { running = r; start = le_refl v.start; granted = refl; holds = refl }; sure = λ r i. (r, i) }
 
 pub carries-trans : (u v w : Known) → Carries u v → Carries v w → Carries u w
 carries-trans u v w a b = record {
@@ -62,11 +73,10 @@ carries-trans u v w a b = record {
   grows = grows-trans u v w a.grows b.grows;
   closing = b.closing ∙ a.closing;
   alg = b.alg ∙ a.alg;
-  granted = b.granted ∙ a.granted;
   installs = b.installs ∙ a.installs;
   base = b.base ∙ a.base;
   pays = (let x = a.pays in let y = b.pays in omega arith);
-  going = λ r. let y = b.going r in let x = a.going y.0 in (x.0, (let m = x.1 in let n = y.1 in omega arith));
+  going = λ r. let y = b.going r in let x = a.going y.running in record { running = x.running; start = (let m = x.start in let n = y.start in omega arith); granted = y.granted ∙ x.granted; holds = y.holds ∙ x.holds };
   sure = λ r i. let m = a.sure r i in b.sure m.0 m.1;
 }
 
@@ -90,42 +100,50 @@ writes-some l k a x w =
     let put_there : item_at a (put a x l.writes) ≡ Some x = put-item a x a l.writes ∙ ap (λ t. if t then Some x else item_at a l.writes) here in
     some-item a x k.writes (w.1 a ∙ put_there)
 
-sure-along : (v w : Known) (wrote : Bool) → w.alg ≡ v.alg → w.granted ≡ v.granted → not (is_empty w.log.writes) ≡ wrote → is_sure v.alg v.granted wrote ≡ true → is_irrevocable w ≡ true
-sure-along v w wrote alg granted is h = (λ i. is_sure (alg i) (granted i) (is i)) ∙ h
+sure-along : (v w : Known) (some : Bool) → w.alg ≡ v.alg → w.granted ≡ v.granted → wrote w ≡ some → is_sure v.alg v.granted some ≡ true → is_irrevocable w ≡ true
+sure-along v w some alg granted is h = (λ i. is_sure (alg i) (granted i) (is i)) ∙ h
 
-pub carries-goes : (v w : Known) → v.running ≡ true → v.closing ≡ false → GoesOn v w → (is_irrevocable v ≡ true → is_irrevocable w ≡ true) → Carries v w
-carries-goes v w running closing g sure = record {
-  made = g.made;
-  grows = g.grows;
-  closing = g.closing ∙ sym closing;
-  alg = g.alg;
-  granted = g.granted;
-  installs = g.installs;
-  base = g.base;
-  pays = owed-goes v w g.running running g.base;
-  going = λ r. (running, g.start);
-  sure = λ r i. (g.running, sure i);
+carries-goes : (v w : Known) → v.running ≡ true → v.closing ≡ false → GoesOn v w → (is_irrevocable v ≡ true → is_irrevocable w ≡ true) → Carries v w
+carries-goes v w running closing g sure = let k = g.continues in record {
+  made = k.made;
+  grows = k.grows;
+  closing = k.closing ∙ sym closing;
+  alg = k.alg;
+  installs = k.installs;
+  base = k.base;
+  pays = owed-goes v w k.running running k.base;
+  going = λ r. record { running = running; start = k.later; granted = g.granted; holds = g.holds };
+  sure = λ r i. (k.running, sure i);
 }
   where
     owed-goes : (v w : Known) → w.running ≡ true → v.running ≡ true → w.base ≡ v.base → owed w ≤ owed v
     owed-goes v w now before b = grind (arith, now, before, b)
 
 pub carries-read : (v w : Known) → v.running ≡ true → v.closing ≡ false → GoesOn v w → w.log.writes ≡ v.log.writes → Carries v w
-carries-read v w running closing g writes = carries-goes v w running closing g (λ h. sure-along v w (not (is_empty v.log.writes)) g.alg g.granted (ap (λ l. not (is_empty l)) writes) h)
+carries-read v w running closing g writes = carries-goes v w running closing g (λ h. sure-along v w (wrote v) g.continues.alg g.granted (ap (λ l. not (is_empty l)) writes) h)
 
 pub carries-wrote : (v w : Known) (a x : ℕ) → v.running ≡ true → v.closing ≡ false → GoesOn v w → Writes v.log a x w.log → Carries v w
-carries-wrote v w a x running closing g writes = carries-goes v w running closing g (λ h. sure-along v w true g.alg g.granted (writes-some v.log w.log a x writes) (sure-wrote v.alg v.granted (not (is_empty v.log.writes)) h))
+carries-wrote v w a x running closing g writes = carries-goes v w running closing g (λ h. sure-along v w true g.continues.alg g.granted (writes-some v.log w.log a x writes) (sure-wrote v.alg v.granted (wrote v) h))
 
-pub carries-quits : (v w : Known) → v.running ≡ true → Quits v w → Carries v w
-carries-quits v w running q = record {
+-- at most one
+quit-low : (a : Alg) (some : Bool) → quit_rise a some ≤ 1
+quit-low Cgl some = omega arith
+quit-low Tml some = omega arith
+quit-low OrecLazy some = omega arith
+quit-low OrecEager true = omega arith
+quit-low OrecEager false = omega arith
+quit-low RingSw some = omega arith
+quit-low Serial some = omega arith
+
+pub carries-quits : (v w : Known) → v.running ≡ true → v.closing ≡ false → Quits v w → Carries v w
+carries-quits v w running closing q = record {
   made = q.made;
   grows = q.ends.grows;
-  closing = q.closing;
-  alg = q.alg;
-  granted = q.granted;
+  closing = q.ends.idle.2 ∙ sym closing;
+  alg = q.ends.alg;
   installs = q.ends.installs;
-  base = q.base;
-  pays = owed-quits v w q.ends.idle.1 running q.ends.pays;
+  base = q.ends.base;
+  pays = owed-quits v w q.ends.idle.1 running (let r = q.rises.1 in let l = quit-low v.alg (wrote v) in omega arith);
   going = λ r. absurd (elim-no w.running r q.ends.idle.1);
   sure = λ r i. absurd (elim-no (is_irrevocable v) i q.revocable);
 }

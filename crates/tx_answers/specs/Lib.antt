@@ -1,4 +1,5 @@
 pub mod Known
+pub mod Evidence
+pub mod Causes
 pub mod Answers
 pub mod KnownLaws
-pub mod FairStops

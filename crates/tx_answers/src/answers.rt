@@ -61,6 +61,21 @@ pub enum Cancel {
     Irrevocable,
 }
 
+/// What a try to become irrevocable comes to. `Conflict` and `ClockFull` end the attempt; all others leave it running.
+#[derive(Clone, Copy, Drop, Debug, PartialEq, Eq)]
+pub enum Irrev {
+    /// From now on the attempt can only be committed, and no call of it is refused.
+    Granted,
+    /// The attempt holds the gate, and this caller was not idle: its status word. It may be tried again.
+    Busy { caller: usize, status: u64 },
+    /// Another caller holds the gate: this is its word.
+    Taken { gate: u64 },
+    /// Another transaction came in between.
+    Conflict(Cause),
+    /// The clock is at its limit, 2^62.
+    ClockFull { clock: u64 },
+}
+
 /// What a try to close the gate comes to.
 #[derive(Clone, Copy, Drop, Debug, PartialEq, Eq)]
 pub enum CloseGate {

@@ -1,5 +1,5 @@
 -- What contracts see of a log, and what a push makes of it.
-use Rattle.std.specs.Prelude.{ℕ, ◌≡◌, ◌<◌, ◌+◌, ◌⊎◌, ◌==◌, if◌then◌else◌, List, [], ◌∷◌, length, None, IsSome}
+use Rattle.std.specs.Prelude.{ℕ, ◌≡◌, ◌<◌, ◌+◌, ◌-◌, ◌⊎◌, ◌==◌, if◌then◌else◌, List, [], ◌∷◌, length, set, slice_index_or, None, IsSome}
 use Rattle.stm_model.specs.Memories.{item_at, put}
 use Rattle.tx_logs.specs.declared.push.Repeat.{Repeat}
 use Rattle.tx_logs.specs.declared.push.Repeat.TheVariants.{Keep, Replace}
@@ -25,6 +25,10 @@ pushed Replace a v ws = put a v ws
 abbrev pub Pushes : LogState → ℕ → List (ℕ × ℕ) → Push → LogState → Type 0
 Pushes old a items Done new = (IsSome (item_at a old.items) ⊎ (length old.items < old.len)) × (new ≡ record old { items = items })
 Pushes old a items (Full limit) new = (item_at a old.items ≡ None) × (length old.items ≡ old.len) × (limit ≡ old.len) × (new ≡ old)
+
+-- the last item has this value
+abbrev pub with_last : ℕ → List (ℕ × ℕ) → List (ℕ × ℕ)
+with_last v ws = set ws (length ws - 1) ((slice_index_or ws (length ws - 1) (0, 0)).0, v)
 
 -- behind the last generation the first comes again
 abbrev pub next_generation : ℕ → ℕ

@@ -2,7 +2,7 @@
 //! the bucket whose number is the address modulo the number of buckets; a lookup goes on from there, from the
 //! last bucket to the first, up to the address or an open bucket. A bucket is taken where its mark is the
 //! log's generation, so a log becomes empty by raising its generation.
-ghost use Rattle.std.specs.Prelude.{◌≡◌, ◌<◌, ◌≤◌, ◌/◌, ◌%◌, ℕ, length, slice_index_or};
+ghost use Rattle.std.specs.Prelude.{◌≡◌, ◌<◌, ◌≤◌, ◌%◌, ℕ, length, slice_index_or};
 ghost use Rattle.tx_logs.specs.Buckets.{IsIndex, IsLookup, blank};
 
 /// A bucket, and the item that it names while it is taken.
@@ -28,7 +28,6 @@ pub struct Lookup {
 /// The factor by which `home` guesses a quotient by this number of buckets.
 pub fn inverse_of(buckets: usize) -> usize
     requires { 0 < buckets }
-    ensures { result ≡ 4294967296 / buckets }
 {
     4294967296 / buckets
 }

@@ -1,8 +1,8 @@
 //! The common part of the logs: items of address and value, in the order in which the addresses came, found by
 //! an index.
-ghost use Rattle.std.specs.Prelude.{◌≡◌, ◌≤◌, ◌<◌, ◌+◌, [], IfOk, IsOk, MatchResult, length, max, slice_index_or};
+ghost use Rattle.std.specs.Prelude.{◌≡◌, ◌≤◌, ◌<◌, ◌+◌, [], IfOk, MatchResult, length, max, slice_index_or};
 ghost use Rattle.stm_model.specs.Memories.{item_at, Once};
-ghost use Rattle.tx_logs.specs.LogStates.{LogState, Pushes, next_generation, pushed};
+ghost use Rattle.tx_logs.specs.LogStates.{LogState, Pushes, next_generation, pushed, with_last};
 
 use crate::index::{Bucket, clear_marks, inverse_of, look_up};
 use crate::push::{Push, Repeat};
@@ -79,6 +79,7 @@ impl IndexedLog {
     pub fn count(&self) -> usize
         ensures count { result ≡ length self.now.items }
         ensures within { result ≤ self.now.len }
+        ensures some { 1 ≤ self.now.len }
         ensures once { Once self.now.items }
     {
         let _ = &self.index;
@@ -129,14 +130,23 @@ impl IndexedLog {
         Push::Done
     }
 
-    /// Makes the length the greater of its old one and `len`, 1 to 4,096. Where memory is refused the log is as before; a
-    /// length that it has already takes none. A greater one costs a push an item into a new log, whose room is taken
-    /// beside the old one's.
+    /// Puts the value in the place of the last item's, whose address stays. No lookup.
+    #[inline]
+    pub fn set_last(&mut self, v: u64)
+        requires { 0 < length self.old.items }
+        ensures { self.new ≡ record self.old { items = with_last v self.old.items } }
+    {
+        let last = self.count() - 1;
+        let (a, _) = self.item(last);
+        self.items[last] = (a, v);
+    }
+
+    /// Makes the length the greater of its old one and `len`, 1 to 4,096. Where memory is refused the log is as before.
+    /// A greater length costs a push an item into a new log, whose room is taken beside the old one's.
     pub fn reserve(&mut self, alloc: Global, len: usize) -> Result<(), Memory>
         requires low { 1 ≤ len }
         requires high { len ≤ 4096 }
-        ensures reserves { MatchResult result (λ _. self.new ≡ record self.old { len = max self.old.len len }) (λ _. self.new ≡ self.old) }
-        ensures enough { len ≤ self.old.len → IsOk result }
+        ensures { MatchResult result (λ _. self.new ≡ record self.old { len = max self.old.len len }) (λ _. self.new ≡ self.old) }
     {
         if len <= self.len {
             return Ok(());

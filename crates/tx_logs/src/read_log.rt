@@ -1,5 +1,5 @@
 //! What an attempt has read.
-ghost use Rattle.std.specs.Prelude.{◌≡◌, ◌≤◌, ◌<◌, ◌+◌, [], IfOk, IsOk, MatchResult, length, max, slice_index_or};
+ghost use Rattle.std.specs.Prelude.{◌≡◌, ◌≤◌, ◌<◌, ◌+◌, [], IfOk, MatchResult, length, max, slice_index_or};
 ghost use Rattle.stm_model.specs.Memories.{item_at, Once};
 ghost use Rattle.tx_logs.specs.LogStates.{LogState, Pushes, next_generation, keep};
 
@@ -36,12 +36,11 @@ impl ReadLog {
     }
 
     /// Makes the length the greater of its old one and `len`, 1 to 4,096, at the cost of a push an item. Where memory
-    /// is refused the log is as before; a length that it has already takes none.
+    /// is refused the log is as before.
     pub fn reserve(&mut self, alloc: Global, len: usize) -> Result<(), Memory>
         requires low { 1 ≤ len }
         requires high { len ≤ 4096 }
-        ensures reserves { MatchResult result (λ _. self.new ≡ record self.old { len = max self.old.len len }) (λ _. self.new ≡ self.old) }
-        ensures enough { len ≤ self.old.len → IsOk result }
+        ensures { MatchResult result (λ _. self.new ≡ record self.old { len = max self.old.len len }) (λ _. self.new ≡ self.old) }
     {
         self.log.reserve(alloc, len)
     }

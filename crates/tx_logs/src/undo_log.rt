@@ -1,7 +1,7 @@
 //! What an attempt must put back.
-ghost use Rattle.std.specs.Prelude.{◌≡◌, ◌≤◌, ◌<◌, ◌+◌, [], IfOk, IsOk, MatchResult, length, max, slice_index_or};
+ghost use Rattle.std.specs.Prelude.{◌≡◌, ◌≤◌, ◌<◌, ◌+◌, [], IfOk, MatchResult, length, max, slice_index_or};
 ghost use Rattle.stm_model.specs.Memories.{item_at, Once};
-ghost use Rattle.tx_logs.specs.LogStates.{LogState, Pushes, next_generation, keep};
+ghost use Rattle.tx_logs.specs.LogStates.{LogState, Pushes, next_generation, keep, with_last};
 
 use crate::indexed_log::IndexedLog;
 use crate::push::{Push, Repeat};
@@ -36,12 +36,11 @@ impl UndoLog {
     }
 
     /// Makes the length the greater of its old one and `len`, 1 to 4,096, at the cost of a push an item. Where memory
-    /// is refused the log is as before; a length that it has already takes none.
+    /// is refused the log is as before.
     pub fn reserve(&mut self, alloc: Global, len: usize) -> Result<(), Memory>
         requires low { 1 ≤ len }
         requires high { len ≤ 4096 }
-        ensures reserves { MatchResult result (λ _. self.new ≡ record self.old { len = max self.old.len len }) (λ _. self.new ≡ self.old) }
-        ensures enough { len ≤ self.old.len → IsOk result }
+        ensures { MatchResult result (λ _. self.new ≡ record self.old { len = max self.old.len len }) (λ _. self.new ≡ self.old) }
     {
         self.log.reserve(alloc, len)
     }
@@ -53,6 +52,16 @@ impl UndoLog {
         ensures { Pushes self.old a (keep a v self.old.items) result self.new }
     {
         self.log.push(a, v, Repeat::Keep)
+    }
+
+    /// Puts the value in the place of the last item's, whose address stays: that of an item which a push has just made.
+    /// No lookup.
+    #[inline]
+    pub fn set_last(&mut self, v: u64)
+        requires { 0 < length self.old.items }
+        ensures { self.new ≡ record self.old { items = with_last v self.old.items } }
+    {
+        self.log.set_last(v);
     }
 
     /// The value at the address, if it is in the log. One lookup.
@@ -76,6 +85,7 @@ impl UndoLog {
     pub fn count(&self) -> usize
         ensures count { result ≡ length self.now.items }
         ensures within { result ≤ self.now.len }
+        ensures some { 1 ≤ self.now.len }
         ensures once { Once self.now.items }
     {
         self.log.count()

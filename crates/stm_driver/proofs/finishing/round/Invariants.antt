@@ -5,7 +5,7 @@ use Rattle.stm_driver.proofs.finishing.round.Given as goal
 
 abbrev pub invariant-loop-caller : goal.invariant-loop-caller
 invariant-loop-caller g l = record {
-  sound : AreSound (g.K.MemRule.good l.stm.rule) l.stm.table.shared.table_id l.stm.config l.stm.rule (workers_in l.runners);
+  sound : AreSound (g.K.MemRule.good l.stm.rule) l.stm (workers_in l.runners);
   same : AreSame (workers_in l.fn.runners) (workers_in l.runners);
   rounded : Rounded l.stm.config (may_until l.until) (stands_until l.until) l.caller (workers_in l.fn.runners) (workers_in l.runners) l.fn.trace.items l.trace.items;
 }

@@ -30,7 +30,7 @@ returns-then-stands g c =
 pub loop-preserved : goal.loop-preserved
 loop-preserved g c =
     let lt = still-below (workers_in c.args.runners.now) (workers_in c.loop.runners) c.args.caller c.loop.invariant.same c.requires.below in
-    let next = until-turn (g.K.MemRule.good c.args.stm.now.rule) c.args.stm.now.table.shared.table_id c.args.stm.now.config c.args.stm.now.rule c.args.caller (workers_in c.loop.runners) (workers_in c.turn.new.runners) c.loop.trace.items c.turn.new.trace.items lt c.args.until (worker_in c.index-runners-caller.result) c.loop.invariant.ready
+    let next = until-turn (g.K.MemRule.good c.args.stm.now.rule) c.args.stm.now c.args.caller (workers_in c.loop.runners) (workers_in c.turn.new.runners) c.loop.trace.items c.turn.new.trace.items lt c.args.until (worker_in c.index-runners-caller.result) c.loop.invariant.ready
     (λ h. c.if-stands.ensures (subst (λ (x : Worker g.row.K.Denot). stands_until c.args.until (place_of x)) (worker-at c.loop.runners c.args.caller c.index-runners-caller.result lt) h)) c.in-Ok.ensures.turns in
     record {
       next = tt;
@@ -48,5 +48,5 @@ returns-in-Err g c =
       sound = c.turn.ensures.sound;
       same = same-trans (workers_in c.args.runners.now) (workers_in c.loop.runners) (workers_in c.turn.new.runners) c.loop.invariant.same c.turn.ensures.same;
       goes = again-halts c.args.stm.now.config (may_until c.args.until) (stands_until c.args.until) (workers_in c.args.runners.now) (workers_in c.loop.runners) (workers_in c.turn.new.runners) c.args.trace.now.items c.loop.trace.items c.turn.new.trace.items c.args.caller c.loop.invariant.plays.0 c.loop.invariant.plays.1 c.in-Err.halt
-          (until-halt (g.K.MemRule.good c.args.stm.now.rule) c.args.stm.now.table.shared.table_id c.args.stm.now.config c.args.stm.now.rule c.args.caller (workers_in c.loop.runners) (workers_in c.turn.new.runners) c.loop.trace.items c.turn.new.trace.items lt c.args.until (worker_in c.index-runners-caller.result) c.in-Err.halt c.loop.invariant.ready (λ h. c.if-stands.ensures (subst (λ (x : Worker g.row.K.Denot). stands_until c.args.until (place_of x)) (worker-at c.loop.runners c.args.caller c.index-runners-caller.result lt) h)) c.in-Err.ensures.turns);
+          (until-halt (g.K.MemRule.good c.args.stm.now.rule) c.args.stm.now c.args.caller (workers_in c.loop.runners) (workers_in c.turn.new.runners) c.loop.trace.items c.turn.new.trace.items lt c.args.until (worker_in c.index-runners-caller.result) c.in-Err.halt c.loop.invariant.ready (λ h. c.if-stands.ensures (subst (λ (x : Worker g.row.K.Denot). stands_until c.args.until (place_of x)) (worker-at c.loop.runners c.args.caller c.index-runners-caller.result lt) h)) c.in-Err.ensures.turns);
     }

@@ -9,7 +9,7 @@ abbrev pub invariant-loop : goal.invariant-loop
 invariant-loop g l = record {
   next : (goal.iterator-loop g).can_next l.iterator';
   ends : (goal.iterator-loop g).is_finite l.iterator';
-  sound : AreSound (g.K.MemRule.good l.stm.rule) l.stm.table.shared.table_id l.stm.config l.stm.rule (workers_in l.runners);
+  sound : AreSound (g.K.MemRule.good l.stm.rule) l.stm (workers_in l.runners);
   same : AreSame (workers_in l.fn.runners) (workers_in l.runners);
   ready : ready_until l.until (place_at (workers_in l.runners) l.caller);
   plays : (k : ℕ) × Plays l.stm.config (may_until l.until) (workers_in l.fn.runners) (workers_in l.runners) l.fn.trace.items l.trace.items (replicate k l.caller) (Ok tt);

@@ -8,7 +8,7 @@ use Rattle.stm_driver.proofs.schedule.play.Given as goal
 
 abbrev pub invariant-loop-go : goal.invariant-loop-go
 invariant-loop-go g l = record {
-  sound : AreSound (g.K.MemRule.good l.stm.rule) l.stm.table.shared.table_id l.stm.config l.stm.rule (workers_in l.runners);
+  sound : AreSound (g.K.MemRule.good l.stm.rule) l.stm (workers_in l.runners);
   same : AreSame (workers_in l.fn.runners) (workers_in l.runners);
   plays : Plays l.stm.config MaySay (workers_in l.fn.runners) (workers_in l.runners) l.fn.trace.items l.trace.items (turns (take l.go-index l.schedule)) (Ok tt);
 }

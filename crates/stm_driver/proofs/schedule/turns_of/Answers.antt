@@ -22,7 +22,7 @@ returns-in-Err g c =
       same = same-trans (workers_in c.args.runners.now) (workers_in c.loop-i.runners) (workers_in c.turn.new.runners) c.loop-i.invariant.same c.turn.ensures.same;
       plays = plays-early c.args.stm.now.config MaySay (workers_in c.args.runners.now) (workers_in c.turn.new.runners) c.args.trace.now.items c.turn.new.trace.items (replicate i n ++ n ∷ []) (replicate (c.args.go.turns - suc i) n) (replicate c.args.go.turns n) c.in-Err.halt (replicate-part i c.args.go.turns n c.loop-i-test.true)
           (plays-halt c.args.stm.now.config MaySay (workers_in c.args.runners.now) (workers_in c.loop-i.runners) (workers_in c.turn.new.runners) c.args.trace.now.items c.loop-i.trace.items c.turn.new.trace.items (replicate i n) (n ∷ []) c.loop-i.invariant.plays c.in-Err.halt
-          (turns-halt (g.K.MemRule.good c.args.stm.now.rule) c.args.stm.now.table.shared.table_id c.args.stm.now.config c.args.stm.now.rule (workers_in c.loop-i.runners) (workers_in c.turn.new.runners) c.loop-i.trace.items c.turn.new.trace.items n c.in-Err.halt lt c.in-Err.ensures.turns));
+          (turns-halt (g.K.MemRule.good c.args.stm.now.rule) c.args.stm.now (workers_in c.loop-i.runners) (workers_in c.turn.new.runners) c.loop-i.trace.items c.turn.new.trace.items n c.in-Err.halt lt c.in-Err.ensures.turns));
     }
 
 pub loop-i-preserved : goal.loop-i-preserved
@@ -34,7 +34,7 @@ loop-i-preserved g c =
       same = same-trans (workers_in c.args.runners.now) (workers_in c.loop-i.runners) (workers_in c.turn.new.runners) c.loop-i.invariant.same c.turn.ensures.same;
       plays = plays-as c.args.stm.now.config MaySay (workers_in c.args.runners.now) (workers_in c.turn.new.runners) c.args.trace.now.items c.turn.new.trace.items (replicate i n ++ n ∷ []) (replicate (i + 1) n) (replicate-next i n)
           (plays-next c.args.stm.now.config MaySay (workers_in c.args.runners.now) (workers_in c.loop-i.runners) (workers_in c.turn.new.runners) c.args.trace.now.items c.loop-i.trace.items c.turn.new.trace.items (replicate i n) (n ∷ []) c.loop-i.invariant.plays
-          (turns-play (g.K.MemRule.good c.args.stm.now.rule) c.args.stm.now.table.shared.table_id c.args.stm.now.config c.args.stm.now.rule (workers_in c.loop-i.runners) (workers_in c.turn.new.runners) c.loop-i.trace.items c.turn.new.trace.items n lt c.in-Ok.ensures.turns));
+          (turns-play (g.K.MemRule.good c.args.stm.now.rule) c.args.stm.now (workers_in c.loop-i.runners) (workers_in c.turn.new.runners) c.loop-i.trace.items c.turn.new.trace.items n lt c.in-Ok.ensures.turns));
     }
 
 pub returns-clause-plays : goal.returns-clause-plays

@@ -6,7 +6,7 @@ use Rattle.stm_driver.proofs.schedule.turns_of.Given as goal
 
 abbrev pub invariant-loop-i : goal.invariant-loop-i
 invariant-loop-i g l = record {
-  sound : AreSound (g.K.MemRule.good l.stm.rule) l.stm.table.shared.table_id l.stm.config l.stm.rule (workers_in l.runners);
+  sound : AreSound (g.K.MemRule.good l.stm.rule) l.stm (workers_in l.runners);
   same : AreSame (workers_in l.fn.runners) (workers_in l.runners);
   plays : Plays l.stm.config MaySay (workers_in l.fn.runners) (workers_in l.runners) l.fn.trace.items l.trace.items (replicate l._i l.go.caller) (Ok tt);
 }

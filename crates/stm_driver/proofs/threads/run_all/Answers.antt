@@ -8,5 +8,5 @@ returns-clause-done g c = λ i d lt.
     let stm = c.args.stm.now in
     let at = (c.for_each_mut.ensures i d lt).1 in
     let call = at.call in
-    let done : Finished (g.K.MemRule.good stm.rule) stm.table.shared.table_id stm.config stm.rule at.argument.now at.after_call.now = search rules in
-    finished-as (g.K.MemRule.good stm.rule) stm.table.shared.table_id stm.config stm.rule at.argument.now at.after_call.now (slice_index_or c.args.runners.now i d) (slice_index_or c.for_each_mut.new.s i d) at.argument_is at.left done
+    let done : Finished (g.K.MemRule.good stm.rule) stm at.argument.now at.after_call.now = search rules in
+    finished-as (g.K.MemRule.good stm.rule) stm at.argument.now at.after_call.now (slice_index_or c.args.runners.now i d) (slice_index_or c.for_each_mut.new.s i d) at.argument_is at.left done

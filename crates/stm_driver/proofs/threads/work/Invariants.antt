@@ -1,10 +1,12 @@
 use Rattle.stm_worker.specs.Workers.{IsSame, Sound}
+use Rattle.stm_driver.proofs.ThreadLaws.{KeepsPaid}
 use Rattle.stm_driver.proofs.threads.work.Given as goal
 
 abbrev pub invariant-loop : goal.invariant-loop
 invariant-loop g l = record {
   next : (goal.iterator-loop g).can_next l.iterator';
   ends : (goal.iterator-loop g).is_finite l.iterator';
-  sound : Sound (g.K.MemRule.good l.stm.rule) l.stm.table.shared.table_id l.stm.config l.stm.rule l.w;
+  sound : Sound (g.K.MemRule.good l.stm.rule) l.stm l.w;
   same : IsSame l.fn.w l.w;
+  paid : KeepsPaid l.stm l.fn.w l.w;
 }

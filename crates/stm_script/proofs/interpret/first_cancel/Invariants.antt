@@ -1,4 +1,4 @@
-use Rattle.std.proofs.Common.{◌≡◌, ◌++◌, take, drop, true}
+use Rattle.std.proofs.Common.{◌≡◌, ◌++◌, take, drop}
 use Rattle.stm_script.specs.Scripts.{before_cancel, has_cancel}
 use Rattle.stm_script.proofs.interpret.first_cancel.Given as goal
 
@@ -6,5 +6,5 @@ abbrev pub invariant-loop-op : goal.invariant-loop-op
 invariant-loop-op l = record {
   place : l.end ≡ l.op-index;
   before : take l.end l.ops ++ before_cancel (drop l.end l.ops) ≡ before_cancel l.ops;
-  ends : has_cancel (drop l.end l.ops) ≡ true;
+  found : has_cancel (drop l.end l.ops) ≡ has_cancel l.ops;
 }

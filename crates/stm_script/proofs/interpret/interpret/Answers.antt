@@ -1,4 +1,4 @@
-use Rattle.std.proofs.Common.{◌≡◌, refl, sym, ap, ◌∙◌, subst, List, length, take, inl, inr}
+use Rattle.std.proofs.Common.{◌≡◌, refl, sym, ap, ◌∙◌, subst, List, length, inl, inr, arith}
 use Rattle.std.specs.Prelude.{◌⊎◌, All, OnOk, IfErr}
 use Rattle.stm_model.specs.Logs.{Keeps, IsReadStop}
 use Rattle.stm_script.specs.declared.region.Region.{Region}
@@ -8,28 +8,27 @@ use Rattle.stm_script.specs.Keeping.{ScriptKeeps}
 use Rattle.stm_script.specs.Operations.{OnlyReads}
 use Rattle.stm_script.specs.declared.op.Op.{Op}
 use Rattle.stm_script.specs.Outputs.{HasRoom}
-use Rattle.stm_script.specs.Scripts.{run, before_cancel, ran_to_end}
-use Rattle.stm_script.specs.ScriptLaws.{GaveOver}
-use Rattle.stm_script.specs.KeepingLaws.{keeps-gave, keeps-before}
+use Rattle.stm_script.specs.Scripts.{run, up_to_end, ran_to_end}
+use Rattle.stm_script.specs.ScriptLaws.{GaveOver, GaveUpTo}
 use Rattle.stm_script.proofs.Rooms.{room-cancel, one-more}
 use Rattle.stm_script.proofs.interpret.interpret.Goals as goal
 
 pub reply-requires : goal.reply-requires
 reply-requires g c =
+    let most = c.first_cancel-end.ensures.within in
+    let other = c.if-end-ops.false in
     one-more c.perform_all-in-C.new.out
-    (c.in_ok-perform_all-in-C.ensures.room 1 (room-cancel c.args.out.now c.as_slice-ops.result.now _ c.first_cancel.result refl c.first_cancel.ensures.within (subst (λ (ops : List Op). HasRoom c.args.out.now (length ops)) (sym c.as_slice-ops.ensures) c.requires.room)))
-
-pub returns-in_ok-perform_all-in-C-clause-keeps_rule : goal.returns-in_ok-perform_all-in-C-clause-keeps_rule
-returns-in_ok-perform_all-in-C-clause-keeps_rule g c = λ each.
-    let good = g.A.Access.good c.args.acc.now in
-    let words = g.A.Access.words c.args.acc.now in
-    let front : take c.first_cancel.result c.as_slice-ops.result.now ≡ before_cancel c.args.script.now = c.first_cancel.ensures.before ∙ ap before_cancel c.as_slice-ops.ensures in
-    let gave = subst (λ ops. GaveOver good words (run c.args.regions.now ops) (g.A.Access.log c.args.acc.now) c.args.out.now (g.A.Access.log c.perform_all-in-C.new.acc) c.perform_all-in-C.new.out) front c.in_ok-perform_all-in-C.ensures.gave in
-    keeps-gave good words (run c.args.regions.now (before_cancel c.args.script.now)) (g.A.Access.log c.args.acc.now) c.args.out.now (g.A.Access.log c.perform_all-in-C.new.acc) c.perform_all-in-C.new.out gave (keeps-before good words c.args.regions.now c.args.script.now each)
+    (c.in_ok-perform_all-in-C.ensures.room 1
+    (room-cancel c.args.out.now c.as_slice-ops.result.now _ c.first_cancel-end.result refl (grind arith)
+    (subst (λ (ops : List Op). HasRoom c.args.out.now (length ops)) (sym c.as_slice-ops.ensures) c.requires.room)))
 
 to-end : (regions : List Region) (kind : Kind) (ops : List Op) → (kind ≡ W) ⊎ (kind ≡ R) → ran_to_end regions kind ops ≡ run regions ops
 to-end regions kind ops (inl e) = ap (λ k. ran_to_end regions k ops) e
 to-end regions kind ops (inr e) = ap (λ k. ran_to_end regions k ops) e
+
+ops-to-end : (kind : Kind) (ops : List Op) → (kind ≡ W) ⊎ (kind ≡ R) → up_to_end kind ops ≡ ops
+ops-to-end kind ops (inl e) = ap (λ k. up_to_end k ops) e
+ops-to-end kind ops (inr e) = ap (λ k. up_to_end k ops) e
 
 pub returns-in-W : goal.returns-in-W
 returns-in-W g c =
@@ -43,6 +42,7 @@ returns-in-W g c =
     let gave = subst (λ ops. OnOk c.perform_all.result (GaveOver good words (run c.args.regions.now ops) log c.args.out.now then c.perform_all.new.out)) same p.gave in
     record {
       gave = subst (λ f. OnOk c.perform_all.result (GaveOver good words f log c.args.out.now then c.perform_all.new.out)) (sym whole) gave;
+      gave_up_to = subst (λ ops. IfErr c.perform_all.result (λ s. GaveUpTo good words c.args.regions.now ops log c.args.out.now c.perform_all.new.out)) (same ∙ sym (ops-to-end c.args.kind c.args.script.now c.in-W.is)) p.gave_up_to;
       explained = p.explained;
       keeps_rule = subst (λ ops. OnOk c.perform_all.result (ScriptKeeps good words c.args.regions.now ops → Keeps good words log → Keeps good words then)) same p.keeps_rule;
       kept_room = p.kept_room;

@@ -1,8 +1,8 @@
-use Rattle.std.proofs.Common.{◌≡◌, ◌-◌, ◌+◌, List, None, length, drop, ℕ}
-use Rattle.stm_model.specs.Memories.{Explains}
+use Rattle.std.proofs.Common.{◌≡◌, ◌-◌, ◌+◌, None, length, take, ℕ}
 use Rattle.stm_model.specs.Logs.{SameMemories, IsExplained}
 use Rattle.stm_script.specs.Outputs.{HasRoom}
-use Rattle.stm_script.specs.ScriptLaws.{GivesOn}
+use Rattle.stm_script.specs.Scripts.{run}
+use Rattle.stm_script.specs.ScriptLaws.{GaveOver}
 use Rattle.stm_script.specs.Operations.{ScriptFits}
 use Rattle.stm_script.proofs.interpret.perform_all.Given as goal
 
@@ -17,6 +17,5 @@ invariant-loop-op g l = record {
   room : HasRoom l.out (length l.ops - l.op-index);
   left : (n : ℕ) → HasRoom l.fn.out (length l.ops + n) → HasRoom l.out (length l.ops - l.op-index + n);
   explained : IsExplained (g.A.Access.good l.fn.acc) (g.A.Access.words l.fn.acc) (g.A.Access.log l.fn.acc) → IsExplained (g.A.Access.good l.acc) (g.A.Access.words l.acc) (g.A.Access.log l.acc);
-  on : (m : List ℕ) → g.A.Access.good l.fn.acc m → length m ≡ g.A.Access.words l.fn.acc → Explains m (g.A.Access.log l.acc).reads
-      → GivesOn l.regions l.ops (drop l.op-index l.ops) m (g.A.Access.log l.fn.acc) l.fn.out (g.A.Access.log l.acc) l.out;
+  gave : GaveOver (g.A.Access.good l.fn.acc) (g.A.Access.words l.fn.acc) (run l.regions (take l.op-index l.ops)) (g.A.Access.log l.fn.acc) l.fn.out (g.A.Access.log l.acc) l.out;
 }

@@ -1,5 +1,5 @@
 use Rattle.std.proofs.Common.{◌<◌, ◌+◌, ◌%◌, ◌^◌, length, subst, sym}
-use Rattle.stm_script.specs.OperationLaws.{read-write-does}
+use Rattle.stm_script.proofs.OperationLaws.{read-write-does}
 use Rattle.stm_script.proofs.operation.add.Goals as goal
 
 pub returns-clause-reply : goal.returns-clause-reply

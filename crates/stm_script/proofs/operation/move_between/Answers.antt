@@ -1,5 +1,5 @@
 use Rattle.std.proofs.Common.{◌<◌, length, subst, sym}
-use Rattle.stm_script.specs.OperationLaws.{little-does, move-does}
+use Rattle.stm_script.proofs.OperationLaws.{little-does, move-does}
 use Rattle.stm_script.proofs.operation.move_between.Goals as goal
 
 pub returns-then-found-k-clause-reply : goal.returns-then-found-k-clause-reply

@@ -1,5 +1,5 @@
 use Rattle.std.proofs.Common.{◌<◌, length, subst, sym}
-use Rattle.stm_script.specs.OperationLaws.{read-does}
+use Rattle.stm_script.proofs.OperationLaws.{read-does}
 use Rattle.stm_script.proofs.operation.read.Goals as goal
 
 pub returns-clause-reply : goal.returns-clause-reply

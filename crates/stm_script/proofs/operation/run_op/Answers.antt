@@ -1,5 +1,5 @@
 use Rattle.stm_script.specs.declared.op.Op.TheVariants.{Write, Add, Move}
-use Rattle.stm_script.specs.KeepingLaws.{keeps-op}
+use Rattle.stm_script.proofs.KeepingLaws.{keeps-op}
 use Rattle.stm_script.proofs.operation.run_op.Goals as goal
 
 pub returns-in-Write-clause-keeps_rule : goal.returns-in-Write-clause-keeps_rule

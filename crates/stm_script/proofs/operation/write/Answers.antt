@@ -1,4 +1,4 @@
-use Rattle.stm_script.specs.OperationLaws.{write-does}
+use Rattle.stm_script.proofs.OperationLaws.{write-does}
 use Rattle.stm_script.proofs.operation.write.Goals as goal
 
 pub returns-clause-reply : goal.returns-clause-reply

@@ -1,4 +1,4 @@
-use Rattle.tx_logs.specs.FilterLaws.{filter-has}
+use Rattle.tx_logs.proofs.FilterLemmas.{filter-has}
 use Rattle.tx_logs.proofs.laws.filters_have_their_addresses.Goals as goal
 
 pub returns : goal.returns

@@ -1,5 +1,5 @@
 use Rattle.tx_logs.specs.Filters.{filter_word}
-use Rattle.tx_logs.specs.FilterLaws.{filter-has, shared-meet}
+use Rattle.tx_logs.proofs.FilterLemmas.{filter-has, shared-meet}
 use Rattle.tx_logs.proofs.laws.shared_addresses_meet.Goals as goal
 
 pub returns : goal.returns

@@ -1,12 +1,49 @@
-use Rattle.std.proofs.Common.{◌≡◌, refl, ap, ◌∙◌, true}
-use Rattle.std.specs.Prelude.{is_none}
-use Rattle.tx_answers.specs.KnownLaws.{carries-wrote, in-attempt}
-use Rattle.stm_tx.specs.Descs.{known}
+use Rattle.std.proofs.Common.{◌≡◌, ◌∙◌, true, false, refl, sym, ap}
+use Rattle.std.specs.Prelude.{is_none, Some}
+use Rattle.stm_model.specs.Algorithms.{is_built}
+use Rattle.tx_answers.specs.KnownLaws.{in-attempt, carries-wrote}
+use Rattle.stm_tx.specs.Descs.{known, number}
+use Rattle.stm_tx.proofs.Stopping.{write-stopped, write-went, stops-quits, since-stopped, since-at, since-going}
 use Rattle.stm_tx.proofs.live.LiveAccess.write.Goals as goal
 
-pub returns-in-Done-clause-keeps : goal.returns-in-Done-clause-keeps
-returns-in-Done-clause-keeps g c =
-    let old = c.args.self.now.desc.now in
-    let running : (known old).running ≡ true = c.args.self.now.runs ∙ ap is_none c.requires.going in
-    let done = c.in-Done.ensures.write in
-    ((c.in-Done.ensures.same, carries-wrote (known old) (known c.write.new.desc) c.args.a c.args.v running (in-attempt old.view.gate.phase running) done.0 done.1), refl, refl)
+pub invariant_of-self-in-Err : goal.invariant_of-self-in-Err
+invariant_of-self-in-Err g c =
+    let me = c.args.self.now in
+    let good = g.K.MemRule.good me.stm.now.rule in
+    let f = me.stm.now.config in
+    let n = number me.desc.now in
+    let v = known me.desc.now in
+    let w = known c.write.new.desc in
+    let h = write-stopped good f n c.args.a v w c.args.v c.write.result c.in-Err.stop (sym c.as_write.ensures ∙ c.in-Err.is) c.write.ensures.write in
+    let q = stops-quits good f n c.args.a v w c.in-Err.stop h in
+    let same = c.write.ensures.same in
+    record {
+      own = record { table = same.table ∙ me.own.table; config = ap (λ q. q.config) same.who ∙ me.own.config; rule = ap (λ q. q.rule) same.who ∙ me.own.rule };
+      runs = q.ends.idle.1;
+      «open» = λ e. absurd (let no : false ≡ true = e in cc);
+      built = ap is_built q.ends.alg ∙ me.built;
+    }
+
+pub returns-in-Err-clause-keeps : goal.returns-in-Err-clause-keeps
+returns-in-Err-clause-keeps g c =
+    let me = c.args.self.now in
+    let good = g.K.MemRule.good me.stm.now.rule in
+    let f = me.stm.now.config in
+    let n = number me.desc.now in
+    let v = known me.desc.now in
+    let w = known c.write.new.desc in
+    let h = write-stopped good f n c.args.a v w c.args.v c.write.result c.in-Err.stop (sym c.as_write.ensures ∙ c.in-Err.is) c.write.ensures.write in
+    let running : v.running ≡ true = me.runs ∙ ap is_none c.requires.going in
+    ((c.write.ensures.same, since-at good f n me.stopped (Some c.in-Err.stop) v w c.requires.going (since-stopped good f n c.args.a v w c.in-Err.stop running (in-attempt me.desc.now.view.gate.phase running) h)), refl, refl)
+
+pub returns-in-Ok-clause-keeps : goal.returns-in-Ok-clause-keeps
+returns-in-Ok-clause-keeps g c =
+    let me = c.args.self.now in
+    let good = g.K.MemRule.good me.stm.now.rule in
+    let f = me.stm.now.config in
+    let n = number me.desc.now in
+    let v = known me.desc.now in
+    let w = known c.write.new.desc in
+    let h = write-went good f n c.args.a v w c.args.v c.write.result (sym c.as_write.ensures ∙ c.in-Ok.is) c.write.ensures.write in
+    let running : v.running ≡ true = me.runs ∙ ap is_none c.requires.going in
+    ((c.write.ensures.same, since-going good f n me.stopped v w c.requires.going (carries-wrote v w c.args.a c.args.v running (in-attempt me.desc.now.view.gate.phase running) h.0 h.2)), refl, refl)

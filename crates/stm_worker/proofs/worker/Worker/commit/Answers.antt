@@ -1,17 +1,54 @@
-use Rattle.tx_answers.specs.Known.{known_of, caller_of}
-use Rattle.std.proofs.Common.{true}
-use Rattle.stm_worker.proofs.Calls.{commits, quits}
-use Rattle.stm_worker.proofs.TurnLaws.{committed, readonly}
+use Rattle.std.proofs.Common.{true, refl, sym, subst}
+use Rattle.stm_trace.specs.Turns.{MaySay}
+use Rattle.stm_worker.specs.Workers.{Turned, cleared}
+use Rattle.stm_trace.specs.declared.said.Said.TheVariants.{TryCommit}
+use Rattle.stm_trace.specs.Places.{failed_next, must_next}
+use Rattle.tx_answers.specs.declared.answers.Commit.TheVariants.{Conflict, ClockFull}
+use Rattle.stm_worker.proofs.TurnLaws.{turned-committed, turned-readonly, turned-again, turned-quit, few-next, runs-now, attempt-now}
 use Rattle.stm_worker.proofs.worker.Worker.commit.Goals as goal
 
 pub returns-in-Committed : goal.returns-in-Committed
-returns-in-Committed g c = record {
-  turned = committed (g.K.MemRule.good c.args.stm.now.rule) c.args.stm.now.table.shared.table_id c.args.stm.now.config c.args.stm.now.rule c.args.self.now c.requires.sound c.commit.new.desc c.commit.ensures.same
-      c.in-Committed.time true c.end.new.self c.requires.inside c.requires.over (commits (g.K.MemRule.good c.args.stm.now.rule) c.args.stm.now.config (caller_of c.args.self.now.desc.who.role) c.in-Committed.time (known_of c.args.self.now.desc.view) (known_of c.commit.new.desc.view) c.in-Committed.ensures.commits) c.end.ensures.ends;
-}
+returns-in-Committed g c =
+    let good = g.K.MemRule.good c.args.stm.now.rule in
+    let stm = c.args.stm.now in
+    let u = c.args.self.now in
+    let s = c.requires.sound in
+    record { turned = turned-committed good stm u s c.commit.new.desc c.commit.ensures.same c.in-Committed.time true c.end.new.self c.requires.inside c.requires.over c.requires.unforced c.in-Committed.ensures.commits c.end.ensures.ends }
 
 pub returns-in-ReadOnly : goal.returns-in-ReadOnly
-returns-in-ReadOnly g c = record {
-  turned = readonly (g.K.MemRule.good c.args.stm.now.rule) c.args.stm.now.table.shared.table_id c.args.stm.now.config c.args.stm.now.rule c.args.self.now c.requires.sound c.commit.new.desc c.commit.ensures.same
-      c.in-ReadOnly.time true c.end-in-ReadOnly.new.self c.requires.inside c.requires.over (quits (g.K.MemRule.good c.args.stm.now.rule) c.args.stm.now.config (caller_of c.args.self.now.desc.who.role) c.in-ReadOnly.time (known_of c.args.self.now.desc.view) (known_of c.commit.new.desc.view) c.in-ReadOnly.ensures.commits.0) c.in-ReadOnly.ensures.commits.2 c.end-in-ReadOnly.ensures.ends;
-}
+returns-in-ReadOnly g c =
+    let good = g.K.MemRule.good c.args.stm.now.rule in
+    let stm = c.args.stm.now in
+    let u = c.args.self.now in
+    let s = c.requires.sound in
+    record { turned = turned-readonly good stm u s c.commit.new.desc c.commit.ensures.same c.in-ReadOnly.time true c.end-in-ReadOnly.new.self c.requires.inside c.requires.over c.requires.unforced c.in-ReadOnly.ensures.commits c.end-in-ReadOnly.ensures.ends }
+
+pub returns-in-Again : goal.returns-in-Again
+returns-in-Again g c =
+    let good = g.K.MemRule.good c.args.stm.now.rule in
+    let stm = c.args.stm.now in
+    let u = c.args.self.now in
+    let s = c.requires.sound in
+    record { turned = turned-again good stm u s c.commit.new.desc c.commit.ensures.same c.in-Again.word c.in-Again.had c.in-Again.now true c.requires.inside c.requires.over c.requires.unforced c.in-Again.ensures.commits }
+
+pub returns-in-Conflict : goal.returns-in-Conflict
+returns-in-Conflict g c =
+    let good = g.K.MemRule.good c.args.stm.now.rule in
+    let stm = c.args.stm.now in
+    let u = c.args.self.now in
+    let s = c.requires.sound in
+    let said = Conflict c.in-Conflict.cause in
+    record { turned = subst (Turned good stm MaySay u (TryCommit said)) (sym c.make_way.ensures)
+        (turned-quit good stm u s c.commit.new.desc c.commit.ensures.same (TryCommit said) (must_next u.must u.failed) true (failed_next u.must u.failed) (cleared u.out) c.requires.inside (c.requires.inside, c.requires.unforced, c.requires.over)
+        c.in-Conflict.ensures.commits (runs-now good stm u s c.requires.inside) refl c.in-Conflict.ensures.commits.0 refl (few-next good stm u s c.commit.new.desc c.commit.ensures.same)) }
+
+pub returns-in-ClockFull : goal.returns-in-ClockFull
+returns-in-ClockFull g c =
+    let good = g.K.MemRule.good c.args.stm.now.rule in
+    let stm = c.args.stm.now in
+    let u = c.args.self.now in
+    let s = c.requires.sound in
+    let said = ClockFull c.in-ClockFull.clock in
+    record { turned = subst (Turned good stm MaySay u (TryCommit said)) (sym c.give_up.ensures)
+        (turned-quit good stm u s c.commit.new.desc c.commit.ensures.same (TryCommit said) u.must true u.failed (cleared u.out) c.requires.inside (c.requires.inside, c.requires.unforced, c.requires.over)
+        c.in-ClockFull.ensures.commits (runs-now good stm u s c.requires.inside) refl c.in-ClockFull.ensures.commits.0 refl s.counted) }

@@ -1,9 +1,26 @@
-use Rattle.stm_worker.proofs.TurnLaws.{refused-drop, never}
+use Rattle.std.proofs.Common.{refl, sym, subst}
+use Rattle.stm_trace.specs.declared.said.Said.TheVariants.{Dropped}
+use Rattle.stm_trace.specs.Turns.{MayWind}
+use Rattle.stm_worker.specs.Workers.{Turned, cleared}
+use Rattle.stm_worker.proofs.TurnLaws.{turned-over, dropped-refused, sure-place, runs-now}
+use Rattle.std.proofs.Common.{◌∙◌}
 use Rattle.stm_worker.proofs.worker.Worker.drop_attempt.Goals as goal
 
--- an attempt of CGL can't be cancelled
 pub returns-in-Cancelled : goal.returns-in-Cancelled
-returns-in-Cancelled g c = absurd (never (g.K.MemRule.good c.args.stm.now.rule) c.args.stm.now.table.shared.table_id c.args.stm.now.config c.args.stm.now.rule c.args.self.now c.requires.sound c.requires.inside c.in-Cancelled.ensures.cancels.2)
+returns-in-Cancelled g c =
+    let good = g.K.MemRule.good c.args.stm.now.rule in
+    let stm = c.args.stm.now in
+    let u = c.args.self.now in
+    let s = c.requires.sound in
+    let h = c.in-Cancelled.ensures.cancels in
+    subst (Turned good stm MayWind u Dropped) (sym c.give_up.ensures)
+    (turned-over good stm u s c.cancel.new.desc c.cancel.ensures.same MayWind Dropped u.must u.passed u.failed (cleared u.out) c.requires.inside (c.requires.inside, sure-place good stm u s c.requires.inside ∙ h.3) (runs-now good stm u s c.requires.inside) (c.in-Cancelled.time, h) refl
+    h.0.ends.grows h.0.ends.idle h.0.made h.0.ends.installs refl s.counted)
 
 pub returns-in-Irrevocable : goal.returns-in-Irrevocable
-returns-in-Irrevocable g c = refused-drop (g.K.MemRule.good c.args.stm.now.rule) c.args.stm.now.table.shared.table_id c.args.stm.now.config c.args.stm.now.rule c.args.self.now c.requires.sound c.cancel.new.desc c.cancel.ensures.same c.requires.inside c.in-Irrevocable.ensures.cancels.0 c.in-Irrevocable.ensures.cancels.1
+returns-in-Irrevocable g c =
+    let good = g.K.MemRule.good c.args.stm.now.rule in
+    let stm = c.args.stm.now in
+    let u = c.args.self.now in
+    let s = c.requires.sound in
+    dropped-refused good stm u s c.cancel.new.desc c.cancel.ensures.same c.requires.inside c.in-Irrevocable.ensures.cancels.0 c.in-Irrevocable.ensures.cancels.1

@@ -1,10 +1,38 @@
-use Rattle.tx_answers.specs.Known.{known_of, caller_of}
-use Rattle.stm_worker.proofs.Calls.{switches}
-use Rattle.stm_worker.proofs.TurnLaws.{switched, same-twice}
+use Rattle.std.proofs.Common.{inr}
+use Rattle.tx_answers.specs.Known.{caller_of}
+use Rattle.stm_tx.specs.Descs.{known}
+use Rattle.stm_worker.proofs.StandLaws.{same-twice, switch-built}
+use Rattle.stm_worker.proofs.TurnLaws.{turned-switched, closed-now, quiet-now}
 use Rattle.stm_worker.proofs.worker.Worker.install.Goals as goal
 
 pub returns : goal.returns
-returns g c = record {
-  turned = switched (g.K.MemRule.good c.args.stm.now.rule) c.args.stm.now.table.shared.table_id c.args.stm.now.config c.args.stm.now.rule c.args.self.now c.requires.sound c.reopen.new.desc (same-twice c.args.self.now.desc c.install.new.desc c.reopen.new.desc c.install.ensures.same c.reopen.ensures.same)
-      c.args.alg c.tail-self.result c.requires.quiet c.requires.to c.tail-self.ensures (switches (g.K.MemRule.good c.args.stm.now.rule) c.args.stm.now.config (caller_of c.args.self.now.desc.who.role) (caller_of c.install.new.desc.who.role) c.args.alg (known_of c.args.self.now.desc.view) (known_of c.install.new.desc.view) (known_of c.reopen.new.desc.view) c.install.ensures.installs c.reopen.ensures.reopens);
-}
+returns g c =
+    let good = g.K.MemRule.good c.args.stm.now.rule in
+    let stm = c.args.stm.now in
+    let u = c.args.self.now in
+    let s = c.requires.sound in
+    record { turned = turned-switched good stm u s c.reopen.new.desc (same-twice u.desc c.install.new.desc c.reopen.new.desc c.install.ensures.same c.reopen.ensures.same) c.args.alg c.tail-self.result (known c.install.new.desc) c.requires.quiet c.requires.to c.tail-self.ensures c.install.ensures.installs c.reopen.ensures.reopens }
+
+pub install-requires-clause-closing : goal.install-requires-clause-closing
+install-requires-clause-closing g c =
+    let good = g.K.MemRule.good c.args.stm.now.rule in
+    let stm = c.args.stm.now in
+    let u = c.args.self.now in
+    let s = c.requires.sound in
+    closed-now good stm u s (inr c.requires.quiet)
+
+pub install-requires-clause-quiet : goal.install-requires-clause-quiet
+install-requires-clause-quiet g c =
+    let good = g.K.MemRule.good c.args.stm.now.rule in
+    let stm = c.args.stm.now in
+    let u = c.args.self.now in
+    let s = c.requires.sound in
+    quiet-now good stm u s c.requires.quiet
+
+pub install-requires-clause-built : goal.install-requires-clause-built
+install-requires-clause-built g c =
+    let good = g.K.MemRule.good c.args.stm.now.rule in
+    let stm = c.args.stm.now in
+    let u = c.args.self.now in
+    let s = c.requires.sound in
+    switch-built good stm.config.words u.regions (caller_of u.desc.who.role) c.args.alg u.items_left.now c.requires.to s.fits

@@ -1,26 +1,33 @@
-use Rattle.std.proofs.Common.{refl, subst}
-use Rattle.stm_trace.specs.declared.said.Phase.TheVariants.{Quiet}
+use Rattle.std.proofs.Common.{refl, subst, sym}
+use Rattle.stm_trace.specs.declared.said.Phase.TheVariants as Phase
 use Rattle.stm_trace.specs.declared.said.Said.TheVariants.{Looked}
-use Rattle.stm_trace.specs.Turns.{MaySay}
+use Rattle.std.proofs.Common.{inl}
 use Rattle.tx_answers.specs.declared.answers.Look.TheVariants.{Quiet, Busy}
-use Rattle.tx_answers.specs.Known.{known_of, caller_of}
-use Rattle.stm_worker.specs.Workers.{ToSwitch}
-use Rattle.stm_worker.proofs.Calls.{looks}
-use Rattle.stm_worker.proofs.FairLaws.{busy}
-use Rattle.stm_worker.proofs.TurnLaws.{looked, rested, rest-closing}
+use Rattle.tx_answers.specs.Known.{caller_of}
+use Rattle.stm_tx.specs.Descs.{known}
+use Rattle.stm_worker.specs.Workers.{ToSwitch, IsAt}
+use Rattle.stm_worker.proofs.StandLaws.{rest-closing}
+use Rattle.stm_worker.proofs.TurnLaws.{turned-closed, closed-now}
 use Rattle.stm_worker.proofs.worker.Worker.look.Goals as goal
 
 pub returns-in-Quiet : goal.returns-in-Quiet
 returns-in-Quiet g c =
-    let h = looks (g.K.MemRule.good c.args.stm.now.rule) c.args.stm.now.config (caller_of c.args.self.now.desc.who.role) (known_of c.args.self.now.desc.view) (known_of c.look.new.desc.view) c.in-Quiet.ensures.looks.0 in
-    record {
-      turned = rested (g.K.MemRule.good c.args.stm.now.rule) c.args.stm.now.table.shared.table_id c.args.stm.now.config c.args.stm.now.rule c.args.self.now c.requires.sound c.look.new.desc c.look.ensures.same
-          MaySay (Looked Quiet) Quiet (rest-closing c.args.self.now.phase c.requires.closing) tt h.0 (h.1, c.in-Quiet.ensures.looks.1) (subst (λ p. ToSwitch p c.args.self.now.items_left.now) c.requires.closing c.requires.sound.turning) c.requires.closing (λ x y. tt) refl tt refl;
-    }
+    let good = g.K.MemRule.good c.args.stm.now.rule in
+    let stm = c.args.stm.now in
+    let u = c.args.self.now in
+    let s = c.requires.sound in
+    let h = c.in-Quiet.ensures.looks in
+    let k = h.0.closed in
+    let turning = subst (λ p. ToSwitch p u.items_left.now) c.requires.closing s.turning in
+    record { turned = turned-closed good stm u s c.look.new.desc c.look.ensures.same (Looked Quiet) Phase.Quiet (rest-closing u.phase c.requires.closing) tt c.requires.closing (closed-now good stm u s (inl c.requires.closing)).running h refl k.grows k.made h.0.installs (k.holds, h.1) turning }
 
 pub returns-in-Busy : goal.returns-in-Busy
-returns-in-Busy g c = record {
-  turned = looked (g.K.MemRule.good c.args.stm.now.rule) c.args.stm.now.table.shared.table_id c.args.stm.now.config c.args.stm.now.rule c.args.self.now c.requires.sound c.look.new.desc c.look.ensures.same
-      (Looked (Busy c.in-Busy.caller c.in-Busy.status)) c.requires.closing (looks (g.K.MemRule.good c.args.stm.now.rule) c.args.stm.now.config (caller_of c.args.self.now.desc.who.role) (known_of c.args.self.now.desc.view) (known_of c.look.new.desc.view) c.in-Busy.ensures.looks.0) c.requires.closing
-      (λ h sizes. busy (g.K.MemRule.good c.args.stm.now.rule) c.args.stm.now.config h (caller_of c.args.self.now.desc.who.role) c.in-Busy.caller c.in-Busy.status (known_of c.args.self.now.desc.view) (known_of c.look.new.desc.view) sizes c.in-Busy.ensures.looks.1) refl refl refl;
-}
+returns-in-Busy g c =
+    let good = g.K.MemRule.good c.args.stm.now.rule in
+    let stm = c.args.stm.now in
+    let u = c.args.self.now in
+    let s = c.requires.sound in
+    let h = c.in-Busy.ensures.looks in
+    let k = h.0.closed in
+    let r = rest-closing u.phase c.requires.closing in
+    record { turned = turned-closed good stm u s c.look.new.desc c.look.ensures.same (Looked (Busy c.in-Busy.caller c.in-Busy.status)) u.phase r r c.requires.closing (closed-now good stm u s (inl c.requires.closing)).running h refl k.grows k.made h.0.installs (subst (λ p. IsAt good stm.config (caller_of u.desc.who.role) p (known c.look.new.desc)) (sym c.requires.closing) k.holds) s.turning }

@@ -1,17 +1,28 @@
-use Rattle.std.proofs.Common.{ap, sym, ◌≡◌, ◌∙◌, true, false}
+use Rattle.std.proofs.Common.{ap, refl, ◌∙◌}
+use Rattle.stm_model.specs.Algorithms.{is_built}
 use Rattle.std.specs.Prelude.{◌||◌}
-use Rattle.stm_worker.proofs.TurnLaws.{operated, runs-now, sure-now}
+use Rattle.stm_worker.proofs.StandLaws.{room-now}
+use Rattle.stm_worker.proofs.TurnLaws.{turned-operated, turned-stopped, attempt-now, runs-free}
 use Rattle.stm_worker.proofs.worker.Worker.operation.Goals as goal
 
-pub returns-in-Ok : goal.returns-in-Ok
-returns-in-Ok g c = record {
-  turned = operated (g.K.MemRule.good c.args.stm.now.rule) c.args.stm.now.table.shared.table_id c.args.stm.now.config c.args.stm.now.rule c.args.self.now c.requires.sound c.operate.new.desc c.operate.ensures.frames.0
-      c.args.op c.in-Ok.reply c.tail-self.result c.operate.new.out (c.args.self.now.wrote || c.writes.result) c.requires.inside c.requires.next c.requires.plain c.tail-self.ensures (ap (λ b. c.args.self.now.wrote || b) c.writes.ensures)
-      c.operate.ensures.frames c.in-Ok.ensures.runs c.in-Ok.ensures.gave c.in-Ok.ensures.explained c.in-Ok.ensures.told;
-}
+pub operate-requires-clause-built : goal.operate-requires-clause-built
+operate-requires-clause-built g c =
+    let at = attempt-now (g.K.MemRule.good c.args.stm.now.rule) c.args.stm.now c.args.self.now c.requires.sound c.requires.comes.0 in
+    ap is_built at.going.named ∙ at.built
 
--- an attempt of CGL goes on
+pub returns-in-Ok : goal.returns-in-Ok
+returns-in-Ok g c =
+    let good = g.K.MemRule.good c.args.stm.now.rule in
+    let stm = c.args.stm.now in
+    let u = c.args.self.now in
+    let s = c.requires.sound in
+    record { turned = turned-operated good stm u s c.operate.new.desc c.operate.ensures.same c.args.op c.in-Ok.reply c.tail-self.result c.operate.new.out (u.wrote || c.writes.result) c.requires.comes c.requires.plain c.tail-self.ensures (ap (λ b. u.wrote || b) c.writes.ensures)
+        c.in-Ok.ensures.goes.0 c.in-Ok.ensures.goes.1 c.in-Ok.ensures.gave c.in-Ok.ensures.explained c.in-Ok.ensures.told }
+
 pub returns-in-Err : goal.returns-in-Err
 returns-in-Err g c =
-    let on = (c.operate.ensures.frames.1.sure (runs-now (g.K.MemRule.good c.args.stm.now.rule) c.args.stm.now.table.shared.table_id c.args.stm.now.config c.args.stm.now.rule c.args.self.now c.requires.sound c.requires.inside).0 (sure-now (g.K.MemRule.good c.args.stm.now.rule) c.args.stm.now.table.shared.table_id c.args.stm.now.config c.args.stm.now.rule c.args.self.now c.requires.sound c.requires.inside)).0 in
-    absurd (let t : true ≡ false = sym on ∙ c.in-Err.ensures.runs in cc)
+    let good = g.K.MemRule.good c.args.stm.now.rule in
+    let stm = c.args.stm.now in
+    let u = c.args.self.now in
+    let s = c.requires.sound in
+    record { turned = turned-stopped good stm u s c.operate.new.desc c.operate.ensures.same c.args.op c.in-Err.stop c.operate.new.out c.stop.new.self c.requires.comes c.requires.plain c.in-Err.ensures.stopped c.in-Err.ensures.untold c.stop.ensures }

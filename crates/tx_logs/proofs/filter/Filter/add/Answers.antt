@@ -1,6 +1,5 @@
 use Rattle.std.proofs.Common.{slice_index}
-use Rattle.tx_logs.specs.FilterLaws.{has-added, has-stays}
-use Rattle.tx_logs.proofs.FilterLemmas.{adds-bits}
+use Rattle.tx_logs.proofs.FilterLemmas.{adds-bits, has-added, has-stays}
 use Rattle.tx_logs.proofs.filter.Filter.add.Goals as goal
 
 pub returns-clause-words : goal.returns-clause-words

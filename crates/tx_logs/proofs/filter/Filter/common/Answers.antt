@@ -1,6 +1,5 @@
-use Rattle.std.proofs.Common.{sym, ◌∙◌, slice_index}
-use Rattle.tx_logs.specs.FilterLaws.{meets-lowest}
-use Rattle.tx_logs.proofs.FilterLemmas.{lowest-next, lowest-here, lowest-none}
+use Rattle.std.proofs.Common.{sym, ◌∙◌, arith, slice_index}
+use Rattle.tx_logs.proofs.FilterLemmas.{lowest-next, lowest-here, lowest-none, meets-lowest}
 use Rattle.tx_logs.proofs.filter.Filter.common.Goals as goal
 
 pub returns-then-bits-ne0-clause-common : goal.returns-then-bits-ne0-clause-common

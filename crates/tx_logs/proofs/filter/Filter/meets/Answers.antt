@@ -1,5 +1,5 @@
 use Rattle.std.proofs.Common.{slice_index}
-use Rattle.tx_logs.specs.FilterLaws.{shared-meet}
+use Rattle.tx_logs.proofs.FilterLemmas.{shared-meet}
 use Rattle.tx_logs.proofs.filter.Filter.meets.Goals as goal
 
 pub returns-clause-shared : goal.returns-clause-shared

@@ -1,0 +1,226 @@
+-- Serial: what the parts of a write and the end of an attempt that is taken back come to.
+use Rattle.std.proofs.Common.{ℕ, ◌≡◌, ◌<◌, ◌≤◌, List, [], ◌++◌, length, Bool, true, false, refl, sym, ap, ◌∙◌, arith, subst, append_assoc}
+use Rattle.std.specs.Prelude.{Option, Some, None, not, ◌&&◌, ◌==◌}
+use Rattle.std.proofs.lemmas.Bool.Decides.{nat_tests}
+use Rattle.stm_model.specs.Algorithms.{takes_lock, logs_writes, is_sure}
+use Rattle.stm_model.specs.declared.alg.Alg.TheVariants.{Serial}
+use Rattle.stm_model.specs.declared.config.Config.{Config}
+use Rattle.stm_model.specs.declared.config.TheConstants.{CLOCK_LIMIT}
+use Rattle.stm_model.specs.Memories.{item_at, put}
+use Rattle.tx_logs.specs.LogStates.{LogState}
+use Rattle.rule_base.specs.declared.entries.Cell.{Cell}
+use Rattle.rule_base.specs.declared.views.LockView.{LockView}
+use Rattle.rule_base.specs.declared.views.TrailItem.{TrailItem}
+use Rattle.rule_base.specs.declared.views.View.{View}
+use Rattle.rule_base.specs.Bridge.{items}
+use Rattle.rule_base.specs.History.{Inside}
+use Rattle.rule_base.specs.Own.{Own}
+use Rattle.rule_base.specs.StepKinds.{view_after}
+use Rattle.rule_base.specs.World.{World}
+use Rattle.rule_seq.specs.CglSteps.{store_heap, HasLock}
+use Rattle.stm_rule.specs.declared.local.Local.{Local}
+use Rattle.stm_rule.specs.Attempts.{IsInside, addresses}
+use Rattle.tx_answers.specs.Answers.{Quits, EndsAt}
+use Rattle.rule_base.specs.declared.layout.At.TheVariants.{Clock}
+use Rattle.tx_answers.specs.Causes.{has_item, is_some, writes_full, FindsFull}
+use Rattle.tx_answers.specs.Evidence.{Found}
+use Rattle.tx_answers.specs.Known.{known_of, granted_under, is_irrevocable, wrote}
+use Rattle.stm_gate.specs.InnerLaws.{never-full}
+use Rattle.stm_gate.specs.LeavingLaws.{IsUnmade, quits-left, ended-left, trail-left, found-later, finds-full}
+use Rattle.stm_gate.specs.Opacity.{opaque-inside}
+use Rattle.alg_seq.specs.Storing.{GivesUp, IsClocked, HasLogged, MayStore}
+use Rattle.alg_seq.proofs.Locked.{locked, keeps-by, written-plain, IsLogged, logged-refl, tells-store, still-opaque}
+use Rattle.alg_seq.proofs.Undoing.{has-by, length-by}
+
+-- the view with this lock and these steps
+abbrev pub aside : View → LockView → List TrailItem → View
+aside v k more = record v { lock = k; steps = record v.steps { trail = more ++ v.steps.trail } }
+
+and-false : (p q : Bool) → (p && (q && false)) ≡ false
+and-false true true = refl
+and-false true false = refl
+and-false false q = refl
+
+none-of : (o : Option ℕ) → is_some o ≡ false → o ≡ None
+none-of None e = refl
+none-of (Some x) e = absurd cc
+
+apart : (k m : ℕ) → k < m → (k == m) ≡ false
+apart k m l = grind (arith, nat_tests)
+
+same_number : (k m : ℕ) → k ≡ m → (k == m) ≡ true
+same_number k m e = grind (arith, nat_tests)
+
+-- there is room for an item of a, or there is none
+roomy : (a : ℕ) (us ws : List (ℕ × ℕ)) (len limit : ℕ) → addresses us ≡ addresses ws → limit ≡ len → (item_at a us ≡ None → length us < len) → (not (has_item a ws) && (length ws == limit)) ≡ false
+roomy a us ws len limit same is room = by (has_item a us) refl
+  where
+    by : (b : Bool) → has_item a us ≡ b → (not (has_item a ws) && (length ws == limit)) ≡ false
+    by true h = ap (λ b. not b && (length ws == limit)) (sym (has-by a us ws same) ∙ h)
+    by false h = let low : length us < len = room (none-of (item_at a us) h) in let size = length-by us ws same in
+        ap (λ b. not b && (length ws == limit)) (sym (has-by a us ws same) ∙ h) ∙ apart (length ws) limit (omega arith)
+
+filled : (a : ℕ) (us ws : List (ℕ × ℕ)) (len limit : ℕ) → addresses us ≡ addresses ws → limit ≡ len → item_at a us ≡ None → length us ≡ len → (not (has_item a ws) && (length ws == limit)) ≡ true
+filled a us ws len limit same is none long = let size = length-by us ws same in
+    ap (λ b. not b && (length ws == limit)) (sym (has-by a us ws same) ∙ ap is_some none) ∙ same_number (length ws) limit (omega arith)
+
+module _ (good : List ℕ → Type 0) (c : Config) (n : ℕ) (l : Local) (v : View) (i : IsInside good c n l v) (serial : l.algorithm ≡ Serial) where
+  pub named : v.gate.algorithm ≡ Serial
+  named = i.named ∙ serial
+
+  pub locks : takes_lock v.gate.algorithm ≡ true
+  locks = ap takes_lock named
+
+  -- it is irrevocable where it was granted
+  pub sure-by : v.lock.irrevocable ≡ l.granted
+  sure-by = (locked good c n l v locks i).sure ∙ ap (λ a. is_sure a l.granted l.wrote) serial
+
+  pub revocable-by : (o : Own) → is_irrevocable (known_of v o) ≡ v.lock.irrevocable
+  revocable-by o = ap (λ a. is_sure a (granted_under a v.gate v.lock) (wrote (known_of v o))) named
+
+  pub inside-clocked : (w : View) → IsClocked v w → IsInside good c n l w
+  inside-clocked w k = let j = locked good c n l v locks i in subst (λ (y : View). IsInside good c n l y) (sym k.is) (record {
+    phase = i.phase;
+    named = i.named;
+    built = i.built;
+    disowned = i.disowned;
+    unentered = i.unentered;
+    start = i.start;
+    front = i.front;
+    legal = i.legal;
+    below = i.below;
+    sees = i.sees;
+    reads_inside = i.reads_inside;
+    looked = λ e. absurd (let no : false ≡ true = sym j.reopened ∙ e in cc);
+    granted = i.granted;
+    keeps = keeps-by c l.algorithm l.granted l (aside v (record v.lock { clocked = w.lock.clocked }) k.more) (ap takes_lock serial) (record {
+      taken = j.taken;
+      started = j.started;
+      unwritten = j.unwritten;
+      uncommitted = j.uncommitted;
+      reopened = j.reopened;
+      clean = j.clean;
+      dirty = j.dirty;
+      sure = j.sure;
+      undone = j.undone;
+      undoable = j.undoable;
+      within = j.within;
+      rises = j.rises;
+      limit = j.limit;
+    });
+  })
+
+  stored : (log : LogState) (k : LockView) (more : List TrailItem) (a x : ℕ) (m : World) → k.taken ≡ true → k.started ≡ true → k.irrevocable ≡ l.granted → l.start < CLOCK_LIMIT
+      → (k.irrevocable ≡ false → log.items ≡ items k.undo) → (k.irrevocable ≡ false → addresses log.items ≡ addresses (put a x (items v.attempt.stores))) → Inside c.words k.undo
+      → IsInside good c n (record l { undo = log; wrote = true }) (view_after (store_heap a x) m (aside v k more) x)
+  stored log k more a x m taken started sure low undone undoable within = let j = locked good c n l v locks i in record {
+    phase = i.phase;
+    named = i.named;
+    built = i.built;
+    disowned = i.disowned;
+    unentered = i.unentered;
+    start = i.start;
+    front = i.front;
+    legal = i.legal;
+    below = i.below;
+    sees = i.sees;
+    reads_inside = i.reads_inside;
+    looked = λ e. absurd (let no : false ≡ true = sym j.reopened ∙ e in cc);
+    granted = i.granted;
+    keeps = keeps-by c l.algorithm l.granted (record l { undo = log; wrote = true }) (view_after (store_heap a x) m (aside v k more) x) (ap takes_lock serial) (record {
+      taken = taken;
+      started = started;
+      unwritten = j.unwritten;
+      uncommitted = j.uncommitted;
+      reopened = j.reopened;
+      clean = λ e. absurd cc;
+      dirty = λ e p. absurd cc;
+      sure = sure ∙ sym (ap (λ b. is_sure b l.granted true) serial);
+      undone = undone;
+      undoable = undoable;
+      within = within;
+      rises = j.rises;
+      limit = λ e. low;
+    });
+  }
+
+  room-by : (a : ℕ) (o : Own) → (not (has_item a (items v.attempt.stores)) && (length (items v.attempt.stores) == o.writes_limit)) ≡ false → writes_full a (known_of v o) ≡ false
+  room-by a o room = ap (λ (ws : List (ℕ × ℕ)). logs_writes v.gate.algorithm && (not (is_irrevocable (known_of v o)) && (not (has_item a ws) && (length ws == o.writes_limit)))) (written-plain v.gate.algorithm v.gate.granted v o locks)
+      ∙ (ap (λ b. logs_writes v.gate.algorithm && (not (is_irrevocable (known_of v o)) && b)) room ∙ and-false (logs_writes v.gate.algorithm) (not (is_irrevocable (known_of v o))))
+
+  -- once irrevocable a store needs nothing
+  pub may-store-sure : (a : ℕ) → a < c.words → l.granted ≡ true → l.start < CLOCK_LIMIT → MayStore good c n a l v v
+  may-store-sure a within granted low = let sure = sure-by ∙ granted in let j = locked good c n l v locks i in record {
+    can = λ x small. record { has = record { phase = i.phase; algorithm = locks; taken = j.taken }; started = j.started; inside = within; small = small; undoable = λ e. absurd (let no : true ≡ false = sym sure ∙ e in cc) };
+    inside = λ x m. stored l.undo v.lock [] a x m j.taken j.started sure-by low (λ e. absurd (let no : true ≡ false = sym sure ∙ e in cc)) (λ e. absurd (let no : true ≡ false = sym sure ∙ e in cc)) j.within;
+    written = λ o own x m. tells-store good c n a x v v o m i.phase locks own.0 (never-full a (known_of v o) (revocable-by o ∙ sure)).1 (logged-refl v) refl (still-opaque good c n l v o i);
+  }
+
+  -- a store whose old value was kept
+  pub may-store-logged : (a : ℕ) (u w : View) (m : Local) → a < c.words → l.granted ≡ false → l.start < CLOCK_LIMIT → IsClocked v u → HasLogged c.words a l u m w → MayStore good c n a m v w
+  may-store-logged a u w m within revocable low k h = let j = locked good c n l v locks i in let rev : v.lock.irrevocable ≡ false = sure-by ∙ revocable in record {
+    can = λ x small. record {
+      has = subst (λ (y : View). HasLock y) (sym path) (record { phase = i.phase; algorithm = locks; taken = ap (λ (y : View). y.lock.taken) flat ∙ (ap (λ (y : View). y.lock.taken) k.is ∙ j.taken) });
+      started = ap (λ (y : View). y.lock.started) flat ∙ (ap (λ (y : View). y.lock.started) k.is ∙ j.started);
+      inside = within;
+      small = small;
+      undoable = λ e. h.logged;
+    };
+    inside = λ x p. subst (λ (y : View). IsInside good c n (record m { wrote = true }) (view_after (store_heap a x) p y x)) (sym path)
+        (subst (λ (q : Local). IsInside good c n (record q { wrote = true }) (view_after (store_heap a x) p (aside v w.lock more) x)) (sym h.local)
+        (stored m.undo w.lock more a x p (ap (λ (y : View). y.lock.taken) flat ∙ (ap (λ (y : View). y.lock.taken) k.is ∙ j.taken)) (ap (λ (y : View). y.lock.started) flat ∙ (ap (λ (y : View). y.lock.started) k.is ∙ j.started)) (ap (λ (y : View). y.lock.irrevocable) flat ∙ (ap (λ (y : View). y.lock.irrevocable) k.is ∙ sure-by)) low
+        (λ e. h.undone) (λ e. h.undoable x ∙ ap (λ (y : View). addresses (put a x (items y.attempt.stores))) k.is) h.within));
+    written = λ o own x p. tells-store good c n a x v w o p i.phase locks own.0
+        (room-by a o (roomy a l.undo.items (items v.attempt.stores) l.undo.len o.writes_limit (j.undoable rev) (own.1 ∙ h.len) h.room))
+        (subst (λ (y : View). IsLogged v y) (sym path) (record { history = refl; gate = refl; sure = ap (λ (y : View). y.lock.irrevocable) flat ∙ ap (λ (y : View). y.lock.irrevocable) k.is; start = refl; rises = refl; base = refl; installs = refl; trail = (more, refl) }))
+        (ap (λ (y : View). y.attempt) path) (still-opaque good c n l v o i);
+  }
+    where
+      more : List TrailItem
+      more = h.more ++ k.more
+
+      flat : w ≡ record u { lock = record u.lock { undo = w.lock.undo }; steps = record u.steps { trail = h.more ++ u.steps.trail } }
+      flat = h.is
+
+      same : record u.lock { undo = w.lock.undo } ≡ w.lock
+      same = ap (λ (y : View). y.lock) (sym h.is)
+
+      path : w ≡ aside v w.lock more
+      path = h.is ∙ (λ d. record (k.is d) { lock = same d; steps = record (k.is d).steps { trail = h.more ++ (k.is d).steps.trail } }) ∙ (λ d. record v { lock = w.lock; steps = record v.steps { trail = sym (append_assoc h.more k.more v.steps.trail) d } })
+
+  pub unmade-clocked : (u t : View) → IsClocked v u → IsUnmade u t → IsUnmade v t
+  unmade-clocked u t k m = record {
+    carried = record {
+      named = m.carried.named ∙ ap (λ (y : View). y.gate.algorithm) k.is;
+      base = m.carried.base ∙ ap (λ (y : View). y.steps.rises_at_begin) k.is;
+      installs = m.carried.installs ∙ ap (λ (y : View). y.steps.installs) k.is;
+      trail = (m.carried.trail.0 ++ k.more, m.carried.trail.1 ∙ (ap (λ (y : View). m.carried.trail.0 ++ y.steps.trail) k.is ∙ sym (append_assoc m.carried.trail.0 k.more v.steps.trail)));
+    };
+    history = m.history ∙ ap (λ (y : View). y.history) k.is;
+  }
+
+  -- THE REFUSAL: what was stored is taken back
+  pub quits-back : (u w : View) (o : Own) → l.granted ≡ false → IsClocked v u → GivesUp n u w → Quits (known_of v o) (known_of w o)
+  quits-back u w o revocable k g = let j = locked good c n l v locks i in
+      subst (λ (y : View). Quits (known_of v o) (known_of y o)) (sym g.is)
+      (quits-left n v g.before o (unmade-clocked u g.before k g.unmade) (let e = g.rises in let f : u.steps.rises ≡ v.steps.rises = ap (λ (y : View). y.steps.rises) k.is in let b = j.rises in (omega arith, omega arith)) (revocable-by o ∙ (sure-by ∙ revocable)))
+
+  -- THE FULL LOG
+  pub full-by : (a : ℕ) (o : Own) → l.granted ≡ false → o.writes_limit ≡ l.undo.len → item_at a l.undo.items ≡ None → length l.undo.items ≡ l.undo.len → writes_full a (known_of v o) ≡ true
+  full-by a o revocable own none long = let j = locked good c n l v locks i in
+      ap (λ (ws : List (ℕ × ℕ)). logs_writes v.gate.algorithm && (not (is_irrevocable (known_of v o)) && (not (has_item a ws) && (length ws == o.writes_limit)))) (written-plain v.gate.algorithm v.gate.granted v o locks)
+      ∙ (ap (λ b. logs_writes v.gate.algorithm && (not (is_irrevocable (known_of v o)) && b)) (filled a l.undo.items (items v.attempt.stores) l.undo.len o.writes_limit (j.undoable (sure-by ∙ revocable)) own none long)
+      ∙ (ap (λ b. logs_writes v.gate.algorithm && (not b && true)) (revocable-by o ∙ (sure-by ∙ revocable)) ∙ ap (λ b. logs_writes b && true) named))
+
+  pub roomy-empty : (a : ℕ) (o : Own) → l.wrote ≡ false → 0 < o.writes_limit → writes_full a (known_of v o) ≡ false
+  roomy-empty a o clean some = let j = locked good c n l v locks i in
+      room-by a o (ap (λ (cs : List Cell). not (has_item a (items cs)) && (length (items cs) == o.writes_limit)) (j.clean clean) ∙ apart 0 o.writes_limit some)
+
+  -- THE END AT THE START
+  pub ended-back : (w : View) (o : Own) → GivesUp n v w → EndsAt good c n l.start (known_of v o) (known_of w o)
+  ended-back w o g = subst (λ (y : View). EndsAt good c n l.start (known_of v o) (known_of y o)) (sym g.is) (ended-left n good c l.start v g.before o g.unmade (sym i.start) (opaque-inside good c n l v o i))
+
+  -- the clock that was found at its limit, as it is told after the end
+  pub full-after : (clock : ℕ) (u w : View) (o : Own) → CLOCK_LIMIT ≤ clock → Found Clock clock (known_of v o) (known_of u o) → GivesUp n u w → FindsFull clock (known_of v o) (known_of w o)
+  full-after clock u w o high found g = let t = trail-left n u g.before g.unmade.carried in
+      finds-full clock v w o o high (found-later Clock clock (known_of v o) (known_of u o) (known_of w o) found t.0 (ap (λ (y : View). y.steps.trail) g.is ∙ t.1))

@@ -1,0 +1,75 @@
+-- What stands between the parts of a call of the algorithms of one lock.
+use Rattle.std.specs.Prelude.{ℕ, ◌≡◌, ◌<◌, ◌≤◌, ◌^◌, ◌++◌, true, false, List, length, None, Result, Ok, Err}
+use Rattle.stm_model.specs.declared.config.TheConstants.{CLOCK_LIMIT}
+use Rattle.stm_model.specs.Memories.{item_at, put}
+use Rattle.rule_base.specs.declared.layout.At.TheVariants.{Clock}
+use Rattle.rule_base.specs.declared.views.TrailItem.{TrailItem}
+use Rattle.rule_base.specs.Bridge.{items}
+use Rattle.tx_logs.specs.declared.push.Push.{Push}
+use Rattle.tx_logs.specs.declared.push.Push.TheVariants as pushes
+use Rattle.tx_answers.specs.Evidence.{Found}
+use Rattle.stm_model.specs.declared.config.Config.{Config}
+use Rattle.rule_base.specs.declared.views.View.{View}
+use Rattle.rule_base.specs.History.{touches, Inside}
+use Rattle.rule_base.specs.Own.{Own}
+use Rattle.rule_base.specs.StepKinds.{view_after}
+use Rattle.rule_base.specs.World.{World}
+use Rattle.rule_seq.specs.CglSteps.{store_heap, CanStoreHeap}
+use Rattle.stm_rule.specs.declared.local.Local.{Local}
+use Rattle.stm_rule.specs.Attempts.{IsInside, IsOutside, addresses, ended}
+use Rattle.stm_gate.specs.Leaving.{left}
+use Rattle.stm_gate.specs.LeavingLaws.{IsUnmade}
+use Rattle.tx_answers.specs.declared.answers.Write.{Write}
+use Rattle.tx_answers.specs.declared.answers.Write.TheVariants.{Done}
+use Rattle.tx_answers.specs.Answers.{HasWritten}
+use Rattle.tx_answers.specs.Known.{known_of}
+
+-- caller n ended the attempt and left no trace but its steps
+pub record GivesUp (n : ℕ) (v w : View) : Type 0 where
+  pub outside : IsOutside w
+  pub before : View
+  pub unmade : IsUnmade v before
+  pub rises : before.steps.rises ≡ v.steps.rises
+  pub is : w ≡ left n before
+
+-- the clock was loaded, or nothing was done
+pub record IsClocked (v w : View) : Type 0 where
+  pub more : List TrailItem
+  pub is : w ≡ record v { lock = record v.lock { clocked = w.lock.clocked }; steps = record v.steps { trail = more ++ v.steps.trail } }
+
+-- the attempt may have its entry, or the clock was loaded at its limit
+abbrev pub HasClock : Result (Unit {0}) ℕ → Local → View → View → Type 0
+HasClock (Ok _) l v w = IsClocked v w × (l.start < CLOCK_LIMIT)
+HasClock (Err clock) l v w = IsClocked v w × (l.wrote ≡ false) × (CLOCK_LIMIT ≤ clock) × ((o : Own) → Found Clock clock (known_of v o) (known_of w o))
+
+-- the undo log has the old value at a
+pub record HasLogged (words a : ℕ) (l : Local) (v : View) (m : Local) (w : View) : Type 0 where
+  pub local : m ≡ record l { undo = m.undo }
+  pub len : m.undo.len ≡ l.undo.len
+  pub more : List TrailItem
+  pub is : w ≡ record v { lock = record v.lock { undo = w.lock.undo }; steps = record v.steps { trail = more ++ v.steps.trail } }
+  pub undone : m.undo.items ≡ items w.lock.undo
+  pub logged : touches w.lock.undo a ≡ true
+  pub within : Inside words w.lock.undo
+  pub undoable : (x : ℕ) → addresses m.undo.items ≡ addresses (put a x (items v.attempt.stores))
+  pub room : item_at a l.undo.items ≡ None → length l.undo.items < l.undo.len
+
+abbrev pub Logs : ℕ → ℕ → Push → Local → View → Local → View → Type 0
+Logs words a pushes.Done l v m w = HasLogged words a l v m w
+Logs words a (pushes.Full limit) l v m w = (m ≡ l) × (w ≡ v) × (item_at a l.undo.items ≡ None) × (length l.undo.items ≡ l.undo.len) × (limit ≡ l.undo.len)
+
+-- what a descriptor keeps of an attempt whose log is under way
+abbrev pub IsOwn : Local → Own → Type 0
+IsOwn l o = (o.committing ≡ false) × (o.writes_limit ≡ l.undo.len)
+
+module _ (good : List ℕ → Type 0) (c : Config) (n a : ℕ) where
+  -- The word at a may be stored next, whatever the value: the attempt goes on then, and has written it. v is the view at the call.
+  pub record MayStore (l : Local) (v w : View) : Type 0 where
+    pub can : (x : ℕ) → x < 2 ^ 64 → CanStoreHeap c.words a x w
+    pub inside : (x : ℕ) (m : World) → IsInside good c n (record l { wrote = true }) (view_after (store_heap a x) m w x)
+    pub written : (o : Own) → IsOwn l o → (x : ℕ) (m : World) → HasWritten good c n a x Done (known_of v o) (known_of (view_after (store_heap a x) m w x) o)
+
+  -- the old value is kept, or the attempt is taken back and ended
+  abbrev pub KeepsOld : Result (Unit {0}) Write → Local → View → Local → View → Type 0
+  KeepsOld (Ok _) l v m w = (m.undo.len ≡ l.undo.len) × (m ≡ record l { undo = m.undo }) × MayStore m v w
+  KeepsOld (Err refusal) l v m w = (m ≡ ended l) × IsOutside w × ((x : ℕ) (o : Own) → IsOwn l o → HasWritten good c n a x refusal (known_of v o) (known_of w o))

@@ -1,0 +1,5 @@
+pub mod PromotedRule
+pub mod PromotedSteps
+pub mod PromotedLaws
+pub mod OrecGranted
+pub mod PromotedRuns

@@ -1,0 +1,16 @@
+//! The law of a promoted attempt's steps, as a contract. A function here does nothing: its contract is the law.
+ghost use Rattle.std.specs.Prelude.{ℕ};
+ghost use Rattle.stm_model.specs.declared.alg.Alg.{Alg};
+ghost use Rattle.stm_model.specs.declared.config.Config.{Config};
+ghost use Rattle.rule_base.specs.Bridge.{of_words};
+ghost use Rattle.rule_promoted.specs.PromotedRuns.{DirectKeepsAlong};
+
+use stm_model::alg::Alg;
+use stm_model::config::Config;
+use stm_model::rule::MemRule;
+
+/// Whatever loads, stores, entries and releases of records a promoted attempt takes, under each algorithm,
+/// each allowed where it comes, its clauses hold after each.
+pub fn direct_keeps_along<K: MemRule>()
+    ensures { (rule : K) (c : Config) (alg : Alg) (caller : ℕ) → DirectKeepsAlong (of_words (K.good rule) c.words) c alg caller }
+{}

@@ -1,0 +1,10 @@
+pub mod Filters
+pub mod Slots
+pub mod RingRule
+pub mod RingSteps
+pub mod RingLemmas
+pub mod RingReadLaws
+pub mod RingCommitLaws
+pub mod SlotFilter
+pub mod RingRuns
+pub mod RingPromoted

@@ -1,0 +1,25 @@
+-- Who is outside an attempt is inside none of an algorithm, under every algorithm: at rest an attempt's clauses speak of nobody.
+use Rattle.std.specs.Prelude.{ℕ, ◌≡◌, Bool, true, if◌then◌else◌}
+use Rattle.rule_base.specs.declared.views.Phase.{Phase}
+use Rattle.rule_base.specs.declared.views.Phase.TheVariants.{In}
+use Rattle.rule_base.specs.declared.views.View.{View}
+use Rattle.rule_base.specs.GateRule.{may_hold}
+use Rattle.rule_base.specs.World.{World, parts}
+
+-- the caller has a part in some algorithm: one flag an algorithm
+abbrev pub is_busy : View → Bool
+is_busy v = if v.tml.inside then true else (if v.tml.writer then true else (if v.owned.inside then true else (if v.ring_read.inside then true else v.ring_commit.committed)))
+
+-- what these clauses see of the world
+pub record AttemptScene : Type 0 where
+  pub busy : ℕ → Bool
+  pub entered : ℕ → Bool
+  pub phases : ℕ → Phase
+
+abbrev pub attempt_scene : World → AttemptScene
+attempt_scene w = record { busy = parts is_busy w.views; entered = parts (λ (v : View). v.attempt.entered) w.views; phases = parts (λ (v : View). v.gate.phase) w.views }
+
+pub record AttemptRule (s : AttemptScene) : Type 0 where
+  pub busy : (n : ℕ) → s.busy n ≡ true → s.phases n ≡ In
+  -- who raised the clock as the gate's holder is in its attempt or closing
+  pub entered : (n : ℕ) → s.entered n ≡ true → may_hold (s.phases n) ≡ true

@@ -1,0 +1,117 @@
+-- A turn that finds the clock at its limit.
+use Rattle.std.proofs.Common.{ℕ, ◌≡◌, ◌<◌, ◌≤◌, ◌+◌, ◌*◌, ◌^◌, Bool, false, List, [], ◌∷◌, length, arith, refl, sym, ap, ◌∙◌, subst, inl, inr}
+use Rattle.std.specs.Prelude.{Option, Some, None, MatchOption}
+use Rattle.stm_script.specs.declared.workload.Item.{Item}
+use Rattle.stm_model.specs.declared.stop.Stop.TheVariants as stops
+use Rattle.tx_answers.specs.declared.answers.Begin.TheVariants as begins
+use Rattle.tx_answers.specs.declared.answers.Commit.TheVariants as commits
+use Rattle.tx_answers.specs.declared.answers.Irrev.TheVariants as irrevs
+use Rattle.stm_rule.specs.declared.stm.Stm.{Stm}
+use Rattle.stm_tx.specs.Descs.{known}
+use Rattle.stm_trace.specs.declared.said.Phase.{Phase}
+use Rattle.stm_trace.specs.declared.said.Phase.TheVariants.{Between, Inside}
+use Rattle.stm_trace.specs.declared.said.Said.{Said}
+use Rattle.stm_trace.specs.declared.said.Said.TheVariants.{TryBegin, Reply, Stopped, TryCancel, TryIrrevocable, TryCommit, TryClose, Looked, Installed, Idle, Dropped, Reopened}
+use Rattle.stm_trace.specs.Places.{Place, after, clock_of}
+use Rattle.stm_trace.specs.Turns.{BeforeTx, MaySay}
+use Rattle.stm_worker.specs.declared.worker.Worker.{Worker}
+use Rattle.stm_worker.specs.Workers.{IsUnderWay, Loaded, Sound, Turned, WhenInside, place_of}
+use Rattle.stm_worker.specs.Payments.{CountsNext, PaysBut, raised, unpaid_at, unpaid_by}
+use Rattle.stm_worker.specs.PaymentLaws.{alone-pays-but, none-failed, pays-all, pays-left, same-unpaid, turned-counts, turned-pays-but}
+use Rattle.stm_driver.specs.AllWorkers.{Enough, IsPaid, MetLimit}
+use Rattle.stm_driver.proofs.ScheduleLaws.{full-between}
+
+-- a transaction is still to do
+full-before : (at : Place) (said : Said) (clock : ℕ) → clock_of said ≡ Some clock → MaySay at said → (at.phase ≡ Inside → BeforeTx at.left) → BeforeTx (after at said).left
+full-before at (TryBegin (begins.Begun alg)) clock e m here = absurd cc
+full-before at (TryBegin (begins.Closed gate)) clock e m here = absurd cc
+full-before at (TryBegin (begins.Held word)) clock e m here = absurd cc
+full-before at (TryBegin (begins.ClockFull c)) clock e m here = m.1
+full-before at (Reply op reply) clock e m here = absurd cc
+full-before at (Stopped op (stops.Conflict cause)) clock e m here = absurd cc
+full-before at (Stopped op (stops.Full limit)) clock e m here = absurd cc
+full-before at (Stopped op (stops.ClockFull c)) clock e m here = here m.0.0
+full-before at (TryCancel c) clock e m here = absurd cc
+full-before at (TryIrrevocable irrevs.Granted) clock e m here = absurd cc
+full-before at (TryIrrevocable (irrevs.Busy caller status)) clock e m here = absurd cc
+full-before at (TryIrrevocable (irrevs.Taken gate)) clock e m here = absurd cc
+full-before at (TryIrrevocable (irrevs.Conflict cause)) clock e m here = absurd cc
+full-before at (TryIrrevocable (irrevs.ClockFull c)) clock e (inl m) here = here m.0
+full-before at (TryIrrevocable (irrevs.ClockFull c)) clock e (inr m) here = here m.0
+full-before at (TryCommit (commits.Committed time)) clock e m here = absurd cc
+full-before at (TryCommit (commits.ReadOnly time)) clock e m here = absurd cc
+full-before at (TryCommit (commits.Conflict cause)) clock e m here = absurd cc
+full-before at (TryCommit (commits.Again word had now)) clock e m here = absurd cc
+full-before at (TryCommit (commits.ClockFull c)) clock e m here = here m.0
+full-before at (TryClose c) clock e m here = absurd cc
+full-before at (Looked l) clock e m here = absurd cc
+full-before at (Installed alg) clock e m here = absurd cc
+full-before at Idle clock e m here = absurd cc
+full-before at Dropped clock e m here = absurd m
+full-before at Reopened clock e m here = absurd m
+
+module _ {K : Type 0} (good : List ℕ → Type 0) (stm : Stm K) (u w : Worker K) (said : Said) (clock : ℕ) (s : Sound good stm u) (t : Turned good stm MaySay u said w) (full : clock_of said ≡ Some clock) where
+  pub halts-between : w.phase ≡ Between
+  halts-between = ap (λ (p : Place). p.phase) t.now ∙ full-between (place_of u) said clock full t.here
+
+  pub halts-limit : MetLimit w clock
+  halts-limit =
+      let found = subst (λ o. MatchOption o (Unit {0}) (λ c. (2 ^ 62 ≤ c) × Loaded (known w.desc) c)) full t.found in
+      let way : (u.phase ≡ Inside) → IsUnderWay good stm.config.words u = λ e. subst (λ (p : Phase). WhenInside p (IsUnderWay good stm.config.words u)) e s.under_way in
+      (found.0, found.1, subst BeforeTx (sym (ap (λ (p : Place). p.left) t.now)) (full-before (place_of u) said clock full t.here (λ e. (way e).here)))
+
+-- what stays so of a worker from turn to turn: what is unpaid, and what is counted
+pub record KeepsPaid {K : Type 0} (stm : Stm K) (u w : Worker K) : Type 0 where
+  pub pays : (unpaid each most : ℕ) → Enough stm most u → most + 2 ≤ each → PaysBut unpaid each most u → PaysBut unpaid each most w
+  pub enough : (most : ℕ) → Enough stm most u → Enough stm most w
+  pub counts : CountsNext u → CountsNext w
+
+pub paid-self : {K : Type 0} (stm : Stm K) (u : Worker K) → KeepsPaid stm u u
+paid-self stm u = record { pays = λ unpaid each most e wide p. p; enough = λ most e. e; counts = λ h. h }
+
+some-items : (left : List Item) → BeforeTx left → 0 < length left
+some-items [] b = absurd b
+some-items (i ∷ items) b = omega arith
+
+module _ {K : Type 0} (good : List ℕ → Type 0) (stm : Stm K) where
+  few-failed : (w : Worker K) (most : ℕ) → Sound good stm w → Enough stm most w → w.must ≡ false → w.failed ≤ most
+  few-failed w most s (inl much) off = let f = s.counted off in omega arith
+  few-failed w most s (inr e) off = let f = e.1 in omega arith
+
+  module _ (first u w : Worker K) (said : Said) (s : Sound good stm u) (t : Turned good stm MaySay u said w) (kept : KeepsPaid stm first u) where
+    enough-next : (most : ℕ) → Enough stm most u → Enough stm most w
+    enough-next most (inl much) = inl much
+    enough-next most (inr e) = inr (e.0, none-failed good stm u said w s MaySay t e.0 e.1, e.2)
+
+    pays-next : (unpaid each most : ℕ) → Enough stm most u → most + 2 ≤ each → PaysBut unpaid each most u → PaysBut (unpaid + unpaid_by said) each most w
+    pays-next unpaid each most (inl much) wide p = turned-pays-but good stm u said w s unpaid each most t much wide p
+    pays-next unpaid each most (inr e) wide p = alone-pays-but good stm u said w s unpaid each most t e.1 e.2 wide p
+
+    pays-after : (unpaid each most : ℕ) (clock : Option ℕ) → clock_of said ≡ clock → Enough stm most u → most + 2 ≤ each → PaysBut unpaid each most u → PaysBut (unpaid + unpaid_at clock) each most w
+    pays-after unpaid each most clock is e wide p =
+        subst (λ k. PaysBut (unpaid + k) each most w) (same-unpaid (place_of u) said t.here ∙ ap unpaid_at is) (pays-next unpaid each most e wide p)
+
+    -- a turn that found no full clock
+    pub paid-next : clock_of said ≡ None → KeepsPaid stm first w
+    paid-next calm = record {
+      pays = λ unpaid each most e wide p. (let h = pays-after unpaid each most None calm (kept.enough most e) wide (kept.pays unpaid each most e wide p) in omega (arith, h));
+      enough = λ most e. enough-next most (kept.enough most e);
+      counts = λ h. turned-counts good stm u said w s t (kept.counts h);
+    }
+
+    -- one that found it full is the last, and leaves an item that pays for it
+    pub paid-full : (clock : ℕ) → clock_of said ≡ Some clock → BeforeTx w.items_left.now → IsPaid stm first w
+    paid-full clock full left = record {
+      all = λ unpaid each most e wide counts p.
+          let h = pays-after unpaid each most (Some clock) full (kept.enough most e) wide (kept.pays unpaid each most e wide p) in
+          let r = pays-left (unpaid + 1) each most w (some-items w.items_left.now left) (few-failed w most t.sound (enough-next most (kept.enough most e))) wide h in
+          omega (arith, r);
+    }
+
+    -- nothing is left
+    pub paid-over : clock_of said ≡ None → IsPaid stm first w
+    paid-over calm = record {
+      all = λ unpaid each most e wide counts p.
+          let k = paid-next calm in
+          pays-all unpaid each most w (k.counts counts) (few-failed w most t.sound (k.enough most e)) (omega (arith, wide)) (k.pays unpaid each most e wide p);
+    }

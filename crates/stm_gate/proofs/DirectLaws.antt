@@ -1,0 +1,149 @@
+-- What the steps of a promoted attempt come to.
+use Rattle.std.proofs.Common.{ℕ, ◌≡◌, ◌<◌, ◌≤◌, ◌+◌, List, [], ◌∷◌, true, false, refl, sym, ap, ◌∙◌, arith, subst}
+use Rattle.std.specs.Prelude.{not}
+use Rattle.stm_model.specs.Algorithms.{closes_gate, entry_rise}
+use Rattle.stm_model.specs.declared.alg.Alg.{Alg}
+use Rattle.stm_model.specs.declared.alg.Alg.TheVariants.{Cgl, Tml, OrecLazy, OrecEager, RingSw, Serial}
+use Rattle.stm_model.specs.declared.config.Config.{Config}
+use Rattle.stm_model.specs.declared.config.TheConstants.{CLOCK_LIMIT}
+use Rattle.stm_model.specs.Logs.{Reads, Keeps}
+use Rattle.stm_model.specs.Memories.{is_empty, item_at, put}
+use Rattle.rule_base.specs.declared.views.View.{View}
+use Rattle.rule_base.specs.Bridge.{items, of_words}
+use Rattle.rule_base.specs.BridgeLemmas.{keeps-cells}
+use Rattle.rule_base.specs.History.{word_now}
+use Rattle.rule_base.specs.Own.{Own}
+use Rattle.rule_base.specs.StepKinds.{Nothing, Tells, view_after}
+use Rattle.rule_base.specs.InstallSteps.{store_base, store_done, CanMark}
+use Rattle.rule_seq.specs.CglSteps.{Loads, logged}
+use Rattle.rule_seq.specs.CglSteps as steps
+use Rattle.rule_promoted.specs.PromotedSteps.{direct_load, direct_store, direct_commit, CanDirectCommit}
+use Rattle.stm_rule.specs.declared.local.Local.{Local}
+use Rattle.stm_rule.specs.Attempts.{IsInside, IsPromoted}
+use Rattle.tx_answers.specs.declared.answers.Commit.TheVariants.{ReadOnly}
+use Rattle.tx_answers.specs.declared.answers.Read.TheVariants.{Value}
+use Rattle.tx_answers.specs.declared.answers.Write.TheVariants.{Done}
+use Rattle.tx_answers.specs.Answers.{HasRead, HasWritten, KeepsRule, Commits, CommitsAt}
+use Rattle.tx_answers.specs.Known.{known_of, granted_under, written_under, is_irrevocable, wrote}
+use Rattle.stm_gate.specs.InnerLaws.{goes-inner, written-granted, sure-granted, never-full}
+use Rattle.stm_gate.specs.Leaving.{left}
+use Rattle.stm_gate.specs.LeavingLaws.{unmade-refl, ended-left, commits-left}
+use Rattle.stm_gate.specs.Logging.{reads-logged, inside-logged, wrote-some}
+use Rattle.stm_gate.specs.Opacity.{opaque-at, opaque-inside}
+use Rattle.stm_gate.specs.Standing.{promoted-of}
+
+rise-some : (a : Alg) → 0 < entry_rise a
+rise-some Cgl = omega arith
+rise-some Tml = omega arith
+rise-some OrecLazy = omega arith
+rise-some OrecEager = omega arith
+rise-some RingSw = omega arith
+rise-some Serial = omega arith
+
+module _ (good : List ℕ → Type 0) (c : Config) (n : ℕ) where
+  abbrev pub rule : (ℕ → ℕ) → Type 0
+  rule = of_words good c.words
+
+  -- a promoted attempt is irrevocable
+  sure-known : (v : View) (o : Own) → closes_gate v.gate.algorithm ≡ true → granted_under v.gate.algorithm v.gate v.lock ≡ true → is_irrevocable (known_of v o) ≡ true
+  sure-known v o closes granted = sure-granted v.gate.algorithm (granted_under v.gate.algorithm v.gate v.lock) (wrote (known_of v o)) closes granted
+
+  pub tells-load : (a x : ℕ) (l : Local) (v w : View) (o : Own) → o.committing ≡ false → a < c.words → closes_gate v.gate.algorithm ≡ true → granted_under v.gate.algorithm v.gate v.lock ≡ true → IsInside good c n l v
+      → Tells (direct_load a) (Loads rule c a) v x w → HasRead good c n a (Value x) (known_of v o) (known_of w o)
+  tells-load a x l v w o quiet low closes granted i t = subst (λ (u : View). HasRead good c n a (Value x) (known_of v o) (known_of u o)) (sym t.2) (
+    goes-inner v u o i.phase (record { history = refl; gate = refl; lock = refl; start = refl; rises = refl; base = refl; installs = refl; trail = (_ ∷ [], refl) }),
+    quiet,
+    subst (λ (ws : List (ℕ × ℕ)). Reads (record { reads = items v.attempt.reads; writes = ws }) a x (record { reads = items (logged v.attempt a x); writes = written_under v.gate.algorithm v.gate.granted u o })) (sym (written v))
+        (subst (λ (ws : List (ℕ × ℕ)). Reads (record { reads = items v.attempt.reads; writes = items v.attempt.stores }) a x (record { reads = items (logged v.attempt a x); writes = ws })) (sym (written u))
+        (reads-logged (word_now v.history.seen) v.attempt a x i.sees t.1.value)),
+    t.1.small,
+    opaque-at good c n u o l.start i.start i.front i.legal i.below t.1.sees (inside-logged c.words v.attempt a x low i.reads_inside),
+    (never-full a (known_of v o) (sure-known v o closes granted)).0,
+  )
+    where
+      u : View
+      u = view_after (direct_load a) t.0 v x
+
+      written : (y : View) → written_under v.gate.algorithm v.gate.granted y o ≡ items y.attempt.stores
+      written y = written-granted v.gate.algorithm v.gate.granted y o (promoted-of good c n l v i closes granted).0
+
+  pub tells-store : (a x : ℕ) (l : Local) (v w : View) (o : Own) → o.committing ≡ false → closes_gate v.gate.algorithm ≡ true → granted_under v.gate.algorithm v.gate v.lock ≡ true → IsInside good c n l v
+      → Tells (direct_store a x) Nothing v x w → HasWritten good c n a x Done (known_of v o) (known_of w o)
+  tells-store a x l v w o quiet closes granted i t = subst (λ (u : View). HasWritten good c n a x Done (known_of v o) (known_of u o)) (sym t.2) (
+    goes-inner v u o i.phase (record { history = refl; gate = refl; lock = refl; start = refl; rises = refl; base = refl; installs = refl; trail = (_ ∷ [], refl) }),
+    quiet,
+    (refl, λ b. ap (item_at b) (written u ∙ ap (put a x) (sym (written v)))),
+    opaque-at good c n u o l.start i.start i.front i.legal i.below i.sees i.reads_inside,
+    (never-full a (known_of v o) (sure-known v o closes granted)).1,
+  )
+    where
+      u : View
+      u = view_after (direct_store a x) t.0 v x
+
+      written : (y : View) → written_under v.gate.algorithm v.gate.granted y o ≡ items y.attempt.stores
+      written y = written-granted v.gate.algorithm v.gate.granted y o (promoted-of good c n l v i closes granted).0
+
+  -- what a promoted attempt wrote is what it stored
+  written-here : (l : Local) (v : View) (o : Own) → closes_gate v.gate.algorithm ≡ true → granted_under v.gate.algorithm v.gate v.lock ≡ true → IsInside good c n l v → written_under v.gate.algorithm v.gate.granted v o ≡ items v.attempt.stores
+  written-here l v o closes granted i = written-granted v.gate.algorithm v.gate.granted v o (promoted-of good c n l v i closes granted).0
+
+  pub tells-read_only : (l : Local) (v w : View) (o : Own) → l.wrote ≡ false → closes_gate v.gate.algorithm ≡ true → granted_under v.gate.algorithm v.gate v.lock ≡ true → IsInside good c n l v → w ≡ left n v
+      → Commits good c n (ReadOnly l.start) (known_of v o) (known_of w o)
+  tells-read_only l v w o clean closes granted i is = subst (λ (u : View). Commits good c n (ReadOnly l.start) (known_of v o) (known_of u o)) (sym is) (
+    ended-left n good c l.start v v o (unmade-refl v) (sym i.start) (opaque-inside good c n l v o i),
+    p.rises,
+    ap (λ (ws : List (ℕ × ℕ)). not (is_empty ws)) (written-here l v o closes granted i ∙ ap items (p.clean clean)),
+  )
+    where
+      p : IsPromoted l v
+      p = (promoted-of good c n l v i closes granted).2
+
+  -- a promoted attempt that wrote may store the next time
+  pub may-commit : (alg : Alg) (t : ℕ) (l : Local) (v : View) (o : Own) → l.algorithm ≡ alg → t ≡ l.start + entry_rise alg → l.wrote ≡ true → closes_gate v.gate.algorithm ≡ true → granted_under v.gate.algorithm v.gate v.lock ≡ true → IsInside good c n l v
+      → KeepsRule good c n (known_of v o) → CanDirectCommit rule alg t v
+  may-commit alg t l v o named time dirty closes granted i keeps = record {
+    phase = i.phase;
+    granted = p.granted;
+    named = i.named ∙ named;
+    time = time ∙ ap (λ (k : ℕ). k + entry_rise alg) (sym i.start);
+    limit = subst (λ (k : ℕ). k ≤ CLOCK_LIMIT) (sym time) (subst (λ (a : Alg). l.start + entry_rise a ≤ CLOCK_LIMIT) named p.limit);
+    wrote = p.dirty dirty;
+    keeps = keeps-cells good c.words v.attempt.reads v.attempt.stores i.reads_inside
+        (subst (λ (ws : List (ℕ × ℕ)). Keeps good c.words (record { reads = items v.attempt.reads; writes = ws })) written (keeps (ap (λ (ws : List (ℕ × ℕ)). not (is_empty ws)) written ∙ ap not (wrote-some v.attempt.stores (p.dirty dirty)))));
+  }
+    where
+      p : IsPromoted l v
+      p = (promoted-of good c n l v i closes granted).2
+
+      written : written_under v.gate.algorithm v.gate.granted v o ≡ items v.attempt.stores
+      written = written-here l v o closes granted i
+
+  pub tells-commit : (alg : Alg) (t : ℕ) (l : Local) (v s u y w : View) (o : Own) → l.algorithm ≡ alg → t ≡ l.start + entry_rise alg → l.wrote ≡ true → closes_gate v.gate.algorithm ≡ true → granted_under v.gate.algorithm v.gate v.lock ≡ true → IsInside good c n l v
+      → Tells (direct_commit n alg t) (steps.Commits rule c n t) v t s → Tells (store_base t) Nothing s t u → Tells (store_done t) Nothing u t y → w ≡ left n y
+      → CommitsAt good c n t (known_of v o) (known_of w o)
+  tells-commit alg t l v s u y w o named time dirty closes granted i a b d is = subst (λ (x : View). CommitsAt good c n t (known_of v o) (known_of x o)) (sym path)
+      (commits-left n good c t a.0 v last o a.1 (record {
+        carried = record { named = refl; base = refl; installs = refl; trail = (_ ∷ _ ∷ _ ∷ [], refl) };
+        history = refl;
+        rises = (let r = p.rises in let e : entry_rise v.gate.algorithm ≡ entry_rise alg = ap entry_rise (i.named ∙ named) in omega arith);
+      }) (let m = rise-some alg in let k = i.start in omega arith) (let m = rise-some alg in let k = i.front in omega arith) (p.dirty dirty) (written-here l v o closes granted i))
+    where
+      p : IsPromoted l v
+      p = (promoted-of good c n l v i closes granted).2
+
+      last : View
+      last = view_after (store_done t) d.0 (view_after (store_base t) b.0 (view_after (direct_commit n alg t) a.0 v t) t) t
+
+      path : w ≡ left n last
+      path = is ∙ ap (left n) (d.2 ∙ ap (λ (x : View). view_after (store_done t) d.0 x t) (b.2 ∙ ap (λ (x : View). view_after (store_base t) b.0 x t) a.2))
+
+  -- BASE and DONE may have the time of the entry
+  pub may-base : (alg : Alg) (t : ℕ) (l : Local) (v s : View) → closes_gate v.gate.algorithm ≡ true → granted_under v.gate.algorithm v.gate v.lock ≡ true → IsInside good c n l v
+      → Tells (direct_commit n alg t) (steps.Commits rule c n t) v t s → CanMark t s
+  may-base alg t l v s closes granted i a = let p = (promoted-of good c n l v i closes granted).2 in
+      subst (CanMark t) (sym a.2) (record { closing = λ e. absurd (let k : true ≡ false = sym p.granted ∙ e in cc); calm = p.calm; time = refl })
+
+  pub may-done : (alg : Alg) (t : ℕ) (l : Local) (v s u : View) → closes_gate v.gate.algorithm ≡ true → granted_under v.gate.algorithm v.gate v.lock ≡ true → IsInside good c n l v
+      → Tells (direct_commit n alg t) (steps.Commits rule c n t) v t s → Tells (store_base t) Nothing s t u → CanMark t u
+  may-done alg t l v s u closes granted i a b = let m = may-base alg t l v s closes granted i a in
+      subst (CanMark t) (sym b.2) (record { closing = m.closing; calm = m.calm; time = m.time })

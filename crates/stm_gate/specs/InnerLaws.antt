@@ -1,0 +1,112 @@
+-- A step inside an attempt that leaves all alone but what was read and stored, as its caller knows it.
+use Rattle.std.proofs.Common.{ℕ, ◌≡◌, List, ◌++◌, Bool, true, false, refl, ap, ◌∙◌, arith, inl}
+use Rattle.std.specs.Prelude.{not, reverse, length, ◌&&◌, ◌==◌}
+use Rattle.stm_model.specs.Algorithms.{closes_gate, is_sure, has_read_log, logs_writes}
+use Rattle.stm_model.specs.declared.alg.Alg.{Alg}
+use Rattle.stm_model.specs.declared.alg.Alg.TheVariants.{Cgl, Tml, OrecLazy, OrecEager, RingSw, Serial}
+use Rattle.rule_base.specs.declared.views.GateView.{GateView}
+use Rattle.rule_base.specs.declared.views.LockView.{LockView}
+use Rattle.rule_base.specs.declared.views.Phase.TheVariants.{In}
+use Rattle.rule_base.specs.declared.views.SeenHistory.{SeenHistory}
+use Rattle.rule_base.specs.declared.views.TrailItem.{TrailItem}
+use Rattle.rule_base.specs.declared.views.View.{View}
+use Rattle.rule_base.specs.Bridge.{items, public_history}
+use Rattle.rule_base.specs.Own.{Own}
+use Rattle.tx_answers.specs.Answers.{StartMoves, GoesOn}
+use Rattle.tx_answers.specs.Causes.{has_item, reads_full, writes_full}
+use Rattle.tx_answers.specs.Known.{Known, known_of, granted_under, written_under, is_in, is_closing, is_irrevocable}
+use Rattle.tx_answers.specs.KnownLaws.{grows-same}
+
+pub record IsInner (v w : View) : Type 0 where
+  pub history : w.history ≡ v.history
+  pub gate : w.gate ≡ v.gate
+  pub lock : w.lock ≡ v.lock
+  pub start : w.attempt.start ≡ v.attempt.start
+  pub rises : w.steps.rises ≡ v.steps.rises
+  pub base : w.steps.rises_at_begin ≡ v.steps.rises_at_begin
+  pub installs : w.steps.installs ≡ v.steps.installs
+  pub trail : (more : List TrailItem) × (w.steps.trail ≡ more ++ v.steps.trail)
+
+-- a start may stay
+pub start-stays : (a : Alg) (v w : Known) → w.start ≡ v.start → StartMoves a v w
+start-stays Cgl v w e = e
+start-stays Tml v w e = e
+start-stays OrecLazy v w e = inl e
+start-stays OrecEager v w e = inl e
+start-stays RingSw v w e = inl e
+start-stays Serial v w e = e
+
+pub goes-inner : (v w : View) (o : Own) → v.gate.phase ≡ In → IsInner v w → GoesOn (known_of v o) (known_of w o)
+goes-inner v w o inside i = record {
+  continues = record {
+    running = ap (λ (g : GateView). is_in g.phase) i.gate ∙ ap is_in inside;
+    closing = ap (λ (g : GateView). is_closing g.phase) i.gate ∙ ap is_closing inside;
+    made = ap (λ (h : SeenHistory). public_history h.made) i.history;
+    grows = grows-same (known_of v o) (known_of w o) (ap (λ (h : SeenHistory). public_history h.seen) i.history) (ap (λ (h : SeenHistory). h.front) i.history) i.trail.0 i.trail.1 refl refl;
+    alg = ap (λ (g : GateView). g.algorithm) i.gate;
+    base = i.base;
+    rises = (let r = i.rises in (omega arith, omega arith));
+    later = (let e = i.start in omega arith);
+    installs = ap reverse i.installs;
+  };
+  start = start-stays v.gate.algorithm (known_of v o) (known_of w o) i.start;
+  granted = λ k. granted_under (i.gate k).algorithm (i.gate k) (i.lock k);
+  holds = ap (λ (g : GateView). g.holds) i.gate;
+  checked = ap (λ (g : GateView). g.checked) i.gate;
+}
+
+-- the grant is the gate's flag, but under Serial
+pub granted-same : (a : Alg) (g h : GateView) (l : LockView) → g.granted ≡ h.granted → granted_under a g l ≡ granted_under a h l
+granted-same Cgl g h l e = e
+granted-same Tml g h l e = e
+granted-same OrecLazy g h l e = e
+granted-same OrecEager g h l e = e
+granted-same RingSw g h l e = e
+granted-same Serial g h l e = refl
+
+pub ungranted-of : (a : Alg) (g : GateView) (l : LockView) → g.granted ≡ false → l.irrevocable ≡ false → granted_under a g l ≡ false
+ungranted-of Cgl g l e f = e
+ungranted-of Tml g l e f = e
+ungranted-of OrecLazy g l e f = e
+ungranted-of OrecEager g l e f = e
+ungranted-of RingSw g l e f = e
+ungranted-of Serial g l e f = f
+
+-- a granted attempt's writes lie in the heap
+pub written-granted : (a : Alg) (granted : Bool) (v : View) (o : Own) → granted ≡ true → written_under a granted v o ≡ items v.attempt.stores
+written-granted Cgl granted v o e = refl
+written-granted Tml granted v o e = refl
+written-granted OrecLazy true v o e = refl
+written-granted OrecLazy false v o e = absurd cc
+written-granted OrecEager true v o e = refl
+written-granted OrecEager false v o e = absurd cc
+written-granted RingSw true v o e = refl
+written-granted RingSw false v o e = absurd cc
+written-granted Serial granted v o e = refl
+
+pub sure-granted : (a : Alg) (granted wrote : Bool) → closes_gate a ≡ true → granted ≡ true → is_sure a granted wrote ≡ true
+sure-granted Cgl granted wrote c e = refl
+sure-granted Tml true wrote c e = refl
+sure-granted Tml false wrote c e = absurd cc
+sure-granted OrecLazy granted wrote c e = e
+sure-granted OrecEager granted wrote c e = e
+sure-granted RingSw granted wrote c e = e
+sure-granted Serial granted wrote c e = e
+
+and-no : (b : Bool) → (b && false) ≡ false
+and-no true = refl
+and-no false = refl
+
+-- an irrevocable attempt needs no item more
+pub never-full : (a : ℕ) (v : Known) → is_irrevocable v ≡ true → (reads_full a v ≡ false) × (writes_full a v ≡ false)
+never-full a v sure = (
+  ap (λ b. has_read_log v.alg && (not b && (not (has_item a v.log.writes) && (not (has_item a v.log.reads) && (length v.log.reads == v.reads_limit))))) sure ∙ and-no (has_read_log v.alg),
+  ap (λ b. logs_writes v.alg && (not b && (not (has_item a v.log.writes) && (length v.log.writes == v.writes_limit)))) sure ∙ and-no (logs_writes v.alg),
+)
+
+-- nor does one of an algorithm without logs
+pub no-log-full : (a : ℕ) (v : Known) → has_read_log v.alg ≡ false → logs_writes v.alg ≡ false → (reads_full a v ≡ false) × (writes_full a v ≡ false)
+no-log-full a v r w = (
+  ap (λ b. b && (not (is_irrevocable v) && (not (has_item a v.log.writes) && (not (has_item a v.log.reads) && (length v.log.reads == v.reads_limit))))) r,
+  ap (λ b. b && (not (is_irrevocable v) && (not (has_item a v.log.writes) && (length v.log.writes == v.writes_limit)))) w,
+)

@@ -1,0 +1,13 @@
+-- What contracts see of a descriptor as a caller, and what stays of a memory's caller.
+use Rattle.std.specs.Prelude.{ℕ}
+use Rattle.stm_rule.specs.Callers.{Handle}
+use Rattle.tx_answers.specs.Known.{Known, known_of, caller_of}
+
+module _ {K : Type 0} where
+  -- what the caller knows
+  abbrev pub known : Handle K → Known
+  known d = known_of d.view d.own
+
+  -- its number
+  abbrev pub number : Handle K → ℕ
+  number d = caller_of d.who.role

@@ -1,0 +1,40 @@
+-- What a try of an attempt to be alone comes to.
+use Rattle.std.specs.Prelude.{ℕ, ◌≡◌, ◌<◌, ◌++◌, Option, Some, None, true, List}
+use Rattle.rule_base.specs.declared.layout.At.TheVariants.{Gate}
+use Rattle.rule_base.specs.declared.views.GateView.{GateView}
+use Rattle.rule_base.specs.declared.views.TrailItem.{TrailItem}
+use Rattle.rule_base.specs.declared.views.View.{View}
+use Rattle.rule_base.specs.Encodings.{holder_of}
+use Rattle.stm_model.specs.declared.config.Config.{Config}
+use Rattle.stm_rule.specs.Callers.{idle_own}
+use Rattle.stm_gate.specs.declared.promote.Promotion.{Promotion}
+use Rattle.stm_gate.specs.declared.promote.Promotion.TheVariants as promotes
+use Rattle.tx_answers.specs.Answers.{Waits, SeesQuiet, IsBusy}
+use Rattle.tx_answers.specs.Causes.{NamesOther}
+use Rattle.tx_answers.specs.Evidence.{Found}
+use Rattle.tx_answers.specs.Known.{Known, known_of}
+
+-- the attempt holds the gate; nothing changed but what it knows of it, and the trail
+pub record TakesGate (v w : View) : Type 0 where
+  pub gate : GateView
+  pub more : List TrailItem
+  pub is : w ≡ record v { gate = gate; steps = record v.steps { trail = more ++ v.steps.trail } }
+  pub holds : gate.holds ≡ true
+  pub phase : gate.phase ≡ v.gate.phase
+  pub algorithm : gate.algorithm ≡ v.gate.algorithm
+  pub granted : gate.granted ≡ v.gate.granted
+
+module _ (c : Config) (n : ℕ) where
+  -- the attempt holds the gate; or another caller does, and nothing changed but the trail
+  abbrev pub ClosesFor : Option ℕ → View → View → Type 0
+  ClosesFor None v w = TakesGate v w
+  ClosesFor (Some gate) v w =
+      ((more : List TrailItem) × (w ≡ record v { steps = record v.steps { trail = more ++ v.steps.trail } }))
+      × Found Gate gate (known_of v (idle_own c)) (known_of w (idle_own c)) × NamesOther c n (holder_of gate) × (1 < c.callers)
+
+  -- what `promote` tells
+  module _ (good : List ℕ → Type 0) where
+    abbrev pub Promotes : Promotion → Known → Known → Type 0
+    Promotes promotes.Alone v w = Waits good c n v w × (w.holds ≡ true) × SeesQuiet good c n w
+    Promotes (promotes.Busy caller status) v w = Waits good c n v w × (w.holds ≡ true) × IsBusy good c n caller status v w
+    Promotes (promotes.Taken gate) v w = Waits good c n v w × (w.holds ≡ v.holds) × (w.checked ≡ v.checked) × Found Gate gate v w × NamesOther c n (holder_of gate) × (1 < c.callers)

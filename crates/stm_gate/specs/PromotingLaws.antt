@@ -1,0 +1,225 @@
+-- What the steps by which an attempt comes to be alone come to.
+use Rattle.std.proofs.Common.{ℕ, ◌≡◌, ◌≢◌, ◌<◌, ◌+◌, List, [], ◌∷◌, ◌++◌, Bool, true, false, refl, sym, ap, ◌∙◌, arith, subst, append_assoc}
+use Rattle.std.proofs.lemmas.Bool.Decides.{nat_tests}
+use Rattle.std.specs.Prelude.{Some, None, not, ◌==◌, ◌&&◌, ◌||◌, if◌then◌else◌}
+use Rattle.stm_model.specs.Algorithms.{closes_gate, is_sure}
+use Rattle.stm_model.specs.declared.alg.Alg.{Alg}
+use Rattle.stm_model.specs.declared.alg.Alg.TheVariants.{Cgl, Tml, OrecLazy, OrecEager, RingSw, Serial}
+use Rattle.stm_model.specs.declared.config.Config.{Config}
+use Rattle.stm_model.specs.Memories.{is_empty}
+use Rattle.rule_base.specs.declared.layout.At.TheVariants.{Gate}
+use Rattle.rule_base.specs.declared.views.Act.TheVariants.{Load, Exchange}
+use Rattle.rule_base.specs.declared.views.GateView.{GateView}
+use Rattle.rule_base.specs.declared.views.Phase.TheVariants.{Idle, In, Closing}
+use Rattle.rule_base.specs.declared.views.TrailItem.{TrailItem}
+use Rattle.rule_base.specs.declared.views.View.{View}
+use Rattle.rule_base.specs.Bridge.{items}
+use Rattle.rule_base.specs.Encodings.{holder_of, gate_word}
+use Rattle.rule_base.specs.GateSteps.{look_gate, seize, seized}
+use Rattle.rule_base.specs.Own.{Own}
+use Rattle.rule_base.specs.StepKinds.{Tells, view_after}
+use Rattle.stm_rule.specs.declared.local.Local.{Local}
+use Rattle.stm_rule.specs.Attempts.{Keeps, IsInside, IsTml, StandsBy, Stands}
+use Rattle.stm_rule.specs.Callers.{idle_own}
+use Rattle.stm_rule.specs.StandLemmas.{inside-of}
+use Rattle.stm_rule.specs.Findings.{FindsGate, FindsTaken}
+use Rattle.tx_answers.specs.declared.answers.Look.TheVariants as looks
+use Rattle.tx_answers.specs.Answers.{Waits, IsOpaque}
+use Rattle.tx_answers.specs.Known.{known_of, granted_under, written_under, is_irrevocable, is_in, is_closing}
+use Rattle.tx_answers.specs.KnownLaws.{grows-same}
+use Rattle.stm_gate.specs.InnerLaws.{granted-same}
+use Rattle.stm_gate.specs.LeavingLaws.{found-earlier}
+use Rattle.stm_gate.specs.Logging.{wrote-some}
+use Rattle.stm_gate.specs.Looking.{looked, LooksOn, LooksUntil}
+use Rattle.stm_gate.specs.Promoting.{TakesGate, ClosesFor, Promotes}
+use Rattle.stm_gate.specs.declared.promote.Promotion.TheVariants as promotes
+use Rattle.stm_gate.specs.Standing.{tml-of}
+
+pub takes-refl : (v : View) → v.gate.holds ≡ true → TakesGate v v
+takes-refl v h = record { gate = v.gate; more = []; is = refl; holds = h; phase = refl; algorithm = refl; granted = refl }
+
+pub takes-looked : (u v w : View) → TakesGate u v → LooksOn v w → TakesGate u w
+takes-looked u v w a b = record {
+  gate = record a.gate { checked = b.checked };
+  more = b.more ++ a.more;
+  is = b.is ∙ (ap (λ (x : View). looked x b.checked (b.more ++ x.steps.trail)) a.is ∙ ap (looked (record u { gate = a.gate }) b.checked) (sym (append_assoc b.more a.more u.steps.trail)));
+  holds = a.holds;
+  phase = a.phase;
+  algorithm = a.algorithm;
+  granted = a.granted;
+}
+
+-- what was written doesn't depend on the gate and the trail
+abbrev gated : View → GateView → List TrailItem → View
+gated v g trail = record v { gate = g; steps = record v.steps { trail = trail } }
+
+written-gated : (a : Alg) (b : Bool) (v : View) (g : GateView) (t : List TrailItem) (o : Own) → written_under a b (gated v g t) o ≡ written_under a b v o
+written-gated Cgl b v g t o = refl
+written-gated Tml b v g t o = refl
+written-gated OrecLazy true v g t o = refl
+written-gated OrecLazy false v g t o = refl
+written-gated OrecEager true v g t o = refl
+written-gated OrecEager false v g t o = refl
+written-gated RingSw true v g t o = refl
+written-gated RingSw false v g t o = refl
+written-gated Serial b v g t o = refl
+
+module _ (c : Config) (n : ℕ) where
+  two : (k : ℕ) → k < c.callers → n < c.callers → k ≢ n → 1 < c.callers
+  two k a b apart = grind arith
+
+  pub looks-taken : (gate : ℕ) (v w : View) → n < c.callers → v.gate.holds ≡ false → holder_of gate ≢ 0 → Tells look_gate (FindsGate c n) v gate w → ClosesFor c n (Some gate) v w
+  looks-taken gate v w low free other t = let who = t.1.closer free other in (
+    (record { place = Gate; act = Load; found = Some gate } ∷ [], t.2),
+    (record { place = Gate; act = Load; found = Some gate } ∷ [], ap (λ (y : View). y.steps.trail) t.2, Load, (0, omega arith, refl)),
+    who,
+    two who.0 who.1 low who.2,
+  )
+
+  abbrev pub items_of : (gate found : ℕ) (alg : Alg) → List TrailItem
+  items_of gate found alg = record { place = Gate; act = Exchange (gate_word 0 alg) (gate_word (1 + n) alg); found = Some found } ∷ record { place = Gate; act = Load; found = Some gate } ∷ []
+
+  seize_path : (alg : Alg) (gate found : ℕ) (v s w : View) (b : Bool) → (found == gate_word 0 alg) ≡ b → Tells look_gate (FindsGate c n) v gate s → Tells (seize n alg) (FindsTaken c n (gate_word 0 alg)) s found w
+      → w ≡ gated v (if b then seized v.gate else v.gate) (items_of gate found alg ++ v.steps.trail)
+  seize_path alg gate found v s w b e t k = k.2 ∙ (ap (λ (y : View). view_after (seize n alg) k.0 y found) t.2 ∙ ap (λ (d : Bool). gated v (if d then seized v.gate else v.gate) (items_of gate found alg ++ v.steps.trail)) e)
+
+  pub seizes-taken : (alg : Alg) (gate found : ℕ) (v s w : View) → n < c.callers → found ≢ gate_word 0 alg → Tells look_gate (FindsGate c n) v gate s → Tells (seize n alg) (FindsTaken c n (gate_word 0 alg)) s found w → ClosesFor c n (Some found) v w
+  seizes-taken alg gate found v s w low other t k =
+      let apart : (found == gate_word 0 alg) ≡ false = grind (arith, nat_tests) in
+      let path = seize_path alg gate found v s w false apart t k in
+      let who = k.1.closer other in (
+        (items_of gate found alg, path),
+        (items_of gate found alg, ap (λ (y : View). y.steps.trail) path, Exchange (gate_word 0 alg) (gate_word (1 + n) alg), (0, omega arith, refl)),
+        who,
+        two who.0 who.1 low who.2,
+      )
+
+  pub seizes-won : (alg : Alg) (gate found : ℕ) (v s w : View) → found ≡ gate_word 0 alg → Tells look_gate (FindsGate c n) v gate s → Tells (seize n alg) (FindsTaken c n (gate_word 0 alg)) s found w
+      → w ≡ gated v (seized v.gate) (items_of gate found alg ++ v.steps.trail)
+  seizes-won alg gate found v s w same t k = let here : (found == gate_word 0 alg) ≡ true = grind (arith, nat_tests) in seize_path alg gate found v s w true here t k
+
+  pub takes-won : (alg : Alg) (gate found : ℕ) (v s w : View) → found ≡ gate_word 0 alg → Tells look_gate (FindsGate c n) v gate s → Tells (seize n alg) (FindsTaken c n (gate_word 0 alg)) s found w → ClosesFor c n None v w
+  takes-won alg gate found v s w same t k = record { gate = seized v.gate; more = items_of gate found alg; is = seizes-won alg gate found v s w same t k; holds = refl; phase = refl; algorithm = refl; granted = refl }
+
+  module _ (good : List ℕ → Type 0) where
+    -- the attempt goes on as it was, but for the gate
+    pub waits-by : (v w : View) (g : GateView) (more : List TrailItem) (o : Own) → w ≡ gated v g (more ++ v.steps.trail) → g.phase ≡ v.gate.phase → g.algorithm ≡ v.gate.algorithm → g.granted ≡ v.gate.granted → v.gate.phase ≡ In → o.committing ≡ false
+        → closes_gate v.gate.algorithm ≡ true → is_irrevocable (known_of v o) ≡ false → IsOpaque good c n (known_of v o) → Waits good c n (known_of v o) (known_of w o)
+    waits-by v w g more o is phase algorithm granted inside quiet closes revocable q = subst (λ (y : View). Waits good c n (known_of v o) (known_of y o)) (sym is) (record {
+      continues = record {
+        running = ap is_in phase ∙ ap is_in inside;
+        closing = ap is_closing phase ∙ ap is_closing inside;
+        made = refl;
+        grows = grows-same (known_of v o) (known_of y o) refl refl more refl refl refl;
+        alg = algorithm;
+        base = refl;
+        rises = (omega arith, omega arith);
+        later = omega arith;
+        installs = refl;
+      };
+      still = refl;
+      uncommitted = quiet;
+      start = refl;
+      log = λ i. record { reads = items v.attempt.reads; writes = ((λ j. written_under (algorithm j) (granted j) y o) ∙ written-gated v.gate.algorithm v.gate.granted v g (more ++ v.steps.trail) o) i };
+      opaque = record { legal = q.legal; reach = q.reach; sees = q.sees; kept = q.kept; explained = q.explained };
+      granted = (λ j. granted_under (algorithm j) g v.lock) ∙ granted-same v.gate.algorithm g v.gate v.lock granted;
+      revocable = revocable;
+      closes = closes;
+    })
+      where
+        y : View
+        y = gated v g (more ++ v.steps.trail)
+
+    pub promotes-taken : (gate : ℕ) (v w : View) (o p : Own) → p ≡ o → v.gate.phase ≡ In → o.committing ≡ false → closes_gate v.gate.algorithm ≡ true → is_irrevocable (known_of v o) ≡ false → IsOpaque good c n (known_of v o)
+        → ClosesFor c n (Some gate) v w → Promotes c n good (promotes.Taken gate) (known_of v o) (known_of w p)
+    promotes-taken gate v w o p own inside quiet closes revocable q a = subst (λ (r : Own). Promotes c n good (promotes.Taken gate) (known_of v o) (known_of w r)) (sym own)
+        (waits-by v w v.gate a.0.0 o a.0.1 refl refl refl inside quiet closes revocable q, ap (λ (y : View). y.gate.holds) a.0.1, ap (λ (y : View). y.gate.checked) a.0.1, a.1, a.2, a.3)
+
+    pub promotes-alone : (u v w : View) (o p : Own) → p ≡ o → u.gate.phase ≡ In → o.committing ≡ false → closes_gate u.gate.algorithm ≡ true → is_irrevocable (known_of u o) ≡ false → IsOpaque good c n (known_of u o)
+        → ClosesFor c n None u v → LooksUntil c n good looks.Quiet v w → Promotes c n good promotes.Alone (known_of u o) (known_of w p)
+    promotes-alone u v w o p own inside quiet closes revocable q a b = subst (λ (r : Own). Promotes c n good promotes.Alone (known_of u o) (known_of w r)) (sym own)
+        (let t = takes-looked u v w a b.0 in (waits-by u w t.gate t.more o t.is t.phase t.algorithm t.granted inside quiet closes revocable q, ap (λ (y : View). y.gate.holds) t.is ∙ t.holds, b.1))
+
+    pub promotes-busy : (k status : ℕ) (u v w : View) (o p : Own) → p ≡ o → u.gate.phase ≡ In → o.committing ≡ false → closes_gate u.gate.algorithm ≡ true → is_irrevocable (known_of u o) ≡ false → IsOpaque good c n (known_of u o)
+        → ClosesFor c n None u v → LooksUntil c n good (looks.Busy k status) v w → Promotes c n good (promotes.Busy k status) (known_of u o) (known_of w p)
+    promotes-busy k status u v w o p own inside quiet closes revocable q a b = subst (λ (r : Own). Promotes c n good (promotes.Busy k status) (known_of u o) (known_of w r)) (sym own)
+        (let t = takes-looked u v w a b.0 in (
+          waits-by u w t.gate t.more o t.is t.phase t.algorithm t.granted inside quiet closes revocable q,
+          ap (λ (y : View). y.gate.holds) t.is ∙ t.holds,
+          record { other = b.1.other; announced = b.1.announced; found = found-earlier _ status (known_of u (idle_own c)) (known_of v (idle_own c)) (known_of w (idle_own c)) b.1.found a.more (ap (λ (y : View). y.steps.trail) a.is); before = b.1.before },
+        ))
+
+    -- of the algorithms that are built one closes the gate
+    only-tml : (l : Local) (v : View) (a : Alg) (granted : Bool) → closes_gate a ≡ true → Keeps c a granted l v → a ≡ Tml
+    only-tml l v Cgl granted e k = absurd cc
+    only-tml l v Tml granted e k = refl
+    only-tml l v OrecLazy granted e k = absurd k
+    only-tml l v OrecEager granted e k = absurd k
+    only-tml l v RingSw granted e k = absurd k
+    only-tml l v Serial granted e k = absurd cc
+
+    or-no : (a b : Bool) → (a || b) ≡ false → (a ≡ false) × (b ≡ false)
+    or-no true b e = absurd cc
+    or-no false b e = (refl, e)
+
+    -- an attempt of TML that can still be cancelled reads
+    pub revocable-tml : (l : Local) (v : View) (o : Own) → IsInside good c n l v → v.gate.algorithm ≡ Tml → is_irrevocable (known_of v o) ≡ false → (v.gate.granted ≡ false) × (l.granted ≡ false) × (l.wrote ≡ false) × IsTml c l v
+    revocable-tml l v o i tml revocable = (free.0, plain, clean l.wrote refl, reader)
+      where
+        free : (v.gate.granted ≡ false) × (not (is_empty (items v.attempt.stores)) ≡ false)
+        free = or-no v.gate.granted (not (is_empty (items v.attempt.stores))) (subst (λ (a : Alg). is_sure a (granted_under a v.gate v.lock) (not (is_empty (written_under a v.gate.granted v o))) ≡ false) tml revocable)
+
+        plain : l.granted ≡ false
+        plain = ap (λ b. b && l.granted) (sym (ap closes_gate (sym i.named ∙ tml))) ∙ (sym i.granted ∙ free.0)
+
+        reader : IsTml c l v
+        reader = tml-of good c n l v i tml plain
+
+        clean : (b : Bool) → l.wrote ≡ b → b ≡ false
+        clean true e = absurd (let k : false ≡ true = sym free.1 ∙ ap not (wrote-some v.attempt.stores (reader.dirty e)) in cc)
+        clean false e = refl
+
+    running-by : (l : Local) (v : View) (running holds : Bool) → v.gate.phase ≡ In → StandsBy good c n l running holds v → running ≡ true
+    running-by l v true holds e s = refl
+    running-by l v false true e s = absurd (let k : Closing ≡ In = sym s.phase ∙ e in cc)
+    running-by l v false false e s = absurd (let k : Idle ≡ In = sym s.phase ∙ e in cc)
+
+    -- the attempt that closed the gate stands
+    pub seized-stands : (l : Local) (v w : View) (o : Own) (trail : List TrailItem) → w ≡ gated v (seized v.gate) trail → v.gate.phase ≡ In → closes_gate v.gate.algorithm ≡ true → is_irrevocable (known_of v o) ≡ false → Stands good c n l v → Stands good c n (record l { holds = true; next = 0 }) w
+    seized-stands l v w o trail is inside closes revocable s = subst (λ (y : View). Stands good c n m y) (sym is) (record { holds = refl; by = subst (λ r. StandsBy good c n m r true y) (sym (running-by l v l.running l.holds inside s.by)) stays })
+      where
+        m : Local
+        m = record l { holds = true; next = 0 }
+
+        y : View
+        y = gated v (seized v.gate) trail
+
+        i : IsInside good c n l v
+        i = inside-of good c n l v inside s
+
+        tml : v.gate.algorithm ≡ Tml
+        tml = i.named ∙ only-tml l v l.algorithm l.granted (ap closes_gate (sym i.named) ∙ closes) i.keeps
+
+        r : (v.gate.granted ≡ false) × (l.granted ≡ false) × (l.wrote ≡ false) × IsTml c l v
+        r = revocable-tml l v o i tml revocable
+
+        keeps : IsTml c m y
+        keeps = let k = r.3 in record { inside = k.inside; settled = k.settled; unlocked = k.unlocked; uncommitted = k.uncommitted; unfixed = k.unfixed; ungranted = k.ungranted; even = k.even; writer = k.writer; clean = k.clean; dirty = k.dirty; uncalm = refl; rises = k.rises; limit = k.limit; sole = k.sole }
+
+        stays : IsInside good c n m y
+        stays = record {
+          phase = i.phase;
+          named = i.named;
+          built = i.built;
+          disowned = i.disowned;
+          unentered = i.unentered;
+          start = i.start;
+          front = i.front;
+          legal = i.legal;
+          below = i.below;
+          sees = i.sees;
+          reads_inside = i.reads_inside;
+          looked = λ e. record { low = omega arith; seen = λ k l d. absurd (omega arith); unseen = λ k e. absurd cc };
+          granted = i.granted;
+          keeps = subst (λ a. Keeps c a l.granted m y) (sym (sym i.named ∙ tml)) (subst (λ b. Keeps c Tml b m y) (sym r.1) keeps);
+        }

@@ -1,0 +1,106 @@
+-- What a descriptor's tie says, in the terms of its memory.
+use Rattle.std.proofs.Common.{ℕ, ◌≡◌, List, [], Bool, true, false, refl, sym, ap, ◌∙◌, subst}
+use Rattle.std.specs.Prelude.{Option, Some, ◌&&◌}
+use Rattle.stm_model.specs.Algorithms.{closes_gate}
+use Rattle.stm_model.specs.declared.alg.Alg.{Alg}
+use Rattle.stm_model.specs.declared.alg.Alg.TheVariants.{Cgl, Tml, OrecLazy, OrecEager, RingSw, Serial}
+use Rattle.stm_model.specs.declared.config.Config.{Config}
+use Rattle.rule_base.specs.declared.seats.SeatView.{SeatView}
+use Rattle.rule_base.specs.declared.seats.Who.{Who}
+use Rattle.rule_base.specs.declared.views.GateView.{GateView}
+use Rattle.rule_base.specs.declared.views.LockView.{LockView}
+use Rattle.rule_base.specs.declared.views.Phase.{Phase}
+use Rattle.rule_base.specs.declared.views.Phase.TheVariants.{Idle, Announced, Turned, Aiming, In, Closing}
+use Rattle.rule_base.specs.declared.views.View.{View}
+use Rattle.rule_base.specs.Own.{Own}
+use Rattle.rule_base.specs.StepKinds.{StepKind}
+use Rattle.rule_base.specs.World.{World}
+use Rattle.stm_rule.specs.Kept.{SeatTells}
+use Rattle.stm_rule.specs.declared.local.Local.{Local}
+use Rattle.stm_rule.specs.Attempts.{good_by, own_of, Keeps, IsInside, IsTml, IsPromoted, Stands}
+use Rattle.stm_rule.specs.Callers.{Handle}
+use Rattle.stm_rule.specs.StandLemmas.{inside-of}
+use Rattle.tx_answers.specs.Known.{Known, known_of, granted_under, is_in}
+use Rattle.stm_gate.specs.Knowing.{known, number}
+
+-- a descriptor's own part, by the configuration and its undo log's length
+abbrev own_by : Config → ℕ → Own
+own_by c len = record { committing = false; reads_limit = c.reads; writes_limit = len; buffered = [] }
+
+pub in-of : (p : Phase) → is_in p ≡ true → p ≡ In
+in-of Idle e = absurd cc
+in-of Announced e = absurd cc
+in-of Turned e = absurd cc
+in-of Aiming e = absurd cc
+in-of In e = refl
+in-of Closing e = absurd cc
+
+module _ {K : Type 0} (good : K → List ℕ → Type 0) where
+  -- for the memory's configuration and rule
+  pub stands-of : (c : Config) (rule : K) (who : Who K) (n : ℕ) (l : Local) (v : View) → who.config ≡ c → who.rule ≡ Some rule → Stands (good_by good who.rule) who.config n l v → Stands (good rule) c n l v
+  stands-of c rule who n l v config value s =
+      subst (λ (f : Config). Stands (good rule) f n l v) config (subst (λ (r : Option K). Stands (good_by good r) who.config n l v) value s)
+
+  -- a running descriptor runs an attempt
+  pub runs-of : (c : Config) (rule : K) (d e : Handle K) (n : ℕ) (l : Local) → d ≡ e → e.who.config ≡ c → e.who.rule ≡ Some rule → (known e).running ≡ true → Stands (good_by good d.who.rule) d.who.config n l d.view → IsInside (good rule) c n l d.view
+  runs-of c rule d e n l same configured ruled runs stands =
+      let config = subst (λ (h : Handle K). h.who.config ≡ c) (sym same) configured in
+      let value = subst (λ (h : Handle K). h.who.rule ≡ Some rule) (sym same) ruled in
+      let phase = in-of d.view.gate.phase (subst (λ (h : Handle K). is_in h.view.gate.phase ≡ true) (sym same) runs) in
+      inside-of (good rule) c n l d.view phase (stands-of c rule d.who n l d.view config value stands)
+
+module _ {K : Type 0} where
+  -- a step leaves its seat to the same caller
+  pub who-of : (kind : StepKind) (shows : World → View → ℕ → Type 0) (s : SeatView K) (x : ℕ) (t : SeatView K) → SeatTells kind shows s x t → t.who ≡ s.who
+  who-of kind shows s x t h = ap (λ (y : SeatView K). y.who) h.3
+
+  -- what was shown of the views of caller n is so of its descriptor d, which was e at the call; the limits of its logs stand
+  pub shown-of : (R : ℕ → Known → Known → Type 0) (d e : Handle K) (n : ℕ) (w : View) (q : Who K) (l m : Local) → d ≡ e → q ≡ d.who → m.undo.len ≡ l.undo.len → number d ≡ n
+      → R n (known d) (known_of w (own_of d.who.config l)) → R (number e) (known e) (known_of w (own_of q.config m))
+  shown-of R d e n w q l m same who len name h = subst (λ (p : Handle K). R (number p) (known p) (known_of w (own_of q.config m))) same
+      (subst (λ (o : Own). R (number d) (known d) (known_of w o)) (λ i. own_by (sym who i).config (sym len i))
+      (subst (λ (k : ℕ). R k (known d) (known_of w (own_of d.who.config l))) (sym name) h))
+
+module _ (good : List ℕ → Type 0) (c : Config) (n : ℕ) (l : Local) (v : View) where
+  closed_alg : (a : Alg) → closes_gate a ≡ true → (gate : GateView) (lock : LockView) → granted_under a gate lock ≡ true → gate.granted ≡ true
+  closed_alg Cgl e gate lock g = absurd cc
+  closed_alg Tml e gate lock g = g
+  closed_alg OrecLazy e gate lock g = g
+  closed_alg OrecEager e gate lock g = g
+  closed_alg RingSw e gate lock g = g
+  closed_alg Serial e gate lock g = absurd cc
+
+  both : (a b : Bool) → true ≡ (a && b) → (a ≡ true) × (b ≡ true)
+  both true true e = (refl, refl)
+  both true false e = absurd cc
+  both false b e = absurd cc
+
+  by-alg : (a : Alg) (granted : Bool) → closes_gate a ≡ true → granted ≡ true → Keeps c a granted l v → IsPromoted l v
+  by-alg Cgl granted e g k = absurd cc
+  by-alg Tml true e g k = k
+  by-alg Tml false e g k = absurd cc
+  by-alg OrecLazy granted e g k = absurd k
+  by-alg OrecEager granted e g k = absurd k
+  by-alg RingSw granted e g k = absurd k
+  by-alg Serial granted e g k = absurd cc
+
+  -- an attempt that closes the gate and was granted was promoted
+  pub promoted-of : IsInside good c n l v → closes_gate v.gate.algorithm ≡ true → granted_under v.gate.algorithm v.gate v.lock ≡ true → (v.gate.granted ≡ true) × (l.granted ≡ true) × IsPromoted l v
+  promoted-of i closes granted =
+      let here = closed_alg v.gate.algorithm closes v.gate v.lock granted in
+      let named : closes_gate l.algorithm ≡ true = ap closes_gate (sym i.named) ∙ closes in
+      let own = both (closes_gate l.algorithm) l.granted (sym here ∙ i.granted) in
+      (here, own.1, by-alg l.algorithm l.granted named own.1 i.keeps)
+
+  tml-by : (a : Alg) (granted : Bool) → a ≡ Tml → granted ≡ false → Keeps c a granted l v → IsTml c l v
+  tml-by Cgl granted e g k = absurd cc
+  tml-by Tml true e g k = absurd cc
+  tml-by Tml false e g k = k
+  tml-by OrecLazy granted e g k = absurd k
+  tml-by OrecEager granted e g k = absurd k
+  tml-by RingSw granted e g k = absurd k
+  tml-by Serial granted e g k = absurd cc
+
+  -- an attempt of TML that was not promoted
+  pub tml-of : IsInside good c n l v → v.gate.algorithm ≡ Tml → l.granted ≡ false → IsTml c l v
+  tml-of i tml plain = tml-by l.algorithm l.granted (sym i.named ∙ tml) plain i.keeps

@@ -1,0 +1,118 @@
+-- No step lets the stamp of a record fall.
+use Rattle.std.proofs.Common.{◌≡◌, ℕ, ◌≤◌, Bool, true, false, refl, sym, subst, arith}
+use Rattle.std.specs.Prelude.{if◌then◌else◌, ltb}
+use Rattle.stm_model.specs.declared.config.Config.{Config}
+use Rattle.stm_model.specs.declared.config.TheConstants.{CLOCK_LIMIT}
+use Rattle.rule_base.specs.declared.views.Ownership.{Ownership}
+use Rattle.rule_base.specs.declared.views.View.{View}
+use Rattle.rule_base.specs.Ranks.{Rec, rec_of}
+use Rattle.rule_base.specs.Ranks.Rec.{Free, Taken}
+use Rattle.rule_base.specs.StepKinds.{answer, view_after, world_after}
+use Rattle.rule_base.specs.World.{World, put}
+use Rattle.rule_seq.specs.CglRuns.CglStep.{acquires_lock, loads_start, loads_heap, stores_heap, stores_clock, frees_lock, loads_undo, loads_limit, takes_back}
+use Rattle.rule_seq.specs.TmlRuns.TmlStep.{tml_begins, tml_loads, tml_agains, tml_writes, tml_stores, tml_commits}
+use Rattle.rule_orec.specs.OrecLaws.{orec_scene-put}
+use Rattle.rule_orec.specs.OrecLaws as orec
+use Rattle.rule_orec.specs.OrecRely.{stamp-grows}
+use Rattle.rule_orec.specs.OrecRule.{OrecView, orec_view, OrecScene, orec_scene, rank, rank_of}
+use Rattle.rule_orec.specs.OrecRuns.OrecStep.{orec_begins, orec_samples, orec_loads, orec_confirms, orec_clocks, orec_clocks_all, orec_passes, orec_lasts, orec_looks, orec_limits, orec_locks, orec_commits, orec_writes_back, orec_times, orec_olds, orec_ups, orec_own_loads, orec_saves, orec_places, orec_restores, orec_lifts}
+use Rattle.rule_orec.specs.OrecSteps.{passes, direct_owned}
+use Rattle.stm_rule.specs.CoreRuns.{CoreStep, core_kind, CoreMay}
+use Rattle.stm_rule.specs.CoreRuns.CoreStep.{announces, loads_gate, departs, aims, takes_gate, checks, reopens, settles, evens_clock, stores_base, stores_done, installs, looks_gate, seizes, grants, orec_grants, orec_grants_all, direct_loads, direct_stores, direct_commits, returns, hears, loads_end, of_cgl, of_tml, of_orec, direct_releases, of_ring, look_grants, move_grants}
+use Rattle.rule_ring.specs.RingRuns.RingStep.{ring_begins, ring_loads, ring_looks, ring_words, ring_agains, ring_moves, ring_locks, ring_ticks, ring_slots, ring_enters, ring_writes, ring_dones, ring_frees}
+use Rattle.stm_rule.specs.Frames.{orec-world}
+use Rattle.stm_rule.specs.Product.{Whole}
+use Rattle.stm_rule.specs.Stamping.{is_direct_release, CoreStamps}
+
+rank-view : (vs : ℕ → OrecView) (n q : ℕ) (v : OrecView) (k : Rec) → v.owned.held ≡ (vs n).owned.held → v.owned.eager ≡ (vs n).owned.eager → v.owned.committed ≡ (vs n).owned.committed → v.owned.time ≡ (vs n).owned.time → rank_of vs q k ≤ rank_of (put vs n v) q k
+rank-view vs n q v (Free x) a b c d = grind arith
+rank-view vs n q v (Taken m) a b c d = grind (arith, a, b, c, d)
+
+-- a step that leaves the records and what its caller holds alone
+level : (w x : World) (n : ℕ) (v : View) → x.views ≡ put w.views n v → x.records ≡ w.records → v.owned.held ≡ (w.views n).owned.held → v.owned.eager ≡ (w.views n).owned.eager → v.owned.committed ≡ (w.views n).owned.committed → v.owned.time ≡ (w.views n).owned.time → (r : ℕ) → rank (orec_scene w) r ≤ rank (orec_scene x) r
+level w x n v is records a b c d r = subst (λ (s : OrecScene). rank (orec_scene w) r ≤ rank s r) (sym (orec_scene-put w x n v is))
+    (subst (λ (f : ℕ → ℕ). rank_of (orec_scene w).views r (rec_of (w.records r)) ≤ rank_of (put (orec_scene w).views n (orec_view v)) r (rec_of (f r))) (sym records) (rank-view (orec_scene w).views n r (orec_view v) (rec_of (w.records r)) a b c d))
+
+held_by : (b : Bool) (o : Ownership) → ((if b then direct_owned o else o).held ≡ o.held) × ((if b then direct_owned o else o).eager ≡ o.eager) × ((if b then direct_owned o else o).committed ≡ o.committed) × ((if b then direct_owned o else o).time ≡ o.time)
+held_by true o = (refl, refl, refl, refl)
+held_by false o = (refl, refl, refl, refl)
+
+core_ranks : (good : (ℕ → ℕ) → Type 0) (c : Config) (n : ℕ) (s : CoreStep) (w : World) → Whole good c w → CoreMay good c n s (w.views n) → is_direct_release s ≡ false → (r : ℕ) → rank (orec_scene w) r ≤ rank (orec_scene (world_after (core_kind n s) n w)) r
+core_ranks good c n announces w g m e = level w (world_after (core_kind n announces) n w) n (view_after (core_kind n announces) w (w.views n) (answer (core_kind n announces) w)) refl refl refl refl refl refl
+core_ranks good c n loads_gate w g m e = level w (world_after (core_kind n loads_gate) n w) n (view_after (core_kind n loads_gate) w (w.views n) (answer (core_kind n loads_gate) w)) refl refl refl refl refl refl
+core_ranks good c n departs w g m e = level w (world_after (core_kind n departs) n w) n (view_after (core_kind n departs) w (w.views n) (answer (core_kind n departs) w)) refl refl refl refl refl refl
+core_ranks good c n aims w g m e = level w (world_after (core_kind n aims) n w) n (view_after (core_kind n aims) w (w.views n) (answer (core_kind n aims) w)) refl refl refl refl refl refl
+core_ranks good c n (takes_gate word) w g m e = level w (world_after (core_kind n (takes_gate word)) n w) n (view_after (core_kind n (takes_gate word)) w (w.views n) (answer (core_kind n (takes_gate word)) w)) refl refl refl refl refl refl
+core_ranks good c n (checks other) w g m e = level w (world_after (core_kind n (checks other)) n w) n (view_after (core_kind n (checks other)) w (w.views n) (answer (core_kind n (checks other)) w)) refl refl refl refl refl refl
+core_ranks good c n (reopens alg) w g m e = level w (world_after (core_kind n (reopens alg)) n w) n (view_after (core_kind n (reopens alg)) w (w.views n) (answer (core_kind n (reopens alg)) w)) refl refl refl refl refl refl
+core_ranks good c n settles w g m e = level w (world_after (core_kind n settles) n w) n (view_after (core_kind n settles) w (w.views n) (answer (core_kind n settles) w)) refl refl refl refl refl refl
+core_ranks good c n (evens_clock time) w g m e = level w (world_after (core_kind n (evens_clock time)) n w) n (view_after (core_kind n (evens_clock time)) w (w.views n) (answer (core_kind n (evens_clock time)) w)) refl refl refl refl refl refl
+core_ranks good c n (stores_base time) w g m e = level w (world_after (core_kind n (stores_base time)) n w) n (view_after (core_kind n (stores_base time)) w (w.views n) (answer (core_kind n (stores_base time)) w)) refl refl refl refl refl refl
+core_ranks good c n (stores_done time) w g m e = level w (world_after (core_kind n (stores_done time)) n w) n (view_after (core_kind n (stores_done time)) w (w.views n) (answer (core_kind n (stores_done time)) w)) refl refl refl refl refl refl
+core_ranks good c n (installs alg) w g m e = level w (world_after (core_kind n (installs alg)) n w) n (view_after (core_kind n (installs alg)) w (w.views n) (answer (core_kind n (installs alg)) w)) refl refl refl refl refl refl
+core_ranks good c n looks_gate w g m e = level w (world_after (core_kind n looks_gate) n w) n (view_after (core_kind n looks_gate) w (w.views n) (answer (core_kind n looks_gate) w)) refl refl refl refl refl refl
+core_ranks good c n (seizes alg) w g m e = level w (world_after (core_kind n (seizes alg)) n w) n (view_after (core_kind n (seizes alg)) w (w.views n) (answer (core_kind n (seizes alg)) w)) refl refl refl refl refl refl
+core_ranks good c n grants w g m e = level w (world_after (core_kind n grants) n w) n (view_after (core_kind n grants) w (w.views n) (answer (core_kind n grants) w)) refl refl refl refl refl refl
+core_ranks good c n (orec_grants q b) w g m e = let k = held_by (passes (w.records q) (w.views n)) (w.views n).owned in level w (world_after (core_kind n (orec_grants q b)) n w) n (view_after (core_kind n (orec_grants q b)) w (w.views n) (answer (core_kind n (orec_grants q b)) w)) refl refl k.0 k.1 k.2 k.3
+core_ranks good c n orec_grants_all w g m e = let k = held_by (ltb w.clock CLOCK_LIMIT) (w.views n).owned in level w (world_after (core_kind n orec_grants_all) n w) n (view_after (core_kind n orec_grants_all) w (w.views n) (answer (core_kind n orec_grants_all) w)) refl refl k.0 k.1 k.2 k.3
+core_ranks good c n (direct_loads a) w g m e = level w (world_after (core_kind n (direct_loads a)) n w) n (view_after (core_kind n (direct_loads a)) w (w.views n) (answer (core_kind n (direct_loads a)) w)) refl refl refl refl refl refl
+core_ranks good c n (direct_stores a x) w g m e = level w (world_after (core_kind n (direct_stores a x)) n w) n (view_after (core_kind n (direct_stores a x)) w (w.views n) (answer (core_kind n (direct_stores a x)) w)) refl refl refl refl refl refl
+core_ranks good c n (direct_commits alg time) w g m e = level w (world_after (core_kind n (direct_commits alg time)) n w) n (view_after (core_kind n (direct_commits alg time)) w (w.views n) (answer (core_kind n (direct_commits alg time)) w)) refl refl refl refl refl refl
+core_ranks good c n (returns alg) w g m e = level w (world_after (core_kind n (returns alg)) n w) n (view_after (core_kind n (returns alg)) w (w.views n) (answer (core_kind n (returns alg)) w)) refl refl refl refl refl refl
+core_ranks good c n hears w g m e = level w (world_after (core_kind n hears) n w) n (view_after (core_kind n hears) w (w.views n) (answer (core_kind n hears) w)) refl refl refl refl refl refl
+core_ranks good c n loads_end w g m e = level w (world_after (core_kind n loads_end) n w) n (view_after (core_kind n loads_end) w (w.views n) (answer (core_kind n loads_end) w)) refl refl refl refl refl refl
+core_ranks good c n (of_cgl acquires_lock) w g m e = level w (world_after (core_kind n (of_cgl acquires_lock)) n w) n (view_after (core_kind n (of_cgl acquires_lock)) w (w.views n) (answer (core_kind n (of_cgl acquires_lock)) w)) refl refl refl refl refl refl
+core_ranks good c n (of_cgl loads_start) w g m e = level w (world_after (core_kind n (of_cgl loads_start)) n w) n (view_after (core_kind n (of_cgl loads_start)) w (w.views n) (answer (core_kind n (of_cgl loads_start)) w)) refl refl refl refl refl refl
+core_ranks good c n (of_cgl (loads_heap a)) w g m e = level w (world_after (core_kind n (of_cgl (loads_heap a))) n w) n (view_after (core_kind n (of_cgl (loads_heap a))) w (w.views n) (answer (core_kind n (of_cgl (loads_heap a))) w)) refl refl refl refl refl refl
+core_ranks good c n (of_cgl (stores_heap a x)) w g m e = level w (world_after (core_kind n (of_cgl (stores_heap a x))) n w) n (view_after (core_kind n (of_cgl (stores_heap a x))) w (w.views n) (answer (core_kind n (of_cgl (stores_heap a x))) w)) refl refl refl refl refl refl
+core_ranks good c n (of_cgl (stores_clock t)) w g m e = level w (world_after (core_kind n (of_cgl (stores_clock t))) n w) n (view_after (core_kind n (of_cgl (stores_clock t))) w (w.views n) (answer (core_kind n (of_cgl (stores_clock t))) w)) refl refl refl refl refl refl
+core_ranks good c n (of_cgl frees_lock) w g m e = level w (world_after (core_kind n (of_cgl frees_lock)) n w) n (view_after (core_kind n (of_cgl frees_lock)) w (w.views n) (answer (core_kind n (of_cgl frees_lock)) w)) refl refl refl refl refl refl
+core_ranks good c n (of_cgl (loads_undo a)) w g m e = level w (world_after (core_kind n (of_cgl (loads_undo a))) n w) n (view_after (core_kind n (of_cgl (loads_undo a))) w (w.views n) (answer (core_kind n (of_cgl (loads_undo a))) w)) refl refl refl refl refl refl
+core_ranks good c n (of_cgl (loads_limit fix)) w g m e = level w (world_after (core_kind n (of_cgl (loads_limit fix))) n w) n (view_after (core_kind n (of_cgl (loads_limit fix))) w (w.views n) (answer (core_kind n (of_cgl (loads_limit fix))) w)) refl refl refl refl refl refl
+core_ranks good c n (of_cgl (takes_back a x)) w g m e = level w (world_after (core_kind n (of_cgl (takes_back a x))) n w) n (view_after (core_kind n (of_cgl (takes_back a x))) w (w.views n) (answer (core_kind n (of_cgl (takes_back a x))) w)) refl refl refl refl refl refl
+core_ranks good c n (of_tml tml_begins) w g m e = level w (world_after (core_kind n (of_tml tml_begins)) n w) n (view_after (core_kind n (of_tml tml_begins)) w (w.views n) (answer (core_kind n (of_tml tml_begins)) w)) refl refl refl refl refl refl
+core_ranks good c n (of_tml (tml_loads a)) w g m e = level w (world_after (core_kind n (of_tml (tml_loads a))) n w) n (view_after (core_kind n (of_tml (tml_loads a))) w (w.views n) (answer (core_kind n (of_tml (tml_loads a))) w)) refl refl refl refl refl refl
+core_ranks good c n (of_tml tml_agains) w g m e = level w (world_after (core_kind n (of_tml tml_agains)) n w) n (view_after (core_kind n (of_tml tml_agains)) w (w.views n) (answer (core_kind n (of_tml tml_agains)) w)) refl refl refl refl refl refl
+core_ranks good c n (of_tml (tml_writes start)) w g m e = level w (world_after (core_kind n (of_tml (tml_writes start))) n w) n (view_after (core_kind n (of_tml (tml_writes start))) w (w.views n) (answer (core_kind n (of_tml (tml_writes start))) w)) refl refl refl refl refl refl
+core_ranks good c n (of_tml (tml_stores a x)) w g m e = level w (world_after (core_kind n (of_tml (tml_stores a x))) n w) n (view_after (core_kind n (of_tml (tml_stores a x))) w (w.views n) (answer (core_kind n (of_tml (tml_stores a x))) w)) refl refl refl refl refl refl
+core_ranks good c n (of_tml (tml_commits t)) w g m e = level w (world_after (core_kind n (of_tml (tml_commits t))) n w) n (view_after (core_kind n (of_tml (tml_commits t))) w (w.views n) (answer (core_kind n (of_tml (tml_commits t))) w)) refl refl refl refl refl refl
+core_ranks good c n (of_orec orec_begins) w g m e = orec.orec_begins-ranks good c n w (orec-world good c w n g m.1.runs) m.1
+core_ranks good c n (of_orec (orec_samples r a)) w g m e = orec.orec_samples-ranks good c n r a w (orec-world good c w n g m.1.has.runs) m.1
+core_ranks good c n (of_orec (orec_loads a)) w g m e = orec.orec_loads-ranks good c n a w (orec-world good c w n g m.1.has.runs) m.1
+core_ranks good c n (of_orec (orec_confirms r)) w g m e = orec.orec_confirms-ranks good c n r w (orec-world good c w n g m.1.opens.has.runs) m.1
+core_ranks good c n (of_orec (orec_clocks todo)) w g m e = orec.orec_clocks-ranks good c n todo w (orec-world good c w n g m.1.opens.has.runs) m.1
+core_ranks good c n (of_orec orec_clocks_all) w g m e = orec.orec_clocks_all-ranks good c n w (orec-world good c w n g m.1.opens.has.runs) m.1
+core_ranks good c n (of_orec (orec_passes r b)) w g m e = orec.orec_passes-ranks good c n r b w (orec-world good c w n g m.1.has.runs) m.1
+core_ranks good c n (of_orec (orec_lasts r b)) w g m e = orec.orec_lasts-ranks good c n r b w (orec-world good c w n g m.1.opens.has.runs) m.1
+core_ranks good c n (of_orec (orec_looks r)) w g m e = orec.orec_looks-ranks good c n r w (orec-world good c w n g m.1.runs) m.1
+core_ranks good c n (of_orec orec_limits) w g m e = orec.orec_limits-ranks good c n w (orec-world good c w n g m.1.runs) m.1
+core_ranks good c n (of_orec (orec_locks r version)) w g m e = orec.orec_locks-ranks good c n r version w (orec-world good c w n g m.1.opens.has.runs) m.1
+core_ranks good c n (of_orec (orec_commits start writes back)) w g m e = orec.orec_commits-ranks good c n start writes back m.0 w (orec-world good c w n g m.1.has.runs) m.1
+core_ranks good c n (of_orec (orec_writes_back a x)) w g m e = orec.orec_writes_back-ranks good c n a x w (orec-world good c w n g m.1.has.runs) m.1
+core_ranks good c n (of_orec (orec_times r version)) w g m e = orec.orec_times-ranks good c n r version w (orec-world good c w n g m.1.gives.has.runs) m.1
+core_ranks good c n (of_orec (orec_olds r version)) w g m e = orec.orec_olds-ranks good c n r version w (orec-world good c w n g m.1.gives.has.runs) m.1
+core_ranks good c n (of_orec (orec_ups r version)) w g m e = orec.orec_ups-ranks good c n r version w (orec-world good c w n g m.1.gives.has.runs) m.1
+core_ranks good c n (of_orec (orec_own_loads a)) w g m e = orec.orec_own_loads-ranks good c n a w (orec-world good c w n g m.1.opens.has.runs) m.1
+core_ranks good c n (of_orec (orec_saves a)) w g m e = orec.orec_saves-ranks good c n a w (orec-world good c w n g m.1.opens.has.runs) m.1
+core_ranks good c n (of_orec (orec_places a x)) w g m e = orec.orec_places-ranks good c n a x w (orec-world good c w n g m.1.opens.has.runs) m.1
+core_ranks good c n (of_orec (orec_restores a x)) w g m e = orec.orec_restores-ranks good c n a x w (orec-world good c w n g m.1.has.runs) m.1
+core_ranks good c n (of_orec (orec_lifts least)) w g m e = orec.orec_lifts-ranks good c n least w (orec-world good c w n g m.1.has.runs) m.1
+core_ranks good c n (of_ring ring_begins) w g m e = level w (world_after (core_kind n (of_ring ring_begins)) n w) n (view_after (core_kind n (of_ring ring_begins)) w (w.views n) (answer (core_kind n (of_ring ring_begins)) w)) refl refl refl refl refl refl
+core_ranks good c n (of_ring (ring_loads a)) w g m e = level w (world_after (core_kind n (of_ring (ring_loads a))) n w) n (view_after (core_kind n (of_ring (ring_loads a))) w (w.views n) (answer (core_kind n (of_ring (ring_loads a))) w)) refl refl refl refl refl refl
+core_ranks good c n (of_ring ring_looks) w g m e = level w (world_after (core_kind n (of_ring ring_looks)) n w) n (view_after (core_kind n (of_ring ring_looks)) w (w.views n) (answer (core_kind n (of_ring ring_looks)) w)) refl refl refl refl refl refl
+core_ranks good c n (of_ring (ring_words k i j)) w g m e = level w (world_after (core_kind n (of_ring (ring_words k i j))) n w) n (view_after (core_kind n (of_ring (ring_words k i j))) w (w.views n) (answer (core_kind n (of_ring (ring_words k i j))) w)) refl refl refl refl refl refl
+core_ranks good c n (of_ring (ring_agains k)) w g m e = level w (world_after (core_kind n (of_ring (ring_agains k))) n w) n (view_after (core_kind n (of_ring (ring_agains k))) w (w.views n) (answer (core_kind n (of_ring (ring_agains k))) w)) refl refl refl refl refl refl
+core_ranks good c n (of_ring ring_moves) w g m e = level w (world_after (core_kind n (of_ring ring_moves)) n w) n (view_after (core_kind n (of_ring ring_moves)) w (w.views n) (answer (core_kind n (of_ring ring_moves)) w)) refl refl refl refl refl refl
+core_ranks good c n (of_ring ring_locks) w g m e = level w (world_after (core_kind n (of_ring ring_locks)) n w) n (view_after (core_kind n (of_ring ring_locks)) w (w.views n) (answer (core_kind n (of_ring ring_locks)) w)) refl refl refl refl refl refl
+core_ranks good c n (of_ring ring_ticks) w g m e = level w (world_after (core_kind n (of_ring ring_ticks)) n w) n (view_after (core_kind n (of_ring ring_ticks)) w (w.views n) (answer (core_kind n (of_ring ring_ticks)) w)) refl refl refl refl refl refl
+core_ranks good c n (of_ring (ring_slots k i j ws)) w g m e = level w (world_after (core_kind n (of_ring (ring_slots k i j ws))) n w) n (view_after (core_kind n (of_ring (ring_slots k i j ws))) w (w.views n) (answer (core_kind n (of_ring (ring_slots k i j ws))) w)) refl refl refl refl refl refl
+core_ranks good c n (of_ring (ring_enters t)) w g m e = level w (world_after (core_kind n (of_ring (ring_enters t))) n w) n (view_after (core_kind n (of_ring (ring_enters t))) w (w.views n) (answer (core_kind n (of_ring (ring_enters t))) w)) refl refl refl refl refl refl
+core_ranks good c n (of_ring (ring_writes a x)) w g m e = level w (world_after (core_kind n (of_ring (ring_writes a x))) n w) n (view_after (core_kind n (of_ring (ring_writes a x))) w (w.views n) (answer (core_kind n (of_ring (ring_writes a x))) w)) refl refl refl refl refl refl
+core_ranks good c n (of_ring (ring_dones t)) w g m e = level w (world_after (core_kind n (of_ring (ring_dones t))) n w) n (view_after (core_kind n (of_ring (ring_dones t))) w (w.views n) (answer (core_kind n (of_ring (ring_dones t))) w)) refl refl refl refl refl refl
+core_ranks good c n (of_ring ring_frees) w g m e = level w (world_after (core_kind n (of_ring ring_frees)) n w) n (view_after (core_kind n (of_ring ring_frees)) w (w.views n) (answer (core_kind n (of_ring ring_frees)) w)) refl refl refl refl refl refl
+core_ranks good c n look_grants w g m e = level w (world_after (core_kind n look_grants) n w) n (view_after (core_kind n look_grants) w (w.views n) (answer (core_kind n look_grants) w)) refl refl refl refl refl refl
+core_ranks good c n move_grants w g m e = level w (world_after (core_kind n move_grants) n w) n (view_after (core_kind n move_grants) w (w.views n) (answer (core_kind n move_grants) w)) refl refl refl refl refl refl
+core_ranks good c n (direct_releases q time) w g m e = absurd cc
+
+pub core_stamps_lem : (good : (ℕ → ℕ) → Type 0) (c : Config) → CoreStamps good c
+core_stamps_lem good c n s w g m e r = stamp-grows (orec_scene w) (orec_scene (world_after (core_kind n s) n w)) r (core_ranks good c n s w g m e r)

@@ -1,0 +1,14 @@
+use Rattle.rule_promoted.specs.PromotedSteps.{direct_load, CanDirectLoad}
+use Rattle.rule_seq.specs.CglSteps.{Loads}
+use Rattle.stm_rule.specs.Kept.{good_of}
+use Rattle.stm_rule.specs.PromotionLaws.{direct_loads}
+use Rattle.stm_rule.specs.Product.{Whole}
+use Rattle.stm_rule.proofs.Allowing.{law_of}
+use Rattle.stm_rule.proofs.stm.Stm.direct_load.Goals as goal
+
+pub load_as-requires-clause-law : goal.load_as-requires-clause-law
+load_as-requires-clause-law g c =
+    let f = c.args.self.now.config in
+    let m = good_of g.K.MemRule.good f c.args.self.now.rule in
+    let n = c.args.caller in
+    law_of (Whole m f) (direct_load c.args.a) (Loads m f c.args.a) n (CanDirectLoad f.words c.args.a) c.args.seat.now.me.0.view (direct_loads m f n c.args.a) c.requires.view

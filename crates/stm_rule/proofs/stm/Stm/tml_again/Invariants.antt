@@ -1,0 +1,7 @@
+use Rattle.rule_seq.specs.TmlSteps.{tml_again}
+use Rattle.stm_rule.specs.Findings.{FindsAgain}
+use Rattle.stm_rule.specs.Kept.{good_of}
+use Rattle.stm_rule.proofs.stm.Stm.tml_again.Given as goal
+
+abbrev pub ghosts-load_as : goal.ghosts-load_as
+ghosts-load_as g a = record { kind = tml_again; shows = (FindsAgain (good_of g.K.MemRule.good a.self.now.config a.self.now.rule) a.self.now.config); caller = a.said.now }

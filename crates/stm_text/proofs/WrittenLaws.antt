@@ -1,0 +1,634 @@
+-- A text that is read as a workload is a text of that workload.
+use Rattle.std.proofs.Common.{ℕ, ◌≡◌, ◌≢◌, ◌<◌, ◌+◌, ◌-◌, ◌*◌, ◌^◌, List, [], ◌∷◌, ◌++◌, Bool, true, false, ◌&&◌, Option, Some, None, Result, Ok, Err, refl, sym, ap, ◌∙◌, subst, arith, rules, length, take, get_or, append_assoc, append-nil, inl, inr}
+use Rattle.stm_model.specs.Algorithms.{alg_name, is_built}
+use Rattle.std.specs.Prelude.{◌==◌, ◌⊎◌, if◌then◌else◌, leb, ltb, codes, map, bytes_eq}
+use Rattle.std.specs.Fmt.{decimal}
+use Rattle.std.proofs.lemmas.Fmt.{decimal-digits_value}
+use Rattle.std.proofs.lemmas.Str.Parse.{IsNumeralModel, IsDigitsTest, FoldsDigits, numerals_by_fold}
+use Rattle.std.proofs.lemmas.Bool.Decides.{nat_tests}
+use Rattle.std.proofs.lemmas.Slice.Eq.{bytes_eq-Decides}
+use Rattle.stm_model.specs.declared.alg.Alg.{Alg}
+use Rattle.stm_model.specs.declared.alg.TheConstants.{ALGORITHMS}
+use Rattle.stm_model.specs.declared.config.TheConstants.{MAX_WORDS, MAX_RECORDS, MIN_RING, MAX_RING, MAX_CALLERS, MAX_LOG, CLOCK_LIMIT}
+use Rattle.stm_script.specs.declared.op.Op.{Op}
+use Rattle.stm_script.specs.declared.op.Op.TheVariants.{Read, Write, Add as Sum, Move, Emit, Irrev, Cancel}
+use Rattle.stm_script.specs.declared.workload.Header.{Header}
+use Rattle.stm_script.specs.declared.workload.Item.{Item}
+use Rattle.stm_script.specs.declared.workload.Item.TheVariants.{Tx, Switch}
+use Rattle.stm_script.specs.declared.workload.Go.{Go}
+use Rattle.stm_script.specs.declared.workload.Workload.{Workload}
+use Rattle.stm_script.specs.declared.workload.TheConstants.{MAX_ITEMS, MAX_OPS, MAX_TURNS}
+use Rattle.stm_script.specs.Scripts.{has_irrev}
+use Rattle.stm_text.specs.declared.draft.Place.{Place}
+use Rattle.stm_text.specs.declared.draft.Place.TheVariants.{Version, Words, Callers, Records, Ring, Reads, Writes, Clock, Algorithm, Structures, Items, Ops, Turns}
+use Rattle.stm_text.specs.declared.draft.Step.{Step}
+use Rattle.stm_text.specs.declared.draft.Step.TheVariants.{Head, Begin, Change, Add, End, Schedule, Turn, Done}
+use Rattle.stm_text.specs.declared.parse.TheConstants.{MAX_TEXT}
+use Rattle.stm_text.specs.declared.parse.Mode.{Mode}
+use Rattle.stm_text.specs.declared.parse.Mode.TheVariants.{Run, Step as Stepwise}
+use Rattle.stm_text.specs.Lines.{Line, with_byte, lines_of, with_letter, words_of, any_bad, number_from, number_of}
+use Rattle.stm_text.specs.Drafts.{Writing, after, opening}
+use Rattle.stm_text.specs.Grammar.{◌>>=◌, named, formed, ranged, below, number, algorithm_of, algorithm, sized, header_line, next_line, begun, changed, added, emitted, planned, scheduled, caller_of, address, operands, move_of, go_of, one_word, two_words, three_words, four_words, filled, by_words, step_of, ended, go_on, parsed, workload_of}
+use Rattle.stm_text.specs.Texts.{joined, line, op_words, item_lines, items_lines, header_lines, go_words, section_lines, schedule_lines, lines_with, lines_text, AreLinesOf, IsTextOf}
+use Rattle.stm_text.proofs.LineLaws.{words_of-some}
+use Rattle.stm_text.proofs.Decimals.{IsDigit, Digits}
+use Rattle.stm_text.proofs.BuiltLaws.{Gives, then-gives, if-gives, if-else-gives, if-both, both-true, filled-gives, Fits64, number_from-fits, At, Sound, Leaves, step-sound, opening-sound}
+
+-- words and lines, put together again
+
+joined-letter : (b : ℕ) (w : List ℕ) (ws : List (List ℕ)) → joined ((b ∷ w) ∷ ws) ≡ b ∷ joined (w ∷ ws)
+joined-letter b w [] = refl
+joined-letter b w (v ∷ ws) = refl
+
+same-byte : (b c : ℕ) → (b == c) ≡ true → b ≡ c
+same-byte b c e = grind (arith, nat_tests)
+
+joined-by : (b : ℕ) (bs w : List ℕ) (ws : List (List ℕ)) (t : Bool) → (t ≡ true → b ≡ 32) → words_of bs ≡ w ∷ ws → joined (words_of bs) ≡ bs → joined (if t then [] ∷ words_of bs else with_letter b (words_of bs)) ≡ b ∷ bs
+joined-by b bs w ws true space is whole =
+    let e = space refl in
+    ap (λ x. joined ([] ∷ x)) is ∙ (ap (λ x. 32 ∷ joined x) (sym is) ∙ (ap (λ x. 32 ∷ x) whole ∙ ap (λ x. x ∷ bs) (sym e)))
+joined-by b bs w ws false space is whole =
+    ap (λ x. joined (with_letter b x)) is ∙ (joined-letter b w ws ∙ (ap (λ x. b ∷ joined x) (sym is) ∙ ap (λ x. b ∷ x) whole))
+
+joined-words_of : (bs : List ℕ) → joined (words_of bs) ≡ bs
+joined-words_of [] = refl
+joined-words_of (b ∷ bs) =
+    let some = words_of-some bs in joined-by b bs some.0 some.1 (b == 32) (same-byte b 32) some.2 (joined-words_of bs)
+
+abbrev end_of : Bool → List ℕ
+end_of true = 10 ∷ []
+end_of false = []
+
+abbrev unlines : List Line → List ℕ
+unlines [] = []
+unlines (l ∷ ls) = l.bytes ++ (end_of l.ended ++ unlines ls)
+
+unlines-byte : (b : ℕ) (ls : List Line) → unlines (with_byte b ls) ≡ b ∷ unlines ls
+unlines-byte b [] = refl
+unlines-byte b (l ∷ ls) = refl
+
+unlines-by : (b : ℕ) (bs : List ℕ) (t : Bool) → (t ≡ true → b ≡ 10) → unlines (lines_of bs) ≡ bs → unlines (if t then record { bytes = []; ended = true } ∷ lines_of bs else with_byte b (lines_of bs)) ≡ b ∷ bs
+unlines-by b bs true end whole = let e = end refl in ap (λ x. 10 ∷ x) whole ∙ ap (λ x. x ∷ bs) (sym e)
+unlines-by b bs false end whole = unlines-byte b (lines_of bs) ∙ ap (λ x. b ∷ x) whole
+
+unlines-lines_of : (bs : List ℕ) → unlines (lines_of bs) ≡ bs
+unlines-lines_of [] = refl
+unlines-lines_of (b ∷ bs) = unlines-by b bs (b == 10) (same-byte b 10) (unlines-lines_of bs)
+
+abbrev made : List (List ℕ) → Line
+made ws = record { bytes = joined ws; ended = true }
+
+unlines-made : (lines : List (List (List ℕ))) → unlines (map made lines) ≡ lines_text lines
+unlines-made [] = refl
+unlines-made (ws ∷ lines) =
+    sym (append_assoc (joined ws) (10 ∷ []) (unlines (map made lines))) ∙ ap (λ t. line ws ++ t) (unlines-made lines)
+
+-- a number's only text
+
+abbrev value : ℕ → List ℕ → ℕ
+value n [] = n
+value n (b ∷ bs) = value (n * 10 + (b - 48)) bs
+
+tells : IsDigitsTest Digits
+tells = search rules
+
+folds : FoldsDigits value
+folds = search rules
+
+own : IsNumeralModel Digits (value 0)
+own = numerals_by_fold Digits tells value folds
+
+says-by : (n b k : ℕ) (bs : List ℕ) (low high fits : Bool) → (low ≡ true → high ≡ true → IsDigit b) → (number_from (n * 10 + (b - 48)) bs ≡ Some k → Digits bs × (value (n * 10 + (b - 48)) bs ≡ k))
+    → (if low && high && fits then number_from (n * 10 + (b - 48)) bs else None) ≡ Some k → Digits (b ∷ bs) × (value n (b ∷ bs) ≡ k)
+says-by n b k bs true true true digit rest is = let r = rest is in ((digit refl refl, r.0), r.1)
+says-by n b k bs true true false digit rest is = cc
+says-by n b k bs true false fits digit rest is = cc
+says-by n b k bs false high fits digit rest is = cc
+
+number_from-says : (n k : ℕ) (bs : List ℕ) → number_from n bs ≡ Some k → Digits bs × (value n bs ≡ k)
+number_from-says n k [] is = (tt, cc)
+number_from-says n k (b ∷ bs) is =
+    says-by n b k bs (leb 48 b) (leb b 57) (ltb (n * 10 + (b - 48)) (2 ^ 64))
+    (λ p q. (grind (arith, nat_tests), grind (arith, nat_tests)))
+    (number_from-says (n * 10 + (b - 48)) k bs) is
+
+fits-by : (n : ℕ) (o : Option ℕ) → Fits64 o → o ≡ Some n → n < 2 ^ 64
+fits-by n o h is = subst Fits64 is h
+
+decimal-by : (n : ℕ) (bs : List ℕ) → 0 < length bs → (get_or bs 0 0 ≡ 48 → length bs ≡ 1) → number_from 0 bs ≡ Some n → bs ≡ decimal n
+decimal-by n bs some zeros is =
+    let says = number_from-says 0 n bs is in
+    let fits = fits-by n (number_from 0 bs) (number_from-fits 0 bs (omega arith)) is in
+    let value-is = says.1 in
+    sym (decimal-digits_value own bs says.0 some zeros (omega arith)) ∙ ap decimal says.1
+
+no-zero-by : (b : ℕ) (o : Option ℕ) (n : ℕ) (t : Bool) → (b == 48) ≡ t → (if t then None else o) ≡ Some n → (o ≡ Some n) × (b ≢ 48)
+no-zero-by b o n true e is = cc
+no-zero-by b o n false e is = (is, λ z. grind (arith, nat_tests))
+
+number_of-says : (n : ℕ) (w : List ℕ) → number_of w ≡ Some n → w ≡ decimal n
+number_of-says n [] is = cc
+number_of-says n (b ∷ []) is = decimal-by n (b ∷ []) (omega arith) (λ z. refl) is
+number_of-says n (b ∷ c ∷ bs) is =
+    let two = no-zero-by b (number_from 0 (b ∷ c ∷ bs)) n (b == 48) refl is in
+    decimal-by n (b ∷ c ∷ bs) (omega arith) (λ z. absurd (two.1 z)) two.0
+
+-- what an answer says of the words
+
+formed-says-by : (w : List ℕ) (o : Option ℕ) → ((n : ℕ) → o ≡ Some n → w ≡ decimal n) → Gives (λ n. w ≡ decimal n) (formed o)
+formed-says-by w None h = tt
+formed-says-by w (Some n) h = h n refl
+
+formed-says : (w : List ℕ) → Gives (λ n. w ≡ decimal n) (formed (number_of w))
+formed-says w = formed-says-by w (number_of w) (λ n is. number_of-says n w is)
+
+named-says : {A : Type 0} (P : A → Type 0) (name w : List ℕ) (rest : Result A ℕ) → (w ≡ name → Gives P rest) → Gives P (named name w rest)
+named-says P name w rest h = if-gives P (bytes_eq w name) rest 4 (λ e. h ((bytes_eq-Decides w name).0 e))
+
+below-says : (end n : ℕ) (w : List ℕ) → w ≡ decimal n → Gives (λ k. w ≡ decimal k) (below end n)
+below-says end n w is = if-gives (λ k. w ≡ decimal k) (ltb n end) (Ok n) 6 (λ e. is)
+
+ranged-says : (low high n : ℕ) (w : List ℕ) → w ≡ decimal n → Gives (λ k. w ≡ decimal k) (ranged low high n)
+ranged-says low high n w is = if-gives (λ k. w ≡ decimal k) (leb low n && leb n high) (Ok n) 6 (λ e. is)
+
+abbrev Names : List ℕ → List ℕ → List ℕ → ℕ → Type 0
+Names name w v n = (w ≡ name) × (v ≡ decimal n)
+
+gives-with : {A B : Type 0} (P Q : A → Type 0) (r : Result A B) → Gives P r → ((a : A) → P a → Q a) → Gives Q r
+gives-with P Q (Ok a) h g = g a h
+gives-with P Q (Err c) h g = tt
+
+algorithm_of-says : (algs : List Alg) (w : List ℕ) → Gives (λ a. w ≡ alg_name a) (algorithm_of algs w)
+algorithm_of-says [] w = tt
+algorithm_of-says (alg ∷ algs) w =
+    if-else-gives (λ a. w ≡ alg_name a) (bytes_eq w (alg_name alg) && is_built alg) (Ok alg) (algorithm_of algs w)
+    (λ e. (bytes_eq-Decides w (alg_name alg)).0 (both-true (bytes_eq w (alg_name alg)) (is_built alg) e).0) (algorithm_of-says algs w)
+
+algorithm-says : (w : List ℕ) → Gives (λ a. w ≡ alg_name a) (algorithm w)
+algorithm-says w = algorithm_of-says ALGORITHMS w
+
+sized-says : (name : List ℕ) (low high : ℕ) (w v : List ℕ) → Gives (Names name w v) (sized name low high w v)
+sized-says name low high w v = named-says (Names name w v) name w (number low high v)
+    (λ is. then-gives (λ n. v ≡ decimal n) (Names name w v) (formed (number_of v)) (ranged low high) (formed-says v)
+    (λ n h. gives-with (λ k. v ≡ decimal k) (Names name w v) (ranged low high n) (ranged-says low high n v h) (λ k g. (is, g))))
+
+-- the lines so far
+
+abbrev rank : Place → ℕ
+rank Version = 0
+rank Words = 1
+rank Callers = 2
+rank Records = 3
+rank Ring = 4
+rank Reads = 5
+rank Writes = 6
+rank Clock = 7
+rank Algorithm = 8
+rank Structures = 9
+rank Items = 10
+rank Ops = 10
+rank Turns = 10
+
+abbrev head_so_far : Place → Header → List (List (List ℕ))
+head_so_far p h = take (rank p) (header_lines h)
+
+abbrev open_lines : Place → Writing → List (List (List ℕ))
+open_lines Ops d = (codes "tx" ∷ decimal d.caller ∷ []) ∷ map op_words d.ops
+open_lines Turns d = section_lines d.schedule
+open_lines p d = []
+
+abbrev written_at : Place → Writing → List (List (List ℕ))
+written_at p d = head_so_far p d.header ++ (items_lines d.items ++ open_lines p d)
+
+-- a line of the header is the next one
+abbrev HeadGrows : Place → Header → List ℕ → List ℕ → Header → Type 0
+HeadGrows p h w v g = head_so_far (next_line p) g ≡ head_so_far p h ++ (w ∷ v ∷ []) ∷ []
+
+two-same : (xs : List (List (List ℕ))) (a b w v : List ℕ) → w ≡ a → v ≡ b → xs ++ (a ∷ b ∷ []) ∷ [] ≡ xs ++ (w ∷ v ∷ []) ∷ []
+two-same xs a b w v p q = ap (λ x. xs ++ (x ∷ b ∷ []) ∷ []) (sym p) ∙ ap (λ x. xs ++ (w ∷ x ∷ []) ∷ []) (sym q)
+
+number-grows : (p : Place) (h : Header) (name : List ℕ) (low high : ℕ) (w v : List ℕ) (set : ℕ → Header) → ((n : ℕ) → head_so_far (next_line p) (set n) ≡ head_so_far p h ++ (name ∷ decimal n ∷ []) ∷ [])
+    → Gives (HeadGrows p h w v) (sized name low high w v >>= λ n. Ok (set n))
+number-grows p h name low high w v set next =
+    then-gives (Names name w v) (HeadGrows p h w v) (sized name low high w v) (λ n. Ok (set n)) (sized-says name low high w v)
+    (λ n is. next n ∙ two-same (head_so_far p h) name (decimal n) w v is.0 is.1)
+
+header_line-grows : (m : Mode) (p : Place) (h : Header) (w v : List ℕ) → Gives (HeadGrows p h w v) (header_line p h w v)
+header_line-grows m Version h w v =
+    named-says (HeadGrows Version h w v) (codes "stm") w (named (codes "1") v (Ok h))
+    (λ a. named-says (HeadGrows Version h w v) (codes "1") v (Ok h) (λ b. two-same [] (codes "stm") (codes "1") w v a b))
+header_line-grows m Words h w v = number-grows Words h (codes "words") 1 MAX_WORDS w v (λ n. record h { words = n }) (λ n. refl)
+header_line-grows m Callers h w v = number-grows Callers h (codes "callers") 1 MAX_CALLERS w v (λ n. record h { callers = n }) (λ n. refl)
+header_line-grows m Records h w v = number-grows Records h (codes "records") 1 MAX_RECORDS w v (λ n. record h { records = n }) (λ n. refl)
+header_line-grows m Ring h w v = number-grows Ring h (codes "ring") MIN_RING MAX_RING w v (λ n. record h { ring = n }) (λ n. refl)
+header_line-grows m Reads h w v = number-grows Reads h (codes "reads") 1 MAX_LOG w v (λ n. record h { reads = n }) (λ n. refl)
+header_line-grows m Writes h w v = number-grows Writes h (codes "writes") 1 MAX_LOG w v (λ n. record h { writes = n }) (λ n. refl)
+header_line-grows m Clock h w v = number-grows Clock h (codes "clock") 0 CLOCK_LIMIT w v (λ n. record h { clock = n }) (λ n. refl)
+header_line-grows m Algorithm h w v =
+    let Says : Alg → Type 0 = λ a. (w ≡ codes "alg") × (v ≡ alg_name a) in
+    then-gives Says (HeadGrows Algorithm h w v) (named (codes "alg") w (algorithm v)) (λ a. Ok (record h { alg = a }))
+    (named-says Says (codes "alg") w (algorithm v) (λ a. gives-with (λ x. v ≡ alg_name x) Says (algorithm v) (algorithm-says v) (λ x is. (a, is))))
+    (λ a is. two-same (head_so_far Algorithm h) (codes "alg") (alg_name a) w v is.0 is.1)
+header_line-grows m Structures h w v =
+    let off : Header = record h { structs = false } in
+    named-says (HeadGrows Structures h w v) (codes "structs") w (named (codes "off") v (Ok off))
+    (λ a. named-says (HeadGrows Structures h w v) (codes "off") v (Ok off) (λ b. two-same (head_so_far Structures h) (codes "structs") (codes "off") w v a b))
+header_line-grows m Items h w v = tt
+header_line-grows m Ops h w v = tt
+header_line-grows m Turns h w v = tt
+
+map-append : {A B : Type 0} (f : A → B) (xs ys : List A) → map f (xs ++ ys) ≡ map f xs ++ map f ys
+map-append f [] ys = refl
+map-append f (x ∷ xs) ys = ap (λ t. f x ∷ t) (map-append f xs ys)
+
+items_lines-append : (is js : List Item) → items_lines (is ++ js) ≡ items_lines is ++ items_lines js
+items_lines-append [] js = refl
+items_lines-append (i ∷ is) js =
+    ap (λ t. item_lines i ++ t) (items_lines-append is js) ∙ sym (append_assoc (item_lines i) (items_lines is) (items_lines js))
+
+-- what stands after a line is what stood before it, and the line
+abbrev Grows : Place → Writing → List (List ℕ) → Step → Type 0
+Grows p d ws (Head q h) = written_at q (after (Head q h) d) ≡ written_at p d ++ ws ∷ []
+Grows p d ws (Begin c) = written_at Ops (after (Begin c) d) ≡ written_at p d ++ ws ∷ []
+Grows p d ws (Change c a) = (d.place ≡ Items) × (written_at Items (after (Change c a) d) ≡ written_at p d ++ ws ∷ [])
+Grows p d ws (Add op) = (d.place ≡ Ops) × (written_at Ops (after (Add op) d) ≡ written_at p d ++ ws ∷ [])
+Grows p d ws End = written_at Items (after End d) ≡ written_at p d ++ ws ∷ []
+Grows p d ws Schedule = written_at Turns (after Schedule d) ≡ written_at p d ++ ws ∷ []
+Grows p d ws (Turn go all) = (d.place ≡ Turns) × (written_at Turns (after (Turn go all) d) ≡ written_at p d ++ ws ∷ [])
+Grows p d ws Done = ((d.place ≡ Items) ⊎ (d.place ≡ Turns)) × (ws ≡ (codes "done" ∷ []))
+
+none-between : (a b x : List (List (List ℕ))) (items : List Item) → items ≡ [] → a ≡ b ++ x → a ++ (items_lines items ++ []) ≡ (b ++ (items_lines items ++ [])) ++ x
+none-between a b x items none is =
+    subst (λ i. a ++ (items_lines i ++ []) ≡ (b ++ (items_lines i ++ [])) ++ x) (sym none) (append-nil a ∙ (is ∙ ap (λ t. t ++ x) (sym (append-nil b))))
+
+begin-grows : (a b x : List (List (List ℕ))) (ops : List Op) → ops ≡ [] → a ++ (b ++ (x ++ map op_words ops)) ≡ (a ++ (b ++ [])) ++ x
+begin-grows a b x ops none =
+    subst (λ o. a ++ (b ++ (x ++ map op_words o)) ≡ (a ++ (b ++ [])) ++ x) (sym none)
+    (ap (λ t. a ++ (b ++ t)) (append-nil x) ∙ (sym (append_assoc a b x) ∙ ap (λ t. (a ++ t) ++ x) (sym (append-nil b))))
+
+snoc-grows : (a b c x : List (List (List ℕ))) → a ++ (b ++ (c ++ x)) ≡ (a ++ (b ++ c)) ++ x
+snoc-grows a b c x = simp append_assoc
+
+add-grows : (d : Writing) (op : Op) → written_at Ops (after (Add op) d) ≡ written_at Ops d ++ op_words op ∷ []
+add-grows d op =
+    ap (λ t. head_so_far Ops d.header ++ (items_lines d.items ++ ((codes "tx" ∷ decimal d.caller ∷ []) ∷ t))) (map-append op_words d.ops (op ∷ []))
+    ∙ snoc-grows (head_so_far Ops d.header) (items_lines d.items) (open_lines Ops d) (op_words op ∷ [])
+
+end-regroup : (a i t o e : List (List (List ℕ))) → a ++ ((i ++ ((t ++ (o ++ e)) ++ [])) ++ []) ≡ (a ++ (i ++ (t ++ o))) ++ e
+end-regroup a i t o e = simp (append_assoc, append-nil)
+
+end-grows : (d : Writing) → written_at Items (after End d) ≡ written_at Ops d ++ (codes "end" ∷ []) ∷ []
+end-grows d =
+    ap (λ t. head_so_far Items d.header ++ (t ++ [])) (items_lines-append d.items (Tx d.caller d.ops ∷ []))
+    ∙ end-regroup (head_so_far Items d.header) (items_lines d.items) ((codes "tx" ∷ decimal d.caller ∷ []) ∷ []) (map op_words d.ops) ((codes "end" ∷ []) ∷ [])
+
+change-regroup : (a i x : List (List (List ℕ))) → a ++ ((i ++ x) ++ []) ≡ (a ++ (i ++ [])) ++ x
+change-regroup a i x = simp (append_assoc, append-nil)
+
+change-grows : (d : Writing) (c : ℕ) (a : Alg) → written_at Items (after (Change c a) d) ≡ written_at Items d ++ (codes "switch" ∷ decimal c ∷ alg_name a ∷ []) ∷ []
+change-grows d c a =
+    ap (λ t. head_so_far Items d.header ++ (t ++ [])) (items_lines-append d.items (Switch c a ∷ []))
+    ∙ change-regroup (head_so_far Items d.header) (items_lines d.items) ((codes "switch" ∷ decimal c ∷ alg_name a ∷ []) ∷ [])
+
+schedule-grows : (d : Writing) → d.schedule ≡ [] → written_at Turns (after Schedule d) ≡ written_at Items d ++ (codes "schedule" ∷ []) ∷ []
+schedule-grows d none =
+    ap (λ gs. head_so_far Items d.header ++ (items_lines d.items ++ section_lines gs)) none
+    ∙ snoc-grows (head_so_far Items d.header) (items_lines d.items) [] ((codes "schedule" ∷ []) ∷ [])
+
+turn-grows : (d : Writing) (go : Go) (all : ℕ) → written_at Turns (after (Turn go all) d) ≡ written_at Turns d ++ go_words go ∷ []
+turn-grows d go all =
+    ap (λ t. head_so_far Turns d.header ++ (items_lines d.items ++ ((codes "schedule" ∷ []) ∷ t))) (map-append go_words d.schedule (go ∷ []))
+    ∙ snoc-grows (head_so_far Turns d.header) (items_lines d.items) (section_lines d.schedule) (go_words go ∷ [])
+
+one-line : (xs : List (List (List ℕ))) (a w : List ℕ) → w ≡ a → xs ++ (a ∷ []) ∷ [] ≡ xs ++ (w ∷ []) ∷ []
+one-line xs a w p = ap (λ x. xs ++ (x ∷ []) ∷ []) (sym p)
+
+three-same : (xs : List (List (List ℕ))) (a b c w v x : List ℕ) → w ≡ a → v ≡ b → x ≡ c → xs ++ (a ∷ b ∷ c ∷ []) ∷ [] ≡ xs ++ (w ∷ v ∷ x ∷ []) ∷ []
+three-same xs a b c w v x p q r =
+    ap (λ y. xs ++ (y ∷ b ∷ c ∷ []) ∷ []) (sym p) ∙ (ap (λ y. xs ++ (w ∷ y ∷ c ∷ []) ∷ []) (sym q) ∙ ap (λ y. xs ++ (w ∷ v ∷ y ∷ []) ∷ []) (sym r))
+
+four-same : (xs : List (List (List ℕ))) (a b c e w v x y : List ℕ) → w ≡ a → v ≡ b → x ≡ c → y ≡ e → xs ++ (a ∷ b ∷ c ∷ e ∷ []) ∷ [] ≡ xs ++ (w ∷ v ∷ x ∷ y ∷ []) ∷ []
+four-same xs a b c e w v x y p q r t =
+    ap (λ z. xs ++ (z ∷ b ∷ c ∷ e ∷ []) ∷ []) (sym p)
+    ∙ (ap (λ z. xs ++ (w ∷ z ∷ c ∷ e ∷ []) ∷ []) (sym q) ∙ (ap (λ z. xs ++ (w ∷ v ∷ z ∷ e ∷ []) ∷ []) (sym r) ∙ ap (λ z. xs ++ (w ∷ v ∷ x ∷ z ∷ []) ∷ []) (sym t)))
+
+if-else-says : (P : Step → Type 0) (name w : List ℕ) (x y : Result Step ℕ) → (w ≡ name → Gives P x) → Gives P y → Gives P (if bytes_eq w name then x else y)
+if-else-says P name w x y h g = if-else-gives P (bytes_eq w name) x y (λ e. h ((bytes_eq-Decides w name).0 e)) g
+
+added-grows : (d : Writing) (ws : List (List ℕ)) (op : Op) → d.place ≡ Ops → written_at Ops d ++ op_words op ∷ [] ≡ written_at Ops d ++ ws ∷ [] → Gives (Grows Ops d ws) (added d op)
+added-grows d ws op e same = if-gives (Grows Ops d ws) (ltb (length d.ops) MAX_OPS) (Ok (Add op)) 10 (λ _. (e, add-grows d op ∙ same))
+
+scheduled-grows : (m : Mode) (d : Writing) (w : List ℕ) → d.schedule ≡ [] → w ≡ codes "schedule" → Gives (Grows Items d (w ∷ [])) (scheduled m)
+scheduled-grows Run d w none is = tt
+scheduled-grows Stepwise d w none is = schedule-grows d none ∙ one-line (written_at Items d) (codes "schedule") w is
+
+one-grows : (m : Mode) (d : Writing) (p : Place) (w : List ℕ) → At m p d → d.place ≡ p → Gives (Grows p d (w ∷ [])) (one_word p m d w)
+one-grows m d Items w at e =
+    if-else-says (Grows Items d (w ∷ [])) (codes "done") w (Ok Done) (named (codes "schedule") w (scheduled m)) (λ is. (inl e, ap (λ x. x ∷ []) is))
+    (named-says (Grows Items d (w ∷ [])) (codes "schedule") w (scheduled m) (λ is. scheduled-grows m d w at.1 is))
+one-grows m d Ops w at e =
+    let ends : Result Step ℕ = named (codes "end") w (Ok End) in
+    if-else-says (Grows Ops d (w ∷ [])) (codes "irrev") w (added d Irrev) (if bytes_eq w (codes "cancel") then added d Cancel else ends)
+    (λ is. added-grows d (w ∷ []) Irrev e (one-line (written_at Ops d) (codes "irrev") w is))
+    (if-else-says (Grows Ops d (w ∷ [])) (codes "cancel") w (added d Cancel) ends
+    (λ is. added-grows d (w ∷ []) Cancel e (one-line (written_at Ops d) (codes "cancel") w is))
+    (named-says (Grows Ops d (w ∷ [])) (codes "end") w (Ok End) (λ is. end-grows d ∙ one-line (written_at Ops d) (codes "end") w is)))
+one-grows m d Turns w at e = named-says (Grows Turns d (w ∷ [])) (codes "done") w (Ok Done) (λ is. (inr e, ap (λ x. x ∷ []) is))
+one-grows m d Version w at e = tt
+one-grows m d Words w at e = tt
+one-grows m d Callers w at e = tt
+one-grows m d Records w at e = tt
+one-grows m d Ring w at e = tt
+one-grows m d Reads w at e = tt
+one-grows m d Writes w at e = tt
+one-grows m d Clock w at e = tt
+one-grows m d Algorithm w at e = tt
+one-grows m d Structures w at e = tt
+
+caller-says : (d : Writing) (v : List ℕ) → Gives (λ c. v ≡ decimal c) (caller_of d v)
+caller-says d v =
+    then-gives (λ n. v ≡ decimal n) (λ c. v ≡ decimal c) (formed (number_of v)) (below d.header.callers) (formed-says v) (λ n is. below-says d.header.callers n v is)
+
+address-says : (d : Writing) (a : List ℕ) → Gives (λ k. a ≡ decimal k) (address d a)
+address-says d a =
+    then-gives (λ n. a ≡ decimal n) (λ k. a ≡ decimal k) (formed (number_of a)) (below d.header.words) (formed-says a) (λ n is. below-says d.header.words n a is)
+
+operands-say : (d : Writing) (a v : List ℕ) → Gives (λ p. (a ≡ decimal p.0) × (v ≡ decimal p.1)) (operands d a v)
+operands-say d a v =
+    let P : ℕ × ℕ → Type 0 = λ p. (a ≡ decimal p.0) × (v ≡ decimal p.1) in
+    then-gives (λ n. a ≡ decimal n) P (formed (number_of a)) (λ i. formed (number_of v) >>= λ n. below d.header.words i >>= λ j. Ok (j, n)) (formed-says a)
+    (λ i h. then-gives (λ n. v ≡ decimal n) P (formed (number_of v)) (λ n. below d.header.words i >>= λ j. Ok (j, n)) (formed-says v)
+    (λ n k. then-gives (λ j. a ≡ decimal j) P (below d.header.words i) (λ j. Ok (j, n)) (below-says d.header.words i a h) (λ j l. (l, k))))
+
+abbrev IsMove : List ℕ → List ℕ → List ℕ → Op → Type 0
+IsMove a b v op = op_words op ≡ codes "move" ∷ a ∷ b ∷ v ∷ []
+
+move-same : (a b v x y z : List ℕ) → a ≡ x → b ≡ y → v ≡ z → codes "move" ∷ x ∷ y ∷ z ∷ [] ≡ codes "move" ∷ a ∷ b ∷ v ∷ []
+move-same a b v x y z p q r = cc
+
+move-says : (d : Writing) (a b v : List ℕ) → Gives (IsMove a b v) (move_of d a b v)
+move-says d a b v =
+    let w = d.header.words in
+    let P : Op → Type 0 = IsMove a b v in
+    then-gives (λ n. a ≡ decimal n) P (formed (number_of a)) (λ i. formed (number_of b) >>= λ j. formed (number_of v) >>= λ n. below w i >>= λ x. below w j >>= λ y. Ok (Move x y n)) (formed-says a)
+    (λ i h. then-gives (λ n. b ≡ decimal n) P (formed (number_of b)) (λ j. formed (number_of v) >>= λ n. below w i >>= λ x. below w j >>= λ y. Ok (Move x y n)) (formed-says b)
+    (λ j g. then-gives (λ n. v ≡ decimal n) P (formed (number_of v)) (λ n. below w i >>= λ x. below w j >>= λ y. Ok (Move x y n)) (formed-says v)
+    (λ n k. then-gives (λ x. a ≡ decimal x) P (below w i) (λ x. below w j >>= λ y. Ok (Move x y n)) (below-says w i a h)
+    (λ x l. then-gives (λ y. b ≡ decimal y) P (below w j) (λ y. Ok (Move x y n)) (below-says w j b g)
+    (λ y u. move-same a b v (decimal x) (decimal y) (decimal n) l u k)))))
+
+abbrev IsGo : List ℕ → List ℕ → Go → Type 0
+IsGo a v go = (a ≡ decimal go.caller) × (v ≡ decimal go.turns)
+
+go-says : (d : Writing) (a v : List ℕ) → Gives (IsGo a v) (go_of d a v)
+go-says d a v =
+    let made : ℕ → ℕ → Result Go ℕ = λ c t. Ok (record { caller = c; turns = t }) in
+    then-gives (λ n. a ≡ decimal n) (IsGo a v) (formed (number_of a)) (λ i. formed (number_of v) >>= λ n. below d.header.callers i >>= λ c. ranged 1 MAX_TURNS n >>= made c) (formed-says a)
+    (λ i h. then-gives (λ n. v ≡ decimal n) (IsGo a v) (formed (number_of v)) (λ n. below d.header.callers i >>= λ c. ranged 1 MAX_TURNS n >>= made c) (formed-says v)
+    (λ n k. then-gives (λ c. a ≡ decimal c) (IsGo a v) (below d.header.callers i) (λ c. ranged 1 MAX_TURNS n >>= made c) (below-says d.header.callers i a h)
+    (λ c l. then-gives (λ t. v ≡ decimal t) (IsGo a v) (ranged 1 MAX_TURNS n) (made c) (ranged-says 1 MAX_TURNS n v k) (λ t u. (l, u)))))
+
+heads-grow : (m : Mode) (d : Writing) (p : Place) (w v : List ℕ) → d.items ≡ [] → open_lines p d ≡ []
+    → ((h : Header) → open_lines (next_line p) (after (Head (next_line p) h) d) ≡ [])
+    → Gives (Grows p d (w ∷ v ∷ [])) (header_line p d.header w v >>= λ h. Ok (Head (next_line p) h))
+heads-grow m d p w v none here opens =
+    then-gives (HeadGrows p d.header w v) (Grows p d (w ∷ v ∷ [])) (header_line p d.header w v) (λ h. Ok (Head (next_line p) h)) (header_line-grows m p d.header w v)
+    (λ h is.
+    ap (λ t. head_so_far (next_line p) h ++ (items_lines d.items ++ t)) (opens h)
+    ∙ (none-between (head_so_far (next_line p) h) (head_so_far p d.header) ((w ∷ v ∷ []) ∷ []) d.items none is
+    ∙ ap (λ t. (head_so_far p d.header ++ (items_lines d.items ++ t)) ++ (w ∷ v ∷ []) ∷ []) (sym here)))
+
+two-grows : (m : Mode) (d : Writing) (p : Place) (w v : List ℕ) → At m p d → d.place ≡ p → Gives (Grows p d (w ∷ v ∷ [])) (two_words p m d w v)
+two-grows m d Items w v at e =
+    let P : ℕ → Type 0 = λ c. v ≡ decimal c in
+    named-says (Grows Items d (w ∷ v ∷ [])) (codes "tx") w (caller_of d v >>= begun d)
+    (λ name. then-gives P (Grows Items d (w ∷ v ∷ [])) (caller_of d v) (begun d) (caller-says d v)
+    (λ c is. if-gives (Grows Items d (w ∷ v ∷ [])) (ltb (length d.items) MAX_ITEMS) (Ok (Begin c)) 10
+    (λ _. begin-grows (head_so_far Items d.header) (items_lines d.items) ((codes "tx" ∷ decimal c ∷ []) ∷ []) d.ops at.0
+    ∙ two-same (written_at Items d) (codes "tx") (decimal c) w v name is)))
+two-grows m d Turns w v at e = tt
+two-grows m d Ops w v at e =
+    let P : Step → Type 0 = Grows Ops d (w ∷ v ∷ []) in
+    let emits : Result Step ℕ = address d v >>= emitted d in
+    if-else-says P (codes "read") w (address d v >>= λ a. added d (Read a)) (named (codes "emit") w emits)
+    (λ name. then-gives (λ a. v ≡ decimal a) P (address d v) (λ a. added d (Read a)) (address-says d v)
+    (λ a is. added-grows d (w ∷ v ∷ []) (Read a) e (two-same (written_at Ops d) (codes "read") (decimal a) w v name is)))
+    (named-says P (codes "emit") w emits
+    (λ name. then-gives (λ a. v ≡ decimal a) P (address d v) (emitted d) (address-says d v)
+    (λ a is. if-gives P (has_irrev d.ops) (added d (Emit a)) 9
+    (λ _. added-grows d (w ∷ v ∷ []) (Emit a) e (two-same (written_at Ops d) (codes "emit") (decimal a) w v name is)))))
+two-grows m d Version w v at e = heads-grow m d Version w v at.0 refl (λ h. refl)
+two-grows m d Words w v at e = heads-grow m d Words w v at.0 refl (λ h. refl)
+two-grows m d Callers w v at e = heads-grow m d Callers w v at.0 refl (λ h. refl)
+two-grows m d Records w v at e = heads-grow m d Records w v at.0 refl (λ h. refl)
+two-grows m d Ring w v at e = heads-grow m d Ring w v at.0 refl (λ h. refl)
+two-grows m d Reads w v at e = heads-grow m d Reads w v at.0 refl (λ h. refl)
+two-grows m d Writes w v at e = heads-grow m d Writes w v at.0 refl (λ h. refl)
+two-grows m d Clock w v at e = heads-grow m d Clock w v at.0 refl (λ h. refl)
+two-grows m d Algorithm w v at e = heads-grow m d Algorithm w v at.0 refl (λ h. refl)
+two-grows m d Structures w v at e = heads-grow m d Structures w v at.0 refl (λ h. refl)
+
+changed-grows : (d : Writing) (c : ℕ) (alg : Alg) (w a v : List ℕ) → d.place ≡ Items → w ≡ codes "switch" → a ≡ decimal c → v ≡ alg_name alg → Gives (Grows Items d (w ∷ a ∷ v ∷ [])) (changed d c alg)
+changed-grows d c alg w a v e p q r =
+    if-gives (Grows Items d (w ∷ a ∷ v ∷ [])) (ltb (length d.items) MAX_ITEMS) (Ok (Change c alg)) 10
+    (λ _. (e, change-grows d c alg ∙ three-same (written_at Items d) (codes "switch") (decimal c) (alg_name alg) w a v p q r))
+
+planned-grows : (d : Writing) (go : Go) (w a v : List ℕ) → d.place ≡ Turns → w ≡ codes "go" → IsGo a v go → Gives (Grows Turns d (w ∷ a ∷ v ∷ [])) (planned d go)
+planned-grows d go w a v e p is =
+    if-gives (Grows Turns d (w ∷ a ∷ v ∷ [])) (leb (d.turns + go.turns) MAX_TURNS) (Ok (Turn go (d.turns + go.turns))) 10
+    (λ _. (e, turn-grows d go (d.turns + go.turns) ∙ three-same (written_at Turns d) (codes "go") (decimal go.caller) (decimal go.turns) w a v p is.0 is.1))
+
+three-grows : (d : Writing) (p : Place) (w a v : List ℕ) → d.place ≡ p → Gives (Grows p d (w ∷ a ∷ v ∷ [])) (three_words p d w a v)
+three-grows d Ops w a v e =
+    let ws : List (List ℕ) = w ∷ a ∷ v ∷ [] in
+    let P : ℕ × ℕ → Type 0 = λ p. (a ≡ decimal p.0) × (v ≡ decimal p.1) in
+    let writes : Result Step ℕ = operands d a v >>= λ p. added d (Write p.0 p.1) in
+    let adds : Result Step ℕ = operands d a v >>= λ p. added d (Sum p.0 p.1) in
+    if-else-says (Grows Ops d ws) (codes "write") w writes (named (codes "add") w adds)
+    (λ name. then-gives P (Grows Ops d ws) (operands d a v) (λ p. added d (Write p.0 p.1)) (operands-say d a v)
+    (λ p is. added-grows d ws (Write p.0 p.1) e (three-same (written_at Ops d) (codes "write") (decimal p.0) (decimal p.1) w a v name is.0 is.1)))
+    (named-says (Grows Ops d ws) (codes "add") w adds
+    (λ name. then-gives P (Grows Ops d ws) (operands d a v) (λ p. added d (Sum p.0 p.1)) (operands-say d a v)
+    (λ p is. added-grows d ws (Sum p.0 p.1) e (three-same (written_at Ops d) (codes "add") (decimal p.0) (decimal p.1) w a v name is.0 is.1))))
+three-grows d Items w a v e =
+    let P : Step → Type 0 = Grows Items d (w ∷ a ∷ v ∷ []) in
+    named-says P (codes "switch") w (caller_of d a >>= λ c. algorithm v >>= λ alg. changed d c alg)
+    (λ name. then-gives (λ c. a ≡ decimal c) P (caller_of d a) (λ c. algorithm v >>= λ alg. changed d c alg) (caller-says d a)
+    (λ c k. then-gives (λ alg. v ≡ alg_name alg) P (algorithm v) (λ alg. changed d c alg) (algorithm-says v) (λ alg l. changed-grows d c alg w a v e name k l)))
+three-grows d Turns w a v e =
+    let P : Step → Type 0 = Grows Turns d (w ∷ a ∷ v ∷ []) in
+    named-says P (codes "go") w (go_of d a v >>= planned d)
+    (λ name. then-gives (IsGo a v) P (go_of d a v) (planned d) (go-says d a v) (λ go is. planned-grows d go w a v e name is))
+three-grows d Version w a v e = tt
+three-grows d Words w a v e = tt
+three-grows d Callers w a v e = tt
+three-grows d Records w a v e = tt
+three-grows d Ring w a v e = tt
+three-grows d Reads w a v e = tt
+three-grows d Writes w a v e = tt
+three-grows d Clock w a v e = tt
+three-grows d Algorithm w a v e = tt
+three-grows d Structures w a v e = tt
+
+four-grows : (d : Writing) (p : Place) (w a b v : List ℕ) → d.place ≡ p → Gives (Grows p d (w ∷ a ∷ b ∷ v ∷ [])) (four_words p d w a b v)
+four-grows d Ops w a b v e =
+    let ws : List (List ℕ) = w ∷ a ∷ b ∷ v ∷ [] in
+    named-says (Grows Ops d ws) (codes "move") w (move_of d a b v >>= added d)
+    (λ name. then-gives (IsMove a b v) (Grows Ops d ws) (move_of d a b v) (added d) (move-says d a b v)
+    (λ op is. added-grows d ws op e (ap (λ x. written_at Ops d ++ x ∷ []) is ∙ four-same (written_at Ops d) (codes "move") a b v w a b v name refl refl refl)))
+four-grows d Version w a b v e = tt
+four-grows d Words w a b v e = tt
+four-grows d Callers w a b v e = tt
+four-grows d Records w a b v e = tt
+four-grows d Ring w a b v e = tt
+four-grows d Reads w a b v e = tt
+four-grows d Writes w a b v e = tt
+four-grows d Clock w a b v e = tt
+four-grows d Algorithm w a b v e = tt
+four-grows d Structures w a b v e = tt
+four-grows d Items w a b v e = tt
+four-grows d Turns w a b v e = tt
+
+words-grow : (m : Mode) (d : Writing) (ws : List (List ℕ)) → At m d.place d → Gives (Grows d.place d ws) (by_words m d ws)
+words-grow m d [] at = tt
+words-grow m d (w ∷ []) at = one-grows m d d.place w at refl
+words-grow m d (w ∷ v ∷ []) at =
+    filled-gives (Grows d.place d (w ∷ v ∷ [])) v (two_words d.place m d w v) (two-grows m d d.place w v at refl)
+words-grow m d (w ∷ a ∷ v ∷ []) at =
+    let P : Step → Type 0 = Grows d.place d (w ∷ a ∷ v ∷ []) in
+    filled-gives P a (filled v (three_words d.place d w a v)) (filled-gives P v (three_words d.place d w a v) (three-grows d d.place w a v refl))
+words-grow m d (w ∷ a ∷ b ∷ v ∷ []) at =
+    let P : Step → Type 0 = Grows d.place d (w ∷ a ∷ b ∷ v ∷ []) in
+    let four : Result Step ℕ = four_words d.place d w a b v in
+    filled-gives P a (filled b (filled v four)) (filled-gives P b (filled v four) (filled-gives P v four (four-grows d d.place w a b v refl)))
+words-grow m d (w ∷ a ∷ b ∷ v ∷ x ∷ ws) at = tt
+
+-- a line that makes a step has an LF
+abbrev Ends : Line → Writing → Step → Type 0
+Ends l d step = (l.ended ≡ true) × Grows d.place d (words_of l.bytes) step
+
+step-grows : (m : Mode) (d : Writing) (l : Line) → At m d.place d → Gives (Ends l d) (step_of m d l)
+step-grows m d l at =
+    let words : Result Step ℕ = by_words m d (words_of l.bytes) in
+    if-both (Ends l d) (any_bad l.bytes) (Err 2) (if l.ended then words else Err 3) tt
+    (if-gives (Ends l d) l.ended words 3 (λ e. ended-gives words e (words-grow m d (words_of l.bytes) at)))
+  where
+    ended-gives : (r : Result Step ℕ) → l.ended ≡ true → Gives (Grows d.place d (words_of l.bytes)) r → Gives (Ends l d) r
+    ended-gives (Ok step) e h = (e, h)
+    ended-gives (Err c) e h = tt
+
+line-made : (l : Line) → l.ended ≡ true → l ≡ made (words_of l.bytes)
+line-made l e =
+    ap (λ x. let k : Line = record { bytes = l.bytes; ended = x } in k) e ∙ ap (λ x. let k : Line = record { bytes = x; ended = true } in k) (sym (joined-words_of l.bytes))
+
+-- the lines so far and those to come are these
+abbrev Meets : List (List (List ℕ)) → List Line → List (List (List ℕ)) → Type 0
+Meets before ls lines = map made before ++ ls ≡ map made lines
+
+-- they are the workload's
+abbrev IsWhole : Mode → List (List (List ℕ)) → List Line → Workload → Type 0
+IsWhole m before ls w = (lines : List (List (List ℕ))) × AreLinesOf m w lines × Meets before ls lines
+
+meets-step : (before after' : List (List (List ℕ))) (l : Line) (ls : List Line) (lines : List (List (List ℕ))) → l.ended ≡ true → after' ≡ before ++ words_of l.bytes ∷ [] → Meets after' ls lines → Meets before (l ∷ ls) lines
+meets-step before after' l ls lines e grows whole =
+    ap (λ x. map made before ++ x ∷ ls) (line-made l e)
+    ∙ (sym (append_assoc (map made before) (made (words_of l.bytes) ∷ []) ls)
+    ∙ (ap (λ t. t ++ ls) (sym (map-append made before (words_of l.bytes ∷ []))) ∙ (ap (λ t. map made t ++ ls) (sym grows) ∙ whole)))
+
+whole-step : (m : Mode) (before after' : List (List (List ℕ))) (l : Line) (ls : List Line) (w : Workload) → l.ended ≡ true → after' ≡ before ++ words_of l.bytes ∷ [] → IsWhole m after' ls w → IsWhole m before (l ∷ ls) w
+whole-step m before after' l ls w e grows whole = (whole.0, whole.1, meets-step before after' l ls whole.0 e grows whole.2)
+
+done-regroup : (h i s x : List (List (List ℕ))) → (h ++ (i ++ s)) ++ x ≡ h ++ (i ++ (s ++ x))
+done-regroup h i s x = simp append_assoc
+
+-- the workload of a draft
+abbrev whole : Writing → Workload
+whole d = record { header = d.header; items = d.items; schedule = d.schedule }
+
+done-meets : (d : Writing) (l : Line) (before section : List (List (List ℕ))) → l.ended ≡ true → words_of l.bytes ≡ codes "done" ∷ [] → before ≡ header_lines d.header ++ (items_lines d.items ++ section)
+    → Meets before (l ∷ []) (lines_with section (whole d))
+done-meets d l before section e is same =
+    let end : Meets (before ++ words_of l.bytes ∷ []) [] (lines_with section (whole d)) =
+    append-nil (map made (before ++ words_of l.bytes ∷ []))
+    ∙ (ap (λ x. map made (before ++ x ∷ [])) is
+    ∙ (ap (λ x. map made (x ++ (codes "done" ∷ []) ∷ [])) same
+    ∙ ap (map made) (done-regroup (header_lines d.header) (items_lines d.items) section ((codes "done" ∷ []) ∷ [])))) in
+    meets-step before (before ++ words_of l.bytes ∷ []) l [] (lines_with section (whole d)) e refl end
+
+plain-are : (m : Mode) (w : Workload) → w.schedule ≡ [] → AreLinesOf m w (lines_with [] w)
+plain-are m w none = inl (ap (λ gs. lines_with (schedule_lines gs) w) (sym none))
+
+section-are : (m : Mode) (w : Workload) (gos : List Go) → w.schedule ≡ gos → m ≡ Stepwise → AreLinesOf m w (lines_with (section_lines gos) w)
+section-are m w [] none step = inr (step, none, refl)
+section-are m w (g ∷ gs) is step = inl (ap (λ x. lines_with (schedule_lines x) w) (sym is))
+
+done-whole : (m : Mode) (d : Writing) (l : Line) → Sound m d → l.ended ≡ true → words_of l.bytes ≡ codes "done" ∷ [] → (d.place ≡ Items) ⊎ (d.place ≡ Turns) → IsWhole m (written_at d.place d) (l ∷ []) (whole d)
+done-whole m d l s e is (inl place) =
+    let at : At m Items d = subst (λ p. At m p d) place s.here in
+    (lines_with [] (whole d), plain-are m (whole d) at.1, done-meets d l (written_at d.place d) [] e is (ap (λ p. written_at p d) place))
+done-whole m d l s e is (inr place) =
+    let at : At m Turns d = subst (λ p. At m p d) place s.here in (
+      lines_with (section_lines d.schedule) (whole d),
+      section-are m (whole d) d.schedule refl at.1,
+      done-meets d l (written_at d.place d) (section_lines d.schedule) e is (ap (λ p. written_at p d) place),
+    )
+
+ended-whole : (m : Mode) (d : Writing) (k : ℕ) (l : Line) (ls : List Line) → Sound m d → Ends l d Done → Gives (IsWhole m (written_at d.place d) (l ∷ ls)) (ended d k ls)
+ended-whole m d k l [] s h = done-whole m d l s h.0 h.1.1 h.1.0
+ended-whole m d k l (x ∷ ls) s h = tt
+
+go_on-whole : (m : Mode) (d : Writing) (k : ℕ) (l : Line) (ls : List Line) (r : Result Step ℕ) (rest : Writing → Result Workload (ℕ × ℕ)) → Sound m d → Gives (Leaves m d) r → Gives (Ends l d) r
+    → ((e : Writing) → Sound m e → Gives (IsWhole m (written_at e.place e) ls) (rest e))
+    → Gives (IsWhole m (written_at d.place d) (l ∷ ls)) (go_on r d k ls rest)
+go_on-whole m d k l ls (Err c) rest now s h g = tt
+go_on-whole m d k l ls (Ok Done) rest now s h g = ended-whole m d (k + 1) l ls now h
+go_on-whole m d k l ls (Ok (Head q x)) rest now s h g =
+    let e : Writing = after (Head q x) d in
+    gives-with (IsWhole m (written_at q e) ls) (IsWhole m (written_at d.place d) (l ∷ ls)) (rest e) (g e s) (λ w whole. whole-step m (written_at d.place d) (written_at q e) l ls w h.0 h.1 whole)
+go_on-whole m d k l ls (Ok (Begin c)) rest now s h g =
+    let e : Writing = after (Begin c) d in
+    gives-with (IsWhole m (written_at Ops e) ls) (IsWhole m (written_at d.place d) (l ∷ ls)) (rest e) (g e s) (λ w whole. whole-step m (written_at d.place d) (written_at Ops e) l ls w h.0 h.1 whole)
+go_on-whole m d k l ls (Ok End) rest now s h g =
+    let e : Writing = after End d in
+    gives-with (IsWhole m (written_at Items e) ls) (IsWhole m (written_at d.place d) (l ∷ ls)) (rest e) (g e s) (λ w whole. whole-step m (written_at d.place d) (written_at Items e) l ls w h.0 h.1 whole)
+go_on-whole m d k l ls (Ok Schedule) rest now s h g =
+    let e : Writing = after Schedule d in
+    gives-with (IsWhole m (written_at Turns e) ls) (IsWhole m (written_at d.place d) (l ∷ ls)) (rest e) (g e s) (λ w whole. whole-step m (written_at d.place d) (written_at Turns e) l ls w h.0 h.1 whole)
+go_on-whole m d k l ls (Ok (Change c a)) rest now s h g =
+    let e : Writing = after (Change c a) d in
+    let place = h.1.0 in
+    let grows : written_at d.place e ≡ written_at d.place d ++ words_of l.bytes ∷ [] = ap (λ p. written_at p e) place ∙ h.1.1 in
+    gives-with (IsWhole m (written_at d.place e) ls) (IsWhole m (written_at d.place d) (l ∷ ls)) (rest e) (g e s) (λ w whole. whole-step m (written_at d.place d) (written_at d.place e) l ls w h.0 grows whole)
+go_on-whole m d k l ls (Ok (Add op)) rest now s h g =
+    let e : Writing = after (Add op) d in
+    let place = h.1.0 in
+    let grows : written_at d.place e ≡ written_at d.place d ++ words_of l.bytes ∷ [] = ap (λ p. written_at p e) place ∙ h.1.1 in
+    gives-with (IsWhole m (written_at d.place e) ls) (IsWhole m (written_at d.place d) (l ∷ ls)) (rest e) (g e s) (λ w whole. whole-step m (written_at d.place d) (written_at d.place e) l ls w h.0 grows whole)
+go_on-whole m d k l ls (Ok (Turn go all)) rest now s h g =
+    let e : Writing = after (Turn go all) d in
+    let place = h.1.0 in
+    let grows : written_at d.place e ≡ written_at d.place d ++ words_of l.bytes ∷ [] = ap (λ p. written_at p e) place ∙ h.1.1 in
+    gives-with (IsWhole m (written_at d.place e) ls) (IsWhole m (written_at d.place d) (l ∷ ls)) (rest e) (g e s) (λ w whole. whole-step m (written_at d.place d) (written_at d.place e) l ls w h.0 grows whole)
+
+parsed-whole : (m : Mode) (d : Writing) (k : ℕ) (ls : List Line) → Sound m d → Gives (IsWhole m (written_at d.place d) ls) (parsed m d k ls)
+parsed-whole m d k [] s = tt
+parsed-whole m d k (l ∷ ls) s =
+    go_on-whole m d k l ls (step_of m d l) (λ e. parsed m e (k + 1) ls) s (step-sound m d l s) (step-grows m d l s.here) (λ e t. parsed-whole m e (k + 1) ls t)
+
+text-whole : (m : Mode) (text : List ℕ) → Gives (λ w. IsTextOf m w text) (parsed m opening 1 (lines_of text))
+text-whole m text =
+    gives-with (IsWhole m [] (lines_of text)) (λ w. IsTextOf m w text) (parsed m opening 1 (lines_of text)) (parsed-whole m opening 1 (lines_of text) (opening-sound m))
+    (λ w whole. (whole.0, whole.1, sym (unlines-lines_of text) ∙ (ap unlines whole.2 ∙ unlines-made whole.0)))
+
+given : {A B : Type 0} (P : A → Type 0) (r : Result A B) (a : A) → Gives P r → r ≡ Ok a → P a
+given P r a h is = subst (Gives P) is h
+
+-- a text that is read as a workload is a text of that workload
+pub text-written : (m : Mode) (text : List ℕ) (w : Workload) → workload_of m text ≡ Ok w → IsTextOf m w text
+text-written m text w is =
+    given (λ x. IsTextOf m x text) (workload_of m text) w
+    (by (ltb MAX_TEXT (length text)) (parsed m opening 1 (lines_of text)) (text-whole m text)) is
+  where
+    by : (b : Bool) (r : Result Workload (ℕ × ℕ)) → Gives (λ x. IsTextOf m x text) r → Gives (λ x. IsTextOf m x text) (if b then Err (0, 1) else r)
+    by true r h = tt
+    by false r h = h

@@ -1,0 +1,37 @@
+use Rattle.std.proofs.Common.{◌≡◌, ◌∙◌, true, false, refl, sym, ap}
+use Rattle.std.specs.Prelude.{is_none, Some}
+use Rattle.stm_model.specs.Algorithms.{is_built}
+use Rattle.tx_answers.specs.KnownLaws.{in-attempt}
+use Rattle.stm_tx.specs.Descs.{known, number}
+use Rattle.stm_tx.proofs.Stopping.{read-stopped, stops-quits, since-stopped, since-at}
+use Rattle.stm_tx.proofs.live.LiveAccess.read.Goals as goal
+
+pub invariant_of-self-in-Err : goal.invariant_of-self-in-Err
+invariant_of-self-in-Err g c =
+    let me = c.args.self.now in
+    let good = g.K.MemRule.good me.stm.now.rule in
+    let f = me.stm.now.config in
+    let n = number me.desc.now in
+    let v = known me.desc.now in
+    let w = known c.read.new.desc in
+    let h = read-stopped good f n c.args.a v w c.read.result c.in-Err.stop (sym c.as_read.ensures ∙ c.in-Err.is) c.read.ensures.read in
+    let q = stops-quits good f n c.args.a v w c.in-Err.stop h in
+    let same = c.read.ensures.same in
+    record {
+      own = record { table = same.table ∙ me.own.table; config = ap (λ q. q.config) same.who ∙ me.own.config; rule = ap (λ q. q.rule) same.who ∙ me.own.rule };
+      runs = q.ends.idle.1;
+      «open» = λ e. absurd (let no : false ≡ true = e in cc);
+      built = ap is_built q.ends.alg ∙ me.built;
+    }
+
+pub returns-in-Err-clause-keeps : goal.returns-in-Err-clause-keeps
+returns-in-Err-clause-keeps g c =
+    let me = c.args.self.now in
+    let good = g.K.MemRule.good me.stm.now.rule in
+    let f = me.stm.now.config in
+    let n = number me.desc.now in
+    let v = known me.desc.now in
+    let w = known c.read.new.desc in
+    let h = read-stopped good f n c.args.a v w c.read.result c.in-Err.stop (sym c.as_read.ensures ∙ c.in-Err.is) c.read.ensures.read in
+    let running : v.running ≡ true = me.runs ∙ ap is_none c.requires.going in
+    ((c.read.ensures.same, since-at good f n me.stopped (Some c.in-Err.stop) v w c.requires.going (since-stopped good f n c.args.a v w c.in-Err.stop running (in-attempt me.desc.now.view.gate.phase running) h)), refl, refl)

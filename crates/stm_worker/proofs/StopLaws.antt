@@ -1,0 +1,39 @@
+-- An operation that was stopped in the middle.
+use Rattle.std.proofs.Common.{ℕ, ◌≡◌, List, true, refl, subst}
+use Rattle.std.specs.Prelude.{Option, Some, None, Result, Ok, Err, IfErr}
+use Rattle.stm_model.specs.Logs.{IsReadStop}
+use Rattle.stm_model.specs.declared.config.Config.{Config}
+use Rattle.stm_model.specs.declared.stop.Stop.{Stop}
+use Rattle.stm_model.specs.declared.stop.Stop.TheVariants as stops
+use Rattle.stm_script.specs.declared.op.Op.{Op}
+use Rattle.stm_script.specs.declared.op.Op.TheVariants as ops
+use Rattle.stm_script.specs.Operations.{OnlyReads}
+use Rattle.tx_answers.specs.Known.{Known}
+use Rattle.stm_tx.specs.Descs.{Since}
+use Rattle.stm_trace.specs.Places.{may_write}
+use Rattle.stm_worker.specs.Tellings.{StoppedBy}
+
+-- an operation that only reads is not stopped by a full clock
+only-writers : (op : Op) (clock : ℕ) → (OnlyReads op → IsReadStop (stops.ClockFull clock)) → may_write op ≡ true
+only-writers (ops.Read a) clock h = absurd (h tt)
+only-writers (ops.Write a v) clock h = refl
+only-writers (ops.Add a k) clock h = refl
+only-writers (ops.Move a b k) clock h = refl
+only-writers (ops.Emit a) clock h = absurd (h tt)
+only-writers ops.Irrev clock h = absurd (h tt)
+only-writers ops.Cancel clock h = absurd (h tt)
+
+-- an operation that an access stopped
+pub stopped-by : (good : List ℕ → Type 0) (c : Config) (n : ℕ) (op : Op) (result : Result ℕ Stop) (stopped : Option Stop) (v w : Known)
+    → IfErr result (λ stop. stopped ≡ Some stop) → Since good c n None v stopped w → (OnlyReads op → IfErr result IsReadStop) → IfErr result (λ stop. StoppedBy good c n op stop v w)
+stopped-by good c n op (Ok r) stopped v w is since cause = tt
+stopped-by good c n op (Err stop) stopped v w is since cause =
+    let at = (subst (λ (o : Option Stop). Since good c n None v o w) is since).1 in
+    record {
+      before = at.before;
+      carries = at.carries;
+      running = at.running;
+      address = at.address;
+      stops = at.stops;
+      writes = λ clock e. only-writers op clock (λ r. subst IsReadStop e (cause r));
+    }

@@ -1,0 +1,303 @@
+-- What each answer raised the clock by, and what pays for it at the place of its turn.
+use Rattle.std.proofs.Common.{ℕ, suc, ◌≡◌, ◌≤◌, ◌+◌, ◌*◌, Bool, true, false, List, [], ◌∷◌, length, refl, sym, ap, ◌∙◌, arith, subst, inl, inr}
+use Rattle.std.proofs.Math.Nat.{mul-suc}
+use Rattle.std.specs.Prelude.{◌⊎◌, ◌&&◌, not, leb}
+use Rattle.stm_model.specs.Algorithms.{entry_rise, quit_rise}
+use Rattle.stm_model.specs.Logs.{Log}
+use Rattle.stm_model.specs.Memories.{is_empty}
+use Rattle.stm_model.specs.declared.alg.Alg.{Alg}
+use Rattle.stm_model.specs.declared.stop.Stop.{Stop}
+use Rattle.stm_model.specs.declared.stop.Stop.TheVariants as stops
+use Rattle.stm_rule.specs.declared.stm.Stm.{Stm}
+use Rattle.stm_script.specs.declared.op.Op.{Op}
+use Rattle.stm_script.specs.declared.report.Kind.TheVariants.{R}
+use Rattle.stm_script.specs.declared.workload.Item.{Item}
+use Rattle.stm_script.specs.declared.workload.Item.TheVariants.{Tx, Switch}
+use Rattle.tx_answers.specs.Answers.{Quits, Stays}
+use Rattle.tx_answers.specs.Known.{Known, caller_of, is_irrevocable, wrote}
+use Rattle.tx_answers.specs.declared.answers.Begin.TheVariants as begins
+use Rattle.tx_answers.specs.declared.answers.Cancel.TheVariants as cancels
+use Rattle.tx_answers.specs.declared.answers.CloseGate.TheVariants as closes
+use Rattle.tx_answers.specs.declared.answers.Commit.TheVariants as commits
+use Rattle.tx_answers.specs.declared.answers.Irrev.{Irrev}
+use Rattle.tx_answers.specs.declared.answers.Irrev.TheVariants as irrevs
+use Rattle.tx_answers.specs.declared.answers.Look.TheVariants as looks
+use Rattle.stm_tx.specs.Descs.{known}
+use Rattle.stm_trace.specs.declared.said.Phase.TheVariants.{Between, Inside, Closing, Quiet}
+use Rattle.stm_trace.specs.declared.said.Said.{Said}
+use Rattle.stm_trace.specs.declared.said.Said.TheVariants.{TryBegin, Reply, Stopped, TryCancel, TryIrrevocable, TryCommit, TryClose, Looked, Installed, Idle, Dropped, Reopened}
+use Rattle.stm_trace.specs.Places.{after, ended, failed_next, given_up, granted_at, in_the_way, is_forced, most_failed, must_next, rest_of, sure}
+use Rattle.stm_trace.specs.Turns.{BeforeTx, Comes, MaySay, MayWind, SwitchesTo}
+use Rattle.stm_worker.specs.declared.worker.Worker.{Worker}
+use Rattle.stm_worker.specs.Payments.{raised, spent, Paid, dropped_of, unpaid_by}
+use Rattle.stm_worker.specs.RiseLaws.{raised-in, raised-out, quit-low, quit-none, entry-low, install-low, stops-quits}
+use Rattle.stm_worker.specs.Tellings.{Tells, StoppedBy}
+use Rattle.stm_worker.specs.Workers.{place_of, IsAt, IsUnderWay, Sound, WhenInside}
+
+-- an attempt that had to be irrevocable before it went on, and went on, is so
+sure-then : (must certain : Bool) → (must && not certain) ≡ false → must ≡ true → certain ≡ true
+sure-then true true h e = refl
+sure-then true false h e = absurd cc
+sure-then false certain h e = absurd cc
+
+-- one item less to do
+pub each-item : (each : ℕ) (left : List Item) → length left ≡ suc (length (rest_of left)) → each * length left ≡ each * length (rest_of left) + each
+each-item each left e = ap (λ n. each * n) e ∙ mul-suc each (length (rest_of left))
+
+pub tx-less : (left : List Item) → BeforeTx left → length left ≡ suc (length (rest_of left))
+tx-less [] b = absurd b
+tx-less (Tx caller script ∷ items) b = refl
+tx-less (Switch caller alg ∷ items) b = absurd b
+
+switch-less : (alg : Alg) (left : List Item) → SwitchesTo alg left → length left ≡ suc (length (rest_of left))
+switch-less alg [] b = absurd b
+switch-less alg (Tx caller script ∷ items) b = absurd b
+switch-less alg (Switch caller to ∷ items) b = refl
+
+-- at most `most` are spent on an item
+pub spent-low : (most failed : ℕ) (must : Bool) → (must ≡ false → failed ≤ most) → spent most failed must ≤ most
+spent-low most failed true few = omega arith
+spent-low most failed false few = few refl
+
+-- an attempt that is counted pays for one rise; one that must be irrevocable has none to pay for
+way-pays : (most failed rise : ℕ) (must : Bool) → (must ≡ false → failed + 1 ≤ most) → rise ≤ 1 → (must ≡ true → rise ≡ 0) → spent most failed must + rise ≤ spent most (failed_next must failed) (must_next must failed)
+way-pays most failed rise true few low none = let e = none refl in omega arith
+way-pays most failed rise false few low none = by (leb most_failed (failed + 1))
+  where
+    by : (b : Bool) → failed + rise ≤ spent most (failed + 1) b
+    by true = let f = few refl in omega arith
+    by false = omega arith
+
+-- and so does one whose log was too short
+full-pays : (most failed rise : ℕ) (must : Bool) → must ≡ false → (must ≡ false → failed + 1 ≤ most) → rise ≤ 1 → spent most failed must + rise ≤ most
+full-pays most failed rise true e few low = absurd cc
+full-pays most failed rise false e few low = let f = few refl in omega arith
+
+module _ {K : Type 0} (good : List ℕ → Type 0) (stm : Stm K) (u : Worker K) (s : Sound good stm u) where
+  pub under : u.phase ≡ Inside → IsUnderWay good stm.config.words u
+  under e = subst (λ p. WhenInside p (IsUnderWay good stm.config.words u)) e s.under_way
+
+  pub runs : u.phase ≡ Inside → (known u.desc).running ≡ true
+  runs e = subst (λ p. IsAt good stm.config (caller_of u.desc.who.role) p (known u.desc)) e s.at
+
+  idles : u.phase ≡ Between → (known u.desc).running ≡ false
+  idles e = (subst (λ p. IsAt good stm.config (caller_of u.desc.who.role) p (known u.desc)) e s.at).1
+
+  closing-now : u.phase ≡ Closing → (known u.desc).running ≡ false
+  closing-now e = (subst (λ p. IsAt good stm.config (caller_of u.desc.who.role) p (known u.desc)) e s.at).running
+
+  quiets : u.phase ≡ Quiet → (known u.desc).running ≡ false
+  quiets e = (subst (λ p. IsAt good stm.config (caller_of u.desc.who.role) p (known u.desc)) e s.at).0.running
+
+  -- an attempt that must become irrevocable and is not yet has written nothing
+  unwritten : u.phase ≡ Inside → u.must ≡ true → is_irrevocable (known u.desc) ≡ false → wrote (known u.desc) ≡ false
+  unwritten e must off = let a = under e in sym a.going.writer ∙ a.waits must (a.going.sure ∙ off)
+
+  -- an operation stops no attempt that must not fail
+  unforced : (op : Op) (stop : Stop) (x : Known) → Comes op (place_of u) → StoppedBy good stm.config (caller_of u.desc.who.role) op stop (known u.desc) x → u.must ≡ false
+  unforced op stop x comes t = by u.must refl
+    where
+      by : (b : Bool) → u.must ≡ b → b ≡ false
+      by false e = refl
+      by true e =
+          let certain = sym (under comes.0).going.sure ∙ sure-then u.must (sure (place_of u)) comes.1 e in
+          let still = (t.carries.sure (runs comes.0) certain).1 in
+          let q = stops-quits good stm.config (caller_of u.desc.who.role) t.address stop t.before x t.stops in
+          absurd (let f : true ≡ false = sym still ∙ q.revocable in cc)
+
+  asked-inside : MaySay (place_of u) (TryIrrevocable irrevs.Granted) → u.phase ≡ Inside
+  asked-inside (inl forced) = forced.0
+  asked-inside (inr comes) = comes.0
+
+  module _ (unpaid each most all : ℕ) (few : u.must ≡ false → u.failed + 1 ≤ most) (wide : most + 2 ≤ each) (pays : Paid unpaid each most all (known u.desc) (place_of u)) where
+    -- it raised nothing, and nothing is counted
+    same-paid : (x : Known) → raised x ≡ raised (known u.desc) → Paid (unpaid + 0) each most all x (place_of u)
+    same-paid x e = omega (arith, e, pays)
+
+    stays-paid : (x : Known) → u.phase ≡ Between → Stays (known u.desc) x → Paid (unpaid + 0) each most all x (place_of u)
+    stays-paid x e t = same-paid x (raised-out x t.idle.1 ∙ (t.rises ∙ sym (raised-out (known u.desc) (idles e))))
+
+    goes-paid : (x : Known) → u.phase ≡ Inside → x.running ≡ true → x.base ≡ (known u.desc).base → Paid (unpaid + 0) each most all x (place_of u)
+    goes-paid x e now base = same-paid x (raised-in x now ∙ (base ∙ sym (raised-in (known u.desc) (runs e))))
+
+    granted-paid : (b : Bool) (x : Known) → Paid (unpaid + 0) each most all x (place_of u) → Paid (unpaid + 0) each most all x (granted_at b (place_of u))
+    granted-paid true x h = h
+    granted-paid false x h = h
+
+    -- the attempt is over: it was counted, or it was not, or its log was too short, or the item is done
+    way-paid : (x : Known) (rise : ℕ) → u.phase ≡ Inside → x.running ≡ false → x.rises ≤ (known u.desc).base + rise → rise ≤ 1 → (u.must ≡ true → rise ≡ 0) → Paid (unpaid + 0) each most all x (in_the_way (place_of u))
+    way-paid x rise e out r low none =
+        let a = raised-in (known u.desc) (runs e) in
+        let b = raised-out x out in
+        let m = way-pays most u.failed rise u.must few low none in
+        omega (arith, a, b, m, r, pays)
+
+    quit-paid : (x : Known) (rise : ℕ) → u.phase ≡ Inside → x.running ≡ false → x.rises ≤ (known u.desc).base + rise → rise ≤ 1 → Paid (unpaid + 1) each most all x (given_up (place_of u))
+    quit-paid x rise e out r low =
+        let a = raised-in (known u.desc) (runs e) in
+        let b = raised-out x out in
+        omega (arith, a, b, r, pays)
+
+    full-paid : (x : Known) (rise : ℕ) → u.phase ≡ Inside → u.must ≡ false → x.running ≡ false → x.rises ≤ (known u.desc).base + rise → rise ≤ 1 → Paid (unpaid + 0) each most all x (record (given_up (place_of u)) { must = true })
+    full-paid x rise e free out r low =
+        let a = raised-in (known u.desc) (runs e) in
+        let b = raised-out x out in
+        let m = full-pays most u.failed rise u.must free few low in
+        omega (arith, a, b, m, r, pays)
+
+    row-paid : (x : Known) (rise : ℕ) → u.phase ≡ Inside → x.running ≡ false → x.rises ≤ (known u.desc).base + rise → rise ≤ 2 → Paid (unpaid + 0) each most all x (ended R 0 (place_of u))
+    row-paid x rise e out r low =
+        let a = raised-in (known u.desc) (runs e) in
+        let b = raised-out x out in
+        let m = spent-low most u.failed u.must (λ off. let f = few off in omega arith) in
+        let one = each-item each u.items_left.now (tx-less u.items_left.now (under e).here) in
+        omega (arith, a, b, m, one, r, pays)
+
+    stopped-paid : (op : Op) (stop : Stop) (x : Known) → Comes op (place_of u) → StoppedBy good stm.config (caller_of u.desc.who.role) op stop (known u.desc) x → Paid (unpaid + unpaid_by (Stopped op stop)) each most all x (after (place_of u) (Stopped op stop))
+    stopped-paid op stop x comes t = by stop (unforced op stop x comes t) (stops-quits good stm.config (caller_of u.desc.who.role) t.address stop t.before x t.stops)
+      where
+        by : (stop : Stop) → u.must ≡ false → Quits t.before x → Paid (unpaid + unpaid_by (Stopped op stop)) each most all x (after (place_of u) (Stopped op stop))
+        by (stops.Conflict cause) free q =
+            way-paid x (quit_rise t.before.alg (wrote t.before)) comes.0 q.ends.idle.1 (let r = q.rises.1 in let e = t.carries.base in omega arith) (quit-low t.before.alg (wrote t.before)) (λ must. absurd (let f : true ≡ false = sym must ∙ free in cc))
+        by (stops.Full limit) free q =
+            full-paid x (quit_rise t.before.alg (wrote t.before)) comes.0 free q.ends.idle.1 (let r = q.rises.1 in let e = t.carries.base in omega arith) (quit-low t.before.alg (wrote t.before))
+        by (stops.ClockFull clock) free q =
+            quit-paid x (quit_rise t.before.alg (wrote t.before)) comes.0 q.ends.idle.1 (let r = q.rises.1 in let e = t.carries.base in omega arith) (quit-low t.before.alg (wrote t.before))
+
+    -- it was refused where it could have been cancelled
+    refused-paid : (x : Known) → u.phase ≡ Inside → Quits (known u.desc) x → Paid (unpaid + 0) each most all x (in_the_way (place_of u))
+    refused-paid x e q = way-paid x (quit_rise (known u.desc).alg (wrote (known u.desc))) e q.ends.idle.1 q.rises.1 (quit-low (known u.desc).alg (wrote (known u.desc)))
+        (λ must. quit-none (known u.desc).alg (wrote (known u.desc)) (unwritten e must q.revocable))
+
+    irrevocable-paid : (r : Irrev) (x : Known) → u.phase ≡ Inside → Tells good stm.config (caller_of u.desc.who.role) (TryIrrevocable r) (known u.desc) x → Paid (unpaid + unpaid_by (TryIrrevocable r)) each most all x (after (place_of u) (TryIrrevocable r))
+    irrevocable-paid irrevs.Granted x e t = granted-paid (is_forced (place_of u)) x (goes-paid x e t.continues.running t.continues.base)
+    irrevocable-paid (irrevs.Busy caller status) x e t = goes-paid x e t.0.continues.running t.0.continues.base
+    irrevocable-paid (irrevs.Taken gate) x e t =
+        let y = t.0 in
+        let i = t.1.0 in
+        let c = t.2.1 in
+        way-paid x (quit_rise y.alg (wrote y)) e c.0.ends.idle.1 (let r = c.2 in let b = i.continues.base in omega arith) (quit-low y.alg (wrote y))
+        (λ must. quit-none y.alg (wrote y) (ap (λ (l : Log). not (is_empty l.writes)) i.log ∙ unwritten e must i.revocable))
+    irrevocable-paid (irrevs.Conflict cause) x e t = refused-paid x e t.0
+    irrevocable-paid (irrevs.ClockFull clock) x e t = quit-paid x (quit_rise (known u.desc).alg (wrote (known u.desc))) e t.0.ends.idle.1 t.0.rises.1 (quit-low (known u.desc).alg (wrote (known u.desc)))
+
+    pub said-paid : (said : Said) (x : Known) → MaySay (place_of u) said → Tells good stm.config (caller_of u.desc.who.role) said (known u.desc) x → Paid (unpaid + unpaid_by said) each most all x (after (place_of u) said)
+    said-paid (TryBegin (begins.Begun alg)) x may t = same-paid x (raised-in x t.running ∙ (t.base ∙ sym (raised-out (known u.desc) (idles may.0))))
+    said-paid (TryBegin (begins.Closed gate)) x may t = stays-paid x may.0 t.0
+    said-paid (TryBegin (begins.Held word)) x may t = stays-paid x may.0 t.0
+    said-paid (TryBegin (begins.ClockFull clock)) x may t = (let h = stays-paid x may.0 t.0 in omega (arith, h))
+    said-paid (Reply op reply) x may t = goes-paid x may.0.0 t.1.0 t.0.base
+    said-paid (Stopped op stop) x may t = stopped-paid op stop x may.0 t
+    said-paid (TryCancel (cancels.Cancelled time)) x may t =
+        row-paid x (quit_rise (known u.desc).alg (wrote (known u.desc))) may.0 t.0.ends.idle.1 t.2 (let l = quit-low (known u.desc).alg (wrote (known u.desc)) in omega arith)
+    said-paid (TryCancel cancels.Irrevocable) x may t = same-paid x (ap raised t.0)
+    said-paid (TryIrrevocable r) x may t = irrevocable-paid r x (asked-inside may) t
+    said-paid (TryCommit (commits.Committed time)) x may t = row-paid x (entry_rise (known u.desc).alg) may.0 t.ends.idle.1 (let r = t.rises in omega arith) (entry-low (known u.desc).alg)
+    said-paid (TryCommit (commits.ReadOnly time)) x may t = row-paid x 0 may.0 t.0.ends.idle.1 (let r = t.1 in omega arith) (omega arith)
+    said-paid (TryCommit (commits.Conflict cause)) x may t = refused-paid x may.0 t.0
+    said-paid (TryCommit (commits.Again word had now)) x may t = goes-paid x may.0 t.0.continues.running t.0.continues.base
+    said-paid (TryCommit (commits.ClockFull clock)) x may t = quit-paid x (quit_rise (known u.desc).alg (wrote (known u.desc))) may.0 t.0.ends.idle.1 t.0.rises.1 (quit-low (known u.desc).alg (wrote (known u.desc)))
+    said-paid (TryClose closes.Closed) x may t = same-paid x (raised-out x t.holds.running ∙ (t.rises ∙ sym (raised-out (known u.desc) (idles may.0))))
+    said-paid (TryClose (closes.Taken gate)) x may t = stays-paid x may.0 t.0
+    said-paid (Looked looks.Quiet) x may t = same-paid x (raised-out x t.0.closed.holds.running ∙ (t.0.rises ∙ sym (raised-out (known u.desc) (closing-now may))))
+    said-paid (Looked (looks.Busy caller status)) x may t = same-paid x (raised-out x t.0.closed.holds.running ∙ (t.0.rises ∙ sym (raised-out (known u.desc) (closing-now may))))
+    said-paid (Installed alg) x may t =
+        let a = raised-out (known u.desc) (quiets may.0) in
+        let b = raised-out x t.2.idle.1 in
+        let r = t.2.rises in
+        let i = t.1.rises.1 in
+        let l = install-low alg in
+        let one = each-item each u.items_left.now (switch-less alg u.items_left.now may.1) in
+        omega (arith, a, b, one, pays)
+    said-paid Idle x may t = same-paid x (ap raised t)
+    said-paid Dropped x may t = absurd may
+    said-paid Reopened x may t = absurd may
+
+    -- and behind the schedule, where an attempt is dropped that nothing counts
+    pub wound-paid : (said : Said) (x : Known) → MayWind (place_of u) said → Tells good stm.config (caller_of u.desc.who.role) said (known u.desc) x → Paid (unpaid + unpaid_by said) each most all x (after (place_of u) said)
+    wound-paid (TryBegin b) x may t = said-paid (TryBegin b) x may.2 t
+    wound-paid (Reply op reply) x may t = said-paid (Reply op reply) x may.2 t
+    wound-paid (Stopped op stop) x may t = said-paid (Stopped op stop) x may.2 t
+    wound-paid (TryCancel c) x may t = said-paid (TryCancel c) x may.2 t
+    wound-paid (TryIrrevocable r) x may t = said-paid (TryIrrevocable r) x may.2 t
+    wound-paid (TryCommit c) x may t = said-paid (TryCommit c) x may.2 t
+    wound-paid (TryClose c) x may t = said-paid (TryClose c) x may.2 t
+    wound-paid (Looked l) x may t = said-paid (Looked l) x may.2 t
+    wound-paid (Installed alg) x may t = said-paid (Installed alg) x may.2 t
+    wound-paid Idle x may t = said-paid Idle x may.2 t
+    wound-paid Dropped x may t =
+        let c = t.1 in
+        quit-paid x (quit_rise (known u.desc).alg (wrote (known u.desc))) may.0 c.0.ends.idle.1 c.2 (quit-low (known u.desc).alg (wrote (known u.desc)))
+    wound-paid Reopened x may t = same-paid x (raised-out x t.idle.1 ∙ (t.rises ∙ sym (raised-out (known u.desc) (closed may))))
+      where
+        closed : (u.phase ≡ Closing) ⊎ (u.phase ≡ Quiet) → (known u.desc).running ≡ false
+        closed (inl e) = closing-now e
+        closed (inr e) = quiets e
+
+pub dropped-low : (left : List Item) → dropped_of left ≤ 1
+dropped-low [] = omega arith
+dropped-low (Tx caller script ∷ items) = omega arith
+dropped-low (Switch caller alg ∷ items) = omega arith
+
+pub dropped-tx : (left : List Item) → BeforeTx left → dropped_of left ≡ 1
+dropped-tx [] b = absurd b
+dropped-tx (Tx caller script ∷ items) b = refl
+dropped-tx (Switch caller alg ∷ items) b = absurd b
+
+dropped-switch : (alg : Alg) (left : List Item) → SwitchesTo alg left → dropped_of left ≡ 0
+dropped-switch alg [] b = absurd b
+dropped-switch alg (Tx caller script ∷ items) b = absurd b
+dropped-switch alg (Switch caller to ∷ items) b = refl
+
+-- an item that is done pays for an attempt of it that was dropped, too
+module _ {K : Type 0} (good : List ℕ → Type 0) (stm : Stm K) (u : Worker K) (s : Sound good stm u) (each most all : ℕ) (few : u.must ≡ false → u.failed + 1 ≤ most) (wide : most + 3 ≤ each)
+    (pays : Paid (dropped_of u.items_left.now) each most all (known u.desc) (place_of u)) where
+  as-said : (said : Said) (x : Known) → MaySay (place_of u) said → Tells good stm.config (caller_of u.desc.who.role) said (known u.desc) x → Paid (dropped_of u.items_left.now + unpaid_by said) each most all x (after (place_of u) said)
+  as-said said x may t = said-paid good stm u s (dropped_of u.items_left.now) each most all few (omega arith) pays said x may t
+
+  row-settles : (x : Known) (rise : ℕ) → u.phase ≡ Inside → x.running ≡ false → x.rises ≤ (known u.desc).base + rise → rise ≤ 2 → Paid (dropped_of (rest_of u.items_left.now) + 0) each most all x (ended R 0 (place_of u))
+  row-settles x rise e out r low =
+      let a = raised-in (known u.desc) (runs good stm u s e) in
+      let b = raised-out x out in
+      let m = spent-low most u.failed u.must (λ off. let f = few off in omega arith) in
+      let one = each-item each u.items_left.now (tx-less u.items_left.now (under good stm u s e).here) in
+      let d = dropped-low u.items_left.now in
+      omega (arith, a, b, m, one, d, r, pays)
+
+  granted-left : (b : Bool) (x : Known) → Paid (dropped_of u.items_left.now + 0) each most all x (granted_at b (place_of u)) → Paid (dropped_of (granted_at b (place_of u)).left + 0) each most all x (granted_at b (place_of u))
+  granted-left true x h = h
+  granted-left false x h = h
+
+  pub settles : (said : Said) (x : Known) → MaySay (place_of u) said → Tells good stm.config (caller_of u.desc.who.role) said (known u.desc) x → Paid (dropped_of (after (place_of u) said).left + unpaid_by said) each most all x (after (place_of u) said)
+  settles (TryBegin (begins.Begun alg)) x may t = as-said (TryBegin (begins.Begun alg)) x may t
+  settles (TryBegin (begins.Closed gate)) x may t = as-said (TryBegin (begins.Closed gate)) x may t
+  settles (TryBegin (begins.Held word)) x may t = as-said (TryBegin (begins.Held word)) x may t
+  settles (TryBegin (begins.ClockFull clock)) x may t = as-said (TryBegin (begins.ClockFull clock)) x may t
+  settles (Reply op reply) x may t = as-said (Reply op reply) x may t
+  settles (Stopped op (stops.Conflict cause)) x may t = as-said (Stopped op (stops.Conflict cause)) x may t
+  settles (Stopped op (stops.Full limit)) x may t = as-said (Stopped op (stops.Full limit)) x may t
+  settles (Stopped op (stops.ClockFull clock)) x may t = as-said (Stopped op (stops.ClockFull clock)) x may t
+  settles (TryCancel (cancels.Cancelled time)) x may t =
+      row-settles x (quit_rise (known u.desc).alg (wrote (known u.desc))) may.0 t.0.ends.idle.1 t.2 (let l = quit-low (known u.desc).alg (wrote (known u.desc)) in omega arith)
+  settles (TryCancel cancels.Irrevocable) x may t = as-said (TryCancel cancels.Irrevocable) x may t
+  settles (TryIrrevocable irrevs.Granted) x may t = granted-left (is_forced (place_of u)) x (as-said (TryIrrevocable irrevs.Granted) x may t)
+  settles (TryIrrevocable (irrevs.Busy caller status)) x may t = as-said (TryIrrevocable (irrevs.Busy caller status)) x may t
+  settles (TryIrrevocable (irrevs.Taken gate)) x may t = as-said (TryIrrevocable (irrevs.Taken gate)) x may t
+  settles (TryIrrevocable (irrevs.Conflict cause)) x may t = as-said (TryIrrevocable (irrevs.Conflict cause)) x may t
+  settles (TryIrrevocable (irrevs.ClockFull clock)) x may t = as-said (TryIrrevocable (irrevs.ClockFull clock)) x may t
+  settles (TryCommit (commits.Committed time)) x may t = row-settles x (entry_rise (known u.desc).alg) may.0 t.ends.idle.1 (let r = t.rises in omega arith) (entry-low (known u.desc).alg)
+  settles (TryCommit (commits.ReadOnly time)) x may t = row-settles x 0 may.0 t.0.ends.idle.1 (let r = t.1 in omega arith) (omega arith)
+  settles (TryCommit (commits.Conflict cause)) x may t = as-said (TryCommit (commits.Conflict cause)) x may t
+  settles (TryCommit (commits.Again word had now)) x may t = as-said (TryCommit (commits.Again word had now)) x may t
+  settles (TryCommit (commits.ClockFull clock)) x may t = as-said (TryCommit (commits.ClockFull clock)) x may t
+  settles (TryClose closes.Closed) x may t = as-said (TryClose closes.Closed) x may t
+  settles (TryClose (closes.Taken gate)) x may t = as-said (TryClose (closes.Taken gate)) x may t
+  settles (Looked looks.Quiet) x may t = as-said (Looked looks.Quiet) x may t
+  settles (Looked (looks.Busy caller status)) x may t = as-said (Looked (looks.Busy caller status)) x may t
+  settles (Installed alg) x may t =
+      let h = as-said (Installed alg) x may t in
+      let none = dropped-switch alg u.items_left.now may.1 in
+      omega (arith, h, none)
+  settles Idle x may t = as-said Idle x may t
+  settles Dropped x may t = absurd may
+  settles Reopened x may t = absurd may

@@ -1,0 +1,289 @@
+-- THE LAW OF PAYMENTS: what a turn raises the clock by is paid for, by an item that is done or by an attempt that is counted.
+use Rattle.std.proofs.Common.{ℕ, ◌≡◌, ◌<◌, ◌≤◌, ◌+◌, ◌*◌, Bool, true, false, List, [], ◌∷◌, length, refl, sym, ap, ◌∙◌, arith, subst}
+use Rattle.std.proofs.Math.Nat.{mul-add}
+use Rattle.std.proofs.lemmas.List.Elements.{All-head, All-tail}
+use Rattle.std.proofs.lemmas.List.Sums.{sum_by-cons}
+use Rattle.std.specs.Prelude.{Option, Some, None, All, sum_by}
+use Rattle.stm_model.specs.declared.alg.Alg.{Alg}
+use Rattle.stm_rule.specs.Callers.{Handle}
+use Rattle.stm_rule.specs.declared.stm.Stm.{Stm}
+use Rattle.stm_script.specs.declared.workload.Item.{Item}
+use Rattle.stm_script.specs.declared.workload.Item.TheVariants.{Tx, Switch}
+use Rattle.tx_answers.specs.Known.{owed, caller_of}
+use Rattle.stm_tx.specs.Descs.{known}
+use Rattle.stm_trace.specs.declared.said.Phase.{Phase}
+use Rattle.stm_trace.specs.declared.said.Phase.TheVariants.{Between, Inside, Closing, Quiet}
+use Rattle.stm_trace.specs.declared.said.Said.{Said}
+use Rattle.stm_trace.specs.declared.said.Said.TheVariants.{TryBegin, Reply, Stopped, TryCancel, TryIrrevocable, TryCommit, TryClose, Looked, Installed, Idle, Dropped, Reopened}
+use Rattle.stm_trace.specs.Places.{Place, after, clock_of, given_up, most_failed}
+use Rattle.stm_trace.specs.Turns.{MaySay, MayWind, MayFinish}
+use Rattle.stm_worker.specs.declared.worker.Worker.{Worker}
+use Rattle.stm_worker.specs.Payments.{raised, spent, Pays, PaysBut, PaysAfter, PaysOnceDone, PaysOnceDoneAfter, PaysWinding, PaysWindingAfter, Affords, Paid, dropped_of, unpaid_at, unpaid_by, IsCountedFor, CountsNext}
+use Rattle.stm_worker.specs.Workers.{place_of, IsAt, Sound, Starts, Turned}
+use Rattle.stm_worker.specs.RiseLaws.{raised-in, raised-out, owed-in, owed-out}
+use Rattle.stm_worker.specs.PaidLaws.{spent-low, each-item, under, tx-less, said-paid, wound-paid, settles, dropped-low, dropped-tx}
+use Rattle.stm_worker.specs.CountLaws.{CountsAt, alone-failed, counted-none, said-counts, wound-counts}
+
+-- a turn leads to its place, with the same items in all
+paid-there : {K : Type 0} (good : List ℕ → Type 0) (stm : Stm K) (may : Place → Said → Type 0) (u : Worker K) (said : Said) (w : Worker K) (unpaid each most : ℕ) → Turned good stm may u said w
+    → Paid unpaid each most (length u.all.now) (known w.desc) (after (place_of u) said) → PaysBut unpaid each most w
+paid-there good stm may u said w unpaid each most t h =
+    subst (λ items. Paid unpaid each most (length items) (known w.desc) (place_of w)) (sym t.same.all)
+    (subst (Paid unpaid each most (length u.all.now) (known w.desc)) (sym t.now) h)
+
+-- what was unpaid is the one rise of an attempt that found the clock full, if it did
+all-paid : {K : Type 0} (w : Worker K) (each most : ℕ) (clock : Option ℕ) → PaysBut (0 + unpaid_at clock) each most w → PaysAfter each most clock w
+all-paid w each most None h = omega (arith, h)
+all-paid w each most (Some clock) h = omega (arith, h)
+
+-- while the schedule goes on no attempt is dropped
+pub same-unpaid : (at : Place) (said : Said) → MaySay at said → unpaid_by said ≡ unpaid_at (clock_of said)
+same-unpaid at (TryBegin b) may = refl
+same-unpaid at (Reply op reply) may = refl
+same-unpaid at (Stopped op stop) may = refl
+same-unpaid at (TryCancel c) may = refl
+same-unpaid at (TryIrrevocable r) may = refl
+same-unpaid at (TryCommit c) may = refl
+same-unpaid at (TryClose c) may = refl
+same-unpaid at (Looked l) may = refl
+same-unpaid at (Installed alg) may = refl
+same-unpaid at Idle may = refl
+same-unpaid at Dropped may = absurd may
+same-unpaid at Reopened may = absurd may
+
+module _ {K : Type 0} (good : List ℕ → Type 0) (stm : Stm K) (u : Worker K) (said : Said) (w : Worker K) (s : Sound good stm u) where
+  -- an attempt is counted until there have been 16: so many rises pay for them, two more for the one that ends the item, and what was unpaid stays so
+  pub turned-pays-but : (unpaid each most : ℕ) → Turned good stm MaySay u said w → most_failed ≤ most → most + 2 ≤ each → PaysBut unpaid each most u → PaysBut (unpaid + unpaid_by said) each most w
+  turned-pays-but unpaid each most t much wide pays =
+      paid-there good stm MaySay u said w (unpaid + unpaid_by said) each most t
+      (said-paid good stm u s unpaid each most (length u.all.now) (λ e. let f = s.counted e in omega arith) wide pays said (known w.desc) t.here t.told)
+
+  -- and behind the schedule, where an attempt that is dropped is paid by nothing
+  pub wound-pays-but : (unpaid each most : ℕ) → Turned good stm MayWind u said w → most_failed ≤ most → most + 2 ≤ each → PaysBut unpaid each most u → PaysBut (unpaid + unpaid_by said) each most w
+  wound-pays-but unpaid each most t much wide pays =
+      paid-there good stm MayWind u said w (unpaid + unpaid_by said) each most t
+      (wound-paid good stm u s unpaid each most (length u.all.now) (λ e. let f = s.counted e in omega arith) wide pays said (known w.desc) t.here t.told)
+
+  -- with one caller no attempt is counted, and one that must be irrevocable follows on one whose log was too short
+  pub alone-pays-but : (unpaid each most : ℕ) → Turned good stm MaySay u said w → u.failed ≡ 0 → 1 ≤ most → most + 2 ≤ each → PaysBut unpaid each most u → PaysBut (unpaid + unpaid_by said) each most w
+  alone-pays-but unpaid each most t none one wide pays =
+      paid-there good stm MaySay u said w (unpaid + unpaid_by said) each most t
+      (said-paid good stm u s unpaid each most (length u.all.now) (λ e. omega arith) wide pays said (known w.desc) t.here t.told)
+
+  after-turn : (each most : ℕ) → Turned good stm MaySay u said w → PaysBut (0 + unpaid_by said) each most w → PaysAfter each most (clock_of said) w
+  after-turn each most t h = all-paid w each most (clock_of said) (subst (λ n. PaysBut (0 + n) each most w) (same-unpaid (place_of u) said t.here) h)
+
+  -- A TURN PAYS for what it raised the clock by
+  pub turned-pays : (each most : ℕ) → Turned good stm MaySay u said w → 17 ≤ most → most + 3 ≤ each → Pays each most u → PaysAfter each most (clock_of said) w
+  turned-pays each most t much wide pays = after-turn each most t (turned-pays-but 0 each most t (omega arith) (omega arith) (omega (arith, pays)))
+
+-- behind the schedule, once nothing is open, no more may be said than before
+finish-says : (at : Place) (said : Said) → MayFinish at said → MaySay at said
+finish-says at (TryBegin b) may = may
+finish-says at (Reply op reply) may = may
+finish-says at (Stopped op stop) may = may
+finish-says at (TryCancel c) may = may
+finish-says at (TryIrrevocable r) may = may
+finish-says at (TryCommit c) may = may
+finish-says at (TryClose c) may = may
+finish-says at (Looked l) may = may
+finish-says at (Installed alg) may = may
+finish-says at Idle may = absurd may
+finish-says at Dropped may = may
+finish-says at Reopened may = may
+
+module _ {K : Type 0} (good : List ℕ → Type 0) (stm : Stm K) (u : Worker K) (said : Said) (w : Worker K) (s : Sound good stm u) where
+  -- with one caller no attempt is counted, whatever may be said
+  pub none-failed : (may : Place → Said → Type 0) → Turned good stm may u said w → stm.config.callers ≡ 1 → u.failed ≡ 0 → w.failed ≡ 0
+  none-failed may t one none = ap (λ (p : Place). p.failed) t.now ∙ alone-failed good stm.config (caller_of u.desc.who.role) one said (place_of u) (known u.desc) (known w.desc) none t.told
+
+  -- and so one that must be irrevocable follows only on one whose log was too short
+  pub turned-pays-alone : (each most : ℕ) → Turned good stm MaySay u said w → stm.config.callers ≡ 1 → u.failed ≡ 0 → 1 ≤ most → most + 3 ≤ each → Pays each most u → PaysAfter each most (clock_of said) w × (w.failed ≡ 0)
+  turned-pays-alone each most t one none much wide pays = (
+    after-turn good stm u said w s each most t (alone-pays-but good stm u said w s 0 each most t none much (omega arith) (omega (arith, pays))),
+    none-failed MaySay t one none,
+  )
+
+  -- only attempts of the transaction that comes next are counted
+  pub turned-counts : Turned good stm MaySay u said w → CountsNext u → CountsNext w
+  turned-counts t h = subst CountsAt (sym t.now) (said-counts said (place_of u) (λ e. (under good stm u s e).here) t.here h)
+
+  pub finished-counts : Turned good stm MayFinish u said w → CountsNext u → CountsNext w
+  finished-counts t h = subst CountsAt (sym t.now) (said-counts said (place_of u) (λ e. (under good stm u s e).here) (finish-says (place_of u) said t.here) h)
+
+  pub wound-counts-next : Turned good stm MayWind u said w → CountsNext u → CountsNext w
+  wound-counts-next t h = subst CountsAt (sym t.now) (wound-counts said (place_of u) (λ e. (under good stm u s e).here) t.here h)
+
+-- nothing is done, and nothing raised
+pub starts-pays : {K : Type 0} (each most : ℕ) (w : Worker K) → (known w.desc).running ≡ false → (known w.desc).rises ≡ 0 → w.items_left.now ≡ w.all.now → Pays each most w
+starts-pays each most w out none all =
+    let a = raised-out (known w.desc) out in
+    let e : each * length w.items_left.now ≡ each * length w.all.now = ap (λ l. each * length l) all in
+    omega (arith, a, none, e)
+
+pub starts-counts : {K : Type 0} (w : Worker K) → w.failed ≡ 0 → w.must ≡ false → CountsNext w
+starts-counts w f m = subst (λ b. IsCountedFor w.items_left.now w.failed b) (sym m) (subst (λ n. IsCountedFor w.items_left.now n false) (sym f) (counted-none w.items_left.now))
+
+-- and so it is with a worker that was made of an idle caller that raised nothing
+pub new-pays : {K : Type 0} (each most : ℕ) (desc : Handle K) (items : List Item) (alg : Alg) (w : Worker K) → Starts desc items alg w → (known desc).running ≡ false → (known desc).rises ≡ 0 → Pays each most w × CountsNext w × (w.failed ≡ 0)
+new-pays {K = K} each most desc items alg w h out none =
+    let is = h.is_desc in
+    let failed : w.failed ≡ 0 = ap (λ (p : Place). p.failed) h.at in
+    let must : w.must ≡ false = ap (λ (p : Place). p.must) h.at in (
+      starts-pays each most w (ap (λ (x : Handle K). (known x).running) is ∙ out) (ap (λ (x : Handle K). (known x).rises) is ∙ none) (ap (λ (p : Place). p.left) h.at ∙ sym h.all),
+      starts-counts w failed must,
+      failed,
+    )
+
+-- so the items of a caller bound what it raised
+all-pays : (unpaid each most all : ℕ) (left : List Item) (failed : ℕ) (must : Bool) (risen : ℕ) → IsCountedFor left failed must → (must ≡ false → failed ≤ most) → most ≤ each
+    → risen + each * length left ≤ each * all + spent most failed must + unpaid → risen ≤ each * all + unpaid
+all-pays unpaid each most all [] failed must risen counts few wide pays =
+    let e : spent most failed must ≡ 0 = (λ i. spent most (counts.0 i) (counts.1 i)) in omega (arith, e, pays)
+all-pays unpaid each most all (Tx caller script ∷ items) failed must risen counts few wide pays =
+    let m = spent-low most failed must few in
+    let one = each-item each (Tx caller script ∷ items) refl in
+    omega (arith, m, one, pays)
+all-pays unpaid each most all (Switch caller alg ∷ items) failed must risen counts few wide pays =
+    let e : spent most failed must ≡ 0 = (λ i. spent most (counts.0 i) (counts.1 i)) in omega (arith, e, pays)
+
+pub pays-all : {K : Type 0} (unpaid each most : ℕ) (w : Worker K) → CountsNext w → (w.must ≡ false → w.failed ≤ most) → most ≤ each → PaysBut unpaid each most w → raised (known w.desc) ≤ each * length w.all.now + unpaid
+pays-all unpaid each most w counts few wide pays = all-pays unpaid each most (length w.all.now) w.items_left.now w.failed w.must (raised (known w.desc)) counts few wide pays
+
+-- while an item is left that is not all
+some-left : (unpaid each most all : ℕ) (left : List Item) (failed : ℕ) (must : Bool) (risen : ℕ) → 0 < length left → (must ≡ false → failed ≤ most) → most + 2 ≤ each
+    → risen + each * length left ≤ each * all + spent most failed must + unpaid → risen + 2 ≤ each * all + unpaid
+some-left unpaid each most all [] failed must risen some few wide pays = absurd (omega arith)
+some-left unpaid each most all (x ∷ items) failed must risen some few wide pays =
+    let m = spent-low most failed must few in
+    let one = each-item each (x ∷ items) refl in
+    omega (arith, m, one, pays)
+
+pub pays-left : {K : Type 0} (unpaid each most : ℕ) (w : Worker K) → 0 < length w.items_left.now → (w.must ≡ false → w.failed ≤ most) → most + 2 ≤ each → PaysBut unpaid each most w → raised (known w.desc) + 2 ≤ each * length w.all.now + unpaid
+pays-left unpaid each most w some few wide pays = some-left unpaid each most (length w.all.now) w.items_left.now w.failed w.must (raised (known w.desc)) some few wide pays
+
+-- 16 are enough for the attempts that are counted, and one where there is one caller
+pub sound-affords : {K : Type 0} (good : List ℕ → Type 0) (stm : Stm K) (u : Worker K) (most : ℕ) → Sound good stm u → most_failed ≤ most → Affords most u
+sound-affords good stm u most s much = λ e. (let f = s.counted e in omega arith)
+
+pub alone-affords : {K : Type 0} (u : Worker K) (most : ℕ) → u.failed ≡ 0 → 1 ≤ most → Affords most u
+alone-affords u most none one = λ e. omega arith
+
+-- the same, where the item pays for an attempt that was dropped
+done-paid : {K : Type 0} (w : Worker K) (each most : ℕ) (clock : Option ℕ) → PaysBut (dropped_of w.items_left.now + unpaid_at clock) each most w → PaysOnceDoneAfter each most clock w
+done-paid w each most None h = omega (arith, h)
+done-paid w each most (Some clock) h = h
+
+module _ {K : Type 0} (good : List ℕ → Type 0) (stm : Stm K) (u : Worker K) (said : Said) (w : Worker K) (s : Sound good stm u) where
+  settled-there : (may : Place → Said → Type 0) (each most : ℕ) → Turned good stm may u said w → MaySay (place_of u) said → Affords most u → most + 3 ≤ each → PaysOnceDone each most u → PaysOnceDoneAfter each most (clock_of said) w
+  settled-there may each most t says few wide pays =
+      done-paid w each most (clock_of said) (subst (λ n. PaysBut (dropped_of w.items_left.now + n) each most w) (same-unpaid (place_of u) said says)
+      (subst (λ (at : Place). PaysBut (dropped_of at.left + unpaid_by said) each most w) (sym t.now)
+      (paid-there good stm may u said w (dropped_of (after (place_of u) said).left + unpaid_by said) each most t
+      (settles good stm u s each most (length u.all.now) few wide pays said (known w.desc) says t.told))))
+
+  -- while the schedule goes on, and once nothing is open behind it, an item pays for an attempt of it that was dropped
+  pub turned-pays-done : (each most : ℕ) → Turned good stm MaySay u said w → Affords most u → most + 3 ≤ each → PaysOnceDone each most u → PaysOnceDoneAfter each most (clock_of said) w
+  turned-pays-done each most t few wide pays = settled-there MaySay each most t t.here few wide pays
+
+  pub finished-pays : (each most : ℕ) → Turned good stm MayFinish u said w → Affords most u → most + 3 ≤ each → PaysOnceDone each most u → PaysOnceDoneAfter each most (clock_of said) w
+  finished-pays each most t few wide pays = settled-there MayFinish each most t (finish-says (place_of u) said t.here) few wide pays
+
+-- an attempt that goes on behind the schedule was not dropped
+winds : {K : Type 0} (w : Worker K) (each most : ℕ) (clock : Option ℕ) → PaysBut (0 + unpaid_at clock) each most w → PaysWindingAfter each most clock w
+winds w each most None h = (omega (arith, h), λ e. omega (arith, h))
+winds w each most (Some clock) h = omega (arith, h)
+
+module _ {K : Type 0} (good : List ℕ → Type 0) (stm : Stm K) (u : Worker K) (s : Sound good stm u) (each most : ℕ) (few : Affords most u) (wide : most + 3 ≤ each) (pays : PaysWinding each most u) (w : Worker K) where
+  goes-on : (said : Said) → Turned good stm MayWind u said w → u.phase ≡ Inside → MaySay (place_of u) said → PaysWindingAfter each most (clock_of said) w
+  goes-on said t inside says =
+      let now : Pays each most u = pays.1 inside in
+      winds w each most (clock_of said) (subst (λ n. PaysBut (0 + n) each most w) (same-unpaid (place_of u) said says)
+      (paid-there good stm MayWind u said w (0 + unpaid_by said) each most t
+      (said-paid good stm u s 0 each most (length u.all.now) few (omega arith) (omega (arith, now)) said (known w.desc) says t.told)))
+
+  -- it has nothing open any more
+  outside : (at : Place) → at.phase ≡ Between → place_of w ≡ at → w.phase ≡ Inside → Pays each most w
+  outside at between now e = absurd (let f : Between ≡ Inside = sym between ∙ (sym (ap (λ (p : Place). p.phase) now) ∙ e) in cc)
+
+  -- behind the schedule: an attempt is dropped, or a closing given up, or an attempt that can't be cancelled goes on
+  pub wound-pays : (said : Said) → Turned good stm MayWind u said w → PaysWindingAfter each most (clock_of said) w
+  wound-pays (TryBegin b) t = goes-on (TryBegin b) t t.here.0 t.here.2
+  wound-pays (Reply op reply) t = goes-on (Reply op reply) t t.here.0 t.here.2
+  wound-pays (Stopped op stop) t = goes-on (Stopped op stop) t t.here.0 t.here.2
+  wound-pays (TryCancel c) t = goes-on (TryCancel c) t t.here.0 t.here.2
+  wound-pays (TryIrrevocable r) t = goes-on (TryIrrevocable r) t t.here.0 t.here.2
+  wound-pays (TryCommit c) t = goes-on (TryCommit c) t t.here.0 t.here.2
+  wound-pays (TryClose c) t = goes-on (TryClose c) t t.here.0 t.here.2
+  wound-pays (Looked l) t = goes-on (Looked l) t t.here.0 t.here.2
+  wound-pays (Installed alg) t = goes-on (Installed alg) t t.here.0 t.here.2
+  wound-pays Idle t = goes-on Idle t t.here.0 t.here.2
+  wound-pays Dropped t =
+      let now : Pays each most u = pays.1 t.here.0 in
+      let one : dropped_of w.items_left.now ≡ 1 = ap (λ (p : Place). dropped_of p.left) t.now ∙ dropped-tx u.items_left.now (under good stm u s t.here.0).here in
+      let h : PaysBut 1 each most w = paid-there good stm MayWind u Dropped w 1 each most t
+      (wound-paid good stm u s 0 each most (length u.all.now) few (omega arith) (omega (arith, now)) Dropped (known w.desc) t.here t.told) in
+      (omega (arith, h, one), outside (given_up (place_of u)) refl t.now)
+  wound-pays Reopened t =
+      let same : dropped_of w.items_left.now ≡ dropped_of u.items_left.now = ap (λ (p : Place). dropped_of p.left) t.now in
+      let h : PaysBut (dropped_of u.items_left.now + 0) each most w = paid-there good stm MayWind u Reopened w (dropped_of u.items_left.now + 0) each most t
+      (wound-paid good stm u s (dropped_of u.items_left.now) each most (length u.all.now) few (omega arith) pays.0 Reopened (known w.desc) t.here t.told) in
+      (omega (arith, h, same), outside (record (place_of u) { phase = Between }) refl t.now)
+
+-- once the schedule is over
+pub pays-winding : {K : Type 0} (each most : ℕ) (w : Worker K) → Pays each most w → PaysWinding each most w
+pays-winding each most w h = (omega (arith, h), λ e. h)
+
+-- whatever is open, with what an open attempt may still raise: the items of a caller bound it
+done-all : (unpaid each most all : ℕ) (left : List Item) (failed : ℕ) (must : Bool) (risen : ℕ) → IsCountedFor left failed must → (must ≡ false → failed + 1 ≤ most) → most + 1 ≤ each
+    → risen + each * length left ≤ each * all + spent most failed must + (dropped_of left + unpaid) → risen ≤ each * all + unpaid
+done-all unpaid each most all [] failed must risen counts few wide pays =
+    let e : spent most failed must ≡ 0 = (λ i. spent most (counts.0 i) (counts.1 i)) in omega (arith, e, pays)
+done-all unpaid each most all (Tx caller script ∷ items) failed must risen counts few wide pays =
+    let m = spent-low most failed must (λ off. let f = few off in omega arith) in
+    let one = each-item each (Tx caller script ∷ items) refl in
+    omega (arith, m, one, pays)
+done-all unpaid each most all (Switch caller alg ∷ items) failed must risen counts few wide pays =
+    let e : spent most failed must ≡ 0 = (λ i. spent most (counts.0 i) (counts.1 i)) in omega (arith, e, pays)
+
+module _ {K : Type 0} (good : List ℕ → Type 0) (stm : Stm K) (w : Worker K) (s : Sound good stm w) (unpaid each most : ℕ) (counts : CountsNext w) (few : Affords most w) (wide : most + 3 ≤ each)
+    (pays : PaysBut (dropped_of w.items_left.now + unpaid) each most w) where
+  open-owes : (known w.desc).running ≡ true → w.phase ≡ Inside → owed (known w.desc) ≤ each * length w.all.now + unpaid
+  open-owes now inside =
+      let a = raised-in (known w.desc) now in
+      let b = owed-in (known w.desc) now in
+      let m = spent-low most w.failed w.must (λ off. let f = few off in omega arith) in
+      let one = each-item each w.items_left.now (tx-less w.items_left.now (under good stm w s inside).here) in
+      let d = dropped-low w.items_left.now in
+      omega (arith, a, b, m, one, d, pays)
+
+  shut-owes : (known w.desc).running ≡ false → owed (known w.desc) ≤ each * length w.all.now + unpaid
+  shut-owes out =
+      let a = raised-out (known w.desc) out in
+      let b = owed-out (known w.desc) out in
+      let h : raised (known w.desc) ≤ each * length w.all.now + unpaid = done-all unpaid each most (length w.all.now) w.items_left.now w.failed w.must (raised (known w.desc)) counts few (omega arith) pays in
+      omega (arith, a, b, h)
+
+  -- THE ITEMS PAY FOR ALL that their caller raised, and may still raise by what it has open
+  pub owes-all : owed (known w.desc) ≤ each * length w.all.now + unpaid
+  owes-all = by w.phase refl s.at
+    where
+      by : (p : Phase) → w.phase ≡ p → IsAt good stm.config (caller_of w.desc.who.role) p (known w.desc) → owed (known w.desc) ≤ each * length w.all.now + unpaid
+      by Between e at = shut-owes at.1
+      by Inside e at = open-owes at e
+      by Closing e at = shut-owes at.running
+      by Quiet e at = shut-owes at.0.running
+
+-- and those of all callers what all of them raised, and may still raise
+pub all-owe : {K : Type 0} (each : ℕ) (unpaid : Worker K → ℕ) (ws : List (Worker K)) → All (λ (w : Worker K). owed (known w.desc) ≤ each * length w.all.now + unpaid w) ws
+    → sum_by (λ (w : Worker K). owed (known w.desc)) ws ≤ each * sum_by (λ (w : Worker K). length w.all.now) ws + sum_by unpaid ws
+all-owe each unpaid [] h = omega arith
+all-owe {K = K} each unpaid (w ∷ ws) h =
+    let P : Worker K → Type 0 = λ (w : Worker K). owed (known w.desc) ≤ each * length w.all.now + unpaid w in
+    let one : owed (known w.desc) ≤ each * length w.all.now + unpaid w = All-head P w ws h in
+    let rest = all-owe each unpaid ws (All-tail P w ws h) in
+    let a = sum_by-cons (λ (w : Worker K). owed (known w.desc)) w ws in
+    let b = sum_by-cons unpaid w ws in
+    let c : each * sum_by (λ (w : Worker K). length w.all.now) (w ∷ ws) ≡ each * length w.all.now + each * sum_by (λ (w : Worker K). length w.all.now) ws =
+    ap (λ n. each * n) (sum_by-cons (λ (w : Worker K). length w.all.now) w ws) ∙ mul-add each (length w.all.now) (sum_by (λ (w : Worker K). length w.all.now) ws) in
+    omega (arith, one, rest, a, b, c)

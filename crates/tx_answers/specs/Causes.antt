@@ -1,0 +1,88 @@
+-- Why a call was refused: what must have been so for each cause, by the steps of the call.
+use Rattle.std.specs.Prelude.{ℕ, ◌≡◌, ◌≢◌, ◌<◌, ◌≤◌, ◌+◌, ◌*◌, ◌%◌, ◌⊎◌, ◌==◌, ◌&&◌, not, Option, Some, None, Bool, true, false, List, [], ◌∷◌, length, map}
+use Rattle.stm_model.specs.Algorithms.{has_records, has_read_log, logs_writes}
+use Rattle.stm_model.specs.declared.alg.Alg.TheVariants.{Tml, RingSw}
+use Rattle.stm_model.specs.declared.config.Config.{Config}
+use Rattle.stm_model.specs.declared.config.TheConstants.{CLOCK_LIMIT}
+use Rattle.stm_model.specs.declared.stop.Cause.{Cause}
+use Rattle.stm_model.specs.declared.stop.Cause.TheVariants as causes
+use Rattle.stm_model.specs.Logs.{Log}
+use Rattle.stm_model.specs.Memories.{item_at}
+use Rattle.rule_base.specs.declared.layout.At.TheVariants.{Clock, Lock, Record, Slot}
+use Rattle.rule_base.specs.declared.layout.TheConstants.{SLOT_WORDS}
+use Rattle.rule_base.specs.Encodings.{is_owned, owner_of, version_of}
+use Rattle.tx_logs.specs.Filters.{filter_word, meets, lowest_common}
+use Rattle.tx_answers.specs.Evidence.{Found, Refused, FoundAsWas, FoundMoved}
+use Rattle.tx_answers.specs.Known.{Known, is_irrevocable}
+
+-- the clock was found at its limit
+pub record FindsFull (clock : ℕ) (v w : Known) : Type 0 where
+  pub limit : CLOCK_LIMIT ≤ clock
+  pub found : Found Clock clock v w
+  pub top : clock ≤ w.top
+
+abbrev pub is_some : Option ℕ → Bool
+is_some None = false
+is_some (Some x) = true
+
+-- the log has an item for the address
+abbrev pub has_item : ℕ → List (ℕ × ℕ) → Bool
+has_item a items = is_some (item_at a items)
+
+-- a read of a needs an item more than the read log may have: it was neither read nor written before
+abbrev pub reads_full : ℕ → Known → Bool
+reads_full a v = has_read_log v.alg && (not (is_irrevocable v) && (not (has_item a v.log.writes) && (not (has_item a v.log.reads) && (length v.log.reads == v.reads_limit))))
+
+-- a write of a needs an item more than the write or undo log may have
+abbrev pub writes_full : ℕ → Known → Bool
+writes_full a v = logs_writes v.alg && (not (is_irrevocable v) && (not (has_item a v.log.writes) && (length v.log.writes == v.writes_limit)))
+
+-- c is the memory's configuration, and n the caller; the call asks for this address, if for any
+module _ (c : Config) (n : ℕ) where
+  -- the number, where it isn't 0, names another caller
+  abbrev pub NamesOther : ℕ → Type 0
+  NamesOther x = (k : ℕ) × (k < c.callers) × (k ≢ n) × (x ≡ 1 + k)
+
+  module _ (asked : Option ℕ) where
+    -- the record is that of the address asked for, or of one that was read or written
+    abbrev pub Concerns : ℕ → Known → Type 0
+    Concerns index v = (a : ℕ) × (index ≡ a % c.records) × ((asked ≡ Some a) ⊎ ((has_item a v.log.reads ≡ true) ⊎ (has_item a v.log.writes ≡ true)))
+
+    -- another caller owns the record
+    abbrev pub IsAnothers : ℕ → Type 0
+    IsAnothers word = (is_owned word ≡ true) × NamesOther (1 + owner_of word)
+
+    -- the record is of an address that was read, and newer than the start
+    abbrev pub IsNewer : ℕ → ℕ → ℕ → Known → Type 0
+    IsNewer index word start v = (is_owned word ≡ false) × (start < version_of word) × ((a : ℕ) × (index ≡ a % c.records) × (has_item a v.log.reads ≡ true))
+
+    -- the addresses whose words the attempt loaded, the one asked for included
+    abbrev pub addresses : List (ℕ × ℕ) → List ℕ
+    addresses reads = map (λ (r : ℕ × ℕ). r.0) reads
+
+    abbrev pub loaded_by : Option ℕ → List (ℕ × ℕ) → List ℕ
+    loaded_by None reads = addresses reads
+    loaded_by (Some a) reads = a ∷ addresses reads
+
+    -- these are words of the ring's slot of a time: where one isn't 0, it was loaded, and so were all before the first that has common bits
+    pub record Meets (time bits : ℕ) (v w : Known) : Type 0 where
+      pub slot : ℕ → ℕ
+      pub loaded : (i : ℕ) → i < SLOT_WORDS → slot i ≢ 0 → Found (Slot (time % c.ring * SLOT_WORDS + i)) (slot i) v w
+      pub meet : meets (filter_word (loaded_by asked v.log.reads)) slot ≡ true
+      pub lowest : bits ≡ lowest_common (filter_word (loaded_by asked v.log.reads)) slot
+
+    -- why another transaction came in between
+    abbrev pub Conflicts : Cause → Known → Known → Type 0
+    Conflicts (causes.Clock had now) v w = (v.alg ≡ Tml) × (had ≡ v.start) × (had ≢ now) × Found Clock now v w
+    Conflicts (causes.Record index word start) v w =
+        (has_records v.alg ≡ true) × (start ≡ v.start) × Concerns index v × FoundAsWas (Record index) word v w × (IsAnothers word ⊎ IsNewer index word start v)
+    Conflicts (causes.Moved index before after) v w = (has_records v.alg ≡ true) × Concerns index v × FoundMoved (Record index) before after v w
+    Conflicts (causes.Filter time bits) v w =
+        (v.alg ≡ RingSw) × (v.start < time) × ((clock : ℕ) × Found Clock clock v w × (time ≤ clock)) × Meets time bits v w × (bits ≢ 0)
+    Conflicts (causes.Overrun start clock) v w = (v.alg ≡ RingSw) × (start ≡ v.start) × Found Clock clock v w × (start + c.ring ≤ clock)
+
+  -- another commit was faster: the exchange of the clock from the start found another number, which after an earlier Again was loaded in this call; or the lock was another caller's
+  abbrev pub IsAgain : ℕ → ℕ → ℕ → Known → Known → Type 0
+  IsAgain word had now v w =
+      ((word ≡ 0) × (has_records v.alg ≡ true) × (had ≡ w.start) × Refused Clock had now v w × (v.committing ≡ true → Found Clock had v w))
+      ⊎ ((word ≡ 1) × (v.alg ≡ RingSw) × (had ≡ 0) × Refused Lock had now v w × NamesOther now)
