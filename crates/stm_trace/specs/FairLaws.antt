@@ -90,9 +90,9 @@ module _ (good : List ℕ → Type 0) (c : Config) (n : ℕ) (h : Header) (at : 
       ap has_records is.alg ∙ t.0,
       in-range asked index v t.2,
       ⊎_elim
-      (λ o. inl (o.0, (λ e. let k = o.1.2 in let j = o.1.3 in k (omega (arith, e, j, caller)))))
-      (λ o. inr (o.0, o.1))
-      t.4,
+          (λ o. inl (o.0, (λ e. let k = o.1.2 in let j = o.1.3 in k (omega (arith, e, j, caller)))))
+          (λ o. inr (o.0, o.1))
+          t.4,
     )
     fair-cause asked (Moved index before after) w t = (ap has_records is.alg ∙ t.0, in-range asked index v t.1, t.2.apart)
     fair-cause asked (Filter time bits) w t = (is.alg ∙ t.0, (let lt = t.1 in omega (arith, lt)), t.4)
@@ -106,9 +106,9 @@ module _ (good : List ℕ → Type 0) (c : Config) (n : ℕ) (h : Header) (at : 
       fair-stop op a (stops.Full limit) w may t = (
         is.unsure t.0.revocable,
         ⊎_elim
-        (λ f. inl (ap has_read_log is.alg ∙ (both (has_read_log v.alg) _ f.0).0, f.1 ∙ reads))
-        (λ f. inr (ap logs_writes is.alg ∙ (both (logs_writes v.alg) _ f.0).0, f.1 ∙ writes))
-        t.1,
+            (λ f. inl (ap has_read_log is.alg ∙ (both (has_read_log v.alg) _ f.0).0, f.1 ∙ reads))
+            (λ f. inr (ap logs_writes is.alg ∙ (both (logs_writes v.alg) _ f.0).0, f.1 ∙ writes))
+            t.1,
       )
       fair-stop op a (stops.ClockFull clock) w may t = (is.unsure t.0.revocable, (t.2.limit, ap asks_at_write is.alg ∙ t.1, may clock refl))
 

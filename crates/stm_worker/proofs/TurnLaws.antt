@@ -461,31 +461,34 @@ module _ {K : Type 0} (good : List ℕ → Type 0) (stm : Stm K) (u : Worker K) 
         (subst (λ (h : Handle K). Works good stm.config.words w.regions w.all.now n (known h) (u.rows.items ++ row ∷ [])) (sym ends.desc)
         (subst (λ x. Works good stm.config.words w.regions x n (known d) (u.rows.items ++ row ∷ [])) (sym ends.all)
         (subst (λ x. Works good stm.config.words x u.all.now n (known d) (u.rows.items ++ row ∷ [])) (sym ends.regions) works)))) in
-        let rests : Rest w.phase = rest-between w.phase phase in
-        (record {
-          own = subst (λ (h : Handle K). IsOf h stm) (sym ends.desc) own-same;
-          at = subst (λ p. IsAt good stm.config (caller_of w.desc.who.role) p (known w.desc)) (sym phase) (subst (λ (h : Handle K). IsIdle (known h)) (sym ends.desc) idle);
-          lengths = subst (λ (h : Handle K). HasLengths stm.config (known h)) (sym ends.desc) lengths-same;
-          stands = stands-rest good stm.config.words w.regions w.all.now (caller_of w.desc.who.role) (known w.desc) w.rows.items w.phase rests worked;
-          todo = subst (λ k. scripts_of k w.items_left.now ≡ drop (length w.rows.items) (scripts_of k w.all.now)) (sym caller)
-              (ap (scripts_of n) left ∙ (next ∙ (ap (λ k. drop k (scripts_of n u.all.now)) one ∙ ap (λ x. drop (length w.rows.items) (scripts_of n x)) (sym ends.all))));
-          within = subst (λ k. length w.rows.items ≤ length (scripts_of k w.all.now)) (sym caller) (subst (λ x. length w.rows.items ≤ length (scripts_of n x)) (sym ends.all) (omega arith));
-          counted = λ e. subst (λ k. k < most_failed) (sym failed) (omega arith);
-          switched = subst (λ x. DidSwitches x w.items_left.now (known w.desc)) (sym ends.all) (subst (λ x. DidSwitches u.all.now x (known w.desc)) (sym left)
-              (subst (λ (h : Handle K). DidSwitches u.all.now (rest_of u.items_left.now) (known h)) (sym ends.desc) (did-left u.all.now u.items_left.now (rest_of u.items_left.now) (known u.desc) (known d) installs (tx-left u.items_left.now first).0 s.switched)));
-          fits = subst (λ k. ItemsFit good stm.config.words w.regions k w.items_left.now) (sym caller)
-              (subst (λ l. ItemsFit good stm.config.words w.regions n l) (sym left)
-              (subst (λ x. ItemsFit good stm.config.words x n (rest_of u.items_left.now)) (sym ends.regions) (rest-fits good stm.config.words u.regions n u.items_left.now s.fits)));
-          roomy = ends.roomy;
-          turning = subst (λ p. ToSwitch p w.items_left.now) (sym phase) tt;
-          under_way = when-rest w.phase rests _;
-        }, record {
-          same = subst (IsSameCaller u.desc) (sym ends.desc) same;
-          all = ends.all;
-          regions = ends.regions;
-          switched = ap (λ x. x ++ switches_of w.items_left.now) (ap (λ (h : Handle K). (known h).installs) ends.desc ∙ installs)
-              ∙ (ap (λ x. (known u.desc).installs ++ switches_of x) left ∙ ap (λ x. (known u.desc).installs ++ x) (sym (tx-left u.items_left.now first).0));
-        }, at)
+        let rests : Rest w.phase = rest-between w.phase phase in (
+          record {
+            own = subst (λ (h : Handle K). IsOf h stm) (sym ends.desc) own-same;
+            at = subst (λ p. IsAt good stm.config (caller_of w.desc.who.role) p (known w.desc)) (sym phase) (subst (λ (h : Handle K). IsIdle (known h)) (sym ends.desc) idle);
+            lengths = subst (λ (h : Handle K). HasLengths stm.config (known h)) (sym ends.desc) lengths-same;
+            stands = stands-rest good stm.config.words w.regions w.all.now (caller_of w.desc.who.role) (known w.desc) w.rows.items w.phase rests worked;
+            todo = subst (λ k. scripts_of k w.items_left.now ≡ drop (length w.rows.items) (scripts_of k w.all.now)) (sym caller)
+                (ap (scripts_of n) left ∙ (next ∙ (ap (λ k. drop k (scripts_of n u.all.now)) one ∙ ap (λ x. drop (length w.rows.items) (scripts_of n x)) (sym ends.all))));
+            within = subst (λ k. length w.rows.items ≤ length (scripts_of k w.all.now)) (sym caller) (subst (λ x. length w.rows.items ≤ length (scripts_of n x)) (sym ends.all) (omega arith));
+            counted = λ e. subst (λ k. k < most_failed) (sym failed) (omega arith);
+            switched = subst (λ x. DidSwitches x w.items_left.now (known w.desc)) (sym ends.all) (subst (λ x. DidSwitches u.all.now x (known w.desc)) (sym left)
+                (subst (λ (h : Handle K). DidSwitches u.all.now (rest_of u.items_left.now) (known h)) (sym ends.desc) (did-left u.all.now u.items_left.now (rest_of u.items_left.now) (known u.desc) (known d) installs (tx-left u.items_left.now first).0 s.switched)));
+            fits = subst (λ k. ItemsFit good stm.config.words w.regions k w.items_left.now) (sym caller)
+                (subst (λ l. ItemsFit good stm.config.words w.regions n l) (sym left)
+                (subst (λ x. ItemsFit good stm.config.words x n (rest_of u.items_left.now)) (sym ends.regions) (rest-fits good stm.config.words u.regions n u.items_left.now s.fits)));
+            roomy = ends.roomy;
+            turning = subst (λ p. ToSwitch p w.items_left.now) (sym phase) tt;
+            under_way = when-rest w.phase rests _;
+          },
+          record {
+            same = subst (IsSameCaller u.desc) (sym ends.desc) same;
+            all = ends.all;
+            regions = ends.regions;
+            switched = ap (λ x. x ++ switches_of w.items_left.now) (ap (λ (h : Handle K). (known h).installs) ends.desc ∙ installs)
+                ∙ (ap (λ x. (known u.desc).installs ++ switches_of x) left ∙ ap (λ x. (known u.desc).installs ++ x) (sym (tx-left u.items_left.now first).0));
+          },
+          at,
+        )
 
     script-over : u.phase ≡ Inside → u.operations_left.now ≡ [] → GaveOver good stm.config.words (run u.regions (script_at u.items_left.now)) no_log no_replies (known u.desc).log u.out
     script-over inside none = gave-all good stm.config.words u.regions (script_at u.items_left.now) u.operations_left.now (known u.desc) u.alg u.granted u.out u.wrote (attempt-now inside).going none
@@ -524,27 +527,30 @@ module _ {K : Type 0} (good : List ℕ → Type 0) (stm : Stm K) (u : Worker K) 
         → Sound good stm (record u { desc = d; items_left = r; phase = Between }) × IsSame u (record u { desc = d; items_left = r; phase = Between }) × (place_of (record u { desc = d; items_left = r; phase = Between }) ≡ after (place_of u) (Installed alg))
     switched alg r quiet to is idle made installs =
         let n = caller_of u.desc.who.role in
-        let left = switch-left n alg u.items_left.now to in
-        (record {
-          own = own-same;
-          at = idle;
-          lengths = lengths-same;
-          stands = subst (λ k. Works good stm.config.words u.regions u.all.now k (known d) u.rows.items) (sym n_is)
-              (works-later good stm.config.words u.regions u.all.now n (known u.desc) (known d) u.rows.items made (grew (known u.desc) (known d) grows) (resting-now (rest-quiet u.phase quiet)));
-          todo = subst (λ k. scripts_of k r.now ≡ drop (length u.rows.items) (scripts_of k u.all.now)) (sym n_is) (ap (scripts_of n) is ∙ (left.1 ∙ s.todo));
-          within = subst (λ k. length u.rows.items ≤ length (scripts_of k u.all.now)) (sym n_is) s.within;
-          counted = s.counted;
-          switched = subst (λ l. DidSwitches u.all.now l (known d)) (sym is) (did-switch u.all.now u.items_left.now (rest_of u.items_left.now) alg (known u.desc) (known d) installs left.0 s.switched);
-          fits = subst (λ k. ItemsFit good stm.config.words u.regions k r.now) (sym n_is) (subst (ItemsFit good stm.config.words u.regions n) (sym is) (rest-fits good stm.config.words u.regions n u.items_left.now s.fits));
-          roomy = record { spare = s.roomy.spare ∙ (left.2 ∙ ap spares (sym is)); rows = s.roomy.rows };
-          turning = tt;
-          under_way = tt;
-        }, record {
-          same = same;
-          all = refl;
-          regions = refl;
-          switched = ap (λ l. (known d).installs ++ switches_of l) is ∙ (ap (λ l. l ++ switches_of (rest_of u.items_left.now)) installs ∙ (append_assoc (known u.desc).installs (alg ∷ []) (switches_of (rest_of u.items_left.now)) ∙ ap (λ l. (known u.desc).installs ++ l) (sym left.0)));
-        }, installed-at (place_of u) (caller_of d.who.role) r.now alg n_is is)
+        let left = switch-left n alg u.items_left.now to in (
+          record {
+            own = own-same;
+            at = idle;
+            lengths = lengths-same;
+            stands = subst (λ k. Works good stm.config.words u.regions u.all.now k (known d) u.rows.items) (sym n_is)
+                (works-later good stm.config.words u.regions u.all.now n (known u.desc) (known d) u.rows.items made (grew (known u.desc) (known d) grows) (resting-now (rest-quiet u.phase quiet)));
+            todo = subst (λ k. scripts_of k r.now ≡ drop (length u.rows.items) (scripts_of k u.all.now)) (sym n_is) (ap (scripts_of n) is ∙ (left.1 ∙ s.todo));
+            within = subst (λ k. length u.rows.items ≤ length (scripts_of k u.all.now)) (sym n_is) s.within;
+            counted = s.counted;
+            switched = subst (λ l. DidSwitches u.all.now l (known d)) (sym is) (did-switch u.all.now u.items_left.now (rest_of u.items_left.now) alg (known u.desc) (known d) installs left.0 s.switched);
+            fits = subst (λ k. ItemsFit good stm.config.words u.regions k r.now) (sym n_is) (subst (ItemsFit good stm.config.words u.regions n) (sym is) (rest-fits good stm.config.words u.regions n u.items_left.now s.fits));
+            roomy = record { spare = s.roomy.spare ∙ (left.2 ∙ ap spares (sym is)); rows = s.roomy.rows };
+            turning = tt;
+            under_way = tt;
+          },
+          record {
+            same = same;
+            all = refl;
+            regions = refl;
+            switched = ap (λ l. (known d).installs ++ switches_of l) is ∙ (ap (λ l. l ++ switches_of (rest_of u.items_left.now)) installs ∙ (append_assoc (known u.desc).installs (alg ∷ []) (switches_of (rest_of u.items_left.now)) ∙ ap (λ l. (known u.desc).installs ++ l) (sym left.0)));
+          },
+          installed-at (place_of u) (caller_of d.who.role) r.now alg n_is is,
+        )
 
 -- each call's turn
 module _ {K : Type 0} (good : List ℕ → Type 0) (stm : Stm K) (u : Worker K) (s : Sound good stm u) (d : Handle K) (same : IsSameCaller u.desc d) where

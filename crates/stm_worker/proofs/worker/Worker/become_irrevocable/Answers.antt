@@ -57,9 +57,11 @@ returns-in-Conflict g c =
     let u = c.args.self.now in
     let s = c.requires.sound in
     let said = irrevs.Conflict c.in-Conflict.cause in
-    record { turned = subst (Turned good stm MaySay u (TryIrrevocable said)) (sym c.make_way-in-Conflict.ensures)
-        (turned-quit good stm u s c.try_irrevocable.new.desc c.try_irrevocable.ensures.same (TryIrrevocable said) (must_next u.must u.failed) u.passed (failed_next u.must u.failed) (cleared u.out) c.requires.inside (may u c.args.forced said c.requires.inside c.requires.forced c.requires.asked)
-        c.in-Conflict.ensures.irrevs (runs-now good stm u s c.requires.inside) refl c.in-Conflict.ensures.irrevs.0 refl (few-next good stm u s c.try_irrevocable.new.desc c.try_irrevocable.ensures.same)) }
+    record {
+      turned = subst (Turned good stm MaySay u (TryIrrevocable said)) (sym c.make_way-in-Conflict.ensures)
+          (turned-quit good stm u s c.try_irrevocable.new.desc c.try_irrevocable.ensures.same (TryIrrevocable said) (must_next u.must u.failed) u.passed (failed_next u.must u.failed) (cleared u.out) c.requires.inside (may u c.args.forced said c.requires.inside c.requires.forced c.requires.asked)
+          c.in-Conflict.ensures.irrevs (runs-now good stm u s c.requires.inside) refl c.in-Conflict.ensures.irrevs.0 refl (few-next good stm u s c.try_irrevocable.new.desc c.try_irrevocable.ensures.same));
+    }
 
 pub returns-in-ClockFull : goal.returns-in-ClockFull
 returns-in-ClockFull g c =
@@ -68,9 +70,11 @@ returns-in-ClockFull g c =
     let u = c.args.self.now in
     let s = c.requires.sound in
     let said = irrevs.ClockFull c.in-ClockFull.clock in
-    record { turned = subst (Turned good stm MaySay u (TryIrrevocable said)) (sym c.give_up.ensures)
-        (turned-quit good stm u s c.try_irrevocable.new.desc c.try_irrevocable.ensures.same (TryIrrevocable said) u.must u.passed u.failed (cleared u.out) c.requires.inside (may u c.args.forced said c.requires.inside c.requires.forced c.requires.asked)
-        c.in-ClockFull.ensures.irrevs (runs-now good stm u s c.requires.inside) refl c.in-ClockFull.ensures.irrevs.0 refl s.counted) }
+    record {
+      turned = subst (Turned good stm MaySay u (TryIrrevocable said)) (sym c.give_up.ensures)
+          (turned-quit good stm u s c.try_irrevocable.new.desc c.try_irrevocable.ensures.same (TryIrrevocable said) u.must u.passed u.failed (cleared u.out) c.requires.inside (may u c.args.forced said c.requires.inside c.requires.forced c.requires.asked)
+          c.in-ClockFull.ensures.irrevs (runs-now good stm u s c.requires.inside) refl c.in-ClockFull.ensures.irrevs.0 refl s.counted);
+    }
 
 -- an attempt that could be cancelled before the gate was asked for is cancelled
 gone : (good : _) (f : Config) (n : ℕ) (r : Cancel) (v w : Known) → is_irrevocable v ≡ false → answers.Cancels good f n r v w → (time : ℕ) × answers.Cancels good f n (Cancelled time) v w
@@ -93,10 +97,12 @@ returns-in-Taken g c =
     let q = gone good stm.config n c.cancel.result x (known c.cancel.new.desc) off (subst (λ k. answers.Cancels good stm.config k c.cancel.result x (known c.cancel.new.desc)) here c.cancel.ensures.cancels) in
     let e = q.1.0 in
     let same = same-twice u.desc c.try_irrevocable.new.desc c.cancel.new.desc c.try_irrevocable.ensures.same c.cancel.ensures.same in
-    record { turned = subst (Turned good stm MaySay u (TryIrrevocable said)) (sym c.make_way.ensures)
-        (turned-over good stm u s c.cancel.new.desc same MaySay (TryIrrevocable said) (must_next u.must u.failed) u.passed (failed_next u.must u.failed) (cleared u.out) c.requires.inside (may u c.args.forced said c.requires.inside c.requires.forced c.requires.asked)
-        (runs-now good stm u s c.requires.inside) (x, h, q) refl (grows-trans (known u.desc) x (known c.cancel.new.desc) w.continues.grows e.ends.grows) e.ends.idle (e.made ∙ w.continues.made) (e.ends.installs ∙ w.continues.installs) refl
-        (few-next good stm u s c.cancel.new.desc same)) }
+    record {
+      turned = subst (Turned good stm MaySay u (TryIrrevocable said)) (sym c.make_way.ensures)
+          (turned-over good stm u s c.cancel.new.desc same MaySay (TryIrrevocable said) (must_next u.must u.failed) u.passed (failed_next u.must u.failed) (cleared u.out) c.requires.inside (may u c.args.forced said c.requires.inside c.requires.forced c.requires.asked)
+          (runs-now good stm u s c.requires.inside) (x, h, q) refl (grows-trans (known u.desc) x (known c.cancel.new.desc) w.continues.grows e.ends.grows) e.ends.idle (e.made ∙ w.continues.made) (e.ends.installs ∙ w.continues.installs) refl
+          (few-next good stm u s c.cancel.new.desc same));
+    }
 
 running-now : {K : Type 0} → (good : _) (stm : Stm K) (u : Worker K) → Sound good stm u → (forced : Bool) → u.phase ≡ Rattle.stm_trace.specs.declared.said.Phase.TheVariants.Inside → forced ≡ is_forced (place_of u) → (forced ≡ false → Next Irrev u.operations_left.now) → IsRunning (known u.desc)
 running-now good stm u s true inside is next = runs-forced good stm u s inside (sym is)

@@ -38,9 +38,11 @@ returns-in-Conflict g c =
     let u = c.args.self.now in
     let s = c.requires.sound in
     let said = Conflict c.in-Conflict.cause in
-    record { turned = subst (Turned good stm MaySay u (TryCommit said)) (sym c.make_way.ensures)
-        (turned-quit good stm u s c.commit.new.desc c.commit.ensures.same (TryCommit said) (must_next u.must u.failed) true (failed_next u.must u.failed) (cleared u.out) c.requires.inside (c.requires.inside, c.requires.unforced, c.requires.over)
-        c.in-Conflict.ensures.commits (runs-now good stm u s c.requires.inside) refl c.in-Conflict.ensures.commits.0 refl (few-next good stm u s c.commit.new.desc c.commit.ensures.same)) }
+    record {
+      turned = subst (Turned good stm MaySay u (TryCommit said)) (sym c.make_way.ensures)
+          (turned-quit good stm u s c.commit.new.desc c.commit.ensures.same (TryCommit said) (must_next u.must u.failed) true (failed_next u.must u.failed) (cleared u.out) c.requires.inside (c.requires.inside, c.requires.unforced, c.requires.over)
+          c.in-Conflict.ensures.commits (runs-now good stm u s c.requires.inside) refl c.in-Conflict.ensures.commits.0 refl (few-next good stm u s c.commit.new.desc c.commit.ensures.same));
+    }
 
 pub returns-in-ClockFull : goal.returns-in-ClockFull
 returns-in-ClockFull g c =
@@ -49,6 +51,8 @@ returns-in-ClockFull g c =
     let u = c.args.self.now in
     let s = c.requires.sound in
     let said = ClockFull c.in-ClockFull.clock in
-    record { turned = subst (Turned good stm MaySay u (TryCommit said)) (sym c.give_up.ensures)
-        (turned-quit good stm u s c.commit.new.desc c.commit.ensures.same (TryCommit said) u.must true u.failed (cleared u.out) c.requires.inside (c.requires.inside, c.requires.unforced, c.requires.over)
-        c.in-ClockFull.ensures.commits (runs-now good stm u s c.requires.inside) refl c.in-ClockFull.ensures.commits.0 refl s.counted) }
+    record {
+      turned = subst (Turned good stm MaySay u (TryCommit said)) (sym c.give_up.ensures)
+          (turned-quit good stm u s c.commit.new.desc c.commit.ensures.same (TryCommit said) u.must true u.failed (cleared u.out) c.requires.inside (c.requires.inside, c.requires.unforced, c.requires.over)
+          c.in-ClockFull.ensures.commits (runs-now good stm u s c.requires.inside) refl c.in-ClockFull.ensures.commits.0 refl s.counted);
+    }
