@@ -54,6 +54,7 @@ fn a_repeated_address_keeps_or_replaces_its_value(rt: HostRuntime) -> Result<(),
         assert_eq!(rt; writes.push(a, v), Push::Done);
         assert_eq!(rt; undo.push(a, v), Push::Done);
     }
+    assert_eq!(rt; (reads.count(), writes.count(), undo.count()), (2, 2, 2));
     assert_eq!(rt; reads.item(0), (9, 1));
     assert_eq!(rt; writes.item(0), (9, 3));
     assert_eq!(rt; undo.item(0), (9, 1));
@@ -102,9 +103,9 @@ fn an_address_sets_four_bits(rt: HostRuntime) {
     ];
     for (a, words) in table {
         let filter = filter_of(a);
-        let mut bits = 0;
+        let mut bits: u32 = 0;
         for i in 0..16 {
-            bits += filter.word(i).count_ones();
+            bits = filter.word(i).count_ones().saturating_add(bits);
         }
         assert_eq!(rt; bits, 4, "at {a}");
         for (i, word) in words {
