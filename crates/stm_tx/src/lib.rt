@@ -1,10 +1,13 @@
 //! The one interface to the algorithms: the calls of an attempt and of the gate on a descriptor, and the
-//! access over an attempt. What a user of the library needs stands here, so that one `use stm_tx::..` serves.
+//! access over an attempt. What a user of the library needs beside them is named here too, so that one
+//! `use stm_tx::..` serves.
 #![tactic(auto)]
 
 pub mod calls;
 #[cfg(test)]
 mod gate_tests;
+#[cfg(test)]
+mod library_tests;
 pub mod live;
 #[cfg(test)]
 mod serial_tests;
@@ -15,6 +18,7 @@ pub use stm_gate::gate;
 pub use stm_model::access::Access;
 pub use stm_model::alg::Alg;
 pub use stm_model::config::Config;
+pub use stm_model::memory::Memory;
 pub use stm_model::rule::{AnyMem, MemRule};
 pub use stm_model::stop::{Cause, Stop};
 pub use stm_rule::closing::close;
@@ -23,4 +27,6 @@ pub use stm_rule::ending::Closed;
 pub use stm_rule::note::Note;
 pub use stm_rule::refusal::NewError;
 pub use stm_rule::stm::Stm;
-pub use tx_answers::answers;
+pub use tx_answers::answers::{
+    Begin, Cancel, CloseGate, Commit, Irrev, Look, Read, TxState, Write,
+};
