@@ -3,6 +3,8 @@
 #![tactic(auto)]
 
 pub mod bench;
+#[cfg(test)]
+mod cases;
 mod command;
 mod messages;
 pub mod status;
