@@ -7,6 +7,7 @@ pub mod bench;
 mod cases;
 mod command;
 mod messages;
+pub mod program;
 pub mod status;
 #[cfg(test)]
 mod step_tests;
