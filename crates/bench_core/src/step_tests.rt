@@ -162,3 +162,36 @@ fn installs_each_after_each(rt: HostRuntime) -> Result<(), Fail> {
     }
     Ok(())
 }
+
+/// Caller 1 commits in the middle of each of caller 0's first 16 attempts, so that the next one asks to be
+/// irrevocable before it reads.
+#[test]
+fn asks_to_be_irrevocable_behind_16_conflicts(rt: HostRuntime) -> Result<(), Fail> {
+    let alloc = rt.alloc();
+    let items = " / tx 1 {write 1 0}".repeat(alloc, 16)?;
+    let turns = " / go 0 2 / go 1 3 / go 0 1".repeat(alloc, 16)?;
+    let body = format!(in alloc; "tx 0 {{read 1; read 2}}{items} / schedule{turns} / go 0 5")?;
+    let mut said = String::new(alloc);
+    let mut rows = String::new(alloc);
+    for seq in 0..16u64 {
+        let start = 2 * seq;
+        let time = start + 2;
+        let lines = format!(in alloc;
+            "0 begin TML / 0 read 0 / 1 begin TML / 1 write 0 / 1 commit committed {time} / 0 read conflict clock {start} {time} / "
+        )?;
+        said.push_str(lines.as_str())?;
+        let row = format!(in alloc; "W {time} 1 {seq} : 0 / ")?;
+        rows.push_str(row.as_str())?;
+    }
+    let last = format!(in alloc;
+        "0 begin TML / 0 irrev granted / 0 read 0 / 0 read 0 / 0 commit readonly 32 / finish / report 1 / {rows}R 32 0 0 : 0 0 / end"
+    )?;
+    said.push_str(last.as_str())?;
+    check(
+        &rt,
+        alloc,
+        "step",
+        Status::Ok,
+        &[("alg TML / callers 2", body.as_str(), said.as_str())],
+    )
+}
