@@ -3,8 +3,11 @@
 #![tactic(auto)]
 
 pub mod bench;
+#[cfg(test)]
+mod cases;
 mod command;
 mod messages;
+pub mod program;
 pub mod status;
 #[cfg(test)]
 mod step_tests;

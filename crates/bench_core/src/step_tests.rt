@@ -1,150 +1,197 @@
 //! `step` over a text: the trace, and what stands behind it.
+use crate::cases::{Case, check};
 use crate::status::Status;
-use crate::tests::outcome;
-use std::alloc::Global;
 use std::test::Fail;
 
-/// A workload of so many callers, from this clock on.
-fn workload(alloc: Global, callers: u32, clock: &str, body: &str) -> Result<String, Fail> {
-    let text = format!(in alloc;
-        "stm 1\nwords 8\ncallers {callers}\nrecords 4\nring 4\nreads 256\nwrites 256\nclock {clock}\nalg CGL\nstructs off\n{body}"
-    )?;
-    Ok(text)
-}
+/// Traces, each with its report.
+const TRACES: &[Case] = &[
+    // one caller, no schedule
+    (
+        "alg CGL",
+        "tx 0 {add 3 1} / tx 0 {add 3 1} / tx 0 {read 3}",
+        "finish / 0 begin CGL / 0 add 1 / 0 commit committed 1 / 0 begin CGL / 0 add 2 / 0 commit committed 2 / 0 begin CGL / 0 read 2 / 0 commit readonly 2 / report 1 / W 1 0 0 : 1 / W 2 0 1 : 2 / R 2 0 2 : 2 / mem 3 2 / end",
+    ),
+    (
+        "alg CGL",
+        "tx 0 {write 2 7; read 2; write 2 8} / tx 0 {read 2; read 3}",
+        "finish / 0 begin CGL / 0 write 7 / 0 read 7 / 0 write 8 / 0 commit committed 1 / 0 begin CGL / 0 read 8 / 0 read 0 / 0 commit readonly 1 / report 1 / W 1 0 0 : 7 7 8 / R 1 0 1 : 8 0 / mem 2 8 / end",
+    ),
+    (
+        "alg CGL / clock 100",
+        "tx 0 {write 0 1000; write 1 1000} / tx 0 {move 0 1 250; move 0 1 751} / tx 0 {read 0; read 1}",
+        "finish / 0 begin CGL / 0 write 1000 / 0 write 1000 / 0 commit committed 101 / 0 begin CGL / 0 move 1 / 0 move 0 / 0 commit committed 102 / 0 begin CGL / 0 read 750 / 0 read 1250 / 0 commit readonly 102 / report 1 / W 101 0 0 : 1000 1000 / W 102 0 1 : 1 0 / R 102 0 2 : 750 1250 / mem 0 750 / mem 1 1250 / end",
+    ),
+    ("alg CGL", "", "finish / report 1 / end"),
+    // nothing is left
+    (
+        "alg CGL",
+        "tx 0 / end / schedule / go 0 3",
+        "0 begin CGL / 0 commit readonly 0 / 0 idle / finish / report 1 / R 0 0 0 : / end",
+    ),
+    // a switch waits for the others, is given up behind the schedule, and done again
+    (
+        "alg CGL / callers 2",
+        "tx 0 {write 0 5; cancel} / switch 1 CGL / tx 1 {read 0} / schedule / go 0 2 / go 1 2 / go 0 2 / go 1 1",
+        "0 begin CGL / 0 write 5 / 1 close closed / 1 look busy 0 1 / 0 cancel irrevocable / 0 commit committed 1 / 1 look quiet / finish / 1 reopen / 1 close closed / 1 look quiet / 1 install CGL / 1 begin CGL / 1 read 5 / 1 commit readonly 1 / report 1 / W 1 0 0 : 5 0 / R 1 1 0 : 5 / mem 0 5 / end",
+    ),
+    // an open attempt goes on to its end behind the schedule
+    (
+        "alg CGL / callers 2",
+        "tx 0 {read 0} / tx 1 {read 0} / schedule / go 0 1 / go 1 1",
+        "0 begin CGL / 1 begin held 1 / finish / 0 read 0 / 0 commit readonly 0 / 1 begin CGL / 1 read 0 / 1 commit readonly 0 / report 1 / R 0 0 0 : 0 / R 0 1 0 : 0 / end",
+    ),
+    // an attempt that can't be cancelled goes on to its end before any other begins
+    (
+        "alg CGL / callers 2",
+        "tx 0 {read 0} / tx 1 {write 0 7; cancel} / schedule / go 1 2 / go 0 1",
+        "1 begin CGL / 1 write 7 / 0 begin held 2 / finish / 1 cancel irrevocable / 1 commit committed 1 / 0 begin CGL / 0 read 7 / 0 commit readonly 1 / report 1 / W 1 1 0 : 7 0 / R 1 0 0 : 7 / mem 0 7 / end",
+    ),
+    // under TML a reader meets a writer's odd clock, and begins anew
+    (
+        "alg TML / callers 2",
+        "tx 0 {read 1; read 2} / tx 1 {write 1 5} / schedule / go 0 2 / go 1 2 / go 0 1",
+        "0 begin TML / 0 read 0 / 1 begin TML / 1 write 5 / 0 read conflict clock 0 1 / finish / 1 commit committed 2 / 0 begin TML / 0 read 5 / 0 read 0 / 0 commit readonly 2 / report 1 / W 2 1 0 : 5 / R 2 0 0 : 5 0 / mem 1 5 / end",
+    ),
+    // under TML a writer can't be cancelled, and nobody begins beside it
+    (
+        "alg TML / callers 2",
+        "tx 0 {write 0 1; cancel} / tx 1 {read 0} / schedule / go 0 2 / go 1 1 / go 0 2",
+        "0 begin TML / 0 write 1 / 1 begin held 1 / 0 cancel irrevocable / 0 commit committed 2 / finish / 1 begin TML / 1 read 1 / 1 commit readonly 2 / report 1 / W 2 0 0 : 1 0 / R 2 1 0 : 1 / mem 0 1 / end",
+    ),
+    // two readers want to be irrevocable: one waits for the other, which makes way
+    (
+        "alg TML / callers 2",
+        "tx 0 {read 0; irrev; write 1 5; emit 1} / tx 1 {read 2; irrev; write 2 3} / schedule / go 0 2 / go 1 2 / go 0 1 / go 1 1 / go 0 4",
+        "0 begin TML / 0 read 0 / 1 begin TML / 1 read 0 / 0 irrev busy 1 1 / 1 irrev taken 257 / 0 irrev granted / 0 write 5 / 0 emit 5 / 0 commit committed 2 / finish / 1 begin TML / 1 read 0 / 1 irrev granted / 1 write 3 / 1 commit committed 4 / report 1 / W 2 0 0 : 0 1 5 5 ! 5 / W 4 1 0 : 0 1 3 / mem 1 5 / mem 2 3 / end",
+    ),
+    // an undo log of one item: the attempt behind it asks to be irrevocable, and its reply is no operation's
+    (
+        "alg Serial / writes 1",
+        "tx 0 {write 0 1; write 1 2}",
+        "finish / 0 begin Serial / 0 write 1 / 0 write full 1 / 0 begin Serial / 0 irrev granted / 0 write 1 / 0 write 2 / 0 commit committed 1 / report 1 / W 1 0 0 : 1 2 / mem 0 1 / mem 1 2 / end",
+    ),
+];
 
 #[test]
 fn takes_the_turns_of_a_schedule(rt: HostRuntime) -> Result<(), Fail> {
-    let table = [
-        // one caller, no schedule
-        (
-            1,
-            "0",
-            "tx 0\nadd 3 1\nend\ntx 0\nadd 3 1\nend\ntx 0\nread 3\nend\ndone\n",
-            "finish\n0 begin CGL\n0 add 1\n0 commit committed 1\n0 begin CGL\n0 add 2\n0 commit committed 2\n0 begin CGL\n0 read 2\n0 commit readonly 2\nreport 1\nW 1 0 0 : 1\nW 2 0 1 : 2\nR 2 0 2 : 2\nmem 3 2\nend\n",
-        ),
-        (
-            1,
-            "0",
-            "tx 0\nwrite 2 7\nread 2\nwrite 2 8\nend\ntx 0\nread 2\nread 3\nend\ndone\n",
-            "finish\n0 begin CGL\n0 write 7\n0 read 7\n0 write 8\n0 commit committed 1\n0 begin CGL\n0 read 8\n0 read 0\n0 commit readonly 1\nreport 1\nW 1 0 0 : 7 7 8\nR 1 0 1 : 8 0\nmem 2 8\nend\n",
-        ),
-        (
-            1,
-            "100",
-            "tx 0\nwrite 0 1000\nwrite 1 1000\nend\ntx 0\nmove 0 1 250\nmove 0 1 751\nend\ntx 0\nread 0\nread 1\nend\ndone\n",
-            "finish\n0 begin CGL\n0 write 1000\n0 write 1000\n0 commit committed 101\n0 begin CGL\n0 move 1\n0 move 0\n0 commit committed 102\n0 begin CGL\n0 read 750\n0 read 1250\n0 commit readonly 102\nreport 1\nW 101 0 0 : 1000 1000\nW 102 0 1 : 1 0\nR 102 0 2 : 750 1250\nmem 0 750\nmem 1 1250\nend\n",
-        ),
-        (1, "0", "done\n", "finish\nreport 1\nend\n"),
-        // nothing is left
-        (
-            1,
-            "0",
-            "tx 0\nend\nschedule\ngo 0 3\ndone\n",
-            "0 begin CGL\n0 commit readonly 0\n0 idle\nfinish\nreport 1\nR 0 0 0 :\nend\n",
-        ),
-        // a switch waits for the others, is given up behind the schedule, and done again
-        (
-            2,
-            "0",
-            "tx 0\nwrite 0 5\ncancel\nend\nswitch 1 CGL\ntx 1\nread 0\nend\nschedule\ngo 0 2\ngo 1 2\ngo 0 2\ngo 1 1\ndone\n",
-            "0 begin CGL\n0 write 5\n1 close closed\n1 look busy 0 1\n0 cancel irrevocable\n0 commit committed 1\n1 look quiet\nfinish\n1 reopen\n1 close closed\n1 look quiet\n1 install CGL\n1 begin CGL\n1 read 5\n1 commit readonly 1\nreport 1\nW 1 0 0 : 5 0\nR 1 1 0 : 5\nmem 0 5\nend\n",
-        ),
-        // an open attempt goes on to its end behind the schedule
-        (
-            2,
-            "0",
-            "tx 0\nread 0\nend\ntx 1\nread 0\nend\nschedule\ngo 0 1\ngo 1 1\ndone\n",
-            "0 begin CGL\n1 begin held 1\nfinish\n0 read 0\n0 commit readonly 0\n1 begin CGL\n1 read 0\n1 commit readonly 0\nreport 1\nR 0 0 0 : 0\nR 0 1 0 : 0\nend\n",
-        ),
-        // an attempt that can't be cancelled goes on to its end before any other begins
-        (
-            2,
-            "0",
-            "tx 0\nread 0\nend\ntx 1\nwrite 0 7\ncancel\nend\nschedule\ngo 1 2\ngo 0 1\ndone\n",
-            "1 begin CGL\n1 write 7\n0 begin held 2\nfinish\n1 cancel irrevocable\n1 commit committed 1\n0 begin CGL\n0 read 7\n0 commit readonly 1\nreport 1\nW 1 1 0 : 7 0\nR 1 0 0 : 7\nmem 0 7\nend\n",
-        ),
-    ];
-    for (callers, clock, body, all) in table {
-        let text = workload(rt.alloc(), callers, clock, body)?;
-        let (status, held) = outcome(
-            &rt,
-            rt.alloc(),
-            &["stm_bench", "step"],
-            text.as_str(),
-            &[],
-            4096,
-        )?;
-        assert_eq!(rt; status, Status::Ok);
-        assert_eq!(rt; held.as_str(), all);
-    }
-    Ok(())
+    check(&rt, rt.alloc(), "step", Status::Ok, TRACES)
 }
+
+/// Traces that end at a full clock.
+const CUT_TRACES: &[Case] = &[
+    (
+        "alg CGL / clock 4611686018427387904",
+        "tx 0 {write 0 1}",
+        "finish / 0 begin clockfull 4611686018427387904 / clock full 4611686018427387904",
+    ),
+    (
+        "alg CGL / clock 4611686018427387903",
+        "tx 0 {write 0 1} / tx 0 {read 0} / schedule / go 0 4",
+        "0 begin CGL / 0 write 1 / 0 commit committed 4611686018427387904 / 0 begin clockfull 4611686018427387904 / clock full 4611686018427387904",
+    ),
+    // what another caller had to do is left
+    (
+        "alg CGL / callers 2 / clock 4611686018427387904",
+        "tx 0 {read 0} / switch 1 CGL / schedule / go 0 1",
+        "0 begin clockfull 4611686018427387904 / clock full 4611686018427387904",
+    ),
+    (
+        "alg TML / clock 4611686018427387902",
+        "tx 0 {write 0 1} / tx 0 {write 0 2}",
+        "finish / 0 begin TML / 0 write 1 / 0 commit committed 4611686018427387904 / 0 begin TML / 0 write clockfull 4611686018427387904 / clock full 4611686018427387904",
+    ),
+    // the install makes the clock even
+    (
+        "alg TML / clock 4611686018427387903",
+        "tx 0 {write 0 1} / tx 0 {write 0 2}",
+        "finish / 0 begin TML / 0 write clockfull 4611686018427387904 / clock full 4611686018427387904",
+    ),
+    (
+        "alg Serial / clock 4611686018427387903",
+        "tx 0 {write 0 1} / tx 0 {write 0 2}",
+        "finish / 0 begin Serial / 0 write 1 / 0 commit committed 4611686018427387904 / 0 begin Serial / 0 write clockfull 4611686018427387904 / clock full 4611686018427387904",
+    ),
+];
 
 #[test]
 fn ends_a_trace_at_a_full_clock(rt: HostRuntime) -> Result<(), Fail> {
-    let limit = 4611686018427387904;
-    let table = [
-        // the clock stands at its limit
-        (
-            1,
-            "4611686018427387904",
-            "tx 0\nwrite 0 1\nend\ndone\n",
-            "finish\n0 begin clockfull 4611686018427387904\nclock full 4611686018427387904\n",
-        ),
-        (
-            1,
-            "4611686018427387903",
-            "tx 0\nwrite 0 1\nend\ntx 0\nread 0\nend\nschedule\ngo 0 4\ndone\n",
-            "0 begin CGL\n0 write 1\n0 commit committed 4611686018427387904\n0 begin clockfull 4611686018427387904\nclock full 4611686018427387904\n",
-        ),
-        // what another caller had to do is left
-        (
-            2,
-            "4611686018427387904",
-            "tx 0\nread 0\nend\nswitch 1 CGL\nschedule\ngo 0 1\ndone\n",
-            "0 begin clockfull 4611686018427387904\nclock full 4611686018427387904\n",
-        ),
-    ];
-    for (callers, clock, body, all) in table {
-        let text = workload(rt.alloc(), callers, clock, body)?;
-        let (status, held) = outcome(
-            &rt,
-            rt.alloc(),
-            &["stm_bench", "step"],
-            text.as_str(),
-            &[],
-            4096,
+    let clock = 4611686018427387904;
+    check(
+        &rt,
+        rt.alloc(),
+        "step",
+        Status::ClockFull { clock },
+        CUT_TRACES,
+    )
+}
+
+/// Two algorithms, and the times of a commit under the one and of the next under the other.
+const INSTALLS: &[(&str, &str, u64, u64)] = &[
+    ("CGL", "CGL", 1, 2),
+    ("CGL", "Serial", 1, 2),
+    // the install makes the clock even, and a writer raises it by two
+    ("CGL", "TML", 1, 4),
+    ("Serial", "CGL", 1, 2),
+    ("Serial", "Serial", 1, 2),
+    ("Serial", "TML", 1, 4),
+    ("TML", "CGL", 2, 3),
+    ("TML", "Serial", 2, 3),
+    ("TML", "TML", 2, 4),
+];
+
+/// Caller 0 commits, installs the other algorithm behind caller 1's attempt, and commits again; caller 1 reads
+/// before and after.
+#[test]
+fn installs_each_after_each(rt: HostRuntime) -> Result<(), Fail> {
+    for (from, to, first, second) in INSTALLS {
+        let alloc = rt.alloc();
+        let changes = format!(in alloc; "alg {from} / callers 2")?;
+        let body = format!(in alloc;
+            "tx 0 {{add 3 1}} / switch 0 {to} / tx 0 {{add 3 1}} / tx 1 {{read 3}} / tx 1 {{read 3}} / schedule / go 0 3 / go 1 2 / go 0 2 / go 1 1 / go 0 5"
         )?;
-        assert_eq!(rt; status, Status::ClockFull { clock: limit });
-        assert_eq!(rt; held.as_str(), all);
+        let said = format!(in alloc;
+            "0 begin {from} / 0 add 1 / 0 commit committed {first} / 1 begin {from} / 1 read 1 / 0 close closed / 0 look busy 1 1 / 1 commit readonly {first} / 0 look quiet / 0 install {to} / 0 begin {to} / 0 add 2 / 0 commit committed {second} / finish / 1 begin {to} / 1 read 2 / 1 commit readonly {second} / report 1 / W {first} 0 0 : 1 / R {first} 1 0 : 1 / W {second} 0 1 : 2 / R {second} 1 1 : 2 / mem 3 2 / end"
+        )?;
+        check(
+            &rt,
+            alloc,
+            "step",
+            Status::Ok,
+            &[(changes.as_str(), body.as_str(), said.as_str())],
+        )?;
     }
     Ok(())
 }
 
+/// Caller 1 commits in the middle of each of caller 0's first 16 attempts, so that the next one asks to be
+/// irrevocable before it reads.
 #[test]
-fn refuses_a_schedule_out_of_its_ranges(rt: HostRuntime) -> Result<(), Fail> {
-    let table = [
-        ("schedule\ngo 0 0\ndone\n", 12, 6, "refused 12 6 range\n"),
-        ("schedule\ngo 2 1\ndone\n", 12, 6, "refused 12 6 range\n"),
-        (
-            "schedule\ngo 0 1000000\ngo 1 1\ndone\n",
-            13,
-            10,
-            "refused 13 10 many\n",
-        ),
-    ];
-    for (body, line, code, said) in table {
-        let text = workload(rt.alloc(), 2, "0", body)?;
-        let (status, held) = outcome(
-            &rt,
-            rt.alloc(),
-            &["stm_bench", "step"],
-            text.as_str(),
-            &[],
-            4096,
+fn asks_to_be_irrevocable_behind_16_conflicts(rt: HostRuntime) -> Result<(), Fail> {
+    let alloc = rt.alloc();
+    let items = " / tx 1 {write 1 0}".repeat(alloc, 16)?;
+    let turns = " / go 0 2 / go 1 3 / go 0 1".repeat(alloc, 16)?;
+    let body = format!(in alloc; "tx 0 {{read 1; read 2}}{items} / schedule{turns} / go 0 5")?;
+    let mut said = String::new(alloc);
+    let mut rows = String::new(alloc);
+    for seq in 0..16u64 {
+        let start = 2 * seq;
+        let time = start + 2;
+        let lines = format!(in alloc;
+            "0 begin TML / 0 read 0 / 1 begin TML / 1 write 0 / 1 commit committed {time} / 0 read conflict clock {start} {time} / "
         )?;
-        assert_eq!(rt; status, Status::Refused { line, code });
-        assert_eq!(rt; held.as_str(), said);
+        said.push_str(lines.as_str())?;
+        let row = format!(in alloc; "W {time} 1 {seq} : 0 / ")?;
+        rows.push_str(row.as_str())?;
     }
-    Ok(())
+    let last = format!(in alloc;
+        "0 begin TML / 0 irrev granted / 0 read 0 / 0 read 0 / 0 commit readonly 32 / finish / report 1 / {rows}R 32 0 0 : 0 0 / end"
+    )?;
+    said.push_str(last.as_str())?;
+    check(
+        &rt,
+        alloc,
+        "step",
+        Status::Ok,
+        &[("alg TML / callers 2", body.as_str(), said.as_str())],
+    )
 }

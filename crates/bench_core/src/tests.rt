@@ -1,243 +1,263 @@
-//! `bench` over sources and sinks in memory.
-use crate::bench::bench;
+//! `run` over a text, and every end without a report.
+use crate::cases::{Case, check, header, outcome, workload};
 use crate::status::Status;
-use std::alloc::Global;
-use std::sync::Wait;
 use std::test::Fail;
-use std::thread::Threads;
-use stm_io::memory::{MemSink, MemSource};
-use stm_worker::turnstile::Open;
 
-const HEADER: &str =
-    "stm 1\nwords 8\ncallers 1\nrecords 4\nring 4\nreads 256\nwrites 256\nclock 0\nalg CGL\nstructs off\n";
-
-/// What `bench` answers and writes over these bytes, where the source fails at the calls `takes` and the
-/// sink has room for `room` bytes.
-pub(crate) fn outcome(
-    rt: &(impl Threads + Wait + Sync),
-    alloc: Global,
-    words: &[&str],
-    text: &str,
-    takes: &[u64],
-    room: usize,
-) -> Result<(Status, String), Fail> {
-    let mut source = MemSource::new(text.as_bytes().to_vec(alloc)?, takes.to_vec(alloc)?);
-    let mut sink = MemSink::new(alloc, room, Vec::new(alloc))?;
-    let mut last = None;
-    let status = bench(rt, alloc, words, &mut source, &mut sink, &Open, &mut last);
-    let held = String::from_utf8(sink.held().to_vec(alloc)?)?;
-    Ok((status, held))
-}
-
-/// The header with one line in another's place, and these items.
-fn workload(rt: &HostRuntime, line: &str, other: &str, items: &str) -> Result<String, Fail> {
-    let mut text = HEADER.replace(rt.alloc(), line, other)?;
-    text.push_str(items)?;
-    Ok(text)
-}
+/// What was run, and its report.
+const REPORTS: &[Case] = &[
+    // CGL
+    (
+        "alg CGL",
+        "tx 0 {add 3 1} / tx 0 {add 3 1} / tx 0 {read 3}",
+        "report 1 / W 1 0 0 : 1 / W 2 0 1 : 2 / R 2 0 2 : 2 / mem 3 2 / end",
+    ),
+    ("alg CGL", "", "report 1 / end"),
+    (
+        "alg CGL",
+        "tx 0 {read 5} / tx 0 {write 5 9}",
+        "report 1 / R 0 0 0 : 0 / W 1 0 1 : 9 / mem 5 9 / end",
+    ),
+    (
+        "alg CGL",
+        "tx 0 {write 2 7; read 2; write 2 8}",
+        "report 1 / W 1 0 0 : 7 7 8 / mem 2 8 / end",
+    ),
+    (
+        "alg CGL",
+        "tx 0 {write 3 9; cancel; move 3 4 2} / switch 0 CGL / tx 0 {move 3 4 8; read 4}",
+        "report 1 / W 1 0 0 : 9 0 1 / R 1 0 1 : 0 2 / mem 3 7 / mem 4 2 / end",
+    ),
+    (
+        "alg CGL",
+        "tx 0 / end / tx 0 {write 1 0}",
+        "report 1 / R 0 0 0 : / W 1 0 1 : 0 / end",
+    ),
+    (
+        "alg CGL",
+        "tx 0 {write 7 18446744073709551615; add 7 2}",
+        "report 1 / W 1 0 0 : 18446744073709551615 1 / mem 7 1 / end",
+    ),
+    // Serial: a cancel takes back, a move that has too little writes nothing, and an undo log of one item is
+    // too short for two addresses
+    (
+        "alg Serial",
+        "tx 0 {write 0 5; read 0; cancel} / tx 0 {read 0}",
+        "report 1 / C 0 0 0 : 5 5 1 / R 0 0 1 : 0 / end",
+    ),
+    (
+        "alg Serial",
+        "tx 0 {write 0 10; move 0 1 7; move 0 1 7}",
+        "report 1 / W 1 0 0 : 10 1 0 / mem 0 3 / mem 1 7 / end",
+    ),
+    (
+        "alg Serial / writes 1",
+        "tx 0 {write 0 1; write 1 2}",
+        "report 1 / W 1 0 0 : 1 2 / mem 0 1 / mem 1 2 / end",
+    ),
+    // TML: a writer's commit raises the clock by two, and a reader can be cancelled
+    (
+        "alg TML",
+        "tx 0 {write 0 5; cancel} / tx 0 {read 0; cancel} / tx 0 {read 0}",
+        "report 1 / W 2 0 0 : 5 0 / C 2 0 1 : 5 1 / R 2 0 2 : 5 / mem 0 5 / end",
+    ),
+    // a script is cancelled only where no `irrev` comes before its first cancel
+    (
+        "alg Serial",
+        "tx 0 {write 0 5; cancel; irrev; emit 0}",
+        "report 1 / C 0 0 0 : 5 1 / end",
+    ),
+    (
+        "alg Serial",
+        "tx 0 {write 0 5; irrev; cancel; emit 0}",
+        "report 1 / W 1 0 0 : 5 1 0 5 ! 5 / mem 0 5 / end",
+    ),
+    (
+        "alg TML",
+        "tx 0 {irrev; cancel; emit 0; emit 1}",
+        "report 1 / R 0 0 0 : 1 0 0 0 ! 0 0 / end",
+    ),
+    (
+        "alg CGL",
+        "tx 0 {cancel; irrev; write 1 7; emit 1}",
+        "report 1 / W 1 0 0 : 0 1 7 7 ! 7 / mem 1 7 / end",
+    ),
+    // up to the clock's limit
+    ("clock 4611686018427387904", "", "report 1 / end"),
+    (
+        "clock 4611686018427387903",
+        "tx 0 {read 3}",
+        "report 1 / R 4611686018427387903 0 0 : 0 / end",
+    ),
+    (
+        "clock 4611686018427387903",
+        "tx 0 {add 3 1}",
+        "report 1 / W 4611686018427387904 0 0 : 1 / mem 3 1 / end",
+    ),
+    (
+        "alg Serial / clock 4611686018427387904",
+        "tx 0 {read 3}",
+        "report 1 / R 4611686018427387904 0 0 : 0 / end",
+    ),
+    (
+        "alg TML / clock 4611686018427387902",
+        "tx 0 {add 3 1} / tx 0 {read 3}",
+        "report 1 / W 4611686018427387904 0 0 : 1 / R 4611686018427387904 0 1 : 1 / mem 3 1 / end",
+    ),
+];
 
 #[test]
 fn reports_what_was_run(rt: HostRuntime) -> Result<(), Fail> {
-    let table = [
-        (
-            "tx 0\nadd 3 1\nend\ntx 0\nadd 3 1\nend\ntx 0\nread 3\nend\ndone\n",
-            "report 1\nW 1 0 0 : 1\nW 2 0 1 : 2\nR 2 0 2 : 2\nmem 3 2\nend\n",
-        ),
-        ("done\n", "report 1\nend\n"),
-        (
-            "tx 0\nread 5\nend\ntx 0\nwrite 5 9\nend\ndone\n",
-            "report 1\nR 0 0 0 : 0\nW 1 0 1 : 9\nmem 5 9\nend\n",
-        ),
-        (
-            "tx 0\nwrite 2 7\nread 2\nwrite 2 8\nend\ndone\n",
-            "report 1\nW 1 0 0 : 7 7 8\nmem 2 8\nend\n",
-        ),
-        (
-            "tx 0\nwrite 3 9\ncancel\nmove 3 4 2\nend\nswitch 0 CGL\ntx 0\nmove 3 4 8\nread 4\nend\ndone\n",
-            "report 1\nW 1 0 0 : 9 0 1\nR 1 0 1 : 0 2\nmem 3 7\nmem 4 2\nend\n",
-        ),
-        (
-            "tx 0\nend\ntx 0\nwrite 1 0\nend\ndone\n",
-            "report 1\nR 0 0 0 :\nW 1 0 1 : 0\nend\n",
-        ),
-        (
-            "tx 0\nwrite 7 18446744073709551615\nadd 7 2\nend\ndone\n",
-            "report 1\nW 1 0 0 : 18446744073709551615 1\nmem 7 1\nend\n",
-        ),
-    ];
-    for (items, report) in table {
-        let text = workload(&rt, "words 8", "words 8", items)?;
-        let (status, held) = outcome(
-            &rt,
-            rt.alloc(),
-            &["stm_bench", "run"],
-            text.as_str(),
-            &[],
-            4096,
-        )?;
-        assert_eq!(rt; status, Status::Ok);
-        assert_eq!(rt; held.as_str(), report);
-    }
-    Ok(())
-}
-
-#[test]
-fn reports_at_the_end_of_the_clock(rt: HostRuntime) -> Result<(), Fail> {
-    let table = [
-        ("clock 4611686018427387904", "done\n", "report 1\nend\n"),
-        (
-            "clock 4611686018427387903",
-            "tx 0\nread 3\nend\ndone\n",
-            "report 1\nR 4611686018427387903 0 0 : 0\nend\n",
-        ),
-        (
-            "clock 4611686018427387903",
-            "tx 0\nadd 3 1\nend\ndone\n",
-            "report 1\nW 4611686018427387904 0 0 : 1\nmem 3 1\nend\n",
-        ),
-    ];
-    for (clock, items, report) in table {
-        let text = workload(&rt, "clock 0", clock, items)?;
-        let (status, held) = outcome(
-            &rt,
-            rt.alloc(),
-            &["stm_bench", "run"],
-            text.as_str(),
-            &[],
-            4096,
-        )?;
-        assert_eq!(rt; status, Status::Ok);
-        assert_eq!(rt; held.as_str(), report);
-    }
-    Ok(())
+    check(&rt, rt.alloc(), "run", Status::Ok, REPORTS)
 }
 
 #[test]
 fn says_why_there_is_no_report(rt: HostRuntime) -> Result<(), Fail> {
-    let items = "tx 0\nadd 3 1\nend\ntx 0\nadd 3 1\nend\ntx 0\nread 3\nend\ndone\n";
     let usage = "usage: stm_bench run [--policy P] / step / gen N T SEED\n";
-    let text = workload(&rt, "words 8", "words 8", items)?;
-    let no_words = workload(&rt, "words 8", "words 0", items)?;
-    let at_limit = workload(&rt, "clock 0", "clock 4611686018427387904", items)?;
-    let near_limit = workload(&rt, "clock 0", "clock 4611686018427387903", items)?;
-    let run = ["stm_bench", "run"];
+    let three = "tx 0 {add 3 1} / tx 0 {add 3 1} / tx 0 {read 3}";
+    let text = workload(rt.alloc(), "", three)?;
+    let full = workload(rt.alloc(), "clock 4611686018427387903", three)?;
     let limit = 4611686018427387904;
-    let full = "clock full 4611686018427387904\n";
-    let table = [
+    let run: &[&str] = &["stm_bench", "run"];
+    let table: &[(&[&str], &str, &[u64], usize, Status, &str)] = &[
+        (&["stm_bench"], &text, &[], 4096, Status::Usage, usage),
+        (&[], &text, &[], 4096, Status::Usage, usage),
         (
-            outcome(&rt, rt.alloc(), &["stm_bench"], text.as_str(), &[], 4096)?,
+            &["stm_bench", "run", "run"],
+            &text,
+            &[],
+            4096,
             Status::Usage,
             usage,
         ),
         (
-            outcome(&rt, rt.alloc(), &[], text.as_str(), &[], 4096)?,
+            &["stm_bench", "gen"],
+            &text,
+            &[],
+            4096,
             Status::Usage,
             usage,
         ),
         (
-            outcome(
-                &rt,
-                rt.alloc(),
-                &["stm_bench", "run", "run"],
-                text.as_str(),
-                &[],
-                4096,
-            )?,
-            Status::Usage,
-            usage,
+            run,
+            &full,
+            &[],
+            4096,
+            Status::ClockFull { clock: limit },
+            "clock full 4611686018427387904\n",
         ),
         (
-            outcome(
-                &rt,
-                rt.alloc(),
-                &["stm_bench", "gen"],
-                text.as_str(),
-                &[],
-                4096,
-            )?,
-            Status::Usage,
-            usage,
-        ),
-        (
-            outcome(&rt, rt.alloc(), &run, no_words.as_str(), &[], 4096)?,
-            Status::Refused { line: 2, code: 6 },
-            "refused 2 6 range\n",
-        ),
-        (
-            outcome(&rt, rt.alloc(), &run, "", &[], 4096)?,
+            run,
+            "",
+            &[],
+            4096,
             Status::Refused { line: 1, code: 3 },
             "refused 1 3 unended\n",
         ),
-        (
-            outcome(&rt, rt.alloc(), &run, HEADER, &[], 4096)?,
-            Status::Refused { line: 11, code: 3 },
-            "refused 11 3 unended\n",
-        ),
-        (
-            outcome(&rt, rt.alloc(), &run, at_limit.as_str(), &[], 4096)?,
-            Status::ClockFull { clock: limit },
-            full,
-        ),
-        (
-            outcome(&rt, rt.alloc(), &run, near_limit.as_str(), &[], 4096)?,
-            Status::ClockFull { clock: limit },
-            full,
-        ),
-        (
-            outcome(&rt, rt.alloc(), &run, text.as_str(), &[0], 4096)?,
-            Status::ReadFault,
-            "read fault\n",
-        ),
-        (
-            outcome(&rt, rt.alloc(), &run, text.as_str(), &[], 6)?,
-            Status::WriteFault,
-            "report",
-        ),
-        (
-            outcome(&rt, rt.alloc(), &["stm_bench"], text.as_str(), &[], 0)?,
-            Status::WriteFault,
-            "",
-        ),
+        (run, &text, &[0], 4096, Status::ReadFault, "read fault\n"),
+        (run, &text, &[], 6, Status::WriteFault, "report"),
+        (&["stm_bench"], &text, &[], 0, Status::WriteFault, ""),
     ];
-    for (got, status, said) in table {
-        assert_eq!(rt; got.0, status);
-        assert_eq!(rt; got.1.as_str(), said);
+    for (words, text, takes, room, status, said) in table {
+        let (ended, held) = outcome(&rt, rt.alloc(), words, text, takes, *room)?;
+        assert_eq!(rt; ended, *status);
+        assert_eq!(rt; held.as_str(), *said);
     }
     Ok(())
 }
 
+/// The command, the lines of the header that differ, the text behind it, and its first fault.
+type Fault = (
+    &'static str,
+    &'static str,
+    &'static str,
+    usize,
+    u32,
+    &'static str,
+);
+
+const FAULTS: &[Fault] = &[
+    ("run", "words 0", "done\n", 2, 6, "range"),
+    ("run", "alg OrecLazy", "done\n", 9, 7, "alg"),
+    ("run", "", "", 11, 3, "unended"),
+    ("run", "", "\u{e9}\n", 11, 2, "bytes"),
+    ("run", "", "tx 0\nread 1", 12, 3, "unended"),
+    ("run", "", "tx 0\nread 1\nend\n", 14, 3, "unended"),
+    ("run", "", "tx 0\nread 1\nend\ndone", 14, 3, "unended"),
+    ("run", "", "schedule\ndone\n", 11, 4, "word"),
+    ("run", "", "tx 00\nend\ndone\n", 11, 5, "number"),
+    ("run", "", "tx 1\nend\ndone\n", 11, 6, "range"),
+    ("run", "", "switch 0 RingSW\ndone\n", 11, 7, "alg"),
+    ("run", "", "done\n\n", 12, 11, "extra"),
+    // `irrev` and `emit`
+    ("run", "", "tx 0\nirrev 0\nend\ndone\n", 12, 4, "word"),
+    ("run", "", "tx 0\nemit 8\nend\ndone\n", 12, 6, "range"),
+    ("run", "", "tx 0\nemit 0\nend\ndone\n", 12, 9, "order"),
+    (
+        "run",
+        "",
+        "tx 0\nemit 0\nirrev\nend\ndone\n",
+        12,
+        9,
+        "order",
+    ),
+    (
+        "step",
+        "",
+        "tx 0\nirrev\nemit 0\nend\ntx 0\nemit 0\nend\ndone\n",
+        16,
+        9,
+        "order",
+    ),
+    // schedules
+    (
+        "step",
+        "callers 2",
+        "schedule\ngo 0 0\ndone\n",
+        12,
+        6,
+        "range",
+    ),
+    (
+        "step",
+        "callers 2",
+        "schedule\ngo 2 1\ndone\n",
+        12,
+        6,
+        "range",
+    ),
+    (
+        "step",
+        "callers 2",
+        "schedule\ngo 0 1000000\ngo 1 1\ndone\n",
+        13,
+        10,
+        "many",
+    ),
+];
+
 #[test]
 fn names_every_fault_of_the_text(rt: HostRuntime) -> Result<(), Fail> {
-    let table = [
-        ("\u{e9}\n", "refused 11 2 bytes\n"),
-        ("tx 0\nread 1", "refused 12 3 unended\n"),
-        ("schedule\ndone\n", "refused 11 4 word\n"),
-        ("tx 00\nend\ndone\n", "refused 11 5 number\n"),
-        ("tx 1\nend\ndone\n", "refused 11 6 range\n"),
-        ("done\n\n", "refused 12 11 extra\n"),
-    ];
-    for (items, said) in table {
-        let text = workload(&rt, "words 8", "words 8", items)?;
-        let (_, held) = outcome(
+    for (command, changes, body, line, code, name) in FAULTS {
+        let mut text = header(rt.alloc(), changes)?;
+        text.push_str(body)?;
+        let (status, held) = outcome(
             &rt,
             rt.alloc(),
-            &["stm_bench", "run"],
+            &["stm_bench", command],
             text.as_str(),
             &[],
             4096,
         )?;
-        assert_eq!(rt; held.as_str(), said);
+        let said = format!(in rt.alloc(); "refused {line} {code} {name}\n")?;
+        assert_eq!(rt; held, said);
+        assert_eq!(rt;
+            status,
+            Status::Refused {
+                line: *line,
+                code: *code
+            }
+        );
     }
-    let text = workload(&rt, "alg CGL", "alg TML", "done\n")?;
-    let (_, held) = outcome(
-        &rt,
-        rt.alloc(),
-        &["stm_bench", "run"],
-        text.as_str(),
-        &[],
-        4096,
-    )?;
-    assert_eq!(rt; held.as_str(), "refused 9 7 alg\n");
     Ok(())
 }
 

@@ -1,10 +1,12 @@
-//! How often the turnstile is passed.
-use crate::bench::bench;
+//! How often the turnstile is passed, and when.
+use crate::cases::{header, lines, outcome_through, workload};
 use crate::status::Status;
 use std::sync::atomic::{AtomicUsize, Ordering};
 use std::test::Fail;
-use stm_io::memory::{MemSink, MemSource};
+use std::thread;
 use stm_worker::turnstile::Turnstile;
+
+const RUN: &[&str] = &["stm_bench", "run"];
 
 /// Counts how often each of two callers passes, and the passes whose `seq` isn't the count before them.
 #[derive(Drop)]
@@ -30,12 +32,13 @@ impl Turnstile for Counting {
 #[test]
 fn each_attempt_passes_once(rt: HostRuntime) -> Result<(), Fail> {
     let alloc = rt.alloc();
-    let mut text = String::from_str(
-        alloc,
-        "stm 1\nwords 8\ncallers 2\nrecords 4\nring 4\nreads 256\nwrites 256\nclock 0\nalg CGL\nstructs off\n",
-    )?;
+    let mut text = header(alloc, "callers 2")?;
     for _ in 0..50 {
-        text.push_str("tx 0\nadd 3 1\nend\ntx 1\nadd 3 1\nread 2\nend\ntx 1\nend\n")?;
+        let round = lines(
+            alloc,
+            "tx 0 {add 3 1} / tx 1 {add 3 1; read 2} / tx 1 / end",
+        )?;
+        text.push_str(round.as_str())?;
     }
     text.push_str("done\n")?;
     let counting = Counting {
@@ -43,21 +46,57 @@ fn each_attempt_passes_once(rt: HostRuntime) -> Result<(), Fail> {
         second: AtomicUsize::new(0),
         astray: AtomicUsize::new(0),
     };
-    let mut source = MemSource::new(text.as_bytes().to_vec(alloc)?, Vec::new(alloc));
-    let mut sink = MemSink::new(alloc, 65536, Vec::new(alloc))?;
-    let mut last = None;
-    let status = bench(
-        &rt,
-        alloc,
-        &["stm_bench", "run"],
-        &mut source,
-        &mut sink,
-        &counting,
-        &mut last,
-    );
+    let (status, _) = outcome_through(&rt, alloc, RUN, text.as_str(), &[], 65536, &counting)?;
     assert_eq!(rt; status, Status::Ok);
     assert_eq!(rt; counting.first.load(Ordering::SeqCst), 50);
     assert_eq!(rt; counting.second.load(Ordering::SeqCst), 100);
     assert_eq!(rt; counting.astray.load(Ordering::SeqCst), 0);
+    Ok(())
+}
+
+/// How often a pass gives way to other threads, so that whoever can be inside with it comes.
+const GIVES_WAY: usize = 100000;
+
+/// Counts who is inside `pass`, and how often somebody else was too.
+#[derive(Drop)]
+struct Meeting {
+    inside: AtomicUsize,
+    passes: AtomicUsize,
+    meetings: AtomicUsize,
+}
+
+impl Turnstile for Meeting {
+    fn pass(&self, _caller: usize, _seq: usize) {
+        self.inside.fetch_add(1, Ordering::SeqCst);
+        self.passes.fetch_add(1, Ordering::SeqCst);
+        for _ in 0..GIVES_WAY {
+            if self.inside.load(Ordering::SeqCst) > 1 {
+                self.meetings.fetch_add(1, Ordering::SeqCst);
+                break;
+            }
+            thread::yield_now();
+        }
+        self.inside.fetch_sub(1, Ordering::SeqCst);
+    }
+}
+
+/// Under TML an attempt is alone from its first write to its commit. So whoever passes behind the write, which
+/// here is the last operation, and before the commit meets nobody; at any other place callers meet.
+#[test]
+fn passes_between_the_last_operation_and_the_commit(rt: HostRuntime) -> Result<(), Fail> {
+    let text = workload(
+        rt.alloc(),
+        "callers 4 / alg TML",
+        "tx 0 {add 3 1} / tx 1 {add 3 1} / tx 2 {add 3 1} / tx 3 {add 3 1}",
+    )?;
+    let meeting = Meeting {
+        inside: AtomicUsize::new(0),
+        passes: AtomicUsize::new(0),
+        meetings: AtomicUsize::new(0),
+    };
+    let (status, _) = outcome_through(&rt, rt.alloc(), RUN, text.as_str(), &[], 4096, &meeting)?;
+    assert_eq!(rt; status, Status::Ok);
+    assert_eq!(rt; meeting.passes.load(Ordering::SeqCst), 4);
+    assert_eq!(rt; meeting.meetings.load(Ordering::SeqCst), 0);
     Ok(())
 }

@@ -29,7 +29,7 @@ const ALONE: Config = Config {
 };
 
 /// Installs the algorithm. Answers whether the gate was free and the caller alone.
-fn switch<K: MemRule>(stm: &Stm<K>, desc: &mut Desc<K>, alg: Alg) -> bool
+pub(crate) fn switch<K: MemRule>(stm: &Stm<K>, desc: &mut Desc<K>, alg: Alg) -> bool
     requires desc { IsOf desc.old stm.now }
     requires idle { IsIdle (known desc.old) }
     requires built { is_built alg ≡ true }

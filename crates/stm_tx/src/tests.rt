@@ -1,5 +1,6 @@
 //! What no clause says: that an attempt begins, commits and is refused at all, on one thread.
-ghost use Rattle.std.specs.Prelude.{◌≡◌, ◌<◌, None};
+ghost use Rattle.std.specs.Prelude.{◌≡◌, ◌<◌, None, true};
+ghost use Rattle.stm_model.specs.Algorithms.{is_built};
 ghost use Rattle.stm_rule.specs.Callers.{IsOf};
 ghost use Rattle.tx_answers.specs.Known.{IsIdle};
 ghost use Rattle.stm_tx.specs.Descs.{known};
@@ -8,6 +9,7 @@ use crate::calls::{
     cancel, commit, holds_gate, is_irrevocable, read, start, state, try_begin, write,
 };
 use crate::live::Live;
+use crate::serial_tests::switch;
 use std::alloc::Global;
 use std::test::Fail;
 use stm_model::access::Access;
@@ -30,7 +32,7 @@ const PAIR: Config = Config {
     clock: 0,
 };
 
-/// Caller 0 writes 5 to word 0, and caller 1, which learns of it, reads it. Answers whether all went so.
+/// Caller 0 writes 5 to word 0, and then caller 1 reads it. Answers whether all went so.
 fn one_writes_the_other_reads(alloc: Global) -> Result<bool, NewError> {
     let (stm, mut descs) = Stm::new(alloc, PAIR, AnyMem)?;
     let Some(mut second) = descs.pop() else {
@@ -54,8 +56,6 @@ fn one_writes_the_other_reads(alloc: Global) -> Result<bool, NewError> {
     let Commit::Committed { time: 1 } = commit(&mut first, &stm) else {
         return Ok(false);
     };
-    let note = first.tell(&stm);
-    second.learn(&stm, note);
     let Begin::Begun(Alg::Cgl) = try_begin(&mut second, &stm) else {
         return Ok(false);
     };
@@ -69,6 +69,42 @@ fn one_writes_the_other_reads(alloc: Global) -> Result<bool, NewError> {
         return Ok(false);
     };
     Ok(state(&first) == TxState::Idle)
+}
+
+/// Under this algorithm caller 0 writes 5 to word 0, commits and tells; caller 1 learns of it and begins. Answers
+/// whether it starts not before that commit, and the word that it reads.
+fn tells_and_learns(alloc: Global, alg: Alg) -> Result<Option<(bool, u64)>, NewError>
+    requires { is_built alg ≡ true }
+{
+    let (stm, mut descs) = Stm::new(alloc, PAIR, AnyMem)?;
+    let Some(mut second) = descs.pop() else {
+        return Ok(None);
+    };
+    let Some(mut first) = descs.pop() else {
+        return Ok(None);
+    };
+    if !switch(&stm, &mut first, alg) {
+        return Ok(None);
+    }
+    let Begin::Begun(_) = try_begin(&mut first, &stm) else {
+        return Ok(None);
+    };
+    let Write::Done = write(&mut first, &stm, 0, 5) else {
+        return Ok(None);
+    };
+    let Commit::Committed { time } = commit(&mut first, &stm) else {
+        return Ok(None);
+    };
+    let note = first.tell(&stm);
+    second.learn(&stm, note);
+    let Begin::Begun(_) = try_begin(&mut second, &stm) else {
+        return Ok(None);
+    };
+    let is_later = time >= 1 && start(&second) >= time;
+    let Read::Value(word) = read(&mut second, &stm, 0) else {
+        return Ok(None);
+    };
+    Ok(Some((is_later, word)))
 }
 
 /// What a try to begin comes to where the clock opens at its limit.
@@ -132,5 +168,8 @@ fn two_callers_take_turns(rt: HostRuntime) -> Result<(), Fail> {
         Ok(Begin::ClockFull { clock: CLOCK_LIMIT })
     );
     assert_eq!(rt; add_in_an_attempt(rt.alloc()), Ok(Some(1)));
+    for alg in [Alg::Cgl, Alg::Tml, Alg::Serial] {
+        assert_eq!(rt; tells_and_learns(rt.alloc(), alg), Ok(Some((true, 5))));
+    }
     Ok(())
 }
