@@ -25,8 +25,8 @@ use Rattle.stm_trace.specs.declared.said.Said.TheVariants.{TryBegin, Reply, Stop
 use Rattle.stm_trace.specs.Fits.{turns}
 use Rattle.stm_trace.specs.Places.{Place, after, granted_at, is_forced, sure, writes}
 use Rattle.stm_trace.specs.Played.{Played}
-use Rattle.stm_trace.specs.PlayLaws.{append-nil, may-finish, may-wind, played-none}
-use Rattle.stm_trace.specs.RoundLaws.{WentRound, round-none, round-next, round-halted, round-all, round-cut, rounds-cut, rounds-fit}
+use Rattle.stm_trace.specs.PlayLaws.{append-nil, may-finish, may-wind, never-full, played-none}
+use Rattle.stm_trace.specs.RoundLaws.{WentRound, round-none, round-next, round-halted, round-all, rounds-cut, rounds-fit}
 use Rattle.stm_trace.specs.TurnLaws.{replicate-next}
 use Rattle.stm_trace.specs.Turns.{MaySay, MayWind, MayFinish, IsOver}
 use Rattle.stm_trace.specs.WholeLaws.{cut-in-schedule}
@@ -253,10 +253,10 @@ module _ {K : Type 0} (config : Config) (schedule : List Go) (ws us : List (Work
   cut-first Memory p = tt
 
   module _ (vs : List (Worker K)) (b : List Line) (p : Plays config MaySay ws us [] a (turns schedule) (Ok tt)) where
-    -- while attempts and closings ended
+    -- while attempts and closings end none is found full
     pub cut-second : (halt : Halt) → Rounds config MayWind HasNothingOpen us vs (a ++ Finish ∷ []) b (Err halt) → Drives config schedule ws vs b (Err halt)
     cut-second (ClockFull clock) r = (
-      (λ h sizes. round-cut h (places ws) (places us) (places vs) [] schedule a b [] 0 (p.0 h sizes) clock (r.0 h sizes)),
+      (λ h sizes. let q = (r.0 h sizes).halted in absurd (never-full h (places us) q.more (places vs) clock q.path q.full)),
       (let x = p.1 in let y = r.1 in let l = length-append a (Finish ∷ []) in omega (arith, x, y, l)),
       r.2,
     )

@@ -71,7 +71,7 @@ module _ {K : Type 0} where
 
       abbrev pub Rounds : List (Worker K) → List (Worker K) → List Line → List Line → Result (Unit {0}) Halt → Type 0
       Rounds ws vs old new (Ok x) = Rounded (length ws) ws vs old new
-      Rounds ws vs old new (Err (ClockFull clock)) = ((h : Header) → HasSizes config h → HaltedRound h may (places ws) (places vs) old new clock) × ArePaid ws vs old new × FoundFull vs clock
+      Rounds ws vs old new (Err (ClockFull clock)) = ((h : Header) → HasSizes config h → HaltedRound h may holds (places ws) (places vs) old new clock) × ArePaid ws vs old new × FoundFull vs clock
       Rounds ws vs old new (Err Memory) = Unit {0}
 
   module _ (good : List ℕ → Type 0) (stm : Stm K) where

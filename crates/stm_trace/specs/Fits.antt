@@ -53,6 +53,10 @@ IsCalm [] = Unit {0}
 IsCalm (Of n said ∷ lines) = (clock_of said ≡ None) × IsCalm lines
 IsCalm (Finish ∷ lines) = IsCalm lines
 
+-- nothing is left to the callers below n
+abbrev pub AreOverBelow : ℕ → List Place → Type 0
+AreOverBelow n places = (k : ℕ) → k < n → IsOver (place_of places k)
+
 -- the rows that the callers have
 abbrev pub all_told : List Place → List Row
 all_told [] = []
@@ -102,7 +106,7 @@ module _ (h : Header) where
     pub over : All IsOver now
     pub told : IsPermutation (all_told now) rows
 
-  -- the last line, and no other, tells of a full clock: this one
+  -- the last line, and no other, tells of a full clock: this one. It is a turn of the schedule, or one of the turns to the end, and then nothing is left to the callers below
   pub record IsCut (start : List Place) (schedule : List Go) (lines : List Line) (clock : ℕ) : Type 0 where
     pub before : List Line
     pub caller : ℕ
@@ -111,7 +115,7 @@ module _ (h : Header) where
     pub calm : IsCalm before
     pub full : clock_of said ≡ Some clock
     pub now : List Place
-    pub reached : Scheduled start schedule lines now ⊎ (Winding start schedule lines now ⊎ Finishing start schedule lines now)
+    pub reached : Scheduled start schedule lines now ⊎ (Finishing start schedule lines now × AreOverBelow caller now)
 
 -- THE TRACE FITS the workload and its report
 abbrev pub TraceFits : Workload → List Line → Report → Type 0

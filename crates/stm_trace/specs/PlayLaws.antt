@@ -1,17 +1,21 @@
 -- Some turns behind others.
-use Rattle.std.proofs.Common.{ℕ, zero, suc, ◌≡◌, ◌≢◌, ◌<◌, List, [], ◌∷◌, ◌++◌, length, get_or, set, refl, sym, ap, ◌∙◌, subst, append_assoc, true}
+use Rattle.std.proofs.Common.{ℕ, zero, suc, ◌≡◌, ◌≢◌, ◌<◌, List, [], ◌∷◌, ◌++◌, length, get_or, set, refl, sym, ap, ◌∙◌, subst, append_assoc, true, false}
 use Rattle.std.specs.Prelude.{map, Some, None, replicate}
 use Rattle.std.proofs.lemmas.List.{length-map, get_or-map, map-set, length-set, get_or-set_other}
+use Rattle.stm_model.specs.declared.stop.Stop.TheVariants as stops
 use Rattle.stm_script.specs.declared.workload.Header.{Header}
+use Rattle.tx_answers.specs.declared.answers.Begin.TheVariants as begins
+use Rattle.tx_answers.specs.declared.answers.Commit.TheVariants as commits
+use Rattle.tx_answers.specs.declared.answers.Irrev.TheVariants as irrevs
 use Rattle.stm_trace.specs.declared.line.Line.{Line}
 use Rattle.stm_trace.specs.declared.line.Line.TheVariants.{Of, Finish}
 use Rattle.stm_trace.specs.declared.said.Said.{Said}
 use Rattle.stm_trace.specs.declared.said.Said.TheVariants.{TryBegin, Reply, Stopped, TryCancel, TryIrrevocable, TryCommit, TryClose, Looked, Installed, Idle, Dropped, Reopened}
 use Rattle.stm_trace.specs.Fits.{Path, IsCalm, callers, place_of, no_place, says}
 use Rattle.stm_trace.specs.Places.{Place, after, clock_of, sure}
-use Rattle.stm_trace.specs.Played.{Played, Halted}
+use Rattle.stm_trace.specs.Played.{Played, Halted, EndsFull}
 use Rattle.stm_trace.specs.Turns.{IsFair, IsOver, MaySay, MayWind, MayFinish}
-use Rattle.stm_trace.specs.declared.said.Phase.TheVariants.{Inside}
+use Rattle.stm_trace.specs.declared.said.Phase.TheVariants.{Between, Inside}
 
 pub append-nil : {A : Type 0} (xs : List A) → xs ++ [] ≡ xs
 append-nil [] = refl
@@ -65,6 +69,48 @@ IsSilent k (n ∷ ns) = (k ≢ n) × IsSilent k ns
 pub silent-replicate : (k n turns : ℕ) → k ≢ n → IsSilent k (replicate turns n)
 silent-replicate k n zero other = tt
 silent-replicate k n (suc turns) other = (other, silent-replicate k n turns other)
+
+pub silent-first : (k : ℕ) (xs ys : List ℕ) → IsSilent k (xs ++ ys) → IsSilent k xs
+silent-first k [] ys s = tt
+silent-first k (x ∷ xs) ys s = (s.0, silent-first k xs ys s.1)
+
+-- who can't be cancelled is not refused, and so never meets a full clock
+wind-calm : (h : Header) (at : Place) (said : Said) (clock : ℕ) → MayWind at said → IsFair h at said → clock_of said ≡ Some clock → ⊥
+wind-calm h at (TryBegin (begins.Begun alg)) clock m f e = absurd cc
+wind-calm h at (TryBegin (begins.Closed gate)) clock m f e = absurd cc
+wind-calm h at (TryBegin (begins.Held word)) clock m f e = absurd cc
+wind-calm h at (TryBegin (begins.ClockFull c)) clock m f e = absurd (let b : Between ≡ Inside = sym m.2.0 ∙ m.0 in cc)
+wind-calm h at (Reply op reply) clock m f e = absurd cc
+wind-calm h at (Stopped op (stops.Conflict cause)) clock m f e = absurd cc
+wind-calm h at (Stopped op (stops.Full limit)) clock m f e = absurd cc
+wind-calm h at (Stopped op (stops.ClockFull c)) clock m f e = absurd (let b : true ≡ false = sym m.1 ∙ f.0 in cc)
+wind-calm h at (TryCancel c) clock m f e = absurd cc
+wind-calm h at (TryIrrevocable irrevs.Granted) clock m f e = absurd cc
+wind-calm h at (TryIrrevocable (irrevs.Busy caller status)) clock m f e = absurd cc
+wind-calm h at (TryIrrevocable (irrevs.Taken gate)) clock m f e = absurd cc
+wind-calm h at (TryIrrevocable (irrevs.Conflict cause)) clock m f e = absurd cc
+wind-calm h at (TryIrrevocable (irrevs.ClockFull c)) clock m f e = absurd (let b : true ≡ false = sym m.1 ∙ f.0 in cc)
+wind-calm h at (TryCommit (commits.Committed time)) clock m f e = absurd cc
+wind-calm h at (TryCommit (commits.ReadOnly time)) clock m f e = absurd cc
+wind-calm h at (TryCommit (commits.Conflict cause)) clock m f e = absurd cc
+wind-calm h at (TryCommit (commits.Again word had now)) clock m f e = absurd cc
+wind-calm h at (TryCommit (commits.ClockFull c)) clock m f e = absurd (let b : true ≡ false = sym m.1 ∙ f.0 in cc)
+wind-calm h at (TryClose c) clock m f e = absurd cc
+wind-calm h at (Looked l) clock m f e = absurd cc
+wind-calm h at (Installed alg) clock m f e = absurd cc
+wind-calm h at Idle clock m f e = absurd cc
+wind-calm h at Dropped clock m f e = absurd cc
+wind-calm h at Reopened clock m f e = absurd cc
+
+path-calm : (h : Header) (places : List Place) (before : List Line) (n : ℕ) (said : Said) (last : List Place) (clock : ℕ)
+    → Path h MayWind places (before ++ Of n said ∷ []) last → clock_of said ≡ Some clock → ⊥
+path-calm h places [] n said last clock p full = wind-calm h (place_of places n) said clock p.1 p.2 full
+path-calm h places (Of k s ∷ before) n said last clock p full = path-calm h (says places k s) before n said last clock p.3 full
+path-calm h places (Finish ∷ before) n said last clock p full = absurd p
+
+-- so no turn behind the schedule finds it full until nothing is open
+pub never-full : (h : Header) (places : List Place) (lines : List Line) (last : List Place) (clock : ℕ) → Path h MayWind places lines last → EndsFull lines clock → ⊥
+never-full h places lines last clock p f = path-calm h places f.before f.caller f.said last clock (subst (λ (ls : List Line). Path h MayWind places ls last) f.parts p) f.full
 
 module _ (h : Header) (may : Place → Said → Type 0) where
   pub path-append : (places : List Place) (xs : List Line) (mid : List Place) (ys : List Line) (last : List Place)
@@ -123,7 +169,7 @@ module _ (h : Header) (may : Place → Said → Type 0) where
       calm = calm-append p.more q.more p.calm q.calm;
     }
 
-    pub halted-append : (clock : ℕ) → Played h may ps qs a b first → Halted h may qs rs b c second clock → Halted h may ps rs a c (first ++ second) clock
+    abbrev pub halted-append : (clock : ℕ) → Played h may ps qs a b first → Halted h may qs rs b c second clock → Halted h may ps rs a c (first ++ second) clock
     halted-append clock p q = record {
       more = p.more ++ q.more;
       lines = q.lines ∙ (ap (λ w. w ++ q.more) p.lines ∙ append_assoc a p.more q.more);

@@ -7,7 +7,7 @@ use Rattle.stm_script.specs.declared.workload.Header.{Header}
 use Rattle.stm_trace.specs.declared.line.Line.{Line}
 use Rattle.stm_trace.specs.declared.line.Line.TheVariants.{Of, Finish}
 use Rattle.stm_trace.specs.declared.said.Phase.TheVariants.{Between}
-use Rattle.stm_trace.specs.Fits.{Path, IsCalm, callers, turns, Rising, IsWhole, IsCut, Scheduled, Winding, Finishing, all_told}
+use Rattle.stm_trace.specs.Fits.{Path, IsCalm, callers, turns, Rising, IsWhole, IsCut, Scheduled, Winding, Finishing, AreOverBelow, all_told}
 use Rattle.stm_trace.specs.Places.{Place}
 use Rattle.stm_trace.specs.Played.{Played, Halted, EndsFull}
 use Rattle.stm_trace.specs.PlayLaws.{calm-append}
@@ -15,7 +15,7 @@ use Rattle.stm_trace.specs.TurnLaws.{rising-first}
 use Rattle.stm_trace.specs.Turns.{MaySay, MayWind, MayFinish, IsOver}
 
 -- calm lines, and then some that end by a full clock
-pub full-behind : (xs ys : List Line) (clock : ℕ) → IsCalm xs → EndsFull ys clock → EndsFull (xs ++ ys) clock
+abbrev pub full-behind : (xs ys : List Line) (clock : ℕ) → IsCalm xs → EndsFull ys clock → EndsFull (xs ++ ys) clock
 full-behind xs ys clock calm e = record {
   before = xs ++ e.before;
   caller = e.caller;
@@ -34,8 +34,8 @@ module _ (h : Header) (ps qs rs ss : List Place) (schedule : List Go) where
     order = ap (λ ls. callers ls ++ p.later) p.lines ∙ p.turned;
   }
 
-  cut-as : (c d : List Line) (clock : ℕ) (now : List Place) → c ≡ d → EndsFull d clock
-      → Scheduled h ps schedule c now ⊎ (Winding h ps schedule c now ⊎ Finishing h ps schedule c now) → IsCut h ps schedule c clock
+  cut-as : (c d : List Line) (clock : ℕ) (now : List Place) → c ≡ d → (f : EndsFull d clock)
+      → Scheduled h ps schedule c now ⊎ (Finishing h ps schedule c now × AreOverBelow f.caller now) → IsCut h ps schedule c clock
   cut-as c d clock now e f r = record {
     before = f.before;
     caller = f.caller;
@@ -67,14 +67,6 @@ module _ (h : Header) (ps qs rs ss : List Place) (schedule : List Go) where
       rises = rises;
     }
 
-    -- the clock was full while attempts and closings ended
-    pub cut-in-winding : (b : List Line) (second : List ℕ) (clock : ℕ) → Halted h MayWind qs rs (a ++ Finish ∷ []) b second clock
-        → Rising 0 second → IsCut h ps schedule b clock
-    cut-in-winding b second clock q rises =
-        cut-as b (p.more ++ (Finish ∷ q.more)) clock rs (two b q.more q.lines)
-        (full-behind p.more (Finish ∷ q.more) clock p.calm (full-behind (Finish ∷ []) q.more clock tt q.full))
-        (inr (inl (winding b q.more q.lines q.path (rising-first 0 (callers q.more) q.later (subst (Rising 0) (sym q.turned) rises)))))
-
     module _ (b : List Line) (second : List ℕ) (q : Played h MayWind qs rs (a ++ Finish ∷ []) b second) (rises : Rising 0 second)
         (closed : All (λ (at : Place). at.phase ≡ Between) rs) where
       wound : Winding h ps schedule b rs
@@ -90,12 +82,12 @@ module _ (h : Header) (ps qs rs ss : List Place) (schedule : List Go) where
       finishing c more e path rise = record { first = b; second = more; parts = e; middle = rs; wound = wound; closed = closed; path = path; rises = rise }
 
       -- the clock was full in the turns to the end
-      pub cut-in-finishing : (c : List Line) (third : List ℕ) (clock : ℕ) → Halted h MayFinish rs ss b c third clock
-          → Rising 0 third → IsCut h ps schedule c clock
-      cut-in-finishing c third clock r rise =
+      pub cut-in-finishing : (c : List Line) (third : List ℕ) (clock : ℕ) (r : Halted h MayFinish rs ss b c third clock)
+          → Rising 0 third → AreOverBelow r.full.caller ss → IsCut h ps schedule c clock
+      cut-in-finishing c third clock r rise over =
           cut-as c ((p.more ++ (Finish ∷ q.more)) ++ r.more) clock ss (three c r.more r.lines)
           (full-behind (p.more ++ (Finish ∷ q.more)) r.more clock wound-calm r.full)
-          (inr (inr (finishing c r.more r.lines r.path (rising-first 0 (callers r.more) r.later (subst (Rising 0) (sym r.turned) rise)))))
+          (inr (finishing c r.more r.lines r.path (rising-first 0 (callers r.more) r.later (subst (Rising 0) (sym r.turned) rise)), over))
 
       -- the schedule, `finish`, the ends of attempts and closings, and the turns to the end
       pub whole-fits : (c : List Line) (third : List ℕ) (rows : List Row) → Played h MayFinish rs ss b c third → Rising 0 third
