@@ -14,7 +14,7 @@ pub fn contents_change()
 
 /// Well-formed chains are a matter of their own words: a memory of zeros has them, empty; they stay well
 /// formed where their own words stay; and the calls change no other word.
-pub fn regions_are_apart()
+pub fn chains_are_apart()
     ensures empty { ZerosAreEmpty }
     ensures apart { DependsOnOwnWords }
     ensures within { ChangesOwnWords }

@@ -1,7 +1,7 @@
 use Rattle.std.proofs.Common.{◌+◌, ◌%◌, ◌^◌, get_or}
 use Rattle.std.proofs.lemmas.List.{get_or-set_other}
 use Rattle.tx_cells.proofs.ChainRegions.{zeros-chains, chains-same, inserted-outside, removed-outside}
-use Rattle.tx_cells.proofs.laws.regions_are_apart.Goals as goal
+use Rattle.tx_cells.proofs.laws.chains_are_apart.Goals as goal
 
 pub returns : goal.returns
 returns c = record {
