@@ -4,3 +4,5 @@
 
 pub mod laws;
 pub mod region;
+#[cfg(test)]
+mod tests;
