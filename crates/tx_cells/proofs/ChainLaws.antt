@@ -97,7 +97,7 @@ find-found r m key (suc n) low a w l under le = by (slice_index m a) refl (w.nam
 pub position-found : (r : Chains) (m : List ℕ) (key : ℕ) → IsChains r m → bucket r key < r.heads → Found r m key (position_of r m key)
 position-found r m key w lt = find-found r m key r.cells 0 (head_of r key) w (inl (refl, lt, refl)) (omega arith) (how_many-most _ r.cells)
 
--- a key that is there stands at its place
+-- a key that is there is at its position
 pub has-found : (r : Chains) (m : List ℕ) (key : ℕ) (s : Position) → IsChains r m → Found r m key s → (s.tag == suc key) ≡ has key (keys r m)
 has-found r m key s w f = by s.next refl (subst (Names r m (bucket r key) f.low) f.word (w.names (bucket r key) f.low s.link f.link))
   where

@@ -1,5 +1,5 @@
 -- A plain memory made of zeros.
-use Rattle.std.proofs.Common.{ℕ, zero, suc, ◌≡◌, List, [], ◌∷◌, replicate, refl, ap}
+use Rattle.std.proofs.Common.{ℕ, zero, suc, ◌≡◌, [], ◌∷◌, replicate, refl, ap}
 use Rattle.std.specs.Prelude.{None}
 use Rattle.stm_model.specs.declared.plain.PlainWord.{PlainWord}
 use Rattle.stm_model.specs.Memories.{overlay}

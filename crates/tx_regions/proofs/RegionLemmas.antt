@@ -1,6 +1,6 @@
 -- Regions stay well formed: the laws of the rule, from those of each structure.
-use Rattle.std.proofs.Common.{ℕ, ◌≡◌, ◌≢◌, ◌<◌, ◌≤◌, ◌+◌, ◌*◌, ◌^◌, List, [], length, get_or, set, replicate, Bool, true, false, refl, sym, ap, ◌∙◌, arith, subst, inl, inr}
-use Rattle.std.specs.Prelude.{◌⊎◌, ◌==◌, ltb, slice_index, All, AllPairs, Contains}
+use Rattle.std.proofs.Common.{ℕ, ◌≡◌, ◌≢◌, ◌<◌, ◌≤◌, ◌+◌, ◌*◌, ◌^◌, List, length, get_or, set, replicate, Bool, true, false, refl, sym, ap, ◌∙◌, arith, subst, inl, inr}
+use Rattle.std.specs.Prelude.{◌⊎◌, ◌==◌, ltb, slice_index, AllPairs, Contains}
 use Rattle.std.proofs.lemmas.List.{get_or-set_other, get_or_default}
 use Rattle.std.proofs.lemmas.List.Elements.{All-contains}
 use Rattle.std.proofs.lemmas.Bool.Decides.{nat_tests}

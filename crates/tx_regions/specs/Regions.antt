@@ -1,5 +1,5 @@
 -- Regions of a memory, and when they are well formed.
-use Rattle.std.specs.Prelude.{ℕ, ◌≡◌, ◌+◌, ◌*◌, ◌<◌, ◌≤◌, ◌⊎◌, List, [], ◌∷◌, All}
+use Rattle.std.specs.Prelude.{ℕ, ◌+◌, ◌*◌, ◌<◌, ◌≤◌, ◌⊎◌, List, [], ◌∷◌, All}
 use Rattle.tx_cells.specs.declared.counter.Counter.{Counter}
 use Rattle.tx_cells.specs.declared.hash.Hash.{Hash}
 use Rattle.tx_cells.specs.declared.list.List.{List as KeyList}

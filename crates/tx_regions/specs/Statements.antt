@@ -1,5 +1,5 @@
 -- What the law functions say.
-use Rattle.std.specs.Prelude.{ℕ, suc, ◌≡◌, ◌+◌, ◌*◌, ◌%◌, ◌^◌, ◌<◌, ◌≤◌, ◌⊎◌, List, [], length, replicate, slice_set, All, AllPairs, Contains}
+use Rattle.std.specs.Prelude.{ℕ, ◌≡◌, ◌+◌, ◌*◌, ◌%◌, ◌^◌, ◌<◌, ◌≤◌, ◌⊎◌, List, [], length, replicate, slice_set, All, AllPairs, Contains}
 use Rattle.tx_cells.specs.declared.counter.Counter.{Counter}
 use Rattle.tx_cells.specs.declared.hash.Hash.{Hash}
 use Rattle.tx_cells.specs.declared.list.List.{List as KeyList}

@@ -10,7 +10,7 @@ use Rattle.tx_tree.specs.Trees.{tag_at, left_at, right_at, tag, top, Ranges, Use
 use Rattle.tx_tree.proofs.TreeLaws.{Found}
 use Rattle.tx_tree.proofs.TreeOrder.{over, link-low, link-high, link-one, link-used, link-inside, same-gap, high-most}
 
--- A LEAF PLANTED. k is m with the key in the free cell c, at the place of the key, which was empty
+-- A LEAF ATTACHED. k is m with the key in the free cell c, at the position of the key, which was empty
 module _ (r : Tree) (m k : List ℕ) (g n : Ranges) (key c : ℕ) (s : Position) (w : Holds r m g) (f : Found r m g key s) (empty : s.next ≡ 0) (inside : c < r.cells) (free : tag r m c ≡ 0)
     (absent : (i : ℕ) → i < r.cells → tag r m i ≢ suc key)
     (others : (i : ℕ) → i ≢ c → tag r k i ≡ tag r m i) (new : tag r k c ≡ suc key)

@@ -1,4 +1,4 @@
-use Rattle.std.proofs.Common.{refl, arith, ◌<◌}
+use Rattle.std.proofs.Common.{refl, arith}
 use Rattle.std.proofs.lemmas.List.Elements.{All-contains}
 use Rattle.tx_regions.specs.declared.region.Region.TheVariants.{List as OfList, Hash as OfHash}
 use Rattle.tx_cells.specs.Structures.{list_of, hash_of}

@@ -1,4 +1,4 @@
-use Rattle.std.proofs.Common.{◌<◌, List, [], ◌∷◌, sym, subst, arith}
+use Rattle.std.proofs.Common.{[], ◌∷◌, sym, subst, arith}
 use Rattle.stm_model.specs.Memories.{overlay}
 use Rattle.stm_model.specs.Plains.{own_writes}
 use Rattle.tx_tree.specs.Trees.{IsTree}
