@@ -1,0 +1,10 @@
+pub mod ChainLaws
+pub mod ChainOrder
+pub mod ChainInserts
+pub mod ChainRemovals
+pub mod ChainEffects
+pub mod ChainLength
+pub mod ChainContents
+pub mod ChainRegions
+pub mod ChainReach
+pub mod CounterLaws

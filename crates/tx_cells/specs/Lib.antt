@@ -1,0 +1,5 @@
+pub mod Counters
+pub mod Chains
+pub mod ChainWalks
+pub mod Structures
+pub mod Statements

@@ -1,0 +1,208 @@
+//! Sorted chains of cells in one pool, over any access.
+ghost use Rattle.std.specs.Prelude.{◌≡◌, ◌<◌, ◌≤◌, ◌+◌, ◌*◌, ◌^◌, suc, None, Some, Option, IfOk, OnOk, IfErr, IfSome, length};
+ghost use Rattle.stm_model.specs.Logs.{SameMemories, IsExplained, IsReadStop};
+ghost use Rattle.tx_effects.specs.Effects.{DoesOver, Under, Shows};
+ghost use Rattle.tx_effects.specs.Keys.{free_from};
+ghost use Rattle.tx_cells.specs.Chains.{ChainsFit, IsChains, tag, head_of, find, contained_in, inserted_in, removed_in, counted_in};
+
+use stm_model::access::Access;
+use stm_model::stop::Stop;
+use tx_effects::insert::Insert;
+use tx_effects::position::Position;
+
+/// Sorted linked lists with a common pool of cells. From the word `at` on stand the `heads`, one link
+/// each, then the `cells`, two words each: the cell's tag, and a link.
+///
+/// A tag is 0 where the cell is free, else its key + 1, so at most 2^32. A link is 0 or the number of a
+/// cell, from 1. A key is in the chain of its remainder by the number of heads, at least 1; a chain's keys
+/// ascend. A free cell's words are 0.
+#[derive(Clone, Copy, Drop, Debug, PartialEq, Eq)]
+pub struct Chains {
+    pub at: usize,
+    pub heads: usize,
+    pub cells: usize,
+}
+
+impl Chains {
+    /// The first link of the key's chain that names no cell of a lesser key. Two reads a cell at most, and
+    /// one.
+    fn find<A: Access>(&self, acc: &mut A, key: u32) -> Result<Position, Stop>
+        requires going { A.stopped acc.old ≡ None }
+        requires within { ChainsFit self.now (A.words acc.old) }
+        requires well { Under (A.good acc.old) (A.words acc.old) (A.log acc.old) (IsChains self.now) }
+        ensures finds { IfOk result (λ s. Shows (A.good acc.old) (A.words acc.old) (A.log acc.old) (A.log acc.new) (λ m. s ≡ find self.now m key self.now.cells (head_of self.now key))) }
+        ensures inside { IfOk result (λ s. (s.link < A.words acc.old) × (s.next ≤ self.now.cells) × (s.next ≡ 0 → s.tag ≡ 0)) }
+        ensures writes { OnOk result ((A.log acc.new).writes ≡ (A.log acc.old).writes) }
+        ensures explained { OnOk result (IsExplained (A.good acc.new) (A.words acc.new) (A.log acc.new)) }
+        ensures goes { OnOk result (A.stopped acc.new ≡ None) }
+        ensures stops { IfErr result (λ s. A.stopped acc.new ≡ Some s) }
+        ensures cause { IfErr result IsReadStop }
+        ensures good { SameMemories (A.good acc.old) (A.good acc.new) }
+        ensures words { A.words acc.new ≡ A.words acc.old }
+        ensures keeps { A.keeps acc.old acc.new }
+    {
+        let mut link = self.at + key as usize % self.heads;
+        let mut next = acc.read(link)?;
+        for _step in 0..self.cells {
+            if next == 0 {
+                return Ok(Position { link, next, tag: 0 });
+            }
+            let cell = (next - 1) as usize;
+            let tag = acc.read(self.at + self.heads + 2 * cell)?;
+            if tag > key as u64 {
+                return Ok(Position { link, next, tag });
+            }
+            link = self.at + self.heads + 2 * cell + 1;
+            next = acc.read(link)?;
+        }
+        Ok(Position {
+            link,
+            next: 0,
+            tag: 0,
+        })
+    }
+
+    /// The free cell of the lowest number, here from 0. One read a cell at most.
+    fn free_cell<A: Access>(&self, acc: &mut A) -> Result<Option<usize>, Stop>
+        requires going { A.stopped acc.old ≡ None }
+        requires within { ChainsFit self.now (A.words acc.old) }
+        requires explained { IsExplained (A.good acc.old) (A.words acc.old) (A.log acc.old) }
+        ensures frees { IfOk result (λ o. Shows (A.good acc.old) (A.words acc.old) (A.log acc.old) (A.log acc.new) (λ m. o ≡ free_from (tag self.now m) 0 self.now.cells)) }
+        ensures inside { IfOk result (λ o. IfSome o (λ c. c < self.now.cells)) }
+        ensures writes { OnOk result ((A.log acc.new).writes ≡ (A.log acc.old).writes) }
+        ensures explained { OnOk result (IsExplained (A.good acc.new) (A.words acc.new) (A.log acc.new)) }
+        ensures cause { IfErr result IsReadStop }
+        ensures goes { OnOk result (A.stopped acc.new ≡ None) }
+        ensures stops { IfErr result (λ s. A.stopped acc.new ≡ Some s) }
+        ensures good { SameMemories (A.good acc.old) (A.good acc.new) }
+        ensures words { A.words acc.new ≡ A.words acc.old }
+        ensures keeps { A.keeps acc.old acc.new }
+    {
+        for cell in 0..self.cells {
+            let tag = acc.read(self.at + self.heads + 2 * cell)?;
+            if tag == 0 {
+                return Ok(Some(cell));
+            }
+        }
+        Ok(None)
+    }
+
+    /// Whether the key is there. Two reads a cell at most, and one.
+    ///
+    /// # Errors
+    /// The Stop of the access; it is never `ClockFull`.
+    pub fn contains<A: Access>(&self, acc: &mut A, key: u32) -> Result<bool, Stop>
+        requires going { A.stopped acc.old ≡ None }
+        requires within { ChainsFit self.now (A.words acc.old) }
+        requires well { Under (A.good acc.old) (A.words acc.old) (A.log acc.old) (IsChains self.now) }
+        ensures reply { IfOk result (λ b. DoesOver (A.good acc.old) (A.words acc.old) (contained_in self.now key) (A.log acc.old) b (A.log acc.new)) }
+        ensures well { OnOk result (Under (A.good acc.new) (A.words acc.new) (A.log acc.new) (IsChains self.now)) }
+        ensures explained { OnOk result (IsExplained (A.good acc.new) (A.words acc.new) (A.log acc.new)) }
+        ensures cause { IfErr result IsReadStop }
+        ensures goes { OnOk result (A.stopped acc.new ≡ None) }
+        ensures stops { IfErr result (λ s. A.stopped acc.new ≡ Some s) }
+        ensures good { SameMemories (A.good acc.old) (A.good acc.new) }
+        ensures words { A.words acc.new ≡ A.words acc.old }
+        ensures keeps { A.keeps acc.old acc.new }
+    {
+        let position = self.find(acc, key)?;
+        Ok(position.tag == key as u64 + 1)
+    }
+
+    /// Puts the key into the free cell of the lowest number, and the cell into its chain, unless the key
+    /// is there. Three reads a cell at most, and one; three writes where it answers `Added`, else none.
+    ///
+    /// # Errors
+    /// The Stop of the access.
+    pub fn insert<A: Access>(&self, acc: &mut A, key: u32) -> Result<Insert, Stop>
+        requires going { A.stopped acc.old ≡ None }
+        requires within { ChainsFit self.now (A.words acc.old) }
+        requires well { Under (A.good acc.old) (A.words acc.old) (A.log acc.old) (IsChains self.now) }
+        ensures reply { IfOk result (λ r. DoesOver (A.good acc.old) (A.words acc.old) (inserted_in self.now key) (A.log acc.old) r (A.log acc.new)) }
+        ensures well { OnOk result (Under (A.good acc.new) (A.words acc.new) (A.log acc.new) (IsChains self.now)) }
+        ensures explained { OnOk result (IsExplained (A.good acc.new) (A.words acc.new) (A.log acc.new)) }
+        ensures goes { OnOk result (A.stopped acc.new ≡ None) }
+        ensures stops { IfErr result (λ s. A.stopped acc.new ≡ Some s) }
+        ensures good { SameMemories (A.good acc.old) (A.good acc.new) }
+        ensures words { A.words acc.new ≡ A.words acc.old }
+        ensures keeps { A.keeps acc.old acc.new }
+    {
+        let position = self.find(acc, key)?;
+        let tag = key as u64 + 1;
+        if position.tag == tag {
+            return Ok(Insert::Present);
+        }
+        match self.free_cell(acc)? {
+            None => Ok(Insert::NoRoom),
+            Some(cell) => {
+                let address = self.at + self.heads + 2 * cell;
+                acc.write(address, tag)?;
+                acc.write(address + 1, position.next)?;
+                acc.write(position.link, cell as u64 + 1)?;
+                Ok(Insert::Added)
+            }
+        }
+    }
+
+    /// Takes the key's cell out of its chain and makes the cell's words 0. Answers whether the key was
+    /// there. Two reads a cell at most, and two; three writes where it was there, else none.
+    ///
+    /// # Errors
+    /// The Stop of the access.
+    pub fn remove<A: Access>(&self, acc: &mut A, key: u32) -> Result<bool, Stop>
+        requires going { A.stopped acc.old ≡ None }
+        requires within { ChainsFit self.now (A.words acc.old) }
+        requires well { Under (A.good acc.old) (A.words acc.old) (A.log acc.old) (IsChains self.now) }
+        ensures reply { IfOk result (λ b. DoesOver (A.good acc.old) (A.words acc.old) (removed_in self.now key) (A.log acc.old) b (A.log acc.new)) }
+        ensures well { OnOk result (Under (A.good acc.new) (A.words acc.new) (A.log acc.new) (IsChains self.now)) }
+        ensures explained { OnOk result (IsExplained (A.good acc.new) (A.words acc.new) (A.log acc.new)) }
+        ensures goes { OnOk result (A.stopped acc.new ≡ None) }
+        ensures stops { IfErr result (λ s. A.stopped acc.new ≡ Some s) }
+        ensures good { SameMemories (A.good acc.old) (A.good acc.new) }
+        ensures words { A.words acc.new ≡ A.words acc.old }
+        ensures keeps { A.keeps acc.old acc.new }
+    {
+        let position = self.find(acc, key)?;
+        if position.tag != key as u64 + 1 {
+            return Ok(false);
+        }
+        let address = self.at + self.heads + 2 * (position.next - 1) as usize;
+        let after = acc.read(address + 1)?;
+        acc.write(position.link, after)?;
+        acc.write(address, 0)?;
+        acc.write(address + 1, 0)?;
+        Ok(true)
+    }
+
+    /// The number of keys, where there is one chain. One read a cell at most, and one.
+    ///
+    /// # Errors
+    /// The Stop of the access; it is never `ClockFull`.
+    pub fn len<A: Access>(&self, acc: &mut A) -> Result<u64, Stop>
+        requires going { A.stopped acc.old ≡ None }
+        requires one { self.now.heads ≡ 1 }
+        requires within { ChainsFit self.now (A.words acc.old) }
+        requires well { Under (A.good acc.old) (A.words acc.old) (A.log acc.old) (IsChains self.now) }
+        ensures reply { IfOk result (λ r. DoesOver (A.good acc.old) (A.words acc.old) (counted_in self.now) (A.log acc.old) r (A.log acc.new)) }
+        ensures well { OnOk result (Under (A.good acc.new) (A.words acc.new) (A.log acc.new) (IsChains self.now)) }
+        ensures explained { OnOk result (IsExplained (A.good acc.new) (A.words acc.new) (A.log acc.new)) }
+        ensures cause { IfErr result IsReadStop }
+        ensures goes { OnOk result (A.stopped acc.new ≡ None) }
+        ensures stops { IfErr result (λ s. A.stopped acc.new ≡ Some s) }
+        ensures good { SameMemories (A.good acc.old) (A.good acc.new) }
+        ensures words { A.words acc.new ≡ A.words acc.old }
+        ensures keeps { A.keeps acc.old acc.new }
+    {
+        let mut count: u64 = 0;
+        let mut next = acc.read(self.at)?;
+        for _step in 0..self.cells {
+            if next == 0 {
+                return Ok(count);
+            }
+            let cell = (next - 1) as usize;
+            count += 1;
+            next = acc.read(self.at + self.heads + 2 * cell + 1)?;
+        }
+        Ok(count)
+    }
+}

@@ -1,0 +1,121 @@
+//! A sorted list of keys, over any access.
+ghost use Rattle.std.specs.Prelude.{◌≡◌, ◌<◌, ◌≤◌, ◌+◌, ◌*◌, ◌^◌, None, Some, IfOk, OnOk, IfErr};
+ghost use Rattle.stm_model.specs.Logs.{SameMemories, IsExplained, IsReadStop};
+ghost use Rattle.tx_effects.specs.Effects.{DoesOver, Under};
+ghost use Rattle.tx_cells.specs.Chains.{ChainsFit, IsChains, contained_in, inserted_in, removed_in, counted_in};
+ghost use Rattle.tx_cells.specs.Structures.{list_of};
+
+use crate::chains::Chains;
+use stm_model::access::Access;
+use stm_model::stop::Stop;
+use tx_effects::insert::Insert;
+
+/// A sorted linked list of keys. Its head is the word `at`; then come the `cells`, two words each: cell i,
+/// from 1, has its tag at `at + 1 + 2 * (i - 1)` and its link one word on (`Chains` says what they mean).
+#[derive(Clone, Copy, Drop, Debug, PartialEq, Eq)]
+pub struct List {
+    pub at: usize,
+    pub cells: usize,
+}
+
+impl List {
+    pub fn new(at: usize, cells: usize) -> List
+        ensures { result ≡ record { at = at; cells = cells } }
+    {
+        List { at, cells }
+    }
+
+    fn chains(&self) -> Chains
+        ensures { result ≡ list_of self.now }
+    {
+        Chains {
+            at: self.at,
+            heads: 1,
+            cells: self.cells,
+        }
+    }
+
+    /// Whether the key is there. Two reads a cell at most, and one.
+    ///
+    /// # Errors
+    /// The Stop of the access; it is never `ClockFull`.
+    pub fn contains<A: Access>(&self, acc: &mut A, key: u32) -> Result<bool, Stop>
+        requires going { A.stopped acc.old ≡ None }
+        requires within { ChainsFit (list_of self.now) (A.words acc.old) }
+        requires well { Under (A.good acc.old) (A.words acc.old) (A.log acc.old) (IsChains (list_of self.now)) }
+        ensures reply { IfOk result (λ r. DoesOver (A.good acc.old) (A.words acc.old) (contained_in (list_of self.now) key) (A.log acc.old) r (A.log acc.new)) }
+        ensures well { OnOk result (Under (A.good acc.new) (A.words acc.new) (A.log acc.new) (IsChains (list_of self.now))) }
+        ensures explained { OnOk result (IsExplained (A.good acc.new) (A.words acc.new) (A.log acc.new)) }
+        ensures cause { IfErr result IsReadStop }
+        ensures goes { OnOk result (A.stopped acc.new ≡ None) }
+        ensures stops { IfErr result (λ s. A.stopped acc.new ≡ Some s) }
+        ensures good { SameMemories (A.good acc.old) (A.good acc.new) }
+        ensures words { A.words acc.new ≡ A.words acc.old }
+        ensures keeps { A.keeps acc.old acc.new }
+    {
+        self.chains().contains(acc, key)
+    }
+
+    /// Puts the key in, unless it is there; it takes the free cell of the lowest number. Three reads a cell
+    /// at most, and one; three writes where it answers `Added`, else none.
+    ///
+    /// # Errors
+    /// The Stop of the access.
+    pub fn insert<A: Access>(&self, acc: &mut A, key: u32) -> Result<Insert, Stop>
+        requires going { A.stopped acc.old ≡ None }
+        requires within { ChainsFit (list_of self.now) (A.words acc.old) }
+        requires well { Under (A.good acc.old) (A.words acc.old) (A.log acc.old) (IsChains (list_of self.now)) }
+        ensures reply { IfOk result (λ r. DoesOver (A.good acc.old) (A.words acc.old) (inserted_in (list_of self.now) key) (A.log acc.old) r (A.log acc.new)) }
+        ensures well { OnOk result (Under (A.good acc.new) (A.words acc.new) (A.log acc.new) (IsChains (list_of self.now))) }
+        ensures explained { OnOk result (IsExplained (A.good acc.new) (A.words acc.new) (A.log acc.new)) }
+        ensures goes { OnOk result (A.stopped acc.new ≡ None) }
+        ensures stops { IfErr result (λ s. A.stopped acc.new ≡ Some s) }
+        ensures good { SameMemories (A.good acc.old) (A.good acc.new) }
+        ensures words { A.words acc.new ≡ A.words acc.old }
+        ensures keeps { A.keeps acc.old acc.new }
+    {
+        self.chains().insert(acc, key)
+    }
+
+    /// Takes the key out, and answers whether it was there. Two reads a cell at most, and two; three writes
+    /// where it was there, else none.
+    ///
+    /// # Errors
+    /// The Stop of the access.
+    pub fn remove<A: Access>(&self, acc: &mut A, key: u32) -> Result<bool, Stop>
+        requires going { A.stopped acc.old ≡ None }
+        requires within { ChainsFit (list_of self.now) (A.words acc.old) }
+        requires well { Under (A.good acc.old) (A.words acc.old) (A.log acc.old) (IsChains (list_of self.now)) }
+        ensures reply { IfOk result (λ r. DoesOver (A.good acc.old) (A.words acc.old) (removed_in (list_of self.now) key) (A.log acc.old) r (A.log acc.new)) }
+        ensures well { OnOk result (Under (A.good acc.new) (A.words acc.new) (A.log acc.new) (IsChains (list_of self.now))) }
+        ensures explained { OnOk result (IsExplained (A.good acc.new) (A.words acc.new) (A.log acc.new)) }
+        ensures goes { OnOk result (A.stopped acc.new ≡ None) }
+        ensures stops { IfErr result (λ s. A.stopped acc.new ≡ Some s) }
+        ensures good { SameMemories (A.good acc.old) (A.good acc.new) }
+        ensures words { A.words acc.new ≡ A.words acc.old }
+        ensures keeps { A.keeps acc.old acc.new }
+    {
+        self.chains().remove(acc, key)
+    }
+
+    /// The number of keys. One read a cell at most, and one.
+    ///
+    /// # Errors
+    /// The Stop of the access; it is never `ClockFull`.
+    pub fn len<A: Access>(&self, acc: &mut A) -> Result<u64, Stop>
+        requires going { A.stopped acc.old ≡ None }
+        requires within { ChainsFit (list_of self.now) (A.words acc.old) }
+        requires well { Under (A.good acc.old) (A.words acc.old) (A.log acc.old) (IsChains (list_of self.now)) }
+        ensures reply { IfOk result (λ r. DoesOver (A.good acc.old) (A.words acc.old) (counted_in (list_of self.now)) (A.log acc.old) r (A.log acc.new)) }
+        ensures well { OnOk result (Under (A.good acc.new) (A.words acc.new) (A.log acc.new) (IsChains (list_of self.now))) }
+        ensures explained { OnOk result (IsExplained (A.good acc.new) (A.words acc.new) (A.log acc.new)) }
+        ensures cause { IfErr result IsReadStop }
+        ensures goes { OnOk result (A.stopped acc.new ≡ None) }
+        ensures stops { IfErr result (λ s. A.stopped acc.new ≡ Some s) }
+        ensures good { SameMemories (A.good acc.old) (A.good acc.new) }
+        ensures words { A.words acc.new ≡ A.words acc.old }
+        ensures keeps { A.keeps acc.old acc.new }
+    {
+        self.chains().len(acc)
+    }
+}

@@ -1,0 +1,5 @@
+pub mod Effects
+pub mod EffectLaws
+pub mod Keys
+pub mod KeyLaws
+pub mod Statements

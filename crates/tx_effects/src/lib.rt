@@ -1,0 +1,6 @@
+//! What a call over an access does to the memory that it sees, and the sets of keys that structures hold.
+#![tactic(auto)]
+
+pub mod insert;
+pub mod laws;
+pub mod position;

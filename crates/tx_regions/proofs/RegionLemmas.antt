@@ -1,0 +1,100 @@
+-- Regions stay well formed: the laws of the rule, from those of each structure.
+use Rattle.std.proofs.Common.{ℕ, ◌≡◌, ◌≢◌, ◌<◌, ◌≤◌, ◌+◌, ◌*◌, ◌^◌, List, length, get_or, set, replicate, Bool, true, false, refl, sym, ap, ◌∙◌, arith, subst, inl, inr}
+use Rattle.std.specs.Prelude.{◌⊎◌, ◌==◌, ltb, slice_index, AllPairs, Contains}
+use Rattle.std.proofs.lemmas.List.{get_or-set_other, get_or_default}
+use Rattle.std.proofs.lemmas.List.Elements.{All-contains}
+use Rattle.std.proofs.lemmas.Bool.Decides.{nat_tests}
+use Rattle.tx_cells.specs.declared.chains.Chains.{Chains}
+use Rattle.tx_cells.specs.declared.counter.Counter.{Counter}
+use Rattle.tx_tree.specs.declared.tree.Tree.{Tree}
+use Rattle.tx_regions.specs.declared.region.Region.{Region}
+use Rattle.tx_regions.specs.declared.region.Region.TheVariants.{Counter as OfCounter, List as OfList, Hash as OfHash, Tree as OfTree}
+use Rattle.tx_cells.specs.Counters.{added_in}
+use Rattle.tx_cells.specs.Chains.{IsChains, inserted_in, removed_in}
+use Rattle.tx_cells.specs.Structures.{list_of, hash_of}
+use Rattle.tx_cells.specs.Statements.{AddsWithin, InsertsKey, RemovesKey, ZerosAreEmpty, DependsOnOwnWords, ChangesOwnWords}
+use Rattle.tx_tree.specs.Trees.{IsTree, inserted_in as tree_inserted_in, removed_in as tree_removed_in}
+use Rattle.tx_tree.specs.Statements.{InsertsKey as TreeInsertsKey, RemovesKey as TreeRemovesKey, ZerosAreEmpty as ZerosAreEmptyTrees, DependsOnOwnWords as TreeDependsOnOwnWords, ChangesOwnWords as TreeChangesOwnWords}
+use Rattle.tx_regions.specs.Regions.{start_of, size_of, WellFormed, AllWellFormed, IsOutside, IsPlain, AreApart, EndsWithin}
+
+-- a memory of zeros
+module _ (chains : ZerosAreEmpty) (trees : ZerosAreEmptyTrees) where
+  zeros-region : (r : Region) (n : ℕ) → WellFormed r (replicate n 0)
+  zeros-region (OfCounter c) n = tt
+  zeros-region (OfList l) n = chains (list_of l) n
+  zeros-region (OfHash h) n = chains (hash_of h) n
+  zeros-region (OfTree t) n = trees t n
+
+  pub opening-good : (regions : List Region) (words : ℕ) → AllWellFormed regions (replicate words 0)
+  opening-good regions words = λ j d lt. zeros-region (get_or regions j d) words
+
+-- where the words of a region stay, it stays well formed
+module _ (chains : DependsOnOwnWords) (trees : TreeDependsOnOwnWords) where
+  region-same : (r : Region) (m k : List ℕ) → WellFormed r m → ((x : ℕ) → start_of r ≤ x → x < start_of r + size_of r → slice_index k x ≡ slice_index m x) → WellFormed r k
+  region-same (OfCounter c) m k w same = tt
+  region-same (OfList l) m k w same = chains (list_of l) m k w (λ x lo hi. same x lo (let z : x < l.at + 1 + 2 * l.cells = hi in omega arith))
+  region-same (OfHash h) m k w same = chains (hash_of h) m k w (λ x lo hi. same x lo (let z : x < h.at + 16 + 2 * h.cells = hi in omega arith))
+  region-same (OfTree t) m k w same = trees t m k w (λ x lo hi. same x lo (let z : x < t.at + 1 + 3 * t.cells = hi in omega arith))
+
+  pub plain-write : (regions : List Region) (m : List ℕ) (a v : ℕ) → IsPlain regions a → AllWellFormed regions m → AllWellFormed regions (set m a v)
+  plain-write regions m a v plain all = λ j d lt. region-same (get_or regions j d) m (set m a v) (all j d lt) (λ x lo hi. get_or-set_other m a x v 0 (off (get_or regions j d) x (plain j d lt) lo hi))
+    where
+      off : (r : Region) (x : ℕ) → IsOutside a r → start_of r ≤ x → x < start_of r + size_of r → x ≢ a
+      off r x (inl o) lo hi e = absurd (omega arith)
+      off r x (inr o) lo hi e = absurd (omega arith)
+
+  -- where one region changes, and stays well formed, all do
+  pub one-changes : (regions : List Region) (r : Region) (m k : List ℕ) → AllPairs AreApart regions → Contains regions r → AllWellFormed regions m → WellFormed r k → ((x : ℕ) → IsOutside x r → slice_index k x ≡ slice_index m x) → AllWellFormed regions k
+  one-changes regions r m k apart (i, lt, e) all own out = λ j d jl. by j d jl (j == i) refl (ltb j i) refl
+    where
+      own-at : (d : Region) → get_or regions i d ≡ r
+      own-at d = get_or_default regions i d r lt ∙ e
+
+      outside : (s : Region) (x : ℕ) → AreApart s r ⊎ AreApart r s → start_of s ≤ x → x < start_of s + size_of s → IsOutside x r
+      outside s x (inl (inl a)) lo hi = inl (omega arith)
+      outside s x (inl (inr a)) lo hi = inr (omega arith)
+      outside s x (inr (inl a)) lo hi = inr (omega arith)
+      outside s x (inr (inr a)) lo hi = inl (omega arith)
+
+      other : (s : Region) → WellFormed s m → AreApart s r ⊎ AreApart r s → WellFormed s k
+      other s w a = region-same s m k w (λ x lo hi. out x (outside s x a lo hi))
+
+      by : (j : ℕ) (d : Region) → j < length regions → (s : Bool) → (j == i) ≡ s → (t : Bool) → ltb j i ≡ t → WellFormed (get_or regions j d) k
+      by j d jl true q t p = let z : j ≡ i = grind (arith, nat_tests) in subst (λ s. WellFormed s k) (sym (ap (λ y. get_or regions y d) z ∙ own-at d)) own
+      by j d jl false q true p = other (get_or regions j d) (all j d jl) (inl (subst (AreApart (get_or regions j d)) (own-at d) (apart j i d (grind (arith, nat_tests)) lt)))
+      by j d jl false q false p = let n : j ≢ i = grind (arith, nat_tests) in let ge : i ≤ j = grind (arith, nat_tests) in
+          other (get_or regions j d) (all j d jl) (inr (subst (λ s. AreApart s (get_or regions j d)) (own-at d) (apart i j d (omega arith) jl)))
+
+  pub add-keeps : AddsWithin → (regions : List Region) (c : Counter) (m : List ℕ) (stripe k : ℕ) → AllPairs AreApart regions → Contains regions (OfCounter c) → stripe < c.stripes
+      → AllWellFormed regions m → AllWellFormed regions (added_in c stripe k m).memory
+  add-keeps within regions c m stripe k apart has lt all = one-changes regions (OfCounter c) m (added_in c stripe k m).memory apart has all tt (λ x out. within c stripe k x m (off x out))
+    where
+      off : (x : ℕ) → IsOutside x (OfCounter c) → x ≢ c.at + stripe
+      off x (inl o) e = absurd (omega arith)
+      off x (inr o) e = absurd (omega arith)
+
+  -- the region s has the chains r
+  module _ (regions : List Region) (s : Region) (r : Chains) (m : List ℕ) (key : ℕ) (well : (k : List ℕ) → IsChains r k → WellFormed s k) (start : start_of s ≡ r.at) (size : size_of s ≡ r.heads + 2 * r.cells) (some : 0 < r.heads)
+      (apart : AllPairs AreApart regions) (has : Contains regions s) (ends : EndsWithin (length m) s) (w : IsChains r m) (all : AllWellFormed regions m) where
+    outside-chains : (x : ℕ) → IsOutside x s → (x < r.at) ⊎ (r.at + r.heads + 2 * r.cells ≤ x)
+    outside-chains x (inl o) = inl (omega arith)
+    outside-chains x (inr o) = inr (omega arith)
+
+    pub chains-keep : InsertsKey → RemovesKey → ChangesOwnWords → key < 2 ^ 32 → AllWellFormed regions (inserted_in r key m).memory × AllWellFormed regions (removed_in r key m).memory
+    chains-keep inserts removes within small = (
+      one-changes regions s m (inserted_in r key m).memory apart has all (well (inserted_in r key m).memory (inserts r m key w some (omega arith) small).1) (λ x o. (within r m key x w some (outside-chains x o)).0),
+      one-changes regions s m (removed_in r key m).memory apart has all (well (removed_in r key m).memory (removes r m key w some (omega arith)).1) (λ x o. (within r m key x w some (outside-chains x o)).1),
+    )
+
+  pub tree-keeps : TreeInsertsKey → TreeRemovesKey → TreeChangesOwnWords → (regions : List Region) (t : Tree) (m : List ℕ) (key : ℕ) → AllPairs AreApart regions → Contains regions (OfTree t) → EndsWithin (length m) (OfTree t) → key < 2 ^ 32
+      → AllWellFormed regions m → AllWellFormed regions (tree_inserted_in t key m).memory × AllWellFormed regions (tree_removed_in t key m).memory
+  tree-keeps inserts removes within regions t m key apart has ends small all =
+      let w : IsTree t m = All-contains (λ r. WellFormed r m) regions (OfTree t) all has in
+      let room : t.at + 1 + 3 * t.cells ≤ length m = omega arith in (
+        one-changes regions (OfTree t) m (tree_inserted_in t key m).memory apart has all (inserts t m key w small room).1 (λ x o. (within t m key x w small (outside-tree x o)).0),
+        one-changes regions (OfTree t) m (tree_removed_in t key m).memory apart has all (removes t m key w small room).1 (λ x o. (within t m key x w small (outside-tree x o)).1),
+      )
+    where
+      outside-tree : (x : ℕ) → IsOutside x (OfTree t) → (x < t.at) ⊎ (t.at + 1 + 3 * t.cells ≤ x)
+      outside-tree x (inl o) = inl o
+      outside-tree x (inr o) = inr (omega arith)

@@ -1,0 +1,65 @@
+-- Regions of a memory, and when they are well formed.
+use Rattle.std.specs.Prelude.{ℕ, ◌+◌, ◌*◌, ◌<◌, ◌≤◌, ◌⊎◌, List, [], ◌∷◌, All}
+use Rattle.tx_cells.specs.declared.counter.Counter.{Counter}
+use Rattle.tx_cells.specs.declared.hash.Hash.{Hash}
+use Rattle.tx_cells.specs.declared.list.List.{List as KeyList}
+use Rattle.tx_tree.specs.declared.tree.Tree.{Tree}
+use Rattle.tx_regions.specs.declared.region.Region.{Region}
+use Rattle.tx_regions.specs.declared.region.Region.TheVariants.{Counter as OfCounter, List as OfList, Hash as OfHash, Tree as OfTree}
+use Rattle.tx_cells.specs.Chains.{IsChains}
+use Rattle.tx_cells.specs.Structures.{list_of, hash_of}
+use Rattle.tx_tree.specs.Trees.{IsTree}
+
+-- a region's first word, and how many words it has
+abbrev pub start_of : Region → ℕ
+start_of (OfCounter c) = c.at
+start_of (OfList l) = l.at
+start_of (OfHash h) = h.at
+start_of (OfTree t) = t.at
+
+abbrev pub size_of : Region → ℕ
+size_of (OfCounter c) = c.stripes
+size_of (OfList l) = 1 + 2 * l.cells
+size_of (OfHash h) = 16 + 2 * h.cells
+size_of (OfTree t) = 1 + 3 * t.cells
+
+-- every counter is well formed
+abbrev pub WellFormed : Region → List ℕ → Type 0
+WellFormed (OfCounter c) m = Unit {0}
+WellFormed (OfList l) m = IsChains (list_of l) m
+WellFormed (OfHash h) m = IsChains (hash_of h) m
+WellFormed (OfTree t) m = IsTree t m
+
+-- THE RULE
+abbrev pub AllWellFormed : List Region → List ℕ → Type 0
+AllWellFormed regions m = All (λ r. WellFormed r m) regions
+
+abbrev pub IsOutside : ℕ → Region → Type 0
+IsOutside a r = (a < start_of r) ⊎ (start_of r + size_of r ≤ a)
+
+-- the address is in no region
+abbrev pub IsPlain : List Region → ℕ → Type 0
+IsPlain regions a = All (IsOutside a) regions
+
+-- no word is in both
+abbrev pub AreApart : Region → Region → Type 0
+AreApart r s = (start_of r + size_of r ≤ start_of s) ⊎ (start_of s + size_of s ≤ start_of r)
+
+abbrev pub EndsWithin : ℕ → Region → Type 0
+EndsWithin words r = start_of r + size_of r ≤ words
+
+abbrev pub counter_one : Counter
+counter_one = record { at = 64; stripes = 4 }
+
+abbrev pub list_one : KeyList
+list_one = record { at = 128; cells = 32 }
+
+abbrev pub hash_one : Hash
+hash_one = record { at = 256; cells = 64 }
+
+abbrev pub tree_one : Tree
+tree_one = record { at = 512; cells = 64 }
+
+-- the regions of the workload text's first version
+abbrev pub version_one : List Region
+version_one = OfCounter counter_one ∷ OfList list_one ∷ OfHash hash_one ∷ OfTree tree_one ∷ []

@@ -1,0 +1,31 @@
+//! Laws of the rule, as the contracts of functions.
+ghost use Rattle.tx_regions.specs.Statements.{OpeningIsGood, NoRegionIsGood, PlainWriteKeeps, AddKeeps, ListKeeps, HashKeeps, TreeKeeps, VersionOneFits, VersionOnePlaces, VersionOnePlain};
+
+use tx_cells::laws::{chains_are_apart, contents_change};
+use tx_tree::laws::{keys_change, trees_are_apart};
+
+/// What keeps memories good: a memory of zeros is good, and any memory where there is no region. For regions
+/// that are apart from each other, a structure's call on its own region keeps every region well formed, and
+/// so does a write of a word outside them all.
+pub fn memories_stay_good()
+    ensures opening { OpeningIsGood }
+    ensures none { NoRegionIsGood }
+    ensures plain { PlainWriteKeeps }
+    ensures add { AddKeeps }
+    ensures list { ListKeeps }
+    ensures hash { HashKeeps }
+    ensures tree { TreeKeeps }
+{
+    chains_are_apart();
+    contents_change();
+    trees_are_apart();
+    keys_change();
+}
+
+/// Where the regions of the workload text's first version stand, by the numbers of that text's format: they
+/// are apart, within 1,024 words, and leave the words below 64 and from 1,024 on.
+pub fn version_one_is_laid_out()
+    ensures fits { VersionOneFits }
+    ensures places { VersionOnePlaces }
+    ensures plain { VersionOnePlain }
+{}

@@ -1,0 +1,9 @@
+pub mod TreeLaws
+pub mod TreeOrder
+pub mod TreeInserts
+pub mod TreeRemovals
+pub mod TreeRetags
+pub mod TreeTakes
+pub mod TreeEffects
+pub mod TreeContents
+pub mod TreeRegions

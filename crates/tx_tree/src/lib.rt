@@ -1,0 +1,5 @@
+//! A set of keys in a plain binary search tree of words, over any access.
+#![tactic(auto)]
+
+pub mod laws;
+pub mod tree;
