@@ -30,7 +30,7 @@ use Rattle.tx_answers.specs.Known.{Known, Grows, known_of, granted_under}
 use Rattle.tx_answers.specs.KnownLaws.{grows-same}
 use Rattle.stm_gate.specs.Opacity.{opaque-at, later-seen}
 use Rattle.stm_gate.specs.LeavingLaws.{finds-full}
-use Rattle.alg_seq.specs.Starts.{CanBegin, StartsAt, Refuses}
+use Rattle.stm_gate.specs.Starts.{CanBegin, StartsAt, Refuses}
 use Rattle.alg_seq.proofs.Locked.{written-plain, keeps-by}
 
 built-lock : (a : Alg) → takes_lock a ≡ true → is_built a ≡ true
@@ -90,6 +90,7 @@ module _ (good : List ℕ → Type 0) (c : Config) (n : ℕ) (a : Alg) (locks : 
       can = record {
         phase = can.phase;
         named = can.named;
+        built = can.built;
         reopened = can.reopened;
         ungranted = can.ungranted;
         clear = record { unlocked = ap (λ b. (if b then fresh_lock v.gate.algorithm else v.lock).taken) apart ∙ can.clear.unlocked; disowned = can.clear.disowned; unwritten = can.clear.unwritten; uncommitted = can.clear.uncommitted; unentered = ap (λ b. (if b then no_attempt else v.attempt).entered) apart ∙ can.clear.unentered; unfixed = ap (λ b. (if b then fresh_lock v.gate.algorithm else v.lock).irrevocable) apart ∙ can.clear.unfixed };
@@ -136,6 +137,7 @@ module _ (good : List ℕ → Type 0) (c : Config) (n : ℕ) (a : Alg) (locks : 
   pub tells-started : (found clock : ℕ) (v t w : View) → CanBegin a v → found ≡ 0 → (asks_at_begin a ≡ true → clock < CLOCK_LIMIT) → Tells (take_lock n) (FindsLock c n) v found t → Tells load_start (Begins rule c) t clock w → StartsAt good c n a clock v w
   tells-started found clock v t w can zero low f l = subst (λ (y : View). StartsAt good c n a clock v y) (sym path) (record {
     inside = λ k free. record {
+      steady = λ e. refl;
       phase = can.phase;
       named = can.named;
       built = built-lock a locks;
@@ -194,7 +196,7 @@ module _ (good : List ℕ → Type 0) (c : Config) (n : ℕ) (a : Alg) (locks : 
       → Refuses good c n a (ClockFull clock) v w
   tells-full found clock v t u w can zero asks high f l r = subst (λ (y : View). Refuses good c n a (ClockFull clock) v y) (sym path) (
     record {
-      can = record { phase = can.phase; named = can.named; reopened = can.reopened; ungranted = can.ungranted; clear = record { unlocked = refl; disowned = can.clear.disowned; unwritten = can.clear.unwritten; uncommitted = can.clear.uncommitted; unentered = refl; unfixed = refl }; unentered = can.unentered; rises = can.rises };
+      can = record { phase = can.phase; named = can.named; built = can.built; reopened = can.reopened; ungranted = can.ungranted; clear = record { unlocked = refl; disowned = can.clear.disowned; unwritten = can.clear.unwritten; uncommitted = can.clear.uncommitted; unentered = refl; unfixed = refl }; unentered = can.unentered; rises = can.rises };
       keeps = λ o. let h = grows-started v f.0 l.0 clock o b in record {
         made = refl;
         grows = record { later = h.later; is = h.is; ascending = h.ascending; up_to = h.up_to; front_rose = h.front_rose; more = freed ∷ h.more; trail = ap (λ s. freed ∷ s) h.trail; reads_limit = refl; writes_limit = refl };

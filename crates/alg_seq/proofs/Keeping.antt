@@ -78,38 +78,6 @@ module _ (good : List ℕ → Type 0) (c : Config) (n : ℕ) (l : Local) (v : Vi
   pub revocable-by : (o : Own) → is_irrevocable (known_of v o) ≡ v.lock.irrevocable
   revocable-by o = ap (λ a. is_sure a (granted_under a v.gate v.lock) (wrote (known_of v o))) named
 
-  pub inside-clocked : (w : View) → IsClocked v w → IsInside good c n l w
-  inside-clocked w k = let j = locked good c n l v locks i in subst (λ (y : View). IsInside good c n l y) (sym k.is) (record {
-    phase = i.phase;
-    named = i.named;
-    built = i.built;
-    disowned = i.disowned;
-    unentered = i.unentered;
-    start = i.start;
-    front = i.front;
-    legal = i.legal;
-    below = i.below;
-    sees = i.sees;
-    reads_inside = i.reads_inside;
-    looked = λ e. absurd (let no : false ≡ true = sym j.reopened ∙ e in cc);
-    granted = i.granted;
-    keeps = keeps-by c l.algorithm l.granted l (aside v (record v.lock { clocked = w.lock.clocked }) k.more) (ap takes_lock serial) (record {
-      taken = j.taken;
-      started = j.started;
-      unwritten = j.unwritten;
-      uncommitted = j.uncommitted;
-      reopened = j.reopened;
-      clean = j.clean;
-      dirty = j.dirty;
-      sure = j.sure;
-      undone = j.undone;
-      undoable = j.undoable;
-      within = j.within;
-      rises = j.rises;
-      limit = j.limit;
-    });
-  })
-
   stored : (log : LogState) (k : LockView) (more : List TrailItem) (a x : ℕ) (m : World) → k.taken ≡ true → k.started ≡ true → k.irrevocable ≡ l.granted → l.start < CLOCK_LIMIT
       → (k.irrevocable ≡ false → log.items ≡ items k.undo) → (k.irrevocable ≡ false → addresses log.items ≡ addresses (put a x (items v.attempt.stores))) → Inside c.words k.undo
       → IsInside good c n (record l { undo = log; wrote = true }) (view_after (store_heap a x) m (aside v k more) x)
@@ -117,6 +85,7 @@ module _ (good : List ℕ → Type 0) (c : Config) (n : ℕ) (l : Local) (v : Vi
     phase = i.phase;
     named = i.named;
     built = i.built;
+    steady = i.steady;
     disowned = i.disowned;
     unentered = i.unentered;
     start = i.start;

@@ -1,4 +1,3 @@
-pub mod Told
 pub mod Locked
 pub mod Beginning
 pub mod Undoing

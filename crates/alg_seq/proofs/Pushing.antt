@@ -20,7 +20,8 @@ use Rattle.stm_rule.specs.Attempts.{IsLocked, addresses}
 use Rattle.tx_answers.specs.Causes.{has_item, is_some}
 use Rattle.stm_gate.specs.Logging.{put-new}
 use Rattle.alg_seq.specs.Storing.{HasLogged, Logs}
-use Rattle.alg_seq.proofs.Undoing.{has-by, put-by, put-there-by, has-touched}
+use Rattle.stm_gate.specs.Peeling.{has-touched}
+use Rattle.alg_seq.proofs.Undoing.{has-by, put-by, put-there-by}
 
 keep-there : (a x v : ℕ) (ws : List (ℕ × ℕ)) → item_at a ws ≡ Some v → keep a x ws ≡ ws
 keep-there a x v [] e = absurd cc

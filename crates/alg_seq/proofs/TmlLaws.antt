@@ -1,14 +1,14 @@
 -- What the steps of the calls of TML come to.
 use Rattle.std.proofs.Common.{ℕ, ◌≡◌, ◌≢◌, ◌<◌, ◌≤◌, ◌+◌, List, [], ◌∷◌, ◌++◌, Bool, true, false, refl, sym, ap, ◌∙◌, arith, subst}
 use Rattle.std.proofs.lemmas.Bool.Decides.{nat_tests}
-use Rattle.std.specs.Prelude.{◌==◌, ◌%◌, ◌^◌, ltb, if◌then◌else◌, not, ◌&&◌, Option, Some, None}
-use Rattle.stm_model.specs.Algorithms.{entry_rise, quit_rise, is_sure, has_read_log, has_records, logs_writes, closes_gate, asks_at_write, asks_at_grant}
+use Rattle.std.specs.Prelude.{◌==◌, ◌%◌, ◌^◌, ltb, if◌then◌else◌, not, ◌&&◌, ◌||◌, Some, None}
+use Rattle.stm_model.specs.Algorithms.{entry_rise, is_sure, has_read_log, has_records, logs_writes, closes_gate, asks_at_write, asks_at_commit, asks_at_grant}
 use Rattle.stm_model.specs.declared.alg.Alg.{Alg}
-use Rattle.stm_model.specs.declared.alg.Alg.TheVariants.{Tml, RingSw}
+use Rattle.stm_model.specs.declared.alg.Alg.TheVariants.{Tml}
 use Rattle.stm_model.specs.declared.config.Config.{Config}
 use Rattle.stm_model.specs.declared.config.TheConstants.{CLOCK_LIMIT}
 use Rattle.stm_model.specs.declared.stop.Cause.TheVariants as causes
-use Rattle.stm_model.specs.Logs.{Log, Reads, Keeps}
+use Rattle.stm_model.specs.Logs.{Reads, Keeps}
 use Rattle.stm_model.specs.Memories.{is_empty, item_at, put}
 use Rattle.rule_base.specs.declared.entries.Cell.{Cell}
 use Rattle.rule_base.specs.declared.entries.Entry.{Entry}
@@ -32,8 +32,6 @@ use Rattle.rule_base.specs.GateSteps.{granted_at}
 use Rattle.rule_promoted.specs.PromotedSteps.{tml_grants, tml_grant, CanTmlGrant}
 use Rattle.rule_seq.specs.TmlSteps.{fresh_tml, tml_begin, TmlBegins, HasTml, tml_load, CanTmlLoad, TmlLoads, tml_again, CanTmlAgain, tml_write, CanTmlWrite, tml_store, CanTmlStore, tml_commit, CanTmlCommit}
 use Rattle.stm_rule.specs.declared.local.Local.{Local}
-use Rattle.rule_base.specs.declared.seats.Who.{Who}
-use Rattle.rule_base.specs.declared.views.Phase.TheVariants.{Idle, In, Closing}
 use Rattle.stm_rule.specs.Attempts.{good_by, IsInside, IsTml, StandsBy, Stands}
 use Rattle.stm_rule.specs.Attempts as Rules
 use Rattle.stm_rule.specs.Findings.{FindsSole, FindsBegin, FindsAgain}
@@ -42,19 +40,19 @@ use Rattle.tx_answers.specs.declared.answers.Commit.TheVariants.{ReadOnly}
 use Rattle.tx_answers.specs.declared.answers.Irrev.TheVariants as irrevs
 use Rattle.tx_answers.specs.declared.answers.Read.TheVariants as reads
 use Rattle.tx_answers.specs.declared.answers.Write.TheVariants as writes
-use Rattle.tx_answers.specs.Answers.{write_rise, HasRead, HasWritten, KeepsRule, Commits, CommitsAt, Cancels, Quits, BecomesSure, Waits, Irrevs}
+use Rattle.tx_answers.specs.Answers.{write_rise, HasRead, HasWritten, KeepsRule, Commits, CommitsAt, Cancels, Quits, BecomesSure}
 use Rattle.tx_answers.specs.Evidence.{Found}
 use Rattle.tx_answers.specs.Causes.{Conflicts, reads_full, writes_full}
 use Rattle.tx_answers.specs.Known.{Known, known_of, granted_under, written_under, is_irrevocable, wrote, is_in, is_closing}
-use Rattle.tx_answers.specs.KnownLaws.{grows-same, grows-trans}
+use Rattle.tx_answers.specs.KnownLaws.{grows-same}
 use Rattle.stm_gate.specs.InnerLaws.{goes-inner, start-stays, no-log-full}
 use Rattle.stm_gate.specs.Leaving.{CanLeave, left}
-use Rattle.stm_gate.specs.LeavingLaws.{IsUnmade, unmade-refl, ended-left, quits-left, commits-left, found-left, found-earlier, finds-full}
+use Rattle.stm_gate.specs.LeavingLaws.{IsUnmade, unmade-refl, ended-left, quits-left, commits-left, found-left, finds-full}
 use Rattle.stm_gate.specs.Logging.{reads-logged, inside-logged, wrote-some}
-use Rattle.alg_seq.specs.Starts.{CanBegin}
-use Rattle.alg_seq.specs.Starts as Starts
+use Rattle.stm_gate.specs.Starts.{CanBegin}
+use Rattle.stm_gate.specs.Starts as Starts
 use Rattle.tx_answers.specs.declared.answers.Begin.TheVariants as begins
-use Rattle.alg_seq.specs.Tml.{IsAlone, Grants}
+use Rattle.stm_gate.specs.Granting.{IsAlone, Grants}
 use Rattle.stm_gate.specs.Opacity.{opaque-at, opaque-inside, later-seen}
 
 -- more than one caller
@@ -68,9 +66,6 @@ module _ (good : List ℕ → Type 0) (c : Config) (n : ℕ) where
   module _ (l : Local) (v : View) (o : Own) (quiet : o.committing ≡ false) (i : IsInside good c n l v) (tml : v.gate.algorithm ≡ Tml) (k : IsTml c l v) where
     pub has-tml : HasTml v
     has-tml = record { runs = record { phase = i.phase; algorithm = tml; plain = k.ungranted }; inside = k.inside }
-
-    pub may-load : (a : ℕ) → a < c.words → CanTmlLoad c.words a v
-    may-load a low = record { has = has-tml; inside = low }
 
     -- what was written lies in the heap, and no log can be full
     written-here : (y : View) → written_under v.gate.algorithm v.gate.granted y o ≡ items y.attempt.stores
@@ -126,9 +121,6 @@ module _ (good : List ℕ → Type 0) (c : Config) (n : ℕ) where
 
     again_path : (a x clock : ℕ) (s w : View) (b : Bool) → (clock == v.attempt.start) ≡ b → l.wrote ≡ false → Tells (tml_load a) (TmlLoads rule c a) v x s → Tells tml_again (FindsAgain rule c) s clock w → w ≡ again_at a x clock b
     again_path a x clock s w b e clean t r = r.2 ∙ (ap (λ (y : View). view_after tml_again r.0 y clock) (load_path a x s false clean t) ∙ ap (again_at a x clock) e)
-
-    pub may-again : (a x : ℕ) (s : View) → l.wrote ≡ false → Tells (tml_load a) (TmlLoads rule c a) v x s → CanTmlAgain s
-    may-again a x s clean t = subst CanTmlAgain (sym (load_path a x s false clean t)) (record { has = record { runs = record { phase = i.phase; algorithm = tml; plain = k.ungranted }; inside = k.inside }; reads = k.writer ∙ clean })
 
     -- with one caller alone the clock stands
     others : (clock : ℕ) → n < c.callers → l.wrote ≡ false → clock ≢ l.start → (c.callers ≡ 1 → clock ≡ c.clock + v.steps.rises) → 1 < c.callers
@@ -207,9 +199,6 @@ module _ (good : List ℕ → Type 0) (c : Config) (n : ℕ) where
         shown : FindsAgain rule c r.0 (load_at a x false) clock
         shown = subst (λ (y : View). FindsAgain rule c r.0 y clock) (load_path a x s false clean t) r.1
 
-    pub may-leave-read : (a x clock : ℕ) (s u : View) → l.wrote ≡ false → clock ≢ l.start → Tells (tml_load a) (TmlLoads rule c a) v x s → Tells tml_again (FindsAgain rule c) s clock u → CanLeave u
-    may-leave-read a x clock s u clean apart t r = subst CanLeave (sym (again_path a x clock s u false (let s = i.start in grind (arith, nat_tests)) clean t r)) (may-leave (again_at a x clock false) clean refl refl refl refl refl refl refl)
-
     -- the view after the clock was loaded before the first write, and after the exchange
     abbrev asked_at : ℕ → View
     asked_at clock = record v { tml = record v.tml { loaded = false }; steps = record v.steps { trail = record { place = Clock; act = Load; found = Some clock } ∷ v.steps.trail } }
@@ -255,14 +244,6 @@ module _ (good : List ℕ → Type 0) (c : Config) (n : ℕ) where
       limit = room (let e = same in omega arith);
       settled = refl;
       uncalm = k.uncalm;
-    })
-
-    pub may-put : (a x clock found : ℕ) (s w : View) → a < c.words → x < 2 ^ 64 → found ≡ l.start → Tells tml_again (FindsAgain rule c) v clock s → Tells (tml_write l.start) (FindsSole c) s found w → CanTmlStore c.words a x w
-    may-put a x clock found s w low small same r t = subst (CanTmlStore c.words a x) (sym (tried_path clock found s w true (grind (arith, nat_tests)) r t)) (record {
-      has = record { runs = record { phase = i.phase; algorithm = tml; plain = k.ungranted }; inside = k.inside };
-      writes = refl;
-      inside = low;
-      small = small;
     })
 
     -- the clock was found elsewhere: before the exchange, by it, or at its limit
@@ -329,6 +310,7 @@ module _ (good : List ℕ → Type 0) (c : Config) (n : ℕ) where
       phase = i.phase;
       named = i.named;
       built = i.built;
+      steady = i.steady;
       disowned = i.disowned;
       unentered = i.unentered;
       start = i.start;
@@ -534,6 +516,7 @@ module _ (good : List ℕ → Type 0) (c : Config) (n : ℕ) where
       phase = i.phase;
       named = i.named;
       built = i.built;
+      steady = λ e. i.steady (ap (λ (a : Alg). not (asks_at_commit a) || l.granted) (sym i.named ∙ tml));
       disowned = i.disowned;
       unentered = i.unentered;
       start = i.start;
@@ -562,101 +545,11 @@ module _ (good : List ℕ → Type 0) (c : Config) (n : ℕ) where
         y : View
         y = granted_view clock true
 
-  -- an attempt that was irrevocable before stays as it was
-  pub sure-already : (l : Local) (v : View) (o : Own) → o.committing ≡ false → IsInside good c n l v → is_irrevocable (known_of v o) ≡ true → BecomesSure good c n (known_of v o) (known_of v o)
-  sure-already l v o quiet i sure = record {
-    continues = record {
-      running = ap is_in i.phase;
-      closing = ap is_closing i.phase;
-      made = refl;
-      grows = grows-same (known_of v o) (known_of v o) refl refl [] refl refl refl;
-      alg = refl;
-      base = refl;
-      rises = (omega arith, omega arith);
-      later = omega arith;
-      installs = refl;
-    };
-    still = refl;
-    uncommitted = quiet;
-    log = refl;
-    sure = sure;
-    opaque = opaque-inside good c n l v o i;
-    before = λ e. refl;
-    now = λ e. absurd (let f : true ≡ false = sym sure ∙ e in cc);
-    alone = λ e q. absurd (let f : true ≡ false = sym sure ∙ e in cc);
-  }
-
-  same-quit : (a b : Alg) (p q : Bool) → a ≡ b → p ≡ q → quit_rise a p ≡ quit_rise b q
-  same-quit a b p q e f = λ j. quit_rise (e j) (f j)
-
-  quits-after : (u v w : Known) → Waits good c n u v → Quits v w → Quits u w
-  quits-after u v w a b = let k = a.continues in record {
-    ends = record { idle = b.ends.idle; grows = grows-trans u v w k.grows b.ends.grows; alg = b.ends.alg ∙ k.alg; base = b.ends.base ∙ k.base; installs = b.ends.installs ∙ k.installs };
-    made = b.made ∙ k.made;
-    rises = (let e = k.base in let r = b.rises.0 in omega arith, let e = k.base in let r = b.rises.1 in let q = same-quit v.alg u.alg (wrote v) (wrote u) k.alg (ap (λ (g : Log). not (is_empty g.writes)) a.log) in omega arith);
-    revocable = a.revocable;
-  }
-
-  found-before : (place : At) (x : ℕ) (u v w : Known) → Waits good c n u v → Found place x v w → Found place x u w
-  found-before place x u v w a f = found-earlier place x u v w f a.continues.grows.more a.continues.grows.trail
-
-  conflicts-after : (cause : causes.the_data) (u v w : Known) → u.alg ≡ Tml → Waits good c n u v → Conflicts c n None cause v w → Conflicts c n None cause u w
-  conflicts-after (causes.Clock had now) u v w tml a b = (tml, b.1 ∙ a.start, b.2, found-before Clock now u v w a b.3)
-  conflicts-after (causes.Record index word start) u v w tml a b = absurd (let f : false ≡ true = sym (ap has_records (a.continues.alg ∙ tml)) ∙ b.0 in cc)
-  conflicts-after (causes.Moved index before after) u v w tml a b = absurd (let f : false ≡ true = sym (ap has_records (a.continues.alg ∙ tml)) ∙ b.0 in cc)
-  conflicts-after (causes.Filter time bits) u v w tml a b = absurd (let f : Tml ≡ RingSw = sym (a.continues.alg ∙ tml) ∙ b.0 in cc)
-  conflicts-after (causes.Overrun start clock) u v w tml a b = absurd (let f : Tml ≡ RingSw = sym (a.continues.alg ∙ tml) ∙ b.0 in cc)
-
-  pub irrevs-after : (r : irrevs.the_data) (u v w : Known) → u.alg ≡ Tml → Waits good c n u v → Grants good c n r v w → Irrevs good c n r u w
-  irrevs-after irrevs.Granted u v w tml a b = let k = a.continues in let q = b.continues in
-      let still : is_irrevocable v ≡ false = (λ j. is_sure (k.alg j) (a.granted j) (not (is_empty (a.log j).writes))) ∙ a.revocable in record {
-        continues = record {
-          running = q.running;
-          closing = q.closing;
-          made = q.made ∙ k.made;
-          grows = grows-trans u v w k.grows q.grows;
-          alg = q.alg ∙ k.alg;
-          base = q.base ∙ k.base;
-          rises = (let x = a.still in let y = b.still in (omega arith, omega arith));
-          later = (let x = k.later in let y = q.later in omega arith);
-          installs = q.installs ∙ k.installs;
-        };
-        still = b.still ∙ a.still;
-        uncommitted = b.uncommitted;
-        log = b.log ∙ a.log;
-        sure = b.sure;
-        opaque = b.opaque;
-        before = λ e. absurd (let f : true ≡ false = sym e ∙ a.revocable in cc);
-        now = λ e. (let z = b.now still in (z.0, found-before Clock w.start u v w a z.1));
-        alone = λ e x. b.alone still (ap closes_gate k.alg ∙ x);
-      }
-  irrevs-after (irrevs.Busy caller status) u v w tml a b = absurd b
-  irrevs-after (irrevs.Taken gate) u v w tml a b = absurd b
-  irrevs-after (irrevs.Conflict cause) u v w tml a b = (quits-after u v w a b.0, conflicts-after cause u v w tml a b.1, b.2)
-  irrevs-after (irrevs.ClockFull clock) u v w tml a b = (quits-after u v w a b.0, ap asks_at_grant (sym a.continues.alg) ∙ b.1, record { limit = b.2.limit; found = found-before Clock clock u v w a b.2.found; top = b.2.top })
-
-  -- and so is a promoted attempt
+  -- a promoted attempt is irrevocable
   pub sure-granted : (l : Local) (v : View) (o : Own) → IsInside good c n l v → v.gate.algorithm ≡ Tml → l.granted ≡ true → is_irrevocable (known_of v o) ≡ true
   sure-granted l v o i tml granted =
       let here : v.gate.granted ≡ true = i.granted ∙ (λ j. closes_gate ((sym i.named ∙ tml) j) && granted j) in
       ap (λ (a : Alg). is_sure a (granted_under a v.gate v.lock) (not (is_empty (written_under a v.gate.granted v o)))) tml ∙ ap (λ (b : Bool). is_sure Tml b (not (is_empty (items v.attempt.stores)))) here
-
-  running-by : (l : Local) (v : View) (running holds : Bool) → v.gate.phase ≡ In → StandsBy good c n l running holds v → running ≡ true
-  running-by l v true holds e s = refl
-  running-by l v false true e s = absurd (let k : Closing ≡ In = sym s.phase ∙ e in cc)
-  running-by l v false false e s = absurd (let k : Idle ≡ In = sym s.phase ∙ e in cc)
-
-  -- a running attempt that goes on stands
-  pub stands-on : (l m : Local) (v w : View) → v.gate.phase ≡ In → Stands good c n l v → m.running ≡ l.running → m.holds ≡ l.holds → w.gate.holds ≡ v.gate.holds → IsInside good c n m w → Stands good c n m w
-  stands-on l m v w inside s running held gate i = record {
-    holds = held ∙ (s.holds ∙ sym gate);
-    by = subst (λ (r : Bool). StandsBy good c n m r m.holds w) (sym (running ∙ running-by l v l.running l.holds inside s.by)) i;
-  }
-
--- the tie of a descriptor in its own terms
-pub stands-back : {K : Type 0} (good : K → List ℕ → Type 0) (c : Config) (rule : K) (who : Who K) (n : ℕ) (l : Local) (v : View) → who.config ≡ c → who.rule ≡ Some rule → Stands (good rule) c n l v → Stands (good_by good who.rule) who.config n l v
-stands-back {K} good c rule who n l v config value s =
-    subst (λ (f : Config). Stands (good_by good who.rule) f n l v) (sym config) (subst (λ (r : Option K). Stands (good_by good r) c n l v) (sym value) s)
 
 module _ (good : List ℕ → Type 0) (c : Config) (n : ℕ) (v : View) (can : CanBegin Tml v) where
   abbrev begun_at : World → ℕ → Bool → View
@@ -674,7 +567,7 @@ module _ (good : List ℕ → Type 0) (c : Config) (n : ℕ) (v : View) (can : C
   pub tells-held : (clock : ℕ) (w : View) → clock % 2 ≡ 1 → Tells tml_begin (FindsBegin (of_words good c.words) c) v clock w → Starts.Refuses good c n Tml (begins.Held clock) v w
   tells-held clock w odd t = subst (λ (y : View). Starts.Refuses good c n Tml (begins.Held clock) v y) (sym (begun_path clock w false (grind (arith, nat_tests)) t)) (
     record {
-      can = record { phase = can.phase; named = can.named; reopened = can.reopened; ungranted = can.ungranted; clear = record { unlocked = can.clear.unlocked; disowned = can.clear.disowned; unwritten = can.clear.unwritten; uncommitted = can.clear.uncommitted; unentered = can.clear.unentered; unfixed = can.clear.unfixed }; unentered = can.unentered; rises = can.rises };
+      can = record { phase = can.phase; named = can.named; built = can.built; reopened = can.reopened; ungranted = can.ungranted; clear = record { unlocked = can.clear.unlocked; disowned = can.clear.disowned; unwritten = can.clear.unwritten; uncommitted = can.clear.uncommitted; unentered = can.clear.unentered; unfixed = can.clear.unfixed }; unentered = can.unentered; rises = can.rises };
       keeps = λ o. record { made = refl; grows = grows-same (known_of v o) (known_of y o) refl refl (_ ∷ []) refl refl refl; rises = refl; installs = refl };
     },
     omega arith,
@@ -688,6 +581,7 @@ module _ (good : List ℕ → Type 0) (c : Config) (n : ℕ) (v : View) (can : C
   pub tells-started : (clock : ℕ) (w : View) → clock % 2 ≡ 0 → Tells tml_begin (FindsBegin (of_words good c.words) c) v clock w → Starts.StartsAt good c n Tml clock v w
   tells-started clock w even t = subst (λ (y : View). Starts.StartsAt good c n Tml clock v y) (sym (begun_path clock w true (grind (arith, nat_tests)) t)) (record {
     inside = λ l free. record {
+      steady = λ e. refl;
       phase = can.phase;
       named = can.named;
       built = refl;

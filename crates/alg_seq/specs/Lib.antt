@@ -1,3 +1,1 @@
-pub mod Starts
 pub mod Storing
-pub mod Tml

@@ -7,7 +7,7 @@ ghost use Rattle.stm_rule.specs.Kept.{IsSameSeat, view_of};
 ghost use Rattle.tx_answers.specs.Answers.{HasRead, HasWritten, KeepsRule, Commits, Cancels, Irrevs};
 ghost use Rattle.tx_answers.specs.Known.{IsRunning};
 ghost use Rattle.stm_gate.specs.Knowing.{known, number};
-ghost use Rattle.alg_seq.specs.Starts.{CanBegin, Starts};
+ghost use Rattle.stm_gate.specs.Starts.{CanBegin, Starts};
 
 use crate::lock;
 use stm_model::config::CLOCK_LIMIT;

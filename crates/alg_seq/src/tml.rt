@@ -8,8 +8,8 @@ ghost use Rattle.stm_rule.specs.Kept.{IsSameSeat, view_of};
 ghost use Rattle.tx_answers.specs.Answers.{HasRead, HasWritten, KeepsRule, Commits, Cancels, Irrevs};
 ghost use Rattle.tx_answers.specs.Known.{IsRunning, is_irrevocable};
 ghost use Rattle.stm_gate.specs.Knowing.{known, number};
-ghost use Rattle.alg_seq.specs.Starts.{CanBegin, Starts};
-ghost use Rattle.alg_seq.specs.Tml.{IsAlone, Grants};
+ghost use Rattle.stm_gate.specs.Starts.{CanBegin, Starts};
+ghost use Rattle.stm_gate.specs.Granting.{IsAlone, Grants};
 
 use stm_gate::direct::{direct_commit, direct_load, direct_store};
 use stm_gate::leave::leave;

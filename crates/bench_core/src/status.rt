@@ -17,7 +17,7 @@ pub enum Status {
     WriteFault,
     /// Nothing: memory was refused.
     Memory,
-    /// `clock full C`: a transaction was to begin, and the clock stood at its limit, 2^62.
+    /// `clock full C`: a call found the clock at its limit, 2^62.
     ClockFull { clock: u64 },
 }
 

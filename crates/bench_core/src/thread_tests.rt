@@ -111,9 +111,9 @@ fn waited(times: usize) -> Backoff {
 
 #[test]
 fn pauses_longer_and_starts_over(rt: HostRuntime) {
-    assert_ne!(rt; waited(9), waited(10));
-    assert_eq!(rt; waited(10), waited(11));
-    let mut backoff = waited(11);
+    assert_ne!(rt; waited(4), waited(5));
+    assert_eq!(rt; waited(5), waited(6));
+    let mut backoff = waited(6);
     backoff.reset();
     assert_eq!(rt; backoff, Backoff::new());
 }

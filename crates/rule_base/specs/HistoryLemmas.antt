@@ -55,15 +55,6 @@ pub upto-all : (h : List Entry) (t f : ℕ) → Below h t → t ≤ f + 1 → up
 upto-all [] t f b l = refl
 upto-all (e ∷ h) t f b l = grind (arith, upto-all h e.time f b.1)
 
--- what is read at a time that is seen is read off what is seen
-pub word_at-upto : (h : List Entry) (f s a : ℕ) → s ≤ f → word_at (upto h f) s a ≡ word_at h s a
-word_at-upto [] f s a l = refl
-word_at-upto (e ∷ h) f s a l = grind (arith, word_at-upto h f s a l)
-
-pub upto-upto : (h : List Entry) (f g : ℕ) → g ≤ f → upto (upto h f) g ≡ upto h g
-upto-upto [] f g l = refl
-upto-upto (e ∷ h) f g l = grind (arith, upto-upto h f g l)
-
 -- the memory after what is seen is that at the front
 pub word_now-upto : (h : List Entry) (s a : ℕ) → word_now (upto h s) a ≡ word_at h s a
 word_now-upto [] s a = refl

@@ -177,7 +177,7 @@ module _ (good : (ℕ → ℕ) → Type 0) (c : Config) where
         g = full-world w r
 
         apart : (q : ℕ) → rec_of (w.records q) ≡ Taken n → ⊥
-        apart q e = let t = g.whole.owned q n e in let f : true ≡ false = sym t ∙ r.runs.shut n may.outside q in cc
+        apart q e = let t = g.whole.owned q n e in let f : true ≡ false = sym t ∙ ap (λ (cs : List Cell). touches cs q) may.disowned in cc
 
         f : OrecRule (home_of c) c.words (scene_put w x n v) × ((q : ℕ) → rank (orec_scene w) q ≤ rank (scene_put w x n v) q)
         f = fresh (home_of c) c.words (orec_scene w) n (orec_view v) apart (λ q. refl) (λ i. begun-fresh (home_of c) c.words (orec_scene w) n (is_eager (w.views n).gate.algorithm) v.attempt refl refl r.runs.based) r.runs

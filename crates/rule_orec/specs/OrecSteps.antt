@@ -65,7 +65,7 @@ orec_begin = record {
 
 pub record CanOrecBegin (v : View) : Type 0 where
   pub runs : RunsOrec v
-  pub outside : v.owned.inside ≡ false
+  pub disowned : v.owned.held ≡ []
 
 -- load the record r of the word a: a free one is sampled
 abbrev pub orec_sample : ℕ → ℕ → StepKind
@@ -229,8 +229,8 @@ orec_commit n start writes back = record {
 
 pub record CanOrecCommit (home : ℕ → ℕ) (good : (ℕ → ℕ) → Type 0) (words start : ℕ) (writes back : List Cell) (v : View) : Type 0 where
   pub has : HasOrec v
-  -- who holds the gate is to be promoted
-  pub free : v.gate.holds ≡ false
+  -- who knows the clock as the gate's holder is to be promoted
+  pub uncalm : v.gate.calm ≡ false
   pub from : start ≡ v.attempt.start
   pub limit : start + 1 ≤ CLOCK_LIMIT
   pub ready : Ready home v.owned writes back

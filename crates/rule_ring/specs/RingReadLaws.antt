@@ -13,7 +13,7 @@ use Rattle.rule_base.specs.StepKinds.{view_after, world_after, Nothing, StepLaw}
 use Rattle.rule_base.specs.StepsLemmas.{steps-kept}
 use Rattle.rule_base.specs.World.{World, put}
 use Rattle.rule_ring.specs.Filters.{Filters}
-use Rattle.rule_ring.specs.Slots.{slot_place, writes_of, has_entry, loaded_word, untouched, clear}
+use Rattle.rule_ring.specs.Slots.{slot_place, writes_of, has_entry, untouched, clear}
 use Rattle.rule_ring.specs.RingRule.{RingPart, ring_view, ring_scene, late, RingReader, RingTurn, RingRule, RingWorld}
 use Rattle.rule_ring.specs.RingLemmas.{ring_scene-put, ring-own}
 use Rattle.rule_ring.specs.RingSteps.{ring_begin, CanRingBegin, RingBegins, time_by, ring_load, CanRingLoad, read_in, passed, ring_look, CanRingLook, RingSees, RingLooks, ring_word, CanRingWord, ring_again, CanRingAgain, moved, ring_move, AllClear, CanRingMove, RingMoves}
@@ -399,7 +399,7 @@ module _ (F : Filters) (good : (ℕ → ℕ) → Type 0) (c : Config) (n : ℕ) 
   still w r inside checking sure all t a low up watched =
       let sum : t ≡ (w.views n).attempt.start + (t - (w.views n).attempt.start) = omega arith in
       ap (λ (s : ℕ). word_at w.history s a) sum ∙ clear F w.history (w.clock + 1) (w.views n).attempt.start a r.history.below (t - (w.views n).attempt.start)
-      (λ e l m. let q = all e l (omega arith) in untouched F w.history e a (loaded_word (w.views n).ring_read.words e) (w.views n).ring_read.watched (λ h i low. k.sure e i checking sure l (q.0 i low) h) q.1 watched)
+      (λ e l m. untouched F w.history e a (w.views n).ring_read.watched (λ h. all e l (omega arith) (F.word (writes_of w.history e)) (λ i low has. k.sure e i checking sure l has h)) watched)
     where
       k : RingReader F c.ring c.words w.clock w.done w.base w.history (ring_view (w.views n))
       k = r.runs.reader n inside

@@ -57,7 +57,6 @@ ring_begin = record {
 
 pub record CanRingBegin (v : View) : Type 0 where
   pub runs : RunsRing v
-  pub outside : v.ring_read.inside ≡ false
   pub unlocked : v.lock.taken ≡ false
 
 -- what a start t shows: a legal history up to it, of which the seat had seen a part
@@ -173,9 +172,9 @@ ring_move = record {
   grown = same_history;
 }
 
--- all words of the slots since the start were loaded, and none of the slots meets the filter
+-- none of the slots since the start meets the filter, whatever those of their words are that were not loaded
 abbrev pub AllClear : Filters → View → Type 0
-AllClear F v = (e : ℕ) → v.attempt.start < e → e ≤ v.ring_read.clock → ((i : ℕ) → i < SLOT_WORDS → has_word v.ring_read.words e i ≡ true) × (F.meets (loaded_word v.ring_read.words e) (F.word v.ring_read.watched) ≡ false)
+AllClear F v = (e : ℕ) → v.attempt.start < e → e ≤ v.ring_read.clock → (slot : ℕ → ℕ) → ((i : ℕ) → i < SLOT_WORDS → has_word v.ring_read.words e i ≡ true → loaded_word v.ring_read.words e i ≡ slot i) → F.meets slot (F.word v.ring_read.watched) ≡ false
 
 pub record CanRingMove (F : Filters) (v : View) : Type 0 where
   pub has : HasRing v

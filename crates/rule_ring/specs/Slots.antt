@@ -93,16 +93,16 @@ pub writes-later : (h : List Entry) (e : Entry) (s : ℕ) → s < e.time → wri
 writes-later h e s l = grind (arith, l)
 
 module _ (F : Filters) where
-  -- a slot whose words were loaded and don't meet the filter of an address is of an entry that leaves the address alone
-  pub untouched : (h : List Entry) (e a : ℕ) (loaded : ℕ → ℕ) (watched : List Cell) → (has_entry h e ≡ true → (i : ℕ) → i < SLOT_WORDS → loaded i ≡ F.word (writes_of h e) i) → F.meets loaded (F.word watched) ≡ false → touches watched a ≡ true → touches (writes_of h e) a ≡ false
-  untouched h e a loaded watched is apart t = go (has_entry h e) refl
+  -- an entry whose filter doesn't meet that of an address leaves the address alone
+  pub untouched : (h : List Entry) (e a : ℕ) (watched : List Cell) → (has_entry h e ≡ true → F.meets (F.word (writes_of h e)) (F.word watched) ≡ false) → touches watched a ≡ true → touches (writes_of h e) a ≡ false
+  untouched h e a watched apart t = go (has_entry h e) refl
     where
       by : (b : Bool) → touches (writes_of h e) a ≡ b → F.meets (F.word (writes_of h e)) (F.word watched) ≡ false → b ≡ false
       by true m k = absurd (let f : true ≡ false = sym (F.shows (writes_of h e) watched a m t) ∙ k in cc)
       by false m k = refl
 
       go : (b : Bool) → has_entry h e ≡ b → touches (writes_of h e) a ≡ false
-      go true m = by (touches (writes_of h e) a) refl (sym (F.same loaded (F.word (writes_of h e)) (F.word watched) (is m)) ∙ apart)
+      go true m = by (touches (writes_of h e) a) refl (apart m)
       go false m = ap (λ (ws : List Cell). touches ws a) (writes-none h e m)
 
   -- the slots of the times after b and up to b + k don't touch the address: its word is the same at all these times

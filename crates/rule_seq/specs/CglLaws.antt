@@ -31,22 +31,6 @@ cgl_scene-put w x n v is = λ i. record { clock = x.clock; lock = x.lock; heap =
 pub cgl_scene-kept : (w x : World) (n : ℕ) (v : View) → x.views ≡ put w.views n v → x.clock ≡ w.clock → x.lock ≡ w.lock → x.heap ≡ w.heap → x.history ≡ w.history → cgl_view v ≡ cgl_view (w.views n) → cgl_scene x ≡ cgl_scene w
 cgl_scene-kept w x n v is clock lock heap history own = λ i. record { clock = clock i; lock = lock i; heap = heap i; history = history i; views = (ap (parts cgl_view) is ∙ parts-kept cgl_view w.views n v own) i }
 
--- at rest nobody has the lock and the heap is the memory: whatever ran before, CGL may run
-pub cgl-from-rest : (words : ℕ) (w : World) → ((n : ℕ) → (w.views n).lock.taken ≡ true → ⊥) → ((a : ℕ) → w.heap a ≡ word_now w.history a) → CglRule words (cgl_scene w)
-cgl-from-rest words w nobody heap = record { free = λ e. heap; holder = λ n t. absurd (nobody n t) }
-
--- a step of a caller that has no lock
-pub cgl-outside : (words : ℕ) (w x : World) (n : ℕ) (v : View) → x.views ≡ put w.views n v → x.clock ≡ w.clock → x.lock ≡ w.lock → x.heap ≡ w.heap → x.history ≡ w.history → v.lock.taken ≡ false → CglRule words (cgl_scene w) → CglRule words (cgl_scene x)
-cgl-outside words w x n v is clock lock heap history out r = subst (CglRule words) (sym path) (record {
-  free = r.free;
-  holder = put-all (cgl_scene w).views n (cgl_view v) (λ m k. k.lock.taken ≡ true → CglHolder words (record (cgl_scene w) { views = put (cgl_scene w).views n (cgl_view v) }) k)
-      (λ t. absurd cc)
-      (λ m d t. let h = r.holder m t in record { stored = h.stored; unstored = h.unstored; start = h.start; front = h.front; sees = h.sees; reads_inside = h.reads_inside; stores_inside = h.stores_inside; stores_small = h.stores_small; undone = h.undone; covered = h.covered });
-})
-  where
-    path : cgl_scene x ≡ record (cgl_scene w) { views = put (cgl_scene w).views n (cgl_view v) }
-    path = λ i. record { clock = clock i; lock = lock i; heap = heap i; history = history i; views = (ap (parts cgl_view) is ∙ parts-put cgl_view w.views n v) i }
-
 pub logged_sees : (m : ℕ → ℕ) (t : Attempt) (a x : ℕ) → x ≡ over t.stores a (m a) → Explains m t.reads → Explains m (logged t a x)
 logged_sees m t a x value sees b = go (touches t.stores a) refl
   where

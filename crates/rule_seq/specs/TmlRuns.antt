@@ -32,11 +32,3 @@ module _ (good : (ℕ → ℕ) → Type 0) (c : Config) where
   TmlMayAs (tml_writes start) v = CanTmlWrite start v
   TmlMayAs (tml_stores a x) v = CanTmlStore c.words a x v
   TmlMayAs (tml_commits t) v = CanTmlCommit good t v
-
-  -- a caller of this memory may take the step where its view allows it
-  abbrev pub TmlMay : ℕ → TmlStep → View → Type 0
-  TmlMay n s v = (n < c.callers) × TmlMayAs s v
-
-  -- whatever steps of TML any callers take, each allowed where it comes, the rule holds after each
-  abbrev pub TmlKeepsAlong : Type 0
-  TmlKeepsAlong = KeepsAlong tml_kind TmlMay (TmlWorld good c)

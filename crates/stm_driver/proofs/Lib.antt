@@ -11,5 +11,7 @@ mod IdleLaws
 mod PreparedLaws
 mod StandingLaws
 mod ReportLaws
+mod SortLaws
+mod PartLaws
 mod LimitLaws
 mod OutcomeLaws

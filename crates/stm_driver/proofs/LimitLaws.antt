@@ -33,7 +33,7 @@ use Rattle.stm_trace.specs.Places.{most_failed}
 use Rattle.stm_worker.specs.Payments.{raised}
 use Rattle.stm_driver.specs.ClosedRuns.{CutShort}
 use Rattle.stm_script.specs.Workloads.{config_of}
-use Rattle.stm_driver.specs.Runs.{IsHistory, IsFull, IsCut, most_rises}
+use Rattle.stm_driver.specs.Runs.{ArePart, AreFirst, IsHistory, IsFull, IsCut, RanSome, most_rises}
 use Rattle.stm_driver.specs.Schedules.{Drives, FoundFull}
 use Rattle.stm_driver.proofs.HistoryLaws.{dealt, ones}
 use Rattle.stm_driver.proofs.IdleLaws.{idle-rises}
@@ -186,9 +186,9 @@ module _ {K : Type 0} (good : List ℕ → Type 0) (w : Workload) (stm : Stm K) 
           omega (arith, r, f)
 
   -- none has anything open, and one met the limit
-  pub full : (us rs : List (Worker K)) (ws : List ℕ) (closed : Ended) (clock : ℕ) → StartPaid w.header.alg 0 us → ArePaidFor stm us rs → Each (Stood good w stm sized) 0 rs → All (λ (r : Worker K). r.phase ≡ Between) rs → length rs ≡ stm.config.callers → MetSome rs clock → Closes good stm.config (descs_of rs) ws closed
+  pub full : (us rs : List (Worker K)) (ws : List ℕ) (closed : Ended) (clock : ℕ) → RanSome AreFirst w closed → StartPaid w.header.alg 0 us → ArePaidFor stm us rs → Each (Stood good w stm sized) 0 rs → All (λ (r : Worker K). r.phase ≡ Between) rs → length rs ≡ stm.config.callers → MetSome rs clock → Closes good stm.config (descs_of rs) ws closed
       → IsFull w clock closed
-  full us rs ws closed clock starts paid stood between len is c =
+  full us rs ws closed clock ran starts paid stood between len is c =
       let met = met-first 0 rs closed clock stood c.told is in
       let low = met.low in
       let high = met.high in
@@ -200,10 +200,10 @@ module _ {K : Type 0} (good : List ℕ → Type 0) (w : Workload) (stm : Stm K) 
       let rises = rises-most us rs starts paid stood between in
       let made = made-total 0 rs closed stood between c.told in
       let all = all-made good w stm items sized (λ (e : Entry). 1) rs ws closed len c ∙ ones closed.history in
-      record { opening = c.opening ∙ opening; found = omega arith; limit = omega arith; history = history-of good w stm.config sized (descs_of rs) ws closed c; left = omega arith; bound = omega arith }
+      record { opening = c.opening ∙ opening; found = omega arith; limit = omega arith; history = history-of good w stm.config sized (descs_of rs) ws closed c; ran = ran; left = omega arith; bound = omega arith }
 
   -- the clock that was found is at its limit, and at most the last
-  found-within : (n : ℕ) (vs ws : List (Worker K)) (closed : Ended) (clock : ℕ) → AreMadeIdle stm vs ws → AllTold closed n (descs_of ws) → FoundFull vs clock → (2 ^ 62 ≤ clock) × (clock ≤ closed.clock)
+  found-within : (n : ℕ) (vs ws : List (Worker K)) (closed : Ended) (clock : ℕ) → AreMadeIdle good stm vs ws → AllTold closed n (descs_of ws) → FoundFull vs clock → (2 ^ 62 ≤ clock) × (clock ≤ closed.clock)
   found-within n [] ws closed clock e t f = absurd f
   found-within n (v ∷ vs) [] closed clock e t f = absurd e
   found-within n (v ∷ vs) (x ∷ ws) closed clock e t (inl f) =
@@ -214,15 +214,15 @@ module _ {K : Type 0} (good : List ℕ → Type 0) (w : Workload) (stm : Stm K) 
 
   -- a call of one found the clock full, whatever the others have open
   pub cut : (begun ran : List (Worker K)) (gos : List Go) (lines : List Line) (clock : ℕ) (closed : Ended) → gos ≡ w.schedule → Begun good w stm items sized begun → Drives stm.config gos begun ran lines (Err (ClockFull clock))
-      → CutShort good stm ran closed → IsCut w lines clock closed
-  cut begun ran gos lines clock closed is b drives c =
+      → CutShort good stm ran closed → RanSome ArePart w closed → IsCut w lines clock closed
+  cut begun ran gos lines clock closed is b drives c some =
       let found = found-within 0 ran c.after closed clock c.idle c.closes.told drives.2 in
       let low = found.0 in
       let high = found.1 in
       let limit : closed.clock ≤ 2 ^ 62 = c.closes.limit in
       let opening : stm.config.clock ≡ w.header.clock = ap (λ (x : Config). x.clock) sized in
       let risen = c.closes.clock in
-      let rises = idle-rises stm ran c.after c.idle in
+      let rises = idle-rises good stm ran c.after c.idle in
       let paid = drives.1 in
       let none = b.owes in
       let part = drives.0 w.header (sizes-of stm.config w.header sized) in
@@ -233,5 +233,6 @@ module _ {K : Type 0} (good : List ℕ → Type 0) (w : Workload) (stm : Stm K) 
         found = omega (arith, low, high, limit);
         limit = omega (arith, low, high, limit);
         history = history-of good w stm.config sized (descs_of c.after) c.words closed c.closes;
+        ran = some;
         bound = omega (arith, low, high, limit, opening, risen, rises, paid, none);
       }

@@ -1,7 +1,6 @@
 -- The callers of a memory that caller 0 has installed an algorithm in.
 use Rattle.std.proofs.Common.{ℕ, suc, ◌≡◌, ◌<◌, ◌≤◌, List, [], ◌∷◌, length, get_or, set, refl, sym, ap, ◌∙◌, subst, arith}
 use Rattle.stm_rule.specs.declared.stm.Stm.{Stm}
-use Rattle.stm_model.specs.declared.config.Config.{Config}
 use Rattle.rule_base.specs.Opening.{first_view}
 use Rattle.stm_model.specs.declared.alg.Alg.{Alg}
 use Rattle.stm_rule.specs.Callers.{Handle, IsSameCaller, AllOpened, idle_own}
@@ -11,14 +10,6 @@ use Rattle.stm_worker.specs.Workers.{HasLengths}
 use Rattle.stm_model.specs.Algorithms.{install_rise}
 use Rattle.stm_model.specs.declared.alg.Alg.TheVariants.{Cgl, Tml, OrecLazy, OrecEager, RingSw, Serial}
 use Rattle.stm_driver.specs.Openings.{IsNew, AllNew, SameLengths}
-
-pub install-low : (alg : Alg) → install_rise alg ≤ 1
-install-low Cgl = omega arith
-install-low Tml = omega arith
-install-low OrecLazy = omega arith
-install-low OrecEager = omega arith
-install-low RingSw = omega arith
-install-low Serial = omega arith
 
 module _ {K : Type 0} (stm : Stm K) (alg : Alg) where
   -- a caller that has taken no step

@@ -64,7 +64,7 @@ before-trans r x y (inl a) (inr b) = let e = b.0 in inl (omega arith)
 before-trans r x y (inr a) (inl b) = let e = a.0 in inl (omega arith)
 before-trans r x y (inr a) (inr b) = let e = a.0 in let f = b.0 in inr (omega arith, tail-trans r.caller x.caller y.caller r.seq x.seq y.seq a.1 b.1)
 
-after-head : (r x : Row) (xs : List Row) → IsBefore r x → AllAfter x xs → AllAfter r xs
+pub after-head : (r x : Row) (xs : List Row) → IsBefore r x → AllAfter x xs → AllAfter r xs
 after-head r x [] b h = tt
 after-head r x (y ∷ ys) b h = (before-trans r x y b h.0, after-head r x ys b h.1)
 

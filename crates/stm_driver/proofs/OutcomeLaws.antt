@@ -19,6 +19,7 @@ use Rattle.stm_trace.specs.Fits.{all_told, first_places}
 use Rattle.stm_trace.specs.Fits as fits
 use Rattle.stm_trace.specs.Turns.{IsOver}
 use Rattle.stm_worker.specs.declared.worker.Worker.{Worker}
+use Rattle.stm_worker.specs.Leavings.{IsPart}
 use Rattle.stm_worker.specs.Workers.{place_of, Sound}
 use Rattle.stm_driver.specs.declared.outcome.Outcome.{Outcome}
 use Rattle.stm_driver.specs.declared.outcome.Outcome.TheVariants.{ToEnd, ToLimit, OutOfMemory}
@@ -26,16 +27,17 @@ use Rattle.stm_driver.specs.declared.schedule.Halt.{Halt}
 use Rattle.stm_driver.specs.declared.schedule.Halt.TheVariants.{ClockFull, Memory}
 use Rattle.stm_driver.specs.declared.workers.Runner.{Runner}
 use Rattle.stm_driver.specs.AllWorkers.{worker_in, workers_in, AreCallers, descs_of, rows_of, first_full, how_of, ArePaidFor, IsReady, IsThrough, Finished}
-use Rattle.stm_driver.specs.ClosedRuns.{Reported, Came}
+use Rattle.stm_driver.specs.ClosedRuns.{Reported, CutShort, Came}
 use Rattle.stm_script.specs.Workloads.{config_of}
 use Rattle.stm_script.specs.declared.workload.Item.{Item}
 use Rattle.stm_driver.specs.Partings.{parted}
 use Rattle.stm_driver.specs.Preparings.{WorkloadKeeps, IsPrepared}
-use Rattle.stm_driver.specs.Runs.{IsTraced, HasRun, HasStepped}
+use Rattle.stm_driver.specs.Runs.{AreFirst, ArePart, IsTraced, HasRun, HasStepped, RanSome}
 use Rattle.stm_driver.specs.Schedules.{places, AreSame, AreSound, Drives}
-use Rattle.stm_driver.proofs.IdleLaws.{idle-still}
+use Rattle.stm_driver.proofs.IdleLaws.{idle-length, idle-still}
 use Rattle.stm_driver.proofs.LimitLaws.{MetSome, full, cut, history-of}
 use Rattle.stm_driver.proofs.PartingLaws.{all-cons, written}
+use Rattle.stm_driver.proofs.PartLaws.{ran-some}
 use Rattle.stm_driver.proofs.PreparedLaws.{AreOwn, Begun, begun, own-callers, own-same, sizes-of}
 use Rattle.stm_driver.proofs.ReportLaws.{shown}
 use Rattle.stm_driver.proofs.ScheduleLaws.{same-length}
@@ -160,6 +162,18 @@ module _ {K : Type 0} (good : List ℕ → Type 0) (w : Workload) (stm : Stm K) 
       all-cons (IsReady good stm) r rs (record { sound = All-head (Sound good stm) (worker_in r) (workers_in rs) s }) (all-ready rs (All-tail (Sound good stm) (worker_in r) (workers_in rs) s))
 
   module _ (theorem : ReportReplays good) where
+    -- what was done: with nothing open the first items of each caller
+    ran-first : (ran : List (Worker K)) (closed : Ended) → Turned ran → All (λ (w : Worker K). w.phase ≡ Between) ran → CutShort good stm ran closed → RanSome AreFirst w closed
+    ran-first ran closed t between c =
+        ran-some good w stm items sized theorem AreFirst (λ (w : Worker K). w.phase ≡ Between) (λ n v x s h p. (v.items_left.now, sym s.own.all ∙ h.did.calm p))
+        ran c.after c.words closed (stands ran t) between c.idle (idle-length good stm ran c.after c.idle ∙ t.count) c.closes
+
+    -- and else a part of them
+    ran-part : (ran : List (Worker K)) (closed : Ended) → Turned ran → CutShort good stm ran closed → RanSome ArePart w closed
+    ran-part ran closed t c =
+        ran-some good w stm items sized theorem ArePart (λ (w : Worker K). Unit {0}) (λ n v x s h p. (v.items_left.now, subst (λ l. IsPart l v.items_left.now h.did.items) s.own.all h.did.part))
+        ran c.after c.words closed (stands ran t) (λ i d lt. tt) c.idle (idle-length good stm ran c.after c.idle ∙ t.count) c.closes
+
     -- what `run` came to
     pub has-run : (lent ran : List (CachePadded (Runner K))) (how : Result (Unit {0}) Halt) (outcome : Outcome) → Begun good w stm items sized (workers_in lent) → RanAll lent ran → Turned (workers_in ran) → how ≡ how_of (first_full ran) → Came good stm (workers_in ran) how outcome → HasRun w outcome
     has-run lent ran how outcome b r t is came = by (first_full ran) refl outcome (subst (λ h. Came good stm (workers_in ran) h outcome) is came)
@@ -170,8 +184,8 @@ module _ {K : Type 0} (good : List ℕ → Type 0) (w : Workload) (stm : Stm K) 
         by None e (OutOfMemory closed) c = absurd c
         by (Some found) e (ToEnd report closed) c = absurd c
         by (Some found) e (ToLimit clock closed) c =
-            let after = idle-still stm (workers_in ran) c.1.after r.between c.1.idle in
-            full good w stm items sized (workers_in lent) (workers_in ran) c.1.words closed clock b.paid r.paid (stands (workers_in ran) t) r.between t.count (met-some ran clock r.through (e ∙ ap Some (sym c.0)))
+            let after = idle-still good stm (workers_in ran) c.1.after r.between c.1.idle in
+            full good w stm items sized (workers_in lent) (workers_in ran) c.1.words closed clock (ran-first (workers_in ran) closed t r.between c.1) b.paid r.paid (stands (workers_in ran) t) r.between t.count (met-some ran clock r.through (e ∙ ap Some (sym c.0)))
             (subst (λ ws. Closes good stm.config (descs_of ws) c.1.words closed) after c.1.closes)
         by (Some found) e (OutOfMemory closed) c = absurd c
 
@@ -193,11 +207,11 @@ module _ {K : Type 0} (good : List ℕ → Type 0) (w : Workload) (stm : Stm K) 
     has-stepped begun ran gos lines (Ok x) (OutOfMemory closed) is b t d c = absurd c
     has-stepped begun ran gos lines (Err (ClockFull found)) (ToEnd report closed) is b t d c = absurd c
     has-stepped begun ran gos lines (Err (ClockFull found)) (ToLimit clock closed) is b t d c =
-        cut good w stm items sized begun ran gos lines clock closed is b (subst (λ k. Drives stm.config gos begun ran lines (Err (ClockFull k))) (sym c.0) d) c.1
+        cut good w stm items sized begun ran gos lines clock closed is b (subst (λ k. Drives stm.config gos begun ran lines (Err (ClockFull k))) (sym c.0) d) c.1 (ran-part ran closed t c.1)
     has-stepped begun ran gos lines (Err (ClockFull found)) (OutOfMemory closed) is b t d c = absurd c
     has-stepped begun ran gos lines (Err Memory) (ToEnd report closed) is b t d c = absurd c
     has-stepped begun ran gos lines (Err Memory) (ToLimit clock closed) is b t d c = absurd c
-    has-stepped begun ran gos lines (Err Memory) (OutOfMemory closed) is b t d c = record { opening = c.closes.opening ∙ ap (λ (x : Config). x.clock) sized; history = history-of good w stm.config sized (descs_of c.after) c.words closed c.closes }
+    has-stepped begun ran gos lines (Err Memory) (OutOfMemory closed) is b t d c = record { opening = c.closes.opening ∙ ap (λ (x : Config). x.clock) sized; history = history-of good w stm.config sized (descs_of c.after) c.words closed c.closes; ran = ran-part ran closed t c }
 
 pub driven-between : {K : Type 0} (config : Config) (gos : List Go) (begun ran : List (Worker K)) (lines : List Line) (how : Result (Unit {0}) Halt) → Drives config gos begun ran lines how → OnOk how (All (λ (w : Worker K). w.phase ≡ Between) ran)
 driven-between config gos begun ran lines (Ok x) d = over-between ran d.1

@@ -145,7 +145,7 @@ module _ {K : Type 0} where
 
 module _ (w : Workload) where
   -- what a caller is to install
-  all-installs : (n : ℕ) → first_installs w.header.alg n ++ switches_of (items_of n w.items) ≡ installs_for w n
+  pub all-installs : (n : ℕ) → first_installs w.header.alg n ++ switches_of (items_of n w.items) ≡ installs_for w n
   all-installs zero = refl
   all-installs (suc n) = refl
 

@@ -39,7 +39,7 @@ drop-none zero (x ∷ xs) h = absurd cc
 drop-none (suc n) (x ∷ xs) h = let r = drop-none n xs h in omega arith
 
 -- the rows of a caller, whose scripts another list has too
-reworked : (good : List ℕ → Type 0) (opening : List ℕ) (regions : List Region) (all items : List Item) (n : ℕ) (made seen : List Entry) (front : ℕ) (rows : List Row)
+pub reworked : (good : List ℕ → Type 0) (opening : List ℕ) (regions : List Region) (all items : List Item) (n : ℕ) (made seen : List Entry) (front : ℕ) (rows : List Row)
     → scripts_of n all ≡ scripts_of n items → Worked good opening regions (script_of all) n made seen front rows → Worked good opening regions (script_of items) n made seen front rows
 reworked good opening regions all items n made seen front rows same h = record {
   writers = h.writers;

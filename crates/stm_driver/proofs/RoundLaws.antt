@@ -16,6 +16,7 @@ use Rattle.stm_model.specs.declared.stop.Stop.TheVariants as stops
 use Rattle.stm_script.specs.declared.op.Op.TheVariants.{Irrev}
 use Rattle.tx_answers.specs.Known.{owed}
 use Rattle.stm_model.specs.Algorithms.{is_sure}
+use Rattle.stm_model.specs.AlgorithmLaws.{granted-sure, sure-wrote}
 use Rattle.stm_tx.specs.Descs.{known}
 use Rattle.stm_trace.specs.declared.line.Line.{Line}
 use Rattle.stm_trace.specs.declared.line.Line.TheVariants.{Of, Finish}
@@ -77,24 +78,6 @@ module _ {K : Type 0} (config : Config) (may : Place → Said → Type 0) (holds
     again-halts halt q =
         (k + 1, plays-early config may us ws a c (replicate k n ++ n ∷ []) [] (replicate (k + 1) n) halt (append-nil (replicate k n ++ n ∷ []) ∙ replicate-next k n) (plays-halt config may us vs ws a b c (replicate k n) (n ∷ []) p halt q))
 
-sure-or : (alg : Alg) (granted w b : Bool) → is_sure alg granted w ≡ true → is_sure alg granted (w || b) ≡ true
-sure-or alg granted true b h = h
-sure-or Cgl granted false b h = refl
-sure-or Tml true false b h = refl
-sure-or Tml false false b h = absurd cc
-sure-or OrecLazy granted false b h = h
-sure-or OrecEager granted false b h = h
-sure-or RingSw granted false b h = h
-sure-or Serial granted false b h = h
-
-granted-sure : (alg : Alg) (w : Bool) → is_sure alg true w ≡ true
-granted-sure Cgl w = refl
-granted-sure Tml w = refl
-granted-sure OrecLazy w = refl
-granted-sure OrecEager w = refl
-granted-sure RingSw w = refl
-granted-sure Serial w = refl
-
 granted-stays : (forced : Bool) (at : Place) → at.phase ≡ Inside → HasOnlySureOpen (granted_at forced at)
 granted-stays true at here = inr (here, granted-sure at.alg at.wrote)
 granted-stays false at here = inr (here, granted-sure at.alg (at.wrote || writes Irrev 1))
@@ -102,12 +85,12 @@ granted-stays false at here = inr (here, granted-sure at.alg (at.wrote || writes
 -- who can't cancel its open attempt still can't, until it ends
 sure-stays : (at : Place) (said : Said) → at.phase ≡ Inside → sure at ≡ true → MaySay at said → HasOnlySureOpen (after at said)
 sure-stays at (TryBegin b) here is m = absurd (let e : Between ≡ Inside = sym m.0 ∙ here in cc)
-sure-stays at (Reply op reply) here is m = inr (here, sure-or at.alg at.granted at.wrote (writes op reply) is)
+sure-stays at (Reply op reply) here is m = inr (here, sure-wrote at.alg at.granted at.wrote (writes op reply) is)
 sure-stays at (Stopped op (stops.Conflict cause)) here is m = inl refl
 sure-stays at (Stopped op (stops.Full limit)) here is m = inl refl
 sure-stays at (Stopped op (stops.ClockFull clock)) here is m = inl refl
 sure-stays at (TryCancel (cancels.Cancelled time)) here is m = inl refl
-sure-stays at (TryCancel cancels.Irrevocable) here is m = inr (here, sure-or at.alg at.granted at.wrote false is)
+sure-stays at (TryCancel cancels.Irrevocable) here is m = inr (here, sure-wrote at.alg at.granted at.wrote false is)
 sure-stays at (TryIrrevocable irrevs.Granted) here is m = granted-stays (is_forced at) at here
 sure-stays at (TryIrrevocable (irrevs.Busy caller status)) here is m = inr (here, is)
 sure-stays at (TryIrrevocable (irrevs.Taken gate)) here is m = inl refl

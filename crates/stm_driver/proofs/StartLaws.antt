@@ -1,7 +1,6 @@
 -- A worker that has done nothing.
 use Rattle.std.proofs.Common.{ℕ, ◌≡◌, List, [], length, drop, refl, sym, ap, ◌∙◌, arith, subst}
 use Rattle.stm_rule.specs.declared.stm.Stm.{Stm}
-use Rattle.stm_model.specs.declared.config.Config.{Config}
 use Rattle.stm_model.specs.declared.alg.Alg.{Alg}
 use Rattle.stm_script.specs.declared.report.Row.{Row}
 use Rattle.stm_script.specs.declared.workload.Item.{Item}
@@ -11,10 +10,10 @@ use Rattle.stm_rule.specs.Callers.{Handle, IsOf}
 use Rattle.tx_answers.specs.Known.{Known, IsIdle, caller_of}
 use Rattle.stm_tx.specs.Descs.{known}
 use Rattle.stm_trace.specs.declared.said.Phase.TheVariants.{Between}
-use Rattle.stm_trace.specs.Places.{Place, most_failed}
+use Rattle.stm_trace.specs.Places.{Place}
 use Rattle.stm_worker.specs.declared.worker.Worker.{Worker}
 use Rattle.stm_driver.specs.Openings.{IsNew}
-use Rattle.stm_worker.specs.Workers.{IsAt, WhenInside, ToSwitch, ItemsFit, DidSwitches, HasLengths, IsCounted, IsUnderWay, Works, Stands, Starts, Sound}
+use Rattle.stm_worker.specs.Workers.{IsAt, WhenInside, ToSwitch, ItemsFit, DidSwitches, HasLengths, IsUnderWay, Works, Stands, Starts, Sound}
 
 module _ {K : Type 0} (good : List ℕ → Type 0) (stm : Stm K) where
   -- a caller that has made nothing has done nothing
@@ -48,6 +47,7 @@ module _ {K : Type 0} (good : List ℕ → Type 0) (stm : Stm K) where
         at = subst (λ p. IsAt good stm.config (caller_of u.desc.who.role) p (known u.desc)) (sym phase) (subst IsIdle (sym knows) new.idle);
         lengths = subst (HasLengths stm.config) (sym knows) long;
         stands = subst (Stands good stm.config.words u.regions u.all.now (caller_of u.desc.who.role) (known u.desc) u.rows.items) (sym phase) stands;
+        done = ([], sym whole);
         todo = ap (scripts_of (caller_of u.desc.who.role)) whole ∙ ap (λ (rows : List Row). drop (length rows) (scripts_of (caller_of u.desc.who.role) u.all.now)) (sym none);
         within = omega arith;
         counted = λ off. omega (arith, failed);

@@ -1,5 +1,5 @@
 -- A turn that finds the clock at its limit.
-use Rattle.std.proofs.Common.{ℕ, ◌≡◌, ◌<◌, ◌≤◌, ◌+◌, ◌*◌, ◌^◌, Bool, false, List, [], ◌∷◌, length, arith, refl, sym, ap, ◌∙◌, subst, inl, inr}
+use Rattle.std.proofs.Common.{ℕ, ◌≡◌, ◌<◌, ◌≤◌, ◌+◌, ◌^◌, false, List, [], ◌∷◌, length, arith, sym, ap, ◌∙◌, subst, inl, inr}
 use Rattle.std.specs.Prelude.{Option, Some, None, MatchOption}
 use Rattle.stm_script.specs.declared.workload.Item.{Item}
 use Rattle.stm_model.specs.declared.stop.Stop.TheVariants as stops
@@ -16,7 +16,7 @@ use Rattle.stm_trace.specs.Places.{Place, after, clock_of}
 use Rattle.stm_trace.specs.Turns.{BeforeTx, MaySay}
 use Rattle.stm_worker.specs.declared.worker.Worker.{Worker}
 use Rattle.stm_worker.specs.Workers.{IsUnderWay, Loaded, Sound, Turned, WhenInside, place_of}
-use Rattle.stm_worker.specs.Payments.{CountsNext, PaysBut, raised, unpaid_at, unpaid_by}
+use Rattle.stm_worker.specs.Payments.{CountsNext, PaysBut, unpaid_at, unpaid_by}
 use Rattle.stm_worker.specs.PaymentLaws.{alone-pays-but, none-failed, pays-all, pays-left, same-unpaid, turned-counts, turned-pays-but}
 use Rattle.stm_driver.specs.AllWorkers.{Enough, IsPaid, MetLimit}
 use Rattle.stm_driver.proofs.ScheduleLaws.{full-between}

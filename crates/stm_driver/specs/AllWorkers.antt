@@ -4,7 +4,6 @@ use Rattle.std.specs.Option.{option_or}
 use Rattle.stm_rule.specs.declared.stm.Stm.{Stm}
 use Rattle.crossbeam_utils.specs.declared.cache_padded.CachePadded.{CachePadded}
 use Rattle.crossbeam_utils.specs.Padded.{padded_value}
-use Rattle.stm_model.specs.declared.config.Config.{Config}
 use Rattle.rule_base.specs.declared.seats.Role.TheVariants.{Caller}
 use Rattle.stm_model.specs.declared.alg.Alg.{Alg}
 use Rattle.stm_script.specs.declared.report.Row.{Row}
@@ -55,7 +54,7 @@ module _ {K : Type 0} where
   first_full [] = None
   first_full (r ∷ rs) = option_or (padded_value r).full (first_full rs)
 
-  -- a transaction was to begin, and found this clock, which is at its limit
+  -- a transaction is still to be done, and a call of its caller found this clock, which is at its limit
   abbrev pub MetLimit : Worker K → ℕ → Type 0
   MetLimit w clock = (2 ^ 62 ≤ clock) × Loaded (known w.desc) clock × BeforeTx w.items_left.now
 
@@ -90,11 +89,11 @@ module _ {K : Type 0} where
       pub through : IsThrough (worker_in s) (padded_value s).full
       pub paid : IsPaid stm (worker_in r) (worker_in s)
 
-  module _ (stm : Stm K) where
+  module _ (good : List ℕ → Type 0) (stm : Stm K) where
     -- each ended without a row
     abbrev pub AreMadeIdle : List (Worker K) → List (Worker K) → Type 0
     AreMadeIdle [] [] = Unit {0}
-    AreMadeIdle (v ∷ vs) (w ∷ ws) = MadeIdle stm v w × AreMadeIdle vs ws
+    AreMadeIdle (v ∷ vs) (w ∷ ws) = MadeIdle good stm v w × AreMadeIdle vs ws
     AreMadeIdle (v ∷ vs) [] = ⊥
     AreMadeIdle [] (w ∷ ws) = ⊥
 

@@ -29,7 +29,7 @@ module _ {K : Type 0} (good : List ℕ → Type 0) (stm : Stm K) where
   pub record CutShort (ws : List (Worker K)) (closed : Ended) : Type 0 where
     pub words : List ℕ
     pub after : List (Worker K)
-    pub idle : AreMadeIdle stm ws after
+    pub idle : AreMadeIdle good stm ws after
     pub closes : Closes good stm.config (descs_of after) words closed
 
   -- what a run came to, by how its turns ended

@@ -1,7 +1,6 @@
 -- What stands before the first turn.
 use Rattle.std.specs.Prelude.{ℕ, ◌≡◌, List, [], length, All, slice_index_or}
 use Rattle.stm_rule.specs.declared.stm.Stm.{Stm}
-use Rattle.stm_model.specs.declared.config.Config.{Config}
 use Rattle.stm_script.specs.declared.workload.Header.{Header}
 use Rattle.stm_script.specs.declared.workload.Item.{Item}
 use Rattle.stm_script.specs.declared.workload.Item.TheVariants.{Tx, Switch}

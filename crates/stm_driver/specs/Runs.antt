@@ -1,5 +1,5 @@
 -- What a run comes to.
-use Rattle.std.specs.Prelude.{ℕ, zero, suc, ◌≡◌, ◌<◌, ◌≤◌, ◌+◌, ◌*◌, ◌^◌, ◌==◌, if◌then◌else◌, List, ◌∷◌, map, length}
+use Rattle.std.specs.Prelude.{ℕ, zero, suc, ◌≡◌, ◌<◌, ◌≤◌, ◌+◌, ◌*◌, ◌^◌, ◌==◌, if◌then◌else◌, List, ◌∷◌, ◌++◌, map, length}
 use Rattle.stm_model.specs.declared.alg.Alg.{Alg}
 use Rattle.stm_model.specs.Histories.{IsLegal}
 use Rattle.stm_model.specs.HistoryLaws.{Within}
@@ -9,6 +9,8 @@ use Rattle.stm_script.specs.Reports.{Replays, Shows, counted, zeros}
 use Rattle.stm_trace.specs.declared.line.Line.{Line}
 use Rattle.stm_trace.specs.Fits.{TraceFits, TraceFitsSoFar}
 use Rattle.stm_trace.specs.Places.{items_of}
+use Rattle.stm_script.specs.declared.workload.Item.{Item}
+use Rattle.stm_worker.specs.Leavings.{IsPart}
 use Rattle.stm_worker.specs.Workers.{switches_of}
 use Rattle.stm_rule.specs.Closings.{Ended}
 use Rattle.stm_driver.specs.declared.outcome.Outcome.{Outcome}
@@ -25,6 +27,22 @@ pub record IsShown (w : Workload) (report : Report) (closed : Ended) : Type 0 wh
   pub shows : Shows closed.history closed.opening closed.clock w report
   pub installs : closed.installs ≡ map (installs_for w) (counted 0 w.header.callers)
 
+-- the first of all items
+abbrev pub AreFirst : List Item → List Item → Type 0
+AreFirst all some = (left : List Item) × (all ≡ some ++ left)
+
+-- the first of all items, and maybe the first operations of the transaction that comes next: those of an attempt that couldn't be cancelled any more
+abbrev pub ArePart : List Item → List Item → Type 0
+ArePart all some = (left : List Item) × IsPart all left some
+
+-- the memory that was closed is that of a run of some of each caller's items to their end: there is a report that replays these and shows its history, and its installs are theirs
+pub record RanSome (some : List Item → List Item → Type 0) (w : Workload) (closed : Ended) : Type 0 where
+  pub part : Workload
+  pub header : part.header ≡ w.header
+  pub each : (n : ℕ) → n < w.header.callers → some (items_of n w.items) (items_of n part.items)
+  pub report : Report
+  pub shown : IsShown part report closed
+
 -- the history of the memory that was closed is legal, over zeros from the header's clock on, and has no entry behind the last clock
 pub record IsHistory (w : Workload) (closed : Ended) : Type 0 where
   pub legal : IsLegal (λ m. Unit {0}) (zeros w.header.words) w.header.clock closed.history
@@ -40,6 +58,7 @@ pub record IsFull (w : Workload) (clock : ℕ) (closed : Ended) : Type 0 where
   pub found : closed.clock ≡ clock
   pub limit : clock ≡ 2 ^ 62
   pub history : IsHistory w closed
+  pub ran : RanSome AreFirst w closed
   pub left : length closed.history < length w.items
   pub bound : 2 ^ 62 ≤ w.header.clock + most_rises w.header.callers * length w.items + 1
 
@@ -55,12 +74,14 @@ pub record IsCut (w : Workload) (lines : List Line) (clock : ℕ) (closed : Ende
   pub found : closed.clock ≡ clock
   pub limit : clock ≡ 2 ^ 62
   pub history : IsHistory w closed
+  pub ran : RanSome ArePart w closed
   pub bound : 2 ^ 62 ≤ w.header.clock + 2 * length lines + 1
 
 -- the memory was closed, with nothing open
 pub record IsStopped (w : Workload) (closed : Ended) : Type 0 where
   pub opening : closed.opening ≡ w.header.clock
   pub history : IsHistory w closed
+  pub ran : RanSome ArePart w closed
 
 abbrev pub HasRun : Workload → Outcome → Type 0
 HasRun w (ToEnd report closed) = IsShown w report closed

@@ -2,30 +2,33 @@
 
 use std::{hint, thread};
 
-/// How often a pause doubles. The longest, of some ten microseconds, lets whoever stands in the way do many calls
-/// before the next try takes the words from its cache.
-const DOUBLINGS: u32 = 10;
+/// The shortest and the longest pause, as powers of two of the processor's own short pause, of some 10 to 50
+/// nanoseconds. Each try of a caller that waits takes the words that it waits for from the cache of the caller that
+/// works, so the longest lets that one make some hundred calls.
+const SHORTEST: u32 = 5;
+
+const LONGEST: u32 = 10;
 
 /// Pauses, each twice as long as the one before up to the longest, behind which other threads have their turn too. A
 /// wait takes no step on the memory.
 #[derive(Clone, Copy, Drop, Debug, PartialEq, Eq)]
 pub struct Backoff {
-    /// How many pauses were made, up to the longest.
-    pauses: u32,
+    /// The next pause, as a power of two.
+    next: u32,
 }
 
 impl Backoff {
     pub fn new() -> Backoff {
-        Backoff { pauses: 0 }
+        Backoff { next: SHORTEST }
     }
 
-    /// Pauses: 1, 2, 4 and at last 1,024 times, and from then on lets another thread run behind each pause.
+    /// Pauses 32, 64 and at last 1,024 times, and from then on lets another thread run behind each pause.
     pub fn wait(&mut self) {
-        for _ in 0..1u32 << self.pauses.min(DOUBLINGS) {
+        for _ in 0..1u32 << self.next.min(LONGEST) {
             hint::spin_loop();
         }
-        if self.pauses < DOUBLINGS {
-            self.pauses += 1;
+        if self.next < LONGEST {
+            self.next += 1;
         } else {
             thread::yield_now();
         }
@@ -33,6 +36,6 @@ impl Backoff {
 
     /// The caller got on: the next pause is the shortest.
     pub fn reset(&mut self) {
-        self.pauses = 0;
+        self.next = SHORTEST;
     }
 }

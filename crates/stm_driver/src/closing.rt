@@ -27,7 +27,7 @@ use stm_worker::leaving::make_idle;
 /// `rows` are empty, with room for all.
 ///
 /// # Errors
-/// Memory, where the words of the memory or of the report find none. All descriptors are idle then.
+/// Memory, where the words of the memory or of the report find none.
 pub fn close_memory<K: MemRule + Drop>(
     alloc: Global,
     stm: Stm<K>,
@@ -65,7 +65,7 @@ pub fn close_memory<K: MemRule + Drop>(
 /// Leaves every descriptor idle.
 fn make_all_idle<K: MemRule>(stm: &Stm<K>, runners: &mut [CachePadded<Runner<K>>])
     requires { AreSound (K.good stm.now.rule) stm.now (workers_in runners.old) }
-    ensures { AreMadeIdle stm.now (workers_in runners.old) (workers_in runners.new) }
+    ensures { AreMadeIdle (K.good stm.now.rule) stm.now (workers_in runners.old) (workers_in runners.new) }
 {
     for runner in runners.iter_mut() {
         idle_one(stm, runner);
@@ -75,7 +75,7 @@ fn make_all_idle<K: MemRule>(stm: &Stm<K>, runners: &mut [CachePadded<Runner<K>>
 /// Leaves one descriptor idle.
 fn idle_one<K: MemRule>(stm: &Stm<K>, runner: &mut CachePadded<Runner<K>>)
     requires { Sound (K.good stm.now.rule) stm.now (worker_in runner.old) }
-    ensures { MadeIdle stm.now (worker_in runner.old) (worker_in runner.new) }
+    ensures { MadeIdle (K.good stm.now.rule) stm.now (worker_in runner.old) (worker_in runner.new) }
 {
     let runner = &mut **runner;
     make_idle(stm, &mut runner.worker);

@@ -55,7 +55,7 @@ fn run_one<R: Wait, K: MemRule, G: Turnstile>(
     runner.full = work(rt, stm, turnstile, &mut runner.worker);
 }
 
-/// Turns until nothing is left, or a begin finds the clock at its limit: then that clock. A call that another
+/// Turns until nothing is left, or a call finds the clock at its limit: then that clock. A call that another
 /// caller stood in the way of is made again after a pause.
 fn work<R: Wait, K: MemRule, G: Turnstile>(
     rt: &R,

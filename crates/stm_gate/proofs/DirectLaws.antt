@@ -2,6 +2,7 @@
 use Rattle.std.proofs.Common.{ℕ, ◌≡◌, ◌<◌, ◌≤◌, ◌+◌, List, [], ◌∷◌, true, false, refl, sym, ap, ◌∙◌, arith, subst}
 use Rattle.std.specs.Prelude.{not}
 use Rattle.stm_model.specs.Algorithms.{closes_gate, entry_rise}
+use Rattle.stm_model.specs.AlgorithmLaws.{entry-some}
 use Rattle.stm_model.specs.declared.alg.Alg.{Alg}
 use Rattle.stm_model.specs.declared.alg.Alg.TheVariants.{Cgl, Tml, OrecLazy, OrecEager, RingSw, Serial}
 use Rattle.stm_model.specs.declared.config.Config.{Config}
@@ -31,14 +32,6 @@ use Rattle.stm_gate.specs.LeavingLaws.{unmade-refl, ended-left, commits-left}
 use Rattle.stm_gate.specs.Logging.{reads-logged, inside-logged, wrote-some}
 use Rattle.stm_gate.specs.Opacity.{opaque-at, opaque-inside}
 use Rattle.stm_gate.specs.Standing.{promoted-of}
-
-rise-some : (a : Alg) → 0 < entry_rise a
-rise-some Cgl = omega arith
-rise-some Tml = omega arith
-rise-some OrecLazy = omega arith
-rise-some OrecEager = omega arith
-rise-some RingSw = omega arith
-rise-some Serial = omega arith
 
 module _ (good : List ℕ → Type 0) (c : Config) (n : ℕ) where
   abbrev pub rule : (ℕ → ℕ) → Type 0
@@ -126,7 +119,7 @@ module _ (good : List ℕ → Type 0) (c : Config) (n : ℕ) where
         carried = record { named = refl; base = refl; installs = refl; trail = (_ ∷ _ ∷ _ ∷ [], refl) };
         history = refl;
         rises = (let r = p.rises in let e : entry_rise v.gate.algorithm ≡ entry_rise alg = ap entry_rise (i.named ∙ named) in omega arith);
-      }) (let m = rise-some alg in let k = i.start in omega arith) (let m = rise-some alg in let k = i.front in omega arith) (p.dirty dirty) (written-here l v o closes granted i))
+      }) (let m = entry-some alg in let k = i.start in omega arith) (let m = entry-some alg in let k = i.front in omega arith) (p.dirty dirty) (written-here l v o closes granted i))
     where
       p : IsPromoted l v
       p = (promoted-of good c n l v i closes granted).2

@@ -2,7 +2,8 @@
 use Rattle.std.proofs.Common.{ℕ, ◌≡◌, ◌+◌, List, [], ◌∷◌, ◌++◌, Bool, true, false, refl, sym, ap, ◌∙◌, arith, subst, append_assoc}
 use Rattle.std.proofs.lemmas.List.{reverse-append}
 use Rattle.std.specs.Prelude.{◌%◌, None}
-use Rattle.stm_model.specs.Algorithms.{install_rise}
+use Rattle.stm_model.specs.Algorithms.{begins_even, install_rise}
+use Rattle.stm_model.specs.AlgorithmLaws.{even-rises}
 use Rattle.stm_model.specs.declared.alg.Alg.{Alg}
 use Rattle.stm_model.specs.declared.alg.Alg.TheVariants.{Cgl, Tml, OrecLazy, OrecEager, RingSw, Serial}
 use Rattle.stm_model.specs.declared.config.Config.{Config}
@@ -17,21 +18,13 @@ use Rattle.rule_base.specs.StepKinds.{Nothing, Tells, view_after}
 use Rattle.rule_base.specs.declared.views.Phase.TheVariants.{Idle, In, Closing}
 use Rattle.stm_model.specs.Algorithms.{is_built}
 use Rattle.stm_rule.specs.declared.local.Local.{Local}
-use Rattle.stm_rule.specs.Attempts.{IsClosing, StandsBy, Stands}
+use Rattle.stm_rule.specs.Attempts.{IsClosing, SameLengths, StandsBy, Stands}
 use Rattle.stm_rule.specs.Findings.{FindsWithin}
 use Rattle.tx_answers.specs.Answers.{HoldsClosed, Installs, SeesQuiet}
 use Rattle.tx_answers.specs.Known.{known_of}
 use Rattle.tx_answers.specs.KnownLaws.{grows-same}
 use Rattle.stm_gate.specs.InnerLaws.{ungranted-of}
-use Rattle.stm_gate.specs.Installing.{begins_even, Settles}
-
-rise-of : (alg : Alg) → begins_even alg ≡ true → install_rise alg ≡ 1
-rise-of Cgl e = absurd cc
-rise-of Tml e = refl
-rise-of OrecLazy e = absurd cc
-rise-of OrecEager e = absurd cc
-rise-of RingSw e = absurd cc
-rise-of Serial e = absurd cc
+use Rattle.stm_gate.specs.Installing.{Settles}
 
 pub settles-so : (alg : Alg) (t : ℕ) (v w : View) → (begins_even alg ≡ true → t % 2 ≡ 0) → Tells settle FindsWithin v t w → Settles alg t v w
 settles-so alg t v w even a = record { rises = v.steps.rises; least = omega arith; most = omega arith; entered = v.attempt.entered; more = _ ∷ []; is = a.2; even = even }
@@ -40,7 +33,7 @@ pub settles-even : (alg : Alg) (t : ℕ) (v s w : View) → t % 2 ≡ 1 → begi
 settles-even alg t v s w odd tml a b = record {
   rises = v.steps.rises + 1;
   least = omega arith;
-  most = (let r = rise-of alg tml in omega arith);
+  most = (let r = even-rises alg tml in omega arith);
   entered = true;
   more = _ ∷ _ ∷ [];
   is = b.2 ∙ ap (λ (y : View). view_after (even_clock (t + 1)) b.0 y (t + 1)) a.2;
@@ -106,7 +99,7 @@ closing-flags good c n l v closing s = go l.running l.holds refl refl s.by
     go false true a b k = (a, b)
     go false false a b k = absurd (let e : Idle ≡ Closing = sym k.phase ∙ closing in cc)
 
-pub stands-closing : (good : List ℕ → Type 0) (c : Config) (n : ℕ) (l : Local) (v : View) (running holds : Bool) → (running ≡ false) × (holds ≡ true) → IsClosing c.callers n (record l { running = running; holds = holds }) v → Stands good c n (record l { running = running; holds = holds }) v
-stands-closing good c n l v true holds flags k = absurd (let e : true ≡ false = flags.0 in cc)
-stands-closing good c n l v false false flags k = absurd (let e : false ≡ true = flags.1 in cc)
-stands-closing good c n l v false true flags k = record { holds = sym k.holds; by = k }
+pub stands-closing : (good : List ℕ → Type 0) (c : Config) (n : ℕ) (l : Local) (v : View) (running holds : Bool) → (running ≡ false) × (holds ≡ true) → SameLengths l → IsClosing c.callers n (record l { running = running; holds = holds }) v → Stands good c n (record l { running = running; holds = holds }) v
+stands-closing good c n l v true holds flags lengths k = absurd (let e : true ≡ false = flags.0 in cc)
+stands-closing good c n l v false false flags lengths k = absurd (let e : false ≡ true = flags.1 in cc)
+stands-closing good c n l v false true flags lengths k = record { holds = sym k.holds; lengths = lengths; by = k }

@@ -1,19 +1,9 @@
 -- How the clock is found and left before an install.
 use Rattle.std.specs.Prelude.{ℕ, ◌≡◌, ◌≤◌, ◌+◌, ◌%◌, ◌++◌, Bool, true, false, List}
-use Rattle.stm_model.specs.Algorithms.{install_rise}
+use Rattle.stm_model.specs.Algorithms.{begins_even, install_rise}
 use Rattle.stm_model.specs.declared.alg.Alg.{Alg}
-use Rattle.stm_model.specs.declared.alg.Alg.TheVariants.{Cgl, Tml, OrecLazy, OrecEager, RingSw, Serial}
 use Rattle.rule_base.specs.declared.views.TrailItem.{TrailItem}
 use Rattle.rule_base.specs.declared.views.View.{View}
-
--- the algorithm begins at an even clock alone
-abbrev pub begins_even : Alg → Bool
-begins_even Cgl = false
-begins_even Tml = true
-begins_even OrecLazy = false
-begins_even OrecEager = false
-begins_even RingSw = false
-begins_even Serial = false
 
 -- the clock is t, at which the algorithm may begin; the caller has loaded it, maybe raised it before, and nothing else changed
 pub record Settles (alg : Alg) (t : ℕ) (v w : View) : Type 0 where

@@ -3,6 +3,7 @@ pub mod Looking
 pub mod Leaving
 pub mod Promoting
 pub mod Logging
+pub mod Peeling
 pub mod Opacity
 pub mod LeavingLaws
 pub mod Standing
@@ -10,3 +11,6 @@ pub mod InnerLaws
 pub mod LookingLaws
 pub mod PromotingLaws
 pub mod Installing
+pub mod Told
+pub mod Starts
+pub mod Granting

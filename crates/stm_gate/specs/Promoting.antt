@@ -1,6 +1,6 @@
 -- What a try of an attempt to be alone comes to.
 use Rattle.std.specs.Prelude.{ℕ, ◌≡◌, ◌<◌, ◌++◌, Option, Some, None, true, List}
-use Rattle.rule_base.specs.declared.layout.At.TheVariants.{Gate}
+use Rattle.rule_base.specs.declared.layout.At.TheVariants.{Gate, Record}
 use Rattle.rule_base.specs.declared.views.GateView.{GateView}
 use Rattle.rule_base.specs.declared.views.TrailItem.{TrailItem}
 use Rattle.rule_base.specs.declared.views.View.{View}
@@ -11,7 +11,7 @@ use Rattle.stm_gate.specs.declared.promote.Promotion.{Promotion}
 use Rattle.stm_gate.specs.declared.promote.Promotion.TheVariants as promotes
 use Rattle.tx_answers.specs.Answers.{Waits, SeesQuiet, IsBusy}
 use Rattle.tx_answers.specs.Causes.{NamesOther}
-use Rattle.tx_answers.specs.Evidence.{Found}
+use Rattle.tx_answers.specs.Evidence.{Found, Untouched}
 use Rattle.tx_answers.specs.Known.{Known, known_of}
 
 -- the attempt holds the gate; nothing changed but what it knows of it, and the trail
@@ -23,6 +23,12 @@ pub record TakesGate (v w : View) : Type 0 where
   pub phase : gate.phase ≡ v.gate.phase
   pub algorithm : gate.algorithm ≡ v.gate.algorithm
   pub granted : gate.granted ≡ v.gate.granted
+  -- no step was on a record
+  pub spares : (r : ℕ) → Untouched (Record r) more
+
+-- between the two no own step was on a record
+abbrev pub SparesRecords : Known → Known → Type 0
+SparesRecords v w = (more : List TrailItem) × (w.trail ≡ more ++ v.trail) × ((r : ℕ) → Untouched (Record r) more)
 
 module _ (c : Config) (n : ℕ) where
   -- the attempt holds the gate; or another caller does, and nothing changed but the trail
@@ -35,6 +41,6 @@ module _ (c : Config) (n : ℕ) where
   -- what `promote` tells
   module _ (good : List ℕ → Type 0) where
     abbrev pub Promotes : Promotion → Known → Known → Type 0
-    Promotes promotes.Alone v w = Waits good c n v w × (w.holds ≡ true) × SeesQuiet good c n w
+    Promotes promotes.Alone v w = Waits good c n v w × (w.holds ≡ true) × SeesQuiet good c n w × SparesRecords v w
     Promotes (promotes.Busy caller status) v w = Waits good c n v w × (w.holds ≡ true) × IsBusy good c n caller status v w
     Promotes (promotes.Taken gate) v w = Waits good c n v w × (w.holds ≡ v.holds) × (w.checked ≡ v.checked) × Found Gate gate v w × NamesOther c n (holder_of gate) × (1 < c.callers)

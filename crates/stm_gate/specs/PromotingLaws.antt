@@ -7,7 +7,7 @@ use Rattle.stm_model.specs.declared.alg.Alg.{Alg}
 use Rattle.stm_model.specs.declared.alg.Alg.TheVariants.{Cgl, Tml, OrecLazy, OrecEager, RingSw, Serial}
 use Rattle.stm_model.specs.declared.config.Config.{Config}
 use Rattle.stm_model.specs.Memories.{is_empty}
-use Rattle.rule_base.specs.declared.layout.At.TheVariants.{Gate}
+use Rattle.rule_base.specs.declared.layout.At.TheVariants.{Gate, Status, Record}
 use Rattle.rule_base.specs.declared.views.Act.TheVariants.{Load, Exchange}
 use Rattle.rule_base.specs.declared.views.GateView.{GateView}
 use Rattle.rule_base.specs.declared.views.Phase.TheVariants.{Idle, In, Closing}
@@ -20,11 +20,13 @@ use Rattle.rule_base.specs.Own.{Own}
 use Rattle.rule_base.specs.StepKinds.{Tells, view_after}
 use Rattle.stm_rule.specs.declared.local.Local.{Local}
 use Rattle.stm_rule.specs.Attempts.{Keeps, IsInside, IsTml, StandsBy, Stands}
+use Rattle.stm_rule.specs.RecordsKept.{IsOptimistic}
 use Rattle.stm_rule.specs.Callers.{idle_own}
 use Rattle.stm_rule.specs.StandLemmas.{inside-of}
 use Rattle.stm_rule.specs.Findings.{FindsGate, FindsTaken}
 use Rattle.tx_answers.specs.declared.answers.Look.TheVariants as looks
-use Rattle.tx_answers.specs.Answers.{Waits, IsOpaque}
+use Rattle.tx_answers.specs.Answers.{Waits, IsOpaque, OfUnseen}
+use Rattle.tx_answers.specs.Evidence.{Untouched}
 use Rattle.tx_answers.specs.Known.{known_of, granted_under, written_under, is_irrevocable, is_in, is_closing}
 use Rattle.tx_answers.specs.KnownLaws.{grows-same}
 use Rattle.stm_gate.specs.InnerLaws.{granted-same}
@@ -36,7 +38,11 @@ use Rattle.stm_gate.specs.declared.promote.Promotion.TheVariants as promotes
 use Rattle.stm_gate.specs.Standing.{tml-of}
 
 pub takes-refl : (v : View) → v.gate.holds ≡ true → TakesGate v v
-takes-refl v h = record { gate = v.gate; more = []; is = refl; holds = h; phase = refl; algorithm = refl; granted = refl }
+takes-refl v h = record { gate = v.gate; more = []; is = refl; holds = h; phase = refl; algorithm = refl; granted = refl; spares = λ r. tt }
+
+untouched-looks : (r : ℕ) (seen : List ℕ) (is js : List TrailItem) → OfUnseen seen is → Untouched (Record r) js → Untouched (Record r) (is ++ js)
+untouched-looks r seen [] js h u = u
+untouched-looks r seen (i ∷ is) js h u = ((λ e. absurd (let f : Record r ≡ Status h.0.0 = sym e ∙ h.0.1 in cc)), untouched-looks r seen is js h.1 u)
 
 pub takes-looked : (u v w : View) → TakesGate u v → LooksOn v w → TakesGate u w
 takes-looked u v w a b = record {
@@ -47,6 +53,7 @@ takes-looked u v w a b = record {
   phase = a.phase;
   algorithm = a.algorithm;
   granted = a.granted;
+  spares = λ r. untouched-looks r v.gate.checked b.more a.more b.unseen (a.spares r);
 }
 
 -- what was written doesn't depend on the gate and the trail
@@ -99,7 +106,7 @@ module _ (c : Config) (n : ℕ) where
   seizes-won alg gate found v s w same t k = let here : (found == gate_word 0 alg) ≡ true = grind (arith, nat_tests) in seize_path alg gate found v s w true here t k
 
   pub takes-won : (alg : Alg) (gate found : ℕ) (v s w : View) → found ≡ gate_word 0 alg → Tells look_gate (FindsGate c n) v gate s → Tells (seize n alg) (FindsTaken c n (gate_word 0 alg)) s found w → ClosesFor c n None v w
-  takes-won alg gate found v s w same t k = record { gate = seized v.gate; more = items_of gate found alg; is = seizes-won alg gate found v s w same t k; holds = refl; phase = refl; algorithm = refl; granted = refl }
+  takes-won alg gate found v s w same t k = record { gate = seized v.gate; more = items_of gate found alg; is = seizes-won alg gate found v s w same t k; holds = refl; phase = refl; algorithm = refl; granted = refl; spares = λ r. ((λ e. absurd cc), ((λ e. refl), tt)) }
 
   module _ (good : List ℕ → Type 0) where
     -- the attempt goes on as it was, but for the gate
@@ -138,7 +145,7 @@ module _ (c : Config) (n : ℕ) where
     pub promotes-alone : (u v w : View) (o p : Own) → p ≡ o → u.gate.phase ≡ In → o.committing ≡ false → closes_gate u.gate.algorithm ≡ true → is_irrevocable (known_of u o) ≡ false → IsOpaque good c n (known_of u o)
         → ClosesFor c n None u v → LooksUntil c n good looks.Quiet v w → Promotes c n good promotes.Alone (known_of u o) (known_of w p)
     promotes-alone u v w o p own inside quiet closes revocable q a b = subst (λ (r : Own). Promotes c n good promotes.Alone (known_of u o) (known_of w r)) (sym own)
-        (let t = takes-looked u v w a b.0 in (waits-by u w t.gate t.more o t.is t.phase t.algorithm t.granted inside quiet closes revocable q, ap (λ (y : View). y.gate.holds) t.is ∙ t.holds, b.1))
+        (let t = takes-looked u v w a b.0 in (waits-by u w t.gate t.more o t.is t.phase t.algorithm t.granted inside quiet closes revocable q, ap (λ (y : View). y.gate.holds) t.is ∙ t.holds, b.1, (t.more, ap (λ (y : View). y.steps.trail) t.is, t.spares)))
 
     pub promotes-busy : (k status : ℕ) (u v w : View) (o p : Own) → p ≡ o → u.gate.phase ≡ In → o.committing ≡ false → closes_gate u.gate.algorithm ≡ true → is_irrevocable (known_of u o) ≡ false → IsOpaque good c n (known_of u o)
         → ClosesFor c n None u v → LooksUntil c n good (looks.Busy k status) v w → Promotes c n good (promotes.Busy k status) (known_of u o) (known_of w p)
@@ -148,15 +155,6 @@ module _ (c : Config) (n : ℕ) where
           ap (λ (y : View). y.gate.holds) t.is ∙ t.holds,
           record { other = b.1.other; announced = b.1.announced; found = found-earlier _ status (known_of u (idle_own c)) (known_of v (idle_own c)) (known_of w (idle_own c)) b.1.found a.more (ap (λ (y : View). y.steps.trail) a.is); before = b.1.before },
         ))
-
-    -- of the algorithms that are built one closes the gate
-    only-tml : (l : Local) (v : View) (a : Alg) (granted : Bool) → closes_gate a ≡ true → Keeps c a granted l v → a ≡ Tml
-    only-tml l v Cgl granted e k = absurd cc
-    only-tml l v Tml granted e k = refl
-    only-tml l v OrecLazy granted e k = absurd k
-    only-tml l v OrecEager granted e k = absurd k
-    only-tml l v RingSw granted e k = absurd k
-    only-tml l v Serial granted e k = absurd cc
 
     or-no : (a b : Bool) → (a || b) ≡ false → (a ≡ false) × (b ≡ false)
     or-no true b e = absurd cc
@@ -179,6 +177,57 @@ module _ (c : Config) (n : ℕ) where
         clean true e = absurd (let k : false ≡ true = sym free.1 ∙ ap not (wrote-some v.attempt.stores (reader.dirty e)) in cc)
         clean false e = refl
 
+    -- an attempt that closes the gate to be granted, and can still be cancelled, was not granted
+    revocable-plain : (a : Alg) (v : View) (o : Own) → closes_gate a ≡ true → is_sure a (granted_under a v.gate v.lock) (not (is_empty (written_under a v.gate.granted v o))) ≡ false → v.gate.granted ≡ false
+    revocable-plain Cgl v o e r = absurd cc
+    revocable-plain Tml v o e r = (or-no v.gate.granted (not (is_empty (items v.attempt.stores))) r).0
+    revocable-plain OrecLazy v o e r = r
+    revocable-plain OrecEager v o e r = r
+    revocable-plain RingSw v o e r = r
+    revocable-plain Serial v o e r = absurd cc
+
+    -- nothing but the gate changes
+    optimistic-gated : (v : View) (g : GateView) (trail : List TrailItem) → g.granted ≡ v.gate.granted → g.calm ≡ false → IsOptimistic v → IsOptimistic (gated v g trail)
+    optimistic-gated v g trail granted calm k = record { unlocked = k.unlocked; unfixed = k.unfixed; unwritten = k.unwritten; uncommitted = k.uncommitted; ungranted = granted ∙ k.ungranted; uncalm = calm; unstored = k.unstored; rises = k.rises }
+
+    keeps-seized : (l : Local) (v : View) (trail : List TrailItem) (a : Alg) → closes_gate a ≡ true → Keeps c a false l v → Keeps c a false (record l { holds = true; next = 0 }) (gated v (seized v.gate) trail)
+    keeps-seized l v trail Cgl e k = absurd cc
+    keeps-seized l v trail Tml e k = record { inside = k.inside; settled = k.settled; unlocked = k.unlocked; uncommitted = k.uncommitted; unfixed = k.unfixed; ungranted = k.ungranted; even = k.even; writer = k.writer; clean = k.clean; dirty = k.dirty; uncalm = refl; rises = k.rises; limit = k.limit; sole = k.sole }
+    keeps-seized l v trail OrecLazy e k = record {
+      optimistic = optimistic-gated v (seized v.gate) trail refl refl k.optimistic;
+      buffers = record { wrote = k.buffers.wrote; once = k.buffers.once; inside = k.buffers.inside; small = k.buffers.small };
+      inside = k.inside;
+      lazy = k.lazy;
+      open_yet = k.open_yet;
+      unraised = k.unraised;
+      unplaced = k.unplaced;
+      undone = k.undone;
+      repaid = k.repaid;
+      unsampled = k.unsampled;
+      unchecked = k.unchecked;
+      reads = k.reads;
+      locks = k.locks;
+      places = k.places;
+      versions = k.versions;
+      open_handed = k.open_handed;
+      locked = k.locked;
+      committing = k.committing;
+      olds = k.olds;
+      sole = k.sole;
+    }
+    keeps-seized l v trail OrecEager e k = absurd k
+    keeps-seized l v trail RingSw e k = record {
+      optimistic = optimistic-gated v (seized v.gate) trail refl refl k.optimistic;
+      buffers = record { wrote = k.buffers.wrote; once = k.buffers.once; inside = k.buffers.inside; small = k.buffers.small };
+      inside = k.inside;
+      settled = k.settled;
+      loaded = k.loaded;
+      stored = k.stored;
+      read = k.read;
+      sole = k.sole;
+    }
+    keeps-seized l v trail Serial e k = absurd cc
+
     running-by : (l : Local) (v : View) (running holds : Bool) → v.gate.phase ≡ In → StandsBy good c n l running holds v → running ≡ true
     running-by l v true holds e s = refl
     running-by l v false true e s = absurd (let k : Closing ≡ In = sym s.phase ∙ e in cc)
@@ -186,7 +235,7 @@ module _ (c : Config) (n : ℕ) where
 
     -- the attempt that closed the gate stands
     pub seized-stands : (l : Local) (v w : View) (o : Own) (trail : List TrailItem) → w ≡ gated v (seized v.gate) trail → v.gate.phase ≡ In → closes_gate v.gate.algorithm ≡ true → is_irrevocable (known_of v o) ≡ false → Stands good c n l v → Stands good c n (record l { holds = true; next = 0 }) w
-    seized-stands l v w o trail is inside closes revocable s = subst (λ (y : View). Stands good c n m y) (sym is) (record { holds = refl; by = subst (λ r. StandsBy good c n m r true y) (sym (running-by l v l.running l.holds inside s.by)) stays })
+    seized-stands l v w o trail is inside closes revocable s = subst (λ (y : View). Stands good c n m y) (sym is) (record { holds = refl; lengths = s.lengths; by = subst (λ r. StandsBy good c n m r true y) (sym (running-by l v l.running l.holds inside s.by)) stays })
       where
         m : Local
         m = record l { holds = true; next = 0 }
@@ -197,14 +246,11 @@ module _ (c : Config) (n : ℕ) where
         i : IsInside good c n l v
         i = inside-of good c n l v inside s
 
-        tml : v.gate.algorithm ≡ Tml
-        tml = i.named ∙ only-tml l v l.algorithm l.granted (ap closes_gate (sym i.named) ∙ closes) i.keeps
+        plain : l.granted ≡ false
+        plain = ap (λ b. b && l.granted) (sym (ap closes_gate (sym i.named) ∙ closes)) ∙ (sym i.granted ∙ revocable-plain v.gate.algorithm v o closes revocable)
 
-        r : (v.gate.granted ≡ false) × (l.granted ≡ false) × (l.wrote ≡ false) × IsTml c l v
-        r = revocable-tml l v o i tml revocable
-
-        keeps : IsTml c m y
-        keeps = let k = r.3 in record { inside = k.inside; settled = k.settled; unlocked = k.unlocked; uncommitted = k.uncommitted; unfixed = k.unfixed; ungranted = k.ungranted; even = k.even; writer = k.writer; clean = k.clean; dirty = k.dirty; uncalm = refl; rises = k.rises; limit = k.limit; sole = k.sole }
+        keeps : Keeps c l.algorithm l.granted m y
+        keeps = subst (λ b. Keeps c l.algorithm b m y) (sym plain) (keeps-seized l v trail l.algorithm (ap closes_gate (sym i.named) ∙ closes) (subst (λ b. Keeps c l.algorithm b l v) plain i.keeps))
 
         stays : IsInside good c n m y
         stays = record {
@@ -221,5 +267,6 @@ module _ (c : Config) (n : ℕ) where
           reads_inside = i.reads_inside;
           looked = λ e. record { low = omega arith; seen = λ k l d. absurd (omega arith); unseen = λ k e. absurd cc };
           granted = i.granted;
-          keeps = subst (λ a. Keeps c a l.granted m y) (sym (sym i.named ∙ tml)) (subst (λ b. Keeps c Tml b m y) (sym r.1) keeps);
+          steady = i.steady;
+          keeps = keeps;
         }

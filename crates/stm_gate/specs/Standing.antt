@@ -23,10 +23,6 @@ use Rattle.stm_rule.specs.StandLemmas.{inside-of}
 use Rattle.tx_answers.specs.Known.{Known, known_of, granted_under, is_in}
 use Rattle.stm_gate.specs.Knowing.{known, number}
 
--- a descriptor's own part, by the configuration and its undo log's length
-abbrev own_by : Config → ℕ → Own
-own_by c len = record { committing = false; reads_limit = c.reads; writes_limit = len; buffered = [] }
-
 pub in-of : (p : Phase) → is_in p ≡ true → p ≡ In
 in-of Idle e = absurd cc
 in-of Announced e = absurd cc
@@ -54,12 +50,12 @@ module _ {K : Type 0} where
   pub who-of : (kind : StepKind) (shows : World → View → ℕ → Type 0) (s : SeatView K) (x : ℕ) (t : SeatView K) → SeatTells kind shows s x t → t.who ≡ s.who
   who-of kind shows s x t h = ap (λ (y : SeatView K). y.who) h.3
 
-  -- what was shown of the views of caller n is so of its descriptor d, which was e at the call; the limits of its logs stand
-  pub shown-of : (R : ℕ → Known → Known → Type 0) (d e : Handle K) (n : ℕ) (w : View) (q : Who K) (l m : Local) → d ≡ e → q ≡ d.who → m.undo.len ≡ l.undo.len → number d ≡ n
-      → R n (known d) (known_of w (own_of d.who.config l)) → R (number e) (known e) (known_of w (own_of q.config m))
-  shown-of R d e n w q l m same who len name h = subst (λ (p : Handle K). R (number p) (known p) (known_of w (own_of q.config m))) same
-      (subst (λ (o : Own). R (number d) (known d) (known_of w o)) (λ i. own_by (sym who i).config (sym len i))
-      (subst (λ (k : ℕ). R k (known d) (known_of w (own_of d.who.config l))) (sym name) h))
+  -- what was shown of the views of caller n is so of its descriptor d, which was e at the call; its own part stands
+  pub shown-of : (R : ℕ → Known → Known → Type 0) (d e : Handle K) (n : ℕ) (w : View) (l m : Local) → d ≡ e → own_of m ≡ own_of l → number d ≡ n
+      → R n (known d) (known_of w (own_of l)) → R (number e) (known e) (known_of w (own_of m))
+  shown-of R d e n w l m same own name h = subst (λ (p : Handle K). R (number p) (known p) (known_of w (own_of m))) same
+      (subst (λ (o : Own). R (number d) (known d) (known_of w o)) (sym own)
+      (subst (λ (k : ℕ). R k (known d) (known_of w (own_of l))) (sym name) h))
 
 module _ (good : List ℕ → Type 0) (c : Config) (n : ℕ) (l : Local) (v : View) where
   closed_alg : (a : Alg) → closes_gate a ≡ true → (gate : GateView) (lock : LockView) → granted_under a gate lock ≡ true → gate.granted ≡ true
@@ -79,9 +75,11 @@ module _ (good : List ℕ → Type 0) (c : Config) (n : ℕ) (l : Local) (v : Vi
   by-alg Cgl granted e g k = absurd cc
   by-alg Tml true e g k = k
   by-alg Tml false e g k = absurd cc
-  by-alg OrecLazy granted e g k = absurd k
+  by-alg OrecLazy true e g k = k
+  by-alg OrecLazy false e g k = absurd cc
   by-alg OrecEager granted e g k = absurd k
-  by-alg RingSw granted e g k = absurd k
+  by-alg RingSw true e g k = k
+  by-alg RingSw false e g k = absurd cc
   by-alg Serial granted e g k = absurd cc
 
   -- an attempt that closes the gate and was granted was promoted
@@ -96,9 +94,9 @@ module _ (good : List ℕ → Type 0) (c : Config) (n : ℕ) (l : Local) (v : Vi
   tml-by Cgl granted e g k = absurd cc
   tml-by Tml true e g k = absurd cc
   tml-by Tml false e g k = k
-  tml-by OrecLazy granted e g k = absurd k
-  tml-by OrecEager granted e g k = absurd k
-  tml-by RingSw granted e g k = absurd k
+  tml-by OrecLazy granted e g k = absurd cc
+  tml-by OrecEager granted e g k = absurd cc
+  tml-by RingSw granted e g k = absurd cc
   tml-by Serial granted e g k = absurd cc
 
   -- an attempt of TML that was not promoted

@@ -59,20 +59,10 @@ pub fn direct_commit<K: MemRule>(desc: &mut Desc<K>, stm: &Stm<K>) -> Commit
         return Commit::ReadOnly { time: start };
     }
     let alg = desc.local.algorithm;
-    let time = start + rise(alg);
+    let time = start + alg.entry_rise();
     stm.direct_commit(&mut desc.seat, caller, alg, time);
     stm.store_base(&mut desc.seat, caller, time);
     stm.store_done(&mut desc.seat, caller, time);
     leave(&mut desc.seat, &mut desc.local, stm, caller);
     Commit::Committed { time }
-}
-
-/// By how much a commit raises the clock.
-fn rise(alg: Alg) -> u64
-    ensures { result ≡ entry_rise alg }
-{
-    match alg {
-        Alg::Tml => 2,
-        Alg::Cgl | Alg::OrecLazy | Alg::OrecEager | Alg::RingSw | Alg::Serial => 1,
-    }
 }

@@ -12,7 +12,7 @@ ghost use Rattle.stm_rule.specs.Kept.{IsSameSeat, view_of};
 ghost use Rattle.tx_answers.specs.Answers.{Closes, Looks, Installs, Reopens, HoldsClosed, SeesQuiet};
 ghost use Rattle.tx_answers.specs.Known.{IsIdle};
 ghost use Rattle.stm_model.specs.Algorithms.{is_built};
-ghost use Rattle.stm_gate.specs.Installing.{Settles, begins_even};
+ghost use Rattle.stm_gate.specs.Installing.{Settles};
 ghost use Rattle.stm_gate.specs.Knowing.{known, number};
 
 use crate::looking::look_on;
@@ -95,21 +95,11 @@ fn settle_for<K: MemRule>(seat: &mut Token<K>, stm: &Stm<K>, caller: usize, alg:
     if clock % 2 == 0 {
         return clock;
     }
-    if !begins_even(alg) {
+    if !alg.begins_even() {
         return clock;
     }
     stm.even_clock(seat, caller, clock + 1);
     clock + 1
-}
-
-/// Whether an algorithm begins at an even clock alone.
-fn begins_even(alg: Alg) -> bool
-    ensures { result ≡ begins_even alg }
-{
-    match alg {
-        Alg::Tml => true,
-        Alg::Cgl | Alg::OrecLazy | Alg::OrecEager | Alg::RingSw | Alg::Serial => false,
-    }
 }
 
 /// Reopens the gate, under the algorithm that it names. It asks for a closing descriptor, leaves it idle,

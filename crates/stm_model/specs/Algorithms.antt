@@ -161,6 +161,15 @@ install_rise OrecEager = 0
 install_rise RingSw = 0
 install_rise Serial = 0
 
+-- it begins at an even clock alone
+abbrev pub begins_even : Alg → Bool
+begins_even Cgl = false
+begins_even Tml = true
+begins_even OrecLazy = false
+begins_even OrecEager = false
+begins_even RingSw = false
+begins_even Serial = false
+
 -- an attempt can't be cancelled: from its begin, from its first write, or since it was granted
 abbrev pub is_sure : Alg → Bool → Bool → Bool
 is_sure Cgl granted wrote = true

@@ -1,4 +1,5 @@
 pub mod Memories
+pub mod AlgorithmLaws
 pub mod Histories
 pub mod Logs
 pub mod Overlays

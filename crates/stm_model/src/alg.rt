@@ -30,7 +30,7 @@ pub const ALGORITHMS: [Alg; 6] = [
 
 impl Alg {
     ghost use Rattle.std.specs.Prelude.{◌≡◌};
-    ghost use Rattle.stm_model.specs.Algorithms.{alg_name, alg_number, is_built};
+    ghost use Rattle.stm_model.specs.Algorithms.{alg_name, alg_number, begins_even, entry_rise, is_built, is_sure};
 
     /// Whether the algorithm is built; only such a one is installed.
     pub fn is_built(self) -> bool
@@ -71,6 +71,37 @@ impl Alg {
             Alg::OrecEager => 3,
             Alg::RingSw => 4,
             Alg::Serial => 5,
+        }
+    }
+
+    /// Whether it begins at an even clock alone, to which an install raises an odd one.
+    pub fn begins_even(self) -> bool
+        ensures { result ≡ begins_even self }
+    {
+        match self {
+            Alg::Tml => true,
+            Alg::Cgl | Alg::OrecLazy | Alg::OrecEager | Alg::RingSw | Alg::Serial => false,
+        }
+    }
+
+    /// By how much an attempt that commits what it wrote raises the clock, 1 or 2.
+    pub fn entry_rise(self) -> u64
+        ensures { result ≡ entry_rise self }
+    {
+        match self {
+            Alg::Tml => 2,
+            Alg::Cgl | Alg::OrecLazy | Alg::OrecEager | Alg::RingSw | Alg::Serial => 1,
+        }
+    }
+
+    /// Whether an attempt can't be cancelled, by whether it was granted and whether it wrote.
+    pub fn is_sure(self, granted: bool, wrote: bool) -> bool
+        ensures { result ≡ is_sure self granted wrote }
+    {
+        match self {
+            Alg::Cgl => true,
+            Alg::Tml => granted || wrote,
+            Alg::OrecLazy | Alg::OrecEager | Alg::RingSw | Alg::Serial => granted,
         }
     }
 }

@@ -377,7 +377,7 @@ core_rings_lem good c built x inside small keeps = (
                       (
                         (omega arith, refl),
                         (
-                          (omega arith, record { runs = record { phase = refl; algorithm = refl; plain = refl }; outside = refl; unlocked = refl }),
+                          (omega arith, record { runs = record { phase = refl; algorithm = refl; plain = refl }; unlocked = refl }),
                           (
                             (omega arith, record { has = record { runs = record { phase = refl; algorithm = refl; plain = refl }; inside = refl }; inside = inside; settled = refl }),
                             (
@@ -435,7 +435,7 @@ core_rings_lem good c built x inside small keeps = (
                                                                                 (
                                                                                   (omega arith, refl),
                                                                                   (
-                                                                                    (omega arith, record { runs = record { phase = refl; algorithm = refl; plain = refl }; outside = refl; unlocked = refl }),
+                                                                                    (omega arith, record { runs = record { phase = refl; algorithm = refl; plain = refl }; unlocked = refl }),
                                                                                     (
                                                                                       (omega arith, record { has = record { runs = record { phase = refl; algorithm = refl; plain = refl }; inside = refl }; inside = inside; settled = refl }),
                                                                                       (

@@ -127,10 +127,6 @@ module _ {K : Type 0} where
       regroup : (a b x y : List Gathered) → (a ++ b) ++ (x ++ y) ≡ a ++ ((b ++ x) ++ y)
       regroup a b x y = simp append_assoc
 
-pub rises_alike : (m : ℕ) (vs ws : ℕ → Steps) → ((k : ℕ) → k < m → (vs k).rises ≡ (ws k).rises) → all_rises m vs ≡ all_rises m ws
-rises_alike zero vs ws e = refl
-rises_alike (suc m) vs ws e = let r = rises_alike m vs ws (λ k l. e k (omega arith)) in let h = e m (omega arith) in omega arith
-
 -- where each of the callers in the list has these installs, so has one that is in it
 pub installs_found : (f : ℕ → List Alg) (gs : List Gathered) (k : ℕ) (v : View) → ((g : Gathered) → Contains gs g → installs_of g.view ≡ f g.caller) → Contains gs (record { caller = k; view = v }) → installs_by gs k ≡ f k
 installs_found f [] k v all h = absurd (contains-none (record { caller = k; view = v }) h)

@@ -112,6 +112,8 @@ whole_opens good c config start = let w = cgl_world-opening good c config start 
   lock = w.lock;
   attempts = w.attempts;
   running = w.runs;
+  alone = λ sole r x e. absurd cc;
+  raised = λ e n k. absurd cc;
 }
 
 only : {A : Type 0} (x : A) (j : ℕ) (y : A) → get_elem? (x ∷ []) j ≡ some y → (j ≡ 0) × (x ≡ y)

@@ -34,7 +34,7 @@ core_records_lem good c lazy eager x inside small keeps keeps_twice = (
                       (
                         ((omega arith), refl),
                         (
-                          ((omega arith), record { runs = record { phase = refl; algorithm = refl; plain = refl }; outside = refl }),
+                          ((omega arith), record { runs = record { phase = refl; algorithm = refl; plain = refl }; disowned = refl }),
                           (
                             ((omega arith), record { has = record { runs = record { phase = refl; algorithm = refl; plain = refl }; inside = refl }; its = refl }),
                             (
@@ -46,7 +46,7 @@ core_records_lem good c lazy eager x inside small keeps keeps_twice = (
                                   (
                                     ((omega arith), record { opens = record { has = record { runs = record { phase = refl; algorithm = refl; plain = refl }; inside = refl }; open_yet = refl }; unraised = refl; new = λ e. absurd cc }),
                                     (
-                                      ((omega arith), record { has = record { runs = record { phase = refl; algorithm = refl; plain = refl }; inside = refl }; free = refl; from = refl; limit = omega arith; ready = record { open_yet = refl; unraised = refl; covered = λ a t. ap (λ (k : ℕ). touches (record { at = 0; value = 0 } ∷ []) k) (low c a); backed = λ a t. t; backs = λ a d. grind arith; there = λ a d f. grind (arith, f) }; wrote = λ e. cc; writes_inside = stores_in x inside; writes_small = stores_low x small; keeps = keeps 0 }),
+                                      ((omega arith), record { has = record { runs = record { phase = refl; algorithm = refl; plain = refl }; inside = refl }; uncalm = refl; from = refl; limit = omega arith; ready = record { open_yet = refl; unraised = refl; covered = λ a t. ap (λ (k : ℕ). touches (record { at = 0; value = 0 } ∷ []) k) (low c a); backed = λ a t. t; backs = λ a d. grind arith; there = λ a d f. grind (arith, f) }; wrote = λ e. cc; writes_inside = stores_in x inside; writes_small = stores_low x small; keeps = keeps 0 }),
                                       (
                                         ((omega arith), record { has = record { runs = record { phase = refl; algorithm = refl; plain = refl }; inside = refl }; owed = refl; value = refl }),
                                         (
@@ -76,7 +76,7 @@ core_records_lem good c lazy eager x inside small keeps keeps_twice = (
                                                                 (
                                                                   ((omega arith), refl),
                                                                   (
-                                                                    ((omega arith), record { runs = record { phase = refl; algorithm = refl; plain = refl }; outside = refl }),
+                                                                    ((omega arith), record { runs = record { phase = refl; algorithm = refl; plain = refl }; disowned = refl }),
                                                                     (
                                                                       ((omega arith), record { has = record { runs = record { phase = refl; algorithm = refl; plain = refl }; inside = refl }; its = refl }),
                                                                       (
@@ -122,7 +122,7 @@ core_records_lem good c lazy eager x inside small keeps keeps_twice = (
                                                                                                               (
                                                                                                                 ((omega arith), refl),
                                                                                                                 (
-                                                                                                                  ((omega arith), record { runs = record { phase = refl; algorithm = refl; plain = refl }; outside = refl }),
+                                                                                                                  ((omega arith), record { runs = record { phase = refl; algorithm = refl; plain = refl }; disowned = refl }),
                                                                                                                   (
                                                                                                                     ((omega arith), record { has = record { runs = record { phase = refl; algorithm = refl; plain = refl }; inside = refl }; its = refl }),
                                                                                                                     (

@@ -29,7 +29,7 @@ module _ (good : (ℕ → ℕ) → Type 0) (c : Config) (n : ℕ) where
   low w g inside = is-caller good c w g n (λ idle. let e : In ≡ Idle = sym inside ∙ idle in cc)
 
   -- the rises of one caller alone are all rises
-  sole-of : (w : World) → Whole good c w → (w.views n).gate.phase ≡ In → FindsSole c w (w.views n) w.clock
+  pub sole-of : (w : World) → Whole good c w → (w.views n).gate.phase ≡ In → FindsSole c w (w.views n) w.clock
   sole-of w g inside one =
       let first : n ≡ 0 = (let l = low w g inside in omega arith) in
       let all : all_rises c.callers (steps_scene w).views ≡ 0 + (w.views 0).steps.rises = ap (λ k. all_rises k (steps_scene w).views) one in
@@ -55,7 +55,7 @@ module _ (good : (ℕ → ℕ) → Type 0) (c : Config) (n : ℕ) where
           let f : true ≡ false = sym (subst (λ (i : ℕ). (w.views i).tml.writer ≡ true) same t) ∙ reads in cc in
           absurd (let e = (r.free none).0 in omega arith)
 
-  uncalm : (w : World) → Whole good c w → (w.views n).gate.holds ≡ false → (b : Bool) → (w.views n).gate.calm ≡ b → b ≡ false
+  pub uncalm : (w : World) → Whole good c w → (w.views n).gate.holds ≡ false → (b : Bool) → (w.views n).gate.calm ≡ b → b ≡ false
   uncalm w g free true e = absurd (let f : true ≡ false = sym (g.install.holding n e) ∙ free in cc)
   uncalm w g free false e = refl
 

@@ -1,5 +1,5 @@
 -- A check that loads the slot of another's entry: caller 1 reads word 0, caller 0 commits word 1, and the start of caller 1 moves past it.
-use Rattle.std.proofs.Common.{◌≡◌, ℕ, zero, suc, ◌<◌, List, [], ◌∷◌, true, false, refl, sym, subst, arith}
+use Rattle.std.proofs.Common.{◌≡◌, ℕ, zero, suc, ◌<◌, List, [], ◌∷◌, true, false, refl, sym, subst, arith, ◌∙◌}
 use Rattle.std.specs.Prelude.{◌^◌}
 use Rattle.stm_model.specs.Algorithms.{is_built}
 use Rattle.stm_model.specs.declared.alg.Alg.TheVariants.{RingSw}
@@ -27,7 +27,7 @@ one_move {v = v} has start clock checking sure p0 p1 p2 p3 p4 p5 p6 p7 p8 p9 p10
   has = has;
   checking = checking;
   sure = sure;
-  clear = λ e l m. let s : e ≡ 1 = omega arith in subst (λ (t : ℕ). ((i : ℕ) → i < SLOT_WORDS → has_word v.ring_read.words t i ≡ true) × (slot_filter.meets (loaded_word v.ring_read.words t) (slot_filter.word v.ring_read.watched) ≡ false)) (sym s) (each, apart);
+  clear = λ e l m slot is. let s : e ≡ 1 = omega arith in sym (slot_filter.same (loaded_word v.ring_read.words 1) slot (slot_filter.word v.ring_read.watched) (λ i low. subst (λ (t : ℕ). (j : ℕ) → j < SLOT_WORDS → has_word v.ring_read.words t j ≡ true → loaded_word v.ring_read.words t j ≡ slot j) s is i low (each i low))) ∙ apart;
 }
   where
     each : (i : ℕ) → i < SLOT_WORDS → has_word v.ring_read.words 1 i ≡ true
@@ -86,7 +86,7 @@ core_checks_lem good c built x low high small keeps = (
                         (
                           (omega arith, refl),
                           (
-                            (omega arith, record { runs = record { phase = refl; algorithm = refl; plain = refl }; outside = refl; unlocked = refl }),
+                            (omega arith, record { runs = record { phase = refl; algorithm = refl; plain = refl }; unlocked = refl }),
                             (
                               (omega arith, record { has = record { runs = record { phase = refl; algorithm = refl; plain = refl }; inside = refl }; inside = low; settled = refl }),
                               (
@@ -94,7 +94,7 @@ core_checks_lem good c built x low high small keeps = (
                                 (
                                   (omega arith, refl),
                                   (
-                                    (omega arith, record { runs = record { phase = refl; algorithm = refl; plain = refl }; outside = refl; unlocked = refl }),
+                                    (omega arith, record { runs = record { phase = refl; algorithm = refl; plain = refl }; unlocked = refl }),
                                     (
                                       (omega arith, record { has = record { runs = record { phase = refl; algorithm = refl; plain = refl }; inside = refl }; free = refl }),
                                       (

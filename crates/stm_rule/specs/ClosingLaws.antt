@@ -27,7 +27,7 @@ use Rattle.stm_rule.specs.Product.{Whole}
 
 module _ (good : (ℕ → ℕ) → Type 0) (c : Config) (n : ℕ) where
   pub aims : StepLaw (Whole good c) aim (FindsGate c n) n CanAim
-  aims w g may = let o = by-gate good c aim n w (record { common = record { words = λ w. (refl, refl, refl); history = λ w. (refl, refl); steps = λ w. (refl, refl); held = λ w. (refl, refl); busy = λ w. refl }; marks = λ w. (refl, refl); memory = λ w. (refl, refl); view = λ w. refl }) g (λ e. absurd (out e)) (λ e. absurd (unentered good c w n g (ap may_hold may) e)) (aim-gate c.callers w n may g.gate)
+  aims w g may = let o = by-gate good c aim n w (record { common = record { words = λ w. (refl, refl, refl); history = λ w. (refl, refl); steps = λ w. (refl, refl); held = λ w. (refl, refl); busy = λ w. refl }; marks = λ w. (refl, refl); memory = λ w. (refl, refl); view = λ w. refl }) g (λ e. absurd (out e)) (λ e. absurd (unentered good c w n g (ap may_hold may) e)) (λ k e. k) (aim-gate c.callers w n may g.gate)
       (install-apart c w (world_after aim n w) n (view_after aim w (w.views n) w.gate) refl refl refl refl (unheld good c w n g (ap may_hold may)) refl refl refl refl g.install) (regime-kept w (world_after aim n w) n (view_after aim w (w.views n) w.gate) refl refl refl) in
       record { rule = o.0; advances = o.1; shown = record { built = g.built; closer = λ free other. closer good c n w g w.gate refl other free } }
     where
@@ -42,7 +42,7 @@ module _ (good : (ℕ → ℕ) → Type 0) (c : Config) (n : ℕ) where
       own m e = ap (λ (k : ℕ). (put w.views n v k).gate.granted) e ∙ (ap (λ (u : View). u.gate.granted) (put-here w.views n v) ∙ plain)
 
   pub takes_gate : (word : ℕ) → n < c.callers → StepLaw (Whole good c) (take_gate n word) (FindsTaken c n word) n (CanTakeGate word)
-  takes_gate word low w g may = let o = by-gate good c (take_gate n word) n w (record { common = record { words = λ w. (refl, refl, refl); history = λ w. (refl, refl); steps = λ w. (refl, refl); held = λ w. (refl, refl); busy = λ w. refl }; marks = λ w. (refl, refl); memory = λ w. (refl, refl); view = λ w. refl }) g (λ e. absurd (out e)) (λ e. absurd (unentered good c w n g (ap may_hold may.phase) e)) (take_gate-gate c.callers word w n low may g.gate) install (runs (w.gate == word) (λ e. eqb-true w.gate word e)) in
+  takes_gate word low w g may = let o = by-gate good c (take_gate n word) n w (record { common = record { words = λ w. (refl, refl, refl); history = λ w. (refl, refl); steps = λ w. (refl, refl); held = λ w. (refl, refl); busy = λ w. refl }; marks = λ w. (refl, refl); memory = λ w. (refl, refl); view = λ w. refl }) g (λ e. absurd (out e)) (λ e. absurd (unentered good c w n g (ap may_hold may.phase) e)) (λ k e. absurd (unentered good c w n g (ap may_hold may.phase) e)) (take_gate-gate c.callers word w n low may g.gate) install (runs (w.gate == word) (λ e. eqb-true w.gate word e)) in
       record { rule = o.0; advances = o.1; shown = record { built = g.built; closer = other } }
     where
       out : (w.views n).gate.phase ≡ In → ⊥
@@ -87,7 +87,7 @@ module _ (good : (ℕ → ℕ) → Type 0) (c : Config) (n : ℕ) where
       other differs = closer good c n w g w.gate refl (closed differs) free
 
   pub checks : (k : ℕ) → StepLaw (Whole good c) (check k) Nothing n (CanCheck n k)
-  checks k w g may = let o = by-gate good c (check k) n w (record { common = record { words = λ w. (refl, refl, refl); history = λ w. (refl, refl); steps = λ w. (refl, refl); held = λ w. (refl, refl); busy = λ w. refl }; marks = λ w. (refl, refl); memory = λ w. (refl, refl); view = λ w. refl }) g (λ e. e) (λ e. g.attempts.entered n e) (check-gate c.callers k w n may g.gate)
+  checks k w g may = let o = by-gate good c (check k) n w (record { common = record { words = λ w. (refl, refl, refl); history = λ w. (refl, refl); steps = λ w. (refl, refl); held = λ w. (refl, refl); busy = λ w. refl }; marks = λ w. (refl, refl); memory = λ w. (refl, refl); view = λ w. refl }) g (λ e. e) (λ e. g.attempts.entered n e) (λ k e. k) (check-gate c.callers k w n may g.gate)
       (install-looked c w x n v (seen (w.status k == 0)) refl refl refl refl refl (more (w.status k == 0)) g.install) (regime-kept w x n v refl refl refl) in
       record { rule = o.0; advances = o.1; shown = tt }
     where
@@ -105,7 +105,7 @@ module _ (good : (ℕ → ℕ) → Type 0) (c : Config) (n : ℕ) where
       more false j e = e
 
   pub reopens : (alg : Alg) → StepLaw (Whole good c) (reopen alg) Nothing n (CanReopen alg)
-  reopens alg w g may = let o = by-gate good c (reopen alg) n w (record { common = record { words = λ w. (refl, refl, refl); history = λ w. (refl, refl); steps = λ w. (refl, refl); held = λ w. (refl, refl); busy = λ w. refl }; marks = λ w. (refl, refl); memory = λ w. (refl, refl); view = λ w. refl }) g (λ e. absurd (out e)) (λ e. absurd (let f : true ≡ false = sym e ∙ may.unentered in cc)) (reopen-gate c.callers alg w n may g.gate)
+  reopens alg w g may = let o = by-gate good c (reopen alg) n w (record { common = record { words = λ w. (refl, refl, refl); history = λ w. (refl, refl); steps = λ w. (refl, refl); held = λ w. (refl, refl); busy = λ w. refl }; marks = λ w. (refl, refl); memory = λ w. (refl, refl); view = λ w. refl }) g (λ e. absurd (out e)) (λ e. absurd (let f : true ≡ false = sym e ∙ may.unentered in cc)) (λ k e. absurd (let f : true ≡ false = sym e ∙ may.unentered in cc)) (reopen-gate c.callers alg w n may g.gate)
       (install-view c w (world_after (reopen alg) n w) n (opened (w.views n).gate) (view_after (reopen alg) w (w.views n) (gate_word 0 alg)) refl refl refl refl refl refl refl refl plain g.install)
       (regime-handed w (world_after (reopen alg) n w) (view_after (reopen alg) w (w.views n) (gate_word 0 alg)) refl is
       (λ m h. subst (λ (k : ℕ). (w.views k).gate.granted ≡ false) (let o = g.gate.mine n holds in let e : n ≡ m = omega arith in e) plain) (λ m h. absurd (let k = holder_of-open alg in omega arith)) plain) in

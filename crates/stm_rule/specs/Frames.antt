@@ -1,6 +1,6 @@
 -- A step of one family keeps the clauses of the others.
 use Rattle.std.proofs.Common.{◌≡◌, ℕ, ◌<◌, ◌≤◌, Bool, true, false, refl, sym, subst, ap, ◌∙◌, arith, le_refl, inl, inr, ⊎_elim}
-use Rattle.std.specs.Prelude.{if◌then◌else◌, ltb, ◌⊎◌}
+use Rattle.std.specs.Prelude.{if◌then◌else◌, ltb, ◌⊎◌, Some}
 use Rattle.std.proofs.lemmas.Bool.Decides.{nat_tests}
 use Rattle.stm_model.specs.declared.alg.Alg.{Alg}
 use Rattle.stm_model.specs.declared.alg.Alg.TheVariants.{Cgl, Tml, OrecLazy, OrecEager, RingSw, Serial}
@@ -35,6 +35,8 @@ use Rattle.rule_seq.specs.RunWorld.{RunWorld}
 use Rattle.rule_orec.specs.OrecRule.{OrecRuns, OrecWorld}
 use Rattle.rule_orec.specs.OrecSteps.{RunsOrec}
 use Rattle.rule_orec.specs.OrecLaws.{taken-rec}
+use Rattle.stm_rule.specs.Alone.{left_at, alone-kept}
+use Rattle.stm_rule.specs.Raised.{Raised, raised-put}
 use Rattle.stm_rule.specs.Product.{Runs, Whole}
 use Rattle.stm_rule.specs.Running.{runs-fresh, runs-stays, run_scene-kept}
 
@@ -174,6 +176,12 @@ pub record LeavesGate (kind : StepKind) (n : ℕ) : Type 0 where
   pub status : (w : World) → (world_after kind n w).status ≡ w.status
   pub view : (w : World) → (kind.after w (w.views n) (answer kind w)).gate ≡ (w.views n).gate
   pub marks : (w : World) → ((world_after kind n w).base ≡ w.base) × ((world_after kind n w).done ≡ w.done)
+  pub trail : (w : World) → (kind.after w (w.views n) (answer kind w)).steps.trail ≡ (w.views n).steps.trail
+
+-- a rise that is taken or not leaves the trail
+pub risen-trail : (b : Bool) (v : View) (n : ℕ) → (if b then record v.steps { rises = n } else v.steps).trail ≡ v.steps.trail
+risen-trail true v n = refl
+risen-trail false v n = refl
 
 -- the step leaves the clock, the lock, the records and the history alone, and of what the caller knows the history, the rises and what it holds
 pub record LeavesCommon (kind : StepKind) (n : ℕ) : Type 0 where
@@ -192,10 +200,10 @@ pub record LeavesRuns (kind : StepKind) (n : ℕ) : Type 0 where
 
 module _ (good : (ℕ → ℕ) → Type 0) (c : Config) (kind : StepKind) (n : ℕ) (w : World) where
   -- a step at the gate, after which these clauses stand of what runs
-  pub by-running : LeavesCommon kind n → Whole good c w → ((w.views n).gate.phase ≡ In → (kind.after w (w.views n) (answer kind w)).gate.phase ≡ In) → ((kind.after w (w.views n) (answer kind w)).attempt.entered ≡ true → may_hold (kind.after w (w.views n) (answer kind w)).gate.phase ≡ true) → horizon w ≤ horizon (world_after kind n w) → is_built (alg_of (world_after kind n w).gate) ≡ true
+  pub by-running : LeavesCommon kind n → Whole good c w → ((w.views n).gate.phase ≡ In → (kind.after w (w.views n) (answer kind w)).gate.phase ≡ In) → ((kind.after w (w.views n) (answer kind w)).attempt.entered ≡ true → may_hold (kind.after w (w.views n) (answer kind w)).gate.phase ≡ true) → Raised (world_after kind n w) → horizon w ≤ horizon (world_after kind n w) → is_built (alg_of (world_after kind n w).gate) ≡ true
       → GateRule c.callers (gate_scene (world_after kind n w)) → InstallRule c (install_scene (world_after kind n w)) → Runs c (regime (world_after kind n w)) (run_scene (world_after kind n w))
       → Whole good c (world_after kind n w) × Advances w (world_after kind n w)
-  by-running leaves g phase entered level built gate install running = (
+  by-running leaves g phase entered raised level built gate install running = (
     record {
       history = history-kept good c w x n v refl (leaves.words w).0 (leaves.history w).0 (leaves.history w).1 g.history;
       steps = steps-kept c kind n w (leaves.words w).0 (leaves.steps w).0 (leaves.steps w).1 g.steps;
@@ -206,6 +214,8 @@ module _ (good : (ℕ → ℕ) → Type 0) (c : Config) (kind : StepKind) (n : �
       built = built;
       attempts = attempts-after w x n v refl (λ e. phase (g.attempts.busy n (sym (leaves.busy w) ∙ e))) entered g.attempts;
       running = running;
+      alone = alone-kept c kind n w (leaves.steps w).0 (λ sole. inr (leaves.words w).2) g.alone;
+      raised = raised;
     },
     record { clock = up; horizon = level; seen = λ f l. ap (λ h. upto h f) (leaves.history w).0 },
   )
@@ -220,10 +230,11 @@ module _ (good : (ℕ → ℕ) → Type 0) (c : Config) (kind : StepKind) (n : �
       up = subst (λ (k : ℕ). w.clock ≤ k) (sym (leaves.words w).0) (le_refl w.clock)
 
   -- a step at the gate that leaves what runs alone
-  pub by-gate : LeavesRuns kind n → Whole good c w → ((w.views n).gate.phase ≡ In → (kind.after w (w.views n) (answer kind w)).gate.phase ≡ In) → ((w.views n).attempt.entered ≡ true → may_hold (kind.after w (w.views n) (answer kind w)).gate.phase ≡ true)
+  pub by-gate : LeavesRuns kind n → Whole good c w → ((w.views n).gate.phase ≡ In → (kind.after w (w.views n) (answer kind w)).gate.phase ≡ In) → ((w.views n).attempt.entered ≡ true → may_hold (kind.after w (w.views n) (answer kind w)).gate.phase ≡ true) → ((w.views n).gate.calm ≡ true → (w.views n).attempt.entered ≡ true → (kind.after w (w.views n) (answer kind w)).gate.calm ≡ true)
       → GateRule c.callers (gate_scene (world_after kind n w)) → InstallRule c (install_scene (world_after kind n w)) → regime (world_after kind n w) ≡ regime w
       → Whole good c (world_after kind n w) × Advances w (world_after kind n w)
-  by-gate leaves g phase entered gate install same = by-running leaves.common g phase (λ e. entered (sym (ap (λ (u : RunView). u.attempt.entered) (leaves.view w)) ∙ e))
+  by-gate leaves g phase entered calm gate install same = by-running leaves.common g phase (λ e. entered (sym (ap (λ (u : RunView). u.attempt.entered) (leaves.view w)) ∙ e))
+      (raised-put w x n v refl (λ e. sym (named-regime w) ∙ (sym (ap named_in same) ∙ (named-regime x ∙ e))) (λ e k. let t = sym (ap (λ (u : RunView). u.attempt.entered) (leaves.view w)) ∙ k in calm (g.raised (sym (named-regime w) ∙ (sym (ap named_in same) ∙ (named-regime x ∙ e))) n t) t) g.raised)
       (same-horizon w x (sym (named-regime x) ∙ (ap named_in same ∙ named-regime w)) (subst (λ (k : ℕ). w.clock ≤ k) (sym (leaves.common.words w).0) (le_refl w.clock)) (subst (λ (k : ℕ). w.done ≤ k) (sym (leaves.marks w).1) (le_refl w.done)))
       (ap is_built (sym (named-regime x) ∙ (ap named_in same ∙ named-regime w)) ∙ g.built) gate install
       (runs-stays c (regime w) (regime x) (run_scene w) (run_scene x) same
@@ -235,11 +246,21 @@ module _ (good : (ℕ → ℕ) → Type 0) (c : Config) (kind : StepKind) (n : �
       v : View
       v = view_after kind w (w.views n) (answer kind w)
 
+-- with one caller alone, who is in an attempt is that one
+pub only-caller : (good : (ℕ → ℕ) → Type 0) (c : Config) (w : World) (n : ℕ) → Whole good c w → (w.views n).gate.phase ≡ In → c.callers ≡ 1 → n ≡ 0
+only-caller good c w n g inside sole = let low : n < c.callers = is-caller good c w g n (λ idle. let e : In ≡ Idle = sym inside ∙ idle in cc) in omega arith
+
+-- and finds each record as its last step there left it
+pub as-left : (good : (ℕ → ℕ) → Type 0) (c : Config) (w : World) (n r x : ℕ) → Whole good c w → (w.views n).gate.phase ≡ In → c.callers ≡ 1 → left_at r (w.views n).steps.trail ≡ Some x → w.records r ≡ x
+as-left good c w n r x g inside sole e = g.alone sole r x (subst (λ (m : ℕ). left_at r (w.views m).steps.trail ≡ Some x) (only-caller good c w n g inside sole) e)
+
 -- which clauses of what runs a step of an attempt keeps
 pub record Opens (good : (ℕ → ℕ) → Type 0) (c : Config) (kind : StepKind) (shows : World → View → ℕ → Type 0) (n : ℕ) (May : View → Type 0) (w : World) : Type 0 where
   pub runs : Regime
   pub is : regime w ≡ runs
+  pub inside : (w.views n).gate.phase ≡ In
   pub law : StepLaw (RunWorld (Runs c runs) good c) kind shows n May
+  pub raised : alg_of w.gate ≡ RingSw → (kind.after w (w.views n) (answer kind w)).attempt.entered ≡ true → (w.views n).gate.calm ≡ true
   -- what the gate's holders know outlasts the step
   pub stands : ((m : ℕ) → (w.views m).gate.calm ≡ true → ⊥) ⊎ ((world_after kind n w).clock ≡ w.clock)
 
@@ -261,6 +282,8 @@ by-attempt good c kind shows n May leaves opens w g may =
         lock = o.rule.lock;
         attempts = o.rule.attempts;
         running = subst (λ (r : Regime). Runs c r (run_scene x)) (sym (regime-kept w x n v refl (leaves.gate w) (ap (λ (q : GateView). q.granted) (leaves.view w)) ∙ p.is)) o.rule.runs;
+        alone = alone-kept c kind n w (leaves.trail w) (λ sole. inl (only-caller good c w n g p.inside sole)) g.alone;
+        raised = raised-put w x n v refl (λ e. sym (ap alg_of (leaves.gate w)) ∙ e) (λ e k. ap (λ (q : GateView). q.calm) (leaves.view w) ∙ p.raised (sym (ap alg_of (leaves.gate w)) ∙ e) k) g.raised;
       };
       advances = o.advances;
       shown = o.shown;
@@ -310,13 +333,16 @@ module _ (good : (ℕ → ℕ) → Type 0) (c : Config) (kind : StepKind) (shows
           let free = never w g i.1 in
           by (w.views n).gate.algorithm i.1 (regime-inside c w n g.gate g.install i.0 free) (calms w g i.0 (clock w g may))
         where
+          other : alg_of w.gate ≡ RingSw → (kind.after w (w.views n) (answer kind w)).attempt.entered ≡ true → (w.views n).gate.calm ≡ true
+          other e t = absurd (let i = inside (w.views n) may in let f : true ≡ false = sym i.1 ∙ ap takes_lock (sym (g.gate.named n i.0) ∙ e) in cc)
+
           by : (a : Alg) → takes_lock a ≡ true → regime w ≡ Running a → ((m : ℕ) → (w.views m).gate.calm ≡ true → ⊥) ⊎ ((world_after kind n w).clock ≡ w.clock) → Opens good c kind shows n May w
-          by Cgl e is stands = record { runs = Running Cgl; is = is; law = law; stands = stands }
+          by Cgl e is stands = record { runs = Running Cgl; is = is; inside = (inside (w.views n) may).0; raised = other; law = law; stands = stands }
           by Tml e is stands = absurd cc
           by OrecLazy e is stands = absurd cc
           by OrecEager e is stands = absurd cc
           by RingSw e is stands = absurd cc
-          by Serial e is stands = record { runs = Running Serial; is = is; law = law; stands = stands }
+          by Serial e is stands = record { runs = Running Serial; is = is; inside = (inside (w.views n) may).0; raised = other; law = law; stands = stands }
 
   -- a step of OrecLazy or OrecEager
   pub by-orec : LeavesGate kind n → Calms → ((v : View) → May v → RunsOrec v) → StepLaw (OrecWorld good c) kind shows n May → StepLaw (Whole good c) kind shows n May
@@ -327,27 +353,30 @@ module _ (good : (ℕ → ℕ) → Type 0) (c : Config) (kind : StepKind) (shows
           let i = inside (w.views n) may in
           by (w.views n).gate.algorithm i.algorithm (regime-inside c w n g.gate g.install i.phase i.plain) (calms w g i.phase (clock w g may))
         where
+          other : alg_of w.gate ≡ RingSw → (kind.after w (w.views n) (answer kind w)).attempt.entered ≡ true → (w.views n).gate.calm ≡ true
+          other e t = absurd (let i = inside (w.views n) may in let f : true ≡ false = sym i.algorithm ∙ ap has_records (sym (g.gate.named n i.phase) ∙ e) in cc)
+
           by : (a : Alg) → has_records a ≡ true → regime w ≡ Running a → ((m : ℕ) → (w.views m).gate.calm ≡ true → ⊥) ⊎ ((world_after kind n w).clock ≡ w.clock) → Opens good c kind shows n May w
           by Cgl e is stands = absurd cc
           by Tml e is stands = absurd cc
-          by OrecLazy e is stands = record { runs = Running OrecLazy; is = is; law = law; stands = stands }
-          by OrecEager e is stands = record { runs = Running OrecEager; is = is; law = law; stands = stands }
+          by OrecLazy e is stands = record { runs = Running OrecLazy; is = is; inside = (inside (w.views n) may).phase; raised = other; law = law; stands = stands }
+          by OrecEager e is stands = record { runs = Running OrecEager; is = is; inside = (inside (w.views n) may).phase; raised = other; law = law; stands = stands }
           by RingSw e is stands = absurd cc
           by Serial e is stands = absurd cc
 
   -- a step of one algorithm that isn't promoted
-  pub by-running-of : (a : Alg) → LeavesGate kind n → Calms → ((v : View) → May v → (v.gate.phase ≡ In) × (v.gate.algorithm ≡ a) × (v.gate.granted ≡ false)) → StepLaw (RunWorld (Runs c (Running a)) good c) kind shows n May → StepLaw (Whole good c) kind shows n May
-  by-running-of a leaves clock inside law = by-attempt good c kind shows n May leaves (λ w g may.
+  pub by-running-of : (a : Alg) → LeavesGate kind n → Calms → ((v : View) → May v → (v.gate.phase ≡ In) × (v.gate.algorithm ≡ a) × (v.gate.granted ≡ false)) → (a ≡ RingSw → (w : World) → (kind.after w (w.views n) (answer kind w)).attempt.entered ≡ true → (w.views n).attempt.entered ≡ true) → StepLaw (RunWorld (Runs c (Running a)) good c) kind shows n May → StepLaw (Whole good c) kind shows n May
+  by-running-of a leaves clock inside entered law = by-attempt good c kind shows n May leaves (λ w g may.
       let i = inside (w.views n) may in
-      record { runs = Running a; is = regime-inside c w n g.gate g.install i.0 i.2 ∙ ap Running i.1; law = law; stands = calms w g i.0 (clock w g may) })
+      record { runs = Running a; is = regime-inside c w n g.gate g.install i.0 i.2 ∙ ap Running i.1; inside = i.0; raised = λ e t. g.raised e n (entered (sym i.1 ∙ (sym (g.gate.named n i.0) ∙ e)) w t); law = law; stands = calms w g i.0 (clock w g may) })
 
   -- a step of a promoted attempt that leaves the clock alone
   pub by-direct : LeavesGate kind n → ((w : World) → (world_after kind n w).clock ≡ w.clock) → ((v : View) → May v → v.gate.granted ≡ true) → ((a : Alg) → StepLaw (RunWorld (Runs c (Promoted a n)) good c) kind shows n May) → StepLaw (Whole good c) kind shows n May
   by-direct leaves clock inside law = by-attempt good c kind shows n May leaves (λ w g may.
-      record { runs = Promoted (w.views n).gate.algorithm n; is = regime-granted c w n g.gate g.install (inside (w.views n) may); law = law (w.views n).gate.algorithm; stands = inr (clock w) })
+      record { runs = Promoted (w.views n).gate.algorithm n; is = regime-granted c w n g.gate g.install (inside (w.views n) may); inside = (g.install.promoted n (inside (w.views n) may)).1; raised = λ e t. (g.install.promoted n (inside (w.views n) may)).0; law = law (w.views n).gate.algorithm; stands = inr (clock w) })
 
 -- a step by which an attempt that isn't promoted raises DONE, while nobody knows the clock as the gate's holder
-pub by-done : (good : (ℕ → ℕ) → Type 0) (c : Config) (kind : StepKind) (shows : World → View → ℕ → Type 0) (n : ℕ) (May : View → Type 0) (a : Alg) → ((w : World) → ((world_after kind n w).gate ≡ w.gate) × ((world_after kind n w).status ≡ w.status) × ((kind.after w (w.views n) (answer kind w)).gate ≡ (w.views n).gate) × ((world_after kind n w).base ≡ w.base)) → has_ring a ≡ true
+pub by-done : (good : (ℕ → ℕ) → Type 0) (c : Config) (kind : StepKind) (shows : World → View → ℕ → Type 0) (n : ℕ) (May : View → Type 0) (a : Alg) → ((w : World) → ((world_after kind n w).gate ≡ w.gate) × ((world_after kind n w).status ≡ w.status) × ((kind.after w (w.views n) (answer kind w)).gate ≡ (w.views n).gate) × ((world_after kind n w).base ≡ w.base) × ((kind.after w (w.views n) (answer kind w)).steps.trail ≡ (w.views n).steps.trail) × ((kind.after w (w.views n) (answer kind w)).attempt.entered ≡ (w.views n).attempt.entered)) → has_ring a ≡ true
     → ((v : View) → May v → (v.gate.phase ≡ In) × (v.gate.algorithm ≡ a) × (v.gate.granted ≡ false) × (v.gate.calm ≡ false)) → ((s : RunScene) → Runs c (Running a) s → s.done ≤ s.clock) → StepLaw (RunWorld (Runs c (Running a)) good c) kind shows n May → StepLaw (Whole good c) kind shows n May
 by-done good c kind shows n May a leaves ring inside low law w g may =
     let i = inside (w.views n) may in
@@ -364,6 +393,8 @@ by-done good c kind shows n May a leaves ring inside low law w g may =
         lock = o.rule.lock;
         attempts = o.rule.attempts;
         running = subst (λ (r : Regime). Runs c r (run_scene x)) (sym (regime-kept w x n v refl (leaves w).0 (ap (λ (q : GateView). q.granted) (leaves w).2) ∙ is)) o.rule.runs;
+        alone = alone-kept c kind n w (leaves w).4 (λ sole. inl (only-caller good c w n g i.0 sole)) g.alone;
+        raised = raised-put w x n v refl (λ e. sym (ap alg_of (leaves w).0) ∙ e) (λ e k. ap (λ (q : GateView). q.calm) (leaves w).2 ∙ g.raised (sym (ap alg_of (leaves w).0) ∙ e) n (sym (leaves w).5 ∙ k)) g.raised;
       };
       advances = o.advances;
       shown = o.shown;

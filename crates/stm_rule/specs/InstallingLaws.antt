@@ -1,5 +1,5 @@
 -- Each kind of step of who installs an algorithm keeps the one rule.
-use Rattle.std.proofs.Common.{◌≡◌, ℕ, ◌+◌, ◌<◌, ◌≤◌, List, Bool, true, false, arith, refl, sym, subst, ap, ◌∙◌, le_refl, le_trans}
+use Rattle.std.proofs.Common.{inr, ◌≡◌, ℕ, ◌+◌, ◌<◌, ◌≤◌, List, Bool, true, false, arith, refl, sym, subst, ap, ◌∙◌, le_refl, le_trans}
 use Rattle.std.specs.Prelude.{◌%◌}
 use Rattle.stm_model.specs.declared.alg.Alg.{Alg}
 use Rattle.stm_model.specs.declared.config.Config.{Config}
@@ -35,9 +35,11 @@ use Rattle.rule_seq.specs.LockLemmas.{lock_scene-kept}
 use Rattle.rule_seq.specs.LockRule.{LockRule}
 use Rattle.stm_rule.specs.Frames.{same-horizon, horizon-low, horizon-level, by-gate, by-running, ungranted-out}
 use Rattle.stm_rule.specs.Running.{Ready, from-rest, Moved, ease-moved, ease-own, runs-moved}
+use Rattle.stm_rule.specs.Alone.{alone-kept}
+use Rattle.stm_rule.specs.Raised.{Raised, raised-put}
 use Rattle.stm_rule.specs.Product.{Runs, Whole}
 use Rattle.stm_model.specs.Algorithms.{is_built}
-use Rattle.stm_rule.specs.RestLaws.{quiet-regime, quiet-ease, heap-rests}
+use Rattle.stm_rule.specs.RestLaws.{quiet-regime, quiet-ease, heap-rests, else-unentered}
 
 module _ (good : (ℕ → ℕ) → Type 0) (c : Config) (n : ℕ) where
   -- who has loaded the clock to install has seen all others idle
@@ -45,7 +47,7 @@ module _ (good : (ℕ → ℕ) → Type 0) (c : Config) (n : ℕ) where
   calm_quiet w g closing calm = record { closing = closing; checked = λ k low other. g.install.alone n k calm low other }
 
   pub settles : StepLaw (Whole good c) settle Settles n (CanSettle c.callers n)
-  settles w g may = let o = by-gate good c settle n w (record { common = record { words = λ w. (refl, refl, refl); history = λ w. (refl, refl); steps = λ w. (refl, refl); held = λ w. (refl, refl); busy = λ w. refl }; marks = λ w. (refl, refl); memory = λ w. (refl, refl); view = λ w. refl }) g (λ e. e) (λ e. g.attempts.entered n e)
+  settles w g may = let o = by-gate good c settle n w (record { common = record { words = λ w. (refl, refl, refl); history = λ w. (refl, refl); steps = λ w. (refl, refl); held = λ w. (refl, refl); busy = λ w. refl }; marks = λ w. (refl, refl); memory = λ w. (refl, refl); view = λ w. refl }) g (λ e. e) (λ e. g.attempts.entered n e) (λ k e. refl)
       (gate-marked c.callers w x n v refl refl refl refl refl refl refl refl refl g.gate) (settle-install c w n may g.install) (regime-kept w x n v refl refl refl) in
       record { rule = o.0; advances = o.1; shown = g.history.limit }
     where
@@ -97,7 +99,7 @@ module _ (good : (ℕ → ℕ) → Type 0) (c : Config) (n : ℕ) where
           (λ a settled. level ((heap-rests good c n w g quiet).2 a (λ m. ap (λ (f : ℕ → RunView). (f m).attempt.entered) (sym views) ∙ settled m))))
 
   pub stores_base : (t : ℕ) → StepLaw (Whole good c) (store_base t) Nothing n (CanMark t)
-  stores_base t w g may = let o = by-running good c (store_base t) n w (record { words = λ w. (refl, refl, refl); history = λ w. (refl, refl); steps = λ w. (refl, refl); held = λ w. (refl, refl); busy = λ w. refl }) g (λ e. e) (λ e. g.attempts.entered n e) (same-horizon w x refl (le_refl w.clock) (le_refl w.done)) g.built
+  stores_base t w g may = let o = by-running good c (store_base t) n w (record { words = λ w. (refl, refl, refl); history = λ w. (refl, refl); steps = λ w. (refl, refl); held = λ w. (refl, refl); busy = λ w. refl }) g (λ e. e) (λ e. g.attempts.entered n e) (raised-put w x n v refl (λ e. e) (λ e k. g.raised e n k) g.raised) (same-horizon w x refl (le_refl w.clock) (le_refl w.done)) g.built
       (gate-marked c.callers w x n v refl refl refl refl refl refl refl refl refl g.gate) (store_base-install c t w n may g.gate g.install)
       (marked w x v g may.closing may.calm refl refl refl (record { clock = le_refl w.clock; base = (let b = g.install.base in let k = clock in omega arith); based = (let k = clock in omega arith); done = le_refl w.done; within = g.install.done; lock = refl; records = refl; slots = refl; heap = refl; history = refl; fronts = λ m. ap (λ (f : ℕ → RunView). (f m).front) (parts-kept run_view w.views n v refl) }) refl refl (λ e. e)) in
       record { rule = o.0; advances = o.1; shown = tt }
@@ -112,7 +114,7 @@ module _ (good : (ℕ → ℕ) → Type 0) (c : Config) (n : ℕ) where
       v = view_after (store_base t) w (w.views n) t
 
   pub stores_done : (t : ℕ) → StepLaw (Whole good c) (store_done t) Nothing n (CanMark t)
-  stores_done t w g may = let o = by-running good c (store_done t) n w (record { words = λ w. (refl, refl, refl); history = λ w. (refl, refl); steps = λ w. (refl, refl); held = λ w. (refl, refl); busy = λ w. refl }) g (λ e. e) (λ e. g.attempts.entered n e) (same-horizon w x refl (le_refl w.clock) up) g.built
+  stores_done t w g may = let o = by-running good c (store_done t) n w (record { words = λ w. (refl, refl, refl); history = λ w. (refl, refl); steps = λ w. (refl, refl); held = λ w. (refl, refl); busy = λ w. refl }) g (λ e. e) (λ e. g.attempts.entered n e) (raised-put w x n v refl (λ e. e) (λ e k. g.raised e n k) g.raised) (same-horizon w x refl (le_refl w.clock) up) g.built
       (gate-marked c.callers w x n v refl refl refl refl refl refl refl refl refl g.gate) (store_done-install c t w n may g.gate g.install)
       (marked w x v g may.closing may.calm refl refl refl (record { clock = le_refl w.clock; base = le_refl w.base; based = g.install.base; done = up; within = (let k = clock in omega arith); lock = refl; records = refl; slots = refl; heap = refl; history = refl; fronts = λ m. ap (λ (f : ℕ → RunView). (f m).front) (parts-kept run_view w.views n v refl) }) refl refl (λ e. sym clock)) in
       record { rule = o.0; advances = o.1; shown = tt }
@@ -153,6 +155,8 @@ module _ (good : (ℕ → ℕ) → Type 0) (c : Config) (n : ℕ) where
           (record { clock = up; base = le_refl w.base; based = (let b = g.install.base in let u = up in omega arith); done = le_refl w.done; within = (let b = g.install.done in let u = up in omega arith); lock = refl; records = refl; slots = refl; heap = refl; history = refl; fronts = put-all w.views n v (λ m u. u.history.front ≡ (w.views m).history.front) refl (λ m d. refl) })
           (λ a. next_even (w.views n).gate.time t may.odd may.next)
           (λ a settled. absurd (let f : true ≡ false = sym (ap (λ (u : View). u.attempt.entered) (put-here w.views n v)) ∙ settled n in cc)));
+      alone = alone-kept c (even_clock t) n w refl (λ sole. inr refl) g.alone;
+      raised = raised-put w x n v refl (λ e. e) (λ e k. may.calm) g.raised;
     };
     advances = advances-same w x refl up (le_refl w.done) refl;
     shown = tt;
@@ -183,7 +187,7 @@ module _ (good : (ℕ → ℕ) → Type 0) (c : Config) (n : ℕ) where
       path = λ i. record { clock = t; history = w.history; views = parts-kept (λ (u : View). u.history) w.views n v refl i }
 
   pub installs : (alg : Alg) → is_built alg ≡ true → StepLaw (Whole good c) (install n alg) Nothing n (CanInstall alg)
-  installs alg built w g may = let o = by-running good c (install n alg) n w (record { words = λ w. (refl, refl, refl); history = λ w. (refl, refl); steps = λ w. (refl, refl); held = λ w. (refl, refl); busy = λ w. refl }) g (λ e. e) (λ e. absurd cc) (subst (λ (k : ℕ). horizon w ≤ k) (sym (horizon-level x ready.done)) (horizon-low w g.install.done)) (ap is_built (alg_of-gate (1 + n) alg) ∙ built)
+  installs alg built w g may = let o = by-running good c (install n alg) n w (record { words = λ w. (refl, refl, refl); history = λ w. (refl, refl); steps = λ w. (refl, refl); held = λ w. (refl, refl); busy = λ w. refl }) g (λ e. e) (λ e. absurd cc) raised (subst (λ (k : ℕ). horizon w ≤ k) (sym (horizon-level x ready.done)) (horizon-low w g.install.done)) (ap is_built (alg_of-gate (1 + n) alg) ∙ built)
       (install-gate c.callers alg w n may.phase quiet.checked g.gate) (install-install c alg w n g.install)
       (subst (λ (r : Regime). Runs c r (run_scene x)) (sym runs) (from-rest c alg (run_scene x) (ease-own w x n v refl (le_refl w.clock) refl refl refl refl refl refl refl refl (quiet-ease good c n w g quiet)) ready)) in
       record { rule = o.0; advances = o.1; shown = tt }
@@ -199,6 +203,9 @@ module _ (good : (ℕ → ℕ) → Type 0) (c : Config) (n : ℕ) where
 
       plain : (w.views n).gate.granted ≡ false
       plain = ungranted-out good c w n g (λ e. let k : Closing ≡ In = sym may.phase ∙ e in cc)
+
+      raised : Raised x
+      raised e = put-all w.views n v (λ m u. u.attempt.entered ≡ true → u.gate.calm ≡ true) (λ k. absurd cc) (λ m d k. absurd (else-unentered good c n w g quiet.checked m d k))
 
       ready : Ready alg (run_scene x)
       ready = record {

@@ -1,10 +1,11 @@
 -- Each kind of step keeps the one rule.
 use Rattle.std.proofs.Common.{◌≤◌, ◌≡◌, ◌≢◌, ℕ, zero, suc, ◌+◌, ◌<◌, List, ◌++◌, Bool, true, false, arith, inl, inr, refl, sym, subst, ap, ◌∙◌, le_refl}
-use Rattle.std.specs.Prelude.{nat_le, if◌then◌else◌, ◌⊎◌}
+use Rattle.std.specs.Prelude.{◌==◌, nat_le, if◌then◌else◌, ◌⊎◌}
 use Rattle.stm_model.specs.declared.config.Config.{Config}
 use Rattle.rule_base.specs.declared.views.Phase.{Phase}
 use Rattle.rule_base.specs.declared.views.Phase.TheVariants.{Idle, Announced, Turned, Aiming, In, Closing}
 use Rattle.rule_base.specs.declared.views.SeenHistory.{SeenHistory}
+use Rattle.rule_base.specs.declared.views.Steps.{Steps}
 use Rattle.rule_base.specs.declared.views.View.{View}
 use Rattle.rule_base.specs.GateSteps.{announce, CanAnnounce, load_gate, CanLoadGate, departed, depart, CanDepart}
 use Rattle.rule_base.specs.Encodings.{holder_of}
@@ -40,8 +41,10 @@ use Rattle.rule_seq.specs.TmlSteps.{tml_begin, CanTmlBegin, TmlBegins, tml_load,
 use Rattle.rule_seq.specs.LockRule.{LockRule}
 use Rattle.rule_seq.specs.LockLemmas.{lock_scene-kept, lock-phase}
 use Rattle.stm_rule.specs.NoteSteps.{hear, Hears, load_end, CanLoadEnd, Ends}
+use Rattle.stm_rule.specs.Alone.{left_at, alone-kept}
+use Rattle.stm_rule.specs.Raised.{raised-put}
 use Rattle.stm_rule.specs.Findings.{NamesOther, FindsLock, FindsGate}
-use Rattle.stm_rule.specs.Frames.{front-within, is-caller, unlocked, unwritten, outside, unheld, by-cgl, by-gate, by-running-of, unread, uncommitted, unentered, outside-records, bare, none-apart}
+use Rattle.stm_rule.specs.Frames.{risen-trail, front-within, is-caller, unlocked, unwritten, outside, unheld, by-cgl, by-gate, by-running-of, unread, uncommitted, unentered, outside-records, bare, none-apart}
 use Rattle.stm_rule.specs.Running.{runs-stays, runs-leave, run_scene-put, Outside, run_scene-kept}
 use Rattle.stm_rule.specs.Product.{Whole}
 
@@ -61,56 +64,56 @@ module _ (good : (ℕ → ℕ) → Type 0) (c : Config) (n : ℕ) where
 
   -- what an exchange of the lock shows: another word than 0 is another caller's
   acquires_lock_alone : StepLaw (Whole good c) (take_lock n) Nothing n CanTakeLock
-  acquires_lock_alone = by-cgl good c (take_lock n) Nothing n CanTakeLock (record { gate = λ w. refl; status = λ w. refl; view = λ w. refl; marks = λ w. (refl, refl) }) (λ w g m. inr refl) (λ v m. (m.phase, m.algorithm)) (cgl.acquires_lock good c n)
+  acquires_lock_alone = by-cgl good c (take_lock n) Nothing n CanTakeLock (record { gate = λ w. refl; status = λ w. refl; view = λ w. refl; marks = λ w. (refl, refl); trail = λ w. refl }) (λ w g m. inr refl) (λ v m. (m.phase, m.algorithm)) (cgl.acquires_lock good c n)
 
   pub acquires_lock : StepLaw (Whole good c) (take_lock n) (FindsLock c n) n CanTakeLock
   acquires_lock w g may = let o = acquires_lock_alone w g may in record { rule = o.rule; advances = o.advances; shown = λ other. taker w g w.lock refl other may.free }
 
   pub loads_start : StepLaw (Whole good c) load_start (Begins good c) n CanLoadStart
-  loads_start = by-cgl good c load_start (Begins good c) n CanLoadStart (record { gate = λ w. refl; status = λ w. refl; view = λ w. refl; marks = λ w. (refl, refl) }) (λ w g m. inr refl) (λ v m. (m.has.phase, m.has.algorithm)) (cgl.loads_start good c n)
+  loads_start = by-cgl good c load_start (Begins good c) n CanLoadStart (record { gate = λ w. refl; status = λ w. refl; view = λ w. refl; marks = λ w. (refl, refl); trail = λ w. refl }) (λ w g m. inr refl) (λ v m. (m.has.phase, m.has.algorithm)) (cgl.loads_start good c n)
 
   pub loads_heap : (a : ℕ) → StepLaw (Whole good c) (load_heap a) (Loads good c a) n (CanLoadHeap c.words a)
-  loads_heap a = by-cgl good c (load_heap a) (Loads good c a) n (CanLoadHeap c.words a) (record { gate = λ w. refl; status = λ w. refl; view = λ w. refl; marks = λ w. (refl, refl) }) (λ w g m. inr refl) (λ v m. (m.has.phase, m.has.algorithm)) (cgl.loads_heap good c n a)
+  loads_heap a = by-cgl good c (load_heap a) (Loads good c a) n (CanLoadHeap c.words a) (record { gate = λ w. refl; status = λ w. refl; view = λ w. refl; marks = λ w. (refl, refl); trail = λ w. refl }) (λ w g m. inr refl) (λ v m. (m.has.phase, m.has.algorithm)) (cgl.loads_heap good c n a)
 
   pub stores_heap : (a x : ℕ) → StepLaw (Whole good c) (store_heap a x) Nothing n (CanStoreHeap c.words a x)
-  stores_heap a x = by-cgl good c (store_heap a x) Nothing n (CanStoreHeap c.words a x) (record { gate = λ w. refl; status = λ w. refl; view = λ w. refl; marks = λ w. (refl, refl) }) (λ w g m. inr refl) (λ v m. (m.has.phase, m.has.algorithm)) (cgl.stores_heap good c n a x)
+  stores_heap a x = by-cgl good c (store_heap a x) Nothing n (CanStoreHeap c.words a x) (record { gate = λ w. refl; status = λ w. refl; view = λ w. refl; marks = λ w. (refl, refl); trail = λ w. refl }) (λ w g m. inr refl) (λ v m. (m.has.phase, m.has.algorithm)) (cgl.stores_heap good c n a x)
 
   pub stores_clock : (t : ℕ) → n < c.callers → StepLaw (Whole good c) (store_clock n t) (Commits good c n t) n (CanStoreClock good t)
-  stores_clock t low = by-cgl good c (store_clock n t) (Commits good c n t) n (CanStoreClock good t) (record { gate = λ w. refl; status = λ w. refl; view = λ w. refl; marks = λ w. (refl, refl) }) (λ w g m. inl (inl m.free)) (λ v m. (m.has.phase, m.has.algorithm)) (cgl.stores_clock good c n t low)
+  stores_clock t low = by-cgl good c (store_clock n t) (Commits good c n t) n (CanStoreClock good t) (record { gate = λ w. refl; status = λ w. refl; view = λ w. refl; marks = λ w. (refl, refl); trail = λ w. refl }) (λ w g m. inl (inl m.free)) (λ v m. (m.has.phase, m.has.algorithm)) (cgl.stores_clock good c n t low)
 
   pub frees_lock : StepLaw (Whole good c) free_lock Nothing n CanFreeLock
-  frees_lock = by-cgl good c free_lock Nothing n CanFreeLock (record { gate = λ w. refl; status = λ w. refl; view = λ w. refl; marks = λ w. (refl, refl) }) (λ w g m. inr refl) (λ v m. (m.has.phase, m.has.algorithm)) (cgl.frees_lock good c n)
+  frees_lock = by-cgl good c free_lock Nothing n CanFreeLock (record { gate = λ w. refl; status = λ w. refl; view = λ w. refl; marks = λ w. (refl, refl); trail = λ w. refl }) (λ w g m. inr refl) (λ v m. (m.has.phase, m.has.algorithm)) (cgl.frees_lock good c n)
 
   pub loads_undo : (a : ℕ) → StepLaw (Whole good c) (load_undo a) Nothing n (CanLoadUndo a)
-  loads_undo a = by-cgl good c (load_undo a) Nothing n (CanLoadUndo a) (record { gate = λ w. refl; status = λ w. refl; view = λ w. refl; marks = λ w. (refl, refl) }) (λ w g m. inr refl) (λ v m. (m.has.phase, m.has.algorithm)) (cgl.loads_undo good c n a)
+  loads_undo a = by-cgl good c (load_undo a) Nothing n (CanLoadUndo a) (record { gate = λ w. refl; status = λ w. refl; view = λ w. refl; marks = λ w. (refl, refl); trail = λ w. refl }) (λ w g m. inr refl) (λ v m. (m.has.phase, m.has.algorithm)) (cgl.loads_undo good c n a)
 
   pub loads_limit : (grants : Bool) → StepLaw (Whole good c) (load_limit grants) LoadsLimit n CanLoadLimit
-  loads_limit grants = by-cgl good c (load_limit grants) LoadsLimit n CanLoadLimit (record { gate = λ w. refl; status = λ w. refl; view = λ w. refl; marks = λ w. (refl, refl) }) (λ w g m. inr refl) (λ v m. (m.has.phase, m.has.algorithm)) (cgl.loads_limit good c n grants)
+  loads_limit grants = by-cgl good c (load_limit grants) LoadsLimit n CanLoadLimit (record { gate = λ w. refl; status = λ w. refl; view = λ w. refl; marks = λ w. (refl, refl); trail = λ w. refl }) (λ w g m. inr refl) (λ v m. (m.has.phase, m.has.algorithm)) (cgl.loads_limit good c n grants)
 
   pub takes_back : (a x : ℕ) → StepLaw (Whole good c) (take_back a x) Nothing n (CanTakeBack a x)
-  takes_back a x = by-cgl good c (take_back a x) Nothing n (CanTakeBack a x) (record { gate = λ w. refl; status = λ w. refl; view = λ w. refl; marks = λ w. (refl, refl) }) (λ w g m. inr refl) (λ v m. (m.has.phase, m.has.algorithm)) (cgl.takes_back good c n a x)
+  takes_back a x = by-cgl good c (take_back a x) Nothing n (CanTakeBack a x) (record { gate = λ w. refl; status = λ w. refl; view = λ w. refl; marks = λ w. (refl, refl); trail = λ w. refl }) (λ w g m. inr refl) (λ v m. (m.has.phase, m.has.algorithm)) (cgl.takes_back good c n a x)
 
   -- the steps of TML
   pub tml_begins : StepLaw (Whole good c) tml_begin (TmlBegins good c) n CanTmlBegin
-  tml_begins = by-running-of good c tml_begin (TmlBegins good c) n CanTmlBegin Tml (record { gate = λ w. refl; status = λ w. refl; view = λ w. refl; marks = λ w. (refl, refl) }) (λ w g m. inr refl) (λ v m. (m.runs.phase, m.runs.algorithm, m.runs.plain)) (tml.tml_begins good c n)
+  tml_begins = by-running-of good c tml_begin (TmlBegins good c) n CanTmlBegin Tml (record { gate = λ w. refl; status = λ w. refl; view = λ w. refl; marks = λ w. (refl, refl); trail = λ w. refl }) (λ w g m. inr refl) (λ v m. (m.runs.phase, m.runs.algorithm, m.runs.plain)) (λ e. absurd cc) (tml.tml_begins good c n)
 
   pub tml_loads : (a : ℕ) → StepLaw (Whole good c) (tml_load a) (TmlLoads good c a) n (CanTmlLoad c.words a)
-  tml_loads a = by-running-of good c (tml_load a) (TmlLoads good c a) n (CanTmlLoad c.words a) Tml (record { gate = λ w. refl; status = λ w. refl; view = λ w. refl; marks = λ w. (refl, refl) }) (λ w g m. inr refl) (λ v m. (m.has.runs.phase, m.has.runs.algorithm, m.has.runs.plain)) (tml.tml_loads good c n a)
+  tml_loads a = by-running-of good c (tml_load a) (TmlLoads good c a) n (CanTmlLoad c.words a) Tml (record { gate = λ w. refl; status = λ w. refl; view = λ w. refl; marks = λ w. (refl, refl); trail = λ w. refl }) (λ w g m. inr refl) (λ v m. (m.has.runs.phase, m.has.runs.algorithm, m.has.runs.plain)) (λ e. absurd cc) (tml.tml_loads good c n a)
 
   pub tml_agains : StepLaw (Whole good c) tml_again (TmlAgain good c) n CanTmlAgain
-  tml_agains = by-running-of good c tml_again (TmlAgain good c) n CanTmlAgain Tml (record { gate = λ w. refl; status = λ w. refl; view = λ w. refl; marks = λ w. (refl, refl) }) (λ w g m. inr refl) (λ v m. (m.has.runs.phase, m.has.runs.algorithm, m.has.runs.plain)) (tml.tml_agains good c n)
+  tml_agains = by-running-of good c tml_again (TmlAgain good c) n CanTmlAgain Tml (record { gate = λ w. refl; status = λ w. refl; view = λ w. refl; marks = λ w. (refl, refl); trail = λ w. refl }) (λ w g m. inr refl) (λ v m. (m.has.runs.phase, m.has.runs.algorithm, m.has.runs.plain)) (λ e. absurd cc) (tml.tml_agains good c n)
 
   pub tml_writes : (start : ℕ) → n < c.callers → StepLaw (Whole good c) (tml_write start) Nothing n (CanTmlWrite start)
-  tml_writes start low = by-running-of good c (tml_write start) Nothing n (CanTmlWrite start) Tml (record { gate = λ w. refl; status = λ w. refl; view = λ w. refl; marks = λ w. (refl, refl) }) (λ w g m. inl (inr m.uncalm)) (λ v m. (m.has.runs.phase, m.has.runs.algorithm, m.has.runs.plain)) (tml.tml_writes good c n start low)
+  tml_writes start low = by-running-of good c (tml_write start) Nothing n (CanTmlWrite start) Tml (record { gate = λ w. refl; status = λ w. refl; view = λ w. refl; marks = λ w. (refl, refl); trail = λ w. risen-trail (w.clock == start) (w.views n) ((w.views n).steps.rises + 1) }) (λ w g m. inl (inr m.uncalm)) (λ v m. (m.has.runs.phase, m.has.runs.algorithm, m.has.runs.plain)) (λ e. absurd cc) (tml.tml_writes good c n start low)
 
   pub tml_stores : (a x : ℕ) → StepLaw (Whole good c) (tml_store a x) Nothing n (CanTmlStore c.words a x)
-  tml_stores a x = by-running-of good c (tml_store a x) Nothing n (CanTmlStore c.words a x) Tml (record { gate = λ w. refl; status = λ w. refl; view = λ w. refl; marks = λ w. (refl, refl) }) (λ w g m. inr refl) (λ v m. (m.has.runs.phase, m.has.runs.algorithm, m.has.runs.plain)) (tml.tml_stores good c n a x)
+  tml_stores a x = by-running-of good c (tml_store a x) Nothing n (CanTmlStore c.words a x) Tml (record { gate = λ w. refl; status = λ w. refl; view = λ w. refl; marks = λ w. (refl, refl); trail = λ w. refl }) (λ w g m. inr refl) (λ v m. (m.has.runs.phase, m.has.runs.algorithm, m.has.runs.plain)) (λ e. absurd cc) (tml.tml_stores good c n a x)
 
   pub tml_commits : (t : ℕ) → n < c.callers → StepLaw (Whole good c) (tml_commit n t) (Commits good c n t) n (CanTmlCommit good t)
-  tml_commits t low = by-running-of good c (tml_commit n t) (Commits good c n t) n (CanTmlCommit good t) Tml (record { gate = λ w. refl; status = λ w. refl; view = λ w. refl; marks = λ w. (refl, refl) }) (λ w g m. inl (inr m.uncalm)) (λ v m. (m.has.runs.phase, m.has.runs.algorithm, m.has.runs.plain)) (tml.tml_commits good c n t low)
+  tml_commits t low = by-running-of good c (tml_commit n t) (Commits good c n t) n (CanTmlCommit good t) Tml (record { gate = λ w. refl; status = λ w. refl; view = λ w. refl; marks = λ w. (refl, refl); trail = λ w. refl }) (λ w g m. inl (inr m.uncalm)) (λ v m. (m.has.runs.phase, m.has.runs.algorithm, m.has.runs.plain)) (λ e. absurd cc) (tml.tml_commits good c n t low)
 
   pub announces : n < c.callers → StepLaw (Whole good c) (announce n) Nothing n CanAnnounce
-  announces low w g may = let o = by-gate good c (announce n) n w (record { common = record { words = λ w. (refl, refl, refl); history = λ w. (refl, refl); steps = λ w. (refl, refl); held = λ w. (refl, refl); busy = λ w. refl }; marks = λ w. (refl, refl); memory = λ w. (refl, refl); view = λ w. refl }) g (λ e. absurd (out e)) (λ e. absurd (unentered good c w n g (ap may_hold may) e)) (announce-gate c.callers w n low may g.gate)
+  announces low w g may = let o = by-gate good c (announce n) n w (record { common = record { words = λ w. (refl, refl, refl); history = λ w. (refl, refl); steps = λ w. (refl, refl); held = λ w. (refl, refl); busy = λ w. refl }; marks = λ w. (refl, refl); memory = λ w. (refl, refl); view = λ w. refl }) g (λ e. absurd (out e)) (λ e. absurd (unentered good c w n g (ap may_hold may) e)) (λ k e. k) (announce-gate c.callers w n low may g.gate)
       (install-apart c w x n v refl refl refl refl (unheld good c w n g (ap may_hold may)) refl refl refl refl g.install) (regime-kept w x n v refl refl refl) in
       record { rule = o.0; advances = o.1; shown = tt }
     where
@@ -124,7 +127,7 @@ module _ (good : (ℕ → ℕ) → Type 0) (c : Config) (n : ℕ) where
       out e = let k : Idle ≡ In = sym may ∙ e in cc
 
   pub loads_gate : StepLaw (Whole good c) load_gate (FindsGate c n) n CanLoadGate
-  loads_gate w g may = let o = by-gate good c load_gate n w (record { common = record { words = λ w. (refl, refl, refl); history = λ w. (refl, refl); steps = λ w. (refl, refl); held = λ w. (refl, refl); busy = λ w. refl }; marks = λ w. (refl, refl); memory = λ w. (refl, refl); view = λ w. refl }) g (λ e. absurd (out e)) (λ e. absurd (unentered good c w n g (ap may_hold may) e)) (load_gate-gate c.callers w n may g.gate)
+  loads_gate w g may = let o = by-gate good c load_gate n w (record { common = record { words = λ w. (refl, refl, refl); history = λ w. (refl, refl); steps = λ w. (refl, refl); held = λ w. (refl, refl); busy = λ w. refl }; marks = λ w. (refl, refl); memory = λ w. (refl, refl); view = λ w. refl }) g (λ e. absurd (out e)) (λ e. absurd (unentered good c w n g (ap may_hold may) e)) (λ k e. k) (load_gate-gate c.callers w n may g.gate)
       (install-apart c w x n v refl refl refl refl (unheld good c w n g (ap may_hold may)) refl refl refl refl g.install) (regime-kept w x n v refl refl refl) in
       record { rule = o.0; advances = o.1; shown = record { built = g.built; closer = λ free other. closer w g w.gate refl other free } }
     where
@@ -150,6 +153,8 @@ module _ (good : (ℕ → ℕ) → Type 0) (c : Config) (n : ℕ) where
       attempts = attempts-after w x n v refl (λ t. absurd (let f : true ≡ false = sym t ∙ idle-busy v refl may.unwritten refl refl may.uncommitted in cc)) (λ e. still (w.views n).gate.phase may.unentered e (g.attempts.entered n e)) g.attempts;
       running = runs-stays c (regime w) (regime x) (record (run_scene w) { views = put (run_scene w).views n (run_view v) }) (run_scene x) (regime-kept w x n v refl refl refl) (run_scene-put w x n v refl refl refl refl refl refl refl refl refl)
           (runs-leave c (regime w) (run_scene w) n (run_view v) (record { was = record { unlocked = may.unlocked; unwritten = may.unwritten; uncommitted = may.uncommitted }; out = record { unlocked = may.unlocked; unwritten = may.unwritten; uncommitted = may.uncommitted }; tml = refl; owned = refl; bare = bare_now; apart = none-apart good c w n g bare_now; unread = refl; entered = refl }) (inl refl) free g.running);
+      alone = alone-kept c (depart n) n w refl (λ sole. inr refl) g.alone;
+      raised = raised-put w x n v refl (λ e. e) (λ e k. g.raised e n k) g.raised;
     };
     advances = advances-same w x refl (le_refl w.clock) (le_refl w.done) refl;
     shown = tt;
@@ -177,7 +182,7 @@ module _ (good : (ℕ → ℕ) → Type 0) (c : Config) (n : ℕ) where
       free a e = let q = granted-regime c w n g.gate g.install a e in let p = g.install.promoted n q in let f : true ≡ false = sym (g.install.holding n p.0) ∙ may.reopened p.1 in cc
 
   pub hears : StepLaw (Whole good c) hear Hears n (λ v. Unit {0})
-  hears w g may = let o = by-gate good c hear n w (record { common = record { words = λ w. (refl, refl, refl); history = λ w. (refl, refl); steps = λ w. (refl, refl); held = λ w. (refl, refl); busy = λ w. refl }; marks = λ w. (refl, refl); memory = λ w. (refl, refl); view = λ w. refl }) g (λ e. e) (λ e. g.attempts.entered n e) (subst (GateRule c.callers) (sym (gate_scene-kept w x n v refl refl refl refl)) g.gate)
+  hears w g may = let o = by-gate good c hear n w (record { common = record { words = λ w. (refl, refl, refl); history = λ w. (refl, refl); steps = λ w. (refl, refl); held = λ w. (refl, refl); busy = λ w. refl }; marks = λ w. (refl, refl); memory = λ w. (refl, refl); view = λ w. refl }) g (λ e. e) (λ e. g.attempts.entered n e) (λ k e. k) (subst (GateRule c.callers) (sym (gate_scene-kept w x n v refl refl refl refl)) g.gate)
       (subst (InstallRule c) (sym (install_scene-kept w x n v refl refl refl refl refl)) g.install) (regime-kept w x n v refl refl refl) in
       record { rule = o.0; advances = o.1; shown = (m.0, k.seen ∙ m.1 ∙ ap (λ l. m.0 ++ l) (sym k.told)) }
     where
@@ -205,6 +210,8 @@ module _ (good : (ℕ → ℕ) → Type 0) (c : Config) (n : ℕ) where
       lock = subst LockRule (sym (lock_scene-kept w x n v refl refl refl refl)) g.lock;
       attempts = attempts-stay w x n v refl refl refl refl g.attempts;
       running = runs-stays c (regime w) (regime x) (run_scene w) (run_scene x) (regime-kept w x n v refl refl refl) (run_scene-kept w x n v refl refl refl refl refl refl refl refl refl refl) g.running;
+      alone = alone-kept c load_end n w refl (λ sole. inr refl) g.alone;
+      raised = raised-put w x n v refl (λ e. e) (λ e k. g.raised e n k) g.raised;
     };
     advances = advances-same w x refl (le_refl w.clock) (le_refl w.done) refl;
     shown = record { rule = g; clock = refl };
@@ -241,6 +248,8 @@ module _ (good : (ℕ → ℕ) → Type 0) (c : Config) (n : ℕ) where
     attempts = attempts-stay w x n v refl refl refl refl g.attempts;
     running = runs-stays c (regime w) (regime x) (record (run_scene w) { views = put (run_scene w).views n (run_view v) }) (run_scene x) (regime-kept w x n v refl refl refl) (run_scene-put w x n v refl refl refl refl refl refl refl refl refl) (runs-leave c (regime w) (run_scene w) n (run_view v) (record { was = idle; out = record { unlocked = idle.unlocked; unwritten = idle.unwritten; uncommitted = idle.uncommitted }; tml = outside good c w n g out; owned = outside-records good c w n g out; bare = bare good c w n g out; apart = none-apart good c w n g (bare good c w n g out); unread = unread good c w n g out; entered = refl }) (low (nat_le k.front (w.views n).history.front) refl)
         (λ a e. out (g.install.promoted n (granted-regime c w n g.gate g.install a e)).1) g.running);
+    alone = λ sole r x e. g.alone sole r x (ap (λ (f : ℕ → Steps). left_at r (f 0).trail) (sym (parts-kept (λ (u : View). u.steps) w.views n v refl)) ∙ e);
+    raised = raised-put w x n v refl (λ e. e) (λ e k. g.raised e n k) g.raised;
   }
     where
       v : View

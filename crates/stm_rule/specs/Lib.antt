@@ -1,3 +1,5 @@
+pub mod Alone
+pub mod Raised
 pub mod Product
 pub mod Running
 pub mod NoteSteps
@@ -15,6 +17,8 @@ pub mod RestLaws
 pub mod InstallingLaws
 pub mod Kept
 pub mod Refusals
+pub mod RecordsKept
+pub mod RingKept
 pub mod Attempts
 pub mod StandLemmas
 pub mod Callers
@@ -26,3 +30,4 @@ pub mod Irrevocable
 pub mod BesideLaws
 pub mod CheckRun
 pub mod Stamping
+pub mod Allowing

@@ -21,6 +21,8 @@ use Rattle.rule_seq.specs.LockRule.{lock_scene, LockRule}
 use Rattle.rule_promoted.specs.PromotedRule.{DirectRuns}
 use Rattle.rule_seq.specs.TmlRule.{TmlRuns}
 use Rattle.rule_orec.specs.OrecRule.{OrecRuns}
+use Rattle.stm_rule.specs.Alone.{Alone}
+use Rattle.stm_rule.specs.Raised.{Raised}
 
 -- the clauses of what runs
 abbrev pub Runs : Config → Regime → RunScene → Type 0
@@ -44,3 +46,7 @@ pub record Whole (good : (ℕ → ℕ) → Type 0) (c : Config) (w : World) : Ty
   pub lock : LockRule (lock_scene w)
   pub attempts : AttemptRule (attempt_scene w)
   pub running : Runs c (regime w) (run_scene w)
+  -- what one caller alone knows of the records
+  pub alone : Alone c w
+  -- and what who raised the clock as the gate's holder knows of it
+  pub raised : Raised w

@@ -1,5 +1,5 @@
 -- Each kind of step of a promotion, and of the attempt promoted, keeps the one rule.
-use Rattle.std.proofs.Common.{◌≡◌, ◌≢◌, ℕ, ◌+◌, ◌<◌, ◌≤◌, List, Bool, true, false, arith, refl, sym, subst, ap, ◌∙◌, le_refl, inl}
+use Rattle.std.proofs.Common.{inr, ◌≡◌, ◌≢◌, ℕ, ◌+◌, ◌<◌, ◌≤◌, List, Bool, true, false, arith, refl, sym, subst, ap, ◌∙◌, le_refl, inl}
 use Rattle.std.specs.Prelude.{if◌then◌else◌, ◌==◌, ltb}
 use Rattle.std.proofs.lemmas.Bool.{eqb-true}
 use Rattle.stm_model.specs.declared.alg.Alg.{Alg}
@@ -43,6 +43,8 @@ use Rattle.rule_promoted.specs.PromotedRule.{DirectRuns, DirectWorld}
 use Rattle.rule_promoted.specs.PromotedSteps.{tml_grants, tml_grant, CanTmlGrant, direct_load, CanDirectLoad, direct_store, CanDirectStore, direct_commit, CanDirectCommit, direct_release, CanDirectRelease}
 use Rattle.stm_rule.specs.ClosingLaws.{regime-handed}
 use Rattle.stm_rule.specs.Findings.{NamesOther, FindsGate, FindsTaken, OrecFails}
+use Rattle.stm_rule.specs.Alone.{alone-kept}
+use Rattle.stm_rule.specs.Raised.{raised-put}
 use Rattle.stm_rule.specs.Frames.{by-gate, by-running, by-direct, ungranted, same-horizon, owner-holds, none-apart, orec-world}
 use Rattle.stm_rule.specs.Laws.{closer}
 use Rattle.stm_rule.specs.RecordLaws.{fails}
@@ -64,7 +66,7 @@ grants-at clock v e = grind (arith, e)
 
 module _ (good : (ℕ → ℕ) → Type 0) (c : Config) (n : ℕ) where
   pub looks_gate : StepLaw (Whole good c) look_gate (FindsGate c n) n CanLookGate
-  looks_gate w g may = let o = by-gate good c look_gate n w (record { common = record { words = λ w. (refl, refl, refl); history = λ w. (refl, refl); steps = λ w. (refl, refl); held = λ w. (refl, refl); busy = λ w. refl }; marks = λ w. (refl, refl); memory = λ w. (refl, refl); view = λ w. refl }) g (λ e. e) (λ e. g.attempts.entered n e) (subst (GateRule c.callers) (sym (gate_scene-kept w x n v refl refl refl refl)) g.gate)
+  looks_gate w g may = let o = by-gate good c look_gate n w (record { common = record { words = λ w. (refl, refl, refl); history = λ w. (refl, refl); steps = λ w. (refl, refl); held = λ w. (refl, refl); busy = λ w. refl }; marks = λ w. (refl, refl); memory = λ w. (refl, refl); view = λ w. refl }) g (λ e. e) (λ e. g.attempts.entered n e) (λ k e. k) (subst (GateRule c.callers) (sym (gate_scene-kept w x n v refl refl refl refl)) g.gate)
       (subst (InstallRule c) (sym (install_scene-kept w x n v refl refl refl refl refl)) g.install) (regime-kept w x n v refl refl refl) in
       record { rule = o.0; advances = o.1; shown = record { built = g.built; closer = λ free other. closer good c n w g w.gate refl other free } }
     where
@@ -75,7 +77,7 @@ module _ (good : (ℕ → ℕ) → Type 0) (c : Config) (n : ℕ) where
       v = view_after look_gate w (w.views n) w.gate
 
   pub seizes : (alg : Alg) → StepLaw (Whole good c) (seize n alg) (FindsTaken c n (gate_word 0 alg)) n (CanSeize alg)
-  seizes alg w g may = let o = by-gate good c (seize n alg) n w (record { common = record { words = λ w. (refl, refl, refl); history = λ w. (refl, refl); steps = λ w. (refl, refl); held = λ w. (refl, refl); busy = λ w. refl }; marks = λ w. (refl, refl); memory = λ w. (refl, refl); view = λ w. refl }) g (inside (w.gate == gate_word 0 alg)) (λ e. held (w.gate == gate_word 0 alg) (g.attempts.entered n e)) (seize-gate c.callers alg w n may g.gate) (settled (w.gate == gate_word 0 alg)) (runs (w.gate == gate_word 0 alg) (λ e. eqb-true w.gate (gate_word 0 alg) e)) in
+  seizes alg w g may = let o = by-gate good c (seize n alg) n w (record { common = record { words = λ w. (refl, refl, refl); history = λ w. (refl, refl); steps = λ w. (refl, refl); held = λ w. (refl, refl); busy = λ w. refl }; marks = λ w. (refl, refl); memory = λ w. (refl, refl); view = λ w. refl }) g (inside (w.gate == gate_word 0 alg)) (λ e. held (w.gate == gate_word 0 alg) (g.attempts.entered n e)) (λ k e. absurd (let f : true ≡ false = sym (g.install.holding n k) ∙ may.free in cc)) (seize-gate c.callers alg w n may g.gate) (settled (w.gate == gate_word 0 alg)) (runs (w.gate == gate_word 0 alg) (λ e. eqb-true w.gate (gate_word 0 alg) e)) in
       record { rule = o.0; advances = o.1; shown = record { built = g.built; closer = other } }
     where
       next : Bool → View
@@ -115,7 +117,7 @@ module _ (good : (ℕ → ℕ) → Type 0) (c : Config) (n : ℕ) where
   -- THE GRANT: what ran is the promoted attempt's
   pub grants : StepLaw (Whole good c) tml_grant Nothing n (CanTmlGrant c.callers n)
   grants w g may = let p = go (tml_grants w.clock (w.views n)) (λ e. grants-at w.clock (w.views n) e) in
-      let o = by-running good c tml_grant n w (record { words = λ w. (refl, refl, refl); history = λ w. (refl, refl); steps = λ w. (refl, refl); held = λ w. (refl, refl); busy = λ w. refl }) g (inside (tml_grants w.clock (w.views n))) (λ e. held (tml_grants w.clock (w.views n)) (g.attempts.entered n e)) (same-horizon w (world_after tml_grant n w) refl (le_refl w.clock) (le_refl w.done)) g.built p.0 p.1 p.2 in
+      let o = by-running good c tml_grant n w (record { words = λ w. (refl, refl, refl); history = λ w. (refl, refl); steps = λ w. (refl, refl); held = λ w. (refl, refl); busy = λ w. refl }) g (inside (tml_grants w.clock (w.views n))) (λ e. held (tml_grants w.clock (w.views n)) (g.attempts.entered n e)) (λ e. absurd (let f : Tml ≡ RingSw = sym named ∙ e in cc)) (same-horizon w (world_after tml_grant n w) refl (le_refl w.clock) (le_refl w.done)) g.built p.0 p.1 p.2 in
       record { rule = o.0; advances = o.1; shown = tt }
     where
       next : Bool → View
@@ -155,10 +157,10 @@ module _ (good : (ℕ → ℕ) → Type 0) (c : Config) (n : ℕ) where
       )
 
   pub direct_loads : (a : ℕ) → StepLaw (Whole good c) (direct_load a) (Loads good c a) n (CanDirectLoad c.words a)
-  direct_loads a = by-direct good c (direct_load a) (Loads good c a) n (CanDirectLoad c.words a) (record { gate = λ w. refl; status = λ w. refl; view = λ w. refl; marks = λ w. (refl, refl) }) (λ w. refl) (λ v m. m.granted) (λ alg. direct.direct_loads good c alg n a)
+  direct_loads a = by-direct good c (direct_load a) (Loads good c a) n (CanDirectLoad c.words a) (record { gate = λ w. refl; status = λ w. refl; view = λ w. refl; marks = λ w. (refl, refl); trail = λ w. refl }) (λ w. refl) (λ v m. m.granted) (λ alg. direct.direct_loads good c alg n a)
 
   pub direct_stores : (a x : ℕ) → StepLaw (Whole good c) (direct_store a x) Nothing n (CanDirectStore c.words a x)
-  direct_stores a x = by-direct good c (direct_store a x) Nothing n (CanDirectStore c.words a x) (record { gate = λ w. refl; status = λ w. refl; view = λ w. refl; marks = λ w. (refl, refl) }) (λ w. refl) (λ v m. m.granted) (λ alg. direct.direct_stores good c alg n a x)
+  direct_stores a x = by-direct good c (direct_store a x) Nothing n (CanDirectStore c.words a x) (record { gate = λ w. refl; status = λ w. refl; view = λ w. refl; marks = λ w. (refl, refl); trail = λ w. refl }) (λ w. refl) (λ v m. m.granted) (λ alg. direct.direct_stores good c alg n a x)
 
   pub direct_commits : (alg : Alg) (t : ℕ) → n < c.callers → StepLaw (Whole good c) (direct_commit n alg t) (Commits good c n t) n (CanDirectCommit good alg t)
   direct_commits alg t low w g may = record {
@@ -172,6 +174,8 @@ module _ (good : (ℕ → ℕ) → Type 0) (c : Config) (n : ℕ) where
       lock = o.rule.lock;
       attempts = o.rule.attempts;
       running = subst (λ (r : Regime). Runs c r (run_scene x)) (sym (regime-kept w x n v refl refl refl ∙ is)) o.rule.runs;
+      alone = alone-kept c (direct_commit n alg t) n w refl (λ sole. inr refl) g.alone;
+      raised = raised-put w x n v refl (λ e. e) (λ e k. (g.install.promoted n may.granted).0) g.raised;
     };
     advances = o.advances;
     shown = o.shown;
@@ -222,6 +226,10 @@ module _ (good : (ℕ → ℕ) → Type 0) (c : Config) (n : ℕ) where
       by RingSw e at = absurd cc
       by Serial e at = absurd cc
 
+  -- the gate doesn't name RingSW
+  unringed : (w : World) → Whole good c w → RunsOrec (w.views n) → alg_of w.gate ≡ RingSw → ⊥
+  unringed w g runs e = let f : true ≡ false = sym runs.algorithm ∙ ap has_records (sym (g.gate.named n runs.phase) ∙ e) in cc
+
   pub orec_grants : (q b : ℕ) → StepLaw (Whole good c) (orec_grant q b) (OrecFails n) n (CanOrecGrant (home_of c) c.words q b)
   orec_grants q b w g may = let p = go (passes (w.records q) (w.views n)) refl in record {
     rule = record {
@@ -234,6 +242,8 @@ module _ (good : (ℕ → ℕ) → Type 0) (c : Config) (n : ℕ) where
       lock = p.4;
       attempts = p.5;
       running = p.6;
+      alone = alone-kept c (orec_grant q b) n w refl (λ sole. inr refl) g.alone;
+      raised = λ e. absurd (unringed w g may.last.opens.has.runs e);
     };
     advances = advances-same w (world_after (orec_grant q b) n w) refl (le_refl w.clock) (le_refl w.done) refl;
     shown = fails good c n q w g;
@@ -296,6 +306,8 @@ module _ (good : (ℕ → ℕ) → Type 0) (c : Config) (n : ℕ) where
       lock = p.4;
       attempts = p.5;
       running = p.6;
+      alone = alone-kept c orec_grant_all n w refl (λ sole. inr refl) g.alone;
+      raised = λ e. absurd (unringed w g may.all.opens.has.runs e);
     };
     advances = advances-same w (world_after orec_grant_all n w) refl (le_refl w.clock) (le_refl w.done) refl;
     shown = tt;
@@ -337,7 +349,7 @@ module _ (good : (ℕ → ℕ) → Type 0) (c : Config) (n : ℕ) where
       )
 
   pub direct_releases : (q t : ℕ) → StepLaw (Whole good c) (direct_release q t) Nothing n (CanDirectRelease q t)
-  direct_releases q t = by-direct good c (direct_release q t) Nothing n (CanDirectRelease q t) (record { gate = λ w. refl; status = λ w. refl; view = λ w. refl; marks = λ w. (refl, refl) }) (λ w. refl) (λ v m. m.granted) (λ alg. direct.direct_releases good c alg n q t)
+  direct_releases q t = by-direct good c (direct_release q t) Nothing n (CanDirectRelease q t) (record { gate = λ w. refl; status = λ w. refl; view = λ w. refl; marks = λ w. (refl, refl); trail = λ w. refl }) (λ w. refl) (λ v m. m.granted) (λ alg. direct.direct_releases good c alg n q t)
 
   -- THE RETURN: after a promoted attempt its algorithm starts from rest; an attempt that wasn't promoted leaves what runs
   pub returns : (alg : Alg) → StepLaw (Whole good c) (return_gate alg) Nothing n (CanReturn alg)
@@ -352,6 +364,8 @@ module _ (good : (ℕ → ℕ) → Type 0) (c : Config) (n : ℕ) where
       lock = subst LockRule (sym (lock_scene-kept w x n v refl refl refl refl)) g.lock;
       attempts = attempts-in w x n v refl may.phase g.attempts;
       running = runs (w.views n).gate.granted refl;
+      alone = alone-kept c (return_gate alg) n w refl (λ sole. inr refl) g.alone;
+      raised = raised-put w x n v refl (λ e. same ∙ (sym named ∙ e)) (λ e k. absurd cc) g.raised;
     };
     advances = record { clock = le_refl w.clock; horizon = same-horizon w x (named ∙ sym same) (le_refl w.clock) (le_refl w.done); seen = λ f l. refl };
     shown = tt;

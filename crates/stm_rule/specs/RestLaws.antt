@@ -81,8 +81,8 @@ module _ (good : (ℕ → ℕ) → Type 0) (c : Config) (n : ℕ) (w : World) (g
   record_free checked r bare false e = refl
 
   -- who has seen all others idle alone may have raised the clock as the gate's holder
-  pub nobody-enters : HasChecked c.callers n (w.views n) → (w.views n).attempt.entered ≡ false → (m : ℕ) → (w.views m).attempt.entered ≡ false
-  nobody-enters checked own m = go (w.views m).attempt.entered refl
+  pub else-unentered : HasChecked c.callers n (w.views n) → (m : ℕ) → m ≢ n → (w.views m).attempt.entered ≡ true → ⊥
+  else-unentered checked m other e = resting (w.views m).gate.phase (others-rest c.callers w n checked g.gate m other) (g.attempts.entered m e)
     where
       resting : (p : Phase) → rests p ≡ true → may_hold p ≡ true → ⊥
       resting Idle r h = cc
@@ -92,9 +92,12 @@ module _ (good : (ℕ → ℕ) → Type 0) (c : Config) (n : ℕ) (w : World) (g
       resting In r h = cc
       resting Closing r h = cc
 
+  pub nobody-enters : HasChecked c.callers n (w.views n) → (w.views n).attempt.entered ≡ false → (m : ℕ) → (w.views m).attempt.entered ≡ false
+  nobody-enters checked own m = go (w.views m).attempt.entered refl
+    where
       apart : (b : Bool) → (m == n) ≡ b → (w.views m).attempt.entered ≡ true → ⊥
       apart true q e = let same : m ≡ n = grind (arith, nat_tests, q) in let f : true ≡ false = sym (subst (λ (k : ℕ). (w.views k).attempt.entered ≡ true) same e) ∙ own in cc
-      apart false q e = resting (w.views m).gate.phase (others-rest c.callers w n checked g.gate m (λ same. grind (arith, nat_tests, q, same))) (g.attempts.entered m e)
+      apart false q e = else-unentered checked m (λ same. grind (arith, nat_tests, q, same)) e
 
       go : (b : Bool) → (w.views m).attempt.entered ≡ b → b ≡ false
       go true e = absurd (apart (m == n) refl e)

@@ -8,6 +8,7 @@ use Rattle.stm_model.specs.declared.alg.Alg.TheVariants.{RingSw}
 use Rattle.rule_base.specs.declared.entries.Cell.{Cell}
 use Rattle.stm_model.specs.declared.config.Config.{Config}
 use Rattle.rule_base.specs.declared.views.Phase.TheVariants.{In}
+use Rattle.rule_base.specs.declared.views.TrailItem.{TrailItem}
 use Rattle.rule_base.specs.declared.views.View.{View}
 use Rattle.rule_base.specs.GateLaws.{gate-marked}
 use Rattle.rule_base.specs.GateSteps.{granted_at}
@@ -35,6 +36,8 @@ use Rattle.rule_seq.specs.AttemptLemmas.{attempts-stay}
 use Rattle.rule_seq.specs.AttemptRule.{is_busy}
 use Rattle.rule_seq.specs.LockLemmas.{lock_scene-kept}
 use Rattle.rule_seq.specs.LockRule.{LockRule}
+use Rattle.stm_rule.specs.Alone.{left_at}
+use Rattle.stm_rule.specs.Raised.{raised-put}
 use Rattle.stm_rule.specs.Product.{Runs, Whole}
 use Rattle.stm_rule.specs.RestLaws.{lock-rests, nobody-commits, nobody-enters}
 use Rattle.stm_rule.specs.RingLaws as rings
@@ -109,6 +112,8 @@ module _ (good : (ℕ → ℕ) → Type 0) (c : Config) (n : ℕ) where
         (regime-promoted z n (g.gate.mine n (g.install.holding n e.calm)) (ap (λ (q : View). q.gate.granted) (put-here w.views n v)) ∙ ap (λ (a : Alg). Promoted a n) (g.gate.named n e.phase ∙ e.algorithm))
         (run_scene-kept y z n v twice refl refl refl refl refl refl refl refl (ap run_view (sym own)))
         (ring-granted y g e);
+    alone = λ sole r x l. g.alone sole r x (ap (λ (t : List TrailItem). left_at r t) (sym (same_trails 0)) ∙ l);
+    raised = raised-put y z n v twice (λ e. e) (λ q k. refl) g.raised;
   }
     where
       y : World
@@ -125,6 +130,9 @@ module _ (good : (ℕ → ℕ) → Type 0) (c : Config) (n : ℕ) where
 
       e : Ended y.clock (y.views n)
       e = subst (Ended w.clock) (sym own) o
+
+      same_trails : (m : ℕ) → (z.views m).steps.trail ≡ (y.views m).steps.trail
+      same_trails = put-all w.views n v (λ m q. q.steps.trail ≡ (y.views m).steps.trail) (ap (λ (q : View). q.steps.trail) (sym own)) (λ m d. ap (λ (q : View). q.steps.trail) (sym (put-else w.views n m u d)))
 
       twice : z.views ≡ put y.views n v
       twice = fun_ext (put-all w.views n v (λ m q. q ≡ put y.views n v m) (sym (put-here y.views n v)) (λ m d. sym (put-else y.views n m v d ∙ put-else w.views n m u d)))

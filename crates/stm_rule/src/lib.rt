@@ -14,7 +14,6 @@ mod note_kinds;
 pub mod opening;
 mod promotion_kinds;
 pub mod refusal;
-mod ring_kinds;
 mod splits;
 pub mod stm;
 #[cfg(test)]

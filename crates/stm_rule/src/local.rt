@@ -5,13 +5,18 @@ ghost use Rattle.stm_rule.specs.Attempts.{idle_local, begun, ended};
 use std::alloc::Global;
 use stm_model::alg::Alg;
 use stm_model::memory::Memory;
+use tx_logs::filter::Filter;
+use tx_logs::read_log::ReadLog;
 use tx_logs::undo_log::UndoLog;
+use tx_logs::write_log::WriteLog;
 
 /// The plain fields of a descriptor. What stands of its view by them is said in `specs/Attempts.antt`.
 #[derive(Drop)]
 pub struct Local {
     /// Whether an attempt runs; if so, under which algorithm, and its start.
     pub running: bool,
+    /// Whether it is in the middle of its commit, which answered Again.
+    pub committing: bool,
     pub algorithm: Alg,
     pub start: u64,
     /// Whether the attempt wrote.
@@ -23,17 +28,28 @@ pub struct Local {
     pub next: usize,
     /// What stood in the heap before the attempt's first write of each address, while it can be taken back.
     pub undo: UndoLog,
+    /// What the attempt read under the record algorithms, of words that it had not yet written.
+    pub reads: ReadLog,
+    /// What it wrote that is to be stored at its commit.
+    pub writes: WriteLog,
+    /// The records that it holds, each with the version that it replaced.
+    pub locks: UndoLog,
+    /// RingSW: the addresses that it loaded, and those that it wrote.
+    pub loaded: Filter,
+    pub stored: Filter,
 }
 
 impl Local {
-    /// No attempt runs, and the gate isn't closed. It takes the room of an undo log of this length, 1 to 4,096.
-    pub fn idle(alloc: Global, writes: usize) -> Result<Local, Memory>
-        requires low { 1 ≤ writes }
-        requires high { writes ≤ 4096 }
-        ensures { IfOk result (λ l. l ≡ idle_local writes) }
+    /// No attempt runs, and the gate isn't closed. It takes the room of a read log and of the logs of writes, each
+    /// of its length, 1 to 4,096.
+    pub fn idle(alloc: Global, reads: usize, writes: usize) -> Result<Local, Memory>
+        requires low { (1 ≤ reads) × (1 ≤ writes) }
+        requires high { (reads ≤ 4096) × (writes ≤ 4096) }
+        ensures { IfOk result (λ l. l ≡ idle_local reads writes) }
     {
         Ok(Local {
             running: false,
+            committing: false,
             algorithm: Alg::Cgl,
             start: 0,
             wrote: false,
@@ -41,6 +57,11 @@ impl Local {
             holds: false,
             next: 0,
             undo: UndoLog::new(alloc, writes)?,
+            reads: ReadLog::new(alloc, reads)?,
+            writes: WriteLog::new(alloc, writes)?,
+            locks: UndoLog::new(alloc, writes)?,
+            loaded: Filter::new(),
+            stored: Filter::new(),
         })
     }
 
@@ -49,11 +70,17 @@ impl Local {
         ensures { self.new ≡ begun algorithm start self.old }
     {
         self.running = true;
+        self.committing = false;
         self.algorithm = algorithm;
         self.start = start;
         self.wrote = false;
         self.granted = false;
         self.undo.clear();
+        self.reads.clear();
+        self.writes.clear();
+        self.locks.clear();
+        self.loaded = Filter::new();
+        self.stored = Filter::new();
     }
 
     /// No attempt runs any more, and the gate isn't closed.

@@ -28,7 +28,7 @@ use Rattle.tx_answers.specs.Evidence.{Found}
 use Rattle.tx_answers.specs.Known.{Grows, known_of, is_in, is_closing}
 use Rattle.tx_answers.specs.KnownLaws.{grows-same, grows-trans}
 use Rattle.stm_gate.specs.LeavingLaws.{found-later, found-earlier, finds-full}
-use Rattle.alg_seq.specs.Starts.{CanBegin, Waits, IsFresh, StartsAt, Refuses}
+use Rattle.stm_gate.specs.Starts.{CanBegin, Waits, IsFresh, StartsAt, Refuses}
 
 two : (k n callers : ℕ) → k < callers → n < callers → k ≢ n → 1 < callers
 two k n callers a b apart = grind arith
@@ -47,6 +47,7 @@ module _ (good : List ℕ → Type 0) (c : Config) (n : ℕ) where
   can-begin gate v s t out zero a l = subst (λ (y : View). CanBegin (alg_of gate) y) (sym (looked-at gate v s t a l)) (record {
     phase = ap (λ b. if b then In else Turned) open_gate;
     named = refl;
+    built = l.1.built;
     reopened = out.reopened;
     ungranted = out.ungranted;
     clear = record { unlocked = out.clear.unlocked; disowned = out.clear.disowned; unwritten = out.clear.unwritten; uncommitted = out.clear.uncommitted; unentered = out.clear.unentered; unfixed = out.clear.unfixed };
@@ -56,6 +57,28 @@ module _ (good : List ℕ → Type 0) (c : Config) (n : ℕ) where
     where
       open_gate : (holder_of gate == 0) ≡ true
       open_gate = grind (arith, nat_tests)
+
+  -- what the descriptor kept of an earlier attempt is nothing to a begin
+  pub begins-fresh : (alg : Alg) (v w : View) (o p : Own) → o.reads_limit ≡ p.reads_limit → o.writes_limit ≡ p.writes_limit → BeginsAt good c n alg (known_of v p) (known_of w p) → BeginsAt good c n alg (known_of v o) (known_of w p)
+  begins-fresh alg v w o p reads writes b = let g = b.grows in record {
+    running = b.running;
+    committing = b.committing;
+    closing = b.closing;
+    made = b.made;
+    grows = record { later = g.later; is = g.is; ascending = g.ascending; up_to = g.up_to; front_rose = g.front_rose; more = g.more; trail = g.trail; reads_limit = g.reads_limit ∙ sym reads; writes_limit = g.writes_limit ∙ sym writes };
+    gate = b.gate;
+    named = b.named;
+    built = b.built;
+    start = b.start;
+    fresh = b.fresh;
+    log = b.log;
+    opaque = b.opaque;
+    granted = b.granted;
+    holds = b.holds;
+    rises = b.rises;
+    base = b.base;
+    installs = b.installs;
+  }
 
   pub tells-closed : (gate : ℕ) (v s t w : View) (o : Own) → n < c.callers → IsOutside v → holder_of gate ≢ 0 → Tells (announce n) Nothing v 1 s → Tells load_gate (FindsGate c n) s gate t → Tells (depart n) Nothing t 0 w
       → Begins good c n (Closed gate) (known_of v o) (known_of w o)

@@ -19,11 +19,6 @@ module _ (good : List ℕ → Type 0) (c : Config) (n a : ℕ) (v w : Known) whe
   read-stopped (reads.Conflict cause) stop e h = let is : stops.Conflict cause ≡ stop = cc in subst (λ (s : Stop). Stops good c n a s v w) is (h.0, h.1, h.2)
   read-stopped (reads.Full limit) stop e h = let is : stops.Full limit ≡ stop = cc in subst (λ (s : Stop). Stops good c n a s v w) is (h.0, inl (h.1, h.2))
 
-  pub read-went : (r : Read) (x : ℕ) → as_read r ≡ Ok x → HasRead good c n a r v w → HasRead good c n a (reads.Value x) v w
-  read-went (reads.Value y) x e h = let is : y ≡ x = cc in subst (λ k. HasRead good c n a (reads.Value k) v w) is h
-  read-went (reads.Conflict cause) x e h = absurd cc
-  read-went (reads.Full limit) x e h = absurd cc
-
   pub write-stopped : (x : ℕ) (r : Write) (stop : Stop) → as_write r ≡ Err stop → HasWritten good c n a x r v w → Stops good c n a stop v w
   write-stopped x writes.Done stop e h = absurd cc
   write-stopped x (writes.Conflict cause) stop e h = let is : stops.Conflict cause ≡ stop = cc in subst (λ (s : Stop). Stops good c n a s v w) is (h.0, h.1, h.2)

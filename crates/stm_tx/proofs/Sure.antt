@@ -1,7 +1,7 @@
 -- What a descriptor's fields tell of whether its attempt can be cancelled.
 use Rattle.std.proofs.Common.{ℕ, ◌≡◌, ◌≢◌, ◌∙◌, List, [], Bool, true, false, refl, ap}
 use Rattle.std.specs.Prelude.{not, ◌&&◌, ◌||◌}
-use Rattle.stm_model.specs.Algorithms.{is_sure, is_built, closes_gate}
+use Rattle.stm_model.specs.Algorithms.{is_sure, closes_gate}
 use Rattle.stm_model.specs.Memories.{is_empty}
 use Rattle.stm_model.specs.declared.alg.Alg.{Alg}
 use Rattle.stm_model.specs.declared.alg.Alg.TheVariants.{Cgl, Tml, OrecLazy, OrecEager, RingSw, Serial}
@@ -27,13 +27,13 @@ module _ (good : List ℕ → Type 0) (c : Config) (n : ℕ) (l : Local) (v : Vi
   tml-wrote true k = wrote-by l.wrote v.attempt.stores k.clean k.dirty
   tml-wrote false k = wrote-by l.wrote v.attempt.stores k.clean k.dirty
 
-  go : (a : Alg) → l.algorithm ≡ a → is_built a ≡ true → Keeps c a l.granted l v → sure_at a ≡ is_sure a l.granted l.wrote
-  go Cgl e b k = refl
-  go Tml e b k = ap (λ g. g || not (is_empty (items v.attempt.stores))) (i.granted ∙ ap (λ a. closes_gate a && l.granted) e) ∙ ap (λ x. l.granted || x) (tml-wrote l.granted k)
-  go OrecLazy e b k = absurd cc
-  go OrecEager e b k = absurd cc
-  go RingSw e b k = absurd cc
-  go Serial e b k = k.sure ∙ ap (λ a. is_sure a l.granted l.wrote) e
+  go : (a : Alg) → l.algorithm ≡ a → Keeps c a l.granted l v → sure_at a ≡ is_sure a l.granted l.wrote
+  go Cgl e k = refl
+  go Tml e k = ap (λ g. g || not (is_empty (items v.attempt.stores))) (i.granted ∙ ap (λ a. closes_gate a && l.granted) e) ∙ ap (λ x. l.granted || x) (tml-wrote l.granted k)
+  go OrecLazy e k = i.granted ∙ ap (λ a. closes_gate a && l.granted) e
+  go OrecEager e k = i.granted ∙ ap (λ a. closes_gate a && l.granted) e
+  go RingSw e k = i.granted ∙ ap (λ a. closes_gate a && l.granted) e
+  go Serial e k = k.sure ∙ ap (λ a. is_sure a l.granted l.wrote) e
 
   pub sure-of : is_irrevocable (known_of v o) ≡ is_sure l.algorithm l.granted l.wrote
-  sure-of = ap sure_at i.named ∙ go l.algorithm refl i.built i.keeps
+  sure-of = ap sure_at i.named ∙ go l.algorithm refl i.keeps

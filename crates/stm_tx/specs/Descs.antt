@@ -1,12 +1,11 @@
 -- What contracts see of a descriptor, and what an access over an attempt leaves alone.
-use Rattle.std.proofs.Common.{ℕ, ◌≡◌, List, Bool, true, refl, sym, ap, subst, ◌∙◌}
+use Rattle.std.proofs.Common.{ℕ, ◌≡◌, List, Bool, true, false, refl, sym, ap, subst, ◌∙◌}
 use Rattle.std.specs.Prelude.{Option, Some, None, Result, Ok, Err}
 use Rattle.stm_model.specs.declared.stop.Stop.TheVariants as stops
 use Rattle.tx_answers.specs.declared.answers.Read.{Read}
 use Rattle.tx_answers.specs.declared.answers.Read.TheVariants as reads
 use Rattle.tx_answers.specs.declared.answers.Write.{Write}
 use Rattle.tx_answers.specs.declared.answers.Write.TheVariants as writes
-use Rattle.stm_model.specs.Algorithms.{is_built}
 use Rattle.stm_model.specs.declared.alg.Alg.{Alg}
 use Rattle.stm_model.specs.declared.alg.Alg.TheVariants.{Cgl, Tml, OrecLazy, OrecEager, RingSw, Serial}
 use Rattle.stm_model.specs.Logs.{IsLog}
@@ -84,14 +83,17 @@ module _ {K : Type 0} where
         since-trans (good s.rule) s.config (number d) p q r (known d) (known e) (known f) a.1 (subst (λ n. Since (good s.rule) s.config n q (known e) r (known f)) name c),
       )
 
-writes-once : (a : Alg) (granted : Bool) (v : View) (o : Own) → is_built a ≡ true → Once (written_under a granted v o)
-writes-once Cgl granted v o b = items-once v.attempt.stores
-writes-once Tml granted v o b = items-once v.attempt.stores
-writes-once Serial granted v o b = items-once v.attempt.stores
-writes-once OrecLazy granted v o b = absurd cc
-writes-once OrecEager granted v o b = absurd cc
-writes-once RingSw granted v o b = absurd cc
+writes-once : (a : Alg) (granted : Bool) (v : View) (o : Own) → Once (written_under a granted v o)
+writes-once Cgl granted v o = items-once v.attempt.stores
+writes-once Tml granted v o = items-once v.attempt.stores
+writes-once OrecLazy false v o = items-once o.buffered
+writes-once OrecLazy true v o = items-once v.attempt.stores
+writes-once OrecEager false v o = items-once v.owned.in_place
+writes-once OrecEager true v o = items-once v.attempt.stores
+writes-once RingSw false v o = items-once o.buffered
+writes-once RingSw true v o = items-once v.attempt.stores
+writes-once Serial granted v o = items-once v.attempt.stores
 
 -- a log has one item an address
-pub log-once : (v : View) (o : Own) → is_built v.gate.algorithm ≡ true → IsLog (known_of v o).log
-log-once v o built = record { reads = items-once v.attempt.reads; writes = writes-once v.gate.algorithm v.gate.granted v o built }
+pub log-once : (v : View) (o : Own) → IsLog (known_of v o).log
+log-once v o = record { reads = items-once v.attempt.reads; writes = writes-once v.gate.algorithm v.gate.granted v o }

@@ -1,12 +1,12 @@
 //! The calls of an attempt. Each takes a descriptor and its memory. None takes memory, none waits, and
 //! all return. The cost of each in atomic steps is said by its algorithm, in `alg_seq`.
 ghost use Rattle.std.specs.Prelude.{◌≡◌, ℕ, ◌<◌, ◌&&◌, true};
-ghost use Rattle.stm_model.specs.Algorithms.{is_built, is_sure};
+ghost use Rattle.stm_model.specs.Algorithms.{is_built};
 ghost use Rattle.stm_rule.specs.Callers.{IsOf, IsSameCaller, IsSeatOf};
 ghost use Rattle.stm_rule.specs.Kept.{IsSameSeat, view_of};
 ghost use Rattle.tx_answers.specs.Answers.{Begins, HasRead, HasWritten, KeepsRule, Commits, Cancels, Irrevs};
 ghost use Rattle.tx_answers.specs.Known.{IsIdle, IsRunning, is_irrevocable, state_of};
-ghost use Rattle.alg_seq.specs.Starts.{CanBegin, Starts};
+ghost use Rattle.stm_gate.specs.Starts.{CanBegin, Starts};
 ghost use Rattle.stm_tx.specs.Descs.{known, number};
 
 use alg_seq::{cgl, serial, tml};
@@ -75,7 +75,7 @@ fn begin_under<K: MemRule>(
 
 /// Reads the word at `a`: the attempt's last write of it, else what it read there before, else the memory
 /// at its start. It asks for a running attempt. All answers but a value end the attempt. One step; under
-/// TML two before the first write, and four where the attempt ends.
+/// TML two before the first write, and three or four where the attempt ends.
 pub fn read<K: MemRule>(desc: &mut Desc<K>, stm: &Stm<K>, a: usize) -> Read
     requires stm { IsOf desc.old stm.now }
     requires running { IsRunning (known desc.old) }
@@ -180,18 +180,11 @@ pub fn state<K: MemRule>(desc: &Desc<K>) -> TxState
 pub fn is_irrevocable<K: MemRule>(desc: &Desc<K>) -> bool
     ensures { result ≡ ((known desc.now).running && is_irrevocable (known desc.now)) }
 {
-    desc.local.running && is_sure(desc.local.algorithm, desc.local.granted, desc.local.wrote)
-}
-
-/// Whether an attempt of this algorithm can't be cancelled, by whether it was granted and whether it wrote.
-fn is_sure(algorithm: Alg, granted: bool, wrote: bool) -> bool
-    ensures { result ≡ is_sure algorithm granted wrote }
-{
-    match algorithm {
-        Alg::Cgl => true,
-        Alg::Tml => granted || wrote,
-        Alg::OrecLazy | Alg::OrecEager | Alg::RingSw | Alg::Serial => granted,
-    }
+    desc.local.running
+        && desc
+            .local
+            .algorithm
+            .is_sure(desc.local.granted, desc.local.wrote)
 }
 
 /// Whether this caller has closed the gate. No step.

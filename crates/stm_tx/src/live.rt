@@ -1,7 +1,6 @@
 //! The access over a running attempt.
 ghost use Rattle.std.specs.Prelude.{◌≡◌, is_none, true, false};
 ghost use Rattle.std.proofs.Common.{refl, ◌∙◌};
-ghost use Rattle.stm_model.specs.Algorithms.{is_built};
 ghost use Rattle.stm_rule.specs.Callers.{IsOf};
 ghost use Rattle.stm_tx.specs.Descs.{known, as_read, as_write, Frames, frames-refl, frames-trans};
 
@@ -24,7 +23,6 @@ pub struct Live<'a, K: MemRule> {
     pub ghost own: { IsOf desc.now stm.now },
     pub ghost runs: { (known desc.now).running ≡ is_none stopped },
     pub ghost open: { is_none stopped ≡ true → (known desc.now).committing ≡ false },
-    pub ghost built: { is_built (known desc.now).alg ≡ true },
 }
 
 impl<'a, K: MemRule> Access for Live<'a, K> {
@@ -45,7 +43,7 @@ impl<'a, K: MemRule> Access for Live<'a, K> {
 
     ghost keeps_trans = { λ s t u a b. (frames-trans K.good s.stm.now t.stm.now s.stopped t.stopped u.stopped s.desc.now t.desc.now u.desc.now (λ k. (a.1 k).now) a.0 b.0, b.1 ∙ a.1, b.2 ∙ a.2) };
 
-    ghost once = { λ s. log-once s.desc.now.view s.desc.now.own s.built };
+    ghost once = { λ s. log-once s.desc.now.view s.desc.now.own };
 
     fn read(&mut self, a: usize) -> Result<u64, Stop> {
         match as_read(read(self.desc, self.stm, a)) {

@@ -1,5 +1,5 @@
 -- What a row takes from the answer that ended its attempt.
-use Rattle.std.proofs.Common.{ℕ, ◌≡◌, ◌<◌, ◌≤◌, Bool, true, false, List, [], ◌∷◌, ◌++◌, refl, sym, ap, ◌∙◌, arith}
+use Rattle.std.proofs.Common.{ℕ, ◌≡◌, ◌<◌, ◌≤◌, Bool, true, false, List, [], ◌∷◌, ◌++◌, refl, arith}
 use Rattle.std.specs.Prelude.{not, length}
 use Rattle.stm_model.specs.Memories.{Explains, is_empty}
 use Rattle.stm_model.specs.Histories.{Entry, memory_at}

@@ -1,5 +1,5 @@
 -- An attempt goes on by one operation.
-use Rattle.std.proofs.Common.{ℕ, zero, suc, ◌≡◌, ◌≤◌, Bool, true, false, List, [], ◌∷◌, ◌++◌, length, refl, sym, ap, ◌∙◌, arith, subst, get_or, ◌<◌}
+use Rattle.std.proofs.Common.{ℕ, zero, suc, ◌≡◌, ◌≤◌, Bool, true, false, List, [], ◌∷◌, ◌++◌, length, refl, sym, ap, ◌∙◌, arith, subst, get_or, ◌<◌, append_assoc}
 use Rattle.std.proofs.lemmas.List.{append-nil, append_cancel_left}
 use Rattle.std.proofs.lemmas.List.Elements.{All-head, All-tail}
 use Rattle.std.specs.Prelude.{All, ◌==◌, ltb, slice_index, not, ◌||◌, if◌then◌else◌}
@@ -45,11 +45,19 @@ going-begun good words regions script v alg out fits rule room r e log ex named 
   named = named;
   writer = sym (ap (λ (l : Log). not (is_empty l.writes)) log);
   sure = (λ i. is_sure (sym named i) (sym ungranted i) (sym (ap (λ (l : Log). not (is_empty l.writes)) log) i));
-  on = λ m fine len x. begun-on regions script m v.log out log r e;
+  first = [];
+  is = refl;
+  on = λ more m fine len x. begun-on regions more m v.log out log r e;
   ends = λ h. h;
   cut = λ off m fine len x. begun-on regions (before_cancel script) m v.log out log r e;
   unasked = λ off. refl;
 }
+
+-- one operation more is done
+gives-more : (regions : List Region) (first : List Op) (op : Op) (more : List Op) (m : List ℕ) (l : Log) (out : Output) (k : Log) (next : Output)
+    → GivesOn regions (first ++ op ∷ more) (op ∷ more) m no_log no_replies l out → Gave (ran_one regions op) m l out k next → GivesOn regions ((first ++ op ∷ []) ++ more) more m no_log no_replies k next
+gives-more regions first op more m l out k next on one =
+    subst (λ ops. GivesOn regions ops more m no_log no_replies k next) (sym (append_assoc first (op ∷ []) more)) (gives-step regions (first ++ op ∷ more) op more m no_log no_replies l out k next on one)
 
 one-of : {A : Type 0} (P : A → Type 0) (x : A) → P x → All P (x ∷ [])
 one-of {A = A} P x h = λ i d lt. at i d lt
@@ -125,7 +133,9 @@ going-step good words regions script op rest v w alg was granted out next wrote 
       named = same ∙ g.named;
       writer = ap (λ b. b || writes op reply) g.writer ∙ sym more;
       sure = sure;
-      on = λ x fine len e. gives-step regions script op rest x no_log no_replies v.log out w.log next (g.on x fine len (gave x fine len e).explained) (gave x fine len e);
+      first = g.first ++ op ∷ [];
+      is = g.is ∙ sym (append_assoc g.first (op ∷ []) rest);
+      on = λ more x fine len e. gives-more regions g.first op more x v.log out w.log next (g.on (op ∷ more) x fine len (gave x fine len e).explained) (gave x fine len e);
       ends = λ h. g.ends (or-right (is_cancel op) (has_cancel rest) h);
       cut = λ off x fine len e.
           gives-step regions (before_cancel script) op (before_cancel rest) x no_log no_replies v.log out w.log next
@@ -155,7 +165,9 @@ going-refused good words regions script rest v alg granted out next wrote g sure
       named = g.named;
       writer = g.writer;
       sure = g.sure;
-      on = λ x fine len e. gives-step regions script Cancel rest x no_log no_replies v.log out v.log next (g.on x fine len e) (one x e);
+      first = g.first ++ Cancel ∷ [];
+      is = g.is ∙ sym (append_assoc g.first (Cancel ∷ []) rest);
+      on = λ more x fine len e. gives-more regions g.first Cancel more x v.log out v.log next (g.on (Cancel ∷ more) x fine len e) (one x e);
       ends = λ h. g.ends refl;
       cut = λ off. absurd (let e : true ≡ false = sym sure ∙ off in cc);
       unasked = λ off. absurd (let e : true ≡ false = sym sure ∙ off in cc);
@@ -182,7 +194,9 @@ going-asked good words regions script rest v w alg was granted out next wrote g 
       named = same ∙ g.named;
       writer = g.writer ∙ ap (λ (l : Log). not (is_empty l.writes)) (sym log);
       sure = sure ∙ sym certain;
-      on = λ x fine len e. gives-step regions script Irrev rest x no_log no_replies v.log out w.log next (g.on x fine len (one x e).explained) (one x e);
+      first = g.first ++ Irrev ∷ [];
+      is = g.is ∙ sym (append_assoc g.first (Irrev ∷ []) rest);
+      on = λ more x fine len e. gives-more regions g.first Irrev more x v.log out w.log next (g.on (Irrev ∷ more) x fine len (one x e).explained) (one x e);
       ends = λ h. g.ends h;
       cut = λ off. absurd (let e : true ≡ false = sym certain ∙ off in cc);
       unasked = λ off. absurd (let e : true ≡ false = sym certain ∙ off in cc);
@@ -201,17 +215,26 @@ going-later good words regions script rest v w alg was granted out wrote g log s
   named = same ∙ g.named;
   writer = g.writer ∙ ap (λ (l : Log). not (is_empty l.writes)) (sym log);
   sure = sure;
-  on = λ m fine len x. subst (λ (l : Log). GivesOn regions script rest m no_log no_replies l out) (sym log) (g.on m fine len (subst (λ (l : Log). Explains m l.reads) log x));
+  first = g.first;
+  is = g.is;
+  on = λ more m fine len x. subst (λ (l : Log). GivesOn regions (g.first ++ more) more m no_log no_replies l out) (sym log) (g.on more m fine len (subst (λ (l : Log). Explains m l.reads) log x));
   ends = g.ends;
   cut = λ off m fine len x. subst (λ (l : Log). GivesOn regions (before_cancel script) (before_cancel rest) m no_log no_replies l out) (sym log) (g.cut (down off) m fine len (subst (λ (l : Log). Explains m l.reads) log x));
   unasked = λ off. g.unasked (down off);
 }
 
+-- what is done of the script
+pub gave-first : (good : List ℕ → Type 0) (words : ℕ) (regions : List Region) (script rest : List Op) (v : Known) (alg : Alg) (granted : Bool) (out : Output) (wrote : Bool) (g : Going good words regions script rest v alg granted out wrote)
+    → GaveOver good words (run regions g.first) no_log no_replies v.log out
+gave-first good words regions script rest v alg granted out wrote g = λ m fine len x.
+    subst (λ ops. Gave (run regions ops) m no_log no_replies v.log out) (append-nil g.first) (g.on [] m fine len x v.log out (gives-none regions m v.log out x))
+
 -- the script is over
 pub gave-all : (good : List ℕ → Type 0) (words : ℕ) (regions : List Region) (script rest : List Op) (v : Known) (alg : Alg) (granted : Bool) (out : Output) (wrote : Bool)
     → Going good words regions script rest v alg granted out wrote → rest ≡ [] → GaveOver good words (run regions script) no_log no_replies v.log out
-gave-all good words regions script rest v alg granted out wrote g none = λ m fine len x.
-    subst (λ ops. GivesOn regions script ops m no_log no_replies v.log out) none (g.on m fine len x) v.log out (gives-none regions m v.log out x)
+gave-all good words regions script rest v alg granted out wrote g none =
+    let whole : g.first ≡ script = sym (append-nil g.first) ∙ (ap (λ ops. g.first ++ ops) (sym none) ∙ sym g.is) in
+    subst (λ ops. GaveOver good words (run regions ops) no_log no_replies v.log out) whole (gave-first good words regions script rest v alg granted out wrote g)
 
 -- it ends before a cancel, and no irrev is behind it
 pub gave-cut : (good : List ℕ → Type 0) (words : ℕ) (regions : List Region) (script rest : List Op) (v : Known) (alg : Alg) (granted : Bool) (out : Output) (wrote : Bool)

@@ -5,4 +5,5 @@ mod RowLaws
 mod StandLaws
 mod TellLaws
 mod TurnLaws
+mod LeaveLaws
 mod StopLaws

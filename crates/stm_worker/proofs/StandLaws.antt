@@ -1,8 +1,8 @@
 -- What stands of a worker whatever its turn is.
-use Rattle.std.proofs.Common.{ℕ, zero, suc, ◌≡◌, ◌<◌, ◌≤◌, ◌+◌, Bool, true, false, List, [], ◌∷◌, ◌++◌, length, get_or, drop, refl, sym, ap, ◌∙◌, arith, subst, length-append, append_assoc, inl, inr}
-use Rattle.std.specs.Prelude.{◌⊎◌, ◌==◌, ◌||◌, ◌&&◌, not}
+use Rattle.std.proofs.Common.{ℕ, zero, suc, ◌≡◌, ◌≤◌, ◌+◌, true, false, List, [], ◌∷◌, ◌++◌, length, get_or, drop, refl, sym, ap, ◌∙◌, arith, subst, length-append, append_assoc, inl, inr}
+use Rattle.std.specs.Prelude.{◌⊎◌, ◌==◌}
 use Rattle.std.proofs.lemmas.Bool.Decides.{nat_tests}
-use Rattle.stm_model.specs.Algorithms.{is_built, is_sure}
+use Rattle.stm_model.specs.Algorithms.{is_built}
 use Rattle.stm_model.specs.declared.alg.Alg.{Alg}
 use Rattle.stm_model.specs.declared.config.Config.{Config}
 use Rattle.stm_script.specs.declared.op.Op.{Op}
@@ -24,7 +24,7 @@ use Rattle.stm_trace.specs.declared.said.Phase.{Phase}
 use Rattle.stm_trace.specs.declared.said.Phase.TheVariants.{Between, Inside, Closing, Quiet}
 use Rattle.stm_trace.specs.Places.{script_at, rest_of}
 use Rattle.stm_trace.specs.Turns.{BeforeTx, SwitchesTo, Next}
-use Rattle.stm_worker.specs.Workers.{IsAt, WhenInside, ItemsFit, switches_of, DidSwitches, Works, WorksSince, Stands, cleared, spares}
+use Rattle.stm_worker.specs.Workers.{IsAt, WhenInside, ItemsFit, switches_of, DidFirst, DidSwitches, Works, WorksSince, Stands, cleared, spares}
 
 pub callers-same : {K : Type 0} (d e : Handle K) → IsSameCaller d e → caller_of e.who.role ≡ caller_of d.who.role
 callers-same d e s = ap (λ x. caller_of x.role) s.who
@@ -198,6 +198,11 @@ pub works-over : (good : List ℕ → Type 0) (words : ℕ) (regions : List Regi
 works-over good words regions all n v w rows made grows h =
     subst (λ m. Worked good (zeros words) regions (script_of all) n m w.seen w.front rows) (sym made)
     (worked-grows good (zeros words) regions (script_of all) n v.made h.seen h.front w.seen w.front rows (grew-trans h.seen h.front v.seen v.front w.seen w.front h.grew grows) h.works)
+
+-- the next item is done
+pub did-first : (all left : List Item) → DidFirst all left → DidFirst all (rest_of left)
+did-first all [] h = h
+did-first all (i ∷ left) h = (h.0 ++ i ∷ [], h.1 ∙ sym (append_assoc h.0 (i ∷ []) left))
 
 pub did-same : (all left : List Item) (v w : Known) → w.installs ≡ v.installs → DidSwitches all left v → DidSwitches all left w
 did-same all left v w e h = (h.0, ap (λ l. l ++ switches_of left) e ∙ h.1)

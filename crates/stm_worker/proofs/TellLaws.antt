@@ -1,11 +1,11 @@
 -- What follows of what a call tells: the numbers of its line, the clock's rises, the clock that was found full, and the installs.
-use Rattle.std.proofs.Common.{ℕ, ◌≡◌, ◌≤◌, ◌+◌, ◌^◌, Bool, true, false, List, [], ◌∷◌, ◌++◌, refl, sym, ap, ◌∙◌, arith, subst}
+use Rattle.std.proofs.Common.{ℕ, ◌≡◌, ◌≤◌, ◌+◌, ◌^◌, Bool, true, false, List, [], ◌++◌, refl, sym, ap, ◌∙◌, arith, subst}
 use Rattle.std.proofs.lemmas.List.{append-nil}
 use Rattle.std.proofs.lemmas.List.Elements.{Contains-append_left}
 use Rattle.std.specs.Prelude.{MatchOption, Some, Contains, if◌then◌else◌}
 use Rattle.rule_base.specs.declared.layout.At.TheVariants.{Clock}
-use Rattle.rule_base.specs.declared.views.TrailItem.{TrailItem}
 use Rattle.stm_model.specs.Algorithms.{entry_rise, install_rise, quit_rise}
+use Rattle.stm_model.specs.AlgorithmLaws.{entry-low, install-low, quit-low}
 use Rattle.stm_model.specs.Configs.{IsConfig}
 use Rattle.stm_model.specs.declared.alg.Alg.{Alg}
 use Rattle.stm_model.specs.declared.alg.Alg.TheVariants.{Cgl, Tml, OrecLazy, OrecEager, RingSw, Serial}
@@ -15,10 +15,10 @@ use Rattle.stm_model.specs.declared.stop.Stop.TheVariants as stops
 use Rattle.stm_script.specs.declared.workload.Header.{Header}
 use Rattle.stm_trace.specs.declared.said.Said.{Said}
 use Rattle.stm_trace.specs.declared.said.Said.TheVariants.{TryBegin, Reply, Stopped, TryCancel, TryIrrevocable, TryCommit, TryClose, Looked, Installed, Idle, Dropped, Reopened}
-use Rattle.stm_trace.specs.FairLaws.{IsPlaceOf, IsPlaceIn, fair-begin, fair-close, fair-look, fair-cancel, fair-irrevocable, fair-commit, fair-stop}
-use Rattle.stm_trace.specs.Places.{Place, clock_of, sure}
+use Rattle.stm_trace.specs.FairLaws.{IsPlaceOf, fair-begin, fair-close, fair-look, fair-cancel, fair-irrevocable, fair-commit, fair-stop}
+use Rattle.stm_trace.specs.Places.{Place, clock_of}
 use Rattle.stm_trace.specs.Turns.{HasSizes, IsFair}
-use Rattle.tx_answers.specs.Answers.{Stays, Quits, Ends, Stops, EndsAt, CommitsAt}
+use Rattle.tx_answers.specs.Answers.{Stays, Quits, Ends, Stops}
 use Rattle.tx_answers.specs.Causes.{FindsFull}
 use Rattle.tx_answers.specs.Known.{Known, is_irrevocable, owed, wrote}
 use Rattle.tx_answers.specs.KnownLaws.{Carries}
@@ -28,7 +28,7 @@ use Rattle.tx_answers.specs.declared.answers.CloseGate.TheVariants as closes
 use Rattle.tx_answers.specs.declared.answers.Commit.TheVariants as commits
 use Rattle.tx_answers.specs.declared.answers.Irrev.TheVariants as irrevs
 use Rattle.tx_answers.specs.declared.answers.Look.TheVariants as looks
-use Rattle.stm_worker.specs.Tellings.{Tells, StoppedBy}
+use Rattle.stm_worker.specs.Tellings.{Tells}
 use Rattle.stm_worker.specs.Workers.{HasLengths, Loaded, installed}
 
 pub owed-in : (v : Known) → v.running ≡ true → owed v ≡ v.base + 2
@@ -36,31 +36,6 @@ owed-in v e = ap (λ b. if b then v.base + 2 else v.rises) e
 
 pub owed-out : (v : Known) → v.running ≡ false → owed v ≡ v.rises
 owed-out v e = ap (λ b. if b then v.base + 2 else v.rises) e
-
-pub quit-low : (alg : Alg) (some : Bool) → quit_rise alg some ≤ 1
-quit-low Cgl some = omega arith
-quit-low Tml some = omega arith
-quit-low OrecLazy some = omega arith
-quit-low OrecEager true = omega arith
-quit-low OrecEager false = omega arith
-quit-low RingSw some = omega arith
-quit-low Serial some = omega arith
-
-pub entry-low : (alg : Alg) → entry_rise alg ≤ 2
-entry-low Cgl = omega arith
-entry-low Tml = omega arith
-entry-low OrecLazy = omega arith
-entry-low OrecEager = omega arith
-entry-low RingSw = omega arith
-entry-low Serial = omega arith
-
-pub install-low : (alg : Alg) → install_rise alg ≤ 1
-install-low Cgl = omega arith
-install-low Tml = omega arith
-install-low OrecLazy = omega arith
-install-low OrecEager = omega arith
-install-low RingSw = omega arith
-install-low Serial = omega arith
 
 -- whether an attempt is open where it may be said
 abbrev pub Asks : Said → Known → Type 0

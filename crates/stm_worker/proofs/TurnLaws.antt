@@ -1,9 +1,10 @@
 -- From the clauses of a call to what its turn did.
 use Rattle.std.proofs.Common.{ℕ, suc, ◌≡◌, ◌<◌, ◌≤◌, ◌+◌, Bool, true, false, List, [], ◌∷◌, ◌++◌, length, drop, refl, sym, ap, ◌∙◌, arith, subst, length-append, append_assoc, inl, inr}
 use Rattle.std.proofs.lemmas.Bool.Decides.{nat_tests}
-use Rattle.std.specs.Prelude.{◌⊎◌, ◌==◌, ◌||◌, ◌&&◌, not, leb, slice_index_or, if◌then◌else◌}
+use Rattle.std.specs.Prelude.{◌⊎◌, ◌||◌, ◌&&◌, not, slice_index_or}
 use Rattle.std.specs.Borrow.{Bor}
 use Rattle.stm_model.specs.Algorithms.{is_sure}
+use Rattle.stm_model.specs.AlgorithmLaws.{granted-sure, sure-wrote}
 use Rattle.stm_model.specs.Configs.{IsConfig}
 use Rattle.stm_model.specs.Logs.{IsExplained}
 use Rattle.stm_model.specs.declared.alg.Alg.{Alg}
@@ -13,10 +14,9 @@ use Rattle.stm_script.specs.declared.op.Op.{Op}
 use Rattle.stm_script.specs.declared.op.Op.TheVariants.{Cancel, Irrev}
 use Rattle.stm_script.specs.declared.report.Kind.{Kind}
 use Rattle.stm_script.specs.declared.report.Kind.TheVariants.{W, R, C}
-use Rattle.stm_script.specs.declared.workload.Header.{Header}
 use Rattle.stm_script.specs.declared.workload.Item.{Item}
 use Rattle.stm_script.specs.Operations.{emits_of, is_cancel, is_irrev}
-use Rattle.stm_script.specs.Outputs.{Output, HasRoom}
+use Rattle.stm_script.specs.Outputs.{Output}
 use Rattle.stm_script.specs.Reports.{scripts_of}
 use Rattle.stm_script.specs.Scripts.{run}
 use Rattle.stm_script.specs.ScriptLaws.{GaveOver, ran_one}
@@ -37,17 +37,17 @@ use Rattle.stm_trace.specs.declared.said.Phase.TheVariants.{Between, Inside, Clo
 use Rattle.stm_trace.specs.declared.said.Said.{Said}
 use Rattle.stm_trace.specs.declared.said.Said.TheVariants.{TryBegin, Reply, Stopped, TryCancel, TryIrrevocable, TryCommit, Installed}
 use Rattle.stm_trace.specs.FairLaws.{IsPlaceOf}
-use Rattle.stm_trace.specs.Places.{Place, script_at, rest_of, ended, after, failed_next, granted_at, is_forced, must_next, most_failed, stopped, sure, writes}
-use Rattle.stm_trace.specs.Turns.{BeforeTx, Comes, HasSizes, MaySay, MayWind, Next, SwitchesTo, is_call}
+use Rattle.stm_trace.specs.Places.{Place, script_at, rest_of, ended, after, failed_next, granted_at, is_forced, must_next, most_failed, sure, writes}
+use Rattle.stm_trace.specs.Turns.{BeforeTx, Comes, MaySay, MayWind, Next, SwitchesTo, is_call}
 use Rattle.stm_worker.specs.declared.worker.Worker.{Worker}
 use Rattle.stm_worker.specs.Goings.{Going, no_log, no_replies}
 use Rattle.stm_worker.specs.Tellings.{Tells, StoppedBy}
-use Rattle.stm_worker.specs.Workers.{place_of, HasLengths, IsAt, IsCounted, IsSame, IsUnderWay, ToSwitch, WhenInside, ItemsFit, switches_of, DidSwitches, Works, WorksSince, Stands, cleared, spares, EndsWith, Sound, Turned, Refused, made_way, stopped_by}
-use Rattle.stm_worker.proofs.Calls.{grew, nothing, CommitsAt, QuitsAt, commits, quits}
+use Rattle.stm_worker.specs.Workers.{place_of, HasLengths, IsAt, IsCounted, IsSame, IsUnderWay, ToSwitch, WhenInside, ItemsFit, switches_of, DidFirst, DidSwitches, Works, WorksSince, Stands, cleared, spares, EndsWith, Sound, Turned, Refused, stopped_by}
+use Rattle.stm_worker.proofs.Calls.{grew, nothing, commits, quits}
 use Rattle.stm_worker.proofs.GoingLaws.{wrote-one, going-begun, going-step, going-refused, going-asked, going-later, gave-all, gave-cut, cut-unasked}
 use Rattle.stm_worker.proofs.RoomLaws.{room-of}
 use Rattle.stm_worker.proofs.RowLaws.{row-wrote, row-read, row-cancelled, row_of}
-use Rattle.stm_worker.proofs.StandLaws.{callers-same, cleared-more, cleared-told, did-left, did-same, did-switch, drop-head, drop-more, few-emits, head-fits, next-is, rest-between, rest-closed, rest-closing, rest-fits, rest-quiet, rest-runs, rest-stands, Rest, room-next, room-told, since-begin, since-later, stands-rest, switch-left, at-closed, tx-left, tx-scripts, when-rest, works-later, works-over}
+use Rattle.stm_worker.proofs.StandLaws.{callers-same, cleared-more, cleared-told, did-first, did-left, did-same, did-switch, drop-head, drop-more, few-emits, head-fits, next-is, rest-between, rest-closed, rest-fits, rest-quiet, rest-runs, rest-stands, Rest, room-next, room-told, since-begin, since-later, stands-rest, switch-left, at-closed, tx-left, tx-scripts, when-rest, works-later, works-over}
 use Rattle.stm_worker.proofs.TellLaws.{Asks, stops-quits, tells-fair, tells-found, tells-installs, tells-owed}
 
 began-at : (at : Place) (n : ℕ) (ops : List Op) (o : Output) (alg : Alg) → n ≡ at.caller → ops ≡ script_at at.left → o.replies ≡ [] → o.emits ≡ []
@@ -89,31 +89,9 @@ and-left true true h e = refl
 and-left true false h e = absurd cc
 and-left false b h e = absurd cc
 
-and-none : (a b : Bool) → b ≡ true → (a && not b) ≡ false
-and-none true b e = ap not e
-and-none false b e = refl
-
 still-few : (failed : ℕ) (must : Bool) → IsCounted failed must → IsCounted (failed_next must failed) (must_next must failed)
 still-few failed true few e = absurd cc
 still-few failed false few e = let lt = few refl in grind (arith, nat_tests)
-
-sure-wrote : (alg : Alg) (granted wrote more : Bool) → is_sure alg granted wrote ≡ true → is_sure alg granted (wrote || more) ≡ true
-sure-wrote Alg.Cgl granted wrote more h = refl
-sure-wrote Alg.Tml true wrote more h = refl
-sure-wrote Alg.Tml false true more h = refl
-sure-wrote Alg.Tml false false more h = absurd cc
-sure-wrote Alg.OrecLazy granted wrote more h = h
-sure-wrote Alg.OrecEager granted wrote more h = h
-sure-wrote Alg.RingSw granted wrote more h = h
-sure-wrote Alg.Serial granted wrote more h = h
-
-sure-granted : (alg : Alg) (wrote : Bool) → is_sure alg true wrote ≡ true
-sure-granted Alg.Cgl wrote = refl
-sure-granted Alg.Tml wrote = refl
-sure-granted Alg.OrecLazy wrote = refl
-sure-granted Alg.OrecEager wrote = refl
-sure-granted Alg.RingSw wrote = refl
-sure-granted Alg.Serial wrote = refl
 
 asks-out : {K : Type 0} (good : List ℕ → Type 0) (stm : Stm K) (u : Worker K) → Sound good stm u → Rest u.phase → (known u.desc).running ≡ false
 asks-out good stm u s r = rest-runs good stm.config (caller_of u.desc.who.role) u.phase (known u.desc) r s.at
@@ -122,7 +100,7 @@ module _ {K : Type 0} (good : List ℕ → Type 0) (stm : Stm K) (u : Worker K) 
   resting-now : Rest u.phase → Works good stm.config.words u.regions u.all.now (caller_of u.desc.who.role) (known u.desc) u.rows.items
   resting-now r = rest-stands good stm.config.words u.regions u.all.now (caller_of u.desc.who.role) (known u.desc) u.rows.items u.phase r s.stands
 
-  inside-now : u.phase ≡ Inside → WorksSince good stm.config.words u.regions u.all.now (caller_of u.desc.who.role) (known u.desc) u.rows.items
+  pub inside-now : u.phase ≡ Inside → WorksSince good stm.config.words u.regions u.all.now (caller_of u.desc.who.role) (known u.desc) u.rows.items
   inside-now e = subst (Stands good stm.config.words u.regions u.all.now (caller_of u.desc.who.role) (known u.desc) u.rows.items) e s.stands
 
   pub attempt-now : u.phase ≡ Inside → IsUnderWay good stm.config.words u
@@ -162,13 +140,14 @@ module _ {K : Type 0} (good : List ℕ → Type 0) (stm : Stm K) (u : Worker K) 
       by true c = absurd (let f : true ≡ false = sym forced ∙ ((attempt-now e).committing c).1 in cc)
       by false c = refl
 
-  module _ (may : Place → Said → Type 0) (said : Said) (w : Worker K) (config : IsConfig stm.config) where
-    inside-of-running : (p : Phase) → IsAt good stm.config (caller_of u.desc.who.role) p (known u.desc) → (known u.desc).running ≡ true → p ≡ Inside
-    inside-of-running Between h e = absurd (let f : true ≡ false = sym e ∙ h.1 in cc)
-    inside-of-running Inside h e = refl
-    inside-of-running Closing h e = absurd (let f : true ≡ false = sym e ∙ h.running in cc)
-    inside-of-running Quiet h e = absurd (let f : true ≡ false = sym e ∙ h.0.running in cc)
+  -- who is in an attempt is inside
+  pub inside-of-running : (p : Phase) → IsAt good stm.config (caller_of u.desc.who.role) p (known u.desc) → (known u.desc).running ≡ true → p ≡ Inside
+  inside-of-running Between h e = absurd (let f : true ≡ false = sym e ∙ h.1 in cc)
+  inside-of-running Inside h e = refl
+  inside-of-running Closing h e = absurd (let f : true ≡ false = sym e ∙ h.running in cc)
+  inside-of-running Quiet h e = absurd (let f : true ≡ false = sym e ∙ h.0.running in cc)
 
+  module _ (may : Place → Said → Type 0) (said : Said) (w : Worker K) (config : IsConfig stm.config) where
     -- a turn by what its call told, and by what it left
     pub turned-by : may (place_of u) said → Asks said (known u.desc) → Tells good stm.config (caller_of u.desc.who.role) said (known u.desc) (known w.desc) → place_of w ≡ after (place_of u) said → IsSame u w → Sound good stm w → Turned good stm may u said w
     turned-by here asks told now same sound = record {
@@ -193,14 +172,6 @@ module _ {K : Type 0} (good : List ℕ → Type 0) (stm : Stm K) (u : Worker K) 
     lengths-same : HasLengths stm.config (known d)
     lengths-same = (grows.reads_limit ∙ s.lengths.0, grows.writes_limit ∙ s.lengths.1)
 
-    is-same : (left : Bor (List Item)) (w : Worker K) → w.desc ≡ d → w.all.now ≡ u.all.now → w.regions ≡ u.regions → w.items_left.now ≡ u.items_left.now → (known d).installs ≡ (known u.desc).installs → IsSame u w
-    is-same left w is all regions items installs = record {
-      same = subst (IsSameCaller u.desc) (sym is) same;
-      all = all;
-      regions = regions;
-      switched = ap (λ (h : Handle K). (known h).installs ++ switches_of w.items_left.now) is ∙ (ap (λ l. (known d).installs ++ switches_of l) items ∙ ap (λ l. l ++ switches_of u.items_left.now) installs);
-    }
-
     -- whatever changed of the attempt, the rows are as they were
     sound-of : (p : Phase) (alg : Alg) (r : Bor (List Op)) (o : Output) (wrote granted must b : Bool) (failed : ℕ) → IsAt good stm.config (caller_of u.desc.who.role) p (known d) → cleared o ≡ cleared u.out → (known d).installs ≡ (known u.desc).installs
         → Stands good stm.config.words u.regions u.all.now (caller_of u.desc.who.role) (known d) u.rows.items p → IsCounted failed must → ToSwitch p u.items_left.now
@@ -211,6 +182,7 @@ module _ {K : Type 0} (good : List ℕ → Type 0) (stm : Stm K) (u : Worker K) 
       at = subst (λ n. IsAt good stm.config n p (known d)) (sym n_is) at;
       lengths = lengths-same;
       stands = subst (λ n. Stands good stm.config.words u.regions u.all.now n (known d) u.rows.items p) (sym n_is) stands;
+      done = s.done;
       todo = subst (λ n. scripts_of n u.items_left.now ≡ drop (length u.rows.items) (scripts_of n u.all.now)) (sym n_is) s.todo;
       within = subst (λ n. length u.rows.items ≤ length (scripts_of n u.all.now)) (sym n_is) s.within;
       counted = few;
@@ -255,7 +227,6 @@ module _ {K : Type 0} (good : List ℕ → Type 0) (stm : Stm K) (u : Worker K) 
         s.counted tt (record {
           going = subst (λ ops. Going good stm.config.words u.regions (script_at u.items_left.now) ops (known d) alg false o false) (sym is) going;
           here = here;
-          built = h.built;
           committing = λ e. absurd (let f : true ≡ false = sym e ∙ h.committing in cc);
           waits = λ e f. refl;
         })
@@ -293,7 +264,6 @@ module _ {K : Type 0} (good : List ℕ → Type 0) (stm : Stm K) (u : Worker K) 
         stays-in u.alg r o wrote u.granted u.must u.passed u.failed inside runs.0 carries.made still.start carries.installs (cleared-more u.out o (u.out.replies ++ reply ∷ []) (u.out.emits ++ emits_of op reply) told) s.counted (record {
           going = going;
           here = at.here;
-          built = at.built;
           committing = λ e. absurd (let f : true ≡ false = sym e ∙ runs.1 in cc);
           waits = λ e off. absurd (let now = and-left u.must (sure (place_of u)) comes.1 e in let later = ap (is_sure u.alg u.granted) was ∙ sure-wrote u.alg u.granted u.wrote (writes op reply) now in let f : true ≡ false = sym later ∙ off in cc);
         })
@@ -340,7 +310,6 @@ module _ {K : Type 0} (good : List ℕ → Type 0) (stm : Stm K) (u : Worker K) 
         (same-known knows) s.counted s.turning (subst (λ p. WhenInside p (IsUnderWay good stm.config.words (record u { desc = d; operations_left = r; out = o }))) (sym inside) (record {
           going = going;
           here = at.here;
-          built = at.built;
           committing = λ e. absurd (let f = (at.committing (sym (ap (λ (v : Known). v.committing) knows) ∙ e)).0 in subst (Next Cancel) f comes.2);
           waits = at.waits;
         }))
@@ -355,7 +324,6 @@ module _ {K : Type 0} (good : List ℕ → Type 0) (stm : Stm K) (u : Worker K) 
           (same-known knows) s.counted s.turning (subst (λ p. WhenInside p (IsUnderWay good stm.config.words (record u { desc = d }))) (sym inside) (let at = attempt-now inside in record {
             going = subst (λ v. Going good stm.config.words u.regions (script_at u.items_left.now) u.operations_left.now v u.alg u.granted u.out u.wrote) (sym knows) at.going;
             here = at.here;
-            built = at.built;
             committing = λ e. at.committing (sym (ap (λ (v : Known). v.committing) knows) ∙ e);
             waits = at.waits;
           }));
@@ -369,11 +337,10 @@ module _ {K : Type 0} (good : List ℕ → Type 0) (stm : Stm K) (u : Worker K) 
     pub granted-forced : u.phase ≡ Inside → answers.BecomesSure good stm.config (caller_of u.desc.who.role) (known u.desc) (known d) → Sound good stm (record u { desc = d; granted = true })
     granted-forced inside h =
         let at = attempt-now inside in
-        let certain = sure-granted u.alg u.wrote in
+        let certain = granted-sure u.alg u.wrote in
         stays-in u.alg u.operations_left u.out u.wrote true u.must u.passed u.failed inside h.continues.running h.continues.made h.continues.later h.continues.installs refl s.counted (record {
           going = going-later good stm.config.words u.regions (script_at u.items_left.now) u.operations_left.now (known u.desc) (known d) u.alg u.granted true u.out u.wrote at.going h.log h.continues.alg h.opaque.explained (certain ∙ sym h.sure) (λ off. absurd (let f : true ≡ false = sym h.sure ∙ off in cc));
           here = at.here;
-          built = at.built;
           committing = λ e. absurd (let f : true ≡ false = sym e ∙ h.uncommitted in cc);
           waits = λ e off. absurd (let f : true ≡ false = sym certain ∙ off in cc);
         })
@@ -383,13 +350,12 @@ module _ {K : Type 0} (good : List ℕ → Type 0) (stm : Stm K) (u : Worker K) 
     granted-asked r o comes is told h =
         let inside = comes.0 in
         let at = attempt-now inside in
-        let certain = sure-granted u.alg u.wrote in
+        let certain = granted-sure u.alg u.wrote in
         let g = subst (λ x. Going good stm.config.words u.regions (script_at u.items_left.now) x (known u.desc) u.alg u.granted u.out u.wrote) (next-is Irrev u.operations_left.now comes.2) at.going in
         let step = going-asked good stm.config.words u.regions (script_at u.items_left.now) (rest_of u.operations_left.now) (known u.desc) (known d) u.alg u.granted true u.out o u.wrote g h.log h.continues.alg h.opaque.explained certain h.sure told (room-told u.out o 1 (length (rest_of u.operations_left.now)) told g.room) in
         stays-in u.alg r o u.wrote true u.must u.passed u.failed inside h.continues.running h.continues.made h.continues.later h.continues.installs (cleared-told u.out o (u.out.replies ++ 1 ∷ []) told) s.counted (record {
           going = subst (λ x. Going good stm.config.words u.regions (script_at u.items_left.now) x (known d) u.alg true o u.wrote) (sym is) step;
           here = at.here;
-          built = at.built;
           committing = λ e. absurd (let f : true ≡ false = sym e ∙ h.uncommitted in cc);
           waits = λ e off. absurd (let f : true ≡ false = sym certain ∙ off in cc);
         })
@@ -409,7 +375,6 @@ module _ {K : Type 0} (good : List ℕ → Type 0) (stm : Stm K) (u : Worker K) 
         stays-in u.alg u.operations_left u.out u.wrote u.granted u.must b u.failed inside h.running h.made h.later h.installs refl s.counted (record {
           going = going-later good stm.config.words u.regions (script_at u.items_left.now) u.operations_left.now (known u.desc) (known d) u.alg u.granted u.granted u.out u.wrote at.going log h.alg opaque.explained (at.going.sure ∙ sym same_sure) (λ off. sym same_sure ∙ off);
           here = at.here;
-          built = at.built;
           committing = committing;
           waits = at.waits;
         })
@@ -467,6 +432,7 @@ module _ {K : Type 0} (good : List ℕ → Type 0) (stm : Stm K) (u : Worker K) 
             at = subst (λ p. IsAt good stm.config (caller_of w.desc.who.role) p (known w.desc)) (sym phase) (subst (λ (h : Handle K). IsIdle (known h)) (sym ends.desc) idle);
             lengths = subst (λ (h : Handle K). HasLengths stm.config (known h)) (sym ends.desc) lengths-same;
             stands = stands-rest good stm.config.words w.regions w.all.now (caller_of w.desc.who.role) (known w.desc) w.rows.items w.phase rests worked;
+            done = subst (λ x. DidFirst x w.items_left.now) (sym ends.all) (subst (DidFirst u.all.now) (sym left) (did-first u.all.now u.items_left.now s.done));
             todo = subst (λ k. scripts_of k w.items_left.now ≡ drop (length w.rows.items) (scripts_of k w.all.now)) (sym caller)
                 (ap (scripts_of n) left ∙ (next ∙ (ap (λ k. drop k (scripts_of n u.all.now)) one ∙ ap (λ x. drop (length w.rows.items) (scripts_of n x)) (sym ends.all))));
             within = subst (λ k. length w.rows.items ≤ length (scripts_of k w.all.now)) (sym caller) (subst (λ x. length w.rows.items ≤ length (scripts_of n x)) (sym ends.all) (omega arith));
@@ -534,6 +500,7 @@ module _ {K : Type 0} (good : List ℕ → Type 0) (stm : Stm K) (u : Worker K) 
             lengths = lengths-same;
             stands = subst (λ k. Works good stm.config.words u.regions u.all.now k (known d) u.rows.items) (sym n_is)
                 (works-later good stm.config.words u.regions u.all.now n (known u.desc) (known d) u.rows.items made (grew (known u.desc) (known d) grows) (resting-now (rest-quiet u.phase quiet)));
+            done = subst (DidFirst u.all.now) (sym is) (did-first u.all.now u.items_left.now s.done);
             todo = subst (λ k. scripts_of k r.now ≡ drop (length u.rows.items) (scripts_of k u.all.now)) (sym n_is) (ap (scripts_of n) is ∙ (left.1 ∙ s.todo));
             within = subst (λ k. length u.rows.items ≤ length (scripts_of k u.all.now)) (sym n_is) s.within;
             counted = s.counted;

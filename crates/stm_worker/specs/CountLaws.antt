@@ -131,17 +131,3 @@ said-counts (Installed alg) at here may h = counted-switch alg at.left at.failed
 said-counts Idle at here may h = h
 said-counts Dropped at here may h = absurd may
 said-counts Reopened at here may h = absurd may
-
-pub wound-counts : (said : Said) (at : Place) → (at.phase ≡ Inside → BeforeTx at.left) → MayWind at said → CountsAt at → CountsAt (after at said)
-wound-counts (TryBegin b) at here may h = said-counts (TryBegin b) at here may.2 h
-wound-counts (Reply op reply) at here may h = said-counts (Reply op reply) at here may.2 h
-wound-counts (Stopped op stop) at here may h = said-counts (Stopped op stop) at here may.2 h
-wound-counts (TryCancel c) at here may h = said-counts (TryCancel c) at here may.2 h
-wound-counts (TryIrrevocable r) at here may h = said-counts (TryIrrevocable r) at here may.2 h
-wound-counts (TryCommit c) at here may h = said-counts (TryCommit c) at here may.2 h
-wound-counts (TryClose c) at here may h = said-counts (TryClose c) at here may.2 h
-wound-counts (Looked l) at here may h = said-counts (Looked l) at here may.2 h
-wound-counts (Installed alg) at here may h = said-counts (Installed alg) at here may.2 h
-wound-counts Idle at here may h = said-counts Idle at here may.2 h
-wound-counts Dropped at here may h = h
-wound-counts Reopened at here may h = h

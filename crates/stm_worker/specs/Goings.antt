@@ -1,5 +1,5 @@
 -- An attempt in the middle of its script.
-use Rattle.std.specs.Prelude.{ℕ, ◌≡◌, Bool, true, false, List, [], length}
+use Rattle.std.specs.Prelude.{ℕ, ◌≡◌, Bool, true, false, List, [], ◌++◌, length}
 use Rattle.stm_model.specs.Algorithms.{is_sure}
 use Rattle.stm_model.specs.declared.alg.Alg.{Alg}
 use Rattle.stm_model.specs.Memories.{Explains}
@@ -21,7 +21,7 @@ no_log = record { reads = []; writes = [] }
 abbrev pub no_replies : Output
 no_replies = record { replies = []; emits = []; room = 0 }
 
--- the rest of the script fits and has room, and what the attempt did so far is the beginning of its script, on every good memory that explains its log
+-- the rest of the script fits and has room, and what the attempt did so far is what the first operations of its script do, on every good memory that explains its log
 pub record Going (good : List ℕ → Type 0) (words : ℕ) (regions : List Region) (script rest : List Op) (v : Known) (alg : Alg) (granted : Bool) (out : Output) (wrote : Bool) : Type 0 where
   pub fits : ScriptFits regions words rest
   pub rule : ScriptKeeps good words regions rest
@@ -32,7 +32,10 @@ pub record Going (good : List ℕ → Type 0) (words : ℕ) (regions : List Regi
   pub writer : wrote ≡ knows.wrote v
   -- what was said tells whether it can be cancelled
   pub sure : is_sure alg granted wrote ≡ is_irrevocable v
-  pub on : (m : List ℕ) → good m → length m ≡ words → Explains m v.log.reads → GivesOn regions script rest m no_log no_replies v.log out
+  -- those that are done: whatever comes behind them, where that gives something, they and it give it
+  pub first : List Op
+  pub is : script ≡ first ++ rest
+  pub on : (more : List Op) (m : List ℕ) → good m → length m ≡ words → Explains m v.log.reads → GivesOn regions (first ++ more) more m no_log no_replies v.log out
   pub ends : has_cancel rest ≡ true → has_cancel script ≡ true
   -- and so up to the first cancel, while the attempt can be cancelled: then no irrev is behind it
   pub cut : is_irrevocable v ≡ false → (m : List ℕ) → good m → length m ≡ words → Explains m v.log.reads → GivesOn regions (before_cancel script) (before_cancel rest) m no_log no_replies v.log out

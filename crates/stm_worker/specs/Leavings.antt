@@ -1,15 +1,22 @@
 -- How a worker leaves what it has open.
-use Rattle.std.specs.Prelude.{◌≡◌, ◌≤◌, ◌⊎◌, ℕ, true, None, List}
+use Rattle.std.specs.Prelude.{◌≡◌, ◌≤◌, ◌⊎◌, ◌++◌, ℕ, true, None, List, [], ◌∷◌, length}
+use Rattle.stm_model.specs.declared.config.Config.{Config}
+use Rattle.stm_script.specs.declared.op.Op.{Op}
+use Rattle.stm_script.specs.declared.report.Row.{Row}
+use Rattle.stm_script.specs.declared.workload.Item.{Item}
+use Rattle.stm_script.specs.declared.workload.Item.TheVariants.{Tx, Switch}
+use Rattle.stm_script.specs.Reports.{scripts_of}
 use Rattle.stm_rule.specs.declared.stm.Stm.{Stm}
 use Rattle.stm_rule.specs.Callers.{IsOf, IsSameCaller}
-use Rattle.tx_answers.specs.Known.{IsIdle, owed}
+use Rattle.tx_answers.specs.Answers.{CommitsAt}
+use Rattle.tx_answers.specs.Known.{Known, Grows, IsIdle, caller_of, is_irrevocable, owed}
 use Rattle.stm_tx.specs.Descs.{known}
 use Rattle.stm_trace.specs.declared.said.Phase.TheVariants.{Between, Inside}
 use Rattle.stm_trace.specs.declared.said.Said.{Said}
 use Rattle.stm_trace.specs.Places.{Place, clock_of, sure}
 use Rattle.stm_trace.specs.Turns.{MayWind}
 use Rattle.stm_worker.specs.declared.worker.Worker.{Worker}
-use Rattle.stm_worker.specs.Workers.{place_of, IsSame, Sound, Turned}
+use Rattle.stm_worker.specs.Workers.{place_of, IsSame, Sound, Turned, Works}
 
 -- no attempt and no closing is open
 abbrev pub HasNothingOpen : Place → Type 0
@@ -34,12 +41,39 @@ module _ {K : Type 0} (good : List ℕ → Type 0) (stm : Stm K) where
     pub calm : clock_of said ≡ None
     pub nothing_open : HasNothingOpen (place_of w)
 
-module _ {K : Type 0} (stm : Stm K) where
+-- what the caller made and installed when its descriptor was left idle: an attempt that can be cancelled makes no entry, and another at most the one of its log
+pub record KeepsMade (good : List ℕ → Type 0) (c : Config) (n : ℕ) (v w : Known) : Type 0 where
+  pub grows : Grows v w
+  pub made : (w.made ≡ v.made) ⊎ ((v.running ≡ true) × (is_irrevocable v ≡ true) × ((time : ℕ) × CommitsAt good c n time v w))
+  pub installs : w.installs ≡ v.installs
+
+-- behind the first items the first operations of the transaction that comes next
+abbrev pub BeginsNext : List Item → List Item → List Item → Type 0
+BeginsNext first [] did = ⊥
+BeginsNext first (Tx caller script ∷ left) did = (ops rest : List Op) × (script ≡ ops ++ rest) × (did ≡ first ++ Tx caller ops ∷ [])
+BeginsNext first (Switch caller alg ∷ left) did = ⊥
+
+-- of all items the first ones, behind which these are left, and maybe the first operations of the transaction that comes next
+abbrev pub IsPart : List Item → List Item → List Item → Type 0
+IsPart all left did = (first : List Item) × (all ≡ first ++ left) × ((did ≡ first) ⊎ BeginsNext first left did)
+
+module _ {K : Type 0} (good : List ℕ → Type 0) (stm : Stm K) where
+  -- what the caller has done: a part of its items, with a row for each transaction; an attempt that couldn't be cancelled, and so was committed, has that of the operations that it had done
+  pub record DidPart (v w : Worker K) : Type 0 where
+    pub items : List Item
+    pub part : IsPart v.all.now v.items_left.now items
+    pub calm : v.phase ≡ Between → v.all.now ≡ items ++ v.items_left.now
+    pub rows : List Row
+    pub works : Works good stm.config.words v.regions items (caller_of v.desc.who.role) (known w.desc) rows
+    pub whole : length rows ≡ length (scripts_of (caller_of v.desc.who.role) items)
+
   -- ended without a line: the descriptor is idle, and the clock rose by no more than was owed
   pub record MadeIdle (v w : Worker K) : Type 0 where
     pub own : IsOf w.desc stm
     pub idle : IsIdle (known w.desc)
     pub pays : (known w.desc).rises ≤ owed (known v.desc)
+    pub keeps : KeepsMade good stm.config (caller_of v.desc.who.role) (known v.desc) (known w.desc)
+    pub did : DidPart v w
     pub same : IsSameCaller v.desc w.desc
     pub rows : w.rows.items ≡ v.rows.items
     pub still : v.phase ≡ Between → w ≡ v

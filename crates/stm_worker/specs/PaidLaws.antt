@@ -3,6 +3,7 @@ use Rattle.std.proofs.Common.{ℕ, suc, ◌≡◌, ◌≤◌, ◌+◌, ◌*◌, 
 use Rattle.std.proofs.Math.Nat.{mul-suc}
 use Rattle.std.specs.Prelude.{◌⊎◌, ◌&&◌, not, leb}
 use Rattle.stm_model.specs.Algorithms.{entry_rise, quit_rise}
+use Rattle.stm_model.specs.AlgorithmLaws.{entry-low, install-low, quit-low, quit-none}
 use Rattle.stm_model.specs.Logs.{Log}
 use Rattle.stm_model.specs.Memories.{is_empty}
 use Rattle.stm_model.specs.declared.alg.Alg.{Alg}
@@ -30,7 +31,7 @@ use Rattle.stm_trace.specs.Places.{after, ended, failed_next, given_up, granted_
 use Rattle.stm_trace.specs.Turns.{BeforeTx, Comes, MaySay, MayWind, SwitchesTo}
 use Rattle.stm_worker.specs.declared.worker.Worker.{Worker}
 use Rattle.stm_worker.specs.Payments.{raised, spent, Paid, dropped_of, unpaid_by}
-use Rattle.stm_worker.specs.RiseLaws.{raised-in, raised-out, quit-low, quit-none, entry-low, install-low, stops-quits}
+use Rattle.stm_worker.specs.RiseLaws.{raised-in, raised-out, stops-quits}
 use Rattle.stm_worker.specs.Tellings.{Tells, StoppedBy}
 use Rattle.stm_worker.specs.Workers.{place_of, IsAt, IsUnderWay, Sound, WhenInside}
 

@@ -22,7 +22,7 @@ use Rattle.stm_worker.specs.Payments.{raised, spent, Pays, PaysBut, PaysAfter, P
 use Rattle.stm_worker.specs.Workers.{place_of, IsAt, Sound, Starts, Turned}
 use Rattle.stm_worker.specs.RiseLaws.{raised-in, raised-out, owed-in, owed-out}
 use Rattle.stm_worker.specs.PaidLaws.{spent-low, each-item, under, tx-less, said-paid, wound-paid, settles, dropped-low, dropped-tx}
-use Rattle.stm_worker.specs.CountLaws.{CountsAt, alone-failed, counted-none, said-counts, wound-counts}
+use Rattle.stm_worker.specs.CountLaws.{CountsAt, alone-failed, counted-none, said-counts}
 
 -- a turn leads to its place, with the same items in all
 paid-there : {K : Type 0} (good : List ℕ → Type 0) (stm : Stm K) (may : Place → Said → Type 0) (u : Worker K) (said : Said) (w : Worker K) (unpaid each most : ℕ) → Turned good stm may u said w
@@ -57,12 +57,6 @@ module _ {K : Type 0} (good : List ℕ → Type 0) (stm : Stm K) (u : Worker K) 
   turned-pays-but unpaid each most t much wide pays =
       paid-there good stm MaySay u said w (unpaid + unpaid_by said) each most t
       (said-paid good stm u s unpaid each most (length u.all.now) (λ e. let f = s.counted e in omega arith) wide pays said (known w.desc) t.here t.told)
-
-  -- and behind the schedule, where an attempt that is dropped is paid by nothing
-  pub wound-pays-but : (unpaid each most : ℕ) → Turned good stm MayWind u said w → most_failed ≤ most → most + 2 ≤ each → PaysBut unpaid each most u → PaysBut (unpaid + unpaid_by said) each most w
-  wound-pays-but unpaid each most t much wide pays =
-      paid-there good stm MayWind u said w (unpaid + unpaid_by said) each most t
-      (wound-paid good stm u s unpaid each most (length u.all.now) (λ e. let f = s.counted e in omega arith) wide pays said (known w.desc) t.here t.told)
 
   -- with one caller no attempt is counted, and one that must be irrevocable follows on one whose log was too short
   pub alone-pays-but : (unpaid each most : ℕ) → Turned good stm MaySay u said w → u.failed ≡ 0 → 1 ≤ most → most + 2 ≤ each → PaysBut unpaid each most u → PaysBut (unpaid + unpaid_by said) each most w
@@ -108,32 +102,8 @@ module _ {K : Type 0} (good : List ℕ → Type 0) (stm : Stm K) (u : Worker K) 
   pub turned-counts : Turned good stm MaySay u said w → CountsNext u → CountsNext w
   turned-counts t h = subst CountsAt (sym t.now) (said-counts said (place_of u) (λ e. (under good stm u s e).here) t.here h)
 
-  pub finished-counts : Turned good stm MayFinish u said w → CountsNext u → CountsNext w
-  finished-counts t h = subst CountsAt (sym t.now) (said-counts said (place_of u) (λ e. (under good stm u s e).here) (finish-says (place_of u) said t.here) h)
-
-  pub wound-counts-next : Turned good stm MayWind u said w → CountsNext u → CountsNext w
-  wound-counts-next t h = subst CountsAt (sym t.now) (wound-counts said (place_of u) (λ e. (under good stm u s e).here) t.here h)
-
--- nothing is done, and nothing raised
-pub starts-pays : {K : Type 0} (each most : ℕ) (w : Worker K) → (known w.desc).running ≡ false → (known w.desc).rises ≡ 0 → w.items_left.now ≡ w.all.now → Pays each most w
-starts-pays each most w out none all =
-    let a = raised-out (known w.desc) out in
-    let e : each * length w.items_left.now ≡ each * length w.all.now = ap (λ l. each * length l) all in
-    omega (arith, a, none, e)
-
 pub starts-counts : {K : Type 0} (w : Worker K) → w.failed ≡ 0 → w.must ≡ false → CountsNext w
 starts-counts w f m = subst (λ b. IsCountedFor w.items_left.now w.failed b) (sym m) (subst (λ n. IsCountedFor w.items_left.now n false) (sym f) (counted-none w.items_left.now))
-
--- and so it is with a worker that was made of an idle caller that raised nothing
-pub new-pays : {K : Type 0} (each most : ℕ) (desc : Handle K) (items : List Item) (alg : Alg) (w : Worker K) → Starts desc items alg w → (known desc).running ≡ false → (known desc).rises ≡ 0 → Pays each most w × CountsNext w × (w.failed ≡ 0)
-new-pays {K = K} each most desc items alg w h out none =
-    let is = h.is_desc in
-    let failed : w.failed ≡ 0 = ap (λ (p : Place). p.failed) h.at in
-    let must : w.must ≡ false = ap (λ (p : Place). p.must) h.at in (
-      starts-pays each most w (ap (λ (x : Handle K). (known x).running) is ∙ out) (ap (λ (x : Handle K). (known x).rises) is ∙ none) (ap (λ (p : Place). p.left) h.at ∙ sym h.all),
-      starts-counts w failed must,
-      failed,
-    )
 
 -- so the items of a caller bound what it raised
 all-pays : (unpaid each most all : ℕ) (left : List Item) (failed : ℕ) (must : Bool) (risen : ℕ) → IsCountedFor left failed must → (must ≡ false → failed ≤ most) → most ≤ each
@@ -162,13 +132,6 @@ some-left unpaid each most all (x ∷ items) failed must risen some few wide pay
 pub pays-left : {K : Type 0} (unpaid each most : ℕ) (w : Worker K) → 0 < length w.items_left.now → (w.must ≡ false → w.failed ≤ most) → most + 2 ≤ each → PaysBut unpaid each most w → raised (known w.desc) + 2 ≤ each * length w.all.now + unpaid
 pays-left unpaid each most w some few wide pays = some-left unpaid each most (length w.all.now) w.items_left.now w.failed w.must (raised (known w.desc)) some few wide pays
 
--- 16 are enough for the attempts that are counted, and one where there is one caller
-pub sound-affords : {K : Type 0} (good : List ℕ → Type 0) (stm : Stm K) (u : Worker K) (most : ℕ) → Sound good stm u → most_failed ≤ most → Affords most u
-sound-affords good stm u most s much = λ e. (let f = s.counted e in omega arith)
-
-pub alone-affords : {K : Type 0} (u : Worker K) (most : ℕ) → u.failed ≡ 0 → 1 ≤ most → Affords most u
-alone-affords u most none one = λ e. omega arith
-
 -- the same, where the item pays for an attempt that was dropped
 done-paid : {K : Type 0} (w : Worker K) (each most : ℕ) (clock : Option ℕ) → PaysBut (dropped_of w.items_left.now + unpaid_at clock) each most w → PaysOnceDoneAfter each most clock w
 done-paid w each most None h = omega (arith, h)
@@ -181,10 +144,6 @@ module _ {K : Type 0} (good : List ℕ → Type 0) (stm : Stm K) (u : Worker K) 
       (subst (λ (at : Place). PaysBut (dropped_of at.left + unpaid_by said) each most w) (sym t.now)
       (paid-there good stm may u said w (dropped_of (after (place_of u) said).left + unpaid_by said) each most t
       (settles good stm u s each most (length u.all.now) few wide pays said (known w.desc) says t.told))))
-
-  -- while the schedule goes on, and once nothing is open behind it, an item pays for an attempt of it that was dropped
-  pub turned-pays-done : (each most : ℕ) → Turned good stm MaySay u said w → Affords most u → most + 3 ≤ each → PaysOnceDone each most u → PaysOnceDoneAfter each most (clock_of said) w
-  turned-pays-done each most t few wide pays = settled-there MaySay each most t t.here few wide pays
 
   pub finished-pays : (each most : ℕ) → Turned good stm MayFinish u said w → Affords most u → most + 3 ≤ each → PaysOnceDone each most u → PaysOnceDoneAfter each most (clock_of said) w
   finished-pays each most t few wide pays = settled-there MayFinish each most t (finish-says (place_of u) said t.here) few wide pays
@@ -229,10 +188,6 @@ module _ {K : Type 0} (good : List ℕ → Type 0) (stm : Stm K) (u : Worker K) 
       let h : PaysBut (dropped_of u.items_left.now + 0) each most w = paid-there good stm MayWind u Reopened w (dropped_of u.items_left.now + 0) each most t
       (wound-paid good stm u s (dropped_of u.items_left.now) each most (length u.all.now) few (omega arith) pays.0 Reopened (known w.desc) t.here t.told) in
       (omega (arith, h, same), outside (record (place_of u) { phase = Between }) refl t.now)
-
--- once the schedule is over
-pub pays-winding : {K : Type 0} (each most : ℕ) (w : Worker K) → Pays each most w → PaysWinding each most w
-pays-winding each most w h = (omega (arith, h), λ e. h)
 
 -- whatever is open, with what an open attempt may still raise: the items of a caller bound it
 done-all : (unpaid each most all : ℕ) (left : List Item) (failed : ℕ) (must : Bool) (risen : ℕ) → IsCountedFor left failed must → (must ≡ false → failed + 1 ≤ most) → most + 1 ≤ each

@@ -74,6 +74,10 @@ switches_of [] = []
 switches_of (Tx caller script ∷ items) = switches_of items
 switches_of (Switch caller alg ∷ items) = alg ∷ switches_of items
 
+-- these are the last of all its items: the ones before them are done
+abbrev pub DidFirst : List Item → List Item → Type 0
+DidFirst all left = (first : List Item) × (all ≡ first ++ left)
+
 -- what the caller has installed since it began: the switches that it did, in their order
 abbrev pub DidSwitches : List Item → List Item → Known → Type 0
 DidSwitches all left v = (first : List Alg) × (v.installs ++ switches_of left ≡ first ++ switches_of all)
@@ -183,11 +187,10 @@ installed Idle = []
 installed Dropped = []
 installed Reopened = []
 
--- an open attempt, under an algorithm that is built: where it is in the middle of its commit its script is over; where it must become irrevocable and is not yet, it has done nothing
+-- an open attempt: where it is in the middle of its commit its script is over; where it must become irrevocable and is not yet, it has done nothing
 pub record IsUnderWay {K : Type 0} (good : List ℕ → Type 0) (words : ℕ) (w : Worker K) : Type 0 where
   pub going : Going good words w.regions (script_at w.items_left.now) w.operations_left.now (known w.desc) w.alg w.granted w.out w.wrote
   pub here : BeforeTx w.items_left.now
-  pub built : is_built w.alg ≡ true
   pub committing : (known w.desc).committing ≡ true → (w.operations_left.now ≡ []) × ((w.must && not (sure (place_of w))) ≡ false)
   pub waits : w.must ≡ true → sure (place_of w) ≡ false → w.wrote ≡ false
 
@@ -197,6 +200,7 @@ module _ {K : Type 0} (good : List ℕ → Type 0) (stm : Stm K) where
     pub at : IsAt good stm.config (caller_of w.desc.who.role) w.phase (known w.desc)
     pub lengths : HasLengths stm.config (known w.desc)
     pub stands : Stands good stm.config.words w.regions w.all.now (caller_of w.desc.who.role) (known w.desc) w.rows.items w.phase
+    pub done : DidFirst w.all.now w.items_left.now
     pub todo : scripts_of (caller_of w.desc.who.role) w.items_left.now ≡ drop (length w.rows.items) (scripts_of (caller_of w.desc.who.role) w.all.now)
     pub within : length w.rows.items ≤ length (scripts_of (caller_of w.desc.who.role) w.all.now)
     pub counted : IsCounted w.failed w.must

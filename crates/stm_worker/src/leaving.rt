@@ -5,7 +5,7 @@ ghost use Rattle.tx_answers.specs.Answers.{KeepsRule};
 ghost use Rattle.tx_answers.specs.Known.{IsIdle, caller_of, owed};
 ghost use Rattle.stm_tx.specs.Descs.{known};
 ghost use Rattle.stm_trace.specs.Turns.{IsOver};
-ghost use Rattle.stm_worker.specs.Leavings.{HasNothingOpen, NothingToGiveUp, GaveUp, MadeIdle};
+ghost use Rattle.stm_worker.specs.Leavings.{HasNothingOpen, NothingToGiveUp, GaveUp, KeepsMade, MadeIdle};
 ghost use Rattle.stm_worker.specs.Workers.{Sound, place_of};
 
 use crate::worker::Worker;
@@ -45,7 +45,7 @@ pub fn give_up<K: MemRule>(stm: &Stm<K>, w: &mut Worker<K>) -> Option<Said>
 /// or gives the closing up.
 pub fn make_idle<K: MemRule>(stm: &Stm<K>, w: &mut Worker<K>)
     requires { Sound (K.good stm.now.rule) stm.now w.old }
-    ensures { MadeIdle stm.now w.old w.new }
+    ensures { MadeIdle (K.good stm.now.rule) stm.now w.old w.new }
 {
     match w.phase {
         Phase::Between => {}
@@ -63,6 +63,7 @@ fn end_attempt<K: MemRule>(stm: &Stm<K>, desc: &mut Desc<K>)
     ensures same { IsSameCaller desc.old desc.new }
     ensures idle { IsIdle (known desc.new) }
     ensures pays { (known desc.new).rises ≤ owed (known desc.old) }
+    ensures keeps { KeepsMade (K.good stm.now.rule) stm.now.config (caller_of desc.old.who.role) (known desc.old) (known desc.new) }
 {
     match cancel(desc, stm) {
         Cancel::Cancelled { time: _ } => {}

@@ -1,6 +1,5 @@
 //! A caller's worker: one call a turn.
 ghost use Rattle.std.specs.Prelude.{◌≡◌, ◌⊎◌, ◌++◌, ◌∷◌, [], true, false, MatchBool, IfOk, IfErr, OnOk};
-ghost use Rattle.stm_model.specs.Algorithms.{is_built};
 ghost use Rattle.stm_model.specs.Logs.{IsExplained};
 ghost use Rattle.stm_script.specs.declared.op.Op.{Op};
 ghost use Rattle.stm_script.specs.Operations.{OpFits, emits_of};
@@ -116,7 +115,6 @@ fn operate<K: MemRule>(
 ) -> Result<u64, Stop>
     requires own { IsOf desc.old stm.now }
     requires runs { IsRunning (known desc.old) }
-    requires built { is_built (known desc.old).alg ≡ true }
     requires fits { OpFits regions.now stm.now.config.words op }
     requires room { HasRoom out.old 1 }
     ensures same { IsSameCaller desc.old desc.new }
@@ -275,7 +273,7 @@ impl<'a, K: MemRule> Worker<'a, K> {
         }
     }
 
-    /// The next operation of the open attempt, other than a cancel.
+    /// The next operation of the open attempt, other than a cancel or an irrev.
     fn operation(&mut self, stm: &Stm<K>, op: Op) -> Said
         requires sound { Sound (K.good stm.now.rule) stm.now self.old }
         requires comes { Comes op (place_of self.old) }

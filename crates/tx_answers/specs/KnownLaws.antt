@@ -4,6 +4,7 @@ use Rattle.std.specs.Prelude.{Some, not, ◌==◌, if◌then◌else◌}
 use Rattle.std.proofs.lemmas.Bool.Decides.{nat_tests}
 use Rattle.std.proofs.lemmas.List.{append-nil}
 use Rattle.stm_model.specs.Algorithms.{is_sure, quit_rise}
+use Rattle.stm_model.specs.AlgorithmLaws.{quit-low, sure-writer}
 use Rattle.stm_model.specs.Histories.{Entry, Ascending}
 use Rattle.stm_model.specs.HistoryLaws.{Within}
 use Rattle.stm_model.specs.Logs.{Log, Writes}
@@ -80,16 +81,6 @@ carries-trans u v w a b = record {
   sure = λ r i. let m = a.sure r i in b.sure m.0 m.1;
 }
 
--- a write leaves an irrevocable attempt so
-sure-wrote : (a : Alg) (granted wrote : Bool) → is_sure a granted wrote ≡ true → is_sure a granted true ≡ true
-sure-wrote Cgl granted wrote h = refl
-sure-wrote Tml true wrote h = refl
-sure-wrote Tml false wrote h = refl
-sure-wrote OrecLazy granted wrote h = h
-sure-wrote OrecEager granted wrote h = h
-sure-wrote RingSw granted wrote h = h
-sure-wrote Serial granted wrote h = h
-
 some-item : (a x : ℕ) (ws : List (ℕ × ℕ)) → item_at a ws ≡ Some x → not (is_empty ws) ≡ true
 some-item a x [] h = absurd cc
 some-item a x (w ∷ ws) h = refl
@@ -119,21 +110,8 @@ carries-goes v w running closing g sure = let k = g.continues in record {
     owed-goes : (v w : Known) → w.running ≡ true → v.running ≡ true → w.base ≡ v.base → owed w ≤ owed v
     owed-goes v w now before b = grind (arith, now, before, b)
 
-pub carries-read : (v w : Known) → v.running ≡ true → v.closing ≡ false → GoesOn v w → w.log.writes ≡ v.log.writes → Carries v w
-carries-read v w running closing g writes = carries-goes v w running closing g (λ h. sure-along v w (wrote v) g.continues.alg g.granted (ap (λ l. not (is_empty l)) writes) h)
-
 pub carries-wrote : (v w : Known) (a x : ℕ) → v.running ≡ true → v.closing ≡ false → GoesOn v w → Writes v.log a x w.log → Carries v w
-carries-wrote v w a x running closing g writes = carries-goes v w running closing g (λ h. sure-along v w true g.continues.alg g.granted (writes-some v.log w.log a x writes) (sure-wrote v.alg v.granted (wrote v) h))
-
--- at most one
-quit-low : (a : Alg) (some : Bool) → quit_rise a some ≤ 1
-quit-low Cgl some = omega arith
-quit-low Tml some = omega arith
-quit-low OrecLazy some = omega arith
-quit-low OrecEager true = omega arith
-quit-low OrecEager false = omega arith
-quit-low RingSw some = omega arith
-quit-low Serial some = omega arith
+carries-wrote v w a x running closing g writes = carries-goes v w running closing g (λ h. sure-along v w true g.continues.alg g.granted (writes-some v.log w.log a x writes) (sure-writer v.alg v.granted (wrote v) h))
 
 pub carries-quits : (v w : Known) → v.running ≡ true → v.closing ≡ false → Quits v w → Carries v w
 carries-quits v w running closing q = record {

@@ -105,9 +105,6 @@ named g items bs x h l m =
     let n : (bucket_at bs x).item < length items = h.names x l (ap (λ (p : Bucket). p.mark) e ∙ m) in
     omega (arith, ap (λ (p : Bucket). p.item) e)
 
-pub lookup-item : (g : ℕ) (items : List (ℕ × ℕ)) (bs : List Bucket) (a at d : ℕ) → IsIndex g items bs → IsSearch g items bs a at d → (get_or bs at blank).mark ≡ g → address_of items (get_or bs at blank).item ≡ a → IsLookup g items bs a (record { at = at; distance = d; item = Some (get_or bs at blank).item })
-lookup-item g items bs a at d x s m e = record { within = s.within; distance = s.few; at = s.at-is; passed = s.passed; answer = (named g items bs at x s.within m, e) }
-
 -- one bucket on
 pub search-goes : (g : ℕ) (items : List (ℕ × ℕ)) (bs : List Bucket) (a at d : ℕ) → IsIndex g items bs → length items < length bs → IsSearch g items bs a at d → (get_or bs at blank).mark ≡ g → address_of items (get_or bs at blank).item ≢ a → (next : ℕ) → next ≡ wrapped (length bs) (at + 1) → IsSearch g items bs a next (d + 1)
 search-goes g items bs a at d x room s mark other next is =

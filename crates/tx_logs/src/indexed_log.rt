@@ -86,6 +86,13 @@ impl IndexedLog {
         self.items.len()
     }
 
+    /// How many items there may be, 1 to 4,096.
+    pub fn len(&self) -> usize
+        ensures { result ≡ self.now.len }
+    {
+        self.len
+    }
+
     /// The address and the value of item `i`, which is below the count. The items stand in the order in which their
     /// addresses came.
     pub fn item(&self, i: usize) -> (usize, u64)

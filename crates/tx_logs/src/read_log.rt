@@ -80,6 +80,14 @@ impl ReadLog {
         self.log.count()
     }
 
+    /// How many items there may be, 1 to 4,096.
+    #[inline]
+    pub fn len(&self) -> usize
+        ensures { result ≡ self.now.len }
+    {
+        self.log.len()
+    }
+
     /// The address and the value of item `i`, which is below the count, in the order in which the addresses came.
     #[inline]
     pub fn item(&self, i: usize) -> (usize, u64)

@@ -1,4 +1,4 @@
-use Rattle.std.proofs.Common.{◌≡◌, true, refl, subst, sym, ap}
+use Rattle.std.proofs.Common.{◌≡◌, true, subst, sym, ap, ◌∙◌}
 use Rattle.stm_model.specs.Algorithms.{is_sure}
 use Rattle.stm_model.specs.declared.alg.Alg.{Alg}
 use Rattle.stm_model.specs.declared.alg.Alg.TheVariants.{Cgl}
@@ -17,9 +17,9 @@ returns-clause-irrevs g c =
     let good = g.K.MemRule.good c.args.stm.now.rule in
     let d = c.desc.inside in
     let s = d.seat.me.0 in
-    let o = own_of s.who.config d.local in
+    let o = own_of d.local in
     let i = runs-of g.K.MemRule.good f c.args.stm.now.rule (handle_of d.seat o) c.args.desc.now d.number d.local c.desc.view_is c.requires.stm.config c.requires.stm.rule c.requires.running.0 c.desc.invariant.1 in
     let alg : (known c.args.desc.now).alg ≡ Cgl = c.requires.algorithm in
     let sure = subst (λ (h : Handle g.row.K.Denot). is_irrevocable (known h) ≡ true) (sym c.desc.view_is) (ap (λ (a : Alg). is_sure a (known c.args.desc.now).granted (wrote (known c.args.desc.now))) alg) in
     subst (λ (h : Handle g.row.K.Denot). BecomesSure good f (number h) (known h) (known h)) c.desc.view_is
-    (subst (λ k. BecomesSure good f k (known (handle_of d.seat o)) (known (handle_of d.seat o))) (sym (ap caller_of c.desc.invariant.0.named)) (stays-sure good f d.number d.local s.view o i refl sure))
+    (subst (λ k. BecomesSure good f k (known (handle_of d.seat o)) (known (handle_of d.seat o))) (sym (ap caller_of c.desc.invariant.0.named)) (stays-sure good f d.number d.local s.view o i (ap (λ (p : Handle g.row.K.Denot). (known p).committing) c.desc.view_is ∙ c.requires.running.1) sure))

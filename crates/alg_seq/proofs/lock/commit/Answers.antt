@@ -16,7 +16,7 @@ use Rattle.tx_answers.specs.Known.{known_of}
 use Rattle.rule_base.specs.declared.seats.SeatView.{SeatView}
 use Rattle.rule_base.specs.declared.views.View.{View}
 use Rattle.alg_seq.proofs.Locked.{tells-ended, tells-committed, may-commit}
-use Rattle.alg_seq.proofs.Told.{told}
+use Rattle.stm_gate.specs.Told.{told}
 use Rattle.alg_seq.proofs.lock.commit.Goals as goal
 
 pub returns-then-not-desc-clause-commits : goal.returns-then-not-desc-clause-commits
@@ -27,13 +27,13 @@ returns-then-not-desc-clause-commits g c =
     let s = d.seat.me.0 in
     let u = c.free_lock.new.seat.me.0 in
     let w = c.leave.new.seat.me.0 in
-    let o = own_of s.who.config d.local in
+    let o = own_of d.local in
     let clean : d.local.wrote ≡ false = search rules in
     let i = runs-of g.K.MemRule.good f c.args.stm.now.rule (handle_of d.seat o) c.args.desc.now d.number d.local c.desc.view_is c.requires.stm.config c.requires.stm.rule c.requires.running.0 c.desc.invariant.1 in
     let locks = subst (λ (h : Handle g.row.K.Denot). takes_lock (known h).alg ≡ true) (sym c.desc.view_is) c.requires.locks in
     let who = ap (λ (y : SeatView g.row.K.Denot). y.who) c.leave.ensures.left ∙ who-of free_lock Nothing s 0 u c.free_lock.ensures.step in
     told (λ n v w. answers.Commits good f n (ReadOnly d.local.start) v w) (handle_of d.seat o) c.args.desc.now d.number w c.leave.new.local c.desc.view_is who c.desc.invariant.0.named
-    (subst (λ (m : Local). answers.Commits good f d.number (ReadOnly d.local.start) (known_of s.view o) (known_of w.view (own_of s.who.config m))) (sym c.leave.ensures.idle)
+    (subst (λ (m : Local). answers.Commits good f d.number (ReadOnly d.local.start) (known_of s.view o) (known_of w.view (own_of m))) (sym c.leave.ensures.idle)
     (subst (λ (y : View). answers.Commits good f d.number (ReadOnly d.local.start) (known_of s.view o) (known_of y o)) (sym (ap (λ (y : SeatView g.row.K.Denot). y.view) c.leave.ensures.left))
     (tells-ended good f d.number d.local s.view u.view o i locks clean (tells-of free_lock Nothing s 0 u c.free_lock.ensures.step))))
 
@@ -43,7 +43,7 @@ store_clock-requires-clause-view g c =
     let good = g.K.MemRule.good c.args.stm.now.rule in
     let d = c.desc.inside in
     let s = d.seat.me.0 in
-    let o = own_of s.who.config d.local in
+    let o = own_of d.local in
     let dirty : d.local.wrote ≡ true = search rules in
     let i = runs-of g.K.MemRule.good f c.args.stm.now.rule (handle_of d.seat o) c.args.desc.now d.number d.local c.desc.view_is c.requires.stm.config c.requires.stm.rule c.requires.running.0 c.desc.invariant.1 in
     let locks = subst (λ (h : Handle g.row.K.Denot). takes_lock (known h).alg ≡ true) (sym c.desc.view_is) c.requires.locks in
@@ -58,13 +58,13 @@ returns-clause-commits g c =
     let t = c.store_clock.new.seat.me.0 in
     let u = c.free_lock-2.new.seat.me.0 in
     let w = c.leave-2.new.seat.me.0 in
-    let o = own_of s.who.config d.local in
+    let o = own_of d.local in
     let shows = Commits (good_of g.K.MemRule.good f c.args.stm.now.rule) f d.number (d.local.start + 1) in
     let dirty : d.local.wrote ≡ true = search rules in
     let i = runs-of g.K.MemRule.good f c.args.stm.now.rule (handle_of d.seat o) c.args.desc.now d.number d.local c.desc.view_is c.requires.stm.config c.requires.stm.rule c.requires.running.0 c.desc.invariant.1 in
     let locks = subst (λ (h : Handle g.row.K.Denot). takes_lock (known h).alg ≡ true) (sym c.desc.view_is) c.requires.locks in
     let who = ap (λ (y : SeatView g.row.K.Denot). y.who) c.leave-2.ensures.left ∙ (who-of free_lock Nothing t 0 u c.free_lock-2.ensures.step ∙ who-of (store_clock d.number (d.local.start + 1)) shows s (d.local.start + 1) t c.store_clock.ensures.step) in
     told (λ n v w. answers.Commits good f n (Committed (d.local.start + 1)) v w) (handle_of d.seat o) c.args.desc.now d.number w c.leave-2.new.local c.desc.view_is who c.desc.invariant.0.named
-    (subst (λ (m : Local). answers.Commits good f d.number (Committed (d.local.start + 1)) (known_of s.view o) (known_of w.view (own_of s.who.config m))) (sym c.leave-2.ensures.idle)
+    (subst (λ (m : Local). answers.Commits good f d.number (Committed (d.local.start + 1)) (known_of s.view o) (known_of w.view (own_of m))) (sym c.leave-2.ensures.idle)
     (subst (λ (y : View). answers.Commits good f d.number (Committed (d.local.start + 1)) (known_of s.view o) (known_of y o)) (sym (ap (λ (y : SeatView g.row.K.Denot). y.view) c.leave-2.ensures.left))
     (tells-committed good f d.number d.local s.view t.view u.view o i locks dirty (tells-of (store_clock d.number (d.local.start + 1)) shows s (d.local.start + 1) t c.store_clock.ensures.step) (tells-of free_lock Nothing t 0 u c.free_lock-2.ensures.step))))

@@ -1,4 +1,4 @@
-use Rattle.std.proofs.Common.{◌≡◌, ◌<◌, ◌≤◌, ◌∙◌, true, refl, subst, sym, ap, rules}
+use Rattle.std.proofs.Common.{◌≡◌, ◌<◌, ◌≤◌, ◌∙◌, true, subst, sym, ap, rules}
 use Rattle.stm_model.specs.declared.alg.Alg.TheVariants.{Serial}
 use Rattle.rule_base.specs.declared.seats.SeatView.{SeatView}
 use Rattle.rule_base.specs.Own.{Own}
@@ -9,7 +9,7 @@ use Rattle.stm_rule.specs.StandLemmas.{tells-of}
 use Rattle.stm_gate.specs.Knowing.{known, number}
 use Rattle.stm_gate.specs.Standing.{runs-of}
 use Rattle.tx_answers.specs.Known.{known_of}
-use Rattle.alg_seq.proofs.Told.{told, own-by}
+use Rattle.stm_gate.specs.Told.{told}
 use Rattle.stm_model.specs.Algorithms.{asks_at_grant}
 use Rattle.stm_model.specs.declared.config.TheConstants.{CLOCK_LIMIT}
 use Rattle.rule_seq.specs.CglSteps.{load_limit, LoadsLimit}
@@ -28,13 +28,13 @@ returns-then-desc-clause-irrevs g c =
     let good = g.K.MemRule.good c.args.stm.now.rule in
     let d = c.desc.inside in
     let s = d.seat.me.0 in
-    let o = own_of s.who.config d.local in
+    let o = own_of d.local in
     let i = runs-of g.K.MemRule.good f c.args.stm.now.rule (handle_of d.seat o) c.args.desc.now d.number d.local c.desc.view_is c.requires.stm.config c.requires.stm.rule c.requires.running.0 c.desc.invariant.1 in
     let named = subst (λ (h : Handle g.row.K.Denot). (known h).alg ≡ Serial) (sym c.desc.view_is) c.requires.algorithm in
     let serial : d.local.algorithm ≡ Serial = sym i.named ∙ named in
     let sure = revocable-by good f d.number d.local s.view i serial o ∙ (sure-by good f d.number d.local s.view i serial ∙ c.if-desc.true) in
     subst (λ (h : Handle g.row.K.Denot). BecomesSure good f (number h) (known h) (known h)) c.desc.view_is
-    (subst (λ k. BecomesSure good f k (known_of s.view o) (known_of s.view o)) (sym (ap caller_of c.desc.invariant.0.named)) (stays-sure good f d.number d.local s.view o i refl sure))
+    (subst (λ k. BecomesSure good f k (known_of s.view o) (known_of s.view o)) (sym (ap caller_of c.desc.invariant.0.named)) (stays-sure good f d.number d.local s.view o i (ap (λ (p : Handle g.row.K.Denot). (known p).committing) c.desc.view_is ∙ c.requires.running.1) sure))
 
 pub returns-then-clock-ge-CLOCK_LIMIT-clause-irrevs : goal.returns-then-clock-ge-CLOCK_LIMIT-clause-irrevs
 returns-then-clock-ge-CLOCK_LIMIT-clause-irrevs g c =
@@ -42,7 +42,7 @@ returns-then-clock-ge-CLOCK_LIMIT-clause-irrevs g c =
     let good = g.K.MemRule.good c.args.stm.now.rule in
     let d = c.desc.inside in
     let s = d.seat.me.0 in
-    let o = own_of s.who.config d.local in
+    let o = own_of d.local in
     let i = runs-of g.K.MemRule.good f c.args.stm.now.rule (handle_of d.seat o) c.args.desc.now d.number d.local c.desc.view_is c.requires.stm.config c.requires.stm.rule c.requires.running.0 c.desc.invariant.1 in
     let named = subst (λ (h : Handle g.row.K.Denot). (known h).alg ≡ Serial) (sym c.desc.view_is) c.requires.algorithm in
     let serial : d.local.algorithm ≡ Serial = sym i.named ∙ named in
@@ -55,7 +55,7 @@ returns-then-clock-ge-CLOCK_LIMIT-clause-irrevs g c =
     let k = clocked-full s.view u.view clock high t in
     let who = ap (λ (y : SeatView g.row.K.Denot). y.who) r.same.1 ∙ ap (λ (y : SeatView g.row.K.Denot). y.who) c.load_limit-clock.ensures.step.3 in
     told (λ n v w. Irrevs good f n (grants.ClockFull clock) v w) (handle_of d.seat o) c.args.desc.now d.number w c.roll_back.new.local c.desc.view_is who c.desc.invariant.0.named
-    (subst (λ (m : Local). Irrevs good f d.number (grants.ClockFull clock) (known_of s.view o) (known_of w.view (own_of s.who.config m))) (sym r.ended) (
+    (subst (λ (m : Local). Irrevs good f d.number (grants.ClockFull clock) (known_of s.view o) (known_of w.view (own_of m))) (sym r.ended) (
       quits-back good f d.number d.local s.view i serial u.view w.view o c.if-desc.false k.0 r.gives_up,
       ap asks_at_grant named,
       full-after good f d.number d.local s.view i serial clock u.view w.view o high (k.1 o) r.gives_up,
@@ -67,7 +67,7 @@ returns-clause-irrevs g c =
     let good = g.K.MemRule.good c.args.stm.now.rule in
     let d = c.desc.inside in
     let s = d.seat.me.0 in
-    let o = own_of s.who.config d.local in
+    let o = own_of d.local in
     let i = runs-of g.K.MemRule.good f c.args.stm.now.rule (handle_of d.seat o) c.args.desc.now d.number d.local c.desc.view_is c.requires.stm.config c.requires.stm.rule c.requires.running.0 c.desc.invariant.1 in
     let named = subst (λ (h : Handle g.row.K.Denot). (known h).alg ≡ Serial) (sym c.desc.view_is) c.requires.algorithm in
     let serial : d.local.algorithm ≡ Serial = sym i.named ∙ named in
@@ -77,5 +77,5 @@ returns-clause-irrevs g c =
     let low : clock < CLOCK_LIMIT = search rules in
     let m : Local = record d.local { granted = true; undo = c.clear.new.self } in
     told (λ n v w. Irrevs good f n grants.Granted v w) (handle_of d.seat o) c.args.desc.now d.number u m c.desc.view_is (ap (λ (y : SeatView g.row.K.Denot). y.who) c.load_limit-clock.ensures.step.3) c.desc.invariant.0.named
-    (subst (λ (p : Own). Irrevs good f d.number grants.Granted (known_of s.view o) (known_of u.view p)) (sym (own-by s.who.config d.local m (ap (λ (q : LogState). q.len) c.clear.ensures)))
-    (tells-granted good f d.number d.local s.view i serial clock u.view o refl c.if-desc.false low t))
+    (subst (λ (p : Own). Irrevs good f d.number grants.Granted (known_of s.view o) (known_of u.view p)) (sym (ap (λ (q : LogState). record o { writes_limit = q.len }) c.clear.ensures))
+    (tells-granted good f d.number d.local s.view i serial clock u.view o (ap (λ (p : Handle g.row.K.Denot). (known p).committing) c.desc.view_is ∙ c.requires.running.1) c.if-desc.false low t))

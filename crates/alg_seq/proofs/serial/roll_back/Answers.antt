@@ -13,7 +13,8 @@ use Rattle.rule_seq.specs.CglSteps.{free_lock, HasLock}
 use Rattle.stm_gate.specs.LeavingLaws.{IsUnmade}
 use Rattle.stm_rule.specs.StandLemmas.{tells-of}
 use Rattle.alg_seq.proofs.Locked.{locked}
-use Rattle.alg_seq.proofs.Undoing.{drop-all, peeled, covers, inside-without, covers-without, covers-none, taken-step}
+use Rattle.stm_gate.specs.Peeling.{drop-all, peeled, inside-without}
+use Rattle.alg_seq.proofs.Undoing.{covers, covers-without, covers-none, taken-step}
 use Rattle.alg_seq.proofs.serial.roll_back.Goals as goal
 
 pub loop-i-init : goal.loop-i-init

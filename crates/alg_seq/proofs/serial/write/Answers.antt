@@ -6,13 +6,13 @@ use Rattle.rule_base.specs.StepKinds.{Nothing}
 use Rattle.rule_base.specs.Own.{Own}
 use Rattle.stm_rule.specs.declared.local.Local.{Local}
 use Rattle.rule_base.specs.declared.seats.Who.{Who}
-use Rattle.stm_rule.specs.Attempts.{own_of, good_by, IsInside}
+use Rattle.stm_rule.specs.Attempts.{SameLengths, own_of, good_by, IsInside}
 use Rattle.stm_rule.specs.Callers.{Handle, handle_of}
 use Rattle.stm_rule.specs.StandLemmas.{tells-of}
 use Rattle.stm_gate.specs.Knowing.{known}
 use Rattle.stm_gate.specs.Standing.{runs-of}
 use Rattle.tx_answers.specs.Known.{known_of}
-use Rattle.alg_seq.proofs.Told.{told, own-by, running-by, stands-in}
+use Rattle.stm_gate.specs.Told.{told, own-by, running-by, stands-in}
 use Rattle.rule_seq.specs.CglSteps.{store_heap}
 use Rattle.tx_answers.specs.declared.answers.Write.TheVariants.{Done}
 use Rattle.tx_answers.specs.Answers.{HasWritten}
@@ -24,7 +24,7 @@ invariant_of-desc g c =
     let good = g.K.MemRule.good c.args.stm.now.rule in
     let d = c.desc.inside in
     let s = d.seat.me.0 in
-    let o = own_of s.who.config d.local in
+    let o = own_of d.local in
     let i = runs-of g.K.MemRule.good f c.args.stm.now.rule (handle_of d.seat o) c.args.desc.now d.number d.local c.desc.view_is c.requires.stm.config c.requires.stm.rule c.requires.running.0 c.desc.invariant.1 in
     let named = subst (λ (h : Handle g.row.K.Denot). (known h).alg ≡ Serial) (sym c.desc.view_is) c.requires.algorithm in
     let serial : d.local.algorithm ≡ Serial = sym i.named ∙ named in
@@ -38,6 +38,7 @@ invariant_of-desc g c =
     let value = ap (λ (q : Handle g.row.K.Denot). q.who.rule) c.desc.view_is ∙ c.requires.stm.rule in
     let running = ap (λ (m : Local). m.running) h.1 ∙ running-by (good_by g.K.MemRule.good s.who.rule) s.who.config d.number d.local s.view i.phase c.desc.invariant.1 in
     let tied = c.desc.invariant.0 in
+    let lengths : SameLengths (record c.keep_old.new.local { wrote = true }) = (ap (λ (m : Local). m.writes.len) h.1 ∙ (c.desc.invariant.1.lengths.0 ∙ sym h.0), ap (λ (m : Local). m.locks.len) h.1 ∙ (c.desc.invariant.1.lengths.1 ∙ sym h.0)) in
     let inside = h.2.inside c.args.x step.0 in (
       record {
         named = ap (λ (q : Who g.row.K.Denot). q.role) who ∙ tied.named;
@@ -46,7 +47,7 @@ invariant_of-desc g c =
         empty = e.2 ∙ (k.0.2 ∙ tied.empty);
       },
       stands-in g.K.MemRule.good f c.args.stm.now.rule w.who d.number (record c.keep_old.new.local { wrote = true }) w.view (ap (λ (q : Who g.row.K.Denot). q.config) who ∙ config) (ap (λ (q : Who g.row.K.Denot). q.rule) who ∙ value) running
-          (ap (λ (m : Local). m.holds) h.1 ∙ (c.desc.invariant.1.holds ∙ (sym (h.2.written o (refl, sym h.0) c.args.x step.0).0.holds ∙ sym (ap (λ (y : SeatView g.row.K.Denot). y.view.gate.holds) step.3)))) (subst (λ (y : View). IsInside good f d.number (record c.keep_old.new.local { wrote = true }) y) (sym (ap (λ (y : SeatView g.row.K.Denot). y.view) step.3)) inside),
+          (ap (λ (m : Local). m.holds) h.1 ∙ (c.desc.invariant.1.holds ∙ (sym (h.2.written o ((ap (λ (p : Handle g.row.K.Denot). (known p).committing) c.desc.view_is ∙ c.requires.running.1), sym h.0) c.args.x step.0).0.holds ∙ sym (ap (λ (y : SeatView g.row.K.Denot). y.view.gate.holds) step.3)))) lengths (subst (λ (y : View). IsInside good f d.number (record c.keep_old.new.local { wrote = true }) y) (sym (ap (λ (y : SeatView g.row.K.Denot). y.view) step.3)) inside),
     )
 
 pub returns-in-Ok-clause-write : goal.returns-in-Ok-clause-write
@@ -55,7 +56,7 @@ returns-in-Ok-clause-write g c =
     let good = g.K.MemRule.good c.args.stm.now.rule in
     let d = c.desc.inside in
     let s = d.seat.me.0 in
-    let o = own_of s.who.config d.local in
+    let o = own_of d.local in
     let i = runs-of g.K.MemRule.good f c.args.stm.now.rule (handle_of d.seat o) c.args.desc.now d.number d.local c.desc.view_is c.requires.stm.config c.requires.stm.rule c.requires.running.0 c.desc.invariant.1 in
     let named = subst (λ (h : Handle g.row.K.Denot). (known h).alg ≡ Serial) (sym c.desc.view_is) c.requires.algorithm in
     let serial : d.local.algorithm ≡ Serial = sym i.named ∙ named in
@@ -67,8 +68,8 @@ returns-in-Ok-clause-write g c =
     let t = tells-of (store_heap c.args.a c.args.x) Nothing u c.args.x w step in
     let who = ap (λ (y : SeatView g.row.K.Denot). y.who) step.3 ∙ ap (λ (y : SeatView g.row.K.Denot). y.who) k.1 in
     told (λ n v w. HasWritten good f n c.args.a c.args.x Done v w) (handle_of d.seat o) c.args.desc.now d.number w (record c.keep_old.new.local { wrote = true }) c.desc.view_is who c.desc.invariant.0.named
-    (subst (λ (p : Own). HasWritten good f d.number c.args.a c.args.x Done (known_of s.view o) (known_of w.view p)) (sym (own-by s.who.config d.local c.keep_old.new.local h.0))
-    (subst (λ (y : View). HasWritten good f d.number c.args.a c.args.x Done (known_of s.view o) (known_of y o)) (sym t.2) (h.2.written o (refl, sym h.0) c.args.x t.0)))
+    (subst (λ (p : Own). HasWritten good f d.number c.args.a c.args.x Done (known_of s.view o) (known_of w.view p)) (sym (own-by d.local c.keep_old.new.local h.1 h.0))
+    (subst (λ (y : View). HasWritten good f d.number c.args.a c.args.x Done (known_of s.view o) (known_of y o)) (sym t.2) (h.2.written o ((ap (λ (p : Handle g.row.K.Denot). (known p).committing) c.desc.view_is ∙ c.requires.running.1), sym h.0) c.args.x t.0)))
 
 pub returns-in-Err-clause-write : goal.returns-in-Err-clause-write
 returns-in-Err-clause-write g c =
@@ -76,7 +77,7 @@ returns-in-Err-clause-write g c =
     let good = g.K.MemRule.good c.args.stm.now.rule in
     let d = c.desc.inside in
     let s = d.seat.me.0 in
-    let o = own_of s.who.config d.local in
+    let o = own_of d.local in
     let i = runs-of g.K.MemRule.good f c.args.stm.now.rule (handle_of d.seat o) c.args.desc.now d.number d.local c.desc.view_is c.requires.stm.config c.requires.stm.rule c.requires.running.0 c.desc.invariant.1 in
     let named = subst (λ (h : Handle g.row.K.Denot). (known h).alg ≡ Serial) (sym c.desc.view_is) c.requires.algorithm in
     let serial : d.local.algorithm ≡ Serial = sym i.named ∙ named in
@@ -84,4 +85,4 @@ returns-in-Err-clause-write g c =
     let w = c.keep_old.new.seat.me.0 in
     let h = c.in-Err.ensures.keeps in
     told (λ n v w. HasWritten good f n c.args.a c.args.x c.in-Err.refusal v w) (handle_of d.seat o) c.args.desc.now d.number w c.keep_old.new.local c.desc.view_is (ap (λ (y : SeatView g.row.K.Denot). y.who) k.1) c.desc.invariant.0.named
-    (subst (λ (m : Local). HasWritten good f d.number c.args.a c.args.x c.in-Err.refusal (known_of s.view o) (known_of w.view (own_of s.who.config m))) (sym h.0) (h.2 c.args.x o (refl, refl)))
+    (subst (λ (m : Local). HasWritten good f d.number c.args.a c.args.x c.in-Err.refusal (known_of s.view o) (known_of w.view (own_of m))) (sym h.0) (h.2 c.args.x o ((ap (λ (p : Handle g.row.K.Denot). (known p).committing) c.desc.view_is ∙ c.requires.running.1), refl)))

@@ -1,4 +1,4 @@
-use Rattle.std.proofs.Common.{ℕ, ◌≡◌, ◌<◌, subst, sym, ap, refl, true, false, rules}
+use Rattle.std.proofs.Common.{ℕ, ◌≡◌, ◌<◌, subst, sym, ap, true, false, rules, ◌∙◌}
 use Rattle.stm_model.specs.declared.alg.Alg.TheVariants.{Tml}
 use Rattle.stm_model.specs.declared.config.Config.{Config}
 use Rattle.rule_base.specs.declared.seats.Who.{Who}
@@ -9,7 +9,7 @@ use Rattle.tx_answers.specs.Answers as answers
 use Rattle.tx_answers.specs.Known.{caller_of}
 use Rattle.stm_gate.specs.Knowing.{known, number}
 use Rattle.stm_gate.specs.Standing.{runs-of, tml-of}
-use Rattle.alg_seq.specs.Tml.{Grants}
+use Rattle.stm_gate.specs.Granting.{Grants, irrevs-after, sure-already}
 use Rattle.alg_seq.proofs.TmlLaws as laws
 use Rattle.alg_seq.proofs.tml.become_irrevocable.Goals as goal
 
@@ -20,7 +20,7 @@ returns-then-desc-clause-irrevs g c =
     let rule = good_of g.K.MemRule.good f c.args.stm.now.rule in
     let d = c.desc.inside in
     let s = d.seat.me.0 in
-    let o = own_of s.who.config d.local in
+    let o = own_of d.local in
     let h = handle_of d.seat o in
     let e = c.args.desc.now in
     let i = runs-of g.K.MemRule.good f c.args.stm.now.rule h e d.number d.local c.desc.view_is c.requires.stm.config c.requires.stm.rule c.requires.running.0 c.desc.invariant.1 in
@@ -29,7 +29,7 @@ returns-then-desc-clause-irrevs g c =
     let low : d.number < f.callers = subst (λ (q : Config). d.number < q.callers) (subst (λ (p : Handle g.row.K.Denot). p.who.config ≡ f) (sym c.desc.view_is) c.requires.stm.config) c.desc.invariant.0.low in
     let granted : d.local.granted ≡ true = search rules in
     let sure = laws.sure-granted good f d.number d.local s.view o i tml granted in
-    subst (λ (p : Handle g.row.K.Denot). answers.BecomesSure good f (number p) (known p) (known p)) c.desc.view_is (subst (λ (q : ℕ). answers.BecomesSure good f q (known h) (known h)) (sym name) (laws.sure-already good f d.number d.local s.view o refl i sure))
+    subst (λ (p : Handle g.row.K.Denot). answers.BecomesSure good f (number p) (known p) (known p)) c.desc.view_is (subst (λ (q : ℕ). answers.BecomesSure good f q (known h) (known h)) (sym name) (sure-already good f d.number d.local s.view o (ap (λ (p : Handle g.row.K.Denot). (known p).committing) c.desc.view_is ∙ c.requires.running.1) i sure))
 
 pub returns-then-desc-2-clause-irrevs : goal.returns-then-desc-2-clause-irrevs
 returns-then-desc-2-clause-irrevs g c =
@@ -38,7 +38,7 @@ returns-then-desc-2-clause-irrevs g c =
     let rule = good_of g.K.MemRule.good f c.args.stm.now.rule in
     let d = c.desc.inside in
     let s = d.seat.me.0 in
-    let o = own_of s.who.config d.local in
+    let o = own_of d.local in
     let h = handle_of d.seat o in
     let e = c.args.desc.now in
     let i = runs-of g.K.MemRule.good f c.args.stm.now.rule h e d.number d.local c.desc.view_is c.requires.stm.config c.requires.stm.rule c.requires.running.0 c.desc.invariant.1 in
@@ -48,8 +48,8 @@ returns-then-desc-2-clause-irrevs g c =
     let plain : d.local.granted ≡ false = search rules in
     let k = tml-of good f d.number d.local s.view i tml plain in
     let dirty : d.local.wrote ≡ true = search rules in
-    let sure = laws.sure-writer good f d.number d.local s.view o refl i tml k dirty in
-    subst (λ (p : Handle g.row.K.Denot). answers.BecomesSure good f (number p) (known p) (known p)) c.desc.view_is (subst (λ (q : ℕ). answers.BecomesSure good f q (known h) (known h)) (sym name) (laws.sure-already good f d.number d.local s.view o refl i sure))
+    let sure = laws.sure-writer good f d.number d.local s.view o (ap (λ (p : Handle g.row.K.Denot). (known p).committing) c.desc.view_is ∙ c.requires.running.1) i tml k dirty in
+    subst (λ (p : Handle g.row.K.Denot). answers.BecomesSure good f (number p) (known p) (known p)) c.desc.view_is (subst (λ (q : ℕ). answers.BecomesSure good f q (known h) (known h)) (sym name) (sure-already good f d.number d.local s.view o (ap (λ (p : Handle g.row.K.Denot). (known p).committing) c.desc.view_is ∙ c.requires.running.1) i sure))
 
 pub returns-in-Alone-clause-irrevs : goal.returns-in-Alone-clause-irrevs
 returns-in-Alone-clause-irrevs g c =
@@ -59,4 +59,4 @@ returns-in-Alone-clause-irrevs g c =
     let y = c.promote.new.desc in
     let z = c.grant.new.desc in
     let name : number y ≡ number e = ap (λ (w : Who g.row.K.Denot). caller_of w.role) c.promote.ensures.same.who in
-    laws.irrevs-after good f (number e) c.grant.result (known e) (known y) (known z) c.requires.algorithm c.in-Alone.ensures.promotes.0 (subst (λ (k : ℕ). Grants good f k c.grant.result (known y) (known z)) name c.grant.ensures.grants)
+    irrevs-after good f (number e) c.grant.result (known e) (known y) (known z) c.in-Alone.ensures.promotes.0 c.in-Alone.ensures.promotes.3 (subst (λ (k : ℕ). Grants good f k c.grant.result (known y) (known z)) name c.grant.ensures.grants)

@@ -1,7 +1,6 @@
-use Rattle.std.proofs.Common.{ℕ, ◌≡◌, ◌<◌, subst, sym, ap, refl, true, false, rules}
+use Rattle.std.proofs.Common.{ℕ, ◌≡◌, ◌<◌, subst, sym, ap, refl, true, false, rules, ◌∙◌}
 use Rattle.stm_model.specs.declared.alg.Alg.TheVariants.{Tml}
 use Rattle.stm_model.specs.declared.config.Config.{Config}
-use Rattle.stm_rule.specs.declared.local.Local.{Local}
 use Rattle.stm_rule.specs.Attempts.{own_of}
 use Rattle.stm_rule.specs.Callers.{Handle, handle_of}
 use Rattle.stm_rule.specs.Kept.{good_of}
@@ -20,7 +19,7 @@ returns-then-desc-clause-cancels g c =
     let rule = good_of g.K.MemRule.good f c.args.stm.now.rule in
     let d = c.desc.inside in
     let s = d.seat.me.0 in
-    let o = own_of s.who.config d.local in
+    let o = own_of d.local in
     let h = handle_of d.seat o in
     let e = c.args.desc.now in
     let i = runs-of g.K.MemRule.good f c.args.stm.now.rule h e d.number d.local c.desc.view_is c.requires.stm.config c.requires.stm.rule c.requires.running.0 c.desc.invariant.1 in
@@ -38,7 +37,7 @@ returns-then-desc-2-clause-cancels g c =
     let rule = good_of g.K.MemRule.good f c.args.stm.now.rule in
     let d = c.desc.inside in
     let s = d.seat.me.0 in
-    let o = own_of s.who.config d.local in
+    let o = own_of d.local in
     let h = handle_of d.seat o in
     let e = c.args.desc.now in
     let i = runs-of g.K.MemRule.good f c.args.stm.now.rule h e d.number d.local c.desc.view_is c.requires.stm.config c.requires.stm.rule c.requires.running.0 c.desc.invariant.1 in
@@ -48,7 +47,7 @@ returns-then-desc-2-clause-cancels g c =
     let plain : d.local.granted ≡ false = search rules in
     let k = tml-of good f d.number d.local s.view i tml plain in
     let dirty : d.local.wrote ≡ true = search rules in
-    let sure = laws.sure-writer good f d.number d.local s.view o refl i tml k dirty in
+    let sure = laws.sure-writer good f d.number d.local s.view o (ap (λ (p : Handle g.row.K.Denot). (known p).committing) c.desc.view_is ∙ c.requires.running.1) i tml k dirty in
     (refl, subst (λ (p : Handle g.row.K.Denot). is_irrevocable (known p) ≡ true) c.desc.view_is sure)
 
 pub returns-clause-cancels : goal.returns-clause-cancels
@@ -58,7 +57,7 @@ returns-clause-cancels g c =
     let rule = good_of g.K.MemRule.good f c.args.stm.now.rule in
     let d = c.desc.inside in
     let s = d.seat.me.0 in
-    let o = own_of s.who.config d.local in
+    let o = own_of d.local in
     let h = handle_of d.seat o in
     let e = c.args.desc.now in
     let i = runs-of g.K.MemRule.good f c.args.stm.now.rule h e d.number d.local c.desc.view_is c.requires.stm.config c.requires.stm.rule c.requires.running.0 c.desc.invariant.1 in
@@ -69,5 +68,5 @@ returns-clause-cancels g c =
     let k = tml-of good f d.number d.local s.view i tml plain in
     let clean : d.local.wrote ≡ false = search rules in
     let y = c.leave.new.seat.me.0 in
-    shown-of (λ (n : ℕ) (v w : Known). answers.Cancels good f n (cancels.Cancelled d.local.start) v w) h e d.number y.view y.who d.local c.leave.new.local c.desc.view_is (ap (λ q. q.who) c.leave.ensures.left) (ap (λ (q : Local). q.undo.len) c.leave.ensures.idle) name
-    (laws.tells-cancelled good f d.number d.local s.view o refl i tml k y.view clean (ap (λ q. q.view) c.leave.ensures.left))
+    shown-of (λ (n : ℕ) (v w : Known). answers.Cancels good f n (cancels.Cancelled d.local.start) v w) h e d.number y.view d.local c.leave.new.local c.desc.view_is (ap own_of c.leave.ensures.idle) name
+    (laws.tells-cancelled good f d.number d.local s.view o (ap (λ (p : Handle g.row.K.Denot). (known p).committing) c.desc.view_is ∙ c.requires.running.1) i tml k y.view clean (ap (λ q. q.view) c.leave.ensures.left))

@@ -3,7 +3,6 @@ use Rattle.stm_model.specs.declared.alg.Alg.TheVariants.{Tml}
 use Rattle.stm_model.specs.declared.config.Config.{Config}
 use Rattle.rule_seq.specs.CglSteps as steps
 use Rattle.rule_seq.specs.TmlSteps.{tml_commit}
-use Rattle.stm_rule.specs.declared.local.Local.{Local}
 use Rattle.stm_rule.specs.Attempts.{own_of}
 use Rattle.stm_rule.specs.Callers.{Handle, handle_of}
 use Rattle.stm_rule.specs.Kept.{good_of}
@@ -12,7 +11,7 @@ use Rattle.tx_answers.specs.declared.answers.Commit.TheVariants as commits
 use Rattle.tx_answers.specs.Answers as answers
 use Rattle.tx_answers.specs.Known.{Known, caller_of}
 use Rattle.stm_gate.specs.Knowing.{known, number}
-use Rattle.stm_gate.specs.Standing.{runs-of, shown-of, who-of, tml-of}
+use Rattle.stm_gate.specs.Standing.{runs-of, shown-of, tml-of}
 use Rattle.alg_seq.proofs.TmlLaws as laws
 use Rattle.alg_seq.proofs.tml.commit.Goals as goal
 
@@ -23,7 +22,7 @@ returns-then-not-desc-clause-commits g c =
     let rule = good_of g.K.MemRule.good f c.args.stm.now.rule in
     let d = c.desc.inside in
     let s = d.seat.me.0 in
-    let o = own_of s.who.config d.local in
+    let o = own_of d.local in
     let h = handle_of d.seat o in
     let e = c.args.desc.now in
     let i = runs-of g.K.MemRule.good f c.args.stm.now.rule h e d.number d.local c.desc.view_is c.requires.stm.config c.requires.stm.rule c.requires.running.0 c.desc.invariant.1 in
@@ -34,8 +33,8 @@ returns-then-not-desc-clause-commits g c =
     let k = tml-of good f d.number d.local s.view i tml plain in
     let clean : d.local.wrote ≡ false = search rules in
     let y = c.leave.new.seat.me.0 in
-    shown-of (λ (n : ℕ) (v w : Known). answers.Commits good f n (commits.ReadOnly d.local.start) v w) h e d.number y.view y.who d.local c.leave.new.local c.desc.view_is (ap (λ q. q.who) c.leave.ensures.left) (ap (λ (q : Local). q.undo.len) c.leave.ensures.idle) name
-    (laws.tells-read_only good f d.number d.local s.view o refl i tml k y.view clean (ap (λ q. q.view) c.leave.ensures.left))
+    shown-of (λ (n : ℕ) (v w : Known). answers.Commits good f n (commits.ReadOnly d.local.start) v w) h e d.number y.view d.local c.leave.new.local c.desc.view_is (ap own_of c.leave.ensures.idle) name
+    (laws.tells-read_only good f d.number d.local s.view o (ap (λ (p : Handle g.row.K.Denot). (known p).committing) c.desc.view_is ∙ c.requires.running.1) i tml k y.view clean (ap (λ q. q.view) c.leave.ensures.left))
 
 pub tml_commit-requires-clause-view : goal.tml_commit-requires-clause-view
 tml_commit-requires-clause-view g c =
@@ -44,7 +43,7 @@ tml_commit-requires-clause-view g c =
     let rule = good_of g.K.MemRule.good f c.args.stm.now.rule in
     let d = c.desc.inside in
     let s = d.seat.me.0 in
-    let o = own_of s.who.config d.local in
+    let o = own_of d.local in
     let h = handle_of d.seat o in
     let e = c.args.desc.now in
     let i = runs-of g.K.MemRule.good f c.args.stm.now.rule h e d.number d.local c.desc.view_is c.requires.stm.config c.requires.stm.rule c.requires.running.0 c.desc.invariant.1 in
@@ -56,7 +55,7 @@ tml_commit-requires-clause-view g c =
     let dirty : d.local.wrote ≡ true = search rules in
     let t = d.local.start + 2 in
     let shown = steps.Commits rule f d.number t in
-    laws.may-commit good f d.number d.local s.view o refl i tml k t refl dirty
+    laws.may-commit good f d.number d.local s.view o (ap (λ (p : Handle g.row.K.Denot). (known p).committing) c.desc.view_is ∙ c.requires.running.1) i tml k t refl dirty
     (subst (λ (q : ℕ). answers.KeepsRule good f q (known h)) name (subst (λ (p : Handle g.row.K.Denot). answers.KeepsRule good f (number p) (known p)) (sym c.desc.view_is) c.requires.keeps))
 
 pub returns-clause-commits : goal.returns-clause-commits
@@ -66,7 +65,7 @@ returns-clause-commits g c =
     let rule = good_of g.K.MemRule.good f c.args.stm.now.rule in
     let d = c.desc.inside in
     let s = d.seat.me.0 in
-    let o = own_of s.who.config d.local in
+    let o = own_of d.local in
     let h = handle_of d.seat o in
     let e = c.args.desc.now in
     let i = runs-of g.K.MemRule.good f c.args.stm.now.rule h e d.number d.local c.desc.view_is c.requires.stm.config c.requires.stm.rule c.requires.running.0 c.desc.invariant.1 in
@@ -80,5 +79,5 @@ returns-clause-commits g c =
     let shown = steps.Commits rule f d.number t in
     let u = c.tml_commit.new.seat.me.0 in
     let y = c.leave-2.new.seat.me.0 in
-    shown-of (λ (n : ℕ) (v w : Known). answers.Commits good f n (commits.Committed t) v w) h e d.number y.view y.who d.local c.leave-2.new.local c.desc.view_is (ap (λ q. q.who) c.leave-2.ensures.left ∙ who-of (tml_commit d.number t) shown s t u c.tml_commit.ensures.step) (ap (λ (q : Local). q.undo.len) c.leave-2.ensures.idle) name
-    (laws.tells-committed good f d.number d.local s.view o refl i tml k t u.view y.view refl dirty (tells-of (tml_commit d.number t) shown s t u c.tml_commit.ensures.step) (ap (λ q. q.view) c.leave-2.ensures.left))
+    shown-of (λ (n : ℕ) (v w : Known). answers.Commits good f n (commits.Committed t) v w) h e d.number y.view d.local c.leave-2.new.local c.desc.view_is (ap own_of c.leave-2.ensures.idle) name
+    (laws.tells-committed good f d.number d.local s.view o (ap (λ (p : Handle g.row.K.Denot). (known p).committing) c.desc.view_is ∙ c.requires.running.1) i tml k t u.view y.view refl dirty (tells-of (tml_commit d.number t) shown s t u c.tml_commit.ensures.step) (ap (λ q. q.view) c.leave-2.ensures.left))

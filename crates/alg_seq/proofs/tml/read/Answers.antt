@@ -4,7 +4,6 @@ use Rattle.stm_model.specs.declared.alg.Alg.TheVariants.{Tml}
 use Rattle.stm_model.specs.declared.config.Config.{Config}
 use Rattle.stm_model.specs.declared.stop.Cause.TheVariants as causes
 use Rattle.rule_seq.specs.TmlSteps.{tml_load, TmlLoads, tml_again}
-use Rattle.stm_rule.specs.declared.local.Local.{Local}
 use Rattle.stm_rule.specs.Attempts.{own_of}
 use Rattle.stm_rule.specs.Callers.{Handle, handle_of}
 use Rattle.stm_rule.specs.Findings.{FindsAgain}
@@ -25,7 +24,7 @@ returns-then-desc-2-clause-read g c =
     let rule = good_of g.K.MemRule.good f c.args.stm.now.rule in
     let d = c.desc.inside in
     let s = d.seat.me.0 in
-    let o = own_of s.who.config d.local in
+    let o = own_of d.local in
     let h = handle_of d.seat o in
     let e = c.args.desc.now in
     let i = runs-of g.K.MemRule.good f c.args.stm.now.rule h e d.number d.local c.desc.view_is c.requires.stm.config c.requires.stm.rule c.requires.running.0 c.desc.invariant.1 in
@@ -41,8 +40,8 @@ returns-then-desc-2-clause-read g c =
     let load_who = who-of (tml_load a) (TmlLoads rule f a) s x u c.tml_load-x.ensures.step in
     let dirty : d.local.wrote ≡ true = search rules in
     let small : x < 2 ^ 64 = search rules in
-    shown-of (λ (n : ℕ) (v w : Known). answers.HasRead good f n a (reads.Value x) v w) h e d.number u.view u.who d.local d.local c.desc.view_is load_who refl name
-    (laws.tells-in_place good f d.number d.local s.view o refl i tml k a x u.view small c.requires.inside dirty t)
+    shown-of (λ (n : ℕ) (v w : Known). answers.HasRead good f n a (reads.Value x) v w) h e d.number u.view d.local d.local c.desc.view_is refl name
+    (laws.tells-in_place good f d.number d.local s.view o (ap (λ (p : Handle g.row.K.Denot). (known p).committing) c.desc.view_is ∙ c.requires.running.1) i tml k a x u.view small c.requires.inside dirty t)
 
 pub returns-then-clock-start-clause-read : goal.returns-then-clock-start-clause-read
 returns-then-clock-start-clause-read g c =
@@ -51,7 +50,7 @@ returns-then-clock-start-clause-read g c =
     let rule = good_of g.K.MemRule.good f c.args.stm.now.rule in
     let d = c.desc.inside in
     let s = d.seat.me.0 in
-    let o = own_of s.who.config d.local in
+    let o = own_of d.local in
     let h = handle_of d.seat o in
     let e = c.args.desc.now in
     let i = runs-of g.K.MemRule.good f c.args.stm.now.rule h e d.number d.local c.desc.view_is c.requires.stm.config c.requires.stm.rule c.requires.running.0 c.desc.invariant.1 in
@@ -72,8 +71,8 @@ returns-then-clock-start-clause-read g c =
     let clean : d.local.wrote ≡ false = search rules in
     let apart : clock ≢ d.local.start = search rules in
     let y = c.leave.new.seat.me.0 in
-    shown-of (λ (n : ℕ) (v w : Known). answers.HasRead good f n a (reads.Conflict (causes.Clock d.local.start clock)) v w) h e d.number y.view y.who d.local c.leave.new.local c.desc.view_is (ap (λ q. q.who) c.leave.ensures.left ∙ who) (ap (λ (q : Local). q.undo.len) c.leave.ensures.idle) name
-    (laws.tells-conflict good f d.number d.local s.view o refl i tml k a x clock u.view w.view y.view low clean apart t r (ap (λ q. q.view) c.leave.ensures.left))
+    shown-of (λ (n : ℕ) (v w : Known). answers.HasRead good f n a (reads.Conflict (causes.Clock d.local.start clock)) v w) h e d.number y.view d.local c.leave.new.local c.desc.view_is (ap own_of c.leave.ensures.idle) name
+    (laws.tells-conflict good f d.number d.local s.view o (ap (λ (p : Handle g.row.K.Denot). (known p).committing) c.desc.view_is ∙ c.requires.running.1) i tml k a x clock u.view w.view y.view low clean apart t r (ap (λ q. q.view) c.leave.ensures.left))
 
 pub returns-clause-read : goal.returns-clause-read
 returns-clause-read g c =
@@ -82,7 +81,7 @@ returns-clause-read g c =
     let rule = good_of g.K.MemRule.good f c.args.stm.now.rule in
     let d = c.desc.inside in
     let s = d.seat.me.0 in
-    let o = own_of s.who.config d.local in
+    let o = own_of d.local in
     let h = handle_of d.seat o in
     let e = c.args.desc.now in
     let i = runs-of g.K.MemRule.good f c.args.stm.now.rule h e d.number d.local c.desc.view_is c.requires.stm.config c.requires.stm.rule c.requires.running.0 c.desc.invariant.1 in
@@ -103,5 +102,5 @@ returns-clause-read g c =
     let clean : d.local.wrote ≡ false = search rules in
     let same : clock ≡ d.local.start = search rules in
     let small : x < 2 ^ 64 = search rules in
-    shown-of (λ (n : ℕ) (v w : Known). answers.HasRead good f n a (reads.Value x) v w) h e d.number w.view w.who d.local d.local c.desc.view_is who refl name
-    (laws.tells-read good f d.number d.local s.view o refl i tml k a x clock u.view w.view small c.requires.inside clean same t r)
+    shown-of (λ (n : ℕ) (v w : Known). answers.HasRead good f n a (reads.Value x) v w) h e d.number w.view d.local d.local c.desc.view_is refl name
+    (laws.tells-read good f d.number d.local s.view o (ap (λ (p : Handle g.row.K.Denot). (known p).committing) c.desc.view_is ∙ c.requires.running.1) i tml k a x clock u.view w.view small c.requires.inside clean same t r)

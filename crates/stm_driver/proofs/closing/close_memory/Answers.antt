@@ -13,17 +13,17 @@ use Rattle.stm_driver.proofs.closing.close_memory.Goals as goal
 
 pub take_apart-requires-clause-rows : goal.take_apart-requires-clause-rows
 take_apart-requires-clause-rows g c =
-    let back = came-back c.args.stm c.args.runners.items c.as_mut_slice.result.now c.make_all_idle.new.runners c.args.runners.len c.as_mut_slice.ensures.value c.as_mut_slice.ensures.len c.requires.callers c.make_all_idle.ensures in
+    let back = came-back (g.K.MemRule.good c.args.stm.rule) c.args.stm c.args.runners.items c.as_mut_slice.result.now c.make_all_idle.new.runners c.args.runners.len c.as_mut_slice.ensures.value c.as_mut_slice.ensures.len c.requires.callers c.make_all_idle.ensures in
     subst (λ l. length l ≤ vec_capacity c.args.rows) (sym (ap rows_of back.is ∙ back.rows)) c.requires.rows
 
 pub close-requires-clause-descs : goal.close-requires-clause-descs
 close-requires-clause-descs g c =
-    let back = came-back c.args.stm c.args.runners.items c.as_mut_slice.result.now c.make_all_idle.new.runners c.args.runners.len c.as_mut_slice.ensures.value c.as_mut_slice.ensures.len c.requires.callers c.make_all_idle.ensures in
+    let back = came-back (g.K.MemRule.good c.args.stm.rule) c.args.stm c.args.runners.items c.as_mut_slice.result.now c.make_all_idle.new.runners c.args.runners.len c.as_mut_slice.ensures.value c.as_mut_slice.ensures.len c.requires.callers c.make_all_idle.ensures in
     subst (AllIdle c.args.stm 0) (sym (c.take_apart.ensures.descs ∙ ap descs_of back.is)) back.descs
 
 pub close-requires-clause-all : goal.close-requires-clause-all
 close-requires-clause-all g c =
-    let back = came-back c.args.stm c.args.runners.items c.as_mut_slice.result.now c.make_all_idle.new.runners c.args.runners.len c.as_mut_slice.ensures.value c.as_mut_slice.ensures.len c.requires.callers c.make_all_idle.ensures in
+    let back = came-back (g.K.MemRule.good c.args.stm.rule) c.args.stm c.args.runners.items c.as_mut_slice.result.now c.make_all_idle.new.runners c.args.runners.len c.as_mut_slice.ensures.value c.as_mut_slice.ensures.len c.requires.callers c.make_all_idle.ensures in
     ap length (c.take_apart.ensures.descs ∙ ap descs_of back.is) ∙ (descs-count (workers_in c.make_all_idle.new.runners) ∙ (back.count ∙ c.requires.all))
 
 pub make_all_idle-requires : goal.make_all_idle-requires
@@ -31,10 +31,10 @@ make_all_idle-requires g c = subst (λ rs. AreSound (g.K.MemRule.good c.args.stm
 
 pub returns-in-Ok-how : goal.returns-in-Ok-how
 returns-in-Ok-how g c =
-    let back = came-back c.args.stm c.args.runners.items c.as_mut_slice.result.now c.make_all_idle.new.runners c.args.runners.len c.as_mut_slice.ensures.value c.as_mut_slice.ensures.len c.requires.callers c.make_all_idle.ensures in
+    let back = came-back (g.K.MemRule.good c.args.stm.rule) c.args.stm c.args.runners.items c.as_mut_slice.result.now c.make_all_idle.new.runners c.args.runners.len c.as_mut_slice.ensures.value c.as_mut_slice.ensures.len c.requires.callers c.make_all_idle.ensures in
     let ws = workers_in c.args.runners.items in
     let between = subst (λ h. OnOk h (All (λ (w : Worker g.row.K.Denot). w.phase ≡ Between) ws)) c.in-Ok-how.is c.requires.through in
-    let after : workers_in c.make_all_idle.new.runners ≡ ws = idle-still c.args.stm ws (workers_in c.make_all_idle.new.runners) between back.idle in
+    let after : workers_in c.make_all_idle.new.runners ≡ ws = idle-still (g.K.MemRule.good c.args.stm.rule) c.args.stm ws (workers_in c.make_all_idle.new.runners) between back.idle in
     subst (λ h. Came (g.K.MemRule.good c.args.stm.rule) c.args.stm (workers_in c.args.runners.items) h (ToEnd c.in_ok-report-in-Ok-how.report c.in-Ok.closed)) (sym c.in-Ok-how.is) (record {
       words = c.in-Ok.words.items;
       closes = subst (λ ds. Closes (g.K.MemRule.good c.args.stm.rule) c.args.stm.config ds c.in-Ok.words.items c.in-Ok.closed) (c.take_apart.ensures.descs ∙ (ap descs_of back.is ∙ ap descs_of after)) c.in-Ok.ensures.closes;
@@ -44,7 +44,7 @@ returns-in-Ok-how g c =
 
 pub returns-in-ClockFull : goal.returns-in-ClockFull
 returns-in-ClockFull g c =
-    let back = came-back c.args.stm c.args.runners.items c.as_mut_slice.result.now c.make_all_idle.new.runners c.args.runners.len c.as_mut_slice.ensures.value c.as_mut_slice.ensures.len c.requires.callers c.make_all_idle.ensures in
+    let back = came-back (g.K.MemRule.good c.args.stm.rule) c.args.stm c.args.runners.items c.as_mut_slice.result.now c.make_all_idle.new.runners c.args.runners.len c.as_mut_slice.ensures.value c.as_mut_slice.ensures.len c.requires.callers c.make_all_idle.ensures in
     subst (λ h. Came (g.K.MemRule.good c.args.stm.rule) c.args.stm (workers_in c.args.runners.items) h (ToLimit c.in-ClockFull.clock c.in-Ok.closed)) (sym c.in-Err.is) (subst (λ halt. Came (g.K.MemRule.good c.args.stm.rule) c.args.stm (workers_in c.args.runners.items) (Err halt) (ToLimit c.in-ClockFull.clock c.in-Ok.closed)) (sym c.in-ClockFull.is) (
       refl,
       record {
@@ -57,7 +57,7 @@ returns-in-ClockFull g c =
 
 pub returns : goal.returns
 returns g c =
-    let back = came-back c.args.stm c.args.runners.items c.as_mut_slice.result.now c.make_all_idle.new.runners c.args.runners.len c.as_mut_slice.ensures.value c.as_mut_slice.ensures.len c.requires.callers c.make_all_idle.ensures in
+    let back = came-back (g.K.MemRule.good c.args.stm.rule) c.args.stm c.args.runners.items c.as_mut_slice.result.now c.make_all_idle.new.runners c.args.runners.len c.as_mut_slice.ensures.value c.as_mut_slice.ensures.len c.requires.callers c.make_all_idle.ensures in
     subst (λ h. Came (g.K.MemRule.good c.args.stm.rule) c.args.stm (workers_in c.args.runners.items) h (OutOfMemory c.in-Ok.closed)) (sym c.in-Err.is) (subst (λ halt. Came (g.K.MemRule.good c.args.stm.rule) c.args.stm (workers_in c.args.runners.items) (Err halt) (OutOfMemory c.in-Ok.closed)) (sym c.in-Memory.is) (record {
       words = c.in-Ok.words.items;
       after = workers_in c.make_all_idle.new.runners;

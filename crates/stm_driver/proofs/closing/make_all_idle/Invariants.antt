@@ -3,4 +3,4 @@ use Rattle.stm_driver.proofs.IdleLaws.{AreIdleTo}
 use Rattle.stm_driver.proofs.closing.make_all_idle.Given as goal
 
 abbrev pub invariant-loop-runner : goal.invariant-loop-runner
-invariant-loop-runner g l = AreIdleTo l.stm l.runner-index (workers_in l.fn.runners) (workers_in l.runners)
+invariant-loop-runner g l = AreIdleTo (g.K.MemRule.good l.stm.rule) l.stm l.runner-index (workers_in l.fn.runners) (workers_in l.runners)

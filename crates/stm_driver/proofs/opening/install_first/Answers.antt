@@ -1,5 +1,5 @@
 use Rattle.std.proofs.Common.{[], ◌∷◌, ◌++◌, ap, ◌∙◌, arith}
-use Rattle.stm_driver.proofs.OpeningLaws.{install-low}
+use Rattle.stm_model.specs.AlgorithmLaws.{install-low}
 use Rattle.stm_driver.proofs.opening.install_first.Goals as goal
 
 pub returns-clause-new : goal.returns-clause-new

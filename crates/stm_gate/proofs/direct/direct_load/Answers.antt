@@ -1,4 +1,4 @@
-use Rattle.std.proofs.Common.{ℕ, ◌≡◌, subst, sym, ap, refl, true}
+use Rattle.std.proofs.Common.{ℕ, ◌≡◌, subst, sym, ap, refl, true, ◌∙◌}
 use Rattle.stm_model.specs.Algorithms.{closes_gate}
 use Rattle.stm_rule.specs.Attempts.{own_of}
 use Rattle.stm_rule.specs.Callers.{Handle, handle_of}
@@ -20,7 +20,7 @@ returns-clause-read g c =
     let good = g.K.MemRule.good c.args.stm.now.rule in
     let d = c.desc.inside in
     let s = d.seat.me.0 in
-    let o = own_of s.who.config d.local in
+    let o = own_of d.local in
     let h = handle_of d.seat o in
     let e = c.args.desc.now in
     let i = runs-of g.K.MemRule.good f c.args.stm.now.rule h e d.number d.local c.desc.view_is c.requires.stm.config c.requires.stm.rule c.requires.running.0 c.desc.invariant.1 in
@@ -30,5 +30,5 @@ returns-clause-read g c =
     let x = c.direct_load.result in
     let w = c.direct_load.new.seat.me.0 in
     let loads = Loads (good_of g.K.MemRule.good f c.args.stm.now.rule) f c.args.a in
-    shown-of (λ (n : ℕ) (v w : Known). HasRead good f n c.args.a (Value x) v w) h e d.number w.view w.who d.local d.local c.desc.view_is (who-of (direct_load c.args.a) loads s x w c.direct_load.ensures.step) refl name
-    (tells-load good f d.number c.args.a x d.local s.view w.view o refl c.requires.inside closes granted i (tells-of (direct_load c.args.a) loads s x w c.direct_load.ensures.step))
+    shown-of (λ (n : ℕ) (v w : Known). HasRead good f n c.args.a (Value x) v w) h e d.number w.view d.local d.local c.desc.view_is refl name
+    (tells-load good f d.number c.args.a x d.local s.view w.view o (ap (λ (p : Handle g.row.K.Denot). (known p).committing) c.desc.view_is ∙ c.requires.running.1) c.requires.inside closes granted i (tells-of (direct_load c.args.a) loads s x w c.direct_load.ensures.step))

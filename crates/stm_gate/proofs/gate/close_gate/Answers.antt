@@ -21,7 +21,7 @@ returns-then-holder_of-ne0-clause-closes g c =
     let good = g.K.MemRule.good c.args.stm.now.rule in
     let d = c.desc.inside in
     let s = d.seat.me.0 in
-    let o = own_of s.who.config d.local in
+    let o = own_of d.local in
     let h = handle_of d.seat o in
     let e = c.args.desc.now in
     let name : caller_of s.who.role ≡ d.number = ap caller_of c.desc.invariant.0.named in
@@ -36,7 +36,7 @@ returns-then-holder_of-ne0-clause-closes g c =
     let w = c.depart.new.seat.me.0 in
     let other : holder_of gate ≢ 0 = search rules in
     let who = who-of (depart d.number) Nothing t 0 w c.depart.ensures.step ∙ two in
-    shown-of (λ (n : ℕ) (v w : Known). Closes good f n (Taken gate) v w) h e d.number w.view w.who d.local d.local c.desc.view_is who refl name
+    shown-of (λ (n : ℕ) (v w : Known). Closes good f n (Taken gate) v w) h e d.number w.view d.local d.local c.desc.view_is refl name
     (tells-taken good f d.number gate s.view r.view t.view w.view o low out other a b (tells-of (depart d.number) Nothing t 0 w c.depart.ensures.step))
 
 pub returns-then-found-gate-clause-closes : goal.returns-then-found-gate-clause-closes
@@ -45,7 +45,7 @@ returns-then-found-gate-clause-closes g c =
     let good = g.K.MemRule.good c.args.stm.now.rule in
     let d = c.desc.inside in
     let s = d.seat.me.0 in
-    let o = own_of s.who.config d.local in
+    let o = own_of d.local in
     let h = handle_of d.seat o in
     let e = c.args.desc.now in
     let name : caller_of s.who.role ≡ d.number = ap caller_of c.desc.invariant.0.named in
@@ -64,7 +64,7 @@ returns-then-found-gate-clause-closes g c =
     let x = tells-of (depart d.number) Nothing u 0 w c.depart-2.ensures.step in
     let who = who-of (depart d.number) Nothing u 0 w c.depart-2.ensures.step ∙ (who-of (take_gate d.number gate) (FindsTaken f d.number gate) t found u c.take_gate-found.ensures.step ∙ two) in
     let other : found ≢ gate = search rules in
-    shown-of (λ (n : ℕ) (v w : Known). Closes good f n (Taken found) v w) h e d.number w.view w.who d.local d.local c.desc.view_is who refl name
+    shown-of (λ (n : ℕ) (v w : Known). Closes good f n (Taken found) v w) h e d.number w.view d.local d.local c.desc.view_is refl name
     (tells-refused good f d.number gate found s.view r.view t.view u.view w.view o low out other a b k x)
 
 pub returns-clause-closes : goal.returns-clause-closes
@@ -73,7 +73,7 @@ returns-clause-closes g c =
     let good = g.K.MemRule.good c.args.stm.now.rule in
     let d = c.desc.inside in
     let s = d.seat.me.0 in
-    let o = own_of s.who.config d.local in
+    let o = own_of d.local in
     let h = handle_of d.seat o in
     let e = c.args.desc.now in
     let name : caller_of s.who.role ≡ d.number = ap caller_of c.desc.invariant.0.named in
@@ -93,5 +93,5 @@ returns-clause-closes g c =
     let who = who-of (depart d.number) Nothing u 0 w c.depart-2.ensures.step ∙ (who-of (take_gate d.number gate) (FindsTaken f d.number gate) t found u c.take_gate-found.ensures.step ∙ two) in
     let free : holder_of gate ≡ 0 = search rules in
     let same : found ≡ gate = search rules in
-    shown-of (λ (n : ℕ) (v w : Known). Closes good f n Closed v w) h e d.number w.view w.who d.local d.local c.desc.view_is who refl name
+    shown-of (λ (n : ℕ) (v w : Known). Closes good f n Closed v w) h e d.number w.view d.local d.local c.desc.view_is refl name
     (tells-closed good f d.number gate found s.view r.view t.view u.view w.view o out free same a b k x)

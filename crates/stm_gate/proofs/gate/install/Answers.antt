@@ -35,12 +35,12 @@ returns-clause-installs g c =
     let rule = good_by g.K.MemRule.good s.who.rule in
     let closing = closing-of rule s.who.config d.number d.local s.view holds.phase c.desc.invariant.1 in
     let who : w.who ≡ s.who = who-of (install d.number alg) Nothing y word w c.install.ensures.step ∙ (who-of (store_done t) Nothing u t y c.store_done.ensures.step ∙ (who-of (store_base t) Nothing r t u c.store_base.ensures.step ∙ ap (λ (p : SeatView g.row.K.Denot). p.who) q.rest)) in
-    let o = own_of s.who.config d.local in
+    let o = own_of d.local in
     let h = handle_of d.seat o in
     let e = c.args.desc.now in
     let name : caller_of s.who.role ≡ d.number = ap caller_of c.desc.invariant.0.named in
     let quiet = subst (λ (k : ℕ). SeesQuiet good f k (known h)) name (subst (λ (p : Handle g.row.K.Denot). SeesQuiet good f (number p) (known p)) (sym c.desc.view_is) c.requires.quiet) in
-    shown-of (λ (n : ℕ) (v w : Known). Installs good f n alg v w) h e d.number w.view w.who d.local d.local c.desc.view_is who refl name
+    shown-of (λ (n : ℕ) (v w : Known). Installs good f n alg v w) h e d.number w.view d.local d.local c.desc.view_is refl name
     (tells-installed good f d.number alg t s.view r.view u.view y.view w.view o holds quiet closing.ungranted closing.clear.unfixed q.settles based done installed)
 
 pub invariant_of-desc : goal.invariant_of-desc
@@ -75,5 +75,5 @@ invariant_of-desc g c =
         empty = c.install.ensures.same.2 ∙ (c.store_done.ensures.same.2 ∙ (c.store_base.ensures.same.2 ∙ (q.same.2 ∙ tied.empty)));
       },
       subst (λ (p : Who g.row.K.Denot). Stands (good_by g.K.MemRule.good p.rule) p.config d.number local w.view) (sym who)
-          (stands-closing rule s.who.config d.number local w.view d.local.running d.local.holds (closing-flags rule s.who.config d.number d.local s.view holds.phase c.desc.invariant.1) after),
+          (stands-closing rule s.who.config d.number local w.view d.local.running d.local.holds (closing-flags rule s.who.config d.number d.local s.view holds.phase c.desc.invariant.1) c.desc.invariant.1.lengths after),
     )

@@ -14,7 +14,7 @@ use Rattle.tx_answers.specs.Known.{caller_of, is_irrevocable}
 use Rattle.stm_gate.specs.Knowing.{known, number}
 use Rattle.stm_gate.specs.Opacity.{opaque-inside}
 use Rattle.stm_gate.specs.Promoting.{ClosesFor}
-use Rattle.stm_gate.specs.PromotingLaws.{looks-taken, seizes-taken, seizes-won, takes-won, seized-stands}
+use Rattle.stm_gate.specs.PromotingLaws.{takes-refl, looks-taken, seizes-taken, seizes-won, takes-won, seized-stands}
 use Rattle.stm_gate.specs.Standing.{runs-of, who-of}
 use Rattle.stm_gate.proofs.promote.close_for.Goals as goal
 
@@ -24,7 +24,7 @@ returns-then-desc-clause-opaque g c =
     let good = g.K.MemRule.good c.args.stm.now.rule in
     let d = c.desc.inside in
     let s = d.seat.me.0 in
-    let o = own_of s.who.config d.local in
+    let o = own_of d.local in
     let h = handle_of d.seat o in
     let e = c.args.desc.now in
     let i = runs-of g.K.MemRule.good f c.args.stm.now.rule h e d.number d.local c.desc.view_is c.requires.stm.config c.requires.stm.rule c.requires.running.0 c.desc.invariant.1 in
@@ -37,7 +37,7 @@ returns-then-holder_of-ne0-clause-opaque g c =
     let good = g.K.MemRule.good c.args.stm.now.rule in
     let d = c.desc.inside in
     let s = d.seat.me.0 in
-    let o = own_of s.who.config d.local in
+    let o = own_of d.local in
     let h = handle_of d.seat o in
     let e = c.args.desc.now in
     let i = runs-of g.K.MemRule.good f c.args.stm.now.rule h e d.number d.local c.desc.view_is c.requires.stm.config c.requires.stm.rule c.requires.running.0 c.desc.invariant.1 in
@@ -50,7 +50,7 @@ returns-then-found-gate_word-clause-opaque g c =
     let good = g.K.MemRule.good c.args.stm.now.rule in
     let d = c.desc.inside in
     let s = d.seat.me.0 in
-    let o = own_of s.who.config d.local in
+    let o = own_of d.local in
     let h = handle_of d.seat o in
     let e = c.args.desc.now in
     let i = runs-of g.K.MemRule.good f c.args.stm.now.rule h e d.number d.local c.desc.view_is c.requires.stm.config c.requires.stm.rule c.requires.running.0 c.desc.invariant.1 in
@@ -63,12 +63,20 @@ returns-clause-opaque g c =
     let good = g.K.MemRule.good c.args.stm.now.rule in
     let d = c.desc.inside in
     let s = d.seat.me.0 in
-    let o = own_of s.who.config d.local in
+    let o = own_of d.local in
     let h = handle_of d.seat o in
     let e = c.args.desc.now in
     let i = runs-of g.K.MemRule.good f c.args.stm.now.rule h e d.number d.local c.desc.view_is c.requires.stm.config c.requires.stm.rule c.requires.running.0 c.desc.invariant.1 in
     let name : caller_of s.who.role ≡ d.number = ap caller_of c.desc.invariant.0.named in
     subst (λ (p : Handle g.row.K.Denot). IsOpaque good f (number p) (known p)) c.desc.view_is (subst (λ (k : ℕ). IsOpaque good f k (known h)) (sym name) (opaque-inside good f d.number d.local s.view o i))
+
+pub returns-then-desc-clause-closes : goal.returns-then-desc-clause-closes
+returns-then-desc-clause-closes g c =
+    let f = c.args.stm.now.config in
+    let d = c.desc.inside in
+    let s = d.seat.me.0 in
+    let held : d.local.holds ≡ true = search rules in
+    subst (λ (p : Handle g.row.K.Denot). ClosesFor f (number p) None p.view p.view) c.desc.view_is (takes-refl s.view (sym c.desc.invariant.1.holds ∙ held))
 
 pub returns-then-holder_of-ne0-clause-closes : goal.returns-then-holder_of-ne0-clause-closes
 returns-then-holder_of-ne0-clause-closes g c =
@@ -76,7 +84,7 @@ returns-then-holder_of-ne0-clause-closes g c =
     let good = g.K.MemRule.good c.args.stm.now.rule in
     let d = c.desc.inside in
     let s = d.seat.me.0 in
-    let o = own_of s.who.config d.local in
+    let o = own_of d.local in
     let h = handle_of d.seat o in
     let e = c.args.desc.now in
     let i = runs-of g.K.MemRule.good f c.args.stm.now.rule h e d.number d.local c.desc.view_is c.requires.stm.config c.requires.stm.rule c.requires.running.0 c.desc.invariant.1 in
@@ -97,7 +105,7 @@ returns-then-found-gate_word-clause-closes g c =
     let good = g.K.MemRule.good c.args.stm.now.rule in
     let d = c.desc.inside in
     let s = d.seat.me.0 in
-    let o = own_of s.who.config d.local in
+    let o = own_of d.local in
     let h = handle_of d.seat o in
     let e = c.args.desc.now in
     let i = runs-of g.K.MemRule.good f c.args.stm.now.rule h e d.number d.local c.desc.view_is c.requires.stm.config c.requires.stm.rule c.requires.running.0 c.desc.invariant.1 in
@@ -122,7 +130,7 @@ returns-clause-closes g c =
     let good = g.K.MemRule.good c.args.stm.now.rule in
     let d = c.desc.inside in
     let s = d.seat.me.0 in
-    let o = own_of s.who.config d.local in
+    let o = own_of d.local in
     let h = handle_of d.seat o in
     let e = c.args.desc.now in
     let i = runs-of g.K.MemRule.good f c.args.stm.now.rule h e d.number d.local c.desc.view_is c.requires.stm.config c.requires.stm.rule c.requires.running.0 c.desc.invariant.1 in
@@ -147,7 +155,7 @@ invariant_of-desc-2 g c =
     let good = g.K.MemRule.good c.args.stm.now.rule in
     let d = c.desc.inside in
     let s = d.seat.me.0 in
-    let o = own_of s.who.config d.local in
+    let o = own_of d.local in
     let h = handle_of d.seat o in
     let e = c.args.desc.now in
     let i = runs-of g.K.MemRule.good f c.args.stm.now.rule h e d.number d.local c.desc.view_is c.requires.stm.config c.requires.stm.rule c.requires.running.0 c.desc.invariant.1 in

@@ -13,7 +13,7 @@ returns-then-desc g c =
     let s = d.seat.me.0 in
     let f = s.who.config in
     let good = good_by g.K.MemRule.good s.who.rule in
-    let o = own_of f d.local in
+    let o = own_of d.local in
     let i = subst (λ b. StandsBy good f d.number d.local b d.local.holds s.view) c.if-desc.true c.desc.invariant.1.by in
     subst (λ (h : Handle g.row.K.Denot). c.is_sure.result ≡ (is_in h.view.gate.phase && is_irrevocable (known h))) c.desc.view_is
     (c.is_sure.ensures ∙ (sym (sure-of good f d.number d.local s.view o i) ∙ ap (λ p. is_in p && is_irrevocable (known (handle_of d.seat o))) (sym i.phase)))

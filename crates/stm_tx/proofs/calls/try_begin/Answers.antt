@@ -3,12 +3,12 @@ use Rattle.std.specs.Prelude.{Ok, Err}
 use Rattle.stm_model.specs.Algorithms.{is_built}
 use Rattle.rule_base.specs.declared.seats.SeatView.{SeatView}
 use Rattle.rule_base.specs.declared.views.Phase.TheVariants.{Idle}
-use Rattle.rule_base.specs.Encodings.{holder_of}
+use Rattle.rule_base.specs.Encodings.{alg_of, holder_of}
 use Rattle.rule_base.specs.GateSteps.{announce, load_gate, depart}
 use Rattle.rule_base.specs.StepKinds.{Nothing}
 use Rattle.stm_model.specs.declared.alg.Alg.{Alg}
 use Rattle.stm_rule.specs.declared.local.Local.{Local}
-use Rattle.stm_rule.specs.Attempts.{good_by, own_of}
+use Rattle.stm_rule.specs.Attempts.{own_of, good_by}
 use Rattle.stm_rule.specs.Callers.{Handle, handle_of}
 use Rattle.stm_rule.specs.Findings.{FindsGate}
 use Rattle.stm_rule.specs.StandLemmas.{tells-of, outside-of}
@@ -16,8 +16,9 @@ use Rattle.stm_gate.specs.Standing.{who-of, shown-of}
 use Rattle.tx_answers.specs.declared.answers.Begin.TheVariants.{Begun, Closed}
 use Rattle.tx_answers.specs.Answers.{Begins}
 use Rattle.tx_answers.specs.Known.{known_of, caller_of}
-use Rattle.alg_seq.specs.Starts.{CanBegin, Starts}
-use Rattle.stm_tx.proofs.Beginning.{can-begin, tells-closed, tells-begun, tells-refused}
+use Rattle.stm_gate.specs.Starts.{CanBegin, Starts}
+use Rattle.stm_rule.specs.RecordsKept.{cells_of}
+use Rattle.stm_tx.proofs.Beginning.{begins-fresh, can-begin, tells-closed, tells-begun, tells-refused}
 use Rattle.stm_tx.proofs.calls.try_begin.Goals as goal
 
 pub returns-then-holder_of-ne0-clause-begins : goal.returns-then-holder_of-ne0-clause-begins
@@ -30,12 +31,12 @@ returns-then-holder_of-ne0-clause-begins g c =
     let gate = c.load_gate-gate.result in
     let t = c.load_gate-gate.new.seat.me.0 in
     let w = c.depart.new.seat.me.0 in
-    let o = own_of v.who.config d.local in
+    let o = own_of d.local in
     let out = outside-of (good_by g.K.MemRule.good v.who.rule) v.who.config d.number d.local v.view (subst (λ (h : Handle g.row.K.Denot). h.view.gate.phase ≡ Idle) (sym c.desc.view_is) c.requires.idle.0) c.desc.invariant.1 in
     let other : holder_of gate ≢ 0 = search rules in
     let low : d.number < f.callers = search rules in
     let who = who-of (depart d.number) Nothing t 0 w c.depart.ensures.step ∙ (who-of load_gate (FindsGate f d.number) s gate t c.load_gate-gate.ensures.step ∙ who-of (announce d.number) Nothing v 1 s c.announce.ensures.step) in
-    shown-of (λ n v w. Begins good f n (Closed gate) v w) (handle_of d.seat o) c.args.desc.now d.number w.view w.who d.local d.local c.desc.view_is who refl (ap caller_of c.desc.invariant.0.named)
+    shown-of (λ n v w. Begins good f n (Closed gate) v w) (handle_of d.seat o) c.args.desc.now d.number w.view d.local d.local c.desc.view_is refl (ap caller_of c.desc.invariant.0.named)
     (tells-closed good f d.number gate v.view s.view t.view w.view o low out other
     (tells-of (announce d.number) Nothing v 1 s c.announce.ensures.step) (tells-of load_gate (FindsGate f d.number) s gate t c.load_gate-gate.ensures.step) (tells-of (depart d.number) Nothing t 0 w c.depart.ensures.step))
 
@@ -65,17 +66,19 @@ returns-in-Ok-clause-begins g c =
     let gate = c.load_gate-gate.result in
     let t = c.load_gate-gate.new.seat.me.0 in
     let w = c.begin_under.new.seat.me.0 in
-    let o = own_of v.who.config d.local in
+    let o = own_of d.local in
+    let p = own_of c.begin.new.self in
     let out = outside-of (good_by g.K.MemRule.good v.who.rule) v.who.config d.number d.local v.view (subst (λ (h : Handle g.row.K.Denot). h.view.gate.phase ≡ Idle) (sym c.desc.view_is) c.requires.idle.0) c.desc.invariant.1 in
     let zero : holder_of gate ≡ 0 = search rules in
     let a = c.alg_of-algorithm.result in
     let e = c.alg_of-algorithm.ensures in
     let starts = subst (λ (k : Alg). Starts good f d.number k (Ok c.in-Ok.start) t.view w.view) e c.in-Ok.ensures.begins in
     let who = ap (λ (y : SeatView g.row.K.Denot). y.who) c.in-Ok.ensures.same.1 ∙ (who-of load_gate (FindsGate f d.number) s gate t c.load_gate-gate.ensures.step ∙ who-of (announce d.number) Nothing v 1 s c.announce.ensures.step) in
-    shown-of (λ n v w. Begins good f n (Begun a) v w) (handle_of d.seat o) c.args.desc.now d.number w.view w.who d.local c.begin.new.self c.desc.view_is who (ap (λ (l : Local). l.undo.len) c.begin.ensures) (ap caller_of c.desc.invariant.0.named)
-    (subst (λ (k : Alg). Begins good f d.number (Begun k) (known_of v.view o) (known_of w.view o)) (sym e)
-    (tells-begun good f d.number gate v.view s.view t.view o (tells-of (announce d.number) Nothing v 1 s c.announce.ensures.step) (tells-of load_gate (FindsGate f d.number) s gate t c.load_gate-gate.ensures.step)
-    c.in-Ok.start w.view d.local zero (c.desc.invariant.1.holds ∙ out.reopened) (refl, refl) starts))
+    shown-of (λ n v w. Begins good f n (Begun a) v w) (handle_of d.seat o) c.args.desc.now d.number w.view c.begin.new.self c.begin.new.self c.desc.view_is refl (ap caller_of c.desc.invariant.0.named)
+    (subst (λ (k : Alg). Begins good f d.number (Begun k) (known_of v.view o) (known_of w.view p)) (sym e)
+    (begins-fresh good f d.number (alg_of gate) v.view w.view o p (sym (ap (λ (l : Local). l.reads.len) c.begin.ensures)) (sym (ap (λ (l : Local). l.undo.len) c.begin.ensures))
+    (tells-begun good f d.number gate v.view s.view t.view p (tells-of (announce d.number) Nothing v 1 s c.announce.ensures.step) (tells-of load_gate (FindsGate f d.number) s gate t c.load_gate-gate.ensures.step)
+    c.in-Ok.start w.view d.local zero (c.desc.invariant.1.holds ∙ out.reopened) (ap (λ (l : Local). l.committing) c.begin.ensures, ap (λ (l : Local). cells_of l.writes.items) c.begin.ensures) starts)))
 
 pub returns-in-Err-clause-begins : goal.returns-in-Err-clause-begins
 returns-in-Err-clause-begins g c =
@@ -88,11 +91,11 @@ returns-in-Err-clause-begins g c =
     let t = c.load_gate-gate.new.seat.me.0 in
     let u = c.begin_under.new.seat.me.0 in
     let w = c.depart-in-Err.new.seat.me.0 in
-    let o = own_of v.who.config d.local in
+    let o = own_of d.local in
     let zero : holder_of gate ≡ 0 = search rules in
     let e = c.alg_of-algorithm.ensures in
     let refuses = subst (λ (k : Alg). Starts good f d.number k (Err c.in-Err.refusal) t.view u.view) e c.in-Err.ensures.begins in
     let who = who-of (depart d.number) Nothing u 0 w c.depart-in-Err.ensures.step ∙ (ap (λ (y : SeatView g.row.K.Denot). y.who) c.in-Err.ensures.same.1 ∙ (who-of load_gate (FindsGate f d.number) s gate t c.load_gate-gate.ensures.step ∙ who-of (announce d.number) Nothing v 1 s c.announce.ensures.step)) in
-    shown-of (λ n v w. Begins good f n c.in-Err.refusal v w) (handle_of d.seat o) c.args.desc.now d.number w.view w.who d.local d.local c.desc.view_is who refl (ap caller_of c.desc.invariant.0.named)
+    shown-of (λ n v w. Begins good f n c.in-Err.refusal v w) (handle_of d.seat o) c.args.desc.now d.number w.view d.local d.local c.desc.view_is refl (ap caller_of c.desc.invariant.0.named)
     (tells-refused good f d.number gate v.view s.view t.view o (tells-of (announce d.number) Nothing v 1 s c.announce.ensures.step) (tells-of load_gate (FindsGate f d.number) s gate t c.load_gate-gate.ensures.step)
     u.view w.view (tells-of (depart d.number) Nothing u 0 w c.depart-in-Err.ensures.step) c.in-Err.refusal zero refuses)

@@ -13,9 +13,6 @@ invariant_of-live-clause-runs g c = c.requires.runs.0
 pub invariant_of-live-clause-open : goal.invariant_of-live-clause-open
 invariant_of-live-clause-open g c = λ e. c.requires.runs.1
 
-pub invariant_of-live-clause-built : goal.invariant_of-live-clause-built
-invariant_of-live-clause-built g c = c.requires.built
-
 pub returns-clause-stopped : goal.returns-clause-stopped
 returns-clause-stopped g c =
     let stopped = stopped-by (g.K.MemRule.good c.args.stm.now.rule) c.args.stm.now.config (caller_of c.args.desc.now.who.role) c.args.op c.perform.result _ (known c.args.desc.now) _ c.perform.ensures.stops c.perform.ensures.keeps.0.1 c.perform.ensures.cause in

@@ -3,7 +3,7 @@ use Rattle.rule_seq.specs.CglSteps.{Loads}
 use Rattle.stm_rule.specs.Kept.{good_of}
 use Rattle.stm_rule.specs.PromotionLaws.{direct_loads}
 use Rattle.stm_rule.specs.Product.{Whole}
-use Rattle.stm_rule.proofs.Allowing.{law_of}
+use Rattle.stm_rule.specs.Allowing.{law_of}
 use Rattle.stm_rule.proofs.stm.Stm.direct_load.Goals as goal
 
 pub load_as-requires-clause-law : goal.load_as-requires-clause-law

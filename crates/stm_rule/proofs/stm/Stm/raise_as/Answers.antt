@@ -3,7 +3,7 @@ use mathlib.Core.Option.{none}
 use Rattle.atomic_table.specs.Table.{step}
 use Rattle.rule_base.specs.Places.{offset, InRange}
 use Rattle.rule_base.specs.StepKinds.{word_after, answer_of}
-use Rattle.stm_rule.proofs.Allowing.{allows_at, inside}
+use Rattle.stm_rule.specs.Allowing.{allows_at, inside}
 use Rattle.stm_rule.proofs.stm.Stm.raise_as.Goals as goal
 
 pub fetch_max-requires : goal.fetch_max-requires

@@ -4,7 +4,7 @@ use Rattle.stm_rule.specs.Findings.{FindsTaken}
 use Rattle.stm_rule.specs.Kept.{good_of}
 use Rattle.stm_rule.specs.PromotionLaws.{seizes}
 use Rattle.stm_rule.specs.Product.{Whole}
-use Rattle.stm_rule.proofs.Allowing.{law_of}
+use Rattle.stm_rule.specs.Allowing.{law_of}
 use Rattle.stm_rule.proofs.stm.Stm.seize.Goals as goal
 
 pub exchange_as-requires-clause-law : goal.exchange_as-requires-clause-law

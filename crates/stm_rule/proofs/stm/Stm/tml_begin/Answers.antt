@@ -3,7 +3,7 @@ use Rattle.stm_rule.specs.Kept.{good_of}
 use Rattle.stm_rule.specs.BesideLaws.{begins_beside}
 use Rattle.stm_rule.specs.Findings.{FindsBegin}
 use Rattle.stm_rule.specs.Product.{Whole}
-use Rattle.stm_rule.proofs.Allowing.{law_of}
+use Rattle.stm_rule.specs.Allowing.{law_of}
 use Rattle.stm_rule.proofs.stm.Stm.tml_begin.Goals as goal
 
 pub load_as-requires-clause-law : goal.load_as-requires-clause-law

@@ -3,7 +3,7 @@ use Rattle.rule_seq.specs.CglSteps.{Commits}
 use Rattle.stm_rule.specs.Kept.{good_of}
 use Rattle.stm_rule.specs.Laws.{tml_commits}
 use Rattle.stm_rule.specs.Product.{Whole}
-use Rattle.stm_rule.proofs.Allowing.{law_of}
+use Rattle.stm_rule.specs.Allowing.{law_of}
 use Rattle.stm_rule.proofs.stm.Stm.tml_commit.Goals as goal
 
 pub store_as-requires-clause-law : goal.store_as-requires-clause-law

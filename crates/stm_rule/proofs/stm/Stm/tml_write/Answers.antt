@@ -3,7 +3,7 @@ use Rattle.stm_rule.specs.Kept.{good_of}
 use Rattle.stm_rule.specs.BesideLaws.{writes_beside}
 use Rattle.stm_rule.specs.Findings.{FindsSole}
 use Rattle.stm_rule.specs.Product.{Whole}
-use Rattle.stm_rule.proofs.Allowing.{law_of}
+use Rattle.stm_rule.specs.Allowing.{law_of}
 use Rattle.stm_rule.proofs.stm.Stm.tml_write.Goals as goal
 
 pub exchange_as-requires-clause-law : goal.exchange_as-requires-clause-law

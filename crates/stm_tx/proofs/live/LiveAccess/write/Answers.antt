@@ -1,6 +1,5 @@
 use Rattle.std.proofs.Common.{◌≡◌, ◌∙◌, true, false, refl, sym, ap}
 use Rattle.std.specs.Prelude.{is_none, Some}
-use Rattle.stm_model.specs.Algorithms.{is_built}
 use Rattle.tx_answers.specs.KnownLaws.{in-attempt, carries-wrote}
 use Rattle.stm_tx.specs.Descs.{known, number}
 use Rattle.stm_tx.proofs.Stopping.{write-stopped, write-went, stops-quits, since-stopped, since-at, since-going}
@@ -21,7 +20,6 @@ invariant_of-self-in-Err g c =
       own = record { table = same.table ∙ me.own.table; config = ap (λ q. q.config) same.who ∙ me.own.config; rule = ap (λ q. q.rule) same.who ∙ me.own.rule };
       runs = q.ends.idle.1;
       «open» = λ e. absurd (let no : false ≡ true = e in cc);
-      built = ap is_built q.ends.alg ∙ me.built;
     }
 
 pub returns-in-Err-clause-keeps : goal.returns-in-Err-clause-keeps

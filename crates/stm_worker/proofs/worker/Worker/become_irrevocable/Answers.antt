@@ -1,9 +1,9 @@
-use Rattle.std.proofs.Common.{ℕ, ◌≡◌, ◌⊎◌, Bool, true, false, refl, sym, ap, ◌∙◌, subst, inl, inr}
+use Rattle.std.proofs.Common.{ℕ, ◌≡◌, Bool, true, false, refl, sym, ◌∙◌, subst, inl, inr}
 use Rattle.std.specs.Prelude.{MatchBool}
 use Rattle.stm_script.specs.declared.op.Op.TheVariants.{Irrev}
 use Rattle.stm_trace.specs.declared.said.Said.TheVariants.{TryIrrevocable}
-use Rattle.stm_trace.specs.Places.{Place, failed_next, is_forced, must_next}
-use Rattle.stm_trace.specs.Turns.{Comes, MaySay, Next}
+use Rattle.stm_trace.specs.Places.{failed_next, is_forced, must_next}
+use Rattle.stm_trace.specs.Turns.{MaySay, Next}
 use Rattle.tx_answers.specs.Answers as answers
 use Rattle.tx_answers.specs.Known.{Known, IsRunning, caller_of, is_irrevocable}
 use Rattle.tx_answers.specs.Known as knows

@@ -1,4 +1,4 @@
-use Rattle.stm_worker.proofs.TurnLaws.{turned-cancelled, turned-refused, runs-now}
+use Rattle.stm_worker.proofs.TurnLaws.{turned-cancelled, turned-refused}
 use Rattle.stm_worker.proofs.worker.Worker.cancel.Goals as goal
 
 pub returns-in-Cancelled : goal.returns-in-Cancelled

@@ -4,7 +4,7 @@ use Rattle.stm_worker.specs.Workers.{Turned, cleared}
 use Rattle.stm_trace.specs.declared.said.Said.TheVariants.{TryCommit}
 use Rattle.stm_trace.specs.Places.{failed_next, must_next}
 use Rattle.tx_answers.specs.declared.answers.Commit.TheVariants.{Conflict, ClockFull}
-use Rattle.stm_worker.proofs.TurnLaws.{turned-committed, turned-readonly, turned-again, turned-quit, few-next, runs-now, attempt-now}
+use Rattle.stm_worker.proofs.TurnLaws.{turned-committed, turned-readonly, turned-again, turned-quit, few-next, runs-now}
 use Rattle.stm_worker.proofs.worker.Worker.commit.Goals as goal
 
 pub returns-in-Committed : goal.returns-in-Committed

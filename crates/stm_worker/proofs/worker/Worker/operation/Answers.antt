@@ -1,14 +1,7 @@
-use Rattle.std.proofs.Common.{ap, refl, ◌∙◌}
-use Rattle.stm_model.specs.Algorithms.{is_built}
+use Rattle.std.proofs.Common.{ap, ◌∙◌}
 use Rattle.std.specs.Prelude.{◌||◌}
-use Rattle.stm_worker.proofs.StandLaws.{room-now}
-use Rattle.stm_worker.proofs.TurnLaws.{turned-operated, turned-stopped, attempt-now, runs-free}
+use Rattle.stm_worker.proofs.TurnLaws.{turned-operated, turned-stopped, attempt-now}
 use Rattle.stm_worker.proofs.worker.Worker.operation.Goals as goal
-
-pub operate-requires-clause-built : goal.operate-requires-clause-built
-operate-requires-clause-built g c =
-    let at = attempt-now (g.K.MemRule.good c.args.stm.now.rule) c.args.stm.now c.args.self.now c.requires.sound c.requires.comes.0 in
-    ap is_built at.going.named ∙ at.built
 
 pub returns-in-Ok : goal.returns-in-Ok
 returns-in-Ok g c =

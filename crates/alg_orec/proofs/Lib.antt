@@ -1,0 +1,16 @@
+pub mod Seats
+pub mod ReadItems
+pub mod Passing
+pub mod Validity
+pub mod LoadLaws
+pub mod CellLogs
+pub mod LazyLaws
+pub mod Releasing
+pub mod Cells
+pub mod LockingLaws
+pub mod Proving
+pub mod CommittingLaws
+pub mod EntryLaws
+pub mod GrantingLaws
+pub mod EndingLaws
+pub mod Writing

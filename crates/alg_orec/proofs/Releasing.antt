@@ -1,0 +1,50 @@
+-- The records that an attempt holds, given back one after the other.
+use Rattle.std.proofs.Common.{ℕ, ◌≡◌, ◌≤◌, List, ◌∷◌, ◌++◌, Bool, true, false, refl, sym, ap, ◌∙◌, subst, arith}
+use Rattle.std.specs.Prelude.{None, if◌then◌else◌, ◌==◌}
+use Rattle.stm_model.specs.declared.config.TheConstants.{CLOCK_LIMIT}
+use Rattle.rule_base.specs.declared.entries.Cell.{Cell}
+use Rattle.rule_base.specs.declared.layout.At.TheVariants.{Record}
+use Rattle.rule_base.specs.declared.seats.SeatView.{SeatView}
+use Rattle.rule_base.specs.declared.views.Act.TheVariants.{Store}
+use Rattle.rule_base.specs.declared.views.TrailItem.{TrailItem}
+use Rattle.rule_base.specs.declared.views.View.{View}
+use Rattle.rule_base.specs.Bridge.{items}
+use Rattle.rule_base.specs.Encodings.{free_record}
+use Rattle.rule_base.specs.History.{over, touches, without}
+use Rattle.rule_base.specs.HistoryLemmas.{touches-without, over-without}
+use Rattle.rule_base.specs.StepKinds.{view_after}
+use Rattle.rule_base.specs.World.{World}
+use Rattle.rule_orec.specs.OrecSteps.{orec_release}
+use Rattle.stm_gate.specs.Logging.{item-touched}
+use Rattle.stm_rule.specs.declared.local.Local.{Local}
+use Rattle.alg_orec.specs.Locking.{holding_still}
+use Rattle.alg_orec.specs.Validating.{HasVersions}
+
+-- a record that is given back
+abbrev pub release_item : ℕ → ℕ → TrailItem
+release_item r version = record { place = Record r; act = Store (free_record version); found = None }
+
+pub released-step : {K : Type 0} → (first s t : SeatView K) (more : List TrailItem) (r version x : ℕ) (m : World) → s ≡ record first { view = holding_still first.view s.view.owned.held more } → t ≡ record s { view = view_after (orec_release r version) m s.view x }
+    → t ≡ record first { view = holding_still first.view t.view.owned.held (release_item r version ∷ more) }
+released-step {K} first s t more r version x m e p = p ∙ (ap (λ (y : SeatView K). record y { view = view_after (orec_release r version) m y.view x }) e
+    ∙ (λ i. record first { view = holding_still first.view (sym held i) (release_item r version ∷ more) }))
+  where
+    held : t.view.owned.held ≡ without s.view.owned.held r
+    held = ap (λ (y : SeatView K). y.view.owned.held) p
+
+-- no version is above the limit
+abbrev pub Versions : List Cell → Type 0
+Versions held = (r : ℕ) → touches held r ≡ true → over held r 0 ≤ CLOCK_LIMIT
+
+pub versions-of : (l : Local) (held : List Cell) → l.locks.items ≡ items held → HasVersions l → Versions held
+versions-of l held is versions r t = versions r (over held r 0) (rw is (item-touched held r t))
+
+pub versions-without : (held : List Cell) (a : ℕ) → Versions held → Versions (without held a)
+versions-without held a h r t = by (a == r) refl (sym (touches-without held a r) ∙ t)
+  where
+    by : (q : Bool) → (a == r) ≡ q → (if a == r then false else touches held r) ≡ true → over (without held a) r 0 ≤ CLOCK_LIMIT
+    by true q e = absurd (let f : false ≡ true = rw q at e in cc)
+    by false q e =
+        let f : touches held r ≡ true = rw q at e in
+        let same : over (without held a) r 0 ≡ over held r 0 = over-without held a r 0 ∙ ap (λ (b : Bool). if b then 0 else over held r 0) q in
+        let low = h r f in omega arith

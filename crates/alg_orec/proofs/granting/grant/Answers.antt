@@ -1,0 +1,181 @@
+use Rattle.std.proofs.Common.{ℕ, ◌≡◌, ◌<◌, refl, subst, sym, ap, false, rules, ◌∙◌}
+use Rattle.std.specs.Prelude.{Some}
+use Rattle.stm_model.specs.declared.alg.Alg.TheVariants.{OrecLazy}
+use Rattle.stm_model.specs.declared.config.Config.{Config}
+use Rattle.rule_base.specs.declared.seats.SeatView.{SeatView}
+use Rattle.rule_base.specs.declared.seats.Who.{Who}
+use Rattle.rule_base.specs.declared.views.View.{View}
+use Rattle.stm_rule.specs.declared.local.Local.{Local}
+use Rattle.stm_rule.specs.Attempts.{own_of, emptied, ended}
+use Rattle.stm_rule.specs.Callers.{Handle, handle_of}
+use Rattle.tx_answers.specs.declared.answers.Irrev.TheVariants as irrevs
+use Rattle.tx_answers.specs.Known.{known_of, caller_of, is_irrevocable}
+use Rattle.stm_gate.specs.Granting.{IsAlone, Grants}
+use Rattle.stm_gate.specs.Knowing.{known, number}
+use Rattle.stm_gate.specs.Standing.{runs-of, stands-of}
+use Rattle.stm_gate.specs.Told.{told, stands-on, stands-back}
+use Rattle.alg_orec.specs.Ending.{CanRollBack}
+use Rattle.alg_orec.specs.Granting.{CanGrant}
+use Rattle.alg_orec.proofs.EndingLaws as laws
+use Rattle.alg_orec.proofs.GrantingLaws as grants
+use Rattle.alg_orec.proofs.granting.grant.Goals as goal
+
+pub grant_reads-requires-clause-attempt : goal.grant_reads-requires-clause-attempt
+grant_reads-requires-clause-attempt g c =
+    let f = c.args.stm.now.config in
+    let good = g.K.MemRule.good c.args.stm.now.rule in
+    let d = c.desc.inside in
+    let s = d.seat.me.0 in
+    let o = own_of d.local in
+    let h = handle_of d.seat o in
+    let e = c.args.desc.now in
+    let i = runs-of g.K.MemRule.good f c.args.stm.now.rule h e d.number d.local c.desc.view_is c.requires.stm.config c.requires.stm.rule c.requires.running.0 c.desc.invariant.1 in
+    let name : caller_of s.who.role ≡ d.number = ap caller_of c.desc.invariant.0.named in
+    let lazy = subst (λ (p : Handle g.row.K.Denot). (known p).alg ≡ OrecLazy) (sym c.desc.view_is) c.requires.algorithm in
+    let low : d.number < f.callers = subst (λ (q : Config). d.number < q.callers) (subst (λ (p : Handle g.row.K.Denot). p.who.config ≡ f) (sym c.desc.view_is) c.requires.stm.config) c.desc.invariant.0.low in
+    let revocable = subst (λ (p : Handle g.row.K.Denot). is_irrevocable (known p) ≡ false) (sym c.desc.view_is) c.requires.revocable in
+    let plain = laws.ungranted good f d.number d.local s.view i lazy o revocable in
+    let alone = subst (λ (q : ℕ). IsAlone f.callers q s.view) name (subst (λ (p : Handle g.row.K.Denot). IsAlone f.callers (number p) p.view) (sym c.desc.view_is) c.requires.alone) in
+    let can : CanGrant good f d.number d.local s.view = record { inside = i; lazy = sym i.named ∙ lazy; plain = plain; free = ap (λ (p : Handle g.row.K.Denot). (known p).committing) c.desc.view_is ∙ c.requires.running.1; alone = alone } in
+    can
+
+pub roll_back-requires-clause-view : goal.roll_back-requires-clause-view
+roll_back-requires-clause-view g c =
+    let f = c.args.stm.now.config in
+    let good = g.K.MemRule.good c.args.stm.now.rule in
+    let d = c.desc.inside in
+    let s = d.seat.me.0 in
+    let o = own_of d.local in
+    let h = handle_of d.seat o in
+    let e = c.args.desc.now in
+    let i = runs-of g.K.MemRule.good f c.args.stm.now.rule h e d.number d.local c.desc.view_is c.requires.stm.config c.requires.stm.rule c.requires.running.0 c.desc.invariant.1 in
+    let name : caller_of s.who.role ≡ d.number = ap caller_of c.desc.invariant.0.named in
+    let lazy = subst (λ (p : Handle g.row.K.Denot). (known p).alg ≡ OrecLazy) (sym c.desc.view_is) c.requires.algorithm in
+    let low : d.number < f.callers = subst (λ (q : Config). d.number < q.callers) (subst (λ (p : Handle g.row.K.Denot). p.who.config ≡ f) (sym c.desc.view_is) c.requires.stm.config) c.desc.invariant.0.low in
+    let revocable = subst (λ (p : Handle g.row.K.Denot). is_irrevocable (known p) ≡ false) (sym c.desc.view_is) c.requires.revocable in
+    let plain = laws.ungranted good f d.number d.local s.view i lazy o revocable in
+    let alone = subst (λ (q : ℕ). IsAlone f.callers q s.view) name (subst (λ (p : Handle g.row.K.Denot). IsAlone f.callers (number p) p.view) (sym c.desc.view_is) c.requires.alone) in
+    let can : CanGrant good f d.number d.local s.view = record { inside = i; lazy = sym i.named ∙ lazy; plain = plain; free = ap (λ (p : Handle g.row.K.Denot). (known p).committing) c.desc.view_is ∙ c.requires.running.1; alone = alone } in
+    let m = c.grant_reads.new.local in
+    let u = c.grant_reads.new.seat.me.0 in
+    let q = c.in-Err.ensures.grants in
+    subst (λ (x : Local). CanRollBack f x u.view) (sym q.local) q.can
+
+pub roll_back-requires-clause-holds : goal.roll_back-requires-clause-holds
+roll_back-requires-clause-holds g c =
+    let f = c.args.stm.now.config in
+    let good = g.K.MemRule.good c.args.stm.now.rule in
+    let d = c.desc.inside in
+    let s = d.seat.me.0 in
+    let o = own_of d.local in
+    let h = handle_of d.seat o in
+    let e = c.args.desc.now in
+    let i = runs-of g.K.MemRule.good f c.args.stm.now.rule h e d.number d.local c.desc.view_is c.requires.stm.config c.requires.stm.rule c.requires.running.0 c.desc.invariant.1 in
+    let name : caller_of s.who.role ≡ d.number = ap caller_of c.desc.invariant.0.named in
+    let lazy = subst (λ (p : Handle g.row.K.Denot). (known p).alg ≡ OrecLazy) (sym c.desc.view_is) c.requires.algorithm in
+    let low : d.number < f.callers = subst (λ (q : Config). d.number < q.callers) (subst (λ (p : Handle g.row.K.Denot). p.who.config ≡ f) (sym c.desc.view_is) c.requires.stm.config) c.desc.invariant.0.low in
+    let revocable = subst (λ (p : Handle g.row.K.Denot). is_irrevocable (known p) ≡ false) (sym c.desc.view_is) c.requires.revocable in
+    let plain = laws.ungranted good f d.number d.local s.view i lazy o revocable in
+    let alone = subst (λ (q : ℕ). IsAlone f.callers q s.view) name (subst (λ (p : Handle g.row.K.Denot). IsAlone f.callers (number p) p.view) (sym c.desc.view_is) c.requires.alone) in
+    let can : CanGrant good f d.number d.local s.view = record { inside = i; lazy = sym i.named ∙ lazy; plain = plain; free = ap (λ (p : Handle g.row.K.Denot). (known p).committing) c.desc.view_is ∙ c.requires.running.1; alone = alone } in
+    let m = c.grant_reads.new.local in
+    let u = c.grant_reads.new.seat.me.0 in
+    let q = c.in-Err.ensures.grants in
+    ap (λ (x : Local). x.holds) q.local ∙ (c.desc.invariant.1.holds ∙ sym q.holds)
+
+pub roll_back-requires-clause-named : goal.roll_back-requires-clause-named
+roll_back-requires-clause-named g c =
+    let f = c.args.stm.now.config in
+    let good = g.K.MemRule.good c.args.stm.now.rule in
+    let d = c.desc.inside in
+    let s = d.seat.me.0 in
+    let o = own_of d.local in
+    let h = handle_of d.seat o in
+    let e = c.args.desc.now in
+    let i = runs-of g.K.MemRule.good f c.args.stm.now.rule h e d.number d.local c.desc.view_is c.requires.stm.config c.requires.stm.rule c.requires.running.0 c.desc.invariant.1 in
+    let name : caller_of s.who.role ≡ d.number = ap caller_of c.desc.invariant.0.named in
+    let lazy = subst (λ (p : Handle g.row.K.Denot). (known p).alg ≡ OrecLazy) (sym c.desc.view_is) c.requires.algorithm in
+    let low : d.number < f.callers = subst (λ (q : Config). d.number < q.callers) (subst (λ (p : Handle g.row.K.Denot). p.who.config ≡ f) (sym c.desc.view_is) c.requires.stm.config) c.desc.invariant.0.low in
+    let revocable = subst (λ (p : Handle g.row.K.Denot). is_irrevocable (known p) ≡ false) (sym c.desc.view_is) c.requires.revocable in
+    let plain = laws.ungranted good f d.number d.local s.view i lazy o revocable in
+    let alone = subst (λ (q : ℕ). IsAlone f.callers q s.view) name (subst (λ (p : Handle g.row.K.Denot). IsAlone f.callers (number p) p.view) (sym c.desc.view_is) c.requires.alone) in
+    let can : CanGrant good f d.number d.local s.view = record { inside = i; lazy = sym i.named ∙ lazy; plain = plain; free = ap (λ (p : Handle g.row.K.Denot). (known p).committing) c.desc.view_is ∙ c.requires.running.1; alone = alone } in
+    let m = c.grant_reads.new.local in
+    let u = c.grant_reads.new.seat.me.0 in
+    let q = c.in-Err.ensures.grants in
+    ap (λ (x : Local). x.algorithm) q.local ∙ (sym i.named ∙ sym q.named)
+
+pub returns-in-Err-clause-grants : goal.returns-in-Err-clause-grants
+returns-in-Err-clause-grants g c =
+    let f = c.args.stm.now.config in
+    let good = g.K.MemRule.good c.args.stm.now.rule in
+    let d = c.desc.inside in
+    let s = d.seat.me.0 in
+    let o = own_of d.local in
+    let h = handle_of d.seat o in
+    let e = c.args.desc.now in
+    let i = runs-of g.K.MemRule.good f c.args.stm.now.rule h e d.number d.local c.desc.view_is c.requires.stm.config c.requires.stm.rule c.requires.running.0 c.desc.invariant.1 in
+    let name : caller_of s.who.role ≡ d.number = ap caller_of c.desc.invariant.0.named in
+    let lazy = subst (λ (p : Handle g.row.K.Denot). (known p).alg ≡ OrecLazy) (sym c.desc.view_is) c.requires.algorithm in
+    let low : d.number < f.callers = subst (λ (q : Config). d.number < q.callers) (subst (λ (p : Handle g.row.K.Denot). p.who.config ≡ f) (sym c.desc.view_is) c.requires.stm.config) c.desc.invariant.0.low in
+    let revocable = subst (λ (p : Handle g.row.K.Denot). is_irrevocable (known p) ≡ false) (sym c.desc.view_is) c.requires.revocable in
+    let plain = laws.ungranted good f d.number d.local s.view i lazy o revocable in
+    let alone = subst (λ (q : ℕ). IsAlone f.callers q s.view) name (subst (λ (p : Handle g.row.K.Denot). IsAlone f.callers (number p) p.view) (sym c.desc.view_is) c.requires.alone) in
+    let can : CanGrant good f d.number d.local s.view = record { inside = i; lazy = sym i.named ∙ lazy; plain = plain; free = ap (λ (p : Handle g.row.K.Denot). (known p).committing) c.desc.view_is ∙ c.requires.running.1; alone = alone } in
+    let m = c.grant_reads.new.local in
+    let u = c.grant_reads.new.seat.me.0 in
+    let q = c.in-Err.ensures.grants in
+    let b = c.roll_back.ensures in
+    let z = c.roll_back.new.seat.me.0 in
+    told (λ n v w. Grants good f n c.in-Err.refusal v w) h e d.number z c.roll_back.new.local c.desc.view_is (ap (λ (y : SeatView g.row.K.Denot). y.who) b.same.1 ∙ ap (λ (y : SeatView g.row.K.Denot). y.who) c.grant_reads.ensures.same.1) c.desc.invariant.0.named
+    (subst (λ (x : Local). Grants good f d.number c.in-Err.refusal (known_of s.view o) (known_of z.view (own_of x))) (sym (b.idle ∙ ap (λ (x : Local). ended (record x { committing = false })) q.local))
+    (grants.tells-refused good f d.number low d.local s.view can c.in-Err.refusal m u.view z.view o q b.gives_up))
+
+pub store_all-requires-clause-view : goal.store_all-requires-clause-view
+store_all-requires-clause-view g c =
+    let f = c.args.stm.now.config in
+    let good = g.K.MemRule.good c.args.stm.now.rule in
+    let d = c.desc.inside in
+    let s = d.seat.me.0 in
+    let o = own_of d.local in
+    let h = handle_of d.seat o in
+    let e = c.args.desc.now in
+    let i = runs-of g.K.MemRule.good f c.args.stm.now.rule h e d.number d.local c.desc.view_is c.requires.stm.config c.requires.stm.rule c.requires.running.0 c.desc.invariant.1 in
+    let name : caller_of s.who.role ≡ d.number = ap caller_of c.desc.invariant.0.named in
+    let lazy = subst (λ (p : Handle g.row.K.Denot). (known p).alg ≡ OrecLazy) (sym c.desc.view_is) c.requires.algorithm in
+    let low : d.number < f.callers = subst (λ (q : Config). d.number < q.callers) (subst (λ (p : Handle g.row.K.Denot). p.who.config ≡ f) (sym c.desc.view_is) c.requires.stm.config) c.desc.invariant.0.low in
+    let revocable = subst (λ (p : Handle g.row.K.Denot). is_irrevocable (known p) ≡ false) (sym c.desc.view_is) c.requires.revocable in
+    let plain = laws.ungranted good f d.number d.local s.view i lazy o revocable in
+    let alone = subst (λ (q : ℕ). IsAlone f.callers q s.view) name (subst (λ (p : Handle g.row.K.Denot). IsAlone f.callers (number p) p.view) (sym c.desc.view_is) c.requires.alone) in
+    let can : CanGrant good f d.number d.local s.view = record { inside = i; lazy = sym i.named ∙ lazy; plain = plain; free = ap (λ (p : Handle g.row.K.Denot). (known p).committing) c.desc.view_is ∙ c.requires.running.1; alone = alone } in
+    let m = c.grant_reads.new.local in
+    let u = c.grant_reads.new.seat.me.0 in
+    let r = c.in-Ok.ensures.grants in
+    let w = c.store_all.new.seat.me.0 in
+    let st = c.store_all.ensures.stores in
+    grants.may-store good f d.number low d.local s.view can m u.view r
+
+pub returns-clause-grants : goal.returns-clause-grants
+returns-clause-grants g c =
+    let f = c.args.stm.now.config in
+    let good = g.K.MemRule.good c.args.stm.now.rule in
+    let d = c.desc.inside in
+    let s = d.seat.me.0 in
+    let o = own_of d.local in
+    let h = handle_of d.seat o in
+    let e = c.args.desc.now in
+    let i = runs-of g.K.MemRule.good f c.args.stm.now.rule h e d.number d.local c.desc.view_is c.requires.stm.config c.requires.stm.rule c.requires.running.0 c.desc.invariant.1 in
+    let name : caller_of s.who.role ≡ d.number = ap caller_of c.desc.invariant.0.named in
+    let lazy = subst (λ (p : Handle g.row.K.Denot). (known p).alg ≡ OrecLazy) (sym c.desc.view_is) c.requires.algorithm in
+    let low : d.number < f.callers = subst (λ (q : Config). d.number < q.callers) (subst (λ (p : Handle g.row.K.Denot). p.who.config ≡ f) (sym c.desc.view_is) c.requires.stm.config) c.desc.invariant.0.low in
+    let revocable = subst (λ (p : Handle g.row.K.Denot). is_irrevocable (known p) ≡ false) (sym c.desc.view_is) c.requires.revocable in
+    let plain = laws.ungranted good f d.number d.local s.view i lazy o revocable in
+    let alone = subst (λ (q : ℕ). IsAlone f.callers q s.view) name (subst (λ (p : Handle g.row.K.Denot). IsAlone f.callers (number p) p.view) (sym c.desc.view_is) c.requires.alone) in
+    let can : CanGrant good f d.number d.local s.view = record { inside = i; lazy = sym i.named ∙ lazy; plain = plain; free = ap (λ (p : Handle g.row.K.Denot). (known p).committing) c.desc.view_is ∙ c.requires.running.1; alone = alone } in
+    let m = c.grant_reads.new.local in
+    let u = c.grant_reads.new.seat.me.0 in
+    let r = c.in-Ok.ensures.grants in
+    let w = c.store_all.new.seat.me.0 in
+    let st = c.store_all.ensures.stores in
+    told (λ n v w. Grants good f n irrevs.Granted v w) h e d.number w (record m { writes = emptied m.writes; granted = true }) c.desc.view_is (ap (λ (y : SeatView g.row.K.Denot). y.who) c.store_all.ensures.same.1 ∙ ap (λ (y : SeatView g.row.K.Denot). y.who) c.grant_reads.ensures.same.1) c.desc.invariant.0.named
+    (subst (λ (x : Local). Grants good f d.number irrevs.Granted (known_of s.view o) (known_of w.view (own_of (record x { writes = emptied x.writes; granted = true })))) (sym r.local) (grants.tells-granted good f d.number low d.local s.view can m u.view w.view r st))

@@ -1,0 +1,88 @@
+-- What the parts of a read ask and tell.
+use Rattle.std.specs.Prelude.{ℕ, ◌≡◌, ◌+◌, ◌<◌, ◌≤◌, ◌%◌, ◌⊎◌, true, false, List, [], ◌∷◌, ◌++◌, Contains, Some, None, Result, Ok, Err}
+use Rattle.stm_model.specs.declared.config.Config.{Config}
+use Rattle.stm_model.specs.declared.stop.Cause.{Cause}
+use Rattle.rule_base.specs.declared.entries.Cell.{Cell}
+use Rattle.rule_base.specs.declared.entries.Entry.{Entry}
+use Rattle.rule_base.specs.declared.layout.At.TheVariants.{Clock, Record, Heap}
+use Rattle.rule_base.specs.declared.views.Sample.{Sample}
+use Rattle.rule_base.specs.declared.views.TrailItem.{TrailItem}
+use Rattle.rule_base.specs.declared.views.Validation.{Validation}
+use Rattle.rule_base.specs.declared.views.View.{View}
+use Rattle.rule_base.specs.Encodings.{is_owned, version_of}
+use Rattle.rule_base.specs.History.{word_now, Below, Explains, Legal}
+use Rattle.rule_base.specs.Own.{Own}
+use Rattle.rule_orec.specs.OrecReading.{no_check, no_sample}
+use Rattle.stm_rule.specs.declared.local.Local.{Local}
+use Rattle.steps_orec.specs.RecordFindings.{Moves}
+use Rattle.tx_answers.specs.Causes.{Conflicts}
+use Rattle.tx_answers.specs.Known.{known_of}
+use Rattle.alg_orec.specs.Validating.{CanValidate, OnlyLoads, load_of}
+
+-- the attempt holds no record, and may load the word at a
+pub record CanLoadValid (c : Config) (a : ℕ) (l : Local) (v : View) : Type 0 where
+  pub can : CanValidate c l v
+  pub unheld : v.owned.held ≡ []
+  pub front : v.history.front ≡ l.start
+  pub inside : a < c.words
+
+-- the view with this start and what was seen up to it, and with these steps added
+abbrev pub moved : View → ℕ → List Entry → List Cell → Sample → Validation → List TrailItem → View
+moved v start seen reads sample check more = record v {
+  history = record v.history { seen = seen; front = start };
+  attempt = record v.attempt { start = start; reads = reads };
+  sample = sample;
+  check = check;
+  steps = record v.steps { trail = more ++ v.steps.trail };
+}
+
+-- the record of a was found free at this version
+abbrev pub sampled_at : ℕ → ℕ → Sample
+sampled_at a version = record { sampled = true; loaded = false; from = a; version = version; value = 0 }
+
+module _ (good : (ℕ → ℕ) → Type 0) (c : Config) (n : ℕ) where
+  -- the start stayed; or it moved to a clock that was loaded, which an older one alone does where there are others
+  abbrev pub MayMove : ℕ → List Entry → List TrailItem → View → Type 0
+  MayMove start seen more v = ((start ≡ v.attempt.start) × (seen ≡ v.history.seen)) ⊎ (Contains more (load_of Clock start) × Moves good c seen v start × (1 < c.callers))
+
+  -- the record was loaded before the word: it is free, and its version is one that the start has seen
+  pub record HasSampled (a word : ℕ) (l : Local) (v : View) (m : Local) (w : View) : Type 0 where
+    pub local : m ≡ record l { start = m.start }
+    pub seen : List Entry
+    pub late : List TrailItem
+    pub is : w ≡ moved v m.start seen v.attempt.reads (sampled_at a (version_of word)) w.check (late ++ load_of (Record (a % c.records)) word ∷ [])
+    pub loads : OnlyLoads late
+    pub free : is_owned word ≡ false
+    pub old : version_of word ≤ m.start
+    pub moves : MayMove m.start seen late v
+    -- what came after that load was of a validation
+    pub next : (late ≡ []) ⊎ (1 < c.callers)
+
+  -- a read was refused: what was seen may have grown, and the trail tells why
+  pub record RefusesRead (a : ℕ) (cause : Cause) (l : Local) (v : View) (m : Local) (w : View) : Type 0 where
+    pub local : m ≡ record l { start = m.start }
+    pub seen : List Entry
+    pub more : List TrailItem
+    pub is : w ≡ moved v m.start seen v.attempt.reads w.sample w.check more
+    pub moves : MayMove m.start seen more v
+    pub why : (o p : Own) → Conflicts c n (Some a) cause (known_of v o) (known_of w p)
+    pub others : 1 < c.callers
+
+  abbrev pub Samples : ℕ → Result ℕ Cause → Local → View → Local → View → Type 0
+  Samples a (Ok word) l v m w = HasSampled a word l v m w
+  Samples a (Err cause) l v m w = RefusesRead a cause l v m w
+
+  -- the word was loaded, and is read: it is that of the memory at the start
+  pub record HasLoaded (a x : ℕ) (l : Local) (v : View) (m : Local) (w : View) : Type 0 where
+    pub local : m ≡ record l { start = m.start }
+    pub seen : List Entry
+    pub more : List TrailItem
+    pub is : w ≡ moved v m.start seen (record { at = a; value = x } ∷ v.attempt.reads) no_sample no_check more
+    pub moves : MayMove m.start seen more v
+    pub sees : Explains (word_now seen) (record { at = a; value = x } ∷ v.attempt.reads)
+    pub legal : Legal good c seen
+    pub below : Below seen (m.start + 1)
+
+  abbrev pub LoadsValid : ℕ → Result ℕ Cause → Local → View → Local → View → Type 0
+  LoadsValid a (Ok x) l v m w = HasLoaded a x l v m w
+  LoadsValid a (Err cause) l v m w = RefusesRead a cause l v m w

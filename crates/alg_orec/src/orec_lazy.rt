@@ -1,0 +1,168 @@
+//! OrecLazy, after the versioned locks of Dice, Shalev and Shavit ("Transactional Locking II", 2006): each word belongs
+//! to a record with the time of its last write. A read loads the record before and behind the word; what is written
+//! stays with the descriptor until the commit, which takes the records.
+ghost use Rattle.std.specs.Prelude.{◌≡◌, ℕ, ◌<◌, None, false};
+ghost use Rattle.stm_model.specs.Memories.{item_at};
+ghost use Rattle.stm_model.specs.declared.alg.Alg.TheVariants.{OrecLazy};
+ghost use Rattle.stm_rule.specs.Callers.{IsOf, IsSameCaller, IsSeatOf};
+ghost use Rattle.stm_rule.specs.Kept.{IsSameSeat, good_of, view_of};
+ghost use Rattle.tx_answers.specs.Answers.{HasRead, HasWritten};
+ghost use Rattle.tx_answers.specs.Known.{IsRunning};
+ghost use Rattle.stm_gate.specs.Knowing.{known, number};
+ghost use Rattle.stm_gate.specs.Starts.{CanBegin, Starts};
+ghost use Rattle.alg_orec.specs.Loading.{CanLoadValid, LoadsValid, Samples};
+
+use crate::ending::roll_back;
+use crate::validate::validate;
+use rule_base::words::{is_owned, version_of};
+use steps_orec::reading;
+use steps_orec::reading::{confirm, load, sample};
+use stm_gate::direct::{direct_load, direct_store};
+use stm_model::rule::MemRule;
+use stm_model::stop::Cause;
+use stm_rule::desc::Desc;
+use stm_rule::local::Local;
+use stm_rule::stm::{Stm, Token};
+use tx_answers::answers::{Begin, Read, Write};
+use tx_logs::push::Push;
+
+/// Loads the clock as the start, which it answers. One step.
+pub fn begin<K: MemRule>(seat: &mut Token<K>, stm: &Stm<K>, caller: usize) -> Result<u64, Begin>
+    requires seat { IsSeatOf stm.now caller seat.old }
+    requires caller { caller < stm.now.config.callers }
+    requires view { CanBegin OrecLazy (view_of seat.old) }
+    ensures same { IsSameSeat seat.old seat.new × (seat.new.me.0 ≡ record seat.old.me.0 { view = view_of seat.new }) }
+    ensures begins { Starts (K.good stm.now.rule) stm.now.config caller OrecLazy result (view_of seat.old) (view_of seat.new) }
+{
+    Ok(reading::begin(stm, seat, caller))
+}
+
+/// Answers what it wrote or has read at the word, with no step; else loads it. Three steps, and those of a validation
+/// where its record is newer than the start; then those of a rollback where that ends the attempt.
+pub fn read<K: MemRule>(desc: &mut Desc<K>, stm: &Stm<K>, a: usize) -> Read
+    requires stm { IsOf desc.old stm.now }
+    requires running { IsRunning (known desc.old) }
+    requires algorithm { (known desc.old).alg ≡ OrecLazy }
+    requires inside { a < stm.now.config.words }
+    ensures same { IsSameCaller desc.old desc.new }
+    ensures read { HasRead (K.good stm.now.rule) stm.now.config (number desc.old) a result (known desc.old) (known desc.new) }
+{
+    if desc.local.granted {
+        return direct_load(desc, stm, a);
+    }
+    if let Some(x) = desc.local.writes.find(a) {
+        return Read::Value(x);
+    }
+    if let Some(x) = desc.local.reads.find(a) {
+        return Read::Value(x);
+    }
+    first_read(desc, stm, a)
+}
+
+/// Loads the word, which was neither written nor read before, and logs it.
+fn first_read<K: MemRule>(desc: &mut Desc<K>, stm: &Stm<K>, a: usize) -> Read
+    requires stm { IsOf desc.old stm.now }
+    requires running { IsRunning (known desc.old) }
+    requires algorithm { (known desc.old).alg ≡ OrecLazy }
+    requires revocable { (known desc.old).granted ≡ false }
+    requires unwritten { item_at a (known desc.old).log.writes ≡ None }
+    requires unread { item_at a (known desc.old).log.reads ≡ None }
+    requires inside { a < stm.now.config.words }
+    ensures same { IsSameCaller desc.old desc.new }
+    ensures read { HasRead (K.good stm.now.rule) stm.now.config (number desc.old) a result (known desc.old) (known desc.new) }
+{
+    let caller = desc.number;
+    let limit = desc.local.reads.len();
+    if desc.local.reads.count() == limit {
+        roll_back(&mut desc.seat, &mut desc.local, stm, caller);
+        return Read::Full { limit };
+    }
+    match load_valid(&mut desc.seat, &mut desc.local, stm, caller, a) {
+        Ok(x) => {
+            desc.local.reads.push(a, x);
+            Read::Value(x)
+        }
+        Err(cause) => {
+            roll_back(&mut desc.seat, &mut desc.local, stm, caller);
+            Read::Conflict(cause)
+        }
+    }
+}
+
+/// Loads the word between two loads of its record, which is to be free both times, at one version that the start has
+/// seen: an older start moves up to the clock where all reads are valid there. Three steps, and those of a validation.
+fn load_valid<K: MemRule>(
+    seat: &mut Token<K>,
+    local: &mut Local,
+    stm: &Stm<K>,
+    caller: usize,
+    a: usize,
+) -> Result<u64, Cause>
+    requires seat { IsSeatOf stm.now caller seat.old }
+    requires caller { caller < stm.now.config.callers }
+    requires view { CanLoadValid stm.now.config a local.old (view_of seat.old) }
+    ensures same { IsSameSeat seat.old seat.new × (seat.new.me.0 ≡ record seat.old.me.0 { view = view_of seat.new }) }
+    ensures loads { LoadsValid (good_of K.good stm.now.config stm.now.rule) stm.now.config caller a result local.old (view_of seat.old) local.new (view_of seat.new) }
+{
+    let word = sample_valid(seat, local, stm, caller, a)?;
+    let index = a % stm.config.records;
+    let x = load(stm, seat, caller, a);
+    let after = confirm(stm, seat, caller, index);
+    if after != word {
+        return Err(Cause::Moved {
+            index,
+            before: word,
+            after,
+        });
+    }
+    Ok(x)
+}
+
+/// Loads the record of the word, and answers its word: it is free, at a version that the start has seen.
+fn sample_valid<K: MemRule>(
+    seat: &mut Token<K>,
+    local: &mut Local,
+    stm: &Stm<K>,
+    caller: usize,
+    a: usize,
+) -> Result<u64, Cause>
+    requires seat { IsSeatOf stm.now caller seat.old }
+    requires caller { caller < stm.now.config.callers }
+    requires view { CanLoadValid stm.now.config a local.old (view_of seat.old) }
+    ensures same { IsSameSeat seat.old seat.new × (seat.new.me.0 ≡ record seat.old.me.0 { view = view_of seat.new }) }
+    ensures samples { Samples (good_of K.good stm.now.config stm.now.rule) stm.now.config caller a result local.old (view_of seat.old) local.new (view_of seat.new) }
+{
+    let index = a % stm.config.records;
+    let word = sample(stm, seat, caller, index, a);
+    let start = local.start;
+    if is_owned(word) {
+        return Err(Cause::Record { index, word, start });
+    }
+    if version_of(word) <= start {
+        return Ok(word);
+    }
+    validate(seat, local, stm, caller)?;
+    Ok(word)
+}
+
+/// Logs what is to be written: it lies with the descriptor until the commit. No step, but for those of a rollback where
+/// the log is full.
+pub fn write<K: MemRule>(desc: &mut Desc<K>, stm: &Stm<K>, a: usize, x: u64) -> Write
+    requires stm { IsOf desc.old stm.now }
+    requires running { IsRunning (known desc.old) }
+    requires algorithm { (known desc.old).alg ≡ OrecLazy }
+    requires inside { a < stm.now.config.words }
+    ensures same { IsSameCaller desc.old desc.new }
+    ensures write { HasWritten (K.good stm.now.rule) stm.now.config (number desc.old) a x result (known desc.old) (known desc.new) }
+{
+    if desc.local.granted {
+        return direct_store(desc, stm, a, x);
+    }
+    if let Push::Full { limit } = desc.local.writes.push(a, x) {
+        let caller = desc.number;
+        roll_back(&mut desc.seat, &mut desc.local, stm, caller);
+        return Write::Full { limit };
+    }
+    desc.local.wrote = true;
+    Write::Done
+}

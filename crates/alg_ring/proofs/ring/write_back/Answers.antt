@@ -1,0 +1,73 @@
+use Rattle.std.proofs.Common.{ℕ, ◌≡◌, ◌<◌, List, [], ◌∷◌, length, refl, sym, ap, ◌∙◌, subst, arith}
+use Rattle.std.specs.Prelude.{None}
+use Rattle.rule_base.specs.declared.entries.Cell.{Cell}
+use Rattle.rule_base.specs.declared.layout.At.TheVariants.{Heap}
+use Rattle.rule_base.specs.declared.seats.SeatView.{SeatView}
+use Rattle.rule_base.specs.declared.views.Act.TheVariants.{Store}
+use Rattle.rule_base.specs.declared.views.View.{View}
+use Rattle.rule_base.specs.History.{touches}
+use Rattle.rule_base.specs.StepKinds.{view_after}
+use Rattle.rule_ring.specs.RingSteps.{ring_write, CanRingWrite}
+use Rattle.stm_rule.specs.RecordsKept.{cells_of}
+use Rattle.alg_ring.proofs.Buffering.{next-back, drop-all, back_at, sub-inside}
+use Rattle.alg_ring.proofs.ring.write_back.Goals as goal
+
+pub loop-i-init : goal.loop-i-init
+loop-i-init g c = let v = c.args.seat.now.me.0.view in record {
+  table = refl;
+  id = refl;
+  bare = refl;
+  more = [];
+  seat = λ i. record c.args.seat.now.me.0 { view = back_at v (c.requires.back.back i) [] };
+}
+
+pub write_back-requires-clause-seat : goal.write_back-requires-clause-seat
+write_back-requires-clause-seat g c = let i = c.loop-i.invariant in (i.table ∙ c.requires.seat.0, ap (λ (y : SeatView g.row.K.Denot). y.who.role) i.seat ∙ c.requires.seat.1)
+
+pub write_back-requires-clause-place : goal.write_back-requires-clause-place
+write_back-requires-clause-place g c =
+    let low : c.loop-i.i < length c.args.writes.now.items = omega (arith, c.loop-i-test.true, c.count-i-end.ensures.count) in
+    let p = next-back c.args.writes.now.items c.loop-i.i c.item-a.result low c.requires.back.once c.item-a.ensures in
+    c.requires.back.inside c.item-a.result.0 (sub-inside c.args.writes.now.items c.loop-i.i c.item-a.result.0 p.0)
+
+pub write_back-requires-clause-view : goal.write_back-requires-clause-view
+write_back-requires-clause-view g c =
+    let i = c.loop-i.invariant in
+    let low : c.loop-i.i < length c.args.writes.now.items = omega (arith, c.loop-i-test.true, c.count-i-end.ensures.count) in
+    let p = next-back c.args.writes.now.items c.loop-i.i c.item-a.result low c.requires.back.once c.item-a.ensures in
+    let e = c.requires.back.entered in
+    subst (CanRingWrite c.item-a.result.0 c.item-a.result.1) (sym (ap (λ (y : SeatView g.row.K.Denot). y.view) i.seat)) (record {
+      entered = record { runs = record { phase = e.runs.phase; algorithm = e.runs.algorithm; plain = e.runs.plain }; committed = e.committed; unfinished = e.unfinished };
+      owed = p.0;
+      value = p.1;
+    })
+
+pub loop-i-preserved : goal.loop-i-preserved
+loop-i-preserved g c =
+    let i = c.loop-i.invariant in
+    let v = c.args.seat.now.me.0.view in
+    let a = c.item-a.result.0 in
+    let x = c.item-a.result.1 in
+    let low : c.loop-i.i < length c.args.writes.now.items = omega (arith, c.loop-i-test.true, c.count-i-end.ensures.count) in
+    let p = next-back c.args.writes.now.items c.loop-i.i c.item-a.result low c.requires.back.once c.item-a.ensures in
+    let step = c.write_back.ensures.step in
+    let same = c.write_back.ensures.same in
+    record {
+      table = same.0 ∙ i.table;
+      id = same.1 ∙ i.id;
+      bare = same.2 ∙ i.bare;
+      more = record { place = Heap a; act = Store x; found = None } ∷ i.more;
+      seat = step.3 ∙ (ap (λ (y : SeatView g.row.K.Denot). record y { view = view_after (ring_write a x) step.0 y.view x }) i.seat
+          ∙ ap (λ (cs : List Cell). record c.args.seat.now.me.0 { view = back_at v cs (record { place = Heap a; act = Store x; found = None } ∷ i.more) }) p.2);
+    }
+
+pub returns-clause-same : goal.returns-clause-same
+returns-clause-same g c = let i = c.loop-i.invariant in ((i.table, i.id, i.bare), i.seat ∙ ap (λ (w : View). record c.args.seat.now.me.0 { view = w }) (sym (ap (λ (y : SeatView g.row.K.Denot). y.view) i.seat)))
+
+pub returns-clause-back : goal.returns-clause-back
+returns-clause-back g c =
+    let i = c.loop-i.invariant in
+    record {
+      more = i.more;
+      is = ap (λ (y : SeatView g.row.K.Denot). y.view) i.seat ∙ ap (λ (l : List (ℕ × ℕ)). back_at c.args.seat.now.me.0.view (cells_of l) i.more) (drop-all c.args.writes.now.items c.loop-i.i (omega (arith, c.loop-i-test.false, c.count-i-end.ensures.count)));
+    }

@@ -1,0 +1,127 @@
+-- What the parts of a call of RingSW ask and tell.
+use Rattle.std.specs.Prelude.{ℕ, ◌≡◌, ◌≢◌, ◌+◌, ◌<◌, ◌≤◌, ◌++◌, true, false, List, [], ◌∷◌, None}
+use Rattle.stm_model.specs.Algorithms.{asks_at_grant}
+use Rattle.stm_model.specs.Logs.{Keeps}
+use Rattle.stm_model.specs.Memories.{Once}
+use Rattle.stm_model.specs.declared.alg.Alg.TheVariants.{RingSw}
+use Rattle.stm_model.specs.declared.config.Config.{Config}
+use Rattle.stm_model.specs.declared.config.TheConstants.{CLOCK_LIMIT}
+use Rattle.rule_base.specs.declared.entries.Entry.{Entry}
+use Rattle.rule_base.specs.declared.views.TrailItem.{TrailItem}
+use Rattle.rule_base.specs.declared.views.View.{View}
+use Rattle.rule_base.specs.Bridge.{items, of_words}
+use Rattle.rule_base.specs.History as rules
+use Rattle.rule_base.specs.InstallSteps.{HasChecked}
+use Rattle.rule_base.specs.Own.{Own}
+use Rattle.rule_base.specs.World.{World}
+use Rattle.rule_ring.specs.RingSteps.{RingEnters, HasTurn, HasEntered, ring_entry, no_read, no_turn}
+use Rattle.rule_seq.specs.CglSteps.{fresh_lock}
+use Rattle.tx_logs.specs.LogStates.{LogState}
+use Rattle.stm_rule.specs.declared.local.Local.{Local}
+use Rattle.stm_rule.specs.Attempts.{IsInside, IsOutside, ended, own_of}
+use Rattle.stm_rule.specs.RecordsKept.{Buffers, cells_of}
+use Rattle.tx_answers.specs.declared.answers.Commit.{Commit}
+use Rattle.tx_answers.specs.declared.answers.Commit.TheVariants as commits
+use Rattle.tx_answers.specs.declared.answers.Irrev.{Irrev}
+use Rattle.tx_answers.specs.declared.answers.Irrev.TheVariants as grants
+use Rattle.tx_answers.specs.declared.answers.Read.{Read}
+use Rattle.tx_answers.specs.declared.answers.Read.TheVariants.{Value, Conflict, Full}
+use Rattle.tx_answers.specs.Answers.{HasRead, Commits, BecomesSure, Quits}
+use Rattle.tx_answers.specs.Causes.{Conflicts, FindsFull}
+use Rattle.tx_answers.specs.Known.{Known, known_of}
+use Rattle.alg_ring.specs.Checking.{IsFilterOf}
+
+-- caller n holds the gate, and has seen all others idle since
+pub record IsAlone (callers n : ℕ) (v : View) : Type 0 where
+  pub holds : v.gate.holds ≡ true
+  pub quiet : HasChecked callers n v
+
+-- what is to be written back is stored, and nothing else changed
+pub record WritesBack (v w : View) : Type 0 where
+  pub more : List TrailItem
+  pub is : w ≡ record v { ring_commit = record v.ring_commit { back = [] }; steps = record v.steps { trail = more ++ v.steps.trail } }
+
+-- the log's items are those that are to be written back
+pub record CanWriteBack (c : Config) (log : LogState) (v : View) : Type 0 where
+  pub entered : HasEntered v
+  pub once : Once log.items
+  pub inside : rules.Inside c.words (cells_of log.items)
+  pub back : v.ring_commit.back ≡ cells_of log.items
+
+-- a promoted attempt has stored the items in the heap
+pub record Stores (log : LogState) (v w : View) : Type 0 where
+  pub more : List TrailItem
+  pub is : w ≡ record v { attempt = record v.attempt { stores = cells_of log.items ++ v.attempt.stores }; steps = record v.steps { trail = more ++ v.steps.trail } }
+
+module _ (good : List ℕ → Type 0) (c : Config) where
+  -- the attempt has its turn, and its start is the clock
+  pub record CanEnter (time : ℕ) (l : Local) (v : View) : Type 0 where
+    pub turn : HasTurn v
+    pub ticked : v.ring_commit.ticked ≡ true
+    pub unslotted : v.ring_commit.slotted ≡ 0
+    pub checked : v.attempt.start ≡ v.ring_commit.clock
+    pub next : time ≡ v.ring_commit.clock + 1
+    pub limit : time ≤ CLOCK_LIMIT
+    pub settled : v.ring_read.loaded ≡ false
+    pub uncalm : v.gate.calm ≡ false
+    pub buffers : Buffers c l
+    pub wrote : l.wrote ≡ true
+    pub stored : IsFilterOf l.stored (cells_of l.writes.items)
+    pub keeps : rules.Keeps (of_words good c.words) v.attempt.reads (cells_of l.writes.items)
+
+  -- the view with the buffered writes as those of its entry
+  abbrev pub writing : Local → View → View
+  writing l v = record v { ring_commit = record v.ring_commit { writes = cells_of l.writes.items } }
+
+  -- the view after the entry, of these writes, in a world that had this history
+  abbrev pub entered_at : ℕ → ℕ → List Entry → Local → List TrailItem → View → View
+  entered_at n time before l more v = record v {
+    history = record v.history {
+      made = ring_entry n time (writing l v) ∷ v.history.made;
+      seen = ring_entry n time (writing l v) ∷ before;
+      front = time;
+    };
+    attempt = record { start = 0; reads = []; stores = []; entered = v.attempt.entered };
+    ring_read = no_read;
+    ring_commit = record { slotted = 0; writes = cells_of l.writes.items; ticked = true; clock = time; committed = true; finished = false; back = cells_of l.writes.items };
+    steps = record v.steps { rises = v.steps.rises + 1; trail = more ++ v.steps.trail };
+  }
+
+  -- the entry is in the history
+  pub record Enters (n time : ℕ) (l : Local) (v w : View) : Type 0 where
+    pub world : World
+    pub more : List TrailItem
+    pub is : w ≡ entered_at n time world.history l more v
+    pub shown : RingEnters (of_words good c.words) c n time world (writing l v) time
+
+  module _ (n : ℕ) where
+    -- a word that was loaded is read, or the attempt ended
+    abbrev pub LoadsNew : ℕ → Read → Local → View → Local → View → Type 0
+    LoadsNew a (Value x) l v m w = IsInside good c n m w × (m ≡ record l { start = m.start; loaded = m.loaded }) × (w.gate.holds ≡ v.gate.holds) × ((o : Own) → o.committing ≡ false → o.buffered ≡ cells_of l.writes.items → HasRead good c n a (Value x) (known_of v o) (known_of w o))
+    LoadsNew a (Conflict cause) l v m w = IsOutside w × (m ≡ ended (record l { loaded = m.loaded })) × ((o : Own) → o.committing ≡ false → o.buffered ≡ cells_of l.writes.items → HasRead good c n a (Conflict cause) (known_of v o) (known_of w o))
+    LoadsNew a (Full limit) l v m w = ⊥
+
+    -- the attempt has the lock, in a view v that it had before; and what it writes keeps the user's rule
+    pub record CanFinish (l : Local) (v : View) : Type 0 where
+      pub before : View
+      pub attempt : IsInside good c n l before
+      pub ring : (l.algorithm ≡ RingSw) × (l.granted ≡ false) × (l.wrote ≡ true)
+      pub holds : l.holds ≡ before.gate.holds
+      pub more : List TrailItem
+      pub is : v ≡ record before { lock = fresh_lock RingSw; ring_commit = no_turn; steps = record before.steps { trail = more ++ before.steps.trail } }
+      pub keeps : rules.Keeps (of_words good c.words) before.attempt.reads (cells_of l.writes.items)
+
+    -- the commit is over, one way or the other
+    pub record Finishes (result : Commit) (l : Local) (v : View) (m : Local) (w : View) : Type 0 where
+      pub outside : IsOutside w
+      pub idle : m ≡ ended l
+      pub commits : (before : View) (more : List TrailItem) → v ≡ record before { lock = fresh_lock RingSw; ring_commit = no_turn; steps = record before.steps { trail = more ++ before.steps.trail } } → IsInside good c n l before
+          → (o : Own) → o.buffered ≡ cells_of l.writes.items → Commits good c n result (known_of before o) (known_of w o)
+
+    -- what the check tells an attempt that is alone
+    abbrev pub Grants : Irrev → Known → Known → Type 0
+    Grants grants.Granted v w = BecomesSure good c n v w
+    Grants (grants.Busy caller status) v w = ⊥
+    Grants (grants.Taken gate) v w = ⊥
+    Grants (grants.Conflict cause) v w = Quits v w × Conflicts c n None cause v w × (1 < c.callers)
+    Grants (grants.ClockFull clock) v w = Quits v w × (asks_at_grant v.alg ≡ true) × FindsFull clock v w

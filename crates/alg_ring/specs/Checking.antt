@@ -1,0 +1,196 @@
+-- What the parts of a check of RingSW ask and tell.
+use Rattle.std.specs.Prelude.{ℕ, ◌≡◌, ◌≢◌, ◌+◌, ◌*◌, ◌<◌, ◌≤◌, ◌⊎◌, max, min, Bool, true, false, List, [], ◌++◌, slice_index, bit_and, Contains, Option, Some, None, Result, Ok, Err}
+use Rattle.stm_model.specs.declared.config.Config.{Config}
+use Rattle.stm_model.specs.declared.stop.Cause.{Cause}
+use Rattle.stm_model.specs.declared.stop.Cause.TheVariants as causes
+use Rattle.rule_base.specs.declared.entries.Cell.{Cell}
+use Rattle.rule_base.specs.declared.layout.At.{At}
+use Rattle.rule_base.specs.declared.layout.At.TheVariants.{Clock, Done, Slot}
+use Rattle.rule_base.specs.declared.layout.TheConstants.{SLOT_WORDS}
+use Rattle.rule_base.specs.declared.views.Act.{Act}
+use Rattle.rule_base.specs.declared.views.GateView.{GateView}
+use Rattle.rule_base.specs.declared.views.RingRead.{RingRead}
+use Rattle.rule_base.specs.declared.views.SlotWord.{SlotWord}
+use Rattle.rule_base.specs.declared.views.TrailItem.{TrailItem}
+use Rattle.rule_base.specs.declared.views.View.{View}
+use Rattle.rule_base.specs.Bridge.{of_words}
+use Rattle.rule_base.specs.GateSteps.{granted_at}
+use Rattle.rule_base.specs.History.{upto}
+use Rattle.rule_base.specs.World.{World}
+use Rattle.rule_promoted.specs.PromotedSteps.{CanRingGrant}
+use Rattle.rule_ring.specs.RingSteps.{HasRing, AllClear, CanRingMove, RingSees, read_in}
+use Rattle.rule_ring.specs.SlotFilter.{slot_filter}
+use Rattle.rule_ring.specs.Slots.{slot_place, has_word, loaded_word}
+use Rattle.tx_logs.specs.Filters.{meets, lowest_common}
+
+-- a step of these found this number at this place
+abbrev pub InTrail : List TrailItem → At → ℕ → Type 0
+InTrail more place n = (act : Act) × Contains more (record { place = place; act = act; found = Some n })
+
+-- the filter has the addresses of these cells
+abbrev pub IsFilterOf : List ℕ → List Cell → Type 0
+IsFilterOf filter watched = (i : ℕ) → i < SLOT_WORDS → slice_index filter i ≡ slot_filter.word watched i
+
+-- these slot words were loaded, by these steps, and nothing else changed
+abbrev pub with_words : View → List SlotWord → List TrailItem → View
+with_words v words more = record v { ring_read = record v.ring_read { words = words }; steps = record v.steps { trail = more ++ v.steps.trail } }
+
+-- ONE SLOT
+
+pub record CanLoadSlot (ring time : ℕ) (v : View) : Type 0 where
+  pub has : HasRing v
+  pub checking : v.ring_read.checking ≡ true
+  pub unsure : v.ring_read.sure ≡ false
+  pub since : v.attempt.start < time
+  pub upto : time ≤ v.ring_read.clock
+  pub near : v.ring_read.clock < v.attempt.start + ring
+
+module _ (ring time : ℕ) (filter : List ℕ) where
+  -- word i was loaded, and has no common bit with the filter
+  abbrev pub NoCommon : List SlotWord → ℕ → Type 0
+  NoCommon words i = (has_word words time i ≡ true) × (bit_and (slice_index filter i) (loaded_word words time i) ≡ 0)
+
+  -- word j of the part is the first that has common bits
+  pub record FirstCommon (part bits : ℕ) (words : List SlotWord) : Type 0 where
+    pub j : ℕ
+    pub low : 4 * part ≤ j
+    pub high : j < 4 * part + 4
+    pub has : has_word words time j ≡ true
+    pub is : bits ≡ bit_and (slice_index filter j) (loaded_word words time j)
+    pub before : (i : ℕ) → 4 * part ≤ i → i < j → NoCommon words i
+
+  -- words of a part of the slot were loaded, up to the first that has common bits
+  pub record LoadsPart (part bits : ℕ) (v w : View) : Type 0 where
+    pub words : List SlotWord
+    pub more : List TrailItem
+    pub is : w ≡ with_words v (words ++ v.ring_read.words) more
+    pub of : (t i : ℕ) → has_word words t i ≡ true → (t ≡ time) × (4 * part ≤ i) × (i < 4 * part + 4)
+    pub found : (i : ℕ) → has_word words time i ≡ true → InTrail more (Slot (slot_place ring time i)) (loaded_word words time i)
+    pub none : bits ≡ 0 → (i : ℕ) → 4 * part ≤ i → i < 4 * part + 4 → NoCommon words i
+    pub some : bits ≢ 0 → FirstCommon part bits words
+
+  -- words of the slot were loaded, as far as they tell whether it meets the filter
+  pub record MeetsSlot (bits : ℕ) (v w : View) : Type 0 where
+    pub words : List SlotWord
+    pub more : List TrailItem
+    pub is : w ≡ with_words v (words ++ v.ring_read.words) more
+    pub of : (t i : ℕ) → has_word words t i ≡ true → t ≡ time
+    pub found : (i : ℕ) → has_word words time i ≡ true → InTrail more (Slot (slot_place ring time i)) (loaded_word words time i)
+    -- whatever those words are that were not loaded
+    pub apart : bits ≡ 0 → (slot : ℕ → ℕ) → ((i : ℕ) → i < SLOT_WORDS → has_word words time i ≡ true → loaded_word words time i ≡ slot i) → meets (slice_index filter) slot ≡ false
+    pub meet : bits ≢ 0 → meets (slice_index filter) (loaded_word words time) ≡ true
+    pub lowest : bits ≢ 0 → bits ≡ lowest_common (slice_index filter) (loaded_word words time)
+
+-- ALL SLOTS
+
+pub record CanScan (start clock : ℕ) (filter : List ℕ) (v : View) : Type 0 where
+  pub has : HasRing v
+  pub checking : v.ring_read.checking ≡ true
+  pub unsure : v.ring_read.sure ≡ false
+  pub empty : v.ring_read.words ≡ []
+  pub start_is : v.attempt.start ≡ start
+  pub clock_is : v.ring_read.clock ≡ clock
+  pub later : start ≤ clock
+  pub watched : IsFilterOf filter v.ring_read.watched
+
+-- the slot of the time meets the filter, in these lowest bits
+pub record Meeting (ring : ℕ) (filter : List ℕ) (time bits : ℕ) (more : List TrailItem) : Type 0 where
+  pub slot : ℕ → ℕ
+  pub loaded : (i : ℕ) → i < SLOT_WORDS → slot i ≢ 0 → InTrail more (Slot (slot_place ring time i)) (slot i)
+  pub meet : meets (slice_index filter) slot ≡ true
+  pub lowest : bits ≡ lowest_common (slice_index filter) slot
+  pub some : bits ≢ 0
+
+module _ (c : Config) (start clock : ℕ) where
+  abbrev pub OneMeets : Cause → List ℕ → List TrailItem → Type 0
+  OneMeets (causes.Filter time bits) filter more = (start < time) × (time ≤ clock) × Meeting c.ring filter time bits more
+  OneMeets (causes.Clock had now) filter more = ⊥
+  OneMeets (causes.Record index word from) filter more = ⊥
+  OneMeets (causes.Moved index before after) filter more = ⊥
+  OneMeets (causes.Overrun from now) filter more = ⊥
+
+  -- what the loads of the slots tell
+  abbrev pub MeetsOne : Option Cause → List ℕ → View → View → Type 0
+  MeetsOne None filter v w = (words : List SlotWord) × (more : List TrailItem) × (w ≡ with_words v words more) × AllClear slot_filter w
+  MeetsOne (Some cause) filter v w = (words : List SlotWord) × (more : List TrailItem) × (w ≡ with_words v words more) × OneMeets cause filter more
+
+  -- a slot meets the filter, or the ring no longer reaches back to the start
+  abbrev pub Refutes : Cause → List ℕ → List TrailItem → Type 0
+  Refutes (causes.Filter time bits) filter more = (start < time) × (time ≤ clock) × Meeting c.ring filter time bits more
+  Refutes (causes.Clock had now) filter more = ⊥
+  Refutes (causes.Record index word from) filter more = ⊥
+  Refutes (causes.Moved index before after) filter more = ⊥
+  Refutes (causes.Overrun from now) filter more = (from ≡ start) × (start + c.ring ≤ now) × ((now ≡ clock) ⊎ InTrail more Clock now)
+
+  -- the clock was loaded behind the slots, or not
+  abbrev pub scanned : View → List SlotWord → Bool → List TrailItem → View
+  scanned v words sure more = record v { ring_read = record v.ring_read { words = words; sure = sure }; steps = record v.steps { trail = more ++ v.steps.trail } }
+
+  -- what the loads of the slots and of the clock behind them tell
+  abbrev pub Scans : Result (Unit {0}) Cause → List ℕ → View → View → Type 0
+  Scans (Ok _) filter v w = (words : List SlotWord) × (more : List TrailItem) × (w ≡ scanned v words true more) × CanRingMove slot_filter w
+  Scans (Err cause) filter v w = (words : List SlotWord) × (sure : Bool) × (more : List TrailItem) × (w ≡ scanned v words sure more) × Refutes cause filter more
+
+-- THE CHECK
+
+pub record CanCheck (c : Config) (start : ℕ) (filter : List ℕ) (v : View) : Type 0 where
+  pub has : HasRing v
+  pub start_is : v.attempt.start ≡ start
+  pub front_is : v.history.front ≡ start
+  pub watched : IsFilterOf filter v.ring_read.watched
+  pub uncalm : v.gate.calm ≡ false
+  pub sole : c.callers ≡ 1 → start ≡ c.clock + v.steps.rises
+
+pub record CanCheckToGrant (c : Config) (start : ℕ) (filter : List ℕ) (v : View) : Type 0 where
+  pub grant : CanRingGrant v
+  pub start_is : v.attempt.start ≡ start
+  pub front_is : v.history.front ≡ start
+  pub watched : IsFilterOf filter v.ring_read.watched
+  pub unentered : v.attempt.entered ≡ false
+  pub sole : c.callers ≡ 1 → start ≡ c.clock + v.steps.rises
+
+-- the view after a check that passed, in a world that it saw
+abbrev pub passed_at : World → ℕ → GateView → RingRead → List TrailItem → View → View
+passed_at m start gate read more v = record v {
+  history = record v.history { seen = upto m.history start; front = start };
+  gate = gate;
+  attempt = record { start = start; reads = read_in v; stores = v.attempt.stores; entered = v.attempt.entered };
+  ring_read = read;
+  steps = record v.steps { trail = more ++ v.steps.trail };
+}
+
+module _ (good : List ℕ → Type 0) (c : Config) where
+  -- the check passed: the start is now this, and all that was loaded is read
+  pub record Passes (gate : GateView) (start : ℕ) (v w : View) : Type 0 where
+    pub world : World
+    pub read : RingRead
+    pub more : List TrailItem
+    pub is : w ≡ passed_at world start gate read more v
+    pub sees : RingSees (of_words good c.words) c world v start
+    pub later : v.attempt.start ≤ start
+    pub inside : read.inside ≡ true
+    pub settled : read.loaded ≡ false
+    pub watched : read.watched ≡ v.ring_read.watched
+    pub moves : (start ≡ v.attempt.start) ⊎ ((clock done : ℕ) × InTrail more Clock clock × InTrail more Done done × (start ≡ max v.attempt.start (min done clock)))
+    -- with one caller alone it is where it was
+    pub sole : c.callers ≡ 1 → start ≡ v.attempt.start
+
+  -- the check failed: nothing changed but what the check itself is about
+  pub record Fails (cause : Cause) (filter : List ℕ) (v w : View) : Type 0 where
+    pub read : RingRead
+    pub more : List TrailItem
+    pub is : w ≡ record v { ring_read = read; steps = record v.steps { trail = more ++ v.steps.trail } }
+    pub others : c.callers ≢ 1
+    pub clock : ℕ
+    pub found : InTrail more Clock clock
+    pub refutes : Refutes c v.attempt.start clock cause filter more
+
+  -- what `check` tells: under the lock the start is the clock now
+  abbrev pub Checks : Result ℕ Cause → List ℕ → View → View → Type 0
+  Checks (Ok start) filter v w = Passes v.gate start v w × (v.lock.taken ≡ true → v.ring_commit.committed ≡ false → v.ring_commit.ticked ≡ true → start ≡ v.ring_commit.clock)
+  Checks (Err cause) filter v w = Fails cause filter v w
+
+  -- what `check_to_grant` tells
+  abbrev pub ChecksToGrant : Result ℕ Cause → List ℕ → View → View → Type 0
+  ChecksToGrant (Ok start) filter v w = Passes (granted_at v.gate.time v.gate) start v w × (start ≡ v.gate.time) × ((more : List TrailItem) × (w.steps.trail ≡ more ++ v.steps.trail) × InTrail more Clock start)
+  ChecksToGrant (Err cause) filter v w = Fails cause filter v w

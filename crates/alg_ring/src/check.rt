@@ -1,0 +1,181 @@
+//! The check: whether an entry since the start wrote what the attempt read.
+ghost use Rattle.std.specs.Prelude.{◌≡◌, ℕ, ◌<◌, ◌+◌, max, min};
+ghost use Rattle.alg_ring.specs.Checking.{CanScan, CanLoadSlot, LoadsPart, MeetsSlot, MeetsOne, Scans, Checks, CanCheck, ChecksToGrant, CanCheckToGrant};
+ghost use Rattle.stm_rule.specs.Callers.{IsSeatOf};
+ghost use Rattle.stm_rule.specs.Kept.{IsSameSeat, view_of};
+
+use steps_ring::promoting::{advance_grant, look_grant};
+use steps_ring::reading::{advance, again, look, word};
+use stm_model::rule::MemRule;
+use stm_model::stop::Cause;
+use stm_rule::stm::{Stm, Token};
+use tx_logs::filter::Filter;
+
+/// Checks the entries since the start against the filter of what was read, and answers the start from then on. One
+/// step where the clock is the start; else three, and one for each slot word that is needed.
+pub(crate) fn check<K: MemRule>(
+    seat: &mut Token<K>,
+    stm: &Stm<K>,
+    caller: usize,
+    start: u64,
+    filter: &Filter,
+) -> Result<u64, Cause>
+    requires seat { IsSeatOf stm.now caller seat.old }
+    requires view { CanCheck stm.now.config start filter.now (view_of seat.old) }
+    ensures same { IsSameSeat seat.old seat.new × (seat.new.me.0 ≡ record seat.old.me.0 { view = view_of seat.new }) }
+    ensures checks { Checks (K.good stm.now.rule) stm.now.config result filter.now (view_of seat.old) (view_of seat.new) }
+{
+    let clock = look(stm, seat, caller);
+    if clock == start {
+        return Ok(start);
+    }
+    match scan(seat, stm, caller, start, clock, filter) {
+        Err(cause) => Err(cause),
+        Ok(()) => {
+            let done = advance(stm, seat, caller);
+            Ok(later_start(start, clock, done))
+        }
+    }
+}
+
+/// The same with the clock settled: where it passes, the start is that clock, and the attempt is promoted.
+pub(crate) fn check_to_grant<K: MemRule>(
+    seat: &mut Token<K>,
+    stm: &Stm<K>,
+    caller: usize,
+    start: u64,
+    filter: &Filter,
+) -> Result<u64, Cause>
+    requires seat { IsSeatOf stm.now caller seat.old }
+    requires view { CanCheckToGrant stm.now.config start filter.now (view_of seat.old) }
+    ensures same { IsSameSeat seat.old seat.new × (seat.new.me.0 ≡ record seat.old.me.0 { view = view_of seat.new }) }
+    ensures checks { ChecksToGrant (K.good stm.now.rule) stm.now.config result filter.now (view_of seat.old) (view_of seat.new) }
+{
+    let clock = look_grant(stm, seat, caller);
+    if clock == start {
+        return Ok(start);
+    }
+    match scan(seat, stm, caller, start, clock, filter) {
+        Err(cause) => Err(cause),
+        Ok(()) => {
+            let done = advance_grant(stm, seat, caller);
+            Ok(later_start(start, clock, done))
+        }
+    }
+}
+
+/// Where a check that passes moves the start: up to DONE, within the clock that it loaded.
+fn later_start(start: u64, clock: u64, done: u64) -> u64
+    ensures { result ≡ max start (min done clock) }
+{
+    start.max(done.min(clock))
+}
+
+/// Loads the slots of the times from the start to the clock, and the clock behind them: a slot that a later entry may
+/// have taken tells nothing.
+fn scan<K: MemRule>(
+    seat: &mut Token<K>,
+    stm: &Stm<K>,
+    caller: usize,
+    start: u64,
+    clock: u64,
+    filter: &Filter,
+) -> Result<(), Cause>
+    requires seat { IsSeatOf stm.now caller seat.old }
+    requires view { CanScan start clock filter.now (view_of seat.old) }
+    ensures same { IsSameSeat seat.old seat.new × (seat.new.me.0 ≡ record seat.old.me.0 { view = view_of seat.new }) }
+    ensures scans { Scans stm.now.config start clock result filter.now (view_of seat.old) (view_of seat.new) }
+{
+    let ring = stm.config.ring as u64;
+    if clock - start >= ring {
+        return Err(Cause::Overrun { start, clock });
+    }
+    let met = first_met(seat, stm, caller, start, clock, filter);
+    let later = again(stm, seat, caller);
+    if later - start >= ring {
+        return Err(Cause::Overrun {
+            start,
+            clock: later,
+        });
+    }
+    match met {
+        Some(cause) => Err(cause),
+        None => Ok(()),
+    }
+}
+
+/// The first of the slots that meets the filter.
+fn first_met<K: MemRule>(
+    seat: &mut Token<K>,
+    stm: &Stm<K>,
+    caller: usize,
+    start: u64,
+    clock: u64,
+    filter: &Filter,
+) -> Option<Cause>
+    requires seat { IsSeatOf stm.now caller seat.old }
+    requires view { CanScan start clock filter.now (view_of seat.old) }
+    requires near { clock < start + stm.now.config.ring }
+    ensures same { IsSameSeat seat.old seat.new × (seat.new.me.0 ≡ record seat.old.me.0 { view = view_of seat.new }) }
+    ensures meets { MeetsOne stm.now.config start clock result filter.now (view_of seat.old) (view_of seat.new) }
+{
+    for passed in 0..clock - start {
+        let time = start + 1 + passed;
+        let bits = slot_bits(seat, stm, caller, time, filter);
+        if bits != 0 {
+            return Some(Cause::Filter { time, bits });
+        }
+    }
+    None
+}
+
+/// Loads the slot of a time as far as it tells whether it meets the filter. Answers the lowest common bits where it
+/// does, else 0.
+fn slot_bits<K: MemRule>(
+    seat: &mut Token<K>,
+    stm: &Stm<K>,
+    caller: usize,
+    time: u64,
+    filter: &Filter,
+) -> u64
+    requires seat { IsSeatOf stm.now caller seat.old }
+    requires view { CanLoadSlot stm.now.config.ring time (view_of seat.old) }
+    ensures same { IsSameSeat seat.old seat.new × (seat.new.me.0 ≡ record seat.old.me.0 { view = view_of seat.new }) }
+    ensures meets { MeetsSlot stm.now.config.ring time filter.now result (view_of seat.old) (view_of seat.new) }
+{
+    let lowest = part_bits(seat, stm, caller, time, 0, filter);
+    if lowest == 0 {
+        return 0;
+    }
+    for part in 1..4 {
+        let bits = part_bits(seat, stm, caller, time, part, filter);
+        if bits == 0 {
+            return 0;
+        }
+    }
+    lowest
+}
+
+/// Loads the words of a part of a slot up to the first that has common bits with the filter, which it answers, else 0.
+fn part_bits<K: MemRule>(
+    seat: &mut Token<K>,
+    stm: &Stm<K>,
+    caller: usize,
+    time: u64,
+    part: usize,
+    filter: &Filter,
+) -> u64
+    requires seat { IsSeatOf stm.now caller seat.old }
+    requires view { CanLoadSlot stm.now.config.ring time (view_of seat.old) }
+    requires part { part < 4 }
+    ensures same { IsSameSeat seat.old seat.new × (seat.new.me.0 ≡ record seat.old.me.0 { view = view_of seat.new }) }
+    ensures loads { LoadsPart stm.now.config.ring time filter.now part result (view_of seat.old) (view_of seat.new) }
+{
+    for i in 4 * part..4 * part + 4 {
+        let bits = filter.word(i) & word(stm, seat, caller, time, i);
+        if bits != 0 {
+            return bits;
+        }
+    }
+    0
+}

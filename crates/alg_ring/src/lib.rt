@@ -1,0 +1,7 @@
+//! RingSW, the single-writer ring of Spear, Michael and von Praun ("RingSTM: Scalable Transactions with a Single Atomic
+//! Instruction", 2008). The ring has the write filters of the last commits: an attempt that reads checks those since
+//! its start against the filter of what it read, and one commit at a time stores its filter, its entry and its words.
+#![tactic(auto)]
+
+pub mod check;
+pub mod ring;

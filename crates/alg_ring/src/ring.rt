@@ -1,0 +1,311 @@
+//! The calls of an attempt of RingSW. It writes into its write log, and reads the heap: behind each word it checks
+//! that no entry since its start wrote what it has read.
+ghost use Rattle.std.specs.Prelude.{◌≡◌, ℕ, ◌<◌, true, false, None};
+ghost use Rattle.rule_base.specs.History.{Inside};
+ghost use Rattle.rule_ring.specs.RingSteps.{CanRingLock, ring_lock};
+ghost use Rattle.stm_model.specs.Memories.{item_at};
+ghost use Rattle.stm_model.specs.declared.alg.Alg.TheVariants.{RingSw};
+ghost use Rattle.stm_rule.specs.Attempts.{IsInside};
+ghost use Rattle.stm_rule.specs.Callers.{IsOf, IsSameCaller, IsSeatOf};
+ghost use Rattle.stm_rule.specs.Findings.{FindsLock};
+ghost use Rattle.stm_rule.specs.Kept.{SeatTells, IsSameSeat, view_of};
+ghost use Rattle.stm_rule.specs.RecordsKept.{cells_of};
+ghost use Rattle.tx_answers.specs.Answers.{HasRead, HasWritten, KeepsRule, Commits, Cancels, Irrevs};
+ghost use Rattle.tx_answers.specs.Known.{IsRunning, is_irrevocable};
+ghost use Rattle.stm_gate.specs.Knowing.{known, number};
+ghost use Rattle.stm_gate.specs.Starts.{CanBegin, Starts};
+ghost use Rattle.alg_ring.specs.Calls.{LoadsNew, CanFinish, Finishes, CanEnter, Enters, CanWriteBack, WritesBack, Stores, Grants, IsAlone};
+
+use crate::check::{check, check_to_grant};
+use rule_base::layout::SLOT_WORDS;
+use steps_ring::{committing as steps, reading as loads};
+use stm_gate::direct::{direct_commit, direct_load, direct_store};
+use stm_gate::leave::leave;
+use stm_gate::promote::{Promotion, promote};
+use stm_model::config::CLOCK_LIMIT;
+use stm_model::rule::MemRule;
+use stm_rule::desc::Desc;
+use stm_rule::local::Local;
+use stm_rule::stm::{Stm, Token};
+use tx_answers::answers::{Begin, Cancel, Commit, Irrev, Read, Write};
+use tx_logs::push::Push;
+use tx_logs::write_log::WriteLog;
+
+/// Loads DONE, the start, which it answers. One step.
+pub fn begin<K: MemRule>(seat: &mut Token<K>, stm: &Stm<K>, caller: usize) -> Result<u64, Begin>
+    requires seat { IsSeatOf stm.now caller seat.old }
+    requires caller { caller < stm.now.config.callers }
+    requires view { CanBegin RingSw (view_of seat.old) }
+    ensures same { IsSameSeat seat.old seat.new × (seat.new.me.0 ≡ record seat.old.me.0 { view = view_of seat.new }) }
+    ensures begins { Starts (K.good stm.now.rule) stm.now.config caller RingSw result (view_of seat.old) (view_of seat.new) }
+{
+    Ok(loads::begin(stm, seat, caller))
+}
+
+/// The own write, if there is one, with no step. Else it loads the word and checks: two steps where the clock is the
+/// start, and at most four and one for each slot word that is needed.
+pub fn read<K: MemRule>(desc: &mut Desc<K>, stm: &Stm<K>, a: usize) -> Read
+    requires stm { IsOf desc.old stm.now }
+    requires running { IsRunning (known desc.old) }
+    requires algorithm { (known desc.old).alg ≡ RingSw }
+    requires inside { a < stm.now.config.words }
+    ensures same { IsSameCaller desc.old desc.new }
+    ensures read { HasRead (K.good stm.now.rule) stm.now.config (number desc.old) a result (known desc.old) (known desc.new) }
+{
+    if desc.local.granted {
+        return direct_load(desc, stm, a);
+    }
+    if let Some(x) = desc.local.writes.find(a) {
+        return Read::Value(x);
+    }
+    load_new(&mut desc.seat, &mut desc.local, stm, desc.number, a)
+}
+
+/// Loads a word that the attempt has not written, and checks. A conflict has ended the attempt.
+fn load_new<K: MemRule>(
+    seat: &mut Token<K>,
+    local: &mut Local,
+    stm: &Stm<K>,
+    caller: usize,
+    a: usize,
+) -> Read
+    requires seat { IsSeatOf stm.now caller seat.old }
+    requires caller { caller < stm.now.config.callers }
+    requires attempt { IsInside (K.good stm.now.rule) stm.now.config caller local.old (view_of seat.old) }
+    requires ring { (local.old.algorithm ≡ RingSw) × (local.old.granted ≡ false) × (local.old.holds ≡ (view_of seat.old).gate.holds) }
+    requires inside { a < stm.now.config.words }
+    requires fresh { item_at a local.old.writes.items ≡ None }
+    ensures same { IsSameSeat seat.old seat.new × (seat.new.me.0 ≡ record seat.old.me.0 { view = view_of seat.new }) }
+    ensures loads { LoadsNew (K.good stm.now.rule) stm.now.config caller a result local.old (view_of seat.old) local.new (view_of seat.new) }
+{
+    let x = loads::load(stm, seat, caller, a);
+    local.loaded.add(a);
+    match check(seat, stm, caller, local.start, &local.loaded) {
+        Ok(start) => {
+            local.start = start;
+            Read::Value(x)
+        }
+        Err(cause) => {
+            leave(seat, local, stm, caller);
+            Read::Conflict(cause)
+        }
+    }
+}
+
+/// Adds the write to the write log. No step; a full log ends the attempt, which takes one, two where it holds the gate.
+pub fn write<K: MemRule>(desc: &mut Desc<K>, stm: &Stm<K>, a: usize, x: u64) -> Write
+    requires stm { IsOf desc.old stm.now }
+    requires running { IsRunning (known desc.old) }
+    requires algorithm { (known desc.old).alg ≡ RingSw }
+    requires inside { a < stm.now.config.words }
+    ensures same { IsSameCaller desc.old desc.new }
+    ensures write { HasWritten (K.good stm.now.rule) stm.now.config (number desc.old) a x result (known desc.old) (known desc.new) }
+{
+    if desc.local.granted {
+        return direct_store(desc, stm, a, x);
+    }
+    if let Push::Full { limit } = desc.local.writes.push(a, x) {
+        leave(&mut desc.seat, &mut desc.local, stm, desc.number);
+        return Write::Full { limit };
+    }
+    desc.local.stored.add(a);
+    desc.local.wrote = true;
+    Write::Done
+}
+
+/// Where the attempt wrote, it takes the lock and commits; `Again` comes where another caller has it. `turn` and
+/// `finish` are its two parts. One step where it wrote nothing, two where it holds the gate.
+pub fn commit<K: MemRule>(desc: &mut Desc<K>, stm: &Stm<K>) -> Commit
+    requires stm { IsOf desc.old stm.now }
+    requires running { (known desc.old).running ≡ true }
+    requires algorithm { (known desc.old).alg ≡ RingSw }
+    requires keeps { KeepsRule (K.good stm.now.rule) stm.now.config (number desc.old) (known desc.old) }
+    ensures same { IsSameCaller desc.old desc.new }
+    ensures commits { Commits (K.good stm.now.rule) stm.now.config (number desc.old) result (known desc.old) (known desc.new) }
+{
+    if desc.local.granted {
+        return direct_commit(desc, stm);
+    }
+    let caller = desc.number;
+    if !desc.local.wrote {
+        let time = desc.local.start;
+        leave(&mut desc.seat, &mut desc.local, stm, caller);
+        return Commit::ReadOnly { time };
+    }
+    let found = turn(&mut desc.seat, stm, caller);
+    if found != 0 {
+        desc.local.committing = true;
+        return Commit::Again {
+            word: 1,
+            had: 0,
+            now: found,
+        };
+    }
+    finish(&mut desc.seat, &mut desc.local, stm, caller)
+}
+
+/// Exchanges the lock, 0 for the own word, and answers the word found: 0 gives the caller its turn. One step.
+pub fn turn<K: MemRule>(seat: &mut Token<K>, stm: &Stm<K>, caller: usize) -> u64
+    requires seat { IsSeatOf stm.now caller seat.old }
+    requires caller { caller < stm.now.config.callers }
+    requires view { CanRingLock (view_of seat.old) }
+    ensures same { IsSameSeat seat.old seat.new }
+    ensures step { SeatTells (ring_lock caller) (FindsLock stm.now.config caller) seat.old.me.0 result seat.new.me.0 }
+{
+    steps::lock(stm, seat, caller)
+}
+
+/// Commits an attempt that has its turn: it loads the clock and checks, stores the filter of its writes and its entry,
+/// and writes back. The checks' steps, and 22, and one for each item of the write log.
+pub fn finish<K: MemRule>(
+    seat: &mut Token<K>,
+    local: &mut Local,
+    stm: &Stm<K>,
+    caller: usize,
+) -> Commit
+    requires seat { IsSeatOf stm.now caller seat.old }
+    requires caller { caller < stm.now.config.callers }
+    requires turn { CanFinish (K.good stm.now.rule) stm.now.config caller local.old (view_of seat.old) }
+    ensures same { IsSameSeat seat.old seat.new × (seat.new.me.0 ≡ record seat.old.me.0 { view = view_of seat.new }) }
+    ensures finishes { Finishes (K.good stm.now.rule) stm.now.config caller result local.old (view_of seat.old) local.new (view_of seat.new) }
+{
+    let clock = steps::tick(stm, seat, caller);
+    if clock >= CLOCK_LIMIT {
+        steps::free(stm, seat, caller);
+        leave(seat, local, stm, caller);
+        return Commit::ClockFull { clock };
+    }
+    if let Err(cause) = check(seat, stm, caller, local.start, &local.loaded) {
+        steps::free(stm, seat, caller);
+        leave(seat, local, stm, caller);
+        return Commit::Conflict(cause);
+    }
+    let time = clock + 1;
+    enter(seat, local, stm, caller, time);
+    write_back(seat, &local.writes, stm, caller);
+    steps::done(stm, seat, caller, time);
+    steps::free(stm, seat, caller);
+    leave(seat, local, stm, caller);
+    Commit::Committed { time }
+}
+
+/// Stores the filter of the writes in the slot of this time, and the clock, which appends the entry.
+fn enter<K: MemRule>(seat: &mut Token<K>, local: &Local, stm: &Stm<K>, caller: usize, time: u64)
+    requires seat { IsSeatOf stm.now caller seat.old }
+    requires caller { caller < stm.now.config.callers }
+    requires enter { CanEnter (K.good stm.now.rule) stm.now.config time local.now (view_of seat.old) }
+    ensures same { IsSameSeat seat.old seat.new × (seat.new.me.0 ≡ record seat.old.me.0 { view = view_of seat.new }) }
+    ensures enters { Enters (K.good stm.now.rule) stm.now.config caller time local.now (view_of seat.old) (view_of seat.new) }
+{
+    for i in 0..SLOT_WORDS {
+        steps::slot(
+            stm,
+            seat,
+            caller,
+            time,
+            i,
+            local.stored.word(i),
+            &local.writes,
+        );
+    }
+    steps::enter(stm, seat, caller, time);
+}
+
+/// Stores what the attempt wrote, behind its entry.
+fn write_back<K: MemRule>(seat: &mut Token<K>, writes: &WriteLog, stm: &Stm<K>, caller: usize)
+    requires seat { IsSeatOf stm.now caller seat.old }
+    requires back { CanWriteBack stm.now.config writes.now (view_of seat.old) }
+    ensures same { IsSameSeat seat.old seat.new × (seat.new.me.0 ≡ record seat.old.me.0 { view = view_of seat.new }) }
+    ensures back { WritesBack (view_of seat.old) (view_of seat.new) }
+{
+    for i in 0..writes.count() {
+        let (a, x) = writes.item(i);
+        steps::write_back(stm, seat, caller, a, x);
+    }
+}
+
+/// Ends the attempt, unless it is irrevocable. One step, two where it holds the gate.
+pub fn cancel<K: MemRule>(desc: &mut Desc<K>, stm: &Stm<K>) -> Cancel
+    requires stm { IsOf desc.old stm.now }
+    requires running { (known desc.old).running ≡ true }
+    requires algorithm { (known desc.old).alg ≡ RingSw }
+    ensures same { IsSameCaller desc.old desc.new }
+    ensures cancels { Cancels (K.good stm.now.rule) stm.now.config (number desc.old) result (known desc.old) (known desc.new) }
+{
+    if desc.local.granted {
+        return Cancel::Irrevocable;
+    }
+    let caller = desc.number;
+    let time = desc.local.start;
+    leave(&mut desc.seat, &mut desc.local, stm, caller);
+    Cancel::Cancelled { time }
+}
+
+/// Promotes the attempt where it is alone and its check passes. The steps of a promotion and of a check, one more, and
+/// one for each item of the write log.
+pub fn become_irrevocable<K: MemRule>(desc: &mut Desc<K>, stm: &Stm<K>) -> Irrev
+    requires stm { IsOf desc.old stm.now }
+    requires running { IsRunning (known desc.old) }
+    requires algorithm { (known desc.old).alg ≡ RingSw }
+    ensures same { IsSameCaller desc.old desc.new }
+    ensures irrevs { Irrevs (K.good stm.now.rule) stm.now.config (number desc.old) result (known desc.old) (known desc.new) }
+{
+    if desc.local.granted {
+        return Irrev::Granted;
+    }
+    match promote(desc, stm) {
+        Promotion::Alone => grant(desc, stm),
+        Promotion::Busy { caller, status } => Irrev::Busy { caller, status },
+        Promotion::Taken { gate } => Irrev::Taken { gate },
+    }
+}
+
+/// Loads the clock for an attempt that is alone, and checks: where that passes, what was written goes into the heap.
+fn grant<K: MemRule>(desc: &mut Desc<K>, stm: &Stm<K>) -> Irrev
+    requires stm { IsOf desc.old stm.now }
+    requires running { IsRunning (known desc.old) }
+    requires algorithm { (known desc.old).alg ≡ RingSw }
+    requires revocable { is_irrevocable (known desc.old) ≡ false }
+    requires alone { IsAlone stm.now.config.callers (number desc.old) desc.old.view }
+    ensures same { IsSameCaller desc.old desc.new }
+    ensures grants { Grants (K.good stm.now.rule) stm.now.config (number desc.old) result (known desc.old) (known desc.new) }
+{
+    let caller = desc.number;
+    let clock = stm.settle(&mut desc.seat, caller);
+    if clock >= CLOCK_LIMIT {
+        leave(&mut desc.seat, &mut desc.local, stm, caller);
+        return Irrev::ClockFull { clock };
+    }
+    match check_to_grant(
+        &mut desc.seat,
+        stm,
+        caller,
+        desc.local.start,
+        &desc.local.loaded,
+    ) {
+        Ok(start) => {
+            desc.local.start = start;
+            desc.local.granted = true;
+            store_all(&mut desc.seat, &desc.local.writes, stm, caller);
+            Irrev::Granted
+        }
+        Err(cause) => {
+            leave(&mut desc.seat, &mut desc.local, stm, caller);
+            Irrev::Conflict(cause)
+        }
+    }
+}
+
+/// Stores what a promoted attempt wrote before.
+fn store_all<K: MemRule>(seat: &mut Token<K>, writes: &WriteLog, stm: &Stm<K>, caller: usize)
+    requires seat { IsSeatOf stm.now caller seat.old }
+    requires granted { (view_of seat.old).gate.granted ≡ true }
+    requires inside { Inside stm.now.config.words (cells_of writes.now.items) }
+    ensures same { IsSameSeat seat.old seat.new × (seat.new.me.0 ≡ record seat.old.me.0 { view = view_of seat.new }) }
+    ensures stores { Stores writes.now (view_of seat.old) (view_of seat.new) }
+{
+    for i in 0..writes.count() {
+        let (a, x) = writes.item(i);
+        stm.direct_store(seat, caller, a, x);
+    }
+}

@@ -1,0 +1,7 @@
+use Rattle.rule_orec.specs.OrecSteps.{orec_begin}
+use Rattle.steps_orec.specs.RecordFindings.{FindsStart}
+use Rattle.stm_rule.specs.Kept.{good_of}
+use Rattle.steps_orec.proofs.reading.begin.Given as goal
+
+abbrev pub ghosts-load_as : goal.ghosts-load_as
+ghosts-load_as g a = record { kind = orec_begin; shows = FindsStart (good_of g.K.MemRule.good a.self.now.config a.self.now.rule) a.self.now.config; caller = a.said.now }

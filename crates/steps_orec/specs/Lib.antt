@@ -1,0 +1,5 @@
+pub mod Picking
+pub mod Validating
+pub mod RecordFindings
+pub mod RecordFindingLaws
+pub mod OthersLaws

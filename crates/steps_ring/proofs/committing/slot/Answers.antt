@@ -1,0 +1,22 @@
+use Rattle.rule_ring.specs.RingSteps.{ring_slot, CanRingSlot}
+use Rattle.rule_base.specs.StepKinds.{Nothing}
+use Rattle.stm_rule.specs.RingLaws.{ring_slots}
+use Rattle.rule_ring.specs.SlotFilter.{slot_filter}
+use Rattle.stm_rule.specs.RecordsKept.{cells_of}
+use Rattle.std.proofs.Common.{refl, arith}
+use Rattle.rule_ring.specs.Slots.{slot_place, slot_place-inside}
+use Rattle.stm_rule.specs.Kept.{good_of}
+use Rattle.stm_rule.specs.Product.{Whole}
+use Rattle.stm_rule.specs.Allowing.{law_of}
+use Rattle.steps_ring.proofs.committing.slot.Goals as goal
+
+pub store_as-requires-clause-law : goal.store_as-requires-clause-law
+store_as-requires-clause-law g c =
+    let f = c.args.stm.now.config in
+    let m = good_of g.K.MemRule.good f c.args.stm.now.rule in
+    let n = c.args.caller in
+    law_of (Whole m f) (ring_slot slot_filter f.ring c.args.time c.args.index (cells_of c.args.writes.now.items)) Nothing n (CanRingSlot c.args.time c.args.index (cells_of c.args.writes.now.items)) c.args.seat.now.me.0.view (ring_slots m f n c.args.time c.args.index (cells_of c.args.writes.now.items)) c.requires.view
+
+pub store_as-requires-clause-place : goal.store_as-requires-clause-place
+unfolding slot_place
+store_as-requires-clause-place g c = let f = c.args.stm.now.config in let r = c.args.stm.now.ranges in (refl, slot_place-inside f.ring c.args.time c.args.index (let k = r.ring.0 in omega arith) c.requires.view.low)

@@ -1,0 +1,7 @@
+use Rattle.rule_ring.specs.RingSteps.{ring_tick}
+use Rattle.steps_ring.specs.RingFindings.{FindsTick}
+use Rattle.stm_rule.specs.Kept.{good_of}
+use Rattle.steps_ring.proofs.committing.tick.Given as goal
+
+abbrev pub ghosts-load_as : goal.ghosts-load_as
+ghosts-load_as g a = record { kind = ring_tick; shows = FindsTick (good_of g.K.MemRule.good a.self.now.config a.self.now.rule) a.self.now.config; caller = a.said.now }

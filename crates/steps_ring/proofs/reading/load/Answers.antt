@@ -1,0 +1,14 @@
+use Rattle.rule_ring.specs.RingSteps.{ring_load, CanRingLoad}
+use Rattle.rule_base.specs.StepKinds.{Nothing}
+use Rattle.stm_rule.specs.RingLaws.{ring_loads}
+use Rattle.stm_rule.specs.Kept.{good_of}
+use Rattle.stm_rule.specs.Product.{Whole}
+use Rattle.stm_rule.specs.Allowing.{law_of}
+use Rattle.steps_ring.proofs.reading.load.Goals as goal
+
+pub load_as-requires-clause-law : goal.load_as-requires-clause-law
+load_as-requires-clause-law g c =
+    let f = c.args.stm.now.config in
+    let m = good_of g.K.MemRule.good f c.args.stm.now.rule in
+    let n = c.args.caller in
+    law_of (Whole m f) (ring_load c.args.a) Nothing n (CanRingLoad f.words c.args.a) c.args.seat.now.me.0.view (ring_loads m f n c.args.a) c.requires.view

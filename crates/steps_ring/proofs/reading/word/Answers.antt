@@ -1,0 +1,20 @@
+use Rattle.rule_ring.specs.RingSteps.{ring_word, CanRingWord}
+use Rattle.rule_base.specs.StepKinds.{Nothing}
+use Rattle.stm_rule.specs.RingLaws.{ring_words}
+use Rattle.std.proofs.Common.{refl, arith}
+use Rattle.rule_ring.specs.Slots.{slot_place, slot_place-inside}
+use Rattle.stm_rule.specs.Kept.{good_of}
+use Rattle.stm_rule.specs.Product.{Whole}
+use Rattle.stm_rule.specs.Allowing.{law_of}
+use Rattle.steps_ring.proofs.reading.word.Goals as goal
+
+pub load_as-requires-clause-law : goal.load_as-requires-clause-law
+load_as-requires-clause-law g c =
+    let f = c.args.stm.now.config in
+    let m = good_of g.K.MemRule.good f c.args.stm.now.rule in
+    let n = c.args.caller in
+    law_of (Whole m f) (ring_word f.ring c.args.time c.args.index) Nothing n (CanRingWord f.ring c.args.time c.args.index) c.args.seat.now.me.0.view (ring_words m f n c.args.time c.args.index) c.requires.view
+
+pub load_as-requires-clause-place : goal.load_as-requires-clause-place
+unfolding slot_place
+load_as-requires-clause-place g c = let f = c.args.stm.now.config in let r = c.args.stm.now.ranges in (refl, slot_place-inside f.ring c.args.time c.args.index (let k = r.ring.0 in omega arith) c.requires.view.index)

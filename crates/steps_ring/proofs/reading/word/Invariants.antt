@@ -1,0 +1,6 @@
+use Rattle.rule_ring.specs.RingSteps.{ring_word}
+use Rattle.rule_base.specs.StepKinds.{Nothing}
+use Rattle.steps_ring.proofs.reading.word.Given as goal
+
+abbrev pub ghosts-load_as : goal.ghosts-load_as
+ghosts-load_as g a = record { kind = ring_word a.self.now.config.ring a.said.now.1 a.said.now.2; shows = Nothing; caller = a.said.now.0 }

@@ -1,0 +1,2 @@
+pub mod RingFindings
+pub mod RingFindingLaws

@@ -1,0 +1,129 @@
+-- The law of each kind of step of RingSW with all that it shows, by the one rule.
+use Rattle.std.proofs.Common.{◌≡◌, ℕ, Bool, true, false, arith, refl, sym, subst, ap, ◌∙◌, le_trans}
+use Rattle.std.specs.Prelude.{not, if◌then◌else◌}
+use Rattle.stm_model.specs.declared.config.Config.{Config}
+use Rattle.rule_base.specs.declared.views.Phase.TheVariants.{Idle, In}
+use Rattle.rule_base.specs.GateRule.{may_hold}
+use Rattle.rule_base.specs.InstallLaws.{nobody-calm}
+use Rattle.rule_base.specs.InstallSteps.{HasChecked}
+use Rattle.rule_base.specs.Regime.{Regime}
+use Rattle.rule_base.specs.Regime.Regime.{Running}
+use Rattle.rule_base.specs.RegimeLemmas.{regime-inside}
+use Rattle.rule_base.specs.RunScene.{run_scene}
+use Rattle.rule_base.specs.StepKinds.{StepLaw}
+use Rattle.rule_base.specs.World.{World}
+use Rattle.rule_promoted.specs.PromotedSteps.{ring_look_grant, CanRingGrant, ring_move_grant, CanRingMoveGrant}
+use Rattle.rule_ring.specs.RingRule.{late, ring_part, RingReader, RingRule}
+use Rattle.rule_ring.specs.RingSteps.{RunsRing, HasRing, ring_begin, CanRingBegin, ring_look, CanRingLook, ring_again, CanRingAgain, ring_move, CanRingMove, ring_tick, HasTurn}
+use Rattle.rule_ring.specs.SlotFilter.{slot_filter}
+use Rattle.rule_seq.specs.AttemptLemmas.{busy-turn}
+use Rattle.stm_rule.specs.BesideLaws.{sole-of, uncalm}
+use Rattle.stm_rule.specs.Frames.{is-caller, only-caller}
+use Rattle.stm_rule.specs.Product.{Runs, Whole}
+use Rattle.stm_rule.specs.RestLaws.{nobody-commits, nobody-enters}
+use Rattle.stm_rule.specs.RingLaws.{ring_begins, ring_looks, ring_agains, ring_moves, ring_ticks}
+use Rattle.stm_rule.specs.RingPromotionLaws.{look_grants, move_grants}
+use Rattle.steps_ring.specs.RingFindings.{FindsStart, FindsLook, FindsAgain, FindsMove, FindsLevel, FindsTick}
+
+module _ (good : (ℕ → ℕ) → Type 0) (c : Config) (n : ℕ) where
+  -- the clauses of RingSW stand while an attempt of it isn't promoted
+  rule-of : (w : World) → Whole good c w → RunsRing (w.views n) → RingRule slot_filter c.ring c.words (ring_part (run_scene w))
+  rule-of w g m = subst (λ (q : Regime). Runs c q (run_scene w)) (regime-inside c w n g.gate g.install m.phase m.plain ∙ ap Running m.algorithm) g.running
+
+  reader-of : (w : World) → Whole good c w → HasRing (w.views n) → RingReader slot_filter c.ring c.words w.clock w.done w.base w.history ((ring_part (run_scene w)).views n)
+  reader-of w g m = (rule-of w g m.runs).reader n m.inside
+
+  -- who has no entry to write back isn't late
+  unlate : (w : World) (m : ℕ) → ((w.views m).ring_commit.committed ≡ true → ⊥) → late ((ring_part (run_scene w)).views m) ≡ false
+  unlate w m none = go (w.views m).ring_commit.committed none
+    where
+      go : (b : Bool) → (b ≡ true → ⊥) → (if b then not (w.views m).ring_commit.finished else false) ≡ false
+      go true h = absurd (h refl)
+      go false h = refl
+
+  -- with one caller alone, who is not idle is that one
+  same-caller : (w : World) → Whole good c w → (w.views n).gate.phase ≡ In → c.callers ≡ 1 → (m : ℕ) → ((w.views m).gate.phase ≡ Idle → ⊥) → n ≡ m
+  same-caller w g inside one m busy = let k = is-caller good c w g m busy in let z = only-caller good c w n g inside one in omega arith
+
+  -- with one caller alone, who has no entry under way, DONE is the clock
+  done-sole : (w : World) → Whole good c w → RunsRing (w.views n) → (w.views n).ring_commit.committed ≡ false → (w.views n).attempt.entered ≡ false → c.callers ≡ 1 → w.done ≡ w.clock
+  done-sole w g runs early plain one = (rule-of w g runs).level
+      (λ m. unlate w m (λ t. let same = same-caller w g runs.phase one m (λ idle. let i : In ≡ Idle = sym (g.attempts.busy m (busy-turn (w.views m) t)) ∙ idle in cc) in let f : true ≡ false = sym t ∙ (ap (λ (k : ℕ). (w.views k).ring_commit.committed) (sym same) ∙ early) in cc))
+      (λ m. by m (w.views m).attempt.entered refl)
+    where
+      by : (m : ℕ) (b : Bool) → (w.views m).attempt.entered ≡ b → b ≡ false
+      by m true t = absurd (let same = same-caller w g runs.phase one m (λ idle. let f : true ≡ false = sym (g.attempts.entered m t) ∙ ap may_hold idle in cc) in let f : true ≡ false = sym t ∙ (ap (λ (k : ℕ). (w.views k).attempt.entered) (sym same) ∙ plain) in cc)
+      by m false t = refl
+
+  -- nobody has raised the clock as the gate's holder while an attempt runs that doesn't know it so
+  unraised : (w : World) → Whole good c w → RunsRing (w.views n) → (w.views n).gate.calm ≡ false → (m : ℕ) → (w.views m).attempt.entered ≡ false
+  unraised w g runs free m = by (w.views m).attempt.entered refl
+    where
+      by : (b : Bool) → (w.views m).attempt.entered ≡ b → b ≡ false
+      by true t = absurd (nobody-calm c w n runs.phase free g.gate g.install (is-caller good c w g n (λ idle. let i : In ≡ Idle = sym runs.phase ∙ idle in cc)) m (g.raised (g.gate.named n runs.phase ∙ runs.algorithm) m t))
+      by false t = refl
+
+  -- the clock stands under the lock
+  stands : (w : World) → Whole good c w → RunsRing (w.views n) → (w.views n).lock.taken ≡ true → (w.views n).ring_commit.ticked ≡ true → w.clock ≡ (w.views n).ring_commit.clock
+  stands w g runs taken ticked = sym (((rule-of w g runs).turn n taken).tick ticked)
+
+  pub begins_beside : StepLaw (Whole good c) ring_begin (FindsStart good c) n CanRingBegin
+  begins_beside w g may = let o = ring_begins good c n w g may in record {
+    rule = o.rule;
+    advances = o.advances;
+    shown = record {
+      begins = o.shown;
+      sole = λ early plain one. done-sole w g may.runs early plain one ∙ sole-of good c n w g may.runs.phase one;
+      uncalm = λ free. uncalm good c n w g free (w.views n).gate.calm refl;
+    };
+  }
+
+  pub looks_beside : StepLaw (Whole good c) ring_look (FindsLook good c) n CanRingLook
+  looks_beside w g may = let o = ring_looks good c n w g may in record {
+    rule = o.rule;
+    advances = o.advances;
+    shown = record { looks = o.shown; sole = sole-of good c n w g may.has.runs.phase; ticked = stands w g may.has.runs; settled = g.install.time n };
+  }
+
+  pub agains_beside : StepLaw (Whole good c) (ring_again c.ring) (FindsAgain good c) n CanRingAgain
+  agains_beside w g may = let o = ring_agains good c n w g may in record {
+    rule = o.rule;
+    advances = o.advances;
+    shown = record { later = le_trans (reader-of w g may.has).start (rule-of w g may.has.runs).done };
+  }
+
+  pub moves_beside : StepLaw (Whole good c) ring_move (FindsMove good c) n (CanRingMove slot_filter)
+  moves_beside w g may = let o = ring_moves good c n w g may in record {
+    rule = o.rule;
+    advances = o.advances;
+    shown = record { moves = o.shown; level = λ taken early ticked free. o.shown.level taken early ticked (unraised w g may.has.runs free) };
+  }
+
+  pub ticks_beside : StepLaw (Whole good c) ring_tick (FindsTick good c) n HasTurn
+  ticks_beside w g may = let o = ring_ticks good c n w g may in record {
+    rule = o.rule;
+    advances = o.advances;
+    shown = record { sole = sole-of good c n w g may.has.runs.phase; within = g.history.limit; later = le_trans (reader-of w g may.has).start (rule-of w g may.has.runs).done };
+  }
+
+  pub look_grants_beside : StepLaw (Whole good c) ring_look_grant (FindsLook good c) n CanRingGrant
+  look_grants_beside w g may = let o = look_grants good c n w g may in record {
+    rule = o.rule;
+    advances = o.advances;
+    shown = record { looks = o.shown; sole = sole-of good c n w g may.has.runs.phase; ticked = stands w g may.has.runs; settled = g.install.time n };
+  }
+
+  pub move_grants_beside : StepLaw (Whole good c) ring_move_grant (FindsLevel good c) n (CanRingMoveGrant slot_filter)
+  move_grants_beside w g may = let o = move_grants good c n w g may in record {
+    rule = o.rule;
+    advances = o.advances;
+    shown = record {
+      moves = o.shown;
+      level = λ plain. (rule-of w g may.grant.has.runs).level
+          (λ m. unlate w m (λ t. nobody-commits good c n w g checked may.grant.unlocked may.grant.unwritten may.grant.uncommitted m t))
+          (nobody-enters good c n w g checked plain) ∙ g.install.time n may.grant.calm;
+    };
+  }
+    where
+      checked : HasChecked c.callers n (w.views n)
+      checked k low other = g.install.alone n k may.grant.calm low other

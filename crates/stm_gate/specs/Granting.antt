@@ -1,0 +1,155 @@
+-- What comes of an attempt that is alone, and of the call in which it came to be so.
+use Rattle.std.proofs.Common.{ℕ, ◌≡◌, ◌<◌, ◌≤◌, ◌+◌, List, [], ◌∷◌, ◌++◌, true, false, refl, sym, ap, ◌∙◌, arith, subst, append_assoc, inl, inr}
+use Rattle.std.specs.Prelude.{◌%◌, ◌⊎◌, Some, None, not}
+use Rattle.stm_model.specs.Algorithms.{asks_at_grant, closes_gate, has_records, is_sure, quit_rise}
+use Rattle.stm_model.specs.declared.config.Config.{Config}
+use Rattle.stm_model.specs.declared.stop.Cause.{Cause}
+use Rattle.stm_model.specs.declared.stop.Cause.TheVariants as causes
+use Rattle.stm_model.specs.Logs.{Log}
+use Rattle.stm_model.specs.Memories.{is_empty}
+use Rattle.rule_base.specs.declared.layout.At.{At}
+use Rattle.rule_base.specs.declared.layout.At.TheVariants.{Clock, Record}
+use Rattle.rule_base.specs.declared.views.Act.TheVariants.{Load}
+use Rattle.rule_base.specs.declared.views.TrailItem.{TrailItem}
+use Rattle.rule_base.specs.declared.views.View.{View}
+use Rattle.rule_base.specs.InstallSteps.{HasChecked}
+use Rattle.rule_base.specs.Own.{Own}
+use Rattle.stm_rule.specs.declared.local.Local.{Local}
+use Rattle.stm_rule.specs.Attempts.{IsInside}
+use Rattle.tx_logs.specs.Filters.{filter_word, meets, lowest_common}
+use Rattle.tx_answers.specs.declared.answers.Irrev.{Irrev}
+use Rattle.tx_answers.specs.declared.answers.Irrev.TheVariants as irrevs
+use Rattle.tx_answers.specs.Answers.{BecomesSure, Quits, Waits, Irrevs}
+use Rattle.tx_answers.specs.Causes.{Conflicts, FindsFull, IsAnothers, IsNewer, Meets, has_item, loaded_by}
+use Rattle.tx_answers.specs.Evidence.{Found, FoundAsWas, FoundMoved, Untouched}
+use Rattle.tx_answers.specs.Known.{Known, known_of, is_irrevocable, is_in, is_closing, wrote}
+use Rattle.tx_answers.specs.KnownLaws.{grows-same, grows-trans}
+use Rattle.stm_gate.specs.LeavingLaws.{found-earlier}
+use Rattle.stm_gate.specs.Opacity.{opaque-inside}
+use Rattle.stm_gate.specs.Promoting.{SparesRecords}
+
+-- caller n holds the gate, and has seen all others idle since
+pub record IsAlone (callers n : ℕ) (v : View) : Type 0 where
+  pub holds : v.gate.holds ≡ true
+  pub quiet : HasChecked callers n v
+
+untouched-append : (p : At) (is js : List TrailItem) → Untouched p is → Untouched p js → Untouched p (is ++ js)
+untouched-append p [] js a b = b
+untouched-append p (i ∷ is) js a b = (a.0, untouched-append p is js a.1 b)
+
+-- what was found of a record from a later moment on, as seen from before
+as-was-earlier : (r x : ℕ) (u v w : Known) → SparesRecords u v → FoundAsWas (Record r) x v w → FoundAsWas (Record r) x u w
+as-was-earlier r x u v w s f = record {
+  early = f.early ++ s.0;
+  act = f.act;
+  late = f.late;
+  trail = f.trail ∙ ap (λ (t : List TrailItem). f.late ++ record { place = Record r; act = f.act; found = Some x } ∷ t) (ap (λ (t : List TrailItem). f.early ++ t) s.1 ∙ sym (append_assoc f.early s.0 u.trail));
+  untouched = untouched-append (Record r) f.early s.0 f.untouched (s.2 r);
+}
+
+moved-earlier : (r x y : ℕ) (u v w : Known) → SparesRecords u v → FoundMoved (Record r) x y v w → FoundMoved (Record r) x y u w
+moved-earlier r x y u v w s f = record {
+  apart = f.apart;
+  early = f.early ++ s.0;
+  middle = f.middle;
+  act = f.act;
+  late = f.late;
+  trail = f.trail ∙ ap (λ (t : List TrailItem). f.late ++ record { place = Record r; act = f.act; found = Some y } ∷ (f.middle ++ record { place = Record r; act = Load; found = Some x } ∷ t)) (ap (λ (t : List TrailItem). f.early ++ t) s.1 ∙ sym (append_assoc f.early s.0 u.trail));
+  untouched = f.untouched;
+  refused = f.refused;
+}
+
+module _ (good : List ℕ → Type 0) (c : Config) (n : ℕ) where
+  -- what becomes of an attempt that is alone
+  abbrev pub Grants : Irrev → Known → Known → Type 0
+  Grants irrevs.Granted v w = BecomesSure good c n v w
+  Grants (irrevs.Busy caller status) v w = ⊥
+  Grants (irrevs.Taken gate) v w = ⊥
+  Grants (irrevs.Conflict cause) v w = Quits v w × Conflicts c n None cause v w × (1 < c.callers)
+  Grants (irrevs.ClockFull clock) v w = Quits v w × (asks_at_grant v.alg ≡ true) × FindsFull clock v w
+
+  quits-after : (u v w : Known) → Waits good c n u v → Quits v w → Quits u w
+  quits-after u v w a b = let k = a.continues in record {
+    ends = record { idle = b.ends.idle; grows = grows-trans u v w k.grows b.ends.grows; alg = b.ends.alg ∙ k.alg; base = b.ends.base ∙ k.base; installs = b.ends.installs ∙ k.installs };
+    made = b.made ∙ k.made;
+    rises = (let e = k.base in let r = b.rises.0 in omega arith, let e = k.base in let r = b.rises.1 in let q : quit_rise v.alg (wrote v) ≡ quit_rise u.alg (wrote u) = (λ j. quit_rise (k.alg j) (not (is_empty (a.log j).writes))) in omega arith);
+    revocable = a.revocable;
+  }
+
+  found-before : (place : At) (x : ℕ) (u v w : Known) → Waits good c n u v → Found place x v w → Found place x u w
+  found-before place x u v w a f = found-earlier place x u v w f a.continues.grows.more a.continues.grows.trail
+
+  meets-after : (time bits : ℕ) (u v w : Known) → Waits good c n u v → Meets c n None time bits v w → Meets c n None time bits u w
+  meets-after time bits u v w a m = record {
+    slot = m.slot;
+    loaded = λ i l d. found-before _ (m.slot i) u v w a (m.loaded i l d);
+    meet = sym (ap (λ (g : Log). meets (filter_word (loaded_by c n None None g.reads)) m.slot) a.log) ∙ m.meet;
+    lowest = m.lowest ∙ ap (λ (g : Log). lowest_common (filter_word (loaded_by c n None None g.reads)) m.slot) a.log;
+  }
+
+  abbrev ConcernsLog : ℕ → Log → Type 0
+  ConcernsLog index g = (a : ℕ) × (index ≡ a % c.records) × ((None ≡ Some a) ⊎ ((has_item a g.reads ≡ true) ⊎ (has_item a g.writes ≡ true)))
+
+  conflicts-after : (cause : causes.the_data) (u v w : Known) → Waits good c n u v → SparesRecords u v → Conflicts c n None cause v w → Conflicts c n None cause u w
+  conflicts-after (causes.Clock had now) u v w a s b = (sym a.continues.alg ∙ b.0, b.1 ∙ a.start, b.2, found-before Clock now u v w a b.3)
+  conflicts-after (causes.Record index word start) u v w a s b = (ap has_records (sym a.continues.alg) ∙ b.0, b.1 ∙ a.start, subst (ConcernsLog index) a.log b.2, as-was-earlier index word u v w s b.3, why b.4)
+    where
+      why : IsAnothers c n None word ⊎ IsNewer c n None index word start v → IsAnothers c n None word ⊎ IsNewer c n None index word start u
+      why (inl x) = inl x
+      why (inr x) = inr (x.0, x.1, (x.2.0, x.2.1, sym (ap (λ (g : Log). has_item x.2.0 g.reads) a.log) ∙ x.2.2))
+  conflicts-after (causes.Moved index before after) u v w a s b = (ap has_records (sym a.continues.alg) ∙ b.0, subst (ConcernsLog index) a.log b.1, moved-earlier index before after u v w s b.2)
+  conflicts-after (causes.Filter time bits) u v w a s b = (sym a.continues.alg ∙ b.0, (let e = a.start in let l = b.1 in omega arith), (b.2.0, found-before Clock b.2.0 u v w a b.2.1, b.2.2), meets-after time bits u v w a b.3, b.4)
+  conflicts-after (causes.Overrun start clock) u v w a s b = (sym a.continues.alg ∙ b.0, b.1 ∙ a.start, found-before Clock clock u v w a b.2, b.3)
+
+  -- THE CALL: it came to be alone, and then this became of it
+  pub irrevs-after : (r : irrevs.the_data) (u v w : Known) → Waits good c n u v → SparesRecords u v → Grants r v w → Irrevs good c n r u w
+  irrevs-after irrevs.Granted u v w a s b = let k = a.continues in let q = b.continues in
+      let still : is_irrevocable v ≡ false = (λ j. is_sure (k.alg j) (a.granted j) (not (is_empty (a.log j).writes))) ∙ a.revocable in record {
+        continues = record {
+          running = q.running;
+          closing = q.closing;
+          made = q.made ∙ k.made;
+          grows = grows-trans u v w k.grows q.grows;
+          alg = q.alg ∙ k.alg;
+          base = q.base ∙ k.base;
+          rises = (let x = a.still in let y = b.still in (omega arith, omega arith));
+          later = (let x = k.later in let y = q.later in omega arith);
+          installs = q.installs ∙ k.installs;
+        };
+        still = b.still ∙ a.still;
+        uncommitted = b.uncommitted;
+        log = b.log ∙ a.log;
+        sure = b.sure;
+        opaque = b.opaque;
+        before = λ e. absurd (let f : true ≡ false = sym e ∙ a.revocable in cc);
+        now = λ e. (let z = b.now still in (z.0, found-before Clock w.start u v w a z.1));
+        alone = λ e x. b.alone still (ap closes_gate k.alg ∙ x);
+      }
+  irrevs-after (irrevs.Busy caller status) u v w a s b = absurd b
+  irrevs-after (irrevs.Taken gate) u v w a s b = absurd b
+  irrevs-after (irrevs.Conflict cause) u v w a s b = (quits-after u v w a b.0, conflicts-after cause u v w a s b.1, b.2)
+  irrevs-after (irrevs.ClockFull clock) u v w a s b = (quits-after u v w a b.0, ap asks_at_grant (sym a.continues.alg) ∙ b.1, record { limit = b.2.limit; found = found-before Clock clock u v w a b.2.found; top = b.2.top })
+
+  -- an attempt that was irrevocable before stays as it was
+  pub sure-already : (l : Local) (v : View) (o : Own) → o.committing ≡ false → IsInside good c n l v → is_irrevocable (known_of v o) ≡ true → BecomesSure good c n (known_of v o) (known_of v o)
+  sure-already l v o quiet i sure = record {
+    continues = record {
+      running = ap is_in i.phase;
+      closing = ap is_closing i.phase;
+      made = refl;
+      grows = grows-same (known_of v o) (known_of v o) refl refl [] refl refl refl;
+      alg = refl;
+      base = refl;
+      rises = (omega arith, omega arith);
+      later = omega arith;
+      installs = refl;
+    };
+    still = refl;
+    uncommitted = quiet;
+    log = refl;
+    sure = sure;
+    opaque = opaque-inside good c n l v o i;
+    before = λ e. refl;
+    now = λ e. absurd (let f : true ≡ false = sym sure ∙ e in cc);
+    alone = λ e q. absurd (let f : true ≡ false = sym sure ∙ e in cc);
+  }
