@@ -7,9 +7,9 @@ use Rattle.stm_model.specs.declared.alg.Alg.TheVariants.{Cgl, Tml, OrecLazy, Ore
 abbrev pub is_built : Alg → Bool
 is_built Cgl = true
 is_built Tml = true
-is_built OrecLazy = false
+is_built OrecLazy = true
 is_built OrecEager = false
-is_built RingSw = false
+is_built RingSw = true
 is_built Serial = true
 
 -- the name in workloads and traces

@@ -39,9 +39,9 @@ impl Alg {
         match self {
             Alg::Cgl => true,
             Alg::Tml => true,
-            Alg::OrecLazy => false,
+            Alg::OrecLazy => true,
             Alg::OrecEager => false,
-            Alg::RingSw => false,
+            Alg::RingSw => true,
             Alg::Serial => true,
         }
     }
