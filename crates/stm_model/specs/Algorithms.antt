@@ -8,7 +8,7 @@ abbrev pub is_built : Alg → Bool
 is_built Cgl = true
 is_built Tml = true
 is_built OrecLazy = true
-is_built OrecEager = false
+is_built OrecEager = true
 is_built RingSw = true
 is_built Serial = true
 

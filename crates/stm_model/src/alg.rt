@@ -40,7 +40,7 @@ impl Alg {
             Alg::Cgl => true,
             Alg::Tml => true,
             Alg::OrecLazy => true,
-            Alg::OrecEager => false,
+            Alg::OrecEager => true,
             Alg::RingSw => true,
             Alg::Serial => true,
         }
