@@ -12,6 +12,8 @@ use std::alloc::Global;
 use std::sync::Wait;
 use std::thread::Threads;
 use stm_driver::outcome::Outcome;
+use stm_driver::parting::part;
+use stm_driver::preparing::prepare;
 use stm_driver::run::run;
 use stm_driver::step::step;
 use stm_io::ends::{Failed, Sink, Source};
@@ -144,7 +146,15 @@ fn report<R: Threads + Wait + Sync, G: Turnstile + Sync>(
     requires { IsBuilt Run workload }
     ensures { IfOk result (λ s. SaidOfRun Run workload s.status s.closed s.text.items) }
 {
-    match run(rt, alloc, AnyMem, workload, turnstile)? {
+    let Workload {
+        header,
+        items,
+        schedule: _,
+    } = workload;
+    let count = items.as_slice().len();
+    let parts = part(alloc, header.callers, items.into_vec())?;
+    let prepared = prepare(rt, alloc, AnyMem, &header, parts.as_slice(), count)?;
+    match run(rt, alloc, prepared, turnstile) {
         Outcome::ToEnd { report, closed } => Ok(Saying {
             status: Status::Ok,
             text: report_text(alloc, &report)?,
@@ -164,7 +174,15 @@ fn trace<R: Wait>(rt: &R, alloc: Global, workload: Workload) -> Result<Saying, M
     requires { IsBuilt Step workload }
     ensures { IfOk result (λ s. SaidOfRun Step workload s.status s.closed s.text.items) }
 {
-    let (lines, outcome) = step(rt, alloc, AnyMem, workload)?;
+    let Workload {
+        header,
+        items,
+        schedule,
+    } = workload;
+    let count = items.as_slice().len();
+    let parts = part(alloc, header.callers, items.into_vec())?;
+    let prepared = prepare(rt, alloc, AnyMem, &header, parts.as_slice(), count)?;
+    let (lines, outcome) = step(rt, alloc, prepared, schedule.as_slice());
     match outcome {
         Outcome::ToEnd { report, closed } => Ok(Saying {
             status: Status::Ok,

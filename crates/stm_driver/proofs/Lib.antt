@@ -8,6 +8,7 @@ mod ScheduleLaws
 mod RoundLaws
 mod ThreadLaws
 mod IdleLaws
+mod TakingLaws
 mod PreparedLaws
 mod StandingLaws
 mod ReportLaws

@@ -1,7 +1,8 @@
 -- From the workers before the first turn to what a run came to.
 use Rattle.std.proofs.Common.{ℕ, suc, ◌≡◌, ◌<◌, ◌≤◌, List, [], ◌∷◌, ◌++◌, length, get_or, take, drop, refl, sym, ap, ◌∙◌, arith, subst, inl, inr}
-use Rattle.std.specs.Prelude.{Option, Some, None, Result, Ok, Err, IfOk, OnOk, All, IsPermutation}
+use Rattle.std.specs.Prelude.{Option, Some, None, Result, Ok, Err, OnOk, All, IsPermutation}
 use Rattle.std.specs.Option.{option_or}
+use Rattle.std.proofs.lemmas.List.{append-nil}
 use Rattle.std.proofs.lemmas.List.Elements.{All-head, All-tail}
 use Rattle.stm_rule.specs.declared.stm.Stm.{Stm}
 use Rattle.crossbeam_utils.specs.declared.cache_padded.CachePadded.{CachePadded}
@@ -17,6 +18,7 @@ use Rattle.stm_trace.specs.declared.line.Line.{Line}
 use Rattle.stm_trace.specs.declared.said.Phase.TheVariants.{Between}
 use Rattle.stm_trace.specs.Fits.{all_told, first_places}
 use Rattle.stm_trace.specs.Fits as fits
+use Rattle.stm_trace.specs.Places.{items_of}
 use Rattle.stm_trace.specs.Turns.{IsOver}
 use Rattle.stm_worker.specs.declared.worker.Worker.{Worker}
 use Rattle.stm_worker.specs.Leavings.{IsPart}
@@ -32,7 +34,7 @@ use Rattle.stm_script.specs.Workloads.{config_of}
 use Rattle.stm_script.specs.declared.workload.Item.{Item}
 use Rattle.stm_driver.specs.Partings.{parted}
 use Rattle.stm_driver.specs.Preparings.{WorkloadKeeps, IsPrepared}
-use Rattle.stm_driver.specs.Runs.{AreFirst, ArePart, IsTraced, HasRun, HasStepped, RanSome}
+use Rattle.stm_driver.specs.Runs.{AreFirst, ArePart, IsStopped, IsTraced, HasRun, HasStepped, RanSome}
 use Rattle.stm_driver.specs.Schedules.{places, AreSame, AreSound, Drives}
 use Rattle.stm_driver.proofs.IdleLaws.{idle-length, idle-still}
 use Rattle.stm_driver.proofs.LimitLaws.{MetSome, full, cut, history-of}
@@ -43,10 +45,6 @@ use Rattle.stm_driver.proofs.ReportLaws.{shown}
 use Rattle.stm_driver.proofs.ScheduleLaws.{same-length}
 use Rattle.stm_driver.proofs.StandingLaws.{Each, Stood, stood-each, rows-few}
 use Rattle.stm_driver.proofs.WorkersLaws.{workers-length}
-
-pub if-ok : {A E : Type 0} (P Q : A → Type 0) (r : Result A E) → ((a : A) → P a → Q a) → IfOk r P → IfOk r Q
-if-ok P Q (Ok a) f h = f a h
-if-ok P Q (Err e) f h = tt
 
 module _ {K : Type 0} where
   told-rows : (ws : List (Worker K)) → all_told (places ws) ≡ rows_of ws
@@ -181,7 +179,7 @@ module _ {K : Type 0} (good : List ℕ → Type 0) (w : Workload) (stm : Stm K) 
         by : (full : Option ℕ) → first_full ran ≡ full → (o : Outcome) → Came good stm (workers_in ran) (how_of full) o → HasRun w o
         by None e (ToEnd report closed) c = shown good w stm items sized theorem (workers_in ran) c.words closed report (stands (workers_in ran) t) t.count (none-left ran r.through r.between e) c.closes c.is
         by None e (ToLimit clock closed) c = absurd c
-        by None e (OutOfMemory closed) c = absurd c
+        by None e (OutOfMemory closed) c = let q = c.1 in (c.0, shown good w stm items sized theorem (workers_in ran) q.words closed c.0 (stands (workers_in ran) t) t.count (none-left ran r.through r.between e) q.closes q.is)
         by (Some found) e (ToEnd report closed) c = absurd c
         by (Some found) e (ToLimit clock closed) c =
             let after = idle-still good stm (workers_in ran) c.1.after r.between c.1.idle in
@@ -199,12 +197,27 @@ module _ {K : Type 0} (good : List ℕ → Type 0) (w : Workload) (stm : Stm K) 
           shown = shown good w stm items sized theorem ran r.words closed report (stands ran t) t.count drives.1 r.closes r.is;
         }
 
+    -- all was done, and no report of it was made
+    stopped-whole : (begun ran : List (Worker K)) (gos : List Go) (lines : List Line) (report : Report) (closed : Ended) → Begun good w stm items sized begun → Turned ran → Drives stm.config gos begun ran lines (Ok tt) → Reported good stm ran report closed
+        → IsStopped w closed
+    stopped-whole begun ran gos lines report closed b t d r = record {
+      opening = r.closes.opening ∙ ap (λ (x : Config). x.clock) sized;
+      history = history-of good w stm.config sized (descs_of ran) r.words closed r.closes;
+      ran = record {
+        part = w;
+        header = refl;
+        each = λ n lt. ([], items_of n w.items, sym (append-nil (items_of n w.items)), inl refl);
+        report = report;
+        shown = shown good w stm items sized theorem ran r.words closed report (stands ran t) t.count d.1 r.closes r.is;
+      };
+    }
+
     -- what `step` came to
     pub has-stepped : (begun ran : List (Worker K)) (gos : List Go) (lines : List Line) (how : Result (Unit {0}) Halt) (outcome : Outcome) → gos ≡ w.schedule → Begun good w stm items sized begun → Turned ran → Drives stm.config gos begun ran lines how
         → Came good stm ran how outcome → HasStepped w lines outcome
     has-stepped begun ran gos lines (Ok x) (ToEnd report closed) is b t d c = traced begun ran gos lines report closed is b t d c
     has-stepped begun ran gos lines (Ok x) (ToLimit clock closed) is b t d c = absurd c
-    has-stepped begun ran gos lines (Ok x) (OutOfMemory closed) is b t d c = absurd c
+    has-stepped begun ran gos lines (Ok x) (OutOfMemory closed) is b t d c = stopped-whole begun ran gos lines c.0 closed b t d c.1
     has-stepped begun ran gos lines (Err (ClockFull found)) (ToEnd report closed) is b t d c = absurd c
     has-stepped begun ran gos lines (Err (ClockFull found)) (ToLimit clock closed) is b t d c =
         cut good w stm items sized begun ran gos lines clock closed is b (subst (λ k. Drives stm.config gos begun ran lines (Err (ClockFull k))) (sym c.0) d) c.1 (ran-part ran closed t c.1)

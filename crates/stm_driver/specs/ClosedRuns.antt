@@ -36,7 +36,7 @@ module _ {K : Type 0} (good : List ℕ → Type 0) (stm : Stm K) where
   abbrev pub Came : List (Worker K) → Result (Unit {0}) Halt → Outcome → Type 0
   Came ws (Ok x) (outcomes.ToEnd report closed) = Reported ws report closed
   Came ws (Ok x) (outcomes.ToLimit clock closed) = ⊥
-  Came ws (Ok x) (outcomes.OutOfMemory closed) = ⊥
+  Came ws (Ok x) (outcomes.OutOfMemory closed) = (report : Report) × Reported ws report closed
   Came ws (Err (ClockFull found)) (outcomes.ToEnd report closed) = ⊥
   Came ws (Err (ClockFull found)) (outcomes.ToLimit clock closed) = (clock ≡ found) × CutShort ws closed
   Came ws (Err (ClockFull found)) (outcomes.OutOfMemory closed) = ⊥

@@ -1,5 +1,5 @@
 -- What stands before the first turn.
-use Rattle.std.specs.Prelude.{ℕ, ◌≡◌, List, [], length, All, slice_index_or}
+use Rattle.std.specs.Prelude.{ℕ, ◌≡◌, ◌≤◌, List, [], length, All, slice_index_or, vec_len, vec_capacity}
 use Rattle.stm_rule.specs.declared.stm.Stm.{Stm}
 use Rattle.stm_script.specs.declared.workload.Header.{Header}
 use Rattle.stm_script.specs.declared.workload.Item.{Item}
@@ -8,7 +8,12 @@ use Rattle.stm_script.specs.declared.workload.Workload.{Workload}
 use Rattle.stm_script.specs.Keeping.{ScriptKeeps}
 use Rattle.stm_rule.specs.Callers.{Handle}
 use Rattle.stm_worker.specs.declared.worker.Worker.{Worker}
-use Rattle.stm_driver.specs.AllWorkers.{AreMade}
+use Rattle.stm_text.specs.declared.parse.Mode.{Mode}
+use Rattle.stm_text.specs.Built.{IsBuilt}
+use Rattle.stm_driver.specs.declared.preparing.Prepared.{Prepared}
+use Rattle.stm_driver.specs.declared.preparing.Room.{Room}
+use Rattle.stm_driver.specs.AllWorkers.{AreMade, workers_in}
+use Rattle.stm_driver.specs.Partings.{parted}
 use Rattle.stm_script.specs.Workloads.{config_of}
 use Rattle.stm_driver.specs.Openings.{AllNew}
 
@@ -27,3 +32,18 @@ pub record IsPrepared {K : Type 0} (h : Header) (parts : List (List Item)) (stm 
   pub count : length descs ≡ h.callers
   pub new : AllNew stm h.alg 0 descs
   pub made : AreMade (λ n. slice_index_or parts n []) h.alg 0 descs ws
+
+-- all are empty, with room for so many descriptors, rows and words
+pub record HasRoom {K : Type 0} (callers items words : ℕ) (room : Room K) : Type 0 where
+  pub empty : (room.descs.items ≡ []) × (room.rows.items ≡ []) × (room.words.items ≡ [])
+  pub none : (vec_len room.descs ≡ 0) × (vec_len room.rows ≡ 0) × (vec_len room.words ≡ 0)
+  pub descs : callers ≤ vec_capacity room.descs
+  pub rows : items ≤ vec_capacity room.rows
+  pub words : words ≤ vec_capacity room.words
+
+-- this is a workload that is prepared, and its scripts keep the rule
+pub record IsReadyFor {K : Type 0} (good : List ℕ → Type 0) (m : Mode) (w : Workload) (p : Prepared K) : Type 0 where
+  pub built : IsBuilt m w
+  pub keeps : WorkloadKeeps good w
+  pub prepared : IsPrepared w.header (parted w.header.callers w.items) p.stm (workers_in p.runners.items)
+  pub room : HasRoom w.header.callers (length w.items) w.header.words p.room

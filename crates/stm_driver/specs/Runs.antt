@@ -86,7 +86,7 @@ pub record IsStopped (w : Workload) (closed : Ended) : Type 0 where
 abbrev pub HasRun : Workload → Outcome → Type 0
 HasRun w (ToEnd report closed) = IsShown w report closed
 HasRun w (ToLimit clock closed) = IsFull w clock closed
-HasRun w (OutOfMemory closed) = ⊥
+HasRun w (OutOfMemory closed) = (report : Report) × IsShown w report closed
 
 abbrev pub HasStepped : Workload → List Line → Outcome → Type 0
 HasStepped w lines (ToEnd report closed) = IsTraced w lines report closed

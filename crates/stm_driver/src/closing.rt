@@ -1,5 +1,6 @@
 //! The end of a run, whatever it came to: the memory is closed.
-ghost use Rattle.std.specs.Prelude.{◌≡◌, ◌≤◌, [], All, length, vec_len, vec_capacity, IfOk, OnOk};
+ghost use Rattle.std.specs.Prelude.{◌≡◌, All, IsPermutation, length, IfErr, IfOk, OnOk};
+ghost use Rattle.stm_script.specs.declared.report.Report.{Report};
 ghost use Rattle.stm_trace.specs.declared.said.Phase.TheVariants.{Between};
 ghost use Rattle.stm_worker.specs.declared.worker.Worker.{Worker};
 ghost use Rattle.stm_worker.specs.Leavings.{MadeIdle};
@@ -7,58 +8,54 @@ ghost use Rattle.stm_worker.specs.Workers.{Sound};
 ghost use Rattle.stm_driver.specs.AllWorkers.{AreCallers, AreMadeIdle, worker_in, workers_in, rows_of};
 ghost use Rattle.stm_driver.specs.Schedules.{AreSound};
 ghost use Rattle.stm_driver.specs.ClosedRuns.{Came, IsReport};
+ghost use Rattle.stm_driver.specs.Preparings.{HasRoom};
 
 use crate::order::order;
 use crate::outcome::Outcome;
+use crate::preparing::Room;
 use crate::schedule::Halt;
 use crate::workers::{Runner, take_apart};
 use crossbeam_utils::CachePadded;
 use std::alloc::Global;
 use stm_model::memory::Memory;
 use stm_model::rule::MemRule;
-use stm_rule::closing::close;
-use stm_rule::desc::Desc;
+use stm_rule::closing::close_into;
 use stm_rule::stm::Stm;
 use stm_script::pairs::pairs;
 use stm_script::report::{Report, Row, Rows};
 use stm_worker::leaving::make_idle;
 
-/// Ends what is open without a row, and closes the memory. `how` is how the turns ended, and `descs` and
-/// `rows` are empty, with room for all.
-///
-/// # Errors
-/// Memory, where the words of the memory or of the report find none.
+/// Ends what is open without a row, and closes the memory, whatever happens: `room` is there for it. `how` is how the
+/// turns ended.
 pub fn close_memory<K: MemRule + Drop>(
     alloc: Global,
     stm: Stm<K>,
     mut runners: Vec<CachePadded<Runner<K>>>,
-    mut descs: Vec<Desc<K>>,
-    mut rows: Vec<Row>,
+    room: Room<K>,
     how: Result<(), Halt>,
-) -> Result<Outcome, Memory>
+) -> Outcome
     requires sound { AreSound (K.good stm.rule) stm (workers_in runners.items) }
     requires callers { AreCallers 0 (workers_in runners.items) }
     requires all { length (workers_in runners.items) ≡ stm.config.callers }
     requires through { OnOk how (All (λ (w : Worker K). w.phase ≡ Between) (workers_in runners.items)) }
-    requires empty { (descs.items ≡ []) × (vec_len descs ≡ 0) × (rows.items ≡ []) × (vec_len rows ≡ 0) }
-    requires descs { length (workers_in runners.items) ≤ vec_capacity descs }
-    requires rows { length (rows_of (workers_in runners.items)) ≤ vec_capacity rows }
-    ensures { IfOk result (Came (K.good stm.rule) stm (workers_in runners.entry.items) how) }
+    requires room { HasRoom (length (workers_in runners.items)) (length (rows_of (workers_in runners.items))) stm.config.words room }
+    ensures { Came (K.good stm.rule) stm (workers_in runners.entry.items) how result }
 {
     make_all_idle(&stm, runners.as_mut_slice());
+    let Room {
+        mut descs,
+        mut rows,
+        mut words,
+    } = room;
     take_apart(runners, &mut descs, &mut rows);
-    let Ok((words, closed)) = close(alloc, stm, descs) else {
-        return Err(Memory);
-    };
+    let closed = close_into(stm, descs, &mut words);
     match how {
-        Ok(()) => {
-            let report = report_of(alloc, rows, words.as_slice())?;
-            Ok(Outcome::ToEnd { report, closed })
-        }
-        Err(halt) => match halt {
-            Halt::ClockFull { clock } => Ok(Outcome::ToLimit { clock, closed }),
-            Halt::Memory => Ok(Outcome::OutOfMemory { closed }),
+        Ok(()) => match report_of(alloc, rows, words.as_slice()) {
+            Ok(report) => Outcome::ToEnd { report, closed },
+            Err(Memory) => Outcome::OutOfMemory { closed },
         },
+        Err(Halt::ClockFull { clock }) => Outcome::ToLimit { clock, closed },
+        Err(Halt::Memory) => Outcome::OutOfMemory { closed },
     }
 }
 
@@ -83,7 +80,8 @@ fn idle_one<K: MemRule>(stm: &Stm<K>, runner: &mut CachePadded<Runner<K>>)
 
 /// The report of these rows and of the memory that has these words.
 fn report_of(alloc: Global, mut rows: Vec<Row>, words: &[u64]) -> Result<Report, Memory>
-    ensures { IfOk result (IsReport rows.items words.now) }
+    ensures is { IfOk result (IsReport rows.items words.now) }
+    ensures refused { IfErr result (λ e. (report : Report) × IsReport rows.items words.now report) }
 {
     order(rows.as_mut_slice());
     let memory = pairs(alloc, words)?;

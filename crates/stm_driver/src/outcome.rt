@@ -10,6 +10,6 @@ pub enum Outcome {
     ToEnd { report: Report, closed: Closed },
     /// A call found the clock at its limit; what was open then ended without a row.
     ToLimit { clock: u64, closed: Closed },
-    /// Memory was refused between two turns; what was open then ended without a row.
+    /// Memory was refused between two turns, or for the report: what was open then ended without a row.
     OutOfMemory { closed: Closed },
 }

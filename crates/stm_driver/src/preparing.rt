@@ -1,8 +1,8 @@
 //! What stands before the first turn: a memory that is open for a workload, and a worker for each caller.
-ghost use Rattle.std.specs.Prelude.{◌≡◌, ◌≤◌, [], length, replicate, vec_len, vec_capacity, IfOk};
+ghost use Rattle.std.specs.Prelude.{◌≡◌, length, replicate, IfOk};
 ghost use Rattle.stm_text.specs.Built.{HeaderFits};
 ghost use Rattle.stm_driver.specs.AllWorkers.{workers_in};
-ghost use Rattle.stm_driver.specs.Preparings.{IsPrepared};
+ghost use Rattle.stm_driver.specs.Preparings.{HasRoom, IsPrepared};
 
 use crate::opening::open;
 use crate::parting::CallerItems;
@@ -17,21 +17,30 @@ use stm_rule::stm::Stm;
 use stm_script::report::Row;
 use stm_script::workload::Header;
 
-/// An open memory, and a worker for each caller.
+/// The room for what a closing gives. All three are empty.
+#[derive(Drop)]
+pub struct Room<K: MemRule> {
+    /// For all descriptors.
+    pub descs: Vec<Desc<K>>,
+    /// For a row an item.
+    pub rows: Vec<Row>,
+    /// For the words of the heap.
+    pub words: Vec<u64>,
+}
+
+/// An open memory, a worker for each caller, and the room for what they leave: what a run takes, but for a trace and
+/// a report.
 #[derive(Drop)]
 pub struct Prepared<'a, K: MemRule> {
     pub stm: Stm<K>,
     pub runners: Vec<CachePadded<Runner<'a, K>>>,
-    /// None, with room for all descriptors.
-    pub descs: Vec<Desc<K>>,
-    /// None, with room for a row an item.
-    pub rows: Vec<Row>,
+    pub room: Room<K>,
 }
 
 /// Opens a memory under this rule for a header, whose callers are to do these parts, of so many items in all.
 ///
 /// # Errors
-/// Memory, where it is refused: all that the turns of a run take is taken here.
+/// Memory, where it is refused: here alone can a run end with nothing closed, since no turn was taken.
 pub fn prepare<'a, R: Wait, K: MemRule + Drop>(
     rt: &R,
     alloc: Global,
@@ -45,18 +54,14 @@ pub fn prepare<'a, R: Wait, K: MemRule + Drop>(
     requires parts { length parts.now ≡ header.now.callers }
     ensures prepared { IfOk result (λ p. IsPrepared header.now parts.now p.stm (workers_in p.runners.items)) }
     ensures rule { IfOk result (λ p. p.stm.rule ≡ rule) }
-    ensures empty { IfOk result (λ p. (p.descs.items ≡ []) × (vec_len p.descs ≡ 0) × (p.rows.items ≡ []) × (vec_len p.rows ≡ 0)) }
-    ensures descs { IfOk result (λ p. header.now.callers ≤ vec_capacity p.descs) }
-    ensures rows { IfOk result (λ p. items ≤ vec_capacity p.rows) }
+    ensures room { IfOk result (λ p. HasRoom header.now.callers items header.now.words p.room) }
 {
     let (stm, descs) = open(rt, alloc, header, rule)?;
-    let idle = Vec::with_capacity(alloc, header.callers)?;
-    let rows = Vec::with_capacity(alloc, items)?;
     let runners = make_workers(alloc, descs, parts, header.alg)?;
-    Ok(Prepared {
-        stm,
-        runners,
-        descs: idle,
-        rows,
-    })
+    let room = Room {
+        descs: Vec::with_capacity(alloc, header.callers)?,
+        rows: Vec::with_capacity(alloc, items)?,
+        words: Vec::with_capacity(alloc, header.words)?,
+    };
+    Ok(Prepared { stm, runners, room })
 }

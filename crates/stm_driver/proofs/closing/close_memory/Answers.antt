@@ -1,28 +1,31 @@
-use Rattle.std.proofs.Common.{ap, sym, ◌∙◌, length, subst, ◌≡◌, ◌≤◌, refl}
-use Rattle.std.specs.Prelude.{vec_capacity, OnOk, All, Err}
+use Rattle.std.proofs.Common.{ℕ, ap, sym, ◌∙◌, length, subst, ◌≡◌, ◌≤◌, List, refl}
+use Rattle.std.specs.Prelude.{vec_capacity, OnOk, All, Ok, Err, IsPermutation}
+use Rattle.std.proofs.lemmas.List.Sorted.{IsPermutation-trans}
 use Rattle.stm_rule.specs.Callers.{AllIdle}
 use Rattle.stm_rule.specs.Closings.{Closes}
+use Rattle.stm_script.specs.declared.report.Report.{Report}
+use Rattle.stm_script.specs.declared.report.Row.{Row}
 use Rattle.stm_trace.specs.declared.said.Phase.TheVariants.{Between}
 use Rattle.stm_worker.specs.declared.worker.Worker.{Worker}
 use Rattle.stm_driver.specs.AllWorkers.{workers_in, descs_of, rows_of}
 use Rattle.stm_driver.specs.declared.outcome.Outcome.TheVariants.{ToEnd, ToLimit, OutOfMemory}
-use Rattle.stm_driver.specs.ClosedRuns.{Came, IsReport}
+use Rattle.stm_driver.specs.ClosedRuns.{Came, IsReport, Reported}
 use Rattle.stm_driver.specs.Schedules.{AreSound}
-use Rattle.stm_driver.proofs.IdleLaws.{came-back, descs-count, idle-still}
+use Rattle.stm_driver.proofs.IdleLaws.{CameBack, came-back, descs-count, idle-still}
 use Rattle.stm_driver.proofs.closing.close_memory.Goals as goal
 
 pub take_apart-requires-clause-rows : goal.take_apart-requires-clause-rows
 take_apart-requires-clause-rows g c =
     let back = came-back (g.K.MemRule.good c.args.stm.rule) c.args.stm c.args.runners.items c.as_mut_slice.result.now c.make_all_idle.new.runners c.args.runners.len c.as_mut_slice.ensures.value c.as_mut_slice.ensures.len c.requires.callers c.make_all_idle.ensures in
-    subst (λ l. length l ≤ vec_capacity c.args.rows) (sym (ap rows_of back.is ∙ back.rows)) c.requires.rows
+    subst (λ l. length l ≤ vec_capacity c.args.room.rows) (sym (ap rows_of back.is ∙ back.rows)) c.requires.room.rows
 
-pub close-requires-clause-descs : goal.close-requires-clause-descs
-close-requires-clause-descs g c =
+pub close_into-closed-requires-clause-descs : goal.close_into-closed-requires-clause-descs
+close_into-closed-requires-clause-descs g c =
     let back = came-back (g.K.MemRule.good c.args.stm.rule) c.args.stm c.args.runners.items c.as_mut_slice.result.now c.make_all_idle.new.runners c.args.runners.len c.as_mut_slice.ensures.value c.as_mut_slice.ensures.len c.requires.callers c.make_all_idle.ensures in
     subst (AllIdle c.args.stm 0) (sym (c.take_apart.ensures.descs ∙ ap descs_of back.is)) back.descs
 
-pub close-requires-clause-all : goal.close-requires-clause-all
-close-requires-clause-all g c =
+pub close_into-closed-requires-clause-all : goal.close_into-closed-requires-clause-all
+close_into-closed-requires-clause-all g c =
     let back = came-back (g.K.MemRule.good c.args.stm.rule) c.args.stm c.args.runners.items c.as_mut_slice.result.now c.make_all_idle.new.runners c.args.runners.len c.as_mut_slice.ensures.value c.as_mut_slice.ensures.len c.requires.callers c.make_all_idle.ensures in
     ap length (c.take_apart.ensures.descs ∙ ap descs_of back.is) ∙ (descs-count (workers_in c.make_all_idle.new.runners) ∙ (back.count ∙ c.requires.all))
 
@@ -35,32 +38,8 @@ returns-in-Ok-how g c =
     let ws = workers_in c.args.runners.items in
     let between = subst (λ h. OnOk h (All (λ (w : Worker g.row.K.Denot). w.phase ≡ Between) ws)) c.in-Ok-how.is c.requires.through in
     let after : workers_in c.make_all_idle.new.runners ≡ ws = idle-still (g.K.MemRule.good c.args.stm.rule) c.args.stm ws (workers_in c.make_all_idle.new.runners) between back.idle in
-    subst (λ h. Came (g.K.MemRule.good c.args.stm.rule) c.args.stm (workers_in c.args.runners.items) h (ToEnd c.in_ok-report-in-Ok-how.report c.in-Ok.closed)) (sym c.in-Ok-how.is) (record {
-      words = c.in-Ok.words.items;
-      closes = subst (λ ds. Closes (g.K.MemRule.good c.args.stm.rule) c.args.stm.config ds c.in-Ok.words.items c.in-Ok.closed) (c.take_apart.ensures.descs ∙ (ap descs_of back.is ∙ ap descs_of after)) c.in-Ok.ensures.closes;
-      is = subst (λ ns. IsReport (rows_of ws) ns c.in_ok-report-in-Ok-how.report) c.as_slice.ensures.value
-          (subst (λ rows. IsReport rows c.as_slice.result.now c.in_ok-report-in-Ok-how.report) (c.take_apart.ensures.rows ∙ (ap rows_of back.is ∙ ap rows_of after)) c.in_ok-report-in-Ok-how.ensures);
+    subst (λ h. Came (g.K.MemRule.good c.args.stm.rule) c.args.stm (workers_in c.args.runners.items) h (ToEnd c.in-Ok-report.report c.close_into-closed.result)) (sym c.in-Ok-how.is) (record {
+      words = c.close_into-closed.new.words.items;
+      closes = subst (λ ds. Closes (g.K.MemRule.good c.args.stm.rule) c.args.stm.config ds c.close_into-closed.new.words.items c.close_into-closed.result) (c.take_apart.ensures.descs ∙ (ap descs_of back.is ∙ ap descs_of after)) c.close_into-closed.ensures;
+      is = c.report_of.ensures;
     })
-
-pub returns-in-ClockFull : goal.returns-in-ClockFull
-returns-in-ClockFull g c =
-    let back = came-back (g.K.MemRule.good c.args.stm.rule) c.args.stm c.args.runners.items c.as_mut_slice.result.now c.make_all_idle.new.runners c.args.runners.len c.as_mut_slice.ensures.value c.as_mut_slice.ensures.len c.requires.callers c.make_all_idle.ensures in
-    subst (λ h. Came (g.K.MemRule.good c.args.stm.rule) c.args.stm (workers_in c.args.runners.items) h (ToLimit c.in-ClockFull.clock c.in-Ok.closed)) (sym c.in-Err.is) (subst (λ halt. Came (g.K.MemRule.good c.args.stm.rule) c.args.stm (workers_in c.args.runners.items) (Err halt) (ToLimit c.in-ClockFull.clock c.in-Ok.closed)) (sym c.in-ClockFull.is) (
-      refl,
-      record {
-        words = c.in-Ok.words.items;
-        after = workers_in c.make_all_idle.new.runners;
-        idle = back.idle;
-        closes = subst (λ ds. Closes (g.K.MemRule.good c.args.stm.rule) c.args.stm.config ds c.in-Ok.words.items c.in-Ok.closed) (c.take_apart.ensures.descs ∙ ap descs_of back.is) c.in-Ok.ensures.closes;
-      },
-    ))
-
-pub returns : goal.returns
-returns g c =
-    let back = came-back (g.K.MemRule.good c.args.stm.rule) c.args.stm c.args.runners.items c.as_mut_slice.result.now c.make_all_idle.new.runners c.args.runners.len c.as_mut_slice.ensures.value c.as_mut_slice.ensures.len c.requires.callers c.make_all_idle.ensures in
-    subst (λ h. Came (g.K.MemRule.good c.args.stm.rule) c.args.stm (workers_in c.args.runners.items) h (OutOfMemory c.in-Ok.closed)) (sym c.in-Err.is) (subst (λ halt. Came (g.K.MemRule.good c.args.stm.rule) c.args.stm (workers_in c.args.runners.items) (Err halt) (OutOfMemory c.in-Ok.closed)) (sym c.in-Memory.is) (record {
-      words = c.in-Ok.words.items;
-      after = workers_in c.make_all_idle.new.runners;
-      idle = back.idle;
-      closes = subst (λ ds. Closes (g.K.MemRule.good c.args.stm.rule) c.args.stm.config ds c.in-Ok.words.items c.in-Ok.closed) (c.take_apart.ensures.descs ∙ ap descs_of back.is) c.in-Ok.ensures.closes;
-    }))
