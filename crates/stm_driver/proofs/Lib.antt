@@ -15,3 +15,4 @@ mod SortLaws
 mod PartLaws
 mod LimitLaws
 mod OutcomeLaws
+mod KeepingLaws

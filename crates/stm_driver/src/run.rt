@@ -21,6 +21,7 @@ use stm_model::memory::Memory;
 use stm_model::rule::MemRule;
 use stm_script::laws::report_replays;
 use stm_script::workload::Workload;
+use stm_text::laws::built_workloads_fit;
 use stm_worker::turnstile::Turnstile;
 
 /// Runs the transactions of all callers, each caller's in the order of the text, on a thread a caller. `rule`
@@ -50,13 +51,15 @@ pub fn run<R: Threads + Wait + Sync, K: MemRule + Drop + Send + Sync, G: Turnsti
     } = workload;
     let count = items.as_slice().len();
     let parts = part(alloc, header.callers, items.into_vec())?;
+    let regions = header.regions(alloc)?;
+    built_workloads_fit();
     report_replays(&rule);
     let Prepared {
         stm,
         mut runners,
         descs,
         rows,
-    } = prepare(rt, alloc, rule, &header, parts.as_slice(), count)?;
+    } = prepare(rt, alloc, rule, &header, parts.as_slice(), &regions, count)?;
     run_all(rt, &stm, turnstile, runners.as_mut_slice());
     let how = how_ended(runners.as_slice());
     close_memory(alloc, stm, runners, descs, rows, how)

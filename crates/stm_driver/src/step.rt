@@ -16,6 +16,7 @@ use stm_model::memory::Memory;
 use stm_model::rule::MemRule;
 use stm_script::laws::report_replays;
 use stm_script::workload::Workload;
+use stm_text::laws::built_workloads_fit;
 use stm_trace::line::Line;
 
 /// Runs the transactions of all callers in the turns of the workload's schedule, and then each caller's to
@@ -42,13 +43,15 @@ pub fn step<R: Wait, K: MemRule + Drop>(
     } = workload;
     let count = items.as_slice().len();
     let parts = part(alloc, header.callers, items.into_vec())?;
+    let regions = header.regions(alloc)?;
+    built_workloads_fit();
     report_replays(&rule);
     let Prepared {
         stm,
         mut runners,
         descs,
         rows,
-    } = prepare(rt, alloc, rule, &header, parts.as_slice(), count)?;
+    } = prepare(rt, alloc, rule, &header, parts.as_slice(), &regions, count)?;
     let mut lines = Vec::new(alloc);
     let how = drive(
         rt,
