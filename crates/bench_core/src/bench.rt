@@ -11,13 +11,13 @@ use crate::status::Status;
 use std::alloc::Global;
 use std::sync::Wait;
 use std::thread::Threads;
+use stm_driver::laws::regions_are_kept;
 use stm_driver::outcome::Outcome;
 use stm_driver::run::run;
 use stm_driver::step::step;
 use stm_io::ends::{Failed, Sink, Source};
 use stm_io::whole::{ReadError, put_all, read_all};
 use stm_model::memory::Memory;
-use stm_model::rule::AnyMem;
 use stm_rule::ending::Closed;
 use stm_script::workload::Workload;
 use stm_text::parse::{Mode, ParseError, parse};
@@ -45,6 +45,8 @@ struct Saying {
 ///
 /// `Ok` and `ClockFull` leave in `last` the closed memory of this call's run; every other status leaves
 /// `last` as it was.
+///
+/// With structures on, the memory's rule is that each of their regions is well formed; with them off there is none.
 ///
 /// `rt` is the runtime value that waiting calls and threads take: a transaction that does not get the memory
 /// begins again, for as long as it takes. `turnstile` is passed right before an attempt's first commit; see
@@ -144,7 +146,9 @@ fn report<R: Threads + Wait + Sync, G: Turnstile + Sync>(
     requires { IsBuilt Run workload }
     ensures { IfOk result (λ s. SaidOfRun Run workload s.status s.closed s.text.items) }
 {
-    match run(rt, alloc, AnyMem, workload, turnstile)? {
+    regions_are_kept();
+    let rule = workload.header.regions(alloc)?;
+    match run(rt, alloc, rule, workload, turnstile)? {
         Outcome::ToEnd { report, closed } => Ok(Saying {
             status: Status::Ok,
             text: report_text(alloc, &report)?,
@@ -164,7 +168,9 @@ fn trace<R: Wait>(rt: &R, alloc: Global, workload: Workload) -> Result<Saying, M
     requires { IsBuilt Step workload }
     ensures { IfOk result (λ s. SaidOfRun Step workload s.status s.closed s.text.items) }
 {
-    let (lines, outcome) = step(rt, alloc, AnyMem, workload)?;
+    regions_are_kept();
+    let rule = workload.header.regions(alloc)?;
+    let (lines, outcome) = step(rt, alloc, rule, workload)?;
     match outcome {
         Outcome::ToEnd { report, closed } => Ok(Saying {
             status: Status::Ok,

@@ -8,9 +8,13 @@ mod cases;
 mod command;
 mod messages;
 pub mod program;
+#[cfg(test)]
+mod random_tests;
 pub mod status;
 #[cfg(test)]
 mod step_tests;
+#[cfg(test)]
+mod structure_tests;
 #[cfg(test)]
 mod tests;
 #[cfg(test)]
