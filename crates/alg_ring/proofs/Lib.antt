@@ -6,3 +6,5 @@ pub mod Checks
 pub mod Beginning
 pub mod Ending
 pub mod Buffering
+pub mod CellsOf
+pub mod FilterWords
