@@ -1,6 +1,6 @@
 -- The words of a filter: those of the ring are those of the logs, and the order of the addresses is free.
-use Rattle.std.proofs.Common.{ℕ, zero, suc, ◌≡◌, ◌<◌, ◌+◌, ◌*◌, ◌/◌, ◌%◌, ◌^◌, List, [], ◌∷◌, ◌++◌, Bool, true, false, refl, sym, ap, ◌∙◌, arith}
-use Rattle.std.specs.Prelude.{◌==◌, if◌then◌else◌, bit_or, max, map}
+use Rattle.std.proofs.Common.{ℕ, zero, suc, ◌≡◌, ◌<◌, ◌≤◌, ◌+◌, ◌*◌, ◌/◌, ◌%◌, ◌^◌, List, [], ◌∷◌, ◌++◌, Bool, true, false, refl, sym, ap, ◌∙◌, arith}
+use Rattle.std.specs.Prelude.{◌==◌, ◌&&◌, ◌||◌, not, if◌then◌else◌, bit_and, bit_or, max, map}
 use Rattle.std.specs.Int.{bit_at}
 use Rattle.std.proofs.lemmas.Bool.Decides.{nat_tests}
 use Rattle.std.proofs.lemmas.Nat.Bits.{bit_at_or, same_from_bits}
@@ -9,7 +9,7 @@ use Rattle.rule_base.specs.declared.entries.Cell.{Cell}
 use Rattle.rule_base.specs.Bridge.{items}
 use Rattle.rule_ring.specs.SlotFilter.{slot_filter}
 use Rattle.rule_ring.specs.SlotFilter as ring
-use Rattle.tx_logs.specs.Filters.{address_word, filter_word}
+use Rattle.tx_logs.specs.Filters.{address_word, filter_word, word_meets, part_meets, meets, lowest_from, lowest_common}
 use Rattle.tx_logs.specs.Filters as logs
 use Rattle.stm_rule.specs.RecordsKept.{cells_of}
 
@@ -81,3 +81,22 @@ slot-cells (w ∷ ws) i = slot-last (cells_of ws) (record { at = w.0; value = w.
 -- a write more adds the bits of its address
 pub slot-put : (a x i : ℕ) (ws : List (ℕ × ℕ)) → slot_filter.word (cells_of (put a x ws)) i ≡ bit_or (address_word a i) (slot_filter.word (cells_of ws) i)
 slot-put a x i ws = slot-cells (put a x ws) i ∙ (filter-put a x i ws ∙ ap (bit_or (address_word a i)) (sym (slot-cells ws i)))
+
+-- FILTERS OF THE SAME WORDS
+module _ (f g h : ℕ → ℕ) (same : (i : ℕ) → i < 16 → f i ≡ g i) where
+  word : (i : ℕ) → i < 16 → word_meets f h i ≡ word_meets g h i
+  word i low = ap (λ (k : ℕ). not (bit_and k (h i) == 0)) (same i low)
+
+  part : (p : ℕ) → p < 4 → part_meets f h p ≡ part_meets g h p
+  part p low = λ i. word (4 * p) (omega arith) i || (word (4 * p + 1) (omega arith) i || (word (4 * p + 2) (omega arith) i || word (4 * p + 3) (omega arith) i))
+
+  pub meets-same : meets f h ≡ meets g h
+  meets-same = λ i. part 0 (omega arith) i && (part 1 (omega arith) i && (part 2 (omega arith) i && part 3 (omega arith) i))
+
+  lowest-from : (n i : ℕ) → i + n ≤ 16 → lowest_from f h i n ≡ lowest_from g h i n
+  unfolding lowest_from
+  lowest-from zero i low = refl
+  lowest-from (suc n) i low = λ j. if bit_and (same i (omega arith) j) (h i) == 0 then lowest-from n (i + 1) (omega arith) j else bit_and (same i (omega arith) j) (h i)
+
+  pub lowest-same : lowest_common f h ≡ lowest_common g h
+  lowest-same = lowest-from 16 0 (omega arith)

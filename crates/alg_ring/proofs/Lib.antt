@@ -8,3 +8,6 @@ pub mod Ending
 pub mod Buffering
 pub mod CellsOf
 pub mod FilterWords
+pub mod Refuting
+pub mod Reading
+pub mod Writing
