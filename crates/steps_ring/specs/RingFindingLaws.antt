@@ -4,6 +4,7 @@ use Rattle.std.specs.Prelude.{not, if◌then◌else◌}
 use Rattle.std.proofs.lemmas.Bool.Decides.{nat_tests}
 use Rattle.stm_model.specs.declared.config.Config.{Config}
 use Rattle.rule_base.specs.declared.views.Phase.TheVariants.{Idle, In}
+use Rattle.rule_base.specs.declared.views.View.{View}
 use Rattle.rule_base.specs.GateRule.{may_hold}
 use Rattle.rule_base.specs.History.{over, touches, upto, word_at, word_now, Explains}
 use Rattle.rule_base.specs.HistoryLemmas.{over-miss, word_now-upto}
