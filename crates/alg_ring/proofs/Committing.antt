@@ -20,7 +20,7 @@ use Rattle.rule_base.specs.StepKinds.{Tells}
 use Rattle.rule_ring.specs.RingSteps.{CanRingLock, ring_lock, no_turn}
 use Rattle.rule_seq.specs.CglSteps.{fresh_lock}
 use Rattle.stm_rule.specs.declared.local.Local.{Local}
-use Rattle.stm_rule.specs.Attempts.{IsInside}
+use Rattle.stm_rule.specs.Attempts.{IsInside, IsOutside, SameLengths, Stands, ended}
 use Rattle.stm_rule.specs.Attempts as attempts
 use Rattle.stm_rule.specs.Findings.{FindsLock}
 use Rattle.stm_rule.specs.RecordsKept.{cells_of}
@@ -45,6 +45,10 @@ tried n found = record { place = Lock; act = Exchange 0 (taken_lock n); found = 
 no-cells : (ws : List (ℕ × ℕ)) → not (is_empty ws) ≡ false → is_empty (items (cells_of ws)) ≡ true
 no-cells [] e = refl
 no-cells (w ∷ ws) e = absurd cc
+
+-- an attempt that ended leaves a descriptor that stands
+pub ended-stands : (good : List ℕ → Type 0) (c : Config) (n : ℕ) (l : Local) (w : View) → SameLengths l → IsOutside w → Stands good c n (ended l) w
+ended-stands good c n l w lengths out = record { holds = sym out.reopened; lengths = lengths; by = out }
 
 -- WHO WAS PROMOTED is alone, and in the middle of no commit
 module _ (good : List ℕ → Type 0) (c : Config) (n : ℕ) (l : Local) (v : View) (i : IsInside good c n l v) (named : v.gate.algorithm ≡ RingSw) (granted : l.granted ≡ true) where
@@ -110,7 +114,10 @@ module _ (good : List ℕ → Type 0) (c : Config) (n : ℕ) (l : Local) (v : Vi
 
     -- another caller has it
     module _ (found : ℕ) (w : View) (some : found ≢ 0) (t : Tells (ring_lock n) (FindsLock c n) v found w) where
-      again-path : w ≡ record v { steps = record v.steps { trail = tried n found ∷ v.steps.trail } }
+      abbrev again_at : View
+      again_at = record v { steps = record v.steps { trail = tried n found ∷ v.steps.trail } }
+
+      again-path : w ≡ again_at
       again-path = locked-path found w false (grind (arith, nat_tests)) t
 
       abbrev in_commit : Local
@@ -132,13 +139,10 @@ module _ (good : List ℕ → Type 0) (c : Config) (n : ℕ) (l : Local) (v : Vi
         looked = λ e. let h = i.looked e in record { low = h.low; seen = h.seen; unseen = h.unseen };
         granted = i.granted;
         steady = λ e. absurd (let f : true ≡ false = sym e ∙ (λ j. not (asks_at_commit (ring j)) || plain j) in cc);
-        keeps = subst (λ (a : Alg). attempts.Keeps c a l.granted in_commit y) (sym ring) (subst (λ (b : Bool). attempts.Keeps c RingSw b in_commit y) (sym plain) kept);
+        keeps = subst (λ (a : Alg). attempts.Keeps c a l.granted in_commit again_at) (sym ring) (subst (λ (b : Bool). attempts.Keeps c RingSw b in_commit again_at) (sym plain) kept);
       })
         where
-          y : View
-          y = record v { steps = record v.steps { trail = tried n found ∷ v.steps.trail } }
-
-          kept : IsRing c in_commit y
+          kept : IsRing c in_commit again_at
           kept = record {
             optimistic = record {
               unlocked = k.optimistic.unlocked;
@@ -182,10 +186,10 @@ module _ (good : List ℕ → Type 0) (c : Config) (n : ℕ) (l : Local) (v : Vi
           checked = ap (λ (y : View). y.gate.checked) again-path;
         },
         refl,
-        (λ j. record { reads = items (again-path j).attempt.reads; writes = written_under (again-path j).gate.algorithm (again-path j).gate.granted (again-path j) p }) ∙ (λ j. record { reads = items v.attempt.reads; writes = (written-is p same ∙ sym (written-is o same)) j }),
+        ap (λ (y : View). (known_of y p).log) again-path ∙ (λ j. record { reads = items v.attempt.reads; writes = ((λ h. written_under (named h) (k.optimistic.ungranted h) again_at p) ∙ (ap items same ∙ sym (written-is o same))) j }),
         opaque-inside good c n in_commit w p stays-again,
         inr (refl, named, refl, ((λ s. some (sym s)), tried n found ∷ [], trail, taken_lock n, (0, omega arith, refl)), t.1 some),
-        (let q = t.1 some in let a = q.1 in let d = q.2.0 in omega arith),
+        (let q = t.1 some in let a = q.1 in let d = q.2 in omega arith),
         ending.revocable good c n l v i named k o,
         wrote-is,
       )
