@@ -3,6 +3,17 @@ pub mod Words
 pub mod Meeting
 pub mod Slot
 pub mod Checks
+pub mod Prefixes
 pub mod Beginning
 pub mod Ending
 pub mod Buffering
+pub mod CellsOf
+pub mod FilterWords
+pub mod Refuting
+pub mod Reading
+pub mod Writing
+pub mod Checked
+pub mod Entering
+pub mod Finishing
+pub mod Committing
+pub mod Granting
