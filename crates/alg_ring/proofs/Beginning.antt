@@ -22,6 +22,7 @@ use Rattle.steps_ring.specs.RingFindings.{FindsStart}
 use Rattle.tx_answers.specs.Known.{known_of, granted_under, written_under}
 use Rattle.stm_gate.specs.Opacity.{opaque-at, later-seen}
 use Rattle.stm_gate.specs.Starts.{CanBegin, StartsAt}
+use Rattle.alg_ring.proofs.Seen.{upto-upto}
 
 -- the filter of no address
 no-word : (i : ℕ) → i < SLOT_WORDS → slice_index no_filter i ≡ slot_filter.word [] i

@@ -1,4 +1,5 @@
 pub mod Seats
+pub mod Seen
 pub mod Words
 pub mod Meeting
 pub mod Slot
