@@ -12,7 +12,6 @@ use Rattle.rule_base.specs.declared.views.Act.TheVariants.{Load}
 use Rattle.rule_base.specs.declared.views.View.{View}
 use Rattle.rule_base.specs.Bridge.{items, of_words, public_history}
 use Rattle.rule_base.specs.History.{upto}
-use Rattle.alg_ring.proofs.Prefixes.{upto-upto}
 use Rattle.rule_base.specs.StepKinds.{Tells, view_after}
 use Rattle.rule_base.specs.World.{World}
 use Rattle.rule_ring.specs.RingSteps.{ring_begin, CanRingBegin, RingBegins}

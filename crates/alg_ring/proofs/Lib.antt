@@ -4,7 +4,6 @@ pub mod Words
 pub mod Meeting
 pub mod Slot
 pub mod Checks
-pub mod Prefixes
 pub mod Beginning
 pub mod Ending
 pub mod Buffering
