@@ -1,7 +1,6 @@
 -- What the parts of a call of RingSW ask and tell.
-use Rattle.std.specs.Prelude.{ℕ, ◌≡◌, ◌≢◌, ◌+◌, ◌<◌, ◌≤◌, ◌++◌, true, false, List, [], ◌∷◌, None}
+use Rattle.std.specs.Prelude.{ℕ, ◌≡◌, ◌+◌, ◌<◌, ◌≤◌, ◌++◌, true, false, List, [], ◌∷◌, None}
 use Rattle.stm_model.specs.Algorithms.{asks_at_grant}
-use Rattle.stm_model.specs.Logs.{Keeps}
 use Rattle.stm_model.specs.Memories.{Once}
 use Rattle.stm_model.specs.declared.alg.Alg.TheVariants.{RingSw}
 use Rattle.stm_model.specs.declared.config.Config.{Config}
@@ -9,7 +8,7 @@ use Rattle.stm_model.specs.declared.config.TheConstants.{CLOCK_LIMIT}
 use Rattle.rule_base.specs.declared.entries.Entry.{Entry}
 use Rattle.rule_base.specs.declared.views.TrailItem.{TrailItem}
 use Rattle.rule_base.specs.declared.views.View.{View}
-use Rattle.rule_base.specs.Bridge.{items, of_words}
+use Rattle.rule_base.specs.Bridge.{of_words}
 use Rattle.rule_base.specs.History as rules
 use Rattle.rule_base.specs.InstallSteps.{HasChecked}
 use Rattle.rule_base.specs.Own.{Own}
@@ -18,10 +17,9 @@ use Rattle.rule_ring.specs.RingSteps.{RingEnters, HasTurn, HasEntered, ring_entr
 use Rattle.rule_seq.specs.CglSteps.{fresh_lock}
 use Rattle.tx_logs.specs.LogStates.{LogState}
 use Rattle.stm_rule.specs.declared.local.Local.{Local}
-use Rattle.stm_rule.specs.Attempts.{IsInside, IsOutside, ended, own_of}
+use Rattle.stm_rule.specs.Attempts.{IsInside, IsOutside, ended}
 use Rattle.stm_rule.specs.RecordsKept.{Buffers, cells_of}
 use Rattle.tx_answers.specs.declared.answers.Commit.{Commit}
-use Rattle.tx_answers.specs.declared.answers.Commit.TheVariants as commits
 use Rattle.tx_answers.specs.declared.answers.Irrev.{Irrev}
 use Rattle.tx_answers.specs.declared.answers.Irrev.TheVariants as grants
 use Rattle.tx_answers.specs.declared.answers.Read.{Read}

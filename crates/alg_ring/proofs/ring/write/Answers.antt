@@ -1,11 +1,8 @@
-use Rattle.std.proofs.Common.{ℕ, List, ◌≡◌, ◌<◌, ap, refl, sym, subst, ◌∙◌, true, false, rules}
+use Rattle.std.proofs.Common.{ℕ, ◌≡◌, ◌<◌, ap, refl, sym, subst, ◌∙◌, true, rules}
 use Rattle.std.specs.Prelude.{◌^◌, Some}
 use Rattle.stm_model.specs.Memories.{put}
 use Rattle.stm_model.specs.declared.alg.Alg.TheVariants.{RingSw}
-use Rattle.stm_model.specs.declared.config.Config.{Config}
-use Rattle.rule_base.specs.declared.seats.Who.{Who}
 use Rattle.tx_logs.specs.LogStates.{LogState}
-use Rattle.stm_rule.specs.declared.local.Local.{Local}
 use Rattle.stm_rule.specs.Attempts.{SameLengths, own_of}
 use Rattle.stm_rule.specs.Callers.{Handle, handle_of}
 use Rattle.tx_answers.specs.declared.answers.Write.TheVariants as writes
