@@ -7,7 +7,7 @@ use Rattle.rule_base.specs.declared.views.TrailItem.{TrailItem}
 use Rattle.rule_base.specs.declared.views.View.{View}
 use Rattle.rule_base.specs.Bridge.{of_words, public_history}
 use Rattle.rule_base.specs.History.{upto}
-use Rattle.alg_ring.proofs.Prefixes.{upto-upto}
+use Rattle.alg_ring.proofs.Seen.{upto-upto}
 use Rattle.rule_base.specs.Own.{Own}
 use Rattle.rule_ring.specs.RingSteps.{RingBegins}
 use Rattle.tx_answers.specs.Known.{Known, Grows, known_of}

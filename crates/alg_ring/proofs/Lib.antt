@@ -1,9 +1,9 @@
 pub mod Seats
+pub mod Seen
 pub mod Words
 pub mod Meeting
 pub mod Slot
 pub mod Checks
-pub mod Prefixes
 pub mod Beginning
 pub mod Ending
 pub mod Buffering

@@ -20,7 +20,7 @@ use Rattle.rule_base.specs.declared.views.TrailItem.{TrailItem}
 use Rattle.rule_base.specs.declared.views.View.{View}
 use Rattle.rule_base.specs.Bridge.{items, of_words, public_history}
 use Rattle.rule_base.specs.History.{over, touches, upto, word_now}
-use Rattle.rule_base.specs.HistoryLemmas.{inside-more, over-miss, upto-upto}
+use Rattle.rule_base.specs.HistoryLemmas.{inside-more, over-miss}
 use Rattle.rule_base.specs.Own.{Own}
 use Rattle.rule_base.specs.StepKinds.{Nothing, Tells, view_after}
 use Rattle.rule_ring.specs.RingSteps.{HasRing, ring_load, CanRingLoad}
@@ -47,6 +47,7 @@ use Rattle.alg_ring.proofs.Buffering.{untouched-items}
 use Rattle.alg_ring.proofs.Ending.{revocable}
 use Rattle.alg_ring.proofs.FilterWords.{addresses, filter-put, slot-more}
 use Rattle.alg_ring.proofs.Refuting.{FindsAll, tells-behind, refuted}
+use Rattle.alg_ring.proofs.Seen.{upto-upto}
 
 module _ (good : List ℕ → Type 0) (c : Config) (n a : ℕ) (l : Local) (v : View) (i : IsInside good c n l v) (named : v.gate.algorithm ≡ RingSw) (plain : l.granted ≡ false) (k : IsRing c l v) where
   abbrev runs : HasRing v
