@@ -12,3 +12,8 @@ pub mod FilterWords
 pub mod Refuting
 pub mod Reading
 pub mod Writing
+pub mod Checked
+pub mod Entering
+pub mod Finishing
+pub mod Committing
+pub mod Granting
