@@ -12,7 +12,6 @@ use Rattle.rule_base.specs.declared.views.Act.TheVariants.{Load}
 use Rattle.rule_base.specs.declared.views.View.{View}
 use Rattle.rule_base.specs.Bridge.{items, of_words, public_history}
 use Rattle.rule_base.specs.History.{upto}
-use Rattle.rule_base.specs.HistoryLemmas.{upto-upto}
 use Rattle.rule_base.specs.StepKinds.{Tells, view_after}
 use Rattle.rule_base.specs.World.{World}
 use Rattle.rule_ring.specs.RingSteps.{ring_begin, CanRingBegin, RingBegins}
@@ -22,6 +21,7 @@ use Rattle.steps_ring.specs.RingFindings.{FindsStart}
 use Rattle.tx_answers.specs.Known.{known_of, granted_under, written_under}
 use Rattle.stm_gate.specs.Opacity.{opaque-at, later-seen}
 use Rattle.stm_gate.specs.Starts.{CanBegin, StartsAt}
+use Rattle.alg_ring.proofs.Seen.{upto-upto}
 
 -- the filter of no address
 no-word : (i : ℕ) → i < SLOT_WORDS → slice_index no_filter i ≡ slot_filter.word [] i

@@ -13,7 +13,7 @@ use Rattle.rule_base.specs.declared.views.TrailItem.{TrailItem}
 use Rattle.rule_base.specs.declared.views.View.{View}
 use Rattle.rule_base.specs.Bridge.{of_words}
 use Rattle.rule_base.specs.GateSteps.{granted_at}
-use Rattle.rule_base.specs.History.{upto}
+use Rattle.rule_base.specs.History.{upto, word_now, Explains}
 use Rattle.rule_base.specs.StepKinds.{Nothing, Tells, view_after}
 use Rattle.rule_base.specs.World.{World}
 use Rattle.rule_promoted.specs.PromotedSteps.{ring_look_grant, ring_move_grant, CanRingGrant, CanRingMoveGrant}
@@ -128,6 +128,7 @@ module _ (good : List ℕ → Type 0) (c : Config) (start : ℕ) (filter : List 
           steps = record v.steps { trail = record { place = Clock; act = Load; found = Some clock } ∷ v.steps.trail };
         });
         sees = subst (RingSees rule c m v) start_is s;
+        kept = subst (λ (k : ℕ). Explains (word_now (upto m.history k)) v.attempt.reads) start_is f.kept;
         later = (let e = start_is in omega arith);
         inside = has.inside;
         settled = refl;
@@ -173,8 +174,9 @@ module _ (good : List ℕ → Type 0) (c : Config) (start : ℕ) (filter : List 
   -- the check passes with the load of DONE
   pub moves-at : (m n : World) (clock done : ℕ) (gate : GateView) (words : List SlotWord) (more : List TrailItem) (w : View) → v.attempt.start ≡ start → HasRing v → clock ≢ start → (c.callers ≡ 1 → start ≡ c.clock + v.steps.rises) → FindsLook rule c m v clock
       → RingMoves rule c n (scanned c start clock (looked_at v clock false) words true more) done
+      → Explains (word_now (upto n.history (moved (scanned c start clock (looked_at v clock false) words true more) done))) v.attempt.reads
       → w ≡ record (view_after ring_move n (scanned c start clock (looked_at v clock false) words true more) done) { gate = gate } → Passes good c gate (max start (min done clock)) v w
-  moves-at m n clock done gate words more w start_is has apart sole f r is = record {
+  moves-at m n clock done gate words more w start_is has apart sole f r kept is = record {
     world = n;
     read = passed (record v.ring_read { checking = true; clock = clock; words = words; sure = true });
     more = move_steps clock done more;
@@ -186,6 +188,7 @@ module _ (good : List ℕ → Type 0) (c : Config) (start : ℕ) (filter : List 
       steps = record v.steps { trail = ap (λ (t : List TrailItem). record { place = Done; act = Load; found = Some done } ∷ t) (sym (append_assoc more (record { place = Clock; act = Load; found = Some clock } ∷ []) v.steps.trail)) i };
     });
     sees = subst (RingSees rule c n v) to (record { value = r.sees.value; sees = r.sees.sees; begins = record { legal = r.sees.begins.legal; below = r.sees.begins.below; seen = r.sees.begins.seen; front = r.sees.begins.front; limit = r.sees.begins.limit } });
+    kept = subst (λ (k : ℕ). Explains (word_now (upto n.history k)) v.attempt.reads) to kept;
     later = (let e = start_is in omega arith);
     inside = has.inside;
     settled = refl;
@@ -230,7 +233,7 @@ module _ (good : List ℕ → Type 0) (c : Config) (start : ℕ) (filter : List 
     check-moves r u x done d s k =
         let path = scanned-path clock s.0 s.1 w u (look-path clock w false (other-start d) t) s.2 in
         let f = subst (λ (y : View). FindsMove rule c k.0 y done) path k.1 in (
-          moves-at t.0 k.0 clock done v.gate s.0 s.1 x can.start_is can.has d can.sole t.1 f.moves (k.2 ∙ ap (λ (y : View). view_after ring_move k.0 y done) path),
+          moves-at t.0 k.0 clock done v.gate s.0 s.1 x can.start_is can.has d can.sole t.1 f.moves f.kept (k.2 ∙ ap (λ (y : View). view_after ring_move k.0 y done) path),
           λ taken early ticked. let a = f.level taken early ticked can.uncalm in let b = t.1.ticked taken ticked in let l = t.1.looks.later in let e = can.start_is in omega arith,
         )
 
@@ -294,7 +297,7 @@ module _ (good : List ℕ → Type 0) (c : Config) (start : ℕ) (filter : List 
         let here : (moved y done == v.gate.time) ≡ true = grind (arith, nat_tests) in
         let last : x ≡ record (view_after ring_move k.0 y done) { gate = granted_at v.gate.time v.gate } = k.2 ∙ (ap (λ (q : View). view_after ring_move_grant k.0 q done) path ∙ ap (λ (b : Bool). record (view_after ring_move k.0 y done) { gate = if b then granted_at v.gate.time v.gate else v.gate }) here) in
         let more : List TrailItem = record { place = Done; act = Load; found = Some done } ∷ (s.1 ++ record { place = Clock; act = Load; found = Some clock } ∷ []) in (
-          moves-at t.0 k.0 clock done (granted_at v.gate.time v.gate) s.0 s.1 x is_start can.grant.has d can.sole t.1 f.moves last,
+          moves-at t.0 k.0 clock done (granted_at v.gate.time v.gate) s.0 s.1 x is_start can.grant.has d can.sole t.1 f.moves f.kept last,
           end,
           (
             more,
