@@ -14,3 +14,5 @@ pub mod EntryLaws
 pub mod GrantingLaws
 pub mod EndingLaws
 pub mod Writing
+pub mod CallLaws
+pub mod LockAllLaws

@@ -19,7 +19,7 @@ direct_store-requires-clause-view g c =
     record {
       granted = ap (λ (y : SeatView g.row.K.Denot). y.view.gate.granted) i.seat ∙ k.granted;
       inside = k.inside c.item-a.result.0 (rw c.item-a.ensures (cells-there c.args.local.now.writes.items c.loop-i.i low));
-      small = c.item-a.type_inv.1;
+      small = omega arith;
     }
 
 pub loop-i-preserved : goal.loop-i-preserved
