@@ -1,18 +1,17 @@
-use Rattle.std.proofs.Common.{ℕ, ◌≡◌, ◌<◌, subst, sym, ap, refl, true, false, rules, ◌∙◌}
+use Rattle.std.proofs.Common.{ℕ, ◌≡◌, subst, sym, ap, refl, true, false, rules}
 use Rattle.std.specs.Prelude.{Some}
 use Rattle.stm_model.specs.Algorithms.{closes_gate}
 use Rattle.stm_model.specs.declared.alg.Alg.TheVariants.{OrecLazy}
-use Rattle.stm_model.specs.declared.config.Config.{Config}
 use Rattle.rule_base.specs.declared.seats.SeatView.{SeatView}
 use Rattle.stm_rule.specs.declared.local.Local.{Local}
-use Rattle.stm_rule.specs.Attempts.{own_of, Stands}
+use Rattle.stm_rule.specs.Attempts.{own_of}
 use Rattle.stm_rule.specs.Callers.{Handle, handle_of}
 use Rattle.tx_answers.specs.declared.answers.Commit.TheVariants.{ReadOnly}
 use Rattle.tx_answers.specs.Answers.{Commits, KeepsRule}
 use Rattle.tx_answers.specs.Known.{known_of, caller_of}
 use Rattle.stm_gate.specs.Knowing.{known, number}
 use Rattle.stm_gate.specs.Standing.{runs-of, stands-of}
-use Rattle.stm_gate.specs.Told.{told, stands-back}
+use Rattle.stm_gate.specs.Told.{told}
 use Rattle.alg_orec.proofs.CallLaws as calls
 use Rattle.alg_orec.proofs.EndingLaws as laws
 use Rattle.alg_orec.proofs.committing.commit.Goals as goal

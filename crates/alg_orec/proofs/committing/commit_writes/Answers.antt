@@ -1,10 +1,8 @@
-use Rattle.std.proofs.Common.{ℕ, ◌≡◌, ◌≢◌, ◌<◌, ◌≤◌, ◌+◌, subst, sym, ap, refl, true, false, rules, arith, ◌∙◌}
+use Rattle.std.proofs.Common.{◌≡◌, ◌≢◌, ◌<◌, ◌≤◌, ◌+◌, subst, sym, ap, refl, true, false, rules, ◌∙◌}
 use Rattle.stm_model.specs.declared.config.TheConstants.{CLOCK_LIMIT}
-use Rattle.rule_base.specs.declared.seats.SeatView.{SeatView}
-use Rattle.rule_base.specs.declared.views.View.{View}
 use Rattle.rule_orec.specs.OrecSteps.{orec_limit, orec_commit}
 use Rattle.stm_rule.specs.declared.local.Local.{Local}
-use Rattle.stm_rule.specs.Attempts.{own_of, IsOutside, Stands}
+use Rattle.stm_rule.specs.Attempts.{own_of, Stands}
 use Rattle.stm_rule.specs.Kept.{good_of}
 use Rattle.stm_rule.specs.RecordsKept.{cells_of}
 use Rattle.stm_rule.specs.StandLemmas.{tells-of}

@@ -1,4 +1,4 @@
-use Rattle.std.proofs.Common.{ℕ, ◌≡◌, ◌<◌, ◌≤◌, rules}
+use Rattle.std.proofs.Common.{◌<◌, ◌≤◌, rules}
 use Rattle.stm_model.specs.declared.config.TheConstants.{CLOCK_LIMIT}
 use Rattle.rule_orec.specs.OrecSteps.{orec_grant_all}
 use Rattle.stm_rule.specs.Kept.{good_of}
