@@ -1,6 +1,6 @@
 -- What the steps of a check come to.
 use Rattle.std.proofs.Common.{ℕ, ◌≡◌, ◌≢◌, ◌<◌, ◌≤◌, ◌+◌, List, [], ◌∷◌, ◌++◌, Bool, true, false, refl, sym, ap, ◌∙◌, arith, subst, inl, inr, ⊎_elim, append_assoc}
-use Rattle.std.specs.Prelude.{◌==◌, ltb, if◌then◌else◌, max, min, Option, Some, None, Result, Ok, Err}
+use Rattle.std.specs.Prelude.{◌==◌, ltb, if◌then◌else◌, max, min, Option, Some, None, Ok, Err}
 use Rattle.std.proofs.lemmas.Bool.Decides.{nat_tests}
 use Rattle.stm_model.specs.declared.config.Config.{Config}
 use Rattle.stm_model.specs.declared.stop.Cause.{Cause}
@@ -14,14 +14,14 @@ use Rattle.rule_base.specs.declared.views.View.{View}
 use Rattle.rule_base.specs.Bridge.{of_words}
 use Rattle.rule_base.specs.GateSteps.{granted_at}
 use Rattle.rule_base.specs.History.{upto, word_now, Explains}
-use Rattle.rule_base.specs.StepKinds.{Nothing, Tells, view_after}
+use Rattle.rule_base.specs.StepKinds.{Tells, view_after}
 use Rattle.rule_base.specs.World.{World}
 use Rattle.rule_promoted.specs.PromotedSteps.{ring_look_grant, ring_move_grant, CanRingGrant, CanRingMoveGrant}
-use Rattle.rule_ring.specs.RingSteps.{HasRing, ring_look, ring_again, CanRingAgain, ring_move, CanRingLook, CanRingMove, AllClear, RingSees, RingMoves, read_in, passed, moved, lesser}
+use Rattle.rule_ring.specs.RingSteps.{HasRing, ring_look, ring_again, CanRingAgain, ring_move, CanRingMove, AllClear, RingSees, RingMoves, read_in, passed, moved}
 use Rattle.rule_ring.specs.SlotFilter.{slot_filter}
 use Rattle.rule_ring.specs.Slots.{slot_place}
 use Rattle.steps_ring.specs.RingFindings.{FindsLook, FindsAgain, FindsMove, FindsLevel}
-use Rattle.alg_ring.specs.Checking.{InTrail, with_words, CanScan, Meeting, MeetsOne, OneMeets, Refutes, scanned, Scans, CanCheck, CanCheckToGrant, passed_at, Passes, Fails, Checks, ChecksToGrant, IsFilterOf}
+use Rattle.alg_ring.specs.Checking.{InTrail, with_words, CanScan, Meeting, MeetsOne, OneMeets, Refutes, scanned, Scans, CanCheck, CanCheckToGrant, Passes, Fails, Checks, ChecksToGrant, IsFilterOf}
 use Rattle.alg_ring.proofs.Words.{trail-right, trail-left}
 
 meeting-right : (ring : ℕ) (filter : List ℕ) (time bits : ℕ) (more xs : List TrailItem) → Meeting ring filter time bits xs → Meeting ring filter time bits (more ++ xs)

@@ -6,7 +6,6 @@ use Rattle.std.proofs.lemmas.Bool.Decides.{nat_tests}
 use Rattle.std.proofs.lemmas.Nat.Bits.{bit_at_or, same_from_bits}
 use Rattle.stm_model.specs.Memories.{put}
 use Rattle.rule_base.specs.declared.entries.Cell.{Cell}
-use Rattle.rule_base.specs.Bridge.{items}
 use Rattle.rule_ring.specs.SlotFilter.{slot_filter}
 use Rattle.rule_ring.specs.SlotFilter as ring
 use Rattle.tx_logs.specs.Filters.{address_word, filter_word, word_meets, part_meets, meets, lowest_from, lowest_common}

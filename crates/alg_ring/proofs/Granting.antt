@@ -34,10 +34,11 @@ use Rattle.tx_answers.specs.Answers.{Quits, IsOpaque}
 use Rattle.tx_answers.specs.Evidence.{Found}
 use Rattle.tx_answers.specs.Known.{Grows, known_of, granted_under, written_under, is_irrevocable, is_in, is_closing, wrote}
 use Rattle.tx_answers.specs.KnownLaws.{grows-same, grows-trans}
+use Rattle.stm_gate.specs.Granting.{IsAlone, Grants}
 use Rattle.stm_gate.specs.Leaving.{CanLeave, left, last_steps}
 use Rattle.stm_gate.specs.LeavingLaws.{quits-left, finds-full, found-left, found-later, found-earlier}
 use Rattle.stm_gate.specs.Opacity.{opaque-at}
-use Rattle.alg_ring.specs.Calls.{IsAlone, Grants, Stores}
+use Rattle.alg_ring.specs.Calls.{Stores}
 use Rattle.alg_ring.specs.Checking.{CanCheckToGrant, ChecksToGrant, Fails, passed_at}
 use Rattle.alg_ring.proofs.Checked.{passes-grows, finds-between}
 use Rattle.alg_ring.proofs.Ending as ending
@@ -48,6 +49,14 @@ use Rattle.alg_ring.proofs.Refuting.{refuted}
 none-written : (ws : List (ℕ × ℕ)) → not (is_empty ws) ≡ false → cells_of ws ≡ []
 none-written [] e = refl
 none-written (w ∷ ws) e = absurd cc
+
+-- one that can be cancelled wasn't promoted
+pub ungranted : (good : List ℕ → Type 0) (c : Config) (n : ℕ) (l : Local) (v : View) (i : IsInside good c n l v) (named : v.gate.algorithm ≡ RingSw) (o : Own) → is_irrevocable (known_of v o) ≡ false → l.granted ≡ false
+ungranted good c n l v i named o revocable = by l.granted refl
+  where
+    by : (b : Bool) → l.granted ≡ b → b ≡ false
+    by true e = absurd (let f : true ≡ false = sym (ending.sure-granted good c n l v i named o e) ∙ revocable in cc)
+    by false e = refl
 
 module _ (good : List ℕ → Type 0) (c : Config) (n : ℕ) (l : Local) (v : View) (i : IsInside good c n l v) (named : v.gate.algorithm ≡ RingSw) (plain : l.granted ≡ false) (alone : IsAlone c.callers n v) where
   abbrev ws : List Cell

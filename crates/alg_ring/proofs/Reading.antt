@@ -1,6 +1,6 @@
 -- What the parts of a read come to.
-use Rattle.std.proofs.Common.{ℕ, ◌≡◌, ◌≢◌, ◌<◌, ◌≤◌, ◌+◌, List, [], ◌∷◌, ◌++◌, Bool, true, false, refl, sym, ap, ◌∙◌, arith, subst, inl, inr, ⊎_elim, append_assoc}
-use Rattle.std.specs.Prelude.{◌^◌, ◌⊎◌, ◌&&◌, ◌==◌, if◌then◌else◌, not, length, max, min, slice_index, bit_or, Option, Some, None, MatchOption, Ok, Err}
+use Rattle.std.proofs.Common.{ℕ, ◌≡◌, ◌<◌, ◌+◌, List, [], ◌∷◌, ◌++◌, Bool, true, false, refl, sym, ap, ◌∙◌, arith, subst, inl, inr, ⊎_elim, append_assoc}
+use Rattle.std.specs.Prelude.{◌^◌, ◌&&◌, ◌==◌, if◌then◌else◌, not, length, slice_index, bit_or, Some, None, Ok, Err}
 use Rattle.stm_model.specs.Algorithms.{has_records, has_read_log}
 use Rattle.stm_model.specs.Logs.{Log, Reads}
 use Rattle.stm_model.specs.Memories.{item_at}
@@ -15,37 +15,35 @@ use Rattle.rule_base.specs.declared.layout.TheConstants.{SLOT_WORDS}
 use Rattle.rule_base.specs.declared.views.Act.TheVariants.{Load}
 use Rattle.rule_base.specs.declared.views.Attempt.{Attempt}
 use Rattle.rule_base.specs.declared.views.Phase.TheVariants.{In}
-use Rattle.rule_base.specs.declared.views.RingRead.{RingRead}
 use Rattle.rule_base.specs.declared.views.TrailItem.{TrailItem}
 use Rattle.rule_base.specs.declared.views.View.{View}
-use Rattle.rule_base.specs.Bridge.{items, of_words, public_history}
-use Rattle.rule_base.specs.History.{over, touches, upto, word_now}
+use Rattle.rule_base.specs.Bridge.{items, public_history}
+use Rattle.rule_base.specs.History.{touches, upto, word_now}
 use Rattle.rule_base.specs.HistoryLemmas.{inside-more, over-miss}
 use Rattle.rule_base.specs.Own.{Own}
 use Rattle.rule_base.specs.StepKinds.{Nothing, Tells, view_after}
 use Rattle.rule_ring.specs.RingSteps.{HasRing, ring_load, CanRingLoad}
 use Rattle.rule_ring.specs.SlotFilter.{slot_filter}
-use Rattle.tx_logs.specs.Filters.{address_word, filter_word}
+use Rattle.tx_logs.specs.Filters.{address_word}
 use Rattle.stm_rule.specs.declared.local.Local.{Local}
 use Rattle.stm_rule.specs.Attempts.{Keeps, IsInside, IsOutside, SameLengths, Stands, ended, own_of}
 use Rattle.stm_rule.specs.RecordsKept.{cells_of}
 use Rattle.stm_rule.specs.RingKept.{IsRing}
 use Rattle.tx_answers.specs.declared.answers.Read.{Read}
 use Rattle.tx_answers.specs.declared.answers.Read.TheVariants.{Value, Conflict, Full}
-use Rattle.tx_answers.specs.Answers.{HasRead, GoesOn, Quits, IsOpaque, StartMoves}
-use Rattle.tx_answers.specs.Causes.{Conflicts, has_item, reads_full, loaded_by}
-use Rattle.tx_answers.specs.Evidence.{Found}
+use Rattle.tx_answers.specs.Answers.{HasRead, GoesOn, Quits, StartMoves}
+use Rattle.tx_answers.specs.Causes.{Conflicts, has_item, reads_full}
 use Rattle.tx_answers.specs.Known.{Grows, known_of, written_under, is_irrevocable, is_in, is_closing}
-use Rattle.stm_gate.specs.Leaving.{CanLeave, left, last_steps}
-use Rattle.stm_gate.specs.LeavingLaws.{IsUnmade, quits-left, found-left}
+use Rattle.stm_gate.specs.Leaving.{CanLeave, left}
+use Rattle.stm_gate.specs.LeavingLaws.{quits-left, found-left}
 use Rattle.stm_gate.specs.Logging.{log_of, reads-logged}
 use Rattle.stm_gate.specs.Opacity.{opaque-at, later-seen}
 use Rattle.stm_gate.specs.Told.{stands-on}
 use Rattle.alg_ring.specs.Calls.{LoadsNew}
-use Rattle.alg_ring.specs.Checking.{InTrail, CanCheck, Checks, Passes, passed_at, Fails}
+use Rattle.alg_ring.specs.Checking.{CanCheck, Checks, Passes, passed_at, Fails}
 use Rattle.alg_ring.proofs.Buffering.{untouched-items}
 use Rattle.alg_ring.proofs.Ending.{revocable}
-use Rattle.alg_ring.proofs.FilterWords.{addresses, filter-put, slot-more}
+use Rattle.alg_ring.proofs.FilterWords.{filter-put, slot-more}
 use Rattle.alg_ring.proofs.Refuting.{FindsAll, tells-behind, refuted}
 use Rattle.alg_ring.proofs.Seen.{upto-upto}
 

@@ -1,6 +1,6 @@
 -- What a check that failed tells the caller: another entry came in between.
-use Rattle.std.proofs.Common.{ℕ, ◌≡◌, ◌≢◌, ◌<◌, ◌≤◌, ◌+◌, ◌*◌, ◌%◌, List, [], ◌∷◌, ◌++◌, refl, sym, ap, ◌∙◌, arith, subst, ⊎_elim, append_assoc}
-use Rattle.std.specs.Prelude.{Option, Some, None, slice_index}
+use Rattle.std.proofs.Common.{ℕ, ◌≡◌, ◌<◌, ◌+◌, ◌*◌, ◌%◌, List, ◌++◌, refl, sym, ap, ◌∙◌, arith, subst, ⊎_elim, append_assoc}
+use Rattle.std.specs.Prelude.{Option, slice_index}
 use Rattle.stm_model.specs.declared.alg.Alg.TheVariants.{RingSw}
 use Rattle.stm_model.specs.declared.config.Config.{Config}
 use Rattle.stm_model.specs.declared.stop.Cause.{Cause}
@@ -18,7 +18,7 @@ use Rattle.tx_answers.specs.Evidence.{Found}
 use Rattle.tx_answers.specs.Known.{Known, known_of}
 use Rattle.alg_ring.specs.Checking.{InTrail, Refutes}
 use Rattle.alg_ring.proofs.FilterWords.{meets-same, lowest-same}
-use Rattle.alg_ring.proofs.Words.{trail-left, trail-right}
+use Rattle.alg_ring.proofs.Words.{trail-left}
 
 slot_place-is : (ring e i : ℕ) → slot_place ring e i ≡ e % ring * SLOT_WORDS + i
 unfolding slot_place

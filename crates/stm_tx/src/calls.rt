@@ -1,19 +1,24 @@
-//! The calls of an attempt. Each takes a descriptor and its memory. None takes memory, none waits, and
-//! all return. The cost of each in atomic steps is said by its algorithm, in `alg_seq`.
-ghost use Rattle.std.specs.Prelude.{◌≡◌, ℕ, ◌<◌, ◌&&◌, true};
+//! The calls of an attempt. Each takes a descriptor and its memory. None but `reserve` takes memory, none waits, and
+//! all return. The cost of each in atomic steps is said by its algorithm, in `alg_seq`, `alg_orec` and `alg_ring`.
+ghost use Rattle.std.specs.Prelude.{◌≡◌, ℕ, ◌<◌, ◌≤◌, ◌&&◌, true, MatchResult};
 ghost use Rattle.stm_model.specs.Algorithms.{is_built};
 ghost use Rattle.stm_rule.specs.Callers.{IsOf, IsSameCaller, IsSeatOf};
 ghost use Rattle.stm_rule.specs.Kept.{IsSameSeat, view_of};
 ghost use Rattle.tx_answers.specs.Answers.{Begins, HasRead, HasWritten, KeepsRule, Commits, Cancels, Irrevs};
 ghost use Rattle.tx_answers.specs.Known.{IsIdle, IsRunning, is_irrevocable, state_of};
 ghost use Rattle.stm_gate.specs.Starts.{CanBegin, Starts};
-ghost use Rattle.stm_tx.specs.Descs.{known, number};
+ghost use Rattle.stm_tx.specs.Descs.{Reserves, known, number};
 
+use alg_orec::orec_lazy;
+use alg_ring::ring;
 use alg_seq::{cgl, serial, tml};
 use rule_base::words::{alg_of, holder_of};
+use std::alloc::Global;
 use stm_model::alg::Alg;
+use stm_model::memory::Memory;
 use stm_model::rule::MemRule;
 use stm_rule::desc::Desc;
+use stm_rule::local::Local;
 use stm_rule::stm::{Stm, Token};
 use tx_answers::answers::{Begin, Cancel, Commit, Irrev, Read, TxState, Write};
 
@@ -69,7 +74,9 @@ fn begin_under<K: MemRule>(
         Alg::Cgl => cgl::begin(seat, stm, caller),
         Alg::Tml => tml::begin(seat, stm, caller),
         Alg::Serial => serial::begin(seat, stm, caller),
-        Alg::OrecLazy | Alg::OrecEager | Alg::RingSw => unreachable!(),
+        Alg::OrecLazy => orec_lazy::begin(seat, stm, caller),
+        Alg::RingSw => ring::begin(seat, stm, caller),
+        Alg::OrecEager => unreachable!(),
     }
 }
 
@@ -87,7 +94,9 @@ pub fn read<K: MemRule>(desc: &mut Desc<K>, stm: &Stm<K>, a: usize) -> Read
         Alg::Cgl => cgl::read(desc, stm, a),
         Alg::Tml => tml::read(desc, stm, a),
         Alg::Serial => serial::read(desc, stm, a),
-        Alg::OrecLazy | Alg::OrecEager | Alg::RingSw => unreachable!(),
+        Alg::OrecLazy => orec_lazy::read(desc, stm, a),
+        Alg::RingSw => ring::read(desc, stm, a),
+        Alg::OrecEager => unreachable!(),
     }
 }
 
@@ -105,7 +114,9 @@ pub fn write<K: MemRule>(desc: &mut Desc<K>, stm: &Stm<K>, a: usize, x: u64) -> 
         Alg::Cgl => cgl::write(desc, stm, a, x),
         Alg::Tml => tml::write(desc, stm, a, x),
         Alg::Serial => serial::write(desc, stm, a, x),
-        Alg::OrecLazy | Alg::OrecEager | Alg::RingSw => unreachable!(),
+        Alg::OrecLazy => orec_lazy::write(desc, stm, a, x),
+        Alg::RingSw => ring::write(desc, stm, a, x),
+        Alg::OrecEager => unreachable!(),
     }
 }
 
@@ -124,7 +135,9 @@ pub fn commit<K: MemRule>(desc: &mut Desc<K>, stm: &Stm<K>) -> Commit
         Alg::Cgl => cgl::commit(desc, stm),
         Alg::Tml => tml::commit(desc, stm),
         Alg::Serial => serial::commit(desc, stm),
-        Alg::OrecLazy | Alg::OrecEager | Alg::RingSw => unreachable!(),
+        Alg::OrecLazy => orec_lazy::commit(desc, stm),
+        Alg::RingSw => ring::commit(desc, stm),
+        Alg::OrecEager => unreachable!(),
     }
 }
 
@@ -140,7 +153,9 @@ pub fn cancel<K: MemRule>(desc: &mut Desc<K>, stm: &Stm<K>) -> Cancel
         Alg::Cgl => cgl::cancel(desc, stm),
         Alg::Tml => tml::cancel(desc, stm),
         Alg::Serial => serial::cancel(desc, stm),
-        Alg::OrecLazy | Alg::OrecEager | Alg::RingSw => unreachable!(),
+        Alg::OrecLazy => orec_lazy::cancel(desc, stm),
+        Alg::RingSw => ring::cancel(desc, stm),
+        Alg::OrecEager => unreachable!(),
     }
 }
 
@@ -158,16 +173,50 @@ pub fn try_irrevocable<K: MemRule>(desc: &mut Desc<K>, stm: &Stm<K>) -> Irrev
         Alg::Cgl => cgl::become_irrevocable(desc, stm),
         Alg::Tml => tml::become_irrevocable(desc, stm),
         Alg::Serial => serial::become_irrevocable(desc, stm),
-        Alg::OrecLazy | Alg::OrecEager | Alg::RingSw => unreachable!(),
+        Alg::OrecLazy => orec_lazy::become_irrevocable(desc, stm),
+        Alg::RingSw => ring::become_irrevocable(desc, stm),
+        Alg::OrecEager => unreachable!(),
     }
+}
+
+/// Makes the read log `reads` items long and the logs of what is written `writes`, each 1 to 4,096, where they are
+/// shorter. It asks for an idle descriptor. It takes the room of longer logs beside that of the old ones; where memory
+/// is refused all is as before. No step.
+pub fn reserve<K: MemRule>(
+    alloc: Global,
+    desc: &mut Desc<K>,
+    reads: usize,
+    writes: usize,
+) -> Result<(), Memory>
+    requires low { (1 ≤ reads) × (1 ≤ writes) }
+    requires high { (reads ≤ 4096) × (writes ≤ 4096) }
+    requires idle { IsIdle (known desc.old) }
+    ensures same { IsSameCaller desc.old desc.new }
+    ensures view { desc.new.view ≡ desc.old.view }
+    ensures reserves { MatchResult result (λ _. Reserves reads writes (known desc.old) (known desc.new)) (λ _. desc.new ≡ desc.old) }
+{
+    if reads <= desc.local.reads.len() && writes <= desc.local.undo.len() {
+        return Ok(());
+    }
+    let longer = Local::idle(alloc, reads, writes)?;
+    if desc.local.reads.len() < reads {
+        desc.local.reads = longer.reads;
+    }
+    if desc.local.undo.len() < writes {
+        desc.local.undo = longer.undo;
+        desc.local.writes = longer.writes;
+        desc.local.locks = longer.locks;
+    }
+    Ok(())
 }
 
 /// Where the descriptor stands. No step.
 pub fn state<K: MemRule>(desc: &Desc<K>) -> TxState
     ensures { result ≡ state_of (known desc.now) }
 {
-    if desc.local.running {
-        // No algorithm that is built leaves an attempt in the middle of its commit.
+    if desc.local.running && desc.local.committing {
+        TxState::Committing(desc.local.algorithm)
+    } else if desc.local.running {
         TxState::Running(desc.local.algorithm)
     } else if desc.local.holds {
         TxState::Closing(desc.local.algorithm)

@@ -1,4 +1,4 @@
-use Rattle.std.proofs.Common.{◌≡◌, ◌<◌, ap, sym, subst, ◌∙◌, rules}
+use Rattle.std.proofs.Common.{◌<◌, ap, sym, subst, ◌∙◌, rules}
 use Rattle.std.specs.Prelude.{◌^◌}
 use Rattle.rule_base.specs.StepKinds.{Nothing}
 use Rattle.rule_ring.specs.RingSteps.{ring_load}

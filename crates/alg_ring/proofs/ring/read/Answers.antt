@@ -1,4 +1,4 @@
-use Rattle.std.proofs.Common.{ℕ, ◌≡◌, ◌<◌, ap, refl, sym, subst, ◌∙◌, false, rules}
+use Rattle.std.proofs.Common.{ℕ, ◌≡◌, ◌<◌, ap, sym, subst, ◌∙◌, rules}
 use Rattle.std.specs.Prelude.{◌^◌, Some}
 use Rattle.stm_model.specs.Memories.{item_at}
 use Rattle.stm_model.specs.declared.alg.Alg.TheVariants.{RingSw}
@@ -6,9 +6,9 @@ use Rattle.stm_rule.specs.Attempts.{own_of}
 use Rattle.stm_rule.specs.Callers.{Handle, handle_of}
 use Rattle.tx_answers.specs.declared.answers.Read.TheVariants.{Value}
 use Rattle.tx_answers.specs.Answers.{HasRead}
-use Rattle.tx_answers.specs.Known.{Known, caller_of}
+use Rattle.tx_answers.specs.Known.{caller_of}
 use Rattle.stm_gate.specs.Knowing.{known}
-use Rattle.stm_gate.specs.Standing.{runs-of, shown-of}
+use Rattle.stm_gate.specs.Standing.{runs-of}
 use Rattle.alg_ring.proofs.Ending.{ring-of}
 use Rattle.alg_ring.proofs.Writing.{reads-own}
 use Rattle.alg_ring.proofs.ring.read.Goals as goal
