@@ -65,16 +65,11 @@ leave-requires-clause-view g c =
 pub leave-requires-clause-named : goal.leave-requires-clause-named
 leave-requires-clause-named g c =
     let f = c.args.stm.now.config in
-    let good = g.K.MemRule.good c.args.stm.now.rule in
     let d = c.desc.inside in
-    let s = d.seat.me.0 in
     let o = own_of d.local in
     let h = handle_of d.seat o in
     let e = c.args.desc.now in
     let i = runs-of g.K.MemRule.good f c.args.stm.now.rule h e d.number d.local c.desc.view_is c.requires.stm.config c.requires.stm.rule c.requires.running c.desc.invariant.1 in
-    let lazy = subst (λ (p : Handle g.row.K.Denot). (known p).alg ≡ OrecLazy) (sym c.desc.view_is) c.requires.algorithm in
-    let plain : d.local.granted ≡ false = search rules in
-    let clean : d.local.wrote ≡ false = search rules in
     sym i.named
 
 pub returns-then-not-desc-clause-commits : goal.returns-then-not-desc-clause-commits
@@ -117,9 +112,6 @@ commit_writes-requires-clause-keeps g c =
     let s = d.seat.me.0 in
     let o = own_of d.local in
     let h = handle_of d.seat o in
-    let e = c.args.desc.now in
-    let i = runs-of g.K.MemRule.good f c.args.stm.now.rule h e d.number d.local c.desc.view_is c.requires.stm.config c.requires.stm.rule c.requires.running c.desc.invariant.1 in
-    let lazy = subst (λ (p : Handle g.row.K.Denot). (known p).alg ≡ OrecLazy) (sym c.desc.view_is) c.requires.algorithm in
     let name : caller_of s.who.role ≡ d.number = ap caller_of c.desc.invariant.0.named in
     subst (λ (q : ℕ). KeepsRule good f q (known h)) name (subst (λ (p : Handle g.row.K.Denot). KeepsRule good f (number p) (known p)) (sym c.desc.view_is) c.requires.keeps)
 
@@ -128,11 +120,8 @@ returns-clause-commits g c =
     let f = c.args.stm.now.config in
     let good = g.K.MemRule.good c.args.stm.now.rule in
     let d = c.desc.inside in
-    let s = d.seat.me.0 in
     let o = own_of d.local in
     let h = handle_of d.seat o in
     let e = c.args.desc.now in
-    let i = runs-of g.K.MemRule.good f c.args.stm.now.rule h e d.number d.local c.desc.view_is c.requires.stm.config c.requires.stm.rule c.requires.running c.desc.invariant.1 in
-    let lazy = subst (λ (p : Handle g.row.K.Denot). (known p).alg ≡ OrecLazy) (sym c.desc.view_is) c.requires.algorithm in
     let w = c.commit_writes.new.seat.me.0 in
     told (λ n v w. Commits good f n c.commit_writes.result v w) h e d.number w c.commit_writes.new.local c.desc.view_is (ap (λ (y : SeatView g.row.K.Denot). y.who) c.commit_writes.ensures.same.1) c.desc.invariant.0.named c.commit_writes.ensures.commits

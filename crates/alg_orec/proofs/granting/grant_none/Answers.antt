@@ -11,7 +11,6 @@ pub grant_all-time-requires-clause-view : goal.grant_all-time-requires-clause-vi
 grant_all-time-requires-clause-view g c =
     let f = c.args.stm.now.config in
     let good = g.K.MemRule.good c.args.stm.now.rule in
-    let rule = good_of g.K.MemRule.good f c.args.stm.now.rule in
     let n = c.args.caller in
     let low = c.requires.caller in
     let l = c.args.local.now in
