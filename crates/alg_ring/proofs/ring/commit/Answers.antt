@@ -15,7 +15,7 @@ use Rattle.tx_answers.specs.Answers as answers
 use Rattle.tx_answers.specs.Known.{Known, known_of, caller_of}
 use Rattle.stm_gate.specs.Knowing.{known, number}
 use Rattle.stm_gate.specs.Standing.{runs-of, stands-of, shown-of, who-of}
-use Rattle.stm_gate.specs.Told.{told, stands-on, stands-back}
+use Rattle.stm_gate.specs.Told.{told, stands-back}
 use Rattle.alg_ring.proofs.Committing as laws
 use Rattle.alg_ring.proofs.Ending as ending
 use Rattle.alg_ring.proofs.ring.commit.Goals as goal
