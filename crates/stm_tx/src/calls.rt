@@ -29,7 +29,7 @@ use tx_answers::answers::{Begin, Cancel, Commit, Irrev, Read, TxState, Write};
 /// only where another caller's attempt has the lock or has made the clock odd, and `ClockFull` only under
 /// CGL with the clock at its limit.
 ///
-/// Two steps and the algorithm's, one more where it is refused: `Begun` costs 3 under TML, else 4.
+/// Two steps and the algorithm's, one more where it is refused: `Begun` costs 4 under CGL and Serial, else 3.
 pub fn try_begin<K: MemRule>(desc: &mut Desc<K>, stm: &Stm<K>) -> Begin
     requires stm { IsOf desc.old stm.now }
     requires idle { IsIdle (known desc.old) }
@@ -81,8 +81,12 @@ fn begin_under<K: MemRule>(
 }
 
 /// Reads the word at `a`: the attempt's last write of it, else what it read there before, else the memory
-/// at its start. It asks for a running attempt. All answers but a value end the attempt. One step; under
-/// TML two before the first write, and three or four where the attempt ends.
+/// at its start. It asks for a running attempt. All answers but a value end the attempt.
+///
+/// One step under CGL and Serial and in an attempt that was promoted; under TML two before the first write, and three
+/// or four where the attempt ends. Under OrecLazy none for a word that it wrote or read before, else three, and a
+/// validation where the word's record is newer than the start: one and one a logged read. Under RingSW none for a word
+/// that it wrote, else two, and where the clock has moved two more and at most 16 for each time since the start.
 pub fn read<K: MemRule>(desc: &mut Desc<K>, stm: &Stm<K>, a: usize) -> Read
     requires stm { IsOf desc.old stm.now }
     requires running { IsRunning (known desc.old) }
@@ -101,8 +105,10 @@ pub fn read<K: MemRule>(desc: &mut Desc<K>, stm: &Stm<K>, a: usize) -> Read
 }
 
 /// Writes `x` to the word at `a`, for this attempt until it commits. It asks for a running attempt. All
-/// answers but `Done` end the attempt. One step; three at most where the attempt goes on, and where Serial
-/// takes it back two more and one for each word that it wrote.
+/// answers but `Done` end the attempt.
+///
+/// None under OrecLazy and RingSW, whose writes wait for the commit. One under CGL and in an attempt that was promoted;
+/// three at most under TML and Serial, and where Serial takes it back two more and one for each word that it wrote.
 pub fn write<K: MemRule>(desc: &mut Desc<K>, stm: &Stm<K>, a: usize, x: u64) -> Write
     requires stm { IsOf desc.old stm.now }
     requires running { IsRunning (known desc.old) }
@@ -122,8 +128,13 @@ pub fn write<K: MemRule>(desc: &mut Desc<K>, stm: &Stm<K>, a: usize, x: u64) -> 
 
 /// Commits the attempt. An attempt that wrote asks that it keeps the memory rule.
 ///
-/// `Committed` comes only where the attempt wrote, `ReadOnly` only where it did not. All answers but
-/// `Again` leave the descriptor idle. Three steps at most, five where the attempt was promoted.
+/// `Committed` comes only where the attempt wrote, `ReadOnly` only where it did not. All answers but `Again` leave the
+/// descriptor idle; behind `Again` the attempt is to be committed again or cancelled.
+///
+/// Three steps at most under CGL, TML and Serial, five where the attempt was promoted, and one or two where it wrote
+/// nothing. Under OrecLazy three for each record and one for each word that it wrote, two, and a validation where such
+/// a record was newer than the start and behind `Again`. Under RingSW 22, one for each word that it wrote, and the check
+/// of a read.
 pub fn commit<K: MemRule>(desc: &mut Desc<K>, stm: &Stm<K>) -> Commit
     requires stm { IsOf desc.old stm.now }
     requires running { (known desc.old).running ≡ true }
@@ -142,7 +153,8 @@ pub fn commit<K: MemRule>(desc: &mut Desc<K>, stm: &Stm<K>) -> Commit
 }
 
 /// Ends the attempt without a trace, or answers `Irrevocable` and changes nothing: exactly where
-/// `is_irrevocable`. Two steps at most, and under Serial one for each word that it wrote.
+/// `is_irrevocable`. Two steps at most, under Serial one more for each word that it wrote, and under OrecLazy one for
+/// each record that it holds.
 pub fn cancel<K: MemRule>(desc: &mut Desc<K>, stm: &Stm<K>) -> Cancel
     requires stm { IsOf desc.old stm.now }
     requires running { (known desc.old).running ≡ true }
@@ -162,7 +174,8 @@ pub fn cancel<K: MemRule>(desc: &mut Desc<K>, stm: &Stm<K>) -> Cancel
 /// Tries to make the attempt irrevocable: from `Granted` on it can only be committed, and no call of it is
 /// refused. `Busy` and `Taken` leave it running, and may be tried again; all other answers end it. No step
 /// where it is irrevocable already; one under Serial; else two to close the gate, one for each other caller
-/// that it looks at, and the load of the clock.
+/// that it looks at, and the load of the clock; then under OrecLazy one for each logged read, under RingSW the check of
+/// a read, and one for each word that it wrote.
 pub fn try_irrevocable<K: MemRule>(desc: &mut Desc<K>, stm: &Stm<K>) -> Irrev
     requires stm { IsOf desc.old stm.now }
     requires running { IsRunning (known desc.old) }
@@ -198,14 +211,20 @@ pub fn reserve<K: MemRule>(
     if reads <= desc.local.reads.len() && writes <= desc.local.undo.len() {
         return Ok(());
     }
-    let longer = Local::idle(alloc, reads, writes)?;
+    let Local {
+        reads: longer_reads,
+        undo,
+        writes: longer_writes,
+        locks,
+        ..
+    } = Local::idle(alloc, reads, writes)?;
     if desc.local.reads.len() < reads {
-        desc.local.reads = longer.reads;
+        desc.local.reads = longer_reads;
     }
     if desc.local.undo.len() < writes {
-        desc.local.undo = longer.undo;
-        desc.local.writes = longer.writes;
-        desc.local.locks = longer.locks;
+        desc.local.undo = undo;
+        desc.local.writes = longer_writes;
+        desc.local.locks = locks;
     }
     Ok(())
 }
