@@ -5,6 +5,7 @@ pub mod Validity
 pub mod LoadLaws
 pub mod CellLogs
 pub mod LazyLaws
+pub mod ReadCalls
 pub mod Releasing
 pub mod Cells
 pub mod LockingLaws
@@ -14,3 +15,5 @@ pub mod EntryLaws
 pub mod GrantingLaws
 pub mod EndingLaws
 pub mod Writing
+pub mod CallLaws
+pub mod LockAllLaws

@@ -18,8 +18,9 @@ name_of code =
     (if code == 5 then codes "number" else
     (if code == 6 then codes "range" else
     (if code == 7 then codes "alg" else
+    (if code == 8 then codes "region" else
     (if code == 9 then codes "order" else
-    (if code == 10 then codes "many" else codes "extra"))))))))
+    (if code == 10 then codes "many" else codes "extra")))))))))
 
 -- `refused LINE CODE NAME`
 abbrev pub refused_line : ℕ → ℕ → List ℕ

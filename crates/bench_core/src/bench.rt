@@ -11,6 +11,7 @@ use crate::status::Status;
 use std::alloc::Global;
 use std::sync::Wait;
 use std::thread::Threads;
+use stm_driver::laws::regions_are_kept;
 use stm_driver::outcome::Outcome;
 use stm_driver::parting::part;
 use stm_driver::preparing::prepare;
@@ -19,7 +20,6 @@ use stm_driver::step::step;
 use stm_io::ends::{Failed, Sink, Source};
 use stm_io::whole::{ReadError, put_all, read_all};
 use stm_model::memory::Memory;
-use stm_model::rule::AnyMem;
 use stm_rule::ending::Closed;
 use stm_script::workload::Workload;
 use stm_text::parse::{Mode, ParseError, parse};
@@ -47,6 +47,8 @@ struct Saying {
 ///
 /// `Ok` and `ClockFull` leave in `last` the closed memory of this call's run; every other status leaves
 /// `last` as it was.
+///
+/// With structures on, the memory's rule is that each of their regions is well formed; with them off there is none.
 ///
 /// `rt` is the runtime value that waiting calls and threads take: a transaction that does not get the memory
 /// begins again, for as long as it takes. `turnstile` is passed right before an attempt's first commit; see
@@ -146,6 +148,7 @@ fn report<R: Threads + Wait + Sync, G: Turnstile + Sync>(
     requires { IsBuilt Run workload }
     ensures { IfOk result (λ s. SaidOfRun Run workload s.status s.closed s.text.items) }
 {
+    regions_are_kept();
     let Workload {
         header,
         items,
@@ -153,7 +156,17 @@ fn report<R: Threads + Wait + Sync, G: Turnstile + Sync>(
     } = workload;
     let count = items.as_slice().len();
     let parts = part(alloc, header.callers, items.into_vec())?;
-    let prepared = prepare(rt, alloc, AnyMem, &header, parts.as_slice(), count)?;
+    let rule = header.regions(alloc)?;
+    let regions = header.regions(alloc)?;
+    let prepared = prepare(
+        rt,
+        alloc,
+        rule,
+        &header,
+        parts.as_slice(),
+        &regions,
+        count,
+    )?;
     match run(rt, alloc, prepared, turnstile) {
         Outcome::ToEnd { report, closed } => Ok(Saying {
             status: Status::Ok,
@@ -174,6 +187,7 @@ fn trace<R: Wait>(rt: &R, alloc: Global, workload: Workload) -> Result<Saying, M
     requires { IsBuilt Step workload }
     ensures { IfOk result (λ s. SaidOfRun Step workload s.status s.closed s.text.items) }
 {
+    regions_are_kept();
     let Workload {
         header,
         items,
@@ -181,7 +195,17 @@ fn trace<R: Wait>(rt: &R, alloc: Global, workload: Workload) -> Result<Saying, M
     } = workload;
     let count = items.as_slice().len();
     let parts = part(alloc, header.callers, items.into_vec())?;
-    let prepared = prepare(rt, alloc, AnyMem, &header, parts.as_slice(), count)?;
+    let rule = header.regions(alloc)?;
+    let regions = header.regions(alloc)?;
+    let prepared = prepare(
+        rt,
+        alloc,
+        rule,
+        &header,
+        parts.as_slice(),
+        &regions,
+        count,
+    )?;
     let (lines, outcome) = step(rt, alloc, prepared, schedule.as_slice());
     match outcome {
         Outcome::ToEnd { report, closed } => Ok(Saying {

@@ -7,10 +7,18 @@ pub mod bench;
 mod cases;
 mod command;
 mod messages;
+#[cfg(test)]
+mod orec_tests;
 pub mod program;
+#[cfg(test)]
+mod random_tests;
+#[cfg(test)]
+mod ring_tests;
 pub mod status;
 #[cfg(test)]
 mod step_tests;
+#[cfg(test)]
+mod structure_tests;
 #[cfg(test)]
 mod tests;
 #[cfg(test)]

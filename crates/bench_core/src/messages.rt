@@ -51,6 +51,7 @@ fn fault_name(code: u32) -> &'static str
         code::NUMBER => "number",
         code::RANGE => "range",
         code::ALG => "alg",
+        code::REGION => "region",
         code::ORDER => "order",
         code::MANY => "many",
         _ => "extra",

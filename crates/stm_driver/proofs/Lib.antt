@@ -16,3 +16,4 @@ mod SortLaws
 mod PartLaws
 mod LimitLaws
 mod OutcomeLaws
+mod KeepingLaws

@@ -7,13 +7,12 @@ use Rattle.std.proofs.lemmas.List.Sums.{sum_by-cons}
 use Rattle.stm_rule.specs.declared.stm.Stm.{Stm}
 use Rattle.stm_model.specs.declared.config.Config.{Config}
 use Rattle.stm_model.specs.Histories.{Entry, made_by, IsLegal}
-use Rattle.stm_script.specs.declared.region.Region.{Region}
+use Rattle.tx_regions.specs.declared.region.Region.{Region}
 use Rattle.stm_script.specs.declared.workload.Go.{Go}
 use Rattle.stm_script.specs.declared.workload.Item.{Item}
 use Rattle.stm_script.specs.declared.workload.Item.TheVariants.{Tx, Switch}
 use Rattle.stm_script.specs.declared.workload.Workload.{Workload}
 use Rattle.stm_script.specs.Reports.{scripts_of, zeros}
-use Rattle.stm_text.specs.Built.{ItemFits as BuiltItem}
 use Rattle.stm_rule.specs.Callers.{Handle}
 use Rattle.stm_rule.specs.Closings.{Ended, Closes, AllTold}
 use Rattle.tx_answers.specs.Known.{IsIdle, caller_of}
@@ -26,6 +25,7 @@ use Rattle.stm_trace.specs.Turns.{BeforeTx}
 use Rattle.stm_worker.specs.declared.worker.Worker.{Worker}
 use Rattle.stm_worker.specs.Workers.{IsAt, Loaded}
 use Rattle.stm_worker.specs.Workers.{ItemsFit as OwnItems}
+use Rattle.stm_driver.specs.Preparings.{BuiltItem}
 use Rattle.stm_driver.specs.declared.schedule.Halt.TheVariants.{ClockFull}
 use Rattle.stm_driver.specs.AllWorkers.{AreMadeIdle, ArePaidFor, Enough, MetLimit, descs_of, rows_of}
 use Rattle.stm_driver.specs.Openings.{first_installs}
@@ -92,7 +92,7 @@ module _ {K : Type 0} (good : List ℕ → Type 0) (w : Workload) (stm : Stm K) 
   -- one that met the limit has fewer rows than scripts
   met-short : (n : ℕ) (r : Worker K) (clock : ℕ) → Stood good w stm sized n r → MetLimit r clock → suc (length r.rows.items) ≤ length (scripts_of n w.items)
   met-short n r clock s met =
-      let own : All (λ i. caller_in i ≡ n) r.items_left.now = subst (λ k. All (λ i. caller_in i ≡ k) r.items_left.now) (stood-caller good w stm sized n r s) (own-items good stm.config.words (caller_of r.desc.who.role) r.regions r.items_left.now s.sound.fits) in
+      let own : All (λ i. caller_in i ≡ n) r.items_left.now = subst (λ k. All (λ i. caller_in i ≡ k) r.items_left.now) (stood-caller good w stm sized n r s) (own-items good stm.config.words (caller_of r.desc.who.role) r.regions.now r.items_left.now s.sound.fits) in
       let some = left-some n r.items_left.now met.2 own in
       let todo = ap length (stood-todo good w stm sized n r s) in
       drop-some (length r.rows.items) (scripts_of n w.items) (omega arith)

@@ -12,7 +12,6 @@ use Rattle.stm_script.specs.declared.report.Report.{Report}
 use Rattle.stm_script.specs.declared.workload.Go.{Go}
 use Rattle.stm_script.specs.declared.workload.Workload.{Workload}
 use Rattle.stm_script.specs.Parts.{ReportReplays}
-use Rattle.stm_text.specs.Built.{ItemFits as BuiltItem}
 use Rattle.stm_rule.specs.Closings.{Ended, Closes}
 use Rattle.stm_trace.specs.declared.line.Line.{Line}
 use Rattle.stm_trace.specs.declared.said.Phase.TheVariants.{Between}
@@ -33,7 +32,7 @@ use Rattle.stm_driver.specs.ClosedRuns.{Reported, CutShort, Came}
 use Rattle.stm_script.specs.Workloads.{config_of}
 use Rattle.stm_script.specs.declared.workload.Item.{Item}
 use Rattle.stm_driver.specs.Partings.{parted}
-use Rattle.stm_driver.specs.Preparings.{WorkloadKeeps, IsPrepared}
+use Rattle.stm_driver.specs.Preparings.{BuiltItem, WorkloadKeeps, IsPrepared}
 use Rattle.stm_driver.specs.Runs.{AreFirst, ArePart, IsStopped, IsTraced, HasRun, HasStepped, RanSome}
 use Rattle.stm_driver.specs.Schedules.{places, AreSame, AreSound, Drives}
 use Rattle.stm_driver.proofs.IdleLaws.{idle-length, idle-still}

@@ -16,9 +16,8 @@ use Rattle.stm_script.specs.declared.workload.Item.TheVariants.{Tx, Switch}
 use Rattle.stm_script.specs.declared.workload.Workload.{Workload}
 use Rattle.stm_script.specs.Operations.{OpFits}
 use Rattle.stm_script.specs.Parts.{BeginsWith, Part, PartIn, IsGathered, ReportReplays, Worked, all_rows}
-use Rattle.stm_script.specs.Reports.{scripts_of, script_of, nonzero, zeros, counted, Shows}
+use Rattle.stm_script.specs.Reports.{regions_of, scripts_of, script_of, nonzero, zeros, counted, Shows}
 use Rattle.stm_script.specs.Workloads.{ItemFits, config_of}
-use Rattle.stm_text.specs.Built.{ItemFits as BuiltItem}
 use Rattle.stm_rule.specs.Callers.{Handle}
 use Rattle.stm_rule.specs.Closings.{Ended, Closes, Told, AllTold, installs_of}
 use Rattle.stm_tx.specs.Descs.{known}
@@ -26,12 +25,13 @@ use Rattle.stm_trace.specs.Places.{caller_in, items_of}
 use Rattle.stm_worker.specs.declared.worker.Worker.{Worker}
 use Rattle.stm_worker.specs.Leavings.{BeginsNext, IsPart, MadeIdle}
 use Rattle.stm_worker.specs.Workers.{Works, switches_of}
+use Rattle.stm_driver.specs.Preparings.{BuiltItem}
 use Rattle.stm_driver.specs.AllWorkers.{AreMadeIdle, descs_of}
 use Rattle.stm_driver.specs.Openings.{first_installs}
 use Rattle.stm_driver.specs.Runs.{RanSome, installs_for}
 use Rattle.stm_driver.proofs.HistoryLaws.{dealt, dealt-all, all-below, made-own, made-within}
 use Rattle.stm_driver.proofs.PartingLaws.{all-cons, own-all, scripts-own}
-use Rattle.stm_driver.proofs.PreparedLaws.{all-installs, item-fits}
+use Rattle.stm_driver.proofs.PreparedLaws.{all-installs}
 use Rattle.stm_driver.proofs.ReportLaws.{reworked}
 use Rattle.stm_driver.proofs.SortLaws.{sorted-of}
 use Rattle.stm_driver.proofs.StandingLaws.{Each, Stood, stood-caller}
@@ -108,9 +108,9 @@ module _ {K : Type 0} (good : List ℕ → Type 0) (w : Workload) (stm : Stm K) 
   pub record IsDid (some : List Item → List Item → Type 0) (closed : Ended) (n : ℕ) (d : Did) : Type 0 where
     pub is : some (items_of n w.items) d.items
     pub own : All (λ i. caller_in i ≡ n) d.items
-    pub fits : All (ItemFits [] w.header) d.items
+    pub fits : All (ItemFits (regions_of w.header) w.header) d.items
     pub caller : d.part.caller ≡ n
-    pub worked : Worked good (zeros w.header.words) [] (script_of d.items) n d.part.made d.part.seen d.part.front d.part.rows
+    pub worked : Worked good (zeros w.header.words) (regions_of w.header) (script_of d.items) n d.part.made d.part.seen d.part.front d.part.rows
     pub begins : BeginsWith closed.history d.part.seen d.part.front
     pub made : d.part.made ≡ made_by n closed.history
     pub whole : length d.part.rows ≡ length (scripts_of n d.items)
@@ -129,14 +129,14 @@ module _ {K : Type 0} (good : List ℕ → Type 0) (w : Workload) (stm : Stm K) 
       let did = h.did.items in
       let all : v.all.now ≡ items_of n w.items = s.own.all in
       let part : IsPart (items_of n w.items) v.items_left.now did = subst (λ l. IsPart l v.items_left.now did) all h.did.part in
-      let P : Item → Type 0 = λ i. (caller_in i ≡ n) × ItemFits [] w.header i in
-      let mine : All P (items_of n w.items) = λ i d lt. (let both = own-all (BuiltItem w.header) n w.items items i d lt in (both.0, item-fits w.header (get_or (items_of n w.items) i d) both.1)) in
-      let each : All P did = part-all P (λ caller ops rest f. (f.0, (f.1.0, all-first (OpFits [] w.header.words) ops rest f.1.1))) (items_of n w.items) v.items_left.now did part mine in
+      let P : Item → Type 0 = λ i. (caller_in i ≡ n) × ItemFits (regions_of w.header) w.header i in
+      let mine : All P (items_of n w.items) = λ i d lt. (let both = own-all (BuiltItem w.header) n w.items items i d lt in (both.0, both.1.1)) in
+      let each : All P did = part-all P (λ caller ops rest f. (f.0, (f.1.0, all-first (OpFits (regions_of w.header) w.header.words) ops rest f.1.1))) (items_of n w.items) v.items_left.now did part mine in
       let words : stm.config.words ≡ w.header.words = ap (λ (c : Config). c.words) sized in
-      let works : Works good w.header.words [] did n (known x.desc) h.did.rows =
-      subst (λ k. Works good k [] did n (known x.desc) h.did.rows) words
-      (subst (λ rs. Works good stm.config.words rs did n (known x.desc) h.did.rows) s.own.regions
-      (subst (λ k. Works good stm.config.words v.regions did k (known x.desc) h.did.rows) (stood-caller good w stm sized n v s) h.did.works)) in
+      let works : Works good w.header.words (regions_of w.header) did n (known x.desc) h.did.rows =
+      subst (λ k. Works good k (regions_of w.header) did n (known x.desc) h.did.rows) words
+      (subst (λ rs. Works good stm.config.words rs did n (known x.desc) h.did.rows) s.own.over
+      (subst (λ k. Works good stm.config.words v.regions.now did k (known x.desc) h.did.rows) (stood-caller good w stm sized n v s) h.did.works)) in
       let parted : switches_of (items_of n w.items) ≡ switches_of did ++ switches_of v.items_left.now =
       ap switches_of part.1 ∙ (switches-append part.0 v.items_left.now ∙ ap (λ l. l ++ switches_of v.items_left.now) (sym (part-switches part.0 v.items_left.now did part.2))) in
       let whole : (known x.desc).installs ++ switches_of v.items_left.now ≡ (first_installs w.header.alg n ++ switches_of did) ++ switches_of v.items_left.now =
@@ -217,13 +217,13 @@ module _ {K : Type 0} (good : List ℕ → Type 0) (w : Workload) (stm : Stm K) 
     callers-in n [] h = refl
     callers-in n (d ∷ ds) h = let head = h.0.did.caller in let rest = callers-in (suc n) ds h.1 in cc
 
-    fits-in : (n : ℕ) (ds : List Did) → Each IsIn n ds → All (ItemFits [] w.header) (all_of ds)
+    fits-in : (n : ℕ) (ds : List Did) → Each IsIn n ds → All (ItemFits (regions_of w.header) w.header) (all_of ds)
     fits-in n [] h = λ i d lt. absurd (omega (arith, lt))
     fits-in n (d ∷ ds) h = all-both d.items (all_of ds) h.0.did.fits (fits-in (suc n) ds h.1)
       where
-        all-both : (xs ys : List Item) → All (ItemFits [] w.header) xs → All (ItemFits [] w.header) ys → All (ItemFits [] w.header) (xs ++ ys)
+        all-both : (xs ys : List Item) → All (ItemFits (regions_of w.header) w.header) xs → All (ItemFits (regions_of w.header) w.header) ys → All (ItemFits (regions_of w.header) w.header) (xs ++ ys)
         all-both [] ys a b = b
-        all-both (x ∷ xs) ys a b = all-cons (ItemFits [] w.header) x (xs ++ ys) (All-head (ItemFits [] w.header) x xs a) (all-both xs ys (All-tail (ItemFits [] w.header) x xs a) b)
+        all-both (x ∷ xs) ys a b = all-cons (ItemFits (regions_of w.header) w.header) x (xs ++ ys) (All-head (ItemFits (regions_of w.header) w.header) x xs a) (all-both xs ys (All-tail (ItemFits (regions_of w.header) w.header) x xs a) b)
 
     some_of : Workload
     some_of = record { header = w.header; items = whole; schedule = w.schedule }
@@ -236,8 +236,8 @@ module _ {K : Type 0} (good : List ℕ → Type 0) (w : Workload) (stm : Stm K) 
         let made = h.0.did.made in
         let same : scripts_of n d.items ≡ scripts_of n whole = sym (ap (scripts_of n) h.0.here) ∙ scripts-own n whole in
         all-cons (PartIn good some_of closed.history) d.part (map (λ (e : Did). e.part) ds) (record {
-          worked = subst (λ k. Worked good (zeros w.header.words) [] (script_of whole) k d.part.made d.part.seen d.part.front d.part.rows) own
-              (reworked good (zeros w.header.words) [] d.items whole n d.part.made d.part.seen d.part.front d.part.rows same h.0.did.worked);
+          worked = subst (λ k. Worked good (zeros w.header.words) (regions_of w.header) (script_of whole) k d.part.made d.part.seen d.part.front d.part.rows) own
+              (reworked good (zeros w.header.words) (regions_of w.header) d.items whole n d.part.made d.part.seen d.part.front d.part.rows same h.0.did.worked);
           begins = h.0.did.begins;
           within = λ e c. made-within n closed.history e (subst (λ l. Contains l e) made c);
           owned = subst (λ k. All (λ (e : Entry). e.caller ≡ k) d.part.made) own (subst (All (λ (e : Entry). e.caller ≡ n)) (sym made) (made-own n closed.history));

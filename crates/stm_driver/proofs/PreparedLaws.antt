@@ -7,17 +7,15 @@ use Rattle.stm_rule.specs.declared.stm.Stm.{Stm}
 use Rattle.stm_model.specs.declared.config.Config.{Config}
 use Rattle.rule_base.specs.declared.seats.Role.TheVariants.{Caller}
 use Rattle.stm_model.specs.declared.alg.Alg.{Alg}
-use Rattle.stm_script.specs.declared.op.Op.{Op}
-use Rattle.stm_script.specs.declared.op.Op.TheVariants.{Read, Write, Add, Move, Emit, Irrev, Cancel}
+use Rattle.tx_regions.specs.declared.region.Region.{Region}
 use Rattle.stm_script.specs.declared.workload.Go.{Go}
 use Rattle.stm_script.specs.declared.workload.Header.{Header}
 use Rattle.stm_script.specs.declared.workload.Item.{Item}
 use Rattle.stm_script.specs.declared.workload.Item.TheVariants.{Tx, Switch}
 use Rattle.stm_script.specs.declared.workload.Workload.{Workload}
-use Rattle.stm_script.specs.Operations.{OpFits, ScriptFits}
-use Rattle.stm_script.specs.Reports.{counted}
-use Rattle.stm_script.specs.Workloads.{ItemFits}
-use Rattle.stm_text.specs.Built.{OpFits as BuiltOp, ScriptFits as BuiltScript, ItemFits as BuiltItem}
+use Rattle.stm_script.specs.Reports.{counted, regions_of}
+use Rattle.stm_text.specs.declared.parse.Mode.{Mode}
+use Rattle.stm_text.specs.Built.{IsBuilt, BuiltWorkloadsFit}
 use Rattle.stm_rule.specs.Callers.{Handle, IsOf}
 use Rattle.tx_answers.specs.Known.{Known, caller_of, owed}
 use Rattle.stm_tx.specs.Descs.{known}
@@ -33,41 +31,28 @@ use Rattle.stm_driver.specs.AllWorkers.{AreMade, AreCallers}
 use Rattle.stm_script.specs.Workloads.{config_of}
 use Rattle.stm_driver.specs.Openings.{IsNew, first_installs, AllNew}
 use Rattle.stm_driver.specs.Partings.{parted}
-use Rattle.stm_driver.specs.Preparings.{ItemKeeps, WorkloadKeeps, IsPrepared}
+use Rattle.stm_driver.specs.Preparings.{BuiltItem, ItemKeeps, WorkloadKeeps, IsPrepared}
 use Rattle.stm_driver.specs.Runs.{installs_for}
 use Rattle.stm_driver.specs.Schedules.{places, AreSame, AreSound, debts}
 use Rattle.stm_driver.proofs.PartingLaws.{all-cons, own-all, part-at}
 use Rattle.stm_driver.proofs.StartLaws.{starts-sound}
 use Rattle.stm_driver.proofs.WorkersLaws.{made-length, made-same}
 
--- an operation of the grammar fits a memory without regions
-op-fits : (words : ℕ) (op : Op) → BuiltOp words op → OpFits [] words op
-op-fits words (Read a) h = (h, λ i d lt. absurd (omega arith))
-op-fits words (Write a v) h = (h.0, λ i d lt. absurd (omega arith))
-op-fits words (Add a k) h = (h.0, λ i d lt. absurd (omega arith))
-op-fits words (Move a b k) h = (h.0, (λ i d lt. absurd (omega arith)), h.1, λ i d lt. absurd (omega arith))
-op-fits words (Emit a) h = (h, λ i d lt. absurd (omega arith))
-op-fits words Irrev h = tt
-op-fits words Cancel h = tt
-
-script-fits : (words : ℕ) (script : List Op) → BuiltScript words script → ScriptFits [] words script
-script-fits words script h = λ i d lt. op-fits words (get_or script i d) (h.each i d lt)
-
-pub item-fits : (h : Header) (item : Item) → BuiltItem h item → ItemFits [] h item
-item-fits h (Tx caller script) b = (b.0, script-fits h.words script b.1)
-item-fits h (Switch caller alg) b = b.0
+-- the items of a workload that is built
+pub built-items : (m : Mode) (w : Workload) → BuiltWorkloadsFit → IsBuilt m w → All (BuiltItem w.header) w.items
+built-items m w fit b = λ i d lt. (b.items i d lt, fit m w b i d lt)
 
 -- a caller's items, each of which is its own
-items-own : (good : List ℕ → Type 0) (h : Header) (n : ℕ) (items : List Item) → All (λ i. (caller_in i ≡ n) × (BuiltItem h i × ItemKeeps good h.words i)) items → OwnItems good h.words [] n items
+items-own : (good : List ℕ → Type 0) (h : Header) (n : ℕ) (items : List Item) → All (λ i. (caller_in i ≡ n) × (BuiltItem h i × ItemKeeps good h i)) items → OwnItems good h.words (regions_of h) n items
 items-own good h n [] b = tt
 items-own good h n (Tx caller script ∷ items) b =
-    let P : Item → Type 0 = λ i. (caller_in i ≡ n) × (BuiltItem h i × ItemKeeps good h.words i) in
+    let P : Item → Type 0 = λ i. (caller_in i ≡ n) × (BuiltItem h i × ItemKeeps good h i) in
     let head = All-head P (Tx caller script) items b in
-    (head.0, script-fits h.words script head.1.0.1, head.1.1, items-own good h n items (All-tail P (Tx caller script) items b))
+    (head.0, head.1.0.1.1, head.1.1, items-own good h n items (All-tail P (Tx caller script) items b))
 items-own good h n (Switch caller alg ∷ items) b =
-    let P : Item → Type 0 = λ i. (caller_in i ≡ n) × (BuiltItem h i × ItemKeeps good h.words i) in
+    let P : Item → Type 0 = λ i. (caller_in i ≡ n) × (BuiltItem h i × ItemKeeps good h i) in
     let head = All-head P (Switch caller alg) items b in
-    (head.0, head.1.0.1, items-own good h n items (All-tail P (Switch caller alg) items b))
+    (head.0, head.1.0.0.1, items-own good h n items (All-tail P (Switch caller alg) items b))
 
 -- who has not begun owes what it raised the clock by to install
 new-owes : (these : List Alg) (v : Known) → IsNew these v → owed v ≤ length these
@@ -78,7 +63,7 @@ module _ {K : Type 0} where
   pub record IsOwn (w : Workload) (n : ℕ) (x : Worker K) : Type 0 where
     pub role : x.desc.who.role ≡ Caller n
     pub all : x.all.now ≡ items_of n w.items
-    pub regions : x.regions ≡ []
+    pub over : x.regions.now ≡ regions_of w.header
     pub switched : (known x.desc).installs ++ switches_of x.items_left.now ≡ installs_for w n
 
   abbrev pub AreOwn : Workload → ℕ → List (Worker K) → Type 0
@@ -94,11 +79,11 @@ module _ {K : Type 0} where
   own-same w n [] (y ∷ ys) s h = absurd s
   own-same w n (x ∷ xs) [] s h = absurd s
   own-same w n (x ∷ xs) (y ∷ ys) s h =
-      (record { role = ap (λ x. x.role) s.0.same.who ∙ h.0.role; all = s.0.all ∙ h.0.all; regions = s.0.regions ∙ h.0.regions; switched = s.0.switched ∙ h.0.switched }, own-same w (suc n) xs ys s.1 h.1)
+      (record { role = ap (λ x. x.role) s.0.same.who ∙ h.0.role; all = s.0.all ∙ h.0.all; over = s.0.regions ∙ h.0.over; switched = s.0.switched ∙ h.0.switched }, own-same w (suc n) xs ys s.1 h.1)
 
-  module _ (stm : Stm K) (items : List Item) (alg : Alg) where
+  module _ (stm : Stm K) (items : List Item) (rs : List Region) (alg : Alg) where
     -- what the first install raised the clock by is all that is owed at the start
-    owes-start : (n : ℕ) (ds : List (Handle K)) (ws : List (Worker K)) → AllNew stm alg n ds → AreMade (λ k. items_of k items) alg n ds ws → debts ws ≤ length (first_installs alg n)
+    owes-start : (n : ℕ) (ds : List (Handle K)) (ws : List (Worker K)) → AllNew stm alg n ds → AreMade (λ k. items_of k items) rs alg n ds ws → debts ws ≤ length (first_installs alg n)
     owes-start n [] [] o h = omega arith
     owes-start n [] (w ∷ ws) o h = absurd h
     owes-start n (d ∷ ds) [] o h = absurd h
@@ -114,26 +99,26 @@ module _ {K : Type 0} where
   StartPaid alg n [] = Unit {0}
   StartPaid alg n (x ∷ ws) = ((each most : ℕ) → PaysBut (length (first_installs alg n)) each most x) × CountsNext x × (x.failed ≡ 0) × StartPaid alg (suc n) ws
 
-  start-pays : (d : Handle K) (items : List Item) (alg : Alg) (these : List Alg) (x : Worker K) → IsNew these (known d) → Starts d items alg x → (each most : ℕ) → PaysBut (length these) each most x
-  start-pays d items alg these x new s each most =
+  start-pays : (d : Handle K) (items : List Item) (rs : List Region) (alg : Alg) (these : List Alg) (x : Worker K) → IsNew these (known d) → Starts d items rs alg x → (each most : ℕ) → PaysBut (length these) each most x
+  start-pays d items rs alg these x new s each most =
       let few : raised (known x.desc) ≤ length these = subst (λ (y : Handle K). raised (known y) ≤ length these) (sym s.is_desc) (subst (λ b. (if b then (known d).base else (known d).rises) ≤ length these) (sym new.idle.1) new.done.rises) in
       let left : x.items_left.now ≡ x.all.now = ap (λ (p : Place). p.left) s.at ∙ sym s.all in
       let same : each * length x.items_left.now ≡ each * length x.all.now = ap (λ (l : List Item). each * length l) left in
       omega (arith, few, same)
 
-  paid-start : (stm : Stm K) (items : List Item) (alg : Alg) (n : ℕ) (ds : List (Handle K)) (ws : List (Worker K)) → AllNew stm alg n ds → AreMade (λ k. items_of k items) alg n ds ws → StartPaid alg n ws
-  paid-start stm items alg n [] [] o h = tt
-  paid-start stm items alg n [] (x ∷ ws) o h = absurd h
-  paid-start stm items alg n (d ∷ ds) [] o h = absurd h
-  paid-start stm items alg n (d ∷ ds) (x ∷ ws) o h = (
-    start-pays d (items_of n items) alg (first_installs alg n) x o.2 h.0,
+  paid-start : (stm : Stm K) (items : List Item) (rs : List Region) (alg : Alg) (n : ℕ) (ds : List (Handle K)) (ws : List (Worker K)) → AllNew stm alg n ds → AreMade (λ k. items_of k items) rs alg n ds ws → StartPaid alg n ws
+  paid-start stm items rs alg n [] [] o h = tt
+  paid-start stm items rs alg n [] (x ∷ ws) o h = absurd h
+  paid-start stm items rs alg n (d ∷ ds) [] o h = absurd h
+  paid-start stm items rs alg n (d ∷ ds) (x ∷ ws) o h = (
+    start-pays d (items_of n items) rs alg (first_installs alg n) x o.2 h.0,
     starts-counts x (ap (λ (p : Place). p.failed) h.0.at) (ap (λ (p : Place). p.must) h.0.at),
     ap (λ (p : Place). p.failed) h.0.at,
-    paid-start stm items alg (suc n) ds ws o.4 h.1,
+    paid-start stm items rs alg (suc n) ds ws o.4 h.1,
   )
 
   -- where the callers stand at first
-  starts-at : (stm : Stm K) (w : Workload) (n : ℕ) (ds : List (Handle K)) (ws : List (Worker K)) → AllNew stm w.header.alg n ds → AreMade (λ k. items_of k w.items) w.header.alg n ds ws
+  starts-at : (stm : Stm K) (w : Workload) (n : ℕ) (ds : List (Handle K)) (ws : List (Worker K)) → AllNew stm w.header.alg n ds → AreMade (λ k. items_of k w.items) (regions_of w.header) w.header.alg n ds ws
       → places ws ≡ map (first_place w) (counted n (length ws))
   starts-at stm w n [] [] o h = refl
   starts-at stm w n [] (x ∷ ws) o h = absurd h
@@ -150,12 +135,12 @@ module _ (w : Workload) where
   all-installs (suc n) = refl
 
 module _ {K : Type 0} (w : Workload) where
-  starts-switches : (alg : Alg) (n : ℕ) (d : Handle K) (u : Worker K) → alg ≡ w.header.alg → IsNew (first_installs alg n) (known d) → Starts d (items_of n w.items) alg u → (known u.desc).installs ++ switches_of u.items_left.now ≡ installs_for w n
+  starts-switches : (alg : Alg) (n : ℕ) (d : Handle K) (u : Worker K) → alg ≡ w.header.alg → IsNew (first_installs alg n) (known d) → Starts d (items_of n w.items) (regions_of w.header) alg u → (known u.desc).installs ++ switches_of u.items_left.now ≡ installs_for w n
   starts-switches alg n d u is new s =
       ap (λ l. l ++ switches_of u.items_left.now) (ap (λ (x : Handle K). (known x).installs) s.is_desc ∙ (new.done.installs ∙ ap (λ a. first_installs a n) is))
       ∙ (ap (λ (p : Place). first_installs w.header.alg n ++ switches_of p.left) s.at ∙ all-installs w n)
 
-  own-start : (stm : Stm K) (n : ℕ) (ds : List (Handle K)) (ws : List (Worker K)) → AllNew stm w.header.alg n ds → AreMade (λ k. items_of k w.items) w.header.alg n ds ws → AreOwn w n ws
+  own-start : (stm : Stm K) (n : ℕ) (ds : List (Handle K)) (ws : List (Worker K)) → AllNew stm w.header.alg n ds → AreMade (λ k. items_of k w.items) (regions_of w.header) w.header.alg n ds ws → AreOwn w n ws
   own-start stm n [] [] o h = tt
   own-start stm n [] (x ∷ ws) o h = absurd h
   own-start stm n (d ∷ ds) [] o h = absurd h
@@ -164,7 +149,7 @@ module _ {K : Type 0} (w : Workload) where
         record {
           role = ap (λ (d : Handle K). d.who.role) s.is_desc ∙ o.1;
           all = s.all;
-          regions = s.regions;
+          over = s.over;
           switched = starts-switches w.header.alg n d x refl o.2 s;
         },
         own-start stm (suc n) ds ws o.4 h.1,
@@ -185,15 +170,15 @@ module _ {K : Type 0} (good : List ℕ → Type 0) (w : Workload) (stm : Stm K) 
     pub paid : StartPaid w.header.alg 0 ws
 
   module _ (keeps : WorkloadKeeps good w) where
-    sound-start : (alg : Alg) (n : ℕ) (d : Handle K) (u : Worker K) → IsOf d stm → d.who.role ≡ Caller n → IsNew (first_installs alg n) (known d) → HasLengths stm.config (known d) → Starts d (items_of n w.items) alg u → Sound good stm u
+    sound-start : (alg : Alg) (n : ℕ) (d : Handle K) (u : Worker K) → IsOf d stm → d.who.role ≡ Caller n → IsNew (first_installs alg n) (known d) → HasLengths stm.config (known d) → Starts d (items_of n w.items) (regions_of w.header) alg u → Sound good stm u
     sound-start alg n d u own role new long s =
         let mine = items_of n w.items in
         let words : stm.config.words ≡ w.header.words = ap (λ (c : Config). c.words) sized in
-        let both : All (λ i. BuiltItem w.header i × ItemKeeps good w.header.words i) w.items = λ i d lt. (items i d lt, keeps i d lt) in
-        let owned : OwnItems good stm.config.words [] n mine = subst (λ k. OwnItems good k [] n mine) (sym words) (items-own good w.header n mine (own-all (λ i. BuiltItem w.header i × ItemKeeps good w.header.words i) n w.items both)) in
-        starts-sound good stm d mine alg (first_installs alg n) u own new long (subst (λ k. OwnItems good stm.config.words [] k mine) (sym (ap caller_of role)) owned) s
+        let both : All (λ i. BuiltItem w.header i × ItemKeeps good w.header i) w.items = λ i d lt. (items i d lt, keeps i d lt) in
+        let owned : OwnItems good stm.config.words (regions_of w.header) n mine = subst (λ k. OwnItems good k (regions_of w.header) n mine) (sym words) (items-own good w.header n mine (own-all (λ i. BuiltItem w.header i × ItemKeeps good w.header i) n w.items both)) in
+        starts-sound good stm d mine (regions_of w.header) alg (first_installs alg n) u own new long (subst (λ k. OwnItems good stm.config.words (regions_of w.header) k mine) (sym (ap caller_of role)) owned) s
 
-    sound-all : (alg : Alg) (n : ℕ) (ds : List (Handle K)) (ws : List (Worker K)) → AllNew stm alg n ds → AreMade (λ k. items_of k w.items) alg n ds ws → AreSound good stm ws
+    sound-all : (alg : Alg) (n : ℕ) (ds : List (Handle K)) (ws : List (Worker K)) → AllNew stm alg n ds → AreMade (λ k. items_of k w.items) (regions_of w.header) alg n ds ws → AreSound good stm ws
     sound-all alg n [] [] opened made = λ i d lt. absurd (omega (arith, lt))
     sound-all alg n [] (x ∷ ws) opened made = absurd made
     sound-all alg n (d ∷ ds) [] opened made = absurd made
@@ -203,15 +188,15 @@ module _ {K : Type 0} (good : List ℕ → Type 0) (w : Workload) (stm : Stm K) 
     pub begun : (parts : List (List Item)) (ws : List (Worker K)) → parts ≡ parted w.header.callers w.items → IsPrepared w.header parts stm ws → Begun ws
     begun parts ws is p =
         let callers = p.count in
-        let owned = made-same (λ n. slice_index_or parts n []) (λ n. items_of n w.items) w.header.alg w.header.callers 0 p.descs ws (λ n lt. ap (λ l. slice_index_or l n []) is ∙ part-at w.header.callers w.items n [] lt) (omega (arith, callers)) p.made in
-        let long = made-length (λ n. items_of n w.items) w.header.alg 0 p.descs ws owned ∙ callers in
+        let owned = made-same (λ n. slice_index_or parts n []) (λ n. items_of n w.items) (regions_of w.header) w.header.alg w.header.callers 0 p.descs ws (λ n lt. ap (λ l. slice_index_or l n []) is ∙ part-at w.header.callers w.items n [] lt) (omega (arith, callers)) p.made in
+        let long = made-length (λ n. items_of n w.items) (regions_of w.header) w.header.alg 0 p.descs ws owned ∙ callers in
         record {
           sound = sound-all w.header.alg 0 p.descs ws p.new owned;
           count = long;
           own = own-start w stm 0 p.descs ws p.new owned;
           starts = starts-at stm w 0 p.descs ws p.new owned ∙ ap (λ k. map (first_place w) (counted 0 k)) long;
-          owes = owes-start stm w.items w.header.alg 0 p.descs ws p.new owned;
-          paid = paid-start stm w.items w.header.alg 0 p.descs ws p.new owned;
+          owes = owes-start stm w.items (regions_of w.header) w.header.alg 0 p.descs ws p.new owned;
+          paid = paid-start stm w.items (regions_of w.header) w.header.alg 0 p.descs ws p.new owned;
         }
 
   pub turns-below : (gos : List Go) (ws : List (Worker K)) → All (λ (go : Go). go.caller < w.header.callers) gos → Begun ws → All (λ (go : Go). go.caller < length ws) gos

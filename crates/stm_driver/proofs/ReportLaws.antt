@@ -7,14 +7,13 @@ use Rattle.std.proofs.lemmas.List.Sums.{sum_by-cons}
 use Rattle.stm_rule.specs.declared.stm.Stm.{Stm}
 use Rattle.stm_model.specs.declared.config.Config.{Config}
 use Rattle.stm_model.specs.Histories.{Entry, made_by, memory_at, IsLegal}
-use Rattle.stm_script.specs.declared.region.Region.{Region}
+use Rattle.tx_regions.specs.declared.region.Region.{Region}
 use Rattle.stm_script.specs.declared.report.Report.{Report}
 use Rattle.stm_script.specs.declared.report.Row.{Row}
 use Rattle.stm_script.specs.declared.workload.Item.{Item}
 use Rattle.stm_script.specs.declared.workload.Workload.{Workload}
 use Rattle.stm_script.specs.Parts.{Part, PartIn, IsGathered, ReportReplays, Worked, RowOf, RowIn, by_kind, all_rows}
-use Rattle.stm_script.specs.Reports.{scripts_of, script_of, nonzero, zeros, counted, Shows, RowFits}
-use Rattle.stm_text.specs.Built.{ItemFits as BuiltItem}
+use Rattle.stm_script.specs.Reports.{regions_of, scripts_of, script_of, nonzero, zeros, counted, Shows, RowFits}
 use Rattle.stm_rule.specs.Callers.{Handle}
 use Rattle.stm_rule.specs.Closings.{Ended, Closes, Told, AllTold, installs_of}
 use Rattle.tx_answers.specs.Known.{caller_of}
@@ -23,6 +22,7 @@ use Rattle.stm_trace.specs.Places.{items_of}
 use Rattle.stm_trace.specs.Turns.{IsOver}
 use Rattle.stm_worker.specs.declared.worker.Worker.{Worker}
 use Rattle.stm_worker.specs.Workers.{place_of, switches_of}
+use Rattle.stm_driver.specs.Preparings.{BuiltItem}
 use Rattle.stm_driver.specs.AllWorkers.{descs_of, rows_of}
 use Rattle.stm_driver.specs.ClosedRuns.{IsReport}
 use Rattle.stm_script.specs.Workloads.{config_of}
@@ -30,7 +30,6 @@ use Rattle.stm_driver.specs.Runs.{installs_for, IsShown}
 use Rattle.stm_driver.specs.Schedules.{places}
 use Rattle.stm_driver.proofs.HistoryLaws.{dealt, dealt-all, all-below, made-own, made-within}
 use Rattle.stm_driver.proofs.PartingLaws.{all-cons, scripts-own}
-use Rattle.stm_driver.proofs.PreparedLaws.{item-fits}
 use Rattle.stm_driver.proofs.StandingLaws.{Each, Stood, stood-caller, stood-works, stood-todo, stood-within}
 
 drop-none : {A : Type 0} (n : ℕ) (xs : List A) → [] ≡ drop n xs → length xs ≤ n
@@ -82,8 +81,8 @@ module _ {K : Type 0} (good : List ℕ → Type 0) (w : Workload) (stm : Stm K) 
       let count = drop-none (length u.rows.items) (scripts_of n w.items) nothing in
       let whole : length u.rows.items ≡ length (scripts_of n w.items) = omega arith in
       record {
-        worked = subst (λ k. Worked good (zeros w.header.words) [] (script_of w.items) k (known u.desc).made (known u.desc).seen (known u.desc).front u.rows.items) own
-            (reworked good (zeros w.header.words) [] (items_of n w.items) w.items n (known u.desc).made (known u.desc).seen (known u.desc).front u.rows.items (scripts-own n w.items) (stood-works good w stm sized n r s over.0));
+        worked = subst (λ k. Worked good (zeros w.header.words) (regions_of w.header) (script_of w.items) k (known u.desc).made (known u.desc).seen (known u.desc).front u.rows.items) own
+            (reworked good (zeros w.header.words) (regions_of w.header) (items_of n w.items) w.items n (known u.desc).made (known u.desc).seen (known u.desc).front u.rows.items (scripts-own n w.items) (stood-works good w stm sized n r s over.0));
         begins = told.seen;
         within = λ e h. made-within n closed.history e (subst (λ l. Contains l e) made h);
         owned = subst (λ k. All (λ (e : Entry). e.caller ≡ k) (known u.desc).made) own (subst (All (λ (e : Entry). e.caller ≡ n)) (sym made) (made-own n closed.history));
@@ -123,7 +122,7 @@ module _ {K : Type 0} (good : List ℕ → Type 0) (w : Workload) (stm : Stm K) 
   shown theorem rs ws closed report stood len over c r =
       let parts = map part_of rs in
       let gathered : IsGathered good w closed.history closed.clock parts report = record {
-        items = λ i d lt. item-fits w.header (get_or w.items i d) (items i d lt);
+        items = λ i d lt. (items i d lt).1;
         legal = subst (λ (x : Config). IsLegal good (zeros x.words) x.clock closed.history) sized c.legal;
         times = c.times;
         callers = parts-callers 0 rs stood ∙ ap (counted 0) (len ∙ ap (λ (x : Config). x.callers) sized);

@@ -15,7 +15,7 @@ use Rattle.stm_script.specs.declared.report.Kind.TheVariants.{W, R, C}
 use Rattle.stm_script.specs.declared.report.Row.{Row}
 use Rattle.stm_script.specs.declared.workload.Workload.{Workload}
 use Rattle.stm_script.specs.Parts.{times}
-use Rattle.stm_script.specs.Reports.{scripts_of, writers, writer_to}
+use Rattle.stm_script.specs.Reports.{regions_of, scripts_of, writers, writer_to}
 use Rattle.tx_answers.specs.Known.{caller_of}
 use Rattle.stm_tx.specs.Descs.{known}
 use Rattle.stm_trace.specs.declared.said.Phase.TheVariants.{Between}
@@ -72,14 +72,14 @@ module _ {K : Type 0} (good : List ℕ → Type 0) (w : Workload) (stm : Stm K) 
   pub stood-caller : (n : ℕ) (r : Worker K) → Stood n r → caller_of r.desc.who.role ≡ n
   stood-caller n r s = ap caller_of s.own.role
 
-  pub stood-works : (n : ℕ) (r : Worker K) → Stood n r → r.phase ≡ Between → Works good w.header.words [] (items_of n w.items) n (known r.desc) r.rows.items
+  pub stood-works : (n : ℕ) (r : Worker K) → Stood n r → r.phase ≡ Between → Works good w.header.words (regions_of w.header) (items_of n w.items) n (known r.desc) r.rows.items
   stood-works n r s between =
       let words : stm.config.words ≡ w.header.words = ap (λ (c : Config). c.words) sized in
-      subst (λ k. Stands good k [] (items_of n w.items) n (known r.desc) r.rows.items Between) words
-      (subst (λ rs. Stands good stm.config.words rs (items_of n w.items) n (known r.desc) r.rows.items Between) s.own.regions
-      (subst (λ x. Stands good stm.config.words r.regions x n (known r.desc) r.rows.items Between) s.own.all
-      (subst (λ k. Stands good stm.config.words r.regions r.all.now k (known r.desc) r.rows.items Between) (stood-caller n r s)
-      (subst (Stands good stm.config.words r.regions r.all.now (caller_of r.desc.who.role) (known r.desc) r.rows.items) between s.sound.stands))))
+      subst (λ k. Stands good k (regions_of w.header) (items_of n w.items) n (known r.desc) r.rows.items Between) words
+      (subst (λ rs. Stands good stm.config.words rs (items_of n w.items) n (known r.desc) r.rows.items Between) s.own.over
+      (subst (λ x. Stands good stm.config.words r.regions.now x n (known r.desc) r.rows.items Between) s.own.all
+      (subst (λ k. Stands good stm.config.words r.regions.now r.all.now k (known r.desc) r.rows.items Between) (stood-caller n r s)
+      (subst (Stands good stm.config.words r.regions.now r.all.now (caller_of r.desc.who.role) (known r.desc) r.rows.items) between s.sound.stands))))
 
   -- what is left of its scripts
   pub stood-todo : (n : ℕ) (r : Worker K) → Stood n r → scripts_of n r.items_left.now ≡ drop (length r.rows.items) (scripts_of n w.items)

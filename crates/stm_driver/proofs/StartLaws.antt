@@ -2,6 +2,7 @@
 use Rattle.std.proofs.Common.{ℕ, ◌≡◌, List, [], length, drop, refl, sym, ap, ◌∙◌, arith, subst}
 use Rattle.stm_rule.specs.declared.stm.Stm.{Stm}
 use Rattle.stm_model.specs.declared.alg.Alg.{Alg}
+use Rattle.tx_regions.specs.declared.region.Region.{Region}
 use Rattle.stm_script.specs.declared.report.Row.{Row}
 use Rattle.stm_script.specs.declared.workload.Item.{Item}
 use Rattle.stm_script.specs.Parts.{times}
@@ -17,8 +18,8 @@ use Rattle.stm_worker.specs.Workers.{IsAt, WhenInside, ToSwitch, ItemsFit, DidSw
 
 module _ {K : Type 0} (good : List ℕ → Type 0) (stm : Stm K) where
   -- a caller that has made nothing has done nothing
-  start-works : (n : ℕ) (all : List Item) (v : Known) → v.made ≡ [] → Works good stm.config.words [] all n v []
-  start-works n all v none = record {
+  start-works : (rs : List Region) (n : ℕ) (all : List Item) (v : Known) → v.made ≡ [] → Works good stm.config.words rs all n v []
+  start-works rs n all v none = record {
     writers = sym (ap times none);
     each = λ i d lt. absurd (omega arith);
     mine = λ i d lt. absurd (omega arith);
@@ -27,9 +28,9 @@ module _ {K : Type 0} (good : List ℕ → Type 0) (stm : Stm K) where
     places = λ i d lt. absurd (omega arith);
   }
 
-  pub starts-sound : (d : Handle K) (items : List Item) (alg : Alg) (these : List Alg) (u : Worker K) → IsOf d stm → IsNew these (known d) → HasLengths stm.config (known d) → ItemsFit good stm.config.words [] (caller_of d.who.role) items → Starts d items alg u
+  pub starts-sound : (d : Handle K) (items : List Item) (rs : List Region) (alg : Alg) (these : List Alg) (u : Worker K) → IsOf d stm → IsNew these (known d) → HasLengths stm.config (known d) → ItemsFit good stm.config.words rs (caller_of d.who.role) items → Starts d items rs alg u
       → Sound good stm u
-  starts-sound d items alg these u own new long fits s =
+  starts-sound d items rs alg these u own new long fits s =
       let who : caller_of u.desc.who.role ≡ caller_of d.who.role = ap (λ (x : Handle K). caller_of x.who.role) s.is_desc in
       let knows : known u.desc ≡ known d = ap known s.is_desc in
       let phase : u.phase ≡ Between = ap (λ (p : Place). p.phase) s.at in
@@ -38,23 +39,23 @@ module _ {K : Type 0} (good : List ℕ → Type 0) (stm : Stm K) where
       let failed : u.failed ≡ 0 = ap (λ (p : Place). p.failed) s.at in
       let count = ap length none in
       let whole : u.items_left.now ≡ u.all.now = left ∙ sym s.all in
-      let stands : Stands good stm.config.words u.regions u.all.now (caller_of u.desc.who.role) (known u.desc) u.rows.items Between =
-      subst (λ rs. Stands good stm.config.words rs u.all.now (caller_of u.desc.who.role) (known u.desc) u.rows.items Between) (sym s.regions)
-      (subst (λ v. Stands good stm.config.words [] u.all.now (caller_of u.desc.who.role) v u.rows.items Between) (sym knows)
-      (subst (λ rows. Stands good stm.config.words [] u.all.now (caller_of u.desc.who.role) (known d) rows Between) (sym none) (start-works (caller_of u.desc.who.role) u.all.now (known d) new.done.made))) in
+      let stands : Stands good stm.config.words u.regions.now u.all.now (caller_of u.desc.who.role) (known u.desc) u.rows.items Between =
+      subst (λ x. Stands good stm.config.words x u.all.now (caller_of u.desc.who.role) (known u.desc) u.rows.items Between) (sym s.over)
+      (subst (λ v. Stands good stm.config.words rs u.all.now (caller_of u.desc.who.role) v u.rows.items Between) (sym knows)
+      (subst (λ rows. Stands good stm.config.words rs u.all.now (caller_of u.desc.who.role) (known d) rows Between) (sym none) (start-works rs (caller_of u.desc.who.role) u.all.now (known d) new.done.made))) in
       record {
         own = subst (λ (x : Handle K). IsOf x stm) (sym s.is_desc) own;
         at = subst (λ p. IsAt good stm.config (caller_of u.desc.who.role) p (known u.desc)) (sym phase) (subst IsIdle (sym knows) new.idle);
         lengths = subst (HasLengths stm.config) (sym knows) long;
-        stands = subst (Stands good stm.config.words u.regions u.all.now (caller_of u.desc.who.role) (known u.desc) u.rows.items) (sym phase) stands;
+        stands = subst (Stands good stm.config.words u.regions.now u.all.now (caller_of u.desc.who.role) (known u.desc) u.rows.items) (sym phase) stands;
         done = ([], sym whole);
         todo = ap (scripts_of (caller_of u.desc.who.role)) whole ∙ ap (λ (rows : List Row). drop (length rows) (scripts_of (caller_of u.desc.who.role) u.all.now)) (sym none);
         within = omega arith;
         counted = λ off. omega (arith, failed);
         switched = subst (λ v. DidSwitches u.all.now u.items_left.now v) (sym knows) (subst (λ l. DidSwitches u.all.now l (known d)) (sym whole) ((known d).installs, refl));
-        fits = subst (λ l. ItemsFit good stm.config.words u.regions (caller_of u.desc.who.role) l) (sym left)
-            (subst (λ rs. ItemsFit good stm.config.words rs (caller_of u.desc.who.role) items) (sym s.regions)
-            (subst (λ n. ItemsFit good stm.config.words [] n items) (sym who) fits));
+        fits = subst (λ l. ItemsFit good stm.config.words u.regions.now (caller_of u.desc.who.role) l) (sym left)
+            (subst (λ x. ItemsFit good stm.config.words x (caller_of u.desc.who.role) items) (sym s.over)
+            (subst (λ n. ItemsFit good stm.config.words rs n items) (sym who) fits));
         roomy = s.roomy;
         turning = subst (λ p. ToSwitch p u.items_left.now) (sym phase) tt;
         under_way = subst (λ p. WhenInside p (IsUnderWay good stm.config.words u)) (sym phase) tt;

@@ -6,6 +6,7 @@ use Rattle.crossbeam_utils.specs.declared.cache_padded.CachePadded.{CachePadded}
 use Rattle.crossbeam_utils.specs.Padded.{padded_value}
 use Rattle.rule_base.specs.declared.seats.Role.TheVariants.{Caller}
 use Rattle.stm_model.specs.declared.alg.Alg.{Alg}
+use Rattle.tx_regions.specs.declared.region.Region.{Region}
 use Rattle.stm_script.specs.declared.report.Row.{Row}
 use Rattle.stm_script.specs.declared.workload.Item.{Item}
 use Rattle.stm_rule.specs.Callers.{Handle}
@@ -29,11 +30,11 @@ module _ {K : Type 0} where
   workers_in rs = map worker_in rs
 
   -- a worker for each descriptor, which has done nothing; the first is that of caller n
-  abbrev pub AreMade : (ℕ → List Item) → Alg → ℕ → List (Handle K) → List (Worker K) → Type 0
-  AreMade items alg n [] [] = Unit {0}
-  AreMade items alg n [] (w ∷ ws) = ⊥
-  AreMade items alg n (d ∷ ds) [] = ⊥
-  AreMade items alg n (d ∷ ds) (w ∷ ws) = Starts d (items n) alg w × AreMade items alg (suc n) ds ws
+  abbrev pub AreMade : (ℕ → List Item) → List Region → Alg → ℕ → List (Handle K) → List (Worker K) → Type 0
+  AreMade items regions alg n [] [] = Unit {0}
+  AreMade items regions alg n [] (w ∷ ws) = ⊥
+  AreMade items regions alg n (d ∷ ds) [] = ⊥
+  AreMade items regions alg n (d ∷ ds) (w ∷ ws) = Starts d (items n) regions alg w × AreMade items regions alg (suc n) ds ws
 
   -- the workers are those of the callers from n on
   abbrev pub AreCallers : ℕ → List (Worker K) → Type 0

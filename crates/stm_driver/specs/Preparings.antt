@@ -10,20 +10,27 @@ use Rattle.stm_rule.specs.Callers.{Handle}
 use Rattle.stm_worker.specs.declared.worker.Worker.{Worker}
 use Rattle.stm_text.specs.declared.parse.Mode.{Mode}
 use Rattle.stm_text.specs.Built.{IsBuilt}
+use Rattle.stm_text.specs.Built as built
+use Rattle.tx_regions.specs.Regions.{AllWellFormed}
 use Rattle.stm_driver.specs.declared.preparing.Prepared.{Prepared}
 use Rattle.stm_driver.specs.declared.preparing.Room.{Room}
 use Rattle.stm_driver.specs.AllWorkers.{AreMade, workers_in}
 use Rattle.stm_driver.specs.Partings.{parted}
-use Rattle.stm_script.specs.Workloads.{config_of}
+use Rattle.stm_script.specs.Workloads.{config_of, ItemFits}
+use Rattle.stm_script.specs.Reports.{regions_of, zeros}
 use Rattle.stm_driver.specs.Openings.{AllNew}
 
--- what the item's script does keeps the rule on memories of so many words
-abbrev pub ItemKeeps : (List ℕ → Type 0) → ℕ → Item → Type 0
-ItemKeeps good words (Tx caller script) = ScriptKeeps good words [] script
-ItemKeeps good words (Switch caller alg) = Unit {0}
+-- an item of the grammar, which the header's memory takes
+abbrev pub BuiltItem : Header → Item → Type 0
+BuiltItem h i = built.ItemFits h i × ItemFits (regions_of h) h i
+
+-- what the item's script does keeps the rule on memories of this header
+abbrev pub ItemKeeps : (List ℕ → Type 0) → Header → Item → Type 0
+ItemKeeps good h (Tx caller script) = ScriptKeeps good h.words (regions_of h) script
+ItemKeeps good h (Switch caller alg) = Unit {0}
 
 abbrev pub WorkloadKeeps : (List ℕ → Type 0) → Workload → Type 0
-WorkloadKeeps good w = All (ItemKeeps good w.header.words) w.items
+WorkloadKeeps good w = All (ItemKeeps good w.header) w.items
 
 -- the memory is open for the header, and each caller has a worker that has done nothing, with its part to do
 pub record IsPrepared {K : Type 0} (h : Header) (parts : List (List Item)) (stm : Stm K) (ws : List (Worker K)) : Type 0 where
@@ -31,7 +38,7 @@ pub record IsPrepared {K : Type 0} (h : Header) (parts : List (List Item)) (stm 
   pub descs : List (Handle K)
   pub count : length descs ≡ h.callers
   pub new : AllNew stm h.alg 0 descs
-  pub made : AreMade (λ n. slice_index_or parts n []) h.alg 0 descs ws
+  pub made : AreMade (λ n. slice_index_or parts n []) (regions_of h) h.alg 0 descs ws
 
 -- all are empty, with room for so many descriptors, rows and words
 pub record HasRoom {K : Type 0} (callers items words : ℕ) (room : Room K) : Type 0 where
@@ -47,3 +54,10 @@ pub record IsReadyFor {K : Type 0} (good : List ℕ → Type 0) (m : Mode) (w : 
   pub keeps : WorkloadKeeps good w
   pub prepared : IsPrepared w.header (parted w.header.callers w.items) p.stm (workers_in p.runners.items)
   pub room : HasRoom w.header.callers (length w.items) w.header.words p.room
+
+-- the rule of the header's regions: it holds of a memory of zeros, and each script of a workload that is built keeps it
+abbrev pub RuleHolds : Type 0
+RuleHolds = (w : Workload) → AllWellFormed (regions_of w.header) (zeros w.header.words)
+
+abbrev pub RuleIsKept : Type 0
+RuleIsKept = (m : Mode) (w : Workload) → IsBuilt m w → WorkloadKeeps (AllWellFormed (regions_of w.header)) w

@@ -1,6 +1,7 @@
 //! What stands before the first turn: a memory that is open for a workload, and a worker for each caller.
 ghost use Rattle.std.specs.Prelude.{◌≡◌, length, replicate, IfOk};
 ghost use Rattle.stm_text.specs.Built.{HeaderFits};
+ghost use Rattle.stm_script.specs.Reports.{regions_of};
 ghost use Rattle.stm_driver.specs.AllWorkers.{workers_in};
 ghost use Rattle.stm_driver.specs.Preparings.{HasRoom, IsPrepared};
 
@@ -16,6 +17,7 @@ use stm_rule::desc::Desc;
 use stm_rule::stm::Stm;
 use stm_script::report::Row;
 use stm_script::workload::Header;
+use tx_regions::region::Regions;
 
 /// The room for what a closing gives. All three are empty.
 #[derive(Drop)]
@@ -38,6 +40,7 @@ pub struct Prepared<'a, K: MemRule> {
 }
 
 /// Opens a memory under this rule for a header, whose callers are to do these parts, of so many items in all.
+/// `regions` are the header's.
 ///
 /// # Errors
 /// Memory, where it is refused: here alone can a run end with nothing closed, since no turn was taken.
@@ -47,17 +50,19 @@ pub fn prepare<'a, R: Wait, K: MemRule + Drop>(
     rule: K,
     header: &Header,
     parts: &'a [CallerItems],
+    regions: &'a Regions,
     items: usize,
 ) -> Result<Prepared<'a, K>, Memory>
     requires fits { HeaderFits header.now }
     requires good { K.good rule (replicate header.now.words 0) }
     requires parts { length parts.now ≡ header.now.callers }
+    requires regions { regions.now ≡ regions_of header.now }
     ensures prepared { IfOk result (λ p. IsPrepared header.now parts.now p.stm (workers_in p.runners.items)) }
     ensures rule { IfOk result (λ p. p.stm.rule ≡ rule) }
     ensures room { IfOk result (λ p. HasRoom header.now.callers items header.now.words p.room) }
 {
     let (stm, descs) = open(rt, alloc, header, rule)?;
-    let runners = make_workers(alloc, descs, parts, header.alg)?;
+    let runners = make_workers(alloc, descs, parts, regions, header.alg)?;
     let room = Room {
         descs: Vec::with_capacity(alloc, header.callers)?,
         rows: Vec::with_capacity(alloc, items)?,

@@ -18,6 +18,7 @@ use std::sync::Wait;
 use std::thread::Threads;
 use stm_model::rule::MemRule;
 use stm_script::laws::report_replays;
+use stm_text::laws::built_workloads_fit;
 use stm_worker::turnstile::Turnstile;
 
 /// Runs the transactions of all callers, each caller's in the order of the text, on a thread a caller.
@@ -38,6 +39,7 @@ pub fn run<R: Threads + Wait + Sync, K: MemRule + Drop + Send + Sync, G: Turnsti
         mut runners,
         room,
     } = prepared;
+    built_workloads_fit();
     report_replays(&stm.rule);
     run_all(rt, &stm, turnstile, runners.as_mut_slice());
     let how = how_ended(runners.as_slice());

@@ -14,6 +14,7 @@ use std::sync::Wait;
 use stm_model::rule::MemRule;
 use stm_script::laws::report_replays;
 use stm_script::workload::Go;
+use stm_text::laws::built_workloads_fit;
 use stm_trace::line::Line;
 
 /// Runs the transactions of all callers in the turns of the workload's schedule, and then each caller's to
@@ -33,6 +34,7 @@ pub fn step<R: Wait, K: MemRule + Drop>(
         mut runners,
         room,
     } = prepared;
+    built_workloads_fit();
     report_replays(&stm.rule);
     let mut lines = Vec::new(alloc);
     let how = drive(rt, &stm, runners.as_mut_slice(), schedule, &mut lines);

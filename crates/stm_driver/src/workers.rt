@@ -11,6 +11,7 @@ use stm_model::rule::MemRule;
 use stm_rule::desc::Desc;
 use stm_script::report::Row;
 use stm_worker::worker::Worker;
+use tx_regions::region::Regions;
 
 /// A caller's worker, and the clock that a call of it found at its limit.
 #[derive(Drop)]
@@ -20,20 +21,21 @@ pub struct Runner<'a, K: MemRule> {
 }
 
 /// A worker for each descriptor, in their order, with its caller's items and room for all that it will do;
-/// `alg` is the memory's algorithm.
+/// `regions` are the memory's, and `alg` is its algorithm.
 pub fn make_workers<'a, K: MemRule>(
     alloc: Global,
     descs: Vec<Desc<K>>,
     parts: &'a [CallerItems],
+    regions: &'a Regions,
     alg: Alg,
 ) -> Result<Vec<CachePadded<Runner<'a, K>>>, Memory>
     requires { length descs.items ≡ length parts.now }
-    ensures { IfOk result (λ rs. AreMade (λ n. slice_index_or parts.now n []) alg 0 descs.items (workers_in rs.items)) }
+    ensures { IfOk result (λ rs. AreMade (λ n. slice_index_or parts.now n []) regions.now alg 0 descs.items (workers_in rs.items)) }
 {
     let mut runners = Vec::with_capacity(alloc, descs.len())?;
     for desc in descs {
         let items = items_at(parts, runners.len());
-        let worker = Worker::new(alloc, desc, items, alg)?;
+        let worker = Worker::new(alloc, desc, items, regions, alg)?;
         runners.push_reserved(CachePadded::new(Runner { worker, full: None }));
     }
     Ok(runners)

@@ -1,3 +1,2 @@
-mod DirectLaws
 mod Closing
 mod InstallLaws

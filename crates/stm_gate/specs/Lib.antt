@@ -14,3 +14,4 @@ pub mod Installing
 pub mod Told
 pub mod Starts
 pub mod Granting
+pub mod DirectLaws

@@ -215,7 +215,30 @@ module _ (c : Config) (n : ℕ) where
       olds = k.olds;
       sole = k.sole;
     }
-    keeps-seized l v trail OrecEager e k = absurd k
+    keeps-seized l v trail OrecEager e k = record {
+      optimistic = optimistic-gated v (seized v.gate) trail refl refl k.optimistic;
+      inside = k.inside;
+      eager = k.eager;
+      open_yet = k.open_yet;
+      unraised = k.unraised;
+      repaid = k.repaid;
+      reads = k.reads;
+      locks = k.locks;
+      writes = k.writes;
+      undo = k.undo;
+      wrote = k.wrote;
+      undoable = k.undoable;
+      words = k.words;
+      small = k.small;
+      old_words = k.old_words;
+      covered = k.covered;
+      few = k.few;
+      places = k.places;
+      olds = k.olds;
+      below = k.below;
+      committing = k.committing;
+      sole = k.sole;
+    }
     keeps-seized l v trail RingSw e k = record {
       optimistic = optimistic-gated v (seized v.gate) trail refl refl k.optimistic;
       buffers = record { wrote = k.buffers.wrote; once = k.buffers.once; inside = k.buffers.inside; small = k.buffers.small };

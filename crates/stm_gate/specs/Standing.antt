@@ -1,10 +1,11 @@
 -- What a descriptor's tie says, in the terms of its memory.
-use Rattle.std.proofs.Common.{ℕ, ◌≡◌, List, [], Bool, true, false, refl, sym, ap, ◌∙◌, subst}
+use Rattle.std.proofs.Common.{ℕ, ◌≡◌, ◌≢◌, ◌≤◌, ◌+◌, List, [], Bool, true, false, refl, sym, ap, ◌∙◌, subst}
 use Rattle.std.specs.Prelude.{Option, Some, ◌&&◌}
-use Rattle.stm_model.specs.Algorithms.{closes_gate}
+use Rattle.stm_model.specs.Algorithms.{closes_gate, entry_rise}
 use Rattle.stm_model.specs.declared.alg.Alg.{Alg}
 use Rattle.stm_model.specs.declared.alg.Alg.TheVariants.{Cgl, Tml, OrecLazy, OrecEager, RingSw, Serial}
 use Rattle.stm_model.specs.declared.config.Config.{Config}
+use Rattle.stm_model.specs.declared.config.TheConstants.{CLOCK_LIMIT}
 use Rattle.rule_base.specs.declared.seats.SeatView.{SeatView}
 use Rattle.rule_base.specs.declared.seats.Who.{Who}
 use Rattle.rule_base.specs.declared.views.GateView.{GateView}
@@ -57,6 +58,18 @@ module _ {K : Type 0} where
       (subst (λ (o : Own). R (number d) (known d) (known_of w o)) (sym own)
       (subst (λ (k : ℕ). R k (known d) (known_of w (own_of l))) (sym name) h))
 
+-- what stands of a promoted attempt under each algorithm
+pub record IsDirect (l : Local) (v : View) : Type 0 where
+  pub granted : v.gate.granted ≡ true
+  pub calm : v.gate.calm ≡ true
+  pub clean : l.wrote ≡ false → v.attempt.stores ≡ []
+  pub dirty : l.wrote ≡ true → v.attempt.stores ≢ []
+  pub rises : v.steps.rises ≡ v.steps.rises_at_begin
+  pub limit : l.start + entry_rise l.algorithm ≤ CLOCK_LIMIT
+
+direct-of : (l : Local) (v : View) → IsPromoted l v → IsDirect l v
+direct-of l v p = record { granted = p.granted; calm = p.calm; clean = p.clean; dirty = p.dirty; rises = p.rises; limit = p.limit }
+
 module _ (good : List ℕ → Type 0) (c : Config) (n : ℕ) (l : Local) (v : View) where
   closed_alg : (a : Alg) → closes_gate a ≡ true → (gate : GateView) (lock : LockView) → granted_under a gate lock ≡ true → gate.granted ≡ true
   closed_alg Cgl e gate lock g = absurd cc
@@ -71,19 +84,20 @@ module _ (good : List ℕ → Type 0) (c : Config) (n : ℕ) (l : Local) (v : Vi
   both true false e = absurd cc
   both false b e = absurd cc
 
-  by-alg : (a : Alg) (granted : Bool) → closes_gate a ≡ true → granted ≡ true → Keeps c a granted l v → IsPromoted l v
+  by-alg : (a : Alg) (granted : Bool) → closes_gate a ≡ true → granted ≡ true → Keeps c a granted l v → IsDirect l v
   by-alg Cgl granted e g k = absurd cc
-  by-alg Tml true e g k = k
+  by-alg Tml true e g k = direct-of l v k
   by-alg Tml false e g k = absurd cc
-  by-alg OrecLazy true e g k = k
+  by-alg OrecLazy true e g k = direct-of l v k
   by-alg OrecLazy false e g k = absurd cc
-  by-alg OrecEager granted e g k = absurd k
-  by-alg RingSw true e g k = k
+  by-alg OrecEager true e g k = record { granted = k.granted; calm = k.calm; clean = k.clean; dirty = k.dirty; rises = k.rises; limit = k.limit }
+  by-alg OrecEager false e g k = absurd cc
+  by-alg RingSw true e g k = direct-of l v k
   by-alg RingSw false e g k = absurd cc
   by-alg Serial granted e g k = absurd cc
 
   -- an attempt that closes the gate and was granted was promoted
-  pub promoted-of : IsInside good c n l v → closes_gate v.gate.algorithm ≡ true → granted_under v.gate.algorithm v.gate v.lock ≡ true → (v.gate.granted ≡ true) × (l.granted ≡ true) × IsPromoted l v
+  pub promoted-of : IsInside good c n l v → closes_gate v.gate.algorithm ≡ true → granted_under v.gate.algorithm v.gate v.lock ≡ true → (v.gate.granted ≡ true) × (l.granted ≡ true) × IsDirect l v
   promoted-of i closes granted =
       let here = closed_alg v.gate.algorithm closes v.gate v.lock granted in
       let named : closes_gate l.algorithm ≡ true = ap closes_gate (sym i.named) ∙ closes in

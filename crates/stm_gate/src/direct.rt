@@ -1,5 +1,6 @@
 //! The calls of a promoted attempt, which is alone: it loads and stores the heap, whatever its algorithm.
-ghost use Rattle.std.specs.Prelude.{◌≡◌, ℕ, ◌<◌, true};
+ghost use Rattle.std.specs.Prelude.{◌≡◌, ℕ, ◌<◌, true, false};
+ghost use Rattle.rule_orec.specs.OrecSteps.{is_eager};
 ghost use Rattle.stm_model.specs.Algorithms.{closes_gate, entry_rise};
 ghost use Rattle.stm_rule.specs.Callers.{IsOf, IsSameCaller};
 ghost use Rattle.tx_answers.specs.Answers.{HasRead, HasWritten, KeepsRule, Commits};
@@ -42,12 +43,13 @@ pub fn direct_store<K: MemRule>(desc: &mut Desc<K>, stm: &Stm<K>, a: usize, x: u
 }
 
 /// Raises the clock where the attempt wrote, stores the time in BASE and in DONE, and reopens the gate. Five
-/// steps; two where it wrote nothing.
+/// steps; two where it wrote nothing. One of OrecEager holds records, which it gives back by its own call.
 pub fn direct_commit<K: MemRule>(desc: &mut Desc<K>, stm: &Stm<K>) -> Commit
     requires stm { IsOf desc.old stm.now }
     requires running { IsRunning (known desc.old) }
     requires closes { closes_gate (known desc.old).alg ≡ true }
     requires granted { (known desc.old).granted ≡ true }
+    requires disowned { is_eager (known desc.old).alg ≡ false }
     requires keeps { KeepsRule (K.good stm.now.rule) stm.now.config (number desc.old) (known desc.old) }
     ensures same { IsSameCaller desc.old desc.new }
     ensures commits { Commits (K.good stm.now.rule) stm.now.config (number desc.old) result (known desc.old) (known desc.new) }

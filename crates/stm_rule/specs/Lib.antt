@@ -18,6 +18,7 @@ pub mod InstallingLaws
 pub mod Kept
 pub mod Refusals
 pub mod RecordsKept
+pub mod EagerKept
 pub mod RingKept
 pub mod Attempts
 pub mod StandLemmas

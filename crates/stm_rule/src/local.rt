@@ -30,7 +30,7 @@ pub struct Local {
     pub undo: UndoLog,
     /// What the attempt read under the record algorithms, of words that it had not yet written.
     pub reads: ReadLog,
-    /// What it wrote that is to be stored at its commit.
+    /// What it wrote that is to be stored at its commit; under OrecEager, what it stored in place.
     pub writes: WriteLog,
     /// The records that it holds, each with the version that it replaced.
     pub locks: UndoLog,

@@ -6,12 +6,15 @@ use Rattle.stm_model.specs.Memories.{overlay, Explains}
 use Rattle.stm_model.specs.Histories.{Entry, memory_at, IsLegal}
 use Rattle.stm_model.specs.HistoryLaws.{memory_at-entry, length-memory_at}
 use Rattle.stm_script.specs.declared.op.Op.{Op}
-use Rattle.stm_script.specs.declared.op.Op.TheVariants.{Read, Write, Add, Move, Emit, Irrev, Cancel}
-use Rattle.stm_script.specs.declared.region.Region.{Region}
+use Rattle.stm_script.specs.declared.op.Op.TheVariants.{Read, Write, Add, Move, Emit, Irrev, Cancel, Count, Total, ListInsert, ListRemove, ListContains, ListLength, HashInsert, HashRemove, HashContains, TreeInsert, TreeRemove, TreeContains, TreeLeast}
+use Rattle.tx_regions.specs.declared.region.Region.{Region}
 use Rattle.stm_script.specs.declared.report.Kind.{Kind}
 use Rattle.stm_script.specs.declared.report.Kind.TheVariants.{W, R, C}
 use Rattle.stm_script.specs.declared.report.Row.{Row}
 use Rattle.stm_script.specs.Operations.{replies, moved, effect_of}
+use Rattle.tx_cells.specs.Structures.{list_of, hash_of}
+use Rattle.stm_script.specs.Structures.{list_in, hash_in, tree_in}
+use Rattle.stm_script.specs.StructureLaws.{chain-insert-quiet, chain-remove-quiet, tree-insert-quiet, tree-remove-quiet}
 use Rattle.stm_script.specs.Scripts.{run, run_row, KindFits}
 use Rattle.stm_script.specs.Reports.{RowFits}
 use Rattle.stm_script.specs.Parts.{RowOf, RowIn, by_kind, BeginsWith}
@@ -34,6 +37,19 @@ module _ (regions : List Region) where
   op-quiet (Emit a) m h = refl
   op-quiet Irrev m h = refl
   op-quiet Cancel m h = refl
+  op-quiet (Count stripe k) m h = absurd cc
+  op-quiet Total m h = refl
+  op-quiet (ListInsert key) m h = chain-insert-quiet (list_of (list_in regions)) key m h
+  op-quiet (ListRemove key) m h = chain-remove-quiet (list_of (list_in regions)) key m h
+  op-quiet (ListContains key) m h = refl
+  op-quiet ListLength m h = refl
+  op-quiet (HashInsert key) m h = chain-insert-quiet (hash_of (hash_in regions)) key m h
+  op-quiet (HashRemove key) m h = chain-remove-quiet (hash_of (hash_in regions)) key m h
+  op-quiet (HashContains key) m h = refl
+  op-quiet (TreeInsert key) m h = tree-insert-quiet (tree_in regions) key m h
+  op-quiet (TreeRemove key) m h = tree-remove-quiet (tree_in regions) key m h
+  op-quiet (TreeContains key) m h = refl
+  op-quiet TreeLeast m h = refl
 
   or-left : (a b : Bool) → a || b ≡ false → a ≡ false
   or-left true b h = absurd cc

@@ -1,4 +1,6 @@
 mod OperationLaws
+mod RegionKeeping
+mod WellLaws
 mod KeepingLaws
 mod RunLaws
 mod Rooms

@@ -4,7 +4,7 @@ use Rattle.stm_model.specs.Memories.{overlay}
 use Rattle.stm_model.specs.Histories.{Entry, memory_at, memory_after, Ascending}
 use Rattle.stm_model.specs.HistoryLaws.{memory_at-early, memory_at-past, memory_at-first}
 use Rattle.stm_script.specs.declared.op.Op.{Op}
-use Rattle.stm_script.specs.declared.region.Region.{Region}
+use Rattle.tx_regions.specs.declared.region.Region.{Region}
 use Rattle.stm_script.specs.declared.report.Kind.{Kind}
 use Rattle.stm_script.specs.declared.report.Kind.TheVariants.{W, R, C}
 use Rattle.stm_script.specs.declared.report.Row.{Row}

@@ -4,7 +4,7 @@ use Rattle.std.specs.Prelude.{not, Result, Ok, Err, IfErr}
 use Rattle.stm_model.specs.Memories.{overlay, is_empty}
 use Rattle.stm_model.specs.Logs.{Log, SameMemories, IsExplained}
 use Rattle.stm_script.specs.declared.op.Op.{Op}
-use Rattle.stm_script.specs.declared.region.Region.{Region}
+use Rattle.tx_regions.specs.declared.region.Region.{Region}
 use Rattle.stm_script.specs.Operations.{Effect, effect_of}
 use Rattle.stm_script.specs.Outputs.{Output}
 use Rattle.stm_script.specs.Scripts.{Ran, then_ran, run}

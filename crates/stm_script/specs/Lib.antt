@@ -1,10 +1,12 @@
 pub mod Outputs
-pub mod Regions
+pub mod Structures
 pub mod Operations
 pub mod Scripts
 pub mod ScriptLaws
 pub mod Keeping
+pub mod StructureLaws
 pub mod KeepingLaws
+pub mod Statements
 pub mod Workloads
 pub mod Reports
 pub mod Parts

@@ -4,7 +4,7 @@ use Rattle.stm_model.specs.Memories.{overlay, Explains}
 use Rattle.stm_model.specs.Histories.{Entry, memory_at, Ascending, IsLegal}
 use Rattle.stm_model.specs.HistoryLaws.{Within}
 use Rattle.stm_script.specs.declared.op.Op.{Op}
-use Rattle.stm_script.specs.declared.region.Region.{Region}
+use Rattle.tx_regions.specs.declared.region.Region.{Region}
 use Rattle.stm_script.specs.declared.report.Kind.{Kind}
 use Rattle.stm_script.specs.declared.report.Kind.TheVariants.{W, R, C}
 use Rattle.stm_script.specs.declared.report.Report.{Report}

@@ -1,8 +1,9 @@
 -- What a report says of its workload.
-use Rattle.std.specs.Prelude.{ℕ, zero, suc, ◌≡◌, ◌<◌, ◌+◌, ◌*◌, ◌≤◌, ◌⊎◌, ◌==◌, List, [], ◌∷◌, map, length, replicate, slice_index_or, if◌then◌else◌}
+use Rattle.std.specs.Prelude.{ℕ, zero, suc, Bool, true, false, ◌≡◌, ◌<◌, ◌+◌, ◌*◌, ◌≤◌, ◌⊎◌, ◌==◌, List, [], ◌∷◌, map, length, replicate, slice_index_or, if◌then◌else◌}
 use Rattle.stm_model.specs.Histories.{Entry, memory_at}
 use Rattle.stm_script.specs.declared.op.Op.{Op}
-use Rattle.stm_script.specs.declared.region.Region.{Region}
+use Rattle.tx_regions.specs.declared.region.Region.{Region}
+use Rattle.tx_regions.specs.Regions.{version_one}
 use Rattle.stm_script.specs.declared.report.Kind.{Kind}
 use Rattle.stm_script.specs.declared.report.Kind.TheVariants.{W, R, C}
 use Rattle.stm_script.specs.declared.report.Row.{Row}
@@ -27,9 +28,13 @@ script_of items row = slice_index_or (scripts_of row.caller items) row.seq []
 abbrev pub zeros : ℕ → List ℕ
 zeros words = replicate words 0
 
--- no structure is built, so no word is in a region
+-- the four regions where structures are on, and none where they are off
+abbrev pub regions_where : Bool → List Region
+regions_where true = version_one
+regions_where false = []
+
 abbrev pub regions_of : Header → List Region
-regions_of header = []
+regions_of header = regions_where header.structs
 
 -- the row is what its script does on this memory
 pub record RowFits (regions : List Region) (script : List Op) (row : Row) (m : List ℕ) : Type 0 where

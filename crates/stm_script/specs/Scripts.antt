@@ -1,7 +1,7 @@
 -- What a script does, by the kind of the row that tells it.
 use Rattle.std.specs.Prelude.{ℕ, ◌≡◌, Bool, true, false, ◌||◌, List, [], ◌∷◌, ◌++◌, if◌then◌else◌}
 use Rattle.stm_script.specs.declared.op.Op.{Op}
-use Rattle.stm_script.specs.declared.region.Region.{Region}
+use Rattle.tx_regions.specs.declared.region.Region.{Region}
 use Rattle.stm_script.specs.declared.report.Kind.{Kind}
 use Rattle.stm_script.specs.declared.report.Kind.TheVariants.{W, R, C}
 use Rattle.stm_script.specs.Operations.{Effect, effect_of, is_cancel, is_irrev}

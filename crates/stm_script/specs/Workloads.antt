@@ -1,7 +1,7 @@
 -- The sizes that a header asks for, and the items that it may have.
 use Rattle.std.specs.Prelude.{◌<◌, List, All}
 use Rattle.stm_model.specs.declared.config.Config.{Config}
-use Rattle.stm_script.specs.declared.region.Region.{Region}
+use Rattle.tx_regions.specs.declared.region.Region.{Region}
 use Rattle.stm_script.specs.declared.workload.Header.{Header}
 use Rattle.stm_script.specs.declared.workload.Item.{Item}
 use Rattle.stm_script.specs.declared.workload.Item.TheVariants.{Tx, Switch}

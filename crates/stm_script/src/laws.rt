@@ -1,7 +1,16 @@
-//! The replay theorem, as the contract of a function.
+//! Laws of the definitions, as the contracts of functions.
 ghost use Rattle.stm_script.specs.Parts.{ReportReplays};
+ghost use Rattle.stm_script.specs.Statements.{OperationsKeepRegions};
 
 use stm_model::rule::MemRule;
+use tx_regions::laws::memories_stay_good;
+
+/// An operation that fits leaves each region well formed.
+pub fn operations_keep_regions()
+    ensures { OperationsKeepRegions }
+{
+    memories_stay_good();
+}
 
 /// What several callers did together, gathered into one legal history and one ordered report, is what one
 /// thread does that runs the transactions in the report's order; and the report shows that history.

@@ -7,7 +7,7 @@ pub mod lists;
 pub mod op;
 pub mod operation;
 pub mod pairs;
-pub mod region;
 pub mod replies;
 pub mod report;
+pub mod structures;
 pub mod workload;

@@ -1,13 +1,17 @@
 //! One operation over any access.
 ghost use Rattle.std.specs.Prelude.{◌≡◌, ◌<◌, ◌^◌, ◌+◌, ◌%◌, slice_index, None, Some, false, IfOk, OnOk, IfErr, length};
 ghost use Rattle.stm_model.specs.Logs.{SameMemories, IsExplained, IsReadStop, Keeps};
+ghost use Rattle.tx_effects.specs.Effects.{Under};
+ghost use Rattle.tx_regions.specs.Regions.{AllWellFormed};
 ghost use Rattle.stm_script.specs.Keeping.{OpKeeps};
 ghost use Rattle.stm_script.specs.Operations.{OpFits, is_irrev, is_cancel, OnlyReads, DoesOver, effect_of, stores, moves, replies};
 
+use crate::laws::operations_keep_regions;
 use crate::op::Op;
-use crate::region::Regions;
+use crate::structures::run_on_structure;
 use stm_model::access::Access;
 use stm_model::stop::Stop;
+use tx_regions::region::Regions;
 
 /// Runs one operation, any but `irrev` and `cancel`, and answers its reply, which is that of every good
 /// memory that explains the log. What an `emit` emits is its reply.
@@ -19,9 +23,11 @@ pub fn run_op<A: Access>(acc: &mut A, regions: &Regions, op: &Op) -> Result<u64,
     requires no_cancel { is_cancel op.now ≡ false }
     requires going { A.stopped acc.old ≡ None }
     requires within { OpFits regions.now (A.words acc.old) op.now }
+    requires well { Under (A.good acc.old) (A.words acc.old) (A.log acc.old) (AllWellFormed regions.now) }
     ensures reply { IfOk result (λ r. DoesOver (A.good acc.old) (A.words acc.old) (effect_of regions.now op.now) (A.log acc.old) r (A.log acc.new)) }
     ensures range { IfOk result (λ r. r < 2 ^ 64) }
     ensures explained { OnOk result (IsExplained (A.good acc.new) (A.words acc.new) (A.log acc.new)) }
+    ensures well { OnOk result (Under (A.good acc.new) (A.words acc.new) (A.log acc.new) (AllWellFormed regions.now)) }
     // what the caller owes for a commit stays met where the operation keeps the rule on memories
     ensures keeps_rule { OnOk result (OpKeeps (A.good acc.old) (A.words acc.old) regions.now op.now → Keeps (A.good acc.old) (A.words acc.old) (A.log acc.old) → Keeps (A.good acc.old) (A.words acc.old) (A.log acc.new)) }
     ensures goes { OnOk result (A.stopped acc.new ≡ None) }
@@ -31,13 +37,36 @@ pub fn run_op<A: Access>(acc: &mut A, regions: &Regions, op: &Op) -> Result<u64,
     ensures words { A.words acc.new ≡ A.words acc.old }
     ensures keeps { A.keeps acc.old acc.new }
 {
-    match *op {
+    operations_keep_regions();
+    let reply = act(acc, regions, *op)?;
+    Ok(reply)
+}
+
+/// The calls of the access that one operation makes.
+fn act<A: Access>(acc: &mut A, regions: &Regions, op: Op) -> Result<u64, Stop>
+    requires no_irrev { is_irrev op ≡ false }
+    requires no_cancel { is_cancel op ≡ false }
+    requires going { A.stopped acc.old ≡ None }
+    requires within { OpFits regions.now (A.words acc.old) op }
+    requires well { Under (A.good acc.old) (A.words acc.old) (A.log acc.old) (AllWellFormed regions.now) }
+    ensures reply { IfOk result (λ r. DoesOver (A.good acc.old) (A.words acc.old) (effect_of regions.now op) (A.log acc.old) r (A.log acc.new)) }
+    ensures range { IfOk result (λ r. r < 2 ^ 64) }
+    ensures explained { OnOk result (IsExplained (A.good acc.new) (A.words acc.new) (A.log acc.new)) }
+    ensures goes { OnOk result (A.stopped acc.new ≡ None) }
+    ensures stops { IfErr result (λ s. A.stopped acc.new ≡ Some s) }
+    ensures cause { OnlyReads op → IfErr result IsReadStop }
+    ensures good { SameMemories (A.good acc.old) (A.good acc.new) }
+    ensures words { A.words acc.new ≡ A.words acc.old }
+    ensures keeps { A.keeps acc.old acc.new }
+{
+    match op {
         Op::Read(a) => read(acc, a),
         Op::Write(a, v) => write(acc, a, v),
         Op::Add(a, k) => add(acc, a, k),
         Op::Move(a, b, k) => move_between(acc, a, b, k),
         Op::Emit(a) => read(acc, a),
         Op::Irrev | Op::Cancel => unreachable!(),
+        _ => run_on_structure(acc, regions, op),
     }
 }
 

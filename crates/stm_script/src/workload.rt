@@ -2,9 +2,12 @@
 ghost use Rattle.std.specs.Prelude.{◌≡◌};
 
 use crate::lists::Script;
+use std::alloc::Global;
 use std::marker::Model;
 use stm_model::alg::Alg;
 use stm_model::config::Config;
+use stm_model::memory::Memory;
+use tx_regions::region::Regions;
 
 /// The greatest number of items of a workload.
 pub const MAX_ITEMS: usize = 65_536;
@@ -12,6 +15,14 @@ pub const MAX_ITEMS: usize = 65_536;
 pub const MAX_OPS: usize = 4_096;
 /// The greatest number of turns of a schedule, in all and in one line.
 pub const MAX_TURNS: u64 = 1_000_000;
+/// The greatest key.
+pub const MAX_KEY: u64 = 4_294_967_295;
+/// With structures on, the words from this one on are theirs.
+pub const STRUCTS_BEGIN: usize = 64;
+/// The first word behind theirs, and so the least number of words that structures take.
+pub const STRUCTS_END: usize = 1_024;
+/// The stripes of the counter.
+pub const STRIPES: usize = 4;
 
 /// The sizes and the start of a memory.
 #[derive(Clone, Copy, Drop, Debug, PartialEq, Eq)]
@@ -36,6 +47,8 @@ pub struct Header {
 }
 
 impl Header {
+    ghost use Rattle.std.specs.Prelude.{IfOk};
+    ghost use Rattle.stm_script.specs.Reports.{regions_of};
     ghost use Rattle.stm_script.specs.Workloads.{config_of};
 
     /// The sizes and the opening clock of the memory that the header asks for.
@@ -50,6 +63,22 @@ impl Header {
             reads: self.reads,
             writes: self.writes,
             clock: self.clock,
+        }
+    }
+
+    /// The regions of the memory that the header asks for: the four of the structures where they are on, and none
+    /// where they are off.
+    ///
+    /// # Errors
+    /// Memory, where it is refused.
+    pub fn regions(&self, alloc: Global) -> Result<Regions, Memory>
+        ensures { IfOk result (λ r. r ≡ regions_of self.now) }
+    {
+        if self.structs {
+            let regions = Regions::version_one(alloc)?;
+            Ok(regions)
+        } else {
+            Ok(Regions::none(alloc))
         }
     }
 }

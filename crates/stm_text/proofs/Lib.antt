@@ -8,3 +8,4 @@ pub mod WordLaws
 pub mod Numbers
 pub mod TextLaws
 pub mod WrittenLaws
+pub mod RegionLaws

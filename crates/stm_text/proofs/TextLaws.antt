@@ -1,6 +1,6 @@
 -- A text of a workload that fits is read as that workload.
 use Rattle.std.proofs.Common.{ℕ, ◌≡◌, ◌≢◌, ◌<◌, ◌≤◌, ◌+◌, ◌^◌, List, [], ◌∷◌, ◌++◌, Bool, true, false, Result, Ok, Err, inl, inr, refl, sym, ap, subst, ◌∙◌, arith, length, append_assoc, append-nil, length-append, drop}
-use Rattle.std.specs.Prelude.{if◌then◌else◌, leb, ltb, codes, map, bytes_eq, All}
+use Rattle.std.specs.Prelude.{◌⊎◌, ◌&&◌, if◌then◌else◌, leb, ltb, codes, map, bytes_eq, All}
 use Rattle.std.specs.Fmt.{decimal}
 use Rattle.std.proofs.lemmas.Bool.Decides.{nat_tests}
 use Rattle.std.proofs.lemmas.List.Elements.{All-nil, All-head, All-tail}
@@ -10,15 +10,16 @@ use Rattle.stm_model.specs.declared.alg.TheConstants.{ALGORITHMS}
 use Rattle.stm_model.specs.declared.config.TheConstants.{MAX_WORDS, MAX_RECORDS, MIN_RING, MAX_RING, MAX_CALLERS, MAX_LOG, CLOCK_LIMIT}
 use Rattle.stm_model.specs.Algorithms.{alg_name, is_built}
 use Rattle.stm_script.specs.declared.op.Op.{Op}
-use Rattle.stm_script.specs.declared.op.Op.TheVariants.{Read, Write, Add as Sum, Move, Emit, Irrev, Cancel}
+use Rattle.stm_script.specs.declared.op.Op.TheVariants.{Read, Write, Add as Sum, Move, Emit, Irrev, Cancel, Count, Total, ListInsert, ListRemove, ListContains, ListLength, HashInsert, HashRemove, HashContains, TreeInsert, TreeRemove, TreeContains, TreeLeast}
+use Rattle.stm_script.specs.Operations.{with_key}
 use Rattle.stm_script.specs.declared.workload.Header.{Header}
 use Rattle.stm_script.specs.declared.workload.Item.{Item}
 use Rattle.stm_script.specs.declared.workload.Item.TheVariants.{Tx, Switch}
 use Rattle.stm_script.specs.declared.workload.Go.{Go}
 use Rattle.stm_script.specs.declared.workload.Workload.{Workload}
-use Rattle.stm_script.specs.declared.workload.TheConstants.{MAX_ITEMS, MAX_OPS, MAX_TURNS}
+use Rattle.stm_script.specs.declared.workload.TheConstants.{MAX_ITEMS, MAX_OPS, MAX_TURNS, MAX_KEY, STRUCTS_BEGIN, STRUCTS_END, STRIPES}
 use Rattle.stm_script.specs.Scripts.{has_irrev}
-use Rattle.stm_text.specs.declared.code.TheConstants.{ORDER}
+use Rattle.stm_text.specs.declared.code.TheConstants.{ORDER, REGION}
 use Rattle.stm_text.specs.declared.draft.Place.{Place}
 use Rattle.stm_text.specs.declared.draft.Place.TheVariants.{Version, Words, Callers, Records, Ring, Reads, Writes, Clock, Algorithm, Structures, Items, Ops, Turns}
 use Rattle.stm_text.specs.declared.draft.Step.{Step}
@@ -28,9 +29,9 @@ use Rattle.stm_text.specs.declared.parse.Mode.{Mode}
 use Rattle.stm_text.specs.declared.parse.Mode.TheVariants.{Run, Step as Stepwise}
 use Rattle.stm_text.specs.Lines.{Line, lines_of, words_of, any_bad, number_of}
 use Rattle.stm_text.specs.Drafts.{Writing, after, opening}
-use Rattle.stm_text.specs.Grammar.{◌>>=◌, formed, ranged, below, number, algorithm_of, algorithm, sized, next_line, begun, changed, added, emitted, planned, caller_of, address, operands, move_of, go_of, two_words, three_words, four_words, filled, by_words, step_of, go_on, parsed, workload_of}
-use Rattle.stm_text.specs.Built.{HeaderFits, OpFits, IsAllowed, AreInOrder, ItemFits, GoFits, all_turns, ScheduleFits, IsBuilt}
-use Rattle.stm_text.specs.Texts.{joined, line, op_words, items_lines, header_lines, go_words, section_lines, schedule_lines, lines_with, lines_text, AreLinesOf, IsTextOf}
+use Rattle.stm_text.specs.Grammar.{◌>>=◌, formed, ranged, below, number, algorithm_of, algorithm, sized, next_line, begun, changed, added, emitted, structured, planned, caller_of, plain, address, operands, move_of, count_of, go_of, two_words, three_words, four_words, filled, by_words, step_of, go_on, parsed, workload_of}
+use Rattle.stm_text.specs.Built.{HeaderFits, IsFree, OpFits, IsAllowed, AreInOrder, ItemFits, GoFits, all_turns, ScheduleFits, IsBuilt}
+use Rattle.stm_text.specs.Texts.{joined, line, switch_of, op_words, items_lines, header_lines, go_words, section_lines, schedule_lines, lines_with, lines_text, AreLinesOf, IsTextOf}
 use Rattle.stm_text.proofs.OrderLaws.{irrev-snoc}
 use Rattle.stm_text.proofs.LineLaws.{lines_of-first}
 use Rattle.stm_text.proofs.Decimals.{StartsDigit, digits-decimal}
@@ -92,6 +93,22 @@ below-end end n lt = let p : ltb n end ≡ true = grind (arith, nat_tests) in rw
 added-room : (d : Writing) (op : Op) → length d.ops < MAX_OPS → added d op ≡ Ok (Add op)
 added-room d op lt = let p : ltb (length d.ops) MAX_OPS ≡ true = grind (arith, nat_tests) in rw p
 
+structured-on : (d : Writing) (op : Op) → d.header.structs ≡ true → length d.ops < MAX_OPS → structured d op ≡ Ok (Add op)
+structured-on d op on lt = ap (λ b. if b then added d op else Err REGION) on ∙ added-room d op lt
+
+plain-free : (h : Header) (a : ℕ) → IsFree h a → plain h a ≡ Ok a
+plain-free h a free = by h.structs refl (leb STRUCTS_BEGIN a) refl (ltb a STRUCTS_END) refl
+  where
+    outside : (leb STRUCTS_BEGIN a ≡ true) → (ltb a STRUCTS_END ≡ true) → (a < STRUCTS_BEGIN) ⊎ (STRUCTS_END ≤ a) → ⊥
+    outside p q (inl lt) = absurd (grind (arith, nat_tests))
+    outside p q (inr le) = absurd (grind (arith, nat_tests))
+
+    by : (s : Bool) → h.structs ≡ s → (x : Bool) → leb STRUCTS_BEGIN a ≡ x → (y : Bool) → ltb a STRUCTS_END ≡ y → (if s && x && y then Err REGION else Ok a) ≡ Ok a
+    by true e true p true q = absurd (outside p q (free e))
+    by true e true p false q = refl
+    by true e false p y q = refl
+    by false e x p y q = refl
+
 begun-room : (d : Writing) (c : ℕ) → length d.items < MAX_ITEMS → begun d c ≡ Ok (Begin c)
 begun-room d c lt = let p : ltb (length d.items) MAX_ITEMS ≡ true = grind (arith, nat_tests) in rw p
 
@@ -113,58 +130,89 @@ between h items caller = record { place = Items; header = h; items = items; call
 abbrev planning : Header → List Item → ℕ → List Go → ℕ → Writing
 planning h items caller gos all = record { place = Turns; header = h; items = items; caller = caller; ops = []; schedule = gos; turns = all }
 
-operands-decimal : (d : Writing) (a v : ℕ) → a < d.header.words → a < 2 ^ 64 → v < 2 ^ 64 → operands d (decimal a) (decimal v) ≡ Ok (a, v)
-operands-decimal d a v within fits value =
-    ap (λ r. r >>= λ i. formed (number_of (decimal v)) >>= λ n. below d.header.words i >>= λ j. Ok (j, n)) (formed-decimal a fits)
-    ∙ (ap (λ r. r >>= λ n. below d.header.words a >>= λ j. Ok (j, n)) (formed-decimal v value)
-    ∙ ap (λ r. r >>= λ j. Ok (j, v)) (below-end d.header.words a within))
+address-decimal : (d : Writing) (a : ℕ) → a < d.header.words → IsFree d.header a → a < 2 ^ 64 → address d (decimal a) ≡ Ok a
+address-decimal d a within free fits =
+    ap (λ r. r >>= below d.header.words >>= plain d.header) (formed-decimal a fits)
+    ∙ (ap (λ r. r >>= plain d.header) (below-end d.header.words a within) ∙ plain-free d.header a free)
 
-read-words : (m : Mode) (h : Header) (items : List Item) (c : ℕ) (ops : List Op) (a : ℕ) → a < h.words → a < 2 ^ 64 → length ops < MAX_OPS
+operands-decimal : (d : Writing) (a v : ℕ) → a < d.header.words → IsFree d.header a → a < 2 ^ 64 → v < 2 ^ 64 → operands d (decimal a) (decimal v) ≡ Ok (a, v)
+operands-decimal d a v within free fits value =
+    ap (λ r. r >>= λ i. formed (number_of (decimal v)) >>= λ n. below d.header.words i >>= λ j. plain d.header j >>= λ k. Ok (k, n)) (formed-decimal a fits)
+    ∙ (ap (λ r. r >>= λ n. below d.header.words a >>= λ j. plain d.header j >>= λ k. Ok (k, n)) (formed-decimal v value)
+    ∙ (ap (λ r. r >>= λ j. plain d.header j >>= λ k. Ok (k, v)) (below-end d.header.words a within)
+    ∙ ap (λ r. r >>= λ k. Ok (k, v)) (plain-free d.header a free)))
+
+read-words : (m : Mode) (h : Header) (items : List Item) (c : ℕ) (ops : List Op) (a : ℕ) → a < h.words → IsFree h a → a < 2 ^ 64 → length ops < MAX_OPS
     → by_words m (in_tx h items c ops) (codes "read" ∷ decimal a ∷ []) ≡ Ok (Add (Read a))
-read-words m h items c ops a within fits room =
+read-words m h items c ops a within free fits room =
     let d : Writing = in_tx h items c ops in
-    let at : address d (decimal a) ≡ Ok a = ap (λ r. r >>= below h.words) (formed-decimal a fits) ∙ below-end h.words a within in
+    let at : address d (decimal a) ≡ Ok a = address-decimal d a within free fits in
     filled-decimal a (two_words Ops m d (codes "read") (decimal a)) fits ∙ (ap (λ r. r >>= λ i. added d (Read i)) at ∙ added-room d (Read a) room)
 
-write-words : (m : Mode) (h : Header) (items : List Item) (c : ℕ) (ops : List Op) (a v : ℕ) → a < h.words → a < 2 ^ 64 → v < 2 ^ 64 → length ops < MAX_OPS
+write-words : (m : Mode) (h : Header) (items : List Item) (c : ℕ) (ops : List Op) (a v : ℕ) → a < h.words → IsFree h a → a < 2 ^ 64 → v < 2 ^ 64 → length ops < MAX_OPS
     → by_words m (in_tx h items c ops) (codes "write" ∷ decimal a ∷ decimal v ∷ []) ≡ Ok (Add (Write a v))
-write-words m h items c ops a v within fits value room =
+write-words m h items c ops a v within free fits value room =
     let d : Writing = in_tx h items c ops in
     filled-decimal a (filled (decimal v) (three_words Ops d (codes "write") (decimal a) (decimal v))) fits
     ∙ (filled-decimal v (three_words Ops d (codes "write") (decimal a) (decimal v)) value
-    ∙ (ap (λ r. r >>= λ p. added d (Write p.0 p.1)) (operands-decimal d a v within fits value) ∙ added-room d (Write a v) room))
+    ∙ (ap (λ r. r >>= λ p. added d (Write p.0 p.1)) (operands-decimal d a v within free fits value) ∙ added-room d (Write a v) room))
 
-add-words : (m : Mode) (h : Header) (items : List Item) (c : ℕ) (ops : List Op) (a v : ℕ) → a < h.words → a < 2 ^ 64 → v < 2 ^ 64 → length ops < MAX_OPS
+add-words : (m : Mode) (h : Header) (items : List Item) (c : ℕ) (ops : List Op) (a v : ℕ) → a < h.words → IsFree h a → a < 2 ^ 64 → v < 2 ^ 64 → length ops < MAX_OPS
     → by_words m (in_tx h items c ops) (codes "add" ∷ decimal a ∷ decimal v ∷ []) ≡ Ok (Add (Sum a v))
-add-words m h items c ops a v within fits value room =
+add-words m h items c ops a v within free fits value room =
     let d : Writing = in_tx h items c ops in
     filled-decimal a (filled (decimal v) (three_words Ops d (codes "add") (decimal a) (decimal v))) fits
     ∙ (filled-decimal v (three_words Ops d (codes "add") (decimal a) (decimal v)) value
-    ∙ (ap (λ r. r >>= λ p. added d (Sum p.0 p.1)) (operands-decimal d a v within fits value) ∙ added-room d (Sum a v) room))
+    ∙ (ap (λ r. r >>= λ p. added d (Sum p.0 p.1)) (operands-decimal d a v within free fits value) ∙ added-room d (Sum a v) room))
 
-move_of-decimal : (d : Writing) (a b v : ℕ) → a < d.header.words → b < d.header.words → a < 2 ^ 64 → b < 2 ^ 64 → v < 2 ^ 64 → move_of d (decimal a) (decimal b) (decimal v) ≡ Ok (Move a b v)
-move_of-decimal d a b v from onto fa fb fv =
+move_of-decimal : (d : Writing) (a b v : ℕ) → a < d.header.words → b < d.header.words → IsFree d.header a → IsFree d.header b → a < 2 ^ 64 → b < 2 ^ 64 → v < 2 ^ 64 → move_of d (decimal a) (decimal b) (decimal v) ≡ Ok (Move a b v)
+move_of-decimal d a b v from onto free clear fa fb fv =
+    let g = d.header in
     let w = d.header.words in
-    ap (λ r. r >>= λ i. formed (number_of (decimal b)) >>= λ j. formed (number_of (decimal v)) >>= λ n. below w i >>= λ x. below w j >>= λ y. Ok (Move x y n)) (formed-decimal a fa)
-    ∙ (ap (λ r. r >>= λ j. formed (number_of (decimal v)) >>= λ n. below w a >>= λ x. below w j >>= λ y. Ok (Move x y n)) (formed-decimal b fb)
-    ∙ (ap (λ r. r >>= λ n. below w a >>= λ x. below w b >>= λ y. Ok (Move x y n)) (formed-decimal v fv)
-    ∙ (ap (λ r. r >>= λ x. below w b >>= λ y. Ok (Move x y v)) (below-end w a from) ∙ ap (λ r. r >>= λ y. Ok (Move a y v)) (below-end w b onto))))
+    ap (λ r. r >>= λ i. formed (number_of (decimal b)) >>= λ j. formed (number_of (decimal v)) >>= λ n. below w i >>= λ x. below w j >>= λ y. plain g x >>= λ s. plain g y >>= λ t. Ok (Move s t n)) (formed-decimal a fa)
+    ∙ (ap (λ r. r >>= λ j. formed (number_of (decimal v)) >>= λ n. below w a >>= λ x. below w j >>= λ y. plain g x >>= λ s. plain g y >>= λ t. Ok (Move s t n)) (formed-decimal b fb)
+    ∙ (ap (λ r. r >>= λ n. below w a >>= λ x. below w b >>= λ y. plain g x >>= λ s. plain g y >>= λ t. Ok (Move s t n)) (formed-decimal v fv)
+    ∙ (ap (λ r. r >>= λ x. below w b >>= λ y. plain g x >>= λ s. plain g y >>= λ t. Ok (Move s t v)) (below-end w a from)
+    ∙ (ap (λ r. r >>= λ y. plain g a >>= λ s. plain g y >>= λ t. Ok (Move s t v)) (below-end w b onto)
+    ∙ (ap (λ r. r >>= λ s. plain g b >>= λ t. Ok (Move s t v)) (plain-free g a free) ∙ ap (λ r. r >>= λ t. Ok (Move a t v)) (plain-free g b clear))))))
 
-move-words : (m : Mode) (h : Header) (items : List Item) (c : ℕ) (ops : List Op) (a b v : ℕ) → a < h.words → b < h.words → a < 2 ^ 64 → b < 2 ^ 64 → v < 2 ^ 64 → length ops < MAX_OPS
+move-words : (m : Mode) (h : Header) (items : List Item) (c : ℕ) (ops : List Op) (a b v : ℕ) → a < h.words → b < h.words → IsFree h a → IsFree h b → a < 2 ^ 64 → b < 2 ^ 64 → v < 2 ^ 64 → length ops < MAX_OPS
     → by_words m (in_tx h items c ops) (codes "move" ∷ decimal a ∷ decimal b ∷ decimal v ∷ []) ≡ Ok (Add (Move a b v))
-move-words m h items c ops a b v from onto fa fb fv room =
+move-words m h items c ops a b v from onto free clear fa fb fv room =
     let d : Writing = in_tx h items c ops in
     let four : Result Step ℕ = four_words Ops d (codes "move") (decimal a) (decimal b) (decimal v) in
     filled-decimal a (filled (decimal b) (filled (decimal v) four)) fa
     ∙ (filled-decimal b (filled (decimal v) four) fb
     ∙ (filled-decimal v four fv
-    ∙ (ap (λ r. r >>= added d) (move_of-decimal d a b v from onto fa fb fv) ∙ added-room d (Move a b v) room)))
+    ∙ (ap (λ r. r >>= added d) (move_of-decimal d a b v from onto free clear fa fb fv) ∙ added-room d (Move a b v) room)))
 
-emit-words : (m : Mode) (h : Header) (items : List Item) (c : ℕ) (ops : List Op) (a : ℕ) → a < h.words → a < 2 ^ 64 → length ops < MAX_OPS → has_irrev ops ≡ true
-    → by_words m (in_tx h items c ops) (codes "emit" ∷ decimal a ∷ []) ≡ Ok (Add (Emit a))
-emit-words m h items c ops a within fits room asked =
+count_of-decimal : (a v : ℕ) → a < STRIPES → v < 2 ^ 64 → count_of (decimal a) (decimal v) ≡ Ok (Count a v)
+count_of-decimal a v within value =
+    ap (λ r. r >>= λ i. formed (number_of (decimal v)) >>= λ n. below STRIPES i >>= λ s. Ok (Count s n)) (formed-decimal a (omega arith))
+    ∙ (ap (λ r. r >>= λ n. below STRIPES a >>= λ s. Ok (Count s n)) (formed-decimal v value) ∙ ap (λ r. r >>= λ s. Ok (Count s v)) (below-end STRIPES a within))
+
+count-words : (m : Mode) (h : Header) (items : List Item) (c : ℕ) (ops : List Op) (a v : ℕ) → a < STRIPES → v < 2 ^ 64 → h.structs ≡ true → length ops < MAX_OPS
+    → by_words m (in_tx h items c ops) (codes "count" ∷ decimal a ∷ decimal v ∷ []) ≡ Ok (Add (Count a v))
+count-words m h items c ops a v within value on room =
     let d : Writing = in_tx h items c ops in
-    let at : address d (decimal a) ≡ Ok a = ap (λ r. r >>= below h.words) (formed-decimal a fits) ∙ below-end h.words a within in
+    let three : Result Step ℕ = three_words Ops d (codes "count") (decimal a) (decimal v) in
+    filled-decimal a (filled (decimal v) three) (omega arith)
+    ∙ (filled-decimal v three value ∙ (ap (λ r. r >>= structured d) (count_of-decimal a v within value) ∙ structured-on d (Count a v) on room))
+
+-- an operation on a key, where its name is that of this one
+keyed-words : (m : Mode) (h : Header) (items : List Item) (c : ℕ) (ops : List Op) (op : Op) (name : List ℕ) (key : ℕ) → key ≤ MAX_KEY → h.structs ≡ true → length ops < MAX_OPS
+    → two_words Ops m (in_tx h items c ops) name (decimal key) ≡ ((number 0 MAX_KEY (decimal key) >>= λ k. Ok (with_key k op)) >>= structured (in_tx h items c ops))
+    → by_words m (in_tx h items c ops) (name ∷ decimal key ∷ []) ≡ Ok (Add (with_key key op))
+keyed-words m h items c ops op name key le on room is =
+    let d : Writing = in_tx h items c ops in
+    filled-decimal key (two_words Ops m d name (decimal key)) (omega arith)
+    ∙ (is ∙ (ap (λ r. (r >>= λ k. Ok (with_key k op)) >>= structured d) (number-decimal 0 MAX_KEY key (omega arith) le (omega arith)) ∙ structured-on d (with_key key op) on room))
+
+emit-words : (m : Mode) (h : Header) (items : List Item) (c : ℕ) (ops : List Op) (a : ℕ) → a < h.words → IsFree h a → a < 2 ^ 64 → length ops < MAX_OPS → has_irrev ops ≡ true
+    → by_words m (in_tx h items c ops) (codes "emit" ∷ decimal a ∷ []) ≡ Ok (Add (Emit a))
+emit-words m h items c ops a within free fits room asked =
+    let d : Writing = in_tx h items c ops in
+    let at : address d (decimal a) ≡ Ok a = address-decimal d a within free fits in
     filled-decimal a (two_words Ops m d (codes "emit") (decimal a)) fits
     ∙ (ap (λ r. r >>= emitted d) at ∙ (ap (λ b. if b then added d (Emit a) else Err ORDER) asked ∙ added-room d (Emit a) room))
 
@@ -178,43 +226,91 @@ adds : (op : Op) → Add op ≢ Done
 adds op e = cc
 
 -- the line of an operation
-op-read : (m : Mode) (h : Header) (items : List Item) (c : ℕ) (ops : List Op) (k : ℕ) (op : Op) (rest : List ℕ) → h.words ≤ MAX_WORDS → OpFits h.words op → length ops < MAX_OPS → IsAllowed (has_irrev ops) op
+op-read : (m : Mode) (h : Header) (items : List Item) (c : ℕ) (ops : List Op) (k : ℕ) (op : Op) (rest : List ℕ) → h.words ≤ MAX_WORDS → OpFits h op → length ops < MAX_OPS → IsAllowed (has_irrev ops) op
     → parsed m (in_tx h items c ops) k (lines_of (line (op_words op) ++ rest)) ≡ parsed m (in_tx h items c (ops ++ op ∷ [])) (k + 1) (lines_of rest)
 op-read m h items c ops k (Read a) rest small fits room allowed =
+    let within = fits.0 in
     step-read m (in_tx h items c ops) k (codes "read") (decimal a ∷ []) rest (Add (Read a)) (seen (codes "read") refl, (visible-decimal a (omega arith), tt))
-    (read-words m h items c ops a fits (omega arith) room) (adds (Read a))
+    (read-words m h items c ops a within fits.1 (omega arith) room) (adds (Read a))
 op-read m h items c ops k (Write a v) rest small fits room allowed =
     let within = fits.0 in
     step-read m (in_tx h items c ops) k (codes "write") (decimal a ∷ decimal v ∷ []) rest (Add (Write a v)) (seen (codes "write") refl, (visible-decimal a (omega arith), (visible-decimal v fits.1, tt)))
-    (write-words m h items c ops a v within (omega arith) fits.1 room) (adds (Write a v))
+    (write-words m h items c ops a v within fits.2 (omega arith) fits.1 room) (adds (Write a v))
 op-read m h items c ops k (Sum a v) rest small fits room allowed =
     let within = fits.0 in
     step-read m (in_tx h items c ops) k (codes "add") (decimal a ∷ decimal v ∷ []) rest (Add (Sum a v)) (seen (codes "add") refl, (visible-decimal a (omega arith), (visible-decimal v fits.1, tt)))
-    (add-words m h items c ops a v within (omega arith) fits.1 room) (adds (Sum a v))
+    (add-words m h items c ops a v within fits.2 (omega arith) fits.1 room) (adds (Sum a v))
 op-read m h items c ops k (Move a b v) rest small fits room allowed =
     let from = fits.0 in
     let onto = fits.1 in
     step-read m (in_tx h items c ops) k (codes "move") (decimal a ∷ decimal b ∷ decimal v ∷ []) rest (Add (Move a b v))
     (seen (codes "move") refl, (visible-decimal a (omega arith), (visible-decimal b (omega arith), (visible-decimal v fits.2, tt))))
-    (move-words m h items c ops a b v from onto (omega arith) (omega arith) fits.2 room) (adds (Move a b v))
+    (move-words m h items c ops a b v from onto fits.3 fits.4 (omega arith) (omega arith) fits.2 room) (adds (Move a b v))
 op-read m h items c ops k (Emit a) rest small fits room allowed =
+    let within = fits.0 in
     step-read m (in_tx h items c ops) k (codes "emit") (decimal a ∷ []) rest (Add (Emit a)) (seen (codes "emit") refl, (visible-decimal a (omega arith), tt))
-    (emit-words m h items c ops a fits (omega arith) room allowed) (adds (Emit a))
+    (emit-words m h items c ops a within fits.1 (omega arith) room allowed) (adds (Emit a))
 op-read m h items c ops k Irrev rest small fits room allowed =
     step-read m (in_tx h items c ops) k (codes "irrev") [] rest (Add Irrev) (seen (codes "irrev") refl, tt) (irrev-words m h items c ops room) (adds Irrev)
 op-read m h items c ops k Cancel rest small fits room allowed =
     step-read m (in_tx h items c ops) k (codes "cancel") [] rest (Add Cancel) (seen (codes "cancel") refl, tt) (cancel-words m h items c ops room) (adds Cancel)
+op-read m h items c ops k (Count a v) rest small fits room allowed =
+    let within = fits.0 in
+    step-read m (in_tx h items c ops) k (codes "count") (decimal a ∷ decimal v ∷ []) rest (Add (Count a v)) (seen (codes "count") refl, (visible-decimal a (omega arith), (visible-decimal v fits.1, tt)))
+    (count-words m h items c ops a v within fits.1 fits.2 room) (adds (Count a v))
+op-read m h items c ops k Total rest small fits room allowed =
+    step-read m (in_tx h items c ops) k (codes "total") [] rest (Add Total) (seen (codes "total") refl, tt) (structured-on (in_tx h items c ops) Total fits room) (adds Total)
+op-read m h items c ops k ListLength rest small fits room allowed =
+    step-read m (in_tx h items c ops) k (codes "llen") [] rest (Add ListLength) (seen (codes "llen") refl, tt) (structured-on (in_tx h items c ops) ListLength fits room) (adds ListLength)
+op-read m h items c ops k TreeLeast rest small fits room allowed =
+    step-read m (in_tx h items c ops) k (codes "tmin") [] rest (Add TreeLeast) (seen (codes "tmin") refl, tt) (structured-on (in_tx h items c ops) TreeLeast fits room) (adds TreeLeast)
+op-read m h items c ops k (ListInsert key) rest small fits room allowed =
+    let le = fits.0 in
+    step-read m (in_tx h items c ops) k (codes "ladd") (decimal key ∷ []) rest (Add (ListInsert key)) (seen (codes "ladd") refl, (visible-decimal key (omega arith), tt))
+    (keyed-words m h items c ops (ListInsert 0) (codes "ladd") key le fits.1 room refl) (adds (ListInsert key))
+op-read m h items c ops k (ListRemove key) rest small fits room allowed =
+    let le = fits.0 in
+    step-read m (in_tx h items c ops) k (codes "ldel") (decimal key ∷ []) rest (Add (ListRemove key)) (seen (codes "ldel") refl, (visible-decimal key (omega arith), tt))
+    (keyed-words m h items c ops (ListRemove 0) (codes "ldel") key le fits.1 room refl) (adds (ListRemove key))
+op-read m h items c ops k (ListContains key) rest small fits room allowed =
+    let le = fits.0 in
+    step-read m (in_tx h items c ops) k (codes "lhas") (decimal key ∷ []) rest (Add (ListContains key)) (seen (codes "lhas") refl, (visible-decimal key (omega arith), tt))
+    (keyed-words m h items c ops (ListContains 0) (codes "lhas") key le fits.1 room refl) (adds (ListContains key))
+op-read m h items c ops k (HashInsert key) rest small fits room allowed =
+    let le = fits.0 in
+    step-read m (in_tx h items c ops) k (codes "hadd") (decimal key ∷ []) rest (Add (HashInsert key)) (seen (codes "hadd") refl, (visible-decimal key (omega arith), tt))
+    (keyed-words m h items c ops (HashInsert 0) (codes "hadd") key le fits.1 room refl) (adds (HashInsert key))
+op-read m h items c ops k (HashRemove key) rest small fits room allowed =
+    let le = fits.0 in
+    step-read m (in_tx h items c ops) k (codes "hdel") (decimal key ∷ []) rest (Add (HashRemove key)) (seen (codes "hdel") refl, (visible-decimal key (omega arith), tt))
+    (keyed-words m h items c ops (HashRemove 0) (codes "hdel") key le fits.1 room refl) (adds (HashRemove key))
+op-read m h items c ops k (HashContains key) rest small fits room allowed =
+    let le = fits.0 in
+    step-read m (in_tx h items c ops) k (codes "hhas") (decimal key ∷ []) rest (Add (HashContains key)) (seen (codes "hhas") refl, (visible-decimal key (omega arith), tt))
+    (keyed-words m h items c ops (HashContains 0) (codes "hhas") key le fits.1 room refl) (adds (HashContains key))
+op-read m h items c ops k (TreeInsert key) rest small fits room allowed =
+    let le = fits.0 in
+    step-read m (in_tx h items c ops) k (codes "tadd") (decimal key ∷ []) rest (Add (TreeInsert key)) (seen (codes "tadd") refl, (visible-decimal key (omega arith), tt))
+    (keyed-words m h items c ops (TreeInsert 0) (codes "tadd") key le fits.1 room refl) (adds (TreeInsert key))
+op-read m h items c ops k (TreeRemove key) rest small fits room allowed =
+    let le = fits.0 in
+    step-read m (in_tx h items c ops) k (codes "tdel") (decimal key ∷ []) rest (Add (TreeRemove key)) (seen (codes "tdel") refl, (visible-decimal key (omega arith), tt))
+    (keyed-words m h items c ops (TreeRemove 0) (codes "tdel") key le fits.1 room refl) (adds (TreeRemove key))
+op-read m h items c ops k (TreeContains key) rest small fits room allowed =
+    let le = fits.0 in
+    step-read m (in_tx h items c ops) k (codes "thas") (decimal key ∷ []) rest (Add (TreeContains key)) (seen (codes "thas") refl, (visible-decimal key (omega arith), tt))
+    (keyed-words m h items c ops (TreeContains 0) (codes "thas") key le fits.1 room refl) (adds (TreeContains key))
 
 -- the lines of operations
-ops-read : (m : Mode) (h : Header) (items : List Item) (c : ℕ) (before : List Op) (k : ℕ) (ops : List Op) (more : List (List (List ℕ))) → h.words ≤ MAX_WORDS → length before + length ops ≤ MAX_OPS → All (OpFits h.words) ops → AreInOrder (has_irrev before) ops
+ops-read : (m : Mode) (h : Header) (items : List Item) (c : ℕ) (before : List Op) (k : ℕ) (ops : List Op) (more : List (List (List ℕ))) → h.words ≤ MAX_WORDS → length before + length ops ≤ MAX_OPS → All (OpFits h) ops → AreInOrder (has_irrev before) ops
     → (j : ℕ) × (parsed m (in_tx h items c before) k (lines_of (lines_text (map op_words ops ++ more))) ≡ parsed m (in_tx h items c (before ++ ops)) j (lines_of (lines_text more)))
 ops-read m h items c before k [] more small room fits order =
     (k, ap (λ o. parsed m (in_tx h items c o) k (lines_of (lines_text more))) (sym (append-nil before)))
 ops-read m h items c before k (op ∷ ops) more small room fits order =
-    let next = ops-read m h items c (before ++ op ∷ []) (k + 1) ops more small (omega (arith, length-append before (op ∷ []))) (All-tail (OpFits h.words) op ops fits)
+    let next = ops-read m h items c (before ++ op ∷ []) (k + 1) ops more small (omega (arith, length-append before (op ∷ []))) (All-tail (OpFits h) op ops fits)
     (subst (λ b. AreInOrder b ops) (sym (irrev-snoc before op)) order.1) in (
       next.0,
-      op-read m h items c before k op (lines_text (map op_words ops ++ more)) small (All-head (OpFits h.words) op ops fits) (omega arith) order.0
+      op-read m h items c before k op (lines_text (map op_words ops ++ more)) small (All-head (OpFits h) op ops fits) (omega arith) order.0
           ∙ (next.1 ∙ ap (λ o. parsed m (in_tx h items c o) next.0 (lines_of (lines_text more))) (append_assoc before (op ∷ []) ops)),
     )
 
@@ -455,14 +551,18 @@ alg-read m h k alg rest built =
     ∙ ap (λ r. r >>= (λ a. Ok (record h { alg = a })) >>= λ x. Ok (Head Structures x)) (algorithm-name alg built))
     (not-done Structures next)
 
-structs-read : (m : Mode) (h : Header) (k : ℕ) (rest : List ℕ)
-    → parsed m (in_header Structures h) k (lines_of (line (codes "structs" ∷ codes "off" ∷ []) ++ rest)) ≡ parsed m (in_header Items (record h { structs = false })) (k + 1) (lines_of rest)
-structs-read m h k rest =
+structs-read : (m : Mode) (h : Header) (k : ℕ) (on : Bool) (rest : List ℕ) → (on ≡ true → STRUCTS_END ≤ h.words)
+    → parsed m (in_header Structures h) k (lines_of (line (codes "structs" ∷ switch_of on ∷ []) ++ rest)) ≡ parsed m (in_header Items (record h { structs = on })) (k + 1) (lines_of rest)
+structs-read m h k false rest room =
     step-read m (in_header Structures h) k (codes "structs") (codes "off" ∷ []) rest (Head Items (record h { structs = false })) (seen (codes "structs") refl, (seen (codes "off") refl, tt)) refl (not-done Items (record h { structs = false }))
+structs-read m h k true rest room =
+    let le = room refl in
+    let p : leb STRUCTS_END h.words ≡ true = grind (arith, nat_tests) in
+    step-read m (in_header Structures h) k (codes "structs") (codes "on" ∷ []) rest (Head Items (record h { structs = true })) (seen (codes "structs") refl, (seen (codes "on") refl, tt)) (rw p) (not-done Items (record h { structs = true }))
 
 -- the ten lines of a header
 head-read : (m : Mode) (h : Header) (more : List (List (List ℕ))) → HeaderFits h
-    → parsed m opening 1 (lines_of (lines_text (header_lines (record h { structs = false }) ++ more))) ≡ parsed m (between (record h { structs = false }) [] 0) 11 (lines_of (lines_text more))
+    → parsed m opening 1 (lines_of (lines_text (header_lines h ++ more))) ≡ parsed m (between h [] 0) 11 (lines_of (lines_text more))
 head-read m h more f =
     let rest : List ℕ = lines_text more in
     let h0 : Header = opening.header in
@@ -474,7 +574,7 @@ head-read m h more f =
     let h6 : Header = record h5 { writes = h.writes } in
     let h7 : Header = record h6 { clock = h.clock } in
     let h8 : Header = record h7 { alg = h.alg } in
-    let t9 : List ℕ = line (codes "structs" ∷ codes "off" ∷ []) ++ rest in
+    let t9 : List ℕ = line (codes "structs" ∷ switch_of h.structs ∷ []) ++ rest in
     let t8 : List ℕ = line (codes "alg" ∷ alg_name h.alg ∷ []) ++ t9 in
     let t7 : List ℕ = line (codes "clock" ∷ decimal h.clock ∷ []) ++ t8 in
     let t6 : List ℕ = line (codes "writes" ∷ decimal h.writes ∷ []) ++ t7 in
@@ -492,63 +592,43 @@ head-read m h more f =
     ∙ (writes-read m h5 7 h.writes t7 f.config.writes.0 f.config.writes.1
     ∙ (clock-read m h6 8 h.clock t8 (omega arith) f.config.clock
     ∙ (alg-read m h7 9 h.alg t9 f.alg
-    ∙ structs-read m h8 10 rest))))))))
-
--- the header as it stands where what isn't built is off
-abbrev off : Header → Header
-off h = record h { structs = false }
+    ∙ structs-read m h8 10 h.structs rest f.structs))))))))
 
 -- the lines of a header, items, and what follows them
 front-read : (m : Mode) (h : Header) (items : List Item) (more : List (List (List ℕ))) → HeaderFits h → length items ≤ MAX_ITEMS → All (ItemFits h) items
-    → (x : ℕ) × (j : ℕ) × (parsed m opening 1 (lines_of (lines_text (header_lines (off h) ++ (items_lines items ++ more)))) ≡ parsed m (between (off h) items x) j (lines_of (lines_text more)))
+    → (x : ℕ) × (j : ℕ) × (parsed m opening 1 (lines_of (lines_text (header_lines h ++ (items_lines items ++ more)))) ≡ parsed m (between h items x) j (lines_of (lines_text more)))
 front-read m h items more f room fits =
     let callers = f.config.callers.1 in
-    let body = items-read m (off h) [] 0 11 items more f.config.words.1 (omega arith) (omega arith) fits in
+    let body = items-read m h [] 0 11 items more f.config.words.1 (omega arith) (omega arith) fits in
     (body.0, body.1, head-read m h (items_lines items ++ more) f ∙ body.2)
 
 abbrev whole : Header → List Item → List Go → Workload
 whole h items gos = record { header = h; items = items; schedule = gos }
 
 all-read : (m : Mode) (h : Header) (items : List Item) (gos : List Go) → HeaderFits h → length items ≤ MAX_ITEMS → All (ItemFits h) items → ScheduleFits m h gos
-    → parsed m opening 1 (lines_of (lines_text (lines_with (schedule_lines gos) (whole (off h) items gos)))) ≡ Ok (whole (off h) items gos)
+    → parsed m opening 1 (lines_of (lines_text (lines_with (schedule_lines gos) (whole h items gos)))) ≡ Ok (whole h items gos)
 all-read m h items gos f room fits plan =
     let callers = f.config.callers.1 in
     let front = front-read m h items (schedule_lines gos ++ done_line) f room fits in
-    front.2 ∙ plan-read m (off h) items front.0 front.1 gos (omega arith) (plan-off m h gos plan)
-  where
-    plan-off : (m : Mode) (h : Header) (gos : List Go) → ScheduleFits m h gos → ScheduleFits m (off h) gos
-    plan-off Run h gos p = p
-    plan-off Stepwise h gos p = p
+    front.2 ∙ plan-read m h items front.0 front.1 gos (omega arith) plan
 
 bare-read : (h : Header) (items : List Item) → HeaderFits h → length items ≤ MAX_ITEMS → All (ItemFits h) items
-    → parsed Stepwise opening 1 (lines_of (lines_text (lines_with (section_lines []) (whole (off h) items [])))) ≡ Ok (whole (off h) items [])
+    → parsed Stepwise opening 1 (lines_of (lines_text (lines_with (section_lines []) (whole h items [])))) ≡ Ok (whole h items [])
 bare-read h items f room fits =
     let callers = f.config.callers.1 in
     let front = front-read Stepwise h items (section_lines [] ++ done_line) f room fits in
-    front.2 ∙ section-read (off h) items front.0 front.1 [] (omega arith) (All-nil (GoFits (off h)), omega arith)
+    front.2 ∙ section-read h items front.0 front.1 [] (omega arith) (All-nil (GoFits h), omega arith)
 
 short-enough : (m : Mode) (t : List ℕ) → length t ≤ MAX_TEXT → workload_of m t ≡ parsed m opening 1 (lines_of t)
 short-enough m t le = let p : ltb MAX_TEXT (length t) ≡ false = grind (arith, nat_tests) in rw p
 
-header-same : (h : Header) → h.structs ≡ false → off h ≡ h
-header-same h b = ap (λ x. let g : Header = record h { structs = x } in g) (sym b)
-
 lines-read : (m : Mode) (w : Workload) (lines : List (List (List ℕ))) → IsBuilt m w → AreLinesOf m w lines → parsed m opening 1 (lines_of (lines_text lines)) ≡ Ok w
 lines-read m w lines b (inl is) =
-    let h = b.header in
-    let same = header-same w.header h.structs in
-    ap (λ ls. parsed m opening 1 (lines_of (lines_text ls))) is
-    ∙ subst (λ x. parsed m opening 1 (lines_of (lines_text (lines_with (schedule_lines w.schedule) (whole x w.items w.schedule)))) ≡ Ok (whole x w.items w.schedule)) same
-    (all-read m w.header w.items w.schedule h b.count b.items b.schedule)
+    ap (λ ls. parsed m opening 1 (lines_of (lines_text ls))) is ∙ all-read m w.header w.items w.schedule b.header b.count b.items b.schedule
 lines-read Run w lines b (inr is) = absurd cc
 lines-read Stepwise w lines b (inr is) =
-    let h = b.header in
-    let same = header-same w.header h.structs in
-    let bare : parsed Stepwise opening 1 (lines_of (lines_text (lines_with (section_lines []) (whole w.header w.items [])))) ≡ Ok (whole w.header w.items []) =
-    subst (λ x. parsed Stepwise opening 1 (lines_of (lines_text (lines_with (section_lines []) (whole x w.items [])))) ≡ Ok (whole x w.items [])) same
-    (bare-read w.header w.items h b.count b.items) in
     ap (λ ls. parsed Stepwise opening 1 (lines_of (lines_text ls))) is.2
-    ∙ (bare ∙ ap (λ gs. Ok (whole w.header w.items gs)) (sym is.1))
+    ∙ (bare-read w.header w.items b.header b.count b.items ∙ ap (λ gs. Ok (whole w.header w.items gs)) (sym is.1))
 
 -- a text of a workload that fits is read as that workload
 pub text-read : (m : Mode) (w : Workload) (text : List ℕ) → IsBuilt m w → IsTextOf m w text → length text ≤ MAX_TEXT → workload_of m text ≡ Ok w

@@ -11,13 +11,15 @@ use Rattle.stm_model.specs.declared.alg.Alg.{Alg}
 use Rattle.stm_model.specs.declared.alg.TheConstants.{ALGORITHMS}
 use Rattle.stm_model.specs.declared.config.TheConstants.{MAX_WORDS, MAX_RECORDS, MIN_RING, MAX_RING, MAX_CALLERS, MAX_LOG, CLOCK_LIMIT}
 use Rattle.stm_script.specs.declared.op.Op.{Op}
-use Rattle.stm_script.specs.declared.op.Op.TheVariants.{Read, Write, Add as Sum, Move, Emit, Irrev, Cancel}
+use Rattle.stm_script.specs.declared.op.Op.TheVariants.{Read, Write, Add as Sum, Move, Emit, Irrev, Cancel, Count, Total, ListInsert, ListRemove, ListContains, ListLength, HashInsert, HashRemove, HashContains, TreeInsert, TreeRemove, TreeContains, TreeLeast}
+use Rattle.stm_script.specs.Operations.{op_name, with_key}
+use Rattle.stm_script.specs.declared.op.TheConstants.{KEYED, KEYLESS}
 use Rattle.stm_script.specs.declared.workload.Header.{Header}
 use Rattle.stm_script.specs.declared.workload.Item.{Item}
 use Rattle.stm_script.specs.declared.workload.Item.TheVariants.{Tx, Switch}
 use Rattle.stm_script.specs.declared.workload.Go.{Go}
 use Rattle.stm_script.specs.declared.workload.Workload.{Workload}
-use Rattle.stm_script.specs.declared.workload.TheConstants.{MAX_ITEMS, MAX_OPS, MAX_TURNS}
+use Rattle.stm_script.specs.declared.workload.TheConstants.{MAX_ITEMS, MAX_OPS, MAX_TURNS, MAX_KEY, STRUCTS_BEGIN, STRUCTS_END, STRIPES}
 use Rattle.stm_script.specs.Scripts.{has_irrev}
 use Rattle.stm_text.specs.declared.draft.Place.{Place}
 use Rattle.stm_text.specs.declared.draft.Place.TheVariants.{Version, Words, Callers, Records, Ring, Reads, Writes, Clock, Algorithm, Structures, Items, Ops, Turns}
@@ -28,11 +30,11 @@ use Rattle.stm_text.specs.declared.parse.Mode.{Mode}
 use Rattle.stm_text.specs.declared.parse.Mode.TheVariants.{Run, Step as Stepwise}
 use Rattle.stm_text.specs.Lines.{Line, with_byte, lines_of, with_letter, words_of, any_bad, number_from, number_of}
 use Rattle.stm_text.specs.Drafts.{Writing, after, opening}
-use Rattle.stm_text.specs.Grammar.{◌>>=◌, named, formed, ranged, below, number, algorithm_of, algorithm, sized, header_line, next_line, begun, changed, added, emitted, planned, scheduled, caller_of, address, operands, move_of, go_of, one_word, two_words, three_words, four_words, filled, by_words, step_of, ended, go_on, parsed, workload_of}
-use Rattle.stm_text.specs.Texts.{joined, line, op_words, item_lines, items_lines, header_lines, go_words, section_lines, schedule_lines, lines_with, lines_text, AreLinesOf, IsTextOf}
+use Rattle.stm_text.specs.Grammar.{◌>>=◌, named, formed, ranged, below, number, algorithm_of, algorithm, sized, switched, header_line, next_line, begun, changed, added, emitted, structured, planned, scheduled, caller_of, plain, address, operands, move_of, count_of, op_of, keyed, go_of, one_word, two_words, three_words, four_words, filled, by_words, step_of, ended, go_on, parsed, workload_of}
+use Rattle.stm_text.specs.Texts.{joined, line, switch_of, op_words, item_lines, items_lines, header_lines, go_words, section_lines, schedule_lines, lines_with, lines_text, AreLinesOf, IsTextOf}
 use Rattle.stm_text.proofs.LineLaws.{words_of-some}
 use Rattle.stm_text.proofs.Decimals.{IsDigit, Digits}
-use Rattle.stm_text.proofs.BuiltLaws.{Gives, then-gives, if-gives, if-else-gives, if-both, both-true, filled-gives, Fits64, number_from-fits, At, Sound, Leaves, step-sound, opening-sound}
+use Rattle.stm_text.proofs.BuiltLaws.{Gives, then-gives, if-gives, unless-gives, if-else-gives, op_of-gives, if-both, both-true, filled-gives, Fits64, number_from-fits, At, Sound, Leaves, step-sound, opening-sound}
 
 -- words and lines, put together again
 
@@ -213,6 +215,13 @@ number-grows p h name low high w v set next =
     then-gives (Names name w v) (HeadGrows p h w v) (sized name low high w v) (λ n. Ok (set n)) (sized-says name low high w v)
     (λ n is. next n ∙ two-same (head_so_far p h) name (decimal n) w v is.0 is.1)
 
+switched-says : (words : ℕ) (v : List ℕ) → Gives (λ on. v ≡ switch_of on) (switched words v)
+switched-says words v =
+    let P : Bool → Type 0 = λ on. v ≡ switch_of on in
+    let room : Result Bool ℕ = if leb STRUCTS_END words then Ok true else Err 8 in
+    if-else-gives P (bytes_eq v (codes "off")) (Ok false) (named (codes "on") v room) (λ e. (bytes_eq-Decides v (codes "off")).0 e)
+    (named-says P (codes "on") v room (λ is. if-gives P (leb STRUCTS_END words) (Ok true) 8 (λ _. is)))
+
 header_line-grows : (m : Mode) (p : Place) (h : Header) (w v : List ℕ) → Gives (HeadGrows p h w v) (header_line p h w v)
 header_line-grows m Version h w v =
     named-says (HeadGrows Version h w v) (codes "stm") w (named (codes "1") v (Ok h))
@@ -230,9 +239,10 @@ header_line-grows m Algorithm h w v =
     (named-says Says (codes "alg") w (algorithm v) (λ a. gives-with (λ x. v ≡ alg_name x) Says (algorithm v) (algorithm-says v) (λ x is. (a, is))))
     (λ a is. two-same (head_so_far Algorithm h) (codes "alg") (alg_name a) w v is.0 is.1)
 header_line-grows m Structures h w v =
-    let off : Header = record h { structs = false } in
-    named-says (HeadGrows Structures h w v) (codes "structs") w (named (codes "off") v (Ok off))
-    (λ a. named-says (HeadGrows Structures h w v) (codes "off") v (Ok off) (λ b. two-same (head_so_far Structures h) (codes "structs") (codes "off") w v a b))
+    let Says : Bool → Type 0 = λ on. (w ≡ codes "structs") × (v ≡ switch_of on) in
+    then-gives Says (HeadGrows Structures h w v) (named (codes "structs") w (switched h.words v)) (λ on. Ok (record h { structs = on }))
+    (named-says Says (codes "structs") w (switched h.words v) (λ a. gives-with (λ on. v ≡ switch_of on) Says (switched h.words v) (switched-says h.words v) (λ on is. (a, is))))
+    (λ on is. two-same (head_so_far Structures h) (codes "structs") (switch_of on) w v is.0 is.1)
 header_line-grows m Items h w v = tt
 header_line-grows m Ops h w v = tt
 header_line-grows m Turns h w v = tt
@@ -318,6 +328,16 @@ if-else-says P name w x y h g = if-else-gives P (bytes_eq w name) x y (λ e. h (
 added-grows : (d : Writing) (ws : List (List ℕ)) (op : Op) → d.place ≡ Ops → written_at Ops d ++ op_words op ∷ [] ≡ written_at Ops d ++ ws ∷ [] → Gives (Grows Ops d ws) (added d op)
 added-grows d ws op e same = if-gives (Grows Ops d ws) (ltb (length d.ops) MAX_OPS) (Ok (Add op)) 10 (λ _. (e, add-grows d op ∙ same))
 
+structured-grows : (d : Writing) (ws : List (List ℕ)) (op : Op) → d.place ≡ Ops → op_words op ≡ ws → Gives (Grows Ops d ws) (structured d op)
+structured-grows d ws op e is = if-gives (Grows Ops d ws) d.header.structs (added d op) 8 (λ _. added-grows d ws op e (ap (λ x. written_at Ops d ++ x ∷ []) is))
+
+one-word : (a w : List ℕ) → w ≡ a → a ∷ [] ≡ w ∷ []
+one-word a w p = ap (λ x. x ∷ []) (sym p)
+
+-- the name of an operation that takes nothing is its line
+keyless-says : (w : List ℕ) → Gives (λ op. op_words op ≡ w ∷ []) (op_of KEYLESS w)
+keyless-says w = op_of-gives (λ op. op_words op ≡ w ∷ []) KEYLESS w (one-word (codes "total") w, (one-word (codes "llen") w, (one-word (codes "tmin") w, tt)))
+
 scheduled-grows : (m : Mode) (d : Writing) (w : List ℕ) → d.schedule ≡ [] → w ≡ codes "schedule" → Gives (Grows Items d (w ∷ [])) (scheduled m)
 scheduled-grows Run d w none is = tt
 scheduled-grows Stepwise d w none is = schedule-grows d none ∙ one-line (written_at Items d) (codes "schedule") w is
@@ -327,12 +347,14 @@ one-grows m d Items w at e =
     if-else-says (Grows Items d (w ∷ [])) (codes "done") w (Ok Done) (named (codes "schedule") w (scheduled m)) (λ is. (inl e, ap (λ x. x ∷ []) is))
     (named-says (Grows Items d (w ∷ [])) (codes "schedule") w (scheduled m) (λ is. scheduled-grows m d w at.1 is))
 one-grows m d Ops w at e =
-    let ends : Result Step ℕ = named (codes "end") w (Ok End) in
+    let sole : Result Step ℕ = op_of KEYLESS w >>= structured d in
+    let ends : Result Step ℕ = if bytes_eq w (codes "end") then Ok End else sole in
     if-else-says (Grows Ops d (w ∷ [])) (codes "irrev") w (added d Irrev) (if bytes_eq w (codes "cancel") then added d Cancel else ends)
     (λ is. added-grows d (w ∷ []) Irrev e (one-line (written_at Ops d) (codes "irrev") w is))
     (if-else-says (Grows Ops d (w ∷ [])) (codes "cancel") w (added d Cancel) ends
     (λ is. added-grows d (w ∷ []) Cancel e (one-line (written_at Ops d) (codes "cancel") w is))
-    (named-says (Grows Ops d (w ∷ [])) (codes "end") w (Ok End) (λ is. end-grows d ∙ one-line (written_at Ops d) (codes "end") w is)))
+    (if-else-says (Grows Ops d (w ∷ [])) (codes "end") w (Ok End) sole (λ is. end-grows d ∙ one-line (written_at Ops d) (codes "end") w is)
+    (then-gives (λ op. op_words op ≡ w ∷ []) (Grows Ops d (w ∷ [])) (op_of KEYLESS w) (structured d) (keyless-says w) (λ op is. structured-grows d (w ∷ []) op e is))))
 one-grows m d Turns w at e = named-says (Grows Turns d (w ∷ [])) (codes "done") w (Ok Done) (λ is. (inr e, ap (λ x. x ∷ []) is))
 one-grows m d Version w at e = tt
 one-grows m d Words w at e = tt
@@ -349,16 +371,55 @@ caller-says : (d : Writing) (v : List ℕ) → Gives (λ c. v ≡ decimal c) (ca
 caller-says d v =
     then-gives (λ n. v ≡ decimal n) (λ c. v ≡ decimal c) (formed (number_of v)) (below d.header.callers) (formed-says v) (λ n is. below-says d.header.callers n v is)
 
+plain-says : (h : Header) (n : ℕ) (w : List ℕ) → w ≡ decimal n → Gives (λ k. w ≡ decimal k) (plain h n)
+plain-says h n w is = unless-gives (λ k. w ≡ decimal k) (h.structs && leb STRUCTS_BEGIN n && ltb n STRUCTS_END) (Ok n) 8 is
+
 address-says : (d : Writing) (a : List ℕ) → Gives (λ k. a ≡ decimal k) (address d a)
 address-says d a =
-    then-gives (λ n. a ≡ decimal n) (λ k. a ≡ decimal k) (formed (number_of a)) (below d.header.words) (formed-says a) (λ n is. below-says d.header.words n a is)
+    let P : ℕ → Type 0 = λ k. a ≡ decimal k in
+    then-gives P P (formed (number_of a) >>= below d.header.words) (plain d.header)
+    (then-gives P P (formed (number_of a)) (below d.header.words) (formed-says a) (λ n is. below-says d.header.words n a is)) (λ n is. plain-says d.header n a is)
 
 operands-say : (d : Writing) (a v : List ℕ) → Gives (λ p. (a ≡ decimal p.0) × (v ≡ decimal p.1)) (operands d a v)
 operands-say d a v =
     let P : ℕ × ℕ → Type 0 = λ p. (a ≡ decimal p.0) × (v ≡ decimal p.1) in
-    then-gives (λ n. a ≡ decimal n) P (formed (number_of a)) (λ i. formed (number_of v) >>= λ n. below d.header.words i >>= λ j. Ok (j, n)) (formed-says a)
-    (λ i h. then-gives (λ n. v ≡ decimal n) P (formed (number_of v)) (λ n. below d.header.words i >>= λ j. Ok (j, n)) (formed-says v)
-    (λ n k. then-gives (λ j. a ≡ decimal j) P (below d.header.words i) (λ j. Ok (j, n)) (below-says d.header.words i a h) (λ j l. (l, k))))
+    let w = d.header.words in
+    then-gives (λ n. a ≡ decimal n) P (formed (number_of a)) (λ i. formed (number_of v) >>= λ n. below w i >>= λ j. plain d.header j >>= λ k. Ok (k, n)) (formed-says a)
+    (λ i h. then-gives (λ n. v ≡ decimal n) P (formed (number_of v)) (λ n. below w i >>= λ j. plain d.header j >>= λ k. Ok (k, n)) (formed-says v)
+    (λ n k. then-gives (λ j. a ≡ decimal j) P (below w i) (λ j. plain d.header j >>= λ x. Ok (x, n)) (below-says w i a h)
+    (λ j l. then-gives (λ x. a ≡ decimal x) P (plain d.header j) (λ x. Ok (x, n)) (plain-says d.header j a l) (λ x u. (u, k)))))
+
+abbrev IsCount : List ℕ → List ℕ → Op → Type 0
+IsCount a v op = op_words op ≡ codes "count" ∷ a ∷ v ∷ []
+
+count-same : (a v x y : List ℕ) → a ≡ x → v ≡ y → codes "count" ∷ x ∷ y ∷ [] ≡ codes "count" ∷ a ∷ v ∷ []
+count-same a v x y p q = cc
+
+count-says : (a v : List ℕ) → Gives (IsCount a v) (count_of a v)
+count-says a v =
+    let P : Op → Type 0 = IsCount a v in
+    then-gives (λ n. a ≡ decimal n) P (formed (number_of a)) (λ i. formed (number_of v) >>= λ n. below STRIPES i >>= λ s. Ok (Count s n)) (formed-says a)
+    (λ i h. then-gives (λ n. v ≡ decimal n) P (formed (number_of v)) (λ n. below STRIPES i >>= λ s. Ok (Count s n)) (formed-says v)
+    (λ n k. then-gives (λ s. a ≡ decimal s) P (below STRIPES i) (λ s. Ok (Count s n)) (below-says STRIPES i a h) (λ s l. count-same a v (decimal s) (decimal n) l k)))
+
+key-says : (v : List ℕ) → Gives (λ k. v ≡ decimal k) (number 0 MAX_KEY v)
+key-says v =
+    let P : ℕ → Type 0 = λ k. v ≡ decimal k in
+    then-gives P P (formed (number_of v)) (ranged 0 MAX_KEY) (formed-says v) (λ n is. ranged-says 0 MAX_KEY n v is)
+
+-- an operation whose line is this word and a key
+abbrev IsKeyed : List ℕ → Op → Type 0
+IsKeyed w op = (key : ℕ) → op_words (with_key key op) ≡ w ∷ decimal key ∷ []
+
+name-key : (a w : List ℕ) → w ≡ a → (key : ℕ) → a ∷ decimal key ∷ [] ≡ w ∷ decimal key ∷ []
+name-key a w p key = ap (λ x. x ∷ decimal key ∷ []) (sym p)
+
+keyed-says : (w v : List ℕ) → Gives (λ op. op_words op ≡ w ∷ v ∷ []) (keyed w v)
+keyed-says w v =
+    let P : Op → Type 0 = λ op. op_words op ≡ w ∷ v ∷ [] in
+    then-gives (IsKeyed w) P (op_of KEYED w) (λ op. number 0 MAX_KEY v >>= λ key. Ok (with_key key op))
+    (op_of-gives (IsKeyed w) KEYED w (name-key (codes "ladd") w, (name-key (codes "ldel") w, (name-key (codes "lhas") w, (name-key (codes "hadd") w, (name-key (codes "hdel") w, (name-key (codes "hhas") w, (name-key (codes "tadd") w, (name-key (codes "tdel") w, (name-key (codes "thas") w, tt))))))))))
+    (λ op each. then-gives (λ k. v ≡ decimal k) P (number 0 MAX_KEY v) (λ key. Ok (with_key key op)) (key-says v) (λ key is. each key ∙ ap (λ x. w ∷ x ∷ []) (sym is)))
 
 abbrev IsMove : List ℕ → List ℕ → List ℕ → Op → Type 0
 IsMove a b v op = op_words op ≡ codes "move" ∷ a ∷ b ∷ v ∷ []
@@ -368,14 +429,19 @@ move-same a b v x y z p q r = cc
 
 move-says : (d : Writing) (a b v : List ℕ) → Gives (IsMove a b v) (move_of d a b v)
 move-says d a b v =
+    let g = d.header in
     let w = d.header.words in
     let P : Op → Type 0 = IsMove a b v in
-    then-gives (λ n. a ≡ decimal n) P (formed (number_of a)) (λ i. formed (number_of b) >>= λ j. formed (number_of v) >>= λ n. below w i >>= λ x. below w j >>= λ y. Ok (Move x y n)) (formed-says a)
-    (λ i h. then-gives (λ n. b ≡ decimal n) P (formed (number_of b)) (λ j. formed (number_of v) >>= λ n. below w i >>= λ x. below w j >>= λ y. Ok (Move x y n)) (formed-says b)
-    (λ j g. then-gives (λ n. v ≡ decimal n) P (formed (number_of v)) (λ n. below w i >>= λ x. below w j >>= λ y. Ok (Move x y n)) (formed-says v)
-    (λ n k. then-gives (λ x. a ≡ decimal x) P (below w i) (λ x. below w j >>= λ y. Ok (Move x y n)) (below-says w i a h)
-    (λ x l. then-gives (λ y. b ≡ decimal y) P (below w j) (λ y. Ok (Move x y n)) (below-says w j b g)
-    (λ y u. move-same a b v (decimal x) (decimal y) (decimal n) l u k)))))
+    let From : ℕ → Type 0 = λ k. a ≡ decimal k in
+    let Onto : ℕ → Type 0 = λ k. b ≡ decimal k in
+    then-gives From P (formed (number_of a)) (λ i. formed (number_of b) >>= λ j. formed (number_of v) >>= λ n. below w i >>= λ x. below w j >>= λ y. plain g x >>= λ s. plain g y >>= λ t. Ok (Move s t n)) (formed-says a)
+    (λ i h. then-gives Onto P (formed (number_of b)) (λ j. formed (number_of v) >>= λ n. below w i >>= λ x. below w j >>= λ y. plain g x >>= λ s. plain g y >>= λ t. Ok (Move s t n)) (formed-says b)
+    (λ j k. then-gives (λ n. v ≡ decimal n) P (formed (number_of v)) (λ n. below w i >>= λ x. below w j >>= λ y. plain g x >>= λ s. plain g y >>= λ t. Ok (Move s t n)) (formed-says v)
+    (λ n is. then-gives From P (below w i) (λ x. below w j >>= λ y. plain g x >>= λ s. plain g y >>= λ t. Ok (Move s t n)) (below-says w i a h)
+    (λ x l. then-gives Onto P (below w j) (λ y. plain g x >>= λ s. plain g y >>= λ t. Ok (Move s t n)) (below-says w j b k)
+    (λ y u. then-gives From P (plain g x) (λ s. plain g y >>= λ t. Ok (Move s t n)) (plain-says g x a l)
+    (λ s from. then-gives Onto P (plain g y) (λ t. Ok (Move s t n)) (plain-says g y b u)
+    (λ t onto. move-same a b v (decimal s) (decimal t) (decimal n) from onto is)))))))
 
 abbrev IsGo : List ℕ → List ℕ → Go → Type 0
 IsGo a v go = (a ≡ decimal go.caller) × (v ≡ decimal go.turns)
@@ -410,13 +476,15 @@ two-grows m d Turns w v at e = tt
 two-grows m d Ops w v at e =
     let P : Step → Type 0 = Grows Ops d (w ∷ v ∷ []) in
     let emits : Result Step ℕ = address d v >>= emitted d in
-    if-else-says P (codes "read") w (address d v >>= λ a. added d (Read a)) (named (codes "emit") w emits)
+    let keys : Result Step ℕ = keyed w v >>= structured d in
+    if-else-says P (codes "read") w (address d v >>= λ a. added d (Read a)) (if bytes_eq w (codes "emit") then emits else keys)
     (λ name. then-gives (λ a. v ≡ decimal a) P (address d v) (λ a. added d (Read a)) (address-says d v)
     (λ a is. added-grows d (w ∷ v ∷ []) (Read a) e (two-same (written_at Ops d) (codes "read") (decimal a) w v name is)))
-    (named-says P (codes "emit") w emits
+    (if-else-says P (codes "emit") w emits keys
     (λ name. then-gives (λ a. v ≡ decimal a) P (address d v) (emitted d) (address-says d v)
     (λ a is. if-gives P (has_irrev d.ops) (added d (Emit a)) 9
-    (λ _. added-grows d (w ∷ v ∷ []) (Emit a) e (two-same (written_at Ops d) (codes "emit") (decimal a) w v name is)))))
+    (λ _. added-grows d (w ∷ v ∷ []) (Emit a) e (two-same (written_at Ops d) (codes "emit") (decimal a) w v name is))))
+    (then-gives (λ op. op_words op ≡ w ∷ v ∷ []) P (keyed w v) (structured d) (keyed-says w v) (λ op is. structured-grows d (w ∷ v ∷ []) op e is)))
 two-grows m d Version w v at e = heads-grow m d Version w v at.0 refl (λ h. refl)
 two-grows m d Words w v at e = heads-grow m d Words w v at.0 refl (λ h. refl)
 two-grows m d Callers w v at e = heads-grow m d Callers w v at.0 refl (λ h. refl)
@@ -444,12 +512,16 @@ three-grows d Ops w a v e =
     let P : ℕ × ℕ → Type 0 = λ p. (a ≡ decimal p.0) × (v ≡ decimal p.1) in
     let writes : Result Step ℕ = operands d a v >>= λ p. added d (Write p.0 p.1) in
     let adds : Result Step ℕ = operands d a v >>= λ p. added d (Sum p.0 p.1) in
-    if-else-says (Grows Ops d ws) (codes "write") w writes (named (codes "add") w adds)
+    let counts : Result Step ℕ = count_of a v >>= structured d in
+    if-else-says (Grows Ops d ws) (codes "write") w writes (if bytes_eq w (codes "add") then adds else named (codes "count") w counts)
     (λ name. then-gives P (Grows Ops d ws) (operands d a v) (λ p. added d (Write p.0 p.1)) (operands-say d a v)
     (λ p is. added-grows d ws (Write p.0 p.1) e (three-same (written_at Ops d) (codes "write") (decimal p.0) (decimal p.1) w a v name is.0 is.1)))
-    (named-says (Grows Ops d ws) (codes "add") w adds
+    (if-else-says (Grows Ops d ws) (codes "add") w adds (named (codes "count") w counts)
     (λ name. then-gives P (Grows Ops d ws) (operands d a v) (λ p. added d (Sum p.0 p.1)) (operands-say d a v)
-    (λ p is. added-grows d ws (Sum p.0 p.1) e (three-same (written_at Ops d) (codes "add") (decimal p.0) (decimal p.1) w a v name is.0 is.1))))
+    (λ p is. added-grows d ws (Sum p.0 p.1) e (three-same (written_at Ops d) (codes "add") (decimal p.0) (decimal p.1) w a v name is.0 is.1)))
+    (named-says (Grows Ops d ws) (codes "count") w counts
+    (λ name. then-gives (IsCount a v) (Grows Ops d ws) (count_of a v) (structured d) (count-says a v)
+    (λ op is. structured-grows d ws op e (is ∙ ap (λ x. x ∷ a ∷ v ∷ []) (sym name))))))
 three-grows d Items w a v e =
     let P : Step → Type 0 = Grows Items d (w ∷ a ∷ v ∷ []) in
     named-says P (codes "switch") w (caller_of d a >>= λ c. algorithm v >>= λ alg. changed d c alg)

@@ -1,17 +1,19 @@
 -- The workload text: what may stand on a line, and the first fault.
-use Rattle.std.specs.Prelude.{MatchResult, ℕ, ◌≡◌, ◌+◌, false, ◌&&◌, List, [], ◌∷◌, length, leb, ltb, if◌then◌else◌, Option, Some, None, Result, Ok, Err, codes, bytes_eq}
+use Rattle.std.specs.Prelude.{MatchResult, ℕ, ◌≡◌, ◌+◌, Bool, true, false, ◌&&◌, List, [], ◌∷◌, length, leb, ltb, if◌then◌else◌, Option, Some, None, Result, Ok, Err, codes, bytes_eq}
 use Rattle.stm_model.specs.declared.alg.Alg.{Alg}
 use Rattle.stm_model.specs.declared.alg.TheConstants.{ALGORITHMS}
 use Rattle.stm_model.specs.declared.config.TheConstants.{MAX_WORDS, MAX_RECORDS, MIN_RING, MAX_RING, MAX_CALLERS, MAX_LOG, CLOCK_LIMIT}
 use Rattle.stm_model.specs.Algorithms.{alg_name, is_built}
 use Rattle.stm_script.specs.declared.op.Op.{Op}
-use Rattle.stm_script.specs.declared.op.Op.TheVariants.{Read, Write, Add as Sum, Move, Emit, Irrev, Cancel}
+use Rattle.stm_script.specs.declared.op.Op.TheVariants.{Read, Write, Add as Sum, Move, Emit, Irrev, Cancel, Count}
+use Rattle.stm_script.specs.declared.op.TheConstants.{KEYED, KEYLESS}
+use Rattle.stm_script.specs.Operations.{op_name, with_key}
 use Rattle.stm_script.specs.declared.workload.Header.{Header}
 use Rattle.stm_script.specs.declared.workload.Go.{Go}
 use Rattle.stm_script.specs.declared.workload.Workload.{Workload}
-use Rattle.stm_script.specs.declared.workload.TheConstants.{MAX_ITEMS, MAX_OPS, MAX_TURNS}
+use Rattle.stm_script.specs.declared.workload.TheConstants.{MAX_ITEMS, MAX_OPS, MAX_TURNS, MAX_KEY, STRUCTS_BEGIN, STRUCTS_END, STRIPES}
 use Rattle.stm_script.specs.Scripts.{has_irrev}
-use Rattle.stm_text.specs.declared.code.TheConstants.{LONG, BYTES, UNENDED, WORD, NUMBER, RANGE, ALG, ORDER, MANY, EXTRA}
+use Rattle.stm_text.specs.declared.code.TheConstants.{LONG, BYTES, UNENDED, WORD, NUMBER, RANGE, ALG, REGION, ORDER, MANY, EXTRA}
 use Rattle.stm_text.specs.declared.draft.Place.{Place}
 use Rattle.stm_text.specs.declared.draft.Place.TheVariants.{Version, Words, Callers, Records, Ring, Reads, Writes, Clock, Algorithm, Structures, Items, Ops, Turns}
 use Rattle.stm_text.specs.declared.draft.Step.{Step}
@@ -65,6 +67,10 @@ algorithm word = algorithm_of ALGORITHMS word
 abbrev pub sized : List ℕ → ℕ → ℕ → List ℕ → List ℕ → Result ℕ ℕ
 sized name low high w v = named name w (number low high v)
 
+-- whether structures are on, with so many words
+abbrev pub switched : ℕ → List ℕ → Result Bool ℕ
+switched words v = if bytes_eq v (codes "off") then Ok false else named (codes "on") v (if leb STRUCTS_END words then Ok true else Err REGION)
+
 -- THE HEADER, line by line: what a name and a value make of it
 abbrev pub header_line : Place → Header → List ℕ → List ℕ → Result Header ℕ
 header_line Version h w v = named (codes "stm") w (named (codes "1") v (Ok h))
@@ -76,7 +82,7 @@ header_line Reads h w v = sized (codes "reads") 1 MAX_LOG w v >>= λ n. Ok (reco
 header_line Writes h w v = sized (codes "writes") 1 MAX_LOG w v >>= λ n. Ok (record h { writes = n })
 header_line Clock h w v = sized (codes "clock") 0 CLOCK_LIMIT w v >>= λ n. Ok (record h { clock = n })
 header_line Algorithm h w v = named (codes "alg") w (algorithm v) >>= λ a. Ok (record h { alg = a })
-header_line Structures h w v = named (codes "structs") w (named (codes "off") v (Ok (record h { structs = false })))
+header_line Structures h w v = named (codes "structs") w (switched h.words v) >>= λ on. Ok (record h { structs = on })
 header_line p h w v = Err WORD
 
 -- the line that follows one of the header
@@ -110,6 +116,10 @@ added d op = if ltb (length d.ops) MAX_OPS then Ok (Add op) else Err MANY
 abbrev pub emitted : Writing → ℕ → Result Step ℕ
 emitted d a = if has_irrev d.ops then added d (Emit a) else Err ORDER
 
+-- one more operation on a structure, where they are on
+abbrev pub structured : Writing → Op → Result Step ℕ
+structured d op = if d.header.structs then added d op else Err REGION
+
 -- so many turns more
 abbrev pub planned : Writing → Go → Result Step ℕ
 planned d go = if leb (d.turns + go.turns) MAX_TURNS then Ok (Turn go (d.turns + go.turns)) else Err MANY
@@ -123,19 +133,36 @@ scheduled Stepwise = Ok Schedule
 abbrev pub caller_of : Writing → List ℕ → Result ℕ ℕ
 caller_of d v = formed (number_of v) >>= below d.header.callers
 
+-- a plain address: with structures on, one that isn't theirs
+abbrev pub plain : Header → ℕ → Result ℕ ℕ
+plain h a = if h.structs && leb STRUCTS_BEGIN a && ltb a STRUCTS_END then Err REGION else Ok a
+
 -- an address
 abbrev pub address : Writing → List ℕ → Result ℕ ℕ
-address d a = formed (number_of a) >>= below d.header.words
+address d a = formed (number_of a) >>= below d.header.words >>= plain d.header
 
 -- an address and a value, both of the form before the address is in range
 abbrev pub operands : Writing → List ℕ → List ℕ → Result (ℕ × ℕ) ℕ
-operands d a v = formed (number_of a) >>= λ i. formed (number_of v) >>= λ n. below d.header.words i >>= λ j. Ok (j, n)
+operands d a v = formed (number_of a) >>= λ i. formed (number_of v) >>= λ n. below d.header.words i >>= λ j. plain d.header j >>= λ k. Ok (k, n)
 
--- two addresses and a value: all of the form before an address is in range
+-- two addresses and a value: all of the form before an address is in range, and both in range before one is plain
 abbrev pub move_of : Writing → List ℕ → List ℕ → List ℕ → Result Op ℕ
 move_of d a b v =
     formed (number_of a) >>= λ i. formed (number_of b) >>= λ j. formed (number_of v) >>= λ n.
-    below d.header.words i >>= λ x. below d.header.words j >>= λ y. Ok (Move x y n)
+    below d.header.words i >>= λ x. below d.header.words j >>= λ y. plain d.header x >>= λ s. plain d.header y >>= λ t. Ok (Move s t n)
+
+-- a stripe and an amount, both of the form before the stripe is in range
+abbrev pub count_of : List ℕ → List ℕ → Result Op ℕ
+count_of a v = formed (number_of a) >>= λ i. formed (number_of v) >>= λ n. below STRIPES i >>= λ s. Ok (Count s n)
+
+-- of these operations the first one of this name
+abbrev pub op_of : List Op → List ℕ → Result Op ℕ
+op_of [] word = Err WORD
+op_of (op ∷ ops) word = if bytes_eq word (op_name op) then Ok op else op_of ops word
+
+-- an operation on a key
+abbrev pub keyed : List ℕ → List ℕ → Result Op ℕ
+keyed w v = op_of KEYED w >>= λ op. number 0 MAX_KEY v >>= λ key. Ok (with_key key op)
 
 -- a caller and its turns, both of the form before either is in range
 abbrev pub go_of : Writing → List ℕ → List ℕ → Result Go ℕ
@@ -148,7 +175,8 @@ abbrev pub one_word : Place → Mode → Writing → List ℕ → Result Step �
 one_word Items m d w = if bytes_eq w (codes "done") then Ok Done else named (codes "schedule") w (scheduled m)
 one_word Ops m d w =
     if bytes_eq w (codes "irrev") then added d Irrev
-    else (if bytes_eq w (codes "cancel") then added d Cancel else named (codes "end") w (Ok End))
+    else (if bytes_eq w (codes "cancel") then added d Cancel
+    else (if bytes_eq w (codes "end") then Ok End else op_of KEYLESS w >>= structured d))
 one_word Turns m d w = named (codes "done") w (Ok Done)
 one_word p m d w = Err WORD
 
@@ -157,7 +185,7 @@ abbrev pub two_words : Place → Mode → Writing → List ℕ → List ℕ → 
 two_words Items m d w v = named (codes "tx") w (caller_of d v >>= begun d)
 two_words Ops m d w v =
     if bytes_eq w (codes "read") then address d v >>= (λ a. added d (Read a))
-    else named (codes "emit") w (address d v >>= emitted d)
+    else (if bytes_eq w (codes "emit") then address d v >>= emitted d else keyed w v >>= structured d)
 two_words Turns m d w v = Err WORD
 two_words p m d w v = header_line p d.header w v >>= λ h. Ok (Head (next_line p) h)
 
@@ -165,7 +193,8 @@ two_words p m d w v = header_line p d.header w v >>= λ h. Ok (Head (next_line p
 abbrev pub three_words : Place → Writing → List ℕ → List ℕ → List ℕ → Result Step ℕ
 three_words Ops d w a v =
     if bytes_eq w (codes "write") then operands d a v >>= (λ p. added d (Write p.0 p.1))
-    else named (codes "add") w (operands d a v >>= λ p. added d (Sum p.0 p.1))
+    else (if bytes_eq w (codes "add") then operands d a v >>= (λ p. added d (Sum p.0 p.1))
+    else named (codes "count") w (count_of a v >>= structured d))
 three_words Items d w a v = named (codes "switch") w (caller_of d a >>= λ c. algorithm v >>= λ alg. changed d c alg)
 three_words Turns d w a v = named (codes "go") w (go_of d a v >>= planned d)
 three_words p d w a v = Err WORD

@@ -3,7 +3,7 @@ use Rattle.std.specs.Prelude.{ℕ, ◌≡◌, ◌≤◌, ◌⊎◌, Bool, true, 
 use Rattle.stm_model.specs.Algorithms.{alg_name}
 use Rattle.std.specs.Fmt.{decimal}
 use Rattle.stm_script.specs.declared.op.Op.{Op}
-use Rattle.stm_script.specs.declared.op.Op.TheVariants.{Read, Write, Add, Move, Emit, Irrev, Cancel}
+use Rattle.stm_script.specs.declared.op.Op.TheVariants.{Read, Write, Add, Move, Emit, Irrev, Cancel, Count, Total, ListInsert, ListRemove, ListContains, ListLength, HashInsert, HashRemove, HashContains, TreeInsert, TreeRemove, TreeContains, TreeLeast}
 use Rattle.stm_script.specs.declared.workload.Header.{Header}
 use Rattle.stm_script.specs.declared.workload.Item.{Item}
 use Rattle.stm_script.specs.declared.workload.Item.TheVariants.{Tx, Switch}
@@ -37,6 +37,19 @@ op_words (Move a b k) = codes "move" ∷ decimal a ∷ decimal b ∷ decimal k �
 op_words (Emit a) = codes "emit" ∷ decimal a ∷ []
 op_words Irrev = codes "irrev" ∷ []
 op_words Cancel = codes "cancel" ∷ []
+op_words (Count stripe k) = codes "count" ∷ decimal stripe ∷ decimal k ∷ []
+op_words Total = codes "total" ∷ []
+op_words (ListInsert key) = codes "ladd" ∷ decimal key ∷ []
+op_words (ListRemove key) = codes "ldel" ∷ decimal key ∷ []
+op_words (ListContains key) = codes "lhas" ∷ decimal key ∷ []
+op_words ListLength = codes "llen" ∷ []
+op_words (HashInsert key) = codes "hadd" ∷ decimal key ∷ []
+op_words (HashRemove key) = codes "hdel" ∷ decimal key ∷ []
+op_words (HashContains key) = codes "hhas" ∷ decimal key ∷ []
+op_words (TreeInsert key) = codes "tadd" ∷ decimal key ∷ []
+op_words (TreeRemove key) = codes "tdel" ∷ decimal key ∷ []
+op_words (TreeContains key) = codes "thas" ∷ decimal key ∷ []
+op_words TreeLeast = codes "tmin" ∷ []
 
 -- `tx caller`, its operations, `end`
 abbrev pub item_lines : Item → List (List (List ℕ))

@@ -14,6 +14,9 @@ pub const NUMBER: u32 = 5;
 pub const RANGE: u32 = 6;
 /// No such algorithm, or one that isn't built.
 pub const ALG: u32 = 7;
+/// Structures on with fewer than 1,024 words; with them on, a plain address among their words; with them off, an
+/// operation on one.
+pub const REGION: u32 = 8;
 /// An `emit` without an earlier `irrev` in its transaction.
 pub const ORDER: u32 = 9;
 /// The 65,537th item, the 4,097th operation of a transaction, or turns past 1,000,000 in all.

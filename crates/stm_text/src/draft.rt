@@ -2,7 +2,7 @@
 ghost use Rattle.std.specs.Prelude.{◌≡◌, OnOk};
 ghost use Rattle.stm_text.specs.Drafts.{after, opening};
 ghost use Rattle.stm_text.specs.declared.draft.Step.TheVariants.{End};
-ghost use Rattle.stm_text.specs.Grammar.{one_item, begun, changed, added, emitted, planned};
+ghost use Rattle.stm_text.specs.Grammar.{one_item, begun, changed, added, emitted, structured, planned};
 
 use crate::code;
 use std::alloc::{AllocError, Global};
@@ -160,6 +160,17 @@ impl Draft {
             self.added(Op::Emit(a))
         } else {
             Err(code::ORDER)
+        }
+    }
+
+    /// One more operation on a structure, where they are on and it isn't one operation too many.
+    pub fn structured(&self, op: Op) -> Result<Step, u32>
+        ensures { result ≡ structured self.now op }
+    {
+        if self.header.structs {
+            self.added(op)
+        } else {
+            Err(code::REGION)
         }
     }
 

@@ -1,6 +1,9 @@
 //! Laws of the definitions, each the contract of a function.
 ghost use Rattle.stm_text.specs.Reports.{OneReportPerText};
+ghost use Rattle.stm_text.specs.Built.{BuiltWorkloadsFit};
 ghost use Rattle.stm_text.specs.Texts.{TextIsRead, TextIsWritten};
+
+use tx_regions::laws::version_one_is_laid_out;
 
 /// Two reports of one text are the same.
 pub fn one_report_per_text()
@@ -16,3 +19,10 @@ pub fn text_is_read()
 pub fn text_is_written()
     ensures { TextIsWritten }
 {}
+
+/// The memory that a workload of the grammar asks for takes each of its scripts.
+pub fn built_workloads_fit()
+    ensures { BuiltWorkloadsFit }
+{
+    version_one_is_laid_out();
+}

@@ -1,6 +1,6 @@
 //! What may stand on a line: the table of the grammar, row by row.
 ghost use Rattle.std.specs.Prelude.{◌≡◌, true, Ok, Err, codes};
-ghost use Rattle.stm_text.specs.Grammar.{algorithm_of, algorithm, ranged, sized, header_line, next_line, below, formed, named, scheduled, caller_of, address, operands, move_of, go_of, one_word, two_words, three_words, four_words, filled, by_words, step_of};
+ghost use Rattle.stm_text.specs.Grammar.{algorithm_of, algorithm, ranged, sized, header_line, next_line, below, formed, named, scheduled, switched, plain, caller_of, address, operands, move_of, count_of, op_of, keyed, go_of, one_word, two_words, three_words, four_words, filled, by_words, step_of};
 ghost use Rattle.stm_text.specs.Lines.{number_of, words_of, Line};
 
 use crate::draft::{Draft, Place, Step};
@@ -10,8 +10,8 @@ use stm_model::alg::{ALGORITHMS, Alg};
 use stm_model::config::{
     CLOCK_LIMIT, MAX_CALLERS, MAX_LOG, MAX_RECORDS, MAX_RING, MAX_WORDS, MIN_RING,
 };
-use stm_script::op::Op;
-use stm_script::workload::{Go, Header, MAX_TURNS};
+use stm_script::op::{KEYED, KEYLESS, Op};
+use stm_script::workload::{Go, Header, MAX_KEY, MAX_TURNS, STRIPES, STRUCTS_BEGIN, STRUCTS_END};
 
 /// A word that is a number.
 fn formed(word: &[u8]) -> Result<u64, u32>
@@ -93,6 +93,26 @@ fn first_algorithm(w: &[u8], v: &[u8]) -> Result<Alg, u32>
     }
 }
 
+/// A line that says whether structures are on, with so many words.
+fn structures(words: usize, w: &[u8], v: &[u8]) -> Result<bool, u32>
+    ensures { result ≡ named (codes "structs") w.now (switched words v.now) }
+{
+    if !lines::is(w, b"structs") {
+        return Err(code::WORD);
+    }
+    if lines::is(v, b"off") {
+        return Ok(false);
+    }
+    if !lines::is(v, b"on") {
+        return Err(code::WORD);
+    }
+    if STRUCTS_END <= words {
+        Ok(true)
+    } else {
+        Err(code::REGION)
+    }
+}
+
 /// A line of the header: the header then.
 fn header_line(place: Place, h: Header, w: &[u8], v: &[u8]) -> Result<Header, u32>
     ensures { result ≡ header_line place h w.now v.now }
@@ -108,10 +128,7 @@ fn header_line(place: Place, h: Header, w: &[u8], v: &[u8]) -> Result<Header, u3
         Place::Writes => next.writes = sized(b"writes", 1, MAX_LOG as u64, w, v)? as usize,
         Place::Clock => next.clock = sized(b"clock", 0, CLOCK_LIMIT, w, v)?,
         Place::Algorithm => next.alg = first_algorithm(w, v)?,
-        Place::Structures => {
-            fixed(b"structs", b"off", w, v)?;
-            next.structs = false;
-        }
+        Place::Structures => next.structs = structures(h.words, w, v)?,
         Place::Items | Place::Ops | Place::Turns => return Err(code::WORD),
     }
     Ok(next)
@@ -142,32 +159,78 @@ fn caller_of(draft: &Draft, word: &[u8]) -> Result<usize, u32>
     below(draft.header().callers, formed(word)?)
 }
 
+/// A plain address: with structures on, one that isn't theirs.
+fn plain(header: Header, a: usize) -> Result<usize, u32>
+    ensures { result ≡ plain header a }
+{
+    if header.structs && STRUCTS_BEGIN <= a && a < STRUCTS_END {
+        Err(code::REGION)
+    } else {
+        Ok(a)
+    }
+}
+
 /// An address.
 fn address(draft: &Draft, word: &[u8]) -> Result<usize, u32>
     ensures { result ≡ address draft.now word.now }
 {
-    below(draft.header().words, formed(word)?)
+    let header = draft.header();
+    plain(header, below(header.words, formed(word)?)?)
 }
 
 /// An address and a value, both of the form before the address is in range.
 fn operands(draft: &Draft, a: &[u8], v: &[u8]) -> Result<(usize, u64), u32>
     ensures { result ≡ operands draft.now a.now v.now }
 {
+    let header = draft.header();
     let at = formed(a)?;
     let value = formed(v)?;
-    Ok((below(draft.header().words, at)?, value))
+    Ok((plain(header, below(header.words, at)?)?, value))
 }
 
-/// Two addresses and a value, all of the form before an address is in range.
+/// Two addresses and a value: all of the form before an address is in range, and both in range before one is
+/// plain.
 fn move_of(draft: &Draft, a: &[u8], b: &[u8], v: &[u8]) -> Result<Op, u32>
     ensures { result ≡ move_of draft.now a.now b.now v.now }
 {
+    let header = draft.header();
     let source = formed(a)?;
     let target = formed(b)?;
     let value = formed(v)?;
-    let words = draft.header().words;
-    let from = below(words, source)?;
-    Ok(Op::Move(from, below(words, target)?, value))
+    let from = below(header.words, source)?;
+    let onto = below(header.words, target)?;
+    let from = plain(header, from)?;
+    Ok(Op::Move(from, plain(header, onto)?, value))
+}
+
+/// A stripe and an amount, both of the form before the stripe is in range.
+fn count_of(a: &[u8], v: &[u8]) -> Result<Op, u32>
+    ensures { result ≡ count_of a.now v.now }
+{
+    let number = formed(a)?;
+    let amount = formed(v)?;
+    Ok(Op::Count(below(STRIPES, number)?, amount))
+}
+
+/// Of these operations the first one of this name.
+fn op_of(ops: &[Op], word: &[u8]) -> Result<Op, u32>
+    ensures { result ≡ op_of ops.now word.now }
+{
+    for op in ops {
+        if lines::is(word, op.name().as_bytes()) {
+            return Ok(*op);
+        }
+    }
+    Err(code::WORD)
+}
+
+/// An operation on a key.
+fn keyed(w: &[u8], v: &[u8]) -> Result<Op, u32>
+    ensures { result ≡ keyed w.now v.now }
+{
+    let op = op_of(&KEYED, w)?;
+    let key = ranged(0, MAX_KEY, formed(v)?)?;
+    Ok(op.with_key(key as u32))
 }
 
 /// A caller and its turns, both of the form before either is in range.
@@ -218,10 +281,9 @@ fn one_word(mode: Mode, draft: &Draft, w: &[u8]) -> Result<Step, u32>
                 return draft.added(Op::Cancel);
             }
             if lines::is(w, b"end") {
-                Ok(Step::End)
-            } else {
-                Err(code::WORD)
+                return Ok(Step::End);
             }
+            draft.structured(op_of(&KEYLESS, w)?)
         }
         _ => Err(code::WORD),
     }
@@ -247,7 +309,7 @@ fn two_words(mode: Mode, draft: &Draft, w: &[u8], v: &[u8]) -> Result<Step, u32>
             if lines::is(w, b"emit") {
                 return draft.emitted(address(draft, v)?);
             }
-            Err(code::WORD)
+            draft.structured(keyed(w, v)?)
         }
         Place::Turns => Err(code::WORD),
         place => {
@@ -272,6 +334,9 @@ fn three_words(draft: &Draft, w: &[u8], a: &[u8], v: &[u8]) -> Result<Step, u32>
             if lines::is(w, b"add") {
                 let (at, value) = operands(draft, a, v)?;
                 return draft.added(Op::Add(at, value));
+            }
+            if lines::is(w, b"count") {
+                return draft.structured(count_of(a, v)?);
             }
             Err(code::WORD)
         }

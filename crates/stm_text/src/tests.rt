@@ -92,10 +92,11 @@ fn refuses_lines(rt: HostRuntime) -> Result<(), Fail> {
         (7, "writes 4097", 6),
         (8, "clock 4611686018427387905", 6),
         (8, "clock -1", 5),
-        (9, "alg RingSW", 7),
         (9, "alg none", 7),
         (9, "algorithm CGL", 4),
-        (10, "structs on", 4),
+        (10, "structs on", 8),
+        (10, "structs On", 4),
+        (10, "structs", 4),
         (11, "tx 1", 6),
         (11, "tx x", 5),
         (11, "tx", 4),
@@ -125,6 +126,16 @@ fn refuses_lines(rt: HostRuntime) -> Result<(), Fail> {
         (12, "irrev ", 4),
         (12, "cancel ", 4),
         (12, "cancel 1", 4),
+        (12, "llen", 8),
+        (12, "llen 1", 4),
+        (12, "ladd 5", 8),
+        (12, "ladd", 4),
+        (12, "ladd 05", 5),
+        (12, "ladd 4294967296", 6),
+        (12, "count 3 1", 8),
+        (12, "count 4 1", 6),
+        (12, "count 4 x", 5),
+        (12, "count 3", 4),
         (12, "move 8 1", 4),
         (12, "move 8  1", 4),
         (12, "move 8 9 1 1", 4),
@@ -148,6 +159,78 @@ fn refuses_lines(rt: HostRuntime) -> Result<(), Fail> {
             "{other}"
         );
     }
+    Ok(())
+}
+
+/// A header with 1,024 words and structures on, and a transaction with these operations.
+fn with_structures(alloc: Global, operations: &str) -> Result<String, AllocError> {
+    let mut text = String::new(alloc);
+    for (i, line) in LINES.iter().enumerate() {
+        if i < 10 {
+            text.push_str(match i {
+                1 => "words 1024",
+                9 => "structs on",
+                _ => *line,
+            })?;
+            text.push_str("\n")?;
+        }
+    }
+    text.push_str("tx 0\n")?;
+    text.push_str(operations)?;
+    text.push_str("end\ndone\n")?;
+    Ok(text)
+}
+
+#[test]
+fn keeps_plain_addresses_out_of_structures(rt: HostRuntime) -> Result<(), Fail> {
+    let table = [
+        ("read 63\n", None),
+        ("read 64\n", Some((12, 8))),
+        ("write 1023 1\n", Some((12, 8))),
+        ("write 1024 1\n", Some((12, 6))),
+        ("add 64 01\n", Some((12, 5))),
+        ("move 64 1024 1\n", Some((12, 6))),
+        ("move 63 64 1\n", Some((12, 8))),
+        ("emit 64\n", Some((12, 8))),
+        ("emit 63\n", Some((12, 9))),
+        ("ladd 4294967296\n", Some((12, 6))),
+        ("count 4 1\n", Some((12, 6))),
+    ];
+    for (operations, found) in table {
+        let text = with_structures(rt.alloc(), operations)?;
+        assert_eq!(rt;
+            fault(rt.alloc(), text.as_bytes(), Mode::Run),
+            found,
+            "{operations}"
+        );
+    }
+    Ok(())
+}
+
+#[test]
+fn reads_operations_on_structures(rt: HostRuntime) -> Result<(), Fail> {
+    let text = with_structures(
+        rt.alloc(),
+        "count 3 9\ntotal\nladd 1\nldel 2\nlhas 3\nllen\nhadd 4\nhdel 5\nhhas 6\ntadd 7\ntdel 8\nthas 4294967295\ntmin\n",
+    )?;
+    let read = parse(rt.alloc(), text.as_bytes(), Mode::Run)?;
+    assert!(rt; read.header.structs);
+    let scripts: &[&[Op]] = &[&[
+        Op::Count(3, 9),
+        Op::Total,
+        Op::ListInsert(1),
+        Op::ListRemove(2),
+        Op::ListContains(3),
+        Op::ListLength,
+        Op::HashInsert(4),
+        Op::HashRemove(5),
+        Op::HashContains(6),
+        Op::TreeInsert(7),
+        Op::TreeRemove(8),
+        Op::TreeContains(4294967295),
+        Op::TreeLeast,
+    ]];
+    assert_scripts(&rt, &read, scripts);
     Ok(())
 }
 

@@ -5,7 +5,7 @@ use Rattle.stm_model.specs.declared.alg.Alg.{Alg}
 use Rattle.stm_model.specs.declared.stop.Stop.{Stop}
 use Rattle.stm_model.specs.declared.stop.Stop.TheVariants.{Conflict, Full, ClockFull}
 use Rattle.stm_script.specs.declared.op.Op.{Op}
-use Rattle.stm_script.specs.declared.op.Op.TheVariants.{Read, Write, Add, Move, Cancel, Irrev, Emit}
+use Rattle.stm_script.specs.declared.op.Op.TheVariants.{Read, Write, Add, Move, Cancel, Irrev, Emit, Count, Total, ListInsert, ListRemove, ListContains, ListLength, HashInsert, HashRemove, HashContains, TreeInsert, TreeRemove, TreeContains, TreeLeast}
 use Rattle.stm_script.specs.Operations.{emits_of}
 use Rattle.stm_script.specs.declared.report.Kind.{Kind}
 use Rattle.stm_script.specs.declared.report.Kind.TheVariants.{W, R, C}
@@ -57,6 +57,19 @@ writes (Move a b k) reply = reply == 1
 writes Cancel reply = false
 writes Irrev reply = false
 writes (Emit a) reply = false
+writes (Count stripe k) reply = true
+writes Total reply = false
+writes (ListInsert key) reply = reply == 1
+writes (ListRemove key) reply = reply == 1
+writes (ListContains key) reply = false
+writes ListLength reply = false
+writes (HashInsert key) reply = reply == 1
+writes (HashRemove key) reply = reply == 1
+writes (HashContains key) reply = false
+writes (TreeInsert key) reply = reply == 1
+writes (TreeRemove key) reply = reply == 1
+writes (TreeContains key) reply = false
+writes TreeLeast reply = false
 
 abbrev pub may_write : Op → Bool
 may_write (Read a) = false
@@ -66,6 +79,19 @@ may_write (Move a b k) = true
 may_write Cancel = false
 may_write Irrev = false
 may_write (Emit a) = false
+may_write (Count stripe k) = true
+may_write Total = false
+may_write (ListInsert key) = true
+may_write (ListRemove key) = true
+may_write (ListContains key) = false
+may_write ListLength = false
+may_write (HashInsert key) = true
+may_write (HashRemove key) = true
+may_write (HashContains key) = false
+may_write (TreeInsert key) = true
+may_write (TreeRemove key) = true
+may_write (TreeContains key) = false
+may_write TreeLeast = false
 
 -- so many attempts of a transaction are in somebody's way: then it must become irrevocable
 abbrev pub most_failed : ℕ

@@ -7,18 +7,26 @@ use Rattle.stm_model.specs.declared.alg.Alg.{Alg}
 use Rattle.stm_model.specs.Logs.{Log, IsExplained, Keeps}
 use Rattle.stm_model.specs.Memories.{overlay, Explains, is_empty}
 use Rattle.stm_script.specs.declared.op.Op.{Op}
-use Rattle.stm_script.specs.declared.op.Op.TheVariants.{Read, Write, Add, Move, Emit, Irrev, Cancel}
-use Rattle.stm_script.specs.declared.region.Region.{Region}
+use Rattle.stm_script.specs.declared.op.Op.TheVariants.{Read, Write, Add, Move, Emit, Irrev, Cancel, Count, Total, ListInsert, ListRemove, ListContains, ListLength, HashInsert, HashRemove, HashContains, TreeInsert, TreeRemove, TreeContains, TreeLeast}
+use Rattle.tx_regions.specs.declared.region.Region.{Region}
 use Rattle.stm_script.specs.Keeping.{OpKeeps, ScriptKeeps}
 use Rattle.stm_script.specs.KeepingLaws.{keeps-gave, keeps-run}
 use Rattle.stm_model.specs.Algorithms.{is_sure}
 use Rattle.stm_script.specs.Operations.{OpFits, ScriptFits, is_cancel, is_irrev, effect_of, emits_of, replies, moved}
 use Rattle.stm_script.specs.Outputs.{Output, HasRoom}
+use Rattle.tx_effects.specs.Effects.{Under}
+use Rattle.tx_regions.specs.Regions.{AllWellFormed}
+use Rattle.tx_cells.specs.Chains.{inserted_in, removed_in}
+use Rattle.tx_cells.specs.Structures.{list_of, hash_of}
+use Rattle.tx_tree.specs.Trees.{inserted_in as tree_inserted_in, removed_in as tree_removed_in}
+use Rattle.stm_script.specs.Structures.{list_in, hash_in, tree_in}
+use Rattle.stm_script.specs.StructureLaws.{chain-insert-wrote, chain-remove-wrote, tree-insert-wrote, tree-remove-wrote}
 use Rattle.stm_script.specs.Scripts.{run, before_cancel, has_cancel, has_irrev}
 use Rattle.stm_script.specs.ScriptLaws.{Gave, GaveOver, GivesOn, ran_one, gives-step, gives-none}
 use Rattle.tx_answers.specs.Known.{Known, is_irrevocable}
 use Rattle.tx_answers.specs.Known as knows
 use Rattle.stm_trace.specs.Places.{writes}
+use Rattle.stm_trace.specs.Turns.{Next}
 use Rattle.stm_worker.specs.Goings.{Going, no_log, no_replies}
 
 begun-on : (regions : List Region) (ops : List Op) (m : List ℕ) (l : Log) (out : Output) → l ≡ no_log → out.replies ≡ [] → out.emits ≡ [] → GivesOn regions ops ops m no_log no_replies l out
@@ -66,6 +74,10 @@ one-of {A = A} P x h = λ i d lt. at i d lt
     at zero d lt = h
     at (suc i) d lt = absurd (omega arith)
 
+or-none : (b : Bool) → b || false ≡ b
+or-none true = refl
+or-none false = refl
+
 one-wrote : (regions : List Region) (op : Op) (m : List ℕ) → (ran_one regions op m).wrote ≡ writes op (effect_of regions op m).reply
 one-wrote regions (Read a) m = refl
 one-wrote regions (Write a v) m = refl
@@ -78,6 +90,19 @@ one-wrote regions (Move a b k) m = by (ltb (slice_index m a) k)
 one-wrote regions (Emit a) m = refl
 one-wrote regions Irrev m = refl
 one-wrote regions Cancel m = refl
+one-wrote regions (Count stripe k) m = refl
+one-wrote regions Total m = refl
+one-wrote regions (ListInsert key) m = or-none (inserted_in (list_of (list_in regions)) key m).wrote ∙ chain-insert-wrote (list_of (list_in regions)) key m
+one-wrote regions (ListRemove key) m = or-none (removed_in (list_of (list_in regions)) key m).wrote ∙ chain-remove-wrote (list_of (list_in regions)) key m
+one-wrote regions (ListContains key) m = refl
+one-wrote regions ListLength m = refl
+one-wrote regions (HashInsert key) m = or-none (inserted_in (hash_of (hash_in regions)) key m).wrote ∙ chain-insert-wrote (hash_of (hash_in regions)) key m
+one-wrote regions (HashRemove key) m = or-none (removed_in (hash_of (hash_in regions)) key m).wrote ∙ chain-remove-wrote (hash_of (hash_in regions)) key m
+one-wrote regions (HashContains key) m = refl
+one-wrote regions (TreeInsert key) m = or-none (tree_inserted_in (tree_in regions) key m).wrote ∙ tree-insert-wrote (tree_in regions) key m
+one-wrote regions (TreeRemove key) m = or-none (tree_removed_in (tree_in regions) key m).wrote ∙ tree-remove-wrote (tree_in regions) key m
+one-wrote regions (TreeContains key) m = refl
+one-wrote regions TreeLeast m = refl
 
 -- the reply that was told is that of the operation
 one-reply : (xs : List ℕ) (r s : ℕ) → xs ++ r ∷ [] ≡ xs ++ s ∷ [] → r ≡ s
@@ -244,3 +269,10 @@ gave-cut good words regions script rest v alg granted out wrote g off = λ m fin
 pub cut-unasked : (good : List ℕ → Type 0) (words : ℕ) (regions : List Region) (script rest : List Op) (v : Known) (alg : Alg) (granted : Bool) (out : Output) (wrote : Bool)
     → Going good words regions script (Cancel ∷ rest) v alg granted out wrote → is_irrevocable v ≡ false → has_irrev (before_cancel script) ≡ false
 cut-unasked good words regions script rest v alg granted out wrote g off = g.unasked off
+
+-- before its next operation each region is well formed in every memory that the attempt may be in
+pub going-well : (good : List ℕ → Type 0) (words : ℕ) (regions : List Region) (script ops : List Op) (op : Op) (v : Known) (alg : Alg) (granted : Bool) (out : Output) (wrote : Bool)
+    → Next op ops → Going good words regions script ops v alg granted out wrote → Under good words v.log (AllWellFormed regions)
+going-well good words regions script [] op v alg granted out wrote next g = absurd next
+going-well good words regions script (o ∷ rest) op v alg granted out wrote next g = λ m fine len ex.
+    (All-head (OpKeeps good words regions) o rest g.rule).well (overlay m v.log.writes) (g.keeps m fine len ex)

@@ -5,7 +5,7 @@ use Rattle.std.proofs.lemmas.Bool.Decides.{nat_tests}
 use Rattle.std.proofs.lemmas.List.{append-nil}
 use Rattle.stm_model.specs.Histories.{Entry, memory_at}
 use Rattle.stm_script.specs.declared.op.Op.{Op}
-use Rattle.stm_script.specs.declared.region.Region.{Region}
+use Rattle.tx_regions.specs.declared.region.Region.{Region}
 use Rattle.stm_script.specs.declared.report.Kind.TheVariants.{W}
 use Rattle.stm_script.specs.declared.report.Row.{Row}
 use Rattle.stm_script.specs.declared.workload.Item.{Item}
@@ -126,8 +126,8 @@ module _ {K : Type 0} (good : List ℕ → Type 0) (stm : Stm K) (v : Worker K) 
         part = (s.done.0, s.done.1, inl refl);
         calm = λ e. s.done.1;
         rows = v.rows.items;
-        works = reworked good (zeros stm.config.words) v.regions v.all.now s.done.0 n (known d).made (known d).seen (known d).front v.rows.items (same-script s.done.0 [] (sym (append-nil (scripts_of n s.done.0))))
-            (stands-over good stm.config.words v.regions v.all.now n (known v.desc) (known d) v.rows.items v.phase made grows s.stands);
+        works = reworked good (zeros stm.config.words) v.regions.now v.all.now s.done.0 n (known d).made (known d).seen (known d).front v.rows.items (same-script s.done.0 [] (sym (append-nil (scripts_of n s.done.0))))
+            (stands-over good stm.config.words v.regions.now v.all.now n (known v.desc) (known d) v.rows.items v.phase made grows s.stands);
         whole = whole-first;
       }
 
@@ -138,14 +138,14 @@ module _ {K : Type 0} (good : List ℕ → Type 0) (stm : Stm K) (v : Worker K) 
       let under = attempt-now good stm v s inside in
       let going = under.going in
       let since = inside-now good stm v s inside in
-      let next = done-next good stm.config.words v.regions n s.done.0 v.items_left.now going.first v.operations_left.now under.here s.fits going.is in
+      let next = done-next good stm.config.words v.regions.now n s.done.0 v.items_left.now going.first v.operations_left.now under.here s.fits going.is in
       let whole = whole-first in
       let here : slice_index_or (scripts_of n next.did) (length v.rows.items) [] ≡ going.first =
       ap (λ l. get_or l (length v.rows.items) []) next.scripts ∙ (ap (λ k. get_or (scripts_of n s.done.0 ++ going.first ∷ []) k []) whole ∙ at-seam (scripts_of n s.done.0) going.first []) in
-      let mine : WorksSince good stm.config.words v.regions next.did n (known v.desc) v.rows.items = record {
+      let mine : WorksSince good stm.config.words v.regions.now next.did n (known v.desc) v.rows.items = record {
         seen = since.seen;
         front = since.front;
-        works = reworked good (zeros stm.config.words) v.regions v.all.now next.did n (known v.desc).made since.seen since.front v.rows.items (same-script next.did (going.first ∷ []) next.scripts) since.works;
+        works = reworked good (zeros stm.config.words) v.regions.now v.all.now next.did n (known v.desc).made since.seen since.front v.rows.items (same-script next.did (going.first ∷ []) next.scripts) since.works;
         grew = since.grew;
         fresh = since.fresh;
       } in
@@ -157,8 +157,8 @@ module _ {K : Type 0} (good : List ℕ → Type 0) (stm : Stm K) (v : Worker K) 
         part = (s.done.0, s.done.1, inr next.begins);
         calm = λ e. absurd (let x = sym inside ∙ e in cc);
         rows = v.rows.items ++ row ∷ [];
-        works = row-wrote good v.regions next.did stm.config n (known v.desc) (known d) v.rows.items going.first v.out here mine time
-            (gave-first good stm.config.words v.regions (script_at v.items_left.now) v.operations_left.now (known v.desc) v.alg v.granted v.out v.wrote going) (commits good stm.config n time (known v.desc) (known d) h);
+        works = row-wrote good v.regions.now next.did stm.config n (known v.desc) (known d) v.rows.items going.first v.out here mine time
+            (gave-first good stm.config.words v.regions.now (script_at v.items_left.now) v.operations_left.now (known v.desc) v.alg v.granted v.out v.wrote going) (commits good stm.config n time (known v.desc) (known d) h);
         whole = omega (arith, whole, long, more);
       }
 

@@ -6,7 +6,7 @@ use Rattle.stm_model.specs.Memories.{overlay, Explains, is_empty}
 use Rattle.stm_model.specs.Histories.{memory_at}
 use Rattle.stm_model.specs.HistoryLaws.{length-memory_at}
 use Rattle.stm_script.specs.declared.op.Op.{Op}
-use Rattle.stm_script.specs.declared.region.Region.{Region}
+use Rattle.tx_regions.specs.declared.region.Region.{Region}
 use Rattle.stm_script.specs.declared.report.Kind.{Kind}
 use Rattle.stm_script.specs.declared.report.Kind.TheVariants.{W, R, C}
 use Rattle.stm_script.specs.declared.report.Row.{Row}

@@ -6,8 +6,8 @@ use Rattle.stm_model.specs.Algorithms.{is_built}
 use Rattle.stm_model.specs.declared.alg.Alg.{Alg}
 use Rattle.stm_model.specs.declared.config.Config.{Config}
 use Rattle.stm_script.specs.declared.op.Op.{Op}
-use Rattle.stm_script.specs.declared.op.Op.TheVariants.{Read, Write, Add, Move, Emit, Irrev, Cancel}
-use Rattle.stm_script.specs.declared.region.Region.{Region}
+use Rattle.stm_script.specs.declared.op.Op.TheVariants.{Read, Write, Add, Move, Emit, Irrev, Cancel, Count, Total, ListInsert, ListRemove, ListContains, ListLength, HashInsert, HashRemove, HashContains, TreeInsert, TreeRemove, TreeContains, TreeLeast}
+use Rattle.tx_regions.specs.declared.region.Region.{Region}
 use Rattle.stm_script.specs.declared.report.Row.{Row}
 use Rattle.stm_script.specs.declared.workload.Item.{Item}
 use Rattle.stm_script.specs.declared.workload.Item.TheVariants.{Tx, Switch}
@@ -114,6 +114,19 @@ few-emits (Move a b k) reply = omega arith
 few-emits (Emit a) reply = omega arith
 few-emits Irrev reply = omega arith
 few-emits Cancel reply = omega arith
+few-emits (Count stripe k) reply = omega arith
+few-emits Total reply = omega arith
+few-emits (ListInsert key) reply = omega arith
+few-emits (ListRemove key) reply = omega arith
+few-emits (ListContains key) reply = omega arith
+few-emits ListLength reply = omega arith
+few-emits (HashInsert key) reply = omega arith
+few-emits (HashRemove key) reply = omega arith
+few-emits (HashContains key) reply = omega arith
+few-emits (TreeInsert key) reply = omega arith
+few-emits (TreeRemove key) reply = omega arith
+few-emits (TreeContains key) reply = omega arith
+few-emits TreeLeast reply = omega arith
 
 -- a reply more is in the room that was there
 pub cleared-told : (o p : Output) (rs : List ℕ) → p ≡ record o { replies = rs } → cleared p ≡ cleared o

@@ -22,6 +22,19 @@ only-writers (ops.Move a b k) clock h = refl
 only-writers (ops.Emit a) clock h = absurd (h tt)
 only-writers ops.Irrev clock h = absurd (h tt)
 only-writers ops.Cancel clock h = absurd (h tt)
+only-writers (ops.Count stripe k) clock h = refl
+only-writers ops.Total clock h = absurd (h tt)
+only-writers (ops.ListInsert key) clock h = refl
+only-writers (ops.ListRemove key) clock h = refl
+only-writers (ops.ListContains key) clock h = absurd (h tt)
+only-writers ops.ListLength clock h = absurd (h tt)
+only-writers (ops.HashInsert key) clock h = refl
+only-writers (ops.HashRemove key) clock h = refl
+only-writers (ops.HashContains key) clock h = absurd (h tt)
+only-writers (ops.TreeInsert key) clock h = refl
+only-writers (ops.TreeRemove key) clock h = refl
+only-writers (ops.TreeContains key) clock h = absurd (h tt)
+only-writers ops.TreeLeast clock h = absurd (h tt)
 
 -- an operation that an access stopped
 pub stopped-by : (good : List ℕ → Type 0) (c : Config) (n : ℕ) (op : Op) (result : Result ℕ Stop) (stopped : Option Stop) (v w : Known)

@@ -97,11 +97,11 @@ asks-out : {K : Type 0} (good : List ℕ → Type 0) (stm : Stm K) (u : Worker K
 asks-out good stm u s r = rest-runs good stm.config (caller_of u.desc.who.role) u.phase (known u.desc) r s.at
 
 module _ {K : Type 0} (good : List ℕ → Type 0) (stm : Stm K) (u : Worker K) (s : Sound good stm u) where
-  resting-now : Rest u.phase → Works good stm.config.words u.regions u.all.now (caller_of u.desc.who.role) (known u.desc) u.rows.items
-  resting-now r = rest-stands good stm.config.words u.regions u.all.now (caller_of u.desc.who.role) (known u.desc) u.rows.items u.phase r s.stands
+  resting-now : Rest u.phase → Works good stm.config.words u.regions.now u.all.now (caller_of u.desc.who.role) (known u.desc) u.rows.items
+  resting-now r = rest-stands good stm.config.words u.regions.now u.all.now (caller_of u.desc.who.role) (known u.desc) u.rows.items u.phase r s.stands
 
-  pub inside-now : u.phase ≡ Inside → WorksSince good stm.config.words u.regions u.all.now (caller_of u.desc.who.role) (known u.desc) u.rows.items
-  inside-now e = subst (Stands good stm.config.words u.regions u.all.now (caller_of u.desc.who.role) (known u.desc) u.rows.items) e s.stands
+  pub inside-now : u.phase ≡ Inside → WorksSince good stm.config.words u.regions.now u.all.now (caller_of u.desc.who.role) (known u.desc) u.rows.items
+  inside-now e = subst (Stands good stm.config.words u.regions.now u.all.now (caller_of u.desc.who.role) (known u.desc) u.rows.items) e s.stands
 
   pub attempt-now : u.phase ≡ Inside → IsUnderWay good stm.config.words u
   attempt-now e = subst (λ p. WhenInside p (IsUnderWay good stm.config.words u)) e s.under_way
@@ -174,20 +174,20 @@ module _ {K : Type 0} (good : List ℕ → Type 0) (stm : Stm K) (u : Worker K) 
 
     -- whatever changed of the attempt, the rows are as they were
     sound-of : (p : Phase) (alg : Alg) (r : Bor (List Op)) (o : Output) (wrote granted must b : Bool) (failed : ℕ) → IsAt good stm.config (caller_of u.desc.who.role) p (known d) → cleared o ≡ cleared u.out → (known d).installs ≡ (known u.desc).installs
-        → Stands good stm.config.words u.regions u.all.now (caller_of u.desc.who.role) (known d) u.rows.items p → IsCounted failed must → ToSwitch p u.items_left.now
+        → Stands good stm.config.words u.regions.now u.all.now (caller_of u.desc.who.role) (known d) u.rows.items p → IsCounted failed must → ToSwitch p u.items_left.now
         → WhenInside p (IsUnderWay good stm.config.words (record u { desc = d; phase = p; alg = alg; operations_left = r; out = o; wrote = wrote; granted = granted; must = must; failed = failed; passed = b }))
         → Sound good stm (record u { desc = d; phase = p; alg = alg; operations_left = r; out = o; wrote = wrote; granted = granted; must = must; failed = failed; passed = b })
     sound-of p alg r o wrote granted must b failed at room installs stands few turning under = record {
       own = own-same;
       at = subst (λ n. IsAt good stm.config n p (known d)) (sym n_is) at;
       lengths = lengths-same;
-      stands = subst (λ n. Stands good stm.config.words u.regions u.all.now n (known d) u.rows.items p) (sym n_is) stands;
+      stands = subst (λ n. Stands good stm.config.words u.regions.now u.all.now n (known d) u.rows.items p) (sym n_is) stands;
       done = s.done;
       todo = subst (λ n. scripts_of n u.items_left.now ≡ drop (length u.rows.items) (scripts_of n u.all.now)) (sym n_is) s.todo;
       within = subst (λ n. length u.rows.items ≤ length (scripts_of n u.all.now)) (sym n_is) s.within;
       counted = few;
       switched = did-same u.all.now u.items_left.now (known u.desc) (known d) installs s.switched;
-      fits = subst (λ n. ItemsFit good stm.config.words u.regions n u.items_left.now) (sym n_is) s.fits;
+      fits = subst (λ n. ItemsFit good stm.config.words u.regions.now n u.items_left.now) (sym n_is) s.fits;
       roomy = record {
         spare = ap (λ x. u.spare.items ++ x ∷ []) room ∙ s.roomy.spare;
         rows = s.roomy.rows;
@@ -201,8 +201,8 @@ module _ {K : Type 0} (good : List ℕ → Type 0) (stm : Stm K) (u : Worker K) 
         → Sound good stm (record u { desc = d; phase = p })
     rested p r q made installs at turning =
         sound-of p u.alg u.operations_left u.out u.wrote u.granted u.must u.passed u.failed at refl installs
-        (stands-rest good stm.config.words u.regions u.all.now (caller_of u.desc.who.role) (known d) u.rows.items p q
-        (works-later good stm.config.words u.regions u.all.now (caller_of u.desc.who.role) (known u.desc) (known d) u.rows.items made (grew (known u.desc) (known d) grows) (resting-now r)))
+        (stands-rest good stm.config.words u.regions.now u.all.now (caller_of u.desc.who.role) (known d) u.rows.items p q
+        (works-later good stm.config.words u.regions.now u.all.now (caller_of u.desc.who.role) (known u.desc) (known d) u.rows.items made (grew (known u.desc) (known d) grows) (resting-now r)))
         s.counted turning (when-rest p q _)
 
     -- the attempt is over, without a row
@@ -210,22 +210,22 @@ module _ {K : Type 0} (good : List ℕ → Type 0) (stm : Stm K) (u : Worker K) 
         → Sound good stm (record u { desc = d; phase = Between; out = o; must = must; failed = failed; passed = b })
     over must b failed o inside idle made installs clear few =
         sound-of Between u.alg u.operations_left o u.wrote u.granted must b failed idle (ap cleared clear) installs
-        (works-over good stm.config.words u.regions u.all.now (caller_of u.desc.who.role) (known u.desc) (known d) u.rows.items made (grew (known u.desc) (known d) grows) (inside-now inside))
+        (works-over good stm.config.words u.regions.now u.all.now (caller_of u.desc.who.role) (known u.desc) (known d) u.rows.items made (grew (known u.desc) (known d) grows) (inside-now inside))
         few tt tt
 
     pub began : (alg : Alg) (r : Bor (List Op)) (o : Output) → u.phase ≡ Between → BeforeTx u.items_left.now → r.now ≡ script_at u.items_left.now → o ≡ cleared u.out → BeginsAt good stm.config (caller_of u.desc.who.role) alg (known u.desc) (known d)
         → Sound good stm (record u { desc = d; phase = Inside; alg = alg; operations_left = r; out = o; wrote = false; granted = false; passed = false })
     began alg r o between here is clear h =
-        let f = head-fits good stm.config.words u.regions (caller_of u.desc.who.role) u.items_left.now here s.fits in
+        let f = head-fits good stm.config.words u.regions.now (caller_of u.desc.who.role) u.items_left.now here s.fits in
         let room : o.room ≡ u.out.room = ap (λ (x : Output). x.room) clear in
         let replies : o.replies ≡ [] = ap (λ (x : Output). x.replies) clear in
         let emits : o.emits ≡ [] = ap (λ (x : Output). x.emits) clear in
         let most : length (script_at u.items_left.now) ≤ o.room = (let e = room-of u.items_left.now u.spare.items u.out here s.roomy.spare in omega (arith, e, room)) in
-        let going = going-begun good stm.config.words u.regions (script_at u.items_left.now) (known d) alg o f.0 f.1 most replies emits h.log h.opaque.explained h.named h.granted in
+        let going = going-begun good stm.config.words u.regions.now (script_at u.items_left.now) (known d) alg o f.0 f.1 most replies emits h.log h.opaque.explained h.named h.granted in
         sound-of Inside alg r o false false u.must false u.failed h.running (ap cleared clear) h.installs
-        (since-begin good stm.config.words u.regions u.all.now (caller_of u.desc.who.role) (known u.desc) (known d) u.rows.items h.made (grew (known u.desc) (known d) grows) h.fresh (resting-now (rest-between u.phase between)))
+        (since-begin good stm.config.words u.regions.now u.all.now (caller_of u.desc.who.role) (known u.desc) (known d) u.rows.items h.made (grew (known u.desc) (known d) grows) h.fresh (resting-now (rest-between u.phase between)))
         s.counted tt (record {
-          going = subst (λ ops. Going good stm.config.words u.regions (script_at u.items_left.now) ops (known d) alg false o false) (sym is) going;
+          going = subst (λ ops. Going good stm.config.words u.regions.now (script_at u.items_left.now) ops (known d) alg false o false) (sym is) going;
           here = here;
           committing = λ e. absurd (let f : true ≡ false = sym e ∙ h.committing in cc);
           waits = λ e f. refl;
@@ -240,27 +240,27 @@ module _ {K : Type 0} (good : List ℕ → Type 0) (stm : Stm K) (u : Worker K) 
         → Sound good stm (record u { desc = d; phase = u.phase; alg = alg; operations_left = r; out = o; wrote = wrote; granted = granted; must = must; failed = failed; passed = b })
     stays-in alg r o wrote granted must b failed inside runs made start installs room few under =
         sound-of u.phase alg r o wrote granted must b failed (subst (λ p. IsAt good stm.config (caller_of u.desc.who.role) p (known d)) (sym inside) runs) room installs
-        (subst (Stands good stm.config.words u.regions u.all.now (caller_of u.desc.who.role) (known d) u.rows.items) (sym inside)
-        (since-later good stm.config.words u.regions u.all.now (caller_of u.desc.who.role) (known u.desc) (known d) u.rows.items made (grew (known u.desc) (known d) grows) start (inside-now inside)))
+        (subst (Stands good stm.config.words u.regions.now u.all.now (caller_of u.desc.who.role) (known d) u.rows.items) (sym inside)
+        (since-later good stm.config.words u.regions.now u.all.now (caller_of u.desc.who.role) (known u.desc) (known d) u.rows.items made (grew (known u.desc) (known d) grows) start (inside-now inside)))
         few s.turning (subst (λ p. WhenInside p (IsUnderWay good stm.config.words (record u { desc = d; phase = u.phase; alg = alg; operations_left = r; out = o; wrote = wrote; granted = granted; must = must; failed = failed; passed = b }))) (sym inside) under)
 
     pub operated : (op : Op) (reply : ℕ) (r : Bor (List Op)) (o : Output) (wrote : Bool) → Comes op (place_of u) → is_cancel op ≡ false → is_irrev op ≡ false → r.now ≡ rest_of u.operations_left.now → wrote ≡ u.wrote || writes op reply
         → Carries (known u.desc) (known d) → IsRunning (known d)
-        → GaveOver good stm.config.words (ran_one u.regions op) (known u.desc).log u.out (known d).log o
+        → GaveOver good stm.config.words (ran_one u.regions.now op) (known u.desc).log u.out (known d).log o
         → (IsExplained good stm.config.words (known u.desc).log → IsExplained good stm.config.words (known d).log) → o ≡ record u.out { replies = u.out.replies ++ reply ∷ []; emits = u.out.emits ++ emits_of op reply }
         → Sound good stm (record u { desc = d; operations_left = r; out = o; wrote = wrote })
     operated op reply r o wrote comes plain unasked is was carries runs gave more told =
         let inside = comes.0 in
         let at = attempt-now inside in
         let ops = next-is op u.operations_left.now comes.2 in
-        let g = subst (λ x. Going good stm.config.words u.regions (script_at u.items_left.now) x (known u.desc) u.alg u.granted u.out u.wrote) ops at.going in
+        let g = subst (λ x. Going good stm.config.words u.regions.now (script_at u.items_left.now) x (known u.desc) u.alg u.granted u.out u.wrote) ops at.going in
         let still = carries.going runs.0 in
         let written : knows.wrote (known d) ≡ u.wrote || writes op reply = sym (going-writes ops gave told g (more g.explained)) in
         let certain : is_sure u.alg u.granted (u.wrote || writes op reply) ≡ is_irrevocable (known d) = sure-after carries still (g.named) (g.writer) written g.sure in
-        let step = going-step good stm.config.words u.regions (script_at u.items_left.now) op (rest_of u.operations_left.now) (known u.desc) (known d) u.alg u.granted u.granted u.out o u.wrote reply plain (λ off. unasked) told g gave (more g.explained)
+        let step = going-step good stm.config.words u.regions.now (script_at u.items_left.now) op (rest_of u.operations_left.now) (known u.desc) (known d) u.alg u.granted u.granted u.out o u.wrote reply plain (λ off. unasked) told g gave (more g.explained)
         carries.alg certain (λ i. (carries.sure (runs-now inside) i).1) (room-next u.out o reply (length (rest_of u.operations_left.now)) (emits_of op reply) told (few-emits op reply) g.room) in
-        let going = subst (λ x. Going good stm.config.words u.regions (script_at u.items_left.now) x (known d) u.alg u.granted o wrote) (sym is)
-        (subst (λ b. Going good stm.config.words u.regions (script_at u.items_left.now) (rest_of u.operations_left.now) (known d) u.alg u.granted o b) (sym was) step) in
+        let going = subst (λ x. Going good stm.config.words u.regions.now (script_at u.items_left.now) x (known d) u.alg u.granted o wrote) (sym is)
+        (subst (λ b. Going good stm.config.words u.regions.now (script_at u.items_left.now) (rest_of u.operations_left.now) (known d) u.alg u.granted o b) (sym was) step) in
         stays-in u.alg r o wrote u.granted u.must u.passed u.failed inside runs.0 carries.made still.start carries.installs (cleared-more u.out o (u.out.replies ++ reply ∷ []) (u.out.emits ++ emits_of op reply) told) s.counted (record {
           going = going;
           here = at.here;
@@ -268,9 +268,9 @@ module _ {K : Type 0} (good : List ℕ → Type 0) (stm : Stm K) (u : Worker K) 
           waits = λ e off. absurd (let now = and-left u.must (sure (place_of u)) comes.1 e in let later = ap (is_sure u.alg u.granted) was ∙ sure-wrote u.alg u.granted u.wrote (writes op reply) now in let f : true ≡ false = sym later ∙ off in cc);
         })
       where
-        going-writes : u.operations_left.now ≡ op ∷ rest_of u.operations_left.now → GaveOver good stm.config.words (ran_one u.regions op) (known u.desc).log u.out (known d).log o → o ≡ record u.out { replies = u.out.replies ++ reply ∷ []; emits = u.out.emits ++ emits_of op reply }
-            → Going good stm.config.words u.regions (script_at u.items_left.now) (op ∷ rest_of u.operations_left.now) (known u.desc) u.alg u.granted u.out u.wrote → IsExplained good stm.config.words (known d).log → u.wrote || writes op reply ≡ knows.wrote (known d)
-        going-writes ops gave told g ex = wrote-one good stm.config.words u.regions op (known u.desc) (known d) u.out o u.wrote reply told g.writer gave ex
+        going-writes : u.operations_left.now ≡ op ∷ rest_of u.operations_left.now → GaveOver good stm.config.words (ran_one u.regions.now op) (known u.desc).log u.out (known d).log o → o ≡ record u.out { replies = u.out.replies ++ reply ∷ []; emits = u.out.emits ++ emits_of op reply }
+            → Going good stm.config.words u.regions.now (script_at u.items_left.now) (op ∷ rest_of u.operations_left.now) (known u.desc) u.alg u.granted u.out u.wrote → IsExplained good stm.config.words (known d).log → u.wrote || writes op reply ≡ knows.wrote (known d)
+        going-writes ops gave told g ex = wrote-one good stm.config.words u.regions.now op (known u.desc) (known d) u.out o u.wrote reply told g.writer gave ex
 
         sure-after : Carries (known u.desc) (known d) → IsStillIn (known u.desc) (known d) → (known u.desc).alg ≡ u.alg → u.wrote ≡ knows.wrote (known u.desc) → knows.wrote (known d) ≡ u.wrote || writes op reply
             → is_sure u.alg u.granted u.wrote ≡ is_irrevocable (known u.desc) → is_sure u.alg u.granted (u.wrote || writes op reply) ≡ is_irrevocable (known d)
@@ -295,17 +295,17 @@ module _ {K : Type 0} (good : List ℕ → Type 0) (stm : Stm K) (u : Worker K) 
     operated-now op reply r o wrote is was told = operated-at (place_of u) (caller_of d.who.role) r.now o wrote op reply n_is is was (ap (λ (x : Output). x.replies) told) (ap (λ (x : Output). x.emits) told)
 
     -- the caller knows what it knew: the call changed nothing
-    same-known : known d ≡ known u.desc → Stands good stm.config.words u.regions u.all.now (caller_of u.desc.who.role) (known d) u.rows.items u.phase
-    same-known knows = subst (λ v. Stands good stm.config.words u.regions u.all.now (caller_of u.desc.who.role) v u.rows.items u.phase) (sym knows) s.stands
+    same-known : known d ≡ known u.desc → Stands good stm.config.words u.regions.now u.all.now (caller_of u.desc.who.role) (known d) u.rows.items u.phase
+    same-known knows = subst (λ v. Stands good stm.config.words u.regions.now u.all.now (caller_of u.desc.who.role) v u.rows.items u.phase) (sym knows) s.stands
 
     pub refused : (r : Bor (List Op)) (o : Output) → Comes Cancel (place_of u) → r.now ≡ rest_of u.operations_left.now → known d ≡ known u.desc → is_irrevocable (known u.desc) ≡ true → o ≡ record u.out { replies = u.out.replies ++ 0 ∷ [] }
         → Sound good stm (record u { desc = d; operations_left = r; out = o })
     refused r o comes is knows certain told =
         let inside = comes.0 in
         let at = attempt-now inside in
-        let g = subst (λ x. Going good stm.config.words u.regions (script_at u.items_left.now) x (known u.desc) u.alg u.granted u.out u.wrote) (next-is Cancel u.operations_left.now comes.2) at.going in
-        let step = going-refused good stm.config.words u.regions (script_at u.items_left.now) (rest_of u.operations_left.now) (known u.desc) u.alg u.granted u.out o u.wrote g certain told (room-told u.out o 0 (length (rest_of u.operations_left.now)) told g.room) in
-        let going = subst (λ v. Going good stm.config.words u.regions (script_at u.items_left.now) r.now v u.alg u.granted o u.wrote) (sym knows) (subst (λ x. Going good stm.config.words u.regions (script_at u.items_left.now) x (known u.desc) u.alg u.granted o u.wrote) (sym is) step) in
+        let g = subst (λ x. Going good stm.config.words u.regions.now (script_at u.items_left.now) x (known u.desc) u.alg u.granted u.out u.wrote) (next-is Cancel u.operations_left.now comes.2) at.going in
+        let step = going-refused good stm.config.words u.regions.now (script_at u.items_left.now) (rest_of u.operations_left.now) (known u.desc) u.alg u.granted u.out o u.wrote g certain told (room-told u.out o 0 (length (rest_of u.operations_left.now)) told g.room) in
+        let going = subst (λ v. Going good stm.config.words u.regions.now (script_at u.items_left.now) r.now v u.alg u.granted o u.wrote) (sym knows) (subst (λ x. Going good stm.config.words u.regions.now (script_at u.items_left.now) x (known u.desc) u.alg u.granted o u.wrote) (sym is) step) in
         sound-of u.phase u.alg r o u.wrote u.granted u.must u.passed u.failed (subst (IsAt good stm.config (caller_of u.desc.who.role) u.phase) (sym knows) s.at) (cleared-told u.out o (u.out.replies ++ 0 ∷ []) told) (ap (λ (v : Known). v.installs) knows)
         (same-known knows) s.counted s.turning (subst (λ p. WhenInside p (IsUnderWay good stm.config.words (record u { desc = d; operations_left = r; out = o }))) (sym inside) (record {
           going = going;
@@ -322,7 +322,7 @@ module _ {K : Type 0} (good : List ℕ → Type 0) (stm : Stm K) (u : Worker K) 
     refused-drop inside knows certain = record {
       sound = sound-of u.phase u.alg u.operations_left u.out u.wrote u.granted u.must u.passed u.failed (subst (IsAt good stm.config (caller_of u.desc.who.role) u.phase) (sym knows) s.at) refl (ap (λ (v : Known). v.installs) knows)
           (same-known knows) s.counted s.turning (subst (λ p. WhenInside p (IsUnderWay good stm.config.words (record u { desc = d }))) (sym inside) (let at = attempt-now inside in record {
-            going = subst (λ v. Going good stm.config.words u.regions (script_at u.items_left.now) u.operations_left.now v u.alg u.granted u.out u.wrote) (sym knows) at.going;
+            going = subst (λ v. Going good stm.config.words u.regions.now (script_at u.items_left.now) u.operations_left.now v u.alg u.granted u.out u.wrote) (sym knows) at.going;
             here = at.here;
             committing = λ e. at.committing (sym (ap (λ (v : Known). v.committing) knows) ∙ e);
             waits = at.waits;
@@ -339,7 +339,7 @@ module _ {K : Type 0} (good : List ℕ → Type 0) (stm : Stm K) (u : Worker K) 
         let at = attempt-now inside in
         let certain = granted-sure u.alg u.wrote in
         stays-in u.alg u.operations_left u.out u.wrote true u.must u.passed u.failed inside h.continues.running h.continues.made h.continues.later h.continues.installs refl s.counted (record {
-          going = going-later good stm.config.words u.regions (script_at u.items_left.now) u.operations_left.now (known u.desc) (known d) u.alg u.granted true u.out u.wrote at.going h.log h.continues.alg h.opaque.explained (certain ∙ sym h.sure) (λ off. absurd (let f : true ≡ false = sym h.sure ∙ off in cc));
+          going = going-later good stm.config.words u.regions.now (script_at u.items_left.now) u.operations_left.now (known u.desc) (known d) u.alg u.granted true u.out u.wrote at.going h.log h.continues.alg h.opaque.explained (certain ∙ sym h.sure) (λ off. absurd (let f : true ≡ false = sym h.sure ∙ off in cc));
           here = at.here;
           committing = λ e. absurd (let f : true ≡ false = sym e ∙ h.uncommitted in cc);
           waits = λ e off. absurd (let f : true ≡ false = sym certain ∙ off in cc);
@@ -351,10 +351,10 @@ module _ {K : Type 0} (good : List ℕ → Type 0) (stm : Stm K) (u : Worker K) 
         let inside = comes.0 in
         let at = attempt-now inside in
         let certain = granted-sure u.alg u.wrote in
-        let g = subst (λ x. Going good stm.config.words u.regions (script_at u.items_left.now) x (known u.desc) u.alg u.granted u.out u.wrote) (next-is Irrev u.operations_left.now comes.2) at.going in
-        let step = going-asked good stm.config.words u.regions (script_at u.items_left.now) (rest_of u.operations_left.now) (known u.desc) (known d) u.alg u.granted true u.out o u.wrote g h.log h.continues.alg h.opaque.explained certain h.sure told (room-told u.out o 1 (length (rest_of u.operations_left.now)) told g.room) in
+        let g = subst (λ x. Going good stm.config.words u.regions.now (script_at u.items_left.now) x (known u.desc) u.alg u.granted u.out u.wrote) (next-is Irrev u.operations_left.now comes.2) at.going in
+        let step = going-asked good stm.config.words u.regions.now (script_at u.items_left.now) (rest_of u.operations_left.now) (known u.desc) (known d) u.alg u.granted true u.out o u.wrote g h.log h.continues.alg h.opaque.explained certain h.sure told (room-told u.out o 1 (length (rest_of u.operations_left.now)) told g.room) in
         stays-in u.alg r o u.wrote true u.must u.passed u.failed inside h.continues.running h.continues.made h.continues.later h.continues.installs (cleared-told u.out o (u.out.replies ++ 1 ∷ []) told) s.counted (record {
-          going = subst (λ x. Going good stm.config.words u.regions (script_at u.items_left.now) x (known d) u.alg true o u.wrote) (sym is) step;
+          going = subst (λ x. Going good stm.config.words u.regions.now (script_at u.items_left.now) x (known d) u.alg true o u.wrote) (sym is) step;
           here = at.here;
           committing = λ e. absurd (let f : true ≡ false = sym e ∙ h.uncommitted in cc);
           waits = λ e off. absurd (let f : true ≡ false = sym certain ∙ off in cc);
@@ -373,7 +373,7 @@ module _ {K : Type 0} (good : List ℕ → Type 0) (stm : Stm K) (u : Worker K) 
         let at = attempt-now inside in
         let same_sure : is_irrevocable (known d) ≡ is_irrevocable (known u.desc) = λ i. is_sure (h.alg i) (grant i) (knows.wrote (record (known u.desc) { log = log i })) in
         stays-in u.alg u.operations_left u.out u.wrote u.granted u.must b u.failed inside h.running h.made h.later h.installs refl s.counted (record {
-          going = going-later good stm.config.words u.regions (script_at u.items_left.now) u.operations_left.now (known u.desc) (known d) u.alg u.granted u.granted u.out u.wrote at.going log h.alg opaque.explained (at.going.sure ∙ sym same_sure) (λ off. sym same_sure ∙ off);
+          going = going-later good stm.config.words u.regions.now (script_at u.items_left.now) u.operations_left.now (known u.desc) (known d) u.alg u.granted u.granted u.out u.wrote at.going log h.alg opaque.explained (at.going.sure ∙ sym same_sure) (λ off. sym same_sure ∙ off);
           here = at.here;
           committing = committing;
           waits = at.waits;
@@ -399,11 +399,11 @@ module _ {K : Type 0} (good : List ℕ → Type 0) (stm : Stm K) (u : Worker K) 
         (λ i. record (place_of u) { caller = n_is i; phase = Between; replies = r i; emits = e i; failed = failed; must = must }) ∙ is
 
     script-here : BeforeTx u.items_left.now → slice_index_or (scripts_of (caller_of u.desc.who.role) u.all.now) (length u.rows.items) [] ≡ script_at u.items_left.now
-    script-here b = (drop-head (length u.rows.items) [] (script_at u.items_left.now) (scripts_of (caller_of u.desc.who.role) u.all.now) (scripts_of (caller_of u.desc.who.role) (rest_of u.items_left.now)) (sym (tx-scripts good stm.config.words u.regions (caller_of u.desc.who.role) u.items_left.now b s.fits) ∙ s.todo)).0
+    script-here b = (drop-head (length u.rows.items) [] (script_at u.items_left.now) (scripts_of (caller_of u.desc.who.role) u.all.now) (scripts_of (caller_of u.desc.who.role) (rest_of u.items_left.now)) (sym (tx-scripts good stm.config.words u.regions.now (caller_of u.desc.who.role) u.items_left.now b s.fits) ∙ s.todo)).0
 
     -- the row is written, whose replies are those in o
     row-ended : (kind : Kind) (time : ℕ) (o : Output) (b : Bool) (w : Worker K) → u.phase ≡ Inside → IsIdle (known d) → (known d).installs ≡ (known u.desc).installs
-        → Works good stm.config.words u.regions u.all.now (caller_of u.desc.who.role) (known d) (u.rows.items ++ row_of kind time (caller_of u.desc.who.role) (length u.rows.items) o ∷ []) → EndsWith kind time (record u { desc = d; out = o; passed = b }) w
+        → Works good stm.config.words u.regions.now u.all.now (caller_of u.desc.who.role) (known d) (u.rows.items ++ row_of kind time (caller_of u.desc.who.role) (length u.rows.items) o ∷ []) → EndsWith kind time (record u { desc = d; out = o; passed = b }) w
         → Sound good stm w × IsSame u w × (place_of w ≡ ended kind time (record (place_of u) { replies = o.replies; emits = o.emits }))
     row-ended kind time o b w inside idle installs works ends =
         let n = caller_of u.desc.who.role in
@@ -416,22 +416,22 @@ module _ {K : Type 0} (good : List ℕ → Type 0) (stm : Stm K) (u : Worker K) 
         let phase : w.phase ≡ Between = ap (λ (p : Place). p.phase) at in
         let failed : w.failed ≡ 0 = ap (λ (p : Place). p.failed) at in
         let long : length w.rows.items ≡ length u.rows.items + 1 = ap length rows ∙ length-append u.rows.items (row ∷ []) in
-        let todo = sym (tx-scripts good stm.config.words u.regions n u.items_left.now first s.fits) ∙ s.todo in
+        let todo = sym (tx-scripts good stm.config.words u.regions.now n u.items_left.now first s.fits) ∙ s.todo in
         let next = (drop-head (length u.rows.items) [] (script_at u.items_left.now) (scripts_of n u.all.now) (scripts_of n (rest_of u.items_left.now)) todo).1 in
         let room : suc (length u.rows.items) ≤ length (scripts_of n u.all.now) = drop-more (length u.rows.items) (script_at u.items_left.now) (scripts_of n u.all.now) (scripts_of n (rest_of u.items_left.now)) todo in
         let one : suc (length u.rows.items) ≡ length w.rows.items = omega arith in
-        let worked : Works good stm.config.words w.regions w.all.now (caller_of w.desc.who.role) (known w.desc) w.rows.items =
-        subst (λ x. Works good stm.config.words w.regions w.all.now (caller_of w.desc.who.role) (known w.desc) x) (sym rows)
-        (subst (λ k. Works good stm.config.words w.regions w.all.now k (known w.desc) (u.rows.items ++ row ∷ [])) (sym caller)
-        (subst (λ (h : Handle K). Works good stm.config.words w.regions w.all.now n (known h) (u.rows.items ++ row ∷ [])) (sym ends.desc)
-        (subst (λ x. Works good stm.config.words w.regions x n (known d) (u.rows.items ++ row ∷ [])) (sym ends.all)
+        let worked : Works good stm.config.words w.regions.now w.all.now (caller_of w.desc.who.role) (known w.desc) w.rows.items =
+        subst (λ x. Works good stm.config.words w.regions.now w.all.now (caller_of w.desc.who.role) (known w.desc) x) (sym rows)
+        (subst (λ k. Works good stm.config.words w.regions.now w.all.now k (known w.desc) (u.rows.items ++ row ∷ [])) (sym caller)
+        (subst (λ (h : Handle K). Works good stm.config.words w.regions.now w.all.now n (known h) (u.rows.items ++ row ∷ [])) (sym ends.desc)
+        (subst (λ x. Works good stm.config.words w.regions.now x n (known d) (u.rows.items ++ row ∷ [])) (sym ends.all)
         (subst (λ x. Works good stm.config.words x u.all.now n (known d) (u.rows.items ++ row ∷ [])) (sym ends.regions) works)))) in
         let rests : Rest w.phase = rest-between w.phase phase in (
           record {
             own = subst (λ (h : Handle K). IsOf h stm) (sym ends.desc) own-same;
             at = subst (λ p. IsAt good stm.config (caller_of w.desc.who.role) p (known w.desc)) (sym phase) (subst (λ (h : Handle K). IsIdle (known h)) (sym ends.desc) idle);
             lengths = subst (λ (h : Handle K). HasLengths stm.config (known h)) (sym ends.desc) lengths-same;
-            stands = stands-rest good stm.config.words w.regions w.all.now (caller_of w.desc.who.role) (known w.desc) w.rows.items w.phase rests worked;
+            stands = stands-rest good stm.config.words w.regions.now w.all.now (caller_of w.desc.who.role) (known w.desc) w.rows.items w.phase rests worked;
             done = subst (λ x. DidFirst x w.items_left.now) (sym ends.all) (subst (DidFirst u.all.now) (sym left) (did-first u.all.now u.items_left.now s.done));
             todo = subst (λ k. scripts_of k w.items_left.now ≡ drop (length w.rows.items) (scripts_of k w.all.now)) (sym caller)
                 (ap (scripts_of n) left ∙ (next ∙ (ap (λ k. drop k (scripts_of n u.all.now)) one ∙ ap (λ x. drop (length w.rows.items) (scripts_of n x)) (sym ends.all))));
@@ -439,9 +439,9 @@ module _ {K : Type 0} (good : List ℕ → Type 0) (stm : Stm K) (u : Worker K) 
             counted = λ e. subst (λ k. k < most_failed) (sym failed) (omega arith);
             switched = subst (λ x. DidSwitches x w.items_left.now (known w.desc)) (sym ends.all) (subst (λ x. DidSwitches u.all.now x (known w.desc)) (sym left)
                 (subst (λ (h : Handle K). DidSwitches u.all.now (rest_of u.items_left.now) (known h)) (sym ends.desc) (did-left u.all.now u.items_left.now (rest_of u.items_left.now) (known u.desc) (known d) installs (tx-left u.items_left.now first).0 s.switched)));
-            fits = subst (λ k. ItemsFit good stm.config.words w.regions k w.items_left.now) (sym caller)
-                (subst (λ l. ItemsFit good stm.config.words w.regions n l) (sym left)
-                (subst (λ x. ItemsFit good stm.config.words x n (rest_of u.items_left.now)) (sym ends.regions) (rest-fits good stm.config.words u.regions n u.items_left.now s.fits)));
+            fits = subst (λ k. ItemsFit good stm.config.words w.regions.now k w.items_left.now) (sym caller)
+                (subst (λ l. ItemsFit good stm.config.words w.regions.now n l) (sym left)
+                (subst (λ x. ItemsFit good stm.config.words x n (rest_of u.items_left.now)) (sym ends.regions) (rest-fits good stm.config.words u.regions.now n u.items_left.now s.fits)));
             roomy = ends.roomy;
             turning = subst (λ p. ToSwitch p w.items_left.now) (sym phase) tt;
             under_way = when-rest w.phase rests _;
@@ -456,14 +456,14 @@ module _ {K : Type 0} (good : List ℕ → Type 0) (stm : Stm K) (u : Worker K) 
           at,
         )
 
-    script-over : u.phase ≡ Inside → u.operations_left.now ≡ [] → GaveOver good stm.config.words (run u.regions (script_at u.items_left.now)) no_log no_replies (known u.desc).log u.out
-    script-over inside none = gave-all good stm.config.words u.regions (script_at u.items_left.now) u.operations_left.now (known u.desc) u.alg u.granted u.out u.wrote (attempt-now inside).going none
+    script-over : u.phase ≡ Inside → u.operations_left.now ≡ [] → GaveOver good stm.config.words (run u.regions.now (script_at u.items_left.now)) no_log no_replies (known u.desc).log u.out
+    script-over inside none = gave-all good stm.config.words u.regions.now (script_at u.items_left.now) u.operations_left.now (known u.desc) u.alg u.granted u.out u.wrote (attempt-now inside).going none
 
     pub committed : (t : ℕ) (b : Bool) (w : Worker K) → u.phase ≡ Inside → u.operations_left.now ≡ [] → answers.CommitsAt good stm.config (caller_of u.desc.who.role) t (known u.desc) (known d) → EndsWith W t (record u { desc = d; passed = b }) w
         → Sound good stm w × IsSame u w × (place_of w ≡ after (place_of u) (TryCommit (Committed t)))
     committed t b w inside none h ends =
         row-ended W t u.out b w inside h.ends.idle h.ends.installs
-        (row-wrote good u.regions u.all.now stm.config (caller_of u.desc.who.role) (known u.desc) (known d) u.rows.items (script_at u.items_left.now) u.out (script-here (attempt-now inside).here) (inside-now inside) t (script-over inside none)
+        (row-wrote good u.regions.now u.all.now stm.config (caller_of u.desc.who.role) (known u.desc) (known d) u.rows.items (script_at u.items_left.now) u.out (script-here (attempt-now inside).here) (inside-now inside) t (script-over inside none)
         (commits good stm.config (caller_of u.desc.who.role) t (known u.desc) (known d) h))
         ends
 
@@ -471,7 +471,7 @@ module _ {K : Type 0} (good : List ℕ → Type 0) (stm : Stm K) (u : Worker K) 
         → Sound good stm w × IsSame u w × (place_of w ≡ after (place_of u) (TryCommit (ReadOnly t)))
     readonly t b w inside none h unwritten ends =
         row-ended R t u.out b w inside h.ends.idle h.ends.installs
-        (row-read good u.regions u.all.now stm.config (caller_of u.desc.who.role) (known u.desc) (known d) u.rows.items (script_at u.items_left.now) u.out (script-here (attempt-now inside).here) (inside-now inside) t (script-over inside none)
+        (row-read good u.regions.now u.all.now stm.config (caller_of u.desc.who.role) (known u.desc) (known d) u.rows.items (script_at u.items_left.now) u.out (script-here (attempt-now inside).here) (inside-now inside) t (script-over inside none)
         (quits good stm.config (caller_of u.desc.who.role) t (known u.desc) (known d) h) (nothing (known u.desc) unwritten))
         ends
 
@@ -479,11 +479,11 @@ module _ {K : Type 0} (good : List ℕ → Type 0) (stm : Stm K) (u : Worker K) 
         → Sound good stm w × IsSame u w × (place_of w ≡ after (place_of u) (TryCancel (Cancelled t)))
     cancelled t o w comes h off told ends =
         let inside = comes.0 in
-        let g = subst (λ x. Going good stm.config.words u.regions (script_at u.items_left.now) x (known u.desc) u.alg u.granted u.out u.wrote) (next-is Cancel u.operations_left.now comes.2) (attempt-now inside).going in
+        let g = subst (λ x. Going good stm.config.words u.regions.now (script_at u.items_left.now) x (known u.desc) u.alg u.granted u.out u.wrote) (next-is Cancel u.operations_left.now comes.2) (attempt-now inside).going in
         let e = row-ended C t o u.passed w inside h.ends.idle h.ends.installs
-        (row-cancelled good u.regions u.all.now stm.config (caller_of u.desc.who.role) (known u.desc) (known d) u.rows.items (script_at u.items_left.now) u.out (script-here (attempt-now inside).here) (inside-now inside) t o
-        (gave-cut good stm.config.words u.regions (script_at u.items_left.now) (rest_of u.operations_left.now) (known u.desc) u.alg u.granted u.out u.wrote g off) (g.ends refl)
-        (cut-unasked good stm.config.words u.regions (script_at u.items_left.now) (rest_of u.operations_left.now) (known u.desc) u.alg u.granted u.out u.wrote g off)
+        (row-cancelled good u.regions.now u.all.now stm.config (caller_of u.desc.who.role) (known u.desc) (known d) u.rows.items (script_at u.items_left.now) u.out (script-here (attempt-now inside).here) (inside-now inside) t o
+        (gave-cut good stm.config.words u.regions.now (script_at u.items_left.now) (rest_of u.operations_left.now) (known u.desc) u.alg u.granted u.out u.wrote g off) (g.ends refl)
+        (cut-unasked good stm.config.words u.regions.now (script_at u.items_left.now) (rest_of u.operations_left.now) (known u.desc) u.alg u.granted u.out u.wrote g off)
         (quits good stm.config (caller_of u.desc.who.role) t (known u.desc) (known d) h) told)
         ends in
         (e.0, e.1, e.2 ∙ cancelled-at (place_of u) u.out o t refl refl told)
@@ -498,14 +498,14 @@ module _ {K : Type 0} (good : List ℕ → Type 0) (stm : Stm K) (u : Worker K) 
             own = own-same;
             at = idle;
             lengths = lengths-same;
-            stands = subst (λ k. Works good stm.config.words u.regions u.all.now k (known d) u.rows.items) (sym n_is)
-                (works-later good stm.config.words u.regions u.all.now n (known u.desc) (known d) u.rows.items made (grew (known u.desc) (known d) grows) (resting-now (rest-quiet u.phase quiet)));
+            stands = subst (λ k. Works good stm.config.words u.regions.now u.all.now k (known d) u.rows.items) (sym n_is)
+                (works-later good stm.config.words u.regions.now u.all.now n (known u.desc) (known d) u.rows.items made (grew (known u.desc) (known d) grows) (resting-now (rest-quiet u.phase quiet)));
             done = subst (DidFirst u.all.now) (sym is) (did-first u.all.now u.items_left.now s.done);
             todo = subst (λ k. scripts_of k r.now ≡ drop (length u.rows.items) (scripts_of k u.all.now)) (sym n_is) (ap (scripts_of n) is ∙ (left.1 ∙ s.todo));
             within = subst (λ k. length u.rows.items ≤ length (scripts_of k u.all.now)) (sym n_is) s.within;
             counted = s.counted;
             switched = subst (λ l. DidSwitches u.all.now l (known d)) (sym is) (did-switch u.all.now u.items_left.now (rest_of u.items_left.now) alg (known u.desc) (known d) installs left.0 s.switched);
-            fits = subst (λ k. ItemsFit good stm.config.words u.regions k r.now) (sym n_is) (subst (ItemsFit good stm.config.words u.regions n) (sym is) (rest-fits good stm.config.words u.regions n u.items_left.now s.fits));
+            fits = subst (λ k. ItemsFit good stm.config.words u.regions.now k r.now) (sym n_is) (subst (ItemsFit good stm.config.words u.regions.now n) (sym is) (rest-fits good stm.config.words u.regions.now n u.items_left.now s.fits));
             roomy = record { spare = s.roomy.spare ∙ (left.2 ∙ ap spares (sym is)); rows = s.roomy.rows };
             turning = tt;
             under_way = tt;
@@ -558,7 +558,7 @@ module _ {K : Type 0} (good : List ℕ → Type 0) (stm : Stm K) (u : Worker K) 
 
   pub turned-operated : (op : Op) (reply : ℕ) (r : Bor (List Op)) (o : Output) (wrote : Bool) → Comes op (place_of u) → is_call op ≡ false → r.now ≡ rest_of u.operations_left.now → wrote ≡ u.wrote || writes op reply
       → Carries (known u.desc) (known d) → IsRunning (known d)
-      → GaveOver good stm.config.words (ran_one u.regions op) (known u.desc).log u.out (known d).log o
+      → GaveOver good stm.config.words (ran_one u.regions.now op) (known u.desc).log u.out (known d).log o
       → (IsExplained good stm.config.words (known u.desc).log → IsExplained good stm.config.words (known d).log) → o ≡ record u.out { replies = u.out.replies ++ reply ∷ []; emits = u.out.emits ++ emits_of op reply }
       → Turned good stm MaySay u (Reply op reply) (record u { desc = d; operations_left = r; out = o; wrote = wrote })
   turned-operated op reply r o wrote comes plain is was carries runs gave more told =

@@ -5,7 +5,7 @@ use Rattle.stm_model.specs.declared.alg.Alg.{Alg}
 use Rattle.stm_model.specs.Memories.{Explains}
 use Rattle.stm_model.specs.Logs.{Log, IsExplained, Keeps}
 use Rattle.stm_script.specs.declared.op.Op.{Op}
-use Rattle.stm_script.specs.declared.region.Region.{Region}
+use Rattle.tx_regions.specs.declared.region.Region.{Region}
 use Rattle.stm_script.specs.Keeping.{ScriptKeeps}
 use Rattle.stm_script.specs.Operations.{ScriptFits}
 use Rattle.stm_script.specs.Outputs.{Output, HasRoom}

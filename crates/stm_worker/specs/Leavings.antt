@@ -64,7 +64,7 @@ module _ {K : Type 0} (good : List ℕ → Type 0) (stm : Stm K) where
     pub part : IsPart v.all.now v.items_left.now items
     pub calm : v.phase ≡ Between → v.all.now ≡ items ++ v.items_left.now
     pub rows : List Row
-    pub works : Works good stm.config.words v.regions items (caller_of v.desc.who.role) (known w.desc) rows
+    pub works : Works good stm.config.words v.regions.now items (caller_of v.desc.who.role) (known w.desc) rows
     pub whole : length rows ≡ length (scripts_of (caller_of v.desc.who.role) items)
 
   -- ended without a line: the descriptor is idle, and the clock rose by no more than was owed

@@ -8,7 +8,7 @@ use Rattle.stm_model.specs.declared.alg.Alg.{Alg}
 use Rattle.stm_model.specs.declared.config.Config.{Config}
 use Rattle.stm_model.specs.declared.stop.Stop.{Stop}
 use Rattle.stm_model.specs.declared.stop.Stop.TheVariants as stops
-use Rattle.stm_script.specs.declared.region.Region.{Region}
+use Rattle.tx_regions.specs.declared.region.Region.{Region}
 use Rattle.stm_script.specs.declared.report.Kind.{Kind}
 use Rattle.stm_script.specs.declared.report.Row.{Row}
 use Rattle.stm_script.specs.declared.workload.Header.{Header}
@@ -133,15 +133,15 @@ Switches v w = (known w.desc).installs ++ switches_of w.items_left.now ≡ (know
 pub record IsSame {K : Type 0} (v w : Worker K) : Type 0 where
   pub same : IsSameCaller v.desc w.desc
   pub all : w.all.now ≡ v.all.now
-  pub regions : w.regions ≡ v.regions
+  pub regions : w.regions.now ≡ v.regions.now
   pub switched : Switches v w
 
 -- nothing is done, and there is room for all; alg is the memory's algorithm at the start
-pub record Starts {K : Type 0} (desc : Handle K) (items : List Item) (alg : Alg) (w : Worker K) : Type 0 where
+pub record Starts {K : Type 0} (desc : Handle K) (items : List Item) (regions : List Region) (alg : Alg) (w : Worker K) : Type 0 where
   pub is_desc : w.desc ≡ desc
   pub all : w.all.now ≡ items
   pub at : place_of w ≡ record { caller = caller_of desc.who.role; left = items; failed = 0; must = false; phase = Between; alg = alg; rest = []; replies = []; emits = []; wrote = false; granted = false; rows = [] }
-  pub regions : w.regions ≡ []
+  pub over : w.regions.now ≡ regions
   pub roomy : Roomy w
 
 -- the row is written, and the next replies begin
@@ -149,7 +149,7 @@ pub record EndsWith {K : Type 0} (kind : Kind) (time : ℕ) (v w : Worker K) : T
   pub at : place_of w ≡ ended kind time (place_of v)
   pub desc : w.desc ≡ v.desc
   pub all : w.all.now ≡ v.all.now
-  pub regions : w.regions ≡ v.regions
+  pub regions : w.regions.now ≡ v.regions.now
   pub roomy : Roomy w
 
 -- the attempt has ended without a row
@@ -189,7 +189,7 @@ installed Reopened = []
 
 -- an open attempt: where it is in the middle of its commit its script is over; where it must become irrevocable and is not yet, it has done nothing
 pub record IsUnderWay {K : Type 0} (good : List ℕ → Type 0) (words : ℕ) (w : Worker K) : Type 0 where
-  pub going : Going good words w.regions (script_at w.items_left.now) w.operations_left.now (known w.desc) w.alg w.granted w.out w.wrote
+  pub going : Going good words w.regions.now (script_at w.items_left.now) w.operations_left.now (known w.desc) w.alg w.granted w.out w.wrote
   pub here : BeforeTx w.items_left.now
   pub committing : (known w.desc).committing ≡ true → (w.operations_left.now ≡ []) × ((w.must && not (sure (place_of w))) ≡ false)
   pub waits : w.must ≡ true → sure (place_of w) ≡ false → w.wrote ≡ false
@@ -199,13 +199,13 @@ module _ {K : Type 0} (good : List ℕ → Type 0) (stm : Stm K) where
     pub own : IsOf w.desc stm
     pub at : IsAt good stm.config (caller_of w.desc.who.role) w.phase (known w.desc)
     pub lengths : HasLengths stm.config (known w.desc)
-    pub stands : Stands good stm.config.words w.regions w.all.now (caller_of w.desc.who.role) (known w.desc) w.rows.items w.phase
+    pub stands : Stands good stm.config.words w.regions.now w.all.now (caller_of w.desc.who.role) (known w.desc) w.rows.items w.phase
     pub done : DidFirst w.all.now w.items_left.now
     pub todo : scripts_of (caller_of w.desc.who.role) w.items_left.now ≡ drop (length w.rows.items) (scripts_of (caller_of w.desc.who.role) w.all.now)
     pub within : length w.rows.items ≤ length (scripts_of (caller_of w.desc.who.role) w.all.now)
     pub counted : IsCounted w.failed w.must
     pub switched : DidSwitches w.all.now w.items_left.now (known w.desc)
-    pub fits : ItemsFit good stm.config.words w.regions (caller_of w.desc.who.role) w.items_left.now
+    pub fits : ItemsFit good stm.config.words w.regions.now (caller_of w.desc.who.role) w.items_left.now
     pub roomy : Roomy w
     pub turning : ToSwitch w.phase w.items_left.now
     pub under_way : WhenInside w.phase (IsUnderWay good stm.config.words w)

@@ -1,6 +1,8 @@
 //! A caller's worker: one call a turn.
 ghost use Rattle.std.specs.Prelude.{◌≡◌, ◌⊎◌, ◌++◌, ◌∷◌, [], true, false, MatchBool, IfOk, IfErr, OnOk};
 ghost use Rattle.stm_model.specs.Logs.{IsExplained};
+ghost use Rattle.tx_effects.specs.Effects.{Under};
+ghost use Rattle.tx_regions.specs.Regions.{AllWellFormed};
 ghost use Rattle.stm_script.specs.declared.op.Op.{Op};
 ghost use Rattle.stm_script.specs.Operations.{OpFits, emits_of};
 ghost use Rattle.stm_script.specs.Outputs.{HasRoom};
@@ -25,7 +27,6 @@ use stm_rule::desc::Desc;
 use stm_rule::stm::Stm;
 use stm_script::interpret::perform;
 use stm_script::op::Op;
-use stm_script::region::Regions;
 use stm_script::replies::Replies;
 use stm_script::report::{Kind, Row};
 use stm_script::workload::Item;
@@ -34,6 +35,7 @@ use stm_tx::calls::{cancel, commit, is_irrevocable, try_begin, try_irrevocable};
 use stm_tx::gate::{close_gate, install, look, reopen};
 use stm_tx::live::Live;
 use tx_answers::answers::{Begin, Cancel, CloseGate, Commit, Irrev, Look};
+use tx_regions::region::Regions;
 
 /// A caller: what it has still to do, its open attempt, and the rows of its transactions that have ended.
 ///
@@ -62,7 +64,8 @@ pub struct Worker<'a, K: MemRule> {
     pub granted: bool,
     /// Whether the last attempt has passed the turnstile.
     pub passed: bool,
-    pub regions: Regions,
+    /// The regions of the memory.
+    pub regions: &'a Regions,
     pub rows: Vec<Row>,
     /// Empty room for the replies of the transactions behind the next one, the last one's first.
     pub spare: Vec<Replies>,
@@ -99,9 +102,24 @@ fn writes(op: Op, reply: u64) -> bool
     ensures { result ≡ writes op reply }
 {
     match op {
-        Op::Write(_, _) | Op::Add(_, _) => true,
-        Op::Move(_, _, _) => reply == 1,
-        Op::Read(_) | Op::Emit(_) | Op::Irrev | Op::Cancel => false,
+        Op::Write(_, _) | Op::Add(_, _) | Op::Count(_, _) => true,
+        Op::Move(_, _, _)
+        | Op::ListInsert(_)
+        | Op::ListRemove(_)
+        | Op::HashInsert(_)
+        | Op::HashRemove(_)
+        | Op::TreeInsert(_)
+        | Op::TreeRemove(_) => reply == 1,
+        Op::Read(_)
+        | Op::Emit(_)
+        | Op::Irrev
+        | Op::Cancel
+        | Op::Total
+        | Op::ListContains(_)
+        | Op::ListLength
+        | Op::HashContains(_)
+        | Op::TreeContains(_)
+        | Op::TreeLeast => false,
     }
 }
 
@@ -116,6 +134,7 @@ fn operate<K: MemRule>(
     requires own { IsOf desc.old stm.now }
     requires runs { IsRunning (known desc.old) }
     requires fits { OpFits regions.now stm.now.config.words op }
+    requires well { Under (K.good stm.now.rule) stm.now.config.words (known desc.old).log (AllWellFormed regions.now) }
     requires room { HasRoom out.old 1 }
     ensures same { IsSameCaller desc.old desc.new }
     ensures goes { OnOk result (Carries (known desc.old) (known desc.new) × IsRunning (known desc.new)) }
@@ -165,9 +184,10 @@ impl<'a, K: MemRule> Worker<'a, K> {
         alloc: Global,
         desc: Desc<K>,
         items: &'a [Item],
+        regions: &'a Regions,
         alg: Alg,
     ) -> Result<Worker<'a, K>, Memory>
-        ensures { IfOk result (Starts desc items.now alg) }
+        ensures { IfOk result (Starts desc items.now regions.now alg) }
     {
         let mut spare = rooms(alloc, items)?;
         let out = match spare.pop() {
@@ -189,7 +209,7 @@ impl<'a, K: MemRule> Worker<'a, K> {
             wrote: false,
             granted: false,
             passed: false,
-            regions: Regions::none(alloc),
+            regions,
             rows,
             spare,
         })
@@ -280,7 +300,7 @@ impl<'a, K: MemRule> Worker<'a, K> {
         requires plain { is_call op ≡ false }
         ensures turned { Turned (K.good stm.now.rule) stm.now MaySay self.old result self.new }
     {
-        match operate(stm, &mut self.desc, &self.regions, op, &mut self.out) {
+        match operate(stm, &mut self.desc, self.regions, op, &mut self.out) {
             Ok(reply) => {
                 self.operations_left = tail(self.operations_left);
                 self.wrote = self.wrote | writes(op, reply);

@@ -15,7 +15,7 @@ use Rattle.tx_answers.specs.Answers as answers
 use Rattle.tx_answers.specs.Known.{Known, caller_of}
 use Rattle.stm_gate.specs.Knowing.{known, number}
 use Rattle.stm_gate.specs.Standing.{runs-of, shown-of, who-of}
-use Rattle.stm_gate.proofs.DirectLaws.{tells-read_only, may-commit, tells-commit, may-base, may-done}
+use Rattle.stm_gate.specs.DirectLaws.{tells-read_only, may-commit, tells-commit, may-base, may-done}
 use Rattle.stm_gate.proofs.direct.direct_commit.Goals as goal
 
 pub returns-then-not-desc-clause-commits : goal.returns-then-not-desc-clause-commits

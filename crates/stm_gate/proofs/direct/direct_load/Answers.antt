@@ -11,7 +11,7 @@ use Rattle.rule_promoted.specs.PromotedSteps.{direct_load}
 use Rattle.stm_rule.specs.Kept.{good_of}
 use Rattle.tx_answers.specs.declared.answers.Read.TheVariants.{Value}
 use Rattle.tx_answers.specs.Answers.{HasRead}
-use Rattle.stm_gate.proofs.DirectLaws.{tells-load}
+use Rattle.stm_gate.specs.DirectLaws.{tells-load}
 use Rattle.stm_gate.proofs.direct.direct_load.Goals as goal
 
 pub returns-clause-read : goal.returns-clause-read

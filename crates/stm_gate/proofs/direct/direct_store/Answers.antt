@@ -10,7 +10,7 @@ use Rattle.rule_base.specs.StepKinds.{Nothing}
 use Rattle.rule_promoted.specs.PromotedSteps.{direct_store}
 use Rattle.tx_answers.specs.declared.answers.Write.TheVariants.{Done}
 use Rattle.tx_answers.specs.Answers.{HasWritten}
-use Rattle.stm_gate.proofs.DirectLaws.{tells-store}
+use Rattle.stm_gate.specs.DirectLaws.{tells-store}
 use Rattle.stm_gate.proofs.direct.direct_store.Goals as goal
 
 pub returns-clause-write : goal.returns-clause-write

@@ -1,10 +1,11 @@
-use Rattle.std.proofs.Common.{◌≡◌, refl, sym, ap, ◌∙◌, subst, List, length, inl, inr, arith}
+use Rattle.std.proofs.Common.{ℕ, ◌≡◌, refl, sym, ap, ◌∙◌, subst, List, length, inl, inr, arith, take}
+use Rattle.std.proofs.lemmas.List.Elements.{All-take}
 use Rattle.std.specs.Prelude.{◌⊎◌, All, OnOk, IfErr}
 use Rattle.stm_model.specs.Logs.{Keeps, IsReadStop}
-use Rattle.stm_script.specs.declared.region.Region.{Region}
+use Rattle.tx_regions.specs.declared.region.Region.{Region}
 use Rattle.stm_script.specs.declared.report.Kind.{Kind}
 use Rattle.stm_script.specs.declared.report.Kind.TheVariants.{W, R}
-use Rattle.stm_script.specs.Keeping.{ScriptKeeps}
+use Rattle.stm_script.specs.Keeping.{OpKeeps, ScriptKeeps}
 use Rattle.stm_script.specs.Operations.{OnlyReads}
 use Rattle.stm_script.specs.declared.op.Op.{Op}
 use Rattle.stm_script.specs.Outputs.{HasRoom}
@@ -45,6 +46,7 @@ returns-in-W g c =
       gave_up_to = subst (λ ops. IfErr c.perform_all.result (λ s. GaveUpTo good words c.args.regions.now ops log c.args.out.now c.perform_all.new.out)) (same ∙ sym (ops-to-end c.args.kind c.args.script.now c.in-W.is)) p.gave_up_to;
       explained = p.explained;
       keeps_rule = subst (λ ops. OnOk c.perform_all.result (ScriptKeeps good words c.args.regions.now ops → Keeps good words log → Keeps good words then)) same p.keeps_rule;
+      well = p.well;
       kept_room = p.kept_room;
       goes = p.goes;
       stops = p.stops;
@@ -53,3 +55,15 @@ returns-in-W g c =
       words = p.words;
       keeps = p.keeps;
     }
+
+-- the operations before a cancel keep the rule, as all do
+first-keep : (good : List ℕ → Type 0) (words : ℕ) (regions : List Region) (end : ℕ) (ops script : List Op) → ops ≡ script → ScriptKeeps good words regions script → ScriptKeeps good words regions (take end ops)
+first-keep good words regions end ops script same each = All-take (OpKeeps good words regions) end ops (subst (ScriptKeeps good words regions) (sym same) each)
+
+pub returns-then-end-ops-clause-keeps_rule : goal.returns-then-end-ops-clause-keeps_rule
+returns-then-end-ops-clause-keeps_rule g c = λ each.
+    c.in_ok-perform_all-in-C.ensures.keeps_rule (first-keep (g.A.Access.good c.args.acc.now) (g.A.Access.words c.args.acc.now) c.args.regions.now c.first_cancel-end.result c.as_slice-ops.result.now c.args.script.now c.as_slice-ops.ensures each)
+
+pub returns-else-end-ops-clause-keeps_rule : goal.returns-else-end-ops-clause-keeps_rule
+returns-else-end-ops-clause-keeps_rule g c = λ each.
+    c.in_ok-perform_all-in-C.ensures.keeps_rule (first-keep (g.A.Access.good c.args.acc.now) (g.A.Access.words c.args.acc.now) c.args.regions.now c.first_cancel-end.result c.as_slice-ops.result.now c.args.script.now c.as_slice-ops.ensures each)

@@ -18,6 +18,7 @@ loop-op-init g c = record {
   good = λ m. ((λ h. h), (λ h. h));
   keeps = g.met.A.Access.keeps_refl _;
   within = c.requires.within;
+  well = c.requires.well;
   kept_room = refl;
   room = (let a = c.requires.room.0 in omega arith, let b = c.requires.room.1 in omega arith);
   left = λ n h. (let a = h.0 in omega arith, let b = h.1 in omega arith);
@@ -42,6 +43,7 @@ loop-op-preserved g c =
       good = λ m. ((λ h. (step.good m).0 ((inv.good m).0 h)), (λ h. (inv.good m).1 ((step.good m).1 h)));
       keeps = g.met.A.Access.keeps_trans _ _ _ inv.keeps step.keeps;
       within = inv.within;
+      well = step.well;
       kept_room = step.kept_room ∙ inv.kept_room;
       room = room-reply c.loop-op.out _ op _ (length s - (i + 1)) step.told (let a = inv.room.0 in let b = inv.room.1 in let lt = c.loop-op-test.true in (omega arith, omega arith));
       left = λ n h. room-reply c.loop-op.out _ op _ (length s - (i + 1) + n) step.told (let k = inv.left n h in let a = k.0 in let b = k.1 in let lt = c.loop-op-test.true in (omega arith, omega arith));

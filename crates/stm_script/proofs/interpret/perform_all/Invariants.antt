@@ -1,5 +1,7 @@
 use Rattle.std.proofs.Common.{◌≡◌, ◌-◌, ◌+◌, None, length, take, ℕ}
 use Rattle.stm_model.specs.Logs.{SameMemories, IsExplained}
+use Rattle.tx_effects.specs.Effects.{Under}
+use Rattle.tx_regions.specs.Regions.{AllWellFormed}
 use Rattle.stm_script.specs.Outputs.{HasRoom}
 use Rattle.stm_script.specs.Scripts.{run}
 use Rattle.stm_script.specs.ScriptLaws.{GaveOver}
@@ -13,6 +15,7 @@ invariant-loop-op g l = record {
   good : SameMemories (g.A.Access.good l.fn.acc) (g.A.Access.good l.acc);
   keeps : g.A.Access.keeps l.fn.acc l.acc;
   within : ScriptFits l.regions (g.A.Access.words l.fn.acc) l.ops;
+  well : Under (g.A.Access.good l.acc) (g.A.Access.words l.acc) (g.A.Access.log l.acc) (AllWellFormed l.regions);
   kept_room : l.out.room ≡ l.fn.out.room;
   room : HasRoom l.out (length l.ops - l.op-index);
   left : (n : ℕ) → HasRoom l.fn.out (length l.ops + n) → HasRoom l.out (length l.ops - l.op-index + n);

@@ -33,7 +33,7 @@ returns g c =
         at = search rules;
         desc = ap (λ (w : Worker g.row.K.Denot). w.desc) is;
         all = ap (λ (w : Worker g.row.K.Denot). w.all.now) is;
-        regions = ap (λ (w : Worker g.row.K.Denot). w.regions) is;
+        regions = ap (λ (w : Worker g.row.K.Denot). w.regions.now) is;
         roomy = record {
           spare = ap (λ o. c.pop.new.self.items ++ cleared o ∷ []) c.replace.ensures.after ∙ (room.1 ∙ ap spares (sym left));
           rows = (let a = c.push_reserved.ensures.len in let b = c.push_reserved.ensures.capacity in omega arith);

@@ -35,4 +35,4 @@ install-requires-clause-built g c =
     let stm = c.args.stm.now in
     let u = c.args.self.now in
     let s = c.requires.sound in
-    switch-built good stm.config.words u.regions (caller_of u.desc.who.role) c.args.alg u.items_left.now c.requires.to s.fits
+    switch-built good stm.config.words u.regions.now (caller_of u.desc.who.role) c.args.alg u.items_left.now c.requires.to s.fits

@@ -18,7 +18,7 @@ returns g c =
       is_desc = refl;
       all = refl;
       at = start-at (caller_of c.args.desc.who.role) c.args.items.now c.args.alg c.in-Some.out c.reserve.new.self.items empty (c.in_ok-reserve.ensures.items ∙ c.new-rows.ensures.items);
-      regions = c.none.ensures;
+      over = refl;
       roomy = record {
         spare = ap (λ o. c.pop.new.self.items ++ o ∷ []) (sym empty) ∙ is;
         rows = (let a = c.in_ok-reserve.ensures.len in let b = c.in_ok-reserve.ensures.capacity in let d = c.new-rows.ensures.len in let n = c.len.ensures in search rules);

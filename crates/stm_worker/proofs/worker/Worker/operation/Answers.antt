@@ -1,7 +1,17 @@
 use Rattle.std.proofs.Common.{ap, ◌∙◌}
 use Rattle.std.specs.Prelude.{◌||◌}
+use Rattle.stm_tx.specs.Descs.{known}
+use Rattle.stm_trace.specs.Places.{script_at}
+use Rattle.stm_worker.proofs.GoingLaws.{going-well}
 use Rattle.stm_worker.proofs.TurnLaws.{turned-operated, turned-stopped, attempt-now}
 use Rattle.stm_worker.proofs.worker.Worker.operation.Goals as goal
+
+pub operate-requires-clause-well : goal.operate-requires-clause-well
+operate-requires-clause-well g c =
+    let good = g.K.MemRule.good c.args.stm.now.rule in
+    let stm = c.args.stm.now in
+    let u = c.args.self.now in
+    going-well good stm.config.words u.regions.now (script_at u.items_left.now) u.operations_left.now c.args.op (known u.desc) u.alg u.granted u.out u.wrote c.requires.comes.2 (attempt-now good stm u c.requires.sound c.requires.comes.0).going
 
 pub returns-in-Ok : goal.returns-in-Ok
 returns-in-Ok g c =

@@ -20,7 +20,7 @@ use Rattle.rule_seq.specs.CglSteps.{Loads, logged}
 use Rattle.rule_seq.specs.CglSteps as steps
 use Rattle.rule_promoted.specs.PromotedSteps.{direct_load, direct_store, direct_commit, CanDirectCommit}
 use Rattle.stm_rule.specs.declared.local.Local.{Local}
-use Rattle.stm_rule.specs.Attempts.{IsInside, IsPromoted}
+use Rattle.stm_rule.specs.Attempts.{IsInside}
 use Rattle.tx_answers.specs.declared.answers.Commit.TheVariants.{ReadOnly}
 use Rattle.tx_answers.specs.declared.answers.Read.TheVariants.{Value}
 use Rattle.tx_answers.specs.declared.answers.Write.TheVariants.{Done}
@@ -31,7 +31,7 @@ use Rattle.stm_gate.specs.Leaving.{left}
 use Rattle.stm_gate.specs.LeavingLaws.{unmade-refl, ended-left, commits-left}
 use Rattle.stm_gate.specs.Logging.{reads-logged, inside-logged, wrote-some}
 use Rattle.stm_gate.specs.Opacity.{opaque-at, opaque-inside}
-use Rattle.stm_gate.specs.Standing.{promoted-of}
+use Rattle.stm_gate.specs.Standing.{IsDirect, promoted-of}
 
 module _ (good : List ℕ → Type 0) (c : Config) (n : ℕ) where
   abbrev pub rule : (ℕ → ℕ) → Type 0
@@ -88,7 +88,7 @@ module _ (good : List ℕ → Type 0) (c : Config) (n : ℕ) where
     ap (λ (ws : List (ℕ × ℕ)). not (is_empty ws)) (written-here l v o closes granted i ∙ ap items (p.clean clean)),
   )
     where
-      p : IsPromoted l v
+      p : IsDirect l v
       p = (promoted-of good c n l v i closes granted).2
 
   -- a promoted attempt that wrote may store the next time
@@ -105,7 +105,7 @@ module _ (good : List ℕ → Type 0) (c : Config) (n : ℕ) where
         (subst (λ (ws : List (ℕ × ℕ)). Keeps good c.words (record { reads = items v.attempt.reads; writes = ws })) written (keeps (ap (λ (ws : List (ℕ × ℕ)). not (is_empty ws)) written ∙ ap not (wrote-some v.attempt.stores (p.dirty dirty)))));
   }
     where
-      p : IsPromoted l v
+      p : IsDirect l v
       p = (promoted-of good c n l v i closes granted).2
 
       written : written_under v.gate.algorithm v.gate.granted v o ≡ items v.attempt.stores
@@ -121,7 +121,7 @@ module _ (good : List ℕ → Type 0) (c : Config) (n : ℕ) where
         rises = (let r = p.rises in let e : entry_rise v.gate.algorithm ≡ entry_rise alg = ap entry_rise (i.named ∙ named) in omega arith);
       }) (let m = entry-some alg in let k = i.start in omega arith) (let m = entry-some alg in let k = i.front in omega arith) (p.dirty dirty) (written-here l v o closes granted i))
     where
-      p : IsPromoted l v
+      p : IsDirect l v
       p = (promoted-of good c n l v i closes granted).2
 
       last : View

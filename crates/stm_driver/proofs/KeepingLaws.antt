@@ -1,0 +1,19 @@
+-- Scripts that fit keep the rule that the header's regions are well formed.
+use Rattle.std.proofs.Common.{ℕ, List, get_or}
+use Rattle.tx_regions.specs.Regions.{AllWellFormed}
+use Rattle.stm_script.specs.declared.workload.Header.{Header}
+use Rattle.stm_script.specs.declared.workload.Item.{Item}
+use Rattle.stm_script.specs.declared.workload.Item.TheVariants.{Tx, Switch}
+use Rattle.stm_script.specs.Reports.{regions_of}
+use Rattle.stm_script.specs.Statements.{OperationsKeepRegions}
+use Rattle.stm_script.specs.Workloads.{ItemFits}
+use Rattle.stm_text.specs.Built.{BuiltWorkloadsFit}
+use Rattle.stm_driver.specs.Preparings.{ItemKeeps, RuleIsKept}
+
+module _ (keeps : OperationsKeepRegions) where
+  item-keeps : (h : Header) (item : Item) → ItemFits (regions_of h) h item → ItemKeeps (AllWellFormed (regions_of h)) h item
+  item-keeps h (Tx caller script) fits = λ i d lt. record { well = λ m good. good; keeps = keeps (regions_of h) h.words (get_or script i d) (fits.1 i d lt) }
+  item-keeps h (Switch caller alg) fits = tt
+
+  pub workload-keeps : BuiltWorkloadsFit → RuleIsKept
+  workload-keeps fit m w b = λ i d lt. item-keeps w.header (get_or w.items i d) (fit m w b i d lt)

@@ -1,0 +1,47 @@
+-- An operation leaves each region well formed, by the laws of each structure's calls.
+use Rattle.std.proofs.Common.{ℕ, ◌≡◌, ◌<◌, ◌+◌, ◌-◌, ◌%◌, ◌^◌, List, [], length, get_or, set, Bool, true, false, sym, subst}
+use Rattle.std.specs.Prelude.{ltb, if◌then◌else◌}
+use Rattle.std.proofs.lemmas.List.Elements.{All-contains}
+use Rattle.tx_cells.specs.Structures.{list_of, hash_of}
+use Rattle.tx_regions.specs.declared.region.Region.{Region}
+use Rattle.tx_regions.specs.declared.region.Region.TheVariants.{Counter as OfCounter, List as OfList, Hash as OfHash, Tree as OfTree}
+use Rattle.tx_regions.specs.Regions.{AllWellFormed, EndsWithin, IsPlain}
+use Rattle.tx_regions.specs.Statements.{PlainWriteKeeps, AddKeeps, ListKeeps, HashKeeps, TreeKeeps}
+use Rattle.stm_script.specs.declared.op.Op.TheVariants.{Read, Write, Add, Move, Emit, Irrev, Cancel, Count, Total, ListInsert, ListRemove, ListContains, ListLength, HashInsert, HashRemove, HashContains, TreeInsert, TreeRemove, TreeContains, TreeLeast}
+use Rattle.stm_script.specs.Operations.{replies, moved, moves}
+use Rattle.stm_script.specs.Structures.{AreLaid, HasRegion, counter_in, list_in, hash_in, tree_in}
+use Rattle.stm_script.specs.Statements.{OperationsKeepRegions}
+
+-- a region of so many words ends within a memory that has them
+ends-within : (regions : List Region) (words : ℕ) (r : Region) (m : List ℕ) → HasRegion regions words r → length m ≡ words → EndsWithin (length m) r
+ends-within regions words r m (laid, has) len = subst (λ n. EndsWithin n r) (sym len) (All-contains (EndsWithin words) regions r laid.within has)
+
+module _ (plain : PlainWriteKeeps) (add : AddKeeps) (list : ListKeeps) (hash : HashKeeps) (tree : TreeKeeps) where
+  keeps-moves : (regions : List Region) (m : List ℕ) (a b k : ℕ) → IsPlain regions a → IsPlain regions b → AllWellFormed regions m → AllWellFormed regions (moves a b k m).memory
+  keeps-moves regions m a b k from onto g = by (ltb (get_or m a 0) k)
+    where
+      by : (t : Bool) → AllWellFormed regions (if t then replies 0 m else record { reply = 1; emits = []; memory = moved a b k m; wrote = true }).memory
+      by true = g
+      by false = plain regions (set m a (get_or m a 0 - k)) b ((get_or (set m a (get_or m a 0 - k)) b 0 + k) % 2 ^ 64) onto (plain regions m a (get_or m a 0 - k) from g)
+
+  pub operation-keeps : OperationsKeepRegions
+  operation-keeps regions words (Read a) fits = λ m g len. g
+  operation-keeps regions words (Write a v) fits = λ m g len. plain regions m a v fits.1 g
+  operation-keeps regions words (Add a k) fits = λ m g len. plain regions m a ((get_or m a 0 + k) % 2 ^ 64) fits.1 g
+  operation-keeps regions words (Move a b k) fits = λ m g len. keeps-moves regions m a b k fits.1 fits.3 g
+  operation-keeps regions words (Emit a) fits = λ m g len. g
+  operation-keeps regions words Irrev fits = λ m g len. g
+  operation-keeps regions words Cancel fits = λ m g len. g
+  operation-keeps regions words (Count stripe k) fits = λ m g len. add regions (counter_in regions) m stripe k fits.0.0.apart fits.0.1 fits.1 g
+  operation-keeps regions words Total fits = λ m g len. g
+  operation-keeps regions words (ListInsert key) fits = λ m g len. (list regions (list_in regions) m key fits.0.0.apart fits.0.1 (ends-within regions words (OfList (list_in regions)) m fits.0 len) fits.1 g).0
+  operation-keeps regions words (ListRemove key) fits = λ m g len. (list regions (list_in regions) m key fits.0.0.apart fits.0.1 (ends-within regions words (OfList (list_in regions)) m fits.0 len) fits.1 g).1
+  operation-keeps regions words (ListContains key) fits = λ m g len. g
+  operation-keeps regions words ListLength fits = λ m g len. g
+  operation-keeps regions words (HashInsert key) fits = λ m g len. (hash regions (hash_in regions) m key fits.0.0.apart fits.0.1 (ends-within regions words (OfHash (hash_in regions)) m fits.0 len) fits.1 g).0
+  operation-keeps regions words (HashRemove key) fits = λ m g len. (hash regions (hash_in regions) m key fits.0.0.apart fits.0.1 (ends-within regions words (OfHash (hash_in regions)) m fits.0 len) fits.1 g).1
+  operation-keeps regions words (HashContains key) fits = λ m g len. g
+  operation-keeps regions words (TreeInsert key) fits = λ m g len. (tree regions (tree_in regions) m key fits.0.0.apart fits.0.1 (ends-within regions words (OfTree (tree_in regions)) m fits.0 len) fits.1 g).0
+  operation-keeps regions words (TreeRemove key) fits = λ m g len. (tree regions (tree_in regions) m key fits.0.0.apart fits.0.1 (ends-within regions words (OfTree (tree_in regions)) m fits.0 len) fits.1 g).1
+  operation-keeps regions words (TreeContains key) fits = λ m g len. g
+  operation-keeps regions words TreeLeast fits = λ m g len. g
