@@ -1,5 +1,5 @@
 -- The call of a commit, in the terms of the descriptor's memory.
-use Rattle.std.proofs.Common.{ℕ, ◌≡◌, List, Bool, true, false, sym, ◌∙◌}
+use Rattle.std.proofs.Common.{ℕ, ◌≡◌, List, true, false, sym, ◌∙◌}
 use Rattle.std.specs.Prelude.{not, ◌&&◌, ◌||◌}
 use Rattle.stm_model.specs.Algorithms.{asks_at_commit, closes_gate}
 use Rattle.stm_model.specs.declared.alg.Alg.TheVariants.{OrecLazy}

@@ -1,35 +1,33 @@
 -- What the steps of a validation come to.
 use Rattle.std.proofs.Common.{ℕ, ◌≡◌, ◌<◌, ◌≤◌, ◌+◌, List, [], ◌∷◌, ◌++◌, length, Bool, true, false, refl, sym, ap, ◌∙◌, arith, subst, inl, inr, append_assoc}
-use Rattle.std.specs.Prelude.{◌%◌, ◌⊎◌, ◌==◌, ltb, nat_le, slice_index_or, if◌then◌else◌, Option, Some, None, Result, Ok, Err, Contains}
+use Rattle.std.specs.Prelude.{◌%◌, ◌⊎◌, ◌==◌, ltb, nat_le, slice_index_or, if◌then◌else◌, Some, None, Result, Ok, Err}
 use Rattle.std.proofs.lemmas.Bool.Decides.{nat_tests}
 use Rattle.stm_model.specs.declared.config.Config.{Config}
-use Rattle.stm_model.specs.declared.config.TheConstants.{CLOCK_LIMIT}
 use Rattle.stm_model.specs.declared.stop.Cause.{Cause}
 use Rattle.stm_model.specs.declared.stop.Cause.TheVariants as causes
 use Rattle.stm_model.specs.Memories.{item_at}
 use Rattle.rule_base.specs.declared.entries.Cell.{Cell}
-use Rattle.rule_base.specs.declared.entries.Entry.{Entry}
-use Rattle.rule_base.specs.declared.layout.At.TheVariants.{Clock, Record}
+use Rattle.rule_base.specs.declared.layout.At.TheVariants.{Record}
 use Rattle.rule_base.specs.declared.views.TrailItem.{TrailItem}
 use Rattle.rule_base.specs.declared.views.Validation.{Validation}
 use Rattle.rule_base.specs.declared.views.View.{View}
 use Rattle.rule_base.specs.Bridge.{items}
 use Rattle.rule_base.specs.BridgeLemmas.{item-none, item-some}
 use Rattle.rule_base.specs.Encodings.{free_record, is_owned, version_of}
-use Rattle.rule_base.specs.History.{over, touches, without, upto}
+use Rattle.rule_base.specs.History.{over, touches, without}
 use Rattle.rule_base.specs.HistoryLemmas.{touches-without}
 use Rattle.rule_base.specs.Ranks.{home_of}
-use Rattle.rule_base.specs.StepKinds.{Tells, view_after}
+use Rattle.rule_base.specs.StepKinds.{Tells}
 use Rattle.rule_base.specs.World.{World}
-use Rattle.rule_orec.specs.OrecReading.{no_check, checks, passed}
-use Rattle.rule_orec.specs.OrecSteps.{HasOrec, HasOpen, passes, orec_clock, orec_clock_all, CanOrecClock, orec_pass, CanOrecPass, orec_last, CanOrecLast}
+use Rattle.rule_orec.specs.OrecReading.{no_check, passed}
+use Rattle.rule_orec.specs.OrecSteps.{HasOpen, passes, orec_pass, CanOrecPass}
 use Rattle.stm_gate.specs.Logging.{item-touched}
 use Rattle.stm_rule.specs.declared.local.Local.{Local}
 use Rattle.steps_orec.specs.OthersLaws.{owned-others, newer-others}
-use Rattle.steps_orec.specs.RecordFindings.{FindsRecord, FindsClock, FindsAll, FindsRead, FindsLast, Moves}
-use Rattle.steps_orec.specs.Validating.{is_vouched, to_validate, touches-unvouched, can-validate}
-use Rattle.alg_orec.proofs.ReadItems.{touched-at, place-of}
-use Rattle.alg_orec.specs.Validating.{load_of, OnlyLoads, read_at, is_old, vouches, IsLast, CanValidate, IsFoundStale, IsHeldNewer, IsStale, Refuses, Judges, HasPassed, Passes, IsValid}
+use Rattle.steps_orec.specs.RecordFindings.{FindsRecord, FindsRead}
+use Rattle.steps_orec.specs.Validating.{is_vouched}
+use Rattle.alg_orec.proofs.ReadItems.{touched-at}
+use Rattle.alg_orec.specs.Validating.{load_of, OnlyLoads, read_at, is_old, vouches, CanValidate, IsFoundStale, IsHeldNewer, Refuses, Judges, HasPassed, Passes}
 
 -- a log of what was loaded grows
 pub loads-append : (a b : List TrailItem) → OnlyLoads a → OnlyLoads b → OnlyLoads (a ++ b)

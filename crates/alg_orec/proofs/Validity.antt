@@ -1,13 +1,12 @@
 -- What a validation comes to as a whole.
-use Rattle.std.proofs.Common.{ℕ, ◌≡◌, ◌≢◌, ◌<◌, ◌≤◌, ◌+◌, List, [], ◌∷◌, ◌++◌, length, Bool, true, false, refl, sym, ap, ◌∙◌, arith, subst, inl, inr, append_assoc}
-use Rattle.std.specs.Prelude.{◌%◌, ◌⊎◌, ◌==◌, ltb, nat_le, slice_index_or, if◌then◌else◌, Option, Some, None, Result, Ok, Err, Contains}
+use Rattle.std.proofs.Common.{ℕ, ◌≡◌, ◌<◌, ◌≤◌, List, [], ◌∷◌, ◌++◌, length, Bool, true, false, refl, sym, ap, ◌∙◌, arith, subst, append_assoc}
+use Rattle.std.specs.Prelude.{◌%◌, ◌⊎◌, ◌==◌, ltb, nat_le, slice_index_or, if◌then◌else◌, Some, None, Ok}
 use Rattle.std.proofs.lemmas.Bool.Decides.{nat_tests}
 use Rattle.std.proofs.lemmas.List.Elements.{Contains-append_right}
 use Rattle.stm_model.specs.declared.config.Config.{Config}
 use Rattle.stm_model.specs.declared.stop.Cause.{Cause}
 use Rattle.stm_model.specs.declared.stop.Cause.TheVariants as causes
 use Rattle.stm_model.specs.Memories.{item_at}
-use Rattle.rule_base.specs.declared.entries.Cell.{Cell}
 use Rattle.rule_base.specs.declared.entries.Entry.{Entry}
 use Rattle.rule_base.specs.declared.layout.At.TheVariants.{Clock, Record}
 use Rattle.rule_base.specs.declared.views.TrailItem.{TrailItem}
@@ -21,12 +20,12 @@ use Rattle.rule_base.specs.StepKinds.{Tells, view_after}
 use Rattle.rule_orec.specs.OrecReading.{no_check, checks}
 use Rattle.rule_orec.specs.OrecSteps.{passes, orec_clock, orec_clock_all, CanOrecClock, orec_last, CanOrecLast}
 use Rattle.stm_rule.specs.declared.local.Local.{Local}
-use Rattle.steps_orec.specs.RecordFindings.{FindsRecord, FindsClock, FindsAll, FindsLast, Moves}
+use Rattle.steps_orec.specs.RecordFindings.{FindsRecord, FindsClock, FindsAll, FindsLast}
 use Rattle.steps_orec.specs.Validating.{is_vouched, to_validate, touches-unvouched}
 use Rattle.alg_orec.proofs.Passing as passing
 use Rattle.alg_orec.proofs.Passing.{loads-append}
 use Rattle.alg_orec.proofs.ReadItems.{place-of}
-use Rattle.alg_orec.specs.Validating.{load_of, OnlyLoads, read_at, vouches, MustLoad, IsLast, CanValidate, IsFoundStale, IsHeldNewer, Refuses, HasPassed, IsValid}
+use Rattle.alg_orec.specs.Validating.{load_of, OnlyLoads, read_at, vouches, MustLoad, IsLast, CanValidate, Refuses, HasPassed, IsValid}
 
 -- the record of the last one is to be loaded, where it isn't held in the place of a newer version
 pub must-load : (c : Config) (l : Local) (i : ℕ) → IsLast c.records (Some i) l → (b : ℕ) → b ≡ read_at l i → (q : Bool) → MustLoad (Ok q) l (b % c.records) → item_at (b % c.records) l.locks.items ≡ None

@@ -1,5 +1,5 @@
 -- A write log as its cells: the items of the cells are the log's, and one write more.
-use Rattle.std.proofs.Common.{ℕ, ◌≡◌, ◌≢◌, ◌<◌, List, [], ◌∷◌, ◌++◌, Bool, true, false, refl, sym, ap, ◌∙◌, arith, subst}
+use Rattle.std.proofs.Common.{ℕ, ◌≡◌, ◌<◌, List, [], ◌∷◌, ◌++◌, Bool, true, false, refl, sym, ap, ◌∙◌, arith, subst}
 use Rattle.std.specs.Prelude.{◌^◌, ◌==◌, if◌then◌else◌}
 use Rattle.std.proofs.lemmas.Bool.Decides.{nat_tests}
 use Rattle.stm_model.specs.Memories.{item_at, put, is_empty, Once}
@@ -27,11 +27,6 @@ items-last (c ∷ cs) w e = by (c.at == w.at) refl e (items-last cs w)
 pub items-cells : (ws : List (ℕ × ℕ)) → Once ws → items (cells_of ws) ≡ ws
 items-cells [] o = refl
 items-cells (w ∷ ws) o = items-last (cells_of ws) (record { at = w.0; value = w.1 }) (untouched-items w.0 ws o.0) ∙ ap (λ l. w ∷ l) (items-cells ws o.1)
-
--- a log that wrote has cells
-pub cells-some : (ws : List (ℕ × ℕ)) → is_empty ws ≡ false → Once ws → cells_of ws ≢ []
-cells-some [] e o n = absurd cc
-cells-some (w ∷ ws) e o n = let f : [] ≡ w ∷ ws = sym (ap items n) ∙ items-cells (w ∷ ws) o in cc
 
 -- cells of the same items say the same
 same-touched : (cs ds : List Cell) (a : ℕ) → items cs ≡ items ds → touches cs a ≡ true → (touches ds a ≡ true) × (over ds a 0 ≡ over cs a 0)

@@ -32,14 +32,14 @@ module _ (good : List ℕ → Type 0) (c : Config) (gate : GateView) (start : �
 
   pub passes-grows : (o q : Own) → q.reads_limit ≡ o.reads_limit → q.writes_limit ≡ o.writes_limit → Grows (known_of v o) (known_of w q)
   passes-grows o q reads writes = subst (λ (y : View). Grows (known_of v o) (known_of y q)) (sym p.is) (
-    let f = later-seen (upto p.world.history start) v.history.front start begins.below begins.front in record {
-      later = f.0;
-      is = subst (λ (h : List Entry). public_history (upto p.world.history start) ≡ public_history h ++ f.0) (upto-upto p.world.history start v.history.front begins.front ∙ sym begins.seen) f.1;
-      ascending = f.2;
-      up_to = f.3;
-      front_rose = begins.front;
-      more = p.more;
-      trail = refl;
-      reads_limit = reads;
-      writes_limit = writes;
-    })
+      let f = later-seen (upto p.world.history start) v.history.front start begins.below begins.front in record {
+        later = f.0;
+        is = subst (λ (h : List Entry). public_history (upto p.world.history start) ≡ public_history h ++ f.0) (upto-upto p.world.history start v.history.front begins.front ∙ sym begins.seen) f.1;
+        ascending = f.2;
+        up_to = f.3;
+        front_rose = begins.front;
+        more = p.more;
+        trail = refl;
+        reads_limit = reads;
+        writes_limit = writes;
+      })

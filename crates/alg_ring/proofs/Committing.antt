@@ -1,5 +1,5 @@
 -- What the first steps of a commit come to: one that wrote nothing, and the try to take the lock.
-use Rattle.std.proofs.Common.{ℕ, ◌≡◌, ◌≢◌, ◌<◌, ◌≤◌, ◌+◌, List, [], ◌∷◌, ◌++◌, length, Bool, true, false, refl, sym, ap, ◌∙◌, arith, subst, inl, inr}
+use Rattle.std.proofs.Common.{ℕ, ◌≡◌, ◌≢◌, ◌<◌, List, [], ◌∷◌, Bool, true, false, refl, sym, ap, ◌∙◌, arith, subst, inl, inr}
 use Rattle.std.specs.Prelude.{Some, not, ◌==◌, ◌&&◌, ◌||◌, if◌then◌else◌, reverse}
 use Rattle.std.proofs.lemmas.Bool.Decides.{nat_tests}
 use Rattle.stm_model.specs.Algorithms.{asks_at_commit, closes_gate}
@@ -162,9 +162,6 @@ module _ (good : List ℕ → Type 0) (c : Config) (n : ℕ) (l : Local) (v : Vi
             read = k.read;
             sole = k.sole;
           }
-
-      pub holds-again : w.gate.holds ≡ v.gate.holds
-      holds-again = ap (λ (y : View). y.gate.holds) again-path
 
       pub tells-again : n < c.callers → Commits good c n (commits.Again 1 0 found) (known_of v o) (known_of w (record o { committing = true }))
       tells-again low = (

@@ -1,5 +1,5 @@
 -- What the stores of a slot and of the clock come to.
-use Rattle.std.proofs.Common.{ℕ, ◌≡◌, ◌≢◌, ◌<◌, ◌+◌, List, [], ◌∷◌, ◌++◌, length, false, true, refl, sym, ap, ◌∙◌, arith, subst, length-append}
+use Rattle.std.proofs.Common.{ℕ, ◌≡◌, ◌≢◌, ◌<◌, List, [], ◌∷◌, ◌++◌, length, true, refl, sym, ap, ◌∙◌, arith, subst, length-append}
 use Rattle.std.specs.Prelude.{not, None}
 use Rattle.stm_model.specs.Memories.{is_empty}
 use Rattle.stm_model.specs.declared.config.Config.{Config}

@@ -1,6 +1,6 @@
 -- What the steps of a commit come to, from the turn on.
-use Rattle.std.proofs.Common.{ℕ, ◌≡◌, ◌≢◌, ◌<◌, ◌≤◌, ◌+◌, List, [], ◌∷◌, ◌++◌, length, Bool, true, false, refl, sym, ap, ◌∙◌, arith, subst, append_assoc}
-use Rattle.std.specs.Prelude.{Some, None, Ok, not, if◌then◌else◌, slice_index}
+use Rattle.std.proofs.Common.{ℕ, ◌≡◌, ◌<◌, ◌≤◌, ◌+◌, List, [], ◌∷◌, ◌++◌, length, Bool, true, false, refl, sym, ap, ◌∙◌, arith, subst, append_assoc}
+use Rattle.std.specs.Prelude.{Some, None, Ok, not, if◌then◌else◌}
 use Rattle.stm_model.specs.Algorithms.{has_records, asks_at_commit, entry_rise}
 use Rattle.stm_model.specs.declared.alg.Alg.TheVariants.{RingSw}
 use Rattle.stm_model.specs.declared.config.Config.{Config}
@@ -22,8 +22,7 @@ use Rattle.rule_base.specs.BridgeLemmas.{legal-public, length-public_history}
 use Rattle.rule_base.specs.History.{upto, Keeps}
 use Rattle.rule_base.specs.Own.{Own}
 use Rattle.rule_base.specs.StepKinds.{Nothing, Tells, view_after}
-use Rattle.rule_base.specs.World.{World}
-use Rattle.rule_ring.specs.RingSteps.{RunsRing, HasTurn, ring_tick, ring_free, CanRingFree, ring_done, CanRingDone, RingEnters, no_read, no_turn}
+use Rattle.rule_ring.specs.RingSteps.{HasTurn, ring_tick, ring_free, CanRingFree, ring_done, CanRingDone, RingEnters, no_read, no_turn}
 use Rattle.rule_seq.specs.CglSteps.{fresh_lock, no_lock}
 use Rattle.stm_rule.specs.declared.local.Local.{Local}
 use Rattle.stm_rule.specs.Attempts.{IsInside}
@@ -291,36 +290,36 @@ module _ (good : List ℕ → Type 0) (c : Config) (n : ℕ) (l : Local) (v : Vi
 
     tells-committed : (y z : View) → IsBehind (clock + 1) e.world.history no_lock no_turn y → z ≡ left n y → CommitsAt good c n (clock + 1) (known_of v o) (known_of z o)
     tells-committed y z b end = subst (λ (q : View). CommitsAt good c n (clock + 1) (known_of v o) (known_of q o)) (sym (end ∙ ap (left n) b.1)) (
-      let g = grows-checked clock more w is start u p o in
-      let f = front-is in
-      let rose = g.front_rose in record {
-        ends = record {
-          idle = (refl, refl, refl, refl);
-          grows = record {
-            later = g.later ++ made ∷ [];
-            is = ap (λ (h : List Entry). public_history h ++ made ∷ []) (sym e.shown.seen) ∙ (ap (λ (h : List public.Entry). h ++ made ∷ []) g.is ∙ append_assoc (public_history v.history.seen) g.later (made ∷ []));
-            ascending = ascending-append v.history.front u.history.front g.later (made ∷ []) g.ascending g.up_to rose (omega arith, tt);
-            up_to = within-append u.history.front (clock + 1) g.later (made ∷ []) g.up_to (omega arith) (omega arith, tt);
-            front_rose = omega arith;
-            more = last_steps n v.gate.holds v.gate.algorithm ++ b.0;
-            trail = sym (append_assoc (last_steps n v.gate.holds v.gate.algorithm) b.0 v.steps.trail);
-            reads_limit = refl;
-            writes_limit = refl;
+        let g = grows-checked clock more w is start u p o in
+        let f = front-is in
+        let rose = g.front_rose in record {
+          ends = record {
+            idle = (refl, refl, refl, refl);
+            grows = record {
+              later = g.later ++ made ∷ [];
+              is = ap (λ (h : List Entry). public_history h ++ made ∷ []) (sym e.shown.seen) ∙ (ap (λ (h : List public.Entry). h ++ made ∷ []) g.is ∙ append_assoc (public_history v.history.seen) g.later (made ∷ []));
+              ascending = ascending-append v.history.front u.history.front g.later (made ∷ []) g.ascending g.up_to rose (omega arith, tt);
+              up_to = within-append u.history.front (clock + 1) g.later (made ∷ []) g.up_to (omega arith) (omega arith, tt);
+              front_rose = omega arith;
+              more = last_steps n v.gate.holds v.gate.algorithm ++ b.0;
+              trail = sym (append_assoc (last_steps n v.gate.holds v.gate.algorithm) b.0 v.steps.trail);
+              reads_limit = refl;
+              writes_limit = refl;
+            };
+            alg = refl;
+            base = refl;
+            installs = refl;
           };
-          alg = refl;
-          base = refl;
-          installs = refl;
-        };
-        rises = (let a = k.optimistic.rises in let d : entry_rise v.gate.algorithm ≡ 1 = ap entry_rise named in omega arith);
-        wrote = wrote-is dirty o same;
-        made = ap (λ (m : public.Entry). public_history v.history.made ++ m ∷ []) as_entry;
-        before = public_history e.world.history;
-        seen = ap (λ (m : public.Entry). public_history e.world.history ++ m ∷ []) as_entry;
-        legal = legal-public good c (entry_at (clock + 1) ∷ e.world.history) (clock + 1 + 1) shown.below shown.legal;
-        later = (let a = i.start in let d = i.front in omega arith);
-        above = omega arith;
-        front = refl;
-      })
+          rises = (let a = k.optimistic.rises in let d : entry_rise v.gate.algorithm ≡ 1 = ap entry_rise named in omega arith);
+          wrote = wrote-is dirty o same;
+          made = ap (λ (m : public.Entry). public_history v.history.made ++ m ∷ []) as_entry;
+          before = public_history e.world.history;
+          seen = ap (λ (m : public.Entry). public_history e.world.history ++ m ∷ []) as_entry;
+          legal = legal-public good c (entry_at (clock + 1) ∷ e.world.history) (clock + 1 + 1) shown.below shown.legal;
+          later = (let a = i.start in let d = i.front in omega arith);
+          above = omega arith;
+          front = refl;
+        })
 
     -- and all after it was done
     pub tells-ended : (y z q r : View) → WritesBack x y → Tells (ring_done (clock + 1)) Nothing y (clock + 1) z → Tells ring_free Nothing z 0 q → r ≡ left n q → CommitsAt good c n (clock + 1) (known_of v o) (known_of r o)

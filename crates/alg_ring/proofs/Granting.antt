@@ -1,5 +1,5 @@
 -- What the steps come to by which an attempt that is alone is promoted.
-use Rattle.std.proofs.Common.{ℕ, ◌≡◌, ◌≢◌, ◌<◌, ◌≤◌, ◌+◌, List, [], ◌∷◌, ◌++◌, length, Bool, true, false, refl, sym, ap, ◌∙◌, arith, subst, append_assoc}
+use Rattle.std.proofs.Common.{ℕ, ◌≡◌, ◌<◌, ◌≤◌, List, [], ◌∷◌, ◌++◌, Bool, true, false, refl, sym, ap, ◌∙◌, arith, subst, append_assoc}
 use Rattle.std.specs.Prelude.{None, Ok, not, ◌&&◌, if◌then◌else◌, reverse}
 use Rattle.std.proofs.lemmas.List.{append-nil}
 use Rattle.stm_model.specs.Algorithms.{has_records, asks_at_grant, closes_gate, entry_rise, is_sure}
@@ -12,7 +12,6 @@ use Rattle.stm_model.specs.Memories.{is_empty}
 use Rattle.rule_base.specs.declared.entries.Cell.{Cell}
 use Rattle.rule_base.specs.declared.layout.At.TheVariants.{Clock}
 use Rattle.rule_base.specs.declared.views.Act.TheVariants.{Load}
-use Rattle.rule_base.specs.declared.views.GateView.{GateView}
 use Rattle.rule_base.specs.declared.views.RingRead.{RingRead}
 use Rattle.rule_base.specs.declared.views.TrailItem.{TrailItem}
 use Rattle.rule_base.specs.declared.views.View.{View}
@@ -22,8 +21,7 @@ use Rattle.rule_base.specs.History.{upto, word_now, Explains, Inside}
 use Rattle.rule_base.specs.InstallSteps.{settle, CanSettle, HasChecked}
 use Rattle.rule_base.specs.Own.{Own}
 use Rattle.rule_base.specs.StepKinds.{Tells}
-use Rattle.rule_base.specs.World.{World}
-use Rattle.rule_ring.specs.RingSteps.{RingSees, read_in}
+use Rattle.rule_ring.specs.RingSteps.{read_in}
 use Rattle.stm_rule.specs.declared.local.Local.{Local}
 use Rattle.stm_rule.specs.Attempts.{Keeps, IsInside}
 use Rattle.stm_rule.specs.Findings.{FindsWithin}

@@ -1,7 +1,7 @@
 -- What the parts of a read come to.
-use Rattle.std.proofs.Common.{ℕ, ◌≡◌, ◌<◌, ◌+◌, List, [], ◌∷◌, ◌++◌, Bool, true, false, refl, sym, ap, ◌∙◌, arith, subst, inl, inr, ⊎_elim, append_assoc}
+use Rattle.std.proofs.Common.{ℕ, ◌≡◌, ◌<◌, ◌+◌, List, [], ◌∷◌, ◌++◌, Bool, false, refl, sym, ap, ◌∙◌, arith, subst, inl, inr, ⊎_elim, append_assoc}
 use Rattle.std.specs.Prelude.{◌^◌, ◌&&◌, ◌==◌, if◌then◌else◌, not, length, slice_index, bit_or, Some, None, Ok, Err}
-use Rattle.stm_model.specs.Algorithms.{has_records, has_read_log}
+use Rattle.stm_model.specs.Algorithms.{has_read_log}
 use Rattle.stm_model.specs.Logs.{Log, Reads}
 use Rattle.stm_model.specs.Memories.{item_at}
 use Rattle.stm_model.specs.declared.alg.Alg.{Alg}
@@ -22,7 +22,7 @@ use Rattle.rule_base.specs.History.{touches, upto, word_now}
 use Rattle.rule_base.specs.HistoryLemmas.{inside-more, over-miss}
 use Rattle.rule_base.specs.Own.{Own}
 use Rattle.rule_base.specs.StepKinds.{Nothing, Tells, view_after}
-use Rattle.rule_ring.specs.RingSteps.{HasRing, ring_load, CanRingLoad}
+use Rattle.rule_ring.specs.RingSteps.{ring_load}
 use Rattle.rule_ring.specs.SlotFilter.{slot_filter}
 use Rattle.tx_logs.specs.Filters.{address_word}
 use Rattle.stm_rule.specs.declared.local.Local.{Local}
@@ -34,7 +34,7 @@ use Rattle.tx_answers.specs.declared.answers.Read.TheVariants.{Value, Conflict, 
 use Rattle.tx_answers.specs.Answers.{HasRead, GoesOn, Quits, StartMoves}
 use Rattle.tx_answers.specs.Causes.{Conflicts, has_item, reads_full}
 use Rattle.tx_answers.specs.Known.{Grows, known_of, written_under, is_irrevocable, is_in, is_closing}
-use Rattle.stm_gate.specs.Leaving.{CanLeave, left}
+use Rattle.stm_gate.specs.Leaving.{left}
 use Rattle.stm_gate.specs.LeavingLaws.{quits-left, found-left}
 use Rattle.stm_gate.specs.Logging.{log_of, reads-logged}
 use Rattle.stm_gate.specs.Opacity.{opaque-at, later-seen}
@@ -48,12 +48,6 @@ use Rattle.alg_ring.proofs.Refuting.{FindsAll, tells-behind, refuted}
 use Rattle.alg_ring.proofs.Seen.{upto-upto}
 
 module _ (good : List ℕ → Type 0) (c : Config) (n a : ℕ) (l : Local) (v : View) (i : IsInside good c n l v) (named : v.gate.algorithm ≡ RingSw) (plain : l.granted ≡ false) (k : IsRing c l v) where
-  abbrev runs : HasRing v
-  runs = record { runs = record { phase = i.phase; algorithm = named; plain = k.optimistic.ungranted }; inside = k.inside }
-
-  pub may-load : a < c.words → CanRingLoad c.words a v
-  may-load low = record { has = runs; inside = low; settled = k.settled }
-
   -- what was written lies with the descriptor
   written : (w : View) (o : Own) → w.gate ≡ v.gate → o.buffered ≡ cells_of l.writes.items → written_under w.gate.algorithm w.gate.granted w o ≡ items (cells_of l.writes.items)
   written w o gate buffered = (λ j. written_under (gate j).algorithm (gate j).granted w o) ∙ ((λ j. written_under (named j) (k.optimistic.ungranted j) w o) ∙ ap items buffered)
@@ -195,26 +189,6 @@ module _ (good : List ℕ → Type 0) (c : Config) (n a : ℕ) (l : Local) (v : 
 
       abbrev failed : View
       failed = record v { ring_read = q.read; steps = record v.steps { trail = q.more ++ item ∷ v.steps.trail } }
-
-      pub leave-failed : CanLeave w
-      leave-failed = subst CanLeave (sym q.is) (record {
-        phase = i.phase;
-        unlocked = k.optimistic.unlocked;
-        unfixed = k.optimistic.unfixed;
-        disowned = i.disowned (ap has_records (sym i.named ∙ named));
-        unwritten = k.optimistic.unwritten;
-        uncommitted = k.optimistic.uncommitted;
-        ungranted = λ e. k.optimistic.ungranted;
-        plain = λ e. i.unentered;
-        unstored = λ e. k.optimistic.unstored;
-        marked = λ e g. absurd (let f : true ≡ false = sym g ∙ i.unentered in cc);
-      })
-
-      pub holds-failed : w.gate.holds ≡ v.gate.holds
-      holds-failed = ap (λ (z : View). z.gate.holds) q.is
-
-      pub named-failed : w.gate.algorithm ≡ v.gate.algorithm
-      named-failed = ap (λ (z : View). z.gate.algorithm) q.is
 
       module _ (o : Own) where
         quits : Quits (known_of v o) (known_of (left n failed) o)

@@ -1,5 +1,5 @@
 -- What the parts of a check of RingSW ask and tell.
-use Rattle.std.specs.Prelude.{ℕ, ◌≡◌, ◌≢◌, ◌+◌, ◌*◌, ◌<◌, ◌≤◌, ◌⊎◌, max, min, Bool, true, false, List, [], ◌++◌, slice_index, bit_and, Contains, Option, Some, None, Result, Ok, Err}
+use Rattle.std.specs.Prelude.{ℕ, ◌≡◌, ◌≢◌, ◌+◌, ◌*◌, ◌<◌, ◌≤◌, ◌⊎◌, max, min, Bool, true, false, List, ◌++◌, slice_index, bit_and, Contains, Option, Some, None, Result, Ok, Err}
 use Rattle.stm_model.specs.declared.config.Config.{Config}
 use Rattle.stm_model.specs.declared.stop.Cause.{Cause}
 use Rattle.stm_model.specs.declared.stop.Cause.TheVariants as causes
@@ -87,7 +87,6 @@ pub record CanScan (start clock : ℕ) (filter : List ℕ) (v : View) : Type 0 w
   pub has : HasRing v
   pub checking : v.ring_read.checking ≡ true
   pub unsure : v.ring_read.sure ≡ false
-  pub empty : v.ring_read.words ≡ []
   pub start_is : v.attempt.start ≡ start
   pub clock_is : v.ring_read.clock ≡ clock
   pub later : start ≤ clock

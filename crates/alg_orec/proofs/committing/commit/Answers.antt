@@ -1,18 +1,17 @@
-use Rattle.std.proofs.Common.{ℕ, ◌≡◌, ◌<◌, subst, sym, ap, refl, true, false, rules, ◌∙◌}
+use Rattle.std.proofs.Common.{ℕ, ◌≡◌, subst, sym, ap, refl, true, false, rules}
 use Rattle.std.specs.Prelude.{Some}
 use Rattle.stm_model.specs.Algorithms.{closes_gate}
 use Rattle.stm_model.specs.declared.alg.Alg.TheVariants.{OrecLazy}
-use Rattle.stm_model.specs.declared.config.Config.{Config}
 use Rattle.rule_base.specs.declared.seats.SeatView.{SeatView}
 use Rattle.stm_rule.specs.declared.local.Local.{Local}
-use Rattle.stm_rule.specs.Attempts.{own_of, Stands}
+use Rattle.stm_rule.specs.Attempts.{own_of}
 use Rattle.stm_rule.specs.Callers.{Handle, handle_of}
 use Rattle.tx_answers.specs.declared.answers.Commit.TheVariants.{ReadOnly}
 use Rattle.tx_answers.specs.Answers.{Commits, KeepsRule}
 use Rattle.tx_answers.specs.Known.{known_of, caller_of}
 use Rattle.stm_gate.specs.Knowing.{known, number}
 use Rattle.stm_gate.specs.Standing.{runs-of, stands-of}
-use Rattle.stm_gate.specs.Told.{told, stands-back}
+use Rattle.stm_gate.specs.Told.{told}
 use Rattle.alg_orec.proofs.CallLaws as calls
 use Rattle.alg_orec.proofs.EndingLaws as laws
 use Rattle.alg_orec.proofs.committing.commit.Goals as goal
@@ -66,16 +65,11 @@ leave-requires-clause-view g c =
 pub leave-requires-clause-named : goal.leave-requires-clause-named
 leave-requires-clause-named g c =
     let f = c.args.stm.now.config in
-    let good = g.K.MemRule.good c.args.stm.now.rule in
     let d = c.desc.inside in
-    let s = d.seat.me.0 in
     let o = own_of d.local in
     let h = handle_of d.seat o in
     let e = c.args.desc.now in
     let i = runs-of g.K.MemRule.good f c.args.stm.now.rule h e d.number d.local c.desc.view_is c.requires.stm.config c.requires.stm.rule c.requires.running c.desc.invariant.1 in
-    let lazy = subst (λ (p : Handle g.row.K.Denot). (known p).alg ≡ OrecLazy) (sym c.desc.view_is) c.requires.algorithm in
-    let plain : d.local.granted ≡ false = search rules in
-    let clean : d.local.wrote ≡ false = search rules in
     sym i.named
 
 pub returns-then-not-desc-clause-commits : goal.returns-then-not-desc-clause-commits
@@ -118,9 +112,6 @@ commit_writes-requires-clause-keeps g c =
     let s = d.seat.me.0 in
     let o = own_of d.local in
     let h = handle_of d.seat o in
-    let e = c.args.desc.now in
-    let i = runs-of g.K.MemRule.good f c.args.stm.now.rule h e d.number d.local c.desc.view_is c.requires.stm.config c.requires.stm.rule c.requires.running c.desc.invariant.1 in
-    let lazy = subst (λ (p : Handle g.row.K.Denot). (known p).alg ≡ OrecLazy) (sym c.desc.view_is) c.requires.algorithm in
     let name : caller_of s.who.role ≡ d.number = ap caller_of c.desc.invariant.0.named in
     subst (λ (q : ℕ). KeepsRule good f q (known h)) name (subst (λ (p : Handle g.row.K.Denot). KeepsRule good f (number p) (known p)) (sym c.desc.view_is) c.requires.keeps)
 
@@ -129,11 +120,8 @@ returns-clause-commits g c =
     let f = c.args.stm.now.config in
     let good = g.K.MemRule.good c.args.stm.now.rule in
     let d = c.desc.inside in
-    let s = d.seat.me.0 in
     let o = own_of d.local in
     let h = handle_of d.seat o in
     let e = c.args.desc.now in
-    let i = runs-of g.K.MemRule.good f c.args.stm.now.rule h e d.number d.local c.desc.view_is c.requires.stm.config c.requires.stm.rule c.requires.running c.desc.invariant.1 in
-    let lazy = subst (λ (p : Handle g.row.K.Denot). (known p).alg ≡ OrecLazy) (sym c.desc.view_is) c.requires.algorithm in
     let w = c.commit_writes.new.seat.me.0 in
     told (λ n v w. Commits good f n c.commit_writes.result v w) h e d.number w c.commit_writes.new.local c.desc.view_is (ap (λ (y : SeatView g.row.K.Denot). y.who) c.commit_writes.ensures.same.1) c.desc.invariant.0.named c.commit_writes.ensures.commits

@@ -1,10 +1,8 @@
-use Rattle.std.proofs.Common.{ℕ, ◌≡◌, ◌≢◌, ◌<◌, ◌≤◌, ◌+◌, subst, sym, ap, refl, true, false, rules, arith, ◌∙◌}
+use Rattle.std.proofs.Common.{◌≡◌, ◌≢◌, ◌<◌, ◌≤◌, ◌+◌, subst, sym, ap, refl, true, false, rules, ◌∙◌}
 use Rattle.stm_model.specs.declared.config.TheConstants.{CLOCK_LIMIT}
-use Rattle.rule_base.specs.declared.seats.SeatView.{SeatView}
-use Rattle.rule_base.specs.declared.views.View.{View}
 use Rattle.rule_orec.specs.OrecSteps.{orec_limit, orec_commit}
 use Rattle.stm_rule.specs.declared.local.Local.{Local}
-use Rattle.stm_rule.specs.Attempts.{own_of, IsOutside, Stands}
+use Rattle.stm_rule.specs.Attempts.{own_of, Stands}
 use Rattle.stm_rule.specs.Kept.{good_of}
 use Rattle.stm_rule.specs.RecordsKept.{cells_of}
 use Rattle.stm_rule.specs.StandLemmas.{tells-of}
@@ -46,10 +44,7 @@ returns-in-Err-clause-stands g c =
     let f = c.args.stm.now.config in
     let good = g.K.MemRule.good c.args.stm.now.rule in
     let n = c.args.caller in
-    let low = c.requires.caller in
     let l = c.args.local.now in
-    let v = c.args.seat.now.me.0.view in
-    let o = own_of l in
     let can = c.requires.attempt in
     let m = c.prepare.new.local in
     let s = c.in-Err.ensures.prepares in
@@ -244,11 +239,6 @@ returns-clause-stands g c =
     let m = c.prepare.new.local in
     let w = c.prepare.new.seat.me.0 in
     let r = c.in_default.ensures.prepares in
-    let rule = good_of g.K.MemRule.good f c.args.stm.now.rule in
-    let now = c.commit-now.result in
-    let u = c.commit-now.new.seat.me.0 in
-    let ws = cells_of m.writes.items in
-    let t = tells-of (orec_commit n m.start ws ws) (FindsCommit rule f n m.start ws) w now u c.commit-now.ensures.step in
     let b = c.finish.ensures in
     let z = c.finish.new.seat.me.0.view in
     subst (λ (q : Local). Stands good f n q z) (sym b.idle) (laws.ended-stands good f n (record m { committing = false }) z (laws.can-ready good f n low l v can o refl m w.view r).lengths b.finishes.outside)

@@ -1,4 +1,4 @@
-use Rattle.std.proofs.Common.{ℕ, ◌≡◌, ◌<◌, ◌≤◌, [], refl, sym, ap, ◌∙◌, subst, arith, rules, true, false}
+use Rattle.std.proofs.Common.{◌≡◌, ◌≤◌, [], ap, arith, rules, true, false}
 use Rattle.std.proofs.lemmas.Result.{err_from_is_err_and}
 use Rattle.stm_rule.specs.declared.local.Local.{Local}
 use Rattle.alg_orec.proofs.CommittingLaws as laws

@@ -1,10 +1,9 @@
-use Rattle.std.proofs.Common.{ℕ, ◌≡◌, ◌<◌, refl, subst, sym, ap, true, false, rules, ◌∙◌}
+use Rattle.std.proofs.Common.{ℕ, ◌≡◌, ◌<◌, refl, subst, sym, ap, true, false, ◌∙◌}
 use Rattle.std.specs.Prelude.{Some}
 use Rattle.stm_model.specs.declared.alg.Alg.TheVariants.{OrecLazy}
 use Rattle.stm_model.specs.declared.config.Config.{Config}
 use Rattle.rule_base.specs.declared.seats.SeatView.{SeatView}
 use Rattle.rule_base.specs.declared.seats.Who.{Who}
-use Rattle.rule_base.specs.declared.views.View.{View}
 use Rattle.stm_rule.specs.declared.local.Local.{Local}
 use Rattle.stm_rule.specs.Attempts.{own_of, emptied, ended, Stands}
 use Rattle.stm_rule.specs.Callers.{Handle, handle_of}
@@ -32,7 +31,6 @@ grant_reads-requires-clause-attempt g c =
     let i = runs-of g.K.MemRule.good f c.args.stm.now.rule h e d.number d.local c.desc.view_is c.requires.stm.config c.requires.stm.rule c.requires.running.0 c.desc.invariant.1 in
     let name : caller_of s.who.role ≡ d.number = ap caller_of c.desc.invariant.0.named in
     let lazy = subst (λ (p : Handle g.row.K.Denot). (known p).alg ≡ OrecLazy) (sym c.desc.view_is) c.requires.algorithm in
-    let low : d.number < f.callers = subst (λ (q : Config). d.number < q.callers) (subst (λ (p : Handle g.row.K.Denot). p.who.config ≡ f) (sym c.desc.view_is) c.requires.stm.config) c.desc.invariant.0.low in
     let revocable = subst (λ (p : Handle g.row.K.Denot). is_irrevocable (known p) ≡ false) (sym c.desc.view_is) c.requires.revocable in
     let plain = laws.ungranted good f d.number d.local s.view i lazy o revocable in
     let alone = subst (λ (q : ℕ). IsAlone f.callers q s.view) name (subst (λ (p : Handle g.row.K.Denot). IsAlone f.callers (number p) p.view) (sym c.desc.view_is) c.requires.alone) in
@@ -42,66 +40,23 @@ grant_reads-requires-clause-attempt g c =
 pub roll_back-requires-clause-view : goal.roll_back-requires-clause-view
 roll_back-requires-clause-view g c =
     let f = c.args.stm.now.config in
-    let good = g.K.MemRule.good c.args.stm.now.rule in
-    let d = c.desc.inside in
-    let s = d.seat.me.0 in
-    let o = own_of d.local in
-    let h = handle_of d.seat o in
-    let e = c.args.desc.now in
-    let i = runs-of g.K.MemRule.good f c.args.stm.now.rule h e d.number d.local c.desc.view_is c.requires.stm.config c.requires.stm.rule c.requires.running.0 c.desc.invariant.1 in
-    let name : caller_of s.who.role ≡ d.number = ap caller_of c.desc.invariant.0.named in
-    let lazy = subst (λ (p : Handle g.row.K.Denot). (known p).alg ≡ OrecLazy) (sym c.desc.view_is) c.requires.algorithm in
-    let low : d.number < f.callers = subst (λ (q : Config). d.number < q.callers) (subst (λ (p : Handle g.row.K.Denot). p.who.config ≡ f) (sym c.desc.view_is) c.requires.stm.config) c.desc.invariant.0.low in
-    let revocable = subst (λ (p : Handle g.row.K.Denot). is_irrevocable (known p) ≡ false) (sym c.desc.view_is) c.requires.revocable in
-    let plain = laws.ungranted good f d.number d.local s.view i lazy o revocable in
-    let alone = subst (λ (q : ℕ). IsAlone f.callers q s.view) name (subst (λ (p : Handle g.row.K.Denot). IsAlone f.callers (number p) p.view) (sym c.desc.view_is) c.requires.alone) in
-    let can : CanGrant good f d.number d.local s.view = record { inside = i; lazy = sym i.named ∙ lazy; plain = plain; free = ap (λ (p : Handle g.row.K.Denot). (known p).committing) c.desc.view_is ∙ c.requires.running.1; alone = alone } in
-    let m = c.grant_reads.new.local in
     let u = c.grant_reads.new.seat.me.0 in
     let q = c.in-Err.ensures.grants in
     subst (λ (x : Local). CanRollBack f x u.view) (sym q.local) q.can
 
 pub roll_back-requires-clause-holds : goal.roll_back-requires-clause-holds
 roll_back-requires-clause-holds g c =
-    let f = c.args.stm.now.config in
-    let good = g.K.MemRule.good c.args.stm.now.rule in
-    let d = c.desc.inside in
-    let s = d.seat.me.0 in
-    let o = own_of d.local in
-    let h = handle_of d.seat o in
-    let e = c.args.desc.now in
-    let i = runs-of g.K.MemRule.good f c.args.stm.now.rule h e d.number d.local c.desc.view_is c.requires.stm.config c.requires.stm.rule c.requires.running.0 c.desc.invariant.1 in
-    let name : caller_of s.who.role ≡ d.number = ap caller_of c.desc.invariant.0.named in
-    let lazy = subst (λ (p : Handle g.row.K.Denot). (known p).alg ≡ OrecLazy) (sym c.desc.view_is) c.requires.algorithm in
-    let low : d.number < f.callers = subst (λ (q : Config). d.number < q.callers) (subst (λ (p : Handle g.row.K.Denot). p.who.config ≡ f) (sym c.desc.view_is) c.requires.stm.config) c.desc.invariant.0.low in
-    let revocable = subst (λ (p : Handle g.row.K.Denot). is_irrevocable (known p) ≡ false) (sym c.desc.view_is) c.requires.revocable in
-    let plain = laws.ungranted good f d.number d.local s.view i lazy o revocable in
-    let alone = subst (λ (q : ℕ). IsAlone f.callers q s.view) name (subst (λ (p : Handle g.row.K.Denot). IsAlone f.callers (number p) p.view) (sym c.desc.view_is) c.requires.alone) in
-    let can : CanGrant good f d.number d.local s.view = record { inside = i; lazy = sym i.named ∙ lazy; plain = plain; free = ap (λ (p : Handle g.row.K.Denot). (known p).committing) c.desc.view_is ∙ c.requires.running.1; alone = alone } in
-    let m = c.grant_reads.new.local in
-    let u = c.grant_reads.new.seat.me.0 in
     let q = c.in-Err.ensures.grants in
     ap (λ (x : Local). x.holds) q.local ∙ (c.desc.invariant.1.holds ∙ sym q.holds)
 
 pub roll_back-requires-clause-named : goal.roll_back-requires-clause-named
 roll_back-requires-clause-named g c =
     let f = c.args.stm.now.config in
-    let good = g.K.MemRule.good c.args.stm.now.rule in
     let d = c.desc.inside in
-    let s = d.seat.me.0 in
     let o = own_of d.local in
     let h = handle_of d.seat o in
     let e = c.args.desc.now in
     let i = runs-of g.K.MemRule.good f c.args.stm.now.rule h e d.number d.local c.desc.view_is c.requires.stm.config c.requires.stm.rule c.requires.running.0 c.desc.invariant.1 in
-    let name : caller_of s.who.role ≡ d.number = ap caller_of c.desc.invariant.0.named in
-    let lazy = subst (λ (p : Handle g.row.K.Denot). (known p).alg ≡ OrecLazy) (sym c.desc.view_is) c.requires.algorithm in
-    let low : d.number < f.callers = subst (λ (q : Config). d.number < q.callers) (subst (λ (p : Handle g.row.K.Denot). p.who.config ≡ f) (sym c.desc.view_is) c.requires.stm.config) c.desc.invariant.0.low in
-    let revocable = subst (λ (p : Handle g.row.K.Denot). is_irrevocable (known p) ≡ false) (sym c.desc.view_is) c.requires.revocable in
-    let plain = laws.ungranted good f d.number d.local s.view i lazy o revocable in
-    let alone = subst (λ (q : ℕ). IsAlone f.callers q s.view) name (subst (λ (p : Handle g.row.K.Denot). IsAlone f.callers (number p) p.view) (sym c.desc.view_is) c.requires.alone) in
-    let can : CanGrant good f d.number d.local s.view = record { inside = i; lazy = sym i.named ∙ lazy; plain = plain; free = ap (λ (p : Handle g.row.K.Denot). (known p).committing) c.desc.view_is ∙ c.requires.running.1; alone = alone } in
-    let m = c.grant_reads.new.local in
-    let u = c.grant_reads.new.seat.me.0 in
     let q = c.in-Err.ensures.grants in
     ap (λ (x : Local). x.algorithm) q.local ∙ (sym i.named ∙ sym q.named)
 

@@ -1,4 +1,4 @@
-use Rattle.std.proofs.Common.{ℕ, ◌≡◌, ◌<◌, ◌≤◌, ◌-◌, ap, arith, rules, subst, sym}
+use Rattle.std.proofs.Common.{ℕ, ◌<◌, ◌≤◌, ◌-◌, ap, arith, rules, subst, sym}
 use Rattle.std.specs.Prelude.{◌%◌}
 use Rattle.stm_model.specs.declared.config.TheConstants.{CLOCK_LIMIT}
 use Rattle.stm_model.specs.declared.stop.Cause.TheVariants as causes
@@ -20,7 +20,6 @@ pub settle-time-requires-clause-view : goal.settle-time-requires-clause-view
 settle-time-requires-clause-view g c =
     let f = c.args.stm.now.config in
     let good = g.K.MemRule.good c.args.stm.now.rule in
-    let rule = good_of g.K.MemRule.good f c.args.stm.now.rule in
     let n = c.args.caller in
     let low = c.requires.caller in
     let l = c.args.local.now in
@@ -33,7 +32,6 @@ pub returns-then-time-ge-CLOCK_LIMIT-clause-grants : goal.returns-then-time-ge-C
 returns-then-time-ge-CLOCK_LIMIT-clause-grants g c =
     let f = c.args.stm.now.config in
     let good = g.K.MemRule.good c.args.stm.now.rule in
-    let rule = good_of g.K.MemRule.good f c.args.stm.now.rule in
     let n = c.args.caller in
     let low = c.requires.caller in
     let l = c.args.local.now in
@@ -50,7 +48,6 @@ pub clock-requires-clause-view : goal.clock-requires-clause-view
 clock-requires-clause-view g c =
     let f = c.args.stm.now.config in
     let good = g.K.MemRule.good c.args.stm.now.rule in
-    let rule = good_of g.K.MemRule.good f c.args.stm.now.rule in
     let n = c.args.caller in
     let low = c.requires.caller in
     let l = c.args.local.now in
@@ -111,7 +108,6 @@ pub grant-word-requires-clause-view : goal.grant-word-requires-clause-view
 grant-word-requires-clause-view g c =
     let f = c.args.stm.now.config in
     let good = g.K.MemRule.good c.args.stm.now.rule in
-    let rule = good_of g.K.MemRule.good f c.args.stm.now.rule in
     let n = c.args.caller in
     let low = c.requires.caller in
     let l = c.args.local.now in
@@ -125,7 +121,6 @@ grant-word-requires-clause-view g c =
     let q = c.clock.new.seat.me.0 in
     let second = tells-of (orec_clock (to_validate (home_of f) p.view)) (FindsClock f) p now q c.clock.ensures.step in
     let j = c.count-last.result - 1 in
-    let may = laws.may-validate good f n low l v can time p.view first in
     let last = laws.is-last good f n low l v can time p.view first j (omega (arith, c.count-last.ensures.count, c.requires.some)) (omega (arith, c.count-last.ensures.count)) in
     let u = c.pass_before.new.seat.me.0 in
     let h = c.in_default.ensures.passes in
@@ -150,7 +145,6 @@ returns-in-Err-judge-clause-grants g c =
     let q = c.clock.new.seat.me.0 in
     let second = tells-of (orec_clock (to_validate (home_of f) p.view)) (FindsClock f) p now q c.clock.ensures.step in
     let j = c.count-last.result - 1 in
-    let may = laws.may-validate good f n low l v can time p.view first in
     let last = laws.is-last good f n low l v can time p.view first j (omega (arith, c.count-last.ensures.count, c.requires.some)) (omega (arith, c.count-last.ensures.count)) in
     let u = c.pass_before.new.seat.me.0 in
     let h = c.in_default.ensures.passes in
@@ -179,7 +173,6 @@ returns-clause-grants g c =
     let q = c.clock.new.seat.me.0 in
     let second = tells-of (orec_clock (to_validate (home_of f) p.view)) (FindsClock f) p now q c.clock.ensures.step in
     let j = c.count-last.result - 1 in
-    let may = laws.may-validate good f n low l v can time p.view first in
     let last = laws.is-last good f n low l v can time p.view first j (omega (arith, c.count-last.ensures.count, c.requires.some)) (omega (arith, c.count-last.ensures.count)) in
     let u = c.pass_before.new.seat.me.0 in
     let h = c.in_default.ensures.passes in

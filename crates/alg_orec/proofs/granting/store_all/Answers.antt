@@ -1,8 +1,7 @@
-use Rattle.std.proofs.Common.{ℕ, suc, ◌≡◌, ◌<◌, ◌+◌, List, [], ◌∷◌, length, take, get_or, refl, sym, ap, ◌∙◌, subst, arith, true}
+use Rattle.std.proofs.Common.{ℕ, suc, ◌≡◌, ◌<◌, ◌+◌, List, [], ◌∷◌, length, take, refl, sym, ap, ◌∙◌, arith}
 use Rattle.std.proofs.lemmas.List.{take_all}
 use Rattle.rule_base.specs.declared.entries.Cell.{Cell}
 use Rattle.rule_base.specs.declared.seats.SeatView.{SeatView}
-use Rattle.rule_base.specs.declared.views.View.{View}
 use Rattle.stm_rule.specs.RecordsKept.{cells_of}
 use Rattle.alg_orec.proofs.Cells.{cell, cells-next, cells-there}
 use Rattle.alg_orec.proofs.Writing.{storing, store_item, stored-step}

@@ -1,9 +1,8 @@
-use Rattle.std.proofs.Common.{ℕ, ◌≡◌, ◌<◌, ◌≤◌, ◌+◌, List, [], ◌∷◌, ◌++◌, length, get_or, refl, sym, ap, ◌∙◌, subst, arith, rules, true, false}
-use Rattle.std.specs.Prelude.{Some, None, is_some, ◌%◌}
+use Rattle.std.proofs.Common.{ℕ, ◌≡◌, ◌<◌, ◌≤◌, ◌+◌, [], ◌∷◌, length, get_or, refl, sym, ap, ◌∙◌, subst, arith, rules, true}
+use Rattle.std.specs.Prelude.{None, is_some, ◌%◌}
 use Rattle.std.proofs.lemmas.Nat.{mod_below}
 use Rattle.std.proofs.lemmas.Result.{err_from_is_err_and}
 use Rattle.stm_model.specs.Memories.{item_at}
-use Rattle.rule_base.specs.declared.entries.Cell.{Cell}
 use Rattle.rule_base.specs.declared.layout.At.TheVariants.{Record}
 use Rattle.rule_base.specs.declared.seats.SeatView.{SeatView}
 use Rattle.rule_base.specs.declared.views.View.{View}

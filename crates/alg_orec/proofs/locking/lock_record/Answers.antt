@@ -1,4 +1,4 @@
-use Rattle.std.proofs.Common.{◌≡◌, ◌≢◌, ◌∙◌, ℕ, sym, ap, subst, rules, arith, true, false}
+use Rattle.std.proofs.Common.{◌≡◌, ◌≢◌, ℕ, sym, subst, rules, arith, true, false}
 use Rattle.std.specs.Prelude.{Ok}
 use Rattle.rule_base.specs.Encodings.{is_owned, version_of}
 use Rattle.rule_base.specs.StepKinds.{Tells}

@@ -137,6 +137,31 @@ finish-requires-clause-turn g c =
     let keeps = subst (λ (q : ℕ). answers.KeepsRule good f q (known h)) name (subst (λ (p : Handle g.row.K.Denot). answers.KeepsRule good f (number p) (known p)) (sym c.desc.view_is) c.requires.keeps) in
     laws.may-finish good f d.number d.local s.view i named plain dirty o refl found w.view none t c.desc.invariant.1.holds keeps
 
+pub invariant_of-desc-then-found-ne0 : goal.invariant_of-desc-then-found-ne0
+invariant_of-desc-then-found-ne0 g c =
+    let f = c.args.stm.now.config in
+    let good = g.K.MemRule.good c.args.stm.now.rule in
+    let d = c.desc.inside in
+    let s = d.seat.me.0 in
+    let o = own_of d.local in
+    let h = handle_of d.seat o in
+    let e = c.args.desc.now in
+    let i = runs-of g.K.MemRule.good f c.args.stm.now.rule h e d.number d.local c.desc.view_is c.requires.stm.config c.requires.stm.rule c.requires.running c.desc.invariant.1 in
+    let named = subst (λ (p : Handle g.row.K.Denot). (known p).alg ≡ RingSw) (sym c.desc.view_is) c.requires.algorithm in
+    let plain : d.local.granted ≡ false = search rules in
+    let dirty : d.local.wrote ≡ true = search rules in
+    let found = c.turn-found.result in
+    let w = c.turn-found.new.seat.me.0 in
+    let t = tells-of (ring_lock d.number) (FindsLock f d.number) s found w c.turn-found.ensures.step in
+    let some : found ≢ 0 = search rules in
+    let config = subst (λ (p : Handle g.row.K.Denot). p.who.config ≡ f) (sym c.desc.view_is) c.requires.stm.config in
+    let value = subst (λ (p : Handle g.row.K.Denot). p.who.rule ≡ Some c.args.stm.now.rule) (sym c.desc.view_is) c.requires.stm.rule in
+    let stands = stands-of g.K.MemRule.good f c.args.stm.now.rule s.who d.number d.local s.view config value c.desc.invariant.1 in
+    let who = who-of (ring_lock d.number) (FindsLock f d.number) s found w c.turn-found.ensures.step in
+    let m = record d.local { committing = true } in
+    let kept = stands-on good f d.number d.local m s.view w.view i.phase stands refl refl stands.lengths (laws.holds-again good f d.number d.local s.view i named plain dirty o refl found w.view some t) (laws.stays-again good f d.number d.local s.view i named plain dirty o refl found w.view some t) in
+    (search rules, stands-back g.K.MemRule.good f c.args.stm.now.rule w.who d.number m w.view (ap (λ (p : Who g.row.K.Denot). p.config) who ∙ config) (ap (λ (p : Who g.row.K.Denot). p.rule) who ∙ value) kept)
+
 pub invariant_of-desc-2 : goal.invariant_of-desc-2
 invariant_of-desc-2 g c =
     let f = c.args.stm.now.config in

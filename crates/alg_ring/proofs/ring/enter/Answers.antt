@@ -1,6 +1,5 @@
-use Rattle.std.proofs.Common.{ℕ, ◌≡◌, ◌<◌, ◌≤◌, List, [], ◌∷◌, refl, sym, ap, ◌∙◌, subst, arith}
+use Rattle.std.proofs.Common.{ℕ, ◌≡◌, ◌<◌, [], ◌∷◌, refl, sym, ap, ◌∙◌, subst, arith}
 use Rattle.std.specs.Prelude.{None}
-use Rattle.rule_base.specs.declared.entries.Cell.{Cell}
 use Rattle.rule_base.specs.declared.layout.At.TheVariants.{Slot}
 use Rattle.rule_base.specs.declared.layout.TheConstants.{SLOT_WORDS}
 use Rattle.rule_base.specs.declared.seats.SeatView.{SeatView}
@@ -31,14 +30,15 @@ pub slot-requires-clause-seat : goal.slot-requires-clause-seat
 slot-requires-clause-seat g c = let i = c.loop-i.invariant in (i.table ∙ c.requires.seat.0, ap (λ (y : SeatView g.row.K.Denot). y.who.role) i.seat ∙ c.requires.seat.1)
 
 pub slot-requires-clause-word : goal.slot-requires-clause-word
-slot-requires-clause-word g c = c.word.ensures ∙ c.requires.enter.stored c.loop-i.i c.loop-i-test.true
+slot-requires-clause-word g c = let low : c.loop-i.i < SLOT_WORDS = (let a = c.loop-i-test.true in omega arith) in c.word.ensures ∙ c.requires.enter.stored c.loop-i.i low
 
 pub slot-requires-clause-view : goal.slot-requires-clause-view
 slot-requires-clause-view g c =
     let i = c.loop-i.invariant in
     let l = c.args.local.now in
+    let low : c.loop-i.i < SLOT_WORDS = (let a = c.loop-i-test.true in omega arith) in
     subst (CanRingSlot c.args.time c.loop-i.i (cells_of l.writes.items)) (sym (ap (λ (y : SeatView g.row.K.Denot). y.view) i.seat))
-    (may-slot (g.K.MemRule.good c.args.stm.now.rule) c.args.stm.now.config c.args.time l c.args.seat.now.me.0.view c.requires.enter c.loop-i.i i.writes i.more c.loop-i-test.true i.same)
+    (may-slot (g.K.MemRule.good c.args.stm.now.rule) c.args.stm.now.config c.args.time l c.args.seat.now.me.0.view c.requires.enter c.loop-i.i i.writes i.more low i.same)
 
 pub loop-i-preserved : goal.loop-i-preserved
 loop-i-preserved g c =
