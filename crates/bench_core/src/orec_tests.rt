@@ -161,6 +161,11 @@ const TURNS: &[(&str, &str, &[u64])] = &[
         "tx 0 {write 0 5; write 1 6; irrev; emit 0} / tx 1 {read 2; irrev}",
         &[0, 0, 0, 1, 1, 0, 1, 0, 0, 0],
     ),
+    (
+        "alg OrecEager / callers 2",
+        "tx 0 {write 0 5; write 1 6; irrev; emit 0} / tx 1 {read 2; irrev}",
+        &[0, 0, 0, 1, 1, 0, 1, 0, 0, 0],
+    ),
 ];
 
 /// Wherever a schedule is cut, what it left open is ended, and all is done behind it.

@@ -41,6 +41,7 @@ const TARGETS: &[(&str, &str)] = &[
     ("OrecLazy", "CGL"),
     ("RingSW", "TML"),
     ("CGL", "OrecLazy"),
+    ("OrecEager", "OrecEager"),
     ("Serial", "RingSW"),
 ];
 
@@ -106,7 +107,7 @@ fn sum_of(report: &str) -> u64 {
 
 #[test]
 fn keeps_the_sum_of_64_accounts(rt: HostRuntime) -> Result<(), Fail> {
-    for alg in ["OrecLazy", "RingSW"] {
+    for alg in ["OrecLazy", "OrecEager", "RingSW"] {
         let text = moves(rt.alloc(), alg)?;
         let (status, held) = outcome(&rt, rt.alloc(), RUN, text.as_str(), &[], 2000000)?;
         assert_eq!(rt; status, Status::Ok);
