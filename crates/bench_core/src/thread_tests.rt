@@ -39,10 +39,9 @@ fn sums_the_adds_of_32_callers(rt: HostRuntime) -> Result<(), Fail> {
 const TARGETS: &[(&str, &str)] = &[
     ("TML", "Serial"),
     ("OrecLazy", "CGL"),
-    ("RingSW", "TML"),
+    ("RingSW", "OrecEager"),
     ("CGL", "OrecLazy"),
-    ("OrecEager", "OrecEager"),
-    ("Serial", "RingSW"),
+    ("OrecEager", "RingSW"),
 ];
 
 /// The text of a workload in which callers 0 and 1 add 1 to words 3 and 4, 2,000 times in all and irrevocably
