@@ -14,3 +14,7 @@ pub mod EntryLaws
 pub mod GrantingLaws
 pub mod EndingLaws
 pub mod Writing
+pub mod EagerReleasing
+pub mod EagerBackLaws
+pub mod EagerTakingLaws
+pub mod EagerProving

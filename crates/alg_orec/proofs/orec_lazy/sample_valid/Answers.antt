@@ -67,8 +67,9 @@ returns-in_err-validate-clause-samples g c =
     let w = c.validate.new.seat.me.0.view in
     let e = c.in_err-validate.ensures.validates in
     let p = err_from_is_err_and c.from_residual.result c.from_residual.ensures.1 in
-    rw (p.1, p.2) (subst (λ (m : Local). RefusesRead rule f n a _ l s.view m w) (sym e.0)
-    (laws.refused-stale rule f n c.requires.caller a l s.view c.requires.view x u.view (tells-of (orec_sample r a) (FindsRecord f n r) s x u c.sample-word.ensures.step) _ w free late e.1))
+    let cause = c.in_err-validate.field-0.0 in
+    rw (p.1, p.2) (subst (λ (m : Local). RefusesRead rule f n a cause l s.view m w) (sym e.0)
+    (laws.refused-stale rule f n c.requires.caller a l s.view c.requires.view x u.view (tells-of (orec_sample r a) (FindsRecord f n r) s x u c.sample-word.ensures.step) cause w free late e.1))
 
 pub returns-clause-samples : goal.returns-clause-samples
 returns-clause-samples g c =

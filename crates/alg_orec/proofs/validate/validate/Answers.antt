@@ -49,8 +49,11 @@ returns-in_err-must_load-clause-validates g c =
     let u = c.pass_before.new.seat.me.0.view in
     let e = c.in_err-must_load.ensures in
     let p = err_from_is_err_and c.from_residual-in_err-must_load.result c.from_residual-in_err-must_load.ensures.1 in
-    rw (p.1, p.2) (refl, subst (λ (k : Cause). Refuses f c.args.caller k s.view u) (sym e.3)
-    (validity.refused-mine rule f c.args.caller c.requires.caller c.args.local.now s.view c.requires.view c.in-Some.i now c.in-Some.ensures t.view first u c.in_ok-pass_before.ensures.passes c.item-b.result.0 e.0 (ap (λ (q : ℕ × ℕ). q.0) c.item-b.ensures) e.1 e.2))
+    rw (p.1, p.2) (
+      refl,
+      subst (λ (k : Cause). Refuses f c.args.caller k s.view u) (sym e.3)
+          (validity.refused-mine rule f c.args.caller c.requires.caller c.args.local.now s.view c.requires.view c.in-Some.i now c.in-Some.ensures t.view first u c.in_ok-pass_before.ensures.passes c.item-b.result.0 e.0 (ap (λ (q : ℕ × ℕ). q.0) c.item-b.ensures) e.1 e.2),
+    )
 
 pub last-word-requires-clause-view : goal.last-word-requires-clause-view
 last-word-requires-clause-view g c =
@@ -80,9 +83,12 @@ returns-in_err-judge-clause-validates g c =
     let w = c.last-word.new.seat.me.0 in
     let e = c.in_err-judge.ensures in
     let p = err_from_is_err_and c.from_residual-in_err-judge.result c.from_residual-in_err-judge.ensures.1 in
-    rw (p.1, p.2) (refl, subst (λ (k : Cause). Refuses f c.args.caller k s.view w.view) (sym e.0)
-    (validity.refused-last rule f c.args.caller c.requires.caller l s.view c.requires.view c.in-Some.i now c.in-Some.ensures t.view first u.view c.in_ok-pass_before.ensures.passes b x w.view at
-    (validity.must-load f l c.in-Some.i c.in-Some.ensures b at c.in_ok-must_load.field-0 c.in_ok-must_load.ensures) e.1 (tells-of (orec_last r b) (FindsLast rule f c.args.caller r) u x w c.last-word.ensures.step)))
+    rw (p.1, p.2) (
+      refl,
+      subst (λ (k : Cause). Refuses f c.args.caller k s.view w.view) (sym e.0)
+          (validity.refused-last rule f c.args.caller c.requires.caller l s.view c.requires.view c.in-Some.i now c.in-Some.ensures t.view first u.view c.in_ok-pass_before.ensures.passes b x w.view at
+          (validity.must-load f l c.in-Some.i c.in-Some.ensures b at c.in_ok-must_load.field-0 c.in_ok-must_load.ensures) e.1 (tells-of (orec_last r b) (FindsLast rule f c.args.caller r) u x w c.last-word.ensures.step)),
+    )
 
 pub returns-clause-validates : goal.returns-clause-validates
 returns-clause-validates g c =
