@@ -1,7 +1,7 @@
 -- What stands of an attempt of OrecEager, and what its end comes to as seen from before.
 use Rattle.std.proofs.Common.{ℕ, zero, suc, ◌≡◌, ◌<◌, ◌≤◌, ◌+◌, List, [], ◌∷◌, ◌++◌, length, Bool, true, false, refl, sym, ap, ◌∙◌, arith, subst}
-use Rattle.std.specs.Prelude.{Option, Some, None, not}
-use Rattle.stm_model.specs.Algorithms.{has_records, is_sure, quit_rise}
+use Rattle.std.specs.Prelude.{Option, Some, None, not, ◌&&◌}
+use Rattle.stm_model.specs.Algorithms.{has_records, closes_gate, is_sure, quit_rise}
 use Rattle.stm_model.specs.declared.alg.Alg.{Alg}
 use Rattle.stm_model.specs.declared.alg.Alg.TheVariants.{Tml, OrecEager, RingSw}
 use Rattle.stm_model.specs.declared.config.Config.{Config}
@@ -58,6 +58,30 @@ module _ (c : Config) (l : Local) (v : View) (k : IsEager c l v) where
     pub revocable : (w : View) (p : Own) → w.gate ≡ v.gate → is_irrevocable (known_of w p) ≡ false
     revocable w p gate = (λ j. is_sure (gate j).algorithm (granted_under (gate j).algorithm (gate j) w.lock) (wrote (known_of w p)))
         ∙ ((λ j. is_sure (eager j) (granted_under (eager j) v.gate w.lock) (wrote (known_of w p))) ∙ k.optimistic.ungranted)
+
+-- by what contracts see of it, an attempt was promoted or not
+module _ (good : List ℕ → Type 0) (c : Config) (n : ℕ) (l : Local) (v : View) (i : IsInside good c n l v) (eager : v.gate.algorithm ≡ OrecEager) (o : Own) where
+  pub granted-of : (b : Bool) → l.granted ≡ b → (known_of v o).granted ≡ b
+  granted-of b e = (λ j. granted_under (eager j) v.gate v.lock) ∙ (i.granted ∙ (λ j. closes_gate ((sym i.named ∙ eager) j) && e j))
+
+  pub plain-of : (known_of v o).granted ≡ false → l.granted ≡ false
+  plain-of e = by l.granted refl
+    where
+      by : (b : Bool) → l.granted ≡ b → b ≡ false
+      by true q = absurd (let f : true ≡ false = sym (granted-of true q) ∙ e in cc)
+      by false q = refl
+
+  pub sure-granted : l.granted ≡ true → is_irrevocable (known_of v o) ≡ true
+  sure-granted granted = let here : v.gate.granted ≡ true = i.granted ∙ (λ j. closes_gate ((sym i.named ∙ eager) j) && granted j) in
+      (λ j. is_sure (eager j) (granted_under (eager j) v.gate v.lock) (wrote (known_of v o))) ∙ here
+
+  -- one that can be cancelled wasn't promoted
+  pub ungranted : is_irrevocable (known_of v o) ≡ false → l.granted ≡ false
+  ungranted free = by l.granted refl
+    where
+      by : (b : Bool) → l.granted ≡ b → b ≡ false
+      by true e = absurd (let f : true ≡ false = sym (sure-granted e) ∙ free in cc)
+      by false e = refl
 
 -- more steps were taken
 module _ (c : Config) (n : ℕ) (asked : Option ℕ) where

@@ -18,3 +18,5 @@ pub mod EagerReleasing
 pub mod EagerBackLaws
 pub mod EagerTakingLaws
 pub mod EagerProving
+pub mod EagerLaws
+pub mod ReadCalls
