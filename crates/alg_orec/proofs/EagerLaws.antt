@@ -173,7 +173,7 @@ module _ (good : List ℕ → Type 0) (c : Config) (n : ℕ) (l : Local) (v : Vi
     clean : (u : View) → u.gate ≡ v.gate → u.owned ≡ v.owned → wrote (known_of u o) ≡ false → u.owned.held ≡ []
     clean u gate owned e = ap (λ (h : Ownership). h.held) owned ∙ proving.none-held c l v k (sym (proving.wrote-known c l v k eager u o gate (ap (λ (h : Ownership). h.in_place) owned)) ∙ e)
 
-    grown : (start : ℕ) (seen : List Entry) (rs : List Cell) (sample : Sample) (check : Validation) (more : List TrailItem) (p : Own) → p.reads_limit ≡ l.reads.len → p.writes_limit ≡ l.undo.len → MayMove rule c n start seen more v → Grows (known_of v o) (known_of (moved v start seen rs sample check more) p)
+    pub grown : (start : ℕ) (seen : List Entry) (rs : List Cell) (sample : Sample) (check : Validation) (more : List TrailItem) (p : Own) → p.reads_limit ≡ l.reads.len → p.writes_limit ≡ l.undo.len → MayMove rule c n start seen more v → Grows (known_of v o) (known_of (moved v start seen rs sample check more) p)
     grown start seen rs sample check more p r w (inl s) = grows-same (known_of v o) (known_of (moved v start seen rs sample check more) p) (ap public_history s.1) (s.0 ∙ (i.start ∙ sym i.front)) more refl r w
     grown start seen rs sample check more p r w (inr s) = let m = s.1 in let q = later-seen seen v.history.front start m.below m.front in record {
       later = q.0;

@@ -71,6 +71,13 @@ module _ (good : List ℕ → Type 0) (c : Config) (n : ℕ) (l : Local) (v : Vi
       by true q = absurd (let f : true ≡ false = sym (granted-of true q) ∙ e in cc)
       by false q = refl
 
+  pub was-granted : (known_of v o).granted ≡ true → l.granted ≡ true
+  was-granted e = by l.granted refl
+    where
+      by : (b : Bool) → l.granted ≡ b → b ≡ true
+      by true q = refl
+      by false q = absurd (let f : false ≡ true = sym (granted-of false q) ∙ e in cc)
+
   pub sure-granted : l.granted ≡ true → is_irrevocable (known_of v o) ≡ true
   sure-granted granted = let here : v.gate.granted ≡ true = i.granted ∙ (λ j. closes_gate ((sym i.named ∙ eager) j) && granted j) in
       (λ j. is_sure (eager j) (granted_under (eager j) v.gate v.lock) (wrote (known_of v o))) ∙ here

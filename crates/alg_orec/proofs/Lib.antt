@@ -20,3 +20,6 @@ pub mod EagerTakingLaws
 pub mod EagerProving
 pub mod EagerLaws
 pub mod ReadCalls
+pub mod EagerWriteLaws
+pub mod EagerCommitLaws
+pub mod EagerDirectLaws
