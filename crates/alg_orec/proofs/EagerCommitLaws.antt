@@ -280,7 +280,7 @@ module _ (good : List ℕ → Type 0) (c : Config) (n : ℕ) (low : n < c.caller
       })
 
       module _ (y : View) (q : ReleasesAll u y) where
-        gives : View
+        abbrev gives : View
         gives = holding_still (exchanged t.0 now true) [] q.more
 
         y_path : y ≡ gives
@@ -486,7 +486,7 @@ module _ (good : List ℕ → Type 0) (c : Config) (n : ℕ) (low : n < c.caller
         }
 
     -- or one isn't
-    pub revalidates-stale : (cause : causes.the_data) (m : Local) (w : View) → m ≡ l → Refuses c n cause v w → IsOverrun c n cause l v m w
+    pub revalidates-stale : (cause : causes.the_data) (m : Local) (w : View) → m ≡ l → Refuses c n cause v w → IsOverrun good c n cause l v m w
     revalidates-stale (causes.Clock had now) m w same h = absurd h
     revalidates-stale (causes.Record index word start) m w same h = record {
       local = same;
@@ -536,10 +536,10 @@ module _ (good : List ℕ → Type 0) (c : Config) (n : ℕ) (low : n < c.caller
     revalidates (Err cause) m w h = revalidates-stale cause m w h.0 h.1
 
     -- and the attempt is taken back
-    pub may-take-overrun : (cause : causes.the_data) (m : Local) (w : View) → IsOverrun c n cause l v m w → CanTakeBack c m w
+    pub may-take-overrun : (cause : causes.the_data) (m : Local) (w : View) → IsOverrun good c n cause l v m w → CanTakeBack c m w
     may-take-overrun cause m w h = subst (λ (d : Local). CanTakeBack c d w) (sym h.local) (subst (CanTakeBack c l) (sym h.is) (may-take good c n l v i eager can.plain l h.check h.more refl refl))
 
-    pub tells-stopped : (cause : causes.the_data) (m : Local) (u z : View) → IsOverrun c n cause l v m u → TakesBack n u z → Commits good c n (commits.Conflict cause) (known_of v o) (known_of z (with_commit false o))
+    pub tells-stopped : (cause : causes.the_data) (m : Local) (u z : View) → IsOverrun good c n cause l v m u → TakesBack n u z → Commits good c n (commits.Conflict cause) (known_of v o) (known_of z (with_commit false o))
     tells-stopped cause m u z h g = let t = proving.ended-by n u z g in (
       proving.quits-back n v u z o eager kept.optimistic.ungranted kept.optimistic.rises (ap (λ (y : View). y.steps.rises) h.is) (λ e. ap (λ (y : View). y.owned.held) h.is ∙ some e) g
           (subst (IsUnmade v) (sym h.is) (record { carried = record { named = refl; base = refl; installs = refl; trail = (h.more, refl) }; history = refl })),

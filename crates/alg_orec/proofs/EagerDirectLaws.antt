@@ -1,5 +1,5 @@
 -- What the commit of a promoted attempt of OrecEager comes to, which gives its records back.
-use Rattle.std.proofs.Common.{ℕ, ◌≡◌, ◌≢◌, ◌<◌, ◌≤◌, ◌+◌, List, [], ◌∷◌, ◌++◌, true, false, refl, sym, ap, ◌∙◌, arith, subst, append_assoc}
+use Rattle.std.proofs.Common.{ℕ, ◌≡◌, ◌≢◌, ◌<◌, ◌≤◌, ◌+◌, List, [], ◌∷◌, ◌++◌, Bool, true, false, refl, sym, ap, ◌∙◌, arith, subst, append_assoc}
 use Rattle.std.specs.Prelude.{None}
 use Rattle.stm_model.specs.Algorithms.{closes_gate, entry_rise}
 use Rattle.stm_model.specs.AlgorithmLaws.{entry-some}

@@ -23,3 +23,4 @@ pub mod ReadCalls
 pub mod EagerWriteLaws
 pub mod EagerCommitLaws
 pub mod EagerDirectLaws
+pub mod EagerGrantLaws
