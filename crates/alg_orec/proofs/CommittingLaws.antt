@@ -1,6 +1,6 @@
 -- What the steps of a commit of OrecLazy come to.
-use Rattle.std.proofs.Common.{ℕ, ◌≡◌, ◌≢◌, ◌<◌, ◌≤◌, ◌+◌, List, [], ◌∷◌, ◌++◌, length, Bool, true, false, refl, sym, ap, ◌∙◌, arith, subst, append_assoc, inl, inr}
-use Rattle.std.specs.Prelude.{Option, Some, None, ◌==◌, ◌||◌, ◌⊎◌, if◌then◌else◌, not, Result, Ok, Err}
+use Rattle.std.proofs.Common.{ℕ, ◌≡◌, ◌<◌, ◌≤◌, ◌+◌, List, [], ◌∷◌, ◌++◌, Bool, true, false, refl, sym, ap, ◌∙◌, arith, subst, append_assoc, inl, inr}
+use Rattle.std.specs.Prelude.{Some, None, ◌||◌, ◌⊎◌, not, Result, Ok, Err}
 use Rattle.std.proofs.lemmas.Bool.Decides.{nat_tests}
 use Rattle.std.proofs.lemmas.List.Elements.{Contains-append_left}
 use Rattle.stm_model.specs.Algorithms.{has_records, asks_at_commit, is_sure}
@@ -15,7 +15,6 @@ use Rattle.rule_base.specs.declared.entries.Entry.{Entry}
 use Rattle.rule_base.specs.declared.layout.At.{At}
 use Rattle.rule_base.specs.declared.layout.At.TheVariants.{Clock, Record}
 use Rattle.rule_base.specs.declared.views.Act.TheVariants.{Load, Exchange}
-use Rattle.rule_base.specs.declared.views.SeenHistory.{SeenHistory}
 use Rattle.rule_base.specs.declared.views.TrailItem.{TrailItem}
 use Rattle.rule_base.specs.declared.views.Validation.{Validation}
 use Rattle.rule_base.specs.declared.views.View.{View}
@@ -32,19 +31,16 @@ use Rattle.tx_logs.specs.LogStates.{LogState}
 use Rattle.stm_rule.specs.declared.local.Local.{Local}
 use Rattle.stm_rule.specs.Attempts.{Keeps, IsInside, own_of}
 use Rattle.stm_rule.specs.RecordsKept.{cells_of, IsLazy}
-use Rattle.tx_answers.specs.Answers.{Quits, Commits}
-use Rattle.tx_answers.specs.declared.answers.Commit.TheVariants as commits
 use Rattle.tx_answers.specs.Causes.{Conflicts, NamesOther, IsAnothers, IsNewer, has_item}
-use Rattle.tx_answers.specs.Evidence.{Found, FoundAsWas, Untouched}
-use Rattle.tx_answers.specs.Known.{Known, Grows, known_of, granted_under, written_under, is_irrevocable, wrote}
+use Rattle.tx_answers.specs.Evidence.{Found, Untouched}
+use Rattle.tx_answers.specs.Known.{Grows, known_of, granted_under, written_under, is_irrevocable, wrote}
 use Rattle.tx_answers.specs.KnownLaws.{grows-same}
-use Rattle.stm_gate.specs.Leaving.{left}
-use Rattle.stm_gate.specs.LeavingLaws.{IsUnmade, quits-left, trail-left}
+use Rattle.stm_gate.specs.LeavingLaws.{IsUnmade}
 use Rattle.stm_gate.specs.Opacity.{later-seen}
 use Rattle.stm_gate.specs.Peeling.{has-touched}
 use Rattle.alg_orec.specs.Committing.{CanCommit, readied, IsReady, IsStopped, Prepares}
-use Rattle.alg_orec.specs.Ending.{CanRollBack, GivesUp}
-use Rattle.alg_orec.specs.Locking.{holding_still, lock_item, CanLockAll, WasFree, IsRefused, Holds, Locks, LocksEach, StopsLocking}
+use Rattle.alg_orec.specs.Ending.{CanRollBack}
+use Rattle.alg_orec.specs.Locking.{holding_still, lock_item, CanLockAll, WasFree, IsRefused, Holds, LocksEach, StopsLocking}
 use Rattle.alg_orec.specs.Validating.{load_of, OnlyLoads, CanValidate, Refuses, IsFoundStale, IsHeldNewer, IsStale, IsValid, Validates}
 use Rattle.alg_orec.proofs.Cells.{items-cells}
 use Rattle.alg_orec.proofs.Proving.{lazy-of}

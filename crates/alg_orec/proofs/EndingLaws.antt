@@ -1,8 +1,7 @@
 -- The ends of an attempt of OrecLazy that makes no entry.
-use Rattle.std.proofs.Common.{ℕ, ◌≡◌, ◌≤◌, ◌+◌, List, [], Bool, true, false, refl, sym, ap, ◌∙◌, arith, subst}
-use Rattle.std.specs.Prelude.{None, Some, not, ◌&&◌}
-use Rattle.stm_model.specs.Algorithms.{has_records, closes_gate, is_sure, quit_rise}
-use Rattle.stm_model.specs.declared.alg.Alg.{Alg}
+use Rattle.std.proofs.Common.{ℕ, ◌≡◌, List, Bool, true, false, refl, sym, ap, ◌∙◌, arith, subst}
+use Rattle.std.specs.Prelude.{not, ◌&&◌}
+use Rattle.stm_model.specs.Algorithms.{has_records, closes_gate, is_sure}
 use Rattle.stm_model.specs.declared.alg.Alg.TheVariants.{OrecLazy}
 use Rattle.stm_model.specs.declared.config.Config.{Config}
 use Rattle.stm_model.specs.Memories.{item_at, is_empty}
@@ -15,7 +14,7 @@ use Rattle.stm_rule.specs.Attempts.{IsInside}
 use Rattle.stm_rule.specs.RecordsKept.{cells_of, IsLazy}
 use Rattle.tx_answers.specs.declared.answers.Cancel.TheVariants.{Cancelled}
 use Rattle.tx_answers.specs.declared.answers.Commit.TheVariants.{ReadOnly}
-use Rattle.tx_answers.specs.Answers.{Commits, Cancels, EndsAt, Ends}
+use Rattle.tx_answers.specs.Answers.{Commits, Cancels, EndsAt}
 use Rattle.tx_answers.specs.Known.{known_of, granted_under, written_under, is_irrevocable, wrote}
 use Rattle.stm_gate.specs.Leaving.{CanLeave, left}
 use Rattle.stm_gate.specs.LeavingLaws.{unmade-refl, ended-left}

@@ -1,6 +1,6 @@
 -- What the exchange of the clock in a commit of OrecLazy comes to, and the end behind it.
-use Rattle.std.proofs.Common.{ℕ, ◌≡◌, ◌≢◌, ◌<◌, ◌≤◌, ◌+◌, List, [], ◌∷◌, ◌++◌, length, Bool, true, false, refl, sym, ap, ◌∙◌, arith, subst, append_assoc, inl, inr, ⊎_elim}
-use Rattle.std.specs.Prelude.{Option, Some, None, ◌==◌, ◌⊎◌, if◌then◌else◌, not, reverse}
+use Rattle.std.proofs.Common.{ℕ, ◌≡◌, ◌≢◌, ◌<◌, ◌≤◌, ◌+◌, List, [], ◌∷◌, ◌++◌, length, Bool, true, false, refl, sym, ap, ◌∙◌, arith, subst, append_assoc, inl, inr}
+use Rattle.std.specs.Prelude.{Some, None, ◌==◌, ◌⊎◌, if◌then◌else◌, not, reverse}
 use Rattle.std.proofs.lemmas.Bool.Decides.{nat_tests}
 use Rattle.stm_model.specs.Algorithms.{has_records, asks_at_commit, entry_rise}
 use Rattle.stm_model.specs.declared.alg.Alg.{Alg}
@@ -27,7 +27,7 @@ use Rattle.rule_base.specs.History.{over, touches}
 use Rattle.rule_base.specs.HistoryLemmas.{over-hit, over-miss}
 use Rattle.rule_base.specs.Own.{Own}
 use Rattle.rule_base.specs.Ranks.{home_of}
-use Rattle.rule_base.specs.StepKinds.{Tells, view_after}
+use Rattle.rule_base.specs.StepKinds.{Tells}
 use Rattle.rule_base.specs.World.{World}
 use Rattle.rule_orec.specs.OrecOwning.{entered_at}
 use Rattle.rule_orec.specs.OrecSteps.{HasOrec, orec_limit, orec_entry, orec_commit, CanOrecCommit}
@@ -36,10 +36,10 @@ use Rattle.stm_rule.specs.Attempts.{IsInside, IsOutside, SameLengths, Stands, St
 use Rattle.stm_rule.specs.RecordsKept.{cells_of, IsLazy}
 use Rattle.steps_orec.specs.OthersLaws.{clock-others}
 use Rattle.steps_orec.specs.RecordFindings.{FindsClock, FindsCommit, Enters}
-use Rattle.tx_answers.specs.Answers.{StartMoves, Quits, Commits, CommitsAt, KeepsRule, IsOpaque, entry}
+use Rattle.tx_answers.specs.Answers.{StartMoves, Quits, Commits, CommitsAt, KeepsRule, entry}
 use Rattle.tx_answers.specs.declared.answers.Commit.TheVariants as commits
 use Rattle.tx_answers.specs.Evidence.{Found}
-use Rattle.tx_answers.specs.Known.{Known, Grows, known_of, granted_under, written_under, is_in, is_closing, wrote, zeros}
+use Rattle.tx_answers.specs.Known.{Grows, known_of, granted_under, written_under, is_in, is_closing, wrote, zeros}
 use Rattle.tx_answers.specs.KnownLaws.{grows-same, grows-trans}
 use Rattle.stm_gate.specs.LeavingLaws.{IsUnmade, found-later, finds-full}
 use Rattle.stm_gate.specs.Opacity.{opaque-inside}

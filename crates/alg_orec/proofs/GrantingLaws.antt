@@ -1,9 +1,9 @@
 -- What the steps of a promotion of OrecLazy come to.
-use Rattle.std.proofs.Common.{ℕ, ◌≡◌, ◌≢◌, ◌<◌, ◌≤◌, ◌+◌, ◌-◌, List, [], ◌∷◌, ◌++◌, length, Bool, true, false, refl, sym, ap, ◌∙◌, arith, subst, append_assoc, inl, inr}
-use Rattle.std.specs.Prelude.{Some, None, ◌%◌, ◌^◌, ◌⊎◌, ◌||◌, ◌&&◌, ltb, if◌then◌else◌, not, reverse, Contains}
+use Rattle.std.proofs.Common.{ℕ, ◌≡◌, ◌<◌, ◌≤◌, ◌+◌, List, [], ◌∷◌, ◌++◌, length, Bool, true, false, refl, sym, ap, ◌∙◌, arith, subst, append_assoc, inl, inr}
+use Rattle.std.specs.Prelude.{Some, None, ◌%◌, ◌^◌, ◌⊎◌, ◌&&◌, ltb, if◌then◌else◌, not}
 use Rattle.std.proofs.lemmas.Bool.Decides.{nat_tests}
 use Rattle.std.proofs.lemmas.List.Elements.{Contains-append_right}
-use Rattle.stm_model.specs.Algorithms.{has_records, asks_at_commit, asks_at_grant, closes_gate, entry_rise, is_sure}
+use Rattle.stm_model.specs.Algorithms.{has_records, asks_at_grant, closes_gate, entry_rise, is_sure}
 use Rattle.stm_model.specs.declared.alg.Alg.{Alg}
 use Rattle.stm_model.specs.declared.alg.Alg.TheVariants.{OrecLazy}
 use Rattle.stm_model.specs.declared.config.Config.{Config}
@@ -23,34 +23,32 @@ use Rattle.rule_base.specs.declared.views.TrailItem.{TrailItem}
 use Rattle.rule_base.specs.declared.views.Validation.{Validation}
 use Rattle.rule_base.specs.declared.views.View.{View}
 use Rattle.rule_base.specs.Bridge.{items, of_words, public_history}
-use Rattle.rule_base.specs.BridgeLemmas.{item-some}
 use Rattle.rule_base.specs.Encodings.{is_owned, owner_of, version_of}
 use Rattle.rule_base.specs.GateSteps.{granted_at}
-use Rattle.rule_base.specs.History.{over, touches, upto, Inside}
+use Rattle.rule_base.specs.History.{over, touches, Inside}
 use Rattle.rule_base.specs.InstallSteps.{settle, CanSettle}
 use Rattle.rule_base.specs.Own.{Own}
 use Rattle.rule_base.specs.Ranks.{home_of}
 use Rattle.rule_base.specs.StepKinds.{Tells, view_after}
 use Rattle.rule_orec.specs.OrecReading.{no_sample, no_check}
-use Rattle.rule_orec.specs.OrecSteps.{HasOpen, passes, direct_attempt, direct_owned, orec_clock, CanOrecClock, orec_grant, CanOrecGrant, orec_grant_all, CanOrecGrantAll, HasStores}
+use Rattle.rule_orec.specs.OrecSteps.{HasOpen, passes, direct_attempt, direct_owned, orec_clock, orec_grant, CanOrecGrant, orec_grant_all, CanOrecGrantAll, HasStores}
 use Rattle.stm_rule.specs.declared.local.Local.{Local}
-use Rattle.stm_rule.specs.Attempts.{Keeps, IsInside, IsPromoted, emptied, own_of}
+use Rattle.stm_rule.specs.Attempts.{Keeps, IsInside, emptied, own_of}
 use Rattle.stm_rule.specs.Findings.{FindsWithin}
 use Rattle.stm_rule.specs.RecordsKept.{cells_of, IsLazy}
-use Rattle.steps_orec.specs.RecordFindings.{FindsRecord, FindsClock, FindsAll, FindsGrant, Moves}
+use Rattle.steps_orec.specs.RecordFindings.{FindsRecord, FindsClock, FindsAll, FindsGrant}
 use Rattle.steps_orec.specs.Validating.{to_validate}
-use Rattle.tx_answers.specs.Answers.{Quits, BecomesSure}
+use Rattle.tx_answers.specs.Answers.{BecomesSure}
 use Rattle.tx_answers.specs.declared.answers.Irrev.TheVariants as irrevs
 use Rattle.tx_answers.specs.Causes.{Conflicts, NamesOther, IsAnothers, IsNewer, has_item}
-use Rattle.tx_answers.specs.Evidence.{Found, Untouched}
 use Rattle.tx_answers.specs.Known.{Grows, known_of, granted_under, written_under, is_irrevocable, is_in, is_closing, wrote}
 use Rattle.stm_gate.specs.Granting.{Grants}
 use Rattle.stm_gate.specs.LeavingLaws.{IsUnmade, found-later, finds-full}
 use Rattle.stm_gate.specs.Opacity.{opaque-at, later-seen}
 use Rattle.stm_gate.specs.Peeling.{has-touched, no-items}
 use Rattle.alg_orec.specs.Ending.{CanRollBack, GivesUp}
-use Rattle.alg_orec.specs.Granting.{CanGrant, promoted_at, IsGranted, IsNotGranted, RefusesGrant, CanStoreAll, StoresAll}
-use Rattle.alg_orec.specs.Validating.{load_of, OnlyLoads, read_at, vouches, is_old, IsLast, CanValidate, Refuses, IsFoundStale, IsHeldNewer, IsStale, HasPassed}
+use Rattle.alg_orec.specs.Granting.{CanGrant, promoted_at, IsGranted, IsNotGranted, CanStoreAll, StoresAll}
+use Rattle.alg_orec.specs.Validating.{load_of, OnlyLoads, read_at, is_old, IsLast, CanValidate, Refuses, IsFoundStale, IsHeldNewer, IsStale, HasPassed}
 use Rattle.alg_orec.proofs.Cells.{items-cells, cells-some}
 use Rattle.alg_orec.proofs.CommittingLaws.{untouched-loads}
 use Rattle.alg_orec.proofs.Passing as passing

@@ -89,7 +89,7 @@ module _ (good : List ℕ → Type 0) (c : Config) (n : ℕ) (l : Local) (v : Vi
     pub written : (w : View) (m : Local) → w.gate ≡ v.gate → m.writes.items ≡ l.writes.items → written_under w.gate.algorithm w.gate.granted w (own_of m) ≡ l.writes.items
     written w m gate same = (λ j. written_under (gate j).algorithm (gate j).granted w (own_of m)) ∙ ((λ j. written_under (lazy j) (ungranted j) w (own_of m)) ∙ (ap (λ (ws : List (ℕ × ℕ)). items (cells_of ws)) same ∙ items-cells l.writes.items k.buffers.once))
 
-    written-here : (known_of v o).log.writes ≡ l.writes.items
+    pub written-here : (known_of v o).log.writes ≡ l.writes.items
     written-here = written v l refl refl
 
     pub revocable : is_irrevocable (known_of v o) ≡ false

@@ -5,6 +5,7 @@ pub mod Validity
 pub mod LoadLaws
 pub mod CellLogs
 pub mod LazyLaws
+pub mod ReadCalls
 pub mod Releasing
 pub mod Cells
 pub mod LockingLaws
@@ -19,8 +20,9 @@ pub mod EagerBackLaws
 pub mod EagerTakingLaws
 pub mod EagerProving
 pub mod EagerLaws
-pub mod ReadCalls
 pub mod EagerWriteLaws
 pub mod EagerCommitLaws
 pub mod EagerDirectLaws
 pub mod EagerGrantLaws
+pub mod CallLaws
+pub mod LockAllLaws

@@ -1,11 +1,11 @@
 -- What the steps by which a commit takes records come to.
 use Rattle.std.proofs.Common.{ℕ, ◌≡◌, ◌≢◌, ◌<◌, ◌≤◌, ◌+◌, List, [], ◌∷◌, ◌++◌, length, get_or, Bool, true, false, refl, sym, ap, ◌∙◌, arith, subst, append_assoc}
-use Rattle.std.specs.Prelude.{Some, None, ◌%◌, ◌==◌, ltb, if◌then◌else◌, Ok, Err}
+use Rattle.std.specs.Prelude.{Some, None, ◌%◌, ◌==◌, ltb, if◌then◌else◌, Err}
 use Rattle.std.proofs.lemmas.Bool.Decides.{nat_tests}
 use Rattle.stm_model.specs.declared.config.Config.{Config}
 use Rattle.stm_model.specs.declared.config.TheConstants.{CLOCK_LIMIT}
 use Rattle.stm_model.specs.declared.stop.Cause.TheVariants as causes
-use Rattle.stm_model.specs.Memories.{item_at, put}
+use Rattle.stm_model.specs.Memories.{item_at}
 use Rattle.rule_base.specs.declared.entries.Cell.{Cell}
 use Rattle.rule_base.specs.declared.layout.At.TheVariants.{Record}
 use Rattle.rule_base.specs.declared.views.TrailItem.{TrailItem}
@@ -13,7 +13,7 @@ use Rattle.rule_base.specs.declared.views.View.{View}
 use Rattle.rule_base.specs.Bridge.{items}
 use Rattle.rule_base.specs.BridgeLemmas.{item-none, item-some}
 use Rattle.rule_base.specs.Encodings.{free_record, is_owned, version_of}
-use Rattle.rule_base.specs.History.{over, touches, Inside}
+use Rattle.rule_base.specs.History.{over, touches}
 use Rattle.rule_base.specs.HistoryLemmas.{inside-more}
 use Rattle.rule_base.specs.Ranks.{home_of}
 use Rattle.rule_base.specs.StepKinds.{Tells, view_after}

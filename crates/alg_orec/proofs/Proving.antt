@@ -1,7 +1,7 @@
 -- What a call found, as seen after more steps and from before.
-use Rattle.std.proofs.Common.{ℕ, ◌≡◌, ◌≤◌, ◌+◌, List, [], ◌∷◌, ◌++◌, Bool, true, false, refl, sym, ap, ◌∙◌, arith, subst, append_assoc, length}
-use Rattle.std.specs.Prelude.{Option, Some, not, reverse}
-use Rattle.stm_model.specs.Algorithms.{has_records, entry_rise, quit_rise, is_sure}
+use Rattle.std.proofs.Common.{ℕ, ◌≡◌, ◌≤◌, ◌+◌, List, [], ◌∷◌, ◌++◌, Bool, false, refl, sym, ap, ◌∙◌, arith, subst, append_assoc, length}
+use Rattle.std.specs.Prelude.{Option, not}
+use Rattle.stm_model.specs.Algorithms.{entry_rise, quit_rise, is_sure}
 use Rattle.stm_model.specs.declared.alg.Alg.{Alg}
 use Rattle.stm_model.specs.declared.alg.Alg.TheVariants.{Tml, OrecLazy, RingSw}
 use Rattle.stm_model.specs.declared.config.Config.{Config}
@@ -14,7 +14,7 @@ use Rattle.rule_base.specs.declared.views.View.{View}
 use Rattle.rule_base.specs.Own.{Own}
 use Rattle.tx_answers.specs.Answers.{Quits, Ends, CommitsAt, entry}
 use Rattle.tx_answers.specs.Causes.{Conflicts, FindsFull}
-use Rattle.tx_answers.specs.Evidence.{Found, FoundAsWas, FoundMoved}
+use Rattle.tx_answers.specs.Evidence.{FoundAsWas, FoundMoved}
 use Rattle.tx_answers.specs.Known.{Known, Grows, known_of, granted_under, wrote}
 use Rattle.tx_answers.specs.KnownLaws.{grows-trans}
 use Rattle.stm_rule.specs.declared.local.Local.{Local}

@@ -1,5 +1,5 @@
 -- What a read or a write leaves of a descriptor in an attempt of OrecLazy.
-use Rattle.std.proofs.Common.{ℕ, ◌≡◌, ◌≢◌, ◌<◌, List, [], ◌∷◌, ◌++◌, length, Bool, true, false, refl, sym, ap, ◌∙◌, arith}
+use Rattle.std.proofs.Common.{ℕ, ◌≡◌, ◌≢◌, List, [], ◌∷◌, ◌++◌, length, Bool, true, false, refl, sym, ap, ◌∙◌}
 use Rattle.std.specs.Prelude.{◌==◌, ◌&&◌, if◌then◌else◌, Some, None}
 use Rattle.stm_model.specs.Algorithms.{closes_gate}
 use Rattle.stm_model.specs.declared.alg.Alg.TheVariants.{OrecLazy}

@@ -1,5 +1,5 @@
 -- The records that an attempt holds, given back one after the other.
-use Rattle.std.proofs.Common.{ℕ, ◌≡◌, ◌≤◌, List, ◌∷◌, ◌++◌, Bool, true, false, refl, sym, ap, ◌∙◌, subst, arith}
+use Rattle.std.proofs.Common.{ℕ, ◌≡◌, ◌≤◌, List, ◌∷◌, Bool, true, false, refl, sym, ap, ◌∙◌, arith}
 use Rattle.std.specs.Prelude.{None, if◌then◌else◌, ◌==◌}
 use Rattle.stm_model.specs.declared.config.TheConstants.{CLOCK_LIMIT}
 use Rattle.rule_base.specs.declared.entries.Cell.{Cell}
@@ -7,7 +7,6 @@ use Rattle.rule_base.specs.declared.layout.At.TheVariants.{Record}
 use Rattle.rule_base.specs.declared.seats.SeatView.{SeatView}
 use Rattle.rule_base.specs.declared.views.Act.TheVariants.{Store}
 use Rattle.rule_base.specs.declared.views.TrailItem.{TrailItem}
-use Rattle.rule_base.specs.declared.views.View.{View}
 use Rattle.rule_base.specs.Bridge.{items}
 use Rattle.rule_base.specs.Encodings.{free_record}
 use Rattle.rule_base.specs.History.{over, touches, without}

@@ -1,5 +1,5 @@
 -- The end of an attempt that has no entry.
-use Rattle.std.specs.Prelude.{ℕ, ◌≡◌, ◌≤◌, false, [], Some}
+use Rattle.std.specs.Prelude.{ℕ, ◌≡◌, false, []}
 use Rattle.stm_model.specs.declared.config.Config.{Config}
 use Rattle.rule_base.specs.declared.views.View.{View}
 use Rattle.rule_base.specs.Bridge.{items}

@@ -12,7 +12,9 @@ ghost use Rattle.stm_gate.specs.Knowing.{known, number};
 ghost use Rattle.stm_gate.specs.Starts.{CanBegin, Starts};
 ghost use Rattle.alg_orec.specs.Loading.{CanLoadValid, LoadsValid, Samples};
 
+pub use crate::committing::{cancel, commit};
 use crate::ending::roll_back;
+pub use crate::granting::become_irrevocable;
 use crate::validate::validate;
 use rule_base::words::{is_owned, version_of};
 use steps_orec::reading;

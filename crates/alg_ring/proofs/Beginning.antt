@@ -1,6 +1,6 @@
 -- What the begin of RingSW comes to.
-use Rattle.std.proofs.Common.{ℕ, ◌≡◌, ◌<◌, ◌≤◌, ◌+◌, List, [], ◌∷◌, ◌++◌, Bool, true, false, refl, sym, ap, ◌∙◌, arith, subst}
-use Rattle.std.specs.Prelude.{Some, slice_index, replicate, map}
+use Rattle.std.proofs.Common.{ℕ, ◌≡◌, ◌<◌, List, [], ◌∷◌, ◌++◌, true, false, refl, sym, ap, ◌∙◌, arith, subst}
+use Rattle.std.specs.Prelude.{Some, slice_index}
 use Rattle.std.proofs.lemmas.List.{get_or-replicate}
 use Rattle.stm_model.specs.declared.alg.Alg.{Alg}
 use Rattle.stm_model.specs.declared.alg.Alg.TheVariants.{RingSw}
@@ -12,16 +12,15 @@ use Rattle.rule_base.specs.declared.views.Act.TheVariants.{Load}
 use Rattle.rule_base.specs.declared.views.View.{View}
 use Rattle.rule_base.specs.Bridge.{items, of_words, public_history}
 use Rattle.rule_base.specs.History.{upto}
-use Rattle.rule_base.specs.HistoryLemmas.{upto-upto}
 use Rattle.rule_base.specs.StepKinds.{Tells, view_after}
-use Rattle.rule_base.specs.World.{World}
 use Rattle.rule_ring.specs.RingSteps.{ring_begin, CanRingBegin, RingBegins}
 use Rattle.rule_ring.specs.SlotFilter.{slot_filter}
 use Rattle.stm_rule.specs.Attempts.{no_filter}
 use Rattle.steps_ring.specs.RingFindings.{FindsStart}
-use Rattle.tx_answers.specs.Known.{known_of, granted_under, written_under}
+use Rattle.tx_answers.specs.Known.{granted_under, written_under}
 use Rattle.stm_gate.specs.Opacity.{opaque-at, later-seen}
 use Rattle.stm_gate.specs.Starts.{CanBegin, StartsAt}
+use Rattle.alg_ring.proofs.Seen.{upto-upto}
 
 -- the filter of no address
 no-word : (i : ℕ) → i < SLOT_WORDS → slice_index no_filter i ≡ slot_filter.word [] i

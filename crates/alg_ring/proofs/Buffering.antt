@@ -5,8 +5,6 @@ use Rattle.std.proofs.lemmas.Bool.Decides.{nat_tests}
 use Rattle.std.proofs.lemmas.List.{append-nil}
 use Rattle.stm_model.specs.Memories.{item_at, Once}
 use Rattle.rule_base.specs.declared.entries.Cell.{Cell}
-use Rattle.rule_base.specs.declared.layout.At.TheVariants.{Heap}
-use Rattle.rule_base.specs.declared.views.Act.TheVariants.{Store}
 use Rattle.rule_base.specs.declared.views.TrailItem.{TrailItem}
 use Rattle.rule_base.specs.declared.views.View.{View}
 use Rattle.rule_base.specs.History.{over, touches, without}

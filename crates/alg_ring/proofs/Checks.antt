@@ -1,6 +1,6 @@
 -- What the steps of a check come to.
 use Rattle.std.proofs.Common.{ℕ, ◌≡◌, ◌≢◌, ◌<◌, ◌≤◌, ◌+◌, List, [], ◌∷◌, ◌++◌, Bool, true, false, refl, sym, ap, ◌∙◌, arith, subst, inl, inr, ⊎_elim, append_assoc}
-use Rattle.std.specs.Prelude.{◌==◌, ltb, if◌then◌else◌, max, min, Option, Some, None, Result, Ok, Err}
+use Rattle.std.specs.Prelude.{◌==◌, ltb, if◌then◌else◌, max, min, Option, Some, None, Ok, Err}
 use Rattle.std.proofs.lemmas.Bool.Decides.{nat_tests}
 use Rattle.stm_model.specs.declared.config.Config.{Config}
 use Rattle.stm_model.specs.declared.stop.Cause.{Cause}
@@ -13,15 +13,15 @@ use Rattle.rule_base.specs.declared.views.TrailItem.{TrailItem}
 use Rattle.rule_base.specs.declared.views.View.{View}
 use Rattle.rule_base.specs.Bridge.{of_words}
 use Rattle.rule_base.specs.GateSteps.{granted_at}
-use Rattle.rule_base.specs.History.{upto}
-use Rattle.rule_base.specs.StepKinds.{Nothing, Tells, view_after}
+use Rattle.rule_base.specs.History.{upto, word_now, Explains}
+use Rattle.rule_base.specs.StepKinds.{Tells, view_after}
 use Rattle.rule_base.specs.World.{World}
-use Rattle.rule_promoted.specs.PromotedSteps.{ring_look_grant, ring_move_grant, CanRingGrant, CanRingMoveGrant}
-use Rattle.rule_ring.specs.RingSteps.{HasRing, ring_look, ring_again, CanRingAgain, ring_move, CanRingLook, CanRingMove, AllClear, RingSees, RingMoves, read_in, passed, moved, lesser}
+use Rattle.rule_promoted.specs.PromotedSteps.{ring_look_grant, ring_move_grant}
+use Rattle.rule_ring.specs.RingSteps.{HasRing, ring_look, ring_again, ring_move, CanRingMove, AllClear, RingSees, RingMoves, read_in, passed, moved}
 use Rattle.rule_ring.specs.SlotFilter.{slot_filter}
 use Rattle.rule_ring.specs.Slots.{slot_place}
 use Rattle.steps_ring.specs.RingFindings.{FindsLook, FindsAgain, FindsMove, FindsLevel}
-use Rattle.alg_ring.specs.Checking.{InTrail, with_words, CanScan, Meeting, MeetsOne, OneMeets, Refutes, scanned, Scans, CanCheck, CanCheckToGrant, passed_at, Passes, Fails, Checks, ChecksToGrant, IsFilterOf}
+use Rattle.alg_ring.specs.Checking.{InTrail, with_words, CanScan, Meeting, MeetsOne, OneMeets, Refutes, scanned, Scans, CanCheck, CanCheckToGrant, Passes, Fails, Checks, ChecksToGrant}
 use Rattle.alg_ring.proofs.Words.{trail-right, trail-left}
 
 meeting-right : (ring : ℕ) (filter : List ℕ) (time bits : ℕ) (more xs : List TrailItem) → Meeting ring filter time bits xs → Meeting ring filter time bits (more ++ xs)
@@ -89,17 +89,6 @@ module _ (c : Config) (start clock : ℕ) (filter : List ℕ) where
           sure : ltb later (v.attempt.start + c.ring) ≡ true
           sure = let e = can.start_is in let k : later < v.attempt.start + c.ring = omega arith in grind (arith, nat_tests)
 
-    met-is : (w : View) (r : Option Cause) → MeetsOne c start clock r filter v w → (words : List SlotWord) × (more : List TrailItem) × (w ≡ with_words v words more)
-    met-is w None m = (m.0, m.1, m.2)
-    met-is w (Some cause) m = (m.0, m.1, m.2)
-
-    -- the clock may be loaded behind the slots
-    pub may-again : (w : View) (r : Option Cause) → MeetsOne c start clock r filter v w → CanRingAgain w
-    may-again w r m = let k = met-is w r m in subst CanRingAgain (sym k.2) (record { has = record { runs = record { phase = can.has.runs.phase; algorithm = can.has.runs.algorithm; plain = can.has.runs.plain }; inside = can.has.inside }; checking = can.checking })
-
-    pub start-again : (w : View) (r : Option Cause) → MeetsOne c start clock r filter v w → w.attempt.start ≡ start
-    start-again w r m = let k = met-is w r m in ap (λ (y : View). y.attempt.start) k.2 ∙ can.start_is
-
 -- the view after the load of the clock, by whether it is the start
 abbrev pub looked_at : View → ℕ → Bool → View
 looked_at v clock b = record v {
@@ -128,6 +117,7 @@ module _ (good : List ℕ → Type 0) (c : Config) (start : ℕ) (filter : List 
           steps = record v.steps { trail = record { place = Clock; act = Load; found = Some clock } ∷ v.steps.trail };
         });
         sees = subst (RingSees rule c m v) start_is s;
+        kept = subst (λ (k : ℕ). Explains (word_now (upto m.history k)) v.attempt.reads) start_is f.kept;
         later = (let e = start_is in omega arith);
         inside = has.inside;
         settled = refl;
@@ -135,19 +125,6 @@ module _ (good : List ℕ → Type 0) (c : Config) (start : ℕ) (filter : List 
         moves = inl (sym start_is);
         sole = λ one. sym start_is;
       }
-
-  -- what the loads of the slots ask
-  pub may-scan-at : (m : World) (clock : ℕ) (w : View) → HasRing v → v.attempt.start ≡ start → IsFilterOf filter v.ring_read.watched → FindsLook rule c m v clock → w ≡ looked_at v clock false → CanScan start clock filter w
-  may-scan-at m clock w has start_is watched f is = subst (CanScan start clock filter) (sym is) (record {
-    has = record { runs = record { phase = has.runs.phase; algorithm = has.runs.algorithm; plain = has.runs.plain }; inside = has.inside };
-    checking = refl;
-    unsure = refl;
-    empty = refl;
-    start_is = start_is;
-    clock_is = refl;
-    later = (let l = f.looks.later in let e = start_is in omega arith);
-    watched = watched;
-  })
 
   -- the check fails
   pub fails-at : (m : World) (clock : ℕ) (cause : Cause) (w u : View) → v.attempt.start ≡ start → (c.callers ≡ 1 → start ≡ c.clock + v.steps.rises) → clock ≢ start → FindsLook rule c m v clock → w ≡ looked_at v clock false → Scans c start clock (Err cause) filter w u → Fails good c cause filter v u
@@ -173,8 +150,9 @@ module _ (good : List ℕ → Type 0) (c : Config) (start : ℕ) (filter : List 
   -- the check passes with the load of DONE
   pub moves-at : (m n : World) (clock done : ℕ) (gate : GateView) (words : List SlotWord) (more : List TrailItem) (w : View) → v.attempt.start ≡ start → HasRing v → clock ≢ start → (c.callers ≡ 1 → start ≡ c.clock + v.steps.rises) → FindsLook rule c m v clock
       → RingMoves rule c n (scanned c start clock (looked_at v clock false) words true more) done
+      → Explains (word_now (upto n.history (moved (scanned c start clock (looked_at v clock false) words true more) done))) v.attempt.reads
       → w ≡ record (view_after ring_move n (scanned c start clock (looked_at v clock false) words true more) done) { gate = gate } → Passes good c gate (max start (min done clock)) v w
-  moves-at m n clock done gate words more w start_is has apart sole f r is = record {
+  moves-at m n clock done gate words more w start_is has apart sole f r kept is = record {
     world = n;
     read = passed (record v.ring_read { checking = true; clock = clock; words = words; sure = true });
     more = move_steps clock done more;
@@ -186,6 +164,7 @@ module _ (good : List ℕ → Type 0) (c : Config) (start : ℕ) (filter : List 
       steps = record v.steps { trail = ap (λ (t : List TrailItem). record { place = Done; act = Load; found = Some done } ∷ t) (sym (append_assoc more (record { place = Clock; act = Load; found = Some clock } ∷ []) v.steps.trail)) i };
     });
     sees = subst (RingSees rule c n v) to (record { value = r.sees.value; sees = r.sees.sees; begins = record { legal = r.sees.begins.legal; below = r.sees.begins.below; seen = r.sees.begins.seen; front = r.sees.begins.front; limit = r.sees.begins.limit } });
+    kept = subst (λ (k : ℕ). Explains (word_now (upto n.history k)) v.attempt.reads) to kept;
     later = (let e = start_is in omega arith);
     inside = has.inside;
     settled = refl;
@@ -220,9 +199,6 @@ module _ (good : List ℕ → Type 0) (c : Config) (start : ℕ) (filter : List 
       λ taken early ticked. sym e ∙ t.1.ticked taken ticked,
     )
 
-    pub check-scans : clock ≢ start → CanScan start clock filter w
-    check-scans d = may-scan-at t.0 clock w can.has can.start_is can.watched t.1 (look-path clock w false (other-start d) t)
-
     pub check-fails : (cause : Cause) (u : View) → clock ≢ start → Scans c start clock (Err cause) filter w u → Checks good c (Err cause) filter v u
     check-fails cause u d s = fails-at t.0 clock cause w u can.start_is can.sole d t.1 (look-path clock w false (other-start d) t) s
 
@@ -230,7 +206,7 @@ module _ (good : List ℕ → Type 0) (c : Config) (start : ℕ) (filter : List 
     check-moves r u x done d s k =
         let path = scanned-path clock s.0 s.1 w u (look-path clock w false (other-start d) t) s.2 in
         let f = subst (λ (y : View). FindsMove rule c k.0 y done) path k.1 in (
-          moves-at t.0 k.0 clock done v.gate s.0 s.1 x can.start_is can.has d can.sole t.1 f.moves (k.2 ∙ ap (λ (y : View). view_after ring_move k.0 y done) path),
+          moves-at t.0 k.0 clock done v.gate s.0 s.1 x can.start_is can.has d can.sole t.1 f.moves f.kept (k.2 ∙ ap (λ (y : View). view_after ring_move k.0 y done) path),
           λ taken early ticked. let a = f.level taken early ticked can.uncalm in let b = t.1.ticked taken ticked in let l = t.1.looks.later in let e = can.start_is in omega arith,
         )
 
@@ -259,26 +235,8 @@ module _ (good : List ℕ → Type 0) (c : Config) (start : ℕ) (filter : List 
           (record { place = Clock; act = Load; found = Some clock } ∷ [], ap (λ (y : View). y.steps.trail) path, subst (λ (k : ℕ). InTrail (record { place = Clock; act = Load; found = Some clock } ∷ []) Clock k) e (Load, (0, omega arith, refl))),
         )
 
-    pub grant-scans : clock ≢ start → CanScan start clock filter w
-    grant-scans d = may-scan-at t.0 clock w can.grant.has can.start_is can.watched t.1 (grant-path clock w false (other-grant d) t)
-
     pub grant-fails : (cause : Cause) (u : View) → clock ≢ start → Scans c start clock (Err cause) filter w u → ChecksToGrant good c (Err cause) filter v u
     grant-fails cause u d s = fails-at t.0 clock cause w u can.start_is can.sole d t.1 (grant-path clock w false (other-grant d) t) s
-
-    pub grant-may : (r : Unit {0}) (u : View) → clock ≢ start → Scans c start clock (Ok r) filter w u → CanRingMoveGrant slot_filter u
-    grant-may r u d s =
-        let path = scanned-path clock s.0 s.1 w u (grant-path clock w false (other-grant d) t) s.2 in
-        let g = can.grant in record {
-          grant = subst CanRingGrant (sym path) (record {
-            has = record { runs = record { phase = g.has.runs.phase; algorithm = g.has.runs.algorithm; plain = g.has.runs.plain }; inside = g.has.inside };
-            calm = g.calm;
-            limit = g.limit;
-            unlocked = g.unlocked;
-            uncommitted = g.uncommitted;
-            unwritten = g.unwritten;
-          });
-          move = s.3;
-        }
 
     pub grant-moves : (r : Unit {0}) (u x : View) (done : ℕ) → clock ≢ start → Scans c start clock (Ok r) filter w u → Tells ring_move_grant (FindsLevel rule c) u done x → ChecksToGrant good c (Ok (max start (min done clock))) filter v x
     grant-moves r u x done d s k =
@@ -294,7 +252,7 @@ module _ (good : List ℕ → Type 0) (c : Config) (start : ℕ) (filter : List 
         let here : (moved y done == v.gate.time) ≡ true = grind (arith, nat_tests) in
         let last : x ≡ record (view_after ring_move k.0 y done) { gate = granted_at v.gate.time v.gate } = k.2 ∙ (ap (λ (q : View). view_after ring_move_grant k.0 q done) path ∙ ap (λ (b : Bool). record (view_after ring_move k.0 y done) { gate = if b then granted_at v.gate.time v.gate else v.gate }) here) in
         let more : List TrailItem = record { place = Done; act = Load; found = Some done } ∷ (s.1 ++ record { place = Clock; act = Load; found = Some clock } ∷ []) in (
-          moves-at t.0 k.0 clock done (granted_at v.gate.time v.gate) s.0 s.1 x is_start can.grant.has d can.sole t.1 f.moves last,
+          moves-at t.0 k.0 clock done (granted_at v.gate.time v.gate) s.0 s.1 x is_start can.grant.has d can.sole t.1 f.moves f.kept last,
           end,
           (
             more,

@@ -1,5 +1,5 @@
 -- What stands of an attempt of RingSW that isn't promoted, and how it ends without its entry.
-use Rattle.std.proofs.Common.{ℕ, ◌≡◌, ◌≤◌, ◌+◌, List, Bool, true, false, refl, sym, ap, ◌∙◌, arith, subst}
+use Rattle.std.proofs.Common.{ℕ, ◌≡◌, List, Bool, true, false, sym, ap, ◌∙◌, arith, subst}
 use Rattle.std.specs.Prelude.{not, ◌&&◌}
 use Rattle.stm_model.specs.Algorithms.{has_records, is_sure, closes_gate}
 use Rattle.stm_model.specs.Memories.{is_empty}

@@ -1,4 +1,5 @@
 pub mod Seats
+pub mod Seen
 pub mod Words
 pub mod Meeting
 pub mod Slot
@@ -6,3 +7,13 @@ pub mod Checks
 pub mod Beginning
 pub mod Ending
 pub mod Buffering
+pub mod CellsOf
+pub mod FilterWords
+pub mod Refuting
+pub mod Reading
+pub mod Writing
+pub mod Checked
+pub mod Entering
+pub mod Finishing
+pub mod Committing
+pub mod Granting

@@ -1,6 +1,6 @@
 -- What the loads of slot words come to, step by step.
 use Rattle.std.proofs.Common.{ℕ, ◌≡◌, ◌≢◌, ◌<◌, ◌≤◌, ◌+◌, ◌*◌, ◌-◌, List, [], ◌∷◌, ◌++◌, Bool, true, false, refl, sym, ap, ◌∙◌, arith, subst, append_assoc}
-use Rattle.std.specs.Prelude.{◌==◌, if◌then◌else◌, slice_index, bit_and, Some, None}
+use Rattle.std.specs.Prelude.{◌==◌, slice_index, bit_and, Some, None}
 use Rattle.std.proofs.lemmas.Bool.Decides.{nat_tests}
 use Rattle.stm_model.specs.declared.config.Config.{Config}
 use Rattle.stm_model.specs.declared.stop.Cause.TheVariants as causes
@@ -11,11 +11,11 @@ use Rattle.rule_base.specs.declared.views.SlotWord.{SlotWord}
 use Rattle.rule_base.specs.declared.views.TrailItem.{TrailItem}
 use Rattle.rule_base.specs.declared.views.View.{View}
 use Rattle.rule_base.specs.StepKinds.{Nothing, Tells, view_after}
-use Rattle.rule_ring.specs.RingSteps.{HasRing, CanRingWord, ring_word, AllClear}
+use Rattle.rule_ring.specs.RingSteps.{CanRingWord, ring_word, AllClear}
 use Rattle.rule_ring.specs.SlotFilter.{slot_filter}
 use Rattle.rule_ring.specs.Slots.{slot_place, has_word, loaded_word}
-use Rattle.tx_logs.specs.Filters.{meets, part_meets, lowest_common}
-use Rattle.alg_ring.specs.Checking.{InTrail, with_words, CanLoadSlot, NoCommon, FirstCommon, LoadsPart, MeetsSlot, CanScan, Meeting, MeetsOne}
+use Rattle.tx_logs.specs.Filters.{meets, part_meets}
+use Rattle.alg_ring.specs.Checking.{InTrail, with_words, CanLoadSlot, NoCommon, FirstCommon, LoadsPart, MeetsSlot, CanScan, MeetsOne}
 use Rattle.alg_ring.proofs.Meeting.{part-yes, part-no, meets-yes, meets-no, part-same, lowest-at, ring-meets}
 use Rattle.alg_ring.proofs.Words.{front-has, back-has, loaded-some, last-here, last-else, last-of, trail-right, trail-left}
 

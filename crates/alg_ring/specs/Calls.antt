@@ -1,7 +1,5 @@
 -- What the parts of a call of RingSW ask and tell.
-use Rattle.std.specs.Prelude.{ℕ, ◌≡◌, ◌≢◌, ◌+◌, ◌<◌, ◌≤◌, ◌++◌, true, false, List, [], ◌∷◌, None}
-use Rattle.stm_model.specs.Algorithms.{asks_at_grant}
-use Rattle.stm_model.specs.Logs.{Keeps}
+use Rattle.std.specs.Prelude.{ℕ, ◌≡◌, ◌+◌, ◌≤◌, ◌++◌, true, false, List, [], ◌∷◌}
 use Rattle.stm_model.specs.Memories.{Once}
 use Rattle.stm_model.specs.declared.alg.Alg.TheVariants.{RingSw}
 use Rattle.stm_model.specs.declared.config.Config.{Config}
@@ -9,32 +7,22 @@ use Rattle.stm_model.specs.declared.config.TheConstants.{CLOCK_LIMIT}
 use Rattle.rule_base.specs.declared.entries.Entry.{Entry}
 use Rattle.rule_base.specs.declared.views.TrailItem.{TrailItem}
 use Rattle.rule_base.specs.declared.views.View.{View}
-use Rattle.rule_base.specs.Bridge.{items, of_words}
+use Rattle.rule_base.specs.Bridge.{of_words}
 use Rattle.rule_base.specs.History as rules
-use Rattle.rule_base.specs.InstallSteps.{HasChecked}
 use Rattle.rule_base.specs.Own.{Own}
 use Rattle.rule_base.specs.World.{World}
 use Rattle.rule_ring.specs.RingSteps.{RingEnters, HasTurn, HasEntered, ring_entry, no_read, no_turn}
 use Rattle.rule_seq.specs.CglSteps.{fresh_lock}
 use Rattle.tx_logs.specs.LogStates.{LogState}
 use Rattle.stm_rule.specs.declared.local.Local.{Local}
-use Rattle.stm_rule.specs.Attempts.{IsInside, IsOutside, ended, own_of}
+use Rattle.stm_rule.specs.Attempts.{IsInside, IsOutside, ended}
 use Rattle.stm_rule.specs.RecordsKept.{Buffers, cells_of}
 use Rattle.tx_answers.specs.declared.answers.Commit.{Commit}
-use Rattle.tx_answers.specs.declared.answers.Commit.TheVariants as commits
-use Rattle.tx_answers.specs.declared.answers.Irrev.{Irrev}
-use Rattle.tx_answers.specs.declared.answers.Irrev.TheVariants as grants
 use Rattle.tx_answers.specs.declared.answers.Read.{Read}
 use Rattle.tx_answers.specs.declared.answers.Read.TheVariants.{Value, Conflict, Full}
-use Rattle.tx_answers.specs.Answers.{HasRead, Commits, BecomesSure, Quits}
-use Rattle.tx_answers.specs.Causes.{Conflicts, FindsFull}
-use Rattle.tx_answers.specs.Known.{Known, known_of}
+use Rattle.tx_answers.specs.Answers.{HasRead, Commits}
+use Rattle.tx_answers.specs.Known.{known_of}
 use Rattle.alg_ring.specs.Checking.{IsFilterOf}
-
--- caller n holds the gate, and has seen all others idle since
-pub record IsAlone (callers n : ℕ) (v : View) : Type 0 where
-  pub holds : v.gate.holds ≡ true
-  pub quiet : HasChecked callers n v
 
 -- what is to be written back is stored, and nothing else changed
 pub record WritesBack (v w : View) : Type 0 where
@@ -117,11 +105,3 @@ module _ (good : List ℕ → Type 0) (c : Config) where
       pub idle : m ≡ ended l
       pub commits : (before : View) (more : List TrailItem) → v ≡ record before { lock = fresh_lock RingSw; ring_commit = no_turn; steps = record before.steps { trail = more ++ before.steps.trail } } → IsInside good c n l before
           → (o : Own) → o.buffered ≡ cells_of l.writes.items → Commits good c n result (known_of before o) (known_of w o)
-
-    -- what the check tells an attempt that is alone
-    abbrev pub Grants : Irrev → Known → Known → Type 0
-    Grants grants.Granted v w = BecomesSure good c n v w
-    Grants (grants.Busy caller status) v w = ⊥
-    Grants (grants.Taken gate) v w = ⊥
-    Grants (grants.Conflict cause) v w = Quits v w × Conflicts c n None cause v w × (1 < c.callers)
-    Grants (grants.ClockFull clock) v w = Quits v w × (asks_at_grant v.alg ≡ true) × FindsFull clock v w

@@ -1,5 +1,5 @@
 -- What the parts of a check of RingSW ask and tell.
-use Rattle.std.specs.Prelude.{ℕ, ◌≡◌, ◌≢◌, ◌+◌, ◌*◌, ◌<◌, ◌≤◌, ◌⊎◌, max, min, Bool, true, false, List, [], ◌++◌, slice_index, bit_and, Contains, Option, Some, None, Result, Ok, Err}
+use Rattle.std.specs.Prelude.{ℕ, ◌≡◌, ◌≢◌, ◌+◌, ◌*◌, ◌<◌, ◌≤◌, ◌⊎◌, max, min, Bool, true, false, List, ◌++◌, slice_index, bit_and, Contains, Option, Some, None, Result, Ok, Err}
 use Rattle.stm_model.specs.declared.config.Config.{Config}
 use Rattle.stm_model.specs.declared.stop.Cause.{Cause}
 use Rattle.stm_model.specs.declared.stop.Cause.TheVariants as causes
@@ -15,7 +15,7 @@ use Rattle.rule_base.specs.declared.views.TrailItem.{TrailItem}
 use Rattle.rule_base.specs.declared.views.View.{View}
 use Rattle.rule_base.specs.Bridge.{of_words}
 use Rattle.rule_base.specs.GateSteps.{granted_at}
-use Rattle.rule_base.specs.History.{upto}
+use Rattle.rule_base.specs.History.{upto, word_now, Explains}
 use Rattle.rule_base.specs.World.{World}
 use Rattle.rule_promoted.specs.PromotedSteps.{CanRingGrant}
 use Rattle.rule_ring.specs.RingSteps.{HasRing, AllClear, CanRingMove, RingSees, read_in}
@@ -87,7 +87,6 @@ pub record CanScan (start clock : ℕ) (filter : List ℕ) (v : View) : Type 0 w
   pub has : HasRing v
   pub checking : v.ring_read.checking ≡ true
   pub unsure : v.ring_read.sure ≡ false
-  pub empty : v.ring_read.words ≡ []
   pub start_is : v.attempt.start ≡ start
   pub clock_is : v.ring_read.clock ≡ clock
   pub later : start ≤ clock
@@ -167,6 +166,8 @@ module _ (good : List ℕ → Type 0) (c : Config) where
     pub more : List TrailItem
     pub is : w ≡ passed_at world start gate read more v
     pub sees : RingSees (of_words good c.words) c world v start
+    -- the word under way has what was read of it before
+    pub kept : Explains (word_now (upto world.history start)) v.attempt.reads
     pub later : v.attempt.start ≤ start
     pub inside : read.inside ≡ true
     pub settled : read.loaded ≡ false

@@ -12,9 +12,10 @@ ghost use Rattle.stm_rule.specs.Kept.{SeatTells, IsSameSeat, view_of};
 ghost use Rattle.stm_rule.specs.RecordsKept.{cells_of};
 ghost use Rattle.tx_answers.specs.Answers.{HasRead, HasWritten, KeepsRule, Commits, Cancels, Irrevs};
 ghost use Rattle.tx_answers.specs.Known.{IsRunning, is_irrevocable};
+ghost use Rattle.stm_gate.specs.Granting.{IsAlone, Grants};
 ghost use Rattle.stm_gate.specs.Knowing.{known, number};
 ghost use Rattle.stm_gate.specs.Starts.{CanBegin, Starts};
-ghost use Rattle.alg_ring.specs.Calls.{LoadsNew, CanFinish, Finishes, CanEnter, Enters, CanWriteBack, WritesBack, Stores, Grants, IsAlone};
+ghost use Rattle.alg_ring.specs.Calls.{LoadsNew, CanFinish, Finishes, CanEnter, Enters, CanWriteBack, WritesBack, Stores};
 
 use crate::check::{check, check_to_grant};
 use rule_base::layout::SLOT_WORDS;

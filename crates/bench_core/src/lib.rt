@@ -7,7 +7,11 @@ pub mod bench;
 mod cases;
 mod command;
 mod messages;
+#[cfg(test)]
+mod orec_tests;
 pub mod program;
+#[cfg(test)]
+mod ring_tests;
 pub mod status;
 #[cfg(test)]
 mod step_tests;

@@ -1,7 +1,11 @@
 //! `step` over a text: the trace, and what stands behind it.
 use crate::cases::{Case, check};
 use crate::status::Status;
+use std::alloc::Global;
+use std::process::Abort;
+use std::sync::Wait;
 use std::test::Fail;
+use std::thread::Threads;
 
 /// Traces, each with its report.
 const TRACES: &[Case] = &[
@@ -125,26 +129,27 @@ fn ends_a_trace_at_a_full_clock(rt: HostRuntime) -> Result<(), Fail> {
     )
 }
 
-/// Two algorithms, and the times of a commit under the one and of the next under the other.
-const INSTALLS: &[(&str, &str, u64, u64)] = &[
-    ("CGL", "CGL", 1, 2),
-    ("CGL", "Serial", 1, 2),
+/// Each algorithm, the time of a first commit under it, and that of a commit behind its install at the clock 1, and
+/// at 2.
+const ALGS: &[(&str, u64, u64, u64)] = &[
+    ("CGL", 1, 2, 3),
     // the install makes the clock even, and a writer raises it by two
-    ("CGL", "TML", 1, 4),
-    ("Serial", "CGL", 1, 2),
-    ("Serial", "Serial", 1, 2),
-    ("Serial", "TML", 1, 4),
-    ("TML", "CGL", 2, 3),
-    ("TML", "Serial", 2, 3),
-    ("TML", "TML", 2, 4),
+    ("TML", 2, 4, 4),
+    ("OrecLazy", 1, 2, 3),
+    ("RingSW", 1, 2, 3),
+    ("Serial", 1, 2, 3),
 ];
 
-/// Caller 0 commits, installs the other algorithm behind caller 1's attempt, and commits again; caller 1 reads
-/// before and after.
-#[test]
-fn installs_each_after_each(rt: HostRuntime) -> Result<(), Fail> {
-    for (from, to, first, second) in INSTALLS {
-        let alloc = rt.alloc();
+/// Caller 0 commits, installs each algorithm behind caller 1's attempt, and commits again; caller 1 reads before
+/// and after.
+fn installs_each(
+    rt: &(impl Threads + Wait + Abort + Sync),
+    alloc: Global,
+    from: &str,
+    first: u64,
+) -> Result<(), Fail> {
+    for (to, _, behind_one, behind_two) in ALGS {
+        let second = if first == 1 { *behind_one } else { *behind_two };
         let changes = format!(in alloc; "alg {from} / callers 2")?;
         let body = format!(in alloc;
             "tx 0 {{add 3 1}} / switch 0 {to} / tx 0 {{add 3 1}} / tx 1 {{read 3}} / tx 1 {{read 3}} / schedule / go 0 3 / go 1 2 / go 0 2 / go 1 1 / go 0 5"
@@ -152,13 +157,16 @@ fn installs_each_after_each(rt: HostRuntime) -> Result<(), Fail> {
         let said = format!(in alloc;
             "0 begin {from} / 0 add 1 / 0 commit committed {first} / 1 begin {from} / 1 read 1 / 0 close closed / 0 look busy 1 1 / 1 commit readonly {first} / 0 look quiet / 0 install {to} / 0 begin {to} / 0 add 2 / 0 commit committed {second} / finish / 1 begin {to} / 1 read 2 / 1 commit readonly {second} / report 1 / W {first} 0 0 : 1 / R {first} 1 0 : 1 / W {second} 0 1 : 2 / R {second} 1 1 : 2 / mem 3 2 / end"
         )?;
-        check(
-            &rt,
-            alloc,
-            "step",
-            Status::Ok,
-            &[(changes.as_str(), body.as_str(), said.as_str())],
-        )?;
+        let case = (changes.as_str(), body.as_str(), said.as_str());
+        check(rt, alloc, "step", Status::Ok, &[case])?;
+    }
+    Ok(())
+}
+
+#[test]
+fn installs_each_after_each(rt: HostRuntime) -> Result<(), Fail> {
+    for (from, first, _, _) in ALGS {
+        installs_each(&rt, rt.alloc(), from, *first)?;
     }
     Ok(())
 }

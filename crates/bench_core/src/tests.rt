@@ -60,6 +60,27 @@ const REPORTS: &[Case] = &[
         "tx 0 {write 0 5; cancel} / tx 0 {read 0; cancel} / tx 0 {read 0}",
         "report 1 / W 2 0 0 : 5 0 / C 2 0 1 : 5 1 / R 2 0 2 : 5 / mem 0 5 / end",
     ),
+    // OrecLazy and RingSW: the last write of an address counts, and a cancelled attempt leaves nothing
+    (
+        "alg OrecLazy",
+        "tx 0 {write 2 7; read 2; write 2 8} / tx 0 {write 2 9; cancel} / tx 0 {read 2}",
+        "report 1 / W 1 0 0 : 7 7 8 / C 1 0 1 : 9 1 / R 1 0 2 : 8 / mem 2 8 / end",
+    ),
+    (
+        "alg OrecLazy / writes 1",
+        "tx 0 {write 0 1; write 1 2} / tx 0 {move 1 0 2; move 1 0 2}",
+        "report 1 / W 1 0 0 : 1 2 / W 2 0 1 : 1 0 / mem 0 3 / end",
+    ),
+    (
+        "alg RingSW",
+        "tx 0 {write 2 7; read 2; write 2 8} / tx 0 {write 2 9; cancel} / tx 0 {read 2}",
+        "report 1 / W 1 0 0 : 7 7 8 / C 1 0 1 : 9 1 / R 1 0 2 : 8 / mem 2 8 / end",
+    ),
+    (
+        "alg RingSW / writes 1",
+        "tx 0 {write 0 1; write 1 2} / tx 0 {move 1 0 2; move 1 0 2}",
+        "report 1 / W 1 0 0 : 1 2 / W 2 0 1 : 1 0 / mem 0 3 / end",
+    ),
     // a script is cancelled only where no `irrev` comes before its first cancel
     (
         "alg Serial",
@@ -177,7 +198,7 @@ type Fault = (
 
 const FAULTS: &[Fault] = &[
     ("run", "words 0", "done\n", 2, 6, "range"),
-    ("run", "alg OrecLazy", "done\n", 9, 7, "alg"),
+    ("run", "alg NOrec", "done\n", 9, 7, "alg"),
     ("run", "", "", 11, 3, "unended"),
     ("run", "", "\u{e9}\n", 11, 2, "bytes"),
     ("run", "", "tx 0\nread 1", 12, 3, "unended"),
@@ -186,7 +207,7 @@ const FAULTS: &[Fault] = &[
     ("run", "", "schedule\ndone\n", 11, 4, "word"),
     ("run", "", "tx 00\nend\ndone\n", 11, 5, "number"),
     ("run", "", "tx 1\nend\ndone\n", 11, 6, "range"),
-    ("run", "", "switch 0 RingSW\ndone\n", 11, 7, "alg"),
+    ("run", "", "switch 0 Ring\ndone\n", 11, 7, "alg"),
     ("run", "", "done\n\n", 12, 11, "extra"),
     // `irrev` and `emit`
     ("run", "", "tx 0\nirrev 0\nend\ndone\n", 12, 4, "word"),

@@ -38,10 +38,10 @@ fn sums_the_adds_of_32_callers(rt: HostRuntime) -> Result<(), Fail> {
 /// The algorithms that callers 2 and 3 install, one after the other.
 const TARGETS: &[(&str, &str)] = &[
     ("TML", "Serial"),
-    ("Serial", "CGL"),
-    ("CGL", "TML"),
-    ("TML", "TML"),
-    ("Serial", "Serial"),
+    ("OrecLazy", "CGL"),
+    ("RingSW", "TML"),
+    ("CGL", "OrecLazy"),
+    ("Serial", "RingSW"),
 ];
 
 /// The text of a workload in which callers 0 and 1 add 1 to words 3 and 4, 2,000 times in all and irrevocably
@@ -67,6 +67,51 @@ fn sums_the_adds_under_switches(rt: HostRuntime) -> Result<(), Fail> {
     assert_eq!(rt; status, Status::Ok);
     assert!(rt; held.starts_with("report 1\nW "));
     assert!(rt; held.ends_with("\nmem 3 2000\nmem 4 2000\nend\n"));
+    Ok(())
+}
+
+/// The text of a workload in which 8 callers move amounts between 64 accounts 20,000 times; caller 0 first puts 1,000
+/// on each.
+fn moves(alloc: Global, alg: &str) -> Result<String, Fail> {
+    let changes = format!(in alloc; "callers 8 / words 64 / records 16 / alg {alg}")?;
+    let mut text = header(alloc, changes.as_str())?;
+    text.push_str("tx 0\n")?;
+    for account in 0..64u64 {
+        let write = format!(in alloc; "write {account} 1000\n")?;
+        text.push_str(write.as_str())?;
+    }
+    text.push_str("end\n")?;
+    for i in 0..20000u64 {
+        let (caller, from, to, amount) = (i % 8, i / 3 % 64, i / 5 % 64, i % 100);
+        let item = format!(in alloc; "tx {caller}\nmove {from} {to} {amount}\nend\n")?;
+        text.push_str(item.as_str())?;
+    }
+    text.push_str("done\n")?;
+    Ok(text)
+}
+
+/// The sum of a report's words.
+fn sum_of(report: &str) -> u64 {
+    let mut sum: u64 = 0;
+    for line in report.lines() {
+        let Some(cell) = line.strip_prefix("mem ") else {
+            continue;
+        };
+        if let Some((_, word)) = cell.split_once(' ') {
+            sum = sum.wrapping_add(word.parse::<u64>().unwrap_or(0));
+        }
+    }
+    sum
+}
+
+#[test]
+fn keeps_the_sum_of_64_accounts(rt: HostRuntime) -> Result<(), Fail> {
+    for alg in ["OrecLazy", "RingSW"] {
+        let text = moves(rt.alloc(), alg)?;
+        let (status, held) = outcome(&rt, rt.alloc(), RUN, text.as_str(), &[], 2000000)?;
+        assert_eq!(rt; status, Status::Ok);
+        assert_eq!(rt; sum_of(held.as_str()), 64000, "{alg}");
+    }
     Ok(())
 }
 

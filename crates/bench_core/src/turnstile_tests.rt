@@ -100,3 +100,64 @@ fn passes_between_the_last_operation_and_the_commit(rt: HostRuntime) -> Result<(
     assert_eq!(rt; meeting.meetings.load(Ordering::SeqCst), 0);
     Ok(())
 }
+
+/// How often a pass looks for the other caller before it gives up.
+const PATIENCE: u64 = 1000000000;
+
+/// Caller 0 waits before its first commit until caller 1 is about to commit for the second time, and caller 1 before
+/// its first until caller 0 waits. It counts who waited in vain.
+#[derive(Drop)]
+struct Crossing {
+    first: AtomicUsize,
+    second: AtomicUsize,
+    missed: AtomicUsize,
+}
+
+impl Crossing {
+    fn wait_for(&self, passes: &AtomicUsize) {
+        for _ in 0..PATIENCE {
+            if passes.load(Ordering::SeqCst) != 0 {
+                return;
+            }
+            thread::yield_now();
+        }
+        self.missed.fetch_add(1, Ordering::SeqCst);
+    }
+}
+
+impl Turnstile for Crossing {
+    fn pass(&self, caller: usize, seq: usize) {
+        if caller == 0 {
+            self.first.fetch_add(1, Ordering::SeqCst);
+            self.wait_for(&self.second);
+        } else if seq == 0 {
+            self.wait_for(&self.first);
+        } else {
+            self.second.fetch_add(1, Ordering::SeqCst);
+        }
+    }
+}
+
+/// Two attempts are open at once, and one commits in the other's middle.
+#[test]
+fn commits_inside_another_attempt(rt: HostRuntime) -> Result<(), Fail> {
+    for alg in ["OrecLazy", "RingSW"] {
+        let changes = format!(in rt.alloc(); "callers 2 / alg {alg}")?;
+        let text = workload(
+            rt.alloc(),
+            changes.as_str(),
+            "tx 0 {write 0 1} / tx 1 {write 1 1} / tx 1 {write 1 2}",
+        )?;
+        let crossing = Crossing {
+            first: AtomicUsize::new(0),
+            second: AtomicUsize::new(0),
+            missed: AtomicUsize::new(0),
+        };
+        let (status, held) =
+            outcome_through(&rt, rt.alloc(), RUN, text.as_str(), &[], 4096, &crossing)?;
+        assert_eq!(rt; status, Status::Ok);
+        assert_eq!(rt; crossing.missed.load(Ordering::SeqCst), 0);
+        assert!(rt; held.ends_with("\nmem 0 1\nmem 1 2\nend\n"));
+    }
+    Ok(())
+}

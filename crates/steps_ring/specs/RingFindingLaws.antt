@@ -1,9 +1,13 @@
 -- The law of each kind of step of RingSW with all that it shows, by the one rule.
-use Rattle.std.proofs.Common.{◌≡◌, ℕ, Bool, true, false, arith, refl, sym, subst, ap, ◌∙◌, le_trans}
+use Rattle.std.proofs.Common.{◌≡◌, ℕ, ◌+◌, ◌-◌, ◌≤◌, Bool, true, false, arith, refl, sym, subst, ap, ◌∙◌, le_trans}
 use Rattle.std.specs.Prelude.{not, if◌then◌else◌}
+use Rattle.std.proofs.lemmas.Bool.Decides.{nat_tests}
 use Rattle.stm_model.specs.declared.config.Config.{Config}
 use Rattle.rule_base.specs.declared.views.Phase.TheVariants.{Idle, In}
+use Rattle.rule_base.specs.declared.views.View.{View}
 use Rattle.rule_base.specs.GateRule.{may_hold}
+use Rattle.rule_base.specs.History.{over, touches, upto, word_at, word_now, Explains}
+use Rattle.rule_base.specs.HistoryLemmas.{over-miss, word_now-upto}
 use Rattle.rule_base.specs.InstallLaws.{nobody-calm}
 use Rattle.rule_base.specs.InstallSteps.{HasChecked}
 use Rattle.rule_base.specs.Regime.{Regime}
@@ -14,8 +18,9 @@ use Rattle.rule_base.specs.StepKinds.{StepLaw}
 use Rattle.rule_base.specs.World.{World}
 use Rattle.rule_promoted.specs.PromotedSteps.{ring_look_grant, CanRingGrant, ring_move_grant, CanRingMoveGrant}
 use Rattle.rule_ring.specs.RingRule.{late, ring_part, RingReader, RingRule}
-use Rattle.rule_ring.specs.RingSteps.{RunsRing, HasRing, ring_begin, CanRingBegin, ring_look, CanRingLook, ring_again, CanRingAgain, ring_move, CanRingMove, ring_tick, HasTurn}
+use Rattle.rule_ring.specs.RingSteps.{RunsRing, HasRing, ring_begin, CanRingBegin, ring_look, CanRingLook, ring_again, CanRingAgain, moved, ring_move, CanRingMove, ring_tick, HasTurn}
 use Rattle.rule_ring.specs.SlotFilter.{slot_filter}
+use Rattle.rule_ring.specs.Slots.{writes_of, untouched, clear}
 use Rattle.rule_seq.specs.AttemptLemmas.{busy-turn}
 use Rattle.stm_rule.specs.BesideLaws.{sole-of, uncalm}
 use Rattle.stm_rule.specs.Frames.{is-caller, only-caller}
@@ -67,6 +72,32 @@ module _ (good : (ℕ → ℕ) → Type 0) (c : Config) (n : ℕ) where
   stands : (w : World) → Whole good c w → RunsRing (w.views n) → (w.views n).lock.taken ≡ true → (w.views n).ring_commit.ticked ≡ true → w.clock ≡ (w.views n).ring_commit.clock
   stands w g runs taken ticked = sym (((rule-of w g runs).turn n taken).tick ticked)
 
+  -- what was read is the memory at the start
+  reads-stand : (w : World) → Whole good c w → HasRing (w.views n) → Explains (word_now (upto w.history (w.views n).attempt.start)) (w.views n).attempt.reads
+  reads-stand w g m a = subst (λ (k : ℕ). over (w.views n).attempt.reads a k ≡ k) (sym (word_now-upto w.history (w.views n).attempt.start a)) ((reader-of w g m).sees a)
+
+  -- what is watched is the same at all times from the start to the clock that the check loaded
+  still : (w : World) → Whole good c w → CanRingMove slot_filter (w.views n) → (t a : ℕ) → (w.views n).attempt.start ≤ t → t ≤ (w.views n).ring_read.clock → touches (w.views n).ring_read.watched a ≡ true → word_at w.history t a ≡ word_at w.history (w.views n).attempt.start a
+  still w g may t a low up watched =
+      let sum : t ≡ (w.views n).attempt.start + (t - (w.views n).attempt.start) = omega arith in
+      ap (λ (s : ℕ). word_at w.history s a) sum ∙ clear slot_filter w.history (w.clock + 1) (w.views n).attempt.start a g.history.below (t - (w.views n).attempt.start)
+      (λ e l m. untouched slot_filter w.history e a (w.views n).ring_read.watched (λ h. may.clear e l (omega arith) (slot_filter.word (writes_of w.history e)) (λ i low has. (reader-of w g may.has).sure e i may.checking may.sure l has h)) watched)
+
+  -- the new start lies between the old one and the clock that the check loaded
+  moved-between : (v : View) (done : ℕ) → v.attempt.start ≤ done → v.attempt.start ≤ v.ring_read.clock → (v.attempt.start ≤ moved v done) × (moved v done ≤ v.ring_read.clock)
+  moved-between v done p q = (grind (arith, nat_tests, p, q), grind (arith, nat_tests, p, q))
+
+  -- so what was read is the memory at the new start
+  reads-move : (w : World) → Whole good c w → CanRingMove slot_filter (w.views n) → Explains (word_now (upto w.history (moved (w.views n) w.done))) (w.views n).attempt.reads
+  reads-move w g may a = subst (λ (k : ℕ). over (w.views n).attempt.reads a k ≡ k) (sym (word_now-upto w.history (moved (w.views n) w.done) a)) (by (touches (w.views n).attempt.reads a) refl)
+    where
+      between : ((w.views n).attempt.start ≤ moved (w.views n) w.done) × (moved (w.views n) w.done ≤ (w.views n).ring_read.clock)
+      between = moved-between (w.views n) w.done (reader-of w g may.has).start ((reader-of w g may.has).onward may.checking)
+
+      by : (b : Bool) → touches (w.views n).attempt.reads a ≡ b → over (w.views n).attempt.reads a (word_at w.history (moved (w.views n) w.done) a) ≡ word_at w.history (moved (w.views n) w.done) a
+      by true t = subst (λ (k : ℕ). over (w.views n).attempt.reads a k ≡ k) (sym (still w g may (moved (w.views n) w.done) a between.0 between.1 ((reader-of w g may.has).watched a t))) ((reader-of w g may.has).sees a)
+      by false t = over-miss (w.views n).attempt.reads a (word_at w.history (moved (w.views n) w.done) a) t
+
   pub begins_beside : StepLaw (Whole good c) ring_begin (FindsStart good c) n CanRingBegin
   begins_beside w g may = let o = ring_begins good c n w g may in record {
     rule = o.rule;
@@ -82,7 +113,7 @@ module _ (good : (ℕ → ℕ) → Type 0) (c : Config) (n : ℕ) where
   looks_beside w g may = let o = ring_looks good c n w g may in record {
     rule = o.rule;
     advances = o.advances;
-    shown = record { looks = o.shown; sole = sole-of good c n w g may.has.runs.phase; ticked = stands w g may.has.runs; settled = g.install.time n };
+    shown = record { looks = o.shown; sole = sole-of good c n w g may.has.runs.phase; ticked = stands w g may.has.runs; settled = g.install.time n; kept = reads-stand w g may.has };
   }
 
   pub agains_beside : StepLaw (Whole good c) (ring_again c.ring) (FindsAgain good c) n CanRingAgain
@@ -96,7 +127,7 @@ module _ (good : (ℕ → ℕ) → Type 0) (c : Config) (n : ℕ) where
   moves_beside w g may = let o = ring_moves good c n w g may in record {
     rule = o.rule;
     advances = o.advances;
-    shown = record { moves = o.shown; level = λ taken early ticked free. o.shown.level taken early ticked (unraised w g may.has.runs free) };
+    shown = record { moves = o.shown; kept = reads-move w g may; level = λ taken early ticked free. o.shown.level taken early ticked (unraised w g may.has.runs free) };
   }
 
   pub ticks_beside : StepLaw (Whole good c) ring_tick (FindsTick good c) n HasTurn
@@ -110,7 +141,7 @@ module _ (good : (ℕ → ℕ) → Type 0) (c : Config) (n : ℕ) where
   look_grants_beside w g may = let o = look_grants good c n w g may in record {
     rule = o.rule;
     advances = o.advances;
-    shown = record { looks = o.shown; sole = sole-of good c n w g may.has.runs.phase; ticked = stands w g may.has.runs; settled = g.install.time n };
+    shown = record { looks = o.shown; sole = sole-of good c n w g may.has.runs.phase; ticked = stands w g may.has.runs; settled = g.install.time n; kept = reads-stand w g may.has };
   }
 
   pub move_grants_beside : StepLaw (Whole good c) ring_move_grant (FindsLevel good c) n (CanRingMoveGrant slot_filter)
@@ -119,6 +150,7 @@ module _ (good : (ℕ → ℕ) → Type 0) (c : Config) (n : ℕ) where
     advances = o.advances;
     shown = record {
       moves = o.shown;
+      kept = reads-move w g may.move;
       level = λ plain. (rule-of w g may.grant.has.runs).level
           (λ m. unlate w m (λ t. nobody-commits good c n w g checked may.grant.unlocked may.grant.unwritten may.grant.uncommitted m t))
           (nobody-enters good c n w g checked plain) ∙ g.install.time n may.grant.calm;

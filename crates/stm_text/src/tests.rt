@@ -92,7 +92,6 @@ fn refuses_lines(rt: HostRuntime) -> Result<(), Fail> {
         (7, "writes 4097", 6),
         (8, "clock 4611686018427387905", 6),
         (8, "clock -1", 5),
-        (9, "alg RingSW", 7),
         (9, "alg none", 7),
         (9, "algorithm CGL", 4),
         (10, "structs on", 4),

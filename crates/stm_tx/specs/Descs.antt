@@ -1,6 +1,6 @@
 -- What contracts see of a descriptor, and what an access over an attempt leaves alone.
 use Rattle.std.proofs.Common.{ℕ, ◌≡◌, List, Bool, true, false, refl, sym, ap, subst, ◌∙◌}
-use Rattle.std.specs.Prelude.{Option, Some, None, Result, Ok, Err}
+use Rattle.std.specs.Prelude.{max, Option, Some, None, Result, Ok, Err}
 use Rattle.stm_model.specs.declared.stop.Stop.TheVariants as stops
 use Rattle.tx_answers.specs.declared.answers.Read.{Read}
 use Rattle.tx_answers.specs.declared.answers.Read.TheVariants as reads
@@ -40,6 +40,10 @@ module _ {K : Type 0} where
 
   abbrev pub number : Handle K → ℕ
   number d = caller_of d.who.role
+
+-- each log is as long as it was, or as was asked, if that is more
+abbrev pub Reserves : ℕ → ℕ → Known → Known → Type 0
+Reserves reads writes v w = (w.reads_limit ≡ max v.reads_limit reads) × (w.writes_limit ≡ max v.writes_limit writes)
 
 module _ (good : List ℕ → Type 0) (c : Config) (n : ℕ) where
   -- an attempt was stopped so: what was known right before the refused call, and the address that it asked for

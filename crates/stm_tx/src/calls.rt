@@ -1,19 +1,24 @@
-//! The calls of an attempt. Each takes a descriptor and its memory. None takes memory, none waits, and
-//! all return. The cost of each in atomic steps is said by its algorithm, in `alg_seq`.
-ghost use Rattle.std.specs.Prelude.{◌≡◌, ℕ, ◌<◌, ◌&&◌, true};
+//! The calls of an attempt. Each takes a descriptor and its memory. None but `reserve` takes memory, none waits, and
+//! all return. The cost of each in atomic steps is said by its algorithm, in `alg_seq`, `alg_orec` and `alg_ring`.
+ghost use Rattle.std.specs.Prelude.{◌≡◌, ℕ, ◌<◌, ◌≤◌, ◌&&◌, true, MatchResult};
 ghost use Rattle.stm_model.specs.Algorithms.{is_built};
 ghost use Rattle.stm_rule.specs.Callers.{IsOf, IsSameCaller, IsSeatOf};
 ghost use Rattle.stm_rule.specs.Kept.{IsSameSeat, view_of};
 ghost use Rattle.tx_answers.specs.Answers.{Begins, HasRead, HasWritten, KeepsRule, Commits, Cancels, Irrevs};
 ghost use Rattle.tx_answers.specs.Known.{IsIdle, IsRunning, is_irrevocable, state_of};
 ghost use Rattle.stm_gate.specs.Starts.{CanBegin, Starts};
-ghost use Rattle.stm_tx.specs.Descs.{known, number};
+ghost use Rattle.stm_tx.specs.Descs.{Reserves, known, number};
 
+use alg_orec::orec_lazy;
+use alg_ring::ring;
 use alg_seq::{cgl, serial, tml};
 use rule_base::words::{alg_of, holder_of};
+use std::alloc::Global;
 use stm_model::alg::Alg;
+use stm_model::memory::Memory;
 use stm_model::rule::MemRule;
 use stm_rule::desc::Desc;
+use stm_rule::local::Local;
 use stm_rule::stm::{Stm, Token};
 use tx_answers::answers::{Begin, Cancel, Commit, Irrev, Read, TxState, Write};
 
@@ -24,7 +29,7 @@ use tx_answers::answers::{Begin, Cancel, Commit, Irrev, Read, TxState, Write};
 /// only where another caller's attempt has the lock or has made the clock odd, and `ClockFull` only under
 /// CGL with the clock at its limit.
 ///
-/// Two steps and the algorithm's, one more where it is refused: `Begun` costs 3 under TML, else 4.
+/// Two steps and the algorithm's, one more where it is refused: `Begun` costs 4 under CGL and Serial, else 3.
 pub fn try_begin<K: MemRule>(desc: &mut Desc<K>, stm: &Stm<K>) -> Begin
     requires stm { IsOf desc.old stm.now }
     requires idle { IsIdle (known desc.old) }
@@ -69,13 +74,19 @@ fn begin_under<K: MemRule>(
         Alg::Cgl => cgl::begin(seat, stm, caller),
         Alg::Tml => tml::begin(seat, stm, caller),
         Alg::Serial => serial::begin(seat, stm, caller),
-        Alg::OrecLazy | Alg::OrecEager | Alg::RingSw => unreachable!(),
+        Alg::OrecLazy => orec_lazy::begin(seat, stm, caller),
+        Alg::RingSw => ring::begin(seat, stm, caller),
+        Alg::OrecEager => unreachable!(),
     }
 }
 
 /// Reads the word at `a`: the attempt's last write of it, else what it read there before, else the memory
-/// at its start. It asks for a running attempt. All answers but a value end the attempt. One step; under
-/// TML two before the first write, and three or four where the attempt ends.
+/// at its start. It asks for a running attempt. All answers but a value end the attempt.
+///
+/// One step under CGL and Serial and in an attempt that was promoted; under TML two before the first write, and three
+/// or four where the attempt ends. Under OrecLazy none for a word that it wrote or read before, else three, and a
+/// validation where the word's record is newer than the start: one and one a logged read. Under RingSW none for a word
+/// that it wrote, else two, and where the clock has moved two more and at most 16 for each time since the start.
 pub fn read<K: MemRule>(desc: &mut Desc<K>, stm: &Stm<K>, a: usize) -> Read
     requires stm { IsOf desc.old stm.now }
     requires running { IsRunning (known desc.old) }
@@ -87,13 +98,17 @@ pub fn read<K: MemRule>(desc: &mut Desc<K>, stm: &Stm<K>, a: usize) -> Read
         Alg::Cgl => cgl::read(desc, stm, a),
         Alg::Tml => tml::read(desc, stm, a),
         Alg::Serial => serial::read(desc, stm, a),
-        Alg::OrecLazy | Alg::OrecEager | Alg::RingSw => unreachable!(),
+        Alg::OrecLazy => orec_lazy::read(desc, stm, a),
+        Alg::RingSw => ring::read(desc, stm, a),
+        Alg::OrecEager => unreachable!(),
     }
 }
 
 /// Writes `x` to the word at `a`, for this attempt until it commits. It asks for a running attempt. All
-/// answers but `Done` end the attempt. One step; three at most where the attempt goes on, and where Serial
-/// takes it back two more and one for each word that it wrote.
+/// answers but `Done` end the attempt.
+///
+/// None under OrecLazy and RingSW, whose writes wait for the commit. One under CGL and in an attempt that was promoted;
+/// three at most under TML and Serial, and where Serial takes it back two more and one for each word that it wrote.
 pub fn write<K: MemRule>(desc: &mut Desc<K>, stm: &Stm<K>, a: usize, x: u64) -> Write
     requires stm { IsOf desc.old stm.now }
     requires running { IsRunning (known desc.old) }
@@ -105,14 +120,21 @@ pub fn write<K: MemRule>(desc: &mut Desc<K>, stm: &Stm<K>, a: usize, x: u64) -> 
         Alg::Cgl => cgl::write(desc, stm, a, x),
         Alg::Tml => tml::write(desc, stm, a, x),
         Alg::Serial => serial::write(desc, stm, a, x),
-        Alg::OrecLazy | Alg::OrecEager | Alg::RingSw => unreachable!(),
+        Alg::OrecLazy => orec_lazy::write(desc, stm, a, x),
+        Alg::RingSw => ring::write(desc, stm, a, x),
+        Alg::OrecEager => unreachable!(),
     }
 }
 
 /// Commits the attempt. An attempt that wrote asks that it keeps the memory rule.
 ///
-/// `Committed` comes only where the attempt wrote, `ReadOnly` only where it did not. All answers but
-/// `Again` leave the descriptor idle. Three steps at most, five where the attempt was promoted.
+/// `Committed` comes only where the attempt wrote, `ReadOnly` only where it did not. All answers but `Again` leave the
+/// descriptor idle; behind `Again` the attempt is to be committed again or cancelled.
+///
+/// Three steps at most under CGL, TML and Serial, five where the attempt was promoted, and one or two where it wrote
+/// nothing. Under OrecLazy three for each record and one for each word that it wrote, two, and a validation where such
+/// a record was newer than the start and behind `Again`. Under RingSW 22, one for each word that it wrote, and the check
+/// of a read.
 pub fn commit<K: MemRule>(desc: &mut Desc<K>, stm: &Stm<K>) -> Commit
     requires stm { IsOf desc.old stm.now }
     requires running { (known desc.old).running ≡ true }
@@ -124,12 +146,15 @@ pub fn commit<K: MemRule>(desc: &mut Desc<K>, stm: &Stm<K>) -> Commit
         Alg::Cgl => cgl::commit(desc, stm),
         Alg::Tml => tml::commit(desc, stm),
         Alg::Serial => serial::commit(desc, stm),
-        Alg::OrecLazy | Alg::OrecEager | Alg::RingSw => unreachable!(),
+        Alg::OrecLazy => orec_lazy::commit(desc, stm),
+        Alg::RingSw => ring::commit(desc, stm),
+        Alg::OrecEager => unreachable!(),
     }
 }
 
 /// Ends the attempt without a trace, or answers `Irrevocable` and changes nothing: exactly where
-/// `is_irrevocable`. Two steps at most, and under Serial one for each word that it wrote.
+/// `is_irrevocable`. Two steps at most, under Serial one more for each word that it wrote, and under OrecLazy one for
+/// each record that it holds.
 pub fn cancel<K: MemRule>(desc: &mut Desc<K>, stm: &Stm<K>) -> Cancel
     requires stm { IsOf desc.old stm.now }
     requires running { (known desc.old).running ≡ true }
@@ -140,14 +165,17 @@ pub fn cancel<K: MemRule>(desc: &mut Desc<K>, stm: &Stm<K>) -> Cancel
         Alg::Cgl => cgl::cancel(desc, stm),
         Alg::Tml => tml::cancel(desc, stm),
         Alg::Serial => serial::cancel(desc, stm),
-        Alg::OrecLazy | Alg::OrecEager | Alg::RingSw => unreachable!(),
+        Alg::OrecLazy => orec_lazy::cancel(desc, stm),
+        Alg::RingSw => ring::cancel(desc, stm),
+        Alg::OrecEager => unreachable!(),
     }
 }
 
 /// Tries to make the attempt irrevocable: from `Granted` on it can only be committed, and no call of it is
 /// refused. `Busy` and `Taken` leave it running, and may be tried again; all other answers end it. No step
 /// where it is irrevocable already; one under Serial; else two to close the gate, one for each other caller
-/// that it looks at, and the load of the clock.
+/// that it looks at, and the load of the clock; then under OrecLazy one for each logged read, under RingSW the check of
+/// a read, and one for each word that it wrote.
 pub fn try_irrevocable<K: MemRule>(desc: &mut Desc<K>, stm: &Stm<K>) -> Irrev
     requires stm { IsOf desc.old stm.now }
     requires running { IsRunning (known desc.old) }
@@ -158,16 +186,56 @@ pub fn try_irrevocable<K: MemRule>(desc: &mut Desc<K>, stm: &Stm<K>) -> Irrev
         Alg::Cgl => cgl::become_irrevocable(desc, stm),
         Alg::Tml => tml::become_irrevocable(desc, stm),
         Alg::Serial => serial::become_irrevocable(desc, stm),
-        Alg::OrecLazy | Alg::OrecEager | Alg::RingSw => unreachable!(),
+        Alg::OrecLazy => orec_lazy::become_irrevocable(desc, stm),
+        Alg::RingSw => ring::become_irrevocable(desc, stm),
+        Alg::OrecEager => unreachable!(),
     }
+}
+
+/// Makes the read log `reads` items long and the logs of what is written `writes`, each 1 to 4,096, where they are
+/// shorter. It asks for an idle descriptor. It takes the room of longer logs beside that of the old ones; where memory
+/// is refused all is as before. No step.
+pub fn reserve<K: MemRule>(
+    alloc: Global,
+    desc: &mut Desc<K>,
+    reads: usize,
+    writes: usize,
+) -> Result<(), Memory>
+    requires low { (1 ≤ reads) × (1 ≤ writes) }
+    requires high { (reads ≤ 4096) × (writes ≤ 4096) }
+    requires idle { IsIdle (known desc.old) }
+    ensures same { IsSameCaller desc.old desc.new }
+    ensures view { desc.new.view ≡ desc.old.view }
+    ensures reserves { MatchResult result (λ _. Reserves reads writes (known desc.old) (known desc.new)) (λ _. desc.new ≡ desc.old) }
+{
+    if reads <= desc.local.reads.len() && writes <= desc.local.undo.len() {
+        return Ok(());
+    }
+    let Local {
+        reads: longer_reads,
+        undo,
+        writes: longer_writes,
+        locks,
+        ..
+    } = Local::idle(alloc, reads, writes)?;
+    if desc.local.reads.len() < reads {
+        desc.local.reads = longer_reads;
+    }
+    if desc.local.undo.len() < writes {
+        desc.local.undo = undo;
+        desc.local.writes = longer_writes;
+        desc.local.locks = locks;
+    }
+    Ok(())
 }
 
 /// Where the descriptor stands. No step.
 pub fn state<K: MemRule>(desc: &Desc<K>) -> TxState
     ensures { result ≡ state_of (known desc.now) }
 {
-    if desc.local.running {
-        // No algorithm that is built leaves an attempt in the middle of its commit.
+    if desc.local.running && desc.local.committing {
+        TxState::Committing(desc.local.algorithm)
+    } else if desc.local.running {
         TxState::Running(desc.local.algorithm)
     } else if desc.local.holds {
         TxState::Closing(desc.local.algorithm)

@@ -170,36 +170,26 @@ fn waits_for_a_dropped_attempt<K: MemRule>(
 
 fn two_callers(alloc: Global) -> Result<Option<bool>, NewError> {
     let (stm, mut descs) = Stm::new(alloc, memory(2), AnyMem)?;
-    let Some(mut second) = descs.pop() else {
-        return Ok(None);
-    };
-    let Some(mut first) = descs.pop() else {
-        return Ok(None);
+    let (Some(mut second), Some(mut first)) = (descs.pop(), descs.pop()) else {
+        unreachable!()
     };
     Ok(closes_looks_installs(&stm, &mut first, &mut second))
 }
 
 fn three_callers(alloc: Global) -> Result<Option<bool>, NewError> {
     let (stm, mut descs) = Stm::new(alloc, memory(3), AnyMem)?;
-    let Some(mut third) = descs.pop() else {
-        return Ok(None);
-    };
-    let Some(mut second) = descs.pop() else {
-        return Ok(None);
-    };
-    let Some(mut first) = descs.pop() else {
-        return Ok(None);
+    let (Some(mut third), Some(mut second), Some(mut first)) =
+        (descs.pop(), descs.pop(), descs.pop())
+    else {
+        unreachable!()
     };
     Ok(looks_on_and_gives_up(&stm, &mut first, &mut second, &mut third))
 }
 
 fn one_dropped(alloc: Global) -> Result<Option<bool>, NewError> {
     let (stm, mut descs) = Stm::new(alloc, memory(2), AnyMem)?;
-    let Some(mut second) = descs.pop() else {
-        return Ok(None);
-    };
-    let Some(first) = descs.pop() else {
-        return Ok(None);
+    let (Some(mut second), Some(first)) = (descs.pop(), descs.pop()) else {
+        unreachable!()
     };
     Ok(waits_for_a_dropped_attempt(&stm, first, &mut second))
 }

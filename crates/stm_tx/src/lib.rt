@@ -10,6 +10,8 @@ mod gate_tests;
 mod library_tests;
 pub mod live;
 #[cfg(test)]
+mod orec_tests;
+#[cfg(test)]
 mod serial_tests;
 #[cfg(test)]
 mod tests;

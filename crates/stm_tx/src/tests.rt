@@ -33,78 +33,102 @@ const PAIR: Config = Config {
 };
 
 /// Caller 0 writes 5 to word 0, and then caller 1 reads it. Answers whether all went so.
-fn one_writes_the_other_reads(alloc: Global) -> Result<bool, NewError> {
-    let (stm, mut descs) = Stm::new(alloc, PAIR, AnyMem)?;
-    let Some(mut second) = descs.pop() else {
-        return Ok(false);
+fn one_writes_the_other_reads(
+    stm: &Stm<AnyMem>,
+    first: &mut Desc<AnyMem>,
+    second: &mut Desc<AnyMem>,
+) -> bool
+    requires first { IsOf first.old stm.now }
+    requires second { IsOf second.old stm.now }
+    requires idle { IsIdle (known first.old) × IsIdle (known second.old) }
+    requires words { 0 < stm.now.config.words }
+{
+    let Begin::Begun(Alg::Cgl) = try_begin(first, stm) else {
+        return false;
     };
-    let Some(mut first) = descs.pop() else {
-        return Ok(false);
+    let Begin::Held { word: 1 } = try_begin(second, stm) else {
+        return false;
     };
-    let Begin::Begun(Alg::Cgl) = try_begin(&mut first, &stm) else {
-        return Ok(false);
+    let Write::Done = write(first, stm, 0, 5) else {
+        return false;
     };
-    let Begin::Held { word: 1 } = try_begin(&mut second, &stm) else {
-        return Ok(false);
+    let Cancel::Irrevocable = cancel(first, stm) else {
+        return false;
     };
-    let Write::Done = write(&mut first, &stm, 0, 5) else {
-        return Ok(false);
+    let Commit::Committed { time: 1 } = commit(first, stm) else {
+        return false;
     };
-    let Cancel::Irrevocable = cancel(&mut first, &stm) else {
-        return Ok(false);
+    let Begin::Begun(Alg::Cgl) = try_begin(second, stm) else {
+        return false;
     };
-    let Commit::Committed { time: 1 } = commit(&mut first, &stm) else {
-        return Ok(false);
-    };
-    let Begin::Begun(Alg::Cgl) = try_begin(&mut second, &stm) else {
-        return Ok(false);
-    };
-    if start(&second) != 1 || !is_irrevocable(&second) || holds_gate(&second) {
-        return Ok(false);
+    if start(second) != 1 || !is_irrevocable(second) || holds_gate(second) {
+        return false;
     }
-    let Read::Value(5) = read(&mut second, &stm, 0) else {
-        return Ok(false);
+    let Read::Value(5) = read(second, stm, 0) else {
+        return false;
     };
-    let Commit::ReadOnly { time: 1 } = commit(&mut second, &stm) else {
-        return Ok(false);
+    let Commit::ReadOnly { time: 1 } = commit(second, stm) else {
+        return false;
     };
-    Ok(state(&first) == TxState::Idle)
+    state(first) == TxState::Idle
 }
 
 /// Under this algorithm caller 0 writes 5 to word 0, commits and tells; caller 1 learns of it and begins. Answers
 /// whether it starts not before that commit, and the word that it reads.
-fn tells_and_learns(alloc: Global, alg: Alg) -> Result<Option<(bool, u64)>, NewError>
+fn tells_and_learns(
+    stm: &Stm<AnyMem>,
+    first: &mut Desc<AnyMem>,
+    second: &mut Desc<AnyMem>,
+    alg: Alg,
+) -> Option<(bool, u64)>
+    requires first { IsOf first.old stm.now }
+    requires second { IsOf second.old stm.now }
+    requires idle { IsIdle (known first.old) × IsIdle (known second.old) }
+    requires words { 0 < stm.now.config.words }
+    requires built { is_built alg ≡ true }
+{
+    if !switch(stm, first, alg) {
+        return None;
+    }
+    let Begin::Begun(_) = try_begin(first, stm) else {
+        return None;
+    };
+    let Write::Done = write(first, stm, 0, 5) else {
+        return None;
+    };
+    let Commit::Committed { time } = commit(first, stm) else {
+        return None;
+    };
+    let note = first.tell(stm);
+    second.learn(stm, note);
+    let Begin::Begun(_) = try_begin(second, stm) else {
+        return None;
+    };
+    let is_later = time >= 1 && start(second) >= time;
+    let Read::Value(word) = read(second, stm, 0) else {
+        return None;
+    };
+    Some((is_later, word))
+}
+
+/// Whether attempts of two callers go as they should under CGL.
+fn takes_turns(alloc: Global) -> Result<bool, NewError> {
+    let (stm, mut descs) = Stm::new(alloc, PAIR, AnyMem)?;
+    let (Some(mut second), Some(mut first)) = (descs.pop(), descs.pop()) else {
+        return Ok(false);
+    };
+    Ok(one_writes_the_other_reads(&stm, &mut first, &mut second))
+}
+
+/// What caller 1 learns under this algorithm.
+fn learns(alloc: Global, alg: Alg) -> Result<Option<(bool, u64)>, NewError>
     requires { is_built alg ≡ true }
 {
     let (stm, mut descs) = Stm::new(alloc, PAIR, AnyMem)?;
-    let Some(mut second) = descs.pop() else {
+    let (Some(mut second), Some(mut first)) = (descs.pop(), descs.pop()) else {
         return Ok(None);
     };
-    let Some(mut first) = descs.pop() else {
-        return Ok(None);
-    };
-    if !switch(&stm, &mut first, alg) {
-        return Ok(None);
-    }
-    let Begin::Begun(_) = try_begin(&mut first, &stm) else {
-        return Ok(None);
-    };
-    let Write::Done = write(&mut first, &stm, 0, 5) else {
-        return Ok(None);
-    };
-    let Commit::Committed { time } = commit(&mut first, &stm) else {
-        return Ok(None);
-    };
-    let note = first.tell(&stm);
-    second.learn(&stm, note);
-    let Begin::Begun(_) = try_begin(&mut second, &stm) else {
-        return Ok(None);
-    };
-    let is_later = time >= 1 && start(&second) >= time;
-    let Read::Value(word) = read(&mut second, &stm, 0) else {
-        return Ok(None);
-    };
-    Ok(Some((is_later, word)))
+    Ok(tells_and_learns(&stm, &mut first, &mut second, alg))
 }
 
 /// What a try to begin comes to where the clock opens at its limit.
@@ -162,14 +186,20 @@ fn add_in_an_attempt(alloc: Global) -> Result<Option<u64>, NewError> {
 
 #[test]
 fn two_callers_take_turns(rt: HostRuntime) -> Result<(), Fail> {
-    assert_eq!(rt; one_writes_the_other_reads(rt.alloc()), Ok(true));
+    assert_eq!(rt; takes_turns(rt.alloc()), Ok(true));
     assert_eq!(rt;
         begin_at_the_limit(rt.alloc()),
         Ok(Begin::ClockFull { clock: CLOCK_LIMIT })
     );
     assert_eq!(rt; add_in_an_attempt(rt.alloc()), Ok(Some(1)));
-    for alg in [Alg::Cgl, Alg::Tml, Alg::Serial] {
-        assert_eq!(rt; tells_and_learns(rt.alloc(), alg), Ok(Some((true, 5))));
+    for alg in [
+        Alg::Cgl,
+        Alg::Tml,
+        Alg::OrecLazy,
+        Alg::RingSw,
+        Alg::Serial,
+    ] {
+        assert_eq!(rt; learns(rt.alloc(), alg), Ok(Some((true, 5))));
     }
     Ok(())
 }

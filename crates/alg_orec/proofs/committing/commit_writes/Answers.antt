@@ -1,10 +1,8 @@
-use Rattle.std.proofs.Common.{ℕ, ◌≡◌, ◌≢◌, ◌<◌, ◌≤◌, ◌+◌, subst, sym, ap, refl, true, false, rules, arith, ◌∙◌}
+use Rattle.std.proofs.Common.{◌≡◌, ◌≢◌, ◌<◌, ◌≤◌, ◌+◌, subst, sym, ap, refl, true, false, rules, ◌∙◌}
 use Rattle.stm_model.specs.declared.config.TheConstants.{CLOCK_LIMIT}
-use Rattle.rule_base.specs.declared.seats.SeatView.{SeatView}
-use Rattle.rule_base.specs.declared.views.View.{View}
 use Rattle.rule_orec.specs.OrecSteps.{orec_limit, orec_commit}
 use Rattle.stm_rule.specs.declared.local.Local.{Local}
-use Rattle.stm_rule.specs.Attempts.{own_of, IsOutside, Stands}
+use Rattle.stm_rule.specs.Attempts.{own_of, Stands}
 use Rattle.stm_rule.specs.Kept.{good_of}
 use Rattle.stm_rule.specs.RecordsKept.{cells_of}
 use Rattle.stm_rule.specs.StandLemmas.{tells-of}
@@ -39,17 +37,14 @@ returns-in-Err-clause-commits g c =
     let u = c.prepare.new.seat.me.0.view in
     let r = c.roll_back.ensures in
     let z = c.roll_back.new.seat.me.0.view in
-    subst (λ (q : Local). answers.Commits good f n (commits.Conflict c.in-Err.cause) (known_of v o) (known_of z (own_of q))) (sym r.idle) (own-stopped l m c.in-Err.ensures.prepares.local z (λ p. answers.Commits good f n (commits.Conflict c.in-Err.cause) (known_of v o) (known_of z p)) (laws.tells-stopped good f n low l v can o refl c.in-Err.cause m u z c.in-Err.ensures.prepares r.gives_up))
+    subst (λ (q : Local). answers.Commits good f n (commits.Conflict c.in-Err.cause) (known_of v o) (known_of z (own_of q))) (sym r.idle) (own-stopped l m c.in-Err.ensures.prepares.local (λ p. answers.Commits good f n (commits.Conflict c.in-Err.cause) (known_of v o) (known_of z p)) (laws.tells-stopped good f n low l v can o refl c.in-Err.cause m u z c.in-Err.ensures.prepares r.gives_up))
 
 pub returns-in-Err-clause-stands : goal.returns-in-Err-clause-stands
 returns-in-Err-clause-stands g c =
     let f = c.args.stm.now.config in
     let good = g.K.MemRule.good c.args.stm.now.rule in
     let n = c.args.caller in
-    let low = c.requires.caller in
     let l = c.args.local.now in
-    let v = c.args.seat.now.me.0.view in
-    let o = own_of l in
     let can = c.requires.attempt in
     let m = c.prepare.new.local in
     let s = c.in-Err.ensures.prepares in
@@ -69,7 +64,7 @@ limit-clock-requires-clause-view g c =
     let can = c.requires.attempt in
     let m = c.prepare.new.local in
     let w = c.prepare.new.seat.me.0 in
-    let r = c.in-Ok.ensures.prepares in
+    let r = c.in_default.ensures.prepares in
     laws.has-orec good f n low (laws.in_commit good f n low l v can o refl m w.view r) w.view (laws.can-ready good f n low l v can o refl m w.view r) o (laws.buffered good f n low l v can o refl m w.view r)
 
 pub roll_back-requires-then-start-ge-CLOCK_LIMIT-clause-view : goal.roll_back-requires-then-start-ge-CLOCK_LIMIT-clause-view
@@ -84,7 +79,7 @@ roll_back-requires-then-start-ge-CLOCK_LIMIT-clause-view g c =
     let can = c.requires.attempt in
     let m = c.prepare.new.local in
     let w = c.prepare.new.seat.me.0 in
-    let r = c.in-Ok.ensures.prepares in
+    let r = c.in_default.ensures.prepares in
     let clock = c.limit-clock.result in
     let u = c.limit-clock.new.seat.me.0 in
     let high : CLOCK_LIMIT ≤ m.start = search rules in
@@ -103,7 +98,7 @@ returns-then-start-ge-CLOCK_LIMIT-clause-commits g c =
     let can = c.requires.attempt in
     let m = c.prepare.new.local in
     let w = c.prepare.new.seat.me.0 in
-    let r = c.in-Ok.ensures.prepares in
+    let r = c.in_default.ensures.prepares in
     let clock = c.limit-clock.result in
     let u = c.limit-clock.new.seat.me.0 in
     let high : CLOCK_LIMIT ≤ m.start = search rules in
@@ -124,7 +119,7 @@ returns-then-start-ge-CLOCK_LIMIT-clause-stands g c =
     let can = c.requires.attempt in
     let m = c.prepare.new.local in
     let w = c.prepare.new.seat.me.0 in
-    let r = c.in-Ok.ensures.prepares in
+    let r = c.in_default.ensures.prepares in
     let b = c.roll_back-then-start-ge-CLOCK_LIMIT.ensures in
     let z = c.roll_back-then-start-ge-CLOCK_LIMIT.new.seat.me.0.view in
     subst (λ (q : Local). Stands good f n q z) (sym b.idle) (laws.ended-stands good f n (record m { committing = false }) z (laws.can-ready good f n low l v can o refl m w.view r).lengths b.gives_up.outside)
@@ -141,7 +136,7 @@ commit-now-requires-clause-view g c =
     let can = c.requires.attempt in
     let m = c.prepare.new.local in
     let w = c.prepare.new.seat.me.0 in
-    let r = c.in-Ok.ensures.prepares in
+    let r = c.in_default.ensures.prepares in
     let under : m.start < CLOCK_LIMIT = search rules in
     laws.may-enter good f n low (laws.in_commit good f n low l v can o refl m w.view r) w.view (laws.can-ready good f n low l v can o refl m w.view r) o (laws.buffered good f n low l v can o refl m w.view r) refl under (laws.keeps-ready good f n low l v can o refl m w.view r c.requires.keeps)
 
@@ -157,7 +152,7 @@ returns-then-now-start-clause-commits g c =
     let can = c.requires.attempt in
     let m = c.prepare.new.local in
     let w = c.prepare.new.seat.me.0 in
-    let r = c.in-Ok.ensures.prepares in
+    let r = c.in_default.ensures.prepares in
     let rule = good_of g.K.MemRule.good f c.args.stm.now.rule in
     let now = c.commit-now.result in
     let u = c.commit-now.new.seat.me.0 in
@@ -178,7 +173,7 @@ returns-then-now-start-clause-stands g c =
     let can = c.requires.attempt in
     let m = c.prepare.new.local in
     let w = c.prepare.new.seat.me.0 in
-    let r = c.in-Ok.ensures.prepares in
+    let r = c.in_default.ensures.prepares in
     let rule = good_of g.K.MemRule.good f c.args.stm.now.rule in
     let now = c.commit-now.result in
     let u = c.commit-now.new.seat.me.0 in
@@ -199,7 +194,7 @@ finish-requires-clause-view g c =
     let can = c.requires.attempt in
     let m = c.prepare.new.local in
     let w = c.prepare.new.seat.me.0 in
-    let r = c.in-Ok.ensures.prepares in
+    let r = c.in_default.ensures.prepares in
     let rule = good_of g.K.MemRule.good f c.args.stm.now.rule in
     let now = c.commit-now.result in
     let u = c.commit-now.new.seat.me.0 in
@@ -220,7 +215,7 @@ returns-clause-commits g c =
     let can = c.requires.attempt in
     let m = c.prepare.new.local in
     let w = c.prepare.new.seat.me.0 in
-    let r = c.in-Ok.ensures.prepares in
+    let r = c.in_default.ensures.prepares in
     let rule = good_of g.K.MemRule.good f c.args.stm.now.rule in
     let now = c.commit-now.result in
     let u = c.commit-now.new.seat.me.0 in
@@ -243,12 +238,7 @@ returns-clause-stands g c =
     let can = c.requires.attempt in
     let m = c.prepare.new.local in
     let w = c.prepare.new.seat.me.0 in
-    let r = c.in-Ok.ensures.prepares in
-    let rule = good_of g.K.MemRule.good f c.args.stm.now.rule in
-    let now = c.commit-now.result in
-    let u = c.commit-now.new.seat.me.0 in
-    let ws = cells_of m.writes.items in
-    let t = tells-of (orec_commit n m.start ws ws) (FindsCommit rule f n m.start ws) w now u c.commit-now.ensures.step in
+    let r = c.in_default.ensures.prepares in
     let b = c.finish.ensures in
     let z = c.finish.new.seat.me.0.view in
     subst (λ (q : Local). Stands good f n q z) (sym b.idle) (laws.ended-stands good f n (record m { committing = false }) z (laws.can-ready good f n low l v can o refl m w.view r).lengths b.finishes.outside)

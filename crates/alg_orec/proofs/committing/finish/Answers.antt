@@ -1,8 +1,5 @@
-use Rattle.std.proofs.Common.{ℕ, ◌≡◌, List, [], ◌++◌, refl, sym, ap, ◌∙◌, subst, append_assoc, true, false}
-use Rattle.rule_base.specs.declared.views.TrailItem.{TrailItem}
+use Rattle.std.proofs.Common.{◌≡◌, ◌++◌, refl, sym, ap, ◌∙◌, subst, append_assoc, true, false}
 use Rattle.rule_base.specs.declared.views.View.{View}
-use Rattle.rule_orec.specs.OrecSteps.{HasOrec}
-use Rattle.stm_gate.specs.LeavingLaws.{IsUnmade}
 use Rattle.alg_orec.specs.Locking.{OwesNothing}
 use Rattle.alg_orec.proofs.committing.finish.Goals as goal
 

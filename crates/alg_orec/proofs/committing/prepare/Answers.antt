@@ -1,4 +1,5 @@
-use Rattle.std.proofs.Common.{ℕ, ◌≡◌, ◌<◌, ◌≤◌, [], refl, sym, ap, ◌∙◌, subst, arith, rules, true, false}
+use Rattle.std.proofs.Common.{◌≡◌, ◌≤◌, [], ap, arith, rules, true, false}
+use Rattle.std.proofs.lemmas.Result.{err_from_is_err_and}
 use Rattle.stm_rule.specs.declared.local.Local.{Local}
 use Rattle.alg_orec.proofs.CommittingLaws as laws
 use Rattle.alg_orec.proofs.committing.prepare.Goals as goal
@@ -47,7 +48,8 @@ returns-in_err-newest-clause-prepares g c =
     let l = c.args.local.now in
     let v = c.args.seat.now.me.0.view in
     let can = c.requires.attempt in
-    laws.stopped-locking good f n low l v can c.in_err-newest.field-0 c.lock_all-newest.new.local c.lock_all-newest.new.seat.me.0.view c.in_err-newest.ensures.locks
+    let p = err_from_is_err_and c.from_residual.result c.from_residual.ensures.1 in
+    rw (p.1, p.2) (laws.stopped-locking good f n low l v can _ c.lock_all.new.local c.lock_all.new.seat.me.0.view c.in_err-newest.ensures.locks)
 
 pub validate-requires-then-newest-local-clause-view : goal.validate-requires-then-newest-local-clause-view
 validate-requires-then-newest-local-clause-view g c =
@@ -58,8 +60,8 @@ validate-requires-then-newest-local-clause-view g c =
     let l = c.args.local.now in
     let v = c.args.seat.now.me.0.view in
     let can = c.requires.attempt in
-    let m = c.lock_all-newest.new.local in
-    let u = c.lock_all-newest.new.seat.me.0.view in
+    let m = c.lock_all.new.local in
+    let u = c.lock_all.new.seat.me.0.view in
     laws.may-validate good f n low l v can m u c.in_ok-newest.ensures.locks.more c.in_ok-newest.ensures.locks.locks.holds
 
 pub returns-then-newest-local-clause-prepares : goal.returns-then-newest-local-clause-prepares
@@ -71,8 +73,8 @@ returns-then-newest-local-clause-prepares g c =
     let l = c.args.local.now in
     let v = c.args.seat.now.me.0.view in
     let can = c.requires.attempt in
-    let m = c.lock_all-newest.new.local in
-    let u = c.lock_all-newest.new.seat.me.0.view in
+    let m = c.lock_all.new.local in
+    let u = c.lock_all.new.seat.me.0.view in
     laws.locked-validate good f n low l v can c.validate-then-newest-local.result c.in_ok-newest.newest m c.validate-then-newest-local.new.local u c.validate-then-newest-local.new.seat.me.0.view c.in_ok-newest.ensures.locks c.validate-then-newest-local.ensures.validates
 
 pub returns-clause-prepares : goal.returns-clause-prepares
@@ -84,8 +86,8 @@ returns-clause-prepares g c =
     let l = c.args.local.now in
     let v = c.args.seat.now.me.0.view in
     let can = c.requires.attempt in
-    let m = c.lock_all-newest.new.local in
-    let u = c.lock_all-newest.new.seat.me.0.view in
+    let m = c.lock_all.new.local in
+    let u = c.lock_all.new.seat.me.0.view in
     let free : l.committing ≡ false = search rules in
     let start : m.start ≡ l.start = ap (λ (q : Local). q.start) c.in_ok-newest.ensures.locks.locks.holds.local in
     let old : c.in_ok-newest.newest ≤ l.start = omega arith in

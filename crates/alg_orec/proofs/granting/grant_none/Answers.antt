@@ -1,4 +1,4 @@
-use Rattle.std.proofs.Common.{ℕ, ◌≡◌, ◌<◌, ◌≤◌, rules}
+use Rattle.std.proofs.Common.{◌<◌, ◌≤◌, rules}
 use Rattle.stm_model.specs.declared.config.TheConstants.{CLOCK_LIMIT}
 use Rattle.rule_orec.specs.OrecSteps.{orec_grant_all}
 use Rattle.stm_rule.specs.Kept.{good_of}
@@ -11,7 +11,6 @@ pub grant_all-time-requires-clause-view : goal.grant_all-time-requires-clause-vi
 grant_all-time-requires-clause-view g c =
     let f = c.args.stm.now.config in
     let good = g.K.MemRule.good c.args.stm.now.rule in
-    let rule = good_of g.K.MemRule.good f c.args.stm.now.rule in
     let n = c.args.caller in
     let low = c.requires.caller in
     let l = c.args.local.now in

@@ -1,6 +1,7 @@
-use Rattle.std.proofs.Common.{ℕ, ◌≡◌, ◌<◌, ◌≤◌, ◌-◌, ap, arith, rules}
+use Rattle.std.proofs.Common.{ℕ, ◌<◌, ◌≤◌, ◌-◌, ap, arith, rules, subst, sym}
 use Rattle.std.specs.Prelude.{◌%◌}
 use Rattle.stm_model.specs.declared.config.TheConstants.{CLOCK_LIMIT}
+use Rattle.stm_model.specs.declared.stop.Cause.TheVariants as causes
 use Rattle.rule_base.specs.InstallSteps.{settle}
 use Rattle.rule_base.specs.Ranks.{home_of}
 use Rattle.rule_orec.specs.OrecSteps.{orec_clock, orec_grant}
@@ -9,6 +10,8 @@ use Rattle.stm_rule.specs.Kept.{good_of}
 use Rattle.stm_rule.specs.StandLemmas.{tells-of}
 use Rattle.steps_orec.specs.RecordFindings.{FindsClock, FindsGrant}
 use Rattle.steps_orec.specs.Validating.{to_validate}
+use Rattle.tx_answers.specs.declared.answers.Irrev.TheVariants as irrevs
+use Rattle.alg_orec.specs.Granting.{IsNotGranted}
 use Rattle.alg_orec.proofs.GrantingLaws as laws
 use Rattle.alg_orec.proofs.Validity as validity
 use Rattle.alg_orec.proofs.granting.grant_valid.Goals as goal
@@ -17,7 +20,6 @@ pub settle-time-requires-clause-view : goal.settle-time-requires-clause-view
 settle-time-requires-clause-view g c =
     let f = c.args.stm.now.config in
     let good = g.K.MemRule.good c.args.stm.now.rule in
-    let rule = good_of g.K.MemRule.good f c.args.stm.now.rule in
     let n = c.args.caller in
     let low = c.requires.caller in
     let l = c.args.local.now in
@@ -30,7 +32,6 @@ pub returns-then-time-ge-CLOCK_LIMIT-clause-grants : goal.returns-then-time-ge-C
 returns-then-time-ge-CLOCK_LIMIT-clause-grants g c =
     let f = c.args.stm.now.config in
     let good = g.K.MemRule.good c.args.stm.now.rule in
-    let rule = good_of g.K.MemRule.good f c.args.stm.now.rule in
     let n = c.args.caller in
     let low = c.requires.caller in
     let l = c.args.local.now in
@@ -47,7 +48,6 @@ pub clock-requires-clause-view : goal.clock-requires-clause-view
 clock-requires-clause-view g c =
     let f = c.args.stm.now.config in
     let good = g.K.MemRule.good c.args.stm.now.rule in
-    let rule = good_of g.K.MemRule.good f c.args.stm.now.rule in
     let n = c.args.caller in
     let low = c.requires.caller in
     let l = c.args.local.now in
@@ -81,28 +81,6 @@ pass_before-requires-clause-view g c =
     let last = laws.is-last good f n low l v can time p.view first j (omega (arith, c.count-last.ensures.count, c.requires.some)) (omega (arith, c.count-last.ensures.count)) in
     validity.may-start rule f n low l p.view may j now last q.view second
 
-pub pass_before-requires-clause-checking : goal.pass_before-requires-clause-checking
-pass_before-requires-clause-checking g c =
-    let f = c.args.stm.now.config in
-    let good = g.K.MemRule.good c.args.stm.now.rule in
-    let rule = good_of g.K.MemRule.good f c.args.stm.now.rule in
-    let n = c.args.caller in
-    let low = c.requires.caller in
-    let l = c.args.local.now in
-    let s = c.args.seat.now.me.0 in
-    let v = s.view in
-    let can = c.requires.attempt in
-    let time = c.settle-time.result in
-    let p = c.settle-time.new.seat.me.0 in
-    let first = tells-of settle FindsWithin s time p c.settle-time.ensures.step in
-    let now = c.clock.result in
-    let q = c.clock.new.seat.me.0 in
-    let second = tells-of (orec_clock (to_validate (home_of f) p.view)) (FindsClock f) p now q c.clock.ensures.step in
-    let j = c.count-last.result - 1 in
-    let may = laws.may-validate good f n low l v can time p.view first in
-    let last = laws.is-last good f n low l v can time p.view first j (omega (arith, c.count-last.ensures.count, c.requires.some)) (omega (arith, c.count-last.ensures.count)) in
-    validity.starts-checking rule f n low l p.view may j now last q.view second
-
 pub returns-in-Err-clause-grants : goal.returns-in-Err-clause-grants
 returns-in-Err-clause-grants g c =
     let f = c.args.stm.now.config in
@@ -130,7 +108,6 @@ pub grant-word-requires-clause-view : goal.grant-word-requires-clause-view
 grant-word-requires-clause-view g c =
     let f = c.args.stm.now.config in
     let good = g.K.MemRule.good c.args.stm.now.rule in
-    let rule = good_of g.K.MemRule.good f c.args.stm.now.rule in
     let n = c.args.caller in
     let low = c.requires.caller in
     let l = c.args.local.now in
@@ -144,10 +121,9 @@ grant-word-requires-clause-view g c =
     let q = c.clock.new.seat.me.0 in
     let second = tells-of (orec_clock (to_validate (home_of f) p.view)) (FindsClock f) p now q c.clock.ensures.step in
     let j = c.count-last.result - 1 in
-    let may = laws.may-validate good f n low l v can time p.view first in
     let last = laws.is-last good f n low l v can time p.view first j (omega (arith, c.count-last.ensures.count, c.requires.some)) (omega (arith, c.count-last.ensures.count)) in
     let u = c.pass_before.new.seat.me.0 in
-    let h = c.in-Ok.ensures.passes in
+    let h = c.in_default.ensures.passes in
     let b = c.item-b.result.0 in
     laws.may-grant good f n low l v can time p.view first j now last q.view second u.view h b (ap (λ (w : ℕ × ℕ). w.0) c.item-b.ensures)
 
@@ -169,15 +145,15 @@ returns-in-Err-judge-clause-grants g c =
     let q = c.clock.new.seat.me.0 in
     let second = tells-of (orec_clock (to_validate (home_of f) p.view)) (FindsClock f) p now q c.clock.ensures.step in
     let j = c.count-last.result - 1 in
-    let may = laws.may-validate good f n low l v can time p.view first in
     let last = laws.is-last good f n low l v can time p.view first j (omega (arith, c.count-last.ensures.count, c.requires.some)) (omega (arith, c.count-last.ensures.count)) in
     let u = c.pass_before.new.seat.me.0 in
-    let h = c.in-Ok.ensures.passes in
+    let h = c.in_default.ensures.passes in
     let b = c.item-b.result.0 in
     let x = c.grant-word.result in
     let w = c.grant-word.new.seat.me.0 in
     let t = tells-of (orec_grant (b % f.records) b) (FindsGrant rule f n (b % f.records)) u x w c.grant-word.ensures.step in
-    laws.refused-last good f n low l v can time p.view first j now last q.view second u.view h b x w.view (ap (λ (w : ℕ × ℕ). w.0) c.item-b.ensures) c.in-Err-judge.ensures.1 t
+    subst (λ (y : causes.the_data). IsNotGranted good f n (irrevs.Conflict y) l v l w.view) (sym c.in-Err-judge.ensures.0)
+    (laws.refused-last good f n low l v can time p.view first j now last q.view second u.view h b x w.view (ap (λ (w : ℕ × ℕ). w.0) c.item-b.ensures) c.in-Err-judge.ensures.1 t)
 
 pub returns-clause-grants : goal.returns-clause-grants
 returns-clause-grants g c =
@@ -197,13 +173,12 @@ returns-clause-grants g c =
     let q = c.clock.new.seat.me.0 in
     let second = tells-of (orec_clock (to_validate (home_of f) p.view)) (FindsClock f) p now q c.clock.ensures.step in
     let j = c.count-last.result - 1 in
-    let may = laws.may-validate good f n low l v can time p.view first in
     let last = laws.is-last good f n low l v can time p.view first j (omega (arith, c.count-last.ensures.count, c.requires.some)) (omega (arith, c.count-last.ensures.count)) in
     let u = c.pass_before.new.seat.me.0 in
-    let h = c.in-Ok.ensures.passes in
+    let h = c.in_default.ensures.passes in
     let b = c.item-b.result.0 in
     let x = c.grant-word.result in
     let w = c.grant-word.new.seat.me.0 in
     let t = tells-of (orec_grant (b % f.records) b) (FindsGrant rule f n (b % f.records)) u x w c.grant-word.ensures.step in
     let under : time < CLOCK_LIMIT = search rules in
-    laws.granted-last good f n low l v can time p.view first j now last q.view second u.view h b x w.view under c.in-Ok-judge.ensures.0 c.in-Ok-judge.ensures.1 t
+    laws.granted-last good f n low l v can time p.view first j now last q.view second u.view h b x w.view under c.in_default-judge.ensures.0 c.in_default-judge.ensures.1 t

@@ -1,8 +1,7 @@
-use Rattle.std.proofs.Common.{ℕ, suc, ◌≡◌, ◌<◌, ◌+◌, List, [], ◌∷◌, length, take, get_or, refl, sym, ap, ◌∙◌, subst, arith, true}
+use Rattle.std.proofs.Common.{ℕ, suc, ◌≡◌, ◌<◌, ◌+◌, List, [], ◌∷◌, length, take, refl, sym, ap, ◌∙◌, arith}
 use Rattle.std.proofs.lemmas.List.{take_all}
 use Rattle.rule_base.specs.declared.entries.Cell.{Cell}
 use Rattle.rule_base.specs.declared.seats.SeatView.{SeatView}
-use Rattle.rule_base.specs.declared.views.View.{View}
 use Rattle.stm_rule.specs.RecordsKept.{cells_of}
 use Rattle.alg_orec.proofs.Cells.{cell, cells-next, cells-there}
 use Rattle.alg_orec.proofs.Writing.{storing, store_item, stored-step}
@@ -19,7 +18,7 @@ direct_store-requires-clause-view g c =
     record {
       granted = ap (λ (y : SeatView g.row.K.Denot). y.view.gate.granted) i.seat ∙ k.granted;
       inside = k.inside c.item-a.result.0 (rw c.item-a.ensures (cells-there c.args.local.now.writes.items c.loop-i.i low));
-      small = c.item-a.type_inv.1;
+      small = omega arith;
     }
 
 pub loop-i-preserved : goal.loop-i-preserved

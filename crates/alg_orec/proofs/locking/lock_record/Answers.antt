@@ -1,4 +1,4 @@
-use Rattle.std.proofs.Common.{◌≡◌, ◌≢◌, ◌∙◌, ℕ, sym, ap, subst, rules, arith, true, false}
+use Rattle.std.proofs.Common.{◌≡◌, ◌≢◌, ℕ, sym, subst, rules, arith, true, false}
 use Rattle.std.specs.Prelude.{Ok}
 use Rattle.rule_base.specs.Encodings.{is_owned, version_of}
 use Rattle.rule_base.specs.StepKinds.{Tells}
@@ -96,6 +96,5 @@ returns-clause-locks g c =
     let free : is_owned word ≡ false = search rules in
     let h = subst (λ (x : ℕ). Tells (orec_lock n r x) (FindsRecord f n r) s.view found u.view) is (tells-of (orec_lock n r version) (FindsRecord f n r) s found u c.lock-found.ensures.step) in
     let same : found ≡ word = search rules in
-    let m = c.push.new.local in
     subst (λ (x : ℕ). LocksOne f n r (Ok x) l v (record l { locks = c.push.new.self }) u.view) (sym is)
     (laws.has-locked f n r low l v k unheld word found s.view u.view c.push.result c.push.new.self free same t h (subst (λ (x : ℕ). Pushes l.locks r (keep r x l.locks.items) c.push.result c.push.new.self) is c.push.ensures) c.requires.new c.requires.room)

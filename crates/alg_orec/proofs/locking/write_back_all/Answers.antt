@@ -1,11 +1,9 @@
-use Rattle.std.proofs.Common.{◌≡◌, ◌<◌, List, [], ◌∷◌, length, refl, sym, ap, ◌∙◌, subst, arith, true}
+use Rattle.std.proofs.Common.{◌≡◌, ◌<◌, List, [], ◌∷◌, length, refl, sym, ap, ◌∙◌, subst, arith}
 use Rattle.rule_base.specs.declared.entries.Cell.{Cell}
 use Rattle.rule_base.specs.declared.seats.SeatView.{SeatView}
-use Rattle.rule_base.specs.declared.views.View.{View}
 use Rattle.rule_base.specs.Bridge.{items}
-use Rattle.rule_base.specs.History.{touches, without}
+use Rattle.rule_base.specs.History.{without}
 use Rattle.rule_orec.specs.OrecSteps.{HasOrec}
-use Rattle.stm_rule.specs.RecordsKept.{cells_of}
 use Rattle.stm_gate.specs.Peeling.{drop-all, peeled, no-items}
 use Rattle.alg_orec.proofs.Cells.{items-cells, cells-there}
 use Rattle.alg_orec.proofs.Writing.{owing, store_item, written-step}

@@ -1,4 +1,4 @@
-use Rattle.std.proofs.Common.{ℕ, ◌≡◌, ◌≢◌, ◌<◌, sym, arith, subst, rules}
+use Rattle.std.proofs.Common.{ℕ, ◌≡◌, ◌≢◌, sym, subst, rules}
 use Rattle.std.specs.Prelude.{Ok}
 use Rattle.rule_ring.specs.RingSteps.{ring_look, ring_move}
 use Rattle.steps_ring.specs.RingFindings.{FindsLook, FindsMove}

@@ -1,4 +1,4 @@
-use Rattle.std.proofs.Common.{ℕ, ◌≡◌, ◌≢◌, ◌<◌, sym, arith, subst, rules}
+use Rattle.std.proofs.Common.{ℕ, ◌≡◌, ◌≢◌, sym, subst, rules}
 use Rattle.std.specs.Prelude.{Ok}
 use Rattle.rule_promoted.specs.PromotedSteps.{ring_look_grant, ring_move_grant}
 use Rattle.steps_ring.specs.RingFindings.{FindsLook, FindsLevel}

@@ -1,4 +1,4 @@
-use Rattle.std.proofs.Common.{◌≡◌, ◌≢◌, ◌<◌, ◌≤◌, ◌+◌, ◌-◌, ℕ, refl, ap, ◌∙◌, arith, subst, rules}
+use Rattle.std.proofs.Common.{◌≡◌, ◌≢◌, ◌-◌, ℕ, refl, ap, ◌∙◌, arith, subst, rules}
 use Rattle.rule_base.specs.declared.seats.SeatView.{SeatView}
 use Rattle.alg_ring.proofs.Seats.{seat-on}
 use Rattle.alg_ring.proofs.Slot.{ScanSoFar, scan-first, may-scan, scan-next, scan-met, scan-all}

@@ -1,5 +1,5 @@
-use Rattle.std.proofs.Common.{◌≡◌, ◌<◌, ◌≤◌, ◌+◌, ◌*◌, refl, ap, ◌∙◌, arith, le_refl, rules}
-use Rattle.std.specs.Prelude.{slice_index, bit_and}
+use Rattle.std.proofs.Common.{◌≡◌, ◌+◌, ◌*◌, refl, ap, ◌∙◌, arith, le_refl, rules}
+use Rattle.std.specs.Prelude.{bit_and}
 use Rattle.rule_base.specs.declared.seats.SeatView.{SeatView}
 use Rattle.rule_base.specs.StepKinds.{Nothing, view_after}
 use Rattle.rule_ring.specs.RingSteps.{ring_word}

@@ -1,4 +1,4 @@
-use Rattle.std.proofs.Common.{◌≡◌, ◌<◌, ◌≤◌, ◌+◌, arith}
+use Rattle.std.proofs.Common.{◌<◌, ◌≤◌, ◌+◌, arith}
 use Rattle.rule_ring.specs.RingSteps.{ring_again}
 use Rattle.steps_ring.specs.RingFindings.{FindsAgain}
 use Rattle.stm_rule.specs.Kept.{good_of}

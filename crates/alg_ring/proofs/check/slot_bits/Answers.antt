@@ -1,4 +1,4 @@
-use Rattle.std.proofs.Common.{◌≡◌, ◌≢◌, ◌<◌, ◌≤◌, ◌+◌, refl, ap, ◌∙◌, arith, le_refl, rules}
+use Rattle.std.proofs.Common.{◌≡◌, ◌≢◌, refl, ap, ◌∙◌, arith, le_refl, rules}
 use Rattle.rule_base.specs.declared.seats.SeatView.{SeatView}
 use Rattle.alg_ring.proofs.Seats.{seat-on}
 use Rattle.alg_ring.proofs.Slot.{slot-first, slot-more, slot-apart, slot-one, slot-next, slot-all, may-slot}

@@ -1,4 +1,4 @@
-use Rattle.std.proofs.Common.{ℕ, ◌≡◌, ◌<◌, subst, sym, ap, refl, true, false, rules, ◌∙◌}
+use Rattle.std.proofs.Common.{ℕ, ◌≡◌, subst, sym, ap, refl, true, false, rules}
 use Rattle.stm_model.specs.declared.alg.Alg.TheVariants.{RingSw}
 use Rattle.stm_rule.specs.Attempts.{own_of}
 use Rattle.stm_rule.specs.Callers.{Handle, handle_of}

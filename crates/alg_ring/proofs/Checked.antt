@@ -1,0 +1,45 @@
+-- What a check showed to its caller.
+use Rattle.std.proofs.Common.{ℕ, ◌≡◌, List, ◌++◌, refl, sym, ap, ◌∙◌, subst, append_assoc}
+use Rattle.stm_model.specs.declared.config.Config.{Config}
+use Rattle.rule_base.specs.declared.entries.Entry.{Entry}
+use Rattle.rule_base.specs.declared.views.GateView.{GateView}
+use Rattle.rule_base.specs.declared.views.TrailItem.{TrailItem}
+use Rattle.rule_base.specs.declared.views.View.{View}
+use Rattle.rule_base.specs.Bridge.{of_words, public_history}
+use Rattle.rule_base.specs.History.{upto}
+use Rattle.alg_ring.proofs.Seen.{upto-upto}
+use Rattle.rule_base.specs.Own.{Own}
+use Rattle.rule_ring.specs.RingSteps.{RingBegins}
+use Rattle.tx_answers.specs.Known.{Known, Grows, known_of}
+use Rattle.stm_gate.specs.Opacity.{later-seen}
+use Rattle.alg_ring.specs.Checking.{Passes}
+use Rattle.alg_ring.proofs.Refuting.{FindsAll}
+use Rattle.alg_ring.proofs.Words.{trail-right, trail-left}
+
+-- what its steps found, between earlier and later ones of the same call
+pub finds-between : (v w : Known) (late more early : List TrailItem) → w.trail ≡ late ++ (more ++ (early ++ v.trail)) → FindsAll more v w
+finds-between v w late more early is place x found = let t = trail-right late (more ++ early) place x (trail-left more early place x found) in (
+  late ++ (more ++ early),
+  is ∙ (ap (λ (s : List TrailItem). late ++ s) (sym (append_assoc more early v.trail)) ∙ sym (append_assoc late (more ++ early) v.trail)),
+  t.0,
+  t.1,
+)
+
+-- where it passed, what the caller has seen grew
+module _ (good : List ℕ → Type 0) (c : Config) (gate : GateView) (start : ℕ) (v w : View) (p : Passes good c gate start v w) where
+  begins : RingBegins (of_words good c.words) c p.world v start
+  begins = p.sees.begins
+
+  pub passes-grows : (o q : Own) → q.reads_limit ≡ o.reads_limit → q.writes_limit ≡ o.writes_limit → Grows (known_of v o) (known_of w q)
+  passes-grows o q reads writes = subst (λ (y : View). Grows (known_of v o) (known_of y q)) (sym p.is) (
+      let f = later-seen (upto p.world.history start) v.history.front start begins.below begins.front in record {
+        later = f.0;
+        is = subst (λ (h : List Entry). public_history (upto p.world.history start) ≡ public_history h ++ f.0) (upto-upto p.world.history start v.history.front begins.front ∙ sym begins.seen) f.1;
+        ascending = f.2;
+        up_to = f.3;
+        front_rose = begins.front;
+        more = p.more;
+        trail = refl;
+        reads_limit = reads;
+        writes_limit = writes;
+      })

@@ -1,0 +1,270 @@
+-- What the steps come to by which an attempt that is alone is promoted.
+use Rattle.std.proofs.Common.{ℕ, ◌≡◌, ◌<◌, ◌≤◌, List, [], ◌∷◌, ◌++◌, Bool, true, false, refl, sym, ap, ◌∙◌, arith, subst, append_assoc}
+use Rattle.std.specs.Prelude.{None, Ok, not, ◌&&◌, if◌then◌else◌, reverse}
+use Rattle.std.proofs.lemmas.List.{append-nil}
+use Rattle.stm_model.specs.Algorithms.{has_records, asks_at_grant, closes_gate, entry_rise, is_sure}
+use Rattle.stm_model.specs.declared.alg.Alg.{Alg}
+use Rattle.stm_model.specs.declared.alg.Alg.TheVariants.{RingSw}
+use Rattle.stm_model.specs.declared.config.Config.{Config}
+use Rattle.stm_model.specs.declared.config.TheConstants.{CLOCK_LIMIT}
+use Rattle.stm_model.specs.declared.stop.Cause.{Cause}
+use Rattle.stm_model.specs.Memories.{is_empty}
+use Rattle.rule_base.specs.declared.entries.Cell.{Cell}
+use Rattle.rule_base.specs.declared.layout.At.TheVariants.{Clock}
+use Rattle.rule_base.specs.declared.views.Act.TheVariants.{Load}
+use Rattle.rule_base.specs.declared.views.RingRead.{RingRead}
+use Rattle.rule_base.specs.declared.views.TrailItem.{TrailItem}
+use Rattle.rule_base.specs.declared.views.View.{View}
+use Rattle.rule_base.specs.Bridge.{items, public_history}
+use Rattle.rule_base.specs.GateSteps.{granted_at}
+use Rattle.rule_base.specs.History.{upto, word_now, Explains, Inside}
+use Rattle.rule_base.specs.InstallSteps.{settle, CanSettle, HasChecked}
+use Rattle.rule_base.specs.Own.{Own}
+use Rattle.rule_base.specs.StepKinds.{Tells}
+use Rattle.rule_ring.specs.RingSteps.{read_in}
+use Rattle.stm_rule.specs.declared.local.Local.{Local}
+use Rattle.stm_rule.specs.Attempts.{Keeps, IsInside}
+use Rattle.stm_rule.specs.Findings.{FindsWithin}
+use Rattle.stm_rule.specs.RecordsKept.{cells_of}
+use Rattle.stm_rule.specs.RingKept.{IsRing}
+use Rattle.tx_answers.specs.declared.answers.Irrev.TheVariants as irrevs
+use Rattle.tx_answers.specs.Answers.{Quits, IsOpaque}
+use Rattle.tx_answers.specs.Evidence.{Found}
+use Rattle.tx_answers.specs.Known.{Grows, known_of, granted_under, written_under, is_irrevocable, is_in, is_closing, wrote}
+use Rattle.tx_answers.specs.KnownLaws.{grows-same, grows-trans}
+use Rattle.stm_gate.specs.Granting.{IsAlone, Grants}
+use Rattle.stm_gate.specs.Leaving.{CanLeave, left, last_steps}
+use Rattle.stm_gate.specs.LeavingLaws.{quits-left, finds-full, found-left, found-later, found-earlier}
+use Rattle.stm_gate.specs.Opacity.{opaque-at}
+use Rattle.alg_ring.specs.Calls.{Stores}
+use Rattle.alg_ring.specs.Checking.{CanCheckToGrant, ChecksToGrant, Fails, passed_at}
+use Rattle.alg_ring.proofs.Checked.{passes-grows, finds-between}
+use Rattle.alg_ring.proofs.Ending as ending
+use Rattle.alg_ring.proofs.Entering.{some-cells}
+use Rattle.alg_ring.proofs.Finishing.{clock_found}
+use Rattle.alg_ring.proofs.Refuting.{refuted}
+
+none-written : (ws : List (ℕ × ℕ)) → not (is_empty ws) ≡ false → cells_of ws ≡ []
+none-written [] e = refl
+none-written (w ∷ ws) e = absurd cc
+
+-- one that can be cancelled wasn't promoted
+pub ungranted : (good : List ℕ → Type 0) (c : Config) (n : ℕ) (l : Local) (v : View) (i : IsInside good c n l v) (named : v.gate.algorithm ≡ RingSw) (o : Own) → is_irrevocable (known_of v o) ≡ false → l.granted ≡ false
+ungranted good c n l v i named o revocable = by l.granted refl
+  where
+    by : (b : Bool) → l.granted ≡ b → b ≡ false
+    by true e = absurd (let f : true ≡ false = sym (ending.sure-granted good c n l v i named o e) ∙ revocable in cc)
+    by false e = refl
+
+module _ (good : List ℕ → Type 0) (c : Config) (n : ℕ) (l : Local) (v : View) (i : IsInside good c n l v) (named : v.gate.algorithm ≡ RingSw) (plain : l.granted ≡ false) (alone : IsAlone c.callers n v) where
+  abbrev ws : List Cell
+  ws = cells_of l.writes.items
+
+  ring : l.algorithm ≡ RingSw
+  ring = sym i.named ∙ named
+
+  k : IsRing c l v
+  k = ending.ring-of good c n l v i named plain
+
+  written-is : (o : Own) → o.buffered ≡ ws → written_under v.gate.algorithm v.gate.granted v o ≡ items ws
+  written-is o e = (λ j. written_under (named j) (k.optimistic.ungranted j) v o) ∙ ap items e
+
+  pub may-settle : CanSettle c.callers n v
+  may-settle = record { holds = alone.holds; quiet = alone.quiet }
+
+  -- the clock was loaded as the gate's holder
+  abbrev settled_at : ℕ → RingRead → List TrailItem → View
+  settled_at clock read more = record v {
+    gate = record v.gate { calm = true; time = clock; rebased = false; completed = false };
+    ring_read = read;
+    steps = record v.steps { trail = more ++ v.steps.trail };
+  }
+
+  leaves-settled : (clock : ℕ) (read : RingRead) (more : List TrailItem) → CanLeave (settled_at clock read more)
+  leaves-settled clock read more = record {
+    phase = i.phase;
+    unlocked = k.optimistic.unlocked;
+    unfixed = k.optimistic.unfixed;
+    disowned = i.disowned (ap has_records ring);
+    unwritten = k.optimistic.unwritten;
+    uncommitted = k.optimistic.uncommitted;
+    ungranted = λ e. k.optimistic.ungranted;
+    plain = λ e. i.unentered;
+    unstored = λ e. k.optimistic.unstored;
+    marked = λ e q. absurd (let f : true ≡ false = sym q ∙ i.unentered in cc);
+  }
+
+  quits-settled : (o : Own) (clock : ℕ) (read : RingRead) (more : List TrailItem) → Quits (known_of v o) (known_of (left n (settled_at clock read more)) o)
+  quits-settled o clock read more = quits-left n v (settled_at clock read more) o (record { carried = record { named = refl; base = refl; installs = refl; trail = (more, refl) }; history = refl }) (let r = k.optimistic.rises in (omega arith, omega arith)) (ending.revocable good c n l v i named k o)
+
+  module _ (clock : ℕ) (w : View) (t : Tells settle FindsWithin v clock w) where
+    settled-path : w ≡ settled_at clock v.ring_read (clock_found clock ∷ [])
+    settled-path = t.2
+
+    -- THE LIMIT
+    pub may-leave-full : CanLeave w
+    may-leave-full = subst CanLeave (sym settled-path) (leaves-settled clock v.ring_read (clock_found clock ∷ []))
+
+    pub tells-full : CLOCK_LIMIT ≤ clock → (o : Own) (y : View) → y ≡ left n w → Grants good c n (irrevs.ClockFull clock) (known_of v o) (known_of y o)
+    tells-full high o y end = subst (λ (z : View). Grants good c n (irrevs.ClockFull clock) (known_of v o) (known_of z o)) (sym (end ∙ ap (left n) settled-path)) (
+      quits-settled o clock v.ring_read (clock_found clock ∷ []),
+      ap asks_at_grant named,
+      finds-full clock v (left n (settled_at clock v.ring_read (clock_found clock ∷ []))) o o high (found-left n Clock clock v (settled_at clock v.ring_read (clock_found clock ∷ [])) o o (clock_found clock ∷ [], refl, Load, (0, omega arith, refl))),
+    )
+
+    -- THE CHECK
+    pub may-check : clock < CLOCK_LIMIT → CanCheckToGrant c l.start l.loaded w
+    may-check under = subst (CanCheckToGrant c l.start l.loaded) (sym settled-path) (record {
+      grant = record {
+        has = record { runs = record { phase = i.phase; algorithm = named; plain = k.optimistic.ungranted }; inside = k.inside };
+        calm = refl;
+        limit = under;
+        unlocked = k.optimistic.unlocked;
+        uncommitted = k.optimistic.uncommitted;
+        unwritten = k.optimistic.unwritten;
+      };
+      start_is = i.start;
+      front_is = i.front;
+      watched = k.loaded;
+      unentered = i.unentered;
+      sole = λ one. (let a = k.sole one in let b = k.optimistic.rises in omega arith);
+    })
+
+    -- it failed
+    module _ (cause : Cause) (u : View) (f : Fails good c cause l.loaded w u) where
+      failed-path : u ≡ settled_at clock f.read (f.more ++ clock_found clock ∷ [])
+      failed-path = f.is ∙ (ap (λ (y : View). record y { ring_read = f.read; steps = record y.steps { trail = f.more ++ y.steps.trail } }) settled-path
+          ∙ ap (λ (s : List TrailItem). record (settled_at clock f.read []) { steps = record v.steps { trail = s } }) (sym (append_assoc f.more (clock_found clock ∷ []) v.steps.trail)))
+
+      pub may-leave-failed : CanLeave u
+      may-leave-failed = subst CanLeave (sym failed-path) (leaves-settled clock f.read (f.more ++ clock_found clock ∷ []))
+
+      pub holds-failed : u.gate.holds ≡ v.gate.holds
+      holds-failed = ap (λ (y : View). y.gate.holds) failed-path
+
+      pub named-failed : u.gate.algorithm ≡ v.gate.algorithm
+      named-failed = ap (λ (y : View). y.gate.algorithm) failed-path
+
+      pub tells-conflict : n < c.callers → (o : Own) (y : View) → y ≡ left n u → Grants good c n (irrevs.Conflict cause) (known_of v o) (known_of y o)
+      tells-conflict low o y end = subst (λ (z : View). Grants good c n (irrevs.Conflict cause) (known_of v o) (known_of z o)) (sym (end ∙ ap (left n) failed-path)) (
+        quits-settled o clock f.read (f.more ++ clock_found clock ∷ []),
+        refuted c n None (known_of v o) (known_of (left n (settled_at clock f.read (f.more ++ clock_found clock ∷ []))) o) l.loaded w.attempt.start f.clock f.more cause named (sym (ap (λ (z : View). z.attempt.start) settled-path)) k.read
+            (finds-between (known_of v o) (known_of (left n (settled_at clock f.read (f.more ++ clock_found clock ∷ []))) o) (last_steps n v.gate.holds v.gate.algorithm) f.more (clock_found clock ∷ [])
+            (ap (λ (s : List TrailItem). last_steps n v.gate.holds v.gate.algorithm ++ s) (append_assoc f.more (clock_found clock ∷ []) v.steps.trail))) f.found f.refutes,
+        (let d = f.others in omega arith),
+      )
+
+    -- it passed: the start is the clock
+    module _ (under : clock < CLOCK_LIMIT) (start : ℕ) (u : View) (p : ChecksToGrant good c (Ok start) l.loaded w u) where
+      abbrev promoted_at : List Cell → List TrailItem → View
+      promoted_at stores more = record v {
+        history = record v.history { seen = upto p.0.world.history start; front = start };
+        gate = granted_at clock v.gate;
+        attempt = record { start = start; reads = v.attempt.reads; stores = stores; entered = v.attempt.entered };
+        ring_read = p.0.read;
+        steps = record v.steps { trail = more ++ v.steps.trail };
+      }
+
+      start-is : start ≡ clock
+      start-is = p.1 ∙ ap (λ (y : View). y.gate.time) settled-path
+
+      passed-path : u ≡ promoted_at [] (p.0.more ++ clock_found clock ∷ [])
+      passed-path = p.0.is ∙ (ap (λ (y : View). passed_at p.0.world start (granted_at y.gate.time y.gate) p.0.read p.0.more y) settled-path
+          ∙ (λ j. record (promoted_at [] []) {
+            attempt = record { start = start; reads = if k.settled j then record { at = v.ring_read.from; value = v.ring_read.value } ∷ v.attempt.reads else v.attempt.reads; stores = k.optimistic.unstored j; entered = v.attempt.entered };
+            steps = record v.steps { trail = sym (append_assoc p.0.more (clock_found clock ∷ []) v.steps.trail) j };
+          }))
+
+      pub may-store : u.gate.granted ≡ true
+      may-store = ap (λ (y : View). y.gate.granted) passed-path
+
+      pub inside : Inside c.words ws
+      inside = k.buffers.inside
+
+      sees-promoted : Explains (word_now (upto p.0.world.history start)) v.attempt.reads
+      sees-promoted = subst (λ (b : Bool). Explains (word_now (upto p.0.world.history start)) (if b then record { at = v.ring_read.from; value = v.ring_read.value } ∷ v.attempt.reads else v.attempt.reads)) k.settled
+          (subst (λ (y : View). Explains (word_now (upto p.0.world.history start)) (read_in y)) settled-path p.0.sees.sees)
+
+      abbrev promoted : Local
+      promoted = record l { start = start; granted = true }
+
+      module _ (x : View) (st : Stores l.writes u x) where
+        abbrev more : List TrailItem
+        more = st.more ++ (p.0.more ++ clock_found clock ∷ [])
+
+        stored-path : x ≡ promoted_at ws more
+        stored-path = st.is ∙ (ap (λ (y : View). record y { attempt = record y.attempt { stores = ws ++ y.attempt.stores }; steps = record y.steps { trail = st.more ++ y.steps.trail } }) passed-path
+            ∙ (λ j. record (promoted_at [] []) {
+              attempt = record { start = start; reads = v.attempt.reads; stores = append-nil ws j; entered = v.attempt.entered };
+              steps = record v.steps { trail = sym (append_assoc st.more (p.0.more ++ clock_found clock ∷ []) v.steps.trail) j };
+            }))
+
+        pub stays-promoted : l.holds ≡ true → l.committing ≡ false → IsInside good c n promoted x
+        stays-promoted holds free = subst (IsInside good c n promoted) (sym stored-path) (record {
+          phase = i.phase;
+          named = i.named;
+          built = i.built;
+          disowned = i.disowned;
+          unentered = i.unentered;
+          start = refl;
+          front = refl;
+          legal = p.0.sees.begins.legal;
+          below = p.0.sees.begins.below;
+          sees = sees-promoted;
+          reads_inside = i.reads_inside;
+          looked = λ e. let h = i.looked e in record { low = h.low; seen = h.seen; unseen = h.unseen };
+          granted = sym (ap (λ (a : Alg). closes_gate a && true) ring);
+          steady = λ e. free;
+          keeps = subst (λ (a : Alg). Keeps c a true promoted (promoted_at ws more)) (sym ring) (record {
+            granted = refl;
+            calm = refl;
+            holds = holds;
+            clear = record { unlocked = k.optimistic.unlocked; unfixed = k.optimistic.unfixed; disowned = i.disowned (ap has_records ring); unwritten = k.optimistic.unwritten; uncommitted = k.optimistic.uncommitted; unentered = i.unentered };
+            clean = λ e. none-written l.writes.items (sym k.buffers.wrote ∙ e);
+            dirty = λ e. some-cells l.writes.items (sym k.buffers.wrote ∙ e);
+            rises = k.optimistic.rises;
+            limit = (let a = start-is in let q : entry_rise l.algorithm ≡ 1 = ap entry_rise ring in omega arith);
+          });
+        })
+
+        pub holds-promoted : x.gate.holds ≡ v.gate.holds
+        holds-promoted = ap (λ (y : View). y.gate.holds) stored-path
+
+        -- what was seen, and found, up to the promotion
+        grows-promoted : (o : Own) → Grows (known_of v o) (known_of x o)
+        grows-promoted o = grows-trans (known_of v o) (known_of u o) (known_of x o)
+            (grows-trans (known_of v o) (known_of w o) (known_of u o)
+            (subst (λ (y : View). Grows (known_of v o) (known_of y o)) (sym settled-path) (grows-same (known_of v o) (known_of (settled_at clock v.ring_read (clock_found clock ∷ [])) o) refl refl (clock_found clock ∷ []) refl refl refl))
+            (passes-grows good c (granted_at w.gate.time w.gate) start w u p.0 o o refl refl))
+            (grows-same (known_of u o) (known_of x o) (ap (λ (y : View). public_history y.history.seen) st.is) (ap (λ (y : View). y.history.front) st.is) st.more (ap (λ (y : View). y.steps.trail) st.is) refl refl)
+
+        found-promoted : (o : Own) → Found Clock start (known_of v o) (known_of x o)
+        found-promoted o = found-later Clock start (known_of v o) (known_of u o) (known_of x o)
+            (found-earlier Clock start (known_of v o) (known_of w o) (known_of u o) (p.2.0, p.2.1, p.2.2.0, p.2.2.1) (clock_found clock ∷ []) (ap (λ (y : View). y.steps.trail) settled-path))
+            st.more (ap (λ (y : View). y.steps.trail) st.is)
+
+        pub tells-granted : (o : Own) → o.committing ≡ false → o.buffered ≡ ws → Grants good c n irrevs.Granted (known_of v o) (known_of x o)
+        tells-granted o free same = record {
+          continues = record {
+            running = ap (λ (y : View). is_in y.gate.phase) stored-path ∙ ap is_in i.phase;
+            closing = ap (λ (y : View). is_closing y.gate.phase) stored-path ∙ ap is_closing i.phase;
+            made = ap (λ (y : View). public_history y.history.made) stored-path;
+            grows = grows-promoted o;
+            alg = ap (λ (y : View). y.gate.algorithm) stored-path;
+            base = ap (λ (y : View). y.steps.rises_at_begin) stored-path;
+            rises = (let a : x.steps.rises ≡ v.steps.rises = ap (λ (y : View). y.steps.rises) stored-path in (omega arith, omega arith));
+            later = (let a : x.attempt.start ≡ start = ap (λ (y : View). y.attempt.start) stored-path in let b : w.attempt.start ≡ v.attempt.start = ap (λ (y : View). y.attempt.start) settled-path in let d = p.0.later in omega arith);
+            installs = ap (λ (y : View). reverse y.steps.installs) stored-path;
+          };
+          still = ap (λ (y : View). y.steps.rises) stored-path;
+          uncommitted = free;
+          log = ap (λ (y : View). (known_of y o).log) stored-path ∙ ((λ j. record { reads = items v.attempt.reads; writes = written_under (named j) true (promoted_at ws more) o }) ∙ (λ j. record { reads = items v.attempt.reads; writes = sym (written-is o same) j }));
+          sure = ap (λ (y : View). is_irrevocable (known_of y o)) stored-path ∙ ap (λ (a : Alg). is_sure a (granted_under a (granted_at clock v.gate) v.lock) (wrote (known_of (promoted_at ws more) o))) named;
+          opaque = subst (λ (y : View). IsOpaque good c n (known_of y o)) (sym stored-path) (opaque-at good c n (promoted_at ws more) o start refl refl p.0.sees.begins.legal p.0.sees.begins.below sees-promoted i.reads_inside);
+          before = λ e. absurd (let f : true ≡ false = sym e ∙ ending.revocable good c n l v i named k o in cc);
+          now = λ e. (
+            ap (λ (y : View). granted_under y.gate.algorithm y.gate y.lock) stored-path ∙ ap (λ (a : Alg). granted_under a (granted_at clock v.gate) v.lock) named,
+            subst (λ (s : ℕ). Found Clock s (known_of v o) (known_of x o)) (sym (ap (λ (y : View). y.attempt.start) stored-path)) (found-promoted o),
+          );
+          alone = λ e q. (ap (λ (y : View). y.gate.holds) stored-path ∙ alone.holds, subst (λ (y : View). HasChecked c.callers n y) (sym stored-path) alone.quiet);
+        }

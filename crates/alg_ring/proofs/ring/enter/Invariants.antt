@@ -1,0 +1,17 @@
+use Rattle.std.proofs.Common.{◌≡◌, ◌<◌, List}
+use Rattle.rule_base.specs.declared.entries.Cell.{Cell}
+use Rattle.rule_base.specs.declared.views.TrailItem.{TrailItem}
+use Rattle.stm_rule.specs.RecordsKept.{cells_of}
+use Rattle.alg_ring.proofs.Entering.{slotted_at}
+use Rattle.alg_ring.proofs.ring.enter.Given as goal
+
+abbrev pub invariant-loop-i : goal.invariant-loop-i
+invariant-loop-i g l = record {
+  table : l.seat.table_id ≡ l.initial.seat.table_id;
+  id : l.seat.id ≡ l.initial.seat.id;
+  bare : l.seat.me.1 ≡ l.initial.seat.me.1;
+  writes : List Cell;
+  more : List TrailItem;
+  same : 0 < l.i → cells_of l.local.writes.items ≡ writes;
+  seat : l.seat.me.0 ≡ record l.initial.seat.me.0 { view = slotted_at l.initial.seat.me.0.view l.i writes more };
+}
