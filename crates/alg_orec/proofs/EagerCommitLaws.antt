@@ -336,7 +336,7 @@ module _ (good : List ℕ → Type 0) (c : Config) (n : ℕ) (low : n < c.caller
               ascending = ((let a = i.front in omega arith), tt);
               up_to = (omega arith, tt);
               front_rose = (let a = i.front in omega arith);
-              more = trail.0 ++ q.more ++ tried now ∷ [];
+              more = trail.0 ++ (q.more ++ tried now ∷ []);
               trail = trail.1 ∙ (ap (λ (s : List TrailItem). trail.0 ++ s) (sym (append_assoc q.more (tried now ∷ []) v.steps.trail)) ∙ sym (append_assoc trail.0 (q.more ++ tried now ∷ []) v.steps.trail));
               reads_limit = refl;
               writes_limit = refl;

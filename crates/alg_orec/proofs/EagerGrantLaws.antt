@@ -69,7 +69,7 @@ module _ (good : List ℕ → Type 0) (c : Config) (n : ℕ) (low : n < c.caller
   abbrev rule : (ℕ → ℕ) → Type 0
   rule = of_words good c.words
 
-  versions : HasVersions l
+  pub versions : HasVersions l
   versions r version e = let p = item-some v.owned.held r version (sym (ap (item_at r) k.locks) ∙ e) in let b = k.below r p.0 in let q = p.1 in omega arith
 
   -- the view before the grant, with what it knows of the clock as the gate's holder
