@@ -13,7 +13,9 @@ ghost use Rattle.stm_gate.specs.Starts.{CanBegin, Starts};
 ghost use Rattle.alg_orec.specs.Loading.{LoadsValid};
 ghost use Rattle.alg_orec.specs.EagerTaking.{CanLoadWord};
 
+pub use crate::eager_committing::{cancel, commit};
 use crate::eager_ending::take_back;
+pub use crate::eager_granting::become_irrevocable;
 use crate::eager_taking::{store_first, take_record};
 use crate::orec_lazy::load_valid;
 use steps_orec::eager::{own_load, place};

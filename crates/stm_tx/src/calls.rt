@@ -9,7 +9,7 @@ ghost use Rattle.tx_answers.specs.Known.{IsIdle, IsRunning, is_irrevocable, stat
 ghost use Rattle.stm_gate.specs.Starts.{CanBegin, Starts};
 ghost use Rattle.stm_tx.specs.Descs.{Reserves, known, number};
 
-use alg_orec::orec_lazy;
+use alg_orec::{orec_eager, orec_lazy};
 use alg_ring::ring;
 use alg_seq::{cgl, serial, tml};
 use rule_base::words::{alg_of, holder_of};
@@ -75,8 +75,8 @@ fn begin_under<K: MemRule>(
         Alg::Tml => tml::begin(seat, stm, caller),
         Alg::Serial => serial::begin(seat, stm, caller),
         Alg::OrecLazy => orec_lazy::begin(seat, stm, caller),
+        Alg::OrecEager => orec_eager::begin(seat, stm, caller),
         Alg::RingSw => ring::begin(seat, stm, caller),
-        Alg::OrecEager => unreachable!(),
     }
 }
 
@@ -99,8 +99,8 @@ pub fn read<K: MemRule>(desc: &mut Desc<K>, stm: &Stm<K>, a: usize) -> Read
         Alg::Tml => tml::read(desc, stm, a),
         Alg::Serial => serial::read(desc, stm, a),
         Alg::OrecLazy => orec_lazy::read(desc, stm, a),
+        Alg::OrecEager => orec_eager::read(desc, stm, a),
         Alg::RingSw => ring::read(desc, stm, a),
-        Alg::OrecEager => unreachable!(),
     }
 }
 
@@ -121,8 +121,8 @@ pub fn write<K: MemRule>(desc: &mut Desc<K>, stm: &Stm<K>, a: usize, x: u64) -> 
         Alg::Tml => tml::write(desc, stm, a, x),
         Alg::Serial => serial::write(desc, stm, a, x),
         Alg::OrecLazy => orec_lazy::write(desc, stm, a, x),
+        Alg::OrecEager => orec_eager::write(desc, stm, a, x),
         Alg::RingSw => ring::write(desc, stm, a, x),
-        Alg::OrecEager => unreachable!(),
     }
 }
 
@@ -147,8 +147,8 @@ pub fn commit<K: MemRule>(desc: &mut Desc<K>, stm: &Stm<K>) -> Commit
         Alg::Tml => tml::commit(desc, stm),
         Alg::Serial => serial::commit(desc, stm),
         Alg::OrecLazy => orec_lazy::commit(desc, stm),
+        Alg::OrecEager => orec_eager::commit(desc, stm),
         Alg::RingSw => ring::commit(desc, stm),
-        Alg::OrecEager => unreachable!(),
     }
 }
 
@@ -166,8 +166,8 @@ pub fn cancel<K: MemRule>(desc: &mut Desc<K>, stm: &Stm<K>) -> Cancel
         Alg::Tml => tml::cancel(desc, stm),
         Alg::Serial => serial::cancel(desc, stm),
         Alg::OrecLazy => orec_lazy::cancel(desc, stm),
+        Alg::OrecEager => orec_eager::cancel(desc, stm),
         Alg::RingSw => ring::cancel(desc, stm),
-        Alg::OrecEager => unreachable!(),
     }
 }
 
@@ -187,8 +187,8 @@ pub fn try_irrevocable<K: MemRule>(desc: &mut Desc<K>, stm: &Stm<K>) -> Irrev
         Alg::Tml => tml::become_irrevocable(desc, stm),
         Alg::Serial => serial::become_irrevocable(desc, stm),
         Alg::OrecLazy => orec_lazy::become_irrevocable(desc, stm),
+        Alg::OrecEager => orec_eager::become_irrevocable(desc, stm),
         Alg::RingSw => ring::become_irrevocable(desc, stm),
-        Alg::OrecEager => unreachable!(),
     }
 }
 
