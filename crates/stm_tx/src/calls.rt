@@ -84,8 +84,8 @@ fn begin_under<K: MemRule>(
 /// at its start. It asks for a running attempt. All answers but a value end the attempt.
 ///
 /// One step under CGL and Serial and in an attempt that was promoted; under TML two before the first write, and three
-/// or four where the attempt ends. Under OrecLazy none for a word that it wrote or read before, else three, and a
-/// validation where the word's record is newer than the start: one and one a logged read. Under RingSW none for a word
+/// or four where the attempt ends. Under OrecLazy and OrecEager none for a word that it wrote or read before, else three,
+/// one where it holds the record, and a validation where that is newer than the start: one and one a logged read. Under RingSW none for a word
 /// that it wrote, else two, and where the clock has moved two more and at most 16 for each time since the start.
 pub fn read<K: MemRule>(desc: &mut Desc<K>, stm: &Stm<K>, a: usize) -> Read
     requires stm { IsOf desc.old stm.now }
@@ -133,7 +133,7 @@ pub fn write<K: MemRule>(desc: &mut Desc<K>, stm: &Stm<K>, a: usize, x: u64) -> 
 ///
 /// Three steps at most under CGL, TML and Serial, five where the attempt was promoted, and one or two where it wrote
 /// nothing. Under OrecLazy three for each record and one for each word that it wrote, two, and a validation where such
-/// a record was newer than the start and behind `Again`. Under RingSW 22, one for each word that it wrote, and the check
+/// a record was newer than the start and behind `Again`; under OrecEager one for each record, and two. Under RingSW 22, one for each word that it wrote, and the check
 /// of a read.
 pub fn commit<K: MemRule>(desc: &mut Desc<K>, stm: &Stm<K>) -> Commit
     requires stm { IsOf desc.old stm.now }
@@ -153,8 +153,8 @@ pub fn commit<K: MemRule>(desc: &mut Desc<K>, stm: &Stm<K>) -> Commit
 }
 
 /// Ends the attempt without a trace, or answers `Irrevocable` and changes nothing: exactly where
-/// `is_irrevocable`. Two steps at most, under Serial one more for each word that it wrote, and under OrecLazy one for
-/// each record that it holds.
+/// `is_irrevocable`. Two steps at most, under Serial one more for each word that it wrote, under OrecLazy one for each
+/// record that it holds, and under OrecEager one for each of both, and one.
 pub fn cancel<K: MemRule>(desc: &mut Desc<K>, stm: &Stm<K>) -> Cancel
     requires stm { IsOf desc.old stm.now }
     requires running { (known desc.old).running ≡ true }
@@ -174,8 +174,8 @@ pub fn cancel<K: MemRule>(desc: &mut Desc<K>, stm: &Stm<K>) -> Cancel
 /// Tries to make the attempt irrevocable: from `Granted` on it can only be committed, and no call of it is
 /// refused. `Busy` and `Taken` leave it running, and may be tried again; all other answers end it. No step
 /// where it is irrevocable already; one under Serial; else two to close the gate, one for each other caller
-/// that it looks at, and the load of the clock; then under OrecLazy one for each logged read, under RingSW the check of
-/// a read, and one for each word that it wrote.
+/// that it looks at, and the load of the clock; then under OrecLazy and OrecEager one for each logged read, under RingSW the
+/// check of a read, and one for each word that it wrote, but under OrecEager.
 pub fn try_irrevocable<K: MemRule>(desc: &mut Desc<K>, stm: &Stm<K>) -> Irrev
     requires stm { IsOf desc.old stm.now }
     requires running { IsRunning (known desc.old) }
