@@ -170,9 +170,11 @@ fn two_callers(alloc: Global) -> Result<Option<bool>, NewError> {
 
 fn three_callers(alloc: Global) -> Result<Option<bool>, NewError> {
     let (stm, mut descs) = Stm::new(alloc, memory(3), AnyMem)?;
-    let (Some(mut third), Some(mut second), Some(mut first)) =
-        (descs.pop(), descs.pop(), descs.pop())
-    else {
+    let (Some(mut third), Some(mut second), Some(mut first)) = (
+        descs.pop(),
+        descs.pop(),
+        descs.pop(),
+    ) else {
         unreachable!()
     };
     Ok(looks_on_and_gives_up(&stm, &mut first, &mut second, &mut third))
