@@ -1,10 +1,10 @@
 -- The log of what was written, with one write more.
-use Rattle.std.proofs.Common.{ℕ, ◌≡◌, ◌<◌, List, [], ◌∷◌, ◌++◌, Bool, true, false, refl, sym, ap, ◌∙◌, arith, subst}
-use Rattle.std.specs.Prelude.{◌^◌, ◌==◌, if◌then◌else◌, Some, None}
+use Rattle.std.proofs.Common.{ℕ, ◌≡◌, ◌<◌, List, [], ◌∷◌, Bool, true, false, refl, sym, ap, ◌∙◌, subst}
+use Rattle.std.specs.Prelude.{◌^◌, ◌==◌, if◌then◌else◌}
 use Rattle.stm_model.specs.Memories.{item_at, put, is_empty, Once}
 use Rattle.rule_base.specs.declared.entries.Cell.{Cell}
 use Rattle.rule_base.specs.Bridge.{items}
-use Rattle.rule_base.specs.BridgeLemmas.{item-some, item-none, items-once}
+use Rattle.rule_base.specs.BridgeLemmas.{item-some, items-once}
 use Rattle.rule_base.specs.History.{over, touches, Inside, Small}
 use Rattle.rule_base.specs.HistoryLemmas.{over-miss, over-hit, inside-more, small-more}
 use Rattle.stm_gate.specs.Logging.{item-touched}

@@ -1,14 +1,12 @@
 -- What the steps of a load come to.
-use Rattle.std.proofs.Common.{ℕ, ◌≡◌, ◌≢◌, ◌<◌, ◌≤◌, ◌+◌, ◌*◌, List, [], ◌∷◌, ◌++◌, Bool, true, false, refl, sym, ap, ◌∙◌, arith, subst, inl, inr, append_assoc}
-use Rattle.std.specs.Prelude.{◌%◌, ◌/◌, ◌⊎◌, ◌==◌, if◌then◌else◌, Option, Some, None, Result, Ok, Err, Contains}
+use Rattle.std.proofs.Common.{ℕ, ◌≡◌, ◌≢◌, ◌<◌, ◌≤◌, ◌+◌, List, [], ◌∷◌, ◌++◌, Bool, true, false, refl, sym, ap, ◌∙◌, arith, subst, inl, inr, append_assoc}
+use Rattle.std.specs.Prelude.{◌%◌, ◌⊎◌, ◌==◌, if◌then◌else◌, Some}
 use Rattle.std.proofs.lemmas.Bool.Decides.{nat_tests}
 use Rattle.std.proofs.lemmas.List.Elements.{Contains-append_left, Contains-append_right}
-use Rattle.stm_model.specs.Algorithms.{has_records}
 use Rattle.stm_model.specs.declared.config.Config.{Config}
 use Rattle.stm_model.specs.declared.stop.Cause.{Cause}
 use Rattle.stm_model.specs.declared.stop.Cause.TheVariants as causes
 use Rattle.rule_base.specs.declared.entries.Cell.{Cell}
-use Rattle.rule_base.specs.declared.entries.Entry.{Entry}
 use Rattle.rule_base.specs.declared.layout.At.{At}
 use Rattle.rule_base.specs.declared.layout.At.TheVariants.{Clock, Record, Heap}
 use Rattle.rule_base.specs.declared.views.Act.{Act}
@@ -23,16 +21,15 @@ use Rattle.rule_base.specs.History.{touches, word_now, Explains}
 use Rattle.rule_base.specs.Own.{Own}
 use Rattle.rule_base.specs.Ranks.{home_of}
 use Rattle.rule_base.specs.StepKinds.{Nothing, Tells, view_after}
-use Rattle.rule_base.specs.World.{World}
 use Rattle.rule_orec.specs.OrecReading.{no_check, no_sample}
 use Rattle.rule_orec.specs.OrecSteps.{HasOpen, orec_sample, CanOrecSample, orec_load, CanOrecLoad, orec_confirm, CanOrecConfirm}
 use Rattle.stm_gate.specs.Logging.{item-touched}
 use Rattle.stm_rule.specs.Alone.{left_at}
 use Rattle.stm_rule.specs.declared.local.Local.{Local}
 use Rattle.steps_orec.specs.OthersLaws.{left-found, owned-others, newer-others, moved-others}
-use Rattle.steps_orec.specs.RecordFindings.{FindsRecord, FindsAgain, Moves}
+use Rattle.steps_orec.specs.RecordFindings.{FindsRecord, FindsAgain}
 use Rattle.tx_answers.specs.Causes.{Conflicts, NamesOther, has_item, is_some}
-use Rattle.tx_answers.specs.Evidence.{Untouched, changes, FoundAsWas, FoundMoved}
+use Rattle.tx_answers.specs.Evidence.{Untouched, changes}
 use Rattle.tx_answers.specs.Known.{known_of}
 use Rattle.alg_orec.proofs.Passing.{loads-append}
 use Rattle.alg_orec.specs.Loading.{CanLoadValid, moved, sampled_at, MayMove, HasSampled, RefusesRead, HasLoaded}

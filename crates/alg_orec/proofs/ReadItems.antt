@@ -1,6 +1,6 @@
 -- The items of a log by their places.
-use Rattle.std.proofs.Common.{ℕ, zero, suc, ◌≡◌, ◌<◌, List, [], ◌∷◌, length, Bool, true, false, refl, sym, ap, ◌∙◌, arith, subst}
-use Rattle.std.specs.Prelude.{slice_index_or, ◌==◌, if◌then◌else◌, Option, Some, None}
+use Rattle.std.proofs.Common.{ℕ, zero, suc, ◌≡◌, ◌<◌, List, [], ◌∷◌, length, Bool, true, false, refl, arith}
+use Rattle.std.specs.Prelude.{slice_index_or, ◌==◌, if◌then◌else◌, Some}
 use Rattle.std.proofs.lemmas.Bool.Decides.{nat_tests}
 use Rattle.stm_model.specs.Memories.{item_at}
 use Rattle.rule_base.specs.declared.entries.Cell.{Cell}

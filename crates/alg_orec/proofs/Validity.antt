@@ -1,13 +1,12 @@
 -- What a validation comes to as a whole.
-use Rattle.std.proofs.Common.{ℕ, ◌≡◌, ◌≢◌, ◌<◌, ◌≤◌, ◌+◌, List, [], ◌∷◌, ◌++◌, length, Bool, true, false, refl, sym, ap, ◌∙◌, arith, subst, inl, inr, append_assoc}
-use Rattle.std.specs.Prelude.{◌%◌, ◌⊎◌, ◌==◌, ltb, nat_le, slice_index_or, if◌then◌else◌, Option, Some, None, Result, Ok, Err, Contains}
+use Rattle.std.proofs.Common.{ℕ, ◌≡◌, ◌<◌, ◌≤◌, List, [], ◌∷◌, ◌++◌, length, Bool, true, false, refl, sym, ap, ◌∙◌, arith, subst, append_assoc}
+use Rattle.std.specs.Prelude.{◌%◌, ◌⊎◌, ◌==◌, ltb, nat_le, slice_index_or, if◌then◌else◌, Some, None, Ok}
 use Rattle.std.proofs.lemmas.Bool.Decides.{nat_tests}
 use Rattle.std.proofs.lemmas.List.Elements.{Contains-append_right}
 use Rattle.stm_model.specs.declared.config.Config.{Config}
 use Rattle.stm_model.specs.declared.stop.Cause.{Cause}
 use Rattle.stm_model.specs.declared.stop.Cause.TheVariants as causes
 use Rattle.stm_model.specs.Memories.{item_at}
-use Rattle.rule_base.specs.declared.entries.Cell.{Cell}
 use Rattle.rule_base.specs.declared.entries.Entry.{Entry}
 use Rattle.rule_base.specs.declared.layout.At.TheVariants.{Clock, Record}
 use Rattle.rule_base.specs.declared.views.TrailItem.{TrailItem}
@@ -21,12 +20,13 @@ use Rattle.rule_base.specs.StepKinds.{Tells, view_after}
 use Rattle.rule_orec.specs.OrecReading.{no_check, checks}
 use Rattle.rule_orec.specs.OrecSteps.{passes, orec_clock, orec_clock_all, CanOrecClock, orec_last, CanOrecLast}
 use Rattle.stm_rule.specs.declared.local.Local.{Local}
-use Rattle.steps_orec.specs.RecordFindings.{FindsRecord, FindsClock, FindsAll, FindsLast, Moves}
+use Rattle.stm_rule.specs.Findings.{OrecFails}
+use Rattle.steps_orec.specs.RecordFindings.{FindsRecord, FindsClock, FindsAll, FindsLast}
 use Rattle.steps_orec.specs.Validating.{is_vouched, to_validate, touches-unvouched}
 use Rattle.alg_orec.proofs.Passing as passing
 use Rattle.alg_orec.proofs.Passing.{loads-append}
 use Rattle.alg_orec.proofs.ReadItems.{place-of}
-use Rattle.alg_orec.specs.Validating.{load_of, OnlyLoads, read_at, vouches, MustLoad, IsLast, CanValidate, IsFoundStale, IsHeldNewer, Refuses, HasPassed, IsValid}
+use Rattle.alg_orec.specs.Validating.{load_of, OnlyLoads, read_at, vouches, MustLoad, IsLast, CanValidate, Refuses, HasPassed, IsValid}
 
 -- the record of the last one is to be loaded, where it isn't held in the place of a newer version
 pub must-load : (c : Config) (l : Local) (i : ℕ) → IsLast c.records (Some i) l → (b : ℕ) → b ≡ read_at l i → (q : Bool) → MustLoad (Ok q) l (b % c.records) → item_at (b % c.records) l.locks.items ≡ None
@@ -152,7 +152,7 @@ module _ (good : (ℕ → ℕ) → Type 0) (c : Config) (n : ℕ) (low : n < c.c
       pub refused-last : (b x : ℕ) (w : View) → b ≡ read_at l i → item_at (b % c.records) l.locks.items ≡ None → (is_owned x ≡ true) ⊎ ((is_owned x ≡ false) × (l.start < version_of x)) → Tells (orec_last (b % c.records) b) (FindsLast good c n (b % c.records)) u x w
           → Refuses c n (causes.Record (b % c.records) x l.start) v w
       refused-last b x w at none stale t = passing.refused-found c n low l v can b x here more w no_check t.0 (subst (λ (a : ℕ). touches v.attempt.reads a ≡ true) (sym at) read-last) none
-          (subst (λ (y : View). FindsRecord c n (b % c.records) t.0 y x) path t.1.read.found) stale loads (last_path b x w false (passing.fails-by c n low l v can here more x stale) t)
+          (subst (λ (y : View). FindsRecord c n (b % c.records) t.0 y x) path t.1.read.found) (subst (λ (y : View). OrecFails n t.0 y x) path t.1.read.fails) stale loads (last_path b x w false (passing.fails-by c n low l v can here more x stale) t)
 
       -- or all are
       pub valid-last : (b x : ℕ) (w : View) → is_owned x ≡ false → version_of x ≤ l.start → Tells (orec_last (b % c.records) b) (FindsLast good c n (b % c.records)) u x w → IsValid c n good l v (record l { start = now }) w

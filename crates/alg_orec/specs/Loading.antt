@@ -1,10 +1,10 @@
 -- What the parts of a read ask and tell.
-use Rattle.std.specs.Prelude.{ℕ, ◌≡◌, ◌+◌, ◌<◌, ◌≤◌, ◌%◌, ◌⊎◌, true, false, List, [], ◌∷◌, ◌++◌, Contains, Some, None, Result, Ok, Err}
+use Rattle.std.specs.Prelude.{ℕ, ◌≡◌, ◌+◌, ◌<◌, ◌≤◌, ◌%◌, ◌⊎◌, true, false, List, [], ◌∷◌, ◌++◌, Contains, Some, Result, Ok, Err}
 use Rattle.stm_model.specs.declared.config.Config.{Config}
 use Rattle.stm_model.specs.declared.stop.Cause.{Cause}
 use Rattle.rule_base.specs.declared.entries.Cell.{Cell}
 use Rattle.rule_base.specs.declared.entries.Entry.{Entry}
-use Rattle.rule_base.specs.declared.layout.At.TheVariants.{Clock, Record, Heap}
+use Rattle.rule_base.specs.declared.layout.At.TheVariants.{Clock, Record}
 use Rattle.rule_base.specs.declared.views.Sample.{Sample}
 use Rattle.rule_base.specs.declared.views.TrailItem.{TrailItem}
 use Rattle.rule_base.specs.declared.views.Validation.{Validation}

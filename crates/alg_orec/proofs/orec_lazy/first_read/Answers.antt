@@ -1,4 +1,4 @@
-use Rattle.std.proofs.Common.{ℕ, ◌≡◌, ◌≢◌, ◌<◌, List, ◌++◌, ◌∷◌, [], length, refl, subst, sym, ap, true, false, rules, ◌∙◌}
+use Rattle.std.proofs.Common.{ℕ, ◌≡◌, ◌≢◌, ◌<◌, length, subst, sym, ap, false, rules, ◌∙◌}
 use Rattle.std.specs.Prelude.{◌^◌, None}
 use Rattle.stm_model.specs.declared.alg.Alg.TheVariants.{OrecLazy}
 use Rattle.stm_model.specs.Memories.{item_at}

@@ -1,4 +1,4 @@
-use Rattle.std.proofs.Common.{ℕ, ◌≡◌, ◌≢◌, rules}
+use Rattle.std.proofs.Common.{◌≡◌, ◌≢◌, rules}
 use Rattle.std.specs.Prelude.{◌%◌}
 use Rattle.rule_base.specs.StepKinds.{Nothing}
 use Rattle.rule_orec.specs.OrecSteps.{orec_load, orec_confirm}

@@ -1,4 +1,4 @@
-use Rattle.std.proofs.Common.{ℕ, ◌≡◌, ◌<◌, Bool, true, false, sym, ap, subst, rules}
+use Rattle.std.proofs.Common.{ℕ, ◌≡◌, Bool, true, false, sym, ap, subst, rules}
 use Rattle.std.specs.Prelude.{◌%◌, None, Ok}
 use Rattle.std.proofs.lemmas.Result.{err_from_is_err_and}
 use Rattle.stm_model.specs.declared.stop.Cause.{Cause}
