@@ -4,10 +4,8 @@ use Rattle.std.specs.Prelude.{Some, ltb, if◌then◌else◌}
 use Rattle.stm_model.specs.declared.config.Config.{Config}
 use Rattle.stm_model.specs.declared.config.TheConstants.{CLOCK_LIMIT}
 use Rattle.stm_model.specs.Memories.{item_at}
-use Rattle.rule_base.specs.declared.entries.Cell.{Cell}
 use Rattle.rule_base.specs.declared.layout.At.TheVariants.{Clock}
 use Rattle.rule_base.specs.declared.views.Act.TheVariants.{Raise}
-use Rattle.rule_base.specs.declared.views.Ownership.{Ownership}
 use Rattle.rule_base.specs.declared.views.TrailItem.{TrailItem}
 use Rattle.rule_base.specs.declared.views.View.{View}
 use Rattle.rule_base.specs.Bridge.{items}
@@ -15,7 +13,7 @@ use Rattle.rule_base.specs.BridgeLemmas.{item-some}
 use Rattle.rule_base.specs.History.{over, touches}
 use Rattle.rule_base.specs.StepKinds.{Tells}
 use Rattle.rule_orec.specs.OrecOwning.{lifted}
-use Rattle.rule_orec.specs.OrecSteps.{HasOrec, orec_lift, CanOrecLift}
+use Rattle.rule_orec.specs.OrecSteps.{orec_lift, CanOrecLift}
 use Rattle.stm_gate.specs.Leaving.{CanLeave, left}
 use Rattle.stm_gate.specs.LeavingLaws.{IsUnmade}
 use Rattle.stm_gate.specs.Logging.{item-touched}

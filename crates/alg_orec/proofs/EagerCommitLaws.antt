@@ -2,7 +2,7 @@
 use Rattle.std.proofs.Common.{ℕ, ◌≡◌, ◌≢◌, ◌<◌, ◌≤◌, ◌+◌, List, [], ◌∷◌, ◌++◌, length, Bool, true, false, refl, sym, ap, ◌∙◌, arith, subst, inl, inr, append_assoc}
 use Rattle.std.specs.Prelude.{◌⊎◌, ◌==◌, ◌%◌, ◌||◌, not, reverse, if◌then◌else◌, Some, None, Result, Ok, Err}
 use Rattle.std.proofs.lemmas.Bool.Decides.{nat_tests}
-use Rattle.stm_model.specs.Algorithms.{has_records, asks_at_commit, entry_rise, is_sure, quit_rise}
+use Rattle.stm_model.specs.Algorithms.{has_records, asks_at_commit, entry_rise, quit_rise}
 use Rattle.stm_model.specs.declared.alg.Alg.{Alg}
 use Rattle.stm_model.specs.declared.alg.Alg.TheVariants.{OrecEager}
 use Rattle.stm_model.specs.declared.config.Config.{Config}
@@ -16,24 +16,20 @@ use Rattle.rule_base.specs.declared.entries.Cell.{Cell}
 use Rattle.rule_base.specs.declared.entries.Entry.{Entry}
 use Rattle.rule_base.specs.declared.layout.At.TheVariants.{Clock, Record}
 use Rattle.rule_base.specs.declared.views.Act.TheVariants.{Load, Exchange}
-use Rattle.rule_base.specs.declared.views.GateView.{GateView}
-use Rattle.rule_base.specs.declared.views.Phase.TheVariants.{Idle, In}
-use Rattle.rule_base.specs.declared.views.SeenHistory.{SeenHistory}
+use Rattle.rule_base.specs.declared.views.Phase.TheVariants.{In}
 use Rattle.rule_base.specs.declared.views.TrailItem.{TrailItem}
 use Rattle.rule_base.specs.declared.views.Validation.{Validation}
 use Rattle.rule_base.specs.declared.views.View.{View}
 use Rattle.rule_base.specs.Bridge.{items, of_words, public_entry, public_history}
 use Rattle.rule_base.specs.BridgeLemmas.{item-some, keeps-cells, legal-public, length-public_history}
 use Rattle.rule_base.specs.Encodings.{is_owned, owner_of, version_of}
-use Rattle.rule_base.specs.History.{over, touches, word_now, Below, Explains, Legal}
-use Rattle.rule_base.specs.HistoryLemmas.{over-miss}
 use Rattle.rule_base.specs.Own.{Own}
 use Rattle.rule_base.specs.Ranks.{home_of}
-use Rattle.rule_base.specs.StepKinds.{Tells, view_after}
+use Rattle.rule_base.specs.StepKinds.{Tells}
 use Rattle.rule_base.specs.World.{World}
 use Rattle.rule_orec.specs.OrecOwning.{entered_at}
 use Rattle.rule_orec.specs.OrecReading.{no_check}
-use Rattle.rule_orec.specs.OrecSteps.{HasOrec, HasOpen, orec_entry, orec_limit, orec_commit, CanOrecCommit}
+use Rattle.rule_orec.specs.OrecSteps.{HasOrec, orec_entry, orec_limit, orec_commit, CanOrecCommit}
 use Rattle.stm_gate.specs.Leaving.{CanLeave, left}
 use Rattle.stm_gate.specs.LeavingLaws.{IsUnmade, unmade-refl, ended-left, trail-left, finds-full, found-later}
 use Rattle.stm_gate.specs.Logging.{item-touched}
@@ -44,13 +40,13 @@ use Rattle.stm_rule.specs.Attempts.{own_of, IsInside, IsOutside, SameLengths, St
 use Rattle.stm_rule.specs.Attempts as attempts
 use Rattle.stm_rule.specs.EagerKept.{IsEager}
 use Rattle.steps_orec.specs.OthersLaws.{clock-others}
-use Rattle.steps_orec.specs.RecordFindings.{FindsClock, FindsCommit, Enters, Moves}
+use Rattle.steps_orec.specs.RecordFindings.{FindsClock, FindsCommit, Enters}
 use Rattle.tx_answers.specs.declared.answers.Cancel.TheVariants.{Cancelled}
 use Rattle.tx_answers.specs.declared.answers.Commit.TheVariants as commits
 use Rattle.tx_answers.specs.Answers.{KeepsRule, Commits, CommitsAt, Cancels, EndsAt, StartMoves, entry}
 use Rattle.tx_answers.specs.Causes.{Conflicts, NamesOther, has_item, is_some}
-use Rattle.tx_answers.specs.Evidence.{Found, Untouched}
-use Rattle.tx_answers.specs.Known.{Known, Grows, known_of, granted_under, written_under, is_irrevocable, is_in, is_closing, wrote, zeros}
+use Rattle.tx_answers.specs.Evidence.{Found}
+use Rattle.tx_answers.specs.Known.{Grows, known_of, granted_under, written_under, is_in, is_closing, wrote}
 use Rattle.tx_answers.specs.KnownLaws.{grows-same, grows-trans}
 use Rattle.tx_logs.specs.LogStates.{LogState}
 use Rattle.alg_orec.proofs.EagerProving as proving

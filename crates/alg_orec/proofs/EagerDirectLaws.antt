@@ -1,5 +1,5 @@
 -- What the commit of a promoted attempt of OrecEager comes to, which gives its records back.
-use Rattle.std.proofs.Common.{ℕ, ◌≡◌, ◌≢◌, ◌<◌, ◌≤◌, ◌+◌, List, [], ◌∷◌, ◌++◌, Bool, true, false, refl, sym, ap, ◌∙◌, arith, subst, append_assoc}
+use Rattle.std.proofs.Common.{ℕ, ◌≡◌, ◌+◌, List, [], ◌∷◌, ◌++◌, Bool, true, false, refl, sym, ap, ◌∙◌, arith, subst, append_assoc}
 use Rattle.std.specs.Prelude.{None}
 use Rattle.stm_model.specs.Algorithms.{closes_gate, entry_rise}
 use Rattle.stm_model.specs.AlgorithmLaws.{entry-some}
@@ -10,7 +10,7 @@ use Rattle.rule_base.specs.declared.layout.At.TheVariants.{Clock, Base, Done}
 use Rattle.rule_base.specs.declared.views.Act.TheVariants.{Store}
 use Rattle.rule_base.specs.declared.views.TrailItem.{TrailItem}
 use Rattle.rule_base.specs.declared.views.View.{View}
-use Rattle.rule_base.specs.Bridge.{items, of_words}
+use Rattle.rule_base.specs.Bridge.{of_words}
 use Rattle.rule_base.specs.InstallSteps.{store_base, store_done, CanMark}
 use Rattle.rule_base.specs.Own.{Own}
 use Rattle.rule_base.specs.StepKinds.{Nothing, Tells, view_after}
@@ -23,7 +23,7 @@ use Rattle.stm_rule.specs.declared.local.Local.{Local}
 use Rattle.stm_rule.specs.Attempts.{Keeps, IsInside}
 use Rattle.stm_rule.specs.EagerKept.{IsEagerPromoted}
 use Rattle.tx_answers.specs.Answers.{CommitsAt}
-use Rattle.tx_answers.specs.Known.{known_of, granted_under, written_under}
+use Rattle.tx_answers.specs.Known.{known_of, granted_under}
 use Rattle.alg_orec.specs.EagerCommitting.{CanGiveDirect}
 use Rattle.alg_orec.specs.Locking.{holding_still, ReleasesAll}
 

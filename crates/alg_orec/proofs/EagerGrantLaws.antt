@@ -10,7 +10,6 @@ use Rattle.stm_model.specs.declared.config.Config.{Config}
 use Rattle.stm_model.specs.declared.config.TheConstants.{CLOCK_LIMIT}
 use Rattle.stm_model.specs.declared.stop.Cause.TheVariants as causes
 use Rattle.stm_model.specs.Memories.{item_at, is_empty}
-use Rattle.rule_base.specs.declared.entries.Cell.{Cell}
 use Rattle.rule_base.specs.declared.entries.Entry.{Entry}
 use Rattle.rule_base.specs.declared.layout.At.TheVariants.{Clock, Record}
 use Rattle.rule_base.specs.declared.views.Act.TheVariants.{Load}
@@ -34,7 +33,7 @@ use Rattle.rule_base.specs.StepKinds.{Tells, view_after}
 use Rattle.rule_orec.specs.OrecReading.{no_sample, no_check}
 use Rattle.rule_orec.specs.OrecSteps.{HasOpen, passes, direct_attempt, direct_owned, orec_clock, orec_grant, CanOrecGrant, orec_grant_all, CanOrecGrantAll, HasStores}
 use Rattle.stm_rule.specs.declared.local.Local.{Local}
-use Rattle.stm_rule.specs.Attempts.{Keeps, IsInside, emptied, own_of}
+use Rattle.stm_rule.specs.Attempts.{Keeps, IsInside, own_of}
 use Rattle.stm_rule.specs.Findings.{FindsWithin, OrecFails}
 use Rattle.stm_rule.specs.EagerKept.{IsEager}
 use Rattle.steps_orec.specs.RecordFindings.{FindsRecord, FindsClock, FindsAll, FindsGrant}

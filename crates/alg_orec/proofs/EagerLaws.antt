@@ -1,67 +1,55 @@
 -- What begin and read of OrecEager come to.
-use Rattle.std.proofs.Common.{ℕ, ◌≡◌, ◌≢◌, ◌<◌, ◌≤◌, ◌+◌, List, [], ◌∷◌, ◌++◌, length, Bool, true, false, refl, sym, ap, ◌∙◌, arith, subst, inl, inr, append_assoc}
-use Rattle.std.specs.Prelude.{◌^◌, ◌⊎◌, ◌==◌, ◌&&◌, not, reverse, if◌then◌else◌, Option, Some, None, IsSome, MatchOption, Ok}
+use Rattle.std.proofs.Common.{ℕ, ◌≡◌, ◌≢◌, ◌<◌, ◌≤◌, ◌+◌, List, [], ◌∷◌, ◌++◌, length, Bool, true, false, refl, sym, ap, ◌∙◌, arith, subst, inl, inr}
+use Rattle.std.specs.Prelude.{◌^◌, ◌⊎◌, ◌==◌, ◌&&◌, not, Option, Some, None, MatchOption}
 use Rattle.std.proofs.lemmas.Bool.Decides.{nat_tests}
-use Rattle.stm_model.specs.Algorithms.{has_records, has_read_log, logs_writes, is_sure, quit_rise, closes_gate}
+use Rattle.stm_model.specs.Algorithms.{has_records, has_read_log}
 use Rattle.stm_model.specs.declared.alg.Alg.{Alg}
-use Rattle.stm_model.specs.declared.alg.Alg.TheVariants.{Cgl, Tml, OrecLazy, OrecEager, RingSw, Serial}
+use Rattle.stm_model.specs.declared.alg.Alg.TheVariants.{OrecEager}
 use Rattle.stm_model.specs.declared.config.Config.{Config}
 use Rattle.stm_model.specs.declared.stop.Cause.{Cause}
-use Rattle.stm_model.specs.declared.stop.Cause.TheVariants as causes
-use Rattle.stm_model.specs.Logs.{Log, Reads, Writes}
-use Rattle.stm_model.specs.Memories.{item_at, put, is_empty, Once}
+use Rattle.stm_model.specs.Memories.{item_at, put}
 use Rattle.rule_base.specs.declared.entries.Cell.{Cell}
 use Rattle.rule_base.specs.declared.entries.Entry.{Entry}
-use Rattle.rule_base.specs.declared.layout.At.TheVariants.{Clock, Record}
+use Rattle.rule_base.specs.declared.layout.At.TheVariants.{Clock}
 use Rattle.rule_base.specs.declared.views.Act.TheVariants.{Load}
 use Rattle.rule_base.specs.declared.views.Ownership.{Ownership}
 use Rattle.rule_base.specs.declared.views.Sample.{Sample}
-use Rattle.rule_base.specs.declared.views.SeenHistory.{SeenHistory}
 use Rattle.rule_base.specs.declared.views.TrailItem.{TrailItem}
 use Rattle.rule_base.specs.declared.views.Validation.{Validation}
 use Rattle.rule_base.specs.declared.views.View.{View}
 use Rattle.rule_base.specs.Bridge.{items, of_words, public_history}
 use Rattle.rule_base.specs.BridgeLemmas.{item-some}
-use Rattle.rule_base.specs.History.{upto, word_now, touches, Inside, Small, Below, Explains, Legal}
-use Rattle.rule_base.specs.HistoryLemmas.{inside-more, small-more}
+use Rattle.rule_base.specs.HistoryLemmas.{inside-more}
 use Rattle.rule_base.specs.Own.{Own}
-use Rattle.rule_base.specs.Ranks.{home_of}
 use Rattle.rule_base.specs.StepKinds.{Tells, view_after}
-use Rattle.rule_base.specs.World.{World}
-use Rattle.rule_orec.specs.OrecReading.{no_check, no_sample, fresh_owned}
+use Rattle.rule_orec.specs.OrecReading.{no_check, no_sample}
 use Rattle.rule_orec.specs.OrecSteps.{is_eager, HasOpen, orec_begin, CanOrecBegin}
 use Rattle.rule_seq.specs.CglSteps as steps
 use Rattle.stm_rule.specs.declared.local.Local.{Local}
 use Rattle.stm_rule.specs.Attempts.{begun, own_of, IsInside, IsPromoted, SameLengths, ended}
 use Rattle.stm_rule.specs.Attempts as attempts
 use Rattle.stm_rule.specs.EagerKept.{IsEager}
-use Rattle.stm_rule.specs.RecordsKept.{IsOptimistic}
-use Rattle.steps_orec.specs.RecordFindings.{FindsStart, Moves}
+use Rattle.steps_orec.specs.RecordFindings.{FindsStart}
 use Rattle.tx_answers.specs.declared.answers.Read.TheVariants as reads
-use Rattle.tx_answers.specs.declared.answers.Write.TheVariants as writes
-use Rattle.tx_answers.specs.Answers.{HasRead, HasWritten, Quits, GoesOn, StartMoves}
-use Rattle.tx_answers.specs.Causes.{Conflicts, has_item, is_some, reads_full, writes_full}
+use Rattle.tx_answers.specs.Answers.{HasRead, Quits, GoesOn, StartMoves}
+use Rattle.tx_answers.specs.Causes.{Conflicts, has_item, is_some, reads_full}
 use Rattle.tx_answers.specs.Evidence.{Found}
-use Rattle.tx_answers.specs.Known.{Known, Grows, known_of, granted_under, written_under, is_irrevocable, is_in, is_closing, wrote}
+use Rattle.tx_answers.specs.Known.{Grows, known_of, granted_under, written_under, is_irrevocable, is_in, is_closing, wrote}
 use Rattle.tx_answers.specs.KnownLaws.{grows-same, grows-trans}
-use Rattle.tx_logs.specs.declared.push.Push.{Push}
-use Rattle.tx_logs.specs.declared.push.Push.TheVariants as pushes
-use Rattle.tx_logs.specs.LogStates.{LogState, Pushes}
+use Rattle.tx_logs.specs.LogStates.{LogState}
 use Rattle.stm_gate.specs.InnerLaws.{goes-inner}
 use Rattle.stm_gate.specs.Leaving.{left}
-use Rattle.stm_gate.specs.LeavingLaws.{IsUnmade, quits-left, trail-left}
+use Rattle.stm_gate.specs.LeavingLaws.{quits-left, trail-left}
 use Rattle.stm_gate.specs.Logging.{put-new}
 use Rattle.stm_gate.specs.Opacity.{opaque-at, opaque-inside, later-seen}
 use Rattle.stm_gate.specs.Starts.{CanBegin, StartsAt}
-use Rattle.alg_orec.proofs.Cells.{items-cells}
-use Rattle.alg_orec.proofs.CellLogs.{once-put, inside-put, small-put, some-put}
 use Rattle.alg_orec.proofs.EagerProving as proving
 use Rattle.alg_orec.proofs.EagerProving.{conflicts-later}
 use Rattle.alg_orec.proofs.LockingLaws.{unheld-of}
 use Rattle.alg_orec.specs.EagerEnding.{CanTakeBack, TakesBack}
 use Rattle.alg_orec.specs.EagerTaking.{CanLoadWord}
 use Rattle.alg_orec.specs.Loading.{moved, MayMove, RefusesRead, HasLoaded}
-use Rattle.alg_orec.specs.Validating.{load_of, CanValidate, HasVersions}
+use Rattle.alg_orec.specs.Validating.{load_of, HasVersions}
 
 and-no : (b : Bool) → (b && false) ≡ false
 and-no true = refl

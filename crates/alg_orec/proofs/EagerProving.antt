@@ -1,13 +1,12 @@
 -- What stands of an attempt of OrecEager, and what its end comes to as seen from before.
-use Rattle.std.proofs.Common.{ℕ, zero, suc, ◌≡◌, ◌<◌, ◌≤◌, ◌+◌, List, [], ◌∷◌, ◌++◌, length, Bool, true, false, refl, sym, ap, ◌∙◌, arith, subst}
-use Rattle.std.specs.Prelude.{Option, Some, None, not, ◌&&◌}
+use Rattle.std.proofs.Common.{ℕ, ◌≡◌, ◌≤◌, ◌+◌, List, [], ◌∷◌, ◌++◌, length, Bool, true, false, refl, sym, ap, ◌∙◌, arith, subst}
+use Rattle.std.specs.Prelude.{Option, not, ◌&&◌}
 use Rattle.stm_model.specs.Algorithms.{has_records, closes_gate, is_sure, quit_rise}
 use Rattle.stm_model.specs.declared.alg.Alg.{Alg}
-use Rattle.stm_model.specs.declared.alg.Alg.TheVariants.{Tml, OrecEager, RingSw}
+use Rattle.stm_model.specs.declared.alg.Alg.TheVariants.{OrecEager}
 use Rattle.stm_model.specs.declared.config.Config.{Config}
 use Rattle.stm_model.specs.declared.stop.Cause.TheVariants as causes
 use Rattle.stm_model.specs.Memories.{is_empty}
-use Rattle.rule_base.specs.declared.entries.Cell.{Cell}
 use Rattle.rule_base.specs.declared.views.TrailItem.{TrailItem}
 use Rattle.rule_base.specs.declared.views.View.{View}
 use Rattle.rule_base.specs.Bridge.{items}
@@ -15,7 +14,7 @@ use Rattle.rule_base.specs.Own.{Own}
 use Rattle.stm_gate.specs.LeavingLaws.{IsUnmade, quits-left, trail-left}
 use Rattle.stm_gate.specs.Peeling.{no-items}
 use Rattle.stm_rule.specs.declared.local.Local.{Local}
-use Rattle.stm_rule.specs.Attempts.{Keeps, IsInside, own_of}
+use Rattle.stm_rule.specs.Attempts.{Keeps, IsInside}
 use Rattle.stm_rule.specs.EagerKept.{IsEager}
 use Rattle.tx_answers.specs.Answers.{Quits}
 use Rattle.tx_answers.specs.Causes.{Conflicts}

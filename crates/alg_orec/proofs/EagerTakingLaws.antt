@@ -1,6 +1,6 @@
 -- What the steps come to by which OrecEager loads a word under its own record, takes a record, and first stores there.
 use Rattle.std.proofs.Common.{ℕ, ◌≡◌, ◌≢◌, ◌<◌, ◌≤◌, ◌+◌, List, [], ◌∷◌, ◌++◌, length, Bool, true, false, refl, sym, ap, ◌∙◌, arith, subst, inl, inr, append_assoc, length-append}
-use Rattle.std.specs.Prelude.{◌%◌, ◌⊎◌, ◌==◌, if◌then◌else◌, Option, Some, None, Contains, Ok, Err}
+use Rattle.std.specs.Prelude.{◌%◌, ◌⊎◌, ◌==◌, if◌then◌else◌, Option, Some, None, Contains}
 use Rattle.std.specs.Option.{is_some}
 use Rattle.std.proofs.lemmas.Bool.Decides.{nat_tests}
 use Rattle.std.proofs.lemmas.List.Elements.{Contains-append_left, Contains-append_right}
@@ -17,7 +17,6 @@ use Rattle.rule_base.specs.declared.entries.Cell.{Cell}
 use Rattle.rule_base.specs.declared.entries.Entry.{Entry}
 use Rattle.rule_base.specs.declared.layout.At.{At}
 use Rattle.rule_base.specs.declared.layout.At.TheVariants.{Clock, Record, Heap}
-use Rattle.rule_base.specs.declared.views.Act.{Act}
 use Rattle.rule_base.specs.declared.views.Act.TheVariants.{Load, Store, Exchange}
 use Rattle.rule_base.specs.declared.views.Sample.{Sample}
 use Rattle.rule_base.specs.declared.views.TrailItem.{TrailItem}
@@ -26,7 +25,7 @@ use Rattle.rule_base.specs.declared.views.View.{View}
 use Rattle.rule_base.specs.Bridge.{items}
 use Rattle.rule_base.specs.BridgeLemmas.{item-none}
 use Rattle.rule_base.specs.Encodings.{free_record, owned_record, is_owned, version_of}
-use Rattle.rule_base.specs.History.{over, touches, Inside, Below}
+use Rattle.rule_base.specs.History.{over, touches, Below}
 use Rattle.rule_base.specs.HistoryLemmas.{inside-more}
 use Rattle.rule_base.specs.Own.{Own}
 use Rattle.rule_base.specs.Ranks.{home_of}
@@ -38,20 +37,19 @@ use Rattle.stm_gate.specs.Logging.{put-new}
 use Rattle.stm_rule.specs.Alone.{left_at}
 use Rattle.stm_rule.specs.declared.local.Local.{Local}
 use Rattle.steps_orec.specs.OthersLaws.{left-found, moved-others}
-use Rattle.steps_orec.specs.RecordFindings.{FindsClock, FindsRecord, Moves}
+use Rattle.steps_orec.specs.RecordFindings.{FindsClock, FindsRecord}
 use Rattle.tx_answers.specs.Causes.{Conflicts, Concerns, IsAnothers, IsNewer, has_item}
-use Rattle.tx_answers.specs.Evidence.{Untouched, changes, FoundAsWas, FoundMoved}
+use Rattle.tx_answers.specs.Evidence.{Untouched}
 use Rattle.tx_answers.specs.Known.{known_of, written_under}
 use Rattle.tx_logs.specs.declared.push.Push.{Push}
 use Rattle.tx_logs.specs.declared.push.Push.TheVariants as pushes
 use Rattle.tx_logs.specs.LogStates.{LogState, Pushes, keep}
 use Rattle.alg_orec.proofs.LoadLaws.{untouched-loads}
 use Rattle.alg_orec.proofs.LockingLaws.{pushes-new, held-of}
-use Rattle.alg_orec.specs.EagerEnding.{AllBelow}
-use Rattle.alg_orec.specs.EagerTaking.{AllSeen, CanLoadWord, CanTake, taken, HasTaken, FindsLimit, CanStoreFirst, StoresFirst}
+use Rattle.alg_orec.specs.EagerTaking.{CanLoadWord, CanTake, HasTaken, FindsLimit, CanStoreFirst, StoresFirst}
 use Rattle.alg_orec.specs.Loading.{CanLoadValid, moved, sampled_at, MayMove, HasSampled, RefusesRead, HasLoaded}
 use Rattle.alg_orec.specs.Locking.{lock_item}
-use Rattle.alg_orec.specs.Validating.{CanValidate, load_of, OnlyLoads}
+use Rattle.alg_orec.specs.Validating.{load_of}
 
 untouched-append : (p : At) (is js : List TrailItem) → Untouched p is → Untouched p js → Untouched p (is ++ js)
 untouched-append p [] js a b = b

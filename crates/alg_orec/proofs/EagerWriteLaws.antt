@@ -1,6 +1,6 @@
 -- What a write of OrecEager comes to.
 use Rattle.std.proofs.Common.{ℕ, suc, ◌≡◌, ◌≢◌, ◌<◌, ◌≤◌, ◌+◌, List, [], ◌∷◌, ◌++◌, length, Bool, true, false, refl, sym, ap, ◌∙◌, arith, subst, inl, inr, append_assoc, length-append}
-use Rattle.std.specs.Prelude.{◌^◌, ◌⊎◌, ◌==◌, ◌&&◌, not, reverse, map, if◌then◌else◌, Option, Some, None, IsSome}
+use Rattle.std.specs.Prelude.{◌^◌, ◌⊎◌, ◌==◌, ◌&&◌, not, map, if◌then◌else◌, Option, Some, None, IsSome}
 use Rattle.std.proofs.lemmas.Bool.Decides.{nat_tests}
 use Rattle.std.proofs.lemmas.List.Elements.{Contains-append_right}
 use Rattle.stm_model.specs.Algorithms.{has_records, logs_writes, asks_at_write}
@@ -20,12 +20,12 @@ use Rattle.rule_base.specs.declared.views.TrailItem.{TrailItem}
 use Rattle.rule_base.specs.declared.views.Validation.{Validation}
 use Rattle.rule_base.specs.declared.views.View.{View}
 use Rattle.rule_base.specs.Bridge.{items, of_words}
-use Rattle.rule_base.specs.History.{over, touches, word_now, Inside, Small, Below, Explains, Legal}
+use Rattle.rule_base.specs.History.{touches, word_now, Inside, Below, Explains, Legal}
 use Rattle.rule_base.specs.HistoryLemmas.{inside-more, small-more}
 use Rattle.rule_base.specs.Own.{Own}
 use Rattle.rule_base.specs.Ranks.{home_of}
-use Rattle.rule_base.specs.StepKinds.{Nothing, Tells, view_after}
-use Rattle.rule_orec.specs.OrecSteps.{HasOpen, orec_place, CanOrecPlace}
+use Rattle.rule_base.specs.StepKinds.{Nothing, Tells}
+use Rattle.rule_orec.specs.OrecSteps.{orec_place, CanOrecPlace}
 use Rattle.stm_gate.specs.Leaving.{left}
 use Rattle.stm_gate.specs.LeavingLaws.{trail-left, finds-full, found-later}
 use Rattle.stm_gate.specs.Logging.{put-new}
@@ -36,7 +36,7 @@ use Rattle.stm_rule.specs.Attempts as attempts
 use Rattle.stm_rule.specs.EagerKept.{IsEager}
 use Rattle.tx_answers.specs.declared.answers.Write.{Write}
 use Rattle.tx_answers.specs.declared.answers.Write.TheVariants as writes
-use Rattle.tx_answers.specs.Answers.{HasWritten, GoesOn, StartMoves}
+use Rattle.tx_answers.specs.Answers.{HasWritten, StartMoves}
 use Rattle.tx_answers.specs.Causes.{Conflicts, has_item, is_some, writes_full}
 use Rattle.tx_answers.specs.Evidence.{Found}
 use Rattle.tx_answers.specs.Known.{Grows, known_of, written_under, is_in, is_closing}
@@ -48,8 +48,8 @@ use Rattle.alg_orec.proofs.EagerProving as proving
 use Rattle.alg_orec.proofs.LockingLaws.{held-of, unheld-of}
 use Rattle.alg_orec.specs.EagerEnding.{AllBelow, CanTakeBack, TakesBack}
 use Rattle.alg_orec.specs.EagerTaking.{AllSeen, CanTake, HasTaken, FindsLimit, RefusesTake, CanStoreFirst, StoresFirst}
-use Rattle.alg_orec.specs.Loading.{moved, MayMove, RefusesRead}
-use Rattle.alg_orec.specs.Validating.{load_of, CanValidate}
+use Rattle.alg_orec.specs.Loading.{MayMove, RefusesRead}
+use Rattle.alg_orec.specs.Validating.{load_of}
 
 -- THE ADDRESSES of two logs
 map-last : (ws : List (ℕ × ℕ)) (p : ℕ × ℕ) → map (λ (w : ℕ × ℕ). w.0) (ws ++ p ∷ []) ≡ map (λ (w : ℕ × ℕ). w.0) ws ++ p.0 ∷ []

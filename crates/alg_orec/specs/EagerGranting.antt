@@ -1,5 +1,5 @@
 -- What the parts of a promotion of OrecEager ask and tell.
-use Rattle.std.specs.Prelude.{ℕ, ◌≡◌, ◌<◌, ◌≤◌, ◌++◌, true, false, List, [], Contains, Result, Ok, Err}
+use Rattle.std.specs.Prelude.{ℕ, ◌≡◌, ◌<◌, ◌++◌, false, List, Contains, Result, Ok, Err}
 use Rattle.stm_model.specs.declared.alg.Alg.TheVariants.{OrecEager}
 use Rattle.stm_model.specs.declared.config.Config.{Config}
 use Rattle.stm_model.specs.declared.config.TheConstants.{CLOCK_LIMIT}

@@ -1,4 +1,4 @@
-use Rattle.std.proofs.Common.{ℕ, ◌≡◌, subst, sym, ap, refl, true, false, rules}
+use Rattle.std.proofs.Common.{ℕ, ◌≡◌, subst, sym, ap, true, false, rules}
 use Rattle.std.specs.Prelude.{Some}
 use Rattle.stm_model.specs.declared.alg.Alg.TheVariants.{OrecEager}
 use Rattle.rule_base.specs.declared.seats.SeatView.{SeatView}

@@ -1,12 +1,11 @@
 use Rattle.std.proofs.Common.{ℕ, ◌≡◌, ◌+◌, subst, sym, ap, ◌∙◌, refl, true, false, rules}
-use Rattle.stm_model.specs.Algorithms.{closes_gate, entry_rise}
+use Rattle.stm_model.specs.Algorithms.{entry_rise}
 use Rattle.stm_model.specs.declared.alg.Alg.TheVariants.{OrecEager}
 use Rattle.rule_base.specs.declared.seats.SeatView.{SeatView}
 use Rattle.rule_base.specs.InstallSteps.{store_base, store_done}
 use Rattle.rule_base.specs.StepKinds.{Nothing}
 use Rattle.rule_seq.specs.CglSteps.{Commits}
 use Rattle.rule_promoted.specs.PromotedSteps.{direct_commit}
-use Rattle.stm_rule.specs.declared.local.Local.{Local}
 use Rattle.stm_rule.specs.Attempts.{own_of}
 use Rattle.stm_rule.specs.Callers.{Handle, handle_of}
 use Rattle.stm_rule.specs.Kept.{good_of}
@@ -14,7 +13,7 @@ use Rattle.stm_rule.specs.StandLemmas.{tells-of}
 use Rattle.tx_answers.specs.declared.answers.Commit.TheVariants.{Committed, ReadOnly}
 use Rattle.tx_answers.specs.Answers.{KeepsRule}
 use Rattle.tx_answers.specs.Answers as answers
-use Rattle.tx_answers.specs.Known.{Known, known_of, caller_of}
+use Rattle.tx_answers.specs.Known.{Known, caller_of}
 use Rattle.stm_gate.specs.DirectLaws as direct
 use Rattle.stm_gate.specs.Knowing.{known, number}
 use Rattle.stm_gate.specs.Standing.{runs-of, shown-of, who-of}
@@ -257,4 +256,3 @@ returns-clause-commits g c =
     let who = ap (λ r. r.who) c.leave-2.ensures.left ∙ (who-of (store_done t) Nothing u t x c.store_done.ensures.step ∙ (who-of (store_base t) Nothing y t u c.store_base.ensures.step ∙ (ap (λ (r : SeatView g.row.K.Denot). r.who) c.give_direct.ensures.same.1 ∙ who-of (direct_commit d.number alg t) shown s t p c.direct_commit.ensures.step))) in
     shown-of (λ (n : ℕ) (v w : Known). answers.Commits good f n (Committed t) v w) h e d.number w.view d.local c.leave-2.new.local c.desc.view_is (ap own_of c.leave-2.ensures.idle) name
     (laws.tells-commit good f d.number d.local s.view i eager granted holds t dirty time p.view a y.view q u.view b x.view k w.view o (ap (λ r. r.view) c.leave-2.ensures.left))
-

@@ -1,12 +1,11 @@
-use Rattle.std.proofs.Common.{ℕ, ◌≡◌, ◌≢◌, ◌<◌, ◌≤◌, ◌+◌, List, [], subst, sym, ap, refl, true, false, rules, arith, ◌∙◌}
-use Rattle.std.proofs.lemmas.Result.{err_from_is_err_and}
+use Rattle.std.proofs.Common.{◌≡◌, ◌≢◌, ◌<◌, ◌≤◌, ◌+◌, [], subst, sym, ap, refl, false, rules, ◌∙◌}
 use Rattle.stm_model.specs.declared.config.TheConstants.{CLOCK_LIMIT}
 use Rattle.rule_base.specs.declared.seats.SeatView.{SeatView}
 use Rattle.rule_base.specs.declared.views.GateView.{GateView}
 use Rattle.rule_base.specs.declared.views.View.{View}
 use Rattle.rule_orec.specs.OrecSteps.{orec_limit, orec_commit}
 use Rattle.stm_rule.specs.declared.local.Local.{Local}
-use Rattle.stm_rule.specs.Attempts.{own_of, ended, IsOutside, Stands}
+use Rattle.stm_rule.specs.Attempts.{own_of, ended, Stands}
 use Rattle.stm_rule.specs.Kept.{good_of}
 use Rattle.stm_rule.specs.StandLemmas.{tells-of}
 use Rattle.steps_orec.specs.RecordFindings.{FindsClock, FindsCommit}
@@ -111,7 +110,7 @@ limit-clock-requires-clause-view g c =
     let m = c.revalidate.new.local in
     let w = c.revalidate.new.seat.me.0 in
     let r = c.in_default.ensures.revalidates in
-    laws.may-limit good f n low m w.view (laws.can-ready good f n low l v can o m w.view r) o 
+    laws.may-limit good f n low m w.view (laws.can-ready good f n low l v can o m w.view r) o
 
 pub take_back-requires-then-start-ge-CLOCK_LIMIT-clause-view : goal.take_back-requires-then-start-ge-CLOCK_LIMIT-clause-view
 take_back-requires-then-start-ge-CLOCK_LIMIT-clause-view g c =
@@ -410,4 +409,3 @@ returns-clause-stands g c =
     let q = c.release_all.ensures.releases in
     let z = c.leave.new.seat.me.0.view in
     subst (λ (d : Local). Stands good f n d z) (sym c.leave.ensures.idle) (laws.ended-stands good f n (record m { committing = false }) z (laws.can-ready good f n low l v can o m w.view r).lengths c.leave.ensures.outside)
-

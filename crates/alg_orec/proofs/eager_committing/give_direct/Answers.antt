@@ -4,8 +4,7 @@ use Rattle.rule_base.specs.declared.seats.SeatView.{SeatView}
 use Rattle.rule_base.specs.declared.views.View.{View}
 use Rattle.rule_base.specs.Bridge.{items}
 use Rattle.rule_base.specs.Encodings.{free_record}
-use Rattle.rule_base.specs.History.{touches, without, Inside}
-use Rattle.rule_orec.specs.OrecSteps.{HasOrec}
+use Rattle.rule_base.specs.History.{without, Inside}
 use Rattle.stm_gate.specs.Peeling.{drop-all, peeled, inside-without, no-items}
 use Rattle.alg_orec.specs.Locking.{holding_still}
 use Rattle.alg_orec.proofs.EagerReleasing.{direct-step}

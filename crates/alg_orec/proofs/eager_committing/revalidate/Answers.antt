@@ -1,20 +1,6 @@
-use Rattle.std.proofs.Common.{ℕ, ◌≡◌, ◌≢◌, ◌<◌, ◌≤◌, ◌+◌, List, [], subst, sym, ap, refl, true, false, rules, arith, ◌∙◌}
-use Rattle.std.proofs.lemmas.Result.{err_from_is_err_and}
-use Rattle.stm_model.specs.declared.config.TheConstants.{CLOCK_LIMIT}
-use Rattle.rule_base.specs.declared.seats.SeatView.{SeatView}
-use Rattle.rule_base.specs.declared.views.GateView.{GateView}
-use Rattle.rule_base.specs.declared.views.View.{View}
-use Rattle.rule_orec.specs.OrecSteps.{orec_limit, orec_commit}
-use Rattle.stm_rule.specs.declared.local.Local.{Local}
-use Rattle.stm_rule.specs.Attempts.{own_of, IsOutside, Stands}
-use Rattle.stm_rule.specs.Kept.{good_of}
-use Rattle.stm_rule.specs.StandLemmas.{tells-of}
-use Rattle.steps_orec.specs.RecordFindings.{FindsClock, FindsCommit}
-use Rattle.tx_answers.specs.declared.answers.Commit.TheVariants as commits
-use Rattle.tx_answers.specs.Answers as answers
-use Rattle.tx_answers.specs.Known.{known_of}
+use Rattle.std.proofs.Common.{◌≡◌, false, rules}
+use Rattle.stm_rule.specs.Attempts.{own_of}
 use Rattle.alg_orec.proofs.EagerCommitLaws as laws
-use Rattle.alg_orec.proofs.Proving.{with_commit}
 use Rattle.alg_orec.proofs.eager_committing.revalidate.Goals as goal
 
 pub validate-requires-clause-view : goal.validate-requires-clause-view
@@ -53,4 +39,3 @@ returns-clause-revalidates g c =
     let can = c.requires.attempt in
     let quiet : l.committing ≡ false = search rules in
     laws.revalidates-none good f n low l v can o quiet
-

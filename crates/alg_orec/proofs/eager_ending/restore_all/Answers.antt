@@ -1,9 +1,8 @@
 use Rattle.std.proofs.Common.{◌≡◌, ◌<◌, List, [], ◌∷◌, length, refl, sym, ap, ◌∙◌, subst, arith}
 use Rattle.rule_base.specs.declared.entries.Cell.{Cell}
 use Rattle.rule_base.specs.declared.seats.SeatView.{SeatView}
-use Rattle.rule_base.specs.declared.views.View.{View}
 use Rattle.rule_base.specs.Bridge.{items}
-use Rattle.rule_base.specs.History.{touches, without, Inside}
+use Rattle.rule_base.specs.History.{without, Inside}
 use Rattle.rule_orec.specs.OrecSteps.{HasOrec}
 use Rattle.stm_gate.specs.Peeling.{drop-all, peeled, inside-without, no-items}
 use Rattle.alg_orec.specs.EagerEnding.{restoring}

@@ -1,4 +1,4 @@
-use Rattle.std.proofs.Common.{◌≡◌, ap}
+use Rattle.std.proofs.Common.{ap}
 use Rattle.rule_base.specs.declared.seats.SeatView.{SeatView}
 use Rattle.alg_orec.proofs.EagerBackLaws as laws
 use Rattle.alg_orec.proofs.eager_ending.take_back.Goals as goal

@@ -1,4 +1,3 @@
-use Rattle.std.proofs.Common.{ℕ, ◌≡◌, ◌<◌, ap, rules}
 use Rattle.rule_base.specs.StepKinds.{Nothing}
 use Rattle.rule_orec.specs.OrecSteps.{orec_save, orec_place}
 use Rattle.stm_rule.specs.StandLemmas.{tells-of}

@@ -1,22 +1,19 @@
-use Rattle.std.proofs.Common.{ℕ, ◌≡◌, ◌≢◌, ◌<◌, ◌≤◌, true, false, sym, ap, subst, ◌∙◌, rules, arith}
-use Rattle.std.specs.Prelude.{◌%◌, Some, None, IsSome}
+use Rattle.std.proofs.Common.{ℕ, ◌≡◌, ◌≢◌, ◌<◌, ◌≤◌, true, false, sym, subst, rules, arith}
+use Rattle.std.specs.Prelude.{◌%◌, None}
 use Rattle.std.specs.Option.{is_some}
 use Rattle.stm_model.specs.declared.config.TheConstants.{CLOCK_LIMIT}
 use Rattle.stm_model.specs.Memories.{item_at}
-use Rattle.rule_base.specs.Encodings.{is_owned, version_of}
+use Rattle.rule_base.specs.Encodings.{version_of}
 use Rattle.rule_base.specs.History.{touches}
 use Rattle.rule_base.specs.Ranks.{home_of}
 use Rattle.rule_base.specs.StepKinds.{Tells}
 use Rattle.rule_orec.specs.OrecSteps.{orec_limit, orec_lock, CanOrecLock}
-use Rattle.stm_rule.specs.declared.local.Local.{Local}
 use Rattle.stm_rule.specs.Kept.{good_of}
 use Rattle.stm_rule.specs.StandLemmas.{tells-of}
 use Rattle.steps_orec.specs.RecordFindings.{FindsRecord, FindsClock}
 use Rattle.tx_logs.specs.LogStates.{Pushes, keep}
 use Rattle.alg_orec.proofs.LockingLaws.{unheld-of}
 use Rattle.alg_orec.proofs.EagerTakingLaws as laws
-use Rattle.alg_orec.specs.Loading.{RefusesRead}
-use Rattle.alg_orec.specs.EagerTaking.{HasTaken}
 use Rattle.alg_orec.proofs.eager_taking.take_record.Goals as goal
 
 pub returns-then-is_some-clause-takes : goal.returns-then-is_some-clause-takes

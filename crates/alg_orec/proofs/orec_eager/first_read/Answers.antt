@@ -1,4 +1,4 @@
-use Rattle.std.proofs.Common.{ℕ, ◌≡◌, ◌≢◌, ◌<◌, List, ◌++◌, ◌∷◌, [], length, refl, subst, sym, ap, true, false, rules, ◌∙◌}
+use Rattle.std.proofs.Common.{ℕ, ◌≡◌, ◌≢◌, ◌<◌, length, subst, sym, ap, false, rules, ◌∙◌}
 use Rattle.std.specs.Prelude.{◌^◌, None}
 use Rattle.stm_model.specs.declared.alg.Alg.TheVariants.{OrecEager}
 use Rattle.stm_model.specs.Memories.{item_at}
@@ -75,8 +75,7 @@ invariant_of-desc-in-Ok g c =
     let value = ap (λ (p : Handle g.row.K.Denot). p.who.rule) c.desc.view_is ∙ c.requires.stm.rule in
     let running = ap (λ (y : Local). y.running) moved ∙ running-by (good_by g.K.MemRule.good s.who.rule) s.who.config d.number d.local s.view i.phase c.desc.invariant.1 in
     let tied = c.desc.invariant.0 in
-    let lengths : SameLengths q = (ap (λ (y : Local). y.writes.len) moved ∙ (c.desc.invariant.1.lengths.0 ∙ sym (ap (λ (y : Local). y.undo.len) moved)), ap (λ (y : Local). y.locks.len) moved ∙ (c.desc.invariant.1.lengths.1 ∙ sym (ap (λ (y : Local). y.undo.len) moved))) in
-    (
+    let lengths : SameLengths q = (ap (λ (y : Local). y.writes.len) moved ∙ (c.desc.invariant.1.lengths.0 ∙ sym (ap (λ (y : Local). y.undo.len) moved)), ap (λ (y : Local). y.locks.len) moved ∙ (c.desc.invariant.1.lengths.1 ∙ sym (ap (λ (y : Local). y.undo.len) moved))) in (
       record {
         named = ap (λ (y : Who g.row.K.Denot). y.role) who ∙ tied.named;
         low = subst (λ (y : Who g.row.K.Denot). d.number < y.config.callers) (sym who) tied.low;

@@ -1,4 +1,4 @@
-use Rattle.std.proofs.Common.{ℕ, ◌≡◌, true, false, rules}
+use Rattle.std.proofs.Common.{◌≡◌, true, rules}
 use Rattle.std.specs.Prelude.{◌%◌, None}
 use Rattle.std.specs.Option.{is_some}
 use Rattle.stm_model.specs.Memories.{item_at}

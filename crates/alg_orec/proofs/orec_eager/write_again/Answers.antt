@@ -1,12 +1,10 @@
-use Rattle.std.proofs.Common.{ℕ, ◌≡◌, ◌≢◌, ◌<◌, ◌≤◌, List, length, refl, subst, sym, ap, true, false, rules, ◌∙◌}
-use Rattle.std.specs.Prelude.{◌^◌, None, IsSome}
+use Rattle.std.proofs.Common.{◌≡◌, ◌<◌, subst, sym, ap, true, false, rules, ◌∙◌}
+use Rattle.std.specs.Prelude.{◌^◌, IsSome}
 use Rattle.stm_model.specs.declared.alg.Alg.TheVariants.{OrecEager}
-use Rattle.stm_model.specs.Memories.{item_at, put}
+use Rattle.stm_model.specs.Memories.{item_at}
 use Rattle.rule_base.specs.declared.seats.SeatView.{SeatView}
 use Rattle.rule_base.specs.declared.seats.Who.{Who}
-use Rattle.rule_base.specs.declared.views.GateView.{GateView}
 use Rattle.rule_base.specs.declared.views.View.{View}
-use Rattle.rule_base.specs.Own.{Own}
 use Rattle.rule_base.specs.StepKinds.{Nothing}
 use Rattle.rule_orec.specs.OrecSteps.{orec_place}
 use Rattle.stm_rule.specs.declared.local.Local.{Local}
@@ -16,7 +14,6 @@ use Rattle.stm_rule.specs.StandLemmas.{tells-of}
 use Rattle.tx_answers.specs.declared.answers.Write.TheVariants as writes
 use Rattle.tx_answers.specs.Answers.{HasWritten}
 use Rattle.tx_answers.specs.Causes.{is_some}
-use Rattle.tx_answers.specs.Known.{known_of}
 use Rattle.stm_gate.specs.Knowing.{known}
 use Rattle.stm_gate.specs.Standing.{runs-of}
 use Rattle.stm_gate.specs.Told.{told, running-by, stands-in}
@@ -24,7 +21,6 @@ use Rattle.alg_orec.proofs.EagerLaws as reading
 use Rattle.alg_orec.proofs.EagerProving as proving
 use Rattle.alg_orec.proofs.EagerProving.{eager-of}
 use Rattle.alg_orec.proofs.EagerWriteLaws as laws
-use Rattle.alg_orec.proofs.ReadCalls as calls
 use Rattle.alg_orec.proofs.orec_eager.write_again.Goals as goal
 
 pub place-requires-clause-view : goal.place-requires-clause-view
@@ -77,8 +73,7 @@ invariant_of-desc g c =
     let value = ap (λ (p : Handle g.row.K.Denot). p.who.rule) c.desc.view_is ∙ c.requires.stm.rule in
     let running = ap (λ (y : Local). y.running) stores.local ∙ running-by (good_by g.K.MemRule.good s.who.rule) s.who.config d.number d.local s.view i.phase c.desc.invariant.1 in
     let tied = c.desc.invariant.0 in
-    let lengths : SameLengths q = laws.lengths-stored good f d.number d.local s.view i eager plain quiet k a x q w.view stores c.desc.invariant.1.lengths in
-    (
+    let lengths : SameLengths q = laws.lengths-stored good f d.number d.local s.view i eager plain quiet k a x q w.view stores c.desc.invariant.1.lengths in (
       record {
         named = ap (λ (y : Who g.row.K.Denot). y.role) who ∙ tied.named;
         low = subst (λ (y : Who g.row.K.Denot). d.number < y.config.callers) (sym who) tied.low;
@@ -116,4 +111,3 @@ returns-clause-write g c =
     let who = ap (λ (y : SeatView g.row.K.Denot). y.who) seated in
     told (λ n v w. HasWritten good f n a x writes.Done v w) h e d.number w q c.desc.view_is who c.desc.invariant.0.named
     (laws.writes-done good f d.number d.local s.view i eager plain quiet k a x q w.view stores (laws.room-again good f d.number d.local s.view i eager plain quiet k a there))
-
