@@ -81,9 +81,9 @@ const CUT_EAGER_TRACES: &[Case] = &[
     ),
     // the raise of a cancelled attempt comes to the limit
     (
-        "alg OrecEager / clock 4611686018427387903",
-        "tx 0 {write 0 1; cancel} / tx 0 {irrev; write 0 2}",
-        "finish / 0 begin OrecEager / 0 write 1 / 0 cancel cancelled 4611686018427387903 / 0 begin OrecEager / 0 irrev clockfull 4611686018427387904 / clock full 4611686018427387904",
+        "alg OrecEager / clock 4611686018427387902",
+        "tx 0 {write 0 1} / tx 0 {write 0 2; cancel} / tx 0 {irrev; write 0 3}",
+        "finish / 0 begin OrecEager / 0 write 1 / 0 commit committed 4611686018427387903 / 0 begin OrecEager / 0 write 2 / 0 cancel cancelled 4611686018427387903 / 0 begin OrecEager / 0 irrev clockfull 4611686018427387904 / clock full 4611686018427387904",
     ),
 ];
 
