@@ -205,7 +205,7 @@ module _ {K : Type 0} (good : List ℕ → Type 0) (w : Workload) (stm : Stm K) 
       ran = record {
         part = w;
         header = refl;
-        each = λ n lt. ([], items_of n w.items, sym (append-nil (items_of n w.items)), inl refl);
+        each = λ n lt. ([], (items_of n w.items, sym (append-nil (items_of n w.items)), inl refl));
         report = report;
         shown = shown good w stm items sized theorem ran r.words closed report (stands ran t) t.count d.1 r.closes r.is;
       };

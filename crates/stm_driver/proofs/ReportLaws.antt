@@ -1,6 +1,6 @@
 -- From workers whose items are all done to the report.
 use Rattle.std.proofs.Common.{ℕ, zero, suc, ◌≡◌, ◌≤◌, ◌++◌, List, [], ◌∷◌, length, get_or, drop, map, refl, sym, ap, ◌∙◌, arith, subst}
-use Rattle.std.specs.Prelude.{All, Contains, sum_by, IsPermutation, slice_index_or}
+use Rattle.std.specs.Prelude.{All, Contains, sum_by, IsPermutation, slice_index_or, Result, Ok, Err, IfErr}
 use Rattle.std.proofs.lemmas.List.{append-nil}
 use Rattle.std.proofs.lemmas.List.Elements.{All-head, All-tail}
 use Rattle.std.proofs.lemmas.List.Sums.{sum_by-cons}
@@ -138,3 +138,8 @@ module _ {K : Type 0} (good : List ℕ → Type 0) (w : Workload) (stm : Stm K) 
         shows = subst (λ k. Shows closed.history k closed.clock w report) (sym (c.opening ∙ ap (λ (x : Config). x.clock) sized)) both.1;
         installs = c.installs ∙ (installs-all 0 rs stood over ∙ ap (λ k. map (installs_for w) (counted 0 k)) (len ∙ ap (λ (x : Config). x.callers) sized));
       }
+
+-- what doesn't depend on the error
+pub if-err-any : {A E P : Type 0} (r : Result A E) → P → IfErr r (λ e. P)
+if-err-any (Ok a) p = tt
+if-err-any (Err e) p = p

@@ -1,10 +1,11 @@
 -- The rows of all workers, taken one by one.
 use Rattle.std.proofs.Common.{ℕ, zero, suc, ◌≡◌, ◌<◌, List, [], ◌∷◌, ◌++◌, length, length-append, get_or, set, refl, sym, ap, ◌∙◌, arith, subst, append_assoc}
-use Rattle.std.specs.Prelude.{IsPermutation}
+use Rattle.std.specs.Prelude.{IsPermutation, Option, Some, None, Bool, true, false, ◌==◌, ◌≤◌, ◌+◌, ◌≢◌}
+use Rattle.std.proofs.lemmas.Bool.Decides.{nat_tests}
 use Rattle.std.proofs.lemmas.List.Sorted.{IsPermutation-refl, IsPermutation-trans, IsPermutation-append_comm, IsPermutation-append_left, IsPermutation-append_right, length_permutation}
 use Rattle.stm_script.specs.declared.report.Row.{Row}
 use Rattle.stm_worker.specs.declared.worker.Worker.{Worker}
-use Rattle.stm_driver.specs.AllWorkers.{descs_of, rows_of, TakesLast}
+use Rattle.stm_driver.specs.AllWorkers.{descs_of, rows_of, HasRows, TakesLast}
 
 module _ {K : Type 0} where
   -- a worker's last row stands behind all others
@@ -45,3 +46,24 @@ module _ {K : Type 0} where
   pub none-have : (ws : List (Worker K)) → ((n : ℕ) (d : Worker K) → n < length ws → (get_or ws n d).rows.items ≡ []) → rows_of ws ≡ []
   none-have [] h = refl
   none-have (w ∷ ws) h = ap (λ l. l ++ rows_of ws) (h 0 w (omega arith)) ∙ none-have ws (λ n d lt. h (suc n) d (omega (arith, lt)))
+
+  -- of the first n none has a row, or this one has
+  abbrev pub FoundTo : List (Worker K) → ℕ → Option (ℕ × ℕ) → Type 0
+  FoundTo ws n None = (i : ℕ) (d : Worker K) → i < n → i < length ws → (get_or ws i d).rows.items ≡ []
+  FoundTo ws n (Some f) = HasRows ws f.0
+
+  pub found-none : (ws : List (Worker K)) (n : ℕ) (found : Option (ℕ × ℕ)) → FoundTo ws n found → ((d : Worker K) → n < length ws → (get_or ws n d).rows.items ≡ []) → FoundTo ws (n + 1) found
+  found-none ws n None before here = λ i d lt less. by i d less (i == n) refl lt
+    where
+      by : (i : ℕ) (d : Worker K) → i < length ws → (b : Bool) → (i == n) ≡ b → i < n + 1 → (get_or ws i d).rows.items ≡ []
+      by i d less true e lt = (let same : i ≡ n = grind (arith, nat_tests) in subst (λ k. (get_or ws k d).rows.items ≡ []) (sym same) (here d (subst (λ k. k < length ws) same less)))
+      by i d less false e lt = before i d (let apart : i ≢ n = grind (arith, nat_tests) in omega (arith, lt, apart)) less
+  found-none ws n (Some f) before here = before
+
+  pub all-none : (ws : List (Worker K)) (n : ℕ) (found : Option (ℕ × ℕ)) → FoundTo ws n found → found ≡ None → length ws ≤ n → rows_of ws ≡ []
+  all-none ws n None before e most = none-have ws (λ i d lt. before i d (omega (arith, lt, most)) lt)
+  all-none ws n (Some f) before e most = absurd cc
+
+  pub one-has : (ws : List (Worker K)) (n : ℕ) (found : Option (ℕ × ℕ)) (f : ℕ × ℕ) → FoundTo ws n found → found ≡ Some f → HasRows ws f.0
+  one-has ws n None f before e = absurd cc
+  one-has ws n (Some g) f before e = (let same : g ≡ f = cc in subst (λ (x : ℕ × ℕ). HasRows ws x.0) same before)

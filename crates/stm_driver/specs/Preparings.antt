@@ -41,12 +41,12 @@ pub record IsPrepared {K : Type 0} (h : Header) (parts : List (List Item)) (stm 
   pub made : AreMade (λ n. slice_index_or parts n []) (regions_of h) h.alg 0 descs ws
 
 -- all are empty, with room for so many descriptors, rows and words
-pub record HasRoom {K : Type 0} (callers items words : ℕ) (room : Room K) : Type 0 where
+pub record HasRoom {K : Type 0} (callers items heap : ℕ) (room : Room K) : Type 0 where
   pub empty : (room.descs.items ≡ []) × (room.rows.items ≡ []) × (room.words.items ≡ [])
   pub none : (vec_len room.descs ≡ 0) × (vec_len room.rows ≡ 0) × (vec_len room.words ≡ 0)
   pub descs : callers ≤ vec_capacity room.descs
   pub rows : items ≤ vec_capacity room.rows
-  pub words : words ≤ vec_capacity room.words
+  pub words : heap ≤ vec_capacity room.words
 
 -- this is a workload that is prepared, and its scripts keep the rule
 pub record IsReadyFor {K : Type 0} (good : List ℕ → Type 0) (m : Mode) (w : Workload) (p : Prepared K) : Type 0 where

@@ -32,7 +32,7 @@ pub fn run<R: Threads + Wait + Sync, K: MemRule + Drop + Send + Sync, G: Turnsti
     turnstile: &G,
 ) -> Outcome
     requires ready { (w : Workload) × IsReadyFor (K.good prepared.stm.rule) Run w prepared }
-    ensures { (w : Workload) → IsReadyFor (K.good prepared.stm.rule) Run w prepared → HasRun w result }
+    ensures { (w : Workload) → IsReadyFor (K.good prepared.entry.stm.rule) Run w prepared.entry → HasRun w result }
 {
     let Prepared {
         stm,

@@ -27,7 +27,7 @@ pub fn step<R: Wait, K: MemRule + Drop>(
     schedule: &[Go],
 ) -> (Vec<Line>, Outcome)
     requires ready { (w : Workload) × IsReadyFor (K.good prepared.stm.rule) Step w prepared × (schedule.now ≡ w.schedule) }
-    ensures { (w : Workload) → IsReadyFor (K.good prepared.stm.rule) Step w prepared → schedule.now ≡ w.schedule → HasStepped w result.0.items result.1 }
+    ensures { (w : Workload) → IsReadyFor (K.good prepared.entry.stm.rule) Step w prepared.entry → schedule.now ≡ w.schedule → HasStepped w result.0.items result.1 }
 {
     let Prepared {
         stm,

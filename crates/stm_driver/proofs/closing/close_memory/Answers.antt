@@ -31,15 +31,3 @@ close_into-closed-requires-clause-all g c =
 
 pub make_all_idle-requires : goal.make_all_idle-requires
 make_all_idle-requires g c = subst (λ rs. AreSound (g.K.MemRule.good c.args.stm.rule) c.args.stm (workers_in rs)) (sym c.as_mut_slice.ensures.value) c.requires.sound
-
-pub returns-in-Ok-how : goal.returns-in-Ok-how
-returns-in-Ok-how g c =
-    let back = came-back (g.K.MemRule.good c.args.stm.rule) c.args.stm c.args.runners.items c.as_mut_slice.result.now c.make_all_idle.new.runners c.args.runners.len c.as_mut_slice.ensures.value c.as_mut_slice.ensures.len c.requires.callers c.make_all_idle.ensures in
-    let ws = workers_in c.args.runners.items in
-    let between = subst (λ h. OnOk h (All (λ (w : Worker g.row.K.Denot). w.phase ≡ Between) ws)) c.in-Ok-how.is c.requires.through in
-    let after : workers_in c.make_all_idle.new.runners ≡ ws = idle-still (g.K.MemRule.good c.args.stm.rule) c.args.stm ws (workers_in c.make_all_idle.new.runners) between back.idle in
-    subst (λ h. Came (g.K.MemRule.good c.args.stm.rule) c.args.stm (workers_in c.args.runners.items) h (ToEnd c.in-Ok-report.report c.close_into-closed.result)) (sym c.in-Ok-how.is) (record {
-      words = c.close_into-closed.new.words.items;
-      closes = subst (λ ds. Closes (g.K.MemRule.good c.args.stm.rule) c.args.stm.config ds c.close_into-closed.new.words.items c.close_into-closed.result) (c.take_apart.ensures.descs ∙ (ap descs_of back.is ∙ ap descs_of after)) c.close_into-closed.ensures;
-      is = c.report_of.ensures;
-    })

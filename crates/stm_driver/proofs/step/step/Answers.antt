@@ -14,7 +14,7 @@ use Rattle.stm_driver.proofs.step.step.Goals as goal
 pub drive-how-requires-clause-sound : goal.drive-how-requires-clause-sound
 drive-how-requires-clause-sound g c =
     let w = c.requires.ready.0 in
-    let r = c.requires.ready.1.0 in
+    let r = c.requires.ready.1 in
     let s = c.args.prepared.stm in
     let begun = begun (g.K.MemRule.good s.rule) w s (built-items Step w c.built_workloads_fit.ensures r.built) r.prepared.sized r.keeps (parted w.header.callers w.items) (workers_in c.args.prepared.runners.items) refl r.prepared in
     subst (λ l. AreSound (g.K.MemRule.good s.rule) s (workers_in l)) (sym c.as_mut_slice.ensures.value) begun.sound
@@ -22,41 +22,41 @@ drive-how-requires-clause-sound g c =
 pub drive-how-requires-clause-below : goal.drive-how-requires-clause-below
 drive-how-requires-clause-below g c =
     let w = c.requires.ready.0 in
-    let r = c.requires.ready.1.0 in
+    let r = c.requires.ready.1 in
     let s = c.args.prepared.stm in
     let begun = begun (g.K.MemRule.good s.rule) w s (built-items Step w c.built_workloads_fit.ensures r.built) r.prepared.sized r.keeps (parted w.header.callers w.items) (workers_in c.args.prepared.runners.items) refl r.prepared in
     subst (λ l. All (λ (go : Go). go.caller < length (workers_in l)) c.args.schedule.now) (sym c.as_mut_slice.ensures.value)
-    (subst (λ (gos : List Go). All (λ (go : Go). go.caller < length (workers_in c.args.prepared.runners.items)) gos) (sym c.requires.ready.1.1)
+    (subst (λ (gos : List Go). All (λ (go : Go). go.caller < length (workers_in c.args.prepared.runners.items)) gos) (sym c.requires.ready.2)
     (turns-below (g.K.MemRule.good s.rule) w s (built-items Step w c.built_workloads_fit.ensures r.built) r.prepared.sized w.schedule (workers_in c.args.prepared.runners.items) (λ i d lt. (r.built.schedule.0 i d lt).0) begun))
 
-pub close_memory-requires-clause-sound : goal.close_memory-requires-clause-sound
-close_memory-requires-clause-sound g c =
+pub close_memory-outcome-requires-clause-sound : goal.close_memory-outcome-requires-clause-sound
+close_memory-outcome-requires-clause-sound g c =
     let w = c.requires.ready.0 in
-    let r = c.requires.ready.1.0 in
+    let r = c.requires.ready.1 in
     let s = c.args.prepared.stm in
     let done = done (g.K.MemRule.good s.rule) w s (built-items Step w c.built_workloads_fit.ensures r.built) r.prepared.sized r.keeps (parted w.header.callers w.items) refl c.args.prepared.runners.items c.as_mut_slice.result.now c.drive-how.new.runners c.args.prepared.runners.len r.prepared c.as_mut_slice.ensures.value c.as_mut_slice.ensures.len c.drive-how.ensures.same c.drive-how.ensures.sound in
     done.turned.sound
 
-pub close_memory-requires-clause-callers : goal.close_memory-requires-clause-callers
-close_memory-requires-clause-callers g c =
+pub close_memory-outcome-requires-clause-callers : goal.close_memory-outcome-requires-clause-callers
+close_memory-outcome-requires-clause-callers g c =
     let w = c.requires.ready.0 in
-    let r = c.requires.ready.1.0 in
+    let r = c.requires.ready.1 in
     let s = c.args.prepared.stm in
     let done = done (g.K.MemRule.good s.rule) w s (built-items Step w c.built_workloads_fit.ensures r.built) r.prepared.sized r.keeps (parted w.header.callers w.items) refl c.args.prepared.runners.items c.as_mut_slice.result.now c.drive-how.new.runners c.args.prepared.runners.len r.prepared c.as_mut_slice.ensures.value c.as_mut_slice.ensures.len c.drive-how.ensures.same c.drive-how.ensures.sound in
     done.turned.callers
 
-pub close_memory-requires-clause-all : goal.close_memory-requires-clause-all
-close_memory-requires-clause-all g c =
+pub close_memory-outcome-requires-clause-all : goal.close_memory-outcome-requires-clause-all
+close_memory-outcome-requires-clause-all g c =
     let w = c.requires.ready.0 in
-    let r = c.requires.ready.1.0 in
+    let r = c.requires.ready.1 in
     let s = c.args.prepared.stm in
     let done = done (g.K.MemRule.good s.rule) w s (built-items Step w c.built_workloads_fit.ensures r.built) r.prepared.sized r.keeps (parted w.header.callers w.items) refl c.args.prepared.runners.items c.as_mut_slice.result.now c.drive-how.new.runners c.args.prepared.runners.len r.prepared c.as_mut_slice.ensures.value c.as_mut_slice.ensures.len c.drive-how.ensures.same c.drive-how.ensures.sound in
     done.turned.count
 
-pub close_memory-requires-clause-room : goal.close_memory-requires-clause-room
-close_memory-requires-clause-room g c =
+pub close_memory-outcome-requires-clause-room : goal.close_memory-outcome-requires-clause-room
+close_memory-outcome-requires-clause-room g c =
     let w = c.requires.ready.0 in
-    let r = c.requires.ready.1.0 in
+    let r = c.requires.ready.1 in
     let s = c.args.prepared.stm in
     let done = done (g.K.MemRule.good s.rule) w s (built-items Step w c.built_workloads_fit.ensures r.built) r.prepared.sized r.keeps (parted w.header.callers w.items) refl c.args.prepared.runners.items c.as_mut_slice.result.now c.drive-how.new.runners c.args.prepared.runners.len r.prepared c.as_mut_slice.ensures.value c.as_mut_slice.ensures.len c.drive-how.ensures.same c.drive-how.ensures.sound in
     let count = done.turned.count in
@@ -74,10 +74,10 @@ close_memory-requires-clause-room g c =
       words = omega (arith, words, heap);
     }
 
-pub close_memory-requires-clause-through : goal.close_memory-requires-clause-through
-close_memory-requires-clause-through g c =
+pub close_memory-outcome-requires-clause-through : goal.close_memory-outcome-requires-clause-through
+close_memory-outcome-requires-clause-through g c =
     let w = c.requires.ready.0 in
-    let r = c.requires.ready.1.0 in
+    let r = c.requires.ready.1 in
     let s = c.args.prepared.stm in
     let done = done (g.K.MemRule.good s.rule) w s (built-items Step w c.built_workloads_fit.ensures r.built) r.prepared.sized r.keeps (parted w.header.callers w.items) refl c.args.prepared.runners.items c.as_mut_slice.result.now c.drive-how.new.runners c.args.prepared.runners.len r.prepared c.as_mut_slice.ensures.value c.as_mut_slice.ensures.len c.drive-how.ensures.same c.drive-how.ensures.sound in
     driven-between s.config c.args.schedule.now (workers_in c.as_mut_slice.result.now) (workers_in (take c.args.prepared.runners.len (c.drive-how.new.runners ++ drop (length c.drive-how.new.runners) c.args.prepared.runners.items))) c.drive-how.new.trace.items c.drive-how.result
