@@ -34,7 +34,7 @@ use Rattle.rule_orec.specs.OrecReading.{no_sample, no_check}
 use Rattle.rule_orec.specs.OrecSteps.{HasOpen, passes, direct_attempt, direct_owned, orec_clock, orec_grant, CanOrecGrant, orec_grant_all, CanOrecGrantAll, HasStores}
 use Rattle.stm_rule.specs.declared.local.Local.{Local}
 use Rattle.stm_rule.specs.Attempts.{Keeps, IsInside, emptied, own_of}
-use Rattle.stm_rule.specs.Findings.{FindsWithin}
+use Rattle.stm_rule.specs.Findings.{FindsWithin, OrecFails}
 use Rattle.stm_rule.specs.RecordsKept.{cells_of, IsLazy}
 use Rattle.steps_orec.specs.RecordFindings.{FindsRecord, FindsClock, FindsAll, FindsGrant}
 use Rattle.steps_orec.specs.Validating.{to_validate}
@@ -338,7 +338,7 @@ module _ (good : List ℕ → Type 0) (c : Config) (n : ℕ) (low : n < c.caller
 
           refusal : Refuses c n (causes.Record (b % c.records) x l.start) s alike
           refusal = passing.refused-found c n low l s may-validate b x check done alike no_check t.0 (subst (λ (a : ℕ). touches s.attempt.reads a ≡ true) (sym at) (validity.read-last rule c n low l s may-validate j now last p second u h)) (ap (item_at (b % c.records)) no-locks)
-              (subst (λ (y : View). FindsRecord c n (b % c.records) t.0 y x) (validity.path rule c n low l s may-validate j now last p second u h) t.1.read.found) stale (validity.loads rule c n low l s may-validate j now last p second u h) refl
+              (subst (λ (y : View). FindsRecord c n (b % c.records) t.0 y x) (validity.path rule c n low l s may-validate j now last p second u h) t.1.read.found) (subst (λ (y : View). OrecFails n t.0 y x) (validity.path rule c n low l s may-validate j now last p second u h) t.1.read.fails) stale (validity.loads rule c n low l s may-validate j now last p second u h) refl
 
           same-trail : w.steps.trail ≡ alike.steps.trail
           same-trail = ap (λ (y : View). y.steps.trail) path ∙ ap (λ (is : List TrailItem). load_of (Record (b % c.records)) x ∷ is) (append_assoc done (load_of Clock time ∷ []) v.steps.trail ∙ ap (λ (y : View). done ++ y.steps.trail) (sym settled_path))

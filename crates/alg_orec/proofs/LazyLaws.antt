@@ -17,9 +17,10 @@ use Rattle.rule_base.specs.declared.views.TrailItem.{TrailItem}
 use Rattle.rule_base.specs.declared.views.Validation.{Validation}
 use Rattle.rule_base.specs.declared.views.View.{View}
 use Rattle.rule_base.specs.Bridge.{items, of_words, public_history}
-use Rattle.rule_base.specs.History.{Inside, Small}
+use Rattle.rule_base.specs.History.{touches, Inside, Small}
 use Rattle.rule_base.specs.HistoryLemmas.{inside-more}
 use Rattle.rule_base.specs.Own.{Own}
+use Rattle.rule_base.specs.Ranks.{home_of}
 use Rattle.rule_base.specs.StepKinds.{Tells, view_after}
 use Rattle.rule_orec.specs.OrecReading.{no_check, no_sample}
 use Rattle.rule_orec.specs.OrecSteps.{is_eager, HasOpen, orec_begin, CanOrecBegin}
@@ -222,7 +223,8 @@ module _ (good : List ℕ → Type 0) (c : Config) (n : ℕ) (l : Local) (v : Vi
         versions = λ r version e. absurd (let f : None ≡ Some version = sym (ap (item_at r) no-locks) ∙ e in cc);
         level = λ one. i.start ∙ (k.sole one ∙ ap (λ (q : ℕ). c.clock + q) (sym k.optimistic.rises));
       };
-      unheld = empty;
+      unheld = ap (λ (cs : List Cell). touches cs (home_of c a)) empty;
+      olds = λ r t. absurd (let f : true ≡ false = sym t ∙ ap (λ (cs : List Cell). touches cs r) empty in cc);
       front = i.front;
       inside = low;
     }

@@ -15,5 +15,14 @@ pub mod EntryLaws
 pub mod GrantingLaws
 pub mod EndingLaws
 pub mod Writing
+pub mod EagerReleasing
+pub mod EagerBackLaws
+pub mod EagerTakingLaws
+pub mod EagerProving
+pub mod EagerLaws
+pub mod EagerWriteLaws
+pub mod EagerCommitLaws
+pub mod EagerDirectLaws
+pub mod EagerGrantLaws
 pub mod CallLaws
 pub mod LockAllLaws

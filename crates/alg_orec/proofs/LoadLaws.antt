@@ -52,9 +52,6 @@ module _ (good : (ℕ → ℕ) → Type 0) (c : Config) (n : ℕ) (low : n < c.c
   abbrev r : ℕ
   r = a % c.records
 
-  unheld : (q : ℕ) → touches v.owned.held q ≡ false
-  unheld q = ap (λ (cs : List Cell). touches cs q) can.unheld
-
   -- where the start stays
   stays : (sample : Sample) (check : Validation) (more : List TrailItem) → record v { sample = sample; check = check; steps = record v.steps { trail = more ++ v.steps.trail } } ≡ moved v l.start v.history.seen v.attempt.reads sample check more
   stays sample check more = λ i. record v { history = record v.history { front = can.front i }; attempt = record v.attempt { start = can.can.start i }; sample = sample; check = check; steps = record v.steps { trail = more ++ v.steps.trail } }
@@ -82,9 +79,9 @@ module _ (good : (ℕ → ℕ) → Type 0) (c : Config) (n : ℕ) (low : n < c.c
         sym can.can.start,
         (a, refl, inl refl),
         record { early = []; act = Load; late = []; trail = refl; untouched = tt },
-        inl (owned, t.1.others owned (unheld r)),
+        inl (owned, t.1.others owned can.unheld),
       );
-      others = owned-others c n low t.0 v x r t.1 owned (unheld r);
+      others = owned-others c n low t.0 v x r t.1 owned can.unheld;
     })
 
     -- it is one that the start has seen
@@ -183,7 +180,7 @@ module _ (good : (ℕ → ℕ) → Type 0) (c : Config) (n : ℕ) (low : n < c.c
                     → ((is_owned word ≡ true) × NamesOther c n (1 + owner_of word)) ⊎ ((is_owned word ≡ false) × (start < version_of word) × ((b : ℕ) × (index ≡ b % c.records) × (has_item b (items v.attempt.reads) ≡ true)))
                 stale (inl s) = inl s
                 stale (inr s) = inr (s.0, s.1, (k.a, k.home, has-read v.attempt.reads k.a k.read))
-            why o p (inr f) = absurd (let e : true ≡ false = sym f.held ∙ unheld index in cc)
+            why o p (inr f) = absurd (let old = can.olds index f.held in let s = k.start in let late = f.newer in omega arith)
     refused-stale (causes.Moved index before after) w free late q = absurd q
     refused-stale (causes.Filter time bits) w free late q = absurd q
     refused-stale (causes.Overrun start clock) w free late q = absurd q

@@ -23,6 +23,7 @@ use Rattle.rule_orec.specs.OrecReading.{no_check, passed}
 use Rattle.rule_orec.specs.OrecSteps.{HasOpen, passes, orec_pass, CanOrecPass}
 use Rattle.stm_gate.specs.Logging.{item-touched}
 use Rattle.stm_rule.specs.declared.local.Local.{Local}
+use Rattle.stm_rule.specs.Findings.{OrecFails}
 use Rattle.steps_orec.specs.OthersLaws.{owned-others, newer-others}
 use Rattle.steps_orec.specs.RecordFindings.{FindsRecord, FindsRead}
 use Rattle.steps_orec.specs.Validating.{is_vouched}
@@ -76,17 +77,17 @@ module _ (c : Config) (n : ℕ) (low : n < c.callers) (l : Local) (v : View) (ca
   fails-by check more x (inr newer) = let s = can.start in let free = newer.0 in let late = newer.1 in grind (arith, nat_tests, free)
 
   -- a loaded record that doesn't pass is another caller's, or newer
-  stale-by : (check : Validation) (more : List TrailItem) (r x : ℕ) (m : World) → item_at r l.locks.items ≡ None → FindsRecord c n r m (under check more) x
+  stale-by : (check : Validation) (more : List TrailItem) (r x : ℕ) (m : World) → item_at r l.locks.items ≡ None → FindsRecord c n r m (under check more) x → OrecFails n m (under check more) x
       → (is_owned x ≡ true) ⊎ ((is_owned x ≡ false) × (l.start < version_of x)) → (after : List TrailItem) → after ≡ load_of (Record r) x ∷ more → IsFoundStale c n r x l.start after v
-  stale-by check more r x m none f (inl owned) after is = let free = unheld r none in
-      record { early = more; last = is; unheld = free; stale = inl (owned, f.others owned free); others = owned-others c n low m (under check more) x r f owned free }
-  stale-by check more r x m none f (inr newer) after is = let free = unheld r none in
-      record { early = more; last = is; unheld = free; stale = inr newer; others = newer-others c n low m (under check more) x r f newer.0 can.level (let s = can.start in let e = newer.1 in omega arith) }
+  stale-by check more r x m none f fails (inl owned) after is = let free = unheld r none in
+      record { early = more; last = is; unheld = free; stale = inl (owned, f.others owned free); others = owned-others c n low m (under check more) x r f owned free; later = λ calm. absurd (let q = f.others owned free in let own = fails.own calm owned in let e = q.3 in q.2 (omega arith)) }
+  stale-by check more r x m none f fails (inr newer) after is = let free = unheld r none in
+      record { early = more; last = is; unheld = free; stale = inr newer; others = newer-others c n low m (under check more) x r f newer.0 can.level (let s = can.start in let e = newer.1 in omega arith); later = λ calm. fails.later calm newer.0 (fails-by check more x (inr newer)) }
 
   -- the read at a was found stale in the last step, or its record is held in the place of a newer version
-  pub refused-found : (a x : ℕ) (check : Validation) (more : List TrailItem) (w : View) (after : Validation) (m : World) → touches v.attempt.reads a ≡ true → item_at (a % c.records) l.locks.items ≡ None → FindsRecord c n (a % c.records) m (under check more) x
+  pub refused-found : (a x : ℕ) (check : Validation) (more : List TrailItem) (w : View) (after : Validation) (m : World) → touches v.attempt.reads a ≡ true → item_at (a % c.records) l.locks.items ≡ None → FindsRecord c n (a % c.records) m (under check more) x → OrecFails n m (under check more) x
       → (is_owned x ≡ true) ⊎ ((is_owned x ≡ false) × (l.start < version_of x)) → OnlyLoads more → w ≡ under after (load_of (Record (a % c.records)) x ∷ more) → Refuses c n (causes.Record (a % c.records) x l.start) v w
-  refused-found a x check more w after m read none f stale loads is = subst (λ (y : View). Refuses c n (causes.Record (a % c.records) x l.start) v y) (sym is) (record {
+  refused-found a x check more w after m read none f fails stale loads is = subst (λ (y : View). Refuses c n (causes.Record (a % c.records) x l.start) v y) (sym is) (record {
     start = sym can.start;
     a = a;
     home = refl;
@@ -94,7 +95,7 @@ module _ (c : Config) (n : ℕ) (low : n < c.callers) (l : Local) (v : View) (ca
     more = load_of (Record (a % c.records)) x ∷ more;
     is = refl;
     loads = (refl, loads);
-    why = inl (stale-by check more (a % c.records) x m none f stale (load_of (Record (a % c.records)) x ∷ more) refl);
+    why = inl (stale-by check more (a % c.records) x m none f fails stale (load_of (Record (a % c.records)) x ∷ more) refl);
   })
 
   pub refused-held : (a version : ℕ) (w : View) (after : Validation) (more : List TrailItem) → touches v.attempt.reads a ≡ true → item_at (a % c.records) l.locks.items ≡ Some version → l.start < version → OnlyLoads more → w ≡ under after more
@@ -126,7 +127,7 @@ module _ (c : Config) (n : ℕ) (low : n < c.callers) (l : Local) (v : View) (ca
   }
     where
       why : IsFoundStale c n index word start q.more (under check early) ⊎ IsHeldNewer c n index word start (under check early) → IsFoundStale c n index word start (q.more ++ early) v ⊎ IsHeldNewer c n index word start v
-      why (inl f) = inl (record { early = f.early ++ early; last = ap (λ (t : List TrailItem). t ++ early) f.last; unheld = f.unheld; stale = f.stale; others = f.others })
+      why (inl f) = inl (record { early = f.early ++ early; last = ap (λ (t : List TrailItem). t ++ early) f.last; unheld = f.unheld; stale = f.stale; others = f.others; later = f.later })
       why (inr f) = inr (record { held = f.held; word = f.word; newer = f.newer })
   refused-earlier check early (causes.Moved index before after) w loads q = absurd q
   refused-earlier check early (causes.Filter time bits) w loads q = absurd q
@@ -213,7 +214,7 @@ module _ (c : Config) (n : ℕ) (low : n < c.callers) (l : Local) (v : View) (ca
 
       refused-on : (x : ℕ) (w : View) → item_at (b % c.records) l.locks.items ≡ None → (is_owned x ≡ true) ⊎ ((is_owned x ≡ false) × (l.start < version_of x)) → Tells (orec_pass (b % c.records) b) (FindsRead c n (b % c.records)) v x w
           → Refuses c n (causes.Record (b % c.records) x l.start) v w
-      refused-on x w none stale t = refused-found b x v.check [] w no_check t.0 read-at none t.1.found stale tt (pass_path x w false (fails-by v.check [] x stale) t)
+      refused-on x w none stale t = refused-found b x v.check [] w no_check t.0 read-at none t.1.found t.1.fails stale tt (pass_path x w false (fails-by v.check [] x stale) t)
 
       pub judged : (x : ℕ) (w : View) (q : Result (Unit {0}) Cause) → item_at (b % c.records) l.locks.items ≡ None → Judges (b % c.records) q x l.start → Tells (orec_pass (b % c.records) b) (FindsRead c n (b % c.records)) v x w → Passes c n i (i + 1) q l v w
       judged x w (Ok u) none j t = passed-on x w j.0 j.1 t

@@ -24,10 +24,10 @@ use Rattle.stm_gate.specs.LeavingLaws.{IsUnmade, quits-left, trail-left, found-e
 use Rattle.alg_orec.specs.Ending.{GivesUp}
 
 -- more steps were taken
-as-was-later : (p : At) (x : ℕ) (v u w : Known) (more : List TrailItem) → w.trail ≡ more ++ u.trail → FoundAsWas p x v u → FoundAsWas p x v w
+pub as-was-later : (p : At) (x : ℕ) (v u w : Known) (more : List TrailItem) → w.trail ≡ more ++ u.trail → FoundAsWas p x v u → FoundAsWas p x v w
 as-was-later p x v u w more t f = record { early = f.early; act = f.act; late = more ++ f.late; trail = t ∙ (ap (λ (s : List TrailItem). more ++ s) f.trail ∙ sym (append_assoc more f.late _)); untouched = f.untouched }
 
-moved-later : (p : At) (x y : ℕ) (v u w : Known) (more : List TrailItem) → w.trail ≡ more ++ u.trail → FoundMoved p x y v u → FoundMoved p x y v w
+pub moved-later : (p : At) (x y : ℕ) (v u w : Known) (more : List TrailItem) → w.trail ≡ more ++ u.trail → FoundMoved p x y v u → FoundMoved p x y v w
 moved-later p x y v u w more t f = record { apart = f.apart; early = f.early; middle = f.middle; act = f.act; late = more ++ f.late; trail = t ∙ (ap (λ (s : List TrailItem). more ++ s) f.trail ∙ sym (append_assoc more f.late _)); untouched = f.untouched; refused = f.refused }
 
 module _ (c : Config) (n : ℕ) (asked : Option ℕ) where
@@ -91,7 +91,7 @@ ends-own v w o p r k e = let g = e.grows in record {
   installs = e.installs;
 }
 
-quits-own : (v w : View) (o p : Own) → p.reads_limit ≡ o.reads_limit → p.writes_limit ≡ o.writes_limit → Quits (known_of v o) (known_of w o) → Quits (known_of v o) (known_of w p)
+pub quits-own : (v w : View) (o p : Own) → p.reads_limit ≡ o.reads_limit → p.writes_limit ≡ o.writes_limit → Quits (known_of v o) (known_of w o) → Quits (known_of v o) (known_of w p)
 quits-own v w o p r k q = record { ends = ends-own v w o p r k q.ends; made = q.made; rises = q.rises; revocable = q.revocable }
 
 -- an attempt of OrecLazy that was not promoted

@@ -20,6 +20,7 @@ use Rattle.rule_base.specs.StepKinds.{Tells, view_after}
 use Rattle.rule_orec.specs.OrecReading.{no_check, checks}
 use Rattle.rule_orec.specs.OrecSteps.{passes, orec_clock, orec_clock_all, CanOrecClock, orec_last, CanOrecLast}
 use Rattle.stm_rule.specs.declared.local.Local.{Local}
+use Rattle.stm_rule.specs.Findings.{OrecFails}
 use Rattle.steps_orec.specs.RecordFindings.{FindsRecord, FindsClock, FindsAll, FindsLast}
 use Rattle.steps_orec.specs.Validating.{is_vouched, to_validate, touches-unvouched}
 use Rattle.alg_orec.proofs.Passing as passing
@@ -151,7 +152,7 @@ module _ (good : (ℕ → ℕ) → Type 0) (c : Config) (n : ℕ) (low : n < c.c
       pub refused-last : (b x : ℕ) (w : View) → b ≡ read_at l i → item_at (b % c.records) l.locks.items ≡ None → (is_owned x ≡ true) ⊎ ((is_owned x ≡ false) × (l.start < version_of x)) → Tells (orec_last (b % c.records) b) (FindsLast good c n (b % c.records)) u x w
           → Refuses c n (causes.Record (b % c.records) x l.start) v w
       refused-last b x w at none stale t = passing.refused-found c n low l v can b x here more w no_check t.0 (subst (λ (a : ℕ). touches v.attempt.reads a ≡ true) (sym at) read-last) none
-          (subst (λ (y : View). FindsRecord c n (b % c.records) t.0 y x) path t.1.read.found) stale loads (last_path b x w false (passing.fails-by c n low l v can here more x stale) t)
+          (subst (λ (y : View). FindsRecord c n (b % c.records) t.0 y x) path t.1.read.found) (subst (λ (y : View). OrecFails n t.0 y x) path t.1.read.fails) stale loads (last_path b x w false (passing.fails-by c n low l v can here more x stale) t)
 
       -- or all are
       pub valid-last : (b x : ℕ) (w : View) → is_owned x ≡ false → version_of x ≤ l.start → Tells (orec_last (b % c.records) b) (FindsLast good c n (b % c.records)) u x w → IsValid c n good l v (record l { start = now }) w

@@ -4,3 +4,7 @@ pub mod Locking
 pub mod Loading
 pub mod Committing
 pub mod Granting
+pub mod EagerEnding
+pub mod EagerTaking
+pub mod EagerCommitting
+pub mod EagerGranting

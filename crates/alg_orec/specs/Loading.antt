@@ -10,8 +10,9 @@ use Rattle.rule_base.specs.declared.views.TrailItem.{TrailItem}
 use Rattle.rule_base.specs.declared.views.Validation.{Validation}
 use Rattle.rule_base.specs.declared.views.View.{View}
 use Rattle.rule_base.specs.Encodings.{is_owned, version_of}
-use Rattle.rule_base.specs.History.{word_now, Below, Explains, Legal}
+use Rattle.rule_base.specs.History.{over, touches, word_now, Below, Explains, Legal}
 use Rattle.rule_base.specs.Own.{Own}
+use Rattle.rule_base.specs.Ranks.{home_of}
 use Rattle.rule_orec.specs.OrecReading.{no_check, no_sample}
 use Rattle.stm_rule.specs.declared.local.Local.{Local}
 use Rattle.steps_orec.specs.RecordFindings.{Moves}
@@ -19,10 +20,11 @@ use Rattle.tx_answers.specs.Causes.{Conflicts}
 use Rattle.tx_answers.specs.Known.{known_of}
 use Rattle.alg_orec.specs.Validating.{CanValidate, OnlyLoads, load_of}
 
--- the attempt holds no record, and may load the word at a
+-- the attempt doesn't hold the record of a, and all that it holds were free at versions that its start has seen
 pub record CanLoadValid (c : Config) (a : ℕ) (l : Local) (v : View) : Type 0 where
   pub can : CanValidate c l v
-  pub unheld : v.owned.held ≡ []
+  pub unheld : touches v.owned.held (home_of c a) ≡ false
+  pub olds : (r : ℕ) → touches v.owned.held r ≡ true → over v.owned.held r 0 ≤ v.attempt.start
   pub front : v.history.front ≡ l.start
   pub inside : a < c.words
 

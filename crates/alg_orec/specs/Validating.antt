@@ -89,6 +89,8 @@ module _ (c : Config) (n : ℕ) where
     pub unheld : touches v.owned.held index ≡ false
     pub stale : ((is_owned word ≡ true) × NamesOther c n (1 + owner_of word)) ⊎ ((is_owned word ≡ false) × (start < version_of word))
     pub others : 1 < c.callers
+    -- who knows the clock as the gate's holder has an older start
+    pub later : v.gate.calm ≡ true → v.attempt.start < v.gate.time
 
   -- the attempt holds the record, in the place of a version above its start
   pub record IsHeldNewer (index found start : ℕ) (v : View) : Type 0 where

@@ -1,10 +1,15 @@
-//! OrecLazy: versioned ownership records, taken at the commit. Its file has the same functions in the same order as
-//! those of all algorithms: begin, read, write, commit, cancel, become_irrevocable.
+//! Versioned ownership records: OrecLazy takes them at the commit, OrecEager where it writes. Each has the same
+//! functions in the same order as all algorithms: begin, read, write, commit, cancel, become_irrevocable.
 #![tactic(auto)]
 
-mod committing;
+pub mod committing;
+pub mod eager_committing;
+mod eager_ending;
+pub mod eager_granting;
+mod eager_taking;
 mod ending;
 pub mod granting;
 mod locking;
+pub mod orec_eager;
 pub mod orec_lazy;
 mod validate;

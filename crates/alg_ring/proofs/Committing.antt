@@ -163,6 +163,9 @@ module _ (good : List ℕ → Type 0) (c : Config) (n : ℕ) (l : Local) (v : Vi
             sole = k.sole;
           }
 
+      pub holds-again : w.gate.holds ≡ v.gate.holds
+      holds-again = ap (λ (y : View). y.gate.holds) again-path
+
       pub tells-again : n < c.callers → Commits good c n (commits.Again 1 0 found) (known_of v o) (known_of w (record o { committing = true }))
       tells-again low = (
         record {

@@ -8,6 +8,8 @@ mod cases;
 mod command;
 mod messages;
 #[cfg(test)]
+mod eager_tests;
+#[cfg(test)]
 mod orec_tests;
 pub mod program;
 #[cfg(test)]

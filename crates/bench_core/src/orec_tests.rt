@@ -127,6 +127,28 @@ fn ends_a_lazy_trace_at_a_full_clock(rt: HostRuntime) -> Result<(), Fail> {
     )
 }
 
+/// A write log of 256 items takes 256 addresses, and no more.
+#[test]
+fn fills_a_write_log(rt: HostRuntime) -> Result<(), Fail> {
+    let alloc = rt.alloc();
+    let mut script = String::new(alloc);
+    let mut trace = String::new(alloc);
+    trace.push_str("finish\n0 begin OrecLazy\n")?;
+    for a in 0..256u64 {
+        let write = format!(in alloc; "write {a} 1; ")?;
+        script.push_str(write.as_str())?;
+        trace.push_str("0 write 1\n")?;
+    }
+    trace.push_str("0 write full 256\n0 begin OrecLazy\n0 irrev granted\n0 write 1\n")?;
+    let body = format!(in alloc; "tx 0 {{{script}write 256 1}}")?;
+    let text = workload(alloc, "alg OrecLazy / words 512", body.as_str())?;
+    let (status, held) = outcome(&rt, alloc, &["stm_bench", "step"], text.as_str(), &[], 65536)?;
+    assert_eq!(rt; status, Status::Ok);
+    assert!(rt; held.contains(trace.as_str()));
+    assert!(rt; held.ends_with("\nmem 255 1\nmem 256 1\nend\n"));
+    Ok(())
+}
+
 /// The turns of two schedules, a switch away from OrecLazy and a promotion, one after the other.
 const TURNS: &[(&str, &str, &[u64])] = &[
     (
@@ -136,6 +158,11 @@ const TURNS: &[(&str, &str, &[u64])] = &[
     ),
     (
         "alg OrecLazy / callers 2",
+        "tx 0 {write 0 5; write 1 6; irrev; emit 0} / tx 1 {read 2; irrev}",
+        &[0, 0, 0, 1, 1, 0, 1, 0, 0, 0],
+    ),
+    (
+        "alg OrecEager / callers 2",
         "tx 0 {write 0 5; write 1 6; irrev; emit 0} / tx 1 {read 2; irrev}",
         &[0, 0, 0, 1, 1, 0, 1, 0, 0, 0],
     ),

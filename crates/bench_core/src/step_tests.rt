@@ -136,6 +136,7 @@ const ALGS: &[(&str, u64, u64, u64)] = &[
     // the install makes the clock even, and a writer raises it by two
     ("TML", 2, 4, 4),
     ("OrecLazy", 1, 2, 3),
+    ("OrecEager", 1, 2, 3),
     ("RingSW", 1, 2, 3),
     ("Serial", 1, 2, 3),
 ];

@@ -39,9 +39,9 @@ fn sums_the_adds_of_32_callers(rt: HostRuntime) -> Result<(), Fail> {
 const TARGETS: &[(&str, &str)] = &[
     ("TML", "Serial"),
     ("OrecLazy", "CGL"),
-    ("RingSW", "TML"),
+    ("RingSW", "OrecEager"),
     ("CGL", "OrecLazy"),
-    ("Serial", "RingSW"),
+    ("OrecEager", "RingSW"),
 ];
 
 /// The text of a workload in which callers 0 and 1 add 1 to words 3 and 4, 2,000 times in all and irrevocably
@@ -106,7 +106,7 @@ fn sum_of(report: &str) -> u64 {
 
 #[test]
 fn keeps_the_sum_of_64_accounts(rt: HostRuntime) -> Result<(), Fail> {
-    for alg in ["OrecLazy", "RingSW"] {
+    for alg in ["OrecLazy", "OrecEager", "RingSW"] {
         let text = moves(rt.alloc(), alg)?;
         let (status, held) = outcome(&rt, rt.alloc(), RUN, text.as_str(), &[], 2000000)?;
         assert_eq!(rt; status, Status::Ok);

@@ -141,7 +141,7 @@ impl Turnstile for Crossing {
 /// Two attempts are open at once, and one commits in the other's middle.
 #[test]
 fn commits_inside_another_attempt(rt: HostRuntime) -> Result<(), Fail> {
-    for alg in ["OrecLazy", "RingSW"] {
+    for alg in ["OrecLazy", "OrecEager", "RingSW"] {
         let changes = format!(in rt.alloc(); "callers 2 / alg {alg}")?;
         let text = workload(
             rt.alloc(),

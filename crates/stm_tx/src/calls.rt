@@ -9,7 +9,7 @@ ghost use Rattle.tx_answers.specs.Known.{IsIdle, IsRunning, is_irrevocable, stat
 ghost use Rattle.stm_gate.specs.Starts.{CanBegin, Starts};
 ghost use Rattle.stm_tx.specs.Descs.{Reserves, known, number};
 
-use alg_orec::orec_lazy;
+use alg_orec::{orec_eager, orec_lazy};
 use alg_ring::ring;
 use alg_seq::{cgl, serial, tml};
 use rule_base::words::{alg_of, holder_of};
@@ -75,18 +75,19 @@ fn begin_under<K: MemRule>(
         Alg::Tml => tml::begin(seat, stm, caller),
         Alg::Serial => serial::begin(seat, stm, caller),
         Alg::OrecLazy => orec_lazy::begin(seat, stm, caller),
+        Alg::OrecEager => orec_eager::begin(seat, stm, caller),
         Alg::RingSw => ring::begin(seat, stm, caller),
-        Alg::OrecEager => unreachable!(),
     }
 }
 
-/// Reads the word at `a`: the attempt's last write of it, else what it read there before, else the memory
-/// at its start. It asks for a running attempt. All answers but a value end the attempt.
+/// Reads the word at `a`: the attempt's last write of it, else what it read there before, else the memory at its
+/// start. It asks for a running attempt. All answers but a value end the attempt.
 ///
-/// One step under CGL and Serial and in an attempt that was promoted; under TML two before the first write, and three
-/// or four where the attempt ends. Under OrecLazy none for a word that it wrote or read before, else three, and a
-/// validation where the word's record is newer than the start: one and one a logged read. Under RingSW none for a word
-/// that it wrote, else two, and where the clock has moved two more and at most 16 for each time since the start.
+/// One step under CGL and Serial and in an attempt that was promoted; under TML two before the first write, and
+/// three or four where the attempt ends. Under OrecLazy and OrecEager none for a word that it wrote or read before,
+/// else three, one where it holds the record, and a validation where that is newer than the start: one and one a
+/// logged read. Under RingSW none for a word that it wrote, else two, and where the clock has moved two more and at
+/// most 16 for each time since the start.
 pub fn read<K: MemRule>(desc: &mut Desc<K>, stm: &Stm<K>, a: usize) -> Read
     requires stm { IsOf desc.old stm.now }
     requires running { IsRunning (known desc.old) }
@@ -99,16 +100,17 @@ pub fn read<K: MemRule>(desc: &mut Desc<K>, stm: &Stm<K>, a: usize) -> Read
         Alg::Tml => tml::read(desc, stm, a),
         Alg::Serial => serial::read(desc, stm, a),
         Alg::OrecLazy => orec_lazy::read(desc, stm, a),
+        Alg::OrecEager => orec_eager::read(desc, stm, a),
         Alg::RingSw => ring::read(desc, stm, a),
-        Alg::OrecEager => unreachable!(),
     }
 }
 
-/// Writes `x` to the word at `a`, for this attempt until it commits. It asks for a running attempt. All
-/// answers but `Done` end the attempt.
+/// Writes `x` to the word at `a`, for this attempt until it commits. It asks for a running attempt. All answers but
+/// `Done` end the attempt.
 ///
-/// None under OrecLazy and RingSW, whose writes wait for the commit. One under CGL and in an attempt that was promoted;
-/// three at most under TML and Serial, and where Serial takes it back two more and one for each word that it wrote.
+/// None under OrecLazy and RingSW, whose writes wait for the commit. One under CGL and in an attempt that was
+/// promoted; three at most under TML and Serial, and where Serial takes it back two more and one for each word that
+/// it wrote.
 pub fn write<K: MemRule>(desc: &mut Desc<K>, stm: &Stm<K>, a: usize, x: u64) -> Write
     requires stm { IsOf desc.old stm.now }
     requires running { IsRunning (known desc.old) }
@@ -121,20 +123,20 @@ pub fn write<K: MemRule>(desc: &mut Desc<K>, stm: &Stm<K>, a: usize, x: u64) -> 
         Alg::Tml => tml::write(desc, stm, a, x),
         Alg::Serial => serial::write(desc, stm, a, x),
         Alg::OrecLazy => orec_lazy::write(desc, stm, a, x),
+        Alg::OrecEager => orec_eager::write(desc, stm, a, x),
         Alg::RingSw => ring::write(desc, stm, a, x),
-        Alg::OrecEager => unreachable!(),
     }
 }
 
 /// Commits the attempt. An attempt that wrote asks that it keeps the memory rule.
 ///
-/// `Committed` comes only where the attempt wrote, `ReadOnly` only where it did not. All answers but `Again` leave the
-/// descriptor idle; behind `Again` the attempt is to be committed again or cancelled.
+/// `Committed` comes only where the attempt wrote, `ReadOnly` only where it did not. All answers but `Again` leave
+/// the descriptor idle; behind `Again` the attempt is to be committed again or cancelled.
 ///
 /// Three steps at most under CGL, TML and Serial, five where the attempt was promoted, and one or two where it wrote
-/// nothing. Under OrecLazy three for each record and one for each word that it wrote, two, and a validation where such
-/// a record was newer than the start and behind `Again`. Under RingSW 22, one for each word that it wrote, and the check
-/// of a read.
+/// nothing. Under OrecLazy three for each record and one for each word that it wrote, two, and a validation where
+/// such a record was newer than the start and behind `Again`; under OrecEager one for each record, and two. Under
+/// RingSW 22, one for each word that it wrote, and the check of a read.
 pub fn commit<K: MemRule>(desc: &mut Desc<K>, stm: &Stm<K>) -> Commit
     requires stm { IsOf desc.old stm.now }
     requires running { (known desc.old).running ≡ true }
@@ -147,14 +149,14 @@ pub fn commit<K: MemRule>(desc: &mut Desc<K>, stm: &Stm<K>) -> Commit
         Alg::Tml => tml::commit(desc, stm),
         Alg::Serial => serial::commit(desc, stm),
         Alg::OrecLazy => orec_lazy::commit(desc, stm),
+        Alg::OrecEager => orec_eager::commit(desc, stm),
         Alg::RingSw => ring::commit(desc, stm),
-        Alg::OrecEager => unreachable!(),
     }
 }
 
-/// Ends the attempt without a trace, or answers `Irrevocable` and changes nothing: exactly where
-/// `is_irrevocable`. Two steps at most, under Serial one more for each word that it wrote, and under OrecLazy one for
-/// each record that it holds.
+/// Ends the attempt without a trace, or answers `Irrevocable` and changes nothing: exactly where `is_irrevocable`.
+/// Two steps at most, under Serial one more for each word that it wrote, under OrecLazy one for each record that it
+/// holds, and under OrecEager one for each of both, and one.
 pub fn cancel<K: MemRule>(desc: &mut Desc<K>, stm: &Stm<K>) -> Cancel
     requires stm { IsOf desc.old stm.now }
     requires running { (known desc.old).running ≡ true }
@@ -166,16 +168,16 @@ pub fn cancel<K: MemRule>(desc: &mut Desc<K>, stm: &Stm<K>) -> Cancel
         Alg::Tml => tml::cancel(desc, stm),
         Alg::Serial => serial::cancel(desc, stm),
         Alg::OrecLazy => orec_lazy::cancel(desc, stm),
+        Alg::OrecEager => orec_eager::cancel(desc, stm),
         Alg::RingSw => ring::cancel(desc, stm),
-        Alg::OrecEager => unreachable!(),
     }
 }
 
-/// Tries to make the attempt irrevocable: from `Granted` on it can only be committed, and no call of it is
-/// refused. `Busy` and `Taken` leave it running, and may be tried again; all other answers end it. No step
-/// where it is irrevocable already; one under Serial; else two to close the gate, one for each other caller
-/// that it looks at, and the load of the clock; then under OrecLazy one for each logged read, under RingSW the check of
-/// a read, and one for each word that it wrote.
+/// Tries to make the attempt irrevocable: from `Granted` on it can only be committed, and no call of it is refused.
+/// `Busy` and `Taken` leave it running, and may be tried again; all other answers end it. No step where it is
+/// irrevocable already; one under Serial; else two to close the gate, one for each other caller that it looks at,
+/// and the load of the clock; then under OrecLazy and OrecEager one for each logged read, under RingSW the check of
+/// a read, and one for each word that it wrote, but under OrecEager.
 pub fn try_irrevocable<K: MemRule>(desc: &mut Desc<K>, stm: &Stm<K>) -> Irrev
     requires stm { IsOf desc.old stm.now }
     requires running { IsRunning (known desc.old) }
@@ -187,14 +189,14 @@ pub fn try_irrevocable<K: MemRule>(desc: &mut Desc<K>, stm: &Stm<K>) -> Irrev
         Alg::Tml => tml::become_irrevocable(desc, stm),
         Alg::Serial => serial::become_irrevocable(desc, stm),
         Alg::OrecLazy => orec_lazy::become_irrevocable(desc, stm),
+        Alg::OrecEager => orec_eager::become_irrevocable(desc, stm),
         Alg::RingSw => ring::become_irrevocable(desc, stm),
-        Alg::OrecEager => unreachable!(),
     }
 }
 
 /// Makes the read log `reads` items long and the logs of what is written `writes`, each 1 to 4,096, where they are
-/// shorter. It asks for an idle descriptor. It takes the room of longer logs beside that of the old ones; where memory
-/// is refused all is as before. No step.
+/// shorter. It asks for an idle descriptor. It takes the room of longer logs beside that of the old ones; where
+/// memory is refused all is as before. No step.
 pub fn reserve<K: MemRule>(
     alloc: Global,
     desc: &mut Desc<K>,

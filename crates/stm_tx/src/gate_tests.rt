@@ -140,32 +140,24 @@ fn waits_for_a_dropped_attempt<K: MemRule>(
         return None;
     };
     drop(first);
-    let CloseGate::Closed = close_gate(second, stm) else {
-        return None;
-    };
-    let Look::Busy {
+    finds_the_first_busy(stm, second)
+}
+
+/// Three looks find caller 0 busy.
+fn finds_the_first_busy<K: MemRule>(stm: &Stm<K>, desc: &mut Desc<K>) -> Option<bool>
+    requires desc { IsOf desc.old stm.now }
+    requires idle { IsIdle (known desc.old) }
+{
+    let busy = Look::Busy {
         caller: 0,
         status: 1,
-    } = look(second, stm)
-    else {
+    };
+    let CloseGate::Closed = close_gate(desc, stm) else {
         return None;
     };
-    let Look::Busy {
-        caller: 0,
-        status: 1,
-    } = look(second, stm)
-    else {
-        return None;
-    };
-    let Look::Busy {
-        caller: 0,
-        status: 1,
-    } = look(second, stm)
-    else {
-        return None;
-    };
-    reopen(second, stm);
-    Some(state(second) == TxState::Idle)
+    let is_busy = look(desc, stm) == busy && look(desc, stm) == busy && look(desc, stm) == busy;
+    reopen(desc, stm);
+    Some(is_busy && state(desc) == TxState::Idle)
 }
 
 fn two_callers(alloc: Global) -> Result<Option<bool>, NewError> {
@@ -178,9 +170,11 @@ fn two_callers(alloc: Global) -> Result<Option<bool>, NewError> {
 
 fn three_callers(alloc: Global) -> Result<Option<bool>, NewError> {
     let (stm, mut descs) = Stm::new(alloc, memory(3), AnyMem)?;
-    let (Some(mut third), Some(mut second), Some(mut first)) =
-        (descs.pop(), descs.pop(), descs.pop())
-    else {
+    let (Some(mut third), Some(mut second), Some(mut first)) = (
+        descs.pop(),
+        descs.pop(),
+        descs.pop(),
+    ) else {
         unreachable!()
     };
     Ok(looks_on_and_gives_up(&stm, &mut first, &mut second, &mut third))

@@ -118,7 +118,7 @@ fn fills_and_is_granted<K: MemRule>(stm: &Stm<K>, desc: &mut Desc<K>) -> Option<
 fn under_serial(alloc: Global) -> Result<Option<bool>, NewError> {
     let (stm, mut descs) = Stm::new(alloc, ALONE, AnyMem)?;
     let Some(mut desc) = descs.pop() else {
-        return Ok(None);
+        unreachable!()
     };
     if !switch(&stm, &mut desc, Alg::Serial) {
         return Ok(None);
@@ -130,7 +130,7 @@ fn under_serial(alloc: Global) -> Result<Option<bool>, NewError> {
 fn cancelled_under_serial(alloc: Global) -> Result<Option<u64>, NewError> {
     let (stm, mut descs) = Stm::new(alloc, ALONE, AnyMem)?;
     let Some(mut desc) = descs.pop() else {
-        return Ok(None);
+        unreachable!()
     };
     if !switch(&stm, &mut desc, Alg::Serial) {
         return Ok(None);

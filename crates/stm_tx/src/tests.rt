@@ -192,13 +192,7 @@ fn two_callers_take_turns(rt: HostRuntime) -> Result<(), Fail> {
         Ok(Begin::ClockFull { clock: CLOCK_LIMIT })
     );
     assert_eq!(rt; add_in_an_attempt(rt.alloc()), Ok(Some(1)));
-    for alg in [
-        Alg::Cgl,
-        Alg::Tml,
-        Alg::OrecLazy,
-        Alg::RingSw,
-        Alg::Serial,
-    ] {
+    for alg in [Alg::Cgl, Alg::Tml, Alg::OrecLazy, Alg::RingSw, Alg::Serial] {
         assert_eq!(rt; learns(rt.alloc(), alg), Ok(Some((true, 5))));
     }
     Ok(())

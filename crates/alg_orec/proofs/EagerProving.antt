@@ -1,0 +1,117 @@
+-- What stands of an attempt of OrecEager, and what its end comes to as seen from before.
+use Rattle.std.proofs.Common.{ℕ, ◌≡◌, ◌≤◌, ◌+◌, List, [], ◌∷◌, ◌++◌, length, Bool, true, false, refl, sym, ap, ◌∙◌, arith, subst}
+use Rattle.std.specs.Prelude.{Option, not, ◌&&◌}
+use Rattle.stm_model.specs.Algorithms.{has_records, closes_gate, is_sure, quit_rise}
+use Rattle.stm_model.specs.declared.alg.Alg.{Alg}
+use Rattle.stm_model.specs.declared.alg.Alg.TheVariants.{OrecEager}
+use Rattle.stm_model.specs.declared.config.Config.{Config}
+use Rattle.stm_model.specs.declared.stop.Cause.TheVariants as causes
+use Rattle.stm_model.specs.Memories.{is_empty}
+use Rattle.rule_base.specs.declared.views.TrailItem.{TrailItem}
+use Rattle.rule_base.specs.declared.views.View.{View}
+use Rattle.rule_base.specs.Bridge.{items}
+use Rattle.rule_base.specs.Own.{Own}
+use Rattle.stm_gate.specs.LeavingLaws.{IsUnmade, quits-left, trail-left}
+use Rattle.stm_gate.specs.Peeling.{no-items}
+use Rattle.stm_rule.specs.declared.local.Local.{Local}
+use Rattle.stm_rule.specs.Attempts.{Keeps, IsInside}
+use Rattle.stm_rule.specs.EagerKept.{IsEager}
+use Rattle.tx_answers.specs.Answers.{Quits}
+use Rattle.tx_answers.specs.Causes.{Conflicts}
+use Rattle.tx_answers.specs.Known.{Known, known_of, granted_under, written_under, is_irrevocable, wrote}
+use Rattle.alg_orec.proofs.Proving.{as-was-later, moved-later, quits-own, unmade-trans, with_commit}
+use Rattle.alg_orec.specs.EagerEnding.{TakesBack}
+
+-- an attempt of OrecEager that was not promoted
+pub eager-of : (good : List ℕ → Type 0) (c : Config) (n : ℕ) (l : Local) (v : View) → IsInside good c n l v → l.algorithm ≡ OrecEager → l.granted ≡ false → IsEager c l v
+eager-of good c n l v i eager plain = subst (λ (b : Bool). Keeps c OrecEager b l v) plain (subst (λ (a : Alg). Keeps c a l.granted l v) eager i.keeps)
+
+no-not : (b : Bool) → not b ≡ false → b ≡ true
+no-not true e = refl
+no-not false e = absurd cc
+
+is-none : (ws : List (ℕ × ℕ)) → is_empty ws ≡ true → length ws ≡ 0
+is-none [] e = refl
+is-none (w ∷ ws) e = absurd cc
+
+length-none : (ws : List (ℕ × ℕ)) → length ws ≤ 0 → ws ≡ []
+length-none [] l = refl
+length-none (w ∷ ws) l = absurd (omega arith)
+
+module _ (c : Config) (l : Local) (v : View) (k : IsEager c l v) where
+  -- who wrote nothing holds nothing, and has nothing to restore
+  pub no-writes : l.wrote ≡ false → length l.writes.items ≡ 0
+  no-writes clean = is-none l.writes.items (no-not (is_empty l.writes.items) (sym k.wrote ∙ clean))
+
+  pub none-held : l.wrote ≡ false → v.owned.held ≡ []
+  none-held clean = no-items v.owned.held (sym k.locks ∙ length-none l.locks.items (let e = no-writes clean in let f = k.few in omega arith))
+
+  module _ (eager : v.gate.algorithm ≡ OrecEager) where
+    -- what was written lies in place
+    pub written : (w : View) (p : Own) → w.gate ≡ v.gate → w.owned.in_place ≡ v.owned.in_place → written_under w.gate.algorithm w.gate.granted w p ≡ l.writes.items
+    written w p gate same = (λ j. written_under (gate j).algorithm (gate j).granted w p) ∙ ((λ j. written_under (eager j) (k.optimistic.ungranted j) w p) ∙ (ap items same ∙ sym k.writes))
+
+    pub wrote-known : (w : View) (p : Own) → w.gate ≡ v.gate → w.owned.in_place ≡ v.owned.in_place → wrote (known_of w p) ≡ l.wrote
+    wrote-known w p gate same = ap (λ (ws : List (ℕ × ℕ)). not (is_empty ws)) (written w p gate same) ∙ sym k.wrote
+
+    pub revocable : (w : View) (p : Own) → w.gate ≡ v.gate → is_irrevocable (known_of w p) ≡ false
+    revocable w p gate = (λ j. is_sure (gate j).algorithm (granted_under (gate j).algorithm (gate j) w.lock) (wrote (known_of w p)))
+        ∙ ((λ j. is_sure (eager j) (granted_under (eager j) v.gate w.lock) (wrote (known_of w p))) ∙ k.optimistic.ungranted)
+
+-- by what contracts see of it, an attempt was promoted or not
+module _ (good : List ℕ → Type 0) (c : Config) (n : ℕ) (l : Local) (v : View) (i : IsInside good c n l v) (eager : v.gate.algorithm ≡ OrecEager) (o : Own) where
+  pub granted-of : (b : Bool) → l.granted ≡ b → (known_of v o).granted ≡ b
+  granted-of b e = (λ j. granted_under (eager j) v.gate v.lock) ∙ (i.granted ∙ (λ j. closes_gate ((sym i.named ∙ eager) j) && e j))
+
+  pub plain-of : (known_of v o).granted ≡ false → l.granted ≡ false
+  plain-of e = by l.granted refl
+    where
+      by : (b : Bool) → l.granted ≡ b → b ≡ false
+      by true q = absurd (let f : true ≡ false = sym (granted-of true q) ∙ e in cc)
+      by false q = refl
+
+  pub was-granted : (known_of v o).granted ≡ true → l.granted ≡ true
+  was-granted e = by l.granted refl
+    where
+      by : (b : Bool) → l.granted ≡ b → b ≡ true
+      by true q = refl
+      by false q = absurd (let f : false ≡ true = sym (granted-of false q) ∙ e in cc)
+
+  pub sure-granted : l.granted ≡ true → is_irrevocable (known_of v o) ≡ true
+  sure-granted granted = let here : v.gate.granted ≡ true = i.granted ∙ (λ j. closes_gate ((sym i.named ∙ eager) j) && granted j) in
+      (λ j. is_sure (eager j) (granted_under (eager j) v.gate v.lock) (wrote (known_of v o))) ∙ here
+
+  -- one that can be cancelled wasn't promoted
+  pub ungranted : is_irrevocable (known_of v o) ≡ false → l.granted ≡ false
+  ungranted free = by l.granted refl
+    where
+      by : (b : Bool) → l.granted ≡ b → b ≡ false
+      by true e = absurd (let f : true ≡ false = sym (sure-granted e) ∙ free in cc)
+      by false e = refl
+
+-- more steps were taken
+module _ (c : Config) (n : ℕ) (asked : Option ℕ) where
+  pub conflicts-later : (cause : causes.the_data) (v u w : Known) → has_records v.alg ≡ true → (more : List TrailItem) → w.trail ≡ more ++ u.trail → Conflicts c n asked cause v u → Conflicts c n asked cause v w
+  conflicts-later (causes.Clock had now) v u w has more t k = absurd (let e : true ≡ false = sym has ∙ ap has_records k.0 in cc)
+  conflicts-later (causes.Record index word start) v u w has more t k = (k.0, k.1, k.2, as-was-later _ word v u w more t k.3, k.4)
+  conflicts-later (causes.Moved index before after) v u w has more t k = (k.0, k.1, moved-later _ before after v u w more t k.2)
+  conflicts-later (causes.Filter time bits) v u w has more t k = absurd (let e : true ≡ false = sym has ∙ ap has_records k.0 in cc)
+  conflicts-later (causes.Overrun start clock) v u w has more t k = absurd (let e : true ≡ false = sym has ∙ ap has_records k.0 in cc)
+
+-- until it ended
+pub ended-by : (n : ℕ) (u z : View) → TakesBack n u z → (more : List TrailItem) × (z.steps.trail ≡ more ++ u.steps.trail)
+ended-by n u z g = let t = trail-left n u g.before g.unmade.carried in (t.0, ap (λ (y : View). y.steps.trail) g.is ∙ t.1)
+
+-- by how much the clock was raised
+rose-by : (a : Alg) (b : Bool) (base rises : ℕ) → a ≡ OrecEager → rises ≤ base + 1 → (b ≡ false → rises ≡ base) → rises ≤ base + quit_rise a b
+rose-by a true base rises e one none = let q : quit_rise a true ≡ 1 = ap (λ (k : Alg). quit_rise k true) e in omega arith
+rose-by a false base rises e one none = let z = none refl in omega arith
+
+-- an attempt of OrecEager that was taken back
+module _ (n : ℕ) (v u z : View) (o : Own) (eager : v.gate.algorithm ≡ OrecEager) (plain : v.gate.granted ≡ false) (level : v.steps.rises ≡ v.steps.rises_at_begin) (rises : u.steps.rises ≡ v.steps.rises) (clean : wrote (known_of v o) ≡ false → u.owned.held ≡ []) (g : TakesBack n u z) where
+  pub rose : (v.steps.rises_at_begin ≤ g.before.steps.rises) × (g.before.steps.rises ≤ v.steps.rises_at_begin + quit_rise v.gate.algorithm (wrote (known_of v o)))
+  rose = ((let a = g.rose.0 in omega arith), rose-by v.gate.algorithm (wrote (known_of v o)) v.steps.rises_at_begin g.before.steps.rises eager (let a = g.rose.1 in omega arith) (λ e. let q = g.level (clean e) in omega arith))
+
+  pub quits-back : IsUnmade v u → Quits (known_of v o) (known_of z (with_commit false o))
+  quits-back m = quits-own v z o (with_commit false o) refl refl (subst (λ (y : View). Quits (known_of v o) (known_of y o)) (sym g.is)
+      (quits-left n v g.before o (unmade-trans v u g.before m g.unmade) rose ((λ j. is_sure (eager j) (granted_under (eager j) v.gate v.lock) (wrote (known_of v o))) ∙ plain)))

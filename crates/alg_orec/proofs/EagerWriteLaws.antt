@@ -1,0 +1,466 @@
+-- What a write of OrecEager comes to.
+use Rattle.std.proofs.Common.{ℕ, suc, ◌≡◌, ◌≢◌, ◌<◌, ◌≤◌, ◌+◌, List, [], ◌∷◌, ◌++◌, length, Bool, true, false, refl, sym, ap, ◌∙◌, arith, subst, inl, inr, append_assoc, length-append}
+use Rattle.std.specs.Prelude.{◌^◌, ◌⊎◌, ◌==◌, ◌&&◌, not, map, if◌then◌else◌, Option, Some, None, IsSome}
+use Rattle.std.proofs.lemmas.Bool.Decides.{nat_tests}
+use Rattle.std.proofs.lemmas.List.Elements.{Contains-append_right}
+use Rattle.stm_model.specs.Algorithms.{has_records, logs_writes, asks_at_write}
+use Rattle.stm_model.specs.declared.alg.Alg.{Alg}
+use Rattle.stm_model.specs.declared.alg.Alg.TheVariants.{OrecEager}
+use Rattle.stm_model.specs.declared.config.Config.{Config}
+use Rattle.stm_model.specs.declared.config.TheConstants.{CLOCK_LIMIT}
+use Rattle.stm_model.specs.declared.stop.Cause.{Cause}
+use Rattle.stm_model.specs.Memories.{item_at, put, is_empty}
+use Rattle.rule_base.specs.declared.entries.Cell.{Cell}
+use Rattle.rule_base.specs.declared.entries.Entry.{Entry}
+use Rattle.rule_base.specs.declared.layout.At.TheVariants.{Clock, Heap}
+use Rattle.rule_base.specs.declared.seats.SeatView.{SeatView}
+use Rattle.rule_base.specs.declared.views.Act.TheVariants.{Load, Store}
+use Rattle.rule_base.specs.declared.views.Sample.{Sample}
+use Rattle.rule_base.specs.declared.views.TrailItem.{TrailItem}
+use Rattle.rule_base.specs.declared.views.Validation.{Validation}
+use Rattle.rule_base.specs.declared.views.View.{View}
+use Rattle.rule_base.specs.Bridge.{items, of_words}
+use Rattle.rule_base.specs.History.{touches, word_now, Inside, Below, Explains, Legal}
+use Rattle.rule_base.specs.HistoryLemmas.{inside-more, small-more}
+use Rattle.rule_base.specs.Own.{Own}
+use Rattle.rule_base.specs.Ranks.{home_of}
+use Rattle.rule_base.specs.StepKinds.{Nothing, Tells}
+use Rattle.rule_orec.specs.OrecSteps.{orec_place, CanOrecPlace}
+use Rattle.stm_gate.specs.Leaving.{left}
+use Rattle.stm_gate.specs.LeavingLaws.{trail-left, finds-full, found-later}
+use Rattle.stm_gate.specs.Logging.{put-new}
+use Rattle.stm_gate.specs.Opacity.{opaque-at}
+use Rattle.stm_rule.specs.declared.local.Local.{Local}
+use Rattle.stm_rule.specs.Attempts.{own_of, IsInside, SameLengths}
+use Rattle.stm_rule.specs.Attempts as attempts
+use Rattle.stm_rule.specs.EagerKept.{IsEager}
+use Rattle.tx_answers.specs.declared.answers.Write.{Write}
+use Rattle.tx_answers.specs.declared.answers.Write.TheVariants as writes
+use Rattle.tx_answers.specs.Answers.{HasWritten, StartMoves}
+use Rattle.tx_answers.specs.Causes.{Conflicts, has_item, is_some, writes_full}
+use Rattle.tx_answers.specs.Evidence.{Found}
+use Rattle.tx_answers.specs.Known.{Grows, known_of, written_under, is_in, is_closing}
+use Rattle.tx_logs.specs.declared.push.Push.{Push}
+use Rattle.tx_logs.specs.declared.push.Push.TheVariants as pushes
+use Rattle.tx_logs.specs.LogStates.{LogState, Pushes}
+use Rattle.alg_orec.proofs.EagerLaws as laws
+use Rattle.alg_orec.proofs.EagerProving as proving
+use Rattle.alg_orec.proofs.LockingLaws.{held-of, unheld-of}
+use Rattle.alg_orec.specs.EagerEnding.{AllBelow, CanTakeBack, TakesBack}
+use Rattle.alg_orec.specs.EagerTaking.{AllSeen, CanTake, HasTaken, FindsLimit, RefusesTake, CanStoreFirst, StoresFirst}
+use Rattle.alg_orec.specs.Loading.{MayMove, RefusesRead}
+use Rattle.alg_orec.specs.Validating.{load_of}
+
+-- THE ADDRESSES of two logs
+map-last : (ws : List (ℕ × ℕ)) (p : ℕ × ℕ) → map (λ (w : ℕ × ℕ). w.0) (ws ++ p ∷ []) ≡ map (λ (w : ℕ × ℕ). w.0) ws ++ p.0 ∷ []
+map-last [] p = refl
+map-last (w ∷ ws) p = ap (λ (l : List ℕ). w.0 ∷ l) (map-last ws p)
+
+length-map : (ws : List (ℕ × ℕ)) → length (map (λ (w : ℕ × ℕ). w.0) ws) ≡ length ws
+length-map [] = refl
+length-map (w ∷ ws) = ap suc (length-map ws)
+
+same-length : (us ws : List (ℕ × ℕ)) → map (λ (w : ℕ × ℕ). w.0) us ≡ map (λ (w : ℕ × ℕ). w.0) ws → length us ≡ length ws
+same-length us ws e = sym (length-map us) ∙ (ap length e ∙ length-map ws)
+
+same-has : (a : ℕ) (us ws : List (ℕ × ℕ)) → map (λ (w : ℕ × ℕ). w.0) us ≡ map (λ (w : ℕ × ℕ). w.0) ws → is_some (item_at a us) ≡ is_some (item_at a ws)
+same-has a [] [] e = refl
+same-has a [] (w ∷ ws) e = absurd cc
+same-has a (u ∷ us) [] e = absurd cc
+same-has a (u ∷ us) (w ∷ ws) e = by (u.0 == a) refl (w.0 == a) refl (same-has a us ws cc)
+  where
+    here : u.0 ≡ w.0
+    here = cc
+
+    by : (p : Bool) → (u.0 == a) ≡ p → (q : Bool) → (w.0 == a) ≡ q → is_some (item_at a us) ≡ is_some (item_at a ws) → is_some (if p then Some u.1 else item_at a us) ≡ is_some (if q then Some w.1 else item_at a ws)
+    by true p true q r = refl
+    by true p false q r = absurd (let h = here in grind (arith, nat_tests))
+    by false p true q r = absurd (let h = here in grind (arith, nat_tests))
+    by false p false q r = r
+
+none-of : (m : Option ℕ) → is_some m ≡ false → m ≡ None
+none-of None e = refl
+none-of (Some x) e = absurd cc
+
+pub none-there : (a : ℕ) (us ws : List (ℕ × ℕ)) → map (λ (w : ℕ × ℕ). w.0) us ≡ map (λ (w : ℕ × ℕ). w.0) ws → item_at a ws ≡ None → item_at a us ≡ None
+none-there a us ws e none = none-of (item_at a us) (same-has a us ws e ∙ ap is_some none)
+
+put-firsts : (a x : ℕ) (ws : List (ℕ × ℕ)) → is_some (item_at a ws) ≡ true → map (λ (w : ℕ × ℕ). w.0) (put a x ws) ≡ map (λ (w : ℕ × ℕ). w.0) ws
+put-firsts a x [] e = absurd cc
+put-firsts a x (w ∷ ws) e = by (w.0 == a) refl e (put-firsts a x ws)
+  where
+    by : (p : Bool) → (w.0 == a) ≡ p → is_some (if p then Some w.1 else item_at a ws) ≡ true → (is_some (item_at a ws) ≡ true → map (λ (k : ℕ × ℕ). k.0) (put a x ws) ≡ map (λ (k : ℕ × ℕ). k.0) ws) → map (λ (k : ℕ × ℕ). k.0) (if p then (a, x) ∷ ws else w ∷ put a x ws) ≡ w.0 ∷ map (λ (k : ℕ × ℕ). k.0) ws
+    by true p f rec = let s : a ≡ w.0 = grind (arith, nat_tests) in ap (λ (k : ℕ). k ∷ map (λ (j : ℕ × ℕ). j.0) ws) s
+    by false p f rec = ap (λ (k : List ℕ). w.0 ∷ k) (rec f)
+
+pub held-some : (cs : List Cell) (ws : List (ℕ × ℕ)) (a : ℕ) → ws ≡ items cs → is_some (item_at a ws) ≡ true → touches cs a ≡ true
+held-some cs ws a is e = by (item_at a ws) refl e
+  where
+    by : (m : Option ℕ) → item_at a ws ≡ m → is_some m ≡ true → touches cs a ≡ true
+    by (Some x) f g = held-of cs ws a x is f
+    by None f g = absurd cc
+
+some-put : (a x : ℕ) (ws : List (ℕ × ℕ)) → is_empty (put a x ws) ≡ false
+some-put a x [] = refl
+some-put a x (w ∷ ws) = by (w.0 == a)
+  where
+    by : (b : Bool) → is_empty (if b then (a, x) ∷ ws else w ∷ put a x ws) ≡ false
+    by true = refl
+    by false = refl
+
+pub is-some-of : (m : Option ℕ) → IsSome m → is_some m ≡ true
+is-some-of None h = absurd cc
+is-some-of (Some x) h = refl
+
+-- two steps of a seat, one after the other
+pub seat-then : {K : Type 0} → (s u w : SeatView K) → u ≡ record s { view = u.view } → w ≡ record u { view = w.view } → w ≡ record s { view = w.view }
+seat-then {K} s u w e f = λ j. record { who = (ap (λ (y : SeatView K). y.who) f ∙ ap (λ (y : SeatView K). y.who) e) j; view = w.view; gathered = (ap (λ (y : SeatView K). y.gathered) f ∙ ap (λ (y : SeatView K). y.gathered) e) j }
+
+-- the view after a store of x at a
+abbrev pub stored : View → ℕ → List Entry → List Cell → Sample → Validation → ℕ → ℕ → List Cell → List TrailItem → View
+stored v start seen held sample check a x undo more = record v {
+  history = record v.history { seen = seen; front = start };
+  attempt = record v.attempt { start = start };
+  owned = record v.owned { held = held; in_place = record { at = a; value = x } ∷ v.owned.in_place; undo = undo };
+  sample = sample;
+  check = check;
+  steps = record v.steps { trail = more ++ v.steps.trail };
+}
+
+module _ (good : List ℕ → Type 0) (c : Config) (n : ℕ) (l : Local) (v : View) where
+  abbrev rule : (ℕ → ℕ) → Type 0
+  rule = of_words good c.words
+
+  -- what a store leaves, of a word that was or wasn't written before
+  pub record Stores (a x : ℕ) (q : Local) (w : View) : Type 0 where
+    pub local : q ≡ record l { start = q.start; locks = q.locks; undo = q.undo; writes = q.writes; wrote = true }
+    pub seen : List Entry
+    pub held : List Cell
+    pub sample : Sample
+    pub check : Validation
+    pub undo : List Cell
+    pub more : List TrailItem
+    pub is : w ≡ stored v q.start seen held sample check a x undo more
+    pub moves : MayMove rule c n q.start seen more v
+    pub its : touches held (home_of c a) ≡ true
+    pub keeps : (r : ℕ) → touches v.owned.held r ≡ true → touches held r ≡ true
+    pub locks : q.locks.items ≡ items held
+    pub writes : q.writes.items ≡ put a x l.writes.items
+    pub undos : q.undo.items ≡ items undo
+    pub undoable : map (λ (k : ℕ × ℕ). k.0) q.undo.items ≡ map (λ (k : ℕ × ℕ). k.0) q.writes.items
+    pub old_words : Inside c.words undo
+    pub few : length q.locks.items ≤ length q.writes.items
+    pub places : Inside c.records held
+    pub olds : AllSeen q.start held
+    pub below : AllBelow CLOCK_LIMIT held
+    pub undo_len : q.undo.len ≡ l.undo.len
+    pub writes_len : q.writes.len ≡ l.writes.len
+    pub locks_len : q.locks.len ≡ l.locks.len
+
+  module _ (i : IsInside good c n l v) (eager : v.gate.algorithm ≡ OrecEager) (plain : l.granted ≡ false) (quiet : l.committing ≡ false) (k : IsEager c l v) where
+    abbrev o : Own
+    o = own_of l
+
+    ungranted : v.gate.granted ≡ false
+    ungranted = k.optimistic.ungranted
+
+    here-written : (known_of v o).log.writes ≡ l.writes.items
+    here-written = laws.written-here good c n l v i eager plain quiet k
+
+    -- by whether the undo log has its length
+    filled : (a : ℕ) (m : Option ℕ) (b : Bool) → item_at a l.writes.items ≡ m → (length l.writes.items == l.undo.len) ≡ b → writes_full a (known_of v o) ≡ (not (is_some m) && b)
+    filled a m b at count = (λ j. logs_writes (eager j) && (not (laws.revocable good c n l v i eager plain quiet k j) && (not (has_item a (here-written j)) && (length (here-written j) == l.undo.len))))
+        ∙ ap (λ (q : Option ℕ). not (is_some q) && (length l.writes.items == l.undo.len)) at ∙ ap (λ (q : Bool). not (is_some m) && q) count
+
+    level : length l.undo.items ≡ length l.writes.items
+    level = same-length l.undo.items l.writes.items k.undoable
+
+    pub room-free : (a : ℕ) → item_at a l.writes.items ≡ None → length l.undo.items ≢ l.undo.len → writes_full a (known_of v o) ≡ false
+    room-free a none room = filled a None false none (let e = level in let f : length l.writes.items ≢ l.undo.len = (λ s. room (e ∙ s)) in grind (arith, nat_tests))
+
+    pub room-again : (a : ℕ) → is_some (item_at a l.writes.items) ≡ true → writes_full a (known_of v o) ≡ false
+    room-again a there = filled a (item_at a l.writes.items) (length l.writes.items == l.undo.len) refl refl ∙ ap (λ (b : Bool). not b && (length l.writes.items == l.undo.len)) there
+
+    -- THE REFUSALS
+    pub writes-full : (a x : ℕ) (w : View) → item_at a l.writes.items ≡ None → length l.undo.items ≡ l.undo.len → TakesBack n v w → HasWritten good c n a x (writes.Full l.undo.len) (known_of v o) (known_of w o)
+    writes-full a x w none full g = (laws.quits-here good c n l v i eager plain quiet k w g, filled a None true none (let e = level in let f : length l.writes.items ≡ l.undo.len = sym e ∙ full in grind (arith, nat_tests)), refl)
+
+    pub may-take : (a : ℕ) → a < c.words → 0 < c.records → SameLengths l → item_at a l.writes.items ≡ None → length l.undo.items ≢ l.undo.len → length l.undo.items ≤ l.undo.len → CanTake c a l v
+    may-take a low records lengths none room most = let can = laws.may-load good c n l v i eager plain quiet k a low none in record {
+      can = can.can;
+      unraised = k.unraised;
+      olds = can.olds;
+      below = k.below;
+      places = k.places;
+      room = (let e = level in let f = k.few in let g = lengths.1 in let h : length l.undo.items < l.undo.len = grind (arith, room, most) in omega arith);
+      records = records;
+      front = can.front;
+      inside = low;
+    }
+
+    pub writes-refused : (a x : ℕ) (cause : Cause) (m : Local) (u w : View) → item_at a l.writes.items ≡ None → length l.undo.items ≢ l.undo.len → RefusesRead rule c n a cause l v m u → TakesBack n u w → HasWritten good c n a x (writes.Conflict cause) (known_of v o) (known_of w o)
+    writes-refused a x cause m u w none room h g = (
+      laws.quits-moved good c n l v i eager plain quiet k m.start h.seen v.attempt.reads u.sample u.check h.more w h.moves (subst (λ (y : View). TakesBack n y w) h.is g),
+      subst (λ (y : View). Conflicts c n (Some a) cause (known_of v o) (known_of y o)) (sym g.is)
+          (proving.conflicts-later c n (Some a) cause (known_of v o) (known_of u o) (known_of (left n g.before) o) (ap has_records eager) more.0 more.1 (h.why o o)),
+      h.others,
+      room-free a none room,
+    )
+      where
+        more : (more : List TrailItem) × ((left n g.before).steps.trail ≡ more ++ u.steps.trail)
+        more = trail-left n u g.before g.unmade.carried
+
+    pub may-take-full : (clock : ℕ) (m : Local) (u : View) → FindsLimit rule c n clock l v m u → CanTakeBack c m u
+    may-take-full clock m u h = subst (CanTakeBack c m) (sym h.is) (laws.may-take good c n l v i eager plain quiet k m m.start h.seen v.attempt.reads u.sample u.check h.more (ap (λ (q : Local). q.locks) h.local) (ap (λ (q : Local). q.undo) h.local))
+
+    pub writes-limit : (a x clock : ℕ) (m : Local) (u w : View) → item_at a l.writes.items ≡ None → length l.undo.items ≢ l.undo.len → FindsLimit rule c n clock l v m u → TakesBack n u w → HasWritten good c n a x (writes.ClockFull clock) (known_of v o) (known_of w o)
+    writes-limit a x clock m u w none room h g = let more = proving.ended-by n u w g in (
+      laws.quits-moved good c n l v i eager plain quiet k m.start h.seen v.attempt.reads u.sample u.check h.more w h.moves (subst (λ (y : View). TakesBack n y w) h.is g),
+      ap asks_at_write eager,
+      finds-full clock v w o o h.limit (found-later Clock clock (known_of v o) (known_of u o) (known_of w o) (h.more, ap (λ (y : View). y.steps.trail) h.is, Load, h.found) more.0 more.1),
+      room-free a none room,
+    )
+
+    -- whatever refused it
+    pub refused-local : (a : ℕ) (refusal : Write) (m : Local) (u : View) → RefusesTake rule c n a refusal l v m u → (m ≡ record l { start = m.start }) × (u.gate ≡ v.gate)
+    refused-local a writes.Done m u h = absurd h
+    refused-local a (writes.Conflict cause) m u h = (h.local, ap (λ (y : View). y.gate) h.is)
+    refused-local a (writes.Full limit) m u h = absurd h
+    refused-local a (writes.ClockFull clock) m u h = (h.local, ap (λ (y : View). y.gate) h.is)
+
+    pub may-take-refusal : (a : ℕ) (refusal : Write) (m : Local) (u : View) → RefusesTake rule c n a refusal l v m u → CanTakeBack c m u
+    may-take-refusal a writes.Done m u h = absurd h
+    may-take-refusal a (writes.Conflict cause) m u h = laws.may-take-refused good c n l v i eager plain quiet k a cause m u h
+    may-take-refusal a (writes.Full limit) m u h = absurd h
+    may-take-refusal a (writes.ClockFull clock) m u h = may-take-full clock m u h
+
+    pub writes-refusal : (a x : ℕ) (refusal : Write) (m : Local) (u w : View) → item_at a l.writes.items ≡ None → length l.undo.items ≢ l.undo.len → RefusesTake rule c n a refusal l v m u → TakesBack n u w → HasWritten good c n a x refusal (known_of v o) (known_of w o)
+    writes-refusal a x writes.Done m u w none room h g = absurd h
+    writes-refusal a x (writes.Conflict cause) m u w none room h g = writes-refused a x cause m u w none room h g
+    writes-refusal a x (writes.Full limit) m u w none room h g = absurd h
+    writes-refusal a x (writes.ClockFull clock) m u w none room h g = writes-limit a x clock m u w none room h g
+
+    -- THE STORES: of a word under a record that was taken, or was held
+    pub may-store : (a : ℕ) (m : Local) (u : View) → SameLengths l → item_at a l.writes.items ≡ None → length l.undo.items ≢ l.undo.len → length l.undo.items ≤ l.undo.len → HasTaken rule c n a l v m u → CanStoreFirst c a m u
+    may-store a m u lengths none room most h = subst (λ (y : View). CanStoreFirst c a m y) (sym h.is) (subst (λ (q : Local). CanStoreFirst c a q (laws_taken)) (sym h.local) (record {
+      opens = record { has = record { runs = record { phase = i.phase; algorithm = ap has_records eager; plain = ungranted }; inside = k.inside }; open_yet = k.open_yet };
+      eager = k.eager;
+      held = h.its;
+      unwritten = unheld-of v.owned.in_place l.writes.items a k.writes none;
+      fresh = none-there a l.undo.items l.writes.items k.undoable none;
+      unlogged = none;
+      undo_room = low;
+      room = (let e = level in let g = lengths.0 in let f = low in omega arith);
+    }))
+      where
+        low : length l.undo.items < l.undo.len
+        low = grind (arith, room, most)
+
+        laws_taken : View
+        laws_taken = record v { history = record v.history { seen = h.seen; front = m.start }; attempt = record v.attempt { start = m.start }; owned = record v.owned { held = h.held }; sample = h.sample; check = h.check; steps = record v.steps { trail = h.more ++ v.steps.trail } }
+
+    pub stores-first : (a x : ℕ) (m q : Local) (u w : View) → a < c.words → item_at a l.writes.items ≡ None → HasTaken rule c n a l v m u → StoresFirst a x m u q w → Stores a x q w
+    stores-first a x m q u w low none h s = record {
+      local = by;
+      seen = h.seen;
+      held = h.held;
+      sample = h.sample;
+      check = h.check;
+      undo = record { at = a; value = s.old } ∷ v.owned.undo;
+      more = s.more ++ h.more;
+      is = s.is ∙ (ap (λ (y : View). record y { owned = record y.owned { in_place = record { at = a; value = x } ∷ y.owned.in_place; undo = record { at = a; value = s.old } ∷ y.owned.undo }; steps = record y.steps { trail = s.more ++ y.steps.trail } }) h.is
+          ∙ ((λ j. stored_at (sym start_is j) (sym (append_assoc s.more h.more v.steps.trail) j))));
+      moves = moves_all;
+      its = h.its;
+      keeps = h.keeps;
+      locks = ap (λ (k : Local). k.locks.items) s.local ∙ h.locks;
+      writes = ap (λ (k : Local). k.writes.items) s.local ∙ (ap (λ (k : Local). k.writes.items ++ (a, x) ∷ []) h.local ∙ sym (put-new a x l.writes.items none));
+      undos = undo_items ∙ (ap (λ (ws : List (ℕ × ℕ)). ws ++ (a, s.old) ∷ []) k.undo ∙ sym (put-new a s.old (items v.owned.undo) (sym (ap (item_at a) k.undo) ∙ none-there a l.undo.items l.writes.items k.undoable none)));
+      undoable = ap (map (λ (p : ℕ × ℕ). p.0)) undo_items ∙ (map-last l.undo.items (a, s.old) ∙ (ap (λ (ks : List ℕ). ks ++ a ∷ []) k.undoable ∙ (sym (map-last l.writes.items (a, x)) ∙ sym (ap (map (λ (p : ℕ × ℕ). p.0)) write_items))));
+      old_words = inside-more c.words (record { at = a; value = s.old }) v.owned.undo low k.old_words;
+      few = (let e = ap (λ (ws : List (ℕ × ℕ)). length ws) write_items in let f = length-append l.writes.items ((a, x) ∷ []) in let g = h.few in let b = k.few in let d = ap (λ (p : Local). length p.locks.items) s.local in omega arith);
+      places = h.places;
+      olds = λ r t. (let b = h.olds r t in let e = start_is in omega arith);
+      below = h.below;
+      undo_len = ap (λ (p : Local). p.undo.len) s.local ∙ ap (λ (p : Local). p.undo.len) h.local;
+      writes_len = ap (λ (p : Local). p.writes.len) s.local ∙ ap (λ (p : Local). p.writes.len) h.local;
+      locks_len = ap (λ (p : Local). p.locks.len) s.local ∙ h.len;
+    }
+      where
+        start_is : q.start ≡ m.start
+        start_is = ap (λ (p : Local). p.start) s.local
+
+        undo_items : q.undo.items ≡ l.undo.items ++ (a, s.old) ∷ []
+        undo_items = ap (λ (p : Local). p.undo.items) s.local ∙ ap (λ (p : Local). p.undo.items ++ (a, s.old) ∷ []) h.local
+
+        write_items : q.writes.items ≡ l.writes.items ++ (a, x) ∷ []
+        write_items = ap (λ (p : Local). p.writes.items) s.local ∙ ap (λ (p : Local). p.writes.items ++ (a, x) ∷ []) h.local
+
+        stored_at : ℕ → List TrailItem → View
+        stored_at start trail = record v {
+          history = record v.history { seen = h.seen; front = start };
+          attempt = record v.attempt { start = start };
+          owned = record v.owned { held = h.held; in_place = record { at = a; value = x } ∷ v.owned.in_place; undo = record { at = a; value = s.old } ∷ v.owned.undo };
+          sample = h.sample;
+          check = h.check;
+          steps = record v.steps { trail = trail };
+        }
+
+        moves_all : MayMove rule c n q.start h.seen (s.more ++ h.more) v
+        moves_all = go h.moves
+          where
+            go : MayMove rule c n m.start h.seen h.more v → MayMove rule c n q.start h.seen (s.more ++ h.more) v
+            go (inl e) = inl (start_is ∙ e.0, e.1)
+            go (inr e) = subst (λ (t : ℕ). MayMove rule c n t h.seen (s.more ++ h.more) v) (sym start_is) (inr (Contains-append_right s.more h.more (load_of Clock m.start) e.0, e.1, e.2))
+
+        -- the descriptor's fields, one after the other
+        by : q ≡ record l { start = q.start; locks = q.locks; undo = q.undo; writes = q.writes; wrote = true }
+        by = s.local ∙ ap (λ (p : Local). record p { undo = record m.undo { items = m.undo.items ++ (a, s.old) ∷ [] }; writes = record m.writes { items = m.writes.items ++ (a, x) ∷ [] }; wrote = true }) h.local
+            ∙ sym (λ j. record l { start = ap (λ (p : Local). p.start) s.local j; locks = ap (λ (p : Local). p.locks) s.local j; undo = ap (λ (p : Local). p.undo) s.local j; writes = ap (λ (p : Local). p.writes) s.local j; wrote = true })
+
+    pub may-place : (a : ℕ) → is_some (item_at a l.writes.items) ≡ true → CanOrecPlace a v
+    may-place a there = record {
+      opens = record { has = record { runs = record { phase = i.phase; algorithm = ap has_records eager; plain = ungranted }; inside = k.inside }; open_yet = k.open_yet };
+      eager = k.eager;
+      undoable = held-some v.owned.undo l.undo.items a k.undo (same-has a l.undo.items l.writes.items k.undoable ∙ there);
+    }
+
+    wrote-there : (a : ℕ) (ws : List (ℕ × ℕ)) → is_some (item_at a ws) ≡ true → is_empty ws ≡ false
+    wrote-there a [] e = absurd cc
+    wrote-there a (w ∷ ws) e = refl
+
+    pub stores-again : (a x : ℕ) (log : LogState) (p : Push) (w : View) → is_some (item_at a l.writes.items) ≡ true → Tells (orec_place a x) Nothing v x w → Pushes l.writes a (put a x l.writes.items) p log → Stores a x (record l { writes = log }) w
+    stores-again a x log pushes.Done w there t push = record {
+      local = λ j. record l { writes = log; wrote = (k.wrote ∙ ap not (wrote-there a l.writes.items there)) j };
+      seen = v.history.seen;
+      held = v.owned.held;
+      sample = v.sample;
+      check = v.check;
+      undo = v.owned.undo;
+      more = record { place = Heap a; act = Store x; found = None } ∷ [];
+      is = t.2 ∙ (λ j. record v { history = record v.history { front = i.front j }; attempt = record v.attempt { start = i.start j }; owned = record v.owned { in_place = record { at = a; value = x } ∷ v.owned.in_place }; steps = record v.steps { trail = record { place = Heap a; act = Store x; found = None } ∷ v.steps.trail } });
+      moves = inl (sym i.start, refl);
+      its = k.covered a (held-some v.owned.in_place l.writes.items a k.writes there);
+      keeps = λ r e. e;
+      locks = k.locks;
+      writes = ap (λ (q : LogState). q.items) push.1;
+      undos = k.undo;
+      undoable = k.undoable ∙ sym (ap (λ (q : LogState). map (λ (e : ℕ × ℕ). e.0) q.items) push.1 ∙ put-firsts a x l.writes.items there);
+      old_words = k.old_words;
+      few = (let e = ap (λ (q : LogState). length q.items) push.1 in let f = same-length (put a x l.writes.items) l.writes.items (put-firsts a x l.writes.items there) in let g = k.few in omega arith);
+      places = k.places;
+      olds = k.olds;
+      below = k.below;
+      undo_len = refl;
+      writes_len = ap (λ (q : LogState). q.len) push.1;
+      locks_len = refl;
+    }
+    stores-again a x log (pushes.Full limit) w there t push = absurd (let e : false ≡ true = sym (ap is_some push.0) ∙ there in cc)
+
+    -- WHAT IS TOLD
+    module _ (a x : ℕ) (q : Local) (w : View) (s : Stores a x q w) where
+      abbrev p : Own
+      p = own_of q
+
+      abbrev y : View
+      y = stored v q.start s.seen s.held s.sample s.check a x s.undo s.more
+
+      grown : Grows (known_of v o) (known_of y p)
+      grown = let g = laws.grown good c n l v i eager plain quiet k q.start s.seen v.attempt.reads s.sample s.check s.more p (ap (λ (d : Local). d.reads.len) s.local) s.undo_len s.moves in
+          record { later = g.later; is = g.is; ascending = g.ascending; up_to = g.up_to; front_rose = g.front_rose; more = g.more; trail = g.trail; reads_limit = g.reads_limit; writes_limit = g.writes_limit }
+
+      legal : MayMove rule c n q.start s.seen s.more v → Legal rule c s.seen
+      legal (inl e) = subst (λ (h : List Entry). Legal rule c h) (sym e.1) i.legal
+      legal (inr e) = e.1.legal
+
+      starts : MayMove rule c n q.start s.seen s.more v → Below s.seen (q.start + 1)
+      starts (inl e) = subst (λ (h : List Entry). Below h (q.start + 1)) (sym e.1) (subst (λ (t : ℕ). Below v.history.seen (t + 1)) (sym (e.0 ∙ i.start)) i.below)
+      starts (inr e) = e.1.below
+
+      sees : MayMove rule c n q.start s.seen s.more v → Explains (word_now s.seen) v.attempt.reads
+      sees (inl e) = subst (λ (h : List Entry). Explains (word_now h) v.attempt.reads) (sym e.1) i.sees
+      sees (inr e) = e.1.sees
+
+      start-moves : MayMove rule c n q.start s.seen s.more v → (q.start ≡ v.attempt.start) ⊎ Found Clock q.start (known_of v o) (known_of y p)
+      start-moves (inl e) = inl e.0
+      start-moves (inr e) = inr (s.more, refl, Load, e.0)
+
+      wrote-put : written_under v.gate.algorithm v.gate.granted y p ≡ put a x (known_of v o).log.writes
+      wrote-put = (λ j. written_under (eager j) (ungranted j) y p) ∙ ap (put a x) (sym k.writes ∙ sym here-written)
+
+      pub writes-done : writes_full a (known_of v o) ≡ false → HasWritten good c n a x writes.Done (known_of v o) (known_of w p)
+      writes-done room = subst (λ (z : View). HasWritten good c n a x writes.Done (known_of v o) (known_of z p)) (sym s.is) (
+        record {
+          continues = record { running = ap is_in i.phase; closing = ap is_closing i.phase; made = refl; grows = grown; alg = refl; base = refl; rises = (omega arith, omega arith); later = laws.begins good c n l v i eager plain quiet k q.start s.seen s.more s.moves; installs = refl };
+          start = subst (λ (b : Alg). StartMoves b (known_of v o) (known_of y p)) (sym eager) (start-moves s.moves);
+          granted = refl;
+          holds = refl;
+          checked = refl;
+        },
+        ap (λ (d : Local). d.committing) s.local ∙ quiet,
+        (refl, λ b. ap (item_at b) wrote-put),
+        opaque-at good c n y p q.start refl refl (legal s.moves) (starts s.moves) (sees s.moves) i.reads_inside,
+        room,
+      )
+
+      sole : MayMove rule c n q.start s.seen s.more v → c.callers ≡ 1 → q.start ≡ c.clock + v.steps.rises_at_begin
+      sole (inl e) one = e.0 ∙ (i.start ∙ k.sole one)
+      sole (inr e) one = absurd (let f = e.2 in omega arith)
+
+      covered : (b : ℕ) → touches (record { at = a; value = x } ∷ v.owned.in_place) b ≡ true → touches s.held (home_of c b) ≡ true
+      covered b t = by (a == b) refl t
+        where
+          by : (d : Bool) → (a == b) ≡ d → (if d then true else touches v.owned.in_place b) ≡ true → touches s.held (home_of c b) ≡ true
+          by true e f = let same : a ≡ b = grind (arith, nat_tests) in subst (λ (z : ℕ). touches s.held (home_of c z) ≡ true) same s.its
+          by false e f = s.keeps (home_of c b) (k.covered b f)
+
+      abbrev kept : Local
+      kept = record l { start = q.start; locks = q.locks; undo = q.undo; writes = q.writes; wrote = true }
+
+      pub stays-stored : a < c.words → x < 2 ^ 64 → IsInside good c n q w
+      stays-stored low small = subst (λ (z : View). IsInside good c n q z) (sym s.is) (subst (λ (d : Local). IsInside good c n d y) (sym s.local) (record {
+        phase = i.phase;
+        named = i.named;
+        built = i.built;
+        disowned = λ e. absurd (let f : false ≡ true = sym e ∙ ap has_records (sym i.named ∙ eager) in cc);
+        unentered = i.unentered;
+        start = refl;
+        front = refl;
+        legal = legal s.moves;
+        below = starts s.moves;
+        sees = sees s.moves;
+        reads_inside = i.reads_inside;
+        looked = λ e. let h = i.looked e in record { low = h.low; seen = h.seen; unseen = h.unseen };
+        granted = i.granted;
+        steady = i.steady;
+        keeps = keeps-eager (record {
+          optimistic = record { unlocked = k.optimistic.unlocked; unfixed = k.optimistic.unfixed; unwritten = k.optimistic.unwritten; uncommitted = k.optimistic.uncommitted; ungranted = ungranted; uncalm = k.optimistic.uncalm; unstored = k.optimistic.unstored; rises = k.optimistic.rises };
+          inside = k.inside;
+          eager = k.eager;
+          open_yet = k.open_yet;
+          unraised = k.unraised;
+          repaid = k.repaid;
+          reads = k.reads;
+          locks = s.locks;
+          writes = s.writes ∙ ap (put a x) k.writes;
+          undo = s.undos;
+          wrote = ap not (sym (ap is_empty s.writes ∙ some-put a x l.writes.items));
+          undoable = s.undoable;
+          words = inside-more c.words (record { at = a; value = x }) v.owned.in_place low k.words;
+          small = small-more (record { at = a; value = x }) v.owned.in_place small k.small;
+          old_words = s.old_words;
+          covered = covered;
+          few = s.few;
+          places = s.places;
+          olds = s.olds;
+          below = s.below;
+          committing = λ e. refl;
+          sole = sole s.moves;
+        });
+      }))
+        where
+          keeps-eager : IsEager c kept y → attempts.Keeps c kept.algorithm kept.granted kept y
+          keeps-eager d = subst (λ (b : Alg). attempts.Keeps c b l.granted kept y) (sym (sym i.named ∙ eager)) (subst (λ (b : Bool). attempts.Keeps c OrecEager b kept y) (sym plain) d)
+
+      pub lengths-stored : SameLengths l → SameLengths q
+      lengths-stored same = (s.writes_len ∙ (same.0 ∙ sym s.undo_len), s.locks_len ∙ (same.1 ∙ sym s.undo_len))

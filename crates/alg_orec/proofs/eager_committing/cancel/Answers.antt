@@ -1,0 +1,61 @@
+use Rattle.std.proofs.Common.{◌≡◌, subst, sym, ap, refl, true, false, rules}
+use Rattle.stm_model.specs.declared.alg.Alg.TheVariants.{OrecEager}
+use Rattle.rule_base.specs.declared.seats.SeatView.{SeatView}
+use Rattle.stm_rule.specs.declared.local.Local.{Local}
+use Rattle.stm_rule.specs.Attempts.{own_of}
+use Rattle.stm_rule.specs.Callers.{Handle, handle_of}
+use Rattle.tx_answers.specs.declared.answers.Cancel.TheVariants.{Cancelled}
+use Rattle.tx_answers.specs.Answers.{Cancels}
+use Rattle.tx_answers.specs.Known.{known_of, is_irrevocable}
+use Rattle.stm_gate.specs.Knowing.{known}
+use Rattle.stm_gate.specs.Standing.{runs-of}
+use Rattle.stm_gate.specs.Told.{told}
+use Rattle.alg_orec.proofs.EagerCommitLaws as laws
+use Rattle.alg_orec.proofs.EagerProving as proving
+use Rattle.alg_orec.proofs.eager_committing.cancel.Goals as goal
+
+pub returns-then-desc-clause-cancels : goal.returns-then-desc-clause-cancels
+returns-then-desc-clause-cancels g c =
+    let f = c.args.stm.now.config in
+    let good = g.K.MemRule.good c.args.stm.now.rule in
+    let d = c.desc.inside in
+    let s = d.seat.me.0 in
+    let o = own_of d.local in
+    let i = runs-of g.K.MemRule.good f c.args.stm.now.rule (handle_of d.seat o) c.args.desc.now d.number d.local c.desc.view_is c.requires.stm.config c.requires.stm.rule c.requires.running c.desc.invariant.1 in
+    let eager = subst (λ (h : Handle g.row.K.Denot). (known h).alg ≡ OrecEager) (sym c.desc.view_is) c.requires.algorithm in
+    let granted : d.local.granted ≡ true = search rules in
+    (refl, subst (λ (p : Handle g.row.K.Denot). is_irrevocable (known p) ≡ true) c.desc.view_is (proving.sure-granted good f d.number d.local s.view i eager o granted))
+
+pub take_back-requires-clause-view : goal.take_back-requires-clause-view
+take_back-requires-clause-view g c =
+    let f = c.args.stm.now.config in
+    let good = g.K.MemRule.good c.args.stm.now.rule in
+    let d = c.desc.inside in
+    let s = d.seat.me.0 in
+    let o = own_of d.local in
+    let i = runs-of g.K.MemRule.good f c.args.stm.now.rule (handle_of d.seat o) c.args.desc.now d.number d.local c.desc.view_is c.requires.stm.config c.requires.stm.rule c.requires.running c.desc.invariant.1 in
+    let eager = subst (λ (h : Handle g.row.K.Denot). (known h).alg ≡ OrecEager) (sym c.desc.view_is) c.requires.algorithm in
+    let plain : d.local.granted ≡ false = search rules in
+    laws.may-take-here good f d.number d.local s.view i eager plain
+
+pub take_back-requires-clause-named : goal.take_back-requires-clause-named
+take_back-requires-clause-named g c =
+    let f = c.args.stm.now.config in
+    let d = c.desc.inside in
+    let i = runs-of g.K.MemRule.good f c.args.stm.now.rule (handle_of d.seat (own_of d.local)) c.args.desc.now d.number d.local c.desc.view_is c.requires.stm.config c.requires.stm.rule c.requires.running c.desc.invariant.1 in
+    sym i.named
+
+pub returns-clause-cancels : goal.returns-clause-cancels
+returns-clause-cancels g c =
+    let f = c.args.stm.now.config in
+    let good = g.K.MemRule.good c.args.stm.now.rule in
+    let d = c.desc.inside in
+    let s = d.seat.me.0 in
+    let o = own_of d.local in
+    let i = runs-of g.K.MemRule.good f c.args.stm.now.rule (handle_of d.seat o) c.args.desc.now d.number d.local c.desc.view_is c.requires.stm.config c.requires.stm.rule c.requires.running c.desc.invariant.1 in
+    let eager = subst (λ (h : Handle g.row.K.Denot). (known h).alg ≡ OrecEager) (sym c.desc.view_is) c.requires.algorithm in
+    let plain : d.local.granted ≡ false = search rules in
+    let r = c.take_back.ensures in
+    let w = c.take_back.new.seat.me.0 in
+    told (λ n v w. Cancels good f n (Cancelled d.local.start) v w) (handle_of d.seat o) c.args.desc.now d.number w c.take_back.new.local c.desc.view_is (ap (λ (y : SeatView g.row.K.Denot). y.who) r.same.1) c.desc.invariant.0.named
+    (subst (λ (m : Local). Cancels good f d.number (Cancelled d.local.start) (known_of s.view o) (known_of w.view (own_of m))) (sym r.idle) (laws.tells-cancelled good f d.number d.local s.view i eager plain w.view o r.takes_back))

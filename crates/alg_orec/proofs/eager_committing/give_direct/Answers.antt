@@ -1,0 +1,65 @@
+use Rattle.std.proofs.Common.{◌≡◌, ◌<◌, List, [], ◌∷◌, length, refl, sym, ap, ◌∙◌, subst, arith}
+use Rattle.rule_base.specs.declared.entries.Cell.{Cell}
+use Rattle.rule_base.specs.declared.seats.SeatView.{SeatView}
+use Rattle.rule_base.specs.declared.views.View.{View}
+use Rattle.rule_base.specs.Bridge.{items}
+use Rattle.rule_base.specs.Encodings.{free_record}
+use Rattle.rule_base.specs.History.{without, Inside}
+use Rattle.stm_gate.specs.Peeling.{drop-all, peeled, inside-without, no-items}
+use Rattle.alg_orec.specs.Locking.{holding_still}
+use Rattle.alg_orec.proofs.EagerReleasing.{direct-step}
+use Rattle.alg_orec.proofs.Releasing.{release_item}
+use Rattle.alg_orec.proofs.eager_committing.give_direct.Goals as goal
+
+pub loop-i-init : goal.loop-i-init
+loop-i-init g c = let k = c.requires.view in record { table = refl; id = refl; bare = refl; more = []; seat = refl; left = sym k.locks; places = k.places }
+
+pub direct_release-requires-clause-place : goal.direct_release-requires-clause-place
+direct_release-requires-clause-place g c =
+    let i = c.loop-i.invariant in
+    let low : c.loop-i.i < length c.args.local.now.locks.items = omega (arith, c.loop-i-test.true, c.count-i-end.ensures.count) in
+    let p = peeled c.args.local.now.locks.items c.loop-i.i c.loop-i.seat.me.0.view.owned.held c.item-r.result low c.count-i-end.ensures.once i.left c.item-r.ensures in
+    i.places c.item-r.result.0 p.0
+
+pub direct_release-requires-clause-view : goal.direct_release-requires-clause-view
+direct_release-requires-clause-view g c =
+    let k = c.requires.view in
+    let i = c.loop-i.invariant in
+    let low : c.loop-i.i < length c.args.local.now.locks.items = omega (arith, c.loop-i-test.true, c.count-i-end.ensures.count) in
+    let p = peeled c.args.local.now.locks.items c.loop-i.i c.loop-i.seat.me.0.view.owned.held c.item-r.result low c.count-i-end.ensures.once i.left c.item-r.ensures in
+    let is = ap (λ (y : SeatView g.row.K.Denot). y.view) i.seat in
+    record {
+      granted = ap (λ (y : View). y.gate.granted) is ∙ k.granted;
+      entered = ap (λ (y : View). y.attempt.entered) is ∙ k.entered;
+      held = p.0;
+      time = k.time ∙ sym (ap (λ (y : View). y.attempt.start) is);
+    }
+
+pub loop-i-preserved : goal.loop-i-preserved
+loop-i-preserved g c =
+    let i = c.loop-i.invariant in
+    let s = c.loop-i.seat.me.0 in
+    let t = c.direct_release.new.seat.me.0 in
+    let step = c.direct_release.ensures.step in
+    let same = c.direct_release.ensures.same in
+    let r = c.item-r.result.0 in
+    let time = c.args.time in
+    let low : c.loop-i.i < length c.args.local.now.locks.items = omega (arith, c.loop-i-test.true, c.count-i-end.ensures.count) in
+    let p = peeled c.args.local.now.locks.items c.loop-i.i s.view.owned.held c.item-r.result low c.count-i-end.ensures.once i.left c.item-r.ensures in
+    let held : t.view.owned.held ≡ without s.view.owned.held r = ap (λ (y : SeatView g.row.K.Denot). y.view.owned.held) step.3 in
+    record {
+      table = same.0 ∙ i.table;
+      id = same.1 ∙ i.id;
+      bare = same.2 ∙ i.bare;
+      more = release_item r time ∷ i.more;
+      seat = direct-step c.args.seat.now.me.0 s t i.more r time (free_record time) step.0 i.seat step.3;
+      left = ap items held ∙ p.2;
+      places = subst (λ (cs : List Cell). Inside c.args.stm.now.config.records cs) (sym held) (inside-without c.args.stm.now.config.records r s.view.owned.held i.places);
+    }
+
+pub returns-clause-releases : goal.returns-clause-releases
+returns-clause-releases g c =
+    let i = c.loop-i.invariant in
+    let s = c.loop-i.seat.me.0.view in
+    let none = no-items s.owned.held (i.left ∙ drop-all c.args.local.now.locks.items c.loop-i.i (omega (arith, c.loop-i-test.false, c.count-i-end.ensures.count))) in
+    record { more = i.more; is = ap (λ (y : SeatView g.row.K.Denot). y.view) i.seat ∙ ap (λ (cs : List Cell). holding_still c.args.seat.now.me.0.view cs i.more) none }

@@ -1,0 +1,20 @@
+use Rattle.std.proofs.Common.{◌≡◌, List, drop}
+use Rattle.stm_model.specs.declared.config.TheConstants.{CLOCK_LIMIT}
+use Rattle.rule_base.specs.declared.views.TrailItem.{TrailItem}
+use Rattle.rule_base.specs.Bridge.{items}
+use Rattle.rule_base.specs.History.{Inside}
+use Rattle.alg_orec.specs.EagerEnding.{AllBelow}
+use Rattle.alg_orec.specs.Locking.{holding_still}
+use Rattle.alg_orec.proofs.eager_ending.release_all_above.Given as goal
+
+abbrev pub invariant-loop-i : goal.invariant-loop-i
+invariant-loop-i g l = record {
+  table : l.seat.table_id ≡ l.initial.seat.table_id;
+  id : l.seat.id ≡ l.initial.seat.id;
+  bare : l.seat.me.1 ≡ l.initial.seat.me.1;
+  more : List TrailItem;
+  seat : l.seat.me.0 ≡ record l.initial.seat.me.0 { view = holding_still l.initial.seat.me.0.view l.seat.me.0.view.owned.held more };
+  left : items l.seat.me.0.view.owned.held ≡ drop l.i l.local.locks.items;
+  places : Inside l.stm.config.records l.seat.me.0.view.owned.held;
+  below : AllBelow CLOCK_LIMIT l.seat.me.0.view.owned.held;
+}

@@ -1,0 +1,14 @@
+use Rattle.std.proofs.Common.{ap}
+use Rattle.rule_base.specs.declared.seats.SeatView.{SeatView}
+use Rattle.alg_orec.proofs.EagerBackLaws as laws
+use Rattle.alg_orec.proofs.eager_ending.take_back.Goals as goal
+
+pub give_back-requires-clause-view : goal.give_back-requires-clause-view
+give_back-requires-clause-view g c = c.requires.view.gives
+
+pub leave-requires-clause-view : goal.leave-requires-clause-view
+leave-requires-clause-view g c = laws.may-leave c.args.stm.now.config c.args.local.now c.args.seat.now.me.0.view c.requires.view c.give_back.new.seat.me.0.view c.give_back.ensures.gives_back
+
+pub returns-clause-takes_back : goal.returns-clause-takes_back
+returns-clause-takes_back g c =
+    laws.takes-back c.args.stm.now.config c.args.local.now c.args.seat.now.me.0.view c.requires.view c.give_back.new.seat.me.0.view c.give_back.ensures.gives_back c.args.caller c.leave.new.seat.me.0.view c.leave.ensures.outside (ap (λ (y : SeatView g.row.K.Denot). y.view) c.leave.ensures.left)

@@ -1,0 +1,64 @@
+-- What the parts of the commit of an attempt of OrecEager that wrote ask and tell.
+use Rattle.std.specs.Prelude.{ℕ, ◌≡◌, ◌<◌, ◌++◌, ◌⊎◌, Bool, true, false, List, None, Result, Ok, Err}
+use Rattle.stm_model.specs.declared.alg.Alg.TheVariants.{OrecEager}
+use Rattle.stm_model.specs.declared.config.Config.{Config}
+use Rattle.stm_model.specs.declared.stop.Cause.{Cause}
+use Rattle.rule_base.specs.declared.entries.Entry.{Entry}
+use Rattle.rule_base.specs.declared.layout.At.TheVariants.{Clock}
+use Rattle.rule_base.specs.declared.views.TrailItem.{TrailItem}
+use Rattle.rule_base.specs.declared.views.Validation.{Validation}
+use Rattle.rule_base.specs.declared.views.View.{View}
+use Rattle.rule_base.specs.Bridge.{items}
+use Rattle.rule_base.specs.History.{Inside}
+use Rattle.rule_base.specs.Own.{Own}
+use Rattle.stm_rule.specs.declared.local.Local.{Local}
+use Rattle.stm_rule.specs.Attempts.{IsInside, SameLengths}
+use Rattle.tx_answers.specs.Causes.{Conflicts}
+use Rattle.tx_answers.specs.Evidence.{Found}
+use Rattle.tx_answers.specs.Known.{Grows, known_of}
+use Rattle.alg_orec.specs.Committing.{readied}
+
+-- an attempt of OrecEager that wrote, and was not promoted
+pub record CanCommitPlaced (good : List ℕ → Type 0) (c : Config) (n : ℕ) (l : Local) (v : View) : Type 0 where
+  pub inside : IsInside good c n l v
+  pub eager : l.algorithm ≡ OrecEager
+  pub plain : l.granted ≡ false
+  pub wrote : l.wrote ≡ true
+  pub running : l.running ≡ true
+  pub holds : l.holds ≡ v.gate.holds
+  pub lengths : SameLengths l
+
+module _ (good : List ℕ → Type 0) (c : Config) (n : ℕ) where
+  -- the reads are valid at the start, which is the clock loaded in this call where the call before answered Again
+  pub record IsRevalidated (l : Local) (v : View) (m : Local) (w : View) : Type 0 where
+    pub local : m ≡ record l { start = m.start }
+    pub seen : List Entry
+    pub loaded : Bool
+    pub check : Validation
+    pub more : List TrailItem
+    pub is : w ≡ readied v seen m.start v.owned.held loaded check more
+    pub stays : IsInside good c n m w
+    pub grows : (o : Own) → Grows (known_of v o) (known_of w o)
+    pub start : (m.start ≡ l.start) ⊎ ((o : Own) → Found Clock m.start (known_of v o) (known_of w o))
+    pub again : l.committing ≡ true → (o : Own) → Found Clock m.start (known_of v o) (known_of w o)
+
+  -- or one is not
+  pub record IsOverrun (cause : Cause) (l : Local) (v : View) (m : Local) (w : View) : Type 0 where
+    pub local : m ≡ l
+    pub check : Validation
+    pub more : List TrailItem
+    pub is : w ≡ record v { check = check; steps = record v.steps { trail = more ++ v.steps.trail } }
+    pub conflicts : (o p : Own) → Conflicts c n None cause (known_of v o) (known_of w p)
+    pub others : 1 < c.callers
+
+  abbrev pub Revalidates : Result (Unit {0}) Cause → Local → View → Local → View → Type 0
+  Revalidates (Ok _) l v m w = IsRevalidated l v m w
+  Revalidates (Err cause) l v m w = IsOverrun cause l v m w
+
+-- a promoted attempt whose entry was made at t
+pub record CanGiveDirect (c : Config) (t : ℕ) (l : Local) (v : View) : Type 0 where
+  pub granted : v.gate.granted ≡ true
+  pub entered : v.attempt.entered ≡ true
+  pub time : t ≡ v.attempt.start
+  pub locks : l.locks.items ≡ items v.owned.held
+  pub places : Inside c.records v.owned.held

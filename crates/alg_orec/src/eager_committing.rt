@@ -1,0 +1,171 @@
+//! The end of an attempt of OrecEager: its commit, and what cancels it.
+ghost use Rattle.std.specs.Prelude.{◌≡◌, ℕ, ◌<◌, ◌≤◌, true, false};
+ghost use Rattle.stm_model.specs.declared.alg.Alg.TheVariants.{OrecEager};
+ghost use Rattle.stm_rule.specs.Attempts.{own_of, Stands};
+ghost use Rattle.stm_rule.specs.Callers.{IsOf, IsSameCaller, IsSeatOf};
+ghost use Rattle.stm_gate.specs.Knowing.{known, number};
+ghost use Rattle.stm_rule.specs.Kept.{IsSameSeat, view_of};
+ghost use Rattle.tx_answers.specs.Answers.{KeepsRule, Commits, Cancels};
+ghost use Rattle.tx_answers.specs.Known.{known_of};
+ghost use Rattle.alg_orec.specs.EagerCommitting.{CanCommitPlaced, Revalidates, CanGiveDirect};
+ghost use Rattle.alg_orec.specs.Locking.{ReleasesAll};
+
+use crate::eager_ending::take_back;
+use crate::locking::release_all;
+use crate::validate::validate;
+use steps_orec::promoting::direct_release;
+use steps_orec::{eager, lazy};
+use stm_gate::leave::leave;
+use stm_model::config::CLOCK_LIMIT;
+use stm_model::rule::MemRule;
+use stm_model::stop::Cause;
+use stm_rule::desc::Desc;
+use stm_rule::local::Local;
+use stm_rule::stm::{Stm, Token};
+use tx_answers::answers::{Cancel, Commit};
+
+/// Commits the attempt: what it wrote becomes one entry of the history, unless another transaction came in between.
+/// Where it wrote nothing, one step, two where it holds the gate; else those of `commit_placed`, or of `commit_direct`.
+pub fn commit<K: MemRule>(desc: &mut Desc<K>, stm: &Stm<K>) -> Commit
+    requires stm { IsOf desc.old stm.now }
+    requires running { (known desc.old).running ≡ true }
+    requires algorithm { (known desc.old).alg ≡ OrecEager }
+    requires keeps { KeepsRule (K.good stm.now.rule) stm.now.config (number desc.old) (known desc.old) }
+    ensures same { IsSameCaller desc.old desc.new }
+    ensures commits { Commits (K.good stm.now.rule) stm.now.config (number desc.old) result (known desc.old) (known desc.new) }
+{
+    if desc.local.granted {
+        return commit_direct(desc, stm);
+    }
+    let caller = desc.number;
+    if !desc.local.wrote {
+        let time = desc.local.start;
+        leave(&mut desc.seat, &mut desc.local, stm, caller);
+        return Commit::ReadOnly { time };
+    }
+    commit_placed(&mut desc.seat, &mut desc.local, stm, caller)
+}
+
+/// Takes the attempt back, unless it is irrevocable. The steps of a rollback.
+pub fn cancel<K: MemRule>(desc: &mut Desc<K>, stm: &Stm<K>) -> Cancel
+    requires stm { IsOf desc.old stm.now }
+    requires running { (known desc.old).running ≡ true }
+    requires algorithm { (known desc.old).alg ≡ OrecEager }
+    ensures same { IsSameCaller desc.old desc.new }
+    ensures cancels { Cancels (K.good stm.now.rule) stm.now.config (number desc.old) result (known desc.old) (known desc.new) }
+{
+    if desc.local.granted {
+        return Cancel::Irrevocable;
+    }
+    let caller = desc.number;
+    let time = desc.local.start;
+    take_back(&mut desc.seat, &mut desc.local, stm, caller);
+    Cancel::Cancelled { time }
+}
+
+/// Commits what lies in place, or goes on with a commit that answered Again: those of a validation then, one step for
+/// the entry and one for each record.
+fn commit_placed<K: MemRule>(
+    seat: &mut Token<K>,
+    local: &mut Local,
+    stm: &Stm<K>,
+    caller: usize,
+) -> Commit
+    requires seat { IsSeatOf stm.now caller seat.old }
+    requires caller { caller < stm.now.config.callers }
+    requires attempt { CanCommitPlaced (K.good stm.now.rule) stm.now.config caller local.old (view_of seat.old) }
+    requires keeps { KeepsRule (K.good stm.now.rule) stm.now.config caller (known_of (view_of seat.old) (own_of local.old)) }
+    ensures same { IsSameSeat seat.old seat.new × (seat.new.me.0 ≡ record seat.old.me.0 { view = view_of seat.new }) }
+    ensures commits { Commits (K.good stm.now.rule) stm.now.config caller result (known_of (view_of seat.old) (own_of local.old)) (known_of (view_of seat.new) (own_of local.new)) }
+    ensures stands { Stands (K.good stm.now.rule) stm.now.config caller local.new (view_of seat.new) }
+{
+    if let Err(cause) = revalidate(seat, local, stm, caller) {
+        take_back(seat, local, stm, caller);
+        return Commit::Conflict(cause);
+    }
+    let start = local.start;
+    if start >= CLOCK_LIMIT {
+        let clock = lazy::limit(stm, seat, caller);
+        take_back(seat, local, stm, caller);
+        return Commit::ClockFull { clock };
+    }
+    let now = eager::commit_placed(stm, seat, caller, start);
+    if now != start {
+        local.committing = true;
+        return Commit::Again {
+            word: 0,
+            had: start,
+            now,
+        };
+    }
+    release_all(seat, local, stm, caller, start + 1);
+    local.committing = false;
+    leave(seat, local, stm, caller);
+    Commit::Committed { time: start + 1 }
+}
+
+/// Validates where the call before answered Again: the clock has moved past the start since.
+fn revalidate<K: MemRule>(
+    seat: &mut Token<K>,
+    local: &mut Local,
+    stm: &Stm<K>,
+    caller: usize,
+) -> Result<(), Cause>
+    requires seat { IsSeatOf stm.now caller seat.old }
+    requires caller { caller < stm.now.config.callers }
+    requires attempt { CanCommitPlaced (K.good stm.now.rule) stm.now.config caller local.old (view_of seat.old) }
+    ensures same { IsSameSeat seat.old seat.new × (seat.new.me.0 ≡ record seat.old.me.0 { view = view_of seat.new }) }
+    ensures revalidates { Revalidates (K.good stm.now.rule) stm.now.config caller result local.old (view_of seat.old) local.new (view_of seat.new) }
+{
+    if local.committing {
+        return validate(seat, local, stm, caller);
+    }
+    Ok(())
+}
+
+/// Commits what a promoted attempt stored, gives its records back at the time of the entry, stores it in BASE and in
+/// DONE, and reopens the gate. Five steps, and one for each record; two where it wrote nothing.
+fn commit_direct<K: MemRule>(desc: &mut Desc<K>, stm: &Stm<K>) -> Commit
+    requires stm { IsOf desc.old stm.now }
+    requires running { (known desc.old).running ≡ true }
+    requires algorithm { (known desc.old).alg ≡ OrecEager }
+    requires granted { (known desc.old).granted ≡ true }
+    requires keeps { KeepsRule (K.good stm.now.rule) stm.now.config (number desc.old) (known desc.old) }
+    ensures same { IsSameCaller desc.old desc.new }
+    ensures commits { Commits (K.good stm.now.rule) stm.now.config (number desc.old) result (known desc.old) (known desc.new) }
+{
+    let caller = desc.number;
+    let start = desc.local.start;
+    if !desc.local.wrote {
+        leave(&mut desc.seat, &mut desc.local, stm, caller);
+        return Commit::ReadOnly { time: start };
+    }
+    let alg = desc.local.algorithm;
+    let time = start + alg.entry_rise();
+    stm.direct_commit(&mut desc.seat, caller, alg, time);
+    give_direct(&mut desc.seat, &desc.local, stm, caller, time);
+    stm.store_base(&mut desc.seat, caller, time);
+    stm.store_done(&mut desc.seat, caller, time);
+    leave(&mut desc.seat, &mut desc.local, stm, caller);
+    Commit::Committed { time }
+}
+
+/// Gives back the records of a promoted attempt, each with the time of its entry as its version. A step for each.
+fn give_direct<K: MemRule>(
+    seat: &mut Token<K>,
+    local: &Local,
+    stm: &Stm<K>,
+    caller: usize,
+    time: u64,
+)
+    requires seat { IsSeatOf stm.now caller seat.old }
+    requires limit { time ≤ CLOCK_LIMIT }
+    requires view { CanGiveDirect stm.now.config time local.now (view_of seat.old) }
+    ensures same { IsSameSeat seat.old seat.new × (seat.new.me.0 ≡ record seat.old.me.0 { view = view_of seat.new }) }
+    ensures releases { ReleasesAll (view_of seat.old) (view_of seat.new) }
+{
+    for i in 0..local.locks.count() {
+        let (r, _) = local.locks.item(i);
+        direct_release(stm, seat, caller, r, time);
+    }
+}
