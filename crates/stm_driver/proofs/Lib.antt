@@ -8,7 +8,6 @@ mod ScheduleLaws
 mod RoundLaws
 mod ThreadLaws
 mod IdleLaws
-mod TakingLaws
 mod PreparedLaws
 mod StandingLaws
 mod ReportLaws

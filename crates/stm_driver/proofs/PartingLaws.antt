@@ -98,10 +98,6 @@ part-from (suc j) k (suc m) items d lt = let e : suc k + j ≡ k + suc j = omega
 pub part-at : (callers : ℕ) (items : List Item) (n : ℕ) (d : List Item) → n < callers → slice_index_or (parted callers items) n d ≡ items_of n items
 part-at callers items n d lt = let e : 0 + n ≡ n = omega arith in part-from n 0 callers items d lt ∙ ap (λ k. items_of k items) e
 
-pub parts-length : (k m : ℕ) (items : List Item) → length (map (λ n. items_of n items) (counted k m)) ≡ m
-parts-length k zero items = refl
-parts-length k (suc m) items = ap suc (parts-length (suc k) m items)
-
 none-from : (k m : ℕ) → replicate m [] ≡ map (λ n. items_of n []) (counted k m)
 none-from k zero = refl
 none-from k (suc m) = ap (λ l. [] ∷ l) (none-from (suc k) m)

@@ -1,5 +1,5 @@
 -- The workers of all callers.
-use Rattle.std.specs.Prelude.{ℕ, suc, get_or, ◌≡◌, ◌<◌, ◌≤◌, ◌+◌, ◌*◌, ◌^◌, ◌⊎◌, length, List, [], ◌∷◌, ◌++◌, map, Option, Some, None, MatchOption, Result, Ok, Err}
+use Rattle.std.specs.Prelude.{ℕ, suc, ◌≡◌, ◌≤◌, ◌+◌, ◌*◌, ◌^◌, ◌⊎◌, length, List, [], ◌∷◌, ◌++◌, map, Option, Some, None, MatchOption, Result, Ok, Err}
 use Rattle.std.specs.Option.{option_or}
 use Rattle.stm_rule.specs.declared.stm.Stm.{Stm}
 use Rattle.crossbeam_utils.specs.declared.cache_padded.CachePadded.{CachePadded}
@@ -49,17 +49,6 @@ module _ {K : Type 0} where
   abbrev pub rows_of : List (Worker K) → List Row
   rows_of [] = []
   rows_of (w ∷ ws) = w.rows.items ++ rows_of ws
-
-  -- worker n has a row
-  abbrev pub HasRows : List (Worker K) → ℕ → Type 0
-  HasRows ws n = (n < length ws) × ((d : Worker K) → 0 < length (get_or ws n d).rows.items)
-
-  -- its last row is gone to the end of these
-  pub record TakesLast (v w : Worker K) (these those : List Row) : Type 0 where
-    pub last : Row
-    pub from : v.rows.items ≡ w.rows.items ++ last ∷ []
-    pub to : those ≡ these ++ last ∷ []
-    pub desc : w.desc ≡ v.desc
 
   -- the clock of the first worker that found it at its limit
   abbrev pub first_full : List (CachePadded (Runner K)) → Option ℕ

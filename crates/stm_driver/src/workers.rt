@@ -1,6 +1,6 @@
 //! The workers of all callers.
-ghost use Rattle.std.specs.Prelude.{◌≡◌, ◌<◌, ◌≤◌, ◌+◌, [], length, slice_index_or, vec_len, vec_capacity, IfOk, IsPermutation, MatchOption};
-ghost use Rattle.stm_driver.specs.AllWorkers.{AreMade, worker_in, workers_in, descs_of, rows_of, HasRows, TakesLast, first_full};
+ghost use Rattle.std.specs.Prelude.{◌≡◌, ◌≤◌, ◌+◌, ◌++◌, [], length, slice_index_or, vec_len, vec_capacity, IfOk};
+ghost use Rattle.stm_driver.specs.AllWorkers.{AreMade, workers_in, descs_of, rows_of, first_full};
 
 use crate::parting::{CallerItems, items_at};
 use crossbeam_utils::CachePadded;
@@ -52,9 +52,9 @@ pub fn full_clock<K: MemRule>(runners: &[CachePadded<Runner<K>>]) -> Option<u64>
     full
 }
 
-/// Takes the workers apart: their descriptors in the workers' order, and their rows. It takes no memory.
+/// Takes the workers apart: their descriptors and their rows, both in the workers' order. It takes no memory.
 pub fn take_apart<K: MemRule>(
-    mut runners: Vec<CachePadded<Runner<K>>>,
+    runners: Vec<CachePadded<Runner<K>>>,
     descs: &mut Vec<Desc<K>>,
     rows: &mut Vec<Row>,
 )
@@ -62,64 +62,28 @@ pub fn take_apart<K: MemRule>(
     requires descs { length runners.items ≤ vec_capacity descs.old }
     requires rows { length (rows_of (workers_in runners.items)) ≤ vec_capacity rows.old }
     ensures descs { descs.new.items ≡ descs_of (workers_in runners.entry.items) }
-    ensures rows { IsPermutation (rows_of (workers_in runners.entry.items)) rows.new.items }
+    ensures rows { rows.new.items ≡ rows_of (workers_in runners.entry.items) }
 {
-    take_rows(runners.as_mut_slice(), rows);
     for runner in runners {
         let Runner { worker, .. } = runner.into_inner();
-        let Worker { desc, .. } = worker;
+        let Worker {
+            desc,
+            rows: mut own,
+            ..
+        } = worker;
         descs.push_reserved(desc);
+        move_rows(&mut own, rows);
     }
 }
 
-/// Takes all rows, by ascending place: the latest row of all is a worker's last one. A sort costs one pass then, where
-/// it costs ten times as much if each worker's rows stand apart.
-fn take_rows<K: MemRule>(runners: &mut [CachePadded<Runner<K>>], rows: &mut Vec<Row>)
-    requires empty { (rows.old.items ≡ []) × (vec_len rows.old ≡ 0) }
-    requires room { length (rows_of (workers_in runners.old)) ≤ vec_capacity rows.old }
-    ensures count { length runners.new ≡ length runners.old }
-    ensures descs { descs_of (workers_in runners.new) ≡ descs_of (workers_in runners.old) }
-    ensures rows { IsPermutation (rows_of (workers_in runners.old)) rows.new.items }
+/// Moves rows to the end of others, where there is room for them.
+fn move_rows(from: &mut Vec<Row>, to: &mut Vec<Row>)
+    requires { vec_len to.old + vec_len from.old ≤ vec_capacity to.old }
+    ensures items { to.new.items ≡ to.old.items ++ from.old.items }
+    ensures len { vec_len to.new ≡ vec_len to.old + vec_len from.old }
+    ensures capacity { vec_capacity to.old ≤ vec_capacity to.new }
 {
-    while let Some(caller) = latest(runners) {
-        take_last(&mut runners[caller], rows);
-    }
-    rows.as_mut_slice().reverse();
-}
-
-/// The worker whose last row has the latest place, where there is a row.
-fn latest<K: MemRule>(runners: &[CachePadded<Runner<K>>]) -> Option<usize>
-    ensures { MatchOption result (rows_of (workers_in runners.now) ≡ []) (HasRows (workers_in runners.now)) }
-{
-    let mut found: Option<(usize, u64)> = None;
-    for caller in 0..runners.len() {
-        if let Some(row) = runners[caller].worker.rows.last() {
-            let is_later = match found {
-                Some((_, place)) => place < row.place,
-                None => true,
-            };
-            if is_later {
-                found = Some((caller, row.place));
-            }
-        }
-    }
-    match found {
-        Some((caller, _)) => Some(caller),
-        None => None,
-    }
-}
-
-/// Takes the last row of a worker.
-fn take_last<K: MemRule>(runner: &mut CachePadded<Runner<K>>, rows: &mut Vec<Row>)
-    requires some { 0 < length (worker_in runner.old).rows.items }
-    requires room { vec_len rows.old < vec_capacity rows.old }
-    ensures taken { TakesLast (worker_in runner.old) (worker_in runner.new) rows.old.items rows.new.items }
-    ensures len { vec_len rows.new ≡ vec_len rows.old + 1 }
-    ensures capacity { vec_capacity rows.old ≤ vec_capacity rows.new }
-{
-    let runner = &mut **runner;
-    let Some(row) = runner.worker.rows.pop() else {
+    let Ok(()) = to.append(from) else {
         unreachable!()
     };
-    rows.push_reserved(row);
 }

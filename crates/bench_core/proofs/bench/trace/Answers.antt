@@ -1,15 +1,32 @@
-use Rattle.std.proofs.Common.{List, ℕ, sym, subst}
+use Rattle.std.proofs.Common.{List, ℕ, length, refl, sym, ap, subst, ◌∙◌, ◌≡◌}
 use Rattle.tx_regions.specs.declared.region.Region.{Region}
 use Rattle.tx_regions.specs.Regions.{AllWellFormed}
+use Rattle.stm_script.specs.declared.workload.Item.{Item}
 use Rattle.stm_script.specs.Reports.{zeros}
 use Rattle.stm_text.specs.declared.parse.Mode.TheVariants.{Step as Stepwise}
-use Rattle.stm_driver.specs.Preparings.{WorkloadKeeps}
+use Rattle.stm_driver.specs.AllWorkers.{workers_in}
+use Rattle.stm_driver.specs.Partings.{parted, parts-length}
+use Rattle.stm_driver.specs.Preparings.{HasRoom, IsPrepared, IsReadyFor, WorkloadKeeps}
 use Rattle.bench_core.proofs.bench.trace.Goals as goal
 
-pub step-requires-clause-good : goal.step-requires-clause-good
-step-requires-clause-good g c =
+pub prepare-requires-clause-good : goal.prepare-requires-clause-good
+prepare-requires-clause-good g c =
     subst (λ (rs : List Region). AllWellFormed rs (zeros c.args.workload.header.words)) (sym c.in_ok-rule.ensures) (c.regions_are_kept.ensures.holds c.args.workload)
 
-pub step-requires-clause-keeps : goal.step-requires-clause-keeps
-step-requires-clause-keeps g c =
-    subst (λ (rs : List Region). WorkloadKeeps (AllWellFormed rs) c.args.workload) (sym c.in_ok-rule.ensures) (c.regions_are_kept.ensures.kept Stepwise c.args.workload c.requires)
+pub prepare-requires-clause-parts : goal.prepare-requires-clause-parts
+prepare-requires-clause-parts g c = ap length (c.as_slice.ensures.value ∙ (c.in_ok-parts.ensures ∙ ap (parted c.args.workload.header.callers) c.into_vec.ensures)) ∙ parts-length 0 c.args.workload.header.callers c.args.workload.items
+
+pub step-requires-clause-ready : goal.step-requires-clause-ready
+step-requires-clause-ready g c =
+    let w = c.args.workload in
+    let p = c.in_ok-prepared.prepared in
+    let e = c.in_ok-prepared.ensures in
+    let parts : c.as_slice.result.now ≡ parted w.header.callers w.items = c.as_slice.ensures.value ∙ (c.in_ok-parts.ensures ∙ ap (parted w.header.callers) c.into_vec.ensures) in
+    let regions = e.rule ∙ c.in_ok-rule.ensures in
+    let ready : IsReadyFor (AllWellFormed p.stm.rule) Stepwise w p = record {
+      built = c.requires;
+      keeps = subst (λ (rs : List Region). WorkloadKeeps (AllWellFormed rs) w) (sym regions) (c.regions_are_kept.ensures.kept Stepwise w c.requires);
+      prepared = subst (λ (ps : List (List Item)). IsPrepared w.header ps p.stm (workers_in p.runners.items)) parts e.prepared;
+      room = subst (λ (n : ℕ). HasRoom w.header.callers n w.header.words p.room) (ap length c.as_slice-count.ensures) e.room;
+    } in
+    (w, ready, c.as_slice-2.ensures)

@@ -1,7 +1,6 @@
-use Rattle.std.proofs.Common.{ℕ, ap, sym, ◌∙◌, length, subst, ◌≡◌, ◌≤◌, List, refl}
-use Rattle.std.specs.Prelude.{vec_capacity, OnOk, All, Ok, Err, IsPermutation}
-use Rattle.std.proofs.lemmas.List.Sorted.{IsPermutation-trans}
-use Rattle.stm_rule.specs.Callers.{AllIdle}
+use Rattle.std.proofs.Common.{ℕ, List, ap, sym, ◌∙◌, length, subst, ◌≡◌, ◌≤◌, refl}
+use Rattle.std.specs.Prelude.{vec_capacity, Result, OnOk, All, Ok, Err}
+use Rattle.stm_rule.specs.Callers.{Handle, AllIdle}
 use Rattle.stm_rule.specs.Closings.{Closes}
 use Rattle.stm_script.specs.declared.report.Report.{Report}
 use Rattle.stm_script.specs.declared.report.Row.{Row}
@@ -9,9 +8,11 @@ use Rattle.stm_trace.specs.declared.said.Phase.TheVariants.{Between}
 use Rattle.stm_worker.specs.declared.worker.Worker.{Worker}
 use Rattle.stm_driver.specs.AllWorkers.{workers_in, descs_of, rows_of}
 use Rattle.stm_driver.specs.declared.outcome.Outcome.TheVariants.{ToEnd, ToLimit, OutOfMemory}
-use Rattle.stm_driver.specs.ClosedRuns.{Came, IsReport, Reported}
+use Rattle.stm_driver.specs.declared.schedule.Halt.{Halt}
+use Rattle.stm_driver.specs.declared.schedule.Halt.TheVariants.{ClockFull, Memory}
+use Rattle.stm_driver.specs.ClosedRuns.{Came, CutShort, IsReport, Reported}
 use Rattle.stm_driver.specs.Schedules.{AreSound}
-use Rattle.stm_driver.proofs.IdleLaws.{CameBack, came-back, descs-count, idle-still}
+use Rattle.stm_driver.proofs.IdleLaws.{came-back, descs-count, idle-still}
 use Rattle.stm_driver.proofs.closing.close_memory.Goals as goal
 
 pub take_apart-requires-clause-rows : goal.take_apart-requires-clause-rows
@@ -31,3 +32,60 @@ close_into-closed-requires-clause-all g c =
 
 pub make_all_idle-requires : goal.make_all_idle-requires
 make_all_idle-requires g c = subst (λ rs. AreSound (g.K.MemRule.good c.args.stm.rule) c.args.stm (workers_in rs)) (sym c.as_mut_slice.ensures.value) c.requires.sound
+
+pub returns-in-Ok-report_of : goal.returns-in-Ok-report_of
+returns-in-Ok-report_of g c =
+    let back = came-back (g.K.MemRule.good c.args.stm.rule) c.args.stm c.args.runners.items c.as_mut_slice.result.now c.make_all_idle.new.runners c.args.runners.len c.as_mut_slice.ensures.value c.as_mut_slice.ensures.len c.requires.callers c.make_all_idle.ensures in
+    let ws = workers_in c.args.runners.items in
+    let how = c.in-Ok.is in
+    let between = subst (λ h. OnOk h (All (λ (w : Worker g.row.K.Denot). w.phase ≡ Between) ws)) how c.requires.through in
+    let after : workers_in c.make_all_idle.new.runners ≡ ws = idle-still (g.K.MemRule.good c.args.stm.rule) c.args.stm ws (workers_in c.make_all_idle.new.runners) between back.idle in
+    let descs = c.take_apart.ensures.descs ∙ (ap descs_of back.is ∙ ap descs_of after) in
+    let rows = c.take_apart.ensures.rows ∙ (ap rows_of back.is ∙ ap rows_of after) in
+    let told : (report : Report) → IsReport c.take_apart.new.rows.items c.as_slice.result.now report → Reported (g.K.MemRule.good c.args.stm.rule) c.args.stm ws report c.close_into-closed.result = λ report is. record {
+      words = c.close_into-closed.new.words.items;
+      closes = subst (λ (ds : List (Handle g.row.K.Denot)). Closes (g.K.MemRule.good c.args.stm.rule) c.args.stm.config ds c.close_into-closed.new.words.items c.close_into-closed.result) descs c.close_into-closed.ensures;
+      is = subst (λ ns. IsReport (rows_of ws) ns report) c.as_slice.ensures.value (subst (λ (rs : List Row). IsReport rs c.as_slice.result.now report) rows is);
+    } in
+    subst (λ h. Came (g.K.MemRule.good c.args.stm.rule) c.args.stm ws h (ToEnd c.in-Ok-report_of.report c.close_into-closed.result)) (sym how) (told c.in-Ok-report_of.report c.in-Ok-report_of.ensures.is)
+
+pub returns-in-Ok : goal.returns-in-Ok
+returns-in-Ok g c =
+    let back = came-back (g.K.MemRule.good c.args.stm.rule) c.args.stm c.args.runners.items c.as_mut_slice.result.now c.make_all_idle.new.runners c.args.runners.len c.as_mut_slice.ensures.value c.as_mut_slice.ensures.len c.requires.callers c.make_all_idle.ensures in
+    let ws = workers_in c.args.runners.items in
+    let how = c.in-Ok.is in
+    let between = subst (λ h. OnOk h (All (λ (w : Worker g.row.K.Denot). w.phase ≡ Between) ws)) how c.requires.through in
+    let after : workers_in c.make_all_idle.new.runners ≡ ws = idle-still (g.K.MemRule.good c.args.stm.rule) c.args.stm ws (workers_in c.make_all_idle.new.runners) between back.idle in
+    let descs = c.take_apart.ensures.descs ∙ (ap descs_of back.is ∙ ap descs_of after) in
+    let rows = c.take_apart.ensures.rows ∙ (ap rows_of back.is ∙ ap rows_of after) in
+    let told : (report : Report) → IsReport c.take_apart.new.rows.items c.as_slice.result.now report → Reported (g.K.MemRule.good c.args.stm.rule) c.args.stm ws report c.close_into-closed.result = λ report is. record {
+      words = c.close_into-closed.new.words.items;
+      closes = subst (λ (ds : List (Handle g.row.K.Denot)). Closes (g.K.MemRule.good c.args.stm.rule) c.args.stm.config ds c.close_into-closed.new.words.items c.close_into-closed.result) descs c.close_into-closed.ensures;
+      is = subst (λ ns. IsReport (rows_of ws) ns report) c.as_slice.ensures.value (subst (λ (rs : List Row). IsReport rs c.as_slice.result.now report) rows is);
+    } in
+    let some = c.in-Err.ensures.refused in
+    subst (λ h. Came (g.K.MemRule.good c.args.stm.rule) c.args.stm ws h (OutOfMemory c.close_into-closed.result)) (sym how) (some.0, told some.0 some.1)
+
+pub returns-in-Err-ClockFull : goal.returns-in-Err-ClockFull
+returns-in-Err-ClockFull g c =
+    let back = came-back (g.K.MemRule.good c.args.stm.rule) c.args.stm c.args.runners.items c.as_mut_slice.result.now c.make_all_idle.new.runners c.args.runners.len c.as_mut_slice.ensures.value c.as_mut_slice.ensures.len c.requires.callers c.make_all_idle.ensures in
+    let ws = workers_in c.args.runners.items in
+    let short : CutShort (g.K.MemRule.good c.args.stm.rule) c.args.stm ws c.close_into-closed.result = record {
+      words = c.close_into-closed.new.words.items;
+      after = workers_in c.make_all_idle.new.runners;
+      idle = back.idle;
+      closes = subst (λ (ds : List (Handle g.row.K.Denot)). Closes (g.K.MemRule.good c.args.stm.rule) c.args.stm.config ds c.close_into-closed.new.words.items c.close_into-closed.result) (c.take_apart.ensures.descs ∙ ap descs_of back.is) c.close_into-closed.ensures;
+    } in
+    subst (λ h. Came (g.K.MemRule.good c.args.stm.rule) c.args.stm ws h (ToLimit c.in-Err-ClockFull.clock c.close_into-closed.result)) (sym c.in-Err-ClockFull.is) (subst (λ (halt : Halt). Came (g.K.MemRule.good c.args.stm.rule) c.args.stm ws (Err halt) (ToLimit c.in-Err-ClockFull.clock c.close_into-closed.result)) (sym c.in-Err-ClockFull.field-0-is) (refl, short))
+
+pub returns : goal.returns
+returns g c =
+    let back = came-back (g.K.MemRule.good c.args.stm.rule) c.args.stm c.args.runners.items c.as_mut_slice.result.now c.make_all_idle.new.runners c.args.runners.len c.as_mut_slice.ensures.value c.as_mut_slice.ensures.len c.requires.callers c.make_all_idle.ensures in
+    let ws = workers_in c.args.runners.items in
+    let short : CutShort (g.K.MemRule.good c.args.stm.rule) c.args.stm ws c.close_into-closed.result = record {
+      words = c.close_into-closed.new.words.items;
+      after = workers_in c.make_all_idle.new.runners;
+      idle = back.idle;
+      closes = subst (λ (ds : List (Handle g.row.K.Denot)). Closes (g.K.MemRule.good c.args.stm.rule) c.args.stm.config ds c.close_into-closed.new.words.items c.close_into-closed.result) (c.take_apart.ensures.descs ∙ ap descs_of back.is) c.close_into-closed.ensures;
+    } in
+    subst (λ h. Came (g.K.MemRule.good c.args.stm.rule) c.args.stm ws h (OutOfMemory c.close_into-closed.result)) (sym c.in-Err-Memory.is) (subst (λ (halt : Halt). Came (g.K.MemRule.good c.args.stm.rule) c.args.stm ws (Err halt) (OutOfMemory c.close_into-closed.result)) (sym c.in-Err-Memory.field-0-is) short)

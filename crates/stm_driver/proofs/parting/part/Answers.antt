@@ -1,8 +1,8 @@
 use Rattle.std.proofs.Common.{◌≡◌, ◌<◌, ◌++◌, ◌∷◌, [], All, length, slice_set, slice_index_or, sym, ap, ◌∙◌, arith, subst, append_assoc}
 use Rattle.std.specs.Vec.Iter.{into_iter_items}
 use Rattle.stm_trace.specs.Places.{caller_in}
-use Rattle.stm_driver.specs.Partings.{parted}
-use Rattle.stm_driver.proofs.PartingLaws.{all-middle, given, part-at, parts-length, written}
+use Rattle.stm_driver.specs.Partings.{parted, parts-length}
+use Rattle.stm_driver.proofs.PartingLaws.{all-middle, given, part-at, written}
 use Rattle.stm_driver.proofs.parting.part.Goals as goal
 
 pub give-requires : goal.give-requires
