@@ -54,8 +54,10 @@ pub fn close_memory<K: MemRule + Drop>(
             Ok(report) => Outcome::ToEnd { report, closed },
             Err(Memory) => Outcome::OutOfMemory { closed },
         },
-        Err(Halt::ClockFull { clock }) => Outcome::ToLimit { clock, closed },
-        Err(Halt::Memory) => Outcome::OutOfMemory { closed },
+        Err(halt) => match halt {
+            Halt::ClockFull { clock } => Outcome::ToLimit { clock, closed },
+            Halt::Memory => Outcome::OutOfMemory { closed },
+        },
     }
 }
 

@@ -63,11 +63,11 @@ returns-in-Ok g c =
       closes = subst (λ (ds : List (Handle g.row.K.Denot)). Closes (g.K.MemRule.good c.args.stm.rule) c.args.stm.config ds c.close_into-closed.new.words.items c.close_into-closed.result) descs c.close_into-closed.ensures;
       is = subst (λ ns. IsReport (rows_of ws) ns report) c.as_slice.ensures.value (subst (λ (rs : List Row). IsReport rs c.as_slice.result.now report) rows is);
     } in
-    let some = c.in-Err.ensures.refused in
+    let some = c.in-Err-report_of.ensures.refused in
     subst (λ h. Came (g.K.MemRule.good c.args.stm.rule) c.args.stm ws h (OutOfMemory c.close_into-closed.result)) (sym how) (some.0, told some.0 some.1)
 
-pub returns-in-Err-ClockFull : goal.returns-in-Err-ClockFull
-returns-in-Err-ClockFull g c =
+pub returns-in-ClockFull : goal.returns-in-ClockFull
+returns-in-ClockFull g c =
     let back = came-back (g.K.MemRule.good c.args.stm.rule) c.args.stm c.args.runners.items c.as_mut_slice.result.now c.make_all_idle.new.runners c.args.runners.len c.as_mut_slice.ensures.value c.as_mut_slice.ensures.len c.requires.callers c.make_all_idle.ensures in
     let ws = workers_in c.args.runners.items in
     let short : CutShort (g.K.MemRule.good c.args.stm.rule) c.args.stm ws c.close_into-closed.result = record {
@@ -76,7 +76,7 @@ returns-in-Err-ClockFull g c =
       idle = back.idle;
       closes = subst (λ (ds : List (Handle g.row.K.Denot)). Closes (g.K.MemRule.good c.args.stm.rule) c.args.stm.config ds c.close_into-closed.new.words.items c.close_into-closed.result) (c.take_apart.ensures.descs ∙ ap descs_of back.is) c.close_into-closed.ensures;
     } in
-    subst (λ h. Came (g.K.MemRule.good c.args.stm.rule) c.args.stm ws h (ToLimit c.in-Err-ClockFull.clock c.close_into-closed.result)) (sym c.in-Err-ClockFull.is) (subst (λ (halt : Halt). Came (g.K.MemRule.good c.args.stm.rule) c.args.stm ws (Err halt) (ToLimit c.in-Err-ClockFull.clock c.close_into-closed.result)) (sym c.in-Err-ClockFull.field-0-is) (refl, short))
+    subst (λ h. Came (g.K.MemRule.good c.args.stm.rule) c.args.stm ws h (ToLimit c.in-ClockFull.clock c.close_into-closed.result)) (sym c.in-Err.is) (subst (λ (halt : Halt). Came (g.K.MemRule.good c.args.stm.rule) c.args.stm ws (Err halt) (ToLimit c.in-ClockFull.clock c.close_into-closed.result)) (sym c.in-ClockFull.is) (refl, short))
 
 pub returns : goal.returns
 returns g c =
@@ -88,4 +88,4 @@ returns g c =
       idle = back.idle;
       closes = subst (λ (ds : List (Handle g.row.K.Denot)). Closes (g.K.MemRule.good c.args.stm.rule) c.args.stm.config ds c.close_into-closed.new.words.items c.close_into-closed.result) (c.take_apart.ensures.descs ∙ ap descs_of back.is) c.close_into-closed.ensures;
     } in
-    subst (λ h. Came (g.K.MemRule.good c.args.stm.rule) c.args.stm ws h (OutOfMemory c.close_into-closed.result)) (sym c.in-Err-Memory.is) (subst (λ (halt : Halt). Came (g.K.MemRule.good c.args.stm.rule) c.args.stm ws (Err halt) (OutOfMemory c.close_into-closed.result)) (sym c.in-Err-Memory.field-0-is) short)
+    subst (λ h. Came (g.K.MemRule.good c.args.stm.rule) c.args.stm ws h (OutOfMemory c.close_into-closed.result)) (sym c.in-Err.is) (subst (λ (halt : Halt). Came (g.K.MemRule.good c.args.stm.rule) c.args.stm ws (Err halt) (OutOfMemory c.close_into-closed.result)) (sym c.in-Memory.is) short)
