@@ -1,5 +1,5 @@
-use Rattle.std.proofs.Common.{ℕ, List, ap, sym, ◌∙◌, length, subst, ◌≡◌, ◌≤◌, refl}
-use Rattle.std.specs.Prelude.{vec_capacity, Result, OnOk, All, Ok, Err}
+use Rattle.std.proofs.Common.{List, ap, sym, ◌∙◌, length, subst, ◌≡◌, ◌≤◌, refl}
+use Rattle.std.specs.Prelude.{vec_capacity, OnOk, All, Err}
 use Rattle.stm_rule.specs.Callers.{Handle, AllIdle}
 use Rattle.stm_rule.specs.Closings.{Closes}
 use Rattle.stm_script.specs.declared.report.Report.{Report}
@@ -9,7 +9,6 @@ use Rattle.stm_worker.specs.declared.worker.Worker.{Worker}
 use Rattle.stm_driver.specs.AllWorkers.{workers_in, descs_of, rows_of}
 use Rattle.stm_driver.specs.declared.outcome.Outcome.TheVariants.{ToEnd, ToLimit, OutOfMemory}
 use Rattle.stm_driver.specs.declared.schedule.Halt.{Halt}
-use Rattle.stm_driver.specs.declared.schedule.Halt.TheVariants.{ClockFull, Memory}
 use Rattle.stm_driver.specs.ClosedRuns.{Came, CutShort, IsReport, Reported}
 use Rattle.stm_driver.specs.Schedules.{AreSound}
 use Rattle.stm_driver.proofs.IdleLaws.{came-back, descs-count, idle-still}
