@@ -158,15 +158,7 @@ fn report<R: Threads + Wait + Sync, G: Turnstile + Sync>(
     let parts = part(alloc, header.callers, items.into_vec())?;
     let rule = header.regions(alloc)?;
     let regions = header.regions(alloc)?;
-    let prepared = prepare(
-        rt,
-        alloc,
-        rule,
-        &header,
-        parts.as_slice(),
-        &regions,
-        count,
-    )?;
+    let prepared = prepare(rt, alloc, rule, &header, parts.as_slice(), &regions, count)?;
     match run(rt, alloc, prepared, turnstile) {
         Outcome::ToEnd { report, closed } => Ok(Saying {
             status: Status::Ok,
@@ -197,15 +189,7 @@ fn trace<R: Wait>(rt: &R, alloc: Global, workload: Workload) -> Result<Saying, M
     let parts = part(alloc, header.callers, items.into_vec())?;
     let rule = header.regions(alloc)?;
     let regions = header.regions(alloc)?;
-    let prepared = prepare(
-        rt,
-        alloc,
-        rule,
-        &header,
-        parts.as_slice(),
-        &regions,
-        count,
-    )?;
+    let prepared = prepare(rt, alloc, rule, &header, parts.as_slice(), &regions, count)?;
     let (lines, outcome) = step(rt, alloc, prepared, schedule.as_slice());
     match outcome {
         Outcome::ToEnd { report, closed } => Ok(Saying {

@@ -6,9 +6,9 @@ pub mod bench;
 #[cfg(test)]
 mod cases;
 mod command;
-mod messages;
 #[cfg(test)]
 mod eager_tests;
+mod messages;
 #[cfg(test)]
 mod orec_tests;
 pub mod program;

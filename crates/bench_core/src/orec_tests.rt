@@ -142,7 +142,14 @@ fn fills_a_write_log(rt: HostRuntime) -> Result<(), Fail> {
     trace.push_str("0 write full 256\n0 begin OrecLazy\n0 irrev granted\n0 write 1\n")?;
     let body = format!(in alloc; "tx 0 {{{script}write 256 1}}")?;
     let text = workload(alloc, "alg OrecLazy / words 512", body.as_str())?;
-    let (status, held) = outcome(&rt, alloc, &["stm_bench", "step"], text.as_str(), &[], 65536)?;
+    let (status, held) = outcome(
+        &rt,
+        alloc,
+        &["stm_bench", "step"],
+        text.as_str(),
+        &[],
+        65536,
+    )?;
     assert_eq!(rt; status, Status::Ok);
     assert!(rt; held.contains(trace.as_str()));
     assert!(rt; held.ends_with("\nmem 255 1\nmem 256 1\nend\n"));

@@ -114,7 +114,10 @@ fn is_overrun_by_a_ring_of_writes(rt: HostRuntime) -> Result<(), Fail> {
         let (status, held) = outcome(&rt, alloc, &["stm_bench", "step"], text.as_str(), &[], 4096)?;
         let last = format!(in alloc; "{said} / finish")?;
         assert_eq!(rt; status, Status::Ok);
-        assert!(rt; held.contains(lines(alloc, last.as_str())?.as_str()), "{held}");
+        assert!(rt;
+            held.contains(lines(alloc, last.as_str())?.as_str()),
+            "{held}"
+        );
     }
     Ok(())
 }

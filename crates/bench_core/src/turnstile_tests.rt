@@ -153,8 +153,15 @@ fn commits_inside_another_attempt(rt: HostRuntime) -> Result<(), Fail> {
             second: AtomicUsize::new(0),
             missed: AtomicUsize::new(0),
         };
-        let (status, held) =
-            outcome_through(&rt, rt.alloc(), RUN, text.as_str(), &[], 4096, &crossing)?;
+        let (status, held) = outcome_through(
+            &rt,
+            rt.alloc(),
+            RUN,
+            text.as_str(),
+            &[],
+            4096,
+            &crossing,
+        )?;
         assert_eq!(rt; status, Status::Ok);
         assert_eq!(rt; crossing.missed.load(Ordering::SeqCst), 0);
         assert!(rt; held.ends_with("\nmem 0 1\nmem 1 2\nend\n"));

@@ -30,3 +30,33 @@ run-requires-clause-ready g c κs within =
       room = subst (λ (n : ℕ). HasRoom w.header.callers n w.header.words p.room) (ap length c.as_slice-count.ensures) e.room;
     } in
     (w, ready)
+
+pub returns-in-ToEnd : goal.returns-in-ToEnd
+returns-in-ToEnd g c =
+    let w = c.args.workload in
+    let p = c.in_ok-prepared.prepared in
+    let e = c.in_ok-prepared.ensures in
+    let parts : c.as_slice.result.now ≡ parted w.header.callers w.items = c.as_slice.ensures.value ∙ (c.in_ok-parts.ensures ∙ ap (parted w.header.callers) c.into_vec.ensures) in
+    let regions = e.rule ∙ c.in_ok-rule.ensures in
+    let ready : IsReadyFor (AllWellFormed p.stm.rule) Run w p = record {
+      built = c.requires;
+      keeps = subst (λ (rs : List Region). WorkloadKeeps (AllWellFormed rs) w) (sym regions) (c.regions_are_kept.ensures.kept Run w c.requires);
+      prepared = subst (λ (ps : List (List Item)). IsPrepared w.header ps p.stm (workers_in p.runners.items)) parts e.prepared;
+      room = subst (λ (n : ℕ). HasRoom w.header.callers n w.header.words p.room) (ap length c.as_slice-count.ensures) e.room;
+    } in
+    record { report = c.in-ToEnd.report; shown = c.in-ToEnd.ensures w ready; is = c.in_ok-report_text-in-ToEnd.ensures }
+
+pub returns-in-ToLimit : goal.returns-in-ToLimit
+returns-in-ToLimit g c =
+    let w = c.args.workload in
+    let p = c.in_ok-prepared.prepared in
+    let e = c.in_ok-prepared.ensures in
+    let parts : c.as_slice.result.now ≡ parted w.header.callers w.items = c.as_slice.ensures.value ∙ (c.in_ok-parts.ensures ∙ ap (parted w.header.callers) c.into_vec.ensures) in
+    let regions = e.rule ∙ c.in_ok-rule.ensures in
+    let ready : IsReadyFor (AllWellFormed p.stm.rule) Run w p = record {
+      built = c.requires;
+      keeps = subst (λ (rs : List Region). WorkloadKeeps (AllWellFormed rs) w) (sym regions) (c.regions_are_kept.ensures.kept Run w c.requires);
+      prepared = subst (λ (ps : List (List Item)). IsPrepared w.header ps p.stm (workers_in p.runners.items)) parts e.prepared;
+      room = subst (λ (n : ℕ). HasRoom w.header.callers n w.header.words p.room) (ap length c.as_slice-count.ensures) e.room;
+    } in
+    record { full = c.in-ToLimit.ensures w ready; is = c.in_ok-clock_full-in-ToLimit.ensures }
