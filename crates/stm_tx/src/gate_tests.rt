@@ -91,7 +91,9 @@ fn looks_on_and_gives_up<K: MemRule>(
     requires first { IsOf first.old stm.now }
     requires second { IsOf second.old stm.now }
     requires third { IsOf third.old stm.now }
-    requires idle { IsIdle (known first.old) × IsIdle (known second.old) × IsIdle (known third.old) }
+    requires first_idle { IsIdle (known first.old) }
+    requires second_idle { IsIdle (known second.old) }
+    requires third_idle { IsIdle (known third.old) }
 {
     let Begin::Begun(Alg::Cgl) = try_begin(third, stm) else {
         return None;
@@ -170,11 +172,13 @@ fn two_callers(alloc: Global) -> Result<Option<bool>, NewError> {
 
 fn three_callers(alloc: Global) -> Result<Option<bool>, NewError> {
     let (stm, mut descs) = Stm::new(alloc, memory(3), AnyMem)?;
-    let (Some(mut third), Some(mut second), Some(mut first)) = (
-        descs.pop(),
-        descs.pop(),
-        descs.pop(),
-    ) else {
+    let Some(mut third) = descs.pop() else {
+        unreachable!()
+    };
+    let Some(mut second) = descs.pop() else {
+        unreachable!()
+    };
+    let Some(mut first) = descs.pop() else {
         unreachable!()
     };
     Ok(looks_on_and_gives_up(&stm, &mut first, &mut second, &mut third))
