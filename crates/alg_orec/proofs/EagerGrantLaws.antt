@@ -1,8 +1,7 @@
 -- What the steps of a promotion of OrecEager come to.
-use Rattle.std.proofs.Common.{ℕ, ◌≡◌, ◌≢◌, ◌<◌, ◌≤◌, ◌+◌, List, [], ◌∷◌, ◌++◌, length, Bool, true, false, refl, sym, ap, ◌∙◌, arith, subst, append_assoc, inl, inr}
-use Rattle.std.specs.Prelude.{Option, Some, None, ◌%◌, ◌⊎◌, ◌&&◌, ltb, nat_le, if◌then◌else◌, not}
+use Rattle.std.proofs.Common.{ℕ, ◌≡◌, ◌≢◌, ◌<◌, ◌≤◌, ◌+◌, List, [], ◌∷◌, ◌++◌, length, Bool, true, false, refl, sym, ap, ◌∙◌, arith, subst, inl, inr}
+use Rattle.std.specs.Prelude.{Option, Some, None, ◌%◌, ◌⊎◌, ◌&&◌, nat_le, not}
 use Rattle.std.proofs.lemmas.Bool.Decides.{nat_tests}
-use Rattle.std.proofs.lemmas.List.Elements.{Contains-append_right}
 use Rattle.stm_model.specs.Algorithms.{has_records, asks_at_grant, closes_gate, entry_rise, is_sure}
 use Rattle.stm_model.specs.declared.alg.Alg.{Alg}
 use Rattle.stm_model.specs.declared.alg.Alg.TheVariants.{OrecEager}
@@ -22,35 +21,32 @@ use Rattle.rule_base.specs.declared.views.TrailItem.{TrailItem}
 use Rattle.rule_base.specs.declared.views.Validation.{Validation}
 use Rattle.rule_base.specs.declared.views.View.{View}
 use Rattle.rule_base.specs.Bridge.{items, of_words, public_history}
-use Rattle.rule_base.specs.Encodings.{is_owned, owner_of, version_of}
-use Rattle.rule_base.specs.GateSteps.{granted_at}
+use Rattle.rule_base.specs.Encodings.{is_owned, version_of}
 use Rattle.rule_base.specs.BridgeLemmas.{item-some}
 use Rattle.rule_base.specs.History.{over, touches, Inside, Small}
 use Rattle.rule_base.specs.InstallSteps.{settle, CanSettle}
 use Rattle.rule_base.specs.Own.{Own}
 use Rattle.rule_base.specs.Ranks.{home_of}
-use Rattle.rule_base.specs.StepKinds.{Tells, view_after}
-use Rattle.rule_orec.specs.OrecReading.{no_sample, no_check}
-use Rattle.rule_orec.specs.OrecSteps.{HasOpen, passes, direct_attempt, direct_owned, orec_clock, orec_grant, CanOrecGrant, orec_grant_all, CanOrecGrantAll, HasStores}
+use Rattle.rule_base.specs.StepKinds.{Tells}
+use Rattle.rule_orec.specs.OrecSteps.{HasOpen, orec_clock, orec_grant, CanOrecGrant, orec_grant_all, CanOrecGrantAll, HasStores}
 use Rattle.stm_rule.specs.declared.local.Local.{Local}
 use Rattle.stm_rule.specs.Attempts.{Keeps, IsInside, own_of}
-use Rattle.stm_rule.specs.Findings.{FindsWithin, OrecFails}
+use Rattle.stm_rule.specs.Findings.{FindsWithin}
 use Rattle.stm_rule.specs.EagerKept.{IsEager}
-use Rattle.steps_orec.specs.RecordFindings.{FindsRecord, FindsClock, FindsAll, FindsGrant}
+use Rattle.steps_orec.specs.RecordFindings.{FindsClock, FindsAll, FindsGrant}
 use Rattle.steps_orec.specs.Validating.{to_validate}
 use Rattle.tx_answers.specs.Answers.{BecomesSure}
 use Rattle.tx_answers.specs.declared.answers.Irrev.TheVariants as irrevs
-use Rattle.tx_answers.specs.Causes.{Conflicts, NamesOther, IsAnothers, IsNewer, has_item}
+use Rattle.tx_answers.specs.Causes.{Conflicts}
 use Rattle.tx_answers.specs.Known.{Grows, known_of, granted_under, written_under, is_irrevocable, is_in, is_closing, wrote}
 use Rattle.stm_gate.specs.Granting.{Grants}
 use Rattle.stm_gate.specs.LeavingLaws.{IsUnmade, found-later, finds-full}
 use Rattle.stm_gate.specs.Opacity.{opaque-at, later-seen}
-use Rattle.stm_gate.specs.Peeling.{has-touched, no-items}
+use Rattle.stm_gate.specs.Peeling.{no-items}
 use Rattle.alg_orec.specs.EagerEnding.{AllBelow, CanTakeBack, TakesBack}
 use Rattle.alg_orec.specs.EagerGranting.{CanGrantPlaced, placed_at, IsGrantedPlaced, IsNotGrantedPlaced}
-use Rattle.alg_orec.specs.Validating.{load_of, OnlyLoads, read_at, is_old, vouches, HasVersions, IsLast, CanValidate, Refuses, IsFoundStale, IsHeldNewer, IsStale, HasPassed}
-use Rattle.alg_orec.proofs.CommittingLaws.{untouched-loads}
-use Rattle.alg_orec.proofs.Passing as passing
+use Rattle.alg_orec.specs.Validating.{load_of, read_at, is_old, vouches, HasVersions, IsLast, CanValidate, Refuses, IsFoundStale, IsHeldNewer, IsStale, HasPassed}
+use Rattle.alg_orec.proofs.PromotingLaws as promoting
 use Rattle.alg_orec.proofs.EagerProving.{conflicts-later, eager-of, ended-by, no-writes, none-held, quits-back, wrote-known}
 use Rattle.alg_orec.proofs.Proving.{with_commit}
 use Rattle.alg_orec.proofs.Validity as validity
@@ -71,16 +67,22 @@ module _ (good : List ℕ → Type 0) (c : Config) (n : ℕ) (low : n < c.caller
   pub versions : HasVersions l
   versions r version e = let p = item-some v.owned.held r version (sym (ap (item_at r) k.locks) ∙ e) in let b = k.below r p.0 in let q = p.1 in omega arith
 
-  -- the view before the grant, with what it knows of the clock as the gate's holder
-  abbrev knowing : Bool → ℕ → Bool → Bool → Validation → List TrailItem → View
-  knowing calm time rebased completed check more = record v {
-    gate = record v.gate { calm = calm; time = time; rebased = rebased; completed = completed };
-    check = check;
-    steps = record v.steps { trail = more ++ v.steps.trail };
+  -- its reads can be validated
+  ready : CanValidate c l v
+  ready = record {
+    opens = record { has = record { runs = record { phase = i.phase; algorithm = ap has_records eager; plain = k.optimistic.ungranted }; inside = k.inside }; open_yet = k.open_yet };
+    start = i.start;
+    reads = k.reads;
+    locks = k.locks;
+    versions = versions;
+    level = λ one. let a = i.start in let b = k.sole one in let d = k.optimistic.rises in omega arith;
   }
 
-  opens-knowing : (calm : Bool) (time : ℕ) (rebased completed : Bool) (check : Validation) (more : List TrailItem) → HasOpen (knowing calm time rebased completed check more)
-  opens-knowing calm time rebased completed check more = record { has = record { runs = record { phase = i.phase; algorithm = ap has_records eager; plain = k.optimistic.ungranted }; inside = k.inside }; open_yet = k.open_yet }
+  abbrev knowing : Bool → ℕ → Bool → Bool → Validation → List TrailItem → View
+  knowing = promoting.knowing rule c n low l v ready
+
+  abbrev all_at : List Entry → ℕ → Bool → View
+  all_at = promoting.all_at rule c n low l v ready
 
   -- it can be taken back, unless it knows a clock at which it holds a record
   takes : (y : View) → HasOpen y → y.owned ≡ v.owned → y.lock ≡ v.lock → y.tml ≡ v.tml → y.ring_commit ≡ v.ring_commit → y.attempt ≡ v.attempt → (y.gate.calm ≡ true → AllBelow y.gate.time v.owned.held) → CanTakeBack c l y
@@ -114,47 +116,23 @@ module _ (good : List ℕ → Type 0) (c : Config) (n : ℕ) (low : n < c.caller
     small = subst (λ (h : Ownership). Small h.in_place) (sym owned) k.small;
   }
 
-  may-validate-here : CanValidate c l v
-  may-validate-here = record {
-    opens = record { has = record { runs = record { phase = i.phase; algorithm = ap has_records eager; plain = k.optimistic.ungranted }; inside = k.inside }; open_yet = k.open_yet };
-    start = i.start;
-    reads = k.reads;
-    locks = k.locks;
-    versions = versions;
-    level = λ one. let a = i.start in let b = k.sole one in let d = k.optimistic.rises in omega arith;
-  }
-
   -- NO READ TO VALIDATE: the clock is all
   pub may-grant_all : IsLast c.records None l → CanOrecGrantAll (home_of c) c.words c.callers n v
-  may-grant_all none = record { all = validity.may-all rule c n low l v may-validate-here none; holds = can.alone.holds; quiet = can.alone.quiet; stores = has-stores v refl refl }
-
-  abbrev all_at : List Entry → ℕ → Bool → View
-  all_at seen x b = record v {
-    history = if b then record v.history { seen = seen; front = x } else v.history;
-    attempt = if b then direct_attempt x v else v.attempt;
-    owned = if b then direct_owned v.owned else v.owned;
-    gate = if b then granted_at x v.gate else v.gate;
-    sample = no_sample;
-    check = no_check;
-    steps = record v.steps { trail = load_of Clock x ∷ v.steps.trail };
-  }
-
-  all_path : (x : ℕ) (w : View) (b : Bool) → ltb x CLOCK_LIMIT ≡ b → (t : Tells orec_grant_all (FindsAll rule c) v x w) → w ≡ all_at t.0.history x b
-  all_path x w b e t = t.2 ∙ ap (all_at t.0.history x) e
+  may-grant_all none = record { all = validity.may-all rule c n low l v ready none; holds = can.alone.holds; quiet = can.alone.quiet; stores = has-stores v refl refl }
 
   pub granted-all : (x : ℕ) (w : View) → x < CLOCK_LIMIT → Tells orec_grant_all (FindsAll rule c) v x w → IsGrantedPlaced good c n l v (record l { start = x }) w
   granted-all x w under t = record {
     local = refl;
     seen = t.0.history;
     more = load_of Clock x ∷ [];
-    is = all_path x w true (grind (arith, nat_tests)) t;
+    is = promoting.all_path rule c n low l v ready x w true (grind (arith, nat_tests)) t;
     moves = t.1.moves;
     found = (0, omega arith, refl);
     limit = under;
   }
 
   pub full-all : (x : ℕ) (w : View) → CLOCK_LIMIT ≤ x → Tells orec_grant_all (FindsAll rule c) v x w → IsNotGrantedPlaced good c n (irrevs.ClockFull x) l v l w
-  full-all x w high t = subst (IsNotGrantedPlaced good c n (irrevs.ClockFull x) l v l) (sym (all_path x w false (grind (arith, nat_tests)) t)) (record {
+  full-all x w high t = subst (IsNotGrantedPlaced good c n (irrevs.ClockFull x) l v l) (sym (promoting.all_path rule c n low l v ready x w false (grind (arith, nat_tests)) t)) (record {
     local = refl;
     can = takes (all_at t.0.history x false) (record { has = record { runs = record { phase = i.phase; algorithm = ap has_records eager; plain = k.optimistic.ungranted }; inside = k.inside }; open_yet = k.open_yet }) refl refl refl refl refl (λ calm. absurd (let f : true ≡ false = sym calm ∙ k.optimistic.uncalm in cc));
     holds = refl;
@@ -171,12 +149,12 @@ module _ (good : List ℕ → Type 0) (c : Config) (n : ℕ) (low : n < c.caller
 
   module _ (time : ℕ) (s : View) (first : Tells settle FindsWithin v time s) where
     settled_path : s ≡ knowing true time false false v.check (load_of Clock time ∷ [])
-    settled_path = first.2
+    settled_path = promoting.settled_path rule c n low l v ready time s first
 
     pub full-settled : CLOCK_LIMIT ≤ time → IsNotGrantedPlaced good c n (irrevs.ClockFull time) l v l s
     full-settled high = subst (IsNotGrantedPlaced good c n (irrevs.ClockFull time) l v l) (sym settled_path) (record {
       local = refl;
-      can = takes (knowing true time false false v.check (load_of Clock time ∷ [])) (opens-knowing true time false false v.check (load_of Clock time ∷ [])) refl refl refl refl refl (λ calm r h. (let b = k.below r h in omega arith));
+      can = takes (knowing true time false false v.check (load_of Clock time ∷ [])) (promoting.opens-knowing rule c n low l v ready true time false false v.check (load_of Clock time ∷ [])) refl refl refl refl refl (λ calm r h. (let b = k.below r h in omega arith));
       holds = refl;
       named = refl;
       unmade = record { carried = record { named = refl; base = refl; installs = refl; trail = (load_of Clock time ∷ [], refl) }; history = refl };
@@ -186,14 +164,7 @@ module _ (good : List ℕ → Type 0) (c : Config) (n : ℕ) (low : n < c.caller
     })
 
     pub may-validate : CanValidate c l s
-    may-validate = subst (CanValidate c l) (sym settled_path) (record {
-      opens = opens-knowing true time false false v.check (load_of Clock time ∷ []);
-      start = i.start;
-      reads = k.reads;
-      locks = k.locks;
-      versions = versions;
-      level = λ one. let a = i.start in let b = k.sole one in let d = k.optimistic.rises in omega arith;
-    })
+    may-validate = promoting.may-validate rule c n low l v ready time s first
 
     -- the last read to validate is of a record that it doesn't hold
     pub not-held : (j b : ℕ) → IsLast c.records (Some j) l → b ≡ read_at l j → item_at (b % c.records) l.locks.items ≡ None
@@ -226,40 +197,15 @@ module _ (good : List ℕ → Type 0) (c : Config) (n : ℕ) (low : n < c.caller
     stale-conflicts : (index word start : ℕ) (w : View) → IsStale c n index word start s w → (o : Own) → Conflicts c n None (causes.Record index word start) (known_of v o) (known_of w o) × (1 < c.callers)
     stale-conflicts index word start w q o = by q.why
       where
-        trail : w.steps.trail ≡ q.more ++ (load_of Clock time ∷ v.steps.trail)
-        trail = ap (λ (y : View). y.steps.trail) q.is ∙ ap (λ (y : View). q.more ++ y.steps.trail) settled_path
-
-        read : has_item q.a (items v.attempt.reads) ≡ true
-        read = sym (has-touched q.a v.attempt.reads) ∙ (sym (ap (λ (y : View). touches y.attempt.reads q.a) settled_path) ∙ q.read)
-
         by : IsFoundStale c n index word start q.more s ⊎ IsHeldNewer c n index word start s → Conflicts c n None (causes.Record index word start) (known_of v o) (known_of w o) × (1 < c.callers)
-        by (inl f) = (
-          (
-            ap has_records eager,
-            q.start ∙ ap (λ (y : View). y.attempt.start) settled_path,
-            (q.a, q.home, inr (inl read)),
-            record {
-              early = f.early ++ load_of Clock time ∷ [];
-              act = Load;
-              late = [];
-              trail = trail ∙ (ap (λ (is : List TrailItem). is ++ (load_of Clock time ∷ v.steps.trail)) f.last ∙ ap (λ (is : List TrailItem). load_of (Record index) word ∷ is) (sym (append_assoc f.early (load_of Clock time ∷ []) v.steps.trail)));
-              untouched = untouched-loads (Record index) f.early (load_of Clock time ∷ []) (subst OnlyLoads f.last q.loads).1 ((λ e. refl), tt);
-            },
-            stale f.stale,
-          ),
-          f.others,
-        )
-          where
-            stale : ((is_owned word ≡ true) × NamesOther c n (1 + owner_of word)) ⊎ ((is_owned word ≡ false) × (start < version_of word)) → IsAnothers c n None word ⊎ IsNewer c n None index word start (known_of v o)
-            stale (inl x) = inl x
-            stale (inr x) = inr (x.0, x.1, (q.a, q.home, read))
+        by (inl f) = promoting.found-conflicts rule c n low l v ready time s first index word start w q f o
         by (inr f) = absurd (held-newer index word start w q f)
 
     pub refused-reads : (cause : causes.the_data) (w : View) → Refuses c n cause s w → IsNotGrantedPlaced good c n (irrevs.Conflict cause) l v l w
     refused-reads (causes.Clock had now) w q = absurd q
     refused-reads (causes.Record index word start) w q = record {
       local = refl;
-      can = takes w (subst HasOpen (sym path) (opens-knowing true time false false w.check (q.more ++ load_of Clock time ∷ []))) (ap (λ (y : View). y.owned) path) (ap (λ (y : View). y.lock) path) (ap (λ (y : View). y.tml) path) (ap (λ (y : View). y.ring_commit) path) (ap (λ (y : View). y.attempt) path)
+      can = takes w (subst HasOpen (sym path) (promoting.opens-knowing rule c n low l v ready true time false false w.check (q.more ++ load_of Clock time ∷ []))) (ap (λ (y : View). y.owned) path) (ap (λ (y : View). y.lock) path) (ap (λ (y : View). y.tml) path) (ap (λ (y : View). y.ring_commit) path) (ap (λ (y : View). y.attempt) path)
           (λ calm. seen-below w.gate.time (let t = stale-later index word start w q in let e : w.gate.time ≡ time = ap (λ (y : View). y.gate.time) path in omega arith));
       holds = ap (λ (y : View). y.gate.holds) path;
       named = ap (λ (y : View). y.gate.algorithm) path;
@@ -270,52 +216,21 @@ module _ (good : List ℕ → Type 0) (c : Config) (n : ℕ) (low : n < c.caller
     }
       where
         path : w ≡ knowing true time false false w.check (q.more ++ load_of Clock time ∷ [])
-        path = q.is ∙ (ap (λ (y : View). record y { check = w.check; steps = record y.steps { trail = q.more ++ y.steps.trail } }) settled_path
-            ∙ ap (λ (t : List TrailItem). record (knowing true time false false w.check []) { steps = record v.steps { trail = t } }) (sym (append_assoc q.more (load_of Clock time ∷ []) v.steps.trail)))
+        path = promoting.refused_path rule c n low l v ready time s first index word start w q
     refused-reads (causes.Moved index before after) w q = absurd q
     refused-reads (causes.Filter bound bits) w q = absurd q
     refused-reads (causes.Overrun start clock) w q = absurd q
 
     -- the clock was loaded again, to validate, and the reads before the last one have passed
     module _ (j now : ℕ) (last : IsLast c.records (Some j) l) (p : View) (second : Tells (orec_clock (to_validate (home_of c) s)) (FindsClock c) s now p) (u : View) (h : HasPassed c 0 j l p u) where
-      now_is : now ≡ time
-      now_is = second.1.settled.settled (ap (λ (y : View). y.gate.calm) settled_path) ∙ ap (λ (y : View). y.gate.time) settled_path
-
-      abbrev check : Validation
-      check = validity.here rule c n low l s may-validate j now last p second u h
-
       abbrev done : List TrailItem
-      done = validity.more rule c n low l s may-validate j now last p second u h
-
-      passed_path : u ≡ knowing true time false false check (done ++ load_of Clock time ∷ [])
-      passed_path = validity.path rule c n low l s may-validate j now last p second u h
-          ∙ (ap (λ (y : View). record y { check = check; steps = record y.steps { trail = done ++ y.steps.trail } }) settled_path
-          ∙ ap (λ (t : List TrailItem). record (knowing true time false false check []) { steps = record v.steps { trail = t } }) (sym (append_assoc done (load_of Clock time ∷ []) v.steps.trail)))
+      done = promoting.done rule c n low l v ready time s first j now last p second u h
 
       pub may-grant : (b : ℕ) → b ≡ read_at l j → CanOrecGrant (home_of c) c.words (b % c.records) b u
-      may-grant b at = record {
-        last = validity.may-last rule c n low l s may-validate j now last p second u h b at;
-        calm = ap (λ (y : View). y.gate.calm) passed_path;
-        upto = ap (λ (y : View). y.check.upto) passed_path ∙ (now_is ∙ sym (ap (λ (y : View). y.gate.time) passed_path));
-        stores = has-stores u (ap (λ (y : View). y.lock) passed_path) (ap (λ (y : View). y.owned) passed_path);
-      }
+      may-grant = let path = promoting.passed_path rule c n low l v ready time s first j now last p second u h in promoting.may-grant rule c n low l v ready time s first j now last p second u h (has-stores u (ap (λ (y : View). y.lock) path) (ap (λ (y : View). y.owned) path))
 
       abbrev last_at : List Entry → ℕ → ℕ → Bool → View
-      last_at seen r x b = record v {
-        history = if b then record v.history { seen = seen; front = time } else v.history;
-        attempt = if b then direct_attempt time v else v.attempt;
-        owned = if b then direct_owned v.owned else v.owned;
-        gate = if b then granted_at time v.gate else record v.gate { calm = true; time = time; rebased = false; completed = false };
-        sample = no_sample;
-        check = no_check;
-        steps = record v.steps { trail = load_of (Record r) x ∷ ((done ++ load_of Clock time ∷ []) ++ v.steps.trail) };
-      }
-
-      last_path : (b x : ℕ) (w : View) (q : Bool) → passes x (passing.under c n low l s may-validate check done) ≡ q → (t : Tells (orec_grant (b % c.records) b) (FindsGrant rule c n (b % c.records)) u x w) → w ≡ last_at t.0.history (b % c.records) x q
-      last_path b x w q e t = t.2 ∙ (ap (λ (y : View). view_after (orec_grant (b % c.records) b) t.0 y x) passed_path ∙ ap (last_at t.0.history (b % c.records) x) (same ∙ e))
-        where
-          same : passes x (knowing true time false false check (done ++ load_of Clock time ∷ [])) ≡ passes x (passing.under c n low l s may-validate check done)
-          same = ap (λ (y : View). passes x y) (sym settled_path)
+      last_at = promoting.last_at rule c n low l v ready time s first j now last p second u h
 
       -- the last one passes: all reads are valid at the clock
       pub granted-last : (b x : ℕ) (w : View) → time < CLOCK_LIMIT → is_owned x ≡ false → version_of x ≤ l.start → Tells (orec_grant (b % c.records) b) (FindsGrant rule c n (b % c.records)) u x w → IsGrantedPlaced good c n l v (record l { start = time }) w
@@ -323,20 +238,11 @@ module _ (good : List ℕ → Type 0) (c : Config) (n : ℕ) (low : n < c.caller
         local = refl;
         seen = t.0.history;
         more = load_of (Record (b % c.records)) x ∷ (done ++ load_of Clock time ∷ []);
-        is = last_path b x w true pass t;
-        moves = (let m = shown.moves pass_here in record { legal = m.legal; below = m.below; seen = m.seen; front = m.front; limit = m.limit; sees = m.sees });
-        found = Contains-append_right (load_of (Record (b % c.records)) x ∷ done) (load_of Clock time ∷ []) (load_of Clock time) (0, omega arith, refl);
+        is = promoting.granted_path rule c n low l v ready time s first j now last p second u h b x w t free old;
+        moves = promoting.grant-moves rule c n low l v ready time s first j now last p second u h b x w t free old;
+        found = promoting.clock-found rule c n low l v ready time s first j now last p second u h b x w t free old;
         limit = under;
       }
-        where
-          pass : passes x (passing.under c n low l s may-validate check done) ≡ true
-          pass = passing.passes-by c n low l s may-validate check done x free old
-
-          pass_here : passes x (knowing true time false false check (done ++ load_of Clock time ∷ [])) ≡ true
-          pass_here = ap (λ (y : View). passes x y) (sym settled_path) ∙ pass
-
-          shown : FindsGrant rule c n (b % c.records) t.0 (knowing true time false false check (done ++ load_of Clock time ∷ [])) x
-          shown = subst (λ (y : View). FindsGrant rule c n (b % c.records) t.0 y x) passed_path t.1
 
       -- or it doesn't
       pub refused-last : (b x : ℕ) (w : View) → b ≡ read_at l j → item_at (b % c.records) l.locks.items ≡ None → (is_owned x ≡ true) ⊎ ((is_owned x ≡ false) × (l.start < version_of x)) → Tells (orec_grant (b % c.records) b) (FindsGrant rule c n (b % c.records)) u x w
@@ -351,24 +257,19 @@ module _ (good : List ℕ → Type 0) (c : Config) (n : ℕ) (low : n < c.caller
         rises = ap (λ (y : View). y.steps.rises) path;
         held = ap (λ (y : View). y.owned.held) path;
         why = (
-          (λ o. conflicts-later c n None (causes.Record (b % c.records) x l.start) (known_of v o) (known_of alike o) (known_of w o) (ap has_records eager) [] same-trail (stale-conflicts (b % c.records) x l.start alike refusal o).0),
+          (λ o. conflicts-later c n None (causes.Record (b % c.records) x l.start) (known_of v o) (known_of alike o) (known_of w o) (ap has_records eager) [] (promoting.same-trail rule c n low l v ready time s first j now last p second u h b x w t stale) (stale-conflicts (b % c.records) x l.start alike refusal o).0),
           (stale-conflicts (b % c.records) x l.start alike refusal (own_of l)).1,
         );
       }
         where
           path : w ≡ last_at t.0.history (b % c.records) x false
-          path = last_path b x w false (passing.fails-by c n low l s may-validate check done x stale) t
+          path = promoting.stale_path rule c n low l v ready time s first j now last p second u h b x w t stale
 
-          -- the view as if the record had been loaded to validate
           alike : View
-          alike = passing.under c n low l s may-validate no_check (load_of (Record (b % c.records)) x ∷ done)
+          alike = promoting.alike rule c n low l v ready time s first j now last p second u h b x w t stale
 
           refusal : Refuses c n (causes.Record (b % c.records) x l.start) s alike
-          refusal = passing.refused-found c n low l s may-validate b x check done alike no_check t.0 (subst (λ (a : ℕ). touches s.attempt.reads a ≡ true) (sym at) (validity.read-last rule c n low l s may-validate j now last p second u h)) none
-              (subst (λ (y : View). FindsRecord c n (b % c.records) t.0 y x) (validity.path rule c n low l s may-validate j now last p second u h) t.1.read.found) (subst (λ (y : View). OrecFails n t.0 y x) (validity.path rule c n low l s may-validate j now last p second u h) t.1.read.fails) stale (validity.loads rule c n low l s may-validate j now last p second u h) refl
-
-          same-trail : w.steps.trail ≡ alike.steps.trail
-          same-trail = ap (λ (y : View). y.steps.trail) path ∙ ap (λ (is : List TrailItem). load_of (Record (b % c.records)) x ∷ is) (append_assoc done (load_of Clock time ∷ []) v.steps.trail ∙ ap (λ (y : View). done ++ y.steps.trail) (sym settled_path))
+          refusal = promoting.refusal rule c n low l v ready time s first j now last p second u h b x w t stale at none
 
   -- THE END of an attempt that isn't promoted
   pub tells-refused : (refusal : irrevs.the_data) (m : Local) (u z : View) (o : Own) → IsNotGrantedPlaced good c n refusal l v m u → TakesBack n u z → Grants good c n refusal (known_of v o) (known_of z (with_commit false o))

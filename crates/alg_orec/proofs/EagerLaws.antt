@@ -19,6 +19,7 @@ use Rattle.rule_base.specs.declared.views.Validation.{Validation}
 use Rattle.rule_base.specs.declared.views.View.{View}
 use Rattle.rule_base.specs.Bridge.{items, of_words, public_history}
 use Rattle.rule_base.specs.BridgeLemmas.{item-some}
+use Rattle.rule_base.specs.History.{word_now, Below, Explains, Inside, Legal}
 use Rattle.rule_base.specs.HistoryLemmas.{inside-more}
 use Rattle.rule_base.specs.Own.{Own}
 use Rattle.rule_base.specs.StepKinds.{Tells, view_after}
@@ -26,7 +27,7 @@ use Rattle.rule_orec.specs.OrecReading.{no_check, no_sample}
 use Rattle.rule_orec.specs.OrecSteps.{is_eager, HasOpen, orec_begin, CanOrecBegin}
 use Rattle.rule_seq.specs.CglSteps as steps
 use Rattle.stm_rule.specs.declared.local.Local.{Local}
-use Rattle.stm_rule.specs.Attempts.{begun, own_of, IsInside, IsPromoted, SameLengths, ended}
+use Rattle.stm_rule.specs.Attempts.{own_of, IsInside}
 use Rattle.stm_rule.specs.Attempts as attempts
 use Rattle.stm_rule.specs.EagerKept.{IsEager}
 use Rattle.steps_orec.specs.RecordFindings.{FindsStart}
@@ -43,6 +44,7 @@ use Rattle.stm_gate.specs.LeavingLaws.{quits-left, trail-left}
 use Rattle.stm_gate.specs.Logging.{put-new}
 use Rattle.stm_gate.specs.Opacity.{opaque-at, opaque-inside, later-seen}
 use Rattle.stm_gate.specs.Starts.{CanBegin, StartsAt}
+use Rattle.alg_orec.proofs.EagerCalls.{RunsEager}
 use Rattle.alg_orec.proofs.EagerProving as proving
 use Rattle.alg_orec.proofs.EagerProving.{conflicts-later}
 use Rattle.alg_orec.proofs.LockingLaws.{unheld-of}
@@ -59,9 +61,21 @@ module _ (good : List ℕ → Type 0) (c : Config) (n : ℕ) (l : Local) (v : Vi
   abbrev pub rule : (ℕ → ℕ) → Type 0
   rule = of_words good c.words
 
-  module _ (i : IsInside good c n l v) (eager : v.gate.algorithm ≡ OrecEager) (plain : l.granted ≡ false) (quiet : l.committing ≡ false) (k : IsEager c l v) where
+  module _ (runs : RunsEager good c n l v) where
     abbrev o : Own
     o = own_of l
+
+    abbrev i : IsInside good c n l v
+    i = runs.inside
+
+    abbrev eager : v.gate.algorithm ≡ OrecEager
+    eager = runs.eager
+
+    abbrev quiet : l.committing ≡ false
+    quiet = runs.quiet
+
+    abbrev k : IsEager c l v
+    k = runs.kept
 
     ungranted : v.gate.granted ≡ false
     ungranted = k.optimistic.ungranted
@@ -91,7 +105,7 @@ module _ (good : List ℕ → Type 0) (c : Config) (n : ℕ) (l : Local) (v : Vi
         fulls = ap (λ (b : Bool). has_read_log v.gate.algorithm && b) (and-no (not (is_irrevocable (known_of v o)))) ∙ and-no (has_read_log v.gate.algorithm)
 
     -- by whether the read log has its length
-    full-by : (a : ℕ) (b : Bool) → item_at a l.writes.items ≡ None → item_at a l.reads.items ≡ None → (length l.reads.items == l.reads.len) ≡ b → reads_full a (known_of v o) ≡ b
+    pub full-by : (a : ℕ) (b : Bool) → item_at a l.writes.items ≡ None → item_at a l.reads.items ≡ None → (length l.reads.items == l.reads.len) ≡ b → reads_full a (known_of v o) ≡ b
     full-by a b unwritten unread count = (λ j. has_read_log (eager j) && (not (revocable j) && (not (is_some ((ap (item_at a) written-here ∙ unwritten) j)) && (not (is_some ((ap (item_at a) (sym k.reads) ∙ unread) j)) && (length (sym k.reads j) == l.reads.len))))) ∙ count
 
     -- READ, of what was written or read before
@@ -128,7 +142,7 @@ module _ (good : List ℕ → Type 0) (c : Config) (n : ℕ) (l : Local) (v : Vi
     versions r version e = let p = item-some v.owned.held r version (sym (ap (item_at r) k.locks) ∙ e) in let b = k.below r p.0 in let s = p.1 in omega arith
 
     -- THE REFUSALS
-    opens : HasOpen v
+    pub opens : HasOpen v
     opens = record { has = record { runs = record { phase = i.phase; algorithm = ap has_records eager; plain = ungranted }; inside = k.inside }; open_yet = k.open_yet }
 
     pub may-take : (m : Local) (start : ℕ) (seen : List Entry) (rs : List Cell) (sample : Sample) (check : Validation) (more : List TrailItem) → m.locks ≡ l.locks → m.undo ≡ l.undo → CanTakeBack c m (moved v start seen rs sample check more)
@@ -234,34 +248,52 @@ module _ (good : List ℕ → Type 0) (c : Config) (n : ℕ) (l : Local) (v : Vi
     begins start seen more (inl s) = let e = s.0 in omega arith
     begins start seen more (inr s) = let f = s.1.front in let e = i.front in let b = i.start in omega arith
 
+    -- the history up to where the start came to
+    module _ (start : ℕ) (seen : List Entry) (more : List TrailItem) where
+      pub legal-at : MayMove rule c n start seen more v → Legal rule c seen
+      legal-at (inl e) = subst (λ (h : List Entry). Legal rule c h) (sym e.1) i.legal
+      legal-at (inr e) = e.1.legal
+
+      pub below-at : MayMove rule c n start seen more v → Below seen (start + 1)
+      below-at (inl e) = subst (λ (h : List Entry). Below h (start + 1)) (sym e.1) (subst (λ (t : ℕ). Below v.history.seen (t + 1)) (sym (e.0 ∙ i.start)) i.below)
+      below-at (inr e) = e.1.below
+
+      pub sees-at : MayMove rule c n start seen more v → Explains (word_now seen) v.attempt.reads
+      sees-at (inl e) = subst (λ (h : List Entry). Explains (word_now h) v.attempt.reads) (sym e.1) i.sees
+      sees-at (inr e) = e.1.sees
+
+      pub sole-at : MayMove rule c n start seen more v → c.callers ≡ 1 → start ≡ c.clock + v.steps.rises_at_begin
+      sole-at (inl e) one = e.0 ∙ (i.start ∙ k.sole one)
+      sole-at (inr e) one = absurd (let f = e.2 in omega arith)
+
     -- READ, of a word that was loaded
-    goes-moved : (a : ℕ) (start : ℕ) (seen : List Entry) (rs : List Cell) (more : List TrailItem) → MayMove rule c n start seen more v → GoesOn (known_of v o) (known_of (moved v start seen rs no_sample no_check more) o)
-    goes-moved a start seen rs more moves = record {
+    pub goes-moved : (start : ℕ) (seen : List Entry) (rs : List Cell) (sample : Sample) (check : Validation) (more : List TrailItem) → MayMove rule c n start seen more v → GoesOn (known_of v o) (known_of (moved v start seen rs sample check more) o)
+    goes-moved start seen rs sample check more moves = record {
       continues = record {
         running = ap is_in i.phase;
         closing = ap is_closing i.phase;
         made = refl;
-        grows = grown start seen rs no_sample no_check more o refl refl moves;
+        grows = grown start seen rs sample check more o refl refl moves;
         alg = refl;
         base = refl;
         rises = (omega arith, omega arith);
         later = begins start seen more moves;
         installs = refl;
       };
-      start = subst (λ (b : Alg). StartMoves b (known_of v o) (known_of (moved v start seen rs no_sample no_check more) o)) (sym eager) (start-moves moves);
+      start = subst (λ (b : Alg). StartMoves b (known_of v o) (known_of (moved v start seen rs sample check more) o)) (sym eager) (start-moves moves);
       granted = refl;
       holds = refl;
       checked = refl;
     }
       where
-        start-moves : MayMove rule c n start seen more v → (start ≡ v.attempt.start) ⊎ Found Clock start (known_of v o) (known_of (moved v start seen rs no_sample no_check more) o)
+        start-moves : MayMove rule c n start seen more v → (start ≡ v.attempt.start) ⊎ Found Clock start (known_of v o) (known_of (moved v start seen rs sample check more) o)
         start-moves (inl s) = inl s.0
         start-moves (inr s) = inr (more, refl, Load, s.0)
 
     pub reads-new : (a x : ℕ) (m : Local) (w : View) → x < 2 ^ 64 → a < c.words → item_at a l.writes.items ≡ None → item_at a l.reads.items ≡ None → length l.reads.items ≢ l.reads.len → HasLoaded rule c n a x l v m w
         → HasRead good c n a (reads.Value x) (known_of v o) (known_of w o)
     reads-new a x m w small low unwritten unread room h = subst (λ (y : View). HasRead good c n a (reads.Value x) (known_of v o) (known_of y o)) (sym h.is) (
-      goes-moved a m.start h.seen (record { at = a; value = x } ∷ v.attempt.reads) h.more h.moves,
+      goes-moved m.start h.seen (record { at = a; value = x } ∷ v.attempt.reads) no_sample no_check h.more h.moves,
       quiet,
       (
         same,
@@ -283,9 +315,10 @@ module _ (good : List ℕ → Type 0) (c : Config) (n : ℕ) (l : Local) (v : Vi
         same : written_under v.gate.algorithm v.gate.granted u o ≡ (known_of v o).log.writes
         same = proving.written c l v k eager u o refl refl ∙ sym written-here
 
-    -- the attempt goes on with the read in its log
-    pub stays-read : (a x : ℕ) (m : Local) (w : View) (log : LogState) → a < c.words → item_at a l.reads.items ≡ None → log ≡ record l.reads { items = l.reads.items ++ (a, x) ∷ [] } → HasLoaded rule c n a x l v m w → IsInside good c n (record m { reads = log }) w
-    stays-read a x m w log low unread is h = subst (λ (y : View). IsInside good c n (record m { reads = log }) y) (sym h.is) (subst (λ (q : Local). IsInside good c n (record q { reads = log }) u) (sym h.local) (record {
+    -- the attempt stands where the load came to, and its descriptor has what was read
+    pub stays-moved : (start : ℕ) (seen : List Entry) (rs : List Cell) (sample : Sample) (check : Validation) (more : List TrailItem) (log : LogState) → MayMove rule c n start seen more v → Legal rule c seen → Below seen (start + 1) → Explains (word_now seen) rs
+        → Inside c.words rs → log.items ≡ items rs → IsInside good c n (record l { start = start; reads = log }) (moved v start seen rs sample check more)
+    stays-moved start seen rs sample check more log moves legal below sees inside is = record {
       phase = i.phase;
       named = i.named;
       built = i.built;
@@ -293,10 +326,10 @@ module _ (good : List ℕ → Type 0) (c : Config) (n : ℕ) (l : Local) (v : Vi
       unentered = i.unentered;
       start = refl;
       front = refl;
-      legal = h.legal;
-      below = h.below;
-      sees = h.sees;
-      reads_inside = inside-more c.words (record { at = a; value = x }) v.attempt.reads low i.reads_inside;
+      legal = legal;
+      below = below;
+      sees = sees;
+      reads_inside = inside;
       looked = λ e. let q = i.looked e in record { low = q.low; seen = q.seen; unseen = q.unseen };
       granted = i.granted;
       steady = i.steady;
@@ -307,7 +340,7 @@ module _ (good : List ℕ → Type 0) (c : Config) (n : ℕ) (l : Local) (v : Vi
         open_yet = k.open_yet;
         unraised = k.unraised;
         repaid = k.repaid;
-        reads = ap (λ (q : LogState). q.items) is ∙ (sym (put-new a x l.reads.items unread) ∙ ap (put a x) k.reads);
+        reads = is;
         locks = k.locks;
         writes = k.writes;
         undo = k.undo;
@@ -319,25 +352,32 @@ module _ (good : List ℕ → Type 0) (c : Config) (n : ℕ) (l : Local) (v : Vi
         covered = k.covered;
         few = k.few;
         places = k.places;
-        olds = λ r t. (let o = k.olds r t in let s = i.start in let b = begins m.start h.seen h.more h.moves in omega arith);
+        olds = λ r t. (let o = k.olds r t in let s = i.start in let b = begins start seen more moves in omega arith);
         below = k.below;
         committing = k.committing;
-        sole = sole h.moves;
+        sole = sole-at start seen more moves;
       });
-    }))
+    }
       where
         u : View
-        u = moved v m.start h.seen (record { at = a; value = x } ∷ v.attempt.reads) no_sample no_check h.more
+        u = moved v start seen rs sample check more
 
         q : Local
-        q = record l { start = m.start; reads = log }
+        q = record l { start = start; reads = log }
 
         keeps-eager : IsEager c q u → attempts.Keeps c q.algorithm q.granted q u
-        keeps-eager p = subst (λ (b : Alg). attempts.Keeps c b l.granted q u) (sym (sym i.named ∙ eager)) (subst (λ (b : Bool). attempts.Keeps c OrecEager b q u) (sym plain) p)
+        keeps-eager p = subst (λ (b : Alg). attempts.Keeps c b l.granted q u) (sym (sym i.named ∙ eager)) (subst (λ (b : Bool). attempts.Keeps c OrecEager b q u) (sym runs.plain) p)
 
-        sole : MayMove rule c n m.start h.seen h.more v → c.callers ≡ 1 → m.start ≡ c.clock + v.steps.rises_at_begin
-        sole (inl s) one = s.0 ∙ (i.start ∙ k.sole one)
-        sole (inr s) one = absurd (let e = s.2 in omega arith)
+    -- with the read in its log
+    pub stays-read : (a x : ℕ) (m : Local) (w : View) (log : LogState) → a < c.words → item_at a l.reads.items ≡ None → log ≡ record l.reads { items = l.reads.items ++ (a, x) ∷ [] } → HasLoaded rule c n a x l v m w → IsInside good c n (record m { reads = log }) w
+    stays-read a x m w log low unread is h = subst (λ (y : View). IsInside good c n (record m { reads = log }) y) (sym h.is) (subst (λ (q : Local). IsInside good c n (record q { reads = log }) u) (sym h.local)
+        (stays-moved m.start h.seen reads no_sample no_check h.more log h.moves h.legal h.below h.sees (inside-more c.words (record { at = a; value = x }) v.attempt.reads low i.reads_inside) (ap (λ (q : LogState). q.items) is ∙ (sym (put-new a x l.reads.items unread) ∙ ap (put a x) k.reads))))
+      where
+        reads : List Cell
+        reads = record { at = a; value = x } ∷ v.attempt.reads
+
+        u : View
+        u = moved v m.start h.seen reads no_sample no_check h.more
 
 -- BEGIN
 module _ (good : List ℕ → Type 0) (c : Config) (n : ℕ) (v : View) (can : CanBegin OrecEager v) where

@@ -24,7 +24,7 @@ use Rattle.rule_base.specs.declared.views.Validation.{Validation}
 use Rattle.rule_base.specs.declared.views.View.{View}
 use Rattle.rule_base.specs.Bridge.{items}
 use Rattle.rule_base.specs.BridgeLemmas.{item-none}
-use Rattle.rule_base.specs.Encodings.{free_record, owned_record, is_owned, version_of}
+use Rattle.rule_base.specs.Encodings.{free_record, owned_record, version_of}
 use Rattle.rule_base.specs.History.{over, touches, Below}
 use Rattle.rule_base.specs.HistoryLemmas.{inside-more}
 use Rattle.rule_base.specs.Own.{Own}
@@ -44,7 +44,7 @@ use Rattle.tx_answers.specs.Known.{known_of, written_under}
 use Rattle.tx_logs.specs.declared.push.Push.{Push}
 use Rattle.tx_logs.specs.declared.push.Push.TheVariants as pushes
 use Rattle.tx_logs.specs.LogStates.{LogState, Pushes, keep}
-use Rattle.alg_orec.proofs.LoadLaws.{untouched-loads}
+use Rattle.alg_orec.proofs.LoadLaws.{free-word, untouched-loads}
 use Rattle.alg_orec.proofs.LockingLaws.{pushes-new, held-of}
 use Rattle.alg_orec.specs.EagerTaking.{CanLoadWord, CanTake, HasTaken, FindsLimit, CanStoreFirst, StoresFirst}
 use Rattle.alg_orec.specs.Loading.{CanLoadValid, moved, sampled_at, MayMove, HasSampled, RefusesRead, HasLoaded}
@@ -54,10 +54,6 @@ use Rattle.alg_orec.specs.Validating.{load_of}
 untouched-append : (p : At) (is js : List TrailItem) → Untouched p is → Untouched p js → Untouched p (is ++ js)
 untouched-append p [] js a b = b
 untouched-append p (i ∷ is) js a b = (a.0, untouched-append p is js a.1 b)
-
--- the word of a free record
-free-word : (x : ℕ) → is_owned x ≡ false → free_record (version_of x) ≡ x
-free-word x free = let e : x % 2 ≢ 1 = grind (arith, nat_tests, free) in omega arith
 
 -- a record with an item is held
 pub held-where : (cs : List Cell) (ws : List (ℕ × ℕ)) (q : ℕ) → ws ≡ items cs → is_some (item_at q ws) ≡ true → touches cs q ≡ true
@@ -391,9 +387,6 @@ module _ (c : Config) (a x : ℕ) (l : Local) (v : View) (can : CanStoreFirst c 
   may-save = record { opens = can.opens; held = can.held; unwritten = can.unwritten }
 
   module _ (old : ℕ) (s : View) (t : Tells (orec_save a) Nothing v old s) where
-    abbrev saved_here : View
-    saved_here = record v { owned = record v.owned { undo = record { at = a; value = old } ∷ v.owned.undo }; steps = record v.steps { trail = load_of (Heap a) old ∷ v.steps.trail } }
-
     pub may-place : CanOrecPlace a s
     may-place = subst (CanOrecPlace a) (sym t.2) (record {
       opens = record { has = record { runs = record { phase = can.opens.has.runs.phase; algorithm = can.opens.has.runs.algorithm; plain = can.opens.has.runs.plain }; inside = can.opens.has.inside }; open_yet = can.opens.open_yet };

@@ -20,7 +20,7 @@ use Rattle.rule_base.specs.declared.views.TrailItem.{TrailItem}
 use Rattle.rule_base.specs.declared.views.Validation.{Validation}
 use Rattle.rule_base.specs.declared.views.View.{View}
 use Rattle.rule_base.specs.Bridge.{items, of_words}
-use Rattle.rule_base.specs.History.{touches, word_now, Inside, Below, Explains, Legal}
+use Rattle.rule_base.specs.History.{touches, Inside}
 use Rattle.rule_base.specs.HistoryLemmas.{inside-more, small-more}
 use Rattle.rule_base.specs.Own.{Own}
 use Rattle.rule_base.specs.Ranks.{home_of}
@@ -43,6 +43,7 @@ use Rattle.tx_answers.specs.Known.{Grows, known_of, written_under, is_in, is_clo
 use Rattle.tx_logs.specs.declared.push.Push.{Push}
 use Rattle.tx_logs.specs.declared.push.Push.TheVariants as pushes
 use Rattle.tx_logs.specs.LogStates.{LogState, Pushes}
+use Rattle.alg_orec.proofs.EagerCalls.{RunsEager}
 use Rattle.alg_orec.proofs.EagerLaws as laws
 use Rattle.alg_orec.proofs.EagerProving as proving
 use Rattle.alg_orec.proofs.LockingLaws.{held-of, unheld-of}
@@ -157,7 +158,19 @@ module _ (good : List ℕ → Type 0) (c : Config) (n : ℕ) (l : Local) (v : Vi
     pub writes_len : q.writes.len ≡ l.writes.len
     pub locks_len : q.locks.len ≡ l.locks.len
 
-  module _ (i : IsInside good c n l v) (eager : v.gate.algorithm ≡ OrecEager) (plain : l.granted ≡ false) (quiet : l.committing ≡ false) (k : IsEager c l v) where
+  module _ (runs : RunsEager good c n l v) where
+    abbrev i : IsInside good c n l v
+    i = runs.inside
+
+    abbrev eager : v.gate.algorithm ≡ OrecEager
+    eager = runs.eager
+
+    abbrev quiet : l.committing ≡ false
+    quiet = runs.quiet
+
+    abbrev k : IsEager c l v
+    k = runs.kept
+
     abbrev o : Own
     o = own_of l
 
@@ -165,11 +178,11 @@ module _ (good : List ℕ → Type 0) (c : Config) (n : ℕ) (l : Local) (v : Vi
     ungranted = k.optimistic.ungranted
 
     here-written : (known_of v o).log.writes ≡ l.writes.items
-    here-written = laws.written-here good c n l v i eager plain quiet k
+    here-written = laws.written-here good c n l v runs
 
     -- by whether the undo log has its length
     filled : (a : ℕ) (m : Option ℕ) (b : Bool) → item_at a l.writes.items ≡ m → (length l.writes.items == l.undo.len) ≡ b → writes_full a (known_of v o) ≡ (not (is_some m) && b)
-    filled a m b at count = (λ j. logs_writes (eager j) && (not (laws.revocable good c n l v i eager plain quiet k j) && (not (has_item a (here-written j)) && (length (here-written j) == l.undo.len))))
+    filled a m b at count = (λ j. logs_writes (eager j) && (not (laws.revocable good c n l v runs j) && (not (has_item a (here-written j)) && (length (here-written j) == l.undo.len))))
         ∙ ap (λ (q : Option ℕ). not (is_some q) && (length l.writes.items == l.undo.len)) at ∙ ap (λ (q : Bool). not (is_some m) && q) count
 
     level : length l.undo.items ≡ length l.writes.items
@@ -183,10 +196,10 @@ module _ (good : List ℕ → Type 0) (c : Config) (n : ℕ) (l : Local) (v : Vi
 
     -- THE REFUSALS
     pub writes-full : (a x : ℕ) (w : View) → item_at a l.writes.items ≡ None → length l.undo.items ≡ l.undo.len → TakesBack n v w → HasWritten good c n a x (writes.Full l.undo.len) (known_of v o) (known_of w o)
-    writes-full a x w none full g = (laws.quits-here good c n l v i eager plain quiet k w g, filled a None true none (let e = level in let f : length l.writes.items ≡ l.undo.len = sym e ∙ full in grind (arith, nat_tests)), refl)
+    writes-full a x w none full g = (laws.quits-here good c n l v runs w g, filled a None true none (let e = level in let f : length l.writes.items ≡ l.undo.len = sym e ∙ full in grind (arith, nat_tests)), refl)
 
     pub may-take : (a : ℕ) → a < c.words → 0 < c.records → SameLengths l → item_at a l.writes.items ≡ None → length l.undo.items ≢ l.undo.len → length l.undo.items ≤ l.undo.len → CanTake c a l v
-    may-take a low records lengths none room most = let can = laws.may-load good c n l v i eager plain quiet k a low none in record {
+    may-take a low records lengths none room most = let can = laws.may-load good c n l v runs a low none in record {
       can = can.can;
       unraised = k.unraised;
       olds = can.olds;
@@ -200,7 +213,7 @@ module _ (good : List ℕ → Type 0) (c : Config) (n : ℕ) (l : Local) (v : Vi
 
     pub writes-refused : (a x : ℕ) (cause : Cause) (m : Local) (u w : View) → item_at a l.writes.items ≡ None → length l.undo.items ≢ l.undo.len → RefusesRead rule c n a cause l v m u → TakesBack n u w → HasWritten good c n a x (writes.Conflict cause) (known_of v o) (known_of w o)
     writes-refused a x cause m u w none room h g = (
-      laws.quits-moved good c n l v i eager plain quiet k m.start h.seen v.attempt.reads u.sample u.check h.more w h.moves (subst (λ (y : View). TakesBack n y w) h.is g),
+      laws.quits-moved good c n l v runs m.start h.seen v.attempt.reads u.sample u.check h.more w h.moves (subst (λ (y : View). TakesBack n y w) h.is g),
       subst (λ (y : View). Conflicts c n (Some a) cause (known_of v o) (known_of y o)) (sym g.is)
           (proving.conflicts-later c n (Some a) cause (known_of v o) (known_of u o) (known_of (left n g.before) o) (ap has_records eager) more.0 more.1 (h.why o o)),
       h.others,
@@ -211,11 +224,11 @@ module _ (good : List ℕ → Type 0) (c : Config) (n : ℕ) (l : Local) (v : Vi
         more = trail-left n u g.before g.unmade.carried
 
     pub may-take-full : (clock : ℕ) (m : Local) (u : View) → FindsLimit rule c n clock l v m u → CanTakeBack c m u
-    may-take-full clock m u h = subst (CanTakeBack c m) (sym h.is) (laws.may-take good c n l v i eager plain quiet k m m.start h.seen v.attempt.reads u.sample u.check h.more (ap (λ (q : Local). q.locks) h.local) (ap (λ (q : Local). q.undo) h.local))
+    may-take-full clock m u h = subst (CanTakeBack c m) (sym h.is) (laws.may-take good c n l v runs m m.start h.seen v.attempt.reads u.sample u.check h.more (ap (λ (q : Local). q.locks) h.local) (ap (λ (q : Local). q.undo) h.local))
 
     pub writes-limit : (a x clock : ℕ) (m : Local) (u w : View) → item_at a l.writes.items ≡ None → length l.undo.items ≢ l.undo.len → FindsLimit rule c n clock l v m u → TakesBack n u w → HasWritten good c n a x (writes.ClockFull clock) (known_of v o) (known_of w o)
     writes-limit a x clock m u w none room h g = let more = proving.ended-by n u w g in (
-      laws.quits-moved good c n l v i eager plain quiet k m.start h.seen v.attempt.reads u.sample u.check h.more w h.moves (subst (λ (y : View). TakesBack n y w) h.is g),
+      laws.quits-moved good c n l v runs m.start h.seen v.attempt.reads u.sample u.check h.more w h.moves (subst (λ (y : View). TakesBack n y w) h.is g),
       ap asks_at_write eager,
       finds-full clock v w o o h.limit (found-later Clock clock (known_of v o) (known_of u o) (known_of w o) (h.more, ap (λ (y : View). y.steps.trail) h.is, Load, h.found) more.0 more.1),
       room-free a none room,
@@ -230,7 +243,7 @@ module _ (good : List ℕ → Type 0) (c : Config) (n : ℕ) (l : Local) (v : Vi
 
     pub may-take-refusal : (a : ℕ) (refusal : Write) (m : Local) (u : View) → RefusesTake rule c n a refusal l v m u → CanTakeBack c m u
     may-take-refusal a writes.Done m u h = absurd h
-    may-take-refusal a (writes.Conflict cause) m u h = laws.may-take-refused good c n l v i eager plain quiet k a cause m u h
+    may-take-refusal a (writes.Conflict cause) m u h = laws.may-take-refused good c n l v runs a cause m u h
     may-take-refusal a (writes.Full limit) m u h = absurd h
     may-take-refusal a (writes.ClockFull clock) m u h = may-take-full clock m u h
 
@@ -366,20 +379,8 @@ module _ (good : List ℕ → Type 0) (c : Config) (n : ℕ) (l : Local) (v : Vi
       y = stored v q.start s.seen s.held s.sample s.check a x s.undo s.more
 
       grown : Grows (known_of v o) (known_of y p)
-      grown = let g = laws.grown good c n l v i eager plain quiet k q.start s.seen v.attempt.reads s.sample s.check s.more p (ap (λ (d : Local). d.reads.len) s.local) s.undo_len s.moves in
+      grown = let g = laws.grown good c n l v runs q.start s.seen v.attempt.reads s.sample s.check s.more p (ap (λ (d : Local). d.reads.len) s.local) s.undo_len s.moves in
           record { later = g.later; is = g.is; ascending = g.ascending; up_to = g.up_to; front_rose = g.front_rose; more = g.more; trail = g.trail; reads_limit = g.reads_limit; writes_limit = g.writes_limit }
-
-      legal : MayMove rule c n q.start s.seen s.more v → Legal rule c s.seen
-      legal (inl e) = subst (λ (h : List Entry). Legal rule c h) (sym e.1) i.legal
-      legal (inr e) = e.1.legal
-
-      starts : MayMove rule c n q.start s.seen s.more v → Below s.seen (q.start + 1)
-      starts (inl e) = subst (λ (h : List Entry). Below h (q.start + 1)) (sym e.1) (subst (λ (t : ℕ). Below v.history.seen (t + 1)) (sym (e.0 ∙ i.start)) i.below)
-      starts (inr e) = e.1.below
-
-      sees : MayMove rule c n q.start s.seen s.more v → Explains (word_now s.seen) v.attempt.reads
-      sees (inl e) = subst (λ (h : List Entry). Explains (word_now h) v.attempt.reads) (sym e.1) i.sees
-      sees (inr e) = e.1.sees
 
       start-moves : MayMove rule c n q.start s.seen s.more v → (q.start ≡ v.attempt.start) ⊎ Found Clock q.start (known_of v o) (known_of y p)
       start-moves (inl e) = inl e.0
@@ -391,7 +392,7 @@ module _ (good : List ℕ → Type 0) (c : Config) (n : ℕ) (l : Local) (v : Vi
       pub writes-done : writes_full a (known_of v o) ≡ false → HasWritten good c n a x writes.Done (known_of v o) (known_of w p)
       writes-done room = subst (λ (z : View). HasWritten good c n a x writes.Done (known_of v o) (known_of z p)) (sym s.is) (
         record {
-          continues = record { running = ap is_in i.phase; closing = ap is_closing i.phase; made = refl; grows = grown; alg = refl; base = refl; rises = (omega arith, omega arith); later = laws.begins good c n l v i eager plain quiet k q.start s.seen s.more s.moves; installs = refl };
+          continues = record { running = ap is_in i.phase; closing = ap is_closing i.phase; made = refl; grows = grown; alg = refl; base = refl; rises = (omega arith, omega arith); later = laws.begins good c n l v runs q.start s.seen s.more s.moves; installs = refl };
           start = subst (λ (b : Alg). StartMoves b (known_of v o) (known_of y p)) (sym eager) (start-moves s.moves);
           granted = refl;
           holds = refl;
@@ -399,13 +400,9 @@ module _ (good : List ℕ → Type 0) (c : Config) (n : ℕ) (l : Local) (v : Vi
         },
         ap (λ (d : Local). d.committing) s.local ∙ quiet,
         (refl, λ b. ap (item_at b) wrote-put),
-        opaque-at good c n y p q.start refl refl (legal s.moves) (starts s.moves) (sees s.moves) i.reads_inside,
+        opaque-at good c n y p q.start refl refl (laws.legal-at good c n l v runs q.start s.seen s.more s.moves) (laws.below-at good c n l v runs q.start s.seen s.more s.moves) (laws.sees-at good c n l v runs q.start s.seen s.more s.moves) i.reads_inside,
         room,
       )
-
-      sole : MayMove rule c n q.start s.seen s.more v → c.callers ≡ 1 → q.start ≡ c.clock + v.steps.rises_at_begin
-      sole (inl e) one = e.0 ∙ (i.start ∙ k.sole one)
-      sole (inr e) one = absurd (let f = e.2 in omega arith)
 
       covered : (b : ℕ) → touches (record { at = a; value = x } ∷ v.owned.in_place) b ≡ true → touches s.held (home_of c b) ≡ true
       covered b t = by (a == b) refl t
@@ -426,9 +423,9 @@ module _ (good : List ℕ → Type 0) (c : Config) (n : ℕ) (l : Local) (v : Vi
         unentered = i.unentered;
         start = refl;
         front = refl;
-        legal = legal s.moves;
-        below = starts s.moves;
-        sees = sees s.moves;
+        legal = laws.legal-at good c n l v runs q.start s.seen s.more s.moves;
+        below = laws.below-at good c n l v runs q.start s.seen s.more s.moves;
+        sees = laws.sees-at good c n l v runs q.start s.seen s.more s.moves;
         reads_inside = i.reads_inside;
         looked = λ e. let h = i.looked e in record { low = h.low; seen = h.seen; unseen = h.unseen };
         granted = i.granted;
@@ -455,12 +452,12 @@ module _ (good : List ℕ → Type 0) (c : Config) (n : ℕ) (l : Local) (v : Vi
           olds = s.olds;
           below = s.below;
           committing = λ e. refl;
-          sole = sole s.moves;
+          sole = laws.sole-at good c n l v runs q.start s.seen s.more s.moves;
         });
       }))
         where
           keeps-eager : IsEager c kept y → attempts.Keeps c kept.algorithm kept.granted kept y
-          keeps-eager d = subst (λ (b : Alg). attempts.Keeps c b l.granted kept y) (sym (sym i.named ∙ eager)) (subst (λ (b : Bool). attempts.Keeps c OrecEager b kept y) (sym plain) d)
+          keeps-eager d = subst (λ (b : Alg). attempts.Keeps c b l.granted kept y) (sym (sym i.named ∙ eager)) (subst (λ (b : Bool). attempts.Keeps c OrecEager b kept y) (sym runs.plain) d)
 
       pub lengths-stored : SameLengths l → SameLengths q
       lengths-stored same = (s.writes_len ∙ (same.0 ∙ sym s.undo_len), s.locks_len ∙ (same.1 ∙ sym s.undo_len))

@@ -17,16 +17,15 @@ use Rattle.rule_base.specs.declared.views.TrailItem.{TrailItem}
 use Rattle.rule_base.specs.declared.views.Validation.{Validation}
 use Rattle.rule_base.specs.declared.views.View.{View}
 use Rattle.rule_base.specs.Bridge.{items, of_words, public_history}
-use Rattle.rule_base.specs.History.{touches, Inside, Small}
+use Rattle.rule_base.specs.History.{Inside, Small}
 use Rattle.rule_base.specs.HistoryLemmas.{inside-more}
 use Rattle.rule_base.specs.Own.{Own}
-use Rattle.rule_base.specs.Ranks.{home_of}
 use Rattle.rule_base.specs.StepKinds.{Tells, view_after}
 use Rattle.rule_orec.specs.OrecReading.{no_check, no_sample}
 use Rattle.rule_orec.specs.OrecSteps.{is_eager, HasOpen, orec_begin, CanOrecBegin}
 use Rattle.rule_seq.specs.CglSteps as steps
 use Rattle.stm_rule.specs.declared.local.Local.{Local}
-use Rattle.stm_rule.specs.Attempts.{begun, own_of, IsInside, IsPromoted, SameLengths, ended}
+use Rattle.stm_rule.specs.Attempts.{own_of, IsInside}
 use Rattle.stm_rule.specs.Attempts as attempts
 use Rattle.stm_rule.specs.RecordsKept.{cells_of, IsLazy}
 use Rattle.steps_orec.specs.RecordFindings.{FindsStart}
@@ -49,7 +48,7 @@ use Rattle.alg_orec.proofs.Cells.{items-cells}
 use Rattle.alg_orec.proofs.CellLogs.{once-put, inside-put, small-put, some-put}
 use Rattle.alg_orec.proofs.Proving.{conflicts-later}
 use Rattle.alg_orec.specs.Ending.{CanRollBack, GivesUp}
-use Rattle.alg_orec.specs.Loading.{CanLoadValid, moved, MayMove, RefusesRead, HasLoaded}
+use Rattle.alg_orec.specs.Loading.{moved, MayMove, RefusesRead, HasLoaded}
 use Rattle.alg_orec.specs.Validating.{load_of}
 
 and-no : (b : Bool) → (b && false) ≡ false
@@ -174,9 +173,6 @@ module _ (good : List ℕ → Type 0) (c : Config) (n : ℕ) (l : Local) (v : Vi
     here : v ≡ moved v v.attempt.start v.history.seen v.attempt.reads v.sample v.check []
     here = let e : v.history.front ≡ v.attempt.start = i.front ∙ sym i.start in λ j. record v { history = record v.history { front = e j } }
 
-    pub may-roll-here : CanRollBack c l v
-    may-roll-here = subst (CanRollBack c l) (sym here) (may-roll l v.attempt.start v.history.seen v.attempt.reads v.sample v.check [] refl)
-
     grown : (start : ℕ) (seen : List Entry) (rs : List Cell) (sample : Sample) (check : Validation) (more : List TrailItem) (p : Own) → p.reads_limit ≡ l.reads.len → p.writes_limit ≡ l.undo.len → MayMove rule c n start seen more v → Grows (known_of v o) (known_of (moved v start seen rs sample check more) p)
     grown start seen rs sample check more p r w (inl s) = grows-same (known_of v o) (known_of (moved v start seen rs sample check more) p) (ap public_history s.1) (s.0 ∙ (i.start ∙ sym i.front)) more refl r w
     grown start seen rs sample check more p r w (inr s) = let m = s.1 in let q = later-seen seen v.history.front start m.below m.front in record {
@@ -212,25 +208,6 @@ module _ (good : List ℕ → Type 0) (c : Config) (n : ℕ) (l : Local) (v : Vi
 
     pub reads-full : (a : ℕ) (w : View) → item_at a l.writes.items ≡ None → item_at a l.reads.items ≡ None → length l.reads.items ≡ l.reads.len → GivesUp n v w → HasRead good c n a (reads.Full l.reads.len) (known_of v o) (known_of w o)
     reads-full a w unwritten unread count g = (quits-here w g, full-by a true unwritten unread (grind (arith, nat_tests)), refl)
-
-    pub may-read : (a : ℕ) → a < c.words → CanLoadValid c a l v
-    may-read a low = record {
-      can = record {
-        opens = opens;
-        start = i.start;
-        reads = k.reads;
-        locks = k.locks;
-        versions = λ r version e. absurd (let f : None ≡ Some version = sym (ap (item_at r) no-locks) ∙ e in cc);
-        level = λ one. i.start ∙ (k.sole one ∙ ap (λ (q : ℕ). c.clock + q) (sym k.optimistic.rises));
-      };
-      unheld = ap (λ (cs : List Cell). touches cs (home_of c a)) empty;
-      olds = λ r t. absurd (let f : true ≡ false = sym t ∙ ap (λ (cs : List Cell). touches cs r) empty in cc);
-      front = i.front;
-      inside = low;
-    }
-
-    pub may-roll-refused : (a : ℕ) (cause : Cause) (m : Local) (u : View) → RefusesRead rule c n a cause l v m u → CanRollBack c m u
-    may-roll-refused a cause m u h = subst (CanRollBack c m) (sym h.is) (may-roll m m.start h.seen v.attempt.reads u.sample u.check h.more (ap (λ (q : Local). q.locks) h.local))
 
     pub reads-refused : (a : ℕ) (cause : Cause) (m : Local) (u w : View) → item_at a l.writes.items ≡ None → item_at a l.reads.items ≡ None → length l.reads.items ≢ l.reads.len → RefusesRead rule c n a cause l v m u → GivesUp n u w
         → HasRead good c n a (reads.Conflict cause) (known_of v o) (known_of w o)

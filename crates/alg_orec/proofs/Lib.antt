@@ -12,6 +12,7 @@ pub mod LockingLaws
 pub mod Proving
 pub mod CommittingLaws
 pub mod EntryLaws
+pub mod PromotingLaws
 pub mod GrantingLaws
 pub mod EndingLaws
 pub mod Writing
@@ -19,7 +20,9 @@ pub mod EagerReleasing
 pub mod EagerBackLaws
 pub mod EagerTakingLaws
 pub mod EagerProving
+pub mod EagerCalls
 pub mod EagerLaws
+pub mod EagerReadLaws
 pub mod EagerWriteLaws
 pub mod EagerCommitLaws
 pub mod EagerDirectLaws

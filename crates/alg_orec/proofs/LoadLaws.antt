@@ -45,7 +45,7 @@ has-read : (reads : List Cell) (a : ℕ) → touches reads a ≡ true → has_it
 has-read reads a t = ap is_some (item-touched reads a t)
 
 -- the word of a free record
-free-word : (x : ℕ) → is_owned x ≡ false → free_record (version_of x) ≡ x
+pub free-word : (x : ℕ) → is_owned x ≡ false → free_record (version_of x) ≡ x
 free-word x free = let e : x % 2 ≢ 1 = grind (arith, nat_tests, free) in omega arith
 
 module _ (good : (ℕ → ℕ) → Type 0) (c : Config) (n : ℕ) (low : n < c.callers) (a : ℕ) (l : Local) (v : View) (can : CanLoadValid c a l v) where

@@ -20,7 +20,7 @@ use Rattle.rule_base.specs.Ranks.{home_of}
 use Rattle.rule_base.specs.StepKinds.{Tells}
 use Rattle.rule_base.specs.World.{World}
 use Rattle.rule_orec.specs.OrecReading.{no_check, passed}
-use Rattle.rule_orec.specs.OrecSteps.{HasOpen, passes, orec_pass, CanOrecPass}
+use Rattle.rule_orec.specs.OrecSteps.{HasOpen, passes, orec_pass}
 use Rattle.stm_gate.specs.Logging.{item-touched}
 use Rattle.stm_rule.specs.declared.local.Local.{Local}
 use Rattle.stm_rule.specs.Findings.{OrecFails}
@@ -133,16 +133,10 @@ module _ (c : Config) (n : ℕ) (low : n < c.callers) (l : Local) (v : View) (ca
   refused-earlier check early (causes.Filter time bits) w loads q = absurd q
   refused-earlier check early (causes.Overrun start clock) w loads q = absurd q
 
-  -- THE READS BEFORE THE LAST: none so far
-  pub none-passed : HasPassed c 0 0 l v v
-  none-passed = record { more = []; is = refl; loads = tt; fewer = λ a t. t; done = λ j e f. absurd (omega arith) }
-
+  -- THE READS BEFORE THE LAST
   module _ (i : ℕ) (u : View) (h : HasPassed c 0 i l v u) where
     abbrev so_far : Validation
     so_far = record v.check { todo = u.check.todo }
-
-    pub may-go : CanValidate c l u
-    may-go = subst (CanValidate c l) (sym h.is) (can-under so_far h.more)
 
     pub refused-next : (cause : Cause) (w : View) → Refuses c n cause u w → Refuses c n cause v w
     refused-next cause w q = refused-earlier so_far h.more cause w h.loads (subst (λ (y : View). Refuses c n cause y w) h.is q)
@@ -171,15 +165,8 @@ module _ (c : Config) (n : ℕ) (low : n < c.callers) (l : Local) (v : View) (ca
 
   -- ONE READ
   module _ (i : ℕ) (lt : i < length l.reads.items) where
-    pub may-pass : (b : ℕ) → CanOrecPass (home_of c) (b % c.records) b v
-    may-pass b = record { has = can.opens.has; its = refl }
-
     one : (todo : List Cell) → (vouches l (read_at l i % c.records) ≡ false → touches todo (read_at l i) ≡ false) → (j : ℕ) → i ≤ j → j < i + 1 → vouches l (read_at l j % c.records) ≡ false → touches todo (read_at l j) ≡ false
     one todo this j from to e = let same : j ≡ i = omega arith in subst (λ (q : ℕ). vouches l (read_at l q % c.records) ≡ false → touches todo (read_at l q) ≡ false) (sym same) this e
-
-    -- its record vouches for it
-    pub passed-over : vouches l (read_at l i % c.records) ≡ true → HasPassed c i (i + 1) l v v
-    passed-over vouched = record { more = []; is = refl; loads = tt; fewer = λ a t. t; done = one v.check.todo (λ e. absurd (let f : true ≡ false = sym vouched ∙ e in cc)) }
 
     module _ (b : ℕ) (at : b ≡ read_at l i) where
       read-at : touches v.attempt.reads b ≡ true

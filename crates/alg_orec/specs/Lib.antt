@@ -8,3 +8,4 @@ pub mod EagerEnding
 pub mod EagerTaking
 pub mod EagerCommitting
 pub mod EagerGranting
+pub mod EagerReading

@@ -5,26 +5,23 @@ ghost use Rattle.std.specs.Prelude.{◌≡◌, ℕ, ◌<◌, None, Some, IsSome,
 ghost use Rattle.stm_model.specs.Memories.{item_at};
 ghost use Rattle.stm_model.specs.declared.alg.Alg.TheVariants.{OrecEager};
 ghost use Rattle.stm_rule.specs.Callers.{IsOf, IsSameCaller, IsSeatOf};
-ghost use Rattle.stm_rule.specs.Kept.{IsSameSeat, good_of, view_of};
+ghost use Rattle.stm_rule.specs.Kept.{IsSameSeat, view_of};
 ghost use Rattle.tx_answers.specs.Answers.{HasRead, HasWritten};
 ghost use Rattle.tx_answers.specs.Known.{IsRunning};
 ghost use Rattle.stm_gate.specs.Knowing.{known, number};
 ghost use Rattle.stm_gate.specs.Starts.{CanBegin, Starts};
-ghost use Rattle.alg_orec.specs.Loading.{LoadsValid};
-ghost use Rattle.alg_orec.specs.EagerTaking.{CanLoadWord};
+ghost use Rattle.alg_orec.specs.EagerReading.{IsNew, HoldsRecord};
 
 pub use crate::eager_committing::{cancel, commit};
 use crate::eager_ending::take_back;
 pub use crate::eager_granting::become_irrevocable;
+use crate::eager_reading::{confirm, load, sample};
 use crate::eager_taking::{store_first, take_record};
-use crate::orec_lazy::load_valid;
 use steps_orec::eager::{own_load, place};
 use steps_orec::reading;
 use stm_gate::direct::{direct_load, direct_store};
 use stm_model::rule::MemRule;
-use stm_model::stop::Cause;
 use stm_rule::desc::Desc;
-use stm_rule::local::Local;
 use stm_rule::stm::{Stm, Token};
 use tx_answers::answers::{Begin, Read, Write};
 
@@ -74,43 +71,31 @@ fn first_read<K: MemRule>(desc: &mut Desc<K>, stm: &Stm<K>, a: usize) -> Read
     ensures same { IsSameCaller desc.old desc.new }
     ensures read { HasRead (K.good stm.now.rule) stm.now.config (number desc.old) a result (known desc.old) (known desc.new) }
 {
-    let caller = desc.number;
-    let limit = desc.local.reads.len();
-    if desc.local.reads.count() == limit {
-        take_back(&mut desc.seat, &mut desc.local, stm, caller);
-        return Read::Full { limit };
-    }
-    match load_word(&mut desc.seat, &mut desc.local, stm, caller, a) {
-        Ok(x) => {
-            desc.local.reads.push(a, x);
-            Read::Value(x)
+    match sample(desc, stm, a) {
+        Ok(Some(word)) => {
+            let x = load(desc, stm, a);
+            confirm(desc, stm, a, word, x)
         }
-        Err(cause) => {
-            take_back(&mut desc.seat, &mut desc.local, stm, caller);
-            Read::Conflict(cause)
-        }
+        Ok(None) => read_held(desc, stm, a),
+        Err(refusal) => refusal,
     }
 }
 
-/// Loads the word: under the own record with no look at it, since nobody else stores there; else between two loads of
-/// the record.
-fn load_word<K: MemRule>(
-    seat: &mut Token<K>,
-    local: &mut Local,
-    stm: &Stm<K>,
-    caller: usize,
-    a: usize,
-) -> Result<u64, Cause>
-    requires seat { IsSeatOf stm.now caller seat.old }
-    requires caller { caller < stm.now.config.callers }
-    requires view { CanLoadWord stm.now.config a local.old (view_of seat.old) }
-    ensures same { IsSameSeat seat.old seat.new × (seat.new.me.0 ≡ record seat.old.me.0 { view = view_of seat.new }) }
-    ensures loads { LoadsValid (good_of K.good stm.now.config stm.now.rule) stm.now.config caller a result local.old (view_of seat.old) local.new (view_of seat.new) }
+/// Loads the word under the own record with no look at that, since nobody else stores there, and logs it. One step.
+fn read_held<K: MemRule>(desc: &mut Desc<K>, stm: &Stm<K>, a: usize) -> Read
+    requires stm { IsOf desc.old stm.now }
+    requires running { IsRunning (known desc.old) }
+    requires algorithm { (known desc.old).alg ≡ OrecEager }
+    requires revocable { (known desc.old).granted ≡ false }
+    requires fresh { IsNew a (known desc.old) }
+    requires held { HoldsRecord stm.now.config a desc.old.view }
+    requires inside { a < stm.now.config.words }
+    ensures same { IsSameCaller desc.old desc.new }
+    ensures read { HasRead (K.good stm.now.rule) stm.now.config (number desc.old) a result (known desc.old) (known desc.new) }
 {
-    if local.locks.find(a % stm.config.records).is_some() {
-        return Ok(own_load(stm, seat, caller, a));
-    }
-    load_valid(seat, local, stm, caller, a)
+    let x = own_load(stm, &mut desc.seat, desc.number, a);
+    desc.local.reads.push(a, x);
+    Read::Value(x)
 }
 
 /// Stores the word in place, under its record, which the attempt takes first where it doesn't hold it: one step where it

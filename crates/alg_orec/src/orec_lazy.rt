@@ -93,7 +93,7 @@ fn first_read<K: MemRule>(desc: &mut Desc<K>, stm: &Stm<K>, a: usize) -> Read
 
 /// Loads the word between two loads of its record, which is to be free both times, at one version that the start has
 /// seen: an older start moves up to the clock where all reads are valid there. Three steps, and those of a validation.
-pub(crate) fn load_valid<K: MemRule>(
+fn load_valid<K: MemRule>(
     seat: &mut Token<K>,
     local: &mut Local,
     stm: &Stm<K>,

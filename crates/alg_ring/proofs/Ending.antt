@@ -1,7 +1,7 @@
 -- What stands of an attempt of RingSW that isn't promoted, and how it ends without its entry.
 use Rattle.std.proofs.Common.{ℕ, ◌≡◌, List, Bool, true, false, sym, ap, ◌∙◌, arith, subst}
-use Rattle.std.specs.Prelude.{not, ◌&&◌}
-use Rattle.stm_model.specs.Algorithms.{has_records, is_sure, closes_gate}
+use Rattle.std.specs.Prelude.{not}
+use Rattle.stm_model.specs.Algorithms.{has_records, is_sure}
 use Rattle.stm_model.specs.Memories.{is_empty}
 use Rattle.stm_model.specs.declared.alg.Alg.{Alg}
 use Rattle.stm_model.specs.declared.alg.Alg.TheVariants.{Cgl, Tml, OrecLazy, OrecEager, RingSw, Serial}
@@ -30,9 +30,6 @@ module _ (good : List ℕ → Type 0) (c : Config) (n : ℕ) (l : Local) (v : Vi
 
   pub ring-of : l.granted ≡ false → IsRing c l v
   ring-of plain = ring-by l.algorithm l.granted (sym i.named ∙ named) plain i.keeps
-
-  pub sure-granted : (o : Own) → l.granted ≡ true → is_irrevocable (known_of v o) ≡ true
-  sure-granted o granted = ap (λ (a : Alg). is_sure a (granted_under a v.gate v.lock) (not (is_empty (written_under a v.gate.granted v o)))) named ∙ (i.granted ∙ (λ j. closes_gate ((sym i.named ∙ named) j) && granted j))
 
   module _ (k : IsRing c l v) where
     pub revocable : (o : Own) → is_irrevocable (known_of v o) ≡ false

@@ -1,136 +1,161 @@
 -- What the steps of a commit come to, from the turn on.
 use Rattle.std.proofs.Common.{ℕ, ◌≡◌, ◌<◌, ◌≤◌, ◌+◌, List, [], ◌∷◌, ◌++◌, length, Bool, true, false, refl, sym, ap, ◌∙◌, arith, subst, append_assoc}
-use Rattle.std.specs.Prelude.{Some, None, Ok, not, if◌then◌else◌}
+use Rattle.std.specs.Prelude.{Some, None, Ok, if◌then◌else◌}
 use Rattle.stm_model.specs.Algorithms.{has_records, asks_at_commit, entry_rise}
 use Rattle.stm_model.specs.declared.alg.Alg.TheVariants.{RingSw}
 use Rattle.stm_model.specs.declared.config.Config.{Config}
 use Rattle.stm_model.specs.declared.config.TheConstants.{CLOCK_LIMIT}
 use Rattle.stm_model.specs.declared.stop.Cause.{Cause}
 use Rattle.stm_model.specs.Histories as public
-use Rattle.stm_model.specs.Memories.{is_empty}
 use Rattle.rule_base.specs.declared.entries.Cell.{Cell}
 use Rattle.rule_base.specs.declared.entries.Entry.{Entry}
 use Rattle.rule_base.specs.declared.layout.At.TheVariants.{Clock, Lock, Done}
+use Rattle.rule_base.specs.declared.seats.SeatView.{SeatView}
 use Rattle.rule_base.specs.declared.views.Act.TheVariants.{Load, Store}
-use Rattle.rule_base.specs.declared.views.LockView.{LockView}
+use Rattle.rule_base.specs.declared.views.Attempt.{Attempt}
 use Rattle.rule_base.specs.declared.views.RingCommit.{RingCommit}
 use Rattle.rule_base.specs.declared.views.RingRead.{RingRead}
+use Rattle.rule_base.specs.declared.views.SeenHistory.{SeenHistory}
 use Rattle.rule_base.specs.declared.views.TrailItem.{TrailItem}
 use Rattle.rule_base.specs.declared.views.View.{View}
 use Rattle.rule_base.specs.Bridge.{items, of_words, public_entry, public_history}
-use Rattle.rule_base.specs.BridgeLemmas.{legal-public, length-public_history}
+use Rattle.rule_base.specs.BridgeLemmas.{keeps-cells, legal-public, length-public_history}
 use Rattle.rule_base.specs.History.{upto, Keeps}
 use Rattle.rule_base.specs.Own.{Own}
 use Rattle.rule_base.specs.StepKinds.{Nothing, Tells, view_after}
-use Rattle.rule_ring.specs.RingSteps.{HasTurn, ring_tick, ring_free, CanRingFree, ring_done, CanRingDone, RingEnters, no_read, no_turn}
-use Rattle.rule_seq.specs.CglSteps.{fresh_lock, no_lock}
+use Rattle.rule_ring.specs.RingSteps.{HasTurn, ring_tick, ring_free, ring_done, CanRingDone, RingEnters, no_read, no_turn}
+use Rattle.rule_seq.specs.CglSteps.{fresh_lock}
 use Rattle.stm_rule.specs.declared.local.Local.{Local}
-use Rattle.stm_rule.specs.Attempts.{IsInside}
+use Rattle.stm_rule.specs.Attempts.{IsInside, IsOutside, SameLengths, ended, own_of}
+use Rattle.stm_rule.specs.Kept.{SeatTells}
 use Rattle.stm_rule.specs.RecordsKept.{cells_of}
 use Rattle.stm_rule.specs.RingKept.{IsRing}
 use Rattle.steps_ring.specs.RingFindings.{FindsTick}
+use Rattle.tx_answers.specs.declared.answers.Commit.{Commit}
 use Rattle.tx_answers.specs.declared.answers.Commit.TheVariants as commits
 use Rattle.tx_answers.specs.Answers.{Commits, CommitsAt, Quits, entry}
-use Rattle.tx_answers.specs.Known.{Grows, known_of, written_under, wrote}
+use Rattle.tx_answers.specs.Known.{Grows, known_of}
 use Rattle.tx_answers.specs.KnownLaws.{grows-same, grows-trans, ascending-append, within-append}
-use Rattle.stm_gate.specs.Leaving.{CanLeave, left, last_steps}
+use Rattle.stm_gate.specs.Leaving.{left, last_steps}
 use Rattle.stm_gate.specs.LeavingLaws.{quits-left, finds-full, found-left}
-use Rattle.stm_gate.specs.Logging.{wrote-some}
-use Rattle.alg_ring.specs.Calls.{CanEnter, Enters, entered_at, writing, CanWriteBack, WritesBack}
+use Rattle.stm_model.specs.Logs as logs
+use Rattle.alg_ring.specs.Calls.{HasAttempt, StandsTold, TookTurn, IsDecided, freed, CanEnter, Enters, entered_at, writing, CanWriteBack, WritesBack}
 use Rattle.alg_ring.specs.Checking.{CanCheck, Checks, Fails, passed_at}
 use Rattle.alg_ring.proofs.Checked.{passes-grows, finds-between}
-use Rattle.alg_ring.proofs.Ending as ending
-use Rattle.alg_ring.proofs.Entering.{some-cells}
 use Rattle.alg_ring.proofs.Refuting.{refuted}
+use Rattle.alg_ring.proofs.Running as attempt
 
 abbrev pub clock_found : ℕ → TrailItem
 clock_found clock = record { place = Clock; act = Load; found = Some clock }
 
-abbrev pub lock_freed : TrailItem
+abbrev lock_freed : TrailItem
 lock_freed = record { place = Lock; act = Store 0; found = None }
 
 abbrev done_stored : ℕ → TrailItem
 done_stored time = record { place = Done; act = Store time; found = None }
 
-module _ (good : List ℕ → Type 0) (c : Config) (n : ℕ) (l : Local) (v : View) (i : IsInside good c n l v) (ring : l.algorithm ≡ RingSw) (plain : l.granted ≡ false) where
+pub freed-is : {K : Type 0} (s t : SeatView K) → SeatTells ring_free Nothing s 0 t → t.view ≡ freed s.view
+freed-is {K} s t h = ap (λ (y : SeatView K). y.view) h.3
+
+-- the lock is free and the attempt has left: what was decided is told
+pub finishes : (good : List ℕ → Type 0) (c : Config) (n : ℕ) (answer : Commit) (l m : Local) (v u w : View) → IsDecided good c n answer v l u → SameLengths l → w ≡ left n (freed u) → m ≡ ended l → IsOutside w → StandsTold good c n (Commits good c n answer) l v m w
+finishes good c n answer l m v u w d lengths end idle out = subst (λ (k : Local). StandsTold good c n (Commits good c n answer) l v k w) (sym idle) (record {
+  stands = record { holds = sym out.reopened; lengths = lengths; by = out };
+  told = subst (λ (y : View). Commits good c n answer (known_of v (own_of l)) (known_of y (own_of l))) (sym end) d.commits;
+})
+
+module _ (good : List ℕ → Type 0) (c : Config) (n : ℕ) (l : Local) (v w : View) (turn : TookTurn good c n v l w) where
   abbrev rule : (ℕ → ℕ) → Type 0
   rule = of_words good c.words
 
   abbrev ws : List Cell
   ws = cells_of l.writes.items
 
+  abbrev o : Own
+  o = own_of l
+
+  has : HasAttempt good c n l v
+  has = turn.has.attempt
+
+  i : IsInside good c n l v
+  i = attempt.inside good c n l v has
+
   named : v.gate.algorithm ≡ RingSw
-  named = i.named ∙ ring
+  named = has.named
+
+  plain : l.granted ≡ false
+  plain = sym (attempt.sure-is good c n l v has) ∙ turn.has.revocable
 
   k : IsRing c l v
-  k = ending.ring-of good c n l v i named plain
+  k = attempt.kept good c n l v has plain
 
-  pub written-is : (o : Own) → o.buffered ≡ ws → written_under v.gate.algorithm v.gate.granted v o ≡ items ws
-  written-is o e = (λ j. written_under (named j) (k.optimistic.ungranted j) v o) ∙ ap items e
-
-  -- BEFORE THE ENTRY
-  abbrev pub turned_at : List TrailItem → View
-  turned_at more = record v { lock = fresh_lock RingSw; ring_commit = no_turn; steps = record v.steps { trail = more ++ v.steps.trail } }
-
-  -- the clock was loaded under the lock
-  abbrev pub ticked_at : RingRead → ℕ → List TrailItem → View
-  ticked_at read clock more = record v {
+  -- what changes while it has the lock
+  abbrev locked_at : SeenHistory → Attempt → RingRead → RingCommit → ℕ → List TrailItem → View
+  locked_at history mine read commit rises more = record v {
+    history = history;
+    attempt = mine;
     lock = fresh_lock RingSw;
     ring_read = read;
-    ring_commit = record no_turn { ticked = true; clock = clock };
-    steps = record v.steps { trail = more ++ v.steps.trail };
+    ring_commit = commit;
+    steps = record v.steps { rises = rises; trail = more ++ v.steps.trail };
   }
 
-  -- and the lock is free again
-  abbrev freed_at : RingRead → List TrailItem → View
-  freed_at read more = record v { lock = no_lock; ring_read = read; ring_commit = no_turn; steps = record v.steps { trail = more ++ v.steps.trail } }
+  -- with neither a store in the heap nor an entry that isn't written back, it can free the lock and leave
+  decided : (answer : Commit) (history : SeenHistory) (mine : Attempt) (read : RingRead) (commit : RingCommit) (rises : ℕ) (more : List TrailItem) → mine.entered ≡ false → mine.stores ≡ [] → (commit.committed ≡ true → commit.finished ≡ true)
+      → Commits good c n answer (known_of v o) (known_of (left n (freed (locked_at history mine read commit rises more))) o) → IsDecided good c n answer v l (locked_at history mine read commit rises more)
+  decided answer history mine read commit rises more unentered unstored finished told = record {
+    free = record { runs = record { phase = i.phase; algorithm = named; plain = k.optimistic.ungranted }; taken = refl; finished = finished };
+    leave = record {
+      phase = i.phase;
+      unlocked = refl;
+      unfixed = refl;
+      disowned = i.disowned (ap has_records (attempt.ring good c n l v has));
+      unwritten = k.optimistic.unwritten;
+      uncommitted = refl;
+      ungranted = λ e. k.optimistic.ungranted;
+      plain = λ e. unentered;
+      unstored = λ e. unstored;
+      marked = λ e q. absurd (let f : true ≡ false = sym q ∙ unentered in cc);
+    };
+    gate = refl;
+    commits = told;
+  }
 
-  pub may-tick : (more : List TrailItem) (w : View) → w ≡ turned_at more → HasTurn w
-  may-tick more w is = subst HasTurn (sym is) (record { has = record { runs = record { phase = i.phase; algorithm = named; plain = k.optimistic.ungranted }; inside = k.inside }; taken = refl; unentered = refl })
+  -- BEFORE THE ENTRY
+  abbrev ticking : ℕ → RingCommit
+  ticking clock = record no_turn { ticked = true; clock = clock }
 
-  pub ticked-path : (more : List TrailItem) (clock : ℕ) (w u : View) → w ≡ turned_at more → Tells ring_tick (FindsTick rule c) w clock u → u ≡ ticked_at v.ring_read clock (clock_found clock ∷ more)
-  ticked-path more clock w u is t = t.2 ∙ ap (λ (y : View). view_after ring_tick t.0 y clock) is
+  abbrev ticked_at : RingRead → ℕ → List TrailItem → View
+  ticked_at read clock more = locked_at v.history v.attempt read (ticking clock) v.steps.rises more
 
-  pub may-free : (read : RingRead) (clock : ℕ) (more : List TrailItem) (w : View) → w ≡ ticked_at read clock more → CanRingFree w
-  may-free read clock more w is = subst CanRingFree (sym is) (record { runs = record { phase = i.phase; algorithm = named; plain = k.optimistic.ungranted }; taken = refl; finished = λ e. absurd cc })
+  -- nothing was appended
+  unmade : (answer : Commit) (read : RingRead) (clock : ℕ) (more : List TrailItem) (u : View) → u ≡ ticked_at read clock more
+      → (Quits (known_of v o) (known_of (left n (freed (ticked_at read clock more))) o) → Commits good c n answer (known_of v o) (known_of (left n (freed (ticked_at read clock more))) o)) → IsDecided good c n answer v l u
+  unmade answer read clock more u is told = subst (IsDecided good c n answer v l) (sym is) (decided answer v.history v.attempt read (ticking clock) v.steps.rises more i.unentered k.optimistic.unstored (λ e. absurd cc) (told (
+      quits-left n v (freed (ticked_at read clock more)) o (record { carried = record { named = refl; base = refl; installs = refl; trail = (lock_freed ∷ more, refl) }; history = refl })
+      (let r = k.optimistic.rises in (omega arith, omega arith)) turn.has.revocable)))
 
-  pub freed-path : (read : RingRead) (clock : ℕ) (more : List TrailItem) (w u : View) → w ≡ ticked_at read clock more → Tells ring_free Nothing w 0 u → u ≡ freed_at read (lock_freed ∷ more)
-  freed-path read clock more w u is t = t.2 ∙ ap (λ (y : View). view_after ring_free t.0 y 0) is
+  pub may-tick : HasTurn w
+  may-tick = subst HasTurn (sym turn.is) (record { has = record { runs = record { phase = i.phase; algorithm = named; plain = k.optimistic.ungranted }; inside = k.inside }; taken = refl; unentered = refl })
 
-  pub may-leave : (read : RingRead) (more : List TrailItem) (w : View) → w ≡ freed_at read more → CanLeave w
-  may-leave read more w is = subst CanLeave (sym is) (record {
-    phase = i.phase;
-    unlocked = refl;
-    unfixed = refl;
-    disowned = i.disowned (ap has_records ring);
-    unwritten = k.optimistic.unwritten;
-    uncommitted = refl;
-    ungranted = λ e. k.optimistic.ungranted;
-    plain = λ e. i.unentered;
-    unstored = λ e. k.optimistic.unstored;
-    marked = λ e q. absurd (let f : true ≡ false = sym q ∙ i.unentered in cc);
-  })
+  module _ (clock : ℕ) (u : View) (t : Tells ring_tick (FindsTick rule c) w clock u) where
+    abbrev early : List TrailItem
+    early = clock_found clock ∷ turn.more
 
-  -- the attempt ended without an entry
-  quits-freed : (o : Own) (read : RingRead) (more : List TrailItem) → Quits (known_of v o) (known_of (left n (freed_at read more)) o)
-  quits-freed o read more = quits-left n v (freed_at read more) o (record { carried = record { named = refl; base = refl; installs = refl; trail = (more, refl) }; history = refl }) (let r = k.optimistic.rises in (omega arith, omega arith)) (ending.revocable good c n l v i named k o)
+    ticked : u ≡ ticked_at v.ring_read clock early
+    ticked = t.2 ∙ ap (λ (y : View). view_after ring_tick t.0 y clock) turn.is
 
-  module _ (dirty : l.wrote ≡ true) (o : Own) (e : o.buffered ≡ ws) where
-    wrote-is : wrote (known_of v o) ≡ true
-    wrote-is = ap (λ (xs : List (ℕ × ℕ)). not (is_empty xs)) (written-is o e) ∙ ap not (wrote-some ws (some-cells l.writes.items (sym k.buffers.wrote ∙ dirty)))
-
-    pub tells-full : (clock : ℕ) (more : List TrailItem) (w u x y : View) → CLOCK_LIMIT ≤ clock → w ≡ turned_at more → Tells ring_tick (FindsTick rule c) w clock u → Tells ring_free Nothing u 0 x → y ≡ left n x → Commits good c n (commits.ClockFull clock) (known_of v o) (known_of y o)
-    tells-full clock more w u x y high is t s end = subst (λ (z : View). Commits good c n (commits.ClockFull clock) (known_of v o) (known_of z o)) (sym (end ∙ ap (left n) (freed-path v.ring_read clock (clock_found clock ∷ more) u x (ticked-path more clock w u is t) s))) (
-      quits-freed o v.ring_read (lock_freed ∷ clock_found clock ∷ more),
+    pub decides-full : CLOCK_LIMIT ≤ clock → IsDecided good c n (commits.ClockFull clock) v l u
+    decides-full high = unmade (commits.ClockFull clock) v.ring_read clock early u ticked (λ quits. (
+      quits,
       ap asks_at_commit named,
-      wrote-is,
-      finds-full clock v (left n (freed_at v.ring_read (lock_freed ∷ clock_found clock ∷ more))) o o high (found-left n Clock clock v (freed_at v.ring_read (lock_freed ∷ clock_found clock ∷ more)) o o (lock_freed ∷ clock_found clock ∷ more, refl, Load, (1, omega arith, refl))),
-    )
+      turn.has.wrote,
+      finds-full clock v (left n (freed (ticked_at v.ring_read clock early))) o o high (found-left n Clock clock v (freed (ticked_at v.ring_read clock early)) o o (lock_freed ∷ early, refl, Load, (1, omega arith, refl))),
+    ))
 
-  -- THE CHECK
-  module _ (clock : ℕ) (more : List TrailItem) (w : View) (is : w ≡ ticked_at v.ring_read clock more) where
-    pub may-check : CanCheck c l.start l.loaded w
-    may-check = subst (CanCheck c l.start l.loaded) (sym is) (record {
+    -- THE CHECK
+    pub may-check : CanCheck c l.start l.loaded u
+    may-check = subst (CanCheck c l.start l.loaded) (sym ticked) (record {
       has = record { runs = record { phase = i.phase; algorithm = named; plain = k.optimistic.ungranted }; inside = k.inside };
       start_is = i.start;
       front_is = i.front;
@@ -139,47 +164,43 @@ module _ (good : List ℕ → Type 0) (c : Config) (n : ℕ) (l : Local) (v : Vi
       sole = λ one. (let a = k.sole one in let b = k.optimistic.rises in omega arith);
     })
 
-    pub failed-path : (cause : Cause) (u : View) → (f : Fails good c cause l.loaded w u) → u ≡ ticked_at f.read clock (f.more ++ more)
-    failed-path cause u f = f.is ∙ (ap (λ (y : View). record y { ring_read = f.read; steps = record y.steps { trail = f.more ++ y.steps.trail } }) is
-        ∙ ap (λ (t : List TrailItem). record (ticked_at f.read clock []) { steps = record v.steps { trail = t } }) (sym (append_assoc f.more more v.steps.trail)))
-
-    pub tells-conflict : n < c.callers → l.wrote ≡ true → (o : Own) → o.buffered ≡ ws → (cause : Cause) (u x y : View) → Fails good c cause l.loaded w u → Tells ring_free Nothing u 0 x → y ≡ left n x → Commits good c n (commits.Conflict cause) (known_of v o) (known_of y o)
-    tells-conflict low dirty o e cause u x y f s end = subst (λ (z : View). Commits good c n (commits.Conflict cause) (known_of v o) (known_of z o)) (sym (end ∙ ap (left n) (freed-path f.read clock (f.more ++ more) u x (failed-path cause u f) s))) (
-      quits-freed o f.read (lock_freed ∷ (f.more ++ more)),
-      refuted c n None (known_of v o) (known_of (left n (freed_at f.read (lock_freed ∷ (f.more ++ more)))) o) l.loaded w.attempt.start f.clock f.more cause named (sym (ap (λ (z : View). z.attempt.start) is)) k.read
-          (finds-between (known_of v o) (known_of (left n (freed_at f.read (lock_freed ∷ (f.more ++ more)))) o) (last ++ lock_freed ∷ []) f.more more
-          (ap (λ (t : List TrailItem). last ++ lock_freed ∷ t) (append_assoc f.more more v.steps.trail) ∙ sym (append_assoc last (lock_freed ∷ []) (f.more ++ (more ++ v.steps.trail))))) f.found f.refutes,
+    pub decides-conflict : n < c.callers → (cause : Cause) (x : View) → Fails good c cause l.loaded u x → IsDecided good c n (commits.Conflict cause) v l x
+    decides-conflict low cause x f = unmade (commits.Conflict cause) f.read clock (f.more ++ early) x failed (λ quits. (
+      quits,
+      refuted c n None (known_of v o) (known_of (left n (freed (ticked_at f.read clock (f.more ++ early)))) o) l.loaded u.attempt.start f.clock f.more cause named (sym (ap (λ (z : View). z.attempt.start) ticked)) k.read
+          (finds-between (known_of v o) (known_of (left n (freed (ticked_at f.read clock (f.more ++ early)))) o) (last ++ lock_freed ∷ []) f.more early
+          (ap (λ (s : List TrailItem). last ++ lock_freed ∷ s) (append_assoc f.more early v.steps.trail) ∙ sym (append_assoc last (lock_freed ∷ []) (f.more ++ (early ++ v.steps.trail))))) f.found f.refutes,
       (let d = f.others in omega arith),
-      wrote-is dirty o e,
-    )
+      turn.has.wrote,
+    ))
       where
         last : List TrailItem
         last = last_steps n v.gate.holds v.gate.algorithm
 
-    -- where it passes, the start is the clock
-    module _ (start : ℕ) (u : View) (p : Checks good c (Ok start) l.loaded w u) where
-      abbrev checked_at : List TrailItem → View
-      checked_at more = record v {
-        history = record v.history { seen = upto p.0.world.history start; front = start };
-        attempt = record { start = start; reads = v.attempt.reads; stores = v.attempt.stores; entered = v.attempt.entered };
-        lock = fresh_lock RingSw;
-        ring_read = p.0.read;
-        ring_commit = record no_turn { ticked = true; clock = clock };
-        steps = record v.steps { trail = more ++ v.steps.trail };
-      }
+        failed : x ≡ ticked_at f.read clock (f.more ++ early)
+        failed = f.is ∙ (ap (λ (y : View). record y { ring_read = f.read; steps = record y.steps { trail = f.more ++ y.steps.trail } }) ticked
+            ∙ ap (λ (s : List TrailItem). record (ticked_at f.read clock []) { steps = record v.steps { trail = s } }) (sym (append_assoc f.more early v.steps.trail)))
 
-      passed-path : u ≡ checked_at (p.0.more ++ more)
-      passed-path = p.0.is ∙ (ap (λ (y : View). passed_at p.0.world start y.gate p.0.read p.0.more y) is
+    -- where it passes, the start is the clock
+    module _ (start : ℕ) (x : View) (p : Checks good c (Ok start) l.loaded u x) where
+      abbrev checked_at : List TrailItem → View
+      checked_at more = locked_at (record v.history { seen = upto p.0.world.history start; front = start }) (record v.attempt { start = start }) p.0.read (ticking clock) v.steps.rises more
+
+      passed : x ≡ checked_at (p.0.more ++ early)
+      passed = p.0.is ∙ (ap (λ (y : View). passed_at p.0.world start y.gate p.0.read p.0.more y) ticked
           ∙ (λ j. record (checked_at []) {
-            attempt = record { start = start; reads = if k.settled j then record { at = v.ring_read.from; value = v.ring_read.value } ∷ v.attempt.reads else v.attempt.reads; stores = v.attempt.stores; entered = v.attempt.entered };
-            steps = record v.steps { trail = sym (append_assoc p.0.more more v.steps.trail) j };
+            attempt = record v.attempt { start = start; reads = if k.settled j then record { at = v.ring_read.from; value = v.ring_read.value } ∷ v.attempt.reads else v.attempt.reads };
+            steps = record v.steps { trail = sym (append_assoc p.0.more early v.steps.trail) j };
           }))
 
       start-is : start ≡ clock
-      start-is = p.1 (ap (λ (y : View). y.lock.taken) is) (ap (λ (y : View). y.ring_commit.committed) is) (ap (λ (y : View). y.ring_commit.ticked) is) ∙ ap (λ (y : View). y.ring_commit.clock) is
+      start-is = p.1 (ap (λ (y : View). y.lock.taken) ticked) (ap (λ (y : View). y.ring_commit.committed) ticked) (ap (λ (y : View). y.ring_commit.ticked) ticked) ∙ ap (λ (y : View). y.ring_commit.clock) ticked
 
-      pub may-enter : l.wrote ≡ true → clock < CLOCK_LIMIT → Keeps rule v.attempt.reads ws → CanEnter good c (clock + 1) l u
-      may-enter dirty under keeps = subst (CanEnter good c (clock + 1) l) (sym passed-path) (record {
+      keeps : Keeps rule v.attempt.reads ws
+      keeps = keeps-cells good c.words v.attempt.reads ws i.reads_inside (subst (λ (xs : List (ℕ × ℕ)). logs.Keeps good c.words (record { reads = items v.attempt.reads; writes = xs })) (attempt.written-is good c n l v has plain) (turn.has.keeps turn.has.wrote))
+
+      pub may-enter : clock < CLOCK_LIMIT → CanEnter good c (clock + 1) l x
+      may-enter under = subst (CanEnter good c (clock + 1) l) (sym passed) (record {
         turn = record { has = record { runs = record { phase = i.phase; algorithm = named; plain = k.optimistic.ungranted }; inside = p.0.inside }; taken = refl; unentered = refl };
         ticked = refl;
         unslotted = refl;
@@ -189,120 +210,50 @@ module _ (good : List ℕ → Type 0) (c : Config) (n : ℕ) (l : Local) (v : Vi
         settled = p.0.settled;
         uncalm = k.optimistic.uncalm;
         buffers = k.buffers;
-        wrote = dirty;
+        wrote = sym (attempt.wrote-is good c n l v has plain) ∙ turn.has.wrote;
         stored = k.stored;
         keeps = keeps;
       })
 
-      grows-checked : (o : Own) → Grows (known_of v o) (known_of u o)
-      grows-checked o = grows-trans (known_of v o) (known_of w o) (known_of u o)
-          (subst (λ (y : View). Grows (known_of v o) (known_of y o)) (sym is) (grows-same (known_of v o) (known_of (ticked_at v.ring_read clock more) o) refl refl more refl refl refl))
-          (passes-grows good c w.gate start w u p.0 o o refl refl)
+      grows : Grows (known_of v o) (known_of x o)
+      grows = grows-trans (known_of v o) (known_of u o) (known_of x o)
+          (subst (λ (y : View). Grows (known_of v o) (known_of y o)) (sym ticked) (grows-same (known_of v o) (known_of (ticked_at v.ring_read clock early) o) refl refl early refl refl refl))
+          (passes-grows good c u.gate start u x p.0 o o refl refl)
 
-  -- BEHIND THE ENTRY
-  abbrev entry_at : ℕ → Entry
-  entry_at time = record { time = time; caller = n; number = length v.history.made; reads = v.attempt.reads; writes = ws }
+      -- BEHIND THE ENTRY
+      module _ (y : View) (e : Enters good c n (clock + 1) l x y) where
+        abbrev mine : Entry
+        mine = record { time = clock + 1; caller = n; number = length v.history.made; reads = v.attempt.reads; writes = ws }
 
-  abbrev behind : ℕ → List Entry → LockView → RingCommit → List TrailItem → View
-  behind time before lock commit more = record v {
-    history = record v.history { made = entry_at time ∷ v.history.made; seen = entry_at time ∷ before; front = time };
-    attempt = record { start = 0; reads = []; stores = []; entered = v.attempt.entered };
-    lock = lock;
-    ring_read = no_read;
-    ring_commit = commit;
-    steps = record v.steps { rises = v.steps.rises + 1; trail = more ++ v.steps.trail };
-  }
+        abbrev behind : Bool → List Cell → List TrailItem → View
+        behind finished back more = locked_at (record v.history { made = mine ∷ v.history.made; seen = mine ∷ e.world.history; front = clock + 1 }) (record { start = 0; reads = []; stores = []; entered = v.attempt.entered }) no_read
+            (record { slotted = 0; writes = ws; ticked = true; clock = clock + 1; committed = true; finished = finished; back = back }) (v.steps.rises + 1) more
 
-  abbrev commit_at : ℕ → Bool → List Cell → RingCommit
-  commit_at time finished back = record { slotted = 0; writes = ws; ticked = true; clock = time; committed = true; finished = finished; back = back }
+        entered : y ≡ behind false ws (e.more ++ (p.0.more ++ early))
+        entered = e.is ∙ (ap (entered_at good c n (clock + 1) e.world.history l e.more) passed
+            ∙ ap (λ (s : List TrailItem). record (behind false ws []) { steps = record v.steps { rises = v.steps.rises + 1; trail = s } }) (sym (append_assoc e.more (p.0.more ++ early) v.steps.trail)))
 
-  -- the entry of this time was made after this history
-  abbrev pub IsBehind : ℕ → List Entry → LockView → RingCommit → View → Type 0
-  IsBehind time before lock commit w = (more : List TrailItem) × (w ≡ behind time before lock commit more)
+        pub may-write_back : CanWriteBack c l.writes y
+        may-write_back = subst (CanWriteBack c l.writes) (sym entered) (record {
+          entered = record { runs = record { phase = i.phase; algorithm = named; plain = k.optimistic.ungranted }; committed = refl; unfinished = refl };
+          once = k.buffers.once;
+          inside = k.buffers.inside;
+          back = refl;
+        })
 
-  pub enters-behind : (clock : ℕ) (more : List TrailItem) (w : View) → w ≡ ticked_at v.ring_read clock more → (start : ℕ) (u : View) → Checks good c (Ok start) l.loaded w u → (x : View) → (e : Enters good c n (clock + 1) l u x) → IsBehind (clock + 1) e.world.history (fresh_lock RingSw) (commit_at (clock + 1) false ws) x
-  enters-behind clock more w is start u p x e = (
-    e.more ++ (p.0.more ++ more),
-    e.is ∙ (ap (entered_at good c n (clock + 1) e.world.history l e.more) (passed-path clock more w is start u p)
-        ∙ ap (λ (t : List TrailItem). record (behind (clock + 1) e.world.history (fresh_lock RingSw) (commit_at (clock + 1) false ws) []) { steps = record v.steps { rises = v.steps.rises + 1; trail = t } }) (sym (append_assoc e.more (p.0.more ++ more) v.steps.trail))),
-  )
-
-  module _ (time : ℕ) (before : List Entry) (w : View) where
-    pub may-write_back : IsBehind time before (fresh_lock RingSw) (commit_at time false ws) w → CanWriteBack c l.writes w
-    may-write_back b = subst (CanWriteBack c l.writes) (sym b.1) (record {
-      entered = record { runs = record { phase = i.phase; algorithm = named; plain = k.optimistic.ungranted }; committed = refl; unfinished = refl };
-      once = k.buffers.once;
-      inside = k.buffers.inside;
-      back = refl;
-    })
-
-    pub writes-behind : (u : View) → IsBehind time before (fresh_lock RingSw) (commit_at time false ws) w → WritesBack w u → IsBehind time before (fresh_lock RingSw) (commit_at time false []) u
-    writes-behind u b d = (
-      d.more ++ b.0,
-      d.is ∙ (ap (λ (y : View). record y { ring_commit = record y.ring_commit { back = [] }; steps = record y.steps { trail = d.more ++ y.steps.trail } }) b.1
-          ∙ ap (λ (t : List TrailItem). record (behind time before (fresh_lock RingSw) (commit_at time false []) []) { steps = record v.steps { rises = v.steps.rises + 1; trail = t } }) (sym (append_assoc d.more b.0 v.steps.trail))),
-    )
-
-    pub may-done : IsBehind time before (fresh_lock RingSw) (commit_at time false []) w → CanRingDone time w
-    may-done b = subst (CanRingDone time) (sym b.1) (record {
-      entered = record { runs = record { phase = i.phase; algorithm = named; plain = k.optimistic.ungranted }; committed = refl; unfinished = refl };
-      time = refl;
-      written = λ a. refl;
-      free = k.optimistic.uncalm;
-    })
-
-    pub done-behind : (u : View) → IsBehind time before (fresh_lock RingSw) (commit_at time false []) w → Tells (ring_done time) Nothing w time u → IsBehind time before (fresh_lock RingSw) (commit_at time true []) u
-    done-behind u b t = (done_stored time ∷ b.0, t.2 ∙ ap (λ (y : View). view_after (ring_done time) t.0 y time) b.1)
-
-    pub may-free-behind : IsBehind time before (fresh_lock RingSw) (commit_at time true []) w → CanRingFree w
-    may-free-behind b = subst CanRingFree (sym b.1) (record { runs = record { phase = i.phase; algorithm = named; plain = k.optimistic.ungranted }; taken = refl; finished = λ e. refl })
-
-    pub free-behind : (u : View) → IsBehind time before (fresh_lock RingSw) (commit_at time true []) w → Tells ring_free Nothing w 0 u → IsBehind time before no_lock no_turn u
-    free-behind u b t = (lock_freed ∷ b.0, t.2 ∙ ap (λ (y : View). view_after ring_free t.0 y 0) b.1)
-
-    pub may-leave-behind : IsBehind time before no_lock no_turn w → CanLeave w
-    may-leave-behind b = subst CanLeave (sym b.1) (record {
-      phase = i.phase;
-      unlocked = refl;
-      unfixed = refl;
-      disowned = i.disowned (ap has_records ring);
-      unwritten = k.optimistic.unwritten;
-      uncommitted = refl;
-      ungranted = λ e. k.optimistic.ungranted;
-      plain = λ e. i.unentered;
-      unstored = λ e. refl;
-      marked = λ e q. absurd (let f : true ≡ false = sym q ∙ i.unentered in cc);
-    })
-
-  -- THE COMMIT: the entry was made behind a check that passed
-  module _ (dirty : l.wrote ≡ true) (o : Own) (same : o.buffered ≡ ws) (clock : ℕ) (more : List TrailItem) (w : View) (is : w ≡ ticked_at v.ring_read clock more) (start : ℕ) (u : View) (p : Checks good c (Ok start) l.loaded w u) (x : View) (e : Enters good c n (clock + 1) l u x) where
-    abbrev made : public.Entry
-    made = public_entry (entry_at (clock + 1))
-
-    as_entry : made ≡ entry (clock + 1) n (length (public_history v.history.made)) (known_of v o).log
-    as_entry = λ j. record { time = clock + 1; caller = n; number = sym (length-public_history v.history.made) j; reads = items v.attempt.reads; writes = sym (written-is o same) j }
-
-    shown : RingEnters rule c n (clock + 1) e.world (writing good c l (checked_at clock more w is start u p (p.0.more ++ more))) (clock + 1)
-    shown = subst (λ (y : View). RingEnters rule c n (clock + 1) e.world (writing good c l y) (clock + 1)) (passed-path clock more w is start u p) e.shown
-
-    front-is : u.history.front ≡ clock
-    front-is = ap (λ (y : View). y.history.front) (passed-path clock more w is start u p) ∙ start-is clock more w is start u p
-
-    tells-committed : (y z : View) → IsBehind (clock + 1) e.world.history no_lock no_turn y → z ≡ left n y → CommitsAt good c n (clock + 1) (known_of v o) (known_of z o)
-    tells-committed y z b end = subst (λ (q : View). CommitsAt good c n (clock + 1) (known_of v o) (known_of q o)) (sym (end ∙ ap (left n) b.1)) (
-        let g = grows-checked clock more w is start u p o in
-        let f = front-is in
-        let rose = g.front_rose in record {
+        -- the commit: the entry was made behind a check that passed
+        commits-at : (more : List TrailItem) → CommitsAt good c n (clock + 1) (known_of v o) (known_of (left n (freed (behind true [] more))) o)
+        commits-at more = let rose = grows.front_rose in record {
           ends = record {
             idle = (refl, refl, refl, refl);
             grows = record {
-              later = g.later ++ made ∷ [];
-              is = ap (λ (h : List Entry). public_history h ++ made ∷ []) (sym e.shown.seen) ∙ (ap (λ (h : List public.Entry). h ++ made ∷ []) g.is ∙ append_assoc (public_history v.history.seen) g.later (made ∷ []));
-              ascending = ascending-append v.history.front u.history.front g.later (made ∷ []) g.ascending g.up_to rose (omega arith, tt);
-              up_to = within-append u.history.front (clock + 1) g.later (made ∷ []) g.up_to (omega arith) (omega arith, tt);
-              front_rose = omega arith;
-              more = last_steps n v.gate.holds v.gate.algorithm ++ b.0;
-              trail = sym (append_assoc (last_steps n v.gate.holds v.gate.algorithm) b.0 v.steps.trail);
+              later = grows.later ++ made ∷ [];
+              is = ap (λ (h : List Entry). public_history h ++ made ∷ []) (sym e.shown.seen) ∙ (ap (λ (h : List public.Entry). h ++ made ∷ []) grows.is ∙ append_assoc (public_history v.history.seen) grows.later (made ∷ []));
+              ascending = ascending-append v.history.front x.history.front grows.later (made ∷ []) grows.ascending grows.up_to rose (omega (arith, front-is), tt);
+              up_to = within-append x.history.front (clock + 1) grows.later (made ∷ []) grows.up_to (omega (arith, front-is)) (omega arith, tt);
+              front_rose = omega (arith, front-is);
+              more = last ++ lock_freed ∷ more;
+              trail = sym (append_assoc last (lock_freed ∷ more) v.steps.trail);
               reads_limit = refl;
               writes_limit = refl;
             };
@@ -311,20 +262,45 @@ module _ (good : List ℕ → Type 0) (c : Config) (n : ℕ) (l : Local) (v : Vi
             installs = refl;
           };
           rises = (let a = k.optimistic.rises in let d : entry_rise v.gate.algorithm ≡ 1 = ap entry_rise named in omega arith);
-          wrote = wrote-is dirty o same;
+          wrote = turn.has.wrote;
           made = ap (λ (m : public.Entry). public_history v.history.made ++ m ∷ []) as_entry;
           before = public_history e.world.history;
           seen = ap (λ (m : public.Entry). public_history e.world.history ++ m ∷ []) as_entry;
-          legal = legal-public good c (entry_at (clock + 1) ∷ e.world.history) (clock + 1 + 1) shown.below shown.legal;
-          later = (let a = i.start in let d = i.front in omega arith);
-          above = omega arith;
+          legal = legal-public good c (mine ∷ e.world.history) (clock + 1 + 1) shown.below shown.legal;
+          later = (let a = i.start in let d = i.front in omega (arith, front-is));
+          above = omega (arith, front-is);
           front = refl;
-        })
+        }
+          where
+            made : public.Entry
+            made = public_entry mine
 
-    -- and all after it was done
-    pub tells-ended : (y z q r : View) → WritesBack x y → Tells (ring_done (clock + 1)) Nothing y (clock + 1) z → Tells ring_free Nothing z 0 q → r ≡ left n q → CommitsAt good c n (clock + 1) (known_of v o) (known_of r o)
-    tells-ended y z q r back done freed end =
-        let a = enters-behind clock more w is start u p x e in
-        let b = writes-behind (clock + 1) e.world.history x y a back in
-        let d = done-behind (clock + 1) e.world.history y z b done in
-        tells-committed q r (free-behind (clock + 1) e.world.history z q d freed) end
+            as_entry : made ≡ entry (clock + 1) n (length (public_history v.history.made)) (known_of v o).log
+            as_entry = λ j. record { time = clock + 1; caller = n; number = sym (length-public_history v.history.made) j; reads = items v.attempt.reads; writes = sym (attempt.written-is good c n l v has plain) j }
+
+            shown : RingEnters rule c n (clock + 1) e.world (writing good c l (checked_at (p.0.more ++ early))) (clock + 1)
+            shown = subst (λ (z : View). RingEnters rule c n (clock + 1) e.world (writing good c l z) (clock + 1)) passed e.shown
+
+            front-is : x.history.front ≡ clock
+            front-is = ap (λ (z : View). z.history.front) passed ∙ start-is
+
+            last : List TrailItem
+            last = last_steps n v.gate.holds v.gate.algorithm
+
+        module _ (z : View) (b : WritesBack y z) where
+          written : z ≡ behind false [] (b.more ++ (e.more ++ (p.0.more ++ early)))
+          written = b.is ∙ (ap (λ (q : View). record q { ring_commit = record q.ring_commit { back = [] }; steps = record q.steps { trail = b.more ++ q.steps.trail } }) entered
+              ∙ ap (λ (s : List TrailItem). record (behind false [] []) { steps = record v.steps { rises = v.steps.rises + 1; trail = s } }) (sym (append_assoc b.more (e.more ++ (p.0.more ++ early)) v.steps.trail)))
+
+          pub may-done : CanRingDone (clock + 1) z
+          may-done = subst (CanRingDone (clock + 1)) (sym written) (record {
+            entered = record { runs = record { phase = i.phase; algorithm = named; plain = k.optimistic.ungranted }; committed = refl; unfinished = refl };
+            time = refl;
+            written = λ a. refl;
+            free = k.optimistic.uncalm;
+          })
+
+          pub decides-committed : (q : View) → Tells (ring_done (clock + 1)) Nothing z (clock + 1) q → IsDecided good c n (commits.Committed (clock + 1)) v l q
+          decides-committed q d = let more : List TrailItem = done_stored (clock + 1) ∷ (b.more ++ (e.more ++ (p.0.more ++ early))) in
+              subst (IsDecided good c n (commits.Committed (clock + 1)) v l) (sym (d.2 ∙ ap (λ (y : View). view_after (ring_done (clock + 1)) d.0 y (clock + 1)) written))
+              (decided (commits.Committed (clock + 1)) (behind true [] more).history (behind true [] more).attempt no_read (behind true [] more).ring_commit (v.steps.rises + 1) more i.unentered refl (λ f. refl) (commits-at more))

@@ -11,66 +11,92 @@ use Rattle.stm_model.specs.declared.stop.Cause.{Cause}
 use Rattle.stm_model.specs.Memories.{is_empty}
 use Rattle.rule_base.specs.declared.entries.Cell.{Cell}
 use Rattle.rule_base.specs.declared.layout.At.TheVariants.{Clock}
+use Rattle.rule_base.specs.declared.seats.Who.{Who}
 use Rattle.rule_base.specs.declared.views.Act.TheVariants.{Load}
 use Rattle.rule_base.specs.declared.views.RingRead.{RingRead}
 use Rattle.rule_base.specs.declared.views.TrailItem.{TrailItem}
 use Rattle.rule_base.specs.declared.views.View.{View}
 use Rattle.rule_base.specs.Bridge.{items, public_history}
 use Rattle.rule_base.specs.GateSteps.{granted_at}
-use Rattle.rule_base.specs.History.{upto, word_now, Explains, Inside}
+use Rattle.rule_base.specs.History.{upto, word_now, Explains}
 use Rattle.rule_base.specs.InstallSteps.{settle, CanSettle, HasChecked}
 use Rattle.rule_base.specs.Own.{Own}
 use Rattle.rule_base.specs.StepKinds.{Tells}
 use Rattle.rule_ring.specs.RingSteps.{read_in}
 use Rattle.stm_rule.specs.declared.local.Local.{Local}
-use Rattle.stm_rule.specs.Attempts.{Keeps, IsInside}
+use Rattle.stm_rule.specs.declared.stm.Stm.{Stm}
+use Rattle.stm_rule.specs.Attempts.{Keeps, IsInside, own_of}
+use Rattle.stm_rule.specs.Callers.{Handle}
 use Rattle.stm_rule.specs.Findings.{FindsWithin}
-use Rattle.stm_rule.specs.RecordsKept.{cells_of}
+use Rattle.stm_rule.specs.RecordsKept.{Buffers, cells_of}
 use Rattle.stm_rule.specs.RingKept.{IsRing}
 use Rattle.tx_answers.specs.declared.answers.Irrev.TheVariants as irrevs
 use Rattle.tx_answers.specs.Answers.{Quits, IsOpaque}
 use Rattle.tx_answers.specs.Evidence.{Found}
-use Rattle.tx_answers.specs.Known.{Grows, known_of, granted_under, written_under, is_irrevocable, is_in, is_closing, wrote}
+use Rattle.tx_answers.specs.Known.{Known, Grows, IsRunning, known_of, granted_under, written_under, is_irrevocable, is_in, is_closing, wrote}
 use Rattle.tx_answers.specs.KnownLaws.{grows-same, grows-trans}
 use Rattle.stm_gate.specs.Granting.{IsAlone, Grants}
+use Rattle.stm_gate.specs.Knowing.{known, number}
 use Rattle.stm_gate.specs.Leaving.{CanLeave, left, last_steps}
 use Rattle.stm_gate.specs.LeavingLaws.{quits-left, finds-full, found-left, found-later, found-earlier}
 use Rattle.stm_gate.specs.Opacity.{opaque-at}
-use Rattle.alg_ring.specs.Calls.{Stores}
+use Rattle.stm_gate.specs.Told.{stands-on}
+use Rattle.alg_ring.specs.Calls.{HasAttempt, StandsTold, Stores}
+use Rattle.alg_ring.specs.Opening.{Opened, has-attempt}
 use Rattle.alg_ring.specs.Checking.{CanCheckToGrant, ChecksToGrant, Fails, passed_at}
 use Rattle.alg_ring.proofs.Checked.{passes-grows, finds-between}
-use Rattle.alg_ring.proofs.Ending as ending
 use Rattle.alg_ring.proofs.Entering.{some-cells}
 use Rattle.alg_ring.proofs.Finishing.{clock_found}
 use Rattle.alg_ring.proofs.Refuting.{refuted}
+use Rattle.alg_ring.proofs.Running as attempt
 
 none-written : (ws : List (ℕ × ℕ)) → not (is_empty ws) ≡ false → cells_of ws ≡ []
 none-written [] e = refl
 none-written (w ∷ ws) e = absurd cc
 
--- one that can be cancelled wasn't promoted
-pub ungranted : (good : List ℕ → Type 0) (c : Config) (n : ℕ) (l : Local) (v : View) (i : IsInside good c n l v) (named : v.gate.algorithm ≡ RingSw) (o : Own) → is_irrevocable (known_of v o) ≡ false → l.granted ≡ false
-ungranted good c n l v i named o revocable = by l.granted refl
-  where
-    by : (b : Bool) → l.granted ≡ b → b ≡ false
-    by true e = absurd (let f : true ≡ false = sym (ending.sure-granted good c n l v i named o e) ∙ revocable in cc)
-    by false e = refl
+-- an attempt that is alone and can be cancelled
+pub record CanGrant (good : List ℕ → Type 0) (c : Config) (n : ℕ) (l : Local) (v : View) : Type 0 where
+  pub attempt : HasAttempt good c n l v
+  pub plain : l.granted ≡ false
+  pub free : l.committing ≡ false
+  pub alone : IsAlone c.callers n v
 
-module _ (good : List ℕ → Type 0) (c : Config) (n : ℕ) (l : Local) (v : View) (i : IsInside good c n l v) (named : v.gate.algorithm ≡ RingSw) (plain : l.granted ≡ false) (alone : IsAlone c.callers n v) where
+pub can-grant : {K : Type 0} (good : K → List ℕ → Type 0) (stm : Stm K) {e : Handle K} {who : Who K} {v : View} {n : ℕ} {l : Local} → Opened good stm e who v n l → IsRunning (known e) → (known e).alg ≡ RingSw → is_irrevocable (known e) ≡ false → IsAlone stm.config.callers (number e) e.view
+    → CanGrant (good stm.rule) stm.config n l v
+can-grant {K} good stm {e} {who} {v} {n} {l} a running alg revocable alone = let at = has-attempt good stm a running.0 alg in record {
+  attempt = at;
+  plain = sym (attempt.sure-is (good stm.rule) stm.config n l v at) ∙ (ap is_irrevocable (sym a.knows) ∙ revocable);
+  free = ap (λ (k : Known). k.committing) (sym a.knows) ∙ running.1;
+  alone = subst (λ (w : View). IsAlone stm.config.callers n w) a.view (subst (λ (k : ℕ). IsAlone stm.config.callers k e.view) a.name alone);
+}
+
+module _ (good : List ℕ → Type 0) (c : Config) (n : ℕ) (l : Local) (v : View) (can : CanGrant good c n l v) where
   abbrev ws : List Cell
   ws = cells_of l.writes.items
 
+  abbrev o : Own
+  o = own_of l
+
+  i : IsInside good c n l v
+  i = attempt.inside good c n l v can.attempt
+
+  named : v.gate.algorithm ≡ RingSw
+  named = can.attempt.named
+
   ring : l.algorithm ≡ RingSw
-  ring = sym i.named ∙ named
+  ring = attempt.ring good c n l v can.attempt
 
   k : IsRing c l v
-  k = ending.ring-of good c n l v i named plain
+  k = attempt.kept good c n l v can.attempt can.plain
 
-  written-is : (o : Own) → o.buffered ≡ ws → written_under v.gate.algorithm v.gate.granted v o ≡ items ws
-  written-is o e = (λ j. written_under (named j) (k.optimistic.ungranted j) v o) ∙ ap items e
+  revocable : is_irrevocable (known_of v o) ≡ false
+  revocable = attempt.sure-is good c n l v can.attempt ∙ can.plain
+
+  pub kept-writes : Buffers c l
+  kept-writes = k.buffers
 
   pub may-settle : CanSettle c.callers n v
-  may-settle = record { holds = alone.holds; quiet = alone.quiet }
+  may-settle = record { holds = can.alone.holds; quiet = can.alone.quiet }
 
   -- the clock was loaded as the gate's holder
   abbrev settled_at : ℕ → RingRead → List TrailItem → View
@@ -94,8 +120,8 @@ module _ (good : List ℕ → Type 0) (c : Config) (n : ℕ) (l : Local) (v : Vi
     marked = λ e q. absurd (let f : true ≡ false = sym q ∙ i.unentered in cc);
   }
 
-  quits-settled : (o : Own) (clock : ℕ) (read : RingRead) (more : List TrailItem) → Quits (known_of v o) (known_of (left n (settled_at clock read more)) o)
-  quits-settled o clock read more = quits-left n v (settled_at clock read more) o (record { carried = record { named = refl; base = refl; installs = refl; trail = (more, refl) }; history = refl }) (let r = k.optimistic.rises in (omega arith, omega arith)) (ending.revocable good c n l v i named k o)
+  quits-settled : (clock : ℕ) (read : RingRead) (more : List TrailItem) → Quits (known_of v o) (known_of (left n (settled_at clock read more)) o)
+  quits-settled clock read more = quits-left n v (settled_at clock read more) o (record { carried = record { named = refl; base = refl; installs = refl; trail = (more, refl) }; history = refl }) (let r = k.optimistic.rises in (omega arith, omega arith)) revocable
 
   module _ (clock : ℕ) (w : View) (t : Tells settle FindsWithin v clock w) where
     settled-path : w ≡ settled_at clock v.ring_read (clock_found clock ∷ [])
@@ -105,9 +131,9 @@ module _ (good : List ℕ → Type 0) (c : Config) (n : ℕ) (l : Local) (v : Vi
     pub may-leave-full : CanLeave w
     may-leave-full = subst CanLeave (sym settled-path) (leaves-settled clock v.ring_read (clock_found clock ∷ []))
 
-    pub tells-full : CLOCK_LIMIT ≤ clock → (o : Own) (y : View) → y ≡ left n w → Grants good c n (irrevs.ClockFull clock) (known_of v o) (known_of y o)
-    tells-full high o y end = subst (λ (z : View). Grants good c n (irrevs.ClockFull clock) (known_of v o) (known_of z o)) (sym (end ∙ ap (left n) settled-path)) (
-      quits-settled o clock v.ring_read (clock_found clock ∷ []),
+    pub tells-full : CLOCK_LIMIT ≤ clock → (y : View) → y ≡ left n w → Grants good c n (irrevs.ClockFull clock) (known_of v o) (known_of y o)
+    tells-full high y end = subst (λ (z : View). Grants good c n (irrevs.ClockFull clock) (known_of v o) (known_of z o)) (sym (end ∙ ap (left n) settled-path)) (
+      quits-settled clock v.ring_read (clock_found clock ∷ []),
       ap asks_at_grant named,
       finds-full clock v (left n (settled_at clock v.ring_read (clock_found clock ∷ []))) o o high (found-left n Clock clock v (settled_at clock v.ring_read (clock_found clock ∷ [])) o o (clock_found clock ∷ [], refl, Load, (0, omega arith, refl))),
     )
@@ -145,9 +171,9 @@ module _ (good : List ℕ → Type 0) (c : Config) (n : ℕ) (l : Local) (v : Vi
       pub named-failed : u.gate.algorithm ≡ v.gate.algorithm
       named-failed = ap (λ (y : View). y.gate.algorithm) failed-path
 
-      pub tells-conflict : n < c.callers → (o : Own) (y : View) → y ≡ left n u → Grants good c n (irrevs.Conflict cause) (known_of v o) (known_of y o)
-      tells-conflict low o y end = subst (λ (z : View). Grants good c n (irrevs.Conflict cause) (known_of v o) (known_of z o)) (sym (end ∙ ap (left n) failed-path)) (
-        quits-settled o clock f.read (f.more ++ clock_found clock ∷ []),
+      pub tells-conflict : n < c.callers → (y : View) → y ≡ left n u → Grants good c n (irrevs.Conflict cause) (known_of v o) (known_of y o)
+      tells-conflict low y end = subst (λ (z : View). Grants good c n (irrevs.Conflict cause) (known_of v o) (known_of z o)) (sym (end ∙ ap (left n) failed-path)) (
+        quits-settled clock f.read (f.more ++ clock_found clock ∷ []),
         refuted c n None (known_of v o) (known_of (left n (settled_at clock f.read (f.more ++ clock_found clock ∷ []))) o) l.loaded w.attempt.start f.clock f.more cause named (sym (ap (λ (z : View). z.attempt.start) settled-path)) k.read
             (finds-between (known_of v o) (known_of (left n (settled_at clock f.read (f.more ++ clock_found clock ∷ []))) o) (last_steps n v.gate.holds v.gate.algorithm) f.more (clock_found clock ∷ [])
             (ap (λ (s : List TrailItem). last_steps n v.gate.holds v.gate.algorithm ++ s) (append_assoc f.more (clock_found clock ∷ []) v.steps.trail))) f.found f.refutes,
@@ -178,9 +204,6 @@ module _ (good : List ℕ → Type 0) (c : Config) (n : ℕ) (l : Local) (v : Vi
       pub may-store : u.gate.granted ≡ true
       may-store = ap (λ (y : View). y.gate.granted) passed-path
 
-      pub inside : Inside c.words ws
-      inside = k.buffers.inside
-
       sees-promoted : Explains (word_now (upto p.0.world.history start)) v.attempt.reads
       sees-promoted = subst (λ (b : Bool). Explains (word_now (upto p.0.world.history start)) (if b then record { at = v.ring_read.from; value = v.ring_read.value } ∷ v.attempt.reads else v.attempt.reads)) k.settled
           (subst (λ (y : View). Explains (word_now (upto p.0.world.history start)) (read_in y)) settled-path p.0.sees.sees)
@@ -199,8 +222,8 @@ module _ (good : List ℕ → Type 0) (c : Config) (n : ℕ) (l : Local) (v : Vi
               steps = record v.steps { trail = sym (append_assoc st.more (p.0.more ++ clock_found clock ∷ []) v.steps.trail) j };
             }))
 
-        pub stays-promoted : l.holds ≡ true → l.committing ≡ false → IsInside good c n promoted x
-        stays-promoted holds free = subst (IsInside good c n promoted) (sym stored-path) (record {
+        stays-promoted : IsInside good c n promoted x
+        stays-promoted = subst (IsInside good c n promoted) (sym stored-path) (record {
           phase = i.phase;
           named = i.named;
           built = i.built;
@@ -214,11 +237,11 @@ module _ (good : List ℕ → Type 0) (c : Config) (n : ℕ) (l : Local) (v : Vi
           reads_inside = i.reads_inside;
           looked = λ e. let h = i.looked e in record { low = h.low; seen = h.seen; unseen = h.unseen };
           granted = sym (ap (λ (a : Alg). closes_gate a && true) ring);
-          steady = λ e. free;
+          steady = λ e. can.free;
           keeps = subst (λ (a : Alg). Keeps c a true promoted (promoted_at ws more)) (sym ring) (record {
             granted = refl;
             calm = refl;
-            holds = holds;
+            holds = can.attempt.stands.holds ∙ can.alone.holds;
             clear = record { unlocked = k.optimistic.unlocked; unfixed = k.optimistic.unfixed; disowned = i.disowned (ap has_records ring); unwritten = k.optimistic.unwritten; uncommitted = k.optimistic.uncommitted; unentered = i.unentered };
             clean = λ e. none-written l.writes.items (sym k.buffers.wrote ∙ e);
             dirty = λ e. some-cells l.writes.items (sym k.buffers.wrote ∙ e);
@@ -227,29 +250,29 @@ module _ (good : List ℕ → Type 0) (c : Config) (n : ℕ) (l : Local) (v : Vi
           });
         })
 
-        pub holds-promoted : x.gate.holds ≡ v.gate.holds
+        holds-promoted : x.gate.holds ≡ v.gate.holds
         holds-promoted = ap (λ (y : View). y.gate.holds) stored-path
 
         -- what was seen, and found, up to the promotion
-        grows-promoted : (o : Own) → Grows (known_of v o) (known_of x o)
-        grows-promoted o = grows-trans (known_of v o) (known_of u o) (known_of x o)
+        grows-promoted : Grows (known_of v o) (known_of x o)
+        grows-promoted = grows-trans (known_of v o) (known_of u o) (known_of x o)
             (grows-trans (known_of v o) (known_of w o) (known_of u o)
             (subst (λ (y : View). Grows (known_of v o) (known_of y o)) (sym settled-path) (grows-same (known_of v o) (known_of (settled_at clock v.ring_read (clock_found clock ∷ [])) o) refl refl (clock_found clock ∷ []) refl refl refl))
             (passes-grows good c (granted_at w.gate.time w.gate) start w u p.0 o o refl refl))
             (grows-same (known_of u o) (known_of x o) (ap (λ (y : View). public_history y.history.seen) st.is) (ap (λ (y : View). y.history.front) st.is) st.more (ap (λ (y : View). y.steps.trail) st.is) refl refl)
 
-        found-promoted : (o : Own) → Found Clock start (known_of v o) (known_of x o)
-        found-promoted o = found-later Clock start (known_of v o) (known_of u o) (known_of x o)
+        found-promoted : Found Clock start (known_of v o) (known_of x o)
+        found-promoted = found-later Clock start (known_of v o) (known_of u o) (known_of x o)
             (found-earlier Clock start (known_of v o) (known_of w o) (known_of u o) (p.2.0, p.2.1, p.2.2.0, p.2.2.1) (clock_found clock ∷ []) (ap (λ (y : View). y.steps.trail) settled-path))
             st.more (ap (λ (y : View). y.steps.trail) st.is)
 
-        pub tells-granted : (o : Own) → o.committing ≡ false → o.buffered ≡ ws → Grants good c n irrevs.Granted (known_of v o) (known_of x o)
-        tells-granted o free same = record {
+        tells-granted : Grants good c n irrevs.Granted (known_of v o) (known_of x o)
+        tells-granted = record {
           continues = record {
             running = ap (λ (y : View). is_in y.gate.phase) stored-path ∙ ap is_in i.phase;
             closing = ap (λ (y : View). is_closing y.gate.phase) stored-path ∙ ap is_closing i.phase;
             made = ap (λ (y : View). public_history y.history.made) stored-path;
-            grows = grows-promoted o;
+            grows = grows-promoted;
             alg = ap (λ (y : View). y.gate.algorithm) stored-path;
             base = ap (λ (y : View). y.steps.rises_at_begin) stored-path;
             rises = (let a : x.steps.rises ≡ v.steps.rises = ap (λ (y : View). y.steps.rises) stored-path in (omega arith, omega arith));
@@ -257,14 +280,21 @@ module _ (good : List ℕ → Type 0) (c : Config) (n : ℕ) (l : Local) (v : Vi
             installs = ap (λ (y : View). reverse y.steps.installs) stored-path;
           };
           still = ap (λ (y : View). y.steps.rises) stored-path;
-          uncommitted = free;
-          log = ap (λ (y : View). (known_of y o).log) stored-path ∙ ((λ j. record { reads = items v.attempt.reads; writes = written_under (named j) true (promoted_at ws more) o }) ∙ (λ j. record { reads = items v.attempt.reads; writes = sym (written-is o same) j }));
+          uncommitted = can.free;
+          log = ap (λ (y : View). (known_of y o).log) stored-path ∙ ((λ j. record { reads = items v.attempt.reads; writes = written_under (named j) true (promoted_at ws more) o }) ∙ (λ j. record { reads = items v.attempt.reads; writes = sym (attempt.written-is good c n l v can.attempt can.plain) j }));
           sure = ap (λ (y : View). is_irrevocable (known_of y o)) stored-path ∙ ap (λ (a : Alg). is_sure a (granted_under a (granted_at clock v.gate) v.lock) (wrote (known_of (promoted_at ws more) o))) named;
           opaque = subst (λ (y : View). IsOpaque good c n (known_of y o)) (sym stored-path) (opaque-at good c n (promoted_at ws more) o start refl refl p.0.sees.begins.legal p.0.sees.begins.below sees-promoted i.reads_inside);
-          before = λ e. absurd (let f : true ≡ false = sym e ∙ ending.revocable good c n l v i named k o in cc);
+          before = λ e. absurd (let f : true ≡ false = sym e ∙ revocable in cc);
           now = λ e. (
             ap (λ (y : View). granted_under y.gate.algorithm y.gate y.lock) stored-path ∙ ap (λ (a : Alg). granted_under a (granted_at clock v.gate) v.lock) named,
-            subst (λ (s : ℕ). Found Clock s (known_of v o) (known_of x o)) (sym (ap (λ (y : View). y.attempt.start) stored-path)) (found-promoted o),
+            subst (λ (s : ℕ). Found Clock s (known_of v o) (known_of x o)) (sym (ap (λ (y : View). y.attempt.start) stored-path)) found-promoted,
           );
-          alone = λ e q. (ap (λ (y : View). y.gate.holds) stored-path ∙ alone.holds, subst (λ (y : View). HasChecked c.callers n y) (sym stored-path) alone.quiet);
+          alone = λ e q. (ap (λ (y : View). y.gate.holds) stored-path ∙ can.alone.holds, subst (λ (y : View). HasChecked c.callers n y) (sym stored-path) can.alone.quiet);
+        }
+
+        -- THE PROMOTION
+        pub promotes : StandsTold good c n (Grants good c n irrevs.Granted) l v promoted x
+        promotes = record {
+          stands = stands-on good c n l promoted v x i.phase can.attempt.stands refl refl can.attempt.stands.lengths holds-promoted stays-promoted;
+          told = tells-granted;
         }

@@ -14,6 +14,7 @@ pub mod Reading
 pub mod Writing
 pub mod Checked
 pub mod Entering
+pub mod Running
 pub mod Finishing
 pub mod Committing
 pub mod Granting

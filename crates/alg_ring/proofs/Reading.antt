@@ -14,7 +14,6 @@ use Rattle.rule_base.specs.declared.layout.At.TheVariants.{Clock, Done, Heap}
 use Rattle.rule_base.specs.declared.layout.TheConstants.{SLOT_WORDS}
 use Rattle.rule_base.specs.declared.views.Act.TheVariants.{Load}
 use Rattle.rule_base.specs.declared.views.Attempt.{Attempt}
-use Rattle.rule_base.specs.declared.views.Phase.TheVariants.{In}
 use Rattle.rule_base.specs.declared.views.TrailItem.{TrailItem}
 use Rattle.rule_base.specs.declared.views.View.{View}
 use Rattle.rule_base.specs.Bridge.{items, public_history}
@@ -26,11 +25,10 @@ use Rattle.rule_ring.specs.RingSteps.{ring_load}
 use Rattle.rule_ring.specs.SlotFilter.{slot_filter}
 use Rattle.tx_logs.specs.Filters.{address_word}
 use Rattle.stm_rule.specs.declared.local.Local.{Local}
-use Rattle.stm_rule.specs.Attempts.{Keeps, IsInside, IsOutside, SameLengths, Stands, ended, own_of}
+use Rattle.stm_rule.specs.Attempts.{Keeps, IsInside, IsOutside, ended}
 use Rattle.stm_rule.specs.RecordsKept.{cells_of}
 use Rattle.stm_rule.specs.RingKept.{IsRing}
-use Rattle.tx_answers.specs.declared.answers.Read.{Read}
-use Rattle.tx_answers.specs.declared.answers.Read.TheVariants.{Value, Conflict, Full}
+use Rattle.tx_answers.specs.declared.answers.Read.TheVariants.{Value, Conflict}
 use Rattle.tx_answers.specs.Answers.{HasRead, GoesOn, Quits, StartMoves}
 use Rattle.tx_answers.specs.Causes.{Conflicts, has_item, reads_full}
 use Rattle.tx_answers.specs.Known.{Grows, known_of, written_under, is_irrevocable, is_in, is_closing}
@@ -38,7 +36,6 @@ use Rattle.stm_gate.specs.Leaving.{left}
 use Rattle.stm_gate.specs.LeavingLaws.{quits-left, found-left}
 use Rattle.stm_gate.specs.Logging.{log_of, reads-logged}
 use Rattle.stm_gate.specs.Opacity.{opaque-at, later-seen}
-use Rattle.stm_gate.specs.Told.{stands-on}
 use Rattle.alg_ring.specs.Calls.{LoadsNew}
 use Rattle.alg_ring.specs.Checking.{CanCheck, Checks, Passes, passed_at, Fails}
 use Rattle.alg_ring.proofs.Buffering.{untouched-items}
@@ -207,20 +204,3 @@ module _ (good : List ℕ → Type 0) (c : Config) (n a : ℕ) (l : Local) (v : 
         refl,
         λ o quiet buffered. subst (λ (y : View). HasRead good c n a (Conflict cause) (known_of v o) (known_of y o)) (sym (is ∙ ap (left n) q.is)) (quits o, why o, (let e = q.others in omega arith), never-full o),
       )
-
--- THE DESCRIPTOR behind the load of a word that it had not written
-module _ (good : List ℕ → Type 0) (c : Config) (n a : ℕ) (l : Local) (v : View) (m : Local) (w : View) where
-  pub own-loaded : (r : Read) → LoadsNew good c n a r l v m w → own_of m ≡ own_of l
-  own-loaded (Value x) h = ap own_of h.1
-  own-loaded (Conflict cause) h = ap own_of h.1
-  own-loaded (Full limit) h = absurd h
-
-  pub has-loaded : (r : Read) → LoadsNew good c n a r l v m w → l.committing ≡ false → HasRead good c n a r (known_of v (own_of l)) (known_of w (own_of l))
-  has-loaded (Value x) h quiet = h.3 (own_of l) quiet refl
-  has-loaded (Conflict cause) h quiet = h.2 (own_of l) quiet refl
-  has-loaded (Full limit) h quiet = absurd h
-
-  pub stands-loaded : (r : Read) → LoadsNew good c n a r l v m w → v.gate.phase ≡ In → Stands good c n l v → Stands good c n m w
-  stands-loaded (Value x) h inside s = stands-on good c n l m v w inside s (ap (λ (q : Local). q.running) h.1) (ap (λ (q : Local). q.holds) h.1) (subst SameLengths (sym h.1) s.lengths) h.2 h.0
-  stands-loaded (Conflict cause) h inside s = subst (λ (q : Local). Stands good c n q w) (sym h.1) (record { holds = sym h.0.reopened; lengths = s.lengths; by = h.0 })
-  stands-loaded (Full limit) h inside s = absurd h

@@ -1,27 +1,30 @@
 -- What the parts of a call of RingSW ask and tell.
-use Rattle.std.specs.Prelude.{ℕ, ◌≡◌, ◌+◌, ◌≤◌, ◌++◌, true, false, List, [], ◌∷◌}
+use Rattle.std.specs.Prelude.{ℕ, ◌≡◌, ◌+◌, ◌≤◌, ◌++◌, true, false, List, [], ◌∷◌, Option, Some, None}
 use Rattle.stm_model.specs.Memories.{Once}
 use Rattle.stm_model.specs.declared.alg.Alg.TheVariants.{RingSw}
 use Rattle.stm_model.specs.declared.config.Config.{Config}
 use Rattle.stm_model.specs.declared.config.TheConstants.{CLOCK_LIMIT}
 use Rattle.rule_base.specs.declared.entries.Entry.{Entry}
+use Rattle.rule_base.specs.declared.layout.At.TheVariants.{Lock}
+use Rattle.rule_base.specs.declared.views.Act.TheVariants.{Store}
 use Rattle.rule_base.specs.declared.views.TrailItem.{TrailItem}
 use Rattle.rule_base.specs.declared.views.View.{View}
 use Rattle.rule_base.specs.Bridge.{of_words}
 use Rattle.rule_base.specs.History as rules
 use Rattle.rule_base.specs.Own.{Own}
 use Rattle.rule_base.specs.World.{World}
-use Rattle.rule_ring.specs.RingSteps.{RingEnters, HasTurn, HasEntered, ring_entry, no_read, no_turn}
-use Rattle.rule_seq.specs.CglSteps.{fresh_lock}
+use Rattle.rule_ring.specs.RingSteps.{RingEnters, CanRingFree, HasTurn, HasEntered, ring_entry, no_read, no_turn}
+use Rattle.rule_seq.specs.CglSteps.{fresh_lock, no_lock}
 use Rattle.tx_logs.specs.LogStates.{LogState}
 use Rattle.stm_rule.specs.declared.local.Local.{Local}
-use Rattle.stm_rule.specs.Attempts.{IsInside, IsOutside, ended}
+use Rattle.stm_rule.specs.Attempts.{IsInside, IsOutside, Stands, ended, own_of}
 use Rattle.stm_rule.specs.RecordsKept.{Buffers, cells_of}
 use Rattle.tx_answers.specs.declared.answers.Commit.{Commit}
 use Rattle.tx_answers.specs.declared.answers.Read.{Read}
 use Rattle.tx_answers.specs.declared.answers.Read.TheVariants.{Value, Conflict, Full}
-use Rattle.tx_answers.specs.Answers.{HasRead, Commits}
-use Rattle.tx_answers.specs.Known.{known_of}
+use Rattle.tx_answers.specs.Answers.{HasRead, KeepsRule, Commits}
+use Rattle.tx_answers.specs.Known.{Known, known_of, is_irrevocable, wrote}
+use Rattle.stm_gate.specs.Leaving.{CanLeave, left}
 use Rattle.alg_ring.specs.Checking.{IsFilterOf}
 
 -- what is to be written back is stored, and nothing else changed
@@ -40,6 +43,10 @@ pub record CanWriteBack (c : Config) (log : LogState) (v : View) : Type 0 where
 pub record Stores (log : LogState) (v w : View) : Type 0 where
   pub more : List TrailItem
   pub is : w ≡ record v { attempt = record v.attempt { stores = cells_of log.items ++ v.attempt.stores }; steps = record v.steps { trail = more ++ v.steps.trail } }
+
+-- the lock was freed, and nothing is left of the turn
+abbrev pub freed : View → View
+freed v = record v { lock = no_lock; ring_commit = no_turn; steps = record v.steps { trail = record { place = Lock; act = Store 0; found = None } ∷ v.steps.trail } }
 
 module _ (good : List ℕ → Type 0) (c : Config) where
   -- the attempt has its turn, and its start is the clock
@@ -89,19 +96,48 @@ module _ (good : List ℕ → Type 0) (c : Config) where
     LoadsNew a (Conflict cause) l v m w = IsOutside w × (m ≡ ended (record l { loaded = m.loaded })) × ((o : Own) → o.committing ≡ false → o.buffered ≡ cells_of l.writes.items → HasRead good c n a (Conflict cause) (known_of v o) (known_of w o))
     LoadsNew a (Full limit) l v m w = ⊥
 
-    -- the attempt has the lock, in a view v that it had before; and what it writes keeps the user's rule
-    pub record CanFinish (l : Local) (v : View) : Type 0 where
-      pub before : View
-      pub attempt : IsInside good c n l before
-      pub ring : (l.algorithm ≡ RingSw) × (l.granted ≡ false) × (l.wrote ≡ true)
-      pub holds : l.holds ≡ before.gate.holds
+    -- an attempt, between two calls
+    pub record HasAttempt (l : Local) (v : View) : Type 0 where
+      pub stands : Stands good c n l v
+      pub running : (known_of v (own_of l)).running ≡ true
+      pub named : (known_of v (own_of l)).alg ≡ RingSw
+
+    -- a call told its caller so, and left a descriptor that stands
+    pub record StandsTold (tells : Known → Known → Type 0) (l : Local) (v : View) (m : Local) (w : View) : Type 0 where
+      pub stands : Stands good c n m w
+      pub told : tells (known_of v (own_of l)) (known_of w (own_of m))
+
+    -- it can be cancelled, wrote something, and keeps the user's rule
+    pub record HasWrites (l : Local) (v : View) : Type 0 where
+      pub attempt : HasAttempt l v
+      pub revocable : is_irrevocable (known_of v (own_of l)) ≡ false
+      pub wrote : wrote (known_of v (own_of l)) ≡ true
+      pub keeps : KeepsRule good c n (known_of v (own_of l))
+
+    -- it had this view before, and took the lock
+    pub record TookTurn (before : View) (l : Local) (v : View) : Type 0 where
+      pub has : HasWrites l before
       pub more : List TrailItem
       pub is : v ≡ record before { lock = fresh_lock RingSw; ring_commit = no_turn; steps = record before.steps { trail = more ++ before.steps.trail } }
-      pub keeps : rules.Keeps (of_words good c.words) before.attempt.reads (cells_of l.writes.items)
 
-    -- the commit is over, one way or the other
-    pub record Finishes (result : Commit) (l : Local) (v : View) (m : Local) (w : View) : Type 0 where
-      pub outside : IsOutside w
-      pub idle : m ≡ ended l
-      pub commits : (before : View) (more : List TrailItem) → v ≡ record before { lock = fresh_lock RingSw; ring_commit = no_turn; steps = record before.steps { trail = more ++ before.steps.trail } } → IsInside good c n l before
-          → (o : Own) → o.buffered ≡ cells_of l.writes.items → Commits good c n result (known_of before o) (known_of w o)
+    -- what `turn` tells: it has its turn, or this is the answer
+    abbrev pub Turns : Option Commit → Local → View → Local → View → Type 0
+    Turns None l v m w = (m ≡ l) × TookTurn v l w
+    Turns (Some answer) l v m w = StandsTold (Commits good c n answer) l v m w
+
+    abbrev pub CanFinish : Local → View → Type 0
+    CanFinish l v = (before : View) × TookTurn before l v
+
+    -- what `finish` tells of the whole commit: it is over, one way or the other
+    abbrev pub Finishes : Commit → Local → View → Local → View → Type 0
+    Finishes answer l v m w = (before : View) → TookTurn before l v → StandsTold (Commits good c n answer) l before m w
+
+    -- the commit came to this: so it is once the lock is free and the attempt has left
+    pub record IsDecided (answer : Commit) (before : View) (l : Local) (v : View) : Type 0 where
+      pub free : CanRingFree v
+      pub leave : CanLeave (freed v)
+      pub gate : v.gate ≡ before.gate
+      pub commits : Commits good c n answer (known_of before (own_of l)) (known_of (left n (freed v)) (own_of l))
+
+    abbrev pub Decides : Commit → Local → View → View → Type 0
+    Decides answer l v w = (before : View) → TookTurn before l v → IsDecided answer before l w

@@ -2,20 +2,18 @@
 //! that no entry since its start wrote what it has read.
 ghost use Rattle.std.specs.Prelude.{◌≡◌, ℕ, ◌<◌, true, false, None};
 ghost use Rattle.rule_base.specs.History.{Inside};
-ghost use Rattle.rule_ring.specs.RingSteps.{CanRingLock, ring_lock};
 ghost use Rattle.stm_model.specs.Memories.{item_at};
 ghost use Rattle.stm_model.specs.declared.alg.Alg.TheVariants.{RingSw};
 ghost use Rattle.stm_rule.specs.Attempts.{IsInside};
 ghost use Rattle.stm_rule.specs.Callers.{IsOf, IsSameCaller, IsSeatOf};
-ghost use Rattle.stm_rule.specs.Findings.{FindsLock};
-ghost use Rattle.stm_rule.specs.Kept.{SeatTells, IsSameSeat, view_of};
+ghost use Rattle.stm_rule.specs.Kept.{IsSameSeat, view_of};
 ghost use Rattle.stm_rule.specs.RecordsKept.{cells_of};
 ghost use Rattle.tx_answers.specs.Answers.{HasRead, HasWritten, KeepsRule, Commits, Cancels, Irrevs};
 ghost use Rattle.tx_answers.specs.Known.{IsRunning, is_irrevocable};
 ghost use Rattle.stm_gate.specs.Granting.{IsAlone, Grants};
 ghost use Rattle.stm_gate.specs.Knowing.{known, number};
 ghost use Rattle.stm_gate.specs.Starts.{CanBegin, Starts};
-ghost use Rattle.alg_ring.specs.Calls.{LoadsNew, CanFinish, Finishes, CanEnter, Enters, CanWriteBack, WritesBack, Stores};
+ghost use Rattle.alg_ring.specs.Calls.{LoadsNew, HasWrites, StandsTold, Turns, CanFinish, Finishes, Decides, CanEnter, Enters, CanWriteBack, WritesBack, Stores};
 
 use crate::check::{check, check_to_grant};
 use rule_base::layout::SLOT_WORDS;
@@ -133,31 +131,56 @@ pub fn commit<K: MemRule>(desc: &mut Desc<K>, stm: &Stm<K>) -> Commit
         leave(&mut desc.seat, &mut desc.local, stm, caller);
         return Commit::ReadOnly { time };
     }
-    let found = turn(&mut desc.seat, stm, caller);
+    commit_writes(&mut desc.seat, &mut desc.local, stm, caller)
+}
+
+/// Commits what the attempt wrote. The steps of `turn`, and where it has its turn those of `finish`.
+fn commit_writes<K: MemRule>(
+    seat: &mut Token<K>,
+    local: &mut Local,
+    stm: &Stm<K>,
+    caller: usize,
+) -> Commit
+    requires seat { IsSeatOf stm.now caller seat.old }
+    requires caller { caller < stm.now.config.callers }
+    requires wrote { HasWrites (K.good stm.now.rule) stm.now.config caller local.old (view_of seat.old) }
+    ensures same { IsSameSeat seat.old seat.new × (seat.new.me.0 ≡ record seat.old.me.0 { view = view_of seat.new }) }
+    ensures commits { StandsTold (K.good stm.now.rule) stm.now.config caller (Commits (K.good stm.now.rule) stm.now.config caller result) local.old (view_of seat.old) local.new (view_of seat.new) }
+{
+    match turn(seat, local, stm, caller) {
+        Some(again) => again,
+        None => finish(seat, local, stm, caller),
+    }
+}
+
+/// The first part of a commit: takes the lock, which gives the attempt its turn, or answers `Again` where another
+/// caller has it. One step.
+pub fn turn<K: MemRule>(
+    seat: &mut Token<K>,
+    local: &mut Local,
+    stm: &Stm<K>,
+    caller: usize,
+) -> Option<Commit>
+    requires seat { IsSeatOf stm.now caller seat.old }
+    requires caller { caller < stm.now.config.callers }
+    requires wrote { HasWrites (K.good stm.now.rule) stm.now.config caller local.old (view_of seat.old) }
+    ensures same { IsSameSeat seat.old seat.new × (seat.new.me.0 ≡ record seat.old.me.0 { view = view_of seat.new }) }
+    ensures turns { Turns (K.good stm.now.rule) stm.now.config caller result local.old (view_of seat.old) local.new (view_of seat.new) }
+{
+    let found = steps::lock(stm, seat, caller);
     if found != 0 {
-        desc.local.committing = true;
-        return Commit::Again {
+        local.committing = true;
+        return Some(Commit::Again {
             word: 1,
             had: 0,
             now: found,
-        };
+        });
     }
-    finish(&mut desc.seat, &mut desc.local, stm, caller)
+    None
 }
 
-/// Exchanges the lock, 0 for the own word, and answers the word found: 0 gives the caller its turn. One step.
-pub fn turn<K: MemRule>(seat: &mut Token<K>, stm: &Stm<K>, caller: usize) -> u64
-    requires seat { IsSeatOf stm.now caller seat.old }
-    requires caller { caller < stm.now.config.callers }
-    requires view { CanRingLock (view_of seat.old) }
-    ensures same { IsSameSeat seat.old seat.new }
-    ensures step { SeatTells (ring_lock caller) (FindsLock stm.now.config caller) seat.old.me.0 result seat.new.me.0 }
-{
-    steps::lock(stm, seat, caller)
-}
-
-/// Commits an attempt that has its turn: it loads the clock and checks, stores the filter of its writes and its entry,
-/// and writes back. The checks' steps, and 22, and one for each item of the write log.
+/// The second part of a commit, of an attempt that has its turn: all that follows the lock. The steps of a check, and
+/// 22, and one for each item of the write log.
 pub fn finish<K: MemRule>(
     seat: &mut Token<K>,
     local: &mut Local,
@@ -170,23 +193,37 @@ pub fn finish<K: MemRule>(
     ensures same { IsSameSeat seat.old seat.new × (seat.new.me.0 ≡ record seat.old.me.0 { view = view_of seat.new }) }
     ensures finishes { Finishes (K.good stm.now.rule) stm.now.config caller result local.old (view_of seat.old) local.new (view_of seat.new) }
 {
+    let answer = commit_locked(seat, local, stm, caller);
+    steps::free(stm, seat, caller);
+    leave(seat, local, stm, caller);
+    answer
+}
+
+/// Loads the clock and checks; where neither stands against it, stores the filter of the writes and the entry, and
+/// writes back. The lock is still to be freed.
+fn commit_locked<K: MemRule>(
+    seat: &mut Token<K>,
+    local: &Local,
+    stm: &Stm<K>,
+    caller: usize,
+) -> Commit
+    requires seat { IsSeatOf stm.now caller seat.old }
+    requires caller { caller < stm.now.config.callers }
+    requires turn { CanFinish (K.good stm.now.rule) stm.now.config caller local.now (view_of seat.old) }
+    ensures same { IsSameSeat seat.old seat.new × (seat.new.me.0 ≡ record seat.old.me.0 { view = view_of seat.new }) }
+    ensures decides { Decides (K.good stm.now.rule) stm.now.config caller result local.now (view_of seat.old) (view_of seat.new) }
+{
     let clock = steps::tick(stm, seat, caller);
     if clock >= CLOCK_LIMIT {
-        steps::free(stm, seat, caller);
-        leave(seat, local, stm, caller);
         return Commit::ClockFull { clock };
     }
     if let Err(cause) = check(seat, stm, caller, local.start, &local.loaded) {
-        steps::free(stm, seat, caller);
-        leave(seat, local, stm, caller);
         return Commit::Conflict(cause);
     }
     let time = clock + 1;
     enter(seat, local, stm, caller, time);
     write_back(seat, &local.writes, stm, caller);
     steps::done(stm, seat, caller, time);
-    steps::free(stm, seat, caller);
-    leave(seat, local, stm, caller);
     Commit::Committed { time }
 }
 

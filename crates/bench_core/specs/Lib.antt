@@ -1,4 +1,4 @@
-pub mod Commands
+pub mod Apart
 pub mod Messages
 pub mod Outcomes
 pub mod Statuses

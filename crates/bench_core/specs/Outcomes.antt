@@ -11,11 +11,15 @@ use Rattle.stm_text.specs.Grammar.{workload_of}
 use Rattle.stm_text.specs.Reports.{report_bytes}
 use Rattle.bench_core.specs.declared.status.Status.{Status}
 use Rattle.bench_core.specs.declared.status.Status.TheVariants.{Ok as Done, Usage, Refused, ReadFault, WriteFault, Memory, ClockFull}
-use Rattle.bench_core.specs.Commands.{Asks}
 use Rattle.bench_core.specs.Messages.{usage_line, read_fault_line, refused_line, clock_full_line}
 use Rattle.stm_driver.specs.Runs.{IsShown, IsFull, IsTraced, IsCut}
 use Rattle.stm_trace.specs.declared.line.Line.{Line}
 use Rattle.stm_trace.specs.Texts.{trace_bytes}
+use Rattle.stm_gen.specs.Generated.{generated}
+use Rattle.stm_gen.specs.Summaries.{summary_bytes, summary_for, summary_of}
+use Rattle.stm_words.specs.declared.command.Command.{Command}
+use Rattle.stm_words.specs.declared.command.Command.TheVariants as commands
+use Rattle.stm_words.specs.Asking.{Asks, texts_of}
 
 -- the run went to its end, and what is said is a report that replays the workload and shows the closed memory's history
 pub record RanToEnd (w : Workload) (closed : Ended) (said : List ℕ) : Type 0 where
@@ -80,80 +84,125 @@ SaidOf m text ReadFault closed said = ⊥
 SaidOf m text WriteFault closed said = ⊥
 SaidOf m text Memory closed said = ⊥
 
+-- the run of the workload that is drawn went to its end, and what is said is the summary of a report that replays it and shows the closed memory's history; the number of transactions alone tells which
+pub record RanToSummary (n t seed : ℕ) (closed : Ended) (said : List ℕ) : Type 0 where
+  pub report : Report
+  pub shown : IsShown (generated n t seed) report closed
+  pub is : said ≡ summary_bytes (summary_of report)
+  pub counted : summary_of report ≡ summary_for n
+
+-- what is said of a workload that is drawn: no fault of the text, no full clock
+abbrev pub SaidOfMade : ℕ → ℕ → ℕ → Status → Option Ended → List ℕ → Type 0
+SaidOfMade n t seed Done closed said = MatchOption closed ⊥ (λ c. RanToSummary n t seed c said)
+SaidOfMade n t seed (Refused line code) closed said = ⊥
+SaidOfMade n t seed (ClockFull clock) closed said = ⊥
+SaidOfMade n t seed Usage closed said = ⊥
+SaidOfMade n t seed ReadFault closed said = ⊥
+SaidOfMade n t seed WriteFault closed said = ⊥
+SaidOfMade n t seed Memory closed said = ⊥
+
 -- what is left behind: the closed memory of this call's run, or what was there
 abbrev pub kept : Option Ended → Option Ended → Option Ended
 kept None last = last
 kept (Some closed) last = Some closed
 
-module _ {S : Type 0} (left : S → Option (List ℕ)) (faults : S → ℕ) (words : List (Bor (List ℕ))) (source source' : S) where
-  -- the words ask for no command; the source is untouched
-  pub record Misused (said : List ℕ) : Type 0 where
-    pub words_are : (m : Mode) → Asks m words → ⊥
-    pub left_alone : left source' ≡ left source
+module _ {S : Type 0} (left : S → Option (List ℕ)) (faults : S → ℕ) (source source' : S) where
+  pub record IsUntouched : Type 0 where
+    pub same : left source' ≡ left source
     pub calm : faults source' ≡ faults source
-    pub is : said ≡ usage_line
 
+  -- the source failed, and what was taken until then is gone
   pub record Unread (said : List ℕ) : Type 0 where
-    pub command : Mode
-    pub words_are : Asks command words
     pub cause : Rose (faults source) (faults source')
-    -- what was taken until then is gone
     pub lost : TookSome 16777217 (left source) (left source')
     pub is : said ≡ read_fault_line
 
   -- all that was left was read, or its first 16,777,217 bytes, and nothing more is gone from the source
-  pub record HasRead (status : Status) (closed : Option Ended) (said : List ℕ) : Type 0 where
-    pub command : Mode
-    pub words_are : Asks command words
+  pub record HasRead (m : Mode) (status : Status) (closed : Option Ended) (said : List ℕ) : Type 0 where
     pub text : List ℕ
     pub read : IsText 16777217 (left source) text
     pub within : length text ≤ 16777217
     pub taken : Took (left source) (left source') text
     pub calm : faults source' ≡ faults source
-    pub of : SaidOf command text status closed said
+    pub of : SaidOf m text status closed said
 
-  -- what is to be written by each status, and why
-  abbrev pub Says : Status → Option Ended → List ℕ → Type 0
-  Says Usage closed said = Misused said × (closed ≡ None)
-  Says ReadFault closed said = Unread said × (closed ≡ None)
-  Says Done closed said = HasRead Done closed said
-  Says (Refused line code) closed said = HasRead (Refused line code) closed said
-  Says (ClockFull clock) closed said = HasRead (ClockFull clock) closed said
-  Says WriteFault closed said = ⊥
-  Says Memory closed said = ⊥
+  -- what is to be written by a command that reads a text
+  abbrev pub SaysRead : Mode → Status → Option Ended → List ℕ → Type 0
+  SaysRead m Done closed said = HasRead m Done closed said
+  SaysRead m (Refused line code) closed said = HasRead m (Refused line code) closed said
+  SaysRead m (ClockFull clock) closed said = HasRead m (ClockFull clock) closed said
+  SaysRead m ReadFault closed said = Unread said × (closed ≡ None)
+  SaysRead m Usage closed said = ⊥
+  SaysRead m WriteFault closed said = ⊥
+  SaysRead m Memory closed said = ⊥
 
-  module _ {K : Type 0} (held : K → Option (List ℕ)) (broken : K → ℕ) (sink sink' : K) (last last' : Option Ended) where
-    -- the whole text was written, no put failed, and the closed memory of the run is kept, where there was a run
-    pub record Wrote (status : Status) : Type 0 where
-      pub said : List ℕ
-      pub closed : Option Ended
-      pub says : Says status closed said
-      pub leaves : last' ≡ kept closed last
-      pub written : Gained (held sink) (held sink') said
-      pub whole : broken sink' ≡ broken sink
+  -- what is to be written by each command; `gen` reads nothing
+  abbrev pub SaysFor : Command → Status → Option Ended → List ℕ → Type 0
+  SaysFor commands.Run status closed said = SaysRead Run status closed said
+  SaysFor commands.Step status closed said = SaysRead Stepwise status closed said
+  SaysFor (commands.Gen n t seed) status closed said = IsUntouched × SaidOfMade n t seed status closed said
 
-    -- the sink failed, and holds a prefix of the text that another status was to write
-    pub record WroteSome : Type 0 where
-      pub status : Status
-      pub said : List ℕ
-      pub closed : Option Ended
-      pub says : Says status closed said
-      pub leaves : last' ≡ last
-      pub some : GainedSome (held sink) (held sink') said
-      pub cause : Rose (broken sink) (broken sink')
+  module _ (words : List (Bor (List ℕ))) where
+    -- the words ask for no command
+    pub record Misused (said : List ℕ) : Type 0 where
+      pub words_are : (command : Command) → Asks (texts_of words) command → ⊥
+      pub untouched : IsUntouched
+      pub is : said ≡ usage_line
 
-    -- nothing was written, and at most the first 16,777,217 bytes of the source were taken
-    pub record WroteNothing : Type 0 where
+    -- the words ask for this command and no other, and this is to be written by it
+    pub record Asked (status : Status) (closed : Option Ended) (said : List ℕ) : Type 0 where
+      pub command : Command
+      pub words_are : Asks (texts_of words) command
+      pub alone : (other : Command) → Asks (texts_of words) other → other ≡ command
+      pub says : SaysFor command status closed said
+
+    -- what is to be written by each status, and why
+    abbrev pub Says : Status → Option Ended → List ℕ → Type 0
+    Says Usage closed said = Misused said × (closed ≡ None)
+    Says ReadFault closed said = Asked ReadFault closed said
+    Says Done closed said = Asked Done closed said
+    Says (Refused line code) closed said = Asked (Refused line code) closed said
+    Says (ClockFull clock) closed said = Asked (ClockFull clock) closed said
+    Says WriteFault closed said = ⊥
+    Says Memory closed said = ⊥
+
+    -- a call that was refused memory took at most the first 16,777,217 bytes, and under `gen` none
+    pub record Spared : Type 0 where
       pub lost : TookSome 16777217 (left source) (left source')
-      pub nothing : held sink' ≡ held sink
-      pub leaves : last' ≡ last
-      pub whole : broken sink' ≡ broken sink
+      pub drawn : (n t seed : ℕ) → Asks (texts_of words) (commands.Gen n t seed) → IsUntouched
 
-    abbrev pub IsOutcome : Status → Type 0
-    IsOutcome Done = Wrote Done
-    IsOutcome Usage = Wrote Usage
-    IsOutcome (Refused line code) = Wrote (Refused line code)
-    IsOutcome ReadFault = Wrote ReadFault
-    IsOutcome WriteFault = WroteSome
-    IsOutcome Memory = WroteNothing
-    IsOutcome (ClockFull clock) = Wrote (ClockFull clock)
+    module _ {K : Type 0} (held : K → Option (List ℕ)) (broken : K → ℕ) (sink sink' : K) (last last' : Option Ended) where
+      -- the whole text was written, no put failed, and the closed memory of the run is kept, where there was a run
+      pub record Wrote (status : Status) : Type 0 where
+        pub said : List ℕ
+        pub closed : Option Ended
+        pub says : Says status closed said
+        pub leaves : last' ≡ kept closed last
+        pub written : Gained (held sink) (held sink') said
+        pub whole : broken sink' ≡ broken sink
+
+      -- the sink failed, and holds a prefix of the text that another status was to write
+      pub record WroteSome : Type 0 where
+        pub status : Status
+        pub said : List ℕ
+        pub closed : Option Ended
+        pub says : Says status closed said
+        pub leaves : last' ≡ last
+        pub some : GainedSome (held sink) (held sink') said
+        pub cause : Rose (broken sink) (broken sink')
+
+      -- nothing was written
+      pub record WroteNothing : Type 0 where
+        pub spared : Spared
+        pub nothing : held sink' ≡ held sink
+        pub leaves : last' ≡ last
+        pub whole : broken sink' ≡ broken sink
+
+      abbrev pub IsOutcome : Status → Type 0
+      IsOutcome Done = Wrote Done
+      IsOutcome Usage = Wrote Usage
+      IsOutcome (Refused line code) = Wrote (Refused line code)
+      IsOutcome ReadFault = Wrote ReadFault
+      IsOutcome WriteFault = WroteSome
+      IsOutcome Memory = WroteNothing
+      IsOutcome (ClockFull clock) = Wrote (ClockFull clock)

@@ -1,49 +1,35 @@
 //! The top call.
-ghost use Rattle.std.specs.Prelude.{◌≡◌, ◌++◌, IfOk, OnErr};
-ghost use Rattle.bench_core.specs.Outcomes.{SaidOfRun, SaidOf, Says, IsOutcome, kept};
+ghost use Rattle.std.specs.Prelude.{◌≡◌, IfOk, OnErr};
+ghost use Rattle.bench_core.specs.Outcomes.{SaidOf, Says, SaysRead, Spared, IsOutcome, kept};
 ghost use Rattle.stm_io.specs.Ends.{TookSome};
-ghost use Rattle.stm_text.specs.Built.{IsBuilt};
-ghost use Rattle.stm_text.specs.declared.parse.Mode.TheVariants.{Run, Step};
 
-use crate::command::asked;
+use crate::commands::{Saying, report, summarize, trace};
 use crate::messages;
 use crate::status::Status;
 use std::alloc::Global;
 use std::sync::Wait;
 use std::thread::Threads;
-use stm_driver::laws::regions_are_kept;
-use stm_driver::outcome::Outcome;
-use stm_driver::parting::part;
-use stm_driver::preparing::prepare;
-use stm_driver::run::run;
-use stm_driver::step::step;
 use stm_io::ends::{Failed, Sink, Source};
 use stm_io::whole::{ReadError, put_all, read_all};
 use stm_model::memory::Memory;
 use stm_rule::ending::Closed;
-use stm_script::workload::Workload;
 use stm_text::parse::{Mode, ParseError, parse};
-use stm_text::report::report_text;
-use stm_trace::text::trace_text;
+use stm_words::command::Command;
+use stm_words::laws::words_ask_once;
+use stm_words::reading::read_words;
 use stm_worker::turnstile::Turnstile;
 
 /// How many bytes of a text are read: one more than a workload's text may have.
 const MOST_READ: usize = 16777217;
 
-/// A status, the whole text that it writes, and the closed memory of a run.
-#[derive(Drop)]
-struct Saying {
-    status: Status,
-    text: Vec<u8>,
-    closed: Option<Closed>,
-}
-
-/// Does what the words of the command line ask: `words` are the program's name, and `run` or `step`.
+/// Does what the words of the command line ask: `words` are the program's name, and `run`, `step` or
+/// `gen N T SEED`.
 ///
-/// Both read the workload's text from `source`. `run` runs its transactions on a thread a caller, and writes
-/// the report to `sink`, whole once it is made; `step` runs them in the turns of the text's schedule, and writes
-/// the trace before the report. Every other end writes one line, under `step` at a full clock behind the trace
-/// so far, or with `Memory` nothing; see [`Status`].
+/// `run` and `step` read the workload's text from `source`. `run` runs its transactions on a thread a caller, and
+/// writes the report to `sink`, whole once it is made; `step` runs them in the turns of the text's schedule, and
+/// writes the trace before the report. `gen` reads nothing: it runs the workload of N transactions, 1 to 50,000, of
+/// T callers, 1 to 32, that is drawn from SEED, as `run` does, and writes its summary. Every other end writes one
+/// line, under `step` at a full clock behind the trace so far, or with `Memory` nothing; see [`Status`].
 ///
 /// `Ok` and `ClockFull` leave in `last` the closed memory of this call's run; every other status leaves
 /// `last` as it was.
@@ -62,7 +48,7 @@ pub fn bench<R: Threads + Wait + Sync, S: Source, K: Sink, G: Turnstile + Sync>(
     turnstile: &G,
     last: &mut Option<Closed>,
 ) -> Status
-    ensures { IsOutcome S.left S.faults words.now source.old source.new K.held K.faults sink.old sink.new last.old last.new result }
+    ensures { IsOutcome S.left S.faults source.old source.new words.now K.held K.faults sink.old sink.new last.old last.new result }
 {
     let Ok(saying) = say(rt, alloc, words, source, turnstile) else {
         return Status::Memory;
@@ -93,16 +79,39 @@ fn say<R: Threads + Wait + Sync, S: Source, G: Turnstile + Sync>(
     source: &mut S,
     turnstile: &G,
 ) -> Result<Saying, Memory>
-    ensures says { IfOk result (λ s. Says S.left S.faults words.now source.old source.new s.status s.closed s.text.items) }
-    ensures lost { OnErr result (TookSome 16777217 (S.left source.old) (S.left source.new)) }
+    ensures says { IfOk result (λ s. Says S.left S.faults source.old source.new words.now s.status s.closed s.text.items) }
+    ensures spared { OnErr result (Spared S.left S.faults source.old source.new words.now) }
 {
-    let Some(mode) = asked(words) else {
+    words_ask_once();
+    let Some(command) = read_words(alloc, words)? else {
         return Ok(Saying {
             status: Status::Usage,
             text: messages::usage(alloc)?,
             closed: None,
         });
     };
+    match command {
+        Command::Run => say_of_text(rt, alloc, Mode::Run, source, turnstile),
+        Command::Step => say_of_text(rt, alloc, Mode::Step, source, turnstile),
+        Command::Gen {
+            transactions,
+            callers,
+            seed,
+        } => summarize(rt, alloc, transactions, callers, seed, turnstile),
+    }
+}
+
+/// What is to be written of the text that the source has.
+fn say_of_text<R: Threads + Wait + Sync, S: Source, G: Turnstile + Sync>(
+    rt: &R,
+    alloc: Global,
+    mode: Mode,
+    source: &mut S,
+    turnstile: &G,
+) -> Result<Saying, Memory>
+    ensures says { IfOk result (λ s. SaysRead S.left S.faults source.old source.new mode s.status s.closed s.text.items) }
+    ensures lost { OnErr result (TookSome 16777217 (S.left source.old) (S.left source.new)) }
+{
     match read_all(alloc, source, MOST_READ) {
         Ok(text) => execute(rt, alloc, mode, text.as_slice(), turnstile),
         Err(ReadError::Failed) => Ok(Saying {
@@ -136,86 +145,4 @@ fn execute<R: Threads + Wait + Sync, G: Turnstile + Sync>(
         }),
         Err(ParseError::Memory) => Err(Memory),
     }
-}
-
-/// What is to be written of a workload under `run`.
-fn report<R: Threads + Wait + Sync, G: Turnstile + Sync>(
-    rt: &R,
-    alloc: Global,
-    workload: Workload,
-    turnstile: &G,
-) -> Result<Saying, Memory>
-    requires { IsBuilt Run workload }
-    ensures { IfOk result (λ s. SaidOfRun Run workload s.status s.closed s.text.items) }
-{
-    regions_are_kept();
-    let Workload {
-        header,
-        items,
-        schedule: _,
-    } = workload;
-    let count = items.as_slice().len();
-    let parts = part(alloc, header.callers, items.into_vec())?;
-    let rule = header.regions(alloc)?;
-    let regions = header.regions(alloc)?;
-    let prepared = prepare(rt, alloc, rule, &header, parts.as_slice(), &regions, count)?;
-    match run(rt, alloc, prepared, turnstile) {
-        Outcome::ToEnd { report, closed } => Ok(Saying {
-            status: Status::Ok,
-            text: report_text(alloc, &report)?,
-            closed: Some(closed),
-        }),
-        Outcome::ToLimit { clock, closed } => Ok(Saying {
-            status: Status::ClockFull { clock },
-            text: messages::clock_full(alloc, clock)?,
-            closed: Some(closed),
-        }),
-        Outcome::OutOfMemory { closed: _ } => Err(Memory),
-    }
-}
-
-/// What is to be written of a workload under `step`.
-fn trace<R: Wait>(rt: &R, alloc: Global, workload: Workload) -> Result<Saying, Memory>
-    requires { IsBuilt Step workload }
-    ensures { IfOk result (λ s. SaidOfRun Step workload s.status s.closed s.text.items) }
-{
-    regions_are_kept();
-    let Workload {
-        header,
-        items,
-        schedule,
-    } = workload;
-    let count = items.as_slice().len();
-    let parts = part(alloc, header.callers, items.into_vec())?;
-    let rule = header.regions(alloc)?;
-    let regions = header.regions(alloc)?;
-    let prepared = prepare(rt, alloc, rule, &header, parts.as_slice(), &regions, count)?;
-    let (lines, outcome) = step(rt, alloc, prepared, schedule.as_slice());
-    match outcome {
-        Outcome::ToEnd { report, closed } => Ok(Saying {
-            status: Status::Ok,
-            text: behind(
-                trace_text(alloc, lines.as_slice())?,
-                report_text(alloc, &report)?,
-            )?,
-            closed: Some(closed),
-        }),
-        Outcome::ToLimit { clock, closed } => Ok(Saying {
-            status: Status::ClockFull { clock },
-            text: behind(
-                trace_text(alloc, lines.as_slice())?,
-                messages::clock_full(alloc, clock)?,
-            )?,
-            closed: Some(closed),
-        }),
-        Outcome::OutOfMemory { closed: _ } => Err(Memory),
-    }
-}
-
-/// A text, and another behind it.
-fn behind(mut text: Vec<u8>, mut other: Vec<u8>) -> Result<Vec<u8>, Memory>
-    ensures { IfOk result (λ t. t.items ≡ text.items ++ other.items) }
-{
-    text.append(&mut other)?;
-    Ok(text)
 }

@@ -5,12 +5,19 @@
 pub mod bench;
 #[cfg(test)]
 mod cases;
-mod command;
+mod commands;
 #[cfg(test)]
 mod eager_tests;
+#[cfg(test)]
+mod gen_tests;
+#[cfg(test)]
+mod history_tests;
 mod messages;
 #[cfg(test)]
 mod orec_tests;
+mod parts;
+#[cfg(test)]
+mod plain_sets;
 pub mod program;
 #[cfg(test)]
 mod random_tests;

@@ -4,7 +4,7 @@ ghost use Rattle.std.specs.Prelude.{◌≡◌};
 /// How a call of `bench` ended, and what it wrote by that.
 #[derive(Clone, Copy, Drop, Debug, PartialEq, Eq)]
 pub enum Status {
-    /// The report.
+    /// The report, under `step` behind the trace; under `gen` the summary.
     Ok,
     /// The usage line: the words aren't a command.
     Usage,

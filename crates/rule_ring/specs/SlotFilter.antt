@@ -4,7 +4,6 @@ use Rattle.std.specs.Int.{bit_at}
 use Rattle.rule_base.specs.declared.layout.TheConstants.{SLOT_WORDS}
 use Rattle.std.proofs.Common.{inl, inr, ⊎_elim, ◌⊎◌}
 use Rattle.std.specs.Prelude.{bit_or, bit_and, max, if◌then◌else◌, ◌==◌, not}
-use Rattle.std.proofs.lemmas.Nat.{pow_below, or_lt}
 use Rattle.std.proofs.lemmas.Nat.Bits.{bit_at_or, bit_at_and, bit_at-zero, bit_at-lt, bit_at-pow_same}
 use Rattle.std.proofs.lemmas.Bool.{eqb-true}
 use Rattle.std.proofs.lemmas.Bool.Decides.{nat_tests}
@@ -115,15 +114,3 @@ filters-same f g k h = λ i. all_of (part_same f g k 0 (omega arith) h i) (part_
 
 unfoldable pub slot_filter : Filters
 slot_filter = record { word = filter_word; meets = filters_meet; same = filters-same; shows = filters-show }
-
--- each word of a filter is a word of the table
-address_word-small : (a i : ℕ) → address_word a i < 2 ^ 64
-address_word-small a i = go (part_bit (i / 4) a / 64 == i % 4)
-  where
-    go : (b : Bool) → (if b then 2 ^ (part_bit (i / 4) a % 64) else 0) < 2 ^ 64
-    go true = pow_below (part_bit (i / 4) a % 64) 64 (omega arith)
-    go false = omega arith
-
-pub filter_word-small : (cs : List Cell) (i : ℕ) → filter_word cs i < 2 ^ 64
-filter_word-small [] i = omega arith
-filter_word-small (c ∷ cs) i = or_lt 64 (address_word c.at i) (filter_word cs i) (address_word-small c.at i) (filter_word-small cs i)

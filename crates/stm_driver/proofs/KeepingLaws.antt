@@ -1,5 +1,5 @@
 -- Scripts that fit keep the rule that the header's regions are well formed.
-use Rattle.std.proofs.Common.{ℕ, List, get_or}
+use Rattle.std.proofs.Common.{get_or}
 use Rattle.tx_regions.specs.Regions.{AllWellFormed}
 use Rattle.stm_script.specs.declared.workload.Header.{Header}
 use Rattle.stm_script.specs.declared.workload.Item.{Item}

@@ -12,6 +12,7 @@ mod PreparedLaws
 mod StandingLaws
 mod ReportLaws
 mod SortLaws
+mod GatherLaws
 mod PartLaws
 mod LimitLaws
 mod OutcomeLaws

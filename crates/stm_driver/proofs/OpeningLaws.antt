@@ -1,5 +1,5 @@
 -- The callers of a memory that caller 0 has installed an algorithm in.
-use Rattle.std.proofs.Common.{ℕ, suc, ◌≡◌, ◌<◌, ◌≤◌, List, [], ◌∷◌, length, get_or, set, refl, sym, ap, ◌∙◌, subst, arith}
+use Rattle.std.proofs.Common.{ℕ, suc, ◌≡◌, ◌<◌, List, [], ◌∷◌, length, get_or, set, refl, sym, ap, ◌∙◌, subst, arith}
 use Rattle.stm_rule.specs.declared.stm.Stm.{Stm}
 use Rattle.rule_base.specs.Opening.{first_view}
 use Rattle.stm_model.specs.declared.alg.Alg.{Alg}
@@ -7,8 +7,6 @@ use Rattle.stm_rule.specs.Callers.{Handle, IsSameCaller, AllOpened, idle_own}
 use Rattle.tx_answers.specs.Known.{Known, known_of}
 use Rattle.stm_tx.specs.Descs.{known}
 use Rattle.stm_worker.specs.Workers.{HasLengths}
-use Rattle.stm_model.specs.Algorithms.{install_rise}
-use Rattle.stm_model.specs.declared.alg.Alg.TheVariants.{Cgl, Tml, OrecLazy, OrecEager, RingSw, Serial}
 use Rattle.stm_driver.specs.Openings.{IsNew, AllNew, SameLengths}
 
 module _ {K : Type 0} (stm : Stm K) (alg : Alg) where

@@ -5,8 +5,7 @@ use Rattle.std.proofs.lemmas.List.{length-map}
 use Rattle.std.proofs.lemmas.List.Sums.{sum_by-set}
 use Rattle.stm_rule.specs.declared.stm.Stm.{Stm}
 use Rattle.stm_model.specs.declared.config.Config.{Config}
-use Rattle.stm_model.specs.declared.alg.Alg.{Alg}
-use Rattle.stm_model.specs.declared.alg.Alg.TheVariants.{Cgl, Tml, OrecLazy, OrecEager, RingSw, Serial}
+use Rattle.stm_model.specs.declared.alg.Alg.TheVariants.{Cgl}
 use Rattle.stm_script.specs.declared.workload.Go.{Go}
 use Rattle.stm_script.specs.declared.workload.Header.{Header}
 use Rattle.tx_answers.specs.declared.answers.Cancel.TheVariants as cancels
@@ -15,7 +14,6 @@ use Rattle.tx_answers.specs.declared.answers.Irrev.TheVariants as irrevs
 use Rattle.stm_model.specs.declared.stop.Stop.TheVariants as stops
 use Rattle.stm_script.specs.declared.op.Op.TheVariants.{Irrev}
 use Rattle.tx_answers.specs.Known.{owed}
-use Rattle.stm_model.specs.Algorithms.{is_sure}
 use Rattle.stm_model.specs.AlgorithmLaws.{granted-sure, sure-wrote}
 use Rattle.stm_tx.specs.Descs.{known}
 use Rattle.stm_trace.specs.declared.line.Line.{Line}

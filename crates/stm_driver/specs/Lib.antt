@@ -1,6 +1,7 @@
 pub mod Partings
 pub mod Openings
 pub mod AllWorkers
+pub mod Gatherings
 pub mod Preparings
 pub mod Schedules
 pub mod Untils

@@ -40,11 +40,12 @@ pub record IsPrepared {K : Type 0} (h : Header) (parts : List (List Item)) (stm 
   pub new : AllNew stm h.alg 0 descs
   pub made : AreMade (λ n. slice_index_or parts n []) (regions_of h) h.alg 0 descs ws
 
--- all are empty, with room for so many descriptors, rows and words
+-- all are empty, with room for the descriptors and rows of so many callers, for so many rows in all, and words
 pub record HasRoom {K : Type 0} (callers items heap : ℕ) (room : Room K) : Type 0 where
-  pub empty : (room.descs.items ≡ []) × (room.rows.items ≡ []) × (room.words.items ≡ [])
-  pub none : (vec_len room.descs ≡ 0) × (vec_len room.rows ≡ 0) × (vec_len room.words ≡ 0)
+  pub empty : (room.descs.items ≡ []) × (room.lists.items ≡ []) × (room.rows.items ≡ []) × (room.words.items ≡ [])
+  pub none : (vec_len room.descs ≡ 0) × (vec_len room.lists ≡ 0) × (vec_len room.rows ≡ 0) × (vec_len room.words ≡ 0)
   pub descs : callers ≤ vec_capacity room.descs
+  pub lists : callers ≤ vec_capacity room.lists
   pub rows : items ≤ vec_capacity room.rows
   pub words : heap ≤ vec_capacity room.words
 

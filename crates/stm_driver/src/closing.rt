@@ -44,10 +44,11 @@ pub fn close_memory<K: MemRule + Drop>(
     make_all_idle(&stm, runners.as_mut_slice());
     let Room {
         mut descs,
+        mut lists,
         mut rows,
         mut words,
     } = room;
-    take_apart(runners, &mut descs, &mut rows);
+    take_apart(runners, &mut descs, &mut lists, &mut rows);
     let closed = close_into(stm, descs, &mut words);
     match how {
         Ok(()) => match report_of(alloc, rows, words.as_slice()) {

@@ -4,6 +4,7 @@
 pub mod backoff;
 pub mod closing;
 pub mod finishing;
+pub mod gathering;
 pub mod laws;
 pub mod opening;
 pub mod order;

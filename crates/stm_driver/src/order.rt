@@ -14,11 +14,22 @@ fn code(kind: Kind) -> u8
     }
 }
 
-/// Puts rows into the order of a report. It takes no memory.
+/// What rows are ordered by: place, W before R and C, then caller, then seq.
+pub type Key = (u64, u8, usize, usize);
+
+/// What a row is ordered by.
+pub fn key(row: &Row) -> Key
+    ensures { result ≡ (row.now.place, code row.now.kind, row.now.caller, row.now.seq) }
+{
+    (row.place, code(row.kind), row.caller, row.seq)
+}
+
+/// Puts rows into the order of a report. It takes no memory. Rows that stand in this order or in the reverse of it take
+/// one pass.
 pub fn order(rows: &mut [Row])
     ensures moved { IsPermutation rows.old rows.new }
     ensures count { length rows.new ≡ length rows.old }
     ensures ordered { Ordered rows.new }
 {
-    rows.sort_unstable_by_key(|r| (r.place, code(r.kind), r.caller, r.seq));
+    rows.sort_unstable_by_key(|r| key(r));
 }

@@ -5,6 +5,7 @@ ghost use Rattle.stm_script.specs.Reports.{regions_of};
 ghost use Rattle.stm_driver.specs.AllWorkers.{workers_in};
 ghost use Rattle.stm_driver.specs.Preparings.{HasRoom, IsPrepared};
 
+use crate::gathering::OwnRows;
 use crate::opening::open;
 use crate::parting::CallerItems;
 use crate::workers::{Runner, make_workers};
@@ -19,11 +20,13 @@ use stm_script::report::Row;
 use stm_script::workload::Header;
 use tx_regions::region::Regions;
 
-/// The room for what a closing gives. All three are empty.
+/// The room for what a closing gives. All four are empty.
 #[derive(Drop)]
 pub struct Room<K: MemRule> {
     /// For all descriptors.
     pub descs: Vec<Desc<K>>,
+    /// For the rows of each worker.
+    pub lists: Vec<OwnRows>,
     /// For a row an item.
     pub rows: Vec<Row>,
     /// For the words of the heap.
@@ -65,6 +68,7 @@ pub fn prepare<'a, R: Wait, K: MemRule + Drop>(
     let runners = make_workers(alloc, descs, parts, regions, header.alg)?;
     let room = Room {
         descs: Vec::with_capacity(alloc, header.callers)?,
+        lists: Vec::with_capacity(alloc, header.callers)?,
         rows: Vec::with_capacity(alloc, items)?,
         words: Vec::with_capacity(alloc, header.words)?,
     };

@@ -1,7 +1,9 @@
 //! The workers of all callers.
-ghost use Rattle.std.specs.Prelude.{◌≡◌, ◌≤◌, ◌+◌, ◌++◌, [], length, slice_index_or, vec_len, vec_capacity, IfOk};
+ghost use Rattle.std.specs.Prelude.{◌≡◌, ◌≤◌, [], length, slice_index_or, vec_len, vec_capacity, IfOk, IsPermutation};
 ghost use Rattle.stm_driver.specs.AllWorkers.{AreMade, workers_in, descs_of, rows_of, first_full};
+ghost use Rattle.stm_driver.specs.Gatherings.{joined};
 
+use crate::gathering::{OwnRows, gather};
 use crate::parting::{CallerItems, items_at};
 use crossbeam_utils::CachePadded;
 use std::alloc::Global;
@@ -52,38 +54,41 @@ pub fn full_clock<K: MemRule>(runners: &[CachePadded<Runner<K>>]) -> Option<u64>
     full
 }
 
-/// Takes the workers apart: their descriptors and their rows, both in the workers' order. It takes no memory.
+/// Takes the workers apart: their descriptors in the workers' order, and the rows of all, as [`gather`] leaves them. It
+/// takes no memory.
 pub fn take_apart<K: MemRule>(
     runners: Vec<CachePadded<Runner<K>>>,
     descs: &mut Vec<Desc<K>>,
+    lists: &mut Vec<OwnRows>,
     rows: &mut Vec<Row>,
 )
-    requires empty { (descs.old.items ≡ []) × (vec_len descs.old ≡ 0) × (rows.old.items ≡ []) × (vec_len rows.old ≡ 0) }
+    requires empty { (descs.old.items ≡ []) × (vec_len descs.old ≡ 0) × (lists.old.items ≡ []) × (vec_len lists.old ≡ 0) × (rows.old.items ≡ []) × (vec_len rows.old ≡ 0) }
     requires descs { length runners.items ≤ vec_capacity descs.old }
+    requires lists { length runners.items ≤ vec_capacity lists.old }
     requires rows { length (rows_of (workers_in runners.items)) ≤ vec_capacity rows.old }
     ensures descs { descs.new.items ≡ descs_of (workers_in runners.entry.items) }
-    ensures rows { rows.new.items ≡ rows_of (workers_in runners.entry.items) }
+    ensures rows { IsPermutation (rows_of (workers_in runners.entry.items)) rows.new.items }
+{
+    part_from_rows(runners, descs, lists);
+    gather(lists.as_mut_slice(), rows);
+}
+
+/// The descriptors and the rows of each worker, both in the workers' order.
+fn part_from_rows<K: MemRule>(
+    runners: Vec<CachePadded<Runner<K>>>,
+    descs: &mut Vec<Desc<K>>,
+    lists: &mut Vec<OwnRows>,
+)
+    requires empty { (descs.old.items ≡ []) × (vec_len descs.old ≡ 0) × (lists.old.items ≡ []) × (vec_len lists.old ≡ 0) }
+    requires descs { length runners.items ≤ vec_capacity descs.old }
+    requires lists { length runners.items ≤ vec_capacity lists.old }
+    ensures descs { descs.new.items ≡ descs_of (workers_in runners.entry.items) }
+    ensures rows { joined lists.new.items ≡ rows_of (workers_in runners.entry.items) }
 {
     for runner in runners {
         let Runner { worker, .. } = runner.into_inner();
-        let Worker {
-            desc,
-            rows: mut own,
-            ..
-        } = worker;
+        let Worker { desc, rows, .. } = worker;
         descs.push_reserved(desc);
-        move_rows(&mut own, rows);
+        lists.push_reserved(OwnRows::new(rows));
     }
-}
-
-/// Moves rows to the end of others, where there is room for them.
-fn move_rows(from: &mut Vec<Row>, to: &mut Vec<Row>)
-    requires { vec_len to.old + vec_len from.old ≤ vec_capacity to.old }
-    ensures items { to.new.items ≡ to.old.items ++ from.old.items }
-    ensures len { vec_len to.new ≡ vec_len to.old + vec_len from.old }
-    ensures capacity { vec_capacity to.old ≤ vec_capacity to.new }
-{
-    let Ok(()) = to.append(from) else {
-        unreachable!()
-    };
 }

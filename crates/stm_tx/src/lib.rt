@@ -5,12 +5,16 @@
 
 pub mod calls;
 #[cfg(test)]
+mod eager_tests;
+#[cfg(test)]
 mod gate_tests;
 #[cfg(test)]
 mod library_tests;
 pub mod live;
 #[cfg(test)]
 mod orec_tests;
+#[cfg(test)]
+mod ring_tests;
 #[cfg(test)]
 mod serial_tests;
 #[cfg(test)]

@@ -22,7 +22,7 @@ use stm_rule::refusal::NewError;
 use stm_rule::stm::Stm;
 use tx_answers::answers::{Begin, Cancel, Commit, Read, TxState, Write};
 
-const PAIR: Config = Config {
+pub(crate) const PAIR: Config = Config {
     words: 8,
     records: 4,
     ring: 4,

@@ -127,15 +127,6 @@ free-is t j (suc n) c e = by (t j == 0) refl e (free-is t (suc j) n c)
     by true q e go = let s : j ≡ c = cc in let z : t j ≡ 0 = grind (arith, nat_tests) in (omega arith, subst (λ i. t i ≡ 0) s z)
     by false q e go = let h = go e in let lt = h.0 in (omega arith, h.1)
 
--- NO CELL IS FREE exactly where there are as many keys as cells
-pub keys-most : (t : ℕ → ℕ) (n : ℕ) → length (keys_of t n) ≤ n
-keys-most t zero = omega arith
-keys-most t (suc n) = by (t n) (keys-most t n)
-  where
-    by : (v : ℕ) → length (keys_of t n) ≤ n → length (with_tag v (keys_of t n)) ≤ suc n
-    by zero h = omega arith
-    by (suc a) h = let e = with-length a (keys_of t n) in omega arith
-
 how_many-same : (f g : ℕ → Bool) (n : ℕ) → ((i : ℕ) → i < n → f i ≡ g i) → how_many f n ≡ how_many g n
 how_many-same f g zero h = refl
 how_many-same f g (suc n) h = let e = how_many-same f g n (λ i lt. h i (omega arith)) in let s = h n (omega arith) in rw (e, s) refl

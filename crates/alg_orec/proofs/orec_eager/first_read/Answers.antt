@@ -1,222 +1,161 @@
-use Rattle.std.proofs.Common.{ℕ, ◌≡◌, ◌≢◌, ◌<◌, length, subst, sym, ap, false, rules, ◌∙◌}
-use Rattle.std.specs.Prelude.{◌^◌, None}
+use Rattle.std.proofs.Common.{ℕ, ◌≡◌, subst, sym, false, ◌∙◌}
+use Rattle.std.specs.Prelude.{Option, Ok}
 use Rattle.stm_model.specs.declared.alg.Alg.TheVariants.{OrecEager}
-use Rattle.stm_model.specs.Memories.{item_at}
-use Rattle.rule_base.specs.declared.seats.SeatView.{SeatView}
-use Rattle.rule_base.specs.declared.seats.Who.{Who}
-use Rattle.rule_base.specs.declared.views.View.{View}
-use Rattle.rule_base.specs.Own.{Own}
-use Rattle.stm_rule.specs.declared.local.Local.{Local}
-use Rattle.stm_rule.specs.Attempts.{SameLengths, good_by, own_of}
-use Rattle.stm_rule.specs.Callers.{Handle, handle_of}
-use Rattle.tx_answers.specs.declared.answers.Read.TheVariants as reads
+use Rattle.stm_rule.specs.Callers.{Handle}
 use Rattle.tx_answers.specs.Answers.{HasRead}
-use Rattle.tx_answers.specs.Known.{known_of}
-use Rattle.stm_gate.specs.Knowing.{known}
-use Rattle.stm_gate.specs.Standing.{runs-of}
-use Rattle.stm_gate.specs.Told.{told, running-by, stands-in}
-use Rattle.alg_orec.proofs.EagerLaws as laws
-use Rattle.alg_orec.proofs.EagerProving as proving
-use Rattle.alg_orec.proofs.EagerProving.{eager-of}
-use Rattle.alg_orec.proofs.ReadCalls as calls
+use Rattle.tx_answers.specs.Known.{IsRunning}
+use Rattle.stm_gate.specs.Knowing.{known, number}
+use Rattle.alg_orec.proofs.EagerReadLaws as laws
+use Rattle.alg_orec.specs.EagerReading.{HoldsRecord, IsNew, Samples}
 use Rattle.alg_orec.proofs.orec_eager.first_read.Goals as goal
 
-pub returns-then-count-limit-clause-read : goal.returns-then-count-limit-clause-read
-returns-then-count-limit-clause-read g c =
+pub load-x-requires-clause-running : goal.load-x-requires-clause-running
+load-x-requires-clause-running g c =
     let f = c.args.stm.now.config in
     let good = g.K.MemRule.good c.args.stm.now.rule in
-    let d = c.desc.inside in
-    let s = d.seat.me.0 in
-    let o = own_of d.local in
-    let h = handle_of d.seat o in
-    let e = c.args.desc.now in
-    let i = runs-of g.K.MemRule.good f c.args.stm.now.rule h e d.number d.local c.desc.view_is c.requires.stm.config c.requires.stm.rule c.requires.running.0 c.desc.invariant.1 in
-    let eager = subst (λ (p : Handle g.row.K.Denot). (known p).alg ≡ OrecEager) (sym c.desc.view_is) c.requires.algorithm in
-    let quiet : d.local.committing ≡ false = ap (λ (p : Handle g.row.K.Denot). (known p).committing) c.desc.view_is ∙ c.requires.running.1 in
-    let plain : d.local.granted ≡ false = proving.plain-of good f d.number d.local s.view i eager o (subst (λ (p : Handle g.row.K.Denot). (known p).granted ≡ false) (sym c.desc.view_is) c.requires.revocable) in
-    let k = eager-of good f d.number d.local s.view i (sym i.named ∙ eager) plain in
-    let a = c.args.a in
-    let unwritten : item_at a d.local.writes.items ≡ None = ap (item_at a) (sym (laws.written-here good f d.number d.local s.view i eager plain quiet k)) ∙ subst (λ (p : Handle g.row.K.Denot). item_at a (known p).log.writes ≡ None) (sym c.desc.view_is) c.requires.unwritten in
-    let unread : item_at a d.local.reads.items ≡ None = ap (item_at a) k.reads ∙ subst (λ (p : Handle g.row.K.Denot). item_at a (known p).log.reads ≡ None) (sym c.desc.view_is) c.requires.unread in
-    let count : length d.local.reads.items ≡ d.local.reads.len = search rules in
-    let w = c.take_back.new.seat.me.0 in
-    told (λ n v w. HasRead good f n a (reads.Full c.len-limit.result) v w) h e d.number w c.take_back.new.local c.desc.view_is (ap (λ (y : SeatView g.row.K.Denot). y.who) c.take_back.ensures.same.1) c.desc.invariant.0.named
-    (subst (λ (p : Own). HasRead good f d.number a (reads.Full c.len-limit.result) (known_of s.view o) (known_of w.view p)) (sym (calls.ended-own d.local c.take_back.new.local quiet c.take_back.ensures.idle))
-    (subst (λ (q : ℕ). HasRead good f d.number a (reads.Full q) (known_of s.view o) (known_of w.view o)) (sym c.len-limit.ensures)
-    (laws.reads-full good f d.number d.local s.view i eager plain quiet k a w.view unwritten unread count c.take_back.ensures.takes_back)))
+    let d = c.args.desc.now in
+    let s = c.sample.new.desc in
+    let sampled = subst (λ (m : Option ℕ). Samples good f (number d) c.args.a (Ok m) d s) c.in-Ok-Some.field-0-is c.in-Ok-Some.ensures.samples in
+    (sampled.0.2.goes.continues.running, sampled.0.2.uncommitted)
 
-pub invariant_of-desc-in-Ok : goal.invariant_of-desc-in-Ok
-invariant_of-desc-in-Ok g c =
+pub load-x-requires-clause-algorithm : goal.load-x-requires-clause-algorithm
+load-x-requires-clause-algorithm g c =
     let f = c.args.stm.now.config in
     let good = g.K.MemRule.good c.args.stm.now.rule in
-    let d = c.desc.inside in
-    let s = d.seat.me.0 in
-    let o = own_of d.local in
-    let h = handle_of d.seat o in
-    let e = c.args.desc.now in
-    let i = runs-of g.K.MemRule.good f c.args.stm.now.rule h e d.number d.local c.desc.view_is c.requires.stm.config c.requires.stm.rule c.requires.running.0 c.desc.invariant.1 in
-    let eager = subst (λ (p : Handle g.row.K.Denot). (known p).alg ≡ OrecEager) (sym c.desc.view_is) c.requires.algorithm in
-    let quiet : d.local.committing ≡ false = ap (λ (p : Handle g.row.K.Denot). (known p).committing) c.desc.view_is ∙ c.requires.running.1 in
-    let plain : d.local.granted ≡ false = proving.plain-of good f d.number d.local s.view i eager o (subst (λ (p : Handle g.row.K.Denot). (known p).granted ≡ false) (sym c.desc.view_is) c.requires.revocable) in
-    let k = eager-of good f d.number d.local s.view i (sym i.named ∙ eager) plain in
-    let a = c.args.a in
-    let unwritten : item_at a d.local.writes.items ≡ None = ap (item_at a) (sym (laws.written-here good f d.number d.local s.view i eager plain quiet k)) ∙ subst (λ (p : Handle g.row.K.Denot). item_at a (known p).log.writes ≡ None) (sym c.desc.view_is) c.requires.unwritten in
-    let unread : item_at a d.local.reads.items ≡ None = ap (item_at a) k.reads ∙ subst (λ (p : Handle g.row.K.Denot). item_at a (known p).log.reads ≡ None) (sym c.desc.view_is) c.requires.unread in
-    let room : length d.local.reads.items ≢ d.local.reads.len = search rules in
-    let m = c.load_word.new.local in
-    let u = c.load_word.new.seat.me.0 in
-    let who = ap (λ (y : SeatView g.row.K.Denot). y.who) c.load_word.ensures.same.1 in
-    let x = c.in-Ok.x in
-    let loaded = c.in-Ok.ensures.loads in
-    let is = calls.logged-new d.local.reads m.reads c.push.new.self a x c.push.result (ap (λ (q : Local). q.reads) loaded.local) unread room c.push.ensures in
-    let q = record m { reads = c.push.new.self } in
-    let moved = loaded.local in
-    let config = ap (λ (p : Handle g.row.K.Denot). p.who.config) c.desc.view_is ∙ c.requires.stm.config in
-    let value = ap (λ (p : Handle g.row.K.Denot). p.who.rule) c.desc.view_is ∙ c.requires.stm.rule in
-    let running = ap (λ (y : Local). y.running) moved ∙ running-by (good_by g.K.MemRule.good s.who.rule) s.who.config d.number d.local s.view i.phase c.desc.invariant.1 in
-    let tied = c.desc.invariant.0 in
-    let lengths : SameLengths q = (ap (λ (y : Local). y.writes.len) moved ∙ (c.desc.invariant.1.lengths.0 ∙ sym (ap (λ (y : Local). y.undo.len) moved)), ap (λ (y : Local). y.locks.len) moved ∙ (c.desc.invariant.1.lengths.1 ∙ sym (ap (λ (y : Local). y.undo.len) moved))) in (
-      record {
-        named = ap (λ (y : Who g.row.K.Denot). y.role) who ∙ tied.named;
-        low = subst (λ (y : Who g.row.K.Denot). d.number < y.config.callers) (sym who) tied.low;
-        bare = ap (λ (y : SeatView g.row.K.Denot). y.gathered) c.load_word.ensures.same.1 ∙ tied.bare;
-        empty = c.load_word.ensures.same.0.2 ∙ tied.empty;
-      },
-      stands-in g.K.MemRule.good f c.args.stm.now.rule u.who d.number q u.view (ap (λ (y : Who g.row.K.Denot). y.config) who ∙ config) (ap (λ (y : Who g.row.K.Denot). y.rule) who ∙ value) running
-          (ap (λ (y : Local). y.holds) moved ∙ (c.desc.invariant.1.holds ∙ sym (ap (λ (y : View). y.gate.holds) loaded.is))) lengths
-          (laws.stays-read good f d.number d.local s.view i eager plain quiet k a x m u.view c.push.new.self c.requires.inside unread is loaded),
-    )
+    let d = c.args.desc.now in
+    let s = c.sample.new.desc in
+    let sampled = subst (λ (m : Option ℕ). Samples good f (number d) c.args.a (Ok m) d s) c.in-Ok-Some.field-0-is c.in-Ok-Some.ensures.samples in
+    sampled.0.2.goes.continues.alg ∙ c.requires.algorithm
 
-pub returns-in-Ok-clause-read : goal.returns-in-Ok-clause-read
-returns-in-Ok-clause-read g c =
+pub load-x-requires-clause-revocable : goal.load-x-requires-clause-revocable
+load-x-requires-clause-revocable g c =
     let f = c.args.stm.now.config in
     let good = g.K.MemRule.good c.args.stm.now.rule in
-    let d = c.desc.inside in
-    let s = d.seat.me.0 in
-    let o = own_of d.local in
-    let h = handle_of d.seat o in
-    let e = c.args.desc.now in
-    let i = runs-of g.K.MemRule.good f c.args.stm.now.rule h e d.number d.local c.desc.view_is c.requires.stm.config c.requires.stm.rule c.requires.running.0 c.desc.invariant.1 in
-    let eager = subst (λ (p : Handle g.row.K.Denot). (known p).alg ≡ OrecEager) (sym c.desc.view_is) c.requires.algorithm in
-    let quiet : d.local.committing ≡ false = ap (λ (p : Handle g.row.K.Denot). (known p).committing) c.desc.view_is ∙ c.requires.running.1 in
-    let plain : d.local.granted ≡ false = proving.plain-of good f d.number d.local s.view i eager o (subst (λ (p : Handle g.row.K.Denot). (known p).granted ≡ false) (sym c.desc.view_is) c.requires.revocable) in
-    let k = eager-of good f d.number d.local s.view i (sym i.named ∙ eager) plain in
-    let a = c.args.a in
-    let unwritten : item_at a d.local.writes.items ≡ None = ap (item_at a) (sym (laws.written-here good f d.number d.local s.view i eager plain quiet k)) ∙ subst (λ (p : Handle g.row.K.Denot). item_at a (known p).log.writes ≡ None) (sym c.desc.view_is) c.requires.unwritten in
-    let unread : item_at a d.local.reads.items ≡ None = ap (item_at a) k.reads ∙ subst (λ (p : Handle g.row.K.Denot). item_at a (known p).log.reads ≡ None) (sym c.desc.view_is) c.requires.unread in
-    let room : length d.local.reads.items ≢ d.local.reads.len = search rules in
-    let m = c.load_word.new.local in
-    let u = c.load_word.new.seat.me.0 in
-    let who = ap (λ (y : SeatView g.row.K.Denot). y.who) c.load_word.ensures.same.1 in
-    let x = c.in-Ok.x in
-    let loaded = c.in-Ok.ensures.loads in
-    let is = calls.logged-new d.local.reads m.reads c.push.new.self a x c.push.result (ap (λ (q : Local). q.reads) loaded.local) unread room c.push.ensures in
-    let small : x < 2 ^ 64 = search rules in
-    told (λ n v w. HasRead good f n a (reads.Value x) v w) h e d.number u (record m { reads = c.push.new.self }) c.desc.view_is who c.desc.invariant.0.named
-    (subst (λ (p : Own). HasRead good f d.number a (reads.Value x) (known_of s.view o) (known_of u.view p)) (sym (calls.own-read d.local m a x c.push.new.self loaded.local is))
-    (laws.reads-new good f d.number d.local s.view i eager plain quiet k a x m u.view small c.requires.inside unwritten unread room loaded))
+    let d = c.args.desc.now in
+    let s = c.sample.new.desc in
+    let sampled = subst (λ (m : Option ℕ). Samples good f (number d) c.args.a (Ok m) d s) c.in-Ok-Some.field-0-is c.in-Ok-Some.ensures.samples in
+    sampled.0.2.goes.granted ∙ c.requires.revocable
+
+pub load-x-requires-clause-fresh : goal.load-x-requires-clause-fresh
+load-x-requires-clause-fresh g c =
+    let f = c.args.stm.now.config in
+    let good = g.K.MemRule.good c.args.stm.now.rule in
+    let d = c.args.desc.now in
+    let s = c.sample.new.desc in
+    let sampled = subst (λ (m : Option ℕ). Samples good f (number d) c.args.a (Ok m) d s) c.in-Ok-Some.field-0-is c.in-Ok-Some.ensures.samples in
+    sampled.0.2.fresh
+
+pub load-x-requires-clause-sampled : goal.load-x-requires-clause-sampled
+load-x-requires-clause-sampled g c =
+    let f = c.args.stm.now.config in
+    let good = g.K.MemRule.good c.args.stm.now.rule in
+    let d = c.args.desc.now in
+    let s = c.sample.new.desc in
+    let sampled = subst (λ (m : Option ℕ). Samples good f (number d) c.args.a (Ok m) d s) c.in-Ok-Some.field-0-is c.in-Ok-Some.ensures.samples in
+    sampled.1.has
+
+pub confirm-requires-clause-running : goal.confirm-requires-clause-running
+confirm-requires-clause-running g c =
+    let e = c.load-x.ensures.goes in
+    (e.goes.continues.running, e.uncommitted)
+
+pub confirm-requires-clause-algorithm : goal.confirm-requires-clause-algorithm
+confirm-requires-clause-algorithm g c =
+    let f = c.args.stm.now.config in
+    let good = g.K.MemRule.good c.args.stm.now.rule in
+    let d = c.args.desc.now in
+    let s = c.sample.new.desc in
+    let sampled = subst (λ (m : Option ℕ). Samples good f (number d) c.args.a (Ok m) d s) c.in-Ok-Some.field-0-is c.in-Ok-Some.ensures.samples in
+    c.load-x.ensures.goes.goes.continues.alg ∙ (sampled.0.2.goes.continues.alg ∙ c.requires.algorithm)
+
+pub confirm-requires-clause-revocable : goal.confirm-requires-clause-revocable
+confirm-requires-clause-revocable g c =
+    let f = c.args.stm.now.config in
+    let good = g.K.MemRule.good c.args.stm.now.rule in
+    let d = c.args.desc.now in
+    let s = c.sample.new.desc in
+    let sampled = subst (λ (m : Option ℕ). Samples good f (number d) c.args.a (Ok m) d s) c.in-Ok-Some.field-0-is c.in-Ok-Some.ensures.samples in
+    c.load-x.ensures.goes.goes.granted ∙ (sampled.0.2.goes.granted ∙ c.requires.revocable)
+
+pub confirm-requires-clause-fresh : goal.confirm-requires-clause-fresh
+confirm-requires-clause-fresh g c =
+    c.load-x.ensures.goes.fresh
+
+pub confirm-requires-clause-loaded : goal.confirm-requires-clause-loaded
+confirm-requires-clause-loaded g c =
+    let f = c.args.stm.now.config in
+    let good = g.K.MemRule.good c.args.stm.now.rule in
+    let d = c.args.desc.now in
+    let s = c.sample.new.desc in
+    let sampled = subst (λ (m : Option ℕ). Samples good f (number d) c.args.a (Ok m) d s) c.in-Ok-Some.field-0-is c.in-Ok-Some.ensures.samples in
+    c.load-x.ensures.loads c.in-Ok-Some.word sampled.1
+
+pub returns-in-Ok-Some-clause-read : goal.returns-in-Ok-Some-clause-read
+returns-in-Ok-Some-clause-read g c =
+    let f = c.args.stm.now.config in
+    let good = g.K.MemRule.good c.args.stm.now.rule in
+    let d = c.args.desc.now in
+    let s = c.sample.new.desc in
+    let sampled = subst (λ (m : Option ℕ). Samples good f (number d) c.args.a (Ok m) d s) c.in-Ok-Some.field-0-is c.in-Ok-Some.ensures.samples in
+    laws.reads-together good f c.args.a c.in-Ok-Some.word c.load-x.result c.confirm.result d s c.load-x.new.desc c.confirm.new.desc c.sample.ensures.same c.load-x.ensures.same c.requires.algorithm sampled.0 c.load-x.ensures.goes c.confirm.ensures.confirms
+
+pub read_held-requires-clause-running : goal.read_held-requires-clause-running
+read_held-requires-clause-running g c =
+    let f = c.args.stm.now.config in
+    let good = g.K.MemRule.good c.args.stm.now.rule in
+    let d = c.args.desc.now in
+    let s = c.sample.new.desc in
+    let sampled = subst (λ (m : Option ℕ). Samples good f (number d) c.args.a (Ok m) d s) c.in-Ok-None.field-0-is c.in-Ok-None.ensures.samples in
+    subst (λ (h : Handle g.row.K.Denot). IsRunning (known h)) (sym sampled.0) c.requires.running
+
+pub read_held-requires-clause-algorithm : goal.read_held-requires-clause-algorithm
+read_held-requires-clause-algorithm g c =
+    let f = c.args.stm.now.config in
+    let good = g.K.MemRule.good c.args.stm.now.rule in
+    let d = c.args.desc.now in
+    let s = c.sample.new.desc in
+    let sampled = subst (λ (m : Option ℕ). Samples good f (number d) c.args.a (Ok m) d s) c.in-Ok-None.field-0-is c.in-Ok-None.ensures.samples in
+    subst (λ (h : Handle g.row.K.Denot). (known h).alg ≡ OrecEager) (sym sampled.0) c.requires.algorithm
+
+pub read_held-requires-clause-revocable : goal.read_held-requires-clause-revocable
+read_held-requires-clause-revocable g c =
+    let f = c.args.stm.now.config in
+    let good = g.K.MemRule.good c.args.stm.now.rule in
+    let d = c.args.desc.now in
+    let s = c.sample.new.desc in
+    let sampled = subst (λ (m : Option ℕ). Samples good f (number d) c.args.a (Ok m) d s) c.in-Ok-None.field-0-is c.in-Ok-None.ensures.samples in
+    subst (λ (h : Handle g.row.K.Denot). (known h).granted ≡ false) (sym sampled.0) c.requires.revocable
+
+pub read_held-requires-clause-fresh : goal.read_held-requires-clause-fresh
+read_held-requires-clause-fresh g c =
+    let f = c.args.stm.now.config in
+    let good = g.K.MemRule.good c.args.stm.now.rule in
+    let d = c.args.desc.now in
+    let s = c.sample.new.desc in
+    let sampled = subst (λ (m : Option ℕ). Samples good f (number d) c.args.a (Ok m) d s) c.in-Ok-None.field-0-is c.in-Ok-None.ensures.samples in
+    subst (λ (h : Handle g.row.K.Denot). IsNew c.args.a (known h)) (sym sampled.0) sampled.2
+
+pub read_held-requires-clause-held : goal.read_held-requires-clause-held
+read_held-requires-clause-held g c =
+    let f = c.args.stm.now.config in
+    let good = g.K.MemRule.good c.args.stm.now.rule in
+    let d = c.args.desc.now in
+    let s = c.sample.new.desc in
+    let sampled = subst (λ (m : Option ℕ). Samples good f (number d) c.args.a (Ok m) d s) c.in-Ok-None.field-0-is c.in-Ok-None.ensures.samples in
+    subst (λ (h : Handle g.row.K.Denot). HoldsRecord f c.args.a h.view) (sym sampled.0) sampled.1
+
+pub returns-in-Ok-None-clause-read : goal.returns-in-Ok-None-clause-read
+returns-in-Ok-None-clause-read g c =
+    let f = c.args.stm.now.config in
+    let good = g.K.MemRule.good c.args.stm.now.rule in
+    let d = c.args.desc.now in
+    let s = c.sample.new.desc in
+    let sampled = subst (λ (m : Option ℕ). Samples good f (number d) c.args.a (Ok m) d s) c.in-Ok-None.field-0-is c.in-Ok-None.ensures.samples in
+    subst (λ (h : Handle g.row.K.Denot). HasRead good f (number h) c.args.a c.read_held.result (known h) (known c.read_held.new.desc)) sampled.0 c.read_held.ensures.read
 
 pub returns-in-Err-clause-read : goal.returns-in-Err-clause-read
 returns-in-Err-clause-read g c =
     let f = c.args.stm.now.config in
     let good = g.K.MemRule.good c.args.stm.now.rule in
-    let d = c.desc.inside in
-    let s = d.seat.me.0 in
-    let o = own_of d.local in
-    let h = handle_of d.seat o in
-    let e = c.args.desc.now in
-    let i = runs-of g.K.MemRule.good f c.args.stm.now.rule h e d.number d.local c.desc.view_is c.requires.stm.config c.requires.stm.rule c.requires.running.0 c.desc.invariant.1 in
-    let eager = subst (λ (p : Handle g.row.K.Denot). (known p).alg ≡ OrecEager) (sym c.desc.view_is) c.requires.algorithm in
-    let quiet : d.local.committing ≡ false = ap (λ (p : Handle g.row.K.Denot). (known p).committing) c.desc.view_is ∙ c.requires.running.1 in
-    let plain : d.local.granted ≡ false = proving.plain-of good f d.number d.local s.view i eager o (subst (λ (p : Handle g.row.K.Denot). (known p).granted ≡ false) (sym c.desc.view_is) c.requires.revocable) in
-    let k = eager-of good f d.number d.local s.view i (sym i.named ∙ eager) plain in
-    let a = c.args.a in
-    let unwritten : item_at a d.local.writes.items ≡ None = ap (item_at a) (sym (laws.written-here good f d.number d.local s.view i eager plain quiet k)) ∙ subst (λ (p : Handle g.row.K.Denot). item_at a (known p).log.writes ≡ None) (sym c.desc.view_is) c.requires.unwritten in
-    let unread : item_at a d.local.reads.items ≡ None = ap (item_at a) k.reads ∙ subst (λ (p : Handle g.row.K.Denot). item_at a (known p).log.reads ≡ None) (sym c.desc.view_is) c.requires.unread in
-    let room : length d.local.reads.items ≢ d.local.reads.len = search rules in
-    let m = c.load_word.new.local in
-    let u = c.load_word.new.seat.me.0 in
-    let who = ap (λ (y : SeatView g.row.K.Denot). y.who) c.load_word.ensures.same.1 in
-    let cause = c.in-Err.cause in
-    let refused = c.in-Err.ensures.loads in
-    let b = c.take_back-in-Err.ensures in
-    let w = c.take_back-in-Err.new.seat.me.0 in
-    told (λ n v w. HasRead good f n a (reads.Conflict cause) v w) h e d.number w c.take_back-in-Err.new.local c.desc.view_is (ap (λ (y : SeatView g.row.K.Denot). y.who) b.same.1 ∙ who) c.desc.invariant.0.named
-    (subst (λ (p : Own). HasRead good f d.number a (reads.Conflict cause) (known_of s.view o) (known_of w.view p)) (sym (calls.ended-moved d.local m c.take_back-in-Err.new.local quiet refused.local b.idle))
-    (laws.reads-refused good f d.number d.local s.view i eager plain quiet k a cause m u.view w.view unwritten unread room refused b.takes_back))
-
-pub take_back-requires-clause-view : goal.take_back-requires-clause-view
-take_back-requires-clause-view g c =
-    let f = c.args.stm.now.config in
-    let good = g.K.MemRule.good c.args.stm.now.rule in
-    let d = c.desc.inside in
-    let s = d.seat.me.0 in
-    let o = own_of d.local in
-    let h = handle_of d.seat o in
-    let e = c.args.desc.now in
-    let i = runs-of g.K.MemRule.good f c.args.stm.now.rule h e d.number d.local c.desc.view_is c.requires.stm.config c.requires.stm.rule c.requires.running.0 c.desc.invariant.1 in
-    let eager = subst (λ (p : Handle g.row.K.Denot). (known p).alg ≡ OrecEager) (sym c.desc.view_is) c.requires.algorithm in
-    let quiet : d.local.committing ≡ false = ap (λ (p : Handle g.row.K.Denot). (known p).committing) c.desc.view_is ∙ c.requires.running.1 in
-    let plain : d.local.granted ≡ false = proving.plain-of good f d.number d.local s.view i eager o (subst (λ (p : Handle g.row.K.Denot). (known p).granted ≡ false) (sym c.desc.view_is) c.requires.revocable) in
-    let k = eager-of good f d.number d.local s.view i (sym i.named ∙ eager) plain in
-    let a = c.args.a in
-    let unwritten : item_at a d.local.writes.items ≡ None = ap (item_at a) (sym (laws.written-here good f d.number d.local s.view i eager plain quiet k)) ∙ subst (λ (p : Handle g.row.K.Denot). item_at a (known p).log.writes ≡ None) (sym c.desc.view_is) c.requires.unwritten in
-    let unread : item_at a d.local.reads.items ≡ None = ap (item_at a) k.reads ∙ subst (λ (p : Handle g.row.K.Denot). item_at a (known p).log.reads ≡ None) (sym c.desc.view_is) c.requires.unread in
-    laws.may-take-here good f d.number d.local s.view i eager plain quiet k
-
-pub take_back-requires-clause-named : goal.take_back-requires-clause-named
-take_back-requires-clause-named g c =
-    let f = c.args.stm.now.config in
-    let good = g.K.MemRule.good c.args.stm.now.rule in
-    let d = c.desc.inside in
-    let s = d.seat.me.0 in
-    let o = own_of d.local in
-    let h = handle_of d.seat o in
-    let e = c.args.desc.now in
-    let i = runs-of g.K.MemRule.good f c.args.stm.now.rule h e d.number d.local c.desc.view_is c.requires.stm.config c.requires.stm.rule c.requires.running.0 c.desc.invariant.1 in
-    let eager = subst (λ (p : Handle g.row.K.Denot). (known p).alg ≡ OrecEager) (sym c.desc.view_is) c.requires.algorithm in
-    let quiet : d.local.committing ≡ false = ap (λ (p : Handle g.row.K.Denot). (known p).committing) c.desc.view_is ∙ c.requires.running.1 in
-    let plain : d.local.granted ≡ false = proving.plain-of good f d.number d.local s.view i eager o (subst (λ (p : Handle g.row.K.Denot). (known p).granted ≡ false) (sym c.desc.view_is) c.requires.revocable) in
-    let k = eager-of good f d.number d.local s.view i (sym i.named ∙ eager) plain in
-    let a = c.args.a in
-    let unwritten : item_at a d.local.writes.items ≡ None = ap (item_at a) (sym (laws.written-here good f d.number d.local s.view i eager plain quiet k)) ∙ subst (λ (p : Handle g.row.K.Denot). item_at a (known p).log.writes ≡ None) (sym c.desc.view_is) c.requires.unwritten in
-    let unread : item_at a d.local.reads.items ≡ None = ap (item_at a) k.reads ∙ subst (λ (p : Handle g.row.K.Denot). item_at a (known p).log.reads ≡ None) (sym c.desc.view_is) c.requires.unread in
-    sym i.named
-
-pub load_word-requires-clause-view : goal.load_word-requires-clause-view
-load_word-requires-clause-view g c =
-    let f = c.args.stm.now.config in
-    let good = g.K.MemRule.good c.args.stm.now.rule in
-    let d = c.desc.inside in
-    let s = d.seat.me.0 in
-    let o = own_of d.local in
-    let h = handle_of d.seat o in
-    let e = c.args.desc.now in
-    let i = runs-of g.K.MemRule.good f c.args.stm.now.rule h e d.number d.local c.desc.view_is c.requires.stm.config c.requires.stm.rule c.requires.running.0 c.desc.invariant.1 in
-    let eager = subst (λ (p : Handle g.row.K.Denot). (known p).alg ≡ OrecEager) (sym c.desc.view_is) c.requires.algorithm in
-    let quiet : d.local.committing ≡ false = ap (λ (p : Handle g.row.K.Denot). (known p).committing) c.desc.view_is ∙ c.requires.running.1 in
-    let plain : d.local.granted ≡ false = proving.plain-of good f d.number d.local s.view i eager o (subst (λ (p : Handle g.row.K.Denot). (known p).granted ≡ false) (sym c.desc.view_is) c.requires.revocable) in
-    let k = eager-of good f d.number d.local s.view i (sym i.named ∙ eager) plain in
-    let a = c.args.a in
-    let unwritten : item_at a d.local.writes.items ≡ None = ap (item_at a) (sym (laws.written-here good f d.number d.local s.view i eager plain quiet k)) ∙ subst (λ (p : Handle g.row.K.Denot). item_at a (known p).log.writes ≡ None) (sym c.desc.view_is) c.requires.unwritten in
-    let unread : item_at a d.local.reads.items ≡ None = ap (item_at a) k.reads ∙ subst (λ (p : Handle g.row.K.Denot). item_at a (known p).log.reads ≡ None) (sym c.desc.view_is) c.requires.unread in
-    laws.may-load good f d.number d.local s.view i eager plain quiet k a c.requires.inside unwritten
-
-pub take_back-requires-in-Err-clause-view : goal.take_back-requires-in-Err-clause-view
-take_back-requires-in-Err-clause-view g c =
-    let f = c.args.stm.now.config in
-    let good = g.K.MemRule.good c.args.stm.now.rule in
-    let d = c.desc.inside in
-    let s = d.seat.me.0 in
-    let o = own_of d.local in
-    let h = handle_of d.seat o in
-    let e = c.args.desc.now in
-    let i = runs-of g.K.MemRule.good f c.args.stm.now.rule h e d.number d.local c.desc.view_is c.requires.stm.config c.requires.stm.rule c.requires.running.0 c.desc.invariant.1 in
-    let eager = subst (λ (p : Handle g.row.K.Denot). (known p).alg ≡ OrecEager) (sym c.desc.view_is) c.requires.algorithm in
-    let quiet : d.local.committing ≡ false = ap (λ (p : Handle g.row.K.Denot). (known p).committing) c.desc.view_is ∙ c.requires.running.1 in
-    let plain : d.local.granted ≡ false = proving.plain-of good f d.number d.local s.view i eager o (subst (λ (p : Handle g.row.K.Denot). (known p).granted ≡ false) (sym c.desc.view_is) c.requires.revocable) in
-    let k = eager-of good f d.number d.local s.view i (sym i.named ∙ eager) plain in
-    let a = c.args.a in
-    let unwritten : item_at a d.local.writes.items ≡ None = ap (item_at a) (sym (laws.written-here good f d.number d.local s.view i eager plain quiet k)) ∙ subst (λ (p : Handle g.row.K.Denot). item_at a (known p).log.writes ≡ None) (sym c.desc.view_is) c.requires.unwritten in
-    let unread : item_at a d.local.reads.items ≡ None = ap (item_at a) k.reads ∙ subst (λ (p : Handle g.row.K.Denot). item_at a (known p).log.reads ≡ None) (sym c.desc.view_is) c.requires.unread in
-    laws.may-take-refused good f d.number d.local s.view i eager plain quiet k a c.in-Err.cause c.load_word.new.local c.load_word.new.seat.me.0.view c.in-Err.ensures.loads
+    let d = c.args.desc.now in
+    laws.refused-first good f c.args.a (number d) c.in-Err.refusal d c.sample.new.desc c.in-Err.ensures.samples

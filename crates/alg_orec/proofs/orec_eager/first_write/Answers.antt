@@ -1,24 +1,20 @@
-use Rattle.std.proofs.Common.{ℕ, ◌≡◌, ◌≢◌, ◌<◌, ◌≤◌, length, subst, sym, ap, false, rules, ◌∙◌}
+use Rattle.std.proofs.Common.{ℕ, ◌≡◌, ◌≢◌, ◌<◌, ◌≤◌, length, subst, sym, ap, rules, ◌∙◌, refl}
 use Rattle.std.specs.Prelude.{◌^◌, None}
-use Rattle.stm_model.specs.declared.alg.Alg.TheVariants.{OrecEager}
 use Rattle.stm_model.specs.Memories.{item_at}
 use Rattle.rule_base.specs.declared.seats.SeatView.{SeatView}
-use Rattle.rule_base.specs.declared.seats.Who.{Who}
 use Rattle.rule_base.specs.declared.views.GateView.{GateView}
 use Rattle.rule_base.specs.declared.views.View.{View}
 use Rattle.rule_base.specs.Own.{Own}
 use Rattle.stm_rule.specs.declared.local.Local.{Local}
-use Rattle.stm_rule.specs.Attempts.{SameLengths, good_by, own_of}
+use Rattle.stm_rule.specs.Attempts.{SameLengths, own_of}
 use Rattle.stm_rule.specs.Callers.{Handle, handle_of}
 use Rattle.tx_answers.specs.declared.answers.Write.TheVariants as writes
 use Rattle.tx_answers.specs.Answers.{HasWritten}
 use Rattle.tx_answers.specs.Known.{known_of}
 use Rattle.stm_gate.specs.Knowing.{known}
-use Rattle.stm_gate.specs.Standing.{runs-of}
-use Rattle.stm_gate.specs.Told.{told, running-by, stands-in}
+use Rattle.stm_gate.specs.Told.{told}
+use Rattle.alg_orec.proofs.EagerCalls.{runs-eager, stays-tied}
 use Rattle.alg_orec.proofs.EagerLaws as reading
-use Rattle.alg_orec.proofs.EagerProving as proving
-use Rattle.alg_orec.proofs.EagerProving.{eager-of}
 use Rattle.alg_orec.proofs.EagerWriteLaws as laws
 use Rattle.alg_orec.proofs.ReadCalls as calls
 use Rattle.alg_orec.proofs.orec_eager.first_write.Goals as goal
@@ -33,20 +29,16 @@ returns-then-count-limit-clause-write g c =
     let o = own_of d.local in
     let h = handle_of d.seat o in
     let e = c.args.desc.now in
-    let i = runs-of g.K.MemRule.good f c.args.stm.now.rule h e d.number d.local c.desc.view_is c.requires.stm.config c.requires.stm.rule c.requires.running.0 c.desc.invariant.1 in
-    let eager = subst (λ (p : Handle g.row.K.Denot). (known p).alg ≡ OrecEager) (sym c.desc.view_is) c.requires.algorithm in
-    let quiet : d.local.committing ≡ false = ap (λ (p : Handle g.row.K.Denot). (known p).committing) c.desc.view_is ∙ c.requires.running.1 in
-    let plain : d.local.granted ≡ false = proving.plain-of good f d.number d.local s.view i eager o (subst (λ (p : Handle g.row.K.Denot). (known p).granted ≡ false) (sym c.desc.view_is) c.requires.revocable) in
-    let k = eager-of good f d.number d.local s.view i (sym i.named ∙ eager) plain in
+    let runs = runs-eager g.K.MemRule.good f c.args.stm.now.rule d.number d.local (handle_of d.seat (own_of d.local)) c.args.desc.now refl c.desc.view_is c.requires.stm.config c.requires.stm.rule c.requires.running c.requires.algorithm c.requires.revocable c.desc.invariant.1 in
     let a = c.args.a in
     let x = c.args.x in
-    let unwritten : item_at a d.local.writes.items ≡ None = ap (item_at a) (sym (reading.written-here good f d.number d.local s.view i eager plain quiet k)) ∙ subst (λ (p : Handle g.row.K.Denot). item_at a (known p).log.writes ≡ None) (sym c.desc.view_is) c.requires.unwritten in
+    let unwritten : item_at a d.local.writes.items ≡ None = ap (item_at a) (sym (reading.written-here good f d.number d.local s.view runs)) ∙ subst (λ (p : Handle g.row.K.Denot). item_at a (known p).log.writes ≡ None) (sym c.desc.view_is) c.requires.unwritten in
     let full : length l.undo.items ≡ l.undo.len = search rules in
     let w = c.take_back.new.seat.me.0 in
     told (λ n v w. HasWritten good f n a x (writes.Full c.len-limit.result) v w) h e d.number w c.take_back.new.local c.desc.view_is (ap (λ (y : SeatView g.row.K.Denot). y.who) c.take_back.ensures.same.1) c.desc.invariant.0.named
-    (subst (λ (p : Own). HasWritten good f d.number a x (writes.Full c.len-limit.result) (known_of s.view o) (known_of w.view p)) (sym (calls.ended-own d.local c.take_back.new.local quiet c.take_back.ensures.idle))
+    (subst (λ (p : Own). HasWritten good f d.number a x (writes.Full c.len-limit.result) (known_of s.view o) (known_of w.view p)) (sym (calls.ended-own d.local c.take_back.new.local runs.quiet c.take_back.ensures.idle))
     (subst (λ (q : ℕ). HasWritten good f d.number a x (writes.Full q) (known_of s.view o) (known_of w.view o)) (sym c.len-limit.ensures)
-    (laws.writes-full good f d.number d.local s.view i eager plain quiet k a x w.view unwritten full c.take_back.ensures.takes_back)))
+    (laws.writes-full good f d.number d.local s.view runs a x w.view unwritten full c.take_back.ensures.takes_back)))
 
 pub take_back-requires-clause-view : goal.take_back-requires-clause-view
 take_back-requires-clause-view g c =
@@ -54,18 +46,8 @@ take_back-requires-clause-view g c =
     let good = g.K.MemRule.good c.args.stm.now.rule in
     let d = c.desc.inside in
     let s = d.seat.me.0 in
-    let l = d.local in
-    let o = own_of d.local in
-    let h = handle_of d.seat o in
-    let e = c.args.desc.now in
-    let i = runs-of g.K.MemRule.good f c.args.stm.now.rule h e d.number d.local c.desc.view_is c.requires.stm.config c.requires.stm.rule c.requires.running.0 c.desc.invariant.1 in
-    let eager = subst (λ (p : Handle g.row.K.Denot). (known p).alg ≡ OrecEager) (sym c.desc.view_is) c.requires.algorithm in
-    let quiet : d.local.committing ≡ false = ap (λ (p : Handle g.row.K.Denot). (known p).committing) c.desc.view_is ∙ c.requires.running.1 in
-    let plain : d.local.granted ≡ false = proving.plain-of good f d.number d.local s.view i eager o (subst (λ (p : Handle g.row.K.Denot). (known p).granted ≡ false) (sym c.desc.view_is) c.requires.revocable) in
-    let k = eager-of good f d.number d.local s.view i (sym i.named ∙ eager) plain in
-    let a = c.args.a in
-    let x = c.args.x in
-    reading.may-take-here good f d.number d.local s.view i eager plain quiet k
+    let runs = runs-eager g.K.MemRule.good f c.args.stm.now.rule d.number d.local (handle_of d.seat (own_of d.local)) c.args.desc.now refl c.desc.view_is c.requires.stm.config c.requires.stm.rule c.requires.running c.requires.algorithm c.requires.revocable c.desc.invariant.1 in
+    reading.may-take-here good f d.number d.local s.view runs
 
 pub take_record-requires-clause-view : goal.take_record-requires-clause-view
 take_record-requires-clause-view g c =
@@ -74,21 +56,13 @@ take_record-requires-clause-view g c =
     let d = c.desc.inside in
     let s = d.seat.me.0 in
     let l = d.local in
-    let o = own_of d.local in
-    let h = handle_of d.seat o in
-    let e = c.args.desc.now in
-    let i = runs-of g.K.MemRule.good f c.args.stm.now.rule h e d.number d.local c.desc.view_is c.requires.stm.config c.requires.stm.rule c.requires.running.0 c.desc.invariant.1 in
-    let eager = subst (λ (p : Handle g.row.K.Denot). (known p).alg ≡ OrecEager) (sym c.desc.view_is) c.requires.algorithm in
-    let quiet : d.local.committing ≡ false = ap (λ (p : Handle g.row.K.Denot). (known p).committing) c.desc.view_is ∙ c.requires.running.1 in
-    let plain : d.local.granted ≡ false = proving.plain-of good f d.number d.local s.view i eager o (subst (λ (p : Handle g.row.K.Denot). (known p).granted ≡ false) (sym c.desc.view_is) c.requires.revocable) in
-    let k = eager-of good f d.number d.local s.view i (sym i.named ∙ eager) plain in
+    let runs = runs-eager g.K.MemRule.good f c.args.stm.now.rule d.number d.local (handle_of d.seat (own_of d.local)) c.args.desc.now refl c.desc.view_is c.requires.stm.config c.requires.stm.rule c.requires.running c.requires.algorithm c.requires.revocable c.desc.invariant.1 in
     let a = c.args.a in
-    let x = c.args.x in
-    let unwritten : item_at a d.local.writes.items ≡ None = ap (item_at a) (sym (reading.written-here good f d.number d.local s.view i eager plain quiet k)) ∙ subst (λ (p : Handle g.row.K.Denot). item_at a (known p).log.writes ≡ None) (sym c.desc.view_is) c.requires.unwritten in
+    let unwritten : item_at a d.local.writes.items ≡ None = ap (item_at a) (sym (reading.written-here good f d.number d.local s.view runs)) ∙ subst (λ (p : Handle g.row.K.Denot). item_at a (known p).log.writes ≡ None) (sym c.desc.view_is) c.requires.unwritten in
     let room : length l.undo.items ≢ l.undo.len = search rules in
     let most : length l.undo.items ≤ l.undo.len = search rules in
     let records : 0 < f.records = search rules in
-    laws.may-take good f d.number d.local s.view i eager plain quiet k a c.requires.inside records c.desc.invariant.1.lengths unwritten room most
+    laws.may-take good f d.number d.local s.view runs a c.requires.inside records c.desc.invariant.1.lengths unwritten room most
 
 pub take_back-requires-in-Err-clause-view : goal.take_back-requires-in-Err-clause-view
 take_back-requires-in-Err-clause-view g c =
@@ -96,21 +70,12 @@ take_back-requires-in-Err-clause-view g c =
     let good = g.K.MemRule.good c.args.stm.now.rule in
     let d = c.desc.inside in
     let s = d.seat.me.0 in
-    let l = d.local in
-    let o = own_of d.local in
-    let h = handle_of d.seat o in
-    let e = c.args.desc.now in
-    let i = runs-of g.K.MemRule.good f c.args.stm.now.rule h e d.number d.local c.desc.view_is c.requires.stm.config c.requires.stm.rule c.requires.running.0 c.desc.invariant.1 in
-    let eager = subst (λ (p : Handle g.row.K.Denot). (known p).alg ≡ OrecEager) (sym c.desc.view_is) c.requires.algorithm in
-    let quiet : d.local.committing ≡ false = ap (λ (p : Handle g.row.K.Denot). (known p).committing) c.desc.view_is ∙ c.requires.running.1 in
-    let plain : d.local.granted ≡ false = proving.plain-of good f d.number d.local s.view i eager o (subst (λ (p : Handle g.row.K.Denot). (known p).granted ≡ false) (sym c.desc.view_is) c.requires.revocable) in
-    let k = eager-of good f d.number d.local s.view i (sym i.named ∙ eager) plain in
+    let runs = runs-eager g.K.MemRule.good f c.args.stm.now.rule d.number d.local (handle_of d.seat (own_of d.local)) c.args.desc.now refl c.desc.view_is c.requires.stm.config c.requires.stm.rule c.requires.running c.requires.algorithm c.requires.revocable c.desc.invariant.1 in
     let a = c.args.a in
-    let x = c.args.x in
     let m = c.take_record.new.local in
     let u = c.take_record.new.seat.me.0 in
     let refused = c.in-Err.ensures.takes in
-    laws.may-take-refusal good f d.number d.local s.view i eager plain quiet k a c.in-Err.refusal m u.view refused
+    laws.may-take-refusal good f d.number d.local s.view runs a c.in-Err.refusal m u.view refused
 
 pub take_back-requires-in-Err-clause-holds : goal.take_back-requires-in-Err-clause-holds
 take_back-requires-in-Err-clause-holds g c =
@@ -118,21 +83,12 @@ take_back-requires-in-Err-clause-holds g c =
     let good = g.K.MemRule.good c.args.stm.now.rule in
     let d = c.desc.inside in
     let s = d.seat.me.0 in
-    let l = d.local in
-    let o = own_of d.local in
-    let h = handle_of d.seat o in
-    let e = c.args.desc.now in
-    let i = runs-of g.K.MemRule.good f c.args.stm.now.rule h e d.number d.local c.desc.view_is c.requires.stm.config c.requires.stm.rule c.requires.running.0 c.desc.invariant.1 in
-    let eager = subst (λ (p : Handle g.row.K.Denot). (known p).alg ≡ OrecEager) (sym c.desc.view_is) c.requires.algorithm in
-    let quiet : d.local.committing ≡ false = ap (λ (p : Handle g.row.K.Denot). (known p).committing) c.desc.view_is ∙ c.requires.running.1 in
-    let plain : d.local.granted ≡ false = proving.plain-of good f d.number d.local s.view i eager o (subst (λ (p : Handle g.row.K.Denot). (known p).granted ≡ false) (sym c.desc.view_is) c.requires.revocable) in
-    let k = eager-of good f d.number d.local s.view i (sym i.named ∙ eager) plain in
+    let runs = runs-eager g.K.MemRule.good f c.args.stm.now.rule d.number d.local (handle_of d.seat (own_of d.local)) c.args.desc.now refl c.desc.view_is c.requires.stm.config c.requires.stm.rule c.requires.running c.requires.algorithm c.requires.revocable c.desc.invariant.1 in
     let a = c.args.a in
-    let x = c.args.x in
     let m = c.take_record.new.local in
     let u = c.take_record.new.seat.me.0 in
     let refused = c.in-Err.ensures.takes in
-    let r = laws.refused-local good f d.number d.local s.view i eager plain quiet k a c.in-Err.refusal m u.view refused in
+    let r = laws.refused-local good f d.number d.local s.view runs a c.in-Err.refusal m u.view refused in
     ap (λ (y : Local). y.holds) r.0 ∙ (c.desc.invariant.1.holds ∙ sym (ap (λ (y : GateView). y.holds) r.1))
 
 pub take_back-requires-in-Err-clause-named : goal.take_back-requires-in-Err-clause-named
@@ -141,22 +97,13 @@ take_back-requires-in-Err-clause-named g c =
     let good = g.K.MemRule.good c.args.stm.now.rule in
     let d = c.desc.inside in
     let s = d.seat.me.0 in
-    let l = d.local in
-    let o = own_of d.local in
-    let h = handle_of d.seat o in
-    let e = c.args.desc.now in
-    let i = runs-of g.K.MemRule.good f c.args.stm.now.rule h e d.number d.local c.desc.view_is c.requires.stm.config c.requires.stm.rule c.requires.running.0 c.desc.invariant.1 in
-    let eager = subst (λ (p : Handle g.row.K.Denot). (known p).alg ≡ OrecEager) (sym c.desc.view_is) c.requires.algorithm in
-    let quiet : d.local.committing ≡ false = ap (λ (p : Handle g.row.K.Denot). (known p).committing) c.desc.view_is ∙ c.requires.running.1 in
-    let plain : d.local.granted ≡ false = proving.plain-of good f d.number d.local s.view i eager o (subst (λ (p : Handle g.row.K.Denot). (known p).granted ≡ false) (sym c.desc.view_is) c.requires.revocable) in
-    let k = eager-of good f d.number d.local s.view i (sym i.named ∙ eager) plain in
+    let runs = runs-eager g.K.MemRule.good f c.args.stm.now.rule d.number d.local (handle_of d.seat (own_of d.local)) c.args.desc.now refl c.desc.view_is c.requires.stm.config c.requires.stm.rule c.requires.running c.requires.algorithm c.requires.revocable c.desc.invariant.1 in
     let a = c.args.a in
-    let x = c.args.x in
     let m = c.take_record.new.local in
     let u = c.take_record.new.seat.me.0 in
     let refused = c.in-Err.ensures.takes in
-    let r = laws.refused-local good f d.number d.local s.view i eager plain quiet k a c.in-Err.refusal m u.view refused in
-    ap (λ (y : Local). y.algorithm) r.0 ∙ (sym i.named ∙ sym (ap (λ (y : GateView). y.algorithm) r.1))
+    let r = laws.refused-local good f d.number d.local s.view runs a c.in-Err.refusal m u.view refused in
+    ap (λ (y : Local). y.algorithm) r.0 ∙ (sym runs.inside.named ∙ sym (ap (λ (y : GateView). y.algorithm) r.1))
 
 pub returns-in-Err-clause-write : goal.returns-in-Err-clause-write
 returns-in-Err-clause-write g c =
@@ -168,26 +115,21 @@ returns-in-Err-clause-write g c =
     let o = own_of d.local in
     let h = handle_of d.seat o in
     let e = c.args.desc.now in
-    let i = runs-of g.K.MemRule.good f c.args.stm.now.rule h e d.number d.local c.desc.view_is c.requires.stm.config c.requires.stm.rule c.requires.running.0 c.desc.invariant.1 in
-    let eager = subst (λ (p : Handle g.row.K.Denot). (known p).alg ≡ OrecEager) (sym c.desc.view_is) c.requires.algorithm in
-    let quiet : d.local.committing ≡ false = ap (λ (p : Handle g.row.K.Denot). (known p).committing) c.desc.view_is ∙ c.requires.running.1 in
-    let plain : d.local.granted ≡ false = proving.plain-of good f d.number d.local s.view i eager o (subst (λ (p : Handle g.row.K.Denot). (known p).granted ≡ false) (sym c.desc.view_is) c.requires.revocable) in
-    let k = eager-of good f d.number d.local s.view i (sym i.named ∙ eager) plain in
+    let runs = runs-eager g.K.MemRule.good f c.args.stm.now.rule d.number d.local (handle_of d.seat (own_of d.local)) c.args.desc.now refl c.desc.view_is c.requires.stm.config c.requires.stm.rule c.requires.running c.requires.algorithm c.requires.revocable c.desc.invariant.1 in
     let a = c.args.a in
     let x = c.args.x in
-    let unwritten : item_at a d.local.writes.items ≡ None = ap (item_at a) (sym (reading.written-here good f d.number d.local s.view i eager plain quiet k)) ∙ subst (λ (p : Handle g.row.K.Denot). item_at a (known p).log.writes ≡ None) (sym c.desc.view_is) c.requires.unwritten in
+    let unwritten : item_at a d.local.writes.items ≡ None = ap (item_at a) (sym (reading.written-here good f d.number d.local s.view runs)) ∙ subst (λ (p : Handle g.row.K.Denot). item_at a (known p).log.writes ≡ None) (sym c.desc.view_is) c.requires.unwritten in
     let room : length l.undo.items ≢ l.undo.len = search rules in
-    let most : length l.undo.items ≤ l.undo.len = search rules in
     let m = c.take_record.new.local in
     let u = c.take_record.new.seat.me.0 in
     let refused = c.in-Err.ensures.takes in
     let who = ap (λ (y : SeatView g.row.K.Denot). y.who) c.take_record.ensures.same.1 in
-    let r = laws.refused-local good f d.number d.local s.view i eager plain quiet k a c.in-Err.refusal m u.view refused in
+    let r = laws.refused-local good f d.number d.local s.view runs a c.in-Err.refusal m u.view refused in
     let b = c.take_back-in-Err.ensures in
     let w = c.take_back-in-Err.new.seat.me.0 in
     told (λ n v w. HasWritten good f n a x c.in-Err.refusal v w) h e d.number w c.take_back-in-Err.new.local c.desc.view_is (ap (λ (y : SeatView g.row.K.Denot). y.who) b.same.1 ∙ who) c.desc.invariant.0.named
-    (subst (λ (p : Own). HasWritten good f d.number a x c.in-Err.refusal (known_of s.view o) (known_of w.view p)) (sym (calls.ended-moved d.local m c.take_back-in-Err.new.local quiet r.0 b.idle))
-    (laws.writes-refusal good f d.number d.local s.view i eager plain quiet k a x c.in-Err.refusal m u.view w.view unwritten room refused b.takes_back))
+    (subst (λ (p : Own). HasWritten good f d.number a x c.in-Err.refusal (known_of s.view o) (known_of w.view p)) (sym (calls.ended-moved d.local m c.take_back-in-Err.new.local runs.quiet r.0 b.idle))
+    (laws.writes-refusal good f d.number d.local s.view runs a x c.in-Err.refusal m u.view w.view unwritten room refused b.takes_back))
 
 pub store_first-requires-clause-view : goal.store_first-requires-clause-view
 store_first-requires-clause-view g c =
@@ -196,23 +138,15 @@ store_first-requires-clause-view g c =
     let d = c.desc.inside in
     let s = d.seat.me.0 in
     let l = d.local in
-    let o = own_of d.local in
-    let h = handle_of d.seat o in
-    let e = c.args.desc.now in
-    let i = runs-of g.K.MemRule.good f c.args.stm.now.rule h e d.number d.local c.desc.view_is c.requires.stm.config c.requires.stm.rule c.requires.running.0 c.desc.invariant.1 in
-    let eager = subst (λ (p : Handle g.row.K.Denot). (known p).alg ≡ OrecEager) (sym c.desc.view_is) c.requires.algorithm in
-    let quiet : d.local.committing ≡ false = ap (λ (p : Handle g.row.K.Denot). (known p).committing) c.desc.view_is ∙ c.requires.running.1 in
-    let plain : d.local.granted ≡ false = proving.plain-of good f d.number d.local s.view i eager o (subst (λ (p : Handle g.row.K.Denot). (known p).granted ≡ false) (sym c.desc.view_is) c.requires.revocable) in
-    let k = eager-of good f d.number d.local s.view i (sym i.named ∙ eager) plain in
+    let runs = runs-eager g.K.MemRule.good f c.args.stm.now.rule d.number d.local (handle_of d.seat (own_of d.local)) c.args.desc.now refl c.desc.view_is c.requires.stm.config c.requires.stm.rule c.requires.running c.requires.algorithm c.requires.revocable c.desc.invariant.1 in
     let a = c.args.a in
-    let x = c.args.x in
-    let unwritten : item_at a d.local.writes.items ≡ None = ap (item_at a) (sym (reading.written-here good f d.number d.local s.view i eager plain quiet k)) ∙ subst (λ (p : Handle g.row.K.Denot). item_at a (known p).log.writes ≡ None) (sym c.desc.view_is) c.requires.unwritten in
+    let unwritten : item_at a d.local.writes.items ≡ None = ap (item_at a) (sym (reading.written-here good f d.number d.local s.view runs)) ∙ subst (λ (p : Handle g.row.K.Denot). item_at a (known p).log.writes ≡ None) (sym c.desc.view_is) c.requires.unwritten in
     let room : length l.undo.items ≢ l.undo.len = search rules in
     let most : length l.undo.items ≤ l.undo.len = search rules in
     let m = c.take_record.new.local in
     let u = c.take_record.new.seat.me.0 in
     let took = c.in_default.ensures.takes in
-    laws.may-store good f d.number d.local s.view i eager plain quiet k a m u.view c.desc.invariant.1.lengths unwritten room most took
+    laws.may-store good f d.number d.local s.view runs a m u.view c.desc.invariant.1.lengths unwritten room most took
 
 pub invariant_of-desc-2 : goal.invariant_of-desc-2
 invariant_of-desc-2 g c =
@@ -220,45 +154,23 @@ invariant_of-desc-2 g c =
     let good = g.K.MemRule.good c.args.stm.now.rule in
     let d = c.desc.inside in
     let s = d.seat.me.0 in
-    let l = d.local in
-    let o = own_of d.local in
-    let h = handle_of d.seat o in
-    let e = c.args.desc.now in
-    let i = runs-of g.K.MemRule.good f c.args.stm.now.rule h e d.number d.local c.desc.view_is c.requires.stm.config c.requires.stm.rule c.requires.running.0 c.desc.invariant.1 in
-    let eager = subst (λ (p : Handle g.row.K.Denot). (known p).alg ≡ OrecEager) (sym c.desc.view_is) c.requires.algorithm in
-    let quiet : d.local.committing ≡ false = ap (λ (p : Handle g.row.K.Denot). (known p).committing) c.desc.view_is ∙ c.requires.running.1 in
-    let plain : d.local.granted ≡ false = proving.plain-of good f d.number d.local s.view i eager o (subst (λ (p : Handle g.row.K.Denot). (known p).granted ≡ false) (sym c.desc.view_is) c.requires.revocable) in
-    let k = eager-of good f d.number d.local s.view i (sym i.named ∙ eager) plain in
+    let runs = runs-eager g.K.MemRule.good f c.args.stm.now.rule d.number d.local (handle_of d.seat (own_of d.local)) c.args.desc.now refl c.desc.view_is c.requires.stm.config c.requires.stm.rule c.requires.running c.requires.algorithm c.requires.revocable c.desc.invariant.1 in
     let a = c.args.a in
     let x = c.args.x in
-    let unwritten : item_at a d.local.writes.items ≡ None = ap (item_at a) (sym (reading.written-here good f d.number d.local s.view i eager plain quiet k)) ∙ subst (λ (p : Handle g.row.K.Denot). item_at a (known p).log.writes ≡ None) (sym c.desc.view_is) c.requires.unwritten in
-    let room : length l.undo.items ≢ l.undo.len = search rules in
-    let most : length l.undo.items ≤ l.undo.len = search rules in
+    let unwritten : item_at a d.local.writes.items ≡ None = ap (item_at a) (sym (reading.written-here good f d.number d.local s.view runs)) ∙ subst (λ (p : Handle g.row.K.Denot). item_at a (known p).log.writes ≡ None) (sym c.desc.view_is) c.requires.unwritten in
     let m = c.take_record.new.local in
     let u = c.take_record.new.seat.me.0 in
     let took = c.in_default.ensures.takes in
     let q = c.store_first.new.local in
     let w = c.store_first.new.seat.me.0 in
-    let stores = laws.stores-first good f d.number d.local s.view i eager plain quiet k a x m q u.view w.view c.requires.inside unwritten took c.store_first.ensures.stores in
+    let stores = laws.stores-first good f d.number d.local s.view runs a x m q u.view w.view c.requires.inside unwritten took c.store_first.ensures.stores in
     let seated = laws.seat-then s u w c.take_record.ensures.same.1 c.store_first.ensures.same.1 in
     let who = ap (λ (y : SeatView g.row.K.Denot). y.who) seated in
     let small : x < 2 ^ 64 = search rules in
-    let bare = c.store_first.ensures.same.0.2 ∙ c.take_record.ensures.same.0.2 in
-    let config = ap (λ (p : Handle g.row.K.Denot). p.who.config) c.desc.view_is ∙ c.requires.stm.config in
-    let value = ap (λ (p : Handle g.row.K.Denot). p.who.rule) c.desc.view_is ∙ c.requires.stm.rule in
-    let running = ap (λ (y : Local). y.running) stores.local ∙ running-by (good_by g.K.MemRule.good s.who.rule) s.who.config d.number d.local s.view i.phase c.desc.invariant.1 in
-    let tied = c.desc.invariant.0 in
-    let lengths : SameLengths q = laws.lengths-stored good f d.number d.local s.view i eager plain quiet k a x q w.view stores c.desc.invariant.1.lengths in (
-      record {
-        named = ap (λ (y : Who g.row.K.Denot). y.role) who ∙ tied.named;
-        low = subst (λ (y : Who g.row.K.Denot). d.number < y.config.callers) (sym who) tied.low;
-        bare = ap (λ (y : SeatView g.row.K.Denot). y.gathered) seated ∙ tied.bare;
-        empty = bare ∙ tied.empty;
-      },
-      stands-in g.K.MemRule.good f c.args.stm.now.rule w.who d.number q w.view (ap (λ (y : Who g.row.K.Denot). y.config) who ∙ config) (ap (λ (y : Who g.row.K.Denot). y.rule) who ∙ value) running
-          (ap (λ (y : Local). y.holds) stores.local ∙ (c.desc.invariant.1.holds ∙ sym (ap (λ (y : View). y.gate.holds) stores.is))) lengths
-          (laws.stays-stored good f d.number d.local s.view i eager plain quiet k a x q w.view stores c.requires.inside small),
-    )
+    let lengths : SameLengths q = laws.lengths-stored good f d.number d.local s.view runs a x q w.view stores c.desc.invariant.1.lengths in
+    stays-tied g.K.MemRule.good f c.args.stm.now.rule d.number d.local (handle_of d.seat (own_of d.local)) c.args.desc.now refl c.desc.view_is c.requires.stm.config c.requires.stm.rule q d.seat.me c.store_first.new.seat.me refl c.desc.invariant.0 c.desc.invariant.1 runs.inside.phase
+    who (ap (λ (y : SeatView g.row.K.Denot). y.gathered) seated) (c.store_first.ensures.same.0.2 ∙ c.take_record.ensures.same.0.2) (ap (λ (y : Local). y.running) stores.local) (ap (λ (y : Local). y.holds) stores.local) lengths (ap (λ (y : View). y.gate.holds) stores.is)
+    (laws.stays-stored good f d.number d.local s.view runs a x q w.view stores c.requires.inside small)
 
 pub returns-clause-write : goal.returns-clause-write
 returns-clause-write g c =
@@ -270,23 +182,18 @@ returns-clause-write g c =
     let o = own_of d.local in
     let h = handle_of d.seat o in
     let e = c.args.desc.now in
-    let i = runs-of g.K.MemRule.good f c.args.stm.now.rule h e d.number d.local c.desc.view_is c.requires.stm.config c.requires.stm.rule c.requires.running.0 c.desc.invariant.1 in
-    let eager = subst (λ (p : Handle g.row.K.Denot). (known p).alg ≡ OrecEager) (sym c.desc.view_is) c.requires.algorithm in
-    let quiet : d.local.committing ≡ false = ap (λ (p : Handle g.row.K.Denot). (known p).committing) c.desc.view_is ∙ c.requires.running.1 in
-    let plain : d.local.granted ≡ false = proving.plain-of good f d.number d.local s.view i eager o (subst (λ (p : Handle g.row.K.Denot). (known p).granted ≡ false) (sym c.desc.view_is) c.requires.revocable) in
-    let k = eager-of good f d.number d.local s.view i (sym i.named ∙ eager) plain in
+    let runs = runs-eager g.K.MemRule.good f c.args.stm.now.rule d.number d.local (handle_of d.seat (own_of d.local)) c.args.desc.now refl c.desc.view_is c.requires.stm.config c.requires.stm.rule c.requires.running c.requires.algorithm c.requires.revocable c.desc.invariant.1 in
     let a = c.args.a in
     let x = c.args.x in
-    let unwritten : item_at a d.local.writes.items ≡ None = ap (item_at a) (sym (reading.written-here good f d.number d.local s.view i eager plain quiet k)) ∙ subst (λ (p : Handle g.row.K.Denot). item_at a (known p).log.writes ≡ None) (sym c.desc.view_is) c.requires.unwritten in
+    let unwritten : item_at a d.local.writes.items ≡ None = ap (item_at a) (sym (reading.written-here good f d.number d.local s.view runs)) ∙ subst (λ (p : Handle g.row.K.Denot). item_at a (known p).log.writes ≡ None) (sym c.desc.view_is) c.requires.unwritten in
     let room : length l.undo.items ≢ l.undo.len = search rules in
-    let most : length l.undo.items ≤ l.undo.len = search rules in
     let m = c.take_record.new.local in
     let u = c.take_record.new.seat.me.0 in
     let took = c.in_default.ensures.takes in
     let q = c.store_first.new.local in
     let w = c.store_first.new.seat.me.0 in
-    let stores = laws.stores-first good f d.number d.local s.view i eager plain quiet k a x m q u.view w.view c.requires.inside unwritten took c.store_first.ensures.stores in
+    let stores = laws.stores-first good f d.number d.local s.view runs a x m q u.view w.view c.requires.inside unwritten took c.store_first.ensures.stores in
     let seated = laws.seat-then s u w c.take_record.ensures.same.1 c.store_first.ensures.same.1 in
     let who = ap (λ (y : SeatView g.row.K.Denot). y.who) seated in
     told (λ n v w. HasWritten good f n a x writes.Done v w) h e d.number w q c.desc.view_is who c.desc.invariant.0.named
-    (laws.writes-done good f d.number d.local s.view i eager plain quiet k a x q w.view stores (laws.room-free good f d.number d.local s.view i eager plain quiet k a unwritten room))
+    (laws.writes-done good f d.number d.local s.view runs a x q w.view stores (laws.room-free good f d.number d.local s.view runs a unwritten room))

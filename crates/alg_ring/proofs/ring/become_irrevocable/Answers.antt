@@ -1,34 +1,25 @@
-use Rattle.std.proofs.Common.{ℕ, ◌≡◌, ◌<◌, subst, sym, ap, true, rules, ◌∙◌}
-use Rattle.stm_model.specs.declared.alg.Alg.TheVariants.{RingSw}
-use Rattle.stm_model.specs.declared.config.Config.{Config}
+use Rattle.std.proofs.Common.{ℕ, ◌≡◌, subst, sym, ap, refl, true, rules, ◌∙◌}
 use Rattle.rule_base.specs.declared.seats.Who.{Who}
 use Rattle.stm_rule.specs.Attempts.{own_of}
-use Rattle.stm_rule.specs.Callers.{Handle, handle_of}
 use Rattle.tx_answers.specs.Answers.{BecomesSure}
-use Rattle.tx_answers.specs.Known.{caller_of}
+use Rattle.tx_answers.specs.Known.{Known, known_of, caller_of}
 use Rattle.stm_gate.specs.Granting.{Grants, irrevs-after, sure-already}
 use Rattle.stm_gate.specs.Knowing.{known, number}
-use Rattle.stm_gate.specs.Standing.{runs-of}
-use Rattle.alg_ring.proofs.Ending as laws
+use Rattle.alg_ring.specs.Opening.{opened, has-attempt}
+use Rattle.alg_ring.proofs.Running as attempt
 use Rattle.alg_ring.proofs.ring.become_irrevocable.Goals as goal
 
 pub returns-then-desc-clause-irrevs : goal.returns-then-desc-clause-irrevs
 returns-then-desc-clause-irrevs g c =
-    let f = c.args.stm.now.config in
-    let good = g.K.MemRule.good c.args.stm.now.rule in
+    let good = g.K.MemRule.good in
+    let stm = c.args.stm.now in
     let d = c.desc.inside in
-    let s = d.seat.me.0 in
-    let o = own_of d.local in
-    let h = handle_of d.seat o in
-    let e = c.args.desc.now in
-    let i = runs-of g.K.MemRule.good f c.args.stm.now.rule h e d.number d.local c.desc.view_is c.requires.stm.config c.requires.stm.rule c.requires.running.0 c.desc.invariant.1 in
-    let name : caller_of s.who.role ≡ d.number = ap caller_of c.desc.invariant.0.named in
-    let named = subst (λ (p : Handle g.row.K.Denot). (known p).alg ≡ RingSw) (sym c.desc.view_is) c.requires.algorithm in
-    let low : d.number < f.callers = subst (λ (q : Config). d.number < q.callers) (subst (λ (p : Handle g.row.K.Denot). p.who.config ≡ f) (sym c.desc.view_is) c.requires.stm.config) c.desc.invariant.0.low in
+    let v = d.seat.me.0.view in
+    let a = opened good stm d.number d.local c.desc.view_is refl c.desc.invariant.0.named c.desc.invariant.0.low c.desc.invariant.1 c.requires.stm in
+    let at = has-attempt good stm a c.requires.running.0 c.requires.algorithm in
     let granted : d.local.granted ≡ true = search rules in
-    let sure = laws.sure-granted good f d.number d.local s.view i named o granted in
-    subst (λ (p : Handle g.row.K.Denot). BecomesSure good f (number p) (known p) (known p)) c.desc.view_is (subst (λ (q : ℕ). BecomesSure good f q (known h) (known h)) (sym name)
-    (sure-already good f d.number d.local s.view o (ap (λ (p : Handle g.row.K.Denot). (known p).committing) c.desc.view_is ∙ c.requires.running.1) i sure))
+    subst (λ (k : Known). BecomesSure (good stm.rule) stm.config (number c.args.desc.now) k k) (sym a.knows) (subst (λ (n : ℕ). BecomesSure (good stm.rule) stm.config n (known_of v (own_of d.local)) (known_of v (own_of d.local))) (sym a.name)
+    (sure-already (good stm.rule) stm.config d.number d.local v (own_of d.local) (ap (λ (k : Known). k.committing) (sym a.knows) ∙ c.requires.running.1) (attempt.inside (good stm.rule) stm.config d.number d.local v at) (attempt.sure-is (good stm.rule) stm.config d.number d.local v at ∙ granted)))
 
 pub returns-in-Alone-clause-irrevs : goal.returns-in-Alone-clause-irrevs
 returns-in-Alone-clause-irrevs g c =

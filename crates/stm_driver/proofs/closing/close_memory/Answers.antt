@@ -1,5 +1,5 @@
 use Rattle.std.proofs.Common.{List, ap, sym, ◌∙◌, length, subst, ◌≡◌, ◌≤◌, refl}
-use Rattle.std.specs.Prelude.{vec_capacity, OnOk, All, Err}
+use Rattle.std.specs.Prelude.{vec_capacity, OnOk, All, Err, IsPermutation}
 use Rattle.stm_rule.specs.Callers.{Handle, AllIdle}
 use Rattle.stm_rule.specs.Closings.{Closes}
 use Rattle.stm_script.specs.declared.report.Report.{Report}
@@ -12,6 +12,7 @@ use Rattle.stm_driver.specs.declared.schedule.Halt.{Halt}
 use Rattle.stm_driver.specs.ClosedRuns.{Came, CutShort, IsReport, Reported}
 use Rattle.stm_driver.specs.Schedules.{AreSound}
 use Rattle.stm_driver.proofs.IdleLaws.{came-back, descs-count, idle-still}
+use Rattle.stm_driver.proofs.GatherLaws.{report-moved}
 use Rattle.stm_driver.proofs.closing.close_memory.Goals as goal
 
 pub take_apart-requires-clause-rows : goal.take_apart-requires-clause-rows
@@ -40,11 +41,11 @@ returns-in-Ok-report_of g c =
     let between = subst (λ h. OnOk h (All (λ (w : Worker g.row.K.Denot). w.phase ≡ Between) ws)) how c.requires.through in
     let after : workers_in c.make_all_idle.new.runners ≡ ws = idle-still (g.K.MemRule.good c.args.stm.rule) c.args.stm ws (workers_in c.make_all_idle.new.runners) between back.idle in
     let descs = c.take_apart.ensures.descs ∙ (ap descs_of back.is ∙ ap descs_of after) in
-    let rows = c.take_apart.ensures.rows ∙ (ap rows_of back.is ∙ ap rows_of after) in
+    let rows = subst (λ (rs : List Row). IsPermutation rs c.take_apart.new.rows.items) (ap rows_of back.is ∙ ap rows_of after) c.take_apart.ensures.rows in
     let told : (report : Report) → IsReport c.take_apart.new.rows.items c.as_slice.result.now report → Reported (g.K.MemRule.good c.args.stm.rule) c.args.stm ws report c.close_into-closed.result = λ report is. record {
       words = c.close_into-closed.new.words.items;
       closes = subst (λ (ds : List (Handle g.row.K.Denot)). Closes (g.K.MemRule.good c.args.stm.rule) c.args.stm.config ds c.close_into-closed.new.words.items c.close_into-closed.result) descs c.close_into-closed.ensures;
-      is = subst (λ ns. IsReport (rows_of ws) ns report) c.as_slice.ensures.value (subst (λ (rs : List Row). IsReport rs c.as_slice.result.now report) rows is);
+      is = subst (λ ns. IsReport (rows_of ws) ns report) c.as_slice.ensures.value (report-moved (rows_of ws) c.take_apart.new.rows.items c.as_slice.result.now report rows is);
     } in
     subst (λ h. Came (g.K.MemRule.good c.args.stm.rule) c.args.stm ws h (ToEnd c.in-Ok-report_of.report c.close_into-closed.result)) (sym how) (told c.in-Ok-report_of.report c.in-Ok-report_of.ensures.is)
 
@@ -56,11 +57,11 @@ returns-in-Ok g c =
     let between = subst (λ h. OnOk h (All (λ (w : Worker g.row.K.Denot). w.phase ≡ Between) ws)) how c.requires.through in
     let after : workers_in c.make_all_idle.new.runners ≡ ws = idle-still (g.K.MemRule.good c.args.stm.rule) c.args.stm ws (workers_in c.make_all_idle.new.runners) between back.idle in
     let descs = c.take_apart.ensures.descs ∙ (ap descs_of back.is ∙ ap descs_of after) in
-    let rows = c.take_apart.ensures.rows ∙ (ap rows_of back.is ∙ ap rows_of after) in
+    let rows = subst (λ (rs : List Row). IsPermutation rs c.take_apart.new.rows.items) (ap rows_of back.is ∙ ap rows_of after) c.take_apart.ensures.rows in
     let told : (report : Report) → IsReport c.take_apart.new.rows.items c.as_slice.result.now report → Reported (g.K.MemRule.good c.args.stm.rule) c.args.stm ws report c.close_into-closed.result = λ report is. record {
       words = c.close_into-closed.new.words.items;
       closes = subst (λ (ds : List (Handle g.row.K.Denot)). Closes (g.K.MemRule.good c.args.stm.rule) c.args.stm.config ds c.close_into-closed.new.words.items c.close_into-closed.result) descs c.close_into-closed.ensures;
-      is = subst (λ ns. IsReport (rows_of ws) ns report) c.as_slice.ensures.value (subst (λ (rs : List Row). IsReport rs c.as_slice.result.now report) rows is);
+      is = subst (λ ns. IsReport (rows_of ws) ns report) c.as_slice.ensures.value (report-moved (rows_of ws) c.take_apart.new.rows.items c.as_slice.result.now report rows is);
     } in
     let some = c.in-Err-report_of.ensures.refused in
     subst (λ h. Came (g.K.MemRule.good c.args.stm.rule) c.args.stm ws h (OutOfMemory c.close_into-closed.result)) (sym how) (some.0, told some.0 some.1)

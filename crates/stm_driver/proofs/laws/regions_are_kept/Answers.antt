@@ -1,4 +1,4 @@
-use Rattle.stm_script.specs.Reports.{regions_of, zeros}
+use Rattle.stm_script.specs.Reports.{regions_of}
 use Rattle.stm_driver.proofs.KeepingLaws.{workload-keeps}
 use Rattle.stm_driver.proofs.laws.regions_are_kept.Goals as goal
 

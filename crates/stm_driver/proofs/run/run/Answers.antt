@@ -71,12 +71,14 @@ close_memory-requires-clause-room g c =
     let callers = ap (λ (x : Config). x.callers) r.prepared.sized in
     let words = ap (λ (x : Config). x.words) r.prepared.sized in
     let descs = r.room.descs in
+    let lists = r.room.lists in
     let rows = r.room.rows in
     let heap = r.room.words in
     record {
       empty = r.room.empty;
       none = r.room.none;
       descs = omega (arith, count, callers, descs);
+      lists = omega (arith, count, callers, lists);
       rows = omega (arith, few, rows);
       words = omega (arith, words, heap);
     }

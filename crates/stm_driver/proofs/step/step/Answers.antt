@@ -1,4 +1,4 @@
-use Rattle.std.proofs.Common.{◌≡◌, ◌<◌, List, length, take, drop, ◌++◌, refl, sym, ap, ◌∙◌, subst, arith}
+use Rattle.std.proofs.Common.{◌<◌, List, length, take, drop, ◌++◌, refl, sym, ap, subst, arith}
 use Rattle.std.specs.Prelude.{All}
 use Rattle.stm_model.specs.declared.config.Config.{Config}
 use Rattle.stm_driver.specs.AllWorkers.{workers_in}
@@ -64,12 +64,14 @@ close_memory-outcome-requires-clause-room g c =
     let callers = ap (λ (x : Config). x.callers) r.prepared.sized in
     let words = ap (λ (x : Config). x.words) r.prepared.sized in
     let descs = r.room.descs in
+    let lists = r.room.lists in
     let rows = r.room.rows in
     let heap = r.room.words in
     record {
       empty = r.room.empty;
       none = r.room.none;
       descs = omega (arith, count, callers, descs);
+      lists = omega (arith, count, callers, lists);
       rows = omega (arith, few, rows);
       words = omega (arith, words, heap);
     }

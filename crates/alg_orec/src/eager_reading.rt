@@ -1,0 +1,97 @@
+//! A read of OrecEager in its parts, between which other callers may step: its record is sampled, the word is loaded, and
+//! the record is confirmed.
+ghost use Rattle.std.specs.Prelude.{◌≡◌, ℕ, ◌<◌, None, false, [], ◌∷◌};
+ghost use Rattle.rule_base.specs.declared.layout.At.TheVariants.{Heap};
+ghost use Rattle.stm_model.specs.Memories.{item_at};
+ghost use Rattle.stm_model.specs.declared.alg.Alg.TheVariants.{OrecEager};
+ghost use Rattle.stm_rule.specs.Callers.{IsOf, IsSameCaller};
+ghost use Rattle.tx_answers.specs.Known.{IsRunning};
+ghost use Rattle.stm_gate.specs.Knowing.{known, number};
+ghost use Rattle.alg_orec.specs.EagerReading.{IsNew, HasSample, IsLoaded, LoadsSampled, GoesOnReading, Samples, Confirms};
+ghost use Rattle.alg_orec.specs.Validating.{load_of};
+
+use crate::eager_ending::take_back;
+use crate::orec_lazy::sample_valid;
+use steps_orec::reading;
+use stm_model::rule::MemRule;
+use stm_model::stop::Cause;
+use stm_rule::desc::Desc;
+use stm_rule::stm::Stm;
+use tx_answers::answers::Read;
+
+/// Loads the record of a word that was neither written nor read before, and answers the record's word: it is free, at a
+/// version that the start has seen. None, with no step, where the attempt holds the record: then nobody else stores
+/// there. One step, and those of a validation where the record is newer than the start; then those of a rollback where
+/// that, or a full read log, ends the attempt.
+pub fn sample<K: MemRule>(desc: &mut Desc<K>, stm: &Stm<K>, a: usize) -> Result<Option<u64>, Read>
+    requires stm { IsOf desc.old stm.now }
+    requires running { IsRunning (known desc.old) }
+    requires algorithm { (known desc.old).alg ≡ OrecEager }
+    requires revocable { (known desc.old).granted ≡ false }
+    requires unwritten { item_at a (known desc.old).log.writes ≡ None }
+    requires unread { item_at a (known desc.old).log.reads ≡ None }
+    requires inside { a < stm.now.config.words }
+    ensures same { IsSameCaller desc.old desc.new }
+    ensures samples { Samples (K.good stm.now.rule) stm.now.config (number desc.old) a result desc.old desc.new }
+{
+    let caller = desc.number;
+    let limit = desc.local.reads.len();
+    if desc.local.reads.count() == limit {
+        take_back(&mut desc.seat, &mut desc.local, stm, caller);
+        return Err(Read::Full { limit });
+    }
+    if desc.local.locks.find(a % stm.config.records).is_some() {
+        return Ok(None);
+    }
+    match sample_valid(&mut desc.seat, &mut desc.local, stm, caller, a) {
+        Ok(word) => Ok(Some(word)),
+        Err(cause) => {
+            take_back(&mut desc.seat, &mut desc.local, stm, caller);
+            Err(Read::Conflict(cause))
+        }
+    }
+}
+
+/// Loads the word, whose record was sampled, and answers it. One step.
+pub fn load<K: MemRule>(desc: &mut Desc<K>, stm: &Stm<K>, a: usize) -> u64
+    requires stm { IsOf desc.old stm.now }
+    requires running { IsRunning (known desc.old) }
+    requires algorithm { (known desc.old).alg ≡ OrecEager }
+    requires revocable { (known desc.old).granted ≡ false }
+    requires fresh { IsNew a (known desc.old) }
+    requires sampled { HasSample a desc.old.view }
+    requires inside { a < stm.now.config.words }
+    ensures same { IsSameCaller desc.old desc.new }
+    ensures goes { GoesOnReading (K.good stm.now.rule) stm.now.config (number desc.old) a (load_of (Heap a) result ∷ []) (known desc.old) (known desc.new) }
+    ensures loads { LoadsSampled stm.now.config a result desc.old.view desc.new.view }
+{
+    reading::load(stm, &mut desc.seat, desc.number, a)
+}
+
+/// Loads the record again, which `sample` found as `word`, behind the word, which `load` found as `x`. Where the record
+/// is as it was, `x` is read, and logged; else the attempt ends. One step, then those of a rollback.
+pub fn confirm<K: MemRule>(desc: &mut Desc<K>, stm: &Stm<K>, a: usize, word: u64, x: u64) -> Read
+    requires stm { IsOf desc.old stm.now }
+    requires running { IsRunning (known desc.old) }
+    requires algorithm { (known desc.old).alg ≡ OrecEager }
+    requires revocable { (known desc.old).granted ≡ false }
+    requires fresh { IsNew a (known desc.old) }
+    requires loaded { IsLoaded stm.now.config a word x desc.old.view }
+    requires inside { a < stm.now.config.words }
+    ensures same { IsSameCaller desc.old desc.new }
+    ensures confirms { Confirms (K.good stm.now.rule) stm.now.config (number desc.old) a word x result (known desc.old) (known desc.new) }
+{
+    let caller = desc.number;
+    let index = a % stm.config.records;
+    let after = reading::confirm(stm, &mut desc.seat, caller, index);
+    if after != word {
+        take_back(&mut desc.seat, &mut desc.local, stm, caller);
+        return Read::Conflict(Cause::Moved {
+            index,
+            before: word,
+            after,
+        });
+    }
+    desc.local.reads.push(a, x);
+    Read::Value(x)
+}

@@ -1,0 +1,55 @@
+-- What a command says is what is to be written, and what a call that is refused memory leaves of the source.
+use Rattle.std.proofs.Common.{ℕ, ◌≡◌, List, [], Option, Some, None, refl, arith}
+use Rattle.std.specs.Prelude.{Result, Ok, Err, IfOk, OnErr}
+use Rattle.stm_io.specs.Ends.{Took, TookSome}
+use Rattle.std.specs.Borrow.{Bor}
+use Rattle.stm_rule.specs.Closings.{Ended}
+use Rattle.stm_words.specs.declared.command.Command.{Command}
+use Rattle.stm_words.specs.declared.command.Command.TheVariants as commands
+use Rattle.stm_words.specs.Asking.{Asks, AskOnce, texts_of}
+use Rattle.bench_core.specs.declared.status.Status.{Status}
+use Rattle.bench_core.specs.declared.status.Status.TheVariants.{Ok as Done, Usage, Refused, ReadFault, WriteFault, Memory, ClockFull}
+use Rattle.bench_core.specs.declared.commands.Saying.{Saying}
+use Rattle.bench_core.specs.Outcomes.{Asked, SaidOfMade, Says, SaysFor, Spared}
+
+took-none : (bytes : Option (List ℕ)) → Took bytes bytes []
+took-none None = refl
+took-none (Some bytes) = refl
+
+module _ {S : Type 0} (left : S → Option (List ℕ)) (faults : S → ℕ) (source source' : S) where
+  no-usage : (command : Command) (closed : Option Ended) (said : List ℕ) → SaysFor left faults source source' command Usage closed said → ⊥
+  no-usage commands.Run closed said h = h
+  no-usage commands.Step closed said h = h
+  no-usage (commands.Gen n t seed) closed said h = h.1
+
+  no-write_fault : (command : Command) (closed : Option Ended) (said : List ℕ) → SaysFor left faults source source' command WriteFault closed said → ⊥
+  no-write_fault commands.Run closed said h = h
+  no-write_fault commands.Step closed said h = h
+  no-write_fault (commands.Gen n t seed) closed said h = h.1
+
+  no-memory : (command : Command) (closed : Option Ended) (said : List ℕ) → SaysFor left faults source source' command Memory closed said → ⊥
+  no-memory commands.Run closed said h = h
+  no-memory commands.Step closed said h = h
+  no-memory (commands.Gen n t seed) closed said h = h.1
+
+  pub spared-untouched : (words : List (Bor (List ℕ))) → Spared left faults source source words
+  spared-untouched words = record { lost = ([], omega arith, took-none (left source)); drawn = λ n t seed asks. record { same = refl; calm = refl } }
+
+  module _ (words : List (Bor (List ℕ))) (command : Command) (once : AskOnce) (asks : Asks (texts_of words) command) where
+    by : (status : Status) (closed : Option Ended) (said : List ℕ) → SaysFor left faults source source' command status closed said → Asked left faults source source' words status closed said
+    by status closed said says = record { command = command; words_are = asks; alone = λ other others. once (texts_of words) other command others asks; says = says }
+
+    pub says-asked : (status : Status) (closed : Option Ended) (said : List ℕ) → SaysFor left faults source source' command status closed said → Says left faults source source' words status closed said
+    says-asked Done closed said says = by Done closed said says
+    says-asked Usage closed said says = absurd (no-usage command closed said says)
+    says-asked (Refused line code) closed said says = by (Refused line code) closed said says
+    says-asked ReadFault closed said says = by ReadFault closed said says
+    says-asked WriteFault closed said says = no-write_fault command closed said says
+    says-asked Memory closed said says = no-memory command closed said says
+    says-asked (ClockFull clock) closed said says = by (ClockFull clock) closed said says
+
+module _ {S : Type 0} (left : S → Option (List ℕ)) (faults : S → ℕ) (source : S) (words : List (Bor (List ℕ))) (n t seed : ℕ) (once : AskOnce) (asks : Asks (texts_of words) (commands.Gen n t seed)) where
+  pub made-asked : {E : Type 0} (r : Result Saying E) → IfOk r (λ s. SaidOfMade n t seed s.status s.closed s.text.items)
+      → IfOk r (λ s. Says left faults source source words s.status s.closed s.text.items)
+  made-asked (Ok s) h = says-asked left faults source source words (commands.Gen n t seed) once asks s.status s.closed s.text.items (record { same = refl; calm = refl }, h)
+  made-asked (Err e) h = h

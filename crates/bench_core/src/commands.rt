@@ -1,0 +1,121 @@
+//! What each command writes.
+ghost use Rattle.std.specs.Prelude.{◌≡◌, ◌≤◌, ◌++◌, IfOk};
+ghost use Rattle.bench_core.specs.Outcomes.{SaidOfMade, SaidOfRun};
+ghost use Rattle.stm_gen.specs.declared.generate.TheConstants.{MOST_TRANSACTIONS};
+ghost use Rattle.stm_model.specs.declared.config.TheConstants.{MAX_CALLERS};
+ghost use Rattle.stm_text.specs.Built.{IsBuilt};
+ghost use Rattle.stm_text.specs.declared.parse.Mode.TheVariants.{Run, Step};
+
+use crate::messages;
+use crate::parts::{run_workload, step_workload};
+use crate::status::Status;
+use std::alloc::Global;
+use std::sync::Wait;
+use std::thread::Threads;
+use stm_driver::outcome::Outcome;
+use stm_gen::generate::generate;
+use stm_gen::laws::summary_is_counted;
+use stm_gen::summary::Summary;
+use stm_gen::summary_text::summary_text;
+use stm_model::memory::Memory;
+use stm_rule::ending::Closed;
+use stm_script::workload::Workload;
+use stm_text::report::report_text;
+use stm_trace::text::trace_text;
+use stm_worker::turnstile::Turnstile;
+
+/// A status, the whole text that it writes, and the closed memory of a run.
+#[derive(Drop)]
+pub(crate) struct Saying {
+    pub(crate) status: Status,
+    pub(crate) text: Vec<u8>,
+    pub(crate) closed: Option<Closed>,
+}
+
+/// What is to be written of a workload under `run`.
+pub(crate) fn report<R: Threads + Wait + Sync, G: Turnstile + Sync>(
+    rt: &R,
+    alloc: Global,
+    workload: Workload,
+    turnstile: &G,
+) -> Result<Saying, Memory>
+    requires { IsBuilt Run workload }
+    ensures { IfOk result (λ s. SaidOfRun Run workload s.status s.closed s.text.items) }
+{
+    let outcome = run_workload(rt, alloc, workload, turnstile)?;
+    match outcome {
+        Outcome::ToEnd { report, closed } => Ok(Saying {
+            status: Status::Ok,
+            text: report_text(alloc, &report)?,
+            closed: Some(closed),
+        }),
+        Outcome::ToLimit { clock, closed } => Ok(Saying {
+            status: Status::ClockFull { clock },
+            text: messages::clock_full(alloc, clock)?,
+            closed: Some(closed),
+        }),
+        Outcome::OutOfMemory { closed: _ } => Err(Memory),
+    }
+}
+
+/// What is to be written of a workload under `step`.
+pub(crate) fn trace<R: Wait>(rt: &R, alloc: Global, workload: Workload) -> Result<Saying, Memory>
+    requires { IsBuilt Step workload }
+    ensures { IfOk result (λ s. SaidOfRun Step workload s.status s.closed s.text.items) }
+{
+    let (lines, outcome) = step_workload(rt, alloc, workload)?;
+    match outcome {
+        Outcome::ToEnd { report, closed } => Ok(Saying {
+            status: Status::Ok,
+            text: behind(
+                trace_text(alloc, lines.as_slice())?,
+                report_text(alloc, &report)?,
+            )?,
+            closed: Some(closed),
+        }),
+        Outcome::ToLimit { clock, closed } => Ok(Saying {
+            status: Status::ClockFull { clock },
+            text: behind(
+                trace_text(alloc, lines.as_slice())?,
+                messages::clock_full(alloc, clock)?,
+            )?,
+            closed: Some(closed),
+        }),
+        Outcome::OutOfMemory { closed: _ } => Err(Memory),
+    }
+}
+
+/// What is to be written under `gen`. The clock of a generated workload starts at 0, so its run goes to its end.
+pub(crate) fn summarize<R: Threads + Wait + Sync, G: Turnstile + Sync>(
+    rt: &R,
+    alloc: Global,
+    transactions: u32,
+    callers: u32,
+    seed: u64,
+    turnstile: &G,
+) -> Result<Saying, Memory>
+    requires transactions { transactions ≤ MOST_TRANSACTIONS }
+    requires callers { (1 ≤ callers) × (callers ≤ MAX_CALLERS) }
+    ensures { IfOk result (λ s. SaidOfMade transactions callers seed s.status s.closed s.text.items) }
+{
+    summary_is_counted();
+    let workload = generate(alloc, transactions, callers, seed)?;
+    let outcome = run_workload(rt, alloc, workload, turnstile)?;
+    match outcome {
+        Outcome::ToEnd { report, closed } => Ok(Saying {
+            status: Status::Ok,
+            text: summary_text(alloc, &Summary::of(&report))?,
+            closed: Some(closed),
+        }),
+        Outcome::ToLimit { .. } => unreachable!(),
+        Outcome::OutOfMemory { closed: _ } => Err(Memory),
+    }
+}
+
+/// A text, and another behind it.
+fn behind(mut text: Vec<u8>, mut other: Vec<u8>) -> Result<Vec<u8>, Memory>
+    ensures { IfOk result (λ t. t.items ≡ text.items ++ other.items) }
+{
+    text.append(&mut other)?;
+    Ok(text)
+}

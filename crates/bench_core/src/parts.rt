@@ -1,0 +1,117 @@
+//! A workload, taken apart for its run, and what the run came to.
+ghost use Rattle.std.specs.Prelude.{ℕ, IfOk};
+ghost use Rattle.stm_driver.specs.Runs.{HasRun, HasStepped};
+ghost use Rattle.stm_text.specs.Built.{IsBuilt};
+ghost use Rattle.stm_text.specs.declared.parse.Mode.TheVariants.{Run, Step};
+
+use std::alloc::Global;
+use std::sync::Wait;
+use std::thread::Threads;
+use stm_driver::laws::regions_are_kept;
+use stm_driver::outcome::Outcome;
+use stm_driver::parting::{CallerItems, part};
+use stm_driver::preparing::{Prepared, prepare};
+use stm_driver::run::run;
+use stm_driver::step::step;
+use stm_model::memory::Memory;
+use stm_script::workload::{Gos, Header, Workload};
+use stm_trace::line::Line;
+use stm_worker::turnstile::Turnstile;
+use tx_regions::region::Regions;
+
+/// What a run takes of a workload.
+#[derive(Drop)]
+pub(crate) struct Parts {
+    header: Header,
+    /// What each caller is to do.
+    callers: Vec<CallerItems>,
+    /// How many items all callers have.
+    count: usize,
+    regions: Regions,
+    schedule: Gos,
+}
+
+impl Parts {
+    ghost use Rattle.std.specs.Prelude.{IfOk};
+    ghost use Rattle.stm_script.specs.declared.workload.Workload.{Workload};
+    ghost use Rattle.stm_driver.specs.Preparings.{IsReadyFor};
+    ghost use Rattle.stm_text.specs.Built.{IsBuilt};
+    ghost use Rattle.stm_text.specs.declared.parse.Mode.{Mode};
+    ghost use Rattle.tx_regions.specs.Regions.{AllWellFormed};
+    ghost use Rattle.bench_core.specs.Apart.{AreParts};
+
+    /// Takes a workload apart.
+    fn of(alloc: Global, workload: Workload) -> Result<Parts, Memory>
+        requires { (mode : Mode) × IsBuilt mode workload }
+        ensures { IfOk result (AreParts workload) }
+    {
+        let Workload {
+            header,
+            items,
+            schedule,
+        } = workload;
+        let count = items.as_slice().len();
+        let callers = part(alloc, header.callers, items.into_vec())?;
+        let regions = header.regions(alloc)?;
+        Ok(Parts {
+            header,
+            callers,
+            count,
+            regions,
+            schedule,
+        })
+    }
+
+    /// Opens the memory, whose rule is that the header's regions are well formed, and makes all that a run takes.
+    fn prepare<'a, R: Wait>(
+        &'a self,
+        rt: &R,
+        alloc: Global,
+    ) -> Result<Prepared<'a, Regions>, Memory>
+        requires { (mode : Mode) × (w : Workload) × IsBuilt mode w × AreParts w self.now }
+        ensures { IfOk result (λ p. (mode : Mode) (w : Workload) → IsBuilt mode w → AreParts w self.now → IsReadyFor (AllWellFormed p.stm.rule) mode w p) }
+    {
+        regions_are_kept();
+        let rule = self.header.regions(alloc)?;
+        let prepared = prepare(
+            rt,
+            alloc,
+            rule,
+            &self.header,
+            self.callers.as_slice(),
+            &self.regions,
+            self.count,
+        )?;
+        Ok(prepared)
+    }
+}
+
+/// What the run of a workload on a thread a caller came to. Memory may be refused before its first turn.
+pub(crate) fn run_workload<R: Threads + Wait + Sync, G: Turnstile + Sync>(
+    rt: &R,
+    alloc: Global,
+    workload: Workload,
+    turnstile: &G,
+) -> Result<Outcome, Memory>
+    requires { IsBuilt Run workload }
+    ensures { IfOk result (HasRun workload) }
+{
+    let parts = Parts::of(alloc, workload)?;
+    let prepared = parts.prepare(rt, alloc)?;
+    Ok(run(rt, alloc, prepared, turnstile))
+}
+
+/// The trace of the run of a workload in the turns of its schedule, and what it came to. Memory may be refused
+/// before its first turn.
+pub(crate) fn step_workload<R: Wait>(
+    rt: &R,
+    alloc: Global,
+    workload: Workload,
+) -> Result<(Vec<Line>, Outcome), Memory>
+    requires { IsBuilt Step workload }
+    ensures { IfOk result (λ r. HasStepped workload r.0.items r.1) }
+{
+    let parts = Parts::of(alloc, workload)?;
+    let prepared = parts.prepare(rt, alloc)?;
+    Ok(step(rt, alloc, prepared, parts.schedule.as_slice()))
+}

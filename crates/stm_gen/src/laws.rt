@@ -1,0 +1,19 @@
+//! Laws of the definitions, each the contract of a function.
+ghost use Rattle.stm_gen.specs.Summaries.{SummaryIsCounted, SummaryTellsMemory};
+
+use tx_cells::laws::{chains_are_apart, contents_change};
+
+/// Every report that replays a generated workload has the same summary, whatever the order in which its
+/// callers came: it is known by counting the transactions.
+pub fn summary_is_counted()
+    ensures { SummaryIsCounted }
+{
+    contents_change();
+    chains_are_apart();
+}
+
+/// A summary is that of the memory that the report tells: the sum of its accounts, the total of its counter and
+/// the length of its list.
+pub fn summary_tells_memory()
+    ensures { SummaryTellsMemory }
+{}

@@ -1,0 +1,35 @@
+-- THE COMMAND LINE'S GRAMMAR: `stm_bench run`, `stm_bench step`, `stm_bench gen N T SEED`.
+use Rattle.std.specs.Prelude.{◌≡◌, true, false, List, [], codes}
+use Rattle.clap.specs.Words.{App, Rule, Text, Shape, new_app, new_rule, with_rule, with_subcommand}
+use Rattle.clap.specs.Simple.{shape_of, on_top}
+use Rattle.clap.specs.Faults.{fault_of}
+use Rattle.clap.specs.declared.builder.command.Command.{Command}
+use Rattle.clap.specs.declared.builder.command.Command.TheViews.{out-Command}
+
+-- a word that has to be there
+abbrev pub needed : Text → Rule
+needed id = record (new_rule id) { required = true }
+
+abbrev pub run_shape : Shape
+run_shape = (new_app (codes "run")).top
+
+abbrev pub step_shape : Shape
+step_shape = (new_app (codes "step")).top
+
+abbrev pub gen_shape : Shape
+gen_shape = (with_rule (with_rule (with_rule (new_app (codes "gen")) (needed (codes "N"))) (needed (codes "T"))) (needed (codes "SEED"))).top
+
+abbrev pub bench_app : App
+bench_app =
+    with_subcommand (with_subcommand (with_subcommand
+    (on_top (λ s. record s { subcommand_required = true }) (new_app (codes "stm_bench")))
+    run_shape) step_shape) gen_shape
+
+-- a command of this shape that stands below another
+pub record IsLeafCommand (shape : Shape) (c : Command) : Type 0 where
+  pub is : shape_of c ≡ shape
+  pub local : (out-Command c).has_globals ≡ false
+
+-- clap takes the words: it finds no fault in them
+abbrev pub AreTaken : List Text → Type 0
+AreTaken words = fault_of bench_app words ≡ []

@@ -1,0 +1,20 @@
+//! What a command line asks for.
+
+/// The most transactions that `gen` makes.
+pub const MOST_TRANSACTIONS: u32 = 50_000;
+
+/// What the words of a command line ask for.
+#[derive(Clone, Copy, Drop, Debug, PartialEq, Eq)]
+pub enum Command {
+    /// `run`: the workload that is read, on a thread a caller.
+    Run,
+    /// `step`: the workload that is read, in the turns of its schedule.
+    Step,
+    /// `gen`: a workload that is made, of 1 to [`MOST_TRANSACTIONS`] transactions of 1 to
+    /// [`MAX_CALLERS`](stm_model::config::MAX_CALLERS) callers, drawn from the seed.
+    Gen {
+        transactions: u32,
+        callers: u32,
+        seed: u64,
+    },
+}

@@ -1,0 +1,42 @@
+//! The command line's grammar, as clap takes it.
+ghost use Rattle.std.specs.Prelude.{◌≡◌, IfOk};
+ghost use Rattle.clap.specs.Words.{app_of};
+ghost use Rattle.stm_words.specs.Grammar.{bench_app, run_shape, step_shape, gen_shape, IsLeafCommand};
+
+use clap::{Arg, Command};
+use std::alloc::{AllocError, Global};
+
+/// `stm_bench run`, `stm_bench step` and `stm_bench gen N T SEED`. Each value is a text to clap.
+pub fn bench_command<'a>(alloc: Global) -> Result<Command<'a>, AllocError>
+    ensures { IfOk result (λ c. app_of c ≡ bench_app) }
+{
+    Command::new(alloc, "stm_bench")
+        .subcommand_required(true)
+        .subcommand(run_command(alloc))?
+        .subcommand(step_command(alloc))?
+        .subcommand(gen_command(alloc)?)
+}
+
+fn run_command<'a>(alloc: Global) -> Command<'a>
+    ensures { IsLeafCommand run_shape result }
+{
+    Command::new(alloc, "run")
+}
+
+fn step_command<'a>(alloc: Global) -> Command<'a>
+    ensures { IsLeafCommand step_shape result }
+{
+    Command::new(alloc, "step")
+}
+
+fn gen_command<'a>(alloc: Global) -> Result<Command<'a>, AllocError>
+    ensures { IfOk result (IsLeafCommand gen_shape) }
+{
+    let transactions = Arg::new(alloc, "N").required(true);
+    let callers = Arg::new(alloc, "T").required(true);
+    let seed = Arg::new(alloc, "SEED").required(true);
+    Command::new(alloc, "gen")
+        .arg(transactions)?
+        .arg(callers)?
+        .arg(seed)
+}
