@@ -1,0 +1,231 @@
+-- Laws of a bank's memory.
+use Rattle.std.proofs.Common.{ℕ, ◌≡◌, ◌≢◌, ◌<◌, ◌≤◌, ◌+◌, ◌-◌, ◌⊎◌, List, [], length, get_or, set, take, sum, Bool, true, false, leb, if◌then◌else◌, refl, sym, ap, ◌∙◌, arith, subst, inl, inr, length-take-le, get_or-take, get_or-set_same, get_or-set_other, take_all}
+use Rattle.std.proofs.lemmas.Bool.Decides.{nat_tests}
+use Rattle.std.proofs.lemmas.List.{take-set-le}
+use Rattle.std.proofs.lemmas.List.Sums.{sum_by-set, get_or-le-sum_by, sum_by_more, sum_by_more_le}
+use Rattle.std.proofs.Math.ListN.{length-set}
+use Rattle.std.proofs.Math.Seq.{take-set-lt}
+use Rattle.stm_model.specs.Logs.{Log, Reads, Writes, SameMemories, IsExplained, Keeps}
+use Rattle.stm_model.specs.Memories.{overlay, Explains}
+use Rattle.tx_effects.specs.Effects.{Effect, unchanged, changed, Under, Shows, DoesOver}
+use Rattle.tx_effects.specs.EffectLaws.{shows-read, shown, does-stay, does-change, turns-write, turns-then}
+use Rattle.example_bank.specs.declared.bank.Bank.{Bank}
+use Rattle.example_bank.specs.Banks.{balances, paid_in, IsBalanced, IsMemoryOf, opened_in, moved_in, audited_in}
+
+-- a memory under the rule, with all its words
+abbrev pub IsSound : Bank → List ℕ → Type 0
+IsSound bank m = IsBalanced bank m × (length m ≡ bank.accounts + 1)
+
+-- what the transactions do, by what they read
+pub moves-is : (m : List ℕ) (from to amount payer payee : ℕ) → payer ≡ get_or m from 0 → payee ≡ get_or m to 0 → amount ≤ payer
+    → moved_in from to amount m ≡ changed true (set (set m from (payer - amount)) to (payee + amount))
+moves-is m from to amount payer payee a b enough =
+    let t : leb amount (get_or m from 0) ≡ true = grind (arith, nat_tests, enough, a) in rw (a, b, t) refl
+
+pub stays-is : (m : List ℕ) (from to amount payer : ℕ) → payer ≡ get_or m from 0 → payer < amount → moved_in from to amount m ≡ unchanged false m
+stays-is m from to amount payer a short =
+    let t : leb amount (get_or m from 0) ≡ false = grind (arith, nat_tests, short, a) in rw t refl
+
+pub opens-is : (bank : Bank) (m : List ℕ) (paid : ℕ) → paid ≡ paid_in bank m → paid ≡ 0 → opened_in bank m ≡ changed true (set (set m bank.accounts bank.capital) 0 bank.capital)
+opens-is bank m paid a none =
+    let t : leb 1 (get_or m bank.accounts 0) ≡ false = grind (arith, nat_tests, none, a) in rw t refl
+
+pub open-is : (bank : Bank) (m : List ℕ) (paid : ℕ) → paid ≡ paid_in bank m → 0 < paid → opened_in bank m ≡ unchanged false m
+open-is bank m paid a some =
+    let t : leb 1 (get_or m bank.accounts 0) ≡ true = grind (arith, nat_tests, some, a) in rw t refl
+
+module _ (bank : Bank) (m : List ℕ) (s : IsSound bank m) where
+  count : length (balances bank m) ≡ bank.accounts
+  count = length-take-le bank.accounts m (let e = s.1 in omega arith)
+
+  within : sum (balances bank m) ≤ bank.capital
+  within = by s.0.1
+    where
+      by : (paid_in bank m ≡ 0) ⊎ (paid_in bank m ≡ bank.capital) → sum (balances bank m) ≤ bank.capital
+      by (inl none) = let e = s.0.0 in omega arith
+      by (inr all) = let e = s.0.0 in omega arith
+
+  -- what was added up so far and the next balance are parts of the capital
+  pub part : (i v : ℕ) → i < bank.accounts → v ≡ get_or m i 0 → sum (take i (balances bank m)) + v ≤ bank.capital
+  part i v lt is =
+      let more = sum_by_more_le (λ x. x) (balances bank m) i 0 (let e = count in omega arith) in
+      let at : get_or (balances bank m) i 0 ≡ get_or m i 0 = get_or-take bank.accounts m i 0 lt in
+      let w = within in omega arith
+
+  pub part-next : (i v t : ℕ) → i < bank.accounts → t ≡ sum (take i (balances bank m)) → v ≡ get_or m i 0 → t + v ≡ sum (take (i + 1) (balances bank m))
+  part-next i v t lt is read =
+      let more = sum_by_more (λ x. x) (balances bank m) i 0 (let e = count in omega arith) in
+      let at : get_or (balances bank m) i 0 ≡ get_or m i 0 = get_or-take bank.accounts m i 0 lt in
+      omega arith
+
+  pub audited-is : (i t : ℕ) → i ≡ bank.accounts → t ≡ sum (take i (balances bank m)) → audited_in bank m ≡ unchanged t m
+  audited-is i t end is =
+      let all : sum (balances bank m) ≡ t = sym (is ∙ ap sum (take_all i (balances bank m) (let e = count in omega arith))) in
+      ap (λ x. unchanged x m) all
+
+  pub whole : (i t : ℕ) → i ≡ bank.accounts → t ≡ sum (take i (balances bank m)) → (t ≡ 0) ⊎ (t ≡ bank.capital)
+  whole i t end is = by s.0.1
+    where
+      all : t ≡ paid_in bank m
+      all = is ∙ (ap sum (take_all i (balances bank m) (let e = count in omega arith)) ∙ s.0.0)
+
+      by : (paid_in bank m ≡ 0) ⊎ (paid_in bank m ≡ bank.capital) → (t ≡ 0) ⊎ (t ≡ bank.capital)
+      by (inl none) = inl (all ∙ none)
+      by (inr paid) = inr (all ∙ paid)
+
+  -- two balances are parts of the capital
+  pub two-parts : (i j : ℕ) → i < bank.accounts → j < bank.accounts → i ≢ j → get_or m i 0 + get_or m j 0 ≤ bank.capital
+  two-parts i j low high apart =
+      let xs = balances bank m in
+      let e = count in
+      let n = length-set xs i 0 in
+      let without = sum_by-set (λ x. x) xs i 0 0 (omega arith) in
+      let other : get_or (set xs i 0) j 0 ≡ get_or xs j 0 = get_or-set_other xs i j 0 0 (λ e. apart (sym e)) in
+      let le = get_or-le-sum_by (λ x. x) (set xs i 0) j 0 (omega arith) in
+      let first : get_or xs i 0 ≡ get_or m i 0 = get_or-take bank.accounts m i 0 low in
+      let second : get_or xs j 0 ≡ get_or m j 0 = get_or-take bank.accounts m j 0 high in
+      let w = within in omega arith
+
+  -- what one balance loses another gains
+  moved : (from to amount : ℕ) → from < bank.accounts → to < bank.accounts → from ≢ to → amount ≤ get_or m from 0
+      → IsBalanced bank (set (set m from (get_or m from 0 - amount)) to (get_or m to 0 + amount))
+  moved from to amount low high apart enough = (balanced, subst (λ p. (p ≡ 0) ⊎ (p ≡ bank.capital)) (sym paid) s.0.1)
+    where
+      xs : List ℕ
+      xs = balances bank m
+
+      less : ℕ
+      less = get_or m from 0 - amount
+
+      more : ℕ
+      more = get_or m to 0 + amount
+
+      after : List ℕ
+      after = set (set m from less) to more
+
+      is : take bank.accounts after ≡ set (set xs from less) to more
+      is = take-set-lt bank.accounts (set m from less) to more high ∙ ap (λ l. set l to more) (take-set-lt bank.accounts m from less low)
+
+      same : sum (take bank.accounts after) ≡ sum xs
+      same =
+          let e = count in
+          let n = length-set xs from less in
+          let one = sum_by-set (λ x. x) xs from less 0 (omega arith) in
+          let two = sum_by-set (λ x. x) (set xs from less) to more 0 (omega arith) in
+          let other : get_or (set xs from less) to 0 ≡ get_or xs to 0 = get_or-set_other xs from to less 0 (λ e. apart (sym e)) in
+          let first : get_or xs from 0 ≡ get_or m from 0 = get_or-take bank.accounts m from 0 low in
+          let second : get_or xs to 0 ≡ get_or m to 0 = get_or-take bank.accounts m to 0 high in
+          let total : sum (take bank.accounts after) ≡ sum (set (set xs from less) to more) = ap sum is in
+          omega arith
+
+      paid : get_or after bank.accounts 0 ≡ get_or m bank.accounts 0
+      paid = get_or-set_other (set m from less) to bank.accounts more 0 (omega arith) ∙ get_or-set_other m from bank.accounts less 0 (omega arith)
+
+      balanced : sum (take bank.accounts after) ≡ get_or after bank.accounts 0
+      balanced = same ∙ (s.0.0 ∙ sym paid)
+
+  pub moved-balanced : (from to amount : ℕ) → from < bank.accounts → to < bank.accounts → from ≢ to → IsBalanced bank (moved_in from to amount m).memory
+  moved-balanced from to amount low high apart = by (leb amount (get_or m from 0)) refl
+    where
+      by : (b : Bool) → leb amount (get_or m from 0) ≡ b → IsBalanced bank (moved_in from to amount m).memory
+      by true e =
+          let enough : amount ≤ get_or m from 0 = grind (arith, nat_tests) in
+          subst (λ (f : Effect Bool). IsBalanced bank f.memory) (sym (moves-is m from to amount (get_or m from 0) (get_or m to 0) refl refl enough)) (moved from to amount low high apart enough)
+      by false e =
+          let short : get_or m from 0 < amount = grind (arith, nat_tests) in
+          subst (λ (f : Effect Bool). IsBalanced bank f.memory) (sym (stays-is m from to amount (get_or m from 0) refl short)) s.0
+
+  -- an open bank has all its capital
+  opened : 0 < bank.accounts → paid_in bank m ≡ 0 → IsBalanced bank (set (set m bank.accounts bank.capital) 0 bank.capital)
+  opened some shut = (total ∙ sym paid, inr paid)
+    where
+      xs : List ℕ
+      xs = balances bank m
+
+      after : List ℕ
+      after = set (set m bank.accounts bank.capital) 0 bank.capital
+
+      is : take bank.accounts after ≡ set xs 0 bank.capital
+      is = take-set-lt bank.accounts (set m bank.accounts bank.capital) 0 bank.capital some ∙ ap (λ l. set l 0 bank.capital) (take-set-le bank.accounts m bank.accounts bank.capital (omega arith))
+
+      total : sum (take bank.accounts after) ≡ bank.capital
+      total =
+          let e = count in
+          let one = sum_by-set (λ x. x) xs 0 bank.capital 0 (omega arith) in
+          let le = get_or-le-sum_by (λ x. x) xs 0 0 (omega arith) in
+          let none = s.0.0 ∙ shut in
+          let all : sum (take bank.accounts after) ≡ sum (set xs 0 bank.capital) = ap sum is in
+          omega arith
+
+      paid : get_or after bank.accounts 0 ≡ bank.capital
+      paid = get_or-set_other (set m bank.accounts bank.capital) 0 bank.accounts bank.capital 0 (omega arith) ∙ get_or-set_same m bank.accounts bank.capital 0 (let e = s.1 in omega arith)
+
+  pub opened-balanced : 0 < bank.accounts → IsBalanced bank (opened_in bank m).memory
+  opened-balanced some = by (leb 1 (paid_in bank m)) refl
+    where
+      by : (b : Bool) → leb 1 (paid_in bank m) ≡ b → IsBalanced bank (opened_in bank m).memory
+      by true e =
+          let paid : 0 < paid_in bank m = grind (arith, nat_tests) in
+          subst (λ (f : Effect Bool). IsBalanced bank f.memory) (sym (open-is bank m (paid_in bank m) refl paid)) s.0
+      by false e =
+          let shut : paid_in bank m ≡ 0 = grind (arith, nat_tests) in
+          subst (λ (f : Effect Bool). IsBalanced bank f.memory) (sym (opens-is bank m (paid_in bank m) refl shut)) (opened some shut)
+
+module _ (bank : Bank) (good : List ℕ → Type 0) (words : ℕ) (of : IsMemoryOf bank good words) (l : Log) (bare : l.writes ≡ []) where
+  -- what an attempt that wrote nothing yet knows
+  pub sound-first : Under good words l (IsSound bank)
+  sound-first = λ m g len ex. subst (λ ws. IsSound bank (overlay m ws)) (sym bare) ((of.1 m).0 g, len ∙ of.0)
+
+  -- its effect keeps the rule
+  pub keeps-by : {A : Type 0} (effect : List ℕ → Effect A) (reply : A) (k : Log) → DoesOver good words effect l reply k → ((m : List ℕ) → IsSound bank m → IsBalanced bank (effect m).memory) → Keeps good words k
+  keeps-by effect reply k does balanced = λ m g len ex.
+      let d = does m g len ex in
+      let left : overlay m k.writes ≡ (effect m).memory = d.left ∙ ap (λ ws. (effect (overlay m ws)).memory) bare in
+      (of.1 (overlay m k.writes)).1 (subst (IsBalanced bank) (sym left) (balanced m ((of.1 m).0 g, len ∙ of.0)))
+
+  -- the word behind the balances was read
+  paid-read : (a : Log) (paid : ℕ) → Reads l bank.accounts paid a → Shows good words l a (λ m. paid ≡ paid_in bank m)
+  paid-read a paid read = shows-read good words l l a (IsSound bank) (λ m. paid ≡ paid_in bank m) bank.accounts paid (λ m g len ex. (ex, sound-first m g len ex)) refl (let e = of.0 in omega arith) read (λ m p e. e)
+
+  pub finds-open : (a : Log) (paid : ℕ) → Reads l bank.accounts paid a → 0 < paid → DoesOver good words (opened_in bank) l false a
+  finds-open a paid read some = does-stay good words l (opened_in bank) a false (IsSound bank) sound-first read.0 (λ m. paid ≡ paid_in bank m) (paid-read a paid read) (λ m p q. open-is bank m paid q some)
+
+  pub opens : (a b c : Log) (paid : ℕ) → Reads l bank.accounts paid a → paid ≡ 0 → Writes a bank.accounts bank.capital b → Writes b 0 bank.capital c → DoesOver good words (opened_in bank) l true c
+  opens a b c paid read none one two =
+      does-change good words l (opened_in bank) a c true (IsSound bank) sound-first read.0 (λ m. paid ≡ paid_in bank m) (paid-read a paid read)
+      (λ m. set (set m bank.accounts bank.capital) 0 bank.capital)
+      (turns-then a b c (λ m. set m bank.accounts bank.capital) (λ m. set m 0 bank.capital) (turns-write a b bank.accounts bank.capital one) (turns-write b c 0 bank.capital two))
+      (λ m p q. opens-is bank m paid q none)
+
+  module _ (a b : Log) (from to payer payee : ℕ) (first : Reads l from payer a) (second : Reads a to payee b) (low : from < bank.accounts) (high : to < bank.accounts) where
+    -- both balances were read
+    abbrev Found : List ℕ → Type 0
+    Found m = (IsSound bank m × (payer ≡ get_or m from 0)) × (payee ≡ get_or m to 0)
+
+    found : Shows good words l b Found
+    found =
+        let one = shows-read good words l l a (IsSound bank) (λ m. IsSound bank m × (payer ≡ get_or m from 0)) from payer (λ m g len ex. (ex, sound-first m g len ex)) refl (let e = of.0 in omega arith) first (λ m p e. (p, e)) in
+        shows-read good words l a b (λ m. IsSound bank m × (payer ≡ get_or m from 0)) Found to payee one first.0 (let e = of.0 in omega arith) second (λ m p e. (p, e))
+
+    unwritten : b.writes ≡ l.writes
+    unwritten = second.0 ∙ first.0
+
+    -- together they are at most the capital
+    pub both-within : (good' : List ℕ → Type 0) (words' : ℕ) → SameMemories good good' → words' ≡ words → IsExplained good' words' b → from ≢ to → payer + payee ≤ bank.capital
+    both-within good' words' same w seen apart =
+        shown good words l b good' words' Found (payer + payee ≤ bank.capital) found same w seen
+        (λ m p. let two = two-parts bank m p.0.0 from to low high apart in let x = p.0.1 in let y = p.1 in omega arith)
+
+    pub stays : (amount : ℕ) → payer < amount → DoesOver good words (moved_in from to amount) l false b
+    stays amount short = does-stay good words l (moved_in from to amount) b false (IsSound bank) sound-first unwritten Found found (λ m p q. stays-is m from to amount payer q.0.1 short)
+
+    pub moves : (c d : Log) (amount : ℕ) → amount ≤ payer → Writes b from (payer - amount) c → Writes c to (payee + amount) d → DoesOver good words (moved_in from to amount) l true d
+    moves c d amount enough one two =
+        does-change good words l (moved_in from to amount) b d true (IsSound bank) sound-first unwritten Found found
+        (λ m. set (set m from (payer - amount)) to (payee + amount))
+        (turns-then b c d (λ m. set m from (payer - amount)) (λ m. set m to (payee + amount)) (turns-write b c from (payer - amount) one) (turns-write c d to (payee + amount) two))
+        (λ m p q. moves-is m from to amount payer payee q.0.1 q.1 enough)
+
+-- an attempt that only reads keeps every rule
+pub reads-keep : (good : List ℕ → Type 0) (words : ℕ) (k : Log) → k.writes ≡ [] → Keeps good words k
+reads-keep good words k none = λ m fine len ex. subst (λ ws. good (overlay m ws)) (sym none) fine

@@ -1,0 +1,3 @@
+mod BankLaws
+mod AttemptLaws
+mod CallerLaws

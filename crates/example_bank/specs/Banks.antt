@@ -1,0 +1,37 @@
+-- A bank in a memory, and what its transactions do.
+use Rattle.std.specs.Prelude.{ℕ, ◌≡◌, ◌+◌, ◌-◌, ◌⊎◌, Bool, true, false, if◌then◌else◌, leb, List, take, sum, slice_index, slice_set}
+use Rattle.stm_model.specs.Logs.{SameMemories}
+use Rattle.tx_effects.specs.Effects.{Effect, unchanged, changed}
+use Rattle.example_bank.specs.declared.bank.Bank.{Bank}
+
+-- the balances of the accounts, which are the first words
+abbrev pub balances : Bank → List ℕ → List ℕ
+balances bank memory = take bank.accounts memory
+
+-- the word behind the balances: 0 until the bank opens, and then its capital
+abbrev pub paid_in : Bank → List ℕ → ℕ
+paid_in bank memory = slice_index memory bank.accounts
+
+-- THE RULE: the balances' sum is what was paid in, which is nothing or the capital
+abbrev pub IsBalanced : Bank → List ℕ → Type 0
+IsBalanced bank memory = (sum (balances bank memory) ≡ paid_in bank memory) × ((paid_in bank memory ≡ 0) ⊎ (paid_in bank memory ≡ bank.capital))
+
+-- so many words, of which these are good, are a memory of the bank
+abbrev pub IsMemoryOf : Bank → (List ℕ → Type 0) → ℕ → Type 0
+IsMemoryOf bank good words = (words ≡ bank.accounts + 1) × SameMemories good (IsBalanced bank)
+
+-- the capital is paid in to account 0; does nothing where it is open
+abbrev pub opened_in : Bank → List ℕ → Effect Bool
+opened_in bank m =
+    if leb 1 (paid_in bank m) then unchanged false m
+    else changed true (slice_set (slice_set m bank.accounts bank.capital) 0 bank.capital)
+
+-- the amount goes from one account to another, where the first has as much
+abbrev pub moved_in : ℕ → ℕ → ℕ → List ℕ → Effect Bool
+moved_in from to amount m =
+    if leb amount (slice_index m from) then changed true (slice_set (slice_set m from (slice_index m from - amount)) to (slice_index m to + amount))
+    else unchanged false m
+
+-- the sum of the balances
+abbrev pub audited_in : Bank → List ℕ → Effect ℕ
+audited_in bank m = unchanged (sum (balances bank m)) m
