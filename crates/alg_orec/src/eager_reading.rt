@@ -12,6 +12,7 @@ ghost use Rattle.alg_orec.specs.Validating.{load_of};
 
 use crate::eager_ending::take_back;
 use crate::orec_lazy::sample_valid;
+use crate::records;
 use steps_orec::reading;
 use stm_model::rule::MemRule;
 use stm_model::stop::Cause;
@@ -40,7 +41,7 @@ pub fn sample<K: MemRule>(desc: &mut Desc<K>, stm: &Stm<K>, a: usize) -> Result<
         take_back(&mut desc.seat, &mut desc.local, stm, caller);
         return Err(Read::Full { limit });
     }
-    if desc.local.locks.find(a % stm.config.records).is_some() {
+    if records::held(&desc.local, stm.config.records, a).is_some() {
         return Ok(None);
     }
     match sample_valid(&mut desc.seat, &mut desc.local, stm, caller, a) {
@@ -82,12 +83,11 @@ pub fn confirm<K: MemRule>(desc: &mut Desc<K>, stm: &Stm<K>, a: usize, word: u64
     ensures confirms { Confirms (K.good stm.now.rule) stm.now.config (number desc.old) a word x result (known desc.old) (known desc.new) }
 {
     let caller = desc.number;
-    let index = a % stm.config.records;
-    let after = reading::confirm(stm, &mut desc.seat, caller, index);
+    let after = records::confirm(stm, &mut desc.seat, caller, a);
     if after != word {
         take_back(&mut desc.seat, &mut desc.local, stm, caller);
         return Read::Conflict(Cause::Moved {
-            index,
+            index: a % stm.config.records,
             before: word,
             after,
         });

@@ -13,4 +13,5 @@ pub mod granting;
 mod locking;
 pub mod orec_eager;
 pub mod orec_lazy;
+mod records;
 mod validate;

@@ -15,10 +15,11 @@ ghost use Rattle.alg_orec.specs.Loading.{CanLoadValid, LoadsValid, Samples};
 pub use crate::committing::{cancel, commit};
 use crate::ending::roll_back;
 pub use crate::granting::become_irrevocable;
+use crate::records::{confirm, sample};
 use crate::validate::validate;
 use rule_base::words::{is_owned, version_of};
 use steps_orec::reading;
-use steps_orec::reading::{confirm, load, sample};
+use steps_orec::reading::load;
 use stm_gate::direct::{direct_load, direct_store};
 use stm_model::rule::MemRule;
 use stm_model::stop::Cause;
@@ -107,12 +108,11 @@ fn load_valid<K: MemRule>(
     ensures loads { LoadsValid (good_of K.good stm.now.config stm.now.rule) stm.now.config caller a result local.old (view_of seat.old) local.new (view_of seat.new) }
 {
     let word = sample_valid(seat, local, stm, caller, a)?;
-    let index = a % stm.config.records;
     let x = load(stm, seat, caller, a);
-    let after = confirm(stm, seat, caller, index);
+    let after = confirm(stm, seat, caller, a);
     if after != word {
         return Err(Cause::Moved {
-            index,
+            index: a % stm.config.records,
             before: word,
             after,
         });
@@ -134,11 +134,14 @@ pub(crate) fn sample_valid<K: MemRule>(
     ensures same { IsSameSeat seat.old seat.new × (seat.new.me.0 ≡ record seat.old.me.0 { view = view_of seat.new }) }
     ensures samples { Samples (good_of K.good stm.now.config stm.now.rule) stm.now.config caller a result local.old (view_of seat.old) local.new (view_of seat.new) }
 {
-    let index = a % stm.config.records;
-    let word = sample(stm, seat, caller, index, a);
+    let word = sample(stm, seat, caller, a);
     let start = local.start;
     if is_owned(word) {
-        return Err(Cause::Record { index, word, start });
+        return Err(Cause::Record {
+            index: a % stm.config.records,
+            word,
+            start,
+        });
     }
     if version_of(word) <= start {
         return Ok(word);

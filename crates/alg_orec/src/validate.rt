@@ -1,12 +1,13 @@
 //! Validation: whether all that an attempt read is so at a later clock too, which becomes its start (Riegel, Felber
 //! and Fetzer, "A Lazy Snapshot Algorithm with Eager Validation", 2006).
-ghost use Rattle.std.specs.Prelude.{◌≡◌, ℕ, ◌+◌, ◌<◌, ◌≤◌, length};
+ghost use Rattle.std.specs.Prelude.{◌≡◌, ℕ, ◌+◌, ◌%◌, ◌<◌, ◌≤◌, length};
 ghost use Rattle.stm_rule.specs.Callers.{IsSeatOf};
 ghost use Rattle.stm_rule.specs.Kept.{IsSameSeat, good_of, view_of};
 ghost use Rattle.alg_orec.specs.Validating.{HasVersions, MustLoad, IsLast, CanValidate, Judges, Passes, Validates};
 
+use crate::records::{held, pass};
 use rule_base::words::{free_record, is_owned, version_of};
-use steps_orec::reading::{clock, clock_all, last, pass};
+use steps_orec::reading::{clock, clock_all, last};
 use stm_model::rule::MemRule;
 use stm_model::stop::Cause;
 use stm_rule::local::Local;
@@ -34,7 +35,7 @@ pub(crate) fn validate<K: MemRule>(
     pass_before(seat, local, stm, caller, i)?;
     let (b, _) = local.reads.item(i);
     let r = b % stm.config.records;
-    must_load(local, r)?;
+    must_load(local, stm.config.records, b)?;
     let word = last(stm, seat, caller, r, b);
     judge(r, word, local.start)?;
     local.start = now;
@@ -51,7 +52,7 @@ pub(crate) fn last_to_validate(local: &Local, records: usize) -> Option<usize>
     for passed in 0..count {
         let i = count - 1 - passed;
         let (b, _) = local.reads.item(i);
-        match must_load(local, b % records) {
+        match must_load(local, records, b) {
             Ok(false) => {}
             _ => return Some(i),
         }
@@ -96,28 +97,28 @@ fn pass_read<K: MemRule>(
     ensures passes { Passes stm.now.config caller i (i + 1) result local.now (view_of seat.old) (view_of seat.new) }
 {
     let (b, _) = local.reads.item(i);
-    let r = b % stm.config.records;
-    if !must_load(local, r)? {
+    if !must_load(local, stm.config.records, b)? {
         return Ok(());
     }
-    let word = pass(stm, seat, caller, r, b);
-    judge(r, word, local.start)
+    let word = pass(stm, seat, caller, b);
+    judge(b % stm.config.records, word, local.start)
 }
 
-/// Whether the record of a read is to be loaded, to validate it: not where the attempt holds it in the place of a
-/// version that its start has seen. In the place of a newer one, the read is not valid.
-pub(crate) fn must_load(local: &Local, r: usize) -> Result<bool, Cause>
+/// Whether the record of a read at `b` is to be loaded, to validate it: not where the attempt holds it in the place of
+/// a version that its start has seen. In the place of a newer one, the read is not valid.
+fn must_load(local: &Local, records: usize, b: usize) -> Result<bool, Cause>
+    requires records { 0 < records }
     requires versions { HasVersions local.now }
-    ensures { MustLoad result local.now r }
+    ensures { MustLoad result local.now (b % records) }
 {
-    match local.locks.find(r) {
+    match held(local, records, b) {
         None => Ok(true),
         Some(version) => {
             if version <= local.start {
                 return Ok(false);
             }
             Err(Cause::Record {
-                index: r,
+                index: b % records,
                 word: free_record(version),
                 start: local.start,
             })

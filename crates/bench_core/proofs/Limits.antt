@@ -1,5 +1,6 @@
 -- A workload that opens at clock 0 never comes to the limit.
 use Rattle.std.proofs.Common.{ℕ, ◌≡◌, ◌≤◌, ◌+◌, ◌*◌, ◌^◌, ◌==◌, Bool, true, false, length, if◌then◌else◌, arith}
+use Rattle.stm_profile.specs.declared.policy.Policy.{Policy}
 use Rattle.stm_rule.specs.Closings.{Ended}
 use Rattle.stm_script.specs.declared.workload.Workload.{Workload}
 use Rattle.stm_driver.specs.Runs.{IsFull}
@@ -8,5 +9,5 @@ far : (alone : Bool) (clock items : ℕ) → clock ≡ 0 → items ≤ 65536 →
 far true clock items opens few bound = let b : 2 ^ 62 ≤ clock + 4 * items + 1 = bound in omega arith
 far false clock items opens few bound = let b : 2 ^ 62 ≤ clock + 20 * items + 1 = bound in omega arith
 
-pub never-full : (w : Workload) (clock : ℕ) (closed : Ended) → w.header.clock ≡ 0 → length w.items ≤ 65536 → IsFull w clock closed → ⊥
-never-full w clock closed opens few full = far (w.header.callers == 1) w.header.clock (length w.items) opens few full.bound
+pub never-full : (policy : Policy) (w : Workload) (clock : ℕ) (closed : Ended) → w.header.clock ≡ 0 → length w.items ≤ 65536 → IsFull policy w clock closed → ⊥
+never-full policy w clock closed opens few full = far (w.header.callers == 1) w.header.clock (length w.items) opens few full.bound

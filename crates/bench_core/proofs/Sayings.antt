@@ -3,14 +3,19 @@ use Rattle.std.proofs.Common.{ℕ, ◌≡◌, List, [], Option, Some, None, refl
 use Rattle.std.specs.Prelude.{Result, Ok, Err, IfOk, OnErr}
 use Rattle.stm_io.specs.Ends.{Took, TookSome}
 use Rattle.std.specs.Borrow.{Bor}
+use Rattle.stm_profile.specs.declared.policy.Policy.{Policy}
 use Rattle.stm_rule.specs.Closings.{Ended}
 use Rattle.stm_words.specs.declared.command.Command.{Command}
 use Rattle.stm_words.specs.declared.command.Command.TheVariants as commands
 use Rattle.stm_words.specs.Asking.{Asks, AskOnce, texts_of}
+use Rattle.stm_script.specs.declared.workload.Workload.{Workload}
+use Rattle.stm_text.specs.declared.parse.Mode.{Mode}
+use Rattle.stm_text.specs.declared.parse.Mode.TheVariants.{Run}
+use Rattle.stm_text.specs.Grammar.{workload_of}
 use Rattle.bench_core.specs.declared.status.Status.{Status}
 use Rattle.bench_core.specs.declared.status.Status.TheVariants.{Ok as Done, Usage, Refused, ReadFault, WriteFault, Memory, ClockFull}
 use Rattle.bench_core.specs.declared.commands.Saying.{Saying}
-use Rattle.bench_core.specs.Outcomes.{Asked, SaidOfMade, Says, SaysFor, Spared}
+use Rattle.bench_core.specs.Outcomes.{Asked, SaidOf, SaidOfMade, SaidOfRun, Says, SaysFor, SaysRead, Spared}
 
 took-none : (bytes : Option (List ℕ)) → Took bytes bytes []
 took-none None = refl
@@ -18,22 +23,19 @@ took-none (Some bytes) = refl
 
 module _ {S : Type 0} (left : S → Option (List ℕ)) (faults : S → ℕ) (source source' : S) where
   no-usage : (command : Command) (closed : Option Ended) (said : List ℕ) → SaysFor left faults source source' command Usage closed said → ⊥
-  no-usage commands.Run closed said h = h
+  no-usage (commands.Run policy) closed said h = h
   no-usage commands.Step closed said h = h
   no-usage (commands.Gen n t seed) closed said h = h.1
 
   no-write_fault : (command : Command) (closed : Option Ended) (said : List ℕ) → SaysFor left faults source source' command WriteFault closed said → ⊥
-  no-write_fault commands.Run closed said h = h
+  no-write_fault (commands.Run policy) closed said h = h
   no-write_fault commands.Step closed said h = h
   no-write_fault (commands.Gen n t seed) closed said h = h.1
 
   no-memory : (command : Command) (closed : Option Ended) (said : List ℕ) → SaysFor left faults source source' command Memory closed said → ⊥
-  no-memory commands.Run closed said h = h
+  no-memory (commands.Run policy) closed said h = h
   no-memory commands.Step closed said h = h
   no-memory (commands.Gen n t seed) closed said h = h.1
-
-  pub spared-untouched : (words : List (Bor (List ℕ))) → Spared left faults source source words
-  spared-untouched words = record { lost = ([], omega arith, took-none (left source)); drawn = λ n t seed asks. record { same = refl; calm = refl } }
 
   module _ (words : List (Bor (List ℕ))) (command : Command) (once : AskOnce) (asks : Asks (texts_of words) command) where
     by : (status : Status) (closed : Option Ended) (said : List ℕ) → SaysFor left faults source source' command status closed said → Asked left faults source source' words status closed said
@@ -53,3 +55,24 @@ module _ {S : Type 0} (left : S → Option (List ℕ)) (faults : S → ℕ) (sou
       → IfOk r (λ s. Says left faults source source words s.status s.closed s.text.items)
   made-asked (Ok s) h = says-asked left faults source source words (commands.Gen n t seed) once asks s.status s.closed s.text.items (record { same = refl; calm = refl }, h)
   made-asked (Err e) h = h
+
+module _ {S : Type 0} (left : S → Option (List ℕ)) (faults : S → ℕ) (source source' : S) (words : List (Bor (List ℕ))) (policy : Policy) (once : AskOnce) (asks : Asks (texts_of words) (commands.Run policy)) where
+  pub run-asked : {E : Type 0} (r : Result Saying E) → IfOk r (λ s. SaysRead left faults source source' Run policy s.status s.closed s.text.items)
+      → IfOk r (λ s. Says left faults source source' words s.status s.closed s.text.items)
+  run-asked (Ok s) h = says-asked left faults source source' words (commands.Run policy) once asks s.status s.closed s.text.items h
+  run-asked (Err e) h = h
+
+-- what is said of the run of a text's workload is said of the text
+module _ (m : Mode) (policy : Policy) (text : List ℕ) (w : Workload) (parses : workload_of m text ≡ Ok w) where
+  said-of : (status : Status) (closed : Option Ended) (said : List ℕ) → SaidOfRun m policy w status closed said → SaidOf m policy text status closed said
+  said-of Done closed said h = record { workload = w; parses = parses; run = h }
+  said-of Usage closed said h = h
+  said-of (Refused line code) closed said h = absurd h
+  said-of ReadFault closed said h = h
+  said-of WriteFault closed said h = h
+  said-of Memory closed said h = h
+  said-of (ClockFull clock) closed said h = record { workload = w; parses = parses; run = h }
+
+  pub said-of-text : {E : Type 0} (r : Result Saying E) → IfOk r (λ s. SaidOfRun m policy w s.status s.closed s.text.items) → IfOk r (λ s. SaidOf m policy text s.status s.closed s.text.items)
+  said-of-text (Ok s) h = said-of s.status s.closed s.text.items h
+  said-of-text (Err e) h = h

@@ -1,6 +1,8 @@
 -- What a call of `bench` read and wrote, by the status that it answers.
 use Rattle.std.specs.Prelude.{ℕ, ◌≡◌, ◌≤◌, ◌++◌, length, List, Option, Some, None, Ok, Err, MatchOption}
 use Rattle.std.specs.Borrow.{Bor}
+use Rattle.stm_profile.specs.declared.policy.Policy.{Policy}
+use Rattle.stm_profile.specs.declared.policy.Policy.TheVariants.{Fixed}
 use Rattle.stm_rule.specs.Closings.{Ended}
 use Rattle.stm_io.specs.Ends.{Rose, IsText, Took, TookSome, Gained, GainedSome}
 use Rattle.stm_script.specs.declared.report.Report.{Report}
@@ -22,14 +24,14 @@ use Rattle.stm_words.specs.declared.command.Command.TheVariants as commands
 use Rattle.stm_words.specs.Asking.{Asks, texts_of}
 
 -- the run went to its end, and what is said is a report that replays the workload and shows the closed memory's history
-pub record RanToEnd (w : Workload) (closed : Ended) (said : List ℕ) : Type 0 where
+pub record RanToEnd (policy : Policy) (w : Workload) (closed : Ended) (said : List ℕ) : Type 0 where
   pub report : Report
-  pub shown : IsShown w report closed
+  pub shown : IsShown policy w report closed
   pub is : said ≡ report_bytes report
 
 -- the run came to a transaction at the clock's limit
-pub record RanToLimit (w : Workload) (clock : ℕ) (closed : Ended) (said : List ℕ) : Type 0 where
-  pub full : IsFull w clock closed
+pub record RanToLimit (policy : Policy) (w : Workload) (clock : ℕ) (closed : Ended) (said : List ℕ) : Type 0 where
+  pub full : IsFull policy w clock closed
   pub is : said ≡ clock_full_line clock
 
 -- the run in turns went to its end, and what is said is its trace, which fits the workload and the report, and then the report
@@ -46,28 +48,28 @@ pub record SteppedToLimit (w : Workload) (clock : ℕ) (closed : Ended) (said : 
   pub is : said ≡ trace_bytes lines ++ clock_full_line clock
 
 -- what is said of a run that left this closed memory
-abbrev pub SaidAtEnd : Mode → Workload → Ended → List ℕ → Type 0
-SaidAtEnd Run w closed said = RanToEnd w closed said
-SaidAtEnd Stepwise w closed said = SteppedToEnd w closed said
+abbrev pub SaidAtEnd : Mode → Policy → Workload → Ended → List ℕ → Type 0
+SaidAtEnd Run policy w closed said = RanToEnd policy w closed said
+SaidAtEnd Stepwise policy w closed said = SteppedToEnd w closed said
 
-abbrev pub SaidAtLimit : Mode → Workload → ℕ → Ended → List ℕ → Type 0
-SaidAtLimit Run w clock closed said = RanToLimit w clock closed said
-SaidAtLimit Stepwise w clock closed said = SteppedToLimit w clock closed said
+abbrev pub SaidAtLimit : Mode → Policy → Workload → ℕ → Ended → List ℕ → Type 0
+SaidAtLimit Run policy w clock closed said = RanToLimit policy w clock closed said
+SaidAtLimit Stepwise policy w clock closed said = SteppedToLimit w clock closed said
 
-abbrev pub SaidOfRun : Mode → Workload → Status → Option Ended → List ℕ → Type 0
-SaidOfRun m w Done closed said = MatchOption closed ⊥ (λ c. SaidAtEnd m w c said)
-SaidOfRun m w (ClockFull clock) closed said = MatchOption closed ⊥ (λ c. SaidAtLimit m w clock c said)
-SaidOfRun m w (Refused line code) closed said = ⊥
-SaidOfRun m w Usage closed said = ⊥
-SaidOfRun m w ReadFault closed said = ⊥
-SaidOfRun m w WriteFault closed said = ⊥
-SaidOfRun m w Memory closed said = ⊥
+abbrev pub SaidOfRun : Mode → Policy → Workload → Status → Option Ended → List ℕ → Type 0
+SaidOfRun m policy w Done closed said = MatchOption closed ⊥ (λ c. SaidAtEnd m policy w c said)
+SaidOfRun m policy w (ClockFull clock) closed said = MatchOption closed ⊥ (λ c. SaidAtLimit m policy w clock c said)
+SaidOfRun m policy w (Refused line code) closed said = ⊥
+SaidOfRun m policy w Usage closed said = ⊥
+SaidOfRun m policy w ReadFault closed said = ⊥
+SaidOfRun m policy w WriteFault closed said = ⊥
+SaidOfRun m policy w Memory closed said = ⊥
 
 -- the text is a workload's, and this is said of its run
-pub record WasRun (m : Mode) (text : List ℕ) (status : Status) (closed : Option Ended) (said : List ℕ) : Type 0 where
+pub record WasRun (m : Mode) (policy : Policy) (text : List ℕ) (status : Status) (closed : Option Ended) (said : List ℕ) : Type 0 where
   pub workload : Workload
   pub parses : workload_of m text ≡ Ok workload
-  pub run : SaidOfRun m workload status closed said
+  pub run : SaidOfRun m policy workload status closed said
 
 -- the text isn't a workload's; what is said is its first fault
 pub record IsRefused (m : Mode) (text : List ℕ) (line code : ℕ) (said : List ℕ) : Type 0 where
@@ -75,19 +77,19 @@ pub record IsRefused (m : Mode) (text : List ℕ) (line code : ℕ) (said : List
   pub is : said ≡ refused_line line code
 
 -- what is said of a text that was read; without a run no closed memory is left
-abbrev pub SaidOf : Mode → List ℕ → Status → Option Ended → List ℕ → Type 0
-SaidOf m text Done closed said = WasRun m text Done closed said
-SaidOf m text (Refused line code) closed said = IsRefused m text line code said × (closed ≡ None)
-SaidOf m text (ClockFull clock) closed said = WasRun m text (ClockFull clock) closed said
-SaidOf m text Usage closed said = ⊥
-SaidOf m text ReadFault closed said = ⊥
-SaidOf m text WriteFault closed said = ⊥
-SaidOf m text Memory closed said = ⊥
+abbrev pub SaidOf : Mode → Policy → List ℕ → Status → Option Ended → List ℕ → Type 0
+SaidOf m policy text Done closed said = WasRun m policy text Done closed said
+SaidOf m policy text (Refused line code) closed said = IsRefused m text line code said × (closed ≡ None)
+SaidOf m policy text (ClockFull clock) closed said = WasRun m policy text (ClockFull clock) closed said
+SaidOf m policy text Usage closed said = ⊥
+SaidOf m policy text ReadFault closed said = ⊥
+SaidOf m policy text WriteFault closed said = ⊥
+SaidOf m policy text Memory closed said = ⊥
 
 -- the run of the workload that is drawn went to its end, and what is said is the summary of a report that replays it and shows the closed memory's history; the number of transactions alone tells which
 pub record RanToSummary (n t seed : ℕ) (closed : Ended) (said : List ℕ) : Type 0 where
   pub report : Report
-  pub shown : IsShown (generated n t seed) report closed
+  pub shown : IsShown Fixed (generated n t seed) report closed
   pub is : said ≡ summary_bytes (summary_of report)
   pub counted : summary_of report ≡ summary_for n
 
@@ -118,28 +120,28 @@ module _ {S : Type 0} (left : S → Option (List ℕ)) (faults : S → ℕ) (sou
     pub is : said ≡ read_fault_line
 
   -- all that was left was read, or its first 16,777,217 bytes, and nothing more is gone from the source
-  pub record HasRead (m : Mode) (status : Status) (closed : Option Ended) (said : List ℕ) : Type 0 where
+  pub record HasRead (m : Mode) (policy : Policy) (status : Status) (closed : Option Ended) (said : List ℕ) : Type 0 where
     pub text : List ℕ
     pub read : IsText 16777217 (left source) text
     pub within : length text ≤ 16777217
     pub taken : Took (left source) (left source') text
     pub calm : faults source' ≡ faults source
-    pub of : SaidOf m text status closed said
+    pub of : SaidOf m policy text status closed said
 
   -- what is to be written by a command that reads a text
-  abbrev pub SaysRead : Mode → Status → Option Ended → List ℕ → Type 0
-  SaysRead m Done closed said = HasRead m Done closed said
-  SaysRead m (Refused line code) closed said = HasRead m (Refused line code) closed said
-  SaysRead m (ClockFull clock) closed said = HasRead m (ClockFull clock) closed said
-  SaysRead m ReadFault closed said = Unread said × (closed ≡ None)
-  SaysRead m Usage closed said = ⊥
-  SaysRead m WriteFault closed said = ⊥
-  SaysRead m Memory closed said = ⊥
+  abbrev pub SaysRead : Mode → Policy → Status → Option Ended → List ℕ → Type 0
+  SaysRead m policy Done closed said = HasRead m policy Done closed said
+  SaysRead m policy (Refused line code) closed said = HasRead m policy (Refused line code) closed said
+  SaysRead m policy (ClockFull clock) closed said = HasRead m policy (ClockFull clock) closed said
+  SaysRead m policy ReadFault closed said = Unread said × (closed ≡ None)
+  SaysRead m policy Usage closed said = ⊥
+  SaysRead m policy WriteFault closed said = ⊥
+  SaysRead m policy Memory closed said = ⊥
 
   -- what is to be written by each command; `gen` reads nothing
   abbrev pub SaysFor : Command → Status → Option Ended → List ℕ → Type 0
-  SaysFor commands.Run status closed said = SaysRead Run status closed said
-  SaysFor commands.Step status closed said = SaysRead Stepwise status closed said
+  SaysFor (commands.Run policy) status closed said = SaysRead Run policy status closed said
+  SaysFor commands.Step status closed said = SaysRead Stepwise Fixed status closed said
   SaysFor (commands.Gen n t seed) status closed said = IsUntouched × SaidOfMade n t seed status closed said
 
   module _ (words : List (Bor (List ℕ))) where

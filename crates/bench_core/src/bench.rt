@@ -12,6 +12,7 @@ use std::thread::Threads;
 use stm_io::ends::{Failed, Sink, Source};
 use stm_io::whole::{ReadError, put_all, read_all};
 use stm_model::memory::Memory;
+use stm_profile::policy::Policy;
 use stm_rule::ending::Closed;
 use stm_text::parse::{Mode, ParseError, parse};
 use stm_words::command::Command;
@@ -22,14 +23,15 @@ use stm_worker::turnstile::Turnstile;
 /// How many bytes of a text are read: one more than a workload's text may have.
 const MOST_READ: usize = 16777217;
 
-/// Does what the words of the command line ask: `words` are the program's name, and `run`, `step` or
+/// Does what the words of the command line ask: `words` are the program's name, and `run [--policy P]`, `step` or
 /// `gen N T SEED`.
 ///
-/// `run` and `step` read the workload's text from `source`. `run` runs its transactions on a thread a caller, and
-/// writes the report to `sink`, whole once it is made; `step` runs them in the turns of the text's schedule, and
-/// writes the trace before the report. `gen` reads nothing: it runs the workload of N transactions, 1 to 50,000, of
-/// T callers, 1 to 32, that is drawn from SEED, as `run` does, and writes its summary. Every other end writes one
-/// line, under `step` at a full clock behind the trace so far, or with `Memory` nothing; see [`Status`].
+/// `run` and `step` read the workload's text from `source`. `run` runs its transactions on a thread a caller, caller 0
+/// under the policy, and writes the report to `sink`, whole once it is made; `step` runs them in the turns of the
+/// text's schedule, and writes the trace before the report. `gen` reads nothing: it runs the workload of N
+/// transactions, 1 to 50,000, of T callers, 1 to 32, that is drawn from SEED, as `run` does, and writes its summary.
+/// Every other end writes one line, under `step` at a full clock behind the trace so far, or with `Memory` nothing; see
+/// [`Status`].
 ///
 /// `Ok` and `ClockFull` leave in `last` the closed memory of this call's run; every other status leaves
 /// `last` as it was.
@@ -91,8 +93,8 @@ fn say<R: Threads + Wait + Sync, S: Source, G: Turnstile + Sync>(
         });
     };
     match command {
-        Command::Run => say_of_text(rt, alloc, Mode::Run, source, turnstile),
-        Command::Step => say_of_text(rt, alloc, Mode::Step, source, turnstile),
+        Command::Run { policy } => say_of_text(rt, alloc, Mode::Run, policy, source, turnstile),
+        Command::Step => say_of_text(rt, alloc, Mode::Step, Policy::Fixed, source, turnstile),
         Command::Gen {
             transactions,
             callers,
@@ -106,14 +108,15 @@ fn say_of_text<R: Threads + Wait + Sync, S: Source, G: Turnstile + Sync>(
     rt: &R,
     alloc: Global,
     mode: Mode,
+    policy: Policy,
     source: &mut S,
     turnstile: &G,
 ) -> Result<Saying, Memory>
-    ensures says { IfOk result (λ s. SaysRead S.left S.faults source.old source.new mode s.status s.closed s.text.items) }
+    ensures says { IfOk result (λ s. SaysRead S.left S.faults source.old source.new mode policy s.status s.closed s.text.items) }
     ensures lost { OnErr result (TookSome 16777217 (S.left source.old) (S.left source.new)) }
 {
     match read_all(alloc, source, MOST_READ) {
-        Ok(text) => execute(rt, alloc, mode, text.as_slice(), turnstile),
+        Ok(text) => execute(rt, alloc, mode, policy, text.as_slice(), turnstile),
         Err(ReadError::Failed) => Ok(Saying {
             status: Status::ReadFault,
             text: messages::read_fault(alloc)?,
@@ -128,14 +131,15 @@ fn execute<R: Threads + Wait + Sync, G: Turnstile + Sync>(
     rt: &R,
     alloc: Global,
     mode: Mode,
+    policy: Policy,
     text: &[u8],
     turnstile: &G,
 ) -> Result<Saying, Memory>
-    ensures { IfOk result (λ s. SaidOf mode text.now s.status s.closed s.text.items) }
+    ensures { IfOk result (λ s. SaidOf mode policy text.now s.status s.closed s.text.items) }
 {
     match parse(alloc, text, mode) {
         Ok(workload) => match mode {
-            Mode::Run => report(rt, alloc, workload, turnstile),
+            Mode::Run => report(rt, alloc, policy, workload, turnstile),
             Mode::Step => trace(rt, alloc, workload),
         },
         Err(ParseError::Fault { line, code }) => Ok(Saying {

@@ -2,6 +2,7 @@
 ghost use Rattle.std.specs.Prelude.{◌≡◌, ◌≤◌, ◌++◌, IfOk};
 ghost use Rattle.bench_core.specs.Outcomes.{SaidOfMade, SaidOfRun};
 ghost use Rattle.stm_gen.specs.declared.generate.TheConstants.{MOST_TRANSACTIONS};
+ghost use Rattle.stm_profile.specs.declared.policy.Policy.{Policy};
 ghost use Rattle.stm_model.specs.declared.config.TheConstants.{MAX_CALLERS};
 ghost use Rattle.stm_text.specs.Built.{IsBuilt};
 ghost use Rattle.stm_text.specs.declared.parse.Mode.TheVariants.{Run, Step};
@@ -18,6 +19,7 @@ use stm_gen::laws::summary_is_counted;
 use stm_gen::summary::Summary;
 use stm_gen::summary_text::summary_text;
 use stm_model::memory::Memory;
+use stm_profile::policy::Policy;
 use stm_rule::ending::Closed;
 use stm_script::workload::Workload;
 use stm_text::report::report_text;
@@ -32,17 +34,18 @@ pub(crate) struct Saying {
     pub(crate) closed: Option<Closed>,
 }
 
-/// What is to be written of a workload under `run`.
+/// What is to be written of a workload under `run` and this policy.
 pub(crate) fn report<R: Threads + Wait + Sync, G: Turnstile + Sync>(
     rt: &R,
     alloc: Global,
+    policy: Policy,
     workload: Workload,
     turnstile: &G,
 ) -> Result<Saying, Memory>
     requires { IsBuilt Run workload }
-    ensures { IfOk result (λ s. SaidOfRun Run workload s.status s.closed s.text.items) }
+    ensures { IfOk result (λ s. SaidOfRun Run policy workload s.status s.closed s.text.items) }
 {
-    let outcome = run_workload(rt, alloc, workload, turnstile)?;
+    let outcome = run_workload(rt, alloc, workload, policy, turnstile)?;
     match outcome {
         Outcome::ToEnd { report, closed } => Ok(Saying {
             status: Status::Ok,
@@ -61,7 +64,7 @@ pub(crate) fn report<R: Threads + Wait + Sync, G: Turnstile + Sync>(
 /// What is to be written of a workload under `step`.
 pub(crate) fn trace<R: Wait>(rt: &R, alloc: Global, workload: Workload) -> Result<Saying, Memory>
     requires { IsBuilt Step workload }
-    ensures { IfOk result (λ s. SaidOfRun Step workload s.status s.closed s.text.items) }
+    ensures { (policy : Policy) → IfOk result (λ s. SaidOfRun Step policy workload s.status s.closed s.text.items) }
 {
     let (lines, outcome) = step_workload(rt, alloc, workload)?;
     match outcome {
@@ -100,7 +103,7 @@ pub(crate) fn summarize<R: Threads + Wait + Sync, G: Turnstile + Sync>(
 {
     summary_is_counted();
     let workload = generate(alloc, transactions, callers, seed)?;
-    let outcome = run_workload(rt, alloc, workload, turnstile)?;
+    let outcome = run_workload(rt, alloc, workload, Policy::Fixed, turnstile)?;
     match outcome {
         Outcome::ToEnd { report, closed } => Ok(Saying {
             status: Status::Ok,

@@ -18,6 +18,8 @@ mod orec_tests;
 mod parts;
 #[cfg(test)]
 mod plain_sets;
+#[cfg(test)]
+mod policy_tests;
 pub mod program;
 #[cfg(test)]
 mod random_tests;

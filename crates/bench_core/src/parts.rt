@@ -2,6 +2,7 @@
 ghost use Rattle.std.specs.Prelude.{ℕ, IfOk};
 ghost use Rattle.stm_driver.specs.Runs.{HasRun, HasStepped};
 ghost use Rattle.stm_text.specs.Built.{IsBuilt};
+ghost use Rattle.stm_profile.specs.declared.policy.Policy.TheVariants.{Fixed};
 ghost use Rattle.stm_text.specs.declared.parse.Mode.TheVariants.{Run, Step};
 
 use std::alloc::Global;
@@ -14,6 +15,7 @@ use stm_driver::preparing::{Prepared, prepare};
 use stm_driver::run::run;
 use stm_driver::step::step;
 use stm_model::memory::Memory;
+use stm_profile::policy::Policy;
 use stm_script::workload::{Gos, Header, Workload};
 use stm_trace::line::Line;
 use stm_worker::turnstile::Turnstile;
@@ -63,13 +65,15 @@ impl Parts {
     }
 
     /// Opens the memory, whose rule is that the header's regions are well formed, and makes all that a run takes.
+    /// Caller 0 is to switch by the policy.
     fn prepare<'a, R: Wait>(
         &'a self,
         rt: &R,
         alloc: Global,
+        policy: Policy,
     ) -> Result<Prepared<'a, Regions>, Memory>
         requires { (mode : Mode) × (w : Workload) × IsBuilt mode w × AreParts w self.now }
-        ensures { IfOk result (λ p. (mode : Mode) (w : Workload) → IsBuilt mode w → AreParts w self.now → IsReadyFor (AllWellFormed p.stm.rule) mode w p) }
+        ensures { IfOk result (λ p. (mode : Mode) (w : Workload) → IsBuilt mode w → AreParts w self.now → IsReadyFor (AllWellFormed p.stm.rule) mode policy w p) }
     {
         regions_are_kept();
         let rule = self.header.regions(alloc)?;
@@ -78,6 +82,7 @@ impl Parts {
             alloc,
             rule,
             &self.header,
+            policy,
             self.callers.as_slice(),
             &self.regions,
             self.count,
@@ -86,18 +91,20 @@ impl Parts {
     }
 }
 
-/// What the run of a workload on a thread a caller came to. Memory may be refused before its first turn.
+/// What the run of a workload on a thread a caller came to, where caller 0 switches besides by the policy. Memory
+/// may be refused before its first turn.
 pub(crate) fn run_workload<R: Threads + Wait + Sync, G: Turnstile + Sync>(
     rt: &R,
     alloc: Global,
     workload: Workload,
+    policy: Policy,
     turnstile: &G,
 ) -> Result<Outcome, Memory>
     requires { IsBuilt Run workload }
-    ensures { IfOk result (HasRun workload) }
+    ensures { IfOk result (HasRun policy workload) }
 {
     let parts = Parts::of(alloc, workload)?;
-    let prepared = parts.prepare(rt, alloc)?;
+    let prepared = parts.prepare(rt, alloc, policy)?;
     Ok(run(rt, alloc, prepared, turnstile))
 }
 
@@ -112,6 +119,6 @@ pub(crate) fn step_workload<R: Wait>(
     ensures { IfOk result (λ r. HasStepped workload r.0.items r.1) }
 {
     let parts = Parts::of(alloc, workload)?;
-    let prepared = parts.prepare(rt, alloc)?;
+    let prepared = parts.prepare(rt, alloc, Policy::Fixed)?;
     Ok(step(rt, alloc, prepared, parts.schedule.as_slice()))
 }

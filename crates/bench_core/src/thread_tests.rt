@@ -3,7 +3,7 @@ use crate::cases::{header, lines, outcome, workload};
 use crate::status::Status;
 use std::alloc::Global;
 use std::test::Fail;
-use stm_driver::backoff::Backoff;
+use tx_backoff::Backoff;
 
 const RUN: &[&str] = &["stm_bench", "run"];
 

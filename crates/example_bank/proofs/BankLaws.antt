@@ -1,20 +1,29 @@
 -- Laws of a bank's memory.
-use Rattle.std.proofs.Common.{ℕ, ◌≡◌, ◌≢◌, ◌<◌, ◌≤◌, ◌+◌, ◌-◌, ◌⊎◌, List, [], length, get_or, set, take, sum, Bool, true, false, leb, if◌then◌else◌, refl, sym, ap, ◌∙◌, arith, subst, inl, inr, length-take-le, get_or-take, get_or-set_same, get_or-set_other, take_all}
+use Rattle.std.proofs.Common.{ℕ, ◌≡◌, ◌≢◌, ◌<◌, ◌≤◌, ◌+◌, ◌-◌, ◌⊎◌, List, [], length, get_or, set, take, sum, replicate, Bool, true, false, leb, refl, sym, ap, ◌∙◌, arith, subst, inl, inr, length-take-le, get_or-take, get_or-set_same, get_or-set_other, take_all}
 use Rattle.std.proofs.lemmas.Bool.Decides.{nat_tests}
-use Rattle.std.proofs.lemmas.List.{take-set-le}
+use Rattle.std.proofs.lemmas.List.{length-replicate, take-set-le}
 use Rattle.std.proofs.lemmas.List.Sums.{sum_by-set, get_or-le-sum_by, sum_by_more, sum_by_more_le}
 use Rattle.std.proofs.Math.ListN.{length-set}
 use Rattle.std.proofs.Math.Seq.{take-set-lt}
+use Rattle.stm_model.specs.declared.config.Config.{Config}
+use Rattle.stm_model.specs.HistoryLaws.{length-memory_at}
 use Rattle.stm_model.specs.Logs.{Log, Reads, Writes, SameMemories, IsExplained, Keeps}
-use Rattle.stm_model.specs.Memories.{overlay, Explains}
+use Rattle.stm_model.specs.Memories.{overlay}
+use Rattle.stm_rule.specs.Callers.{Handle}
+use Rattle.stm_rule.specs.Closings.{Closes, Ended}
+use Rattle.tx_answers.specs.Known.{no_log}
 use Rattle.tx_effects.specs.Effects.{Effect, unchanged, changed, Under, Shows, DoesOver}
 use Rattle.tx_effects.specs.EffectLaws.{shows-read, shown, does-stay, does-change, turns-write, turns-then}
 use Rattle.example_bank.specs.declared.bank.Bank.{Bank}
-use Rattle.example_bank.specs.Banks.{balances, paid_in, IsBalanced, IsMemoryOf, opened_in, moved_in, audited_in}
+use Rattle.example_bank.specs.Banks.{balances, paid_in, IsBalanced, HasEffect, opened_in, moved_in, audited_in}
 
 -- a memory under the rule, with all its words
 abbrev pub IsSound : Bank → List ℕ → Type 0
 IsSound bank m = IsBalanced bank m × (length m ≡ bank.accounts + 1)
+
+-- so many words, of which these are good, are a memory of the bank
+abbrev pub IsMemoryOf : Bank → (List ℕ → Type 0) → ℕ → Type 0
+IsMemoryOf bank good words = (words ≡ bank.accounts + 1) × SameMemories good (IsBalanced bank)
 
 -- what the transactions do, by what they read
 pub moves-is : (m : List ℕ) (from to amount payer payee : ℕ) → payer ≡ get_or m from 0 → payee ≡ get_or m to 0 → amount ≤ payer
@@ -64,14 +73,9 @@ module _ (bank : Bank) (m : List ℕ) (s : IsSound bank m) where
       ap (λ x. unchanged x m) all
 
   pub whole : (i t : ℕ) → i ≡ bank.accounts → t ≡ sum (take i (balances bank m)) → (t ≡ 0) ⊎ (t ≡ bank.capital)
-  whole i t end is = by s.0.1
-    where
-      all : t ≡ paid_in bank m
-      all = is ∙ (ap sum (take_all i (balances bank m) (let e = count in omega arith)) ∙ s.0.0)
-
-      by : (paid_in bank m ≡ 0) ⊎ (paid_in bank m ≡ bank.capital) → (t ≡ 0) ⊎ (t ≡ bank.capital)
-      by (inl none) = inl (all ∙ none)
-      by (inr paid) = inr (all ∙ paid)
+  whole i t end is =
+      let all : t ≡ paid_in bank m = is ∙ (ap sum (take_all i (balances bank m) (let e = count in omega arith)) ∙ s.0.0) in
+      subst (λ x. (x ≡ 0) ⊎ (x ≡ bank.capital)) (sym all) s.0.1
 
   -- two balances are parts of the capital
   pub two-parts : (i j : ℕ) → i < bank.accounts → j < bank.accounts → i ≢ j → get_or m i 0 + get_or m j 0 ≤ bank.capital
@@ -171,31 +175,32 @@ module _ (bank : Bank) (m : List ℕ) (s : IsSound bank m) where
           let shut : paid_in bank m ≡ 0 = grind (arith, nat_tests) in
           subst (λ (f : Effect Bool). IsBalanced bank f.memory) (sym (opens-is bank m (paid_in bank m) refl shut)) (opened some shut)
 
-module _ (bank : Bank) (good : List ℕ → Type 0) (words : ℕ) (of : IsMemoryOf bank good words) (l : Log) (bare : l.writes ≡ []) where
+module _ (bank : Bank) (good : List ℕ → Type 0) (words : ℕ) (of : IsMemoryOf bank good words) (l : Log) (fresh : l ≡ no_log) where
+  bare : l.writes ≡ []
+  bare = ap (λ (k : Log). k.writes) fresh
+
   -- what an attempt that wrote nothing yet knows
   pub sound-first : Under good words l (IsSound bank)
   sound-first = λ m g len ex. subst (λ ws. IsSound bank (overlay m ws)) (sym bare) ((of.1 m).0 g, len ∙ of.0)
 
-  -- its effect keeps the rule
-  pub keeps-by : {A : Type 0} (effect : List ℕ → Effect A) (reply : A) (k : Log) → DoesOver good words effect l reply k → ((m : List ℕ) → IsSound bank m → IsBalanced bank (effect m).memory) → Keeps good words k
-  keeps-by effect reply k does balanced = λ m g len ex.
-      let d = does m g len ex in
-      let left : overlay m k.writes ≡ (effect m).memory = d.left ∙ ap (λ ws. (effect (overlay m ws)).memory) bare in
-      (of.1 (overlay m k.writes)).1 (subst (IsBalanced bank) (sym left) (balanced m ((of.1 m).0 g, len ∙ of.0)))
+  pub has-effect : {A : Type 0} (effect : List ℕ → Effect A) (reply : A) (k : Log) → DoesOver good words effect l reply k → HasEffect bank words effect reply k
+  has-effect effect reply k does = subst (λ (f : Log). DoesOver (IsBalanced bank) words effect f reply k) fresh (λ m g. does m ((of.1 m).1 g))
 
   -- the word behind the balances was read
   paid-read : (a : Log) (paid : ℕ) → Reads l bank.accounts paid a → Shows good words l a (λ m. paid ≡ paid_in bank m)
   paid-read a paid read = shows-read good words l l a (IsSound bank) (λ m. paid ≡ paid_in bank m) bank.accounts paid (λ m g len ex. (ex, sound-first m g len ex)) refl (let e = of.0 in omega arith) read (λ m p e. e)
 
-  pub finds-open : (a : Log) (paid : ℕ) → Reads l bank.accounts paid a → 0 < paid → DoesOver good words (opened_in bank) l false a
-  finds-open a paid read some = does-stay good words l (opened_in bank) a false (IsSound bank) sound-first read.0 (λ m. paid ≡ paid_in bank m) (paid-read a paid read) (λ m p q. open-is bank m paid q some)
+  pub finds-open : (a : Log) (paid : ℕ) → Reads l bank.accounts paid a → 0 < paid → HasEffect bank words (opened_in bank) false a
+  finds-open a paid read some =
+      has-effect (opened_in bank) false a (does-stay good words l (opened_in bank) a false (IsSound bank) sound-first read.0 (λ m. paid ≡ paid_in bank m) (paid-read a paid read) (λ m p q. open-is bank m paid q some))
 
-  pub opens : (a b c : Log) (paid : ℕ) → Reads l bank.accounts paid a → paid ≡ 0 → Writes a bank.accounts bank.capital b → Writes b 0 bank.capital c → DoesOver good words (opened_in bank) l true c
+  pub opens : (a b c : Log) (paid : ℕ) → Reads l bank.accounts paid a → paid ≡ 0 → Writes a bank.accounts bank.capital b → Writes b 0 bank.capital c → HasEffect bank words (opened_in bank) true c
   opens a b c paid read none one two =
-      does-change good words l (opened_in bank) a c true (IsSound bank) sound-first read.0 (λ m. paid ≡ paid_in bank m) (paid-read a paid read)
+      has-effect (opened_in bank) true c
+      (does-change good words l (opened_in bank) a c true (IsSound bank) sound-first read.0 (λ m. paid ≡ paid_in bank m) (paid-read a paid read)
       (λ m. set (set m bank.accounts bank.capital) 0 bank.capital)
       (turns-then a b c (λ m. set m bank.accounts bank.capital) (λ m. set m 0 bank.capital) (turns-write a b bank.accounts bank.capital one) (turns-write b c 0 bank.capital two))
-      (λ m p q. opens-is bank m paid q none)
+      (λ m p q. opens-is bank m paid q none))
 
   module _ (a b : Log) (from to payer payee : ℕ) (first : Reads l from payer a) (second : Reads a to payee b) (low : from < bank.accounts) (high : to < bank.accounts) where
     -- both balances were read
@@ -216,16 +221,31 @@ module _ (bank : Bank) (good : List ℕ → Type 0) (words : ℕ) (of : IsMemory
         shown good words l b good' words' Found (payer + payee ≤ bank.capital) found same w seen
         (λ m p. let two = two-parts bank m p.0.0 from to low high apart in let x = p.0.1 in let y = p.1 in omega arith)
 
-    pub stays : (amount : ℕ) → payer < amount → DoesOver good words (moved_in from to amount) l false b
-    stays amount short = does-stay good words l (moved_in from to amount) b false (IsSound bank) sound-first unwritten Found found (λ m p q. stays-is m from to amount payer q.0.1 short)
+    pub stays : (amount : ℕ) → payer < amount → HasEffect bank words (moved_in from to amount) false b
+    stays amount short =
+        has-effect (moved_in from to amount) false b (does-stay good words l (moved_in from to amount) b false (IsSound bank) sound-first unwritten Found found (λ m p q. stays-is m from to amount payer q.0.1 short))
 
-    pub moves : (c d : Log) (amount : ℕ) → amount ≤ payer → Writes b from (payer - amount) c → Writes c to (payee + amount) d → DoesOver good words (moved_in from to amount) l true d
+    pub moves : (c d : Log) (amount : ℕ) → amount ≤ payer → Writes b from (payer - amount) c → Writes c to (payee + amount) d → HasEffect bank words (moved_in from to amount) true d
     moves c d amount enough one two =
-        does-change good words l (moved_in from to amount) b d true (IsSound bank) sound-first unwritten Found found
+        has-effect (moved_in from to amount) true d
+        (does-change good words l (moved_in from to amount) b d true (IsSound bank) sound-first unwritten Found found
         (λ m. set (set m from (payer - amount)) to (payee + amount))
         (turns-then b c d (λ m. set m from (payer - amount)) (λ m. set m to (payee + amount)) (turns-write b c from (payer - amount) one) (turns-write c d to (payee + amount) two))
-        (λ m p q. moves-is m from to amount payer payee q.0.1 q.1 enough)
+        (λ m p q. moves-is m from to amount payer payee q.0.1 q.1 enough))
+
+-- an effect that leads from balanced memories to balanced ones keeps the rule
+pub keeps-by : (bank : Bank) (words : ℕ) {A : Type 0} (effect : List ℕ → Effect A) (reply : A) (k : Log) → words ≡ bank.accounts + 1 → HasEffect bank words effect reply k → ((m : List ℕ) → IsSound bank m → IsBalanced bank (effect m).memory)
+    → Keeps (IsBalanced bank) words k
+keeps-by bank words effect reply k count does balanced = λ m g len ex. subst (IsBalanced bank) (sym (does m g len ex).left) (balanced m (g, len ∙ count))
 
 -- an attempt that only reads keeps every rule
 pub reads-keep : (good : List ℕ → Type 0) (words : ℕ) (k : Log) → k.writes ≡ [] → Keeps good words k
 reads-keep good words k none = λ m fine len ex. subst (λ ws. good (overlay m ws)) (sym none) fine
+
+-- a closed memory is balanced
+pub closed-sound : (bank : Bank) (c : Config) (ds : List (Handle Bank)) (ws : List ℕ) (e : Ended) → Closes (IsBalanced bank) c ds ws e → c.words ≡ bank.accounts + 1 → IsSound bank ws
+closed-sound bank c ds ws e h w =
+    (subst (IsBalanced bank) (sym h.words) (h.legal.good_always e.clock), ap length h.words ∙ (length-memory_at e.clock e.history (replicate c.words 0) ∙ (length-replicate c.words 0 ∙ w)))
+
+pub sound-sum : (bank : Bank) (m : List ℕ) → IsSound bank m → (sum (balances bank m) ≡ 0) ⊎ (sum (balances bank m) ≡ bank.capital)
+sound-sum bank m s = subst (λ t. (t ≡ 0) ⊎ (t ≡ bank.capital)) (sym s.0.0) s.0.1

@@ -1,3 +1,1 @@
 mod BankLaws
-mod AttemptLaws
-mod CallerLaws

@@ -1,7 +1,8 @@
 -- A bank in a memory, and what its transactions do.
-use Rattle.std.specs.Prelude.{ℕ, ◌≡◌, ◌+◌, ◌-◌, ◌⊎◌, Bool, true, false, if◌then◌else◌, leb, List, take, sum, slice_index, slice_set}
-use Rattle.stm_model.specs.Logs.{SameMemories}
-use Rattle.tx_effects.specs.Effects.{Effect, unchanged, changed}
+use Rattle.std.specs.Prelude.{ℕ, ◌≡◌, ◌<◌, ◌+◌, ◌-◌, ◌⊎◌, Bool, true, false, if◌then◌else◌, leb, List, take, sum, slice_index, slice_set}
+use Rattle.stm_model.specs.Logs.{Log}
+use Rattle.tx_answers.specs.Known.{no_log}
+use Rattle.tx_effects.specs.Effects.{Effect, unchanged, changed, DoesOver}
 use Rattle.example_bank.specs.declared.bank.Bank.{Bank}
 
 -- the balances of the accounts, which are the first words
@@ -16,9 +17,13 @@ paid_in bank memory = slice_index memory bank.accounts
 abbrev pub IsBalanced : Bank → List ℕ → Type 0
 IsBalanced bank memory = (sum (balances bank memory) ≡ paid_in bank memory) × ((paid_in bank memory ≡ 0) ⊎ (paid_in bank memory ≡ bank.capital))
 
--- so many words, of which these are good, are a memory of the bank
-abbrev pub IsMemoryOf : Bank → (List ℕ → Type 0) → ℕ → Type 0
-IsMemoryOf bank good words = (words ≡ bank.accounts + 1) × SameMemories good (IsBalanced bank)
+-- so many words are a memory of the bank, which has an account
+abbrev pub Fits : Bank → ℕ → Type 0
+Fits bank words = (words ≡ bank.accounts + 1) × (0 < bank.accounts)
+
+-- a transaction had this effect on every balanced memory that explains its log, and gave this reply
+abbrev pub HasEffect : {A : Type 0} → Bank → ℕ → (List ℕ → Effect A) → A → Log → Type 0
+HasEffect bank words effect reply log = DoesOver (IsBalanced bank) words effect no_log reply log
 
 -- the capital is paid in to account 0; does nothing where it is open
 abbrev pub opened_in : Bank → List ℕ → Effect Bool

@@ -2,7 +2,6 @@
 //! an auditor adds all balances up in one transaction.
 #![tactic(auto)]
 
-mod attempts;
 mod bank;
 mod callers;
 mod run;
@@ -13,8 +12,7 @@ use crate::run::run;
 use std::alloc::AllocGlobal;
 use std::env::{self, Env};
 use std::process::ExitCode;
-use stm_model::alg::ALGORITHMS;
-use stm_tx::Alg;
+use stm_tx::{ALGORITHMS, Alg};
 
 /// The algorithm that the command line names.
 fn named<R: Env + AllocGlobal>(rt: &R) -> Option<Alg> {

@@ -1,6 +1,6 @@
 use crate::run::run;
 use std::test::Fail;
-use stm_model::alg::ALGORITHMS;
+use stm_tx::ALGORITHMS;
 
 #[test]
 fn the_capital_is_there_under_each_algorithm(rt: HostRuntime) -> Result<(), Fail> {

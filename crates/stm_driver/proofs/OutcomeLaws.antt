@@ -4,6 +4,8 @@ use Rattle.std.specs.Prelude.{Option, Some, None, Result, Ok, Err, OnOk, All, Is
 use Rattle.std.specs.Option.{option_or}
 use Rattle.std.proofs.lemmas.List.{append-nil}
 use Rattle.std.proofs.lemmas.List.Elements.{All-head, All-tail}
+use Rattle.stm_profile.specs.declared.policy.Policy.{Policy}
+use Rattle.stm_profile.specs.declared.policy.Policy.TheVariants.{Fixed}
 use Rattle.stm_rule.specs.declared.stm.Stm.{Stm}
 use Rattle.crossbeam_utils.specs.declared.cache_padded.CachePadded.{CachePadded}
 use Rattle.crossbeam_utils.specs.Padded.{padded_value}
@@ -33,7 +35,7 @@ use Rattle.stm_script.specs.Workloads.{config_of}
 use Rattle.stm_script.specs.declared.workload.Item.{Item}
 use Rattle.stm_driver.specs.Partings.{parted}
 use Rattle.stm_driver.specs.Preparings.{BuiltItem, WorkloadKeeps, IsPrepared}
-use Rattle.stm_driver.specs.Runs.{AreFirst, ArePart, IsStopped, IsTraced, HasRun, HasStepped, RanSome}
+use Rattle.stm_driver.specs.Runs.{AreFirst, ArePart, IsShown, IsStopped, IsTraced, HasRun, HasStepped, RanSome}
 use Rattle.stm_driver.specs.Schedules.{places, AreSame, AreSound, Drives}
 use Rattle.stm_driver.proofs.IdleLaws.{idle-length, idle-still}
 use Rattle.stm_driver.proofs.LimitLaws.{MetSome, full, cut, history-of}
@@ -71,7 +73,7 @@ module _ {K : Type 0} where
       P w = w.phase ≡ Between
 
       by : (full : Option ℕ) → IsThrough (worker_in r) full → option_or full (first_full rs) ≡ None → (first_full rs ≡ None → All IsOver (places (workers_in rs))) → All IsOver (places (workers_in (r ∷ rs)))
-      by None through is more = all-cons IsOver (place_of (worker_in r)) (places (workers_in rs)) (All-head (λ (w : Worker K). w.phase ≡ Between) (worker_in r) (workers_in rs) between, through) (more is)
+      by None through is more = all-cons IsOver (place_of (worker_in r)) (places (workers_in rs)) (All-head (λ (w : Worker K). w.phase ≡ Between) (worker_in r) (workers_in rs) between, through.0, through.1) (more is)
       by (Some found) through is more = absurd cc
 
   over-between : (ws : List (Worker K)) → All IsOver (places ws) → All (λ (w : Worker K). w.phase ≡ Between) ws
@@ -83,42 +85,42 @@ module _ {K : Type 0} where
   how-between ws found (Ok x) is between = between
   how-between ws found (Err halt) is between = tt
 
-module _ {K : Type 0} (good : List ℕ → Type 0) (w : Workload) (stm : Stm K) (items : All (BuiltItem w.header) w.items) (sized : stm.config ≡ config_of w.header) where
+module _ {K : Type 0} (good : List ℕ → Type 0) (policy : Policy) (w : Workload) (stm : Stm K) (items : All (BuiltItem w.header) w.items) (sized : stm.config ≡ config_of w.header) where
   -- the workers after their turns, as closing wants them
   pub record Turned (ran : List (Worker K)) : Type 0 where
     pub sound : AreSound good stm ran
-    pub own : AreOwn w 0 ran
+    pub own : AreOwn policy w 0 ran
     pub callers : AreCallers 0 ran
     pub count : length ran ≡ stm.config.callers
     pub rows : length (rows_of ran) ≤ length w.items
 
-  pub turned : (begun ran : List (Worker K)) → Begun good w stm items sized begun → AreSame begun ran → AreSound good stm ran → Turned ran
+  pub turned : (begun ran : List (Worker K)) → Begun good policy w stm items sized begun → AreSame begun ran → AreSound good stm ran → Turned ran
   turned begun ran b same sound =
-      let own = own-same w 0 begun ran same b.own in
+      let own = own-same policy w 0 begun ran same b.own in
       let count = same-length begun ran same in
       let many = b.count in
       let sizes = ap (λ (c : Config). c.callers) sized in
       record {
         sound = sound;
         own = own;
-        callers = own-callers w 0 ran own;
+        callers = own-callers policy w 0 ran own;
         count = omega (arith, count, many, sizes);
-        rows = rows-few good w stm sized 0 ran (stood-each good w stm sized 0 ran sound own);
+        rows = rows-few good policy w stm sized 0 ran (stood-each good policy w stm sized 0 ran sound own);
       }
 
-  stands : (ran : List (Worker K)) → Turned ran → Each (Stood good w stm sized) 0 ran
-  stands ran t = stood-each good w stm sized 0 ran t.sound t.own
+  stands : (ran : List (Worker K)) → Turned ran → Each (Stood good policy w stm sized) 0 ran
+  stands ran t = stood-each good policy w stm sized 0 ran t.sound t.own
 
   -- the workers, lent as a slice for their turns, and what came back
   pub record Done (rs ran left : List (CachePadded (Runner K))) : Type 0 where
-    pub begun : Begun good w stm items sized (workers_in rs)
+    pub begun : Begun good policy w stm items sized (workers_in rs)
     pub is : left ≡ ran
     pub turned : Turned (workers_in left)
 
-  pub done : WorkloadKeeps good w → (parts : List (List Item)) → parts ≡ parted w.header.callers w.items → (rs lent ran : List (CachePadded (Runner K))) (n : ℕ) → IsPrepared w.header parts stm (workers_in rs) → lent ≡ rs → length lent ≡ n
+  pub done : WorkloadKeeps good w → (parts : List (List Item)) → parts ≡ parted w.header.callers w.items → (rs lent ran : List (CachePadded (Runner K))) (n : ℕ) → IsPrepared w.header policy parts stm (workers_in rs) → lent ≡ rs → length lent ≡ n
       → AreSame (workers_in lent) (workers_in ran) → AreSound good stm (workers_in ran) → Done rs ran (take n (ran ++ drop (length ran) rs))
   done keeps parts parting rs lent ran n p same long kept sound =
-      let first = begun good w stm items sized keeps parts (workers_in rs) parting p in
+      let first = begun good policy w stm items sized keeps parts (workers_in rs) parting p in
       let also = ap length same in
       let count = same-length (workers_in lent) (workers_in ran) kept in
       let a = workers-length lent in
@@ -160,70 +162,71 @@ module _ {K : Type 0} (good : List ℕ → Type 0) (w : Workload) (stm : Stm K) 
 
   module _ (theorem : ReportReplays good) where
     -- what was done: with nothing open the first items of each caller
-    ran-first : (ran : List (Worker K)) (closed : Ended) → Turned ran → All (λ (w : Worker K). w.phase ≡ Between) ran → CutShort good stm ran closed → RanSome AreFirst w closed
+    ran-first : (ran : List (Worker K)) (closed : Ended) → Turned ran → All (λ (w : Worker K). w.phase ≡ Between) ran → CutShort good stm ran closed → RanSome AreFirst policy w closed
     ran-first ran closed t between c =
-        ran-some good w stm items sized theorem AreFirst (λ (w : Worker K). w.phase ≡ Between) (λ n v x s h p. (v.items_left.now, sym s.own.all ∙ h.did.calm p))
+        ran-some good policy w stm items sized theorem AreFirst (λ (w : Worker K). w.phase ≡ Between) (λ n v x s h p. (v.items_left.now, sym s.own.all ∙ h.did.calm p))
         ran c.after c.words closed (stands ran t) between c.idle (idle-length good stm ran c.after c.idle ∙ t.count) c.closes
 
     -- and else a part of them
-    ran-part : (ran : List (Worker K)) (closed : Ended) → Turned ran → CutShort good stm ran closed → RanSome ArePart w closed
+    ran-part : (ran : List (Worker K)) (closed : Ended) → Turned ran → CutShort good stm ran closed → RanSome ArePart policy w closed
     ran-part ran closed t c =
-        ran-some good w stm items sized theorem ArePart (λ (w : Worker K). Unit {0}) (λ n v x s h p. (v.items_left.now, subst (λ l. IsPart l v.items_left.now h.did.items) s.own.all h.did.part))
+        ran-some good policy w stm items sized theorem ArePart (λ (w : Worker K). Unit {0}) (λ n v x s h p. (v.items_left.now, subst (λ l. IsPart l v.items_left.now h.did.items) s.own.all h.did.part))
         ran c.after c.words closed (stands ran t) (λ i d lt. tt) c.idle (idle-length good stm ran c.after c.idle ∙ t.count) c.closes
 
     -- what `run` came to
-    pub has-run : (lent ran : List (CachePadded (Runner K))) (how : Result (Unit {0}) Halt) (outcome : Outcome) → Begun good w stm items sized (workers_in lent) → RanAll lent ran → Turned (workers_in ran) → how ≡ how_of (first_full ran) → Came good stm (workers_in ran) how outcome → HasRun w outcome
+    pub has-run : (lent ran : List (CachePadded (Runner K))) (how : Result (Unit {0}) Halt) (outcome : Outcome) → Begun good policy w stm items sized (workers_in lent) → RanAll lent ran → Turned (workers_in ran) → how ≡ how_of (first_full ran) → Came good stm (workers_in ran) how outcome → HasRun policy w outcome
     has-run lent ran how outcome b r t is came = by (first_full ran) refl outcome (subst (λ h. Came good stm (workers_in ran) h outcome) is came)
       where
-        by : (full : Option ℕ) → first_full ran ≡ full → (o : Outcome) → Came good stm (workers_in ran) (how_of full) o → HasRun w o
-        by None e (ToEnd report closed) c = shown good w stm items sized theorem (workers_in ran) c.words closed report (stands (workers_in ran) t) t.count (none-left ran r.through r.between e) c.closes c.is
+        by : (full : Option ℕ) → first_full ran ≡ full → (o : Outcome) → Came good stm (workers_in ran) (how_of full) o → HasRun policy w o
+        by None e (ToEnd report closed) c = shown good policy w stm items sized theorem (workers_in ran) c.words closed report (stands (workers_in ran) t) t.count (none-left ran r.through r.between e) c.closes c.is
         by None e (ToLimit clock closed) c = absurd c
-        by None e (OutOfMemory closed) c = let q = c.1 in (c.0, shown good w stm items sized theorem (workers_in ran) q.words closed c.0 (stands (workers_in ran) t) t.count (none-left ran r.through r.between e) q.closes q.is)
+        by None e (OutOfMemory closed) c = let q = c.1 in (c.0, shown good policy w stm items sized theorem (workers_in ran) q.words closed c.0 (stands (workers_in ran) t) t.count (none-left ran r.through r.between e) q.closes q.is)
         by (Some found) e (ToEnd report closed) c = absurd c
         by (Some found) e (ToLimit clock closed) c =
             let after = idle-still good stm (workers_in ran) c.1.after r.between c.1.idle in
-            full good w stm items sized (workers_in lent) (workers_in ran) c.1.words closed clock (ran-first (workers_in ran) closed t r.between c.1) b.paid r.paid (stands (workers_in ran) t) r.between t.count (met-some ran clock r.through (e ∙ ap Some (sym c.0)))
+            full good policy w stm items sized (workers_in lent) (workers_in ran) c.1.words closed clock (ran-first (workers_in ran) closed t r.between c.1) b.paid r.paid (stands (workers_in ran) t) r.between t.count (met-some ran clock r.through (e ∙ ap Some (sym c.0)))
             (subst (λ ws. Closes good stm.config (descs_of ws) c.1.words closed) after c.1.closes)
         by (Some found) e (OutOfMemory closed) c = absurd c
 
-    traced : (begun ran : List (Worker K)) (gos : List Go) (lines : List Line) (report : Report) (closed : Ended) → gos ≡ w.schedule → Begun good w stm items sized begun → Turned ran → Drives stm.config gos begun ran lines (Ok tt)
-        → Reported good stm ran report closed → IsTraced w lines report closed
-    traced begun ran gos lines report closed is b t drives r =
-        let whole = drives.0 w.header (sizes-of stm.config w.header sized) report.rows (subst (λ rows. IsPermutation rows report.rows) (sym (told-rows ran)) r.is.moved) in
-        let sorted = subst (λ ps. fits.IsWhole w.header ps gos lines report.rows) b.starts whole in
-        record {
-          fits = subst (λ s. fits.IsWhole w.header (first_places w) s lines report.rows) is sorted;
-          shown = shown good w stm items sized theorem ran r.words closed report (stands ran t) t.count drives.1 r.closes r.is;
-        }
+    module _ (fixed : policy ≡ Fixed) where
+      traced : (begun ran : List (Worker K)) (gos : List Go) (lines : List Line) (report : Report) (closed : Ended) → gos ≡ w.schedule → Begun good policy w stm items sized begun → Turned ran → Drives stm.config gos begun ran lines (Ok tt)
+          → Reported good stm ran report closed → IsTraced w lines report closed
+      traced begun ran gos lines report closed is b t drives r =
+          let whole = drives.0 w.header (sizes-of stm.config w.header sized) report.rows (subst (λ rows. IsPermutation rows report.rows) (sym (told-rows ran)) r.is.moved) in
+          let sorted = subst (λ ps. fits.IsWhole w.header ps gos lines report.rows) (b.starts fixed) whole in
+          record {
+            fits = subst (λ s. fits.IsWhole w.header (first_places w) s lines report.rows) is sorted;
+            shown = subst (λ (p : Policy). IsShown p w report closed) fixed (shown good policy w stm items sized theorem ran r.words closed report (stands ran t) t.count drives.1 r.closes r.is);
+          }
 
-    -- all was done, and no report of it was made
-    stopped-whole : (begun ran : List (Worker K)) (gos : List Go) (lines : List Line) (report : Report) (closed : Ended) → Begun good w stm items sized begun → Turned ran → Drives stm.config gos begun ran lines (Ok tt) → Reported good stm ran report closed
-        → IsStopped w closed
-    stopped-whole begun ran gos lines report closed b t d r = record {
-      opening = r.closes.opening ∙ ap (λ (x : Config). x.clock) sized;
-      history = history-of good w stm.config sized (descs_of ran) r.words closed r.closes;
-      ran = record {
-        part = w;
-        header = refl;
-        each = λ n lt. ([], (items_of n w.items, sym (append-nil (items_of n w.items)), inl refl));
-        report = report;
-        shown = shown good w stm items sized theorem ran r.words closed report (stands ran t) t.count d.1 r.closes r.is;
-      };
-    }
+      -- all was done, and no report of it was made
+      stopped-whole : (begun ran : List (Worker K)) (gos : List Go) (lines : List Line) (report : Report) (closed : Ended) → Begun good policy w stm items sized begun → Turned ran → Drives stm.config gos begun ran lines (Ok tt) → Reported good stm ran report closed
+          → IsStopped w closed
+      stopped-whole begun ran gos lines report closed b t d r = record {
+        opening = r.closes.opening ∙ ap (λ (x : Config). x.clock) sized;
+        history = history-of good w stm.config sized (descs_of ran) r.words closed r.closes;
+        ran = record {
+          part = w;
+          header = refl;
+          each = λ n lt. ([], (items_of n w.items, sym (append-nil (items_of n w.items)), inl refl));
+          report = report;
+          shown = subst (λ (p : Policy). IsShown p w report closed) fixed (shown good policy w stm items sized theorem ran r.words closed report (stands ran t) t.count d.1 r.closes r.is);
+        };
+      }
 
-    -- what `step` came to
-    pub has-stepped : (begun ran : List (Worker K)) (gos : List Go) (lines : List Line) (how : Result (Unit {0}) Halt) (outcome : Outcome) → gos ≡ w.schedule → Begun good w stm items sized begun → Turned ran → Drives stm.config gos begun ran lines how
-        → Came good stm ran how outcome → HasStepped w lines outcome
-    has-stepped begun ran gos lines (Ok x) (ToEnd report closed) is b t d c = traced begun ran gos lines report closed is b t d c
-    has-stepped begun ran gos lines (Ok x) (ToLimit clock closed) is b t d c = absurd c
-    has-stepped begun ran gos lines (Ok x) (OutOfMemory closed) is b t d c = stopped-whole begun ran gos lines c.0 closed b t d c.1
-    has-stepped begun ran gos lines (Err (ClockFull found)) (ToEnd report closed) is b t d c = absurd c
-    has-stepped begun ran gos lines (Err (ClockFull found)) (ToLimit clock closed) is b t d c =
-        cut good w stm items sized begun ran gos lines clock closed is b (subst (λ k. Drives stm.config gos begun ran lines (Err (ClockFull k))) (sym c.0) d) c.1 (ran-part ran closed t c.1)
-    has-stepped begun ran gos lines (Err (ClockFull found)) (OutOfMemory closed) is b t d c = absurd c
-    has-stepped begun ran gos lines (Err Memory) (ToEnd report closed) is b t d c = absurd c
-    has-stepped begun ran gos lines (Err Memory) (ToLimit clock closed) is b t d c = absurd c
-    has-stepped begun ran gos lines (Err Memory) (OutOfMemory closed) is b t d c = record { opening = c.closes.opening ∙ ap (λ (x : Config). x.clock) sized; history = history-of good w stm.config sized (descs_of c.after) c.words closed c.closes; ran = ran-part ran closed t c }
+      -- what `step` came to
+      pub has-stepped : (begun ran : List (Worker K)) (gos : List Go) (lines : List Line) (how : Result (Unit {0}) Halt) (outcome : Outcome) → gos ≡ w.schedule → Begun good policy w stm items sized begun → Turned ran → Drives stm.config gos begun ran lines how
+          → Came good stm ran how outcome → HasStepped w lines outcome
+      has-stepped begun ran gos lines (Ok x) (ToEnd report closed) is b t d c = traced begun ran gos lines report closed is b t d c
+      has-stepped begun ran gos lines (Ok x) (ToLimit clock closed) is b t d c = absurd c
+      has-stepped begun ran gos lines (Ok x) (OutOfMemory closed) is b t d c = stopped-whole begun ran gos lines c.0 closed b t d c.1
+      has-stepped begun ran gos lines (Err (ClockFull found)) (ToEnd report closed) is b t d c = absurd c
+      has-stepped begun ran gos lines (Err (ClockFull found)) (ToLimit clock closed) is b t d c =
+          cut good policy w stm items sized fixed begun ran gos lines clock closed is b (subst (λ k. Drives stm.config gos begun ran lines (Err (ClockFull k))) (sym c.0) d) c.1 (ran-part ran closed t c.1)
+      has-stepped begun ran gos lines (Err (ClockFull found)) (OutOfMemory closed) is b t d c = absurd c
+      has-stepped begun ran gos lines (Err Memory) (ToEnd report closed) is b t d c = absurd c
+      has-stepped begun ran gos lines (Err Memory) (ToLimit clock closed) is b t d c = absurd c
+      has-stepped begun ran gos lines (Err Memory) (OutOfMemory closed) is b t d c = record { opening = c.closes.opening ∙ ap (λ (x : Config). x.clock) sized; history = history-of good w stm.config sized (descs_of c.after) c.words closed c.closes; ran = subst (λ (p : Policy). RanSome ArePart p w closed) fixed (ran-part ran closed t c) }
 
 pub driven-between : {K : Type 0} (config : Config) (gos : List Go) (begun ran : List (Worker K)) (lines : List Line) (how : Result (Unit {0}) Halt) → Drives config gos begun ran lines how → OnOk how (All (λ (w : Worker K). w.phase ≡ Between) ran)
 driven-between config gos begun ran lines (Ok x) d = over-between ran d.1

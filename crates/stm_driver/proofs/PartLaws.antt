@@ -2,9 +2,10 @@
 use Rattle.std.proofs.Common.{ℕ, suc, ◌≡◌, ◌<◌, ◌≤◌, ◌+◌, Bool, true, false, List, [], ◌∷◌, ◌++◌, length, map, refl, sym, ap, ◌∙◌, arith, subst, append_assoc, inl, inr}
 use Rattle.std.specs.Prelude.{◌⊎◌, ◌==◌, if◌then◌else◌, All, Contains, sum_by}
 use Rattle.std.proofs.lemmas.Bool.Decides.{nat_tests}
-use Rattle.std.proofs.lemmas.List.{append-nil, append_cancel_right}
+use Rattle.std.proofs.lemmas.List.{append-nil, length-map}
 use Rattle.std.proofs.lemmas.List.Elements.{All-head, All-tail}
 use Rattle.std.proofs.lemmas.List.Sums.{sum_by-cons}
+use Rattle.stm_profile.specs.declared.policy.Policy.{Policy}
 use Rattle.stm_rule.specs.declared.stm.Stm.{Stm}
 use Rattle.stm_model.specs.declared.alg.Alg.{Alg}
 use Rattle.stm_model.specs.declared.config.Config.{Config}
@@ -24,11 +25,13 @@ use Rattle.stm_tx.specs.Descs.{known}
 use Rattle.stm_trace.specs.Places.{caller_in, items_of}
 use Rattle.stm_worker.specs.declared.worker.Worker.{Worker}
 use Rattle.stm_worker.specs.Leavings.{BeginsNext, IsPart, MadeIdle}
-use Rattle.stm_worker.specs.Workers.{Works, switches_of}
+use Rattle.stm_worker.specs.Installs.{InstallsBy}
+use Rattle.stm_worker.specs.InstallLaws.{by-before}
+use Rattle.stm_worker.specs.Workers.{Works, switches_of, switches_with}
 use Rattle.stm_driver.specs.Preparings.{BuiltItem}
-use Rattle.stm_driver.specs.AllWorkers.{AreMadeIdle, descs_of}
+use Rattle.stm_driver.specs.AllWorkers.{AreMadeIdle, descs_of, policy_for}
 use Rattle.stm_driver.specs.Openings.{first_installs}
-use Rattle.stm_driver.specs.Runs.{RanSome, installs_for}
+use Rattle.stm_driver.specs.Runs.{AreInstalls, RanSome, installs_for}
 use Rattle.stm_driver.proofs.HistoryLaws.{dealt, dealt-all, all-below, made-own, made-within}
 use Rattle.stm_driver.proofs.PartingLaws.{all-cons, own-all, scripts-own}
 use Rattle.stm_driver.proofs.PreparedLaws.{all-installs}
@@ -104,7 +107,7 @@ part-switches first [] did (inr n) = absurd n
 part-switches first (Tx caller script ∷ left) did (inr n) = ap switches_of n.3 ∙ (switches-append first (Tx caller n.0 ∷ []) ∙ append-nil (switches_of first))
 part-switches first (Switch caller alg ∷ left) did (inr n) = absurd n
 
-module _ {K : Type 0} (good : List ℕ → Type 0) (w : Workload) (stm : Stm K) (items : All (BuiltItem w.header) w.items) (sized : stm.config ≡ config_of w.header) where
+module _ {K : Type 0} (good : List ℕ → Type 0) (policy : Policy) (w : Workload) (stm : Stm K) (items : All (BuiltItem w.header) w.items) (sized : stm.config ≡ config_of w.header) where
   pub record IsDid (some : List Item → List Item → Type 0) (closed : Ended) (n : ℕ) (d : Did) : Type 0 where
     pub is : some (items_of n w.items) d.items
     pub own : All (λ i. caller_in i ≡ n) d.items
@@ -114,7 +117,7 @@ module _ {K : Type 0} (good : List ℕ → Type 0) (w : Workload) (stm : Stm K) 
     pub begins : BeginsWith closed.history d.part.seen d.part.front
     pub made : d.part.made ≡ made_by n closed.history
     pub whole : length d.part.rows ≡ length (scripts_of n d.items)
-    pub installs : d.installs ≡ first_installs w.header.alg n ++ switches_of d.items
+    pub installs : InstallsBy (policy_for policy n) (first_installs w.header.alg n ++ switches_of d.items) d.installs
 
   did-of : (n : ℕ) (v x : Worker K) → MadeIdle good stm v x → Did
   did-of n v x h = record {
@@ -123,7 +126,7 @@ module _ {K : Type 0} (good : List ℕ → Type 0) (w : Workload) (stm : Stm K) 
     installs = (known x.desc).installs;
   }
 
-  did-is : (some : List Item → List Item → Type 0) (closed : Ended) (n : ℕ) (v x : Worker K) → Stood good w stm sized n v → (h : MadeIdle good stm v x) → Told closed n x.desc → some (items_of n w.items) h.did.items → IsDid some closed n (did-of n v x h)
+  did-is : (some : List Item → List Item → Type 0) (closed : Ended) (n : ℕ) (v x : Worker K) → Stood good policy w stm sized n v → (h : MadeIdle good stm v x) → Told closed n x.desc → some (items_of n w.items) h.did.items → IsDid some closed n (did-of n v x h)
   unfolding did-of
   did-is some closed n v x s h told is =
       let did = h.did.items in
@@ -136,11 +139,14 @@ module _ {K : Type 0} (good : List ℕ → Type 0) (w : Workload) (stm : Stm K) 
       let works : Works good w.header.words (regions_of w.header) did n (known x.desc) h.did.rows =
       subst (λ k. Works good k (regions_of w.header) did n (known x.desc) h.did.rows) words
       (subst (λ rs. Works good stm.config.words rs did n (known x.desc) h.did.rows) s.own.over
-      (subst (λ k. Works good stm.config.words v.regions.now did k (known x.desc) h.did.rows) (stood-caller good w stm sized n v s) h.did.works)) in
+      (subst (λ k. Works good stm.config.words v.regions.now did k (known x.desc) h.did.rows) (stood-caller good policy w stm sized n v s) h.did.works)) in
       let parted : switches_of (items_of n w.items) ≡ switches_of did ++ switches_of v.items_left.now =
       ap switches_of part.1 ∙ (switches-append part.0 v.items_left.now ∙ ap (λ l. l ++ switches_of v.items_left.now) (sym (part-switches part.0 v.items_left.now did part.2))) in
-      let whole : (known x.desc).installs ++ switches_of v.items_left.now ≡ (first_installs w.header.alg n ++ switches_of did) ++ switches_of v.items_left.now =
-      ap (λ l. l ++ switches_of v.items_left.now) h.keeps.installs ∙ (s.own.switched ∙ (sym (all-installs w n) ∙ (ap (λ l. first_installs w.header.alg n ++ l) parted ∙ sym (append_assoc (first_installs w.header.alg n) (switches_of did) (switches_of v.items_left.now))))) in
+      let text : installs_for w n ≡ (first_installs w.header.alg n ++ switches_of did) ++ switches_of v.items_left.now =
+      sym (all-installs w n) ∙ (ap (λ l. first_installs w.header.alg n ++ l) parted ∙ sym (append_assoc (first_installs w.header.alg n) (switches_of did) (switches_of v.items_left.now))) in
+      let whole : InstallsBy (policy_for policy n) ((first_installs w.header.alg n ++ switches_of did) ++ switches_of v.items_left.now) ((known x.desc).installs ++ switches_of v.items_left.now) =
+      subst (λ l. InstallsBy (policy_for policy n) ((first_installs w.header.alg n ++ switches_of did) ++ switches_of v.items_left.now) (l ++ switches_of v.items_left.now)) (sym h.keeps.installs)
+      (subst (λ l. InstallsBy (policy_for policy n) l (switches_with v)) text s.own.switched) in
       record {
         is = is;
         own = λ i d lt. (each i d lt).0;
@@ -149,8 +155,8 @@ module _ {K : Type 0} (good : List ℕ → Type 0) (w : Workload) (stm : Stm K) 
         worked = works;
         begins = told.seen;
         made = told.made;
-        whole = h.did.whole ∙ ap (λ k. length (scripts_of k did)) (stood-caller good w stm sized n v s);
-        installs = append_cancel_right (known x.desc).installs (first_installs w.header.alg n ++ switches_of did) (switches_of v.items_left.now) whole;
+        whole = h.did.whole ∙ ap (λ k. length (scripts_of k did)) (stood-caller good policy w stm sized n v s);
+        installs = by-before (policy_for policy n) (first_installs w.header.alg n ++ switches_of did) (known x.desc).installs (switches_of v.items_left.now) whole;
       }
 
   -- of all callers from n on
@@ -160,8 +166,8 @@ module _ {K : Type 0} (good : List ℕ → Type 0) (w : Workload) (stm : Stm K) 
     count : length dids ≡ length ws
     installs : map (λ (d : Handle K). installs_of d.view) (descs_of ws) ≡ map (λ (d : Did). d.installs) dids
 
-  are-did : (some : List Item → List Item → Type 0) (P : Worker K → Type 0) → ((n : ℕ) (v x : Worker K) → Stood good w stm sized n v → (h : MadeIdle good stm v x) → P v → some (items_of n w.items) h.did.items)
-      → (closed : Ended) (n : ℕ) (vs ws : List (Worker K)) → Each (Stood good w stm sized) n vs → All P vs → AreMadeIdle good stm vs ws → AllTold closed n (descs_of ws) → AreDid some closed n ws
+  are-did : (some : List Item → List Item → Type 0) (P : Worker K → Type 0) → ((n : ℕ) (v x : Worker K) → Stood good policy w stm sized n v → (h : MadeIdle good stm v x) → P v → some (items_of n w.items) h.did.items)
+      → (closed : Ended) (n : ℕ) (vs ws : List (Worker K)) → Each (Stood good policy w stm sized) n vs → All P vs → AreMadeIdle good stm vs ws → AllTold closed n (descs_of ws) → AreDid some closed n ws
   unfolding did-of
   are-did some P is closed n [] [] s p h t = record { dids = []; each = tt; count = refl; installs = refl }
   are-did some P is closed n [] (x ∷ ws) s p h t = absurd h
@@ -252,16 +258,16 @@ module _ {K : Type 0} (good : List ℕ → Type 0) (w : Workload) (stm : Stm K) 
         let cons = sum_by-cons (λ (p : Part). sum_by count p.made) d.part (map (λ (e : Did). e.part) ds) in
         omega (arith, head, rest, cons)
 
-    installs-in : (n : ℕ) (ds : List Did) → Each IsIn n ds → map (λ (d : Did). d.installs) ds ≡ map (installs_for some_of) (counted n (length ds))
+    installs-in : (n : ℕ) (ds : List Did) → Each IsIn n ds → AreInstalls policy some_of n (map (λ (d : Did). d.installs) ds)
     unfolding some_of
-    installs-in n [] h = refl
-    installs-in n (d ∷ ds) h =
-        let head : d.installs ≡ installs_for some_of n = h.0.did.installs ∙ (ap (λ l. first_installs w.header.alg n ++ switches_of l) (sym h.0.here) ∙ all-installs some_of n) in
-        let rest = installs-in (suc n) ds h.1 in
-        ap (λ x. x ∷ map (λ (e : Did). e.installs) ds) head ∙ ap (λ l. installs_for some_of n ∷ l) rest
+    installs-in n [] h = tt
+    installs-in n (d ∷ ds) h = (
+      subst (λ l. InstallsBy (policy_for policy n) l d.installs) (ap (λ l. first_installs w.header.alg n ++ switches_of l) (sym h.0.here) ∙ all-installs some_of n) h.0.did.installs,
+      installs-in (suc n) ds h.1,
+    )
 
-  pub ran-some : ReportReplays good → (some : List Item → List Item → Type 0) (P : Worker K → Type 0) → ((n : ℕ) (v x : Worker K) → Stood good w stm sized n v → (h : MadeIdle good stm v x) → P v → some (items_of n w.items) h.did.items)
-      → (vs xs : List (Worker K)) (ws : List ℕ) (closed : Ended) → Each (Stood good w stm sized) 0 vs → All P vs → AreMadeIdle good stm vs xs → length xs ≡ stm.config.callers → Closes good stm.config (descs_of xs) ws closed → RanSome some w closed
+  pub ran-some : ReportReplays good → (some : List Item → List Item → Type 0) (P : Worker K → Type 0) → ((n : ℕ) (v x : Worker K) → Stood good policy w stm sized n v → (h : MadeIdle good stm v x) → P v → some (items_of n w.items) h.did.items)
+      → (vs xs : List (Worker K)) (ws : List ℕ) (closed : Ended) → Each (Stood good policy w stm sized) 0 vs → All P vs → AreMadeIdle good stm vs xs → length xs ≡ stm.config.callers → Closes good stm.config (descs_of xs) ws closed → RanSome some policy w closed
   unfolding some_of
   ran-some theorem some P is vs xs ws closed stood p idle len c =
       let a = are-did some P is closed 0 vs xs stood p idle c.told in
@@ -295,6 +301,7 @@ module _ {K : Type 0} (good : List ℕ → Type 0) (w : Workload) (stm : Stm K) 
         shown = record {
           replays = both.0;
           shows = subst (λ k. Shows closed.history k closed.clock part report) (sym (c.opening ∙ ap (λ (x : Config). x.clock) sized)) both.1;
-          installs = c.installs ∙ (a.installs ∙ (installs-in some closed whole 0 ds each ∙ ap (λ k. map (installs_for part) (counted 0 k)) callers));
+          callers = ap length (c.installs ∙ a.installs) ∙ (length-map ds (λ (d : Did). d.installs) ∙ callers);
+          installs = subst (AreInstalls policy part 0) (sym (c.installs ∙ a.installs)) (installs-in some closed whole 0 ds each);
         };
       }

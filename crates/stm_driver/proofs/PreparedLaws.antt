@@ -1,8 +1,10 @@
 -- The workers before the first turn, and what stays so of them.
-use Rattle.std.proofs.Common.{ℕ, zero, suc, ◌≡◌, ◌<◌, ◌≤◌, ◌+◌, ◌*◌, ◌++◌, List, [], ◌∷◌, length, get_or, map, refl, sym, ap, ◌∙◌, arith, subst}
-use Rattle.std.specs.Prelude.{All, slice_index_or, if◌then◌else◌}
+use Rattle.std.proofs.Common.{ℕ, zero, suc, ◌≡◌, ◌<◌, ◌≤◌, ◌+◌, ◌*◌, ◌++◌, Bool, true, false, List, [], ◌∷◌, length, get_or, map, refl, sym, ap, ◌∙◌, arith, subst}
+use Rattle.std.specs.Prelude.{All, slice_index_or, ◌==◌, if◌then◌else◌}
 use Rattle.std.proofs.lemmas.List.Elements.{All-head, All-tail}
 use Rattle.std.proofs.lemmas.List.Sums.{sum_by-cons}
+use Rattle.stm_profile.specs.declared.policy.Policy.{Policy}
+use Rattle.stm_profile.specs.declared.policy.Policy.TheVariants.{Fixed}
 use Rattle.stm_rule.specs.declared.stm.Stm.{Stm}
 use Rattle.stm_model.specs.declared.config.Config.{Config}
 use Rattle.rule_base.specs.declared.seats.Role.TheVariants.{Caller}
@@ -23,11 +25,13 @@ use Rattle.stm_trace.specs.Fits.{first_place, first_places}
 use Rattle.stm_trace.specs.Places.{Place, caller_in, items_of}
 use Rattle.stm_worker.specs.declared.worker.Worker.{Worker}
 use Rattle.stm_trace.specs.Turns.{HasSizes}
-use Rattle.stm_worker.specs.Workers.{HasLengths, place_of, Sound, Starts, switches_of}
+use Rattle.stm_worker.specs.Installs.{InstallsBy}
+use Rattle.stm_worker.specs.InstallLaws.{by-same, by-trans}
+use Rattle.stm_worker.specs.Workers.{HasLengths, place_of, Sound, Starts, switches_of, switches_with}
 use Rattle.stm_worker.specs.Workers.{ItemsFit as OwnItems}
-use Rattle.stm_worker.specs.Payments.{CountsNext, PaysBut, raised}
+use Rattle.stm_worker.specs.Payments.{CountsNext, PaysBut, due_of, raised}
 use Rattle.stm_worker.specs.PaymentLaws.{starts-counts}
-use Rattle.stm_driver.specs.AllWorkers.{AreMade, AreCallers}
+use Rattle.stm_driver.specs.AllWorkers.{AreMade, AreCallers, policy_for}
 use Rattle.stm_script.specs.Workloads.{config_of}
 use Rattle.stm_driver.specs.Openings.{IsNew, first_installs, AllNew}
 use Rattle.stm_driver.specs.Partings.{parted}
@@ -58,32 +62,48 @@ items-own good h n (Switch caller alg ∷ items) b =
 new-owes : (these : List Alg) (v : Known) → IsNew these v → owed v ≤ length these
 new-owes these v new = subst (λ b. (if b then v.base + 2 else v.rises) ≤ length these) (sym new.idle.1) new.done.rises
 
+pub fixed-for : (n : ℕ) → policy_for Fixed n ≡ Fixed
+fixed-for n = by (n == 0)
+  where
+    by : (b : Bool) → (if b then Fixed else Fixed) ≡ Fixed
+    by true = refl
+    by false = refl
+
 module _ {K : Type 0} where
   -- each is its caller's, from caller n on, has that caller's items, and installs what they say
-  pub record IsOwn (w : Workload) (n : ℕ) (x : Worker K) : Type 0 where
+  pub record IsOwn (policy : Policy) (w : Workload) (n : ℕ) (x : Worker K) : Type 0 where
     pub role : x.desc.who.role ≡ Caller n
     pub all : x.all.now ≡ items_of n w.items
     pub over : x.regions.now ≡ regions_of w.header
-    pub switched : (known x.desc).installs ++ switches_of x.items_left.now ≡ installs_for w n
+    pub policy_is : x.policy ≡ policy_for policy n
+    pub switched : InstallsBy (policy_for policy n) (installs_for w n) (switches_with x)
 
-  abbrev pub AreOwn : Workload → ℕ → List (Worker K) → Type 0
-  AreOwn w n [] = Unit {0}
-  AreOwn w n (x ∷ xs) = IsOwn w n x × AreOwn w (suc n) xs
+  abbrev pub AreOwn : Policy → Workload → ℕ → List (Worker K) → Type 0
+  AreOwn policy w n [] = Unit {0}
+  AreOwn policy w n (x ∷ xs) = IsOwn policy w n x × AreOwn policy w (suc n) xs
 
-  pub own-callers : (w : Workload) (n : ℕ) (xs : List (Worker K)) → AreOwn w n xs → AreCallers n xs
-  own-callers w n [] h = tt
-  own-callers w n (x ∷ xs) h = (h.0.role, own-callers w (suc n) xs h.1)
+  pub own-callers : (policy : Policy) (w : Workload) (n : ℕ) (xs : List (Worker K)) → AreOwn policy w n xs → AreCallers n xs
+  own-callers policy w n [] h = tt
+  own-callers policy w n (x ∷ xs) h = (h.0.role, own-callers policy w (suc n) xs h.1)
 
-  pub own-same : (w : Workload) (n : ℕ) (xs ys : List (Worker K)) → AreSame xs ys → AreOwn w n xs → AreOwn w n ys
-  own-same w n [] [] s h = tt
-  own-same w n [] (y ∷ ys) s h = absurd s
-  own-same w n (x ∷ xs) [] s h = absurd s
-  own-same w n (x ∷ xs) (y ∷ ys) s h =
-      (record { role = ap (λ x. x.role) s.0.same.who ∙ h.0.role; all = s.0.all ∙ h.0.all; over = s.0.regions ∙ h.0.over; switched = s.0.switched ∙ h.0.switched }, own-same w (suc n) xs ys s.1 h.1)
+  pub own-same : (policy : Policy) (w : Workload) (n : ℕ) (xs ys : List (Worker K)) → AreSame xs ys → AreOwn policy w n xs → AreOwn policy w n ys
+  own-same policy w n [] [] s h = tt
+  own-same policy w n [] (y ∷ ys) s h = absurd s
+  own-same policy w n (x ∷ xs) [] s h = absurd s
+  own-same policy w n (x ∷ xs) (y ∷ ys) s h = (
+    record {
+      role = ap (λ x. x.role) s.0.same.who ∙ h.0.role;
+      all = s.0.all ∙ h.0.all;
+      over = s.0.regions ∙ h.0.over;
+      policy_is = s.0.policy ∙ h.0.policy_is;
+      switched = by-trans (policy_for policy n) (installs_for w n) (switches_with x) (switches_with y) h.0.switched (subst (λ (p : Policy). InstallsBy p (switches_with x) (switches_with y)) h.0.policy_is s.0.switched);
+    },
+    own-same policy w (suc n) xs ys s.1 h.1,
+  )
 
-  module _ (stm : Stm K) (items : List Item) (rs : List Region) (alg : Alg) where
+  module _ (stm : Stm K) (items : List Item) (rs : List Region) (alg : Alg) (policy : Policy) where
     -- what the first install raised the clock by is all that is owed at the start
-    owes-start : (n : ℕ) (ds : List (Handle K)) (ws : List (Worker K)) → AllNew stm alg n ds → AreMade (λ k. items_of k items) rs alg n ds ws → debts ws ≤ length (first_installs alg n)
+    owes-start : (n : ℕ) (ds : List (Handle K)) (ws : List (Worker K)) → AllNew stm alg n ds → AreMade (λ k. items_of k items) rs alg policy n ds ws → debts ws ≤ length (first_installs alg n)
     owes-start n [] [] o h = omega arith
     owes-start n [] (w ∷ ws) o h = absurd h
     owes-start n (d ∷ ds) [] o h = absurd h
@@ -99,34 +119,36 @@ module _ {K : Type 0} where
   StartPaid alg n [] = Unit {0}
   StartPaid alg n (x ∷ ws) = ((each most : ℕ) → PaysBut (length (first_installs alg n)) each most x) × CountsNext x × (x.failed ≡ 0) × StartPaid alg (suc n) ws
 
-  start-pays : (d : Handle K) (items : List Item) (rs : List Region) (alg : Alg) (these : List Alg) (x : Worker K) → IsNew these (known d) → Starts d items rs alg x → (each most : ℕ) → PaysBut (length these) each most x
-  start-pays d items rs alg these x new s each most =
+  start-pays : (d : Handle K) (items : List Item) (rs : List Region) (alg : Alg) (policy : Policy) (these : List Alg) (x : Worker K) → IsNew these (known d) → Starts d items rs alg policy x → (each most : ℕ) → PaysBut (length these) each most x
+  start-pays d items rs alg policy these x new s each most =
       let few : raised (known x.desc) ≤ length these = subst (λ (y : Handle K). raised (known y) ≤ length these) (sym s.is_desc) (subst (λ b. (if b then (known d).base else (known d).rises) ≤ length these) (sym new.idle.1) new.done.rises) in
       let left : x.items_left.now ≡ x.all.now = ap (λ (p : Place). p.left) s.at ∙ sym s.all in
       let same : each * length x.items_left.now ≡ each * length x.all.now = ap (λ (l : List Item). each * length l) left in
-      omega (arith, few, same)
+      let due : due_of x.chosen ≡ 0 = ap (λ (p : Place). due_of p.chosen) s.at in
+      omega (arith, few, same, due)
 
-  paid-start : (stm : Stm K) (items : List Item) (rs : List Region) (alg : Alg) (n : ℕ) (ds : List (Handle K)) (ws : List (Worker K)) → AllNew stm alg n ds → AreMade (λ k. items_of k items) rs alg n ds ws → StartPaid alg n ws
-  paid-start stm items rs alg n [] [] o h = tt
-  paid-start stm items rs alg n [] (x ∷ ws) o h = absurd h
-  paid-start stm items rs alg n (d ∷ ds) [] o h = absurd h
-  paid-start stm items rs alg n (d ∷ ds) (x ∷ ws) o h = (
-    start-pays d (items_of n items) rs alg (first_installs alg n) x o.2 h.0,
+  paid-start : (stm : Stm K) (items : List Item) (rs : List Region) (alg : Alg) (policy : Policy) (n : ℕ) (ds : List (Handle K)) (ws : List (Worker K)) → AllNew stm alg n ds → AreMade (λ k. items_of k items) rs alg policy n ds ws → StartPaid alg n ws
+  paid-start stm items rs alg policy n [] [] o h = tt
+  paid-start stm items rs alg policy n [] (x ∷ ws) o h = absurd h
+  paid-start stm items rs alg policy n (d ∷ ds) [] o h = absurd h
+  paid-start stm items rs alg policy n (d ∷ ds) (x ∷ ws) o h = (
+    start-pays d (items_of n items) rs alg (policy_for policy n) (first_installs alg n) x o.2 h.0,
     starts-counts x (ap (λ (p : Place). p.failed) h.0.at) (ap (λ (p : Place). p.must) h.0.at),
     ap (λ (p : Place). p.failed) h.0.at,
-    paid-start stm items rs alg (suc n) ds ws o.4 h.1,
+    paid-start stm items rs alg policy (suc n) ds ws o.4 h.1,
   )
 
-  -- where the callers stand at first
-  starts-at : (stm : Stm K) (w : Workload) (n : ℕ) (ds : List (Handle K)) (ws : List (Worker K)) → AllNew stm w.header.alg n ds → AreMade (λ k. items_of k w.items) (regions_of w.header) w.header.alg n ds ws
+  -- where the callers stand at first, where none has a policy
+  starts-at : (stm : Stm K) (policy : Policy) → policy ≡ Fixed → (w : Workload) (n : ℕ) (ds : List (Handle K)) (ws : List (Worker K)) → AllNew stm w.header.alg n ds → AreMade (λ k. items_of k w.items) (regions_of w.header) w.header.alg policy n ds ws
       → places ws ≡ map (first_place w) (counted n (length ws))
-  starts-at stm w n [] [] o h = refl
-  starts-at stm w n [] (x ∷ ws) o h = absurd h
-  starts-at stm w n (d ∷ ds) [] o h = absurd h
-  starts-at stm w n (d ∷ ds) (x ∷ ws) o h =
+  starts-at stm policy fixed w n [] [] o h = refl
+  starts-at stm policy fixed w n [] (x ∷ ws) o h = absurd h
+  starts-at stm policy fixed w n (d ∷ ds) [] o h = absurd h
+  starts-at stm policy fixed w n (d ∷ ds) (x ∷ ws) o h =
       let caller : caller_of d.who.role ≡ n = ap caller_of o.1 in
-      let at : place_of x ≡ first_place w n = h.0.at ∙ ap (λ k. record (first_place w n) { caller = k }) caller in
-      ap (λ p. p ∷ places ws) at ∙ ap (λ ps. first_place w n ∷ ps) (starts-at stm w (suc n) ds ws o.4 h.1)
+      let none : policy_for policy n ≡ Fixed = ap (λ (p : Policy). policy_for p n) fixed ∙ fixed-for n in
+      let at : place_of x ≡ first_place w n = h.0.at ∙ (λ i. record (first_place w n) { caller = caller i; policy = none i }) in
+      ap (λ p. p ∷ places ws) at ∙ ap (λ ps. first_place w n ∷ ps) (starts-at stm policy fixed w (suc n) ds ws o.4 h.1)
 
 module _ (w : Workload) where
   -- what a caller is to install
@@ -134,13 +156,13 @@ module _ (w : Workload) where
   all-installs zero = refl
   all-installs (suc n) = refl
 
-module _ {K : Type 0} (w : Workload) where
-  starts-switches : (alg : Alg) (n : ℕ) (d : Handle K) (u : Worker K) → alg ≡ w.header.alg → IsNew (first_installs alg n) (known d) → Starts d (items_of n w.items) (regions_of w.header) alg u → (known u.desc).installs ++ switches_of u.items_left.now ≡ installs_for w n
+module _ {K : Type 0} (policy : Policy) (w : Workload) where
+  starts-switches : (alg : Alg) (n : ℕ) (d : Handle K) (u : Worker K) → alg ≡ w.header.alg → IsNew (first_installs alg n) (known d) → Starts d (items_of n w.items) (regions_of w.header) alg (policy_for policy n) u → (known u.desc).installs ++ switches_of u.items_left.now ≡ installs_for w n
   starts-switches alg n d u is new s =
       ap (λ l. l ++ switches_of u.items_left.now) (ap (λ (x : Handle K). (known x).installs) s.is_desc ∙ (new.done.installs ∙ ap (λ a. first_installs a n) is))
       ∙ (ap (λ (p : Place). first_installs w.header.alg n ++ switches_of p.left) s.at ∙ all-installs w n)
 
-  own-start : (stm : Stm K) (n : ℕ) (ds : List (Handle K)) (ws : List (Worker K)) → AllNew stm w.header.alg n ds → AreMade (λ k. items_of k w.items) (regions_of w.header) w.header.alg n ds ws → AreOwn w n ws
+  own-start : (stm : Stm K) (n : ℕ) (ds : List (Handle K)) (ws : List (Worker K)) → AllNew stm w.header.alg n ds → AreMade (λ k. items_of k w.items) (regions_of w.header) w.header.alg policy n ds ws → AreOwn policy w n ws
   own-start stm n [] [] o h = tt
   own-start stm n [] (x ∷ ws) o h = absurd h
   own-start stm n (d ∷ ds) [] o h = absurd h
@@ -150,7 +172,8 @@ module _ {K : Type 0} (w : Workload) where
           role = ap (λ (d : Handle K). d.who.role) s.is_desc ∙ o.1;
           all = s.all;
           over = s.over;
-          switched = starts-switches w.header.alg n d x refl o.2 s;
+          policy_is = ap (λ (p : Place). p.policy) s.at;
+          switched = by-same (policy_for policy n) (installs_for w n) (switches_with x) (starts-switches w.header.alg n d x refl o.2 s);
         },
         own-start stm (suc n) ds ws o.4 h.1,
       )
@@ -159,44 +182,44 @@ pub sizes-of : (config : Config) (h : Header) → config ≡ config_of h → Has
 sizes-of config h e =
     (sym (ap (λ (c : Config). c.words) e), sym (ap (λ (c : Config). c.records) e), sym (ap (λ (c : Config). c.ring) e), sym (ap (λ (c : Config). c.callers) e), sym (ap (λ (c : Config). c.reads) e), sym (ap (λ (c : Config). c.writes) e))
 
-module _ {K : Type 0} (good : List ℕ → Type 0) (w : Workload) (stm : Stm K) (items : All (BuiltItem w.header) w.items) (sized : stm.config ≡ config_of w.header) where
+module _ {K : Type 0} (good : List ℕ → Type 0) (policy : Policy) (w : Workload) (stm : Stm K) (items : All (BuiltItem w.header) w.items) (sized : stm.config ≡ config_of w.header) where
   -- the workers before the first turn
   pub record Begun (ws : List (Worker K)) : Type 0 where
     pub sound : AreSound good stm ws
     pub count : length ws ≡ w.header.callers
-    pub own : AreOwn w 0 ws
-    pub starts : places ws ≡ first_places w
+    pub own : AreOwn policy w 0 ws
+    pub starts : policy ≡ Fixed → places ws ≡ first_places w
     pub owes : debts ws ≤ 1
     pub paid : StartPaid w.header.alg 0 ws
 
   module _ (keeps : WorkloadKeeps good w) where
-    sound-start : (alg : Alg) (n : ℕ) (d : Handle K) (u : Worker K) → IsOf d stm → d.who.role ≡ Caller n → IsNew (first_installs alg n) (known d) → HasLengths stm.config (known d) → Starts d (items_of n w.items) (regions_of w.header) alg u → Sound good stm u
+    sound-start : (alg : Alg) (n : ℕ) (d : Handle K) (u : Worker K) → IsOf d stm → d.who.role ≡ Caller n → IsNew (first_installs alg n) (known d) → HasLengths stm.config (known d) → Starts d (items_of n w.items) (regions_of w.header) alg (policy_for policy n) u → Sound good stm u
     sound-start alg n d u own role new long s =
         let mine = items_of n w.items in
         let words : stm.config.words ≡ w.header.words = ap (λ (c : Config). c.words) sized in
         let both : All (λ i. BuiltItem w.header i × ItemKeeps good w.header i) w.items = λ i d lt. (items i d lt, keeps i d lt) in
         let owned : OwnItems good stm.config.words (regions_of w.header) n mine = subst (λ k. OwnItems good k (regions_of w.header) n mine) (sym words) (items-own good w.header n mine (own-all (λ i. BuiltItem w.header i × ItemKeeps good w.header i) n w.items both)) in
-        starts-sound good stm d mine (regions_of w.header) alg (first_installs alg n) u own new long (subst (λ k. OwnItems good stm.config.words (regions_of w.header) k mine) (sym (ap caller_of role)) owned) s
+        starts-sound good stm d mine (regions_of w.header) alg (policy_for policy n) (first_installs alg n) u own new long (subst (λ k. OwnItems good stm.config.words (regions_of w.header) k mine) (sym (ap caller_of role)) owned) s
 
-    sound-all : (alg : Alg) (n : ℕ) (ds : List (Handle K)) (ws : List (Worker K)) → AllNew stm alg n ds → AreMade (λ k. items_of k w.items) (regions_of w.header) alg n ds ws → AreSound good stm ws
+    sound-all : (alg : Alg) (n : ℕ) (ds : List (Handle K)) (ws : List (Worker K)) → AllNew stm alg n ds → AreMade (λ k. items_of k w.items) (regions_of w.header) alg policy n ds ws → AreSound good stm ws
     sound-all alg n [] [] opened made = λ i d lt. absurd (omega (arith, lt))
     sound-all alg n [] (x ∷ ws) opened made = absurd made
     sound-all alg n (d ∷ ds) [] opened made = absurd made
     sound-all alg n (d ∷ ds) (x ∷ ws) opened made =
         all-cons (Sound good stm) x ws (sound-start alg n d x opened.0 opened.1 opened.2 opened.3 made.0) (sound-all alg (suc n) ds ws opened.4 made.1)
 
-    pub begun : (parts : List (List Item)) (ws : List (Worker K)) → parts ≡ parted w.header.callers w.items → IsPrepared w.header parts stm ws → Begun ws
+    pub begun : (parts : List (List Item)) (ws : List (Worker K)) → parts ≡ parted w.header.callers w.items → IsPrepared w.header policy parts stm ws → Begun ws
     begun parts ws is p =
         let callers = p.count in
-        let owned = made-same (λ n. slice_index_or parts n []) (λ n. items_of n w.items) (regions_of w.header) w.header.alg w.header.callers 0 p.descs ws (λ n lt. ap (λ l. slice_index_or l n []) is ∙ part-at w.header.callers w.items n [] lt) (omega (arith, callers)) p.made in
-        let long = made-length (λ n. items_of n w.items) (regions_of w.header) w.header.alg 0 p.descs ws owned ∙ callers in
+        let owned = made-same (λ n. slice_index_or parts n []) (λ n. items_of n w.items) (regions_of w.header) w.header.alg policy w.header.callers 0 p.descs ws (λ n lt. ap (λ l. slice_index_or l n []) is ∙ part-at w.header.callers w.items n [] lt) (omega (arith, callers)) p.made in
+        let long = made-length (λ n. items_of n w.items) (regions_of w.header) w.header.alg policy 0 p.descs ws owned ∙ callers in
         record {
           sound = sound-all w.header.alg 0 p.descs ws p.new owned;
           count = long;
-          own = own-start w stm 0 p.descs ws p.new owned;
-          starts = starts-at stm w 0 p.descs ws p.new owned ∙ ap (λ k. map (first_place w) (counted 0 k)) long;
-          owes = owes-start stm w.items (regions_of w.header) w.header.alg 0 p.descs ws p.new owned;
-          paid = paid-start stm w.items (regions_of w.header) w.header.alg 0 p.descs ws p.new owned;
+          own = own-start policy w stm 0 p.descs ws p.new owned;
+          starts = λ fixed. starts-at stm policy fixed w 0 p.descs ws p.new owned ∙ ap (λ k. map (first_place w) (counted 0 k)) long;
+          owes = owes-start stm w.items (regions_of w.header) w.header.alg policy 0 p.descs ws p.new owned;
+          paid = paid-start stm w.items (regions_of w.header) w.header.alg policy 0 p.descs ws p.new owned;
         }
 
   pub turns-below : (gos : List Go) (ws : List (Worker K)) → All (λ (go : Go). go.caller < w.header.callers) gos → Begun ws → All (λ (go : Go). go.caller < length ws) gos

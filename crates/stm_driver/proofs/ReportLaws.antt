@@ -1,9 +1,10 @@
 -- From workers whose items are all done to the report.
 use Rattle.std.proofs.Common.{ℕ, zero, suc, ◌≡◌, ◌≤◌, ◌++◌, List, [], ◌∷◌, length, get_or, drop, map, refl, sym, ap, ◌∙◌, arith, subst}
 use Rattle.std.specs.Prelude.{All, Contains, sum_by, IsPermutation, slice_index_or, Result, Ok, Err, IfErr}
-use Rattle.std.proofs.lemmas.List.{append-nil}
+use Rattle.std.proofs.lemmas.List.{append-nil, length-map}
 use Rattle.std.proofs.lemmas.List.Elements.{All-head, All-tail}
 use Rattle.std.proofs.lemmas.List.Sums.{sum_by-cons}
+use Rattle.stm_profile.specs.declared.policy.Policy.{Policy}
 use Rattle.stm_rule.specs.declared.stm.Stm.{Stm}
 use Rattle.stm_model.specs.declared.config.Config.{Config}
 use Rattle.stm_model.specs.Histories.{Entry, made_by, memory_at, IsLegal}
@@ -21,12 +22,13 @@ use Rattle.stm_tx.specs.Descs.{known}
 use Rattle.stm_trace.specs.Places.{items_of}
 use Rattle.stm_trace.specs.Turns.{IsOver}
 use Rattle.stm_worker.specs.declared.worker.Worker.{Worker}
-use Rattle.stm_worker.specs.Workers.{place_of, switches_of}
+use Rattle.stm_worker.specs.Installs.{InstallsBy}
+use Rattle.stm_worker.specs.Workers.{place_of, switches_of, switches_with}
 use Rattle.stm_driver.specs.Preparings.{BuiltItem}
-use Rattle.stm_driver.specs.AllWorkers.{descs_of, rows_of}
+use Rattle.stm_driver.specs.AllWorkers.{descs_of, policy_for, rows_of}
 use Rattle.stm_driver.specs.ClosedRuns.{IsReport}
 use Rattle.stm_script.specs.Workloads.{config_of}
-use Rattle.stm_driver.specs.Runs.{installs_for, IsShown}
+use Rattle.stm_driver.specs.Runs.{installs_for, AreInstalls, IsShown}
 use Rattle.stm_driver.specs.Schedules.{places}
 use Rattle.stm_driver.proofs.HistoryLaws.{dealt, dealt-all, all-below, made-own, made-within}
 use Rattle.stm_driver.proofs.PartingLaws.{all-cons, scripts-own}
@@ -55,14 +57,14 @@ reworked good opening regions all items n made seen front rows same h = record {
     row : (r : Row) → r.caller ≡ n → RowIn good opening regions (script_of all) made seen front r → RowIn good opening regions (script_of items) made seen front r
     row r own at = subst (λ s. by_kind r.kind ((e : Entry) × Contains made e × RowOf good (length opening) regions s r e) ((r.place ≤ front) × RowFits regions s r (memory_at r.place seen opening))) (script r own) at
 
-module _ {K : Type 0} (good : List ℕ → Type 0) (w : Workload) (stm : Stm K) (items : All (BuiltItem w.header) w.items) (sized : stm.config ≡ config_of w.header) where
+module _ {K : Type 0} (good : List ℕ → Type 0) (policy : Policy) (w : Workload) (stm : Stm K) (items : All (BuiltItem w.header) w.items) (sized : stm.config ≡ config_of w.header) where
   part_of : Worker K → Part
   part_of r = record { caller = caller_of r.desc.who.role; made = (known r.desc).made; seen = (known r.desc).seen; front = (known r.desc).front; rows = r.rows.items }
 
-  parts-callers : (n : ℕ) (rs : List (Worker K)) → Each (Stood good w stm sized) n rs → map (λ (p : Part). p.caller) (map part_of rs) ≡ counted n (length rs)
+  parts-callers : (n : ℕ) (rs : List (Worker K)) → Each (Stood good policy w stm sized) n rs → map (λ (p : Part). p.caller) (map part_of rs) ≡ counted n (length rs)
   unfolding part_of
   parts-callers n [] h = refl
-  parts-callers n (r ∷ rs) h = let head = stood-caller good w stm sized n r h.0 in let rest = parts-callers (suc n) rs h.1 in cc
+  parts-callers n (r ∷ rs) h = let head = stood-caller good policy w stm sized n r h.0 in let rest = parts-callers (suc n) rs h.1 in cc
 
   parts-rows : (rs : List (Worker K)) → all_rows (map part_of rs) ≡ rows_of rs
   unfolding part_of
@@ -70,26 +72,26 @@ module _ {K : Type 0} (good : List ℕ → Type 0) (w : Workload) (stm : Stm K) 
   parts-rows (r ∷ rs) = ap (λ l. r.rows.items ++ l) (parts-rows rs)
 
   -- what the caller n ends with is its part of the history
-  part-in : (n : ℕ) (r : Worker K) (closed : Ended) → Stood good w stm sized n r → Told closed n r.desc → IsOver (place_of r) → PartIn good w closed.history (part_of r)
+  part-in : (n : ℕ) (r : Worker K) (closed : Ended) → Stood good policy w stm sized n r → Told closed n r.desc → IsOver (place_of r) → PartIn good w closed.history (part_of r)
   unfolding part_of
   part-in n r closed s told over =
       let u = r in
-      let own = sym (stood-caller good w stm sized n r s) in
+      let own = sym (stood-caller good policy w stm sized n r s) in
       let made : (known u.desc).made ≡ made_by n closed.history = told.made in
-      let within = stood-within good w stm sized n r s in
-      let nothing : [] ≡ drop (length u.rows.items) (scripts_of n w.items) = sym (ap (scripts_of n) over.1) ∙ stood-todo good w stm sized n r s in
+      let within = stood-within good policy w stm sized n r s in
+      let nothing : [] ≡ drop (length u.rows.items) (scripts_of n w.items) = sym (ap (scripts_of n) over.1) ∙ stood-todo good policy w stm sized n r s in
       let count = drop-none (length u.rows.items) (scripts_of n w.items) nothing in
       let whole : length u.rows.items ≡ length (scripts_of n w.items) = omega arith in
       record {
         worked = subst (λ k. Worked good (zeros w.header.words) (regions_of w.header) (script_of w.items) k (known u.desc).made (known u.desc).seen (known u.desc).front u.rows.items) own
-            (reworked good (zeros w.header.words) (regions_of w.header) (items_of n w.items) w.items n (known u.desc).made (known u.desc).seen (known u.desc).front u.rows.items (scripts-own n w.items) (stood-works good w stm sized n r s over.0));
+            (reworked good (zeros w.header.words) (regions_of w.header) (items_of n w.items) w.items n (known u.desc).made (known u.desc).seen (known u.desc).front u.rows.items (scripts-own n w.items) (stood-works good policy w stm sized n r s over.0));
         begins = told.seen;
         within = λ e h. made-within n closed.history e (subst (λ l. Contains l e) made h);
         owned = subst (λ k. All (λ (e : Entry). e.caller ≡ k) (known u.desc).made) own (subst (All (λ (e : Entry). e.caller ≡ n)) (sym made) (made-own n closed.history));
         whole = whole ∙ ap (λ k. length (scripts_of k w.items)) own;
       }
 
-  parts-in : (n : ℕ) (rs : List (Worker K)) (closed : Ended) → Each (Stood good w stm sized) n rs → AllTold closed n (descs_of rs) → All IsOver (places rs) → All (PartIn good w closed.history) (map part_of rs)
+  parts-in : (n : ℕ) (rs : List (Worker K)) (closed : Ended) → Each (Stood good policy w stm sized) n rs → AllTold closed n (descs_of rs) → All IsOver (places rs) → All (PartIn good w closed.history) (map part_of rs)
   parts-in n [] closed h told over = λ i d lt. absurd (omega arith)
   parts-in n (r ∷ rs) closed h told over =
       all-cons (PartIn good w closed.history) (part_of r) (map part_of rs) (part-in n r closed h.0 told.0 (All-head IsOver (place_of r) (places rs) over)) (parts-in (suc n) rs closed h.1 told.1 (All-tail IsOver (place_of r) (places rs) over))
@@ -108,17 +110,22 @@ module _ {K : Type 0} (good : List ℕ → Type 0) (w : Workload) (stm : Stm K) 
   pub all-made : (count : Entry → ℕ) (rs : List (Worker K)) (ws : List ℕ) (closed : Ended) → length rs ≡ stm.config.callers → Closes good stm.config (descs_of rs) ws closed → dealt count 0 (length rs) closed.history ≡ sum_by count closed.history
   all-made count rs ws closed len c = ap (λ m. dealt count 0 m closed.history) len ∙ dealt-all count stm.config.callers closed.history (all-below stm.config.callers closed.history c.nobody_else)
 
-  -- each caller has installed what the text says
-  installs-all : (n : ℕ) (rs : List (Worker K)) → Each (Stood good w stm sized) n rs → All IsOver (places rs) → map (λ (d : Handle K). installs_of d.view) (descs_of rs) ≡ map (installs_for w) (counted n (length rs))
-  installs-all n [] h over = refl
+  -- each caller has installed what the text says, and what its policy asked for
+  installs-all : (n : ℕ) (rs : List (Worker K)) → Each (Stood good policy w stm sized) n rs → All IsOver (places rs) → AreInstalls policy w n (map (λ (d : Handle K). installs_of d.view) (descs_of rs))
+  installs-all n [] h over = tt
   installs-all n (r ∷ rs) h over =
-      let none = (All-head IsOver (place_of r) (places rs) over).1 in
-      let head : (known r.desc).installs ≡ installs_for w n = sym (append-nil (known r.desc).installs) ∙ (ap (λ l. (known r.desc).installs ++ switches_of l) (sym none) ∙ h.0.own.switched) in
-      let rest = installs-all (suc n) rs h.1 (All-tail IsOver (place_of r) (places rs) over) in
-      ap (λ x. x ∷ map (λ (d : Handle K). installs_of d.view) (descs_of rs)) head ∙ ap (λ l. installs_for w n ∷ l) rest
+      let none : r.items_left.now ≡ [] = (All-head IsOver (place_of r) (places rs) over).1 in
+      let done : switches_with r ≡ (known r.desc).installs = ap (λ l. (known r.desc).installs ++ switches_of l) none ∙ append-nil (known r.desc).installs in (
+        subst (InstallsBy (policy_for policy n) (installs_for w n)) done h.0.own.switched,
+        installs-all (suc n) rs h.1 (All-tail IsOver (place_of r) (places rs) over),
+      )
 
-  pub shown : ReportReplays good → (rs : List (Worker K)) (ws : List ℕ) (closed : Ended) (report : Report) → Each (Stood good w stm sized) 0 rs → length rs ≡ stm.config.callers → All IsOver (places rs) → Closes good stm.config (descs_of rs) ws closed
-      → IsReport (rows_of rs) ws report → IsShown w report closed
+  descs-length : (rs : List (Worker K)) → length (descs_of rs) ≡ length rs
+  descs-length [] = refl
+  descs-length (r ∷ rs) = ap suc (descs-length rs)
+
+  pub shown : ReportReplays good → (rs : List (Worker K)) (ws : List ℕ) (closed : Ended) (report : Report) → Each (Stood good policy w stm sized) 0 rs → length rs ≡ stm.config.callers → All IsOver (places rs) → Closes good stm.config (descs_of rs) ws closed
+      → IsReport (rows_of rs) ws report → IsShown policy w report closed
   shown theorem rs ws closed report stood len over c r =
       let parts = map part_of rs in
       let gathered : IsGathered good w closed.history closed.clock parts report = record {
@@ -136,7 +143,8 @@ module _ {K : Type 0} (good : List ℕ → Type 0) (w : Workload) (stm : Stm K) 
       record {
         replays = both.0;
         shows = subst (λ k. Shows closed.history k closed.clock w report) (sym (c.opening ∙ ap (λ (x : Config). x.clock) sized)) both.1;
-        installs = c.installs ∙ (installs-all 0 rs stood over ∙ ap (λ k. map (installs_for w) (counted 0 k)) (len ∙ ap (λ (x : Config). x.callers) sized));
+        callers = ap length c.installs ∙ (length-map (descs_of rs) (λ (d : Handle K). installs_of d.view) ∙ (descs-length rs ∙ (len ∙ ap (λ (x : Config). x.callers) sized)));
+        installs = subst (AreInstalls policy w 0) (sym c.installs) (installs-all 0 rs stood over);
       }
 
 -- what doesn't depend on the error

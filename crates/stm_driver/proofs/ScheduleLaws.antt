@@ -31,7 +31,10 @@ use Rattle.stm_driver.specs.declared.schedule.Halt.{Halt}
 use Rattle.stm_driver.specs.declared.schedule.Halt.TheVariants.{ClockFull, Memory}
 use Rattle.stm_worker.specs.declared.worker.Worker.{Worker}
 use Rattle.stm_driver.specs.Schedules.{places, place_at, AreSame, AreSound, debts, ArePaid, FoundFull, Plays, Took, Turns}
-use Rattle.stm_worker.specs.Workers.{place_of, IsSame, Loaded, Sound, Turned}
+use Rattle.stm_profile.specs.declared.policy.Policy.{Policy}
+use Rattle.stm_worker.specs.Installs.{InstallsBy}
+use Rattle.stm_worker.specs.InstallLaws.{by-same, by-trans}
+use Rattle.stm_worker.specs.Workers.{place_of, switches_with, IsSame, Loaded, Sound, Turned}
 
 -- who found the clock full has no attempt open
 pub full-between : (at : Place) (said : Said) (clock : ℕ) → clock_of said ≡ Some clock → MaySay at said → (after at said).phase ≡ Between
@@ -69,10 +72,16 @@ module _ {K : Type 0} where
   same-twice d e f a b = record { table = b.table ∙ a.table; who = b.who ∙ a.who }
 
   pub self-same : (w : Worker K) → IsSame w w
-  self-same w = record { same = record { table = refl; who = refl }; all = refl; regions = refl; switched = refl }
+  self-same w = record { same = record { table = refl; who = refl }; all = refl; regions = refl; policy = refl; switched = by-same w.policy (switches_with w) (switches_with w) refl }
 
   pub worker-trans : (u v w : Worker K) → IsSame u v → IsSame v w → IsSame u w
-  worker-trans u v w a b = record { same = same-twice u.desc v.desc w.desc a.same b.same; all = b.all ∙ a.all; regions = b.regions ∙ a.regions; switched = b.switched ∙ a.switched }
+  worker-trans u v w a b = record {
+    same = same-twice u.desc v.desc w.desc a.same b.same;
+    all = b.all ∙ a.all;
+    regions = b.regions ∙ a.regions;
+    policy = b.policy ∙ a.policy;
+    switched = by-trans u.policy (switches_with u) (switches_with v) (switches_with w) a.switched (subst (λ (p : Policy). InstallsBy p (switches_with v) (switches_with w)) a.policy b.switched);
+  }
 
   pub same-refl : (ws : List (Worker K)) → AreSame ws ws
   same-refl [] = tt

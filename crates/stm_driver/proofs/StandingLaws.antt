@@ -3,6 +3,7 @@ use Rattle.std.proofs.Common.{ℕ, zero, suc, ◌≡◌, ◌<◌, ◌≤◌, Lis
 use Rattle.std.specs.Prelude.{Some}
 use Rattle.std.specs.Prelude.{Contains}
 use Rattle.std.proofs.lemmas.List.Elements.{All-head, All-tail}
+use Rattle.stm_profile.specs.declared.policy.Policy.{Policy}
 use Rattle.stm_rule.specs.declared.stm.Stm.{Stm}
 use Rattle.rule_base.specs.declared.layout.At.TheVariants.{Clock}
 use Rattle.stm_model.specs.declared.config.Config.{Config}
@@ -59,12 +60,12 @@ abbrev pub Each : {A : Type 0} → (ℕ → A → Type 0) → ℕ → List A →
 Each P n [] = Unit {0}
 Each P n (x ∷ xs) = P n x × Each P (suc n) xs
 
-module _ {K : Type 0} (good : List ℕ → Type 0) (w : Workload) (stm : Stm K) (sized : stm.config ≡ config_of w.header) where
+module _ {K : Type 0} (good : List ℕ → Type 0) (policy : Policy) (w : Workload) (stm : Stm K) (sized : stm.config ≡ config_of w.header) where
   pub record Stood (n : ℕ) (r : Worker K) : Type 0 where
     pub sound : Sound good stm r
-    pub own : IsOwn w n r
+    pub own : IsOwn policy w n r
 
-  pub stood-each : (n : ℕ) (ws : List (Worker K)) → AreSound good stm ws → AreOwn w n ws → Each Stood n ws
+  pub stood-each : (n : ℕ) (ws : List (Worker K)) → AreSound good stm ws → AreOwn policy w n ws → Each Stood n ws
   stood-each n [] s o = tt
   stood-each n (r ∷ ws) s o =
       (record { sound = All-head (Sound good stm) r ws s; own = o.0 }, stood-each (suc n) ws (All-tail (Sound good stm) r ws s) o.1)

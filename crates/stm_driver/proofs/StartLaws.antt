@@ -1,5 +1,8 @@
 -- A worker that has done nothing.
 use Rattle.std.proofs.Common.{ℕ, ◌≡◌, List, [], length, drop, refl, sym, ap, ◌∙◌, arith, subst}
+use Rattle.std.specs.Prelude.{None, ◌++◌}
+use Rattle.stm_profile.specs.declared.policy.Policy.{Policy}
+use Rattle.stm_profile.specs.declared.policy.Policy.TheVariants.{Fixed, Round, Expert, State}
 use Rattle.stm_rule.specs.declared.stm.Stm.{Stm}
 use Rattle.stm_model.specs.declared.alg.Alg.{Alg}
 use Rattle.tx_regions.specs.declared.region.Region.{Region}
@@ -14,7 +17,14 @@ use Rattle.stm_trace.specs.declared.said.Phase.TheVariants.{Between}
 use Rattle.stm_trace.specs.Places.{Place}
 use Rattle.stm_worker.specs.declared.worker.Worker.{Worker}
 use Rattle.stm_driver.specs.Openings.{IsNew}
-use Rattle.stm_worker.specs.Workers.{IsAt, WhenInside, ToSwitch, ItemsFit, DidSwitches, HasLengths, IsUnderWay, Works, Stands, Starts, Sound}
+use Rattle.stm_worker.specs.InstallLaws.{by-same}
+use Rattle.stm_worker.specs.Workers.{IsAskedBy, IsAt, WhenInside, ToSwitch, ItemsFit, DidSwitches, switches_of, HasLengths, IsUnderWay, Works, Stands, Starts, Sound}
+
+asked-none : (policy : Policy) → IsAskedBy policy None
+asked-none Fixed = refl
+asked-none (Round n) = tt
+asked-none Expert = tt
+asked-none (State n) = tt
 
 module _ {K : Type 0} (good : List ℕ → Type 0) (stm : Stm K) where
   -- a caller that has made nothing has done nothing
@@ -28,15 +38,16 @@ module _ {K : Type 0} (good : List ℕ → Type 0) (stm : Stm K) where
     places = λ i d lt. absurd (omega arith);
   }
 
-  pub starts-sound : (d : Handle K) (items : List Item) (rs : List Region) (alg : Alg) (these : List Alg) (u : Worker K) → IsOf d stm → IsNew these (known d) → HasLengths stm.config (known d) → ItemsFit good stm.config.words rs (caller_of d.who.role) items → Starts d items rs alg u
+  pub starts-sound : (d : Handle K) (items : List Item) (rs : List Region) (alg : Alg) (policy : Policy) (these : List Alg) (u : Worker K) → IsOf d stm → IsNew these (known d) → HasLengths stm.config (known d) → ItemsFit good stm.config.words rs (caller_of d.who.role) items → Starts d items rs alg policy u
       → Sound good stm u
-  starts-sound d items rs alg these u own new long fits s =
+  starts-sound d items rs alg policy these u own new long fits s =
       let who : caller_of u.desc.who.role ≡ caller_of d.who.role = ap (λ (x : Handle K). caller_of x.who.role) s.is_desc in
       let knows : known u.desc ≡ known d = ap known s.is_desc in
       let phase : u.phase ≡ Between = ap (λ (p : Place). p.phase) s.at in
       let left : u.items_left.now ≡ items = ap (λ (p : Place). p.left) s.at in
       let none : u.rows.items ≡ [] = ap (λ (p : Place). p.rows) s.at in
       let failed : u.failed ≡ 0 = ap (λ (p : Place). p.failed) s.at in
+      let unasked : u.chosen ≡ None = ap (λ (p : Place). p.chosen) s.at in
       let count = ap length none in
       let whole : u.items_left.now ≡ u.all.now = left ∙ sym s.all in
       let stands : Stands good stm.config.words u.regions.now u.all.now (caller_of u.desc.who.role) (known u.desc) u.rows.items Between =
@@ -52,11 +63,13 @@ module _ {K : Type 0} (good : List ℕ → Type 0) (stm : Stm K) where
         todo = ap (scripts_of (caller_of u.desc.who.role)) whole ∙ ap (λ (rows : List Row). drop (length rows) (scripts_of (caller_of u.desc.who.role) u.all.now)) (sym none);
         within = omega arith;
         counted = λ off. omega (arith, failed);
-        switched = subst (λ v. DidSwitches u.all.now u.items_left.now v) (sym knows) (subst (λ l. DidSwitches u.all.now l (known d)) (sym whole) ((known d).installs, refl));
+        switched = subst (λ v. DidSwitches u.policy u.all.now u.items_left.now v) (sym knows)
+            (subst (λ l. DidSwitches u.policy u.all.now l (known d)) (sym whole) ((known d).installs, by-same u.policy ((known d).installs ++ switches_of u.all.now) ((known d).installs ++ switches_of u.all.now) refl));
+        asked = subst (IsAskedBy u.policy) (sym unasked) (asked-none u.policy);
         fits = subst (λ l. ItemsFit good stm.config.words u.regions.now (caller_of u.desc.who.role) l) (sym left)
             (subst (λ x. ItemsFit good stm.config.words x (caller_of u.desc.who.role) items) (sym s.over)
             (subst (λ n. ItemsFit good stm.config.words rs n items) (sym who) fits));
         roomy = s.roomy;
-        turning = subst (λ p. ToSwitch p u.items_left.now) (sym phase) tt;
+        turning = subst (λ p. ToSwitch p u.chosen u.items_left.now) (sym phase) tt;
         under_way = subst (λ p. WhenInside p (IsUnderWay good stm.config.words u)) (sym phase) tt;
       }

@@ -13,7 +13,7 @@ use Rattle.stm_trace.specs.declared.said.Phase.TheVariants.{Between, Inside}
 use Rattle.stm_trace.specs.declared.said.Said.{Said}
 use Rattle.stm_trace.specs.declared.said.Said.TheVariants.{TryBegin, Reply, Stopped, TryCancel, TryIrrevocable, TryCommit, TryClose, Looked, Installed, Idle, Dropped, Reopened}
 use Rattle.stm_trace.specs.Places.{Place, after, clock_of}
-use Rattle.stm_trace.specs.Turns.{BeforeTx, MaySay}
+use Rattle.stm_trace.specs.Turns.{BeforeTx, IsOver, MaySay}
 use Rattle.stm_worker.specs.declared.worker.Worker.{Worker}
 use Rattle.stm_worker.specs.Workers.{IsUnderWay, Loaded, Sound, Turned, WhenInside, place_of}
 use Rattle.stm_worker.specs.Payments.{CountsNext, PaysBut, unpaid_at, unpaid_by}
@@ -60,9 +60,16 @@ module _ {K : Type 0} (good : List ℕ → Type 0) (stm : Stm K) (u w : Worker K
       let way : (u.phase ≡ Inside) → IsUnderWay good stm.config.words u = λ e. subst (λ (p : Phase). WhenInside p (IsUnderWay good stm.config.words u)) e s.under_way in
       (found.0, found.1, subst BeforeTx (sym (ap (λ (p : Place). p.left) t.now)) (full-before (place_of u) said clock full t.here (λ e. (way e).here)))
 
+-- who says that nothing is left has nothing to do, by its text or by its policy
+pub idle-through : {K : Type 0} (good : List ℕ → Type 0) (stm : Stm K) (u w : Worker K) (said : Said) → Turned good stm MaySay u said w → said ≡ Idle → (w.items_left.now ≡ []) × (w.chosen ≡ None)
+idle-through good stm u w said t is =
+    let now : place_of w ≡ place_of u = t.now ∙ ap (after (place_of u)) is in
+    let over : IsOver (place_of u) = subst (MaySay (place_of u)) is t.here in
+    (ap (λ (p : Place). p.left) now ∙ over.1, ap (λ (p : Place). p.chosen) now ∙ over.2)
+
 -- what stays so of a worker from turn to turn: what is unpaid, and what is counted
 pub record KeepsPaid {K : Type 0} (stm : Stm K) (u w : Worker K) : Type 0 where
-  pub pays : (unpaid each most : ℕ) → Enough stm most u → most + 2 ≤ each → PaysBut unpaid each most u → PaysBut unpaid each most w
+  pub pays : (unpaid each most : ℕ) → Enough stm most u → most + 3 ≤ each → PaysBut unpaid each most u → PaysBut unpaid each most w
   pub enough : (most : ℕ) → Enough stm most u → Enough stm most w
   pub counts : CountsNext u → CountsNext w
 
@@ -83,11 +90,11 @@ module _ {K : Type 0} (good : List ℕ → Type 0) (stm : Stm K) where
     enough-next most (inl much) = inl much
     enough-next most (inr e) = inr (e.0, none-failed good stm u said w s MaySay t e.0 e.1, e.2)
 
-    pays-next : (unpaid each most : ℕ) → Enough stm most u → most + 2 ≤ each → PaysBut unpaid each most u → PaysBut (unpaid + unpaid_by said) each most w
+    pays-next : (unpaid each most : ℕ) → Enough stm most u → most + 3 ≤ each → PaysBut unpaid each most u → PaysBut (unpaid + unpaid_by said) each most w
     pays-next unpaid each most (inl much) wide p = turned-pays-but good stm u said w s unpaid each most t much wide p
     pays-next unpaid each most (inr e) wide p = alone-pays-but good stm u said w s unpaid each most t e.1 e.2 wide p
 
-    pays-after : (unpaid each most : ℕ) (clock : Option ℕ) → clock_of said ≡ clock → Enough stm most u → most + 2 ≤ each → PaysBut unpaid each most u → PaysBut (unpaid + unpaid_at clock) each most w
+    pays-after : (unpaid each most : ℕ) (clock : Option ℕ) → clock_of said ≡ clock → Enough stm most u → most + 3 ≤ each → PaysBut unpaid each most u → PaysBut (unpaid + unpaid_at clock) each most w
     pays-after unpaid each most clock is e wide p =
         subst (λ k. PaysBut (unpaid + k) each most w) (same-unpaid (place_of u) said t.here ∙ ap unpaid_at is) (pays-next unpaid each most e wide p)
 
@@ -104,7 +111,7 @@ module _ {K : Type 0} (good : List ℕ → Type 0) (stm : Stm K) where
     paid-full clock full left = record {
       all = λ unpaid each most e wide counts p.
           let h = pays-after unpaid each most (Some clock) full (kept.enough most e) wide (kept.pays unpaid each most e wide p) in
-          let r = pays-left (unpaid + 1) each most w (some-items w.items_left.now left) (few-failed w most t.sound (enough-next most (kept.enough most e))) wide h in
+          let r = pays-left (unpaid + 1) each most w (some-items w.items_left.now left) (few-failed w most t.sound (enough-next most (kept.enough most e))) (omega (arith, wide)) h in
           omega (arith, r);
     }
 

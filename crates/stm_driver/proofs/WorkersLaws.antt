@@ -1,6 +1,7 @@
 -- The workers of all callers, one after the other.
 use Rattle.std.proofs.Common.{ℕ, zero, suc, ◌≡◌, ◌<◌, ◌≤◌, ◌+◌, List, [], ◌∷◌, ◌++◌, length, get_or, set, refl, ap, ◌∙◌, arith, subst}
 use Rattle.std.proofs.lemmas.List.{length-map, get_or-map}
+use Rattle.stm_profile.specs.declared.policy.Policy.{Policy}
 use Rattle.stm_rule.specs.declared.stm.Stm.{Stm}
 use Rattle.crossbeam_utils.specs.declared.cache_padded.CachePadded.{CachePadded}
 use Rattle.stm_model.specs.declared.alg.Alg.{Alg}
@@ -9,35 +10,35 @@ use Rattle.stm_script.specs.declared.workload.Item.{Item}
 use Rattle.stm_rule.specs.Callers.{Handle}
 use Rattle.stm_worker.specs.declared.worker.Worker.{Worker}
 use Rattle.stm_driver.specs.declared.workers.Runner.{Runner}
-use Rattle.stm_driver.specs.AllWorkers.{AreMade, Finished, worker_in, workers_in}
+use Rattle.stm_driver.specs.AllWorkers.{AreMade, Finished, policy_for, worker_in, workers_in}
 use Rattle.stm_worker.specs.Workers.{Starts}
 
-pub made-length : {K : Type 0} (items_for : ℕ → List Item) (rs : List Region) (alg : Alg) (n : ℕ) (ds : List (Handle K)) (ws : List (Worker K)) → AreMade items_for rs alg n ds ws → length ws ≡ length ds
-made-length items_for rs alg n [] [] m = refl
-made-length items_for rs alg n [] (w ∷ ws) m = absurd m
-made-length items_for rs alg n (d ∷ ds) [] m = absurd m
-made-length items_for rs alg n (d ∷ ds) (w ∷ ws) m = ap suc (made-length items_for rs alg (suc n) ds ws m.1)
+pub made-length : {K : Type 0} (items_for : ℕ → List Item) (rs : List Region) (alg : Alg) (policy : Policy) (n : ℕ) (ds : List (Handle K)) (ws : List (Worker K)) → AreMade items_for rs alg policy n ds ws → length ws ≡ length ds
+made-length items_for rs alg policy n [] [] m = refl
+made-length items_for rs alg policy n [] (w ∷ ws) m = absurd m
+made-length items_for rs alg policy n (d ∷ ds) [] m = absurd m
+made-length items_for rs alg policy n (d ∷ ds) (w ∷ ws) m = ap suc (made-length items_for rs alg policy (suc n) ds ws m.1)
 
 -- one worker more
-pub made-more : {K : Type 0} (items_for : ℕ → List Item) (rs : List Region) (alg : Alg) (n : ℕ) (ds : List (Handle K)) (ws : List (Worker K)) (d : Handle K) (w : Worker K) (items : List Item)
-    → AreMade items_for rs alg n ds ws → items ≡ items_for (n + length ws) → Starts d items rs alg w → AreMade items_for rs alg n (ds ++ d ∷ []) (ws ++ w ∷ [])
-made-more items_for rs alg n [] [] d w items m is s =
+pub made-more : {K : Type 0} (items_for : ℕ → List Item) (rs : List Region) (alg : Alg) (policy : Policy) (n : ℕ) (ds : List (Handle K)) (ws : List (Worker K)) (d : Handle K) (w : Worker K) (items : List Item)
+    → AreMade items_for rs alg policy n ds ws → items ≡ items_for (n + length ws) → (own : Policy) → own ≡ policy_for policy (n + length ws) → Starts d items rs alg own w → AreMade items_for rs alg policy n (ds ++ d ∷ []) (ws ++ w ∷ [])
+made-more items_for rs alg policy n [] [] d w items m is own mine s =
     let e : n + 0 ≡ n = omega arith in
-    (subst (λ k. Starts d k rs alg w) (is ∙ ap items_for e) s, tt)
-made-more items_for rs alg n [] (x ∷ ws) d w items m is s = absurd m
-made-more items_for rs alg n (y ∷ ds) [] d w items m is s = absurd m
-made-more items_for rs alg n (y ∷ ds) (x ∷ ws) d w items m is s =
+    (subst (λ p. Starts d (items_for n) rs alg p w) (mine ∙ ap (policy_for policy) e) (subst (λ k. Starts d k rs alg own w) (is ∙ ap items_for e) s), tt)
+made-more items_for rs alg policy n [] (x ∷ ws) d w items m is own mine s = absurd m
+made-more items_for rs alg policy n (y ∷ ds) [] d w items m is own mine s = absurd m
+made-more items_for rs alg policy n (y ∷ ds) (x ∷ ws) d w items m is own mine s =
     let e : n + suc (length ws) ≡ suc n + length ws = omega arith in
-    (m.0, made-more items_for rs alg (suc n) ds ws d w items m.1 (is ∙ ap items_for e) s)
+    (m.0, made-more items_for rs alg policy (suc n) ds ws d w items m.1 (is ∙ ap items_for e) own (mine ∙ ap (policy_for policy) e) s)
 
 -- the same items under another name
-pub made-same : {K : Type 0} (items_for other : ℕ → List Item) (rs : List Region) (alg : Alg) (callers n : ℕ) (ds : List (Handle K)) (ws : List (Worker K))
-    → ((k : ℕ) → k < callers → items_for k ≡ other k) → n + length ds ≤ callers → AreMade items_for rs alg n ds ws → AreMade other rs alg n ds ws
-made-same items_for other rs alg callers n [] [] same le m = tt
-made-same items_for other rs alg callers n [] (w ∷ ws) same le m = absurd m
-made-same items_for other rs alg callers n (d ∷ ds) [] same le m = absurd m
-made-same items_for other rs alg callers n (d ∷ ds) (w ∷ ws) same le m =
-    (subst (λ k. Starts d k rs alg w) (same n (omega arith)) m.0, made-same items_for other rs alg callers (suc n) ds ws same (omega arith) m.1)
+pub made-same : {K : Type 0} (items_for other : ℕ → List Item) (rs : List Region) (alg : Alg) (policy : Policy) (callers n : ℕ) (ds : List (Handle K)) (ws : List (Worker K))
+    → ((k : ℕ) → k < callers → items_for k ≡ other k) → n + length ds ≤ callers → AreMade items_for rs alg policy n ds ws → AreMade other rs alg policy n ds ws
+made-same items_for other rs alg policy callers n [] [] same le m = tt
+made-same items_for other rs alg policy callers n [] (w ∷ ws) same le m = absurd m
+made-same items_for other rs alg policy callers n (d ∷ ds) [] same le m = absurd m
+made-same items_for other rs alg policy callers n (d ∷ ds) (w ∷ ws) same le m =
+    (subst (λ k. Starts d k rs alg (policy_for policy n) w) (same n (omega arith)) m.0, made-same items_for other rs alg policy callers (suc n) ds ws same (omega arith) m.1)
 
 -- a worker's run, told of what was lent and given back
 pub finished-as : {K : Type 0} (good : List ℕ → Type 0) (stm : Stm K) (x y r s : CachePadded (Runner K)) → x ≡ r → y ≡ s → Finished good stm x y → Finished good stm r s

@@ -1,11 +1,13 @@
 -- The workers of all callers.
-use Rattle.std.specs.Prelude.{ℕ, suc, ◌≡◌, ◌≤◌, ◌+◌, ◌*◌, ◌^◌, ◌⊎◌, length, List, [], ◌∷◌, ◌++◌, map, Option, Some, None, MatchOption, Result, Ok, Err}
+use Rattle.std.specs.Prelude.{ℕ, suc, ◌≡◌, ◌==◌, if◌then◌else◌, ◌≤◌, ◌+◌, ◌*◌, ◌^◌, ◌⊎◌, length, List, [], ◌∷◌, ◌++◌, map, Option, Some, None, MatchOption, Result, Ok, Err}
 use Rattle.std.specs.Option.{option_or}
 use Rattle.stm_rule.specs.declared.stm.Stm.{Stm}
 use Rattle.crossbeam_utils.specs.declared.cache_padded.CachePadded.{CachePadded}
 use Rattle.crossbeam_utils.specs.Padded.{padded_value}
 use Rattle.rule_base.specs.declared.seats.Role.TheVariants.{Caller}
 use Rattle.stm_model.specs.declared.alg.Alg.{Alg}
+use Rattle.stm_profile.specs.declared.policy.Policy.{Policy}
+use Rattle.stm_profile.specs.declared.policy.Policy.TheVariants.{Fixed}
 use Rattle.tx_regions.specs.declared.region.Region.{Region}
 use Rattle.stm_script.specs.declared.report.Row.{Row}
 use Rattle.stm_script.specs.declared.workload.Item.{Item}
@@ -22,6 +24,10 @@ use Rattle.stm_driver.specs.declared.schedule.Halt.{Halt}
 use Rattle.stm_driver.specs.declared.schedule.Halt.TheVariants.{ClockFull}
 use Rattle.stm_driver.specs.declared.workers.Runner.{Runner}
 
+-- caller 0 alone switches by a policy
+abbrev pub policy_for : Policy → ℕ → Policy
+policy_for policy n = if n == 0 then policy else Fixed
+
 module _ {K : Type 0} where
   abbrev pub worker_in : CachePadded (Runner K) → Worker K
   worker_in r = (padded_value r).worker
@@ -30,11 +36,11 @@ module _ {K : Type 0} where
   workers_in rs = map worker_in rs
 
   -- a worker for each descriptor, which has done nothing; the first is that of caller n
-  abbrev pub AreMade : (ℕ → List Item) → List Region → Alg → ℕ → List (Handle K) → List (Worker K) → Type 0
-  AreMade items regions alg n [] [] = Unit {0}
-  AreMade items regions alg n [] (w ∷ ws) = ⊥
-  AreMade items regions alg n (d ∷ ds) [] = ⊥
-  AreMade items regions alg n (d ∷ ds) (w ∷ ws) = Starts d (items n) regions alg w × AreMade items regions alg (suc n) ds ws
+  abbrev pub AreMade : (ℕ → List Item) → List Region → Alg → Policy → ℕ → List (Handle K) → List (Worker K) → Type 0
+  AreMade items regions alg policy n [] [] = Unit {0}
+  AreMade items regions alg policy n [] (w ∷ ws) = ⊥
+  AreMade items regions alg policy n (d ∷ ds) [] = ⊥
+  AreMade items regions alg policy n (d ∷ ds) (w ∷ ws) = Starts d (items n) regions alg (policy_for policy n) w × AreMade items regions alg policy (suc n) ds ws
 
   -- the workers are those of the callers from n on
   abbrev pub AreCallers : ℕ → List (Worker K) → Type 0
@@ -61,7 +67,7 @@ module _ {K : Type 0} where
 
   -- nothing is left, or the clock was found at its limit
   abbrev pub IsThrough : Worker K → Option ℕ → Type 0
-  IsThrough w full = MatchOption full (w.items_left.now ≡ []) (MetLimit w)
+  IsThrough w full = MatchOption full ((w.items_left.now ≡ []) × (w.chosen ≡ None)) (MetLimit w)
 
   -- so many attempts of one transaction that fail are paid for: 16 are counted, and none where there is one caller
   abbrev pub Enough : Stm K → ℕ → Worker K → Type 0
@@ -69,7 +75,7 @@ module _ {K : Type 0} where
 
   -- its items pay for what its steps raised the clock by, but for what was unpaid before
   pub record IsPaid (stm : Stm K) (u w : Worker K) : Type 0 where
-    pub all : (unpaid each most : ℕ) → Enough stm most u → most + 2 ≤ each → CountsNext u → PaysBut unpaid each most u → raised (known w.desc) ≤ each * length w.all.now + unpaid
+    pub all : (unpaid each most : ℕ) → Enough stm most u → most + 3 ≤ each → CountsNext u → PaysBut unpaid each most u → raised (known w.desc) ≤ each * length w.all.now + unpaid
 
   -- each paid
   abbrev pub ArePaidFor : Stm K → List (Worker K) → List (Worker K) → Type 0

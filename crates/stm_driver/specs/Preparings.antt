@@ -1,5 +1,6 @@
 -- What stands before the first turn.
 use Rattle.std.specs.Prelude.{ℕ, ◌≡◌, ◌≤◌, List, [], length, All, slice_index_or, vec_len, vec_capacity}
+use Rattle.stm_profile.specs.declared.policy.Policy.{Policy}
 use Rattle.stm_rule.specs.declared.stm.Stm.{Stm}
 use Rattle.stm_script.specs.declared.workload.Header.{Header}
 use Rattle.stm_script.specs.declared.workload.Item.{Item}
@@ -32,13 +33,13 @@ ItemKeeps good h (Switch caller alg) = Unit {0}
 abbrev pub WorkloadKeeps : (List ℕ → Type 0) → Workload → Type 0
 WorkloadKeeps good w = All (ItemKeeps good w.header) w.items
 
--- the memory is open for the header, and each caller has a worker that has done nothing, with its part to do
-pub record IsPrepared {K : Type 0} (h : Header) (parts : List (List Item)) (stm : Stm K) (ws : List (Worker K)) : Type 0 where
+-- the memory is open for the header, and each caller has a worker that has done nothing, with its part to do; caller 0 has the policy
+pub record IsPrepared {K : Type 0} (h : Header) (policy : Policy) (parts : List (List Item)) (stm : Stm K) (ws : List (Worker K)) : Type 0 where
   pub sized : stm.config ≡ config_of h
   pub descs : List (Handle K)
   pub count : length descs ≡ h.callers
   pub new : AllNew stm h.alg 0 descs
-  pub made : AreMade (λ n. slice_index_or parts n []) (regions_of h) h.alg 0 descs ws
+  pub made : AreMade (λ n. slice_index_or parts n []) (regions_of h) h.alg policy 0 descs ws
 
 -- all are empty, with room for the descriptors and rows of so many callers, for so many rows in all, and words
 pub record HasRoom {K : Type 0} (callers items heap : ℕ) (room : Room K) : Type 0 where
@@ -50,10 +51,10 @@ pub record HasRoom {K : Type 0} (callers items heap : ℕ) (room : Room K) : Typ
   pub words : heap ≤ vec_capacity room.words
 
 -- this is a workload that is prepared, and its scripts keep the rule
-pub record IsReadyFor {K : Type 0} (good : List ℕ → Type 0) (m : Mode) (w : Workload) (p : Prepared K) : Type 0 where
+pub record IsReadyFor {K : Type 0} (good : List ℕ → Type 0) (m : Mode) (policy : Policy) (w : Workload) (p : Prepared K) : Type 0 where
   pub built : IsBuilt m w
   pub keeps : WorkloadKeeps good w
-  pub prepared : IsPrepared w.header (parted w.header.callers w.items) p.stm (workers_in p.runners.items)
+  pub prepared : IsPrepared w.header policy (parted w.header.callers w.items) p.stm (workers_in p.runners.items)
   pub room : HasRoom w.header.callers (length w.items) w.header.words p.room
 
 -- the rule of the header's regions: it holds of a memory of zeros, and each script of a workload that is built keeps it

@@ -1,31 +1,41 @@
 -- What a run comes to.
-use Rattle.std.specs.Prelude.{ℕ, zero, suc, ◌≡◌, ◌<◌, ◌≤◌, ◌+◌, ◌*◌, ◌^◌, ◌==◌, if◌then◌else◌, List, ◌∷◌, ◌++◌, map, length}
+use Rattle.std.specs.Prelude.{ℕ, zero, suc, ◌≡◌, ◌<◌, ◌≤◌, ◌+◌, ◌*◌, ◌^◌, ◌==◌, if◌then◌else◌, List, [], ◌∷◌, ◌++◌, length}
 use Rattle.stm_model.specs.declared.alg.Alg.{Alg}
 use Rattle.stm_model.specs.Histories.{IsLegal}
+use Rattle.stm_profile.specs.declared.policy.Policy.{Policy}
+use Rattle.stm_profile.specs.declared.policy.Policy.TheVariants.{Fixed}
 use Rattle.stm_model.specs.HistoryLaws.{Within}
 use Rattle.stm_script.specs.declared.report.Report.{Report}
 use Rattle.stm_script.specs.declared.workload.Workload.{Workload}
-use Rattle.stm_script.specs.Reports.{Replays, Shows, counted, zeros}
+use Rattle.stm_script.specs.Reports.{Replays, Shows, zeros}
 use Rattle.stm_trace.specs.declared.line.Line.{Line}
 use Rattle.stm_trace.specs.Fits.{TraceFits, TraceFitsSoFar}
 use Rattle.stm_trace.specs.Places.{items_of}
 use Rattle.stm_script.specs.declared.workload.Item.{Item}
+use Rattle.stm_worker.specs.Installs.{InstallsBy}
 use Rattle.stm_worker.specs.Leavings.{IsPart}
 use Rattle.stm_worker.specs.Workers.{switches_of}
 use Rattle.stm_rule.specs.Closings.{Ended}
+use Rattle.stm_driver.specs.AllWorkers.{policy_for}
 use Rattle.stm_driver.specs.declared.outcome.Outcome.{Outcome}
 use Rattle.stm_driver.specs.declared.outcome.Outcome.TheVariants.{ToEnd, ToLimit, OutOfMemory}
 
--- what caller n installs: its switches in the order of the text, caller 0 after the header's algorithm
+-- what the text has caller n install: its switches in their order, caller 0 after the header's algorithm
 abbrev pub installs_for : Workload → ℕ → List Alg
 installs_for w zero = w.header.alg ∷ switches_of (items_of 0 w.items)
 installs_for w (suc n) = switches_of (items_of (suc n) w.items)
 
--- the report replays the workload, and shows the one history of the memory that was closed, and the installs are those of the text
-pub record IsShown (w : Workload) (report : Report) (closed : Ended) : Type 0 where
+-- these are the installs of the callers from n on: those of the text, and under a policy others among caller 0's
+abbrev pub AreInstalls : Policy → Workload → ℕ → List (List Alg) → Type 0
+AreInstalls policy w n [] = Unit {0}
+AreInstalls policy w n (installs ∷ others) = InstallsBy (policy_for policy n) (installs_for w n) installs × AreInstalls policy w (suc n) others
+
+-- the report replays the workload, and shows the one history of the memory that was closed; each caller's installs are those of the text, and what the policy asked for
+pub record IsShown (policy : Policy) (w : Workload) (report : Report) (closed : Ended) : Type 0 where
   pub replays : Replays w report
   pub shows : Shows closed.history closed.opening closed.clock w report
-  pub installs : closed.installs ≡ map (installs_for w) (counted 0 w.header.callers)
+  pub callers : length closed.installs ≡ w.header.callers
+  pub installs : AreInstalls policy w 0 closed.installs
 
 -- the first of all items
 abbrev pub AreFirst : List Item → List Item → Type 0
@@ -36,12 +46,12 @@ abbrev pub ArePart : List Item → List Item → Type 0
 ArePart all some = (left : List Item) × IsPart all left some
 
 -- the memory that was closed is that of a run of some of each caller's items to their end: there is a report that replays these and shows its history, and its installs are theirs
-pub record RanSome (some : List Item → List Item → Type 0) (w : Workload) (closed : Ended) : Type 0 where
+pub record RanSome (some : List Item → List Item → Type 0) (policy : Policy) (w : Workload) (closed : Ended) : Type 0 where
   pub part : Workload
   pub header : part.header ≡ w.header
   pub each : (n : ℕ) → n < w.header.callers → some (items_of n w.items) (items_of n part.items)
   pub report : Report
-  pub shown : IsShown part report closed
+  pub shown : IsShown policy part report closed
 
 -- the history of the memory that was closed is legal, over zeros from the header's clock on, and has no entry behind the last clock
 pub record IsHistory (w : Workload) (closed : Ended) : Type 0 where
@@ -53,19 +63,19 @@ abbrev pub most_rises : ℕ → ℕ
 most_rises callers = if callers == 1 then 4 else 20
 
 -- a transaction was still to do, and found the clock at its limit, which is that of the memory that was closed; the first install and the items can have brought it there
-pub record IsFull (w : Workload) (clock : ℕ) (closed : Ended) : Type 0 where
+pub record IsFull (policy : Policy) (w : Workload) (clock : ℕ) (closed : Ended) : Type 0 where
   pub opening : closed.opening ≡ w.header.clock
   pub found : closed.clock ≡ clock
   pub limit : clock ≡ 2 ^ 62
   pub history : IsHistory w closed
-  pub ran : RanSome AreFirst w closed
+  pub ran : RanSome AreFirst policy w closed
   pub left : length closed.history < length w.items
   pub bound : 2 ^ 62 ≤ w.header.clock + most_rises w.header.callers * length w.items + 1
 
 -- the trace fits the workload and its report, which shows the one history of the memory that was closed
 pub record IsTraced (w : Workload) (lines : List Line) (report : Report) (closed : Ended) : Type 0 where
   pub fits : TraceFits w lines report
-  pub shown : IsShown w report closed
+  pub shown : IsShown Fixed w report closed
 
 -- the trace fits the workload up to a clock that was found at its limit, which is that of the memory that was closed; so many lines can have brought it there
 pub record IsCut (w : Workload) (lines : List Line) (clock : ℕ) (closed : Ended) : Type 0 where
@@ -74,19 +84,19 @@ pub record IsCut (w : Workload) (lines : List Line) (clock : ℕ) (closed : Ende
   pub found : closed.clock ≡ clock
   pub limit : clock ≡ 2 ^ 62
   pub history : IsHistory w closed
-  pub ran : RanSome ArePart w closed
+  pub ran : RanSome ArePart Fixed w closed
   pub bound : 2 ^ 62 ≤ w.header.clock + 2 * length lines + 1
 
 -- the memory was closed, with nothing open
 pub record IsStopped (w : Workload) (closed : Ended) : Type 0 where
   pub opening : closed.opening ≡ w.header.clock
   pub history : IsHistory w closed
-  pub ran : RanSome ArePart w closed
+  pub ran : RanSome ArePart Fixed w closed
 
-abbrev pub HasRun : Workload → Outcome → Type 0
-HasRun w (ToEnd report closed) = IsShown w report closed
-HasRun w (ToLimit clock closed) = IsFull w clock closed
-HasRun w (OutOfMemory closed) = (report : Report) × IsShown w report closed
+abbrev pub HasRun : Policy → Workload → Outcome → Type 0
+HasRun policy w (ToEnd report closed) = IsShown policy w report closed
+HasRun policy w (ToLimit clock closed) = IsFull policy w clock closed
+HasRun policy w (OutOfMemory closed) = (report : Report) × IsShown policy w report closed
 
 abbrev pub HasStepped : Workload → List Line → Outcome → Type 0
 HasStepped w lines (ToEnd report closed) = IsTraced w lines report closed

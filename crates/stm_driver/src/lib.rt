@@ -1,7 +1,6 @@
 //! From a workload to what its run came to: opening, the turns of all callers, closing and the report.
 #![tactic(auto)]
 
-pub mod backoff;
 pub mod closing;
 pub mod finishing;
 pub mod gathering;

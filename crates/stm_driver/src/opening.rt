@@ -8,7 +8,6 @@ ghost use Rattle.stm_model.specs.Algorithms.{is_built};
 ghost use Rattle.stm_tx.specs.Descs.{known};
 ghost use Rattle.stm_driver.specs.Openings.{IsNew, HoldsGate, OpensFor, SameLengths};
 
-use crate::backoff::Backoff;
 use std::alloc::Global;
 use std::sync::Wait;
 use stm_model::alg::Alg;
@@ -19,6 +18,7 @@ use stm_rule::stm::Stm;
 use stm_script::workload::Header;
 use stm_tx::gate::{close_gate, install, look, reopen};
 use tx_answers::answers::{CloseGate, Look};
+use tx_backoff::Backoff;
 
 /// A memory of the header's sizes under this rule, and a descriptor for each caller. Caller 0 has installed the header's
 /// algorithm, and nobody has begun.

@@ -14,6 +14,7 @@ use std::alloc::Global;
 use std::sync::Wait;
 use stm_model::memory::Memory;
 use stm_model::rule::MemRule;
+use stm_profile::policy::Policy;
 use stm_rule::desc::Desc;
 use stm_rule::stm::Stm;
 use stm_script::report::Row;
@@ -42,8 +43,8 @@ pub struct Prepared<'a, K: MemRule> {
     pub room: Room<K>,
 }
 
-/// Opens a memory under this rule for a header, whose callers are to do these parts, of so many items in all.
-/// `regions` are the header's.
+/// Opens a memory under this rule for a header, whose callers are to do these parts, of so many items in all, and
+/// caller 0 is to switch by the policy. `regions` are the header's.
 ///
 /// # Errors
 /// Memory, where it is refused: here alone can a run end with nothing closed, since no turn was taken.
@@ -52,6 +53,7 @@ pub fn prepare<'a, R: Wait, K: MemRule + Drop>(
     alloc: Global,
     rule: K,
     header: &Header,
+    policy: Policy,
     parts: &'a [CallerItems],
     regions: &'a Regions,
     items: usize,
@@ -60,12 +62,12 @@ pub fn prepare<'a, R: Wait, K: MemRule + Drop>(
     requires good { K.good rule (replicate header.now.words 0) }
     requires parts { length parts.now ≡ header.now.callers }
     requires regions { regions.now ≡ regions_of header.now }
-    ensures prepared { IfOk result (λ p. IsPrepared header.now parts.now p.stm (workers_in p.runners.items)) }
+    ensures prepared { IfOk result (λ p. IsPrepared header.now policy parts.now p.stm (workers_in p.runners.items)) }
     ensures rule { IfOk result (λ p. p.stm.rule ≡ rule) }
     ensures room { IfOk result (λ p. HasRoom header.now.callers items header.now.words p.room) }
 {
     let (stm, descs) = open(rt, alloc, header, rule)?;
-    let runners = make_workers(alloc, descs, parts, regions, header.alg)?;
+    let runners = make_workers(alloc, descs, parts, regions, header.alg, policy)?;
     let room = Room {
         descs: Vec::with_capacity(alloc, header.callers)?,
         lists: Vec::with_capacity(alloc, header.callers)?,

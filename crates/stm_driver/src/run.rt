@@ -1,5 +1,6 @@
 //! `run`: the transactions of all callers, each caller's on a thread.
 ghost use Rattle.std.specs.Prelude.{◌≡◌};
+ghost use Rattle.stm_profile.specs.declared.policy.Policy.{Policy};
 ghost use Rattle.stm_script.specs.declared.workload.Workload.{Workload};
 ghost use Rattle.stm_text.specs.declared.parse.Mode.TheVariants.{Run};
 ghost use Rattle.stm_driver.specs.AllWorkers.{first_full, how_of};
@@ -21,7 +22,8 @@ use stm_script::laws::report_replays;
 use stm_text::laws::built_workloads_fit;
 use stm_worker::turnstile::Turnstile;
 
-/// Runs the transactions of all callers, each caller's in the order of the text, on a thread a caller.
+/// Runs the transactions of all callers, each caller's in the order of the text, on a thread a caller; caller 0
+/// switches besides by the policy that was prepared.
 ///
 /// Where several callers find the clock at its limit, the clock is that of the lowest of them. Where the report's
 /// pairs find no memory, the run ends with [`Outcome::OutOfMemory`].
@@ -31,8 +33,8 @@ pub fn run<R: Threads + Wait + Sync, K: MemRule + Drop + Send + Sync, G: Turnsti
     prepared: Prepared<K>,
     turnstile: &G,
 ) -> Outcome
-    requires ready { (w : Workload) × IsReadyFor (K.good prepared.stm.rule) Run w prepared }
-    ensures { (w : Workload) → IsReadyFor (K.good prepared.entry.stm.rule) Run w prepared.entry → HasRun w result }
+    requires ready { (policy : Policy) × (w : Workload) × IsReadyFor (K.good prepared.stm.rule) Run policy w prepared }
+    ensures { (policy : Policy) → (w : Workload) → IsReadyFor (K.good prepared.entry.stm.rule) Run policy w prepared.entry → HasRun policy w result }
 {
     let Prepared {
         stm,

@@ -1,5 +1,6 @@
 //! `step`: the transactions of all callers, in the turns of a schedule, and their trace.
 ghost use Rattle.std.specs.Prelude.{◌≡◌};
+ghost use Rattle.stm_profile.specs.declared.policy.Policy.TheVariants.{Fixed};
 ghost use Rattle.stm_script.specs.declared.workload.Workload.{Workload};
 ghost use Rattle.stm_text.specs.declared.parse.Mode.TheVariants.{Step};
 ghost use Rattle.stm_driver.specs.Preparings.{IsReadyFor};
@@ -26,8 +27,8 @@ pub fn step<R: Wait, K: MemRule + Drop>(
     prepared: Prepared<K>,
     schedule: &[Go],
 ) -> (Vec<Line>, Outcome)
-    requires ready { (w : Workload) × IsReadyFor (K.good prepared.stm.rule) Step w prepared × (schedule.now ≡ w.schedule) }
-    ensures { (w : Workload) → IsReadyFor (K.good prepared.entry.stm.rule) Step w prepared.entry → schedule.now ≡ w.schedule → HasStepped w result.0.items result.1 }
+    requires ready { (w : Workload) × IsReadyFor (K.good prepared.stm.rule) Step Fixed w prepared × (schedule.now ≡ w.schedule) }
+    ensures { (w : Workload) → IsReadyFor (K.good prepared.entry.stm.rule) Step Fixed w prepared.entry → schedule.now ≡ w.schedule → HasStepped w result.0.items result.1 }
 {
     let Prepared {
         stm,

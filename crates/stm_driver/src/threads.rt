@@ -6,7 +6,6 @@ ghost use Rattle.stm_worker.specs.Workers.{IsSame, Sound};
 ghost use Rattle.stm_driver.specs.declared.workers.Runner.{Runner};
 ghost use Rattle.stm_driver.specs.AllWorkers.{IsThrough, IsReady, IsPaid, Finished};
 
-use crate::backoff::Backoff;
 use crate::workers::Runner;
 use crossbeam_utils::CachePadded;
 use std::sync::Wait;
@@ -19,6 +18,7 @@ use stm_trace::said::{Phase, Said};
 use stm_worker::turnstile::Turnstile;
 use stm_worker::worker::Worker;
 use tx_answers::answers::{Begin, CloseGate, Commit, Irrev, Look};
+use tx_backoff::Backoff;
 
 /// Runs all workers, each to its end or to the clock's limit, on as many threads as there are workers.
 pub fn run_all<R: Threads + Wait + Sync, K: MemRule + Send + Sync, G: Turnstile + Sync>(

@@ -1,6 +1,6 @@
 //! The workers of all callers.
 ghost use Rattle.std.specs.Prelude.{◌≡◌, ◌≤◌, [], length, slice_index_or, vec_len, vec_capacity, IfOk, IsPermutation};
-ghost use Rattle.stm_driver.specs.AllWorkers.{AreMade, workers_in, descs_of, rows_of, first_full};
+ghost use Rattle.stm_driver.specs.AllWorkers.{AreMade, policy_for, workers_in, descs_of, rows_of, first_full};
 ghost use Rattle.stm_driver.specs.Gatherings.{joined};
 
 use crate::gathering::{OwnRows, gather};
@@ -10,6 +10,7 @@ use std::alloc::Global;
 use stm_model::alg::Alg;
 use stm_model::memory::Memory;
 use stm_model::rule::MemRule;
+use stm_profile::policy::Policy;
 use stm_rule::desc::Desc;
 use stm_script::report::Row;
 use stm_worker::worker::Worker;
@@ -22,22 +23,32 @@ pub struct Runner<'a, K: MemRule> {
     pub full: Option<u64>,
 }
 
+/// The policy of a caller: caller 0 alone switches by one.
+fn policy_for(policy: Policy, caller: usize) -> Policy
+    ensures { result ≡ policy_for policy caller }
+{
+    if caller == 0 { policy } else { Policy::Fixed }
+}
+
 /// A worker for each descriptor, in their order, with its caller's items and room for all that it will do;
-/// `regions` are the memory's, and `alg` is its algorithm.
+/// `regions` are the memory's, `alg` is its algorithm, and `policy` is that of caller 0.
 pub fn make_workers<'a, K: MemRule>(
     alloc: Global,
     descs: Vec<Desc<K>>,
     parts: &'a [CallerItems],
     regions: &'a Regions,
     alg: Alg,
+    policy: Policy,
 ) -> Result<Vec<CachePadded<Runner<'a, K>>>, Memory>
     requires { length descs.items ≡ length parts.now }
-    ensures { IfOk result (λ rs. AreMade (λ n. slice_index_or parts.now n []) regions.now alg 0 descs.items (workers_in rs.items)) }
+    ensures { IfOk result (λ rs. AreMade (λ n. slice_index_or parts.now n []) regions.now alg policy 0 descs.items (workers_in rs.items)) }
 {
     let mut runners = Vec::with_capacity(alloc, descs.len())?;
     for desc in descs {
-        let items = items_at(parts, runners.len());
-        let worker = Worker::new(alloc, desc, items, regions, alg)?;
+        let caller = runners.len();
+        let items = items_at(parts, caller);
+        let own = policy_for(policy, caller);
+        let worker = Worker::new(alloc, desc, items, regions, alg, own)?;
         runners.push_reserved(CachePadded::new(Runner { worker, full: None }));
     }
     Ok(runners)

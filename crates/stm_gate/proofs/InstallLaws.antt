@@ -2,10 +2,9 @@
 use Rattle.std.proofs.Common.{ℕ, ◌≡◌, ◌+◌, List, [], ◌∷◌, ◌++◌, Bool, true, false, refl, sym, ap, ◌∙◌, arith, subst, append_assoc}
 use Rattle.std.proofs.lemmas.List.{reverse-append}
 use Rattle.std.specs.Prelude.{◌%◌, None}
-use Rattle.stm_model.specs.Algorithms.{begins_even, install_rise}
+use Rattle.stm_model.specs.Algorithms.{begins_even}
 use Rattle.stm_model.specs.AlgorithmLaws.{even-rises}
 use Rattle.stm_model.specs.declared.alg.Alg.{Alg}
-use Rattle.stm_model.specs.declared.alg.Alg.TheVariants.{Cgl, Tml, OrecLazy, OrecEager, RingSw, Serial}
 use Rattle.stm_model.specs.declared.config.Config.{Config}
 use Rattle.rule_base.specs.declared.layout.At.TheVariants.{Base, Done, Gate}
 use Rattle.rule_base.specs.declared.views.Act.TheVariants.{Store}

@@ -4,7 +4,6 @@ use Rattle.std.specs.Prelude.{not}
 use Rattle.stm_model.specs.Algorithms.{closes_gate, entry_rise}
 use Rattle.stm_model.specs.AlgorithmLaws.{entry-some}
 use Rattle.stm_model.specs.declared.alg.Alg.{Alg}
-use Rattle.stm_model.specs.declared.alg.Alg.TheVariants.{Cgl, Tml, OrecLazy, OrecEager, RingSw, Serial}
 use Rattle.stm_model.specs.declared.config.Config.{Config}
 use Rattle.stm_model.specs.declared.config.TheConstants.{CLOCK_LIMIT}
 use Rattle.stm_model.specs.Logs.{Reads, Keeps}

@@ -1,5 +1,5 @@
 -- What a call tells of the views of its caller, it tells of the descriptor.
-use Rattle.std.proofs.Common.{ℕ, ◌≡◌, ◌∙◌, List, [], Bool, true, false, refl, ap, sym, subst}
+use Rattle.std.proofs.Common.{ℕ, ◌≡◌, ◌∙◌, List, Bool, true, false, refl, ap, sym, subst}
 use Rattle.std.specs.Prelude.{Option, Some}
 use Rattle.stm_model.specs.declared.config.Config.{Config}
 use Rattle.rule_base.specs.declared.views.Phase.TheVariants.{Idle, In, Closing}

@@ -1,14 +1,11 @@
 -- A generator, draw by draw, and the items, one by one.
-use Rattle.std.proofs.Common.{ℕ, zero, suc, ◌≡◌, ◌≢◌, ◌+◌, ◌/◌, ◌%◌, [], ◌∷◌, ◌++◌, true, false, refl, sym, ap, ◌∙◌, arith, append_assoc}
-use Rattle.std.specs.Prelude.{◌==◌}
-use Rattle.std.proofs.lemmas.Bool.Decides.{nat_tests}
+use Rattle.std.proofs.Common.{ℕ, zero, suc, ◌≡◌, ◌+◌, ◌%◌, [], ◌∷◌, ◌++◌, refl, sym, ap, ◌∙◌, arith, append_assoc}
 use Rattle.rand_pcg.specs.Lcg.{Lcg, next_state, state_after}
 use Rattle.rand_pcg.specs.Pcg.{multiplier_64, pcg32, pcg32_of_seed}
 use Rattle.rand_core.specs.Pcg32Seed.{pcg32_seed}
-use Rattle.stm_profile.specs.Policies.{next_in_cycle}
-use Rattle.stm_script.specs.declared.workload.Item.TheVariants.{Tx, Switch}
+use Rattle.stm_script.specs.declared.workload.Item.TheVariants.{Tx}
 use Rattle.stm_gen.specs.Draws.{seeded, generator_at}
-use Rattle.stm_gen.specs.Generated.{operation, switched, switch_behind, items_for}
+use Rattle.stm_gen.specs.Generated.{operation, switch_behind, items_for}
 
 pub at-start : (seed : ℕ) → pcg32_of_seed (pcg32_seed 16 seed) ≡ generator_at seed 0
 unfolding seeded state_after
@@ -27,19 +24,6 @@ one-more seed k =
     let last : next_state 64 multiplier_64 g.increment (state_after 64 multiplier_64 g.increment k g.state) ≡ state_after 64 multiplier_64 g.increment (suc k) g.state = sym (state_after-last 64 multiplier_64 g.increment k g.state) in
     let next : suc k ≡ k + 1 = omega arith in
     ap (λ (s : ℕ). record g { state = s }) last ∙ ap (λ j. generator_at seed j) next
-
--- where a switch stands, it is to the next in the cycle
-pub switch-on : (i : ℕ) → i % 16 ≡ 15 → (switched ((i + 1) / 16) ≡ next_in_cycle (switched (i / 16))) × (switch_behind i ≡ Switch 0 (next_in_cycle (switched (i / 16))) ∷ [])
-switch-on i is =
-    let next : (i + 1) / 16 ≡ suc (i / 16) = omega arith in
-    let here : (i % 16 == 15) ≡ true = grind (arith, nat_tests) in
-    (ap (λ j. switched j) next, rw here refl)
-
-pub switch-off : (i : ℕ) → i % 16 ≢ 15 → (switched ((i + 1) / 16) ≡ switched (i / 16)) × (switch_behind i ≡ [])
-switch-off i isnt =
-    let same : (i + 1) / 16 ≡ i / 16 = omega arith in
-    let here : (i % 16 == 15) ≡ false = grind (arith, nat_tests) in
-    (ap (λ j. switched j) same, rw here refl)
 
 -- one transaction more, and what stands behind it
 pub items-on : (n callers seed : ℕ) → (items_for n callers seed ++ Tx (n % callers) (operation seed n ∷ []) ∷ []) ++ switch_behind n ≡ items_for (n + 1) callers seed

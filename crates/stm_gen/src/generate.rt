@@ -8,6 +8,7 @@ ghost use Rattle.stm_gen.specs.Generated.{deposits, drawn_move, draws_before, ge
 
 use crate::draws::{draw, seeded};
 use rand_pcg::Pcg32;
+use smallvec::SmallVec;
 use std::alloc::{AllocError, Global};
 use stm_model::alg::Alg;
 use stm_model::memory::Memory;
@@ -116,7 +117,7 @@ fn header_for(callers: usize) -> Header
 fn opening(alloc: Global) -> Result<Item, AllocError>
     ensures { IfOk result (λ item. item ≡ Tx 0 (deposits ACCOUNTS)) }
 {
-    let mut ops = Vec::new(alloc);
+    let mut ops = SmallVec::new(alloc);
     for account in 0..ACCOUNTS as usize {
         ops.push(Op::Write(account, DEPOSIT))?;
     }
@@ -130,7 +131,7 @@ fn opening(alloc: Global) -> Result<Item, AllocError>
 fn transaction(alloc: Global, caller: usize, op: Op) -> Result<Item, AllocError>
     ensures { IfOk result (λ item. item ≡ Tx caller (op ∷ [])) }
 {
-    let mut ops = Vec::new(alloc);
+    let mut ops = SmallVec::new(alloc);
     ops.push(op)?;
     Ok(Item::Tx {
         caller,

@@ -1,5 +1,5 @@
 -- What stands of a view by the descriptor's fields in an attempt of OrecEager, until it is promoted and afterwards.
-use Rattle.std.specs.Prelude.{ℕ, ◌≡◌, ◌≢◌, ◌≤◌, ◌<◌, ◌+◌, not, true, false, List, [], length, map}
+use Rattle.std.specs.Prelude.{ℕ, ◌≡◌, ◌≢◌, ◌≤◌, ◌<◌, ◌+◌, not, true, false, [], length, map}
 use Rattle.stm_model.specs.Algorithms.{entry_rise}
 use Rattle.stm_model.specs.declared.config.Config.{Config}
 use Rattle.stm_model.specs.declared.config.TheConstants.{CLOCK_LIMIT}

@@ -1,15 +1,14 @@
 -- An operation leaves each region well formed, by the laws of each structure's calls.
-use Rattle.std.proofs.Common.{ℕ, ◌≡◌, ◌<◌, ◌+◌, ◌-◌, ◌%◌, ◌^◌, List, [], length, get_or, set, Bool, true, false, sym, subst}
+use Rattle.std.proofs.Common.{ℕ, ◌≡◌, ◌+◌, ◌-◌, ◌%◌, ◌^◌, List, [], length, get_or, set, Bool, true, false, sym, subst}
 use Rattle.std.specs.Prelude.{ltb, if◌then◌else◌}
 use Rattle.std.proofs.lemmas.List.Elements.{All-contains}
-use Rattle.tx_cells.specs.Structures.{list_of, hash_of}
 use Rattle.tx_regions.specs.declared.region.Region.{Region}
-use Rattle.tx_regions.specs.declared.region.Region.TheVariants.{Counter as OfCounter, List as OfList, Hash as OfHash, Tree as OfTree}
+use Rattle.tx_regions.specs.declared.region.Region.TheVariants.{List as OfList, Hash as OfHash, Tree as OfTree}
 use Rattle.tx_regions.specs.Regions.{AllWellFormed, EndsWithin, IsPlain}
 use Rattle.tx_regions.specs.Statements.{PlainWriteKeeps, AddKeeps, ListKeeps, HashKeeps, TreeKeeps}
 use Rattle.stm_script.specs.declared.op.Op.TheVariants.{Read, Write, Add, Move, Emit, Irrev, Cancel, Count, Total, ListInsert, ListRemove, ListContains, ListLength, HashInsert, HashRemove, HashContains, TreeInsert, TreeRemove, TreeContains, TreeLeast}
 use Rattle.stm_script.specs.Operations.{replies, moved, moves}
-use Rattle.stm_script.specs.Structures.{AreLaid, HasRegion, counter_in, list_in, hash_in, tree_in}
+use Rattle.stm_script.specs.Structures.{HasRegion, counter_in, list_in, hash_in, tree_in}
 use Rattle.stm_script.specs.Statements.{OperationsKeepRegions}
 
 -- a region of so many words ends within a memory that has them

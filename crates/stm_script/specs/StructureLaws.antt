@@ -1,12 +1,12 @@
 -- What calls of structures leave: as many words, and the memory as it was where they wrote nothing; and whether they wrote, as their reply tells.
-use Rattle.std.proofs.Common.{ℕ, ◌≡◌, List, length, set, Bool, true, false, refl}
+use Rattle.std.proofs.Common.{ℕ, ◌≡◌, List, length, Bool, true, false, refl}
 use Rattle.std.specs.Prelude.{◌==◌, if◌then◌else◌, slice_index, Option, Some, None}
 use Rattle.std.proofs.Math.ListN.{length-set}
-use Rattle.tx_effects.specs.declared.insert.Insert.TheVariants.{Added, Present, NoRoom}
+use Rattle.tx_effects.specs.declared.insert.Insert.TheVariants.{Present}
 use Rattle.tx_effects.specs.Effects.{unchanged, changed}
 use Rattle.tx_effects.specs.Keys.{has, free_from, less_one}
 use Rattle.tx_cells.specs.declared.chains.Chains.{Chains}
-use Rattle.tx_cells.specs.Chains.{keys, tag, position_of, linked, inserted_by, inserted_in, removed_by, removed_in}
+use Rattle.tx_cells.specs.Chains.{keys, tag, position_of, inserted_by, inserted_in, removed_by, removed_in}
 use Rattle.tx_tree.specs.declared.tree.Tree.{Tree}
 use Rattle.tx_tree.specs.Trees as trees
 use Rattle.stm_script.specs.Structures.{insert_reply, bool_reply}

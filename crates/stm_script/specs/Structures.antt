@@ -1,5 +1,5 @@
 -- The structures that operations work on: each kind's region is known by its number.
-use Rattle.std.specs.Prelude.{ℕ, ◌≡◌, ◌+◌, ◌<◌, ◌^◌, Bool, true, false, List, slice_index_or, All, AllPairs, Contains, Option, Some, None}
+use Rattle.std.specs.Prelude.{ℕ, ◌+◌, ◌<◌, ◌^◌, Bool, true, false, List, slice_index_or, All, AllPairs, Contains, Option, Some, None}
 use Rattle.tx_effects.specs.declared.insert.Insert.{Insert}
 use Rattle.tx_effects.specs.declared.insert.Insert.TheVariants.{Added, Present, NoRoom}
 use Rattle.tx_cells.specs.declared.counter.Counter.{Counter}

@@ -153,6 +153,7 @@ pub fn interpret<A: Access>(
 mod tests {
     use super::*;
     use crate::lists::Words;
+    use smallvec::SmallVec;
     use std::alloc::Global;
     use std::test::Fail;
     use stm_model::plain::{Plain, PlainWord};
@@ -170,7 +171,7 @@ mod tests {
             own: None,
         };
         let mut plain = Plain::new(vec![in alloc; five, most]?);
-        let script = Script::new(ops);
+        let script = Script::new(SmallVec::from_vec(ops));
         let mut out = Replies::new(alloc, script.as_slice().len())?;
         interpret(&mut plain, &Regions::none(alloc), &script, kind, &mut out)?;
         Ok(out.into_words())

@@ -2,12 +2,14 @@
 ghost use Rattle.std.specs.Prelude.{◌≡◌};
 
 use crate::op::Op;
+use smallvec::SmallVec;
 use std::marker::Model;
 
-/// A list of words.
+/// A list of words. The one word of a short list lies in it, so that a transaction of one operation needs no
+/// memory of its own for what it replies.
 #[derive(Drop, Debug)]
 pub struct Words {
-    items: Vec<u64>,
+    items: SmallVec<u64, 1>,
 }
 
 impl Model for Words {
@@ -19,7 +21,7 @@ impl Model for Words {
 }
 
 impl Words {
-    pub fn new(items: Vec<u64>) -> Words
+    pub fn new(items: SmallVec<u64, 1>) -> Words
         ensures { result ≡ items.items }
     {
         Words { items }
@@ -32,10 +34,11 @@ impl Words {
     }
 }
 
-/// The operations of one transaction, in order.
+/// The operations of one transaction, in order. The one operation of a short script lies in it: who holds the item holds
+/// the operation, with no load of memory that another processor wrote while the transaction runs.
 #[derive(Drop, Debug)]
 pub struct Script {
-    ops: Vec<Op>,
+    ops: SmallVec<Op, 1>,
 }
 
 impl Model for Script {
@@ -48,7 +51,7 @@ impl Model for Script {
 }
 
 impl Script {
-    pub fn new(ops: Vec<Op>) -> Script
+    pub fn new(ops: SmallVec<Op, 1>) -> Script
         ensures { result ≡ ops.items }
     {
         Script { ops }

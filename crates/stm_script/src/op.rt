@@ -1,8 +1,9 @@
 //! Operations.
 ghost use Rattle.std.specs.Prelude.{◌≡◌};
 
-/// An operation of a script. Addresses count words from 0; values are below 2^64, and sums wrap there.
-#[derive(Clone, Copy, Drop, Debug, PartialEq, Eq)]
+/// An operation of a script. Addresses count words from 0; values are below 2^64, and sums wrap there. The default is
+/// what an empty place of a list holds.
+#[derive(Clone, Copy, Default, Drop, Debug, PartialEq, Eq)]
 pub enum Op {
     /// `read a`: replies the word at `a`.
     Read(usize),
@@ -17,6 +18,7 @@ pub enum Op {
     /// irrevocable emits.
     Emit(usize),
     /// `irrev`: asks to be irrevocable; replies 1.
+    #[default]
     Irrev,
     /// `cancel`: in a cancelled transaction the first one ends the script and replies 1; in one that
     /// commits it replies 0 and the script goes on.

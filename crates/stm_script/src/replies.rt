@@ -5,6 +5,7 @@ ghost use Rattle.stm_script.specs.Outputs.{Output, HasRoom};
 
 use crate::lists::Words;
 use crate::op::Op;
+use smallvec::SmallVec;
 use std::alloc::Global;
 use std::marker::Model;
 use stm_model::memory::Memory;
@@ -12,31 +13,29 @@ use stm_model::memory::Memory;
 /// The replies and emits so far, with room for `room` of each.
 #[derive(Drop, Debug)]
 pub struct Replies {
-    replies: Vec<u64>,
-    emits: Vec<u64>,
+    replies: SmallVec<u64, 1>,
+    emits: SmallVec<u64, 1>,
     room: usize,
 }
 
 impl Model for Replies {
-    ghost use Rattle.std.specs.Prelude.{ℕ, ◌≤◌, vec_capacity};
+    ghost use Rattle.std.specs.Prelude.{ℕ, ◌≤◌};
     ghost use Rattle.stm_script.specs.Outputs.{Output};
 
     ghost Value = { Output };
 
     ghost view = { λ r. record { replies = r.replies.items; emits = r.emits.items; room = r.room } };
 
-    ghost invariant = { λ r. (r.room ≤ vec_capacity r.replies) × (r.room ≤ vec_capacity r.emits) };
+    ghost invariant = { λ r. (r.room ≤ r.replies.capacity) × (r.room ≤ r.emits.capacity) };
 }
 
 impl Replies {
-    /// Room for `ops` replies and as many emits. Memory may be refused.
+    /// Room for `ops` replies and as many emits. Memory may be refused; one operation takes none.
     pub fn new(alloc: Global, ops: usize) -> Result<Replies, Memory>
         ensures { IfOk result (λ r. r ≡ record { replies = []; emits = []; room = ops }) }
     {
-        let mut replies = Vec::new(alloc);
-        replies.reserve(ops)?;
-        let mut emits = Vec::new(alloc);
-        emits.reserve(ops)?;
+        let replies = SmallVec::with_capacity(alloc, ops)?;
+        let emits = SmallVec::with_capacity(alloc, ops)?;
         Ok(Replies {
             replies,
             emits,

@@ -1,6 +1,6 @@
 -- What the grammar gives fits.
 use Rattle.std.proofs.Common.{ℕ, ◌≡◌, ◌≢◌, ◌<◌, ◌≤◌, ◌+◌, ◌-◌, ◌*◌, ◌^◌, List, [], ◌∷◌, ◌++◌, Bool, true, false, ◌&&◌, Option, Some, None, Result, Ok, Err, refl, sym, ap, subst, arith, length, length-append, inl, inr}
-use Rattle.std.specs.Prelude.{◌==◌, ◌⊎◌, if◌then◌else◌, leb, ltb, codes, bytes_eq, All}
+use Rattle.std.specs.Prelude.{◌==◌, if◌then◌else◌, leb, ltb, codes, bytes_eq, All}
 use Rattle.std.proofs.lemmas.Bool.Decides.{nat_tests}
 use Rattle.std.proofs.lemmas.List.Elements.{All-nil, All-push}
 use Rattle.std.proofs.lemmas.Slice.Eq.{bytes_eq-Decides}
@@ -9,7 +9,7 @@ use Rattle.stm_model.specs.declared.alg.TheConstants.{ALGORITHMS}
 use Rattle.stm_model.specs.declared.config.TheConstants.{MAX_WORDS, MAX_RECORDS, MIN_RING, MAX_RING, MAX_CALLERS, MAX_LOG, CLOCK_LIMIT}
 use Rattle.stm_model.specs.Algorithms.{alg_name, is_built}
 use Rattle.stm_script.specs.declared.op.Op.{Op}
-use Rattle.stm_script.specs.declared.op.Op.TheVariants.{Read, Write, Add as Sum, Move, Emit, Irrev, Cancel, Count, Total, ListInsert, ListRemove, ListContains, ListLength, HashInsert, HashRemove, HashContains, TreeInsert, TreeRemove, TreeContains, TreeLeast}
+use Rattle.stm_script.specs.declared.op.Op.TheVariants.{Read, Write, Add as Sum, Move, Emit, Irrev, Cancel, Count}
 use Rattle.stm_script.specs.declared.op.TheConstants.{KEYED, KEYLESS}
 use Rattle.stm_script.specs.Operations.{op_name, with_key}
 use Rattle.stm_script.specs.declared.workload.Header.{Header}

@@ -1,24 +1,19 @@
 -- What is built fits the memory of its header: structures lie in their regions, and plain addresses outside them.
-use Rattle.std.proofs.Common.{ℕ, zero, suc, ◌≡◌, ◌<◌, ◌≤◌, ◌+◌, ◌*◌, ◌^◌, List, [], ◌∷◌, length, get_or, Bool, true, false, refl, sym, arith, subst, inl, inr}
-use Rattle.std.specs.Prelude.{◌⊎◌, All, AllPairs}
-use Rattle.std.proofs.lemmas.List.Elements.{All-head, All-tail}
-use Rattle.tx_regions.specs.declared.region.Region.{Region}
+use Rattle.std.proofs.Common.{ℕ, ◌≡◌, ◌≤◌, get_or, Bool, true, false, refl, sym, arith, subst}
 use Rattle.tx_regions.specs.declared.region.Region.TheVariants.{Counter as OfCounter, List as OfList, Hash as OfHash, Tree as OfTree}
-use Rattle.tx_regions.specs.Regions.{start_of, size_of, IsPlain, AreApart, EndsWithin, counter_one, list_one, hash_one, tree_one, version_one}
+use Rattle.tx_regions.specs.Regions.{IsPlain, counter_one, list_one, hash_one, tree_one, version_one}
 use Rattle.tx_regions.specs.Statements.{VersionOneFits, VersionOnePlain}
 use Rattle.stm_script.specs.declared.op.Op.{Op}
 use Rattle.stm_script.specs.declared.op.Op.TheVariants.{Read, Write, Add, Move, Emit, Irrev, Cancel, Count, Total, ListInsert, ListRemove, ListContains, ListLength, HashInsert, HashRemove, HashContains, TreeInsert, TreeRemove, TreeContains, TreeLeast}
 use Rattle.stm_script.specs.declared.workload.Header.{Header}
 use Rattle.stm_script.specs.declared.workload.Item.{Item}
 use Rattle.stm_script.specs.declared.workload.Item.TheVariants.{Tx, Switch}
-use Rattle.stm_script.specs.declared.workload.Workload.{Workload}
-use Rattle.stm_script.specs.Operations.{OpFits, ScriptFits}
+use Rattle.stm_script.specs.Operations.{OpFits}
 use Rattle.stm_script.specs.Reports.{regions_of, regions_where}
 use Rattle.stm_script.specs.Structures.{AreLaid, HasRegion}
 use Rattle.stm_script.specs.Workloads.{ItemFits}
-use Rattle.stm_text.specs.declared.parse.Mode.{Mode}
 use Rattle.stm_text.specs.Built as built
-use Rattle.stm_text.specs.Built.{IsFree, IsBuilt, BuiltWorkloadsFit}
+use Rattle.stm_text.specs.Built.{IsFree, BuiltWorkloadsFit}
 
 module _ (fits : VersionOneFits) (plain : VersionOnePlain) where
   laid-out : (words : ℕ) → 1024 ≤ words → AreLaid version_one words

@@ -5,6 +5,7 @@ ghost use Rattle.stm_text.specs.declared.draft.Step.TheVariants.{End};
 ghost use Rattle.stm_text.specs.Grammar.{one_item, begun, changed, added, emitted, structured, planned};
 
 use crate::code;
+use smallvec::SmallVec;
 use std::alloc::{AllocError, Global};
 use std::marker::Model;
 use std::mem;
@@ -58,7 +59,7 @@ pub struct Draft {
     header: Header,
     items: Vec<Item>,
     caller: usize,
-    ops: Vec<Op>,
+    ops: SmallVec<Op, 1>,
     // whether an irrev is among them
     asked: bool,
     schedule: Vec<Go>,
@@ -97,7 +98,7 @@ impl Draft {
             },
             items: Vec::new(alloc),
             caller: 0,
-            ops: Vec::new(alloc),
+            ops: SmallVec::new(alloc),
             asked: false,
             schedule: Vec::new(alloc),
             turns: 0,
@@ -229,7 +230,7 @@ impl Draft {
         ensures { OnOk result (self.new ≡ after End self.old) }
     {
         self.asked = false;
-        let script = Script::new(mem::replace(&mut self.ops, Vec::new(alloc)));
+        let script = Script::new(mem::replace(&mut self.ops, SmallVec::new(alloc)));
         self.items.push(Item::Tx {
             caller: self.caller,
             script,

@@ -1,5 +1,6 @@
 use crate::parse::{Mode, ParseError, parse};
 use crate::report::report_text;
+use smallvec::SmallVec;
 use std::alloc::{AllocError, Global};
 use std::process::Abort;
 use std::test::Fail;
@@ -512,8 +513,8 @@ fn row(
         place,
         caller,
         seq,
-        replies: Words::new(replies.to_vec(alloc)?),
-        emits: Words::new(emits.to_vec(alloc)?),
+        replies: Words::new(SmallVec::from_slice(alloc, replies)?),
+        emits: Words::new(SmallVec::from_slice(alloc, emits)?),
     })
 }
 

@@ -2,6 +2,10 @@
 use Rattle.std.proofs.Common.{ℕ, ◌≡◌, [], ◌∷◌, refl, true, false, arith}
 use Rattle.std.proofs.lemmas.List.Sorted.{IsPermutation-refl}
 use Rattle.stm_model.specs.declared.alg.Alg.{Alg}
+use Rattle.std.specs.Prelude.{None}
+use Rattle.stm_profile.specs.declared.outcome.Outcome.TheVariants as outcomes
+use Rattle.stm_profile.specs.declared.policy.Policy.TheVariants.{Fixed}
+use Rattle.stm_profile.specs.Profiles.{with_outcome}
 use Rattle.stm_script.specs.declared.op.Op.TheVariants.{Write}
 use Rattle.stm_script.specs.declared.workload.Header.{Header}
 use Rattle.tx_answers.specs.declared.answers.Begin.TheVariants.{Begun}
@@ -9,6 +13,7 @@ use Rattle.tx_answers.specs.declared.answers.Commit.TheVariants.{Committed}
 use Rattle.stm_trace.specs.declared.line.Line.TheVariants.{Of, Finish}
 use Rattle.stm_trace.specs.declared.said.Phase.TheVariants.{Between}
 use Rattle.stm_trace.specs.declared.said.Said.TheVariants.{TryBegin, Reply, TryCommit}
+use Rattle.stm_trace.specs.Adapting.{no_profile}
 use Rattle.stm_trace.specs.Fits.{first_place}
 use Rattle.stm_trace.specs.Places.{Place}
 use Rattle.stm_trace.specs.Told.{OneWriterFits, one_writer, one_writer_rows}
@@ -16,7 +21,7 @@ use Rattle.stm_trace.specs.Turns.{IsOver}
 use Rattle.std.proofs.lemmas.List.Elements.{All-nil, All-cons}
 
 abbrev done : Header → Alg → ℕ → ℕ → ℕ → Place
-done h alg a v time = record { caller = 0; left = []; failed = 0; must = false; phase = Between; alg = alg; rest = []; replies = []; emits = []; wrote = true; granted = false; rows = one_writer_rows v time }
+done h alg a v time = record { caller = 0; left = []; failed = 0; must = false; phase = Between; alg = alg; rest = []; replies = []; emits = []; wrote = true; granted = false; rows = one_writer_rows v time; policy = Fixed; profile = with_outcome no_profile outcomes.Committed; chosen = None }
 
 pub writer-fits : OneWriterFits
 writer-fits h alg a v time memory =
@@ -31,9 +36,9 @@ writer-fits h alg a v time memory =
         middle = start ∷ [];
         wound = record { first = []; second = []; parts = refl; middle = start ∷ []; played = refl; order = refl; path = refl; rises = tt };
         closed = All-cons (λ (at : Place). at.phase ≡ Between) start [] refl (All-nil (λ (at : Place). at.phase ≡ Between));
-        path = (omega arith, (refl, tt), tt, (omega arith, ((refl, refl, refl), refl), tt, (omega arith, (refl, refl, refl), refl, refl)));
+        path = (omega arith, (refl, tt, refl), tt, (omega arith, ((refl, refl, refl), refl), tt, (omega arith, (refl, refl, refl), refl, refl)));
         rises = (omega arith, (omega arith, (omega arith, tt)));
       };
-      over = All-cons IsOver (done h alg a v time) [] (refl, refl) (All-nil IsOver);
+      over = All-cons IsOver (done h alg a v time) [] (refl, refl, refl) (All-nil IsOver);
       told = IsPermutation-refl (one_writer_rows v time);
     }

@@ -1,8 +1,9 @@
 -- What stays so of a caller's place, whatever it says.
 use Rattle.std.proofs.Common.{ℕ, zero, suc, ◌≡◌, ◌≤◌, ◌+◌, Bool, true, false, List, [], ◌∷◌, ◌++◌, length, drop, refl, sym, ap, ◌∙◌, arith, subst, length-append, zero-add}
-use Rattle.std.specs.Prelude.{map, ◌==◌, if◌then◌else◌}
+use Rattle.std.specs.Prelude.{map, ◌==◌, if◌then◌else◌, Option, Some, None}
 use Rattle.std.proofs.lemmas.Bool.Decides.{nat_tests}
 use Rattle.std.proofs.lemmas.List.{map-append}
+use Rattle.stm_model.specs.declared.alg.Alg.{Alg}
 use Rattle.stm_script.specs.declared.op.Op.{Op}
 use Rattle.stm_script.specs.declared.report.Kind.{Kind}
 use Rattle.stm_script.specs.declared.report.Kind.TheVariants.{W, R, C}
@@ -21,9 +22,9 @@ use Rattle.stm_trace.specs.declared.said.Phase.{Phase}
 use Rattle.stm_trace.specs.declared.said.Phase.TheVariants.{Between, Inside, Closing, Quiet}
 use Rattle.stm_trace.specs.declared.said.Said.{Said}
 use Rattle.stm_trace.specs.declared.said.Said.TheVariants.{TryBegin, Reply, Stopped, TryCancel, TryIrrevocable, TryCommit, TryClose, Looked, Installed, Idle, Dropped, Reopened}
-use Rattle.stm_trace.specs.Places.{Place, after, ended, granted_at, is_forced, row_at, rest_of, script_at, items_of}
+use Rattle.stm_trace.specs.Places.{Place, after, ended, granted_at, is_forced, row_at, rest_of, script_at, switched, items_of}
 use Rattle.stm_trace.specs.Told.{AreOf, ItemsHaveScripts}
-use Rattle.stm_trace.specs.Turns.{MaySay, MayWind, MayFinish, BeforeTx, BeforeSwitch, SwitchesTo, IsOver}
+use Rattle.stm_trace.specs.Turns.{MaySay, MayWind, MayFinish, BeforeTx, BeforeSwitch, MustSwitch, MustSwitchTo, SwitchesTo, IsOver}
 
 scripts-by : (n c : ℕ) (script : List Op) (items : List Item) (b : Bool) → (c == n) ≡ b → scripts_of n (items_of n items) ≡ scripts_of n items
     → scripts_of n (if b then Tx c script ∷ items_of n items else items_of n items) ≡ (if b then script ∷ scripts_of n items else scripts_of n items)
@@ -57,11 +58,11 @@ own-items n (Tx c script ∷ items) = own-by n c (Tx c script) (items_of n items
 own-items n (Switch c alg ∷ items) = own-by n c (Switch c alg) (items_of n items) (c == n) refl (λ e h. (e, h)) (own-items n items)
 
 -- what an open attempt, and a closing, is for
-abbrev pub Faces : Phase → List Item → Type 0
-Faces Between left = Unit {0}
-Faces Inside left = BeforeTx left
-Faces Closing left = BeforeSwitch left
-Faces Quiet left = BeforeSwitch left
+abbrev pub Faces : Phase → Option Alg → List Item → Type 0
+Faces Between chosen left = Unit {0}
+Faces Inside chosen left = BeforeTx left
+Faces Closing chosen left = MustSwitch chosen left
+Faces Quiet chosen left = MustSwitch chosen left
 
 -- n is the caller, and items are all of the workload
 pub record Stands (items : List Item) (n : ℕ) (at : Place) : Type 0 where
@@ -71,7 +72,7 @@ pub record Stands (items : List Item) (n : ℕ) (at : Place) : Type 0 where
   pub numbered : map (λ (row : Row). row.seq) at.rows ≡ counted 0 (length at.rows)
   pub mine : AreOf n at.rows
   pub owned : OwnItems n at.left
-  pub faces : Faces at.phase at.left
+  pub faces : Faces at.phase at.chosen at.left
 
 drop-next : {A : Type 0} (k : ℕ) (x : A) (xs ys : List A) → x ∷ ys ≡ drop k xs → (ys ≡ drop (suc k) xs) × (suc k ≤ length xs)
 drop-next zero x [] ys h = absurd cc
@@ -109,7 +110,7 @@ own-rest n (Switch c alg ∷ items) h = h.1
 
 module _ (items : List Item) (n : ℕ) (at : Place) (s : Stands items n at) where
   -- nothing is done, and the phase is one that fits what is left
-  moved : (to : Place) → to.caller ≡ at.caller → to.left ≡ at.left → to.rows ≡ at.rows → Faces to.phase at.left → Stands items n to
+  moved : (to : Place) → to.caller ≡ at.caller → to.left ≡ at.left → to.rows ≡ at.rows → Faces to.phase to.chosen at.left → Stands items n to
   moved to caller left rows faces = record {
     caller = caller ∙ s.caller;
     todo = ap (scripts_of n) left ∙ (s.todo ∙ ap (λ (r : List Row). drop (length r) (scripts_of n items)) (sym rows));
@@ -117,12 +118,12 @@ module _ (items : List Item) (n : ℕ) (at : Place) (s : Stands items n at) wher
     numbered = subst (λ (r : List Row). map (λ (row : Row). row.seq) r ≡ counted 0 (length r)) (sym rows) s.numbered;
     mine = subst (AreOf n) (sym rows) s.mine;
     owned = subst (OwnItems n) (sym left) s.owned;
-    faces = subst (Faces to.phase) (sym left) faces;
+    faces = subst (Faces to.phase to.chosen) (sym left) faces;
   }
 
-  -- the switch is done
-  switched : BeforeSwitch at.left → Stands items n (record at { phase = Between; left = rest_of at.left })
-  switched b = record {
+  -- the switch is done: that of the text is one item less, and that of the policy none
+  stands-switched : (chosen : Option Alg) → MustSwitch chosen at.left → Stands items n (switched chosen at)
+  stands-switched None b = record {
     caller = s.caller;
     todo = switch-scripts n at.left b ∙ s.todo;
     within = s.within;
@@ -131,6 +132,7 @@ module _ (items : List Item) (n : ℕ) (at : Place) (s : Stands items n at) wher
     owned = own-rest n at.left s.owned;
     faces = tt;
   }
+  stands-switched (Some alg) b = moved (switched (Some alg) at) refl refl refl tt
 
   -- the transaction has its row
   rowed : (kind : Kind) (time : ℕ) → BeforeTx at.left → Stands items n (ended kind time at)
@@ -148,8 +150,8 @@ module _ (items : List Item) (n : ℕ) (at : Place) (s : Stands items n at) wher
         faces = tt;
       }
 
-  facing : (p : Phase) → at.phase ≡ p → Faces p at.left
-  facing p e = subst (λ q. Faces q at.left) e s.faces
+  facing : (p : Phase) → at.phase ≡ p → Faces p at.chosen at.left
+  facing p e = subst (λ q. Faces q at.chosen at.left) e s.faces
 
 -- a cancelled transaction's row has one reply more
 rowed-cancel : (items : List Item) (n : ℕ) (at : Place) (time : ℕ) → Stands items n at → BeforeTx at.left → Stands items n (ended C time (record at { replies = at.replies ++ 1 ∷ [] }))
@@ -185,7 +187,7 @@ stands-said items n at (TryClose Closed) m s = moved items n at s (after at (Try
 stands-said items n at (TryClose (Taken gate)) m s = s
 stands-said items n at (Looked Quiet) m s = moved items n at s (after at (Looked Quiet)) refl refl refl (facing items n at s Closing m)
 stands-said items n at (Looked (Busy caller status)) m s = s
-stands-said items n at (Installed alg) m s = switched items n at s (facing items n at s Quiet m.0)
+stands-said items n at (Installed alg) m s = stands-switched items n at s at.chosen (facing items n at s Quiet m.0)
 stands-said items n at Idle m s = s
 stands-said items n at Dropped m s = absurd m
 stands-said items n at Reopened m s = absurd m

@@ -1,12 +1,14 @@
 -- WHAT A TRACE IS: which lines are the trace of a workload, and which rows they tell.
 use Rattle.std.specs.Prelude.{ℕ, ◌≡◌, ◌<◌, ◌≤◌, ◌⊎◌, false, Some, None, List, [], ◌∷◌, ◌++◌, length, map, replicate, All, slice_index_or, slice_set, IsPermutation}
 use Rattle.stm_model.specs.declared.alg.Alg.TheVariants.{Cgl}
+use Rattle.stm_profile.specs.declared.policy.Policy.TheVariants.{Fixed}
 use Rattle.stm_script.specs.declared.report.Report.{Report}
 use Rattle.stm_script.specs.declared.report.Row.{Row}
 use Rattle.stm_script.specs.declared.workload.Go.{Go}
 use Rattle.stm_script.specs.declared.workload.Header.{Header}
 use Rattle.stm_script.specs.declared.workload.Workload.{Workload}
 use Rattle.stm_script.specs.Reports.{counted}
+use Rattle.stm_trace.specs.Adapting.{no_profile}
 use Rattle.stm_trace.specs.declared.line.Line.{Line}
 use Rattle.stm_trace.specs.declared.line.Line.TheVariants.{Of, Finish}
 use Rattle.stm_trace.specs.declared.said.Phase.TheVariants.{Between}
@@ -14,15 +16,15 @@ use Rattle.stm_trace.specs.declared.said.Said.{Said}
 use Rattle.stm_trace.specs.Places.{Place, after, clock_of, items_of}
 use Rattle.stm_trace.specs.Turns.{MaySay, MayWind, MayFinish, IsFair, IsOver}
 
--- where a caller stands at first
+-- where a caller stands at first: it switches where the text says so alone
 abbrev pub first_place : Workload → ℕ → Place
-first_place w n = record { caller = n; left = items_of n w.items; failed = 0; must = false; phase = Between; alg = w.header.alg; rest = []; replies = []; emits = []; wrote = false; granted = false; rows = [] }
+first_place w n = record { caller = n; left = items_of n w.items; failed = 0; must = false; phase = Between; alg = w.header.alg; rest = []; replies = []; emits = []; wrote = false; granted = false; rows = []; policy = Fixed; profile = no_profile; chosen = None }
 
 abbrev pub first_places : Workload → List Place
 first_places w = map (first_place w) (counted 0 w.header.callers)
 
 abbrev pub no_place : Place
-no_place = record { caller = 0; left = []; failed = 0; must = false; phase = Between; alg = Cgl; rest = []; replies = []; emits = []; wrote = false; granted = false; rows = [] }
+no_place = record { caller = 0; left = []; failed = 0; must = false; phase = Between; alg = Cgl; rest = []; replies = []; emits = []; wrote = false; granted = false; rows = []; policy = Fixed; profile = no_profile; chosen = None }
 
 abbrev pub place_of : List Place → ℕ → Place
 place_of places n = slice_index_or places n no_place

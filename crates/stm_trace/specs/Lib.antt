@@ -1,3 +1,5 @@
+pub mod Adapting
+pub mod AskingLaws
 pub mod Places
 pub mod Turns
 pub mod Fits

@@ -2,6 +2,10 @@
 use Rattle.std.specs.Prelude.{ℕ, ◌+◌, ◌==◌, leb, Bool, true, false, ◌||◌, ◌&&◌, not, List, [], ◌∷◌, ◌++◌, length, Option, Some, None, if◌then◌else◌}
 use Rattle.stm_model.specs.Algorithms.{is_sure}
 use Rattle.stm_model.specs.declared.alg.Alg.{Alg}
+use Rattle.stm_profile.specs.declared.outcome.Outcome.{Outcome}
+use Rattle.stm_profile.specs.declared.outcome.Outcome.TheVariants as outcomes
+use Rattle.stm_profile.specs.declared.policy.Policy.{Policy}
+use Rattle.stm_profile.specs.Profiles.{Noted, with_outcome}
 use Rattle.stm_model.specs.declared.stop.Stop.{Stop}
 use Rattle.stm_model.specs.declared.stop.Stop.TheVariants.{Conflict, Full, ClockFull}
 use Rattle.stm_script.specs.declared.op.Op.{Op}
@@ -18,12 +22,13 @@ use Rattle.tx_answers.specs.declared.answers.CloseGate.TheVariants.{Closed, Take
 use Rattle.tx_answers.specs.declared.answers.Commit.TheVariants.{Committed, ReadOnly, Conflict, Again, ClockFull}
 use Rattle.tx_answers.specs.declared.answers.Irrev.TheVariants as irrevs
 use Rattle.tx_answers.specs.declared.answers.Look.TheVariants.{Quiet, Busy}
+use Rattle.stm_trace.specs.Adapting.{asked_by, no_profile, outcome_of}
 use Rattle.stm_trace.specs.declared.said.Phase.{Phase}
 use Rattle.stm_trace.specs.declared.said.Phase.TheVariants.{Between, Inside, Closing, Quiet}
 use Rattle.stm_trace.specs.declared.said.Said.{Said}
 use Rattle.stm_trace.specs.declared.said.Said.TheVariants.{TryBegin, Reply, Stopped, TryCancel, TryIrrevocable, TryCommit, TryClose, Looked, Installed, Idle, Dropped, Reopened}
 
--- what the caller has still to do; of its next transaction how many attempts were in somebody's way, and whether it must become irrevocable; of its last attempt the algorithm, and of an open one the operations still to come, the replies and emits so far, whether it wrote, and whether it was granted to be irrevocable; and its rows
+-- what the caller has still to do; of its next transaction how many attempts were in somebody's way, and whether it must become irrevocable; of its last attempt the algorithm, and of an open one the operations still to come, the replies and emits so far, whether it wrote, and whether it was granted to be irrevocable; its rows; and its policy, what its attempts came to since it last switched by it, and the switch that it asks for, which comes before the next item
 pub record Place : Type 0 where
   pub caller : ℕ
   pub left : List Item
@@ -37,6 +42,9 @@ pub record Place : Type 0 where
   pub wrote : Bool
   pub granted : Bool
   pub rows : List Row
+  pub policy : Policy
+  pub profile : Noted
+  pub chosen : Option Alg
 
 -- the operations of the first item
 abbrev pub script_at : List Item → List Op
@@ -117,20 +125,20 @@ replied op reply at = record at { rest = rest_of at.rest; replies = at.replies +
 abbrev pub given_up : Place → Place
 given_up at = record at { phase = Between; replies = []; emits = [] }
 
--- another caller was in its way: so it is counted, until the next one must become irrevocable
+-- another caller was in its way: so it is counted, until the next one must become irrevocable; and what it came to is noted
 abbrev pub failed_next : Bool → ℕ → ℕ
 failed_next must failed = if must then failed else failed + 1
 
 abbrev pub must_next : Bool → ℕ → Bool
 must_next must failed = must || leb most_failed (failed + 1)
 
-abbrev pub in_the_way : Place → Place
-in_the_way at = record (given_up at) { failed = failed_next at.must at.failed; must = must_next at.must at.failed }
+abbrev pub in_the_way : Outcome → Place → Place
+in_the_way outcome at = record (given_up at) { failed = failed_next at.must at.failed; must = must_next at.must at.failed; profile = with_outcome at.profile outcome }
 
 -- by why it was stopped: a log that is too short will be so again
 abbrev pub stopped : Stop → Place → Place
-stopped (Conflict cause) at = in_the_way at
-stopped (Full limit) at = record (given_up at) { must = true }
+stopped (Conflict cause) at = in_the_way outcomes.Conflict at
+stopped (Full limit) at = record (given_up at) { must = true; profile = with_outcome at.profile outcomes.Full }
 stopped (ClockFull clock) at = given_up at
 
 -- granted: where `irrev` asked for it that operation is done
@@ -142,8 +150,20 @@ granted_at false at = record (replied Irrev 1 at) { granted = true }
 abbrev pub row_at : Kind → ℕ → Place → Row
 row_at kind time at = record { kind = kind; place = time; caller = at.caller; seq = length at.rows; replies = at.replies; emits = at.emits }
 
+-- its last attempt is noted, and its policy asked
+abbrev pub adapted : Outcome → Place → Place
+adapted outcome at = record at { profile = with_outcome at.profile outcome; chosen = asked_by at.policy (with_outcome at.profile outcome) at.alg }
+
+abbrev pub recorded : Kind → ℕ → Place → Place
+recorded kind time at = record at { left = rest_of at.left; failed = 0; must = false; phase = Between; replies = []; emits = []; rows = at.rows ++ row_at kind time at ∷ [] }
+
 abbrev pub ended : Kind → ℕ → Place → Place
-ended kind time at = record at { left = rest_of at.left; failed = 0; must = false; phase = Between; replies = []; emits = []; rows = at.rows ++ row_at kind time at ∷ [] }
+ended kind time at = adapted (outcome_of kind) (recorded kind time at)
+
+-- the switch is done: one that the policy asked for clears the profile
+abbrev pub switched : Option Alg → Place → Place
+switched None at = record at { phase = Between; left = rest_of at.left }
+switched (Some alg) at = record at { phase = Between; profile = no_profile; chosen = None }
 
 -- where the caller stands after this was said
 abbrev pub after : Place → Said → Place
@@ -157,21 +177,21 @@ after at (TryCancel (Cancelled time)) = ended C time (record at { replies = at.r
 after at (TryCancel Irrevocable) = replied Cancel 0 at
 after at (TryIrrevocable irrevs.Granted) = granted_at (is_forced at) at
 after at (TryIrrevocable (irrevs.Busy caller status)) = at
-after at (TryIrrevocable (irrevs.Taken gate)) = in_the_way at
-after at (TryIrrevocable (irrevs.Conflict cause)) = in_the_way at
+after at (TryIrrevocable (irrevs.Taken gate)) = in_the_way outcomes.Cancelled at
+after at (TryIrrevocable (irrevs.Conflict cause)) = in_the_way outcomes.Conflict at
 after at (TryIrrevocable (irrevs.ClockFull clock)) = given_up at
 after at (TryCommit (Committed time)) = ended W time at
 after at (TryCommit (ReadOnly time)) = ended R time at
-after at (TryCommit (Conflict cause)) = in_the_way at
+after at (TryCommit (Conflict cause)) = in_the_way outcomes.Conflict at
 after at (TryCommit (Again word had now)) = at
 after at (TryCommit (ClockFull clock)) = given_up at
 after at (TryClose Closed) = record at { phase = Closing }
 after at (TryClose (Taken gate)) = at
 after at (Looked Quiet) = record at { phase = Quiet }
 after at (Looked (Busy caller status)) = at
-after at (Installed alg) = record at { phase = Between; left = rest_of at.left }
+after at (Installed alg) = switched at.chosen at
 after at Idle = at
-after at Dropped = given_up at
+after at Dropped = record (given_up at) { profile = with_outcome at.profile outcomes.Cancelled }
 after at Reopened = record at { phase = Between }
 
 -- the clock that was found at its limit

@@ -1,5 +1,5 @@
 -- THE TABLE OF TURNS: what may be said where a caller stands, and with which numbers.
-use Rattle.std.specs.Prelude.{ℕ, ◌≡◌, ◌≢◌, ◌<◌, ◌≤◌, ◌+◌, ◌⊎◌, ◌||◌, Bool, true, false, List, [], ◌∷◌}
+use Rattle.std.specs.Prelude.{ℕ, ◌≡◌, ◌≢◌, ◌<◌, ◌≤◌, ◌+◌, ◌⊎◌, ◌||◌, Bool, true, false, List, [], ◌∷◌, Option, Some, None}
 use Rattle.rule_base.specs.Encodings.{holder_of, is_owned, owner_of, version_of}
 use Rattle.stm_model.specs.Algorithms.{has_records, has_read_log, logs_writes, closes_gate, asks_at_write, asks_at_commit, asks_at_grant}
 use Rattle.stm_model.specs.declared.config.Config.{Config}
@@ -45,6 +45,16 @@ SwitchesTo alg [] = ⊥
 SwitchesTo alg (Tx caller script ∷ items) = ⊥
 SwitchesTo alg (Switch caller to ∷ items) = to ≡ alg
 
+-- the caller's policy asks for a switch, or one comes next
+abbrev pub MustSwitch : Option Alg → List Item → Type 0
+MustSwitch None left = BeforeSwitch left
+MustSwitch (Some chosen) left = Unit {0}
+
+-- to this algorithm
+abbrev pub MustSwitchTo : Alg → Option Alg → List Item → Type 0
+MustSwitchTo alg None left = SwitchesTo alg left
+MustSwitchTo alg (Some chosen) left = chosen ≡ alg
+
 -- this operation comes next
 abbrev pub Next : Op → List Op → Type 0
 Next op [] = ⊥
@@ -52,7 +62,7 @@ Next op (o ∷ ops) = o ≡ op
 
 -- nothing is left to the caller
 abbrev pub IsOver : Place → Type 0
-IsOver at = (at.phase ≡ Between) × (at.left ≡ [])
+IsOver at = (at.phase ≡ Between) × (at.left ≡ []) × (at.chosen ≡ None)
 
 -- the operation asks for something of the attempt, and not of the memory
 abbrev pub is_call : Op → Bool
@@ -64,15 +74,15 @@ Comes op at = (at.phase ≡ Inside) × (is_forced at ≡ false) × Next op at.re
 
 -- where it may be said, while the schedule goes on
 abbrev pub MaySay : Place → Said → Type 0
-MaySay at (TryBegin b) = (at.phase ≡ Between) × BeforeTx at.left
+MaySay at (TryBegin b) = (at.phase ≡ Between) × BeforeTx at.left × (at.chosen ≡ None)
 MaySay at (Reply op reply) = Comes op at × (is_call op ≡ false)
 MaySay at (Stopped op stop) = Comes op at × (is_call op ≡ false)
 MaySay at (TryCancel c) = Comes Cancel at
 MaySay at (TryIrrevocable r) = ((at.phase ≡ Inside) × (is_forced at ≡ true)) ⊎ Comes Irrev at
 MaySay at (TryCommit c) = (at.phase ≡ Inside) × (is_forced at ≡ false) × (at.rest ≡ [])
-MaySay at (TryClose c) = (at.phase ≡ Between) × BeforeSwitch at.left
+MaySay at (TryClose c) = (at.phase ≡ Between) × MustSwitch at.chosen at.left
 MaySay at (Looked l) = at.phase ≡ Closing
-MaySay at (Installed alg) = (at.phase ≡ Quiet) × SwitchesTo alg at.left
+MaySay at (Installed alg) = (at.phase ≡ Quiet) × MustSwitchTo alg at.chosen at.left
 MaySay at Idle = IsOver at
 MaySay at Dropped = ⊥
 MaySay at Reopened = ⊥

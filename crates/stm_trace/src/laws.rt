@@ -1,4 +1,5 @@
 //! Laws of traces, each as the contract of a function.
+ghost use Rattle.stm_trace.specs.Adapting.{AsksByPolicy};
 ghost use Rattle.stm_trace.specs.Told.{ItemsHaveScripts, OneWriterFits, TellsEachOnce};
 
 /// Each caller's own items have the scripts that it has among all.
@@ -17,6 +18,11 @@ pub fn one_writer_fits()
     ensures { OneWriterFits }
 {}
 
+/// A policy asks for a switch exactly where it chooses another algorithm than the one that runs: to that one.
+pub fn asks_by_policy()
+    ensures { AsksByPolicy }
+{}
+
 #[cfg(test)]
 mod tests {
     use super::*;
@@ -26,5 +32,6 @@ mod tests {
         items_have_scripts();
         tells_each_once();
         one_writer_fits();
+        asks_by_policy();
     }
 }

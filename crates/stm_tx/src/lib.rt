@@ -22,7 +22,7 @@ mod tests;
 
 pub use stm_gate::gate;
 pub use stm_model::access::Access;
-pub use stm_model::alg::Alg;
+pub use stm_model::alg::{ALGORITHMS, Alg};
 pub use stm_model::config::Config;
 pub use stm_model::memory::Memory;
 pub use stm_model::rule::{AnyMem, MemRule};

@@ -1,12 +1,15 @@
 -- Words ask for one command at most.
-use Rattle.std.proofs.Common.{ℕ, ◌≡◌, ◌<◌, ◌≤◌, ◌^◌, List, [], Option, Some, None, get_or, refl, sym, ap, ◌∙◌, subst, arith, lit<}
+use Rattle.std.proofs.Common.{ℕ, ◌≡◌, ◌<◌, ◌≤◌, ◌^◌, List, [], Option, Some, None, get_or, drop, refl, sym, ap, ◌∙◌, subst, arith, lit<}
 use Rattle.std.specs.Prelude.{codes}
 use Rattle.std.specs.Fmt.{decimal}
 use Rattle.std.proofs.lemmas.Fmt.{decimal_injective}
 use Rattle.clap.specs.Words.{Row, Text, first_of}
+use Rattle.stm_profile.specs.declared.policy.Policy.{Policy}
+use Rattle.stm_profile.specs.declared.policy.Policy.TheVariants.{Fixed, Round, Expert, State}
+use Rattle.stm_profile.specs.PolicyWords.{HasWord, policy_word}
 use Rattle.stm_words.specs.declared.command.Command.{Command}
 use Rattle.stm_words.specs.declared.command.Command.TheVariants.{Run, Step, Gen}
-use Rattle.stm_words.specs.Asking.{AsksBy, AskOnce, IsGen, subcommand_name}
+use Rattle.stm_words.specs.Asking.{AsksBy, AskOnce, IsGen, NamesPolicy, subcommand_name}
 
 abbrev text_in : Option Text → Text
 text_in None = []
@@ -40,14 +43,39 @@ first word = get_or word 0 0
 apart : (m n : ℕ) → m < n → m ≡ n → ⊥
 apart m n lt e = omega arith
 
+same-digits : (most : ℕ) (m n : ℕ) → m ≤ most → n ≤ most → most < 2 ^ 64 → decimal m ≡ decimal n → m ≡ n
+same-digits most m n low other fits e = decimal_injective m n (omega arith) (omega arith) e
+
+same-policy : (p q : Policy) → HasWord p → HasWord q → policy_word p ≡ policy_word q → p ≡ q
+same-policy Fixed Fixed x y e = refl
+same-policy Fixed (Round n) x y e = absurd (apart 102 114 (lit< tt) (ap first e))
+same-policy Fixed Expert x y e = absurd (apart 101 102 (lit< tt) (sym (ap first e)))
+same-policy Fixed (State n) x y e = absurd (apart 102 115 (lit< tt) (ap first e))
+same-policy (Round m) Fixed x y e = absurd (apart 102 114 (lit< tt) (sym (ap first e)))
+same-policy (Round m) (Round n) x y e = ap Round (same-digits 65536 m n x.1 y.1 (lit< tt) (ap (drop 6) e))
+same-policy (Round m) Expert x y e = absurd (apart 101 114 (lit< tt) (sym (ap first e)))
+same-policy (Round m) (State n) x y e = absurd (apart 114 115 (lit< tt) (ap first e))
+same-policy Expert Fixed x y e = absurd (apart 101 102 (lit< tt) (ap first e))
+same-policy Expert (Round n) x y e = absurd (apart 101 114 (lit< tt) (ap first e))
+same-policy Expert Expert x y e = refl
+same-policy Expert (State n) x y e = absurd (apart 101 115 (lit< tt) (ap first e))
+same-policy (State m) Fixed x y e = absurd (apart 102 115 (lit< tt) (sym (ap first e)))
+same-policy (State m) (Round n) x y e = absurd (apart 114 115 (lit< tt) (sym (ap first e)))
+same-policy (State m) Expert x y e = absurd (apart 101 115 (lit< tt) (sym (ap first e)))
+same-policy (State m) (State n) x y e = ap State (same-digits 16 m n x.1 y.1 (lit< tt) (ap (drop 6) e))
+
+same-named : (found : Option Text) (p q : Policy) → NamesPolicy found p → NamesPolicy found q → p ≡ q
+same-named None p q x y = x ∙ sym y
+same-named (Some word) p q x y = same-policy p q x.0 y.0 (sym x.1 ∙ y.1)
+
 same-command : (rows : List Row) (a b : Command) → subcommand_name a ≡ subcommand_name b → AsksBy rows a → AsksBy rows b → a ≡ b
-same-command rows Run Run e x y = refl
-same-command rows Run Step e x y = absurd (apart 114 115 (lit< tt) (ap first e))
-same-command rows Run (Gen n t v) e x y = absurd (apart 103 114 (lit< tt) (sym (ap first e)))
-same-command rows Step Run e x y = absurd (apart 114 115 (lit< tt) (sym (ap first e)))
+same-command rows (Run p) (Run q) e x y = ap Run (same-named (first_of (codes "policy") rows) p q x y)
+same-command rows (Run p) Step e x y = absurd (apart 114 115 (lit< tt) (ap first e))
+same-command rows (Run p) (Gen n t v) e x y = absurd (apart 103 114 (lit< tt) (sym (ap first e)))
+same-command rows Step (Run q) e x y = absurd (apart 114 115 (lit< tt) (sym (ap first e)))
 same-command rows Step Step e x y = refl
 same-command rows Step (Gen n t v) e x y = absurd (apart 103 115 (lit< tt) (sym (ap first e)))
-same-command rows (Gen m s u) Run e x y = absurd (apart 103 114 (lit< tt) (ap first e))
+same-command rows (Gen m s u) (Run q) e x y = absurd (apart 103 114 (lit< tt) (ap first e))
 same-command rows (Gen m s u) Step e x y = absurd (apart 103 115 (lit< tt) (ap first e))
 same-command rows (Gen m s u) (Gen n t v) e x y = same-gen rows m n s t u v x y
 

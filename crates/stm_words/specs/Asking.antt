@@ -1,14 +1,21 @@
 -- What the words of a command line ask for.
-use Rattle.std.specs.Prelude.{ℕ, ◌≡◌, ◌<◌, ◌^◌, List, Option, Some, codes, map}
+use Rattle.std.specs.Prelude.{ℕ, ◌≡◌, ◌<◌, ◌^◌, List, Option, Some, None, codes, map}
 use Rattle.std.specs.Borrow.{Bor}
 use Rattle.std.specs.Fmt.{decimal}
 use Rattle.clap.specs.Words.{Row, Text, first_of, subcommand_of}
 use Rattle.stm_model.specs.declared.config.TheConstants.{MAX_CALLERS}
-use Rattle.stm_profile.specs.PolicyWords.{IsUpTo}
+use Rattle.stm_profile.specs.declared.policy.Policy.{Policy}
+use Rattle.stm_profile.specs.declared.policy.Policy.TheVariants.{Fixed}
+use Rattle.stm_profile.specs.PolicyWords.{IsUpTo, IsWordOf}
 use Rattle.stm_words.specs.declared.command.Command.{Command}
 use Rattle.stm_words.specs.declared.command.Command.TheVariants.{Run, Step, Gen}
 use Rattle.stm_words.specs.declared.command.TheConstants.{MOST_TRANSACTIONS}
 use Rattle.stm_words.specs.Grammar.{bench_app, AreTaken}
+
+-- the policy that is named; fixed where none is
+abbrev pub NamesPolicy : Option Text → Policy → Type 0
+NamesPolicy None policy = policy ≡ Fixed
+NamesPolicy (Some word) policy = IsWordOf word policy
 
 -- the entries of `gen` name these numbers
 abbrev pub IsGen : List Row → ℕ → ℕ → ℕ → Type 0
@@ -19,12 +26,12 @@ IsGen rows n t seed =
 
 -- the entries of a subcommand ask for this
 abbrev pub AsksBy : List Row → Command → Type 0
-AsksBy rows Run = Unit {0}
+AsksBy rows (Run policy) = NamesPolicy (first_of (codes "policy") rows) policy
 AsksBy rows Step = Unit {0}
 AsksBy rows (Gen n t seed) = IsGen rows n t seed
 
 abbrev pub subcommand_name : Command → Text
-subcommand_name Run = codes "run"
+subcommand_name (Run policy) = codes "run"
 subcommand_name Step = codes "step"
 subcommand_name (Gen n t seed) = codes "gen"
 

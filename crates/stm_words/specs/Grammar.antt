@@ -1,17 +1,21 @@
--- THE COMMAND LINE'S GRAMMAR: `stm_bench run`, `stm_bench step`, `stm_bench gen N T SEED`.
-use Rattle.std.specs.Prelude.{◌≡◌, true, false, List, [], codes}
+-- THE COMMAND LINE'S GRAMMAR: `stm_bench run [--policy P]`, `stm_bench step`, `stm_bench gen N T SEED`.
+use Rattle.std.specs.Prelude.{◌≡◌, true, false, Some, List, [], codes}
 use Rattle.clap.specs.Words.{App, Rule, Text, Shape, new_app, new_rule, with_rule, with_subcommand}
 use Rattle.clap.specs.Simple.{shape_of, on_top}
 use Rattle.clap.specs.Faults.{fault_of}
 use Rattle.clap.specs.declared.builder.command.Command.{Command}
 use Rattle.clap.specs.declared.builder.command.Command.TheViews.{out-Command}
 
+-- `--policy P`
+abbrev pub policy_option : Rule
+policy_option = record (new_rule (codes "policy")) { long = Some (codes "policy") }
+
 -- a word that has to be there
 abbrev pub needed : Text → Rule
 needed id = record (new_rule id) { required = true }
 
 abbrev pub run_shape : Shape
-run_shape = (new_app (codes "run")).top
+run_shape = (with_rule (new_app (codes "run")) policy_option).top
 
 abbrev pub step_shape : Shape
 step_shape = (new_app (codes "step")).top

@@ -1,13 +1,17 @@
 //! What a command line asks for.
 
+use stm_profile::policy::Policy;
+
 /// The most transactions that `gen` makes.
 pub const MOST_TRANSACTIONS: u32 = 50_000;
 
 /// What the words of a command line ask for.
 #[derive(Clone, Copy, Drop, Debug, PartialEq, Eq)]
 pub enum Command {
-    /// `run`: the workload that is read, on a thread a caller.
-    Run,
+    /// `run`: the workload that is read, on a thread a caller, under the policy of caller 0.
+    Run {
+        policy: Policy,
+    },
     /// `step`: the workload that is read, in the turns of its schedule.
     Step,
     /// `gen`: a workload that is made, of 1 to [`MOST_TRANSACTIONS`] transactions of 1 to

@@ -6,21 +6,22 @@ ghost use Rattle.stm_words.specs.Grammar.{bench_app, run_shape, step_shape, gen_
 use clap::{Arg, Command};
 use std::alloc::{AllocError, Global};
 
-/// `stm_bench run`, `stm_bench step` and `stm_bench gen N T SEED`. Each value is a text to clap.
+/// `stm_bench run [--policy P]`, `stm_bench step` and `stm_bench gen N T SEED`. Each value is a text to clap.
 pub fn bench_command<'a>(alloc: Global) -> Result<Command<'a>, AllocError>
     ensures { IfOk result (λ c. app_of c ≡ bench_app) }
 {
     Command::new(alloc, "stm_bench")
         .subcommand_required(true)
-        .subcommand(run_command(alloc))?
+        .subcommand(run_command(alloc)?)?
         .subcommand(step_command(alloc))?
         .subcommand(gen_command(alloc)?)
 }
 
-fn run_command<'a>(alloc: Global) -> Command<'a>
-    ensures { IsLeafCommand run_shape result }
+fn run_command<'a>(alloc: Global) -> Result<Command<'a>, AllocError>
+    ensures { IfOk result (IsLeafCommand run_shape) }
 {
-    Command::new(alloc, "run")
+    let policy = Arg::new(alloc, "policy").long("policy");
+    Command::new(alloc, "run").arg(policy)
 }
 
 fn step_command<'a>(alloc: Global) -> Command<'a>

@@ -2,9 +2,10 @@
 ghost use Rattle.std.specs.Prelude.{◌≡◌, ◌≢◌, ℕ, IfOk, MatchOption, Some, codes, map, option_map};
 ghost use Rattle.std.specs.Fmt.{decimal};
 ghost use Rattle.clap.specs.Words.{first_of, found_of, rows_of, subcommand_rows_of};
+ghost use Rattle.stm_profile.specs.declared.policy.Policy.{Policy};
 ghost use Rattle.stm_profile.specs.PolicyWords.{IsUpTo};
 ghost use Rattle.stm_words.specs.declared.command.Command.{Command};
-ghost use Rattle.stm_words.specs.Asking.{Asks, AsksIn, IsGen, texts_of};
+ghost use Rattle.stm_words.specs.Asking.{Asks, AsksIn, IsGen, NamesPolicy, texts_of};
 
 use crate::command::{Command, MOST_TRANSACTIONS};
 use crate::grammar::bench_command;
@@ -14,6 +15,7 @@ use std::alloc::Global;
 use stm_model::config::MAX_CALLERS;
 use stm_model::memory::Memory;
 use stm_profile::numbers::{number, number_up_to};
+use stm_profile::policy::Policy;
 
 /// What the words ask for, the first of them the program's name; `None` where they aren't in the grammar, also
 /// where they call for help. Memory may be refused.
@@ -34,7 +36,9 @@ fn command_of(matches: &ArgMatches<'_>) -> Option<Command>
     ensures { MatchOption result ((command : Command) → AsksIn (subcommand_rows_of matches.now) command → ⊥) (AsksIn (subcommand_rows_of matches.now)) }
 {
     match matches.subcommand() {
-        Some(("run", _)) => Some(Command::Run),
+        Some(("run", found)) => Some(Command::Run {
+            policy: policy_of(found)?,
+        }),
         Some(("step", _)) => Some(Command::Step),
         Some(("gen", found)) => {
             let (transactions, callers, seed) = gen_of(found)?;
@@ -45,6 +49,19 @@ fn command_of(matches: &ArgMatches<'_>) -> Option<Command>
             })
         }
         _ => None,
+    }
+}
+
+/// The policy of `run`.
+fn policy_of(found: &ArgMatches<'_>) -> Option<Policy>
+    ensures { MatchOption result ((policy : Policy) → NamesPolicy (first_of (codes "policy") (rows_of (found_of found.now))) policy → ⊥) (NamesPolicy (first_of (codes "policy") (rows_of (found_of found.now)))) }
+{
+    match text_of(found, "policy") {
+        None => Some(Policy::Fixed),
+        Some(word) => match word.parse() {
+            Ok(policy) => Some(policy),
+            Err(_) => None,
+        },
     }
 }
 

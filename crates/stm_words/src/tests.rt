@@ -2,11 +2,41 @@
 use crate::command::Command;
 use crate::reading::read_words;
 use std::test::Fail;
+use stm_profile::policy::Policy;
 
 #[test]
 fn commands_are_read(rt: HostRuntime) -> Result<(), Fail> {
     let lines = [
-        (["run"].as_slice(), Command::Run),
+        (
+            ["run"].as_slice(),
+            Command::Run {
+                policy: Policy::Fixed,
+            },
+        ),
+        (
+            ["run", "--policy", "fixed"].as_slice(),
+            Command::Run {
+                policy: Policy::Fixed,
+            },
+        ),
+        (
+            ["run", "--policy", "round:1"].as_slice(),
+            Command::Run {
+                policy: Policy::Round(1),
+            },
+        ),
+        (
+            ["run", "--policy=expert"].as_slice(),
+            Command::Run {
+                policy: Policy::Expert,
+            },
+        ),
+        (
+            ["run", "--policy", "state:16"].as_slice(),
+            Command::Run {
+                policy: Policy::State(16),
+            },
+        ),
         (["step"].as_slice(), Command::Step),
         (
             ["gen", "8", "2", "1"].as_slice(),
@@ -56,8 +86,14 @@ fn other_lines_are_refused(rt: HostRuntime) -> Result<(), Fail> {
         "run x",
         "run --help",
         "run --policy",
-        "run --policy fixed",
-        "run --policy=round:1",
+        "run --policy round:0",
+        "run --policy round:65537",
+        "run --policy state:0",
+        "run --policy state:17",
+        "run --policy state:03",
+        "run --policy expert:1",
+        "run --policy fixed --policy fixed",
+        "run --policies fixed",
         "step --policy fixed",
         "step x",
         "gen",

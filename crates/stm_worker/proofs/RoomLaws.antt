@@ -1,10 +1,14 @@
 -- The room for the replies to come.
 use Rattle.std.proofs.Common.{ℕ, false, ◌≡◌, ◌<◌, ◌+◌, List, [], ◌∷◌, ◌++◌, length, refl, sym, ap, ◌∙◌, arith, subst, length-append}
+use Rattle.std.specs.Prelude.{None}
+use Rattle.stm_profile.specs.declared.policy.Policy.{Policy}
+use Rattle.stm_profile.specs.Profiles.{Noted}
 use Rattle.stm_script.specs.declared.workload.Item.{Item}
 use Rattle.stm_script.specs.declared.workload.Item.TheVariants.{Tx, Switch}
 use Rattle.stm_script.specs.Outputs.{Output}
 use Rattle.stm_model.specs.declared.alg.Alg.{Alg}
 use Rattle.stm_script.specs.declared.report.Row.{Row}
+use Rattle.stm_trace.specs.Adapting.{no_profile}
 use Rattle.stm_trace.specs.declared.said.Phase.TheVariants.{Between}
 use Rattle.stm_trace.specs.Places.{Place, script_at, rest_of}
 use Rattle.stm_trace.specs.Turns.{BeforeTx}
@@ -60,11 +64,11 @@ room-ended left spare less out fresh b h was =
 pub one-less : {A : Type 0} (xs ys : List A) (x : A) → xs ≡ ys ++ x ∷ [] → length xs ≡ length ys + 1
 one-less xs ys x e = ap length e ∙ length-append ys (x ∷ [])
 
-abbrev first_at : ℕ → List Item → Alg → Place
-first_at n items alg = record { caller = n; left = items; failed = 0; must = false; phase = Between; alg = alg; rest = []; replies = []; emits = []; wrote = false; granted = false; rows = [] }
+abbrev first_at : ℕ → List Item → Alg → Policy → Place
+first_at n items alg policy = record { caller = n; left = items; failed = 0; must = false; phase = Between; alg = alg; rest = []; replies = []; emits = []; wrote = false; granted = false; rows = []; policy = policy; profile = no_profile; chosen = None }
 
 -- a worker's place at first, where what is in use is empty
-pub start-at : (n : ℕ) (items : List Item) (alg : Alg) (o : Output) (rows : List Row) → o ≡ cleared o → rows ≡ []
-    → record { caller = n; left = items; failed = 0; must = false; phase = Between; alg = alg; rest = []; replies = o.replies; emits = o.emits; wrote = false; granted = false; rows = rows } ≡ first_at n items alg
-start-at n items alg o rows empty none =
+pub start-at : (n : ℕ) (items : List Item) (alg : Alg) (policy : Policy) (p : Noted) (o : Output) (rows : List Row) → o ≡ cleared o → rows ≡ [] → p ≡ no_profile
+    → record { caller = n; left = items; failed = 0; must = false; phase = Between; alg = alg; rest = []; replies = o.replies; emits = o.emits; wrote = false; granted = false; rows = rows; policy = policy; profile = p; chosen = None } ≡ first_at n items alg policy
+start-at n items alg policy p o rows empty none new =
     let r = ap (λ (x : Output). x.replies) empty in let e = ap (λ (x : Output). x.emits) empty in cc

@@ -1,10 +1,13 @@
 -- What stands of a worker whatever its turn is.
 use Rattle.std.proofs.Common.{ℕ, zero, suc, ◌≡◌, ◌≤◌, ◌+◌, true, false, List, [], ◌∷◌, ◌++◌, length, get_or, drop, refl, sym, ap, ◌∙◌, arith, subst, length-append, append_assoc, inl, inr}
-use Rattle.std.specs.Prelude.{◌⊎◌, ◌==◌}
+use Rattle.std.specs.Prelude.{◌⊎◌, ◌==◌, Option, Some, None}
 use Rattle.std.proofs.lemmas.Bool.Decides.{nat_tests}
 use Rattle.stm_model.specs.Algorithms.{is_built}
 use Rattle.stm_model.specs.declared.alg.Alg.{Alg}
 use Rattle.stm_model.specs.declared.config.Config.{Config}
+use Rattle.stm_profile.specs.declared.policy.Policy.{Policy}
+use Rattle.stm_profile.specs.declared.policy.Policy.TheVariants.{Fixed, Round, Expert, State}
+use Rattle.stm_profile.specs.Profiles.{Noted}
 use Rattle.stm_script.specs.declared.op.Op.{Op}
 use Rattle.stm_script.specs.declared.op.Op.TheVariants.{Read, Write, Add, Move, Emit, Irrev, Cancel, Count, Total, ListInsert, ListRemove, ListContains, ListLength, HashInsert, HashRemove, HashContains, TreeInsert, TreeRemove, TreeContains, TreeLeast}
 use Rattle.tx_regions.specs.declared.region.Region.{Region}
@@ -20,11 +23,14 @@ use Rattle.stm_script.specs.Reports.{scripts_of, script_of, zeros}
 use Rattle.stm_rule.specs.Callers.{Handle, IsSameCaller}
 use Rattle.tx_answers.specs.Answers.{HoldsClosed}
 use Rattle.tx_answers.specs.Known.{Known, caller_of}
+use Rattle.stm_trace.specs.Adapting.{asked_by}
 use Rattle.stm_trace.specs.declared.said.Phase.{Phase}
 use Rattle.stm_trace.specs.declared.said.Phase.TheVariants.{Between, Inside, Closing, Quiet}
 use Rattle.stm_trace.specs.Places.{script_at, rest_of}
-use Rattle.stm_trace.specs.Turns.{BeforeTx, SwitchesTo, Next}
-use Rattle.stm_worker.specs.Workers.{IsAt, WhenInside, ItemsFit, switches_of, DidFirst, DidSwitches, Works, WorksSince, Stands, cleared, spares}
+use Rattle.stm_trace.specs.Turns.{BeforeTx, MustSwitchTo, SwitchesTo, Next}
+use Rattle.stm_worker.specs.Installs.{AreAmong, InstallsBy}
+use Rattle.stm_worker.specs.InstallLaws.{by-more}
+use Rattle.stm_worker.specs.Workers.{IsAskedBy, IsAt, WhenInside, ItemsFit, switches_of, DidFirst, DidSwitches, Works, WorksSince, Stands, cleared, spares}
 
 pub callers-same : {K : Type 0} (d e : Handle K) → IsSameCaller d e → caller_of e.who.role ≡ caller_of d.who.role
 callers-same d e s = ap (λ x. caller_of x.role) s.who
@@ -63,7 +69,7 @@ switch-left n alg [] h = absurd h
 switch-left n alg (Tx caller script ∷ items) h = absurd h
 switch-left n alg (Switch caller a ∷ items) h = (ap (λ x. x ∷ switches_of items) h, refl, refl, refl)
 
-pub switch-built : (good : List ℕ → Type 0) (words : ℕ) (regions : List Region) (n : ℕ) (alg : Alg) (left : List Item) → SwitchesTo alg left → ItemsFit good words regions n left → is_built alg ≡ true
+switch-built : (good : List ℕ → Type 0) (words : ℕ) (regions : List Region) (n : ℕ) (alg : Alg) (left : List Item) → SwitchesTo alg left → ItemsFit good words regions n left → is_built alg ≡ true
 switch-built good words regions n alg [] h f = absurd h
 switch-built good words regions n alg (Tx caller script ∷ items) h f = absurd h
 switch-built good words regions n alg (Switch caller a ∷ items) h f = sym (ap is_built h) ∙ f.1
@@ -217,12 +223,45 @@ pub did-first : (all left : List Item) → DidFirst all left → DidFirst all (r
 did-first all [] h = h
 did-first all (i ∷ left) h = (h.0 ++ i ∷ [], h.1 ∙ sym (append_assoc h.0 (i ∷ []) left))
 
-pub did-same : (all left : List Item) (v w : Known) → w.installs ≡ v.installs → DidSwitches all left v → DidSwitches all left w
-did-same all left v w e h = (h.0, ap (λ l. l ++ switches_of left) e ∙ h.1)
+pub did-same : (policy : Policy) (all left : List Item) (v w : Known) → w.installs ≡ v.installs → DidSwitches policy all left v → DidSwitches policy all left w
+did-same policy all left v w e h = (h.0, subst (λ l. InstallsBy policy (h.0 ++ switches_of all) (l ++ switches_of left)) (sym e) h.1)
 
-pub did-left : (all left rest : List Item) (v w : Known) → w.installs ≡ v.installs → switches_of left ≡ switches_of rest → DidSwitches all left v → DidSwitches all rest w
-did-left all left rest v w e l h = (h.0, ap (λ x. x ++ switches_of rest) e ∙ (ap (λ x. v.installs ++ x) (sym l) ∙ h.1))
+pub did-left : (policy : Policy) (all left rest : List Item) (v w : Known) → w.installs ≡ v.installs → switches_of left ≡ switches_of rest → DidSwitches policy all left v → DidSwitches policy all rest w
+did-left policy all left rest v w e l h =
+    (h.0, subst (λ x. InstallsBy policy (h.0 ++ switches_of all) x) (sym (ap (λ x. x ++ switches_of rest) e ∙ ap (λ x. v.installs ++ x) (sym l))) h.1)
 
-pub did-switch : (all left rest : List Item) (alg : Alg) (v w : Known) → w.installs ≡ v.installs ++ alg ∷ [] → switches_of left ≡ alg ∷ switches_of rest → DidSwitches all left v → DidSwitches all rest w
-did-switch all left rest alg v w e l h =
-    (h.0, ap (λ x. x ++ switches_of rest) e ∙ (append_assoc v.installs (alg ∷ []) (switches_of rest) ∙ (ap (λ x. v.installs ++ x) (sym l) ∙ h.1)))
+pub did-switch : (policy : Policy) (all left rest : List Item) (alg : Alg) (v w : Known) → w.installs ≡ v.installs ++ alg ∷ [] → switches_of left ≡ alg ∷ switches_of rest → DidSwitches policy all left v → DidSwitches policy all rest w
+did-switch policy all left rest alg v w e l h =
+    (h.0, subst (λ x. InstallsBy policy (h.0 ++ switches_of all) x) (sym (ap (λ x. x ++ switches_of rest) e ∙ (append_assoc v.installs (alg ∷ []) (switches_of rest) ∙ ap (λ x. v.installs ++ x) (sym l)))) h.1)
+
+-- what a policy asks for is installed besides
+pub besides : (policy : Policy) (alg : Alg) (installs switches : List Alg) → IsAskedBy policy (Some alg) → InstallsBy policy (installs ++ switches) ((installs ++ alg ∷ []) ++ switches)
+besides Fixed alg installs switches asked = absurd cc
+besides (Round n) alg installs switches asked = subst (AreAmong (installs ++ switches)) (sym (append_assoc installs (alg ∷ []) switches)) (by-more installs switches alg)
+besides Expert alg installs switches asked = subst (AreAmong (installs ++ switches)) (sym (append_assoc installs (alg ∷ []) switches)) (by-more installs switches alg)
+besides (State n) alg installs switches asked = subst (AreAmong (installs ++ switches)) (sym (append_assoc installs (alg ∷ []) switches)) (by-more installs switches alg)
+
+pub asked-none : (policy : Policy) → IsAskedBy policy None
+asked-none Fixed = refl
+asked-none (Round n) = tt
+asked-none Expert = tt
+asked-none (State n) = tt
+
+pub asked-is : (policy : Policy) (p : Noted) (alg : Alg) → IsAskedBy policy (asked_by policy p alg)
+asked-is Fixed p alg = refl
+asked-is (Round n) p alg = tt
+asked-is Expert p alg = tt
+asked-is (State n) p alg = tt
+
+all-built : (alg : Alg) → is_built alg ≡ true
+all-built Alg.Cgl = refl
+all-built Alg.Tml = refl
+all-built Alg.OrecLazy = refl
+all-built Alg.OrecEager = refl
+all-built Alg.RingSw = refl
+all-built Alg.Serial = refl
+
+-- what is switched to is built
+pub must-built : (good : List ℕ → Type 0) (words : ℕ) (regions : List Region) (n : ℕ) (alg : Alg) (chosen : Option Alg) (left : List Item) → MustSwitchTo alg chosen left → ItemsFit good words regions n left → is_built alg ≡ true
+must-built good words regions n alg None left h f = switch-built good words regions n alg left h f
+must-built good words regions n alg (Some other) left h f = all-built alg

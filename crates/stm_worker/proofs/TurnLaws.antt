@@ -1,7 +1,7 @@
 -- From the clauses of a call to what its turn did.
 use Rattle.std.proofs.Common.{ℕ, suc, ◌≡◌, ◌<◌, ◌≤◌, ◌+◌, Bool, true, false, List, [], ◌∷◌, ◌++◌, length, drop, refl, sym, ap, ◌∙◌, arith, subst, length-append, append_assoc, inl, inr}
 use Rattle.std.proofs.lemmas.Bool.Decides.{nat_tests}
-use Rattle.std.specs.Prelude.{◌⊎◌, ◌||◌, ◌&&◌, not, slice_index_or}
+use Rattle.std.specs.Prelude.{◌⊎◌, ◌||◌, ◌&&◌, not, slice_index_or, Option, Some, None}
 use Rattle.std.specs.Borrow.{Bor}
 use Rattle.stm_model.specs.Algorithms.{is_sure}
 use Rattle.stm_model.specs.AlgorithmLaws.{granted-sure, sure-wrote}
@@ -10,6 +10,9 @@ use Rattle.stm_model.specs.Logs.{IsExplained}
 use Rattle.stm_model.specs.declared.alg.Alg.{Alg}
 use Rattle.stm_model.specs.declared.stop.Stop.{Stop}
 use Rattle.stm_model.specs.declared.stop.Stop.TheVariants as stops
+use Rattle.stm_profile.specs.declared.outcome.Outcome.{Outcome}
+use Rattle.stm_profile.specs.declared.outcome.Outcome.TheVariants as outcomes
+use Rattle.stm_profile.specs.Profiles.{Noted, with_outcome}
 use Rattle.stm_script.specs.declared.op.Op.{Op}
 use Rattle.stm_script.specs.declared.op.Op.TheVariants.{Cancel, Irrev}
 use Rattle.stm_script.specs.declared.report.Kind.{Kind}
@@ -32,22 +35,26 @@ use Rattle.tx_answers.specs.declared.answers.Cancel.TheVariants.{Cancelled, Irre
 use Rattle.tx_answers.specs.declared.answers.Commit.TheVariants.{Committed, ReadOnly, Again}
 use Rattle.tx_answers.specs.declared.answers.Irrev.TheVariants.{Granted, Busy}
 use Rattle.stm_tx.specs.Descs.{known}
+use Rattle.stm_trace.specs.Adapting.{asked_by, no_profile, outcome_of}
 use Rattle.stm_trace.specs.declared.said.Phase.{Phase}
 use Rattle.stm_trace.specs.declared.said.Phase.TheVariants.{Between, Inside, Closing, Quiet}
 use Rattle.stm_trace.specs.declared.said.Said.{Said}
-use Rattle.stm_trace.specs.declared.said.Said.TheVariants.{TryBegin, Reply, Stopped, TryCancel, TryIrrevocable, TryCommit, Installed}
+use Rattle.stm_trace.specs.declared.said.Said.TheVariants.{TryBegin, Reply, Stopped, TryCancel, TryIrrevocable, TryCommit, Installed, Idle}
 use Rattle.stm_trace.specs.FairLaws.{IsPlaceOf}
 use Rattle.stm_trace.specs.Places.{Place, script_at, rest_of, ended, after, failed_next, granted_at, is_forced, must_next, most_failed, sure, writes}
-use Rattle.stm_trace.specs.Turns.{BeforeTx, Comes, MaySay, MayWind, Next, SwitchesTo, is_call}
+use Rattle.stm_trace.specs.Places as places
+use Rattle.stm_trace.specs.Turns.{BeforeTx, Comes, MaySay, MayWind, MustSwitchTo, Next, SwitchesTo, is_call}
 use Rattle.stm_worker.specs.declared.worker.Worker.{Worker}
 use Rattle.stm_worker.specs.Goings.{Going, no_log, no_replies}
 use Rattle.stm_worker.specs.Tellings.{Tells, StoppedBy}
-use Rattle.stm_worker.specs.Workers.{place_of, HasLengths, IsAt, IsCounted, IsSame, IsUnderWay, ToSwitch, WhenInside, ItemsFit, switches_of, DidFirst, DidSwitches, Works, WorksSince, Stands, cleared, spares, EndsWith, Sound, Turned, Refused, stopped_by}
+use Rattle.stm_worker.specs.Installs.{InstallsBy}
+use Rattle.stm_worker.specs.InstallLaws.{by-same, by-trans}
+use Rattle.stm_worker.specs.Workers.{place_of, switches_with, IsAskedBy, HasLengths, IsAt, IsCounted, IsSame, IsUnderWay, ToSwitch, WhenInside, ItemsFit, switches_of, DidFirst, DidSwitches, Works, WorksSince, Stands, cleared, spares, WroteRow, EndsWith, adapted, Sound, Turned, Refused, stopped_by}
 use Rattle.stm_worker.proofs.Calls.{grew, nothing, commits, quits}
 use Rattle.stm_worker.proofs.GoingLaws.{wrote-one, going-begun, going-step, going-refused, going-asked, going-later, gave-all, gave-cut, cut-unasked}
 use Rattle.stm_worker.proofs.RoomLaws.{room-of}
 use Rattle.stm_worker.proofs.RowLaws.{row-wrote, row-read, row-cancelled, row_of}
-use Rattle.stm_worker.proofs.StandLaws.{callers-same, cleared-more, cleared-told, did-first, did-left, did-same, did-switch, drop-head, drop-more, few-emits, head-fits, next-is, rest-between, rest-closed, rest-fits, rest-quiet, rest-runs, rest-stands, Rest, room-next, room-told, since-begin, since-later, stands-rest, switch-left, at-closed, tx-left, tx-scripts, when-rest, works-later, works-over}
+use Rattle.stm_worker.proofs.StandLaws.{asked-is, asked-none, besides, callers-same, cleared-more, cleared-told, did-first, did-left, did-same, did-switch, drop-head, drop-more, few-emits, head-fits, next-is, rest-between, rest-closed, rest-fits, rest-quiet, rest-runs, rest-stands, Rest, room-next, room-told, since-begin, since-later, stands-rest, switch-left, at-closed, tx-left, tx-scripts, when-rest, works-later, works-over}
 use Rattle.stm_worker.proofs.TellLaws.{Asks, stops-quits, tells-fair, tells-found, tells-installs, tells-owed}
 
 began-at : (at : Place) (n : ℕ) (ops : List Op) (o : Output) (alg : Alg) → n ≡ at.caller → ops ≡ script_at at.left → o.replies ≡ [] → o.emits ≡ []
@@ -74,8 +81,11 @@ asked-at : (at : Place) (n : ℕ) (ops : List Op) (o : Output) → n ≡ at.call
     → record at { caller = n; rest = ops; replies = o.replies; emits = o.emits; granted = true } ≡ granted_at false at
 asked-at at n ops o c r a b = let w = or-false at.wrote in let e = append-none at.emits in cc
 
-installed-at : (at : Place) (n : ℕ) (left : List Item) (alg : Alg) → n ≡ at.caller → left ≡ rest_of at.left → record at { caller = n; left = left; phase = Between } ≡ after at (Installed alg)
-installed-at at n left alg c l = cc
+installed-at : (at : Place) (n : ℕ) (left : List Item) → at.chosen ≡ None → n ≡ at.caller → left ≡ rest_of at.left → record at { caller = n; left = left; phase = Between } ≡ places.switched at.chosen at
+installed-at at n left none c l = (λ i. record at { caller = c i; left = l i; phase = Between }) ∙ sym (ap (λ (x : Option Alg). places.switched x at) none)
+
+besides-at : (at : Place) (n : ℕ) (chosen : Alg) → at.chosen ≡ Some chosen → n ≡ at.caller → record at { caller = n; phase = Between; profile = no_profile; chosen = None } ≡ places.switched at.chosen at
+besides-at at n chosen some c = (λ i. record at { caller = c i; phase = Between; profile = no_profile; chosen = None }) ∙ sym (ap (λ (x : Option Alg). places.switched x at) some)
 
 cancelled-at : (at : Place) (o p : Output) (t : ℕ) → at.replies ≡ o.replies → at.emits ≡ o.emits → p ≡ record o { replies = o.replies ++ 1 ∷ [] }
     → ended C t (record at { replies = p.replies; emits = p.emits }) ≡ after at (TryCancel (Cancelled t))
@@ -92,6 +102,23 @@ and-left false b h e = absurd cc
 still-few : (failed : ℕ) (must : Bool) → IsCounted failed must → IsCounted (failed_next must failed) (must_next must failed)
 still-few failed true few e = absurd cc
 still-few failed false few e = let lt = few refl in grind (arith, nat_tests)
+
+pub self-same : {K : Type 0} (w : Worker K) → IsSame w w
+self-same w = record { same = record { table = refl; who = refl }; all = refl; regions = refl; policy = refl; switched = by-same w.policy (switches_with w) (switches_with w) refl }
+
+-- the row is written, and then the policy asked
+pub ends-with : {K : Type 0} (kind : Kind) (time : ℕ) (v m w : Worker K) (outcome : Outcome) → outcome ≡ outcome_of kind → WroteRow kind time v m → w ≡ adapted outcome m → EndsWith kind time v w
+ends-with kind time v m w outcome is h e = subst (EndsWith kind time v) (sym e) (record {
+  at = ap (λ (p : Place). places.adapted outcome p) h.at ∙ ap (λ (o : Outcome). places.adapted o (places.recorded kind time (place_of v))) is;
+  desc = h.desc;
+  all = h.all;
+  regions = h.regions;
+  roomy = record { spare = h.roomy.spare; rows = h.roomy.rows };
+})
+
+-- nothing is installed, and the items are those that they were
+kept-switches : {K : Type 0} (u : Worker K) (d : Handle K) → (known d).installs ≡ (known u.desc).installs → InstallsBy u.policy (switches_with u) ((known d).installs ++ switches_of u.items_left.now)
+kept-switches u d e = by-same u.policy (switches_with u) ((known d).installs ++ switches_of u.items_left.now) (ap (λ l. l ++ switches_of u.items_left.now) e)
 
 asks-out : {K : Type 0} (good : List ℕ → Type 0) (stm : Stm K) (u : Worker K) → Sound good stm u → Rest u.phase → (known u.desc).running ≡ false
 asks-out good stm u s r = rest-runs good stm.config (caller_of u.desc.who.role) u.phase (known u.desc) r s.at
@@ -162,6 +189,9 @@ module _ {K : Type 0} (good : List ℕ → Type 0) (stm : Stm K) (u : Worker K) 
       installs = tells-installs good stm.config (caller_of u.desc.who.role) said (known u.desc) (known w.desc) told;
     }
 
+  pub turned-idle : u.phase ≡ Between → u.items_left.now ≡ [] → u.chosen ≡ None → Turned good stm MaySay u Idle u
+  turned-idle between left none = turned-by MaySay Idle u stm.ranges (between, left, none) tt refl refl (self-same u) s
+
   module _ (d : Handle K) (same : IsSameCaller u.desc d) (grows : Grows (known u.desc) (known d)) where
     n_is : caller_of d.who.role ≡ caller_of u.desc.who.role
     n_is = callers-same u.desc d same
@@ -173,11 +203,11 @@ module _ {K : Type 0} (good : List ℕ → Type 0) (stm : Stm K) (u : Worker K) 
     lengths-same = (grows.reads_limit ∙ s.lengths.0, grows.writes_limit ∙ s.lengths.1)
 
     -- whatever changed of the attempt, the rows are as they were
-    sound-of : (p : Phase) (alg : Alg) (r : Bor (List Op)) (o : Output) (wrote granted must b : Bool) (failed : ℕ) → IsAt good stm.config (caller_of u.desc.who.role) p (known d) → cleared o ≡ cleared u.out → (known d).installs ≡ (known u.desc).installs
-        → Stands good stm.config.words u.regions.now u.all.now (caller_of u.desc.who.role) (known d) u.rows.items p → IsCounted failed must → ToSwitch p u.items_left.now
-        → WhenInside p (IsUnderWay good stm.config.words (record u { desc = d; phase = p; alg = alg; operations_left = r; out = o; wrote = wrote; granted = granted; must = must; failed = failed; passed = b }))
-        → Sound good stm (record u { desc = d; phase = p; alg = alg; operations_left = r; out = o; wrote = wrote; granted = granted; must = must; failed = failed; passed = b })
-    sound-of p alg r o wrote granted must b failed at room installs stands few turning under = record {
+    sound-noted : (q : Noted) (p : Phase) (alg : Alg) (r : Bor (List Op)) (o : Output) (wrote granted must b : Bool) (failed : ℕ) → IsAt good stm.config (caller_of u.desc.who.role) p (known d) → cleared o ≡ cleared u.out → (known d).installs ≡ (known u.desc).installs
+        → Stands good stm.config.words u.regions.now u.all.now (caller_of u.desc.who.role) (known d) u.rows.items p → IsCounted failed must → ToSwitch p u.chosen u.items_left.now
+        → WhenInside p (IsUnderWay good stm.config.words (record u { desc = d; phase = p; alg = alg; operations_left = r; out = o; wrote = wrote; granted = granted; must = must; failed = failed; passed = b; profile = q }))
+        → Sound good stm (record u { desc = d; phase = p; alg = alg; operations_left = r; out = o; wrote = wrote; granted = granted; must = must; failed = failed; passed = b; profile = q })
+    sound-noted q p alg r o wrote granted must b failed at room installs stands few turning under = record {
       own = own-same;
       at = subst (λ n. IsAt good stm.config n p (known d)) (sym n_is) at;
       lengths = lengths-same;
@@ -186,7 +216,8 @@ module _ {K : Type 0} (good : List ℕ → Type 0) (stm : Stm K) (u : Worker K) 
       todo = subst (λ n. scripts_of n u.items_left.now ≡ drop (length u.rows.items) (scripts_of n u.all.now)) (sym n_is) s.todo;
       within = subst (λ n. length u.rows.items ≤ length (scripts_of n u.all.now)) (sym n_is) s.within;
       counted = few;
-      switched = did-same u.all.now u.items_left.now (known u.desc) (known d) installs s.switched;
+      switched = did-same u.policy u.all.now u.items_left.now (known u.desc) (known d) installs s.switched;
+      asked = s.asked;
       fits = subst (λ n. ItemsFit good stm.config.words u.regions.now n u.items_left.now) (sym n_is) s.fits;
       roomy = record {
         spare = ap (λ x. u.spare.items ++ x ∷ []) room ∙ s.roomy.spare;
@@ -196,8 +227,15 @@ module _ {K : Type 0} (good : List ℕ → Type 0) (stm : Stm K) (u : Worker K) 
       under_way = under;
     }
 
+    -- and nothing is noted
+    sound-of : (p : Phase) (alg : Alg) (r : Bor (List Op)) (o : Output) (wrote granted must b : Bool) (failed : ℕ) → IsAt good stm.config (caller_of u.desc.who.role) p (known d) → cleared o ≡ cleared u.out → (known d).installs ≡ (known u.desc).installs
+        → Stands good stm.config.words u.regions.now u.all.now (caller_of u.desc.who.role) (known d) u.rows.items p → IsCounted failed must → ToSwitch p u.chosen u.items_left.now
+        → WhenInside p (IsUnderWay good stm.config.words (record u { desc = d; phase = p; alg = alg; operations_left = r; out = o; wrote = wrote; granted = granted; must = must; failed = failed; passed = b }))
+        → Sound good stm (record u { desc = d; phase = p; alg = alg; operations_left = r; out = o; wrote = wrote; granted = granted; must = must; failed = failed; passed = b })
+    sound-of p alg r o wrote granted must b failed at room installs stands few turning under = sound-noted u.profile p alg r o wrote granted must b failed at room installs stands few turning under
+
     -- no attempt is open, before and after
-    pub rested : (p : Phase) → Rest u.phase → Rest p → (known d).made ≡ (known u.desc).made → (known d).installs ≡ (known u.desc).installs → IsAt good stm.config (caller_of u.desc.who.role) p (known d) → ToSwitch p u.items_left.now
+    pub rested : (p : Phase) → Rest u.phase → Rest p → (known d).made ≡ (known u.desc).made → (known d).installs ≡ (known u.desc).installs → IsAt good stm.config (caller_of u.desc.who.role) p (known d) → ToSwitch p u.chosen u.items_left.now
         → Sound good stm (record u { desc = d; phase = p })
     rested p r q made installs at turning =
         sound-of p u.alg u.operations_left u.out u.wrote u.granted u.must u.passed u.failed at refl installs
@@ -206,10 +244,10 @@ module _ {K : Type 0} (good : List ℕ → Type 0) (stm : Stm K) (u : Worker K) 
         s.counted turning (when-rest p q _)
 
     -- the attempt is over, without a row
-    pub over : (must b : Bool) (failed : ℕ) (o : Output) → u.phase ≡ Inside → IsIdle (known d) → (known d).made ≡ (known u.desc).made → (known d).installs ≡ (known u.desc).installs → o ≡ cleared u.out → IsCounted failed must
-        → Sound good stm (record u { desc = d; phase = Between; out = o; must = must; failed = failed; passed = b })
-    over must b failed o inside idle made installs clear few =
-        sound-of Between u.alg u.operations_left o u.wrote u.granted must b failed idle (ap cleared clear) installs
+    pub over : (q : Noted) (must b : Bool) (failed : ℕ) (o : Output) → u.phase ≡ Inside → IsIdle (known d) → (known d).made ≡ (known u.desc).made → (known d).installs ≡ (known u.desc).installs → o ≡ cleared u.out → IsCounted failed must
+        → Sound good stm (record u { desc = d; phase = Between; out = o; must = must; failed = failed; passed = b; profile = q })
+    over q must b failed o inside idle made installs clear few =
+        sound-noted q Between u.alg u.operations_left o u.wrote u.granted must b failed idle (ap cleared clear) installs
         (works-over good stm.config.words u.regions.now u.all.now (caller_of u.desc.who.role) (known u.desc) (known d) u.rows.items made (grew (known u.desc) (known d) grows) (inside-now inside))
         few tt tt
 
@@ -330,7 +368,7 @@ module _ {K : Type 0} (good : List ℕ → Type 0) (stm : Stm K) (u : Worker K) 
       is_sure = sure-place inside ∙ certain;
       now = ap (λ n. record (place_of u) { caller = n }) n_is;
       knows = knows;
-      same = record { same = same; all = refl; regions = refl; switched = ap (λ (v : Known). v.installs ++ switches_of u.items_left.now) knows };
+      same = record { same = same; all = refl; regions = refl; policy = refl; switched = kept-switches u d (ap (λ (v : Known). v.installs) knows) };
     }
 
     -- granted because it must be: the script is where it was
@@ -389,14 +427,14 @@ module _ {K : Type 0} (good : List ℕ → Type 0) (stm : Stm K) (u : Worker K) 
     same-place b = ap (λ n. record (place_of u) { caller = n }) n_is
 
     pub still-same : (b : Bool) → (known d).installs ≡ (known u.desc).installs → IsSame u (record u { desc = d; passed = b })
-    still-same b installs = record { same = same; all = refl; regions = refl; switched = ap (λ l. l ++ switches_of u.items_left.now) installs }
+    still-same b installs = record { same = same; all = refl; regions = refl; policy = refl; switched = kept-switches u d installs }
 
-    pub over-now : (said : Said) (must b : Bool) (failed : ℕ) (o : Output) → o ≡ cleared u.out → record (place_of u) { phase = Between; replies = []; emits = []; failed = failed; must = must } ≡ after (place_of u) said
-        → place_of (record u { desc = d; phase = Between; out = o; must = must; failed = failed; passed = b }) ≡ after (place_of u) said
-    over-now said must b failed o clear is =
+    pub over-now : (said : Said) (q : Noted) (must b : Bool) (failed : ℕ) (o : Output) → o ≡ cleared u.out → record (place_of u) { phase = Between; replies = []; emits = []; failed = failed; must = must; profile = q } ≡ after (place_of u) said
+        → place_of (record u { desc = d; phase = Between; out = o; must = must; failed = failed; passed = b; profile = q }) ≡ after (place_of u) said
+    over-now said q must b failed o clear is =
         let r : o.replies ≡ [] = ap (λ (x : Output). x.replies) clear in
         let e : o.emits ≡ [] = ap (λ (x : Output). x.emits) clear in
-        (λ i. record (place_of u) { caller = n_is i; phase = Between; replies = r i; emits = e i; failed = failed; must = must }) ∙ is
+        (λ i. record (place_of u) { caller = n_is i; phase = Between; replies = r i; emits = e i; failed = failed; must = must; profile = q }) ∙ is
 
     script-here : BeforeTx u.items_left.now → slice_index_or (scripts_of (caller_of u.desc.who.role) u.all.now) (length u.rows.items) [] ≡ script_at u.items_left.now
     script-here b = (drop-head (length u.rows.items) [] (script_at u.items_left.now) (scripts_of (caller_of u.desc.who.role) u.all.now) (scripts_of (caller_of u.desc.who.role) (rest_of u.items_left.now)) (sym (tx-scripts good stm.config.words u.regions.now (caller_of u.desc.who.role) u.items_left.now b s.fits) ∙ s.todo)).0
@@ -415,6 +453,8 @@ module _ {K : Type 0} (good : List ℕ → Type 0) (stm : Stm K) (u : Worker K) 
         let left : w.items_left.now ≡ rest_of u.items_left.now = ap (λ (p : Place). p.left) at in
         let phase : w.phase ≡ Between = ap (λ (p : Place). p.phase) at in
         let failed : w.failed ≡ 0 = ap (λ (p : Place). p.failed) at in
+        let policy : w.policy ≡ u.policy = ap (λ (p : Place). p.policy) at in
+        let chosen : w.chosen ≡ asked_by u.policy (with_outcome u.profile (outcome_of kind)) u.alg = ap (λ (p : Place). p.chosen) at in
         let long : length w.rows.items ≡ length u.rows.items + 1 = ap length rows ∙ length-append u.rows.items (row ∷ []) in
         let todo = sym (tx-scripts good stm.config.words u.regions.now n u.items_left.now first s.fits) ∙ s.todo in
         let next = (drop-head (length u.rows.items) [] (script_at u.items_left.now) (scripts_of n u.all.now) (scripts_of n (rest_of u.items_left.now)) todo).1 in
@@ -437,21 +477,25 @@ module _ {K : Type 0} (good : List ℕ → Type 0) (stm : Stm K) (u : Worker K) 
                 (ap (scripts_of n) left ∙ (next ∙ (ap (λ k. drop k (scripts_of n u.all.now)) one ∙ ap (λ x. drop (length w.rows.items) (scripts_of n x)) (sym ends.all))));
             within = subst (λ k. length w.rows.items ≤ length (scripts_of k w.all.now)) (sym caller) (subst (λ x. length w.rows.items ≤ length (scripts_of n x)) (sym ends.all) (omega arith));
             counted = λ e. subst (λ k. k < most_failed) (sym failed) (omega arith);
-            switched = subst (λ x. DidSwitches x w.items_left.now (known w.desc)) (sym ends.all) (subst (λ x. DidSwitches u.all.now x (known w.desc)) (sym left)
-                (subst (λ (h : Handle K). DidSwitches u.all.now (rest_of u.items_left.now) (known h)) (sym ends.desc) (did-left u.all.now u.items_left.now (rest_of u.items_left.now) (known u.desc) (known d) installs (tx-left u.items_left.now first).0 s.switched)));
+            switched = subst (λ x. DidSwitches x w.all.now w.items_left.now (known w.desc)) (sym policy)
+                (subst (λ x. DidSwitches u.policy x w.items_left.now (known w.desc)) (sym ends.all) (subst (λ x. DidSwitches u.policy u.all.now x (known w.desc)) (sym left)
+                (subst (λ (h : Handle K). DidSwitches u.policy u.all.now (rest_of u.items_left.now) (known h)) (sym ends.desc) (did-left u.policy u.all.now u.items_left.now (rest_of u.items_left.now) (known u.desc) (known d) installs (tx-left u.items_left.now first).0 s.switched))));
+            asked = subst (λ x. IsAskedBy x w.chosen) (sym policy) (subst (IsAskedBy u.policy) (sym chosen) (asked-is u.policy (with_outcome u.profile (outcome_of kind)) u.alg));
             fits = subst (λ k. ItemsFit good stm.config.words w.regions.now k w.items_left.now) (sym caller)
                 (subst (λ l. ItemsFit good stm.config.words w.regions.now n l) (sym left)
                 (subst (λ x. ItemsFit good stm.config.words x n (rest_of u.items_left.now)) (sym ends.regions) (rest-fits good stm.config.words u.regions.now n u.items_left.now s.fits)));
             roomy = ends.roomy;
-            turning = subst (λ p. ToSwitch p w.items_left.now) (sym phase) tt;
+            turning = subst (λ p. ToSwitch p w.chosen w.items_left.now) (sym phase) tt;
             under_way = when-rest w.phase rests _;
           },
           record {
             same = subst (IsSameCaller u.desc) (sym ends.desc) same;
             all = ends.all;
             regions = ends.regions;
-            switched = ap (λ x. x ++ switches_of w.items_left.now) (ap (λ (h : Handle K). (known h).installs) ends.desc ∙ installs)
-                ∙ (ap (λ x. (known u.desc).installs ++ switches_of x) left ∙ ap (λ x. (known u.desc).installs ++ x) (sym (tx-left u.items_left.now first).0));
+            policy = policy;
+            switched = by-same u.policy (switches_with u) (switches_with w)
+                (ap (λ x. x ++ switches_of w.items_left.now) (ap (λ (h : Handle K). (known h).installs) ends.desc ∙ installs)
+                ∙ (ap (λ x. (known u.desc).installs ++ switches_of x) left ∙ ap (λ x. (known u.desc).installs ++ x) (sym (tx-left u.items_left.now first).0)));
           },
           at,
         )
@@ -488,23 +532,27 @@ module _ {K : Type 0} (good : List ℕ → Type 0) (stm : Stm K) (u : Worker K) 
         ends in
         (e.0, e.1, e.2 ∙ cancelled-at (place_of u) u.out o t refl refl told)
 
-    -- the switch is done
-    pub switched : (alg : Alg) (r : Bor (List Item)) → u.phase ≡ Quiet → SwitchesTo alg u.items_left.now → r.now ≡ rest_of u.items_left.now → IsIdle (known d) → (known d).made ≡ (known u.desc).made → (known d).installs ≡ (known u.desc).installs ++ alg ∷ []
+    rests-again : Rest u.phase → (known d).made ≡ (known u.desc).made → Works good stm.config.words u.regions.now u.all.now (caller_of d.who.role) (known d) u.rows.items
+    rests-again r made = subst (λ k. Works good stm.config.words u.regions.now u.all.now k (known d) u.rows.items) (sym n_is)
+        (works-later good stm.config.words u.regions.now u.all.now (caller_of u.desc.who.role) (known u.desc) (known d) u.rows.items made (grew (known u.desc) (known d) grows) (resting-now r))
+
+    -- the switch of the text is done
+    pub switched : (alg : Alg) (r : Bor (List Item)) → u.phase ≡ Quiet → u.chosen ≡ None → SwitchesTo alg u.items_left.now → r.now ≡ rest_of u.items_left.now → IsIdle (known d) → (known d).made ≡ (known u.desc).made → (known d).installs ≡ (known u.desc).installs ++ alg ∷ []
         → Sound good stm (record u { desc = d; items_left = r; phase = Between }) × IsSame u (record u { desc = d; items_left = r; phase = Between }) × (place_of (record u { desc = d; items_left = r; phase = Between }) ≡ after (place_of u) (Installed alg))
-    switched alg r quiet to is idle made installs =
+    switched alg r quiet none to is idle made installs =
         let n = caller_of u.desc.who.role in
         let left = switch-left n alg u.items_left.now to in (
           record {
             own = own-same;
             at = idle;
             lengths = lengths-same;
-            stands = subst (λ k. Works good stm.config.words u.regions.now u.all.now k (known d) u.rows.items) (sym n_is)
-                (works-later good stm.config.words u.regions.now u.all.now n (known u.desc) (known d) u.rows.items made (grew (known u.desc) (known d) grows) (resting-now (rest-quiet u.phase quiet)));
+            stands = rests-again (rest-quiet u.phase quiet) made;
             done = subst (DidFirst u.all.now) (sym is) (did-first u.all.now u.items_left.now s.done);
             todo = subst (λ k. scripts_of k r.now ≡ drop (length u.rows.items) (scripts_of k u.all.now)) (sym n_is) (ap (scripts_of n) is ∙ (left.1 ∙ s.todo));
             within = subst (λ k. length u.rows.items ≤ length (scripts_of k u.all.now)) (sym n_is) s.within;
             counted = s.counted;
-            switched = subst (λ l. DidSwitches u.all.now l (known d)) (sym is) (did-switch u.all.now u.items_left.now (rest_of u.items_left.now) alg (known u.desc) (known d) installs left.0 s.switched);
+            switched = subst (λ l. DidSwitches u.policy u.all.now l (known d)) (sym is) (did-switch u.policy u.all.now u.items_left.now (rest_of u.items_left.now) alg (known u.desc) (known d) installs left.0 s.switched);
+            asked = s.asked;
             fits = subst (λ k. ItemsFit good stm.config.words u.regions.now k r.now) (sym n_is) (subst (ItemsFit good stm.config.words u.regions.now n) (sym is) (rest-fits good stm.config.words u.regions.now n u.items_left.now s.fits));
             roomy = record { spare = s.roomy.spare ∙ (left.2 ∙ ap spares (sym is)); rows = s.roomy.rows };
             turning = tt;
@@ -514,9 +562,38 @@ module _ {K : Type 0} (good : List ℕ → Type 0) (stm : Stm K) (u : Worker K) 
             same = same;
             all = refl;
             regions = refl;
-            switched = ap (λ l. (known d).installs ++ switches_of l) is ∙ (ap (λ l. l ++ switches_of (rest_of u.items_left.now)) installs ∙ (append_assoc (known u.desc).installs (alg ∷ []) (switches_of (rest_of u.items_left.now)) ∙ ap (λ l. (known u.desc).installs ++ l) (sym left.0)));
+            policy = refl;
+            switched = by-same u.policy (switches_with u) ((known d).installs ++ switches_of r.now)
+                (ap (λ l. (known d).installs ++ switches_of l) is ∙ (ap (λ l. l ++ switches_of (rest_of u.items_left.now)) installs ∙ (append_assoc (known u.desc).installs (alg ∷ []) (switches_of (rest_of u.items_left.now)) ∙ ap (λ l. (known u.desc).installs ++ l) (sym left.0))));
           },
-          installed-at (place_of u) (caller_of d.who.role) r.now alg n_is is,
+          installed-at (place_of u) (caller_of d.who.role) r.now none n_is is,
+        )
+
+    -- the switch that the policy asked for is done
+    pub switched-besides : (alg chosen : Alg) → u.phase ≡ Quiet → u.chosen ≡ Some chosen → chosen ≡ alg → IsIdle (known d) → (known d).made ≡ (known u.desc).made → (known d).installs ≡ (known u.desc).installs ++ alg ∷ []
+        → Sound good stm (record u { desc = d; phase = Between; profile = no_profile; chosen = None }) × IsSame u (record u { desc = d; phase = Between; profile = no_profile; chosen = None }) × (place_of (record u { desc = d; phase = Between; profile = no_profile; chosen = None }) ≡ after (place_of u) (Installed alg))
+    switched-besides alg chosen quiet some to idle made installs =
+        let more : InstallsBy u.policy (switches_with u) ((known d).installs ++ switches_of u.items_left.now) =
+        subst (λ l. InstallsBy u.policy (switches_with u) (l ++ switches_of u.items_left.now)) (sym installs)
+        (besides u.policy alg (known u.desc).installs (switches_of u.items_left.now) (subst (λ (a : Alg). IsAskedBy u.policy (Some a)) to (subst (IsAskedBy u.policy) some s.asked))) in (
+          record {
+            own = own-same;
+            at = idle;
+            lengths = lengths-same;
+            stands = rests-again (rest-quiet u.phase quiet) made;
+            done = s.done;
+            todo = subst (λ k. scripts_of k u.items_left.now ≡ drop (length u.rows.items) (scripts_of k u.all.now)) (sym n_is) s.todo;
+            within = subst (λ k. length u.rows.items ≤ length (scripts_of k u.all.now)) (sym n_is) s.within;
+            counted = s.counted;
+            switched = (s.switched.0, by-trans u.policy (s.switched.0 ++ switches_of u.all.now) (switches_with u) ((known d).installs ++ switches_of u.items_left.now) s.switched.1 more);
+            asked = asked-none u.policy;
+            fits = subst (λ k. ItemsFit good stm.config.words u.regions.now k u.items_left.now) (sym n_is) s.fits;
+            roomy = record { spare = s.roomy.spare; rows = s.roomy.rows };
+            turning = tt;
+            under_way = tt;
+          },
+          record { same = same; all = refl; regions = refl; policy = refl; switched = more },
+          besides-at (place_of u) (caller_of d.who.role) chosen some n_is,
         )
 
 -- each call's turn
@@ -524,11 +601,11 @@ module _ {K : Type 0} (good : List ℕ → Type 0) (stm : Stm K) (u : Worker K) 
   is-between : Rest u.phase → (known u.desc).running ≡ false
   is-between r = asks-out good stm u s r
 
-  pub turned-began : (alg : Alg) (r : Bor (List Op)) (o : Output) → u.phase ≡ Between → BeforeTx u.items_left.now → r.now ≡ script_at u.items_left.now → o ≡ cleared u.out → BeginsAt good stm.config (caller_of u.desc.who.role) alg (known u.desc) (known d)
+  pub turned-began : (alg : Alg) (r : Bor (List Op)) (o : Output) → u.phase ≡ Between → BeforeTx u.items_left.now → u.chosen ≡ None → r.now ≡ script_at u.items_left.now → o ≡ cleared u.out → BeginsAt good stm.config (caller_of u.desc.who.role) alg (known u.desc) (known d)
       → Turned good stm MaySay u (TryBegin (Begun alg)) (record u { desc = d; phase = Inside; alg = alg; operations_left = r; out = o; wrote = false; granted = false; passed = false })
-  turned-began alg r o between here is clear h = turned-by good stm u s MaySay (TryBegin (Begun alg)) _ stm.ranges (between, here) (idle-now good stm u s between).1 h
+  turned-began alg r o between here unasked is clear h = turned-by good stm u s MaySay (TryBegin (Begun alg)) _ stm.ranges (between, here, unasked) (idle-now good stm u s between).1 h
       (began-now good stm u s d same h.grows alg r o is clear)
-      (record { same = same; all = refl; regions = refl; switched = ap (λ l. l ++ switches_of u.items_left.now) h.installs })
+      (record { same = same; all = refl; regions = refl; policy = refl; switched = kept-switches u d h.installs })
       (began good stm u s d same h.grows alg r o between here is clear h)
 
   -- nothing began
@@ -537,15 +614,15 @@ module _ {K : Type 0} (good : List ℕ → Type 0) (stm : Stm K) (u : Worker K) 
   turned-stayed said between here asks told is h =
       let r = rest-between u.phase between in
       turned-by good stm u s MaySay said _ stm.ranges here asks told (same-place good stm u s d same h.grows u.passed ∙ is)
-      (record { same = same; all = refl; regions = refl; switched = ap (λ l. l ++ switches_of u.items_left.now) h.installs })
+      (record { same = same; all = refl; regions = refl; policy = refl; switched = kept-switches u d h.installs })
       (rested good stm u s d same h.grows u.phase r r h.made h.installs (subst (λ p. IsAt good stm.config (caller_of u.desc.who.role) p (known d)) (sym between) h.idle) s.turning)
 
   -- the gate is closed, or stays so
   pub turned-closed : (said : Said) (p : Phase) → Rest u.phase → Rest p → MaySay (place_of u) said → Asks said (known u.desc) → Tells good stm.config (caller_of u.desc.who.role) said (known u.desc) (known d) → record (place_of u) { phase = p } ≡ after (place_of u) said
-      → (grows : Grows (known u.desc) (known d)) → (known d).made ≡ (known u.desc).made → (known d).installs ≡ (known u.desc).installs → IsAt good stm.config (caller_of u.desc.who.role) p (known d) → ToSwitch p u.items_left.now → Turned good stm MaySay u said (record u { desc = d; phase = p })
+      → (grows : Grows (known u.desc) (known d)) → (known d).made ≡ (known u.desc).made → (known d).installs ≡ (known u.desc).installs → IsAt good stm.config (caller_of u.desc.who.role) p (known d) → ToSwitch p u.chosen u.items_left.now → Turned good stm MaySay u said (record u { desc = d; phase = p })
   turned-closed said p r q here asks told is grows made installs at turning =
       turned-by good stm u s MaySay said _ stm.ranges here asks told (ap (λ k. record (place_of u) { caller = k; phase = p }) (callers-same u.desc d same) ∙ is)
-      (record { same = same; all = refl; regions = refl; switched = ap (λ l. l ++ switches_of u.items_left.now) installs })
+      (record { same = same; all = refl; regions = refl; policy = refl; switched = kept-switches u d installs })
       (rested good stm u s d same grows p r q made installs at turning)
 
   -- the closing is given up
@@ -553,7 +630,7 @@ module _ {K : Type 0} (good : List ℕ → Type 0) (stm : Stm K) (u : Worker K) 
   turned-reopened closing h =
       let r = rest-closed u.phase closing in
       turned-by good stm u s MayWind Said.Reopened _ stm.ranges closing (is-between r) h (ap (λ k. record (place_of u) { caller = k; phase = Between }) (callers-same u.desc d same))
-      (record { same = same; all = refl; regions = refl; switched = ap (λ l. l ++ switches_of u.items_left.now) h.installs })
+      (record { same = same; all = refl; regions = refl; policy = refl; switched = kept-switches u d h.installs })
       (rested good stm u s d same h.grows Between r tt h.made h.installs h.idle tt)
 
   pub turned-operated : (op : Op) (reply : ℕ) (r : Bor (List Op)) (o : Output) (wrote : Bool) → Comes op (place_of u) → is_call op ≡ false → r.now ≡ rest_of u.operations_left.now → wrote ≡ u.wrote || writes op reply
@@ -565,7 +642,7 @@ module _ {K : Type 0} (good : List ℕ → Type 0) (stm : Stm K) (u : Worker K) 
       let kinds = or-none (is_cancel op) (is_irrev op) plain in
       turned-by good stm u s MaySay (Reply op reply) _ stm.ranges (comes, plain) (runs-now good stm u s comes.0) (carries, runs)
       (operated-now good stm u s d same carries.grows op reply r o wrote is was told)
-      (record { same = same; all = refl; regions = refl; switched = ap (λ l. l ++ switches_of u.items_left.now) carries.installs })
+      (record { same = same; all = refl; regions = refl; policy = refl; switched = kept-switches u d carries.installs })
       (operated good stm u s d same carries.grows op reply r o wrote comes kinds.0 kinds.1 is was carries runs gave more told)
     where
       or-none : (a b : Bool) → a || b ≡ false → (a ≡ false) × (b ≡ false)
@@ -573,31 +650,31 @@ module _ {K : Type 0} (good : List ℕ → Type 0) (stm : Stm K) (u : Worker K) 
       or-none false b h = (refl, h)
 
   -- the attempt is over, without a row
-  pub turned-over : (may : Place → Said → Type 0) (said : Said) (must b : Bool) (failed : ℕ) (o : Output) → u.phase ≡ Inside → may (place_of u) said → Asks said (known u.desc) → Tells good stm.config (caller_of u.desc.who.role) said (known u.desc) (known d)
-      → record (place_of u) { phase = Between; replies = []; emits = []; failed = failed; must = must } ≡ after (place_of u) said
+  pub turned-over : (may : Place → Said → Type 0) (said : Said) (q : Noted) (must b : Bool) (failed : ℕ) (o : Output) → u.phase ≡ Inside → may (place_of u) said → Asks said (known u.desc) → Tells good stm.config (caller_of u.desc.who.role) said (known u.desc) (known d)
+      → record (place_of u) { phase = Between; replies = []; emits = []; failed = failed; must = must; profile = q } ≡ after (place_of u) said
       → (grows : Grows (known u.desc) (known d)) → IsIdle (known d) → (known d).made ≡ (known u.desc).made → (known d).installs ≡ (known u.desc).installs → o ≡ cleared u.out → IsCounted failed must
-      → Turned good stm may u said (record u { desc = d; phase = Between; out = o; must = must; failed = failed; passed = b })
-  turned-over may said must b failed o inside here asks told is grows idle made installs clear few =
-      turned-by good stm u s may said _ stm.ranges here asks told (over-now good stm u s d same grows said must b failed o clear is)
-      (record { same = same; all = refl; regions = refl; switched = ap (λ l. l ++ switches_of u.items_left.now) installs })
-      (over good stm u s d same grows must b failed o inside idle made installs clear few)
+      → Turned good stm may u said (record u { desc = d; phase = Between; out = o; must = must; failed = failed; passed = b; profile = q })
+  turned-over may said q must b failed o inside here asks told is grows idle made installs clear few =
+      turned-by good stm u s may said _ stm.ranges here asks told (over-now good stm u s d same grows said q must b failed o clear is)
+      (record { same = same; all = refl; regions = refl; policy = refl; switched = kept-switches u d installs })
+      (over good stm u s d same grows q must b failed o inside idle made installs clear few)
 
   pub few-next : IsCounted (failed_next u.must u.failed) (must_next u.must u.failed)
   few-next = still-few u.failed u.must s.counted
 
   -- by a refusal
-  pub turned-quit : (said : Said) (must b : Bool) (failed : ℕ) (o : Output) → u.phase ≡ Inside → MaySay (place_of u) said → Tells good stm.config (caller_of u.desc.who.role) said (known u.desc) (known d) → Asks said (known u.desc)
-      → record (place_of u) { phase = Between; replies = []; emits = []; failed = failed; must = must } ≡ after (place_of u) said
+  pub turned-quit : (said : Said) (q : Noted) (must b : Bool) (failed : ℕ) (o : Output) → u.phase ≡ Inside → MaySay (place_of u) said → Tells good stm.config (caller_of u.desc.who.role) said (known u.desc) (known d) → Asks said (known u.desc)
+      → record (place_of u) { phase = Between; replies = []; emits = []; failed = failed; must = must; profile = q } ≡ after (place_of u) said
       → Quits (known u.desc) (known d) → o ≡ cleared u.out → IsCounted failed must
-      → Turned good stm MaySay u said (record u { desc = d; phase = Between; out = o; must = must; failed = failed; passed = b })
-  turned-quit said must b failed o inside here told asks is q clear few = turned-over MaySay said must b failed o inside here asks told is q.ends.grows q.ends.idle q.made q.ends.installs clear few
+      → Turned good stm MaySay u said (record u { desc = d; phase = Between; out = o; must = must; failed = failed; passed = b; profile = q })
+  turned-quit said q must b failed o inside here told asks is h clear few = turned-over MaySay said q must b failed o inside here asks told is h.ends.grows h.ends.idle h.made h.ends.installs clear few
 
   pub turned-refused : (r : Bor (List Op)) (o : Output) → Comes Cancel (place_of u) → r.now ≡ rest_of u.operations_left.now → known d ≡ known u.desc → is_irrevocable (known u.desc) ≡ true → o ≡ record u.out { replies = u.out.replies ++ 0 ∷ [] }
       → Turned good stm MaySay u (TryCancel Irrevocable) (record u { desc = d; operations_left = r; out = o })
   turned-refused r o comes is knows certain told =
       let grows = subst (Grows (known u.desc)) (sym knows) (grows-same (known u.desc) (known u.desc) refl refl [] refl refl refl) in
       turned-by good stm u s MaySay (TryCancel Irrevocable) _ stm.ranges comes (runs-now good stm u s comes.0) (knows, certain) (refused-now good stm u s d same grows r o is told)
-      (record { same = same; all = refl; regions = refl; switched = ap (λ (v : Known). v.installs ++ switches_of u.items_left.now) knows })
+      (record { same = same; all = refl; regions = refl; policy = refl; switched = kept-switches u d (ap (λ (v : Known). v.installs) knows) })
       (refused good stm u s d same grows r o comes is knows certain told)
 
   pub dropped-refused : u.phase ≡ Inside → known d ≡ known u.desc → is_irrevocable (known u.desc) ≡ true → Refused good stm u (record u { desc = d })
@@ -606,14 +683,14 @@ module _ {K : Type 0} (good : List ℕ → Type 0) (stm : Stm K) (u : Worker K) 
   pub turned-forced : u.phase ≡ Inside → is_forced (place_of u) ≡ true → answers.BecomesSure good stm.config (caller_of u.desc.who.role) (known u.desc) (known d) → Turned good stm MaySay u (TryIrrevocable Granted) (record u { desc = d; granted = true })
   turned-forced inside forced h =
       turned-by good stm u s MaySay (TryIrrevocable Granted) _ stm.ranges (inl (inside, forced)) (runs-now good stm u s inside) h (forced-now good stm u s d same h.continues.grows forced)
-      (record { same = same; all = refl; regions = refl; switched = ap (λ l. l ++ switches_of u.items_left.now) h.continues.installs })
+      (record { same = same; all = refl; regions = refl; policy = refl; switched = kept-switches u d h.continues.installs })
       (granted-forced good stm u s d same h.continues.grows inside h)
 
   pub turned-asked : (r : Bor (List Op)) (o : Output) → Comes Irrev (place_of u) → r.now ≡ rest_of u.operations_left.now → o ≡ record u.out { replies = u.out.replies ++ 1 ∷ [] } → answers.BecomesSure good stm.config (caller_of u.desc.who.role) (known u.desc) (known d)
       → Turned good stm MaySay u (TryIrrevocable Granted) (record u { desc = d; operations_left = r; out = o; granted = true })
   turned-asked r o comes is told h =
       turned-by good stm u s MaySay (TryIrrevocable Granted) _ stm.ranges (inr comes) (runs-now good stm u s comes.0) h (asked-now good stm u s d same h.continues.grows r o comes.1 is told)
-      (record { same = same; all = refl; regions = refl; switched = ap (λ l. l ++ switches_of u.items_left.now) h.continues.installs })
+      (record { same = same; all = refl; regions = refl; policy = refl; switched = kept-switches u d h.continues.installs })
       (granted-asked good stm u s d same h.continues.grows r o comes is told h)
 
   pub turned-busy : (k status : ℕ) → u.phase ≡ Inside → MaySay (place_of u) (TryIrrevocable (Busy k status)) → answers.Irrevs good stm.config (caller_of u.desc.who.role) (Busy k status) (known u.desc) (known d) → Turned good stm MaySay u (TryIrrevocable (Busy k status)) (record u { desc = d })
@@ -647,26 +724,33 @@ module _ {K : Type 0} (good : List ℕ → Type 0) (stm : Stm K) (u : Worker K) 
       let e = cancelled good stm u s d same h.0.ends.grows t o w comes h.0 h.3 told ends in
       turned-by good stm u s MaySay (TryCancel (Cancelled t)) w stm.ranges comes (runs-now good stm u s comes.0) (subst (λ (k : Handle K). answers.Cancels good stm.config (caller_of u.desc.who.role) (Cancelled t) (known u.desc) (known k)) (sym ends.desc) h) e.2 e.1 e.0
 
-  pub turned-switched : (alg : Alg) (r : Bor (List Item)) (x : Known) → u.phase ≡ Quiet → SwitchesTo alg u.items_left.now → r.now ≡ rest_of u.items_left.now → answers.Installs good stm.config (caller_of u.desc.who.role) alg (known u.desc) x → answers.Reopens good stm.config (caller_of u.desc.who.role) x (known d)
+  pub turned-switched : (alg : Alg) (r : Bor (List Item)) (x : Known) → u.phase ≡ Quiet → u.chosen ≡ None → MustSwitchTo alg u.chosen u.items_left.now → r.now ≡ rest_of u.items_left.now → answers.Installs good stm.config (caller_of u.desc.who.role) alg (known u.desc) x → answers.Reopens good stm.config (caller_of u.desc.who.role) x (known d)
       → Turned good stm MaySay u (Installed alg) (record u { desc = d; items_left = r; phase = Between })
-  turned-switched alg r x quiet to is i h =
+  turned-switched alg r x quiet none to is i h =
       let grows = grows-trans (known u.desc) x (known d) i.closed.grows h.grows in
-      let e = switched good stm u s d same grows alg r quiet to is h.idle (h.made ∙ i.closed.made) (h.installs ∙ i.installs) in
+      let e = switched good stm u s d same grows alg r quiet none (subst (λ (c : Option Alg). MustSwitchTo alg c u.items_left.now) none to) is h.idle (h.made ∙ i.closed.made) (h.installs ∙ i.installs) in
+      turned-by good stm u s MaySay (Installed alg) _ stm.ranges (quiet, to) (is-between (rest-quiet u.phase quiet)) (x, i, h) e.2 e.1 e.0
+
+  pub turned-besides : (alg chosen : Alg) (x : Known) → u.phase ≡ Quiet → u.chosen ≡ Some chosen → MustSwitchTo alg u.chosen u.items_left.now → answers.Installs good stm.config (caller_of u.desc.who.role) alg (known u.desc) x → answers.Reopens good stm.config (caller_of u.desc.who.role) x (known d)
+      → Turned good stm MaySay u (Installed alg) (record u { desc = d; phase = Between; profile = no_profile; chosen = None })
+  turned-besides alg chosen x quiet some to i h =
+      let grows = grows-trans (known u.desc) x (known d) i.closed.grows h.grows in
+      let e = switched-besides good stm u s d same grows alg chosen quiet some (subst (λ (c : Option Alg). MustSwitchTo alg c u.items_left.now) some to) h.idle (h.made ∙ i.closed.made) (h.installs ∙ i.installs) in
       turned-by good stm u s MaySay (Installed alg) _ stm.ranges (quiet, to) (is-between (rest-quiet u.phase quiet)) (x, i, h) e.2 e.1 e.0
 
   stopped-is : (op : Op) (stop : Stop) (o : Output) → Comes op (place_of u) → is_call op ≡ false → StoppedBy good stm.config (caller_of u.desc.who.role) op stop (known u.desc) (known d) → o ≡ cleared u.out
       → Turned good stm MaySay u (Stopped op stop) (stopped_by stop (record u { desc = d; out = o }))
   stopped-is op (stops.Conflict cause) o comes plain h clear =
       let q = stops-quits good stm.config (caller_of u.desc.who.role) h.address (stops.Conflict cause) h.before (known d) h.stops in
-      turned-over MaySay (Stopped op (stops.Conflict cause)) (must_next u.must u.failed) u.passed (failed_next u.must u.failed) (cleared o) comes.0 (comes, plain) (runs-now good stm u s comes.0) h refl
+      turned-over MaySay (Stopped op (stops.Conflict cause)) (with_outcome u.profile outcomes.Conflict) (must_next u.must u.failed) u.passed (failed_next u.must u.failed) (cleared o) comes.0 (comes, plain) (runs-now good stm u s comes.0) h refl
       (grows-trans (known u.desc) h.before (known d) h.carries.grows q.ends.grows) q.ends.idle (q.made ∙ h.carries.made) (q.ends.installs ∙ h.carries.installs) (ap cleared clear) few-next
   stopped-is op (stops.Full limit) o comes plain h clear =
       let q = stops-quits good stm.config (caller_of u.desc.who.role) h.address (stops.Full limit) h.before (known d) h.stops in
-      turned-over MaySay (Stopped op (stops.Full limit)) true u.passed u.failed (cleared o) comes.0 (comes, plain) (runs-now good stm u s comes.0) h refl
+      turned-over MaySay (Stopped op (stops.Full limit)) (with_outcome u.profile outcomes.Full) true u.passed u.failed (cleared o) comes.0 (comes, plain) (runs-now good stm u s comes.0) h refl
       (grows-trans (known u.desc) h.before (known d) h.carries.grows q.ends.grows) q.ends.idle (q.made ∙ h.carries.made) (q.ends.installs ∙ h.carries.installs) (ap cleared clear) (λ e. absurd cc)
   stopped-is op (stops.ClockFull clock) o comes plain h clear =
       let q = stops-quits good stm.config (caller_of u.desc.who.role) h.address (stops.ClockFull clock) h.before (known d) h.stops in
-      turned-over MaySay (Stopped op (stops.ClockFull clock)) u.must u.passed u.failed (cleared o) comes.0 (comes, plain) (runs-now good stm u s comes.0) h refl
+      turned-over MaySay (Stopped op (stops.ClockFull clock)) u.profile u.must u.passed u.failed (cleared o) comes.0 (comes, plain) (runs-now good stm u s comes.0) h refl
       (grows-trans (known u.desc) h.before (known d) h.carries.grows q.ends.grows) q.ends.idle (q.made ∙ h.carries.made) (q.ends.installs ∙ h.carries.installs) (ap cleared clear) s.counted
 
   -- an operation was stopped, and its attempt is over

@@ -4,6 +4,9 @@ use Rattle.stm_model.specs.declared.alg.Alg.{Alg}
 use Rattle.stm_model.specs.declared.config.Config.{Config}
 use Rattle.stm_model.specs.declared.stop.Stop.{Stop}
 use Rattle.stm_model.specs.declared.stop.Stop.TheVariants as stops
+use Rattle.std.specs.Prelude.{Option, Some, None}
+use Rattle.stm_profile.specs.declared.outcome.Outcome.{Outcome}
+use Rattle.stm_profile.specs.declared.outcome.Outcome.TheVariants as outcomes
 use Rattle.stm_script.specs.declared.op.Op.{Op}
 use Rattle.stm_script.specs.declared.workload.Item.{Item}
 use Rattle.stm_script.specs.declared.workload.Item.TheVariants.{Tx, Switch}
@@ -19,14 +22,18 @@ use Rattle.tx_answers.specs.declared.answers.Look.TheVariants as looks
 use Rattle.stm_trace.specs.declared.said.Phase.TheVariants.{Inside}
 use Rattle.stm_trace.specs.declared.said.Said.{Said}
 use Rattle.stm_trace.specs.declared.said.Said.TheVariants.{TryBegin, Reply, Stopped, TryCancel, TryIrrevocable, TryCommit, TryClose, Looked, Installed, Idle, Dropped, Reopened}
-use Rattle.stm_trace.specs.Places.{Place, after, failed_next, granted_at, in_the_way, is_forced, must_next, rest_of}
-use Rattle.stm_trace.specs.Turns.{BeforeTx, MaySay, MayWind, SwitchesTo}
+use Rattle.stm_trace.specs.Places.{Place, after, failed_next, granted_at, in_the_way, is_forced, must_next, rest_of, switched}
+use Rattle.stm_trace.specs.Turns.{BeforeTx, MaySay, MayWind, MustSwitchTo, SwitchesTo}
 use Rattle.stm_worker.specs.Payments.{IsCountedFor}
 use Rattle.stm_worker.specs.Tellings.{Tells}
 
 -- with one caller nobody is in the way
 not-alone : (c : Config) → c.callers ≡ 1 → 1 < c.callers → ⊥
 not-alone c one more = omega arith
+
+switched-failed : (c : Option Alg) (at : Place) → at.failed ≡ 0 → (switched c at).failed ≡ 0
+switched-failed None at e = e
+switched-failed (Some chosen) at e = e
 
 granted-failed : (b : Bool) (at : Place) → at.failed ≡ 0 → (granted_at b at).failed ≡ 0
 granted-failed true at e = e
@@ -62,7 +69,7 @@ module _ (good : List ℕ → Type 0) (c : Config) (n : ℕ) (one : c.callers �
   alone-failed (TryClose (closes.Taken gate)) at v w e t = e
   alone-failed (Looked looks.Quiet) at v w e t = e
   alone-failed (Looked (looks.Busy caller status)) at v w e t = e
-  alone-failed (Installed alg) at v w e t = e
+  alone-failed (Installed alg) at v w e t = switched-failed at.chosen at e
   alone-failed Idle at v w e t = e
   alone-failed Dropped at v w e t = e
   alone-failed Reopened at v w e t = e
@@ -87,6 +94,10 @@ counted-switch alg (Switch caller is ∷ items) failed must to h =
 abbrev pub CountsAt : Place → Type 0
 CountsAt at = IsCountedFor at.left at.failed at.must
 
+switched-counts : (alg : Alg) (c : Option Alg) (at : Place) → MustSwitchTo alg c at.left → CountsAt at → CountsAt (switched c at)
+switched-counts alg None at to h = counted-switch alg at.left at.failed at.must to h
+switched-counts alg (Some chosen) at to h = h
+
 granted-counts : (b : Bool) (at : Place) → CountsAt at → CountsAt (granted_at b at)
 granted-counts true at h = h
 granted-counts false at h = h
@@ -96,14 +107,14 @@ stopped-counts op (stops.Conflict cause) at b = counted-tx at.left (failed_next 
 stopped-counts op (stops.Full limit) at b = counted-tx at.left at.failed true b
 stopped-counts op (stops.ClockFull clock) at b = counted-tx at.left at.failed at.must b
 
-way-counts : (at : Place) → BeforeTx at.left → CountsAt (in_the_way at)
-way-counts at b = counted-tx at.left (failed_next at.must at.failed) (must_next at.must at.failed) b
+way-counts : (outcome : Outcome) (at : Place) → BeforeTx at.left → CountsAt (in_the_way outcome at)
+way-counts outcome at b = counted-tx at.left (failed_next at.must at.failed) (must_next at.must at.failed) b
 
 irrevocable-counts : (r : Irrev) (at : Place) → BeforeTx at.left → CountsAt at → CountsAt (after at (TryIrrevocable r))
 irrevocable-counts irrevs.Granted at b h = granted-counts (is_forced at) at h
 irrevocable-counts (irrevs.Busy caller status) at b h = h
-irrevocable-counts (irrevs.Taken gate) at b h = way-counts at b
-irrevocable-counts (irrevs.Conflict cause) at b h = way-counts at b
+irrevocable-counts (irrevs.Taken gate) at b h = way-counts outcomes.Cancelled at b
+irrevocable-counts (irrevs.Conflict cause) at b h = way-counts outcomes.Conflict at b
 irrevocable-counts (irrevs.ClockFull clock) at b h = h
 
 -- what is counted is counted for the transaction that comes next, where one has begun or is open
@@ -120,14 +131,14 @@ said-counts (TryIrrevocable r) at here (inl forced) h = irrevocable-counts r at 
 said-counts (TryIrrevocable r) at here (inr comes) h = irrevocable-counts r at (here comes.0) h
 said-counts (TryCommit (commits.Committed time)) at here may h = counted-none (rest_of at.left)
 said-counts (TryCommit (commits.ReadOnly time)) at here may h = counted-none (rest_of at.left)
-said-counts (TryCommit (commits.Conflict cause)) at here may h = way-counts at (here may.0)
+said-counts (TryCommit (commits.Conflict cause)) at here may h = way-counts outcomes.Conflict at (here may.0)
 said-counts (TryCommit (commits.Again word had now)) at here may h = h
 said-counts (TryCommit (commits.ClockFull clock)) at here may h = h
 said-counts (TryClose closes.Closed) at here may h = h
 said-counts (TryClose (closes.Taken gate)) at here may h = h
 said-counts (Looked looks.Quiet) at here may h = h
 said-counts (Looked (looks.Busy caller status)) at here may h = h
-said-counts (Installed alg) at here may h = counted-switch alg at.left at.failed at.must may.1 h
+said-counts (Installed alg) at here may h = switched-counts alg at.chosen at may.1 h
 said-counts Idle at here may h = h
 said-counts Dropped at here may h = absurd may
 said-counts Reopened at here may h = absurd may

@@ -1,3 +1,5 @@
+pub mod Installs
+pub mod InstallLaws
 pub mod Goings
 pub mod Tellings
 pub mod Workers

@@ -1,7 +1,7 @@
 -- What each answer raised the clock by, and what pays for it at the place of its turn.
 use Rattle.std.proofs.Common.{ℕ, suc, ◌≡◌, ◌≤◌, ◌+◌, ◌*◌, Bool, true, false, List, [], ◌∷◌, length, refl, sym, ap, ◌∙◌, arith, subst, inl, inr}
 use Rattle.std.proofs.Math.Nat.{mul-suc}
-use Rattle.std.specs.Prelude.{◌⊎◌, ◌&&◌, not, leb}
+use Rattle.std.specs.Prelude.{◌⊎◌, ◌&&◌, not, leb, Option, Some, None}
 use Rattle.stm_model.specs.Algorithms.{entry_rise, quit_rise}
 use Rattle.stm_model.specs.AlgorithmLaws.{entry-low, install-low, quit-low, quit-none}
 use Rattle.stm_model.specs.Logs.{Log}
@@ -9,9 +9,14 @@ use Rattle.stm_model.specs.Memories.{is_empty}
 use Rattle.stm_model.specs.declared.alg.Alg.{Alg}
 use Rattle.stm_model.specs.declared.stop.Stop.{Stop}
 use Rattle.stm_model.specs.declared.stop.Stop.TheVariants as stops
+use Rattle.stm_profile.specs.declared.outcome.Outcome.TheVariants as outcomes
+use Rattle.stm_profile.specs.declared.policy.Policy.{Policy}
+use Rattle.stm_profile.specs.declared.policy.Policy.TheVariants.{Fixed}
+use Rattle.stm_profile.specs.Profiles.{with_outcome}
 use Rattle.stm_rule.specs.declared.stm.Stm.{Stm}
 use Rattle.stm_script.specs.declared.op.Op.{Op}
-use Rattle.stm_script.specs.declared.report.Kind.TheVariants.{R}
+use Rattle.stm_script.specs.declared.report.Kind.{Kind}
+use Rattle.stm_script.specs.declared.report.Kind.TheVariants.{W, R, C}
 use Rattle.stm_script.specs.declared.workload.Item.{Item}
 use Rattle.stm_script.specs.declared.workload.Item.TheVariants.{Tx, Switch}
 use Rattle.tx_answers.specs.Answers.{Quits, Stays}
@@ -24,13 +29,14 @@ use Rattle.tx_answers.specs.declared.answers.Irrev.{Irrev}
 use Rattle.tx_answers.specs.declared.answers.Irrev.TheVariants as irrevs
 use Rattle.tx_answers.specs.declared.answers.Look.TheVariants as looks
 use Rattle.stm_tx.specs.Descs.{known}
+use Rattle.stm_trace.specs.Adapting.{asked_by, outcome_of}
 use Rattle.stm_trace.specs.declared.said.Phase.TheVariants.{Between, Inside, Closing, Quiet}
 use Rattle.stm_trace.specs.declared.said.Said.{Said}
 use Rattle.stm_trace.specs.declared.said.Said.TheVariants.{TryBegin, Reply, Stopped, TryCancel, TryIrrevocable, TryCommit, TryClose, Looked, Installed, Idle, Dropped, Reopened}
-use Rattle.stm_trace.specs.Places.{after, ended, failed_next, given_up, granted_at, in_the_way, is_forced, most_failed, must_next, rest_of, sure}
-use Rattle.stm_trace.specs.Turns.{BeforeTx, Comes, MaySay, MayWind, SwitchesTo}
+use Rattle.stm_trace.specs.Places.{after, ended, failed_next, given_up, granted_at, in_the_way, is_forced, most_failed, must_next, rest_of, sure, switched}
+use Rattle.stm_trace.specs.Turns.{BeforeTx, Comes, MaySay, MayWind, MustSwitchTo, SwitchesTo}
 use Rattle.stm_worker.specs.declared.worker.Worker.{Worker}
-use Rattle.stm_worker.specs.Payments.{raised, spent, Paid, dropped_of, unpaid_by}
+use Rattle.stm_worker.specs.Payments.{raised, spent, Paid, dropped_of, due_of, unpaid_by}
 use Rattle.stm_worker.specs.RiseLaws.{raised-in, raised-out, stops-quits}
 use Rattle.stm_worker.specs.Tellings.{Tells, StoppedBy}
 use Rattle.stm_worker.specs.Workers.{place_of, IsAt, IsUnderWay, Sound, WhenInside}
@@ -49,6 +55,11 @@ pub tx-less : (left : List Item) → BeforeTx left → length left ≡ suc (leng
 tx-less [] b = absurd b
 tx-less (Tx caller script ∷ items) b = refl
 tx-less (Switch caller alg ∷ items) b = absurd b
+
+-- a policy asks for one switch at most
+due-low : (c : Option Alg) → due_of c ≤ 1
+due-low None = omega arith
+due-low (Some alg) = omega arith
 
 switch-less : (alg : Alg) (left : List Item) → SwitchesTo alg left → length left ≡ suc (length (rest_of left))
 switch-less alg [] b = absurd b
@@ -110,7 +121,7 @@ module _ {K : Type 0} (good : List ℕ → Type 0) (stm : Stm K) (u : Worker K) 
   asked-inside (inl forced) = forced.0
   asked-inside (inr comes) = comes.0
 
-  module _ (unpaid each most all : ℕ) (few : u.must ≡ false → u.failed + 1 ≤ most) (wide : most + 2 ≤ each) (pays : Paid unpaid each most all (known u.desc) (place_of u)) where
+  module _ (unpaid each most all : ℕ) (few : u.must ≡ false → u.failed + 1 ≤ most) (wide : most + 3 ≤ each) (pays : Paid unpaid each most all (known u.desc) (place_of u)) where
     -- it raised nothing, and nothing is counted
     same-paid : (x : Known) → raised x ≡ raised (known u.desc) → Paid (unpaid + 0) each most all x (place_of u)
     same-paid x e = omega (arith, e, pays)
@@ -126,7 +137,7 @@ module _ {K : Type 0} (good : List ℕ → Type 0) (stm : Stm K) (u : Worker K) 
     granted-paid false x h = h
 
     -- the attempt is over: it was counted, or it was not, or its log was too short, or the item is done
-    way-paid : (x : Known) (rise : ℕ) → u.phase ≡ Inside → x.running ≡ false → x.rises ≤ (known u.desc).base + rise → rise ≤ 1 → (u.must ≡ true → rise ≡ 0) → Paid (unpaid + 0) each most all x (in_the_way (place_of u))
+    way-paid : (x : Known) (rise : ℕ) → u.phase ≡ Inside → x.running ≡ false → x.rises ≤ (known u.desc).base + rise → rise ≤ 1 → (u.must ≡ true → rise ≡ 0) → Paid (unpaid + 0) each most all x (in_the_way outcomes.Conflict (place_of u))
     way-paid x rise e out r low none =
         let a = raised-in (known u.desc) (runs e) in
         let b = raised-out x out in
@@ -146,13 +157,14 @@ module _ {K : Type 0} (good : List ℕ → Type 0) (stm : Stm K) (u : Worker K) 
         let m = full-pays most u.failed rise u.must free few low in
         omega (arith, a, b, m, r, pays)
 
-    row-paid : (x : Known) (rise : ℕ) → u.phase ≡ Inside → x.running ≡ false → x.rises ≤ (known u.desc).base + rise → rise ≤ 2 → Paid (unpaid + 0) each most all x (ended R 0 (place_of u))
-    row-paid x rise e out r low =
+    row-paid : (kind : Kind) (x : Known) (rise : ℕ) → u.phase ≡ Inside → x.running ≡ false → x.rises ≤ (known u.desc).base + rise → rise ≤ 2 → Paid (unpaid + 0) each most all x (ended kind 0 (place_of u))
+    row-paid kind x rise e out r low =
         let a = raised-in (known u.desc) (runs e) in
         let b = raised-out x out in
         let m = spent-low most u.failed u.must (λ off. let f = few off in omega arith) in
         let one = each-item each u.items_left.now (tx-less u.items_left.now (under e).here) in
-        omega (arith, a, b, m, one, r, pays)
+        let due = due-low (ended kind 0 (place_of u)).chosen in
+        omega (arith, a, b, m, one, due, r, pays)
 
     stopped-paid : (op : Op) (stop : Stop) (x : Known) → Comes op (place_of u) → StoppedBy good stm.config (caller_of u.desc.who.role) op stop (known u.desc) x → Paid (unpaid + unpaid_by (Stopped op stop)) each most all x (after (place_of u) (Stopped op stop))
     stopped-paid op stop x comes t = by stop (unforced op stop x comes t) (stops-quits good stm.config (caller_of u.desc.who.role) t.address stop t.before x t.stops)
@@ -166,7 +178,7 @@ module _ {K : Type 0} (good : List ℕ → Type 0) (stm : Stm K) (u : Worker K) 
             quit-paid x (quit_rise t.before.alg (wrote t.before)) comes.0 q.ends.idle.1 (let r = q.rises.1 in let e = t.carries.base in omega arith) (quit-low t.before.alg (wrote t.before))
 
     -- it was refused where it could have been cancelled
-    refused-paid : (x : Known) → u.phase ≡ Inside → Quits (known u.desc) x → Paid (unpaid + 0) each most all x (in_the_way (place_of u))
+    refused-paid : (x : Known) → u.phase ≡ Inside → Quits (known u.desc) x → Paid (unpaid + 0) each most all x (in_the_way outcomes.Conflict (place_of u))
     refused-paid x e q = way-paid x (quit_rise (known u.desc).alg (wrote (known u.desc))) e q.ends.idle.1 q.rises.1 (quit-low (known u.desc).alg (wrote (known u.desc)))
         (λ must. quit-none (known u.desc).alg (wrote (known u.desc)) (unwritten e must q.revocable))
 
@@ -182,6 +194,11 @@ module _ {K : Type 0} (good : List ℕ → Type 0) (stm : Stm K) (u : Worker K) 
     irrevocable-paid (irrevs.Conflict cause) x e t = refused-paid x e t.0
     irrevocable-paid (irrevs.ClockFull clock) x e t = quit-paid x (quit_rise (known u.desc).alg (wrote (known u.desc))) e t.0.ends.idle.1 t.0.rises.1 (quit-low (known u.desc).alg (wrote (known u.desc)))
 
+    -- a switch is an item that is done, or it was due
+    switched-paid : (alg : Alg) (x : Known) (c : Option Alg) → u.chosen ≡ c → MustSwitchTo alg c u.items_left.now → raised x ≤ raised (known u.desc) + 1 → Paid (unpaid + 0) each most all x (switched c (place_of u))
+    switched-paid alg x None e to r = let one = each-item each u.items_left.now (switch-less alg u.items_left.now to) in omega (arith, r, one, pays)
+    switched-paid alg x (Some chosen) e to r = let due : due_of u.chosen ≡ 1 = ap due_of e in omega (arith, r, due, pays)
+
     pub said-paid : (said : Said) (x : Known) → MaySay (place_of u) said → Tells good stm.config (caller_of u.desc.who.role) said (known u.desc) x → Paid (unpaid + unpaid_by said) each most all x (after (place_of u) said)
     said-paid (TryBegin (begins.Begun alg)) x may t = same-paid x (raised-in x t.running ∙ (t.base ∙ sym (raised-out (known u.desc) (idles may.0))))
     said-paid (TryBegin (begins.Closed gate)) x may t = stays-paid x may.0 t.0
@@ -190,11 +207,11 @@ module _ {K : Type 0} (good : List ℕ → Type 0) (stm : Stm K) (u : Worker K) 
     said-paid (Reply op reply) x may t = goes-paid x may.0.0 t.1.0 t.0.base
     said-paid (Stopped op stop) x may t = stopped-paid op stop x may.0 t
     said-paid (TryCancel (cancels.Cancelled time)) x may t =
-        row-paid x (quit_rise (known u.desc).alg (wrote (known u.desc))) may.0 t.0.ends.idle.1 t.2 (let l = quit-low (known u.desc).alg (wrote (known u.desc)) in omega arith)
+        row-paid C x (quit_rise (known u.desc).alg (wrote (known u.desc))) may.0 t.0.ends.idle.1 t.2 (let l = quit-low (known u.desc).alg (wrote (known u.desc)) in omega arith)
     said-paid (TryCancel cancels.Irrevocable) x may t = same-paid x (ap raised t.0)
     said-paid (TryIrrevocable r) x may t = irrevocable-paid r x (asked-inside may) t
-    said-paid (TryCommit (commits.Committed time)) x may t = row-paid x (entry_rise (known u.desc).alg) may.0 t.ends.idle.1 (let r = t.rises in omega arith) (entry-low (known u.desc).alg)
-    said-paid (TryCommit (commits.ReadOnly time)) x may t = row-paid x 0 may.0 t.0.ends.idle.1 (let r = t.1 in omega arith) (omega arith)
+    said-paid (TryCommit (commits.Committed time)) x may t = row-paid W x (entry_rise (known u.desc).alg) may.0 t.ends.idle.1 (let r = t.rises in omega arith) (entry-low (known u.desc).alg)
+    said-paid (TryCommit (commits.ReadOnly time)) x may t = row-paid R x 0 may.0 t.0.ends.idle.1 (let r = t.1 in omega arith) (omega arith)
     said-paid (TryCommit (commits.Conflict cause)) x may t = refused-paid x may.0 t.0
     said-paid (TryCommit (commits.Again word had now)) x may t = goes-paid x may.0 t.0.continues.running t.0.continues.base
     said-paid (TryCommit (commits.ClockFull clock)) x may t = quit-paid x (quit_rise (known u.desc).alg (wrote (known u.desc))) may.0 t.0.ends.idle.1 t.0.rises.1 (quit-low (known u.desc).alg (wrote (known u.desc)))
@@ -208,8 +225,7 @@ module _ {K : Type 0} (good : List ℕ → Type 0) (stm : Stm K) (u : Worker K) 
         let r = t.2.rises in
         let i = t.1.rises.1 in
         let l = install-low alg in
-        let one = each-item each u.items_left.now (switch-less alg u.items_left.now may.1) in
-        omega (arith, a, b, one, pays)
+        switched-paid alg x u.chosen refl may.1 (omega (arith, a, b))
     said-paid Idle x may t = same-paid x (ap raised t)
     said-paid Dropped x may t = absurd may
     said-paid Reopened x may t = absurd may
@@ -251,23 +267,32 @@ dropped-switch alg (Tx caller script ∷ items) b = absurd b
 dropped-switch alg (Switch caller to ∷ items) b = refl
 
 -- an item that is done pays for an attempt of it that was dropped, too
-module _ {K : Type 0} (good : List ℕ → Type 0) (stm : Stm K) (u : Worker K) (s : Sound good stm u) (each most all : ℕ) (few : u.must ≡ false → u.failed + 1 ≤ most) (wide : most + 3 ≤ each)
+module _ {K : Type 0} (good : List ℕ → Type 0) (stm : Stm K) (u : Worker K) (s : Sound good stm u) (fixed : u.policy ≡ Fixed) (each most all : ℕ) (few : u.must ≡ false → u.failed + 1 ≤ most) (wide : most + 3 ≤ each)
     (pays : Paid (dropped_of u.items_left.now) each most all (known u.desc) (place_of u)) where
   as-said : (said : Said) (x : Known) → MaySay (place_of u) said → Tells good stm.config (caller_of u.desc.who.role) said (known u.desc) x → Paid (dropped_of u.items_left.now + unpaid_by said) each most all x (after (place_of u) said)
-  as-said said x may t = said-paid good stm u s (dropped_of u.items_left.now) each most all few (omega arith) pays said x may t
+  as-said said x may t = said-paid good stm u s (dropped_of u.items_left.now) each most all few wide pays said x may t
 
-  row-settles : (x : Known) (rise : ℕ) → u.phase ≡ Inside → x.running ≡ false → x.rises ≤ (known u.desc).base + rise → rise ≤ 2 → Paid (dropped_of (rest_of u.items_left.now) + 0) each most all x (ended R 0 (place_of u))
-  row-settles x rise e out r low =
+  -- no switch is due then
+  no-due : (kind : Kind) → due_of (ended kind 0 (place_of u)).chosen ≡ 0
+  no-due kind = ap (λ (p : Policy). due_of (asked_by p (with_outcome u.profile (outcome_of kind)) u.alg)) fixed
+
+  row-settles : (kind : Kind) (x : Known) (rise : ℕ) → u.phase ≡ Inside → x.running ≡ false → x.rises ≤ (known u.desc).base + rise → rise ≤ 2 → Paid (dropped_of (rest_of u.items_left.now) + 0) each most all x (ended kind 0 (place_of u))
+  row-settles kind x rise e out r low =
       let a = raised-in (known u.desc) (runs good stm u s e) in
       let b = raised-out x out in
       let m = spent-low most u.failed u.must (λ off. let f = few off in omega arith) in
       let one = each-item each u.items_left.now (tx-less u.items_left.now (under good stm u s e).here) in
       let d = dropped-low u.items_left.now in
-      omega (arith, a, b, m, one, d, r, pays)
+      let due = no-due kind in
+      omega (arith, a, b, m, one, d, due, r, pays)
 
   granted-left : (b : Bool) (x : Known) → Paid (dropped_of u.items_left.now + 0) each most all x (granted_at b (place_of u)) → Paid (dropped_of (granted_at b (place_of u)).left + 0) each most all x (granted_at b (place_of u))
   granted-left true x h = h
   granted-left false x h = h
+
+  switched-left : (alg : Alg) (x : Known) (c : Option Alg) → MustSwitchTo alg c u.items_left.now → Paid (dropped_of u.items_left.now + 0) each most all x (switched c (place_of u)) → Paid (dropped_of (switched c (place_of u)).left + 0) each most all x (switched c (place_of u))
+  switched-left alg x None to h = let none = dropped-switch alg u.items_left.now to in omega (arith, h, none)
+  switched-left alg x (Some chosen) to h = h
 
   pub settles : (said : Said) (x : Known) → MaySay (place_of u) said → Tells good stm.config (caller_of u.desc.who.role) said (known u.desc) x → Paid (dropped_of (after (place_of u) said).left + unpaid_by said) each most all x (after (place_of u) said)
   settles (TryBegin (begins.Begun alg)) x may t = as-said (TryBegin (begins.Begun alg)) x may t
@@ -279,15 +304,15 @@ module _ {K : Type 0} (good : List ℕ → Type 0) (stm : Stm K) (u : Worker K) 
   settles (Stopped op (stops.Full limit)) x may t = as-said (Stopped op (stops.Full limit)) x may t
   settles (Stopped op (stops.ClockFull clock)) x may t = as-said (Stopped op (stops.ClockFull clock)) x may t
   settles (TryCancel (cancels.Cancelled time)) x may t =
-      row-settles x (quit_rise (known u.desc).alg (wrote (known u.desc))) may.0 t.0.ends.idle.1 t.2 (let l = quit-low (known u.desc).alg (wrote (known u.desc)) in omega arith)
+      row-settles C x (quit_rise (known u.desc).alg (wrote (known u.desc))) may.0 t.0.ends.idle.1 t.2 (let l = quit-low (known u.desc).alg (wrote (known u.desc)) in omega arith)
   settles (TryCancel cancels.Irrevocable) x may t = as-said (TryCancel cancels.Irrevocable) x may t
   settles (TryIrrevocable irrevs.Granted) x may t = granted-left (is_forced (place_of u)) x (as-said (TryIrrevocable irrevs.Granted) x may t)
   settles (TryIrrevocable (irrevs.Busy caller status)) x may t = as-said (TryIrrevocable (irrevs.Busy caller status)) x may t
   settles (TryIrrevocable (irrevs.Taken gate)) x may t = as-said (TryIrrevocable (irrevs.Taken gate)) x may t
   settles (TryIrrevocable (irrevs.Conflict cause)) x may t = as-said (TryIrrevocable (irrevs.Conflict cause)) x may t
   settles (TryIrrevocable (irrevs.ClockFull clock)) x may t = as-said (TryIrrevocable (irrevs.ClockFull clock)) x may t
-  settles (TryCommit (commits.Committed time)) x may t = row-settles x (entry_rise (known u.desc).alg) may.0 t.ends.idle.1 (let r = t.rises in omega arith) (entry-low (known u.desc).alg)
-  settles (TryCommit (commits.ReadOnly time)) x may t = row-settles x 0 may.0 t.0.ends.idle.1 (let r = t.1 in omega arith) (omega arith)
+  settles (TryCommit (commits.Committed time)) x may t = row-settles W x (entry_rise (known u.desc).alg) may.0 t.ends.idle.1 (let r = t.rises in omega arith) (entry-low (known u.desc).alg)
+  settles (TryCommit (commits.ReadOnly time)) x may t = row-settles R x 0 may.0 t.0.ends.idle.1 (let r = t.1 in omega arith) (omega arith)
   settles (TryCommit (commits.Conflict cause)) x may t = as-said (TryCommit (commits.Conflict cause)) x may t
   settles (TryCommit (commits.Again word had now)) x may t = as-said (TryCommit (commits.Again word had now)) x may t
   settles (TryCommit (commits.ClockFull clock)) x may t = as-said (TryCommit (commits.ClockFull clock)) x may t
@@ -295,10 +320,7 @@ module _ {K : Type 0} (good : List ℕ → Type 0) (stm : Stm K) (u : Worker K) 
   settles (TryClose (closes.Taken gate)) x may t = as-said (TryClose (closes.Taken gate)) x may t
   settles (Looked looks.Quiet) x may t = as-said (Looked looks.Quiet) x may t
   settles (Looked (looks.Busy caller status)) x may t = as-said (Looked (looks.Busy caller status)) x may t
-  settles (Installed alg) x may t =
-      let h = as-said (Installed alg) x may t in
-      let none = dropped-switch alg u.items_left.now may.1 in
-      omega (arith, h, none)
+  settles (Installed alg) x may t = switched-left alg x u.chosen may.1 (as-said (Installed alg) x may t)
   settles Idle x may t = as-said Idle x may t
   settles Dropped x may t = absurd may
   settles Reopened x may t = absurd may

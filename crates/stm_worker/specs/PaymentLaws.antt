@@ -5,6 +5,7 @@ use Rattle.std.proofs.lemmas.List.Elements.{All-head, All-tail}
 use Rattle.std.proofs.lemmas.List.Sums.{sum_by-cons}
 use Rattle.std.specs.Prelude.{Option, Some, None, All, sum_by}
 use Rattle.stm_model.specs.declared.alg.Alg.{Alg}
+use Rattle.stm_profile.specs.declared.policy.Policy.TheVariants.{Fixed}
 use Rattle.stm_rule.specs.Callers.{Handle}
 use Rattle.stm_rule.specs.declared.stm.Stm.{Stm}
 use Rattle.stm_script.specs.declared.workload.Item.{Item}
@@ -15,7 +16,7 @@ use Rattle.stm_trace.specs.declared.said.Phase.{Phase}
 use Rattle.stm_trace.specs.declared.said.Phase.TheVariants.{Between, Inside, Closing, Quiet}
 use Rattle.stm_trace.specs.declared.said.Said.{Said}
 use Rattle.stm_trace.specs.declared.said.Said.TheVariants.{TryBegin, Reply, Stopped, TryCancel, TryIrrevocable, TryCommit, TryClose, Looked, Installed, Idle, Dropped, Reopened}
-use Rattle.stm_trace.specs.Places.{Place, after, clock_of, given_up, most_failed}
+use Rattle.stm_trace.specs.Places.{Place, after, clock_of, most_failed}
 use Rattle.stm_trace.specs.Turns.{MaySay, MayWind, MayFinish}
 use Rattle.stm_worker.specs.declared.worker.Worker.{Worker}
 use Rattle.stm_worker.specs.Payments.{raised, spent, Pays, PaysBut, PaysAfter, PaysOnceDone, PaysOnceDoneAfter, PaysWinding, PaysWindingAfter, Affords, Paid, dropped_of, unpaid_at, unpaid_by, IsCountedFor, CountsNext}
@@ -53,13 +54,13 @@ same-unpaid at Reopened may = absurd may
 
 module _ {K : Type 0} (good : List ℕ → Type 0) (stm : Stm K) (u : Worker K) (said : Said) (w : Worker K) (s : Sound good stm u) where
   -- an attempt is counted until there have been 16: so many rises pay for them, two more for the one that ends the item, and what was unpaid stays so
-  pub turned-pays-but : (unpaid each most : ℕ) → Turned good stm MaySay u said w → most_failed ≤ most → most + 2 ≤ each → PaysBut unpaid each most u → PaysBut (unpaid + unpaid_by said) each most w
+  pub turned-pays-but : (unpaid each most : ℕ) → Turned good stm MaySay u said w → most_failed ≤ most → most + 3 ≤ each → PaysBut unpaid each most u → PaysBut (unpaid + unpaid_by said) each most w
   turned-pays-but unpaid each most t much wide pays =
       paid-there good stm MaySay u said w (unpaid + unpaid_by said) each most t
       (said-paid good stm u s unpaid each most (length u.all.now) (λ e. let f = s.counted e in omega arith) wide pays said (known w.desc) t.here t.told)
 
   -- with one caller no attempt is counted, and one that must be irrevocable follows on one whose log was too short
-  pub alone-pays-but : (unpaid each most : ℕ) → Turned good stm MaySay u said w → u.failed ≡ 0 → 1 ≤ most → most + 2 ≤ each → PaysBut unpaid each most u → PaysBut (unpaid + unpaid_by said) each most w
+  pub alone-pays-but : (unpaid each most : ℕ) → Turned good stm MaySay u said w → u.failed ≡ 0 → 1 ≤ most → most + 3 ≤ each → PaysBut unpaid each most u → PaysBut (unpaid + unpaid_by said) each most w
   alone-pays-but unpaid each most t none one wide pays =
       paid-there good stm MaySay u said w (unpaid + unpaid_by said) each most t
       (said-paid good stm u s unpaid each most (length u.all.now) (λ e. omega arith) wide pays said (known w.desc) t.here t.told)
@@ -69,7 +70,7 @@ module _ {K : Type 0} (good : List ℕ → Type 0) (stm : Stm K) (u : Worker K) 
 
   -- A TURN PAYS for what it raised the clock by
   pub turned-pays : (each most : ℕ) → Turned good stm MaySay u said w → 17 ≤ most → most + 3 ≤ each → Pays each most u → PaysAfter each most (clock_of said) w
-  turned-pays each most t much wide pays = after-turn each most t (turned-pays-but 0 each most t (omega arith) (omega arith) (omega (arith, pays)))
+  turned-pays each most t much wide pays = after-turn each most t (turned-pays-but 0 each most t (omega arith) wide (omega (arith, pays)))
 
 -- behind the schedule, once nothing is open, no more may be said than before
 finish-says : (at : Place) (said : Said) → MayFinish at said → MaySay at said
@@ -94,7 +95,7 @@ module _ {K : Type 0} (good : List ℕ → Type 0) (stm : Stm K) (u : Worker K) 
   -- and so one that must be irrevocable follows only on one whose log was too short
   pub turned-pays-alone : (each most : ℕ) → Turned good stm MaySay u said w → stm.config.callers ≡ 1 → u.failed ≡ 0 → 1 ≤ most → most + 3 ≤ each → Pays each most u → PaysAfter each most (clock_of said) w × (w.failed ≡ 0)
   turned-pays-alone each most t one none much wide pays = (
-    after-turn good stm u said w s each most t (alone-pays-but good stm u said w s 0 each most t none much (omega arith) (omega (arith, pays))),
+    after-turn good stm u said w s each most t (alone-pays-but good stm u said w s 0 each most t none much wide (omega (arith, pays))),
     none-failed MaySay t one none,
   )
 
@@ -118,7 +119,7 @@ all-pays unpaid each most all (Switch caller alg ∷ items) failed must risen co
     let e : spent most failed must ≡ 0 = (λ i. spent most (counts.0 i) (counts.1 i)) in omega (arith, e, pays)
 
 pub pays-all : {K : Type 0} (unpaid each most : ℕ) (w : Worker K) → CountsNext w → (w.must ≡ false → w.failed ≤ most) → most ≤ each → PaysBut unpaid each most w → raised (known w.desc) ≤ each * length w.all.now + unpaid
-pays-all unpaid each most w counts few wide pays = all-pays unpaid each most (length w.all.now) w.items_left.now w.failed w.must (raised (known w.desc)) counts few wide pays
+pays-all unpaid each most w counts few wide pays = all-pays unpaid each most (length w.all.now) w.items_left.now w.failed w.must (raised (known w.desc)) counts few wide (omega (arith, pays))
 
 -- while an item is left that is not all
 some-left : (unpaid each most all : ℕ) (left : List Item) (failed : ℕ) (must : Bool) (risen : ℕ) → 0 < length left → (must ≡ false → failed ≤ most) → most + 2 ≤ each
@@ -130,7 +131,7 @@ some-left unpaid each most all (x ∷ items) failed must risen some few wide pay
     omega (arith, m, one, pays)
 
 pub pays-left : {K : Type 0} (unpaid each most : ℕ) (w : Worker K) → 0 < length w.items_left.now → (w.must ≡ false → w.failed ≤ most) → most + 2 ≤ each → PaysBut unpaid each most w → raised (known w.desc) + 2 ≤ each * length w.all.now + unpaid
-pays-left unpaid each most w some few wide pays = some-left unpaid each most (length w.all.now) w.items_left.now w.failed w.must (raised (known w.desc)) some few wide pays
+pays-left unpaid each most w some few wide pays = some-left unpaid each most (length w.all.now) w.items_left.now w.failed w.must (raised (known w.desc)) some few wide (omega (arith, pays))
 
 -- the same, where the item pays for an attempt that was dropped
 done-paid : {K : Type 0} (w : Worker K) (each most : ℕ) (clock : Option ℕ) → PaysBut (dropped_of w.items_left.now + unpaid_at clock) each most w → PaysOnceDoneAfter each most clock w
@@ -138,15 +139,15 @@ done-paid w each most None h = omega (arith, h)
 done-paid w each most (Some clock) h = h
 
 module _ {K : Type 0} (good : List ℕ → Type 0) (stm : Stm K) (u : Worker K) (said : Said) (w : Worker K) (s : Sound good stm u) where
-  settled-there : (may : Place → Said → Type 0) (each most : ℕ) → Turned good stm may u said w → MaySay (place_of u) said → Affords most u → most + 3 ≤ each → PaysOnceDone each most u → PaysOnceDoneAfter each most (clock_of said) w
-  settled-there may each most t says few wide pays =
+  settled-there : (may : Place → Said → Type 0) (each most : ℕ) → Turned good stm may u said w → MaySay (place_of u) said → u.policy ≡ Fixed → Affords most u → most + 3 ≤ each → PaysOnceDone each most u → PaysOnceDoneAfter each most (clock_of said) w
+  settled-there may each most t says fixed few wide pays =
       done-paid w each most (clock_of said) (subst (λ n. PaysBut (dropped_of w.items_left.now + n) each most w) (same-unpaid (place_of u) said says)
       (subst (λ (at : Place). PaysBut (dropped_of at.left + unpaid_by said) each most w) (sym t.now)
       (paid-there good stm may u said w (dropped_of (after (place_of u) said).left + unpaid_by said) each most t
-      (settles good stm u s each most (length u.all.now) few wide pays said (known w.desc) says t.told))))
+      (settles good stm u s fixed each most (length u.all.now) few wide pays said (known w.desc) says t.told))))
 
-  pub finished-pays : (each most : ℕ) → Turned good stm MayFinish u said w → Affords most u → most + 3 ≤ each → PaysOnceDone each most u → PaysOnceDoneAfter each most (clock_of said) w
-  finished-pays each most t few wide pays = settled-there MayFinish each most t (finish-says (place_of u) said t.here) few wide pays
+  pub finished-pays : (each most : ℕ) → Turned good stm MayFinish u said w → u.policy ≡ Fixed → Affords most u → most + 3 ≤ each → PaysOnceDone each most u → PaysOnceDoneAfter each most (clock_of said) w
+  finished-pays each most t fixed few wide pays = settled-there MayFinish each most t (finish-says (place_of u) said t.here) fixed few wide pays
 
 -- an attempt that goes on behind the schedule was not dropped
 winds : {K : Type 0} (w : Worker K) (each most : ℕ) (clock : Option ℕ) → PaysBut (0 + unpaid_at clock) each most w → PaysWindingAfter each most clock w
@@ -159,7 +160,7 @@ module _ {K : Type 0} (good : List ℕ → Type 0) (stm : Stm K) (u : Worker K) 
       let now : Pays each most u = pays.1 inside in
       winds w each most (clock_of said) (subst (λ n. PaysBut (0 + n) each most w) (same-unpaid (place_of u) said says)
       (paid-there good stm MayWind u said w (0 + unpaid_by said) each most t
-      (said-paid good stm u s 0 each most (length u.all.now) few (omega arith) (omega (arith, now)) said (known w.desc) says t.told)))
+      (said-paid good stm u s 0 each most (length u.all.now) few wide (omega (arith, now)) said (known w.desc) says t.told)))
 
   -- it has nothing open any more
   outside : (at : Place) → at.phase ≡ Between → place_of w ≡ at → w.phase ≡ Inside → Pays each most w
@@ -181,12 +182,12 @@ module _ {K : Type 0} (good : List ℕ → Type 0) (stm : Stm K) (u : Worker K) 
       let now : Pays each most u = pays.1 t.here.0 in
       let one : dropped_of w.items_left.now ≡ 1 = ap (λ (p : Place). dropped_of p.left) t.now ∙ dropped-tx u.items_left.now (under good stm u s t.here.0).here in
       let h : PaysBut 1 each most w = paid-there good stm MayWind u Dropped w 1 each most t
-      (wound-paid good stm u s 0 each most (length u.all.now) few (omega arith) (omega (arith, now)) Dropped (known w.desc) t.here t.told) in
-      (omega (arith, h, one), outside (given_up (place_of u)) refl t.now)
+      (wound-paid good stm u s 0 each most (length u.all.now) few wide (omega (arith, now)) Dropped (known w.desc) t.here t.told) in
+      (omega (arith, h, one), outside (after (place_of u) Dropped) refl t.now)
   wound-pays Reopened t =
       let same : dropped_of w.items_left.now ≡ dropped_of u.items_left.now = ap (λ (p : Place). dropped_of p.left) t.now in
       let h : PaysBut (dropped_of u.items_left.now + 0) each most w = paid-there good stm MayWind u Reopened w (dropped_of u.items_left.now + 0) each most t
-      (wound-paid good stm u s (dropped_of u.items_left.now) each most (length u.all.now) few (omega arith) pays.0 Reopened (known w.desc) t.here t.told) in
+      (wound-paid good stm u s (dropped_of u.items_left.now) each most (length u.all.now) few wide pays.0 Reopened (known w.desc) t.here t.told) in
       (omega (arith, h, same), outside (record (place_of u) { phase = Between }) refl t.now)
 
 -- whatever is open, with what an open attempt may still raise: the items of a caller bound it
@@ -216,7 +217,7 @@ module _ {K : Type 0} (good : List ℕ → Type 0) (stm : Stm K) (w : Worker K) 
   shut-owes out =
       let a = raised-out (known w.desc) out in
       let b = owed-out (known w.desc) out in
-      let h : raised (known w.desc) ≤ each * length w.all.now + unpaid = done-all unpaid each most (length w.all.now) w.items_left.now w.failed w.must (raised (known w.desc)) counts few (omega arith) pays in
+      let h : raised (known w.desc) ≤ each * length w.all.now + unpaid = done-all unpaid each most (length w.all.now) w.items_left.now w.failed w.must (raised (known w.desc)) counts few (omega arith) (omega (arith, pays)) in
       omega (arith, a, b, h)
 
   -- THE ITEMS PAY FOR ALL that their caller raised, and may still raise by what it has open

@@ -1,5 +1,7 @@
 -- By how much the items that are done can have raised the clock.
 use Rattle.std.specs.Prelude.{ℕ, ◌≡◌, ◌≤◌, ◌+◌, ◌*◌, Bool, true, false, List, [], ◌∷◌, Option, Some, None, length, if◌then◌else◌}
+use Rattle.stm_model.specs.declared.alg.Alg.{Alg}
+use Rattle.stm_profile.specs.declared.policy.Policy.TheVariants.{Fixed}
 use Rattle.stm_script.specs.declared.workload.Item.{Item}
 use Rattle.stm_script.specs.declared.workload.Item.TheVariants.{Tx, Switch}
 use Rattle.tx_answers.specs.Known.{Known, owed}
@@ -22,13 +24,18 @@ abbrev pub spent : ℕ → ℕ → Bool → ℕ
 spent most failed true = most
 spent most failed false = failed
 
+-- the switch that the policy asks for behind a transaction may raise it by one
+abbrev pub due_of : Option Alg → ℕ
+due_of None = 0
+due_of (Some alg) = 1
+
 -- so many rises pay for an item that is done, of which at most `most` are spent on attempts that failed
 abbrev pub Pays : {K : Type 0} → ℕ → ℕ → Worker K → Type 0
-Pays each most w = raised (known w.desc) + each * length w.items_left.now ≤ each * length w.all.now + spent most w.failed w.must
+Pays each most w = raised (known w.desc) + each * length w.items_left.now + due_of w.chosen ≤ each * length w.all.now + spent most w.failed w.must
 
 -- and so many more are paid by nothing
 abbrev pub PaysBut : {K : Type 0} → ℕ → ℕ → ℕ → Worker K → Type 0
-PaysBut unpaid each most w = raised (known w.desc) + each * length w.items_left.now ≤ each * length w.all.now + spent most w.failed w.must + unpaid
+PaysBut unpaid each most w = raised (known w.desc) + each * length w.items_left.now + due_of w.chosen ≤ each * length w.all.now + spent most w.failed w.must + unpaid
 
 -- an attempt that found the clock full is not counted, and may have raised it by one: with that the run is over
 abbrev pub PaysAfter : {K : Type 0} → ℕ → ℕ → Option ℕ → Worker K → Type 0
@@ -82,7 +89,7 @@ unpaid_by Reopened = 0
 
 -- the same of what a caller knows at a place, with so many items in all
 abbrev pub Paid : ℕ → ℕ → ℕ → ℕ → Known → Place → Type 0
-Paid unpaid each most all v at = raised v + each * length at.left ≤ each * all + spent most at.failed at.must + unpaid
+Paid unpaid each most all v at = raised v + each * length at.left + due_of at.chosen ≤ each * all + spent most at.failed at.must + unpaid
 
 -- only attempts of the transaction that comes next are counted
 abbrev pub IsCountedFor : List Item → ℕ → Bool → Type 0
@@ -107,8 +114,9 @@ module _ (K : Type 0) (good : List ℕ → Type 0) where
   abbrev pub TurnsPayWinding : Type 0
   TurnsPayWinding = (stm : Stm K) (u : Worker K) (said : Said) (w : Worker K) (each most : ℕ) → Sound good stm u → Turned good stm MayWind u said w → Affords most u → most + 3 ≤ each → PaysWinding each most u → PaysWindingAfter each most (clock_of said) w
 
+  -- and with no switch besides those of the text, for what was dropped too
   abbrev pub TurnsPayFinishing : Type 0
-  TurnsPayFinishing = (stm : Stm K) (u : Worker K) (said : Said) (w : Worker K) (each most : ℕ) → Sound good stm u → Turned good stm MayFinish u said w → Affords most u → most + 3 ≤ each → PaysOnceDone each most u → PaysOnceDoneAfter each most (clock_of said) w
+  TurnsPayFinishing = (stm : Stm K) (u : Worker K) (said : Said) (w : Worker K) (each most : ℕ) → Sound good stm u → Turned good stm MayFinish u said w → u.policy ≡ Fixed → Affords most u → most + 3 ≤ each → PaysOnceDone each most u → PaysOnceDoneAfter each most (clock_of said) w
 
   -- THE ITEMS PAY FOR ALL that their caller raised, and may still raise by what it has open
   abbrev pub ItemsPay : Type 0

@@ -1,10 +1,15 @@
 -- What a worker keeps, and what a turn does.
-use Rattle.std.specs.Prelude.{ℕ, ◌≡◌, ◌<◌, ◌≤◌, ◌+◌, ◌^◌, ◌&&◌, not, Bool, true, false, List, [], ◌∷◌, ◌++◌, length, drop, Contains, Some, MatchOption, vec_capacity, vec_len}
+use Rattle.std.specs.Prelude.{ℕ, ◌≡◌, ◌<◌, ◌≤◌, ◌+◌, ◌^◌, ◌&&◌, not, Bool, true, false, List, [], ◌∷◌, ◌++◌, length, drop, Contains, Option, Some, None, MatchOption, vec_capacity, vec_len}
 use Rattle.rule_base.specs.declared.layout.At.TheVariants.{Clock}
 use Rattle.rule_base.specs.declared.views.Act.{Act}
 use Rattle.stm_model.specs.Algorithms.{is_built}
 use Rattle.stm_model.specs.Histories.{Entry}
 use Rattle.stm_model.specs.declared.alg.Alg.{Alg}
+use Rattle.stm_profile.specs.declared.outcome.Outcome.{Outcome}
+use Rattle.stm_profile.specs.declared.outcome.Outcome.TheVariants as outcomes
+use Rattle.stm_profile.specs.declared.policy.Policy.{Policy}
+use Rattle.stm_profile.specs.declared.policy.Policy.TheVariants.{Fixed, Round, Expert, State}
+use Rattle.stm_profile.specs.Profiles.{with_outcome}
 use Rattle.stm_model.specs.declared.config.Config.{Config}
 use Rattle.stm_model.specs.declared.stop.Stop.{Stop}
 use Rattle.stm_model.specs.declared.stop.Stop.TheVariants as stops
@@ -29,14 +34,16 @@ use Rattle.stm_trace.specs.declared.said.Phase.{Phase}
 use Rattle.stm_trace.specs.declared.said.Phase.TheVariants.{Between, Inside, Closing, Quiet}
 use Rattle.stm_trace.specs.declared.said.Said.{Said}
 use Rattle.stm_trace.specs.declared.said.Said.TheVariants.{TryBegin, Reply, Stopped, TryCancel, TryIrrevocable, TryCommit, TryClose, Looked, Installed, Idle, Dropped, Reopened}
-use Rattle.stm_trace.specs.Places.{Place, after, clock_of, ended, failed_next, must_next, most_failed, rest_of, script_at, sure}
-use Rattle.stm_trace.specs.Turns.{BeforeTx, BeforeSwitch, HasSizes, IsFair}
+use Rattle.stm_trace.specs.Adapting.{asked_by, no_profile}
+use Rattle.stm_trace.specs.Places.{Place, after, clock_of, ended, failed_next, must_next, most_failed, recorded, rest_of, script_at, sure}
+use Rattle.stm_trace.specs.Turns.{BeforeTx, MustSwitch, HasSizes, IsFair}
 use Rattle.stm_worker.specs.declared.worker.Worker.{Worker}
 use Rattle.stm_worker.specs.Goings.{Going}
+use Rattle.stm_worker.specs.Installs.{InstallsBy}
 use Rattle.stm_worker.specs.Tellings.{Tells}
 
 abbrev pub place_of : {K : Type 0} → Worker K → Place
-place_of w = record { caller = caller_of w.desc.who.role; left = w.items_left.now; failed = w.failed; must = w.must; phase = w.phase; alg = w.alg; rest = w.operations_left.now; replies = w.out.replies; emits = w.out.emits; wrote = w.wrote; granted = w.granted; rows = w.rows.items }
+place_of w = record { caller = caller_of w.desc.who.role; left = w.items_left.now; failed = w.failed; must = w.must; phase = w.phase; alg = w.alg; rest = w.operations_left.now; replies = w.out.replies; emits = w.out.emits; wrote = w.wrote; granted = w.granted; rows = w.rows.items; policy = w.policy; profile = w.profile; chosen = w.chosen }
 
 -- the descriptor of caller n is idle, in an attempt, or holds the gate
 abbrev pub IsAt : (List ℕ → Type 0) → Config → ℕ → Phase → Known → Type 0
@@ -56,11 +63,18 @@ WhenInside Closing P = Unit {0}
 WhenInside Quiet P = Unit {0}
 
 -- who closes the gate has a switch to do
-abbrev pub ToSwitch : Phase → List Item → Type 0
-ToSwitch Between left = Unit {0}
-ToSwitch Inside left = Unit {0}
-ToSwitch Closing left = BeforeSwitch left
-ToSwitch Quiet left = BeforeSwitch left
+abbrev pub ToSwitch : Phase → Option Alg → List Item → Type 0
+ToSwitch Between chosen left = Unit {0}
+ToSwitch Inside chosen left = Unit {0}
+ToSwitch Closing chosen left = MustSwitch chosen left
+ToSwitch Quiet chosen left = MustSwitch chosen left
+
+-- a fixed policy asks for no switch
+abbrev pub IsAskedBy : Policy → Option Alg → Type 0
+IsAskedBy Fixed chosen = chosen ≡ None
+IsAskedBy (Round n) chosen = Unit {0}
+IsAskedBy Expert chosen = Unit {0}
+IsAskedBy (State n) chosen = Unit {0}
 
 -- the items of caller n: each script fits and keeps the rule on memories, and each switch is to an algorithm that is built
 abbrev pub ItemsFit : (List ℕ → Type 0) → ℕ → List Region → ℕ → List Item → Type 0
@@ -78,9 +92,9 @@ switches_of (Switch caller alg ∷ items) = alg ∷ switches_of items
 abbrev pub DidFirst : List Item → List Item → Type 0
 DidFirst all left = (first : List Item) × (all ≡ first ++ left)
 
--- what the caller has installed since it began: the switches that it did, in their order
-abbrev pub DidSwitches : List Item → List Item → Known → Type 0
-DidSwitches all left v = (first : List Alg) × (v.installs ++ switches_of left ≡ first ++ switches_of all)
+-- what the caller has installed since it began: the switches that it did, in their order, and what its policy asked for among them
+abbrev pub DidSwitches : Policy → List Item → List Item → Known → Type 0
+DidSwitches policy all left v = (first : List Alg) × InstallsBy policy (first ++ switches_of all) (v.installs ++ switches_of left)
 
 -- the caller's rows and what it knows: each row is what its script does
 abbrev pub Works : (List ℕ → Type 0) → ℕ → List Region → List Item → ℕ → Known → List Row → Type 0
@@ -125,26 +139,39 @@ pub record Roomy {K : Type 0} (w : Worker K) : Type 0 where
   pub spare : w.spare.items ++ cleared w.out ∷ [] ≡ spares w.items_left.now
   pub rows : vec_len w.rows + length w.spare.items ≤ vec_capacity w.rows
 
--- what was installed between the two, and what is still to be switched to, is what was to be switched to
+-- what was installed, and what the items that are left switch to
+abbrev pub switches_with : {K : Type 0} → Worker K → List Alg
+switches_with w = (known w.desc).installs ++ switches_of w.items_left.now
+
+-- what was installed between the two, and what is still to be switched to, is what was to be switched to, and what the policy asked for among it
 abbrev pub Switches : {K : Type 0} → Worker K → Worker K → Type 0
-Switches v w = (known w.desc).installs ++ switches_of w.items_left.now ≡ (known v.desc).installs ++ switches_of v.items_left.now
+Switches v w = InstallsBy v.policy (switches_with v) (switches_with w)
 
 -- the same caller, with the same items to do, of which it passed over no switch
 pub record IsSame {K : Type 0} (v w : Worker K) : Type 0 where
   pub same : IsSameCaller v.desc w.desc
   pub all : w.all.now ≡ v.all.now
   pub regions : w.regions.now ≡ v.regions.now
+  pub policy : w.policy ≡ v.policy
   pub switched : Switches v w
 
 -- nothing is done, and there is room for all; alg is the memory's algorithm at the start
-pub record Starts {K : Type 0} (desc : Handle K) (items : List Item) (regions : List Region) (alg : Alg) (w : Worker K) : Type 0 where
+pub record Starts {K : Type 0} (desc : Handle K) (items : List Item) (regions : List Region) (alg : Alg) (policy : Policy) (w : Worker K) : Type 0 where
   pub is_desc : w.desc ≡ desc
   pub all : w.all.now ≡ items
-  pub at : place_of w ≡ record { caller = caller_of desc.who.role; left = items; failed = 0; must = false; phase = Between; alg = alg; rest = []; replies = []; emits = []; wrote = false; granted = false; rows = [] }
+  pub at : place_of w ≡ record { caller = caller_of desc.who.role; left = items; failed = 0; must = false; phase = Between; alg = alg; rest = []; replies = []; emits = []; wrote = false; granted = false; rows = []; policy = policy; profile = no_profile; chosen = None }
   pub over : w.regions.now ≡ regions
   pub roomy : Roomy w
 
 -- the row is written, and the next replies begin
+pub record WroteRow {K : Type 0} (kind : Kind) (time : ℕ) (v w : Worker K) : Type 0 where
+  pub at : place_of w ≡ recorded kind time (place_of v)
+  pub desc : w.desc ≡ v.desc
+  pub all : w.all.now ≡ v.all.now
+  pub regions : w.regions.now ≡ v.regions.now
+  pub roomy : Roomy w
+
+-- and the policy is asked
 pub record EndsWith {K : Type 0} (kind : Kind) (time : ℕ) (v w : Worker K) : Type 0 where
   pub at : place_of w ≡ ended kind time (place_of v)
   pub desc : w.desc ≡ v.desc
@@ -156,15 +183,23 @@ pub record EndsWith {K : Type 0} (kind : Kind) (time : ℕ) (v w : Worker K) : T
 abbrev pub gave_up : {K : Type 0} → Worker K → Worker K
 gave_up w = record w { phase = Between; out = cleared w.out }
 
+-- and what it came to is noted
+abbrev pub gave_up_as : {K : Type 0} → Outcome → Worker K → Worker K
+gave_up_as outcome w = record w { phase = Between; out = cleared w.out; profile = with_outcome w.profile outcome }
+
 -- since another caller was in its way
-abbrev pub made_way : {K : Type 0} → Worker K → Worker K
-made_way w = record w { phase = Between; out = cleared w.out; failed = failed_next w.must w.failed; must = must_next w.must w.failed }
+abbrev pub made_way : {K : Type 0} → Outcome → Worker K → Worker K
+made_way outcome w = record w { phase = Between; out = cleared w.out; failed = failed_next w.must w.failed; must = must_next w.must w.failed; profile = with_outcome w.profile outcome }
 
 -- by why it was stopped
 abbrev pub stopped_by : {K : Type 0} → Stop → Worker K → Worker K
-stopped_by (stops.Conflict cause) w = made_way w
-stopped_by (stops.Full limit) w = record w { phase = Between; out = cleared w.out; must = true }
+stopped_by (stops.Conflict cause) w = made_way outcomes.Conflict w
+stopped_by (stops.Full limit) w = record w { phase = Between; out = cleared w.out; must = true; profile = with_outcome w.profile outcomes.Full }
 stopped_by (stops.ClockFull clock) w = gave_up w
+
+-- the last attempt of a transaction is noted, and the policy asked
+abbrev pub adapted : {K : Type 0} → Outcome → Worker K → Worker K
+adapted outcome w = record w { profile = with_outcome w.profile outcome; chosen = asked_by w.policy (with_outcome w.profile outcome) w.alg }
 
 -- the operation `irrev` is done, which was granted
 pub record DoneIrrev {K : Type 0} (v w : Worker K) : Type 0 where
@@ -204,10 +239,11 @@ module _ {K : Type 0} (good : List ℕ → Type 0) (stm : Stm K) where
     pub todo : scripts_of (caller_of w.desc.who.role) w.items_left.now ≡ drop (length w.rows.items) (scripts_of (caller_of w.desc.who.role) w.all.now)
     pub within : length w.rows.items ≤ length (scripts_of (caller_of w.desc.who.role) w.all.now)
     pub counted : IsCounted w.failed w.must
-    pub switched : DidSwitches w.all.now w.items_left.now (known w.desc)
+    pub switched : DidSwitches w.policy w.all.now w.items_left.now (known w.desc)
+    pub asked : IsAskedBy w.policy w.chosen
     pub fits : ItemsFit good stm.config.words w.regions.now (caller_of w.desc.who.role) w.items_left.now
     pub roomy : Roomy w
-    pub turning : ToSwitch w.phase w.items_left.now
+    pub turning : ToSwitch w.phase w.chosen w.items_left.now
     pub under_way : WhenInside w.phase (IsUnderWay good stm.config.words w)
 
   -- a turn says what may come at its place, tells what its call found, by the numbers that its cause allows, and leads where that leads

@@ -88,7 +88,10 @@ pub fn is_over<K: MemRule>(w: &Worker<K>) -> bool
     ensures { MatchBool result (IsOver (place_of w.now)) (IsOver (place_of w.now) → ⊥) }
 {
     match w.phase {
-        Phase::Between => w.items_left.is_empty(),
+        Phase::Between => match w.chosen {
+            None => w.items_left.is_empty(),
+            Some(_) => false,
+        },
         Phase::Inside | Phase::Closing | Phase::Quiet => false,
     }
 }

@@ -1,5 +1,5 @@
 //! A caller's worker: one call a turn.
-ghost use Rattle.std.specs.Prelude.{◌≡◌, ◌⊎◌, ◌++◌, ◌∷◌, [], true, false, MatchBool, IfOk, IfErr, OnOk};
+ghost use Rattle.std.specs.Prelude.{◌≡◌, ◌⊎◌, ◌++◌, ◌∷◌, [], true, false, None, MatchBool, IfOk, IfErr, OnOk};
 ghost use Rattle.stm_model.specs.Logs.{IsExplained};
 ghost use Rattle.tx_effects.specs.Effects.{Under};
 ghost use Rattle.tx_regions.specs.Regions.{AllWellFormed};
@@ -11,10 +11,11 @@ ghost use Rattle.stm_rule.specs.Callers.{IsOf, IsSameCaller};
 ghost use Rattle.stm_tx.specs.Descs.{known};
 ghost use Rattle.tx_answers.specs.Known.{IsRunning, caller_of, is_irrevocable};
 ghost use Rattle.tx_answers.specs.KnownLaws.{Carries};
+ghost use Rattle.stm_trace.specs.Adapting.{asked_by, no_profile, other_than, outcome_of};
 ghost use Rattle.stm_trace.specs.Places.{script_at, rest_of, writes, is_forced, sure};
-ghost use Rattle.stm_trace.specs.Turns.{BeforeTx, BeforeSwitch, SwitchesTo, Next, Comes, MaySay, MayWind, is_call};
+ghost use Rattle.stm_trace.specs.Turns.{BeforeTx, BeforeSwitch, MustSwitch, MustSwitchTo, SwitchesTo, Next, Comes, MaySay, MayWind, is_call};
 ghost use Rattle.stm_worker.specs.Tellings.{StoppedBy};
-ghost use Rattle.stm_worker.specs.Workers.{Sound, Turned, Refused, Roomy, EndsWith, IsCounted, Starts, DoneIrrev, gave_up, made_way, stopped_by, place_of, spares};
+ghost use Rattle.stm_worker.specs.Workers.{Sound, Turned, Refused, Roomy, WroteRow, EndsWith, IsCounted, Starts, DoneIrrev, adapted, gave_up, gave_up_as, made_way, stopped_by, place_of, spares};
 
 use crate::turnstile::Turnstile;
 use std::alloc::{AllocError, Global};
@@ -23,6 +24,10 @@ use stm_model::alg::Alg;
 use stm_model::memory::Memory;
 use stm_model::rule::MemRule;
 use stm_model::stop::Stop;
+use stm_profile::choosing::choose;
+use stm_profile::outcome::Outcome;
+use stm_profile::policy::Policy;
+use stm_profile::profile::Profile;
 use stm_rule::desc::Desc;
 use stm_rule::stm::Stm;
 use stm_script::interpret::perform;
@@ -69,6 +74,12 @@ pub struct Worker<'a, K: MemRule> {
     pub rows: Vec<Row>,
     /// Empty room for the replies of the transactions behind the next one, the last one's first.
     pub spare: Vec<Replies>,
+    /// When the caller switches besides where its items say so.
+    pub policy: Policy,
+    /// What its attempts came to since it last switched by its policy.
+    pub profile: Profile,
+    /// The switch that its policy asks for: it comes before the next item.
+    pub chosen: Option<Alg>,
 }
 
 /// After so many attempts of a transaction that another caller was in the way of, the next one must become
@@ -85,8 +96,19 @@ fn tail<T>(items: &[T]) -> &[T]
     }
 }
 
-/// The algorithm of the switch that is to be done.
-fn target(items: &[Item]) -> Alg
+/// The algorithm of the switch that is to be done: the one that was chosen, or else the next item's.
+fn target(chosen: Option<Alg>, items: &[Item]) -> Alg
+    requires here { MustSwitch chosen items.now }
+    ensures { MustSwitchTo result chosen items.now }
+{
+    match chosen {
+        Some(alg) => alg,
+        None => next_target(items),
+    }
+}
+
+/// The algorithm of the switch that is the next item.
+fn next_target(items: &[Item]) -> Alg
     requires here { BeforeSwitch items.now }
     ensures { SwitchesTo result items.now }
 {
@@ -94,6 +116,28 @@ fn target(items: &[Item]) -> Alg
         Some(Item::Switch { caller: _, alg }) => *alg,
         Some(Item::Tx { .. }) => unreachable!(),
         None => unreachable!(),
+    }
+}
+
+/// What the attempt came to whose transaction has a row of this kind.
+fn outcome_of(kind: Kind) -> Outcome
+    ensures { result ≡ outcome_of kind }
+{
+    match kind {
+        Kind::W => Outcome::Committed,
+        Kind::R => Outcome::ReadOnly,
+        Kind::C => Outcome::Cancelled,
+    }
+}
+
+/// The algorithm to switch to, where it is another one.
+fn other_than(alg: Alg, next: Alg) -> Option<Alg>
+    ensures { result ≡ other_than alg next }
+{
+    if next.number() == alg.number() {
+        None
+    } else {
+        Some(next)
     }
 }
 
@@ -157,7 +201,7 @@ fn operate<K: MemRule>(
 fn rooms(alloc: Global, items: &[Item]) -> Result<Vec<Replies>, Memory>
     ensures { IfOk result (λ spare. spare.items ≡ spares items.now) }
 {
-    let mut spare = Vec::new(alloc);
+    let mut spare = Vec::with_capacity(alloc, items.len().saturating_add(1))?;
     push_room(&mut spare, Replies::new(alloc, 0)?)?;
     for done in 0..items.len() {
         if let Item::Tx { caller: _, script } = &items[items.len() - 1 - done] {
@@ -186,8 +230,9 @@ impl<'a, K: MemRule> Worker<'a, K> {
         items: &'a [Item],
         regions: &'a Regions,
         alg: Alg,
+        policy: Policy,
     ) -> Result<Worker<'a, K>, Memory>
-        ensures { IfOk result (Starts desc items.now regions.now alg) }
+        ensures { IfOk result (Starts desc items.now regions.now alg policy) }
     {
         let mut spare = rooms(alloc, items)?;
         let out = match spare.pop() {
@@ -196,6 +241,7 @@ impl<'a, K: MemRule> Worker<'a, K> {
         };
         let mut rows = Vec::new(alloc);
         rows.reserve(spare.len())?;
+        let profile = Profile::new(alloc)?;
         Ok(Worker {
             desc,
             all: items,
@@ -212,6 +258,9 @@ impl<'a, K: MemRule> Worker<'a, K> {
             regions,
             rows,
             spare,
+            policy,
+            profile,
+            chosen: None,
         })
     }
 
@@ -221,23 +270,34 @@ impl<'a, K: MemRule> Worker<'a, K> {
         ensures turned { Turned (K.good stm.now.rule) stm.now MaySay self.old result self.new }
     {
         match self.phase {
-            Phase::Between => {
-                let items = self.items_left;
-                match items.first() {
-                    None => Said::Idle,
-                    Some(Item::Tx { caller: _, script }) => {
-                        Said::TryBegin(self.begin(stm, script.as_slice()))
-                    }
-                    Some(Item::Switch { caller: _, alg: _ }) => Said::TryClose(self.close(stm)),
-                }
-            }
+            Phase::Between => match self.chosen {
+                Some(_) => Said::TryClose(self.close(stm)),
+                None => self.next_item(stm),
+            },
             Phase::Inside => self.go_on(stm, turnstile),
             Phase::Closing => Said::Looked(self.look(stm)),
             Phase::Quiet => {
-                let alg = target(self.items_left);
+                let alg = target(self.chosen, self.items_left);
                 self.install(stm, alg);
                 Said::Installed(alg)
             }
+        }
+    }
+
+    /// The first call of the next item.
+    fn next_item(&mut self, stm: &Stm<K>) -> Said
+        requires sound { Sound (K.good stm.now.rule) stm.now self.old }
+        requires between { self.old.phase ≡ Phase.Between }
+        requires unasked { self.old.chosen ≡ None }
+        ensures turned { Turned (K.good stm.now.rule) stm.now MaySay self.old result self.new }
+    {
+        let items = self.items_left;
+        match items.first() {
+            None => Said::Idle,
+            Some(Item::Tx { caller: _, script }) => {
+                Said::TryBegin(self.begin(stm, script.as_slice()))
+            }
+            Some(Item::Switch { caller: _, alg: _ }) => Said::TryClose(self.close(stm)),
         }
     }
 
@@ -273,6 +333,7 @@ impl<'a, K: MemRule> Worker<'a, K> {
         requires sound { Sound (K.good stm.now.rule) stm.now self.old }
         requires between { self.old.phase ≡ Phase.Between }
         requires here { BeforeTx self.old.items_left.now }
+        requires unasked { self.old.chosen ≡ None }
         requires script { script.now ≡ script_at self.old.items_left.now }
         ensures turned { Turned (K.good stm.now.rule) stm.now MaySay self.old (Said.TryBegin result) self.new }
     {
@@ -350,11 +411,11 @@ impl<'a, K: MemRule> Worker<'a, K> {
             Irrev::Busy { caller, status } => Irrev::Busy { caller, status },
             Irrev::Taken { gate } => {
                 cancel(&mut self.desc, stm);
-                self.make_way();
+                self.make_way(Outcome::Cancelled);
                 Irrev::Taken { gate }
             }
             Irrev::Conflict(cause) => {
-                self.make_way();
+                self.make_way(Outcome::Conflict);
                 Irrev::Conflict(cause)
             }
             Irrev::ClockFull { clock } => {
@@ -399,7 +460,7 @@ impl<'a, K: MemRule> Worker<'a, K> {
             }
             Commit::Again { word, had, now } => Commit::Again { word, had, now },
             Commit::Conflict(cause) => {
-                self.make_way();
+                self.make_way(Outcome::Conflict);
                 Commit::Conflict(cause)
             }
             Commit::ClockFull { clock } => {
@@ -416,11 +477,11 @@ impl<'a, K: MemRule> Worker<'a, K> {
         }
     }
 
-    /// Tries to close the gate for the next switch.
+    /// Tries to close the gate for the switch that is to be done.
     fn close(&mut self, stm: &Stm<K>) -> CloseGate
         requires sound { Sound (K.good stm.now.rule) stm.now self.old }
         requires between { self.old.phase ≡ Phase.Between }
-        requires here { BeforeSwitch self.old.items_left.now }
+        requires here { MustSwitch self.old.chosen self.old.items_left.now }
         ensures turned { Turned (K.good stm.now.rule) stm.now MaySay self.old (Said.TryClose result) self.new }
     {
         match close_gate(&mut self.desc, stm) {
@@ -447,24 +508,46 @@ impl<'a, K: MemRule> Worker<'a, K> {
         }
     }
 
-    /// Installs the algorithm, and opens the gate again.
+    /// Installs the algorithm, and opens the gate again. A switch that the policy asked for is none of the items,
+    /// and behind it the profile begins anew.
     fn install(&mut self, stm: &Stm<K>, alg: Alg)
         requires sound { Sound (K.good stm.now.rule) stm.now self.old }
         requires quiet { self.old.phase ≡ Phase.Quiet }
-        requires to { SwitchesTo alg self.old.items_left.now }
+        requires to { MustSwitchTo alg self.old.chosen self.old.items_left.now }
         ensures turned { Turned (K.good stm.now.rule) stm.now MaySay self.old (Said.Installed alg) self.new }
     {
         install(&mut self.desc, stm, alg);
         reopen(&mut self.desc, stm);
-        self.items_left = tail(self.items_left);
         self.phase = Phase::Between;
+        match self.chosen {
+            None => self.items_left = tail(self.items_left),
+            Some(_) => self.begin_anew(),
+        }
     }
 
-    /// Writes the row of the open transaction, whose attempt has ended.
+    /// What the policy asked for is done, and is forgotten with what it went by.
+    fn begin_anew(&mut self)
+        ensures { self.new ≡ record self.old { profile = no_profile; chosen = None } }
+    {
+        self.profile.clear();
+        self.chosen = None;
+    }
+
+    /// Ends the open transaction by its row, and asks the policy.
     fn end(&mut self, kind: Kind, place: u64)
         requires roomy { Roomy self.old }
         requires here { BeforeTx self.old.items_left.now }
         ensures ends { EndsWith kind place self.old self.new }
+    {
+        self.write_row(kind, place);
+        self.adapt(outcome_of(kind));
+    }
+
+    /// Writes the row of the open transaction, whose attempt has ended.
+    fn write_row(&mut self, kind: Kind, place: u64)
+        requires roomy { Roomy self.old }
+        requires here { BeforeTx self.old.items_left.now }
+        ensures wrote { WroteRow kind place self.old self.new }
     {
         let seq = self.rows.len();
         let caller = self.desc.number;
@@ -487,6 +570,22 @@ impl<'a, K: MemRule> Worker<'a, K> {
         self.phase = Phase::Between;
     }
 
+    /// Notes what the last attempt of a transaction came to, and asks the policy for a switch.
+    fn adapt(&mut self, outcome: Outcome)
+        ensures { self.new ≡ adapted outcome self.old }
+    {
+        self.profile.note(outcome);
+        self.chosen = self.asked();
+    }
+
+    /// The switch that the policy asks for behind a transaction: to another algorithm than that of its last
+    /// attempt.
+    fn asked(&self) -> Option<Alg>
+        ensures { result ≡ asked_by self.now.policy self.now.profile self.now.alg }
+    {
+        other_than(self.alg, choose(self.policy, &self.profile, self.alg))
+    }
+
     /// The attempt has ended without a row, by this stop. A log that was too short for it will be so again, so
     /// that the next attempt must become irrevocable.
     fn stop(&mut self, stop: Stop)
@@ -494,9 +593,9 @@ impl<'a, K: MemRule> Worker<'a, K> {
         ensures { self.new ≡ stopped_by stop self.old }
     {
         match stop {
-            Stop::Conflict(_) => self.make_way(),
+            Stop::Conflict(_) => self.make_way(Outcome::Conflict),
             Stop::Full { .. } => {
-                self.give_up();
+                self.give_up_as(Outcome::Full);
                 self.must = true;
             }
             Stop::ClockFull { .. } => self.give_up(),
@@ -505,15 +604,23 @@ impl<'a, K: MemRule> Worker<'a, K> {
 
     /// The attempt has ended without a row, since another caller was in its way. After so many the next one must
     /// become irrevocable.
-    fn make_way(&mut self)
+    fn make_way(&mut self, outcome: Outcome)
         requires { IsCounted self.old.failed self.old.must }
-        ensures { self.new ≡ made_way self.old }
+        ensures { self.new ≡ made_way outcome self.old }
     {
-        self.give_up();
+        self.give_up_as(outcome);
         if !self.must {
             self.failed += 1;
             self.must = self.failed >= MOST_FAILED;
         }
+    }
+
+    /// The attempt has ended without a row, and came to this.
+    fn give_up_as(&mut self, outcome: Outcome)
+        ensures { self.new ≡ gave_up_as outcome self.old }
+    {
+        self.give_up();
+        self.profile.note(outcome);
     }
 
     /// The attempt has ended without a row: its script is still to do.
@@ -533,7 +640,7 @@ impl<'a, K: MemRule> Worker<'a, K> {
     {
         match cancel(&mut self.desc, stm) {
             Cancel::Cancelled { time: _ } => {
-                self.give_up();
+                self.give_up_as(Outcome::Cancelled);
                 true
             }
             Cancel::Irrevocable => false,

@@ -1,6 +1,6 @@
 -- When each answer comes, and what stands after it.
-use Rattle.std.specs.Prelude.{ℕ, ◌≡◌, ◌≢◌, ◌<◌, ◌≤◌, ◌+◌, ◌%◌, ◌^◌, ◌⊎◌, max, min, Option, Some, None, Bool, true, false, List, [], ◌∷◌, ◌++◌, length}
-use Rattle.stm_model.specs.Algorithms.{is_built, has_ring, asks_at_begin, asks_at_write, asks_at_commit, asks_at_grant, closes_gate, entry_rise, quit_rise, install_rise}
+use Rattle.std.specs.Prelude.{ℕ, ◌≡◌, ◌≢◌, ◌<◌, ◌≤◌, ◌+◌, ◌%◌, ◌^◌, ◌⊎◌, max, min, Some, None, Bool, true, false, List, [], ◌∷◌, ◌++◌, length}
+use Rattle.stm_model.specs.Algorithms.{is_built, asks_at_begin, asks_at_write, asks_at_commit, asks_at_grant, closes_gate, entry_rise, quit_rise, install_rise}
 use Rattle.stm_model.specs.declared.alg.Alg.{Alg}
 use Rattle.stm_model.specs.declared.alg.Alg.TheVariants.{Cgl, Tml, OrecLazy, OrecEager, RingSw, Serial}
 use Rattle.stm_model.specs.declared.config.Config.{Config}

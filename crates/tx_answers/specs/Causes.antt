@@ -1,12 +1,11 @@
 -- Why a call was refused: what must have been so for each cause, by the steps of the call.
-use Rattle.std.specs.Prelude.{ℕ, ◌≡◌, ◌≢◌, ◌<◌, ◌≤◌, ◌+◌, ◌*◌, ◌%◌, ◌⊎◌, ◌==◌, ◌&&◌, not, Option, Some, None, Bool, true, false, List, [], ◌∷◌, length, map}
+use Rattle.std.specs.Prelude.{ℕ, ◌≡◌, ◌≢◌, ◌<◌, ◌≤◌, ◌+◌, ◌*◌, ◌%◌, ◌⊎◌, ◌==◌, ◌&&◌, not, Option, Some, None, Bool, true, false, List, ◌∷◌, length, map}
 use Rattle.stm_model.specs.Algorithms.{has_records, has_read_log, logs_writes}
 use Rattle.stm_model.specs.declared.alg.Alg.TheVariants.{Tml, RingSw}
 use Rattle.stm_model.specs.declared.config.Config.{Config}
 use Rattle.stm_model.specs.declared.config.TheConstants.{CLOCK_LIMIT}
 use Rattle.stm_model.specs.declared.stop.Cause.{Cause}
 use Rattle.stm_model.specs.declared.stop.Cause.TheVariants as causes
-use Rattle.stm_model.specs.Logs.{Log}
 use Rattle.stm_model.specs.Memories.{item_at}
 use Rattle.rule_base.specs.declared.layout.At.TheVariants.{Clock, Lock, Record, Slot}
 use Rattle.rule_base.specs.declared.layout.TheConstants.{SLOT_WORDS}

@@ -4,7 +4,7 @@ use Rattle.stm_trace.specs.Texts.{trace_bytes}
 use Rattle.bench_core.proofs.commands.trace.Goals as goal
 
 pub returns-in-ToEnd : goal.returns-in-ToEnd
-returns-in-ToEnd g c =
+returns-in-ToEnd g c = λ policy.
     let w = c.args.workload in
     let lines = c.in_ok-lines.lines.items in
     let came = subst (HasStepped w lines) c.in-ToEnd.is c.in_ok-lines.ensures in
@@ -14,7 +14,7 @@ returns-in-ToEnd g c =
     record { lines = lines; report = c.in-ToEnd.report; traced = came; is = is }
 
 pub returns-in-ToLimit : goal.returns-in-ToLimit
-returns-in-ToLimit g c =
+returns-in-ToLimit g c = λ policy.
     let w = c.args.workload in
     let lines = c.in_ok-lines.lines.items in
     let came = subst (HasStepped w lines) c.in-ToLimit.is c.in_ok-lines.ensures in

@@ -10,9 +10,9 @@ prepare-requires g c = (Run, c.args.workload, c.requires, c.in_ok-parts.ensures)
 pub run-requires-clause-ready : goal.run-requires-clause-ready
 run-requires-clause-ready g c κs within =
     let w = c.args.workload in
-    (w, c.in_ok-prepared.ensures Run w c.requires c.in_ok-parts.ensures)
+    (c.args.policy, w, c.in_ok-prepared.ensures Run w c.requires c.in_ok-parts.ensures)
 
 pub returns : goal.returns
 returns g c =
     let w = c.args.workload in
-    c.run.ensures w (c.in_ok-prepared.ensures Run w c.requires c.in_ok-parts.ensures)
+    c.run.ensures c.args.policy w (c.in_ok-prepared.ensures Run w c.requires c.in_ok-parts.ensures)

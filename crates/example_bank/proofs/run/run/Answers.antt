@@ -1,7 +1,6 @@
 use Rattle.std.proofs.Common.{◌≡◌, length, sym, ap, subst, arith}
-use Rattle.example_bank.specs.Attempts.{AllReady}
-use Rattle.example_bank.proofs.AttemptLaws.{opened-ready}
-use Rattle.example_bank.proofs.CallerLaws.{came-back}
+use Rattle.tx_atomic.specs.Callers.{AllReady}
+use Rattle.tx_atomic.specs.CallerLaws.{opened-ready, came-back}
 use Rattle.example_bank.proofs.run.run.Goals as goal
 
 pub serve-audited-requires-clause-ready : goal.serve-audited-requires-clause-ready
@@ -14,4 +13,4 @@ serve-audited-requires-clause-some g c κs within =
 
 pub settle-requires-clause-ready : goal.settle-requires-clause-ready
 settle-requires-clause-ready g c =
-    came-back c.in_ok-stm.descs.items c.as_mut_slice.result.now c.serve-audited.new.descs c.in_ok-stm.descs.len c.as_mut_slice.ensures.value c.as_mut_slice.ensures.len c.serve-audited.ensures.count c.in_ok-stm.stm c.serve-audited.ensures.ready
+    came-back c.in_ok-stm.stm c.in_ok-stm.descs.items c.as_mut_slice.result.now c.serve-audited.new.descs c.in_ok-stm.descs.len c.as_mut_slice.ensures.value c.as_mut_slice.ensures.len c.serve-audited.ensures.count c.serve-audited.ensures.ready

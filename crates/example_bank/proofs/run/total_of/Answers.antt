@@ -1,4 +1,4 @@
-use Rattle.std.proofs.Common.{◌≡◌, ◌<◌, ◌∙◌, ℕ, List, length, sum, take, get_or, ap, arith, refl, length-take-le, take_all}
+use Rattle.std.proofs.Common.{◌≡◌, ◌<◌, ◌∙◌, ℕ, List, length, sum, get_or, ap, arith, refl, length-take-le, take_all}
 use Rattle.example_bank.specs.Banks.{balances}
 use Rattle.example_bank.proofs.BankLaws.{part, part-next}
 use Rattle.example_bank.proofs.run.total_of.Goals as goal

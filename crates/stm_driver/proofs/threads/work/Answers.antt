@@ -1,11 +1,18 @@
 use Rattle.std.proofs.Common.{sym, ap, ◌∙◌}
 use Rattle.stm_trace.specs.Places.{clock_of}
 use Rattle.stm_driver.proofs.ScheduleLaws.{self-same, worker-trans}
-use Rattle.stm_driver.proofs.ThreadLaws.{halts-between, halts-limit, paid-full, paid-next, paid-over, paid-self}
+use Rattle.stm_driver.proofs.ThreadLaws.{halts-between, halts-limit, idle-through, paid-full, paid-next, paid-over, paid-self}
 use Rattle.stm_driver.proofs.threads.work.Goals as goal
 
 pub loop-init : goal.loop-init
 loop-init g c = record { next = tt; ends = tt; sound = c.requires.sound; same = self-same c.args.w.now; paid = paid-self c.args.stm.now c.args.w.now }
+
+pub returns-in-Idle-clause-same : goal.returns-in-Idle-clause-same
+returns-in-Idle-clause-same g c = worker-trans c.args.w.now c.loop.w c.turn-said.new.self c.loop.invariant.same c.turn-said.ensures.turned.same
+
+pub returns-in-Idle-clause-through : goal.returns-in-Idle-clause-through
+returns-in-Idle-clause-through g c =
+    idle-through (g.K.MemRule.good c.args.stm.now.rule) c.args.stm.now c.loop.w c.turn-said.new.self c.turn-said.result c.turn-said.ensures.turned c.in-Idle.is
 
 pub returns-in-Idle-clause-paid : goal.returns-in-Idle-clause-paid
 returns-in-Idle-clause-paid g c =

@@ -8,7 +8,7 @@ abbrev pub invariant-loop-desc : goal.invariant-loop-desc
 invariant-loop-desc g l = record {
   all : l.yielded ++ into_iter_items l.desc-iterator ≡ into_iter_items l.initial.desc-iterator;
   len : into_iter_len l.desc-iterator ≡ length (into_iter_items l.desc-iterator);
-  begun : AreMade (λ n. slice_index_or l.parts n []) l.regions l.alg 0 l.yielded (workers_in l.runners.items);
+  begun : AreMade (λ n. slice_index_or l.parts n []) l.regions l.alg l.policy 0 l.yielded (workers_in l.runners.items);
   room : vec_len l.runners + length (into_iter_items l.desc-iterator) ≤ vec_capacity l.runners;
   each : length l.yielded + length (into_iter_items l.desc-iterator) ≡ length l.parts;
 }

@@ -4,7 +4,6 @@ use Rattle.rule_base.specs.InstallSteps.{store_base, store_done}
 use Rattle.rule_base.specs.StepKinds.{Nothing}
 use Rattle.rule_seq.specs.CglSteps.{Commits}
 use Rattle.rule_promoted.specs.PromotedSteps.{direct_commit}
-use Rattle.stm_rule.specs.declared.local.Local.{Local}
 use Rattle.stm_rule.specs.Attempts.{own_of}
 use Rattle.stm_rule.specs.Callers.{Handle, handle_of}
 use Rattle.stm_rule.specs.Kept.{good_of}

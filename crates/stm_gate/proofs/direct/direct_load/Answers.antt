@@ -5,7 +5,7 @@ use Rattle.stm_rule.specs.Callers.{Handle, handle_of}
 use Rattle.stm_rule.specs.StandLemmas.{tells-of}
 use Rattle.tx_answers.specs.Known.{Known, caller_of}
 use Rattle.stm_gate.specs.Knowing.{known}
-use Rattle.stm_gate.specs.Standing.{runs-of, shown-of, who-of}
+use Rattle.stm_gate.specs.Standing.{runs-of, shown-of}
 use Rattle.rule_seq.specs.CglSteps.{Loads}
 use Rattle.rule_promoted.specs.PromotedSteps.{direct_load}
 use Rattle.stm_rule.specs.Kept.{good_of}

@@ -34,11 +34,11 @@ returns g c = λ mode w built apart.
     let p = c.in_ok-prepared.prepared in
     let e = c.in_ok-prepared.ensures in
     let regions = e.rule ∙ (c.in_ok-rule.ensures ∙ ap regions_of apart.header) in
-    let prepared = subst (λ (ps : List (List Item)). IsPrepared c.args.self.now.header ps p.stm (workers_in p.runners.items)) (c.as_slice.ensures.value ∙ apart.callers) e.prepared in
+    let prepared = subst (λ (ps : List (List Item)). IsPrepared c.args.self.now.header c.args.policy ps p.stm (workers_in p.runners.items)) (c.as_slice.ensures.value ∙ apart.callers) e.prepared in
     let room = subst (λ (n : ℕ). HasRoom c.args.self.now.header.callers n c.args.self.now.header.words p.room) apart.count e.room in
     record {
       built = built;
       keeps = subst (λ (rs : List Region). WorkloadKeeps (AllWellFormed rs) w) (sym regions) (c.regions_are_kept.ensures.kept mode w built);
-      prepared = subst (λ (h : Header). IsPrepared h (parted w.header.callers w.items) p.stm (workers_in p.runners.items)) apart.header prepared;
+      prepared = subst (λ (h : Header). IsPrepared h c.args.policy (parted w.header.callers w.items) p.stm (workers_in p.runners.items)) apart.header prepared;
       room = subst (λ (h : Header). HasRoom h.callers (length w.items) h.words p.room) apart.header room;
     }

@@ -1,5 +1,7 @@
 use Rattle.std.proofs.Common.{ℕ, ◌≡◌, Bool, true, false, refl, sym, ◌∙◌, subst, inl, inr}
 use Rattle.std.specs.Prelude.{MatchBool}
+use Rattle.stm_profile.specs.declared.outcome.Outcome.TheVariants as outcomes
+use Rattle.stm_profile.specs.Profiles.{with_outcome}
 use Rattle.stm_script.specs.declared.op.Op.TheVariants.{Irrev}
 use Rattle.stm_trace.specs.declared.said.Said.TheVariants.{TryIrrevocable}
 use Rattle.stm_trace.specs.Places.{failed_next, is_forced, must_next}
@@ -59,7 +61,7 @@ returns-in-Conflict g c =
     let said = irrevs.Conflict c.in-Conflict.cause in
     record {
       turned = subst (Turned good stm MaySay u (TryIrrevocable said)) (sym c.make_way-in-Conflict.ensures)
-          (turned-quit good stm u s c.try_irrevocable.new.desc c.try_irrevocable.ensures.same (TryIrrevocable said) (must_next u.must u.failed) u.passed (failed_next u.must u.failed) (cleared u.out) c.requires.inside (may u c.args.forced said c.requires.inside c.requires.forced c.requires.asked)
+          (turned-quit good stm u s c.try_irrevocable.new.desc c.try_irrevocable.ensures.same (TryIrrevocable said) (with_outcome u.profile outcomes.Conflict) (must_next u.must u.failed) u.passed (failed_next u.must u.failed) (cleared u.out) c.requires.inside (may u c.args.forced said c.requires.inside c.requires.forced c.requires.asked)
           c.in-Conflict.ensures.irrevs (runs-now good stm u s c.requires.inside) refl c.in-Conflict.ensures.irrevs.0 refl (few-next good stm u s c.try_irrevocable.new.desc c.try_irrevocable.ensures.same));
     }
 
@@ -72,7 +74,7 @@ returns-in-ClockFull g c =
     let said = irrevs.ClockFull c.in-ClockFull.clock in
     record {
       turned = subst (Turned good stm MaySay u (TryIrrevocable said)) (sym c.give_up.ensures)
-          (turned-quit good stm u s c.try_irrevocable.new.desc c.try_irrevocable.ensures.same (TryIrrevocable said) u.must u.passed u.failed (cleared u.out) c.requires.inside (may u c.args.forced said c.requires.inside c.requires.forced c.requires.asked)
+          (turned-quit good stm u s c.try_irrevocable.new.desc c.try_irrevocable.ensures.same (TryIrrevocable said) u.profile u.must u.passed u.failed (cleared u.out) c.requires.inside (may u c.args.forced said c.requires.inside c.requires.forced c.requires.asked)
           c.in-ClockFull.ensures.irrevs (runs-now good stm u s c.requires.inside) refl c.in-ClockFull.ensures.irrevs.0 refl s.counted);
     }
 
@@ -99,7 +101,7 @@ returns-in-Taken g c =
     let same = same-twice u.desc c.try_irrevocable.new.desc c.cancel.new.desc c.try_irrevocable.ensures.same c.cancel.ensures.same in
     record {
       turned = subst (Turned good stm MaySay u (TryIrrevocable said)) (sym c.make_way.ensures)
-          (turned-over good stm u s c.cancel.new.desc same MaySay (TryIrrevocable said) (must_next u.must u.failed) u.passed (failed_next u.must u.failed) (cleared u.out) c.requires.inside (may u c.args.forced said c.requires.inside c.requires.forced c.requires.asked)
+          (turned-over good stm u s c.cancel.new.desc same MaySay (TryIrrevocable said) (with_outcome u.profile outcomes.Cancelled) (must_next u.must u.failed) u.passed (failed_next u.must u.failed) (cleared u.out) c.requires.inside (may u c.args.forced said c.requires.inside c.requires.forced c.requires.asked)
           (runs-now good stm u s c.requires.inside) (x, h, q) refl (grows-trans (known u.desc) x (known c.cancel.new.desc) w.continues.grows e.ends.grows) e.ends.idle (e.made ∙ w.continues.made) (e.ends.installs ∙ w.continues.installs) refl
           (few-next good stm u s c.cancel.new.desc same));
     }

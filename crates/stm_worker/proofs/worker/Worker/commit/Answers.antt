@@ -1,4 +1,6 @@
 use Rattle.std.proofs.Common.{true, refl, sym, subst}
+use Rattle.stm_profile.specs.declared.outcome.Outcome.TheVariants as outcomes
+use Rattle.stm_profile.specs.Profiles.{with_outcome}
 use Rattle.stm_trace.specs.Turns.{MaySay}
 use Rattle.stm_worker.specs.Workers.{Turned, cleared}
 use Rattle.stm_trace.specs.declared.said.Said.TheVariants.{TryCommit}
@@ -40,7 +42,7 @@ returns-in-Conflict g c =
     let said = Conflict c.in-Conflict.cause in
     record {
       turned = subst (Turned good stm MaySay u (TryCommit said)) (sym c.make_way.ensures)
-          (turned-quit good stm u s c.commit.new.desc c.commit.ensures.same (TryCommit said) (must_next u.must u.failed) true (failed_next u.must u.failed) (cleared u.out) c.requires.inside (c.requires.inside, c.requires.unforced, c.requires.over)
+          (turned-quit good stm u s c.commit.new.desc c.commit.ensures.same (TryCommit said) (with_outcome u.profile outcomes.Conflict) (must_next u.must u.failed) true (failed_next u.must u.failed) (cleared u.out) c.requires.inside (c.requires.inside, c.requires.unforced, c.requires.over)
           c.in-Conflict.ensures.commits (runs-now good stm u s c.requires.inside) refl c.in-Conflict.ensures.commits.0 refl (few-next good stm u s c.commit.new.desc c.commit.ensures.same));
     }
 
@@ -53,6 +55,6 @@ returns-in-ClockFull g c =
     let said = ClockFull c.in-ClockFull.clock in
     record {
       turned = subst (Turned good stm MaySay u (TryCommit said)) (sym c.give_up.ensures)
-          (turned-quit good stm u s c.commit.new.desc c.commit.ensures.same (TryCommit said) u.must true u.failed (cleared u.out) c.requires.inside (c.requires.inside, c.requires.unforced, c.requires.over)
+          (turned-quit good stm u s c.commit.new.desc c.commit.ensures.same (TryCommit said) u.profile u.must true u.failed (cleared u.out) c.requires.inside (c.requires.inside, c.requires.unforced, c.requires.over)
           c.in-ClockFull.ensures.commits (runs-now good stm u s c.requires.inside) refl c.in-ClockFull.ensures.commits.0 refl s.counted);
     }

@@ -1,17 +1,29 @@
-use Rattle.std.proofs.Common.{inr}
+use Rattle.std.proofs.Common.{inr, subst, sym}
+use Rattle.stm_trace.specs.declared.said.Said.TheVariants.{Installed}
+use Rattle.stm_trace.specs.Turns.{MaySay}
 use Rattle.tx_answers.specs.Known.{caller_of}
 use Rattle.stm_tx.specs.Descs.{known}
-use Rattle.stm_worker.proofs.StandLaws.{same-twice, switch-built}
-use Rattle.stm_worker.proofs.TurnLaws.{turned-switched, closed-now, quiet-now}
+use Rattle.stm_worker.specs.Workers.{Turned}
+use Rattle.stm_worker.proofs.StandLaws.{same-twice, must-built}
+use Rattle.stm_worker.proofs.TurnLaws.{turned-switched, turned-besides, closed-now, quiet-now}
 use Rattle.stm_worker.proofs.worker.Worker.install.Goals as goal
 
-pub returns : goal.returns
-returns g c =
+pub returns-in-None : goal.returns-in-None
+returns-in-None g c =
     let good = g.K.MemRule.good c.args.stm.now.rule in
     let stm = c.args.stm.now in
     let u = c.args.self.now in
     let s = c.requires.sound in
-    record { turned = turned-switched good stm u s c.reopen.new.desc (same-twice u.desc c.install.new.desc c.reopen.new.desc c.install.ensures.same c.reopen.ensures.same) c.args.alg c.tail-self.result (known c.install.new.desc) c.requires.quiet c.requires.to c.tail-self.ensures c.install.ensures.installs c.reopen.ensures.reopens }
+    record { turned = turned-switched good stm u s c.reopen.new.desc (same-twice u.desc c.install.new.desc c.reopen.new.desc c.install.ensures.same c.reopen.ensures.same) c.args.alg c.tail-self.result (known c.install.new.desc) c.requires.quiet c.in-None.is c.requires.to c.tail-self.ensures c.install.ensures.installs c.reopen.ensures.reopens }
+
+pub returns-in-Some : goal.returns-in-Some
+returns-in-Some g c =
+    let good = g.K.MemRule.good c.args.stm.now.rule in
+    let stm = c.args.stm.now in
+    let u = c.args.self.now in
+    let s = c.requires.sound in
+    let is = c.begin_anew.ensures in
+    record { turned = subst (Turned good stm MaySay u (Installed c.args.alg)) (sym is) (turned-besides good stm u s c.reopen.new.desc (same-twice u.desc c.install.new.desc c.reopen.new.desc c.install.ensures.same c.reopen.ensures.same) c.args.alg _ (known c.install.new.desc) c.requires.quiet c.in-Some.is c.requires.to c.install.ensures.installs c.reopen.ensures.reopens) }
 
 pub install-requires-clause-closing : goal.install-requires-clause-closing
 install-requires-clause-closing g c =
@@ -35,4 +47,4 @@ install-requires-clause-built g c =
     let stm = c.args.stm.now in
     let u = c.args.self.now in
     let s = c.requires.sound in
-    switch-built good stm.config.words u.regions.now (caller_of u.desc.who.role) c.args.alg u.items_left.now c.requires.to s.fits
+    must-built good stm.config.words u.regions.now (caller_of u.desc.who.role) c.args.alg u.chosen u.items_left.now c.requires.to s.fits

@@ -18,7 +18,7 @@ returns-in-Quiet g c =
     let s = c.requires.sound in
     let h = c.in-Quiet.ensures.looks in
     let k = h.0.closed in
-    let turning = subst (λ p. ToSwitch p u.items_left.now) c.requires.closing s.turning in
+    let turning = subst (λ p. ToSwitch p u.chosen u.items_left.now) c.requires.closing s.turning in
     record { turned = turned-closed good stm u s c.look.new.desc c.look.ensures.same (Looked Quiet) Phase.Quiet (rest-closing u.phase c.requires.closing) tt c.requires.closing (closed-now good stm u s (inl c.requires.closing)).running h refl k.grows k.made h.0.installs (k.holds, h.1) turning }
 
 pub returns-in-Busy : goal.returns-in-Busy

@@ -17,7 +17,7 @@ returns g c =
     record {
       is_desc = refl;
       all = refl;
-      at = start-at (caller_of c.args.desc.who.role) c.args.items.now c.args.alg c.in-Some.out c.reserve.new.self.items empty (c.in_ok-reserve.ensures.items ∙ c.new-rows.ensures.items);
+      at = start-at (caller_of c.args.desc.who.role) c.args.items.now c.args.alg c.args.policy c.in_ok-profile.profile c.in-Some.out c.reserve.new.self.items empty (c.in_ok-reserve.ensures.items ∙ c.new-rows.ensures.items) c.in_ok-profile.ensures;
       over = refl;
       roomy = record {
         spare = ap (λ o. c.pop.new.self.items ++ o ∷ []) (sym empty) ∙ is;

@@ -1,0 +1,11 @@
+use Rattle.std.proofs.Common.{◌≡◌, None}
+use Rattle.stm_model.specs.Logs.{SameMemories}
+use Rattle.perf_core.proofs.jobs.sum.Given as goal
+
+abbrev pub invariant-loop-account : goal.invariant-loop-account
+invariant-loop-account g l = record {
+  going : g.A.Access.stopped l.memory ≡ None;
+  words : g.A.Access.words l.memory ≡ g.A.Access.words l.fn.memory;
+  good : SameMemories (g.A.Access.good l.fn.memory) (g.A.Access.good l.memory);
+  keeps : g.A.Access.keeps l.fn.memory l.memory;
+}

@@ -1,0 +1,18 @@
+//! Transactions by the hundred thousand, to be timed from outside: four workloads over one memory, on threads
+//! under one algorithm, and a check of the memory that they leave.
+#![tactic(auto)]
+
+pub mod caller;
+pub mod checks;
+pub mod drawing;
+pub mod filling;
+pub mod jobs;
+pub mod opening;
+pub mod outcome;
+pub mod place;
+pub mod plan;
+pub mod program;
+pub mod report;
+pub mod run;
+#[cfg(test)]
+mod tests;

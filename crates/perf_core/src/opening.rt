@@ -1,0 +1,54 @@
+//! The memory of a run, opened: its algorithm is installed, and it is filled.
+ghost use Rattle.std.specs.Prelude.{◌≡◌, ◌≤◌, length, IfOk};
+ghost use Rattle.stm_rule.specs.Callers.{IsOf, IsSameCaller};
+ghost use Rattle.tx_answers.specs.Known.{IsIdle};
+ghost use Rattle.stm_tx.specs.Descs.{known};
+ghost use Rattle.tx_atomic.specs.Callers.{AllReady};
+ghost use Rattle.perf_core.specs.Places.{FitsPlace};
+
+use crate::filling::fill;
+use crate::place::{Place, WORDS};
+use crate::plan::Plan;
+use std::alloc::Global;
+use std::sync::Wait;
+use stm_tx::{Config, Desc, NewError, Stm};
+use tx_atomic::switching::switch_to;
+
+/// Opens and fills the memory of a run, and answers it with its descriptors.
+///
+/// # Errors
+/// Memory, where it is refused.
+pub fn open<R: Wait>(
+    rt: &R,
+    alloc: Global,
+    plan: &Plan,
+) -> Result<(Stm<Place>, Vec<Desc<Place>>), NewError>
+    ensures ready { IfOk result (λ r. AllReady r.0 0 r.1.items) }
+    ensures count { IfOk result (λ r. length r.1.items ≡ r.0.config.callers) }
+    ensures place { IfOk result (λ r. FitsPlace r.0) }
+{
+    let config = Config {
+        words: WORDS,
+        records: 1_024,
+        ring: 64,
+        callers: plan.threads as usize,
+        reads: plan.reads,
+        writes: 16,
+        clock: 0,
+    };
+    let (stm, mut descs) = Stm::new(alloc, config, Place::of(plan.workload))?;
+    begin(rt, &mut descs[0], &stm, plan);
+    Ok((stm, descs))
+}
+
+/// Installs the algorithm, and fills the memory.
+fn begin<R: Wait>(rt: &R, desc: &mut Desc<Place>, stm: &Stm<Place>, plan: &Plan)
+    requires stm { IsOf desc.old stm.now }
+    requires idle { IsIdle (known desc.old) }
+    requires place { FitsPlace stm.now }
+    ensures same { IsSameCaller desc.old desc.new }
+    ensures idle { IsIdle (known desc.new) }
+{
+    switch_to(rt, desc, stm, plan.alg);
+    fill(rt, desc, stm, plan.workload);
+}

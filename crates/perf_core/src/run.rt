@@ -1,0 +1,126 @@
+//! A run, from the opening of its memory to the check of its words.
+ghost use Rattle.std.specs.Prelude.{◌≡◌, ◌≤◌, ◌<◌, ℕ, [], length, vec_len, vec_capacity, slice_index_or, IfOk, All};
+ghost use Rattle.crossbeam_utils.specs.declared.cache_padded.CachePadded.{CachePadded};
+ghost use Rattle.tx_atomic.specs.Callers.{IsReady, IsThrough};
+ghost use Rattle.perf_core.specs.declared.caller.Caller.{Caller};
+ghost use Rattle.perf_core.specs.Callers.{desc_in, descs_in};
+ghost use Rattle.perf_core.specs.Places.{FitsPlace};
+
+use crate::caller::Caller;
+use crate::checks::is_right;
+use crate::opening::open;
+use crate::outcome::Outcome;
+use crate::place::Place;
+use crate::plan::{Plan, Workload};
+use crate::report::Report;
+use crossbeam_utils::CachePadded;
+use std::alloc::Global;
+use std::sync::Wait;
+use std::thread;
+use std::thread::Threads;
+use stm_tx::{Desc, Memory, NewError, Stm, close};
+use tx_atomic::tally::Tally;
+
+/// Runs a plan.
+///
+/// # Errors
+/// Memory, where it is refused.
+pub fn run<R: Threads + Wait + Sync>(
+    rt: &R,
+    alloc: Global,
+    plan: &Plan,
+) -> Result<Report, NewError> {
+    let (stm, descs) = open(rt, alloc, plan)?;
+    let room = Vec::with_capacity(alloc, descs.len())?;
+    let mut callers = hire(alloc, descs, plan)?;
+    work_all(rt, callers.as_mut_slice(), &stm, plan.workload);
+    let (tally, outcome) = told_by(callers.as_slice());
+    let descs = dismiss(callers, room);
+    match close(alloc, stm, descs) {
+        Ok((words, _closed)) => {
+            let right = is_right(words.as_slice(), plan, tally.commits, &outcome);
+            Ok(Report {
+                plan: *plan,
+                tally,
+                right,
+            })
+        }
+        Err((_stm, _descs, _memory)) => Err(NewError::Memory),
+    }
+}
+
+/// A caller for each descriptor, in their order. The first have one transaction more where they can't be dealt
+/// evenly.
+fn hire(
+    alloc: Global,
+    descs: Vec<Desc<Place>>,
+    plan: &Plan,
+) -> Result<Vec<CachePadded<Caller>>, Memory>
+    ensures { IfOk result (λ callers. descs_in callers.items ≡ descs.items) }
+{
+    let mut callers = Vec::with_capacity(alloc, descs.len())?;
+    let threads = plan.threads.max(1);
+    for desc in descs {
+        let number = callers.len() as u64;
+        let extra = u32::from(number < u64::from(plan.count % threads));
+        let share = (plan.count / threads).saturating_add(extra);
+        let seed = plan.seed.wrapping_mul(32).wrapping_add(number);
+        callers.push_reserved(CachePadded::new(Caller::new(desc, share, seed)));
+    }
+    Ok(callers)
+}
+
+/// Has each caller do its work, on a thread of its own.
+fn work_all<R: Threads + Wait + Sync>(
+    rt: &R,
+    callers: &mut [CachePadded<Caller>],
+    stm: &Stm<Place>,
+    workload: Workload,
+)
+    requires some { 0 < length callers.old }
+    requires ready { All (λ caller. IsReady stm.now (desc_in caller)) callers.old }
+    requires place { FitsPlace stm.now }
+    ensures count { length callers.new ≡ length callers.old }
+    ensures done { (i : ℕ) (d : CachePadded Caller) → i < length callers.old → IsThrough (desc_in (slice_index_or callers.old i d)) (desc_in (slice_index_or callers.new i d)) }
+{
+    let threads = callers.len();
+    thread::for_each_mut(
+        rt,
+        callers,
+        threads,
+        &|_, caller| { work(rt, caller, stm, workload) },
+    );
+}
+
+fn work<R: Wait>(rt: &R, caller: &mut CachePadded<Caller>, stm: &Stm<Place>, workload: Workload)
+    requires ready { IsReady stm.now (desc_in caller.old) }
+    requires place { FitsPlace stm.now }
+    ensures { IsThrough (desc_in caller.old) (desc_in caller.new) }
+{
+    let caller = &mut **caller;
+    caller.work(rt, stm, workload);
+}
+
+/// What all callers counted.
+fn told_by(callers: &[CachePadded<Caller>]) -> (Tally, Outcome) {
+    let mut tally = Tally::new();
+    let mut outcome = Outcome::new();
+    for caller in callers {
+        tally = tally.with(&caller.pace.tally);
+        outcome = outcome.with(&caller.outcome);
+    }
+    (tally, outcome)
+}
+
+/// The descriptors, in the callers' order, in the room for them.
+fn dismiss(callers: Vec<CachePadded<Caller>>, mut room: Vec<Desc<Place>>) -> Vec<Desc<Place>>
+    requires empty { (room.items ≡ []) × (vec_len room ≡ 0) }
+    requires room { length callers.items ≤ vec_capacity room }
+    ensures { result.items ≡ descs_in callers.items }
+{
+    for caller in callers {
+        let Caller { desc, .. } = caller.into_inner();
+        room.push_reserved(desc);
+    }
+    room
+}

@@ -1,0 +1,28 @@
+use Rattle.std.proofs.Common.{rules}
+use Rattle.stm_tx.specs.Descs.{known, number}
+use Rattle.tx_atomic.specs.AttemptLaws.{stopped-idle, stopped-full}
+use Rattle.tx_atomic.proofs.attempts.act.Goals as goal
+
+pub invariant_of-memory-clause-own : goal.invariant_of-memory-clause-own
+invariant_of-memory-clause-own g c = c.requires.stm
+
+pub invariant_of-memory-clause-runs : goal.invariant_of-memory-clause-runs
+invariant_of-memory-clause-runs g c = c.requires.fresh.0.0
+
+pub invariant_of-memory-clause-open : goal.invariant_of-memory-clause-open
+invariant_of-memory-clause-open g c = λ e. c.requires.fresh.0.1
+
+pub run-requires-clause-good : goal.run-requires-clause-good
+run-requires-clause-good g c = λ m. ((λ h. h), (λ h. h))
+
+pub returns-in-Err-clause-over : goal.returns-in-Err-clause-over
+returns-in-Err-clause-over g c =
+    let stm = c.args.stm.now in
+    let idle = stopped-idle (g.K.MemRule.good stm.rule) stm.config (number c.args.desc.now) _ _ (known c.args.desc.now) _ c.in-Err.ensures.stops c.in-Err.ensures.keeps.0.1 in
+    search (rules, idle)
+
+pub returns-in-Err-clause-full : goal.returns-in-Err-clause-full
+returns-in-Err-clause-full g c =
+    let stm = c.args.stm.now in
+    let full = stopped-full (g.K.MemRule.good stm.rule) stm.config (number c.args.desc.now) _ _ (known c.args.desc.now) _ c.in-Err.ensures.stops c.in-Err.ensures.keeps.0.1 in
+    search (rules, full)

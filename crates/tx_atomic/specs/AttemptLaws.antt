@@ -1,0 +1,61 @@
+-- Laws of attempts.
+use Rattle.std.proofs.Common.{ℕ, ◌≡◌, ◌∙◌, List, true, false, arith, sym, ap, subst, inl, inr}
+use Rattle.std.specs.Prelude.{Option, Some, None, ◌⊎◌}
+use Rattle.rule_base.specs.declared.seats.Who.{Who}
+use Rattle.stm_model.specs.Logs.{Log}
+use Rattle.stm_rule.specs.Callers.{Handle, IsSameCaller}
+use Rattle.stm_model.specs.declared.config.Config.{Config}
+use Rattle.stm_model.specs.declared.stop.Stop.{Stop}
+use Rattle.stm_model.specs.declared.stop.Stop.TheVariants as stops
+use Rattle.tx_answers.specs.declared.answers.Cancel.{Cancel}
+use Rattle.tx_answers.specs.declared.answers.Cancel.TheVariants.{Cancelled, Irrevocable}
+use Rattle.tx_answers.specs.declared.answers.Commit.{Commit}
+use Rattle.tx_answers.specs.declared.answers.Commit.TheVariants.{Committed, ReadOnly}
+use Rattle.tx_answers.specs.Answers.{Cancels, Commits, Stops}
+use Rattle.tx_answers.specs.Known.{Known, IsIdle, caller_of, is_irrevocable}
+use Rattle.stm_tx.specs.Descs.{Since, number}
+use Rattle.tx_atomic.specs.Attempts.{TookEffect, ended_by, HasFoundFull}
+
+-- no call changes a caller's number
+pub same-number : {K : Type 0} (d e : Handle K) → IsSameCaller d e → number e ≡ number d
+same-number {K} d e same = ap (λ (w : Who K). caller_of w.role) same.who
+
+-- a commit that was done took effect
+pub took-by : (good : List ℕ → Type 0) (c : Config) (n : ℕ) (tells : Log → Type 0) (answer : Commit) (u v w : Known) → tells v.log → v.made ≡ u.made → Commits good c n answer v w → ((t : ℕ) × (answer ≡ Committed t)) ⊎ ((t : ℕ) × (answer ≡ ReadOnly t)) → TookEffect good c n tells u w
+took-by good c n tells answer u v w told made commits (inl p) = record { before = v; told = told; made = made; time = p.0; commits = inl (subst (λ r. Commits good c n r v w) p.1 commits) }
+took-by good c n tells answer u v w told made commits (inr p) = record { before = v; told = told; made = made; time = p.0; commits = inr (subst (λ r. Commits good c n r v w) p.1 commits) }
+
+-- an attempt that goes on as it was can still be cancelled
+pub still-revocable : (v w : Known) → w.alg ≡ v.alg → w.granted ≡ v.granted → w.log ≡ v.log → is_irrevocable v ≡ false → is_irrevocable w ≡ false
+still-revocable v w alg granted log revocable = let is : is_irrevocable w ≡ is_irrevocable v = cc in is ∙ revocable
+
+module _ (good : List ℕ → Type 0) (c : Config) (n : ℕ) where
+  -- and is over once it was, without an entry
+  pub cancels-idle : (r : Cancel) (v w : Known) → is_irrevocable v ≡ false → Cancels good c n r v w → IsIdle w
+  cancels-idle (Cancelled time) v w revocable h = h.0.ends.idle
+  cancels-idle Irrevocable v w revocable h = absurd (let no : false ≡ true = sym revocable ∙ h.1 in cc)
+
+  pub cancels-made : (r : Cancel) (v w : Known) → Cancels good c n r v w → w.made ≡ v.made
+  cancels-made (Cancelled time) v w h = h.0.made
+  cancels-made Irrevocable v w h = ap (λ (k : Known). k.made) h.0
+
+  stop-idle : (a : ℕ) (stop : Stop) (v w : Known) → Stops good c n a stop v w → IsIdle w
+  stop-idle a (stops.Conflict cause) v w h = h.0.ends.idle
+  stop-idle a (stops.Full limit) v w h = h.0.ends.idle
+  stop-idle a (stops.ClockFull clock) v w h = h.0.ends.idle
+
+  stop-full : (a : ℕ) (stop : Stop) (v w : Known) → Stops good c n a stop v w → HasFoundFull (ended_by stop) w
+  stop-full a (stops.Conflict cause) v w h = tt
+  stop-full a (stops.Full limit) v w h = tt
+  stop-full a (stops.ClockFull clock) v w h = let low = h.2.limit in let high = h.2.top in omega arith
+
+  -- an attempt that was stopped is over
+  pub stopped-idle : (stop : Stop) (stopped : Option Stop) (v w : Known) → stopped ≡ Some stop → Since good c n None v stopped w → IsIdle w
+  stopped-idle stop stopped v w is since =
+      let at = (subst (λ (o : Option Stop). Since good c n None v o w) is since).1 in
+      stop-idle at.address stop at.before w at.stops
+
+  pub stopped-full : (stop : Stop) (stopped : Option Stop) (v w : Known) → stopped ≡ Some stop → Since good c n None v stopped w → HasFoundFull (ended_by stop) w
+  stopped-full stop stopped v w is since =
+      let at = (subst (λ (o : Option Stop). Since good c n None v o w) is since).1 in
+      stop-full at.address stop at.before w at.stops

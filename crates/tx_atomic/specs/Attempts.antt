@@ -1,0 +1,58 @@
+-- What is known of an attempt at a transaction.
+use Rattle.std.specs.Prelude.{ℕ, ◌≡◌, ◌≤◌, ◌⊎◌, List}
+use Rattle.stm_model.specs.declared.config.Config.{Config}
+use Rattle.stm_model.specs.declared.config.TheConstants.{CLOCK_LIMIT}
+use Rattle.stm_model.specs.declared.stop.Stop.{Stop}
+use Rattle.stm_model.specs.declared.stop.Stop.TheVariants as stops
+use Rattle.stm_model.specs.Logs.{Log, Keeps}
+use Rattle.tx_answers.specs.declared.answers.Commit.TheVariants.{Committed, ReadOnly}
+use Rattle.tx_answers.specs.Answers.{Commits}
+use Rattle.tx_answers.specs.Known.{Known, IsRunning, no_log}
+use Rattle.tx_atomic.specs.declared.tally.Ended.{Ended}
+use Rattle.tx_atomic.specs.declared.tally.Ended.TheVariants as ends
+
+-- it has done nothing
+abbrev pub IsFresh : Known → Type 0
+IsFresh v = IsRunning v × (v.log ≡ no_log)
+
+-- its log keeps the rule
+abbrev pub MayCommit : (List ℕ → Type 0) → Config → Known → Type 0
+MayCommit good c v = IsRunning v × Keeps good c.words v.log
+
+-- how it ended that was stopped so
+abbrev pub ended_by : Stop → Ended
+ended_by (stops.Conflict cause) = ends.Conflict cause
+ended_by (stops.Full limit) = ends.Full
+ended_by (stops.ClockFull clock) = ends.ClockFull
+
+-- who ended so for the clock has found it at its limit
+abbrev pub HasFoundFull : Ended → Known → Type 0
+HasFoundFull ends.Committed w = Unit {0}
+HasFoundFull ends.Closed w = Unit {0}
+HasFoundFull ends.Held w = Unit {0}
+HasFoundFull (ends.Conflict cause) w = Unit {0}
+HasFoundFull ends.Full w = Unit {0}
+HasFoundFull ends.Busy w = Unit {0}
+HasFoundFull ends.Taken w = Unit {0}
+HasFoundFull ends.Again w = Unit {0}
+HasFoundFull ends.ClockFull w = CLOCK_LIMIT ≤ w.top
+
+-- an attempt that asked to be irrevocable first can fail so, before it does anything
+abbrev pub IsEarly : Ended → Type 0
+IsEarly ends.Committed = ⊥
+IsEarly ends.Closed = Unit {0}
+IsEarly ends.Held = Unit {0}
+IsEarly (ends.Conflict cause) = Unit {0}
+IsEarly ends.Full = ⊥
+IsEarly ends.Busy = ⊥
+IsEarly ends.Taken = Unit {0}
+IsEarly ends.Again = ⊥
+IsEarly ends.ClockFull = Unit {0}
+
+-- from u to w one attempt took effect, and its commit was the last call: what it had read and written is such a log, and no attempt before it left an entry
+pub record TookEffect (good : List ℕ → Type 0) (c : Config) (n : ℕ) (tells : Log → Type 0) (u w : Known) : Type 0 where
+  pub before : Known
+  pub told : tells before.log
+  pub made : before.made ≡ u.made
+  pub time : ℕ
+  pub commits : Commits good c n (Committed time) before w ⊎ Commits good c n (ReadOnly time) before w

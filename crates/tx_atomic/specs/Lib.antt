@@ -1,0 +1,4 @@
+pub mod Attempts
+pub mod AttemptLaws
+pub mod Callers
+pub mod CallerLaws

@@ -1,0 +1,183 @@
+//! One attempt at a transaction. Each part begins with what the one before it left.
+ghost use Rattle.std.specs.Prelude.{◌≡◌, true, false, IfOk, OnOk, IfErr, OnErr};
+ghost use Rattle.stm_rule.specs.Callers.{IsOf, IsSameCaller};
+ghost use Rattle.tx_answers.specs.Known.{IsIdle, is_irrevocable};
+ghost use Rattle.stm_tx.specs.Descs.{known, number};
+ghost use Rattle.tx_atomic.specs.Attempts.{IsFresh, MayCommit, TookEffect, HasFoundFull, IsEarly};
+
+use crate::pace::Pace;
+use crate::tally::Ended;
+use crate::transaction::Transaction;
+use std::sync::Wait;
+use stm_model::rule::MemRule;
+use stm_rule::desc::Desc;
+use stm_rule::stm::Stm;
+use stm_tx::calls::{cancel, commit, try_begin, try_irrevocable};
+use stm_tx::live::Live;
+use tx_answers::answers::{Begin, Commit, Irrev};
+
+/// Tries a transaction once, irrevocably where it is `sure`. Answers what the transaction does, where the attempt
+/// committed; else it left no trace. A `sure` attempt fails only before it does anything.
+///
+/// # Errors
+/// How the attempt ended.
+pub fn attempt<R: Wait, K: MemRule, T: Transaction<K>>(
+    rt: &R,
+    desc: &mut Desc<K>,
+    stm: &Stm<K>,
+    pace: &mut Pace,
+    transaction: &T,
+    sure: bool,
+) -> Result<T::Output, Ended>
+    requires stm { IsOf desc.old stm.now }
+    requires idle { IsIdle (known desc.old) }
+    requires fits { T.fits transaction.now stm.now.rule stm.now.config.words }
+    ensures same { IsSameCaller desc.old desc.new }
+    ensures idle { IsIdle (known desc.new) }
+    ensures took { IfOk result (λ r. TookEffect (K.good stm.now.rule) stm.now.config (number desc.old) (T.tells transaction.now stm.now.rule stm.now.config.words r) (known desc.old) (known desc.new)) }
+    ensures none { OnErr result ((known desc.new).made ≡ (known desc.old).made) }
+    ensures full { IfErr result (λ e. HasFoundFull e (known desc.new)) }
+    ensures unrefused { IfErr result (λ e. sure ≡ true → IsEarly e) }
+{
+    open(rt, desc, stm, pace, sure)?;
+    let output = act(desc, stm, transaction)?;
+    end(rt, desc, stm, pace)?;
+    Ok(output)
+}
+
+/// Begins, and asks to be irrevocable where it is to be `sure`.
+fn open<R: Wait, K: MemRule>(
+    rt: &R,
+    desc: &mut Desc<K>,
+    stm: &Stm<K>,
+    pace: &mut Pace,
+    sure: bool,
+) -> Result<(), Ended>
+    requires stm { IsOf desc.old stm.now }
+    requires idle { IsIdle (known desc.old) }
+    ensures same { IsSameCaller desc.old desc.new }
+    ensures made { (known desc.new).made ≡ (known desc.old).made }
+    ensures fresh { OnOk result (IsFresh (known desc.new)) }
+    ensures sure { OnOk result (sure ≡ true → is_irrevocable (known desc.new) ≡ true) }
+    ensures over { OnErr result (IsIdle (known desc.new)) }
+    ensures full { IfErr result (λ e. HasFoundFull e (known desc.new)) }
+    ensures early { IfErr result IsEarly }
+{
+    begin(desc, stm)?;
+    if sure {
+        become_sure(rt, desc, stm, pace)?;
+    }
+    Ok(())
+}
+
+/// Begins.
+fn begin<K: MemRule>(desc: &mut Desc<K>, stm: &Stm<K>) -> Result<(), Ended>
+    requires stm { IsOf desc.old stm.now }
+    requires idle { IsIdle (known desc.old) }
+    ensures same { IsSameCaller desc.old desc.new }
+    ensures made { (known desc.new).made ≡ (known desc.old).made }
+    ensures fresh { OnOk result (IsFresh (known desc.new)) }
+    ensures over { OnErr result (IsIdle (known desc.new)) }
+    ensures full { IfErr result (λ e. HasFoundFull e (known desc.new)) }
+    ensures early { IfErr result IsEarly }
+{
+    match try_begin(desc, stm) {
+        Begin::Begun(_) => Ok(()),
+        Begin::Closed { .. } => Err(Ended::Closed),
+        Begin::Held { .. } => Err(Ended::Held),
+        Begin::ClockFull { .. } => Err(Ended::ClockFull),
+    }
+}
+
+/// Asks to be irrevocable until that is granted, or the attempt is over. While another is in an attempt it waits
+/// with the gate closed.
+fn become_sure<R: Wait, K: MemRule>(
+    rt: &R,
+    desc: &mut Desc<K>,
+    stm: &Stm<K>,
+    pace: &mut Pace,
+) -> Result<(), Ended>
+    requires stm { IsOf desc.old stm.now }
+    requires fresh { IsFresh (known desc.old) }
+    ensures same { IsSameCaller desc.old desc.new }
+    ensures made { (known desc.new).made ≡ (known desc.old).made }
+    ensures fresh { OnOk result (IsFresh (known desc.new)) }
+    ensures sure { OnOk result (is_irrevocable (known desc.new) ≡ true) }
+    ensures over { OnErr result (IsIdle (known desc.new)) }
+    ensures full { IfErr result (λ e. HasFoundFull e (known desc.new)) }
+    ensures early { IfErr result IsEarly }
+{
+    for _ in rt.forever() {
+        match try_irrevocable(desc, stm) {
+            Irrev::Granted => {
+                pace.promote();
+                return Ok(());
+            }
+            Irrev::Busy { .. } => pace.wait(Ended::Busy),
+            Irrev::Taken { .. } => {
+                // its holder waits for this very attempt to end
+                cancel(desc, stm);
+                return Err(Ended::Taken);
+            }
+            Irrev::Conflict(cause) => return Err(Ended::Conflict(cause)),
+            Irrev::ClockFull { .. } => return Err(Ended::ClockFull),
+        }
+    }
+    unreachable!()
+}
+
+/// Does the transaction in a running attempt.
+fn act<K: MemRule, T: Transaction<K>>(
+    desc: &mut Desc<K>,
+    stm: &Stm<K>,
+    transaction: &T,
+) -> Result<T::Output, Ended>
+    requires stm { IsOf desc.old stm.now }
+    requires fresh { IsFresh (known desc.old) }
+    requires fits { T.fits transaction.now stm.now.rule stm.now.config.words }
+    ensures same { IsSameCaller desc.old desc.new }
+    ensures made { (known desc.new).made ≡ (known desc.old).made }
+    ensures may { OnOk result (MayCommit (K.good stm.now.rule) stm.now.config (known desc.new)) }
+    ensures tells { IfOk result (λ r. T.tells transaction.now stm.now.rule stm.now.config.words r (known desc.new).log) }
+    ensures over { OnErr result (IsIdle (known desc.new)) }
+    ensures full { IfErr result (λ e. HasFoundFull e (known desc.new)) }
+    ensures unrefused { OnErr result (is_irrevocable (known desc.old) ≡ false) }
+    ensures sure { OnOk result (is_irrevocable (known desc.old) ≡ true → is_irrevocable (known desc.new) ≡ true) }
+{
+    let mut memory = Live {
+        desc,
+        stm,
+        stopped: None,
+    };
+    match transaction.run(&stm.rule, &mut memory) {
+        Ok(output) => Ok(output),
+        Err(stop) => Err(Ended::by(stop)),
+    }
+}
+
+/// Commits, again and again where another was faster.
+fn end<R: Wait, K: MemRule>(
+    rt: &R,
+    desc: &mut Desc<K>,
+    stm: &Stm<K>,
+    pace: &mut Pace,
+) -> Result<(), Ended>
+    requires stm { IsOf desc.old stm.now }
+    requires may { MayCommit (K.good stm.now.rule) stm.now.config (known desc.old) }
+    ensures same { IsSameCaller desc.old desc.new }
+    ensures idle { IsIdle (known desc.new) }
+    ensures took { OnOk result (TookEffect (K.good stm.now.rule) stm.now.config (number desc.old) (λ l. l ≡ (known desc.old).log) (known desc.old) (known desc.new)) }
+    ensures none { OnErr result ((known desc.new).made ≡ (known desc.old).made) }
+    ensures full { IfErr result (λ e. HasFoundFull e (known desc.new)) }
+    ensures unrefused { OnErr result (is_irrevocable (known desc.old) ≡ false) }
+{
+    for _ in rt.forever() {
+        match commit(desc, stm) {
+            Commit::Committed { .. } | Commit::ReadOnly { .. } => return Ok(()),
+            Commit::Again { .. } => pace.wait(Ended::Again),
+            Commit::Conflict(cause) => return Err(Ended::Conflict(cause)),
+            Commit::ClockFull { .. } => return Err(Ended::ClockFull),
+        }
+    }
+    unreachable!()
+}

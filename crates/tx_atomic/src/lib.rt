@@ -1,0 +1,11 @@
+//! A transaction as a value, and its run until it commits. A user names this crate and stm_tx.
+#![tactic(auto)]
+
+pub mod atomically;
+pub mod attempts;
+pub mod pace;
+pub mod switching;
+pub mod tally;
+#[cfg(test)]
+mod tests;
+pub mod transaction;
