@@ -1,7 +1,6 @@
 -- What a command says is what is to be written, and what a call that is refused memory leaves of the source.
-use Rattle.std.proofs.Common.{ℕ, ◌≡◌, List, [], Option, Some, None, refl, arith}
-use Rattle.std.specs.Prelude.{Result, Ok, Err, IfOk, OnErr}
-use Rattle.stm_io.specs.Ends.{Took, TookSome}
+use Rattle.std.proofs.Common.{ℕ, ◌≡◌, List, Option, refl}
+use Rattle.std.specs.Prelude.{Result, Ok, Err, IfOk}
 use Rattle.std.specs.Borrow.{Bor}
 use Rattle.stm_profile.specs.declared.policy.Policy.{Policy}
 use Rattle.stm_rule.specs.Closings.{Ended}
@@ -15,11 +14,7 @@ use Rattle.stm_text.specs.Grammar.{workload_of}
 use Rattle.bench_core.specs.declared.status.Status.{Status}
 use Rattle.bench_core.specs.declared.status.Status.TheVariants.{Ok as Done, Usage, Refused, ReadFault, WriteFault, Memory, ClockFull}
 use Rattle.bench_core.specs.declared.commands.Saying.{Saying}
-use Rattle.bench_core.specs.Outcomes.{Asked, SaidOf, SaidOfMade, SaidOfRun, Says, SaysFor, SaysRead, Spared}
-
-took-none : (bytes : Option (List ℕ)) → Took bytes bytes []
-took-none None = refl
-took-none (Some bytes) = refl
+use Rattle.bench_core.specs.Outcomes.{Asked, SaidOf, SaidOfMade, SaidOfRun, Says, SaysFor, SaysRead}
 
 module _ {S : Type 0} (left : S → Option (List ℕ)) (faults : S → ℕ) (source source' : S) where
   no-usage : (command : Command) (closed : Option Ended) (said : List ℕ) → SaysFor left faults source source' command Usage closed said → ⊥

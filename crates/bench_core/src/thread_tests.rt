@@ -3,7 +3,6 @@ use crate::cases::{header, lines, outcome, workload};
 use crate::status::Status;
 use std::alloc::Global;
 use std::test::Fail;
-use tx_backoff::Backoff;
 
 const RUN: &[&str] = &["stm_bench", "run"];
 
@@ -143,22 +142,4 @@ fn leaves_an_idle_caller_alone(rt: HostRuntime) -> Result<(), Fail> {
         "report 1\nW 1 2 0 : 5\nR 1 2 1 : 5\nmem 3 5\nend\n"
     );
     Ok(())
-}
-
-/// How a caller stands that has waited so often.
-fn waited(times: usize) -> Backoff {
-    let mut backoff = Backoff::new();
-    for _ in 0..times {
-        backoff.wait();
-    }
-    backoff
-}
-
-#[test]
-fn pauses_longer_and_starts_over(rt: HostRuntime) {
-    assert_ne!(rt; waited(4), waited(5));
-    assert_eq!(rt; waited(5), waited(6));
-    let mut backoff = waited(6);
-    backoff.reset();
-    assert_eq!(rt; backoff, Backoff::new());
 }

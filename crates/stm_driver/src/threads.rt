@@ -84,10 +84,11 @@ fn work<R: Wait, K: MemRule, G: Turnstile>(
     unreachable!()
 }
 
-/// Pauses where another caller stood in the way of the call.
+/// Pauses where another caller stood in the way of the call, longer where a lock was held.
 fn pause(backoff: &mut Backoff, said: Said) {
     match said {
-        Said::TryBegin(Begin::Closed { .. } | Begin::Held { .. })
+        Said::TryBegin(Begin::Held { .. }) => backoff.wait_for_lock(),
+        Said::TryBegin(Begin::Closed { .. })
         | Said::Stopped(_, Stop::Conflict(_))
         | Said::TryIrrevocable(Irrev::Busy { .. } | Irrev::Taken { .. } | Irrev::Conflict(_))
         | Said::TryCommit(Commit::Again { .. } | Commit::Conflict(_))

@@ -1,5 +1,5 @@
 -- What the table says of every algorithm.
-use Rattle.std.proofs.Common.{ℕ, ◌≡◌, ◌≤◌, ◌<◌, Bool, true, false, arith, refl}
+use Rattle.std.proofs.Common.{◌≡◌, ◌≤◌, ◌<◌, Bool, true, false, arith, refl}
 use Rattle.std.specs.Prelude.{◌||◌}
 use Rattle.stm_model.specs.Algorithms.{alg_number, entry_rise, quit_rise, install_rise, begins_even, is_sure}
 use Rattle.stm_model.specs.declared.alg.Alg.{Alg}

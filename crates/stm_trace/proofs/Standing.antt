@@ -24,7 +24,7 @@ use Rattle.stm_trace.specs.declared.said.Said.{Said}
 use Rattle.stm_trace.specs.declared.said.Said.TheVariants.{TryBegin, Reply, Stopped, TryCancel, TryIrrevocable, TryCommit, TryClose, Looked, Installed, Idle, Dropped, Reopened}
 use Rattle.stm_trace.specs.Places.{Place, after, ended, granted_at, is_forced, row_at, rest_of, script_at, switched, items_of}
 use Rattle.stm_trace.specs.Told.{AreOf, ItemsHaveScripts}
-use Rattle.stm_trace.specs.Turns.{MaySay, MayWind, MayFinish, BeforeTx, BeforeSwitch, MustSwitch, MustSwitchTo, SwitchesTo, IsOver}
+use Rattle.stm_trace.specs.Turns.{MaySay, MayWind, MayFinish, BeforeTx, BeforeSwitch, MustSwitch, IsOver}
 
 scripts-by : (n c : ℕ) (script : List Op) (items : List Item) (b : Bool) → (c == n) ≡ b → scripts_of n (items_of n items) ≡ scripts_of n items
     → scripts_of n (if b then Tx c script ∷ items_of n items else items_of n items) ≡ (if b then script ∷ scripts_of n items else scripts_of n items)

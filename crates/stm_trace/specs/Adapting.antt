@@ -1,5 +1,5 @@
 -- ADAPTING: what a caller's attempts came to, and the switch that its policy asks for behind a transaction.
-use Rattle.std.specs.Prelude.{ℕ, ◌≡◌, ◌≢◌, ◌==◌, leb, Bool, List, [], length, Option, Some, None, if◌then◌else◌, ◌↔◌}
+use Rattle.std.specs.Prelude.{ℕ, ◌≡◌, ◌≢◌, ◌==◌, leb, [], length, Option, Some, None, if◌then◌else◌, ◌↔◌}
 use Rattle.stm_model.specs.Algorithms.{alg_number}
 use Rattle.stm_model.specs.declared.alg.Alg.{Alg}
 use Rattle.stm_model.specs.declared.alg.Alg.TheVariants.{Cgl, Tml, OrecLazy, OrecEager, RingSw, Serial}

@@ -1,6 +1,6 @@
 -- What a policy asks for is what it chooses, where that is another algorithm.
 use Rattle.std.proofs.Common.{ℕ, ◌≡◌, ◌≢◌, ◌<◌, ◌≤◌, ◌⊎◌, ⊎_elim, Bool, true, false, length, refl, sym, ap, ◌∙◌, arith, subst}
-use Rattle.std.specs.Prelude.{◌==◌, leb, Option, Some, None, if◌then◌else◌}
+use Rattle.std.specs.Prelude.{◌==◌, leb, Some, None, if◌then◌else◌}
 use Rattle.std.proofs.lemmas.Bool.Decides.{leb_tells, eqb_tells}
 use Rattle.rule_base.specs.Encodings.{alg_numbered}
 use Rattle.stm_model.specs.Algorithms.{alg_number}
@@ -9,7 +9,7 @@ use Rattle.stm_model.specs.declared.alg.Alg.TheVariants.{Cgl, Tml, OrecLazy, Ore
 use Rattle.stm_profile.specs.declared.policy.Policy.{Policy}
 use Rattle.stm_profile.specs.declared.policy.Policy.TheVariants.{Fixed, Round, Expert, State}
 use Rattle.stm_profile.specs.declared.profile.TheConstants.{WINDOW}
-use Rattle.stm_profile.specs.Policies.{Chooses, ByRound, ByExpert, ByState, OnceFull, next_in_cycle, to_right, to_left}
+use Rattle.stm_profile.specs.Policies.{Chooses, ByExpert, ByState, OnceFull, next_in_cycle, to_right, to_left}
 use Rattle.stm_profile.specs.Profiles.{Noted, conflicts, full_logs, commits}
 use Rattle.stm_trace.specs.Adapting.{AsksByPolicy, asked_by, choice, expert_choice, once_full, other_than, state_choice}
 

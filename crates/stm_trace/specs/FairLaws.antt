@@ -1,11 +1,10 @@
 -- What the calls tell is fair: from the clauses of the answers to the table of turns.
-use Rattle.std.proofs.Common.{ℕ, ◌≡◌, ◌≢◌, ◌<◌, ◌≤◌, ◌+◌, ◌%◌, ◌⊎◌, Bool, true, false, refl, sym, ap, ◌∙◌, subst, arith, inl, inr, ⊎_elim, List}
-use Rattle.std.specs.Prelude.{not, ◌&&◌, Option}
+use Rattle.std.proofs.Common.{ℕ, ◌≡◌, ◌≢◌, ◌<◌, ◌%◌, ◌⊎◌, Bool, true, false, refl, ap, ◌∙◌, arith, inl, inr, ⊎_elim, List}
+use Rattle.std.specs.Prelude.{◌&&◌, Option}
 use Rattle.std.proofs.lemmas.Nat.{mod_below}
-use Rattle.rule_base.specs.Encodings.{holder_of, owner_of}
+use Rattle.rule_base.specs.Encodings.{holder_of}
 use Rattle.stm_model.specs.Algorithms.{has_records, has_read_log, logs_writes, closes_gate, asks_at_write, asks_at_commit, asks_at_grant}
 use Rattle.stm_model.specs.Configs.{IsConfig}
-use Rattle.stm_model.specs.declared.alg.Alg.TheVariants.{Tml, RingSw}
 use Rattle.stm_model.specs.declared.config.Config.{Config}
 use Rattle.stm_model.specs.declared.stop.Cause.{Cause}
 use Rattle.stm_model.specs.declared.stop.Cause.TheVariants.{Clock, Record, Moved, Filter, Overrun}
@@ -13,8 +12,8 @@ use Rattle.stm_model.specs.declared.stop.Stop.{Stop}
 use Rattle.stm_model.specs.declared.stop.Stop.TheVariants as stops
 use Rattle.stm_script.specs.declared.op.Op.{Op}
 use Rattle.stm_script.specs.declared.workload.Header.{Header}
-use Rattle.tx_answers.specs.Answers.{Begins, Commits, Cancels, Closes, Looks, Irrevs, Stops, Quits}
-use Rattle.tx_answers.specs.Causes.{Conflicts, IsAgain, NamesOther, Concerns, reads_full, writes_full, has_item}
+use Rattle.tx_answers.specs.Answers.{Begins, Commits, Cancels, Closes, Looks, Irrevs, Stops}
+use Rattle.tx_answers.specs.Causes.{Conflicts, IsAgain, NamesOther, Concerns}
 use Rattle.tx_answers.specs.Known.{Known, is_irrevocable, wrote}
 use Rattle.tx_answers.specs.declared.answers.Begin.{Begin}
 use Rattle.tx_answers.specs.declared.answers.Begin.TheVariants as begins

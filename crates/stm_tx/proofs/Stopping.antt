@@ -31,6 +31,18 @@ module _ (good : List ℕ → Type 0) (c : Config) (n a : ℕ) (v w : Known) whe
   write-went x (writes.Full limit) e h = absurd cc
   write-went x (writes.ClockFull clock) e h = absurd cc
 
+  -- and none changes the algorithm
+  pub read-alg : (r : Read) → HasRead good c n a r v w → w.alg ≡ v.alg
+  read-alg (reads.Value x) h = h.0.continues.alg
+  read-alg (reads.Conflict cause) h = h.0.ends.alg
+  read-alg (reads.Full limit) h = h.0.ends.alg
+
+  pub write-alg : (x : ℕ) (r : Write) → HasWritten good c n a x r v w → w.alg ≡ v.alg
+  write-alg x writes.Done h = h.0.continues.alg
+  write-alg x (writes.Conflict cause) h = h.0.ends.alg
+  write-alg x (writes.Full limit) h = h.0.ends.alg
+  write-alg x (writes.ClockFull clock) h = h.0.ends.alg
+
   -- who is stopped has quit
   pub stops-quits : (stop : Stop) → Stops good c n a stop v w → Quits v w
   stops-quits (stops.Conflict cause) h = h.0

@@ -264,6 +264,14 @@ pub fn holds_gate<K: MemRule>(desc: &Desc<K>) -> bool
     desc.local.holds
 }
 
+/// The algorithm of the running attempt. No step.
+pub fn algorithm<K: MemRule>(desc: &Desc<K>) -> Alg
+    requires { (known desc.now).running ≡ true }
+    ensures { result ≡ (known desc.now).alg }
+{
+    desc.local.algorithm
+}
+
 /// The start of the running attempt, a clock. No step.
 pub fn start<K: MemRule>(desc: &Desc<K>) -> u64
     requires { (known desc.now).running ≡ true }

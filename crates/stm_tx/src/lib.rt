@@ -17,6 +17,7 @@ mod orec_tests;
 mod ring_tests;
 #[cfg(test)]
 mod serial_tests;
+pub mod serving;
 #[cfg(test)]
 mod tests;
 

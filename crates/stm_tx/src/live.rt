@@ -4,7 +4,7 @@ ghost use Rattle.std.proofs.Common.{refl, ◌∙◌};
 ghost use Rattle.stm_rule.specs.Callers.{IsOf};
 ghost use Rattle.stm_tx.specs.Descs.{known, as_read, as_write, Frames, frames-refl, frames-trans};
 
-use crate::calls::{read, write};
+use crate::serving::Calls;
 use stm_model::access::Access;
 use stm_model::rule::MemRule;
 use stm_model::stop::Stop;
@@ -16,16 +16,19 @@ use tx_answers::answers::{Read, Write};
 /// the Stop of the same name, which is kept in `stopped` from then on. The good memories are those of the
 /// memory's rule. Its frame says where and why the attempt was stopped.
 #[derive(Drop)]
-pub struct Live<'a, K: MemRule> {
+pub struct Live<'a, K: MemRule, C: Calls> {
+    /// By what it reads and writes: it must serve the attempt's algorithm.
+    pub calls: &'a C,
     pub desc: &'a mut Desc<K>,
     pub stm: &'a Stm<K>,
     pub stopped: Option<Stop>,
     pub ghost own: { IsOf desc.now stm.now },
     pub ghost runs: { (known desc.now).running ≡ is_none stopped },
+    pub ghost served: { C.acts_as (known desc.now).alg ≡ (known desc.now).alg },
     pub ghost open: { is_none stopped ≡ true → (known desc.now).committing ≡ false },
 }
 
-impl<'a, K: MemRule> Access for Live<'a, K> {
+impl<'a, K: MemRule, C: Calls> Access for Live<'a, K, C> {
     ghost use Rattle.stm_tx.specs.Descs.{known, Frames, frames-refl, frames-trans, log-once};
     ghost use Rattle.std.proofs.Common.{◌≡◌, refl, ◌∙◌};
 
@@ -45,8 +48,9 @@ impl<'a, K: MemRule> Access for Live<'a, K> {
 
     ghost once = { λ s. log-once s.desc.now.view s.desc.now.own };
 
+    #[inline]
     fn read(&mut self, a: usize) -> Result<u64, Stop> {
-        match as_read(read(self.desc, self.stm, a)) {
+        match as_read(self.calls.read(self.desc, self.stm, a)) {
             Ok(value) => Ok(value),
             Err(stop) => {
                 self.stopped = Some(stop);
@@ -55,8 +59,9 @@ impl<'a, K: MemRule> Access for Live<'a, K> {
         }
     }
 
+    #[inline]
     fn write(&mut self, a: usize, v: u64) -> Result<(), Stop> {
-        match as_write(write(self.desc, self.stm, a, v)) {
+        match as_write(self.calls.write(self.desc, self.stm, a, v)) {
             Ok(()) => Ok(()),
             Err(stop) => {
                 self.stopped = Some(stop);
@@ -67,6 +72,7 @@ impl<'a, K: MemRule> Access for Live<'a, K> {
 }
 
 /// The answer of a read as an access gives it.
+#[inline]
 fn as_read(answer: Read) -> Result<u64, Stop>
     ensures { result ≡ as_read answer }
 {
@@ -78,6 +84,7 @@ fn as_read(answer: Read) -> Result<u64, Stop>
 }
 
 /// The answer of a write as an access gives it.
+#[inline]
 fn as_write(answer: Write) -> Result<(), Stop>
     ensures { result ≡ as_write answer }
 {

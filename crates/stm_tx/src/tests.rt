@@ -10,6 +10,7 @@ use crate::calls::{
 };
 use crate::live::Live;
 use crate::serial_tests::switch;
+use crate::serving::AnyAlgorithm;
 use std::alloc::Global;
 use std::test::Fail;
 use stm_model::access::Access;
@@ -165,6 +166,7 @@ fn begin_and_add<K: MemRule>(desc: &mut Desc<K>, stm: &Stm<K>) -> Option<u64>
         return None;
     };
     let mut live = Live {
+        calls: &AnyAlgorithm,
         desc,
         stm,
         stopped: None,

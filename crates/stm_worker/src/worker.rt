@@ -39,6 +39,7 @@ use stm_trace::said::{Phase, Said};
 use stm_tx::calls::{cancel, commit, is_irrevocable, try_begin, try_irrevocable};
 use stm_tx::gate::{close_gate, install, look, reopen};
 use stm_tx::live::Live;
+use stm_tx::serving::AnyAlgorithm;
 use tx_answers::answers::{Begin, Cancel, CloseGate, Commit, Irrev, Look};
 use tx_regions::region::Regions;
 
@@ -190,6 +191,7 @@ fn operate<K: MemRule>(
     ensures kept { out.new.room ≡ out.old.room }
 {
     let mut live = Live {
+        calls: &AnyAlgorithm,
         desc,
         stm,
         stopped: None,

@@ -27,7 +27,6 @@ ended_by (stops.ClockFull clock) = ends.ClockFull
 
 -- who ended so for the clock has found it at its limit
 abbrev pub HasFoundFull : Ended → Known → Type 0
-HasFoundFull ends.Committed w = Unit {0}
 HasFoundFull ends.Closed w = Unit {0}
 HasFoundFull ends.Held w = Unit {0}
 HasFoundFull (ends.Conflict cause) w = Unit {0}
@@ -39,7 +38,6 @@ HasFoundFull ends.ClockFull w = CLOCK_LIMIT ≤ w.top
 
 -- an attempt that asked to be irrevocable first can fail so, before it does anything
 abbrev pub IsEarly : Ended → Type 0
-IsEarly ends.Committed = ⊥
 IsEarly ends.Closed = Unit {0}
 IsEarly ends.Held = Unit {0}
 IsEarly (ends.Conflict cause) = Unit {0}

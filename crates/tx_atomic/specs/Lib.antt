@@ -2,3 +2,4 @@ pub mod Attempts
 pub mod AttemptLaws
 pub mod Callers
 pub mod CallerLaws
+pub mod Tallies

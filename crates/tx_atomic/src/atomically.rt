@@ -4,6 +4,7 @@ ghost use Rattle.stm_rule.specs.Callers.{IsOf, IsSameCaller};
 ghost use Rattle.tx_answers.specs.Known.{IsIdle};
 ghost use Rattle.stm_tx.specs.Descs.{known, number};
 ghost use Rattle.tx_atomic.specs.Attempts.{TookEffect};
+ghost use Rattle.tx_atomic.specs.Tallies.{CommitsStay, CommitsRise};
 
 use crate::attempts::attempt;
 use crate::pace::Pace;
@@ -21,7 +22,7 @@ const MOST_FAILED: u32 = 16;
 
 /// Runs a transaction until it commits, and answers what it does. It took effect once, as the last thing that the
 /// caller did: no attempt that failed before left a trace. None where the clock was found at its limit, 2^62, and
-/// then no attempt took effect: close the memory, and open another.
+/// then no attempt took effect: close the memory, and open another. The pace counts it where it took effect.
 pub fn atomically<R: Wait, K: MemRule, T: Transaction<K>>(
     rt: &R,
     desc: &mut Desc<K>,
@@ -36,6 +37,8 @@ pub fn atomically<R: Wait, K: MemRule, T: Transaction<K>>(
     ensures idle { IsIdle (known desc.new) }
     ensures took { IfSome result (λ r. TookEffect (K.good stm.now.rule) stm.now.config (number desc.old) (T.tells transaction.now stm.now.rule stm.now.config.words r) (known desc.old) (known desc.new)) }
     ensures none { IfNone result ((known desc.new).made ≡ (known desc.old).made) }
+    ensures counted { IfSome result (λ r. CommitsRise pace.old.tally pace.new.tally) }
+    ensures uncounted { IfNone result (CommitsStay pace.old.tally pace.new.tally) }
     ensures full { IfNone result (CLOCK_LIMIT ≤ (known desc.new).top) }
 {
     let mut failed: u32 = 0;

@@ -3,17 +3,22 @@ ghost use Rattle.std.specs.Prelude.{◌≡◌, true, false, IfOk, OnOk, IfErr, O
 ghost use Rattle.stm_rule.specs.Callers.{IsOf, IsSameCaller};
 ghost use Rattle.tx_answers.specs.Known.{IsIdle, is_irrevocable};
 ghost use Rattle.stm_tx.specs.Descs.{known, number};
+ghost use Rattle.tx_atomic.specs.Tallies.{CommitsStay};
 ghost use Rattle.tx_atomic.specs.Attempts.{IsFresh, MayCommit, TookEffect, HasFoundFull, IsEarly};
 
 use crate::pace::Pace;
 use crate::tally::Ended;
 use crate::transaction::Transaction;
 use std::sync::Wait;
+use stm_model::alg::Alg;
 use stm_model::rule::MemRule;
 use stm_rule::desc::Desc;
 use stm_rule::stm::Stm;
-use stm_tx::calls::{cancel, commit, try_begin, try_irrevocable};
+use stm_tx::calls::{algorithm, cancel, commit, try_begin, try_irrevocable};
 use stm_tx::live::Live;
+use stm_tx::serving::{
+    Calls, OnlyCgl, OnlyOrecEager, OnlyOrecLazy, OnlyRingSw, OnlySerial, OnlyTml,
+};
 use tx_answers::answers::{Begin, Commit, Irrev};
 
 /// Tries a transaction once, irrevocably where it is `sure`. Answers what the transaction does, where the attempt
@@ -34,6 +39,7 @@ pub fn attempt<R: Wait, K: MemRule, T: Transaction<K>>(
     requires fits { T.fits transaction.now stm.now.rule stm.now.config.words }
     ensures same { IsSameCaller desc.old desc.new }
     ensures idle { IsIdle (known desc.new) }
+    ensures uncounted { CommitsStay pace.old.tally pace.new.tally }
     ensures took { IfOk result (λ r. TookEffect (K.good stm.now.rule) stm.now.config (number desc.old) (T.tells transaction.now stm.now.rule stm.now.config.words r) (known desc.old) (known desc.new)) }
     ensures none { OnErr result ((known desc.new).made ≡ (known desc.old).made) }
     ensures full { IfErr result (λ e. HasFoundFull e (known desc.new)) }
@@ -57,6 +63,7 @@ fn open<R: Wait, K: MemRule>(
     requires idle { IsIdle (known desc.old) }
     ensures same { IsSameCaller desc.old desc.new }
     ensures made { (known desc.new).made ≡ (known desc.old).made }
+    ensures uncounted { CommitsStay pace.old.tally pace.new.tally }
     ensures fresh { OnOk result (IsFresh (known desc.new)) }
     ensures sure { OnOk result (sure ≡ true → is_irrevocable (known desc.new) ≡ true) }
     ensures over { OnErr result (IsIdle (known desc.new)) }
@@ -101,6 +108,7 @@ fn become_sure<R: Wait, K: MemRule>(
     requires fresh { IsFresh (known desc.old) }
     ensures same { IsSameCaller desc.old desc.new }
     ensures made { (known desc.new).made ≡ (known desc.old).made }
+    ensures uncounted { CommitsStay pace.old.tally pace.new.tally }
     ensures fresh { OnOk result (IsFresh (known desc.new)) }
     ensures sure { OnOk result (is_irrevocable (known desc.new) ≡ true) }
     ensures over { OnErr result (IsIdle (known desc.new)) }
@@ -126,7 +134,8 @@ fn become_sure<R: Wait, K: MemRule>(
     unreachable!()
 }
 
-/// Does the transaction in a running attempt.
+/// Does the transaction in a running attempt. It is compiled once for each algorithm, so that the algorithm is looked up
+/// once an attempt, and not at each read and write.
 fn act<K: MemRule, T: Transaction<K>>(
     desc: &mut Desc<K>,
     stm: &Stm<K>,
@@ -144,7 +153,38 @@ fn act<K: MemRule, T: Transaction<K>>(
     ensures unrefused { OnErr result (is_irrevocable (known desc.old) ≡ false) }
     ensures sure { OnOk result (is_irrevocable (known desc.old) ≡ true → is_irrevocable (known desc.new) ≡ true) }
 {
+    match algorithm(desc) {
+        Alg::Cgl => act_by(&OnlyCgl, desc, stm, transaction),
+        Alg::Tml => act_by(&OnlyTml, desc, stm, transaction),
+        Alg::Serial => act_by(&OnlySerial, desc, stm, transaction),
+        Alg::OrecLazy => act_by(&OnlyOrecLazy, desc, stm, transaction),
+        Alg::OrecEager => act_by(&OnlyOrecEager, desc, stm, transaction),
+        Alg::RingSw => act_by(&OnlyRingSw, desc, stm, transaction),
+    }
+}
+
+/// Does the transaction in a running attempt, by these reads and writes.
+fn act_by<K: MemRule, T: Transaction<K>, C: Calls>(
+    calls: &C,
+    desc: &mut Desc<K>,
+    stm: &Stm<K>,
+    transaction: &T,
+) -> Result<T::Output, Ended>
+    requires stm { IsOf desc.old stm.now }
+    requires fresh { IsFresh (known desc.old) }
+    requires served { C.acts_as (known desc.old).alg ≡ (known desc.old).alg }
+    requires fits { T.fits transaction.now stm.now.rule stm.now.config.words }
+    ensures same { IsSameCaller desc.old desc.new }
+    ensures made { (known desc.new).made ≡ (known desc.old).made }
+    ensures may { OnOk result (MayCommit (K.good stm.now.rule) stm.now.config (known desc.new)) }
+    ensures tells { IfOk result (λ r. T.tells transaction.now stm.now.rule stm.now.config.words r (known desc.new).log) }
+    ensures over { OnErr result (IsIdle (known desc.new)) }
+    ensures full { IfErr result (λ e. HasFoundFull e (known desc.new)) }
+    ensures unrefused { OnErr result (is_irrevocable (known desc.old) ≡ false) }
+    ensures sure { OnOk result (is_irrevocable (known desc.old) ≡ true → is_irrevocable (known desc.new) ≡ true) }
+{
     let mut memory = Live {
+        calls,
         desc,
         stm,
         stopped: None,
@@ -166,6 +206,7 @@ fn end<R: Wait, K: MemRule>(
     requires may { MayCommit (K.good stm.now.rule) stm.now.config (known desc.old) }
     ensures same { IsSameCaller desc.old desc.new }
     ensures idle { IsIdle (known desc.new) }
+    ensures uncounted { CommitsStay pace.old.tally pace.new.tally }
     ensures took { OnOk result (TookEffect (K.good stm.now.rule) stm.now.config (number desc.old) (λ l. l ≡ (known desc.old).log) (known desc.old) (known desc.new)) }
     ensures none { OnErr result ((known desc.new).made ≡ (known desc.old).made) }
     ensures full { IfErr result (λ e. HasFoundFull e (known desc.new)) }

@@ -3,10 +3,9 @@ ghost use Rattle.std.specs.Prelude.{◌≡◌};
 
 use stm_model::stop::{Cause, Stop};
 
-/// How an attempt ended, or what a call of it was refused by.
+/// Why an attempt ended without a commit, or what a call of it was refused by.
 #[derive(Clone, Copy, Drop, Debug, PartialEq, Eq)]
 pub enum Ended {
-    Committed,
     /// The gate was closed.
     Closed,
     /// Another had the lock or the clock.
@@ -55,7 +54,11 @@ pub struct Tally {
 }
 
 impl Tally {
-    pub fn new() -> Tally {
+    ghost use Rattle.tx_atomic.specs.Tallies.{CommitsStay, none, with_commit, with_promotion, noted, both};
+
+    pub fn new() -> Tally
+        ensures { result ≡ none }
+    {
         Tally {
             commits: 0,
             closed: 0,
@@ -69,24 +72,41 @@ impl Tally {
         }
     }
 
-    /// Counts one more. A clock at its limit isn't counted.
-    pub fn note(&mut self, ended: Ended) {
-        let count = match ended {
-            Ended::Committed => &mut self.commits,
-            Ended::Closed => &mut self.closed,
-            Ended::Held => &mut self.held,
-            Ended::Conflict(_) => &mut self.conflicts,
-            Ended::Full => &mut self.full,
-            Ended::Busy => &mut self.busy,
-            Ended::Taken => &mut self.taken,
-            Ended::Again => &mut self.again,
-            Ended::ClockFull => return,
-        };
-        *count = count.saturating_add(1);
+    /// Counts a commit.
+    pub fn commit(&mut self)
+        ensures { self.new ≡ with_commit self.old }
+    {
+        self.commits = self.commits.saturating_add(1);
+    }
+
+    /// Counts an attempt that was made irrevocable.
+    pub fn promote(&mut self)
+        ensures { self.new ≡ with_promotion self.old }
+    {
+        self.promotions = self.promotions.saturating_add(1);
+    }
+
+    /// Counts an attempt that ended so, or such a refusal. A clock at its limit isn't counted.
+    pub fn note(&mut self, ended: Ended)
+        ensures noted { self.new ≡ noted ended self.old }
+        ensures commits { CommitsStay self.old self.new }
+    {
+        match ended {
+            Ended::Closed => self.closed = self.closed.saturating_add(1),
+            Ended::Held => self.held = self.held.saturating_add(1),
+            Ended::Conflict(_) => self.conflicts = self.conflicts.saturating_add(1),
+            Ended::Full => self.full = self.full.saturating_add(1),
+            Ended::Busy => self.busy = self.busy.saturating_add(1),
+            Ended::Taken => self.taken = self.taken.saturating_add(1),
+            Ended::Again => self.again = self.again.saturating_add(1),
+            Ended::ClockFull => {}
+        }
     }
 
     /// The counts of both.
-    pub fn with(&self, other: &Tally) -> Tally {
+    pub fn with(&self, other: &Tally) -> Tally
+        ensures { result ≡ both self.now other.now }
+    {
         Tally {
             commits: self.commits.saturating_add(other.commits),
             closed: self.closed.saturating_add(other.closed),

@@ -1,17 +1,27 @@
 //! How a caller waits while another stands in its way.
 #![tactic(auto)]
 
+ghost use Rattle.std.specs.Prelude.{◌≤◌};
+
+#[cfg(test)]
+mod tests;
+
 use std::{hint, thread};
 
-/// The shortest and the longest pause, as powers of two of the processor's own short pause, of some 10 to 50
-/// nanoseconds. Each try of a caller that waits takes the words that it waits for from the cache of the caller that
-/// works, so the longest lets that one make some hundred calls.
+/// The shortest and the longest pause of a caller that another was faster than, as powers of two of the processor's
+/// own short pause, of some 10 to 60 nanoseconds. Each try of a caller that waits takes the words that it waits for
+/// from the cache of the caller that works, so the longest lets that one make some hundred calls.
 const SHORTEST: u32 = 5;
 
 const LONGEST: u32 = 10;
 
-/// Pauses, each twice as long as the one before up to the longest, behind which other threads have their turn too. A
-/// wait takes no step on the memory.
+/// The same of a caller that found a lock held. Each change of hands moves the lines of lock, clock and words from one
+/// cache to another, which costs more than a short transaction: so the holder has the time for some hundred of them.
+const SHORTEST_AT_LOCK: u32 = 10;
+
+const LONGEST_AT_LOCK: u32 = 14;
+
+/// Pauses, each twice as long as the one before up to the longest. A wait takes no step on the memory.
 #[derive(Clone, Copy, Drop, Debug, PartialEq, Eq)]
 pub struct Backoff {
     /// The next pause, as a power of two.
@@ -23,20 +33,34 @@ impl Backoff {
         Backoff { next: SHORTEST }
     }
 
-    /// Pauses 32, 64 and at last 1,024 times, and from then on lets another thread run behind each pause.
+    /// Another caller was faster, or has closed the gate: pauses 32, 64 and at last 1,024 times, and from then on lets
+    /// another thread run behind each pause.
     pub fn wait(&mut self) {
-        for _ in 0..1u32 << self.next.min(LONGEST) {
-            hint::spin_loop();
-        }
-        if self.next < LONGEST {
-            self.next += 1;
-        } else {
-            thread::yield_now();
-        }
+        self.pause(LONGEST);
+    }
+
+    /// Another caller's attempt has the lock, or has made the clock odd: pauses 1,024, 2,048 and at last 16,384 times,
+    /// and lets another thread run behind each pause.
+    pub fn wait_for_lock(&mut self) {
+        self.next = self.next.max(SHORTEST_AT_LOCK);
+        self.pause(LONGEST_AT_LOCK);
     }
 
     /// The caller got on: the next pause is the shortest.
     pub fn reset(&mut self) {
         self.next = SHORTEST;
+    }
+
+    fn pause(&mut self, longest: u32)
+        requires { longest ≤ LONGEST_AT_LOCK }
+    {
+        let now = self.next.min(longest);
+        for _ in 0..1u32 << now {
+            hint::spin_loop();
+        }
+        if now >= LONGEST {
+            thread::yield_now();
+        }
+        self.next = longest.min(now + 1);
     }
 }

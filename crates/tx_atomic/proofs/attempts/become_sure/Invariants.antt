@@ -11,4 +11,5 @@ invariant-loop g l = record {
   same : IsSameCaller l.fn.desc l.desc;
   fresh : IsFresh (known l.desc);
   made : (known l.desc).made ≡ (known l.fn.desc).made;
+  commits : l.pace.tally.commits ≡ l.fn.pace.tally.commits;
 }

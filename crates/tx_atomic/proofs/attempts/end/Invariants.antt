@@ -13,4 +13,5 @@ invariant-loop g l = record {
   log : (known l.desc).log ≡ (known l.fn.desc).log;
   sure : is_irrevocable (known l.desc) ≡ is_irrevocable (known l.fn.desc);
   made : (known l.desc).made ≡ (known l.fn.desc).made;
+  commits : l.pace.tally.commits ≡ l.fn.pace.tally.commits;
 }

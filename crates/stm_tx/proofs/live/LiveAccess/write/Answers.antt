@@ -1,8 +1,9 @@
-use Rattle.std.proofs.Common.{◌≡◌, ◌∙◌, true, false, refl, sym, ap}
+use Rattle.std.proofs.Common.{◌≡◌, ◌∙◌, true, false, refl, sym, ap, subst}
 use Rattle.std.specs.Prelude.{is_none, Some}
+use Rattle.stm_model.specs.declared.alg.Alg.{Alg}
 use Rattle.tx_answers.specs.KnownLaws.{in-attempt, carries-wrote}
 use Rattle.stm_tx.specs.Descs.{known, number}
-use Rattle.stm_tx.proofs.Stopping.{write-stopped, write-went, stops-quits, since-stopped, since-at, since-going}
+use Rattle.stm_tx.proofs.Stopping.{write-alg, write-stopped, write-went, stops-quits, since-stopped, since-at, since-going}
 use Rattle.stm_tx.proofs.live.LiveAccess.write.Goals as goal
 
 pub invariant_of-self-in-Err : goal.invariant_of-self-in-Err
@@ -19,6 +20,7 @@ invariant_of-self-in-Err g c =
     record {
       own = record { table = same.table ∙ me.own.table; config = ap (λ q. q.config) same.who ∙ me.own.config; rule = ap (λ q. q.rule) same.who ∙ me.own.rule };
       runs = q.ends.idle.1;
+      served = subst (λ (a : Alg). g.C.Calls.acts_as a ≡ a) (sym (write-alg good f n c.args.a v w c.args.v c.write.result c.write.ensures.write)) me.served;
       «open» = λ e. absurd (let no : false ≡ true = e in cc);
     }
 

@@ -1,13 +1,16 @@
 use Rattle.std.proofs.Common.{rules}
 use Rattle.stm_tx.specs.Descs.{known, number}
 use Rattle.tx_atomic.specs.AttemptLaws.{stopped-idle, stopped-full}
-use Rattle.tx_atomic.proofs.attempts.act.Goals as goal
+use Rattle.tx_atomic.proofs.attempts.act_by.Goals as goal
 
 pub invariant_of-memory-clause-own : goal.invariant_of-memory-clause-own
 invariant_of-memory-clause-own g c = c.requires.stm
 
 pub invariant_of-memory-clause-runs : goal.invariant_of-memory-clause-runs
 invariant_of-memory-clause-runs g c = c.requires.fresh.0.0
+
+pub invariant_of-memory-clause-served : goal.invariant_of-memory-clause-served
+invariant_of-memory-clause-served g c = c.requires.served
 
 pub invariant_of-memory-clause-open : goal.invariant_of-memory-clause-open
 invariant_of-memory-clause-open g c = λ e. c.requires.fresh.0.1

@@ -1,0 +1,41 @@
+//! A hall: its rule, and its one transaction.
+
+use stm_tx::{Access, MemRule, Stop};
+use tx_atomic::transaction::Transaction;
+use tx_effects::insert::Insert;
+use tx_tree::tree::Tree;
+
+/// The rule: the set of the seats that are taken is well formed.
+#[derive(Clone, Copy, Drop, Debug, PartialEq, Eq)]
+pub struct Seats {
+    pub taken: Tree,
+}
+
+impl MemRule for Seats {
+    ghost use Rattle.tx_tree.specs.Trees.{IsTree};
+
+    ghost good = { λ seats memory. IsTree seats.taken memory };
+}
+
+/// Takes a seat, if it is free: `Added` then.
+#[derive(Clone, Copy, Drop, Debug, PartialEq, Eq)]
+pub struct Take {
+    pub seat: u32,
+}
+
+impl Transaction<Seats> for Take {
+    ghost use Rattle.tx_answers.specs.Known.{no_log};
+    ghost use Rattle.tx_effects.specs.Effects.{DoesOver};
+    ghost use Rattle.tx_tree.specs.Trees.{IsTree, TreeFits, inserted_in};
+
+    type Output = Insert;
+
+    ghost fits = { λ it seats words. TreeFits seats.taken words };
+
+    // the seat joined the set, and the answer says whether it was free
+    ghost tells = { λ it seats words came log. DoesOver (IsTree seats.taken) words (inserted_in seats.taken it.seat) no_log came log };
+
+    fn run<A: Access>(&self, seats: &Seats, memory: &mut A) -> Result<Insert, Stop> {
+        seats.taken.insert(memory, self.seat)
+    }
+}

@@ -1,0 +1,177 @@
+//! Reads and writes by the algorithms that they serve. Code that is generic in them is compiled once for each
+//! algorithm, with direct calls.
+ghost use Rattle.std.specs.Prelude.{◌≡◌, ◌<◌};
+ghost use Rattle.stm_rule.specs.Callers.{IsOf, IsSameCaller};
+ghost use Rattle.tx_answers.specs.Answers.{HasRead, HasWritten};
+ghost use Rattle.tx_answers.specs.Known.{IsRunning};
+ghost use Rattle.stm_tx.specs.Descs.{known, number};
+
+use crate::calls;
+use alg_orec::{orec_eager, orec_lazy};
+use alg_ring::ring;
+use alg_seq::{cgl, serial, tml};
+use stm_model::rule::MemRule;
+use stm_rule::desc::Desc;
+use stm_rule::stm::Stm;
+use tx_answers::answers::{Read, Write};
+
+/// Reads and writes of attempts under the algorithms that it serves. What they do, and what they cost, is said at
+/// `calls::read` and `calls::write`.
+pub trait Calls {
+    ghost use Rattle.stm_model.specs.declared.alg.Alg.{Alg};
+
+    // whose reads and writes it makes in an attempt under this algorithm: it serves those that are their own
+    ghost acts_as: { Alg → Alg };
+
+    fn read<K: MemRule>(&self, desc: &mut Desc<K>, stm: &Stm<K>, a: usize) -> Read
+        requires stm { IsOf desc.old stm.now }
+        requires running { IsRunning (known desc.old) }
+        requires served { acts_as (known desc.old).alg ≡ (known desc.old).alg }
+        requires inside { a < stm.now.config.words }
+        ensures same { IsSameCaller desc.old desc.new }
+        ensures read { HasRead (K.good stm.now.rule) stm.now.config (number desc.old) a result (known desc.old) (known desc.new) };
+
+    fn write<K: MemRule>(&self, desc: &mut Desc<K>, stm: &Stm<K>, a: usize, x: u64) -> Write
+        requires stm { IsOf desc.old stm.now }
+        requires running { IsRunning (known desc.old) }
+        requires served { acts_as (known desc.old).alg ≡ (known desc.old).alg }
+        requires inside { a < stm.now.config.words }
+        ensures same { IsSameCaller desc.old desc.new }
+        ensures write { HasWritten (K.good stm.now.rule) stm.now.config (number desc.old) a x result (known desc.old) (known desc.new) };
+}
+
+/// Serves all, and looks at each call which algorithm the attempt runs under.
+#[derive(Clone, Copy, Drop, Debug, PartialEq, Eq)]
+pub struct AnyAlgorithm;
+
+impl Calls for AnyAlgorithm {
+    ghost acts_as = { λ alg. alg };
+
+    fn read<K: MemRule>(&self, desc: &mut Desc<K>, stm: &Stm<K>, a: usize) -> Read {
+        calls::read(desc, stm, a)
+    }
+
+    fn write<K: MemRule>(&self, desc: &mut Desc<K>, stm: &Stm<K>, a: usize, x: u64) -> Write {
+        calls::write(desc, stm, a, x)
+    }
+}
+
+/// Serves attempts under CGL.
+#[derive(Clone, Copy, Drop, Debug, PartialEq, Eq)]
+pub struct OnlyCgl;
+
+impl Calls for OnlyCgl {
+    ghost use Rattle.stm_model.specs.declared.alg.Alg.TheVariants.{Cgl};
+
+    ghost acts_as = { λ alg. Cgl };
+
+    #[inline]
+    fn read<K: MemRule>(&self, desc: &mut Desc<K>, stm: &Stm<K>, a: usize) -> Read {
+        cgl::read(desc, stm, a)
+    }
+
+    #[inline]
+    fn write<K: MemRule>(&self, desc: &mut Desc<K>, stm: &Stm<K>, a: usize, x: u64) -> Write {
+        cgl::write(desc, stm, a, x)
+    }
+}
+
+/// Serves attempts under TML.
+#[derive(Clone, Copy, Drop, Debug, PartialEq, Eq)]
+pub struct OnlyTml;
+
+impl Calls for OnlyTml {
+    ghost use Rattle.stm_model.specs.declared.alg.Alg.TheVariants.{Tml};
+
+    ghost acts_as = { λ alg. Tml };
+
+    #[inline]
+    fn read<K: MemRule>(&self, desc: &mut Desc<K>, stm: &Stm<K>, a: usize) -> Read {
+        tml::read(desc, stm, a)
+    }
+
+    #[inline]
+    fn write<K: MemRule>(&self, desc: &mut Desc<K>, stm: &Stm<K>, a: usize, x: u64) -> Write {
+        tml::write(desc, stm, a, x)
+    }
+}
+
+/// Serves attempts under Serial.
+#[derive(Clone, Copy, Drop, Debug, PartialEq, Eq)]
+pub struct OnlySerial;
+
+impl Calls for OnlySerial {
+    ghost use Rattle.stm_model.specs.declared.alg.Alg.TheVariants.{Serial};
+
+    ghost acts_as = { λ alg. Serial };
+
+    #[inline]
+    fn read<K: MemRule>(&self, desc: &mut Desc<K>, stm: &Stm<K>, a: usize) -> Read {
+        serial::read(desc, stm, a)
+    }
+
+    #[inline]
+    fn write<K: MemRule>(&self, desc: &mut Desc<K>, stm: &Stm<K>, a: usize, x: u64) -> Write {
+        serial::write(desc, stm, a, x)
+    }
+}
+
+/// Serves attempts under OrecLazy.
+#[derive(Clone, Copy, Drop, Debug, PartialEq, Eq)]
+pub struct OnlyOrecLazy;
+
+impl Calls for OnlyOrecLazy {
+    ghost use Rattle.stm_model.specs.declared.alg.Alg.TheVariants.{OrecLazy};
+
+    ghost acts_as = { λ alg. OrecLazy };
+
+    #[inline]
+    fn read<K: MemRule>(&self, desc: &mut Desc<K>, stm: &Stm<K>, a: usize) -> Read {
+        orec_lazy::read(desc, stm, a)
+    }
+
+    #[inline]
+    fn write<K: MemRule>(&self, desc: &mut Desc<K>, stm: &Stm<K>, a: usize, x: u64) -> Write {
+        orec_lazy::write(desc, stm, a, x)
+    }
+}
+
+/// Serves attempts under OrecEager.
+#[derive(Clone, Copy, Drop, Debug, PartialEq, Eq)]
+pub struct OnlyOrecEager;
+
+impl Calls for OnlyOrecEager {
+    ghost use Rattle.stm_model.specs.declared.alg.Alg.TheVariants.{OrecEager};
+
+    ghost acts_as = { λ alg. OrecEager };
+
+    #[inline]
+    fn read<K: MemRule>(&self, desc: &mut Desc<K>, stm: &Stm<K>, a: usize) -> Read {
+        orec_eager::read(desc, stm, a)
+    }
+
+    #[inline]
+    fn write<K: MemRule>(&self, desc: &mut Desc<K>, stm: &Stm<K>, a: usize, x: u64) -> Write {
+        orec_eager::write(desc, stm, a, x)
+    }
+}
+
+/// Serves attempts under RingSW.
+#[derive(Clone, Copy, Drop, Debug, PartialEq, Eq)]
+pub struct OnlyRingSw;
+
+impl Calls for OnlyRingSw {
+    ghost use Rattle.stm_model.specs.declared.alg.Alg.TheVariants.{RingSw};
+
+    ghost acts_as = { λ alg. RingSw };
+
+    #[inline]
+    fn read<K: MemRule>(&self, desc: &mut Desc<K>, stm: &Stm<K>, a: usize) -> Read {
+        ring::read(desc, stm, a)
+    }
+
+    #[inline]
+    fn write<K: MemRule>(&self, desc: &mut Desc<K>, stm: &Stm<K>, a: usize, x: u64) -> Write {
+        ring::write(desc, stm, a, x)
+    }
+}
