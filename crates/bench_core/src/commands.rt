@@ -22,7 +22,7 @@ use stm_model::memory::Memory;
 use stm_profile::policy::Policy;
 use stm_rule::ending::Closed;
 use stm_script::workload::Workload;
-use stm_text::report::report_text;
+use stm_text::report::{report_text, report_text_by};
 use stm_trace::text::trace_text;
 use stm_worker::turnstile::Turnstile;
 
@@ -45,11 +45,12 @@ pub(crate) fn report<R: Threads + Wait + Sync, G: Turnstile + Sync>(
     requires { IsBuilt Run workload }
     ensures { IfOk result (λ s. SaidOfRun Run policy workload s.status s.closed s.text.items) }
 {
+    let callers = workload.header.callers;
     let outcome = run_workload(rt, alloc, workload, policy, turnstile)?;
     match outcome {
         Outcome::ToEnd { report, closed } => Ok(Saying {
             status: Status::Ok,
-            text: report_text(alloc, &report)?,
+            text: report_text_by(rt, alloc, &report, callers)?,
             closed: Some(closed),
         }),
         Outcome::ToLimit { clock, closed } => Ok(Saying {
@@ -62,7 +63,11 @@ pub(crate) fn report<R: Threads + Wait + Sync, G: Turnstile + Sync>(
 }
 
 /// What is to be written of a workload under `step`.
-pub(crate) fn trace<R: Wait>(rt: &R, alloc: Global, workload: Workload) -> Result<Saying, Memory>
+pub(crate) fn trace<R: Threads + Wait + Sync>(
+    rt: &R,
+    alloc: Global,
+    workload: Workload,
+) -> Result<Saying, Memory>
     requires { IsBuilt Step workload }
     ensures { (policy : Policy) → IfOk result (λ s. SaidOfRun Step policy workload s.status s.closed s.text.items) }
 {

@@ -66,7 +66,7 @@ impl Parts {
 
     /// Opens the memory, whose rule is that the header's regions are well formed, and makes all that a run takes.
     /// Caller 0 is to switch by the policy.
-    fn prepare<'a, R: Wait>(
+    fn prepare<'a, R: Threads + Wait + Sync>(
         &'a self,
         rt: &R,
         alloc: Global,
@@ -110,7 +110,7 @@ pub(crate) fn run_workload<R: Threads + Wait + Sync, G: Turnstile + Sync>(
 
 /// The trace of the run of a workload in the turns of its schedule, and what it came to. Memory may be refused
 /// before its first turn.
-pub(crate) fn step_workload<R: Wait>(
+pub(crate) fn step_workload<R: Threads + Wait + Sync>(
     rt: &R,
     alloc: Global,
     workload: Workload,

@@ -1,10 +1,10 @@
 -- The callers of a memory that caller 0 has installed an algorithm in.
-use Rattle.std.proofs.Common.{ℕ, suc, ◌≡◌, ◌<◌, List, [], ◌∷◌, length, get_or, set, refl, sym, ap, ◌∙◌, subst, arith}
+use Rattle.std.proofs.Common.{ℕ, zero, suc, ◌≡◌, ◌<◌, ◌+◌, List, [], ◌∷◌, length, get_or, set, refl, sym, ap, ◌∙◌, subst, arith}
 use Rattle.stm_rule.specs.declared.stm.Stm.{Stm}
 use Rattle.rule_base.specs.Opening.{first_view}
 use Rattle.stm_model.specs.declared.alg.Alg.{Alg}
 use Rattle.stm_rule.specs.Callers.{Handle, IsSameCaller, AllOpened, idle_own}
-use Rattle.tx_answers.specs.Known.{Known, known_of}
+use Rattle.tx_answers.specs.Known.{Known, caller_of, known_of}
 use Rattle.stm_tx.specs.Descs.{known}
 use Rattle.stm_worker.specs.Workers.{HasLengths}
 use Rattle.stm_driver.specs.Openings.{IsNew, AllNew, SameLengths}
@@ -40,3 +40,9 @@ module _ {K : Type 0} (stm : Stm K) (alg : Alg) where
     (long.0 ∙ (ap (λ (q : Handle K). (known q).reads_limit) is ∙ (long-first c h.2 h.3).0), long.1 ∙ (ap (λ (q : Handle K). (known q).writes_limit) is ∙ (long-first c h.2 h.3).1)),
     new-others 0 ds h.4,
   )
+
+  -- each is the caller of its place
+  pub numbered : (n : ℕ) (ds : List (Handle K)) → AllNew stm alg n ds → (k : ℕ) (d : Handle K) → k < length ds → caller_of (get_or ds k d).who.role ≡ n + k
+  numbered n [] h k d lt = absurd (omega (arith, lt))
+  numbered n (c ∷ ds) h zero d lt = ap caller_of h.1 ∙ (omega arith)
+  numbered n (c ∷ ds) h (suc k) d lt = numbered (suc n) ds h.4 k d (omega (arith, lt)) ∙ (omega arith)

@@ -1,5 +1,5 @@
 -- The workers of all callers, one after the other.
-use Rattle.std.proofs.Common.{ℕ, zero, suc, ◌≡◌, ◌<◌, ◌≤◌, ◌+◌, List, [], ◌∷◌, ◌++◌, length, get_or, set, refl, ap, ◌∙◌, arith, subst}
+use Rattle.std.proofs.Common.{ℕ, zero, suc, ◌≡◌, ◌<◌, ◌≤◌, ◌+◌, List, [], ◌∷◌, ◌++◌, length, get_or, set, refl, ap, arith, subst}
 use Rattle.std.proofs.lemmas.List.{length-map, get_or-map}
 use Rattle.stm_profile.specs.declared.policy.Policy.{Policy}
 use Rattle.stm_rule.specs.declared.stm.Stm.{Stm}
@@ -20,16 +20,27 @@ made-length items_for rs alg policy n (d ∷ ds) [] m = absurd m
 made-length items_for rs alg policy n (d ∷ ds) (w ∷ ws) m = ap suc (made-length items_for rs alg policy (suc n) ds ws m.1)
 
 -- one worker more
-pub made-more : {K : Type 0} (items_for : ℕ → List Item) (rs : List Region) (alg : Alg) (policy : Policy) (n : ℕ) (ds : List (Handle K)) (ws : List (Worker K)) (d : Handle K) (w : Worker K) (items : List Item)
-    → AreMade items_for rs alg policy n ds ws → items ≡ items_for (n + length ws) → (own : Policy) → own ≡ policy_for policy (n + length ws) → Starts d items rs alg own w → AreMade items_for rs alg policy n (ds ++ d ∷ []) (ws ++ w ∷ [])
-made-more items_for rs alg policy n [] [] d w items m is own mine s =
-    let e : n + 0 ≡ n = omega arith in
-    (subst (λ p. Starts d (items_for n) rs alg p w) (mine ∙ ap (policy_for policy) e) (subst (λ k. Starts d k rs alg own w) (is ∙ ap items_for e) s), tt)
-made-more items_for rs alg policy n [] (x ∷ ws) d w items m is own mine s = absurd m
-made-more items_for rs alg policy n (y ∷ ds) [] d w items m is own mine s = absurd m
-made-more items_for rs alg policy n (y ∷ ds) (x ∷ ws) d w items m is own mine s =
-    let e : n + suc (length ws) ≡ suc n + length ws = omega arith in
-    (m.0, made-more items_for rs alg policy (suc n) ds ws d w items m.1 (is ∙ ap items_for e) own (mine ∙ ap (policy_for policy) e) s)
+pub made-more : {K : Type 0} (items_for : ℕ → List Item) (rs : List Region) (alg : Alg) (policy : Policy) (n : ℕ) (ds : List (Handle K)) (ws : List (Worker K)) (d : Handle K) (w : Worker K)
+    → AreMade items_for rs alg policy n ds ws → Starts d (items_for (n + length ds)) rs alg (policy_for policy (n + length ds)) w → AreMade items_for rs alg policy n (ds ++ d ∷ []) (ws ++ w ∷ [])
+made-more items_for rs alg policy n [] [] d w m s = (let here : n + 0 ≡ n = omega arith in subst (λ k. Starts d (items_for k) rs alg (policy_for policy k) w) here s, tt)
+made-more items_for rs alg policy n [] (x ∷ ws) d w m s = absurd m
+made-more items_for rs alg policy n (y ∷ ds) [] d w m s = absurd m
+made-more items_for rs alg policy n (y ∷ ds) (x ∷ ws) d w m s =
+    let next : n + suc (length ds) ≡ suc n + length ds = omega arith in
+    (m.0, made-more items_for rs alg policy (suc n) ds ws d w m.1 (subst (λ k. Starts d (items_for k) rs alg (policy_for policy k) w) next s))
+
+-- a worker for each descriptor by its place
+pub made-of : {K : Type 0} (items_for : ℕ → List Item) (rs : List Region) (alg : Alg) (policy : Policy) (n : ℕ) (ds : List (Handle K)) (ws : List (Worker K)) → length ws ≡ length ds
+    → ((k : ℕ) (d : Handle K) (w : Worker K) → k < length ds → Starts (get_or ds k d) (items_for (n + k)) rs alg (policy_for policy (n + k)) (get_or ws k w)) → AreMade items_for rs alg policy n ds ws
+made-of {K = K} items_for rs alg policy n [] [] len each = tt
+made-of {K = K} items_for rs alg policy n [] (w ∷ ws) len each = absurd (omega (arith, len))
+made-of {K = K} items_for rs alg policy n (d ∷ ds) [] len each = absurd (omega (arith, len))
+made-of {K = K} items_for rs alg policy n (d ∷ ds) (w ∷ ws) len each =
+    let at : ℕ → Handle K → Worker K → Type 0 = λ k d' w'. Starts d' (items_for k) rs alg (policy_for policy k) w' in
+    let here : n + 0 ≡ n = omega arith in (
+      subst (λ k. at k d w) here (each 0 d w (omega arith)),
+      made-of items_for rs alg policy (suc n) ds ws (omega (arith, len)) (λ k d' w' lt. (let next : n + suc k ≡ suc n + k = omega arith in subst (λ m. at m (get_or ds k d') (get_or ws k w')) next (each (suc k) d' w' (omega (arith, lt))))),
+    )
 
 -- the same items under another name
 pub made-same : {K : Type 0} (items_for other : ℕ → List Item) (rs : List Region) (alg : Alg) (policy : Policy) (callers n : ℕ) (ds : List (Handle K)) (ws : List (Worker K))

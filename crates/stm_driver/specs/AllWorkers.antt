@@ -1,5 +1,5 @@
 -- The workers of all callers.
-use Rattle.std.specs.Prelude.{ℕ, suc, ◌≡◌, ◌==◌, if◌then◌else◌, ◌≤◌, ◌+◌, ◌*◌, ◌^◌, ◌⊎◌, length, List, [], ◌∷◌, ◌++◌, map, Option, Some, None, MatchOption, Result, Ok, Err}
+use Rattle.std.specs.Prelude.{ℕ, suc, ◌≡◌, ◌<◌, ◌==◌, if◌then◌else◌, ◌≤◌, ◌+◌, ◌*◌, ◌^◌, ◌⊎◌, length, slice_index_or, List, [], ◌∷◌, ◌++◌, map, Option, Some, None, MatchOption, Result, Ok, Err}
 use Rattle.std.specs.Option.{option_or}
 use Rattle.stm_rule.specs.declared.stm.Stm.{Stm}
 use Rattle.crossbeam_utils.specs.declared.cache_padded.CachePadded.{CachePadded}
@@ -13,6 +13,7 @@ use Rattle.stm_script.specs.declared.report.Row.{Row}
 use Rattle.stm_script.specs.declared.workload.Item.{Item}
 use Rattle.stm_rule.specs.Callers.{Handle}
 use Rattle.stm_tx.specs.Descs.{known}
+use Rattle.tx_answers.specs.Known.{caller_of}
 use Rattle.stm_trace.specs.declared.said.Phase.TheVariants.{Between}
 use Rattle.stm_trace.specs.Turns.{BeforeTx}
 use Rattle.stm_worker.specs.declared.worker.Worker.{Worker}
@@ -22,6 +23,7 @@ use Rattle.stm_worker.specs.Payments.{CountsNext, PaysBut, raised}
 use Rattle.stm_worker.specs.Workers.{IsSame, Loaded, Sound, Starts}
 use Rattle.stm_driver.specs.declared.schedule.Halt.{Halt}
 use Rattle.stm_driver.specs.declared.schedule.Halt.TheVariants.{ClockFull}
+use Rattle.stm_driver.specs.declared.workers.Common.{Common}
 use Rattle.stm_driver.specs.declared.workers.Runner.{Runner}
 
 -- caller 0 alone switches by a policy
@@ -35,12 +37,23 @@ module _ {K : Type 0} where
   abbrev pub workers_in : List (CachePadded (Runner K)) → List (Worker K)
   workers_in rs = map worker_in rs
 
+  -- each descriptor is that of the caller of its place
+  abbrev pub AreNumbered : List (Handle K) → Type 0
+  AreNumbered ds = (n : ℕ) (d : Handle K) → n < length ds → caller_of (slice_index_or ds n d).who.role ≡ n
+
   -- a worker for each descriptor, which has done nothing; the first is that of caller n
   abbrev pub AreMade : (ℕ → List Item) → List Region → Alg → Policy → ℕ → List (Handle K) → List (Worker K) → Type 0
   AreMade items regions alg policy n [] [] = Unit {0}
   AreMade items regions alg policy n [] (w ∷ ws) = ⊥
   AreMade items regions alg policy n (d ∷ ds) [] = ⊥
   AreMade items regions alg policy n (d ∷ ds) (w ∷ ws) = Starts d (items n) regions alg (policy_for policy n) w × AreMade items regions alg policy (suc n) ds ws
+
+  -- what caller n's worker is made of, and what they all are
+  abbrev pub IsMadeOf : Common → ℕ → Handle K → Worker K → Type 0
+  IsMadeOf c n d w = Starts d (slice_index_or c.parts.now n []) c.regions.now c.alg (policy_for c.policy n) w
+
+  abbrev pub AreMadeOf : Common → List (Handle K) → List (Worker K) → Type 0
+  AreMadeOf c ds ws = AreMade (λ n. slice_index_or c.parts.now n []) c.regions.now c.alg c.policy 0 ds ws
 
   -- the workers are those of the callers from n on
   abbrev pub AreCallers : ℕ → List (Worker K) → Type 0

@@ -12,6 +12,7 @@ use crate::workers::{Runner, make_workers};
 use crossbeam_utils::CachePadded;
 use std::alloc::Global;
 use std::sync::Wait;
+use std::thread::Threads;
 use stm_model::memory::Memory;
 use stm_model::rule::MemRule;
 use stm_profile::policy::Policy;
@@ -48,7 +49,7 @@ pub struct Prepared<'a, K: MemRule> {
 ///
 /// # Errors
 /// Memory, where it is refused: here alone can a run end with nothing closed, since no turn was taken.
-pub fn prepare<'a, R: Wait, K: MemRule + Drop>(
+pub fn prepare<'a, R: Threads + Wait + Sync, K: MemRule + Drop + Send + Sync>(
     rt: &R,
     alloc: Global,
     rule: K,
@@ -67,7 +68,7 @@ pub fn prepare<'a, R: Wait, K: MemRule + Drop>(
     ensures room { IfOk result (λ p. HasRoom header.now.callers items header.now.words p.room) }
 {
     let (stm, descs) = open(rt, alloc, header, rule)?;
-    let runners = make_workers(alloc, descs, parts, regions, header.alg, policy)?;
+    let runners = make_workers(rt, alloc, descs, parts, regions, header.alg, policy, items)?;
     let room = Room {
         descs: Vec::with_capacity(alloc, header.callers)?,
         lists: Vec::with_capacity(alloc, header.callers)?,

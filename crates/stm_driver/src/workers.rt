@@ -1,12 +1,15 @@
 //! The workers of all callers.
-ghost use Rattle.std.specs.Prelude.{◌≡◌, ◌≤◌, [], length, slice_index_or, vec_len, vec_capacity, IfOk, IsPermutation};
-ghost use Rattle.stm_driver.specs.AllWorkers.{AreMade, policy_for, workers_in, descs_of, rows_of, first_full};
+ghost use Rattle.std.specs.Prelude.{◌≡◌, ◌<◌, ◌≤◌, [], length, map, slice_index_or, vec_len, vec_capacity, IfOk, IsPermutation, Ok};
+ghost use Rattle.tx_answers.specs.Known.{caller_of};
+ghost use Rattle.stm_driver.specs.AllWorkers.{AreMade, AreMadeOf, AreNumbered, IsMadeOf, policy_for, workers_in, descs_of, rows_of, first_full};
 ghost use Rattle.stm_driver.specs.Gatherings.{joined};
 
 use crate::gathering::{OwnRows, gather};
 use crate::parting::{CallerItems, items_at};
 use crossbeam_utils::CachePadded;
 use std::alloc::Global;
+use std::thread;
+use std::thread::Threads;
 use stm_model::alg::Alg;
 use stm_model::memory::Memory;
 use stm_model::rule::MemRule;
@@ -15,6 +18,9 @@ use stm_rule::desc::Desc;
 use stm_script::report::Row;
 use stm_worker::worker::Worker;
 use tx_regions::region::Regions;
+
+/// The workers of callers with fewer items each, on the average, are made in less time than threads take to start.
+const FEWEST_ITEMS: usize = 2048;
 
 /// A caller's worker, and the clock that a call of it found at its limit.
 #[derive(Drop)]
@@ -30,26 +36,109 @@ fn policy_for(policy: Policy, caller: usize) -> Policy
     if caller == 0 { policy } else { Policy::Fixed }
 }
 
+/// What all workers begin with.
+#[derive(Drop)]
+struct Common<'a> {
+    alloc: Global,
+    /// What each caller is to do.
+    parts: &'a [CallerItems],
+    /// The regions of the memory.
+    regions: &'a Regions,
+    /// The memory's algorithm.
+    alg: Alg,
+    /// The policy of caller 0.
+    policy: Policy,
+}
+
 /// A worker for each descriptor, in their order, with its caller's items and room for all that it will do;
-/// `regions` are the memory's, `alg` is its algorithm, and `policy` is that of caller 0.
-pub fn make_workers<'a, K: MemRule>(
+/// `regions` are the memory's, `alg` is its algorithm, and `policy` is that of caller 0. `items` is how many items all
+/// callers have: where they are many, each worker takes its room on a thread of its own.
+///
+/// # Errors
+/// Memory, where it is refused.
+pub fn make_workers<'a, R: Threads + Sync, K: MemRule + Drop + Send + Sync>(
+    rt: &R,
     alloc: Global,
     descs: Vec<Desc<K>>,
     parts: &'a [CallerItems],
     regions: &'a Regions,
     alg: Alg,
     policy: Policy,
+    items: usize,
 ) -> Result<Vec<CachePadded<Runner<'a, K>>>, Memory>
-    requires { length descs.items ≡ length parts.now }
+    requires numbered { AreNumbered descs.items }
+    requires all { length descs.items ≡ length parts.now }
     ensures { IfOk result (λ rs. AreMade (λ n. slice_index_or parts.now n []) regions.now alg policy 0 descs.items (workers_in rs.items)) }
 {
-    let mut runners = Vec::with_capacity(alloc, descs.len())?;
+    let common = Common {
+        alloc,
+        parts,
+        regions,
+        alg,
+        policy,
+    };
+    if items < descs.len().saturating_mul(FEWEST_ITEMS) {
+        make_in_turn(&common, descs)
+    } else {
+        make_by_threads(rt, &common, descs)
+    }
+}
+
+/// The workers, made one after the other.
+fn make_in_turn<'a, K: MemRule>(
+    common: &Common<'a>,
+    descs: Vec<Desc<K>>,
+) -> Result<Vec<CachePadded<Runner<'a, K>>>, Memory>
+    requires numbered { AreNumbered descs.items }
+    requires all { length descs.items ≡ length common.now.parts.now }
+    ensures { IfOk result (λ rs. AreMadeOf common.now descs.items (workers_in rs.items)) }
+{
+    let mut runners = Vec::with_capacity(common.alloc, descs.len())?;
     for desc in descs {
-        let caller = runners.len();
-        let items = items_at(parts, caller);
-        let own = policy_for(policy, caller);
-        let worker = Worker::new(alloc, desc, items, regions, alg, own)?;
+        let worker = make_one(common, desc)?;
         runners.push_reserved(CachePadded::new(Runner { worker, full: None }));
+    }
+    Ok(runners)
+}
+
+/// The workers, made side by side.
+fn make_by_threads<'a, R: Threads + Sync, K: MemRule + Drop + Send + Sync>(
+    rt: &R,
+    common: &Common<'a>,
+    descs: Vec<Desc<K>>,
+) -> Result<Vec<CachePadded<Runner<'a, K>>>, Memory>
+    requires numbered { AreNumbered descs.items }
+    requires all { length descs.items ≡ length common.now.parts.now }
+    ensures { IfOk result (λ rs. AreMadeOf common.now descs.items (workers_in rs.items)) }
+{
+    let tried = thread::map_vec(rt, descs, &|desc| { make_one(common, desc) })?;
+    seat_all(common.alloc, tried)
+}
+
+/// The worker of a descriptor, with its caller's items and room for all that it will do.
+fn make_one<'a, K: MemRule>(common: &Common<'a>, desc: Desc<K>) -> Result<Worker<'a, K>, Memory>
+    requires { caller_of desc.who.role < length common.now.parts.now }
+    ensures { IfOk result (IsMadeOf common.now (caller_of desc.who.role) desc) }
+{
+    let caller = desc.number;
+    let items = items_at(common.parts, caller);
+    let own = policy_for(common.policy, caller);
+    Worker::new(common.alloc, desc, items, common.regions, common.alg, own)
+}
+
+/// A runner for each worker, in their order, where memory was found for all.
+fn seat_all<'a, K: MemRule>(
+    alloc: Global,
+    tried: Vec<Result<Worker<'a, K>, Memory>>,
+) -> Result<Vec<CachePadded<Runner<'a, K>>>, Memory>
+    ensures { IfOk result (λ rs. map Ok (workers_in rs.items) ≡ tried.entry.items) }
+{
+    let mut runners = Vec::with_capacity(alloc, tried.len())?;
+    for worker in tried {
+        runners.push_reserved(CachePadded::new(Runner {
+            worker: worker?,
+            full: None,
+        }));
     }
     Ok(runners)
 }

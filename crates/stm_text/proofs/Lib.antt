@@ -1,6 +1,7 @@
 pub mod LineLaws
 pub mod OrderLaws
 pub mod ParseLaws
+mod PieceLaws
 pub mod BuiltLaws
 pub mod Decimals
 pub mod ReportLaws

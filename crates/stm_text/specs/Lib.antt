@@ -4,3 +4,4 @@ pub mod Grammar
 pub mod Built
 pub mod Reports
 pub mod Texts
+pub mod Pieces

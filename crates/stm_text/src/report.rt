@@ -1,9 +1,13 @@
 //! Reports, written as their text.
-ghost use Rattle.std.specs.Prelude.{◌≡◌, ◌∷◌, ◌++◌, codes, IfOk, OnOk, string_bytes};
+ghost use Rattle.std.specs.Prelude.{◌≡◌, ◌<◌, ◌∷◌, ◌++◌, ℕ, List, codes, IfOk, OnOk, string_bytes};
 ghost use Rattle.std.specs.Fmt.{decimal};
+ghost use Rattle.stm_script.specs.declared.report.Row.{Row};
+ghost use Rattle.stm_text.specs.Pieces.{ArePieces};
 ghost use Rattle.stm_text.specs.Reports.{spaced, emitted, letter_of, row_line, row_lines, memory_line, memory_lines, report_bytes};
 
 use std::alloc::{AllocError, Global};
+use std::thread;
+use std::thread::Threads;
 use stm_model::memory::Memory;
 use stm_script::report::{Kind, Report, Row};
 
@@ -17,6 +21,56 @@ pub fn report_text(alloc: Global, report: &Report) -> Result<Vec<u8>, Memory>
     put_memory(&mut text, report.memory.as_slice())?;
     text.push_str("end\n")?;
     Ok(text.into_bytes())
+}
+
+/// A thread is given at least so many rows, if there are: the lines of fewer take less time than its start.
+const FEWEST_ROWS: usize = 1024;
+
+/// The text of a report, as [`report_text`] writes it, with the lines of its rows written by at most `threads` threads
+/// side by side. Memory may be refused.
+pub fn report_text_by<R: Threads + Sync>(
+    rt: &R,
+    alloc: Global,
+    report: &Report,
+    threads: usize,
+) -> Result<Vec<u8>, Memory>
+    requires { 0 < threads }
+    ensures { IfOk result (λ t. t.items ≡ report_bytes report.now) }
+{
+    let rows = report.rows.as_slice();
+    let size = rows.len().div_ceil(threads).max(FEWEST_ROWS);
+    let pieces = thread::map_chunks(
+        rt,
+        alloc,
+        rows,
+        size,
+        &|_, piece| { rows_text(alloc, piece) },
+    )?;
+    let mut text = String::new(alloc);
+    text.push_str("report 1\n")?;
+    put_pieces(&mut text, pieces)?;
+    put_memory(&mut text, report.memory.as_slice())?;
+    text.push_str("end\n")?;
+    Ok(text.into_bytes())
+}
+
+/// The lines of some of a report's rows.
+fn rows_text(alloc: Global, rows: &[Row]) -> Result<String, Memory>
+    ensures { IfOk result (λ t. string_bytes t ≡ row_lines rows.now) }
+{
+    let mut text = String::new(alloc);
+    put_rows(&mut text, rows)?;
+    Ok(text)
+}
+
+/// The lines of all rows, of which each piece has those of a chunk.
+fn put_pieces(text: &mut String, pieces: Vec<Result<String, Memory>>) -> Result<(), Memory>
+    ensures { (size : ℕ) (rows : List Row) → ArePieces (λ t. string_bytes t) size rows pieces.items → OnOk result (string_bytes text.new ≡ string_bytes text.old ++ row_lines rows) }
+{
+    for piece in pieces {
+        text.push_str(&piece?)?;
+    }
+    Ok(())
 }
 
 fn put_rows(text: &mut String, rows: &[Row]) -> Result<(), AllocError>

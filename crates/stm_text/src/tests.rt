@@ -1,5 +1,5 @@
 use crate::parse::{Mode, ParseError, parse};
-use crate::report::report_text;
+use crate::report::{report_text, report_text_by};
 use smallvec::SmallVec;
 use std::alloc::{AllocError, Global};
 use std::process::Abort;
@@ -542,6 +542,22 @@ fn writes_reports(rt: HostRuntime) -> Result<(), Fail> {
     let want =
         b"report 1\nC 0 0 0 : 5 5 1\nW 1 0 1 : 5 6 1 5 ! 5\nR 1 31 10 :\nW 4611686018427387904 1 0 : 18446744073709551615 ! 7 0\nmem 0 5\nmem 65535 18446744073709551615\nend\n";
     assert_eq!(rt; text.as_slice(), want.as_slice());
+    Ok(())
+}
+
+/// More rows than one thread is given.
+#[test]
+fn writes_long_reports_by_threads(rt: HostRuntime) -> Result<(), Fail> {
+    let mut rows = Vec::new(rt.alloc());
+    for place in 0..2500u64 {
+        rows.push(row(rt.alloc(), Kind::W, place, 0, 0, &[place], &[])?)?;
+    }
+    let report = Report {
+        rows: Rows::new(rows),
+        memory: Pairs::new(vec![in rt.alloc(); (3, 7)]?),
+    };
+    let text = report_text_by(&rt, rt.alloc(), &report, 3)?;
+    assert_eq!(rt; text, report_text(rt.alloc(), &report)?);
     Ok(())
 }
 

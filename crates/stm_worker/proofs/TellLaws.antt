@@ -4,11 +4,10 @@ use Rattle.std.proofs.lemmas.List.{append-nil}
 use Rattle.std.proofs.lemmas.List.Elements.{Contains-append_left}
 use Rattle.std.specs.Prelude.{MatchOption, Some, Contains, if◌then◌else◌}
 use Rattle.rule_base.specs.declared.layout.At.TheVariants.{Clock}
-use Rattle.stm_model.specs.Algorithms.{entry_rise, install_rise, quit_rise}
+use Rattle.stm_model.specs.Algorithms.{entry_rise, quit_rise}
 use Rattle.stm_model.specs.AlgorithmLaws.{entry-low, install-low, quit-low}
 use Rattle.stm_model.specs.Configs.{IsConfig}
 use Rattle.stm_model.specs.declared.alg.Alg.{Alg}
-use Rattle.stm_model.specs.declared.alg.Alg.TheVariants.{Cgl, Tml, OrecLazy, OrecEager, RingSw, Serial}
 use Rattle.stm_model.specs.declared.config.Config.{Config}
 use Rattle.stm_model.specs.declared.stop.Stop.{Stop}
 use Rattle.stm_model.specs.declared.stop.Stop.TheVariants as stops

@@ -4,9 +4,7 @@ use Rattle.std.proofs.Math.Nat.{mul-add}
 use Rattle.std.proofs.lemmas.List.Elements.{All-head, All-tail}
 use Rattle.std.proofs.lemmas.List.Sums.{sum_by-cons}
 use Rattle.std.specs.Prelude.{Option, Some, None, All, sum_by}
-use Rattle.stm_model.specs.declared.alg.Alg.{Alg}
 use Rattle.stm_profile.specs.declared.policy.Policy.TheVariants.{Fixed}
-use Rattle.stm_rule.specs.Callers.{Handle}
 use Rattle.stm_rule.specs.declared.stm.Stm.{Stm}
 use Rattle.stm_script.specs.declared.workload.Item.{Item}
 use Rattle.stm_script.specs.declared.workload.Item.TheVariants.{Tx, Switch}
@@ -20,7 +18,7 @@ use Rattle.stm_trace.specs.Places.{Place, after, clock_of, most_failed}
 use Rattle.stm_trace.specs.Turns.{MaySay, MayWind, MayFinish}
 use Rattle.stm_worker.specs.declared.worker.Worker.{Worker}
 use Rattle.stm_worker.specs.Payments.{raised, spent, Pays, PaysBut, PaysAfter, PaysOnceDone, PaysOnceDoneAfter, PaysWinding, PaysWindingAfter, Affords, Paid, dropped_of, unpaid_at, unpaid_by, IsCountedFor, CountsNext}
-use Rattle.stm_worker.specs.Workers.{place_of, IsAt, Sound, Starts, Turned}
+use Rattle.stm_worker.specs.Workers.{place_of, IsAt, Sound, Turned}
 use Rattle.stm_worker.specs.RiseLaws.{raised-in, raised-out, owed-in, owed-out}
 use Rattle.stm_worker.specs.PaidLaws.{spent-low, each-item, under, tx-less, said-paid, wound-paid, settles, dropped-low, dropped-tx}
 use Rattle.stm_worker.specs.CountLaws.{CountsAt, alone-failed, counted-none, said-counts}

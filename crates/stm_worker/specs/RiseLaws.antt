@@ -1,9 +1,6 @@
 -- By how much an answer can raise the clock, as the table of the algorithms says.
-use Rattle.std.proofs.Common.{ℕ, ◌≡◌, ◌≤◌, ◌+◌, Bool, true, false, List, refl, ap, arith}
+use Rattle.std.proofs.Common.{ℕ, ◌≡◌, ◌+◌, true, false, List, ap}
 use Rattle.std.specs.Prelude.{if◌then◌else◌}
-use Rattle.stm_model.specs.Algorithms.{entry_rise, install_rise, quit_rise}
-use Rattle.stm_model.specs.declared.alg.Alg.{Alg}
-use Rattle.stm_model.specs.declared.alg.Alg.TheVariants.{Cgl, Tml, OrecLazy, OrecEager, RingSw, Serial}
 use Rattle.stm_model.specs.declared.config.Config.{Config}
 use Rattle.stm_model.specs.declared.stop.Stop.{Stop}
 use Rattle.stm_model.specs.declared.stop.Stop.TheVariants as stops

@@ -57,17 +57,20 @@ impl IndexedLog {
         })
     }
 
-    /// The value at the address, if it is in the log. One lookup.
+    /// The value at the address, if it is in the log. One lookup, and none in an empty log.
     pub fn find(&self, a: usize) -> Option<u64>
         ensures { result ≡ item_at a self.now.items }
     {
+        if self.items.is_empty() {
+            return None;
+        }
         match look_up(&self.index, &self.items, self.generation, self.inverse, a).item {
             Some(i) => Some(self.items[i].1),
             None => None,
         }
     }
 
-    /// How many buckets a find of the address looks at: 1 at least, the number of items plus 1 at most.
+    /// How many buckets a lookup of the address looks at: 1 at least, the number of items plus 1 at most.
     pub fn probes(&self, a: usize) -> usize
         ensures low { 1 ≤ result }
         ensures high { result ≤ length self.now.items + 1 }

@@ -66,7 +66,7 @@ impl WriteLog {
         self.log.push(a, v, Repeat::Replace)
     }
 
-    /// The value at the address, if it is in the log. One lookup.
+    /// The value at the address, if it is in the log. One lookup, and none in an empty log.
     #[inline]
     pub fn find(&self, a: usize) -> Option<u64>
         ensures { result ≡ item_at a self.now.items }
@@ -74,7 +74,7 @@ impl WriteLog {
         self.log.find(a)
     }
 
-    /// How many buckets a find of the address looks at: 1 at least, the number of items plus 1 at most.
+    /// How many buckets a lookup of the address looks at: 1 at least, the number of items plus 1 at most.
     pub fn probes(&self, a: usize) -> usize
         ensures low { 1 ≤ result }
         ensures high { result ≤ length self.now.items + 1 }

@@ -5,7 +5,7 @@ pub of-requires : goal.of-requires
 of-requires g c = (Run, c.requires)
 
 pub prepare-requires : goal.prepare-requires
-prepare-requires g c = (Run, c.args.workload, c.requires, c.in_ok-parts.ensures)
+prepare-requires g c = (c.type_bounds.sync-R, (Run, c.args.workload, c.requires, c.in_ok-parts.ensures))
 
 pub run-requires-clause-ready : goal.run-requires-clause-ready
 run-requires-clause-ready g c κs within =

@@ -6,7 +6,7 @@ pub of-requires : goal.of-requires
 of-requires g c = (Step, c.requires)
 
 pub prepare-requires : goal.prepare-requires
-prepare-requires g c = (Step, c.args.workload, c.requires, c.in_ok-parts.ensures)
+prepare-requires g c = (c.type_bounds.sync-R, (Step, c.args.workload, c.requires, c.in_ok-parts.ensures))
 
 pub step-requires : goal.step-requires
 step-requires g c =

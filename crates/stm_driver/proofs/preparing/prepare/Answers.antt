@@ -1,8 +1,12 @@
-use Rattle.std.proofs.Common.{List, [], subst}
+use Rattle.std.proofs.Common.{List, [], ◌∙◌, arith, subst}
 use Rattle.std.specs.Prelude.{slice_index_or}
 use Rattle.tx_regions.specs.declared.region.Region.{Region}
 use Rattle.stm_driver.specs.AllWorkers.{AreMade, workers_in}
+use Rattle.stm_driver.proofs.OpeningLaws.{numbered}
 use Rattle.stm_driver.proofs.preparing.prepare.Goals as goal
+
+pub make_workers-requires-clause-numbered : goal.make_workers-requires-clause-numbered
+make_workers-requires-clause-numbered g c = λ _ _ n d lt. numbered c.in_ok-stm.stm c.args.header.now.alg 0 c.in_ok-stm.descs.items c.in_ok-stm.ensures.opens.new n d lt ∙ (omega arith)
 
 pub returns-clause-prepared : goal.returns-clause-prepared
 returns-clause-prepared g c =

@@ -11,23 +11,23 @@ use Rattle.stm_driver.specs.Preparings.{HasRoom, IsPrepared, WorkloadKeeps}
 use Rattle.bench_core.proofs.parts.Parts.prepare.Goals as goal
 
 pub prepare-requires-clause-fits : goal.prepare-requires-clause-fits
-prepare-requires-clause-fits g c = subst HeaderFits (sym c.requires.3.header) c.requires.2.header
+prepare-requires-clause-fits g c κs within = subst HeaderFits (sym c.requires.3.header) c.requires.2.header
 
 pub prepare-requires-clause-good : goal.prepare-requires-clause-good
-prepare-requires-clause-good g c =
+prepare-requires-clause-good g c κs within =
     let same = sym c.requires.3.header in
     let words = c.args.self.now.header.words in
     subst (λ (rs : List Region). AllWellFormed rs (zeros words)) (sym c.in_ok-rule.ensures)
     (subst (λ (h : Header). AllWellFormed (regions_of h) (zeros h.words)) same (c.regions_are_kept.ensures.holds c.requires.1))
 
 pub prepare-requires-clause-parts : goal.prepare-requires-clause-parts
-prepare-requires-clause-parts g c =
+prepare-requires-clause-parts g c κs within =
     let w = c.requires.1 in
     let apart = c.requires.3 in
     ap length (c.as_slice.ensures.value ∙ apart.callers) ∙ (parts-length 0 w.header.callers w.items ∙ ap (λ (h : Header). h.callers) (sym apart.header))
 
 pub prepare-requires-clause-regions : goal.prepare-requires-clause-regions
-prepare-requires-clause-regions g c = c.requires.3.regions ∙ ap regions_of (sym c.requires.3.header)
+prepare-requires-clause-regions g c κs within = c.requires.3.regions ∙ ap regions_of (sym c.requires.3.header)
 
 pub returns : goal.returns
 returns g c = λ mode w built apart.

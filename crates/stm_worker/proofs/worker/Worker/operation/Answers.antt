@@ -1,4 +1,4 @@
-use Rattle.std.proofs.Common.{ap, ◌∙◌}
+use Rattle.std.proofs.Common.{ap}
 use Rattle.std.specs.Prelude.{◌||◌}
 use Rattle.stm_tx.specs.Descs.{known}
 use Rattle.stm_trace.specs.Places.{script_at}

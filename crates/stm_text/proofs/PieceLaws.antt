@@ -1,0 +1,21 @@
+-- The lines of all rows are those of the chunks, one behind the other.
+use Rattle.std.proofs.Common.{ℕ, ◌≡◌, ◌≤◌, ◌+◌, ◌*◌, List, [], ◌∷◌, ◌++◌, length, take, drop, refl, sym, ap, ◌∙◌, append_assoc}
+use Rattle.std.specs.Fork.{slice_chunk}
+use Rattle.std.proofs.lemmas.List.{append-nil, take-append-drop, drop-drop, drop_all}
+use Rattle.stm_script.specs.declared.report.Row.{Row}
+use Rattle.stm_text.specs.Reports.{row_line, row_lines}
+
+lines-append : (rs ss : List Row) → row_lines (rs ++ ss) ≡ row_lines rs ++ row_lines ss
+lines-append [] ss = refl
+lines-append (r ∷ rs) ss = ap (λ l. row_line r ++ l) (lines-append rs ss) ∙ sym (append_assoc (row_line r) (row_lines rs) (row_lines ss))
+
+-- the rows from chunk n on are those of chunk n and those behind it
+pub chunk-first : (size n : ℕ) (rows : List Row) → row_lines (slice_chunk rows size n) ++ row_lines (drop (n * size + size) rows) ≡ row_lines (drop (n * size) rows)
+chunk-first size n rows =
+    let rest = drop (n * size) rows in
+    ap (λ (l : List Row). row_lines (slice_chunk rows size n) ++ row_lines l) (sym (drop-drop size (n * size) rows))
+    ∙ (sym (lines-append (take size rest) (drop size rest)) ∙ ap row_lines (take-append-drop size rest))
+
+-- behind the last chunk there is none
+pub none-behind : (n : ℕ) (rows : List Row) (text : List ℕ) → length rows ≤ n → text ++ row_lines (drop n rows) ≡ text
+none-behind n rows text le = ap (λ (l : List Row). text ++ row_lines l) (drop_all n rows le) ∙ append-nil text
