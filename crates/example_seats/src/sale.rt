@@ -1,6 +1,6 @@
 //! A sale: the memory is opened, two callers take seats, and it is closed.
 ghost use Rattle.std.specs.Prelude.{IfOk};
-ghost use Rattle.tx_tree.specs.Trees.{IsTree};
+ghost use Rattle.example_seats.specs.Sales.{IsSale};
 
 use crate::hall::{Seats, Take};
 use std::alloc::Global;
@@ -35,12 +35,13 @@ pub struct Sale {
 }
 
 /// Ten seats, of which two callers want three: first the one and then the other wants seat 7, and then the other seat 3.
-/// The words have the set of those that were taken.
+/// The words have the set of those that were taken. Each wish is answered as by an insertion into the set at one moment of
+/// the memory's one history, in which nothing else is, or by None where it found the clock at its limit.
 ///
 /// # Errors
 /// Memory, where it is refused.
 pub fn sell<R: Wait>(rt: &R, alloc: Global) -> Result<Sale, NewError>
-    ensures { IfOk result (λ sale. IsTree HALL sale.words.items) }
+    ensures { IfOk result IsSale }
 {
     // a memory of zeros has an empty tree
     trees_are_apart();

@@ -1,5 +1,5 @@
 -- Laws of attempts.
-use Rattle.std.proofs.Common.{ℕ, ◌≡◌, ◌∙◌, List, true, false, arith, sym, ap, subst, inl, inr}
+use Rattle.std.proofs.Common.{ℕ, ◌≡◌, ◌≤◌, ◌∙◌, List, true, false, arith, sym, ap, subst, inl, inr}
 use Rattle.std.specs.Prelude.{Option, Some, None, ◌⊎◌}
 use Rattle.rule_base.specs.declared.seats.Who.{Who}
 use Rattle.stm_model.specs.Logs.{Log}
@@ -11,8 +11,12 @@ use Rattle.tx_answers.specs.declared.answers.Cancel.{Cancel}
 use Rattle.tx_answers.specs.declared.answers.Cancel.TheVariants.{Cancelled, Irrevocable}
 use Rattle.tx_answers.specs.declared.answers.Commit.{Commit}
 use Rattle.tx_answers.specs.declared.answers.Commit.TheVariants.{Committed, ReadOnly}
-use Rattle.tx_answers.specs.Answers.{Cancels, Commits, Stops}
-use Rattle.tx_answers.specs.Known.{Known, IsIdle, caller_of, is_irrevocable}
+use Rattle.tx_answers.specs.declared.answers.Commit.TheVariants as commits
+use Rattle.tx_answers.specs.declared.answers.Irrev.{Irrev}
+use Rattle.tx_answers.specs.declared.answers.Irrev.TheVariants as grants
+use Rattle.tx_answers.specs.Answers.{Cancels, Commits, Irrevs, Stops}
+use Rattle.tx_answers.specs.Known.{Known, Grows, IsIdle, caller_of, is_irrevocable}
+use Rattle.tx_answers.specs.KnownLaws.{carries-refl, grows-trans}
 use Rattle.stm_tx.specs.Descs.{Since, number}
 use Rattle.tx_atomic.specs.Attempts.{TookEffect, ended_by, HasFoundFull}
 
@@ -21,9 +25,21 @@ pub same-number : {K : Type 0} (d e : Handle K) → IsSameCaller d e → number 
 same-number {K} d e same = ap (λ (w : Who K). caller_of w.role) same.who
 
 -- a commit that was done took effect
-pub took-by : (good : List ℕ → Type 0) (c : Config) (n : ℕ) (tells : Log → Type 0) (answer : Commit) (u v w : Known) → tells v.log → v.made ≡ u.made → Commits good c n answer v w → ((t : ℕ) × (answer ≡ Committed t)) ⊎ ((t : ℕ) × (answer ≡ ReadOnly t)) → TookEffect good c n tells u w
-took-by good c n tells answer u v w told made commits (inl p) = record { before = v; told = told; made = made; time = p.0; commits = inl (subst (λ r. Commits good c n r v w) p.1 commits) }
-took-by good c n tells answer u v w told made commits (inr p) = record { before = v; told = told; made = made; time = p.0; commits = inr (subst (λ r. Commits good c n r v w) p.1 commits) }
+pub took-by : (good : List ℕ → Type 0) (c : Config) (n : ℕ) (tells : Log → Type 0) (answer : Commit) (from : ℕ) (u v w : Known) → tells v.log → v.made ≡ u.made → Grows u v → from ≤ v.start → Commits good c n answer v w → ((t : ℕ) × (answer ≡ Committed t)) ⊎ ((t : ℕ) × (answer ≡ ReadOnly t)) → TookEffect good c n tells from u w
+took-by good c n tells answer from u v w told made grows later commits (inl p) = record { before = v; told = told; made = made; grows = grows; later = later; time = p.0; commits = inl (subst (λ r. Commits good c n r v w) p.1 commits) }
+took-by good c n tells answer from u v w told made grows later commits (inr p) = record { before = v; told = told; made = made; grows = grows; later = later; time = p.0; commits = inr (subst (λ r. Commits good c n r v w) p.1 commits) }
+
+-- what took effect since v did so since u, from which v came without an entry
+pub took-since : (good : List ℕ → Type 0) (c : Config) (n : ℕ) (tells : Log → Type 0) (late early : ℕ) (u v w : Known) → v.made ≡ u.made → Grows u v → early ≤ late → TookEffect good c n tells late v w → TookEffect good c n tells early u w
+took-since good c n tells late early u v w made grows le t = record {
+  before = t.before;
+  told = t.told;
+  made = t.made ∙ made;
+  grows = grows-trans u v t.before grows t.grows;
+  later = (let h = t.later in omega (arith, h, le));
+  time = t.time;
+  commits = t.commits;
+}
 
 -- an attempt that goes on as it was can still be cancelled
 pub still-revocable : (v w : Known) → w.alg ≡ v.alg → w.granted ≡ v.granted → w.log ≡ v.log → is_irrevocable v ≡ false → is_irrevocable w ≡ false
@@ -38,6 +54,25 @@ module _ (good : List ℕ → Type 0) (c : Config) (n : ℕ) where
   pub cancels-made : (r : Cancel) (v w : Known) → Cancels good c n r v w → w.made ≡ v.made
   cancels-made (Cancelled time) v w h = h.0.made
   cancels-made Irrevocable v w h = ap (λ (k : Known). k.made) h.0
+
+  -- what was seen stays, whatever a call answers
+  pub irrevs-grow : (r : Irrev) (v w : Known) → Irrevs good c n r v w → Grows v w
+  irrevs-grow grants.Granted v w h = h.continues.grows
+  irrevs-grow (grants.Busy caller status) v w h = h.0.continues.grows
+  irrevs-grow (grants.Taken gate) v w h = h.0.continues.grows
+  irrevs-grow (grants.Conflict cause) v w h = h.0.ends.grows
+  irrevs-grow (grants.ClockFull clock) v w h = h.0.ends.grows
+
+  pub cancels-grow : (r : Cancel) (v w : Known) → Cancels good c n r v w → Grows v w
+  cancels-grow (Cancelled time) v w h = h.0.ends.grows
+  cancels-grow Irrevocable v w h = subst (λ (k : Known). Grows v k) (sym h.0) (carries-refl v).grows
+
+  pub commits-grow : (r : Commit) (v w : Known) → Commits good c n r v w → Grows v w
+  commits-grow (Committed time) v w h = h.ends.grows
+  commits-grow (ReadOnly time) v w h = h.0.ends.grows
+  commits-grow (commits.Conflict cause) v w h = h.0.ends.grows
+  commits-grow (commits.Again word had now) v w h = h.0.continues.grows
+  commits-grow (commits.ClockFull clock) v w h = h.0.ends.grows
 
   stop-idle : (a : ℕ) (stop : Stop) (v w : Known) → Stops good c n a stop v w → IsIdle w
   stop-idle a (stops.Conflict cause) v w h = h.0.ends.idle

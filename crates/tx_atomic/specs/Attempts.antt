@@ -7,7 +7,7 @@ use Rattle.stm_model.specs.declared.stop.Stop.TheVariants as stops
 use Rattle.stm_model.specs.Logs.{Log, Keeps}
 use Rattle.tx_answers.specs.declared.answers.Commit.TheVariants.{Committed, ReadOnly}
 use Rattle.tx_answers.specs.Answers.{Commits}
-use Rattle.tx_answers.specs.Known.{Known, IsRunning, no_log}
+use Rattle.tx_answers.specs.Known.{Known, Grows, IsRunning, no_log}
 use Rattle.tx_atomic.specs.declared.tally.Ended.{Ended}
 use Rattle.tx_atomic.specs.declared.tally.Ended.TheVariants as ends
 
@@ -47,10 +47,12 @@ IsEarly ends.Taken = Unit {0}
 IsEarly ends.Again = ⊥
 IsEarly ends.ClockFull = Unit {0}
 
--- from u to w one attempt took effect, and its commit was the last call: what it had read and written is such a log, and no attempt before it left an entry
-pub record TookEffect (good : List ℕ → Type 0) (c : Config) (n : ℕ) (tells : Log → Type 0) (u w : Known) : Type 0 where
+-- from u to w one attempt took effect, and its commit was the last call: what it had read and written is such a log, and no attempt before it left an entry; it knew all that u had seen, and its start is no earlier than this
+pub record TookEffect (good : List ℕ → Type 0) (c : Config) (n : ℕ) (tells : Log → Type 0) (from : ℕ) (u w : Known) : Type 0 where
   pub before : Known
   pub told : tells before.log
   pub made : before.made ≡ u.made
+  pub grows : Grows u before
+  pub later : from ≤ before.start
   pub time : ℕ
   pub commits : Commits good c n (Committed time) before w ⊎ Commits good c n (ReadOnly time) before w

@@ -1,9 +1,13 @@
 -- Laws of callers between their transactions.
-use Rattle.std.proofs.Common.{ℕ, zero, suc, ◌≡◌, ◌<◌, ◌∙◌, List, [], ◌∷◌, ◌++◌, length, get_or, set, take, drop, refl, sym, ap, arith, subst}
+use Rattle.std.proofs.Common.{ℕ, zero, suc, ◌≡◌, ◌<◌, ◌+◌, ◌∙◌, List, [], ◌∷◌, ◌++◌, length, get_or, set, take, drop, refl, sym, ap, arith, subst}
 use Rattle.std.specs.Prelude.{All}
 use Rattle.rule_base.specs.declared.views.View.{View}
 use Rattle.stm_rule.specs.declared.stm.Stm.{Stm}
-use Rattle.stm_rule.specs.Callers.{Handle, IsOf, AllOpened, AllIdle}
+use Rattle.rule_base.specs.Bridge.{public_history}
+use Rattle.stm_model.specs.Histories.{made_by}
+use Rattle.stm_rule.specs.Callers.{Handle, IsOf, AllOpened, AllIdle, BeginsHistory}
+use Rattle.stm_rule.specs.Closings.{AllTold, Ended}
+use Rattle.stm_tx.specs.Descs.{known}
 use Rattle.tx_answers.specs.Known.{IsIdle, known_of}
 use Rattle.tx_atomic.specs.Callers.{IsReady, IsThrough, AllReady}
 
@@ -60,3 +64,19 @@ module _ {K : Type 0} (stm : Stm K) where
   -- they were lent as a slice, and came back
   pub came-back : (ds lent left : List (Handle K)) (n : ℕ) → lent ≡ ds → length lent ≡ n → length left ≡ length lent → AllReady stm 0 left → AllReady stm 0 (take n (left ++ drop (length left) ds))
   came-back ds lent left n same long count ready = subst (AllReady stm 0) (sym (written n left ds (count ∙ long) (sym (ap length same) ∙ long))) ready
+
+  -- none of a new memory has made an entry
+  pub opened-made : (n : ℕ) (xs ys : List (Handle K)) (d : Handle K) → AllOpened stm n (xs ++ d ∷ ys) → (known d).made ≡ []
+  opened-made n [] ys d h = ap (λ (v : View). public_history v.history.made) h.2
+  opened-made n (x ∷ xs) ys d h = opened-made (suc n) xs ys d h.4
+
+module _ {K : Type 0} (e : Ended) where
+  -- what a descriptor had seen begins the history that closing gives
+  pub closed-seen : (n : ℕ) (xs ys : List (Handle K)) (d : Handle K) → AllTold e n (xs ++ d ∷ ys) → BeginsHistory (known d).seen (known d).front e.history
+  closed-seen n [] ys d told = told.0.seen
+  closed-seen n (x ∷ xs) ys d told = closed-seen (suc n) xs ys d told.1
+
+  -- and what it made is what the history has of its caller
+  pub closed-made : (n : ℕ) (xs ys : List (Handle K)) (d : Handle K) → AllTold e n (xs ++ d ∷ ys) → (known d).made ≡ made_by (n + length xs) e.history
+  closed-made n [] ys d told = told.0.made ∙ (let here : n ≡ n + 0 = omega arith in ap (λ k. made_by k e.history) here)
+  closed-made n (x ∷ xs) ys d told = closed-made (suc n) xs ys d told.1 ∙ (let next : suc n + length xs ≡ n + suc (length xs) = omega arith in ap (λ k. made_by k e.history) next)

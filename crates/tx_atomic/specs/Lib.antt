@@ -3,3 +3,5 @@ pub mod AttemptLaws
 pub mod Callers
 pub mod CallerLaws
 pub mod Tallies
+pub mod Moments
+pub mod MomentLaws

@@ -1,7 +1,7 @@
 //! A transaction, tried until it commits.
 ghost use Rattle.std.specs.Prelude.{◌≡◌, ◌≤◌, IfSome, IfNone};
 ghost use Rattle.stm_rule.specs.Callers.{IsOf, IsSameCaller};
-ghost use Rattle.tx_answers.specs.Known.{IsIdle};
+ghost use Rattle.tx_answers.specs.Known.{Grows, IsIdle};
 ghost use Rattle.stm_tx.specs.Descs.{known, number};
 ghost use Rattle.tx_atomic.specs.Attempts.{TookEffect};
 ghost use Rattle.tx_atomic.specs.Tallies.{CommitsStay, CommitsRise};
@@ -21,7 +21,7 @@ use stm_rule::stm::Stm;
 const MOST_FAILED: u32 = 16;
 
 /// Runs a transaction until it commits, and answers what it does. It took effect once, as the last thing that the
-/// caller did: no attempt that failed before left a trace. None where the clock was found at its limit, 2^62, and
+/// caller did and behind all that it had seen: no attempt that failed before left a trace. None where the clock was found at its limit, 2^62, and
 /// then no attempt took effect: close the memory, and open another. The pace counts it where it took effect.
 pub fn atomically<R: Wait, K: MemRule, T: Transaction<K>>(
     rt: &R,
@@ -35,7 +35,8 @@ pub fn atomically<R: Wait, K: MemRule, T: Transaction<K>>(
     requires fits { T.fits transaction.now stm.now.rule stm.now.config.words }
     ensures same { IsSameCaller desc.old desc.new }
     ensures idle { IsIdle (known desc.new) }
-    ensures took { IfSome result (λ r. TookEffect (K.good stm.now.rule) stm.now.config (number desc.old) (T.tells transaction.now stm.now.rule stm.now.config.words r) (known desc.old) (known desc.new)) }
+    ensures grew { Grows (known desc.old) (known desc.new) }
+    ensures took { IfSome result (λ r. TookEffect (K.good stm.now.rule) stm.now.config (number desc.old) (T.tells transaction.now stm.now.rule stm.now.config.words r) (known desc.old).front (known desc.old) (known desc.new)) }
     ensures none { IfNone result ((known desc.new).made ≡ (known desc.old).made) }
     ensures counted { IfSome result (λ r. CommitsRise pace.old.tally pace.new.tally) }
     ensures uncounted { IfNone result (CommitsStay pace.old.tally pace.new.tally) }

@@ -1,7 +1,7 @@
 //! One attempt at a transaction. Each part begins with what the one before it left.
-ghost use Rattle.std.specs.Prelude.{◌≡◌, true, false, IfOk, OnOk, IfErr, OnErr};
+ghost use Rattle.std.specs.Prelude.{◌≡◌, ◌≤◌, true, false, IfOk, OnOk, IfErr, OnErr};
 ghost use Rattle.stm_rule.specs.Callers.{IsOf, IsSameCaller};
-ghost use Rattle.tx_answers.specs.Known.{IsIdle, is_irrevocable};
+ghost use Rattle.tx_answers.specs.Known.{Grows, IsIdle, is_irrevocable};
 ghost use Rattle.stm_tx.specs.Descs.{known, number};
 ghost use Rattle.tx_atomic.specs.Tallies.{CommitsStay};
 ghost use Rattle.tx_atomic.specs.Attempts.{IsFresh, MayCommit, TookEffect, HasFoundFull, IsEarly};
@@ -39,8 +39,9 @@ pub fn attempt<R: Wait, K: MemRule, T: Transaction<K>>(
     requires fits { T.fits transaction.now stm.now.rule stm.now.config.words }
     ensures same { IsSameCaller desc.old desc.new }
     ensures idle { IsIdle (known desc.new) }
+    ensures grew { Grows (known desc.old) (known desc.new) }
     ensures uncounted { CommitsStay pace.old.tally pace.new.tally }
-    ensures took { IfOk result (λ r. TookEffect (K.good stm.now.rule) stm.now.config (number desc.old) (T.tells transaction.now stm.now.rule stm.now.config.words r) (known desc.old) (known desc.new)) }
+    ensures took { IfOk result (λ r. TookEffect (K.good stm.now.rule) stm.now.config (number desc.old) (T.tells transaction.now stm.now.rule stm.now.config.words r) (known desc.old).front (known desc.old) (known desc.new)) }
     ensures none { OnErr result ((known desc.new).made ≡ (known desc.old).made) }
     ensures full { IfErr result (λ e. HasFoundFull e (known desc.new)) }
     ensures unrefused { IfErr result (λ e. sure ≡ true → IsEarly e) }
@@ -63,8 +64,10 @@ fn open<R: Wait, K: MemRule>(
     requires idle { IsIdle (known desc.old) }
     ensures same { IsSameCaller desc.old desc.new }
     ensures made { (known desc.new).made ≡ (known desc.old).made }
+    ensures grew { Grows (known desc.old) (known desc.new) }
     ensures uncounted { CommitsStay pace.old.tally pace.new.tally }
     ensures fresh { OnOk result (IsFresh (known desc.new)) }
+    ensures later { OnOk result ((known desc.old).front ≤ (known desc.new).start) }
     ensures sure { OnOk result (sure ≡ true → is_irrevocable (known desc.new) ≡ true) }
     ensures over { OnErr result (IsIdle (known desc.new)) }
     ensures full { IfErr result (λ e. HasFoundFull e (known desc.new)) }
@@ -83,7 +86,9 @@ fn begin<K: MemRule>(desc: &mut Desc<K>, stm: &Stm<K>) -> Result<(), Ended>
     requires idle { IsIdle (known desc.old) }
     ensures same { IsSameCaller desc.old desc.new }
     ensures made { (known desc.new).made ≡ (known desc.old).made }
+    ensures grew { Grows (known desc.old) (known desc.new) }
     ensures fresh { OnOk result (IsFresh (known desc.new)) }
+    ensures later { OnOk result ((known desc.old).front ≤ (known desc.new).start) }
     ensures over { OnErr result (IsIdle (known desc.new)) }
     ensures full { IfErr result (λ e. HasFoundFull e (known desc.new)) }
     ensures early { IfErr result IsEarly }
@@ -108,8 +113,10 @@ fn become_sure<R: Wait, K: MemRule>(
     requires fresh { IsFresh (known desc.old) }
     ensures same { IsSameCaller desc.old desc.new }
     ensures made { (known desc.new).made ≡ (known desc.old).made }
+    ensures grew { Grows (known desc.old) (known desc.new) }
     ensures uncounted { CommitsStay pace.old.tally pace.new.tally }
     ensures fresh { OnOk result (IsFresh (known desc.new)) }
+    ensures later { OnOk result ((known desc.old).start ≤ (known desc.new).start) }
     ensures sure { OnOk result (is_irrevocable (known desc.new) ≡ true) }
     ensures over { OnErr result (IsIdle (known desc.new)) }
     ensures full { IfErr result (λ e. HasFoundFull e (known desc.new)) }
@@ -146,6 +153,8 @@ fn act<K: MemRule, T: Transaction<K>>(
     requires fits { T.fits transaction.now stm.now.rule stm.now.config.words }
     ensures same { IsSameCaller desc.old desc.new }
     ensures made { (known desc.new).made ≡ (known desc.old).made }
+    ensures grew { Grows (known desc.old) (known desc.new) }
+    ensures later { OnOk result ((known desc.old).start ≤ (known desc.new).start) }
     ensures may { OnOk result (MayCommit (K.good stm.now.rule) stm.now.config (known desc.new)) }
     ensures tells { IfOk result (λ r. T.tells transaction.now stm.now.rule stm.now.config.words r (known desc.new).log) }
     ensures over { OnErr result (IsIdle (known desc.new)) }
@@ -176,6 +185,8 @@ fn act_by<K: MemRule, T: Transaction<K>, C: Calls>(
     requires fits { T.fits transaction.now stm.now.rule stm.now.config.words }
     ensures same { IsSameCaller desc.old desc.new }
     ensures made { (known desc.new).made ≡ (known desc.old).made }
+    ensures grew { Grows (known desc.old) (known desc.new) }
+    ensures later { OnOk result ((known desc.old).start ≤ (known desc.new).start) }
     ensures may { OnOk result (MayCommit (K.good stm.now.rule) stm.now.config (known desc.new)) }
     ensures tells { IfOk result (λ r. T.tells transaction.now stm.now.rule stm.now.config.words r (known desc.new).log) }
     ensures over { OnErr result (IsIdle (known desc.new)) }
@@ -206,8 +217,9 @@ fn end<R: Wait, K: MemRule>(
     requires may { MayCommit (K.good stm.now.rule) stm.now.config (known desc.old) }
     ensures same { IsSameCaller desc.old desc.new }
     ensures idle { IsIdle (known desc.new) }
+    ensures grew { Grows (known desc.old) (known desc.new) }
     ensures uncounted { CommitsStay pace.old.tally pace.new.tally }
-    ensures took { OnOk result (TookEffect (K.good stm.now.rule) stm.now.config (number desc.old) (λ l. l ≡ (known desc.old).log) (known desc.old) (known desc.new)) }
+    ensures took { OnOk result (TookEffect (K.good stm.now.rule) stm.now.config (number desc.old) (λ l. l ≡ (known desc.old).log) (known desc.old).start (known desc.old) (known desc.new)) }
     ensures none { OnErr result ((known desc.new).made ≡ (known desc.old).made) }
     ensures full { IfErr result (λ e. HasFoundFull e (known desc.new)) }
     ensures unrefused { OnErr result (is_irrevocable (known desc.old) ≡ false) }

@@ -1,7 +1,7 @@
 //! Another algorithm for a memory.
 ghost use Rattle.std.specs.Prelude.{◌≡◌, ◌∷◌, ◌++◌, [], true, if◌then◌else◌};
 ghost use Rattle.stm_rule.specs.Callers.{IsOf, IsSameCaller};
-ghost use Rattle.tx_answers.specs.Known.{IsIdle};
+ghost use Rattle.tx_answers.specs.Known.{Grows, IsIdle};
 ghost use Rattle.stm_tx.specs.Descs.{known};
 
 use std::sync::Wait;
@@ -19,6 +19,7 @@ pub fn switch_to<R: Wait, K: MemRule>(rt: &R, desc: &mut Desc<K>, stm: &Stm<K>, 
     requires idle { IsIdle (known desc.old) }
     ensures same { IsSameCaller desc.old desc.new }
     ensures idle { IsIdle (known desc.new) }
+    ensures grew { Grows (known desc.old) (known desc.new) }
     ensures installs { (known desc.new).installs ≡ (known desc.old).installs ++ alg ∷ [] }
 {
     let mut backoff = Backoff::new();
@@ -36,6 +37,7 @@ pub fn try_switch<K: MemRule>(desc: &mut Desc<K>, stm: &Stm<K>, alg: Alg) -> boo
     requires idle { IsIdle (known desc.old) }
     ensures same { IsSameCaller desc.old desc.new }
     ensures idle { IsIdle (known desc.new) }
+    ensures grew { Grows (known desc.old) (known desc.new) }
     ensures installs { (known desc.new).installs ≡ (if result then (known desc.old).installs ++ alg ∷ [] else (known desc.old).installs) }
 {
     let CloseGate::Closed = close_gate(desc, stm) else {

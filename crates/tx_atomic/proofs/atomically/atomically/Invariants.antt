@@ -1,6 +1,6 @@
 use Rattle.std.proofs.Common.{◌≡◌}
 use Rattle.stm_rule.specs.Callers.{IsSameCaller}
-use Rattle.tx_answers.specs.Known.{IsIdle}
+use Rattle.tx_answers.specs.Known.{Grows, IsIdle}
 use Rattle.stm_tx.specs.Descs.{known}
 use Rattle.tx_atomic.proofs.atomically.atomically.Given as goal
 
@@ -10,6 +10,7 @@ invariant-loop g l = record {
   ends : (goal.iterator-loop g).is_finite l.iterator';
   same : IsSameCaller l.fn.desc l.desc;
   idle : IsIdle (known l.desc);
+  grew : Grows (known l.fn.desc) (known l.desc);
   made : (known l.desc).made ≡ (known l.fn.desc).made;
   commits : l.pace.tally.commits ≡ l.fn.pace.tally.commits;
 }

@@ -1,6 +1,6 @@
 use Rattle.std.proofs.Common.{◌≡◌}
 use Rattle.stm_rule.specs.Callers.{IsSameCaller}
-use Rattle.tx_answers.specs.Known.{IsIdle}
+use Rattle.tx_answers.specs.Known.{Grows, IsIdle}
 use Rattle.stm_tx.specs.Descs.{known}
 use Rattle.tx_atomic.proofs.switching.switch_to.Given as goal
 
@@ -10,5 +10,6 @@ invariant-loop g l = record {
   ends : (goal.iterator-loop g).is_finite l.iterator';
   same : IsSameCaller l.fn.desc l.desc;
   idle : IsIdle (known l.desc);
+  grew : Grows (known l.fn.desc) (known l.desc);
   installs : (known l.desc).installs ≡ (known l.fn.desc).installs;
 }

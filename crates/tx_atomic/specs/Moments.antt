@@ -1,0 +1,19 @@
+-- Where a transaction stands in the history of a closed memory.
+use Rattle.std.specs.Prelude.{ℕ, suc, ◌≡◌, ◌≤◌, ◌+◌, false, if◌then◌else◌, List, length}
+use Rattle.stm_model.specs.declared.config.Config.{Config}
+use Rattle.stm_model.specs.Histories.{Entry, memory_at}
+use Rattle.stm_model.specs.Logs.{Log}
+use Rattle.stm_model.specs.Memories.{overlay, Explains, is_empty}
+use Rattle.tx_answers.specs.Known.{Known, zeros}
+
+-- between u and w, at one moment of the history, behind all that u had seen: the memory was good and explains what the transaction read; what it wrote, if anything, makes it that of the next moment, and is the caller's one entry
+pub record Happened (good : List ℕ → Type 0) (c : Config) (tells : Log → Type 0) (u w : Known) (history : List Entry) : Type 0 where
+  pub log : Log
+  pub told : tells log
+  pub at : ℕ
+  pub later : u.front ≤ at
+  pub sooner : at ≤ w.front
+  pub kept : good (memory_at at history (zeros c.words))
+  pub read : Explains (memory_at at history (zeros c.words)) log.reads
+  pub wrote : is_empty log.writes ≡ false → (suc at ≤ w.front) × (memory_at (suc at) history (zeros c.words) ≡ overlay (memory_at at history (zeros c.words)) log.writes)
+  pub made : length w.made ≡ length u.made + (if is_empty log.writes then 0 else 1)
