@@ -31,10 +31,6 @@ wrote-by key m false (Some cell) e = refl
 wrote-added : (key : ℕ) (m : List ℕ) → (inserted_in HALL key m).reply ≡ Added → (inserted_in HALL key m).wrote ≡ true
 wrote-added key m e = wrote-by key m (has key (keys HALL m)) (free_from (tag HALL m) 0 HALL.cells) e
 
-not-true : (b : Bool) → not b ≡ true → b ≡ false
-not-true true e = absurd cc
-not-true false e = refl
-
 -- what a wish's log tells
 abbrev pub Tells : ℕ → Insert → Log → Type 0
 Tells seat came log = DoesOver (IsTree HALL) 31 (inserted_in HALL seat) no_log came log
@@ -50,7 +46,7 @@ answered when seat u w history came due h =
       told = does.replied;
       taken = λ added.
           let wrote : not (is_empty h.log.writes) ≡ true = does.wrote ∙ wrote-added seat m (sym does.replied ∙ added) in
-          (h.wrote (not-true (is_empty h.log.writes) wrote)).1 ∙ does.left;
+          (h.wrote wrote).1 ∙ does.left;
     }
 
 -- a wish that took effect has its moment
@@ -107,7 +103,3 @@ split-by e es (suc (suc k)) is none later =
 pub of-two : (es : List Entry) → ((n : ℕ) → 2 ≤ n → made_by n es ≡ []) → length es ≡ length (made_by 0 es) + length (made_by 1 es)
 of-two [] none = refl
 of-two (e ∷ es) none = split-by e es e.caller refl none (of-two es (λ n le. none-behind e es n (e.caller == n) (none n le)))
-
-pub none-left : {A : Type 0} (xs : List A) → length xs ≡ 0 → xs ≡ []
-none-left [] e = refl
-none-left (x ∷ xs) e = absurd cc

@@ -16,7 +16,7 @@ use Rattle.tx_answers.specs.declared.answers.Irrev.{Irrev}
 use Rattle.tx_answers.specs.declared.answers.Irrev.TheVariants as grants
 use Rattle.tx_answers.specs.Answers.{Cancels, Commits, Irrevs, Stops}
 use Rattle.tx_answers.specs.Known.{Known, Grows, IsIdle, caller_of, is_irrevocable}
-use Rattle.tx_answers.specs.KnownLaws.{carries-refl, grows-trans}
+use Rattle.tx_answers.specs.KnownLaws.{grows-trans}
 use Rattle.stm_tx.specs.Descs.{Since, number}
 use Rattle.tx_atomic.specs.Attempts.{TookEffect, ended_by, HasFoundFull}
 
@@ -55,24 +55,24 @@ module _ (good : List ℕ → Type 0) (c : Config) (n : ℕ) where
   cancels-made (Cancelled time) v w h = h.0.made
   cancels-made Irrevocable v w h = ap (λ (k : Known). k.made) h.0
 
-  -- what was seen stays, whatever a call answers
-  pub irrevs-grow : (r : Irrev) (v w : Known) → Irrevs good c n r v w → Grows v w
-  irrevs-grow grants.Granted v w h = h.continues.grows
-  irrevs-grow (grants.Busy caller status) v w h = h.0.continues.grows
-  irrevs-grow (grants.Taken gate) v w h = h.0.continues.grows
-  irrevs-grow (grants.Conflict cause) v w h = h.0.ends.grows
-  irrevs-grow (grants.ClockFull clock) v w h = h.0.ends.grows
+  -- what was seen since u stays, whatever a call answers
+  pub irrevs-grow : (r : Irrev) (u v w : Known) → Grows u v → Irrevs good c n r v w → Grows u w
+  irrevs-grow grants.Granted u v w grew h = grows-trans u v w grew h.continues.grows
+  irrevs-grow (grants.Busy caller status) u v w grew h = grows-trans u v w grew h.0.continues.grows
+  irrevs-grow (grants.Taken gate) u v w grew h = grows-trans u v w grew h.0.continues.grows
+  irrevs-grow (grants.Conflict cause) u v w grew h = grows-trans u v w grew h.0.ends.grows
+  irrevs-grow (grants.ClockFull clock) u v w grew h = grows-trans u v w grew h.0.ends.grows
 
-  pub cancels-grow : (r : Cancel) (v w : Known) → Cancels good c n r v w → Grows v w
-  cancels-grow (Cancelled time) v w h = h.0.ends.grows
-  cancels-grow Irrevocable v w h = subst (λ (k : Known). Grows v k) (sym h.0) (carries-refl v).grows
+  pub cancels-grow : (r : Cancel) (u v w : Known) → Grows u v → Cancels good c n r v w → Grows u w
+  cancels-grow (Cancelled time) u v w grew h = grows-trans u v w grew h.0.ends.grows
+  cancels-grow Irrevocable u v w grew h = subst (λ (k : Known). Grows u k) (sym h.0) grew
 
-  pub commits-grow : (r : Commit) (v w : Known) → Commits good c n r v w → Grows v w
-  commits-grow (Committed time) v w h = h.ends.grows
-  commits-grow (ReadOnly time) v w h = h.0.ends.grows
-  commits-grow (commits.Conflict cause) v w h = h.0.ends.grows
-  commits-grow (commits.Again word had now) v w h = h.0.continues.grows
-  commits-grow (commits.ClockFull clock) v w h = h.0.ends.grows
+  pub commits-grow : (r : Commit) (u v w : Known) → Grows u v → Commits good c n r v w → Grows u w
+  commits-grow (Committed time) u v w grew h = grows-trans u v w grew h.ends.grows
+  commits-grow (ReadOnly time) u v w grew h = grows-trans u v w grew h.0.ends.grows
+  commits-grow (commits.Conflict cause) u v w grew h = grows-trans u v w grew h.0.ends.grows
+  commits-grow (commits.Again word had now) u v w grew h = grows-trans u v w grew h.0.continues.grows
+  commits-grow (commits.ClockFull clock) u v w grew h = grows-trans u v w grew h.0.ends.grows
 
   stop-idle : (a : ℕ) (stop : Stop) (v w : Known) → Stops good c n a stop v w → IsIdle w
   stop-idle a (stops.Conflict cause) v w h = h.0.ends.idle

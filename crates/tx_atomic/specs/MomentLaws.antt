@@ -83,7 +83,7 @@ module _ (good : List ℕ → Type 0) (c : Config) (n : ℕ) (tells : Log → Ty
         sooner = h.seen;
         kept = subst good (sym held) h.kept;
         read = subst (λ m. Explains m v.log.reads) (sym held) h.sees;
-        wrote = λ some. absurd (let no : true ≡ false = sym empty ∙ some in cc);
+        wrote = λ some. absurd (let no : true ≡ false = sym some ∙ none in cc);
         made = same ∙ ap (λ b. length u.made + (if b then 0 else 1)) (sym empty);
       }
 

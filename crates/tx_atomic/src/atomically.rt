@@ -21,8 +21,9 @@ use stm_rule::stm::Stm;
 const MOST_FAILED: u32 = 16;
 
 /// Runs a transaction until it commits, and answers what it does. It took effect once, as the last thing that the
-/// caller did and behind all that it had seen: no attempt that failed before left a trace. None where the clock was found at its limit, 2^62, and
-/// then no attempt took effect: close the memory, and open another. The pace counts it where it took effect.
+/// caller did and behind all that it had seen: no attempt that failed before left a trace. None where the clock was
+/// found at its limit, 2^62, and then no attempt took effect: close the memory, and open another. The pace counts it
+/// where it took effect.
 pub fn atomically<R: Wait, K: MemRule, T: Transaction<K>>(
     rt: &R,
     desc: &mut Desc<K>,

@@ -3,6 +3,7 @@
 
 pub mod atomically;
 pub mod attempts;
+pub mod laws;
 pub mod pace;
 pub mod switching;
 pub mod tally;

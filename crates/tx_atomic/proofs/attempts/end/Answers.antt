@@ -1,7 +1,7 @@
 use Rattle.std.proofs.Common.{rules, sym, subst}
 use Rattle.stm_model.specs.Logs.{Log, Keeps}
 use Rattle.tx_answers.specs.Answers.{Commits}
-use Rattle.tx_answers.specs.KnownLaws.{carries-refl, grows-trans}
+use Rattle.tx_answers.specs.KnownLaws.{carries-refl}
 use Rattle.stm_tx.specs.Descs.{known, number}
 use Rattle.tx_atomic.specs.AttemptLaws.{commits-grow, same-number, took-by}
 use Rattle.tx_atomic.proofs.attempts.end.Goals as goal
@@ -24,25 +24,15 @@ loop-init g c = let grew = (carries-refl (known c.args.desc.now)).grows in searc
 
 pub loop-preserved : goal.loop-preserved
 loop-preserved g c =
-    let stm = c.args.stm.now in
-    let grew = grows-trans (known c.args.desc.now) (known c.loop.desc) (known c.commit.new.desc) c.loop.invariant.grew (commits-grow (g.K.MemRule.good stm.rule) stm.config (number c.loop.desc) c.commit.result (known c.loop.desc) (known c.commit.new.desc) c.commit.ensures.commits) in
+    let grew = commits-grow (g.K.MemRule.good c.args.stm.now.rule) c.args.stm.now.config (number c.loop.desc) c.commit.result (known c.args.desc.now) (known c.loop.desc) (known c.commit.new.desc) c.loop.invariant.grew c.commit.ensures.commits in
     let again = c.in-Again.ensures.commits in
     search (rules, grew, again)
 
 pub returns-in-Committed-clause-grew : goal.returns-in-Committed-clause-grew
-returns-in-Committed-clause-grew g c =
-    let stm = c.args.stm.now in
-    let grew = grows-trans (known c.args.desc.now) (known c.loop.desc) (known c.commit.new.desc) c.loop.invariant.grew (commits-grow (g.K.MemRule.good stm.rule) stm.config (number c.loop.desc) c.commit.result (known c.loop.desc) (known c.commit.new.desc) c.commit.ensures.commits) in
-    grew
+returns-in-Committed-clause-grew g c = commits-grow (g.K.MemRule.good c.args.stm.now.rule) c.args.stm.now.config (number c.loop.desc) c.commit.result (known c.args.desc.now) (known c.loop.desc) (known c.commit.new.desc) c.loop.invariant.grew c.commit.ensures.commits
 
 pub returns-in-Conflict-clause-grew : goal.returns-in-Conflict-clause-grew
-returns-in-Conflict-clause-grew g c =
-    let stm = c.args.stm.now in
-    let grew = grows-trans (known c.args.desc.now) (known c.loop.desc) (known c.commit.new.desc) c.loop.invariant.grew (commits-grow (g.K.MemRule.good stm.rule) stm.config (number c.loop.desc) c.commit.result (known c.loop.desc) (known c.commit.new.desc) c.commit.ensures.commits) in
-    grew
+returns-in-Conflict-clause-grew g c = commits-grow (g.K.MemRule.good c.args.stm.now.rule) c.args.stm.now.config (number c.loop.desc) c.commit.result (known c.args.desc.now) (known c.loop.desc) (known c.commit.new.desc) c.loop.invariant.grew c.commit.ensures.commits
 
 pub returns-in-ClockFull-clause-grew : goal.returns-in-ClockFull-clause-grew
-returns-in-ClockFull-clause-grew g c =
-    let stm = c.args.stm.now in
-    let grew = grows-trans (known c.args.desc.now) (known c.loop.desc) (known c.commit.new.desc) c.loop.invariant.grew (commits-grow (g.K.MemRule.good stm.rule) stm.config (number c.loop.desc) c.commit.result (known c.loop.desc) (known c.commit.new.desc) c.commit.ensures.commits) in
-    grew
+returns-in-ClockFull-clause-grew g c = commits-grow (g.K.MemRule.good c.args.stm.now.rule) c.args.stm.now.config (number c.loop.desc) c.commit.result (known c.args.desc.now) (known c.loop.desc) (known c.commit.new.desc) c.loop.invariant.grew c.commit.ensures.commits

@@ -1,0 +1,13 @@
+//! Laws of transactions, as the contracts of functions that do nothing.
+ghost use Rattle.tx_atomic.specs.Moments.{HaveMoments};
+
+use crate::transaction::Transaction;
+use stm_model::rule::MemRule;
+
+/// Each transaction that took effect (`took` of `atomically`) has its moment in the history that begins with what its
+/// caller has seen since, as that which `close` tells of does: behind all that the caller had seen before it, the memory
+/// is good and explains what the transaction read; and what it wrote, if anything, makes it that of the next moment, and
+/// is its caller's one entry.
+pub fn transactions_have_moments<K: MemRule, T: Transaction<K>>(rule: &K, transaction: &T)
+    ensures { HaveMoments (K.good rule.now) (λ words came log. T.tells transaction.now rule.now words came log) }
+{}
