@@ -1,14 +1,16 @@
 -- The log of what was written, with one write more.
-use Rattle.std.proofs.Common.{ℕ, ◌≡◌, ◌<◌, List, [], ◌∷◌, Bool, true, false, refl, sym, ap, ◌∙◌, subst}
+use Rattle.std.proofs.Common.{ℕ, ◌≡◌, ◌<◌, List, [], ◌∷◌, Bool, true, false, refl, sym, ap, ◌∙◌, arith, subst}
+use Rattle.std.proofs.lemmas.Bool.Decides.{nat_tests}
 use Rattle.std.specs.Prelude.{◌^◌, ◌==◌, if◌then◌else◌}
 use Rattle.stm_model.specs.Memories.{item_at, put, is_empty, Once}
 use Rattle.rule_base.specs.declared.entries.Cell.{Cell}
+use Rattle.rule_base.specs.Encodings.{fenced}
 use Rattle.rule_base.specs.Bridge.{items}
 use Rattle.rule_base.specs.BridgeLemmas.{item-some, items-once}
 use Rattle.rule_base.specs.History.{over, touches, Inside, Small}
 use Rattle.rule_base.specs.HistoryLemmas.{over-miss, over-hit, inside-more, small-more}
 use Rattle.stm_gate.specs.Logging.{item-touched}
-use Rattle.stm_rule.specs.RecordsKept.{cells_of}
+use Rattle.stm_rule.specs.RecordsKept.{Apart, cells_of}
 use Rattle.alg_orec.proofs.Cells.{items-cells}
 
 -- cells of the same items say the same
@@ -41,6 +43,13 @@ module _ (a x : ℕ) (ws : List (ℕ × ℕ)) (once : Once ws) where
 
   pub small-put : x < 2 ^ 64 → Small (cells_of ws) → Small (cells_of (put a x ws))
   small-put low small b d lt = subst (λ (k : ℕ). k < 2 ^ 64) (sym (same-over (cells_of (put a x ws)) more b d same)) (small-more (record { at = a; value = x }) (cells_of ws) low small b d lt)
+
+  pub apart-put : (fence : ℕ) → fenced fence a ≡ false → Apart fence (cells_of ws) → Apart fence (cells_of (put a x ws))
+  apart-put fence out apart b t = by (a == b) refl (same-touched (cells_of (put a x ws)) more b same t).0
+    where
+      by : (k : Bool) → (a == b) ≡ k → (if k then true else touches (cells_of ws) b) ≡ true → fenced fence b ≡ false
+      by true e u = subst (λ d. fenced fence d ≡ false) (let at : a ≡ b = grind (arith, nat_tests) in at) out
+      by false e u = apart b u
 
 pub some-put : (a x : ℕ) (ws : List (ℕ × ℕ)) → is_empty (put a x ws) ≡ false
 some-put a x [] = refl

@@ -147,6 +147,7 @@ module _ (good : List ℕ → Type 0) (c : Config) (n : ℕ) (low : n < c.caller
       looked = λ e. let h = i.looked e in record { low = h.low; seen = h.seen; unseen = h.unseen };
       granted = i.granted;
       steady = λ e. absurd (let f : false ≡ true = sym (λ j. not (asks_at_commit (can.lazy j)) || can.plain j) ∙ e in cc);
+      spared = record { is = i.spared.is; fits = i.spared.fits };
       keeps = subst (λ (a : Alg). Keeps c a l.granted in_commit y) (sym can.lazy) (subst (λ (b : Bool). Keeps c OrecLazy b in_commit y) (sym can.plain) stays);
     }
       where
@@ -162,7 +163,7 @@ module _ (good : List ℕ → Type 0) (c : Config) (n : ℕ) (low : n < c.caller
             unstored = k.optimistic.unstored;
             rises = k.optimistic.rises;
           };
-          buffers = record { wrote = k.buffers.wrote; once = k.buffers.once; inside = k.buffers.inside; small = k.buffers.small };
+          buffers = record { wrote = k.buffers.wrote; once = k.buffers.once; inside = k.buffers.inside; small = k.buffers.small; apart = k.buffers.apart };
           inside = k.inside;
           lazy = k.lazy;
           open_yet = k.open_yet;
@@ -179,6 +180,7 @@ module _ (good : List ℕ → Type 0) (c : Config) (n : ℕ) (low : n < c.caller
           open_handed = λ e. absurd cc;
           locked = λ e. covered;
           committing = λ e. can.wrote;
+          marked = k.marked;
           olds = λ e. olds;
           sole = sole;
         }

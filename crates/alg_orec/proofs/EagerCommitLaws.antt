@@ -355,6 +355,7 @@ module _ (good : List ℕ → Type 0) (c : Config) (n : ℕ) (low : n < c.caller
       looked = λ e. let h = i.looked e in record { low = h.low; seen = h.seen; unseen = h.unseen };
       granted = i.granted;
       steady = λ e. absurd (let f : (not (asks_at_commit OrecEager) || false) ≡ true = subst (λ (b : Bool). (not (asks_at_commit OrecEager) || b) ≡ true) can.plain (subst (λ (a : Alg). (not (asks_at_commit a) || l.granted) ≡ true) can.eager e) in cc);
+      spared = record { is = i.spared.is; fits = i.spared.fits };
       keeps = subst (λ (a : Alg). attempts.Keeps c a l.granted q y) (sym can.eager) (subst (λ (b : Bool). attempts.Keeps c OrecEager b q y) (sym can.plain) (record {
         optimistic = record { unlocked = kept.optimistic.unlocked; unfixed = kept.optimistic.unfixed; unwritten = kept.optimistic.unwritten; uncommitted = kept.optimistic.uncommitted; ungranted = kept.optimistic.ungranted; uncalm = kept.optimistic.uncalm; unstored = kept.optimistic.unstored; rises = kept.optimistic.rises };
         inside = kept.inside;
@@ -455,6 +456,7 @@ module _ (good : List ℕ → Type 0) (c : Config) (n : ℕ) (low : n < c.caller
           looked = λ e. let d = i.looked e in record { low = d.low; seen = d.seen; unseen = d.unseen };
           granted = i.granted;
           steady = i.steady;
+          spared = record { is = i.spared.is; fits = i.spared.fits };
           keeps = subst (λ (a : Alg). attempts.Keeps c a l.granted q y) (sym can.eager) (subst (λ (b : Bool). attempts.Keeps c OrecEager b q y) (sym can.plain) (record {
             optimistic = record { unlocked = kept.optimistic.unlocked; unfixed = kept.optimistic.unfixed; unwritten = kept.optimistic.unwritten; uncommitted = kept.optimistic.uncommitted; ungranted = kept.optimistic.ungranted; uncalm = kept.optimistic.uncalm; unstored = kept.optimistic.unstored; rises = kept.optimistic.rises };
             inside = kept.inside;
@@ -634,15 +636,18 @@ module _ (good : List ℕ → Type 0) (c : Config) (n : ℕ) (low : n < c.caller
             grows = grows-trans (known_of v o) (known_of w o) (known_of u p) (r.grows o)
                 (grows-same (known_of w o) (known_of u p) (ap (λ (y : View). public_history y.history.seen) still_path) (ap (λ (y : View). y.history.front) still_path) (tries ∷ []) (ap (λ (y : View). y.steps.trail) still_path) refl refl);
             alg = ap (λ (y : View). y.gate.algorithm) again_path;
+            fence = ap (λ (y : View). y.gate.fence) again_path;
             base = ap (λ (y : View). y.steps.rises_at_begin) again_path;
             rises = (let a : u.steps.rises ≡ v.steps.rises = ap (λ (y : View). y.steps.rises) again_path in (omega arith, omega arith));
             later = (let a = begins in let b = start_is in omega arith);
             installs = ap (λ (y : View). reverse y.steps.installs) again_path;
+            depth = refl;
           };
           start = subst (λ (a : Alg). StartMoves a (known_of v o) (known_of u p)) (sym named) (moves r.start);
           granted = ap (λ (y : View). granted_under y.gate.algorithm y.gate y.lock) again_path;
           holds = ap (λ (y : View). y.gate.holds) again_path;
           checked = ap (λ (y : View). y.gate.checked) again_path;
+          marks = refl;
         },
         refl,
         log_at p u (ap (λ (y : View). y.gate) again_path) (ap (λ (y : View). y.attempt.reads) again_path) (ap (λ (y : View). y.owned.in_place) again_path),

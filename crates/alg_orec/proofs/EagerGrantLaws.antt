@@ -137,6 +137,7 @@ module _ (good : List ℕ → Type 0) (c : Config) (n : ℕ) (low : n < c.caller
     can = takes (all_at t.0.history x false) (record { has = record { runs = record { phase = i.phase; algorithm = ap has_records eager; plain = k.optimistic.ungranted }; inside = k.inside }; open_yet = k.open_yet }) refl refl refl refl refl (λ calm. absurd (let f : true ≡ false = sym calm ∙ k.optimistic.uncalm in cc));
     holds = refl;
     named = refl;
+    fence = refl;
     unmade = record { carried = record { named = refl; base = refl; installs = refl; trail = (load_of Clock x ∷ [], refl) }; history = refl };
     rises = refl;
     held = refl;
@@ -157,6 +158,7 @@ module _ (good : List ℕ → Type 0) (c : Config) (n : ℕ) (low : n < c.caller
       can = takes (knowing true time false false v.check (load_of Clock time ∷ [])) (promoting.opens-knowing rule c n low l v ready true time false false v.check (load_of Clock time ∷ [])) refl refl refl refl refl (λ calm r h. (let b = k.below r h in omega arith));
       holds = refl;
       named = refl;
+      fence = refl;
       unmade = record { carried = record { named = refl; base = refl; installs = refl; trail = (load_of Clock time ∷ [], refl) }; history = refl };
       rises = refl;
       held = refl;
@@ -209,6 +211,7 @@ module _ (good : List ℕ → Type 0) (c : Config) (n : ℕ) (low : n < c.caller
           (λ calm. seen-below w.gate.time (let t = stale-later index word start w q in let e : w.gate.time ≡ time = ap (λ (y : View). y.gate.time) path in omega arith));
       holds = ap (λ (y : View). y.gate.holds) path;
       named = ap (λ (y : View). y.gate.algorithm) path;
+      fence = ap (λ (y : View). y.gate.fence) path;
       unmade = subst (IsUnmade v) (sym path) (record { carried = record { named = refl; base = refl; installs = refl; trail = (q.more ++ load_of Clock time ∷ [], refl) }; history = refl });
       rises = ap (λ (y : View). y.steps.rises) path;
       held = ap (λ (y : View). y.owned.held) path;
@@ -253,6 +256,7 @@ module _ (good : List ℕ → Type 0) (c : Config) (n : ℕ) (low : n < c.caller
             (λ calm. seen-below w.gate.time (let t = stale-later (b % c.records) x l.start alike refusal in let e : w.gate.time ≡ time = ap (λ (y : View). y.gate.time) path in omega arith));
         holds = ap (λ (y : View). y.gate.holds) path;
         named = ap (λ (y : View). y.gate.algorithm) path;
+        fence = ap (λ (y : View). y.gate.fence) path;
         unmade = subst (IsUnmade v) (sym path) (record { carried = record { named = refl; base = refl; installs = refl; trail = (load_of (Record (b % c.records)) x ∷ (done ++ load_of Clock time ∷ []), refl) }; history = refl });
         rises = ap (λ (y : View). y.steps.rises) path;
         held = ap (λ (y : View). y.owned.held) path;
@@ -321,6 +325,7 @@ module _ (good : List ℕ → Type 0) (c : Config) (n : ℕ) (low : n < c.caller
       looked = λ e. let h = i.looked e in record { low = h.low; seen = h.seen; unseen = h.unseen };
       granted = sym (ap (λ (a : Alg). closes_gate a && true) can.eager);
       steady = λ e. can.free;
+      spared = record { is = i.spared.is; fits = i.spared.fits };
       keeps = subst (λ (a : Alg). Keeps c a true promoted y) (sym can.eager) (record {
         granted = refl;
         calm = refl;
@@ -350,10 +355,12 @@ module _ (good : List ℕ → Type 0) (c : Config) (n : ℕ) (low : n < c.caller
         made = refl;
         grows = grown;
         alg = refl;
+        fence = refl;
         base = refl;
         rises = (omega arith, omega arith);
         later = (let a = i.start in let b = i.front in let d = r.moves.front in omega arith);
         installs = refl;
+        depth = refl;
       };
       still = refl;
       uncommitted = can.free;

@@ -275,15 +275,18 @@ module _ (good : List ℕ → Type 0) (c : Config) (n : ℕ) (l : Local) (v : Vi
         made = refl;
         grows = grown start seen rs sample check more o refl refl moves;
         alg = refl;
+        fence = refl;
         base = refl;
         rises = (omega arith, omega arith);
         later = begins start seen more moves;
         installs = refl;
+        depth = refl;
       };
       start = subst (λ (b : Alg). StartMoves b (known_of v o) (known_of (moved v start seen rs sample check more) o)) (sym eager) (start-moves moves);
       granted = refl;
       holds = refl;
       checked = refl;
+      marks = refl;
     }
       where
         start-moves : MayMove rule c n start seen more v → (start ≡ v.attempt.start) ⊎ Found Clock start (known_of v o) (known_of (moved v start seen rs sample check more) o)
@@ -333,6 +336,7 @@ module _ (good : List ℕ → Type 0) (c : Config) (n : ℕ) (l : Local) (v : Vi
       looked = λ e. let q = i.looked e in record { low = q.low; seen = q.seen; unseen = q.unseen };
       granted = i.granted;
       steady = i.steady;
+      spared = record { is = i.spared.is; fits = i.spared.fits };
       keeps = keeps-eager (record {
         optimistic = record { unlocked = k.optimistic.unlocked; unfixed = k.optimistic.unfixed; unwritten = k.optimistic.unwritten; uncommitted = k.optimistic.uncommitted; ungranted = ungranted; uncalm = k.optimistic.uncalm; unstored = k.optimistic.unstored; rises = k.optimistic.rises };
         inside = k.inside;
@@ -386,8 +390,9 @@ module _ (good : List ℕ → Type 0) (c : Config) (n : ℕ) (v : View) (can : C
 
   pub tells-started : (clock : ℕ) (w : View) → Tells orec_begin (FindsStart (of_words good c.words) c) v clock w → StartsAt good c n OrecEager clock v w
   tells-started clock w t = subst (λ (y : View). StartsAt good c n OrecEager clock v y) (sym t.2) (record {
-    inside = λ l free. record {
+    inside = λ l fenced free. record {
       steady = λ e. refl;
+      spared = record { is = fenced.is; fits = fenced.fits };
       phase = can.phase;
       named = can.named;
       built = can.built;
@@ -427,6 +432,7 @@ module _ (good : List ℕ → Type 0) (c : Config) (n : ℕ) (v : View) (can : C
       };
     };
     reopened = can.reopened;
+    fence = refl;
     rises = can.rises;
     starts = λ o fresh. record {
       keeps = record { made = refl; grows = (let q = later-seen t.0.history v.history.front clock b.below b.front in record { later = q.0; is = subst (λ (h : List Entry). public_history t.0.history ≡ public_history h ++ q.0) (sym b.seen) q.1; ascending = q.2; up_to = q.3; front_rose = b.front; more = load_of Clock clock ∷ []; trail = refl; reads_limit = refl; writes_limit = refl }); rises = refl; installs = refl };

@@ -82,6 +82,7 @@ module _ (v u : Known) (eager : v.alg ≡ OrecEager) (a : GoesOn v u) (log : u.l
         made = q.made ∙ k.made;
         grows = grows-trans v u w k.grows q.grows;
         alg = q.alg ∙ k.alg;
+        fence = q.fence ∙ k.fence;
         base = q.base ∙ k.base;
         rises = (
           let x = k.rises.0 in let y = q.rises.0 in omega arith,
@@ -89,11 +90,13 @@ module _ (v u : Known) (eager : v.alg ≡ OrecEager) (a : GoesOn v u) (log : u.l
         );
         later = (let x = k.later in let y = q.later in omega arith);
         installs = q.installs ∙ k.installs;
+        depth = q.depth ∙ k.depth;
       };
       start = subst (λ (r : Alg). StartMoves r v w) (sym eager) (moves-on v u w k.grows.more k.grows.trail q.grows.more q.grows.trail (subst (λ (r : Alg). StartMoves r v u) eager a.start) (subst (λ (r : Alg). StartMoves r u w) (k.alg ∙ eager) b.start));
       granted = b.granted ∙ a.granted;
       holds = b.holds ∙ a.holds;
       checked = b.checked ∙ a.checked;
+      marks = b.marks ∙ a.marks;
     }
       where
         still : (x : Known) → x.alg ≡ OrecEager → write_rise x.alg (is_irrevocable x) ≡ 0

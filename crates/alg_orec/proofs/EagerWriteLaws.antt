@@ -10,6 +10,7 @@ use Rattle.stm_model.specs.declared.config.Config.{Config}
 use Rattle.stm_model.specs.declared.config.TheConstants.{CLOCK_LIMIT}
 use Rattle.stm_model.specs.declared.stop.Cause.{Cause}
 use Rattle.stm_model.specs.Memories.{item_at, put, is_empty}
+use Rattle.rule_base.specs.Encodings.{fenced}
 use Rattle.rule_base.specs.declared.entries.Cell.{Cell}
 use Rattle.rule_base.specs.declared.entries.Entry.{Entry}
 use Rattle.rule_base.specs.declared.layout.At.TheVariants.{Clock, Heap}
@@ -156,6 +157,7 @@ module _ (good : List ℕ → Type 0) (c : Config) (n : ℕ) (l : Local) (v : Vi
     pub below : AllBelow CLOCK_LIMIT held
     pub undo_len : q.undo.len ≡ l.undo.len
     pub writes_len : q.writes.len ≡ l.writes.len
+    pub marks : q.writes.marks ≡ l.writes.marks
     pub locks_len : q.locks.len ≡ l.locks.len
 
   module _ (runs : RunsEager good c n l v) where
@@ -254,10 +256,11 @@ module _ (good : List ℕ → Type 0) (c : Config) (n : ℕ) (l : Local) (v : Vi
     writes-refusal a x (writes.ClockFull clock) m u w none room h g = writes-limit a x clock m u w none room h g
 
     -- THE STORES: of a word under a record that was taken, or was held
-    pub may-store : (a : ℕ) (m : Local) (u : View) → SameLengths l → item_at a l.writes.items ≡ None → length l.undo.items ≢ l.undo.len → length l.undo.items ≤ l.undo.len → HasTaken rule c n a l v m u → CanStoreFirst c a m u
-    may-store a m u lengths none room most h = subst (λ (y : View). CanStoreFirst c a m y) (sym h.is) (subst (λ (q : Local). CanStoreFirst c a q (laws_taken)) (sym h.local) (record {
+    pub may-store : (a : ℕ) (m : Local) (u : View) → fenced v.gate.fence a ≡ false → SameLengths l → item_at a l.writes.items ≡ None → length l.undo.items ≢ l.undo.len → length l.undo.items ≤ l.undo.len → HasTaken rule c n a l v m u → CanStoreFirst c a m u
+    may-store a m u spared lengths none room most h = subst (λ (y : View). CanStoreFirst c a m y) (sym h.is) (subst (λ (q : Local). CanStoreFirst c a q (laws_taken)) (sym h.local) (record {
       opens = record { has = record { runs = record { phase = i.phase; algorithm = ap has_records eager; plain = ungranted }; inside = k.inside }; open_yet = k.open_yet };
       eager = k.eager;
+      spared = spared;
       held = h.its;
       unwritten = unheld-of v.owned.in_place l.writes.items a k.writes none;
       fresh = none-there a l.undo.items l.writes.items k.undoable none;
@@ -297,6 +300,7 @@ module _ (good : List ℕ → Type 0) (c : Config) (n : ℕ) (l : Local) (v : Vi
       below = h.below;
       undo_len = ap (λ (p : Local). p.undo.len) s.local ∙ ap (λ (p : Local). p.undo.len) h.local;
       writes_len = ap (λ (p : Local). p.writes.len) s.local ∙ ap (λ (p : Local). p.writes.len) h.local;
+      marks = ap (λ (p : Local). p.writes.marks) s.local ∙ ap (λ (p : Local). p.writes.marks) h.local;
       locks_len = ap (λ (p : Local). p.locks.len) s.local ∙ h.len;
     }
       where
@@ -366,6 +370,7 @@ module _ (good : List ℕ → Type 0) (c : Config) (n : ℕ) (l : Local) (v : Vi
       below = k.below;
       undo_len = refl;
       writes_len = ap (λ (q : LogState). q.len) push.1;
+      marks = ap (λ (q : LogState). q.marks) push.1;
       locks_len = refl;
     }
     stores-again a x log (pushes.Full limit) w there t push = absurd (let e : false ≡ true = sym (ap is_some push.0) ∙ there in cc)
@@ -392,11 +397,12 @@ module _ (good : List ℕ → Type 0) (c : Config) (n : ℕ) (l : Local) (v : Vi
       pub writes-done : writes_full a (known_of v o) ≡ false → HasWritten good c n a x writes.Done (known_of v o) (known_of w p)
       writes-done room = subst (λ (z : View). HasWritten good c n a x writes.Done (known_of v o) (known_of z p)) (sym s.is) (
         record {
-          continues = record { running = ap is_in i.phase; closing = ap is_closing i.phase; made = refl; grows = grown; alg = refl; base = refl; rises = (omega arith, omega arith); later = laws.begins good c n l v runs q.start s.seen s.more s.moves; installs = refl };
+          continues = record { running = ap is_in i.phase; closing = ap is_closing i.phase; made = refl; grows = grown; alg = refl; fence = refl; base = refl; rises = (omega arith, omega arith); later = laws.begins good c n l v runs q.start s.seen s.more s.moves; installs = refl; depth = ap (λ (d : Local). d.depth) s.local };
           start = subst (λ (b : Alg). StartMoves b (known_of v o) (known_of y p)) (sym eager) (start-moves s.moves);
           granted = refl;
           holds = refl;
           checked = refl;
+          marks = s.marks;
         },
         ap (λ (d : Local). d.committing) s.local ∙ quiet,
         (refl, λ b. ap (item_at b) wrote-put),
@@ -430,6 +436,7 @@ module _ (good : List ℕ → Type 0) (c : Config) (n : ℕ) (l : Local) (v : Vi
         looked = λ e. let h = i.looked e in record { low = h.low; seen = h.seen; unseen = h.unseen };
         granted = i.granted;
         steady = i.steady;
+        spared = record { is = i.spared.is; fits = i.spared.fits };
         keeps = keeps-eager (record {
           optimistic = record { unlocked = k.optimistic.unlocked; unfixed = k.optimistic.unfixed; unwritten = k.optimistic.unwritten; uncommitted = k.optimistic.uncommitted; ungranted = ungranted; uncalm = k.optimistic.uncalm; unstored = k.optimistic.unstored; rises = k.optimistic.rises };
           inside = k.inside;

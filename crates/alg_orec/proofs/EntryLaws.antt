@@ -12,6 +12,8 @@ use Rattle.stm_model.specs.Histories as public
 use Rattle.stm_model.specs.Logs.{Log}
 use Rattle.stm_model.specs.Logs as logs
 use Rattle.stm_model.specs.Memories.{is_empty}
+use Rattle.rule_base.specs.Encodings.{fenced}
+use Rattle.stm_rule.specs.Lifting.{AreSpared}
 use Rattle.rule_base.specs.declared.entries.Cell.{Cell}
 use Rattle.rule_base.specs.declared.entries.Entry.{Entry}
 use Rattle.rule_base.specs.declared.layout.At.TheVariants.{Clock}
@@ -113,6 +115,10 @@ module _ (good : List ℕ → Type 0) (c : Config) (n : ℕ) (low : n < c.caller
       finds-full clock v z o (with_commit false o) (let a = t.1.started in let b = i.start in omega arith)
           (found-later Clock clock (known_of v o) (known_of u o) (known_of z (with_commit false o)) (load_of Clock clock ∷ [], ap (λ (y : View). y.steps.trail) t.2, Load, (0, omega arith, refl)) f.0 f.1),
     )
+
+    -- what is buffered lies outside the fence that the attempt knows
+    pub are-spared : AreSpared (cells_of l.writes.items) v
+    are-spared a t = ap (λ f. fenced f a) i.spared.is ∙ k.buffers.apart a t
 
     -- THE ENTRY
     pub may-enter : l.committing ≡ true → l.start < CLOCK_LIMIT → KeepsRule good c n (known_of v o) → CanOrecCommit (home_of c) rule c.words l.start (cells_of l.writes.items) (cells_of l.writes.items) v
@@ -342,15 +348,18 @@ module _ (good : List ℕ → Type 0) (c : Config) (n : ℕ) (low : n < c.caller
             grows = grows-trans (known_of v o) (known_of w o) (known_of u p) (r.grows o)
                 (grows-same (known_of w o) (known_of u p) (ap (λ (y : View). public_history y.history.seen) still_path) (ap (λ (y : View). y.history.front) still_path) (tries ∷ []) (ap (λ (y : View). y.steps.trail) still_path) refl refl);
             alg = ap (λ (y : View). y.gate.algorithm) again_path;
+            fence = ap (λ (y : View). y.gate.fence) again_path;
             base = ap (λ (y : View). y.steps.rises_at_begin) again_path;
             rises = (let a : u.steps.rises ≡ v.steps.rises = ap (λ (y : View). y.steps.rises) again_path in (omega arith, omega arith));
             later = (let a = begins in let b = start_is in omega arith);
             installs = ap (λ (y : View). reverse y.steps.installs) again_path;
+            depth = refl;
           };
           start = subst (λ (a : Alg). StartMoves a (known_of v o) (known_of u p)) (sym named) (moves r.start);
           granted = ap (λ (y : View). granted_under y.gate.algorithm y.gate y.lock) again_path;
           holds = ap (λ (y : View). y.gate.holds) again_path;
           checked = ap (λ (y : View). y.gate.checked) again_path;
+          marks = refl;
         },
         refl,
         log_at p u refl (ap (λ (y : View). y.gate) again_path) (ap (λ (y : View). y.attempt.reads) again_path),

@@ -23,7 +23,7 @@ use Rattle.rule_base.specs.declared.views.TrailItem.{TrailItem}
 use Rattle.rule_base.specs.declared.views.Validation.{Validation}
 use Rattle.rule_base.specs.declared.views.View.{View}
 use Rattle.rule_base.specs.Bridge.{items, of_words, public_history}
-use Rattle.rule_base.specs.Encodings.{is_owned, version_of}
+use Rattle.rule_base.specs.Encodings.{fenced, is_owned, version_of}
 use Rattle.rule_base.specs.History.{over, touches, Inside}
 use Rattle.rule_base.specs.InstallSteps.{settle, CanSettle}
 use Rattle.rule_base.specs.Own.{Own}
@@ -149,6 +149,7 @@ module _ (good : List ℕ → Type 0) (c : Config) (n : ℕ) (low : n < c.caller
     can = rolls (all_at t.0.history x false) (record { has = record { runs = record { phase = i.phase; algorithm = ap has_records lazy; plain = k.optimistic.ungranted }; inside = k.inside }; open_yet = k.open_yet }) refl refl refl refl refl;
     holds = refl;
     named = refl;
+    fence = refl;
     unmade = record { carried = record { named = refl; base = refl; installs = refl; trail = (load_of Clock x ∷ [], refl) }; history = refl };
     rises = refl;
     why = (high, λ o. (load_of Clock x ∷ [], refl, Load, (0, omega arith, refl)));
@@ -168,6 +169,7 @@ module _ (good : List ℕ → Type 0) (c : Config) (n : ℕ) (low : n < c.caller
       can = rolls (knowing true time false false v.check (load_of Clock time ∷ [])) (promoting.opens-knowing rule c n low l v ready true time false false v.check (load_of Clock time ∷ [])) refl refl refl refl refl;
       holds = refl;
       named = refl;
+      fence = refl;
       unmade = record { carried = record { named = refl; base = refl; installs = refl; trail = (load_of Clock time ∷ [], refl) }; history = refl };
       rises = refl;
       why = (high, λ o. (load_of Clock time ∷ [], refl, Load, (0, omega arith, refl)));
@@ -195,6 +197,7 @@ module _ (good : List ℕ → Type 0) (c : Config) (n : ℕ) (low : n < c.caller
       can = rolls w (subst HasOpen (sym path) (promoting.opens-knowing rule c n low l v ready true time false false w.check (q.more ++ load_of Clock time ∷ []))) (ap (λ (y : View). y.owned) path) (ap (λ (y : View). y.lock) path) (ap (λ (y : View). y.tml) path) (ap (λ (y : View). y.ring_commit) path) (ap (λ (y : View). y.attempt) path);
       holds = ap (λ (y : View). y.gate.holds) path;
       named = ap (λ (y : View). y.gate.algorithm) path;
+      fence = ap (λ (y : View). y.gate.fence) path;
       unmade = subst (IsUnmade v) (sym path) (record { carried = record { named = refl; base = refl; installs = refl; trail = (q.more ++ load_of Clock time ∷ [], refl) }; history = refl });
       rises = ap (λ (y : View). y.steps.rises) path;
       why = ((λ o. (stale-conflicts index word start w q o).0), (stale-conflicts index word start w q (own_of l)).1);
@@ -237,6 +240,7 @@ module _ (good : List ℕ → Type 0) (c : Config) (n : ℕ) (low : n < c.caller
         can = rolls w (subst HasOpen (sym path) (record { has = record { runs = record { phase = i.phase; algorithm = ap has_records lazy; plain = k.optimistic.ungranted }; inside = k.inside }; open_yet = k.open_yet })) (ap (λ (y : View). y.owned) path) (ap (λ (y : View). y.lock) path) (ap (λ (y : View). y.tml) path) (ap (λ (y : View). y.ring_commit) path) (ap (λ (y : View). y.attempt) path);
         holds = ap (λ (y : View). y.gate.holds) path;
         named = ap (λ (y : View). y.gate.algorithm) path;
+        fence = ap (λ (y : View). y.gate.fence) path;
         unmade = subst (IsUnmade v) (sym path) (record { carried = record { named = refl; base = refl; installs = refl; trail = (load_of (Record (b % c.records)) x ∷ (done ++ load_of Clock time ∷ []), refl) }; history = refl });
         rises = ap (λ (y : View). y.steps.rises) path;
         why = (
@@ -276,6 +280,7 @@ module _ (good : List ℕ → Type 0) (c : Config) (n : ℕ) (low : n < c.caller
     granted = ap (λ (y : View). y.gate.granted) r.is;
     unstored = ap (λ (y : View). y.attempt.stores) r.is;
     inside = subst (λ (q : Local). Inside c.words (cells_of q.writes.items)) (sym r.local) k.buffers.inside;
+    spared = λ a t. ap (λ (y : View). fenced y.gate.fence a) r.is ∙ (ap (λ f. fenced f a) i.spared.is ∙ k.buffers.apart a (subst (λ (q : Local). touches (cells_of q.writes.items) a ≡ true) r.local t));
   }
 
   module _ (m : Local) (u w : View) (r : IsGranted good c n l v m u) (st : StoresAll m u w) where
@@ -305,6 +310,7 @@ module _ (good : List ℕ → Type 0) (c : Config) (n : ℕ) (low : n < c.caller
       looked = λ e. let h = i.looked e in record { low = h.low; seen = h.seen; unseen = h.unseen };
       granted = sym (ap (λ (a : Alg). closes_gate a && true) can.lazy);
       steady = λ e. can.free;
+      spared = record { is = i.spared.is; fits = i.spared.fits };
       keeps = subst (λ (a : Alg). Keeps c a true promoted y) (sym can.lazy) (record {
         granted = refl;
         calm = refl;
@@ -340,10 +346,12 @@ module _ (good : List ℕ → Type 0) (c : Config) (n : ℕ) (low : n < c.caller
         made = refl;
         grows = grown;
         alg = refl;
+        fence = refl;
         base = refl;
         rises = (omega arith, omega arith);
         later = (let a = i.start in let b = i.front in let d = r.moves.front in omega arith);
         installs = refl;
+        depth = refl;
       };
       still = refl;
       uncommitted = can.free;

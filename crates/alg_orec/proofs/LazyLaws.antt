@@ -16,6 +16,7 @@ use Rattle.rule_base.specs.declared.views.Sample.{Sample}
 use Rattle.rule_base.specs.declared.views.TrailItem.{TrailItem}
 use Rattle.rule_base.specs.declared.views.Validation.{Validation}
 use Rattle.rule_base.specs.declared.views.View.{View}
+use Rattle.rule_base.specs.Encodings.{fenced}
 use Rattle.rule_base.specs.Bridge.{items, of_words, public_history}
 use Rattle.rule_base.specs.History.{Inside, Small}
 use Rattle.rule_base.specs.HistoryLemmas.{inside-more}
@@ -27,7 +28,7 @@ use Rattle.rule_seq.specs.CglSteps as steps
 use Rattle.stm_rule.specs.declared.local.Local.{Local}
 use Rattle.stm_rule.specs.Attempts.{own_of, IsInside}
 use Rattle.stm_rule.specs.Attempts as attempts
-use Rattle.stm_rule.specs.RecordsKept.{cells_of, IsLazy}
+use Rattle.stm_rule.specs.RecordsKept.{Apart, cells_of, IsLazy, IsWriteSet, HasMarks}
 use Rattle.steps_orec.specs.RecordFindings.{FindsStart}
 use Rattle.tx_answers.specs.declared.answers.Read.TheVariants as reads
 use Rattle.tx_answers.specs.declared.answers.Write.TheVariants as writes
@@ -45,7 +46,7 @@ use Rattle.stm_gate.specs.Logging.{put-new}
 use Rattle.stm_gate.specs.Opacity.{opaque-at, opaque-inside, later-seen}
 use Rattle.stm_gate.specs.Starts.{CanBegin, StartsAt}
 use Rattle.alg_orec.proofs.Cells.{items-cells}
-use Rattle.alg_orec.proofs.CellLogs.{once-put, inside-put, small-put, some-put}
+use Rattle.alg_orec.proofs.CellLogs.{once-put, inside-put, small-put, apart-put, some-put}
 use Rattle.alg_orec.proofs.Proving.{conflicts-later}
 use Rattle.alg_orec.specs.Ending.{CanRollBack, GivesUp}
 use Rattle.alg_orec.specs.Loading.{moved, MayMove, RefusesRead, HasLoaded}
@@ -231,15 +232,18 @@ module _ (good : List ℕ → Type 0) (c : Config) (n : ℕ) (l : Local) (v : Vi
         made = refl;
         grows = grown start seen rs no_sample no_check more o refl refl moves;
         alg = refl;
+        fence = refl;
         base = refl;
         rises = (omega arith, omega arith);
         later = later moves;
         installs = refl;
+        depth = refl;
       };
       start = subst (λ (b : Alg). StartMoves b (known_of v o) (known_of (moved v start seen rs no_sample no_check more) o)) (sym lazy) (start-moves moves);
       granted = refl;
       holds = refl;
       checked = refl;
+      marks = refl;
     }
       where
         later : MayMove rule c n start seen more v → v.attempt.start ≤ start
@@ -292,9 +296,10 @@ module _ (good : List ℕ → Type 0) (c : Config) (n : ℕ) (l : Local) (v : Vi
       looked = λ e. let q = i.looked e in record { low = q.low; seen = q.seen; unseen = q.unseen };
       granted = i.granted;
       steady = i.steady;
+      spared = record { is = i.spared.is; fits = i.spared.fits };
       keeps = keeps-lazy (record {
         optimistic = record { unlocked = k.optimistic.unlocked; unfixed = k.optimistic.unfixed; unwritten = k.optimistic.unwritten; uncommitted = k.optimistic.uncommitted; ungranted = ungranted; uncalm = k.optimistic.uncalm; unstored = k.optimistic.unstored; rises = k.optimistic.rises };
-        buffers = record { wrote = k.buffers.wrote; once = k.buffers.once; inside = k.buffers.inside; small = k.buffers.small };
+        buffers = record { wrote = k.buffers.wrote; once = k.buffers.once; inside = k.buffers.inside; small = k.buffers.small; apart = k.buffers.apart };
         inside = k.inside;
         lazy = k.lazy;
         open_yet = k.open_yet;
@@ -311,6 +316,7 @@ module _ (good : List ℕ → Type 0) (c : Config) (n : ℕ) (l : Local) (v : Vi
         open_handed = k.open_handed;
         locked = k.locked;
         committing = k.committing;
+        marked = k.marked;
         olds = λ e. absurd (let f : false ≡ true = sym quiet ∙ e in cc);
         sole = sole h.moves;
       });
@@ -333,11 +339,12 @@ module _ (good : List ℕ → Type 0) (c : Config) (n : ℕ) (l : Local) (v : Vi
     pub writes-done : (a x : ℕ) (log : LogState) → a < c.words → x < 2 ^ 64 → log ≡ record l.writes { items = put a x l.writes.items } → writes_full a (known_of v o) ≡ false → HasWritten good c n a x writes.Done (known_of v o) (known_of v (own_of (record l { writes = log; wrote = true })))
     writes-done a x log low small is room = (
       record {
-        continues = record { running = ap is_in i.phase; closing = ap is_closing i.phase; made = refl; grows = grows-same (known_of v o) (known_of v p) refl refl [] refl refl refl; alg = refl; base = refl; rises = (omega arith, omega arith); later = omega arith; installs = refl };
+        continues = record { running = ap is_in i.phase; closing = ap is_closing i.phase; made = refl; grows = grows-same (known_of v o) (known_of v p) refl refl [] refl refl refl; alg = refl; fence = refl; base = refl; rises = (omega arith, omega arith); later = omega arith; installs = refl; depth = refl };
         start = subst (λ (b : Alg). StartMoves b (known_of v o) (known_of v p)) (sym lazy) (inl refl);
         granted = refl;
         holds = refl;
         checked = refl;
+        marks = ap (λ (q : LogState). q.marks) is;
       },
       quiet,
       (refl, λ b. ap (item_at b) (wrote-put ∙ ap (put a x) (sym written-here))),
@@ -367,8 +374,8 @@ module _ (good : List ℕ → Type 0) (c : Config) (n : ℕ) (l : Local) (v : Vi
     pub writes-refused : (a x limit : ℕ) (ws : List (ℕ × ℕ)) (log : LogState) (w : View) → l.writes.len ≡ l.undo.len → Pushes l.writes a ws (pushes.Full limit) log → GivesUp n v w → HasWritten good c n a x (writes.Full limit) (known_of v o) (known_of w o)
     writes-refused a x limit ws log w len p g = (quits-here w g, filled a None true len p.0 (let e = p.1 in grind (arith, nat_tests)), p.2 ∙ len)
 
-    pub stays-written : (a x : ℕ) (log : LogState) → a < c.words → x < 2 ^ 64 → log ≡ record l.writes { items = put a x l.writes.items } → IsInside good c n (record l { writes = log; wrote = true }) v
-    stays-written a x log low small is = record {
+    pub stays-written : (a x : ℕ) (log : LogState) → a < c.words → fenced v.gate.fence a ≡ false → x < 2 ^ 64 → log ≡ record l.writes { items = put a x l.writes.items } → IsInside good c n (record l { writes = log; wrote = true }) v
+    stays-written a x log low out small is = record {
       phase = i.phase;
       named = i.named;
       built = i.built;
@@ -383,6 +390,7 @@ module _ (good : List ℕ → Type 0) (c : Config) (n : ℕ) (l : Local) (v : Vi
       looked = i.looked;
       granted = i.granted;
       steady = i.steady;
+      spared = record { is = i.spared.is; fits = i.spared.fits };
       keeps = keeps-lazy (record {
         optimistic = k.optimistic;
         buffers = record {
@@ -390,6 +398,7 @@ module _ (good : List ℕ → Type 0) (c : Config) (n : ℕ) (l : Local) (v : Vi
           once = subst Once (sym put_is) (once-put a x l.writes.items k.buffers.once);
           inside = subst (λ (ws : List (ℕ × ℕ)). Inside c.words (cells_of ws)) (sym put_is) (inside-put a x l.writes.items k.buffers.once c.words low k.buffers.inside);
           small = subst (λ (ws : List (ℕ × ℕ)). Small (cells_of ws)) (sym put_is) (small-put a x l.writes.items k.buffers.once small k.buffers.small);
+          apart = subst (λ (ws : List (ℕ × ℕ)). Apart l.fence (cells_of ws)) (sym put_is) (apart-put a x l.writes.items k.buffers.once l.fence (subst (λ f. fenced f a ≡ false) i.spared.is out) k.buffers.apart);
         };
         inside = k.inside;
         lazy = k.lazy;
@@ -407,6 +416,7 @@ module _ (good : List ℕ → Type 0) (c : Config) (n : ℕ) (l : Local) (v : Vi
         open_handed = k.open_handed;
         locked = λ e. absurd (let f : false ≡ true = sym quiet ∙ e in cc);
         committing = λ e. refl;
+        marked = subst (λ (ms : List (List (ℕ × ℕ))). HasMarks c l.fence ms l.depth) (sym (ap (λ (m : LogState). m.marks) is)) k.marked;
         olds = λ e. absurd (let f : false ≡ true = sym quiet ∙ e in cc);
         sole = k.sole;
       });
@@ -428,8 +438,9 @@ module _ (good : List ℕ → Type 0) (c : Config) (n : ℕ) (v : View) (can : C
 
   pub tells-started : (clock : ℕ) (w : View) → Tells orec_begin (FindsStart (of_words good c.words) c) v clock w → StartsAt good c n OrecLazy clock v w
   tells-started clock w t = subst (λ (y : View). StartsAt good c n OrecLazy clock v y) (sym t.2) (record {
-    inside = λ l free. record {
+    inside = λ l fenced free. record {
       steady = λ e. refl;
+      spared = record { is = fenced.is; fits = fenced.fits };
       phase = can.phase;
       named = can.named;
       built = can.built;
@@ -445,7 +456,7 @@ module _ (good : List ℕ → Type 0) (c : Config) (n : ℕ) (v : View) (can : C
       granted = can.ungranted;
       keeps = record {
         optimistic = record { unlocked = can.clear.unlocked; unfixed = can.clear.unfixed; unwritten = can.clear.unwritten; uncommitted = can.clear.uncommitted; ungranted = can.ungranted; uncalm = t.1.uncalm can.reopened; unstored = refl; rises = can.rises };
-        buffers = record { wrote = refl; once = tt; inside = λ a e. absurd cc; small = λ a d e. e };
+        buffers = record { wrote = refl; once = tt; inside = λ a e. absurd cc; small = λ a d e. e; apart = λ a e. absurd cc };
         inside = refl;
         lazy = ap is_eager can.named;
         open_yet = refl;
@@ -462,11 +473,13 @@ module _ (good : List ℕ → Type 0) (c : Config) (n : ℕ) (v : View) (can : C
         open_handed = λ e. refl;
         locked = λ e. absurd cc;
         committing = λ e. absurd cc;
+        marked = record { count = refl; sound = λ j e. absurd (omega arith) };
         olds = λ e. absurd cc;
         sole = λ one. (let q = t.1.sole one in let r = can.rises in omega arith);
       };
     };
     reopened = can.reopened;
+    fence = refl;
     rises = can.rises;
     starts = λ o fresh. record {
       keeps = record { made = refl; grows = (let q = later-seen t.0.history v.history.front clock b.below b.front in record { later = q.0; is = subst (λ (h : List Entry). public_history t.0.history ≡ public_history h ++ q.0) (sym b.seen) q.1; ascending = q.2; up_to = q.3; front_rose = b.front; more = load_of Clock clock ∷ []; trail = refl; reads_limit = refl; writes_limit = refl }); rises = refl; installs = refl };

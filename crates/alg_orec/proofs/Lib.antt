@@ -5,6 +5,7 @@ pub mod Validity
 pub mod LoadLaws
 pub mod CellLogs
 pub mod LazyLaws
+pub mod NestingLaws
 pub mod ReadCalls
 pub mod Releasing
 pub mod Cells
@@ -29,3 +30,4 @@ pub mod EagerDirectLaws
 pub mod EagerGrantLaws
 pub mod CallLaws
 pub mod LockAllLaws
+pub mod CountingLaws

@@ -58,6 +58,7 @@ module _ (good : List ℕ → Type 0) (c : Config) (n : ℕ) where
     pub can : CanTakeBack c l w
     pub holds : w.gate.holds ≡ v.gate.holds
     pub named : w.gate.algorithm ≡ v.gate.algorithm
+    pub fence : w.gate.fence ≡ v.gate.fence
     pub unmade : IsUnmade v w
     pub rises : w.steps.rises ≡ v.steps.rises
     pub held : w.owned.held ≡ v.owned.held

@@ -3,6 +3,7 @@ use Rattle.std.specs.Prelude.{ℕ, ◌≡◌, ◌+◌, ◌<◌, ◌≤◌, true,
 use Rattle.stm_model.specs.declared.config.Config.{Config}
 use Rattle.stm_model.specs.declared.config.TheConstants.{CLOCK_LIMIT}
 use Rattle.stm_model.specs.Memories.{item_at}
+use Rattle.rule_base.specs.Encodings.{fenced}
 use Rattle.rule_base.specs.declared.entries.Cell.{Cell}
 use Rattle.rule_base.specs.declared.entries.Entry.{Entry}
 use Rattle.rule_base.specs.declared.layout.At.TheVariants.{Clock}
@@ -100,6 +101,7 @@ module _ (good : (ℕ → ℕ) → Type 0) (c : Config) (n : ℕ) where
 -- the attempt holds the record of a, has not stored there, and its logs have room
 pub record CanStoreFirst (c : Config) (a : ℕ) (l : Local) (v : View) : Type 0 where
   pub opens : HasOpen v
+  pub spared : fenced v.gate.fence a ≡ false
   pub eager : v.owned.eager ≡ true
   pub held : touches v.owned.held (home_of c a) ≡ true
   pub unwritten : touches v.owned.in_place a ≡ false

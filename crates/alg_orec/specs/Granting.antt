@@ -15,7 +15,7 @@ use Rattle.rule_orec.specs.OrecReading.{no_sample, no_check}
 use Rattle.rule_orec.specs.OrecSteps.{direct_owned}
 use Rattle.stm_rule.specs.declared.local.Local.{Local}
 use Rattle.stm_rule.specs.Attempts.{IsInside}
-use Rattle.stm_rule.specs.RecordsKept.{cells_of}
+use Rattle.stm_rule.specs.RecordsKept.{Apart, cells_of}
 use Rattle.steps_orec.specs.RecordFindings.{Moves}
 use Rattle.stm_gate.specs.Granting.{IsAlone}
 use Rattle.stm_gate.specs.LeavingLaws.{IsUnmade}
@@ -72,6 +72,7 @@ module _ (good : List ℕ → Type 0) (c : Config) (n : ℕ) where
     pub can : CanRollBack c l w
     pub holds : w.gate.holds ≡ v.gate.holds
     pub named : w.gate.algorithm ≡ v.gate.algorithm
+    pub fence : w.gate.fence ≡ v.gate.fence
     pub unmade : IsUnmade v w
     pub rises : w.steps.rises ≡ v.steps.rises
     pub why : RefusesGrant refusal l v w
@@ -85,6 +86,7 @@ pub record CanStoreAll (words : ℕ) (l : Local) (v : View) : Type 0 where
   pub granted : v.gate.granted ≡ true
   pub unstored : v.attempt.stores ≡ []
   pub inside : Inside words (cells_of l.writes.items)
+  pub spared : Apart v.gate.fence (cells_of l.writes.items)
 
 -- all of it does
 pub record StoresAll (l : Local) (v w : View) : Type 0 where

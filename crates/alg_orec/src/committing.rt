@@ -1,7 +1,8 @@
 //! The end of an attempt: its commit, and what cancels it.
-ghost use Rattle.std.specs.Prelude.{◌≡◌, ℕ, ◌<◌, ◌≤◌, true, false};
+ghost use Rattle.alg_orec.specs.Counting.{TakesAtMost, AddsAtMost};
+ghost use Rattle.std.specs.Prelude.{◌≡◌, ℕ, ◌<◌, ◌≤◌, true, false, ◌+◌, ◌*◌, length};
 ghost use Rattle.stm_model.specs.declared.alg.Alg.TheVariants.{OrecLazy};
-ghost use Rattle.stm_rule.specs.Attempts.{own_of, Stands, ended};
+ghost use Rattle.stm_rule.specs.Attempts.{IsFenceOf, own_of, Stands, ended};
 ghost use Rattle.stm_rule.specs.Callers.{IsOf, IsSameCaller, IsSeatOf};
 ghost use Rattle.stm_gate.specs.Knowing.{known, number};
 ghost use Rattle.stm_rule.specs.Kept.{IsSameSeat, view_of};
@@ -33,6 +34,7 @@ pub fn commit<K: MemRule>(desc: &mut Desc<K>, stm: &Stm<K>) -> Commit
     requires keeps { KeepsRule (K.good stm.now.rule) stm.now.config (number desc.old) (known desc.old) }
     ensures same { IsSameCaller desc.old desc.new }
     ensures commits { Commits (K.good stm.now.rule) stm.now.config (number desc.old) result (known desc.old) (known desc.new) }
+    ensures steps { AddsAtMost (10 + (known desc.old).reads_limit + 4 * (known desc.old).writes_limit + 16 * stm.now.config.ring) (known desc.old) (known desc.new) }
 {
     if desc.local.granted {
         return direct_commit(desc, stm);
@@ -53,6 +55,7 @@ pub fn cancel<K: MemRule>(desc: &mut Desc<K>, stm: &Stm<K>) -> Cancel
     requires algorithm { (known desc.old).alg ≡ OrecLazy }
     ensures same { IsSameCaller desc.old desc.new }
     ensures cancels { Cancels (K.good stm.now.rule) stm.now.config (number desc.old) result (known desc.old) (known desc.new) }
+    ensures steps { AddsAtMost (4 + 2 * (known desc.old).writes_limit) (known desc.old) (known desc.new) }
 {
     if desc.local.granted {
         return Cancel::Irrevocable;
@@ -78,6 +81,7 @@ pub(crate) fn commit_writes<K: MemRule>(
     ensures same { IsSameSeat seat.old seat.new × (seat.new.me.0 ≡ record seat.old.me.0 { view = view_of seat.new }) }
     ensures commits { Commits (K.good stm.now.rule) stm.now.config caller result (known_of (view_of seat.old) (own_of local.old)) (known_of (view_of seat.new) (own_of local.new)) }
     ensures stands { Stands (K.good stm.now.rule) stm.now.config caller local.new (view_of seat.new) }
+    ensures steps { TakesAtMost (5 + local.old.reads.len + 4 * local.old.writes.len) (view_of seat.old) (view_of seat.new) }
 {
     if let Err(cause) = prepare(seat, local, stm, caller) {
         roll_back(seat, local, stm, caller);
@@ -115,6 +119,7 @@ fn prepare<K: MemRule>(
     requires attempt { CanCommit (K.good stm.now.rule) stm.now.config caller local.old (view_of seat.old) }
     ensures same { IsSameSeat seat.old seat.new × (seat.new.me.0 ≡ record seat.old.me.0 { view = view_of seat.new }) }
     ensures prepares { Prepares (K.good stm.now.rule) stm.now.config caller result local.old (view_of seat.old) local.new (view_of seat.new) }
+    ensures steps { TakesAtMost (1 + local.old.reads.len + 2 * local.old.writes.len) (view_of seat.old) (view_of seat.new) }
 {
     if local.committing {
         return validate(seat, local, stm, caller);
@@ -138,9 +143,11 @@ fn finish<K: MemRule>(
     requires caller { caller < stm.now.config.callers }
     requires limit { time ≤ CLOCK_LIMIT }
     requires view { CanFinish stm.now.config time local.old (view_of seat.old) }
+    requires fence { IsFenceOf local.old (view_of seat.old) }
     ensures same { IsSameSeat seat.old seat.new × (seat.new.me.0 ≡ record seat.old.me.0 { view = view_of seat.new }) }
     ensures finishes { GivesUp caller (view_of seat.old) (view_of seat.new) }
     ensures idle { local.new ≡ ended (record local.old { committing = false }) }
+    ensures steps { TakesAtMost (2 + local.old.writes.len + local.old.locks.len) (view_of seat.old) (view_of seat.new) }
 {
     write_back_all(seat, local, stm, caller);
     release_all(seat, local, stm, caller, time);

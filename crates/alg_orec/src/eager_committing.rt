@@ -1,5 +1,6 @@
 //! The end of an attempt of OrecEager: its commit, and what cancels it.
-ghost use Rattle.std.specs.Prelude.{◌≡◌, ℕ, ◌<◌, ◌≤◌, true, false};
+ghost use Rattle.alg_orec.specs.Counting.{TakesAtMost, AddsAtMost};
+ghost use Rattle.std.specs.Prelude.{◌≡◌, ℕ, ◌<◌, ◌≤◌, true, false, ◌+◌, ◌*◌};
 ghost use Rattle.stm_model.specs.declared.alg.Alg.TheVariants.{OrecEager};
 ghost use Rattle.stm_rule.specs.Attempts.{own_of, Stands};
 ghost use Rattle.stm_rule.specs.Callers.{IsOf, IsSameCaller, IsSeatOf};
@@ -33,6 +34,7 @@ pub fn commit<K: MemRule>(desc: &mut Desc<K>, stm: &Stm<K>) -> Commit
     requires keeps { KeepsRule (K.good stm.now.rule) stm.now.config (number desc.old) (known desc.old) }
     ensures same { IsSameCaller desc.old desc.new }
     ensures commits { Commits (K.good stm.now.rule) stm.now.config (number desc.old) result (known desc.old) (known desc.new) }
+    ensures steps { AddsAtMost (10 + (known desc.old).reads_limit + 4 * (known desc.old).writes_limit + 16 * stm.now.config.ring) (known desc.old) (known desc.new) }
 {
     if desc.local.granted {
         return commit_direct(desc, stm);
@@ -53,6 +55,7 @@ pub fn cancel<K: MemRule>(desc: &mut Desc<K>, stm: &Stm<K>) -> Cancel
     requires algorithm { (known desc.old).alg ≡ OrecEager }
     ensures same { IsSameCaller desc.old desc.new }
     ensures cancels { Cancels (K.good stm.now.rule) stm.now.config (number desc.old) result (known desc.old) (known desc.new) }
+    ensures steps { AddsAtMost (4 + 2 * (known desc.old).writes_limit) (known desc.old) (known desc.new) }
 {
     if desc.local.granted {
         return Cancel::Irrevocable;
@@ -78,6 +81,7 @@ fn commit_placed<K: MemRule>(
     ensures same { IsSameSeat seat.old seat.new × (seat.new.me.0 ≡ record seat.old.me.0 { view = view_of seat.new }) }
     ensures commits { Commits (K.good stm.now.rule) stm.now.config caller result (known_of (view_of seat.old) (own_of local.old)) (known_of (view_of seat.new) (own_of local.new)) }
     ensures stands { Stands (K.good stm.now.rule) stm.now.config caller local.new (view_of seat.new) }
+    ensures steps { TakesAtMost (5 + local.old.reads.len + local.old.undo.len + local.old.locks.len) (view_of seat.old) (view_of seat.new) }
 {
     if let Err(cause) = revalidate(seat, local, stm, caller) {
         take_back(seat, local, stm, caller);
@@ -116,6 +120,7 @@ fn revalidate<K: MemRule>(
     requires attempt { CanCommitPlaced (K.good stm.now.rule) stm.now.config caller local.old (view_of seat.old) }
     ensures same { IsSameSeat seat.old seat.new × (seat.new.me.0 ≡ record seat.old.me.0 { view = view_of seat.new }) }
     ensures revalidates { Revalidates (K.good stm.now.rule) stm.now.config caller result local.old (view_of seat.old) local.new (view_of seat.new) }
+    ensures steps { TakesAtMost (1 + local.old.reads.len) (view_of seat.old) (view_of seat.new) }
 {
     if local.committing {
         return validate(seat, local, stm, caller);
@@ -133,6 +138,7 @@ fn commit_direct<K: MemRule>(desc: &mut Desc<K>, stm: &Stm<K>) -> Commit
     requires keeps { KeepsRule (K.good stm.now.rule) stm.now.config (number desc.old) (known desc.old) }
     ensures same { IsSameCaller desc.old desc.new }
     ensures commits { Commits (K.good stm.now.rule) stm.now.config (number desc.old) result (known desc.old) (known desc.new) }
+    ensures steps { AddsAtMost (5 + (known desc.old).writes_limit) (known desc.old) (known desc.new) }
 {
     let caller = desc.number;
     let start = desc.local.start;
@@ -163,6 +169,7 @@ fn give_direct<K: MemRule>(
     requires view { CanGiveDirect stm.now.config time local.now (view_of seat.old) }
     ensures same { IsSameSeat seat.old seat.new × (seat.new.me.0 ≡ record seat.old.me.0 { view = view_of seat.new }) }
     ensures releases { ReleasesAll (view_of seat.old) (view_of seat.new) }
+    ensures steps { TakesAtMost local.now.locks.len (view_of seat.old) (view_of seat.new) }
 {
     for i in 0..local.locks.count() {
         let (r, _) = local.locks.item(i);

@@ -1,6 +1,7 @@
 //! How an attempt of OrecEager is taken back.
-ghost use Rattle.std.specs.Prelude.{◌≡◌, ℕ, ◌<◌, ◌≤◌, false};
-ghost use Rattle.stm_rule.specs.Attempts.{ended};
+ghost use Rattle.alg_orec.specs.Counting.{TakesAtMost};
+ghost use Rattle.std.specs.Prelude.{◌≡◌, ℕ, ◌<◌, ◌≤◌, false, ◌+◌};
+ghost use Rattle.stm_rule.specs.Attempts.{ended, IsFenceOf};
 ghost use Rattle.stm_rule.specs.Callers.{IsSeatOf};
 ghost use Rattle.stm_rule.specs.Kept.{IsSameSeat, view_of};
 ghost use Rattle.alg_orec.specs.EagerEnding.{CanRestoreAll, RestoresAll, IsNewest, CanReleaseAbove, CanGiveBack, GivesBack, CanTakeBack, TakesBack};
@@ -23,11 +24,13 @@ pub(crate) fn take_back<K: MemRule>(
     requires seat { IsSeatOf stm.now caller seat.old }
     requires caller { caller < stm.now.config.callers }
     requires view { CanTakeBack stm.now.config local.old (view_of seat.old) }
+    requires fence { IsFenceOf local.old (view_of seat.old) }
     requires holds { local.old.holds ≡ (view_of seat.old).gate.holds }
     requires named { local.old.algorithm ≡ (view_of seat.old).gate.algorithm }
     ensures same { IsSameSeat seat.old seat.new × (seat.new.me.0 ≡ record seat.old.me.0 { view = view_of seat.new }) }
     ensures takes_back { TakesBack caller (view_of seat.old) (view_of seat.new) }
     ensures idle { local.new ≡ ended (record local.old { committing = false }) }
+    ensures steps { TakesAtMost (3 + local.old.undo.len + local.old.locks.len) (view_of seat.old) (view_of seat.new) }
 {
     give_back(seat, local, stm, caller);
     local.committing = false;
@@ -43,6 +46,7 @@ fn give_back<K: MemRule>(seat: &mut Token<K>, local: &Local, stm: &Stm<K>, calle
     requires view { CanGiveBack stm.now.config local.now (view_of seat.old) }
     ensures same { IsSameSeat seat.old seat.new × (seat.new.me.0 ≡ record seat.old.me.0 { view = view_of seat.new }) }
     ensures gives_back { GivesBack (view_of seat.old) (view_of seat.new) }
+    ensures steps { TakesAtMost (1 + local.now.undo.len + local.now.locks.len) (view_of seat.old) (view_of seat.new) }
 {
     if local.locks.count() == 0 {
         return;
@@ -59,6 +63,7 @@ fn restore_all<K: MemRule>(seat: &mut Token<K>, local: &Local, stm: &Stm<K>, cal
     requires view { CanRestoreAll stm.now.config local.now (view_of seat.old) }
     ensures same { IsSameSeat seat.old seat.new × (seat.new.me.0 ≡ record seat.old.me.0 { view = view_of seat.new }) }
     ensures restores { RestoresAll (view_of seat.old) (view_of seat.new) }
+    ensures steps { TakesAtMost local.now.undo.len (view_of seat.old) (view_of seat.new) }
 {
     for i in 0..local.undo.count() {
         let (a, x) = local.undo.item(i);
@@ -84,6 +89,7 @@ fn release_all_above<K: MemRule>(seat: &mut Token<K>, local: &Local, stm: &Stm<K
     requires view { CanReleaseAbove stm.now.config local.now (view_of seat.old) }
     ensures same { IsSameSeat seat.old seat.new × (seat.new.me.0 ≡ record seat.old.me.0 { view = view_of seat.new }) }
     ensures releases { ReleasesAll (view_of seat.old) (view_of seat.new) }
+    ensures steps { TakesAtMost local.now.locks.len (view_of seat.old) (view_of seat.new) }
 {
     for i in 0..local.locks.count() {
         let (r, version) = local.locks.item(i);

@@ -1,11 +1,13 @@
 //! A read of OrecEager in its parts, between which other callers may step: its record is sampled, the word is loaded, and
 //! the record is confirmed.
-ghost use Rattle.std.specs.Prelude.{◌≡◌, ℕ, ◌<◌, None, false, [], ◌∷◌};
+ghost use Rattle.alg_orec.specs.Counting.{AddsAtMost};
+ghost use Rattle.std.specs.Prelude.{◌≡◌, ℕ, ◌<◌, None, false, [], ◌∷◌, ◌+◌, ◌*◌, MatchResult};
 ghost use Rattle.rule_base.specs.declared.layout.At.TheVariants.{Heap};
 ghost use Rattle.stm_model.specs.Memories.{item_at};
 ghost use Rattle.stm_model.specs.declared.alg.Alg.TheVariants.{OrecEager};
 ghost use Rattle.stm_rule.specs.Callers.{IsOf, IsSameCaller};
 ghost use Rattle.tx_answers.specs.Known.{IsRunning};
+ghost use Rattle.rule_base.specs.Encodings.{fenced};
 ghost use Rattle.stm_gate.specs.Knowing.{known, number};
 ghost use Rattle.alg_orec.specs.EagerReading.{IsNew, HasSample, IsLoaded, LoadsSampled, GoesOnReading, Samples, Confirms};
 ghost use Rattle.alg_orec.specs.Validating.{load_of};
@@ -32,8 +34,10 @@ pub fn sample<K: MemRule>(desc: &mut Desc<K>, stm: &Stm<K>, a: usize) -> Result<
     requires unwritten { item_at a (known desc.old).log.writes ≡ None }
     requires unread { item_at a (known desc.old).log.reads ≡ None }
     requires inside { a < stm.now.config.words }
+    requires spared { fenced (known desc.old).fence a ≡ false }
     ensures same { IsSameCaller desc.old desc.new }
     ensures samples { Samples (K.good stm.now.rule) stm.now.config (number desc.old) a result desc.old desc.new }
+    ensures steps { MatchResult result (λ _. AddsAtMost (2 + (known desc.old).reads_limit) (known desc.old) (known desc.new)) (λ _. AddsAtMost (5 + (known desc.old).reads_limit + 2 * (known desc.old).writes_limit) (known desc.old) (known desc.new)) }
 {
     let caller = desc.number;
     let limit = desc.local.reads.len();
@@ -62,9 +66,11 @@ pub fn load<K: MemRule>(desc: &mut Desc<K>, stm: &Stm<K>, a: usize) -> u64
     requires fresh { IsNew a (known desc.old) }
     requires sampled { HasSample a desc.old.view }
     requires inside { a < stm.now.config.words }
+    requires spared { fenced (known desc.old).fence a ≡ false }
     ensures same { IsSameCaller desc.old desc.new }
     ensures goes { GoesOnReading (K.good stm.now.rule) stm.now.config (number desc.old) a (load_of (Heap a) result ∷ []) (known desc.old) (known desc.new) }
     ensures loads { LoadsSampled stm.now.config a result desc.old.view desc.new.view }
+    ensures steps { AddsAtMost 1 (known desc.old) (known desc.new) }
 {
     reading::load(stm, &mut desc.seat, desc.number, a)
 }
@@ -79,8 +85,10 @@ pub fn confirm<K: MemRule>(desc: &mut Desc<K>, stm: &Stm<K>, a: usize, word: u64
     requires fresh { IsNew a (known desc.old) }
     requires loaded { IsLoaded stm.now.config a word x desc.old.view }
     requires inside { a < stm.now.config.words }
+    requires spared { fenced (known desc.old).fence a ≡ false }
     ensures same { IsSameCaller desc.old desc.new }
     ensures confirms { Confirms (K.good stm.now.rule) stm.now.config (number desc.old) a word x result (known desc.old) (known desc.new) }
+    ensures steps { AddsAtMost (4 + 2 * (known desc.old).writes_limit) (known desc.old) (known desc.new) }
 {
     let caller = desc.number;
     let after = records::confirm(stm, &mut desc.seat, caller, a);

@@ -1,5 +1,6 @@
 //! How an attempt of OrecEager takes the record of a word, and first stores there.
-ghost use Rattle.std.specs.Prelude.{◌≡◌, ℕ, ◌<◌};
+ghost use Rattle.alg_orec.specs.Counting.{TakesAtMost};
+ghost use Rattle.std.specs.Prelude.{◌≡◌, ℕ, ◌<◌, ◌+◌};
 ghost use Rattle.stm_rule.specs.Callers.{IsSeatOf};
 ghost use Rattle.stm_rule.specs.Kept.{IsSameSeat, good_of, view_of};
 ghost use Rattle.alg_orec.specs.EagerTaking.{CanTake, Takes, CanStoreFirst, StoresFirst};
@@ -29,6 +30,7 @@ pub(crate) fn take_record<K: MemRule>(
     requires view { CanTake stm.now.config a local.old (view_of seat.old) }
     ensures same { IsSameSeat seat.old seat.new × (seat.new.me.0 ≡ record seat.old.me.0 { view = view_of seat.new }) }
     ensures takes { Takes (good_of K.good stm.now.config stm.now.rule) stm.now.config caller a result local.old (view_of seat.old) local.new (view_of seat.new) }
+    ensures steps { TakesAtMost (4 + local.old.reads.len) (view_of seat.old) (view_of seat.new) }
 {
     let index = a % stm.config.records;
     if local.locks.find(index).is_some() {
@@ -72,6 +74,7 @@ pub(crate) fn store_first<K: MemRule>(
     requires view { CanStoreFirst stm.now.config a local.old (view_of seat.old) }
     ensures same { IsSameSeat seat.old seat.new × (seat.new.me.0 ≡ record seat.old.me.0 { view = view_of seat.new }) }
     ensures stores { StoresFirst a x local.old (view_of seat.old) local.new (view_of seat.new) }
+    ensures steps { TakesAtMost 2 (view_of seat.old) (view_of seat.new) }
 {
     let old = save(stm, seat, caller, a);
     local.undo.push(a, old);

@@ -1,6 +1,7 @@
 //! The end of an attempt that has no entry.
-ghost use Rattle.std.specs.Prelude.{◌≡◌, ℕ, ◌<◌, false};
-ghost use Rattle.stm_rule.specs.Attempts.{ended};
+ghost use Rattle.std.specs.Prelude.{◌≡◌, ℕ, ◌<◌, ◌+◌, length, false};
+ghost use Rattle.alg_orec.specs.Counting.{TakesAtMost};
+ghost use Rattle.stm_rule.specs.Attempts.{ended, IsFenceOf};
 ghost use Rattle.stm_rule.specs.Callers.{IsSeatOf};
 ghost use Rattle.stm_rule.specs.Kept.{IsSameSeat, view_of};
 ghost use Rattle.alg_orec.specs.Ending.{CanRollBack, GivesUp};
@@ -22,11 +23,13 @@ pub(crate) fn roll_back<K: MemRule>(
     requires seat { IsSeatOf stm.now caller seat.old }
     requires caller { caller < stm.now.config.callers }
     requires view { CanRollBack stm.now.config local.old (view_of seat.old) }
+    requires fence { IsFenceOf local.old (view_of seat.old) }
     requires holds { local.old.holds ≡ (view_of seat.old).gate.holds }
     requires named { local.old.algorithm ≡ (view_of seat.old).gate.algorithm }
     ensures same { IsSameSeat seat.old seat.new × (seat.new.me.0 ≡ record seat.old.me.0 { view = view_of seat.new }) }
     ensures gives_up { GivesUp caller (view_of seat.old) (view_of seat.new) }
     ensures idle { local.new ≡ ended (record local.old { committing = false }) }
+    ensures steps { TakesAtMost (2 + local.old.locks.len) (view_of seat.old) (view_of seat.new) }
 {
     for i in 0..local.locks.count() {
         let (r, version) = local.locks.item(i);

@@ -11,6 +11,7 @@ mod eager_taking;
 mod ending;
 pub mod granting;
 mod locking;
+pub mod nesting;
 pub mod orec_eager;
 pub mod orec_lazy;
 mod records;

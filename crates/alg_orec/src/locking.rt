@@ -1,5 +1,6 @@
 //! The records of a commit: each is taken before the entry, and given back behind it.
-ghost use Rattle.std.specs.Prelude.{◌≡◌, ℕ, ◌<◌, ◌≤◌, ◌+◌, length, None};
+ghost use Rattle.alg_orec.specs.Counting.{TakesAtMost};
+ghost use Rattle.std.specs.Prelude.{◌≡◌, ℕ, ◌<◌, ◌≤◌, ◌+◌, length, None, ◌*◌};
 ghost use Rattle.stm_model.specs.Memories.{item_at};
 ghost use Rattle.stm_rule.specs.Callers.{IsSeatOf};
 ghost use Rattle.stm_rule.specs.Kept.{IsSameSeat, view_of};
@@ -26,6 +27,7 @@ pub(crate) fn lock_all<K: MemRule>(
     requires view { CanLockAll stm.now.config local.old (view_of seat.old) }
     ensures same { IsSameSeat seat.old seat.new × (seat.new.me.0 ≡ record seat.old.me.0 { view = view_of seat.new }) }
     ensures locks { LocksAll stm.now.config caller result local.old (view_of seat.old) local.new (view_of seat.new) }
+    ensures steps { TakesAtMost (2 * local.old.writes.len) (view_of seat.old) (view_of seat.new) }
 {
     let mut newest = 0;
     for i in 0..local.writes.count() {
@@ -56,6 +58,7 @@ fn lock_record<K: MemRule>(
     requires room { length local.old.locks.items < local.old.locks.len }
     ensures same { IsSameSeat seat.old seat.new × (seat.new.me.0 ≡ record seat.old.me.0 { view = view_of seat.new }) }
     ensures locks { LocksOne stm.now.config caller r result local.old (view_of seat.old) local.new (view_of seat.new) }
+    ensures steps { TakesAtMost (2) (view_of seat.old) (view_of seat.new) }
 {
     let word = look(stm, seat, caller, r);
     if is_owned(word) {
@@ -89,6 +92,7 @@ pub(crate) fn write_back_all<K: MemRule>(
     requires view { Owes stm.now.config.words local.now (view_of seat.old) }
     ensures same { IsSameSeat seat.old seat.new × (seat.new.me.0 ≡ record seat.old.me.0 { view = view_of seat.new }) }
     ensures pays { Pays (view_of seat.old) (view_of seat.new) }
+    ensures steps { TakesAtMost local.now.writes.len (view_of seat.old) (view_of seat.new) }
 {
     for i in 0..local.writes.count() {
         let (a, x) = local.writes.item(i);
@@ -109,6 +113,7 @@ pub(crate) fn release_all<K: MemRule>(
     requires view { OwesNothing stm.now.config time local.now (view_of seat.old) }
     ensures same { IsSameSeat seat.old seat.new × (seat.new.me.0 ≡ record seat.old.me.0 { view = view_of seat.new }) }
     ensures releases { ReleasesAll (view_of seat.old) (view_of seat.new) }
+    ensures steps { TakesAtMost local.now.locks.len (view_of seat.old) (view_of seat.new) }
 {
     for i in 0..local.locks.count() {
         let (r, _) = local.locks.item(i);

@@ -1,13 +1,15 @@
 //! OrecEager: versioned ownership records as under OrecLazy, but a write takes its record at once and stores in place,
 //! with what was there before in an undo log, as in the write-through of Felber, Fetzer and Riegel ("Dynamic Performance
 //! Tuning of Word-Based Software Transactional Memory", 2008).
-ghost use Rattle.std.specs.Prelude.{◌≡◌, ℕ, ◌<◌, None, Some, IsSome, true, false};
+ghost use Rattle.alg_orec.specs.Counting.{AddsAtMost};
+ghost use Rattle.std.specs.Prelude.{◌≡◌, ℕ, ◌<◌, None, Some, IsSome, true, false, ◌+◌, ◌*◌};
 ghost use Rattle.stm_model.specs.Memories.{item_at};
 ghost use Rattle.stm_model.specs.declared.alg.Alg.TheVariants.{OrecEager};
 ghost use Rattle.stm_rule.specs.Callers.{IsOf, IsSameCaller, IsSeatOf};
 ghost use Rattle.stm_rule.specs.Kept.{IsSameSeat, view_of};
 ghost use Rattle.tx_answers.specs.Answers.{HasRead, HasWritten};
 ghost use Rattle.tx_answers.specs.Known.{IsRunning};
+ghost use Rattle.rule_base.specs.Encodings.{fenced};
 ghost use Rattle.stm_gate.specs.Knowing.{known, number};
 ghost use Rattle.stm_gate.specs.Starts.{CanBegin, Starts};
 ghost use Rattle.alg_orec.specs.EagerReading.{IsNew, HoldsRecord};
@@ -44,8 +46,10 @@ pub fn read<K: MemRule>(desc: &mut Desc<K>, stm: &Stm<K>, a: usize) -> Read
     requires running { IsRunning (known desc.old) }
     requires algorithm { (known desc.old).alg ≡ OrecEager }
     requires inside { a < stm.now.config.words }
+    requires spared { fenced (known desc.old).fence a ≡ false }
     ensures same { IsSameCaller desc.old desc.new }
     ensures read { HasRead (K.good stm.now.rule) stm.now.config (number desc.old) a result (known desc.old) (known desc.new) }
+    ensures steps { AddsAtMost (8 + (known desc.old).reads_limit + 2 * (known desc.old).writes_limit + 16 * stm.now.config.ring) (known desc.old) (known desc.new) }
 {
     if desc.local.granted {
         return direct_load(desc, stm, a);
@@ -68,8 +72,10 @@ fn first_read<K: MemRule>(desc: &mut Desc<K>, stm: &Stm<K>, a: usize) -> Read
     requires unwritten { item_at a (known desc.old).log.writes ≡ None }
     requires unread { item_at a (known desc.old).log.reads ≡ None }
     requires inside { a < stm.now.config.words }
+    requires spared { fenced (known desc.old).fence a ≡ false }
     ensures same { IsSameCaller desc.old desc.new }
     ensures read { HasRead (K.good stm.now.rule) stm.now.config (number desc.old) a result (known desc.old) (known desc.new) }
+    ensures steps { AddsAtMost (7 + (known desc.old).reads_limit + 2 * (known desc.old).writes_limit) (known desc.old) (known desc.new) }
 {
     match sample(desc, stm, a) {
         Ok(Some(word)) => {
@@ -90,8 +96,10 @@ fn read_held<K: MemRule>(desc: &mut Desc<K>, stm: &Stm<K>, a: usize) -> Read
     requires fresh { IsNew a (known desc.old) }
     requires held { HoldsRecord stm.now.config a desc.old.view }
     requires inside { a < stm.now.config.words }
+    requires spared { fenced (known desc.old).fence a ≡ false }
     ensures same { IsSameCaller desc.old desc.new }
     ensures read { HasRead (K.good stm.now.rule) stm.now.config (number desc.old) a result (known desc.old) (known desc.new) }
+    ensures steps { AddsAtMost 1 (known desc.old) (known desc.new) }
 {
     let x = own_load(stm, &mut desc.seat, desc.number, a);
     desc.local.reads.push(a, x);
@@ -106,8 +114,10 @@ pub fn write<K: MemRule>(desc: &mut Desc<K>, stm: &Stm<K>, a: usize, x: u64) -> 
     requires running { IsRunning (known desc.old) }
     requires algorithm { (known desc.old).alg ≡ OrecEager }
     requires inside { a < stm.now.config.words }
+    requires spared { fenced (known desc.old).fence a ≡ false }
     ensures same { IsSameCaller desc.old desc.new }
     ensures write { HasWritten (K.good stm.now.rule) stm.now.config (number desc.old) a x result (known desc.old) (known desc.new) }
+    ensures steps { AddsAtMost (8 + (known desc.old).reads_limit + 2 * (known desc.old).writes_limit + 16 * stm.now.config.ring) (known desc.old) (known desc.new) }
 {
     if desc.local.granted {
         return direct_store(desc, stm, a, x);
@@ -126,8 +136,10 @@ fn write_again<K: MemRule>(desc: &mut Desc<K>, stm: &Stm<K>, a: usize, x: u64) -
     requires revocable { (known desc.old).granted ≡ false }
     requires written { IsSome (item_at a (known desc.old).log.writes) }
     requires inside { a < stm.now.config.words }
+    requires spared { fenced (known desc.old).fence a ≡ false }
     ensures same { IsSameCaller desc.old desc.new }
     ensures write { HasWritten (K.good stm.now.rule) stm.now.config (number desc.old) a x result (known desc.old) (known desc.new) }
+    ensures steps { AddsAtMost 1 (known desc.old) (known desc.new) }
 {
     place(stm, &mut desc.seat, desc.number, a, x);
     desc.local.writes.push(a, x);
@@ -142,8 +154,10 @@ fn first_write<K: MemRule>(desc: &mut Desc<K>, stm: &Stm<K>, a: usize, x: u64) -
     requires revocable { (known desc.old).granted ≡ false }
     requires unwritten { item_at a (known desc.old).log.writes ≡ None }
     requires inside { a < stm.now.config.words }
+    requires spared { fenced (known desc.old).fence a ≡ false }
     ensures same { IsSameCaller desc.old desc.new }
     ensures write { HasWritten (K.good stm.now.rule) stm.now.config (number desc.old) a x result (known desc.old) (known desc.new) }
+    ensures steps { AddsAtMost (7 + (known desc.old).reads_limit + 2 * (known desc.old).writes_limit) (known desc.old) (known desc.new) }
 {
     let caller = desc.number;
     let limit = desc.local.undo.len();

@@ -1,13 +1,15 @@
 //! OrecLazy, after the versioned locks of Dice, Shalev and Shavit ("Transactional Locking II", 2006): each word belongs
 //! to a record with the time of its last write. A read loads the record before and behind the word; what is written
 //! stays with the descriptor until the commit, which takes the records.
-ghost use Rattle.std.specs.Prelude.{◌≡◌, ℕ, ◌<◌, None, false};
+ghost use Rattle.std.specs.Prelude.{◌≡◌, ℕ, ◌<◌, ◌+◌, length, None, false, ◌*◌};
+ghost use Rattle.alg_orec.specs.Counting.{TakesAtMost, AddsAtMost};
 ghost use Rattle.stm_model.specs.Memories.{item_at};
 ghost use Rattle.stm_model.specs.declared.alg.Alg.TheVariants.{OrecLazy};
 ghost use Rattle.stm_rule.specs.Callers.{IsOf, IsSameCaller, IsSeatOf};
 ghost use Rattle.stm_rule.specs.Kept.{IsSameSeat, good_of, view_of};
 ghost use Rattle.tx_answers.specs.Answers.{HasRead, HasWritten};
 ghost use Rattle.tx_answers.specs.Known.{IsRunning};
+ghost use Rattle.rule_base.specs.Encodings.{fenced};
 ghost use Rattle.stm_gate.specs.Knowing.{known, number};
 ghost use Rattle.stm_gate.specs.Starts.{CanBegin, Starts};
 ghost use Rattle.alg_orec.specs.Loading.{CanLoadValid, LoadsValid, Samples};
@@ -47,8 +49,10 @@ pub fn read<K: MemRule>(desc: &mut Desc<K>, stm: &Stm<K>, a: usize) -> Read
     requires running { IsRunning (known desc.old) }
     requires algorithm { (known desc.old).alg ≡ OrecLazy }
     requires inside { a < stm.now.config.words }
+    requires spared { fenced (known desc.old).fence a ≡ false }
     ensures same { IsSameCaller desc.old desc.new }
     ensures read { HasRead (K.good stm.now.rule) stm.now.config (number desc.old) a result (known desc.old) (known desc.new) }
+    ensures steps { AddsAtMost (8 + (known desc.old).reads_limit + 2 * (known desc.old).writes_limit + 16 * stm.now.config.ring) (known desc.old) (known desc.new) }
 {
     if desc.local.granted {
         return direct_load(desc, stm, a);
@@ -71,8 +75,10 @@ fn first_read<K: MemRule>(desc: &mut Desc<K>, stm: &Stm<K>, a: usize) -> Read
     requires unwritten { item_at a (known desc.old).log.writes ≡ None }
     requires unread { item_at a (known desc.old).log.reads ≡ None }
     requires inside { a < stm.now.config.words }
+    requires spared { fenced (known desc.old).fence a ≡ false }
     ensures same { IsSameCaller desc.old desc.new }
     ensures read { HasRead (K.good stm.now.rule) stm.now.config (number desc.old) a result (known desc.old) (known desc.new) }
+    ensures steps { AddsAtMost (6 + (known desc.old).reads_limit + (known desc.old).writes_limit) (known desc.old) (known desc.new) }
 {
     let caller = desc.number;
     let limit = desc.local.reads.len();
@@ -104,8 +110,10 @@ fn load_valid<K: MemRule>(
     requires seat { IsSeatOf stm.now caller seat.old }
     requires caller { caller < stm.now.config.callers }
     requires view { CanLoadValid stm.now.config a local.old (view_of seat.old) }
+    requires spared { fenced (view_of seat.old).gate.fence a ≡ false }
     ensures same { IsSameSeat seat.old seat.new × (seat.new.me.0 ≡ record seat.old.me.0 { view = view_of seat.new }) }
     ensures loads { LoadsValid (good_of K.good stm.now.config stm.now.rule) stm.now.config caller a result local.old (view_of seat.old) local.new (view_of seat.new) }
+    ensures steps { TakesAtMost (4 + local.old.reads.len) (view_of seat.old) (view_of seat.new) }
 {
     let word = sample_valid(seat, local, stm, caller, a)?;
     let x = load(stm, seat, caller, a);
@@ -133,6 +141,7 @@ pub(crate) fn sample_valid<K: MemRule>(
     requires view { CanLoadValid stm.now.config a local.old (view_of seat.old) }
     ensures same { IsSameSeat seat.old seat.new × (seat.new.me.0 ≡ record seat.old.me.0 { view = view_of seat.new }) }
     ensures samples { Samples (good_of K.good stm.now.config stm.now.rule) stm.now.config caller a result local.old (view_of seat.old) local.new (view_of seat.new) }
+    ensures steps { TakesAtMost (2 + local.old.reads.len) (view_of seat.old) (view_of seat.new) }
 {
     let word = sample(stm, seat, caller, a);
     let start = local.start;
@@ -157,6 +166,7 @@ pub fn write<K: MemRule>(desc: &mut Desc<K>, stm: &Stm<K>, a: usize, x: u64) -> 
     requires running { IsRunning (known desc.old) }
     requires algorithm { (known desc.old).alg ≡ OrecLazy }
     requires inside { a < stm.now.config.words }
+    requires spared { fenced (known desc.old).fence a ≡ false }
     ensures same { IsSameCaller desc.old desc.new }
     ensures write { HasWritten (K.good stm.now.rule) stm.now.config (number desc.old) a x result (known desc.old) (known desc.new) }
 {

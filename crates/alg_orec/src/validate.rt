@@ -1,8 +1,9 @@
 //! Validation: whether all that an attempt read is so at a later clock too, which becomes its start (Riegel, Felber
 //! and Fetzer, "A Lazy Snapshot Algorithm with Eager Validation", 2006).
-ghost use Rattle.std.specs.Prelude.{◌≡◌, ℕ, ◌+◌, ◌%◌, ◌<◌, ◌≤◌, length};
+ghost use Rattle.std.specs.Prelude.{◌≡◌, ℕ, ◌+◌, ◌%◌, ◌<◌, ◌≤◌, length, IfSome};
 ghost use Rattle.stm_rule.specs.Callers.{IsSeatOf};
 ghost use Rattle.stm_rule.specs.Kept.{IsSameSeat, good_of, view_of};
+ghost use Rattle.alg_orec.specs.Counting.{TakesAtMost};
 ghost use Rattle.alg_orec.specs.Validating.{HasVersions, MustLoad, IsLast, CanValidate, Judges, Passes, Validates};
 
 use crate::records::{held, pass};
@@ -26,6 +27,7 @@ pub(crate) fn validate<K: MemRule>(
     requires caller { caller < stm.now.config.callers }
     ensures same { IsSameSeat seat.old seat.new × (seat.new.me.0 ≡ record seat.old.me.0 { view = view_of seat.new }) }
     ensures validates { Validates stm.now.config caller (good_of K.good stm.now.config stm.now.rule) result local.old (view_of seat.old) local.new (view_of seat.new) }
+    ensures steps { TakesAtMost (1 + local.old.reads.len) (view_of seat.old) (view_of seat.new) }
 {
     let Some(i) = last_to_validate(local, stm.config.records) else {
         local.start = clock_all(stm, seat, caller);
@@ -46,7 +48,8 @@ pub(crate) fn validate<K: MemRule>(
 pub(crate) fn last_to_validate(local: &Local, records: usize) -> Option<usize>
     requires records { 0 < records }
     requires versions { HasVersions local.now }
-    ensures { IsLast records result local.now }
+    ensures last { IsLast records result local.now }
+    ensures most { IfSome result (λ i. i < local.now.reads.len) }
 {
     let count = local.reads.count();
     for passed in 0..count {
@@ -74,6 +77,7 @@ pub(crate) fn pass_before<K: MemRule>(
     requires last { last ≤ length local.now.reads.items }
     ensures same { IsSameSeat seat.old seat.new × (seat.new.me.0 ≡ record seat.old.me.0 { view = view_of seat.new }) }
     ensures passes { Passes stm.now.config caller 0 last result local.now (view_of seat.old) (view_of seat.new) }
+    ensures steps { TakesAtMost last (view_of seat.old) (view_of seat.new) }
 {
     for i in 0..last {
         pass_read(seat, local, stm, caller, i)?;
@@ -95,6 +99,7 @@ fn pass_read<K: MemRule>(
     requires place { i < length local.now.reads.items }
     ensures same { IsSameSeat seat.old seat.new × (seat.new.me.0 ≡ record seat.old.me.0 { view = view_of seat.new }) }
     ensures passes { Passes stm.now.config caller i (i + 1) result local.now (view_of seat.old) (view_of seat.new) }
+    ensures steps { TakesAtMost 1 (view_of seat.old) (view_of seat.new) }
 {
     let (b, _) = local.reads.item(i);
     if !must_load(local, stm.config.records, b)? {

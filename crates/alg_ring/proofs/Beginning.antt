@@ -30,8 +30,9 @@ no-word i low = get_or-replicate 16 i 0 0 low
 module _ (good : List ℕ → Type 0) (c : Config) (n : ℕ) (v : View) (can : CanBegin RingSw v) where
   pub tells-started : (done : ℕ) (w : View) → Tells ring_begin (FindsStart (of_words good c.words) c) v done w → StartsAt good c n RingSw done v w
   tells-started done w t = subst (λ (y : View). StartsAt good c n RingSw done v y) (sym t.2) (record {
-    inside = λ l free. record {
+    inside = λ l fenced free. record {
       steady = λ e. refl;
+      spared = record { is = fenced.is; fits = fenced.fits };
       phase = can.phase;
       named = can.named;
       built = refl;
@@ -56,7 +57,7 @@ module _ (good : List ℕ → Type 0) (c : Config) (n : ℕ) (v : View) (can : C
           unstored = refl;
           rises = can.rises;
         };
-        buffers = record { wrote = refl; once = tt; inside = λ a e. absurd cc; small = λ a d low. low };
+        buffers = record { wrote = refl; once = tt; inside = λ a e. absurd cc; small = λ a d low. low; apart = λ a e. absurd cc };
         inside = refl;
         settled = refl;
         loaded = no-word;
@@ -66,6 +67,7 @@ module _ (good : List ℕ → Type 0) (c : Config) (n : ℕ) (v : View) (can : C
       };
     };
     reopened = can.reopened;
+    fence = refl;
     rises = can.rises;
     starts = λ o fresh. record {
       keeps = record {

@@ -93,6 +93,7 @@ module _ (good : List ℕ → Type 0) (c : Config) (n : ℕ) (l : Local) (v : Vi
         looked = λ e. let h = i.looked e in record { low = h.low; seen = h.seen; unseen = h.unseen };
         granted = i.granted;
         steady = λ e. absurd (let f : true ≡ false = sym e ∙ (λ j. not (asks_at_commit (attempt.ring good c n l v a j)) || plain j) in cc);
+        spared = record { is = i.spared.is; fits = i.spared.fits };
         keeps = subst (λ (b : Alg). attempts.Keeps c b l.granted in_commit again_at) (sym (attempt.ring good c n l v a)) (subst (λ (b : Bool). attempts.Keeps c RingSw b in_commit again_at) (sym plain) kept);
       }
         where
@@ -108,7 +109,7 @@ module _ (good : List ℕ → Type 0) (c : Config) (n : ℕ) (l : Local) (v : Vi
               unstored = k.optimistic.unstored;
               rises = k.optimistic.rises;
             };
-            buffers = record { wrote = k.buffers.wrote; once = k.buffers.once; inside = k.buffers.inside; small = k.buffers.small };
+            buffers = record { wrote = k.buffers.wrote; once = k.buffers.once; inside = k.buffers.inside; small = k.buffers.small; apart = k.buffers.apart };
             inside = k.inside;
             settled = k.settled;
             loaded = k.loaded;
@@ -126,15 +127,18 @@ module _ (good : List ℕ → Type 0) (c : Config) (n : ℕ) (l : Local) (v : Vi
             made = refl;
             grows = grows-same (known_of v (own_of l)) (known_of again_at (own_of in_commit)) refl refl (tried n found ∷ []) refl refl refl;
             alg = refl;
+            fence = refl;
             base = refl;
             rises = (omega arith, omega arith);
             later = omega arith;
             installs = refl;
+            depth = refl;
           };
           start = subst (λ (b : Alg). StartMoves b (known_of v (own_of l)) (known_of again_at (own_of in_commit))) (sym a.named) (inl refl);
           granted = refl;
           holds = refl;
           checked = refl;
+          marks = refl;
         },
         refl,
         (λ j. record { reads = items v.attempt.reads; writes = ((λ h. written_under (a.named h) (k.optimistic.ungranted h) again_at (own_of in_commit)) ∙ sym (attempt.written-is good c n l v a plain)) j }),

@@ -7,6 +7,7 @@ use Rattle.stm_model.specs.declared.config.Config.{Config}
 use Rattle.stm_model.specs.declared.config.TheConstants.{CLOCK_LIMIT}
 use Rattle.stm_model.specs.declared.stop.Cause.{Cause}
 use Rattle.stm_model.specs.Histories as public
+use Rattle.rule_base.specs.Encodings.{fenced}
 use Rattle.rule_base.specs.declared.entries.Cell.{Cell}
 use Rattle.rule_base.specs.declared.entries.Entry.{Entry}
 use Rattle.rule_base.specs.declared.layout.At.TheVariants.{Clock, Lock, Done}
@@ -175,7 +176,7 @@ module _ (good : List ℕ → Type 0) (c : Config) (n : ℕ) (l : Local) (v w : 
     ))
       where
         last : List TrailItem
-        last = last_steps n v.gate.holds v.gate.algorithm
+        last = last_steps n v.gate.holds v.gate.fence v.gate.algorithm
 
         failed : x ≡ ticked_at f.read clock (f.more ++ early)
         failed = f.is ∙ (ap (λ (y : View). record y { ring_read = f.read; steps = record y.steps { trail = f.more ++ y.steps.trail } }) ticked
@@ -210,6 +211,7 @@ module _ (good : List ℕ → Type 0) (c : Config) (n : ℕ) (l : Local) (v w : 
         settled = p.0.settled;
         uncalm = k.optimistic.uncalm;
         buffers = k.buffers;
+        spared = λ a t. ap (λ f. fenced f a) i.spared.is ∙ k.buffers.apart a t;
         wrote = sym (attempt.wrote-is good c n l v has plain) ∙ turn.has.wrote;
         stored = k.stored;
         keeps = keeps;
@@ -285,7 +287,7 @@ module _ (good : List ℕ → Type 0) (c : Config) (n : ℕ) (l : Local) (v w : 
             front-is = ap (λ (z : View). z.history.front) passed ∙ start-is
 
             last : List TrailItem
-            last = last_steps n v.gate.holds v.gate.algorithm
+            last = last_steps n v.gate.holds v.gate.fence v.gate.algorithm
 
         module _ (z : View) (b : WritesBack y z) where
           written : z ≡ behind false [] (b.more ++ (e.more ++ (p.0.more ++ early)))

@@ -9,6 +9,7 @@ use Rattle.stm_model.specs.declared.config.Config.{Config}
 use Rattle.stm_model.specs.declared.config.TheConstants.{CLOCK_LIMIT}
 use Rattle.stm_model.specs.declared.stop.Cause.{Cause}
 use Rattle.stm_model.specs.Memories.{is_empty}
+use Rattle.rule_base.specs.Encodings.{fenced}
 use Rattle.rule_base.specs.declared.entries.Cell.{Cell}
 use Rattle.rule_base.specs.declared.layout.At.TheVariants.{Clock}
 use Rattle.rule_base.specs.declared.seats.Who.{Who}
@@ -28,7 +29,7 @@ use Rattle.stm_rule.specs.declared.stm.Stm.{Stm}
 use Rattle.stm_rule.specs.Attempts.{Keeps, IsInside, own_of}
 use Rattle.stm_rule.specs.Callers.{Handle}
 use Rattle.stm_rule.specs.Findings.{FindsWithin}
-use Rattle.stm_rule.specs.RecordsKept.{Buffers, cells_of}
+use Rattle.stm_rule.specs.RecordsKept.{Apart, Buffers, cells_of}
 use Rattle.stm_rule.specs.RingKept.{IsRing}
 use Rattle.tx_answers.specs.declared.answers.Irrev.TheVariants as irrevs
 use Rattle.tx_answers.specs.Answers.{Quits, IsOpaque}
@@ -175,8 +176,8 @@ module _ (good : List ℕ → Type 0) (c : Config) (n : ℕ) (l : Local) (v : Vi
       tells-conflict low y end = subst (λ (z : View). Grants good c n (irrevs.Conflict cause) (known_of v o) (known_of z o)) (sym (end ∙ ap (left n) failed-path)) (
         quits-settled clock f.read (f.more ++ clock_found clock ∷ []),
         refuted c n None (known_of v o) (known_of (left n (settled_at clock f.read (f.more ++ clock_found clock ∷ []))) o) l.loaded w.attempt.start f.clock f.more cause named (sym (ap (λ (z : View). z.attempt.start) settled-path)) k.read
-            (finds-between (known_of v o) (known_of (left n (settled_at clock f.read (f.more ++ clock_found clock ∷ []))) o) (last_steps n v.gate.holds v.gate.algorithm) f.more (clock_found clock ∷ [])
-            (ap (λ (s : List TrailItem). last_steps n v.gate.holds v.gate.algorithm ++ s) (append_assoc f.more (clock_found clock ∷ []) v.steps.trail))) f.found f.refutes,
+            (finds-between (known_of v o) (known_of (left n (settled_at clock f.read (f.more ++ clock_found clock ∷ []))) o) (last_steps n v.gate.holds v.gate.fence v.gate.algorithm) f.more (clock_found clock ∷ [])
+            (ap (λ (s : List TrailItem). last_steps n v.gate.holds v.gate.fence v.gate.algorithm ++ s) (append_assoc f.more (clock_found clock ∷ []) v.steps.trail))) f.found f.refutes,
         (let d = f.others in omega arith),
       )
 
@@ -200,6 +201,10 @@ module _ (good : List ℕ → Type 0) (c : Config) (n : ℕ) (l : Local) (v : Vi
             attempt = record { start = start; reads = if k.settled j then record { at = v.ring_read.from; value = v.ring_read.value } ∷ v.attempt.reads else v.attempt.reads; stores = k.optimistic.unstored j; entered = v.attempt.entered };
             steps = record v.steps { trail = sym (append_assoc p.0.more (clock_found clock ∷ []) v.steps.trail) j };
           }))
+
+      -- what is stored lies outside the fence that the attempt knows
+      pub are-spared : Apart u.gate.fence (cells_of l.writes.items)
+      are-spared a t = ap (λ (y : View). fenced y.gate.fence a) passed-path ∙ (ap (λ f. fenced f a) i.spared.is ∙ k.buffers.apart a t)
 
       pub may-store : u.gate.granted ≡ true
       may-store = ap (λ (y : View). y.gate.granted) passed-path
@@ -238,6 +243,7 @@ module _ (good : List ℕ → Type 0) (c : Config) (n : ℕ) (l : Local) (v : Vi
           looked = λ e. let h = i.looked e in record { low = h.low; seen = h.seen; unseen = h.unseen };
           granted = sym (ap (λ (a : Alg). closes_gate a && true) ring);
           steady = λ e. can.free;
+          spared = record { is = i.spared.is; fits = i.spared.fits };
           keeps = subst (λ (a : Alg). Keeps c a true promoted (promoted_at ws more)) (sym ring) (record {
             granted = refl;
             calm = refl;
@@ -274,10 +280,12 @@ module _ (good : List ℕ → Type 0) (c : Config) (n : ℕ) (l : Local) (v : Vi
             made = ap (λ (y : View). public_history y.history.made) stored-path;
             grows = grows-promoted;
             alg = ap (λ (y : View). y.gate.algorithm) stored-path;
+            fence = ap (λ (y : View). y.gate.fence) stored-path;
             base = ap (λ (y : View). y.steps.rises_at_begin) stored-path;
             rises = (let a : x.steps.rises ≡ v.steps.rises = ap (λ (y : View). y.steps.rises) stored-path in (omega arith, omega arith));
             later = (let a : x.attempt.start ≡ start = ap (λ (y : View). y.attempt.start) stored-path in let b : w.attempt.start ≡ v.attempt.start = ap (λ (y : View). y.attempt.start) settled-path in let d = p.0.later in omega arith);
             installs = ap (λ (y : View). reverse y.steps.installs) stored-path;
+            depth = refl;
           };
           still = ap (λ (y : View). y.steps.rises) stored-path;
           uncommitted = can.free;

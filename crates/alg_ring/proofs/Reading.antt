@@ -104,9 +104,10 @@ module _ (good : List ℕ → Type 0) (c : Config) (n a : ℕ) (l : Local) (v : 
         looked = λ e. let q = i.looked e in record { low = q.low; seen = q.seen; unseen = q.unseen };
         granted = i.granted;
         steady = i.steady;
+        spared = record { is = i.spared.is; fits = i.spared.fits };
         keeps = keeps-ring (record {
           optimistic = record { unlocked = k.optimistic.unlocked; unfixed = k.optimistic.unfixed; unwritten = k.optimistic.unwritten; uncommitted = k.optimistic.uncommitted; ungranted = k.optimistic.ungranted; uncalm = k.optimistic.uncalm; unstored = k.optimistic.unstored; rises = k.optimistic.rises };
-          buffers = record { wrote = k.buffers.wrote; once = k.buffers.once; inside = k.buffers.inside; small = k.buffers.small };
+          buffers = record { wrote = k.buffers.wrote; once = k.buffers.once; inside = k.buffers.inside; small = k.buffers.small; apart = k.buffers.apart };
           inside = p.inside;
           settled = p.settled;
           loaded = λ j less. filter-watched j less ∙ ap (λ (cs : List Cell). slot_filter.word cs j) (sym p.watched);
@@ -138,11 +139,12 @@ module _ (good : List ℕ → Type 0) (c : Config) (n a : ℕ) (l : Local) (v : 
 
         goes : GoesOn (known_of v o) (known_of after o)
         goes = record {
-          continues = record { running = ap is_in i.phase; closing = ap is_closing i.phase; made = refl; grows = grown; alg = refl; base = refl; rises = (omega arith, omega arith); later = p.later; installs = refl };
+          continues = record { running = ap is_in i.phase; closing = ap is_closing i.phase; made = refl; grows = grown; alg = refl; fence = refl; base = refl; rises = (omega arith, omega arith); later = p.later; installs = refl; depth = refl };
           start = subst (λ (b : Alg). StartMoves b (known_of v o) (known_of after o)) (sym named) start-moves;
           granted = refl;
           holds = refl;
           checked = refl;
+          marks = refl;
         }
 
         -- the log gains the read, or has it already

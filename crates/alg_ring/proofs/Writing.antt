@@ -8,6 +8,7 @@ use Rattle.stm_model.specs.declared.alg.Alg.{Alg}
 use Rattle.stm_model.specs.declared.alg.Alg.TheVariants.{RingSw}
 use Rattle.stm_model.specs.declared.config.Config.{Config}
 use Rattle.rule_base.specs.declared.views.View.{View}
+use Rattle.rule_base.specs.Encodings.{fenced}
 use Rattle.rule_base.specs.Bridge.{items}
 use Rattle.rule_base.specs.History.{Inside, Small}
 use Rattle.rule_base.specs.Own.{Own}
@@ -17,7 +18,7 @@ use Rattle.tx_logs.specs.Filters.{address_word}
 use Rattle.tx_logs.specs.LogStates.{LogState, Pushes}
 use Rattle.stm_rule.specs.declared.local.Local.{Local}
 use Rattle.stm_rule.specs.Attempts.{Keeps, IsInside, own_of}
-use Rattle.stm_rule.specs.RecordsKept.{cells_of}
+use Rattle.stm_rule.specs.RecordsKept.{Apart, cells_of}
 use Rattle.stm_rule.specs.RingKept.{IsRing}
 use Rattle.tx_answers.specs.declared.answers.Read.TheVariants as reads
 use Rattle.tx_answers.specs.declared.answers.Write.TheVariants as writes
@@ -29,7 +30,7 @@ use Rattle.stm_gate.specs.InnerLaws.{goes-inner}
 use Rattle.stm_gate.specs.Leaving.{left}
 use Rattle.stm_gate.specs.LeavingLaws.{unmade-refl, quits-left}
 use Rattle.stm_gate.specs.Opacity.{opaque-inside}
-use Rattle.alg_ring.proofs.CellsOf.{items-cells, once-put, inside-put, small-put, some-put}
+use Rattle.alg_ring.proofs.CellsOf.{items-cells, once-put, inside-put, small-put, apart-put, some-put}
 use Rattle.alg_ring.proofs.Ending.{revocable}
 use Rattle.alg_ring.proofs.FilterWords.{slot-put}
 
@@ -72,11 +73,12 @@ module _ (good : List ℕ → Type 0) (c : Config) (n a : ℕ) (l : Local) (v : 
     pub writes-done : writes_full a (known_of v o) ≡ false → HasWritten good c n a x writes.Done (known_of v o) (known_of v (own_of m))
     writes-done room = (
       record {
-        continues = record { running = ap is_in i.phase; closing = ap is_closing i.phase; made = refl; grows = grows-same (known_of v o) (known_of v (own_of m)) refl refl [] refl refl refl; alg = refl; base = refl; rises = (omega arith, omega arith); later = omega arith; installs = refl };
+        continues = record { running = ap is_in i.phase; closing = ap is_closing i.phase; made = refl; grows = grows-same (known_of v o) (known_of v (own_of m)) refl refl [] refl refl refl; alg = refl; fence = refl; base = refl; rises = (omega arith, omega arith); later = omega arith; installs = refl; depth = refl };
         start = subst (λ (b : Alg). StartMoves b (known_of v o) (known_of v (own_of m))) (sym named) (inl refl);
         granted = refl;
         holds = refl;
         checked = refl;
+        marks = ap (λ (q : LogState). q.marks) is;
       },
       quiet,
       (refl, λ b. ap (item_at b) (wrote-put ∙ ap (put a x) (sym written-here))),
@@ -90,8 +92,8 @@ module _ (good : List ℕ → Type 0) (c : Config) (n a : ℕ) (l : Local) (v : 
     keeps-ring : IsRing c m v → Keeps c m.algorithm m.granted m v
     keeps-ring q = subst (λ (b : Alg). Keeps c b l.granted m v) (sym (sym i.named ∙ named)) (subst (λ (b : Bool). Keeps c RingSw b m v) (sym plain) q)
 
-    pub stays-written : a < c.words → x < 2 ^ 64 → ((j : ℕ) → j < 16 → slice_index filter j ≡ bit_or (address_word a j) (slice_index l.stored j)) → IsInside good c n m v
-    stays-written low small words = record {
+    pub stays-written : a < c.words → fenced v.gate.fence a ≡ false → x < 2 ^ 64 → ((j : ℕ) → j < 16 → slice_index filter j ≡ bit_or (address_word a j) (slice_index l.stored j)) → IsInside good c n m v
+    stays-written low out small words = record {
       phase = i.phase;
       named = i.named;
       built = i.built;
@@ -106,6 +108,7 @@ module _ (good : List ℕ → Type 0) (c : Config) (n a : ℕ) (l : Local) (v : 
       looked = i.looked;
       granted = i.granted;
       steady = i.steady;
+      spared = record { is = i.spared.is; fits = i.spared.fits };
       keeps = keeps-ring (record {
         optimistic = k.optimistic;
         buffers = record {
@@ -113,6 +116,7 @@ module _ (good : List ℕ → Type 0) (c : Config) (n a : ℕ) (l : Local) (v : 
           once = subst Once (sym put_is) (once-put a x l.writes.items k.buffers.once);
           inside = subst (λ (ws : List (ℕ × ℕ)). Inside c.words (cells_of ws)) (sym put_is) (inside-put a x l.writes.items k.buffers.once c.words low k.buffers.inside);
           small = subst (λ (ws : List (ℕ × ℕ)). Small (cells_of ws)) (sym put_is) (small-put a x l.writes.items k.buffers.once small k.buffers.small);
+          apart = subst (λ (ws : List (ℕ × ℕ)). Apart l.fence (cells_of ws)) (sym put_is) (apart-put a x l.writes.items k.buffers.once l.fence (subst (λ f. fenced f a ≡ false) i.spared.is out) k.buffers.apart);
         };
         inside = k.inside;
         settled = k.settled;

@@ -18,7 +18,7 @@ use Rattle.rule_seq.specs.CglSteps.{fresh_lock, no_lock}
 use Rattle.tx_logs.specs.LogStates.{LogState}
 use Rattle.stm_rule.specs.declared.local.Local.{Local}
 use Rattle.stm_rule.specs.Attempts.{IsInside, IsOutside, Stands, ended, own_of}
-use Rattle.stm_rule.specs.RecordsKept.{Buffers, cells_of}
+use Rattle.stm_rule.specs.RecordsKept.{Apart, Buffers, cells_of}
 use Rattle.tx_answers.specs.declared.answers.Commit.{Commit}
 use Rattle.tx_answers.specs.declared.answers.Read.{Read}
 use Rattle.tx_answers.specs.declared.answers.Read.TheVariants.{Value, Conflict, Full}
@@ -60,6 +60,7 @@ module _ (good : List ℕ → Type 0) (c : Config) where
     pub settled : v.ring_read.loaded ≡ false
     pub uncalm : v.gate.calm ≡ false
     pub buffers : Buffers c l
+    pub spared : Apart v.gate.fence (cells_of l.writes.items)
     pub wrote : l.wrote ≡ true
     pub stored : IsFilterOf l.stored (cells_of l.writes.items)
     pub keeps : rules.Keeps (of_words good c.words) v.attempt.reads (cells_of l.writes.items)

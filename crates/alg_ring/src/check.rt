@@ -1,5 +1,6 @@
 //! The check: whether an entry since the start wrote what the attempt read.
-ghost use Rattle.std.specs.Prelude.{◌≡◌, ℕ, ◌<◌, ◌+◌, max, min};
+ghost use Rattle.std.specs.Prelude.{◌≡◌, ℕ, ◌<◌, ◌+◌, ◌-◌, ◌*◌, max, min};
+ghost use Rattle.alg_ring.specs.Counting.{TakesAtMost};
 ghost use Rattle.alg_ring.specs.Checking.{CanScan, CanLoadSlot, LoadsPart, MeetsSlot, MeetsOne, Scans, Checks, CanCheck, ChecksToGrant, CanCheckToGrant};
 ghost use Rattle.stm_rule.specs.Callers.{IsSeatOf};
 ghost use Rattle.stm_rule.specs.Kept.{IsSameSeat, view_of};
@@ -24,6 +25,7 @@ pub(crate) fn check<K: MemRule>(
     requires view { CanCheck stm.now.config start filter.now (view_of seat.old) }
     ensures same { IsSameSeat seat.old seat.new × (seat.new.me.0 ≡ record seat.old.me.0 { view = view_of seat.new }) }
     ensures checks { Checks (K.good stm.now.rule) stm.now.config result filter.now (view_of seat.old) (view_of seat.new) }
+    ensures steps { TakesAtMost (3 + 16 * (stm.now.config.ring - 1)) (view_of seat.old) (view_of seat.new) }
 {
     let clock = look(stm, seat, caller);
     if clock == start {
@@ -50,6 +52,7 @@ pub(crate) fn check_to_grant<K: MemRule>(
     requires view { CanCheckToGrant stm.now.config start filter.now (view_of seat.old) }
     ensures same { IsSameSeat seat.old seat.new × (seat.new.me.0 ≡ record seat.old.me.0 { view = view_of seat.new }) }
     ensures checks { ChecksToGrant (K.good stm.now.rule) stm.now.config result filter.now (view_of seat.old) (view_of seat.new) }
+    ensures steps { TakesAtMost (3 + 16 * (stm.now.config.ring - 1)) (view_of seat.old) (view_of seat.new) }
 {
     let clock = look_grant(stm, seat, caller);
     if clock == start {
@@ -85,6 +88,7 @@ fn scan<K: MemRule>(
     requires view { CanScan start clock filter.now (view_of seat.old) }
     ensures same { IsSameSeat seat.old seat.new × (seat.new.me.0 ≡ record seat.old.me.0 { view = view_of seat.new }) }
     ensures scans { Scans stm.now.config start clock result filter.now (view_of seat.old) (view_of seat.new) }
+    ensures steps { TakesAtMost (1 + 16 * (stm.now.config.ring - 1)) (view_of seat.old) (view_of seat.new) }
 {
     let ring = stm.config.ring as u64;
     if clock - start >= ring {
@@ -118,6 +122,7 @@ fn first_met<K: MemRule>(
     requires near { clock < start + stm.now.config.ring }
     ensures same { IsSameSeat seat.old seat.new × (seat.new.me.0 ≡ record seat.old.me.0 { view = view_of seat.new }) }
     ensures meets { MeetsOne stm.now.config start clock result filter.now (view_of seat.old) (view_of seat.new) }
+    ensures steps { TakesAtMost (16 * (clock - start)) (view_of seat.old) (view_of seat.new) }
 {
     for passed in 0..clock - start {
         let time = start + 1 + passed;
@@ -142,6 +147,7 @@ fn slot_bits<K: MemRule>(
     requires view { CanLoadSlot stm.now.config.ring time (view_of seat.old) }
     ensures same { IsSameSeat seat.old seat.new × (seat.new.me.0 ≡ record seat.old.me.0 { view = view_of seat.new }) }
     ensures meets { MeetsSlot stm.now.config.ring time filter.now result (view_of seat.old) (view_of seat.new) }
+    ensures steps { TakesAtMost 16 (view_of seat.old) (view_of seat.new) }
 {
     let lowest = part_bits(seat, stm, caller, time, 0, filter);
     if lowest == 0 {
@@ -170,6 +176,7 @@ fn part_bits<K: MemRule>(
     requires part { part < 4 }
     ensures same { IsSameSeat seat.old seat.new × (seat.new.me.0 ≡ record seat.old.me.0 { view = view_of seat.new }) }
     ensures loads { LoadsPart stm.now.config.ring time filter.now part result (view_of seat.old) (view_of seat.new) }
+    ensures steps { TakesAtMost 4 (view_of seat.old) (view_of seat.new) }
 {
     for i in 4 * part..4 * part + 4 {
         let bits = filter.word(i) & word(stm, seat, caller, time, i);

@@ -1,16 +1,18 @@
 //! The calls of an attempt of RingSW. It writes into its write log, and reads the heap: behind each word it checks
 //! that no entry since its start wrote what it has read.
-ghost use Rattle.std.specs.Prelude.{◌≡◌, ℕ, ◌<◌, true, false, None};
+ghost use Rattle.stm_gate.specs.Counting.{TakesAtMost, AddsAtMost};
+ghost use Rattle.std.specs.Prelude.{◌≡◌, ℕ, ◌<◌, true, false, None, ◌+◌, ◌*◌, ◌-◌};
 ghost use Rattle.rule_base.specs.History.{Inside};
 ghost use Rattle.stm_model.specs.Memories.{item_at};
 ghost use Rattle.stm_model.specs.declared.alg.Alg.TheVariants.{RingSw};
 ghost use Rattle.stm_rule.specs.Attempts.{IsInside};
 ghost use Rattle.stm_rule.specs.Callers.{IsOf, IsSameCaller, IsSeatOf};
 ghost use Rattle.stm_rule.specs.Kept.{IsSameSeat, view_of};
-ghost use Rattle.stm_rule.specs.RecordsKept.{cells_of};
+ghost use Rattle.stm_rule.specs.RecordsKept.{Apart, cells_of};
 ghost use Rattle.tx_answers.specs.Answers.{HasRead, HasWritten, KeepsRule, Commits, Cancels, Irrevs};
 ghost use Rattle.tx_answers.specs.Known.{IsRunning, is_irrevocable};
 ghost use Rattle.stm_gate.specs.Granting.{IsAlone, Grants};
+ghost use Rattle.rule_base.specs.Encodings.{fenced};
 ghost use Rattle.stm_gate.specs.Knowing.{known, number};
 ghost use Rattle.stm_gate.specs.Starts.{CanBegin, Starts};
 ghost use Rattle.alg_ring.specs.Calls.{LoadsNew, HasWrites, StandsTold, Turns, CanFinish, Finishes, Decides, CanEnter, Enters, CanWriteBack, WritesBack, Stores};
@@ -48,8 +50,10 @@ pub fn read<K: MemRule>(desc: &mut Desc<K>, stm: &Stm<K>, a: usize) -> Read
     requires running { IsRunning (known desc.old) }
     requires algorithm { (known desc.old).alg ≡ RingSw }
     requires inside { a < stm.now.config.words }
+    requires spared { fenced (known desc.old).fence a ≡ false }
     ensures same { IsSameCaller desc.old desc.new }
     ensures read { HasRead (K.good stm.now.rule) stm.now.config (number desc.old) a result (known desc.old) (known desc.new) }
+    ensures steps { AddsAtMost (8 + (known desc.old).reads_limit + 2 * (known desc.old).writes_limit + 16 * stm.now.config.ring) (known desc.old) (known desc.new) }
 {
     if desc.local.granted {
         return direct_load(desc, stm, a);
@@ -73,9 +77,11 @@ fn load_new<K: MemRule>(
     requires attempt { IsInside (K.good stm.now.rule) stm.now.config caller local.old (view_of seat.old) }
     requires ring { (local.old.algorithm ≡ RingSw) × (local.old.granted ≡ false) × (local.old.holds ≡ (view_of seat.old).gate.holds) }
     requires inside { a < stm.now.config.words }
+    requires spared { fenced (view_of seat.old).gate.fence a ≡ false }
     requires fresh { item_at a local.old.writes.items ≡ None }
     ensures same { IsSameSeat seat.old seat.new × (seat.new.me.0 ≡ record seat.old.me.0 { view = view_of seat.new }) }
     ensures loads { LoadsNew (K.good stm.now.rule) stm.now.config caller a result local.old (view_of seat.old) local.new (view_of seat.new) }
+    ensures steps { TakesAtMost (6 + 16 * (stm.now.config.ring - 1)) (view_of seat.old) (view_of seat.new) }
 {
     let x = loads::load(stm, seat, caller, a);
     local.loaded.add(a);
@@ -97,6 +103,7 @@ pub fn write<K: MemRule>(desc: &mut Desc<K>, stm: &Stm<K>, a: usize, x: u64) -> 
     requires running { IsRunning (known desc.old) }
     requires algorithm { (known desc.old).alg ≡ RingSw }
     requires inside { a < stm.now.config.words }
+    requires spared { fenced (known desc.old).fence a ≡ false }
     ensures same { IsSameCaller desc.old desc.new }
     ensures write { HasWritten (K.good stm.now.rule) stm.now.config (number desc.old) a x result (known desc.old) (known desc.new) }
 {
@@ -121,6 +128,7 @@ pub fn commit<K: MemRule>(desc: &mut Desc<K>, stm: &Stm<K>) -> Commit
     requires keeps { KeepsRule (K.good stm.now.rule) stm.now.config (number desc.old) (known desc.old) }
     ensures same { IsSameCaller desc.old desc.new }
     ensures commits { Commits (K.good stm.now.rule) stm.now.config (number desc.old) result (known desc.old) (known desc.new) }
+    ensures steps { AddsAtMost (10 + (known desc.old).reads_limit + 4 * (known desc.old).writes_limit + 16 * stm.now.config.ring) (known desc.old) (known desc.new) }
 {
     if desc.local.granted {
         return direct_commit(desc, stm);
@@ -146,6 +154,7 @@ fn commit_writes<K: MemRule>(
     requires wrote { HasWrites (K.good stm.now.rule) stm.now.config caller local.old (view_of seat.old) }
     ensures same { IsSameSeat seat.old seat.new × (seat.new.me.0 ≡ record seat.old.me.0 { view = view_of seat.new }) }
     ensures commits { StandsTold (K.good stm.now.rule) stm.now.config caller (Commits (K.good stm.now.rule) stm.now.config caller result) local.old (view_of seat.old) local.new (view_of seat.new) }
+    ensures steps { TakesAtMost (26 + local.old.writes.len + 16 * (stm.now.config.ring - 1)) (view_of seat.old) (view_of seat.new) }
 {
     match turn(seat, local, stm, caller) {
         Some(again) => again,
@@ -166,6 +175,7 @@ pub fn turn<K: MemRule>(
     requires wrote { HasWrites (K.good stm.now.rule) stm.now.config caller local.old (view_of seat.old) }
     ensures same { IsSameSeat seat.old seat.new × (seat.new.me.0 ≡ record seat.old.me.0 { view = view_of seat.new }) }
     ensures turns { Turns (K.good stm.now.rule) stm.now.config caller result local.old (view_of seat.old) local.new (view_of seat.new) }
+    ensures steps { TakesAtMost 1 (view_of seat.old) (view_of seat.new) }
 {
     let found = steps::lock(stm, seat, caller);
     if found != 0 {
@@ -192,6 +202,7 @@ pub fn finish<K: MemRule>(
     requires turn { CanFinish (K.good stm.now.rule) stm.now.config caller local.old (view_of seat.old) }
     ensures same { IsSameSeat seat.old seat.new × (seat.new.me.0 ≡ record seat.old.me.0 { view = view_of seat.new }) }
     ensures finishes { Finishes (K.good stm.now.rule) stm.now.config caller result local.old (view_of seat.old) local.new (view_of seat.new) }
+    ensures steps { TakesAtMost (25 + local.old.writes.len + 16 * (stm.now.config.ring - 1)) (view_of seat.old) (view_of seat.new) }
 {
     let answer = commit_locked(seat, local, stm, caller);
     steps::free(stm, seat, caller);
@@ -212,6 +223,7 @@ fn commit_locked<K: MemRule>(
     requires turn { CanFinish (K.good stm.now.rule) stm.now.config caller local.now (view_of seat.old) }
     ensures same { IsSameSeat seat.old seat.new × (seat.new.me.0 ≡ record seat.old.me.0 { view = view_of seat.new }) }
     ensures decides { Decides (K.good stm.now.rule) stm.now.config caller result local.now (view_of seat.old) (view_of seat.new) }
+    ensures steps { TakesAtMost (22 + local.now.writes.len + 16 * (stm.now.config.ring - 1)) (view_of seat.old) (view_of seat.new) }
 {
     let clock = steps::tick(stm, seat, caller);
     if clock >= CLOCK_LIMIT {
@@ -234,6 +246,7 @@ fn enter<K: MemRule>(seat: &mut Token<K>, local: &Local, stm: &Stm<K>, caller: u
     requires enter { CanEnter (K.good stm.now.rule) stm.now.config time local.now (view_of seat.old) }
     ensures same { IsSameSeat seat.old seat.new × (seat.new.me.0 ≡ record seat.old.me.0 { view = view_of seat.new }) }
     ensures enters { Enters (K.good stm.now.rule) stm.now.config caller time local.now (view_of seat.old) (view_of seat.new) }
+    ensures steps { TakesAtMost 17 (view_of seat.old) (view_of seat.new) }
 {
     for i in 0..SLOT_WORDS {
         steps::slot(
@@ -255,6 +268,7 @@ fn write_back<K: MemRule>(seat: &mut Token<K>, writes: &WriteLog, stm: &Stm<K>, 
     requires back { CanWriteBack stm.now.config writes.now (view_of seat.old) }
     ensures same { IsSameSeat seat.old seat.new × (seat.new.me.0 ≡ record seat.old.me.0 { view = view_of seat.new }) }
     ensures back { WritesBack (view_of seat.old) (view_of seat.new) }
+    ensures steps { TakesAtMost writes.now.len (view_of seat.old) (view_of seat.new) }
 {
     for i in 0..writes.count() {
         let (a, x) = writes.item(i);
@@ -269,6 +283,7 @@ pub fn cancel<K: MemRule>(desc: &mut Desc<K>, stm: &Stm<K>) -> Cancel
     requires algorithm { (known desc.old).alg ≡ RingSw }
     ensures same { IsSameCaller desc.old desc.new }
     ensures cancels { Cancels (K.good stm.now.rule) stm.now.config (number desc.old) result (known desc.old) (known desc.new) }
+    ensures steps { AddsAtMost (4 + 2 * (known desc.old).writes_limit) (known desc.old) (known desc.new) }
 {
     if desc.local.granted {
         return Cancel::Irrevocable;
@@ -339,6 +354,7 @@ fn store_all<K: MemRule>(seat: &mut Token<K>, writes: &WriteLog, stm: &Stm<K>, c
     requires seat { IsSeatOf stm.now caller seat.old }
     requires granted { (view_of seat.old).gate.granted ≡ true }
     requires inside { Inside stm.now.config.words (cells_of writes.now.items) }
+    requires spared { Apart (view_of seat.old).gate.fence (cells_of writes.now.items) }
     ensures same { IsSameSeat seat.old seat.new × (seat.new.me.0 ≡ record seat.old.me.0 { view = view_of seat.new }) }
     ensures stores { Stores writes.now (view_of seat.old) (view_of seat.new) }
 {

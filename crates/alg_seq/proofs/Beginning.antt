@@ -136,10 +136,11 @@ module _ (good : List ℕ → Type 0) (c : Config) (n : ℕ) (a : Alg) (locks : 
 
   pub tells-started : (found clock : ℕ) (v t w : View) → CanBegin a v → found ≡ 0 → (asks_at_begin a ≡ true → clock < CLOCK_LIMIT) → Tells (take_lock n) (FindsLock c n) v found t → Tells load_start (Begins rule c) t clock w → StartsAt good c n a clock v w
   tells-started found clock v t w can zero low f l = subst (λ (y : View). StartsAt good c n a clock v y) (sym path) (record {
-    inside = λ k free. record {
+    inside = λ k fenced free. record {
       steady = λ e. refl;
       phase = can.phase;
       named = can.named;
+      spared = record { is = fenced.is; fits = fenced.fits };
       built = built-lock a locks;
       disowned = λ e. can.clear.disowned;
       unentered = refl;
@@ -168,6 +169,7 @@ module _ (good : List ℕ → Type 0) (c : Config) (n : ℕ) (a : Alg) (locks : 
       });
     };
     reopened = can.reopened;
+    fence = refl;
     rises = can.rises;
     starts = λ o fresh. record {
       keeps = record { made = refl; grows = grows-started v f.0 l.0 clock o b; rises = refl; installs = refl };

@@ -45,10 +45,12 @@ tells-granted good c n l v i serial clock u o settled revocable low t = subst (Î
     made = refl;
     grows = grows-same (known_of v o) (known_of w o) refl refl (record { place = Clock; act = Load; found = Some clock } âˆ· []) refl refl refl;
     alg = refl;
+    fence = refl;
     base = refl;
     rises = (omega arith, omega arith);
     later = le_refl v.attempt.start;
     installs = refl;
+    depth = refl;
   };
   still = refl;
   uncommitted = settled;

@@ -84,6 +84,7 @@ module _ (good : List ℕ → Type 0) (c : Config) (n : ℕ) (l : Local) (v : Vi
   stored log k more a x m taken started sure low undone undoable within = let j = locked good c n l v locks i in record {
     phase = i.phase;
     named = i.named;
+    spared = record { is = i.spared.is; fits = i.spared.fits };
     built = i.built;
     steady = i.steady;
     disowned = i.disowned;
@@ -120,6 +121,7 @@ module _ (good : List ℕ → Type 0) (c : Config) (n : ℕ) (l : Local) (v : Vi
   -- once irrevocable a store needs nothing
   pub may-store-sure : (a : ℕ) → a < c.words → l.granted ≡ true → l.start < CLOCK_LIMIT → MayStore good c n a l v v
   may-store-sure a within granted low = let sure = sure-by ∙ granted in let j = locked good c n l v locks i in record {
+    fence = refl;
     can = λ x small. record { has = record { phase = i.phase; algorithm = locks; taken = j.taken }; started = j.started; inside = within; small = small; undoable = λ e. absurd (let no : true ≡ false = sym sure ∙ e in cc) };
     inside = λ x m. stored l.undo v.lock [] a x m j.taken j.started sure-by low (λ e. absurd (let no : true ≡ false = sym sure ∙ e in cc)) (λ e. absurd (let no : true ≡ false = sym sure ∙ e in cc)) j.within;
     written = λ o own x m. tells-store good c n a x v v o m i.phase locks own.0 (never-full a (known_of v o) (revocable-by o ∙ sure)).1 (logged-refl v) refl (still-opaque good c n l v o i);
@@ -128,6 +130,7 @@ module _ (good : List ℕ → Type 0) (c : Config) (n : ℕ) (l : Local) (v : Vi
   -- a store whose old value was kept
   pub may-store-logged : (a : ℕ) (u w : View) (m : Local) → a < c.words → l.granted ≡ false → l.start < CLOCK_LIMIT → IsClocked v u → HasLogged c.words a l u m w → MayStore good c n a m v w
   may-store-logged a u w m within revocable low k h = let j = locked good c n l v locks i in let rev : v.lock.irrevocable ≡ false = sure-by ∙ revocable in record {
+    fence = ap (λ (y : View). y.gate.fence) path;
     can = λ x small. record {
       has = subst (λ (y : View). HasLock y) (sym path) (record { phase = i.phase; algorithm = locks; taken = ap (λ (y : View). y.lock.taken) flat ∙ (ap (λ (y : View). y.lock.taken) k.is ∙ j.taken) });
       started = ap (λ (y : View). y.lock.started) flat ∙ (ap (λ (y : View). y.lock.started) k.is ∙ j.started);

@@ -5,3 +5,5 @@ pub mod Keeping
 pub mod Pushing
 pub mod Granting
 mod TmlLaws
+pub mod NestingLaws
+pub mod CountingLaws

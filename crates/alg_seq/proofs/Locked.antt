@@ -121,15 +121,18 @@ goes-on v w o inside i = record {
     made = ap (λ (h : SeenHistory). public_history h.made) i.history;
     grows = grows-same (known_of v o) (known_of w o) (ap (λ (h : SeenHistory). public_history h.seen) i.history) (ap (λ (h : SeenHistory). h.front) i.history) i.trail.0 i.trail.1 refl refl;
     alg = ap (λ (g : GateView). g.algorithm) i.gate;
+    fence = ap (λ (g : GateView). g.fence) i.gate;
     base = i.base;
     rises = (let e = i.rises in omega arith, let e = i.rises in omega arith);
     later = (let e = i.start in omega arith);
     installs = ap reverse i.installs;
+    depth = refl;
   };
   start = start-stays v.gate.algorithm (known_of v o) (known_of w o) i.start;
   granted = ap (λ (g : GateView). granted_under g.algorithm g w.lock) i.gate ∙ granted-same v.gate.algorithm v.gate v.lock w.lock i.sure;
   holds = ap (λ (g : GateView). g.holds) i.gate;
   checked = ap (λ (g : GateView). g.checked) i.gate;
+  marks = refl;
 }
 
 reads-free : (a : ℕ) (v : Known) → takes_lock v.alg ≡ true → reads_full a v ≡ false
@@ -190,10 +193,12 @@ module _ (good : List ℕ → Type 0) (c : Config) (n : ℕ) where
       made = refl;
       grows = grows-same (known_of v o) (known_of v o) refl refl [] refl refl refl;
       alg = refl;
+      fence = refl;
       base = refl;
       rises = (omega arith, omega arith);
       later = le_refl v.attempt.start;
       installs = refl;
+      depth = refl;
     };
     still = refl;
     uncommitted = settled;

@@ -309,6 +309,7 @@ module _ (good : List ℕ → Type 0) (c : Config) (n : ℕ) where
     stays-written a x clock found s u w low plain clean under same r t p = subst (λ (y : View). IsInside good c n m y) (sym (put_path a x clock found s u w same r t p)) (record {
       phase = i.phase;
       named = i.named;
+      spared = record { is = i.spared.is; fits = i.spared.fits };
       built = i.built;
       steady = i.steady;
       disowned = i.disowned;
@@ -355,15 +356,18 @@ module _ (good : List ℕ → Type 0) (c : Config) (n : ℕ) where
           made = refl;
           grows = grows-same (known_of v o) (known_of y o) refl refl (_ ∷ _ ∷ _ ∷ []) refl refl refl;
           alg = refl;
+          fence = refl;
           base = refl;
           rises = (let q : write_rise v.gate.algorithm (is_irrevocable (known_of v o)) ≡ 1 = (λ j. write_rise (tml j) (revocable clean j)) in (omega arith, omega arith));
           later = omega arith;
           installs = refl;
+          depth = refl;
         };
         start = start-stays v.gate.algorithm (known_of v o) (known_of y o) refl;
         granted = refl;
         holds = refl;
         checked = refl;
+        marks = refl;
       },
       quiet,
       (refl, λ b. ap (item_at b) (written-here y ∙ ap (put a x) (sym (written-here v)))),
@@ -490,10 +494,12 @@ module _ (good : List ℕ → Type 0) (c : Config) (n : ℕ) where
         made = refl;
         grows = grows-same (known_of v o) (known_of y o) refl refl (_ ∷ []) refl refl refl;
         alg = refl;
+        fence = refl;
         base = refl;
         rises = (omega arith, omega arith);
         later = omega arith;
         installs = refl;
+        depth = refl;
       };
       still = refl;
       uncommitted = quiet;
@@ -515,6 +521,7 @@ module _ (good : List ℕ → Type 0) (c : Config) (n : ℕ) where
     stays-promoted clock w held clean same under t = subst (λ (y : View). IsInside good c n m y) (sym (grant_path clock w true (still_yes clock same under) t)) (record {
       phase = i.phase;
       named = i.named;
+      spared = record { is = i.spared.is; fits = i.spared.fits };
       built = i.built;
       steady = λ e. i.steady (ap (λ (a : Alg). not (asks_at_commit a) || l.granted) (sym i.named ∙ tml));
       disowned = i.disowned;
@@ -580,10 +587,11 @@ module _ (good : List ℕ → Type 0) (c : Config) (n : ℕ) (v : View) (can : C
 
   pub tells-started : (clock : ℕ) (w : View) → clock % 2 ≡ 0 → Tells tml_begin (FindsBegin (of_words good c.words) c) v clock w → Starts.StartsAt good c n Tml clock v w
   tells-started clock w even t = subst (λ (y : View). Starts.StartsAt good c n Tml clock v y) (sym (begun_path clock w true (grind (arith, nat_tests)) t)) (record {
-    inside = λ l free. record {
+    inside = λ l fenced free. record {
       steady = λ e. refl;
       phase = can.phase;
       named = can.named;
+      spared = record { is = fenced.is; fits = fenced.fits };
       built = refl;
       disowned = λ e. can.clear.disowned;
       unentered = refl;
@@ -613,6 +621,7 @@ module _ (good : List ℕ → Type 0) (c : Config) (n : ℕ) (v : View) (can : C
       };
     };
     reopened = can.reopened;
+    fence = refl;
     rises = can.rises;
     starts = λ o fresh. record {
       keeps = record { made = refl; grows = (let q = later-seen t.0.history v.history.front clock b.below b.front in record { later = q.0; is = subst (λ (h : List Entry). public_history t.0.history ≡ public_history h ++ q.0) (sym b.seen) q.1; ascending = q.2; up_to = q.3; front_rose = b.front; more = record { place = Clock; act = Load; found = Some clock } ∷ []; trail = refl; reads_limit = refl; writes_limit = refl }); rises = refl; installs = refl };

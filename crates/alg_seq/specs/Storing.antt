@@ -66,6 +66,7 @@ module _ (good : List ℕ → Type 0) (c : Config) (n a : ℕ) where
   -- The word at a may be stored next, whatever the value: the attempt goes on then, and has written it. v is the view at the call.
   pub record MayStore (l : Local) (v w : View) : Type 0 where
     pub can : (x : ℕ) → x < 2 ^ 64 → CanStoreHeap c.words a x w
+    pub fence : w.gate.fence ≡ v.gate.fence
     pub inside : (x : ℕ) (m : World) → IsInside good c n (record l { wrote = true }) (view_after (store_heap a x) m w x)
     pub written : (o : Own) → IsOwn l o → (x : ℕ) (m : World) → HasWritten good c n a x Done (known_of v o) (known_of (view_after (store_heap a x) m w x) o)
 

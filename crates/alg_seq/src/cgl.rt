@@ -1,11 +1,13 @@
 //! CGL: one lock from begin to commit. An attempt reads and writes in place, and is irrevocable from its
 //! begin on.
-ghost use Rattle.std.specs.Prelude.{◌≡◌, ℕ, ◌<◌, true};
+ghost use Rattle.stm_gate.specs.Counting.{AddsAtMost};
+ghost use Rattle.std.specs.Prelude.{◌≡◌, ℕ, ◌<◌, true, ◌+◌, ◌*◌, length, false};
 ghost use Rattle.stm_model.specs.declared.alg.Alg.TheVariants.{Cgl};
 ghost use Rattle.stm_rule.specs.Callers.{IsOf, IsSameCaller, IsSeatOf};
 ghost use Rattle.stm_rule.specs.Kept.{IsSameSeat, view_of};
 ghost use Rattle.tx_answers.specs.Answers.{HasRead, HasWritten, KeepsRule, Commits, Cancels, Irrevs};
 ghost use Rattle.tx_answers.specs.Known.{IsRunning};
+ghost use Rattle.rule_base.specs.Encodings.{fenced};
 ghost use Rattle.stm_gate.specs.Knowing.{known, number};
 ghost use Rattle.stm_gate.specs.Starts.{CanBegin, Starts};
 
@@ -43,8 +45,10 @@ pub fn read<K: MemRule>(desc: &mut Desc<K>, stm: &Stm<K>, a: usize) -> Read
     requires running { IsRunning (known desc.old) }
     requires algorithm { (known desc.old).alg ≡ Cgl }
     requires inside { a < stm.now.config.words }
+    requires spared { fenced (known desc.old).fence a ≡ false }
     ensures same { IsSameCaller desc.old desc.new }
     ensures read { HasRead (K.good stm.now.rule) stm.now.config (number desc.old) a result (known desc.old) (known desc.new) }
+    ensures steps { AddsAtMost (8 + (known desc.old).reads_limit + 2 * (known desc.old).writes_limit + 16 * stm.now.config.ring) (known desc.old) (known desc.new) }
 {
     lock::read(desc, stm, a)
 }
@@ -55,8 +59,10 @@ pub fn write<K: MemRule>(desc: &mut Desc<K>, stm: &Stm<K>, a: usize, x: u64) -> 
     requires running { IsRunning (known desc.old) }
     requires algorithm { (known desc.old).alg ≡ Cgl }
     requires inside { a < stm.now.config.words }
+    requires spared { fenced (known desc.old).fence a ≡ false }
     ensures same { IsSameCaller desc.old desc.new }
     ensures write { HasWritten (K.good stm.now.rule) stm.now.config (number desc.old) a x result (known desc.old) (known desc.new) }
+    ensures steps { AddsAtMost (8 + (known desc.old).reads_limit + 2 * (known desc.old).writes_limit + 16 * stm.now.config.ring) (known desc.old) (known desc.new) }
 {
     stm.store_heap(&mut desc.seat, desc.number, a, x);
     desc.local.wrote = true;
@@ -71,6 +77,7 @@ pub fn commit<K: MemRule>(desc: &mut Desc<K>, stm: &Stm<K>) -> Commit
     requires keeps { KeepsRule (K.good stm.now.rule) stm.now.config (number desc.old) (known desc.old) }
     ensures same { IsSameCaller desc.old desc.new }
     ensures commits { Commits (K.good stm.now.rule) stm.now.config (number desc.old) result (known desc.old) (known desc.new) }
+    ensures steps { AddsAtMost (10 + (known desc.old).reads_limit + 4 * (known desc.old).writes_limit + 16 * stm.now.config.ring) (known desc.old) (known desc.new) }
 {
     lock::commit(desc, stm)
 }
@@ -82,6 +89,7 @@ pub fn cancel<K: MemRule>(desc: &mut Desc<K>, stm: &Stm<K>) -> Cancel
     requires algorithm { (known desc.old).alg ≡ Cgl }
     ensures same { IsSameCaller desc.old desc.new }
     ensures cancels { Cancels (K.good stm.now.rule) stm.now.config (number desc.old) result (known desc.old) (known desc.new) }
+    ensures steps { AddsAtMost (4 + 2 * (known desc.old).writes_limit) (known desc.old) (known desc.new) }
 {
     let _ = stm;
     Cancel::Irrevocable

@@ -4,5 +4,6 @@
 
 pub mod cgl;
 mod lock;
+pub mod nesting;
 pub mod serial;
 pub mod tml;

@@ -1,12 +1,14 @@
 //! Serial: one lock from begin to commit, with an undo log. An attempt reads and writes in place, and can be
 //! taken back until it is made irrevocable.
-ghost use Rattle.std.specs.Prelude.{◌≡◌, ℕ, ◌<◌, ◌≤◌, Result, Ok, Err, true, false};
+ghost use Rattle.stm_gate.specs.Counting.{TakesAtMost, AddsAtMost};
+ghost use Rattle.std.specs.Prelude.{◌≡◌, ℕ, ◌<◌, ◌≤◌, Result, Ok, Err, true, false, ◌+◌, length, ◌*◌};
 ghost use Rattle.stm_model.specs.declared.alg.Alg.TheVariants.{Serial};
 ghost use Rattle.stm_rule.specs.Attempts.{IsInside, ended};
 ghost use Rattle.stm_rule.specs.Callers.{IsOf, IsSameCaller, IsSeatOf};
 ghost use Rattle.stm_rule.specs.Kept.{IsSameSeat, view_of};
 ghost use Rattle.tx_answers.specs.Answers.{HasRead, HasWritten, KeepsRule, Commits, Cancels, Irrevs};
 ghost use Rattle.tx_answers.specs.Known.{IsRunning};
+ghost use Rattle.rule_base.specs.Encodings.{fenced};
 ghost use Rattle.stm_gate.specs.Knowing.{known, number};
 ghost use Rattle.stm_gate.specs.Starts.{CanBegin, Starts};
 ghost use Rattle.alg_seq.specs.Storing.{GivesUp, KeepsOld, HasClock, Logs};
@@ -43,8 +45,10 @@ pub fn read<K: MemRule>(desc: &mut Desc<K>, stm: &Stm<K>, a: usize) -> Read
     requires running { IsRunning (known desc.old) }
     requires algorithm { (known desc.old).alg ≡ Serial }
     requires inside { a < stm.now.config.words }
+    requires spared { fenced (known desc.old).fence a ≡ false }
     ensures same { IsSameCaller desc.old desc.new }
     ensures read { HasRead (K.good stm.now.rule) stm.now.config (number desc.old) a result (known desc.old) (known desc.new) }
+    ensures steps { AddsAtMost (8 + (known desc.old).reads_limit + 2 * (known desc.old).writes_limit + 16 * stm.now.config.ring) (known desc.old) (known desc.new) }
 {
     lock::read(desc, stm, a)
 }
@@ -56,8 +60,10 @@ pub fn write<K: MemRule>(desc: &mut Desc<K>, stm: &Stm<K>, a: usize, x: u64) -> 
     requires running { IsRunning (known desc.old) }
     requires algorithm { (known desc.old).alg ≡ Serial }
     requires inside { a < stm.now.config.words }
+    requires spared { fenced (known desc.old).fence a ≡ false }
     ensures same { IsSameCaller desc.old desc.new }
     ensures write { HasWritten (K.good stm.now.rule) stm.now.config (number desc.old) a x result (known desc.old) (known desc.new) }
+    ensures steps { AddsAtMost (8 + (known desc.old).reads_limit + 2 * (known desc.old).writes_limit + 16 * stm.now.config.ring) (known desc.old) (known desc.new) }
 {
     let caller = desc.number;
     match keep_old(&mut desc.seat, &mut desc.local, stm, caller, a) {
@@ -78,6 +84,7 @@ pub fn commit<K: MemRule>(desc: &mut Desc<K>, stm: &Stm<K>) -> Commit
     requires keeps { KeepsRule (K.good stm.now.rule) stm.now.config (number desc.old) (known desc.old) }
     ensures same { IsSameCaller desc.old desc.new }
     ensures commits { Commits (K.good stm.now.rule) stm.now.config (number desc.old) result (known desc.old) (known desc.new) }
+    ensures steps { AddsAtMost (10 + (known desc.old).reads_limit + 4 * (known desc.old).writes_limit + 16 * stm.now.config.ring) (known desc.old) (known desc.new) }
 {
     lock::commit(desc, stm)
 }
@@ -89,6 +96,7 @@ pub fn cancel<K: MemRule>(desc: &mut Desc<K>, stm: &Stm<K>) -> Cancel
     requires algorithm { (known desc.old).alg ≡ Serial }
     ensures same { IsSameCaller desc.old desc.new }
     ensures cancels { Cancels (K.good stm.now.rule) stm.now.config (number desc.old) result (known desc.old) (known desc.new) }
+    ensures steps { AddsAtMost (4 + 2 * (known desc.old).writes_limit) (known desc.old) (known desc.new) }
 {
     if desc.local.granted {
         return Cancel::Irrevocable;
@@ -137,8 +145,10 @@ fn keep_old<K: MemRule>(
     requires serial { local.old.algorithm ≡ Serial }
     requires free { (local.old.holds ≡ false) × ((view_of seat.old).gate.holds ≡ false) }
     requires inside { a < stm.now.config.words }
+    requires spared { fenced (view_of seat.old).gate.fence a ≡ false }
     ensures same { IsSameSeat seat.old seat.new × (seat.new.me.0 ≡ record seat.old.me.0 { view = view_of seat.new }) }
     ensures keeps { KeepsOld (K.good stm.now.rule) stm.now.config caller a result local.old (view_of seat.old) local.new (view_of seat.new) }
+    ensures steps { TakesAtMost (5 + local.old.undo.len) (view_of seat.old) (view_of seat.new) }
 {
     if local.granted {
         return Ok(());
@@ -167,6 +177,7 @@ fn below_limit<K: MemRule>(
     requires serial { local.now.algorithm ≡ Serial }
     ensures same { IsSameSeat seat.old seat.new × (seat.new.me.0 ≡ record seat.old.me.0 { view = view_of seat.new }) }
     ensures below { HasClock result local.now (view_of seat.old) (view_of seat.new) }
+    ensures steps { TakesAtMost 1 (view_of seat.old) (view_of seat.new) }
 {
     if local.wrote {
         return Ok(());
@@ -190,8 +201,10 @@ fn log_old<K: MemRule>(
     requires attempt { IsInside (K.good stm.now.rule) stm.now.config caller local.old (view_of seat.old) }
     requires serial { (local.old.algorithm ≡ Serial) × (local.old.granted ≡ false) }
     requires inside { a < stm.now.config.words }
+    requires spared { fenced (view_of seat.old).gate.fence a ≡ false }
     ensures same { IsSameSeat seat.old seat.new × (seat.new.me.0 ≡ record seat.old.me.0 { view = view_of seat.new }) }
     ensures logs { Logs stm.now.config.words a result local.old (view_of seat.old) local.new (view_of seat.new) }
+    ensures steps { TakesAtMost 1 (view_of seat.old) (view_of seat.new) }
 {
     let count = local.undo.count();
     let push = local.undo.push(a, 0);
@@ -213,6 +226,7 @@ fn roll_back<K: MemRule>(seat: &mut Token<K>, local: &mut Local, stm: &Stm<K>, c
     ensures ended { local.new ≡ ended local.old }
     ensures some { 1 ≤ local.old.undo.len }
     ensures gives_up { GivesUp caller (view_of seat.old) (view_of seat.new) }
+    ensures steps { TakesAtMost (3 + local.old.undo.len) (view_of seat.old) (view_of seat.new) }
 {
     for i in 0..local.undo.count() {
         let (a, x) = local.undo.item(i);

@@ -1,12 +1,14 @@
 //! TML, the mutex-like sequence lock of Dalessandro, Dice, Scott, Shavit and Spear ("Transactional Mutex
 //! Locks", 2010): the clock is even while nobody writes. A reader loads it again behind each word, and the
 //! first write makes it odd; from then on the attempt is irrevocable, and works in place.
-ghost use Rattle.std.specs.Prelude.{◌≡◌, ℕ, ◌<◌, true, false, Result, Ok, Err};
+ghost use Rattle.stm_gate.specs.Counting.{AddsAtMost};
+ghost use Rattle.std.specs.Prelude.{◌≡◌, ℕ, ◌<◌, true, false, Result, Ok, Err, ◌+◌, ◌*◌, length};
 ghost use Rattle.stm_model.specs.declared.alg.Alg.TheVariants.{Tml};
 ghost use Rattle.stm_rule.specs.Callers.{IsOf, IsSameCaller, IsSeatOf};
 ghost use Rattle.stm_rule.specs.Kept.{IsSameSeat, view_of};
 ghost use Rattle.tx_answers.specs.Answers.{HasRead, HasWritten, KeepsRule, Commits, Cancels, Irrevs};
 ghost use Rattle.tx_answers.specs.Known.{IsRunning, is_irrevocable};
+ghost use Rattle.rule_base.specs.Encodings.{fenced};
 ghost use Rattle.stm_gate.specs.Knowing.{known, number};
 ghost use Rattle.stm_gate.specs.Starts.{CanBegin, Starts};
 ghost use Rattle.stm_gate.specs.Granting.{IsAlone, Grants};
@@ -43,8 +45,10 @@ pub fn read<K: MemRule>(desc: &mut Desc<K>, stm: &Stm<K>, a: usize) -> Read
     requires running { IsRunning (known desc.old) }
     requires algorithm { (known desc.old).alg ≡ Tml }
     requires inside { a < stm.now.config.words }
+    requires spared { fenced (known desc.old).fence a ≡ false }
     ensures same { IsSameCaller desc.old desc.new }
     ensures read { HasRead (K.good stm.now.rule) stm.now.config (number desc.old) a result (known desc.old) (known desc.new) }
+    ensures steps { AddsAtMost (8 + (known desc.old).reads_limit + 2 * (known desc.old).writes_limit + 16 * stm.now.config.ring) (known desc.old) (known desc.new) }
 {
     if desc.local.granted {
         return direct_load(desc, stm, a);
@@ -73,8 +77,10 @@ pub fn write<K: MemRule>(desc: &mut Desc<K>, stm: &Stm<K>, a: usize, x: u64) -> 
     requires running { IsRunning (known desc.old) }
     requires algorithm { (known desc.old).alg ≡ Tml }
     requires inside { a < stm.now.config.words }
+    requires spared { fenced (known desc.old).fence a ≡ false }
     ensures same { IsSameCaller desc.old desc.new }
     ensures write { HasWritten (K.good stm.now.rule) stm.now.config (number desc.old) a x result (known desc.old) (known desc.new) }
+    ensures steps { AddsAtMost (8 + (known desc.old).reads_limit + 2 * (known desc.old).writes_limit + 16 * stm.now.config.ring) (known desc.old) (known desc.new) }
 {
     if desc.local.granted {
         return direct_store(desc, stm, a, x);
@@ -93,8 +99,10 @@ fn first_write<K: MemRule>(desc: &mut Desc<K>, stm: &Stm<K>, a: usize, x: u64) -
     requires algorithm { (known desc.old).alg ≡ Tml }
     requires revocable { is_irrevocable (known desc.old) ≡ false }
     requires inside { a < stm.now.config.words }
+    requires spared { fenced (known desc.old).fence a ≡ false }
     ensures same { IsSameCaller desc.old desc.new }
     ensures write { HasWritten (K.good stm.now.rule) stm.now.config (number desc.old) a x result (known desc.old) (known desc.new) }
+    ensures steps { AddsAtMost 6 (known desc.old) (known desc.new) }
 {
     let caller = desc.number;
     let start = desc.local.start;
@@ -132,6 +140,7 @@ pub fn commit<K: MemRule>(desc: &mut Desc<K>, stm: &Stm<K>) -> Commit
     requires keeps { KeepsRule (K.good stm.now.rule) stm.now.config (number desc.old) (known desc.old) }
     ensures same { IsSameCaller desc.old desc.new }
     ensures commits { Commits (K.good stm.now.rule) stm.now.config (number desc.old) result (known desc.old) (known desc.new) }
+    ensures steps { AddsAtMost (10 + (known desc.old).reads_limit + 4 * (known desc.old).writes_limit + 16 * stm.now.config.ring) (known desc.old) (known desc.new) }
 {
     if desc.local.granted {
         return direct_commit(desc, stm);
@@ -155,6 +164,7 @@ pub fn cancel<K: MemRule>(desc: &mut Desc<K>, stm: &Stm<K>) -> Cancel
     requires algorithm { (known desc.old).alg ≡ Tml }
     ensures same { IsSameCaller desc.old desc.new }
     ensures cancels { Cancels (K.good stm.now.rule) stm.now.config (number desc.old) result (known desc.old) (known desc.new) }
+    ensures steps { AddsAtMost (4 + 2 * (known desc.old).writes_limit) (known desc.old) (known desc.new) }
 {
     if desc.local.granted {
         return Cancel::Irrevocable;

@@ -27,6 +27,7 @@ const CONFIG: Config = Config {
     reads: 9,
     writes: 2,
     clock: 0,
+    fence: false,
 };
 
 /// What was there at the end: nothing, or the capital.

@@ -23,6 +23,7 @@ const CONFIG: Config = Config {
     reads: 64,
     writes: 8,
     clock: 0,
+    fence: false,
 };
 
 /// What came of each wish for a seat, and the words of the closed memory.

@@ -35,6 +35,7 @@ pub fn open<R: Wait>(
         reads: plan.reads,
         writes: 16,
         clock: 0,
+        fence: false,
     };
     let (stm, mut descs) = Stm::new(alloc, config, Place::of(plan.workload))?;
     begin(rt, &mut descs[0], &stm, plan);

@@ -8,8 +8,8 @@ use Rattle.rule_base.specs.declared.views.GateView.{GateView}
 use Rattle.rule_base.specs.declared.views.Phase.{Phase}
 use Rattle.rule_base.specs.declared.views.Phase.TheVariants.{Idle, Announced, Turned, Aiming, In, Closing}
 use Rattle.rule_base.specs.declared.views.View.{View}
-use Rattle.rule_base.specs.Encodings.{alg_of, holder_of, gate_word, announced}
-use Rattle.rule_base.specs.EncodingLemmas.{alg_of-gate, holder_of-gate, holder_of-open}
+use Rattle.rule_base.specs.Encodings.{alg_of, holder_of, fence_of, gate_word, announced}
+use Rattle.rule_base.specs.EncodingLemmas.{alg_of-gate, holder_of-gate, holder_of-open, fence_of-gate, fence_of-open, formed-gate}
 use Rattle.rule_base.specs.GateRule.{rests, is_silent, may_hold, GateScene, gate_scene, GateRule}
 use Rattle.rule_base.specs.GateSteps.{announce, CanAnnounce, load_gate, CanLoadGate, departs, departed, depart, CanDepart, aim, CanAim, closed_at, take_gate, CanTakeGate, check, CanCheck, opened, reopen, CanReopen, seized, seize, CanSeize, returned, return_gate, CanReturn}
 use Rattle.rule_base.specs.InstallSteps.{HasChecked, install}
@@ -35,8 +35,12 @@ others-rest-at callers n s quiet r k other = go (ltb k callers) refl
     go false q = ap rests (r.far k (grind (arith, nat_tests)))
 
 -- a caller's number fits into the gate word
-pub holder-closed : (callers : ℕ) (s : GateScene) → GateRule callers s → (n : ℕ) → n < callers → (alg : Alg) → holder_of (gate_word (1 + n) alg) ≡ 1 + n
-holder-closed callers s r n low alg = let f = r.few in holder_of-gate (1 + n) alg (omega arith)
+pub holder-closed : (callers : ℕ) (s : GateScene) → GateRule callers s → (n : ℕ) → n < callers → (fence : ℕ) (alg : Alg) → holder_of (gate_word fence (1 + n) alg) ≡ 1 + n
+holder-closed callers s r n low fence alg = let f = r.few in holder_of-gate fence (1 + n) alg (omega arith)
+
+-- and so does its word
+pub closed-fits : (callers : ℕ) (s : GateScene) → GateRule callers s → (n : ℕ) → n < callers → 1 + n < 256
+closed-fits callers s r n low = let f = r.few in omega arith
 
 -- who isn't idle is a caller
 pub is-caller-at : (callers : ℕ) (s : GateScene) → GateRule callers s → (n : ℕ) → ((s.views n).phase ≡ Idle → ⊥) → n < callers
@@ -65,7 +69,9 @@ module _ (callers : ℕ) where
         checked = λ m k e. grind (arith, r.checked m k, e);
         seen = λ m k e. grind (arith, r.seen m k, e);
         named = λ m e. grind (arith, r.named m, e);
+        spared = λ m e. grind (arith, r.spared m, e);
         held = λ m e. grind (arith, r.held m, e);
+        guarded = λ m e. grind (arith, r.guarded m, e);
         formed = r.formed;
         aimed = λ m e. grind (arith, r.aimed m, e);
         few = r.few;
@@ -75,7 +81,7 @@ module _ (callers : ℕ) where
   pub load_gate-gate : (w : World) (n : ℕ) → CanLoadGate (w.views n) → GateRule callers (gate_scene w) → GateRule callers (gate_scene (world_after load_gate n w))
   load_gate-gate w n announced g = subst (GateRule callers) (sym (gate_scene-put w (world_after load_gate n w) n (view_after load_gate w (w.views n) w.gate) refl)) (law (gate_scene w) g announced)
     where
-      law : (s : GateScene) → GateRule callers s → (s.views n).phase ≡ Announced → GateRule callers (record s { views = put s.views n (record (s.views n) { phase = if holder_of s.gate == 0 then In else Turned; algorithm = alg_of s.gate }) })
+      law : (s : GateScene) → GateRule callers s → (s.views n).phase ≡ Announced → GateRule callers (record s { views = put s.views n (record (s.views n) { phase = if holder_of s.gate == 0 then In else Turned; algorithm = alg_of s.gate; fence = fence_of s.gate }) })
       law s r announced = record {
         quiet = λ m e. grind (arith, r.quiet m, e, announced);
         status = λ m. grind (arith, r.status m);
@@ -87,7 +93,9 @@ module _ (callers : ℕ) where
         checked = λ m k e. grind (arith, r.checked m k, e);
         seen = λ m k e. grind (arith, r.seen m k, r.checked m k, r.mine m, e);
         named = λ m e. grind (arith, r.named m, e);
+        spared = λ m e. grind (arith, r.spared m, e);
         held = λ m e. grind (arith, r.held m, r.holding m, e, announced);
+        guarded = λ m e. grind (arith, r.guarded m, r.holding m, e, announced);
         formed = r.formed;
         aimed = λ m e. grind (arith, r.aimed m, e);
         few = r.few;
@@ -111,7 +119,9 @@ module _ (callers : ℕ) where
         checked = λ m k e. grind (arith, r.checked m k, e);
         seen = λ m k e. grind (arith, r.seen m k, e, seen m);
         named = λ m e. grind (arith, r.named m, e, out);
+        spared = λ m e. grind (arith, r.spared m, e, out);
         held = λ m e. grind (arith, r.held m, e);
+        guarded = λ m e. grind (arith, r.guarded m, e);
         formed = r.formed;
         aimed = λ m e. grind (arith, r.aimed m, e, unaimed);
         few = r.few;
@@ -134,10 +144,10 @@ module _ (callers : ℕ) where
   aim-gate w n announced g = subst (GateRule callers) (sym (gate_scene-put w (world_after aim n w) n (view_after aim w (w.views n) w.gate) refl)) (law (gate_scene w) g announced)
     where
       -- an open gate's word is that of holder 0
-      open_word : (s : GateScene) → GateRule callers s → holder_of s.gate ≡ 0 → s.gate ≡ gate_word 0 (alg_of s.gate)
-      open_word s r e = r.formed ∙ ap (λ h. gate_word h (alg_of s.gate)) e
+      open_word : (s : GateScene) → GateRule callers s → holder_of s.gate ≡ 0 → s.gate ≡ gate_word (fence_of s.gate) 0 (alg_of s.gate)
+      open_word s r e = r.formed ∙ ap (λ h. gate_word (fence_of s.gate) h (alg_of s.gate)) e
 
-      law : (s : GateScene) → GateRule callers s → (s.views n).phase ≡ Announced → GateRule callers (record s { views = put s.views n (record (s.views n) { phase = if holder_of s.gate == 0 then Aiming else Turned; algorithm = alg_of s.gate; aim = s.gate }) })
+      law : (s : GateScene) → GateRule callers s → (s.views n).phase ≡ Announced → GateRule callers (record s { views = put s.views n (record (s.views n) { phase = if holder_of s.gate == 0 then Aiming else Turned; algorithm = alg_of s.gate; fence = fence_of s.gate; aim = s.gate }) })
       law s r announced = record {
         quiet = λ m e. grind (arith, r.quiet m, e, announced);
         status = λ m. grind (arith, r.status m);
@@ -149,7 +159,9 @@ module _ (callers : ℕ) where
         checked = λ m k e. grind (arith, r.checked m k, e);
         seen = λ m k e. grind (arith, r.seen m k, r.checked m k, r.mine m, e);
         named = λ m e. grind (arith, r.named m, e);
+        spared = λ m e. grind (arith, r.spared m, e);
         held = λ m e. grind (arith, r.held m, r.holding m, e, announced);
+        guarded = λ m e. grind (arith, r.guarded m, r.holding m, e, announced);
         formed = r.formed;
         aimed = λ m e. grind (arith, r.aimed m, e, open_word s r);
         few = r.few;
@@ -163,14 +175,16 @@ module _ (callers : ℕ) where
       next b = record (view_after (take_gate n word) w (w.views n) w.gate) { gate = if b then closed_at word (w.views n).gate else record (w.views n).gate { phase = Turned } }
 
       at : Bool → World
-      at b = record w { gate = if b then gate_word (1 + n) (alg_of word) else w.gate; views = put w.views n (next b) }
+      at b = record w { gate = if b then gate_word (fence_of word) (1 + n) (alg_of word) else w.gate; views = put w.views n (next b) }
 
       -- nobody holds the open gate, and nobody is seen
       law : (s : GateScene) → GateRule callers s → (s.views n).phase ≡ Aiming → s.gate ≡ word → holder_of s.gate ≡ 0
-          → GateRule callers (record s { gate = gate_word (1 + n) (alg_of word); views = put s.views n (closed_at word (s.views n)) })
+          → GateRule callers (record s { gate = gate_word (fence_of word) (1 + n) (alg_of word); views = put s.views n (closed_at word (s.views n)) })
       law s r aiming is free =
-          let h : holder_of (gate_word (1 + n) (alg_of word)) ≡ 1 + n = holder-closed callers s r n low (alg_of word) in
-          let a : alg_of (gate_word (1 + n) (alg_of word)) ≡ alg_of word = alg_of-gate (1 + n) (alg_of word) in
+          let h : holder_of (gate_word (fence_of word) (1 + n) (alg_of word)) ≡ 1 + n = holder-closed callers s r n low (fence_of word) (alg_of word) in
+          let a : alg_of (gate_word (fence_of word) (1 + n) (alg_of word)) ≡ alg_of word = alg_of-gate (fence_of word) (1 + n) (alg_of word) in
+          let f : fence_of (gate_word (fence_of word) (1 + n) (alg_of word)) ≡ fence_of word = fence_of-gate (fence_of word) (1 + n) (alg_of word) (closed-fits callers s r n low) in
+          let fence : fence_of s.gate ≡ fence_of word = ap fence_of is in
           let same : alg_of s.gate ≡ alg_of word = ap alg_of is in
           record {
             quiet = λ m e. grind (arith, r.quiet m, e);
@@ -183,9 +197,11 @@ module _ (callers : ℕ) where
             checked = λ m k e. grind (arith, r.checked m k, e);
             seen = λ m k e. grind (arith, r.seen m k, r.checked m k, r.mine m, e, free);
             named = λ m e. grind (arith, r.named m, e, a, same);
+            spared = λ m e. grind (arith, r.spared m, e, f, fence);
             held = λ m e. grind (arith, r.mine m, e, a, free);
-            formed = sym (ap (λ k. gate_word k (alg_of (gate_word (1 + n) (alg_of word)))) h ∙ ap (gate_word (1 + n)) a);
-            aimed = λ m e. grind (arith, r.aimed m, e, a, same);
+            guarded = λ m e. grind (arith, r.mine m, e, f, free);
+            formed = formed-gate (fence_of word) (1 + n) (alg_of word) (closed-fits callers s r n low);
+            aimed = λ m e. grind (arith, r.aimed m, e, a, same, f, fence);
             few = r.few;
             far = λ m e. grind (arith, r.far m, e, low);
           }
@@ -202,7 +218,9 @@ module _ (callers : ℕ) where
         checked = λ m k e. grind (arith, r.checked m k, e);
         seen = λ m k e. grind (arith, r.seen m k, e);
         named = λ m e. grind (arith, r.named m, e);
+        spared = λ m e. grind (arith, r.spared m, e);
         held = λ m e. grind (arith, r.held m, e);
+        guarded = λ m e. grind (arith, r.guarded m, e);
         formed = r.formed;
         aimed = λ m e. grind (arith, r.aimed m, e);
         few = r.few;
@@ -211,8 +229,8 @@ module _ (callers : ℕ) where
 
       go : (b : Bool) → (b ≡ true → w.gate ≡ word) → GateRule callers (gate_scene (at b))
       go true e =
-          let aimed : word ≡ gate_word 0 (alg_of w.gate) = sym may.aimed ∙ g.aimed n may.phase in
-          let free : holder_of w.gate ≡ 0 = ap holder_of (e refl ∙ aimed) ∙ holder_of-open (alg_of w.gate) in
+          let aimed : word ≡ gate_word (fence_of w.gate) 0 (alg_of w.gate) = sym may.aimed ∙ g.aimed n may.phase in
+          let free : holder_of w.gate ≡ 0 = ap holder_of (e refl ∙ aimed) ∙ holder_of-open (fence_of w.gate) (alg_of w.gate) in
           subst (GateRule callers) (sym (gate_scene-put w (at true) n (next true) refl)) (law (gate_scene w) g may.phase (e refl) free)
       go false e = subst (GateRule callers) (sym (gate_scene-put w (at false) n (next false) refl)) (refused (gate_scene w) g may.phase)
 
@@ -243,7 +261,9 @@ module _ (callers : ℕ) where
         checked = λ m j e. grind (arith, r.checked m j, e, holds);
         seen = λ m j e. grind (arith, r.seen m j, e, rest j);
         named = λ m e. grind (arith, r.named m, e);
+        spared = λ m e. grind (arith, r.spared m, e);
         held = λ m e. grind (arith, r.held m, e);
+        guarded = λ m e. grind (arith, r.guarded m, e);
         formed = r.formed;
         aimed = λ m e. grind (arith, r.aimed m, e);
         few = r.few;
@@ -258,14 +278,15 @@ module _ (callers : ℕ) where
       go s true zero r holds = law s (k ∷ (s.views n).checked) r holds (λ j e. one_more s j r (idle s r holds (zero refl)) e)
       go s false zero r holds = law s (s.views n).checked r holds (r.seen n)
 
-  pub reopen-gate : (alg : Alg) (w : World) (n : ℕ) → CanReopen alg (w.views n) → GateRule callers (gate_scene w) → GateRule callers (gate_scene (world_after (reopen alg) n w))
-  reopen-gate alg w n may g = subst (GateRule callers) (sym (gate_scene-put w (world_after (reopen alg) n w) n (view_after (reopen alg) w (w.views n) (gate_word 0 alg)) refl))
-      (law (gate_scene w) g (g.closing n may.phase) (g.held n (g.closing n may.phase) ∙ may.named) may.absent)
+  pub reopen-gate : (fence : ℕ) (alg : Alg) (w : World) (n : ℕ) → CanReopen fence alg (w.views n) → GateRule callers (gate_scene w) → GateRule callers (gate_scene (world_after (reopen fence alg) n w))
+  reopen-gate fence alg w n may g = subst (GateRule callers) (sym (gate_scene-put w (world_after (reopen fence alg) n w) n (view_after (reopen fence alg) w (w.views n) (gate_word fence 0 alg)) refl))
+      (law (gate_scene w) g (g.closing n may.phase) (g.held n (g.closing n may.phase) ∙ may.named) (g.guarded n (g.closing n may.phase) ∙ may.guarded) may.absent)
     where
-      law : (s : GateScene) → GateRule callers s → (s.views n).holds ≡ true → alg_of s.gate ≡ alg → (s.views n).present ≡ false → GateRule callers (record s { gate = gate_word 0 alg; views = put s.views n (opened (s.views n)) })
-      law s r holds same gone =
-          let h : holder_of (gate_word 0 alg) ≡ 0 = holder_of-open alg in
-          let a : alg_of (gate_word 0 alg) ≡ alg = alg_of-gate 0 alg in
+      law : (s : GateScene) → GateRule callers s → (s.views n).holds ≡ true → alg_of s.gate ≡ alg → fence_of s.gate ≡ fence → (s.views n).present ≡ false → GateRule callers (record s { gate = gate_word fence 0 alg; views = put s.views n (opened (s.views n)) })
+      law s r holds same kept gone =
+          let h : holder_of (gate_word fence 0 alg) ≡ 0 = holder_of-open fence alg in
+          let a : alg_of (gate_word fence 0 alg) ≡ alg = alg_of-gate fence 0 alg in
+          let f : fence_of (gate_word fence 0 alg) ≡ fence = fence_of-open fence alg in
           record {
             quiet = λ m e. grind (arith, r.quiet m, e);
             status = λ m. grind (arith, r.status m);
@@ -277,22 +298,26 @@ module _ (callers : ℕ) where
             checked = λ m k e. grind (arith, r.checked m k, e);
             seen = λ m k e. grind (arith, r.seen m k, e);
             named = λ m e. grind (arith, r.named m, e, a, same);
+            spared = λ m e. grind (arith, r.spared m, e, f, kept);
             held = λ m e. grind (arith, r.held m, e, a, same);
-            formed = sym (ap (λ k. gate_word k (alg_of (gate_word 0 alg))) h ∙ ap (gate_word 0) a);
-            aimed = λ m e. grind (arith, r.aimed m, e, a, same);
+            guarded = λ m e. grind (arith, r.guarded m, e, f, kept);
+            formed = formed-gate fence 0 alg (omega arith);
+            aimed = λ m e. grind (arith, r.aimed m, e, a, same, f, kept);
             few = r.few;
             far = λ m e. grind (arith, r.far m, e);
           }
 
-  pub install-gate : (alg : Alg) (w : World) (n : ℕ) → (w.views n).gate.phase ≡ Closing → HasChecked callers n (w.views n) → GateRule callers (gate_scene w) → GateRule callers (gate_scene (world_after (install n alg) n w))
-  install-gate alg w n closing quiet g = subst (GateRule callers) (sym (gate_scene-put w (world_after (install n alg) n w) n (view_after (install n alg) w (w.views n) (gate_word (1 + n) alg)) refl))
-      (law (gate_scene w) g closing (g.closing n closing) (others-rest w n quiet g))
+  pub install-gate : (fence : ℕ) (alg : Alg) (w : World) (n : ℕ) → (w.views n).gate.fence ≡ fence → (w.views n).gate.phase ≡ Closing → HasChecked callers n (w.views n) → GateRule callers (gate_scene w) → GateRule callers (gate_scene (world_after (install n fence alg) n w))
+  install-gate fence alg w n guards closing quiet g = subst (GateRule callers) (sym (gate_scene-put w (world_after (install n fence alg) n w) n (view_after (install n fence alg) w (w.views n) (gate_word fence (1 + n) alg)) refl))
+      (law (gate_scene w) g closing (g.guarded n (g.closing n closing) ∙ guards) (g.closing n closing) (others-rest w n quiet g))
     where
-      law : (s : GateScene) → GateRule callers s → (s.views n).phase ≡ Closing → (s.views n).holds ≡ true → ((k : ℕ) → k ≢ n → rests (s.views k).phase ≡ true)
-          → GateRule callers (record s { gate = gate_word (1 + n) alg; views = put s.views n (record (s.views n) { algorithm = alg }) })
-      law s r closing holds out =
-          let h : holder_of (gate_word (1 + n) alg) ≡ 1 + n = holder-closed callers s r n (is-caller-at callers s r n (λ idle. let e : Closing ≡ Idle = sym closing ∙ idle in cc)) alg in
-          let a : alg_of (gate_word (1 + n) alg) ≡ alg = alg_of-gate (1 + n) alg in
+      law : (s : GateScene) → GateRule callers s → (s.views n).phase ≡ Closing → fence_of s.gate ≡ fence → (s.views n).holds ≡ true → ((k : ℕ) → k ≢ n → rests (s.views k).phase ≡ true)
+          → GateRule callers (record s { gate = gate_word fence (1 + n) alg; views = put s.views n (record (s.views n) { algorithm = alg }) })
+      law s r closing kept holds out =
+          let low : n < callers = is-caller-at callers s r n (λ idle. let e : Closing ≡ Idle = sym closing ∙ idle in cc) in
+          let h : holder_of (gate_word fence (1 + n) alg) ≡ 1 + n = holder-closed callers s r n low fence alg in
+          let a : alg_of (gate_word fence (1 + n) alg) ≡ alg = alg_of-gate fence (1 + n) alg in
+          let f : fence_of (gate_word fence (1 + n) alg) ≡ fence = fence_of-gate fence (1 + n) alg (closed-fits callers s r n low) in
           record {
             quiet = λ m e. grind (arith, r.quiet m, e);
             status = λ m. grind (arith, r.status m);
@@ -304,28 +329,66 @@ module _ (callers : ℕ) where
             checked = λ m k e. grind (arith, r.checked m k, e);
             seen = λ m k e. grind (arith, r.seen m k, e);
             named = λ m e. grind (arith, out m, e, a, closing);
+            spared = λ m e. grind (arith, out m, e, closing);
             held = λ m e. grind (arith, r.mine m, r.mine n holds, e, a);
-            formed = sym (ap (λ k. gate_word k (alg_of (gate_word (1 + n) alg))) h ∙ ap (gate_word (1 + n)) a);
+            guarded = λ m e. grind (arith, r.mine m, r.mine n holds, e, f);
+            formed = formed-gate fence (1 + n) alg (closed-fits callers s r n low);
             aimed = λ m e. grind (arith, out m, e, closing);
             few = r.few;
             far = λ m e. grind (arith, r.far m, e);
           }
 
-  pub seize-gate : (alg : Alg) (w : World) (n : ℕ) → CanSeize alg (w.views n) → GateRule callers (gate_scene w) → GateRule callers (gate_scene (world_after (seize n alg) n w))
-  seize-gate alg w n may g = go (eqb w.gate (gate_word 0 alg)) (λ e. eqb-true w.gate (gate_word 0 alg) e)
+  -- who is alone changes the fence
+  pub fence-gate : (number : ℕ) (giving : Bool) (alg : Alg) (w x : World) (n : ℕ) (v : View) → x.views ≡ put w.views n v → x.status ≡ w.status → x.gate ≡ gate_word number (1 + n) alg → v.gate ≡ record (w.views n).gate { fence = number; giving = giving } → (w.views n).gate.algorithm ≡ alg → (w.views n).gate.phase ≡ Closing → HasChecked callers n (w.views n) → GateRule callers (gate_scene w) → GateRule callers (gate_scene x)
+  fence-gate number giving alg w x n v is status gate own named closing quiet g = subst (GateRule callers) (sym path) (law (gate_scene w) g closing (g.held n (g.closing n closing) ∙ named) named (g.closing n closing) (others-rest w n quiet g))
+    where
+      path : gate_scene x ≡ record { status = w.status; gate = gate_word number (1 + n) alg; views = put (gate_scene w).views n (record (w.views n).gate { fence = number; giving = giving }) }
+      path = λ i. record { status = status i; gate = gate i; views = (ap (parts (λ (u : View). u.gate)) is ∙ (parts-put (λ (u : View). u.gate) w.views n v ∙ ap (put (gate_scene w).views n) own)) i }
+
+      law : (s : GateScene) → GateRule callers s → (s.views n).phase ≡ Closing → alg_of s.gate ≡ alg → (s.views n).algorithm ≡ alg → (s.views n).holds ≡ true → ((k : ℕ) → k ≢ n → rests (s.views k).phase ≡ true)
+          → GateRule callers (record s { gate = gate_word number (1 + n) alg; views = put s.views n (record (s.views n) { fence = number; giving = giving }) })
+      law s r closing same named holds out =
+          let low : n < callers = is-caller-at callers s r n (λ idle. let e : Closing ≡ Idle = sym closing ∙ idle in cc) in
+          let h : holder_of (gate_word number (1 + n) alg) ≡ 1 + n = holder-closed callers s r n low number alg in
+          let a : alg_of (gate_word number (1 + n) alg) ≡ alg = alg_of-gate number (1 + n) alg in
+          let f : fence_of (gate_word number (1 + n) alg) ≡ number = fence_of-gate number (1 + n) alg (closed-fits callers s r n low) in
+          record {
+            quiet = λ m e. grind (arith, r.quiet m, e);
+            status = λ m. grind (arith, r.status m);
+            absent = λ m e. grind (arith, r.absent m, e);
+            mine = λ m e. grind (arith, r.mine m, r.mine n holds, e, h);
+            owner = λ m e. grind (arith, e, h, holds);
+            holding = λ m e. grind (arith, r.holding m, e);
+            closing = λ m e. grind (arith, r.closing m, e);
+            checked = λ m k e. grind (arith, r.checked m k, e);
+            seen = λ m k e. grind (arith, r.seen m k, e);
+            named = λ m e. grind (arith, out m, e, closing);
+            spared = λ m e. grind (arith, out m, e, closing);
+            held = λ m e. grind (arith, r.mine m, r.mine n holds, e, a, named);
+            guarded = λ m e. grind (arith, r.mine m, r.mine n holds, e, f);
+            formed = formed-gate number (1 + n) alg (closed-fits callers s r n low);
+            aimed = λ m e. grind (arith, out m, e, closing);
+            few = r.few;
+            far = λ m e. grind (arith, r.far m, e);
+          }
+
+  pub seize-gate : (fence : ℕ) (alg : Alg) (w : World) (n : ℕ) → CanSeize fence alg (w.views n) → GateRule callers (gate_scene w) → GateRule callers (gate_scene (world_after (seize n fence alg) n w))
+  seize-gate fence alg w n may g = go (eqb w.gate (gate_word fence 0 alg)) (λ e. eqb-true w.gate (gate_word fence 0 alg) e)
     where
       next : Bool → View
-      next b = record (view_after (seize n alg) w (w.views n) w.gate) { gate = if b then seized (w.views n).gate else (w.views n).gate }
+      next b = record (view_after (seize n fence alg) w (w.views n) w.gate) { gate = if b then seized (w.views n).gate else (w.views n).gate }
 
       at : Bool → World
-      at b = record w { gate = if b then gate_word (1 + n) alg else w.gate; views = put w.views n (next b) }
+      at b = record w { gate = if b then gate_word fence (1 + n) alg else w.gate; views = put w.views n (next b) }
 
       -- nobody holds the open gate, and nobody is seen
-      law : (s : GateScene) → GateRule callers s → (s.views n).phase ≡ In → (s.views n).algorithm ≡ alg → holder_of s.gate ≡ 0 → alg_of s.gate ≡ alg
-          → GateRule callers (record s { gate = gate_word (1 + n) alg; views = put s.views n (seized (s.views n)) })
-      law s r inside named free same =
-          let h : holder_of (gate_word (1 + n) alg) ≡ 1 + n = holder-closed callers s r n (is-caller-at callers s r n (λ idle. let e : In ≡ Idle = sym inside ∙ idle in cc)) alg in
-          let a : alg_of (gate_word (1 + n) alg) ≡ alg = alg_of-gate (1 + n) alg in
+      law : (s : GateScene) → GateRule callers s → (s.views n).phase ≡ In → (s.views n).algorithm ≡ alg → holder_of s.gate ≡ 0 → alg_of s.gate ≡ alg → fence_of s.gate ≡ fence → (s.views n).fence ≡ fence
+          → GateRule callers (record s { gate = gate_word fence (1 + n) alg; views = put s.views n (seized (s.views n)) })
+      law s r inside named free same kept own =
+          let low : n < callers = is-caller-at callers s r n (λ idle. let e : In ≡ Idle = sym inside ∙ idle in cc) in
+          let h : holder_of (gate_word fence (1 + n) alg) ≡ 1 + n = holder-closed callers s r n low fence alg in
+          let a : alg_of (gate_word fence (1 + n) alg) ≡ alg = alg_of-gate fence (1 + n) alg in
+          let f : fence_of (gate_word fence (1 + n) alg) ≡ fence = fence_of-gate fence (1 + n) alg (closed-fits callers s r n low) in
           record {
             quiet = λ m e. grind (arith, r.quiet m, e);
             status = λ m. grind (arith, r.status m);
@@ -337,28 +400,32 @@ module _ (callers : ℕ) where
             checked = λ m k e. grind (arith, r.checked m k, e);
             seen = λ m k e. grind (arith, r.seen m k, r.checked m k, r.mine m, e, free);
             named = λ m e. grind (arith, r.named m, e, a, same);
+            spared = λ m e. grind (arith, r.spared m, e, f, kept);
             held = λ m e. grind (arith, r.mine m, e, a, free, named);
-            formed = sym (ap (λ k. gate_word k (alg_of (gate_word (1 + n) alg))) h ∙ ap (gate_word (1 + n)) a);
-            aimed = λ m e. grind (arith, r.aimed m, e, a, same);
+            guarded = λ m e. grind (arith, r.mine m, e, f, free, own);
+            formed = formed-gate fence (1 + n) alg (closed-fits callers s r n low);
+            aimed = λ m e. grind (arith, r.aimed m, e, a, same, f, kept);
             few = r.few;
             far = λ m e. grind (arith, r.far m, e, inside);
           }
 
-      go : (b : Bool) → (b ≡ true → w.gate ≡ gate_word 0 alg) → GateRule callers (gate_scene (at b))
+      go : (b : Bool) → (b ≡ true → w.gate ≡ gate_word fence 0 alg) → GateRule callers (gate_scene (at b))
       go true e =
-          let free : holder_of w.gate ≡ 0 = ap holder_of (e refl) ∙ holder_of-open alg in
-          let same : alg_of w.gate ≡ alg = ap alg_of (e refl) ∙ alg_of-gate 0 alg in
-          subst (GateRule callers) (sym (gate_scene-put w (at true) n (next true) refl)) (law (gate_scene w) g may.phase may.named free same)
+          let free : holder_of w.gate ≡ 0 = ap holder_of (e refl) ∙ holder_of-open fence alg in
+          let same : alg_of w.gate ≡ alg = ap alg_of (e refl) ∙ alg_of-gate fence 0 alg in
+          let kept : fence_of w.gate ≡ fence = ap fence_of (e refl) ∙ fence_of-open fence alg in
+          subst (GateRule callers) (sym (gate_scene-put w (at true) n (next true) refl)) (law (gate_scene w) g may.phase may.named free same kept may.spared)
       go false e = subst (GateRule callers) (sym (gate_scene-kept w (at false) n (next false) refl refl refl refl)) g
 
-  pub return_gate-gate : (alg : Alg) (w : World) (n : ℕ) → CanReturn alg (w.views n) → GateRule callers (gate_scene w) → GateRule callers (gate_scene (world_after (return_gate alg) n w))
-  return_gate-gate alg w n may g = subst (GateRule callers) (sym (gate_scene-put w (world_after (return_gate alg) n w) n (view_after (return_gate alg) w (w.views n) (gate_word 0 alg)) refl))
-      (law (gate_scene w) g may.holds (g.held n may.holds ∙ may.named) may.phase)
+  pub return_gate-gate : (fence : ℕ) (alg : Alg) (w : World) (n : ℕ) → CanReturn fence alg (w.views n) → GateRule callers (gate_scene w) → GateRule callers (gate_scene (world_after (return_gate fence alg) n w))
+  return_gate-gate fence alg w n may g = subst (GateRule callers) (sym (gate_scene-put w (world_after (return_gate fence alg) n w) n (view_after (return_gate fence alg) w (w.views n) (gate_word fence 0 alg)) refl))
+      (law (gate_scene w) g may.holds (g.held n may.holds ∙ may.named) (g.guarded n may.holds ∙ may.spared) may.phase)
     where
-      law : (s : GateScene) → GateRule callers s → (s.views n).holds ≡ true → alg_of s.gate ≡ alg → (s.views n).phase ≡ In → GateRule callers (record s { gate = gate_word 0 alg; views = put s.views n (returned (s.views n)) })
-      law s r holds same inside =
-          let h : holder_of (gate_word 0 alg) ≡ 0 = holder_of-open alg in
-          let a : alg_of (gate_word 0 alg) ≡ alg = alg_of-gate 0 alg in
+      law : (s : GateScene) → GateRule callers s → (s.views n).holds ≡ true → alg_of s.gate ≡ alg → fence_of s.gate ≡ fence → (s.views n).phase ≡ In → GateRule callers (record s { gate = gate_word fence 0 alg; views = put s.views n (returned (s.views n)) })
+      law s r holds same kept inside =
+          let h : holder_of (gate_word fence 0 alg) ≡ 0 = holder_of-open fence alg in
+          let a : alg_of (gate_word fence 0 alg) ≡ alg = alg_of-gate fence 0 alg in
+          let f : fence_of (gate_word fence 0 alg) ≡ fence = fence_of-open fence alg in
           record {
             quiet = λ m e. grind (arith, r.quiet m, e);
             status = λ m. grind (arith, r.status m);
@@ -370,24 +437,26 @@ module _ (callers : ℕ) where
             checked = λ m k e. grind (arith, r.checked m k, e);
             seen = λ m k e. grind (arith, r.seen m k, e);
             named = λ m e. grind (arith, r.named m, e, a, same);
+            spared = λ m e. grind (arith, r.spared m, e, f, kept);
             held = λ m e. grind (arith, r.held m, e, a, same);
-            formed = sym (ap (λ k. gate_word k (alg_of (gate_word 0 alg))) h ∙ ap (gate_word 0) a);
-            aimed = λ m e. grind (arith, r.aimed m, e, a, same);
+            guarded = λ m e. grind (arith, r.guarded m, e, f, kept);
+            formed = formed-gate fence 0 alg (omega arith);
+            aimed = λ m e. grind (arith, r.aimed m, e, a, same, f, kept);
             few = r.few;
             far = λ m e. grind (arith, r.far m, e, inside);
           }
 
   -- a step that changes what its caller knows as the gate's holder, and nothing else at the gate
   pub gate-marked : (w x : World) (n : ℕ) (v : View) → x.views ≡ put w.views n v → x.status ≡ w.status → x.gate ≡ w.gate
-      → v.gate.phase ≡ (w.views n).gate.phase → v.gate.present ≡ (w.views n).gate.present → v.gate.algorithm ≡ (w.views n).gate.algorithm → v.gate.aim ≡ (w.views n).gate.aim → v.gate.holds ≡ (w.views n).gate.holds → v.gate.checked ≡ (w.views n).gate.checked
+      → v.gate.phase ≡ (w.views n).gate.phase → v.gate.present ≡ (w.views n).gate.present → v.gate.algorithm ≡ (w.views n).gate.algorithm → v.gate.fence ≡ (w.views n).gate.fence → v.gate.aim ≡ (w.views n).gate.aim → v.gate.holds ≡ (w.views n).gate.holds → v.gate.checked ≡ (w.views n).gate.checked
       → GateRule callers (gate_scene w) → GateRule callers (gate_scene x)
-  gate-marked w x n v is status gate phase present algorithm aim holds checked r = subst (GateRule callers) (sym path) (law (gate_scene w) v.gate r phase present algorithm aim holds checked)
+  gate-marked w x n v is status gate phase present algorithm fence aim holds checked r = subst (GateRule callers) (sym path) (law (gate_scene w) v.gate r phase present algorithm fence aim holds checked)
     where
       path : gate_scene x ≡ record (gate_scene w) { views = put (gate_scene w).views n v.gate }
       path = λ i. record { status = status i; gate = gate i; views = (ap (parts (λ (u : View). u.gate)) is ∙ parts-put (λ (u : View). u.gate) w.views n v) i }
 
-      law : (s : GateScene) (k : GateView) → GateRule callers s → k.phase ≡ (s.views n).phase → k.present ≡ (s.views n).present → k.algorithm ≡ (s.views n).algorithm → k.aim ≡ (s.views n).aim → k.holds ≡ (s.views n).holds → k.checked ≡ (s.views n).checked → GateRule callers (record s { views = put s.views n k })
-      law s k r phase present algorithm aim holds checked = record {
+      law : (s : GateScene) (k : GateView) → GateRule callers s → k.phase ≡ (s.views n).phase → k.present ≡ (s.views n).present → k.algorithm ≡ (s.views n).algorithm → k.fence ≡ (s.views n).fence → k.aim ≡ (s.views n).aim → k.holds ≡ (s.views n).holds → k.checked ≡ (s.views n).checked → GateRule callers (record s { views = put s.views n k })
+      law s k r phase present algorithm fence aim holds checked = record {
         quiet = λ m e. grind (arith, r.quiet m, e, phase);
         status = put-all s.views n k (λ m u. s.status m ≡ (if u.present then announced else 0)) (r.status n ∙ ap (λ (b : Bool). if b then announced else 0) (sym present)) (λ m d. r.status m);
         absent = put-all s.views n k (λ m u. u.phase ≡ Idle → u.present ≡ false) (λ e. present ∙ r.absent n (sym phase ∙ e)) (λ m d. r.absent m);
@@ -398,7 +467,9 @@ module _ (callers : ℕ) where
         checked = λ m j e. grind (arith, r.checked m j, e, checked, holds);
         seen = λ m j e. grind (arith, r.seen m j, e, checked, phase);
         named = λ m e. grind (arith, r.named m, e, phase, algorithm);
+        spared = λ m e. grind (arith, r.spared m, e, phase, fence);
         held = λ m e. grind (arith, r.held m, e, holds, algorithm);
+        guarded = λ m e. grind (arith, r.guarded m, e, holds, fence);
         formed = r.formed;
         aimed = λ m e. grind (arith, r.aimed m, e, phase, aim);
         few = r.few;

@@ -6,7 +6,7 @@ use Rattle.rule_base.specs.declared.views.GateView.{GateView}
 use Rattle.rule_base.specs.declared.views.Phase.{Phase}
 use Rattle.rule_base.specs.declared.views.Phase.TheVariants.{Idle, Announced, Turned, Aiming, In, Closing}
 use Rattle.rule_base.specs.declared.views.View.{View}
-use Rattle.rule_base.specs.Encodings.{alg_of, holder_of, gate_word, announced}
+use Rattle.rule_base.specs.Encodings.{alg_of, holder_of, fence_of, gate_word, announced}
 use Rattle.rule_base.specs.StepKinds.{StepKind, same_history}
 use Rattle.rule_base.specs.declared.views.Act.TheVariants.{Load, Store, Exchange}
 
@@ -30,7 +30,7 @@ abbrev pub load_gate : StepKind
 load_gate = record {
   place = Gate;
   act = Load;
-  after = λ w v gate. record v { gate = record v.gate { phase = if holder_of gate == 0 then In else Turned; algorithm = alg_of gate } };
+  after = λ w v gate. record v { gate = record v.gate { phase = if holder_of gate == 0 then In else Turned; algorithm = alg_of gate; fence = fence_of gate } };
   grown = same_history;
 }
 
@@ -74,7 +74,7 @@ abbrev pub aim : StepKind
 aim = record {
   place = Gate;
   act = Load;
-  after = λ w v gate. record v { gate = record v.gate { phase = if holder_of gate == 0 then Aiming else Turned; algorithm = alg_of gate; aim = gate } };
+  after = λ w v gate. record v { gate = record v.gate { phase = if holder_of gate == 0 then Aiming else Turned; algorithm = alg_of gate; fence = fence_of gate; aim = gate } };
   grown = same_history;
 }
 
@@ -83,13 +83,13 @@ CanAim v = v.gate.phase ≡ Announced
 
 -- the caller has closed the gate that had this word, and has seen nobody idle since
 abbrev pub closed_at : ℕ → GateView → GateView
-closed_at word g = record g { phase = Closing; algorithm = alg_of word; holds = true; checked = []; calm = false; rebased = false; completed = false }
+closed_at word g = record g { phase = Closing; algorithm = alg_of word; fence = fence_of word; holds = true; checked = []; calm = false; rebased = false; completed = false; giving = false }
 
 -- exchange the gate, the open word aimed at for the own one
 abbrev pub take_gate : ℕ → ℕ → StepKind
 take_gate n word = record {
   place = Gate;
-  act = Exchange word (gate_word (1 + n) (alg_of word));
+  act = Exchange word (gate_word (fence_of word) (1 + n) (alg_of word));
   after = λ w v found. record v { gate = if found == word then closed_at word v.gate else record v.gate { phase = Turned } };
   grown = same_history;
 }
@@ -113,22 +113,24 @@ pub record CanCheck (n k : ℕ) (v : View) : Type 0 where
 
 -- the caller no longer holds the gate
 abbrev pub opened : GateView → GateView
-opened g = record g { phase = Idle; holds = false; checked = []; calm = false; rebased = false; completed = false }
+opened g = record g { phase = Idle; holds = false; checked = []; calm = false; rebased = false; completed = false; giving = false }
 
 -- store the open gate
-abbrev pub reopen : Alg → StepKind
-reopen alg = record {
+abbrev pub reopen : ℕ → Alg → StepKind
+reopen fence alg = record {
   place = Gate;
-  act = Store (gate_word 0 alg);
+  act = Store (gate_word fence 0 alg);
   after = λ w v x. record v { gate = opened v.gate };
   grown = same_history;
 }
 
-pub record CanReopen (alg : Alg) (v : View) : Type 0 where
+pub record CanReopen (fence : ℕ) (alg : Alg) (v : View) : Type 0 where
   pub phase : v.gate.phase ≡ Closing
   -- its own status is 0 already: who is idle has no other
   pub absent : v.gate.present ≡ false
   pub named : v.gate.algorithm ≡ alg
+  pub guarded : v.gate.fence ≡ fence
+  pub ungiven : v.gate.giving ≡ false
   -- BASE and DONE have each number of the clock that the caller stored
   pub unentered : v.attempt.entered ≡ false
 
@@ -146,20 +148,21 @@ CanLookGate v = v.gate.phase ≡ In
 
 -- the caller holds the gate, in its attempt, and has seen nobody idle since
 abbrev pub seized : GateView → GateView
-seized g = record g { holds = true; checked = []; calm = false; rebased = false; completed = false }
+seized g = record g { holds = true; checked = []; calm = false; rebased = false; completed = false; giving = false }
 
 -- exchange the gate, open for the own word, to promote the attempt
-abbrev pub seize : ℕ → Alg → StepKind
-seize n alg = record {
+abbrev pub seize : ℕ → ℕ → Alg → StepKind
+seize n fence alg = record {
   place = Gate;
-  act = Exchange (gate_word 0 alg) (gate_word (1 + n) alg);
-  after = λ w v found. record v { gate = if found == gate_word 0 alg then seized v.gate else v.gate };
+  act = Exchange (gate_word fence 0 alg) (gate_word fence (1 + n) alg);
+  after = λ w v found. record v { gate = if found == gate_word fence 0 alg then seized v.gate else v.gate };
   grown = same_history;
 }
 
-pub record CanSeize (alg : Alg) (v : View) : Type 0 where
+pub record CanSeize (fence : ℕ) (alg : Alg) (v : View) : Type 0 where
   pub phase : v.gate.phase ≡ In
   pub named : v.gate.algorithm ≡ alg
+  pub spared : v.gate.fence ≡ fence
   pub free : v.gate.holds ≡ false
 
 -- the attempt was promoted, at this clock
@@ -168,21 +171,22 @@ granted_at clock g = record g { calm = true; time = clock; rebased = false; comp
 
 -- the caller no longer holds the gate, and its attempt is over but for its status
 abbrev pub returned : GateView → GateView
-returned g = record g { holds = false; checked = []; calm = false; rebased = false; completed = false; granted = false }
+returned g = record g { holds = false; checked = []; calm = false; rebased = false; completed = false; granted = false; giving = false }
 
 -- store the open gate at the end of an attempt that holds it
-abbrev pub return_gate : Alg → StepKind
-return_gate alg = record {
+abbrev pub return_gate : ℕ → Alg → StepKind
+return_gate fence alg = record {
   place = Gate;
-  act = Store (gate_word 0 alg);
+  act = Store (gate_word fence 0 alg);
   after = λ w v x. record v { gate = returned v.gate; attempt = record v.attempt { entered = false }; tml = record v.tml { inside = false }; owned = record v.owned { inside = false }; ring_read = record v.ring_read { inside = false } };
   grown = same_history;
 }
 
-pub record CanReturn (alg : Alg) (v : View) : Type 0 where
+pub record CanReturn (fence : ℕ) (alg : Alg) (v : View) : Type 0 where
   pub phase : v.gate.phase ≡ In
   pub holds : v.gate.holds ≡ true
   pub named : v.gate.algorithm ≡ alg
+  pub spared : v.gate.fence ≡ fence
   -- the time of its entry is in BASE and in DONE
   pub marked : v.attempt.entered ≡ true → (v.gate.rebased ≡ true) × (v.gate.completed ≡ true)
   -- nothing of the attempt is left in the heap, in the lock or in the records

@@ -5,7 +5,7 @@ use Rattle.std.proofs.lemmas.Bool.Decides.{nat_tests}
 use Rattle.stm_model.specs.declared.alg.Alg.{Alg}
 use Rattle.stm_model.specs.declared.config.Config.{Config}
 use Rattle.rule_base.specs.declared.views.GateView.{GateView}
-use Rattle.rule_base.specs.declared.views.Phase.TheVariants.{In}
+use Rattle.rule_base.specs.declared.views.Phase.TheVariants.{In, Closing}
 use Rattle.rule_base.specs.declared.views.View.{View}
 use Rattle.rule_base.specs.Encodings.{gate_word}
 use Rattle.rule_base.specs.GateRule.{rests, GateRule, gate_scene}
@@ -26,8 +26,8 @@ install_scene-kept w x n v is clock base done own = λ i. record { clock = clock
 
 module _ (c : Config) where
   -- who doesn't hold the gate hasn't loaded the clock since, nor stored it, and isn't promoted
-  pub not-calm : (s : InstallScene) (n : ℕ) → InstallRule c s → (s.views n).holds ≡ false → ((s.views n).calm ≡ false) × ((s.views n).rebased ≡ false) × ((s.views n).completed ≡ false) × ((s.views n).granted ≡ false)
-  not-calm s n r free = (calm (s.views n).calm refl, rebased (s.views n).rebased refl, completed (s.views n).completed refl, granted (s.views n).granted refl)
+  pub not-calm : (s : InstallScene) (n : ℕ) → InstallRule c s → (s.views n).holds ≡ false → ((s.views n).calm ≡ false) × ((s.views n).rebased ≡ false) × ((s.views n).completed ≡ false) × ((s.views n).granted ≡ false) × ((s.views n).giving ≡ false)
+  not-calm s n r free = (calm (s.views n).calm refl, rebased (s.views n).rebased refl, completed (s.views n).completed refl, granted (s.views n).granted refl, giving (s.views n).giving refl)
     where
       out : (s.views n).calm ≡ true → ⊥
       out e = let p : true ≡ false = sym (r.holding n e) ∙ free in cc
@@ -48,15 +48,20 @@ module _ (c : Config) where
       granted true e = absurd (out (r.promoted n e).0)
       granted false e = refl
 
+      giving : (b : Bool) → (s.views n).giving ≡ b → b ≡ false
+      giving true e = absurd (out (r.giving n e).0)
+      giving false e = refl
+
   -- a step after which the caller has not loaded the clock as the gate's holder
-  pub install-view : (w x : World) (n : ℕ) (g : GateView) (v : View) → x.views ≡ put w.views n v → x.clock ≡ w.clock → x.base ≡ w.base → x.done ≡ w.done → v.gate ≡ g → g.calm ≡ false → g.rebased ≡ false → g.completed ≡ false → g.granted ≡ false
+  pub install-view : (w x : World) (n : ℕ) (g : GateView) (v : View) → x.views ≡ put w.views n v → x.clock ≡ w.clock → x.base ≡ w.base → x.done ≡ w.done → v.gate ≡ g → g.calm ≡ false → g.rebased ≡ false → g.completed ≡ false → g.granted ≡ false → g.giving ≡ false
       → InstallRule c (install_scene w) → InstallRule c (install_scene x)
-  install-view w x n g v is clock base done own calm rebased completed granted r = subst (InstallRule c) (sym path) (record {
+  install-view w x n g v is clock base done own calm rebased completed granted giving r = subst (InstallRule c) (sym path) (record {
     base = r.base;
     done = r.done;
     opened = r.opened;
     holding = λ m e. grind (arith, r.holding m, e, calm);
     promoted = λ m e. grind (arith, r.promoted m, e, granted);
+    giving = λ m e. grind (arith, r.giving m, e, giving);
     alone = λ m k e. grind (arith, r.alone m k, e, calm);
     time = λ m e. grind (arith, r.time m, e, calm);
     rebased = λ m e. grind (arith, r.rebased m, e, rebased);
@@ -68,10 +73,10 @@ module _ (c : Config) where
 
   -- a step of a caller that doesn't hold the gate, which leaves what it knows as a holder alone
   pub install-apart : (w x : World) (n : ℕ) (v : View) → x.views ≡ put w.views n v → x.clock ≡ w.clock → x.base ≡ w.base → x.done ≡ w.done → (w.views n).gate.holds ≡ false
-      → v.gate.calm ≡ (w.views n).gate.calm → v.gate.rebased ≡ (w.views n).gate.rebased → v.gate.completed ≡ (w.views n).gate.completed → v.gate.granted ≡ (w.views n).gate.granted → InstallRule c (install_scene w) → InstallRule c (install_scene x)
-  install-apart w x n v is clock base done out calm rebased completed granted r =
+      → v.gate.calm ≡ (w.views n).gate.calm → v.gate.rebased ≡ (w.views n).gate.rebased → v.gate.completed ≡ (w.views n).gate.completed → v.gate.granted ≡ (w.views n).gate.granted → v.gate.giving ≡ (w.views n).gate.giving → InstallRule c (install_scene w) → InstallRule c (install_scene x)
+  install-apart w x n v is clock base done out calm rebased completed granted giving r =
       let o = not-calm (install_scene w) n r out in
-      install-view w x n v.gate v is clock base done refl (calm ∙ o.0) (rebased ∙ o.1) (completed ∙ o.2) (granted ∙ o.3) r
+      install-view w x n v.gate v is clock base done refl (calm ∙ o.0) (rebased ∙ o.1) (completed ∙ o.2) (granted ∙ o.3) (giving ∙ o.4) r
 
   -- while a caller is in an attempt and hasn't loaded the clock as the gate's holder, nobody has
   pub nobody-calm : (w : World) (n : ℕ) → (w.views n).gate.phase ≡ In → (w.views n).gate.calm ≡ false → GateRule c.callers (gate_scene w) → InstallRule c (install_scene w) → n < c.callers → (m : ℕ) → (w.views m).gate.calm ≡ true → ⊥
@@ -99,6 +104,7 @@ module _ (c : Config) where
     opened = r.opened;
     holding = λ m e. absurd (nobody m e);
     promoted = λ m e. absurd (nobody m (r.promoted m e).0);
+    giving = λ m e. absurd (nobody m (r.giving m e).0);
     alone = λ m k e. absurd (nobody m e);
     time = λ m e. absurd (nobody m e);
     rebased = λ m e. absurd (nobody m (r.rebased m e).0);
@@ -117,6 +123,7 @@ module _ (c : Config) where
     opened = (r.opened.0, (let o = r.opened.1 in omega arith));
     holding = λ m e. absurd (nobody m e);
     promoted = λ m e. absurd (nobody m (r.promoted m e).0);
+    giving = λ m e. absurd (nobody m (r.giving m e).0);
     alone = λ m k e. absurd (nobody m e);
     time = λ m e. absurd (nobody m e);
     rebased = λ m e. absurd (nobody m (r.rebased m e).0);
@@ -141,7 +148,78 @@ module _ (c : Config) where
         opened = r.opened;
         holding = λ m e. grind (arith, r.holding m, e);
         promoted = λ m e. grind (arith, r.promoted m, e);
+        giving = λ m e. grind (arith, r.giving m, e);
         alone = λ m k e low other. grind (arith, r.alone m k, e, low, other, more k);
+        time = λ m e. grind (arith, r.time m, e);
+        rebased = λ m e. grind (arith, r.rebased m, e);
+        completed = λ m e. grind (arith, r.completed m, e);
+      }
+
+  -- the holder changes the fence
+  pub install-stood : (w x : World) (n number : ℕ) (v : View) → x.views ≡ put w.views n v → x.clock ≡ w.clock → x.base ≡ w.base → x.done ≡ w.done → v.gate ≡ record (w.views n).gate { fence = number } → InstallRule c (install_scene w) → InstallRule c (install_scene x)
+  install-stood w x n number v is clock base done own r = subst (InstallRule c) (sym path) (law (install_scene w) r)
+    where
+      path : install_scene x ≡ record (install_scene w) { views = put (install_scene w).views n (record (w.views n).gate { fence = number }) }
+      path = λ i. record { clock = clock i; base = base i; done = done i; views = (ap (parts (λ (u : View). u.gate)) is ∙ (parts-put (λ (u : View). u.gate) w.views n v ∙ ap (put (install_scene w).views n) own)) i }
+
+      law : (s : InstallScene) → InstallRule c s → InstallRule c (record s { views = put s.views n (record (s.views n) { fence = number }) })
+      law s r = record {
+        base = r.base;
+        done = r.done;
+        opened = r.opened;
+        holding = λ m e. grind (arith, r.holding m, e);
+        promoted = λ m e. grind (arith, r.promoted m, e);
+        giving = λ m e. grind (arith, r.giving m, e);
+        alone = λ m k e low other. grind (arith, r.alone m k, e, low, other);
+        time = λ m e. grind (arith, r.time m, e);
+        rebased = λ m e. grind (arith, r.rebased m, e);
+        completed = λ m e. grind (arith, r.completed m, e);
+      }
+
+  -- the holder, which had loaded the clock, gave a fence back by an entry at t: BASE and DONE are to be stored again
+  pub given-install : (w x : World) (n t : ℕ) (v : View) → x.views ≡ put w.views n v → x.clock ≡ t → x.base ≡ w.base → x.done ≡ w.done → v.gate ≡ record (w.views n).gate { time = t; rebased = false; completed = false; giving = true } → w.clock ≤ t → (w.views n).gate.calm ≡ true → (w.views n).gate.phase ≡ Closing
+      → GateRule c.callers (gate_scene w) → InstallRule c (install_scene w) → InstallRule c (install_scene x)
+  given-install w x n t v is clock base done own up calm closing g r = subst (InstallRule c) (sym path) (law (install_scene w) r up calm closing (λ m e. sole w n m calm e g r))
+    where
+      sole : (w : World) (n m : ℕ) → (w.views n).gate.calm ≡ true → (w.views m).gate.calm ≡ true → GateRule c.callers (gate_scene w) → InstallRule c (install_scene w) → m ≡ n
+      sole w n m calm other g r =
+          let a = g.mine n (r.holding n calm) in
+          let b = g.mine m (r.holding m other) in omega arith
+
+      path : install_scene x ≡ record (install_scene w) { clock = t; views = put (install_scene w).views n (record (w.views n).gate { time = t; rebased = false; completed = false; giving = true }) }
+      path = λ i. record { clock = clock i; base = base i; done = done i; views = (ap (parts (λ (u : View). u.gate)) is ∙ (parts-put (λ (u : View). u.gate) w.views n v ∙ ap (put (install_scene w).views n) own)) i }
+
+      law : (s : InstallScene) → InstallRule c s → s.clock ≤ t → (s.views n).calm ≡ true → (s.views n).phase ≡ Closing → ((m : ℕ) → (s.views m).calm ≡ true → m ≡ n)
+          → InstallRule c (record s { clock = t; views = put s.views n (record (s.views n) { time = t; rebased = false; completed = false; giving = true }) })
+      law s r up calm closing sole = record {
+        base = (let b = r.base in omega arith);
+        done = (let d = r.done in omega arith);
+        opened = r.opened;
+        holding = λ m e. grind (arith, r.holding m, e);
+        promoted = λ m e. grind (arith, r.promoted m, e);
+        giving = λ m e. grind (arith, r.giving m, e, calm, closing);
+        alone = λ m k e low other. grind (arith, r.alone m k, e, low, other);
+        time = λ m e. grind (arith, sole m, e);
+        rebased = λ m e. grind (arith, sole m, r.rebased m, e);
+        completed = λ m e. grind (arith, sole m, r.completed m, e);
+      }
+
+  -- the holder gave the fence back
+  pub install-given : (w x : World) (n number : ℕ) (v : View) → x.views ≡ put w.views n v → x.clock ≡ w.clock → x.base ≡ w.base → x.done ≡ w.done → v.gate ≡ record (w.views n).gate { fence = number; giving = false } → InstallRule c (install_scene w) → InstallRule c (install_scene x)
+  install-given w x n number v is clock base done own r = subst (InstallRule c) (sym path) (law (install_scene w) r)
+    where
+      path : install_scene x ≡ record (install_scene w) { views = put (install_scene w).views n (record (w.views n).gate { fence = number; giving = false }) }
+      path = λ i. record { clock = clock i; base = base i; done = done i; views = (ap (parts (λ (u : View). u.gate)) is ∙ (parts-put (λ (u : View). u.gate) w.views n v ∙ ap (put (install_scene w).views n) own)) i }
+
+      law : (s : InstallScene) → InstallRule c s → InstallRule c (record s { views = put s.views n (record (s.views n) { fence = number; giving = false }) })
+      law s r = record {
+        base = r.base;
+        done = r.done;
+        opened = r.opened;
+        holding = λ m e. grind (arith, r.holding m, e);
+        promoted = λ m e. grind (arith, r.promoted m, e);
+        giving = λ m e. grind (arith, r.giving m, e);
+        alone = λ m k e low other. grind (arith, r.alone m k, e, low, other);
         time = λ m e. grind (arith, r.time m, e);
         rebased = λ m e. grind (arith, r.rebased m, e);
         completed = λ m e. grind (arith, r.completed m, e);
@@ -164,6 +242,7 @@ module _ (c : Config) where
         opened = r.opened;
         holding = λ m e. grind (arith, r.holding m, e, holds);
         promoted = λ m e. grind (arith, r.promoted m, e);
+        giving = λ m e. grind (arith, r.giving m, e);
         alone = λ m k e low other. grind (arith, r.alone m k, e, low, other, quiet k);
         time = λ m e. grind (arith, r.time m, e);
         rebased = λ m e. grind (arith, r.rebased m, e);
@@ -184,6 +263,7 @@ module _ (c : Config) where
             opened = r.opened;
             holding = λ m e. grind (arith, r.holding m, e);
             promoted = λ m e. grind (arith, r.promoted m, e);
+            giving = λ m e. grind (arith, r.giving m, e);
             alone = λ m k e low other. grind (arith, r.alone m k, e, low, other);
             time = λ m e. grind (arith, sole m, e);
             rebased = λ m e. grind (arith, sole m, r.rebased m, e, unbased);
@@ -204,6 +284,7 @@ module _ (c : Config) where
             opened = ((let b = r.base in let o = r.opened.0 in omega arith), r.opened.1);
             holding = λ m e. grind (arith, r.holding m, e);
             promoted = λ m e. grind (arith, r.promoted m, e);
+            giving = λ m e. grind (arith, r.giving m, e);
             alone = λ m k e low other. grind (arith, r.alone m k, e, low, other);
             time = λ m e. grind (arith, r.time m, e);
             rebased = λ m e. grind (arith, sole m, r.rebased m, e, calm, is);
@@ -224,14 +305,15 @@ module _ (c : Config) where
             opened = (r.opened.0, (let b = r.base in let o = r.opened.0 in omega arith));
             holding = λ m e. grind (arith, r.holding m, e);
             promoted = λ m e. grind (arith, r.promoted m, e);
+            giving = λ m e. grind (arith, r.giving m, e);
             alone = λ m k e low other. grind (arith, r.alone m k, e, low, other);
             time = λ m e. grind (arith, r.time m, e);
             rebased = λ m e. grind (arith, r.rebased m, e);
             completed = λ m e. grind (arith, sole m, r.completed m, e, calm, is);
           }
 
-  pub install-install : (alg : Alg) (w : World) (n : ℕ) → InstallRule c (install_scene w) → InstallRule c (install_scene (world_after (install n alg) n w))
-  install-install alg w n r = subst (InstallRule c) (sym (install_scene-put w (world_after (install n alg) n w) n (view_after (install n alg) w (w.views n) (gate_word (1 + n) alg)) refl)) (law (install_scene w) r)
+  pub install-install : (fence : ℕ) (alg : Alg) (w : World) (n : ℕ) → InstallRule c (install_scene w) → InstallRule c (install_scene (world_after (install n fence alg) n w))
+  install-install fence alg w n r = subst (InstallRule c) (sym (install_scene-put w (world_after (install n fence alg) n w) n (view_after (install n fence alg) w (w.views n) (gate_word fence (1 + n) alg)) refl)) (law (install_scene w) r)
     where
       law : (s : InstallScene) → InstallRule c s → InstallRule c (record s { views = put s.views n (record (s.views n) { algorithm = alg }) })
       law s r = record {
@@ -240,6 +322,7 @@ module _ (c : Config) where
         opened = r.opened;
         holding = λ m e. grind (arith, r.holding m, e);
         promoted = λ m e. grind (arith, r.promoted m, e);
+        giving = λ m e. grind (arith, r.giving m, e);
         alone = λ m k e low other. grind (arith, r.alone m k, e, low, other);
         time = λ m e. grind (arith, r.time m, e);
         rebased = λ m e. grind (arith, r.rebased m, e);
@@ -259,6 +342,7 @@ module _ (c : Config) where
         opened = r.opened;
         holding = λ m e. grind (arith, r.holding m, e);
         promoted = λ m e. grind (arith, r.promoted m, e, ungranted s r reopened);
+        giving = λ m e. grind (arith, r.giving m, e);
         alone = λ m k e low other. grind (arith, r.alone m k, e, low, other);
         time = λ m e. grind (arith, r.time m, e);
         rebased = λ m e. grind (arith, r.rebased m, e);
@@ -281,6 +365,7 @@ module _ (c : Config) where
         opened = r.opened;
         holding = λ m e. grind (arith, r.holding m, e, holds);
         promoted = λ m e. grind (arith, r.promoted m, e, inside);
+        giving = λ m e. grind (arith, r.giving m, e, inside);
         alone = λ m k e low other. grind (arith, r.alone m k, e, low, other, quiet k);
         time = λ m e. grind (arith, r.time m, e);
         rebased = λ m e. grind (arith, r.rebased m, e);
@@ -303,6 +388,7 @@ module _ (c : Config) where
         opened = r.opened;
         holding = λ m e. grind (arith, r.holding m, e);
         promoted = λ m e. grind (arith, r.promoted m, e);
+        giving = λ m e. grind (arith, r.giving m, e);
         alone = λ m k e low other. grind (arith, r.alone m k, e, low, other);
         time = λ m e. grind (arith, sole m, e);
         rebased = λ m e. grind (arith, sole m, r.rebased m, e);

@@ -2,7 +2,7 @@
 use Rattle.std.specs.Prelude.{ℕ, ◌≡◌, ◌≢◌, ◌<◌, ◌≤◌, true}
 use Rattle.stm_model.specs.declared.config.Config.{Config}
 use Rattle.rule_base.specs.declared.views.GateView.{GateView}
-use Rattle.rule_base.specs.declared.views.Phase.TheVariants.{In}
+use Rattle.rule_base.specs.declared.views.Phase.TheVariants.{In, Closing}
 use Rattle.rule_base.specs.declared.views.View.{View}
 use Rattle.rule_base.specs.History.{member}
 use Rattle.rule_base.specs.World.{World, parts}
@@ -26,6 +26,8 @@ pub record InstallRule (c : Config) (s : InstallScene) : Type 0 where
   -- who loaded the clock to install, or to be promoted, has closed the gate and seen all others idle, so the clock is its own until it reopens
   pub holding : (n : ℕ) → (s.views n).calm ≡ true → (s.views n).holds ≡ true
   pub promoted : (n : ℕ) → (s.views n).granted ≡ true → ((s.views n).calm ≡ true) × ((s.views n).phase ≡ In)
+  -- and so has who gave a fence back
+  pub giving : (n : ℕ) → (s.views n).giving ≡ true → ((s.views n).calm ≡ true) × ((s.views n).phase ≡ Closing)
   pub alone : (n k : ℕ) → (s.views n).calm ≡ true → k < c.callers → k ≢ n → member (s.views n).checked k ≡ true
   pub time : (n : ℕ) → (s.views n).calm ≡ true → s.clock ≡ (s.views n).time
   -- what it stored in BASE and in DONE is that clock: the next algorithm starts from both

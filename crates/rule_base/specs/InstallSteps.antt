@@ -48,6 +48,7 @@ even_clock t = record {
 
 pub record CanEvenClock (t : ℕ) (v : View) : Type 0 where
   pub phase : v.gate.phase ≡ Closing
+  pub ungiven : v.gate.giving ≡ false
   pub calm : v.gate.calm ≡ true
   pub odd : v.gate.time % 2 ≡ 1
   pub next : t ≡ v.gate.time + 1
@@ -79,10 +80,10 @@ pub record CanMark (t : ℕ) (v : View) : Type 0 where
   pub time : t ≡ v.gate.time
 
 -- store the gate, still held, with the new algorithm
-abbrev pub install : ℕ → Alg → StepKind
-install n alg = record {
+abbrev pub install : ℕ → ℕ → Alg → StepKind
+install n fence alg = record {
   place = Gate;
-  act = Store (gate_word (1 + n) alg);
+  act = Store (gate_word fence (1 + n) alg);
   after = λ w v x. record v {
     gate = record v.gate { algorithm = alg };
     attempt = record v.attempt { entered = false };
@@ -91,8 +92,10 @@ install n alg = record {
   grown = same_history;
 }
 
-pub record CanInstall (alg : Alg) (v : View) : Type 0 where
+pub record CanInstall (fence : ℕ) (alg : Alg) (v : View) : Type 0 where
   pub phase : v.gate.phase ≡ Closing
+  pub guarded : v.gate.fence ≡ fence
+  pub ungiven : v.gate.giving ≡ false
   pub calm : v.gate.calm ≡ true
   pub rebased : v.gate.rebased ≡ true
   pub completed : v.gate.completed ≡ true

@@ -14,6 +14,9 @@ pub mod InstallRule
 pub mod InstallSteps
 pub mod RecordRule
 pub mod Rest
+pub mod Fence
+pub mod FenceSteps
+pub mod FenceLaws
 pub mod InstallLaws
 pub mod RecordLemmas
 pub mod Seating

@@ -11,7 +11,7 @@ abbrev pub first_view : Config → View
 first_view c = record {
   history = record { made = []; seen = []; front = c.clock; told = record { seen = []; front = c.clock }; whole = record { seen = []; front = 0 } };
   steps = record { trail = []; rises = 0; rises_at_begin = 0; installs = [] };
-  gate = record { phase = Idle; present = false; algorithm = Cgl; aim = 0; holds = false; checked = []; calm = false; time = 0; rebased = false; completed = false; granted = false };
+  gate = record { phase = Idle; present = false; algorithm = Cgl; fence = 0; aim = 0; holds = false; checked = []; calm = false; time = 0; rebased = false; completed = false; granted = false; giving = false };
   attempt = record { start = 0; reads = []; stores = []; entered = false };
   lock = record { taken = false; started = false; clocked = false; undo = []; irrevocable = false };
   tml = record { inside = false; writer = false; loaded = false; from = 0; value = 0 };
@@ -20,6 +20,7 @@ first_view c = record {
   check = record { checking = false; upto = 0; todo = [] };
   ring_read = record { inside = false; watched = []; loaded = false; from = 0; value = 0; at = 0; checking = false; clock = 0; words = []; sure = false };
   ring_commit = record { slotted = 0; writes = []; ticked = false; clock = 0; committed = false; finished = false; back = [] };
+  fence = record { holds = false; number = 0; past = record { seen = []; front = c.clock }; reads = []; stores = [] };
 }
 
 -- every heap word 0, the gate open under CGL, BASE and DONE equal to the clock

@@ -10,3 +10,6 @@ pub record Own : Type 0 where
   pub writes_limit : ℕ
   -- what it wrote that is not yet stored in the heap, the latest first
   pub buffered : List Cell
+  -- how many marks stand; and while the attempt can be taken back, what it had written at each, the oldest first
+  pub depth : ℕ
+  pub marks : List (List (ℕ × ℕ))

@@ -68,6 +68,8 @@ pub struct GateView {
     pub present: bool,
     /// The algorithm of the gate that it loaded last.
     pub algorithm: Alg,
+    /// The fence of the gate that it loaded last, 0 for none.
+    pub fence: u64,
     /// The open gate word that it loaded to close it.
     pub aim: u64,
     /// It closed the gate, to install or to promote its attempt, and did not reopen it yet.
@@ -83,6 +85,8 @@ pub struct GateView {
     pub completed: bool,
     /// The attempt was promoted.
     pub granted: bool,
+    /// It gave a fence back by an entry, whose time BASE and DONE are to have.
+    pub giving: bool,
 }
 
 /// The attempt under way.
@@ -202,6 +206,20 @@ pub struct RingCommit {
     pub back: LinkedList<Cell>,
 }
 
+/// The range of words that a caller took out of the transactions, and what it did there.
+pub struct FenceView {
+    /// It has a fence.
+    pub holds: bool,
+    /// The fence's number.
+    pub number: u64,
+    /// All that there was when it came, or was last given back to the memory.
+    pub past: Prefix,
+    /// What it loaded of words that it had not yet stored.
+    pub reads: LinkedList<Cell>,
+    /// What it stored.
+    pub stores: LinkedList<Cell>,
+}
+
 /// What a caller knows and owes: its part in the rule of the shared words.
 pub struct View {
     pub history: SeenHistory,
@@ -215,4 +233,5 @@ pub struct View {
     pub check: Validation,
     pub ring_read: RingRead,
     pub ring_commit: RingCommit,
+    pub fence: FenceView,
 }

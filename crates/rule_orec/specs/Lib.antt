@@ -5,3 +5,4 @@ pub mod OrecOwning
 pub mod OrecSteps
 pub mod OrecLaws
 pub mod OrecRuns
+pub mod EagerRuns

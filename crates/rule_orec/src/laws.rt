@@ -2,6 +2,7 @@
 ghost use Rattle.stm_model.specs.declared.config.Config.{Config};
 ghost use Rattle.rule_base.specs.Bridge.{of_words};
 ghost use Rattle.rule_orec.specs.OrecRuns.{OrecKeepsAlong, StampsGrow};
+ghost use Rattle.rule_orec.specs.EagerRuns.{EagerRollsBack};
 
 use stm_model::config::Config;
 use stm_model::rule::MemRule;
@@ -11,4 +12,9 @@ use stm_model::rule::MemRule;
 pub fn orec_keeps_along<K: MemRule>()
     ensures kept { (rule : K) (c : Config) → OrecKeepsAlong (of_words (K.good rule) c.words) c }
     ensures stamps { (rule : K) (c : Config) → StampsGrow (of_words (K.good rule) c.words) c }
+{}
+
+/// A roll back to a mark under OrecEager is such a list of steps.
+pub fn eager_rolls_back<K: MemRule>()
+    ensures { (rule : K) (c : Config) → EagerRollsBack (of_words (K.good rule) c.words) c }
 {}

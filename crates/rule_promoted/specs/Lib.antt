@@ -3,3 +3,5 @@ pub mod PromotedSteps
 pub mod PromotedLaws
 pub mod OrecGranted
 pub mod PromotedRuns
+pub mod QuittingSteps
+pub mod QuittingLaws

@@ -68,7 +68,7 @@ two_more : (k : ℕ) → (k + 2) % 2 ≡ k % 2
 two_more k = omega arith
 
 -- the commit's time suits the algorithm
-suits-ticked : (home : ℕ → ℕ) (alg : Alg) (s t : SuitScene) → t.clock ≡ s.clock + entry_rise alg → Alike s t → Suits home alg s → Suits home alg t
+pub suits-ticked : (home : ℕ → ℕ) (alg : Alg) (s t : SuitScene) → t.clock ≡ s.clock + entry_rise alg → Alike s t → Suits home alg s → Suits home alg t
 suits-ticked home Cgl s t clock l k = k
 suits-ticked home Tml s t clock l k = suits-later home Tml s t (ap (λ k. k % 2) clock ∙ two_more s.clock) l k
 suits-ticked home OrecLazy s t clock l k = orec-alike home s t l k
@@ -76,7 +76,7 @@ suits-ticked home OrecEager s t clock l k = orec-alike home s t l k
 suits-ticked home RingSw s t clock l k = k
 suits-ticked home Serial s t clock l k = k
 
-entry_rise-some : (alg : Alg) → 0 < entry_rise alg
+pub entry_rise-some : (alg : Alg) → 0 < entry_rise alg
 entry_rise-some Cgl = omega arith
 entry_rise-some Tml = omega arith
 entry_rise-some OrecLazy = omega arith

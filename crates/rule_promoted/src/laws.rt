@@ -4,6 +4,10 @@ ghost use Rattle.stm_model.specs.declared.alg.Alg.{Alg};
 ghost use Rattle.stm_model.specs.declared.config.Config.{Config};
 ghost use Rattle.rule_base.specs.Bridge.{of_words};
 ghost use Rattle.rule_promoted.specs.PromotedRuns.{DirectKeepsAlong};
+ghost use Rattle.rule_base.specs.StepKinds.{StepLaw, Nothing};
+ghost use Rattle.rule_promoted.specs.PromotedRule.{DirectWorld};
+ghost use Rattle.rule_promoted.specs.QuittingSteps.{direct_quit, CanDirectQuit};
+ghost use Rattle.std.specs.Prelude.{◌<◌};
 
 use stm_model::alg::Alg;
 use stm_model::config::Config;
@@ -13,4 +17,9 @@ use stm_model::rule::MemRule;
 /// each allowed where it comes, its clauses hold after each.
 pub fn direct_keeps_along<K: MemRule>()
     ensures { (rule : K) (c : Config) (alg : Alg) (caller : ℕ) → DirectKeepsAlong (of_words (K.good rule) c.words) c alg caller }
+{}
+
+/// So they do where it raises the clock and makes no entry, to give back records of words that it took back.
+pub fn direct_quits_along<K: MemRule>()
+    ensures { (rule : K) (c : Config) (alg : Alg) (caller time : ℕ) → caller < c.callers → StepLaw (DirectWorld (of_words (K.good rule) c.words) c alg caller) (direct_quit alg time) Nothing caller (CanDirectQuit alg time) }
 {}

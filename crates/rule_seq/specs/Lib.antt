@@ -12,3 +12,4 @@ pub mod TmlRule
 pub mod TmlSteps
 pub mod TmlLaws
 pub mod TmlRuns
+pub mod SerialRuns

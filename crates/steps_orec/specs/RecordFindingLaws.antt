@@ -6,7 +6,7 @@ use Rattle.stm_model.specs.declared.config.Config.{Config}
 use Rattle.rule_base.specs.declared.entries.Cell.{Cell}
 use Rattle.rule_base.specs.declared.entries.Entry.{Entry}
 use Rattle.rule_base.specs.declared.views.Phase.TheVariants.{Idle, In}
-use Rattle.rule_base.specs.Encodings.{owner_of, version_of}
+use Rattle.rule_base.specs.Encodings.{owner_of, version_of, fenced}
 use Rattle.rule_base.specs.History.{over, touches, word_at, upto, Below, Legal}
 use Rattle.rule_base.specs.HistoryLemmas.{below-upto, legal-upto, upto-all, word_now-upto}
 use Rattle.rule_base.specs.Ranks.{rec_of, home_of}
@@ -20,8 +20,10 @@ use Rattle.rule_orec.specs.OrecSteps.{HasOrec, passes, orec_entry, orec_begin, C
 use Rattle.stm_rule.specs.BesideLaws.{sole-of, uncalm}
 use Rattle.stm_rule.specs.Frames.{as-left, is-caller, orec-world}
 use Rattle.stm_rule.specs.Product.{Whole}
-use Rattle.stm_rule.specs.PromotionLaws.{orec_grants, orec_grants_all}
-use Rattle.stm_rule.specs.RecordLaws.{fails, orec_begins, orec_samples, orec_confirms, orec_clocks, orec_clocks_all, orec_passes, orec_lasts, orec_looks, orec_limits, orec_locks, orec_commits, orec_lifts}
+use Rattle.rule_base.specs.Fence.{veil}
+use Rattle.stm_rule.specs.Lifted.{orec_grants, orec_grants_all, orec_begins, orec_samples, orec_confirms, orec_clocks, orec_clocks_all, orec_passes, orec_lasts, orec_looks, orec_limits, orec_locks, orec_commits, orec_lifts}
+use Rattle.stm_rule.specs.Lifting.{AreSpared}
+use Rattle.stm_rule.specs.RecordLaws.{fails}
 use Rattle.steps_orec.specs.RecordFindings.{FindsRecord, FindsClock, Moves, FindsStart, FindsAgain, FindsRead, FindsLast, FindsGrant, FindsAll, FindsCommit}
 
 upto-upto : (h : List Entry) (f g : ℕ) → g ≤ f → upto (upto h f) g ≡ upto h g
@@ -33,55 +35,55 @@ module _ (good : (ℕ → ℕ) → Type 0) (c : Config) (n : ℕ) where
   record-found r w g inside = record {
     others = λ owned free.
         let k : ℕ = owner_of (w.records r) in
-        let holds : touches (w.views k).owned.held r ≡ true = g.records.owned r owned in (
+        let holds : touches (w.views k).owned.held r ≡ true = g.core.records.owned r owned in (
           k,
-          is-caller good c w g k (λ idle. let e : In ≡ Idle = sym (g.records.inside k r holds) ∙ idle in cc),
+          is-caller good c (veil w) g.core k (λ idle. let e : In ≡ Idle = sym (g.core.records.inside k r holds) ∙ idle in cc),
           (λ same. let e : true ≡ false = sym (subst (λ (m : ℕ). touches (w.views m).owned.held r ≡ true) same holds) ∙ free in cc),
           refl,
         );
-    within = λ free. let l = g.records.free r free in let t = g.history.limit in omega arith;
-    sole = λ one free. let l = g.records.free r free in let t = sole-of good c n w g inside one in omega arith;
-    left = λ one y e. as-left good c w n r y g inside one e;
+    within = λ free. let l = g.core.records.free r free in let t = g.core.history.limit in omega arith;
+    sole = λ one free. let l = g.core.records.free r free in let t = sole-of good c n (veil w) g.core inside one in omega arith;
+    left = λ one y e. as-left good c (veil w) n r y g.core inside one e;
   }
 
-  full : (w : World) → Whole good c w → HasOrec (w.views n) → Full (home_of c) c.words (orec_scene w)
-  full w g has = full-world good c w (orec-world good c w n g has.runs)
+  full : (w : World) → Whole good c w → HasOrec (w.views n) → Full (home_of c) c.words (orec_scene (veil w))
+  full w g has = full-world good c (veil w) (orec-world good c (veil w) n g.core has.runs)
 
-  own : (w : World) → Whole good c w → HasOrec (w.views n) → Own (home_of c) c.words (orec_scene w) n (orec_view (w.views n))
+  own : (w : World) → Whole good c w → HasOrec (w.views n) → Own (home_of c) c.words (orec_scene (veil w)) n (orec_view (w.views n))
   own w g has = (full w g has).own n has.inside
 
   clock-found : (w : World) → Whole good c w → HasOrec (w.views n) → FindsClock c w (w.views n) w.clock
   clock-found w g has = record {
-    settled = record { clocks = record { sampled = sample-old (home_of c) c.words (orec_scene w) n (full w g has) has.inside }; settled = λ calm. g.install.time n calm };
+    settled = record { clocks = record { sampled = sample-old (home_of c) c.words (orec_scene (veil w)) n (full w g has) has.inside }; settled = λ calm. g.core.install.time n calm };
     started = (own w g has).attempt.start;
-    sole = sole-of good c n w g has.runs.phase;
-    within = g.history.limit;
+    sole = sole-of good c n (veil w) g.core has.runs.phase;
+    within = g.core.history.limit;
     olds = (own w g has).owned.olds;
   }
 
   -- the reads are of the memory at this number
   moves-to : (w : World) (t : ℕ) → Whole good c w → (w.views n).history.front ≤ t → t ≤ w.clock → ((a : ℕ) → over (w.views n).attempt.reads a (word_at w.history t a) ≡ word_at w.history t a) → Moves good c (upto w.history t) (w.views n) t
   moves-to w t g front low sees = record {
-    legal = legal-upto good c w.history (w.clock + 1) t g.history.below g.history.legal;
-    below = below-upto w.history (w.clock + 1) t g.history.below;
-    seen = (g.history.known n).seen ∙ sym (upto-upto w.history t (w.views n).history.front front);
+    legal = legal-upto good c w.history (w.clock + 1) t g.core.history.below g.core.history.legal;
+    below = below-upto w.history (w.clock + 1) t g.core.history.below;
+    seen = (g.core.history.known n).seen ∙ sym (upto-upto w.history t (w.views n).history.front front);
     front = front;
-    limit = let l = g.history.limit in omega arith;
+    limit = let l = g.core.history.limit in omega arith;
     sees = λ a. subst (λ (k : ℕ). over (w.views n).attempt.reads a k ≡ k) (sym (word_now-upto w.history t a)) (sees a);
   }
 
   moves-now : (w : World) → Whole good c w → ((a : ℕ) → over (w.views n).attempt.reads a (word_at w.history w.clock a) ≡ word_at w.history w.clock a) → Moves good c w.history (w.views n) w.clock
-  moves-now w g sees = subst (λ (h : List Entry). Moves good c h (w.views n) w.clock) (upto-all w.history (w.clock + 1) w.clock g.history.below (le_refl (w.clock + 1))) (moves-to w w.clock g (g.history.known n).front (le_refl w.clock) sees)
+  moves-now w g sees = subst (λ (h : List Entry). Moves good c h (w.views n) w.clock) (upto-all w.history (w.clock + 1) w.clock g.core.history.below (le_refl (w.clock + 1))) (moves-to w w.clock g (g.core.history.known n).front (le_refl w.clock) sees)
 
   moves-all : (w : World) → Whole good c w → CanOrecClock (home_of c) [] (w.views n) → Moves good c w.history (w.views n) w.clock
-  moves-all w g may = moves-now w g (validated-all (home_of c) c.words (orec_scene w) n may.opens.has.inside may.opens.open_yet (λ a t. may.mine a t refl) (λ a t. may.old a t refl) (full w g may.opens.has))
+  moves-all w g may = moves-now w g (validated-all (home_of c) c.words (orec_scene (veil w)) n may.opens.has.inside may.opens.open_yet (λ a t. may.mine a t refl) (λ a t. may.old a t refl) (full w g may.opens.has))
 
   sees-last : (q b : ℕ) (w : World) → Whole good c w → CanOrecLast (home_of c) q b (w.views n) → passes (w.records q) (w.views n) ≡ true → (a : ℕ) → over (w.views n).attempt.reads a (word_at w.history (w.views n).check.upto a) ≡ word_at w.history (w.views n).check.upto a
   sees-last q b w g may e = let p = passed-at (w.records q) (w.views n) e in
-      validated (home_of c) c.words (orec_scene w) n b (version_of (w.records q)) may.opens.has.inside (ap (λ (k : ℕ). rec_of (w.records k)) may.its ∙ rec-free (w.records q) p.0) p.1 may.checking may.rest (full w g may.opens.has)
+      validated (home_of c) c.words (orec_scene (veil w)) n b (version_of (w.records q)) may.opens.has.inside (ap (λ (k : ℕ). rec_of (w.records k)) may.its ∙ rec-free (w.records q) p.0) p.1 may.checking may.rest (full w g may.opens.has)
 
   pub begins_beside : StepLaw (Whole good c) orec_begin (FindsStart good c) n CanOrecBegin
-  begins_beside w g may = let o = orec_begins good c n w g may in record { rule = o.rule; advances = o.advances; shown = record { begins = o.shown; sole = sole-of good c n w g may.runs.phase; uncalm = λ free. uncalm good c n w g free (w.views n).gate.calm refl } }
+  begins_beside w g may = let o = orec_begins good c n w g may in record { rule = o.rule; advances = o.advances; shown = record { begins = o.shown; sole = sole-of good c n (veil w) g.core may.runs.phase; uncalm = λ free. uncalm good c n (veil w) g.core free (w.views n).gate.calm refl } }
 
   pub samples_beside : (r a : ℕ) → StepLaw (Whole good c) (orec_sample r a) (FindsRecord c n r) n (CanOrecSample (home_of c) r a)
   samples_beside r a w g may = let o = orec_samples good c n r a w g may in record { rule = o.rule; advances = o.advances; shown = record-found r w g may.has.runs.phase }
@@ -104,7 +106,7 @@ module _ (good : (ℕ → ℕ) → Type 0) (c : Config) (n : ℕ) where
         rule = o.rule;
         advances = o.advances;
         shown = record {
-          read = record { found = record-found r w g may.opens.has.runs.phase; fails = fails good c n r w g };
+          read = record { found = record-found r w g may.opens.has.runs.phase; fails = let f = fails good c n r (veil w) g.core in record { own = f.own; later = f.later } };
           moves = λ e. moves-to w (w.views n).check.upto g (let s = u.front may.opens.open_yet in let l = u.check.onward may.checking in omega arith) (u.check.upto may.checking) (sees-last r b w g may e);
         };
       }
@@ -118,30 +120,34 @@ module _ (good : (ℕ → ℕ) → Type 0) (c : Config) (n : ℕ) where
   pub locks_beside : (r version : ℕ) → StepLaw (Whole good c) (orec_lock n r version) (FindsRecord c n r) n (CanOrecLock version)
   locks_beside r version w g may = let o = orec_locks good c n r version w g may in record { rule = o.rule; advances = o.advances; shown = record-found r w g may.opens.has.runs.phase }
 
-  pub commits_beside : (start : ℕ) (writes back : List Cell) → n < c.callers → StepLaw (Whole good c) (orec_commit n start writes back) (FindsCommit good c n start writes) n (CanOrecCommit (home_of c) good c.words start writes back)
+  pub commits_beside : (start : ℕ) (writes back : List Cell) → n < c.callers → StepLaw (Whole good c) (orec_commit n start writes back) (FindsCommit good c n start writes) n (λ v. CanOrecCommit (home_of c) good c.words start writes back v × AreSpared writes v)
   commits_beside start writes back low w g may = let o = orec_commits good c n start writes back low w g may in record {
     rule = o.rule;
     advances = o.advances;
     shown = record {
-      clock = clock-found w g may.has;
+      clock = clock-found w g may.0.has;
       enters = λ taken.
           let e : Entry = orec_entry n (start + 1) writes (w.views n) in
           let is : (w.clock == start) ≡ true = grind (arith, nat_tests) in
-          let s = (own w g may.has).front may.ready.open_yet in
-          let f = may.from in record {
-            legal = subst (λ (b : Bool). Legal good c (if b then e ∷ w.history else w.history)) is o.rule.history.legal;
-            below = subst (λ (b : Bool). Below (if b then e ∷ w.history else w.history) ((if b then start + 1 else w.clock) + 1)) is o.rule.history.below;
-            seen = (g.history.known n).seen ∙ upto-all w.history (w.clock + 1) (w.views n).history.front g.history.below (omega arith);
+          let s = (own w g may.0.has).front may.0.ready.open_yet in
+          let f = may.0.from in record {
+            legal = subst (λ (b : Bool). Legal good c (if b then e ∷ w.history else w.history)) is o.rule.core.history.legal;
+            below = subst (λ (b : Bool). Below (if b then e ∷ w.history else w.history) ((if b then start + 1 else w.clock) + 1)) is o.rule.core.history.below;
+            seen = (g.core.history.known n).seen ∙ upto-all w.history (w.clock + 1) (w.views n).history.front g.core.history.below (omega arith);
           };
     };
   }
+
+  -- what an attempt has stored in place is spared
+  pub commits_placed : (start : ℕ) (stores : List Cell) → n < c.callers → StepLaw (Whole good c) (orec_commit n start stores []) (FindsCommit good c n start stores) n (λ v. CanOrecCommit (home_of c) good c.words start stores [] v × (v.owned.in_place ≡ stores))
+  commits_placed start stores low w g may = commits_beside start stores [] low w g (may.0, λ a e. ap (λ k. fenced k a) (sym (g.core.gate.spared n may.0.has.runs.phase)) ∙ g.fence.apart n a may.0.has.runs.phase (grind (arith, may.0.has.inside, ap (λ (l : List Cell). touches l a) may.1, e)))
 
   pub lifts_beside : (least : ℕ) → n < c.callers → StepLaw (Whole good c) (orec_lift least) (FindsClock c) n (CanOrecLift least)
   lifts_beside least low w g may = let o = orec_lifts good c n least low w g may in record { rule = o.rule; advances = o.advances; shown = clock-found w g may.has }
 
   pub grants_beside : (r b : ℕ) → StepLaw (Whole good c) (orec_grant r b) (FindsGrant good c n r) n (CanOrecGrant (home_of c) c.words r b)
   grants_beside r b w g may = let o = orec_grants good c n r b w g may in
-      let now : w.clock ≡ (w.views n).gate.time = g.install.time n may.calm in record {
+      let now : w.clock ≡ (w.views n).gate.time = g.core.install.time n may.calm in record {
         rule = o.rule;
         advances = o.advances;
         shown = record {

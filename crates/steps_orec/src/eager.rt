@@ -6,6 +6,7 @@ ghost use Rattle.rule_orec.specs.OrecSteps.{orec_own_load, CanOrecOwnLoad, OrecO
 ghost use Rattle.std.specs.Prelude.{◌<◌, ◌≤◌, ℕ, ◌≡◌, []};
 ghost use Rattle.steps_orec.specs.RecordFindings.{FindsClock, FindsCommit};
 ghost use Rattle.stm_rule.specs.Callers.{IsSeatOf};
+ghost use Rattle.stm_rule.specs.Lifting.{IsSpared};
 ghost use Rattle.stm_rule.specs.Kept.{good_of, SeatTells, IsSameSeat, view_of};
 
 use rule_base::layout::At;
@@ -20,6 +21,7 @@ use stm_rule::stm::{Stm, Token};
 pub fn own_load<K: MemRule>(stm: &Stm<K>, seat: &mut Token<K>, caller: usize, a: usize) -> u64
     requires seat { IsSeatOf stm.now caller seat.old }
     requires view { CanOrecOwnLoad (home_of stm.now.config) stm.now.config.words a (view_of seat.old) }
+    requires spared { IsSpared a (view_of seat.old) }
     ensures same { IsSameSeat seat.old seat.new }
     ensures step { SeatTells (orec_own_load a) (OrecOwnLoads (good_of K.good stm.now.config stm.now.rule) stm.now.config a) seat.old.me.0 result seat.new.me.0 }
 {
@@ -31,6 +33,7 @@ pub fn save<K: MemRule>(stm: &Stm<K>, seat: &mut Token<K>, caller: usize, a: usi
     requires seat { IsSeatOf stm.now caller seat.old }
     requires place { a < stm.now.config.words }
     requires view { CanOrecSave (home_of stm.now.config) a (view_of seat.old) }
+    requires spared { IsSpared a (view_of seat.old) }
     ensures same { IsSameSeat seat.old seat.new }
     ensures step { SeatTells (orec_save a) Nothing seat.old.me.0 result seat.new.me.0 }
 {

@@ -6,6 +6,7 @@ ghost use Rattle.rule_orec.specs.OrecSteps.{HasOrec, orec_look, orec_limit, orec
 ghost use Rattle.std.specs.Prelude.{◌<◌, ◌≤◌, ℕ, ◌≡◌};
 ghost use Rattle.steps_orec.specs.RecordFindings.{FindsRecord, FindsClock, FindsCommit};
 ghost use Rattle.stm_rule.specs.Callers.{IsSeatOf};
+ghost use Rattle.stm_rule.specs.Lifting.{AreSpared};
 ghost use Rattle.stm_rule.specs.Kept.{good_of, SeatTells, IsSameSeat, view_of};
 ghost use Rattle.stm_rule.specs.RecordsKept.{cells_of};
 
@@ -75,6 +76,7 @@ pub fn commit<K: MemRule>(
     requires seat { IsSeatOf stm.now caller seat.old }
     requires caller { caller < stm.now.config.callers }
     requires view { CanOrecCommit (home_of stm.now.config) (good_of K.good stm.now.config stm.now.rule) stm.now.config.words start (cells_of writes.now.items) (cells_of writes.now.items) (view_of seat.old) }
+    requires spared { AreSpared (cells_of writes.now.items) (view_of seat.old) }
     ensures same { IsSameSeat seat.old seat.new }
     ensures step { SeatTells (orec_commit caller start (cells_of writes.now.items) (cells_of writes.now.items)) (FindsCommit (good_of K.good stm.now.config stm.now.rule) stm.now.config caller start (cells_of writes.now.items)) seat.old.me.0 result seat.new.me.0 }
 {

@@ -6,6 +6,7 @@ ghost use Rattle.std.specs.Prelude.{◌<◌, ℕ, ◌≡◌, []};
 ghost use Rattle.steps_orec.specs.Validating.{to_validate};
 ghost use Rattle.steps_orec.specs.RecordFindings.{FindsRecord, FindsStart, FindsAgain, FindsClock, FindsAll, FindsRead, FindsLast};
 ghost use Rattle.stm_rule.specs.Callers.{IsSeatOf};
+ghost use Rattle.stm_rule.specs.Lifting.{IsSpared};
 ghost use Rattle.stm_rule.specs.Kept.{good_of, SeatTells, IsSameSeat, view_of};
 
 use rule_base::layout::At;
@@ -45,6 +46,7 @@ pub fn load<K: MemRule>(stm: &Stm<K>, seat: &mut Token<K>, caller: usize, a: usi
     requires seat { IsSeatOf stm.now caller seat.old }
     requires place { a < stm.now.config.words }
     requires view { CanOrecLoad a (view_of seat.old) }
+    requires spared { IsSpared a (view_of seat.old) }
     ensures same { IsSameSeat seat.old seat.new }
     ensures step { SeatTells (orec_load a) Nothing seat.old.me.0 result seat.new.me.0 }
 {

@@ -24,18 +24,18 @@ use Rattle.rule_ring.specs.Slots.{writes_of, untouched, clear}
 use Rattle.rule_seq.specs.AttemptLemmas.{busy-turn}
 use Rattle.stm_rule.specs.BesideLaws.{sole-of, uncalm}
 use Rattle.stm_rule.specs.Frames.{is-caller, only-caller}
-use Rattle.stm_rule.specs.Product.{Runs, Whole}
+use Rattle.stm_rule.specs.Product.{Runs, Core, Whole}
 use Rattle.stm_rule.specs.RestLaws.{nobody-commits, nobody-enters}
-use Rattle.stm_rule.specs.RingLaws.{ring_begins, ring_looks, ring_agains, ring_moves, ring_ticks}
-use Rattle.stm_rule.specs.RingPromotionLaws.{look_grants, move_grants}
+use Rattle.rule_base.specs.Fence.{veil}
+use Rattle.stm_rule.specs.Lifted.{ring_begins, ring_looks, ring_agains, ring_moves, ring_ticks, look_grants, move_grants}
 use Rattle.steps_ring.specs.RingFindings.{FindsStart, FindsLook, FindsAgain, FindsMove, FindsLevel, FindsTick}
 
 module _ (good : (ℕ → ℕ) → Type 0) (c : Config) (n : ℕ) where
   -- the clauses of RingSW stand while an attempt of it isn't promoted
-  rule-of : (w : World) → Whole good c w → RunsRing (w.views n) → RingRule slot_filter c.ring c.words (ring_part (run_scene w))
+  rule-of : (w : World) → Core good c w → RunsRing (w.views n) → RingRule slot_filter c.ring c.words (ring_part (run_scene w))
   rule-of w g m = subst (λ (q : Regime). Runs c q (run_scene w)) (regime-inside c w n g.gate g.install m.phase m.plain ∙ ap Running m.algorithm) g.running
 
-  reader-of : (w : World) → Whole good c w → HasRing (w.views n) → RingReader slot_filter c.ring c.words w.clock w.done w.base w.history ((ring_part (run_scene w)).views n)
+  reader-of : (w : World) → Core good c w → HasRing (w.views n) → RingReader slot_filter c.ring c.words w.clock w.done w.base w.history ((ring_part (run_scene w)).views n)
   reader-of w g m = (rule-of w g m.runs).reader n m.inside
 
   -- who has no entry to write back isn't late
@@ -47,11 +47,11 @@ module _ (good : (ℕ → ℕ) → Type 0) (c : Config) (n : ℕ) where
       go false h = refl
 
   -- with one caller alone, who is not idle is that one
-  same-caller : (w : World) → Whole good c w → (w.views n).gate.phase ≡ In → c.callers ≡ 1 → (m : ℕ) → ((w.views m).gate.phase ≡ Idle → ⊥) → n ≡ m
+  same-caller : (w : World) → Core good c w → (w.views n).gate.phase ≡ In → c.callers ≡ 1 → (m : ℕ) → ((w.views m).gate.phase ≡ Idle → ⊥) → n ≡ m
   same-caller w g inside one m busy = let k = is-caller good c w g m busy in let z = only-caller good c w n g inside one in omega arith
 
   -- with one caller alone, who has no entry under way, DONE is the clock
-  done-sole : (w : World) → Whole good c w → RunsRing (w.views n) → (w.views n).ring_commit.committed ≡ false → (w.views n).attempt.entered ≡ false → c.callers ≡ 1 → w.done ≡ w.clock
+  done-sole : (w : World) → Core good c w → RunsRing (w.views n) → (w.views n).ring_commit.committed ≡ false → (w.views n).attempt.entered ≡ false → c.callers ≡ 1 → w.done ≡ w.clock
   done-sole w g runs early plain one = (rule-of w g runs).level
       (λ m. unlate w m (λ t. let same = same-caller w g runs.phase one m (λ idle. let i : In ≡ Idle = sym (g.attempts.busy m (busy-turn (w.views m) t)) ∙ idle in cc) in let f : true ≡ false = sym t ∙ (ap (λ (k : ℕ). (w.views k).ring_commit.committed) (sym same) ∙ early) in cc))
       (λ m. by m (w.views m).attempt.entered refl)
@@ -61,7 +61,7 @@ module _ (good : (ℕ → ℕ) → Type 0) (c : Config) (n : ℕ) where
       by m false t = refl
 
   -- nobody has raised the clock as the gate's holder while an attempt runs that doesn't know it so
-  unraised : (w : World) → Whole good c w → RunsRing (w.views n) → (w.views n).gate.calm ≡ false → (m : ℕ) → (w.views m).attempt.entered ≡ false
+  unraised : (w : World) → Core good c w → RunsRing (w.views n) → (w.views n).gate.calm ≡ false → (m : ℕ) → (w.views m).attempt.entered ≡ false
   unraised w g runs free m = by (w.views m).attempt.entered refl
     where
       by : (b : Bool) → (w.views m).attempt.entered ≡ b → b ≡ false
@@ -69,15 +69,15 @@ module _ (good : (ℕ → ℕ) → Type 0) (c : Config) (n : ℕ) where
       by false t = refl
 
   -- the clock stands under the lock
-  stands : (w : World) → Whole good c w → RunsRing (w.views n) → (w.views n).lock.taken ≡ true → (w.views n).ring_commit.ticked ≡ true → w.clock ≡ (w.views n).ring_commit.clock
+  stands : (w : World) → Core good c w → RunsRing (w.views n) → (w.views n).lock.taken ≡ true → (w.views n).ring_commit.ticked ≡ true → w.clock ≡ (w.views n).ring_commit.clock
   stands w g runs taken ticked = sym (((rule-of w g runs).turn n taken).tick ticked)
 
   -- what was read is the memory at the start
-  reads-stand : (w : World) → Whole good c w → HasRing (w.views n) → Explains (word_now (upto w.history (w.views n).attempt.start)) (w.views n).attempt.reads
+  reads-stand : (w : World) → Core good c w → HasRing (w.views n) → Explains (word_now (upto w.history (w.views n).attempt.start)) (w.views n).attempt.reads
   reads-stand w g m a = subst (λ (k : ℕ). over (w.views n).attempt.reads a k ≡ k) (sym (word_now-upto w.history (w.views n).attempt.start a)) ((reader-of w g m).sees a)
 
   -- what is watched is the same at all times from the start to the clock that the check loaded
-  still : (w : World) → Whole good c w → CanRingMove slot_filter (w.views n) → (t a : ℕ) → (w.views n).attempt.start ≤ t → t ≤ (w.views n).ring_read.clock → touches (w.views n).ring_read.watched a ≡ true → word_at w.history t a ≡ word_at w.history (w.views n).attempt.start a
+  still : (w : World) → Core good c w → CanRingMove slot_filter (w.views n) → (t a : ℕ) → (w.views n).attempt.start ≤ t → t ≤ (w.views n).ring_read.clock → touches (w.views n).ring_read.watched a ≡ true → word_at w.history t a ≡ word_at w.history (w.views n).attempt.start a
   still w g may t a low up watched =
       let sum : t ≡ (w.views n).attempt.start + (t - (w.views n).attempt.start) = omega arith in
       ap (λ (s : ℕ). word_at w.history s a) sum ∙ clear slot_filter w.history (w.clock + 1) (w.views n).attempt.start a g.history.below (t - (w.views n).attempt.start)
@@ -88,7 +88,7 @@ module _ (good : (ℕ → ℕ) → Type 0) (c : Config) (n : ℕ) where
   moved-between v done p q = (grind (arith, nat_tests, p, q), grind (arith, nat_tests, p, q))
 
   -- so what was read is the memory at the new start
-  reads-move : (w : World) → Whole good c w → CanRingMove slot_filter (w.views n) → Explains (word_now (upto w.history (moved (w.views n) w.done))) (w.views n).attempt.reads
+  reads-move : (w : World) → Core good c w → CanRingMove slot_filter (w.views n) → Explains (word_now (upto w.history (moved (w.views n) w.done))) (w.views n).attempt.reads
   reads-move w g may a = subst (λ (k : ℕ). over (w.views n).attempt.reads a k ≡ k) (sym (word_now-upto w.history (moved (w.views n) w.done) a)) (by (touches (w.views n).attempt.reads a) refl)
     where
       between : ((w.views n).attempt.start ≤ moved (w.views n) w.done) × (moved (w.views n) w.done ≤ (w.views n).ring_read.clock)
@@ -104,8 +104,8 @@ module _ (good : (ℕ → ℕ) → Type 0) (c : Config) (n : ℕ) where
     advances = o.advances;
     shown = record {
       begins = o.shown;
-      sole = λ early plain one. done-sole w g may.runs early plain one ∙ sole-of good c n w g may.runs.phase one;
-      uncalm = λ free. uncalm good c n w g free (w.views n).gate.calm refl;
+      sole = λ early plain one. done-sole (veil w) g.core may.runs early plain one ∙ sole-of good c n (veil w) g.core may.runs.phase one;
+      uncalm = λ free. uncalm good c n (veil w) g.core free (w.views n).gate.calm refl;
     };
   }
 
@@ -113,35 +113,35 @@ module _ (good : (ℕ → ℕ) → Type 0) (c : Config) (n : ℕ) where
   looks_beside w g may = let o = ring_looks good c n w g may in record {
     rule = o.rule;
     advances = o.advances;
-    shown = record { looks = o.shown; sole = sole-of good c n w g may.has.runs.phase; ticked = stands w g may.has.runs; settled = g.install.time n; kept = reads-stand w g may.has };
+    shown = record { looks = o.shown; sole = sole-of good c n (veil w) g.core may.has.runs.phase; ticked = stands (veil w) g.core may.has.runs; settled = g.core.install.time n; kept = reads-stand (veil w) g.core may.has };
   }
 
   pub agains_beside : StepLaw (Whole good c) (ring_again c.ring) (FindsAgain good c) n CanRingAgain
   agains_beside w g may = let o = ring_agains good c n w g may in record {
     rule = o.rule;
     advances = o.advances;
-    shown = record { later = le_trans (reader-of w g may.has).start (rule-of w g may.has.runs).done };
+    shown = record { later = le_trans (reader-of (veil w) g.core may.has).start (rule-of (veil w) g.core may.has.runs).done };
   }
 
   pub moves_beside : StepLaw (Whole good c) ring_move (FindsMove good c) n (CanRingMove slot_filter)
   moves_beside w g may = let o = ring_moves good c n w g may in record {
     rule = o.rule;
     advances = o.advances;
-    shown = record { moves = o.shown; kept = reads-move w g may; level = λ taken early ticked free. o.shown.level taken early ticked (unraised w g may.has.runs free) };
+    shown = record { moves = o.shown; kept = reads-move (veil w) g.core may; level = λ taken early ticked free. o.shown.level taken early ticked (unraised (veil w) g.core may.has.runs free) };
   }
 
   pub ticks_beside : StepLaw (Whole good c) ring_tick (FindsTick good c) n HasTurn
   ticks_beside w g may = let o = ring_ticks good c n w g may in record {
     rule = o.rule;
     advances = o.advances;
-    shown = record { sole = sole-of good c n w g may.has.runs.phase; within = g.history.limit; later = le_trans (reader-of w g may.has).start (rule-of w g may.has.runs).done };
+    shown = record { sole = sole-of good c n (veil w) g.core may.has.runs.phase; within = g.core.history.limit; later = le_trans (reader-of (veil w) g.core may.has).start (rule-of (veil w) g.core may.has.runs).done };
   }
 
   pub look_grants_beside : StepLaw (Whole good c) ring_look_grant (FindsLook good c) n CanRingGrant
   look_grants_beside w g may = let o = look_grants good c n w g may in record {
     rule = o.rule;
     advances = o.advances;
-    shown = record { looks = o.shown; sole = sole-of good c n w g may.has.runs.phase; ticked = stands w g may.has.runs; settled = g.install.time n; kept = reads-stand w g may.has };
+    shown = record { looks = o.shown; sole = sole-of good c n (veil w) g.core may.has.runs.phase; ticked = stands (veil w) g.core may.has.runs; settled = g.core.install.time n; kept = reads-stand (veil w) g.core may.has };
   }
 
   pub move_grants_beside : StepLaw (Whole good c) ring_move_grant (FindsLevel good c) n (CanRingMoveGrant slot_filter)
@@ -150,12 +150,12 @@ module _ (good : (ℕ → ℕ) → Type 0) (c : Config) (n : ℕ) where
     advances = o.advances;
     shown = record {
       moves = o.shown;
-      kept = reads-move w g may.move;
-      level = λ plain. (rule-of w g may.grant.has.runs).level
-          (λ m. unlate w m (λ t. nobody-commits good c n w g checked may.grant.unlocked may.grant.unwritten may.grant.uncommitted m t))
-          (nobody-enters good c n w g checked plain) ∙ g.install.time n may.grant.calm;
+      kept = reads-move (veil w) g.core may.move;
+      level = λ plain. (rule-of (veil w) g.core may.grant.has.runs).level
+          (λ m. unlate (veil w) m (λ t. nobody-commits good c n (veil w) g.core checked may.grant.unlocked may.grant.unwritten may.grant.uncommitted m t))
+          (nobody-enters good c n (veil w) g.core checked plain) ∙ g.core.install.time n may.grant.calm;
     };
   }
     where
       checked : HasChecked c.callers n (w.views n)
-      checked k low other = g.install.alone n k may.grant.calm low other
+      checked k low other = g.core.install.alone n k may.grant.calm low other

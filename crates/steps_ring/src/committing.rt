@@ -7,6 +7,7 @@ ghost use Rattle.steps_ring.specs.RingFindings.{FindsTick};
 ghost use Rattle.stm_rule.specs.Findings.{FindsLock};
 ghost use Rattle.stm_rule.specs.RecordsKept.{cells_of};
 ghost use Rattle.stm_rule.specs.Callers.{IsSeatOf};
+ghost use Rattle.stm_rule.specs.Lifting.{AreSpared};
 ghost use Rattle.stm_rule.specs.Kept.{good_of, SeatTells, IsSameSeat, view_of};
 
 use rule_base::layout::{At, SLOT_WORDS};
@@ -66,6 +67,7 @@ pub fn enter<K: MemRule>(stm: &Stm<K>, seat: &mut Token<K>, caller: usize, time:
     requires seat { IsSeatOf stm.now caller seat.old }
     requires caller { caller < stm.now.config.callers }
     requires view { CanRingEnter (good_of K.good stm.now.config stm.now.rule) stm.now.config.words time (view_of seat.old) }
+    requires spared { AreSpared (view_of seat.old).ring_commit.writes (view_of seat.old) }
     ensures same { IsSameSeat seat.old seat.new }
     ensures step { SeatTells (ring_enter caller time) (RingEnters (good_of K.good stm.now.config stm.now.rule) stm.now.config caller time) seat.old.me.0 time seat.new.me.0 }
 {

@@ -5,6 +5,7 @@ ghost use Rattle.rule_ring.specs.SlotFilter.{slot_filter};
 ghost use Rattle.std.specs.Prelude.{◌<◌, ℕ, ◌≡◌};
 ghost use Rattle.steps_ring.specs.RingFindings.{FindsStart, FindsLook, FindsAgain, FindsMove};
 ghost use Rattle.stm_rule.specs.Callers.{IsSeatOf};
+ghost use Rattle.stm_rule.specs.Lifting.{IsSpared};
 ghost use Rattle.stm_rule.specs.Kept.{good_of, SeatTells, IsSameSeat, view_of};
 
 use rule_base::layout::{At, SLOT_WORDS};
@@ -26,6 +27,7 @@ pub fn begin<K: MemRule>(stm: &Stm<K>, seat: &mut Token<K>, caller: usize) -> u6
 pub fn load<K: MemRule>(stm: &Stm<K>, seat: &mut Token<K>, caller: usize, a: usize) -> u64
     requires seat { IsSeatOf stm.now caller seat.old }
     requires view { CanRingLoad stm.now.config.words a (view_of seat.old) }
+    requires spared { IsSpared a (view_of seat.old) }
     ensures same { IsSameSeat seat.old seat.new }
     ensures step { SeatTells (ring_load a) Nothing seat.old.me.0 result seat.new.me.0 }
 {

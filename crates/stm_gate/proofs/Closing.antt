@@ -10,7 +10,7 @@ use Rattle.rule_base.specs.declared.views.Phase.TheVariants.{Aiming, Turned}
 use Rattle.rule_base.specs.declared.views.View.{View}
 use Rattle.rule_base.specs.declared.views.Act.TheVariants.{Load, Store, Exchange}
 use Rattle.rule_base.specs.Own.{Own}
-use Rattle.rule_base.specs.Encodings.{holder_of, alg_of, gate_word, announced}
+use Rattle.rule_base.specs.Encodings.{fence_of, holder_of, alg_of, gate_word, announced}
 use Rattle.rule_base.specs.GateSteps.{announce, aim, closed_at, take_gate, depart, departed}
 use Rattle.rule_base.specs.StepKinds.{Nothing, Tells, view_after}
 use Rattle.rule_base.specs.World.{World}
@@ -71,11 +71,11 @@ module _ (good : List ℕ → Type 0) (c : Config) (n : ℕ) where
     record {
       idle = (ap (λ b. departed (taken_gate (looked a.0 l.0 v gate) gate b).phase) apart, ap (λ b. is_in (departed (taken_gate (looked a.0 l.0 v gate) gate b).phase)) apart, ap (λ b. is_closing (departed (taken_gate (looked a.0 l.0 v gate) gate b).phase)) apart, ap (λ b. (taken_gate (looked a.0 l.0 v gate) gate b).holds) apart ∙ out.reopened);
       made = refl;
-      grows = grows-same (known_of v o) (known_of last o) refl refl (record { place = Status n; act = Store 0; found = None } ∷ record { place = Gate; act = Exchange gate (gate_word (1 + n) (alg_of gate)); found = Some found } ∷ record { place = Gate; act = Load; found = Some gate } ∷ record { place = Status n; act = Store announced; found = None } ∷ []) refl refl refl;
+      grows = grows-same (known_of v o) (known_of last o) refl refl (record { place = Status n; act = Store 0; found = None } ∷ record { place = Gate; act = Exchange gate (gate_word (fence_of gate) (1 + n) (alg_of gate)); found = Some found } ∷ record { place = Gate; act = Load; found = Some gate } ∷ record { place = Status n; act = Store announced; found = None } ∷ []) refl refl refl;
       rises = refl;
       installs = refl;
     },
-    (record { place = Status n; act = Store 0; found = None } ∷ record { place = Gate; act = Exchange gate (gate_word (1 + n) (alg_of gate)); found = Some found } ∷ record { place = Gate; act = Load; found = Some gate } ∷ record { place = Status n; act = Store announced; found = None } ∷ [], refl, Exchange gate (gate_word (1 + n) (alg_of gate)), (1, omega arith, refl)),
+    (record { place = Status n; act = Store 0; found = None } ∷ record { place = Gate; act = Exchange gate (gate_word (fence_of gate) (1 + n) (alg_of gate)); found = Some found } ∷ record { place = Gate; act = Load; found = Some gate } ∷ record { place = Status n; act = Store announced; found = None } ∷ [], refl, Exchange gate (gate_word (fence_of gate) (1 + n) (alg_of gate)), (1, omega arith, refl)),
     who,
     two who.0 n c.callers who.1 low who.2,
   )
@@ -103,12 +103,12 @@ module _ (good : List ℕ → Type 0) (c : Config) (n : ℕ) where
       ungranted = ungranted-of last.gate.algorithm last.gate v.lock (ap (λ b. (at b).granted) here ∙ out.ungranted) out.clear.unfixed;
     };
     made = refl;
-    grows = grows-same (known_of v o) (known_of last o) refl refl (record { place = Status n; act = Store 0; found = None } ∷ record { place = Gate; act = Exchange gate (gate_word (1 + n) (alg_of gate)); found = Some found } ∷ record { place = Gate; act = Load; found = Some gate } ∷ record { place = Status n; act = Store announced; found = None } ∷ []) refl refl refl;
+    grows = grows-same (known_of v o) (known_of last o) refl refl (record { place = Status n; act = Store 0; found = None } ∷ record { place = Gate; act = Exchange gate (gate_word (fence_of gate) (1 + n) (alg_of gate)); found = Some found } ∷ record { place = Gate; act = Load; found = Some gate } ∷ record { place = Status n; act = Store announced; found = None } ∷ []) refl refl refl;
     unseen = ap (λ b. (at b).checked) here;
     unsettled = ap (λ b. is_settled (at b)) here;
     rises = refl;
     installs = refl;
-    gate = (gate, (record { place = Status n; act = Store 0; found = None } ∷ record { place = Gate; act = Exchange gate (gate_word (1 + n) (alg_of gate)); found = Some found } ∷ record { place = Gate; act = Load; found = Some gate } ∷ record { place = Status n; act = Store announced; found = None } ∷ [], refl, Load, (2, omega arith, refl)), free, sym named);
+    gate = (gate, (record { place = Status n; act = Store 0; found = None } ∷ record { place = Gate; act = Exchange gate (gate_word (fence_of gate) (1 + n) (alg_of gate)); found = Some found } ∷ record { place = Gate; act = Load; found = Some gate } ∷ record { place = Status n; act = Store announced; found = None } ∷ [], refl, Load, (2, omega arith, refl)), free, sym named);
     built = ap is_built named ∙ subst (λ x. is_built (alg_of x) ≡ true) same k.1.built;
   })
     where
@@ -127,11 +127,11 @@ module _ (good : List ℕ → Type 0) (c : Config) (n : ℕ) where
       path : w ≡ last
       path = d.2 ∙ ap (λ y. view_after (depart n) d.0 y 0) (k.2 ∙ ap (λ y. view_after (take_gate n gate) k.0 y found) (l.2 ∙ ap (λ y. view_after aim l.0 y gate) a.2))
 
-  pub tells-reopened : (alg : Alg) (v w : View) (o : Own) → Tells (reopen alg) Nothing v (gate_word 0 alg) w → Stays (known_of v o) (known_of w o)
-  tells-reopened alg v w o t = subst (λ (y : View). Stays (known_of v o) (known_of y o)) (sym t.2) (record {
+  pub tells-reopened : (fence : ℕ) (alg : Alg) (v w : View) (o : Own) → Tells (reopen fence alg) Nothing v (gate_word fence 0 alg) w → Stays (known_of v o) (known_of w o)
+  tells-reopened fence alg v w o t = subst (λ (y : View). Stays (known_of v o) (known_of y o)) (sym t.2) (record {
     idle = (refl, refl, refl, refl);
     made = refl;
-    grows = grows-same (known_of v o) (known_of (view_after (reopen alg) t.0 v (gate_word 0 alg)) o) refl refl (record { place = Gate; act = Store (gate_word 0 alg); found = None } ∷ []) refl refl refl;
+    grows = grows-same (known_of v o) (known_of (view_after (reopen fence alg) t.0 v (gate_word fence 0 alg)) o) refl refl (record { place = Gate; act = Store (gate_word fence 0 alg); found = None } ∷ []) refl refl refl;
     rises = refl;
     installs = refl;
   })

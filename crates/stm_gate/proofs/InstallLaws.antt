@@ -40,9 +40,9 @@ settles-even alg t v s w odd tml a b = record {
 }
 
 module _ (good : List ℕ → Type 0) (c : Config) (n : ℕ) where
-  pub tells-installed : (alg : Alg) (t : ℕ) (v s u y w : View) (o : Own) → HoldsClosed (known_of v o) → SeesQuiet good c n (known_of v o) → v.gate.granted ≡ false → v.lock.irrevocable ≡ false → Settles alg t v s
-      → Tells (store_base t) Nothing s t u → Tells (store_done t) Nothing u t y → Tells (install n alg) Nothing y (gate_word (1 + n) alg) w → Installs good c n alg (known_of v o) (known_of w o)
-  tells-installed alg t v s u y w o h quiet ungranted unfixed z a b d = subst (λ (x : View). Installs good c n alg (known_of v o) (known_of x o)) (sym path) (record {
+  pub tells-installed : (fence : ℕ) (alg : Alg) (t : ℕ) (v s u y w : View) (o : Own) → HoldsClosed (known_of v o) → SeesQuiet good c n (known_of v o) → v.gate.granted ≡ false → v.lock.irrevocable ≡ false → Settles alg t v s
+      → Tells (store_base t) Nothing s t u → Tells (store_done t) Nothing u t y → Tells (install n fence alg) Nothing y (gate_word fence (1 + n) alg) w → Installs good c n alg (known_of v o) (known_of w o)
+  tells-installed fence alg t v s u y w o h quiet ungranted unfixed z a b d = subst (λ (x : View). Installs good c n alg (known_of v o) (known_of x o)) (sym path) (record {
     closed = record {
       holds = record { phase = h.phase; running = h.running; closing = h.closing; holds = h.holds; ungranted = ungranted-of alg last.gate v.lock ungranted unfixed };
       made = refl;
@@ -60,22 +60,24 @@ module _ (good : List ℕ → Type 0) (c : Config) (n : ℕ) where
       at = record v { gate = record v.gate { calm = true; time = t; rebased = false; completed = false }; attempt = record v.attempt { entered = z.entered }; steps = record v.steps { rises = z.rises; trail = z.more ++ v.steps.trail } }
 
       last : View
-      last = view_after (install n alg) d.0 (view_after (store_done t) b.0 (view_after (store_base t) a.0 at t) t) (gate_word (1 + n) alg)
+      last = view_after (install n fence alg) d.0 (view_after (store_done t) b.0 (view_after (store_base t) a.0 at t) t) (gate_word fence (1 + n) alg)
 
       three : List TrailItem
-      three = record { place = Gate; act = Store (gate_word (1 + n) alg); found = None } ∷ record { place = Done; act = Store t; found = None } ∷ record { place = Base; act = Store t; found = None } ∷ []
+      three = record { place = Gate; act = Store (gate_word fence (1 + n) alg); found = None } ∷ record { place = Done; act = Store t; found = None } ∷ record { place = Base; act = Store t; found = None } ∷ []
 
       path : w ≡ last
-      path = d.2 ∙ ap (λ x. view_after (install n alg) d.0 x (gate_word (1 + n) alg)) (b.2 ∙ ap (λ x. view_after (store_done t) b.0 x t) (a.2 ∙ ap (λ x. view_after (store_base t) a.0 x t) z.is))
+      path = d.2 ∙ ap (λ x. view_after (install n fence alg) d.0 x (gate_word fence (1 + n) alg)) (b.2 ∙ ap (λ x. view_after (store_done t) b.0 x t) (a.2 ∙ ap (λ x. view_after (store_base t) a.0 x t) z.is))
 
 -- who installed goes on closing, under the new algorithm
-pub closing-installed : (callers n : ℕ) (alg : Alg) (l : Local) (t : ℕ) (v s u y w : View) → IsClosing callers n l v → is_built alg ≡ true → Settles alg t v s
-    → Tells (store_base t) Nothing s t u → Tells (store_done t) Nothing u t y → Tells (install n alg) Nothing y (gate_word (1 + n) alg) w → IsClosing callers n (record l { algorithm = alg }) w
-closing-installed callers n alg l t v s u y w k built z a b d = subst (IsClosing callers n (record l { algorithm = alg })) (sym path) (record {
+pub closing-installed : (callers n : ℕ) (fence : ℕ) (alg : Alg) (l : Local) (t : ℕ) (v s u y w : View) → IsClosing callers n l v → is_built alg ≡ true → Settles alg t v s
+    → Tells (store_base t) Nothing s t u → Tells (store_done t) Nothing u t y → Tells (install n fence alg) Nothing y (gate_word fence (1 + n) alg) w → IsClosing callers n (record l { algorithm = alg }) w
+closing-installed callers n fence alg l t v s u y w k built z a b d = subst (IsClosing callers n (record l { algorithm = alg })) (sym path) (record {
   phase = k.phase;
   absent = k.absent;
   holds = k.holds;
   named = refl;
+  guarded = record { is = k.guarded.is; fits = k.guarded.fits };
+  ungiven = k.ungiven;
   built = built;
   ungranted = k.ungranted;
   clear = record { unlocked = k.clear.unlocked; unfixed = k.clear.unfixed; disowned = k.clear.disowned; unwritten = k.clear.unwritten; uncommitted = k.clear.uncommitted; unentered = refl };
@@ -86,8 +88,8 @@ closing-installed callers n alg l t v s u y w k built z a b d = subst (IsClosing
     at : View
     at = record v { gate = record v.gate { calm = true; time = t; rebased = false; completed = false }; attempt = record v.attempt { entered = z.entered }; steps = record v.steps { rises = z.rises; trail = z.more ++ v.steps.trail } }
 
-    path : w ≡ view_after (install n alg) d.0 (view_after (store_done t) b.0 (view_after (store_base t) a.0 at t) t) (gate_word (1 + n) alg)
-    path = d.2 ∙ ap (λ x. view_after (install n alg) d.0 x (gate_word (1 + n) alg)) (b.2 ∙ ap (λ x. view_after (store_done t) b.0 x t) (a.2 ∙ ap (λ x. view_after (store_base t) a.0 x t) z.is))
+    path : w ≡ view_after (install n fence alg) d.0 (view_after (store_done t) b.0 (view_after (store_base t) a.0 at t) t) (gate_word fence (1 + n) alg)
+    path = d.2 ∙ ap (λ x. view_after (install n fence alg) d.0 x (gate_word fence (1 + n) alg)) (b.2 ∙ ap (λ x. view_after (store_done t) b.0 x t) (a.2 ∙ ap (λ x. view_after (store_base t) a.0 x t) z.is))
 
 -- the fields of who is closing say that no attempt runs and that it holds the gate
 pub closing-flags : (good : List ℕ → Type 0) (c : Config) (n : ℕ) (l : Local) (v : View) → v.gate.phase ≡ Closing → Stands good c n l v → (l.running ≡ false) × (l.holds ≡ true)

@@ -110,10 +110,12 @@ module _ (good : List ℕ → Type 0) (c : Config) (n : ℕ) where
           made = q.made ∙ k.made;
           grows = grows-trans u v w k.grows q.grows;
           alg = q.alg ∙ k.alg;
+          fence = q.fence ∙ k.fence;
           base = q.base ∙ k.base;
           rises = (let x = a.still in let y = b.still in (omega arith, omega arith));
           later = (let x = k.later in let y = q.later in omega arith);
           installs = q.installs ∙ k.installs;
+          depth = q.depth ∙ k.depth;
         };
         still = b.still ∙ a.still;
         uncommitted = b.uncommitted;
@@ -138,10 +140,12 @@ module _ (good : List ℕ → Type 0) (c : Config) (n : ℕ) where
       made = refl;
       grows = grows-same (known_of v o) (known_of v o) refl refl [] refl refl refl;
       alg = refl;
+      fence = refl;
       base = refl;
       rises = (omega arith, omega arith);
       later = omega arith;
       installs = refl;
+      depth = refl;
     };
     still = refl;
     uncommitted = quiet;

@@ -44,15 +44,18 @@ goes-inner v w o inside i = record {
     made = ap (λ (h : SeenHistory). public_history h.made) i.history;
     grows = grows-same (known_of v o) (known_of w o) (ap (λ (h : SeenHistory). public_history h.seen) i.history) (ap (λ (h : SeenHistory). h.front) i.history) i.trail.0 i.trail.1 refl refl;
     alg = ap (λ (g : GateView). g.algorithm) i.gate;
+    fence = ap (λ (g : GateView). g.fence) i.gate;
     base = i.base;
     rises = (let r = i.rises in (omega arith, omega arith));
     later = (let e = i.start in omega arith);
     installs = ap reverse i.installs;
+    depth = refl;
   };
   start = start-stays v.gate.algorithm (known_of v o) (known_of w o) i.start;
   granted = λ k. granted_under (i.gate k).algorithm (i.gate k) (i.lock k);
   holds = ap (λ (g : GateView). g.holds) i.gate;
   checked = ap (λ (g : GateView). g.checked) i.gate;
+  marks = refl;
 }
 
 -- the grant is the gate's flag, but under Serial

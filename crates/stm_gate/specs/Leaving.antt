@@ -25,9 +25,9 @@ pub record CanLeave (v : View) : Type 0 where
   pub marked : v.gate.holds ≡ true → v.attempt.entered ≡ true → (v.gate.rebased ≡ true) × (v.gate.completed ≡ true)
 
 -- the last steps of caller n, the latest first: it stores the gate where it holds it, and its status
-abbrev pub last_steps : ℕ → Bool → Alg → List TrailItem
-last_steps n true alg = record { place = Status n; act = Store 0; found = None } ∷ record { place = Gate; act = Store (gate_word 0 alg); found = None } ∷ []
-last_steps n false alg = record { place = Status n; act = Store 0; found = None } ∷ []
+abbrev pub last_steps : ℕ → Bool → ℕ → Alg → List TrailItem
+last_steps n true fence alg = record { place = Status n; act = Store 0; found = None } ∷ record { place = Gate; act = Store (gate_word fence 0 alg); found = None } ∷ []
+last_steps n false fence alg = record { place = Status n; act = Store 0; found = None } ∷ []
 
 -- the caller is idle, and whatever it knew as the gate's holder is gone
 abbrev pub gate_left : Bool → GateView → GateView
@@ -40,6 +40,7 @@ gate_left held g = record g {
   calm = if held then false else g.calm;
   rebased = if held then false else g.rebased;
   completed = if held then false else g.completed;
+  giving = if held then false else g.giving;
 }
 
 abbrev pub left_by : ℕ → Bool → View → View
@@ -49,7 +50,7 @@ left_by n held v = record v {
   tml = record v.tml { inside = false };
   owned = record v.owned { inside = false };
   ring_read = record v.ring_read { inside = false };
-  steps = record v.steps { trail = last_steps n held v.gate.algorithm ++ v.steps.trail };
+  steps = record v.steps { trail = last_steps n held v.gate.fence v.gate.algorithm ++ v.steps.trail };
 }
 
 -- the view of caller n after the last steps of its attempt: all else is as it was

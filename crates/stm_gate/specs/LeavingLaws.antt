@@ -82,11 +82,11 @@ finds-full x v u o p high f = record { limit = high; found = f; top = found-top 
 
 module _ (n : ℕ) where
   pub trail-left : (v u : View) → Carried v u → (more : List TrailItem) × ((left n u).steps.trail ≡ more ++ v.steps.trail)
-  trail-left v u c = let last = last_steps n u.gate.holds u.gate.algorithm in (last ++ c.trail.0, ap (λ s. last ++ s) c.trail.1 ∙ sym (append_assoc last c.trail.0 v.steps.trail))
+  trail-left v u c = let last = last_steps n u.gate.holds u.gate.fence u.gate.algorithm in (last ++ c.trail.0, ap (λ s. last ++ s) c.trail.1 ∙ sym (append_assoc last c.trail.0 v.steps.trail))
 
   -- what was found before the last steps
   pub found-left : (place : At) (x : ℕ) (v u : View) (o p : Own) → Found place x (known_of v o) (known_of u p) → Found place x (known_of v o) (known_of (left n u) p)
-  found-left place x v u o p f = found-later place x (known_of v o) (known_of u p) (known_of (left n u) p) f (last_steps n u.gate.holds u.gate.algorithm) refl
+  found-left place x v u o p f = found-later place x (known_of v o) (known_of u p) (known_of (left n u) p) f (last_steps n u.gate.holds u.gate.fence u.gate.algorithm) refl
 
   pub ends-left : (v u : View) (o : Own) → Carried v u → Grows (known_of v o) (known_of (left n u) o) → Ends (known_of v o) (known_of (left n u) o)
   ends-left v u o c grows = record { idle = (refl, refl, refl, refl); grows = grows; alg = c.named; base = c.base; installs = ap reverse c.installs }

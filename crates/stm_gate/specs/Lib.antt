@@ -15,3 +15,4 @@ pub mod Told
 pub mod Starts
 pub mod Granting
 pub mod DirectLaws
+pub mod Counting

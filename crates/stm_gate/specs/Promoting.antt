@@ -22,6 +22,7 @@ pub record TakesGate (v w : View) : Type 0 where
   pub holds : gate.holds ≡ true
   pub phase : gate.phase ≡ v.gate.phase
   pub algorithm : gate.algorithm ≡ v.gate.algorithm
+  pub fence : gate.fence ≡ v.gate.fence
   pub granted : gate.granted ≡ v.gate.granted
   -- no step was on a record
   pub spares : (r : ℕ) → Untouched (Record r) more

@@ -38,7 +38,7 @@ use Rattle.stm_gate.specs.declared.promote.Promotion.TheVariants as promotes
 use Rattle.stm_gate.specs.Standing.{tml-of}
 
 pub takes-refl : (v : View) → v.gate.holds ≡ true → TakesGate v v
-takes-refl v h = record { gate = v.gate; more = []; is = refl; holds = h; phase = refl; algorithm = refl; granted = refl; spares = λ r. tt }
+takes-refl v h = record { gate = v.gate; more = []; is = refl; holds = h; phase = refl; algorithm = refl; fence = refl; granted = refl; spares = λ r. tt }
 
 untouched-looks : (r : ℕ) (seen : List ℕ) (is js : List TrailItem) → OfUnseen seen is → Untouched (Record r) js → Untouched (Record r) (is ++ js)
 untouched-looks r seen [] js h u = u
@@ -52,6 +52,7 @@ takes-looked u v w a b = record {
   holds = a.holds;
   phase = a.phase;
   algorithm = a.algorithm;
+  fence = a.fence;
   granted = a.granted;
   spares = λ r. untouched-looks r v.gate.checked b.more a.more b.unseen (a.spares r);
 }
@@ -83,46 +84,48 @@ module _ (c : Config) (n : ℕ) where
     two who.0 who.1 low who.2,
   )
 
-  abbrev pub items_of : (gate found : ℕ) (alg : Alg) → List TrailItem
-  items_of gate found alg = record { place = Gate; act = Exchange (gate_word 0 alg) (gate_word (1 + n) alg); found = Some found } ∷ record { place = Gate; act = Load; found = Some gate } ∷ []
+  abbrev pub items_of : (gate found : ℕ) (fence : ℕ) (alg : Alg) → List TrailItem
+  items_of gate found fence alg = record { place = Gate; act = Exchange (gate_word fence 0 alg) (gate_word fence (1 + n) alg); found = Some found } ∷ record { place = Gate; act = Load; found = Some gate } ∷ []
 
-  seize_path : (alg : Alg) (gate found : ℕ) (v s w : View) (b : Bool) → (found == gate_word 0 alg) ≡ b → Tells look_gate (FindsGate c n) v gate s → Tells (seize n alg) (FindsTaken c n (gate_word 0 alg)) s found w
-      → w ≡ gated v (if b then seized v.gate else v.gate) (items_of gate found alg ++ v.steps.trail)
-  seize_path alg gate found v s w b e t k = k.2 ∙ (ap (λ (y : View). view_after (seize n alg) k.0 y found) t.2 ∙ ap (λ (d : Bool). gated v (if d then seized v.gate else v.gate) (items_of gate found alg ++ v.steps.trail)) e)
+  seize_path : (fence : ℕ) (alg : Alg) (gate found : ℕ) (v s w : View) (b : Bool) → (found == gate_word fence 0 alg) ≡ b → Tells look_gate (FindsGate c n) v gate s → Tells (seize n fence alg) (FindsTaken c n (gate_word fence 0 alg)) s found w
+      → w ≡ gated v (if b then seized v.gate else v.gate) (items_of gate found fence alg ++ v.steps.trail)
+  seize_path fence alg gate found v s w b e t k = k.2 ∙ (ap (λ (y : View). view_after (seize n fence alg) k.0 y found) t.2 ∙ ap (λ (d : Bool). gated v (if d then seized v.gate else v.gate) (items_of gate found fence alg ++ v.steps.trail)) e)
 
-  pub seizes-taken : (alg : Alg) (gate found : ℕ) (v s w : View) → n < c.callers → found ≢ gate_word 0 alg → Tells look_gate (FindsGate c n) v gate s → Tells (seize n alg) (FindsTaken c n (gate_word 0 alg)) s found w → ClosesFor c n (Some found) v w
-  seizes-taken alg gate found v s w low other t k =
-      let apart : (found == gate_word 0 alg) ≡ false = grind (arith, nat_tests) in
-      let path = seize_path alg gate found v s w false apart t k in
+  pub seizes-taken : (fence : ℕ) (alg : Alg) (gate found : ℕ) (v s w : View) → n < c.callers → found ≢ gate_word fence 0 alg → Tells look_gate (FindsGate c n) v gate s → Tells (seize n fence alg) (FindsTaken c n (gate_word fence 0 alg)) s found w → ClosesFor c n (Some found) v w
+  seizes-taken fence alg gate found v s w low other t k =
+      let apart : (found == gate_word fence 0 alg) ≡ false = grind (arith, nat_tests) in
+      let path = seize_path fence alg gate found v s w false apart t k in
       let who = k.1.closer other in (
-        (items_of gate found alg, path),
-        (items_of gate found alg, ap (λ (y : View). y.steps.trail) path, Exchange (gate_word 0 alg) (gate_word (1 + n) alg), (0, omega arith, refl)),
+        (items_of gate found fence alg, path),
+        (items_of gate found fence alg, ap (λ (y : View). y.steps.trail) path, Exchange (gate_word fence 0 alg) (gate_word fence (1 + n) alg), (0, omega arith, refl)),
         who,
         two who.0 who.1 low who.2,
       )
 
-  pub seizes-won : (alg : Alg) (gate found : ℕ) (v s w : View) → found ≡ gate_word 0 alg → Tells look_gate (FindsGate c n) v gate s → Tells (seize n alg) (FindsTaken c n (gate_word 0 alg)) s found w
-      → w ≡ gated v (seized v.gate) (items_of gate found alg ++ v.steps.trail)
-  seizes-won alg gate found v s w same t k = let here : (found == gate_word 0 alg) ≡ true = grind (arith, nat_tests) in seize_path alg gate found v s w true here t k
+  pub seizes-won : (fence : ℕ) (alg : Alg) (gate found : ℕ) (v s w : View) → found ≡ gate_word fence 0 alg → Tells look_gate (FindsGate c n) v gate s → Tells (seize n fence alg) (FindsTaken c n (gate_word fence 0 alg)) s found w
+      → w ≡ gated v (seized v.gate) (items_of gate found fence alg ++ v.steps.trail)
+  seizes-won fence alg gate found v s w same t k = let here : (found == gate_word fence 0 alg) ≡ true = grind (arith, nat_tests) in seize_path fence alg gate found v s w true here t k
 
-  pub takes-won : (alg : Alg) (gate found : ℕ) (v s w : View) → found ≡ gate_word 0 alg → Tells look_gate (FindsGate c n) v gate s → Tells (seize n alg) (FindsTaken c n (gate_word 0 alg)) s found w → ClosesFor c n None v w
-  takes-won alg gate found v s w same t k = record { gate = seized v.gate; more = items_of gate found alg; is = seizes-won alg gate found v s w same t k; holds = refl; phase = refl; algorithm = refl; granted = refl; spares = λ r. ((λ e. absurd cc), ((λ e. refl), tt)) }
+  pub takes-won : (fence : ℕ) (alg : Alg) (gate found : ℕ) (v s w : View) → found ≡ gate_word fence 0 alg → Tells look_gate (FindsGate c n) v gate s → Tells (seize n fence alg) (FindsTaken c n (gate_word fence 0 alg)) s found w → ClosesFor c n None v w
+  takes-won fence alg gate found v s w same t k = record { gate = seized v.gate; more = items_of gate found fence alg; is = seizes-won fence alg gate found v s w same t k; holds = refl; phase = refl; algorithm = refl; fence = refl; granted = refl; spares = λ r. ((λ e. absurd cc), ((λ e. refl), tt)) }
 
   module _ (good : List ℕ → Type 0) where
     -- the attempt goes on as it was, but for the gate
-    pub waits-by : (v w : View) (g : GateView) (more : List TrailItem) (o : Own) → w ≡ gated v g (more ++ v.steps.trail) → g.phase ≡ v.gate.phase → g.algorithm ≡ v.gate.algorithm → g.granted ≡ v.gate.granted → v.gate.phase ≡ In → o.committing ≡ false
+    pub waits-by : (v w : View) (g : GateView) (more : List TrailItem) (o : Own) → w ≡ gated v g (more ++ v.steps.trail) → g.phase ≡ v.gate.phase → g.algorithm ≡ v.gate.algorithm → g.fence ≡ v.gate.fence → g.granted ≡ v.gate.granted → v.gate.phase ≡ In → o.committing ≡ false
         → closes_gate v.gate.algorithm ≡ true → is_irrevocable (known_of v o) ≡ false → IsOpaque good c n (known_of v o) → Waits good c n (known_of v o) (known_of w o)
-    waits-by v w g more o is phase algorithm granted inside quiet closes revocable q = subst (λ (y : View). Waits good c n (known_of v o) (known_of y o)) (sym is) (record {
+    waits-by v w g more o is phase algorithm fence granted inside quiet closes revocable q = subst (λ (y : View). Waits good c n (known_of v o) (known_of y o)) (sym is) (record {
       continues = record {
         running = ap is_in phase ∙ ap is_in inside;
         closing = ap is_closing phase ∙ ap is_closing inside;
         made = refl;
         grows = grows-same (known_of v o) (known_of y o) refl refl more refl refl refl;
         alg = algorithm;
+        fence = fence;
         base = refl;
         rises = (omega arith, omega arith);
         later = omega arith;
         installs = refl;
+        depth = refl;
       };
       still = refl;
       uncommitted = quiet;
@@ -132,6 +135,7 @@ module _ (c : Config) (n : ℕ) where
       granted = (λ j. granted_under (algorithm j) g v.lock) ∙ granted-same v.gate.algorithm g v.gate v.lock granted;
       revocable = revocable;
       closes = closes;
+      marks = refl;
     })
       where
         y : View
@@ -140,18 +144,18 @@ module _ (c : Config) (n : ℕ) where
     pub promotes-taken : (gate : ℕ) (v w : View) (o p : Own) → p ≡ o → v.gate.phase ≡ In → o.committing ≡ false → closes_gate v.gate.algorithm ≡ true → is_irrevocable (known_of v o) ≡ false → IsOpaque good c n (known_of v o)
         → ClosesFor c n (Some gate) v w → Promotes c n good (promotes.Taken gate) (known_of v o) (known_of w p)
     promotes-taken gate v w o p own inside quiet closes revocable q a = subst (λ (r : Own). Promotes c n good (promotes.Taken gate) (known_of v o) (known_of w r)) (sym own)
-        (waits-by v w v.gate a.0.0 o a.0.1 refl refl refl inside quiet closes revocable q, ap (λ (y : View). y.gate.holds) a.0.1, ap (λ (y : View). y.gate.checked) a.0.1, a.1, a.2, a.3)
+        (waits-by v w v.gate a.0.0 o a.0.1 refl refl refl refl inside quiet closes revocable q, ap (λ (y : View). y.gate.holds) a.0.1, ap (λ (y : View). y.gate.checked) a.0.1, a.1, a.2, a.3)
 
     pub promotes-alone : (u v w : View) (o p : Own) → p ≡ o → u.gate.phase ≡ In → o.committing ≡ false → closes_gate u.gate.algorithm ≡ true → is_irrevocable (known_of u o) ≡ false → IsOpaque good c n (known_of u o)
         → ClosesFor c n None u v → LooksUntil c n good looks.Quiet v w → Promotes c n good promotes.Alone (known_of u o) (known_of w p)
     promotes-alone u v w o p own inside quiet closes revocable q a b = subst (λ (r : Own). Promotes c n good promotes.Alone (known_of u o) (known_of w r)) (sym own)
-        (let t = takes-looked u v w a b.0 in (waits-by u w t.gate t.more o t.is t.phase t.algorithm t.granted inside quiet closes revocable q, ap (λ (y : View). y.gate.holds) t.is ∙ t.holds, b.1, (t.more, ap (λ (y : View). y.steps.trail) t.is, t.spares)))
+        (let t = takes-looked u v w a b.0 in (waits-by u w t.gate t.more o t.is t.phase t.algorithm t.fence t.granted inside quiet closes revocable q, ap (λ (y : View). y.gate.holds) t.is ∙ t.holds, b.1, (t.more, ap (λ (y : View). y.steps.trail) t.is, t.spares)))
 
     pub promotes-busy : (k status : ℕ) (u v w : View) (o p : Own) → p ≡ o → u.gate.phase ≡ In → o.committing ≡ false → closes_gate u.gate.algorithm ≡ true → is_irrevocable (known_of u o) ≡ false → IsOpaque good c n (known_of u o)
         → ClosesFor c n None u v → LooksUntil c n good (looks.Busy k status) v w → Promotes c n good (promotes.Busy k status) (known_of u o) (known_of w p)
     promotes-busy k status u v w o p own inside quiet closes revocable q a b = subst (λ (r : Own). Promotes c n good (promotes.Busy k status) (known_of u o) (known_of w r)) (sym own)
         (let t = takes-looked u v w a b.0 in (
-          waits-by u w t.gate t.more o t.is t.phase t.algorithm t.granted inside quiet closes revocable q,
+          waits-by u w t.gate t.more o t.is t.phase t.algorithm t.fence t.granted inside quiet closes revocable q,
           ap (λ (y : View). y.gate.holds) t.is ∙ t.holds,
           record { other = b.1.other; announced = b.1.announced; found = found-earlier _ status (known_of u (idle_own c)) (known_of v (idle_own c)) (known_of w (idle_own c)) b.1.found a.more (ap (λ (y : View). y.steps.trail) a.is); before = b.1.before },
         ))
@@ -195,7 +199,7 @@ module _ (c : Config) (n : ℕ) where
     keeps-seized l v trail Tml e k = record { inside = k.inside; settled = k.settled; unlocked = k.unlocked; uncommitted = k.uncommitted; unfixed = k.unfixed; ungranted = k.ungranted; even = k.even; writer = k.writer; clean = k.clean; dirty = k.dirty; uncalm = refl; rises = k.rises; limit = k.limit; sole = k.sole }
     keeps-seized l v trail OrecLazy e k = record {
       optimistic = optimistic-gated v (seized v.gate) trail refl refl k.optimistic;
-      buffers = record { wrote = k.buffers.wrote; once = k.buffers.once; inside = k.buffers.inside; small = k.buffers.small };
+      buffers = record { wrote = k.buffers.wrote; once = k.buffers.once; inside = k.buffers.inside; small = k.buffers.small; apart = k.buffers.apart };
       inside = k.inside;
       lazy = k.lazy;
       open_yet = k.open_yet;
@@ -212,6 +216,7 @@ module _ (c : Config) (n : ℕ) where
       open_handed = k.open_handed;
       locked = k.locked;
       committing = k.committing;
+      marked = k.marked;
       olds = k.olds;
       sole = k.sole;
     }
@@ -241,7 +246,7 @@ module _ (c : Config) (n : ℕ) where
     }
     keeps-seized l v trail RingSw e k = record {
       optimistic = optimistic-gated v (seized v.gate) trail refl refl k.optimistic;
-      buffers = record { wrote = k.buffers.wrote; once = k.buffers.once; inside = k.buffers.inside; small = k.buffers.small };
+      buffers = record { wrote = k.buffers.wrote; once = k.buffers.once; inside = k.buffers.inside; small = k.buffers.small; apart = k.buffers.apart };
       inside = k.inside;
       settled = k.settled;
       loaded = k.loaded;
@@ -279,6 +284,7 @@ module _ (c : Config) (n : ℕ) where
         stays = record {
           phase = i.phase;
           named = i.named;
+          spared = record { is = i.spared.is; fits = i.spared.fits };
           built = i.built;
           disowned = i.disowned;
           unentered = i.unentered;

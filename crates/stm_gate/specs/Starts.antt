@@ -7,7 +7,7 @@ use Rattle.rule_base.specs.declared.views.Phase.TheVariants.{In}
 use Rattle.rule_base.specs.declared.views.View.{View}
 use Rattle.rule_base.specs.Own.{Own}
 use Rattle.stm_rule.specs.declared.local.Local.{Local}
-use Rattle.stm_rule.specs.Attempts.{IsClear, IsInside, begun}
+use Rattle.stm_rule.specs.Attempts.{IsFenceOf, IsClear, IsInside, begun}
 use Rattle.tx_answers.specs.declared.answers.Begin.{Begin}
 use Rattle.tx_answers.specs.declared.answers.Begin.TheVariants.{Begun, Closed, Held, ClockFull}
 use Rattle.tx_answers.specs.Answers.{HasOthers, IsHeld, IsOpaque, start_word}
@@ -28,7 +28,7 @@ pub record CanBegin (alg : Alg) (v : View) : Type 0 where
 
 -- an idle descriptor keeps nothing of an attempt
 abbrev pub IsFresh : Own → Type 0
-IsFresh o = (o.committing ≡ false) × (o.buffered ≡ [])
+IsFresh o = (o.committing ≡ false) × (o.buffered ≡ []) × (o.depth ≡ 0) × (o.marks ≡ [])
 
 -- what no begin changes
 pub record KeepsCaller (v w : Known) : Type 0 where
@@ -54,8 +54,9 @@ module _ (good : List ℕ → Type 0) (c : Config) (n : ℕ) (alg : Alg) where
     pub opaque : IsOpaque good c n w
 
   pub record StartsAt (start : ℕ) (v w : View) : Type 0 where
-    pub inside : (l : Local) → l.holds ≡ false → IsInside good c n (begun alg start l) w
+    pub inside : (l : Local) → IsFenceOf l w → l.holds ≡ false → IsInside good c n (begun alg start l) w
     pub reopened : w.gate.holds ≡ false
+    pub fence : w.gate.fence ≡ v.gate.fence
     pub rises : w.steps.rises ≡ w.steps.rises_at_begin
     pub starts : (o : Own) → IsFresh o → StartsFrom start (known_of v o) (known_of w o)
 

@@ -4,7 +4,8 @@
 //! A caller stores 1 in its status before it loads the gate. So whoever closes the gate and then finds a
 //! status 0 knows that this caller, should it announce later, will load a closed gate and withdraw
 //! (Spear, "Lightweight, Robust Adaptivity for Software Transactional Memory", SPAA 2010).
-ghost use Rattle.std.specs.Prelude.{◌≡◌, ℕ, ◌<◌, true};
+ghost use Rattle.stm_gate.specs.Counting.{TakesAtMost, AddsAtMost};
+ghost use Rattle.std.specs.Prelude.{◌≡◌, ℕ, ◌<◌, true, false};
 ghost use Rattle.rule_base.specs.InstallSteps.{CanSettle};
 ghost use Rattle.rule_base.specs.declared.views.Phase.TheVariants.{Closing};
 ghost use Rattle.stm_rule.specs.Callers.{IsOf, IsSameCaller, IsSeatOf};
@@ -16,7 +17,7 @@ ghost use Rattle.stm_gate.specs.Installing.{Settles};
 ghost use Rattle.stm_gate.specs.Knowing.{known, number};
 
 use crate::looking::look_on;
-use rule_base::words::{alg_of, holder_of};
+use rule_base::words::{alg_of, fence_of, holder_of};
 use stm_model::alg::Alg;
 use stm_model::rule::MemRule;
 use stm_rule::desc::Desc;
@@ -32,6 +33,7 @@ pub fn close_gate<K: MemRule>(desc: &mut Desc<K>, stm: &Stm<K>) -> CloseGate
     requires idle { IsIdle (known desc.old) }
     ensures same { IsSameCaller desc.old desc.new }
     ensures closes { Closes (K.good stm.now.rule) stm.now.config (number desc.old) result (known desc.old) (known desc.new) }
+    ensures steps { AddsAtMost 4 (known desc.old) (known desc.new) }
 {
     let caller = desc.number;
     stm.announce(&mut desc.seat, caller);
@@ -46,6 +48,7 @@ pub fn close_gate<K: MemRule>(desc: &mut Desc<K>, stm: &Stm<K>) -> CloseGate
         return CloseGate::Taken { gate: found };
     }
     desc.local.algorithm = alg_of(gate);
+    desc.local.fence = fence_of(gate);
     desc.local.holds = true;
     desc.local.next = 0;
     CloseGate::Closed
@@ -59,6 +62,7 @@ pub fn look<K: MemRule>(desc: &mut Desc<K>, stm: &Stm<K>) -> Look
     requires closing { HoldsClosed (known desc.old) }
     ensures same { IsSameCaller desc.old desc.new }
     ensures looks { Looks (K.good stm.now.rule) stm.now.config (number desc.old) result (known desc.old) (known desc.new) }
+    ensures steps { AddsAtMost stm.now.config.callers (known desc.old) (known desc.new) }
 {
     look_on(desc, stm)
 }
@@ -72,12 +76,13 @@ pub fn install<K: MemRule>(desc: &mut Desc<K>, stm: &Stm<K>, alg: Alg)
     requires built { is_built alg ≡ true }
     ensures same { IsSameCaller desc.old desc.new }
     ensures installs { Installs (K.good stm.now.rule) stm.now.config (number desc.old) alg (known desc.old) (known desc.new) }
+    ensures steps { AddsAtMost 5 (known desc.old) (known desc.new) }
 {
     let caller = desc.number;
     let clock = settle_for(&mut desc.seat, stm, caller, alg);
     stm.store_base(&mut desc.seat, caller, clock);
     stm.store_done(&mut desc.seat, caller, clock);
-    stm.install(&mut desc.seat, caller, alg);
+    stm.install(&mut desc.seat, caller, desc.local.fence, alg);
     desc.local.algorithm = alg;
 }
 
@@ -86,10 +91,12 @@ fn settle_for<K: MemRule>(seat: &mut Token<K>, stm: &Stm<K>, caller: usize, alg:
     requires seat { IsSeatOf stm.now caller seat.old }
     requires caller { caller < stm.now.config.callers }
     requires closing { (view_of seat.old).gate.phase ≡ Closing }
+    requires given { (view_of seat.old).gate.giving ≡ false }
     requires quiet { CanSettle stm.now.config.callers caller (view_of seat.old) }
     ensures same { IsSameSeat seat.old seat.new }
     ensures rest { seat.new.me.0 ≡ record seat.old.me.0 { view = view_of seat.new } }
     ensures settles { Settles alg result (view_of seat.old) (view_of seat.new) }
+    ensures steps { TakesAtMost 2 (view_of seat.old) (view_of seat.new) }
 {
     let clock = stm.settle(seat, caller);
     if clock % 2 == 0 {
@@ -109,8 +116,14 @@ pub fn reopen<K: MemRule>(desc: &mut Desc<K>, stm: &Stm<K>)
     requires closing { HoldsClosed (known desc.old) }
     ensures same { IsSameCaller desc.old desc.new }
     ensures reopens { Reopens (K.good stm.now.rule) stm.now.config (number desc.old) (known desc.old) (known desc.new) }
+    ensures steps { AddsAtMost 2 (known desc.old) (known desc.new) }
 {
     let caller = desc.number;
-    stm.reopen(&mut desc.seat, caller, desc.local.algorithm);
+    stm.reopen(
+        &mut desc.seat,
+        caller,
+        desc.local.fence,
+        desc.local.algorithm,
+    );
     desc.local.holds = false;
 }

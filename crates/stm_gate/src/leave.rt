@@ -1,7 +1,8 @@
 //! The end of an attempt, under every algorithm: the gate is reopened where the attempt holds it, and the
 //! status becomes 0.
+ghost use Rattle.stm_gate.specs.Counting.{TakesAtMost};
 ghost use Rattle.std.specs.Prelude.{◌≡◌, ℕ, ◌<◌};
-ghost use Rattle.stm_rule.specs.Attempts.{IsOutside, ended};
+ghost use Rattle.stm_rule.specs.Attempts.{IsFenceOf, IsOutside, ended};
 ghost use Rattle.stm_rule.specs.Callers.{IsSeatOf};
 ghost use Rattle.stm_rule.specs.Kept.{IsSameSeat, view_of};
 ghost use Rattle.stm_gate.specs.Leaving.{CanLeave, left};
@@ -18,14 +19,16 @@ pub fn leave<K: MemRule>(seat: &mut Token<K>, local: &mut Local, stm: &Stm<K>, c
     requires caller { caller < stm.now.config.callers }
     requires view { CanLeave (view_of seat.old) }
     requires holds { local.old.holds ≡ (view_of seat.old).gate.holds }
+    requires fence { IsFenceOf local.old (view_of seat.old) }
     requires named { local.old.algorithm ≡ (view_of seat.old).gate.algorithm }
     ensures same { IsSameSeat seat.old seat.new }
     ensures left { seat.new.me.0 ≡ record seat.old.me.0 { view = left caller (view_of seat.old) } }
     ensures outside { IsOutside (view_of seat.new) }
     ensures idle { local.new ≡ ended local.old }
+    ensures steps { TakesAtMost 2 (view_of seat.old) (view_of seat.new) }
 {
     if local.holds {
-        stm.return_gate(seat, caller, local.algorithm);
+        stm.return_gate(seat, caller, local.fence, local.algorithm);
     }
     stm.depart(seat, caller);
     local.end();

@@ -1,8 +1,9 @@
 //! Looking at the other callers, by the one that holds the gate.
+ghost use Rattle.stm_gate.specs.Counting.{AddsAtMost};
 ghost use Rattle.std.specs.Prelude.{◌≡◌, ℕ, ◌<◌, true};
 ghost use Rattle.stm_rule.specs.Attempts.{HasLooked};
 ghost use Rattle.stm_rule.specs.Callers.{IsOf, IsSameCaller};
-ghost use Rattle.stm_gate.specs.Knowing.{number};
+ghost use Rattle.stm_gate.specs.Knowing.{known, number};
 ghost use Rattle.stm_gate.specs.Looking.{LooksOn, LooksUntil, Finds};
 
 use stm_model::rule::MemRule;
@@ -18,6 +19,7 @@ pub(crate) fn look_on<K: MemRule>(desc: &mut Desc<K>, stm: &Stm<K>) -> Look
     ensures same { IsSameCaller desc.old desc.new }
     ensures own { desc.new.own ≡ desc.old.own }
     ensures looks { LooksUntil stm.now.config (number desc.old) (K.good stm.now.rule) result desc.old.view desc.new.view }
+    ensures steps { AddsAtMost stm.now.config.callers (known desc.old) (known desc.new) }
 {
     for other in first_unseen(desc)..stm.config.callers {
         let status = look_at(desc, stm, other);
@@ -50,6 +52,7 @@ fn look_at<K: MemRule>(desc: &mut Desc<K>, stm: &Stm<K>, other: usize) -> u64
     ensures own { (desc.new.own ≡ desc.old.own) × (number desc.old < stm.now.config.callers) }
     ensures looks { LooksOn desc.old.view desc.new.view }
     ensures found { Finds stm.now.config (number desc.old) other result desc.old.view desc.new.view }
+    ensures steps { AddsAtMost 1 (known desc.old) (known desc.new) }
 {
     let caller = desc.number;
     if other == caller {

@@ -61,12 +61,13 @@ fn close_for<K: MemRule>(desc: &mut Desc<K>, stm: &Stm<K>) -> Option<u64>
     }
     let caller = desc.number;
     let alg = desc.local.algorithm;
+    let fence = desc.local.fence;
     let gate = stm.look_gate(&mut desc.seat, caller);
     if holder_of(gate) != 0 {
         return Some(gate);
     }
-    let found = stm.seize(&mut desc.seat, caller, alg);
-    if found != gate_word(0, alg) {
+    let found = stm.seize(&mut desc.seat, caller, fence, alg);
+    if found != gate_word(fence, 0, alg) {
         return Some(found);
     }
     desc.local.holds = true;

@@ -32,4 +32,6 @@ pub struct Config {
     pub writes: usize,
     /// The clock at the start, at most `CLOCK_LIMIT`.
     pub clock: u64,
+    /// Whether a caller may take a range of words out of the transactions; where it is false, no fence ever stands.
+    pub fence: bool,
 }

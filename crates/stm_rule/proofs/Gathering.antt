@@ -12,9 +12,12 @@ use Rattle.rule_base.specs.declared.seats.Gathered.{Gathered}
 use Rattle.rule_base.specs.declared.seats.Role.{Role}
 use Rattle.rule_base.specs.declared.seats.Role.TheVariants.{Dealer, Caller, Note, Spent}
 use Rattle.rule_base.specs.declared.seats.SeatView.{SeatView}
-use Rattle.rule_base.specs.declared.views.Phase.TheVariants.{Idle, In}
+use Rattle.rule_base.specs.declared.views.Phase.TheVariants.{Idle, In, Closing}
 use Rattle.rule_base.specs.declared.views.Steps.{Steps}
 use Rattle.rule_base.specs.declared.views.View.{View}
+use Rattle.rule_base.specs.Encodings.{fence_of, fence_owner}
+use Rattle.rule_base.specs.Fence.{veiled, veil}
+use Rattle.rule_base.specs.FenceLaws.{veiled-none}
 use Rattle.rule_base.specs.Encodings.{alg_of, holder_of}
 use Rattle.rule_base.specs.History.{word_now}
 use Rattle.rule_base.specs.HistoryLemmas.{merged, made_by-none}
@@ -24,11 +27,12 @@ use Rattle.rule_base.specs.StepsRule.{all_rises}
 use Rattle.rule_base.specs.World.{World}
 use Rattle.stm_rule.specs.Callers.{Handle, BelongsTo, IdleAt}
 use Rattle.stm_rule.specs.Closings.{shown, installs_of, installs_by, installs_from}
-use Rattle.rule_base.specs.Regime.{Regime}
-use Rattle.rule_base.specs.RegimeLemmas.{regime-running}
+use Rattle.rule_base.specs.Regime.{mode_of, Regime}
+use Rattle.rule_base.specs.Regime.Mode.{Plain}
+use Rattle.rule_base.specs.RegimeLemmas.{plain-mode, regime-running}
 use Rattle.rule_base.specs.RunScene.{run_scene}
-use Rattle.stm_rule.specs.Frames.{ungranted-out, owner-holds}
-use Rattle.stm_rule.specs.Product.{Runs, Whole}
+use Rattle.stm_rule.specs.Frames.{ungranted-out, ungiven-out, owner-holds}
+use Rattle.stm_rule.specs.Product.{Runs, Core, Whole}
 use Rattle.stm_rule.specs.Running.{at-rest}
 
 module _ {K : Type 0} where
@@ -51,7 +55,7 @@ module _ {K : Type 0} where
   every_and P Q n [] p q = tt
   every_and P Q n (d ∷ ds) p q = ((p.0, q.0), every_and P Q (suc n) ds p.1 q.1)
 
-  pub every_idle : (t : TableId) (c : Config) (rule : K) (n : ℕ) (ds : List (Handle K)) → IdleAt t c rule n ds → Every (λ k v. v.gate.phase ≡ Idle) n ds
+  pub every_idle : (t : TableId) (c : Config) (rule : K) (n : ℕ) (ds : List (Handle K)) → IdleAt t c rule n ds → Every (λ k v. (v.gate.phase ≡ Idle) × (v.fence.holds ≡ false)) n ds
   every_idle t c rule n [] a = tt
   every_idle t c rule n (d ∷ ds) a = (a.2, every_idle t c rule (suc n) ds a.3)
 
@@ -97,14 +101,14 @@ module _ {K : Type 0} where
 
   pub all_here : (t : TableId) (c : Config) (rule : K) (n : ℕ) (ds : List (Handle K)) → IdleAt t c rule n ds → AllHere t n ds
   all_here t c rule n [] a = tt
-  all_here t c rule n (d ∷ ds) a = (a.0.table, a.1, a.2, all_here t c rule (suc n) ds a.3)
+  all_here t c rule n (d ∷ ds) a = (a.0.table, a.1, a.2.0, all_here t c rule (suc n) ds a.3)
 
   pub here_split : (t : TableId) (n : ℕ) (ds : List (Handle K)) (d : Handle K) → AllHere t n (ds ++ d ∷ []) → AllHere t n ds × (d.table ≡ t) × (d.view.gate.phase ≡ Idle)
   here_split t n [] d a = (tt, a.0, a.2)
   here_split t n (x ∷ ds) d a = let r = here_split t (suc n) ds d a.3 in ((a.0, a.1, a.2, r.0), r.1, r.2)
 
   pub idle_last : (t : TableId) (c : Config) (rule : K) (n : ℕ) (ds : List (Handle K)) (d : Handle K) → IdleAt t c rule n (ds ++ d ∷ []) → BelongsTo d t c rule × (d.view.gate.phase ≡ Idle)
-  idle_last t c rule n [] d a = (a.0, a.2)
+  idle_last t c rule n [] d a = (a.0, a.2.0)
   idle_last t c rule n (x ∷ ds) d a = idle_last t c rule (suc n) ds d a.3
 
   -- the first seat shows the last descriptor
@@ -137,9 +141,9 @@ installs_found f (g ∷ gs) k v all h = ⊎_elim
     (⊎_elim (λ (e : g ≡ record { caller = k; view = v }). absurd (t.1 (ap (λ (y : Gathered). y.caller) e))) (λ c. c) (contains-cons g gs (record { caller = k; view = v }) h)))
     (eqb_tells g.caller k)
 
--- while all callers are idle the memory lies in the heap
-pub rests : (good : (ℕ → ℕ) → Type 0) (c : Config) (w : World) → Whole good c w → ((k : ℕ) → k < c.callers → (w.views k).gate.phase ≡ Idle) → (a : ℕ) → w.heap a ≡ word_now w.history a
-rests good c w g idle = (at-rest c (alg_of w.gate) (run_scene w) (subst (λ (r : Regime). Runs c r (run_scene w)) (regime-running w ungranted) g.running) (free w.lock refl) (λ m t. let o : (w.views m).gate.phase ≡ In = g.attempts.busy m (busy-writer (w.views m) t) in let i = out m in cc) (λ m t. let o : (w.views m).gate.phase ≡ In = g.attempts.busy m (busy-turn (w.views m) t) in let i = out m in cc) (λ has r m e. let o : (w.views m).gate.phase ≡ In = g.records.inside m r (owner-holds good c w g r m e) in let i = out m in cc)).0
+-- while all callers are idle, and where there is no fence, the memory lies in the heap
+bare_rests : (good : (ℕ → ℕ) → Type 0) (c : Config) (w : World) → Core good c w → ((k : ℕ) → k < c.callers → (w.views k).gate.phase ≡ Idle) → (a : ℕ) → w.heap a ≡ word_now w.history a
+bare_rests good c w g idle = (at-rest c (alg_of w.gate) (run_scene w) (subst (λ (r : Regime). Runs c r (run_scene w)) (regime-running w ungranted) g.running) (free w.lock refl) (λ m t. let o : (w.views m).gate.phase ≡ In = g.attempts.busy m (busy-writer (w.views m) t) in let i = out m in cc) (λ m t. let o : (w.views m).gate.phase ≡ In = g.attempts.busy m (busy-turn (w.views m) t) in let i = out m in cc) (λ has r m e. let o : (w.views m).gate.phase ≡ In = g.records.inside m r (owner-holds good c w g r m e) in let i = out m in cc)).0
   where
     out : (k : ℕ) → (w.views k).gate.phase ≡ Idle
     out k = ⊎_elim (λ (t : (leb c.callers k ≡ true) × (c.callers ≤ k)). g.gate.far k t.1) (λ (t : (leb c.callers k ≡ false) × (k < c.callers)). idle k t.1) (leb_tells c.callers k)
@@ -148,12 +152,23 @@ rests good c w g idle = (at-rest c (alg_of w.gate) (run_scene w) (subst (λ (r :
     free zero e = refl
     free (suc n) e = absurd (let o : (w.views n).gate.phase ≡ In = g.lock.inside n (g.lock.owner n (omega arith)) in let i = out n in cc)
 
-    ungranted : (n : ℕ) → holder_of w.gate ≡ 1 + n → (w.views n).gate.granted ≡ false
-    ungranted n h = ungranted-out good c w n g (λ e. let i = out n in let k : Idle ≡ In = sym i ∙ e in cc)
+    ungranted : (n : ℕ) → holder_of w.gate ≡ 1 + n → mode_of (w.views n).gate ≡ Plain
+    ungranted n h = plain-mode (w.views n).gate (ungranted-out good c w n g (λ e. let i = out n in let k : Idle ≡ In = sym i ∙ e in cc)) (ungiven-out good c w n g (λ e. let i = out n in let k : Idle ≡ Closing = sym i ∙ e in cc))
+
+-- and where nobody has a fence
+pub rests : (good : (ℕ → ℕ) → Type 0) (c : Config) (w : World) → Whole good c w → ((k : ℕ) → k < c.callers → (w.views k).gate.phase ≡ Idle) → ((k : ℕ) → k < c.callers → (w.views k).fence.holds ≡ false) → (a : ℕ) → w.heap a ≡ word_now w.history a
+rests good c w g idle free a = sym (ap (λ (f : ℕ → ℕ). f a) (ap (λ k. veiled k w.heap w.history) none ∙ veiled-none w.heap w.history)) ∙ bare_rests good c (veil w) g.core idle a
+  where
+    by : (k : ℕ) → fence_owner (fence_of w.gate) ≡ k → fence_of w.gate ≡ 0
+    by zero e = g.fence.none e
+    by (suc n) e = absurd (let h : (w.views n).fence.holds ≡ true = g.fence.owner n (let o : fence_owner (fence_of w.gate) ≡ 1 + n = omega arith in o) in let f : true ≡ false = sym h ∙ free n (g.fence.few n h) in cc)
+
+    none : fence_of w.gate ≡ 0
+    none = by (fence_owner (fence_of w.gate)) refl
 
 -- two worlds whose callers made the same have one history
 pub same_history : (good : (ℕ → ℕ) → Type 0) (c : Config) (w x : World) → Whole good c w → Whole good c x → ((k : ℕ) → k < c.callers → (x.views k).history.made ≡ (w.views k).history.made) → x.history ≡ w.history
-same_history good c w x g h same = merged x.history w.history (x.clock + 1) (w.clock + 1) h.history.below g.history.below (λ n. ⊎_elim
-    (λ (t : (leb c.callers n ≡ true) × (c.callers ≤ n)). made_by-none good c x.history n t.1 h.history.legal ∙ sym (made_by-none good c w.history n t.1 g.history.legal))
-    (λ (t : (leb c.callers n ≡ false) × (n < c.callers)). sym (h.history.known n).made ∙ same n t.1 ∙ (g.history.known n).made)
+same_history good c w x g h same = merged x.history w.history (x.clock + 1) (w.clock + 1) h.core.history.below g.core.history.below (λ n. ⊎_elim
+    (λ (t : (leb c.callers n ≡ true) × (c.callers ≤ n)). made_by-none good c x.history n t.1 h.core.history.legal ∙ sym (made_by-none good c w.history n t.1 g.core.history.legal))
+    (λ (t : (leb c.callers n ≡ false) × (n < c.callers)). sym (h.core.history.known n).made ∙ same n t.1 ∙ (g.core.history.known n).made)
     (leb_tells c.callers n))

@@ -15,11 +15,13 @@ use Rattle.rule_seq.specs.CglRuns.CglStep.{acquires_lock, loads_start, loads_hea
 use Rattle.rule_seq.specs.TmlRuns.TmlStep.{tml_begins, tml_loads, tml_agains, tml_writes, tml_stores, tml_commits}
 use Rattle.rule_ring.specs.RingRuns.RingStep.{ring_begins, ring_loads, ring_looks, ring_words, ring_agains, ring_moves, ring_locks, ring_ticks, ring_slots, ring_enters, ring_writes, ring_dones, ring_frees}
 use Rattle.stm_rule.specs.CoreRuns.{CoreStep, core_kind, CoreMay}
-use Rattle.stm_rule.specs.CoreRuns.CoreStep.{announces, loads_gate, departs, aims, takes_gate, checks, reopens, settles, evens_clock, stores_base, stores_done, installs, of_cgl, of_tml, of_ring, looks_gate, seizes, grants, look_grants, move_grants, direct_loads, direct_stores, direct_commits, returns, hears, loads_end, of_orec, orec_grants, orec_grants_all, direct_releases}
+use Rattle.stm_rule.specs.CoreRuns.CoreStep.{announces, loads_gate, departs, aims, takes_gate, checks, reopens, settles, evens_clock, stores_base, stores_done, installs, of_cgl, of_tml, of_ring, looks_gate, seizes, grants, look_grants, move_grants, direct_loads, direct_stores, direct_commits, returns, fences, fence_loads, fence_stores, fence_commits, unfences, hears, loads_end, of_orec, orec_grants, orec_grants_all, direct_releases}
 use Rattle.stm_rule.specs.Product.{Whole}
 use Rattle.stm_rule.specs.Quiescence.{IsInsideOf, IsPromoting, RestLasts, PromotingLasts, IsOrecPromoting, OrecPromotingLasts}
 use Rattle.stm_rule.specs.RestLaws.{quiet-rests, promoting-rests, orec-promoting-rests}
 use Rattle.rule_orec.specs.OrecRuns.OrecStep.{orec_begins, orec_samples, orec_loads, orec_confirms, orec_clocks, orec_clocks_all, orec_passes, orec_lasts, orec_looks, orec_limits, orec_locks, orec_commits, orec_writes_back, orec_times, orec_olds, orec_ups, orec_own_loads, orec_saves, orec_places, orec_restores, orec_lifts}
+use Rattle.rule_base.specs.Fence.{veil}
+use Rattle.stm_rule.specs.FencedRest.{rest-of, at-rest-of, promoting-veil, orec-promoting-veil}
 use Rattle.stm_rule.proofs.CoreLaws.{one_step}
 
 module _ (good : (ℕ → ℕ) → Type 0) (c : Config) where
@@ -34,12 +36,12 @@ module _ (good : (ℕ → ℕ) → Type 0) (c : Config) where
   stands m aims w g out apart may = (refl, refl)
   stands m (takes_gate word) w g out apart may = (refl, refl)
   stands m (checks other) w g out apart may = (refl, refl)
-  stands m (reopens alg) w g out apart may = (refl, refl)
+  stands m (reopens fence alg) w g out apart may = (refl, refl)
   stands m settles w g out apart may = (refl, refl)
   stands m (evens_clock time) w g out apart may = absurd (apart may.1.phase)
   stands m (stores_base time) w g out apart may = (refl, refl)
   stands m (stores_done time) w g out apart may = (refl, refl)
-  stands m (installs alg) w g out apart may = (refl, refl)
+  stands m (installs fence alg) w g out apart may = (refl, refl)
   stands m (of_cgl acquires_lock) w g out apart may = (refl, refl)
   stands m (of_cgl loads_start) w g out apart may = (refl, refl)
   stands m (of_cgl (loads_heap a)) w g out apart may = (refl, refl)
@@ -64,7 +66,7 @@ module _ (good : (ℕ → ℕ) → Type 0) (c : Config) where
   stands m (of_ring ring_locks) w g out apart may = (refl, refl)
   stands m (of_ring ring_ticks) w g out apart may = (refl, refl)
   stands m (of_ring (ring_slots k e i ws)) w g out apart may = (refl, refl)
-  stands m (of_ring (ring_enters t)) w g out apart may = absurd (out may.1.turn.has.runs.phase)
+  stands m (of_ring (ring_enters t)) w g out apart may = absurd (out may.1.0.turn.has.runs.phase)
   stands m (of_ring (ring_writes a x)) w g out apart may = (refl, refl)
   stands m (of_ring (ring_dones t)) w g out apart may = (refl, refl)
   stands m (of_ring ring_frees) w g out apart may = (refl, refl)
@@ -79,7 +81,7 @@ module _ (good : (ℕ → ℕ) → Type 0) (c : Config) where
   stands m (of_orec (orec_looks r)) w g out apart may = (refl, refl)
   stands m (of_orec orec_limits) w g out apart may = (refl, refl)
   stands m (of_orec (orec_locks r version)) w g out apart may = (refl, refl)
-  stands m (of_orec (orec_commits start writes back)) w g out apart may = absurd (out may.1.has.runs.phase)
+  stands m (of_orec (orec_commits start writes back)) w g out apart may = absurd (out may.1.0.has.runs.phase)
   stands m (of_orec (orec_writes_back a x)) w g out apart may = (refl, refl)
   stands m (of_orec (orec_times r version)) w g out apart may = (refl, refl)
   stands m (of_orec (orec_olds r version)) w g out apart may = (refl, refl)
@@ -90,7 +92,7 @@ module _ (good : (ℕ → ℕ) → Type 0) (c : Config) where
   stands m (of_orec (orec_restores a x)) w g out apart may = (refl, refl)
   stands m (of_orec (orec_lifts least)) w g out apart may = absurd (out may.1.has.runs.phase)
   stands m looks_gate w g out apart may = (refl, refl)
-  stands m (seizes alg) w g out apart may = (refl, refl)
+  stands m (seizes fence alg) w g out apart may = (refl, refl)
   stands m grants w g out apart may = (refl, refl)
   stands m look_grants w g out apart may = (refl, refl)
   stands m move_grants w g out apart may = (refl, refl)
@@ -99,8 +101,13 @@ module _ (good : (ℕ → ℕ) → Type 0) (c : Config) where
   stands m (direct_releases r t) w g out apart may = (refl, refl)
   stands m (direct_loads a) w g out apart may = (refl, refl)
   stands m (direct_stores a x) w g out apart may = (refl, refl)
-  stands m (direct_commits alg t) w g out apart may = absurd (out (g.install.promoted m may.1.granted).1)
-  stands m (returns alg) w g out apart may = (refl, refl)
+  stands m (direct_commits alg t) w g out apart may = absurd (out (g.core.install.promoted m may.1.granted).1)
+  stands m (returns fence alg) w g out apart may = (refl, refl)
+  stands m (fences from count alg) w g out apart may = (refl, refl)
+  stands m (fence_loads a) w g out apart may = (refl, refl)
+  stands m (fence_stores a x) w g out apart may = (refl, refl)
+  stands m (fence_commits alg t) w g out apart may = absurd (apart may.1.phase)
+  stands m (unfences alg) w g out apart may = (refl, refl)
   stands m hears w g out apart may = (refl, refl)
   stands m loads_end w g out apart may = (refl, refl)
 
@@ -113,9 +120,9 @@ module _ (good : (ℕ → ℕ) → Type 0) (c : Config) where
       }
 
   pub rest-lasts : RestLasts good c
-  rest-lasts n w [] g q others allowed = (quiet-rests good c n w g q, refl, refl)
+  rest-lasts n w [] g q others allowed = (at-rest-of good c n w g (quiet-rests good c n (veil w) g.core (record { closing = q.closing; checked = q.checked })), refl, refl)
   rest-lasts n w (s ∷ ss) g q others allowed =
-      let rest = others-rest c.callers w n q.checked g.gate s.0 others.0 in
+      let rest = others-rest c.callers w n q.checked g.core.gate s.0 others.0 in
       let out : (w.views s.0).gate.phase ≡ In → ⊥ = λ e. (let p : false ≡ true = sym (ap rests e) ∙ rest in cc) in
       let apart : (w.views s.0).gate.phase ≡ Closing → ⊥ = λ e. (let p : false ≡ true = sym (ap rests e) ∙ rest in cc) in
       let here = stands s.0 s.1 w g out apart allowed.0 in
@@ -137,9 +144,9 @@ module _ (good : (ℕ → ℕ) → Type 0) (c : Config) where
       }
 
   pub promoting-lasts : PromotingLasts good c
-  promoting-lasts n w [] g p others allowed = (promoting-rests good c n w g p, refl, refl)
+  promoting-lasts n w [] g p others allowed = (rest-of good c n w g (promoting-rests good c n (veil w) g.core (promoting-veil c n w p)), refl, refl)
   promoting-lasts n w (s ∷ ss) g p others allowed =
-      let rest = others-rest c.callers w n p.checked g.gate s.0 others.0 in
+      let rest = others-rest c.callers w n p.checked g.core.gate s.0 others.0 in
       let out : (w.views s.0).gate.phase ≡ In → ⊥ = λ e. (let p : false ≡ true = sym (ap rests e) ∙ rest in cc) in
       let apart : (w.views s.0).gate.phase ≡ Closing → ⊥ = λ e. (let p : false ≡ true = sym (ap rests e) ∙ rest in cc) in
       let here = stands s.0 s.1 w g out apart allowed.0 in
@@ -162,9 +169,9 @@ module _ (good : (ℕ → ℕ) → Type 0) (c : Config) where
       }
 
   pub orec-promoting-lasts : OrecPromotingLasts good c
-  orec-promoting-lasts n w [] g p others allowed = (orec-promoting-rests good c n w g p, refl, refl)
+  orec-promoting-lasts n w [] g p others allowed = (rest-of good c n w g (orec-promoting-rests good c n (veil w) g.core (orec-promoting-veil c n w p)), refl, refl)
   orec-promoting-lasts n w (s ∷ ss) g p others allowed =
-      let rest = others-rest c.callers w n p.checked g.gate s.0 others.0 in
+      let rest = others-rest c.callers w n p.checked g.core.gate s.0 others.0 in
       let out : (w.views s.0).gate.phase ≡ In → ⊥ = λ e. (let p : false ≡ true = sym (ap rests e) ∙ rest in cc) in
       let apart : (w.views s.0).gate.phase ≡ Closing → ⊥ = λ e. (let p : false ≡ true = sym (ap rests e) ∙ rest in cc) in
       let here = stands s.0 s.1 w g out apart allowed.0 in

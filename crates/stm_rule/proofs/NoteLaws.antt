@@ -3,6 +3,8 @@ use Rattle.std.proofs.Common.{ℕ, zero, suc, ◌<◌, List, [], ◌∷◌, leng
 use Rattle.stm_model.specs.declared.config.Config.{Config}
 use Rattle.rule_base.specs.declared.views.SeenHistory.{SeenHistory}
 use Rattle.rule_base.specs.declared.views.View.{View}
+use Rattle.rule_base.specs.Fence.{veil}
+use Rattle.stm_rule.specs.Lifting.{learns-whole}
 use Rattle.rule_base.specs.SeatLemmas.{seen-later}
 use Rattle.rule_base.specs.Seating.{IsSeen}
 use Rattle.rule_base.specs.StepKinds.{Advances, world_after}
@@ -38,10 +40,10 @@ module _ (good : (ℕ → ℕ) → Type 0) (c : Config) where
       let o = one_step good c n step x.world r.rule may in
       record { rule = o.0; seen = all_later x.world (world_after (core_kind n step) n x.world) x.notes o.1 r.seen }
   one_deed n tells x r may =
-      let s = laws.tells good c n x.world r.rule may in
+      let s = laws.tells good c n (veil x.world) r.rule.core may in
       record { rule = r.rule; seen = (record { front = s.front; within = s.within; seen = s.seen }, r.seen) }
   one_deed n (learns i) x r may = record {
-    rule = laws.learns good c n x.world (note_at x.notes i) r.rule (seen_at x.world x.notes i may.0 r.seen) may.1;
+    rule = learns-whole good c n x.world (note_at x.notes i) r.rule (seen_at x.world x.notes i may.0 r.seen) may.1;
     seen = all_put x.world (after_deed n (learns i) x).world.views (notes_without x.notes i) (all_without x.world x.notes i r.seen);
   }
 

@@ -12,6 +12,9 @@ use Rattle.stm_model.specs.declared.config.Config.{Config}
 use Rattle.stm_model.specs.declared.config.TheConstants.{MAX_WORDS, MAX_RECORDS, MIN_RING, MAX_RING, MAX_CALLERS, MAX_LOG, CLOCK_LIMIT}
 use Rattle.rule_base.specs.declared.seats.Role.TheVariants.{Dealer, Note}
 use Rattle.rule_base.specs.declared.seats.SeatView.{SeatView}
+use Rattle.rule_base.specs.EncodingLemmas.{fenced-none}
+use Rattle.rule_base.specs.Fence.{fence_scene, FenceRule}
+use Rattle.rule_base.specs.FenceLaws.{veiled-none}
 use Rattle.rule_base.specs.BridgeLemmas.{words_of-zeros}
 use Rattle.rule_base.specs.GateRule.{gate_scene, GateRule}
 use Rattle.rule_base.specs.InstallRule.{install_scene, InstallRule}
@@ -29,7 +32,7 @@ use Rattle.stm_rule.specs.declared.refusal.NewError.TheVariants as faults
 use Rattle.stm_rule.specs.declared.stm.Key.{Key}
 use Rattle.stm_rule.specs.Kept.{good_of, Kept, newcomer}
 use Rattle.stm_rule.specs.Openings.{opening_words}
-use Rattle.stm_rule.specs.Product.{Whole}
+use Rattle.stm_rule.specs.Product.{Core, Whole}
 use Rattle.stm_rule.specs.Refusals.{in_range, first_fault}
 
 zeros_at : (n k : ℕ) → get_or {A = ℕ} (replicate n 0) k 0 ≡ 0
@@ -74,6 +77,8 @@ opening_gate c config = record {
   seen = λ n k e. refl;
   named = λ n e. absurd cc;
   held = λ n e. absurd cc;
+  spared = λ n e. absurd cc;
+  guarded = λ n e. absurd cc;
   formed = refl;
   aimed = λ n e. absurd cc;
   few = (let l = config.callers.1 in omega arith);
@@ -87,6 +92,7 @@ opening_install c = record {
   opened = (le_refl c.clock, le_refl c.clock);
   holding = λ n e. absurd cc;
   promoted = λ n e. absurd cc;
+  giving = λ n e. absurd cc;
   alone = λ n k e. absurd cc;
   time = λ n e. absurd cc;
   rebased = λ n e. absurd cc;
@@ -101,8 +107,8 @@ opening_records c = record {
 }
 
 -- the opening words and the first views meet the rule
-pub whole_opens : (good : (ℕ → ℕ) → Type 0) (c : Config) → IsConfig c → good (λ a. 0) → Whole good c (opening_world c)
-whole_opens good c config start = let w = cgl_world-opening good c config start (λ n. (first_view c).gate) in record {
+core_opens : (good : (ℕ → ℕ) → Type 0) (c : Config) → IsConfig c → good (λ a. 0) → Core good c (opening_world c)
+core_opens good c config start = let w = cgl_world-opening good c config start (λ n. (first_view c).gate) in record {
   history = w.history;
   steps = w.steps;
   gate = opening_gate c config;
@@ -114,6 +120,24 @@ whole_opens good c config start = let w = cgl_world-opening good c config start 
   running = w.runs;
   alone = λ sole r x e. absurd cc;
   raised = λ e n k. absurd cc;
+}
+
+-- no fence stands
+opening_fence : (c : Config) → FenceRule c (fence_scene (opening_world c))
+opening_fence c = record {
+  mine = λ n e. absurd cc;
+  owner = λ n e. absurd (omega arith);
+  none = λ e. refl;
+  few = λ n e. absurd cc;
+  inside = λ a e. absurd (let f : true ≡ false = sym e ∙ fenced-none a in cc);
+  holder = λ n e. absurd cc;
+  apart = λ n a p o. absurd cc;
+}
+
+pub whole_opens : (good : (ℕ → ℕ) → Type 0) (c : Config) → IsConfig c → good (λ a. 0) → Whole good c (opening_world c)
+whole_opens good c config start = record {
+  core = subst (Core good c) (sym (ap (λ (f : ℕ → ℕ). record (opening_world c) { heap = f }) (veiled-none (λ a. 0) []))) (core_opens good c config start);
+  fence = opening_fence c;
 }
 
 only : {A : Type 0} (x : A) (j : ℕ) (y : A) → get_elem? (x ∷ []) j ≡ some y → (j ≡ 0) × (x ≡ y)

@@ -7,7 +7,7 @@ use Rattle.rule_base.specs.declared.views.Ownership.{Ownership}
 use Rattle.rule_base.specs.declared.views.View.{View}
 use Rattle.rule_base.specs.Ranks.{Rec, rec_of}
 use Rattle.rule_base.specs.Ranks.Rec.{Free, Taken}
-use Rattle.rule_base.specs.StepKinds.{answer, view_after, world_after}
+use Rattle.rule_base.specs.StepKinds.{StepKind, answer, view_after, world_after}
 use Rattle.rule_base.specs.World.{World, put}
 use Rattle.rule_seq.specs.CglRuns.CglStep.{acquires_lock, loads_start, loads_heap, stores_heap, stores_clock, frees_lock, loads_undo, loads_limit, takes_back}
 use Rattle.rule_seq.specs.TmlRuns.TmlStep.{tml_begins, tml_loads, tml_agains, tml_writes, tml_stores, tml_commits}
@@ -18,9 +18,12 @@ use Rattle.rule_orec.specs.OrecRule.{OrecView, orec_view, OrecScene, orec_scene,
 use Rattle.rule_orec.specs.OrecRuns.OrecStep.{orec_begins, orec_samples, orec_loads, orec_confirms, orec_clocks, orec_clocks_all, orec_passes, orec_lasts, orec_looks, orec_limits, orec_locks, orec_commits, orec_writes_back, orec_times, orec_olds, orec_ups, orec_own_loads, orec_saves, orec_places, orec_restores, orec_lifts}
 use Rattle.rule_orec.specs.OrecSteps.{passes, direct_owned}
 use Rattle.stm_rule.specs.CoreRuns.{CoreStep, core_kind, CoreMay}
-use Rattle.stm_rule.specs.CoreRuns.CoreStep.{announces, loads_gate, departs, aims, takes_gate, checks, reopens, settles, evens_clock, stores_base, stores_done, installs, looks_gate, seizes, grants, orec_grants, orec_grants_all, direct_loads, direct_stores, direct_commits, returns, hears, loads_end, of_cgl, of_tml, of_orec, direct_releases, of_ring, look_grants, move_grants}
+use Rattle.stm_rule.specs.CoreRuns.CoreStep.{announces, loads_gate, departs, aims, takes_gate, checks, reopens, settles, evens_clock, stores_base, stores_done, installs, looks_gate, seizes, grants, orec_grants, orec_grants_all, direct_loads, direct_stores, direct_commits, returns, fences, fence_loads, fence_stores, fence_commits, unfences, hears, loads_end, of_cgl, of_tml, of_orec, direct_releases, of_ring, look_grants, move_grants}
 use Rattle.rule_ring.specs.RingRuns.RingStep.{ring_begins, ring_loads, ring_looks, ring_words, ring_agains, ring_moves, ring_locks, ring_ticks, ring_slots, ring_enters, ring_writes, ring_dones, ring_frees}
 use Rattle.stm_rule.specs.Frames.{orec-world}
+use Rattle.rule_base.specs.Fence.{veil}
+use Rattle.stm_rule.specs.Lifting.{Spares}
+use Rattle.stm_rule.specs.SparingMore as sparing
 use Rattle.stm_rule.specs.Product.{Whole}
 use Rattle.stm_rule.specs.Stamping.{is_direct_release, CoreStamps}
 
@@ -37,6 +40,10 @@ held_by : (b : Bool) (o : Ownership) → ((if b then direct_owned o else o).held
 held_by true o = (refl, refl, refl, refl)
 held_by false o = (refl, refl, refl, refl)
 
+-- the ranks are the same behind the veil
+by-veil : (kind : StepKind) (n : ℕ) (w : World) → Spares kind n w → ((r : ℕ) → rank (orec_scene (veil w)) r ≤ rank (orec_scene (world_after kind n (veil w))) r) → (r : ℕ) → rank (orec_scene w) r ≤ rank (orec_scene (world_after kind n w)) r
+by-veil kind n w s k r = subst (λ (y : World). rank (orec_scene w) r ≤ rank (orec_scene y) r) s.world (k r)
+
 core_ranks : (good : (ℕ → ℕ) → Type 0) (c : Config) (n : ℕ) (s : CoreStep) (w : World) → Whole good c w → CoreMay good c n s (w.views n) → is_direct_release s ≡ false → (r : ℕ) → rank (orec_scene w) r ≤ rank (orec_scene (world_after (core_kind n s) n w)) r
 core_ranks good c n announces w g m e = level w (world_after (core_kind n announces) n w) n (view_after (core_kind n announces) w (w.views n) (answer (core_kind n announces) w)) refl refl refl refl refl refl
 core_ranks good c n loads_gate w g m e = level w (world_after (core_kind n loads_gate) n w) n (view_after (core_kind n loads_gate) w (w.views n) (answer (core_kind n loads_gate) w)) refl refl refl refl refl refl
@@ -44,21 +51,26 @@ core_ranks good c n departs w g m e = level w (world_after (core_kind n departs)
 core_ranks good c n aims w g m e = level w (world_after (core_kind n aims) n w) n (view_after (core_kind n aims) w (w.views n) (answer (core_kind n aims) w)) refl refl refl refl refl refl
 core_ranks good c n (takes_gate word) w g m e = level w (world_after (core_kind n (takes_gate word)) n w) n (view_after (core_kind n (takes_gate word)) w (w.views n) (answer (core_kind n (takes_gate word)) w)) refl refl refl refl refl refl
 core_ranks good c n (checks other) w g m e = level w (world_after (core_kind n (checks other)) n w) n (view_after (core_kind n (checks other)) w (w.views n) (answer (core_kind n (checks other)) w)) refl refl refl refl refl refl
-core_ranks good c n (reopens alg) w g m e = level w (world_after (core_kind n (reopens alg)) n w) n (view_after (core_kind n (reopens alg)) w (w.views n) (answer (core_kind n (reopens alg)) w)) refl refl refl refl refl refl
+core_ranks good c n (reopens fence alg) w g m e = level w (world_after (core_kind n (reopens fence alg)) n w) n (view_after (core_kind n (reopens fence alg)) w (w.views n) (answer (core_kind n (reopens fence alg)) w)) refl refl refl refl refl refl
 core_ranks good c n settles w g m e = level w (world_after (core_kind n settles) n w) n (view_after (core_kind n settles) w (w.views n) (answer (core_kind n settles) w)) refl refl refl refl refl refl
 core_ranks good c n (evens_clock time) w g m e = level w (world_after (core_kind n (evens_clock time)) n w) n (view_after (core_kind n (evens_clock time)) w (w.views n) (answer (core_kind n (evens_clock time)) w)) refl refl refl refl refl refl
 core_ranks good c n (stores_base time) w g m e = level w (world_after (core_kind n (stores_base time)) n w) n (view_after (core_kind n (stores_base time)) w (w.views n) (answer (core_kind n (stores_base time)) w)) refl refl refl refl refl refl
 core_ranks good c n (stores_done time) w g m e = level w (world_after (core_kind n (stores_done time)) n w) n (view_after (core_kind n (stores_done time)) w (w.views n) (answer (core_kind n (stores_done time)) w)) refl refl refl refl refl refl
-core_ranks good c n (installs alg) w g m e = level w (world_after (core_kind n (installs alg)) n w) n (view_after (core_kind n (installs alg)) w (w.views n) (answer (core_kind n (installs alg)) w)) refl refl refl refl refl refl
+core_ranks good c n (installs fence alg) w g m e = level w (world_after (core_kind n (installs fence alg)) n w) n (view_after (core_kind n (installs fence alg)) w (w.views n) (answer (core_kind n (installs fence alg)) w)) refl refl refl refl refl refl
 core_ranks good c n looks_gate w g m e = level w (world_after (core_kind n looks_gate) n w) n (view_after (core_kind n looks_gate) w (w.views n) (answer (core_kind n looks_gate) w)) refl refl refl refl refl refl
-core_ranks good c n (seizes alg) w g m e = level w (world_after (core_kind n (seizes alg)) n w) n (view_after (core_kind n (seizes alg)) w (w.views n) (answer (core_kind n (seizes alg)) w)) refl refl refl refl refl refl
+core_ranks good c n (seizes fence alg) w g m e = level w (world_after (core_kind n (seizes fence alg)) n w) n (view_after (core_kind n (seizes fence alg)) w (w.views n) (answer (core_kind n (seizes fence alg)) w)) refl refl refl refl refl refl
 core_ranks good c n grants w g m e = level w (world_after (core_kind n grants) n w) n (view_after (core_kind n grants) w (w.views n) (answer (core_kind n grants) w)) refl refl refl refl refl refl
 core_ranks good c n (orec_grants q b) w g m e = let k = held_by (passes (w.records q) (w.views n)) (w.views n).owned in level w (world_after (core_kind n (orec_grants q b)) n w) n (view_after (core_kind n (orec_grants q b)) w (w.views n) (answer (core_kind n (orec_grants q b)) w)) refl refl k.0 k.1 k.2 k.3
 core_ranks good c n orec_grants_all w g m e = let k = held_by (ltb w.clock CLOCK_LIMIT) (w.views n).owned in level w (world_after (core_kind n orec_grants_all) n w) n (view_after (core_kind n orec_grants_all) w (w.views n) (answer (core_kind n orec_grants_all) w)) refl refl k.0 k.1 k.2 k.3
 core_ranks good c n (direct_loads a) w g m e = level w (world_after (core_kind n (direct_loads a)) n w) n (view_after (core_kind n (direct_loads a)) w (w.views n) (answer (core_kind n (direct_loads a)) w)) refl refl refl refl refl refl
 core_ranks good c n (direct_stores a x) w g m e = level w (world_after (core_kind n (direct_stores a x)) n w) n (view_after (core_kind n (direct_stores a x)) w (w.views n) (answer (core_kind n (direct_stores a x)) w)) refl refl refl refl refl refl
 core_ranks good c n (direct_commits alg time) w g m e = level w (world_after (core_kind n (direct_commits alg time)) n w) n (view_after (core_kind n (direct_commits alg time)) w (w.views n) (answer (core_kind n (direct_commits alg time)) w)) refl refl refl refl refl refl
-core_ranks good c n (returns alg) w g m e = level w (world_after (core_kind n (returns alg)) n w) n (view_after (core_kind n (returns alg)) w (w.views n) (answer (core_kind n (returns alg)) w)) refl refl refl refl refl refl
+core_ranks good c n (returns fence alg) w g m e = level w (world_after (core_kind n (returns fence alg)) n w) n (view_after (core_kind n (returns fence alg)) w (w.views n) (answer (core_kind n (returns fence alg)) w)) refl refl refl refl refl refl
+core_ranks good c n (fences from count alg) w g m e = level w (world_after (core_kind n (fences from count alg)) n w) n (view_after (core_kind n (fences from count alg)) w (w.views n) (answer (core_kind n (fences from count alg)) w)) refl refl refl refl refl refl
+core_ranks good c n (fence_loads a) w g m e = level w (world_after (core_kind n (fence_loads a)) n w) n (view_after (core_kind n (fence_loads a)) w (w.views n) (answer (core_kind n (fence_loads a)) w)) refl refl refl refl refl refl
+core_ranks good c n (fence_stores a x) w g m e = level w (world_after (core_kind n (fence_stores a x)) n w) n (view_after (core_kind n (fence_stores a x)) w (w.views n) (answer (core_kind n (fence_stores a x)) w)) refl refl refl refl refl refl
+core_ranks good c n (fence_commits alg t) w g m e = level w (world_after (core_kind n (fence_commits alg t)) n w) n (view_after (core_kind n (fence_commits alg t)) w (w.views n) (answer (core_kind n (fence_commits alg t)) w)) refl refl refl refl refl refl
+core_ranks good c n (unfences alg) w g m e = level w (world_after (core_kind n (unfences alg)) n w) n (view_after (core_kind n (unfences alg)) w (w.views n) (answer (core_kind n (unfences alg)) w)) refl refl refl refl refl refl
 core_ranks good c n hears w g m e = level w (world_after (core_kind n hears) n w) n (view_after (core_kind n hears) w (w.views n) (answer (core_kind n hears) w)) refl refl refl refl refl refl
 core_ranks good c n loads_end w g m e = level w (world_after (core_kind n loads_end) n w) n (view_after (core_kind n loads_end) w (w.views n) (answer (core_kind n loads_end) w)) refl refl refl refl refl refl
 core_ranks good c n (of_cgl acquires_lock) w g m e = level w (world_after (core_kind n (of_cgl acquires_lock)) n w) n (view_after (core_kind n (of_cgl acquires_lock)) w (w.views n) (answer (core_kind n (of_cgl acquires_lock)) w)) refl refl refl refl refl refl
@@ -76,27 +88,27 @@ core_ranks good c n (of_tml tml_agains) w g m e = level w (world_after (core_kin
 core_ranks good c n (of_tml (tml_writes start)) w g m e = level w (world_after (core_kind n (of_tml (tml_writes start))) n w) n (view_after (core_kind n (of_tml (tml_writes start))) w (w.views n) (answer (core_kind n (of_tml (tml_writes start))) w)) refl refl refl refl refl refl
 core_ranks good c n (of_tml (tml_stores a x)) w g m e = level w (world_after (core_kind n (of_tml (tml_stores a x))) n w) n (view_after (core_kind n (of_tml (tml_stores a x))) w (w.views n) (answer (core_kind n (of_tml (tml_stores a x))) w)) refl refl refl refl refl refl
 core_ranks good c n (of_tml (tml_commits t)) w g m e = level w (world_after (core_kind n (of_tml (tml_commits t))) n w) n (view_after (core_kind n (of_tml (tml_commits t))) w (w.views n) (answer (core_kind n (of_tml (tml_commits t))) w)) refl refl refl refl refl refl
-core_ranks good c n (of_orec orec_begins) w g m e = orec.orec_begins-ranks good c n w (orec-world good c w n g m.1.runs) m.1
-core_ranks good c n (of_orec (orec_samples r a)) w g m e = orec.orec_samples-ranks good c n r a w (orec-world good c w n g m.1.has.runs) m.1
-core_ranks good c n (of_orec (orec_loads a)) w g m e = orec.orec_loads-ranks good c n a w (orec-world good c w n g m.1.has.runs) m.1
-core_ranks good c n (of_orec (orec_confirms r)) w g m e = orec.orec_confirms-ranks good c n r w (orec-world good c w n g m.1.opens.has.runs) m.1
-core_ranks good c n (of_orec (orec_clocks todo)) w g m e = orec.orec_clocks-ranks good c n todo w (orec-world good c w n g m.1.opens.has.runs) m.1
-core_ranks good c n (of_orec orec_clocks_all) w g m e = orec.orec_clocks_all-ranks good c n w (orec-world good c w n g m.1.opens.has.runs) m.1
-core_ranks good c n (of_orec (orec_passes r b)) w g m e = orec.orec_passes-ranks good c n r b w (orec-world good c w n g m.1.has.runs) m.1
-core_ranks good c n (of_orec (orec_lasts r b)) w g m e = orec.orec_lasts-ranks good c n r b w (orec-world good c w n g m.1.opens.has.runs) m.1
-core_ranks good c n (of_orec (orec_looks r)) w g m e = orec.orec_looks-ranks good c n r w (orec-world good c w n g m.1.runs) m.1
-core_ranks good c n (of_orec orec_limits) w g m e = orec.orec_limits-ranks good c n w (orec-world good c w n g m.1.runs) m.1
-core_ranks good c n (of_orec (orec_locks r version)) w g m e = orec.orec_locks-ranks good c n r version w (orec-world good c w n g m.1.opens.has.runs) m.1
-core_ranks good c n (of_orec (orec_commits start writes back)) w g m e = orec.orec_commits-ranks good c n start writes back m.0 w (orec-world good c w n g m.1.has.runs) m.1
-core_ranks good c n (of_orec (orec_writes_back a x)) w g m e = orec.orec_writes_back-ranks good c n a x w (orec-world good c w n g m.1.has.runs) m.1
-core_ranks good c n (of_orec (orec_times r version)) w g m e = orec.orec_times-ranks good c n r version w (orec-world good c w n g m.1.gives.has.runs) m.1
-core_ranks good c n (of_orec (orec_olds r version)) w g m e = orec.orec_olds-ranks good c n r version w (orec-world good c w n g m.1.gives.has.runs) m.1
-core_ranks good c n (of_orec (orec_ups r version)) w g m e = orec.orec_ups-ranks good c n r version w (orec-world good c w n g m.1.gives.has.runs) m.1
-core_ranks good c n (of_orec (orec_own_loads a)) w g m e = orec.orec_own_loads-ranks good c n a w (orec-world good c w n g m.1.opens.has.runs) m.1
-core_ranks good c n (of_orec (orec_saves a)) w g m e = orec.orec_saves-ranks good c n a w (orec-world good c w n g m.1.opens.has.runs) m.1
-core_ranks good c n (of_orec (orec_places a x)) w g m e = orec.orec_places-ranks good c n a x w (orec-world good c w n g m.1.opens.has.runs) m.1
-core_ranks good c n (of_orec (orec_restores a x)) w g m e = orec.orec_restores-ranks good c n a x w (orec-world good c w n g m.1.has.runs) m.1
-core_ranks good c n (of_orec (orec_lifts least)) w g m e = orec.orec_lifts-ranks good c n least w (orec-world good c w n g m.1.has.runs) m.1
+core_ranks good c n (of_orec orec_begins) w g m e = by-veil (core_kind n (of_orec orec_begins)) n w (sparing.orec_begins good c n w g m.1) (orec.orec_begins-ranks good c n (veil w) (orec-world good c (veil w) n g.core m.1.runs) m.1)
+core_ranks good c n (of_orec (orec_samples r a)) w g m e = by-veil (core_kind n (of_orec (orec_samples r a))) n w (sparing.orec_samples good c n r a w g m.1) (orec.orec_samples-ranks good c n r a (veil w) (orec-world good c (veil w) n g.core m.1.has.runs) m.1)
+core_ranks good c n (of_orec (orec_loads a)) w g m e = by-veil (core_kind n (of_orec (orec_loads a))) n w (sparing.orec_loads good c n a w g m.1) (orec.orec_loads-ranks good c n a (veil w) (orec-world good c (veil w) n g.core m.1.0.has.runs) m.1.0)
+core_ranks good c n (of_orec (orec_confirms r)) w g m e = by-veil (core_kind n (of_orec (orec_confirms r))) n w (sparing.orec_confirms good c n r w g m.1) (orec.orec_confirms-ranks good c n r (veil w) (orec-world good c (veil w) n g.core m.1.opens.has.runs) m.1)
+core_ranks good c n (of_orec (orec_clocks todo)) w g m e = by-veil (core_kind n (of_orec (orec_clocks todo))) n w (sparing.orec_clocks good c n todo w g m.1) (orec.orec_clocks-ranks good c n todo (veil w) (orec-world good c (veil w) n g.core m.1.opens.has.runs) m.1)
+core_ranks good c n (of_orec orec_clocks_all) w g m e = by-veil (core_kind n (of_orec orec_clocks_all)) n w (sparing.orec_clocks_all good c n w g m.1) (orec.orec_clocks_all-ranks good c n (veil w) (orec-world good c (veil w) n g.core m.1.opens.has.runs) m.1)
+core_ranks good c n (of_orec (orec_passes r b)) w g m e = by-veil (core_kind n (of_orec (orec_passes r b))) n w (sparing.orec_passes good c n r b w g m.1) (orec.orec_passes-ranks good c n r b (veil w) (orec-world good c (veil w) n g.core m.1.has.runs) m.1)
+core_ranks good c n (of_orec (orec_lasts r b)) w g m e = by-veil (core_kind n (of_orec (orec_lasts r b))) n w (sparing.orec_lasts good c n r b w g m.1) (orec.orec_lasts-ranks good c n r b (veil w) (orec-world good c (veil w) n g.core m.1.opens.has.runs) m.1)
+core_ranks good c n (of_orec (orec_looks r)) w g m e = by-veil (core_kind n (of_orec (orec_looks r))) n w (sparing.orec_looks good c n r w g m.1) (orec.orec_looks-ranks good c n r (veil w) (orec-world good c (veil w) n g.core m.1.runs) m.1)
+core_ranks good c n (of_orec orec_limits) w g m e = by-veil (core_kind n (of_orec orec_limits)) n w (sparing.orec_limits good c n w g m.1) (orec.orec_limits-ranks good c n (veil w) (orec-world good c (veil w) n g.core m.1.runs) m.1)
+core_ranks good c n (of_orec (orec_locks r version)) w g m e = by-veil (core_kind n (of_orec (orec_locks r version))) n w (sparing.orec_locks good c n r version w g m.1) (orec.orec_locks-ranks good c n r version (veil w) (orec-world good c (veil w) n g.core m.1.opens.has.runs) m.1)
+core_ranks good c n (of_orec (orec_commits start writes back)) w g m e = by-veil (core_kind n (of_orec (orec_commits start writes back))) n w (sparing.orec_commits good c n start writes back w g m.1) (orec.orec_commits-ranks good c n start writes back m.0 (veil w) (orec-world good c (veil w) n g.core m.1.0.has.runs) m.1.0)
+core_ranks good c n (of_orec (orec_writes_back a x)) w g m e = by-veil (core_kind n (of_orec (orec_writes_back a x))) n w (sparing.orec_writes_back good c n a x w g m.1) (orec.orec_writes_back-ranks good c n a x (veil w) (orec-world good c (veil w) n g.core m.1.has.runs) m.1)
+core_ranks good c n (of_orec (orec_times r version)) w g m e = by-veil (core_kind n (of_orec (orec_times r version))) n w (sparing.orec_times good c n r version w g m.1) (orec.orec_times-ranks good c n r version (veil w) (orec-world good c (veil w) n g.core m.1.gives.has.runs) m.1)
+core_ranks good c n (of_orec (orec_olds r version)) w g m e = by-veil (core_kind n (of_orec (orec_olds r version))) n w (sparing.orec_olds good c n r version w g m.1) (orec.orec_olds-ranks good c n r version (veil w) (orec-world good c (veil w) n g.core m.1.gives.has.runs) m.1)
+core_ranks good c n (of_orec (orec_ups r version)) w g m e = by-veil (core_kind n (of_orec (orec_ups r version))) n w (sparing.orec_ups good c n r version w g m.1) (orec.orec_ups-ranks good c n r version (veil w) (orec-world good c (veil w) n g.core m.1.gives.has.runs) m.1)
+core_ranks good c n (of_orec (orec_own_loads a)) w g m e = by-veil (core_kind n (of_orec (orec_own_loads a))) n w (sparing.orec_own_loads good c n a w g m.1) (orec.orec_own_loads-ranks good c n a (veil w) (orec-world good c (veil w) n g.core m.1.0.opens.has.runs) m.1.0)
+core_ranks good c n (of_orec (orec_saves a)) w g m e = by-veil (core_kind n (of_orec (orec_saves a))) n w (sparing.orec_saves good c n a w g m.1) (orec.orec_saves-ranks good c n a (veil w) (orec-world good c (veil w) n g.core m.1.0.opens.has.runs) m.1.0)
+core_ranks good c n (of_orec (orec_places a x)) w g m e = by-veil (core_kind n (of_orec (orec_places a x))) n w (sparing.orec_places good c n a x w g m.1) (orec.orec_places-ranks good c n a x (veil w) (orec-world good c (veil w) n g.core m.1.opens.has.runs) m.1)
+core_ranks good c n (of_orec (orec_restores a x)) w g m e = by-veil (core_kind n (of_orec (orec_restores a x))) n w (sparing.orec_restores good c n a x w g m.1) (orec.orec_restores-ranks good c n a x (veil w) (orec-world good c (veil w) n g.core m.1.has.runs) m.1)
+core_ranks good c n (of_orec (orec_lifts least)) w g m e = by-veil (core_kind n (of_orec (orec_lifts least))) n w (sparing.orec_lifts good c n least w g m.1) (orec.orec_lifts-ranks good c n least (veil w) (orec-world good c (veil w) n g.core m.1.has.runs) m.1)
 core_ranks good c n (of_ring ring_begins) w g m e = level w (world_after (core_kind n (of_ring ring_begins)) n w) n (view_after (core_kind n (of_ring ring_begins)) w (w.views n) (answer (core_kind n (of_ring ring_begins)) w)) refl refl refl refl refl refl
 core_ranks good c n (of_ring (ring_loads a)) w g m e = level w (world_after (core_kind n (of_ring (ring_loads a))) n w) n (view_after (core_kind n (of_ring (ring_loads a))) w (w.views n) (answer (core_kind n (of_ring (ring_loads a))) w)) refl refl refl refl refl refl
 core_ranks good c n (of_ring ring_looks) w g m e = level w (world_after (core_kind n (of_ring ring_looks)) n w) n (view_after (core_kind n (of_ring ring_looks)) w (w.views n) (answer (core_kind n (of_ring ring_looks)) w)) refl refl refl refl refl refl

@@ -21,15 +21,15 @@ use Rattle.stm_rule.specs.Findings.{FindsSole, FindsWithin, FindsBegin, FindsAga
 use Rattle.stm_rule.specs.Frames.{is-caller}
 use Rattle.stm_rule.specs.InstallingLaws.{settles}
 use Rattle.stm_rule.specs.Laws.{tml_begins, tml_agains, tml_writes}
-use Rattle.stm_rule.specs.Product.{Runs, Whole}
+use Rattle.stm_rule.specs.Product.{Runs, Core}
 use Rattle.stm_rule.specs.PromotionLaws.{grants}
 
 module _ (good : (ℕ → ℕ) → Type 0) (c : Config) (n : ℕ) where
-  low : (w : World) → Whole good c w → (w.views n).gate.phase ≡ In → n < c.callers
+  low : (w : World) → Core good c w → (w.views n).gate.phase ≡ In → n < c.callers
   low w g inside = is-caller good c w g n (λ idle. let e : In ≡ Idle = sym inside ∙ idle in cc)
 
   -- the rises of one caller alone are all rises
-  pub sole-of : (w : World) → Whole good c w → (w.views n).gate.phase ≡ In → FindsSole c w (w.views n) w.clock
+  pub sole-of : (w : World) → Core good c w → (w.views n).gate.phase ≡ In → FindsSole c w (w.views n) w.clock
   sole-of w g inside one =
       let first : n ≡ 0 = (let l = low w g inside in omega arith) in
       let all : all_rises c.callers (steps_scene w).views ≡ 0 + (w.views 0).steps.rises = ap (λ k. all_rises k (steps_scene w).views) one in
@@ -38,7 +38,7 @@ module _ (good : (ℕ → ℕ) → Type 0) (c : Config) (n : ℕ) where
       omega arith
 
   -- an odd clock is a writer's, which is another caller
-  writer-of : (w : World) → Whole good c w → (w.views n).gate.phase ≡ In → (w.views n).gate.algorithm ≡ Tml → (w.views n).gate.granted ≡ false → (w.views n).tml.writer ≡ false → w.clock % 2 ≡ 1 → 1 < c.callers
+  writer-of : (w : World) → Core good c w → (w.views n).gate.phase ≡ In → (w.views n).gate.algorithm ≡ Tml → (w.views n).gate.granted ≡ false → (w.views n).tml.writer ≡ false → w.clock % 2 ≡ 1 → 1 < c.callers
   writer-of w g inside tml plain reads odd = by (ltb 1 c.callers) refl
     where
       r : TmlRule c.words (tml_part (run_scene w))
@@ -55,25 +55,25 @@ module _ (good : (ℕ → ℕ) → Type 0) (c : Config) (n : ℕ) where
           let f : true ≡ false = sym (subst (λ (i : ℕ). (w.views i).tml.writer ≡ true) same t) ∙ reads in cc in
           absurd (let e = (r.free none).0 in omega arith)
 
-  pub uncalm : (w : World) → Whole good c w → (w.views n).gate.holds ≡ false → (b : Bool) → (w.views n).gate.calm ≡ b → b ≡ false
+  pub uncalm : (w : World) → Core good c w → (w.views n).gate.holds ≡ false → (b : Bool) → (w.views n).gate.calm ≡ b → b ≡ false
   uncalm w g free true e = absurd (let f : true ≡ false = sym (g.install.holding n e) ∙ free in cc)
   uncalm w g free false e = refl
 
-  pub begins_beside : StepLaw (Whole good c) tml_begin (FindsBegin good c) n CanTmlBegin
+  pub begins_beside : StepLaw (Core good c) tml_begin (FindsBegin good c) n CanTmlBegin
   begins_beside w g may = let o = tml_begins good c n w g may in record {
     rule = o.rule;
     advances = o.advances;
     shown = record { begins = o.shown; sole = sole-of w g may.runs.phase; writer = writer-of w g may.runs.phase may.runs.algorithm may.runs.plain may.unwritten; uncalm = λ free. uncalm w g free (w.views n).gate.calm refl };
   }
 
-  pub agains_beside : StepLaw (Whole good c) tml_again (FindsAgain good c) n CanTmlAgain
+  pub agains_beside : StepLaw (Core good c) tml_again (FindsAgain good c) n CanTmlAgain
   agains_beside w g may = let o = tml_agains good c n w g may in record { rule = o.rule; advances = o.advances; shown = record { again = o.shown; sole = sole-of w g may.has.runs.phase } }
 
-  pub writes_beside : (start : ℕ) → n < c.callers → StepLaw (Whole good c) (tml_write start) (FindsSole c) n (CanTmlWrite start)
+  pub writes_beside : (start : ℕ) → n < c.callers → StepLaw (Core good c) (tml_write start) (FindsSole c) n (CanTmlWrite start)
   writes_beside start few w g may = let o = tml_writes good c n start few w g may in record { rule = o.rule; advances = o.advances; shown = sole-of w g may.has.runs.phase }
 
-  pub grants_beside : StepLaw (Whole good c) tml_grant (FindsSole c) n (CanTmlGrant c.callers n)
+  pub grants_beside : StepLaw (Core good c) tml_grant (FindsSole c) n (CanTmlGrant c.callers n)
   grants_beside w g may = let o = grants good c n w g may in record { rule = o.rule; advances = o.advances; shown = sole-of w g may.has.runs.phase }
 
-  pub settles_within : StepLaw (Whole good c) settle FindsWithin n (CanSettle c.callers n)
+  pub settles_within : StepLaw (Core good c) settle FindsWithin n (CanSettle c.callers n)
   settles_within w g may = let o = settles good c n w g may in record { rule = o.rule; advances = o.advances; shown = g.history.limit }

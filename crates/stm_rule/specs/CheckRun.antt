@@ -7,6 +7,7 @@ use Rattle.rule_base.specs.declared.entries.Cell.{Cell}
 use Rattle.stm_model.specs.declared.config.Config.{Config}
 use Rattle.rule_base.specs.declared.layout.TheConstants.{SLOT_WORDS}
 use Rattle.rule_base.specs.declared.views.View.{View}
+use Rattle.rule_base.specs.EncodingLemmas.{fenced-none}
 use Rattle.rule_base.specs.History.{Keeps}
 use Rattle.rule_base.specs.HistoryLemmas.{inside-more, small-more}
 use Rattle.rule_base.specs.Opening.{opening_world}
@@ -50,7 +51,7 @@ one_move {v = v} has start clock checking sure p0 p1 p2 p3 p4 p5 p6 p7 p8 p9 p10
     each (suc (suc (suc (suc (suc (suc (suc (suc (suc (suc (suc (suc (suc (suc (suc (suc i)))))))))))))))) l = absurd (omega arith)
 
 abbrev pub checked_run : ℕ → List (ℕ × CoreStep)
-checked_run x = (0, announces) ∷ (0, aims) ∷ (0, takes_gate 0) ∷ (0, checks 1) ∷ (0, departs) ∷ (0, settles) ∷ (0, stores_base 0) ∷ (0, stores_done 0) ∷ (0, installs RingSw) ∷ (0, reopens RingSw) ∷ (1, announces) ∷ (1, loads_gate) ∷ (1, of_ring ring_begins) ∷ (1, of_ring (ring_loads 0)) ∷ (0, announces) ∷ (0, loads_gate) ∷ (0, of_ring ring_begins) ∷ (0, of_ring ring_locks) ∷ (0, of_ring ring_ticks) ∷ (0, of_ring ring_looks) ∷ (0, of_ring (ring_slots 2 1 0 (cell_of x))) ∷ (0, of_ring (ring_slots 2 1 1 (cell_of x))) ∷ (0, of_ring (ring_slots 2 1 2 (cell_of x))) ∷ (0, of_ring (ring_slots 2 1 3 (cell_of x))) ∷ (0, of_ring (ring_slots 2 1 4 (cell_of x))) ∷ (0, of_ring (ring_slots 2 1 5 (cell_of x))) ∷ (0, of_ring (ring_slots 2 1 6 (cell_of x))) ∷ (0, of_ring (ring_slots 2 1 7 (cell_of x))) ∷ (0, of_ring (ring_slots 2 1 8 (cell_of x))) ∷ (0, of_ring (ring_slots 2 1 9 (cell_of x))) ∷ (0, of_ring (ring_slots 2 1 10 (cell_of x))) ∷ (0, of_ring (ring_slots 2 1 11 (cell_of x))) ∷ (0, of_ring (ring_slots 2 1 12 (cell_of x))) ∷ (0, of_ring (ring_slots 2 1 13 (cell_of x))) ∷ (0, of_ring (ring_slots 2 1 14 (cell_of x))) ∷ (0, of_ring (ring_slots 2 1 15 (cell_of x))) ∷ (0, of_ring (ring_enters 1)) ∷ (0, of_ring (ring_writes 1 x)) ∷ (0, of_ring (ring_dones 1)) ∷ (0, of_ring ring_frees) ∷ (0, departs) ∷ (1, of_ring ring_looks) ∷ (1, of_ring (ring_words 2 1 0)) ∷ (1, of_ring (ring_words 2 1 1)) ∷ (1, of_ring (ring_words 2 1 2)) ∷ (1, of_ring (ring_words 2 1 3)) ∷ (1, of_ring (ring_words 2 1 4)) ∷ (1, of_ring (ring_words 2 1 5)) ∷ (1, of_ring (ring_words 2 1 6)) ∷ (1, of_ring (ring_words 2 1 7)) ∷ (1, of_ring (ring_words 2 1 8)) ∷ (1, of_ring (ring_words 2 1 9)) ∷ (1, of_ring (ring_words 2 1 10)) ∷ (1, of_ring (ring_words 2 1 11)) ∷ (1, of_ring (ring_words 2 1 12)) ∷ (1, of_ring (ring_words 2 1 13)) ∷ (1, of_ring (ring_words 2 1 14)) ∷ (1, of_ring (ring_words 2 1 15)) ∷ (1, of_ring (ring_agains 2)) ∷ (1, of_ring ring_moves) ∷ (1, departs) ∷ []
+checked_run x = (0, announces) ∷ (0, aims) ∷ (0, takes_gate 0) ∷ (0, checks 1) ∷ (0, departs) ∷ (0, settles) ∷ (0, stores_base 0) ∷ (0, stores_done 0) ∷ (0, installs 0 RingSw) ∷ (0, reopens 0 RingSw) ∷ (1, announces) ∷ (1, loads_gate) ∷ (1, of_ring ring_begins) ∷ (1, of_ring (ring_loads 0)) ∷ (0, announces) ∷ (0, loads_gate) ∷ (0, of_ring ring_begins) ∷ (0, of_ring ring_locks) ∷ (0, of_ring ring_ticks) ∷ (0, of_ring ring_looks) ∷ (0, of_ring (ring_slots 2 1 0 (cell_of x))) ∷ (0, of_ring (ring_slots 2 1 1 (cell_of x))) ∷ (0, of_ring (ring_slots 2 1 2 (cell_of x))) ∷ (0, of_ring (ring_slots 2 1 3 (cell_of x))) ∷ (0, of_ring (ring_slots 2 1 4 (cell_of x))) ∷ (0, of_ring (ring_slots 2 1 5 (cell_of x))) ∷ (0, of_ring (ring_slots 2 1 6 (cell_of x))) ∷ (0, of_ring (ring_slots 2 1 7 (cell_of x))) ∷ (0, of_ring (ring_slots 2 1 8 (cell_of x))) ∷ (0, of_ring (ring_slots 2 1 9 (cell_of x))) ∷ (0, of_ring (ring_slots 2 1 10 (cell_of x))) ∷ (0, of_ring (ring_slots 2 1 11 (cell_of x))) ∷ (0, of_ring (ring_slots 2 1 12 (cell_of x))) ∷ (0, of_ring (ring_slots 2 1 13 (cell_of x))) ∷ (0, of_ring (ring_slots 2 1 14 (cell_of x))) ∷ (0, of_ring (ring_slots 2 1 15 (cell_of x))) ∷ (0, of_ring (ring_enters 1)) ∷ (0, of_ring (ring_writes 1 x)) ∷ (0, of_ring (ring_dones 1)) ∷ (0, of_ring ring_frees) ∷ (0, departs) ∷ (1, of_ring ring_looks) ∷ (1, of_ring (ring_words 2 1 0)) ∷ (1, of_ring (ring_words 2 1 1)) ∷ (1, of_ring (ring_words 2 1 2)) ∷ (1, of_ring (ring_words 2 1 3)) ∷ (1, of_ring (ring_words 2 1 4)) ∷ (1, of_ring (ring_words 2 1 5)) ∷ (1, of_ring (ring_words 2 1 6)) ∷ (1, of_ring (ring_words 2 1 7)) ∷ (1, of_ring (ring_words 2 1 8)) ∷ (1, of_ring (ring_words 2 1 9)) ∷ (1, of_ring (ring_words 2 1 10)) ∷ (1, of_ring (ring_words 2 1 11)) ∷ (1, of_ring (ring_words 2 1 12)) ∷ (1, of_ring (ring_words 2 1 13)) ∷ (1, of_ring (ring_words 2 1 14)) ∷ (1, of_ring (ring_words 2 1 15)) ∷ (1, of_ring (ring_agains 2)) ∷ (1, of_ring ring_moves) ∷ (1, departs) ∷ []
 
 abbrev pub CoreChecks : ((ℕ → ℕ) → Type 0) → Config → Type 0
 CoreChecks good c = is_built RingSw ≡ true → (x : ℕ) → 0 < c.words → 1 < c.words → x < 2 ^ 64 → Keeps good [] (cell_of x)
@@ -78,9 +79,9 @@ core_checks_lem good c built x low high small keeps = (
                 (
                   (omega arith, record { closing = λ e. refl; calm = refl; time = refl }),
                   (
-                    (omega arith, (built, record { phase = refl; calm = refl; rebased = refl; completed = refl; even = λ e. absurd cc })),
+                    (omega arith, (built, record { phase = refl; guarded = refl; ungiven = refl; calm = refl; rebased = refl; completed = refl; even = λ e. absurd cc })),
                     (
-                      (omega arith, record { phase = refl; absent = refl; named = refl; unentered = refl }),
+                      (omega arith, record { phase = refl; absent = refl; named = refl; guarded = refl; ungiven = refl; unentered = refl }),
                       (
                         (omega arith, refl),
                         (
@@ -88,7 +89,7 @@ core_checks_lem good c built x low high small keeps = (
                           (
                             (omega arith, record { runs = record { phase = refl; algorithm = refl; plain = refl }; unlocked = refl }),
                             (
-                              (omega arith, record { has = record { runs = record { phase = refl; algorithm = refl; plain = refl }; inside = refl }; inside = low; settled = refl }),
+                              (omega arith, (record { has = record { runs = record { phase = refl; algorithm = refl; plain = refl }; inside = refl }; inside = low; settled = refl }, fenced-none 0)),
                               (
                                 (omega arith, refl),
                                 (
@@ -134,7 +135,7 @@ core_checks_lem good c built x low high small keeps = (
                                                                         (
                                                                           (omega arith, (refl, record { turn = record { has = record { runs = record { phase = refl; algorithm = refl; plain = refl }; inside = refl }; taken = refl; unentered = refl }; ticked = refl; checked = refl; next = refl; index = refl; low = omega arith; same = λ l. refl })),
                                                                           (
-                                                                            (omega arith, record { turn = record { has = record { runs = record { phase = refl; algorithm = refl; plain = refl }; inside = refl }; taken = refl; unentered = refl }; ticked = refl; checked = refl; full = refl; time = refl; limit = omega arith; settled = refl; free = refl; wrote = λ e. cc; writes_inside = inside-more c.words (record { at = 1; value = x }) [] high (λ a e. absurd cc); writes_small = small-more (record { at = 1; value = x }) [] small (λ a d l. l); keeps = keeps }),
+                                                                            (omega arith, (record { turn = record { has = record { runs = record { phase = refl; algorithm = refl; plain = refl }; inside = refl }; taken = refl; unentered = refl }; ticked = refl; checked = refl; full = refl; time = refl; limit = omega arith; settled = refl; free = refl; wrote = λ e. cc; writes_inside = inside-more c.words (record { at = 1; value = x }) [] high (λ a e. absurd cc); writes_small = small-more (record { at = 1; value = x }) [] small (λ a d l. l); keeps = keeps }, λ b e. fenced-none b)),
                                                                             (
                                                                               (omega arith, record { entered = record { runs = record { phase = refl; algorithm = refl; plain = refl }; committed = refl; unfinished = refl }; owed = refl; value = refl }),
                                                                               (

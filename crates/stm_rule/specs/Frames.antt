@@ -6,7 +6,7 @@ use Rattle.stm_model.specs.declared.alg.Alg.{Alg}
 use Rattle.stm_model.specs.declared.alg.Alg.TheVariants.{Cgl, Tml, OrecLazy, OrecEager, RingSw, Serial}
 use Rattle.stm_model.specs.declared.config.Config.{Config}
 use Rattle.rule_base.specs.declared.views.GateView.{GateView}
-use Rattle.rule_base.specs.declared.views.Phase.TheVariants.{Idle, In}
+use Rattle.rule_base.specs.declared.views.Phase.TheVariants.{Idle, In, Closing}
 use Rattle.rule_base.specs.declared.views.View.{View}
 use Rattle.rule_base.specs.Encodings.{alg_of}
 use Rattle.stm_model.specs.Algorithms.{has_ring, has_records, takes_lock, is_built}
@@ -19,7 +19,7 @@ use Rattle.rule_base.specs.Ranks.{rec_of, home_of}
 use Rattle.rule_base.specs.Ranks.Rec.{Taken}
 use Rattle.rule_base.specs.InstallRule.{install_scene, InstallRule}
 use Rattle.rule_base.specs.RecordLemmas.{records-after}
-use Rattle.rule_base.specs.Regime.{Regime, regime, named_in}
+use Rattle.rule_base.specs.Regime.{Regime, mode_of, regime, named_in}
 use Rattle.rule_base.specs.Regime.Regime.{Running, Promoted}
 use Rattle.rule_base.specs.RegimeLemmas.{named-regime, regime-kept, regime-inside, regime-granted}
 use Rattle.rule_base.specs.RunScene.{RunView, run_view, RunScene, run_scene}
@@ -37,7 +37,7 @@ use Rattle.rule_orec.specs.OrecSteps.{RunsOrec}
 use Rattle.rule_orec.specs.OrecLaws.{taken-rec}
 use Rattle.stm_rule.specs.Alone.{left_at, alone-kept}
 use Rattle.stm_rule.specs.Raised.{Raised, raised-put}
-use Rattle.stm_rule.specs.Product.{Runs, Whole}
+use Rattle.stm_rule.specs.Product.{Runs, Core}
 use Rattle.stm_rule.specs.Running.{runs-fresh, runs-stays, run_scene-kept}
 
 -- the number from which starts are loaded, where the algorithm stays
@@ -68,7 +68,7 @@ ring-named RingSw e = refl
 ring-named Serial e = absurd cc
 
 -- who is between no entry and its DONE, and owes no DONE as the gate's holder, has seen no more than the number from which starts are loaded
-pub front-within : (good : (ℕ → ℕ) → Type 0) (c : Config) (w : World) (n : ℕ) → Whole good c w → (w.views n).ring_commit.committed ≡ false → (w.views n).attempt.entered ≡ false → (w.views n).history.front ≤ horizon w
+pub front-within : (good : (ℕ → ℕ) → Type 0) (c : Config) (w : World) (n : ℕ) → Core good c w → (w.views n).ring_commit.committed ≡ false → (w.views n).attempt.entered ≡ false → (w.views n).history.front ≤ horizon w
 front-within good c w n g early apart = go (has_ring (alg_of w.gate)) refl
   where
     go : (b : Bool) → has_ring (alg_of w.gate) ≡ b → (w.views n).history.front ≤ (if b then w.done else w.clock)
@@ -76,7 +76,7 @@ front-within good c w n g early apart = go (has_ring (alg_of w.gate)) refl
     go false e = (g.history.known n).front
 
 -- who has no attempt has no lock
-pub unlocked : (good : (ℕ → ℕ) → Type 0) (c : Config) (w : World) (n : ℕ) → Whole good c w → ((w.views n).gate.phase ≡ In → ⊥) → (w.views n).lock.taken ≡ false
+pub unlocked : (good : (ℕ → ℕ) → Type 0) (c : Config) (w : World) (n : ℕ) → Core good c w → ((w.views n).gate.phase ≡ In → ⊥) → (w.views n).lock.taken ≡ false
 unlocked good c w n g out = go (w.views n).lock.taken refl
   where
     go : (b : Bool) → (w.views n).lock.taken ≡ b → b ≡ false
@@ -84,7 +84,7 @@ unlocked good c w n g out = go (w.views n).lock.taken refl
     go false t = refl
 
 -- and has no part in any algorithm
-pub idle : (good : (ℕ → ℕ) → Type 0) (c : Config) (w : World) (n : ℕ) → Whole good c w → ((w.views n).gate.phase ≡ In → ⊥) → is_busy (w.views n) ≡ false
+pub idle : (good : (ℕ → ℕ) → Type 0) (c : Config) (w : World) (n : ℕ) → Core good c w → ((w.views n).gate.phase ≡ In → ⊥) → is_busy (w.views n) ≡ false
 idle good c w n g out = go (is_busy (w.views n)) refl
   where
     go : (b : Bool) → is_busy (w.views n) ≡ b → b ≡ false
@@ -95,27 +95,27 @@ not-flag : (a b : Bool) → (a ≡ true → b ≡ true) → b ≡ false → a �
 not-flag true b up e = absurd (let f : true ≡ false = sym (up refl) ∙ e in cc)
 not-flag false b up e = refl
 
-pub unwritten : (good : (ℕ → ℕ) → Type 0) (c : Config) (w : World) (n : ℕ) → Whole good c w → ((w.views n).gate.phase ≡ In → ⊥) → (w.views n).tml.writer ≡ false
+pub unwritten : (good : (ℕ → ℕ) → Type 0) (c : Config) (w : World) (n : ℕ) → Core good c w → ((w.views n).gate.phase ≡ In → ⊥) → (w.views n).tml.writer ≡ false
 unwritten good c w n g out = not-flag (w.views n).tml.writer (is_busy (w.views n)) (busy-writer (w.views n)) (idle good c w n g out)
 
-pub outside : (good : (ℕ → ℕ) → Type 0) (c : Config) (w : World) (n : ℕ) → Whole good c w → ((w.views n).gate.phase ≡ In → ⊥) → (w.views n).tml.inside ≡ false
+pub outside : (good : (ℕ → ℕ) → Type 0) (c : Config) (w : World) (n : ℕ) → Core good c w → ((w.views n).gate.phase ≡ In → ⊥) → (w.views n).tml.inside ≡ false
 outside good c w n g out = not-flag (w.views n).tml.inside (is_busy (w.views n)) (busy-tml (w.views n)) (idle good c w n g out)
 
-pub outside-records : (good : (ℕ → ℕ) → Type 0) (c : Config) (w : World) (n : ℕ) → Whole good c w → ((w.views n).gate.phase ≡ In → ⊥) → (w.views n).owned.inside ≡ false
+pub outside-records : (good : (ℕ → ℕ) → Type 0) (c : Config) (w : World) (n : ℕ) → Core good c w → ((w.views n).gate.phase ≡ In → ⊥) → (w.views n).owned.inside ≡ false
 outside-records good c w n g out = not-flag (w.views n).owned.inside (is_busy (w.views n)) (busy-owned (w.views n)) (idle good c w n g out)
 
-pub unread : (good : (ℕ → ℕ) → Type 0) (c : Config) (w : World) (n : ℕ) → Whole good c w → ((w.views n).gate.phase ≡ In → ⊥) → (w.views n).ring_read.inside ≡ false
+pub unread : (good : (ℕ → ℕ) → Type 0) (c : Config) (w : World) (n : ℕ) → Core good c w → ((w.views n).gate.phase ≡ In → ⊥) → (w.views n).ring_read.inside ≡ false
 unread good c w n g out = not-flag (w.views n).ring_read.inside (is_busy (w.views n)) (busy-ring (w.views n)) (idle good c w n g out)
 
-pub uncommitted : (good : (ℕ → ℕ) → Type 0) (c : Config) (w : World) (n : ℕ) → Whole good c w → ((w.views n).gate.phase ≡ In → ⊥) → (w.views n).ring_commit.committed ≡ false
+pub uncommitted : (good : (ℕ → ℕ) → Type 0) (c : Config) (w : World) (n : ℕ) → Core good c w → ((w.views n).gate.phase ≡ In → ⊥) → (w.views n).ring_commit.committed ≡ false
 uncommitted good c w n g out = not-flag (w.views n).ring_commit.committed (is_busy (w.views n)) (busy-turn (w.views n)) (idle good c w n g out)
 
 -- who may not hold the gate hasn't raised the clock as its holder
-pub unentered : (good : (ℕ → ℕ) → Type 0) (c : Config) (w : World) (n : ℕ) → Whole good c w → may_hold (w.views n).gate.phase ≡ false → (w.views n).attempt.entered ≡ true → ⊥
+pub unentered : (good : (ℕ → ℕ) → Type 0) (c : Config) (w : World) (n : ℕ) → Core good c w → may_hold (w.views n).gate.phase ≡ false → (w.views n).attempt.entered ≡ true → ⊥
 unentered good c w n g out e = let f : true ≡ false = sym (g.attempts.entered n e) ∙ out in cc
 
 -- and owns no record
-pub bare : (good : (ℕ → ℕ) → Type 0) (c : Config) (w : World) (n : ℕ) → Whole good c w → ((w.views n).gate.phase ≡ In → ⊥) → (r : ℕ) → touches (w.views n).owned.held r ≡ false
+pub bare : (good : (ℕ → ℕ) → Type 0) (c : Config) (w : World) (n : ℕ) → Core good c w → ((w.views n).gate.phase ≡ In → ⊥) → (r : ℕ) → touches (w.views n).owned.held r ≡ false
 bare good c w n g out r = go (touches (w.views n).owned.held r) refl
   where
     go : (b : Bool) → touches (w.views n).owned.held r ≡ b → b ≡ false
@@ -123,15 +123,15 @@ bare good c w n g out r = go (touches (w.views n).owned.held r) refl
     go false t = refl
 
 -- a record is owned by who holds it
-pub owner-holds : (good : (ℕ → ℕ) → Type 0) (c : Config) (w : World) → Whole good c w → (r m : ℕ) → rec_of (w.records r) ≡ Taken m → touches (w.views m).owned.held r ≡ true
+pub owner-holds : (good : (ℕ → ℕ) → Type 0) (c : Config) (w : World) → Core good c w → (r m : ℕ) → rec_of (w.records r) ≡ Taken m → touches (w.views m).owned.held r ≡ true
 owner-holds good c w g r m e = let k = taken-rec (w.records r) m e in subst (λ (u : ℕ). touches (w.views u).owned.held r ≡ true) k.1 (g.records.owned r k.0)
 
 -- who holds none owns none
-pub none-apart : (good : (ℕ → ℕ) → Type 0) (c : Config) (w : World) (n : ℕ) → Whole good c w → ((r : ℕ) → touches (w.views n).owned.held r ≡ false) → (r : ℕ) → rec_of (w.records r) ≡ Taken n → ⊥
+pub none-apart : (good : (ℕ → ℕ) → Type 0) (c : Config) (w : World) (n : ℕ) → Core good c w → ((r : ℕ) → touches (w.views n).owned.held r ≡ false) → (r : ℕ) → rec_of (w.records r) ≡ Taken n → ⊥
 none-apart good c w n g none r e = let f : true ≡ false = sym (owner-holds good c w g r n e) ∙ none r in cc
 
 -- who may not hold the gate doesn't
-pub unheld : (good : (ℕ → ℕ) → Type 0) (c : Config) (w : World) (n : ℕ) → Whole good c w → may_hold (w.views n).gate.phase ≡ false → (w.views n).gate.holds ≡ false
+pub unheld : (good : (ℕ → ℕ) → Type 0) (c : Config) (w : World) (n : ℕ) → Core good c w → may_hold (w.views n).gate.phase ≡ false → (w.views n).gate.holds ≡ false
 unheld good c w n g out = go (w.views n).gate.holds refl
   where
     go : (b : Bool) → (w.views n).gate.holds ≡ b → b ≡ false
@@ -139,19 +139,31 @@ unheld good c w n g out = go (w.views n).gate.holds refl
     go false h = refl
 
 -- who holds no gate isn't promoted
-pub ungranted : (good : (ℕ → ℕ) → Type 0) (c : Config) (w : World) (n : ℕ) → Whole good c w → (w.views n).gate.holds ≡ false → (w.views n).gate.granted ≡ false
+pub ungranted : (good : (ℕ → ℕ) → Type 0) (c : Config) (w : World) (n : ℕ) → Core good c w → (w.views n).gate.holds ≡ false → (w.views n).gate.granted ≡ false
 ungranted good c w n g free = (not-calm c (install_scene w) n g.install free).3
 
 -- nor is who is in no attempt
-pub ungranted-out : (good : (ℕ → ℕ) → Type 0) (c : Config) (w : World) (n : ℕ) → Whole good c w → ((w.views n).gate.phase ≡ In → ⊥) → (w.views n).gate.granted ≡ false
+pub ungranted-out : (good : (ℕ → ℕ) → Type 0) (c : Config) (w : World) (n : ℕ) → Core good c w → ((w.views n).gate.phase ≡ In → ⊥) → (w.views n).gate.granted ≡ false
 ungranted-out good c w n g out = go (w.views n).gate.granted refl
   where
     go : (b : Bool) → (w.views n).gate.granted ≡ b → b ≡ false
     go true t = absurd (out (g.install.promoted n t).1)
     go false t = refl
 
+-- who holds no gate gives nothing back
+pub ungiven : (good : (ℕ → ℕ) → Type 0) (c : Config) (w : World) (n : ℕ) → Core good c w → (w.views n).gate.holds ≡ false → (w.views n).gate.giving ≡ false
+ungiven good c w n g free = (not-calm c (install_scene w) n g.install free).4
+
+-- nor does who isn't closing
+pub ungiven-out : (good : (ℕ → ℕ) → Type 0) (c : Config) (w : World) (n : ℕ) → Core good c w → ((w.views n).gate.phase ≡ Closing → ⊥) → (w.views n).gate.giving ≡ false
+ungiven-out good c w n g out = go (w.views n).gate.giving refl
+  where
+    go : (b : Bool) → (w.views n).gate.giving ≡ b → b ≡ false
+    go true t = absurd (out (g.install.giving n t).1)
+    go false t = refl
+
 -- a caller that does something is one of the callers
-pub is-caller : (good : (ℕ → ℕ) → Type 0) (c : Config) (w : World) → Whole good c w → (k : ℕ) → ((w.views k).gate.phase ≡ Idle → ⊥) → k < c.callers
+pub is-caller : (good : (ℕ → ℕ) → Type 0) (c : Config) (w : World) → Core good c w → (k : ℕ) → ((w.views k).gate.phase ≡ Idle → ⊥) → k < c.callers
 is-caller good c w g k busy = go (ltb k c.callers) refl
   where
     go : (t : Bool) → ltb k c.callers ≡ t → k < c.callers
@@ -159,7 +171,7 @@ is-caller good c w g k busy = go (ltb k c.callers) refl
     go false q = absurd (busy (g.gate.far k (grind (arith, nat_tests))))
 
 -- the rule of the records while an attempt of theirs isn't promoted
-pub orec-world : (good : (ℕ → ℕ) → Type 0) (c : Config) (w : World) (n : ℕ) → Whole good c w → RunsOrec (w.views n) → OrecWorld good c w
+pub orec-world : (good : (ℕ → ℕ) → Type 0) (c : Config) (w : World) (n : ℕ) → Core good c w → RunsOrec (w.views n) → OrecWorld good c w
 orec-world good c w n g may = record { history = g.history; steps = g.steps; records = g.records; lock = g.lock; attempts = g.attempts; runs = by (w.views n).gate.algorithm may.algorithm (subst (λ (r : Regime). Runs c r (run_scene w)) (regime-inside c w n g.gate g.install may.phase may.plain) g.running) }
   where
     by : (a : Alg) → has_records a ≡ true → Runs c (Running a) (run_scene w) → OrecRuns c (run_scene w)
@@ -200,9 +212,9 @@ pub record LeavesRuns (kind : StepKind) (n : ℕ) : Type 0 where
 
 module _ (good : (ℕ → ℕ) → Type 0) (c : Config) (kind : StepKind) (n : ℕ) (w : World) where
   -- a step at the gate, after which these clauses stand of what runs
-  pub by-running : LeavesCommon kind n → Whole good c w → ((w.views n).gate.phase ≡ In → (kind.after w (w.views n) (answer kind w)).gate.phase ≡ In) → ((kind.after w (w.views n) (answer kind w)).attempt.entered ≡ true → may_hold (kind.after w (w.views n) (answer kind w)).gate.phase ≡ true) → Raised (world_after kind n w) → horizon w ≤ horizon (world_after kind n w) → is_built (alg_of (world_after kind n w).gate) ≡ true
+  pub by-running : LeavesCommon kind n → Core good c w → ((w.views n).gate.phase ≡ In → (kind.after w (w.views n) (answer kind w)).gate.phase ≡ In) → ((kind.after w (w.views n) (answer kind w)).attempt.entered ≡ true → may_hold (kind.after w (w.views n) (answer kind w)).gate.phase ≡ true) → Raised (world_after kind n w) → horizon w ≤ horizon (world_after kind n w) → is_built (alg_of (world_after kind n w).gate) ≡ true
       → GateRule c.callers (gate_scene (world_after kind n w)) → InstallRule c (install_scene (world_after kind n w)) → Runs c (regime (world_after kind n w)) (run_scene (world_after kind n w))
-      → Whole good c (world_after kind n w) × Advances w (world_after kind n w)
+      → Core good c (world_after kind n w) × Advances w (world_after kind n w)
   by-running leaves g phase entered raised level built gate install running = (
     record {
       history = history-kept good c w x n v refl (leaves.words w).0 (leaves.history w).0 (leaves.history w).1 g.history;
@@ -230,9 +242,9 @@ module _ (good : (ℕ → ℕ) → Type 0) (c : Config) (kind : StepKind) (n : �
       up = subst (λ (k : ℕ). w.clock ≤ k) (sym (leaves.words w).0) (le_refl w.clock)
 
   -- a step at the gate that leaves what runs alone
-  pub by-gate : LeavesRuns kind n → Whole good c w → ((w.views n).gate.phase ≡ In → (kind.after w (w.views n) (answer kind w)).gate.phase ≡ In) → ((w.views n).attempt.entered ≡ true → may_hold (kind.after w (w.views n) (answer kind w)).gate.phase ≡ true) → ((w.views n).gate.calm ≡ true → (w.views n).attempt.entered ≡ true → (kind.after w (w.views n) (answer kind w)).gate.calm ≡ true)
+  pub by-gate : LeavesRuns kind n → Core good c w → ((w.views n).gate.phase ≡ In → (kind.after w (w.views n) (answer kind w)).gate.phase ≡ In) → ((w.views n).attempt.entered ≡ true → may_hold (kind.after w (w.views n) (answer kind w)).gate.phase ≡ true) → ((w.views n).gate.calm ≡ true → (w.views n).attempt.entered ≡ true → (kind.after w (w.views n) (answer kind w)).gate.calm ≡ true)
       → GateRule c.callers (gate_scene (world_after kind n w)) → InstallRule c (install_scene (world_after kind n w)) → regime (world_after kind n w) ≡ regime w
-      → Whole good c (world_after kind n w) × Advances w (world_after kind n w)
+      → Core good c (world_after kind n w) × Advances w (world_after kind n w)
   by-gate leaves g phase entered calm gate install same = by-running leaves.common g phase (λ e. entered (sym (ap (λ (u : RunView). u.attempt.entered) (leaves.view w)) ∙ e))
       (raised-put w x n v refl (λ e. sym (named-regime w) ∙ (sym (ap named_in same) ∙ (named-regime x ∙ e))) (λ e k. let t = sym (ap (λ (u : RunView). u.attempt.entered) (leaves.view w)) ∙ k in calm (g.raised (sym (named-regime w) ∙ (sym (ap named_in same) ∙ (named-regime x ∙ e))) n t) t) g.raised)
       (same-horizon w x (sym (named-regime x) ∙ (ap named_in same ∙ named-regime w)) (subst (λ (k : ℕ). w.clock ≤ k) (sym (leaves.common.words w).0) (le_refl w.clock)) (subst (λ (k : ℕ). w.done ≤ k) (sym (leaves.marks w).1) (le_refl w.done)))
@@ -247,11 +259,11 @@ module _ (good : (ℕ → ℕ) → Type 0) (c : Config) (kind : StepKind) (n : �
       v = view_after kind w (w.views n) (answer kind w)
 
 -- with one caller alone, who is in an attempt is that one
-pub only-caller : (good : (ℕ → ℕ) → Type 0) (c : Config) (w : World) (n : ℕ) → Whole good c w → (w.views n).gate.phase ≡ In → c.callers ≡ 1 → n ≡ 0
+pub only-caller : (good : (ℕ → ℕ) → Type 0) (c : Config) (w : World) (n : ℕ) → Core good c w → (w.views n).gate.phase ≡ In → c.callers ≡ 1 → n ≡ 0
 only-caller good c w n g inside sole = let low : n < c.callers = is-caller good c w g n (λ idle. let e : In ≡ Idle = sym inside ∙ idle in cc) in omega arith
 
 -- and finds each record as its last step there left it
-pub as-left : (good : (ℕ → ℕ) → Type 0) (c : Config) (w : World) (n r x : ℕ) → Whole good c w → (w.views n).gate.phase ≡ In → c.callers ≡ 1 → left_at r (w.views n).steps.trail ≡ Some x → w.records r ≡ x
+pub as-left : (good : (ℕ → ℕ) → Type 0) (c : Config) (w : World) (n r x : ℕ) → Core good c w → (w.views n).gate.phase ≡ In → c.callers ≡ 1 → left_at r (w.views n).steps.trail ≡ Some x → w.records r ≡ x
 as-left good c w n r x g inside sole e = g.alone sole r x (subst (λ (m : ℕ). left_at r (w.views m).steps.trail ≡ Some x) (only-caller good c w n g inside sole) e)
 
 -- which clauses of what runs a step of an attempt keeps
@@ -265,7 +277,7 @@ pub record Opens (good : (ℕ → ℕ) → Type 0) (c : Config) (kind : StepKind
   pub stands : ((m : ℕ) → (w.views m).gate.calm ≡ true → ⊥) ⊎ ((world_after kind n w).clock ≡ w.clock)
 
 -- a step of an attempt, of whichever algorithm, promoted or not
-pub by-attempt : (good : (ℕ → ℕ) → Type 0) (c : Config) (kind : StepKind) (shows : World → View → ℕ → Type 0) (n : ℕ) (May : View → Type 0) → LeavesGate kind n → ((w : World) → Whole good c w → May (w.views n) → Opens good c kind shows n May w) → StepLaw (Whole good c) kind shows n May
+pub by-attempt : (good : (ℕ → ℕ) → Type 0) (c : Config) (kind : StepKind) (shows : World → View → ℕ → Type 0) (n : ℕ) (May : View → Type 0) → LeavesGate kind n → ((w : World) → Core good c w → May (w.views n) → Opens good c kind shows n May w) → StepLaw (Core good c) kind shows n May
 by-attempt good c kind shows n May leaves opens w g may =
     let p = opens w g may in
     let o = p.law w (record { history = g.history; steps = g.steps; records = g.records; lock = g.lock; attempts = g.attempts; runs = subst (λ (r : Regime). Runs c r (run_scene w)) p.is g.running }) may in record {
@@ -281,7 +293,7 @@ by-attempt good c kind shows n May leaves opens w g may =
         built = ap (λ (k : ℕ). is_built (alg_of k)) (leaves.gate w) ∙ g.built;
         lock = o.rule.lock;
         attempts = o.rule.attempts;
-        running = subst (λ (r : Regime). Runs c r (run_scene x)) (sym (regime-kept w x n v refl (leaves.gate w) (ap (λ (q : GateView). q.granted) (leaves.view w)) ∙ p.is)) o.rule.runs;
+        running = subst (λ (r : Regime). Runs c r (run_scene x)) (sym (regime-kept w x n v refl (leaves.gate w) (ap mode_of (leaves.view w)) ∙ p.is)) o.rule.runs;
         alone = alone-kept c kind n w (leaves.trail w) (λ sole. inl (only-caller good c w n g p.inside sole)) g.alone;
         raised = raised-put w x n v refl (λ e. sym (ap alg_of (leaves.gate w)) ∙ e) (λ e k. ap (λ (q : GateView). q.calm) (leaves.view w) ∙ p.raised (sym (ap alg_of (leaves.gate w)) ∙ e) k) g.raised;
       };
@@ -297,18 +309,18 @@ by-attempt good c kind shows n May leaves opens w g may =
 
 module _ (good : (ℕ → ℕ) → Type 0) (c : Config) (kind : StepKind) (shows : World → View → ℕ → Type 0) (n : ℕ) (May : View → Type 0) where
   -- nobody knows the clock as the gate's holder while an attempt runs that doesn't know it so
-  plain : (w : World) → Whole good c w → (w.views n).gate.phase ≡ In → (w.views n).gate.calm ≡ false → (m : ℕ) → (w.views m).gate.calm ≡ true → ⊥
+  plain : (w : World) → Core good c w → (w.views n).gate.phase ≡ In → (w.views n).gate.calm ≡ false → (m : ℕ) → (w.views m).gate.calm ≡ true → ⊥
   plain w g inside free = nobody-calm c w n inside free g.gate g.install (is-caller good c w g n (λ idle. let e : In ≡ Idle = sym inside ∙ idle in cc))
 
   -- the step leaves the clock alone, or its caller doesn't hold the gate, or doesn't know the clock as its holder
   abbrev pub Calms : Type 0
-  Calms = (w : World) → Whole good c w → May (w.views n) → (((w.views n).gate.holds ≡ false) ⊎ ((w.views n).gate.calm ≡ false)) ⊎ ((world_after kind n w).clock ≡ w.clock)
+  Calms = (w : World) → Core good c w → May (w.views n) → (((w.views n).gate.holds ≡ false) ⊎ ((w.views n).gate.calm ≡ false)) ⊎ ((world_after kind n w).clock ≡ w.clock)
 
-  calms : (w : World) → Whole good c w → (w.views n).gate.phase ≡ In → (((w.views n).gate.holds ≡ false) ⊎ ((w.views n).gate.calm ≡ false)) ⊎ ((world_after kind n w).clock ≡ w.clock) → ((m : ℕ) → (w.views m).gate.calm ≡ true → ⊥) ⊎ ((world_after kind n w).clock ≡ w.clock)
+  calms : (w : World) → Core good c w → (w.views n).gate.phase ≡ In → (((w.views n).gate.holds ≡ false) ⊎ ((w.views n).gate.calm ≡ false)) ⊎ ((world_after kind n w).clock ≡ w.clock) → ((m : ℕ) → (w.views m).gate.calm ≡ true → ⊥) ⊎ ((world_after kind n w).clock ≡ w.clock)
   calms w g inside e = ⊎_elim (λ k. inl (⊎_elim (λ free. plain w g inside (not-calm c (install_scene w) n g.install free).0) (λ free. plain w g inside free) k)) (λ same. inr same) e
 
   -- under CGL and Serial nothing is promoted
-  never : (w : World) → Whole good c w → takes_lock (w.views n).gate.algorithm ≡ true → (w.views n).gate.granted ≡ false
+  never : (w : World) → Core good c w → takes_lock (w.views n).gate.algorithm ≡ true → (w.views n).gate.granted ≡ false
   never w g single = go (w.views n).gate.granted refl
     where
       by : (a : Alg) → takes_lock a ≡ true → Suits (home_of c) a (suit_part n (run_scene w)) → ⊥
@@ -324,10 +336,10 @@ module _ (good : (ℕ → ℕ) → Type 0) (c : Config) (kind : StepKind) (shows
       go false e = refl
 
   -- a step of CGL or Serial
-  pub by-cgl : LeavesGate kind n → Calms → ((v : View) → May v → (v.gate.phase ≡ In) × (takes_lock v.gate.algorithm ≡ true)) → StepLaw (CglWorld good c) kind shows n May → StepLaw (Whole good c) kind shows n May
+  pub by-cgl : LeavesGate kind n → Calms → ((v : View) → May v → (v.gate.phase ≡ In) × (takes_lock v.gate.algorithm ≡ true)) → StepLaw (CglWorld good c) kind shows n May → StepLaw (Core good c) kind shows n May
   by-cgl leaves clock inside law = by-attempt good c kind shows n May leaves opens
     where
-      opens : (w : World) → Whole good c w → May (w.views n) → Opens good c kind shows n May w
+      opens : (w : World) → Core good c w → May (w.views n) → Opens good c kind shows n May w
       opens w g may =
           let i = inside (w.views n) may in
           let free = never w g i.1 in
@@ -345,10 +357,10 @@ module _ (good : (ℕ → ℕ) → Type 0) (c : Config) (kind : StepKind) (shows
           by Serial e is stands = record { runs = Running Serial; is = is; inside = (inside (w.views n) may).0; raised = other; law = law; stands = stands }
 
   -- a step of OrecLazy or OrecEager
-  pub by-orec : LeavesGate kind n → Calms → ((v : View) → May v → RunsOrec v) → StepLaw (OrecWorld good c) kind shows n May → StepLaw (Whole good c) kind shows n May
+  pub by-orec : LeavesGate kind n → Calms → ((v : View) → May v → RunsOrec v) → StepLaw (OrecWorld good c) kind shows n May → StepLaw (Core good c) kind shows n May
   by-orec leaves clock inside law = by-attempt good c kind shows n May leaves opens
     where
-      opens : (w : World) → Whole good c w → May (w.views n) → Opens good c kind shows n May w
+      opens : (w : World) → Core good c w → May (w.views n) → Opens good c kind shows n May w
       opens w g may =
           let i = inside (w.views n) may in
           by (w.views n).gate.algorithm i.algorithm (regime-inside c w n g.gate g.install i.phase i.plain) (calms w g i.phase (clock w g may))
@@ -365,19 +377,19 @@ module _ (good : (ℕ → ℕ) → Type 0) (c : Config) (kind : StepKind) (shows
           by Serial e is stands = absurd cc
 
   -- a step of one algorithm that isn't promoted
-  pub by-running-of : (a : Alg) → LeavesGate kind n → Calms → ((v : View) → May v → (v.gate.phase ≡ In) × (v.gate.algorithm ≡ a) × (v.gate.granted ≡ false)) → (a ≡ RingSw → (w : World) → (kind.after w (w.views n) (answer kind w)).attempt.entered ≡ true → (w.views n).attempt.entered ≡ true) → StepLaw (RunWorld (Runs c (Running a)) good c) kind shows n May → StepLaw (Whole good c) kind shows n May
+  pub by-running-of : (a : Alg) → LeavesGate kind n → Calms → ((v : View) → May v → (v.gate.phase ≡ In) × (v.gate.algorithm ≡ a) × (v.gate.granted ≡ false)) → (a ≡ RingSw → (w : World) → (kind.after w (w.views n) (answer kind w)).attempt.entered ≡ true → (w.views n).attempt.entered ≡ true) → StepLaw (RunWorld (Runs c (Running a)) good c) kind shows n May → StepLaw (Core good c) kind shows n May
   by-running-of a leaves clock inside entered law = by-attempt good c kind shows n May leaves (λ w g may.
       let i = inside (w.views n) may in
       record { runs = Running a; is = regime-inside c w n g.gate g.install i.0 i.2 ∙ ap Running i.1; inside = i.0; raised = λ e t. g.raised e n (entered (sym i.1 ∙ (sym (g.gate.named n i.0) ∙ e)) w t); law = law; stands = calms w g i.0 (clock w g may) })
 
   -- a step of a promoted attempt that leaves the clock alone
-  pub by-direct : LeavesGate kind n → ((w : World) → (world_after kind n w).clock ≡ w.clock) → ((v : View) → May v → v.gate.granted ≡ true) → ((a : Alg) → StepLaw (RunWorld (Runs c (Promoted a n)) good c) kind shows n May) → StepLaw (Whole good c) kind shows n May
+  pub by-direct : LeavesGate kind n → ((w : World) → (world_after kind n w).clock ≡ w.clock) → ((v : View) → May v → v.gate.granted ≡ true) → ((a : Alg) → StepLaw (RunWorld (Runs c (Promoted a n)) good c) kind shows n May) → StepLaw (Core good c) kind shows n May
   by-direct leaves clock inside law = by-attempt good c kind shows n May leaves (λ w g may.
       record { runs = Promoted (w.views n).gate.algorithm n; is = regime-granted c w n g.gate g.install (inside (w.views n) may); inside = (g.install.promoted n (inside (w.views n) may)).1; raised = λ e t. (g.install.promoted n (inside (w.views n) may)).0; law = law (w.views n).gate.algorithm; stands = inr (clock w) })
 
 -- a step by which an attempt that isn't promoted raises DONE, while nobody knows the clock as the gate's holder
 pub by-done : (good : (ℕ → ℕ) → Type 0) (c : Config) (kind : StepKind) (shows : World → View → ℕ → Type 0) (n : ℕ) (May : View → Type 0) (a : Alg) → ((w : World) → ((world_after kind n w).gate ≡ w.gate) × ((world_after kind n w).status ≡ w.status) × ((kind.after w (w.views n) (answer kind w)).gate ≡ (w.views n).gate) × ((world_after kind n w).base ≡ w.base) × ((kind.after w (w.views n) (answer kind w)).steps.trail ≡ (w.views n).steps.trail) × ((kind.after w (w.views n) (answer kind w)).attempt.entered ≡ (w.views n).attempt.entered)) → has_ring a ≡ true
-    → ((v : View) → May v → (v.gate.phase ≡ In) × (v.gate.algorithm ≡ a) × (v.gate.granted ≡ false) × (v.gate.calm ≡ false)) → ((s : RunScene) → Runs c (Running a) s → s.done ≤ s.clock) → StepLaw (RunWorld (Runs c (Running a)) good c) kind shows n May → StepLaw (Whole good c) kind shows n May
+    → ((v : View) → May v → (v.gate.phase ≡ In) × (v.gate.algorithm ≡ a) × (v.gate.granted ≡ false) × (v.gate.calm ≡ false)) → ((s : RunScene) → Runs c (Running a) s → s.done ≤ s.clock) → StepLaw (RunWorld (Runs c (Running a)) good c) kind shows n May → StepLaw (Core good c) kind shows n May
 by-done good c kind shows n May a leaves ring inside low law w g may =
     let i = inside (w.views n) may in
     let is : regime w ≡ Running a = regime-inside c w n g.gate g.install i.0 i.2 ∙ ap Running i.1 in
@@ -392,7 +404,7 @@ by-done good c kind shows n May a leaves ring inside low law w g may =
         built = ap (λ (k : ℕ). is_built (alg_of k)) (leaves w).0 ∙ g.built;
         lock = o.rule.lock;
         attempts = o.rule.attempts;
-        running = subst (λ (r : Regime). Runs c r (run_scene x)) (sym (regime-kept w x n v refl (leaves w).0 (ap (λ (q : GateView). q.granted) (leaves w).2) ∙ is)) o.rule.runs;
+        running = subst (λ (r : Regime). Runs c r (run_scene x)) (sym (regime-kept w x n v refl (leaves w).0 (ap mode_of (leaves w).2) ∙ is)) o.rule.runs;
         alone = alone-kept c kind n w (leaves w).4 (λ sole. inl (only-caller good c w n g i.0 sole)) g.alone;
         raised = raised-put w x n v refl (λ e. sym (ap alg_of (leaves w).0) ∙ e) (λ e k. ap (λ (q : GateView). q.calm) (leaves w).2 ∙ g.raised (sym (ap alg_of (leaves w).0) ∙ e) n (sym (leaves w).5 ∙ k)) g.raised;
       };

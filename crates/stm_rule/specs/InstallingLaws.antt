@@ -7,9 +7,10 @@ use Rattle.stm_model.specs.declared.config.TheConstants.{CLOCK_LIMIT}
 use Rattle.rule_base.specs.declared.views.Phase.TheVariants.{Idle, In, Closing}
 use Rattle.rule_base.specs.declared.views.View.{View}
 use Rattle.rule_base.specs.EncodingLemmas.{alg_of-gate}
-use Rattle.rule_base.specs.Regime.{Regime, regime}
+use Rattle.rule_base.specs.Regime.{mode_of, Regime, regime}
+use Rattle.rule_base.specs.Regime.Mode.{Plain}
 use Rattle.rule_base.specs.Regime.Regime.{Running}
-use Rattle.rule_base.specs.RegimeLemmas.{regime-running, regime-kept, regime-granted}
+use Rattle.rule_base.specs.RegimeLemmas.{regime-running, regime-kept, regime-granted, plain-mode, regime-given}
 use Rattle.rule_base.specs.RunScene.{RunView, run_view, run_scene}
 use Rattle.rule_base.specs.Encodings.{alg_of, gate_word}
 use Rattle.rule_base.specs.GateRule.{gate_scene, may_hold}
@@ -23,6 +24,7 @@ use Rattle.rule_base.specs.RecordLemmas.{records-stay}
 use Rattle.rule_base.specs.Rest.{IsQuiet}
 use Rattle.rule_base.specs.StepsLemmas.{steps-raised}
 use Rattle.rule_base.specs.StepKinds.{view_after, world_after, Nothing, StepLaw}
+use Rattle.rule_base.specs.History.{word_now}
 use Rattle.rule_base.specs.World.{World, put, parts, horizon}
 use Rattle.rule_seq.specs.AttemptLemmas.{attempts-after}
 use Rattle.rule_base.specs.declared.entries.Entry.{Entry}
@@ -37,18 +39,18 @@ use Rattle.stm_rule.specs.Frames.{same-horizon, horizon-low, horizon-level, by-g
 use Rattle.stm_rule.specs.Running.{Ready, from-rest, Moved, ease-moved, ease-own, runs-moved}
 use Rattle.stm_rule.specs.Alone.{alone-kept}
 use Rattle.stm_rule.specs.Raised.{Raised, raised-put}
-use Rattle.stm_rule.specs.Product.{Runs, Whole}
+use Rattle.stm_rule.specs.Product.{Gives, Runs, Core}
 use Rattle.stm_model.specs.Algorithms.{is_built}
 use Rattle.stm_rule.specs.RestLaws.{quiet-regime, quiet-ease, heap-rests, else-unentered}
 
 module _ (good : (ℕ → ℕ) → Type 0) (c : Config) (n : ℕ) where
   -- who has loaded the clock to install has seen all others idle
-  calm_quiet : (w : World) → Whole good c w → (w.views n).gate.phase ≡ Closing → (w.views n).gate.calm ≡ true → IsQuiet c n w
+  calm_quiet : (w : World) → Core good c w → (w.views n).gate.phase ≡ Closing → (w.views n).gate.calm ≡ true → IsQuiet c n w
   calm_quiet w g closing calm = record { closing = closing; checked = λ k low other. g.install.alone n k calm low other }
 
-  pub settles : StepLaw (Whole good c) settle Settles n (CanSettle c.callers n)
+  pub settles : StepLaw (Core good c) settle Settles n (CanSettle c.callers n)
   settles w g may = let o = by-gate good c settle n w (record { common = record { words = λ w. (refl, refl, refl); history = λ w. (refl, refl); steps = λ w. (refl, refl); held = λ w. (refl, refl); busy = λ w. refl }; marks = λ w. (refl, refl); memory = λ w. (refl, refl); view = λ w. refl }) g (λ e. e) (λ e. g.attempts.entered n e) (λ k e. refl)
-      (gate-marked c.callers w x n v refl refl refl refl refl refl refl refl refl g.gate) (settle-install c w n may g.install) (regime-kept w x n v refl refl refl) in
+      (gate-marked c.callers w x n v refl refl refl refl refl refl refl refl refl refl g.gate) (settle-install c w n may g.install) (regime-kept w x n v refl refl refl) in
       record { rule = o.0; advances = o.1; shown = g.history.limit }
     where
       x : World
@@ -58,7 +60,7 @@ module _ (good : (ℕ → ℕ) → Type 0) (c : Config) (n : ℕ) where
       v = view_after settle w (w.views n) w.clock
 
   -- the gate's holder stores a word that what runs sees, BASE or DONE: it is at rest, or it is promoted
-  marked : (w x : World) (v : View) → Whole good c w → ((w.views n).gate.granted ≡ false → (w.views n).gate.phase ≡ Closing) → (w.views n).gate.calm ≡ true → x.views ≡ put w.views n v → x.clock ≡ w.clock → x.gate ≡ w.gate → Moved (run_scene w) (run_scene x) → v.gate.granted ≡ (w.views n).gate.granted → run_view v ≡ run_view (w.views n) → ((w.done ≡ w.clock) → x.done ≡ x.clock)
+  marked : (w x : World) (v : View) → Core good c w → ((w.views n).gate.granted ≡ false → (w.views n).gate.phase ≡ Closing) → (w.views n).gate.calm ≡ true → x.views ≡ put w.views n v → x.clock ≡ w.clock → x.gate ≡ w.gate → Moved (run_scene w) (run_scene x) → mode_of v.gate ≡ mode_of (w.views n).gate → run_view v ≡ run_view (w.views n) → ((w.done ≡ w.clock) → x.done ≡ x.clock)
       → Runs c (regime x) (run_scene x)
   marked w x v g closing calm is clock gate moved granted own level = subst (λ (r : Regime). Runs c r (run_scene x)) (sym (regime-kept w x n v is gate granted)) (by (w.views n).gate.granted refl)
     where
@@ -92,15 +94,28 @@ module _ (good : (ℕ → ℕ) → Type 0) (c : Config) (n : ℕ) where
           path : direct_part n (run_scene x) ≡ direct_part n (run_scene w)
           path = λ i. record { clock = clock i; heap = moved.heap i; history = moved.history i; own = record { attempt = (views i n).attempt; lock = (views i n).lock; tml = (views i n).tml; front = (views i n).front } }
       by false e =
-          let quiet = calm_quiet w g (closing e) calm in
-          let at = quiet-regime good c n w g quiet in
-          subst (λ (r : Regime). Runs c r (run_scene x)) (sym at)
-          (runs-moved c (alg_of w.gate) (run_scene w) (run_scene x) (subst (λ (r : Regime). Runs c r (run_scene w)) at g.running) (quiet-ease good c n w g quiet) (ease-moved (run_scene w) (run_scene x) moved.clock moved.records moved.heap moved.history views (quiet-ease good c n w g quiet)) moved (λ a. ap (λ k. k % 2) clock ∙ (heap-rests good c n w g quiet).1 a)
-          (λ a settled. level ((heap-rests good c n w g quiet).2 a (λ m. ap (λ (f : ℕ → RunView). (f m).attempt.entered) (sym views) ∙ settled m))))
+          given (w.views n).gate.giving refl (calm_quiet w g (closing e) calm)
+        where
+          -- who gave a fence back, until BASE and DONE have its time
+          given : (b : Bool) → (w.views n).gate.giving ≡ b → IsQuiet c n w → Runs c (regime w) (run_scene x)
+          given true f quiet =
+              let at = regime-given c w n g.gate g.install f in
+              let k : Gives (w.views n).gate.algorithm (run_scene w) = subst (λ (r : Regime). Runs c r (run_scene w)) at g.running in
+              subst (λ (r : Regime). Runs c r (run_scene x)) (sym at) (record {
+                heap = λ a. ap (λ (q : ℕ → ℕ). q a) moved.heap ∙ (k.heap a ∙ ap (λ (l : List Entry). word_now l a) (sym moved.history));
+                even = λ q. ap (λ (t : ℕ). t % 2) clock ∙ k.even q;
+                fresh = λ q m o. subst (λ (t : ℕ). t ≤ x.done) (sym (moved.fronts m)) (le_trans (k.fresh q m (ap (λ (z : ℕ → RunView). (z m).attempt.entered) (sym views) ∙ o)) moved.done);
+                level = λ q settled. level (k.level q (λ m. ap (λ (z : ℕ → RunView). (z m).attempt.entered) (sym views) ∙ settled m));
+              })
+          given false f quiet =
+              let at = quiet-regime good c n w g quiet f in
+              subst (λ (r : Regime). Runs c r (run_scene x)) (sym at)
+              (runs-moved c (alg_of w.gate) (run_scene w) (run_scene x) (subst (λ (r : Regime). Runs c r (run_scene w)) at g.running) (quiet-ease good c n w g quiet) (ease-moved (run_scene w) (run_scene x) moved.clock moved.records moved.heap moved.history views (quiet-ease good c n w g quiet)) moved (λ a. ap (λ k. k % 2) clock ∙ (heap-rests good c n w g quiet).1 a)
+              (λ a settled. level ((heap-rests good c n w g quiet).2 a (λ m. ap (λ (f : ℕ → RunView). (f m).attempt.entered) (sym views) ∙ settled m))))
 
-  pub stores_base : (t : ℕ) → StepLaw (Whole good c) (store_base t) Nothing n (CanMark t)
+  pub stores_base : (t : ℕ) → StepLaw (Core good c) (store_base t) Nothing n (CanMark t)
   stores_base t w g may = let o = by-running good c (store_base t) n w (record { words = λ w. (refl, refl, refl); history = λ w. (refl, refl); steps = λ w. (refl, refl); held = λ w. (refl, refl); busy = λ w. refl }) g (λ e. e) (λ e. g.attempts.entered n e) (raised-put w x n v refl (λ e. e) (λ e k. g.raised e n k) g.raised) (same-horizon w x refl (le_refl w.clock) (le_refl w.done)) g.built
-      (gate-marked c.callers w x n v refl refl refl refl refl refl refl refl refl g.gate) (store_base-install c t w n may g.gate g.install)
+      (gate-marked c.callers w x n v refl refl refl refl refl refl refl refl refl refl g.gate) (store_base-install c t w n may g.gate g.install)
       (marked w x v g may.closing may.calm refl refl refl (record { clock = le_refl w.clock; base = (let b = g.install.base in let k = clock in omega arith); based = (let k = clock in omega arith); done = le_refl w.done; within = g.install.done; lock = refl; records = refl; slots = refl; heap = refl; history = refl; fronts = λ m. ap (λ (f : ℕ → RunView). (f m).front) (parts-kept run_view w.views n v refl) }) refl refl (λ e. e)) in
       record { rule = o.0; advances = o.1; shown = tt }
     where
@@ -113,9 +128,9 @@ module _ (good : (ℕ → ℕ) → Type 0) (c : Config) (n : ℕ) where
       v : View
       v = view_after (store_base t) w (w.views n) t
 
-  pub stores_done : (t : ℕ) → StepLaw (Whole good c) (store_done t) Nothing n (CanMark t)
+  pub stores_done : (t : ℕ) → StepLaw (Core good c) (store_done t) Nothing n (CanMark t)
   stores_done t w g may = let o = by-running good c (store_done t) n w (record { words = λ w. (refl, refl, refl); history = λ w. (refl, refl); steps = λ w. (refl, refl); held = λ w. (refl, refl); busy = λ w. refl }) g (λ e. e) (λ e. g.attempts.entered n e) (raised-put w x n v refl (λ e. e) (λ e k. g.raised e n k) g.raised) (same-horizon w x refl (le_refl w.clock) up) g.built
-      (gate-marked c.callers w x n v refl refl refl refl refl refl refl refl refl g.gate) (store_done-install c t w n may g.gate g.install)
+      (gate-marked c.callers w x n v refl refl refl refl refl refl refl refl refl refl g.gate) (store_done-install c t w n may g.gate g.install)
       (marked w x v g may.closing may.calm refl refl refl (record { clock = le_refl w.clock; base = le_refl w.base; based = g.install.base; done = up; within = (let k = clock in omega arith); lock = refl; records = refl; slots = refl; heap = refl; history = refl; fronts = λ m. ap (λ (f : ℕ → RunView). (f m).front) (parts-kept run_view w.views n v refl) }) refl refl (λ e. sym clock)) in
       record { rule = o.0; advances = o.1; shown = tt }
     where
@@ -138,19 +153,19 @@ module _ (good : (ℕ → ℕ) → Type 0) (c : Config) (n : ℕ) where
   next_even : (time t : ℕ) → time % 2 ≡ 1 → t ≡ time + 1 → t % 2 ≡ 0
   next_even time t odd next = omega arith
 
-  pub evens_clock : (t : ℕ) → n < c.callers → StepLaw (Whole good c) (even_clock t) Nothing n (CanEvenClock t)
+  pub evens_clock : (t : ℕ) → n < c.callers → StepLaw (Core good c) (even_clock t) Nothing n (CanEvenClock t)
   evens_clock t low w g may = record {
     rule = record {
       history = subst (HistoryRule good c) (sym path) (history-raised good c (history_scene w) t up limit g.history);
       steps = steps-raised c (even_clock t) n w 1 low next refl refl g.steps;
-      gate = gate-marked c.callers w x n v refl refl refl refl refl refl refl refl refl g.gate;
+      gate = gate-marked c.callers w x n v refl refl refl refl refl refl refl refl refl refl g.gate;
       install = even_clock-install c t w n may g.gate g.install;
       records = records-stay w x n v refl up refl refl refl g.records;
       lock = subst LockRule (sym (lock_scene-kept w x n v refl refl refl refl)) g.lock;
       built = g.built;
       attempts = attempts-after w x n v refl (λ e. g.attempts.busy n e) (λ e. ap may_hold may.phase) g.attempts;
-      running = subst (λ (r : Regime). Runs c r (run_scene x)) (sym (regime-kept w x n v refl refl refl ∙ quiet-regime good c n w g quiet))
-          (runs-moved c (alg_of w.gate) (run_scene w) (run_scene x) (subst (λ (r : Regime). Runs c r (run_scene w)) (quiet-regime good c n w g quiet) g.running) (quiet-ease good c n w g quiet)
+      running = subst (λ (r : Regime). Runs c r (run_scene x)) (sym (regime-kept w x n v refl refl refl ∙ quiet-regime good c n w g quiet may.ungiven))
+          (runs-moved c (alg_of w.gate) (run_scene w) (run_scene x) (subst (λ (r : Regime). Runs c r (run_scene w)) (quiet-regime good c n w g quiet may.ungiven) g.running) (quiet-ease good c n w g quiet)
           (ease-own w x n v refl up refl refl refl refl refl refl refl refl (quiet-ease good c n w g quiet))
           (record { clock = up; base = le_refl w.base; based = (let b = g.install.base in let u = up in omega arith); done = le_refl w.done; within = (let b = g.install.done in let u = up in omega arith); lock = refl; records = refl; slots = refl; heap = refl; history = refl; fronts = put-all w.views n v (λ m u. u.history.front ≡ (w.views m).history.front) refl (λ m d. refl) })
           (λ a. next_even (w.views n).gate.time t may.odd may.next)
@@ -186,17 +201,17 @@ module _ (good : (ℕ → ℕ) → Type 0) (c : Config) (n : ℕ) where
       path : history_scene x ≡ record (history_scene w) { clock = t }
       path = λ i. record { clock = t; history = w.history; views = parts-kept (λ (u : View). u.history) w.views n v refl i }
 
-  pub installs : (alg : Alg) → is_built alg ≡ true → StepLaw (Whole good c) (install n alg) Nothing n (CanInstall alg)
-  installs alg built w g may = let o = by-running good c (install n alg) n w (record { words = λ w. (refl, refl, refl); history = λ w. (refl, refl); steps = λ w. (refl, refl); held = λ w. (refl, refl); busy = λ w. refl }) g (λ e. e) (λ e. absurd cc) raised (subst (λ (k : ℕ). horizon w ≤ k) (sym (horizon-level x ready.done)) (horizon-low w g.install.done)) (ap is_built (alg_of-gate (1 + n) alg) ∙ built)
-      (install-gate c.callers alg w n may.phase quiet.checked g.gate) (install-install c alg w n g.install)
+  pub installs : (fence : ℕ) (alg : Alg) → is_built alg ≡ true → StepLaw (Core good c) (install n fence alg) Nothing n (CanInstall fence alg)
+  installs fence alg built w g may = let o = by-running good c (install n fence alg) n w (record { words = λ w. (refl, refl, refl); history = λ w. (refl, refl); steps = λ w. (refl, refl); held = λ w. (refl, refl); busy = λ w. refl }) g (λ e. e) (λ e. absurd cc) raised (subst (λ (k : ℕ). horizon w ≤ k) (sym (horizon-level x ready.done)) (horizon-low w g.install.done)) (ap is_built (alg_of-gate fence (1 + n) alg) ∙ built)
+      (install-gate c.callers fence alg w n may.guarded may.phase quiet.checked g.gate) (install-install c fence alg w n g.install)
       (subst (λ (r : Regime). Runs c r (run_scene x)) (sym runs) (from-rest c alg (run_scene x) (ease-own w x n v refl (le_refl w.clock) refl refl refl refl refl refl refl refl (quiet-ease good c n w g quiet)) ready)) in
       record { rule = o.0; advances = o.1; shown = tt }
     where
       x : World
-      x = world_after (install n alg) n w
+      x = world_after (install n fence alg) n w
 
       v : View
-      v = view_after (install n alg) w (w.views n) (gate_word (1 + n) alg)
+      v = view_after (install n fence alg) w (w.views n) (gate_word fence (1 + n) alg)
 
       quiet : IsQuiet c n w
       quiet = calm_quiet w g may.phase may.calm
@@ -215,8 +230,8 @@ module _ (good : (ℕ → ℕ) → Type 0) (c : Config) (n : ℕ) where
         fronts = put-all w.views n v (λ m u. u.history.front ≤ w.clock) (g.history.known n).front (λ m d. (g.history.known m).front);
       }
 
-      own : (m : ℕ) → m ≡ n → (x.views m).gate.granted ≡ false
-      own m e = ap (λ (k : ℕ). (x.views k).gate.granted) e ∙ (ap (λ (u : View). u.gate.granted) (put-here w.views n v) ∙ plain)
+      own : (m : ℕ) → m ≡ n → mode_of (x.views m).gate ≡ Plain
+      own m e = ap (λ (k : ℕ). mode_of (x.views k).gate) e ∙ (ap (λ (u : View). mode_of u.gate) (put-here w.views n v) ∙ plain-mode v.gate plain may.ungiven)
 
       runs : regime x ≡ Running alg
-      runs = regime-running x (λ m h. own m (let k = holder-closed c.callers (gate_scene w) g.gate n (is-caller-at c.callers (gate_scene w) g.gate n (λ idle. let q : Closing ≡ Idle = sym may.phase ∙ idle in cc)) alg in omega arith)) ∙ ap Running (alg_of-gate (1 + n) alg)
+      runs = regime-running x (λ m h. own m (let k = holder-closed c.callers (gate_scene w) g.gate n (is-caller-at c.callers (gate_scene w) g.gate n (λ idle. let q : Closing ≡ Idle = sym may.phase ∙ idle in cc)) fence alg in omega arith)) ∙ ap Running (alg_of-gate fence (1 + n) alg)

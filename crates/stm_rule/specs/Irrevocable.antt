@@ -13,6 +13,7 @@ use Rattle.rule_base.specs.Regime.{Regime}
 use Rattle.rule_base.specs.Regime.Regime.{Running}
 use Rattle.rule_base.specs.RegimeLemmas.{regime-inside}
 use Rattle.rule_base.specs.RunScene.{run_scene}
+use Rattle.rule_base.specs.Fence.{veil}
 use Rattle.rule_base.specs.World.{World}
 use Rattle.stm_model.specs.Algorithms.{takes_lock}
 use Rattle.rule_seq.specs.LockLemmas.{one-taker}
@@ -35,11 +36,11 @@ module _ (good : (ℕ → ℕ) → Type 0) (c : Config) (w : World) (g : Whole g
     where
       by : (b : Bool) → eqb n m ≡ b → n ≡ m
       by true q = eqb-true n m q
-      by false q = absurd (let p : false ≡ true = sym (ap rests inside) ∙ others-out c w m (g.install.promoted m e).0 g.gate g.install n (eqb-false n m q) in cc)
+      by false q = absurd (let p : false ≡ true = sym (ap rests inside) ∙ others-out c (veil w) m (g.core.install.promoted m e).0 g.core.gate g.core.install n (eqb-false n m q) in cc)
 
   -- two attempts are of one algorithm
   one_alg : (m n : ℕ) → (w.views m).gate.phase ≡ In → (w.views n).gate.phase ≡ In → (w.views m).gate.algorithm ≡ (w.views n).gate.algorithm
-  one_alg m n p q = sym (g.gate.named m p) ∙ g.gate.named n q
+  one_alg m n p q = sym (g.core.gate.named m p) ∙ g.core.gate.named n q
 
   apart : (a b : Alg) → a ≡ b → takes_lock a ≡ true → b ≡ Tml → ⊥
   apart a b same l t = let f : takes_lock Tml ≡ true = ap takes_lock (sym (same ∙ t)) ∙ l in cc
@@ -50,11 +51,11 @@ module _ (good : (ℕ → ℕ) → Type 0) (c : Config) (w : World) (g : Whole g
       by : (b : Bool) → (w.views m).gate.granted ≡ b → m ≡ n
       by true e = sym (with_promoted m n e other)
       by false e =
-          let r : TmlRule c.words (tml_part (run_scene w)) = subst (λ (q : Regime). Runs c q (run_scene w)) (regime-inside c w m g.gate g.install inside e ∙ ap Running tml) g.running in
+          let r : TmlRule c.words (tml_part (run_scene (veil w))) = subst (λ (q : Regime). Runs c q (run_scene (veil w))) (regime-inside c (veil w) m g.core.gate g.core.install inside e ∙ ap Running tml) g.core.running in
           r.one m n wm wn
 
   pub one-irrevocable : (m n : ℕ) → IsIrrevocable (w.views m) → IsIrrevocable (w.views n) → m ≡ n
   one-irrevocable m n i j = ⊎_elim (λ e. sym (with_promoted m n e j.phase)) (λ k. ⊎_elim (λ e. with_promoted n m e i.phase) (λ l. ⊎_elim
-      (λ a. ⊎_elim (λ b. one-taker (lock_scene w) m n g.lock a.1 b.1) (λ b. absurd (apart (w.views m).gate.algorithm (w.views n).gate.algorithm (one_alg m n i.phase j.phase) a.0 b.0)) l)
+      (λ a. ⊎_elim (λ b. one-taker (lock_scene w) m n g.core.lock a.1 b.1) (λ b. absurd (apart (w.views m).gate.algorithm (w.views n).gate.algorithm (one_alg m n i.phase j.phase) a.0 b.0)) l)
       (λ a. ⊎_elim (λ b. absurd (apart (w.views n).gate.algorithm (w.views m).gate.algorithm (one_alg n m j.phase i.phase) b.0 a.0)) (λ b. writers m n i.phase a.0 a.1 j.phase b.1) l)
       k) j.fixed) i.fixed

@@ -40,21 +40,21 @@ use Rattle.rule_seq.specs.TmlLaws as tml
 use Rattle.rule_seq.specs.TmlSteps.{tml_begin, CanTmlBegin, TmlBegins, tml_load, CanTmlLoad, TmlLoads, tml_again, CanTmlAgain, TmlAgain, tml_write, CanTmlWrite, tml_store, CanTmlStore, tml_commit, CanTmlCommit}
 use Rattle.rule_seq.specs.LockRule.{LockRule}
 use Rattle.rule_seq.specs.LockLemmas.{lock_scene-kept, lock-phase}
-use Rattle.stm_rule.specs.NoteSteps.{hear, Hears, load_end, CanLoadEnd, Ends}
+use Rattle.stm_rule.specs.NoteSteps.{hear, Hears, load_end, CanLoadEnd, EndsAt}
 use Rattle.stm_rule.specs.Alone.{left_at, alone-kept}
 use Rattle.stm_rule.specs.Raised.{raised-put}
 use Rattle.stm_rule.specs.Findings.{NamesOther, FindsLock, FindsGate}
 use Rattle.stm_rule.specs.Frames.{risen-trail, front-within, is-caller, unlocked, unwritten, outside, unheld, by-cgl, by-gate, by-running-of, unread, uncommitted, unentered, outside-records, bare, none-apart}
 use Rattle.stm_rule.specs.Running.{runs-stays, runs-leave, run_scene-put, Outside, run_scene-kept}
-use Rattle.stm_rule.specs.Product.{Whole}
+use Rattle.stm_rule.specs.Product.{Core}
 
 module _ (good : (ℕ → ℕ) → Type 0) (c : Config) (n : ℕ) where
-  pub taker : (w : World) → Whole good c w → (x : ℕ) → w.lock ≡ x → x ≢ 0 → (w.views n).lock.taken ≡ false → NamesOther c n x
+  pub taker : (w : World) → Core good c w → (x : ℕ) → w.lock ≡ x → x ≢ 0 → (w.views n).lock.taken ≡ false → NamesOther c n x
   taker w g zero e other free = absurd (other refl)
   taker w g (suc k) e other free = let word : w.lock ≡ 1 + k = omega arith in let taken : (w.views k).lock.taken ≡ true = g.lock.owner k word in
       (k, is-caller good c w g k (λ idle. let i : In ≡ Idle = sym (g.lock.inside k taken) ∙ idle in cc), (λ same. let t : true ≡ false = sym (subst (λ (m : ℕ). (w.views m).lock.taken ≡ true) same taken) ∙ free in cc), omega arith)
 
-  pub closer : (w : World) → Whole good c w → (x : ℕ) → w.gate ≡ x → holder_of x ≢ 0 → (w.views n).gate.holds ≡ false → NamesOther c n (holder_of x)
+  pub closer : (w : World) → Core good c w → (x : ℕ) → w.gate ≡ x → holder_of x ≢ 0 → (w.views n).gate.holds ≡ false → NamesOther c n (holder_of x)
   closer w g x e other free = go (holder_of x) (ap holder_of e) other
     where
       go : (h : ℕ) → holder_of w.gate ≡ h → h ≢ 0 → NamesOther c n h
@@ -63,58 +63,58 @@ module _ (good : (ℕ → ℕ) → Type 0) (c : Config) (n : ℕ) where
           (k, is-caller good c w g k (λ idle. let f : true ≡ false = sym (g.gate.holding k holds) ∙ ap may_hold idle in cc), (λ same. let t : true ≡ false = sym (subst (λ (m : ℕ). (w.views m).gate.holds ≡ true) same holds) ∙ free in cc), omega arith)
 
   -- what an exchange of the lock shows: another word than 0 is another caller's
-  acquires_lock_alone : StepLaw (Whole good c) (take_lock n) Nothing n CanTakeLock
+  acquires_lock_alone : StepLaw (Core good c) (take_lock n) Nothing n CanTakeLock
   acquires_lock_alone = by-cgl good c (take_lock n) Nothing n CanTakeLock (record { gate = λ w. refl; status = λ w. refl; view = λ w. refl; marks = λ w. (refl, refl); trail = λ w. refl }) (λ w g m. inr refl) (λ v m. (m.phase, m.algorithm)) (cgl.acquires_lock good c n)
 
-  pub acquires_lock : StepLaw (Whole good c) (take_lock n) (FindsLock c n) n CanTakeLock
+  pub acquires_lock : StepLaw (Core good c) (take_lock n) (FindsLock c n) n CanTakeLock
   acquires_lock w g may = let o = acquires_lock_alone w g may in record { rule = o.rule; advances = o.advances; shown = λ other. taker w g w.lock refl other may.free }
 
-  pub loads_start : StepLaw (Whole good c) load_start (Begins good c) n CanLoadStart
+  pub loads_start : StepLaw (Core good c) load_start (Begins good c) n CanLoadStart
   loads_start = by-cgl good c load_start (Begins good c) n CanLoadStart (record { gate = λ w. refl; status = λ w. refl; view = λ w. refl; marks = λ w. (refl, refl); trail = λ w. refl }) (λ w g m. inr refl) (λ v m. (m.has.phase, m.has.algorithm)) (cgl.loads_start good c n)
 
-  pub loads_heap : (a : ℕ) → StepLaw (Whole good c) (load_heap a) (Loads good c a) n (CanLoadHeap c.words a)
+  pub loads_heap : (a : ℕ) → StepLaw (Core good c) (load_heap a) (Loads good c a) n (CanLoadHeap c.words a)
   loads_heap a = by-cgl good c (load_heap a) (Loads good c a) n (CanLoadHeap c.words a) (record { gate = λ w. refl; status = λ w. refl; view = λ w. refl; marks = λ w. (refl, refl); trail = λ w. refl }) (λ w g m. inr refl) (λ v m. (m.has.phase, m.has.algorithm)) (cgl.loads_heap good c n a)
 
-  pub stores_heap : (a x : ℕ) → StepLaw (Whole good c) (store_heap a x) Nothing n (CanStoreHeap c.words a x)
+  pub stores_heap : (a x : ℕ) → StepLaw (Core good c) (store_heap a x) Nothing n (CanStoreHeap c.words a x)
   stores_heap a x = by-cgl good c (store_heap a x) Nothing n (CanStoreHeap c.words a x) (record { gate = λ w. refl; status = λ w. refl; view = λ w. refl; marks = λ w. (refl, refl); trail = λ w. refl }) (λ w g m. inr refl) (λ v m. (m.has.phase, m.has.algorithm)) (cgl.stores_heap good c n a x)
 
-  pub stores_clock : (t : ℕ) → n < c.callers → StepLaw (Whole good c) (store_clock n t) (Commits good c n t) n (CanStoreClock good t)
+  pub stores_clock : (t : ℕ) → n < c.callers → StepLaw (Core good c) (store_clock n t) (Commits good c n t) n (CanStoreClock good t)
   stores_clock t low = by-cgl good c (store_clock n t) (Commits good c n t) n (CanStoreClock good t) (record { gate = λ w. refl; status = λ w. refl; view = λ w. refl; marks = λ w. (refl, refl); trail = λ w. refl }) (λ w g m. inl (inl m.free)) (λ v m. (m.has.phase, m.has.algorithm)) (cgl.stores_clock good c n t low)
 
-  pub frees_lock : StepLaw (Whole good c) free_lock Nothing n CanFreeLock
+  pub frees_lock : StepLaw (Core good c) free_lock Nothing n CanFreeLock
   frees_lock = by-cgl good c free_lock Nothing n CanFreeLock (record { gate = λ w. refl; status = λ w. refl; view = λ w. refl; marks = λ w. (refl, refl); trail = λ w. refl }) (λ w g m. inr refl) (λ v m. (m.has.phase, m.has.algorithm)) (cgl.frees_lock good c n)
 
-  pub loads_undo : (a : ℕ) → StepLaw (Whole good c) (load_undo a) Nothing n (CanLoadUndo a)
+  pub loads_undo : (a : ℕ) → StepLaw (Core good c) (load_undo a) Nothing n (CanLoadUndo a)
   loads_undo a = by-cgl good c (load_undo a) Nothing n (CanLoadUndo a) (record { gate = λ w. refl; status = λ w. refl; view = λ w. refl; marks = λ w. (refl, refl); trail = λ w. refl }) (λ w g m. inr refl) (λ v m. (m.has.phase, m.has.algorithm)) (cgl.loads_undo good c n a)
 
-  pub loads_limit : (grants : Bool) → StepLaw (Whole good c) (load_limit grants) LoadsLimit n CanLoadLimit
+  pub loads_limit : (grants : Bool) → StepLaw (Core good c) (load_limit grants) LoadsLimit n CanLoadLimit
   loads_limit grants = by-cgl good c (load_limit grants) LoadsLimit n CanLoadLimit (record { gate = λ w. refl; status = λ w. refl; view = λ w. refl; marks = λ w. (refl, refl); trail = λ w. refl }) (λ w g m. inr refl) (λ v m. (m.has.phase, m.has.algorithm)) (cgl.loads_limit good c n grants)
 
-  pub takes_back : (a x : ℕ) → StepLaw (Whole good c) (take_back a x) Nothing n (CanTakeBack a x)
+  pub takes_back : (a x : ℕ) → StepLaw (Core good c) (take_back a x) Nothing n (CanTakeBack a x)
   takes_back a x = by-cgl good c (take_back a x) Nothing n (CanTakeBack a x) (record { gate = λ w. refl; status = λ w. refl; view = λ w. refl; marks = λ w. (refl, refl); trail = λ w. refl }) (λ w g m. inr refl) (λ v m. (m.has.phase, m.has.algorithm)) (cgl.takes_back good c n a x)
 
   -- the steps of TML
-  pub tml_begins : StepLaw (Whole good c) tml_begin (TmlBegins good c) n CanTmlBegin
+  pub tml_begins : StepLaw (Core good c) tml_begin (TmlBegins good c) n CanTmlBegin
   tml_begins = by-running-of good c tml_begin (TmlBegins good c) n CanTmlBegin Tml (record { gate = λ w. refl; status = λ w. refl; view = λ w. refl; marks = λ w. (refl, refl); trail = λ w. refl }) (λ w g m. inr refl) (λ v m. (m.runs.phase, m.runs.algorithm, m.runs.plain)) (λ e. absurd cc) (tml.tml_begins good c n)
 
-  pub tml_loads : (a : ℕ) → StepLaw (Whole good c) (tml_load a) (TmlLoads good c a) n (CanTmlLoad c.words a)
+  pub tml_loads : (a : ℕ) → StepLaw (Core good c) (tml_load a) (TmlLoads good c a) n (CanTmlLoad c.words a)
   tml_loads a = by-running-of good c (tml_load a) (TmlLoads good c a) n (CanTmlLoad c.words a) Tml (record { gate = λ w. refl; status = λ w. refl; view = λ w. refl; marks = λ w. (refl, refl); trail = λ w. refl }) (λ w g m. inr refl) (λ v m. (m.has.runs.phase, m.has.runs.algorithm, m.has.runs.plain)) (λ e. absurd cc) (tml.tml_loads good c n a)
 
-  pub tml_agains : StepLaw (Whole good c) tml_again (TmlAgain good c) n CanTmlAgain
+  pub tml_agains : StepLaw (Core good c) tml_again (TmlAgain good c) n CanTmlAgain
   tml_agains = by-running-of good c tml_again (TmlAgain good c) n CanTmlAgain Tml (record { gate = λ w. refl; status = λ w. refl; view = λ w. refl; marks = λ w. (refl, refl); trail = λ w. refl }) (λ w g m. inr refl) (λ v m. (m.has.runs.phase, m.has.runs.algorithm, m.has.runs.plain)) (λ e. absurd cc) (tml.tml_agains good c n)
 
-  pub tml_writes : (start : ℕ) → n < c.callers → StepLaw (Whole good c) (tml_write start) Nothing n (CanTmlWrite start)
+  pub tml_writes : (start : ℕ) → n < c.callers → StepLaw (Core good c) (tml_write start) Nothing n (CanTmlWrite start)
   tml_writes start low = by-running-of good c (tml_write start) Nothing n (CanTmlWrite start) Tml (record { gate = λ w. refl; status = λ w. refl; view = λ w. refl; marks = λ w. (refl, refl); trail = λ w. risen-trail (w.clock == start) (w.views n) ((w.views n).steps.rises + 1) }) (λ w g m. inl (inr m.uncalm)) (λ v m. (m.has.runs.phase, m.has.runs.algorithm, m.has.runs.plain)) (λ e. absurd cc) (tml.tml_writes good c n start low)
 
-  pub tml_stores : (a x : ℕ) → StepLaw (Whole good c) (tml_store a x) Nothing n (CanTmlStore c.words a x)
+  pub tml_stores : (a x : ℕ) → StepLaw (Core good c) (tml_store a x) Nothing n (CanTmlStore c.words a x)
   tml_stores a x = by-running-of good c (tml_store a x) Nothing n (CanTmlStore c.words a x) Tml (record { gate = λ w. refl; status = λ w. refl; view = λ w. refl; marks = λ w. (refl, refl); trail = λ w. refl }) (λ w g m. inr refl) (λ v m. (m.has.runs.phase, m.has.runs.algorithm, m.has.runs.plain)) (λ e. absurd cc) (tml.tml_stores good c n a x)
 
-  pub tml_commits : (t : ℕ) → n < c.callers → StepLaw (Whole good c) (tml_commit n t) (Commits good c n t) n (CanTmlCommit good t)
+  pub tml_commits : (t : ℕ) → n < c.callers → StepLaw (Core good c) (tml_commit n t) (Commits good c n t) n (CanTmlCommit good t)
   tml_commits t low = by-running-of good c (tml_commit n t) (Commits good c n t) n (CanTmlCommit good t) Tml (record { gate = λ w. refl; status = λ w. refl; view = λ w. refl; marks = λ w. (refl, refl); trail = λ w. refl }) (λ w g m. inl (inr m.uncalm)) (λ v m. (m.has.runs.phase, m.has.runs.algorithm, m.has.runs.plain)) (λ e. absurd cc) (tml.tml_commits good c n t low)
 
-  pub announces : n < c.callers → StepLaw (Whole good c) (announce n) Nothing n CanAnnounce
+  pub announces : n < c.callers → StepLaw (Core good c) (announce n) Nothing n CanAnnounce
   announces low w g may = let o = by-gate good c (announce n) n w (record { common = record { words = λ w. (refl, refl, refl); history = λ w. (refl, refl); steps = λ w. (refl, refl); held = λ w. (refl, refl); busy = λ w. refl }; marks = λ w. (refl, refl); memory = λ w. (refl, refl); view = λ w. refl }) g (λ e. absurd (out e)) (λ e. absurd (unentered good c w n g (ap may_hold may) e)) (λ k e. k) (announce-gate c.callers w n low may g.gate)
-      (install-apart c w x n v refl refl refl refl (unheld good c w n g (ap may_hold may)) refl refl refl refl g.install) (regime-kept w x n v refl refl refl) in
+      (install-apart c w x n v refl refl refl refl (unheld good c w n g (ap may_hold may)) refl refl refl refl refl g.install) (regime-kept w x n v refl refl refl) in
       record { rule = o.0; advances = o.1; shown = tt }
     where
       x : World
@@ -126,9 +126,9 @@ module _ (good : (ℕ → ℕ) → Type 0) (c : Config) (n : ℕ) where
       out : (w.views n).gate.phase ≡ In → ⊥
       out e = let k : Idle ≡ In = sym may ∙ e in cc
 
-  pub loads_gate : StepLaw (Whole good c) load_gate (FindsGate c n) n CanLoadGate
+  pub loads_gate : StepLaw (Core good c) load_gate (FindsGate c n) n CanLoadGate
   loads_gate w g may = let o = by-gate good c load_gate n w (record { common = record { words = λ w. (refl, refl, refl); history = λ w. (refl, refl); steps = λ w. (refl, refl); held = λ w. (refl, refl); busy = λ w. refl }; marks = λ w. (refl, refl); memory = λ w. (refl, refl); view = λ w. refl }) g (λ e. absurd (out e)) (λ e. absurd (unentered good c w n g (ap may_hold may) e)) (λ k e. k) (load_gate-gate c.callers w n may g.gate)
-      (install-apart c w x n v refl refl refl refl (unheld good c w n g (ap may_hold may)) refl refl refl refl g.install) (regime-kept w x n v refl refl refl) in
+      (install-apart c w x n v refl refl refl refl (unheld good c w n g (ap may_hold may)) refl refl refl refl refl g.install) (regime-kept w x n v refl refl refl) in
       record { rule = o.0; advances = o.1; shown = record { built = g.built; closer = λ free other. closer w g w.gate refl other free } }
     where
       x : World
@@ -140,7 +140,7 @@ module _ (good : (ℕ → ℕ) → Type 0) (c : Config) (n : ℕ) where
       out : (w.views n).gate.phase ≡ In → ⊥
       out e = let k : Announced ≡ In = sym may ∙ e in cc
 
-  pub departs : StepLaw (Whole good c) (depart n) Nothing n CanDepart
+  pub departs : StepLaw (Core good c) (depart n) Nothing n CanDepart
   departs w g may = record {
     rule = record {
       history = history-kept good c w x n v refl refl refl refl g.history;
@@ -181,7 +181,7 @@ module _ (good : (ℕ → ℕ) → Type 0) (c : Config) (n : ℕ) where
       free : (a : Alg) → regime w ≡ Promoted a n → ⊥
       free a e = let q = granted-regime c w n g.gate g.install a e in let p = g.install.promoted n q in let f : true ≡ false = sym (g.install.holding n p.0) ∙ may.reopened p.1 in cc
 
-  pub hears : StepLaw (Whole good c) hear Hears n (λ v. Unit {0})
+  pub hears : StepLaw (Core good c) hear Hears n (λ v. Unit {0})
   hears w g may = let o = by-gate good c hear n w (record { common = record { words = λ w. (refl, refl, refl); history = λ w. (refl, refl); steps = λ w. (refl, refl); held = λ w. (refl, refl); busy = λ w. refl }; marks = λ w. (refl, refl); memory = λ w. (refl, refl); view = λ w. refl }) g (λ e. e) (λ e. g.attempts.entered n e) (λ k e. k) (subst (GateRule c.callers) (sym (gate_scene-kept w x n v refl refl refl refl)) g.gate)
       (subst (InstallRule c) (sym (install_scene-kept w x n v refl refl refl refl refl)) g.install) (regime-kept w x n v refl refl refl) in
       record { rule = o.0; advances = o.1; shown = (m.0, k.seen ∙ m.1 ∙ ap (λ l. m.0 ++ l) (sym k.told)) }
@@ -198,7 +198,7 @@ module _ (good : (ℕ → ℕ) → Type 0) (c : Config) (n : ℕ) where
       m : (more : List Entry) × (upto w.history (w.views n).history.front ≡ more ++ upto w.history (w.views n).history.told.front)
       m = upto-begins w.history (w.clock + 1) (w.views n).history.told.front (w.views n).history.front g.history.below (g.history.known n).told_front
 
-  pub loads_end : StepLaw (Whole good c) load_end (Ends good c) n CanLoadEnd
+  pub loads_end : StepLaw (Core good c) load_end EndsAt n CanLoadEnd
   loads_end w g may = record {
     rule = record {
       history = history-ended good c w x n v (record { seen = w.history; front = w.clock }) refl refl refl refl g.history;
@@ -214,7 +214,7 @@ module _ (good : (ℕ → ℕ) → Type 0) (c : Config) (n : ℕ) where
       raised = raised-put w x n v refl (λ e. e) (λ e k. g.raised e n k) g.raised;
     };
     advances = advances-same w x refl (le_refl w.clock) (le_refl w.done) refl;
-    shown = record { rule = g; clock = refl };
+    shown = refl;
   }
     where
       x : World
@@ -224,7 +224,7 @@ module _ (good : (ℕ → ℕ) → Type 0) (c : Config) (n : ℕ) where
       v = view_after load_end w (w.views n) w.clock
 
   -- who is idle may tell what it has seen
-  pub tells : (w : World) → Whole good c w → (w.views n).gate.phase ≡ Idle → IsSeen w (w.views n).history
+  pub tells : (w : World) → Core good c w → (w.views n).gate.phase ≡ Idle → IsSeen w (w.views n).history
   tells w g idle = record {
     front = front-within good c w n g (uncommitted good c w n g (λ e. let i : Idle ≡ In = sym idle ∙ e in cc)) (settled (w.views n).attempt.entered refl);
     within = (g.history.known n).front;
@@ -236,7 +236,7 @@ module _ (good : (ℕ → ℕ) → Type 0) (c : Config) (n : ℕ) where
       settled false e = e
 
   -- learning a note is no step, but changes what the caller knows
-  pub learns : (w : World) (k : SeenHistory) → Whole good c w → IsSeen w k → (w.views n).gate.phase ≡ Idle → Whole good c (record w { views = put w.views n (record (w.views n) { history = learned_history (w.views n).history k }) })
+  pub learns : (w : World) (k : SeenHistory) → Core good c w → IsSeen w k → (w.views n).gate.phase ≡ Idle → Core good c (record w { views = put w.views n (record (w.views n) { history = learned_history (w.views n).history k }) })
   learns w k g seen may = record {
     history = history-learned good c w x n v k refl refl refl refl seen.seen seen.within g.history;
     steps = subst (StepsRule c) (sym path) g.steps;

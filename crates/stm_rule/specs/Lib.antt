@@ -32,3 +32,10 @@ pub mod BesideLaws
 pub mod CheckRun
 pub mod Stamping
 pub mod Allowing
+pub mod Lifting
+pub mod Sparing
+pub mod SparingMore
+pub mod Lifted
+pub mod FencedRest
+pub mod FencingLaws
+pub mod GivingLaws

@@ -1,15 +1,18 @@
 -- The one rule of the shared words: the clauses of each part, side by side.
-use Rattle.std.specs.Prelude.{ℕ, ◌≡◌, true}
+use Rattle.std.specs.Prelude.{ℕ, ◌≡◌, ◌≤◌, ◌%◌, true, false}
+use Rattle.stm_model.specs.declared.alg.Alg.{Alg}
+use Rattle.rule_base.specs.History.{word_now}
 use Rattle.stm_model.specs.Algorithms.{is_built}
 use Rattle.stm_model.specs.declared.alg.Alg.TheVariants.{Cgl, Tml, OrecLazy, OrecEager, RingSw, Serial}
 use Rattle.stm_model.specs.declared.config.Config.{Config}
 use Rattle.rule_base.specs.Encodings.{alg_of}
+use Rattle.rule_base.specs.Fence.{veil, fence_scene, FenceRule}
 use Rattle.rule_base.specs.GateRule.{gate_scene, GateRule}
 use Rattle.rule_base.specs.HistoryRule.{history_scene, HistoryRule}
 use Rattle.rule_base.specs.InstallRule.{install_scene, InstallRule}
 use Rattle.rule_base.specs.RecordRule.{record_scene, RecordRule}
 use Rattle.rule_base.specs.Regime.{Regime, regime}
-use Rattle.rule_base.specs.Regime.Regime.{Running, Promoted}
+use Rattle.rule_base.specs.Regime.Regime.{Running, Promoted, Giving}
 use Rattle.rule_base.specs.RunScene.{RunScene, run_scene}
 use Rattle.rule_base.specs.StepsRule.{steps_scene, StepsRule}
 use Rattle.rule_base.specs.World.{World}
@@ -24,6 +27,14 @@ use Rattle.rule_orec.specs.OrecRule.{OrecRuns}
 use Rattle.stm_rule.specs.Alone.{Alone}
 use Rattle.stm_rule.specs.Raised.{Raised}
 
+-- A GIVE-BACK between its entry and the gate without the fence: nobody is in an attempt, and the memory lies in the heap; of records and slots nothing is said until BASE has the entry's time
+pub record Gives (alg : Alg) (s : RunScene) : Type 0 where
+  pub heap : (a : ℕ) → s.heap a ≡ word_now s.history a
+  pub even : alg ≡ Tml → s.clock % 2 ≡ 0
+  -- who gives back has seen more than DONE until it stores it
+  pub fresh : alg ≡ RingSw → (n : ℕ) → (s.views n).attempt.entered ≡ false → (s.views n).front ≤ s.done
+  pub level : alg ≡ RingSw → ((n : ℕ) → (s.views n).attempt.entered ≡ false) → s.done ≡ s.clock
+
 -- the clauses of what runs
 abbrev pub Runs : Config → Regime → RunScene → Type 0
 Runs c (Running Cgl) = CglRuns c
@@ -33,9 +44,10 @@ Runs c (Running OrecEager) = OrecRuns c
 Runs c (Running RingSw) = RingRuns slot_filter c
 Runs c (Running Serial) = CglRuns c
 Runs c (Promoted alg n) = DirectRuns c alg n
+Runs c (Giving alg) = Gives alg
 
--- good is what the user keeps true of memory. What runs has its clauses by the regime; all others stand always.
-pub record Whole (good : (ℕ → ℕ) → Type 0) (c : Config) (w : World) : Type 0 where
+-- THE CORE of the rule, where there is no fence. good is what the user keeps true of memory. What runs has its clauses by the regime; all others stand always.
+pub record Core (good : (ℕ → ℕ) → Type 0) (c : Config) (w : World) : Type 0 where
   pub history : HistoryRule good c (history_scene w)
   pub steps : StepsRule c (steps_scene w)
   pub gate : GateRule c.callers (gate_scene w)
@@ -50,3 +62,8 @@ pub record Whole (good : (ℕ → ℕ) → Type 0) (c : Config) (w : World) : Ty
   pub alone : Alone c w
   -- and what who raised the clock as the gate's holder knows of it
   pub raised : Raised w
+
+-- THE ONE RULE: the core stands behind the veil, in the world with the memory in place of the fenced range, and of the range the fence's clauses say what lies there.
+pub record Whole (good : (ℕ → ℕ) → Type 0) (c : Config) (w : World) : Type 0 where
+  pub core : Core good c (veil w)
+  pub fence : FenceRule c (fence_scene w)

@@ -6,10 +6,10 @@ use Rattle.stm_model.specs.declared.alg.Alg.{Alg}
 use Rattle.stm_model.specs.declared.alg.Alg.TheVariants.{Cgl, Tml, OrecLazy, OrecEager, RingSw, Serial}
 use Rattle.rule_base.specs.declared.entries.Cell.{Cell}
 use Rattle.stm_model.specs.declared.config.Config.{Config}
-use Rattle.rule_base.specs.declared.views.Phase.TheVariants.{Idle, In}
+use Rattle.rule_base.specs.declared.views.Phase.TheVariants.{Idle, In, Closing}
 use Rattle.rule_base.specs.declared.views.View.{View}
 use Rattle.rule_base.specs.EncodingLemmas.{alg_of-gate, holder_of-open}
-use Rattle.rule_base.specs.Encodings.{alg_of, holder_of, gate_word, version_of}
+use Rattle.rule_base.specs.Encodings.{alg_of, holder_of, fence_of, gate_word, version_of}
 use Rattle.rule_base.specs.GateLaws.{gate_scene-kept, gate-marked, seize-gate, return_gate-gate, holder-closed, is-caller-at}
 use Rattle.rule_base.specs.GateRule.{gate_scene, GateRule, may_hold}
 use Rattle.stm_model.specs.Algorithms.{has_records, is_built}
@@ -26,9 +26,10 @@ use Rattle.rule_base.specs.InstallSteps.{HasChecked}
 use Rattle.rule_base.specs.InstallRule.{install_scene, InstallRule}
 use Rattle.rule_base.specs.PutLemmas.{put-all, put-here}
 use Rattle.rule_base.specs.RecordLemmas.{records-stay}
-use Rattle.rule_base.specs.Regime.{Regime, regime}
+use Rattle.rule_base.specs.Regime.{Regime, mode_of, regime}
+use Rattle.rule_base.specs.Regime.Mode.{Plain}
 use Rattle.rule_base.specs.Regime.Regime.{Running, Promoted}
-use Rattle.rule_base.specs.RegimeLemmas.{regime-running, regime-promoted, regime-kept, regime-inside, regime-granted, granted-regime}
+use Rattle.rule_base.specs.RegimeLemmas.{plain-mode, regime-running, regime-promoted, regime-kept, regime-inside, regime-granted, granted-regime}
 use Rattle.rule_base.specs.RunScene.{run_view, run_scene}
 use Rattle.rule_base.specs.StepKinds.{view_after, world_after, Nothing, Outcome, StepLaw}
 use Rattle.rule_base.specs.StepsLemmas.{steps-kept}
@@ -45,10 +46,10 @@ use Rattle.stm_rule.specs.ClosingLaws.{regime-handed}
 use Rattle.stm_rule.specs.Findings.{NamesOther, FindsGate, FindsTaken, OrecFails}
 use Rattle.stm_rule.specs.Alone.{alone-kept}
 use Rattle.stm_rule.specs.Raised.{raised-put}
-use Rattle.stm_rule.specs.Frames.{by-gate, by-running, by-direct, ungranted, same-horizon, owner-holds, none-apart, orec-world}
+use Rattle.stm_rule.specs.Frames.{by-gate, by-running, by-direct, ungranted, ungiven-out, same-horizon, owner-holds, none-apart, orec-world}
 use Rattle.stm_rule.specs.Laws.{closer}
 use Rattle.stm_rule.specs.RecordLaws.{fails}
-use Rattle.stm_rule.specs.Product.{Runs, Whole}
+use Rattle.stm_rule.specs.Product.{Runs, Core}
 use Rattle.stm_rule.specs.RestLaws.{nobody-else, nobody-by}
 use Rattle.rule_seq.specs.AttemptRule.{attempt_scene, AttemptRule}
 use Rattle.rule_promoted.specs.PromotedLaws as direct
@@ -65,7 +66,7 @@ grants-at : (clock : ℕ) (v : View) → tml_grants clock v ≡ true → clock �
 grants-at clock v e = grind (arith, e)
 
 module _ (good : (ℕ → ℕ) → Type 0) (c : Config) (n : ℕ) where
-  pub looks_gate : StepLaw (Whole good c) look_gate (FindsGate c n) n CanLookGate
+  pub looks_gate : StepLaw (Core good c) look_gate (FindsGate c n) n CanLookGate
   looks_gate w g may = let o = by-gate good c look_gate n w (record { common = record { words = λ w. (refl, refl, refl); history = λ w. (refl, refl); steps = λ w. (refl, refl); held = λ w. (refl, refl); busy = λ w. refl }; marks = λ w. (refl, refl); memory = λ w. (refl, refl); view = λ w. refl }) g (λ e. e) (λ e. g.attempts.entered n e) (λ k e. k) (subst (GateRule c.callers) (sym (gate_scene-kept w x n v refl refl refl refl)) g.gate)
       (subst (InstallRule c) (sym (install_scene-kept w x n v refl refl refl refl refl)) g.install) (regime-kept w x n v refl refl refl) in
       record { rule = o.0; advances = o.1; shown = record { built = g.built; closer = λ free other. closer good c n w g w.gate refl other free } }
@@ -76,23 +77,23 @@ module _ (good : (ℕ → ℕ) → Type 0) (c : Config) (n : ℕ) where
       v : View
       v = view_after look_gate w (w.views n) w.gate
 
-  pub seizes : (alg : Alg) → StepLaw (Whole good c) (seize n alg) (FindsTaken c n (gate_word 0 alg)) n (CanSeize alg)
-  seizes alg w g may = let o = by-gate good c (seize n alg) n w (record { common = record { words = λ w. (refl, refl, refl); history = λ w. (refl, refl); steps = λ w. (refl, refl); held = λ w. (refl, refl); busy = λ w. refl }; marks = λ w. (refl, refl); memory = λ w. (refl, refl); view = λ w. refl }) g (inside (w.gate == gate_word 0 alg)) (λ e. held (w.gate == gate_word 0 alg) (g.attempts.entered n e)) (λ k e. absurd (let f : true ≡ false = sym (g.install.holding n k) ∙ may.free in cc)) (seize-gate c.callers alg w n may g.gate) (settled (w.gate == gate_word 0 alg)) (runs (w.gate == gate_word 0 alg) (λ e. eqb-true w.gate (gate_word 0 alg) e)) in
+  pub seizes : (fence : ℕ) (alg : Alg) → StepLaw (Core good c) (seize n fence alg) (FindsTaken c n (gate_word fence 0 alg)) n (CanSeize fence alg)
+  seizes fence alg w g may = let o = by-gate good c (seize n fence alg) n w (record { common = record { words = λ w. (refl, refl, refl); history = λ w. (refl, refl); steps = λ w. (refl, refl); held = λ w. (refl, refl); busy = λ w. refl }; marks = λ w. (refl, refl); memory = λ w. (refl, refl); view = λ w. refl }) g (inside (w.gate == gate_word fence 0 alg)) (λ e. held (w.gate == gate_word fence 0 alg) (g.attempts.entered n e)) (λ k e. absurd (let f : true ≡ false = sym (g.install.holding n k) ∙ may.free in cc)) (seize-gate c.callers fence alg w n may g.gate) (settled (w.gate == gate_word fence 0 alg)) (runs (w.gate == gate_word fence 0 alg) (λ e. eqb-true w.gate (gate_word fence 0 alg) e)) in
       record { rule = o.0; advances = o.1; shown = record { built = g.built; closer = other } }
     where
       next : Bool → View
-      next b = record (view_after (seize n alg) w (w.views n) w.gate) { gate = if b then seized (w.views n).gate else (w.views n).gate }
+      next b = record (view_after (seize n fence alg) w (w.views n) w.gate) { gate = if b then seized (w.views n).gate else (w.views n).gate }
 
       at : Bool → World
-      at b = record w { gate = if b then gate_word (1 + n) alg else w.gate; views = put w.views n (next b) }
+      at b = record w { gate = if b then gate_word fence (1 + n) alg else w.gate; views = put w.views n (next b) }
 
       plain : (w.views n).gate.granted ≡ false
       plain = ungranted good c w n g may.free
 
-      closed : w.gate ≢ gate_word 0 alg → holder_of w.gate ≢ 0
-      closed differs none = differs (g.gate.formed ∙ (ap (λ h. gate_word h (alg_of w.gate)) none ∙ ap (gate_word 0) (g.gate.named n may.phase ∙ may.named)))
+      closed : w.gate ≢ gate_word fence 0 alg → holder_of w.gate ≢ 0
+      closed differs none = differs (g.gate.formed ∙ (ap (λ h. gate_word (fence_of w.gate) h (alg_of w.gate)) none ∙ (ap (λ f. gate_word f 0 (alg_of w.gate)) (g.gate.spared n may.phase ∙ may.spared) ∙ ap (gate_word fence 0) (g.gate.named n may.phase ∙ may.named))))
 
-      other : w.gate ≢ gate_word 0 alg → NamesOther c n (holder_of w.gate)
+      other : w.gate ≢ gate_word fence 0 alg → NamesOther c n (holder_of w.gate)
       other differs = closer good c n w g w.gate refl (closed differs) may.free
 
       inside : (b : Bool) → (w.views n).gate.phase ≡ In → (if b then seized (w.views n).gate else (w.views n).gate).phase ≡ In
@@ -104,18 +105,18 @@ module _ (good : (ℕ → ℕ) → Type 0) (c : Config) (n : ℕ) where
       held false e = e
 
       settled : (b : Bool) → InstallRule c (install_scene (at b))
-      settled true = install-view c w (at true) n (seized (w.views n).gate) (next true) refl refl refl refl refl refl refl refl plain g.install
+      settled true = install-view c w (at true) n (seized (w.views n).gate) (next true) refl refl refl refl refl refl refl refl plain refl g.install
       settled false = subst (InstallRule c) (sym (install_scene-kept w (at false) n (next false) refl refl refl refl refl)) g.install
 
-      runs : (b : Bool) → (b ≡ true → w.gate ≡ gate_word 0 alg) → regime (at b) ≡ regime w
+      runs : (b : Bool) → (b ≡ true → w.gate ≡ gate_word fence 0 alg) → regime (at b) ≡ regime w
       runs true e =
-          let none : holder_of w.gate ≡ 0 = ap holder_of (e refl) ∙ holder_of-open alg in
-          let same : alg_of w.gate ≡ alg = ap alg_of (e refl) ∙ alg_of-gate 0 alg in
-          regime-handed good c n w (at true) (next true) refl (alg_of-gate (1 + n) alg ∙ sym same) (λ m h. absurd (omega arith)) (λ m h. let k = holder-closed c.callers (gate_scene w) g.gate n (is-caller-at c.callers (gate_scene w) g.gate n (λ idle. let q : In ≡ Idle = sym may.phase ∙ idle in cc)) alg in omega arith) plain
+          let none : holder_of w.gate ≡ 0 = ap holder_of (e refl) ∙ holder_of-open fence alg in
+          let same : alg_of w.gate ≡ alg = ap alg_of (e refl) ∙ alg_of-gate fence 0 alg in
+          regime-handed good c n w (at true) (next true) refl (alg_of-gate fence (1 + n) alg ∙ sym same) (λ m h. absurd (omega arith)) (λ m h. let k = holder-closed c.callers (gate_scene w) g.gate n (is-caller-at c.callers (gate_scene w) g.gate n (λ idle. let q : In ≡ Idle = sym may.phase ∙ idle in cc)) fence alg in omega arith) (plain-mode (next true).gate plain refl)
       runs false e = regime-kept w (at false) n (next false) refl refl refl
 
   -- THE GRANT: what ran is the promoted attempt's
-  pub grants : StepLaw (Whole good c) tml_grant Nothing n (CanTmlGrant c.callers n)
+  pub grants : StepLaw (Core good c) tml_grant Nothing n (CanTmlGrant c.callers n)
   grants w g may = let p = go (tml_grants w.clock (w.views n)) (λ e. grants-at w.clock (w.views n) e) in
       let o = by-running good c tml_grant n w (record { words = λ w. (refl, refl, refl); history = λ w. (refl, refl); steps = λ w. (refl, refl); held = λ w. (refl, refl); busy = λ w. refl }) g (inside (tml_grants w.clock (w.views n))) (λ e. held (tml_grants w.clock (w.views n)) (g.attempts.entered n e)) (λ e. absurd (let f : Tml ≡ RingSw = sym named ∙ e in cc)) (same-horizon w (world_after tml_grant n w) refl (le_refl w.clock) (le_refl w.done)) g.built p.0 p.1 p.2 in
       record { rule = o.0; advances = o.1; shown = tt }
@@ -142,7 +143,7 @@ module _ (good : (ℕ → ℕ) → Type 0) (c : Config) (n : ℕ) where
 
       go : (b : Bool) → (b ≡ true → w.clock ≡ (w.views n).attempt.start) → GateRule c.callers (gate_scene (at b)) × InstallRule c (install_scene (at b)) × Runs c (regime (at b)) (run_scene (at b))
       go true e = (
-        gate-marked c.callers w (at true) n (next true) refl refl refl refl refl refl refl refl refl g.gate,
+        gate-marked c.callers w (at true) n (next true) refl refl refl refl refl refl refl refl refl refl g.gate,
         grant-install c w (at true) n (next true) refl refl refl refl refl may.has.runs.phase may.holds may.quiet g.install,
         runs-stays c (Promoted Tml n) (regime (at true)) (run_scene w) (run_scene (at true))
             (regime-promoted (at true) n (g.gate.mine n may.holds) (ap (λ (u : View). u.gate.granted) (put-here w.views n (next true))) ∙ ap (λ (a : Alg). Promoted a n) named)
@@ -156,18 +157,18 @@ module _ (good : (ℕ → ℕ) → Type 0) (c : Config) (n : ℕ) where
         runs-stays c (regime w) (regime (at false)) (run_scene w) (run_scene (at false)) (regime-kept w (at false) n (next false) refl refl refl) (run_scene-kept w (at false) n (next false) refl refl refl refl refl refl refl refl refl refl) g.running,
       )
 
-  pub direct_loads : (a : ℕ) → StepLaw (Whole good c) (direct_load a) (Loads good c a) n (CanDirectLoad c.words a)
+  pub direct_loads : (a : ℕ) → StepLaw (Core good c) (direct_load a) (Loads good c a) n (CanDirectLoad c.words a)
   direct_loads a = by-direct good c (direct_load a) (Loads good c a) n (CanDirectLoad c.words a) (record { gate = λ w. refl; status = λ w. refl; view = λ w. refl; marks = λ w. (refl, refl); trail = λ w. refl }) (λ w. refl) (λ v m. m.granted) (λ alg. direct.direct_loads good c alg n a)
 
-  pub direct_stores : (a x : ℕ) → StepLaw (Whole good c) (direct_store a x) Nothing n (CanDirectStore c.words a x)
+  pub direct_stores : (a x : ℕ) → StepLaw (Core good c) (direct_store a x) Nothing n (CanDirectStore c.words a x)
   direct_stores a x = by-direct good c (direct_store a x) Nothing n (CanDirectStore c.words a x) (record { gate = λ w. refl; status = λ w. refl; view = λ w. refl; marks = λ w. (refl, refl); trail = λ w. refl }) (λ w. refl) (λ v m. m.granted) (λ alg. direct.direct_stores good c alg n a x)
 
-  pub direct_commits : (alg : Alg) (t : ℕ) → n < c.callers → StepLaw (Whole good c) (direct_commit n alg t) (Commits good c n t) n (CanDirectCommit good alg t)
+  pub direct_commits : (alg : Alg) (t : ℕ) → n < c.callers → StepLaw (Core good c) (direct_commit n alg t) (Commits good c n t) n (CanDirectCommit good alg t)
   direct_commits alg t low w g may = record {
     rule = record {
       history = o.rule.history;
       steps = o.rule.steps;
-      gate = gate-marked c.callers w x n v refl refl refl refl refl refl refl refl refl g.gate;
+      gate = gate-marked c.callers w x n v refl refl refl refl refl refl refl refl refl refl g.gate;
       install = ticked-install c w x n t v refl refl refl refl refl o.advances.clock (g.install.promoted n may.granted).0 g.gate g.install;
       records = o.rule.records;
       built = g.built;
@@ -194,11 +195,11 @@ module _ (good : (ℕ → ℕ) → Type 0) (c : Config) (n : ℕ) where
       o = direct.direct_commits good c alg n t low w (record { history = g.history; steps = g.steps; records = g.records; lock = g.lock; attempts = g.attempts; runs = subst (λ (r : Regime). Runs c r (run_scene w)) is g.running }) may
 
   -- nobody else is inside the records
-  none_inside : (w : World) → Whole good c w → HasChecked c.callers n (w.views n) → (m : ℕ) → m ≢ n → (w.views m).owned.inside ≡ true → ⊥
+  none_inside : (w : World) → Core good c w → HasChecked c.callers n (w.views n) → (m : ℕ) → m ≢ n → (w.views m).owned.inside ≡ true → ⊥
   none_inside w g quiet m d t = nobody-else good c n w g quiet m d (g.attempts.busy m (busy-owned (w.views m) t))
 
   -- what a validated attempt is granted: x is the world after it, at the time t, which is the clock
-  orec_promoted : (w x : World) (v : View) (t : ℕ) → Whole good c w → HasOpen (w.views n) → HasChecked c.callers n (w.views n) → (w.views n).gate.holds ≡ true → HasStores c.words (w.views n) → t ≡ w.clock
+  orec_promoted : (w x : World) (v : View) (t : ℕ) → Core good c w → HasOpen (w.views n) → HasChecked c.callers n (w.views n) → (w.views n).gate.holds ≡ true → HasStores c.words (w.views n) → t ≡ w.clock
       → x ≡ record w { views = put w.views n v } → v.attempt ≡ direct_attempt t (w.views n) → v.owned ≡ direct_owned (w.views n).owned → v.history.front ≡ t → v.gate ≡ granted_at t (w.views n).gate
       → ((a : ℕ) → over (w.views n).attempt.reads a (word_at w.history t a) ≡ word_at w.history t a)
       → Runs c (regime x) (run_scene x)
@@ -208,7 +209,7 @@ module _ (good : (ℕ → ℕ) → Type 0) (c : Config) (n : ℕ) where
       attempt owned front now may.has.inside may.open_yet stores (none_inside w g quiet) sees (full-world good c w (orec-world good c w n g may.has.runs)))
 
   -- a check that failed: the sample and the validation are forgotten
-  forgotten : (w x : World) (v : View) → Whole good c w → RunsOrec (w.views n) → x ≡ record w { views = put w.views n v } → orec_view v ≡ record (orec_view (w.views n)) { sample = no_sample; check = no_check } → v.gate.granted ≡ (w.views n).gate.granted → Runs c (regime x) (run_scene x)
+  forgotten : (w x : World) (v : View) → Core good c w → RunsOrec (w.views n) → x ≡ record w { views = put w.views n v } → orec_view v ≡ record (orec_view (w.views n)) { sample = no_sample; check = no_check } → mode_of v.gate ≡ mode_of (w.views n).gate → Runs c (regime x) (run_scene x)
   forgotten w x v g may is own plain = by (w.views n).gate.algorithm may.algorithm (regime-inside c w n g.gate g.install may.phase may.plain)
     where
       f : OrecRule (home_of c) c.words (orec_scene x)
@@ -227,10 +228,10 @@ module _ (good : (ℕ → ℕ) → Type 0) (c : Config) (n : ℕ) where
       by Serial e at = absurd cc
 
   -- the gate doesn't name RingSW
-  unringed : (w : World) → Whole good c w → RunsOrec (w.views n) → alg_of w.gate ≡ RingSw → ⊥
+  unringed : (w : World) → Core good c w → RunsOrec (w.views n) → alg_of w.gate ≡ RingSw → ⊥
   unringed w g runs e = let f : true ≡ false = sym runs.algorithm ∙ ap has_records (sym (g.gate.named n runs.phase) ∙ e) in cc
 
-  pub orec_grants : (q b : ℕ) → StepLaw (Whole good c) (orec_grant q b) (OrecFails n) n (CanOrecGrant (home_of c) c.words q b)
+  pub orec_grants : (q b : ℕ) → StepLaw (Core good c) (orec_grant q b) (OrecFails n) n (CanOrecGrant (home_of c) c.words q b)
   orec_grants q b w g may = let p = go (passes (w.records q) (w.views n)) refl in record {
     rule = record {
       history = p.0;
@@ -275,7 +276,7 @@ module _ (good : (ℕ → ℕ) → Type 0) (c : Config) (n : ℕ) where
       go : (t : Bool) → passes (w.records q) (w.views n) ≡ t → HistoryRule good c (history_scene (at t)) × GateRule c.callers (gate_scene (at t)) × InstallRule c (install_scene (at t)) × RecordRule (record_scene (at t)) × LockRule (lock_scene (at t)) × AttemptRule (attempt_scene (at t)) × Runs c (regime (at t)) (run_scene (at t))
       go true e = let p = passed-at (w.records q) (w.views n) e in (
         history-seen good c w (at true) n (next true) refl refl refl (ap (λ k. record (w.views n).history { seen = w.history; front = k }) (sym now)) g.history,
-        gate-marked c.callers w (at true) n (next true) refl refl refl refl refl refl refl refl refl g.gate,
+        gate-marked c.callers w (at true) n (next true) refl refl refl refl refl refl refl refl refl refl g.gate,
         grant-install c w (at true) n (next true) refl refl refl refl (ap (λ k. granted_at k (w.views n).gate) (sym now)) may.last.opens.has.runs.phase holds quiet g.install,
         records-stay w (at true) n (next true) refl (le_refl w.clock) refl refl refl g.records,
         subst LockRule (sym (lock_scene-kept w (at true) n (next true) refl refl refl refl)) g.lock,
@@ -294,7 +295,7 @@ module _ (good : (ℕ → ℕ) → Type 0) (c : Config) (n : ℕ) where
         forgotten w (at false) (next false) g may.last.opens.has.runs refl refl refl,
       )
 
-  pub orec_grants_all : StepLaw (Whole good c) orec_grant_all Nothing n (CanOrecGrantAll (home_of c) c.words c.callers n)
+  pub orec_grants_all : StepLaw (Core good c) orec_grant_all Nothing n (CanOrecGrantAll (home_of c) c.words c.callers n)
   orec_grants_all w g may = let p = go (ltb w.clock CLOCK_LIMIT) in record {
     rule = record {
       history = p.0;
@@ -330,7 +331,7 @@ module _ (good : (ℕ → ℕ) → Type 0) (c : Config) (n : ℕ) where
       go : (t : Bool) → HistoryRule good c (history_scene (at t)) × GateRule c.callers (gate_scene (at t)) × InstallRule c (install_scene (at t)) × RecordRule (record_scene (at t)) × LockRule (lock_scene (at t)) × AttemptRule (attempt_scene (at t)) × Runs c (regime (at t)) (run_scene (at t))
       go true = (
         history-seen good c w (at true) n (next true) refl refl refl refl g.history,
-        gate-marked c.callers w (at true) n (next true) refl refl refl refl refl refl refl refl refl g.gate,
+        gate-marked c.callers w (at true) n (next true) refl refl refl refl refl refl refl refl refl refl g.gate,
         grant-install c w (at true) n (next true) refl refl refl refl refl may.all.opens.has.runs.phase may.holds may.quiet g.install,
         records-stay w (at true) n (next true) refl (le_refl w.clock) refl refl refl g.records,
         subst LockRule (sym (lock_scene-kept w (at true) n (next true) refl refl refl refl)) g.lock,
@@ -348,23 +349,23 @@ module _ (good : (ℕ → ℕ) → Type 0) (c : Config) (n : ℕ) where
         forgotten w (at false) (next false) g may.all.opens.has.runs refl refl refl,
       )
 
-  pub direct_releases : (q t : ℕ) → StepLaw (Whole good c) (direct_release q t) Nothing n (CanDirectRelease q t)
+  pub direct_releases : (q t : ℕ) → StepLaw (Core good c) (direct_release q t) Nothing n (CanDirectRelease q t)
   direct_releases q t = by-direct good c (direct_release q t) Nothing n (CanDirectRelease q t) (record { gate = λ w. refl; status = λ w. refl; view = λ w. refl; marks = λ w. (refl, refl); trail = λ w. refl }) (λ w. refl) (λ v m. m.granted) (λ alg. direct.direct_releases good c alg n q t)
 
   -- THE RETURN: after a promoted attempt its algorithm starts from rest; an attempt that wasn't promoted leaves what runs
-  pub returns : (alg : Alg) → StepLaw (Whole good c) (return_gate alg) Nothing n (CanReturn alg)
-  returns alg w g may = record {
+  pub returns : (fence : ℕ) (alg : Alg) → StepLaw (Core good c) (return_gate fence alg) Nothing n (CanReturn fence alg)
+  returns fence alg w g may = record {
     rule = record {
       history = history-kept good c w x n v refl refl refl refl g.history;
-      steps = steps-kept c (return_gate alg) n w refl refl refl g.steps;
-      gate = return_gate-gate c.callers alg w n may g.gate;
-      install = install-view c w x n (returned (w.views n).gate) v refl refl refl refl refl refl refl refl refl g.install;
+      steps = steps-kept c (return_gate fence alg) n w refl refl refl g.steps;
+      gate = return_gate-gate c.callers fence alg w n may g.gate;
+      install = install-view c w x n (returned (w.views n).gate) v refl refl refl refl refl refl refl refl refl refl g.install;
       records = records-stay w x n v refl (le_refl w.clock) refl refl refl g.records;
       built = ap is_built (named ∙ sym same) ∙ g.built;
       lock = subst LockRule (sym (lock_scene-kept w x n v refl refl refl refl)) g.lock;
       attempts = attempts-in w x n v refl may.phase g.attempts;
       running = runs (w.views n).gate.granted refl;
-      alone = alone-kept c (return_gate alg) n w refl (λ sole. inr refl) g.alone;
+      alone = alone-kept c (return_gate fence alg) n w refl (λ sole. inr refl) g.alone;
       raised = raised-put w x n v refl (λ e. same ∙ (sym named ∙ e)) (λ e k. absurd cc) g.raised;
     };
     advances = record { clock = le_refl w.clock; horizon = same-horizon w x (named ∙ sym same) (le_refl w.clock) (le_refl w.done); seen = λ f l. refl };
@@ -372,13 +373,13 @@ module _ (good : (ℕ → ℕ) → Type 0) (c : Config) (n : ℕ) where
   }
     where
       x : World
-      x = world_after (return_gate alg) n w
+      x = world_after (return_gate fence alg) n w
 
       v : View
-      v = view_after (return_gate alg) w (w.views n) (gate_word 0 alg)
+      v = view_after (return_gate fence alg) w (w.views n) (gate_word fence 0 alg)
 
-      named : alg_of (gate_word 0 alg) ≡ alg
-      named = alg_of-gate 0 alg
+      named : alg_of (gate_word fence 0 alg) ≡ alg
+      named = alg_of-gate fence 0 alg
 
       same : alg_of w.gate ≡ alg
       same = g.gate.held n may.holds ∙ may.named
@@ -389,7 +390,7 @@ module _ (good : (ℕ → ℕ) → Type 0) (c : Config) (n : ℕ) where
       runs : (b : Bool) → (w.views n).gate.granted ≡ b → Runs c (regime x) (run_scene x)
       runs true e =
           let d : DirectRuns c alg n (run_scene w) = subst (λ (r : Regime). Runs c r (run_scene w)) (regime-granted c w n g.gate g.install e ∙ ap (λ (a : Alg). Promoted a n) may.named) g.running in
-          let is : regime x ≡ Running alg = regime-running x (λ m h. absurd (let k = holder_of-open alg in omega arith)) ∙ ap Running named in
+          let is : regime x ≡ Running alg = regime-running x (λ m h. absurd (let k = holder_of-open fence alg in omega arith)) ∙ ap Running named in
           subst (λ (r : Regime). Runs c r (run_scene x)) (sym is) (back c alg n (run_scene w) (run_scene x) d (record {
             heap = λ a. d.direct.stored a ∙ ap (λ (l : List Cell). over l a (word_now w.history a)) may.unstored;
             unlocked = put-all w.views n v (λ m u. u.lock.taken ≡ true → ⊥) (λ t. let f : true ≡ false = sym t ∙ may.unlocked in cc) (λ m o t. others e m o (g.lock.inside m t));
@@ -411,7 +412,7 @@ module _ (good : (ℕ → ℕ) → Type 0) (c : Config) (n : ℕ) where
           others : (w.views n).gate.granted ≡ true → (m : ℕ) → m ≢ n → (w.views m).gate.phase ≡ In → ⊥
           others e = nobody-else good c n w g (checked e)
       runs false e = runs-stays c (regime w) (regime x) (record (run_scene w) { views = put (run_scene w).views n (run_view v) }) (run_scene x)
-          (regime-handed good c n w x v refl (named ∙ sym same) (λ m h. subst (λ (k : ℕ). (w.views k).gate.granted ≡ false) (let o = g.gate.mine n may.holds in let q : n ≡ m = omega arith in q) e) (λ m h. absurd (let k = holder_of-open alg in omega arith)) refl)
+          (regime-handed good c n w x v refl (named ∙ sym same) (λ m h. subst (λ (k : ℕ). mode_of (w.views k).gate ≡ Plain) (let o = g.gate.mine n may.holds in let q : n ≡ m = omega arith in q) (plain-mode (w.views n).gate e (ungiven-out good c w n g (λ k. let f : In ≡ Closing = sym may.phase ∙ k in cc)))) (λ m h. absurd (let k = holder_of-open fence alg in omega arith)) refl)
           (run_scene-put w x n v refl refl refl refl refl refl refl refl refl)
           (runs-leave c (regime w) (run_scene w) n (run_view v) (record { was = record { unlocked = may.unlocked; unwritten = may.unwritten; uncommitted = may.uncommitted }; out = record { unlocked = may.unlocked; unwritten = may.unwritten; uncommitted = may.uncommitted }; tml = refl; owned = refl; bare = bare_now; apart = none-apart good c w n g bare_now; unread = refl; entered = sym (may.plain e) }) (inl refl)
           (λ a q. let t : true ≡ false = sym (granted-regime c w n g.gate g.install a q) ∙ e in cc) g.running)

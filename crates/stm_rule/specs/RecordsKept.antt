@@ -1,11 +1,12 @@
 -- What stands of a view by the descriptor's fields in an attempt of OrecLazy, until it is promoted.
-use Rattle.std.specs.Prelude.{ℕ, ◌≡◌, ◌≤◌, ◌+◌, not, true, false, List, [], ◌∷◌, ◌++◌}
+use Rattle.std.specs.Prelude.{ℕ, ◌≡◌, ◌≤◌, ◌+◌, not, true, false, List, [], ◌∷◌, ◌++◌, ◌<◌, length, get_or}
 use Rattle.stm_model.specs.declared.config.Config.{Config}
 use Rattle.stm_model.specs.declared.config.TheConstants.{CLOCK_LIMIT}
 use Rattle.stm_model.specs.Memories.{is_empty, Once}
 use Rattle.rule_base.specs.declared.entries.Cell.{Cell}
 use Rattle.rule_base.specs.declared.views.View.{View}
 use Rattle.rule_base.specs.Bridge.{items}
+use Rattle.rule_base.specs.Encodings.{fenced}
 use Rattle.rule_base.specs.History.{over, touches, Inside, Small}
 use Rattle.rule_base.specs.Ranks.{home_of}
 use Rattle.stm_rule.specs.declared.local.Local.{Local}
@@ -15,12 +16,29 @@ abbrev pub cells_of : List (ℕ × ℕ) → List Cell
 cells_of [] = []
 cells_of (w ∷ ws) = cells_of ws ++ record { at = w.0; value = w.1 } ∷ []
 
+-- none of these cells lies in the range of the fence
+abbrev pub Apart : ℕ → List Cell → Type 0
+Apart fence cs = (a : ℕ) → touches cs a ≡ true → fenced fence a ≡ false
+
 -- what is to be written lies with the descriptor
 pub record Buffers (c : Config) (l : Local) : Type 0 where
   pub wrote : l.wrote ≡ not (is_empty l.writes.items)
   pub once : Once l.writes.items
   pub inside : Inside c.words (cells_of l.writes.items)
   pub small : Small (cells_of l.writes.items)
+  pub apart : Apart l.fence (cells_of l.writes.items)
+
+-- what may be written
+pub record IsWriteSet (c : Config) (fence : ℕ) (ws : List (ℕ × ℕ)) : Type 0 where
+  pub once : Once ws
+  pub inside : Inside c.words (cells_of ws)
+  pub small : Small (cells_of ws)
+  pub apart : Apart fence (cells_of ws)
+
+-- so many marks stand, each at what may be written
+pub record HasMarks (c : Config) (fence : ℕ) (marks : List (List (ℕ × ℕ))) (depth : ℕ) : Type 0 where
+  pub count : length marks ≡ depth
+  pub sound : (k : ℕ) → k < length marks → IsWriteSet c fence (get_or marks k [])
 
 -- nothing of the attempt is in the lock, at the clock or in the ring, and it has not closed the gate for good
 pub record IsOptimistic (v : View) : Type 0 where
@@ -54,6 +72,8 @@ pub record IsLazy (c : Config) (l : Local) (v : View) : Type 0 where
   pub open_handed : l.committing ≡ false → v.owned.held ≡ []
   pub locked : l.committing ≡ true → (a : ℕ) → touches (cells_of l.writes.items) a ≡ true → touches v.owned.held (home_of c a) ≡ true
   pub committing : l.committing ≡ true → l.wrote ≡ true
+  -- the log has each mark
+  pub marked : HasMarks c l.fence l.writes.marks l.depth
   -- all that it took the records of is at most the start
   pub olds : l.committing ≡ true → (r : ℕ) → touches v.owned.held r ≡ true → over v.owned.held r 0 ≤ l.start
   -- with one caller alone the start is the clock, which has stood since

@@ -15,10 +15,11 @@ use Rattle.rule_base.specs.GateRule.{rests, may_hold}
 use Rattle.rule_base.specs.History.{over, touches, word_now}
 use Rattle.rule_base.specs.HistoryLemmas.{word_at-all}
 use Rattle.rule_base.specs.InstallSteps.{HasChecked}
-use Rattle.rule_base.specs.Regime.{Regime, regime}
+use Rattle.rule_base.specs.Regime.{mode_of, Regime, regime}
+use Rattle.rule_base.specs.Regime.Mode.{Plain}
 use Rattle.rule_base.specs.Regime.Regime.{Running}
-use Rattle.rule_base.specs.RegimeLemmas.{regime-running, regime-granted}
-use Rattle.rule_base.specs.Rest.{own_stores, in_place, in_place_at, Rest, AtRest, IsQuiet, HasInstalled}
+use Rattle.rule_base.specs.RegimeLemmas.{regime-running, regime-granted, plain-mode, regime-given}
+use Rattle.rule_base.specs.Rest.{own_stores, in_place, in_place_at, BareRest, BareAtRest, IsQuiet, HasInstalled}
 use Rattle.rule_base.specs.Ranks.{rec_of, home_of}
 use Rattle.rule_base.specs.Ranks.Rec.{Taken}
 use Rattle.rule_base.specs.RunScene.{run_scene}
@@ -32,15 +33,18 @@ use Rattle.rule_orec.specs.OrecRule.{orec_scene}
 use Rattle.rule_orec.specs.OrecSteps.{RunsOrec}
 use Rattle.rule_orec.specs.OrecLaws.{full-world}
 use Rattle.rule_promoted.specs.OrecGranted.{alone-heap}
-use Rattle.stm_rule.specs.Frames.{ungranted-out, owner-holds, orec-world}
-use Rattle.stm_rule.specs.Product.{Runs, Whole}
+use Rattle.stm_rule.specs.Frames.{ungranted-out, ungiven-out, owner-holds, orec-world}
+use Rattle.stm_rule.specs.Product.{Gives, Runs, Core}
 use Rattle.stm_rule.specs.Quiescence.{IsInsideOf, IsInstalled, IsPromoting, IsOrecPromoting}
 use Rattle.stm_rule.specs.Running.{Ease, at-rest}
 
-module _ (good : (ℕ → ℕ) → Type 0) (c : Config) (n : ℕ) (w : World) (g : Whole good c w) where
+module _ (good : (ℕ → ℕ) → Type 0) (c : Config) (n : ℕ) (w : World) (g : Core good c w) where
   -- who isn't promoted and holds the gate has the regime of its algorithm
-  pub regime-held : (w.views n).gate.holds ≡ true → (w.views n).gate.granted ≡ false → regime w ≡ Running (alg_of w.gate)
-  regime-held holds plain = regime-running w (λ m h. subst (λ (k : ℕ). (w.views k).gate.granted ≡ false) (let o = g.gate.mine n holds in let e : n ≡ m = omega arith in e) plain)
+  pub regime-held : (w.views n).gate.holds ≡ true → (w.views n).gate.granted ≡ false → (w.views n).gate.giving ≡ false → regime w ≡ Running (alg_of w.gate)
+  regime-held holds plain kept = regime-running w (λ m h. subst (λ (k : ℕ). mode_of (w.views k).gate ≡ Plain) (let o = g.gate.mine n holds in let e : n ≡ m = omega arith in e) (plain-mode (w.views n).gate plain kept))
+
+  in-ungiven : (w.views n).gate.phase ≡ In → (w.views n).gate.giving ≡ false
+  in-ungiven inside = ungiven-out good c w n g (λ e. let k : In ≡ Closing = sym inside ∙ e in cc)
 
   module _ (checked : HasChecked c.callers n (w.views n)) where
     -- the others are in no attempt
@@ -73,8 +77,8 @@ module _ (good : (ℕ → ℕ) → Type 0) (c : Config) (n : ℕ) (w : World) (g
       lock-rests = lock_free w.lock refl
 
       -- while its attempt isn't promoted the heap is the memory
-      pub running-rests : (w.views n).gate.holds ≡ true → (w.views n).gate.granted ≡ false → (has_records (alg_of w.gate) ≡ true → (r m : ℕ) → rec_of (w.records r) ≡ Taken m → ⊥) → ((a : ℕ) → w.heap a ≡ word_now w.history a) × (alg_of w.gate ≡ Tml → w.clock % 2 ≡ 0) × (alg_of w.gate ≡ RingSw → ((m : ℕ) → (w.views m).attempt.entered ≡ false) → w.done ≡ w.clock)
-      running-rests holds plain freed = at-rest c (alg_of w.gate) (run_scene w) (subst (λ (r : Regime). Runs c r (run_scene w)) (regime-held holds plain) g.running) lock-rests nobody-writes nobody-commits freed
+      pub running-rests : (w.views n).gate.holds ≡ true → (w.views n).gate.granted ≡ false → (w.views n).gate.giving ≡ false → (has_records (alg_of w.gate) ≡ true → (r m : ℕ) → rec_of (w.records r) ≡ Taken m → ⊥) → ((a : ℕ) → w.heap a ≡ word_now w.history a) × (alg_of w.gate ≡ Tml → w.clock % 2 ≡ 0) × (alg_of w.gate ≡ RingSw → ((m : ℕ) → (w.views m).attempt.entered ≡ false) → w.done ≡ w.clock)
+      running-rests holds plain kept freed = at-rest c (alg_of w.gate) (run_scene w) (subst (λ (r : Regime). Runs c r (run_scene w)) (regime-held holds plain kept) g.running) lock-rests nobody-writes nobody-commits freed
 
   record_free : (checked : HasChecked c.callers n (w.views n)) (r : ℕ) → touches (w.views n).owned.held r ≡ false → (b : Bool) → is_owned (w.records r) ≡ b → b ≡ false
   record_free checked r bare true e = absurd (nobody-by checked (λ m. touches (w.views m).owned.held r ≡ true) (λ t. let f : true ≡ false = sym t ∙ bare in cc) (λ m t. g.records.inside m r t) (owner_of (w.records r)) (g.records.owned r e))
@@ -104,7 +108,7 @@ module _ (good : (ℕ → ℕ) → Type 0) (c : Config) (n : ℕ) (w : World) (g
       go false e = refl
 
   -- the parts of rest that are the same for who closes and who promotes
-  rest_of : (checked : HasChecked c.callers n (w.views n)) → (w.views n).gate.holds ≡ true → w.lock ≡ 0 → ((a : ℕ) → w.heap a ≡ over (in_place (w.views n)) a (word_now w.history a)) → (alg_of w.gate ≡ Tml → w.clock % 2 ≡ 0) → (alg_of w.gate ≡ RingSw → (w.views n).attempt.entered ≡ false → w.done ≡ w.clock) → Rest n w
+  rest_of : (checked : HasChecked c.callers n (w.views n)) → (w.views n).gate.holds ≡ true → w.lock ≡ 0 → ((a : ℕ) → w.heap a ≡ over (in_place (w.views n)) a (word_now w.history a)) → (alg_of w.gate ≡ Tml → w.clock % 2 ≡ 0) → (alg_of w.gate ≡ RingSw → (w.views n).attempt.entered ≡ false → w.done ≡ w.clock) → BareRest n w
   rest_of checked holds lock heap even done = record {
     gate = g.gate.mine n holds;
     others = others-rest c.callers w n checked g.gate;
@@ -116,7 +120,7 @@ module _ (good : (ℕ → ℕ) → Type 0) (c : Config) (n : ℕ) (w : World) (g
   }
 
   -- THE LAW OF QUIESCENCE OF A PROMOTER: its own stores lie in the heap, and all else is at rest
-  pub promoting-rests : IsPromoting c n w → Rest n w
+  pub promoting-rests : IsPromoting c n w → BareRest n w
   promoting-rests p = rest_of p.checked p.holds (lock-rests p.checked p.unlocked p.reads p.uncommitted) (by (w.views n).gate.granted refl).0 (by (w.views n).gate.granted refl).1 (by (w.views n).gate.granted refl).2
     where
       own : in_place (w.views n) ≡ (w.views n).attempt.stores
@@ -131,8 +135,8 @@ module _ (good : (ℕ → ℕ) → Type 0) (c : Config) (n : ℕ) (w : World) (g
       -- before the grant nothing is stored
       none : (w.views n).gate.granted ≡ false → (w.views n).attempt.stores ≡ []
       none e = ⊎_elim
-          (λ t. let r : TmlRule c.words (tml_part (run_scene w)) = subst (λ (q : Regime). Runs c q (run_scene w)) (regime-held p.holds e ∙ ap Running (named ∙ t.0)) g.running in (r.reader n t.1).unstored p.reads)
-          (λ t. let r : RingRule slot_filter c.ring c.words (ring_part (run_scene w)) = subst (λ (q : Regime). Runs c q (run_scene w)) (regime-held p.holds e ∙ ap Running (named ∙ t.0)) g.running in (r.reader n t.1).unstored)
+          (λ t. let r : TmlRule c.words (tml_part (run_scene w)) = subst (λ (q : Regime). Runs c q (run_scene w)) (regime-held p.holds e (in-ungiven p.phase) ∙ ap Running (named ∙ t.0)) g.running in (r.reader n t.1).unstored p.reads)
+          (λ t. let r : RingRule slot_filter c.ring c.words (ring_part (run_scene w)) = subst (λ (q : Regime). Runs c q (run_scene w)) (regime-held p.holds e (in-ungiven p.phase) ∙ ap Running (named ∙ t.0)) g.running in (r.reader n t.1).unstored)
           p.inside
 
       by : (b : Bool) → (w.views n).gate.granted ≡ b → ((a : ℕ) → w.heap a ≡ over (in_place (w.views n)) a (word_now w.history a)) × (alg_of w.gate ≡ Tml → w.clock % 2 ≡ 0) × (alg_of w.gate ≡ RingSw → (w.views n).attempt.entered ≡ false → w.done ≡ w.clock)
@@ -143,11 +147,11 @@ module _ (good : (ℕ → ℕ) → Type 0) (c : Config) (n : ℕ) (w : World) (g
           even : DirectRuns c (w.views n).gate.algorithm n (run_scene w) → (w.views n).gate.algorithm ≡ Tml → w.clock % 2 ≡ 0
           even d q = let s : TmlSuits (suit_scene n w) = subst (λ (a : Alg). Suits (home_of c) a (suit_scene n w)) q d.suits in s.even
       by false e =
-          let r = running-rests p.checked p.unlocked p.reads p.uncommitted p.holds e (λ has. absurd (no_records p.inside (ap has_records (sym named) ∙ has))) in
+          let r = running-rests p.checked p.unlocked p.reads p.uncommitted p.holds e (in-ungiven p.phase) (λ has. absurd (no_records p.inside (ap has_records (sym named) ∙ has))) in
           (λ a. r.0 a ∙ ap (λ (l : List Cell). over l a (word_now w.history a)) (sym (own ∙ none e)), r.1, λ q f. r.2 q (nobody-enters p.checked f))
 
   -- and under the records
-  pub orec-promoting-rests : IsOrecPromoting c n w → Rest n w
+  pub orec-promoting-rests : IsOrecPromoting c n w → BareRest n w
   orec-promoting-rests p = rest_of p.checked p.holds (lock-rests p.checked p.unlocked p.reads p.uncommitted) (by (w.views n).gate.granted refl) (λ e. absurd (other (alg_of w.gate) e (ap has_records (g.gate.named n p.phase) ∙ p.algorithm))) (λ e. absurd (ringless (alg_of w.gate) e (ap has_records (g.gate.named n p.phase) ∙ p.algorithm)))
     where
       other : (a : Alg) → a ≡ Tml → has_records a ≡ true → ⊥
@@ -193,22 +197,29 @@ module _ (good : (ℕ → ℕ) → Type 0) (c : Config) (n : ℕ) (w : World) (g
     plain : (w.views n).gate.granted ≡ false
     plain = ungranted-out good c w n g out_of
 
-    pub quiet-regime : regime w ≡ Running (alg_of w.gate)
-    quiet-regime = regime-held (g.gate.closing n quiet.closing) plain
+    pub quiet-regime : (w.views n).gate.giving ≡ false → regime w ≡ Running (alg_of w.gate)
+    quiet-regime kept = regime-held (g.gate.closing n quiet.closing) plain kept
 
     -- no record is owned
     pub quiet-freed : (r m : ℕ) → rec_of (w.records r) ≡ Taken m → ⊥
     quiet-freed r m e = nobody_in m (g.records.inside m r (owner-holds good c w g r m e))
 
     pub heap-rests : ((a : ℕ) → w.heap a ≡ word_now w.history a) × (alg_of w.gate ≡ Tml → w.clock % 2 ≡ 0) × (alg_of w.gate ≡ RingSw → ((m : ℕ) → (w.views m).attempt.entered ≡ false) → w.done ≡ w.clock)
-    heap-rests = running-rests quiet.checked (free (w.views n).lock.taken refl) (reads (w.views n).tml.writer refl) (early (w.views n).ring_commit.committed refl) (g.gate.closing n quiet.closing) plain (λ has. quiet-freed)
+    heap-rests = by (w.views n).gate.giving refl
+      where
+        by : (b : Bool) → (w.views n).gate.giving ≡ b → ((a : ℕ) → w.heap a ≡ word_now w.history a) × (alg_of w.gate ≡ Tml → w.clock % 2 ≡ 0) × (alg_of w.gate ≡ RingSw → ((m : ℕ) → (w.views m).attempt.entered ≡ false) → w.done ≡ w.clock)
+        by true e =
+            let named = g.gate.held n (g.gate.closing n quiet.closing) in
+            let k : Gives (w.views n).gate.algorithm (run_scene w) = subst (λ (r : Regime). Runs c r (run_scene w)) (regime-given c w n g.gate g.install e) g.running in
+            (k.heap, λ q. k.even (sym named ∙ q), λ q. k.level (sym named ∙ q))
+        by false e = running-rests quiet.checked (free (w.views n).lock.taken refl) (reads (w.views n).tml.writer refl) (early (w.views n).ring_commit.committed refl) (g.gate.closing n quiet.closing) plain e (λ has. quiet-freed)
 
     -- nobody is in an attempt
     pub quiet-ease : Ease (run_scene w)
     quiet-ease = record { heap = heap-rests.0; unlocked = λ m t. nobody_in m (g.lock.inside m t); outside = λ m t. nobody_in m (g.attempts.busy m (busy-tml (w.views m) t)); unwritten = λ m t. nobody_in m (g.attempts.busy m (busy-writer (w.views m) t)); unread = λ m t. nobody_in m (g.attempts.busy m (busy-ring (w.views m) t)); uncommitted = λ m t. nobody_in m (g.attempts.busy m (busy-turn (w.views m) t)); inside = λ m t. nobody_in m (g.attempts.busy m (busy-owned (w.views m) t)); unheld = λ m r t. nobody_in m (g.records.inside m r t); freed = quiet-freed; below = g.history.below }
 
     -- THE LAW OF QUIESCENCE
-    pub quiet-rests : AtRest n w
+    pub quiet-rests : BareAtRest n w
     quiet-rests = record {
       rest = rest_of quiet.checked (g.gate.closing n quiet.closing) (lock-rests quiet.checked (free (w.views n).lock.taken refl) (reads (w.views n).tml.writer refl) (early (w.views n).ring_commit.committed refl))
           (λ a. heap-rests.0 a ∙ ap (λ p. over (in_place_at p (own_stores (w.views n))) a (word_now w.history a)) (sym quiet.closing)) heap-rests.1 (λ e own. heap-rests.2 e (nobody-enters quiet.checked own));
@@ -216,7 +227,7 @@ module _ (good : (ℕ → ℕ) → Type 0) (c : Config) (n : ℕ) (w : World) (g
     }
 
     -- THE LAW OF INSTALLING: the next algorithm starts from rest, with BASE and DONE at the clock
-    pub installed-rests : HasInstalled n w → AtRest n w × IsInstalled n w
+    pub installed-rests : HasInstalled n w → BareAtRest n w × IsInstalled n w
     installed-rests i = (
       quiet-rests,
       record {

@@ -38,7 +38,7 @@ use Rattle.rule_seq.specs.LockLemmas.{lock_scene-kept}
 use Rattle.rule_seq.specs.LockRule.{LockRule}
 use Rattle.stm_rule.specs.Alone.{left_at}
 use Rattle.stm_rule.specs.Raised.{raised-put}
-use Rattle.stm_rule.specs.Product.{Runs, Whole}
+use Rattle.stm_rule.specs.Product.{Runs, Core}
 use Rattle.stm_rule.specs.RestLaws.{lock-rests, nobody-commits, nobody-enters}
 use Rattle.stm_rule.specs.RingLaws as rings
 use Rattle.stm_rule.specs.Running.{runs-stays, run_scene-kept}
@@ -57,7 +57,7 @@ module _ (good : (ℕ → ℕ) → Type 0) (c : Config) (n : ℕ) where
     start : u.attempt.start ≡ clock
 
   -- THE GRANT UNDER RINGSW: who is alone, with its start at the clock, meets the clauses of a promoted attempt
-  ring-granted : (y : World) → Whole good c y → Ended y.clock (y.views n) → DirectRuns c RingSw n (run_scene y)
+  ring-granted : (y : World) → Core good c y → Ended y.clock (y.views n) → DirectRuns c RingSw n (run_scene y)
   ring-granted y g o = record {
     direct = record {
       stored = λ a. r.free lock a ∙ ap (λ (k : List Cell). over k a (word_now y.history a)) (sym h.unstored);
@@ -98,11 +98,11 @@ module _ (good : (ℕ → ℕ) → Type 0) (c : Config) (n : ℕ) where
           go false q = not_late ((ring_part (run_scene y)).views m) q
 
   -- the grant as a change of the view u that a load left
-  grants_after : (w : World) (u : View) (t : ℕ) → Whole good c (record w { views = put w.views n u }) → Ended w.clock u → t ≡ w.clock → Whole good c (record w { views = put w.views n (record u { gate = granted_at t u.gate }) })
+  grants_after : (w : World) (u : View) (t : ℕ) → Core good c (record w { views = put w.views n u }) → Ended w.clock u → t ≡ w.clock → Core good c (record w { views = put w.views n (record u { gate = granted_at t u.gate }) })
   grants_after w u t g o clock = record {
     history = history-kept good c y z n v twice refl refl (ap (λ (q : View). q.history) (sym own)) g.history;
     steps = subst (StepsRule c) (sym steps) g.steps;
-    gate = gate-marked c.callers y z n v twice refl refl (ap (λ (q : View). q.gate.phase) (sym own)) (ap (λ (q : View). q.gate.present) (sym own)) (ap (λ (q : View). q.gate.algorithm) (sym own)) (ap (λ (q : View). q.gate.aim) (sym own)) (ap (λ (q : View). q.gate.holds) (sym own)) (ap (λ (q : View). q.gate.checked) (sym own)) g.gate;
+    gate = gate-marked c.callers y z n v twice refl refl (ap (λ (q : View). q.gate.phase) (sym own)) (ap (λ (q : View). q.gate.present) (sym own)) (ap (λ (q : View). q.gate.algorithm) (sym own)) (ap (λ (q : View). q.gate.fence) (sym own)) (ap (λ (q : View). q.gate.aim) (sym own)) (ap (λ (q : View). q.gate.holds) (sym own)) (ap (λ (q : View). q.gate.checked) (sym own)) g.gate;
     install = grant-install c y z n v twice refl refl refl ((λ i. granted_at (clock i) u.gate) ∙ ap (λ (q : View). granted_at w.clock q.gate) (sym own)) e.phase (g.install.holding n e.calm) (λ k low other. g.install.alone n k e.calm low other) g.install;
     built = g.built;
     records = records-stay y z n v twice (le_refl w.clock) refl (ap (λ (q : View). q.owned.held) (sym own)) (ap (λ (q : View). q.gate.phase) (sym own)) g.records;
@@ -140,7 +140,7 @@ module _ (good : (ℕ → ℕ) → Type 0) (c : Config) (n : ℕ) where
       steps : steps_scene z ≡ steps_scene y
       steps = λ i. record { clock = w.clock; views = (ap (parts (λ (q : View). q.steps)) twice ∙ parts-kept (λ (q : View). q.steps) y.views n v (ap (λ (q : View). q.steps) (sym own))) i }
 
-  pub look_grants : StepLaw (Whole good c) ring_look_grant (RingLooks good c) n CanRingGrant
+  pub look_grants : StepLaw (Core good c) ring_look_grant (RingLooks good c) n CanRingGrant
   look_grants w g may = record {
     rule = go (w.clock == (w.views n).attempt.start) (λ e. eqb-true w.clock (w.views n).attempt.start e);
     advances = record { clock = le_refl w.clock; horizon = le_refl (horizon w); seen = λ f l. refl };
@@ -161,7 +161,7 @@ module _ (good : (ℕ → ℕ) → Type 0) (c : Config) (n : ℕ) where
       inside true = refl
       inside false = refl
 
-      go : (b : Bool) → (b ≡ true → w.clock ≡ (w.views n).attempt.start) → Whole good c (at b)
+      go : (b : Bool) → (b ≡ true → w.clock ≡ (w.views n).attempt.start) → Core good c (at b)
       go true e = grants_after w u w.clock (rings.ring_looks good c n w g (record { has = may.has })).rule (record {
         phase = may.has.runs.phase;
         algorithm = may.has.runs.algorithm;
@@ -175,7 +175,7 @@ module _ (good : (ℕ → ℕ) → Type 0) (c : Config) (n : ℕ) where
       }) refl
       go false e = (rings.ring_looks good c n w g (record { has = may.has })).rule
 
-  pub move_grants : StepLaw (Whole good c) ring_move_grant (RingMoves good c) n (CanRingMoveGrant slot_filter)
+  pub move_grants : StepLaw (Core good c) ring_move_grant (RingMoves good c) n (CanRingMoveGrant slot_filter)
   move_grants w g may = record {
     rule = go (moved (w.views n) w.done == (w.views n).gate.time) (λ e. eqb-true (moved (w.views n) w.done) (w.views n).gate.time e);
     advances = record { clock = le_refl w.clock; horizon = le_refl (horizon w); seen = λ f l. refl };
@@ -192,7 +192,7 @@ module _ (good : (ℕ → ℕ) → Type 0) (c : Config) (n : ℕ) where
       clock : w.clock ≡ (w.views n).gate.time
       clock = g.install.time n may.grant.calm
 
-      go : (b : Bool) → (b ≡ true → moved (w.views n) w.done ≡ (w.views n).gate.time) → Whole good c (at b)
+      go : (b : Bool) → (b ≡ true → moved (w.views n) w.done ≡ (w.views n).gate.time) → Core good c (at b)
       go true e = grants_after w u (w.views n).gate.time (rings.ring_moves good c n w g may.move).rule (record {
         phase = may.grant.has.runs.phase;
         algorithm = may.grant.has.runs.algorithm;

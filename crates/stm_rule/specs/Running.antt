@@ -16,11 +16,11 @@ use Rattle.rule_base.specs.declared.views.TmlView.{TmlView}
 use Rattle.rule_base.specs.declared.views.View.{View}
 use Rattle.rule_base.specs.History.{touches, word_now, last_write, Below}
 use Rattle.rule_base.specs.HistoryLemmas.{below-more, last_write-most}
-use Rattle.rule_base.specs.PutLemmas.{put-all, put-else, parts-put, parts-kept}
+use Rattle.rule_base.specs.PutLemmas.{put-all, put-here, put-else, parts-put, parts-kept}
 use Rattle.rule_base.specs.Ranks.{Rec, rec_of, rank_one, home_of}
 use Rattle.rule_base.specs.Ranks.Rec.{Free, Taken}
 use Rattle.rule_base.specs.Regime.{Regime, named_in}
-use Rattle.rule_base.specs.Regime.Regime.{Running, Promoted}
+use Rattle.rule_base.specs.Regime.Regime.{Running, Promoted, Giving}
 use Rattle.rule_base.specs.RunScene.{RunView, run_view, RunScene, run_scene}
 use Rattle.rule_base.specs.World.{World, put, parts}
 use Rattle.rule_seq.specs.CglRule.{CglView, CglHolder, CglRule, cgl_part, CglRuns}
@@ -35,7 +35,7 @@ use Rattle.rule_ring.specs.RingRule.{RingPart, RingRule, late, ring_part, RingRu
 use Rattle.rule_ring.specs.SlotFilter.{slot_filter}
 use Rattle.rule_ring.specs.Slots.{slot_place, writes_of, has_entry, entry-before}
 use Rattle.rule_promoted.specs.PromotedRule.{direct_part, DirectRule, suit_part, OrecSuits, Suits, DirectRuns}
-use Rattle.stm_rule.specs.Product.{Runs}
+use Rattle.stm_rule.specs.Product.{Gives, Runs}
 
 -- the scene after a step that leaves it alone
 pub run_scene-kept : (w x : World) (n : ℕ) (v : View) → x.views ≡ put w.views n v → x.clock ≡ w.clock → x.lock ≡ w.lock → x.base ≡ w.base → x.done ≡ w.done → x.records ≡ w.records → x.slots ≡ w.slots → x.heap ≡ w.heap → x.history ≡ w.history → run_view v ≡ run_view (w.views n) → run_scene x ≡ run_scene w
@@ -254,6 +254,7 @@ runs-fresh c (Promoted a m) s n k e early apart = go (n == m) refl
         let all : s.done ≡ s.clock = (k.ring e).level (subst (λ (j : ℕ). (s.views j).attempt.entered ≡ false) same apart) in
         let seen : (s.views n).front ≡ s.clock = ap (λ (j : ℕ). (s.views j).front) same ∙ k.direct.front in omega arith
     go false q = (k.ring e).fresh n (eqb-false n m q)
+runs-fresh c (Giving a) s n k e early apart = k.fresh e n apart
 
 -- what is so of it
 pub record Leaves (s : RunScene) (n : ℕ) (u : RunView) : Type 0 where
@@ -326,6 +327,20 @@ runs-leave c r s n u l front plain k = by r front plain k
         suits : suit_part m (record s { views = put s.views n u }) ≡ suit_part m s
         suits = ap (λ (v : RunView). record { clock = s.clock; base = s.base; records = s.records; history = s.history; own = record { attempt = v.attempt; lock = v.lock; tml = v.tml; owned = v.owned } }) (put-else s.views n m u other)
 
+    gives : (a : Alg) → (u.front ≡ (s.views n).front) ⊎ (a ≡ RingSw → u.front ≤ s.done) → Gives a s → Gives a (record s { views = put s.views n u })
+    gives a low q = record {
+      heap = q.heap;
+      even = q.even;
+      fresh = λ e. put-all s.views n u (λ m v. v.attempt.entered ≡ false → v.front ≤ s.done)
+          (λ f. ⊎_elim (λ same. subst (λ (k : ℕ). k ≤ s.done) (sym same) (q.fresh e n (sym l.entered ∙ f))) (λ k. k e) low)
+          (λ m d f. q.fresh e m f);
+      level = λ e settled. q.level e (λ m. kept m (m == n) refl settled);
+    }
+      where
+        kept : (m : ℕ) (b : Bool) → (m == n) ≡ b → ((k : ℕ) → (put s.views n u k).attempt.entered ≡ false) → (s.views m).attempt.entered ≡ false
+        kept m true q settled = ap (λ (k : ℕ). (s.views k).attempt.entered) (eqb-true m n q) ∙ (sym l.entered ∙ (sym (ap (λ (v : RunView). v.attempt.entered) (put-here s.views n u)) ∙ settled n))
+        kept m false q settled = sym (ap (λ (v : RunView). v.attempt.entered) (put-else s.views n m u (eqb-false m n q))) ∙ settled m
+
     by : (p : Regime) → (u.front ≡ (s.views n).front) ⊎ (named_in p ≡ RingSw → u.front ≤ s.done) → ((a : Alg) → p ≡ Promoted a n → ⊥) → Runs c p s → Runs c p (record s { views = put s.views n u })
     by (Running Cgl) low apart q = cgl q
     by (Running Tml) low apart q = tml q
@@ -334,3 +349,4 @@ runs-leave c r s n u l front plain k = by r front plain k
     by (Running RingSw) low apart q = ring low q
     by (Running Serial) low apart q = cgl q
     by (Promoted a m) low apart q = direct a m (λ same. apart a (ap (Promoted a) same)) low q
+    by (Giving a) low apart q = gives a low q

@@ -5,7 +5,7 @@ use Rattle.rule_base.specs.StepKinds.{world_after}
 use Rattle.rule_base.specs.World.{World}
 use Rattle.rule_orec.specs.OrecRule.{orec_scene, stamp}
 use Rattle.stm_rule.specs.CoreRuns.{CoreStep, core_kind, CoreMay}
-use Rattle.stm_rule.specs.CoreRuns.CoreStep.{announces, loads_gate, departs, aims, takes_gate, checks, reopens, settles, evens_clock, stores_base, stores_done, installs, looks_gate, seizes, grants, orec_grants, orec_grants_all, direct_loads, direct_stores, direct_commits, returns, hears, loads_end, of_cgl, of_tml, of_orec, of_ring, look_grants, move_grants, direct_releases}
+use Rattle.stm_rule.specs.CoreRuns.CoreStep.{announces, loads_gate, departs, aims, takes_gate, checks, reopens, settles, evens_clock, stores_base, stores_done, installs, looks_gate, seizes, grants, orec_grants, orec_grants_all, direct_loads, direct_stores, direct_commits, returns, fences, fence_loads, fence_stores, fence_commits, unfences, hears, loads_end, of_cgl, of_tml, of_orec, of_ring, look_grants, move_grants, direct_releases}
 use Rattle.stm_rule.specs.Product.{Whole}
 
 -- the step is the store of a record by a promoted attempt
@@ -16,21 +16,26 @@ is_direct_release departs = false
 is_direct_release aims = false
 is_direct_release (takes_gate word) = false
 is_direct_release (checks other) = false
-is_direct_release (reopens alg) = false
+is_direct_release (reopens fence alg) = false
 is_direct_release settles = false
 is_direct_release (evens_clock time) = false
 is_direct_release (stores_base time) = false
 is_direct_release (stores_done time) = false
-is_direct_release (installs alg) = false
+is_direct_release (installs fence alg) = false
 is_direct_release looks_gate = false
-is_direct_release (seizes alg) = false
+is_direct_release (seizes fence alg) = false
 is_direct_release grants = false
 is_direct_release (orec_grants q b) = false
 is_direct_release orec_grants_all = false
 is_direct_release (direct_loads a) = false
 is_direct_release (direct_stores a x) = false
 is_direct_release (direct_commits alg time) = false
-is_direct_release (returns alg) = false
+is_direct_release (returns fence alg) = false
+is_direct_release (fences from count alg) = false
+is_direct_release (fence_loads a) = false
+is_direct_release (fence_stores a x) = false
+is_direct_release (fence_commits alg time) = false
+is_direct_release (unfences alg) = false
 is_direct_release hears = false
 is_direct_release loads_end = false
 is_direct_release (of_cgl step) = false

@@ -4,7 +4,7 @@
 ghost use Rattle.rule_base.specs.Encodings.{gate_word};
 ghost use Rattle.rule_base.specs.InstallSteps.{settle, CanSettle, even_clock, CanEvenClock, store_base, store_done, CanMark, install, CanInstall};
 ghost use Rattle.rule_base.specs.StepKinds.{Nothing};
-ghost use Rattle.std.specs.Prelude.{◌≡◌, ◌<◌, ◌+◌, true, ℕ};
+ghost use Rattle.std.specs.Prelude.{◌≡◌, ◌<◌, ◌+◌, ◌^◌, true, ℕ};
 ghost use Rattle.stm_model.specs.Algorithms.{is_built};
 ghost use Rattle.stm_rule.specs.Callers.{IsSeatOf};
 ghost use Rattle.stm_rule.specs.Findings.{FindsWithin};
@@ -60,15 +60,16 @@ impl<K: MemRule> Stm<K> {
     }
 
     /// Stores the gate, still closed by the caller, with another algorithm.
-    pub fn install(&self, seat: &mut Token<K>, caller: usize, alg: Alg)
+    pub fn install(&self, seat: &mut Token<K>, caller: usize, fence: u64, alg: Alg)
         requires seat { IsSeatOf self.now caller seat.old }
         requires caller { caller < self.now.config.callers }
         requires built { is_built alg ≡ true }
-        requires view { CanInstall alg (view_of seat.old) }
+        requires fence { fence < 2 ^ 48 }
+        requires view { CanInstall fence alg (view_of seat.old) }
         ensures same { IsSameSeat seat.old seat.new }
-        ensures step { SeatTells (install caller alg) Nothing seat.old.me.0 (gate_word (1 + caller) alg) seat.new.me.0 }
+        ensures step { SeatTells (install caller fence alg) Nothing seat.old.me.0 (gate_word fence (1 + caller) alg) seat.new.me.0 }
     {
-        let word = gate_word(1 + caller as u64, alg);
-        self.store_as::<Brand, (usize, Alg)>(seat, At::Gate, word, &(caller, alg));
+        let word = gate_word(fence, 1 + caller as u64, alg);
+        self.store_as::<Brand, (usize, u64, Alg)>(seat, At::Gate, word, &(caller, fence, alg));
     }
 }

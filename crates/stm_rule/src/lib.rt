@@ -4,6 +4,7 @@
 pub mod closing;
 pub mod desc;
 pub mod ending;
+mod fence_kinds;
 mod gate_kinds;
 mod install_kinds;
 pub mod laws;

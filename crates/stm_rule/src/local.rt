@@ -18,6 +18,8 @@ pub struct Local {
     /// Whether it is in the middle of its commit, which answered Again.
     pub committing: bool,
     pub algorithm: Alg,
+    /// The fence that the gate had when it let the attempt in or was closed, 0 for none.
+    pub fence: u64,
     pub start: u64,
     /// Whether the attempt wrote.
     pub wrote: bool,
@@ -37,6 +39,8 @@ pub struct Local {
     /// RingSW: the addresses that it loaded, and those that it wrote.
     pub loaded: Filter,
     pub stored: Filter,
+    /// How many marks stand.
+    pub depth: usize,
 }
 
 impl Local {
@@ -51,6 +55,7 @@ impl Local {
             running: false,
             committing: false,
             algorithm: Alg::Cgl,
+            fence: 0,
             start: 0,
             wrote: false,
             granted: false,
@@ -62,6 +67,7 @@ impl Local {
             locks: UndoLog::new(alloc, writes)?,
             loaded: Filter::new(),
             stored: Filter::new(),
+            depth: 0,
         })
     }
 
@@ -81,6 +87,7 @@ impl Local {
         self.locks.clear();
         self.loaded = Filter::new();
         self.stored = Filter::new();
+        self.depth = 0;
     }
 
     /// No attempt runs any more, and the gate isn't closed.

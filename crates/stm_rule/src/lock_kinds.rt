@@ -5,6 +5,7 @@ ghost use Rattle.rule_seq.specs.CglSteps.{take_lock, CanTakeLock, load_start, Ca
 ghost use Rattle.std.specs.Prelude.{◌<◌, ℕ, ◌≡◌};
 ghost use Rattle.stm_rule.specs.Callers.{IsSeatOf};
 ghost use Rattle.stm_rule.specs.Findings.{FindsLock};
+ghost use Rattle.stm_rule.specs.Lifting.{IsSpared};
 ghost use Rattle.stm_rule.specs.Kept.{good_of, SeatTells, IsSameSeat, view_of};
 
 use crate::stm::{Stm, Token};
@@ -38,6 +39,7 @@ impl<K: MemRule> Stm<K> {
     pub fn load_heap(&self, seat: &mut Token<K>, caller: usize, a: usize) -> u64
         requires seat { IsSeatOf self.now caller seat.old }
         requires view { CanLoadHeap self.now.config.words a (view_of seat.old) }
+        requires spared { IsSpared a (view_of seat.old) }
         ensures same { IsSameSeat seat.old seat.new }
         ensures step { SeatTells (load_heap a) (Loads (good_of K.good self.now.config self.now.rule) self.now.config a) seat.old.me.0 result seat.new.me.0 }
     {
@@ -48,6 +50,7 @@ impl<K: MemRule> Stm<K> {
     pub fn store_heap(&self, seat: &mut Token<K>, caller: usize, a: usize, x: u64)
         requires seat { IsSeatOf self.now caller seat.old }
         requires view { CanStoreHeap self.now.config.words a x (view_of seat.old) }
+        requires spared { IsSpared a (view_of seat.old) }
         ensures same { IsSameSeat seat.old seat.new }
         ensures step { SeatTells (store_heap a x) Nothing seat.old.me.0 x seat.new.me.0 }
     {
@@ -80,6 +83,7 @@ impl<K: MemRule> Stm<K> {
         requires seat { IsSeatOf self.now caller seat.old }
         requires place { a < self.now.config.words }
         requires view { CanLoadUndo a (view_of seat.old) }
+        requires spared { IsSpared a (view_of seat.old) }
         ensures same { IsSameSeat seat.old seat.new }
         ensures step { SeatTells (load_undo a) Nothing seat.old.me.0 result seat.new.me.0 }
     {

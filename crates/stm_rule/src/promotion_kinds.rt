@@ -5,9 +5,10 @@ ghost use Rattle.rule_base.specs.GateSteps.{look_gate, CanLookGate, seize, CanSe
 ghost use Rattle.rule_base.specs.StepKinds.{Nothing};
 ghost use Rattle.rule_seq.specs.CglSteps.{Loads, Commits};
 ghost use Rattle.rule_promoted.specs.PromotedSteps.{tml_grant, CanTmlGrant, direct_load, CanDirectLoad, direct_store, CanDirectStore, direct_commit, CanDirectCommit};
-ghost use Rattle.std.specs.Prelude.{◌<◌, ℕ, ◌≡◌};
+ghost use Rattle.std.specs.Prelude.{◌<◌, ℕ, ◌≡◌, ◌^◌};
 ghost use Rattle.stm_rule.specs.Callers.{IsSeatOf};
 ghost use Rattle.stm_rule.specs.Findings.{FindsGate, FindsTaken, FindsSole};
+ghost use Rattle.stm_rule.specs.Lifting.{IsSpared};
 ghost use Rattle.stm_rule.specs.Kept.{good_of, SeatTells, IsSameSeat, view_of};
 
 use crate::stm::{Stm, Token};
@@ -29,19 +30,20 @@ impl<K: MemRule> Stm<K> {
     }
 
     /// Exchanges the gate, open for the own word, to promote the attempt, and answers the word found.
-    pub fn seize(&self, seat: &mut Token<K>, caller: usize, alg: Alg) -> u64
+    pub fn seize(&self, seat: &mut Token<K>, caller: usize, fence: u64, alg: Alg) -> u64
         requires seat { IsSeatOf self.now caller seat.old }
         requires caller { caller < self.now.config.callers }
-        requires view { CanSeize alg (view_of seat.old) }
+        requires fence { fence < 2 ^ 48 }
+        requires view { CanSeize fence alg (view_of seat.old) }
         ensures same { IsSameSeat seat.old seat.new }
-        ensures step { SeatTells (seize caller alg) (FindsTaken self.now.config caller (gate_word 0 alg)) seat.old.me.0 result seat.new.me.0 }
+        ensures step { SeatTells (seize caller fence alg) (FindsTaken self.now.config caller (gate_word fence 0 alg)) seat.old.me.0 result seat.new.me.0 }
     {
-        self.exchange_as::<Brand, (usize, Alg)>(
+        self.exchange_as::<Brand, (usize, u64, Alg)>(
             seat,
             At::Gate,
-            gate_word(0, alg),
-            gate_word(1 + caller as u64, alg),
-            &(caller, alg),
+            gate_word(fence, 0, alg),
+            gate_word(fence, 1 + caller as u64, alg),
+            &(caller, fence, alg),
         )
     }
 
@@ -59,6 +61,7 @@ impl<K: MemRule> Stm<K> {
     pub fn direct_load(&self, seat: &mut Token<K>, caller: usize, a: usize) -> u64
         requires seat { IsSeatOf self.now caller seat.old }
         requires view { CanDirectLoad self.now.config.words a (view_of seat.old) }
+        requires spared { IsSpared a (view_of seat.old) }
         ensures same { IsSameSeat seat.old seat.new }
         ensures step { SeatTells (direct_load a) (Loads (good_of K.good self.now.config self.now.rule) self.now.config a) seat.old.me.0 result seat.new.me.0 }
     {
@@ -69,6 +72,7 @@ impl<K: MemRule> Stm<K> {
     pub fn direct_store(&self, seat: &mut Token<K>, caller: usize, a: usize, x: u64)
         requires seat { IsSeatOf self.now caller seat.old }
         requires view { CanDirectStore self.now.config.words a x (view_of seat.old) }
+        requires spared { IsSpared a (view_of seat.old) }
         ensures same { IsSameSeat seat.old seat.new }
         ensures step { SeatTells (direct_store a x) Nothing seat.old.me.0 x seat.new.me.0 }
     {
@@ -87,12 +91,14 @@ impl<K: MemRule> Stm<K> {
     }
 
     /// Stores the open gate at the end of an attempt that holds it.
-    pub fn return_gate(&self, seat: &mut Token<K>, caller: usize, alg: Alg)
+    pub fn return_gate(&self, seat: &mut Token<K>, caller: usize, fence: u64, alg: Alg)
         requires seat { IsSeatOf self.now caller seat.old }
-        requires view { CanReturn alg (view_of seat.old) }
+        requires fence { fence < 2 ^ 48 }
+        requires view { CanReturn fence alg (view_of seat.old) }
         ensures same { IsSameSeat seat.old seat.new }
-        ensures step { SeatTells (return_gate alg) Nothing seat.old.me.0 (gate_word 0 alg) seat.new.me.0 }
+        ensures step { SeatTells (return_gate fence alg) Nothing seat.old.me.0 (gate_word fence 0 alg) seat.new.me.0 }
     {
-        self.store_as::<Brand, (usize, Alg)>(seat, At::Gate, gate_word(0, alg), &(caller, alg));
+        let word = gate_word(fence, 0, alg);
+        self.store_as::<Brand, (usize, u64, Alg)>(seat, At::Gate, word, &(caller, fence, alg));
     }
 }

@@ -6,6 +6,7 @@ ghost use Rattle.rule_seq.specs.TmlSteps.{tml_begin, CanTmlBegin, tml_load, CanT
 ghost use Rattle.std.specs.Prelude.{◌<◌, ℕ, ◌≡◌};
 ghost use Rattle.stm_rule.specs.Callers.{IsSeatOf};
 ghost use Rattle.stm_rule.specs.Findings.{FindsSole, FindsBegin, FindsAgain};
+ghost use Rattle.stm_rule.specs.Lifting.{IsSpared};
 ghost use Rattle.stm_rule.specs.Kept.{good_of, SeatTells, IsSameSeat, view_of};
 
 use crate::stm::{Stm, Token};
@@ -28,6 +29,7 @@ impl<K: MemRule> Stm<K> {
     pub fn tml_load(&self, seat: &mut Token<K>, caller: usize, a: usize) -> u64
         requires seat { IsSeatOf self.now caller seat.old }
         requires view { CanTmlLoad self.now.config.words a (view_of seat.old) }
+        requires spared { IsSpared a (view_of seat.old) }
         ensures same { IsSameSeat seat.old seat.new }
         ensures step { SeatTells (tml_load a) (TmlLoads (good_of K.good self.now.config self.now.rule) self.now.config a) seat.old.me.0 result seat.new.me.0 }
     {
@@ -59,6 +61,7 @@ impl<K: MemRule> Stm<K> {
     pub fn tml_store(&self, seat: &mut Token<K>, caller: usize, a: usize, x: u64)
         requires seat { IsSeatOf self.now caller seat.old }
         requires view { CanTmlStore self.now.config.words a x (view_of seat.old) }
+        requires spared { IsSpared a (view_of seat.old) }
         ensures same { IsSameSeat seat.old seat.new }
         ensures step { SeatTells (tml_store a x) Nothing seat.old.me.0 x seat.new.me.0 }
     {

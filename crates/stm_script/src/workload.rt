@@ -63,6 +63,7 @@ impl Header {
             reads: self.reads,
             writes: self.writes,
             clock: self.clock,
+            fence: false,
         }
     }
 

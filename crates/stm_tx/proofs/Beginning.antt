@@ -1,7 +1,7 @@
 -- What the steps of a try to begin come to.
 use Rattle.std.proofs.Common.{ℕ, ◌≡◌, ◌≢◌, ◌<◌, List, [], ◌∷◌, ◌++◌, true, false, refl, sym, ap, ◌∙◌, arith, subst}
 use Rattle.std.proofs.lemmas.Bool.Decides.{nat_tests}
-use Rattle.std.specs.Prelude.{◌==◌, if◌then◌else◌, Some, None, reverse}
+use Rattle.std.specs.Prelude.{◌^◌, ◌==◌, if◌then◌else◌, Some, None, reverse}
 use Rattle.stm_model.specs.Algorithms.{asks_at_begin}
 use Rattle.stm_model.specs.declared.alg.Alg.{Alg}
 use Rattle.stm_model.specs.declared.alg.Alg.TheVariants.{Cgl, Tml, OrecLazy, OrecEager, RingSw, Serial}
@@ -12,7 +12,7 @@ use Rattle.rule_base.specs.declared.views.Act.TheVariants.{Load, Store}
 use Rattle.rule_base.specs.declared.views.Phase.TheVariants.{In, Turned}
 use Rattle.rule_base.specs.declared.views.TrailItem.{TrailItem}
 use Rattle.rule_base.specs.declared.views.View.{View}
-use Rattle.rule_base.specs.Encodings.{holder_of, alg_of, announced}
+use Rattle.rule_base.specs.Encodings.{holder_of, alg_of, fence_of, announced}
 use Rattle.rule_base.specs.GateSteps.{announce, load_gate, depart, departed}
 use Rattle.rule_base.specs.Own.{Own}
 use Rattle.rule_base.specs.StepKinds.{Nothing, Tells, view_after}
@@ -72,6 +72,7 @@ module _ (good : List ℕ → Type 0) (c : Config) (n : ℕ) where
     start = b.start;
     fresh = b.fresh;
     log = b.log;
+    unmarked = b.unmarked;
     opaque = b.opaque;
     granted = b.granted;
     holds = b.holds;
@@ -124,9 +125,9 @@ module _ (good : List ℕ → Type 0) (c : Config) (n : ℕ) where
     pub trail-looked : (known_of t o).trail ≡ first_steps gate ++ (known_of v o).trail
     trail-looked = same (λ y. y.steps.trail)
 
-    pub tells-begun : (start : ℕ) (w : View) (k : Local) → holder_of gate ≡ 0 → k.holds ≡ false → IsFresh o → StartsAt good c n (alg_of gate) start t w → BeginsAt good c n (alg_of gate) (known_of v o) (known_of w o)
-    tells-begun start w k zero free fresh b =
-        let i = b.inside k free in
+    pub tells-begun : (start : ℕ) (w : View) (k : Local) → holder_of gate ≡ 0 → fence_of gate < 2 ^ 48 → k.holds ≡ false → IsFresh o → StartsAt good c n (alg_of gate) start t w → BeginsAt good c n (alg_of gate) (known_of v o) (known_of w o)
+    tells-begun start w k zero fits free fresh b =
+        let i = b.inside (record k { fence = fence_of gate }) (record { is = b.fence ∙ same (λ y. y.gate.fence); fits = fits }) free in
         let q = b.starts o fresh in
         let g = q.keeps.grows in record {
           running = ap is_in i.phase;
@@ -140,6 +141,7 @@ module _ (good : List ℕ → Type 0) (c : Config) (n : ℕ) where
           start = subst (λ x. Found (start_word (alg_of gate)) x (known_of v o) (known_of w o)) (sym q.is) (found-earlier (start_word (alg_of gate)) start (known_of v o) (known_of t o) (known_of w o) q.found (first_steps gate) trail-looked);
           fresh = (let f = q.fresh in let s = q.is in let e : t.history.front ≡ v.history.front = same (λ y. y.history.front) in omega arith);
           log = q.log;
+          unmarked = (fresh.2, fresh.3);
           opaque = q.opaque;
           granted = q.granted;
           holds = b.reopened;

@@ -1,1 +1,2 @@
 pub mod Descs
+pub mod Nesting

@@ -1,18 +1,20 @@
 //! The calls of an attempt. Each takes a descriptor and its memory. None but `reserve` takes memory, none waits, and
 //! all return. The cost of each in atomic steps is said by its algorithm, in `alg_seq`, `alg_orec` and `alg_ring`.
-ghost use Rattle.std.specs.Prelude.{◌≡◌, ℕ, ◌<◌, ◌≤◌, ◌&&◌, true, MatchResult};
+ghost use Rattle.stm_gate.specs.Counting.{AddsAtMost};
+ghost use Rattle.std.specs.Prelude.{◌≡◌, ℕ, ◌<◌, ◌≤◌, ◌&&◌, true, MatchResult, ◌+◌, ◌*◌, false};
 ghost use Rattle.stm_model.specs.Algorithms.{is_built};
 ghost use Rattle.stm_rule.specs.Callers.{IsOf, IsSameCaller, IsSeatOf};
 ghost use Rattle.stm_rule.specs.Kept.{IsSameSeat, view_of};
 ghost use Rattle.tx_answers.specs.Answers.{Begins, HasRead, HasWritten, KeepsRule, Commits, Cancels, Irrevs};
 ghost use Rattle.tx_answers.specs.Known.{IsIdle, IsRunning, is_irrevocable, state_of};
 ghost use Rattle.stm_gate.specs.Starts.{CanBegin, Starts};
+ghost use Rattle.rule_base.specs.Encodings.{fenced};
 ghost use Rattle.stm_tx.specs.Descs.{Reserves, known, number};
 
 use alg_orec::{orec_eager, orec_lazy};
 use alg_ring::ring;
 use alg_seq::{cgl, serial, tml};
-use rule_base::words::{alg_of, holder_of};
+use rule_base::words::{alg_of, fence_of, holder_of};
 use std::alloc::Global;
 use stm_model::alg::Alg;
 use stm_model::memory::Memory;
@@ -46,6 +48,7 @@ pub fn try_begin<K: MemRule>(desc: &mut Desc<K>, stm: &Stm<K>) -> Begin
     let algorithm = alg_of(gate);
     match begin_under(&mut desc.seat, stm, caller, algorithm) {
         Ok(start) => {
+            desc.local.fence = fence_of(gate);
             desc.local.begin(algorithm, start);
             Begin::Begun(algorithm)
         }
@@ -92,8 +95,10 @@ pub fn read<K: MemRule>(desc: &mut Desc<K>, stm: &Stm<K>, a: usize) -> Read
     requires stm { IsOf desc.old stm.now }
     requires running { IsRunning (known desc.old) }
     requires inside { a < stm.now.config.words }
+    requires spared { fenced (known desc.old).fence a ≡ false }
     ensures same { IsSameCaller desc.old desc.new }
     ensures read { HasRead (K.good stm.now.rule) stm.now.config (number desc.old) a result (known desc.old) (known desc.new) }
+    ensures steps { AddsAtMost (8 + (known desc.old).reads_limit + 2 * (known desc.old).writes_limit + 16 * stm.now.config.ring) (known desc.old) (known desc.new) }
 {
     match desc.local.algorithm {
         Alg::Cgl => cgl::read(desc, stm, a),
@@ -115,6 +120,7 @@ pub fn write<K: MemRule>(desc: &mut Desc<K>, stm: &Stm<K>, a: usize, x: u64) -> 
     requires stm { IsOf desc.old stm.now }
     requires running { IsRunning (known desc.old) }
     requires inside { a < stm.now.config.words }
+    requires spared { fenced (known desc.old).fence a ≡ false }
     ensures same { IsSameCaller desc.old desc.new }
     ensures write { HasWritten (K.good stm.now.rule) stm.now.config (number desc.old) a x result (known desc.old) (known desc.new) }
 {
@@ -143,6 +149,7 @@ pub fn commit<K: MemRule>(desc: &mut Desc<K>, stm: &Stm<K>) -> Commit
     requires keeps { KeepsRule (K.good stm.now.rule) stm.now.config (number desc.old) (known desc.old) }
     ensures same { IsSameCaller desc.old desc.new }
     ensures commits { Commits (K.good stm.now.rule) stm.now.config (number desc.old) result (known desc.old) (known desc.new) }
+    ensures steps { AddsAtMost (10 + (known desc.old).reads_limit + 4 * (known desc.old).writes_limit + 16 * stm.now.config.ring) (known desc.old) (known desc.new) }
 {
     match desc.local.algorithm {
         Alg::Cgl => cgl::commit(desc, stm),
@@ -162,6 +169,7 @@ pub fn cancel<K: MemRule>(desc: &mut Desc<K>, stm: &Stm<K>) -> Cancel
     requires running { (known desc.old).running ≡ true }
     ensures same { IsSameCaller desc.old desc.new }
     ensures cancels { Cancels (K.good stm.now.rule) stm.now.config (number desc.old) result (known desc.old) (known desc.new) }
+    ensures steps { AddsAtMost (4 + 2 * (known desc.old).writes_limit) (known desc.old) (known desc.new) }
 {
     match desc.local.algorithm {
         Alg::Cgl => cgl::cancel(desc, stm),

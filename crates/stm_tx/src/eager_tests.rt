@@ -26,6 +26,7 @@ const PAIR: Config = Config {
     reads: 256,
     writes: 256,
     clock: 0,
+    fence: false,
 };
 
 /// The word of the record and the word as the reader loaded them, why its attempt ended, and the start of its next one

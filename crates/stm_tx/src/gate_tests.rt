@@ -29,6 +29,7 @@ fn memory(callers: usize) -> Config
         reads: 256,
         writes: 256,
         clock: 0,
+        fence: false,
     }
 }
 

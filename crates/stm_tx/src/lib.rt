@@ -11,6 +11,9 @@ mod gate_tests;
 #[cfg(test)]
 mod library_tests;
 pub mod live;
+pub mod nesting;
+#[cfg(test)]
+mod nesting_tests;
 #[cfg(test)]
 mod orec_tests;
 #[cfg(test)]

@@ -113,6 +113,7 @@ fn fill(alloc: Global) -> Result<([Option<bool>; 4], Vec<u64>), NewError> {
         reads: 8,
         writes: 8,
         clock: 0,
+        fence: false,
     };
     let (stm, mut descs) = Stm::new(alloc, config, Shelf { room: 3 })?;
     let (Some(mut second), Some(mut first)) = (descs.pop(), descs.pop()) else {

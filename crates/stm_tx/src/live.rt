@@ -26,6 +26,7 @@ pub struct Live<'a, K: MemRule, C: Calls> {
     pub ghost runs: { (known desc.now).running ≡ is_none stopped },
     pub ghost served: { C.acts_as (known desc.now).alg ≡ (known desc.now).alg },
     pub ghost open: { is_none stopped ≡ true → (known desc.now).committing ≡ false },
+    pub ghost unfenced: { is_none stopped ≡ true → (known desc.now).fence ≡ 0 },
 }
 
 impl<'a, K: MemRule, C: Calls> Access for Live<'a, K, C> {

@@ -25,6 +25,7 @@ const SHORT: Config = Config {
     reads: 2,
     writes: 2,
     clock: 0,
+    fence: false,
 };
 
 /// Begins an attempt, and answers what the write of a third word comes to.

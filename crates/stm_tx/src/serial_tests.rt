@@ -26,6 +26,7 @@ const ALONE: Config = Config {
     reads: 256,
     writes: 2,
     clock: 0,
+    fence: false,
 };
 
 /// Installs the algorithm. Answers whether the gate was free and the caller alone.

@@ -1,6 +1,7 @@
 //! Reads and writes by the algorithms that they serve. Code that is generic in them is compiled once for each
 //! algorithm, with direct calls.
-ghost use Rattle.std.specs.Prelude.{◌≡◌, ◌<◌};
+ghost use Rattle.std.specs.Prelude.{◌≡◌, ◌<◌, false};
+ghost use Rattle.rule_base.specs.Encodings.{fenced};
 ghost use Rattle.stm_rule.specs.Callers.{IsOf, IsSameCaller};
 ghost use Rattle.tx_answers.specs.Answers.{HasRead, HasWritten};
 ghost use Rattle.tx_answers.specs.Known.{IsRunning};
@@ -28,6 +29,7 @@ pub trait Calls {
         requires running { IsRunning (known desc.old) }
         requires served { acts_as (known desc.old).alg ≡ (known desc.old).alg }
         requires inside { a < stm.now.config.words }
+        requires spared { fenced (known desc.old).fence a ≡ false }
         ensures same { IsSameCaller desc.old desc.new }
         ensures read { HasRead (K.good stm.now.rule) stm.now.config (number desc.old) a result (known desc.old) (known desc.new) };
 
@@ -36,6 +38,7 @@ pub trait Calls {
         requires running { IsRunning (known desc.old) }
         requires served { acts_as (known desc.old).alg ≡ (known desc.old).alg }
         requires inside { a < stm.now.config.words }
+        requires spared { fenced (known desc.old).fence a ≡ false }
         ensures same { IsSameCaller desc.old desc.new }
         ensures write { HasWritten (K.good stm.now.rule) stm.now.config (number desc.old) a x result (known desc.old) (known desc.new) };
 }

@@ -31,6 +31,7 @@ pub(crate) const PAIR: Config = Config {
     reads: 256,
     writes: 256,
     clock: 0,
+    fence: false,
 };
 
 /// Caller 0 writes 5 to word 0, and then caller 1 reads it. Answers whether all went so.

@@ -1,5 +1,5 @@
 -- When each answer comes, and what stands after it.
-use Rattle.std.specs.Prelude.{ℕ, ◌≡◌, ◌≢◌, ◌<◌, ◌≤◌, ◌+◌, ◌%◌, ◌^◌, ◌⊎◌, max, min, Some, None, Bool, true, false, List, [], ◌∷◌, ◌++◌, length}
+use Rattle.std.specs.Prelude.{ℕ, ◌≡◌, ◌≢◌, ◌<◌, ◌≤◌, ◌+◌, ◌%◌, ◌^◌, ◌⊎◌, max, min, Some, None, Bool, true, false, List, [], ◌∷◌, ◌++◌, ◌-◌, length, get_or, take}
 use Rattle.stm_model.specs.Algorithms.{is_built, asks_at_begin, asks_at_write, asks_at_commit, asks_at_grant, closes_gate, entry_rise, quit_rise, install_rise}
 use Rattle.stm_model.specs.declared.alg.Alg.{Alg}
 use Rattle.stm_model.specs.declared.alg.Alg.TheVariants.{Cgl, Tml, OrecLazy, OrecEager, RingSw, Serial}
@@ -18,6 +18,12 @@ use Rattle.tx_answers.specs.declared.answers.Begin.{Begin}
 use Rattle.tx_answers.specs.declared.answers.Begin.TheVariants.{Begun, Closed, Held, ClockFull}
 use Rattle.tx_answers.specs.declared.answers.Cancel.{Cancel}
 use Rattle.tx_answers.specs.declared.answers.Cancel.TheVariants.{Cancelled, Irrevocable}
+use Rattle.tx_answers.specs.declared.answers.Check.{Check}
+use Rattle.tx_answers.specs.declared.answers.Check.TheVariants.{Marked, Deep}
+use Rattle.tx_answers.specs.declared.answers.Roll.{Roll}
+use Rattle.tx_answers.specs.declared.answers.Roll.TheVariants.{Rolled}
+use Rattle.tx_answers.specs.declared.answers.Roll.TheVariants as rolls
+use Rattle.tx_logs.specs.declared.marks.TheConstants.{MAX_MARKS}
 use Rattle.tx_answers.specs.declared.answers.CloseGate.{CloseGate}
 use Rattle.tx_answers.specs.declared.answers.CloseGate.TheVariants as gates
 use Rattle.tx_answers.specs.declared.answers.Commit.{Commit}
@@ -81,10 +87,29 @@ pub record Continues (v w : Known) : Type 0 where
   pub made : w.made ≡ v.made
   pub grows : Grows v w
   pub alg : w.alg ≡ v.alg
+  pub fence : w.fence ≡ v.fence
   pub base : w.base ≡ v.base
   pub rises : (v.rises ≤ w.rises) × (w.rises ≤ v.rises + write_rise v.alg (is_irrevocable v))
   pub later : v.start ≤ w.start
   pub installs : w.installs ≡ v.installs
+  pub depth : w.depth ≡ v.depth
+
+-- the attempt stays open, and all but its log and its marks is as it was
+pub record StaysOpen (v w : Known) : Type 0 where
+  pub running : w.running ≡ true
+  pub uncommitted : w.committing ≡ false
+  pub closing : w.closing ≡ false
+  pub made : w.made ≡ v.made
+  pub grows : Grows v w
+  pub alg : w.alg ≡ v.alg
+  pub fence : w.fence ≡ v.fence
+  pub base : w.base ≡ v.base
+  pub rises : w.rises ≡ v.rises
+  pub start : w.start ≡ v.start
+  pub installs : w.installs ≡ v.installs
+  pub granted : w.granted ≡ v.granted
+  pub holds : w.holds ≡ v.holds
+  pub checked : w.checked ≡ v.checked
 
 -- the attempt stays open, and as it was toward the others
 pub record GoesOn (v w : Known) : Type 0 where
@@ -93,6 +118,22 @@ pub record GoesOn (v w : Known) : Type 0 where
   pub granted : w.granted ≡ v.granted
   pub holds : w.holds ≡ v.holds
   pub checked : w.checked ≡ v.checked
+  pub marks : w.marks ≡ v.marks
+
+-- a mark more, at what the attempt has written, unless it can't be taken back any more; nothing else changes
+pub record IsMarked (v w : Known) : Type 0 where
+  pub is : w ≡ record v { depth = v.depth + 1; marks = w.marks }
+  pub marks : is_irrevocable v ≡ false → (length v.marks ≡ v.depth) × (w.marks ≡ v.marks ++ v.log.writes ∷ [])
+
+-- what `checkpoint` tells
+abbrev pub Checks : Check → Known → Known → Type 0
+Checks (Marked depth) v w = (v.depth < MAX_MARKS) × (depth ≡ v.depth + 1) × IsMarked v w
+Checks (Deep limit) v w = (MAX_MARKS ≤ v.depth) × (limit ≡ MAX_MARKS) × (w ≡ v)
+
+-- what `release` from mark d on does: the writes stay
+pub record Releases (d : ℕ) (v w : Known) : Type 0 where
+  pub is : w ≡ record v { depth = d - 1; marks = w.marks }
+  pub marks : is_irrevocable v ≡ false → w.marks ≡ take (d - 1) v.marks
 
 -- the caller holds the gate that it closed, and is in no attempt
 pub record HoldsClosed (w : Known) : Type 0 where
@@ -160,6 +201,7 @@ module _ (good : List ℕ → Type 0) (c : Config) (n : ℕ) where
     pub start : Found (start_word alg) w.start v w
     pub fresh : v.front ≤ w.start
     pub log : w.log ≡ no_log
+    pub unmarked : (w.depth ≡ 0) × (w.marks ≡ [])
     pub opaque : IsOpaque w
     pub granted : w.granted ≡ false
     pub holds : w.holds ≡ false
@@ -202,6 +244,21 @@ module _ (good : List ℕ → Type 0) (c : Config) (n : ℕ) where
   HasWritten a x (Conflict cause) v w = Quits v w × Conflicts c n (Some a) cause v w × HasOthers × (writes_full a v ≡ false)
   HasWritten a x (Full limit) v w = Quits v w × (writes_full a v ≡ true) × (limit ≡ v.writes_limit)
   HasWritten a x (ClockFull clock) v w = Quits v w × (asks_at_write v.alg ≡ true) × FindsFull clock v w × (writes_full a v ≡ false)
+
+  -- the attempt goes on: what it has written is what it had at mark d, which stands, and what it has read is read
+  pub record IsRolled (d : ℕ) (v w : Known) : Type 0 where
+    pub stays : StaysOpen v w
+    pub within : d ≤ length v.marks
+    pub reads : w.log.reads ≡ v.log.reads
+    pub writes : w.log.writes ≡ get_or v.marks (d - 1) []
+    pub depth : w.depth ≡ d
+    pub marks : w.marks ≡ take d v.marks
+    pub opaque : IsOpaque w
+
+  -- what `roll_to` mark d tells
+  abbrev pub Rolls : ℕ → Roll → Known → Known → Type 0
+  Rolls d Rolled v w = IsRolled d v w × (is_irrevocable v ≡ false)
+  Rolls d rolls.Irrevocable v w = (w ≡ v) × (is_irrevocable v ≡ true)
 
   -- what `commit` asks: an attempt that wrote keeps the user's rule
   abbrev pub KeepsRule : Known → Type 0
@@ -277,6 +334,7 @@ module _ (good : List ℕ → Type 0) (c : Config) (n : ℕ) where
     pub granted : w.granted ≡ v.granted
     pub revocable : is_irrevocable v ≡ false
     pub closes : closes_gate v.alg ≡ true
+    pub marks : w.marks ≡ v.marks
 
   -- what `try_irrevocable` tells
   abbrev pub Irrevs : Irrev → Known → Known → Type 0

@@ -35,6 +35,8 @@ pub record Known : Type 0 where
   -- it has closed the gate, to install or to be alone with its attempt
   pub holds : Bool
   pub alg : Alg
+  -- the fence of the gate that it loaded last, 0 for none
+  pub fence : ℕ
   -- the callers that it has seen idle since it closed the gate; and whether it installed since: BASE and DONE are the clock
   pub checked : List ℕ
   pub settled : Bool
@@ -50,6 +52,9 @@ pub record Known : Type 0 where
   pub installs : List Alg
   pub start : ℕ
   pub log : Log
+  -- how many marks stand; and while the attempt can be taken back, what it had written at each, the oldest first
+  pub depth : ℕ
+  pub marks : List (List (ℕ × ℕ))
   -- how many items its read log, and its write or undo log, may have
   pub reads_limit : ℕ
   pub writes_limit : ℕ
@@ -119,6 +124,7 @@ known_of v own = record {
   closing = is_closing v.gate.phase;
   holds = v.gate.holds;
   alg = v.gate.algorithm;
+  fence = v.gate.fence;
   checked = v.gate.checked;
   settled = is_settled v.gate;
   granted = granted_under v.gate.algorithm v.gate v.lock;
@@ -129,6 +135,8 @@ known_of v own = record {
   installs = reverse v.steps.installs;
   start = v.attempt.start;
   log = record { reads = items v.attempt.reads; writes = written_under v.gate.algorithm v.gate.granted v own };
+  depth = own.depth;
+  marks = own.marks;
   reads_limit = own.reads_limit;
   writes_limit = own.writes_limit;
 }

@@ -22,6 +22,9 @@ pub record IsStillIn (v w : Known) : Type 0 where
   pub start : v.start ≤ w.start
   pub granted : w.granted ≡ v.granted
   pub holds : w.holds ≡ v.holds
+  pub depth : w.depth ≡ v.depth
+  pub marks : w.marks ≡ v.marks
+  pub fence : w.fence ≡ v.fence
 
 -- what stays of a caller through an attempt, however it ends but by a commit
 pub record Carries (v w : Known) : Type 0 where
@@ -64,7 +67,7 @@ grows-trans u v w a b =
     }
 
 pub carries-refl : (v : Known) → Carries v v
-carries-refl v = record { made = refl; grows = grows-same v v refl refl [] refl refl refl; closing = refl; alg = refl; installs = refl; base = refl; pays = omega arith; going = λ r. record { running = r; start = le_refl v.start; granted = refl; holds = refl }; sure = λ r i. (r, i) }
+carries-refl v = record { made = refl; grows = grows-same v v refl refl [] refl refl refl; closing = refl; alg = refl; installs = refl; base = refl; pays = omega arith; going = λ r. record { running = r; start = le_refl v.start; granted = refl; holds = refl; depth = refl; marks = refl; fence = refl }; sure = λ r i. (r, i) }
 
 pub carries-trans : (u v w : Known) → Carries u v → Carries v w → Carries u w
 carries-trans u v w a b = record {
@@ -75,7 +78,7 @@ carries-trans u v w a b = record {
   installs = b.installs ∙ a.installs;
   base = b.base ∙ a.base;
   pays = (let x = a.pays in let y = b.pays in omega arith);
-  going = λ r. let y = b.going r in let x = a.going y.running in record { running = x.running; start = (let m = x.start in let n = y.start in omega arith); granted = y.granted ∙ x.granted; holds = y.holds ∙ x.holds };
+  going = λ r. let y = b.going r in let x = a.going y.running in record { running = x.running; start = (let m = x.start in let n = y.start in omega arith); granted = y.granted ∙ x.granted; holds = y.holds ∙ x.holds; depth = y.depth ∙ x.depth; marks = y.marks ∙ x.marks; fence = y.fence ∙ x.fence };
   sure = λ r i. let m = a.sure r i in b.sure m.0 m.1;
 }
 
@@ -101,7 +104,7 @@ carries-goes v w running closing g sure = let k = g.continues in record {
   installs = k.installs;
   base = k.base;
   pays = owed-goes v w k.running running k.base;
-  going = λ r. record { running = running; start = k.later; granted = g.granted; holds = g.holds };
+  going = λ r. record { running = running; start = k.later; granted = g.granted; holds = g.holds; depth = k.depth; marks = g.marks; fence = k.fence };
   sure = λ r i. (k.running, sure i);
 }
   where

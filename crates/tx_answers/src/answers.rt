@@ -76,6 +76,24 @@ pub enum Irrev {
     ClockFull { clock: u64 },
 }
 
+/// What a call for a mark comes to. Both leave the attempt running.
+#[derive(Clone, Copy, Drop, Debug, PartialEq, Eq)]
+pub enum Check {
+    /// This mark stands, at what the attempt has written; the first is 1.
+    Marked { depth: usize },
+    /// As many marks stand as may: nothing has changed.
+    Deep { limit: usize },
+}
+
+/// What a call to roll an attempt back to a mark comes to. Both leave it running.
+#[derive(Clone, Copy, Drop, Debug, PartialEq, Eq)]
+pub enum Roll {
+    /// What the attempt wrote since is as if it had not been written.
+    Rolled,
+    /// The attempt can only be committed: nothing has changed.
+    Irrevocable,
+}
+
 /// What a try to close the gate comes to.
 #[derive(Clone, Copy, Drop, Debug, PartialEq, Eq)]
 pub enum CloseGate {

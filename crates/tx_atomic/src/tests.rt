@@ -53,6 +53,7 @@ const COUNTING: Config = Config {
     reads: 4,
     writes: 4,
     clock: 0,
+    fence: false,
 };
 
 /// How often each caller counts.

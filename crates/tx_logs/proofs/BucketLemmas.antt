@@ -1,19 +1,19 @@
 -- Searches and changes of an index.
 use Rattle.std.proofs.Common.{ℕ, zero, suc, ◌≡◌, ◌≢◌, ◌<◌, ◌≤◌, ◌+◌, ◌-◌, ◌*◌, ◌%◌, ◌⊎◌, inl, inr, List, [], ◌∷◌, ◌++◌, length, get_or, set, take, drop, Bool, true, false, refl, sym, ap, ◌∙◌, subst, arith, length-append, length-drop}
-use Rattle.std.specs.Prelude.{nat_lt, Some, None, MatchOption, ◌==◌, if◌then◌else◌}
+use Rattle.std.specs.Prelude.{nat_lt, Option, Some, None, MatchOption, ◌==◌, if◌then◌else◌}
 use Rattle.std.specs.List.{sum_by}
 use Rattle.std.proofs.lemmas.Bool.{cases_lt, cases_order}
 use Rattle.std.proofs.lemmas.Bool.Decides.{nat_tests}
 use Rattle.std.proofs.lemmas.Nat.{mod_below}
 use Rattle.std.proofs.Math.Nat.{mod-eq_of_lt, add-mod_left, mul-add-mod_self_right}
-use Rattle.std.proofs.lemmas.List.{append-nil, drop_all, length-set, length-take-le, get_or-set_same, get_or-set_other, get_or-drop, get_or-take, get_or_append_left, get_or-append_right}
+use Rattle.std.proofs.lemmas.List.{append-nil, drop_all, length-set, length-take-le, get_or-set_same, get_or-set_other, get_or-drop, get_or-take, get_or_append_left, get_or-append_right, take_more}
 use Rattle.std.proofs.lemmas.List.Sums.{sum_by-append, sum_by-cons, sum_by-set, sum_by-take-drop}
 use Rattle.std.proofs.Math.Seq.{get_or-append_seam, take-length}
-use Rattle.stm_model.specs.Memories.{item_at}
+use Rattle.stm_model.specs.Memories.{item_at, Once}
 use Rattle.tx_logs.specs.declared.index.Bucket.{Bucket}
 use Rattle.tx_logs.specs.declared.index.Lookup.{Lookup}
 use Rattle.tx_logs.specs.Buckets.{wrapped, blank, bucket_at, address_of, AllTaken, taken, Reaches, IsIndex, IsLookup}
-use Rattle.tx_logs.proofs.ItemLemmas.{SameAddresses, none-where, once-same, once-more}
+use Rattle.tx_logs.proofs.ItemLemmas.{SameAddresses, none-other, none-where, once-same, once-more, once-less, once-apart}
 
 pub wrapped-low : (m x : ℕ) → x < m → wrapped m x ≡ x
 wrapped-low m x h = by (nat_lt x m) refl
@@ -128,6 +128,7 @@ index-empty g bs h = record {
   once = tt;
   reached = λ i l. absurd (omega arith);
   names = λ x l e. absurd (omega (arith, below x l));
+  single = λ x y l b e. absurd (omega (arith, below x l));
   latest = λ x l. (let b = below x l in omega arith);
   few = none-taken bs h;
 }
@@ -157,9 +158,18 @@ reaches-set g bs at q x i l n s = record {
   distance = s.distance;
   within = rw (length-set bs at q) s.within;
   passed = λ k b. ap (λ (p : Bucket). p.mark) (bucket-set g bs at q (x + k) l n (s.passed k b)) ∙ s.passed k b;
+  earlier = λ k b. (let e = s.earlier k b in omega (arith, ap (λ (p : Bucket). p.item) (bucket-set g bs at q (x + k) l n (s.passed k b))));
   mark = ap (λ (p : Bucket). p.mark) (bucket-set g bs at q (x + s.distance) l n s.mark) ∙ s.mark;
   item = ap (λ (p : Bucket). p.item) (bucket-set g bs at q (x + s.distance) l n s.mark) ∙ s.item;
 }
+
+-- a taken bucket names an item, counted round the end too
+names-on : (g : ℕ) (items : List (ℕ × ℕ)) (bs : List Bucket) (y : ℕ) → IsIndex g items bs → y < length bs + length bs → (bucket_at bs y).mark ≡ g → (bucket_at bs y).item < length items
+names-on g items bs y x low m =
+    let w = wrapped-below (length bs) y low in
+    let same : bucket_at bs (wrapped (length bs) y) ≡ bucket_at bs y = ap (λ (z : ℕ). get_or bs z blank) (wrapped-low (length bs) (wrapped (length bs) y) w) in
+    let i : (bucket_at bs (wrapped (length bs) y)).item < length items = x.names (wrapped (length bs) y) w (ap (λ (p : Bucket). p.mark) same ∙ m) in
+    omega (arith, ap (λ (p : Bucket). p.item) same)
 
 -- a new item, at the open bucket where its search ended
 pub index-more : (g : ℕ) (items : List (ℕ × ℕ)) (bs : List Bucket) (a v at d : ℕ) → IsIndex g items bs → item_at a items ≡ None → at < length bs → d < length bs → at ≡ wrapped (length bs) (a % length bs + d) → AllTaken g bs (a % length bs) d → (bucket_at bs at).mark ≢ g → IsIndex g (items ++ (a, v) ∷ []) (set bs at (record { mark = g; item = length items }))
@@ -167,6 +177,7 @@ index-more g items bs a v at d x new-here l ld is passed n = record {
   once = once-more items a v x.once new-here;
   reached = reached;
   names = names;
+  single = single;
   latest = latest;
   few = few;
 }
@@ -180,12 +191,19 @@ index-more g items bs a v at d x new-here l ld is passed n = record {
     size : length (set bs at q) ≡ length bs
     size = length-set bs at q
 
+    home : a % length bs < length bs
+    home = mod_below a (length bs) (omega arith)
+
+    passed-names : (k : ℕ) → k < d → (bucket_at bs (a % length bs + k)).item < length items
+    passed-names k b = names-on g items bs (a % length bs + k) x (let h = home in omega arith) (passed k b)
+
     new : Reaches g (set bs at q) (a % length bs) (length items)
     new =
         let e = bucket-new bs at q (a % length bs + d) l (sym is) in record {
           distance = d;
           within = rw size ld;
           passed = λ k b. ap (λ (p : Bucket). p.mark) (bucket-set g bs at q (a % length bs + k) l n (passed k b)) ∙ passed k b;
+          earlier = λ k b. (let m = passed-names k b in omega (arith, ap (λ (p : Bucket). p.item) (bucket-set g bs at q (a % length bs + k) l n (passed k b))));
           mark = ap (λ (p : Bucket). p.mark) e;
           item = ap (λ (p : Bucket). p.item) e;
         }
@@ -211,6 +229,31 @@ index-more g items bs a v at d x new-here l ld is passed n = record {
       | inr e ↦ (let i : (bucket_at bs y).item < length items = x.names y (omega (arith, size)) (sym (ap (λ (p : Bucket). p.mark) e) ∙ t) in omega (arith, more, ap (λ (p : Bucket). p.item) e))
     ]
 
+    apart : (y : ℕ) → y < length (set bs at q) → y ≢ at → bucket_at (set bs at q) y ≡ bucket_at bs y
+    apart y b o = rw (size, wrapped-low (length bs) y (omega (arith, size))) (get_or-set_other bs at y q _ o)
+
+    -- who names the new item is the new bucket
+    old-names : (y : ℕ) → y < length (set bs at q) → y ≢ at → (bucket_at (set bs at q) y).mark ≡ g → (bucket_at (set bs at q) y).item < length items
+    old-names y b o t =
+        let i : (bucket_at bs y).item < length items = x.names y (omega (arith, size)) (sym (ap (λ (p : Bucket). p.mark) (apart y b o)) ∙ t) in
+        omega (arith, ap (λ (p : Bucket). p.item) (apart y b o))
+
+    at-new : (y : ℕ) → y ≡ at → (bucket_at (set bs at q) y).item ≡ length items
+    at-new y e = ap (λ (p : Bucket). p.item) (bucket-new bs at q y l (wrapped-low (length bs) y (omega arith) ∙ e))
+
+    single : (y z : ℕ) → y < length (set bs at q) → z < length (set bs at q) → (bucket_at (set bs at q) y).mark ≡ g → (bucket_at (set bs at q) z).mark ≡ g → (bucket_at (set bs at q) y).item ≡ (bucket_at (set bs at q) z).item → y ≡ z
+    single y z ly lz my mz e = elim (same y) [
+      | inl f ↦ elim (same z) [ inl h ↦ f ∙ sym h | inr o ↦ absurd (omega (arith, at-new y f, old-names z lz o mz, e)) ]
+      | inr o ↦ elim (same z) [
+        | inl h ↦ absurd (omega (arith, at-new z h, old-names y ly o my, e))
+        | inr r ↦ x.single y z (omega (arith, size)) (omega (arith, size)) (sym (ap (λ (p : Bucket). p.mark) (apart y ly o)) ∙ my) (sym (ap (λ (p : Bucket). p.mark) (apart z lz r)) ∙ mz)
+            (sym (ap (λ (p : Bucket). p.item) (apart y ly o)) ∙ (e ∙ ap (λ (p : Bucket). p.item) (apart z lz r)))
+      ]
+    ]
+      where
+        same : (y : ℕ) → (y ≡ at) ⊎ (y ≢ at)
+        same y = elim (cases_order y at) [ inl e ↦ inl e | inr o ↦ inr (λ e. elim o [ inl f ↦ omega arith | inr f ↦ omega arith ]) ]
+
     latest : (y : ℕ) → y < length (set bs at q) → (bucket_at (set bs at q) y).mark ≤ g
     latest y b = elim (either y b) [
       | inl e ↦ omega (arith, ap (λ (p : Bucket). p.mark) e)
@@ -233,6 +276,7 @@ index-same g items others bs s x = record {
   once = once-same items others s x.once;
   reached = λ i l. (let e : address_of others i ≡ address_of items i = s.each i (omega (arith, s.size)) in rw e (x.reached i (omega (arith, s.size))));
   names = λ y l t. rw s.size (x.names y l t);
+  single = x.single;
   latest = x.latest;
   few = rw s.size x.few;
 }
@@ -249,23 +293,27 @@ set-same items i a v l e = record {
 -- the same in the words of a search
 pub index-push : (g : ℕ) (items : List (ℕ × ℕ)) (bs : List Bucket) (a v : ℕ) (s : Lookup) → IsIndex g items bs → length items < length bs → IsLookup g items bs a s → s.item ≡ None → IsIndex g (items ++ (a, v) ∷ []) (set bs s.at (record { mark = g; item = length items }))
 index-push g items bs a v s x room found e =
-    let answer = subst (λ o. MatchOption o ((item_at a items ≡ None) × ((bucket_at bs s.at).mark ≢ g)) (λ i. (i < length items) × (address_of items i ≡ a))) e found.answer in
+    let answer = subst (λ o. MatchOption o ((item_at a items ≡ None) × ((bucket_at bs s.at).mark ≢ g)) (λ i. (i < length items) × (address_of items i ≡ a) × ((bucket_at bs s.at).mark ≡ g) × ((bucket_at bs s.at).item ≡ i))) e found.answer in
     index-more g items bs a v s.at s.distance x answer.0 found.within (omega (arith, found.distance)) found.at found.passed answer.1
 
+-- and the bucket where it ends names it
+pub lookup-where : (g : ℕ) (items : List (ℕ × ℕ)) (bs : List Bucket) (a i : ℕ) (s : Lookup) → IsLookup g items bs a s → s.item ≡ Some i → (i < length items) × (address_of items i ≡ a) × ((bucket_at bs s.at).mark ≡ g) × ((bucket_at bs s.at).item ≡ i)
+lookup-where g items bs a i s found e =
+    subst (λ o. MatchOption o ((item_at a items ≡ None) × ((bucket_at bs s.at).mark ≢ g)) (λ i. (i < length items) × (address_of items i ≡ a) × ((bucket_at bs s.at).mark ≡ g) × ((bucket_at bs s.at).item ≡ i))) e found.answer
+
 pub lookup-found : (g : ℕ) (items : List (ℕ × ℕ)) (bs : List Bucket) (a i : ℕ) (s : Lookup) → IsLookup g items bs a s → s.item ≡ Some i → (i < length items) × (address_of items i ≡ a)
-lookup-found g items bs a i s found e =
-    subst (λ o. MatchOption o ((item_at a items ≡ None) × ((bucket_at bs s.at).mark ≢ g)) (λ i. (i < length items) × (address_of items i ≡ a))) e found.answer
+lookup-found g items bs a i s found e = let h = lookup-where g items bs a i s found e in (h.0, h.1)
 
 pub lookup-new : (g : ℕ) (items : List (ℕ × ℕ)) (bs : List Bucket) (a : ℕ) (s : Lookup) → IsLookup g items bs a s → s.item ≡ None → item_at a items ≡ None
 lookup-new g items bs a s found e =
-    (subst (λ o. MatchOption o ((item_at a items ≡ None) × ((bucket_at bs s.at).mark ≢ g)) (λ i. (i < length items) × (address_of items i ≡ a))) e found.answer).0
+    (subst (λ o. MatchOption o ((item_at a items ≡ None) × ((bucket_at bs s.at).mark ≢ g)) (λ i. (i < length items) × (address_of items i ≡ a) × ((bucket_at bs s.at).mark ≡ g) × ((bucket_at bs s.at).item ≡ i))) e found.answer).0
 
 -- a greater generation leaves every bucket open
 pub raised : (g : ℕ) (items : List (ℕ × ℕ)) (bs : List Bucket) → IsIndex g items bs → IsIndex (g + 1) [] bs
 raised g items bs x = index-empty (g + 1) bs (λ y l. (let m : (bucket_at bs y).mark ≤ g = x.latest y l in omega (arith, ap (λ (p : Bucket). p.mark) (here-is bs y l))))
 
 -- a slice of a whole list that was written leaves the written list
-pub written-over : (new old : List Bucket) (n : ℕ) → length new ≡ length old → n ≡ length new → take n (new ++ drop (length new) old) ≡ new
+pub written-over : {X : Type 0} (new old : List X) (n : ℕ) → length new ≡ length old → n ≡ length new → take n (new ++ drop (length new) old) ≡ new
 written-over new old n e f =
     let rest : drop (length new) old ≡ [] = drop_all (length new) old (omega arith) in
     rw (rest, append-nil new, f) (take-length new)
@@ -283,3 +331,115 @@ pub rest-more : (m q a : ℕ) → q * m ≤ a → m ≤ a - q * m → a - q * m 
 rest-more m q a h o l =
     let e : m + (a - q * m - m) ≡ a - q * m = omega arith in
     sym (mod-eq_of_lt l) ∙ (sym (add-mod_left m (a - q * m - m)) ∙ (ap (λ x. x % m) e ∙ rest-mod m q a h))
+
+-- the last item goes, and its bucket is open
+pub index-pop : (g : ℕ) (items : List (ℕ × ℕ)) (bs : List Bucket) (a v at : ℕ) → IsIndex g (items ++ (a, v) ∷ []) bs → 0 < g → at < length bs → (bucket_at bs at).mark ≡ g → (bucket_at bs at).item ≡ length items → IsIndex g items (set bs at (record { mark = 0; item = 0 }))
+index-pop g items bs a v at x some l m is = record {
+  once = once-less items a v x.once;
+  reached = reached;
+  names = names;
+  single = single;
+  latest = latest;
+  few = few;
+}
+  where
+    q : Bucket
+    q = record { mark = 0; item = 0 }
+
+    more : length (items ++ (a, v) ∷ []) ≡ length items + 1
+    more = length-append items ((a, v) ∷ [])
+
+    size : length (set bs at q) ≡ length bs
+    size = length-set bs at q
+
+    -- a bucket that names an earlier item is another
+    spared : (y : ℕ) → (bucket_at bs y).item < length items → bucket_at (set bs at q) y ≡ bucket_at bs y
+    spared y b =
+        let off : wrapped (length bs) y ≢ at = λ e. (let f : bucket_at bs y ≡ bucket_at bs at = ap (λ (z : ℕ). get_or bs z blank) (e ∙ sym (wrapped-low (length bs) at l)) in omega (arith, ap (λ (p : Bucket). p.item) f)) in
+        rw size (get_or-set_other bs at (wrapped (length bs) y) q _ off)
+
+    kept : (y i : ℕ) → i < length items → Reaches g bs y i → Reaches g (set bs at q) y i
+    kept y i b r = record {
+      distance = r.distance;
+      within = rw size r.within;
+      passed = λ k h. ap (λ (p : Bucket). p.mark) (spared (y + k) (let e = r.earlier k h in omega arith)) ∙ r.passed k h;
+      earlier = λ k h. (let e = r.earlier k h in omega (arith, ap (λ (p : Bucket). p.item) (spared (y + k) (omega arith))));
+      mark = ap (λ (p : Bucket). p.mark) (spared (y + r.distance) (let e = r.item in omega arith)) ∙ r.mark;
+      item = ap (λ (p : Bucket). p.item) (spared (y + r.distance) (let e = r.item in omega arith)) ∙ r.item;
+    }
+
+    reached : (i : ℕ) → i < length items → Reaches g (set bs at q) (address_of items i % length (set bs at q)) i
+    reached i b =
+        let e : address_of (items ++ (a, v) ∷ []) i ≡ address_of items i = ap (λ (p : ℕ × ℕ). p.0) (get_or_append_left items ((a, v) ∷ []) (0, 0) i b) in
+        let r : Reaches g bs (address_of items i % length bs) i = subst (λ (z : ℕ). Reaches g bs (z % length bs) i) e (x.reached i (omega (arith, more))) in
+        rw size (kept (address_of items i % length bs) i b r)
+
+    old : (y : ℕ) → y < length (set bs at q) → (bucket_at (set bs at q) y).mark ≡ g → (y ≢ at) × (bucket_at (set bs at q) y ≡ bucket_at bs y)
+    old y b t =
+        let off : y ≢ at = λ e. (let n : (bucket_at (set bs at q) y).mark ≡ 0 = ap (λ (p : Bucket). p.mark) (bucket-new bs at q y l (wrapped-low (length bs) y (omega (arith, size)) ∙ e)) in omega arith) in
+        (off, rw (size, wrapped-low (length bs) y (omega (arith, size))) (get_or-set_other bs at y q _ off))
+
+    names : (y : ℕ) → y < length (set bs at q) → (bucket_at (set bs at q) y).mark ≡ g → (bucket_at (set bs at q) y).item < length items
+    names y b t =
+        let o = old y b t in
+        let taken_before : (bucket_at bs y).mark ≡ g = sym (ap (λ (p : Bucket). p.mark) o.1) ∙ t in
+        let i : (bucket_at bs y).item < length (items ++ (a, v) ∷ []) = x.names y (omega (arith, size)) taken_before in
+        let other : (bucket_at bs y).item ≢ length items = λ e. o.0 (x.single y at (omega (arith, size)) l taken_before m (e ∙ sym is)) in
+        omega (arith, more, ap (λ (p : Bucket). p.item) o.1, other)
+
+    single : (y z : ℕ) → y < length (set bs at q) → z < length (set bs at q) → (bucket_at (set bs at q) y).mark ≡ g → (bucket_at (set bs at q) z).mark ≡ g → (bucket_at (set bs at q) y).item ≡ (bucket_at (set bs at q) z).item → y ≡ z
+    single y z ly lz my mz e =
+        let p = old y ly my in let r = old z lz mz in
+        x.single y z (omega (arith, size)) (omega (arith, size)) (sym (ap (λ (p : Bucket). p.mark) p.1) ∙ my) (sym (ap (λ (p : Bucket). p.mark) r.1) ∙ mz) (sym (ap (λ (p : Bucket). p.item) p.1) ∙ (e ∙ ap (λ (p : Bucket). p.item) r.1))
+
+    latest : (y : ℕ) → y < length (set bs at q) → (bucket_at (set bs at q) y).mark ≤ g
+    latest y b = elim (cases_order y at) [
+      | inl e ↦ omega (arith, ap (λ (p : Bucket). p.mark) (bucket-new bs at q y l (wrapped-low (length bs) y (omega (arith, size)) ∙ e)))
+      | inr o ↦ (let s : bucket_at (set bs at q) y ≡ bucket_at bs y = rw (size, wrapped-low (length bs) y (omega (arith, size))) (get_or-set_other bs at y q _ (λ e. elim o [ inl f ↦ omega arith | inr f ↦ omega arith ])) in
+          let h : (bucket_at bs y).mark ≤ g = x.latest y (omega (arith, size)) in omega (arith, ap (λ (p : Bucket). p.mark) s))
+    ]
+
+    one : (p : Bucket) → p.mark ≡ g → taken g p ≡ 1
+    one p e = by (p.mark == g) refl
+      where
+        by : (t : Bool) → (p.mark == g) ≡ t → ◌≡◌ {A = ℕ} (if t then 1 else 0) 1
+        by true f = refl
+        by false f = absurd (grind (arith, nat_tests))
+
+    none : taken g q ≡ 0
+    none = by (0 == g) refl
+      where
+        by : (t : Bool) → (0 == g) ≡ t → ◌≡◌ {A = ℕ} (if t then 1 else 0) 0
+        by true f = absurd (grind (arith, nat_tests))
+        by false f = refl
+
+    few : sum_by (taken g) (set bs at q) ≤ length items
+    few =
+        let f : (get_or bs at blank).mark ≡ g = ap (λ (p : Bucket). p.mark) (sym (here-is bs at l)) ∙ m in
+        let o = one (get_or bs at blank) f in
+        omega (arith, more, x.few, none, o, sum_by-set (taken g) bs at q blank l)
+
+-- the lookup of an item's address ends at the bucket that names the item
+pub lookup-at : (g : ℕ) (items : List (ℕ × ℕ)) (bs : List Bucket) (a i : ℕ) (s : Lookup) → Once items → IsLookup g items bs a s → i < length items → address_of items i ≡ a → ((bucket_at bs s.at).mark ≡ g) × ((bucket_at bs s.at).item ≡ i)
+lookup-at g items bs a i s once found l e = by s.item refl
+  where
+    same : (j : ℕ) → j < length items → address_of items j ≡ a → j ≡ i
+    same j b f = elim (cases_order j i) [
+      | inl h ↦ h
+      | inr o ↦ elim o [
+        | inl h ↦ absurd (once-apart items j i once h l (f ∙ sym e))
+        | inr h ↦ absurd (once-apart items i j once h b (e ∙ sym f))
+      ]
+    ]
+
+    by : (o : Option ℕ) → s.item ≡ o → ((bucket_at bs s.at).mark ≡ g) × ((bucket_at bs s.at).item ≡ i)
+    by None f = absurd (none-other items a i (lookup-new g items bs a s found f) l e)
+    by (Some j) f = let h = lookup-where g items bs a j s found f in (h.2, h.3 ∙ same j h.0 h.1)
+
+-- the same in the words of a lookup of the last item's address
+pub index-popped : (g : ℕ) (items : List (ℕ × ℕ)) (bs : List Bucket) (a last : ℕ) (s : Lookup) → IsIndex g items bs → 0 < g → last + 1 ≡ length items → IsLookup g items bs a s → address_of items last ≡ a → IsIndex g (take last items) (set bs s.at (record { mark = 0; item = 0 }))
+index-popped g items bs a last s x some size found e =
+    let h = lookup-at g items bs a last s x.once found (omega arith) e in
+    let all : take last items ++ get_or items last (0, 0) ∷ [] ≡ items = sym (take_more items last (0, 0) (omega arith)) ∙ (ap (λ (k : ℕ). take k items) size ∙ take-length items) in
+    let front : length (take last items) ≡ last = length-take-le last items (omega arith) in
+    index-pop g (take last items) bs (get_or items last (0, 0)).0 (get_or items last (0, 0)).1 s.at (subst (λ (ys : List (ℕ × ℕ)). IsIndex g ys bs) (sym all) x) some found.within h.0 (h.1 ∙ sym front)

@@ -7,21 +7,21 @@ use Rattle.tx_logs.specs.Buckets.{address_of}
 use Rattle.tx_logs.specs.LogStates.{keep}
 
 -- the head's address is the one asked for, or another
-here : (w : ℕ × ℕ) (a : ℕ) (o : Option ℕ) → w.0 ≡ a → (if w.0 == a then Some w.1 else o) ≡ Some w.1
+pub here : (w : ℕ × ℕ) (a : ℕ) (o : Option ℕ) → w.0 ≡ a → (if w.0 == a then Some w.1 else o) ≡ Some w.1
 here w a o e = by (w.0 == a) refl
   where
     by : (t : Bool) → (w.0 == a) ≡ t → (if t then Some w.1 else o) ≡ Some w.1
     by true h = refl
     by false h = absurd (grind (arith, nat_tests))
 
-there : (w : ℕ × ℕ) (a : ℕ) (o : Option ℕ) → w.0 ≢ a → (if w.0 == a then Some w.1 else o) ≡ o
+pub there : (w : ℕ × ℕ) (a : ℕ) (o : Option ℕ) → w.0 ≢ a → (if w.0 == a then Some w.1 else o) ≡ o
 there w a o e = by (w.0 == a) refl
   where
     by : (t : Bool) → (w.0 == a) ≡ t → (if t then Some w.1 else o) ≡ o
     by true h = absurd (grind (arith, nat_tests))
     by false h = refl
 
-apart : (w : ℕ × ℕ) (a : ℕ) (o : Option ℕ) → (if w.0 == a then Some w.1 else o) ≡ None → (w.0 ≢ a) × (o ≡ None)
+pub apart : (w : ℕ × ℕ) (a : ℕ) (o : Option ℕ) → (if w.0 == a then Some w.1 else o) ≡ None → (w.0 ≢ a) × (o ≡ None)
 apart w a o e = by (w.0 == a) refl e
   where
     by : (t : Bool) → (w.0 == a) ≡ t → (if t then Some w.1 else o) ≡ None → (w.0 ≢ a) × (o ≡ None)
@@ -115,3 +115,17 @@ keep-there (w ∷ ws) (suc i) a v l e = by (w.0 == a) (keep-there ws i a v (omeg
     by : (t : Bool) → keep a v ws ≡ ws → (if t then w ∷ ws else w ∷ keep a v ws) ≡ w ∷ ws
     by true r = refl
     by false r = ap (λ xs. w ∷ xs) r
+
+pub none-front : (ws : List (ℕ × ℕ)) (b a v : ℕ) → item_at b (ws ++ (a, v) ∷ []) ≡ None → item_at b ws ≡ None
+none-front [] b a v h = refl
+none-front (w ∷ ws) b a v h = let p = apart w b _ h in there w b _ p.0 ∙ none-front ws b a v p.1
+
+pub once-less : (items : List (ℕ × ℕ)) (a v : ℕ) → Once (items ++ (a, v) ∷ []) → Once items
+once-less [] a v o = tt
+once-less (w ∷ ws) a v o = (none-front ws w.0 a v o.0, once-less ws a v o.1)
+
+pub once-apart : (items : List (ℕ × ℕ)) (i j : ℕ) → Once items → i < j → j < length items → address_of items i ≢ address_of items j
+once-apart [] i j o h l = absurd (omega arith)
+once-apart (w ∷ ws) i zero o h l = absurd (omega arith)
+once-apart (w ∷ ws) zero (suc j) o h l = λ e. none-other ws w.0 j o.0 (omega arith) (sym e)
+once-apart (w ∷ ws) (suc i) (suc j) o h l = once-apart ws i j o.1 (omega arith) (omega arith)

@@ -2,3 +2,5 @@ pub mod ItemLemmas
 pub mod BucketLemmas
 pub mod PushLemmas
 pub mod FilterLemmas
+pub mod MarkLemmas
+pub mod MarkTies

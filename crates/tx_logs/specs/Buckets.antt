@@ -25,27 +25,30 @@ AllTaken g bs x d = (k : ℕ) → k < d → (bucket_at bs (x + k)).mark ≡ g
 abbrev pub taken : ℕ → Bucket → ℕ
 taken g b = if b.mark == g then 1 else 0
 
--- going on from x, over taken buckets alone, one comes to a taken bucket that names item i
+-- going on from x, over taken buckets of earlier items alone, one comes to a taken bucket that names item i
 pub record Reaches (g : ℕ) (bs : List Bucket) (x i : ℕ) : Type 0 where
   pub distance : ℕ
   pub within : distance < length bs
   pub passed : AllTaken g bs x distance
+  pub earlier : (k : ℕ) → k < distance → (bucket_at bs (x + k)).item < i
   pub mark : (bucket_at bs (x + distance)).mark ≡ g
   pub item : (bucket_at bs (x + distance)).item ≡ i
 
 -- The buckets are an index of the items: one item an address; each is reached from its home, the bucket whose number is its address modulo the number of
--- buckets; a taken bucket names an item; no mark is later than the generation; no more buckets are taken than there are items.
+-- buckets, past earlier items alone; a taken bucket names an item, and no other names the same; no mark is later than the generation; no more buckets are
+-- taken than there are items.
 pub record IsIndex (g : ℕ) (items : List (ℕ × ℕ)) (bs : List Bucket) : Type 0 where
   pub once : Once items
   pub reached : (i : ℕ) → i < length items → Reaches g bs (address_of items i % length bs) i
   pub names : (x : ℕ) → x < length bs → (bucket_at bs x).mark ≡ g → (bucket_at bs x).item < length items
+  pub single : (x y : ℕ) → x < length bs → y < length bs → (bucket_at bs x).mark ≡ g → (bucket_at bs y).mark ≡ g → (bucket_at bs x).item ≡ (bucket_at bs y).item → x ≡ y
   pub latest : (x : ℕ) → x < length bs → (bucket_at bs x).mark ≤ g
   pub few : sum_by (taken g) bs ≤ length items
 
--- Looking up a goes from its home over taken buckets of other addresses, no more than there are items, to the item of a, or to an open bucket, and then no item has a.
+-- Looking up a goes from its home over taken buckets of other addresses, no more than there are items, to the bucket that names the item of a, or to an open one, and then no item has a.
 pub record IsLookup (g : ℕ) (items : List (ℕ × ℕ)) (bs : List Bucket) (a : ℕ) (found : Lookup) : Type 0 where
   pub within : found.at < length bs
   pub distance : found.distance ≤ length items
   pub at : found.at ≡ wrapped (length bs) (a % length bs + found.distance)
   pub passed : AllTaken g bs (a % length bs) found.distance
-  pub answer : MatchOption found.item ((item_at a items ≡ None) × ((bucket_at bs found.at).mark ≢ g)) (λ i. (i < length items) × (address_of items i ≡ a))
+  pub answer : MatchOption found.item ((item_at a items ≡ None) × ((bucket_at bs found.at).mark ≢ g)) (λ i. (i < length items) × (address_of items i ≡ a) × ((bucket_at bs found.at).mark ≡ g) × ((bucket_at bs found.at).item ≡ i))

@@ -2,3 +2,4 @@ pub mod Buckets
 pub mod LogStates
 pub mod Filters
 pub mod Statements
+pub mod Marks

@@ -1,16 +1,21 @@
 -- What contracts see of a log, and what a push makes of it.
-use Rattle.std.specs.Prelude.{ℕ, ◌≡◌, ◌<◌, ◌+◌, ◌-◌, ◌⊎◌, ◌==◌, if◌then◌else◌, List, [], ◌∷◌, length, set, slice_index_or, None, IsSome}
+use Rattle.std.specs.Prelude.{ℕ, ◌≡◌, ◌<◌, ◌+◌, ◌-◌, ◌⊎◌, ◌==◌, if◌then◌else◌, List, [], ◌∷◌, length, set, slice_index_or, get_or, take, map, None, IsSome}
 use Rattle.stm_model.specs.Memories.{item_at, put}
 use Rattle.tx_logs.specs.declared.push.Repeat.{Repeat}
 use Rattle.tx_logs.specs.declared.push.Repeat.TheVariants.{Keep, Replace}
 use Rattle.tx_logs.specs.declared.push.Push.{Push}
 use Rattle.tx_logs.specs.declared.push.Push.TheVariants.{Done, Full}
 
--- the items, address and value, in the order in which their addresses came; at most len of them
+-- the items, address and value, in the order in which their addresses came, at most len of them; of a write log, what they were at each mark, the oldest first
 pub record LogState : Type 0 where
   pub items : List (ℕ × ℕ)
   pub len : ℕ
   pub generation : ℕ
+  pub marks : List (List (ℕ × ℕ))
+
+-- a log of this length in this generation, with no items and no marks
+abbrev pub empty_at : ℕ → ℕ → LogState
+empty_at len generation = record { items = []; len = len; generation = generation; marks = [] }
 
 -- the list with the address's item as it is, or with a new one at the end
 abbrev pub keep : ℕ → ℕ → List (ℕ × ℕ) → List (ℕ × ℕ)
@@ -33,3 +38,10 @@ with_last v ws = set ws (length ws - 1) ((slice_index_or ws (length ws - 1) (0, 
 -- behind the last generation the first comes again
 abbrev pub next_generation : ℕ → ℕ
 next_generation g = if g == 4294967295 then 1 else g + 1
+
+-- rolled back to mark d: the items are those at the mark, which stands, and the marks above it are gone
+abbrev pub rolled : ℕ → LogState → LogState
+rolled d log = record log { items = get_or log.marks (d - 1) []; marks = take d log.marks }
+
+abbrev pub firsts : List (ℕ × ℕ) → List ℕ
+firsts ws = map (λ (w : ℕ × ℕ). w.0) ws

@@ -1,8 +1,8 @@
 //! The common part of the logs: items of address and value, in the order in which the addresses came, found by
 //! an index.
-ghost use Rattle.std.specs.Prelude.{◌≡◌, ◌≤◌, ◌<◌, ◌+◌, [], IfOk, MatchResult, length, max, slice_index_or};
+ghost use Rattle.std.specs.Prelude.{◌≡◌, ◌≤◌, ◌<◌, ◌+◌, ◌-◌, [], IfOk, MatchResult, length, max, slice_index_or, take};
 ghost use Rattle.stm_model.specs.Memories.{item_at, Once};
-ghost use Rattle.tx_logs.specs.LogStates.{LogState, Pushes, next_generation, pushed, with_last};
+ghost use Rattle.tx_logs.specs.LogStates.{LogState, Pushes, empty_at, next_generation, pushed, with_last};
 
 use crate::index::{Bucket, clear_marks, inverse_of, look_up};
 use crate::push::{Push, Repeat};
@@ -23,14 +23,14 @@ pub struct IndexedLog {
 }
 
 impl Model for IndexedLog {
-    ghost use Rattle.std.specs.Prelude.{◌≡◌, ◌≤◌, ◌<◌, ◌*◌, length, vec_capacity};
+    ghost use Rattle.std.specs.Prelude.{◌≡◌, ◌≤◌, ◌<◌, ◌*◌, [], length, vec_capacity};
     ghost use Rattle.tx_logs.specs.LogStates.{LogState};
 
     ghost Value = { LogState };
 
     ghost use Rattle.tx_logs.specs.Buckets.{IsIndex};
 
-    ghost view = { λ l. record { items = l.items.items; len = l.len; generation = l.generation } };
+    ghost view = { λ l. record { items = l.items.items; len = l.len; generation = l.generation; marks = [] } };
 
     ghost invariant = { λ l. IsIndex l.generation l.items.items l.index.items × (length l.index.items ≡ 2 * l.len) × (length l.items.items ≤ l.len) × (1 ≤ l.len) × (l.len ≤ 4096) × (1 ≤ l.generation) × (l.len ≤ vec_capacity l.items) };
 }
@@ -42,7 +42,7 @@ impl IndexedLog {
         requires low { 1 ≤ len }
         requires high { len ≤ 4096 }
         requires counted { 1 ≤ generation }
-        ensures { IfOk result (λ l. l ≡ record { items = []; len = len; generation = generation }) }
+        ensures { IfOk result (λ l. l ≡ empty_at len generation) }
     {
         let mut items = Vec::new(alloc);
         items.reserve(len)?;
@@ -151,6 +151,28 @@ impl IndexedLog {
         self.items[last] = (a, v);
     }
 
+    /// Takes the last item away: its bucket is open again. One lookup.
+    pub fn pop(&mut self)
+        requires { 0 < length self.old.items }
+        ensures { self.new ≡ record self.old { items = take (length self.old.items - 1) self.old.items } }
+    {
+        let last = self.count() - 1;
+        let (a, _) = self.item(last);
+        let found = look_up(&self.index, &self.items, self.generation, self.inverse, a);
+        self.index[found.at] = Bucket { mark: 0, item: 0 };
+        self.items.truncate(last);
+    }
+
+    /// Takes all items but the first `count` away, which are no more than there are. One lookup for each that goes.
+    pub fn truncate(&mut self, count: usize)
+        requires { count ≤ length self.old.items }
+        ensures { self.new ≡ record self.old { items = take count self.old.items } }
+    {
+        while self.count() > count {
+            self.pop();
+        }
+    }
+
     /// Makes the length the greater of its old one and `len`, 1 to 4,096. Where memory is refused the log is as before.
     /// A greater length costs a push an item into a new log, whose room is taken beside the old one's.
     pub fn reserve(&mut self, alloc: Global, len: usize) -> Result<(), Memory>
@@ -172,7 +194,7 @@ impl IndexedLog {
     /// Empties the log and keeps its room. It raises the generation and leaves the index alone, but for the last
     /// generation, at which it writes each bucket.
     pub fn clear(&mut self)
-        ensures { self.new ≡ record self.old { items = []; generation = next_generation self.old.generation } }
+        ensures { self.new ≡ record self.old { items = []; generation = next_generation self.old.generation; marks = [] } }
     {
         self.items.clear();
         if self.generation == u32::MAX {

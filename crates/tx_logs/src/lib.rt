@@ -7,6 +7,7 @@ pub mod filter;
 pub mod index;
 pub mod indexed_log;
 pub mod laws;
+pub mod marks;
 pub mod push;
 pub mod read_log;
 #[cfg(test)]

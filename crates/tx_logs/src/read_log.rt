@@ -1,7 +1,7 @@
 //! What an attempt has read.
 ghost use Rattle.std.specs.Prelude.{◌≡◌, ◌≤◌, ◌<◌, ◌+◌, [], IfOk, MatchResult, length, max, slice_index_or};
 ghost use Rattle.stm_model.specs.Memories.{item_at, Once};
-ghost use Rattle.tx_logs.specs.LogStates.{LogState, Pushes, next_generation, keep};
+ghost use Rattle.tx_logs.specs.LogStates.{LogState, Pushes, empty_at, next_generation, keep};
 
 use crate::indexed_log::IndexedLog;
 use crate::push::{Push, Repeat};
@@ -28,7 +28,7 @@ impl ReadLog {
     pub fn new(alloc: Global, len: usize) -> Result<ReadLog, Memory>
         requires low { 1 ≤ len }
         requires high { len ≤ 4096 }
-        ensures { IfOk result (λ l. l ≡ record { items = []; len = len; generation = 1 }) }
+        ensures { IfOk result (λ l. l ≡ empty_at len 1) }
     {
         Ok(ReadLog {
             log: IndexedLog::with_generation(alloc, len, 1)?,
@@ -107,7 +107,7 @@ impl ReadLog {
     /// Empties the log and keeps its room. It raises the generation and leaves the index alone, but for the last
     /// generation, at which it writes each bucket.
     pub fn clear(&mut self)
-        ensures { self.new ≡ record self.old { items = []; generation = next_generation self.old.generation } }
+        ensures { self.new ≡ record self.old { items = []; generation = next_generation self.old.generation; marks = [] } }
     {
         self.log.clear();
     }

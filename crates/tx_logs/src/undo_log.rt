@@ -1,7 +1,7 @@
 //! What an attempt must put back.
 ghost use Rattle.std.specs.Prelude.{◌≡◌, ◌≤◌, ◌<◌, ◌+◌, [], IfOk, MatchResult, length, max, slice_index_or};
 ghost use Rattle.stm_model.specs.Memories.{item_at, Once};
-ghost use Rattle.tx_logs.specs.LogStates.{LogState, Pushes, next_generation, keep, with_last};
+ghost use Rattle.tx_logs.specs.LogStates.{LogState, Pushes, empty_at, next_generation, keep, with_last};
 
 use crate::indexed_log::IndexedLog;
 use crate::push::{Push, Repeat};
@@ -28,7 +28,7 @@ impl UndoLog {
     pub fn new(alloc: Global, len: usize) -> Result<UndoLog, Memory>
         requires low { 1 ≤ len }
         requires high { len ≤ 4096 }
-        ensures { IfOk result (λ l. l ≡ record { items = []; len = len; generation = 1 }) }
+        ensures { IfOk result (λ l. l ≡ empty_at len 1) }
     {
         Ok(UndoLog {
             log: IndexedLog::with_generation(alloc, len, 1)?,
@@ -118,7 +118,7 @@ impl UndoLog {
     /// Empties the log and keeps its room. It raises the generation and leaves the index alone, but for the last
     /// generation, at which it writes each bucket.
     pub fn clear(&mut self)
-        ensures { self.new ≡ record self.old { items = []; generation = next_generation self.old.generation } }
+        ensures { self.new ≡ record self.old { items = []; generation = next_generation self.old.generation; marks = [] } }
     {
         self.log.clear();
     }

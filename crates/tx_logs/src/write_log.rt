@@ -1,26 +1,36 @@
 //! What an attempt has written.
-ghost use Rattle.std.specs.Prelude.{◌≡◌, ◌≤◌, ◌<◌, ◌+◌, [], IfOk, MatchResult, length, max, slice_index_or};
+ghost use Rattle.std.specs.Prelude.{◌≡◌, ◌≤◌, ◌<◌, ◌+◌, ◌-◌, [], ◌∷◌, ◌++◌, IfOk, MatchResult, length, max, slice_index_or, get_or, take};
 ghost use Rattle.stm_model.specs.Memories.{item_at, Once, put};
-ghost use Rattle.tx_logs.specs.LogStates.{LogState, Pushes, next_generation};
+ghost use Rattle.tx_logs.specs.LogStates.{LogState, Pushes, empty_at, next_generation, rolled, firsts};
 
 use crate::indexed_log::IndexedLog;
+pub use crate::marks::MAX_MARKS;
+use crate::marks::{Mark, begin, blank_marks, merge, restore, save};
 use crate::push::{Push, Repeat};
 use std::alloc::Global;
 use std::marker::Model;
 use stm_model::memory::Memory;
 
-/// The value last written at each address, in the order of the first writes.
+/// The value last written at each address, in the order of the first writes; and up to `MAX_MARKS` marks, to each of
+/// which it can be rolled back. Marks are numbered from 1, the oldest.
 #[derive(Drop, Debug)]
 pub struct WriteLog {
     log: IndexedLog,
+    /// The marks that stand, the first `depth`, and room for the others.
+    marks: Vec<Mark>,
+    depth: usize,
 }
 
 impl Model for WriteLog {
+    ghost use Rattle.std.specs.Prelude.{◌≡◌, ◌≤◌, length, take};
     ghost use Rattle.tx_logs.specs.LogStates.{LogState};
+    ghost use Rattle.tx_logs.specs.Marks.{Rooms, Tied, marked};
 
     ghost Value = { LogState };
 
-    ghost view = { λ l. l.log };
+    ghost view = { λ l. record l.log { marks = marked (take l.depth l.marks.items) l.log.items } };
+
+    ghost invariant = { λ l. (length l.marks.items ≡ 8) × (l.depth ≤ 8) × Rooms l.log.len l.marks.items × Tied (take l.depth l.marks.items) l.log.items };
 }
 
 impl WriteLog {
@@ -28,11 +38,9 @@ impl WriteLog {
     pub fn new(alloc: Global, len: usize) -> Result<WriteLog, Memory>
         requires low { 1 ≤ len }
         requires high { len ≤ 4096 }
-        ensures { IfOk result (λ l. l ≡ record { items = []; len = len; generation = 1 }) }
+        ensures { IfOk result (λ l. l ≡ empty_at len 1) }
     {
-        Ok(WriteLog {
-            log: IndexedLog::with_generation(alloc, len, 1)?,
-        })
+        WriteLog::with_generation(alloc, len, 1)
     }
 
     /// The same in a generation of 1 to 4,294,967,295.
@@ -40,21 +48,29 @@ impl WriteLog {
         requires low { 1 ≤ len }
         requires high { len ≤ 4096 }
         requires counted { 1 ≤ generation }
-        ensures { IfOk result (λ l. l ≡ record { items = []; len = len; generation = generation }) }
+        ensures { IfOk result (λ l. l ≡ empty_at len generation) }
     {
         Ok(WriteLog {
             log: IndexedLog::with_generation(alloc, len, generation)?,
+            marks: blank_marks(alloc, len)?,
+            depth: 0,
         })
     }
 
-    /// Makes the length the greater of its old one and `len`, 1 to 4,096, at the cost of a push an item. Where memory
-    /// is refused the log is as before.
+    /// Makes the length the greater of its old one and `len`, 1 to 4,096, at the cost of a push an item, and ends the
+    /// marks. Where memory is refused the log is as before.
     pub fn reserve(&mut self, alloc: Global, len: usize) -> Result<(), Memory>
         requires low { 1 ≤ len }
         requires high { len ≤ 4096 }
-        ensures { MatchResult result (λ _. self.new ≡ record self.old { len = max self.old.len len }) (λ _. self.new ≡ self.old) }
+        ensures { MatchResult result (λ _. self.new ≡ record self.old { len = max self.old.len len; marks = [] }) (λ _. self.new ≡ self.old) }
     {
-        self.log.reserve(alloc, len)
+        if self.log.len() < len {
+            let marks = blank_marks(alloc, len)?;
+            self.log.reserve(alloc, len)?;
+            self.marks = marks;
+        }
+        self.depth = 0;
+        Ok(())
     }
 
     /// Adds the value where the address is new; else replaces the item's. `Full` comes exactly where the log has its
@@ -63,7 +79,89 @@ impl WriteLog {
     pub fn push(&mut self, a: usize, v: u64) -> Push
         ensures { Pushes self.old a (put a v self.old.items) result self.new }
     {
+        if self.depth > 0 {
+            return self.push_marked(a, v);
+        }
         self.log.push(a, v, Repeat::Replace)
+    }
+
+    /// The same where a mark stands, which keeps what the item was. Three lookups. It stands apart, so that a push without
+    /// marks is as short as that of any log.
+    #[inline(never)]
+    fn push_marked(&mut self, a: usize, v: u64) -> Push
+        requires { 0 < length self.old.marks }
+        ensures { Pushes self.old a (put a v self.old.items) result self.new }
+    {
+        let _count = self.log.count();
+        save(&mut self.marks[self.depth - 1], &self.log, a);
+        self.log.push(a, v, Repeat::Replace)
+    }
+
+    /// How many marks stand, `MAX_MARKS` at most.
+    #[inline]
+    pub fn depth(&self) -> usize
+        ensures count { result ≡ length self.now.marks }
+        ensures most { result ≤ MAX_MARKS }
+    {
+        self.depth
+    }
+
+    /// Makes a mark above those that stand. It takes no memory.
+    pub fn mark(&mut self)
+        requires { length self.old.marks < MAX_MARKS }
+        ensures { self.new ≡ record self.old { marks = self.old.marks ++ self.old.items ∷ [] } }
+    {
+        let count = self.log.count();
+        begin(&mut self.marks[self.depth], count);
+        self.depth += 1;
+    }
+
+    /// Drops the last mark, and keeps what was written since.
+    fn drop_mark(&mut self)
+        requires { 0 < length self.old.marks }
+        ensures { self.new ≡ record self.old { marks = take (length self.old.marks - 1) self.old.marks } }
+    {
+        let _count = self.log.count();
+        if self.depth == 1 {
+            self.depth = 0;
+            return;
+        }
+        merge(&mut self.marks, self.depth - 1);
+        self.depth -= 1;
+    }
+
+    /// Drops the marks from number `depth` on, and keeps what was written since.
+    pub fn release(&mut self, depth: usize)
+        requires low { 1 ≤ depth }
+        requires high { depth ≤ length self.old.marks }
+        ensures { self.new ≡ record self.old { marks = take (depth - 1) self.old.marks } }
+    {
+        while self.depth() >= depth {
+            self.drop_mark();
+        }
+    }
+
+    /// Puts the items back as they were at the last mark, which stands.
+    fn restore_last(&mut self)
+        requires { 0 < length self.old.marks }
+        ensures restored { self.new ≡ record self.old { items = get_or self.old.marks (length self.old.marks - 1) [] } }
+        ensures prefix { firsts self.new.items ≡ take (length self.new.items) (firsts self.old.items) }
+    {
+        restore(&mut self.marks[self.depth - 1], &mut self.log);
+    }
+
+    /// Puts the items back as they were at mark `depth`, which stands; the marks above it are gone. At most two lookups
+    /// for each item that was written since. The items that are left were the first, at their places.
+    pub fn roll_to(&mut self, depth: usize)
+        requires low { 1 ≤ depth }
+        requires high { depth ≤ length self.old.marks }
+        ensures rolled { self.new ≡ rolled depth self.old }
+        ensures prefix { firsts self.new.items ≡ take (length self.new.items) (firsts self.old.items) }
+    {
+        while self.depth() > depth {
+            self.drop_mark();
+        }
+        self.restore_last();
     }
 
     /// The value at the address, if it is in the log. One lookup, and none in an empty log.
@@ -116,11 +214,12 @@ impl WriteLog {
         self.log.generation()
     }
 
-    /// Empties the log and keeps its room. It raises the generation and leaves the index alone, but for the last
+    /// Empties the log, with its marks, and keeps its room. It raises the generation and leaves the index alone, but for the last
     /// generation, at which it writes each bucket.
     pub fn clear(&mut self)
-        ensures { self.new ≡ record self.old { items = []; generation = next_generation self.old.generation } }
+        ensures { self.new ≡ record self.old { items = []; generation = next_generation self.old.generation; marks = [] } }
     {
+        self.depth = 0;
         self.log.clear();
     }
 }

@@ -140,6 +140,21 @@ commit-now-requires-clause-view g c =
     let under : m.start < CLOCK_LIMIT = search rules in
     laws.may-enter good f n low (laws.in_commit good f n low l v can o refl m w.view r) w.view (laws.can-ready good f n low l v can o refl m w.view r) o (laws.buffered good f n low l v can o refl m w.view r) refl under (laws.keeps-ready good f n low l v can o refl m w.view r c.requires.keeps)
 
+pub commit-now-requires-clause-spared : goal.commit-now-requires-clause-spared
+commit-now-requires-clause-spared g c =
+    let f = c.args.stm.now.config in
+    let good = g.K.MemRule.good c.args.stm.now.rule in
+    let n = c.args.caller in
+    let low = c.requires.caller in
+    let l = c.args.local.now in
+    let v = c.args.seat.now.me.0.view in
+    let o = own_of l in
+    let can = c.requires.attempt in
+    let m = c.prepare.new.local in
+    let w = c.prepare.new.seat.me.0 in
+    let r = c.in_default.ensures.prepares in
+    laws.are-spared good f n low (laws.in_commit good f n low l v can o refl m w.view r) w.view (laws.can-ready good f n low l v can o refl m w.view r) o (laws.buffered good f n low l v can o refl m w.view r)
+
 pub returns-then-now-start-clause-commits : goal.returns-then-now-start-clause-commits
 returns-then-now-start-clause-commits g c =
     let f = c.args.stm.now.config in

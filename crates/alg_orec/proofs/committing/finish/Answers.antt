@@ -38,6 +38,9 @@ leave-requires-clause-view g c =
       marked = λ e m. absurd (let f : true ≡ false = sym m ∙ (ap (λ (y : View). y.attempt.entered) q.is ∙ (ap (λ (y : View). y.attempt.entered) p.is ∙ k.unentered)) in cc);
     }
 
+pub leave-requires-clause-fence : goal.leave-requires-clause-fence
+leave-requires-clause-fence g c = record { is = ap (λ (y : View). y.gate.fence) c.release_all.ensures.releases.is ∙ (ap (λ (y : View). y.gate.fence) c.write_back_all.ensures.pays.is ∙ c.requires.fence.is); fits = c.requires.fence.fits }
+
 pub returns-clause-finishes : goal.returns-clause-finishes
 returns-clause-finishes g c =
     let v = c.args.seat.now.me.0.view in

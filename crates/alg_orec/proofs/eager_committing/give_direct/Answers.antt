@@ -1,4 +1,4 @@
-use Rattle.std.proofs.Common.{◌≡◌, ◌<◌, List, [], ◌∷◌, length, refl, sym, ap, ◌∙◌, subst, arith}
+use Rattle.std.proofs.Common.{◌≤◌, ◌≡◌, ◌<◌, List, [], ◌∷◌, length, refl, sym, ap, ◌∙◌, subst, arith}
 use Rattle.rule_base.specs.declared.entries.Cell.{Cell}
 use Rattle.rule_base.specs.declared.seats.SeatView.{SeatView}
 use Rattle.rule_base.specs.declared.views.View.{View}
@@ -12,7 +12,16 @@ use Rattle.alg_orec.proofs.Releasing.{release_item}
 use Rattle.alg_orec.proofs.eager_committing.give_direct.Goals as goal
 
 pub loop-i-init : goal.loop-i-init
-loop-i-init g c = let k = c.requires.view in record { table = refl; id = refl; bare = refl; more = []; seat = refl; left = sym k.locks; places = k.places }
+loop-i-init g c = let k = c.requires.view in record {
+  table = refl;
+  id = refl;
+  steps = omega arith;
+  bare = refl;
+  more = [];
+  seat = refl;
+  left = sym k.locks;
+  places = k.places;
+}
 
 pub direct_release-requires-clause-place : goal.direct_release-requires-clause-place
 direct_release-requires-clause-place g c =
@@ -50,6 +59,7 @@ loop-i-preserved g c =
     record {
       table = same.0 ∙ i.table;
       id = same.1 ∙ i.id;
+      steps = (let l = ap (λ (y : SeatView g.row.K.Denot). length y.view.steps.trail) step.3 in let q = i.steps in omega arith);
       bare = same.2 ∙ i.bare;
       more = release_item r time ∷ i.more;
       seat = direct-step c.args.seat.now.me.0 s t i.more r time (free_record time) step.0 i.seat step.3;
@@ -63,3 +73,10 @@ returns-clause-releases g c =
     let s = c.loop-i.seat.me.0.view in
     let none = no-items s.owned.held (i.left ∙ drop-all c.args.local.now.locks.items c.loop-i.i (omega (arith, c.loop-i-test.false, c.count-i-end.ensures.count))) in
     record { more = i.more; is = ap (λ (y : SeatView g.row.K.Denot). y.view) i.seat ∙ ap (λ (cs : List Cell). holding_still c.args.seat.now.me.0.view cs i.more) none }
+
+pub returns-clause-steps : goal.returns-clause-steps
+returns-clause-steps g c =
+    let q = c.loop-i.invariant.steps in
+    let k = c.count-i-end.ensures in
+    let most : c.loop-i.i ≤ c.args.local.now.locks.len = omega (arith, c.loop-i.auto.i-end, k) in
+    omega arith

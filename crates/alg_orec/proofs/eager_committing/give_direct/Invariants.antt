@@ -2,6 +2,7 @@ use Rattle.std.proofs.Common.{◌≡◌, List, drop}
 use Rattle.rule_base.specs.declared.views.TrailItem.{TrailItem}
 use Rattle.rule_base.specs.Bridge.{items}
 use Rattle.rule_base.specs.History.{Inside}
+use Rattle.alg_orec.specs.Counting.{TakesAtMost}
 use Rattle.alg_orec.specs.Locking.{holding_still}
 use Rattle.alg_orec.proofs.eager_committing.give_direct.Given as goal
 
@@ -14,4 +15,5 @@ invariant-loop-i g l = record {
   seat : l.seat.me.0 ≡ record l.initial.seat.me.0 { view = holding_still l.initial.seat.me.0.view l.seat.me.0.view.owned.held more };
   left : items l.seat.me.0.view.owned.held ≡ drop l.i l.local.locks.items;
   places : Inside l.stm.config.records l.seat.me.0.view.owned.held;
+  steps : TakesAtMost l.i l.initial.seat.me.0.view l.seat.me.0.view;
 }

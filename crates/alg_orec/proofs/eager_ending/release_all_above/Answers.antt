@@ -1,4 +1,4 @@
-use Rattle.std.proofs.Common.{◌≡◌, ◌<◌, ◌+◌, List, [], ◌∷◌, length, refl, sym, ap, ◌∙◌, subst, arith}
+use Rattle.std.proofs.Common.{◌≤◌, ◌≡◌, ◌<◌, ◌+◌, List, [], ◌∷◌, length, refl, sym, ap, ◌∙◌, subst, arith}
 use Rattle.stm_model.specs.declared.config.TheConstants.{CLOCK_LIMIT}
 use Rattle.rule_base.specs.declared.entries.Cell.{Cell}
 use Rattle.rule_base.specs.declared.seats.SeatView.{SeatView}
@@ -15,7 +15,17 @@ use Rattle.alg_orec.proofs.Releasing.{release_item, released-step}
 use Rattle.alg_orec.proofs.eager_ending.release_all_above.Goals as goal
 
 pub loop-i-init : goal.loop-i-init
-loop-i-init g c = let k = c.requires.view in record { table = refl; id = refl; bare = refl; more = []; seat = refl; left = sym k.locks; places = k.places; below = k.below }
+loop-i-init g c = let k = c.requires.view in record {
+  table = refl;
+  id = refl;
+  steps = omega arith;
+  bare = refl;
+  more = [];
+  seat = refl;
+  left = sym k.locks;
+  places = k.places;
+  below = k.below;
+}
 
 pub overflow_add-version : goal.overflow_add-version
 overflow_add-version g c =
@@ -78,6 +88,7 @@ loop-i-preserved g c =
     record {
       table = same.0 ∙ i.table;
       id = same.1 ∙ i.id;
+      steps = (let l = ap (λ (y : SeatView g.row.K.Denot). length y.view.steps.trail) step.3 in let q = i.steps in omega arith);
       bare = same.2 ∙ i.bare;
       more = release_item r next ∷ i.more;
       seat = released-step c.args.seat.now.me.0 s t i.more r next (free_record next) step.0 i.seat step.3;
@@ -92,3 +103,10 @@ returns-clause-releases g c =
     let s = c.loop-i.seat.me.0.view in
     let none = no-items s.owned.held (i.left ∙ drop-all c.args.local.now.locks.items c.loop-i.i (omega (arith, c.loop-i-test.false, c.count-i-end.ensures.count))) in
     record { more = i.more; is = ap (λ (y : SeatView g.row.K.Denot). y.view) i.seat ∙ ap (λ (cs : List Cell). holding_still c.args.seat.now.me.0.view cs i.more) none }
+
+pub returns-clause-steps : goal.returns-clause-steps
+returns-clause-steps g c =
+    let q = c.loop-i.invariant.steps in
+    let k = c.count-i-end.ensures in
+    let most : c.loop-i.i ≤ c.args.local.now.locks.len = omega (arith, c.loop-i.auto.i-end, k) in
+    omega arith

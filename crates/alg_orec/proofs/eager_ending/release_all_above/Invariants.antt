@@ -3,6 +3,7 @@ use Rattle.stm_model.specs.declared.config.TheConstants.{CLOCK_LIMIT}
 use Rattle.rule_base.specs.declared.views.TrailItem.{TrailItem}
 use Rattle.rule_base.specs.Bridge.{items}
 use Rattle.rule_base.specs.History.{Inside}
+use Rattle.alg_orec.specs.Counting.{TakesAtMost}
 use Rattle.alg_orec.specs.EagerEnding.{AllBelow}
 use Rattle.alg_orec.specs.Locking.{holding_still}
 use Rattle.alg_orec.proofs.eager_ending.release_all_above.Given as goal
@@ -17,4 +18,5 @@ invariant-loop-i g l = record {
   left : items l.seat.me.0.view.owned.held ≡ drop l.i l.local.locks.items;
   places : Inside l.stm.config.records l.seat.me.0.view.owned.held;
   below : AllBelow CLOCK_LIMIT l.seat.me.0.view.owned.held;
+  steps : TakesAtMost l.i l.initial.seat.me.0.view l.seat.me.0.view;
 }

@@ -1,4 +1,4 @@
-use Rattle.std.proofs.Common.{◌≡◌, ◌<◌, List, [], ◌∷◌, length, refl, sym, ap, ◌∙◌, subst, arith}
+use Rattle.std.proofs.Common.{◌≤◌, ◌≡◌, ◌<◌, List, [], ◌∷◌, length, refl, sym, ap, ◌∙◌, subst, arith}
 use Rattle.rule_base.specs.declared.entries.Cell.{Cell}
 use Rattle.rule_base.specs.declared.seats.SeatView.{SeatView}
 use Rattle.rule_base.specs.Bridge.{items}
@@ -10,7 +10,17 @@ use Rattle.alg_orec.proofs.EagerReleasing.{restore_item, restored-step}
 use Rattle.alg_orec.proofs.eager_ending.restore_all.Goals as goal
 
 pub loop-i-init : goal.loop-i-init
-loop-i-init g c = let k = c.requires.view in record { table = refl; id = refl; bare = refl; more = []; in_place = c.args.seat.now.me.0.view.owned.in_place; seat = refl; left = sym k.undo; words = k.words }
+loop-i-init g c = let k = c.requires.view in record {
+  table = refl;
+  id = refl;
+  steps = omega arith;
+  bare = refl;
+  more = [];
+  in_place = c.args.seat.now.me.0.view.owned.in_place;
+  seat = refl;
+  left = sym k.undo;
+  words = k.words;
+}
 
 pub restore-requires-clause-place : goal.restore-requires-clause-place
 restore-requires-clause-place g c =
@@ -47,6 +57,7 @@ loop-i-preserved g c =
     record {
       table = same.0 ∙ i.table;
       id = same.1 ∙ i.id;
+      steps = (let l = ap (λ (y : SeatView g.row.K.Denot). length y.view.steps.trail) step.3 in let q = i.steps in omega arith);
       bare = same.2 ∙ i.bare;
       more = restore_item a x ∷ i.more;
       in_place = without i.in_place a;
@@ -61,3 +72,10 @@ returns-clause-restores g c =
     let s = c.loop-i.seat.me.0.view in
     let none = no-items s.owned.undo (i.left ∙ drop-all c.args.local.now.undo.items c.loop-i.i (omega (arith, c.loop-i-test.false, c.count-i-end.ensures.count))) in
     record { in_place = i.in_place; more = i.more; is = ap (λ (y : SeatView g.row.K.Denot). y.view) i.seat ∙ ap (λ (cs : List Cell). restoring c.args.seat.now.me.0.view i.in_place cs i.more) none }
+
+pub returns-clause-steps : goal.returns-clause-steps
+returns-clause-steps g c =
+    let q = c.loop-i.invariant.steps in
+    let k = c.count-i-end.ensures in
+    let most : c.loop-i.i ≤ c.args.local.now.undo.len = omega (arith, c.loop-i.auto.i-end, k) in
+    omega arith

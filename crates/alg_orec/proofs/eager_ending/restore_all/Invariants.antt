@@ -3,6 +3,7 @@ use Rattle.rule_base.specs.declared.entries.Cell.{Cell}
 use Rattle.rule_base.specs.declared.views.TrailItem.{TrailItem}
 use Rattle.rule_base.specs.Bridge.{items}
 use Rattle.rule_base.specs.History.{Inside}
+use Rattle.alg_orec.specs.Counting.{TakesAtMost}
 use Rattle.alg_orec.specs.EagerEnding.{restoring}
 use Rattle.alg_orec.proofs.eager_ending.restore_all.Given as goal
 
@@ -16,4 +17,5 @@ invariant-loop-i g l = record {
   seat : l.seat.me.0 ≡ record l.initial.seat.me.0 { view = restoring l.initial.seat.me.0.view in_place l.seat.me.0.view.owned.undo more };
   left : items l.seat.me.0.view.owned.undo ≡ drop l.i l.local.undo.items;
   words : Inside l.stm.config.words l.seat.me.0.view.owned.undo;
+  steps : TakesAtMost l.i l.initial.seat.me.0.view l.seat.me.0.view;
 }

@@ -1,4 +1,4 @@
-use Rattle.std.proofs.Common.{◌≡◌, ◌<◌, List, [], ◌∷◌, length, refl, sym, ap, ◌∙◌, subst, arith, true, false}
+use Rattle.std.proofs.Common.{◌≡◌, ◌<◌, ◌≤◌, List, [], ◌∷◌, length, refl, sym, ap, ◌∙◌, subst, arith, true, false}
 use Rattle.rule_base.specs.declared.entries.Cell.{Cell}
 use Rattle.rule_base.specs.declared.seats.SeatView.{SeatView}
 use Rattle.rule_base.specs.declared.views.View.{View}
@@ -8,6 +8,7 @@ use Rattle.rule_base.specs.History.{touches, without, Inside}
 use Rattle.rule_orec.specs.OrecSteps.{HasOrec}
 use Rattle.stm_gate.specs.LeavingLaws.{IsUnmade}
 use Rattle.stm_gate.specs.Peeling.{drop-all, peeled, inside-without, no-items}
+use Rattle.alg_orec.proofs.CountingLaws.{takes-left}
 use Rattle.alg_orec.proofs.Releasing.{release_item, Versions, released-step, versions-of, versions-without}
 use Rattle.alg_orec.proofs.ending.roll_back.Goals as goal
 
@@ -18,6 +19,7 @@ loop-i-init g c = let k = c.requires.view in record {
   bare = refl;
   more = [];
   seat = refl;
+  steps = omega arith;
   left = sym k.locks;
   places = k.places;
   versions = versions-of c.args.local.now c.args.seat.now.me.0.view.owned.held k.locks k.versions;
@@ -77,6 +79,7 @@ loop-i-preserved g c =
       bare = same.2 ∙ i.bare;
       more = release_item r c.item-r.result.1 ∷ i.more;
       seat = released-step c.args.seat.now.me.0 s t i.more r c.item-r.result.1 (free_record c.item-r.result.1) step.0 i.seat step.3;
+      steps = let l = ap (λ (y : SeatView g.row.K.Denot). length y.view.steps.trail) step.3 in let q = i.steps in omega arith;
       left = ap items held ∙ p.2;
       places = subst (λ (cs : List Cell). Inside c.args.stm.now.config.records cs) (sym held) (inside-without c.args.stm.now.config.records r s.view.owned.held i.places);
       versions = subst Versions (sym held) (versions-without s.view.owned.held r i.versions);
@@ -102,6 +105,9 @@ leave-requires-clause-view g c =
       marked = λ e q. absurd (let f : true ≡ false = sym q ∙ (ap (λ (y : View). y.attempt.entered) is ∙ k.unentered) in cc);
     }
 
+pub leave-requires-clause-fence : goal.leave-requires-clause-fence
+leave-requires-clause-fence g c = record { is = ap (λ (y : SeatView g.row.K.Denot). y.view.gate.fence) c.loop-i.invariant.seat ∙ c.requires.fence.is; fits = c.requires.fence.fits }
+
 pub returns-clause-gives_up : goal.returns-clause-gives_up
 returns-clause-gives_up g c =
     let i = c.loop-i.invariant in
@@ -115,3 +121,12 @@ returns-clause-gives_up g c =
       rises = ap (λ (y : View). y.steps.rises) is;
       is = ap (λ (y : SeatView g.row.K.Denot). y.view) c.leave.ensures.left;
     }
+
+pub returns-clause-steps : goal.returns-clause-steps
+returns-clause-steps g c =
+    let s = c.loop-i.seat.me.0.view in
+    let e = ap (λ (y : SeatView g.row.K.Denot). length y.view.steps.trail) c.leave.ensures.left in
+    let two = takes-left c.args.caller s in
+    let q = c.loop-i.invariant.steps in
+    let k = c.count-i-end.ensures in let most : c.loop-i.i ≤ c.args.local.now.locks.len = omega (arith, c.loop-i.auto.i-end, k) in
+    omega arith

@@ -5,7 +5,7 @@ use Rattle.stm_model.specs.declared.config.Config.{Config}
 use Rattle.rule_base.specs.declared.seats.SeatView.{SeatView}
 use Rattle.rule_base.specs.declared.seats.Who.{Who}
 use Rattle.stm_rule.specs.declared.local.Local.{Local}
-use Rattle.stm_rule.specs.Attempts.{own_of, emptied, ended, Stands}
+use Rattle.stm_rule.specs.Attempts.{IsFenceOf, own_of, emptied, ended, Stands}
 use Rattle.stm_rule.specs.Callers.{Handle, handle_of}
 use Rattle.tx_answers.specs.declared.answers.Irrev.TheVariants as irrevs
 use Rattle.tx_answers.specs.Known.{known_of, caller_of, is_irrevocable}
@@ -59,6 +59,17 @@ roll_back-requires-clause-named g c =
     let i = runs-of g.K.MemRule.good f c.args.stm.now.rule h e d.number d.local c.desc.view_is c.requires.stm.config c.requires.stm.rule c.requires.running.0 c.desc.invariant.1 in
     let q = c.in-Err.ensures.grants in
     ap (λ (x : Local). x.algorithm) q.local ∙ (sym i.named ∙ sym q.named)
+
+pub roll_back-requires-clause-fence : goal.roll_back-requires-clause-fence
+roll_back-requires-clause-fence g c =
+    let f = c.args.stm.now.config in
+    let d = c.desc.inside in
+    let o = own_of d.local in
+    let h = handle_of d.seat o in
+    let e = c.args.desc.now in
+    let i = runs-of g.K.MemRule.good f c.args.stm.now.rule h e d.number d.local c.desc.view_is c.requires.stm.config c.requires.stm.rule c.requires.running.0 c.desc.invariant.1 in
+    let q = c.in-Err.ensures.grants in
+    subst (λ (x : Local). IsFenceOf x c.grant_reads.new.seat.me.0.view) (sym q.local) (record { is = q.fence ∙ i.spared.is; fits = i.spared.fits })
 
 pub returns-in-Err-clause-grants : goal.returns-in-Err-clause-grants
 returns-in-Err-clause-grants g c =

@@ -1,5 +1,6 @@
 use Rattle.std.proofs.Common.{ℕ, suc, ◌≡◌, ◌<◌, ◌+◌, List, [], ◌∷◌, length, take, refl, sym, ap, ◌∙◌, arith}
 use Rattle.std.proofs.lemmas.List.{take_all}
+use Rattle.rule_base.specs.Encodings.{fenced}
 use Rattle.rule_base.specs.declared.entries.Cell.{Cell}
 use Rattle.rule_base.specs.declared.seats.SeatView.{SeatView}
 use Rattle.stm_rule.specs.RecordsKept.{cells_of}
@@ -20,6 +21,11 @@ direct_store-requires-clause-view g c =
       inside = k.inside c.item-a.result.0 (rw c.item-a.ensures (cells-there c.args.local.now.writes.items c.loop-i.i low));
       small = omega arith;
     }
+
+pub direct_store-requires-clause-spared : goal.direct_store-requires-clause-spared
+direct_store-requires-clause-spared g c =
+    let low : c.loop-i.i < length c.args.local.now.writes.items = omega (arith, c.loop-i-test.true, c.count-i-end.ensures.count) in
+    ap (λ (y : SeatView g.row.K.Denot). fenced y.view.gate.fence c.item-a.result.0) c.loop-i.invariant.seat ∙ c.requires.view.spared c.item-a.result.0 (rw c.item-a.ensures (cells-there c.args.local.now.writes.items c.loop-i.i low))
 
 pub loop-i-preserved : goal.loop-i-preserved
 loop-i-preserved g c =

@@ -1,7 +1,8 @@
-use Rattle.std.proofs.Common.{ℕ, ◌≡◌, ◌<◌, ◌≤◌, List, length, get_or, true}
+use Rattle.std.proofs.Common.{◌*◌, ℕ, ◌≡◌, ◌<◌, ◌≤◌, List, length, get_or, true}
 use Rattle.rule_base.specs.declared.views.TrailItem.{TrailItem}
 use Rattle.rule_base.specs.History.{over, touches}
 use Rattle.rule_base.specs.Ranks.{home_of}
+use Rattle.alg_orec.specs.Counting.{TakesAtMost}
 use Rattle.alg_orec.specs.Locking.{Locks}
 use Rattle.alg_orec.proofs.locking.lock_all.Given as goal
 
@@ -16,4 +17,5 @@ invariant-loop-i g l = record {
   covered : (j : ℕ) → j < l.i → touches l.seat.me.0.view.owned.held (home_of l.stm.config (get_or l.initial.local.writes.items j (0, 0)).0) ≡ true;
   olds : (r : ℕ) → touches l.seat.me.0.view.owned.held r ≡ true → over l.seat.me.0.view.owned.held r 0 ≤ l.newest;
   room : length l.local.locks.items ≤ l.i;
+  steps : TakesAtMost (2 * l.i) l.initial.seat.me.0.view l.seat.me.0.view;
 }

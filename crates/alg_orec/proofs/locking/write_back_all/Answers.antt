@@ -1,4 +1,4 @@
-use Rattle.std.proofs.Common.{◌≡◌, ◌<◌, List, [], ◌∷◌, length, refl, sym, ap, ◌∙◌, subst, arith}
+use Rattle.std.proofs.Common.{◌≤◌, ◌≡◌, ◌<◌, List, [], ◌∷◌, length, refl, sym, ap, ◌∙◌, subst, arith}
 use Rattle.rule_base.specs.declared.entries.Cell.{Cell}
 use Rattle.rule_base.specs.declared.seats.SeatView.{SeatView}
 use Rattle.rule_base.specs.Bridge.{items}
@@ -10,7 +10,15 @@ use Rattle.alg_orec.proofs.Writing.{owing, store_item, written-step}
 use Rattle.alg_orec.proofs.locking.write_back_all.Goals as goal
 
 pub loop-i-init : goal.loop-i-init
-loop-i-init g c = let k = c.requires.view in record { table = refl; id = refl; bare = refl; more = []; seat = refl; left = ap items k.back ∙ items-cells c.args.local.now.writes.items c.count-i-end.ensures.once }
+loop-i-init g c = let k = c.requires.view in record {
+  table = refl;
+  id = refl;
+  steps = omega arith;
+  bare = refl;
+  more = [];
+  seat = refl;
+  left = ap items k.back ∙ items-cells c.args.local.now.writes.items c.count-i-end.ensures.once;
+}
 
 pub write_back-requires-clause-place : goal.write_back-requires-clause-place
 write_back-requires-clause-place g c =
@@ -45,6 +53,7 @@ loop-i-preserved g c =
     record {
       table = same.0 ∙ i.table;
       id = same.1 ∙ i.id;
+      steps = (let l = ap (λ (y : SeatView g.row.K.Denot). length y.view.steps.trail) step.3 in let q = i.steps in omega arith);
       bare = same.2 ∙ i.bare;
       more = store_item a c.item-a.result.1 ∷ i.more;
       seat = written-step c.args.seat.now.me.0 s t i.more a c.item-a.result.1 step.0 i.seat step.3;
@@ -57,3 +66,9 @@ returns-clause-pays g c =
     let s = c.loop-i.seat.me.0.view in
     let none = no-items s.owned.back (i.left ∙ drop-all c.args.local.now.writes.items c.loop-i.i (omega (arith, c.loop-i-test.false, c.count-i-end.ensures.count))) in
     record { more = i.more; is = ap (λ (y : SeatView g.row.K.Denot). y.view) i.seat ∙ ap (λ (cs : List Cell). owing c.args.seat.now.me.0.view cs i.more) none }
+
+pub returns-clause-steps : goal.returns-clause-steps
+returns-clause-steps g c =
+    let q = c.loop-i.invariant.steps in
+    let k = c.count-i-end.ensures in let most : c.loop-i.i ≤ c.args.local.now.writes.len = omega (arith, c.loop-i.auto.i-end, k) in
+    omega arith

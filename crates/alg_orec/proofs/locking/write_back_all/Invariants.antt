@@ -1,6 +1,7 @@
 use Rattle.std.proofs.Common.{◌≡◌, List, drop}
 use Rattle.rule_base.specs.declared.views.TrailItem.{TrailItem}
 use Rattle.rule_base.specs.Bridge.{items}
+use Rattle.alg_orec.specs.Counting.{TakesAtMost}
 use Rattle.alg_orec.proofs.Writing.{owing}
 use Rattle.alg_orec.proofs.locking.write_back_all.Given as goal
 
@@ -12,4 +13,5 @@ invariant-loop-i g l = record {
   more : List TrailItem;
   seat : l.seat.me.0 ≡ record l.initial.seat.me.0 { view = owing l.initial.seat.me.0.view l.seat.me.0.view.owned.back more };
   left : items l.seat.me.0.view.owned.back ≡ drop l.i l.local.writes.items;
+  steps : TakesAtMost (l.i) l.initial.seat.me.0.view l.seat.me.0.view;
 }

@@ -1,6 +1,7 @@
-use Rattle.std.proofs.Common.{ℕ, ◌≡◌, subst, sym, false, ◌∙◌}
+use Rattle.std.proofs.Common.{ℕ, ◌≡◌, subst, sym, ap, false, ◌∙◌}
 use Rattle.std.specs.Prelude.{Option, Ok}
 use Rattle.stm_model.specs.declared.alg.Alg.TheVariants.{OrecEager}
+use Rattle.rule_base.specs.Encodings.{fenced}
 use Rattle.stm_rule.specs.Callers.{Handle}
 use Rattle.tx_answers.specs.Answers.{HasRead}
 use Rattle.tx_answers.specs.Known.{IsRunning}
@@ -26,6 +27,15 @@ load-x-requires-clause-algorithm g c =
     let s = c.sample.new.desc in
     let sampled = subst (λ (m : Option ℕ). Samples good f (number d) c.args.a (Ok m) d s) c.in-Ok-Some.field-0-is c.in-Ok-Some.ensures.samples in
     sampled.0.2.goes.continues.alg ∙ c.requires.algorithm
+
+pub load-x-requires-clause-spared : goal.load-x-requires-clause-spared
+load-x-requires-clause-spared g c =
+    let f = c.args.stm.now.config in
+    let good = g.K.MemRule.good c.args.stm.now.rule in
+    let d = c.args.desc.now in
+    let s = c.sample.new.desc in
+    let sampled = subst (λ (m : Option ℕ). Samples good f (number d) c.args.a (Ok m) d s) c.in-Ok-Some.field-0-is c.in-Ok-Some.ensures.samples in
+    ap (λ k. fenced k c.args.a) sampled.0.2.goes.continues.fence ∙ c.requires.spared
 
 pub load-x-requires-clause-revocable : goal.load-x-requires-clause-revocable
 load-x-requires-clause-revocable g c =
@@ -67,6 +77,15 @@ confirm-requires-clause-algorithm g c =
     let s = c.sample.new.desc in
     let sampled = subst (λ (m : Option ℕ). Samples good f (number d) c.args.a (Ok m) d s) c.in-Ok-Some.field-0-is c.in-Ok-Some.ensures.samples in
     c.load-x.ensures.goes.goes.continues.alg ∙ (sampled.0.2.goes.continues.alg ∙ c.requires.algorithm)
+
+pub confirm-requires-clause-spared : goal.confirm-requires-clause-spared
+confirm-requires-clause-spared g c =
+    let f = c.args.stm.now.config in
+    let good = g.K.MemRule.good c.args.stm.now.rule in
+    let d = c.args.desc.now in
+    let s = c.sample.new.desc in
+    let sampled = subst (λ (m : Option ℕ). Samples good f (number d) c.args.a (Ok m) d s) c.in-Ok-Some.field-0-is c.in-Ok-Some.ensures.samples in
+    ap (λ k. fenced k c.args.a) (c.load-x.ensures.goes.goes.continues.fence ∙ sampled.0.2.goes.continues.fence) ∙ c.requires.spared
 
 pub confirm-requires-clause-revocable : goal.confirm-requires-clause-revocable
 confirm-requires-clause-revocable g c =

@@ -1,6 +1,7 @@
-use Rattle.std.proofs.Common.{ℕ, ◌≡◌, ◌≢◌, ◌<◌, ◌≤◌, length, subst, sym, ap, rules, ◌∙◌, refl}
+use Rattle.std.proofs.Common.{ℕ, ◌≡◌, ◌≢◌, ◌<◌, ◌≤◌, length, subst, sym, ap, rules, ◌∙◌, refl, false}
 use Rattle.std.specs.Prelude.{◌^◌, None}
 use Rattle.stm_model.specs.Memories.{item_at}
+use Rattle.rule_base.specs.Encodings.{fenced}
 use Rattle.rule_base.specs.declared.seats.SeatView.{SeatView}
 use Rattle.rule_base.specs.declared.views.GateView.{GateView}
 use Rattle.rule_base.specs.declared.views.View.{View}
@@ -146,7 +147,7 @@ store_first-requires-clause-view g c =
     let m = c.take_record.new.local in
     let u = c.take_record.new.seat.me.0 in
     let took = c.in_default.ensures.takes in
-    laws.may-store good f d.number d.local s.view runs a m u.view c.desc.invariant.1.lengths unwritten room most took
+    laws.may-store good f d.number d.local s.view runs a m u.view (subst (λ (h : Handle g.row.K.Denot). fenced (known h).fence a ≡ false) (sym c.desc.view_is) c.requires.spared) c.desc.invariant.1.lengths unwritten room most took
 
 pub invariant_of-desc-2 : goal.invariant_of-desc-2
 invariant_of-desc-2 g c =

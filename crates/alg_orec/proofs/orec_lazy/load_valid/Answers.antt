@@ -1,5 +1,7 @@
-use Rattle.std.proofs.Common.{◌≡◌, ◌≢◌, rules}
+use Rattle.std.proofs.Common.{◌≡◌, ◌≢◌, rules, ap, ◌∙◌}
 use Rattle.std.specs.Prelude.{◌%◌}
+use Rattle.rule_base.specs.declared.views.View.{View}
+use Rattle.rule_base.specs.Encodings.{fenced}
 use Rattle.rule_base.specs.StepKinds.{Nothing}
 use Rattle.rule_orec.specs.OrecSteps.{orec_load, orec_confirm}
 use Rattle.stm_rule.specs.Kept.{good_of}
@@ -13,6 +15,9 @@ load-x-requires-clause-view g c =
     let f = c.args.stm.now.config in
     let rule = good_of g.K.MemRule.good f c.args.stm.now.rule in
     laws.may-load rule f c.args.caller c.requires.caller c.args.a c.args.local.now c.args.seat.now.me.0.view c.requires.view c.in_ok-word.word c.sample_valid.new.local c.sample_valid.new.seat.me.0.view c.in_ok-word.ensures.samples
+
+pub load-x-requires-clause-spared : goal.load-x-requires-clause-spared
+load-x-requires-clause-spared g c = ap (λ (y : View). fenced y.gate.fence c.args.a) c.in_ok-word.ensures.samples.is ∙ c.requires.spared
 
 pub confirm-after-requires-clause-view : goal.confirm-after-requires-clause-view
 confirm-after-requires-clause-view g c =

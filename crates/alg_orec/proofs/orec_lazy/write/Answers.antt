@@ -2,6 +2,7 @@ use Rattle.std.proofs.Common.{◌≡◌, ◌<◌, refl, subst, sym, ap, true, fa
 use Rattle.std.specs.Prelude.{◌^◌}
 use Rattle.stm_model.specs.declared.alg.Alg.TheVariants.{OrecLazy}
 use Rattle.stm_model.specs.Memories.{put}
+use Rattle.rule_base.specs.Encodings.{fenced}
 use Rattle.rule_base.specs.declared.seats.SeatView.{SeatView}
 use Rattle.rule_base.specs.Own.{Own}
 use Rattle.stm_rule.specs.Attempts.{SameLengths, good_by, own_of}
@@ -66,7 +67,7 @@ invariant_of-desc-2 g c =
     let lengths : SameLengths q = (ap (λ (y : LogState). y.len) is ∙ c.desc.invariant.1.lengths.0, c.desc.invariant.1.lengths.1) in (
       c.desc.invariant.0,
       stands-in g.K.MemRule.good f c.args.stm.now.rule s.who d.number q s.view config value running c.desc.invariant.1.holds lengths
-          (laws.stays-written good f d.number d.local s.view i lazy plain quiet k a x log c.requires.inside small is),
+          (laws.stays-written good f d.number d.local s.view i lazy plain quiet k a x log c.requires.inside (subst (λ (p : Handle g.row.K.Denot). fenced (known p).fence a ≡ false) (sym c.desc.view_is) c.requires.spared) small is),
     )
 
 pub returns-clause-write : goal.returns-clause-write

@@ -2,6 +2,7 @@ use Rattle.std.proofs.Common.{◌∙◌}
 use Rattle.std.proofs.lemmas.Result.{err_from_is_err_and}
 use Rattle.alg_orec.proofs.Passing as passing
 use Rattle.alg_orec.proofs.Seats.{seat-on}
+use Rattle.alg_orec.proofs.CountingLaws.{takes-trans, takes-more}
 use Rattle.alg_orec.proofs.validate.pass_before.Goals as goal
 
 pub returns-in_err-pass_read-clause-passes : goal.returns-in_err-pass_read-clause-passes
@@ -20,11 +21,13 @@ loop-i-preserved g c =
     let first = c.args.seat.now.me.0 in
     let s = c.loop-i.seat.me.0 in
     let t = c.pass_read.new.seat.me.0 in
+    let i' = c.loop-i.i in
     let same = c.pass_read.ensures.same in
     record {
       table = same.0.0 ∙ i.table;
       id = same.0.1 ∙ i.id;
       bare = same.0.2 ∙ i.bare;
       seat = seat-on first s t t.view i.seat same.1;
+      steps = takes-trans i' 1 first.view s.view t.view i.steps c.pass_read.ensures.steps;
       passed = passing.passed-next f c.args.caller c.requires.caller c.args.local.now first.view c.requires.view c.loop-i.i s.view i.passed t.view c.in_ok-pass_read.ensures.passes;
     }

@@ -1,4 +1,5 @@
 use Rattle.std.proofs.Common.{◌≡◌}
+use Rattle.alg_orec.specs.Counting.{TakesAtMost}
 use Rattle.alg_orec.specs.Validating.{HasPassed}
 use Rattle.alg_orec.proofs.validate.pass_before.Given as goal
 
@@ -8,5 +9,6 @@ invariant-loop-i g l = record {
   id : l.seat.id ≡ l.fn.seat.id;
   bare : l.seat.me.1 ≡ l.fn.seat.me.1;
   seat : l.seat.me.0 ≡ record l.fn.seat.me.0 { view = l.seat.me.0.view };
+  steps : TakesAtMost l.i l.fn.seat.me.0.view l.seat.me.0.view;
   passed : HasPassed l.stm.config 0 l.i l.local l.fn.seat.me.0.view l.seat.me.0.view;
 }

@@ -5,7 +5,7 @@ use Rattle.alg_ring.proofs.Slot.{ScanSoFar, scan-first, may-scan, scan-next, sca
 use Rattle.alg_ring.proofs.check.first_met.Goals as goal
 
 pub loop-passed-init : goal.loop-passed-init
-loop-passed-init g c = record { table = refl; id = refl; bare = refl; seat = refl; scan = scan-first c.args.stm.now.config c.args.start c.args.clock c.args.filter.now c.args.seat.now.me.0.view }
+loop-passed-init g c = record { table = refl; id = refl; bare = refl; seat = refl; steps = omega arith; scan = scan-first c.args.stm.now.config c.args.start c.args.clock c.args.filter.now c.args.seat.now.me.0.view }
 
 pub slot_bits-bits-requires-clause-seat : goal.slot_bits-bits-requires-clause-seat
 slot_bits-bits-requires-clause-seat g c = let i = c.loop-passed.invariant in (i.table ∙ c.requires.seat.0, ap (λ (y : SeatView g.row.K.Denot). y.who.role) i.seat ∙ c.requires.seat.1)
@@ -36,6 +36,7 @@ loop-passed-preserved g c =
       id = same.0.1 ∙ i.id;
       bare = same.0.2 ∙ i.bare;
       seat = seat-on c.args.seat.now.me.0 c.loop-passed.seat.me.0 c.slot_bits-bits.new.seat.me.0 c.slot_bits-bits.new.seat.me.0.view i.seat same.1;
+      steps = (let q = c.slot_bits-bits.ensures.steps in let p = i.steps in omega arith);
       scan = scan-next c.args.stm.now.config c.args.start c.args.clock c.args.filter.now c.loop-passed.passed c.slot_bits-bits.result c.args.seat.now.me.0.view c.loop-passed.seat.me.0.view c.slot_bits-bits.new.seat.me.0.view i.scan c.slot_bits-bits.ensures.meets none;
     }
 

@@ -1,4 +1,5 @@
-use Rattle.std.proofs.Common.{◌≡◌}
+use Rattle.std.proofs.Common.{◌*◌, ◌-◌, ◌≡◌}
+use Rattle.alg_ring.specs.Counting.{TakesAtMost}
 use Rattle.alg_ring.proofs.Slot.{ScanSoFar}
 use Rattle.alg_ring.proofs.check.first_met.Given as goal
 
@@ -9,4 +10,5 @@ invariant-loop-passed g l = record {
   bare : l.seat.me.1 ≡ l.fn.seat.me.1;
   seat : l.seat.me.0 ≡ record l.fn.seat.me.0 { view = l.seat.me.0.view };
   scan : ScanSoFar l.stm.config l.start l.clock l.filter l.passed l.fn.seat.me.0.view l.seat.me.0.view;
+  steps : TakesAtMost (16 * l.passed) l.fn.seat.me.0.view l.seat.me.0.view;
 }

@@ -1,4 +1,4 @@
-use Rattle.std.proofs.Common.{◌≡◌, ◌+◌, ◌*◌, refl, ap, ◌∙◌, arith, le_refl, rules}
+use Rattle.std.proofs.Common.{length, ◌≡◌, ◌+◌, ◌*◌, refl, ap, ◌∙◌, arith, le_refl, rules}
 use Rattle.std.specs.Prelude.{bit_and}
 use Rattle.rule_base.specs.declared.seats.SeatView.{SeatView}
 use Rattle.rule_base.specs.StepKinds.{Nothing, view_after}
@@ -11,7 +11,7 @@ use Rattle.std.proofs.Common.{subst, sym, ℕ, ◌≢◌}
 use Rattle.alg_ring.proofs.check.part_bits.Goals as goal
 
 pub loop-i-init : goal.loop-i-init
-loop-i-init g c = record { table = refl; id = refl; bare = refl; seat = refl; low = le_refl (4 * c.args.part); loads = part-first c.args.stm.now.config.ring c.args.time c.args.filter.now c.args.part c.args.seat.now.me.0.view }
+loop-i-init g c = record { table = refl; id = refl; bare = refl; seat = refl; low = le_refl (4 * c.args.part); steps = omega arith; loads = part-first c.args.stm.now.config.ring c.args.time c.args.filter.now c.args.part c.args.seat.now.me.0.view }
 
 pub word-requires-in-loop-i-clause-seat : goal.word-requires-in-loop-i-clause-seat
 word-requires-in-loop-i-clause-seat g c = let i = c.loop-i.invariant in (i.table ∙ c.requires.seat.0, ap (λ (y : SeatView g.row.K.Denot). y.who.role) i.seat ∙ c.requires.seat.1)
@@ -35,6 +35,7 @@ loop-i-preserved g c =
       bare = same.2 ∙ i.bare;
       seat = seat-on c.args.seat.now.me.0 s t (view_after (ring_word ring c.args.time c.loop-i.i) step.0 s.view x) i.seat step.3;
       low = (let l = i.low in omega arith);
+      steps = (let l = ap (λ (y : SeatView g.row.K.Denot). length y.view.steps.trail) step.3 in let q = i.steps in let w = i.low in omega arith);
       loads = part-next ring c.args.time c.args.filter.now c.args.part c.loop-i.i c.args.seat.now.me.0.view s.view t.view x i.loads (tells-of (ring_word ring c.args.time c.loop-i.i) Nothing s x t step) i.low
           (ap (λ (k : ℕ). bit_and k x) (sym c.word.ensures) ∙ c.if-bits-ne0.false);
     }

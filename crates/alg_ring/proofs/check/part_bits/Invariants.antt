@@ -1,4 +1,5 @@
-use Rattle.std.proofs.Common.{◌≡◌, ◌≤◌, ◌*◌}
+use Rattle.std.proofs.Common.{◌-◌, ◌≡◌, ◌≤◌, ◌*◌}
+use Rattle.alg_ring.specs.Counting.{TakesAtMost}
 use Rattle.alg_ring.proofs.Slot.{PartSoFar}
 use Rattle.alg_ring.proofs.check.part_bits.Given as goal
 
@@ -10,4 +11,5 @@ invariant-loop-i g l = record {
   seat : l.seat.me.0 ≡ record l.initial.seat.me.0 { view = l.seat.me.0.view };
   low : 4 * l.part ≤ l.i;
   loads : PartSoFar l.stm.config.ring l.time l.filter l.part l.i l.initial.seat.me.0.view l.seat.me.0.view;
+  steps : TakesAtMost (l.i - 4 * l.part) l.initial.seat.me.0.view l.seat.me.0.view;
 }

@@ -24,6 +24,7 @@ loop-part-init g c =
       bare = same.0.2;
       seat = same.1;
       low = le_refl 1;
+      steps = (let q = c.part_bits-lowest.ensures.steps in omega arith);
       words = slot-more ring c.args.time f 0 c.part_bits-lowest.result v v u (slot-first ring c.args.time f v) l;
       met = slot-one ring c.args.time f 0 c.part_bits-lowest.result v v u (slot-first ring c.args.time f v) l refl some;
     }
@@ -64,6 +65,7 @@ loop-part-preserved g c =
       bare = same.0.2 ∙ i.bare;
       seat = seat-on c.args.seat.now.me.0 w u u.view i.seat same.1;
       low = (let q = i.low in omega arith);
+      steps = (let q = c.part_bits-bits.ensures.steps in let p = i.steps in omega arith);
       words = slot-more ring c.args.time f c.loop-part.part c.part_bits-bits.result v w.view u.view i.words l;
       met = slot-next ring c.args.time f c.loop-part.part c.part_bits-bits.result v w.view u.view i.words l c.part_bits-lowest.result i.low some i.met;
     }

@@ -1,4 +1,5 @@
-use Rattle.std.proofs.Common.{◌≡◌, ◌≤◌}
+use Rattle.std.proofs.Common.{◌*◌, ◌-◌, ◌≡◌, ◌≤◌}
+use Rattle.alg_ring.specs.Counting.{TakesAtMost}
 use Rattle.alg_ring.proofs.Slot.{SlotWords, SlotMet}
 use Rattle.alg_ring.proofs.check.slot_bits.Given as goal
 
@@ -11,4 +12,5 @@ invariant-loop-part g l = record {
   low : 1 ≤ l.part;
   words : SlotWords l.stm.config.ring l.time l.filter l.part l.fn.seat.me.0.view l.seat.me.0.view;
   met : SlotMet l.stm.config.ring l.time l.filter l.part l.lowest words.words;
+  steps : TakesAtMost (4 * l.part) l.fn.seat.me.0.view l.seat.me.0.view;
 }

@@ -1,4 +1,4 @@
-use Rattle.std.proofs.Common.{ℕ, ◌≡◌, ◌<◌, [], ◌∷◌, refl, sym, ap, ◌∙◌, subst, arith}
+use Rattle.std.proofs.Common.{length, ℕ, ◌≡◌, ◌<◌, [], ◌∷◌, refl, sym, ap, ◌∙◌, subst, arith, List}
 use Rattle.std.specs.Prelude.{None}
 use Rattle.rule_base.specs.declared.layout.At.TheVariants.{Slot}
 use Rattle.rule_base.specs.declared.layout.TheConstants.{SLOT_WORDS}
@@ -9,8 +9,10 @@ use Rattle.rule_base.specs.StepKinds.{Tells, view_after}
 use Rattle.rule_ring.specs.RingSteps.{ring_slot, ring_enter, CanRingSlot, CanRingEnter, RingEnters}
 use Rattle.rule_ring.specs.SlotFilter.{slot_filter}
 use Rattle.rule_ring.specs.Slots.{slot_place}
+use Rattle.rule_base.specs.declared.entries.Cell.{Cell}
+use Rattle.stm_rule.specs.Lifting.{AreSpared}
 use Rattle.stm_rule.specs.Kept.{good_of}
-use Rattle.stm_rule.specs.RecordsKept.{cells_of}
+use Rattle.stm_rule.specs.RecordsKept.{Apart, cells_of}
 use Rattle.stm_rule.specs.StandLemmas.{tells-of}
 use Rattle.alg_ring.proofs.Entering.{slotted_at, may-slot, may-enter, tells-entered}
 use Rattle.alg_ring.proofs.ring.enter.Goals as goal
@@ -21,6 +23,7 @@ loop-i-init g c = let v = c.args.seat.now.me.0.view in record {
   id = refl;
   bare = refl;
   writes = v.ring_commit.writes;
+  steps = omega arith;
   more = [];
   same = λ z. absurd (omega arith);
   seat = λ j. record c.args.seat.now.me.0 { view = slotted_at v (c.requires.enter.unslotted j) v.ring_commit.writes [] };
@@ -52,6 +55,7 @@ loop-i-preserved g c =
     record {
       table = same.0 ∙ i.table;
       id = same.1 ∙ i.id;
+      steps = (let l = ap (λ (y : SeatView g.row.K.Denot). length y.view.steps.trail) step.3 in let q = i.steps in omega arith);
       bare = same.2 ∙ i.bare;
       writes = ws;
       more = record { place = Slot (slot_place ring c.args.time c.loop-i.i); act = Store (slot_filter.word ws c.loop-i.i); found = None } ∷ i.more;
@@ -72,6 +76,14 @@ enter-requires-clause-view g c =
     let all : c.loop-i.i ≡ SLOT_WORDS = (let a = c.loop-i-test.false in let b = c.loop-i.auto.i-end in omega arith) in
     subst (CanRingEnter (good_of g.K.MemRule.good f c.args.stm.now.rule) f.words c.args.time) (sym (ap (λ (y : SeatView g.row.K.Denot). y.view) i.seat ∙ ap (λ (k : ℕ). slotted_at v k i.writes i.more) all))
     (may-enter good f c.args.time l v c.requires.enter i.writes i.more (i.same (omega arith)))
+
+pub enter-requires-clause-spared : goal.enter-requires-clause-spared
+enter-requires-clause-spared g c =
+    let i = c.loop-i.invariant in
+    let v = c.args.seat.now.me.0.view in
+    let all : c.loop-i.i ≡ SLOT_WORDS = (let a = c.loop-i-test.false in let b = c.loop-i.auto.i-end in omega arith) in
+    subst (λ (y : View). AreSpared y.ring_commit.writes y) (sym (ap (λ (y : SeatView g.row.K.Denot). y.view) i.seat ∙ ap (λ (k : ℕ). slotted_at v k i.writes i.more) all))
+    (subst (λ (cs : List Cell). Apart v.gate.fence cs) (i.same (omega arith)) c.requires.enter.spared)
 
 pub returns-clause-same : goal.returns-clause-same
 returns-clause-same g c =

@@ -2,6 +2,7 @@ use Rattle.std.proofs.Common.{◌≡◌, ◌<◌, List}
 use Rattle.rule_base.specs.declared.entries.Cell.{Cell}
 use Rattle.rule_base.specs.declared.views.TrailItem.{TrailItem}
 use Rattle.stm_rule.specs.RecordsKept.{cells_of}
+use Rattle.stm_gate.specs.Counting.{TakesAtMost}
 use Rattle.alg_ring.proofs.Entering.{slotted_at}
 use Rattle.alg_ring.proofs.ring.enter.Given as goal
 
@@ -14,4 +15,5 @@ invariant-loop-i g l = record {
   more : List TrailItem;
   same : 0 < l.i → cells_of l.local.writes.items ≡ writes;
   seat : l.seat.me.0 ≡ record l.initial.seat.me.0 { view = slotted_at l.initial.seat.me.0.view l.i writes more };
+  steps : TakesAtMost l.i l.initial.seat.me.0.view l.seat.me.0.view;
 }

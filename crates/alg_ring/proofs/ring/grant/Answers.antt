@@ -140,6 +140,20 @@ store_all-requires-clause-granted g c =
     let under : clock < CLOCK_LIMIT = search rules in
     laws.may-store (good stm.rule) stm.config d.number d.local s.view can clock w.view t under c.in-Ok.start c.check_to_grant.new.seat.me.0.view c.in-Ok.ensures.checks
 
+pub store_all-requires-clause-spared : goal.store_all-requires-clause-spared
+store_all-requires-clause-spared g c =
+    let good = g.K.MemRule.good in
+    let stm = c.args.stm.now in
+    let d = c.desc.inside in
+    let s = d.seat.me.0 in
+    let a = opened good stm d.number d.local c.desc.view_is refl c.desc.invariant.0.named c.desc.invariant.0.low c.desc.invariant.1 c.requires.stm in
+    let can = can-grant good stm a c.requires.running c.requires.algorithm c.requires.revocable c.requires.alone in
+    let clock = c.settle-clock.result in
+    let w = c.settle-clock.new.seat.me.0 in
+    let t = tells-of settle FindsWithin s clock w c.settle-clock.ensures.step in
+    let under : clock < CLOCK_LIMIT = search rules in
+    laws.are-spared (good stm.rule) stm.config d.number d.local s.view can clock w.view t under c.in-Ok.start c.check_to_grant.new.seat.me.0.view c.in-Ok.ensures.checks
+
 pub store_all-requires-clause-inside : goal.store_all-requires-clause-inside
 store_all-requires-clause-inside g c =
     let good = g.K.MemRule.good in

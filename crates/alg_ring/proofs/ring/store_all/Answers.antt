@@ -1,5 +1,6 @@
 use Rattle.std.proofs.Common.{ℕ, ◌<◌, List, [], ◌∷◌, length, refl, sym, ap, ◌∙◌, subst, arith}
 use Rattle.std.specs.Prelude.{None}
+use Rattle.rule_base.specs.Encodings.{fenced}
 use Rattle.rule_base.specs.declared.entries.Cell.{Cell}
 use Rattle.rule_base.specs.declared.layout.At.TheVariants.{Heap}
 use Rattle.rule_base.specs.declared.seats.SeatView.{SeatView}
@@ -26,6 +27,12 @@ direct_store-requires-clause-view g c =
       inside = c.requires.inside c.item-a.result.0 (item-inside c.args.writes.now.items c.loop-i.i c.item-a.result low c.item-a.ensures);
       small = omega arith;
     })
+
+pub direct_store-requires-clause-spared : goal.direct_store-requires-clause-spared
+direct_store-requires-clause-spared g c =
+    let i = c.loop-i.invariant in
+    let low : c.loop-i.i < length c.args.writes.now.items = omega (arith, c.loop-i-test.true, c.count-i-end.ensures.count) in
+    ap (λ (y : SeatView g.row.K.Denot). fenced y.view.gate.fence c.item-a.result.0) i.seat ∙ c.requires.spared c.item-a.result.0 (item-inside c.args.writes.now.items c.loop-i.i c.item-a.result low c.item-a.ensures)
 
 pub loop-i-preserved : goal.loop-i-preserved
 loop-i-preserved g c =

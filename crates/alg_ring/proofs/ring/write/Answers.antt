@@ -1,6 +1,7 @@
-use Rattle.std.proofs.Common.{ℕ, ◌≡◌, ◌<◌, ap, refl, sym, subst, ◌∙◌, true, rules}
+use Rattle.std.proofs.Common.{ℕ, ◌≡◌, ◌<◌, ap, refl, sym, subst, ◌∙◌, true, false, rules}
 use Rattle.std.specs.Prelude.{◌^◌, Some}
 use Rattle.stm_model.specs.Memories.{put}
+use Rattle.rule_base.specs.Encodings.{fenced}
 use Rattle.stm_model.specs.declared.alg.Alg.TheVariants.{RingSw}
 use Rattle.tx_logs.specs.LogStates.{LogState}
 use Rattle.stm_rule.specs.Attempts.{SameLengths, own_of}
@@ -58,7 +59,7 @@ invariant_of-desc-2 g c =
     let value = subst (λ (p : Handle g.row.K.Denot). p.who.rule ≡ Some c.args.stm.now.rule) (sym c.desc.view_is) c.requires.stm.rule in
     let stands = stands-of g.K.MemRule.good f c.args.stm.now.rule s.who d.number l s.view config value c.desc.invariant.1 in
     let m = record l { writes = c.push.new.self; stored = c.add.new.self; wrote = true } in
-    let inside = laws.stays-written good f d.number a l s.view i named plain quiet (ring-of good f d.number l s.view i named plain) x c.push.new.self c.add.new.self p.1 c.requires.inside small c.add.ensures.words in
+    let inside = laws.stays-written good f d.number a l s.view i named plain quiet (ring-of good f d.number l s.view i named plain) x c.push.new.self c.add.new.self p.1 c.requires.inside (subst (λ (p : Handle g.row.K.Denot). fenced (known p).fence a ≡ false) (sym c.desc.view_is) c.requires.spared) small c.add.ensures.words in
     let lengths : SameLengths m = (ap (λ (log : LogState). log.len) p.1 ∙ stands.lengths.0, stands.lengths.1) in (
       c.desc.invariant.0,
       stands-back g.K.MemRule.good f c.args.stm.now.rule s.who d.number m s.view config value (stands-on good f d.number l m s.view s.view i.phase stands refl refl lengths refl inside),

@@ -16,6 +16,7 @@ loop-i-init g c = let v = c.args.seat.now.me.0.view in record {
   table = refl;
   id = refl;
   bare = refl;
+  steps = omega arith;
   more = [];
   seat = λ i. record c.args.seat.now.me.0 { view = back_at v (c.requires.back.back i) [] };
 }
@@ -54,6 +55,7 @@ loop-i-preserved g c =
     record {
       table = same.0 ∙ i.table;
       id = same.1 ∙ i.id;
+      steps = (let l = ap (λ (y : SeatView g.row.K.Denot). length y.view.steps.trail) step.3 in let q = i.steps in omega arith);
       bare = same.2 ∙ i.bare;
       more = record { place = Heap a; act = Store x; found = None } ∷ i.more;
       seat = step.3 ∙ (ap (λ (y : SeatView g.row.K.Denot). record y { view = view_after (ring_write a x) step.0 y.view x }) i.seat

@@ -1,4 +1,4 @@
-use Rattle.std.proofs.Common.{◌≡◌, ◌<◌, List, [], ◌∷◌, length, false, refl, sym, ap, ◌∙◌, subst, arith}
+use Rattle.std.proofs.Common.{◌≡◌, ◌<◌, ◌≤◌, List, [], ◌∷◌, length, false, refl, sym, ap, ◌∙◌, subst, arith}
 use Rattle.std.specs.Prelude.{None}
 use Rattle.stm_model.specs.Algorithms.{takes_lock, is_sure}
 use Rattle.rule_base.specs.declared.layout.At.TheVariants.{Heap, Lock}
@@ -14,6 +14,7 @@ use Rattle.stm_gate.specs.LeavingLaws.{IsUnmade}
 use Rattle.stm_rule.specs.StandLemmas.{tells-of}
 use Rattle.alg_seq.proofs.Locked.{locked}
 use Rattle.stm_gate.specs.Peeling.{drop-all, peeled, inside-without}
+use Rattle.alg_seq.proofs.CountingLaws.{takes-left}
 use Rattle.alg_seq.proofs.Undoing.{covers, covers-without, covers-none, taken-step}
 use Rattle.alg_seq.proofs.serial.roll_back.Goals as goal
 
@@ -34,6 +35,7 @@ loop-i-init g c =
       seat = refl;
       left = sym (k.undone revocable);
       within = k.within;
+      steps = omega arith;
       covered = covers l.undo.items v.attempt.stores v.lock.undo (k.undone revocable) (k.undoable revocable);
     }
 
@@ -79,6 +81,7 @@ loop-i-preserved g c =
     record {
       table = same.0 ∙ i.table;
       id = same.1 ∙ i.id;
+      steps = (let l = ap (λ (y : SeatView g.row.K.Denot). length y.view.steps.trail) step.3 in let q = i.steps in omega arith);
       bare = same.2 ∙ i.bare;
       more = record { place = Heap a; act = Store c.item-a.result.1; found = None } ∷ i.more;
       seat = taken-step c.args.seat.now.me.0 s t i.more a c.item-a.result.1 step.0 i.seat step.3;
@@ -119,3 +122,13 @@ returns-clause-gives_up g c =
       rises = ap (λ (y : View). y.steps.rises) path;
       is = ap (λ (y : SeatView g.row.K.Denot). y.view) c.leave.ensures.left;
     }
+
+pub returns-clause-steps : goal.returns-clause-steps
+returns-clause-steps g c =
+    let s = c.free_lock.new.seat.me.0.view in
+    let e = ap (λ (y : SeatView g.row.K.Denot). length y.view.steps.trail) c.leave.ensures.left in
+    let two = takes-left c.args.caller s in
+    let one = ap (λ (y : SeatView g.row.K.Denot). length y.view.steps.trail) c.free_lock.ensures.step.3 in
+    let q = c.loop-i.invariant.steps in
+    let k = c.count-i-end.ensures in let most : c.loop-i.i ≤ c.args.local.now.undo.len = omega (arith, c.loop-i.auto.i-end, k) in
+    omega arith

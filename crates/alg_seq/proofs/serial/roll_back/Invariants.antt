@@ -2,6 +2,7 @@ use Rattle.std.proofs.Common.{ℕ, ◌≡◌, List, drop, true}
 use Rattle.rule_base.specs.declared.views.TrailItem.{TrailItem}
 use Rattle.rule_base.specs.Bridge.{items}
 use Rattle.rule_base.specs.History.{touches, Inside}
+use Rattle.alg_seq.specs.Counting.{TakesAtMost}
 use Rattle.alg_seq.proofs.Undoing.{taken}
 use Rattle.alg_seq.proofs.serial.roll_back.Given as goal
 
@@ -15,4 +16,5 @@ invariant-loop-i g l = record {
   left : items l.seat.me.0.view.lock.undo ≡ drop l.i l.local.undo.items;
   within : Inside l.stm.config.words l.seat.me.0.view.lock.undo;
   covered : (a : ℕ) → touches l.seat.me.0.view.attempt.stores a ≡ true → touches l.seat.me.0.view.lock.undo a ≡ true;
+  steps : TakesAtMost l.i l.initial.seat.me.0.view l.seat.me.0.view;
 }

@@ -1,8 +1,9 @@
-use Rattle.std.proofs.Common.{◌≡◌, ◌<◌, ◌∙◌, true, refl, subst, sym, ap}
+use Rattle.std.proofs.Common.{◌≡◌, ◌<◌, ◌∙◌, true, false, refl, subst, sym, ap}
 use Rattle.stm_model.specs.declared.alg.Alg.TheVariants.{Serial}
 use Rattle.rule_base.specs.declared.seats.SeatView.{SeatView}
 use Rattle.rule_base.specs.declared.views.View.{View}
 use Rattle.rule_base.specs.StepKinds.{Nothing}
+use Rattle.rule_base.specs.Encodings.{fenced}
 use Rattle.rule_base.specs.Own.{Own}
 use Rattle.stm_rule.specs.declared.local.Local.{Local}
 use Rattle.rule_base.specs.declared.seats.Who.{Who}
@@ -86,3 +87,6 @@ returns-in-Err-clause-write g c =
     let h = c.in-Err.ensures.keeps in
     told (λ n v w. HasWritten good f n c.args.a c.args.x c.in-Err.refusal v w) (handle_of d.seat o) c.args.desc.now d.number w c.keep_old.new.local c.desc.view_is (ap (λ (y : SeatView g.row.K.Denot). y.who) k.1) c.desc.invariant.0.named
     (subst (λ (m : Local). HasWritten good f d.number c.args.a c.args.x c.in-Err.refusal (known_of s.view o) (known_of w.view (own_of m))) (sym h.0) (h.2 c.args.x o ((ap (λ (p : Handle g.row.K.Denot). (known p).committing) c.desc.view_is ∙ c.requires.running.1), refl)))
+
+pub store_heap-requires-clause-spared : goal.store_heap-requires-clause-spared
+store_heap-requires-clause-spared g c = ap (λ k. fenced k c.args.a) c.in-Ok.ensures.keeps.2.fence ∙ subst (λ (h : Handle g.row.K.Denot). fenced (known h).fence c.args.a ≡ false) (sym c.desc.view_is) c.requires.spared

@@ -3,7 +3,7 @@ use Rattle.rule_base.specs.StepKinds.{Nothing}
 use Rattle.rule_base.specs.Ranks.{home_of}
 use Rattle.stm_rule.specs.Kept.{good_of}
 use Rattle.stm_rule.specs.Product.{Whole}
-use Rattle.stm_rule.specs.RecordLaws.{orec_olds}
+use Rattle.stm_rule.specs.Lifted.{orec_olds}
 use Rattle.stm_rule.specs.Allowing.{law_of}
 use Rattle.steps_orec.proofs.lazy.release_old.Goals as goal
 

@@ -2,7 +2,7 @@ use Rattle.rule_promoted.specs.PromotedSteps.{direct_release, CanDirectRelease}
 use Rattle.rule_base.specs.StepKinds.{Nothing}
 use Rattle.stm_rule.specs.Kept.{good_of}
 use Rattle.stm_rule.specs.Product.{Whole}
-use Rattle.stm_rule.specs.PromotionLaws.{direct_releases}
+use Rattle.stm_rule.specs.Lifted.{direct_releases}
 use Rattle.stm_rule.specs.Allowing.{law_of}
 use Rattle.steps_orec.proofs.promoting.direct_release.Goals as goal
 

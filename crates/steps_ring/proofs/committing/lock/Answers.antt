@@ -1,6 +1,6 @@
 use Rattle.rule_ring.specs.RingSteps.{ring_lock, CanRingLock}
 use Rattle.stm_rule.specs.Findings.{FindsLock}
-use Rattle.stm_rule.specs.RingLaws.{ring_locks}
+use Rattle.stm_rule.specs.Lifted.{ring_locks}
 use Rattle.stm_rule.specs.Kept.{good_of}
 use Rattle.stm_rule.specs.Product.{Whole}
 use Rattle.stm_rule.specs.Allowing.{law_of}

@@ -1,6 +1,6 @@
 use Rattle.rule_ring.specs.RingSteps.{ring_slot, CanRingSlot}
 use Rattle.rule_base.specs.StepKinds.{Nothing}
-use Rattle.stm_rule.specs.RingLaws.{ring_slots}
+use Rattle.stm_rule.specs.Lifted.{ring_slots}
 use Rattle.rule_ring.specs.SlotFilter.{slot_filter}
 use Rattle.stm_rule.specs.RecordsKept.{cells_of}
 use Rattle.std.proofs.Common.{refl, arith}

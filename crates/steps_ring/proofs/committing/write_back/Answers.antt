@@ -1,6 +1,6 @@
 use Rattle.rule_ring.specs.RingSteps.{ring_write, CanRingWrite}
 use Rattle.rule_base.specs.StepKinds.{Nothing}
-use Rattle.stm_rule.specs.RingLaws.{ring_writes}
+use Rattle.stm_rule.specs.Lifted.{ring_writes}
 use Rattle.stm_rule.specs.Kept.{good_of}
 use Rattle.stm_rule.specs.Product.{Whole}
 use Rattle.stm_rule.specs.Allowing.{law_of}

@@ -1,7 +1,8 @@
 use Rattle.rule_ring.specs.RingSteps.{ring_load, CanRingLoad}
 use Rattle.rule_base.specs.StepKinds.{Nothing}
-use Rattle.stm_rule.specs.RingLaws.{ring_loads}
+use Rattle.stm_rule.specs.Lifted.{ring_loads}
 use Rattle.stm_rule.specs.Kept.{good_of}
+use Rattle.stm_rule.specs.Lifting.{IsSpared}
 use Rattle.stm_rule.specs.Product.{Whole}
 use Rattle.stm_rule.specs.Allowing.{law_of}
 use Rattle.steps_ring.proofs.reading.load.Goals as goal
@@ -11,4 +12,4 @@ load_as-requires-clause-law g c =
     let f = c.args.stm.now.config in
     let m = good_of g.K.MemRule.good f c.args.stm.now.rule in
     let n = c.args.caller in
-    law_of (Whole m f) (ring_load c.args.a) Nothing n (CanRingLoad f.words c.args.a) c.args.seat.now.me.0.view (ring_loads m f n c.args.a) c.requires.view
+    law_of (Whole m f) (ring_load c.args.a) Nothing n (λ v. CanRingLoad f.words c.args.a v × IsSpared c.args.a v) c.args.seat.now.me.0.view (ring_loads m f n c.args.a) (c.requires.view, c.requires.spared)

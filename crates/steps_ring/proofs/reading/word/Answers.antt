@@ -1,6 +1,6 @@
 use Rattle.rule_ring.specs.RingSteps.{ring_word, CanRingWord}
 use Rattle.rule_base.specs.StepKinds.{Nothing}
-use Rattle.stm_rule.specs.RingLaws.{ring_words}
+use Rattle.stm_rule.specs.Lifted.{ring_words}
 use Rattle.std.proofs.Common.{refl, arith}
 use Rattle.rule_ring.specs.Slots.{slot_place, slot_place-inside}
 use Rattle.stm_rule.specs.Kept.{good_of}

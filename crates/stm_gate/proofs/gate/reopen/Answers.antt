@@ -24,4 +24,4 @@ returns-clause-reopens g c =
     let alg = d.local.algorithm in
     let w = c.reopen.new.seat.me.0 in
     shown-of (λ (n : ℕ) (v w : Known). Reopens good f n v w) h e d.number w.view d.local d.local c.desc.view_is refl name
-    (tells-reopened good f d.number alg s.view w.view o (tells-of (reopen alg) Nothing s (gate_word 0 alg) w c.reopen.ensures.step))
+    (tells-reopened good f d.number d.local.fence alg s.view w.view o (tells-of (reopen d.local.fence alg) Nothing s (gate_word d.local.fence 0 alg) w c.reopen.ensures.step))

@@ -1,4 +1,4 @@
-use Rattle.std.proofs.Common.{subst, sym, ap, ◌∙◌, ◌≡◌, ◌≢◌, ◌<◌, refl, rules}
+use Rattle.std.proofs.Common.{arith, subst, sym, ap, ◌∙◌, ◌≡◌, ◌≢◌, ◌<◌, refl, rules}
 use Rattle.stm_rule.specs.Attempts.{HasLooked}
 use Rattle.stm_gate.specs.Knowing.{number}
 use Rattle.stm_gate.specs.Looking.{Finds}
@@ -55,6 +55,7 @@ loop-other-preserved g c =
       own = c.look_at-status.ensures.own.0 ∙ i.own;
       holds = ap (λ y. y.gate.holds) looks.is ∙ i.holds;
       looked = (subst (λ m. Finds f m k x v w) name c.look_at-status.ensures.found).idle idle;
+      steps = (let q = c.look_at-status.ensures.steps in let p = c.loop-other.invariant.steps in omega arith);
       looks = looks-more u v w i.looks looks;
     }
 
@@ -65,5 +66,6 @@ loop-other-init g c = record {
   own = refl;
   holds = c.requires.holds;
   looked = subst (λ q. HasLooked q.callers (number c.args.desc.now) c.first_unseen-other.result c.args.desc.now.view) c.requires.stm.config c.first_unseen-other.ensures;
+  steps = omega arith;
   looks = looks-none c.args.desc.now.view;
 }

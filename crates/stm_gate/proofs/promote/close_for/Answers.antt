@@ -119,10 +119,10 @@ returns-then-found-gate_word-clause-closes g c =
     let alg = d.local.algorithm in
     let found = c.seize-found.result in
     let w = c.seize-found.new.seat.me.0 in
-    let b = tells-of (seize d.number alg) (FindsTaken f d.number (gate_word 0 alg)) t found w c.seize-found.ensures.step in
-    let other : found ≢ gate_word 0 alg = search rules in
+    let b = tells-of (seize d.number d.local.fence alg) (FindsTaken f d.number (gate_word d.local.fence 0 alg)) t found w c.seize-found.ensures.step in
+    let other : found ≢ gate_word d.local.fence 0 alg = search rules in
     subst (λ (p : Handle g.row.K.Denot). ClosesFor f (number p) (Some found) p.view w.view) c.desc.view_is (subst (λ (k : ℕ). ClosesFor f k (Some found) s.view w.view) (sym name)
-    (seizes-taken f d.number alg gate found s.view t.view w.view low other a b))
+    (seizes-taken f d.number d.local.fence alg gate found s.view t.view w.view low other a b))
 
 pub returns-clause-closes : goal.returns-clause-closes
 returns-clause-closes g c =
@@ -144,10 +144,10 @@ returns-clause-closes g c =
     let alg = d.local.algorithm in
     let found = c.seize-found.result in
     let w = c.seize-found.new.seat.me.0 in
-    let b = tells-of (seize d.number alg) (FindsTaken f d.number (gate_word 0 alg)) t found w c.seize-found.ensures.step in
-    let won : found ≡ gate_word 0 alg = search rules in
+    let b = tells-of (seize d.number d.local.fence alg) (FindsTaken f d.number (gate_word d.local.fence 0 alg)) t found w c.seize-found.ensures.step in
+    let won : found ≡ gate_word d.local.fence 0 alg = search rules in
     subst (λ (p : Handle g.row.K.Denot). ClosesFor f (number p) None p.view w.view) c.desc.view_is (subst (λ (k : ℕ). ClosesFor f k None s.view w.view) (sym name)
-    (takes-won f d.number alg gate found s.view t.view w.view won a b))
+    (takes-won f d.number d.local.fence alg gate found s.view t.view w.view won a b))
 
 pub invariant_of-desc-2 : goal.invariant_of-desc-2
 invariant_of-desc-2 g c =
@@ -169,11 +169,11 @@ invariant_of-desc-2 g c =
     let alg = d.local.algorithm in
     let found = c.seize-found.result in
     let w = c.seize-found.new.seat.me.0 in
-    let b = tells-of (seize d.number alg) (FindsTaken f d.number (gate_word 0 alg)) t found w c.seize-found.ensures.step in
-    let won : found ≡ gate_word 0 alg = search rules in
+    let b = tells-of (seize d.number d.local.fence alg) (FindsTaken f d.number (gate_word d.local.fence 0 alg)) t found w c.seize-found.ensures.step in
+    let won : found ≡ gate_word d.local.fence 0 alg = search rules in
     let closes = subst (λ (p : Handle g.row.K.Denot). closes_gate (known p).alg ≡ true) (sym c.desc.view_is) c.requires.closes in
     let revocable = subst (λ (p : Handle g.row.K.Denot). is_irrevocable (known p) ≡ false) (sym c.desc.view_is) c.requires.revocable in
-    let who = who-of (seize d.number alg) (FindsTaken f d.number (gate_word 0 alg)) t found w c.seize-found.ensures.step ∙ who-of look_gate (FindsGate f d.number) s gate t c.look_gate-gate.ensures.step in
-    let stands = seized-stands s.who.config d.number (good_by g.K.MemRule.good s.who.rule) d.local s.view w.view o _ (seizes-won f d.number alg gate found s.view t.view w.view won a b) i.phase closes revocable c.desc.invariant.1 in
+    let who = who-of (seize d.number d.local.fence alg) (FindsTaken f d.number (gate_word d.local.fence 0 alg)) t found w c.seize-found.ensures.step ∙ who-of look_gate (FindsGate f d.number) s gate t c.look_gate-gate.ensures.step in
+    let stands = seized-stands s.who.config d.number (good_by g.K.MemRule.good s.who.rule) d.local s.view w.view o _ (seizes-won f d.number d.local.fence alg gate found s.view t.view w.view won a b) i.phase closes revocable c.desc.invariant.1 in
     let moved = subst (λ (q : Who g.row.K.Denot). Stands (good_by g.K.MemRule.good q.rule) q.config d.number (record d.local { holds = true; next = 0 }) w.view) (sym who) stands in
     (search rules, moved)

@@ -1,6 +1,6 @@
 use Rattle.rule_seq.specs.CglSteps.{load_limit, LoadsLimit, CanLoadLimit}
 use Rattle.stm_rule.specs.Kept.{good_of}
-use Rattle.stm_rule.specs.Laws.{loads_limit}
+use Rattle.stm_rule.specs.Lifted.{loads_limit}
 use Rattle.stm_rule.specs.Product.{Whole}
 use Rattle.stm_rule.specs.Allowing.{law_of}
 use Rattle.stm_rule.proofs.stm.Stm.load_limit.Goals as goal

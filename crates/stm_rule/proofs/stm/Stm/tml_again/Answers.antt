@@ -1,6 +1,6 @@
 use Rattle.rule_seq.specs.TmlSteps.{tml_again, CanTmlAgain}
 use Rattle.stm_rule.specs.Kept.{good_of}
-use Rattle.stm_rule.specs.BesideLaws.{agains_beside}
+use Rattle.stm_rule.specs.Lifted.{agains_beside}
 use Rattle.stm_rule.specs.Findings.{FindsAgain}
 use Rattle.stm_rule.specs.Product.{Whole}
 use Rattle.stm_rule.specs.Allowing.{law_of}

@@ -1,6 +1,6 @@
 use Rattle.rule_seq.specs.TmlSteps.{tml_begin, CanTmlBegin}
 use Rattle.stm_rule.specs.Kept.{good_of}
-use Rattle.stm_rule.specs.BesideLaws.{begins_beside}
+use Rattle.stm_rule.specs.Lifted.{begins_beside}
 use Rattle.stm_rule.specs.Findings.{FindsBegin}
 use Rattle.stm_rule.specs.Product.{Whole}
 use Rattle.stm_rule.specs.Allowing.{law_of}

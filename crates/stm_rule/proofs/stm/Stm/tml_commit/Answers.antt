@@ -1,7 +1,7 @@
 use Rattle.rule_seq.specs.TmlSteps.{tml_commit, CanTmlCommit}
 use Rattle.rule_seq.specs.CglSteps.{Commits}
 use Rattle.stm_rule.specs.Kept.{good_of}
-use Rattle.stm_rule.specs.Laws.{tml_commits}
+use Rattle.stm_rule.specs.Lifted.{tml_commits}
 use Rattle.stm_rule.specs.Product.{Whole}
 use Rattle.stm_rule.specs.Allowing.{law_of}
 use Rattle.stm_rule.proofs.stm.Stm.tml_commit.Goals as goal

@@ -1,6 +1,6 @@
 use Rattle.rule_promoted.specs.PromotedSteps.{tml_grant, CanTmlGrant}
 use Rattle.stm_rule.specs.Kept.{good_of}
-use Rattle.stm_rule.specs.BesideLaws.{grants_beside}
+use Rattle.stm_rule.specs.Lifted.{grants_beside}
 use Rattle.stm_rule.specs.Findings.{FindsSole}
 use Rattle.stm_rule.specs.Product.{Whole}
 use Rattle.stm_rule.specs.Allowing.{law_of}

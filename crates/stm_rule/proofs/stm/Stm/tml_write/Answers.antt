@@ -1,6 +1,6 @@
 use Rattle.rule_seq.specs.TmlSteps.{tml_write, CanTmlWrite}
 use Rattle.stm_rule.specs.Kept.{good_of}
-use Rattle.stm_rule.specs.BesideLaws.{writes_beside}
+use Rattle.stm_rule.specs.Lifted.{writes_beside}
 use Rattle.stm_rule.specs.Findings.{FindsSole}
 use Rattle.stm_rule.specs.Product.{Whole}
 use Rattle.stm_rule.specs.Allowing.{law_of}

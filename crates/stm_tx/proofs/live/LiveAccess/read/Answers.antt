@@ -2,9 +2,14 @@ use Rattle.std.proofs.Common.{◌≡◌, ◌∙◌, true, false, refl, sym, ap, 
 use Rattle.std.specs.Prelude.{is_none, Some}
 use Rattle.stm_model.specs.declared.alg.Alg.{Alg}
 use Rattle.tx_answers.specs.KnownLaws.{in-attempt}
+use Rattle.rule_base.specs.EncodingLemmas.{fenced-none}
+use Rattle.rule_base.specs.Encodings.{fenced}
 use Rattle.stm_tx.specs.Descs.{known, number}
 use Rattle.stm_tx.proofs.Stopping.{read-alg, read-stopped, stops-quits, since-stopped, since-at}
 use Rattle.stm_tx.proofs.live.LiveAccess.read.Goals as goal
+
+pub read-requires-clause-spared : goal.read-requires-clause-spared
+read-requires-clause-spared g c = let me = c.args.self.now in ap (λ k. fenced k c.args.a) (me.unfenced (ap is_none c.requires.going)) ∙ fenced-none c.args.a
 
 pub invariant_of-self-in-Err : goal.invariant_of-self-in-Err
 invariant_of-self-in-Err g c =
@@ -22,6 +27,7 @@ invariant_of-self-in-Err g c =
       runs = q.ends.idle.1;
       served = subst (λ (a : Alg). g.C.Calls.acts_as a ≡ a) (sym (read-alg good f n c.args.a v w c.read.result c.read.ensures.read)) me.served;
       «open» = λ e. absurd (let no : false ≡ true = e in cc);
+      unfenced = λ e. absurd (let no : false ≡ true = e in cc);
     }
 
 pub returns-in-Err-clause-keeps : goal.returns-in-Err-clause-keeps

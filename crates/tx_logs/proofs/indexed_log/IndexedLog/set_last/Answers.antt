@@ -1,4 +1,4 @@
-use Rattle.std.proofs.Common.{ℕ, List, ◌≡◌, ◌<◌, ◌-◌, length, get_or, set, sym, ap, ◌∙◌, arith}
+use Rattle.std.proofs.Common.{ℕ, List, [], ◌≡◌, ◌<◌, ◌-◌, length, get_or, set, sym, ap, ◌∙◌, arith}
 use Rattle.tx_logs.proofs.BucketLemmas.{index-same, set-same}
 use Rattle.tx_logs.specs.Buckets.{address_of}
 use Rattle.tx_logs.specs.LogStates.{LogState, with_last}
@@ -26,4 +26,4 @@ returns c =
     let count : c.count-last.result ≡ length xs = c.count-last.ensures.count ∙ ap length seen in
     let here : c.item-a.result.0 ≡ address_of xs last = ap (λ (p : ℕ × ℕ). p.0) c.item-a.ensures ∙ ap (λ ys. address_of ys last) seen in
     let put : set xs last (c.item-a.result.0, v) ≡ with_last v xs = ap (λ (a : ℕ). set xs last (a, v)) here ∙ ap (λ (k : ℕ). set xs (k - 1) (address_of xs (k - 1), v)) count in
-    ap (λ (ys : List (ℕ × ℕ)). record { items = ys; len = c.self.inside.len; generation = c.self.inside.generation }) put ∙ ap (λ (l : LogState). record l { items = with_last v l.items }) c.self.view_is
+    ap (λ (ys : List (ℕ × ℕ)). record { items = ys; len = c.self.inside.len; generation = c.self.inside.generation; marks = [] }) put ∙ ap (λ (l : LogState). record l { items = with_last v l.items }) c.self.view_is

@@ -1,0 +1,34 @@
+-- Who is at rest behind the veil is at rest.
+use Rattle.std.proofs.Common.{◌≡◌, ℕ, ◌+◌, true, false, sym, ap, ◌∙◌, le_refl}
+use Rattle.stm_model.specs.declared.config.Config.{Config}
+use Rattle.rule_base.specs.Encodings.{fence_of}
+use Rattle.rule_base.specs.Fence.{veil}
+use Rattle.rule_base.specs.FenceLaws.{veiled-out}
+use Rattle.rule_base.specs.History.{over}
+use Rattle.rule_base.specs.HistoryLemmas.{word_at-all}
+use Rattle.rule_base.specs.Rest.{BareRest, BareAtRest, Rest, AtRest}
+use Rattle.rule_base.specs.World.{World}
+use Rattle.stm_rule.specs.Product.{Whole}
+use Rattle.stm_rule.specs.Quiescence.{IsPromoting, IsOrecPromoting}
+
+module _ (good : (ℕ → ℕ) → Type 0) (c : Config) (n : ℕ) (w : World) (g : Whole good c w) where
+  pub rest-of : BareRest n (veil w) → Rest n w
+  rest-of r = record {
+    gate = r.gate;
+    others = r.others;
+    heap = λ a out. sym (veiled-out (fence_of w.gate) w.heap w.history a out) ∙ r.heap a;
+    fenced = λ m a has inside. (g.fence.holder m has).stored a inside ∙ ap (over (w.views m).fence.stores a) (sym (word_at-all w.history (w.clock + 1) w.clock a g.core.history.below (le_refl (w.clock + 1))));
+    lock = r.lock;
+    records = r.records;
+    even = r.even;
+    done = r.done;
+  }
+
+  pub at-rest-of : BareAtRest n (veil w) → AtRest n w
+  at-rest-of r = record { rest = rest-of r.rest; outside = r.outside }
+
+pub promoting-veil : (c : Config) (n : ℕ) (w : World) → IsPromoting c n w → IsPromoting c n (veil w)
+promoting-veil c n w p = record { phase = p.phase; holds = p.holds; checked = p.checked; inside = p.inside; apart = p.apart; reads = p.reads; unlocked = p.unlocked; uncommitted = p.uncommitted }
+
+pub orec-promoting-veil : (c : Config) (n : ℕ) (w : World) → IsOrecPromoting c n w → IsOrecPromoting c n (veil w)
+orec-promoting-veil c n w p = record { phase = p.phase; algorithm = p.algorithm; holds = p.holds; checked = p.checked; inside = p.inside; open_yet = p.open_yet; reads = p.reads; unlocked = p.unlocked; uncommitted = p.uncommitted }

@@ -1,0 +1,27 @@
+-- Marks, in the terms of what a caller knows.
+use Rattle.std.specs.Prelude.{ℕ, ◌≡◌, ◌&&◌, not, if◌then◌else◌, Bool, true, false, List}
+use Rattle.stm_model.specs.declared.alg.Alg.{Alg}
+use Rattle.stm_model.specs.declared.alg.Alg.TheVariants.{Cgl, Tml, OrecLazy, OrecEager, RingSw, Serial}
+use Rattle.stm_model.specs.declared.config.Config.{Config}
+use Rattle.tx_answers.specs.declared.answers.Check.TheVariants.{Marked}
+use Rattle.tx_answers.specs.declared.answers.Roll.TheVariants.{Rolled}
+use Rattle.tx_answers.specs.Answers.{Checks, Rolls}
+use Rattle.tx_answers.specs.Known.{Known, is_irrevocable}
+
+-- the algorithms under which marks are built
+abbrev pub takes_marks : Alg → Bool
+takes_marks Cgl = true
+takes_marks Tml = false
+takes_marks OrecLazy = true
+takes_marks OrecEager = false
+takes_marks RingSw = false
+takes_marks Serial = false
+
+-- marks end with the first commit call, and with the attempt
+abbrev pub live_marks : Known → ℕ
+live_marks v = if v.running && not v.committing then v.depth else 0
+
+-- THE CHECKPOINT LAW: u was marked, the attempt went on from v to w, which leaves its marks alone, and was rolled back to that mark
+abbrev pub RollsToMark : (List ℕ → Type 0) → Type 0
+RollsToMark good = (c : Config) (n depth : ℕ) (u v w x : Known) → is_irrevocable u ≡ false → Checks (Marked depth) u v → w.marks ≡ v.marks → Rolls good c n depth Rolled w x
+    → (x.log.writes ≡ u.log.writes) × (x.log.reads ≡ w.log.reads) × (x.depth ≡ depth)

@@ -1,0 +1,81 @@
+//! Closed nesting by marks: the calls of a running attempt that mark where it stands, and roll it back to there. None of
+//! them takes memory, none waits, and all return. They leave the attempt running. Its marks end with its first commit
+//! call, and with the attempt.
+ghost use Rattle.std.specs.Prelude.{◌≡◌, ℕ, ◌≤◌, true, if◌then◌else◌, ◌&&◌, not};
+ghost use Rattle.stm_rule.specs.Callers.{IsOf, IsSameCaller};
+ghost use Rattle.tx_answers.specs.Answers.{Checks, Rolls, Releases};
+ghost use Rattle.tx_answers.specs.Known.{IsRunning};
+ghost use Rattle.stm_tx.specs.Descs.{known, number};
+ghost use Rattle.stm_tx.specs.Nesting.{takes_marks, live_marks, RollsToMark};
+
+use alg_orec::nesting as lazy;
+use alg_seq::nesting as cgl;
+use stm_model::alg::Alg;
+use stm_model::rule::MemRule;
+use stm_rule::desc::Desc;
+use stm_rule::stm::Stm;
+use tx_answers::answers::{Check, Roll};
+
+/// Makes a mark at what the attempt has written: `depth` counts those that stand. `Deep` comes exactly where 8 stand,
+/// and changes nothing. No step.
+pub fn checkpoint<K: MemRule>(desc: &mut Desc<K>) -> Check
+    requires running { IsRunning (known desc.old) }
+    requires built { takes_marks (known desc.old).alg ≡ true }
+    ensures same { IsSameCaller desc.old desc.new }
+    ensures checks { Checks result (known desc.old) (known desc.new) }
+{
+    match desc.local.algorithm {
+        Alg::OrecLazy => lazy::checkpoint(desc),
+        _ => cgl::checkpoint(desc),
+    }
+}
+
+/// Rolls the attempt back to mark `depth`: what it has written is what it had written there, and what it has read stays
+/// read. The mark stands, and those above it are gone. `Irrevocable` comes exactly where the attempt is irrevocable, and
+/// changes nothing.
+pub fn roll_to<K: MemRule>(desc: &mut Desc<K>, stm: &Stm<K>, depth: usize) -> Roll
+    requires stm { IsOf desc.old stm.now }
+    requires running { IsRunning (known desc.old) }
+    requires built { takes_marks (known desc.old).alg ≡ true }
+    requires low { 1 ≤ depth }
+    requires high { depth ≤ (known desc.old).depth }
+    ensures same { IsSameCaller desc.old desc.new }
+    ensures rolls { Rolls (K.good stm.now.rule) stm.now.config (number desc.old) depth result (known desc.old) (known desc.new) }
+{
+    match desc.local.algorithm {
+        Alg::OrecLazy => lazy::roll_to(desc, stm, depth),
+        _ => cgl::roll_to(desc, stm, depth),
+    }
+}
+
+/// Drops the marks from `depth` on, and keeps what was written since. No step.
+pub fn release<K: MemRule>(desc: &mut Desc<K>, depth: usize)
+    requires running { IsRunning (known desc.old) }
+    requires built { takes_marks (known desc.old).alg ≡ true }
+    requires low { 1 ≤ depth }
+    requires high { depth ≤ (known desc.old).depth }
+    ensures same { IsSameCaller desc.old desc.new }
+    ensures releases { Releases depth (known desc.old) (known desc.new) }
+{
+    match desc.local.algorithm {
+        Alg::OrecLazy => lazy::release(desc, depth),
+        _ => cgl::release(desc, depth),
+    }
+}
+
+/// How many marks stand: none outside a running attempt. No step.
+pub fn marks<K: MemRule>(desc: &Desc<K>) -> usize
+    ensures { result ≡ live_marks (known desc.now) }
+{
+    if desc.local.running && !desc.local.committing {
+        desc.local.depth
+    } else {
+        0
+    }
+}
+
+/// The law of a mark: where an attempt is marked, goes on, and is rolled back to that mark, what it has written is what
+/// it had written there.
+pub fn rolls_to_its_mark<K: MemRule>()
+    ensures { (rule : K) → RollsToMark (K.good rule) }
+{}

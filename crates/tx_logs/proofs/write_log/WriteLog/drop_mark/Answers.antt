@@ -1,0 +1,56 @@
+use Rattle.std.proofs.Common.{ℕ, ◌≡◌, ◌≢◌, ◌<◌, ◌≤◌, ◌+◌, ◌-◌, List, [], ◌++◌, ◌∷◌, length, get_or, set, take, drop, refl, sym, ap, subst, ◌∙◌, arith}
+use Rattle.std.proofs.lemmas.List.{length-set, get_or_default}
+use Rattle.stm_model.specs.Memories.{item_at, put}
+use Rattle.tx_logs.specs.declared.marks.Mark.{Mark}
+use Rattle.tx_logs.specs.declared.push.Push.{Push}
+use Rattle.tx_logs.specs.declared.push.Push.TheVariants.{Done, Full}
+use Rattle.tx_logs.specs.LogStates.{LogState, Pushes, empty_at, next_generation}
+use Rattle.tx_logs.specs.Marks.{Saves, Tied, Rooms, marked, at_mark, saved, emptied_mark, merged, blank_mark, CanMerge}
+use Rattle.tx_logs.proofs.BucketLemmas.{written-over}
+use Rattle.tx_logs.proofs.MarkTies.{mark-tied, rooms-set, length-marks, top-tied, push-tied, push-refused, restored-tied, last-marked, can-merge, dropped-tied}
+use Rattle.tx_logs.proofs.write_log.WriteLog.drop_mark.Goals as goal
+
+pub merge-requires-clause-can : goal.merge-requires-clause-can
+merge-requires-clause-can c =
+    let i = c.self.invariant in
+    let ms = c.self.inside.marks.items in
+    let d = c.self.inside.depth in
+    let g = c.self.inside.log in
+    let size = length-marks ms d g.items (omega (arith, i.0, i.1)) in
+    let some : 1 < d = (let v = ap (λ (l : LogState). length l.marks) c.self.view_is in let r = c.requires in let f = c.if-self-eq1.false in omega arith) in
+    rw c.deref_mut.ensures.value (can-merge ms d g.len g.items some (omega (arith, i.0, i.1)) i.2 (omega (arith, c.count-count.ensures.count, c.count-count.ensures.within)) i.3)
+
+pub invariant_of-self-2 : goal.invariant_of-self-2
+invariant_of-self-2 c =
+    let i = c.self.invariant in
+    let ms = c.self.inside.marks.items in
+    let d = c.self.inside.depth in
+    let g = c.self.inside.log in
+    let size = length-marks ms d g.items (omega (arith, i.0, i.1)) in
+    let some : 1 < d = (let v = ap (λ (l : LogState). length l.marks) c.self.view_is in let r = c.requires in let f = c.if-self-eq1.false in omega arith) in
+    let most : d ≤ length ms = omega (arith, i.0, i.1) in
+    let n = merged (get_or ms (d - 1 - 1) blank_mark) (get_or ms (d - 1) blank_mark) in
+    let after : c.merge.new.marks ≡ set ms (d - 1 - 1) n = c.merge.ensures ∙ ap (λ (ks : List Mark). set ks (d - 1 - 1) (merged (get_or ks (d - 1 - 1) blank_mark) (get_or ks (d - 1) blank_mark))) c.deref_mut.ensures.value in
+    let long : length c.merge.new.marks ≡ length ms = ap length after ∙ length-set ms (d - 1 - 1) n in
+    let whole : take c.self.inside.marks.len (c.merge.new.marks ++ drop (length c.merge.new.marks) ms) ≡ set ms (d - 1 - 1) n =
+    written-over {X = Mark} c.merge.new.marks ms c.self.inside.marks.len long (sym c.deref_mut.ensures.len ∙ (ap length c.deref_mut.ensures.value ∙ sym long)) ∙ after in
+    let room : g.len ≤ n.olds.len = i.2 (d - 1 - 1) (omega arith) in
+    rw whole (length-set ms (d - 1 - 1) n ∙ i.0, omega (arith, i.1), rooms-set g.len ms (d - 1 - 1) n i.2 room, (dropped-tied ms d n g.items some most refl i.3).0)
+
+pub returns : goal.returns
+returns c =
+    let i = c.self.invariant in
+    let ms = c.self.inside.marks.items in
+    let d = c.self.inside.depth in
+    let g = c.self.inside.log in
+    let size = length-marks ms d g.items (omega (arith, i.0, i.1)) in
+    let some : 1 < d = (let v = ap (λ (l : LogState). length l.marks) c.self.view_is in let r = c.requires in let f = c.if-self-eq1.false in omega arith) in
+    let most : d ≤ length ms = omega (arith, i.0, i.1) in
+    let n = merged (get_or ms (d - 1 - 1) blank_mark) (get_or ms (d - 1) blank_mark) in
+    let after : c.merge.new.marks ≡ set ms (d - 1 - 1) n = c.merge.ensures ∙ ap (λ (ks : List Mark). set ks (d - 1 - 1) (merged (get_or ks (d - 1 - 1) blank_mark) (get_or ks (d - 1) blank_mark))) c.deref_mut.ensures.value in
+    let long : length c.merge.new.marks ≡ length ms = ap length after ∙ length-set ms (d - 1 - 1) n in
+    let whole : take c.self.inside.marks.len (c.merge.new.marks ++ drop (length c.merge.new.marks) ms) ≡ set ms (d - 1 - 1) n =
+    written-over {X = Mark} c.merge.new.marks ms c.self.inside.marks.len long (sym c.deref_mut.ensures.len ∙ (ap length c.deref_mut.ensures.value ∙ sym long)) ∙ after in
+    ap (λ (ks : List Mark). let l : LogState = record g { marks = marked (take (d - 1) ks) g.items } in l) whole
+    ∙ (ap (λ (ks : List (List (ℕ × ℕ))). let l : LogState = record g { marks = ks } in l) (dropped-tied ms d n g.items some most refl i.3).1
+    ∙ ap (λ (l : LogState). let k : LogState = record l { marks = take (length l.marks - 1) l.marks } in k) c.self.view_is)
