@@ -199,7 +199,7 @@ module _ (good : List ℕ → Type 0) (c : Config) (n : ℕ) (low : n < c.caller
     stays = subst (λ (q : Local). IsInside good c n (record q { committing = true }) u) (sym whole) (subst (IsInside good c n (record l { start = m.start; locks = m.locks; committing = true })) (sym path)
         (stays-ready m.start m.locks v.history.seen u.owned.held v.sample.loaded v.check e.more h.locks h.places h.versions e.covered
         (λ r t. let o = e.olds r t in let s = start in omega arith) k.unchecked i.legal (subst (λ (s : ℕ). Below v.history.seen (s + 1)) (sym start) i.below) i.sees (λ one. start ∙ k.sole one)));
-    grows = λ o. subst (λ (y : View). Grows (known_of v o) (known_of y o)) (sym h.is) (grows-same (known_of v o) (known_of (holding_still v u.owned.held e.more) o) refl refl e.more refl refl refl);
+    grows = λ o. subst (λ (y : View). Grows (known_of v o) (known_of y o)) (sym h.is) (grows-same (known_of v o) (known_of (holding_still v u.owned.held e.more) o) refl refl e.more refl refl refl refl);
     start = inl start;
     again = λ g o. absurd (let f : true ≡ false = sym g ∙ first in cc);
   }
@@ -263,6 +263,7 @@ module _ (good : List ℕ → Type 0) (c : Config) (n : ℕ) (low : n < c.caller
         trail = refl;
         reads_limit = refl;
         writes_limit = refl;
+        fenced = refl;
       }
 
       found : (o : Own) → Found Clock q.start (known_of v o) (known_of w o)
@@ -275,7 +276,7 @@ module _ (good : List ℕ → Type 0) (c : Config) (n : ℕ) (low : n < c.caller
     len = h.len;
     can = can-roll m u u.owned.held v.check (s.last ++ s.before) h.is h.locks h.places h.versions;
     gate = ap (λ (y : View). y.gate) h.is;
-    unmade = subst (IsUnmade v) (sym h.is) (record { carried = record { named = refl; base = refl; installs = refl; trail = (s.last ++ s.before, refl) }; history = refl });
+    unmade = subst (IsUnmade v) (sym h.is) (record { carried = record { named = refl; base = refl; installs = refl; fence = refl; trail = (s.last ++ s.before, refl) }; history = refl });
     rises = ap (λ (y : View). y.steps.rises) h.is;
     conflicts = λ o e. why cause o e s.last trail s.why;
     others = others_of cause s.last s.why;
@@ -392,7 +393,7 @@ module _ (good : List ℕ → Type 0) (c : Config) (n : ℕ) (low : n < c.caller
       len = h.len;
       can = can-roll m w u.owned.held w.check (s.more ++ more) path h.locks h.places h.versions;
       gate = ap (λ (y : View). y.gate) path;
-      unmade = subst (IsUnmade v) (sym path) (record { carried = record { named = refl; base = refl; installs = refl; trail = (s.more ++ more, refl) }; history = refl });
+      unmade = subst (IsUnmade v) (sym path) (record { carried = record { named = refl; base = refl; installs = refl; fence = refl; trail = (s.more ++ more, refl) }; history = refl });
       rises = ap (λ (y : View). y.steps.rises) path;
       conflicts = λ o e. (stale-conflicts index word start s o).0;
       others = (stale-conflicts index word start s (own_of l)).1;

@@ -46,7 +46,7 @@ use Rattle.tx_answers.specs.declared.answers.Commit.TheVariants as commits
 use Rattle.tx_answers.specs.Answers.{KeepsRule, Commits, CommitsAt, Cancels, EndsAt, StartMoves, entry}
 use Rattle.tx_answers.specs.Causes.{Conflicts, NamesOther, has_item, is_some}
 use Rattle.tx_answers.specs.Evidence.{Found}
-use Rattle.tx_answers.specs.Known.{Grows, known_of, granted_under, written_under, is_in, is_closing, wrote}
+use Rattle.tx_answers.specs.Known.{Grows, known_of, fenced_of, granted_under, written_under, is_in, is_closing, wrote}
 use Rattle.tx_answers.specs.KnownLaws.{grows-same, grows-trans}
 use Rattle.tx_logs.specs.LogStates.{LogState}
 use Rattle.alg_orec.proofs.EagerProving as proving
@@ -193,7 +193,7 @@ module _ (good : List ℕ → Type 0) (c : Config) (n : ℕ) (low : n < c.caller
     pub tells-full : (clock : ℕ) (u z : View) → CLOCK_LIMIT ≤ l.start → Tells orec_limit (FindsClock c) v clock u → TakesBack n u z → Commits good c n (commits.ClockFull clock) (known_of v o) (known_of z (with_commit false o))
     tells-full clock u z high t g = let f = proving.ended-by n u z g in (
       proving.quits-back n v u z o eager kept.optimistic.ungranted kept.optimistic.rises (ap (λ (y : View). y.steps.rises) t.2) (λ e. ap (λ (y : View). y.owned.held) t.2 ∙ some e) g
-          (subst (IsUnmade v) (sym t.2) (record { carried = record { named = refl; base = refl; installs = refl; trail = (load_of Clock clock ∷ [], refl) }; history = refl })),
+          (subst (IsUnmade v) (sym t.2) (record { carried = record { named = refl; base = refl; installs = refl; fence = refl; trail = (load_of Clock clock ∷ [], refl) }; history = refl })),
       ap asks_at_commit eager,
       wrote_is,
       finds-full clock v z o (with_commit false o) (let a = t.1.started in let b = i.start in omega arith)
@@ -323,7 +323,7 @@ module _ (good : List ℕ → Type 0) (c : Config) (n : ℕ) (low : n < c.caller
             as_entry = λ j. record { time = l.start + 1; caller = n; number = sym (length-public_history v.history.made) j; reads = items v.attempt.reads; writes = sym written_is j }
 
             trail : (more : List TrailItem) × ((left n gives).steps.trail ≡ more ++ gives.steps.trail)
-            trail = trail-left n gives gives (record { named = refl; base = refl; installs = refl; trail = ([], refl) })
+            trail = trail-left n gives gives (record { named = refl; base = refl; installs = refl; fence = refl; trail = ([], refl) })
 
             grown : Grows (known_of v o) (known_of (left n gives) (with_commit false o))
             grown = record {
@@ -336,6 +336,7 @@ module _ (good : List ℕ → Type 0) (c : Config) (n : ℕ) (low : n < c.caller
               trail = trail.1 ∙ (ap (λ (s : List TrailItem). trail.0 ++ s) (sym (append_assoc q.more (tried now ∷ []) v.steps.trail)) ∙ sym (append_assoc trail.0 (q.more ++ tried now ∷ []) v.steps.trail));
               reads_limit = refl;
               writes_limit = refl;
+              fenced = refl;
             }
 
     -- AGAIN: the attempt stands in the middle of its commit
@@ -398,7 +399,7 @@ module _ (good : List ℕ → Type 0) (c : Config) (n : ℕ) (low : n < c.caller
       more = [];
       is = λ j. record v { history = record v.history { front = i.front j }; attempt = record v.attempt { start = i.start j } };
       stays = i;
-      grows = λ p. grows-same (known_of v p) (known_of v p) refl refl [] refl refl refl;
+      grows = λ p. grows-same (known_of v p) (known_of v p) refl refl [] refl refl refl refl;
       start = inl refl;
       again = λ e. absurd (let f : true ≡ false = sym e ∙ quiet in cc);
     }
@@ -438,6 +439,7 @@ module _ (good : List ℕ → Type 0) (c : Config) (n : ℕ) (low : n < c.caller
           trail = refl;
           reads_limit = refl;
           writes_limit = refl;
+          fenced = refl;
         }
 
         stays : IsInside good c n q y
@@ -540,7 +542,7 @@ module _ (good : List ℕ → Type 0) (c : Config) (n : ℕ) (low : n < c.caller
     pub tells-stopped : (cause : causes.the_data) (m : Local) (u z : View) → IsOverrun good c n cause l v m u → TakesBack n u z → Commits good c n (commits.Conflict cause) (known_of v o) (known_of z (with_commit false o))
     tells-stopped cause m u z h g = let t = proving.ended-by n u z g in (
       proving.quits-back n v u z o eager kept.optimistic.ungranted kept.optimistic.rises (ap (λ (y : View). y.steps.rises) h.is) (λ e. ap (λ (y : View). y.owned.held) h.is ∙ some e) g
-          (subst (IsUnmade v) (sym h.is) (record { carried = record { named = refl; base = refl; installs = refl; trail = (h.more, refl) }; history = refl })),
+          (subst (IsUnmade v) (sym h.is) (record { carried = record { named = refl; base = refl; installs = refl; fence = refl; trail = (h.more, refl) }; history = refl })),
       proving.conflicts-later c n None cause (known_of v o) (known_of u o) (known_of z (with_commit false o)) (ap has_records eager) t.0 t.1 (h.conflicts o o),
       h.others,
       wrote_is,
@@ -634,7 +636,7 @@ module _ (good : List ℕ → Type 0) (c : Config) (n : ℕ) (low : n < c.caller
             closing = ap is_closing phase;
             made = ap (λ (y : View). public_history y.history.made) again_path;
             grows = grows-trans (known_of v o) (known_of w o) (known_of u p) (r.grows o)
-                (grows-same (known_of w o) (known_of u p) (ap (λ (y : View). public_history y.history.seen) still_path) (ap (λ (y : View). y.history.front) still_path) (tries ∷ []) (ap (λ (y : View). y.steps.trail) still_path) refl refl);
+                (grows-same (known_of w o) (known_of u p) (ap (λ (y : View). public_history y.history.seen) still_path) (ap (λ (y : View). y.history.front) still_path) (tries ∷ []) (ap (λ (y : View). y.steps.trail) still_path) refl refl (ap (λ (y : View). fenced_of y.fence) still_path));
             alg = ap (λ (y : View). y.gate.algorithm) again_path;
             fence = ap (λ (y : View). y.gate.fence) again_path;
             base = ap (λ (y : View). y.steps.rises_at_begin) again_path;

@@ -106,7 +106,7 @@ module _ (good : List ℕ → Type 0) (c : Config) (n : ℕ) (l : Local) (v : Vi
           pub tells-commit : (w : View) (o : Own) → w ≡ left n x → CommitsAt good c n t (known_of v o) (known_of w o)
           tells-commit w o is = subst (λ (z : View). CommitsAt good c n t (known_of v o) (known_of z o)) (sym (is ∙ ap (left n) path))
               (commits-left n good c t a.0 v last o a.1 (record {
-                carried = record { named = refl; base = refl; installs = refl; trail = (done ∷ base ∷ (q.more ++ entered ∷ []), ap (λ (r : List TrailItem). done ∷ base ∷ r) (sym (append_assoc q.more (entered ∷ []) v.steps.trail))) };
+                carried = record { named = refl; base = refl; installs = refl; fence = refl; trail = (done ∷ base ∷ (q.more ++ entered ∷ []), ap (λ (r : List TrailItem). done ∷ base ∷ r) (sym (append_assoc q.more (entered ∷ []) v.steps.trail))) };
                 history = refl;
                 rises = (let r = k.rises in let e : entry_rise v.gate.algorithm ≡ entry_rise l.algorithm = ap entry_rise i.named in omega arith);
               }) (let m = entry-some l.algorithm in let b = i.start in omega arith) (let m = entry-some l.algorithm in let b = i.front in omega arith) (k.dirty dirty) (written-granted v.gate.algorithm v.gate.granted v o k.granted))

@@ -138,7 +138,7 @@ module _ (good : List ℕ → Type 0) (c : Config) (n : ℕ) (low : n < c.caller
     holds = refl;
     named = refl;
     fence = refl;
-    unmade = record { carried = record { named = refl; base = refl; installs = refl; trail = (load_of Clock x ∷ [], refl) }; history = refl };
+    unmade = record { carried = record { named = refl; base = refl; installs = refl; fence = refl; trail = (load_of Clock x ∷ [], refl) }; history = refl };
     rises = refl;
     held = refl;
     why = (high, λ o. (load_of Clock x ∷ [], refl, Load, (0, omega arith, refl)));
@@ -159,7 +159,7 @@ module _ (good : List ℕ → Type 0) (c : Config) (n : ℕ) (low : n < c.caller
       holds = refl;
       named = refl;
       fence = refl;
-      unmade = record { carried = record { named = refl; base = refl; installs = refl; trail = (load_of Clock time ∷ [], refl) }; history = refl };
+      unmade = record { carried = record { named = refl; base = refl; installs = refl; fence = refl; trail = (load_of Clock time ∷ [], refl) }; history = refl };
       rises = refl;
       held = refl;
       why = (high, λ o. (load_of Clock time ∷ [], refl, Load, (0, omega arith, refl)));
@@ -212,7 +212,7 @@ module _ (good : List ℕ → Type 0) (c : Config) (n : ℕ) (low : n < c.caller
       holds = ap (λ (y : View). y.gate.holds) path;
       named = ap (λ (y : View). y.gate.algorithm) path;
       fence = ap (λ (y : View). y.gate.fence) path;
-      unmade = subst (IsUnmade v) (sym path) (record { carried = record { named = refl; base = refl; installs = refl; trail = (q.more ++ load_of Clock time ∷ [], refl) }; history = refl });
+      unmade = subst (IsUnmade v) (sym path) (record { carried = record { named = refl; base = refl; installs = refl; fence = refl; trail = (q.more ++ load_of Clock time ∷ [], refl) }; history = refl });
       rises = ap (λ (y : View). y.steps.rises) path;
       held = ap (λ (y : View). y.owned.held) path;
       why = ((λ o. (stale-conflicts index word start w q o).0), (stale-conflicts index word start w q (own_of l)).1);
@@ -257,7 +257,7 @@ module _ (good : List ℕ → Type 0) (c : Config) (n : ℕ) (low : n < c.caller
         holds = ap (λ (y : View). y.gate.holds) path;
         named = ap (λ (y : View). y.gate.algorithm) path;
         fence = ap (λ (y : View). y.gate.fence) path;
-        unmade = subst (IsUnmade v) (sym path) (record { carried = record { named = refl; base = refl; installs = refl; trail = (load_of (Record (b % c.records)) x ∷ (done ++ load_of Clock time ∷ []), refl) }; history = refl });
+        unmade = subst (IsUnmade v) (sym path) (record { carried = record { named = refl; base = refl; installs = refl; fence = refl; trail = (load_of (Record (b % c.records)) x ∷ (done ++ load_of Clock time ∷ []), refl) }; history = refl });
         rises = ap (λ (y : View). y.steps.rises) path;
         held = ap (λ (y : View). y.owned.held) path;
         why = (
@@ -392,4 +392,5 @@ module _ (good : List ℕ → Type 0) (c : Config) (n : ℕ) (low : n < c.caller
           trail = refl;
           reads_limit = refl;
           writes_limit = refl;
+          fenced = refl;
         }

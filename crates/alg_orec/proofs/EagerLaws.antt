@@ -111,7 +111,7 @@ module _ (good : List ℕ → Type 0) (c : Config) (n : ℕ) (l : Local) (v : Vi
     -- READ, of what was written or read before
     pub reads-own : (a x : ℕ) → item_at a l.writes.items ≡ Some x → x < 2 ^ 64 → HasRead good c n a (reads.Value x) (known_of v o) (known_of v o)
     reads-own a x own small = (
-      goes-inner v v o i.phase (record { history = refl; gate = refl; lock = refl; start = refl; rises = refl; base = refl; installs = refl; trail = ([], refl) }),
+      goes-inner v v o i.phase (record { history = refl; gate = refl; lock = refl; fence = refl; start = refl; rises = refl; base = refl; installs = refl; trail = ([], refl) }),
       quiet,
       (
         refl,
@@ -125,7 +125,7 @@ module _ (good : List ℕ → Type 0) (c : Config) (n : ℕ) (l : Local) (v : Vi
 
     pub reads-old : (a x : ℕ) → item_at a l.writes.items ≡ None → item_at a l.reads.items ≡ Some x → x < 2 ^ 64 → HasRead good c n a (reads.Value x) (known_of v o) (known_of v o)
     reads-old a x unwritten old small = (
-      goes-inner v v o i.phase (record { history = refl; gate = refl; lock = refl; start = refl; rises = refl; base = refl; installs = refl; trail = ([], refl) }),
+      goes-inner v v o i.phase (record { history = refl; gate = refl; lock = refl; fence = refl; start = refl; rises = refl; base = refl; installs = refl; trail = ([], refl) }),
       quiet,
       (
         refl,
@@ -176,7 +176,7 @@ module _ (good : List ℕ → Type 0) (c : Config) (n : ℕ) (l : Local) (v : Vi
     clean u gate owned e = ap (λ (h : Ownership). h.held) owned ∙ proving.none-held c l v k (sym (proving.wrote-known c l v k eager u o gate (ap (λ (h : Ownership). h.in_place) owned)) ∙ e)
 
     pub grown : (start : ℕ) (seen : List Entry) (rs : List Cell) (sample : Sample) (check : Validation) (more : List TrailItem) (p : Own) → p.reads_limit ≡ l.reads.len → p.writes_limit ≡ l.undo.len → MayMove rule c n start seen more v → Grows (known_of v o) (known_of (moved v start seen rs sample check more) p)
-    grown start seen rs sample check more p r w (inl s) = grows-same (known_of v o) (known_of (moved v start seen rs sample check more) p) (ap public_history s.1) (s.0 ∙ (i.start ∙ sym i.front)) more refl r w
+    grown start seen rs sample check more p r w (inl s) = grows-same (known_of v o) (known_of (moved v start seen rs sample check more) p) (ap public_history s.1) (s.0 ∙ (i.start ∙ sym i.front)) more refl r w refl
     grown start seen rs sample check more p r w (inr s) = let m = s.1 in let q = later-seen seen v.history.front start m.below m.front in record {
       later = q.0;
       is = subst (λ (h : List Entry). public_history seen ≡ public_history h ++ q.0) (sym m.seen) q.1;
@@ -187,6 +187,7 @@ module _ (good : List ℕ → Type 0) (c : Config) (n : ℕ) (l : Local) (v : Vi
       trail = refl;
       reads_limit = r;
       writes_limit = w;
+      fenced = refl;
     }
 
     -- the attempt ended from a view that the load came to
@@ -435,7 +436,7 @@ module _ (good : List ℕ → Type 0) (c : Config) (n : ℕ) (v : View) (can : C
     fence = refl;
     rises = can.rises;
     starts = λ o fresh. record {
-      keeps = record { made = refl; grows = (let q = later-seen t.0.history v.history.front clock b.below b.front in record { later = q.0; is = subst (λ (h : List Entry). public_history t.0.history ≡ public_history h ++ q.0) (sym b.seen) q.1; ascending = q.2; up_to = q.3; front_rose = b.front; more = load_of Clock clock ∷ []; trail = refl; reads_limit = refl; writes_limit = refl }); rises = refl; installs = refl };
+      keeps = record { made = refl; grows = (let q = later-seen t.0.history v.history.front clock b.below b.front in record { later = q.0; is = subst (λ (h : List Entry). public_history t.0.history ≡ public_history h ++ q.0) (sym b.seen) q.1; ascending = q.2; up_to = q.3; front_rose = b.front; more = load_of Clock clock ∷ []; trail = refl; reads_limit = refl; writes_limit = refl; fenced = refl }); rises = refl; installs = refl };
       found = (_ ∷ [], refl, Load, (0, omega arith, refl));
       is = refl;
       fresh = b.front;

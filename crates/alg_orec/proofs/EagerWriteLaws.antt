@@ -385,7 +385,7 @@ module _ (good : List ℕ → Type 0) (c : Config) (n : ℕ) (l : Local) (v : Vi
 
       grown : Grows (known_of v o) (known_of y p)
       grown = let g = laws.grown good c n l v runs q.start s.seen v.attempt.reads s.sample s.check s.more p (ap (λ (d : Local). d.reads.len) s.local) s.undo_len s.moves in
-          record { later = g.later; is = g.is; ascending = g.ascending; up_to = g.up_to; front_rose = g.front_rose; more = g.more; trail = g.trail; reads_limit = g.reads_limit; writes_limit = g.writes_limit }
+          record { later = g.later; is = g.is; ascending = g.ascending; up_to = g.up_to; front_rose = g.front_rose; more = g.more; trail = g.trail; reads_limit = g.reads_limit; writes_limit = g.writes_limit; fenced = g.fenced }
 
       start-moves : MayMove rule c n q.start s.seen s.more v → (q.start ≡ v.attempt.start) ⊎ Found Clock q.start (known_of v o) (known_of y p)
       start-moves (inl e) = inl e.0

@@ -41,7 +41,7 @@ use Rattle.steps_orec.specs.RecordFindings.{FindsClock, FindsCommit, Enters}
 use Rattle.tx_answers.specs.Answers.{StartMoves, Quits, Commits, CommitsAt, KeepsRule, entry}
 use Rattle.tx_answers.specs.declared.answers.Commit.TheVariants as commits
 use Rattle.tx_answers.specs.Evidence.{Found}
-use Rattle.tx_answers.specs.Known.{Grows, known_of, granted_under, written_under, is_in, is_closing, wrote, zeros}
+use Rattle.tx_answers.specs.Known.{Grows, known_of, fenced_of, granted_under, written_under, is_in, is_closing, wrote, zeros}
 use Rattle.tx_answers.specs.KnownLaws.{grows-same, grows-trans}
 use Rattle.stm_gate.specs.LeavingLaws.{IsUnmade, found-later, finds-full}
 use Rattle.stm_gate.specs.Opacity.{opaque-inside}
@@ -109,7 +109,7 @@ module _ (good : List ℕ → Type 0) (c : Config) (n : ℕ) (low : n < c.caller
 
     pub tells-full : (clock : ℕ) (u z : View) → CLOCK_LIMIT ≤ l.start → Tells orec_limit (FindsClock c) v clock u → GivesUp n u z → Commits good c n (commits.ClockFull clock) (known_of v o) (known_of z (with_commit false o))
     tells-full clock u z high t g = let f = ended-by n u z g in (
-      quits-here u z (subst (IsUnmade v) (sym t.2) (record { carried = record { named = refl; base = refl; installs = refl; trail = (load_of Clock clock ∷ [], refl) }; history = refl })) (ap (λ (y : View). y.steps.rises) t.2) g,
+      quits-here u z (subst (IsUnmade v) (sym t.2) (record { carried = record { named = refl; base = refl; installs = refl; fence = refl; trail = (load_of Clock clock ∷ [], refl) }; history = refl })) (ap (λ (y : View). y.steps.rises) t.2) g,
       ap asks_at_commit lazy,
       laws.wrote_is good c n low l v can o e,
       finds-full clock v z o (with_commit false o) (let a = t.1.started in let b = i.start in omega arith)
@@ -250,6 +250,7 @@ module _ (good : List ℕ → Type 0) (c : Config) (n : ℕ) (low : n < c.caller
           trail = f.1 ∙ (ap (λ (y : View). f.0 ++ y.steps.trail) path ∙ sym (append_assoc f.0 (tried now ∷ []) v.steps.trail));
           reads_limit = refl;
           writes_limit = refl;
+          fenced = ap (λ (y : View). fenced_of y.fence) g.is ∙ ap fenced_of (g.unmade.carried.fence ∙ ap (λ (y : View). y.fence) path);
         }
 
   -- from the call to where it is ready
@@ -346,7 +347,7 @@ module _ (good : List ℕ → Type 0) (c : Config) (n : ℕ) (low : n < c.caller
             closing = ap is_closing phase;
             made = ap (λ (y : View). public_history y.history.made) again_path;
             grows = grows-trans (known_of v o) (known_of w o) (known_of u p) (r.grows o)
-                (grows-same (known_of w o) (known_of u p) (ap (λ (y : View). public_history y.history.seen) still_path) (ap (λ (y : View). y.history.front) still_path) (tries ∷ []) (ap (λ (y : View). y.steps.trail) still_path) refl refl);
+                (grows-same (known_of w o) (known_of u p) (ap (λ (y : View). public_history y.history.seen) still_path) (ap (λ (y : View). y.history.front) still_path) (tries ∷ []) (ap (λ (y : View). y.steps.trail) still_path) refl refl (ap (λ (y : View). fenced_of y.fence) still_path));
             alg = ap (λ (y : View). y.gate.algorithm) again_path;
             fence = ap (λ (y : View). y.gate.fence) again_path;
             base = ap (λ (y : View). y.steps.rises_at_begin) again_path;

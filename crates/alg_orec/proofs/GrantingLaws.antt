@@ -150,7 +150,7 @@ module _ (good : List ℕ → Type 0) (c : Config) (n : ℕ) (low : n < c.caller
     holds = refl;
     named = refl;
     fence = refl;
-    unmade = record { carried = record { named = refl; base = refl; installs = refl; trail = (load_of Clock x ∷ [], refl) }; history = refl };
+    unmade = record { carried = record { named = refl; base = refl; installs = refl; fence = refl; trail = (load_of Clock x ∷ [], refl) }; history = refl };
     rises = refl;
     why = (high, λ o. (load_of Clock x ∷ [], refl, Load, (0, omega arith, refl)));
   })
@@ -170,7 +170,7 @@ module _ (good : List ℕ → Type 0) (c : Config) (n : ℕ) (low : n < c.caller
       holds = refl;
       named = refl;
       fence = refl;
-      unmade = record { carried = record { named = refl; base = refl; installs = refl; trail = (load_of Clock time ∷ [], refl) }; history = refl };
+      unmade = record { carried = record { named = refl; base = refl; installs = refl; fence = refl; trail = (load_of Clock time ∷ [], refl) }; history = refl };
       rises = refl;
       why = (high, λ o. (load_of Clock time ∷ [], refl, Load, (0, omega arith, refl)));
     })
@@ -198,7 +198,7 @@ module _ (good : List ℕ → Type 0) (c : Config) (n : ℕ) (low : n < c.caller
       holds = ap (λ (y : View). y.gate.holds) path;
       named = ap (λ (y : View). y.gate.algorithm) path;
       fence = ap (λ (y : View). y.gate.fence) path;
-      unmade = subst (IsUnmade v) (sym path) (record { carried = record { named = refl; base = refl; installs = refl; trail = (q.more ++ load_of Clock time ∷ [], refl) }; history = refl });
+      unmade = subst (IsUnmade v) (sym path) (record { carried = record { named = refl; base = refl; installs = refl; fence = refl; trail = (q.more ++ load_of Clock time ∷ [], refl) }; history = refl });
       rises = ap (λ (y : View). y.steps.rises) path;
       why = ((λ o. (stale-conflicts index word start w q o).0), (stale-conflicts index word start w q (own_of l)).1);
     }
@@ -241,7 +241,7 @@ module _ (good : List ℕ → Type 0) (c : Config) (n : ℕ) (low : n < c.caller
         holds = ap (λ (y : View). y.gate.holds) path;
         named = ap (λ (y : View). y.gate.algorithm) path;
         fence = ap (λ (y : View). y.gate.fence) path;
-        unmade = subst (IsUnmade v) (sym path) (record { carried = record { named = refl; base = refl; installs = refl; trail = (load_of (Record (b % c.records)) x ∷ (done ++ load_of Clock time ∷ []), refl) }; history = refl });
+        unmade = subst (IsUnmade v) (sym path) (record { carried = record { named = refl; base = refl; installs = refl; fence = refl; trail = (load_of (Record (b % c.records)) x ∷ (done ++ load_of Clock time ∷ []), refl) }; history = refl });
         rises = ap (λ (y : View). y.steps.rises) path;
         why = (
           (λ o. conflicts-later c n None (causes.Record (b % c.records) x l.start) (known_of v o) (known_of alike o) (known_of w o) lazy [] (promoting.same-trail rule c n low l v ready time s first j now last p second u h b x w t stale) (stale-conflicts (b % c.records) x l.start alike refusal o).0),
@@ -383,4 +383,5 @@ module _ (good : List ℕ → Type 0) (c : Config) (n : ℕ) (low : n < c.caller
           trail = refl;
           reads_limit = refl;
           writes_limit = refl;
+          fenced = refl;
         }

@@ -115,7 +115,7 @@ module _ (good : List ℕ → Type 0) (c : Config) (n : ℕ) (l : Local) (v : Vi
     -- READ, of what was written or read before
     pub reads-own : (a x : ℕ) → item_at a l.writes.items ≡ Some x → x < 2 ^ 64 → HasRead good c n a (reads.Value x) (known_of v o) (known_of v o)
     reads-own a x own small = (
-      goes-inner v v o i.phase (record { history = refl; gate = refl; lock = refl; start = refl; rises = refl; base = refl; installs = refl; trail = ([], refl) }),
+      goes-inner v v o i.phase (record { history = refl; gate = refl; lock = refl; fence = refl; start = refl; rises = refl; base = refl; installs = refl; trail = ([], refl) }),
       quiet,
       (
         refl,
@@ -129,7 +129,7 @@ module _ (good : List ℕ → Type 0) (c : Config) (n : ℕ) (l : Local) (v : Vi
 
     pub reads-old : (a x : ℕ) → item_at a l.writes.items ≡ None → item_at a l.reads.items ≡ Some x → x < 2 ^ 64 → HasRead good c n a (reads.Value x) (known_of v o) (known_of v o)
     reads-old a x unwritten old small = (
-      goes-inner v v o i.phase (record { history = refl; gate = refl; lock = refl; start = refl; rises = refl; base = refl; installs = refl; trail = ([], refl) }),
+      goes-inner v v o i.phase (record { history = refl; gate = refl; lock = refl; fence = refl; start = refl; rises = refl; base = refl; installs = refl; trail = ([], refl) }),
       quiet,
       (
         refl,
@@ -175,7 +175,7 @@ module _ (good : List ℕ → Type 0) (c : Config) (n : ℕ) (l : Local) (v : Vi
     here = let e : v.history.front ≡ v.attempt.start = i.front ∙ sym i.start in λ j. record v { history = record v.history { front = e j } }
 
     grown : (start : ℕ) (seen : List Entry) (rs : List Cell) (sample : Sample) (check : Validation) (more : List TrailItem) (p : Own) → p.reads_limit ≡ l.reads.len → p.writes_limit ≡ l.undo.len → MayMove rule c n start seen more v → Grows (known_of v o) (known_of (moved v start seen rs sample check more) p)
-    grown start seen rs sample check more p r w (inl s) = grows-same (known_of v o) (known_of (moved v start seen rs sample check more) p) (ap public_history s.1) (s.0 ∙ (i.start ∙ sym i.front)) more refl r w
+    grown start seen rs sample check more p r w (inl s) = grows-same (known_of v o) (known_of (moved v start seen rs sample check more) p) (ap public_history s.1) (s.0 ∙ (i.start ∙ sym i.front)) more refl r w refl
     grown start seen rs sample check more p r w (inr s) = let m = s.1 in let q = later-seen seen v.history.front start m.below m.front in record {
       later = q.0;
       is = subst (λ (h : List Entry). public_history seen ≡ public_history h ++ q.0) (sym m.seen) q.1;
@@ -186,6 +186,7 @@ module _ (good : List ℕ → Type 0) (c : Config) (n : ℕ) (l : Local) (v : Vi
       trail = refl;
       reads_limit = r;
       writes_limit = w;
+      fenced = refl;
     }
 
     -- the attempt ended from a view that the load came to
@@ -339,7 +340,7 @@ module _ (good : List ℕ → Type 0) (c : Config) (n : ℕ) (l : Local) (v : Vi
     pub writes-done : (a x : ℕ) (log : LogState) → a < c.words → x < 2 ^ 64 → log ≡ record l.writes { items = put a x l.writes.items } → writes_full a (known_of v o) ≡ false → HasWritten good c n a x writes.Done (known_of v o) (known_of v (own_of (record l { writes = log; wrote = true })))
     writes-done a x log low small is room = (
       record {
-        continues = record { running = ap is_in i.phase; closing = ap is_closing i.phase; made = refl; grows = grows-same (known_of v o) (known_of v p) refl refl [] refl refl refl; alg = refl; fence = refl; base = refl; rises = (omega arith, omega arith); later = omega arith; installs = refl; depth = refl };
+        continues = record { running = ap is_in i.phase; closing = ap is_closing i.phase; made = refl; grows = grows-same (known_of v o) (known_of v p) refl refl [] refl refl refl refl; alg = refl; fence = refl; base = refl; rises = (omega arith, omega arith); later = omega arith; installs = refl; depth = refl };
         start = subst (λ (b : Alg). StartMoves b (known_of v o) (known_of v p)) (sym lazy) (inl refl);
         granted = refl;
         holds = refl;
@@ -482,7 +483,7 @@ module _ (good : List ℕ → Type 0) (c : Config) (n : ℕ) (v : View) (can : C
     fence = refl;
     rises = can.rises;
     starts = λ o fresh. record {
-      keeps = record { made = refl; grows = (let q = later-seen t.0.history v.history.front clock b.below b.front in record { later = q.0; is = subst (λ (h : List Entry). public_history t.0.history ≡ public_history h ++ q.0) (sym b.seen) q.1; ascending = q.2; up_to = q.3; front_rose = b.front; more = load_of Clock clock ∷ []; trail = refl; reads_limit = refl; writes_limit = refl }); rises = refl; installs = refl };
+      keeps = record { made = refl; grows = (let q = later-seen t.0.history v.history.front clock b.below b.front in record { later = q.0; is = subst (λ (h : List Entry). public_history t.0.history ≡ public_history h ++ q.0) (sym b.seen) q.1; ascending = q.2; up_to = q.3; front_rose = b.front; more = load_of Clock clock ∷ []; trail = refl; reads_limit = refl; writes_limit = refl; fenced = refl }); rises = refl; installs = refl };
       found = (_ ∷ [], refl, Load, (0, omega arith, refl));
       is = refl;
       fresh = b.front;

@@ -198,7 +198,7 @@ module _ (good : List ℕ → Type 0) (c : Config) (n : ℕ) (l : Local) (v : Vi
           uncommitted = quiet;
           closing = ap is_closing i.phase;
           made = refl;
-          grows = grows-same (known_of v (own_of l)) (known_of v (own_of m)) refl refl [] refl refl refl;
+          grows = grows-same (known_of v (own_of l)) (known_of v (own_of m)) refl refl [] refl refl refl refl;
           alg = refl;
           fence = refl;
           base = refl;

@@ -85,7 +85,7 @@ module _ (good : List ℕ → Type 0) (c : Config) (n t : ℕ) where
 pub ends-own : (v w : View) (o p : Own) → p.reads_limit ≡ o.reads_limit → p.writes_limit ≡ o.writes_limit → Ends (known_of v o) (known_of w o) → Ends (known_of v o) (known_of w p)
 ends-own v w o p r k e = let g = e.grows in record {
   idle = e.idle;
-  grows = record { later = g.later; is = g.is; ascending = g.ascending; up_to = g.up_to; front_rose = g.front_rose; more = g.more; trail = g.trail; reads_limit = r; writes_limit = k };
+  grows = record { later = g.later; is = g.is; ascending = g.ascending; up_to = g.up_to; front_rose = g.front_rose; more = g.more; trail = g.trail; reads_limit = r; writes_limit = k; fenced = g.fenced };
   alg = e.alg;
   base = e.base;
   installs = e.installs;
@@ -105,6 +105,7 @@ unmade-trans u v w a b = record {
     named = b.carried.named ∙ a.carried.named;
     base = b.carried.base ∙ a.carried.base;
     installs = b.carried.installs ∙ a.carried.installs;
+    fence = b.carried.fence ∙ a.carried.fence;
     trail = (b.carried.trail.0 ++ a.carried.trail.0, b.carried.trail.1 ∙ (ap (λ (t : List TrailItem). b.carried.trail.0 ++ t) a.carried.trail.1 ∙ sym (append_assoc b.carried.trail.0 a.carried.trail.0 u.steps.trail)));
   };
   history = b.history ∙ a.history;

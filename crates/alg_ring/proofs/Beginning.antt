@@ -82,6 +82,7 @@ module _ (good : List ℕ → Type 0) (c : Config) (n : ℕ) (v : View) (can : C
           trail = refl;
           reads_limit = refl;
           writes_limit = refl;
+          fenced = refl;
         });
         rises = refl;
         installs = refl;

@@ -42,4 +42,5 @@ module _ (good : List ℕ → Type 0) (c : Config) (gate : GateView) (start : �
         trail = refl;
         reads_limit = reads;
         writes_limit = writes;
+        fenced = refl;
       })

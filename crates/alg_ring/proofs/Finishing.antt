@@ -133,7 +133,7 @@ module _ (good : List ℕ → Type 0) (c : Config) (n : ℕ) (l : Local) (v w : 
   unmade : (answer : Commit) (read : RingRead) (clock : ℕ) (more : List TrailItem) (u : View) → u ≡ ticked_at read clock more
       → (Quits (known_of v o) (known_of (left n (freed (ticked_at read clock more))) o) → Commits good c n answer (known_of v o) (known_of (left n (freed (ticked_at read clock more))) o)) → IsDecided good c n answer v l u
   unmade answer read clock more u is told = subst (IsDecided good c n answer v l) (sym is) (decided answer v.history v.attempt read (ticking clock) v.steps.rises more i.unentered k.optimistic.unstored (λ e. absurd cc) (told (
-      quits-left n v (freed (ticked_at read clock more)) o (record { carried = record { named = refl; base = refl; installs = refl; trail = (lock_freed ∷ more, refl) }; history = refl })
+      quits-left n v (freed (ticked_at read clock more)) o (record { carried = record { named = refl; base = refl; installs = refl; fence = refl; trail = (lock_freed ∷ more, refl) }; history = refl })
       (let r = k.optimistic.rises in (omega arith, omega arith)) turn.has.revocable)))
 
   pub may-tick : HasTurn w
@@ -219,7 +219,7 @@ module _ (good : List ℕ → Type 0) (c : Config) (n : ℕ) (l : Local) (v w : 
 
       grows : Grows (known_of v o) (known_of x o)
       grows = grows-trans (known_of v o) (known_of u o) (known_of x o)
-          (subst (λ (y : View). Grows (known_of v o) (known_of y o)) (sym ticked) (grows-same (known_of v o) (known_of (ticked_at v.ring_read clock early) o) refl refl early refl refl refl))
+          (subst (λ (y : View). Grows (known_of v o) (known_of y o)) (sym ticked) (grows-same (known_of v o) (known_of (ticked_at v.ring_read clock early) o) refl refl early refl refl refl refl))
           (passes-grows good c u.gate start u x p.0 o o refl refl)
 
       -- BEHIND THE ENTRY
@@ -258,6 +258,7 @@ module _ (good : List ℕ → Type 0) (c : Config) (n : ℕ) (l : Local) (v w : 
               trail = sym (append_assoc last (lock_freed ∷ more) v.steps.trail);
               reads_limit = refl;
               writes_limit = refl;
+              fenced = refl;
             };
             alg = refl;
             base = refl;

@@ -34,7 +34,7 @@ use Rattle.stm_rule.specs.RingKept.{IsRing}
 use Rattle.tx_answers.specs.declared.answers.Irrev.TheVariants as irrevs
 use Rattle.tx_answers.specs.Answers.{Quits, IsOpaque}
 use Rattle.tx_answers.specs.Evidence.{Found}
-use Rattle.tx_answers.specs.Known.{Known, Grows, IsRunning, known_of, granted_under, written_under, is_irrevocable, is_in, is_closing, wrote}
+use Rattle.tx_answers.specs.Known.{Known, Grows, IsRunning, known_of, fenced_of, granted_under, written_under, is_irrevocable, is_in, is_closing, wrote}
 use Rattle.tx_answers.specs.KnownLaws.{grows-same, grows-trans}
 use Rattle.stm_gate.specs.Granting.{IsAlone, Grants}
 use Rattle.stm_gate.specs.Knowing.{known, number}
@@ -122,7 +122,7 @@ module _ (good : List ℕ → Type 0) (c : Config) (n : ℕ) (l : Local) (v : Vi
   }
 
   quits-settled : (clock : ℕ) (read : RingRead) (more : List TrailItem) → Quits (known_of v o) (known_of (left n (settled_at clock read more)) o)
-  quits-settled clock read more = quits-left n v (settled_at clock read more) o (record { carried = record { named = refl; base = refl; installs = refl; trail = (more, refl) }; history = refl }) (let r = k.optimistic.rises in (omega arith, omega arith)) revocable
+  quits-settled clock read more = quits-left n v (settled_at clock read more) o (record { carried = record { named = refl; base = refl; installs = refl; fence = refl; trail = (more, refl) }; history = refl }) (let r = k.optimistic.rises in (omega arith, omega arith)) revocable
 
   module _ (clock : ℕ) (w : View) (t : Tells settle FindsWithin v clock w) where
     settled-path : w ≡ settled_at clock v.ring_read (clock_found clock ∷ [])
@@ -263,9 +263,9 @@ module _ (good : List ℕ → Type 0) (c : Config) (n : ℕ) (l : Local) (v : Vi
         grows-promoted : Grows (known_of v o) (known_of x o)
         grows-promoted = grows-trans (known_of v o) (known_of u o) (known_of x o)
             (grows-trans (known_of v o) (known_of w o) (known_of u o)
-            (subst (λ (y : View). Grows (known_of v o) (known_of y o)) (sym settled-path) (grows-same (known_of v o) (known_of (settled_at clock v.ring_read (clock_found clock ∷ [])) o) refl refl (clock_found clock ∷ []) refl refl refl))
+            (subst (λ (y : View). Grows (known_of v o) (known_of y o)) (sym settled-path) (grows-same (known_of v o) (known_of (settled_at clock v.ring_read (clock_found clock ∷ [])) o) refl refl (clock_found clock ∷ []) refl refl refl refl))
             (passes-grows good c (granted_at w.gate.time w.gate) start w u p.0 o o refl refl))
-            (grows-same (known_of u o) (known_of x o) (ap (λ (y : View). public_history y.history.seen) st.is) (ap (λ (y : View). y.history.front) st.is) st.more (ap (λ (y : View). y.steps.trail) st.is) refl refl)
+            (grows-same (known_of u o) (known_of x o) (ap (λ (y : View). public_history y.history.seen) st.is) (ap (λ (y : View). y.history.front) st.is) st.more (ap (λ (y : View). y.steps.trail) st.is) refl refl (ap (λ (y : View). fenced_of y.fence) st.is))
 
         found-promoted : Found Clock start (known_of v o) (known_of x o)
         found-promoted = found-later Clock start (known_of v o) (known_of u o) (known_of x o)

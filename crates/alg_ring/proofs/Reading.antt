@@ -129,6 +129,7 @@ module _ (good : List ℕ → Type 0) (c : Config) (n a : ℕ) (l : Local) (v : 
           trail = sym (append_assoc p.more (item ∷ []) v.steps.trail);
           reads_limit = refl;
           writes_limit = refl;
+          fenced = refl;
         }
 
         start-moves : StartMoves RingSw (known_of v o) (known_of after o)
@@ -191,7 +192,7 @@ module _ (good : List ℕ → Type 0) (c : Config) (n a : ℕ) (l : Local) (v : 
 
       module _ (o : Own) where
         quits : Quits (known_of v o) (known_of (left n failed) o)
-        quits = quits-left n v failed o (record { carried = record { named = refl; base = refl; installs = refl; trail = (q.more ++ item ∷ [], sym (append_assoc q.more (item ∷ []) v.steps.trail)) }; history = refl })
+        quits = quits-left n v failed o (record { carried = record { named = refl; base = refl; installs = refl; fence = refl; trail = (q.more ++ item ∷ [], sym (append_assoc q.more (item ∷ []) v.steps.trail)) }; history = refl })
             (let r = k.optimistic.rises in (omega arith, omega arith)) (revocable good c n l v i named k o)
 
         why : Conflicts c n (Some a) cause (known_of v o) (known_of (left n failed) o)

@@ -50,7 +50,7 @@ module _ (good : List ℕ → Type 0) (c : Config) (n a : ℕ) (l : Local) (v : 
 
   pub reads-own : (x : ℕ) → item_at a l.writes.items ≡ Some x → x < 2 ^ 64 → HasRead good c n a (reads.Value x) (known_of v o) (known_of v o)
   reads-own x own small = (
-    goes-inner v v o i.phase (record { history = refl; gate = refl; lock = refl; start = refl; rises = refl; base = refl; installs = refl; trail = ([], refl) }),
+    goes-inner v v o i.phase (record { history = refl; gate = refl; lock = refl; fence = refl; start = refl; rises = refl; base = refl; installs = refl; trail = ([], refl) }),
     quiet,
     (
       refl,
@@ -73,7 +73,7 @@ module _ (good : List ℕ → Type 0) (c : Config) (n a : ℕ) (l : Local) (v : 
     pub writes-done : writes_full a (known_of v o) ≡ false → HasWritten good c n a x writes.Done (known_of v o) (known_of v (own_of m))
     writes-done room = (
       record {
-        continues = record { running = ap is_in i.phase; closing = ap is_closing i.phase; made = refl; grows = grows-same (known_of v o) (known_of v (own_of m)) refl refl [] refl refl refl; alg = refl; fence = refl; base = refl; rises = (omega arith, omega arith); later = omega arith; installs = refl; depth = refl };
+        continues = record { running = ap is_in i.phase; closing = ap is_closing i.phase; made = refl; grows = grows-same (known_of v o) (known_of v (own_of m)) refl refl [] refl refl refl refl; alg = refl; fence = refl; base = refl; rises = (omega arith, omega arith); later = omega arith; installs = refl; depth = refl };
         start = subst (λ (b : Alg). StartMoves b (known_of v o) (known_of v (own_of m))) (sym named) (inl refl);
         granted = refl;
         holds = refl;

@@ -97,7 +97,7 @@ module _ (good : List ℕ → Type 0) (c : Config) (n : ℕ) (a : Alg) (locks : 
         unentered = can.unentered;
         rises = can.rises;
       };
-      keeps = λ o. record { made = refl; grows = grows-same (known_of v o) (known_of u o) refl refl (step ∷ []) refl refl refl; rises = refl; installs = refl };
+      keeps = λ o. record { made = refl; grows = grows-same (known_of v o) (known_of u o) refl refl (step ∷ []) refl refl refl refl; rises = refl; installs = refl };
     },
     (let e = who.3 in omega arith),
     λ o. held-lock a x (known_of v o) (known_of u o) locks ((step ∷ [], refl, Exchange 0 (taken_lock n), (0, omega arith, refl)), who),
@@ -132,6 +132,7 @@ module _ (good : List ℕ → Type 0) (c : Config) (n : ℕ) (a : Alg) (locks : 
         trail = refl;
         reads_limit = refl;
         writes_limit = refl;
+        fenced = refl;
       }
 
   pub tells-started : (found clock : ℕ) (v t w : View) → CanBegin a v → found ≡ 0 → (asks_at_begin a ≡ true → clock < CLOCK_LIMIT) → Tells (take_lock n) (FindsLock c n) v found t → Tells load_start (Begins rule c) t clock w → StartsAt good c n a clock v w
@@ -201,7 +202,7 @@ module _ (good : List ℕ → Type 0) (c : Config) (n : ℕ) (a : Alg) (locks : 
       can = record { phase = can.phase; named = can.named; built = can.built; reopened = can.reopened; ungranted = can.ungranted; clear = record { unlocked = refl; disowned = can.clear.disowned; unwritten = can.clear.unwritten; uncommitted = can.clear.uncommitted; unentered = refl; unfixed = refl }; unentered = can.unentered; rises = can.rises };
       keeps = λ o. let h = grows-started v f.0 l.0 clock o b in record {
         made = refl;
-        grows = record { later = h.later; is = h.is; ascending = h.ascending; up_to = h.up_to; front_rose = h.front_rose; more = freed ∷ h.more; trail = ap (λ s. freed ∷ s) h.trail; reads_limit = refl; writes_limit = refl };
+        grows = record { later = h.later; is = h.is; ascending = h.ascending; up_to = h.up_to; front_rose = h.front_rose; more = freed ∷ h.more; trail = ap (λ s. freed ∷ s) h.trail; reads_limit = refl; writes_limit = refl; fenced = refl };
         rises = refl;
         installs = refl;
       };

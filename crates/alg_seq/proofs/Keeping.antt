@@ -144,7 +144,7 @@ module _ (good : List ℕ → Type 0) (c : Config) (n : ℕ) (l : Local) (v : Vi
         (λ e. h.undone) (λ e. h.undoable x ∙ ap (λ (y : View). addresses (put a x (items y.attempt.stores))) k.is) h.within));
     written = λ o own x p. tells-store good c n a x v w o p i.phase locks own.0
         (room-by a o (roomy a l.undo.items (items v.attempt.stores) l.undo.len o.writes_limit (j.undoable rev) (own.1 ∙ h.len) h.room))
-        (subst (λ (y : View). IsLogged v y) (sym path) (record { history = refl; gate = refl; sure = ap (λ (y : View). y.lock.irrevocable) flat ∙ ap (λ (y : View). y.lock.irrevocable) k.is; start = refl; rises = refl; base = refl; installs = refl; trail = (more, refl) }))
+        (subst (λ (y : View). IsLogged v y) (sym path) (record { history = refl; gate = refl; sure = ap (λ (y : View). y.lock.irrevocable) flat ∙ ap (λ (y : View). y.lock.irrevocable) k.is; fence = refl; start = refl; rises = refl; base = refl; installs = refl; trail = (more, refl) }))
         (ap (λ (y : View). y.attempt) path) (still-opaque good c n l v o i);
   }
     where
@@ -166,6 +166,7 @@ module _ (good : List ℕ → Type 0) (c : Config) (n : ℕ) (l : Local) (v : Vi
       named = m.carried.named ∙ ap (λ (y : View). y.gate.algorithm) k.is;
       base = m.carried.base ∙ ap (λ (y : View). y.steps.rises_at_begin) k.is;
       installs = m.carried.installs ∙ ap (λ (y : View). y.steps.installs) k.is;
+      fence = m.carried.fence ∙ ap (λ (y : View). y.fence) k.is;
       trail = (m.carried.trail.0 ++ k.more, m.carried.trail.1 ∙ (ap (λ (y : View). m.carried.trail.0 ++ y.steps.trail) k.is ∙ sym (append_assoc m.carried.trail.0 k.more v.steps.trail)));
     };
     history = m.history ∙ ap (λ (y : View). y.history) k.is;

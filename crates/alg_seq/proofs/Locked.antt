@@ -32,7 +32,7 @@ use Rattle.tx_answers.specs.declared.answers.Write.TheVariants.{Done}
 use Rattle.tx_answers.specs.Answers as answers
 use Rattle.tx_answers.specs.Answers.{GoesOn, HasRead, HasWritten, KeepsRule, CommitsAt, EndsAt}
 use Rattle.tx_answers.specs.Causes.{has_item, reads_full, writes_full}
-use Rattle.tx_answers.specs.Known.{Known, known_of, granted_under, written_under, is_in, is_closing, is_irrevocable, wrote}
+use Rattle.tx_answers.specs.Known.{Known, known_of, fenced_of, granted_under, written_under, is_in, is_closing, is_irrevocable, wrote}
 use Rattle.tx_answers.specs.KnownLaws.{grows-same}
 use Rattle.stm_gate.specs.InnerLaws.{start-stays}
 use Rattle.stm_gate.specs.Leaving.{left}
@@ -104,6 +104,7 @@ pub record IsLogged (v w : View) : Type 0 where
   pub history : w.history ≡ v.history
   pub gate : w.gate ≡ v.gate
   pub sure : w.lock.irrevocable ≡ v.lock.irrevocable
+  pub fence : w.fence ≡ v.fence
   pub start : w.attempt.start ≡ v.attempt.start
   pub rises : w.steps.rises ≡ v.steps.rises
   pub base : w.steps.rises_at_begin ≡ v.steps.rises_at_begin
@@ -111,7 +112,7 @@ pub record IsLogged (v w : View) : Type 0 where
   pub trail : (more : List TrailItem) × (w.steps.trail ≡ more ++ v.steps.trail)
 
 pub logged-refl : (v : View) → IsLogged v v
-logged-refl v = record { history = refl; gate = refl; sure = refl; start = refl; rises = refl; base = refl; installs = refl; trail = ([], refl) }
+logged-refl v = record { history = refl; gate = refl; sure = refl; fence = refl; start = refl; rises = refl; base = refl; installs = refl; trail = ([], refl) }
 
 pub goes-on : (v w : View) (o : Own) → v.gate.phase ≡ In → IsLogged v w → GoesOn (known_of v o) (known_of w o)
 goes-on v w o inside i = record {
@@ -119,7 +120,7 @@ goes-on v w o inside i = record {
     running = ap (λ (g : GateView). is_in g.phase) i.gate ∙ ap is_in inside;
     closing = ap (λ (g : GateView). is_closing g.phase) i.gate ∙ ap is_closing inside;
     made = ap (λ (h : SeenHistory). public_history h.made) i.history;
-    grows = grows-same (known_of v o) (known_of w o) (ap (λ (h : SeenHistory). public_history h.seen) i.history) (ap (λ (h : SeenHistory). h.front) i.history) i.trail.0 i.trail.1 refl refl;
+    grows = grows-same (known_of v o) (known_of w o) (ap (λ (h : SeenHistory). public_history h.seen) i.history) (ap (λ (h : SeenHistory). h.front) i.history) i.trail.0 i.trail.1 refl refl (ap fenced_of i.fence);
     alg = ap (λ (g : GateView). g.algorithm) i.gate;
     fence = ap (λ (g : GateView). g.fence) i.gate;
     base = i.base;
@@ -148,7 +149,7 @@ module _ (good : List ℕ → Type 0) (c : Config) (n : ℕ) where
   pub tells-read : (a x : ℕ) (l : Local) (v w : View) (o : Own) → a < c.words → IsInside good c n l v → takes_lock v.gate.algorithm ≡ true → o.committing ≡ false → Tells (load_heap a) (Loads rule c a) v x w
       → HasRead good c n a (Value x) (known_of v o) (known_of w o)
   tells-read a x l v w o low i locks settled t = subst (λ (u : View). HasRead good c n a (Value x) (known_of v o) (known_of u o)) (sym t.2) (
-    goes-on v u o i.phase (record { history = refl; gate = refl; sure = refl; start = refl; rises = refl; base = refl; installs = refl; trail = (record { place = Heap a; act = Load; found = Some x } ∷ [], refl) }),
+    goes-on v u o i.phase (record { history = refl; gate = refl; sure = refl; fence = refl; start = refl; rises = refl; base = refl; installs = refl; trail = (record { place = Heap a; act = Load; found = Some x } ∷ [], refl) }),
     settled,
     subst (λ (ws : List (ℕ × ℕ)). Reads (known_of v o).log a x (record { reads = items u.attempt.reads; writes = ws })) (sym (written-plain v.gate.algorithm v.gate.granted u o locks))
         (subst (λ (ws : List (ℕ × ℕ)). Reads (record { reads = items v.attempt.reads; writes = ws }) a x (record { reads = items u.attempt.reads; writes = items v.attempt.stores })) (sym (written-plain v.gate.algorithm v.gate.granted v o locks))
@@ -166,7 +167,7 @@ module _ (good : List ℕ → Type 0) (c : Config) (n : ℕ) where
       → IsLogged v w → w.attempt ≡ v.attempt → ((u : View) → u.history ≡ v.history → u.attempt.start ≡ v.attempt.start → u.attempt.reads ≡ v.attempt.reads → answers.IsOpaque good c n (known_of u o))
       → HasWritten good c n a x Done (known_of v o) (known_of (view_after (store_heap a x) m w x) o)
   tells-store a x v w o m inside locks settled room i same opaque = (
-    goes-on v u o inside (record { history = i.history; gate = i.gate; sure = i.sure; start = i.start; rises = i.rises; base = i.base; installs = i.installs; trail = (record { place = Heap a; act = Store x; found = None } ∷ i.trail.0, ap (λ t. record { place = Heap a; act = Store x; found = None } ∷ t) i.trail.1) }),
+    goes-on v u o inside (record { history = i.history; gate = i.gate; sure = i.sure; fence = i.fence; start = i.start; rises = i.rises; base = i.base; installs = i.installs; trail = (record { place = Heap a; act = Store x; found = None } ∷ i.trail.0, ap (λ t. record { place = Heap a; act = Store x; found = None } ∷ t) i.trail.1) }),
     settled,
     subst (λ (ws : List (ℕ × ℕ)). logs.Writes (known_of v o).log a x (record { reads = items u.attempt.reads; writes = ws })) (sym (written-plain w.gate.algorithm w.gate.granted u o (ap (λ (g : GateView). takes_lock g.algorithm) i.gate ∙ locks)))
         (subst (λ (ws : List (ℕ × ℕ)). logs.Writes (record { reads = items v.attempt.reads; writes = ws }) a x (record { reads = items w.attempt.reads; writes = put a x (items w.attempt.stores) })) (sym (written-plain v.gate.algorithm v.gate.granted v o locks))
@@ -191,7 +192,7 @@ module _ (good : List ℕ → Type 0) (c : Config) (n : ℕ) where
       running = ap is_in i.phase;
       closing = ap is_closing i.phase;
       made = refl;
-      grows = grows-same (known_of v o) (known_of v o) refl refl [] refl refl refl;
+      grows = grows-same (known_of v o) (known_of v o) refl refl [] refl refl refl refl;
       alg = refl;
       fence = refl;
       base = refl;
@@ -235,7 +236,7 @@ module _ (good : List ℕ → Type 0) (c : Config) (n : ℕ) where
   )
     where
       unmade : IsUnmade v (view_after free_lock t.0 v 0)
-      unmade = record { carried = record { named = refl; base = refl; installs = refl; trail = (record { place = Lock; act = Store 0; found = None } ∷ [], refl) }; history = refl }
+      unmade = record { carried = record { named = refl; base = refl; installs = refl; fence = refl; trail = (record { place = Lock; act = Store 0; found = None } ∷ [], refl) }; history = refl }
 
   pub tells-committed : (l : Local) (v s u : View) (o : Own) → IsInside good c n l v → takes_lock v.gate.algorithm ≡ true → l.wrote ≡ true → Tells (store_clock n (l.start + 1)) (Commits rule c n (l.start + 1)) v (l.start + 1) s → Tells free_lock Nothing s 0 u
       → CommitsAt good c n (l.start + 1) (known_of v o) (known_of (left n u) o)
@@ -251,7 +252,7 @@ module _ (good : List ℕ → Type 0) (c : Config) (n : ℕ) where
 
       made : v.steps.rises ≡ v.steps.rises_at_begin → IsMade n (l.start + 1) r.0.history v last
       made rises = record {
-        carried = record { named = refl; base = refl; installs = refl; trail = (record { place = Lock; act = Store 0; found = None } ∷ record { place = Clock; act = Store (l.start + 1); found = None } ∷ [], refl) };
+        carried = record { named = refl; base = refl; installs = refl; fence = refl; trail = (record { place = Lock; act = Store 0; found = None } ∷ record { place = Clock; act = Store (l.start + 1); found = None } ∷ [], refl) };
         history = refl;
         rises = (let one = entry-one v.gate.algorithm locks in omega arith);
       }

@@ -97,7 +97,7 @@ module _ (good : List ℕ → Type 0) (c : Config) (n : ℕ) where
     -- a writer reads in place
     pub tells-in_place : (a x : ℕ) (w : View) → x < 2 ^ 64 → a < c.words → l.wrote ≡ true → Tells (tml_load a) (TmlLoads rule c a) v x w → HasRead good c n a (reads.Value x) (known_of v o) (known_of w o)
     tells-in_place a x w small low dirty t = subst (λ (u : View). HasRead good c n a (reads.Value x) (known_of v o) (known_of u o)) (sym (load_path a x w true dirty t)) (
-      goes-inner v u o i.phase (record { history = refl; gate = refl; lock = refl; start = refl; rises = refl; base = refl; installs = refl; trail = (_ ∷ [], refl) }),
+      goes-inner v u o i.phase (record { history = refl; gate = refl; lock = refl; fence = refl; start = refl; rises = refl; base = refl; installs = refl; trail = (_ ∷ [], refl) }),
       quiet,
       reads-here a x (logged v.attempt a x) u refl refl refl (t.1.value writes),
       small,
@@ -151,7 +151,7 @@ module _ (good : List ℕ → Type 0) (c : Config) (n : ℕ) where
     pub tells-read : (a x clock : ℕ) (s w : View) → x < 2 ^ 64 → a < c.words → l.wrote ≡ false → clock ≡ l.start → Tells (tml_load a) (TmlLoads rule c a) v x s → Tells tml_again (FindsAgain rule c) s clock w
         → HasRead good c n a (reads.Value x) (known_of v o) (known_of w o)
     tells-read a x clock s w small low clean same t r = subst (λ (y : View). HasRead good c n a (reads.Value x) (known_of v o) (known_of y o)) (sym (again_path a x clock s w true here clean t r)) (
-      goes-inner v u o i.phase (record { history = refl; gate = refl; lock = refl; start = refl; rises = refl; base = refl; installs = refl; trail = (_ ∷ _ ∷ [], refl) }),
+      goes-inner v u o i.phase (record { history = refl; gate = refl; lock = refl; fence = refl; start = refl; rises = refl; base = refl; installs = refl; trail = (_ ∷ _ ∷ [], refl) }),
       quiet,
       reads-here a x (record { at = a; value = x } ∷ v.attempt.reads) u refl refl (ap (λ (cs : List Cell). if touches cs a then v.attempt.reads else record { at = a; value = x } ∷ v.attempt.reads) none) (value ∙ ap (λ (cs : List Cell). over cs a (word_now v.history.seen a)) (sym none)),
       small,
@@ -184,7 +184,7 @@ module _ (good : List ℕ → Type 0) (c : Config) (n : ℕ) where
     pub tells-conflict : (a x clock : ℕ) (s u w : View) → n < c.callers → l.wrote ≡ false → clock ≢ l.start → Tells (tml_load a) (TmlLoads rule c a) v x s → Tells tml_again (FindsAgain rule c) s clock u → w ≡ left n u
         → HasRead good c n a (reads.Conflict (causes.Clock l.start clock)) (known_of v o) (known_of w o)
     tells-conflict a x clock s u w low clean apart t r is = subst (λ (y : View). HasRead good c n a (reads.Conflict (causes.Clock l.start clock)) (known_of v o) (known_of y o)) (sym (is ∙ ap (left n) (again_path a x clock s u false here clean t r))) (
-      quits-here y clean (record { carried = record { named = refl; base = refl; installs = refl; trail = (_ ∷ _ ∷ [], refl) }; history = refl }) refl,
+      quits-here y clean (record { carried = record { named = refl; base = refl; installs = refl; fence = refl; trail = (_ ∷ _ ∷ [], refl) }; history = refl }) refl,
       (tml, sym i.start, (λ e. apart (sym e)), found-left n Clock clock v y o o (_ ∷ _ ∷ [], refl, Load, (0, omega arith, refl))),
       others clock low clean apart shown.sole,
       (never-full a).0,
@@ -249,7 +249,7 @@ module _ (good : List ℕ → Type 0) (c : Config) (n : ℕ) where
     -- the clock was found elsewhere: before the exchange, by it, or at its limit
     pub refused-asked : (a x clock : ℕ) (s w : View) → n < c.callers → l.wrote ≡ false → clock ≢ l.start → Tells tml_again (FindsAgain rule c) v clock s → w ≡ left n s → HasWritten good c n a x (writes.Conflict (causes.Clock l.start clock)) (known_of v o) (known_of w o)
     refused-asked a x clock s w low clean apart r is = subst (λ (y : View). HasWritten good c n a x (writes.Conflict (causes.Clock l.start clock)) (known_of v o) (known_of y o)) (sym (is ∙ ap (left n) (asked_path clock s r))) (
-      quits-here y clean (record { carried = record { named = refl; base = refl; installs = refl; trail = (_ ∷ [], refl) }; history = refl }) refl,
+      quits-here y clean (record { carried = record { named = refl; base = refl; installs = refl; fence = refl; trail = (_ ∷ [], refl) }; history = refl }) refl,
       (tml, sym i.start, (λ e. apart (sym e)), found-left n Clock clock v y o o (_ ∷ [], refl, Load, (0, omega arith, refl))),
       others clock low clean apart r.1.sole,
       (never-full a).1,
@@ -260,7 +260,7 @@ module _ (good : List ℕ → Type 0) (c : Config) (n : ℕ) where
 
     pub refused-full : (a x clock : ℕ) (s w : View) → l.wrote ≡ false → CLOCK_LIMIT ≤ clock → Tells tml_again (FindsAgain rule c) v clock s → w ≡ left n s → HasWritten good c n a x (writes.ClockFull clock) (known_of v o) (known_of w o)
     refused-full a x clock s w clean high r is = subst (λ (y : View). HasWritten good c n a x (writes.ClockFull clock) (known_of v o) (known_of y o)) (sym (is ∙ ap (left n) (asked_path clock s r))) (
-      quits-here y clean (record { carried = record { named = refl; base = refl; installs = refl; trail = (_ ∷ [], refl) }; history = refl }) refl,
+      quits-here y clean (record { carried = record { named = refl; base = refl; installs = refl; fence = refl; trail = (_ ∷ [], refl) }; history = refl }) refl,
       ap asks_at_write tml,
       finds-full clock v (left n y) o o high (found-left n Clock clock v y o o (_ ∷ [], refl, Load, (0, omega arith, refl))),
       (never-full a).1,
@@ -275,7 +275,7 @@ module _ (good : List ℕ → Type 0) (c : Config) (n : ℕ) where
     pub refused-tried : (a x clock found : ℕ) (s u w : View) → n < c.callers → l.wrote ≡ false → found ≢ l.start → Tells tml_again (FindsAgain rule c) v clock s → Tells (tml_write l.start) (FindsSole c) s found u → w ≡ left n u
         → HasWritten good c n a x (writes.Conflict (causes.Clock l.start found)) (known_of v o) (known_of w o)
     refused-tried a x clock found s u w low clean apart r t is = subst (λ (y : View). HasWritten good c n a x (writes.Conflict (causes.Clock l.start found)) (known_of v o) (known_of y o)) (sym (is ∙ ap (left n) (tried_path clock found s u false (grind (arith, nat_tests)) r t))) (
-      quits-here y clean (record { carried = record { named = refl; base = refl; installs = refl; trail = (_ ∷ _ ∷ [], refl) }; history = refl }) refl,
+      quits-here y clean (record { carried = record { named = refl; base = refl; installs = refl; fence = refl; trail = (_ ∷ _ ∷ [], refl) }; history = refl }) refl,
       (tml, sym i.start, (λ e. apart (sym e)), found-left n Clock found v y o o (_ ∷ _ ∷ [], refl, Exchange l.start (l.start + 1), (0, omega arith, refl))),
       others found low clean apart (subst (λ (y : View). FindsSole c t.0 y found) (asked_path clock s r) t.1),
       (never-full a).1,
@@ -354,7 +354,7 @@ module _ (good : List ℕ → Type 0) (c : Config) (n : ℕ) where
           running = ap is_in i.phase;
           closing = ap is_closing i.phase;
           made = refl;
-          grows = grows-same (known_of v o) (known_of y o) refl refl (_ ∷ _ ∷ _ ∷ []) refl refl refl;
+          grows = grows-same (known_of v o) (known_of y o) refl refl (_ ∷ _ ∷ _ ∷ []) refl refl refl refl;
           alg = refl;
           fence = refl;
           base = refl;
@@ -384,7 +384,7 @@ module _ (good : List ℕ → Type 0) (c : Config) (n : ℕ) where
     -- a writer stores in place
     pub tells-stored : (a x : ℕ) (w : View) → Tells (tml_store a x) Nothing v x w → HasWritten good c n a x writes.Done (known_of v o) (known_of w o)
     tells-stored a x w t = subst (λ (y : View). HasWritten good c n a x writes.Done (known_of v o) (known_of y o)) (sym t.2) (
-      goes-inner v y o i.phase (record { history = refl; gate = refl; lock = refl; start = refl; rises = refl; base = refl; installs = refl; trail = (_ ∷ [], refl) }),
+      goes-inner v y o i.phase (record { history = refl; gate = refl; lock = refl; fence = refl; start = refl; rises = refl; base = refl; installs = refl; trail = (_ ∷ [], refl) }),
       quiet,
       (refl, λ b. ap (item_at b) (written-here y ∙ ap (put a x) (sym (written-here v)))),
       opaque-at good c n y o l.start i.start i.front i.legal i.below i.sees i.reads_inside,
@@ -422,7 +422,7 @@ module _ (good : List ℕ → Type 0) (c : Config) (n : ℕ) where
     pub tells-committed : (t : ℕ) (u w : View) → t ≡ l.start + 2 → l.wrote ≡ true → Tells (tml_commit n t) (steps.Commits rule c n t) v t u → w ≡ left n u → CommitsAt good c n t (known_of v o) (known_of w o)
     tells-committed t u w time dirty a is = subst (λ (y : View). CommitsAt good c n t (known_of v o) (known_of y o)) (sym (is ∙ ap (left n) a.2))
         (commits-left n good c t a.0 v (view_after (tml_commit n t) a.0 v t) o a.1 (record {
-          carried = record { named = refl; base = refl; installs = refl; trail = (_ ∷ [], refl) };
+          carried = record { named = refl; base = refl; installs = refl; fence = refl; trail = (_ ∷ [], refl) };
           history = refl;
           rises = (let r : v.steps.rises ≡ v.steps.rises_at_begin + 1 = k.rises ∙ ap (λ (b : Bool). v.steps.rises_at_begin + (if b then 1 else 0)) dirty in let e : entry_rise v.gate.algorithm ≡ 2 = ap entry_rise tml in omega arith);
         }) (let q = i.start in omega arith) (let q = i.front in omega arith) (k.dirty dirty) (written-here v))
@@ -468,7 +468,7 @@ module _ (good : List ℕ → Type 0) (c : Config) (n : ℕ) where
 
     pub grants-full : (clock : ℕ) (u w : View) → l.wrote ≡ false → CLOCK_LIMIT ≤ clock → Tells tml_grant (FindsSole c) v clock u → w ≡ left n u → Grants good c n (irrevs.ClockFull clock) (known_of v o) (known_of w o)
     grants-full clock u w clean high t is = subst (λ (y : View). Grants good c n (irrevs.ClockFull clock) (known_of v o) (known_of y o)) (sym (is ∙ ap (left n) (grant_path clock u false (full_no clock high) t))) (
-      quits-here y clean (record { carried = record { named = refl; base = refl; installs = refl; trail = (_ ∷ [], refl) }; history = refl }) refl,
+      quits-here y clean (record { carried = record { named = refl; base = refl; installs = refl; fence = refl; trail = (_ ∷ [], refl) }; history = refl }) refl,
       ap asks_at_grant tml,
       finds-full clock v (left n y) o o high (found-left n Clock clock v y o o (_ ∷ [], refl, Load, (0, omega arith, refl))),
     )
@@ -478,7 +478,7 @@ module _ (good : List ℕ → Type 0) (c : Config) (n : ℕ) where
 
     pub grants-moved : (clock : ℕ) (u w : View) → n < c.callers → l.wrote ≡ false → clock ≢ l.start → Tells tml_grant (FindsSole c) v clock u → w ≡ left n u → Grants good c n (irrevs.Conflict (causes.Clock l.start clock)) (known_of v o) (known_of w o)
     grants-moved clock u w low clean apart t is = subst (λ (y : View). Grants good c n (irrevs.Conflict (causes.Clock l.start clock)) (known_of v o) (known_of y o)) (sym (is ∙ ap (left n) (grant_path clock u false (moved_no clock apart) t))) (
-      quits-here y clean (record { carried = record { named = refl; base = refl; installs = refl; trail = (_ ∷ [], refl) }; history = refl }) refl,
+      quits-here y clean (record { carried = record { named = refl; base = refl; installs = refl; fence = refl; trail = (_ ∷ [], refl) }; history = refl }) refl,
       (tml, sym i.start, (λ e. apart (sym e)), found-left n Clock clock v y o o (_ ∷ [], refl, Load, (0, omega arith, refl))),
       others clock low clean apart t.1,
     )
@@ -492,7 +492,7 @@ module _ (good : List ℕ → Type 0) (c : Config) (n : ℕ) where
         running = ap is_in i.phase;
         closing = ap is_closing i.phase;
         made = refl;
-        grows = grows-same (known_of v o) (known_of y o) refl refl (_ ∷ []) refl refl refl;
+        grows = grows-same (known_of v o) (known_of y o) refl refl (_ ∷ []) refl refl refl refl;
         alg = refl;
         fence = refl;
         base = refl;
@@ -575,7 +575,7 @@ module _ (good : List ℕ → Type 0) (c : Config) (n : ℕ) (v : View) (can : C
   tells-held clock w odd t = subst (λ (y : View). Starts.Refuses good c n Tml (begins.Held clock) v y) (sym (begun_path clock w false (grind (arith, nat_tests)) t)) (
     record {
       can = record { phase = can.phase; named = can.named; built = can.built; reopened = can.reopened; ungranted = can.ungranted; clear = record { unlocked = can.clear.unlocked; disowned = can.clear.disowned; unwritten = can.clear.unwritten; uncommitted = can.clear.uncommitted; unentered = can.clear.unentered; unfixed = can.clear.unfixed }; unentered = can.unentered; rises = can.rises };
-      keeps = λ o. record { made = refl; grows = grows-same (known_of v o) (known_of y o) refl refl (_ ∷ []) refl refl refl; rises = refl; installs = refl };
+      keeps = λ o. record { made = refl; grows = grows-same (known_of v o) (known_of y o) refl refl (_ ∷ []) refl refl refl refl; rises = refl; installs = refl };
     },
     omega arith,
     (λ o. ((_ ∷ [], refl, Load, (0, omega arith, refl)), odd)),
@@ -624,7 +624,7 @@ module _ (good : List ℕ → Type 0) (c : Config) (n : ℕ) (v : View) (can : C
     fence = refl;
     rises = can.rises;
     starts = λ o fresh. record {
-      keeps = record { made = refl; grows = (let q = later-seen t.0.history v.history.front clock b.below b.front in record { later = q.0; is = subst (λ (h : List Entry). public_history t.0.history ≡ public_history h ++ q.0) (sym b.seen) q.1; ascending = q.2; up_to = q.3; front_rose = b.front; more = record { place = Clock; act = Load; found = Some clock } ∷ []; trail = refl; reads_limit = refl; writes_limit = refl }); rises = refl; installs = refl };
+      keeps = record { made = refl; grows = (let q = later-seen t.0.history v.history.front clock b.below b.front in record { later = q.0; is = subst (λ (h : List Entry). public_history t.0.history ≡ public_history h ++ q.0) (sym b.seen) q.1; ascending = q.2; up_to = q.3; front_rose = b.front; more = record { place = Clock; act = Load; found = Some clock } ∷ []; trail = refl; reads_limit = refl; writes_limit = refl; fenced = refl }); rises = refl; installs = refl };
       found = (_ ∷ [], refl, Load, (0, omega arith, refl));
       is = refl;
       fresh = b.front;

@@ -44,6 +44,7 @@ impl Report {
             commits,
             closed,
             held,
+            fenced: _,
             conflicts,
             full,
             busy,

@@ -67,6 +67,8 @@ pub record FenceRule (c : Config) (s : FenceScene) : Type 0 where
   pub mine : (n : ℕ) → (s.views n).holds ≡ true → (fence_owner s.fence ≡ 1 + n) × (s.fence ≡ (s.views n).number)
   pub owner : (n : ℕ) → fence_owner s.fence ≡ 1 + n → (s.views n).holds ≡ true
   pub none : fence_owner s.fence ≡ 0 → s.fence ≡ 0
+  -- a memory that takes no fences has none
+  pub off : c.fence ≡ false → s.fence ≡ 0
   -- nobody but a caller has one
   pub few : (n : ℕ) → (s.views n).holds ≡ true → n < c.callers
   -- its range lies in the memory

@@ -107,6 +107,7 @@ module _ (c : Config) where
         (λ e. ap (λ (u : FenceView). u.holds) own ∙ r.owner n (ap fence_owner (sym fence) ∙ e))
         (λ m d e. r.owner m (ap fence_owner (sym fence) ∙ e));
     none = λ e. fence ∙ r.none (ap fence_owner (sym fence) ∙ e);
+    off = λ e. fence ∙ r.off e;
     few = put-all (fence_scene w).views n v.fence (λ m u. u.holds ≡ true → m < c.callers) (λ t. r.few n (ap (λ (u : FenceView). u.holds) (sym own) ∙ t)) (λ m d t. r.few m t);
     inside = λ a e. r.inside a (ap (λ k. fenced k a) (sym fence) ∙ e);
     holder = put-all (fence_scene w).views n v.fence (λ m u. u.holds ≡ true → FenceHolder after u)
@@ -145,6 +146,7 @@ module _ (c : Config) where
         (λ e. holds)
         (λ m d e. r.owner m (ap fence_owner (sym fence) ∙ e));
     none = λ e. fence ∙ r.none (ap fence_owner (sym fence) ∙ e);
+    off = λ e. fence ∙ r.off e;
     few = put-all (fence_scene w).views n v.fence (λ m u. u.holds ≡ true → m < c.callers) (λ t. r.few n has) (λ m d t. r.few m t);
     inside = λ a e. r.inside a (ap (λ k. fenced k a) (sym fence) ∙ e);
     holder = put-all (fence_scene w).views n v.fence (λ m u. u.holds ≡ true → FenceHolder after u)
@@ -162,12 +164,12 @@ module _ (c : Config) where
       here m e f y = grind (arith, e)
 
   -- A FENCE COMES, where there was none, nobody is in an attempt, and the memory lies in the heap
-  pub fence-comes : (w x : World) (n from count : ℕ) (v : View) → x.views ≡ put w.views n v → x.clock ≡ w.clock → x.heap ≡ w.heap → x.history ≡ w.history → n < c.callers → fence_of w.gate ≡ 0 → fence_of x.gate ≡ fence_number n from count
+  pub fence-comes : (w x : World) (n from count : ℕ) (v : View) → x.views ≡ put w.views n v → x.clock ≡ w.clock → x.heap ≡ w.heap → x.history ≡ w.history → c.fence ≡ true → n < c.callers → fence_of w.gate ≡ 0 → fence_of x.gate ≡ fence_number n from count
       → from < 1048576 → count < 2097152 → from + count ≤ c.words → Below w.history (w.clock + 1)
       → v.fence ≡ record { holds = true; number = fence_number n from count; past = record { seen = w.history; front = w.clock }; reads = []; stores = [] }
       → ((a : ℕ) → w.heap a ≡ word_now w.history a) → ((m : ℕ) → (put (fence_scene w).phases n v.gate.phase m) ≡ In → ⊥)
       → FenceRule c (fence_scene w) → FenceRule c (fence_scene x)
-  fence-comes w x n from count v is clock heap history caller was fence low few inside below own lies out r = subst (FenceRule c) (sym (fence_scene-put w x n v is)) (record {
+  fence-comes w x n from count v is clock heap history on caller was fence low few inside below own lies out r = subst (FenceRule c) (sym (fence_scene-put w x n v is)) (record {
     mine = put-all (fence_scene w).views n v.fence (λ m u. u.holds ≡ true → (fence_owner (fence_of x.gate) ≡ 1 + m) × (fence_of x.gate ≡ u.number))
         (λ t. (owner_now, fence ∙ ap (λ (u : FenceView). u.number) (sym own)))
         (λ m d t. absurd (nobody m t));
@@ -175,6 +177,7 @@ module _ (c : Config) where
         (λ e. ap (λ (u : FenceView). u.holds) own)
         (λ m d e. absurd (d (let k = owner_now in omega arith)));
     none = λ e. absurd (let k = owner_now in omega arith);
+    off = λ e. absurd (let f : true ≡ false = sym on ∙ e in cc);
     few = put-all (fence_scene w).views n v.fence (λ m u. u.holds ≡ true → m < c.callers) (λ t. caller) (λ m d t. absurd (nobody m t));
     inside = λ a e. fenced-inside n from count c.words a low few inside (ap (λ k. fenced k a) (sym fence) ∙ e);
     holder = put-all (fence_scene w).views n v.fence (λ m u. u.holds ≡ true → FenceHolder after u)
@@ -209,6 +212,7 @@ module _ (c : Config) where
         (λ m d t. absurd (d (one-holder (fence_scene w) m n r t has)));
     owner = λ m e. absurd (let k : fence_owner (fence_of x.gate) ≡ fence_owner 0 = ap fence_owner fence in let z : fence_owner 0 ≡ 0 = refl in omega arith);
     none = λ e. fence;
+    off = λ e. fence;
     few = put-all (fence_scene w).views n v.fence (λ m u. u.holds ≡ true → m < c.callers) (λ t. r.few n has) (λ m d t. r.few m t);
     inside = λ a e. absurd (let f : true ≡ false = sym (ap (λ k. fenced k a) (sym fence) ∙ e) ∙ fenced-none a in cc);
     holder = put-all (fence_scene w).views n v.fence (λ m u. u.holds ≡ true → FenceHolder after u)

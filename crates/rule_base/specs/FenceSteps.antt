@@ -32,8 +32,9 @@ fence n number alg = record {
   grown = same_history;
 }
 
--- the range lies in the memory, whose addresses fit
+-- the memory takes fences; the range lies in it, and its addresses fit
 pub record CanFence (c : Config) (n from count : ℕ) (alg : Alg) (v : View) : Type 0 where
+  pub on : c.fence ≡ true
   pub phase : v.gate.phase ≡ Closing
   pub quiet : HasChecked c.callers n v
   pub named : v.gate.algorithm ≡ alg

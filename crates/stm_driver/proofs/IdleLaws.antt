@@ -1,5 +1,5 @@
 -- What is open ends without a row, one worker behind the other.
-use Rattle.std.proofs.Common.{ℕ, zero, suc, ◌≡◌, ◌<◌, ◌≤◌, ◌+◌, ◌++◌, List, [], ◌∷◌, length, get_or, set, take, drop, refl, sym, ap, ◌∙◌, arith, subst, add-one}
+use Rattle.std.proofs.Common.{ℕ, zero, suc, ◌≡◌, ◌<◌, ◌≤◌, ◌+◌, ◌++◌, true, false, List, [], ◌∷◌, length, get_or, set, take, drop, refl, sym, ap, ◌∙◌, arith, subst, add-one}
 use Rattle.std.specs.Prelude.{sum_by, All}
 use Rattle.std.proofs.lemmas.List.Elements.{All-head, All-tail}
 use Rattle.std.proofs.lemmas.List.Sums.{sum_by-cons}
@@ -83,7 +83,7 @@ module _ {K : Type 0} (good : List ℕ → Type 0) (stm : Stm K) where
   idle-descs n [] [] c h = tt
   idle-descs n [] (w ∷ ws) c h = absurd h
   idle-descs n (v ∷ vs) [] c h = absurd h
-  idle-descs n (v ∷ vs) (w ∷ ws) c h = (h.0.own, ap (λ x. x.role) h.0.same.who ∙ c.0, h.0.idle.0, idle-descs (suc n) vs ws c.1 h.1)
+  idle-descs n (v ∷ vs) (w ∷ ws) c h = (h.0.own, ap (λ x. x.role) h.0.same.who ∙ c.0, (h.0.idle.0, λ on. absurd (let f : true ≡ false = sym on ∙ h.0.plain in cc)), idle-descs (suc n) vs ws c.1 h.1)
 
   -- no more than was owed
   pub idle-rises : (vs ws : List (Worker K)) → AreMadeIdle good stm vs ws → sum_by (λ (d : Handle K). d.view.steps.rises) (descs_of ws) ≤ debts vs

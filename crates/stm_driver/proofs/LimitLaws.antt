@@ -8,7 +8,7 @@ use Rattle.stm_profile.specs.declared.policy.Policy.{Policy}
 use Rattle.stm_profile.specs.declared.policy.Policy.TheVariants.{Fixed}
 use Rattle.stm_rule.specs.declared.stm.Stm.{Stm}
 use Rattle.stm_model.specs.declared.config.Config.{Config}
-use Rattle.stm_model.specs.Histories.{Entry, made_by, IsLegal}
+use Rattle.stm_model.specs.Histories.{Entry, made_by}
 use Rattle.tx_regions.specs.declared.region.Region.{Region}
 use Rattle.stm_script.specs.declared.workload.Go.{Go}
 use Rattle.stm_script.specs.declared.workload.Item.{Item}
@@ -27,7 +27,7 @@ use Rattle.stm_trace.specs.Turns.{BeforeTx}
 use Rattle.stm_worker.specs.declared.worker.Worker.{Worker}
 use Rattle.stm_worker.specs.Workers.{IsAt, Loaded}
 use Rattle.stm_worker.specs.Workers.{ItemsFit as OwnItems}
-use Rattle.stm_driver.specs.Preparings.{BuiltItem}
+use Rattle.stm_driver.specs.Preparings.{BuiltItem, Forms}
 use Rattle.stm_driver.specs.declared.schedule.Halt.TheVariants.{ClockFull}
 use Rattle.stm_driver.specs.AllWorkers.{AreMadeIdle, ArePaidFor, Enough, MetLimit, descs_of, rows_of}
 use Rattle.stm_driver.specs.Openings.{first_installs}
@@ -35,25 +35,14 @@ use Rattle.stm_trace.specs.Places.{most_failed}
 use Rattle.stm_worker.specs.Payments.{raised}
 use Rattle.stm_driver.specs.ClosedRuns.{CutShort}
 use Rattle.stm_script.specs.Workloads.{config_of}
-use Rattle.stm_driver.specs.Runs.{ArePart, AreFirst, IsHistory, IsFull, IsCut, RanSome, most_rises}
+use Rattle.stm_driver.specs.Runs.{ArePart, AreFirst, IsFull, IsCut, RanSome, most_rises}
 use Rattle.stm_driver.specs.Schedules.{Drives, FoundFull}
 use Rattle.stm_driver.proofs.HistoryLaws.{dealt, ones}
 use Rattle.stm_driver.proofs.IdleLaws.{idle-rises}
 use Rattle.stm_driver.proofs.PartingLaws.{all-cons, total, total-few, all_items, all_items-few}
 use Rattle.stm_driver.proofs.PreparedLaws.{Begun, StartPaid, sizes-of}
-use Rattle.stm_driver.proofs.ReportLaws.{all-made}
+use Rattle.stm_driver.proofs.ReportLaws.{all-made, history-of}
 use Rattle.stm_driver.proofs.StandingLaws.{Each, Stood, clock-within, made-few, stood-caller, stood-works, stood-todo, stood-within, rows-total}
-
--- what is said of the history of a memory that was closed
-pub history-of : {K : Type 0} (good : List ℕ → Type 0) (w : Workload) (config : Config) → config ≡ config_of w.header → (ds : List (Handle K)) (ws : List ℕ) (closed : Ended) → Closes good config ds ws closed → IsHistory w closed
-history-of good w config sized ds ws closed c =
-    let l = c.legal in
-    let any : IsLegal (λ (m : List ℕ). Unit {0}) (zeros config.words) config.clock closed.history =
-    record { ascending = l.ascending; entries = l.entries; reads = l.reads; numbered = l.numbered; good_always = λ s. tt } in
-    record {
-      legal = subst (λ (x : Config). IsLegal (λ (m : List ℕ). Unit {0}) (zeros x.words) x.clock closed.history) sized any;
-      times = c.times;
-    }
 
 -- a transaction was still to begin
 left-some : (n : ℕ) (items : List Item) → BeforeTx items → All (λ i. caller_in i ≡ n) items → 1 ≤ length (scripts_of n items)
@@ -188,9 +177,9 @@ module _ {K : Type 0} (good : List ℕ → Type 0) (policy : Policy) (w : Worklo
           omega (arith, r, f)
 
   -- none has anything open, and one met the limit
-  pub full : (us rs : List (Worker K)) (ws : List ℕ) (closed : Ended) (clock : ℕ) → RanSome AreFirst policy w closed → StartPaid w.header.alg 0 us → ArePaidFor stm us rs → Each (Stood good policy w stm sized) 0 rs → All (λ (r : Worker K). r.phase ≡ Between) rs → length rs ≡ stm.config.callers → MetSome rs clock → Closes good stm.config (descs_of rs) ws closed
+  pub full : Forms good w → (us rs : List (Worker K)) (ws : List ℕ) (closed : Ended) (clock : ℕ) → RanSome AreFirst policy w closed → StartPaid w.header.alg 0 us → ArePaidFor stm us rs → Each (Stood good policy w stm sized) 0 rs → All (λ (r : Worker K). r.phase ≡ Between) rs → length rs ≡ stm.config.callers → MetSome rs clock → Closes good stm.config (descs_of rs) ws closed
       → IsFull policy w clock closed
-  full us rs ws closed clock ran starts paid stood between len is c =
+  full forms us rs ws closed clock ran starts paid stood between len is c =
       let met = met-first 0 rs closed clock stood c.told is in
       let low = met.low in
       let high = met.high in
@@ -202,7 +191,7 @@ module _ {K : Type 0} (good : List ℕ → Type 0) (policy : Policy) (w : Worklo
       let rises = rises-most us rs starts paid stood between in
       let made = made-total 0 rs closed stood between c.told in
       let all = all-made good policy w stm items sized (λ (e : Entry). 1) rs ws closed len c ∙ ones closed.history in
-      record { opening = c.opening ∙ opening; found = omega arith; limit = omega arith; history = history-of good w stm.config sized (descs_of rs) ws closed c; ran = ran; left = omega arith; bound = omega arith }
+      record { opening = c.opening ∙ opening; found = omega arith; limit = omega arith; history = history-of good w forms stm.config sized (descs_of rs) ws closed c; ran = ran; left = omega arith; bound = omega arith }
 
   -- the clock that was found is at its limit, and at most the last
   found-within : (n : ℕ) (vs ws : List (Worker K)) (closed : Ended) (clock : ℕ) → AreMadeIdle good stm vs ws → AllTold closed n (descs_of ws) → FoundFull vs clock → (2 ^ 62 ≤ clock) × (clock ≤ closed.clock)
@@ -215,9 +204,9 @@ module _ {K : Type 0} (good : List ℕ → Type 0) (policy : Policy) (w : Worklo
   found-within n (v ∷ vs) (x ∷ ws) closed clock e t (inr f) = found-within (suc n) vs ws closed clock e.1 t.1 f
 
   -- a call of one found the clock full, whatever the others have open
-  pub cut : policy ≡ Fixed → (begun ran : List (Worker K)) (gos : List Go) (lines : List Line) (clock : ℕ) (closed : Ended) → gos ≡ w.schedule → Begun good policy w stm items sized begun → Drives stm.config gos begun ran lines (Err (ClockFull clock))
+  pub cut : Forms good w → policy ≡ Fixed → (begun ran : List (Worker K)) (gos : List Go) (lines : List Line) (clock : ℕ) (closed : Ended) → gos ≡ w.schedule → Begun good policy w stm items sized begun → Drives stm.config gos begun ran lines (Err (ClockFull clock))
       → CutShort good stm ran closed → RanSome ArePart policy w closed → IsCut w lines clock closed
-  cut fixed begun ran gos lines clock closed is b drives c some =
+  cut forms fixed begun ran gos lines clock closed is b drives c some =
       let found = found-within 0 ran c.after closed clock c.idle c.closes.told drives.2 in
       let low = found.0 in
       let high = found.1 in
@@ -234,7 +223,7 @@ module _ {K : Type 0} (good : List ℕ → Type 0) (policy : Policy) (w : Worklo
         opening = c.closes.opening ∙ opening;
         found = omega (arith, low, high, limit);
         limit = omega (arith, low, high, limit);
-        history = history-of good w stm.config sized (descs_of c.after) c.words closed c.closes;
+        history = history-of good w forms stm.config sized (descs_of c.after) c.words closed c.closes;
         ran = subst (λ (p : Policy). RanSome ArePart p w closed) fixed some;
         bound = omega (arith, low, high, limit, opening, risen, rises, paid, none);
       }

@@ -34,15 +34,15 @@ use Rattle.stm_driver.specs.ClosedRuns.{Reported, CutShort, Came}
 use Rattle.stm_script.specs.Workloads.{config_of}
 use Rattle.stm_script.specs.declared.workload.Item.{Item}
 use Rattle.stm_driver.specs.Partings.{parted}
-use Rattle.stm_driver.specs.Preparings.{BuiltItem, WorkloadKeeps, IsPrepared}
+use Rattle.stm_driver.specs.Preparings.{BuiltItem, Forms, WorkloadKeeps, IsPrepared}
 use Rattle.stm_driver.specs.Runs.{AreFirst, ArePart, IsShown, IsStopped, IsTraced, HasRun, HasStepped, RanSome}
 use Rattle.stm_driver.specs.Schedules.{places, AreSame, AreSound, Drives}
 use Rattle.stm_driver.proofs.IdleLaws.{idle-length, idle-still}
-use Rattle.stm_driver.proofs.LimitLaws.{MetSome, full, cut, history-of}
+use Rattle.stm_driver.proofs.LimitLaws.{MetSome, full, cut}
 use Rattle.stm_driver.proofs.PartingLaws.{all-cons, written}
 use Rattle.stm_driver.proofs.PartLaws.{ran-some}
 use Rattle.stm_driver.proofs.PreparedLaws.{AreOwn, Begun, begun, own-callers, own-same, sizes-of}
-use Rattle.stm_driver.proofs.ReportLaws.{shown}
+use Rattle.stm_driver.proofs.ReportLaws.{shown, history-of}
 use Rattle.stm_driver.proofs.ScheduleLaws.{same-length}
 use Rattle.stm_driver.proofs.StandingLaws.{Each, Stood, stood-each, rows-few}
 use Rattle.stm_driver.proofs.WorkersLaws.{workers-length}
@@ -160,17 +160,17 @@ module _ {K : Type 0} (good : List ℕ → Type 0) (policy : Policy) (w : Worklo
   all-ready (r ∷ rs) s =
       all-cons (IsReady good stm) r rs (record { sound = All-head (Sound good stm) (worker_in r) (workers_in rs) s }) (all-ready rs (All-tail (Sound good stm) (worker_in r) (workers_in rs) s))
 
-  module _ (theorem : ReportReplays good) where
+  module _ (theorem : ReportReplays good) (forms : Forms good w) where
     -- what was done: with nothing open the first items of each caller
     ran-first : (ran : List (Worker K)) (closed : Ended) → Turned ran → All (λ (w : Worker K). w.phase ≡ Between) ran → CutShort good stm ran closed → RanSome AreFirst policy w closed
     ran-first ran closed t between c =
-        ran-some good policy w stm items sized theorem AreFirst (λ (w : Worker K). w.phase ≡ Between) (λ n v x s h p. (v.items_left.now, sym s.own.all ∙ h.did.calm p))
+        ran-some good policy w stm items sized theorem forms AreFirst (λ (w : Worker K). w.phase ≡ Between) (λ n v x s h p. (v.items_left.now, sym s.own.all ∙ h.did.calm p))
         ran c.after c.words closed (stands ran t) between c.idle (idle-length good stm ran c.after c.idle ∙ t.count) c.closes
 
     -- and else a part of them
     ran-part : (ran : List (Worker K)) (closed : Ended) → Turned ran → CutShort good stm ran closed → RanSome ArePart policy w closed
     ran-part ran closed t c =
-        ran-some good policy w stm items sized theorem ArePart (λ (w : Worker K). Unit {0}) (λ n v x s h p. (v.items_left.now, subst (λ l. IsPart l v.items_left.now h.did.items) s.own.all h.did.part))
+        ran-some good policy w stm items sized theorem forms ArePart (λ (w : Worker K). Unit {0}) (λ n v x s h p. (v.items_left.now, subst (λ l. IsPart l v.items_left.now h.did.items) s.own.all h.did.part))
         ran c.after c.words closed (stands ran t) (λ i d lt. tt) c.idle (idle-length good stm ran c.after c.idle ∙ t.count) c.closes
 
     -- what `run` came to
@@ -178,13 +178,13 @@ module _ {K : Type 0} (good : List ℕ → Type 0) (policy : Policy) (w : Worklo
     has-run lent ran how outcome b r t is came = by (first_full ran) refl outcome (subst (λ h. Came good stm (workers_in ran) h outcome) is came)
       where
         by : (full : Option ℕ) → first_full ran ≡ full → (o : Outcome) → Came good stm (workers_in ran) (how_of full) o → HasRun policy w o
-        by None e (ToEnd report closed) c = shown good policy w stm items sized theorem (workers_in ran) c.words closed report (stands (workers_in ran) t) t.count (none-left ran r.through r.between e) c.closes c.is
+        by None e (ToEnd report closed) c = shown good policy w stm items sized theorem forms (workers_in ran) c.words closed report (stands (workers_in ran) t) t.count (none-left ran r.through r.between e) c.closes c.is
         by None e (ToLimit clock closed) c = absurd c
-        by None e (OutOfMemory closed) c = let q = c.1 in (c.0, shown good policy w stm items sized theorem (workers_in ran) q.words closed c.0 (stands (workers_in ran) t) t.count (none-left ran r.through r.between e) q.closes q.is)
+        by None e (OutOfMemory closed) c = let q = c.1 in (c.0, shown good policy w stm items sized theorem forms (workers_in ran) q.words closed c.0 (stands (workers_in ran) t) t.count (none-left ran r.through r.between e) q.closes q.is)
         by (Some found) e (ToEnd report closed) c = absurd c
         by (Some found) e (ToLimit clock closed) c =
             let after = idle-still good stm (workers_in ran) c.1.after r.between c.1.idle in
-            full good policy w stm items sized (workers_in lent) (workers_in ran) c.1.words closed clock (ran-first (workers_in ran) closed t r.between c.1) b.paid r.paid (stands (workers_in ran) t) r.between t.count (met-some ran clock r.through (e ∙ ap Some (sym c.0)))
+            full good policy w stm items sized forms (workers_in lent) (workers_in ran) c.1.words closed clock (ran-first (workers_in ran) closed t r.between c.1) b.paid r.paid (stands (workers_in ran) t) r.between t.count (met-some ran clock r.through (e ∙ ap Some (sym c.0)))
             (subst (λ ws. Closes good stm.config (descs_of ws) c.1.words closed) after c.1.closes)
         by (Some found) e (OutOfMemory closed) c = absurd c
 
@@ -196,7 +196,7 @@ module _ {K : Type 0} (good : List ℕ → Type 0) (policy : Policy) (w : Worklo
           let sorted = subst (λ ps. fits.IsWhole w.header ps gos lines report.rows) (b.starts fixed) whole in
           record {
             fits = subst (λ s. fits.IsWhole w.header (first_places w) s lines report.rows) is sorted;
-            shown = subst (λ (p : Policy). IsShown p w report closed) fixed (shown good policy w stm items sized theorem ran r.words closed report (stands ran t) t.count drives.1 r.closes r.is);
+            shown = subst (λ (p : Policy). IsShown p w report closed) fixed (shown good policy w stm items sized theorem forms ran r.words closed report (stands ran t) t.count drives.1 r.closes r.is);
           }
 
       -- all was done, and no report of it was made
@@ -204,13 +204,13 @@ module _ {K : Type 0} (good : List ℕ → Type 0) (policy : Policy) (w : Worklo
           → IsStopped w closed
       stopped-whole begun ran gos lines report closed b t d r = record {
         opening = r.closes.opening ∙ ap (λ (x : Config). x.clock) sized;
-        history = history-of good w stm.config sized (descs_of ran) r.words closed r.closes;
+        history = history-of good w forms stm.config sized (descs_of ran) r.words closed r.closes;
         ran = record {
           part = w;
           header = refl;
           each = λ n lt. ([], (items_of n w.items, sym (append-nil (items_of n w.items)), inl refl));
           report = report;
-          shown = subst (λ (p : Policy). IsShown p w report closed) fixed (shown good policy w stm items sized theorem ran r.words closed report (stands ran t) t.count d.1 r.closes r.is);
+          shown = subst (λ (p : Policy). IsShown p w report closed) fixed (shown good policy w stm items sized theorem forms ran r.words closed report (stands ran t) t.count d.1 r.closes r.is);
         };
       }
 
@@ -222,11 +222,11 @@ module _ {K : Type 0} (good : List ℕ → Type 0) (policy : Policy) (w : Worklo
       has-stepped begun ran gos lines (Ok x) (OutOfMemory closed) is b t d c = stopped-whole begun ran gos lines c.0 closed b t d c.1
       has-stepped begun ran gos lines (Err (ClockFull found)) (ToEnd report closed) is b t d c = absurd c
       has-stepped begun ran gos lines (Err (ClockFull found)) (ToLimit clock closed) is b t d c =
-          cut good policy w stm items sized fixed begun ran gos lines clock closed is b (subst (λ k. Drives stm.config gos begun ran lines (Err (ClockFull k))) (sym c.0) d) c.1 (ran-part ran closed t c.1)
+          cut good policy w stm items sized forms fixed begun ran gos lines clock closed is b (subst (λ k. Drives stm.config gos begun ran lines (Err (ClockFull k))) (sym c.0) d) c.1 (ran-part ran closed t c.1)
       has-stepped begun ran gos lines (Err (ClockFull found)) (OutOfMemory closed) is b t d c = absurd c
       has-stepped begun ran gos lines (Err Memory) (ToEnd report closed) is b t d c = absurd c
       has-stepped begun ran gos lines (Err Memory) (ToLimit clock closed) is b t d c = absurd c
-      has-stepped begun ran gos lines (Err Memory) (OutOfMemory closed) is b t d c = record { opening = c.closes.opening ∙ ap (λ (x : Config). x.clock) sized; history = history-of good w stm.config sized (descs_of c.after) c.words closed c.closes; ran = subst (λ (p : Policy). RanSome ArePart p w closed) fixed (ran-part ran closed t c) }
+      has-stepped begun ran gos lines (Err Memory) (OutOfMemory closed) is b t d c = record { opening = c.closes.opening ∙ ap (λ (x : Config). x.clock) sized; history = history-of good w forms stm.config sized (descs_of c.after) c.words closed c.closes; ran = subst (λ (p : Policy). RanSome ArePart p w closed) fixed (ran-part ran closed t c) }
 
 pub driven-between : {K : Type 0} (config : Config) (gos : List Go) (begun ran : List (Worker K)) (lines : List Line) (how : Result (Unit {0}) Halt) → Drives config gos begun ran lines how → OnOk how (All (λ (w : Worker K). w.phase ≡ Between) ran)
 driven-between config gos begun ran lines (Ok x) d = over-between ran d.1

@@ -28,14 +28,14 @@ use Rattle.stm_worker.specs.Leavings.{BeginsNext, IsPart, MadeIdle}
 use Rattle.stm_worker.specs.Installs.{InstallsBy}
 use Rattle.stm_worker.specs.InstallLaws.{by-before}
 use Rattle.stm_worker.specs.Workers.{Works, switches_of, switches_with}
-use Rattle.stm_driver.specs.Preparings.{BuiltItem}
+use Rattle.stm_driver.specs.Preparings.{BuiltItem, Forms}
 use Rattle.stm_driver.specs.AllWorkers.{AreMadeIdle, descs_of, policy_for}
 use Rattle.stm_driver.specs.Openings.{first_installs}
 use Rattle.stm_driver.specs.Runs.{AreInstalls, RanSome, installs_for}
 use Rattle.stm_driver.proofs.HistoryLaws.{dealt, dealt-all, all-below, made-own, made-within}
 use Rattle.stm_driver.proofs.PartingLaws.{all-cons, own-all, scripts-own}
 use Rattle.stm_driver.proofs.PreparedLaws.{all-installs}
-use Rattle.stm_driver.proofs.ReportLaws.{reworked}
+use Rattle.stm_driver.proofs.ReportLaws.{reworked, history-of}
 use Rattle.stm_driver.proofs.SortLaws.{sorted-of}
 use Rattle.stm_driver.proofs.StandingLaws.{Each, Stood, stood-caller}
 
@@ -266,10 +266,10 @@ module _ {K : Type 0} (good : List ℕ → Type 0) (policy : Policy) (w : Worklo
       installs-in (suc n) ds h.1,
     )
 
-  pub ran-some : ReportReplays good → (some : List Item → List Item → Type 0) (P : Worker K → Type 0) → ((n : ℕ) (v x : Worker K) → Stood good policy w stm sized n v → (h : MadeIdle good stm v x) → P v → some (items_of n w.items) h.did.items)
+  pub ran-some : ReportReplays good → Forms good w → (some : List Item → List Item → Type 0) (P : Worker K → Type 0) → ((n : ℕ) (v x : Worker K) → Stood good policy w stm sized n v → (h : MadeIdle good stm v x) → P v → some (items_of n w.items) h.did.items)
       → (vs xs : List (Worker K)) (ws : List ℕ) (closed : Ended) → Each (Stood good policy w stm sized) 0 vs → All P vs → AreMadeIdle good stm vs xs → length xs ≡ stm.config.callers → Closes good stm.config (descs_of xs) ws closed → RanSome some policy w closed
   unfolding some_of
-  ran-some theorem some P is vs xs ws closed stood p idle len c =
+  ran-some theorem forms some P is vs xs ws closed stood p idle len c =
       let a = are-did some P is closed 0 vs xs stood p idle c.told in
       let ds = a.dids in
       let whole = all_of ds in
@@ -301,6 +301,7 @@ module _ {K : Type 0} (good : List ℕ → Type 0) (policy : Policy) (w : Worklo
         shown = record {
           replays = both.0;
           shows = subst (λ k. Shows closed.history k closed.clock part report) (sym (c.opening ∙ ap (λ (x : Config). x.clock) sized)) both.1;
+          history = history-of good part forms stm.config sized (descs_of xs) ws closed c;
           callers = ap length (c.installs ∙ a.installs) ∙ (length-map ds (λ (d : Did). d.installs) ∙ callers);
           installs = subst (AreInstalls policy part 0) (sym (c.installs ∙ a.installs)) (installs-in some closed whole 0 ds each);
         };

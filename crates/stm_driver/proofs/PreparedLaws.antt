@@ -199,7 +199,7 @@ module _ {K : Type 0} (good : List ℕ → Type 0) (policy : Policy) (w : Worklo
         let words : stm.config.words ≡ w.header.words = ap (λ (c : Config). c.words) sized in
         let both : All (λ i. BuiltItem w.header i × ItemKeeps good w.header i) w.items = λ i d lt. (items i d lt, keeps i d lt) in
         let owned : OwnItems good stm.config.words (regions_of w.header) n mine = subst (λ k. OwnItems good k (regions_of w.header) n mine) (sym words) (items-own good w.header n mine (own-all (λ i. BuiltItem w.header i × ItemKeeps good w.header i) n w.items both)) in
-        starts-sound good stm d mine (regions_of w.header) alg (policy_for policy n) (first_installs alg n) u own new long (subst (λ k. OwnItems good stm.config.words (regions_of w.header) k mine) (sym (ap caller_of role)) owned) s
+        starts-sound good stm d mine (regions_of w.header) alg (policy_for policy n) (first_installs alg n) u (ap (λ (c : Config). c.fence) sized) own new long (subst (λ k. OwnItems good stm.config.words (regions_of w.header) k mine) (sym (ap caller_of role)) owned) s
 
     sound-all : (alg : Alg) (n : ℕ) (ds : List (Handle K)) (ws : List (Worker K)) → AllNew stm alg n ds → AreMade (λ k. items_of k w.items) (regions_of w.header) alg policy n ds ws → AreSound good stm ws
     sound-all alg n [] [] opened made = λ i d lt. absurd (omega (arith, lt))

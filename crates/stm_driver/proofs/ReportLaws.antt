@@ -9,6 +9,7 @@ use Rattle.stm_rule.specs.declared.stm.Stm.{Stm}
 use Rattle.stm_model.specs.declared.config.Config.{Config}
 use Rattle.stm_model.specs.Histories.{Entry, made_by, memory_at, IsLegal}
 use Rattle.tx_regions.specs.declared.region.Region.{Region}
+use Rattle.tx_regions.specs.Regions.{AllWellFormed}
 use Rattle.stm_script.specs.declared.report.Report.{Report}
 use Rattle.stm_script.specs.declared.report.Row.{Row}
 use Rattle.stm_script.specs.declared.workload.Item.{Item}
@@ -24,11 +25,11 @@ use Rattle.stm_trace.specs.Turns.{IsOver}
 use Rattle.stm_worker.specs.declared.worker.Worker.{Worker}
 use Rattle.stm_worker.specs.Installs.{InstallsBy}
 use Rattle.stm_worker.specs.Workers.{place_of, switches_of, switches_with}
-use Rattle.stm_driver.specs.Preparings.{BuiltItem}
+use Rattle.stm_driver.specs.Preparings.{BuiltItem, Forms}
 use Rattle.stm_driver.specs.AllWorkers.{descs_of, policy_for, rows_of}
 use Rattle.stm_driver.specs.ClosedRuns.{IsReport}
 use Rattle.stm_script.specs.Workloads.{config_of}
-use Rattle.stm_driver.specs.Runs.{installs_for, AreInstalls, IsShown}
+use Rattle.stm_driver.specs.Runs.{installs_for, AreInstalls, IsHistory, IsShown}
 use Rattle.stm_driver.specs.Schedules.{places}
 use Rattle.stm_driver.proofs.HistoryLaws.{dealt, dealt-all, all-below, made-own, made-within}
 use Rattle.stm_driver.proofs.PartingLaws.{all-cons, scripts-own}
@@ -56,6 +57,17 @@ reworked good opening regions all items n made seen front rows same h = record {
 
     row : (r : Row) → r.caller ≡ n → RowIn good opening regions (script_of all) made seen front r → RowIn good opening regions (script_of items) made seen front r
     row r own at = subst (λ s. by_kind r.kind ((e : Entry) × Contains made e × RowOf good (length opening) regions s r e) ((r.place ≤ front) × RowFits regions s r (memory_at r.place seen opening))) (script r own) at
+
+-- what is said of the history of a memory that was closed
+pub history-of : {K : Type 0} (good : List ℕ → Type 0) (w : Workload) → Forms good w → (config : Config) → config ≡ config_of w.header → (ds : List (Handle K)) (ws : List ℕ) (closed : Ended) → Closes good config ds ws closed → IsHistory w closed
+history-of good w forms config sized ds ws closed c =
+    let l = c.legal in
+    let legal : IsLegal (AllWellFormed (regions_of w.header)) (zeros config.words) config.clock closed.history =
+    record { ascending = l.ascending; entries = l.entries; reads = l.reads; numbered = l.numbered; good_always = λ s. forms (memory_at s closed.history (zeros config.words)) (l.good_always s) } in
+    record {
+      legal = subst (λ (x : Config). IsLegal (AllWellFormed (regions_of w.header)) (zeros x.words) x.clock closed.history) sized legal;
+      times = c.times;
+    }
 
 module _ {K : Type 0} (good : List ℕ → Type 0) (policy : Policy) (w : Workload) (stm : Stm K) (items : All (BuiltItem w.header) w.items) (sized : stm.config ≡ config_of w.header) where
   part_of : Worker K → Part
@@ -124,9 +136,9 @@ module _ {K : Type 0} (good : List ℕ → Type 0) (policy : Policy) (w : Worklo
   descs-length [] = refl
   descs-length (r ∷ rs) = ap suc (descs-length rs)
 
-  pub shown : ReportReplays good → (rs : List (Worker K)) (ws : List ℕ) (closed : Ended) (report : Report) → Each (Stood good policy w stm sized) 0 rs → length rs ≡ stm.config.callers → All IsOver (places rs) → Closes good stm.config (descs_of rs) ws closed
+  pub shown : ReportReplays good → Forms good w → (rs : List (Worker K)) (ws : List ℕ) (closed : Ended) (report : Report) → Each (Stood good policy w stm sized) 0 rs → length rs ≡ stm.config.callers → All IsOver (places rs) → Closes good stm.config (descs_of rs) ws closed
       → IsReport (rows_of rs) ws report → IsShown policy w report closed
-  shown theorem rs ws closed report stood len over c r =
+  shown theorem forms rs ws closed report stood len over c r =
       let parts = map part_of rs in
       let gathered : IsGathered good w closed.history closed.clock parts report = record {
         items = λ i d lt. (items i d lt).1;
@@ -143,6 +155,7 @@ module _ {K : Type 0} (good : List ℕ → Type 0) (policy : Policy) (w : Worklo
       record {
         replays = both.0;
         shows = subst (λ k. Shows closed.history k closed.clock w report) (sym (c.opening ∙ ap (λ (x : Config). x.clock) sized)) both.1;
+        history = history-of good w forms stm.config sized (descs_of rs) ws closed c;
         callers = ap length c.installs ∙ (length-map (descs_of rs) (λ (d : Handle K). installs_of d.view) ∙ (descs-length rs ∙ (len ∙ ap (λ (x : Config). x.callers) sized)));
         installs = subst (AreInstalls policy w 0) (sym c.installs) (installs-all 0 rs stood over);
       }

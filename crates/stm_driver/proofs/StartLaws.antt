@@ -1,5 +1,5 @@
 -- A worker that has done nothing.
-use Rattle.std.proofs.Common.{ℕ, ◌≡◌, List, [], length, drop, refl, sym, ap, ◌∙◌, arith, subst}
+use Rattle.std.proofs.Common.{ℕ, ◌≡◌, false, List, [], length, drop, refl, sym, ap, ◌∙◌, arith, subst}
 use Rattle.std.specs.Prelude.{None, ◌++◌}
 use Rattle.stm_profile.specs.declared.policy.Policy.{Policy}
 use Rattle.stm_profile.specs.declared.policy.Policy.TheVariants.{Fixed, Round, Expert, State}
@@ -38,9 +38,9 @@ module _ {K : Type 0} (good : List ℕ → Type 0) (stm : Stm K) where
     places = λ i d lt. absurd (omega arith);
   }
 
-  pub starts-sound : (d : Handle K) (items : List Item) (rs : List Region) (alg : Alg) (policy : Policy) (these : List Alg) (u : Worker K) → IsOf d stm → IsNew these (known d) → HasLengths stm.config (known d) → ItemsFit good stm.config.words rs (caller_of d.who.role) items → Starts d items rs alg policy u
+  pub starts-sound : (d : Handle K) (items : List Item) (rs : List Region) (alg : Alg) (policy : Policy) (these : List Alg) (u : Worker K) → stm.config.fence ≡ false → IsOf d stm → IsNew these (known d) → HasLengths stm.config (known d) → ItemsFit good stm.config.words rs (caller_of d.who.role) items → Starts d items rs alg policy u
       → Sound good stm u
-  starts-sound d items rs alg policy these u own new long fits s =
+  starts-sound d items rs alg policy these u plain own new long fits s =
       let who : caller_of u.desc.who.role ≡ caller_of d.who.role = ap (λ (x : Handle K). caller_of x.who.role) s.is_desc in
       let knows : known u.desc ≡ known d = ap known s.is_desc in
       let phase : u.phase ≡ Between = ap (λ (p : Place). p.phase) s.at in
@@ -71,5 +71,6 @@ module _ {K : Type 0} (good : List ℕ → Type 0) (stm : Stm K) where
             (subst (λ n. ItemsFit good stm.config.words rs n items) (sym who) fits));
         roomy = s.roomy;
         turning = subst (λ p. ToSwitch p u.chosen u.items_left.now) (sym phase) tt;
+        plain = plain;
         under_way = subst (λ p. WhenInside p (IsUnderWay good stm.config.words u)) (sym phase) tt;
       }

@@ -33,6 +33,10 @@ ItemKeeps good h (Switch caller alg) = Unit {0}
 abbrev pub WorkloadKeeps : (List ℕ → Type 0) → Workload → Type 0
 WorkloadKeeps good w = All (ItemKeeps good w.header) w.items
 
+-- in a good memory the workload's regions are well formed
+abbrev pub Forms : (List ℕ → Type 0) → Workload → Type 0
+Forms good w = (m : List ℕ) → good m → AllWellFormed (regions_of w.header) m
+
 -- the memory is open for the header, and each caller has a worker that has done nothing, with its part to do; caller 0 has the policy
 pub record IsPrepared {K : Type 0} (h : Header) (policy : Policy) (parts : List (List Item)) (stm : Stm K) (ws : List (Worker K)) : Type 0 where
   pub sized : stm.config ≡ config_of h
@@ -50,10 +54,11 @@ pub record HasRoom {K : Type 0} (callers items heap : ℕ) (room : Room K) : Typ
   pub rows : items ≤ vec_capacity room.rows
   pub words : heap ≤ vec_capacity room.words
 
--- this is a workload that is prepared, and its scripts keep the rule
+-- this is a workload that is prepared, its scripts keep the rule, and a good memory has its regions well formed
 pub record IsReadyFor {K : Type 0} (good : List ℕ → Type 0) (m : Mode) (policy : Policy) (w : Workload) (p : Prepared K) : Type 0 where
   pub built : IsBuilt m w
   pub keeps : WorkloadKeeps good w
+  pub regions : Forms good w
   pub prepared : IsPrepared w.header policy (parted w.header.callers w.items) p.stm (workers_in p.runners.items)
   pub room : HasRoom w.header.callers (length w.items) w.header.words p.room
 

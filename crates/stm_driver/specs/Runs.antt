@@ -7,7 +7,8 @@ use Rattle.stm_profile.specs.declared.policy.Policy.TheVariants.{Fixed}
 use Rattle.stm_model.specs.HistoryLaws.{Within}
 use Rattle.stm_script.specs.declared.report.Report.{Report}
 use Rattle.stm_script.specs.declared.workload.Workload.{Workload}
-use Rattle.stm_script.specs.Reports.{Replays, Shows, zeros}
+use Rattle.stm_script.specs.Reports.{Replays, Shows, regions_of, zeros}
+use Rattle.tx_regions.specs.Regions.{AllWellFormed}
 use Rattle.stm_trace.specs.declared.line.Line.{Line}
 use Rattle.stm_trace.specs.Fits.{TraceFits, TraceFitsSoFar}
 use Rattle.stm_trace.specs.Places.{items_of}
@@ -30,10 +31,16 @@ abbrev pub AreInstalls : Policy → Workload → ℕ → List (List Alg) → Typ
 AreInstalls policy w n [] = Unit {0}
 AreInstalls policy w n (installs ∷ others) = InstallsBy (policy_for policy n) (installs_for w n) installs × AreInstalls policy w (suc n) others
 
--- the report replays the workload, and shows the one history of the memory that was closed; each caller's installs are those of the text, and what the policy asked for
+-- the history of the memory that was closed is legal, over zeros from the header's clock on, with each structure well formed at every moment, and has no entry behind the last clock
+pub record IsHistory (w : Workload) (closed : Ended) : Type 0 where
+  pub legal : IsLegal (AllWellFormed (regions_of w.header)) (zeros w.header.words) w.header.clock closed.history
+  pub times : Within closed.clock closed.history
+
+-- the report replays the workload, and shows the one history of the memory that was closed, which is legal; each caller's installs are those of the text, and what the policy asked for
 pub record IsShown (policy : Policy) (w : Workload) (report : Report) (closed : Ended) : Type 0 where
   pub replays : Replays w report
   pub shows : Shows closed.history closed.opening closed.clock w report
+  pub history : IsHistory w closed
   pub callers : length closed.installs ≡ w.header.callers
   pub installs : AreInstalls policy w 0 closed.installs
 
@@ -52,11 +59,6 @@ pub record RanSome (some : List Item → List Item → Type 0) (policy : Policy)
   pub each : (n : ℕ) → n < w.header.callers → some (items_of n w.items) (items_of n part.items)
   pub report : Report
   pub shown : IsShown policy part report closed
-
--- the history of the memory that was closed is legal, over zeros from the header's clock on, and has no entry behind the last clock
-pub record IsHistory (w : Workload) (closed : Ended) : Type 0 where
-  pub legal : IsLegal (λ m. Unit {0}) (zeros w.header.words) w.header.clock closed.history
-  pub times : Within closed.clock closed.history
 
 -- by how much an item raises the clock at most, with the attempts of it that failed: with one caller none is in the way of another
 abbrev pub most_rises : ℕ → ℕ

@@ -38,7 +38,7 @@ module _ (good : List ℕ → Type 0) (c : Config) (n : ℕ) where
     record {
       idle = (ap (λ b. departed (if b then Aiming else Turned)) apart, ap (λ b. is_in (departed (if b then Aiming else Turned))) apart, ap (λ b. is_closing (departed (if b then Aiming else Turned))) apart, out.reopened);
       made = refl;
-      grows = grows-same (known_of v o) (known_of last o) refl refl (record { place = Status n; act = Store 0; found = None } ∷ record { place = Gate; act = Load; found = Some gate } ∷ record { place = Status n; act = Store announced; found = None } ∷ []) refl refl refl;
+      grows = grows-same (known_of v o) (known_of last o) refl refl (record { place = Status n; act = Store 0; found = None } ∷ record { place = Gate; act = Load; found = Some gate } ∷ record { place = Status n; act = Store announced; found = None } ∷ []) refl refl refl refl;
       rises = refl;
       installs = refl;
     },
@@ -71,7 +71,7 @@ module _ (good : List ℕ → Type 0) (c : Config) (n : ℕ) where
     record {
       idle = (ap (λ b. departed (taken_gate (looked a.0 l.0 v gate) gate b).phase) apart, ap (λ b. is_in (departed (taken_gate (looked a.0 l.0 v gate) gate b).phase)) apart, ap (λ b. is_closing (departed (taken_gate (looked a.0 l.0 v gate) gate b).phase)) apart, ap (λ b. (taken_gate (looked a.0 l.0 v gate) gate b).holds) apart ∙ out.reopened);
       made = refl;
-      grows = grows-same (known_of v o) (known_of last o) refl refl (record { place = Status n; act = Store 0; found = None } ∷ record { place = Gate; act = Exchange gate (gate_word (fence_of gate) (1 + n) (alg_of gate)); found = Some found } ∷ record { place = Gate; act = Load; found = Some gate } ∷ record { place = Status n; act = Store announced; found = None } ∷ []) refl refl refl;
+      grows = grows-same (known_of v o) (known_of last o) refl refl (record { place = Status n; act = Store 0; found = None } ∷ record { place = Gate; act = Exchange gate (gate_word (fence_of gate) (1 + n) (alg_of gate)); found = Some found } ∷ record { place = Gate; act = Load; found = Some gate } ∷ record { place = Status n; act = Store announced; found = None } ∷ []) refl refl refl refl;
       rises = refl;
       installs = refl;
     },
@@ -103,7 +103,7 @@ module _ (good : List ℕ → Type 0) (c : Config) (n : ℕ) where
       ungranted = ungranted-of last.gate.algorithm last.gate v.lock (ap (λ b. (at b).granted) here ∙ out.ungranted) out.clear.unfixed;
     };
     made = refl;
-    grows = grows-same (known_of v o) (known_of last o) refl refl (record { place = Status n; act = Store 0; found = None } ∷ record { place = Gate; act = Exchange gate (gate_word (fence_of gate) (1 + n) (alg_of gate)); found = Some found } ∷ record { place = Gate; act = Load; found = Some gate } ∷ record { place = Status n; act = Store announced; found = None } ∷ []) refl refl refl;
+    grows = grows-same (known_of v o) (known_of last o) refl refl (record { place = Status n; act = Store 0; found = None } ∷ record { place = Gate; act = Exchange gate (gate_word (fence_of gate) (1 + n) (alg_of gate)); found = Some found } ∷ record { place = Gate; act = Load; found = Some gate } ∷ record { place = Status n; act = Store announced; found = None } ∷ []) refl refl refl refl;
     unseen = ap (λ b. (at b).checked) here;
     unsettled = ap (λ b. is_settled (at b)) here;
     rises = refl;
@@ -131,7 +131,7 @@ module _ (good : List ℕ → Type 0) (c : Config) (n : ℕ) where
   tells-reopened fence alg v w o t = subst (λ (y : View). Stays (known_of v o) (known_of y o)) (sym t.2) (record {
     idle = (refl, refl, refl, refl);
     made = refl;
-    grows = grows-same (known_of v o) (known_of (view_after (reopen fence alg) t.0 v (gate_word fence 0 alg)) o) refl refl (record { place = Gate; act = Store (gate_word fence 0 alg); found = None } ∷ []) refl refl refl;
+    grows = grows-same (known_of v o) (known_of (view_after (reopen fence alg) t.0 v (gate_word fence 0 alg)) o) refl refl (record { place = Gate; act = Store (gate_word fence 0 alg); found = None } ∷ []) refl refl refl refl;
     rises = refl;
     installs = refl;
   })

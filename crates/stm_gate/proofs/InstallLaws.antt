@@ -46,7 +46,7 @@ module _ (good : List ℕ → Type 0) (c : Config) (n : ℕ) where
     closed = record {
       holds = record { phase = h.phase; running = h.running; closing = h.closing; holds = h.holds; ungranted = ungranted-of alg last.gate v.lock ungranted unfixed };
       made = refl;
-      grows = grows-same (known_of v o) (known_of last o) refl refl (three ++ z.more) (sym (append_assoc three z.more v.steps.trail)) refl refl;
+      grows = grows-same (known_of v o) (known_of last o) refl refl (three ++ z.more) (sym (append_assoc three z.more v.steps.trail)) refl refl refl;
       checked = λ k e. e;
     };
     quiet = quiet;

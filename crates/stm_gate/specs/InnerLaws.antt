@@ -14,13 +14,14 @@ use Rattle.rule_base.specs.Bridge.{items, public_history}
 use Rattle.rule_base.specs.Own.{Own}
 use Rattle.tx_answers.specs.Answers.{StartMoves, GoesOn}
 use Rattle.tx_answers.specs.Causes.{has_item, reads_full, writes_full}
-use Rattle.tx_answers.specs.Known.{Known, known_of, granted_under, written_under, is_in, is_closing, is_irrevocable}
+use Rattle.tx_answers.specs.Known.{Known, known_of, fenced_of, granted_under, written_under, is_in, is_closing, is_irrevocable}
 use Rattle.tx_answers.specs.KnownLaws.{grows-same}
 
 pub record IsInner (v w : View) : Type 0 where
   pub history : w.history ≡ v.history
   pub gate : w.gate ≡ v.gate
   pub lock : w.lock ≡ v.lock
+  pub fence : w.fence ≡ v.fence
   pub start : w.attempt.start ≡ v.attempt.start
   pub rises : w.steps.rises ≡ v.steps.rises
   pub base : w.steps.rises_at_begin ≡ v.steps.rises_at_begin
@@ -42,7 +43,7 @@ goes-inner v w o inside i = record {
     running = ap (λ (g : GateView). is_in g.phase) i.gate ∙ ap is_in inside;
     closing = ap (λ (g : GateView). is_closing g.phase) i.gate ∙ ap is_closing inside;
     made = ap (λ (h : SeenHistory). public_history h.made) i.history;
-    grows = grows-same (known_of v o) (known_of w o) (ap (λ (h : SeenHistory). public_history h.seen) i.history) (ap (λ (h : SeenHistory). h.front) i.history) i.trail.0 i.trail.1 refl refl;
+    grows = grows-same (known_of v o) (known_of w o) (ap (λ (h : SeenHistory). public_history h.seen) i.history) (ap (λ (h : SeenHistory). h.front) i.history) i.trail.0 i.trail.1 refl refl (ap fenced_of i.fence);
     alg = ap (λ (g : GateView). g.algorithm) i.gate;
     fence = ap (λ (g : GateView). g.fence) i.gate;
     base = i.base;

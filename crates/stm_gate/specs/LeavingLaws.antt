@@ -24,16 +24,17 @@ use Rattle.rule_seq.specs.CglSteps.{Commits, cgl_entry}
 use Rattle.tx_answers.specs.Answers.{Ends, Quits, EndsAt, CommitsAt, IsOpaque, entry}
 use Rattle.tx_answers.specs.Causes.{FindsFull}
 use Rattle.tx_answers.specs.Evidence.{Found}
-use Rattle.tx_answers.specs.Known.{Known, Grows, known_of, is_irrevocable, wrote, written_under, zeros, clock_in, top_of}
+use Rattle.tx_answers.specs.Known.{Known, Grows, known_of, fenced_of, is_irrevocable, wrote, written_under, zeros, clock_in, top_of}
 use Rattle.tx_answers.specs.KnownLaws.{grows-same}
 use Rattle.stm_gate.specs.Leaving.{last_steps, left}
 use Rattle.stm_gate.specs.Logging.{wrote-some}
 
--- from v to u the caller's algorithm, base and installs stayed, and its trail grew
+-- from v to u the caller's algorithm, base, installs and fence stayed, and its trail grew
 pub record Carried (v u : View) : Type 0 where
   pub named : u.gate.algorithm ≡ v.gate.algorithm
   pub base : u.steps.rises_at_begin ≡ v.steps.rises_at_begin
   pub installs : u.steps.installs ≡ v.steps.installs
+  pub fence : u.fence ≡ v.fence
   pub trail : (more : List TrailItem) × (u.steps.trail ≡ more ++ v.steps.trail)
 
 -- and no entry was made or seen
@@ -48,7 +49,7 @@ pub record IsMade (n t : ℕ) (before : List Entry) (v u : View) : Type 0 where
   pub rises : u.steps.rises ≡ v.steps.rises_at_begin + entry_rise v.gate.algorithm
 
 pub unmade-refl : (v : View) → IsUnmade v v
-unmade-refl v = record { carried = record { named = refl; base = refl; installs = refl; trail = ([], refl) }; history = refl }
+unmade-refl v = record { carried = record { named = refl; base = refl; installs = refl; fence = refl; trail = ([], refl) }; history = refl }
 
 -- what was found in the middle, as seen from earlier and from later on
 pub found-later : (p : At) (x : ℕ) (u v w : Known) → Found p x u v → (more : List TrailItem) → w.trail ≡ more ++ v.trail → Found p x u w
@@ -93,7 +94,7 @@ module _ (n : ℕ) where
 
   unmade-ends : (v u : View) (o : Own) → IsUnmade v u → Ends (known_of v o) (known_of (left n u) o)
   unmade-ends v u o m = let t = trail-left v u m.carried in ends-left v u o m.carried
-      (grows-same (known_of v o) (known_of (left n u) o) (ap (λ (h : SeenHistory). public_history h.seen) m.history) (ap (λ (h : SeenHistory). h.front) m.history) t.0 t.1 refl refl)
+      (grows-same (known_of v o) (known_of (left n u) o) (ap (λ (h : SeenHistory). public_history h.seen) m.history) (ap (λ (h : SeenHistory). h.front) m.history) t.0 t.1 refl refl (ap fenced_of m.carried.fence))
 
   -- THE REFUSAL: the attempt ended without an entry
   pub quits-left : (v u : View) (o : Own) → IsUnmade v u → (v.steps.rises_at_begin ≤ u.steps.rises) × (u.steps.rises ≤ v.steps.rises_at_begin + quit_rise v.gate.algorithm (wrote (known_of v o))) → is_irrevocable (known_of v o) ≡ false
@@ -126,6 +127,7 @@ module _ (n : ℕ) where
         trail = k.1;
         reads_limit = refl;
         writes_limit = refl;
+        fenced = ap fenced_of m.carried.fence;
       });
       rises = m.rises;
       wrote = ap (λ (l : List (ℕ × ℕ)). not (is_empty l)) written ∙ ap not (wrote-some v.attempt.stores some);

@@ -119,11 +119,8 @@ pub fn reopen<K: MemRule>(desc: &mut Desc<K>, stm: &Stm<K>)
     ensures steps { AddsAtMost 2 (known desc.old) (known desc.new) }
 {
     let caller = desc.number;
-    stm.reopen(
-        &mut desc.seat,
-        caller,
-        desc.local.fence,
-        desc.local.algorithm,
-    );
+    let fence = desc.local.fence;
+    let algorithm = desc.local.algorithm;
+    stm.reopen(&mut desc.seat, caller, fence, algorithm);
     desc.local.holds = false;
 }

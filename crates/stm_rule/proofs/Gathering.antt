@@ -25,7 +25,7 @@ use Rattle.rule_base.specs.ListLemmas.{contains-cons, contains-none}
 use Rattle.rule_base.specs.Notes.{claimed, gathers}
 use Rattle.rule_base.specs.StepsRule.{all_rises}
 use Rattle.rule_base.specs.World.{World}
-use Rattle.stm_rule.specs.Callers.{Handle, BelongsTo, IdleAt}
+use Rattle.stm_rule.specs.Callers.{Handle, BelongsTo, IsFree, IdleAt}
 use Rattle.stm_rule.specs.Closings.{shown, installs_of, installs_by, installs_from}
 use Rattle.rule_base.specs.Regime.{mode_of, Regime}
 use Rattle.rule_base.specs.Regime.Mode.{Plain}
@@ -55,7 +55,7 @@ module _ {K : Type 0} where
   every_and P Q n [] p q = tt
   every_and P Q n (d ∷ ds) p q = ((p.0, q.0), every_and P Q (suc n) ds p.1 q.1)
 
-  pub every_idle : (t : TableId) (c : Config) (rule : K) (n : ℕ) (ds : List (Handle K)) → IdleAt t c rule n ds → Every (λ k v. (v.gate.phase ≡ Idle) × (v.fence.holds ≡ false)) n ds
+  pub every_idle : (t : TableId) (c : Config) (rule : K) (n : ℕ) (ds : List (Handle K)) → IdleAt t c rule n ds → Every (λ k v. IsFree c v) n ds
   every_idle t c rule n [] a = tt
   every_idle t c rule n (d ∷ ds) a = (a.2, every_idle t c rule (suc n) ds a.3)
 
@@ -156,15 +156,19 @@ bare_rests good c w g idle = (at-rest c (alg_of w.gate) (run_scene w) (subst (λ
     ungranted n h = plain-mode (w.views n).gate (ungranted-out good c w n g (λ e. let i = out n in let k : Idle ≡ In = sym i ∙ e in cc)) (ungiven-out good c w n g (λ e. let i = out n in let k : Idle ≡ Closing = sym i ∙ e in cc))
 
 -- and where nobody has a fence
-pub rests : (good : (ℕ → ℕ) → Type 0) (c : Config) (w : World) → Whole good c w → ((k : ℕ) → k < c.callers → (w.views k).gate.phase ≡ Idle) → ((k : ℕ) → k < c.callers → (w.views k).fence.holds ≡ false) → (a : ℕ) → w.heap a ≡ word_now w.history a
+pub rests : (good : (ℕ → ℕ) → Type 0) (c : Config) (w : World) → Whole good c w → ((k : ℕ) → k < c.callers → (w.views k).gate.phase ≡ Idle) → ((k : ℕ) → k < c.callers → c.fence ≡ true → (w.views k).fence.holds ≡ false) → (a : ℕ) → w.heap a ≡ word_now w.history a
 rests good c w g idle free a = sym (ap (λ (f : ℕ → ℕ). f a) (ap (λ k. veiled k w.heap w.history) none ∙ veiled-none w.heap w.history)) ∙ bare_rests good c (veil w) g.core idle a
   where
-    by : (k : ℕ) → fence_owner (fence_of w.gate) ≡ k → fence_of w.gate ≡ 0
-    by zero e = g.fence.none e
-    by (suc n) e = absurd (let h : (w.views n).fence.holds ≡ true = g.fence.owner n (let o : fence_owner (fence_of w.gate) ≡ 1 + n = omega arith in o) in let f : true ≡ false = sym h ∙ free n (g.fence.few n h) in cc)
+    by : c.fence ≡ true → (k : ℕ) → fence_owner (fence_of w.gate) ≡ k → fence_of w.gate ≡ 0
+    by on zero e = g.fence.none e
+    by on (suc n) e = absurd (let h : (w.views n).fence.holds ≡ true = g.fence.owner n (let o : fence_owner (fence_of w.gate) ≡ 1 + n = omega arith in o) in let f : true ≡ false = sym h ∙ free n (g.fence.few n h) on in cc)
 
     none : fence_of w.gate ≡ 0
-    none = by (fence_owner (fence_of w.gate)) refl
+    none = off (c.fence) refl
+      where
+        off : (on : Bool) → c.fence ≡ on → fence_of w.gate ≡ 0
+        off true e = by e (fence_owner (fence_of w.gate)) refl
+        off false e = g.fence.off e
 
 -- two worlds whose callers made the same have one history
 pub same_history : (good : (ℕ → ℕ) → Type 0) (c : Config) (w x : World) → Whole good c w → Whole good c x → ((k : ℕ) → k < c.callers → (x.views k).history.made ≡ (w.views k).history.made) → x.history ≡ w.history

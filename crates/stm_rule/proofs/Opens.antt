@@ -128,6 +128,7 @@ opening_fence c = record {
   mine = λ n e. absurd cc;
   owner = λ n e. absurd (omega arith);
   none = λ e. refl;
+  off = λ e. refl;
   few = λ n e. absurd cc;
   inside = λ a e. absurd (let f : true ≡ false = sym e ∙ fenced-none a in cc);
   holder = λ n e. absurd cc;

@@ -21,13 +21,13 @@ use Rattle.rule_base.specs.InstallLaws.{install-apart, install-view, install-loo
 use Rattle.rule_base.specs.InstallRule.{install_scene, InstallRule}
 use Rattle.rule_base.specs.StepKinds.{view_after, world_after, Nothing, StepLaw}
 use Rattle.rule_base.specs.World.{World, put}
-use Rattle.stm_rule.specs.Findings.{NamesOther, FindsGate, FindsTaken}
+use Rattle.stm_rule.specs.Findings.{NamesOther, FindsHolder, FindsTaken}
 use Rattle.stm_rule.specs.Frames.{by-gate, unentered, unheld, ungranted, ungranted-out}
 use Rattle.stm_rule.specs.Laws.{closer}
 use Rattle.stm_rule.specs.Product.{Core}
 
 module _ (good : (ℕ → ℕ) → Type 0) (c : Config) (n : ℕ) where
-  pub aims : StepLaw (Core good c) aim (FindsGate c n) n CanAim
+  pub aims : StepLaw (Core good c) aim (FindsHolder c n) n CanAim
   aims w g may = let o = by-gate good c aim n w (record { common = record { words = λ w. (refl, refl, refl); history = λ w. (refl, refl); steps = λ w. (refl, refl); held = λ w. (refl, refl); busy = λ w. refl }; marks = λ w. (refl, refl); memory = λ w. (refl, refl); view = λ w. refl }) g (λ e. absurd (out e)) (λ e. absurd (unentered good c w n g (ap may_hold may) e)) (λ k e. k) (aim-gate c.callers w n may g.gate)
       (install-apart c w (world_after aim n w) n (view_after aim w (w.views n) w.gate) refl refl refl refl (unheld good c w n g (ap may_hold may)) refl refl refl refl refl g.install) (regime-kept w (world_after aim n w) n (view_after aim w (w.views n) w.gate) refl refl refl) in
       record { rule = o.0; advances = o.1; shown = record { built = g.built; closer = λ free other. closer good c n w g w.gate refl other free } }

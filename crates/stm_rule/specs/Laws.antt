@@ -43,7 +43,7 @@ use Rattle.rule_seq.specs.LockLemmas.{lock_scene-kept, lock-phase}
 use Rattle.stm_rule.specs.NoteSteps.{hear, Hears, load_end, CanLoadEnd, EndsAt}
 use Rattle.stm_rule.specs.Alone.{left_at, alone-kept}
 use Rattle.stm_rule.specs.Raised.{raised-put}
-use Rattle.stm_rule.specs.Findings.{NamesOther, FindsLock, FindsGate}
+use Rattle.stm_rule.specs.Findings.{NamesOther, FindsLock, FindsHolder}
 use Rattle.stm_rule.specs.Frames.{risen-trail, front-within, is-caller, unlocked, unwritten, outside, unheld, by-cgl, by-gate, by-running-of, unread, uncommitted, unentered, outside-records, bare, none-apart}
 use Rattle.stm_rule.specs.Running.{runs-stays, runs-leave, run_scene-put, Outside, run_scene-kept}
 use Rattle.stm_rule.specs.Product.{Core}
@@ -126,7 +126,7 @@ module _ (good : (ℕ → ℕ) → Type 0) (c : Config) (n : ℕ) where
       out : (w.views n).gate.phase ≡ In → ⊥
       out e = let k : Idle ≡ In = sym may ∙ e in cc
 
-  pub loads_gate : StepLaw (Core good c) load_gate (FindsGate c n) n CanLoadGate
+  pub loads_gate : StepLaw (Core good c) load_gate (FindsHolder c n) n CanLoadGate
   loads_gate w g may = let o = by-gate good c load_gate n w (record { common = record { words = λ w. (refl, refl, refl); history = λ w. (refl, refl); steps = λ w. (refl, refl); held = λ w. (refl, refl); busy = λ w. refl }; marks = λ w. (refl, refl); memory = λ w. (refl, refl); view = λ w. refl }) g (λ e. absurd (out e)) (λ e. absurd (unentered good c w n g (ap may_hold may) e)) (λ k e. k) (load_gate-gate c.callers w n may g.gate)
       (install-apart c w x n v refl refl refl refl (unheld good c w n g (ap may_hold may)) refl refl refl refl refl g.install) (regime-kept w x n v refl refl refl) in
       record { rule = o.0; advances = o.1; shown = record { built = g.built; closer = λ free other. closer w g w.gate refl other free } }

@@ -15,7 +15,7 @@ use Rattle.rule_seq.specs.CglSteps.{Begins, CanFreeLock, CanLoadHeap, CanLoadLim
 use Rattle.rule_seq.specs.TmlSteps.{CanTmlAgain, CanTmlBegin, CanTmlCommit, CanTmlLoad, CanTmlStore, CanTmlWrite, TmlAgain, TmlBegins, TmlLoads, tml_again, tml_begin, tml_commit, tml_load, tml_store, tml_write}
 use Rattle.stm_model.specs.Algorithms.{is_built}
 use Rattle.stm_model.specs.declared.alg.Alg.{Alg}
-use Rattle.stm_rule.specs.Findings.{FindsAgain, FindsBegin, FindsGate, FindsLock, FindsSole, FindsTaken, FindsWithin, OrecFails, OrecSettled}
+use Rattle.stm_rule.specs.Findings.{FindsAgain, FindsBegin, FindsGate, FindsHolder, FindsLock, FindsSole, FindsTaken, FindsWithin, OrecFails, OrecSettled}
 use Rattle.stm_rule.specs.NoteSteps.{CanLoadEnd, Ends, EndsAt, Hears, hear, load_end}
 use Rattle.rule_base.specs.declared.views.View.{View}
 use Rattle.stm_model.specs.declared.config.Config.{Config}
@@ -97,7 +97,7 @@ module _ (good : (ℕ → ℕ) → Type 0) (c : Config) (n : ℕ) where
   announces low = lift good c (announce n) Nothing Nothing n CanAnnounce (sparing.announces good c n) (λ w g may s. s) (core.announces good c n low)
 
   pub loads_gate : StepLaw (Whole good c) load_gate (FindsGate c n) n CanLoadGate
-  loads_gate = lift good c load_gate (FindsGate c n) (FindsGate c n) n CanLoadGate (sparing.loads_gate good c n) (λ w g may s. record { built = s.built; closer = s.closer }) (core.loads_gate good c n)
+  loads_gate = lift good c load_gate (FindsHolder c n) (FindsGate c n) n CanLoadGate (sparing.loads_gate good c n) (λ w g may s. record { built = s.built; closer = s.closer; unfenced = g.fence.off }) (core.loads_gate good c n)
 
   pub departs : StepLaw (Whole good c) (depart n) Nothing n CanDepart
   departs = lift good c (depart n) Nothing Nothing n CanDepart (sparing.departs good c n) (λ w g may s. s) (core.departs good c n)
@@ -109,7 +109,7 @@ module _ (good : (ℕ → ℕ) → Type 0) (c : Config) (n : ℕ) where
   loads_end = lift good c load_end EndsAt (Ends good c) n CanLoadEnd (sparing.loads_end good c n) (λ w g may s. record { rule = g; clock = s }) (core.loads_end good c n)
 
   pub aims : StepLaw (Whole good c) aim (FindsGate c n) n CanAim
-  aims = lift good c aim (FindsGate c n) (FindsGate c n) n CanAim (sparing.aims good c n) (λ w g may s. record { built = s.built; closer = s.closer }) (closing.aims good c n)
+  aims = lift good c aim (FindsHolder c n) (FindsGate c n) n CanAim (sparing.aims good c n) (λ w g may s. record { built = s.built; closer = s.closer; unfenced = g.fence.off }) (closing.aims good c n)
 
   pub takes_gate : (word : ℕ) → n < c.callers → StepLaw (Whole good c) (take_gate n word) (FindsTaken c n word) n (CanTakeGate word)
   takes_gate word low = lift good c (take_gate n word) (FindsTaken c n word) (FindsTaken c n word) n (CanTakeGate word) (sparing.takes_gate good c n word low) (λ w g may s. record { built = s.built; closer = s.closer }) (closing.takes_gate good c n word low)
@@ -136,7 +136,7 @@ module _ (good : (ℕ → ℕ) → Type 0) (c : Config) (n : ℕ) where
   installs fence alg built = lift good c (install n fence alg) Nothing Nothing n (CanInstall fence alg) (sparing.installs good c n fence alg) (λ w g may s. s) (installing.installs good c n fence alg built)
 
   pub looks_gate : StepLaw (Whole good c) look_gate (FindsGate c n) n CanLookGate
-  looks_gate = lift good c look_gate (FindsGate c n) (FindsGate c n) n CanLookGate (sparing.looks_gate good c n) (λ w g may s. record { built = s.built; closer = s.closer }) (promotion.looks_gate good c n)
+  looks_gate = lift good c look_gate (FindsHolder c n) (FindsGate c n) n CanLookGate (sparing.looks_gate good c n) (λ w g may s. record { built = s.built; closer = s.closer; unfenced = g.fence.off }) (promotion.looks_gate good c n)
 
   pub seizes : (fence : ℕ) (alg : Alg) → StepLaw (Whole good c) (seize n fence alg) (FindsTaken c n (gate_word fence 0 alg)) n (CanSeize fence alg)
   seizes fence alg = lift good c (seize n fence alg) (FindsTaken c n (gate_word fence 0 alg)) (FindsTaken c n (gate_word fence 0 alg)) n (CanSeize fence alg) (sparing.seizes good c n fence alg) (λ w g may s. record { built = s.built; closer = s.closer }) (promotion.seizes good c n fence alg)

@@ -43,7 +43,7 @@ use Rattle.rule_promoted.specs.PromotedLaws as direct
 use Rattle.rule_promoted.specs.PromotedRule.{DirectRuns, DirectWorld}
 use Rattle.rule_promoted.specs.PromotedSteps.{tml_grants, tml_grant, CanTmlGrant, direct_load, CanDirectLoad, direct_store, CanDirectStore, direct_commit, CanDirectCommit, direct_release, CanDirectRelease}
 use Rattle.stm_rule.specs.ClosingLaws.{regime-handed}
-use Rattle.stm_rule.specs.Findings.{NamesOther, FindsGate, FindsTaken, OrecFails}
+use Rattle.stm_rule.specs.Findings.{NamesOther, FindsHolder, FindsTaken, OrecFails}
 use Rattle.stm_rule.specs.Alone.{alone-kept}
 use Rattle.stm_rule.specs.Raised.{raised-put}
 use Rattle.stm_rule.specs.Frames.{by-gate, by-running, by-direct, ungranted, ungiven-out, same-horizon, owner-holds, none-apart, orec-world}
@@ -66,7 +66,7 @@ grants-at : (clock : ℕ) (v : View) → tml_grants clock v ≡ true → clock �
 grants-at clock v e = grind (arith, e)
 
 module _ (good : (ℕ → ℕ) → Type 0) (c : Config) (n : ℕ) where
-  pub looks_gate : StepLaw (Core good c) look_gate (FindsGate c n) n CanLookGate
+  pub looks_gate : StepLaw (Core good c) look_gate (FindsHolder c n) n CanLookGate
   looks_gate w g may = let o = by-gate good c look_gate n w (record { common = record { words = λ w. (refl, refl, refl); history = λ w. (refl, refl); steps = λ w. (refl, refl); held = λ w. (refl, refl); busy = λ w. refl }; marks = λ w. (refl, refl); memory = λ w. (refl, refl); view = λ w. refl }) g (λ e. e) (λ e. g.attempts.entered n e) (λ k e. k) (subst (GateRule c.callers) (sym (gate_scene-kept w x n v refl refl refl refl)) g.gate)
       (subst (InstallRule c) (sym (install_scene-kept w x n v refl refl refl refl refl)) g.install) (regime-kept w x n v refl refl refl) in
       record { rule = o.0; advances = o.1; shown = record { built = g.built; closer = λ free other. closer good c n w g w.gate refl other free } }

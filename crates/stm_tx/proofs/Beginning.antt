@@ -65,8 +65,10 @@ module _ (good : List ℕ → Type 0) (c : Config) (n : ℕ) where
     committing = b.committing;
     closing = b.closing;
     made = b.made;
-    grows = record { later = g.later; is = g.is; ascending = g.ascending; up_to = g.up_to; front_rose = g.front_rose; more = g.more; trail = g.trail; reads_limit = g.reads_limit ∙ sym reads; writes_limit = g.writes_limit ∙ sym writes };
+    grows = record { later = g.later; is = g.is; ascending = g.ascending; up_to = g.up_to; front_rose = g.front_rose; more = g.more; trail = g.trail; reads_limit = g.reads_limit ∙ sym reads; writes_limit = g.writes_limit ∙ sym writes; fenced = g.fenced };
     gate = b.gate;
+    fence = b.fence;
+    unfenced = b.unfenced;
     named = b.named;
     built = b.built;
     start = b.start;
@@ -87,7 +89,7 @@ module _ (good : List ℕ → Type 0) (c : Config) (n : ℕ) where
     record {
       idle = (ap (λ b. departed (if b then In else Turned)) apart, ap (λ b. is_in (departed (if b then In else Turned))) apart, ap (λ b. is_closing (departed (if b then In else Turned))) apart, out.reopened);
       made = refl;
-      grows = grows-same (known_of v o) (known_of last o) refl refl (record { place = Status n; act = Store 0; found = None } ∷ first_steps gate) refl refl refl;
+      grows = grows-same (known_of v o) (known_of last o) refl refl (record { place = Status n; act = Store 0; found = None } ∷ first_steps gate) refl refl refl refl;
       rises = refl;
       installs = refl;
     },
@@ -117,7 +119,7 @@ module _ (good : List ℕ → Type 0) (c : Config) (n : ℕ) where
     same f = ap f (looked-at gate v s t a l)
 
     pub grows-looked : Grows (known_of v o) (known_of t o)
-    grows-looked = subst (λ (y : View). Grows (known_of v o) (known_of y o)) (sym (looked-at gate v s t a l)) (grows-same (known_of v o) (known_of (looked a.0 l.0 v gate) o) refl refl (first_steps gate) refl refl refl)
+    grows-looked = subst (λ (y : View). Grows (known_of v o) (known_of y o)) (sym (looked-at gate v s t a l)) (grows-same (known_of v o) (known_of (looked a.0 l.0 v gate) o) refl refl (first_steps gate) refl refl refl refl)
 
     pub found-gate : Found Gate gate (known_of v o) (known_of t o)
     found-gate = subst (λ (y : View). Found Gate gate (known_of v o) (known_of y o)) (sym (looked-at gate v s t a l)) (first_steps gate, refl, Load, (0, omega arith, refl))
@@ -129,13 +131,16 @@ module _ (good : List ℕ → Type 0) (c : Config) (n : ℕ) where
     tells-begun start w k zero fits free fresh b =
         let i = b.inside (record k { fence = fence_of gate }) (record { is = b.fence ∙ same (λ y. y.gate.fence); fits = fits }) free in
         let q = b.starts o fresh in
-        let g = q.keeps.grows in record {
+        let g = q.keeps.grows in
+        let seen = b.fence ∙ same (λ y. y.gate.fence) in record {
           running = ap is_in i.phase;
           committing = fresh.0;
           closing = ap is_closing i.phase;
           made = q.keeps.made ∙ same (λ y. (known_of y o).made);
           grows = grows-trans (known_of v o) (known_of t o) (known_of w o) grows-looked g;
           gate = (gate, found-later Gate gate (known_of v o) (known_of t o) (known_of w o) found-gate g.more g.trail, zero, refl);
+          fence = (gate, found-later Gate gate (known_of v o) (known_of t o) (known_of w o) found-gate g.more g.trail, seen);
+          unfenced = λ off. seen ∙ l.1.unfenced off;
           named = i.named;
           built = i.built;
           start = subst (λ x. Found (start_word (alg_of gate)) x (known_of v o) (known_of w o)) (sym q.is) (found-earlier (start_word (alg_of gate)) start (known_of v o) (known_of t o) (known_of w o) q.found (first_steps gate) trail-looked);
@@ -160,7 +165,7 @@ module _ (good : List ℕ → Type 0) (c : Config) (n : ℕ) where
         idle = (ap departed b.can.phase, ap (λ p. is_in (departed p)) b.can.phase, ap (λ p. is_closing (departed p)) b.can.phase, b.can.reopened);
         made = q.made ∙ same (λ y. (known_of y o).made);
         grows = grows-trans (known_of v o) (known_of u o) (known_of (view_after (depart n) d.0 u 0) o) (grows-trans (known_of v o) (known_of t o) (known_of u o) grows-looked q.grows)
-            (grows-same (known_of u o) (known_of (view_after (depart n) d.0 u 0) o) refl refl (record { place = Status n; act = Store 0; found = None } ∷ []) refl refl refl);
+            (grows-same (known_of u o) (known_of (view_after (depart n) d.0 u 0) o) refl refl (record { place = Status n; act = Store 0; found = None } ∷ []) refl refl refl refl);
         rises = q.rises ∙ same (λ y. y.steps.rises);
         installs = q.installs ∙ same (λ y. reverse y.steps.installs);
       })

@@ -1,2 +1,3 @@
 pub mod Descs
+pub mod Fencing
 pub mod Nesting

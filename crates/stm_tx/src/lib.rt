@@ -6,6 +6,7 @@
 pub mod calls;
 #[cfg(test)]
 mod eager_tests;
+pub mod fencing;
 #[cfg(test)]
 mod gate_tests;
 #[cfg(test)]
@@ -38,5 +39,5 @@ pub use stm_rule::note::Note;
 pub use stm_rule::refusal::NewError;
 pub use stm_rule::stm::Stm;
 pub use tx_answers::answers::{
-    Begin, Cancel, CloseGate, Commit, Irrev, Look, Read, TxState, Write,
+    Begin, Cancel, Check, CloseGate, Commit, Irrev, Look, Read, Roll, TxState, Write,
 };

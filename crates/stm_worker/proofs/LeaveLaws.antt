@@ -174,6 +174,7 @@ module _ {K : Type 0} (good : List ℕ → Type 0) (stm : Stm K) (v : Worker K) 
   made-idle d same idle pays keeps still = record {
     own = record { table = same.table ∙ s.own.table; config = ap (λ x. x.config) same.who ∙ s.own.config; rule = ap (λ x. x.rule) same.who ∙ s.own.rule };
     idle = idle;
+    plain = s.plain;
     pays = pays;
     keeps = keeps;
     did = did-part d keeps;

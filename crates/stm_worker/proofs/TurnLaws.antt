@@ -224,6 +224,7 @@ module _ {K : Type 0} (good : List ℕ → Type 0) (stm : Stm K) (u : Worker K) 
         rows = s.roomy.rows;
       };
       turning = turning;
+      plain = s.plain;
       under_way = under;
     }
 
@@ -265,6 +266,7 @@ module _ {K : Type 0} (good : List ℕ → Type 0) (stm : Stm K) (u : Worker K) 
         s.counted tt (record {
           going = subst (λ ops. Going good stm.config.words u.regions.now (script_at u.items_left.now) ops (known d) alg false o false) (sym is) going;
           here = here;
+          unfenced = h.unfenced s.plain;
           committing = λ e. absurd (let f : true ≡ false = sym e ∙ h.committing in cc);
           waits = λ e f. refl;
         })
@@ -302,6 +304,7 @@ module _ {K : Type 0} (good : List ℕ → Type 0) (stm : Stm K) (u : Worker K) 
         stays-in u.alg r o wrote u.granted u.must u.passed u.failed inside runs.0 carries.made still.start carries.installs (cleared-more u.out o (u.out.replies ++ reply ∷ []) (u.out.emits ++ emits_of op reply) told) s.counted (record {
           going = going;
           here = at.here;
+          unfenced = still.fence ∙ at.unfenced;
           committing = λ e. absurd (let f : true ≡ false = sym e ∙ runs.1 in cc);
           waits = λ e off. absurd (let now = and-left u.must (sure (place_of u)) comes.1 e in let later = ap (is_sure u.alg u.granted) was ∙ sure-wrote u.alg u.granted u.wrote (writes op reply) now in let f : true ≡ false = sym later ∙ off in cc);
         })
@@ -348,6 +351,7 @@ module _ {K : Type 0} (good : List ℕ → Type 0) (stm : Stm K) (u : Worker K) 
         (same-known knows) s.counted s.turning (subst (λ p. WhenInside p (IsUnderWay good stm.config.words (record u { desc = d; operations_left = r; out = o }))) (sym inside) (record {
           going = going;
           here = at.here;
+          unfenced = ap (λ (v : Known). v.fence) knows ∙ at.unfenced;
           committing = λ e. absurd (let f = (at.committing (sym (ap (λ (v : Known). v.committing) knows) ∙ e)).0 in subst (Next Cancel) f comes.2);
           waits = at.waits;
         }))
@@ -362,6 +366,7 @@ module _ {K : Type 0} (good : List ℕ → Type 0) (stm : Stm K) (u : Worker K) 
           (same-known knows) s.counted s.turning (subst (λ p. WhenInside p (IsUnderWay good stm.config.words (record u { desc = d }))) (sym inside) (let at = attempt-now inside in record {
             going = subst (λ v. Going good stm.config.words u.regions.now (script_at u.items_left.now) u.operations_left.now v u.alg u.granted u.out u.wrote) (sym knows) at.going;
             here = at.here;
+            unfenced = ap (λ (v : Known). v.fence) knows ∙ at.unfenced;
             committing = λ e. at.committing (sym (ap (λ (v : Known). v.committing) knows) ∙ e);
             waits = at.waits;
           }));
@@ -379,6 +384,7 @@ module _ {K : Type 0} (good : List ℕ → Type 0) (stm : Stm K) (u : Worker K) 
         stays-in u.alg u.operations_left u.out u.wrote true u.must u.passed u.failed inside h.continues.running h.continues.made h.continues.later h.continues.installs refl s.counted (record {
           going = going-later good stm.config.words u.regions.now (script_at u.items_left.now) u.operations_left.now (known u.desc) (known d) u.alg u.granted true u.out u.wrote at.going h.log h.continues.alg h.opaque.explained (certain ∙ sym h.sure) (λ off. absurd (let f : true ≡ false = sym h.sure ∙ off in cc));
           here = at.here;
+          unfenced = h.continues.fence ∙ at.unfenced;
           committing = λ e. absurd (let f : true ≡ false = sym e ∙ h.uncommitted in cc);
           waits = λ e off. absurd (let f : true ≡ false = sym certain ∙ off in cc);
         })
@@ -394,6 +400,7 @@ module _ {K : Type 0} (good : List ℕ → Type 0) (stm : Stm K) (u : Worker K) 
         stays-in u.alg r o u.wrote true u.must u.passed u.failed inside h.continues.running h.continues.made h.continues.later h.continues.installs (cleared-told u.out o (u.out.replies ++ 1 ∷ []) told) s.counted (record {
           going = subst (λ x. Going good stm.config.words u.regions.now (script_at u.items_left.now) x (known d) u.alg true o u.wrote) (sym is) step;
           here = at.here;
+          unfenced = h.continues.fence ∙ at.unfenced;
           committing = λ e. absurd (let f : true ≡ false = sym e ∙ h.uncommitted in cc);
           waits = λ e off. absurd (let f : true ≡ false = sym certain ∙ off in cc);
         })
@@ -413,6 +420,7 @@ module _ {K : Type 0} (good : List ℕ → Type 0) (stm : Stm K) (u : Worker K) 
         stays-in u.alg u.operations_left u.out u.wrote u.granted u.must b u.failed inside h.running h.made h.later h.installs refl s.counted (record {
           going = going-later good stm.config.words u.regions.now (script_at u.items_left.now) u.operations_left.now (known u.desc) (known d) u.alg u.granted u.granted u.out u.wrote at.going log h.alg opaque.explained (at.going.sure ∙ sym same_sure) (λ off. sym same_sure ∙ off);
           here = at.here;
+          unfenced = h.fence ∙ at.unfenced;
           committing = committing;
           waits = at.waits;
         })
@@ -486,6 +494,7 @@ module _ {K : Type 0} (good : List ℕ → Type 0) (stm : Stm K) (u : Worker K) 
                 (subst (λ x. ItemsFit good stm.config.words x n (rest_of u.items_left.now)) (sym ends.regions) (rest-fits good stm.config.words u.regions.now n u.items_left.now s.fits)));
             roomy = ends.roomy;
             turning = subst (λ p. ToSwitch p w.chosen w.items_left.now) (sym phase) tt;
+            plain = s.plain;
             under_way = when-rest w.phase rests _;
           },
           record {
@@ -556,6 +565,7 @@ module _ {K : Type 0} (good : List ℕ → Type 0) (stm : Stm K) (u : Worker K) 
             fits = subst (λ k. ItemsFit good stm.config.words u.regions.now k r.now) (sym n_is) (subst (ItemsFit good stm.config.words u.regions.now n) (sym is) (rest-fits good stm.config.words u.regions.now n u.items_left.now s.fits));
             roomy = record { spare = s.roomy.spare ∙ (left.2 ∙ ap spares (sym is)); rows = s.roomy.rows };
             turning = tt;
+            plain = s.plain;
             under_way = tt;
           },
           record {
@@ -590,6 +600,7 @@ module _ {K : Type 0} (good : List ℕ → Type 0) (stm : Stm K) (u : Worker K) 
             fits = subst (λ k. ItemsFit good stm.config.words u.regions.now k u.items_left.now) (sym n_is) s.fits;
             roomy = record { spare = s.roomy.spare; rows = s.roomy.rows };
             turning = tt;
+            plain = s.plain;
             under_way = tt;
           },
           record { same = same; all = refl; regions = refl; policy = refl; switched = more },
@@ -672,13 +683,13 @@ module _ {K : Type 0} (good : List ℕ → Type 0) (stm : Stm K) (u : Worker K) 
   pub turned-refused : (r : Bor (List Op)) (o : Output) → Comes Cancel (place_of u) → r.now ≡ rest_of u.operations_left.now → known d ≡ known u.desc → is_irrevocable (known u.desc) ≡ true → o ≡ record u.out { replies = u.out.replies ++ 0 ∷ [] }
       → Turned good stm MaySay u (TryCancel Irrevocable) (record u { desc = d; operations_left = r; out = o })
   turned-refused r o comes is knows certain told =
-      let grows = subst (Grows (known u.desc)) (sym knows) (grows-same (known u.desc) (known u.desc) refl refl [] refl refl refl) in
+      let grows = subst (Grows (known u.desc)) (sym knows) (grows-same (known u.desc) (known u.desc) refl refl [] refl refl refl refl) in
       turned-by good stm u s MaySay (TryCancel Irrevocable) _ stm.ranges comes (runs-now good stm u s comes.0) (knows, certain) (refused-now good stm u s d same grows r o is told)
       (record { same = same; all = refl; regions = refl; policy = refl; switched = kept-switches u d (ap (λ (v : Known). v.installs) knows) })
       (refused good stm u s d same grows r o comes is knows certain told)
 
   pub dropped-refused : u.phase ≡ Inside → known d ≡ known u.desc → is_irrevocable (known u.desc) ≡ true → Refused good stm u (record u { desc = d })
-  dropped-refused inside knows certain = refused-drop good stm u s d same (subst (Grows (known u.desc)) (sym knows) (grows-same (known u.desc) (known u.desc) refl refl [] refl refl refl)) inside knows certain
+  dropped-refused inside knows certain = refused-drop good stm u s d same (subst (Grows (known u.desc)) (sym knows) (grows-same (known u.desc) (known u.desc) refl refl [] refl refl refl refl)) inside knows certain
 
   pub turned-forced : u.phase ≡ Inside → is_forced (place_of u) ≡ true → answers.BecomesSure good stm.config (caller_of u.desc.who.role) (known u.desc) (known d) → Turned good stm MaySay u (TryIrrevocable Granted) (record u { desc = d; granted = true })
   turned-forced inside forced h =

@@ -1,5 +1,5 @@
 -- How a worker leaves what it has open.
-use Rattle.std.specs.Prelude.{◌≡◌, ◌≤◌, ◌⊎◌, ◌++◌, ℕ, true, None, List, [], ◌∷◌, length}
+use Rattle.std.specs.Prelude.{◌≡◌, ◌≤◌, ◌⊎◌, ◌++◌, ℕ, true, false, None, List, [], ◌∷◌, length}
 use Rattle.stm_model.specs.declared.config.Config.{Config}
 use Rattle.stm_script.specs.declared.op.Op.{Op}
 use Rattle.stm_script.specs.declared.report.Row.{Row}
@@ -71,6 +71,8 @@ module _ {K : Type 0} (good : List ℕ → Type 0) (stm : Stm K) where
   pub record MadeIdle (v w : Worker K) : Type 0 where
     pub own : IsOf w.desc stm
     pub idle : IsIdle (known w.desc)
+    -- and so has no range of words out of the transactions
+    pub plain : stm.config.fence ≡ false
     pub pays : (known w.desc).rises ≤ owed (known v.desc)
     pub keeps : KeepsMade good stm.config (caller_of v.desc.who.role) (known v.desc) (known w.desc)
     pub did : DidPart v w

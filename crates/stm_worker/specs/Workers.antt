@@ -226,6 +226,8 @@ installed Reopened = []
 pub record IsUnderWay {K : Type 0} (good : List ℕ → Type 0) (words : ℕ) (w : Worker K) : Type 0 where
   pub going : Going good words w.regions.now (script_at w.items_left.now) w.operations_left.now (known w.desc) w.alg w.granted w.out w.wrote
   pub here : BeforeTx w.items_left.now
+  -- no range of words is out of the transactions
+  pub unfenced : (known w.desc).fence ≡ 0
   pub committing : (known w.desc).committing ≡ true → (w.operations_left.now ≡ []) × ((w.must && not (sure (place_of w))) ≡ false)
   pub waits : w.must ≡ true → sure (place_of w) ≡ false → w.wrote ≡ false
 
@@ -244,6 +246,8 @@ module _ {K : Type 0} (good : List ℕ → Type 0) (stm : Stm K) where
     pub fits : ItemsFit good stm.config.words w.regions.now (caller_of w.desc.who.role) w.items_left.now
     pub roomy : Roomy w
     pub turning : ToSwitch w.phase w.chosen w.items_left.now
+    -- the memory takes no fences
+    pub plain : stm.config.fence ≡ false
     pub under_way : WhenInside w.phase (IsUnderWay good stm.config.words w)
 
   -- a turn says what may come at its place, tells what its call found, by the numbers that its cause allows, and leads where that leads

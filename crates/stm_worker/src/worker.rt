@@ -178,6 +178,7 @@ fn operate<K: MemRule>(
 ) -> Result<u64, Stop>
     requires own { IsOf desc.old stm.now }
     requires runs { IsRunning (known desc.old) }
+    requires unfenced { (known desc.old).fence ≡ 0 }
     requires fits { OpFits regions.now stm.now.config.words op }
     requires well { Under (K.good stm.now.rule) stm.now.config.words (known desc.old).log (AllWellFormed regions.now) }
     requires room { HasRoom out.old 1 }

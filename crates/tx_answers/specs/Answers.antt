@@ -12,7 +12,7 @@ use Rattle.rule_base.specs.declared.layout.At.{At}
 use Rattle.rule_base.specs.declared.layout.At.TheVariants.{Clock, Lock, Gate, Done, Status}
 use Rattle.rule_base.specs.declared.views.Phase.TheVariants.{Closing}
 use Rattle.rule_base.specs.declared.views.TrailItem.{TrailItem}
-use Rattle.rule_base.specs.Encodings.{holder_of, alg_of}
+use Rattle.rule_base.specs.Encodings.{holder_of, alg_of, fence_of}
 use Rattle.rule_base.specs.History.{member}
 use Rattle.tx_answers.specs.declared.answers.Begin.{Begin}
 use Rattle.tx_answers.specs.declared.answers.Begin.TheVariants.{Begun, Closed, Held, ClockFull}
@@ -196,6 +196,9 @@ module _ (good : List ℕ → Type 0) (c : Config) (n : ℕ) where
     pub made : w.made ≡ v.made
     pub grows : Grows v w
     pub gate : FindsOpen alg v w
+    -- the fence that it sees is that of the gate loaded, and there is none where the memory takes none
+    pub fence : (word : ℕ) × Found Gate word v w × (w.fence ≡ fence_of word)
+    pub unfenced : c.fence ≡ false → w.fence ≡ 0
     pub named : w.alg ≡ alg
     pub built : is_built alg ≡ true
     pub start : Found (start_word alg) w.start v w

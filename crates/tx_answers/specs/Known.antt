@@ -11,6 +11,7 @@ use Rattle.rule_base.specs.declared.layout.At.{At}
 use Rattle.rule_base.specs.declared.layout.At.TheVariants.{Clock}
 use Rattle.rule_base.specs.declared.seats.Role.{Role}
 use Rattle.rule_base.specs.declared.seats.Role.TheVariants.{Dealer, Caller, Note, Spent}
+use Rattle.rule_base.specs.declared.views.FenceView.{FenceView}
 use Rattle.rule_base.specs.declared.views.GateView.{GateView}
 use Rattle.rule_base.specs.declared.views.LockView.{LockView}
 use Rattle.rule_base.specs.declared.views.Phase.{Phase}
@@ -21,6 +22,16 @@ use Rattle.rule_base.specs.Bridge.{items, public_history}
 use Rattle.rule_base.specs.Own.{Own}
 use Rattle.tx_answers.specs.declared.answers.TxState.{TxState}
 use Rattle.tx_answers.specs.declared.answers.TxState.TheVariants as states
+
+-- the range of words that a caller has taken out of the transactions, and what it did there
+pub record Fenced : Type 0 where
+  pub held : Bool
+  pub number : ℕ
+  -- what had been seen, and up to when, as it took the range: the memory there is that of this history
+  pub seen : List Entry
+  pub front : ℕ
+  -- what it read there of words that it had not yet stored, and what it stored
+  pub log : Log
 
 pub record Known : Type 0 where
   -- its own entries, and all that it has seen, which are those up to its front; the oldest first
@@ -58,6 +69,7 @@ pub record Known : Type 0 where
   -- how many items its read log, and its write or undo log, may have
   pub reads_limit : ℕ
   pub writes_limit : ℕ
+  pub fenced : Fenced
 
 abbrev pub is_in : Phase → Bool
 is_in Idle = false
@@ -113,6 +125,15 @@ written_under RingSw false v own = items own.buffered
 written_under RingSw true v own = items v.attempt.stores
 written_under Serial granted v own = items v.attempt.stores
 
+abbrev pub fenced_of : FenceView → Fenced
+fenced_of f = record {
+  held = f.holds;
+  number = f.number;
+  seen = public_history f.past.seen;
+  front = f.past.front;
+  log = record { reads = items f.reads; writes = items f.stores };
+}
+
 abbrev pub known_of : View → Own → Known
 known_of v own = record {
   made = public_history v.history.made;
@@ -139,6 +160,7 @@ known_of v own = record {
   marks = own.marks;
   reads_limit = own.reads_limit;
   writes_limit = own.writes_limit;
+  fenced = fenced_of v.fence;
 }
 
 -- a caller's number
@@ -176,7 +198,7 @@ is_irrevocable v = is_sure v.alg v.granted (wrote v)
 abbrev pub owed : Known → ℕ
 owed v = if v.running then v.base + 2 else v.rises
 
--- it has seen at least as much, up to a later front: what it saw before begins what it sees now; its trail has grown, and its logs are as long as they were
+-- it has seen at least as much, up to a later front: what it saw before begins what it sees now; its trail has grown, its logs are as long as they were, and its fence is as it was
 pub record Grows (v w : Known) : Type 0 where
   pub later : List Entry
   pub is : w.seen ≡ v.seen ++ later
@@ -187,3 +209,4 @@ pub record Grows (v w : Known) : Type 0 where
   pub trail : w.trail ≡ more ++ v.trail
   pub reads_limit : w.reads_limit ≡ v.reads_limit
   pub writes_limit : w.writes_limit ≡ v.writes_limit
+  pub fenced : w.fenced ≡ v.fenced

@@ -39,8 +39,8 @@ pub record Carries (v w : Known) : Type 0 where
   -- an irrevocable attempt goes on, and stays so
   pub sure : v.running ≡ true → is_irrevocable v ≡ true → (w.running ≡ true) × (is_irrevocable w ≡ true)
 
-pub grows-same : (v w : Known) → w.seen ≡ v.seen → w.front ≡ v.front → (more : List TrailItem) → w.trail ≡ more ++ v.trail → w.reads_limit ≡ v.reads_limit → w.writes_limit ≡ v.writes_limit → Grows v w
-grows-same v w s f more t r l = record { later = []; is = s ∙ sym (append-nil v.seen); ascending = tt; up_to = tt; front_rose = omega arith; more = more; trail = t; reads_limit = r; writes_limit = l }
+pub grows-same : (v w : Known) → w.seen ≡ v.seen → w.front ≡ v.front → (more : List TrailItem) → w.trail ≡ more ++ v.trail → w.reads_limit ≡ v.reads_limit → w.writes_limit ≡ v.writes_limit → w.fenced ≡ v.fenced → Grows v w
+grows-same v w s f more t r l e = record { later = []; is = s ∙ sym (append-nil v.seen); ascending = tt; up_to = tt; front_rose = omega arith; more = more; trail = t; reads_limit = r; writes_limit = l; fenced = e }
 
 pub ascending-append : (a b : ℕ) (xs ys : List Entry) → Ascending a xs → Within b xs → a ≤ b → Ascending b ys → Ascending a (xs ++ ys)
 ascending-append a b [] [] h u le k = tt
@@ -64,10 +64,11 @@ grows-trans u v w a b =
       trail = b.trail ∙ (ap (λ t. b.more ++ t) a.trail ∙ sym (append_assoc b.more a.more u.trail));
       reads_limit = b.reads_limit ∙ a.reads_limit;
       writes_limit = b.writes_limit ∙ a.writes_limit;
+      fenced = b.fenced ∙ a.fenced;
     }
 
 pub carries-refl : (v : Known) → Carries v v
-carries-refl v = record { made = refl; grows = grows-same v v refl refl [] refl refl refl; closing = refl; alg = refl; installs = refl; base = refl; pays = omega arith; going = λ r. record { running = r; start = le_refl v.start; granted = refl; holds = refl; depth = refl; marks = refl; fence = refl }; sure = λ r i. (r, i) }
+carries-refl v = record { made = refl; grows = grows-same v v refl refl [] refl refl refl refl; closing = refl; alg = refl; installs = refl; base = refl; pays = omega arith; going = λ r. record { running = r; start = le_refl v.start; granted = refl; holds = refl; depth = refl; marks = refl; fence = refl }; sure = λ r i. (r, i) }
 
 pub carries-trans : (u v w : Known) → Carries u v → Carries v w → Carries u w
 carries-trans u v w a b = record {

@@ -11,9 +11,9 @@ use Rattle.tx_answers.specs.Known.{Known, Grows, IsRunning, no_log}
 use Rattle.tx_atomic.specs.declared.tally.Ended.{Ended}
 use Rattle.tx_atomic.specs.declared.tally.Ended.TheVariants as ends
 
--- it has done nothing
+-- it has done nothing, and may read and write everywhere
 abbrev pub IsFresh : Known → Type 0
-IsFresh v = IsRunning v × (v.log ≡ no_log)
+IsFresh v = IsRunning v × (v.log ≡ no_log) × (v.fence ≡ 0)
 
 -- its log keeps the rule
 abbrev pub MayCommit : (List ℕ → Type 0) → Config → Known → Type 0
@@ -29,6 +29,7 @@ ended_by (stops.ClockFull clock) = ends.ClockFull
 abbrev pub HasFoundFull : Ended → Known → Type 0
 HasFoundFull ends.Closed w = Unit {0}
 HasFoundFull ends.Held w = Unit {0}
+HasFoundFull ends.Fenced w = Unit {0}
 HasFoundFull (ends.Conflict cause) w = Unit {0}
 HasFoundFull ends.Full w = Unit {0}
 HasFoundFull ends.Busy w = Unit {0}
@@ -40,6 +41,7 @@ HasFoundFull ends.ClockFull w = CLOCK_LIMIT ≤ w.top
 abbrev pub IsEarly : Ended → Type 0
 IsEarly ends.Closed = Unit {0}
 IsEarly ends.Held = Unit {0}
+IsEarly ends.Fenced = Unit {0}
 IsEarly (ends.Conflict cause) = Unit {0}
 IsEarly ends.Full = ⊥
 IsEarly ends.Busy = ⊥

@@ -9,7 +9,7 @@ abbrev pub total : ℕ → ℕ → ℕ
 total m n = min (m + n) (2 ^ 64 - 1)
 
 abbrev pub none : Tally
-none = record { commits = 0; closed = 0; held = 0; conflicts = 0; full = 0; busy = 0; taken = 0; again = 0; promotions = 0 }
+none = record { commits = 0; closed = 0; held = 0; fenced = 0; conflicts = 0; full = 0; busy = 0; taken = 0; again = 0; promotions = 0 }
 
 abbrev pub with_commit : Tally → Tally
 with_commit t = record t { commits = total t.commits 1 }
@@ -21,6 +21,7 @@ with_promotion t = record t { promotions = total t.promotions 1 }
 abbrev pub noted : Ended → Tally → Tally
 noted ends.Closed t = record t { closed = total t.closed 1 }
 noted ends.Held t = record t { held = total t.held 1 }
+noted ends.Fenced t = record t { fenced = total t.fenced 1 }
 noted (ends.Conflict cause) t = record t { conflicts = total t.conflicts 1 }
 noted ends.Full t = record t { full = total t.full 1 }
 noted ends.Busy t = record t { busy = total t.busy 1 }
@@ -30,7 +31,7 @@ noted ends.ClockFull t = t
 
 -- the counts of both
 abbrev pub both : Tally → Tally → Tally
-both s t = record { commits = total s.commits t.commits; closed = total s.closed t.closed; held = total s.held t.held; conflicts = total s.conflicts t.conflicts; full = total s.full t.full; busy = total s.busy t.busy; taken = total s.taken t.taken; again = total s.again t.again; promotions = total s.promotions t.promotions }
+both s t = record { commits = total s.commits t.commits; closed = total s.closed t.closed; held = total s.held t.held; fenced = total s.fenced t.fenced; conflicts = total s.conflicts t.conflicts; full = total s.full t.full; busy = total s.busy t.busy; taken = total s.taken t.taken; again = total s.again t.again; promotions = total s.promotions t.promotions }
 
 -- no commit was counted, or one was
 abbrev pub CommitsStay : Tally → Tally → Type 0

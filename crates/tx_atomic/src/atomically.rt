@@ -65,7 +65,7 @@ pub fn atomically<R: Wait, K: MemRule, T: Transaction<K>>(
 fn failed_next(failed: u32, ended: Ended) -> u32 {
     match ended {
         Ended::Full => MOST_FAILED,
-        Ended::Closed | Ended::Held => failed,
+        Ended::Closed | Ended::Held | Ended::Fenced => failed,
         _ => failed.saturating_add(1),
     }
 }

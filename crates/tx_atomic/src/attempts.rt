@@ -15,6 +15,7 @@ use stm_model::rule::MemRule;
 use stm_rule::desc::Desc;
 use stm_rule::stm::Stm;
 use stm_tx::calls::{algorithm, cancel, commit, try_begin, try_irrevocable};
+use stm_tx::fencing::fence_seen;
 use stm_tx::live::Live;
 use stm_tx::serving::{
     Calls, OnlyCgl, OnlyOrecEager, OnlyOrecLazy, OnlyRingSw, OnlySerial, OnlyTml,
@@ -80,7 +81,7 @@ fn open<R: Wait, K: MemRule>(
     Ok(())
 }
 
-/// Begins.
+/// Begins. While a range of words is out of the transactions no attempt goes on.
 fn begin<K: MemRule>(desc: &mut Desc<K>, stm: &Stm<K>) -> Result<(), Ended>
     requires stm { IsOf desc.old stm.now }
     requires idle { IsIdle (known desc.old) }
@@ -94,7 +95,14 @@ fn begin<K: MemRule>(desc: &mut Desc<K>, stm: &Stm<K>) -> Result<(), Ended>
     ensures early { IfErr result IsEarly }
 {
     match try_begin(desc, stm) {
-        Begin::Begun(_) => Ok(()),
+        Begin::Begun(_) => {
+            if fence_seen(desc).is_some() {
+                // ends it whatever the algorithm, since nothing was written
+                commit(desc, stm);
+                return Err(Ended::Fenced);
+            }
+            Ok(())
+        }
         Begin::Closed { .. } => Err(Ended::Closed),
         Begin::Held { .. } => Err(Ended::Held),
         Begin::ClockFull { .. } => Err(Ended::ClockFull),

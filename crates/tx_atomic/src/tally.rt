@@ -10,6 +10,8 @@ pub enum Ended {
     Closed,
     /// Another had the lock or the clock.
     Held,
+    /// A range of words was out of the transactions.
+    Fenced,
     Conflict(Cause),
     /// A log had its length.
     Full,
@@ -44,6 +46,7 @@ pub struct Tally {
     pub commits: u64,
     pub closed: u64,
     pub held: u64,
+    pub fenced: u64,
     pub conflicts: u64,
     pub full: u64,
     pub busy: u64,
@@ -63,6 +66,7 @@ impl Tally {
             commits: 0,
             closed: 0,
             held: 0,
+            fenced: 0,
             conflicts: 0,
             full: 0,
             busy: 0,
@@ -94,6 +98,7 @@ impl Tally {
         match ended {
             Ended::Closed => self.closed = self.closed.saturating_add(1),
             Ended::Held => self.held = self.held.saturating_add(1),
+            Ended::Fenced => self.fenced = self.fenced.saturating_add(1),
             Ended::Conflict(_) => self.conflicts = self.conflicts.saturating_add(1),
             Ended::Full => self.full = self.full.saturating_add(1),
             Ended::Busy => self.busy = self.busy.saturating_add(1),
@@ -111,6 +116,7 @@ impl Tally {
             commits: self.commits.saturating_add(other.commits),
             closed: self.closed.saturating_add(other.closed),
             held: self.held.saturating_add(other.held),
+            fenced: self.fenced.saturating_add(other.fenced),
             conflicts: self.conflicts.saturating_add(other.conflicts),
             full: self.full.saturating_add(other.full),
             busy: self.busy.saturating_add(other.busy),

@@ -55,6 +55,7 @@ returns-clause-finishes g c =
           named = ap (λ (y : View). y.gate.algorithm) q.is ∙ ap (λ (y : View). y.gate.algorithm) p.is;
           base = ap (λ (y : View). y.steps.rises_at_begin) q.is ∙ ap (λ (y : View). y.steps.rises_at_begin) p.is;
           installs = ap (λ (y : View). y.steps.installs) q.is ∙ ap (λ (y : View). y.steps.installs) p.is;
+          fence = ap (λ (y : View). y.fence) q.is ∙ ap (λ (y : View). y.fence) p.is;
           trail = (q.more ++ p.more, ap (λ (y : View). y.steps.trail) q.is ∙ (ap (λ (y : View). q.more ++ y.steps.trail) p.is ∙ sym (append_assoc q.more p.more v.steps.trail)));
         };
         history = ap (λ (y : View). y.history) q.is ∙ ap (λ (y : View). y.history) p.is;

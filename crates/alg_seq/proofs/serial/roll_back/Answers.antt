@@ -118,7 +118,7 @@ returns-clause-gives_up g c =
     record {
       outside = c.leave.ensures.outside;
       before = u.view;
-      unmade = subst (λ (y : View). IsUnmade v y) (sym path) (record { carried = record { named = refl; base = refl; installs = refl; trail = (record { place = Lock; act = Store 0; found = None } ∷ i.more, refl) }; history = refl });
+      unmade = subst (λ (y : View). IsUnmade v y) (sym path) (record { carried = record { named = refl; base = refl; installs = refl; fence = refl; trail = (record { place = Lock; act = Store 0; found = None } ∷ i.more, refl) }; history = refl });
       rises = ap (λ (y : View). y.steps.rises) path;
       is = ap (λ (y : SeatView g.row.K.Denot). y.view) c.leave.ensures.left;
     }

@@ -106,5 +106,5 @@ returns g c policy w r =
     let ran = ran-all (g.K.MemRule.good s.rule) policy w s (built-items Run w c.built_workloads_fit.ensures r.built) r.prepared.sized c.as_mut_slice.result.now c.run_all.new.runners c.run_all.ensures.count c.run_all.ensures.done in
     let done = done (g.K.MemRule.good s.rule) policy w s (built-items Run w c.built_workloads_fit.ensures r.built) r.prepared.sized r.keeps (parted w.header.callers w.items) refl c.args.prepared.runners.items c.as_mut_slice.result.now c.run_all.new.runners c.args.prepared.runners.len r.prepared c.as_mut_slice.ensures.value c.as_mut_slice.ensures.len ran.same ran.sound in
     let ended = c.how_ended-how.ensures ∙ ap (λ l. how_of (first_full l)) (c.as_slice.ensures.value ∙ done.is) in
-    has-run (g.K.MemRule.good s.rule) policy w s (built-items Run w c.built_workloads_fit.ensures r.built) r.prepared.sized c.report_replays.ensures c.as_mut_slice.result.now c.run_all.new.runners c.how_ended-how.result c.close_memory.result (subst (λ l. Begun (g.K.MemRule.good s.rule) policy w s (built-items Run w c.built_workloads_fit.ensures r.built) r.prepared.sized (workers_in l)) (sym c.as_mut_slice.ensures.value) done.begun) ran (subst (λ l. Turned (g.K.MemRule.good s.rule) policy w s (built-items Run w c.built_workloads_fit.ensures r.built) r.prepared.sized (workers_in l)) done.is done.turned) ended
+    has-run (g.K.MemRule.good s.rule) policy w s (built-items Run w c.built_workloads_fit.ensures r.built) r.prepared.sized c.report_replays.ensures r.regions c.as_mut_slice.result.now c.run_all.new.runners c.how_ended-how.result c.close_memory.result (subst (λ l. Begun (g.K.MemRule.good s.rule) policy w s (built-items Run w c.built_workloads_fit.ensures r.built) r.prepared.sized (workers_in l)) (sym c.as_mut_slice.ensures.value) done.begun) ran (subst (λ l. Turned (g.K.MemRule.good s.rule) policy w s (built-items Run w c.built_workloads_fit.ensures r.built) r.prepared.sized (workers_in l)) done.is done.turned) ended
     (subst (λ l. Came (g.K.MemRule.good s.rule) s (workers_in l) c.how_ended-how.result c.close_memory.result) done.is c.close_memory.ensures)

@@ -90,6 +90,6 @@ pub returns : goal.returns
 returns g c w r is =
     let s = c.args.prepared.stm in
     let done = done (g.K.MemRule.good s.rule) Fixed w s (built-items Step w c.built_workloads_fit.ensures r.built) r.prepared.sized r.keeps (parted w.header.callers w.items) refl c.args.prepared.runners.items c.as_mut_slice.result.now c.drive-how.new.runners c.args.prepared.runners.len r.prepared c.as_mut_slice.ensures.value c.as_mut_slice.ensures.len c.drive-how.ensures.same c.drive-how.ensures.sound in
-    has-stepped (g.K.MemRule.good s.rule) Fixed w s (built-items Step w c.built_workloads_fit.ensures r.built) r.prepared.sized c.report_replays.ensures refl (workers_in c.as_mut_slice.result.now) (workers_in c.drive-how.new.runners) c.args.schedule.now c.drive-how.new.trace.items c.drive-how.result c.close_memory-outcome.result is
+    has-stepped (g.K.MemRule.good s.rule) Fixed w s (built-items Step w c.built_workloads_fit.ensures r.built) r.prepared.sized c.report_replays.ensures r.regions refl (workers_in c.as_mut_slice.result.now) (workers_in c.drive-how.new.runners) c.args.schedule.now c.drive-how.new.trace.items c.drive-how.result c.close_memory-outcome.result is
     (subst (λ l. Begun (g.K.MemRule.good s.rule) Fixed w s (built-items Step w c.built_workloads_fit.ensures r.built) r.prepared.sized (workers_in l)) (sym c.as_mut_slice.ensures.value) done.begun) (subst (λ l. Turned (g.K.MemRule.good s.rule) Fixed w s (built-items Step w c.built_workloads_fit.ensures r.built) r.prepared.sized (workers_in l)) done.is done.turned) c.drive-how.ensures.drives
     (subst (λ l. Came (g.K.MemRule.good s.rule) s (workers_in l) c.drive-how.result c.close_memory-outcome.result) done.is c.close_memory-outcome.ensures)

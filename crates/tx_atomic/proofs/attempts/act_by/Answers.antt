@@ -15,6 +15,9 @@ invariant_of-memory-clause-served g c = c.requires.served
 pub invariant_of-memory-clause-open : goal.invariant_of-memory-clause-open
 invariant_of-memory-clause-open g c = λ e. c.requires.fresh.0.1
 
+pub invariant_of-memory-clause-unfenced : goal.invariant_of-memory-clause-unfenced
+invariant_of-memory-clause-unfenced g c = λ e. c.requires.fresh.2
+
 pub run-requires-clause-good : goal.run-requires-clause-good
 run-requires-clause-good g c = λ m. ((λ h. h), (λ h. h))
 

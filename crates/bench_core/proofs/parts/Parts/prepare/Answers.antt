@@ -39,6 +39,7 @@ returns g c = λ mode w built apart.
     record {
       built = built;
       keeps = subst (λ (rs : List Region). WorkloadKeeps (AllWellFormed rs) w) (sym regions) (c.regions_are_kept.ensures.kept mode w built);
+      regions = λ m good. subst (λ (rs : List Region). AllWellFormed rs m) regions good;
       prepared = subst (λ (h : Header). IsPrepared h c.args.policy (parted w.header.callers w.items) p.stm (workers_in p.runners.items)) apart.header prepared;
       room = subst (λ (h : Header). HasRoom h.callers (length w.items) h.words p.room) apart.header room;
     }

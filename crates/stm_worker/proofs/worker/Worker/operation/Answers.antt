@@ -31,3 +31,6 @@ returns-in-Err g c =
     let u = c.args.self.now in
     let s = c.requires.sound in
     record { turned = turned-stopped good stm u s c.operate.new.desc c.operate.ensures.same c.args.op c.in-Err.stop c.operate.new.out c.stop.new.self c.requires.comes c.requires.plain c.in-Err.ensures.stopped c.in-Err.ensures.untold c.stop.ensures }
+
+pub operate-requires-clause-unfenced : goal.operate-requires-clause-unfenced
+operate-requires-clause-unfenced g c = (attempt-now (g.K.MemRule.good c.args.stm.now.rule) c.args.stm.now c.args.self.now c.requires.sound c.requires.comes.0).unfenced

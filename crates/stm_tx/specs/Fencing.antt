@@ -1,0 +1,8 @@
+-- A range of words out of the transactions, in the terms of what a caller knows.
+use Rattle.std.specs.Prelude.{ℕ, ◌==◌, ◌&&◌, not, if◌then◌else◌, Option, Some, None}
+use Rattle.rule_base.specs.Encodings.{fence_from, fence_count}
+use Rattle.tx_answers.specs.Known.{Known}
+
+-- the range that was out as the running attempt began
+abbrev pub fence_seen : Known → Option (ℕ × ℕ)
+fence_seen v = if v.running && not (v.fence == 0) then Some (fence_from v.fence, fence_count v.fence) else None
