@@ -1,5 +1,5 @@
 //! What no clause says: that a read of OrecEager tells a word that was stored and taken back while it was under way.
-ghost use Rattle.std.specs.Prelude.{◌≡◌, ◌<◌};
+ghost use Rattle.std.specs.Prelude.{◌≡◌, ◌<◌, false};
 ghost use Rattle.stm_rule.specs.Callers.{IsOf};
 ghost use Rattle.tx_answers.specs.Known.{IsIdle};
 ghost use Rattle.stm_tx.specs.Descs.{known};
@@ -44,6 +44,7 @@ fn reads_around_a_cancelled_write<K: MemRule>(
     requires reader_idle { IsIdle (known reader.old) }
     requires writer_idle { IsIdle (known writer.old) }
     requires words { 2 < stm.now.config.words }
+    requires plain { stm.now.config.fence ≡ false }
 {
     let Begin::Begun(Alg::OrecEager) = try_begin(reader, stm) else {
         return None;

@@ -1,6 +1,6 @@
 //! What no clause says: that closing the gate, looking, installing and reopening come to something at all,
 //! on one thread.
-ghost use Rattle.std.specs.Prelude.{◌≡◌, ◌<◌};
+ghost use Rattle.std.specs.Prelude.{◌≡◌, ◌<◌, false};
 ghost use Rattle.stm_rule.specs.Callers.{IsOf};
 ghost use Rattle.tx_answers.specs.Known.{IsIdle};
 ghost use Rattle.stm_tx.specs.Descs.{known};
@@ -19,7 +19,7 @@ use tx_answers::answers::{Begin, CloseGate, Commit, Look, TxState};
 
 /// A memory for so many callers.
 fn memory(callers: usize) -> Config
-    ensures { result ≡ record { words = 8; records = 4; ring = 4; callers = callers; reads = 256; writes = 256; clock = 0 } }
+    ensures { result ≡ record { words = 8; records = 4; ring = 4; callers = callers; reads = 256; writes = 256; clock = 0; fence = false } }
 {
     Config {
         words: 8,

@@ -28,8 +28,9 @@ impl MemRule for Shelf {
 fn begin(desc: &mut Desc<Shelf>, stm: &Stm<Shelf>, sure: bool) -> bool
     requires stm { IsOf desc.old stm.now }
     requires idle { IsIdle (known desc.old) }
+    requires plain { stm.now.config.fence ≡ false }
     ensures same { IsSameCaller desc.old desc.new }
-    ensures runs { result ≡ true → IsRunning (known desc.new) × ((known desc.new).log ≡ no_log) }
+    ensures runs { result ≡ true → IsRunning (known desc.new) × ((known desc.new).log ≡ no_log) × ((known desc.new).fence ≡ 0) }
     ensures over { result ≡ false → IsIdle (known desc.new) }
 {
     let Begin::Begun(_) = try_begin(desc, stm) else {
@@ -54,6 +55,7 @@ fn try_put(desc: &mut Desc<Shelf>, stm: &Stm<Shelf>, stock: usize, sure: bool) -
     requires stm { IsOf desc.old stm.now }
     requires idle { IsIdle (known desc.old) }
     requires stock { (stock < 2) × (1 < stm.now.config.words) }
+    requires plain { stm.now.config.fence ≡ false }
     ensures same { IsSameCaller desc.old desc.new }
     ensures idle { IsIdle (known desc.new) }
 {
@@ -91,6 +93,7 @@ fn put(desc: &mut Desc<Shelf>, stm: &Stm<Shelf>, stock: usize, attempts: u32) ->
     requires stm { IsOf desc.old stm.now }
     requires idle { IsIdle (known desc.old) }
     requires stock { (stock < 2) × (1 < stm.now.config.words) }
+    requires plain { stm.now.config.fence ≡ false }
     ensures same { IsSameCaller desc.old desc.new }
     ensures idle { IsIdle (known desc.new) }
 {

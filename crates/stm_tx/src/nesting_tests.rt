@@ -1,5 +1,5 @@
 //! What no clause says: that marks come to something at all, on one thread.
-ghost use Rattle.std.specs.Prelude.{◌≡◌, ◌<◌};
+ghost use Rattle.std.specs.Prelude.{◌≡◌, ◌<◌, false};
 ghost use Rattle.stm_rule.specs.Callers.{IsOf};
 ghost use Rattle.tx_answers.specs.Known.{IsIdle};
 ghost use Rattle.stm_tx.specs.Descs.{known};
@@ -22,6 +22,7 @@ fn written_back(stm: &Stm<AnyMem>, desc: &mut Desc<AnyMem>) -> Option<(Read, Rea
     requires desc { IsOf desc.old stm.now }
     requires idle { IsIdle (known desc.old) }
     requires words { 1 < stm.now.config.words }
+    requires plain { stm.now.config.fence ≡ false }
 {
     let Begin::Begun(Alg::OrecLazy) = try_begin(desc, stm) else {
         return None;

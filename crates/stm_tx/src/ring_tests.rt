@@ -23,6 +23,7 @@ fn begins_and_writes(desc: &mut Desc<AnyMem>, stm: &Stm<AnyMem>, a: usize, x: u6
     requires stm { IsOf desc.old stm.now }
     requires idle { IsIdle (known desc.old) }
     requires inside { a < stm.now.config.words }
+    requires plain { stm.now.config.fence ≡ false }
     ensures same { IsSameCaller desc.old desc.new }
     ensures runs { result ≡ true → IsRunning (known desc.new) × ((known desc.new).alg ≡ RingSw) }
     ensures wrote { result ≡ true → (is_irrevocable (known desc.new) ≡ false) × (wrote (known desc.new) ≡ true) }
@@ -76,6 +77,7 @@ fn begin_and_commit(
     requires first_idle { IsIdle (known first.old) }
     requires second_idle { IsIdle (known second.old) }
     requires words { 1 < stm.now.config.words }
+    requires plain { stm.now.config.fence ≡ false }
 {
     if !switch(stm, first, Alg::RingSw) {
         return None;

@@ -1,5 +1,5 @@
 //! What no clause says: that attempts under Serial come to something at all, on one thread.
-ghost use Rattle.std.specs.Prelude.{◌≡◌, ◌<◌, true};
+ghost use Rattle.std.specs.Prelude.{◌≡◌, ◌<◌, true, false};
 ghost use Rattle.stm_model.specs.Algorithms.{is_built};
 ghost use Rattle.stm_rule.specs.Callers.{IsOf};
 ghost use Rattle.tx_answers.specs.Known.{IsIdle};
@@ -54,6 +54,7 @@ fn cancels<K: MemRule>(stm: &Stm<K>, desc: &mut Desc<K>) -> Option<u64>
     requires desc { IsOf desc.old stm.now }
     requires idle { IsIdle (known desc.old) }
     requires words { 3 < stm.now.config.words }
+    requires plain { stm.now.config.fence ≡ false }
 {
     let Begin::Begun(Alg::Serial) = try_begin(desc, stm) else {
         return None;
@@ -81,6 +82,7 @@ fn fills_and_is_granted<K: MemRule>(stm: &Stm<K>, desc: &mut Desc<K>) -> Option<
     requires desc { IsOf desc.old stm.now }
     requires idle { IsIdle (known desc.old) }
     requires words { 3 < stm.now.config.words }
+    requires plain { stm.now.config.fence ≡ false }
 {
     let Begin::Begun(Alg::Serial) = try_begin(desc, stm) else {
         return None;

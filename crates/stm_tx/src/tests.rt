@@ -1,5 +1,5 @@
 //! What no clause says: that an attempt begins, commits and is refused at all, on one thread.
-ghost use Rattle.std.specs.Prelude.{◌≡◌, ◌<◌, None, true};
+ghost use Rattle.std.specs.Prelude.{◌≡◌, ◌<◌, None, true, false};
 ghost use Rattle.stm_model.specs.Algorithms.{is_built};
 ghost use Rattle.stm_rule.specs.Callers.{IsOf};
 ghost use Rattle.tx_answers.specs.Known.{IsIdle};
@@ -44,6 +44,7 @@ fn one_writes_the_other_reads(
     requires second { IsOf second.old stm.now }
     requires idle { IsIdle (known first.old) × IsIdle (known second.old) }
     requires words { 0 < stm.now.config.words }
+    requires plain { stm.now.config.fence ≡ false }
 {
     let Begin::Begun(Alg::Cgl) = try_begin(first, stm) else {
         return false;
@@ -87,6 +88,7 @@ fn tells_and_learns(
     requires second { IsOf second.old stm.now }
     requires idle { IsIdle (known first.old) × IsIdle (known second.old) }
     requires words { 0 < stm.now.config.words }
+    requires plain { stm.now.config.fence ≡ false }
     requires built { is_built alg ≡ true }
 {
     if !switch(stm, first, alg) {
@@ -162,6 +164,7 @@ fn begin_and_add<K: MemRule>(desc: &mut Desc<K>, stm: &Stm<K>) -> Option<u64>
     requires stm { IsOf desc.old stm.now }
     requires idle { IsIdle (known desc.old) }
     requires inside { 7 < stm.now.config.words }
+    requires plain { stm.now.config.fence ≡ false }
 {
     let Begin::Begun(_) = try_begin(desc, stm) else {
         return None;
