@@ -1,5 +1,5 @@
 -- The sizes that a header asks for, and the items that it may have.
-use Rattle.std.specs.Prelude.{◌<◌, List, All}
+use Rattle.std.specs.Prelude.{◌<◌, false, List, All}
 use Rattle.stm_model.specs.declared.config.Config.{Config}
 use Rattle.tx_regions.specs.declared.region.Region.{Region}
 use Rattle.stm_script.specs.declared.workload.Header.{Header}
@@ -9,7 +9,7 @@ use Rattle.stm_script.specs.Operations.{ScriptFits}
 
 -- the sizes and the opening clock of the memory that a header asks for
 abbrev pub config_of : Header → Config
-config_of h = record { words = h.words; records = h.records; ring = h.ring; callers = h.callers; reads = h.reads; writes = h.writes; clock = h.clock }
+config_of h = record { words = h.words; records = h.records; ring = h.ring; callers = h.callers; reads = h.reads; writes = h.writes; clock = h.clock; fence = false }
 
 -- an item of a caller of the header; a script is one that its memory takes
 abbrev pub ItemFits : List Region → Header → Item → Type 0
