@@ -1,6 +1,6 @@
 //! `run` with several callers, each on a thread.
-use crate::cases::{header, lines, outcome, workload};
-use crate::status::Status;
+use bench_cases::cases::{header, lines, outcome, workload};
+use bench_core::status::Status;
 use std::alloc::Global;
 use std::test::Fail;
 

@@ -1,7 +1,7 @@
 //! Workloads with structures: the words that they leave, and refusals.
-use crate::cases::{Case, check, header, outcome};
-use crate::plain_sets::{holds, words_of};
-use crate::status::Status;
+use bench_cases::cases::{Case, check, header, outcome};
+use bench_cases::plain_sets::{holds, words_of};
+use bench_core::status::Status;
 use std::alloc::Global;
 use std::test::Fail;
 

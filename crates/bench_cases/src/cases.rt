@@ -1,9 +1,8 @@
 //! Cases of `bench` in short: a workload's header by what it changes, its body in one line, and what is to be
 //! said of it.
-use crate::bench::bench;
-use crate::status::Status;
+use bench_core::bench::bench;
+use bench_core::status::Status;
 use std::alloc::Global;
-use std::process::Abort;
 use std::sync::Wait;
 use std::test::Fail;
 use std::thread::Threads;
@@ -15,11 +14,11 @@ const HEADER: &str =
 
 /// The lines of the header that differ from [`HEADER`], the body, and what is to be written. In each ` / `
 /// parts two lines, and `tx 0 {read 1; read 2}` stands for the lines `tx 0`, `read 1`, `read 2`, `end`.
-pub(crate) type Case<'a> = (&'a str, &'a str, &'a str);
+pub type Case<'a> = (&'a str, &'a str, &'a str);
 
-/// Asks the command of each case's workload.
-pub(crate) fn check(
-    rt: &(impl Threads + Wait + Abort + Sync),
+/// Asks the command of each case's workload. Fails at the first whose status or text is another.
+pub fn check(
+    rt: &(impl Threads + Wait + Sync),
     alloc: Global,
     command: &str,
     status: Status,
@@ -28,14 +27,26 @@ pub(crate) fn check(
     for (changes, body, said) in cases {
         let text = workload(alloc, changes, body)?;
         let (ended, held) = outcome(rt, alloc, &["stm_bench", command], text.as_str(), &[], 4096)?;
-        assert_eq!(rt; held, lines(alloc, said)?, "{changes}: {body}");
-        assert_eq!(rt; ended, status, "{changes}: {body}");
+        if ended != status || held != lines(alloc, said)? {
+            let why = format!(in alloc; "{changes}: {body}: {ended:?}, {held}")?;
+            return Err(Fail::new(why));
+        }
     }
     Ok(())
 }
 
+/// The words of a command line: the program's name, and those of this line behind it.
+pub fn command_line<'a>(alloc: Global, line: &'a str) -> Result<Vec<&'a str>, Fail> {
+    let mut words = Vec::new(alloc);
+    words.push("stm_bench")?;
+    for word in line.split_ascii_whitespace() {
+        words.push(word)?;
+    }
+    Ok(words)
+}
+
 /// A header by what it changes.
-pub(crate) fn header(alloc: Global, changes: &str) -> Result<String, Fail> {
+pub fn header(alloc: Global, changes: &str) -> Result<String, Fail> {
     let mut text = String::new(alloc);
     for line in HEADER.lines() {
         text.push_str(changed(line, changes))?;
@@ -45,7 +56,7 @@ pub(crate) fn header(alloc: Global, changes: &str) -> Result<String, Fail> {
 }
 
 /// The text of a workload: its header by what it changes, and its body, without `done`.
-pub(crate) fn workload(alloc: Global, changes: &str, body: &str) -> Result<String, Fail> {
+pub fn workload(alloc: Global, changes: &str, body: &str) -> Result<String, Fail> {
     let mut text = header(alloc, changes)?;
     if !body.is_empty() {
         text.push_str(lines(alloc, body)?.as_str())?;
@@ -72,7 +83,7 @@ fn first_word(line: &str) -> &str {
 }
 
 /// The lines that stand in one, each ended by LF.
-pub(crate) fn lines(alloc: Global, line: &str) -> Result<String, Fail> {
+pub fn lines(alloc: Global, line: &str) -> Result<String, Fail> {
     let mut text = line
         .replace(alloc, " {", "\n")?
         .replace(alloc, "; ", "\n")?
@@ -84,7 +95,7 @@ pub(crate) fn lines(alloc: Global, line: &str) -> Result<String, Fail> {
 
 /// What `bench` answers and writes over this text, where the source fails at the calls `takes` and the sink
 /// has room for `room` bytes.
-pub(crate) fn outcome(
+pub fn outcome(
     rt: &(impl Threads + Wait + Sync),
     alloc: Global,
     words: &[&str],
@@ -96,7 +107,7 @@ pub(crate) fn outcome(
 }
 
 /// The same, through this turnstile.
-pub(crate) fn outcome_through(
+pub fn outcome_through(
     rt: &(impl Threads + Wait + Sync),
     alloc: Global,
     words: &[&str],

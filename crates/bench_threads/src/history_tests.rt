@@ -1,7 +1,7 @@
 //! Structures that 8 callers share: the report's rows, one after the other, beside plain sets of keys.
-use crate::cases::{header, outcome};
-use crate::plain_sets::{Operation, Sets, draw, holds, words_of};
-use crate::status::Status;
+use bench_cases::cases::{header, outcome};
+use bench_cases::plain_sets::{Operation, Sets, draw, holds, words_of};
+use bench_core::status::Status;
 use rand_core::SeedableRng;
 use rand_pcg::Pcg32;
 use std::alloc::Global;

@@ -1,6 +1,6 @@
 //! How often the turnstile is passed, and when.
-use crate::cases::{header, lines, outcome_through, workload};
-use crate::status::Status;
+use bench_cases::cases::{header, lines, outcome_through, workload};
+use bench_core::status::Status;
 use std::sync::atomic::{AtomicUsize, Ordering};
 use std::test::Fail;
 use std::thread;

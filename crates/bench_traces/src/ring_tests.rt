@@ -1,6 +1,6 @@
 //! Attempts that run beside each other over the ring of write filters.
-use crate::cases::{Case, check, lines, outcome, workload};
-use crate::status::Status;
+use bench_cases::cases::{Case, check, lines, outcome, workload};
+use bench_core::status::Status;
 use std::test::Fail;
 
 /// Traces of RingSW, each with its report.

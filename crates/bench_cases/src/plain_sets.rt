@@ -29,20 +29,20 @@ const CALLS: [(&str, usize, Call); 11] = [
 ];
 
 /// Which of the keys 0 to 63 are in the list, the hash set and the tree.
-pub(crate) type Sets = [[bool; 64]; 3];
+pub type Sets = [[bool; 64]; 3];
 
 /// For how many keys they have room.
 const ROOMS: [usize; 3] = [32, 64, 64];
 
 /// An operation of [`CALLS`], by its place there, and its key.
 #[derive(Clone, Copy, Drop)]
-pub(crate) struct Operation {
+pub struct Operation {
     call: u32,
     key: u32,
 }
 
 /// Any operation on any key.
-pub(crate) fn draw(draws: &mut Pcg32) -> Operation {
+pub fn draw(draws: &mut Pcg32) -> Operation {
     Operation {
         call: draws.next_word() % 11,
         key: draws.next_word() % 64,
@@ -51,7 +51,7 @@ pub(crate) fn draw(draws: &mut Pcg32) -> Operation {
 
 impl Operation {
     /// Its line in a workload.
-    pub(crate) fn line(&self, alloc: Global) -> Result<String, Fail> {
+    pub fn line(&self, alloc: Global) -> Result<String, Fail> {
         let (word, _, call) = CALLS[(self.call % 11) as usize];
         let key = self.key;
         let line = match call {
@@ -62,7 +62,7 @@ impl Operation {
     }
 
     /// What it replies over plain sets, and does to them.
-    pub(crate) fn reply(&self, sets: &mut Sets) -> u64 {
+    pub fn reply(&self, sets: &mut Sets) -> u64 {
         let (_, set, call) = CALLS[(self.call % 11) as usize];
         match (sets.get_mut(set), ROOMS.get(set)) {
             (Some(set), Some(room)) => reply(set, *room, call, self.key as usize),
@@ -104,7 +104,7 @@ fn reply(set: &mut [bool], room: usize, call: Call, key: usize) -> u64 {
 }
 
 /// The 1,024 words of a report's memory.
-pub(crate) fn words_of(alloc: Global, report: &str) -> Result<Vec<u64>, Fail> {
+pub fn words_of(alloc: Global, report: &str) -> Result<Vec<u64>, Fail> {
     let mut words = vec![in alloc; 0; 1024]?;
     for line in report.lines() {
         let Some(pair) = line.strip_prefix("mem ") else {
@@ -121,7 +121,7 @@ pub(crate) fn words_of(alloc: Global, report: &str) -> Result<Vec<u64>, Fail> {
 
 /// Whether the words are those of a well formed list, hash set or tree of these keys. A walk to each of them
 /// finds it, so its tag and a link to its cell aren't 0; and these are all words that aren't.
-pub(crate) fn holds(words: &[u64], set: usize, keys: &[bool]) -> bool {
+pub fn holds(words: &[u64], set: usize, keys: &[bool]) -> bool {
     let region = match set {
         0 => words.get(128..193),
         1 => words.get(256..400),

@@ -1,6 +1,6 @@
 //! `run` over a text, and every end without a report.
-use crate::cases::{Case, check, header, outcome, workload};
-use crate::status::Status;
+use bench_cases::cases::{Case, check, command_line, header, outcome, workload};
+use bench_core::status::Status;
 use std::test::Fail;
 
 /// What was run, and its report.
@@ -277,6 +277,41 @@ fn names_every_fault_of_the_text(rt: HostRuntime) -> Result<(), Fail> {
                 line: *line,
                 code: *code
             }
+        );
+    }
+    Ok(())
+}
+
+#[test]
+fn other_words_are_misused(rt: HostRuntime) -> Result<(), Fail> {
+    let lines = [
+        "gen",
+        "gen 1 1",
+        "gen 0 1 1",
+        "gen 50001 1 1",
+        "gen 1 33 1",
+        "gen 1 1 18446744073709551616",
+        "gen 08 2 1",
+        "gen 1 1 1 1",
+        "gen 1 1 1 --policy fixed",
+        "run x",
+        "run --policy round:0",
+        "run --policy round:65537",
+        "run --policy state:0",
+        "run --policy state:17",
+        "run --policy state:03",
+        "run --policy expert:1",
+        "step --policy fixed",
+        "step 1",
+        "--help",
+    ];
+    for line in lines {
+        let words = command_line(rt.alloc(), line)?;
+        let (status, held) = outcome(&rt, rt.alloc(), words.as_slice(), "", &[0], 4096)?;
+        assert_eq!(rt; status, Status::Usage, "{line}");
+        assert_eq!(rt;
+            held.as_str(),
+            "usage: stm_bench run [--policy P] / step / gen N T SEED\n"
         );
     }
     Ok(())

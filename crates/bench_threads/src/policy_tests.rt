@@ -1,6 +1,6 @@
 //! `run --policy`: caller 0 switches by what its attempts came to.
-use crate::cases::{header, lines, outcome, workload};
-use crate::status::Status;
+use bench_cases::cases::{header, lines, outcome, workload};
+use bench_core::status::Status;
 use std::alloc::Global;
 use std::test::Fail;
 
