@@ -3,36 +3,8 @@
 #![tactic(auto)]
 
 pub mod bench;
-#[cfg(test)]
-mod cases;
 mod commands;
-#[cfg(test)]
-mod eager_tests;
-#[cfg(test)]
-mod gen_tests;
-#[cfg(test)]
-mod history_tests;
 mod messages;
-#[cfg(test)]
-mod orec_tests;
 mod parts;
-#[cfg(test)]
-mod plain_sets;
-#[cfg(test)]
-mod policy_tests;
 pub mod program;
-#[cfg(test)]
-mod random_tests;
-#[cfg(test)]
-mod ring_tests;
 pub mod status;
-#[cfg(test)]
-mod step_tests;
-#[cfg(test)]
-mod structure_tests;
-#[cfg(test)]
-mod tests;
-#[cfg(test)]
-mod thread_tests;
-#[cfg(test)]
-mod turnstile_tests;

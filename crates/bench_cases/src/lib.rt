@@ -1,0 +1,5 @@
+//! What the tests of `bench` share: cases in short, and plain sets of keys to compare structures with.
+#![tactic(auto)]
+
+pub mod cases;
+pub mod plain_sets;
