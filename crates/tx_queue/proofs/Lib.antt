@@ -1,0 +1,3 @@
+pub mod QueueLaws
+pub mod QueueReads
+pub mod PlainZeros

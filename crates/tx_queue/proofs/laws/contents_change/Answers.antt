@@ -1,0 +1,11 @@
+use Rattle.tx_queue.proofs.QueueLaws.{puts-last, gets-first, counts-length}
+use Rattle.tx_queue.proofs.laws.contents_change.Goals as goal
+
+pub returns-clause-puts : goal.returns-clause-puts
+returns-clause-puts c = puts-last
+
+pub returns-clause-gets : goal.returns-clause-gets
+returns-clause-gets c = gets-first
+
+pub returns-clause-counts : goal.returns-clause-counts
+returns-clause-counts c = counts-length

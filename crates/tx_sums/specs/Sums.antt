@@ -1,0 +1,190 @@
+-- A binary search tree in a memory whose cells have values and the sums of what is below them. A cell is named by its place j, from 0; a link to it is j + 1.
+use Rattle.std.specs.Prelude.{ℕ, zero, suc, ◌≡◌, ◌+◌, ◌-◌, ◌*◌, ◌%◌, ◌^◌, ◌<◌, ◌≤◌, ◌⊎◌, ◌==◌, ◌&&◌, ltb, leb, if◌then◌else◌, Bool, true, false, not, List, [], ◌∷◌, slice_index, slice_set, Option, Some, None}
+use Rattle.tx_effects.specs.declared.position.Position.{Position}
+use Rattle.tx_effects.specs.Effects.{Effect, unchanged, changed}
+use Rattle.tx_effects.specs.Keys.{free_from}
+use Rattle.tx_sums.specs.declared.sum_map.SumMap.{SumMap}
+use Rattle.tx_sums.specs.declared.sum_map.Passed.{Passed}
+use Rattle.tx_sums.specs.declared.sum_map.MapPut.{MapPut}
+use Rattle.tx_sums.specs.declared.sum_map.MapPut.TheVariants.{Added, Replaced, NoRoom}
+
+abbrev pub tag_at : SumMap → ℕ → ℕ
+tag_at r j = r.at + 1 + 5 * j
+
+abbrev pub left_at : SumMap → ℕ → ℕ
+left_at r j = r.at + 1 + 5 * j + 1
+
+abbrev pub right_at : SumMap → ℕ → ℕ
+right_at r j = r.at + 1 + 5 * j + 2
+
+abbrev pub value_at : SumMap → ℕ → ℕ
+value_at r j = r.at + 1 + 5 * j + 3
+
+abbrev pub sum_at : SumMap → ℕ → ℕ
+sum_at r j = r.at + 1 + 5 * j + 4
+
+abbrev pub tag : SumMap → List ℕ → ℕ → ℕ
+tag r m j = slice_index m (tag_at r j)
+
+abbrev pub value : SumMap → List ℕ → ℕ → ℕ
+value r m j = slice_index m (value_at r j)
+
+abbrev pub SumMapFits : SumMap → ℕ → Type 0
+SumMapFits r words = (r.at + 1 + 5 * r.cells ≤ words) × (r.at + 1 + 5 * r.cells < 2 ^ 64)
+
+-- a pair among pairs that ascend by key
+abbrev pub with_pair : ℕ × ℕ → List (ℕ × ℕ) → List (ℕ × ℕ)
+with_pair p [] = p ∷ []
+with_pair p (q ∷ qs) = if ltb p.0 q.0 then p ∷ q ∷ qs else q ∷ with_pair p qs
+
+-- a cell's pair, where it is used
+abbrev pub pair_of : ℕ → ℕ → List (ℕ × ℕ) → List (ℕ × ℕ)
+pair_of zero v rest = rest
+pair_of (suc key) v rest = with_pair (key, v) rest
+
+abbrev pub pairs_to : SumMap → List ℕ → ℕ → List (ℕ × ℕ)
+pairs_to r m zero = []
+pairs_to r m (suc n) = pair_of (tag r m n) (value r m n) (pairs_to r m n)
+
+-- THE CONTENTS: the keys with their values, by key
+abbrev pub pairs : SumMap → List ℕ → List (ℕ × ℕ)
+pairs r m = pairs_to r m r.cells
+
+abbrev pub value_of : ℕ → List (ℕ × ℕ) → Option ℕ
+value_of key [] = None
+value_of key (p ∷ ps) = if p.0 == key then Some p.1 else value_of key ps
+
+-- the sum of the values of the keys from lo to hi
+abbrev pub sum_of : ℕ → ℕ → List (ℕ × ℕ) → ℕ
+sum_of lo hi [] = 0
+sum_of lo hi (p ∷ ps) = if leb lo p.0 && leb p.0 hi then p.1 + sum_of lo hi ps else sum_of lo hi ps
+
+-- above every tag
+abbrev pub top : ℕ
+top = 2 ^ 32 + 1
+
+-- of each used cell: the range of tags that it and the cells below it may have, and its rank
+pub record Ranges : Type 0 where
+  pub low : ℕ → ℕ
+  pub high : ℕ → ℕ
+  pub rank : ℕ → ℕ
+
+pub record Used (r : SumMap) (m : List ℕ) (k : ℕ) : Type 0 where
+  pub inside : k < r.cells
+  pub pos : 0 < tag r m k
+
+pub record Within (r : SumMap) (m : List ℕ) (l h k : ℕ) : Type 0 where
+  pub inside : k < r.cells
+  pub above : l < tag r m k
+  pub below : tag r m k < h
+
+abbrev pub LinkOf : SumMap → List ℕ → Ranges → ℕ → ℕ → ℕ → Type 0
+LinkOf r m g l h a =
+    ((a ≡ r.at) × (l ≡ 0) × (h ≡ top))
+    ⊎ (((i : ℕ) × (a ≡ left_at r i) × (l ≡ g.low i) × (h ≡ tag r m i) × Used r m i)
+    ⊎ ((i : ℕ) × (a ≡ right_at r i) × (l ≡ tag r m i) × (h ≡ g.high i) × Used r m i))
+
+abbrev pub Names : SumMap → List ℕ → Ranges → ℕ → ℕ → ℕ → Type 0
+Names r m g l h zero = (k : ℕ) → Within r m l h k → ⊥
+Names r m g l h (suc j) = Within r m l h j × (g.low j ≡ l) × (g.high j ≡ h)
+
+abbrev pub Bounds : SumMap → List ℕ → Ranges → ℕ → ℕ → ℕ → Type 0
+Bounds r m g end n l = (l ≡ end) ⊎ ((k : ℕ) × Used r m k × (tag r m k ≡ l) × (g.rank k < n))
+
+-- the sum of the values of the first n cells whose tags are between l and h
+abbrev pub sum_within : SumMap → List ℕ → ℕ → ℕ → ℕ → ℕ
+sum_within r m l h zero = 0
+sum_within r m l h (suc n) = if ltb l (tag r m n) && ltb (tag r m n) h then sum_within r m l h n + value r m n else sum_within r m l h n
+
+-- as a tree's; the cells below a cell are those of its range, so its sum word is the sum over that range
+pub record Holds (r : SumMap) (m : List ℕ) (g : Ranges) : Type 0 where
+  pub names : (l h a : ℕ) → LinkOf r m g l h a → Names r m g l h (slice_index m a)
+  pub lows : (i : ℕ) → Used r m i → (g.low i < tag r m i) × Bounds r m g 0 (g.rank i) (g.low i)
+  pub highs : (i : ℕ) → Used r m i → (tag r m i < g.high i) × Bounds r m g top (g.rank i) (g.high i)
+  pub differ : (i j : ℕ) → Used r m i → Used r m j → tag r m i ≡ tag r m j → i ≡ j
+  pub spare : (i : ℕ) → i < r.cells → tag r m i ≡ 0 → (slice_index m (left_at r i) ≡ 0) × (slice_index m (right_at r i) ≡ 0) × (value r m i ≡ 0) × (slice_index m (sum_at r i) ≡ 0)
+  pub small : (i : ℕ) → i < r.cells → tag r m i < top
+  pub sums : (i : ℕ) → Used r m i → slice_index m (sum_at r i) ≡ sum_within r m (g.low i) (g.high i) r.cells % 2 ^ 64
+
+-- WELL FORMED
+abbrev pub IsSumMap : SumMap → List ℕ → Type 0
+IsSumMap r m = (g : Ranges) × Holds r m g
+
+abbrev pub side_at : SumMap → List ℕ → ℕ → ℕ → ℕ
+side_at r m key j = if ltb key (tag r m j) then left_at r j else right_at r j
+
+abbrev pub found_by : SumMap → List ℕ → ℕ → ℕ → (ℕ → Position) → ℕ → Position
+found_by r m key a on zero = record { link = a; next = 0; tag = 0 }
+found_by r m key a on (suc j) = if tag r m j == suc key then record { link = a; next = suc j; tag = tag r m j } else on j
+
+abbrev pub find : SumMap → List ℕ → ℕ → ℕ → ℕ → Position
+find r m key zero a = record { link = a; next = 0; tag = 0 }
+find r m key (suc n) a = found_by r m key a (λ j. find r m key n (side_at r m key j)) (slice_index m a)
+
+abbrev pub position_of : SumMap → List ℕ → ℕ → Position
+position_of r m key = find r m key r.cells r.at
+
+-- the sum word of the cell that a link names
+abbrev pub sum_under : SumMap → List ℕ → ℕ → ℕ
+sum_under r m zero = 0
+sum_under r m (suc j) = slice_index m (sum_at r j)
+
+-- what goes from x to y, modulo 2^64
+abbrev pub step_to : ℕ → ℕ → ℕ
+step_to x y = (y + (2 ^ 64 - x)) % 2 ^ 64
+
+abbrev pub passed_by : SumMap → List ℕ → ℕ → Bool → Passed
+passed_by r m j true = let rest : ℕ = slice_index m (right_at r j) in record { next = rest; added = step_to (sum_under r m rest) (slice_index m (sum_at r j)) }
+passed_by r m j false = record { next = slice_index m (left_at r j); added = 0 }
+
+-- a cell with a tag below the bound counts with what is on its left, and the walk to the bound goes to its right; another doesn't, and the walk goes to its left
+abbrev pub passed : SumMap → List ℕ → ℕ → ℕ → Passed
+passed r m bound j = passed_by r m j (ltb (tag r m j) bound)
+
+-- d more in the sums of the cells from the link a on, to the key's, n at most
+abbrev pub raised : SumMap → ℕ → ℕ → List ℕ → List ℕ
+raised r d j m = slice_set m (sum_at r j) ((slice_index m (sum_at r j) + d) % 2 ^ 64)
+
+abbrev pub raised_in : SumMap → ℕ → ℕ → List ℕ → Effect ℕ
+raised_in r d j m = changed ((slice_index m (sum_at r j) + d) % 2 ^ 64) (raised r d j m)
+
+abbrev pub mended_by : (ℕ → List ℕ) → List ℕ → ℕ → List ℕ
+mended_by on m zero = m
+mended_by on m (suc j) = on j
+
+abbrev pub mended : SumMap → ℕ → ℕ → ℕ → ℕ → List ℕ → List ℕ
+mended r key d zero a m = m
+mended r key d (suc n) a m = mended_by (λ j. if tag r m j == suc key then raised r d j m else mended r key d n (side_at r m key j) (raised r d j m)) m (slice_index m a)
+
+-- whether a cell's sum was raised: not in an empty tree
+abbrev pub mended_in : SumMap → ℕ → ℕ → List ℕ → Effect Bool
+mended_in r key d m = record { reply = not (slice_index m r.at == 0); memory = mended r key d r.cells r.at m; wrote = not (slice_index m r.at == 0) }
+
+-- a new key's cell, with no sum yet
+abbrev pub attached : SumMap → ℕ → ℕ → ℕ → ℕ → List ℕ → List ℕ
+attached r key v c a m = slice_set (slice_set (slice_set m (tag_at r c) (suc key)) (value_at r c) v) a (suc c)
+
+abbrev pub added_by : SumMap → ℕ → ℕ → List ℕ → Option ℕ → Effect MapPut
+added_by r key v m None = unchanged NoRoom m
+added_by r key v m (Some c) = changed Added (mended r key v r.cells r.at (attached r key v c (position_of r m key).link m))
+
+abbrev pub replaced_in : SumMap → ℕ → ℕ → ℕ → List ℕ → Effect MapPut
+replaced_in r key v j m = changed Replaced (mended r key (step_to (value r m j) v) r.cells r.at (slice_set m (value_at r j) v))
+
+abbrev pub put_by : SumMap → ℕ → ℕ → List ℕ → ℕ → Effect MapPut
+put_by r key v m zero = added_by r key v m (free_from (tag r m) 0 r.cells)
+put_by r key v m (suc j) = replaced_in r key v j m
+
+-- a new key takes the lowest free cell; one that is there gets the value
+abbrev pub put_in : SumMap → ℕ → ℕ → List ℕ → Effect MapPut
+put_in r key v m = put_by r key v m (position_of r m key).next
+
+abbrev pub got_in : SumMap → ℕ → List ℕ → Effect (Option ℕ)
+got_in r key m = unchanged (value_of key (pairs r m)) m
+
+abbrev pub summed_in : SumMap → ℕ → ℕ → List ℕ → Effect ℕ
+summed_in r lo hi m = unchanged (sum_of lo hi (pairs r m) % 2 ^ 64) m
+
+-- each link of the pool, and the root, names a cell or none
+abbrev pub LinksInside : SumMap → List ℕ → Type 0
+LinksInside r m = (slice_index m r.at ≤ r.cells) × ((j : ℕ) → j < r.cells → (slice_index m (left_at r j) ≤ r.cells) × (slice_index m (right_at r j) ≤ r.cells))

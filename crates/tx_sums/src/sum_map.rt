@@ -1,0 +1,363 @@
+//! A map from keys to values with the sums of ranges of keys, over any access.
+//!
+//! A removal is still to come: a key stays, and a put replaces its value.
+ghost use Rattle.std.specs.Prelude.{◌≡◌, ◌<◌, ◌≤◌, ◌+◌, ◌*◌, ◌%◌, ◌^◌, true, None, Some, IfOk, OnOk, IfErr, IfSome, ltb, if◌then◌else◌, length, suc, Option};
+ghost use Rattle.stm_model.specs.Logs.{SameMemories, IsExplained, IsReadStop};
+ghost use Rattle.tx_effects.specs.Effects.{DoesOver, Under};
+ghost use Rattle.tx_effects.specs.Effects.{Shows};
+ghost use Rattle.tx_effects.specs.Keys.{free_from};
+ghost use Rattle.tx_sums.specs.Sums.{SumMapFits, IsSumMap, LinksInside, tag, top, sum_within, sum_under, passed, position_of, summed_in, put_in, raised_in, mended_in, got_in};
+
+use stm_model::access::Access;
+use stm_model::stop::Stop;
+use tx_effects::position::Position;
+
+/// What a put did.
+#[derive(Clone, Copy, Drop, Debug, PartialEq, Eq)]
+pub enum MapPut {
+    /// The key was absent, and has a cell now.
+    Added,
+    /// The key was there, and has the value now.
+    Replaced,
+    /// The key is absent, and no cell is free; nothing changed.
+    NoRoom,
+}
+
+/// A map from keys to values in a plain binary search tree, where each cell has the sum of the values in its
+/// subtree. The word `at` is the root, a link; then come the `cells`, five words each: cell i, from 1, has its tag
+/// at `at + 1 + 5 * (i - 1)`, then its left and its right link, its value, and the sum of its value and all values
+/// below it, modulo 2^64.
+///
+/// A tag is 0 where the cell is free, else its key + 1, so at most 2^32. A link is 0 or the number of a cell, from
+/// 1. Lesser keys are on the left, greater ones on the right; nothing is balanced, so a walk is as long as there
+/// are cells at most. A free cell's words are 0.
+#[derive(Clone, Copy, Drop, Debug, PartialEq, Eq)]
+pub struct SumMap {
+    pub at: usize,
+    pub cells: usize,
+}
+
+/// What passing a cell adds to a sum, and the link to go on by.
+#[derive(Clone, Copy, Drop, Debug, PartialEq, Eq)]
+struct Passed {
+    next: u64,
+    added: u64,
+}
+
+/// The link towards the key, of the cell whose tag stands at this address.
+fn side(address: usize, tag: u64, key: u32) -> usize
+    requires { address + 2 < 2 ^ 64 }
+    ensures { result ≡ (if ltb key tag then address + 1 else address + 2) }
+{
+    if tag > key as u64 {
+        address + 1
+    } else {
+        address + 2
+    }
+}
+
+impl SumMap {
+    pub fn new(at: usize, cells: usize) -> SumMap
+        ensures { result ≡ record { at = at; cells = cells } }
+    {
+        SumMap { at, cells }
+    }
+
+    /// Adds to the sum word of the cell, here from 0, modulo 2^64, and answers the new sum. One read and one write.
+    fn raise<A: Access>(&self, acc: &mut A, cell: usize, by: u64) -> Result<u64, Stop>
+        requires going { A.stopped acc.old ≡ None }
+        requires within { SumMapFits self.now (A.words acc.old) }
+        requires cell { cell < self.now.cells }
+        ensures reply { IfOk result (λ r. DoesOver (A.good acc.old) (A.words acc.old) (raised_in self.now by cell) (A.log acc.old) r (A.log acc.new)) }
+        ensures explained { OnOk result (IsExplained (A.good acc.new) (A.words acc.new) (A.log acc.new)) }
+        ensures goes { OnOk result (A.stopped acc.new ≡ None) }
+        ensures stops { IfErr result (λ s. A.stopped acc.new ≡ Some s) }
+        ensures good { SameMemories (A.good acc.old) (A.good acc.new) }
+        ensures words { A.words acc.new ≡ A.words acc.old }
+        ensures keeps { A.keeps acc.old acc.new }
+    {
+        let address = self.at + 1 + 5 * cell + 4;
+        let found = acc.read(address)?;
+        let sum = found.wrapping_add(by);
+        acc.write(address, sum)?;
+        Ok(sum)
+    }
+
+    /// The link that names the key's cell, or the empty one where the key would go. Two reads a cell of the path at
+    /// most, and one.
+    fn find<A: Access>(&self, acc: &mut A, key: u32) -> Result<Position, Stop>
+        requires going { A.stopped acc.old ≡ None }
+        requires within { SumMapFits self.now (A.words acc.old) }
+        requires well { Under (A.good acc.old) (A.words acc.old) (A.log acc.old) (IsSumMap self.now) }
+        ensures finds { IfOk result (λ s. Shows (A.good acc.old) (A.words acc.old) (A.log acc.old) (A.log acc.new) (λ m. s ≡ position_of self.now m key)) }
+        ensures inside { IfOk result (λ s. (s.link < A.words acc.old) × (s.next ≤ self.now.cells) × (s.next ≡ 0 → s.tag ≡ 0)) }
+        ensures writes { OnOk result ((A.log acc.new).writes ≡ (A.log acc.old).writes) }
+        ensures explained { OnOk result (IsExplained (A.good acc.new) (A.words acc.new) (A.log acc.new)) }
+        ensures goes { OnOk result (A.stopped acc.new ≡ None) }
+        ensures stops { IfErr result (λ s. A.stopped acc.new ≡ Some s) }
+        ensures cause { IfErr result IsReadStop }
+        ensures good { SameMemories (A.good acc.old) (A.good acc.new) }
+        ensures words { A.words acc.new ≡ A.words acc.old }
+        ensures keeps { A.keeps acc.old acc.new }
+    {
+        let mut link = self.at;
+        let mut next = acc.read(link)?;
+        for _step in 0..self.cells {
+            if next == 0 {
+                return Ok(Position { link, next, tag: 0 });
+            }
+            let address = self.at + 1 + 5 * (next - 1) as usize;
+            let tag = acc.read(address)?;
+            if tag == key as u64 + 1 {
+                return Ok(Position { link, next, tag });
+            }
+            link = side(address, tag, key);
+            next = acc.read(link)?;
+        }
+        Ok(Position {
+            link,
+            next: 0,
+            tag: 0,
+        })
+    }
+
+    /// The free cell of the lowest number, here from 0. One read a cell at most.
+    fn free_cell<A: Access>(&self, acc: &mut A) -> Result<Option<usize>, Stop>
+        requires going { A.stopped acc.old ≡ None }
+        requires within { SumMapFits self.now (A.words acc.old) }
+        requires explained { IsExplained (A.good acc.old) (A.words acc.old) (A.log acc.old) }
+        ensures frees { IfOk result (λ o. Shows (A.good acc.old) (A.words acc.old) (A.log acc.old) (A.log acc.new) (λ m. o ≡ free_from (tag self.now m) 0 self.now.cells)) }
+        ensures inside { IfOk result (λ o. IfSome o (λ c. c < self.now.cells)) }
+        ensures writes { OnOk result ((A.log acc.new).writes ≡ (A.log acc.old).writes) }
+        ensures explained { OnOk result (IsExplained (A.good acc.new) (A.words acc.new) (A.log acc.new)) }
+        ensures goes { OnOk result (A.stopped acc.new ≡ None) }
+        ensures stops { IfErr result (λ s. A.stopped acc.new ≡ Some s) }
+        ensures cause { IfErr result IsReadStop }
+        ensures good { SameMemories (A.good acc.old) (A.good acc.new) }
+        ensures words { A.words acc.new ≡ A.words acc.old }
+        ensures keeps { A.keeps acc.old acc.new }
+    {
+        for cell in 0..self.cells {
+            let tag = acc.read(self.at + 1 + 5 * cell)?;
+            if tag == 0 {
+                return Ok(Some(cell));
+            }
+        }
+        Ok(None)
+    }
+
+    /// The key's value, where it has one. Two reads a cell of the path at most, and two.
+    ///
+    /// # Errors
+    /// The Stop of the access; it is never `ClockFull`.
+    pub fn get<A: Access>(&self, acc: &mut A, key: u32) -> Result<Option<u64>, Stop>
+        requires going { A.stopped acc.old ≡ None }
+        requires within { SumMapFits self.now (A.words acc.old) }
+        requires well { Under (A.good acc.old) (A.words acc.old) (A.log acc.old) (IsSumMap self.now) }
+        ensures reply { IfOk result (λ r. DoesOver (A.good acc.old) (A.words acc.old) (got_in self.now key) (A.log acc.old) r (A.log acc.new)) }
+        ensures well { OnOk result (Under (A.good acc.new) (A.words acc.new) (A.log acc.new) (IsSumMap self.now)) }
+        ensures explained { OnOk result (IsExplained (A.good acc.new) (A.words acc.new) (A.log acc.new)) }
+        ensures goes { OnOk result (A.stopped acc.new ≡ None) }
+        ensures stops { IfErr result (λ s. A.stopped acc.new ≡ Some s) }
+        ensures cause { IfErr result IsReadStop }
+        ensures good { SameMemories (A.good acc.old) (A.good acc.new) }
+        ensures words { A.words acc.new ≡ A.words acc.old }
+        ensures keeps { A.keeps acc.old acc.new }
+    {
+        let position = self.find(acc, key)?;
+        if position.next == 0 {
+            return Ok(None);
+        }
+        let address = self.at + 1 + 5 * (position.next - 1) as usize + 3;
+        let value = acc.read(address)?;
+        Ok(Some(value))
+    }
+
+    /// Gives the key this value: it replaces the one that the key's cell has, or goes with the key into the free
+    /// cell of the lowest number, as a leaf. The sums of the cells from the root to the key's are mended: three reads
+    /// and one write a cell of that path, beside two reads a cell to find it and one a cell to find a free one. Two
+    /// to four further reads and writes.
+    ///
+    /// # Errors
+    /// The Stop of the access.
+    pub fn put<A: Access>(&self, acc: &mut A, key: u32, value: u64) -> Result<MapPut, Stop>
+        requires going { A.stopped acc.old ≡ None }
+        requires within { SumMapFits self.now (A.words acc.old) }
+        requires well { Under (A.good acc.old) (A.words acc.old) (A.log acc.old) (IsSumMap self.now) }
+        ensures reply { IfOk result (λ r. DoesOver (A.good acc.old) (A.words acc.old) (put_in self.now key value) (A.log acc.old) r (A.log acc.new)) }
+        ensures well { OnOk result (Under (A.good acc.new) (A.words acc.new) (A.log acc.new) (IsSumMap self.now)) }
+        ensures explained { OnOk result (IsExplained (A.good acc.new) (A.words acc.new) (A.log acc.new)) }
+        ensures goes { OnOk result (A.stopped acc.new ≡ None) }
+        ensures stops { IfErr result (λ s. A.stopped acc.new ≡ Some s) }
+        ensures good { SameMemories (A.good acc.old) (A.good acc.new) }
+        ensures words { A.words acc.new ≡ A.words acc.old }
+        ensures keeps { A.keeps acc.old acc.new }
+    {
+        let position = self.find(acc, key)?;
+        if position.next != 0 {
+            let address = self.at + 1 + 5 * (position.next - 1) as usize + 3;
+            let old = acc.read(address)?;
+            acc.write(address, value)?;
+            self.mend(acc, key, value.wrapping_sub(old))?;
+            return Ok(MapPut::Replaced);
+        }
+        match self.free_cell(acc)? {
+            None => Ok(MapPut::NoRoom),
+            Some(cell) => {
+                let address = self.at + 1 + 5 * cell;
+                acc.write(address, key as u64 + 1)?;
+                acc.write(address + 3, value)?;
+                acc.write(position.link, cell as u64 + 1)?;
+                self.mend(acc, key, value)?;
+                Ok(MapPut::Added)
+            }
+        }
+    }
+
+    /// Adds to the sums of the cells from the root to the key's, modulo 2^64. Answers whether there is a cell. Three
+    /// reads and one write a cell of the path at most, and one read.
+    fn mend<A: Access>(&self, acc: &mut A, key: u32, by: u64) -> Result<bool, Stop>
+        requires going { A.stopped acc.old ≡ None }
+        requires within { SumMapFits self.now (A.words acc.old) }
+        requires links { Under (A.good acc.old) (A.words acc.old) (A.log acc.old) (LinksInside self.now) }
+        ensures reply { IfOk result (λ r. DoesOver (A.good acc.old) (A.words acc.old) (mended_in self.now key by) (A.log acc.old) r (A.log acc.new)) }
+        ensures explained { OnOk result (IsExplained (A.good acc.new) (A.words acc.new) (A.log acc.new)) }
+        ensures goes { OnOk result (A.stopped acc.new ≡ None) }
+        ensures stops { IfErr result (λ s. A.stopped acc.new ≡ Some s) }
+        ensures good { SameMemories (A.good acc.old) (A.good acc.new) }
+        ensures words { A.words acc.new ≡ A.words acc.old }
+        ensures keeps { A.keeps acc.old acc.new }
+    {
+        let tag = key as u64 + 1;
+        let mut link = acc.read(self.at)?;
+        let wrote = link != 0;
+        for _step in 0..self.cells {
+            if link == 0 {
+                return Ok(wrote);
+            }
+            let cell = (link - 1) as usize;
+            self.raise(acc, cell, by)?;
+            let address = self.at + 1 + 5 * cell;
+            let found = acc.read(address)?;
+            if found == tag {
+                return Ok(wrote);
+            }
+            link = acc.read(side(address, found, key))?;
+        }
+        Ok(wrote)
+    }
+
+    /// The sum word of the cell that the link names; 0 where it names none. One read at most.
+    fn sum_under<A: Access>(&self, acc: &mut A, link: u64) -> Result<u64, Stop>
+        requires going { A.stopped acc.old ≡ None }
+        requires within { (link ≤ self.now.cells) × SumMapFits self.now (A.words acc.old) }
+        requires explained { IsExplained (A.good acc.old) (A.words acc.old) (A.log acc.old) }
+        ensures sums { IfOk result (λ s. Shows (A.good acc.old) (A.words acc.old) (A.log acc.old) (A.log acc.new) (λ m. s ≡ sum_under self.now m link)) }
+        ensures writes { OnOk result ((A.log acc.new).writes ≡ (A.log acc.old).writes) }
+        ensures explained { OnOk result (IsExplained (A.good acc.new) (A.words acc.new) (A.log acc.new)) }
+        ensures goes { OnOk result (A.stopped acc.new ≡ None) }
+        ensures stops { IfErr result (λ s. A.stopped acc.new ≡ Some s) }
+        ensures cause { IfErr result IsReadStop }
+        ensures good { SameMemories (A.good acc.old) (A.good acc.new) }
+        ensures words { A.words acc.new ≡ A.words acc.old }
+        ensures keeps { A.keeps acc.old acc.new }
+    {
+        if link == 0 {
+            return Ok(0);
+        }
+        let cell = (link - 1) as usize;
+        let sum = acc.read(self.at + 1 + 5 * cell + 4)?;
+        Ok(sum)
+    }
+
+    /// What passing the cell adds to the sum below the bound, and the link to go on by. A cell below the bound
+    /// counts with all on its left, so by its sum less the sum on its right. Four reads at most.
+    fn pass<A: Access>(&self, acc: &mut A, cell: usize, bound: u64) -> Result<Passed, Stop>
+        requires going { A.stopped acc.old ≡ None }
+        requires within { (cell < self.now.cells) × SumMapFits self.now (A.words acc.old) }
+        requires well { Under (A.good acc.old) (A.words acc.old) (A.log acc.old) (IsSumMap self.now) }
+        ensures passes { IfOk result (λ p. Shows (A.good acc.old) (A.words acc.old) (A.log acc.old) (A.log acc.new) (λ m. p ≡ passed self.now m bound cell)) }
+        ensures inside { IfOk result (λ p. p.next ≤ self.now.cells) }
+        ensures writes { OnOk result ((A.log acc.new).writes ≡ (A.log acc.old).writes) }
+        ensures explained { OnOk result (IsExplained (A.good acc.new) (A.words acc.new) (A.log acc.new)) }
+        ensures goes { OnOk result (A.stopped acc.new ≡ None) }
+        ensures stops { IfErr result (λ s. A.stopped acc.new ≡ Some s) }
+        ensures cause { IfErr result IsReadStop }
+        ensures good { SameMemories (A.good acc.old) (A.good acc.new) }
+        ensures words { A.words acc.new ≡ A.words acc.old }
+        ensures keeps { A.keeps acc.old acc.new }
+    {
+        let address = self.at + 1 + 5 * cell;
+        let tag = acc.read(address)?;
+        if tag >= bound {
+            let next = acc.read(address + 1)?;
+            return Ok(Passed { next, added: 0 });
+        }
+        let whole = acc.read(address + 4)?;
+        let next = acc.read(address + 2)?;
+        let rest = self.sum_under(acc, next)?;
+        Ok(Passed {
+            next,
+            added: whole.wrapping_sub(rest),
+        })
+    }
+
+    /// The sum of the values of the cells whose tags are below the bound, modulo 2^64. Four reads a cell of the
+    /// path to the bound at most, and one.
+    fn sum_below<A: Access>(&self, acc: &mut A, bound: u64) -> Result<u64, Stop>
+        requires going { A.stopped acc.old ≡ None }
+        requires bound { (0 < bound) × (bound ≤ top) }
+        requires within { SumMapFits self.now (A.words acc.old) }
+        requires well { Under (A.good acc.old) (A.words acc.old) (A.log acc.old) (IsSumMap self.now) }
+        ensures sums { IfOk result (λ s. Shows (A.good acc.old) (A.words acc.old) (A.log acc.old) (A.log acc.new) (λ m. s ≡ sum_within self.now m 0 bound self.now.cells % 2 ^ 64)) }
+        ensures writes { OnOk result ((A.log acc.new).writes ≡ (A.log acc.old).writes) }
+        ensures explained { OnOk result (IsExplained (A.good acc.new) (A.words acc.new) (A.log acc.new)) }
+        ensures goes { OnOk result (A.stopped acc.new ≡ None) }
+        ensures stops { IfErr result (λ s. A.stopped acc.new ≡ Some s) }
+        ensures cause { IfErr result IsReadStop }
+        ensures good { SameMemories (A.good acc.old) (A.good acc.new) }
+        ensures words { A.words acc.new ≡ A.words acc.old }
+        ensures keeps { A.keeps acc.old acc.new }
+    {
+        let mut total: u64 = 0;
+        let mut link = acc.read(self.at)?;
+        for _step in 0..self.cells {
+            if link == 0 {
+                return Ok(total);
+            }
+            let passed = self.pass(acc, (link - 1) as usize, bound)?;
+            total = total.wrapping_add(passed.added);
+            link = passed.next;
+        }
+        Ok(total)
+    }
+
+    /// The sum of the values of the keys from `lo` to `hi`, both included, modulo 2^64; 0 where `lo` is above
+    /// `hi`. It walks to each of the bounds and takes what is below it by the sums beside the walk: four reads a
+    /// cell of the two paths at most, and two; one where `lo` is above `hi`.
+    ///
+    /// # Errors
+    /// The Stop of the access; it is never `ClockFull`.
+    pub fn sum<A: Access>(&self, acc: &mut A, lo: u32, hi: u32) -> Result<u64, Stop>
+        requires going { A.stopped acc.old ≡ None }
+        requires within { SumMapFits self.now (A.words acc.old) }
+        requires well { Under (A.good acc.old) (A.words acc.old) (A.log acc.old) (IsSumMap self.now) }
+        ensures reply { IfOk result (λ r. DoesOver (A.good acc.old) (A.words acc.old) (summed_in self.now lo hi) (A.log acc.old) r (A.log acc.new)) }
+        ensures well { OnOk result (Under (A.good acc.new) (A.words acc.new) (A.log acc.new) (IsSumMap self.now)) }
+        ensures explained { OnOk result (IsExplained (A.good acc.new) (A.words acc.new) (A.log acc.new)) }
+        ensures goes { OnOk result (A.stopped acc.new ≡ None) }
+        ensures stops { IfErr result (λ s. A.stopped acc.new ≡ Some s) }
+        ensures good { SameMemories (A.good acc.old) (A.good acc.new) }
+        ensures words { A.words acc.new ≡ A.words acc.old }
+        ensures keeps { A.keeps acc.old acc.new }
+        ensures cause { IfErr result IsReadStop }
+    {
+        if lo > hi {
+            acc.read(self.at)?;
+            return Ok(0);
+        }
+        let upper = self.sum_below(acc, hi as u64 + 2)?;
+        let lower = self.sum_below(acc, lo as u64 + 1)?;
+        Ok(upper.wrapping_sub(lower))
+    }
+}
