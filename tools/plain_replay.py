@@ -155,6 +155,13 @@ class Memory:
 def replay(items, report, words=1024):
     """Raises Wrong where the report isn't one of these items: its rows are the transactions, each caller's in its
     order; each replies what it replies behind the rows before it; and the words at the end are those that are left."""
+    try:
+        replay_lines(items, report, words)
+    except (KeyError, IndexError, ValueError) as error:
+        raise Wrong(f"not of the form: {error!r}") from None
+
+
+def replay_lines(items, report, words):
     scripts = {}
     for caller, does in items:
         if not isinstance(does, str):

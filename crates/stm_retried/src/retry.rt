@@ -1,12 +1,12 @@
 //! A memory whose logs are made longer, and which is closed: each is tried again where memory is refused for it, and all
 //! has to be as it was then.
-ghost use Rattle.std.specs.Prelude.{◌≡◌, ◌<◌, length, true};
+ghost use Rattle.std.specs.Prelude.{◌≡◌, ◌<◌, length, true, IfSome};
 ghost use Rattle.stm_rule.specs.Callers.{AllIdle, IsOf, IsSameCaller};
 ghost use Rattle.tx_answers.specs.Known.{IsIdle};
 ghost use Rattle.stm_tx.specs.Descs.{known};
 
 use std::alloc::Global;
-use stm_tx::calls::{cancel, commit, read, reserve, try_begin, write};
+use stm_tx::calls::{commit, read, reserve, try_begin, write};
 use stm_tx::gate::{close_gate, install, look, reopen};
 use stm_tx::{Alg, AnyMem, Begin, CloseGate, Commit, Config, Desc, Look, Read, Stm, Write, close};
 
@@ -49,13 +49,14 @@ fn switch(stm: &Stm<AnyMem>, desc: &mut Desc<AnyMem>) -> bool
     true
 }
 
-/// Reads three words in an attempt. Answers what the third read answers, where it comes to that.
-fn third_read(stm: &Stm<AnyMem>, desc: &mut Desc<AnyMem>) -> Option<Read>
+/// Whether the read log has room for a third word; None where anything else is in the way. An attempt that could read
+/// three words commits.
+fn has_room_to_read(stm: &Stm<AnyMem>, desc: &mut Desc<AnyMem>) -> Option<bool>
     requires desc { IsOf desc.old stm.now }
     requires idle { IsIdle (known desc.old) }
     requires words { 2 < stm.now.config.words }
     ensures same { IsSameCaller desc.old desc.new }
-    ensures idle { IsIdle (known desc.new) }
+    ensures idle { IfSome result (λ _. IsIdle (known desc.new)) }
 {
     let Begin::Begun(_) = try_begin(desc, stm) else {
         return None;
@@ -66,20 +67,25 @@ fn third_read(stm: &Stm<AnyMem>, desc: &mut Desc<AnyMem>) -> Option<Read>
     let Read::Value(_) = read(desc, stm, 1) else {
         return None;
     };
-    let third = read(desc, stm, 2);
-    if let Read::Value(_) = third {
-        end(stm, desc);
+    match read(desc, stm, 2) {
+        Read::Value(_) => {}
+        Read::Full { .. } => return Some(false),
+        Read::Conflict(_) => return None,
     }
-    Some(third)
+    match commit(desc, stm) {
+        Commit::ReadOnly { .. } => Some(true),
+        _ => None,
+    }
 }
 
-/// Writes 5, 6 and 7 in an attempt, and commits them. Answers what the third write answers, where it comes to that.
-fn third_write(stm: &Stm<AnyMem>, desc: &mut Desc<AnyMem>) -> Option<Write>
+/// Whether the write log has room for a third word; None where anything else is in the way. An attempt that could write
+/// three words, 5, 6 and 7, commits.
+fn has_room_to_write(stm: &Stm<AnyMem>, desc: &mut Desc<AnyMem>) -> Option<bool>
     requires desc { IsOf desc.old stm.now }
     requires idle { IsIdle (known desc.old) }
     requires words { 2 < stm.now.config.words }
     ensures same { IsSameCaller desc.old desc.new }
-    ensures idle { IsIdle (known desc.new) }
+    ensures idle { IfSome result (λ _. IsIdle (known desc.new)) }
 {
     let Begin::Begun(_) = try_begin(desc, stm) else {
         return None;
@@ -90,42 +96,35 @@ fn third_write(stm: &Stm<AnyMem>, desc: &mut Desc<AnyMem>) -> Option<Write>
     let Write::Done = write(desc, stm, 1, 6) else {
         return None;
     };
-    let third = write(desc, stm, 2, 7);
-    if let Write::Done = third {
-        end(stm, desc);
+    match write(desc, stm, 2, 7) {
+        Write::Done => {}
+        Write::Full { .. } => return Some(false),
+        Write::Conflict(_) | Write::ClockFull { .. } => return None,
     }
-    Some(third)
-}
-
-/// Ends the attempt, by a commit where that is done at once.
-fn end(stm: &Stm<AnyMem>, desc: &mut Desc<AnyMem>)
-    requires desc { IsOf desc.old stm.now }
-    requires running { (known desc.old).running ≡ true }
-    ensures same { IsSameCaller desc.old desc.new }
-    ensures idle { IsIdle (known desc.new) }
-{
-    if let Commit::Again { .. } = commit(desc, stm) {
-        cancel(desc, stm);
+    match commit(desc, stm) {
+        Commit::Committed { .. } => Some(true),
+        _ => None,
     }
 }
 
-/// Makes the logs longer. A refusal leaves both as long as they were; it is tried again. Answers whether all went so.
+/// Makes the logs longer. A refusal leaves both as long as they were, and then it is tried again. Answers whether all
+/// went so.
 fn lengthen(alloc: Global, stm: &Stm<AnyMem>, desc: &mut Desc<AnyMem>) -> bool
     requires desc { IsOf desc.old stm.now }
     requires idle { IsIdle (known desc.old) }
     requires words { 2 < stm.now.config.words }
     ensures same { IsSameCaller desc.old desc.new }
-    ensures idle { IsIdle (known desc.new) }
+    ensures idle { result ≡ true → IsIdle (known desc.new) }
 {
     if reserve(alloc, desc, 8, 8).is_ok() {
         return true;
     }
-    if third_read(stm, desc) != Some(Read::Full { limit: 2 }) {
+    let Some(false) = has_room_to_read(stm, desc) else {
         return false;
-    }
-    if third_write(stm, desc) != Some(Write::Full { limit: 2 }) {
+    };
+    let Some(false) = has_room_to_write(stm, desc) else {
         return false;
-    }
+    };
     reserve(alloc, desc, 8, 8).is_ok()
 }
 
@@ -156,15 +155,15 @@ pub fn run(alloc: Global) -> Result<Vec<u64>, Failure> {
     let Some(mut desc) = descs.pop() else {
         unreachable!()
     };
-    let goes = switch(&stm, &mut desc)
-        && lengthen(alloc, &stm, &mut desc)
-        && matches!(third_read(&stm, &mut desc), Some(Read::Value(0)))
-        && third_write(&stm, &mut desc) == Some(Write::Done);
-    descs.push_reserved(desc);
-    let words = close_twice(alloc, stm, descs)?;
-    if goes {
-        Ok(words)
-    } else {
-        Err(Failure::Changed)
+    if !switch(&stm, &mut desc) || !lengthen(alloc, &stm, &mut desc) {
+        return Err(Failure::Changed);
     }
+    let Some(true) = has_room_to_read(&stm, &mut desc) else {
+        return Err(Failure::Changed);
+    };
+    let Some(true) = has_room_to_write(&stm, &mut desc) else {
+        return Err(Failure::Changed);
+    };
+    descs.push_reserved(desc);
+    close_twice(alloc, stm, descs)
 }

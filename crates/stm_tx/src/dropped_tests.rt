@@ -6,7 +6,7 @@ ghost use Rattle.stm_rule.specs.Callers.{IsOf, IsSameCaller};
 ghost use Rattle.tx_answers.specs.Known.{IsIdle};
 ghost use Rattle.stm_tx.specs.Descs.{known};
 
-use crate::calls::{cancel, commit, state, try_begin, try_irrevocable, write};
+use crate::calls::{commit, state, try_begin, try_irrevocable, write};
 use crate::gate::{close_gate, look, reopen};
 use crate::serial_tests::switch;
 use crate::tests::PAIR;
@@ -47,28 +47,39 @@ enum Met {
     Shut { gate: u64 },
 }
 
-/// A transaction that writes 7 to word 2. Answers the time of its commit.
-fn commits_at(stm: &Stm<AnyMem>, desc: &mut Desc<AnyMem>) -> Option<u64>
+/// A transaction that writes 7 to word 2. Answers whether it commits.
+fn commits_once(stm: &Stm<AnyMem>, desc: &mut Desc<AnyMem>) -> bool
     requires desc { IsOf desc.old stm.now }
     requires idle { IsIdle (known desc.old) }
     requires words { 2 < stm.now.config.words }
     ensures same { IsSameCaller desc.old desc.new }
-    ensures idle { IsIdle (known desc.new) }
+    ensures idle { result ≡ true → IsIdle (known desc.new) }
 {
     let Begin::Begun(_) = try_begin(desc, stm) else {
-        return None;
+        return false;
     };
     let Write::Done = write(desc, stm, 2, 7) else {
-        return None;
+        return false;
     };
-    match commit(desc, stm) {
-        Commit::Committed { time } => Some(time),
-        Commit::ReadOnly { .. } | Commit::Conflict(_) | Commit::ClockFull { .. } => None,
-        Commit::Again { .. } => {
-            cancel(desc, stm);
-            None
-        }
-    }
+    let Commit::Committed { .. } = commit(desc, stm) else {
+        return false;
+    };
+    true
+}
+
+/// Begins an attempt, is granted, and writes 5 to word 0. Answers whether all went so.
+fn promotes(stm: &Stm<AnyMem>, desc: &mut Desc<AnyMem>) -> bool
+    requires desc { IsOf desc.old stm.now }
+    requires idle { IsIdle (known desc.old) }
+    requires words { 2 < stm.now.config.words }
+{
+    let Begin::Begun(_) = try_begin(desc, stm) else {
+        return false;
+    };
+    let Irrev::Granted = try_irrevocable(desc, stm) else {
+        return false;
+    };
+    matches!(write(desc, stm, 0, 5), Write::Done)
 }
 
 /// Begins an attempt of caller 0 that comes as far as this stage. Answers whether it does. Behind a commit of caller 1
@@ -84,7 +95,7 @@ fn begins(
     requires idle { IsIdle (known first.old) × IsIdle (known second.old) }
     requires words { 2 < stm.now.config.words }
     ensures same { IsSameCaller second.old second.new }
-    ensures idle { IsIdle (known second.new) }
+    ensures idle { result ≡ true → IsIdle (known second.new) }
 {
     let Begin::Begun(_) = try_begin(first, stm) else {
         return false;
@@ -92,18 +103,16 @@ fn begins(
     if stage == Stage::Begun {
         return true;
     }
-    if stage == Stage::Promoted {
-        let Irrev::Granted = try_irrevocable(first, stm) else {
-            return false;
-        };
-    }
     let Write::Done = write(first, stm, 0, 5) else {
         return false;
     };
-    if stage != Stage::Again {
+    if stage == Stage::Written {
         return true;
     }
-    commits_at(stm, second).is_some() && matches!(commit(first, stm), Commit::Again { .. })
+    if !commits_once(stm, second) {
+        return false;
+    }
+    matches!(commit(first, stm), Commit::Again { .. })
 }
 
 /// Closes the gate. Answers whether caller 0 comes as far as this stage.
@@ -114,10 +123,34 @@ fn closes(stm: &Stm<AnyMem>, first: &mut Desc<AnyMem>, stage: Stage) -> bool
     let CloseGate::Closed = close_gate(first, stm) else {
         return false;
     };
-    stage == Stage::Closing || look(first, stm) == Look::Quiet
+    if stage == Stage::Closing {
+        return true;
+    }
+    look(first, stm) == Look::Quiet
 }
 
-/// What caller 1 meets once caller 0 is gone, where it is any of [`Met`].
+/// What a transaction of caller 1 that writes 7 to word 2 meets, where it is any of [`Met`].
+fn goes_on(stm: &Stm<AnyMem>, desc: &mut Desc<AnyMem>) -> Option<Met>
+    requires desc { IsOf desc.old stm.now }
+    requires idle { IsIdle (known desc.old) }
+    requires words { 2 < stm.now.config.words }
+{
+    match try_begin(desc, stm) {
+        Begin::Begun(_) => {}
+        Begin::Closed { gate } => return Some(Met::Shut { gate }),
+        Begin::Held { word } => return Some(Met::Held { word }),
+        Begin::ClockFull { .. } => return None,
+    }
+    let Write::Done = write(desc, stm, 2, 7) else {
+        return None;
+    };
+    match commit(desc, stm) {
+        Commit::Committed { time } => Some(Met::Commits { time }),
+        _ => None,
+    }
+}
+
+/// What caller 1 meets once caller 0 is gone: the gate, and then a transaction, each of which finds it shut, or neither.
 fn meets(stm: &Stm<AnyMem>, desc: &mut Desc<AnyMem>) -> Option<Met>
     requires desc { IsOf desc.old stm.now }
     requires idle { IsIdle (known desc.old) }
@@ -127,23 +160,25 @@ fn meets(stm: &Stm<AnyMem>, desc: &mut Desc<AnyMem>) -> Option<Met>
         caller: 0,
         status: 1,
     };
-    if let CloseGate::Taken { gate } = close_gate(desc, stm) {
-        return match try_begin(desc, stm) {
-            Begin::Closed { gate: found } if found == gate => Some(Met::Shut { gate }),
-            _ => None,
-        };
+    match close_gate(desc, stm) {
+        CloseGate::Closed => {}
+        CloseGate::Taken { gate } => {
+            let met = goes_on(stm, desc);
+            return if met == Some(Met::Shut { gate }) {
+                met
+            } else {
+                None
+            };
+        }
     }
     let is_busy = look(desc, stm) == busy && look(desc, stm) == busy && look(desc, stm) == busy;
     reopen(desc, stm);
     if !is_busy || state(desc) != TxState::Idle {
         return None;
     }
-    match commits_at(stm, desc) {
-        Some(time) => Some(Met::Commits { time }),
-        None => match try_begin(desc, stm) {
-            Begin::Held { word } => Some(Met::Held { word }),
-            _ => None,
-        },
+    match goes_on(stm, desc) {
+        Some(Met::Shut { .. }) => None,
+        met => met,
     }
 }
 
@@ -165,13 +200,23 @@ fn met_behind(
     if !switch(stm, second, alg) {
         return None;
     }
-    let is_there = if stage == Stage::Closing || stage == Stage::Quiet {
-        closes(stm, &mut first, stage)
-    } else {
-        begins(stm, &mut first, second, stage)
-    };
-    drop(first);
-    if is_there { meets(stm, second) } else { None }
+    match stage {
+        Stage::Closing | Stage::Quiet => {
+            let is_there = closes(stm, &mut first, stage);
+            drop(first);
+            if is_there { meets(stm, second) } else { None }
+        }
+        Stage::Promoted => {
+            let is_there = promotes(stm, &mut first);
+            drop(first);
+            if is_there { meets(stm, second) } else { None }
+        }
+        Stage::Begun | Stage::Written | Stage::Again => {
+            let is_there = begins(stm, &mut first, second, stage);
+            drop(first);
+            if is_there { meets(stm, second) } else { None }
+        }
+    }
 }
 
 fn drop_at(alloc: Global, alg: Alg, stage: Stage) -> Result<Option<Met>, NewError> {
