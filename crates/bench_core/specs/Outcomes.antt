@@ -168,9 +168,10 @@ module _ {S : Type 0} (left : S → Option (List ℕ)) (faults : S → ℕ) (sou
     Says WriteFault closed said = ⊥
     Says Memory closed said = ⊥
 
-    -- a call that was refused memory took at most the first 16,777,217 bytes, and under `gen` none
+    -- a call that was refused memory took at most the first 16,777,217 bytes, and under `gen` none; no take of it failed
     pub record Spared : Type 0 where
       pub lost : TookSome 16777217 (left source) (left source')
+      pub calm : faults source' ≡ faults source
       pub drawn : (n t seed : ℕ) → Asks (texts_of words) (commands.Gen n t seed) → IsUntouched
 
     module _ {K : Type 0} (held : K → Option (List ℕ)) (broken : K → ℕ) (sink sink' : K) (last last' : Option Ended) where

@@ -114,12 +114,15 @@ fn say_of_text<R: Threads + Wait + Sync, S: Source, G: Turnstile + Sync>(
 ) -> Result<Saying, Memory>
     ensures says { IfOk result (λ s. SaysRead S.left S.faults source.old source.new mode policy s.status s.closed s.text.items) }
     ensures lost { OnErr result (TookSome 16777217 (S.left source.old) (S.left source.new)) }
+    ensures calm { OnErr result (S.faults source.new ≡ S.faults source.old) }
 {
+    // made before the source is read, so that its fault is never told as want of memory
+    let read_fault = messages::read_fault(alloc)?;
     match read_all(alloc, source, MOST_READ) {
         Ok(text) => execute(rt, alloc, mode, policy, text.as_slice(), turnstile),
         Err(ReadError::Failed) => Ok(Saying {
             status: Status::ReadFault,
-            text: messages::read_fault(alloc)?,
+            text: read_fault,
             closed: None,
         }),
         Err(ReadError::Memory) => Err(Memory),

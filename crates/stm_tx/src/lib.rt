@@ -5,6 +5,8 @@
 
 pub mod calls;
 #[cfg(test)]
+mod dropped_tests;
+#[cfg(test)]
 mod eager_tests;
 pub mod fencing;
 #[cfg(test)]

@@ -1,0 +1,322 @@
+//! The grammar of workloads, read slowly by a table of its lines: each fault of a line is looked for, and the lowest
+//! code counts. It shares nothing with the parser, so that the two can be compared.
+use std::alloc::Global;
+use std::str;
+use std::test::Fail;
+
+/// No fault: above all codes.
+const NONE: u32 = 12;
+
+/// The lines 2 to 8 of the header, each with the range of its number.
+const NUMBERS: [(&str, u64, u64); 7] = [
+    ("words", 1, 65536),
+    ("callers", 1, 32),
+    ("records", 1, 4096),
+    ("ring", 2, 64),
+    ("reads", 1, 4096),
+    ("writes", 1, 4096),
+    ("clock", 0, 4611686018427387904),
+];
+
+const ALGORITHMS: [&str; 6] = ["CGL", "TML", "OrecLazy", "OrecEager", "RingSW", "Serial"];
+
+/// Among which lines a line stands.
+#[derive(Clone, Copy, Drop, PartialEq, Eq)]
+enum Place {
+    Header,
+    Items,
+    Script,
+    Schedule,
+    /// Behind `done`.
+    End,
+}
+
+/// The lines behind the header: where each may stand, its first word, whether it needs structures, and a letter for
+/// each word that follows: a caller, an address, a number, a stripe, a key, turns, or (`A`) an algorithm.
+const FORMS: &[(Place, &str, bool, &str)] = &[
+    (Place::Items, "tx", false, "c"),
+    (Place::Items, "switch", false, "cA"),
+    (Place::Items, "schedule", false, ""),
+    (Place::Items, "done", false, ""),
+    (Place::Schedule, "go", false, "ct"),
+    (Place::Schedule, "done", false, ""),
+    (Place::Script, "end", false, ""),
+    (Place::Script, "read", false, "a"),
+    (Place::Script, "write", false, "an"),
+    (Place::Script, "add", false, "an"),
+    (Place::Script, "move", false, "aan"),
+    (Place::Script, "irrev", false, ""),
+    (Place::Script, "emit", false, "a"),
+    (Place::Script, "cancel", false, ""),
+    (Place::Script, "count", true, "sn"),
+    (Place::Script, "total", true, ""),
+    (Place::Script, "ladd", true, "k"),
+    (Place::Script, "ldel", true, "k"),
+    (Place::Script, "lhas", true, "k"),
+    (Place::Script, "llen", true, ""),
+    (Place::Script, "hadd", true, "k"),
+    (Place::Script, "hdel", true, "k"),
+    (Place::Script, "hhas", true, "k"),
+    (Place::Script, "tadd", true, "k"),
+    (Place::Script, "tdel", true, "k"),
+    (Place::Script, "thas", true, "k"),
+    (Place::Script, "tmin", true, ""),
+];
+
+/// What the lines so far say.
+#[derive(Drop)]
+struct Reader {
+    /// Whether a schedule is allowed.
+    is_step: bool,
+    place: Place,
+    /// The number of the next line.
+    line: usize,
+    words: u64,
+    callers: u64,
+    structs: bool,
+    items: u64,
+    /// Of the open transaction.
+    operations: u64,
+    /// Whether an `irrev` is among them.
+    asked: bool,
+    turns: u64,
+}
+
+/// The first fault of a text, its line and its code, under `step` or under `run`.
+pub(crate) fn first_fault(
+    alloc: Global,
+    text: &[u8],
+    is_step: bool,
+) -> Result<Option<(usize, u32)>, Fail> {
+    if text.len() > 16777216 {
+        return Ok(Some((0, 1)));
+    }
+    let mut reader = Reader {
+        is_step,
+        place: Place::Header,
+        line: 1,
+        words: 0,
+        callers: 0,
+        structs: false,
+        items: 0,
+        operations: 0,
+        asked: false,
+        turns: 0,
+    };
+    let mut line = Vec::new(alloc);
+    for byte in text {
+        if reader.place == Place::End {
+            return Ok(Some((reader.line, 11)));
+        }
+        if *byte != b'\n' {
+            line.push(*byte)?;
+            continue;
+        }
+        let code = reader.read(alloc, line.as_slice())?;
+        if code != NONE {
+            return Ok(Some((reader.line, code)));
+        }
+        reader.line = reader.line.saturating_add(1);
+        line.clear();
+    }
+    if reader.place == Place::End {
+        return Ok(None);
+    }
+    let code = if has_bad_byte(line.as_slice()) { 2 } else { 3 };
+    Ok(Some((reader.line, code)))
+}
+
+fn has_bad_byte(line: &[u8]) -> bool {
+    line.iter().any(|byte| *byte < 32 || *byte > 126)
+}
+
+/// A number of the form.
+fn number(word: &str) -> Option<u64> {
+    let is_led = word.len() > 1 && word.starts_with('0');
+    let has_digits = word.bytes().all(|byte| byte.is_ascii_digit());
+    if is_led || !has_digits {
+        return None;
+    }
+    match word.parse::<u64>() {
+        Ok(n) => Some(n),
+        Err(_) => None,
+    }
+}
+
+impl Reader {
+    /// The lowest code of the next line; where it has no fault, goes on past it.
+    fn read(&mut self, alloc: Global, line: &[u8]) -> Result<u32, Fail> {
+        if has_bad_byte(line) {
+            return Ok(2);
+        }
+        let mut words: Vec<&str> = Vec::new(alloc);
+        for word in str::from_utf8(line)?.split(' ') {
+            words.push(word)?;
+        }
+        let code = self.fault(words.as_slice());
+        if code == NONE {
+            self.go_on(words.as_slice());
+        }
+        Ok(code)
+    }
+
+    fn fault(&self, words: &[&str]) -> u32 {
+        if words.iter().any(|word| word.is_empty()) {
+            return 4;
+        }
+        match (self.place, words) {
+            (Place::Header, [name, value]) => self.header_fault(name, value),
+            (Place::Header, _) => 4,
+            (_, [name, operands @ ..]) => self.line_fault(name, operands),
+            (_, []) => 4,
+        }
+    }
+
+    fn header_fault(&self, name: &str, value: &str) -> u32 {
+        let wanted = match self.line {
+            1 => "stm",
+            9 => "alg",
+            10 => "structs",
+            _ => match NUMBERS.get(self.line.wrapping_sub(2)) {
+                Some((wanted, low, high)) => {
+                    return if name == *wanted {
+                        in_range(value, *low, *high)
+                    } else {
+                        4
+                    };
+                }
+                None => return 4,
+            },
+        };
+        if name != wanted {
+            return 4;
+        }
+        match (self.line, value) {
+            (1, "1") => NONE,
+            (9, _) => self.operand_fault(b'A', value),
+            (10, "off") => NONE,
+            (10, "on") => { if self.words < 1024 { 8 } else { NONE } }
+            _ => 4,
+        }
+    }
+
+    fn line_fault(&self, name: &str, operands: &[&str]) -> u32 {
+        for (place, first, structured, kinds) in FORMS {
+            if *place == self.place && *first == name && kinds.len() == operands.len() {
+                let mut lowest = self.standing_fault(name, *structured);
+                for (kind, word) in kinds.bytes().zip(operands.iter()) {
+                    lowest = lowest.min(self.operand_fault(kind, word));
+                }
+                return lowest;
+            }
+        }
+        4
+    }
+
+    /// The lowest code that a line has whatever its numbers are.
+    fn standing_fault(&self, name: &str, structured: bool) -> u32 {
+        if name == "schedule" && !self.is_step {
+            return 4;
+        }
+        if structured && !self.structs {
+            return 8;
+        }
+        if name == "emit" && !self.asked {
+            return 9;
+        }
+        let is_item = name == "tx" || name == "switch";
+        let is_operation = self.place == Place::Script && name != "end";
+        if (is_item && self.items >= 65536) || (is_operation && self.operations >= 4096) {
+            return 10;
+        }
+        NONE
+    }
+
+    fn operand_fault(&self, kind: u8, word: &str) -> u32 {
+        if kind == b'A' {
+            return if ALGORITHMS.iter().any(|name| *name == word) {
+                NONE
+            } else {
+                7
+            };
+        }
+        let Some(n) = number(word) else {
+            return 5;
+        };
+        match kind {
+            b'c' => { if n < self.callers { NONE } else { 6 } }
+            b's' => { if n < 4 { NONE } else { 6 } }
+            b'k' => { if n < 4294967296 { NONE } else { 6 } }
+            b't' if n < 1 || n > 1000000 => 6,
+            b't' => {
+                if self.turns.saturating_add(n) > 1000000 {
+                    10
+                } else {
+                    NONE
+                }
+            }
+            b'a' if n >= self.words => 6,
+            b'a' => {
+                if self.structs && n >= 64 && n < 1024 {
+                    8
+                } else {
+                    NONE
+                }
+            }
+            _ => NONE,
+        }
+    }
+
+    /// Goes on past a line without a fault.
+    fn go_on(&mut self, words: &[&str]) {
+        let name = words.first().copied().unwrap_or("");
+        let last = words.last().copied().unwrap_or("");
+        let n = number(last).unwrap_or(0);
+        match self.place {
+            Place::Header => match name {
+                "words" => self.words = n,
+                "callers" => self.callers = n,
+                "structs" => {
+                    self.structs = last == "on";
+                    self.place = Place::Items;
+                }
+                _ => {}
+            },
+            Place::Items => self.go_on_past_item(name),
+            Place::Script => {
+                self.operations = self.operations.saturating_add(1);
+                self.asked = self.asked || name == "irrev";
+                if name == "end" {
+                    self.place = Place::Items;
+                }
+            }
+            Place::Schedule => {
+                self.turns = self.turns.saturating_add(n);
+                if name == "done" {
+                    self.place = Place::End;
+                }
+            }
+            Place::End => {}
+        }
+    }
+
+    fn go_on_past_item(&mut self, name: &str) {
+        match name {
+            "schedule" => self.place = Place::Schedule,
+            "done" => self.place = Place::End,
+            _ => self.items = self.items.saturating_add(1),
+        }
+        if name == "tx" {
+            self.place = Place::Script;
+            self.operations = 0;
+            self.asked = false;
+        }
+    }
+}
+
+fn in_range(word: &str, low: u64, high: u64) -> u32 {
+    match number(word) {
+        None => 5,
+        Some(n) => { if low <= n && n <= high { NONE } else { 6 } }
+    }
+}
