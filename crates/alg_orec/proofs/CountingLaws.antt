@@ -4,7 +4,7 @@ use Rattle.rule_base.specs.World.{World}
 use Rattle.rule_base.specs.StepKinds.{StepKind, view_after}
 use Rattle.rule_base.specs.declared.views.View.{View}
 use Rattle.stm_gate.specs.Leaving.{left, left_by}
-use Rattle.alg_orec.specs.Counting.{TakesAtMost}
+use Rattle.stm_rule.specs.Counting.{TakesAtMost}
 
 -- a kind of step that adds nothing to the trail but its item
 abbrev pub IsOne : StepKind → Type 0

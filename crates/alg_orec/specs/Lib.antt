@@ -9,4 +9,3 @@ pub mod EagerTaking
 pub mod EagerCommitting
 pub mod EagerGranting
 pub mod EagerReading
-pub mod Counting

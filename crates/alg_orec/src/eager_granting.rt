@@ -1,9 +1,11 @@
 //! How an attempt of OrecEager that is alone becomes irrevocable.
-ghost use Rattle.std.specs.Prelude.{◌≡◌, ℕ, ◌<◌, false, None, Some};
+ghost use Rattle.std.specs.Prelude.{◌≡◌, ℕ, ◌<◌, ◌+◌, ◌*◌, false, None, Some};
 ghost use Rattle.stm_model.specs.declared.alg.Alg.TheVariants.{OrecEager};
 ghost use Rattle.stm_rule.specs.Callers.{IsOf, IsSameCaller, IsSeatOf};
 ghost use Rattle.stm_rule.specs.Kept.{IsSameSeat, view_of};
+ghost use Rattle.stm_rule.specs.Counting.{TakesAtMost};
 ghost use Rattle.tx_answers.specs.Answers.{Irrevs};
+ghost use Rattle.tx_answers.specs.Counting.{AddsAtMost};
 ghost use Rattle.tx_answers.specs.Known.{IsRunning, is_irrevocable};
 ghost use Rattle.stm_gate.specs.Knowing.{known, number};
 ghost use Rattle.stm_gate.specs.Granting.{IsAlone, Grants};
@@ -31,6 +33,7 @@ pub fn become_irrevocable<K: MemRule>(desc: &mut Desc<K>, stm: &Stm<K>) -> Irrev
     requires algorithm { (known desc.old).alg ≡ OrecEager }
     ensures same { IsSameCaller desc.old desc.new }
     ensures irrevs { Irrevs (K.good stm.now.rule) stm.now.config (number desc.old) result (known desc.old) (known desc.new) }
+    ensures steps { AddsAtMost (7 + stm.now.config.callers + (known desc.old).reads_limit + 2 * (known desc.old).writes_limit) (known desc.old) (known desc.new) }
 {
     if desc.local.granted {
         return Irrev::Granted;
@@ -51,6 +54,7 @@ fn grant<K: MemRule>(desc: &mut Desc<K>, stm: &Stm<K>) -> Irrev
     requires alone { IsAlone stm.now.config.callers (number desc.old) desc.old.view }
     ensures same { IsSameCaller desc.old desc.new }
     ensures grants { Grants (K.good stm.now.rule) stm.now.config (number desc.old) result (known desc.old) (known desc.new) }
+    ensures steps { AddsAtMost (5 + (known desc.old).reads_limit + 2 * (known desc.old).writes_limit) (known desc.old) (known desc.new) }
 {
     let caller = desc.number;
     if let Err(refusal) = grant_reads(&mut desc.seat, &mut desc.local, stm, caller) {
@@ -74,6 +78,7 @@ fn grant_reads<K: MemRule>(
     requires attempt { CanGrantPlaced (K.good stm.now.rule) stm.now.config caller local.old (view_of seat.old) }
     ensures same { IsSameSeat seat.old seat.new × (seat.new.me.0 ≡ record seat.old.me.0 { view = view_of seat.new }) }
     ensures grants { GrantsPlaced (K.good stm.now.rule) stm.now.config caller result local.old (view_of seat.old) local.new (view_of seat.new) }
+    ensures steps { TakesAtMost (2 + local.old.reads.len) (view_of seat.old) (view_of seat.new) }
 {
     match last_to_validate(local, stm.config.records) {
         None => grant_none(seat, local, stm, caller),
@@ -94,6 +99,7 @@ fn grant_none<K: MemRule>(
     requires none { IsLast stm.now.config.records None local.old }
     ensures same { IsSameSeat seat.old seat.new × (seat.new.me.0 ≡ record seat.old.me.0 { view = view_of seat.new }) }
     ensures grants { GrantsPlaced (K.good stm.now.rule) stm.now.config caller result local.old (view_of seat.old) local.new (view_of seat.new) }
+    ensures steps { TakesAtMost 1 (view_of seat.old) (view_of seat.new) }
 {
     let time = grant_all(stm, seat, caller);
     if time >= CLOCK_LIMIT {
@@ -117,6 +123,7 @@ fn grant_valid<K: MemRule>(
     requires last { IsLast stm.now.config.records (Some i) local.old }
     ensures same { IsSameSeat seat.old seat.new × (seat.new.me.0 ≡ record seat.old.me.0 { view = view_of seat.new }) }
     ensures grants { GrantsPlaced (K.good stm.now.rule) stm.now.config caller result local.old (view_of seat.old) local.new (view_of seat.new) }
+    ensures steps { TakesAtMost (3 + i) (view_of seat.old) (view_of seat.new) }
 {
     let time = stm.settle(seat, caller);
     if time >= CLOCK_LIMIT {

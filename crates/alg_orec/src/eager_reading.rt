@@ -1,6 +1,6 @@
 //! A read of OrecEager in its parts, between which other callers may step: its record is sampled, the word is loaded, and
 //! the record is confirmed.
-ghost use Rattle.alg_orec.specs.Counting.{AddsAtMost};
+ghost use Rattle.tx_answers.specs.Counting.{AddsAtMost};
 ghost use Rattle.std.specs.Prelude.{◌≡◌, ℕ, ◌<◌, None, false, [], ◌∷◌, ◌+◌, ◌*◌, MatchResult};
 ghost use Rattle.rule_base.specs.declared.layout.At.TheVariants.{Heap};
 ghost use Rattle.stm_model.specs.Memories.{item_at};

@@ -1,5 +1,5 @@
 //! How an attempt of OrecEager takes the record of a word, and first stores there.
-ghost use Rattle.alg_orec.specs.Counting.{TakesAtMost};
+ghost use Rattle.stm_rule.specs.Counting.{TakesAtMost};
 ghost use Rattle.std.specs.Prelude.{◌≡◌, ℕ, ◌<◌, ◌+◌};
 ghost use Rattle.stm_rule.specs.Callers.{IsSeatOf};
 ghost use Rattle.stm_rule.specs.Kept.{IsSameSeat, good_of, view_of};

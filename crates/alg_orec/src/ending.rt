@@ -1,6 +1,6 @@
 //! The end of an attempt that has no entry.
 ghost use Rattle.std.specs.Prelude.{◌≡◌, ℕ, ◌<◌, ◌+◌, length, false};
-ghost use Rattle.alg_orec.specs.Counting.{TakesAtMost};
+ghost use Rattle.stm_rule.specs.Counting.{TakesAtMost};
 ghost use Rattle.stm_rule.specs.Attempts.{ended, IsFenceOf};
 ghost use Rattle.stm_rule.specs.Callers.{IsSeatOf};
 ghost use Rattle.stm_rule.specs.Kept.{IsSameSeat, view_of};

@@ -1,9 +1,11 @@
 //! How an attempt that is alone becomes irrevocable.
-ghost use Rattle.std.specs.Prelude.{◌≡◌, ℕ, ◌<◌, false, length};
+ghost use Rattle.std.specs.Prelude.{◌≡◌, ℕ, ◌<◌, ◌+◌, false, length};
 ghost use Rattle.stm_model.specs.declared.alg.Alg.TheVariants.{OrecLazy};
 ghost use Rattle.stm_rule.specs.Callers.{IsOf, IsSameCaller, IsSeatOf};
 ghost use Rattle.stm_rule.specs.Kept.{IsSameSeat, view_of};
+ghost use Rattle.stm_rule.specs.Counting.{TakesAtMost};
 ghost use Rattle.tx_answers.specs.Answers.{Irrevs};
+ghost use Rattle.tx_answers.specs.Counting.{AddsAtMost};
 ghost use Rattle.tx_answers.specs.Known.{IsRunning, is_irrevocable};
 ghost use Rattle.stm_gate.specs.Knowing.{known, number};
 ghost use Rattle.stm_gate.specs.Granting.{IsAlone, Grants};
@@ -30,6 +32,7 @@ pub fn become_irrevocable<K: MemRule>(desc: &mut Desc<K>, stm: &Stm<K>) -> Irrev
     requires algorithm { (known desc.old).alg ≡ OrecLazy }
     ensures same { IsSameCaller desc.old desc.new }
     ensures irrevs { Irrevs (K.good stm.now.rule) stm.now.config (number desc.old) result (known desc.old) (known desc.new) }
+    ensures steps { AddsAtMost (6 + stm.now.config.callers + (known desc.old).reads_limit + (known desc.old).writes_limit) (known desc.old) (known desc.new) }
 {
     if desc.local.granted {
         return Irrev::Granted;
@@ -50,6 +53,7 @@ fn grant<K: MemRule>(desc: &mut Desc<K>, stm: &Stm<K>) -> Irrev
     requires alone { IsAlone stm.now.config.callers (number desc.old) desc.old.view }
     ensures same { IsSameCaller desc.old desc.new }
     ensures grants { Grants (K.good stm.now.rule) stm.now.config (number desc.old) result (known desc.old) (known desc.new) }
+    ensures steps { AddsAtMost (4 + (known desc.old).reads_limit + (known desc.old).writes_limit) (known desc.old) (known desc.new) }
 {
     let caller = desc.number;
     if let Err(refusal) = grant_reads(&mut desc.seat, &mut desc.local, stm, caller) {
@@ -75,6 +79,7 @@ fn grant_reads<K: MemRule>(
     requires attempt { CanGrant (K.good stm.now.rule) stm.now.config caller local.old (view_of seat.old) }
     ensures same { IsSameSeat seat.old seat.new × (seat.new.me.0 ≡ record seat.old.me.0 { view = view_of seat.new }) }
     ensures grants { GrantsReads (K.good stm.now.rule) stm.now.config caller result local.old (view_of seat.old) local.new (view_of seat.new) }
+    ensures steps { TakesAtMost (2 + local.old.reads.len) (view_of seat.old) (view_of seat.new) }
 {
     if local.reads.count() == 0 {
         return grant_none(seat, local, stm, caller);
@@ -95,6 +100,7 @@ fn grant_none<K: MemRule>(
     requires none { length local.old.reads.items ≡ 0 }
     ensures same { IsSameSeat seat.old seat.new × (seat.new.me.0 ≡ record seat.old.me.0 { view = view_of seat.new }) }
     ensures grants { GrantsReads (K.good stm.now.rule) stm.now.config caller result local.old (view_of seat.old) local.new (view_of seat.new) }
+    ensures steps { TakesAtMost 1 (view_of seat.old) (view_of seat.new) }
 {
     let time = grant_all(stm, seat, caller);
     if time >= CLOCK_LIMIT {
@@ -117,6 +123,7 @@ fn grant_valid<K: MemRule>(
     requires some { 0 < length local.old.reads.items }
     ensures same { IsSameSeat seat.old seat.new × (seat.new.me.0 ≡ record seat.old.me.0 { view = view_of seat.new }) }
     ensures grants { GrantsReads (K.good stm.now.rule) stm.now.config caller result local.old (view_of seat.old) local.new (view_of seat.new) }
+    ensures steps { TakesAtMost (2 + local.old.reads.len) (view_of seat.old) (view_of seat.new) }
 {
     let time = stm.settle(seat, caller);
     if time >= CLOCK_LIMIT {
@@ -143,6 +150,7 @@ fn store_all<K: MemRule>(seat: &mut Token<K>, local: &Local, stm: &Stm<K>, calle
     requires view { CanStoreAll stm.now.config.words local.now (view_of seat.old) }
     ensures same { IsSameSeat seat.old seat.new × (seat.new.me.0 ≡ record seat.old.me.0 { view = view_of seat.new }) }
     ensures stores { StoresAll local.now (view_of seat.old) (view_of seat.new) }
+    ensures steps { TakesAtMost local.now.writes.len (view_of seat.old) (view_of seat.new) }
 {
     for i in 0..local.writes.count() {
         let (a, x) = local.writes.item(i);

@@ -1,5 +1,5 @@
 //! The records of a commit: each is taken before the entry, and given back behind it.
-ghost use Rattle.alg_orec.specs.Counting.{TakesAtMost};
+ghost use Rattle.stm_rule.specs.Counting.{TakesAtMost};
 ghost use Rattle.std.specs.Prelude.{◌≡◌, ℕ, ◌<◌, ◌≤◌, ◌+◌, length, None, ◌*◌};
 ghost use Rattle.stm_model.specs.Memories.{item_at};
 ghost use Rattle.stm_rule.specs.Callers.{IsSeatOf};

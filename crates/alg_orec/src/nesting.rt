@@ -4,6 +4,7 @@ ghost use Rattle.std.specs.Prelude.{◌≡◌, ℕ, ◌≤◌};
 ghost use Rattle.stm_model.specs.declared.alg.Alg.TheVariants.{OrecLazy};
 ghost use Rattle.stm_rule.specs.Callers.{IsOf, IsSameCaller};
 ghost use Rattle.tx_answers.specs.Answers.{Checks, Rolls, Releases};
+ghost use Rattle.tx_answers.specs.Counting.{AddsAtMost};
 ghost use Rattle.tx_answers.specs.Known.{IsRunning};
 ghost use Rattle.stm_gate.specs.Knowing.{known, number};
 
@@ -19,6 +20,7 @@ pub fn checkpoint<K: MemRule>(desc: &mut Desc<K>) -> Check
     requires algorithm { (known desc.old).alg ≡ OrecLazy }
     ensures same { IsSameCaller desc.old desc.new }
     ensures checks { Checks result (known desc.old) (known desc.new) }
+    ensures steps { AddsAtMost 0 (known desc.old) (known desc.new) }
 {
     let depth = desc.local.depth;
     if depth >= MAX_MARKS {
@@ -43,6 +45,7 @@ pub fn roll_to<K: MemRule>(desc: &mut Desc<K>, stm: &Stm<K>, depth: usize) -> Ro
     requires high { depth ≤ (known desc.old).depth }
     ensures same { IsSameCaller desc.old desc.new }
     ensures rolls { Rolls (K.good stm.now.rule) stm.now.config (number desc.old) depth result (known desc.old) (known desc.new) }
+    ensures steps { AddsAtMost 0 (known desc.old) (known desc.new) }
 {
     let _ = stm;
     if desc.local.granted {
@@ -62,6 +65,7 @@ pub fn release<K: MemRule>(desc: &mut Desc<K>, depth: usize)
     requires high { depth ≤ (known desc.old).depth }
     ensures same { IsSameCaller desc.old desc.new }
     ensures releases { Releases depth (known desc.old) (known desc.new) }
+    ensures steps { AddsAtMost 0 (known desc.old) (known desc.new) }
 {
     if desc.local.granted {
         desc.local.depth = depth - 1;

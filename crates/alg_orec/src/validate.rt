@@ -3,7 +3,7 @@
 ghost use Rattle.std.specs.Prelude.{◌≡◌, ℕ, ◌+◌, ◌%◌, ◌<◌, ◌≤◌, length, IfSome};
 ghost use Rattle.stm_rule.specs.Callers.{IsSeatOf};
 ghost use Rattle.stm_rule.specs.Kept.{IsSameSeat, good_of, view_of};
-ghost use Rattle.alg_orec.specs.Counting.{TakesAtMost};
+ghost use Rattle.stm_rule.specs.Counting.{TakesAtMost};
 ghost use Rattle.alg_orec.specs.Validating.{HasVersions, MustLoad, IsLast, CanValidate, Judges, Passes, Validates};
 
 use crate::records::{held, pass};

@@ -1,6 +1,7 @@
 //! The calls of an attempt of RingSW. It writes into its write log, and reads the heap: behind each word it checks
 //! that no entry since its start wrote what it has read.
-ghost use Rattle.stm_gate.specs.Counting.{TakesAtMost, AddsAtMost};
+ghost use Rattle.stm_rule.specs.Counting.{TakesAtMost};
+ghost use Rattle.tx_answers.specs.Counting.{AddsAtMost};
 ghost use Rattle.std.specs.Prelude.{◌≡◌, ℕ, ◌<◌, true, false, None, ◌+◌, ◌*◌, ◌-◌};
 ghost use Rattle.rule_base.specs.History.{Inside};
 ghost use Rattle.stm_model.specs.Memories.{item_at};
@@ -39,6 +40,7 @@ pub fn begin<K: MemRule>(seat: &mut Token<K>, stm: &Stm<K>, caller: usize) -> Re
     requires view { CanBegin RingSw (view_of seat.old) }
     ensures same { IsSameSeat seat.old seat.new × (seat.new.me.0 ≡ record seat.old.me.0 { view = view_of seat.new }) }
     ensures begins { Starts (K.good stm.now.rule) stm.now.config caller RingSw result (view_of seat.old) (view_of seat.new) }
+    ensures steps { TakesAtMost 1 (view_of seat.old) (view_of seat.new) }
 {
     Ok(loads::begin(stm, seat, caller))
 }
@@ -53,7 +55,7 @@ pub fn read<K: MemRule>(desc: &mut Desc<K>, stm: &Stm<K>, a: usize) -> Read
     requires spared { fenced (known desc.old).fence a ≡ false }
     ensures same { IsSameCaller desc.old desc.new }
     ensures read { HasRead (K.good stm.now.rule) stm.now.config (number desc.old) a result (known desc.old) (known desc.new) }
-    ensures steps { AddsAtMost (8 + (known desc.old).reads_limit + 2 * (known desc.old).writes_limit + 16 * stm.now.config.ring) (known desc.old) (known desc.new) }
+    ensures steps { AddsAtMost (6 + 16 * (stm.now.config.ring - 1)) (known desc.old) (known desc.new) }
 {
     if desc.local.granted {
         return direct_load(desc, stm, a);
@@ -106,6 +108,7 @@ pub fn write<K: MemRule>(desc: &mut Desc<K>, stm: &Stm<K>, a: usize, x: u64) -> 
     requires spared { fenced (known desc.old).fence a ≡ false }
     ensures same { IsSameCaller desc.old desc.new }
     ensures write { HasWritten (K.good stm.now.rule) stm.now.config (number desc.old) a x result (known desc.old) (known desc.new) }
+    ensures steps { AddsAtMost 2 (known desc.old) (known desc.new) }
 {
     if desc.local.granted {
         return direct_store(desc, stm, a, x);
@@ -128,7 +131,7 @@ pub fn commit<K: MemRule>(desc: &mut Desc<K>, stm: &Stm<K>) -> Commit
     requires keeps { KeepsRule (K.good stm.now.rule) stm.now.config (number desc.old) (known desc.old) }
     ensures same { IsSameCaller desc.old desc.new }
     ensures commits { Commits (K.good stm.now.rule) stm.now.config (number desc.old) result (known desc.old) (known desc.new) }
-    ensures steps { AddsAtMost (10 + (known desc.old).reads_limit + 4 * (known desc.old).writes_limit + 16 * stm.now.config.ring) (known desc.old) (known desc.new) }
+    ensures steps { AddsAtMost (10 + (known desc.old).writes_limit + 16 * stm.now.config.ring) (known desc.old) (known desc.new) }
 {
     if desc.local.granted {
         return direct_commit(desc, stm);
@@ -283,7 +286,7 @@ pub fn cancel<K: MemRule>(desc: &mut Desc<K>, stm: &Stm<K>) -> Cancel
     requires algorithm { (known desc.old).alg ≡ RingSw }
     ensures same { IsSameCaller desc.old desc.new }
     ensures cancels { Cancels (K.good stm.now.rule) stm.now.config (number desc.old) result (known desc.old) (known desc.new) }
-    ensures steps { AddsAtMost (4 + 2 * (known desc.old).writes_limit) (known desc.old) (known desc.new) }
+    ensures steps { AddsAtMost 2 (known desc.old) (known desc.new) }
 {
     if desc.local.granted {
         return Cancel::Irrevocable;
@@ -302,6 +305,7 @@ pub fn become_irrevocable<K: MemRule>(desc: &mut Desc<K>, stm: &Stm<K>) -> Irrev
     requires algorithm { (known desc.old).alg ≡ RingSw }
     ensures same { IsSameCaller desc.old desc.new }
     ensures irrevs { Irrevs (K.good stm.now.rule) stm.now.config (number desc.old) result (known desc.old) (known desc.new) }
+    ensures steps { AddsAtMost (8 + stm.now.config.callers + (known desc.old).writes_limit + 16 * (stm.now.config.ring - 1)) (known desc.old) (known desc.new) }
 {
     if desc.local.granted {
         return Irrev::Granted;
@@ -322,6 +326,7 @@ fn grant<K: MemRule>(desc: &mut Desc<K>, stm: &Stm<K>) -> Irrev
     requires alone { IsAlone stm.now.config.callers (number desc.old) desc.old.view }
     ensures same { IsSameCaller desc.old desc.new }
     ensures grants { Grants (K.good stm.now.rule) stm.now.config (number desc.old) result (known desc.old) (known desc.new) }
+    ensures steps { AddsAtMost (6 + (known desc.old).writes_limit + 16 * (stm.now.config.ring - 1)) (known desc.old) (known desc.new) }
 {
     let caller = desc.number;
     let clock = stm.settle(&mut desc.seat, caller);
@@ -357,6 +362,7 @@ fn store_all<K: MemRule>(seat: &mut Token<K>, writes: &WriteLog, stm: &Stm<K>, c
     requires spared { Apart (view_of seat.old).gate.fence (cells_of writes.now.items) }
     ensures same { IsSameSeat seat.old seat.new × (seat.new.me.0 ≡ record seat.old.me.0 { view = view_of seat.new }) }
     ensures stores { Stores writes.now (view_of seat.old) (view_of seat.new) }
+    ensures steps { TakesAtMost writes.now.len (view_of seat.old) (view_of seat.new) }
 {
     for i in 0..writes.count() {
         let (a, x) = writes.item(i);

@@ -1,7 +1,8 @@
 //! CGL: one lock from begin to commit. An attempt reads and writes in place, and is irrevocable from its
 //! begin on.
-ghost use Rattle.stm_gate.specs.Counting.{AddsAtMost};
-ghost use Rattle.std.specs.Prelude.{◌≡◌, ℕ, ◌<◌, true, ◌+◌, ◌*◌, length, false};
+ghost use Rattle.stm_rule.specs.Counting.{TakesAtMost};
+ghost use Rattle.tx_answers.specs.Counting.{AddsAtMost};
+ghost use Rattle.std.specs.Prelude.{◌≡◌, ℕ, ◌<◌, true, false};
 ghost use Rattle.stm_model.specs.declared.alg.Alg.TheVariants.{Cgl};
 ghost use Rattle.stm_rule.specs.Callers.{IsOf, IsSameCaller, IsSeatOf};
 ghost use Rattle.stm_rule.specs.Kept.{IsSameSeat, view_of};
@@ -26,6 +27,7 @@ pub fn begin<K: MemRule>(seat: &mut Token<K>, stm: &Stm<K>, caller: usize) -> Re
     requires view { CanBegin Cgl (view_of seat.old) }
     ensures same { IsSameSeat seat.old seat.new × (seat.new.me.0 ≡ record seat.old.me.0 { view = view_of seat.new }) }
     ensures begins { Starts (K.good stm.now.rule) stm.now.config caller Cgl result (view_of seat.old) (view_of seat.new) }
+    ensures steps { TakesAtMost 3 (view_of seat.old) (view_of seat.new) }
 {
     let found = stm.take_lock(seat, caller);
     if found != 0 {
@@ -48,7 +50,7 @@ pub fn read<K: MemRule>(desc: &mut Desc<K>, stm: &Stm<K>, a: usize) -> Read
     requires spared { fenced (known desc.old).fence a ≡ false }
     ensures same { IsSameCaller desc.old desc.new }
     ensures read { HasRead (K.good stm.now.rule) stm.now.config (number desc.old) a result (known desc.old) (known desc.new) }
-    ensures steps { AddsAtMost (8 + (known desc.old).reads_limit + 2 * (known desc.old).writes_limit + 16 * stm.now.config.ring) (known desc.old) (known desc.new) }
+    ensures steps { AddsAtMost 1 (known desc.old) (known desc.new) }
 {
     lock::read(desc, stm, a)
 }
@@ -62,7 +64,7 @@ pub fn write<K: MemRule>(desc: &mut Desc<K>, stm: &Stm<K>, a: usize, x: u64) -> 
     requires spared { fenced (known desc.old).fence a ≡ false }
     ensures same { IsSameCaller desc.old desc.new }
     ensures write { HasWritten (K.good stm.now.rule) stm.now.config (number desc.old) a x result (known desc.old) (known desc.new) }
-    ensures steps { AddsAtMost (8 + (known desc.old).reads_limit + 2 * (known desc.old).writes_limit + 16 * stm.now.config.ring) (known desc.old) (known desc.new) }
+    ensures steps { AddsAtMost 1 (known desc.old) (known desc.new) }
 {
     stm.store_heap(&mut desc.seat, desc.number, a, x);
     desc.local.wrote = true;
@@ -77,7 +79,7 @@ pub fn commit<K: MemRule>(desc: &mut Desc<K>, stm: &Stm<K>) -> Commit
     requires keeps { KeepsRule (K.good stm.now.rule) stm.now.config (number desc.old) (known desc.old) }
     ensures same { IsSameCaller desc.old desc.new }
     ensures commits { Commits (K.good stm.now.rule) stm.now.config (number desc.old) result (known desc.old) (known desc.new) }
-    ensures steps { AddsAtMost (10 + (known desc.old).reads_limit + 4 * (known desc.old).writes_limit + 16 * stm.now.config.ring) (known desc.old) (known desc.new) }
+    ensures steps { AddsAtMost 3 (known desc.old) (known desc.new) }
 {
     lock::commit(desc, stm)
 }
@@ -89,7 +91,7 @@ pub fn cancel<K: MemRule>(desc: &mut Desc<K>, stm: &Stm<K>) -> Cancel
     requires algorithm { (known desc.old).alg ≡ Cgl }
     ensures same { IsSameCaller desc.old desc.new }
     ensures cancels { Cancels (K.good stm.now.rule) stm.now.config (number desc.old) result (known desc.old) (known desc.new) }
-    ensures steps { AddsAtMost (4 + 2 * (known desc.old).writes_limit) (known desc.old) (known desc.new) }
+    ensures steps { AddsAtMost 0 (known desc.old) (known desc.new) }
 {
     let _ = stm;
     Cancel::Irrevocable
@@ -102,6 +104,7 @@ pub fn become_irrevocable<K: MemRule>(desc: &mut Desc<K>, stm: &Stm<K>) -> Irrev
     requires algorithm { (known desc.old).alg ≡ Cgl }
     ensures same { IsSameCaller desc.old desc.new }
     ensures irrevs { Irrevs (K.good stm.now.rule) stm.now.config (number desc.old) result (known desc.old) (known desc.new) }
+    ensures steps { AddsAtMost 0 (known desc.old) (known desc.new) }
 {
     let _number = desc.number;
     let _ = stm;

@@ -1,6 +1,6 @@
 //! What CGL and Serial have in common: an attempt has the lock from begin to commit, and reads and writes
 //! in place.
-ghost use Rattle.stm_gate.specs.Counting.{AddsAtMost};
+ghost use Rattle.tx_answers.specs.Counting.{AddsAtMost};
 ghost use Rattle.std.specs.Prelude.{◌≡◌, ℕ, ◌<◌, true, ◌+◌, ◌*◌, length, false};
 ghost use Rattle.stm_model.specs.Algorithms.{takes_lock};
 ghost use Rattle.stm_rule.specs.Callers.{IsOf, IsSameCaller};
@@ -37,7 +37,7 @@ pub(crate) fn commit<K: MemRule>(desc: &mut Desc<K>, stm: &Stm<K>) -> Commit
     requires keeps { KeepsRule (K.good stm.now.rule) stm.now.config (number desc.old) (known desc.old) }
     ensures same { IsSameCaller desc.old desc.new }
     ensures commits { Commits (K.good stm.now.rule) stm.now.config (number desc.old) result (known desc.old) (known desc.new) }
-    ensures steps { AddsAtMost 4 (known desc.old) (known desc.new) }
+    ensures steps { AddsAtMost 3 (known desc.old) (known desc.new) }
 {
     let caller = desc.number;
     let start = desc.local.start;

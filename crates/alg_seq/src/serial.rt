@@ -1,7 +1,8 @@
 //! Serial: one lock from begin to commit, with an undo log. An attempt reads and writes in place, and can be
 //! taken back until it is made irrevocable.
-ghost use Rattle.stm_gate.specs.Counting.{TakesAtMost, AddsAtMost};
-ghost use Rattle.std.specs.Prelude.{◌≡◌, ℕ, ◌<◌, ◌≤◌, Result, Ok, Err, true, false, ◌+◌, length, ◌*◌};
+ghost use Rattle.stm_rule.specs.Counting.{TakesAtMost};
+ghost use Rattle.tx_answers.specs.Counting.{AddsAtMost};
+ghost use Rattle.std.specs.Prelude.{◌≡◌, ℕ, ◌<◌, ◌≤◌, Result, Ok, Err, MatchResult, true, false, ◌+◌};
 ghost use Rattle.stm_model.specs.declared.alg.Alg.TheVariants.{Serial};
 ghost use Rattle.stm_rule.specs.Attempts.{IsInside, ended};
 ghost use Rattle.stm_rule.specs.Callers.{IsOf, IsSameCaller, IsSeatOf};
@@ -31,6 +32,7 @@ pub fn begin<K: MemRule>(seat: &mut Token<K>, stm: &Stm<K>, caller: usize) -> Re
     requires view { CanBegin Serial (view_of seat.old) }
     ensures same { IsSameSeat seat.old seat.new × (seat.new.me.0 ≡ record seat.old.me.0 { view = view_of seat.new }) }
     ensures begins { Starts (K.good stm.now.rule) stm.now.config caller Serial result (view_of seat.old) (view_of seat.new) }
+    ensures steps { TakesAtMost 2 (view_of seat.old) (view_of seat.new) }
 {
     let found = stm.take_lock(seat, caller);
     if found != 0 {
@@ -48,7 +50,7 @@ pub fn read<K: MemRule>(desc: &mut Desc<K>, stm: &Stm<K>, a: usize) -> Read
     requires spared { fenced (known desc.old).fence a ≡ false }
     ensures same { IsSameCaller desc.old desc.new }
     ensures read { HasRead (K.good stm.now.rule) stm.now.config (number desc.old) a result (known desc.old) (known desc.new) }
-    ensures steps { AddsAtMost (8 + (known desc.old).reads_limit + 2 * (known desc.old).writes_limit + 16 * stm.now.config.ring) (known desc.old) (known desc.new) }
+    ensures steps { AddsAtMost 1 (known desc.old) (known desc.new) }
 {
     lock::read(desc, stm, a)
 }
@@ -63,7 +65,7 @@ pub fn write<K: MemRule>(desc: &mut Desc<K>, stm: &Stm<K>, a: usize, x: u64) -> 
     requires spared { fenced (known desc.old).fence a ≡ false }
     ensures same { IsSameCaller desc.old desc.new }
     ensures write { HasWritten (K.good stm.now.rule) stm.now.config (number desc.old) a x result (known desc.old) (known desc.new) }
-    ensures steps { AddsAtMost (8 + (known desc.old).reads_limit + 2 * (known desc.old).writes_limit + 16 * stm.now.config.ring) (known desc.old) (known desc.new) }
+    ensures steps { AddsAtMost (4 + (known desc.old).writes_limit) (known desc.old) (known desc.new) }
 {
     let caller = desc.number;
     match keep_old(&mut desc.seat, &mut desc.local, stm, caller, a) {
@@ -84,7 +86,7 @@ pub fn commit<K: MemRule>(desc: &mut Desc<K>, stm: &Stm<K>) -> Commit
     requires keeps { KeepsRule (K.good stm.now.rule) stm.now.config (number desc.old) (known desc.old) }
     ensures same { IsSameCaller desc.old desc.new }
     ensures commits { Commits (K.good stm.now.rule) stm.now.config (number desc.old) result (known desc.old) (known desc.new) }
-    ensures steps { AddsAtMost (10 + (known desc.old).reads_limit + 4 * (known desc.old).writes_limit + 16 * stm.now.config.ring) (known desc.old) (known desc.new) }
+    ensures steps { AddsAtMost 3 (known desc.old) (known desc.new) }
 {
     lock::commit(desc, stm)
 }
@@ -96,7 +98,7 @@ pub fn cancel<K: MemRule>(desc: &mut Desc<K>, stm: &Stm<K>) -> Cancel
     requires algorithm { (known desc.old).alg ≡ Serial }
     ensures same { IsSameCaller desc.old desc.new }
     ensures cancels { Cancels (K.good stm.now.rule) stm.now.config (number desc.old) result (known desc.old) (known desc.new) }
-    ensures steps { AddsAtMost (4 + 2 * (known desc.old).writes_limit) (known desc.old) (known desc.new) }
+    ensures steps { AddsAtMost (2 + (known desc.old).writes_limit) (known desc.old) (known desc.new) }
 {
     if desc.local.granted {
         return Cancel::Irrevocable;
@@ -115,6 +117,7 @@ pub fn become_irrevocable<K: MemRule>(desc: &mut Desc<K>, stm: &Stm<K>) -> Irrev
     requires algorithm { (known desc.old).alg ≡ Serial }
     ensures same { IsSameCaller desc.old desc.new }
     ensures irrevs { Irrevs (K.good stm.now.rule) stm.now.config (number desc.old) result (known desc.old) (known desc.new) }
+    ensures steps { AddsAtMost (3 + (known desc.old).writes_limit) (known desc.old) (known desc.new) }
 {
     if desc.local.granted {
         return Irrev::Granted;
@@ -148,7 +151,7 @@ fn keep_old<K: MemRule>(
     requires spared { fenced (view_of seat.old).gate.fence a ≡ false }
     ensures same { IsSameSeat seat.old seat.new × (seat.new.me.0 ≡ record seat.old.me.0 { view = view_of seat.new }) }
     ensures keeps { KeepsOld (K.good stm.now.rule) stm.now.config caller a result local.old (view_of seat.old) local.new (view_of seat.new) }
-    ensures steps { TakesAtMost (5 + local.old.undo.len) (view_of seat.old) (view_of seat.new) }
+    ensures steps { MatchResult result (λ _. TakesAtMost 2 (view_of seat.old) (view_of seat.new)) (λ _. TakesAtMost (4 + local.old.undo.len) (view_of seat.old) (view_of seat.new)) }
 {
     if local.granted {
         return Ok(());
@@ -226,7 +229,7 @@ fn roll_back<K: MemRule>(seat: &mut Token<K>, local: &mut Local, stm: &Stm<K>, c
     ensures ended { local.new ≡ ended local.old }
     ensures some { 1 ≤ local.old.undo.len }
     ensures gives_up { GivesUp caller (view_of seat.old) (view_of seat.new) }
-    ensures steps { TakesAtMost (3 + local.old.undo.len) (view_of seat.old) (view_of seat.new) }
+    ensures steps { TakesAtMost (2 + local.old.undo.len) (view_of seat.old) (view_of seat.new) }
 {
     for i in 0..local.undo.count() {
         let (a, x) = local.undo.item(i);

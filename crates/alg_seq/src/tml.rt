@@ -1,8 +1,9 @@
 //! TML, the mutex-like sequence lock of Dalessandro, Dice, Scott, Shavit and Spear ("Transactional Mutex
 //! Locks", 2010): the clock is even while nobody writes. A reader loads it again behind each word, and the
 //! first write makes it odd; from then on the attempt is irrevocable, and works in place.
-ghost use Rattle.stm_gate.specs.Counting.{AddsAtMost};
-ghost use Rattle.std.specs.Prelude.{◌≡◌, ℕ, ◌<◌, true, false, Result, Ok, Err, ◌+◌, ◌*◌, length};
+ghost use Rattle.stm_rule.specs.Counting.{TakesAtMost};
+ghost use Rattle.tx_answers.specs.Counting.{AddsAtMost};
+ghost use Rattle.std.specs.Prelude.{◌≡◌, ℕ, ◌<◌, true, false, Result, Ok, Err, ◌+◌};
 ghost use Rattle.stm_model.specs.declared.alg.Alg.TheVariants.{Tml};
 ghost use Rattle.stm_rule.specs.Callers.{IsOf, IsSameCaller, IsSeatOf};
 ghost use Rattle.stm_rule.specs.Kept.{IsSameSeat, view_of};
@@ -30,6 +31,7 @@ pub fn begin<K: MemRule>(seat: &mut Token<K>, stm: &Stm<K>, caller: usize) -> Re
     requires view { CanBegin Tml (view_of seat.old) }
     ensures same { IsSameSeat seat.old seat.new × (seat.new.me.0 ≡ record seat.old.me.0 { view = view_of seat.new }) }
     ensures begins { Starts (K.good stm.now.rule) stm.now.config caller Tml result (view_of seat.old) (view_of seat.new) }
+    ensures steps { TakesAtMost 1 (view_of seat.old) (view_of seat.new) }
 {
     let clock = stm.tml_begin(seat, caller);
     if clock % 2 == 1 {
@@ -48,7 +50,7 @@ pub fn read<K: MemRule>(desc: &mut Desc<K>, stm: &Stm<K>, a: usize) -> Read
     requires spared { fenced (known desc.old).fence a ≡ false }
     ensures same { IsSameCaller desc.old desc.new }
     ensures read { HasRead (K.good stm.now.rule) stm.now.config (number desc.old) a result (known desc.old) (known desc.new) }
-    ensures steps { AddsAtMost (8 + (known desc.old).reads_limit + 2 * (known desc.old).writes_limit + 16 * stm.now.config.ring) (known desc.old) (known desc.new) }
+    ensures steps { AddsAtMost 4 (known desc.old) (known desc.new) }
 {
     if desc.local.granted {
         return direct_load(desc, stm, a);
@@ -80,7 +82,7 @@ pub fn write<K: MemRule>(desc: &mut Desc<K>, stm: &Stm<K>, a: usize, x: u64) -> 
     requires spared { fenced (known desc.old).fence a ≡ false }
     ensures same { IsSameCaller desc.old desc.new }
     ensures write { HasWritten (K.good stm.now.rule) stm.now.config (number desc.old) a x result (known desc.old) (known desc.new) }
-    ensures steps { AddsAtMost (8 + (known desc.old).reads_limit + 2 * (known desc.old).writes_limit + 16 * stm.now.config.ring) (known desc.old) (known desc.new) }
+    ensures steps { AddsAtMost 4 (known desc.old) (known desc.new) }
 {
     if desc.local.granted {
         return direct_store(desc, stm, a, x);
@@ -102,7 +104,7 @@ fn first_write<K: MemRule>(desc: &mut Desc<K>, stm: &Stm<K>, a: usize, x: u64) -
     requires spared { fenced (known desc.old).fence a ≡ false }
     ensures same { IsSameCaller desc.old desc.new }
     ensures write { HasWritten (K.good stm.now.rule) stm.now.config (number desc.old) a x result (known desc.old) (known desc.new) }
-    ensures steps { AddsAtMost 6 (known desc.old) (known desc.new) }
+    ensures steps { AddsAtMost 4 (known desc.old) (known desc.new) }
 {
     let caller = desc.number;
     let start = desc.local.start;
@@ -140,7 +142,7 @@ pub fn commit<K: MemRule>(desc: &mut Desc<K>, stm: &Stm<K>) -> Commit
     requires keeps { KeepsRule (K.good stm.now.rule) stm.now.config (number desc.old) (known desc.old) }
     ensures same { IsSameCaller desc.old desc.new }
     ensures commits { Commits (K.good stm.now.rule) stm.now.config (number desc.old) result (known desc.old) (known desc.new) }
-    ensures steps { AddsAtMost (10 + (known desc.old).reads_limit + 4 * (known desc.old).writes_limit + 16 * stm.now.config.ring) (known desc.old) (known desc.new) }
+    ensures steps { AddsAtMost 5 (known desc.old) (known desc.new) }
 {
     if desc.local.granted {
         return direct_commit(desc, stm);
@@ -164,7 +166,7 @@ pub fn cancel<K: MemRule>(desc: &mut Desc<K>, stm: &Stm<K>) -> Cancel
     requires algorithm { (known desc.old).alg ≡ Tml }
     ensures same { IsSameCaller desc.old desc.new }
     ensures cancels { Cancels (K.good stm.now.rule) stm.now.config (number desc.old) result (known desc.old) (known desc.new) }
-    ensures steps { AddsAtMost (4 + 2 * (known desc.old).writes_limit) (known desc.old) (known desc.new) }
+    ensures steps { AddsAtMost 2 (known desc.old) (known desc.new) }
 {
     if desc.local.granted {
         return Cancel::Irrevocable;
@@ -186,6 +188,7 @@ pub fn become_irrevocable<K: MemRule>(desc: &mut Desc<K>, stm: &Stm<K>) -> Irrev
     requires algorithm { (known desc.old).alg ≡ Tml }
     ensures same { IsSameCaller desc.old desc.new }
     ensures irrevs { Irrevs (K.good stm.now.rule) stm.now.config (number desc.old) result (known desc.old) (known desc.new) }
+    ensures steps { AddsAtMost (5 + stm.now.config.callers) (known desc.old) (known desc.new) }
 {
     if desc.local.granted {
         return Irrev::Granted;
@@ -209,6 +212,7 @@ fn grant<K: MemRule>(desc: &mut Desc<K>, stm: &Stm<K>) -> Irrev
     requires alone { IsAlone stm.now.config.callers (number desc.old) desc.old.view }
     ensures same { IsSameCaller desc.old desc.new }
     ensures grants { Grants (K.good stm.now.rule) stm.now.config (number desc.old) result (known desc.old) (known desc.new) }
+    ensures steps { AddsAtMost 3 (known desc.old) (known desc.new) }
 {
     let caller = desc.number;
     let start = desc.local.start;

@@ -15,4 +15,3 @@ pub mod Told
 pub mod Starts
 pub mod Granting
 pub mod DirectLaws
-pub mod Counting

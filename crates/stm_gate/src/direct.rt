@@ -1,5 +1,5 @@
 //! The calls of a promoted attempt, which is alone: it loads and stores the heap, whatever its algorithm.
-ghost use Rattle.stm_gate.specs.Counting.{AddsAtMost};
+ghost use Rattle.tx_answers.specs.Counting.{AddsAtMost};
 ghost use Rattle.std.specs.Prelude.{◌≡◌, ℕ, ◌<◌, true, false, ◌+◌};
 ghost use Rattle.rule_orec.specs.OrecSteps.{is_eager};
 ghost use Rattle.stm_model.specs.Algorithms.{closes_gate, entry_rise};
@@ -26,7 +26,7 @@ pub fn direct_load<K: MemRule>(desc: &mut Desc<K>, stm: &Stm<K>, a: usize) -> Re
     requires spared { fenced (known desc.old).fence a ≡ false }
     ensures same { IsSameCaller desc.old desc.new }
     ensures read { HasRead (K.good stm.now.rule) stm.now.config (number desc.old) a result (known desc.old) (known desc.new) }
-    ensures steps { AddsAtMost (1) (known desc.old) (known desc.new) }
+    ensures steps { AddsAtMost 1 (known desc.old) (known desc.new) }
 {
     Read::Value(stm.direct_load(&mut desc.seat, desc.number, a))
 }
@@ -41,7 +41,7 @@ pub fn direct_store<K: MemRule>(desc: &mut Desc<K>, stm: &Stm<K>, a: usize, x: u
     requires spared { fenced (known desc.old).fence a ≡ false }
     ensures same { IsSameCaller desc.old desc.new }
     ensures write { HasWritten (K.good stm.now.rule) stm.now.config (number desc.old) a x result (known desc.old) (known desc.new) }
-    ensures steps { AddsAtMost (1) (known desc.old) (known desc.new) }
+    ensures steps { AddsAtMost 1 (known desc.old) (known desc.new) }
 {
     stm.direct_store(&mut desc.seat, desc.number, a, x);
     desc.local.wrote = true;
@@ -59,7 +59,7 @@ pub fn direct_commit<K: MemRule>(desc: &mut Desc<K>, stm: &Stm<K>) -> Commit
     requires keeps { KeepsRule (K.good stm.now.rule) stm.now.config (number desc.old) (known desc.old) }
     ensures same { IsSameCaller desc.old desc.new }
     ensures commits { Commits (K.good stm.now.rule) stm.now.config (number desc.old) result (known desc.old) (known desc.new) }
-    ensures steps { AddsAtMost (5 + (known desc.old).writes_limit) (known desc.old) (known desc.new) }
+    ensures steps { AddsAtMost 5 (known desc.old) (known desc.new) }
 {
     let caller = desc.number;
     let start = desc.local.start;

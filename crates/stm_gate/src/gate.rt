@@ -4,7 +4,8 @@
 //! A caller stores 1 in its status before it loads the gate. So whoever closes the gate and then finds a
 //! status 0 knows that this caller, should it announce later, will load a closed gate and withdraw
 //! (Spear, "Lightweight, Robust Adaptivity for Software Transactional Memory", SPAA 2010).
-ghost use Rattle.stm_gate.specs.Counting.{TakesAtMost, AddsAtMost};
+ghost use Rattle.stm_rule.specs.Counting.{TakesAtMost};
+ghost use Rattle.tx_answers.specs.Counting.{AddsAtMost};
 ghost use Rattle.std.specs.Prelude.{◌≡◌, ℕ, ◌<◌, true, false};
 ghost use Rattle.rule_base.specs.InstallSteps.{CanSettle};
 ghost use Rattle.rule_base.specs.declared.views.Phase.TheVariants.{Closing};
@@ -116,7 +117,7 @@ pub fn reopen<K: MemRule>(desc: &mut Desc<K>, stm: &Stm<K>)
     requires closing { HoldsClosed (known desc.old) }
     ensures same { IsSameCaller desc.old desc.new }
     ensures reopens { Reopens (K.good stm.now.rule) stm.now.config (number desc.old) (known desc.old) (known desc.new) }
-    ensures steps { AddsAtMost 2 (known desc.old) (known desc.new) }
+    ensures steps { AddsAtMost 1 (known desc.old) (known desc.new) }
 {
     let caller = desc.number;
     let fence = desc.local.fence;

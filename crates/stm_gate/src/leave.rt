@@ -1,6 +1,6 @@
 //! The end of an attempt, under every algorithm: the gate is reopened where the attempt holds it, and the
 //! status becomes 0.
-ghost use Rattle.stm_gate.specs.Counting.{TakesAtMost};
+ghost use Rattle.stm_rule.specs.Counting.{TakesAtMost};
 ghost use Rattle.std.specs.Prelude.{◌≡◌, ℕ, ◌<◌};
 ghost use Rattle.stm_rule.specs.Attempts.{IsFenceOf, IsOutside, ended};
 ghost use Rattle.stm_rule.specs.Callers.{IsSeatOf};

@@ -1,5 +1,5 @@
 //! Looking at the other callers, by the one that holds the gate.
-ghost use Rattle.stm_gate.specs.Counting.{AddsAtMost};
+ghost use Rattle.tx_answers.specs.Counting.{AddsAtMost};
 ghost use Rattle.std.specs.Prelude.{◌≡◌, ℕ, ◌<◌, true};
 ghost use Rattle.stm_rule.specs.Attempts.{HasLooked};
 ghost use Rattle.stm_rule.specs.Callers.{IsOf, IsSameCaller};

@@ -1,8 +1,9 @@
 //! A running attempt that is to be alone: it closes the gate, and waits until all others are idle.
-ghost use Rattle.std.specs.Prelude.{◌≡◌, ℕ, true, false};
+ghost use Rattle.std.specs.Prelude.{◌≡◌, ℕ, ◌+◌, true, false};
 ghost use Rattle.stm_model.specs.Algorithms.{closes_gate};
 ghost use Rattle.stm_rule.specs.Callers.{IsOf, IsSameCaller};
 ghost use Rattle.tx_answers.specs.Answers.{IsOpaque};
+ghost use Rattle.tx_answers.specs.Counting.{AddsAtMost};
 ghost use Rattle.tx_answers.specs.Known.{IsRunning, is_irrevocable};
 ghost use Rattle.stm_gate.specs.Knowing.{known, number};
 ghost use Rattle.stm_gate.specs.Promoting.{ClosesFor, Promotes};
@@ -34,6 +35,7 @@ pub fn promote<K: MemRule>(desc: &mut Desc<K>, stm: &Stm<K>) -> Promotion
     requires revocable { is_irrevocable (known desc.old) ≡ false }
     ensures same { IsSameCaller desc.old desc.new }
     ensures promotes { Promotes stm.now.config (number desc.old) (K.good stm.now.rule) result (known desc.old) (known desc.new) }
+    ensures steps { AddsAtMost (2 + stm.now.config.callers) (known desc.old) (known desc.new) }
 {
     match close_for(desc, stm) {
         Some(gate) => Promotion::Taken { gate },
@@ -55,6 +57,7 @@ fn close_for<K: MemRule>(desc: &mut Desc<K>, stm: &Stm<K>) -> Option<u64>
     ensures own { desc.new.own ≡ desc.old.own }
     ensures opaque { IsOpaque (K.good stm.now.rule) stm.now.config (number desc.old) (known desc.old) }
     ensures closes { ClosesFor stm.now.config (number desc.old) result desc.old.view desc.new.view }
+    ensures steps { AddsAtMost 2 (known desc.old) (known desc.new) }
 {
     if desc.local.holds {
         return None;

@@ -16,6 +16,7 @@ pub mod Quiescence
 pub mod RestLaws
 pub mod InstallingLaws
 pub mod Kept
+pub mod Counting
 pub mod Refusals
 pub mod RecordsKept
 pub mod EagerKept

@@ -1,4 +1,5 @@
 pub mod Known
+pub mod Counting
 pub mod Evidence
 pub mod Causes
 pub mod Answers

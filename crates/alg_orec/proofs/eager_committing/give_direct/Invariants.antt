@@ -2,7 +2,7 @@ use Rattle.std.proofs.Common.{◌≡◌, List, drop}
 use Rattle.rule_base.specs.declared.views.TrailItem.{TrailItem}
 use Rattle.rule_base.specs.Bridge.{items}
 use Rattle.rule_base.specs.History.{Inside}
-use Rattle.alg_orec.specs.Counting.{TakesAtMost}
+use Rattle.stm_rule.specs.Counting.{TakesAtMost}
 use Rattle.alg_orec.specs.Locking.{holding_still}
 use Rattle.alg_orec.proofs.eager_committing.give_direct.Given as goal
 

@@ -3,7 +3,7 @@ use Rattle.rule_base.specs.declared.entries.Cell.{Cell}
 use Rattle.rule_base.specs.declared.views.TrailItem.{TrailItem}
 use Rattle.rule_base.specs.Bridge.{items}
 use Rattle.rule_base.specs.History.{Inside}
-use Rattle.alg_orec.specs.Counting.{TakesAtMost}
+use Rattle.stm_rule.specs.Counting.{TakesAtMost}
 use Rattle.alg_orec.specs.EagerEnding.{restoring}
 use Rattle.alg_orec.proofs.eager_ending.restore_all.Given as goal
 

@@ -1,4 +1,4 @@
-use Rattle.std.proofs.Common.{ℕ, suc, ◌≡◌, ◌<◌, ◌+◌, List, [], ◌∷◌, length, take, refl, sym, ap, ◌∙◌, arith}
+use Rattle.std.proofs.Common.{ℕ, suc, ◌≡◌, ◌<◌, ◌≤◌, ◌+◌, List, [], ◌∷◌, length, take, refl, sym, ap, ◌∙◌, arith}
 use Rattle.std.proofs.lemmas.List.{take_all}
 use Rattle.rule_base.specs.Encodings.{fenced}
 use Rattle.rule_base.specs.declared.entries.Cell.{Cell}
@@ -9,7 +9,7 @@ use Rattle.alg_orec.proofs.Writing.{storing, store_item, stored-step}
 use Rattle.alg_orec.proofs.granting.store_all.Goals as goal
 
 pub loop-i-init : goal.loop-i-init
-loop-i-init g c = let k = c.requires.view in record { table = refl; id = refl; bare = refl; more = []; seat = refl; stores = k.unstored }
+loop-i-init g c = let k = c.requires.view in record { table = refl; id = refl; bare = refl; steps = omega arith; more = []; seat = refl; stores = k.unstored }
 
 pub direct_store-requires-clause-view : goal.direct_store-requires-clause-view
 direct_store-requires-clause-view g c =
@@ -41,6 +41,7 @@ loop-i-preserved g c =
     record {
       table = same.0 ∙ i.table;
       id = same.1 ∙ i.id;
+      steps = (let l = ap (λ (y : SeatView g.row.K.Denot). length y.view.steps.trail) step.3 in let q = i.steps in omega arith);
       bare = same.2 ∙ i.bare;
       more = store_item a c.item-a.result.1 ∷ i.more;
       seat = stored-step c.args.seat.now.me.0 s t i.more a c.item-a.result.1 step.0 i.seat step.3;
@@ -53,3 +54,9 @@ returns-clause-stores g c =
     let ws = c.args.local.now.writes.items in
     let all : cells_of (take c.loop-i.i ws) ≡ cells_of ws = ap cells_of (take_all c.loop-i.i ws (omega (arith, c.loop-i-test.false, c.count-i-end.ensures.count))) in
     record { more = i.more; is = ap (λ (y : SeatView g.row.K.Denot). y.view) i.seat ∙ ap (λ (cs : List Cell). storing c.args.seat.now.me.0.view cs i.more) (i.stores ∙ all) }
+
+pub returns-clause-steps : goal.returns-clause-steps
+returns-clause-steps g c =
+    let q = c.loop-i.invariant.steps in
+    let k = c.count-i-end.ensures in let most : c.loop-i.i ≤ c.args.local.now.writes.len = omega (arith, c.loop-i.auto.i-end, k) in
+    omega arith

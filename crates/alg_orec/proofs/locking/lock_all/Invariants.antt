@@ -2,7 +2,7 @@ use Rattle.std.proofs.Common.{◌*◌, ℕ, ◌≡◌, ◌<◌, ◌≤◌, List,
 use Rattle.rule_base.specs.declared.views.TrailItem.{TrailItem}
 use Rattle.rule_base.specs.History.{over, touches}
 use Rattle.rule_base.specs.Ranks.{home_of}
-use Rattle.alg_orec.specs.Counting.{TakesAtMost}
+use Rattle.stm_rule.specs.Counting.{TakesAtMost}
 use Rattle.alg_orec.specs.Locking.{Locks}
 use Rattle.alg_orec.proofs.locking.lock_all.Given as goal
 

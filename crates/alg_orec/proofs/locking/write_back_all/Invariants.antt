@@ -1,7 +1,7 @@
 use Rattle.std.proofs.Common.{◌≡◌, List, drop}
 use Rattle.rule_base.specs.declared.views.TrailItem.{TrailItem}
 use Rattle.rule_base.specs.Bridge.{items}
-use Rattle.alg_orec.specs.Counting.{TakesAtMost}
+use Rattle.stm_rule.specs.Counting.{TakesAtMost}
 use Rattle.alg_orec.proofs.Writing.{owing}
 use Rattle.alg_orec.proofs.locking.write_back_all.Given as goal
 

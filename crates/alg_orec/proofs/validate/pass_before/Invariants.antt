@@ -1,5 +1,5 @@
 use Rattle.std.proofs.Common.{◌≡◌}
-use Rattle.alg_orec.specs.Counting.{TakesAtMost}
+use Rattle.stm_rule.specs.Counting.{TakesAtMost}
 use Rattle.alg_orec.specs.Validating.{HasPassed}
 use Rattle.alg_orec.proofs.validate.pass_before.Given as goal
 

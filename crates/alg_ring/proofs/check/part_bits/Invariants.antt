@@ -1,5 +1,5 @@
 use Rattle.std.proofs.Common.{◌-◌, ◌≡◌, ◌≤◌, ◌*◌}
-use Rattle.alg_ring.specs.Counting.{TakesAtMost}
+use Rattle.stm_rule.specs.Counting.{TakesAtMost}
 use Rattle.alg_ring.proofs.Slot.{PartSoFar}
 use Rattle.alg_ring.proofs.check.part_bits.Given as goal
 

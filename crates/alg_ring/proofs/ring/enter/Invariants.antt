@@ -2,7 +2,7 @@ use Rattle.std.proofs.Common.{◌≡◌, ◌<◌, List}
 use Rattle.rule_base.specs.declared.entries.Cell.{Cell}
 use Rattle.rule_base.specs.declared.views.TrailItem.{TrailItem}
 use Rattle.stm_rule.specs.RecordsKept.{cells_of}
-use Rattle.stm_gate.specs.Counting.{TakesAtMost}
+use Rattle.stm_rule.specs.Counting.{TakesAtMost}
 use Rattle.alg_ring.proofs.Entering.{slotted_at}
 use Rattle.alg_ring.proofs.ring.enter.Given as goal
 

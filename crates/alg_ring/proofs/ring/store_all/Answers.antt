@@ -13,7 +13,7 @@ use Rattle.alg_ring.proofs.Buffering.{next-stored, take-all, item-inside, stored
 use Rattle.alg_ring.proofs.ring.store_all.Goals as goal
 
 pub loop-i-init : goal.loop-i-init
-loop-i-init g c = record { table = refl; id = refl; bare = refl; more = []; seat = refl }
+loop-i-init g c = record { table = refl; id = refl; bare = refl; steps = omega arith; more = []; seat = refl }
 
 pub direct_store-requires-clause-seat : goal.direct_store-requires-clause-seat
 direct_store-requires-clause-seat g c = let i = c.loop-i.invariant in (i.table ∙ c.requires.seat.0, ap (λ (y : SeatView g.row.K.Denot). y.who.role) i.seat ∙ c.requires.seat.1)
@@ -46,6 +46,7 @@ loop-i-preserved g c =
     record {
       table = same.0 ∙ i.table;
       id = same.1 ∙ i.id;
+      steps = (let l = ap (λ (y : SeatView g.row.K.Denot). length y.view.steps.trail) step.3 in let q = i.steps in omega arith);
       bare = same.2 ∙ i.bare;
       more = record { place = Heap a; act = Store x; found = None } ∷ i.more;
       seat = step.3 ∙ (ap (λ (y : SeatView g.row.K.Denot). record y { view = view_after (direct_store a x) step.0 y.view x }) i.seat

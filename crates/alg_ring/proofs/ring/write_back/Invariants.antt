@@ -1,7 +1,7 @@
 use Rattle.std.proofs.Common.{◌≡◌, List, drop}
 use Rattle.rule_base.specs.declared.views.TrailItem.{TrailItem}
 use Rattle.stm_rule.specs.RecordsKept.{cells_of}
-use Rattle.stm_gate.specs.Counting.{TakesAtMost}
+use Rattle.stm_rule.specs.Counting.{TakesAtMost}
 use Rattle.alg_ring.proofs.Buffering.{back_at}
 use Rattle.alg_ring.proofs.ring.write_back.Given as goal
 

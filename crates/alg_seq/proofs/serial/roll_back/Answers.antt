@@ -127,7 +127,8 @@ pub returns-clause-steps : goal.returns-clause-steps
 returns-clause-steps g c =
     let s = c.free_lock.new.seat.me.0.view in
     let e = ap (λ (y : SeatView g.row.K.Denot). length y.view.steps.trail) c.leave.ensures.left in
-    let two = takes-left c.args.caller s in
+    let free = ap (λ (y : SeatView g.row.K.Denot). y.view.gate.holds) c.free_lock.ensures.step.3 ∙ (ap (λ (y : SeatView g.row.K.Denot). y.view.gate.holds) c.loop-i.invariant.seat ∙ c.requires.free.1) in
+    let last = takes-left c.args.caller s free in
     let one = ap (λ (y : SeatView g.row.K.Denot). length y.view.steps.trail) c.free_lock.ensures.step.3 in
     let q = c.loop-i.invariant.steps in
     let k = c.count-i-end.ensures in let most : c.loop-i.i ≤ c.args.local.now.undo.len = omega (arith, c.loop-i.auto.i-end, k) in
