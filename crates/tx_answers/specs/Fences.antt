@@ -1,5 +1,5 @@
 -- When each answer of the calls on a range of words comes, and what stands after it.
-use Rattle.std.specs.Prelude.{ℕ, ◌≡◌, ◌≢◌, ◌<◌, ◌≤◌, ◌+◌, true, false, List, [], ◌∷◌, ◌++◌, length, slice_index, MatchOption}
+use Rattle.std.specs.Prelude.{ℕ, ◌≡◌, ◌≢◌, ◌<◌, ◌≤◌, ◌+◌, Bool, true, false, if◌then◌else◌, nat_le, ltb, List, [], ◌∷◌, ◌++◌, length, slice_index, MatchOption}
 use Rattle.stm_model.specs.Algorithms.{entry_rise}
 use Rattle.stm_model.specs.declared.config.Config.{Config}
 use Rattle.stm_model.specs.Histories.{Entry, memory_after, IsLegal}
@@ -28,6 +28,10 @@ pub record StaysBeside (v w : Known) : Type 0 where
   pub item : TrailItem
   pub trail : w.trail ≡ item ∷ v.trail
 
+-- the address is one of `count` addresses from `from`
+abbrev pub is_within : ℕ → ℕ → ℕ → Bool
+is_within from count a = if nat_le from a then ltb a (from + count) else false
+
 -- the caller has no range any more
 abbrev pub HasNone : Known → Type 0
 HasNone w = (w.fence ≡ 0) × (w.fenced.held ≡ false)
@@ -47,6 +51,7 @@ module _ (good : List ℕ → Type 0) (c : Config) (n : ℕ) where
     pub settled : w.settled ≡ v.settled
     pub fence : w.fence ≡ fence_number n from count
     pub range : w.fenced ≡ record v.fenced { held = true; number = fence_number n from count; seen = w.fenced.seen; front = w.fenced.front; log = no_log }
+    pub words : (a : ℕ) → fenced w.fenced.number a ≡ is_within from count a
     pub legal : IsLegal good (zeros c.words) c.clock w.fenced.seen
     pub later : List Entry
     pub seen : w.fenced.seen ≡ v.seen ++ later
