@@ -1,2 +1,3 @@
 mod Closing
 mod InstallLaws
+mod FenceLaws

@@ -3,6 +3,7 @@
 #![tactic(auto)]
 
 pub mod direct;
+pub mod fence;
 pub mod gate;
 pub mod leave;
 pub mod looking;

@@ -35,7 +35,7 @@ all_without w (k ∷ ks) zero s = s.1
 all_without w (k ∷ ks) (suc i) s = (s.0, all_without w ks i s.1)
 
 module _ (good : (ℕ → ℕ) → Type 0) (c : Config) where
-  one_deed : (n : ℕ) (d : Deed) (x : Shared) → SharedRule good c x → MayDo good c n d x → SharedRule good c (after_deed n d x)
+  pub one_deed : (n : ℕ) (d : Deed) (x : Shared) → SharedRule good c x → MayDo good c n d x → SharedRule good c (after_deed n d x)
   one_deed n (steps step) x r may =
       let o = one_step good c n step x.world r.rule may in
       record { rule = o.0; seen = all_later x.world (world_after (core_kind n step) n x.world) x.notes o.1 r.seen }

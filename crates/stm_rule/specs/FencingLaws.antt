@@ -37,6 +37,7 @@ use Rattle.rule_seq.specs.LockLemmas.{lock_scene-kept}
 use Rattle.rule_seq.specs.LockRule.{LockRule}
 use Rattle.stm_rule.specs.Alone.{alone-kept}
 use Rattle.stm_rule.specs.ClosingLaws.{regime-handed}
+use Rattle.stm_rule.specs.FenceFindings.{FindsPast}
 use Rattle.stm_rule.specs.Frames.{is-caller, same-horizon, ungranted-out}
 use Rattle.stm_rule.specs.Product.{Runs, Core, Whole}
 use Rattle.stm_rule.specs.Raised.{raised-put}
@@ -153,7 +154,7 @@ module _ (good : (ℕ → ℕ) → Type 0) (c : Config) (n : ℕ) where
           go b false e = put-else w.heap a b k (λ same. let f : true ≡ false = sym here ∙ (ap (fenced (fence_of w.gate)) (sym same) ∙ e) in cc)
 
   -- THE FENCE COMES
-  pub fences : (from count : ℕ) (alg : Alg) → StepLaw (Whole good c) (fence n (fence_number n from count) alg) Nothing n (CanFence c n from count alg)
+  pub fences : (from count : ℕ) (alg : Alg) → StepLaw (Whole good c) (fence n (fence_number n from count) alg) (FindsPast good c) n (CanFence c n from count alg)
   fences from count alg w g may = record {
     rule = record {
       core = record {
@@ -173,7 +174,7 @@ module _ (good : (ℕ → ℕ) → Type 0) (c : Config) (n : ℕ) where
           (let i = may.inside in let s = may.some in let f = may.fits in omega arith) (let i = may.inside in let f = may.fits in omega arith) may.inside g.core.history.below refl lies out g.fence;
     };
     advances = record { clock = le_refl w.clock; horizon = same-horizon w x (named ∙ sym same) (le_refl w.clock) (le_refl w.done); seen = λ f l. refl };
-    shown = tt;
+    shown = record { legal = g.core.history.legal; below = g.core.history.below; seen = (g.core.history.known n).seen; front = (g.core.history.known n).front };
   }
     where
       x : World

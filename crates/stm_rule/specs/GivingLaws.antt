@@ -21,6 +21,7 @@ use Rattle.rule_base.specs.History.{over, touches, word_now, upto, Below, Follow
 use Rattle.rule_base.specs.HistoryLemmas.{over-miss, below-more, upto-all, legal-good}
 use Rattle.rule_base.specs.HistoryRuleLemmas.{advances-entry, history-kept, history-entry}
 use Rattle.rule_base.specs.InstallLaws.{given-install, install-given}
+use Rattle.rule_base.specs.InstallSteps.{settle}
 use Rattle.rule_base.specs.PutLemmas.{put-all, put-here, put-else}
 use Rattle.rule_base.specs.RecordLemmas.{records-stay}
 use Rattle.rule_base.specs.Regime.{Regime, mode_of, regime}
@@ -37,7 +38,9 @@ use Rattle.rule_seq.specs.LockLemmas.{lock_scene-kept}
 use Rattle.rule_seq.specs.LockRule.{LockRule}
 use Rattle.stm_rule.specs.Alone.{alone-kept}
 use Rattle.stm_rule.specs.ClosingLaws.{regime-handed}
+use Rattle.stm_rule.specs.FenceFindings.{FindsEven, CanSettleBack}
 use Rattle.stm_rule.specs.Frames.{same-horizon, ungranted-out, uncommitted}
+use Rattle.stm_rule.specs.Lifted.{settles_within}
 use Rattle.stm_rule.specs.Product.{Gives, Runs, Core, Whole}
 use Rattle.stm_rule.specs.Raised.{raised-put}
 use Rattle.stm_rule.specs.RestLaws.{quiet-ease, heap-rests, nobody-else}
@@ -55,6 +58,16 @@ module _ (good : (ℕ → ℕ) → Type 0) (c : Config) (n : ℕ) where
   -- the holder is in no attempt, and the memory lies in the heap outside the range
   outside-lies : (w : World) → Whole good c w → IsQuiet c n (veil w) → (a : ℕ) → fenced (fence_of w.gate) a ≡ false → w.heap a ≡ word_now w.history a
   outside-lies w g quiet a out = sym (veiled-out (fence_of w.gate) w.heap w.history a out) ∙ (quiet-ease good c n (veil w) g.core quiet).heap a
+
+  -- THE CLOCK before a give-back
+  pub settles_back : (alg : Alg) → StepLaw (Whole good c) settle (FindsEven alg) n (CanSettleBack c.callers n alg)
+  settles_back alg w g may =
+      let o = settles_within good c n w g may.settle in
+      let quiet : IsQuiet c n (veil w) = record { closing = may.closing; checked = may.settle.quiet } in record {
+        rule = o.rule;
+        advances = o.advances;
+        shown = (o.shown, λ tml. (heap-rests good c n (veil w) g.core quiet).1 (g.core.gate.held n may.settle.holds ∙ (may.named ∙ tml)));
+      }
 
   -- THE ENTRY of a give-back
   pub fence_commits : (alg : Alg) (t : ℕ) → StepLaw (Whole good c) (fence_commit n alg t) (FenceCommits good c n t) n (CanFenceCommit good alg t)

@@ -5,6 +5,7 @@ pub mod Running
 pub mod NoteSteps
 pub mod Frames
 pub mod Findings
+pub mod FenceFindings
 pub mod Laws
 pub mod RecordLaws
 pub mod RingLaws
@@ -40,3 +41,4 @@ pub mod Lifted
 pub mod FencedRest
 pub mod FencingLaws
 pub mod GivingLaws
+pub mod Privatization

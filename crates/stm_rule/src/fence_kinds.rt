@@ -3,7 +3,9 @@ ghost use Rattle.rule_base.specs.Encodings.{gate_word, fence_number};
 ghost use Rattle.rule_base.specs.FenceSteps.{fence, CanFence, fence_load, CanFenceLoad, FenceLoads, fence_store, CanFenceStore, fence_commit, CanFenceCommit, FenceCommits, unfence, CanUnfence};
 ghost use Rattle.rule_base.specs.StepKinds.{Nothing};
 ghost use Rattle.std.specs.Prelude.{◌<◌, ◌≡◌, ◌+◌, ◌^◌, ℕ};
+ghost use Rattle.rule_base.specs.InstallSteps.{settle};
 ghost use Rattle.stm_rule.specs.Callers.{IsSeatOf};
+ghost use Rattle.stm_rule.specs.FenceFindings.{FindsPast, FindsEven, CanSettleBack};
 ghost use Rattle.stm_rule.specs.Kept.{good_of, SeatTells, IsSameSeat, view_of};
 
 use crate::stm::{Stm, Token};
@@ -20,7 +22,7 @@ impl<K: MemRule> Stm<K> {
         requires caller { caller < self.now.config.callers }
         requires view { CanFence self.now.config caller from count alg (view_of seat.old) }
         ensures same { IsSameSeat seat.old seat.new }
-        ensures step { SeatTells (fence caller (fence_number caller from count) alg) Nothing seat.old.me.0 (gate_word (fence_number caller from count) (1 + caller) alg) seat.new.me.0 }
+        ensures step { SeatTells (fence caller (fence_number caller from count) alg) (FindsPast (good_of K.good self.now.config self.now.rule) self.now.config) seat.old.me.0 (gate_word (fence_number caller from count) (1 + caller) alg) seat.new.me.0 }
     {
         let number = fence_number(caller as u64, from as u64, count as u64);
         let word = gate_word(number, 1 + caller as u64, alg);
@@ -52,6 +54,16 @@ impl<K: MemRule> Stm<K> {
         ensures step { SeatTells (fence_store a x) Nothing seat.old.me.0 x seat.new.me.0 }
     {
         self.store_as::<Brand, usize>(seat, At::Heap(a), x, &caller);
+    }
+
+    /// Loads the clock, to give the own range back, and answers it.
+    pub fn settle_back(&self, seat: &mut Token<K>, caller: usize, alg: Alg) -> u64
+        requires seat { IsSeatOf self.now caller seat.old }
+        requires view { CanSettleBack self.now.config.callers caller alg (view_of seat.old) }
+        ensures same { IsSameSeat seat.old seat.new }
+        ensures step { SeatTells settle (FindsEven alg) seat.old.me.0 result seat.new.me.0 }
+    {
+        self.load_as::<Brand, (usize, Alg)>(seat, At::Clock, &(caller, alg))
     }
 
     /// Stores the clock, which appends the entry of a give-back.

@@ -7,6 +7,7 @@ ghost use Rattle.stm_rule.specs.CoreRuns.{CoreOpens, CoreCommits, CoreInstalls, 
 ghost use Rattle.stm_rule.specs.Irrevocable.{OneIrrevocable};
 ghost use Rattle.stm_rule.specs.Kept.{good_of};
 ghost use Rattle.stm_rule.specs.NoteRuns.{CoreKeepsAlong};
+ghost use Rattle.stm_rule.specs.Privatization.{RangeIsPrivate};
 ghost use Rattle.stm_rule.specs.Stamping.{CoreStamps};
 ghost use Rattle.stm_rule.specs.Quiescence.{QuietRests, PromotingRests, PromotingLasts, OrecPromotingRests, OrecPromotingLasts, RestLasts, InstalledRests};
 
@@ -50,6 +51,12 @@ pub fn core_installs<K: MemRule>()
 /// At most one attempt is irrevocable at a time.
 pub fn one_irrevocable<K: MemRule>()
     ensures { (rule : K) (c : Config) → OneIrrevocable (good_of K.good c rule) c }
+{}
+
+/// While a caller has a range of words out of the transactions, nobody loads or stores a word of it but that caller,
+/// and it in no attempt.
+pub fn range_is_private<K: MemRule>()
+    ensures { (rule : K) (c : Config) → RangeIsPrivate (good_of K.good c rule) c }
 {}
 
 /// And so is a run that switches the algorithm twice, with a commit of TML, a promoted one and one of Serial.

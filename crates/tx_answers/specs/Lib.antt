@@ -4,3 +4,4 @@ pub mod Evidence
 pub mod Causes
 pub mod Answers
 pub mod KnownLaws
+pub mod Fences

@@ -112,6 +112,26 @@ pub enum Look {
     Busy { caller: usize, status: u64 },
 }
 
+/// What a call to take a range of words out of the transactions comes to. Both leave the caller holding the gate.
+#[derive(Clone, Copy, Drop, Debug, PartialEq, Eq)]
+pub enum Fence {
+    /// The range is the caller's: no attempt loads or stores a word of it until it is given back.
+    Fenced,
+    /// A range is out already: this is the gate's word.
+    Taken { gate: u64 },
+}
+
+/// What a call to give a range back comes to. All leave the caller holding the gate.
+#[derive(Clone, Copy, Drop, Debug, PartialEq, Eq)]
+pub enum Give {
+    /// What was written there stands from this time on.
+    Committed { time: u64 },
+    /// Nothing was written there since the range was taken.
+    Unchanged,
+    /// The clock is at its limit, 2^62: the range is still out.
+    ClockFull { clock: u64 },
+}
+
 /// Where a descriptor stands between two calls.
 #[derive(Clone, Copy, Drop, Debug, PartialEq, Eq)]
 pub enum TxState {
