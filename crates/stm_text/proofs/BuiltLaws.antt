@@ -1,6 +1,6 @@
 -- What the grammar gives fits.
-use Rattle.std.proofs.Common.{ℕ, ◌≡◌, ◌≢◌, ◌<◌, ◌≤◌, ◌+◌, ◌-◌, ◌*◌, ◌^◌, List, [], ◌∷◌, ◌++◌, Bool, true, false, ◌&&◌, Option, Some, None, Result, Ok, Err, refl, sym, ap, subst, arith, length, length-append, inl, inr}
-use Rattle.std.specs.Prelude.{◌==◌, if◌then◌else◌, leb, ltb, codes, bytes_eq, All}
+use Rattle.std.proofs.Common.{ℕ, ◌≡◌, ◌≢◌, ◌<◌, ◌≤◌, ◌+◌, ◌^◌, List, [], ◌∷◌, ◌++◌, Bool, true, false, ◌&&◌, Option, Some, None, Result, Ok, Err, refl, sym, ap, subst, arith, length, length-append, inl, inr}
+use Rattle.std.specs.Prelude.{if◌then◌else◌, leb, ltb, codes, bytes_eq, All}
 use Rattle.std.proofs.lemmas.Bool.Decides.{nat_tests}
 use Rattle.std.proofs.lemmas.List.Elements.{All-nil, All-push}
 use Rattle.std.proofs.lemmas.Slice.Eq.{bytes_eq-Decides}
@@ -24,16 +24,13 @@ use Rattle.stm_text.specs.declared.draft.Step.{Step}
 use Rattle.stm_text.specs.declared.draft.Step.TheVariants.{Head, Begin, Change, Add, End, Schedule, Turn, Done}
 use Rattle.stm_text.specs.declared.parse.Mode.{Mode}
 use Rattle.stm_text.specs.declared.parse.Mode.TheVariants.{Run, Step as Stepwise}
-use Rattle.stm_text.specs.Lines.{Line, words_of, any_bad, number_from, number_of}
+use Rattle.stm_text.specs.Lines.{Line, words_of, any_bad, number_of}
 use Rattle.stm_text.specs.Drafts.{Writing, after, opening}
 use Rattle.stm_text.specs.Grammar.{◌>>=◌, named, formed, ranged, below, number, algorithm_of, algorithm, sized, switched, header_line, next_line, begun, changed, added, emitted, structured, planned, scheduled, caller_of, plain, address, operands, move_of, count_of, op_of, keyed, go_of, one_word, two_words, three_words, four_words, filled, by_words, step_of, ended, go_on, parsed}
 use Rattle.stm_text.specs.Built.{HeaderFits, IsFree, OpFits, IsAllowed, ScriptFits, ItemFits, GoFits, all_turns, ScheduleFits, IsBuilt}
+use Rattle.stm_text.specs.Giving.{Gives}
+use Rattle.stm_text.specs.Numbers.{Fits64, number_of-fits}
 use Rattle.stm_text.proofs.OrderLaws.{order-snoc}
-
--- what an answer gives, where it is Ok
-abbrev pub Gives : {A B : Type 0} → (A → Type 0) → Result A B → Type 0
-Gives P (Ok a) = P a
-Gives P (Err c) = Unit {0}
 
 pub then-gives : {A B : Type 0} (P : A → Type 0) (Q : B → Type 0) (r : Result A ℕ) (next : A → Result B ℕ) → Gives P r → ((a : A) → P a → Gives Q (next a)) → Gives Q (r >>= next)
 then-gives P Q (Ok a) next h g = g a h
@@ -53,30 +50,6 @@ unless-gives P false x code h = h
 
 named-gives : {A : Type 0} (P : A → Type 0) (name w : List ℕ) (rest : Result A ℕ) → Gives P rest → Gives P (named name w rest)
 named-gives P name w rest h = if-gives P (bytes_eq w name) rest 4 (λ _. h)
-
-abbrev pub Fits64 : Option ℕ → Type 0
-Fits64 None = Unit {0}
-Fits64 (Some n) = n < 2 ^ 64
-
-digit-fits : (n b : ℕ) (bs : List ℕ) (d : Bool) → (ltb (n * 10 + (b - 48)) (2 ^ 64) ≡ true → Fits64 (number_from (n * 10 + (b - 48)) bs)) → (x : Bool) → ltb (n * 10 + (b - 48)) (2 ^ 64) ≡ x
-    → Fits64 (if d && x then number_from (n * 10 + (b - 48)) bs else None)
-digit-fits n b bs true h true e = h e
-digit-fits n b bs true h false e = tt
-digit-fits n b bs false h x e = tt
-
-pub number_from-fits : (n : ℕ) (bs : List ℕ) → n < 2 ^ 64 → Fits64 (number_from n bs)
-number_from-fits n [] h = h
-number_from-fits n (b ∷ bs) h =
-    digit-fits n b bs (leb 48 b && leb b 57) (λ e. number_from-fits (n * 10 + (b - 48)) bs (grind (arith, nat_tests))) (ltb (n * 10 + (b - 48)) (2 ^ 64)) refl
-
-zero-fits : (b : Bool) (o : Option ℕ) → Fits64 o → Fits64 (if b then None else o)
-zero-fits true o h = tt
-zero-fits false o h = h
-
-pub number_of-fits : (w : List ℕ) → Fits64 (number_of w)
-number_of-fits [] = tt
-number_of-fits (b ∷ []) = number_from-fits 0 (b ∷ []) (omega arith)
-number_of-fits (b ∷ c ∷ bs) = zero-fits (b == 48) (number_from 0 (b ∷ c ∷ bs)) (number_from-fits 0 (b ∷ c ∷ bs) (omega arith))
 
 pub formed-by : (o : Option ℕ) → Fits64 o → Gives (λ n. n < 2 ^ 64) (formed o)
 formed-by None h = tt

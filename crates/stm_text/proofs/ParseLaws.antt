@@ -8,7 +8,7 @@ use Rattle.stm_text.specs.declared.parse.Mode.{Mode}
 use Rattle.stm_text.specs.Lines.{Line, with_byte, lines_of, any_bad, Lacks}
 use Rattle.stm_text.specs.Drafts.{Writing, after}
 use Rattle.stm_text.specs.Grammar.{step_of, go_on, ended, parsed}
-use Rattle.stm_text.proofs.LineLaws.{cut-at, lines_of-first, lines_of-last}
+use Rattle.stm_text.specs.LineLaws.{cut-at, lines_of-first, lines_of-last}
 
 -- a line and then the rest
 parsed-first : (m : Mode) (d : Writing) (k : ℕ) (s : List ℕ) (i : ℕ) (r : List ℕ) → Lacks 10 (take i s) → drop i s ≡ 10 ∷ r

@@ -8,7 +8,7 @@ use Rattle.stm_script.specs.declared.report.Kind.TheVariants.{W, R, C}
 use Rattle.stm_script.specs.declared.report.Row.{Row}
 use Rattle.stm_script.specs.declared.report.Report.{Report}
 use Rattle.stm_text.specs.Reports.{spaced, emitted, letter_of, row_line, row_lines, memory_lines, report_bytes, IsWord, RowFits, ReportFits}
-use Rattle.stm_text.proofs.Decimals.{IsDigit, NoDigit, StartsDigit, digits-decimal, decimal-cut, head-same}
+use Rattle.stm_text.specs.Decimals.{IsDigit, NoDigit, StartsDigit, digits-decimal, decimal-cut, head-same}
 
 -- no number follows: neither a digit nor a space and then a digit
 abbrev NoNumber : List ℕ → Type 0

@@ -33,10 +33,10 @@ use Rattle.stm_text.specs.Grammar.{◌>>=◌, formed, ranged, below, number, alg
 use Rattle.stm_text.specs.Built.{HeaderFits, IsFree, OpFits, IsAllowed, AreInOrder, ItemFits, GoFits, all_turns, ScheduleFits, IsBuilt}
 use Rattle.stm_text.specs.Texts.{joined, line, switch_of, op_words, items_lines, header_lines, go_words, section_lines, schedule_lines, lines_with, lines_text, AreLinesOf, IsTextOf}
 use Rattle.stm_text.proofs.OrderLaws.{irrev-snoc}
-use Rattle.stm_text.proofs.LineLaws.{lines_of-first}
-use Rattle.stm_text.proofs.Decimals.{StartsDigit, digits-decimal}
-use Rattle.stm_text.proofs.WordLaws.{Visible, seen, AllVisible, visible-decimal, joined-good, joined-lacks, words_of-joined}
-use Rattle.stm_text.proofs.Numbers.{number_of-decimal}
+use Rattle.stm_text.specs.LineLaws.{lines_of-first}
+use Rattle.stm_text.specs.Decimals.{StartsDigit, digits-decimal}
+use Rattle.stm_text.specs.WordLaws.{Visible, seen, AllVisible, visible-decimal, joined-good, joined-lacks, words_of-joined}
+use Rattle.stm_text.specs.Numbers.{number_of-decimal}
 
 -- a line of words, and then the rest
 line-read : (m : Mode) (d : Writing) (k : ℕ) (w : List ℕ) (ws : List (List ℕ)) (rest : List ℕ) → AllVisible (w ∷ ws)

@@ -1,11 +1,8 @@
 -- A text that is read as a workload is a text of that workload.
-use Rattle.std.proofs.Common.{ℕ, ◌≡◌, ◌≢◌, ◌<◌, ◌+◌, ◌-◌, ◌*◌, ◌^◌, List, [], ◌∷◌, ◌++◌, Bool, true, false, ◌&&◌, Option, Some, None, Result, Ok, Err, refl, sym, ap, ◌∙◌, subst, arith, rules, length, take, get_or, append_assoc, append-nil, inl, inr}
+use Rattle.std.proofs.Common.{ℕ, ◌≡◌, ◌+◌, List, [], ◌∷◌, ◌++◌, Bool, true, false, ◌&&◌, Option, Some, None, Result, Ok, Err, refl, sym, ap, ◌∙◌, subst, length, take, append_assoc, append-nil, inl, inr}
 use Rattle.stm_model.specs.Algorithms.{alg_name, is_built}
-use Rattle.std.specs.Prelude.{◌==◌, ◌⊎◌, if◌then◌else◌, leb, ltb, codes, map, bytes_eq}
+use Rattle.std.specs.Prelude.{◌⊎◌, if◌then◌else◌, leb, ltb, codes, map, bytes_eq}
 use Rattle.std.specs.Fmt.{decimal}
-use Rattle.std.proofs.lemmas.Fmt.{decimal-digits_value}
-use Rattle.std.proofs.lemmas.Str.Parse.{IsNumeralModel, IsDigitsTest, FoldsDigits, numerals_by_fold}
-use Rattle.std.proofs.lemmas.Bool.Decides.{nat_tests}
 use Rattle.std.proofs.lemmas.Slice.Eq.{bytes_eq-Decides}
 use Rattle.stm_model.specs.declared.alg.Alg.{Alg}
 use Rattle.stm_model.specs.declared.alg.TheConstants.{ALGORITHMS}
@@ -28,54 +25,14 @@ use Rattle.stm_text.specs.declared.draft.Step.TheVariants.{Head, Begin, Change, 
 use Rattle.stm_text.specs.declared.parse.TheConstants.{MAX_TEXT}
 use Rattle.stm_text.specs.declared.parse.Mode.{Mode}
 use Rattle.stm_text.specs.declared.parse.Mode.TheVariants.{Run, Step as Stepwise}
-use Rattle.stm_text.specs.Lines.{Line, with_byte, lines_of, with_letter, words_of, any_bad, number_from, number_of}
+use Rattle.stm_text.specs.Lines.{Line, lines_of, words_of, any_bad, number_of}
 use Rattle.stm_text.specs.Drafts.{Writing, after, opening}
 use Rattle.stm_text.specs.Grammar.{◌>>=◌, named, formed, ranged, below, number, algorithm_of, algorithm, sized, switched, header_line, next_line, begun, changed, added, emitted, structured, planned, scheduled, caller_of, plain, address, operands, move_of, count_of, op_of, keyed, go_of, one_word, two_words, three_words, four_words, filled, by_words, step_of, ended, go_on, parsed, workload_of}
 use Rattle.stm_text.specs.Texts.{joined, line, switch_of, op_words, item_lines, items_lines, header_lines, go_words, section_lines, schedule_lines, lines_with, lines_text, AreLinesOf, IsTextOf}
-use Rattle.stm_text.proofs.LineLaws.{words_of-some}
-use Rattle.stm_text.proofs.Decimals.{IsDigit, Digits}
-use Rattle.stm_text.proofs.BuiltLaws.{Gives, then-gives, if-gives, unless-gives, if-else-gives, op_of-gives, if-both, both-true, filled-gives, Fits64, number_from-fits, At, Sound, Leaves, step-sound, opening-sound}
-
--- words and lines, put together again
-
-joined-letter : (b : ℕ) (w : List ℕ) (ws : List (List ℕ)) → joined ((b ∷ w) ∷ ws) ≡ b ∷ joined (w ∷ ws)
-joined-letter b w [] = refl
-joined-letter b w (v ∷ ws) = refl
-
-same-byte : (b c : ℕ) → (b == c) ≡ true → b ≡ c
-same-byte b c e = grind (arith, nat_tests)
-
-joined-by : (b : ℕ) (bs w : List ℕ) (ws : List (List ℕ)) (t : Bool) → (t ≡ true → b ≡ 32) → words_of bs ≡ w ∷ ws → joined (words_of bs) ≡ bs → joined (if t then [] ∷ words_of bs else with_letter b (words_of bs)) ≡ b ∷ bs
-joined-by b bs w ws true space is whole =
-    let e = space refl in
-    ap (λ x. joined ([] ∷ x)) is ∙ (ap (λ x. 32 ∷ joined x) (sym is) ∙ (ap (λ x. 32 ∷ x) whole ∙ ap (λ x. x ∷ bs) (sym e)))
-joined-by b bs w ws false space is whole =
-    ap (λ x. joined (with_letter b x)) is ∙ (joined-letter b w ws ∙ (ap (λ x. b ∷ joined x) (sym is) ∙ ap (λ x. b ∷ x) whole))
-
-joined-words_of : (bs : List ℕ) → joined (words_of bs) ≡ bs
-joined-words_of [] = refl
-joined-words_of (b ∷ bs) =
-    let some = words_of-some bs in joined-by b bs some.0 some.1 (b == 32) (same-byte b 32) some.2 (joined-words_of bs)
-
-abbrev end_of : Bool → List ℕ
-end_of true = 10 ∷ []
-end_of false = []
-
-abbrev unlines : List Line → List ℕ
-unlines [] = []
-unlines (l ∷ ls) = l.bytes ++ (end_of l.ended ++ unlines ls)
-
-unlines-byte : (b : ℕ) (ls : List Line) → unlines (with_byte b ls) ≡ b ∷ unlines ls
-unlines-byte b [] = refl
-unlines-byte b (l ∷ ls) = refl
-
-unlines-by : (b : ℕ) (bs : List ℕ) (t : Bool) → (t ≡ true → b ≡ 10) → unlines (lines_of bs) ≡ bs → unlines (if t then record { bytes = []; ended = true } ∷ lines_of bs else with_byte b (lines_of bs)) ≡ b ∷ bs
-unlines-by b bs true end whole = let e = end refl in ap (λ x. 10 ∷ x) whole ∙ ap (λ x. x ∷ bs) (sym e)
-unlines-by b bs false end whole = unlines-byte b (lines_of bs) ∙ ap (λ x. b ∷ x) whole
-
-unlines-lines_of : (bs : List ℕ) → unlines (lines_of bs) ≡ bs
-unlines-lines_of [] = refl
-unlines-lines_of (b ∷ bs) = unlines-by b bs (b == 10) (same-byte b 10) (unlines-lines_of bs)
+use Rattle.stm_text.specs.Giving.{Gives, gives-with, given}
+use Rattle.stm_text.specs.Numbers.{number_of-says}
+use Rattle.stm_text.specs.WordLaws.{joined-words_of, unlines, unlines-lines_of}
+use Rattle.stm_text.proofs.BuiltLaws.{then-gives, if-gives, unless-gives, if-else-gives, op_of-gives, if-both, both-true, filled-gives, At, Sound, Leaves, step-sound, opening-sound}
 
 abbrev made : List (List ℕ) → Line
 made ws = record { bytes = joined ws; ended = true }
@@ -84,56 +41,6 @@ unlines-made : (lines : List (List (List ℕ))) → unlines (map made lines) ≡
 unlines-made [] = refl
 unlines-made (ws ∷ lines) =
     sym (append_assoc (joined ws) (10 ∷ []) (unlines (map made lines))) ∙ ap (λ t. line ws ++ t) (unlines-made lines)
-
--- a number's only text
-
-abbrev value : ℕ → List ℕ → ℕ
-value n [] = n
-value n (b ∷ bs) = value (n * 10 + (b - 48)) bs
-
-tells : IsDigitsTest Digits
-tells = search rules
-
-folds : FoldsDigits value
-folds = search rules
-
-own : IsNumeralModel Digits (value 0)
-own = numerals_by_fold Digits tells value folds
-
-says-by : (n b k : ℕ) (bs : List ℕ) (low high fits : Bool) → (low ≡ true → high ≡ true → IsDigit b) → (number_from (n * 10 + (b - 48)) bs ≡ Some k → Digits bs × (value (n * 10 + (b - 48)) bs ≡ k))
-    → (if low && high && fits then number_from (n * 10 + (b - 48)) bs else None) ≡ Some k → Digits (b ∷ bs) × (value n (b ∷ bs) ≡ k)
-says-by n b k bs true true true digit rest is = let r = rest is in ((digit refl refl, r.0), r.1)
-says-by n b k bs true true false digit rest is = cc
-says-by n b k bs true false fits digit rest is = cc
-says-by n b k bs false high fits digit rest is = cc
-
-number_from-says : (n k : ℕ) (bs : List ℕ) → number_from n bs ≡ Some k → Digits bs × (value n bs ≡ k)
-number_from-says n k [] is = (tt, cc)
-number_from-says n k (b ∷ bs) is =
-    says-by n b k bs (leb 48 b) (leb b 57) (ltb (n * 10 + (b - 48)) (2 ^ 64))
-    (λ p q. (grind (arith, nat_tests), grind (arith, nat_tests)))
-    (number_from-says (n * 10 + (b - 48)) k bs) is
-
-fits-by : (n : ℕ) (o : Option ℕ) → Fits64 o → o ≡ Some n → n < 2 ^ 64
-fits-by n o h is = subst Fits64 is h
-
-decimal-by : (n : ℕ) (bs : List ℕ) → 0 < length bs → (get_or bs 0 0 ≡ 48 → length bs ≡ 1) → number_from 0 bs ≡ Some n → bs ≡ decimal n
-decimal-by n bs some zeros is =
-    let says = number_from-says 0 n bs is in
-    let fits = fits-by n (number_from 0 bs) (number_from-fits 0 bs (omega arith)) is in
-    let value-is = says.1 in
-    sym (decimal-digits_value own bs says.0 some zeros (omega arith)) ∙ ap decimal says.1
-
-no-zero-by : (b : ℕ) (o : Option ℕ) (n : ℕ) (t : Bool) → (b == 48) ≡ t → (if t then None else o) ≡ Some n → (o ≡ Some n) × (b ≢ 48)
-no-zero-by b o n true e is = cc
-no-zero-by b o n false e is = (is, λ z. grind (arith, nat_tests))
-
-number_of-says : (n : ℕ) (w : List ℕ) → number_of w ≡ Some n → w ≡ decimal n
-number_of-says n [] is = cc
-number_of-says n (b ∷ []) is = decimal-by n (b ∷ []) (omega arith) (λ z. refl) is
-number_of-says n (b ∷ c ∷ bs) is =
-    let two = no-zero-by b (number_from 0 (b ∷ c ∷ bs)) n (b == 48) refl is in
-    decimal-by n (b ∷ c ∷ bs) (omega arith) (λ z. absurd (two.1 z)) two.0
 
 -- what an answer says of the words
 
@@ -155,10 +62,6 @@ ranged-says low high n w is = if-gives (λ k. w ≡ decimal k) (leb low n && leb
 
 abbrev Names : List ℕ → List ℕ → List ℕ → ℕ → Type 0
 Names name w v n = (w ≡ name) × (v ≡ decimal n)
-
-gives-with : {A B : Type 0} (P Q : A → Type 0) (r : Result A B) → Gives P r → ((a : A) → P a → Q a) → Gives Q r
-gives-with P Q (Ok a) h g = g a h
-gives-with P Q (Err c) h g = tt
 
 algorithm_of-says : (algs : List Alg) (w : List ℕ) → Gives (λ a. w ≡ alg_name a) (algorithm_of algs w)
 algorithm_of-says [] w = tt
@@ -691,9 +594,6 @@ text-whole : (m : Mode) (text : List ℕ) → Gives (λ w. IsTextOf m w text) (p
 text-whole m text =
     gives-with (IsWhole m [] (lines_of text)) (λ w. IsTextOf m w text) (parsed m opening 1 (lines_of text)) (parsed-whole m opening 1 (lines_of text) (opening-sound m))
     (λ w whole. (whole.0, whole.1, sym (unlines-lines_of text) ∙ (ap unlines whole.2 ∙ unlines-made whole.0)))
-
-given : {A B : Type 0} (P : A → Type 0) (r : Result A B) (a : A) → Gives P r → r ≡ Ok a → P a
-given P r a h is = subst (Gives P) is h
 
 -- a text that is read as a workload is a text of that workload
 pub text-written : (m : Mode) (text : List ℕ) (w : Workload) → workload_of m text ≡ Ok w → IsTextOf m w text

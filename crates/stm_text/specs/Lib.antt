@@ -5,3 +5,9 @@ pub mod Built
 pub mod Reports
 pub mod Texts
 pub mod Pieces
+pub mod Parting
+pub mod LineLaws
+pub mod Decimals
+pub mod Numbers
+pub mod WordLaws
+pub mod Giving

@@ -111,3 +111,7 @@ TextIsRead = (m : Mode) (w : Workload) (text : List ℕ) → IsBuilt m w → IsT
 -- a text that is read as a workload is a text of that workload
 abbrev pub TextIsWritten : Type 0
 TextIsWritten = (m : Mode) (text : List ℕ) (w : Workload) → workload_of m text ≡ Ok w → IsTextOf m w text
+
+-- what is read from a text is a workload of the grammar
+abbrev pub TextIsBuilt : Type 0
+TextIsBuilt = (m : Mode) (text : List ℕ) (w : Workload) → workload_of m text ≡ Ok w → IsBuilt m w

@@ -1,7 +1,8 @@
 //! Laws of the definitions, each the contract of a function.
 ghost use Rattle.stm_text.specs.Reports.{OneReportPerText};
 ghost use Rattle.stm_text.specs.Built.{BuiltWorkloadsFit};
-ghost use Rattle.stm_text.specs.Texts.{TextIsRead, TextIsWritten};
+ghost use Rattle.stm_text.specs.Parting.{TextIsParted};
+ghost use Rattle.stm_text.specs.Texts.{TextIsRead, TextIsWritten, TextIsBuilt};
 
 use tx_regions::laws::version_one_is_laid_out;
 
@@ -18,6 +19,16 @@ pub fn text_is_read()
 /// A text that is read as a workload is a text of that workload.
 pub fn text_is_written()
     ensures { TextIsWritten }
+{}
+
+/// A text that is read as a workload gives one that fits.
+pub fn text_is_built()
+    ensures { TextIsBuilt }
+{}
+
+/// A text is parted behind the first of its lines that is `done`.
+pub fn text_is_parted()
+    ensures { TextIsParted }
 {}
 
 /// The memory that a workload of the grammar asks for takes each of its scripts.

@@ -4,8 +4,9 @@
 pub mod code;
 mod draft;
 pub mod laws;
-mod lines;
+pub mod lines;
 pub mod parse;
+pub mod parting;
 pub mod report;
 mod table;
 #[cfg(test)]

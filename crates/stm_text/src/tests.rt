@@ -1,4 +1,5 @@
 use crate::parse::{Mode, ParseError, parse};
+use crate::parting::{count_lines, part_at_done};
 use crate::report::{report_text, report_text_by};
 use smallvec::SmallVec;
 use std::alloc::{AllocError, Global};
@@ -570,4 +571,22 @@ fn writes_empty_report(rt: HostRuntime) -> Result<(), Fail> {
     let text = report_text(rt.alloc(), &report)?;
     assert_eq!(rt; text.as_slice(), b"report 1\nend\n".as_slice());
     Ok(())
+}
+
+/// A text is parted behind its first line `done`, and its lines are counted, the last one also without an LF.
+#[test]
+fn parts_a_text(rt: HostRuntime) {
+    let table = [
+        ("stm 1\ndone\nreport 1\ndone\nend", "stm 1\ndone\n", 2, 3),
+        ("stm 1\ndone \nreport 1\n", "stm 1\ndone \nreport 1\n", 3, 0),
+        ("stm 1\ndone", "stm 1\ndone", 2, 0),
+        ("", "", 0, 0),
+    ];
+    for (text, wanted, above, below) in table {
+        let (head, rest) = part_at_done(text.as_bytes());
+        assert_eq!(rt; head, wanted.as_bytes(), "{text}");
+        assert_eq!(rt; count_lines(head), above, "{text}");
+        assert_eq!(rt; count_lines(rest), below, "{text}");
+        assert_eq!(rt; head.len() + rest.len(), text.len(), "{text}");
+    }
 }

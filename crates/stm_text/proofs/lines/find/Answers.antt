@@ -1,6 +1,6 @@
 use Rattle.std.proofs.Common.{◌≡◌, ◌++◌, ◌∷◌, [], ◌+◌, take, get_or, add-one, sym, subst}
 use Rattle.std.proofs.Math.Seq.{take-suc}
-use Rattle.stm_text.proofs.LineLaws.{lacks-snoc}
+use Rattle.stm_text.specs.LineLaws.{lacks-snoc}
 use Rattle.stm_text.specs.Lines.{Lacks}
 use Rattle.stm_text.proofs.lines.find.Goals as goal
 

@@ -6,7 +6,8 @@ use Rattle.stm_text.specs.Lines.{lines_of}
 use Rattle.stm_text.specs.Drafts.{opening}
 use Rattle.stm_text.specs.Grammar.{Answers, parsed}
 use Rattle.stm_text.specs.Built.{IsBuilt}
-use Rattle.stm_text.proofs.BuiltLaws.{Gives, lines-built}
+use Rattle.stm_text.specs.Giving.{Gives}
+use Rattle.stm_text.proofs.BuiltLaws.{lines-built}
 use Rattle.stm_text.proofs.parse.parse.Goals as goal
 
 built-by : (m : Mode) (g : Result Workload (ℕ × ℕ)) (r : Result Workload ParseError) → Gives (IsBuilt m) g → Answers r g → IfOk r (IsBuilt m)

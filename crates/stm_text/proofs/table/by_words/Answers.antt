@@ -1,6 +1,6 @@
 use Rattle.std.proofs.Common.{◌∙◌, ◌∷◌, ◌+◌, sym, ap, drop, take}
 use Rattle.stm_text.specs.Grammar.{by_words}
-use Rattle.stm_text.proofs.LineLaws.{words_of-one, words_of-cut, words_of-some}
+use Rattle.stm_text.specs.LineLaws.{words_of-one, words_of-cut, words_of-some}
 use Rattle.stm_text.proofs.table.by_words.Goals as goal
 
 pub returns-in_default : goal.returns-in_default

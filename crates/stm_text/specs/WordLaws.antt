@@ -1,12 +1,12 @@
--- Words of a line, joined and read back.
-use Rattle.std.proofs.Common.{ℕ, ◌≡◌, ◌<◌, ◌≤◌, ◌^◌, List, [], ◌∷◌, ◌++◌, Bool, true, false, ◌&&◌, ◌||◌, refl, ap, ◌∙◌, arith}
-use Rattle.std.specs.Prelude.{leb, ltb}
+-- Words of a line, joined and read back; words and lines of a text, put together again.
+use Rattle.std.proofs.Common.{ℕ, ◌≡◌, ◌<◌, ◌≤◌, ◌^◌, List, [], ◌∷◌, ◌++◌, Bool, true, false, ◌&&◌, ◌||◌, refl, sym, ap, ◌∙◌, arith}
+use Rattle.std.specs.Prelude.{◌==◌, if◌then◌else◌, leb, ltb}
 use Rattle.std.specs.Fmt.{decimal}
 use Rattle.std.proofs.lemmas.Bool.Decides.{nat_tests}
-use Rattle.stm_text.specs.Lines.{words_of, any_bad, Lacks}
+use Rattle.stm_text.specs.Lines.{Line, with_byte, lines_of, with_letter, words_of, any_bad, Lacks}
 use Rattle.stm_text.specs.Texts.{joined}
-use Rattle.stm_text.proofs.LineLaws.{words_of-one, words_of-first}
-use Rattle.stm_text.proofs.Decimals.{Digits, digits-decimal}
+use Rattle.stm_text.specs.LineLaws.{words_of-one, words_of-first, words_of-some}
+use Rattle.stm_text.specs.Decimals.{Digits, digits-decimal}
 
 -- bytes that can be seen: no space, and none that a line may not have
 abbrev pub Visible : List ℕ → Type 0
@@ -85,3 +85,44 @@ pub words_of-joined : (w : List ℕ) (ws : List (List ℕ)) → AllVisible (w �
 words_of-joined w [] h = words_of-one w (visible-lacks 32 w (omega arith) h.0)
 words_of-joined w (v ∷ ws) h =
     words_of-first w (joined (v ∷ ws)) (visible-lacks 32 w (omega arith) h.0) ∙ ap (λ t. w ∷ t) (words_of-joined v ws h.1)
+
+-- words and lines, put together again
+
+joined-letter : (b : ℕ) (w : List ℕ) (ws : List (List ℕ)) → joined ((b ∷ w) ∷ ws) ≡ b ∷ joined (w ∷ ws)
+joined-letter b w [] = refl
+joined-letter b w (v ∷ ws) = refl
+
+same-byte : (b c : ℕ) → (b == c) ≡ true → b ≡ c
+same-byte b c e = grind (arith, nat_tests)
+
+joined-by : (b : ℕ) (bs w : List ℕ) (ws : List (List ℕ)) (t : Bool) → (t ≡ true → b ≡ 32) → words_of bs ≡ w ∷ ws → joined (words_of bs) ≡ bs → joined (if t then [] ∷ words_of bs else with_letter b (words_of bs)) ≡ b ∷ bs
+joined-by b bs w ws true space is whole =
+    let e = space refl in
+    ap (λ x. joined ([] ∷ x)) is ∙ (ap (λ x. 32 ∷ joined x) (sym is) ∙ (ap (λ x. 32 ∷ x) whole ∙ ap (λ x. x ∷ bs) (sym e)))
+joined-by b bs w ws false space is whole =
+    ap (λ x. joined (with_letter b x)) is ∙ (joined-letter b w ws ∙ (ap (λ x. b ∷ joined x) (sym is) ∙ ap (λ x. b ∷ x) whole))
+
+pub joined-words_of : (bs : List ℕ) → joined (words_of bs) ≡ bs
+joined-words_of [] = refl
+joined-words_of (b ∷ bs) =
+    let some = words_of-some bs in joined-by b bs some.0 some.1 (b == 32) (same-byte b 32) some.2 (joined-words_of bs)
+
+abbrev pub end_of : Bool → List ℕ
+end_of true = 10 ∷ []
+end_of false = []
+
+abbrev pub unlines : List Line → List ℕ
+unlines [] = []
+unlines (l ∷ ls) = l.bytes ++ (end_of l.ended ++ unlines ls)
+
+unlines-byte : (b : ℕ) (ls : List Line) → unlines (with_byte b ls) ≡ b ∷ unlines ls
+unlines-byte b [] = refl
+unlines-byte b (l ∷ ls) = refl
+
+unlines-by : (b : ℕ) (bs : List ℕ) (t : Bool) → (t ≡ true → b ≡ 10) → unlines (lines_of bs) ≡ bs → unlines (if t then record { bytes = []; ended = true } ∷ lines_of bs else with_byte b (lines_of bs)) ≡ b ∷ bs
+unlines-by b bs true end whole = let e = end refl in ap (λ x. 10 ∷ x) whole ∙ ap (λ x. x ∷ bs) (sym e)
+unlines-by b bs false end whole = unlines-byte b (lines_of bs) ∙ ap (λ x. b ∷ x) whole
+
+pub unlines-lines_of : (bs : List ℕ) → unlines (lines_of bs) ≡ bs
+unlines-lines_of [] = refl
+unlines-lines_of (b ∷ bs) = unlines-by b bs (b == 10) (same-byte b 10) (unlines-lines_of bs)

@@ -1,0 +1,13 @@
+pub mod LedgerLaws
+pub mod VerdictLaws
+pub mod RowLaws
+pub mod RunLaws
+pub mod StandingLaws
+pub mod WordsLaws
+pub mod TableLaws
+pub mod ReadingLaws
+pub mod TextLaws
+pub mod WrittenLaws
+pub mod ConfirmedLaws
+pub mod CheckLaws
+pub mod FindingLaws

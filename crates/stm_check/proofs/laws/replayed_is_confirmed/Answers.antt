@@ -1,0 +1,6 @@
+use Rattle.stm_check.proofs.ConfirmedLaws.{confirmed}
+use Rattle.stm_check.proofs.laws.replayed_is_confirmed.Goals as goal
+
+pub returns : goal.returns
+returns c = λ m text w r parses is fits le.
+    confirmed w r (c.built_workloads_fit.ensures m w (c.text_is_built.ensures m text w parses)) is fits le

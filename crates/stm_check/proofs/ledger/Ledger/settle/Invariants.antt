@@ -1,0 +1,15 @@
+use Rattle.std.proofs.Common.{◌≡◌, length, map}
+use Rattle.std.specs.Prelude.{vec_capacity, ◌≤◌}
+use Rattle.stm_model.specs.Plains.{settled}
+use Rattle.stm_check.proofs.LedgerLaws.{AreLeft}
+use Rattle.stm_check.proofs.ledger.Ledger.settle.Given as goal
+
+abbrev pub invariant-loop-a : goal.invariant-loop-a
+invariant-loop-a l = record {
+  same : map settled l.self-inside.words.items ≡ map settled l.initial.self-inside.words.items;
+  left : AreLeft l.self-inside.words.items l.self-inside.touched.items;
+  room : length l.self-inside.words.items ≤ vec_capacity l.self-inside.touched;
+}
+
+abbrev pub decreases-loop-a : goal.decreases-loop-a
+decreases-loop-a l = length l.self-inside.touched.items

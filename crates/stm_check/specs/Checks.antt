@@ -1,0 +1,60 @@
+-- A workload and a report in one text, and what a check of it comes to.
+use Rattle.std.specs.Prelude.{ℕ, zero, suc, ◌≡◌, ◌+◌, List, Result, Ok, Err}
+use Rattle.stm_script.specs.declared.report.Report.{Report}
+use Rattle.stm_script.specs.declared.workload.Workload.{Workload}
+use Rattle.stm_text.specs.declared.parse.Mode.TheVariants.{Step as Stepwise}
+use Rattle.stm_text.specs.Grammar.{workload_of}
+use Rattle.stm_text.specs.Parting.{to_done, behind_done, lines_to_done}
+use Rattle.stm_check.specs.Grammar.{report_of}
+use Rattle.stm_check.specs.Verdicts.{Judges}
+use Rattle.stm_check.specs.declared.checking.Finding.{Finding}
+use Rattle.stm_check.specs.declared.checking.Finding.TheVariants as findings
+use Rattle.stm_check.specs.declared.verdict.Verdict.TheVariants.{Yes, No}
+
+-- a line of the report, as one of a text with so many lines above it; line 0 stands for the whole report
+abbrev pub shifted : ℕ → ℕ → ℕ
+shifted above zero = 0
+shifted above (suc n) = above + suc n
+
+abbrev pub with_report : ℕ → Workload → Result Report (ℕ × ℕ) → Result (Workload × Report) (ℕ × ℕ)
+with_report above w (Ok r) = Ok (w, r)
+with_report above w (Err fault) = Err (shifted above fault.0, fault.1)
+
+-- a workload's fault comes before a report's
+abbrev pub with_workload : Result Workload (ℕ × ℕ) → ℕ → List ℕ → Result (Workload × Report) (ℕ × ℕ)
+with_workload (Ok w) above rest = with_report above w (report_of rest)
+with_workload (Err fault) above rest = Err fault
+
+-- THE TWO TEXTS: the workload up to and with the first line `done`, and the report behind it; or the line and the code of the first fault
+abbrev pub pair_of : List ℕ → Result (Workload × Report) (ℕ × ℕ)
+pair_of text = with_workload (workload_of Stepwise (to_done text)) (lines_to_done text) (behind_done text)
+
+-- the text is a workload's and then that of a report that replays it
+pub record IsYes (text : List ℕ) : Type 0 where
+  pub workload : Workload
+  pub report : Report
+  pub reads : pair_of text ≡ Ok (workload, report)
+  pub judged : Judges workload report Yes
+
+-- the text is a workload's and then that of a report that doesn't replay it; the line is the first at fault
+pub record IsNo (text : List ℕ) (line : ℕ) : Type 0 where
+  pub workload : Workload
+  pub report : Report
+  pub reads : pair_of text ≡ Ok (workload, report)
+  pub at : ℕ
+  pub judged : Judges workload report (No at)
+  pub shift : line ≡ lines_to_done text + at
+
+-- the text isn't a workload's and then a report's; this is its first fault
+abbrev pub IsFaulty : List ℕ → ℕ → ℕ → Type 0
+IsFaulty text line code = pair_of text ≡ Err (line, code)
+
+-- what a check of a text comes to
+abbrev pub Finds : List ℕ → Finding → Type 0
+Finds text findings.Yes = IsYes text
+Finds text (findings.No line) = IsNo text line
+Finds text (findings.Faulty line code) = IsFaulty text line code
+
+-- a text has one finding: where one is right no other is
+abbrev pub OneFindingPerText : Type 0
+OneFindingPerText = (text : List ℕ) (a b : Finding) → Finds text a → Finds text b → a ≡ b

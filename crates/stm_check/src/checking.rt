@@ -1,0 +1,70 @@
+//! A workload and a report in one text, checked.
+ghost use Rattle.std.specs.Prelude.{◌≡◌, ◌≤◌, ◌<◌, ◌+◌, ◌^◌, length, IfOk};
+ghost use Rattle.stm_check.specs.Checks.{Finds, shifted};
+ghost use Rattle.stm_check.specs.declared.checking.TheConstants.{MOST_CHECKED};
+
+use crate::laws::report_is_written;
+use crate::reading::read_report;
+use crate::replay::replay;
+use crate::verdict::Verdict;
+use std::alloc::Global;
+use stm_model::memory::Memory;
+use stm_text::laws::{built_workloads_fit, text_is_parted};
+use stm_text::parse::{Mode, ParseError, parse};
+use stm_text::parting::{count_lines, part_at_done};
+
+/// The greatest number of bytes of a text that is checked: one more than its two parts may have together.
+pub const MOST_CHECKED: usize = 150_994_945;
+
+/// What a check of a text comes to. Lines count from 1 in the whole text.
+#[derive(Clone, Copy, Drop, Debug, PartialEq, Eq)]
+pub enum Finding {
+    /// A workload, and behind its line `done` a report that replays it.
+    Yes,
+    /// A workload and a report that doesn't replay it: the first line at fault.
+    No { line: usize },
+    /// Not a workload and a report: the first line at fault, and in it the lowest code; line 0 for a part that is too
+    /// long.
+    Faulty { line: usize, code: u32 },
+}
+
+/// Checks a text that is a workload up to its first line `done`, and a report behind that line. A schedule is read past.
+/// A fault of the workload comes before one of the report.
+///
+/// # Errors
+/// Memory, where it is refused.
+pub fn check(alloc: Global, text: &[u8]) -> Result<Finding, Memory>
+    requires { length text.now ≤ MOST_CHECKED }
+    ensures { IfOk result (Finds text.now) }
+{
+    built_workloads_fit();
+    text_is_parted();
+    report_is_written();
+    let (head, behind) = part_at_done(text);
+    let workload = match parse(alloc, head, Mode::Step) {
+        Ok(workload) => workload,
+        Err(ParseError::Fault { line, code }) => return Ok(Finding::Faulty { line, code }),
+        Err(ParseError::Memory) => return Err(Memory),
+    };
+    let above = count_lines(head);
+    let report = match read_report(alloc, behind) {
+        Ok(report) => report,
+        Err(ParseError::Fault { line, code }) => return Ok(Finding::Faulty {
+            line: shifted(above, line),
+            code,
+        }),
+        Err(ParseError::Memory) => return Err(Memory),
+    };
+    match replay(alloc, &workload, &report)? {
+        Verdict::Yes => Ok(Finding::Yes),
+        Verdict::No { line } => Ok(Finding::No { line: above + line }),
+    }
+}
+
+/// A line of the report, as one of a text that has so many lines above the report; line 0 stands for the whole report.
+fn shifted(above: usize, line: usize) -> usize
+    requires { above + line < 2 ^ 64 }
+    ensures { result ≡ shifted above line }
+{
+    if line == 0 { 0 } else { above + line }
+}

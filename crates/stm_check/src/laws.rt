@@ -1,0 +1,34 @@
+//! Laws of the definitions, each the contract of a function.
+ghost use Rattle.stm_check.specs.Checks.{OneFindingPerText};
+ghost use Rattle.stm_check.specs.Texts.{ReportIsRead, ReportIsWritten, ReplayedIsReadable, ReplayedIsConfirmed};
+
+use stm_text::laws::{built_workloads_fit, text_is_built};
+
+/// A text has one finding: where it has a fault, that fault has one line, and one code.
+pub fn one_finding_per_text()
+    ensures { OneFindingPerText }
+{}
+
+/// The text of a report is read as that report.
+pub fn report_is_read()
+    ensures { ReportIsRead }
+{}
+
+/// A text that is read as a report is the text of that report.
+pub fn report_is_written()
+    ensures { ReportIsWritten }
+{}
+
+/// A report that replays a workload, and whose numbers are words of the machine, has a text that can be read as it.
+pub fn replayed_is_readable()
+    ensures { ReplayedIsReadable }
+{}
+
+/// A report that replays the workload of a text, and whose numbers are words of the machine, is read back from its own
+/// text, where that isn't too long, and is found to replay it.
+pub fn replayed_is_confirmed()
+    ensures { ReplayedIsConfirmed }
+{
+    text_is_built();
+    built_workloads_fit();
+}

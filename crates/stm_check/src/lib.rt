@@ -1,0 +1,16 @@
+//! Reports, read from their text and judged: does one thread that runs their rows get what they say?
+#![tactic(auto)]
+
+pub mod checking;
+pub mod laws;
+mod ledger;
+pub mod reading;
+pub mod replay;
+mod rows;
+mod running;
+mod scripts;
+mod table;
+#[cfg(test)]
+mod tests;
+pub mod verdict;
+mod words;

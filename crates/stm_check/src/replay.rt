@@ -1,0 +1,232 @@
+//! Reports, judged.
+ghost use Rattle.std.specs.Prelude.{◌≡◌, ◌<◌, ◌≤◌, ◌++◌, ◌∷◌, [], ℕ, ⊤, true, false, None, IfOk, IfSome, IfNone, Decides, length, slice_set, ◌+◌, ◌^◌};
+ghost use Rattle.stm_model.specs.Plains.{openings};
+ghost use Rattle.stm_script.specs.Reports.{regions_of, zeros, rows_of, scripts_of};
+ghost use Rattle.stm_script.specs.Workloads.{ItemsFit};
+ghost use Rattle.stm_check.specs.Verdicts.{IsRight, AreRight, AllHaveRows, memory_after, alike, Judges};
+ghost use Rattle.stm_check.specs.Standing.{StandsBehind, IsNext, wrote_after};
+
+use crate::ledger::Ledger;
+use crate::rows::{comes_after, is_apart};
+use crate::running::fits;
+use crate::scripts::next_script;
+use crate::verdict::Verdict;
+use std::alloc::Global;
+use stm_model::memory::Memory;
+use stm_script::lists::Script;
+use stm_script::pairs::pairs;
+use stm_script::report::{Kind, Report, Row};
+use stm_script::workload::Workload;
+use tx_regions::laws::memories_stay_good;
+use tx_regions::region::Regions;
+
+/// How far a caller's transactions have come.
+#[derive(Clone, Copy, Drop)]
+pub struct Cursor {
+    /// The item at which the next one is looked for.
+    pub item: usize,
+    /// How many have their rows.
+    pub seq: usize,
+}
+
+/// Where a check stands behind some rows.
+#[derive(Drop)]
+pub struct Standing {
+    /// The memory that they leave.
+    pub ledger: Ledger,
+    /// How far each caller has come.
+    pub cursors: Vec<Cursor>,
+    /// The place of the last W row.
+    pub wrote: Option<u64>,
+}
+
+/// Where the row is its caller's next: its script, and the item behind it.
+fn next_of<'a>(
+    workload: &'a Workload,
+    standing: &Standing,
+    above: &[Row],
+    row: &Row,
+) -> Option<(usize, &'a Script)>
+    requires items { ItemsFit (regions_of workload.now.header) workload.now.header workload.now.items }
+    requires stands { StandsBehind workload.now above.now standing.now }
+    ensures some { IfSome result (λ n. IsNext workload.now above.now row.now n.0 n.1.now) }
+    ensures none { IfNone result (row.now.seq ≡ length (rows_of row.now.caller above.now) → row.now.seq < length (scripts_of row.now.caller workload.now.items) → ⊥) }
+{
+    if standing.cursors.len() <= row.caller {
+        return None;
+    }
+    let cursor = standing.cursors[row.caller];
+    if cursor.seq != row.seq {
+        return None;
+    }
+    next_script(workload.items.as_slice(), row.caller, cursor.item)
+}
+
+/// Goes on past a row, whose script has been run: the next item of its caller is `item` or behind it.
+fn pass(standing: &mut Standing, row: &Row, item: usize)
+    requires caller { row.now.caller < length standing.old.cursors.items }
+    requires seq { row.now.seq + 1 < 2 ^ 64 }
+    ensures ledger { standing.new.ledger ≡ standing.old.ledger }
+    ensures cursors { standing.new.cursors.items ≡ slice_set standing.old.cursors.items row.now.caller (record { item = item; seq = row.now.seq + 1 }) }
+    ensures wrote { standing.new.wrote ≡ wrote_after row.now.kind row.now.place standing.old.wrote }
+{
+    standing.cursors[row.caller] = Cursor {
+        item,
+        seq: row.seq + 1,
+    };
+    match row.kind {
+        Kind::W => standing.wrote = Some(row.place),
+        Kind::R | Kind::C => {}
+    }
+}
+
+/// Whether a row has no fault behind the rows above it. Where it hasn't, its script has been run, and the check stands
+/// behind the row.
+///
+/// # Errors
+/// Memory, where it is refused.
+fn is_right(
+    alloc: Global,
+    workload: &Workload,
+    regions: &Regions,
+    standing: &mut Standing,
+    above: &[Row],
+    row: &Row,
+) -> Result<bool, Memory>
+    requires items { ItemsFit (regions_of workload.now.header) workload.now.header workload.now.items }
+    requires regions { regions.now ≡ regions_of workload.now.header }
+    requires count { length above.now + 1 < 2 ^ 64 }
+    requires stands { StandsBehind workload.now above.now standing.old }
+    ensures right { IfOk result (λ b. Decides b (IsRight workload.now above.now (openings standing.old.ledger) row.now)) }
+    ensures stands { IfOk result (λ b. b ≡ true → StandsBehind workload.now (above.now ++ row.now ∷ []) standing.new) }
+    ensures memory { IfOk result (λ b. b ≡ true → openings standing.new.ledger ≡ memory_after workload.now (openings standing.old.ledger) row.now) }
+{
+    if !comes_after(above, row) {
+        return Ok(false);
+    }
+    if !is_apart(standing.wrote, row) {
+        return Ok(false);
+    }
+    let Some((item, script)) = next_of(workload, standing, above, row) else {
+        return Ok(false);
+    };
+    if !fits(alloc, &mut standing.ledger, regions, script, row)? {
+        return Ok(false);
+    }
+    pass(standing, row, item);
+    Ok(true)
+}
+
+/// Where a check stands before the first row.
+///
+/// # Errors
+/// Memory, where it is refused.
+fn start(alloc: Global, workload: &Workload) -> Result<Standing, Memory>
+    ensures stands { IfOk result (StandsBehind workload.now []) }
+    ensures zeros { IfOk result (λ s. openings s.ledger ≡ zeros workload.now.header.words) }
+{
+    memories_stay_good();
+    let ledger = Ledger::new(alloc, workload.header.words)?;
+    let first = Cursor { item: 0, seq: 0 };
+    let cursors = vec![in alloc; first; workload.header.callers]?;
+    Ok(Standing {
+        ledger,
+        cursors,
+        wrote: None,
+    })
+}
+
+/// Whether each transaction has its row.
+fn all_have_rows(workload: &Workload, standing: &Standing, above: &[Row]) -> bool
+    requires items { ItemsFit (regions_of workload.now.header) workload.now.header workload.now.items }
+    requires stands { StandsBehind workload.now above.now standing.now }
+    ensures { Decides result (AllHaveRows workload.now above.now) }
+{
+    let items = workload.items.as_slice();
+    for caller in 0..standing.cursors.len() {
+        let cursor = standing.cursors[caller];
+        if let Some(_) = next_script(items, caller, cursor.item) {
+            return false;
+        }
+    }
+    true
+}
+
+/// How many words two tellings of a memory have alike from the first on.
+fn alike(told: &[(usize, u64)], left: &[(usize, u64)]) -> usize
+    ensures alike { result ≡ alike told.now left.now }
+    ensures told { result ≤ length told.now }
+    ensures left { result ≤ length left.now }
+{
+    for i in 0..told.len() {
+        if left.len() <= i {
+            return i;
+        }
+        if told[i].0 != left[i].0 {
+            return i;
+        }
+        if told[i].1 != left[i].1 {
+            return i;
+        }
+    }
+    told.len()
+}
+
+/// The verdict, where no row has a fault: the lines behind the rows.
+///
+/// # Errors
+/// Memory, where it is refused.
+fn judge_end(
+    alloc: Global,
+    workload: &Workload,
+    report: &Report,
+    standing: &Standing,
+) -> Result<Verdict, Memory>
+    requires items { ItemsFit (regions_of workload.now.header) workload.now.header workload.now.items }
+    requires stands { StandsBehind workload.now report.now.rows standing.now }
+    requires right { AreRight workload.now [] (zeros workload.now.header.words) report.now.rows (openings standing.now.ledger) }
+    ensures { IfOk result (Judges workload.now report.now) }
+{
+    let rows = report.rows.as_slice();
+    let behind = rows.len() + 2;
+    if !all_have_rows(workload, standing, rows) {
+        return Ok(Verdict::No { line: behind });
+    }
+    let values = standing.ledger.values(alloc)?;
+    let left = pairs(alloc, &values)?;
+    let told = report.memory.as_slice();
+    let same = alike(told, left.as_slice());
+    if same < told.len() {
+        return Ok(Verdict::No {
+            line: behind + same,
+        });
+    }
+    if same < left.as_slice().len() {
+        return Ok(Verdict::No {
+            line: behind + same,
+        });
+    }
+    Ok(Verdict::Yes)
+}
+
+/// Whether the report replays the workload, and else its first line at fault, counted from the report's first as 1.
+/// Each row's script is run once, in as many steps as it has; all rows together go over the workload's items once for
+/// each caller, and over the memory's words once.
+///
+/// # Errors
+/// Memory, where it is refused.
+pub fn replay(alloc: Global, workload: &Workload, report: &Report) -> Result<Verdict, Memory>
+    requires items { ItemsFit (regions_of workload.now.header) workload.now.header workload.now.items }
+    ensures { IfOk result (Judges workload.now report.now) }
+{
+    let regions = workload.header.regions(alloc)?;
+    let mut standing = start(alloc, workload)?;
+    let rows = report.rows.as_slice();
+    for i in 0..rows.len() {
+        let above = &rows[..i];
+        if !is_right(alloc, workload, &regions, &mut standing, above, &rows[i])? {
+            return Ok(Verdict::No { line: i + 2 });
+        }
+    }
+    judge_end(alloc, workload, report, &standing)
+}

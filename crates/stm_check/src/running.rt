@@ -1,0 +1,131 @@
+//! The script of one row, run.
+ghost use Rattle.std.specs.Prelude.{◌≡◌, [], true, Decides, IfOk, OnOk, length};
+ghost use Rattle.stm_model.specs.Plains.{openings, own_writes};
+ghost use Rattle.tx_regions.specs.Regions.{AllWellFormed};
+ghost use Rattle.stm_script.specs.Operations.{ScriptFits};
+ghost use Rattle.stm_check.specs.Runs.{CanEnd, WroteAs, left_by, IsBehind};
+ghost use Rattle.stm_script.specs.Reports.{RowFits};
+ghost use Rattle.stm_script.specs.Scripts.{run_row};
+
+use crate::ledger::Ledger;
+use crate::scripts::may_cancel;
+use std::alloc::Global;
+use stm_model::memory::Memory;
+use stm_script::interpret::interpret;
+use stm_script::lists::{Script, Words};
+use stm_script::replies::Replies;
+use stm_script::report::{Kind, Row};
+use tx_regions::region::Regions;
+
+/// Whether a transaction that did this script can end so: only one that may be cancelled is.
+fn can_end(kind: Kind, script: &Script) -> bool
+    ensures { Decides result (CanEnd kind script.now) }
+{
+    match kind {
+        Kind::W | Kind::R => true,
+        Kind::C => may_cancel(script.as_slice()),
+    }
+}
+
+/// Whether one that wrote, or didn't, ends so.
+fn wrote_as(kind: Kind, wrote: bool) -> bool
+    ensures { Decides result (WroteAs kind wrote) }
+{
+    match kind {
+        Kind::W => wrote,
+        Kind::R => !wrote,
+        Kind::C => true,
+    }
+}
+
+/// What a script gave.
+#[derive(Drop)]
+struct Ran {
+    replies: Words,
+    emits: Words,
+    wrote: bool,
+}
+
+/// The transaction ends: the memory takes what it wrote, or not where it was cancelled.
+fn end(ledger: &mut Ledger, kind: Kind)
+    ensures left { openings ledger.new ≡ left_by kind (openings ledger.old) (own_writes ledger.old) }
+    ensures settled { own_writes ledger.new ≡ [] }
+    ensures length { length ledger.new ≡ length ledger.old }
+{
+    match kind {
+        Kind::W | Kind::R => ledger.settle(),
+        Kind::C => ledger.forget(),
+    }
+}
+
+/// Runs a script to the end of a transaction of this kind.
+///
+/// # Errors
+/// Memory, where it is refused.
+fn run(
+    alloc: Global,
+    ledger: &mut Ledger,
+    regions: &Regions,
+    script: &Script,
+    kind: Kind,
+) -> Result<Ran, Memory>
+    requires settled { own_writes ledger.old ≡ [] }
+    requires well { AllWellFormed regions.now (openings ledger.old) }
+    requires within { ScriptFits regions.now (length ledger.old) script.now }
+    requires ends { CanEnd kind script.now }
+    ensures replies { IfOk result (λ r. r.replies ≡ (run_row regions.now kind script.now (openings ledger.old)).replies) }
+    ensures emits { IfOk result (λ r. r.emits ≡ (run_row regions.now kind script.now (openings ledger.old)).emits) }
+    ensures wrote { IfOk result (λ r. r.wrote ≡ (run_row regions.now kind script.now (openings ledger.old)).wrote) }
+    ensures after { OnOk result (IsBehind regions.now script.now kind ledger.old ledger.new) }
+{
+    let mut out = Replies::new(alloc, script.as_slice().len())?;
+    match interpret(ledger, regions, script, kind, &mut out) {
+        Ok(()) => {}
+        Err(_) => unreachable!(),
+    }
+    let wrote = ledger.has_written();
+    end(ledger, kind);
+    let (replies, emits) = out.into_words();
+    Ok(Ran {
+        replies,
+        emits,
+        wrote,
+    })
+}
+
+/// Whether a row tells what its script gave.
+fn is_told(ran: &Ran, row: &Row) -> bool
+    ensures { Decides result ((row.now.replies ≡ ran.now.replies) × (row.now.emits ≡ ran.now.emits) × WroteAs row.now.kind ran.now.wrote) }
+{
+    if !wrote_as(row.kind, ran.wrote) {
+        return false;
+    }
+    if row.replies.as_slice() != ran.replies.as_slice() {
+        return false;
+    }
+    row.emits.as_slice() == ran.emits.as_slice()
+}
+
+/// Whether the row tells what its script does on this memory. Where it does, the memory is then that behind the row.
+///
+/// # Errors
+/// Memory, where it is refused.
+pub fn fits(
+    alloc: Global,
+    ledger: &mut Ledger,
+    regions: &Regions,
+    script: &Script,
+    row: &Row,
+) -> Result<bool, Memory>
+    requires settled { own_writes ledger.old ≡ [] }
+    requires well { AllWellFormed regions.now (openings ledger.old) }
+    requires within { ScriptFits regions.now (length ledger.old) script.now }
+    ensures fits { IfOk result (λ b. Decides b (RowFits regions.now script.now row.now (openings ledger.old))) }
+    ensures after { IfOk result (λ b. b ≡ true → IsBehind regions.now script.now row.now.kind ledger.old ledger.new) }
+{
+    if !can_end(row.kind, script) {
+        return Ok(false);
+    }
+    let ran = run(alloc, ledger, regions, script, row.kind)?;
+    Ok(is_told(&ran, row))
+}
