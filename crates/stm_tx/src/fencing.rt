@@ -1,9 +1,12 @@
-//! Privatization: a range of words that one caller has taken out of the transactions, as the other callers meet it.
-ghost use Rattle.std.specs.Prelude.{◌≡◌};
+//! Privatization: one caller takes a range of words out of the transactions, reads and writes there directly, and gives
+//! it back; and the range as an attempt meets it.
+ghost use Rattle.std.specs.Prelude.{◌≡◌, true, not};
+ghost use Rattle.rule_base.specs.Encodings.{fenced};
 ghost use Rattle.stm_tx.specs.Descs.{known};
 ghost use Rattle.stm_tx.specs.Fencing.{fence_seen};
 
 use rule_base::words::{fence_count, fence_from};
+pub use stm_gate::fence::{direct_read, direct_write, fence, give_back};
 use stm_model::rule::MemRule;
 use stm_rule::desc::Desc;
 
@@ -18,4 +21,15 @@ pub fn fence_seen<K: MemRule>(desc: &Desc<K>) -> Option<(usize, usize)>
     } else {
         None
     }
+}
+
+/// Whether the word at `a` was not out of the transactions as the running attempt began, so that the attempt may read
+/// and write there. No step.
+pub fn spares<K: MemRule>(desc: &Desc<K>, a: usize) -> bool
+    requires running { (known desc.now).running ≡ true }
+    ensures { result ≡ not (fenced (known desc.now).fence a) }
+{
+    let from = fence_from(desc.local.fence) as usize;
+    let count = fence_count(desc.local.fence) as usize;
+    a < from || a >= from + count
 }

@@ -10,6 +10,8 @@ mod dropped_tests;
 mod eager_tests;
 pub mod fencing;
 #[cfg(test)]
+mod fencing_tests;
+#[cfg(test)]
 mod gate_tests;
 #[cfg(test)]
 mod library_tests;
@@ -41,5 +43,5 @@ pub use stm_rule::note::Note;
 pub use stm_rule::refusal::NewError;
 pub use stm_rule::stm::Stm;
 pub use tx_answers::answers::{
-    Begin, Cancel, Check, CloseGate, Commit, Irrev, Look, Read, Roll, TxState, Write,
+    Begin, Cancel, Check, CloseGate, Commit, Fence, Give, Irrev, Look, Read, Roll, TxState, Write,
 };
