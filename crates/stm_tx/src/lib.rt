@@ -9,6 +9,7 @@ mod eager_tests;
 pub mod fencing;
 #[cfg(test)]
 mod gate_tests;
+pub mod laws;
 #[cfg(test)]
 mod library_tests;
 pub mod live;
