@@ -1,3 +1,4 @@
 pub mod Descs
 pub mod Fencing
 pub mod Nesting
+pub mod Costs

@@ -1,7 +1,9 @@
 //! The calls of an attempt. Each takes a descriptor and its memory. None but `reserve` takes memory, none waits, and
 //! all return. The cost of each in atomic steps is said by its algorithm, in `alg_seq`, `alg_orec` and `alg_ring`.
-ghost use Rattle.stm_gate.specs.Counting.{AddsAtMost};
-ghost use Rattle.std.specs.Prelude.{◌≡◌, ℕ, ◌<◌, ◌≤◌, ◌&&◌, true, MatchResult, ◌+◌, ◌*◌, false};
+ghost use Rattle.stm_rule.specs.Counting.{TakesAtMost};
+ghost use Rattle.tx_answers.specs.Counting.{AddsAtMost};
+ghost use Rattle.stm_tx.specs.Costs.{costs};
+ghost use Rattle.std.specs.Prelude.{◌≡◌, ℕ, ◌<◌, ◌≤◌, ◌&&◌, true, MatchResult, false};
 ghost use Rattle.stm_model.specs.Algorithms.{is_built};
 ghost use Rattle.stm_rule.specs.Callers.{IsOf, IsSameCaller, IsSeatOf};
 ghost use Rattle.stm_rule.specs.Kept.{IsSameSeat, view_of};
@@ -37,6 +39,7 @@ pub fn try_begin<K: MemRule>(desc: &mut Desc<K>, stm: &Stm<K>) -> Begin
     requires idle { IsIdle (known desc.old) }
     ensures same { IsSameCaller desc.old desc.new }
     ensures begins { Begins (K.good stm.now.rule) stm.now.config (number desc.old) result (known desc.old) (known desc.new) }
+    ensures steps { AddsAtMost 6 (known desc.old) (known desc.new) }
 {
     let caller = desc.number;
     stm.announce(&mut desc.seat, caller);
@@ -72,6 +75,7 @@ fn begin_under<K: MemRule>(
     requires built { is_built algorithm ≡ true }
     ensures same { IsSameSeat seat.old seat.new × (seat.new.me.0 ≡ record seat.old.me.0 { view = view_of seat.new }) }
     ensures begins { Starts (K.good stm.now.rule) stm.now.config caller algorithm result (view_of seat.old) (view_of seat.new) }
+    ensures steps { TakesAtMost 3 (view_of seat.old) (view_of seat.new) }
 {
     match algorithm {
         Alg::Cgl => cgl::begin(seat, stm, caller),
@@ -98,7 +102,7 @@ pub fn read<K: MemRule>(desc: &mut Desc<K>, stm: &Stm<K>, a: usize) -> Read
     requires spared { fenced (known desc.old).fence a ≡ false }
     ensures same { IsSameCaller desc.old desc.new }
     ensures read { HasRead (K.good stm.now.rule) stm.now.config (number desc.old) a result (known desc.old) (known desc.new) }
-    ensures steps { AddsAtMost (8 + (known desc.old).reads_limit + 2 * (known desc.old).writes_limit + 16 * stm.now.config.ring) (known desc.old) (known desc.new) }
+    ensures steps { AddsAtMost (costs stm.now.config (known desc.old)).read (known desc.old) (known desc.new) }
 {
     match desc.local.algorithm {
         Alg::Cgl => cgl::read(desc, stm, a),
@@ -123,6 +127,7 @@ pub fn write<K: MemRule>(desc: &mut Desc<K>, stm: &Stm<K>, a: usize, x: u64) -> 
     requires spared { fenced (known desc.old).fence a ≡ false }
     ensures same { IsSameCaller desc.old desc.new }
     ensures write { HasWritten (K.good stm.now.rule) stm.now.config (number desc.old) a x result (known desc.old) (known desc.new) }
+    ensures steps { AddsAtMost (costs stm.now.config (known desc.old)).write (known desc.old) (known desc.new) }
 {
     match desc.local.algorithm {
         Alg::Cgl => cgl::write(desc, stm, a, x),
@@ -149,7 +154,7 @@ pub fn commit<K: MemRule>(desc: &mut Desc<K>, stm: &Stm<K>) -> Commit
     requires keeps { KeepsRule (K.good stm.now.rule) stm.now.config (number desc.old) (known desc.old) }
     ensures same { IsSameCaller desc.old desc.new }
     ensures commits { Commits (K.good stm.now.rule) stm.now.config (number desc.old) result (known desc.old) (known desc.new) }
-    ensures steps { AddsAtMost (10 + (known desc.old).reads_limit + 4 * (known desc.old).writes_limit + 16 * stm.now.config.ring) (known desc.old) (known desc.new) }
+    ensures steps { AddsAtMost (costs stm.now.config (known desc.old)).commit (known desc.old) (known desc.new) }
 {
     match desc.local.algorithm {
         Alg::Cgl => cgl::commit(desc, stm),
@@ -169,7 +174,7 @@ pub fn cancel<K: MemRule>(desc: &mut Desc<K>, stm: &Stm<K>) -> Cancel
     requires running { (known desc.old).running ≡ true }
     ensures same { IsSameCaller desc.old desc.new }
     ensures cancels { Cancels (K.good stm.now.rule) stm.now.config (number desc.old) result (known desc.old) (known desc.new) }
-    ensures steps { AddsAtMost (4 + 2 * (known desc.old).writes_limit) (known desc.old) (known desc.new) }
+    ensures steps { AddsAtMost (costs stm.now.config (known desc.old)).cancel (known desc.old) (known desc.new) }
 {
     match desc.local.algorithm {
         Alg::Cgl => cgl::cancel(desc, stm),
@@ -191,6 +196,7 @@ pub fn try_irrevocable<K: MemRule>(desc: &mut Desc<K>, stm: &Stm<K>) -> Irrev
     requires running { IsRunning (known desc.old) }
     ensures same { IsSameCaller desc.old desc.new }
     ensures irrevs { Irrevs (K.good stm.now.rule) stm.now.config (number desc.old) result (known desc.old) (known desc.new) }
+    ensures steps { AddsAtMost (costs stm.now.config (known desc.old)).irrevocable (known desc.old) (known desc.new) }
 {
     match desc.local.algorithm {
         Alg::Cgl => cgl::become_irrevocable(desc, stm),

@@ -13,6 +13,7 @@ pub mod fencing;
 mod fencing_tests;
 #[cfg(test)]
 mod gate_tests;
+pub mod laws;
 #[cfg(test)]
 mod library_tests;
 pub mod live;

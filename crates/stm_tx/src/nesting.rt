@@ -1,9 +1,10 @@
 //! Closed nesting by marks: the calls of a running attempt that mark where it stands, and roll it back to there. None of
 //! them takes memory, none waits, and all return. They leave the attempt running. Its marks end with its first commit
 //! call, and with the attempt.
-ghost use Rattle.std.specs.Prelude.{◌≡◌, ℕ, ◌≤◌, true, if◌then◌else◌, ◌&&◌, not};
+ghost use Rattle.std.specs.Prelude.{◌≡◌, ℕ, ◌≤◌, ◌*◌, true, if◌then◌else◌, ◌&&◌, not};
 ghost use Rattle.stm_rule.specs.Callers.{IsOf, IsSameCaller};
 ghost use Rattle.tx_answers.specs.Answers.{Checks, Rolls, Releases};
+ghost use Rattle.tx_answers.specs.Counting.{AddsAtMost};
 ghost use Rattle.tx_answers.specs.Known.{IsRunning};
 ghost use Rattle.stm_tx.specs.Descs.{known, number};
 ghost use Rattle.stm_tx.specs.Nesting.{takes_marks, live_marks, RollsToMark};
@@ -23,6 +24,7 @@ pub fn checkpoint<K: MemRule>(desc: &mut Desc<K>) -> Check
     requires built { takes_marks (known desc.old).alg ≡ true }
     ensures same { IsSameCaller desc.old desc.new }
     ensures checks { Checks result (known desc.old) (known desc.new) }
+    ensures steps { AddsAtMost 0 (known desc.old) (known desc.new) }
 {
     match desc.local.algorithm {
         Alg::OrecLazy => lazy::checkpoint(desc),
@@ -41,6 +43,7 @@ pub fn roll_to<K: MemRule>(desc: &mut Desc<K>, stm: &Stm<K>, depth: usize) -> Ro
     requires high { depth ≤ (known desc.old).depth }
     ensures same { IsSameCaller desc.old desc.new }
     ensures rolls { Rolls (K.good stm.now.rule) stm.now.config (number desc.old) depth result (known desc.old) (known desc.new) }
+    ensures steps { AddsAtMost (8 * (known desc.old).writes_limit) (known desc.old) (known desc.new) }
 {
     match desc.local.algorithm {
         Alg::OrecLazy => lazy::roll_to(desc, stm, depth),
@@ -56,6 +59,7 @@ pub fn release<K: MemRule>(desc: &mut Desc<K>, depth: usize)
     requires high { depth ≤ (known desc.old).depth }
     ensures same { IsSameCaller desc.old desc.new }
     ensures releases { Releases depth (known desc.old) (known desc.new) }
+    ensures steps { AddsAtMost 0 (known desc.old) (known desc.new) }
 {
     match desc.local.algorithm {
         Alg::OrecLazy => lazy::release(desc, depth),
