@@ -6,7 +6,7 @@
 //! (Spear, Marathe, Dalessandro and Scott, "Privatization Techniques for Software Transactional Memory", PODC 2007).
 //! A range comes and goes only while the gate is closed and nobody is in an attempt, so no clean-up and no doomed
 //! attempt of another caller is late.
-ghost use Rattle.stm_gate.specs.Counting.{AddsAtMost};
+ghost use Rattle.tx_answers.specs.Counting.{AddsAtMost};
 ghost use Rattle.std.specs.Prelude.{◌≡◌, ℕ, ◌<◌, ◌≤◌, ◌+◌, true, not};
 ghost use Rattle.rule_base.specs.Encodings.{fenced};
 ghost use Rattle.stm_model.specs.Memories.{is_empty};
