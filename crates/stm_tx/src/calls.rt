@@ -1,5 +1,6 @@
 //! The calls of an attempt. Each takes a descriptor and its memory. None but `reserve` takes memory, none waits, and
-//! all return. The cost of each in atomic steps is said by its algorithm, in `alg_seq`, `alg_orec` and `alg_ring`.
+//! all return. Each adds no more atomic steps than its clause `steps` says: those of an attempt what the table `costs` has
+//! for its algorithm, whatever other callers do.
 ghost use Rattle.stm_rule.specs.Counting.{TakesAtMost};
 ghost use Rattle.tx_answers.specs.Counting.{AddsAtMost};
 ghost use Rattle.stm_tx.specs.Costs.{costs};

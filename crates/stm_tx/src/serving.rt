@@ -4,7 +4,9 @@ ghost use Rattle.std.specs.Prelude.{◌≡◌, ◌<◌, false};
 ghost use Rattle.rule_base.specs.Encodings.{fenced};
 ghost use Rattle.stm_rule.specs.Callers.{IsOf, IsSameCaller};
 ghost use Rattle.tx_answers.specs.Answers.{HasRead, HasWritten};
+ghost use Rattle.tx_answers.specs.Counting.{AddsAtMost};
 ghost use Rattle.tx_answers.specs.Known.{IsRunning};
+ghost use Rattle.stm_tx.specs.Costs.{costs};
 ghost use Rattle.stm_tx.specs.Descs.{known, number};
 
 use crate::calls;
@@ -31,7 +33,8 @@ pub trait Calls {
         requires inside { a < stm.now.config.words }
         requires spared { fenced (known desc.old).fence a ≡ false }
         ensures same { IsSameCaller desc.old desc.new }
-        ensures read { HasRead (K.good stm.now.rule) stm.now.config (number desc.old) a result (known desc.old) (known desc.new) };
+        ensures read { HasRead (K.good stm.now.rule) stm.now.config (number desc.old) a result (known desc.old) (known desc.new) }
+        ensures steps { AddsAtMost (costs stm.now.config (known desc.old)).read (known desc.old) (known desc.new) };
 
     fn write<K: MemRule>(&self, desc: &mut Desc<K>, stm: &Stm<K>, a: usize, x: u64) -> Write
         requires stm { IsOf desc.old stm.now }
@@ -40,7 +43,8 @@ pub trait Calls {
         requires inside { a < stm.now.config.words }
         requires spared { fenced (known desc.old).fence a ≡ false }
         ensures same { IsSameCaller desc.old desc.new }
-        ensures write { HasWritten (K.good stm.now.rule) stm.now.config (number desc.old) a x result (known desc.old) (known desc.new) };
+        ensures write { HasWritten (K.good stm.now.rule) stm.now.config (number desc.old) a x result (known desc.old) (known desc.new) }
+        ensures steps { AddsAtMost (costs stm.now.config (known desc.old)).write (known desc.old) (known desc.new) };
 }
 
 /// Serves all, and looks at each call which algorithm the attempt runs under.
