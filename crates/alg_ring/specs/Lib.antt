@@ -2,3 +2,4 @@ pub mod Checking
 pub mod Calls
 pub mod Opening
 pub mod Counting
+pub mod Filtering

@@ -16,3 +16,5 @@ pub mod Starts
 pub mod Granting
 pub mod DirectLaws
 pub mod Counting
+pub mod MarkLaws
+pub mod Sure
