@@ -23,7 +23,7 @@ use Rattle.stm_gate.specs.Starts.{CanBegin, StartsAt}
 use Rattle.alg_ring.proofs.Seen.{upto-upto}
 
 -- the filter of no address
-no-word : (i : ℕ) → i < SLOT_WORDS → slice_index no_filter i ≡ slot_filter.word [] i
+pub no-word : (i : ℕ) → i < SLOT_WORDS → slice_index no_filter i ≡ slot_filter.word [] i
 unfolding slot_filter
 no-word i low = get_or-replicate 16 i 0 0 low
 
@@ -63,6 +63,7 @@ module _ (good : List ℕ → Type 0) (c : Config) (n : ℕ) (v : View) (can : C
         loaded = no-word;
         stored = no-word;
         read = λ i low. get_or-replicate 16 i 0 0 low;
+        marked = record { count = refl; sound = λ j e. absurd (omega arith) };
         sole = λ one. (let q = t.1.sole can.clear.uncommitted can.clear.unentered one in let r = can.rises in omega arith);
       };
     };

@@ -115,6 +115,7 @@ module _ (good : List ℕ → Type 0) (c : Config) (n : ℕ) (l : Local) (v : Vi
             loaded = k.loaded;
             stored = k.stored;
             read = k.read;
+            marked = k.marked;
             sole = k.sole;
           }
 

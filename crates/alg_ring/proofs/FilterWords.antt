@@ -19,7 +19,7 @@ or-again x y = same_from_bits (bit_or x (bit_or x y)) (bit_or x y) (λ i. bit_at
     again : (a b : ℕ) → max a (max a b) ≡ max a b
     again a b = omega arith
 
-or-swap : (x y z : ℕ) → bit_or x (bit_or y z) ≡ bit_or y (bit_or x z)
+pub or-swap : (x y z : ℕ) → bit_or x (bit_or y z) ≡ bit_or y (bit_or x z)
 or-swap x y z = same_from_bits (bit_or x (bit_or y z)) (bit_or y (bit_or x z)) (λ i.
     bit_at_or x (bit_or y z) i
     ∙ (ap (max (bit_at x i)) (bit_at_or y z i) ∙ (swap (bit_at x i) (bit_at y i) (bit_at z i) ∙ (sym (ap (max (bit_at y i)) (bit_at_or x z i)) ∙ sym (bit_at_or y (bit_or x z) i)))))
@@ -73,7 +73,7 @@ slot-last (d ∷ cs) c i =
     ∙ (or-swap (address_word d.at i) (address_word c.at i) (slot_filter.word cs i) ∙ (ap (bit_or (address_word c.at i)) (sym (slot-more d cs i)) ∙ sym (slot-more c (d ∷ cs) i))))
 
 -- the filter of a log's cells is that of its items
-slot-cells : (ws : List (ℕ × ℕ)) (i : ℕ) → slot_filter.word (cells_of ws) i ≡ filter_word (addresses ws) i
+pub slot-cells : (ws : List (ℕ × ℕ)) (i : ℕ) → slot_filter.word (cells_of ws) i ≡ filter_word (addresses ws) i
 slot-cells [] i = slot-none i
 slot-cells (w ∷ ws) i = slot-last (cells_of ws) (record { at = w.0; value = w.1 }) i ∙ (slot-more (record { at = w.0; value = w.1 }) (cells_of ws) i ∙ ap (bit_or (address_word w.0 i)) (slot-cells ws i))
 

@@ -113,6 +113,7 @@ module _ (good : List ℕ → Type 0) (c : Config) (n a : ℕ) (l : Local) (v : 
           loaded = λ j less. filter-watched j less ∙ ap (λ (cs : List Cell). slot_filter.word cs j) (sym p.watched);
           stored = k.stored;
           read = λ j less. words j less ∙ (ap (bit_or (address_word a j)) (k.read j less) ∙ sym (filter-put a x j (items v.attempt.reads)));
+          marked = k.marked;
           sole = λ one. p.sole one ∙ (i.start ∙ k.sole one);
         });
       }

@@ -18,7 +18,7 @@ use Rattle.tx_logs.specs.Filters.{address_word}
 use Rattle.tx_logs.specs.LogStates.{LogState, Pushes}
 use Rattle.stm_rule.specs.declared.local.Local.{Local}
 use Rattle.stm_rule.specs.Attempts.{Keeps, IsInside, own_of}
-use Rattle.stm_rule.specs.RecordsKept.{Apart, cells_of}
+use Rattle.stm_rule.specs.RecordsKept.{Apart, HasMarks, cells_of}
 use Rattle.stm_rule.specs.RingKept.{IsRing}
 use Rattle.tx_answers.specs.declared.answers.Read.TheVariants as reads
 use Rattle.tx_answers.specs.declared.answers.Write.TheVariants as writes
@@ -123,6 +123,7 @@ module _ (good : List ℕ → Type 0) (c : Config) (n a : ℕ) (l : Local) (v : 
         loaded = k.loaded;
         stored = λ j less. words j less ∙ (ap (bit_or (address_word a j)) (k.stored j less) ∙ (sym (slot-put a x j l.writes.items) ∙ ap (λ (ws : List (ℕ × ℕ)). slot_filter.word (cells_of ws) j) (sym put_is)));
         read = k.read;
+        marked = subst (λ (ms : List (List (ℕ × ℕ))). HasMarks c l.fence ms l.depth) (sym (ap (λ (q : LogState). q.marks) is)) k.marked;
         sole = k.sole;
       });
     }

@@ -1,3 +1,4 @@
 pub mod Checking
 pub mod Calls
 pub mod Opening
+pub mod Filtering

@@ -4,4 +4,5 @@
 #![tactic(auto)]
 
 pub mod check;
+pub mod nesting;
 pub mod ring;

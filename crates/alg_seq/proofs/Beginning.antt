@@ -165,6 +165,9 @@ module _ (good : List ℕ → Type 0) (c : Config) (n : ℕ) (a : Alg) (locks : 
         undone = λ e. refl;
         undoable = λ e. refl;
         within = λ e p. absurd cc;
+        writes = λ e. refl;
+        marked = λ e. refl;
+        apart = λ e b p. absurd cc;
         rises = can.rises;
         limit = λ e. low (asked (asks_at_begin a) e);
       });

@@ -1,6 +1,6 @@
 -- Serial: what the parts of a write and the end of an attempt that is taken back come to.
-use Rattle.std.proofs.Common.{ℕ, ◌≡◌, ◌<◌, ◌≤◌, List, [], ◌++◌, length, Bool, true, false, refl, sym, ap, ◌∙◌, arith, subst, append_assoc}
-use Rattle.std.specs.Prelude.{Option, Some, None, not, ◌&&◌, ◌==◌}
+use Rattle.std.proofs.Common.{ℕ, ◌≡◌, ◌<◌, ◌≤◌, List, [], ◌∷◌, ◌++◌, length, Bool, true, false, refl, sym, ap, ◌∙◌, arith, subst, append_assoc}
+use Rattle.std.specs.Prelude.{Option, Some, None, not, ◌&&◌, ◌==◌, if◌then◌else◌}
 use Rattle.std.proofs.lemmas.Bool.Decides.{nat_tests}
 use Rattle.stm_model.specs.Algorithms.{takes_lock, logs_writes, is_sure}
 use Rattle.stm_model.specs.declared.alg.Alg.TheVariants.{Serial}
@@ -13,18 +13,20 @@ use Rattle.rule_base.specs.declared.views.LockView.{LockView}
 use Rattle.rule_base.specs.declared.views.TrailItem.{TrailItem}
 use Rattle.rule_base.specs.declared.views.View.{View}
 use Rattle.rule_base.specs.Bridge.{items}
-use Rattle.rule_base.specs.History.{Inside}
+use Rattle.rule_base.specs.Encodings.{fenced}
+use Rattle.rule_base.specs.History.{touches, Inside}
 use Rattle.rule_base.specs.Own.{Own}
 use Rattle.rule_base.specs.StepKinds.{view_after}
 use Rattle.rule_base.specs.World.{World}
 use Rattle.rule_seq.specs.CglSteps.{store_heap, HasLock}
 use Rattle.stm_rule.specs.declared.local.Local.{Local}
-use Rattle.stm_rule.specs.Attempts.{IsInside, addresses}
+use Rattle.stm_rule.specs.Attempts.{IsInside, addresses, own_of}
+use Rattle.stm_rule.specs.RecordsKept.{Apart}
 use Rattle.tx_answers.specs.Answers.{Quits, EndsAt}
 use Rattle.rule_base.specs.declared.layout.At.TheVariants.{Clock}
 use Rattle.tx_answers.specs.Causes.{has_item, is_some, writes_full, FindsFull}
 use Rattle.tx_answers.specs.Evidence.{Found}
-use Rattle.tx_answers.specs.Known.{known_of, granted_under, is_irrevocable, wrote}
+use Rattle.tx_answers.specs.Known.{known_of, granted_under, written_under, is_irrevocable, wrote}
 use Rattle.stm_gate.specs.InnerLaws.{never-full}
 use Rattle.stm_gate.specs.LeavingLaws.{IsUnmade, quits-left, ended-left, trail-left, found-later, finds-full}
 use Rattle.stm_gate.specs.Opacity.{opaque-inside}
@@ -50,6 +52,15 @@ apart k m l = grind (arith, nat_tests)
 
 same_number : (k m : ℕ) → k ≡ m → (k == m) ≡ true
 same_number k m e = grind (arith, nat_tests)
+
+-- longer logs of an attempt of Serial leave alone what is known of it
+pub known-kept : (l m : Local) (w : View) → w.gate.algorithm ≡ Serial → m ≡ record l { undo = m.undo; writes = m.writes } → m.undo.len ≡ l.undo.len → m.writes.marks ≡ l.writes.marks → known_of w (own_of m) ≡ known_of w (own_of l)
+known-kept l m w serial is len marks =
+    ap (λ (q : Local). known_of w (own_of q)) is
+    ∙ (λ d. record (known_of w (own_of l)) { log = record { reads = items w.attempt.reads; writes = written d }; marks = marks d; writes_limit = len d })
+  where
+    written : written_under w.gate.algorithm w.gate.granted w (own_of (record l { undo = m.undo; writes = m.writes })) ≡ written_under w.gate.algorithm w.gate.granted w (own_of l)
+    written = (λ d. written_under (serial d) w.gate.granted w (own_of (record l { undo = m.undo; writes = m.writes }))) ∙ (λ d. written_under (sym serial d) w.gate.granted w (own_of l))
 
 -- there is room for an item of a, or there is none
 roomy : (a : ℕ) (us ws : List (ℕ × ℕ)) (len limit : ℕ) → addresses us ≡ addresses ws → limit ≡ len → (item_at a us ≡ None → length us < len) → (not (has_item a ws) && (length ws == limit)) ≡ false
@@ -78,10 +89,19 @@ module _ (good : List ℕ → Type 0) (c : Config) (n : ℕ) (l : Local) (v : Vi
   pub revocable-by : (o : Own) → is_irrevocable (known_of v o) ≡ v.lock.irrevocable
   revocable-by o = ap (λ a. is_sure a (granted_under a v.gate v.lock) (wrote (known_of v o))) named
 
-  stored : (log : LogState) (k : LockView) (more : List TrailItem) (a x : ℕ) (m : World) → k.taken ≡ true → k.started ≡ true → k.irrevocable ≡ l.granted → l.start < CLOCK_LIMIT
+  -- a word out of the fence's range beside others
+  apart-more : (a x : ℕ) (cs : List Cell) → fenced l.fence a ≡ false → Apart l.fence cs → Apart l.fence (record { at = a; value = x } ∷ cs)
+  apart-more a x cs out h b t = by (a == b) refl t
+    where
+      by : (q : Bool) → (a == b) ≡ q → (if q then true else touches cs b) ≡ true → fenced l.fence b ≡ false
+      by true e f = subst (λ k. fenced l.fence k ≡ false) (let is : a ≡ b = grind (arith, nat_tests) in is) out
+      by false e f = h b f
+
+  stored : (log buffer : LogState) (k : LockView) (more : List TrailItem) (a x : ℕ) (m : World) → k.taken ≡ true → k.started ≡ true → k.irrevocable ≡ l.granted → l.start < CLOCK_LIMIT
       → (k.irrevocable ≡ false → log.items ≡ items k.undo) → (k.irrevocable ≡ false → addresses log.items ≡ addresses (put a x (items v.attempt.stores))) → Inside c.words k.undo
-      → IsInside good c n (record l { undo = log; wrote = true }) (view_after (store_heap a x) m (aside v k more) x)
-  stored log k more a x m taken started sure low undone undoable within = let j = locked good c n l v locks i in record {
+      → (k.irrevocable ≡ false → (buffer.items ≡ put a x (items v.attempt.stores)) × (length buffer.marks ≡ l.depth)) → fenced l.fence a ≡ false
+      → IsInside good c n (record l { undo = log; writes = buffer; wrote = true }) (view_after (store_heap a x) m (aside v k more) x)
+  stored log buffer k more a x m taken started sure low undone undoable within buffered out = let j = locked good c n l v locks i in record {
     phase = i.phase;
     named = i.named;
     spared = record { is = i.spared.is; fits = i.spared.fits };
@@ -97,7 +117,7 @@ module _ (good : List ℕ → Type 0) (c : Config) (n : ℕ) (l : Local) (v : Vi
     reads_inside = i.reads_inside;
     looked = λ e. absurd (let no : false ≡ true = sym j.reopened ∙ e in cc);
     granted = i.granted;
-    keeps = keeps-by c l.algorithm l.granted (record l { undo = log; wrote = true }) (view_after (store_heap a x) m (aside v k more) x) (ap takes_lock serial) (record {
+    keeps = keeps-by c l.algorithm l.granted (record l { undo = log; writes = buffer; wrote = true }) (view_after (store_heap a x) m (aside v k more) x) (ap takes_lock serial) (record {
       taken = taken;
       started = started;
       unwritten = j.unwritten;
@@ -109,6 +129,9 @@ module _ (good : List ℕ → Type 0) (c : Config) (n : ℕ) (l : Local) (v : Vi
       undone = undone;
       undoable = undoable;
       within = within;
+      writes = λ e. (buffered e).0;
+      marked = λ e. (buffered e).1;
+      apart = λ e. apart-more a x v.attempt.stores out (j.apart (sure-by ∙ (sym sure ∙ e)));
       rises = j.rises;
       limit = λ e. low;
     });
@@ -119,31 +142,31 @@ module _ (good : List ℕ → Type 0) (c : Config) (n : ℕ) (l : Local) (v : Vi
       ∙ (ap (λ b. logs_writes v.gate.algorithm && (not (is_irrevocable (known_of v o)) && b)) room ∙ and-false (logs_writes v.gate.algorithm) (not (is_irrevocable (known_of v o))))
 
   -- once irrevocable a store needs nothing
-  pub may-store-sure : (a : ℕ) → a < c.words → l.granted ≡ true → l.start < CLOCK_LIMIT → MayStore good c n a l v v
-  may-store-sure a within granted low = let sure = sure-by ∙ granted in let j = locked good c n l v locks i in record {
-    fence = refl;
-    can = λ x small. record { has = record { phase = i.phase; algorithm = locks; taken = j.taken }; started = j.started; inside = within; small = small; undoable = λ e. absurd (let no : true ≡ false = sym sure ∙ e in cc) };
-    inside = λ x m. stored l.undo v.lock [] a x m j.taken j.started sure-by low (λ e. absurd (let no : true ≡ false = sym sure ∙ e in cc)) (λ e. absurd (let no : true ≡ false = sym sure ∙ e in cc)) j.within;
-    written = λ o own x m. tells-store good c n a x v v o m i.phase locks own.0 (never-full a (known_of v o) (revocable-by o ∙ sure)).1 (logged-refl v) refl (still-opaque good c n l v o i);
+  pub may-store-sure : (a x : ℕ) → a < c.words → fenced l.fence a ≡ false → l.granted ≡ true → l.start < CLOCK_LIMIT → MayStore good c n a x l v v
+  may-store-sure a x within out granted low = let sure = sure-by ∙ granted in let j = locked good c n l v locks i in record {
+    gate = refl;
+    can = λ small. record { has = record { phase = i.phase; algorithm = locks; taken = j.taken }; started = j.started; inside = within; small = small; undoable = λ e. absurd (let no : true ≡ false = sym sure ∙ e in cc) };
+    inside = λ m. stored l.undo l.writes v.lock [] a x m j.taken j.started sure-by low (λ e. absurd (let no : true ≡ false = sym sure ∙ e in cc)) (λ e. absurd (let no : true ≡ false = sym sure ∙ e in cc)) j.within (λ e. absurd (let no : true ≡ false = sym sure ∙ e in cc)) out;
+    written = λ o own m. tells-store good c n a x v v o m i.phase locks own.0 (never-full a (known_of v o) (revocable-by o ∙ sure)).1 (logged-refl v) refl (still-opaque good c n l v o i);
   }
 
   -- a store whose old value was kept
-  pub may-store-logged : (a : ℕ) (u w : View) (m : Local) → a < c.words → l.granted ≡ false → l.start < CLOCK_LIMIT → IsClocked v u → HasLogged c.words a l u m w → MayStore good c n a m v w
-  may-store-logged a u w m within revocable low k h = let j = locked good c n l v locks i in let rev : v.lock.irrevocable ≡ false = sure-by ∙ revocable in record {
-    fence = ap (λ (y : View). y.gate.fence) path;
-    can = λ x small. record {
+  pub may-store-logged : (a x : ℕ) (u w : View) (m : Local) → a < c.words → fenced l.fence a ≡ false → l.writes.len ≡ l.undo.len → l.granted ≡ false → l.start < CLOCK_LIMIT → IsClocked v u → HasLogged c.words a x l u m w → MayStore good c n a x m v w
+  may-store-logged a x u w m within out len revocable low k h = let j = locked good c n l v locks i in let rev : v.lock.irrevocable ≡ false = sure-by ∙ revocable in record {
+    gate = ap (λ (y : View). y.gate) path;
+    can = λ small. record {
       has = subst (λ (y : View). HasLock y) (sym path) (record { phase = i.phase; algorithm = locks; taken = ap (λ (y : View). y.lock.taken) flat ∙ (ap (λ (y : View). y.lock.taken) k.is ∙ j.taken) });
       started = ap (λ (y : View). y.lock.started) flat ∙ (ap (λ (y : View). y.lock.started) k.is ∙ j.started);
       inside = within;
       small = small;
       undoable = λ e. h.logged;
     };
-    inside = λ x p. subst (λ (y : View). IsInside good c n (record m { wrote = true }) (view_after (store_heap a x) p y x)) (sym path)
+    inside = λ p. subst (λ (y : View). IsInside good c n (record m { wrote = true }) (view_after (store_heap a x) p y x)) (sym path)
         (subst (λ (q : Local). IsInside good c n (record q { wrote = true }) (view_after (store_heap a x) p (aside v w.lock more) x)) (sym h.local)
-        (stored m.undo w.lock more a x p (ap (λ (y : View). y.lock.taken) flat ∙ (ap (λ (y : View). y.lock.taken) k.is ∙ j.taken)) (ap (λ (y : View). y.lock.started) flat ∙ (ap (λ (y : View). y.lock.started) k.is ∙ j.started)) (ap (λ (y : View). y.lock.irrevocable) flat ∙ (ap (λ (y : View). y.lock.irrevocable) k.is ∙ sure-by)) low
-        (λ e. h.undone) (λ e. h.undoable x ∙ ap (λ (y : View). addresses (put a x (items y.attempt.stores))) k.is) h.within));
-    written = λ o own x p. tells-store good c n a x v w o p i.phase locks own.0
-        (room-by a o (roomy a l.undo.items (items v.attempt.stores) l.undo.len o.writes_limit (j.undoable rev) (own.1 ∙ h.len) h.room))
+        (stored m.undo m.writes w.lock more a x p (ap (λ (y : View). y.lock.taken) flat ∙ (ap (λ (y : View). y.lock.taken) k.is ∙ j.taken)) (ap (λ (y : View). y.lock.started) flat ∙ (ap (λ (y : View). y.lock.started) k.is ∙ j.started)) (ap (λ (y : View). y.lock.irrevocable) flat ∙ (ap (λ (y : View). y.lock.irrevocable) k.is ∙ sure-by)) low
+        (λ e. h.undone) (λ e. h.undoable ∙ ap (λ (y : View). addresses (put a x (items y.attempt.stores))) k.is) h.within (λ e. (h.writes ∙ ap (λ (y : View). put a x (items y.attempt.stores)) k.is, ap length h.marks ∙ j.marked rev)) out));
+    written = λ o own p. tells-store good c n a x v w o p i.phase locks own.0
+        (room-by a o (roomy a l.writes.items (items v.attempt.stores) l.writes.len o.writes_limit (ap addresses (j.writes rev)) (own.1 ∙ (h.undo_len ∙ sym len)) h.room))
         (subst (λ (y : View). IsLogged v y) (sym path) (record { history = refl; gate = refl; sure = ap (λ (y : View). y.lock.irrevocable) flat ∙ ap (λ (y : View). y.lock.irrevocable) k.is; fence = refl; start = refl; rises = refl; base = refl; installs = refl; trail = (more, refl) }))
         (ap (λ (y : View). y.attempt) path) (still-opaque good c n l v o i);
   }
@@ -179,10 +202,10 @@ module _ (good : List ℕ → Type 0) (c : Config) (n : ℕ) (l : Local) (v : Vi
       (quits-left n v g.before o (unmade-clocked u g.before k g.unmade) (let e = g.rises in let f : u.steps.rises ≡ v.steps.rises = ap (λ (y : View). y.steps.rises) k.is in let b = j.rises in (omega arith, omega arith)) (revocable-by o ∙ (sure-by ∙ revocable)))
 
   -- THE FULL LOG
-  pub full-by : (a : ℕ) (o : Own) → l.granted ≡ false → o.writes_limit ≡ l.undo.len → item_at a l.undo.items ≡ None → length l.undo.items ≡ l.undo.len → writes_full a (known_of v o) ≡ true
+  pub full-by : (a : ℕ) (o : Own) → l.granted ≡ false → o.writes_limit ≡ l.writes.len → item_at a l.writes.items ≡ None → length l.writes.items ≡ l.writes.len → writes_full a (known_of v o) ≡ true
   full-by a o revocable own none long = let j = locked good c n l v locks i in
       ap (λ (ws : List (ℕ × ℕ)). logs_writes v.gate.algorithm && (not (is_irrevocable (known_of v o)) && (not (has_item a ws) && (length ws == o.writes_limit)))) (written-plain v.gate.algorithm v.gate.granted v o locks)
-      ∙ (ap (λ b. logs_writes v.gate.algorithm && (not (is_irrevocable (known_of v o)) && b)) (filled a l.undo.items (items v.attempt.stores) l.undo.len o.writes_limit (j.undoable (sure-by ∙ revocable)) own none long)
+      ∙ (ap (λ b. logs_writes v.gate.algorithm && (not (is_irrevocable (known_of v o)) && b)) (filled a l.writes.items (items v.attempt.stores) l.writes.len o.writes_limit (ap addresses (j.writes (sure-by ∙ revocable))) own none long)
       ∙ (ap (λ b. logs_writes v.gate.algorithm && (not b && true)) (revocable-by o ∙ (sure-by ∙ revocable)) ∙ ap (λ b. logs_writes b && true) named))
 
   pub roomy-empty : (a : ℕ) (o : Own) → l.wrote ≡ false → 0 < o.writes_limit → writes_full a (known_of v o) ≡ false

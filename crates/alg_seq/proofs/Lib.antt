@@ -7,3 +7,4 @@ pub mod Granting
 mod TmlLaws
 pub mod NestingLaws
 pub mod CountingLaws
+pub mod RollingLaws

@@ -1,43 +1,73 @@
--- What the marks of an attempt of CGL come to.
-use Rattle.std.proofs.Common.{ℕ, ◌≡◌, List, Bool, true, false, refl, sym, ap, ◌∙◌, subst}
-use Rattle.std.specs.Prelude.{not}
+-- What the marks of an attempt of CGL, TML or Serial come to.
+use Rattle.std.proofs.Common.{ℕ, zero, suc, ◌≡◌, ◌≤◌, ◌+◌, ◌-◌, List, [], ◌∷◌, ◌++◌, length, get_or, take, Bool, true, false, refl, sym, ap, ◌∙◌, arith, subst, length-append}
+use Rattle.std.specs.Prelude.{replicate}
+use Rattle.std.proofs.lemmas.List.{length-replicate, get_or-replicate, take-replicate, length-take-le}
 use Rattle.stm_model.specs.Algorithms.{is_sure}
 use Rattle.stm_model.specs.declared.alg.Alg.{Alg}
-use Rattle.stm_model.specs.declared.alg.Alg.TheVariants.{Cgl}
+use Rattle.stm_model.specs.declared.alg.Alg.TheVariants.{Cgl, Tml, OrecLazy, OrecEager, RingSw, Serial}
 use Rattle.stm_model.specs.declared.config.Config.{Config}
-use Rattle.stm_model.specs.Memories.{is_empty}
 use Rattle.rule_base.specs.declared.views.View.{View}
 use Rattle.rule_base.specs.Bridge.{items}
+use Rattle.rule_base.specs.Own.{Own}
 use Rattle.stm_rule.specs.declared.local.Local.{Local}
 use Rattle.stm_rule.specs.Attempts.{own_of, IsInside, IsLocked}
 use Rattle.stm_rule.specs.Attempts as attempts
-use Rattle.tx_answers.specs.Known.{Known, known_of, granted_under, written_under, is_irrevocable}
+use Rattle.tx_answers.specs.Answers.{IsMarked, IsRolled, Releases}
+use Rattle.tx_answers.specs.Known.{Known, known_of, written_under, is_irrevocable, is_in, is_closing}
+use Rattle.tx_answers.specs.KnownLaws.{grows-same}
+use Rattle.tx_logs.specs.LogStates.{LogState, rolled}
+use Rattle.stm_gate.specs.Opacity.{opaque-inside}
+use Rattle.stm_gate.specs.Sure.{sure-of}
+use Rattle.alg_seq.specs.Nesting.{is_sequential}
 
-module _ (good : List ℕ → Type 0) (c : Config) (n : ℕ) (l : Local) (v : View) (i : IsInside good c n l v) (cgl : v.gate.algorithm ≡ Cgl) (d : ℕ) where
-  abbrev deeper : Local
-  deeper = record l { depth = d }
+-- so many marks stand; those of TML had nothing
+abbrev HasDepth : Alg → List (List (ℕ × ℕ)) → ℕ → Type 0
+HasDepth Cgl marks d = length marks ≡ d
+HasDepth Tml marks d = marks ≡ replicate d []
+HasDepth OrecLazy marks d = length marks ≡ d
+HasDepth OrecEager marks d = length marks ≡ d
+HasDepth RingSw marks d = length marks ≡ d
+HasDepth Serial marks d = length marks ≡ d
 
-  locked : IsLocked c l v
-  locked = subst (λ (a : Alg). attempts.Keeps c a l.granted l v) (sym i.named ∙ cgl) i.keeps
+replicate-more : (d : ℕ) → replicate d [] ++ [] ∷ [] ≡ (let ws : List (List (ℕ × ℕ)) = replicate (d + 1) [] in ws)
+replicate-more zero = refl
+replicate-more (suc d) = ap (λ (ws : List (List (ℕ × ℕ))). [] ∷ ws) (replicate-more d) ∙ ap (λ (k : ℕ). replicate k []) next
+  where
+    next : suc (d + 1) ≡ suc d + 1
+    next = omega arith
 
-  pub stays-deeper : IsInside good c n (record l { depth = d }) v
-  stays-deeper = let p = locked in record {
-    phase = i.phase;
-    named = i.named;
-    built = i.built;
-    disowned = i.disowned;
-    unentered = i.unentered;
-    start = i.start;
-    front = i.front;
-    legal = i.legal;
-    below = i.below;
-    sees = i.sees;
-    reads_inside = i.reads_inside;
-    looked = i.looked;
-    granted = i.granted;
-    steady = i.steady;
-    spared = record { is = i.spared.is; fits = i.spared.fits };
-    keeps = subst (λ (a : Alg). attempts.Keeps c a l.granted deeper v) (sym (sym i.named ∙ cgl)) (record {
+-- what lies in the heap is known whatever the descriptor keeps
+written-own : (a : Alg) → is_sequential a ≡ true → (granted : Bool) (v : View) (o : Own) → written_under a granted v o ≡ items v.attempt.stores
+written-own Cgl s granted v o = refl
+written-own Tml s granted v o = refl
+written-own Serial s granted v o = refl
+written-own OrecLazy s granted v o = absurd cc
+written-own OrecEager s granted v o = absurd cc
+written-own RingSw s granted v o = absurd cc
+
+module _ (good : List ℕ → Type 0) (c : Config) (n : ℕ) (l : Local) (v : View) (i : IsInside good c n l v) (sequential : is_sequential v.gate.algorithm ≡ true) where
+  abbrev with_log : LogState → ℕ → Local
+  with_log log d = record l { writes = log; depth = d }
+
+  other : (a : Alg) → l.algorithm ≡ a → is_sequential a ≡ true
+  other a e = ap is_sequential (sym (i.named ∙ e)) ∙ sequential
+
+  pub sure-known : is_irrevocable (known_of v (own_of l)) ≡ is_sure l.algorithm l.granted l.wrote
+  sure-known = sure-of good c n l v (own_of l) i
+
+  pub written : (o : Own) → written_under v.gate.algorithm v.gate.granted v o ≡ items v.attempt.stores
+  written o = written-own v.gate.algorithm sequential v.gate.granted v o
+
+  -- ANOTHER LOG, with as many marks as are counted
+  module _ (log : LogState) (d : ℕ) (same : log.items ≡ l.writes.items) (marks : is_sure l.algorithm l.granted l.wrote ≡ false → HasDepth l.algorithm log.marks d) where
+    abbrev m : Local
+    m = with_log log d
+
+    counted : (a : Alg) → l.algorithm ≡ a → is_sure l.algorithm l.granted l.wrote ≡ false → HasDepth a log.marks d
+    counted a e plain = subst (λ (q : Alg). HasDepth q log.marks d) e (marks plain)
+
+    locked-with : (v.lock.irrevocable ≡ false → length log.marks ≡ d) → IsLocked c l v → IsLocked c m v
+    locked-with count p = record {
       taken = p.taken;
       started = p.started;
       unwritten = p.unwritten;
@@ -49,14 +79,180 @@ module _ (good : List ℕ → Type 0) (c : Config) (n : ℕ) (l : Local) (v : Vi
       undone = p.undone;
       undoable = p.undoable;
       within = p.within;
+      writes = λ e. same ∙ p.writes e;
+      marked = count;
+      apart = p.apart;
       rises = p.rises;
       limit = p.limit;
-    });
-  }
+    }
 
-  pub same-deeper : known_of v (own_of (record l { depth = d })) ≡ record (known_of v (own_of l)) { depth = d }
-  same-deeper = ap (λ (ws : List (ℕ × ℕ)). let k : Known = record (known_of v (own_of deeper)) { log = record { reads = items v.attempt.reads; writes = ws } } in k)
-      ((λ j. written_under (cgl j) v.gate.granted v (own_of deeper)) ∙ (λ j. written_under (sym cgl j) v.gate.granted v (own_of l)))
+    keeps-with : (a : Alg) (g : Bool) → l.algorithm ≡ a → l.granted ≡ g → attempts.Keeps c a g l v → attempts.Keeps c a g m v
+    keeps-with Cgl g e f k = locked-with (λ r. counted Cgl e (sym k.sure ∙ r)) k
+    keeps-with Serial g e f k = locked-with (λ r. counted Serial e (sym k.sure ∙ r)) k
+    keeps-with Tml true e f k = record { granted = k.granted; calm = k.calm; holds = k.holds; clear = k.clear; clean = k.clean; dirty = k.dirty; rises = k.rises; limit = k.limit }
+    keeps-with Tml false e f k = record {
+      inside = k.inside;
+      settled = k.settled;
+      unlocked = k.unlocked;
+      unfixed = k.unfixed;
+      uncommitted = k.uncommitted;
+      ungranted = k.ungranted;
+      even = k.even;
+      writer = k.writer;
+      clean = k.clean;
+      dirty = k.dirty;
+      uncalm = k.uncalm;
+      rises = k.rises;
+      limit = k.limit;
+      unbuffered = same ∙ k.unbuffered;
+      marked = λ w. counted Tml e ((λ j. is_sure (e j) (f j) l.wrote) ∙ w);
+      sole = k.sole;
+    }
+    keeps-with OrecLazy g e f k = absurd (let no : false ≡ true = other OrecLazy e in cc)
+    keeps-with OrecEager g e f k = absurd (let no : false ≡ true = other OrecEager e in cc)
+    keeps-with RingSw g e f k = absurd (let no : false ≡ true = other RingSw e in cc)
 
-  pub sure-known : is_irrevocable (known_of v (own_of l)) ≡ true
-  sure-known = λ j. is_sure (cgl j) (granted_under v.gate.algorithm v.gate v.lock) (not (is_empty (known_of v (own_of l)).log.writes))
+    pub stays-with : IsInside good c n (record l { writes = log; depth = d }) v
+    stays-with = record {
+      phase = i.phase;
+      named = i.named;
+      built = i.built;
+      disowned = i.disowned;
+      unentered = i.unentered;
+      start = i.start;
+      front = i.front;
+      legal = i.legal;
+      below = i.below;
+      sees = i.sees;
+      reads_inside = i.reads_inside;
+      looked = i.looked;
+      granted = i.granted;
+      steady = i.steady;
+      spared = record { is = i.spared.is; fits = i.spared.fits };
+      keeps = keeps-with l.algorithm l.granted refl refl i.keeps;
+    }
+
+  pub known-with : (log : LogState) (d : ℕ) → known_of v (own_of (record l { writes = log; depth = d })) ≡ record (known_of v (own_of l)) { depth = d; marks = log.marks }
+  known-with log d = ap (λ (ws : List (ℕ × ℕ)). let k : Known = record (known_of v (own_of (with_log log d))) { log = record { reads = items v.attempt.reads; writes = ws } } in k)
+      (written (own_of (with_log log d)) ∙ sym (written (own_of l)))
+
+  -- ONCE IRREVOCABLE a mark is a number
+  module _ (sure : is_sure l.algorithm l.granted l.wrote ≡ true) (d : ℕ) where
+    pub stays-deeper : IsInside good c n (record l { depth = d }) v
+    stays-deeper = stays-with l.writes d refl (λ e. absurd (let no : true ≡ false = sym sure ∙ e in cc))
+
+    pub deeper-marked : is_irrevocable (known_of v (own_of l)) ≡ true
+    deeper-marked = sure-known ∙ sure
+
+  -- UNTIL THEN the write log has what was written, and the marks
+  module _ (plain : is_sure l.algorithm l.granted l.wrote ≡ false) where
+    pub revocable : is_irrevocable (known_of v (own_of l)) ≡ false
+    revocable = sure-known ∙ plain
+
+    clean-at : (a : Alg) (g : Bool) → l.algorithm ≡ a → l.granted ≡ g → is_sure a g l.wrote ≡ false
+    clean-at a g e f = (λ j. is_sure (sym e j) (sym f j) l.wrote) ∙ plain
+
+    depth-at : (a : Alg) (g : Bool) → l.algorithm ≡ a → l.granted ≡ g → attempts.Keeps c a g l v → HasDepth a l.writes.marks l.depth × (length l.writes.marks ≡ l.depth) × (l.writes.items ≡ items v.attempt.stores) × HasDepth a (l.writes.marks ++ l.writes.items ∷ []) (l.depth + 1)
+    depth-at Cgl g e f k = absurd (let no : true ≡ false = clean-at Cgl g e f in cc)
+    depth-at Tml true e f k = absurd (let no : true ≡ false = clean-at Tml true e f in cc)
+    depth-at Tml false e f k =
+        let w : l.wrote ≡ false = clean-at Tml false e f in
+        (k.marked w, ap length (k.marked w) ∙ length-replicate l.depth [], k.unbuffered ∙ ap items (sym (k.clean w)), (λ j. k.marked w j ++ k.unbuffered j ∷ []) ∙ replicate-more l.depth)
+    depth-at Serial g e f k = let r = sym (sym plain ∙ sym k.sure) in let count = k.marked r in let size = length-append l.writes.marks (l.writes.items ∷ []) in (count, count, k.writes r, omega arith)
+    depth-at OrecLazy g e f k = absurd (let no : false ≡ true = other OrecLazy e in cc)
+    depth-at OrecEager g e f k = absurd (let no : false ≡ true = other OrecEager e in cc)
+    depth-at RingSw g e f k = absurd (let no : false ≡ true = other RingSw e in cc)
+
+    stands : HasDepth l.algorithm l.writes.marks l.depth × (length l.writes.marks ≡ l.depth) × (l.writes.items ≡ items v.attempt.stores) × HasDepth l.algorithm (l.writes.marks ++ l.writes.items ∷ []) (l.depth + 1)
+    stands = depth-at l.algorithm l.granted refl refl i.keeps
+
+    pub count : length l.writes.marks ≡ l.depth
+    count = stands.1
+
+    pub written-before : written_under v.gate.algorithm v.gate.granted v (own_of l) ≡ l.writes.items
+    written-before = written (own_of l) ∙ sym stands.2
+
+    depth-take : (a : Alg) (d : ℕ) → HasDepth a l.writes.marks l.depth → d ≤ l.depth → HasDepth a (take d l.writes.marks) d
+    depth-take Tml d h low = ap (take d) h ∙ take-replicate d l.depth [] low
+    depth-take Cgl d h low = length-take-le d l.writes.marks (omega arith)
+    depth-take OrecLazy d h low = length-take-le d l.writes.marks (omega arith)
+    depth-take OrecEager d h low = length-take-le d l.writes.marks (omega arith)
+    depth-take RingSw d h low = length-take-le d l.writes.marks (omega arith)
+    depth-take Serial d h low = length-take-le d l.writes.marks (omega arith)
+
+    -- who can be rolled back, and isn't of Serial, is of TML
+    pub reads-only : (l.algorithm ≡ Serial → ⊥) → l.algorithm ≡ Tml
+    reads-only h = by l.algorithm refl h
+      where
+        by : (a : Alg) → l.algorithm ≡ a → (a ≡ Serial → ⊥) → l.algorithm ≡ Tml
+        by Tml e h = e
+        by Serial e h = absurd (h refl)
+        by Cgl e h = absurd (let no : true ≡ false = clean-at Cgl l.granted e refl in cc)
+        by OrecLazy e h = absurd (let no : false ≡ true = other OrecLazy e in cc)
+        by OrecEager e h = absurd (let no : false ≡ true = other OrecEager e in cc)
+        by RingSw e h = absurd (let no : false ≡ true = other RingSw e in cc)
+
+    -- A MARK
+    module _ (log : LogState) (is : log ≡ record l.writes { marks = l.writes.marks ++ l.writes.items ∷ [] }) where
+      pub stays-marked : IsInside good c n (record l { writes = log; depth = l.depth + 1 }) v
+      stays-marked = stays-with log (l.depth + 1) (ap (λ (q : LogState). q.items) is) (λ p. subst (λ (ms : List (List (ℕ × ℕ))). HasDepth l.algorithm ms (l.depth + 1)) (sym (ap (λ (q : LogState). q.marks) is)) stands.3)
+
+      pub marks-now : IsMarked (known_of v (own_of l)) (known_of v (own_of (record l { writes = log; depth = l.depth + 1 })))
+      marks-now = record {
+        is = known-with log (l.depth + 1);
+        marks = λ r. (count, ap (λ (q : LogState). q.marks) is ∙ ap (λ (ws : List (ℕ × ℕ)). l.writes.marks ++ ws ∷ []) (sym written-before));
+      }
+
+    -- A RELEASE
+    module _ (log : LogState) (d : ℕ) (low : 1 ≤ d) (high : d ≤ l.depth) (is : log ≡ record l.writes { marks = take (d - 1) l.writes.marks }) where
+      pub stays-released : IsInside good c n (record l { writes = log; depth = d - 1 }) v
+      stays-released = stays-with log (d - 1) (ap (λ (q : LogState). q.items) is) (λ p. subst (λ (ms : List (List (ℕ × ℕ))). HasDepth l.algorithm ms (d - 1)) (sym (ap (λ (q : LogState). q.marks) is)) (depth-take l.algorithm (d - 1) stands.0 (omega arith)))
+
+      pub releases-now : Releases d (known_of v (own_of l)) (known_of v (own_of (record l { writes = log; depth = d - 1 })))
+      releases-now = record { is = known-with log (d - 1); marks = λ r. ap (λ (q : LogState). q.marks) is }
+
+    -- A ROLL BACK of a reader of TML
+    module _ (tml : l.algorithm ≡ Tml) (quiet : l.committing ≡ false) (log : LogState) (d : ℕ) (low : 1 ≤ d) (high : d ≤ l.depth) (is : log ≡ rolled d l.writes) where
+      reader : (a : Alg) (g : Bool) → l.algorithm ≡ a → l.granted ≡ g → a ≡ Tml → attempts.Keeps c a g l v → (l.writes.items ≡ []) × (items v.attempt.stores ≡ []) × (l.writes.marks ≡ replicate l.depth [])
+      reader Tml true e f t k = absurd (let no : true ≡ false = clean-at Tml true e f in cc)
+      reader Tml false e f t k = let w : l.wrote ≡ false = clean-at Tml false e f in (k.unbuffered, ap items (k.clean w), k.marked w)
+      reader Cgl g e f t k = absurd cc
+      reader OrecLazy g e f t k = absurd cc
+      reader OrecEager g e f t k = absurd cc
+      reader RingSw g e f t k = absurd cc
+      reader Serial g e f t k = absurd cc
+
+      nothing : (l.writes.items ≡ []) × (items v.attempt.stores ≡ []) × (l.writes.marks ≡ replicate l.depth [])
+      nothing = reader l.algorithm l.granted refl refl tml i.keeps
+
+      empty : get_or l.writes.marks (d - 1) [] ≡ []
+      empty = ap (λ (ms : List (List (ℕ × ℕ))). get_or ms (d - 1) []) nothing.2 ∙ get_or-replicate l.depth (d - 1) [] [] (omega arith)
+
+      pub stays-rolled : IsInside good c n (record l { writes = log; depth = d }) v
+      stays-rolled = stays-with log d (ap (λ (q : LogState). q.items) is ∙ (empty ∙ sym nothing.0)) (λ p. subst (λ (ms : List (List (ℕ × ℕ))). HasDepth l.algorithm ms d) (sym (ap (λ (q : LogState). q.marks) is)) (depth-take l.algorithm d stands.0 high))
+
+      pub rolls-back : IsRolled good c n d (known_of v (own_of l)) (known_of v (own_of (record l { writes = log; depth = d })))
+      rolls-back = record {
+        stays = record {
+          running = ap is_in i.phase;
+          uncommitted = quiet;
+          closing = ap is_closing i.phase;
+          made = refl;
+          grows = grows-same (known_of v (own_of l)) (known_of v (own_of (with_log log d))) refl refl [] refl refl refl refl;
+          alg = refl;
+          fence = refl;
+          base = refl;
+          rises = refl;
+          start = refl;
+          installs = refl;
+          granted = refl;
+          holds = refl;
+          checked = refl;
+        };
+        within = (let h = count in omega arith);
+        reads = refl;
+        writes = written (own_of (with_log log d)) ∙ (nothing.1 ∙ sym empty);
+        depth = refl;
+        marks = ap (λ (q : LogState). q.marks) is;
+        opaque = opaque-inside good c n (with_log log d) v (own_of (with_log log d)) stays-rolled;
+      }

@@ -1,10 +1,10 @@
--- Serial: what a push into the undo log comes to.
-use Rattle.std.proofs.Common.{ℕ, zero, suc, ◌≡◌, ◌<◌, ◌≤◌, ◌-◌, List, [], ◌∷◌, ◌++◌, length, get_or, set, Bool, true, false, refl, sym, ap, ◌∙◌, arith, subst, length-append, ⊎_elim}
+-- Serial: what a push into the logs comes to.
+use Rattle.std.proofs.Common.{ℕ, ◌≡◌, ◌<◌, ◌≤◌, List, [], ◌∷◌, ◌++◌, length, Bool, true, false, refl, sym, ap, ◌∙◌, arith, subst, length-append, ⊎_elim}
 use Rattle.std.specs.Prelude.{Option, Some, None, IsSome, ◌==◌, ◌⊎◌, if◌then◌else◌}
 use Rattle.std.proofs.lemmas.Bool.Decides.{nat_tests}
 use Rattle.stm_model.specs.Memories.{item_at, put}
 use Rattle.stm_model.specs.declared.config.Config.{Config}
-use Rattle.tx_logs.specs.LogStates.{LogState, Pushes, keep, with_last}
+use Rattle.tx_logs.specs.LogStates.{LogState, Pushes, keep}
 use Rattle.tx_logs.specs.declared.push.Push.{Push}
 use Rattle.tx_logs.specs.declared.push.Push.TheVariants as pushes
 use Rattle.rule_base.specs.declared.layout.At.TheVariants.{Heap}
@@ -21,15 +21,7 @@ use Rattle.tx_answers.specs.Causes.{has_item, is_some}
 use Rattle.stm_gate.specs.Logging.{put-new}
 use Rattle.alg_seq.specs.Storing.{HasLogged, Logs}
 use Rattle.stm_gate.specs.Peeling.{has-touched}
-use Rattle.alg_seq.proofs.Undoing.{has-by, put-by, put-there-by}
-
-keep-there : (a x v : ℕ) (ws : List (ℕ × ℕ)) → item_at a ws ≡ Some v → keep a x ws ≡ ws
-keep-there a x v [] e = absurd cc
-keep-there a x v (w ∷ ws) e = by (w.0 == a) refl e (keep-there a x v ws)
-  where
-    by : (b : Bool) → (w.0 == a) ≡ b → (if w.0 == a then Some w.1 else item_at a ws) ≡ Some v → (item_at a ws ≡ Some v → keep a x ws ≡ ws) → (if w.0 == a then w ∷ ws else w ∷ keep a x ws) ≡ w ∷ ws
-    by true q f rec = rw q refl
-    by false q f rec = rw q (ap (λ (l : List (ℕ × ℕ)). w ∷ l) (rec (rw q at f)))
+use Rattle.alg_seq.proofs.Undoing.{has-by, length-by, put-by, put-there-by}
 
 keep-new : (a x : ℕ) (ws : List (ℕ × ℕ)) → item_at a ws ≡ None → keep a x ws ≡ ws ++ (a, x) ∷ []
 keep-new a x [] e = refl
@@ -39,70 +31,70 @@ keep-new a x (w ∷ ws) e = by (w.0 == a) refl e (keep-new a x ws)
     by true q f rec = absurd (let g = rw q at f in cc)
     by false q f rec = rw q (ap (λ (l : List (ℕ × ℕ)). w ∷ l) (rec (rw q at f)))
 
-set-last : (ws : List (ℕ × ℕ)) (p q : ℕ × ℕ) (k : ℕ) → k ≡ length ws → set (ws ++ p ∷ []) k q ≡ ws ++ q ∷ []
-set-last [] p q zero e = refl
-set-last [] p q (suc k) e = absurd (omega arith)
-set-last (w ∷ ws) p q zero e = absurd (omega arith)
-set-last (w ∷ ws) p q (suc k) e = ap (λ (l : List (ℕ × ℕ)). w ∷ l) (set-last ws p q k (omega arith))
-
-get-last : (ws : List (ℕ × ℕ)) (p d : ℕ × ℕ) (k : ℕ) → k ≡ length ws → get_or (ws ++ p ∷ []) k d ≡ p
-get-last [] p d zero e = refl
-get-last [] p d (suc k) e = absurd (omega arith)
-get-last (w ∷ ws) p d zero e = absurd (omega arith)
-get-last (w ∷ ws) p d (suc k) e = get-last ws p d k (omega arith)
-
-last-given : (a x v : ℕ) (ws : List (ℕ × ℕ)) → with_last v (ws ++ (a, x) ∷ []) ≡ ws ++ (a, v) ∷ []
-last-given a x v ws = ap (λ (p : ℕ × ℕ). set (ws ++ (a, x) ∷ []) (length (ws ++ (a, x) ∷ []) - 1) (p.0, v)) (get-last ws (a, x) (0, 0) (length (ws ++ (a, x) ∷ []) - 1) at) ∙ set-last ws (a, x) (a, v) (length (ws ++ (a, x) ∷ []) - 1) at
+-- a push that made the write log longer made an item
+pub pushed-more : (r : Push) (a x : ℕ) (l m : LogState) → Pushes l a (put a x l.items) r m → length l.items < length m.items
+    → (r ≡ pushes.Done) × (item_at a l.items ≡ None) × (length l.items < l.len) × (m ≡ record l { items = put a x l.items })
+pushed-more (pushes.Full limit) a x l m p more = absurd (let e = ap (λ (s : LogState). length s.items) p.3 in omega arith)
+pushed-more pushes.Done a x l m p more = by (item_at a l.items) refl p.0
   where
-    at : length (ws ++ (a, x) ∷ []) - 1 ≡ length ws
-    at = let e = length-append ws ((a, x) ∷ []) in omega arith
-
--- a push that made the log longer made an item
-pub pushed-more : (r : Push) (a : ℕ) (l m : LogState) → Pushes l a (keep a 0 l.items) r m → length l.items < length m.items
-    → (r ≡ pushes.Done) × (item_at a l.items ≡ None) × (length l.items < l.len) × (m ≡ record l { items = l.items ++ (a, 0) ∷ [] })
-pushed-more (pushes.Full limit) a l m p more = absurd (let e = ap (λ (s : LogState). length s.items) p.3 in omega arith)
-pushed-more pushes.Done a l m p more = by (item_at a l.items) refl p.0
-  where
-    size : length m.items ≡ length (keep a 0 l.items)
+    size : length m.items ≡ length (put a x l.items)
     size = ap (λ (s : LogState). length s.items) p.1
 
-    by : (o : Option ℕ) → item_at a l.items ≡ o → IsSome (item_at a l.items) ⊎ (length l.items < l.len) → (pushes.Done ≡ pushes.Done) × (item_at a l.items ≡ None) × (length l.items < l.len) × (m ≡ record l { items = l.items ++ (a, 0) ∷ [] })
-    by (Some v) e room = absurd (let long = size in let same = ap length (keep-there a 0 v l.items e) in omega arith)
-    by None e room = (refl, e, ⊎_elim (λ s. absurd (let no : false ≡ true = subst IsSome e s in cc)) (λ k. k) room, p.1 ∙ ap (λ (ws : List (ℕ × ℕ)). record l { items = ws }) (keep-new a 0 l.items e))
+    by : (o : Option ℕ) → item_at a l.items ≡ o → IsSome (item_at a l.items) ⊎ (length l.items < l.len) → (pushes.Done ≡ pushes.Done) × (item_at a l.items ≡ None) × (length l.items < l.len) × (m ≡ record l { items = put a x l.items })
+    by (Some v) e room = absurd (let long = size in let same = length-by (put a x l.items) l.items (put-there-by a x l.items (ap is_some e)) in omega arith)
+    by None e room = (refl, e, ⊎_elim (λ s. absurd (let no : false ≡ true = subst IsSome e s in cc)) (λ k. k) room, p.1)
 
-module _ (c : Config) (a : ℕ) (l : Local) (v : View) (j : IsLocked c l v) (rev : v.lock.irrevocable ≡ false) where
-  pub fresh-undo : item_at a l.undo.items ≡ None → touches v.lock.undo a ≡ false
-  fresh-undo e = has-touched a v.lock.undo ∙ (ap (has_item a) (sym (j.undone rev)) ∙ ap is_some e)
+-- an undo log with room takes an item for an address that it has not
+kept : (r : Push) (a old : ℕ) (l m : LogState) → Pushes l a (keep a old l.items) r m → length l.items < l.len → item_at a l.items ≡ None → m ≡ record l { items = l.items ++ (a, old) ∷ [] }
+kept (pushes.Full limit) a old l m p room none = absurd (let e = p.1 in omega arith)
+kept pushes.Done a old l m p room none = p.1 ∙ ap (λ (ws : List (ℕ × ℕ)). record l { items = ws }) (keep-new a old l.items none)
 
-  -- the log had an item, or has no room
-  pub logs-else : (r : Push) (m : LogState) → Pushes l.undo a (keep a 0 l.undo.items) r m → length m.items ≤ length l.undo.items → Logs c.words a r l v (record l { undo = m }) v
-  logs-else (pushes.Full limit) m p less = (ap (λ (s : LogState). record l { undo = s }) p.3, refl, p.0, p.1, p.2)
-  logs-else pushes.Done m p less = by (item_at a l.undo.items) refl
+module _ (c : Config) (a x : ℕ) (l : Local) (v : View) (j : IsLocked c l v) (rev : v.lock.irrevocable ≡ false) where
+  -- both logs have the addresses of the stores
+  has-undo : has_item a l.undo.items ≡ has_item a l.writes.items
+  has-undo = has-by a l.undo.items (items v.attempt.stores) (j.undoable rev) ∙ ap (has_item a) (sym (j.writes rev))
+
+  none-undo : item_at a l.writes.items ≡ None → item_at a l.undo.items ≡ None
+  none-undo e = by (item_at a l.undo.items) (has-undo ∙ ap is_some e)
     where
-      size : length m.items ≡ length (keep a 0 l.undo.items)
+      by : (o : Option ℕ) → is_some o ≡ false → o ≡ None
+      by None f = refl
+      by (Some y) f = absurd cc
+
+  pub fresh-undo : item_at a l.writes.items ≡ None → touches v.lock.undo a ≡ false
+  fresh-undo e = has-touched a v.lock.undo ∙ (ap (has_item a) (sym (j.undone rev)) ∙ (has-undo ∙ ap is_some e))
+
+  -- the write log had an item, or has no room
+  pub logs-else : (r : Push) (m : LogState) → Pushes l.writes a (put a x l.writes.items) r m → length m.items ≤ length l.writes.items → Logs c.words a x r l v (record l { writes = m }) v
+  logs-else (pushes.Full limit) m p less = (ap (λ (s : LogState). record l { writes = s }) p.3, refl, p.0, p.1, p.2)
+  logs-else pushes.Done m p less = by (item_at a l.writes.items) refl
+    where
+      size : length m.items ≡ length (put a x l.writes.items)
       size = ap (λ (s : LogState). length s.items) p.1
 
-      by : (o : Option ℕ) → item_at a l.undo.items ≡ o → HasLogged c.words a l v (record l { undo = m }) v
-      by None e = absurd (let long = size in let new = ap length (keep-new a 0 l.undo.items e) in let more = length-append l.undo.items ((a, 0) ∷ []) in omega arith)
-      by (Some x) e =
-          let is : m.items ≡ l.undo.items = ap (λ (s : LogState). s.items) p.1 ∙ keep-there a 0 x l.undo.items e in
-          let there : has_item a l.undo.items ≡ true = ap is_some e in record {
+      by : (o : Option ℕ) → item_at a l.writes.items ≡ o → HasLogged c.words a x l v (record l { writes = m }) v
+      by None e = absurd (let long = size in let new = ap length (put-new a x l.writes.items e) in let more = length-append l.writes.items ((a, x) ∷ []) in omega arith)
+      by (Some y) e =
+          let there : has_item a l.writes.items ≡ true = ap is_some e in record {
             local = refl;
-            len = ap (λ (s : LogState). s.len) p.1;
+            undo_len = refl;
+            writes_len = ap (λ (s : LogState). s.len) p.1;
+            marks = ap (λ (s : LogState). s.marks) p.1;
             more = [];
             is = refl;
-            undone = is ∙ j.undone rev;
-            logged = has-touched a v.lock.undo ∙ (ap (has_item a) (sym (j.undone rev)) ∙ there);
+            undone = j.undone rev;
+            logged = has-touched a v.lock.undo ∙ (ap (has_item a) (sym (j.undone rev)) ∙ (has-undo ∙ there));
             within = j.within;
-            undoable = λ y. ap addresses is ∙ (j.undoable rev ∙ sym (put-there-by a y (items v.attempt.stores) (sym (has-by a l.undo.items (items v.attempt.stores) (j.undoable rev)) ∙ there)));
-            room = λ none. absurd (let no : Some x ≡ None = sym e ∙ none in cc);
+            undoable = j.undoable rev ∙ sym (put-there-by a x (items v.attempt.stores) (ap (has_item a) (sym (j.writes rev)) ∙ there));
+            writes = ap (λ (s : LogState). s.items) p.1 ∙ ap (put a x) (j.writes rev);
+            room = λ none. absurd (let no : Some y ≡ None = sym e ∙ none in cc);
           }
 
-  -- the log gets the old value
-  pub logs-then : (r : Push) (m q : LogState) (old : ℕ) (w : View) → a < c.words → Pushes l.undo a (keep a 0 l.undo.items) r m → length l.undo.items < length m.items → q ≡ record m { items = with_last old m.items } → Tells (load_undo a) Nothing v old w
-      → Logs c.words a r l v (record l { undo = q }) w
-  logs-then r m q old w low p more given t = let k = pushed-more r a l.undo m p more in
-      subst (λ (s : Push). Logs c.words a s l v (record l { undo = q }) w) (sym k.0) (subst (λ (y : View). HasLogged c.words a l v (record l { undo = q }) y) (sym t.2) (made k.1 k.2 k.3))
+  -- the undo log gets the old value
+  pub logs-then : (r s : Push) (m q : LogState) (old : ℕ) (w : View) → a < c.words → l.writes.len ≡ l.undo.len → Pushes l.writes a (put a x l.writes.items) r m → length l.writes.items < length m.items → Pushes l.undo a (keep a old l.undo.items) s q → Tells (load_undo a) Nothing v old w
+      → Logs c.words a x r l v (record l { undo = q; writes = m }) w
+  logs-then r s m q old w low len p more given t = let k = pushed-more r a x l.writes m p more in
+      subst (λ (s : Push). Logs c.words a x s l v (record l { undo = q; writes = m }) w) (sym k.0) (subst (λ (y : View). HasLogged c.words a x l v (record l { undo = q; writes = m }) y) (sym t.2) (made k.1 k.2 k.3))
     where
       u : View
       u = view_after (load_undo a) t.0 v old
@@ -110,17 +102,23 @@ module _ (c : Config) (a : ℕ) (l : Local) (v : View) (j : IsLocked c l v) (rev
       here : (a == a) ≡ true
       here = grind (arith, nat_tests)
 
-      made : item_at a l.undo.items ≡ None → length l.undo.items < l.undo.len → m ≡ record l.undo { items = l.undo.items ++ (a, 0) ∷ [] } → HasLogged c.words a l v (record l { undo = q }) u
+      same : length l.undo.items ≡ length l.writes.items
+      same = length-by l.undo.items (items v.attempt.stores) (j.undoable rev) ∙ ap length (sym (j.writes rev))
+
+      made : item_at a l.writes.items ≡ None → length l.writes.items < l.writes.len → m ≡ record l.writes { items = put a x l.writes.items } → HasLogged c.words a x l v (record l { undo = q; writes = m }) u
       made none room is =
-          let to_end : q.items ≡ l.undo.items ++ (a, old) ∷ [] = ap (λ (s : LogState). s.items) given ∙ (ap (λ (s : LogState). with_last old s.items) is ∙ last-given a 0 old l.undo.items) in
-          let put_there : q.items ≡ put a old l.undo.items = to_end ∙ sym (put-new a old l.undo.items none) in record {
+          let grown : q ≡ record l.undo { items = l.undo.items ++ (a, old) ∷ [] } = kept s a old l.undo q given (let e = same in omega arith) (none-undo none) in
+          let put_there : q.items ≡ put a old l.undo.items = ap (λ (z : LogState). z.items) grown ∙ sym (put-new a old l.undo.items (none-undo none)) in record {
             local = refl;
-            len = ap (λ (s : LogState). s.len) given ∙ ap (λ (s : LogState). s.len) is;
+            undo_len = ap (λ (z : LogState). z.len) grown;
+            writes_len = ap (λ (z : LogState). z.len) is;
+            marks = ap (λ (z : LogState). z.marks) is;
             more = record { place = Heap a; act = Load; found = Some old } ∷ [];
             is = refl;
             undone = put_there ∙ ap (put a old) (j.undone rev);
             logged = ap (λ b. if b then true else touches v.lock.undo a) here;
             within = inside-more c.words (record { at = a; value = old }) v.lock.undo low j.within;
-            undoable = λ y. ap addresses put_there ∙ put-by a old y l.undo.items (items v.attempt.stores) (j.undoable rev);
+            undoable = ap addresses put_there ∙ put-by a old x l.undo.items (items v.attempt.stores) (j.undoable rev);
+            writes = ap (λ (z : LogState). z.items) is ∙ ap (put a x) (j.writes rev);
             room = λ e. room;
           }

@@ -12,7 +12,6 @@ use Rattle.stm_model.specs.Logs.{Reads, Keeps}
 use Rattle.stm_model.specs.Memories.{is_empty, item_at, put}
 use Rattle.rule_base.specs.declared.entries.Cell.{Cell}
 use Rattle.rule_base.specs.declared.entries.Entry.{Entry}
-use Rattle.rule_base.specs.declared.layout.At.{At}
 use Rattle.rule_base.specs.declared.layout.At.TheVariants.{Clock, Heap}
 use Rattle.rule_base.specs.declared.views.Act.TheVariants.{Load, Store, Exchange}
 use Rattle.rule_base.specs.declared.views.GateView.{GateView}
@@ -30,7 +29,7 @@ use Rattle.rule_seq.specs.CglSteps.{logged}
 use Rattle.rule_seq.specs.CglSteps as steps
 use Rattle.rule_base.specs.GateSteps.{granted_at}
 use Rattle.rule_promoted.specs.PromotedSteps.{tml_grants, tml_grant, CanTmlGrant}
-use Rattle.rule_seq.specs.TmlSteps.{fresh_tml, tml_begin, TmlBegins, HasTml, tml_load, CanTmlLoad, TmlLoads, tml_again, CanTmlAgain, tml_write, CanTmlWrite, tml_store, CanTmlStore, tml_commit, CanTmlCommit}
+use Rattle.rule_seq.specs.TmlSteps.{fresh_tml, tml_begin, TmlBegins, HasTml, tml_load, TmlLoads, tml_again, CanTmlAgain, tml_write, CanTmlWrite, tml_store, tml_commit, CanTmlCommit}
 use Rattle.stm_rule.specs.declared.local.Local.{Local}
 use Rattle.stm_rule.specs.Attempts.{good_by, IsInside, IsTml, StandsBy, Stands}
 use Rattle.stm_rule.specs.Attempts as Rules
@@ -42,8 +41,8 @@ use Rattle.tx_answers.specs.declared.answers.Read.TheVariants as reads
 use Rattle.tx_answers.specs.declared.answers.Write.TheVariants as writes
 use Rattle.tx_answers.specs.Answers.{write_rise, HasRead, HasWritten, KeepsRule, Commits, CommitsAt, Cancels, Quits, BecomesSure}
 use Rattle.tx_answers.specs.Evidence.{Found}
-use Rattle.tx_answers.specs.Causes.{Conflicts, reads_full, writes_full}
-use Rattle.tx_answers.specs.Known.{Known, known_of, granted_under, written_under, is_irrevocable, wrote, is_in, is_closing}
+use Rattle.tx_answers.specs.Causes.{reads_full, writes_full}
+use Rattle.tx_answers.specs.Known.{known_of, granted_under, written_under, is_irrevocable, wrote, is_in, is_closing}
 use Rattle.tx_answers.specs.KnownLaws.{grows-same}
 use Rattle.stm_gate.specs.InnerLaws.{goes-inner, start-stays, no-log-full}
 use Rattle.stm_gate.specs.Leaving.{CanLeave, left}
@@ -336,6 +335,8 @@ module _ (good : List ℕ → Type 0) (c : Config) (n : ℕ) where
         uncalm = k.uncalm;
         rises = (let q = clean_rises clean in omega arith);
         limit = λ e. room under;
+        unbuffered = k.unbuffered;
+        marked = λ e. absurd cc;
         sole = k.sole;
       });
     })
@@ -617,6 +618,8 @@ module _ (good : List ℕ → Type 0) (c : Config) (n : ℕ) (v : View) (can : C
         uncalm = t.1.uncalm can.reopened;
         rises = (let r = can.rises in omega arith);
         limit = λ e. absurd cc;
+        unbuffered = refl;
+        marked = λ e. refl;
         sole = λ one. (let q = t.1.sole one in let r = can.rises in omega arith);
       };
     };

@@ -14,7 +14,7 @@ use Rattle.rule_base.specs.declared.seats.SeatView.{SeatView}
 use Rattle.rule_base.specs.declared.views.Act.TheVariants.{Store}
 use Rattle.rule_base.specs.StepKinds.{view_after}
 use Rattle.rule_base.specs.World.{World}
-use Rattle.rule_seq.specs.CglSteps.{take_back}
+use Rattle.rule_seq.specs.CglSteps.{store_heap, take_back}
 use Rattle.stm_rule.specs.Attempts.{addresses}
 use Rattle.tx_answers.specs.Causes.{has_item, is_some}
 use Rattle.stm_gate.specs.Peeling.{has-touched, untouched-none}
@@ -86,3 +86,11 @@ taken-step {K} first s t more a x m e p = p ∙ (ap (λ (y : SeatView K). record
 
     undo : t.view.lock.undo ≡ without s.view.lock.undo a
     undo = ap (λ (y : SeatView K). y.view.lock.undo) p
+
+pub stored-step : {K : Type 0} → (first s t : SeatView K) (more : List TrailItem) (a x : ℕ) (m : World) → s ≡ record first { view = taken first.view s.view.attempt.stores first.view.lock.undo more } → t ≡ record s { view = view_after (store_heap a x) m s.view x }
+    → t ≡ record first { view = taken first.view t.view.attempt.stores first.view.lock.undo (record { place = Heap a; act = Store x; found = None } ∷ more) }
+stored-step {K} first s t more a x m e p = p ∙ (ap (λ (y : SeatView K). record y { view = view_after (store_heap a x) m y.view x }) e
+    ∙ (λ i. record first { view = taken first.view (sym stores i) first.view.lock.undo (record { place = Heap a; act = Store x; found = None } ∷ more) }))
+  where
+    stores : t.view.attempt.stores ≡ record { at = a; value = x } ∷ s.view.attempt.stores
+    stores = ap (λ (y : SeatView K). y.view.attempt.stores) p

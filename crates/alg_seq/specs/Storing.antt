@@ -42,35 +42,46 @@ abbrev pub HasClock : Result (Unit {0}) ℕ → Local → View → View → Type
 HasClock (Ok _) l v w = IsClocked v w × (l.start < CLOCK_LIMIT)
 HasClock (Err clock) l v w = IsClocked v w × (l.wrote ≡ false) × (CLOCK_LIMIT ≤ clock) × ((o : Own) → Found Clock clock (known_of v o) (known_of w o))
 
--- the undo log has the old value at a
-pub record HasLogged (words a : ℕ) (l : Local) (v : View) (m : Local) (w : View) : Type 0 where
-  pub local : m ≡ record l { undo = m.undo }
-  pub len : m.undo.len ≡ l.undo.len
+-- the undo log has the old value at a, and the write log the new one
+pub record HasLogged (words a x : ℕ) (l : Local) (v : View) (m : Local) (w : View) : Type 0 where
+  pub local : m ≡ record l { undo = m.undo; writes = m.writes }
+  pub undo_len : m.undo.len ≡ l.undo.len
+  pub writes_len : m.writes.len ≡ l.writes.len
+  pub marks : m.writes.marks ≡ l.writes.marks
   pub more : List TrailItem
   pub is : w ≡ record v { lock = record v.lock { undo = w.lock.undo }; steps = record v.steps { trail = more ++ v.steps.trail } }
   pub undone : m.undo.items ≡ items w.lock.undo
   pub logged : touches w.lock.undo a ≡ true
   pub within : Inside words w.lock.undo
-  pub undoable : (x : ℕ) → addresses m.undo.items ≡ addresses (put a x (items v.attempt.stores))
-  pub room : item_at a l.undo.items ≡ None → length l.undo.items < l.undo.len
+  pub undoable : addresses m.undo.items ≡ addresses (put a x (items v.attempt.stores))
+  pub writes : m.writes.items ≡ put a x (items v.attempt.stores)
+  pub room : item_at a l.writes.items ≡ None → length l.writes.items < l.writes.len
 
-abbrev pub Logs : ℕ → ℕ → Push → Local → View → Local → View → Type 0
-Logs words a pushes.Done l v m w = HasLogged words a l v m w
-Logs words a (pushes.Full limit) l v m w = (m ≡ l) × (w ≡ v) × (item_at a l.undo.items ≡ None) × (length l.undo.items ≡ l.undo.len) × (limit ≡ l.undo.len)
+abbrev pub Logs : ℕ → ℕ → ℕ → Push → Local → View → Local → View → Type 0
+Logs words a x pushes.Done l v m w = HasLogged words a x l v m w
+Logs words a x (pushes.Full limit) l v m w = (m ≡ l) × (w ≡ v) × (item_at a l.writes.items ≡ None) × (length l.writes.items ≡ l.writes.len) × (limit ≡ l.writes.len)
 
 -- what a descriptor keeps of an attempt whose log is under way
 abbrev pub IsOwn : Local → Own → Type 0
 IsOwn l o = (o.committing ≡ false) × (o.writes_limit ≡ l.undo.len)
 
-module _ (good : List ℕ → Type 0) (c : Config) (n a : ℕ) where
-  -- The word at a may be stored next, whatever the value: the attempt goes on then, and has written it. v is the view at the call.
+module _ (good : List ℕ → Type 0) (c : Config) (n a x : ℕ) where
+  -- x may be stored at a next: the attempt goes on then, and has written it. v is the view at the call.
   pub record MayStore (l : Local) (v w : View) : Type 0 where
-    pub can : (x : ℕ) → x < 2 ^ 64 → CanStoreHeap c.words a x w
-    pub fence : w.gate.fence ≡ v.gate.fence
-    pub inside : (x : ℕ) (m : World) → IsInside good c n (record l { wrote = true }) (view_after (store_heap a x) m w x)
-    pub written : (o : Own) → IsOwn l o → (x : ℕ) (m : World) → HasWritten good c n a x Done (known_of v o) (known_of (view_after (store_heap a x) m w x) o)
+    pub can : x < 2 ^ 64 → CanStoreHeap c.words a x w
+    pub gate : w.gate ≡ v.gate
+    pub inside : (m : World) → IsInside good c n (record l { wrote = true }) (view_after (store_heap a x) m w x)
+    pub written : (o : Own) → IsOwn l o → (m : World) → HasWritten good c n a x Done (known_of v o) (known_of (view_after (store_heap a x) m w x) o)
+
+  -- and the logs have what is asked of them
+  pub record IsKept (l : Local) (v : View) (m : Local) (w : View) : Type 0 where
+    pub is : m ≡ record l { undo = m.undo; writes = m.writes }
+    pub undo_len : m.undo.len ≡ l.undo.len
+    pub writes_len : m.writes.len ≡ l.writes.len
+    pub marks : m.writes.marks ≡ l.writes.marks
+    pub may : MayStore m v w
 
   -- the old value is kept, or the attempt is taken back and ended
   abbrev pub KeepsOld : Result (Unit {0}) Write → Local → View → Local → View → Type 0
-  KeepsOld (Ok _) l v m w = (m.undo.len ≡ l.undo.len) × (m ≡ record l { undo = m.undo }) × MayStore m v w
-  KeepsOld (Err refusal) l v m w = (m ≡ ended l) × IsOutside w × ((x : ℕ) (o : Own) → IsOwn l o → HasWritten good c n a x refusal (known_of v o) (known_of w o))
+  KeepsOld (Ok _) l v m w = IsKept l v m w
+  KeepsOld (Err refusal) l v m w = (m ≡ ended l) × IsOutside w × ((o : Own) → IsOwn l o → HasWritten good c n a x refusal (known_of v o) (known_of w o))

@@ -1,22 +1,30 @@
-//! Marks in an attempt of CGL: it is irrevocable from its begin on, so a mark is a number and can't be rolled back to.
-ghost use Rattle.std.specs.Prelude.{◌≡◌, ℕ, ◌≤◌};
-ghost use Rattle.stm_model.specs.declared.alg.Alg.TheVariants.{Cgl};
-ghost use Rattle.stm_rule.specs.Callers.{IsOf, IsSameCaller};
-ghost use Rattle.tx_answers.specs.Answers.{Checks, Rolls, Releases};
+//! Marks in an attempt of CGL, TML or Serial. An irrevocable one can't be rolled back, so its marks are numbers: an
+//! attempt of CGL is so from its begin on, of TML from its first write on, of Serial once it is granted. Until then one
+//! of TML has nothing to take back, and one of Serial stores the words back in place.
+ghost use Rattle.stm_rule.specs.Counting.{TakesAtMost};
 ghost use Rattle.tx_answers.specs.Counting.{AddsAtMost};
-ghost use Rattle.tx_answers.specs.Known.{IsRunning};
+ghost use Rattle.std.specs.Prelude.{◌≡◌, ℕ, ◌≤◌, ◌-◌, true, false, length};
+ghost use Rattle.stm_model.specs.Memories.{Once};
+ghost use Rattle.stm_model.specs.declared.alg.Alg.TheVariants.{Serial};
+ghost use Rattle.stm_rule.specs.Callers.{IsOf, IsSameCaller, IsSeatOf};
+ghost use Rattle.stm_rule.specs.Kept.{IsSameSeat, view_of};
+ghost use Rattle.tx_answers.specs.Answers.{Checks, Rolls, Releases};
+ghost use Rattle.tx_answers.specs.Known.{IsRunning, is_irrevocable};
 ghost use Rattle.stm_gate.specs.Knowing.{known, number};
+ghost use Rattle.alg_seq.specs.Nesting.{is_sequential, HasOlds, IsTakenBack, CanStoreAgain, IsStoredAgain};
 
+use stm_model::alg::Alg;
 use stm_model::rule::MemRule;
 use stm_rule::desc::Desc;
-use stm_rule::stm::Stm;
+use stm_rule::stm::{Stm, Token};
 use tx_answers::answers::{Check, Roll};
-use tx_logs::write_log::MAX_MARKS;
+use tx_logs::undo_log::UndoLog;
+use tx_logs::write_log::{MAX_MARKS, WriteLog};
 
-/// Makes a mark.
+/// Makes a mark at what the attempt has written; once it is irrevocable, a mark that can't be rolled back to. No step.
 pub fn checkpoint<K: MemRule>(desc: &mut Desc<K>) -> Check
     requires running { IsRunning (known desc.old) }
-    requires algorithm { (known desc.old).alg ≡ Cgl }
+    requires algorithm { is_sequential (known desc.old).alg ≡ true }
     ensures same { IsSameCaller desc.old desc.new }
     ensures checks { Checks result (known desc.old) (known desc.new) }
     ensures steps { AddsAtMost 0 (known desc.old) (known desc.new) }
@@ -25,36 +33,128 @@ pub fn checkpoint<K: MemRule>(desc: &mut Desc<K>) -> Check
     if depth >= MAX_MARKS {
         return Check::Deep { limit: MAX_MARKS };
     }
+    let sure = desc
+        .local
+        .algorithm
+        .is_sure(desc.local.granted, desc.local.wrote);
+    if sure {
+        desc.local.depth = depth + 1;
+        return Check::Marked { depth: depth + 1 };
+    }
+    desc.local.writes.mark();
     desc.local.depth = depth + 1;
     Check::Marked { depth: depth + 1 }
 }
 
-/// Changes nothing.
+/// Rolls the attempt back to mark `depth`: its writes since are as if they had not been made, its reads are read. The
+/// marks above that one are gone. One step for each word that it had stored.
 pub fn roll_to<K: MemRule>(desc: &mut Desc<K>, stm: &Stm<K>, depth: usize) -> Roll
     requires stm { IsOf desc.old stm.now }
     requires running { IsRunning (known desc.old) }
-    requires algorithm { (known desc.old).alg ≡ Cgl }
+    requires algorithm { is_sequential (known desc.old).alg ≡ true }
     requires low { 1 ≤ depth }
     requires high { depth ≤ (known desc.old).depth }
     ensures same { IsSameCaller desc.old desc.new }
     ensures rolls { Rolls (K.good stm.now.rule) stm.now.config (number desc.old) depth result (known desc.old) (known desc.new) }
-    ensures steps { AddsAtMost 0 (known desc.old) (known desc.new) }
+    ensures steps { AddsAtMost (known desc.old).writes_limit (known desc.old) (known desc.new) }
 {
-    let _number = desc.number;
-    let _ = stm;
-    let _depth = depth;
-    Roll::Irrevocable
+    let sure = desc
+        .local
+        .algorithm
+        .is_sure(desc.local.granted, desc.local.wrote);
+    if sure {
+        return Roll::Irrevocable;
+    }
+    if let Alg::Serial = desc.local.algorithm {
+        return roll_in_place(desc, stm, depth);
+    }
+    // A reader of TML has nothing to take back.
+    desc.local.writes.roll_to(depth);
+    desc.local.depth = depth;
+    Roll::Rolled
 }
 
-/// Drops the marks from `depth` on.
+/// Drops the marks from `depth` on, and keeps what was written since. No step.
 pub fn release<K: MemRule>(desc: &mut Desc<K>, depth: usize)
     requires running { IsRunning (known desc.old) }
-    requires algorithm { (known desc.old).alg ≡ Cgl }
+    requires algorithm { is_sequential (known desc.old).alg ≡ true }
     requires low { 1 ≤ depth }
     requires high { depth ≤ (known desc.old).depth }
     ensures same { IsSameCaller desc.old desc.new }
     ensures releases { Releases depth (known desc.old) (known desc.new) }
     ensures steps { AddsAtMost 0 (known desc.old) (known desc.new) }
 {
+    let sure = desc
+        .local
+        .algorithm
+        .is_sure(desc.local.granted, desc.local.wrote);
+    if sure {
+        desc.local.depth = depth - 1;
+        return;
+    }
+    desc.local.writes.release(depth);
     desc.local.depth = depth - 1;
+}
+
+/// Rolls an attempt of Serial back: the words that it stored since the mark have the values again that they had there.
+fn roll_in_place<K: MemRule>(desc: &mut Desc<K>, stm: &Stm<K>, depth: usize) -> Roll
+    requires stm { IsOf desc.old stm.now }
+    requires running { IsRunning (known desc.old) }
+    requires algorithm { (known desc.old).alg ≡ Serial }
+    requires revocable { is_irrevocable (known desc.old) ≡ false }
+    requires low { 1 ≤ depth }
+    requires high { depth ≤ (known desc.old).depth }
+    ensures same { IsSameCaller desc.old desc.new }
+    ensures rolls { Rolls (K.good stm.now.rule) stm.now.config (number desc.old) depth result (known desc.old) (known desc.new) }
+    ensures steps { AddsAtMost (known desc.old).writes_limit (known desc.old) (known desc.new) }
+{
+    let caller = desc.number;
+    desc.local.writes.roll_to(depth);
+    let count = desc.local.writes.count();
+    take_back(&mut desc.seat, stm, caller, &desc.local.undo, count);
+    store_again(&mut desc.seat, stm, caller, &desc.local.writes);
+    desc.local.undo.truncate(count);
+    desc.local.wrote = count > 0;
+    desc.local.depth = depth;
+    Roll::Rolled
+}
+
+/// Stores the old values back of all words but the first `left` that the attempt has stored, the last first. One step
+/// for each.
+fn take_back<K: MemRule>(
+    seat: &mut Token<K>,
+    stm: &Stm<K>,
+    caller: usize,
+    undo: &UndoLog,
+    left: usize,
+)
+    requires seat { IsSeatOf stm.now caller seat.old }
+    requires olds { HasOlds stm.now.config.words undo.now.items (view_of seat.old) }
+    requires left { left ≤ length undo.now.items }
+    ensures same { IsSameSeat seat.old seat.new × (seat.new.me.0 ≡ record seat.old.me.0 { view = view_of seat.new }) }
+    ensures back { IsTakenBack stm.now.config.words left undo.now.items (view_of seat.old) (view_of seat.new) }
+    ensures once { Once undo.now.items }
+    ensures within { length undo.now.items ≤ undo.now.len }
+    ensures steps { TakesAtMost (length undo.now.items - left) (view_of seat.old) (view_of seat.new) }
+{
+    let mut count = undo.count();
+    while count > left {
+        count -= 1;
+        let (a, x) = undo.item(count);
+        stm.take_back(seat, caller, a, x);
+    }
+}
+
+/// Stores the values of the write log in the words that the attempt has stored. One step for each.
+fn store_again<K: MemRule>(seat: &mut Token<K>, stm: &Stm<K>, caller: usize, writes: &WriteLog)
+    requires seat { IsSeatOf stm.now caller seat.old }
+    requires again { CanStoreAgain stm.now.config.words writes.now.items (view_of seat.old) }
+    ensures same { IsSameSeat seat.old seat.new × (seat.new.me.0 ≡ record seat.old.me.0 { view = view_of seat.new }) }
+    ensures again { IsStoredAgain writes.now.items (view_of seat.old) (view_of seat.new) }
+    ensures steps { TakesAtMost (length writes.now.items) (view_of seat.old) (view_of seat.new) }
+{
+    for i in 0..writes.count() {
+        let (a, x) = writes.item(i);
+        stm.store_heap(seat, caller, a, x);
+    }
 }

@@ -55,7 +55,7 @@ pub fn read<K: MemRule>(desc: &mut Desc<K>, stm: &Stm<K>, a: usize) -> Read
     lock::read(desc, stm, a)
 }
 
-/// Stores the word, whose old value goes into the undo log first; once irrevocable it stores and no more. One
+/// Stores the word, whose old value and new one go into the logs first; once irrevocable it stores and no more. One
 /// step, one more for an address that is new to the log, and one more at the attempt's first write.
 pub fn write<K: MemRule>(desc: &mut Desc<K>, stm: &Stm<K>, a: usize, x: u64) -> Write
     requires stm { IsOf desc.old stm.now }
@@ -68,7 +68,7 @@ pub fn write<K: MemRule>(desc: &mut Desc<K>, stm: &Stm<K>, a: usize, x: u64) -> 
     ensures steps { AddsAtMost (4 + (known desc.old).writes_limit) (known desc.old) (known desc.new) }
 {
     let caller = desc.number;
-    match keep_old(&mut desc.seat, &mut desc.local, stm, caller, a) {
+    match keep_old(&mut desc.seat, &mut desc.local, stm, caller, a, x) {
         Ok(()) => {
             stm.store_heap(&mut desc.seat, caller, a, x);
             desc.local.wrote = true;
@@ -133,35 +133,37 @@ pub fn become_irrevocable<K: MemRule>(desc: &mut Desc<K>, stm: &Stm<K>) -> Irrev
     Irrev::Granted
 }
 
-/// Sees to it that the word at `a` can be stored: the undo log has its old value, or the attempt is irrevocable.
-/// A refusal has taken the attempt back and ended it.
+/// Sees to it that `x` can be stored at `a`: the undo log has the word's old value and the write log the new one, or
+/// the attempt is irrevocable. A refusal has taken the attempt back and ended it.
 fn keep_old<K: MemRule>(
     seat: &mut Token<K>,
     local: &mut Local,
     stm: &Stm<K>,
     caller: usize,
     a: usize,
+    x: u64,
 ) -> Result<(), Write>
     requires seat { IsSeatOf stm.now caller seat.old }
     requires caller { caller < stm.now.config.callers }
     requires attempt { IsInside (K.good stm.now.rule) stm.now.config caller local.old (view_of seat.old) }
     requires serial { local.old.algorithm ≡ Serial }
+    requires lengths { local.old.writes.len ≡ local.old.undo.len }
     requires free { (local.old.holds ≡ false) × ((view_of seat.old).gate.holds ≡ false) }
     requires inside { a < stm.now.config.words }
     requires spared { fenced (view_of seat.old).gate.fence a ≡ false }
     ensures same { IsSameSeat seat.old seat.new × (seat.new.me.0 ≡ record seat.old.me.0 { view = view_of seat.new }) }
-    ensures keeps { KeepsOld (K.good stm.now.rule) stm.now.config caller a result local.old (view_of seat.old) local.new (view_of seat.new) }
+    ensures keeps { KeepsOld (K.good stm.now.rule) stm.now.config caller a x result local.old (view_of seat.old) local.new (view_of seat.new) }
     ensures steps { MatchResult result (λ _. TakesAtMost 2 (view_of seat.old) (view_of seat.new)) (λ _. TakesAtMost (4 + local.old.undo.len) (view_of seat.old) (view_of seat.new)) }
 {
     if local.granted {
         return Ok(());
     }
-    // Before the first write the log is empty, and has room.
+    // Before the first write the logs are empty, and have room.
     if let Err(clock) = below_limit(seat, local, stm, caller) {
         roll_back(seat, local, stm, caller);
         return Err(Write::ClockFull { clock });
     }
-    if let Push::Full { limit } = log_old(seat, local, stm, caller, a) {
+    if let Push::Full { limit } = log_old(seat, local, stm, caller, a, x) {
         roll_back(seat, local, stm, caller);
         return Err(Write::Full { limit });
     }
@@ -192,28 +194,31 @@ fn below_limit<K: MemRule>(
     Ok(())
 }
 
-/// Loads the word at `a` into the undo log, unless the log has it.
+/// Adds the write to the write log, and loads the word at `a` into the undo log where the address is new. Neither log
+/// changes where the write log is full.
 fn log_old<K: MemRule>(
     seat: &mut Token<K>,
     local: &mut Local,
     stm: &Stm<K>,
     caller: usize,
     a: usize,
+    x: u64,
 ) -> Push
     requires seat { IsSeatOf stm.now caller seat.old }
     requires attempt { IsInside (K.good stm.now.rule) stm.now.config caller local.old (view_of seat.old) }
     requires serial { (local.old.algorithm ≡ Serial) × (local.old.granted ≡ false) }
+    requires lengths { local.old.writes.len ≡ local.old.undo.len }
     requires inside { a < stm.now.config.words }
     requires spared { fenced (view_of seat.old).gate.fence a ≡ false }
     ensures same { IsSameSeat seat.old seat.new × (seat.new.me.0 ≡ record seat.old.me.0 { view = view_of seat.new }) }
-    ensures logs { Logs stm.now.config.words a result local.old (view_of seat.old) local.new (view_of seat.new) }
+    ensures logs { Logs stm.now.config.words a x result local.old (view_of seat.old) local.new (view_of seat.new) }
     ensures steps { TakesAtMost 1 (view_of seat.old) (view_of seat.new) }
 {
-    let count = local.undo.count();
-    let push = local.undo.push(a, 0);
-    if local.undo.count() > count {
+    let count = local.writes.count();
+    let push = local.writes.push(a, x);
+    if local.writes.count() > count {
         let old = stm.load_undo(seat, caller, a);
-        local.undo.set_last(old);
+        let _ = local.undo.push(a, old);
     }
     push
 }

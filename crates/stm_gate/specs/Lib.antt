@@ -15,3 +15,5 @@ pub mod Told
 pub mod Starts
 pub mod Granting
 pub mod DirectLaws
+pub mod MarkLaws
+pub mod Sure

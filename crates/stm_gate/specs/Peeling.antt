@@ -12,7 +12,7 @@ use Rattle.tx_answers.specs.Causes.{has_item, is_some}
 use Rattle.stm_gate.specs.Logging.{item-touched}
 
 -- the items of other addresses
-abbrev minus : ℕ → List (ℕ × ℕ) → List (ℕ × ℕ)
+abbrev pub minus : ℕ → List (ℕ × ℕ) → List (ℕ × ℕ)
 minus a [] = []
 minus a (w ∷ ws) = if w.0 == a then minus a ws else w ∷ minus a ws
 
@@ -39,7 +39,7 @@ minus-none a (w ∷ ws) e = by (w.0 == a) refl e (minus-none a ws)
     by true q f rec = absurd (let g = rw q at f in cc)
     by false q f rec = rw q (ap (λ l. w ∷ l) (rec (rw q at f)))
 
-items-without : (a : ℕ) (cs : List Cell) → items (without cs a) ≡ minus a (items cs)
+pub items-without : (a : ℕ) (cs : List Cell) → items (without cs a) ≡ minus a (items cs)
 items-without a [] = refl
 items-without a (c ∷ cs) = by (c.at == a) refl (items-without a cs) ∙ sym (minus-put a c.at c.value (items cs))
   where

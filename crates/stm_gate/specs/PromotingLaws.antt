@@ -196,7 +196,7 @@ module _ (c : Config) (n : ℕ) where
 
     keeps-seized : (l : Local) (v : View) (trail : List TrailItem) (a : Alg) → closes_gate a ≡ true → Keeps c a false l v → Keeps c a false (record l { holds = true; next = 0 }) (gated v (seized v.gate) trail)
     keeps-seized l v trail Cgl e k = absurd cc
-    keeps-seized l v trail Tml e k = record { inside = k.inside; settled = k.settled; unlocked = k.unlocked; uncommitted = k.uncommitted; unfixed = k.unfixed; ungranted = k.ungranted; even = k.even; writer = k.writer; clean = k.clean; dirty = k.dirty; uncalm = refl; rises = k.rises; limit = k.limit; sole = k.sole }
+    keeps-seized l v trail Tml e k = record { inside = k.inside; settled = k.settled; unlocked = k.unlocked; uncommitted = k.uncommitted; unfixed = k.unfixed; ungranted = k.ungranted; even = k.even; writer = k.writer; clean = k.clean; dirty = k.dirty; uncalm = refl; rises = k.rises; limit = k.limit; unbuffered = k.unbuffered; marked = k.marked; sole = k.sole }
     keeps-seized l v trail OrecLazy e k = record {
       optimistic = optimistic-gated v (seized v.gate) trail refl refl k.optimistic;
       buffers = record { wrote = k.buffers.wrote; once = k.buffers.once; inside = k.buffers.inside; small = k.buffers.small; apart = k.buffers.apart };
@@ -252,6 +252,7 @@ module _ (c : Config) (n : ℕ) where
       loaded = k.loaded;
       stored = k.stored;
       read = k.read;
+      marked = k.marked;
       sole = k.sole;
     }
     keeps-seized l v trail Serial e k = absurd cc

@@ -7,7 +7,7 @@ use Rattle.rule_base.specs.Bridge.{items}
 use Rattle.rule_ring.specs.SlotFilter.{slot_filter}
 use Rattle.tx_logs.specs.Filters.{filter_word}
 use Rattle.stm_rule.specs.declared.local.Local.{Local}
-use Rattle.stm_rule.specs.RecordsKept.{Buffers, IsOptimistic, cells_of}
+use Rattle.stm_rule.specs.RecordsKept.{Buffers, HasMarks, IsOptimistic, cells_of}
 
 -- between two calls: the filters have the addresses that were loaded and those that were written
 pub record IsRing (c : Config) (l : Local) (v : View) : Type 0 where
@@ -19,5 +19,7 @@ pub record IsRing (c : Config) (l : Local) (v : View) : Type 0 where
   pub stored : (i : ℕ) → i < SLOT_WORDS → slice_index l.stored i ≡ slot_filter.word (cells_of l.writes.items) i
   -- what was loaded is what was read
   pub read : (i : ℕ) → i < SLOT_WORDS → slice_index l.loaded i ≡ filter_word (map (λ (r : ℕ × ℕ). r.0) (items v.attempt.reads)) i
+  -- the log has each mark
+  pub marked : HasMarks c l.fence l.writes.marks l.depth
   -- with one caller alone the start is the clock, which has stood since
   pub sole : c.callers ≡ 1 → l.start ≡ c.clock + v.steps.rises_at_begin

@@ -1,5 +1,5 @@
 //! What an attempt must put back.
-ghost use Rattle.std.specs.Prelude.{◌≡◌, ◌≤◌, ◌<◌, ◌+◌, [], IfOk, MatchResult, length, max, slice_index_or};
+ghost use Rattle.std.specs.Prelude.{◌≡◌, ◌≤◌, ◌<◌, ◌+◌, [], IfOk, MatchResult, length, max, slice_index_or, take};
 ghost use Rattle.stm_model.specs.Memories.{item_at, Once};
 ghost use Rattle.tx_logs.specs.LogStates.{LogState, Pushes, empty_at, next_generation, keep, with_last};
 
@@ -62,6 +62,14 @@ impl UndoLog {
         ensures { self.new ≡ record self.old { items = with_last v self.old.items } }
     {
         self.log.set_last(v);
+    }
+
+    /// Takes all items but the first `count` away, which are no more than there are. One lookup for each that goes.
+    pub fn truncate(&mut self, count: usize)
+        requires { count ≤ length self.old.items }
+        ensures { self.new ≡ record self.old { items = take count self.old.items } }
+    {
+        self.log.truncate(count);
     }
 
     /// The value at the address, if it is in the log. One lookup, and none in an empty log.

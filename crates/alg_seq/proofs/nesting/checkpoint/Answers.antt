@@ -1,21 +1,16 @@
-use Rattle.std.proofs.Common.{ℕ, ◌≡◌, ◌<◌, ◌≤◌, ◌+◌, ◌-◌, ◌++◌, ◌∷◌, [], List, length, take, true, false, refl, sym, ap, subst, ◌∙◌, rules, arith}
-use Rattle.std.specs.Prelude.{not, nat_lt}
-use Rattle.stm_model.specs.declared.alg.Alg.TheVariants.{Cgl}
-use Rattle.stm_model.specs.Memories.{is_empty}
-use Rattle.rule_base.specs.declared.views.Phase.TheVariants.{In}
-use Rattle.stm_rule.specs.declared.local.Local.{Local}
-use Rattle.stm_rule.specs.Attempts.{SameLengths, good_by, own_of, Stands}
-use Rattle.stm_rule.specs.Callers.{Handle, handle_of}
+use Rattle.std.proofs.Common.{◌≡◌, ◌<◌, ◌+◌, true, false, refl, sym, ap, subst, ◌∙◌, arith}
+use Rattle.stm_model.specs.Algorithms.{is_sure}
+use Rattle.stm_rule.specs.Attempts.{SameLengths, good_by, own_of}
+use Rattle.stm_rule.specs.Callers.{Handle}
 use Rattle.stm_rule.specs.StandLemmas.{inside-of}
-use Rattle.tx_answers.specs.declared.answers.Check.TheVariants.{Marked, Deep}
-use Rattle.tx_answers.specs.declared.answers.Roll.TheVariants as rolls
-use Rattle.tx_answers.specs.Answers.{Checks, Rolls, Releases, IsMarked}
-use Rattle.tx_answers.specs.Known.{Known, known_of, is_in, is_irrevocable}
+use Rattle.tx_answers.specs.Answers.{IsMarked}
+use Rattle.tx_answers.specs.Known.{known_of, is_in}
 use Rattle.tx_logs.specs.declared.marks.TheConstants.{MAX_MARKS}
-use Rattle.tx_logs.specs.LogStates.{LogState, rolled}
+use Rattle.tx_logs.specs.LogStates.{LogState}
 use Rattle.stm_gate.specs.Knowing.{known}
-use Rattle.stm_gate.specs.Standing.{runs-of, in-of}
-use Rattle.stm_gate.specs.Told.{told, stands-on, stands-in, running-by}
+use Rattle.stm_gate.specs.Standing.{in-of}
+use Rattle.stm_gate.specs.Told.{stands-on}
+use Rattle.alg_seq.specs.Nesting.{is_sequential}
 use Rattle.alg_seq.proofs.NestingLaws as nesting
 use Rattle.alg_seq.proofs.nesting.checkpoint.Goals as goal
 
@@ -28,9 +23,56 @@ invariant_of-desc g c =
     let f = s.who.config in
     let phase = in-of s.view.gate.phase (ap (λ (p : Handle g.row.K.Denot). is_in p.view.gate.phase) c.desc.view_is ∙ c.requires.running.0) in
     let i = inside-of good f d.number l s.view phase c.desc.invariant.1 in
-    let cgl = subst (λ (p : Handle g.row.K.Denot). (known p).alg ≡ Cgl) (sym c.desc.view_is) c.requires.algorithm in
+    let sequential : is_sequential s.view.gate.algorithm ≡ true = subst (λ (p : Handle g.row.K.Denot). is_sequential (known p).alg ≡ true) (sym c.desc.view_is) c.requires.algorithm in
+    let sure : is_sure l.algorithm l.granted l.wrote ≡ true = sym c.is_sure-sure.ensures ∙ c.if-sure.true in
     let m = record l { depth = l.depth + 1 } in
-    (c.desc.invariant.0, stands-on good f d.number l m s.view s.view phase c.desc.invariant.1 refl refl c.desc.invariant.1.lengths refl (nesting.stays-deeper good f d.number l s.view i cgl (l.depth + 1)))
+    (c.desc.invariant.0, stands-on good f d.number l m s.view s.view phase c.desc.invariant.1 refl refl c.desc.invariant.1.lengths refl (nesting.stays-deeper good f d.number l s.view i sequential sure (l.depth + 1)))
+
+pub returns-then-sure-clause-checks : goal.returns-then-sure-clause-checks
+returns-then-sure-clause-checks g c =
+    let d = c.desc.inside in
+    let s = d.seat.me.0 in
+    let l = d.local in
+    let good = good_by g.K.MemRule.good s.who.rule in
+    let f = s.who.config in
+    let phase = in-of s.view.gate.phase (ap (λ (p : Handle g.row.K.Denot). is_in p.view.gate.phase) c.desc.view_is ∙ c.requires.running.0) in
+    let i = inside-of good f d.number l s.view phase c.desc.invariant.1 in
+    let sequential : is_sequential s.view.gate.algorithm ≡ true = subst (λ (p : Handle g.row.K.Denot). is_sequential (known p).alg ≡ true) (sym c.desc.view_is) c.requires.algorithm in
+    let sure : is_sure l.algorithm l.granted l.wrote ≡ true = sym c.is_sure-sure.ensures ∙ c.if-sure.true in
+    let m = record l { depth = l.depth + 1 } in
+    subst (λ (p : Handle g.row.K.Denot). (p.own.depth < MAX_MARKS) × (l.depth + 1 ≡ p.own.depth + 1) × IsMarked (known p) (known_of s.view (own_of m))) c.desc.view_is
+    (c.if-depth-ge-MAX_MARKS.false, refl, record { is = nesting.known-with good f d.number l s.view i sequential l.writes (l.depth + 1); marks = λ r. absurd (let no : true ≡ false = sym (nesting.deeper-marked good f d.number l s.view i sequential sure (l.depth + 1)) ∙ r in cc) })
+
+pub mark-requires : goal.mark-requires
+mark-requires g c =
+    let d = c.desc.inside in
+    let s = d.seat.me.0 in
+    let l = d.local in
+    let good = good_by g.K.MemRule.good s.who.rule in
+    let f = s.who.config in
+    let phase = in-of s.view.gate.phase (ap (λ (p : Handle g.row.K.Denot). is_in p.view.gate.phase) c.desc.view_is ∙ c.requires.running.0) in
+    let i = inside-of good f d.number l s.view phase c.desc.invariant.1 in
+    let sequential : is_sequential s.view.gate.algorithm ≡ true = subst (λ (p : Handle g.row.K.Denot). is_sequential (known p).alg ≡ true) (sym c.desc.view_is) c.requires.algorithm in
+    let plain : is_sure l.algorithm l.granted l.wrote ≡ false = sym c.is_sure-sure.ensures ∙ c.if-sure.false in
+    let n = nesting.count good f d.number l s.view i sequential plain in
+    let low : l.depth < MAX_MARKS = c.if-depth-ge-MAX_MARKS.false in
+    omega arith
+
+pub invariant_of-desc-2 : goal.invariant_of-desc-2
+invariant_of-desc-2 g c =
+    let d = c.desc.inside in
+    let s = d.seat.me.0 in
+    let l = d.local in
+    let good = good_by g.K.MemRule.good s.who.rule in
+    let f = s.who.config in
+    let phase = in-of s.view.gate.phase (ap (λ (p : Handle g.row.K.Denot). is_in p.view.gate.phase) c.desc.view_is ∙ c.requires.running.0) in
+    let i = inside-of good f d.number l s.view phase c.desc.invariant.1 in
+    let sequential : is_sequential s.view.gate.algorithm ≡ true = subst (λ (p : Handle g.row.K.Denot). is_sequential (known p).alg ≡ true) (sym c.desc.view_is) c.requires.algorithm in
+    let plain : is_sure l.algorithm l.granted l.wrote ≡ false = sym c.is_sure-sure.ensures ∙ c.if-sure.false in
+    let log = c.mark.new.self in
+    let m = record l { writes = log; depth = l.depth + 1 } in
+    let lengths : SameLengths m = (ap (λ (y : LogState). y.len) c.mark.ensures ∙ c.desc.invariant.1.lengths.0, c.desc.invariant.1.lengths.1) in
+    (c.desc.invariant.0, stands-on good f d.number l m s.view s.view phase c.desc.invariant.1 refl refl lengths refl (nesting.stays-marked good f d.number l s.view i sequential plain log c.mark.ensures))
 
 pub returns-clause-checks : goal.returns-clause-checks
 returns-clause-checks g c =
@@ -41,7 +83,9 @@ returns-clause-checks g c =
     let f = s.who.config in
     let phase = in-of s.view.gate.phase (ap (λ (p : Handle g.row.K.Denot). is_in p.view.gate.phase) c.desc.view_is ∙ c.requires.running.0) in
     let i = inside-of good f d.number l s.view phase c.desc.invariant.1 in
-    let cgl = subst (λ (p : Handle g.row.K.Denot). (known p).alg ≡ Cgl) (sym c.desc.view_is) c.requires.algorithm in
-    let m = record l { depth = l.depth + 1 } in
+    let sequential : is_sequential s.view.gate.algorithm ≡ true = subst (λ (p : Handle g.row.K.Denot). is_sequential (known p).alg ≡ true) (sym c.desc.view_is) c.requires.algorithm in
+    let plain : is_sure l.algorithm l.granted l.wrote ≡ false = sym c.is_sure-sure.ensures ∙ c.if-sure.false in
+    let log = c.mark.new.self in
+    let m = record l { writes = log; depth = l.depth + 1 } in
     subst (λ (p : Handle g.row.K.Denot). (p.own.depth < MAX_MARKS) × (l.depth + 1 ≡ p.own.depth + 1) × IsMarked (known p) (known_of s.view (own_of m))) c.desc.view_is
-    (c.if-depth-ge-MAX_MARKS.false, refl, record { is = nesting.same-deeper good f d.number l s.view i cgl (l.depth + 1); marks = (λ r. absurd (let z : true ≡ false = sym (nesting.sure-known good f d.number l s.view i cgl (l.depth + 1)) ∙ r in cc)) })
+    (c.if-depth-ge-MAX_MARKS.false, refl, nesting.marks-now good f d.number l s.view i sequential plain log c.mark.ensures)

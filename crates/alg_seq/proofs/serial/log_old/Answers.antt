@@ -17,9 +17,9 @@ load_undo-old-requires-clause-view g c =
     let locks = ap takes_lock (i.named ∙ c.requires.serial.0) in
     let j = locked good f c.args.caller l v locks i in
     let rev : v.lock.irrevocable ≡ false = j.sure ∙ (ap (λ a. is_sure a l.granted l.wrote) c.requires.serial.0 ∙ c.requires.serial.1) in
-    let more : length l.undo.items < length c.push-push.new.self.items = omega (arith, c.if-count.true, c.count.ensures.count, c.count-count.ensures.count) in
-    let k = pushed-more c.push-push.result c.args.a l.undo c.push-push.new.self c.push-push.ensures more in
-    record { has = record { phase = i.phase; algorithm = locks; taken = j.taken }; started = j.started; revocable = rev; fresh = fresh-undo f c.args.a l v j rev k.1 }
+    let more : length l.writes.items < length c.push-push.new.self.items = omega (arith, c.if-count.true, c.count.ensures.count, c.count-count.ensures.count) in
+    let k = pushed-more c.push-push.result c.args.a c.args.x l.writes c.push-push.new.self c.push-push.ensures more in
+    record { has = record { phase = i.phase; algorithm = locks; taken = j.taken }; started = j.started; revocable = rev; fresh = fresh-undo f c.args.a c.args.x l v j rev k.1 }
 
 pub returns-then-count-clause-logs : goal.returns-then-count-clause-logs
 returns-then-count-clause-logs g c =
@@ -30,9 +30,9 @@ returns-then-count-clause-logs g c =
     let i = c.requires.attempt in
     let j = locked good f c.args.caller l s.view (ap takes_lock (i.named ∙ c.requires.serial.0)) i in
     let rev : s.view.lock.irrevocable ≡ false = j.sure ∙ (ap (λ a. is_sure a l.granted l.wrote) c.requires.serial.0 ∙ c.requires.serial.1) in
-    let more : length l.undo.items < length c.push-push.new.self.items = omega (arith, c.if-count.true, c.count.ensures.count, c.count-count.ensures.count) in
+    let more : length l.writes.items < length c.push-push.new.self.items = omega (arith, c.if-count.true, c.count.ensures.count, c.count-count.ensures.count) in
     let w = c.load_undo-old.new.seat.me.0 in
-    logs-then f c.args.a l s.view j rev c.push-push.result c.push-push.new.self c.set_last.new.self c.load_undo-old.result w.view c.requires.inside c.push-push.ensures more c.set_last.ensures
+    logs-then f c.args.a c.args.x l s.view j rev c.push-push.result c.push.result c.push-push.new.self c.push.new.self c.load_undo-old.result w.view c.requires.inside c.requires.lengths c.push-push.ensures more c.push.ensures
     (tells-of (load_undo c.args.a) Nothing s c.load_undo-old.result w c.load_undo-old.ensures.step)
 
 pub returns-else-count-clause-logs : goal.returns-else-count-clause-logs
@@ -44,5 +44,5 @@ returns-else-count-clause-logs g c =
     let i = c.requires.attempt in
     let j = locked good f c.args.caller l v (ap takes_lock (i.named ∙ c.requires.serial.0)) i in
     let rev : v.lock.irrevocable ≡ false = j.sure ∙ (ap (λ a. is_sure a l.granted l.wrote) c.requires.serial.0 ∙ c.requires.serial.1) in
-    let less : length c.push-push.new.self.items ≤ length l.undo.items = omega (arith, c.if-count.false, c.count.ensures.count, c.count-count.ensures.count) in
-    logs-else f c.args.a l v j rev c.push-push.result c.push-push.new.self c.push-push.ensures less
+    let less : length c.push-push.new.self.items ≤ length l.writes.items = omega (arith, c.if-count.false, c.count.ensures.count, c.count-count.ensures.count) in
+    logs-else f c.args.a c.args.x l v j rev c.push-push.result c.push-push.new.self c.push-push.ensures less

@@ -1,0 +1,17 @@
+use Rattle.std.proofs.Common.{◌≡◌, ◌++◌, List, take, drop}
+use Rattle.rule_base.specs.declared.views.TrailItem.{TrailItem}
+use Rattle.rule_base.specs.Bridge.{items}
+use Rattle.stm_rule.specs.Counting.{TakesAtMost}
+use Rattle.alg_seq.proofs.Undoing.{taken}
+use Rattle.alg_seq.proofs.nesting.store_again.Given as goal
+
+abbrev pub invariant-loop-i : goal.invariant-loop-i
+invariant-loop-i g l = record {
+  table : l.seat.table_id ≡ l.initial.seat.table_id;
+  id : l.seat.id ≡ l.initial.seat.id;
+  bare : l.seat.me.1 ≡ l.initial.seat.me.1;
+  more : List TrailItem;
+  seat : l.seat.me.0 ≡ record l.initial.seat.me.0 { view = taken l.initial.seat.me.0.view l.seat.me.0.view.attempt.stores l.initial.seat.me.0.view.lock.undo more };
+  stores : items l.seat.me.0.view.attempt.stores ≡ take l.i l.writes.items ++ drop l.i (items l.initial.seat.me.0.view.attempt.stores);
+  steps : TakesAtMost l.i l.initial.seat.me.0.view l.seat.me.0.view;
+}
