@@ -1,6 +1,6 @@
 //! A descriptor that is dropped in the middle of an attempt, or while it holds the gate: nobody sees the gate quiet
 //! from then on, and nothing else breaks.
-ghost use Rattle.std.specs.Prelude.{◌≡◌, ◌<◌, true};
+ghost use Rattle.std.specs.Prelude.{◌≡◌, ◌<◌, true, false};
 ghost use Rattle.stm_model.specs.Algorithms.{is_built};
 ghost use Rattle.stm_rule.specs.Callers.{IsOf, IsSameCaller};
 ghost use Rattle.tx_answers.specs.Known.{IsIdle};
@@ -52,6 +52,7 @@ fn commits_once(stm: &Stm<AnyMem>, desc: &mut Desc<AnyMem>) -> bool
     requires desc { IsOf desc.old stm.now }
     requires idle { IsIdle (known desc.old) }
     requires words { 2 < stm.now.config.words }
+    requires plain { stm.now.config.fence ≡ false }
     ensures same { IsSameCaller desc.old desc.new }
     ensures idle { result ≡ true → IsIdle (known desc.new) }
 {
@@ -72,6 +73,7 @@ fn promotes(stm: &Stm<AnyMem>, desc: &mut Desc<AnyMem>) -> bool
     requires desc { IsOf desc.old stm.now }
     requires idle { IsIdle (known desc.old) }
     requires words { 2 < stm.now.config.words }
+    requires plain { stm.now.config.fence ≡ false }
 {
     let Begin::Begun(_) = try_begin(desc, stm) else {
         return false;
@@ -94,6 +96,7 @@ fn begins(
     requires second { IsOf second.old stm.now }
     requires idle { IsIdle (known first.old) × IsIdle (known second.old) }
     requires words { 2 < stm.now.config.words }
+    requires plain { stm.now.config.fence ≡ false }
     ensures same { IsSameCaller second.old second.new }
     ensures idle { result ≡ true → IsIdle (known second.new) }
 {
@@ -134,6 +137,7 @@ fn goes_on(stm: &Stm<AnyMem>, desc: &mut Desc<AnyMem>) -> Option<Met>
     requires desc { IsOf desc.old stm.now }
     requires idle { IsIdle (known desc.old) }
     requires words { 2 < stm.now.config.words }
+    requires plain { stm.now.config.fence ≡ false }
 {
     match try_begin(desc, stm) {
         Begin::Begun(_) => {}
@@ -155,6 +159,7 @@ fn meets(stm: &Stm<AnyMem>, desc: &mut Desc<AnyMem>) -> Option<Met>
     requires desc { IsOf desc.old stm.now }
     requires idle { IsIdle (known desc.old) }
     requires words { 2 < stm.now.config.words }
+    requires plain { stm.now.config.fence ≡ false }
 {
     let busy = Look::Busy {
         caller: 0,
@@ -195,6 +200,7 @@ fn met_behind(
     requires second { IsOf second.old stm.now }
     requires idle { IsIdle (known first) × IsIdle (known second.old) }
     requires words { 2 < stm.now.config.words }
+    requires plain { stm.now.config.fence ≡ false }
     requires built { is_built alg ≡ true }
 {
     if !switch(stm, second, alg) {
