@@ -73,7 +73,7 @@ fn other_words_are_misused(rt: HostRuntime) -> Result<(), Fail> {
         assert_eq!(rt; status, Status::Usage, "{line}");
         assert_eq!(rt;
             held.as_str(),
-            "usage: stm_bench run [--policy P] / step / gen N T SEED\n"
+            "usage: stm_bench run [--policy P] / step / gen N T SEED / check\n"
         );
     }
     Ok(())

@@ -5,6 +5,9 @@
 pub mod bench;
 #[cfg(test)]
 mod cases;
+#[cfg(test)]
+mod check_tests;
+mod checks;
 mod commands;
 #[cfg(test)]
 mod eager_tests;
