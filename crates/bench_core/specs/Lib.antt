@@ -2,3 +2,4 @@ pub mod Apart
 pub mod Messages
 pub mod Outcomes
 pub mod Statuses
+pub mod Checks

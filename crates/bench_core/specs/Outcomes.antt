@@ -12,7 +12,8 @@ use Rattle.stm_text.specs.declared.parse.Mode.TheVariants.{Run, Step as Stepwise
 use Rattle.stm_text.specs.Grammar.{workload_of}
 use Rattle.stm_text.specs.Reports.{report_bytes}
 use Rattle.bench_core.specs.declared.status.Status.{Status}
-use Rattle.bench_core.specs.declared.status.Status.TheVariants.{Ok as Done, Usage, Refused, ReadFault, WriteFault, Memory, ClockFull}
+use Rattle.bench_core.specs.declared.status.Status.TheVariants.{Ok as Done, Usage, Refused, ReadFault, WriteFault, Memory, ClockFull, No}
+use Rattle.bench_core.specs.Checks.{SaidOfCheck}
 use Rattle.bench_core.specs.Messages.{usage_line, read_fault_line, refused_line, clock_full_line}
 use Rattle.stm_driver.specs.Runs.{IsShown, IsFull, IsTraced, IsCut}
 use Rattle.stm_trace.specs.declared.line.Line.{Line}
@@ -64,6 +65,7 @@ SaidOfRun m policy w Usage closed said = ⊥
 SaidOfRun m policy w ReadFault closed said = ⊥
 SaidOfRun m policy w WriteFault closed said = ⊥
 SaidOfRun m policy w Memory closed said = ⊥
+SaidOfRun m policy w (No line) closed said = ⊥
 
 -- the text is a workload's, and this is said of its run
 pub record WasRun (m : Mode) (policy : Policy) (text : List ℕ) (status : Status) (closed : Option Ended) (said : List ℕ) : Type 0 where
@@ -85,6 +87,7 @@ SaidOf m policy text Usage closed said = ⊥
 SaidOf m policy text ReadFault closed said = ⊥
 SaidOf m policy text WriteFault closed said = ⊥
 SaidOf m policy text Memory closed said = ⊥
+SaidOf m policy text (No line) closed said = ⊥
 
 -- the run of the workload that is drawn went to its end, and what is said is the summary of a report that replays it and shows the closed memory's history; the number of transactions alone tells which
 pub record RanToSummary (n t seed : ℕ) (closed : Ended) (said : List ℕ) : Type 0 where
@@ -102,11 +105,19 @@ SaidOfMade n t seed Usage closed said = ⊥
 SaidOfMade n t seed ReadFault closed said = ⊥
 SaidOfMade n t seed WriteFault closed said = ⊥
 SaidOfMade n t seed Memory closed said = ⊥
+SaidOfMade n t seed (No line) closed said = ⊥
 
 -- what is left behind: the closed memory of this call's run, or what was there
 abbrev pub kept : Option Ended → Option Ended → Option Ended
 kept None last = last
 kept (Some closed) last = Some closed
+
+-- how many bytes a command that reads a text reads at most: one more than its texts may have
+abbrev pub most_read : ℕ
+most_read = 16777217
+
+abbrev pub most_checked : ℕ
+most_checked = 150994945
 
 module _ {S : Type 0} (left : S → Option (List ℕ)) (faults : S → ℕ) (source source' : S) where
   pub record IsUntouched : Type 0 where
@@ -114,35 +125,48 @@ module _ {S : Type 0} (left : S → Option (List ℕ)) (faults : S → ℕ) (sou
     pub calm : faults source' ≡ faults source
 
   -- the source failed, and what was taken until then is gone
-  pub record Unread (said : List ℕ) : Type 0 where
+  pub record Unread (most : ℕ) (said : List ℕ) : Type 0 where
     pub cause : Rose (faults source) (faults source')
-    pub lost : TookSome 16777217 (left source) (left source')
+    pub lost : TookSome most (left source) (left source')
     pub is : said ≡ read_fault_line
 
-  -- all that was left was read, or its first 16,777,217 bytes, and nothing more is gone from the source
-  pub record HasRead (m : Mode) (policy : Policy) (status : Status) (closed : Option Ended) (said : List ℕ) : Type 0 where
+  -- all that was left was read, or its first bytes, at most so many, and nothing more is gone from the source
+  pub record HasRead (most : ℕ) (Of : List ℕ → Type 0) : Type 0 where
     pub text : List ℕ
-    pub read : IsText 16777217 (left source) text
-    pub within : length text ≤ 16777217
+    pub read : IsText most (left source) text
+    pub within : length text ≤ most
     pub taken : Took (left source) (left source') text
     pub calm : faults source' ≡ faults source
-    pub of : SaidOf m policy text status closed said
+    pub of : Of text
 
-  -- what is to be written by a command that reads a text
+  -- what is to be written by a command that reads a workload and runs it
   abbrev pub SaysRead : Mode → Policy → Status → Option Ended → List ℕ → Type 0
-  SaysRead m policy Done closed said = HasRead m policy Done closed said
-  SaysRead m policy (Refused line code) closed said = HasRead m policy (Refused line code) closed said
-  SaysRead m policy (ClockFull clock) closed said = HasRead m policy (ClockFull clock) closed said
-  SaysRead m policy ReadFault closed said = Unread said × (closed ≡ None)
+  SaysRead m policy Done closed said = HasRead most_read (λ text. SaidOf m policy text Done closed said)
+  SaysRead m policy (Refused line code) closed said = HasRead most_read (λ text. SaidOf m policy text (Refused line code) closed said)
+  SaysRead m policy (ClockFull clock) closed said = HasRead most_read (λ text. SaidOf m policy text (ClockFull clock) closed said)
+  SaysRead m policy ReadFault closed said = Unread most_read said × (closed ≡ None)
   SaysRead m policy Usage closed said = ⊥
   SaysRead m policy WriteFault closed said = ⊥
   SaysRead m policy Memory closed said = ⊥
+  SaysRead m policy (No line) closed said = ⊥
+
+  -- what is to be written by `check`; no closed memory is left
+  abbrev pub SaysChecked : Status → Option Ended → List ℕ → Type 0
+  SaysChecked Done closed said = HasRead most_checked (λ text. SaidOfCheck text Done said) × (closed ≡ None)
+  SaysChecked (No line) closed said = HasRead most_checked (λ text. SaidOfCheck text (No line) said) × (closed ≡ None)
+  SaysChecked (Refused line code) closed said = HasRead most_checked (λ text. SaidOfCheck text (Refused line code) said) × (closed ≡ None)
+  SaysChecked ReadFault closed said = Unread most_checked said × (closed ≡ None)
+  SaysChecked Usage closed said = ⊥
+  SaysChecked WriteFault closed said = ⊥
+  SaysChecked Memory closed said = ⊥
+  SaysChecked (ClockFull clock) closed said = ⊥
 
   -- what is to be written by each command; `gen` reads nothing
   abbrev pub SaysFor : Command → Status → Option Ended → List ℕ → Type 0
   SaysFor (commands.Run policy) status closed said = SaysRead Run policy status closed said
   SaysFor commands.Step status closed said = SaysRead Stepwise Fixed status closed said
   SaysFor (commands.Gen n t seed) status closed said = IsUntouched × SaidOfMade n t seed status closed said
+  SaysFor commands.Check status closed said = SaysChecked status closed said
 
   module _ (words : List (Bor (List ℕ))) where
     -- the words ask for no command
@@ -165,12 +189,14 @@ module _ {S : Type 0} (left : S → Option (List ℕ)) (faults : S → ℕ) (sou
     Says Done closed said = Asked Done closed said
     Says (Refused line code) closed said = Asked (Refused line code) closed said
     Says (ClockFull clock) closed said = Asked (ClockFull clock) closed said
+    Says (No line) closed said = Asked (No line) closed said
     Says WriteFault closed said = ⊥
     Says Memory closed said = ⊥
 
-    -- a call that was refused memory took at most the first 16,777,217 bytes, and under `gen` none; no take of it failed
+    -- a call that was refused memory took at most the first 150,994,945 bytes, but for `check` the first 16,777,217, and under `gen` none; no take of it failed
     pub record Spared : Type 0 where
-      pub lost : TookSome 16777217 (left source) (left source')
+      pub lost : TookSome most_checked (left source) (left source')
+      pub run : (Asks (texts_of words) commands.Check → ⊥) → TookSome most_read (left source) (left source')
       pub calm : faults source' ≡ faults source
       pub drawn : (n t seed : ℕ) → Asks (texts_of words) (commands.Gen n t seed) → IsUntouched
 
@@ -209,3 +235,4 @@ module _ {S : Type 0} (left : S → Option (List ℕ)) (faults : S → ℕ) (sou
       IsOutcome WriteFault = WroteSome
       IsOutcome Memory = WroteNothing
       IsOutcome (ClockFull clock) = Wrote (ClockFull clock)
+      IsOutcome (No line) = Wrote (No line)

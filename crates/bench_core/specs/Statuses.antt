@@ -1,7 +1,7 @@
 -- The exit status of the program.
 use Rattle.std.specs.Prelude.{ℕ}
 use Rattle.bench_core.specs.declared.status.Status.{Status}
-use Rattle.bench_core.specs.declared.status.Status.TheVariants.{Ok, Usage, Refused, ReadFault, WriteFault, Memory, ClockFull}
+use Rattle.bench_core.specs.declared.status.Status.TheVariants.{Ok, Usage, Refused, ReadFault, WriteFault, Memory, ClockFull, No}
 
 abbrev pub exit_code_of : Status → ℕ
 exit_code_of Ok = 0
@@ -11,3 +11,4 @@ exit_code_of ReadFault = 3
 exit_code_of WriteFault = 4
 exit_code_of Memory = 5
 exit_code_of (ClockFull clock) = 6
+exit_code_of (No line) = 7

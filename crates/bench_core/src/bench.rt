@@ -1,14 +1,16 @@
 //! The top call.
 ghost use Rattle.std.specs.Prelude.{◌≡◌, IfOk, OnErr};
-ghost use Rattle.bench_core.specs.Outcomes.{SaidOf, Says, SaysRead, Spared, IsOutcome, kept};
+ghost use Rattle.bench_core.specs.Outcomes.{SaidOf, Says, SaysChecked, SaysRead, Spared, IsOutcome, kept, most_checked, most_read};
 ghost use Rattle.stm_io.specs.Ends.{TookSome};
 
+use crate::checks::judge;
 use crate::commands::{Saying, report, summarize, trace};
 use crate::messages;
 use crate::status::Status;
 use std::alloc::Global;
 use std::sync::Wait;
 use std::thread::Threads;
+use stm_check::checking::MOST_CHECKED;
 use stm_io::ends::{Failed, Sink, Source};
 use stm_io::whole::{ReadError, put_all, read_all};
 use stm_model::memory::Memory;
@@ -23,18 +25,19 @@ use stm_worker::turnstile::Turnstile;
 /// How many bytes of a text are read: one more than a workload's text may have.
 const MOST_READ: usize = 16777217;
 
-/// Does what the words of the command line ask: `words` are the program's name, and `run [--policy P]`, `step` or
-/// `gen N T SEED`.
+/// Does what the words of the command line ask: `words` are the program's name, and `run [--policy P]`, `step`,
+/// `gen N T SEED` or `check`.
 ///
 /// `run` and `step` read the workload's text from `source`. `run` runs its transactions on a thread a caller, caller 0
 /// under the policy, and writes the report to `sink`, whole once it is made; `step` runs them in the turns of the
 /// text's schedule, and writes the trace before the report. `gen` reads nothing: it runs the workload of N
 /// transactions, 1 to 50,000, of T callers, 1 to 32, that is drawn from SEED, as `run` does, and writes its summary.
-/// Every other end writes one line, under `step` at a full clock behind the trace so far, or with `Memory` nothing; see
-/// [`Status`].
+/// `check` reads a workload's text and, behind its line `done`, a report, and writes whether the report replays the
+/// workload. Every other end writes one line, under `step` at a full clock behind the trace so far, or with `Memory`
+/// nothing; see [`Status`].
 ///
-/// `Ok` and `ClockFull` leave in `last` the closed memory of this call's run; every other status leaves
-/// `last` as it was.
+/// `ClockFull`, and `Ok` of every command but `check`, leave in `last` the closed memory of this call's run; every
+/// other status leaves `last` as it was, and so does `check`.
 ///
 /// With structures on, the memory's rule is that each of their regions is well formed; with them off there is none.
 ///
@@ -100,6 +103,33 @@ fn say<R: Threads + Wait + Sync, S: Source, G: Turnstile + Sync>(
             callers,
             seed,
         } => summarize(rt, alloc, transactions, callers, seed, turnstile),
+        Command::Check => say_of_check(alloc, source),
+    }
+}
+
+/// What is to be written of the workload and the report that the source has.
+fn say_of_check<S: Source>(alloc: Global, source: &mut S) -> Result<Saying, Memory>
+    ensures says { IfOk result (λ s. SaysChecked S.left S.faults source.old source.new s.status s.closed s.text.items) }
+    ensures lost { OnErr result (TookSome most_checked (S.left source.old) (S.left source.new)) }
+    ensures calm { OnErr result (S.faults source.new ≡ S.faults source.old) }
+{
+    // made before the source is read, so that its fault is never told as want of memory
+    let read_fault = messages::read_fault(alloc)?;
+    match read_all(alloc, source, MOST_CHECKED) {
+        Ok(text) => {
+            let (status, text) = judge(alloc, text.as_slice())?;
+            Ok(Saying {
+                status,
+                text,
+                closed: None,
+            })
+        }
+        Err(ReadError::Failed) => Ok(Saying {
+            status: Status::ReadFault,
+            text: read_fault,
+            closed: None,
+        }),
+        Err(ReadError::Memory) => Err(Memory),
     }
 }
 
@@ -113,7 +143,7 @@ fn say_of_text<R: Threads + Wait + Sync, S: Source, G: Turnstile + Sync>(
     turnstile: &G,
 ) -> Result<Saying, Memory>
     ensures says { IfOk result (λ s. SaysRead S.left S.faults source.old source.new mode policy s.status s.closed s.text.items) }
-    ensures lost { OnErr result (TookSome 16777217 (S.left source.old) (S.left source.new)) }
+    ensures lost { OnErr result (TookSome most_read (S.left source.old) (S.left source.new)) }
     ensures calm { OnErr result (S.faults source.new ≡ S.faults source.old) }
 {
     // made before the source is read, so that its fault is never told as want of memory

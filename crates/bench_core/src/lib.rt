@@ -3,6 +3,7 @@
 #![tactic(auto)]
 
 pub mod bench;
+mod checks;
 mod commands;
 mod messages;
 mod parts;

@@ -1,6 +1,6 @@
 //! The lines that stand in place of a report.
 ghost use Rattle.std.specs.Prelude.{◌≡◌, IfOk, codes};
-ghost use Rattle.bench_core.specs.Messages.{usage_line, read_fault_line, name_of, refused_line, clock_full_line};
+ghost use Rattle.bench_core.specs.Messages.{usage_line, read_fault_line, name_of, refused_line, yes_line, no_line, clock_full_line};
 
 use std::alloc::Global;
 use stm_model::memory::Memory;
@@ -10,7 +10,7 @@ use stm_text::code;
 pub fn usage(alloc: Global) -> Result<Vec<u8>, Memory>
     ensures { IfOk result (λ t. t.items ≡ usage_line) }
 {
-    let line = b"usage: stm_bench run [--policy P] / step / gen N T SEED\n".to_vec(alloc)?;
+    let line = b"usage: stm_bench run [--policy P] / step / gen N T SEED / check\n".to_vec(alloc)?;
     Ok(line)
 }
 
@@ -22,12 +22,28 @@ pub fn read_fault(alloc: Global) -> Result<Vec<u8>, Memory>
     Ok(line)
 }
 
-/// The text isn't a workload.
+/// The text isn't in its form.
 pub fn refused(alloc: Global, line: usize, code: u32) -> Result<Vec<u8>, Memory>
     ensures { IfOk result (λ t. t.items ≡ refused_line line code) }
 {
     let name = fault_name(code);
     let text = format!(in alloc; "refused {line} {code} {name}\n")?;
+    Ok(text.into_bytes())
+}
+
+/// The report replays the workload.
+pub fn yes(alloc: Global) -> Result<Vec<u8>, Memory>
+    ensures { IfOk result (λ t. t.items ≡ yes_line) }
+{
+    let line = b"yes\n".to_vec(alloc)?;
+    Ok(line)
+}
+
+/// The report doesn't replay the workload.
+pub fn no(alloc: Global, line: usize) -> Result<Vec<u8>, Memory>
+    ensures { IfOk result (λ t. t.items ≡ no_line line) }
+{
+    let text = format!(in alloc; "no {line}\n")?;
     Ok(text.into_bytes())
 }
 
@@ -54,6 +70,8 @@ fn fault_name(code: u32) -> &'static str
         code::REGION => "region",
         code::ORDER => "order",
         code::MANY => "many",
-        _ => "extra",
+        code::EXTRA => "extra",
+        code::REPORT => "report",
+        _ => "longrep",
     }
 }

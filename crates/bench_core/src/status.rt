@@ -4,12 +4,13 @@ ghost use Rattle.std.specs.Prelude.{◌≡◌};
 /// How a call of `bench` ended, and what it wrote by that.
 #[derive(Clone, Copy, Drop, Debug, PartialEq, Eq)]
 pub enum Status {
-    /// The report, under `step` behind the trace; under `gen` the summary.
+    /// The report, under `step` behind the trace; under `gen` the summary; under `check` `yes`.
     Ok,
     /// The usage line: the words aren't a command.
     Usage,
-    /// `refused L C name`: the text read isn't a workload; `line` and `code` are those of its first
-    /// fault. Lines count from 1; line 0 stands for the whole text.
+    /// `refused L C name`: the text read isn't a workload, or under `check` not a workload and behind it a report;
+    /// `line` and `code` are those of its first fault. Lines count from 1; line 0 stands for the whole text, under
+    /// `check` for the whole of the part that is too long.
     Refused { line: usize, code: u32 },
     /// `read fault`: the source failed.
     ReadFault,
@@ -19,12 +20,15 @@ pub enum Status {
     Memory,
     /// `clock full C`: a call found the clock at its limit, 2^62.
     ClockFull { clock: u64 },
+    /// `no L`: the report that was read doesn't replay its workload; `line` is the first line at fault, counted from 1
+    /// in the whole text.
+    No { line: usize },
 }
 
 impl Status {
     ghost use Rattle.bench_core.specs.Statuses.{exit_code_of};
 
-    /// The exit status of a program that ends so: 0 for `Ok`, then 1 to 6 in the order above.
+    /// The exit status of a program that ends so: 0 for `Ok`, then 1 to 7 in the order above.
     pub fn exit_code(self) -> u8
         ensures { result ≡ exit_code_of self }
     {
@@ -36,6 +40,7 @@ impl Status {
             Status::WriteFault => 4,
             Status::Memory => 5,
             Status::ClockFull { .. } => 6,
+            Status::No { .. } => 7,
         }
     }
 }

@@ -36,7 +36,7 @@ const SUMMARY: &str = "summary 1 / commits 9 / accounts 64000 / counter 2 / list
 const FULL_TRACE: &str =
     "finish / 0 begin CGL / 0 add 1 / 0 commit committed 4611686018427387904 / 0 begin clockfull 4611686018427387904 / clock full 4611686018427387904";
 
-const USAGE: &str = "usage: stm_bench run [--policy P] - step - gen N T SEED";
+const USAGE: &str = "usage: stm_bench run [--policy P] - step - gen N T SEED - check";
 
 const RUN: &[&str] = &["stm_bench", "run"];
 

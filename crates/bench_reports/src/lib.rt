@@ -1,6 +1,8 @@
-//! Tests of `bench`: reports of one caller under `run`, and every end without a report.
+//! Tests of `bench`: reports of one caller under `run`, every end without a report, and reports that `check` judges.
 #![tactic(auto)]
 
+#[cfg(test)]
+mod check_tests;
 #[cfg(test)]
 mod random_tests;
 #[cfg(test)]

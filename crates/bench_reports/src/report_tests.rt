@@ -133,7 +133,7 @@ fn reports_what_was_run(rt: HostRuntime) -> Result<(), Fail> {
 
 #[test]
 fn says_why_there_is_no_report(rt: HostRuntime) -> Result<(), Fail> {
-    let usage = "usage: stm_bench run [--policy P] / step / gen N T SEED\n";
+    let usage = "usage: stm_bench run [--policy P] / step / gen N T SEED / check\n";
     let three = "tx 0 {add 3 1} / tx 0 {add 3 1} / tx 0 {read 3}";
     let text = workload(rt.alloc(), "", three)?;
     let full = workload(rt.alloc(), "clock 4611686018427387903", three)?;
@@ -311,7 +311,7 @@ fn other_words_are_misused(rt: HostRuntime) -> Result<(), Fail> {
         assert_eq!(rt; status, Status::Usage, "{line}");
         assert_eq!(rt;
             held.as_str(),
-            "usage: stm_bench run [--policy P] / step / gen N T SEED\n"
+            "usage: stm_bench run [--policy P] / step / gen N T SEED / check\n"
         );
     }
     Ok(())

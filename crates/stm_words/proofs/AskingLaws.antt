@@ -8,7 +8,7 @@ use Rattle.stm_profile.specs.declared.policy.Policy.{Policy}
 use Rattle.stm_profile.specs.declared.policy.Policy.TheVariants.{Fixed, Round, Expert, State}
 use Rattle.stm_profile.specs.PolicyWords.{HasWord, policy_word}
 use Rattle.stm_words.specs.declared.command.Command.{Command}
-use Rattle.stm_words.specs.declared.command.Command.TheVariants.{Run, Step, Gen}
+use Rattle.stm_words.specs.declared.command.Command.TheVariants.{Run, Step, Gen, Check}
 use Rattle.stm_words.specs.Asking.{AsksBy, AskOnce, IsGen, NamesPolicy, subcommand_name}
 
 abbrev text_in : Option Text → Text
@@ -78,6 +78,13 @@ same-command rows Step (Gen n t v) e x y = absurd (apart 103 115 (lit< tt) (sym 
 same-command rows (Gen m s u) (Run q) e x y = absurd (apart 103 114 (lit< tt) (ap first e))
 same-command rows (Gen m s u) Step e x y = absurd (apart 103 115 (lit< tt) (ap first e))
 same-command rows (Gen m s u) (Gen n t v) e x y = same-gen rows m n s t u v x y
+same-command rows (Run p) Check e x y = absurd (apart 99 114 (lit< tt) (sym (ap first e)))
+same-command rows Step Check e x y = absurd (apart 99 115 (lit< tt) (sym (ap first e)))
+same-command rows (Gen m s u) Check e x y = absurd (apart 99 103 (lit< tt) (sym (ap first e)))
+same-command rows Check (Run q) e x y = absurd (apart 99 114 (lit< tt) (ap first e))
+same-command rows Check Step e x y = absurd (apart 99 115 (lit< tt) (ap first e))
+same-command rows Check (Gen n t v) e x y = absurd (apart 99 103 (lit< tt) (ap first e))
+same-command rows Check Check e x y = refl
 
 pub ask-once : AskOnce
 ask-once words a b x y =

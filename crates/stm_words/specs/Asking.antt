@@ -8,7 +8,7 @@ use Rattle.stm_profile.specs.declared.policy.Policy.{Policy}
 use Rattle.stm_profile.specs.declared.policy.Policy.TheVariants.{Fixed}
 use Rattle.stm_profile.specs.PolicyWords.{IsUpTo, IsWordOf}
 use Rattle.stm_words.specs.declared.command.Command.{Command}
-use Rattle.stm_words.specs.declared.command.Command.TheVariants.{Run, Step, Gen}
+use Rattle.stm_words.specs.declared.command.Command.TheVariants.{Run, Step, Gen, Check}
 use Rattle.stm_words.specs.declared.command.TheConstants.{MOST_TRANSACTIONS}
 use Rattle.stm_words.specs.Grammar.{bench_app, AreTaken}
 
@@ -29,11 +29,13 @@ abbrev pub AsksBy : List Row → Command → Type 0
 AsksBy rows (Run policy) = NamesPolicy (first_of (codes "policy") rows) policy
 AsksBy rows Step = Unit {0}
 AsksBy rows (Gen n t seed) = IsGen rows n t seed
+AsksBy rows Check = Unit {0}
 
 abbrev pub subcommand_name : Command → Text
 subcommand_name (Run policy) = codes "run"
 subcommand_name Step = codes "step"
 subcommand_name (Gen n t seed) = codes "gen"
+subcommand_name Check = codes "check"
 
 -- a subcommand and its entries, as clap finds them, ask for this
 pub record AsksIn (found : Option (Text × List Row)) (command : Command) : Type 0 where

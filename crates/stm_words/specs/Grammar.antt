@@ -1,6 +1,6 @@
--- THE COMMAND LINE'S GRAMMAR: `stm_bench run [--policy P]`, `stm_bench step`, `stm_bench gen N T SEED`.
+-- THE COMMAND LINE'S GRAMMAR: `stm_bench run [--policy P]`, `stm_bench step`, `stm_bench gen N T SEED`, `stm_bench check`.
 use Rattle.std.specs.Prelude.{◌≡◌, true, false, Some, List, [], codes}
-use Rattle.clap.specs.Words.{App, Rule, Text, Shape, new_app, new_rule, with_rule, with_subcommand}
+use Rattle.clap.specs.Words.{App, Rule, Text, Shape, app_of, new_app, new_rule, with_rule, with_subcommand}
 use Rattle.clap.specs.Simple.{shape_of, on_top}
 use Rattle.clap.specs.Faults.{fault_of}
 use Rattle.clap.specs.declared.builder.command.Command.{Command}
@@ -23,11 +23,22 @@ step_shape = (new_app (codes "step")).top
 abbrev pub gen_shape : Shape
 gen_shape = (with_rule (with_rule (with_rule (new_app (codes "gen")) (needed (codes "N"))) (needed (codes "T"))) (needed (codes "SEED"))).top
 
-abbrev pub bench_app : App
-bench_app =
+abbrev pub check_shape : Shape
+check_shape = (new_app (codes "check")).top
+
+-- the commands that run a workload
+abbrev pub first_app : App
+first_app =
     with_subcommand (with_subcommand (with_subcommand
     (on_top (λ s. record s { subcommand_required = true }) (new_app (codes "stm_bench")))
     run_shape) step_shape) gen_shape
+
+abbrev pub bench_app : App
+bench_app = with_subcommand first_app check_shape
+
+-- a command of this application
+abbrev pub IsAbove : App → Command → Type 0
+IsAbove app c = app_of c ≡ app
 
 -- a command of this shape that stands below another
 pub record IsLeafCommand (shape : Shape) (c : Command) : Type 0 where

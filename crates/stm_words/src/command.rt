@@ -21,4 +21,6 @@ pub enum Command {
         callers: u32,
         seed: u64,
     },
+    /// `check`: the workload that is read, and the report behind it.
+    Check,
 }

@@ -1,14 +1,22 @@
 //! The command line's grammar, as clap takes it.
 ghost use Rattle.std.specs.Prelude.{◌≡◌, IfOk};
 ghost use Rattle.clap.specs.Words.{app_of};
-ghost use Rattle.stm_words.specs.Grammar.{bench_app, run_shape, step_shape, gen_shape, IsLeafCommand};
+ghost use Rattle.stm_words.specs.Grammar.{bench_app, run_shape, step_shape, gen_shape, check_shape, first_app, IsAbove, IsLeafCommand};
 
 use clap::{Arg, Command};
 use std::alloc::{AllocError, Global};
 
-/// `stm_bench run [--policy P]`, `stm_bench step` and `stm_bench gen N T SEED`. Each value is a text to clap.
+/// `stm_bench run [--policy P]`, `stm_bench step`, `stm_bench gen N T SEED` and `stm_bench check`. Each value is a text
+/// to clap.
 pub fn bench_command<'a>(alloc: Global) -> Result<Command<'a>, AllocError>
     ensures { IfOk result (λ c. app_of c ≡ bench_app) }
+{
+    first_commands(alloc)?.subcommand(check_command(alloc))
+}
+
+/// Those that run a workload.
+fn first_commands<'a>(alloc: Global) -> Result<Command<'a>, AllocError>
+    ensures { IfOk result (IsAbove first_app) }
 {
     Command::new(alloc, "stm_bench")
         .subcommand_required(true)
@@ -40,4 +48,10 @@ fn gen_command<'a>(alloc: Global) -> Result<Command<'a>, AllocError>
         .arg(transactions)?
         .arg(callers)?
         .arg(seed)
+}
+
+fn check_command<'a>(alloc: Global) -> Command<'a>
+    ensures { IsLeafCommand check_shape result }
+{
+    Command::new(alloc, "check")
 }

@@ -48,6 +48,7 @@ fn command_of(matches: &ArgMatches<'_>) -> Option<Command>
                 seed,
             })
         }
+        Some(("check", _)) => Some(Command::Check),
         _ => None,
     }
 }

@@ -38,6 +38,7 @@ fn commands_are_read(rt: HostRuntime) -> Result<(), Fail> {
             },
         ),
         (["step"].as_slice(), Command::Step),
+        (["check"].as_slice(), Command::Check),
         (
             ["gen", "8", "2", "1"].as_slice(),
             Command::Gen {
@@ -96,6 +97,7 @@ fn other_lines_are_refused(rt: HostRuntime) -> Result<(), Fail> {
         "run --policies fixed",
         "step --policy fixed",
         "step x",
+        "check x",
         "gen",
         "gen 0 1 1",
         "gen 1 33 1",
