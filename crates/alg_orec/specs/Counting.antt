@@ -1,5 +1,5 @@
 -- How many steps a call takes: each adds an item to the trail.
-use Rattle.std.specs.Prelude.{ℕ, ◌≡◌, ◌+◌, ◌≤◌, length}
+use Rattle.std.specs.Prelude.{ℕ, ◌+◌, ◌≤◌, length}
 use Rattle.rule_base.specs.declared.views.View.{View}
 use Rattle.tx_answers.specs.Known.{Known}
 

@@ -1,6 +1,7 @@
 //! Marks in an attempt of OrecLazy, to which it can be rolled back. What it wrote lies with the descriptor, so none of
 //! these takes a step; nor do they take memory.
-ghost use Rattle.std.specs.Prelude.{◌≡◌, ℕ, ◌≤◌};
+ghost use Rattle.stm_gate.specs.Counting.{AddsAtMost};
+ghost use Rattle.std.specs.Prelude.{◌≡◌, ℕ, ◌≤◌, ◌+◌, length};
 ghost use Rattle.stm_model.specs.declared.alg.Alg.TheVariants.{OrecLazy};
 ghost use Rattle.stm_rule.specs.Callers.{IsOf, IsSameCaller};
 ghost use Rattle.tx_answers.specs.Answers.{Checks, Rolls, Releases};
@@ -43,6 +44,7 @@ pub fn roll_to<K: MemRule>(desc: &mut Desc<K>, stm: &Stm<K>, depth: usize) -> Ro
     requires high { depth ≤ (known desc.old).depth }
     ensures same { IsSameCaller desc.old desc.new }
     ensures rolls { Rolls (K.good stm.now.rule) stm.now.config (number desc.old) depth result (known desc.old) (known desc.new) }
+    ensures steps { AddsAtMost 0 (known desc.old) (known desc.new) }
 {
     let _ = stm;
     if desc.local.granted {
