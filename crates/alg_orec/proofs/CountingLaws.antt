@@ -1,5 +1,5 @@
 -- Steps are counted one by one.
-use Rattle.std.proofs.Common.{ℕ, Bool, true, false, ◌≡◌, ◌≤◌, ◌+◌, suc, length, ap, ◌∙◌, arith, subst, sym}
+use Rattle.std.proofs.Common.{ℕ, Bool, true, false, ◌≡◌, ◌≤◌, ◌+◌, length, ap, arith}
 use Rattle.rule_base.specs.World.{World}
 use Rattle.rule_base.specs.StepKinds.{StepKind, view_after}
 use Rattle.rule_base.specs.declared.views.View.{View}

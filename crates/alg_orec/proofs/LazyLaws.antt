@@ -28,7 +28,7 @@ use Rattle.rule_seq.specs.CglSteps as steps
 use Rattle.stm_rule.specs.declared.local.Local.{Local}
 use Rattle.stm_rule.specs.Attempts.{own_of, IsInside}
 use Rattle.stm_rule.specs.Attempts as attempts
-use Rattle.stm_rule.specs.RecordsKept.{Apart, cells_of, IsLazy, IsWriteSet, HasMarks}
+use Rattle.stm_rule.specs.RecordsKept.{Apart, cells_of, IsLazy, HasMarks}
 use Rattle.steps_orec.specs.RecordFindings.{FindsStart}
 use Rattle.tx_answers.specs.declared.answers.Read.TheVariants as reads
 use Rattle.tx_answers.specs.declared.answers.Write.TheVariants as writes

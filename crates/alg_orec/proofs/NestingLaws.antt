@@ -1,62 +1,24 @@
 -- What the marks of an attempt of OrecLazy come to.
-use Rattle.std.proofs.Common.{ℕ, ◌≡◌, ◌<◌, ◌≤◌, ◌+◌, ◌-◌, List, [], ◌∷◌, ◌++◌, length, get_or, take, Bool, true, false, refl, sym, ap, ◌∙◌, arith, subst, inl, inr, length-append}
-use Rattle.std.specs.Prelude.{not, nat_lt}
-use Rattle.std.proofs.lemmas.Bool.{cases_lt}
-use Rattle.std.proofs.lemmas.Bool.Decides.{nat_tests}
-use Rattle.std.proofs.lemmas.List.{length-take-le, get_or-take, get_or_append_left}
-use Rattle.std.proofs.Math.Seq.{get_or-append_seam}
+use Rattle.std.proofs.Common.{ℕ, ◌≡◌, ◌≤◌, ◌+◌, ◌-◌, List, [], ◌∷◌, ◌++◌, take, Bool, true, false, refl, sym, ap, ◌∙◌, arith, subst}
+use Rattle.std.specs.Prelude.{not}
 use Rattle.stm_model.specs.Algorithms.{is_sure}
 use Rattle.stm_model.specs.declared.alg.Alg.{Alg}
-use Rattle.stm_model.specs.declared.alg.Alg.TheVariants.{Cgl, Tml, OrecLazy, OrecEager, RingSw, Serial}
+use Rattle.stm_model.specs.declared.alg.Alg.TheVariants.{OrecLazy}
 use Rattle.stm_model.specs.declared.config.Config.{Config}
 use Rattle.stm_model.specs.Memories.{is_empty, Once}
 use Rattle.rule_base.specs.declared.views.View.{View}
 use Rattle.rule_base.specs.Bridge.{items}
-use Rattle.rule_base.specs.Own.{Own}
 use Rattle.stm_rule.specs.declared.local.Local.{Local}
 use Rattle.stm_rule.specs.Attempts.{own_of, IsInside, IsPromoted}
 use Rattle.stm_rule.specs.Attempts as attempts
-use Rattle.stm_rule.specs.RecordsKept.{cells_of, IsLazy, IsWriteSet, HasMarks}
-use Rattle.tx_answers.specs.Answers.{IsMarked, StaysOpen, IsRolled, Releases}
+use Rattle.stm_rule.specs.RecordsKept.{IsLazy, IsWriteSet, HasMarks}
+use Rattle.tx_answers.specs.Answers.{IsMarked, IsRolled, Releases}
 use Rattle.tx_answers.specs.Known.{Known, known_of, granted_under, written_under, is_irrevocable, is_in, is_closing}
 use Rattle.tx_answers.specs.KnownLaws.{grows-same}
 use Rattle.tx_logs.specs.LogStates.{LogState, rolled}
+use Rattle.stm_gate.specs.MarkLaws.{written-same, marks-take, marks-more}
 use Rattle.stm_gate.specs.Opacity.{opaque-inside}
 use Rattle.alg_orec.proofs.Cells.{items-cells}
-
--- the same is written where the same is buffered
-written-same : (a : Alg) (granted : Bool) (v : View) (o p : Own) → p.buffered ≡ o.buffered → written_under a granted v p ≡ written_under a granted v o
-written-same Cgl granted v o p e = refl
-written-same Tml granted v o p e = refl
-written-same OrecLazy false v o p e = ap items e
-written-same OrecLazy true v o p e = refl
-written-same OrecEager false v o p e = refl
-written-same OrecEager true v o p e = refl
-written-same RingSw false v o p e = ap items e
-written-same RingSw true v o p e = refl
-written-same Serial granted v o p e = refl
-
--- a list that counts more than none is not empty
-pub some-by : (ws : List (ℕ × ℕ)) (n : ℕ) → n ≡ length ws → nat_lt 0 n ≡ not (is_empty ws)
-some-by [] n e = ap (nat_lt 0) e
-some-by (w ∷ ws) n e = grind (arith, nat_tests)
-
--- the marks up to one
-pub marks-take : (c : Config) (fence : ℕ) (marks : List (List (ℕ × ℕ))) (depth d : ℕ) → HasMarks c fence marks depth → d ≤ depth → HasMarks c fence (take d marks) d
-marks-take c fence marks depth d h l = let n = h.count in let size : length (take d marks) ≡ d = length-take-le d marks (omega arith) in record {
-  count = size;
-  sound = λ j e. subst (IsWriteSet c fence) (sym (get_or-take d marks j [] (omega arith))) (h.sound j (omega arith));
-}
-
--- and one more
-pub marks-more : (c : Config) (fence : ℕ) (marks : List (List (ℕ × ℕ))) (depth : ℕ) (ws : List (ℕ × ℕ)) → HasMarks c fence marks depth → IsWriteSet c fence ws → HasMarks c fence (marks ++ ws ∷ []) (depth + 1)
-marks-more c fence marks depth ws h w = let n = h.count in let size = length-append marks (ws ∷ []) in record {
-  count = omega arith;
-  sound = λ j e. elim (cases_lt j (length marks)) [
-    | inl l ↦ subst (IsWriteSet c fence) (sym (get_or_append_left marks (ws ∷ []) [] j l)) (h.sound j l)
-    | inr l ↦ (let z : j ≡ length marks = omega arith in subst (IsWriteSet c fence) (sym (ap (λ (k : ℕ). get_or (marks ++ ws ∷ []) k []) z ∙ get_or-append_seam marks ws [] [])) w)
-  ];
-}
 
 module _ (good : List ℕ → Type 0) (c : Config) (n : ℕ) (l : Local) (v : View) (i : IsInside good c n l v) (lazy : v.gate.algorithm ≡ OrecLazy) where
   -- ONCE IRREVOCABLE a mark is a number

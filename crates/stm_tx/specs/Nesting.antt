@@ -11,11 +11,11 @@ use Rattle.tx_answers.specs.Known.{Known, is_irrevocable}
 -- the algorithms under which marks are built
 abbrev pub takes_marks : Alg → Bool
 takes_marks Cgl = true
-takes_marks Tml = false
+takes_marks Tml = true
 takes_marks OrecLazy = true
 takes_marks OrecEager = false
-takes_marks RingSw = false
-takes_marks Serial = false
+takes_marks RingSw = true
+takes_marks Serial = true
 
 -- marks end with the first commit call, and with the attempt
 abbrev pub live_marks : Known → ℕ

@@ -23,6 +23,8 @@ mod nesting_tests;
 #[cfg(test)]
 mod orec_tests;
 #[cfg(test)]
+mod part_tests;
+#[cfg(test)]
 mod ring_tests;
 #[cfg(test)]
 mod serial_tests;

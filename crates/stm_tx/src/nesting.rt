@@ -1,7 +1,7 @@
 //! Closed nesting by marks: the calls of a running attempt that mark where it stands, and roll it back to there. None of
 //! them takes memory, none waits, and all return. They leave the attempt running. Its marks end with its first commit
 //! call, and with the attempt.
-ghost use Rattle.std.specs.Prelude.{◌≡◌, ℕ, ◌≤◌, ◌*◌, true, if◌then◌else◌, ◌&&◌, not};
+ghost use Rattle.std.specs.Prelude.{◌≡◌, ℕ, ◌≤◌, true, if◌then◌else◌, ◌&&◌, not, ◌+◌, length};
 ghost use Rattle.stm_rule.specs.Callers.{IsOf, IsSameCaller};
 ghost use Rattle.tx_answers.specs.Answers.{Checks, Rolls, Releases};
 ghost use Rattle.tx_answers.specs.Counting.{AddsAtMost};
@@ -10,12 +10,23 @@ ghost use Rattle.stm_tx.specs.Descs.{known, number};
 ghost use Rattle.stm_tx.specs.Nesting.{takes_marks, live_marks, RollsToMark};
 
 use alg_orec::nesting as lazy;
-use alg_seq::nesting as cgl;
+use alg_ring::nesting as ring;
+use alg_seq::nesting as sequential;
 use stm_model::alg::Alg;
 use stm_model::rule::MemRule;
 use stm_rule::desc::Desc;
 use stm_rule::stm::Stm;
 use tx_answers::answers::{Check, Roll};
+
+/// Whether an attempt can be marked under the algorithm. It is the one that the attempt's begin has answered.
+pub fn takes_marks(alg: Alg) -> bool
+    ensures { result ≡ takes_marks alg }
+{
+    match alg {
+        Alg::Cgl | Alg::Tml | Alg::OrecLazy | Alg::RingSw | Alg::Serial => true,
+        Alg::OrecEager => false,
+    }
+}
 
 /// Makes a mark at what the attempt has written: `depth` counts those that stand. `Deep` comes exactly where 8 stand,
 /// and changes nothing. No step.
@@ -28,13 +39,14 @@ pub fn checkpoint<K: MemRule>(desc: &mut Desc<K>) -> Check
 {
     match desc.local.algorithm {
         Alg::OrecLazy => lazy::checkpoint(desc),
-        _ => cgl::checkpoint(desc),
+        Alg::RingSw => ring::checkpoint(desc),
+        _ => sequential::checkpoint(desc),
     }
 }
 
 /// Rolls the attempt back to mark `depth`: what it has written is what it had written there, and what it has read stays
 /// read. The mark stands, and those above it are gone. `Irrevocable` comes exactly where the attempt is irrevocable, and
-/// changes nothing.
+/// changes nothing. Under Serial one step for each word that the attempt has stored, else none.
 pub fn roll_to<K: MemRule>(desc: &mut Desc<K>, stm: &Stm<K>, depth: usize) -> Roll
     requires stm { IsOf desc.old stm.now }
     requires running { IsRunning (known desc.old) }
@@ -43,11 +55,12 @@ pub fn roll_to<K: MemRule>(desc: &mut Desc<K>, stm: &Stm<K>, depth: usize) -> Ro
     requires high { depth ≤ (known desc.old).depth }
     ensures same { IsSameCaller desc.old desc.new }
     ensures rolls { Rolls (K.good stm.now.rule) stm.now.config (number desc.old) depth result (known desc.old) (known desc.new) }
-    ensures steps { AddsAtMost (8 * (known desc.old).writes_limit) (known desc.old) (known desc.new) }
+    ensures steps { AddsAtMost (known desc.old).writes_limit (known desc.old) (known desc.new) }
 {
     match desc.local.algorithm {
         Alg::OrecLazy => lazy::roll_to(desc, stm, depth),
-        _ => cgl::roll_to(desc, stm, depth),
+        Alg::RingSw => ring::roll_to(desc, stm, depth),
+        _ => sequential::roll_to(desc, stm, depth),
     }
 }
 
@@ -63,7 +76,8 @@ pub fn release<K: MemRule>(desc: &mut Desc<K>, depth: usize)
 {
     match desc.local.algorithm {
         Alg::OrecLazy => lazy::release(desc, depth),
-        _ => cgl::release(desc, depth),
+        Alg::RingSw => ring::release(desc, depth),
+        _ => sequential::release(desc, depth),
     }
 }
 

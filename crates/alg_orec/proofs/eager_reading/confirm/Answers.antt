@@ -14,7 +14,7 @@ use Rattle.steps_orec.specs.RecordFindings.{FindsAgain}
 use Rattle.tx_answers.specs.declared.answers.Read.TheVariants as reads
 use Rattle.tx_answers.specs.Answers.{HasRead}
 use Rattle.tx_answers.specs.Known.{known_of}
-use Rattle.stm_gate.specs.Knowing.{known, number}
+use Rattle.stm_gate.specs.Knowing.{known}
 use Rattle.stm_gate.specs.Told.{told}
 use Rattle.alg_orec.proofs.EagerCalls.{runs-eager, stays-tied}
 use Rattle.alg_orec.proofs.EagerLaws as eager

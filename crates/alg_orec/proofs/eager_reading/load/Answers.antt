@@ -7,7 +7,7 @@ use Rattle.rule_orec.specs.OrecSteps.{orec_load}
 use Rattle.stm_rule.specs.Attempts.{own_of}
 use Rattle.stm_rule.specs.Callers.{Handle, handle_of}
 use Rattle.stm_rule.specs.StandLemmas.{tells-of}
-use Rattle.stm_gate.specs.Knowing.{known, number}
+use Rattle.stm_gate.specs.Knowing.{known}
 use Rattle.stm_gate.specs.Told.{told}
 use Rattle.alg_orec.proofs.EagerCalls.{runs-eager, stays-tied}
 use Rattle.alg_orec.proofs.EagerReadLaws as laws

@@ -1,21 +1,14 @@
-use Rattle.std.proofs.Common.{ℕ, ◌≡◌, ◌<◌, ◌≤◌, ◌+◌, ◌-◌, ◌++◌, ◌∷◌, [], List, length, take, true, false, refl, sym, ap, subst, ◌∙◌, rules, arith}
-use Rattle.std.specs.Prelude.{not, nat_lt}
+use Rattle.std.proofs.Common.{◌≡◌, ◌≤◌, ◌-◌, true, false, refl, sym, ap, subst, ◌∙◌, rules, arith}
 use Rattle.stm_model.specs.declared.alg.Alg.TheVariants.{OrecLazy}
-use Rattle.stm_model.specs.Memories.{is_empty}
-use Rattle.rule_base.specs.declared.views.Phase.TheVariants.{In}
-use Rattle.stm_rule.specs.declared.local.Local.{Local}
-use Rattle.stm_rule.specs.Attempts.{SameLengths, good_by, own_of, Stands}
-use Rattle.stm_rule.specs.Callers.{Handle, handle_of}
+use Rattle.stm_rule.specs.Attempts.{SameLengths, good_by, own_of}
+use Rattle.stm_rule.specs.Callers.{Handle}
 use Rattle.stm_rule.specs.StandLemmas.{inside-of}
-use Rattle.tx_answers.specs.declared.answers.Check.TheVariants.{Marked, Deep}
-use Rattle.tx_answers.specs.declared.answers.Roll.TheVariants as rolls
-use Rattle.tx_answers.specs.Answers.{Checks, Rolls, Releases, IsMarked}
-use Rattle.tx_answers.specs.Known.{Known, known_of, is_in, is_irrevocable}
-use Rattle.tx_logs.specs.declared.marks.TheConstants.{MAX_MARKS}
-use Rattle.tx_logs.specs.LogStates.{LogState, rolled}
+use Rattle.tx_answers.specs.Answers.{Releases}
+use Rattle.tx_answers.specs.Known.{known_of, is_in}
+use Rattle.tx_logs.specs.LogStates.{LogState}
 use Rattle.stm_gate.specs.Knowing.{known}
-use Rattle.stm_gate.specs.Standing.{runs-of, in-of}
-use Rattle.stm_gate.specs.Told.{told, stands-on, stands-in, running-by}
+use Rattle.stm_gate.specs.Standing.{in-of}
+use Rattle.stm_gate.specs.Told.{stands-on}
 use Rattle.alg_orec.proofs.LazyLaws as laws
 use Rattle.alg_orec.proofs.NestingLaws as nesting
 use Rattle.alg_orec.proofs.nesting.release.Goals as goal

@@ -1,21 +1,17 @@
-use Rattle.std.proofs.Common.{ℕ, ◌≡◌, ◌<◌, ◌≤◌, ◌+◌, ◌-◌, ◌++◌, ◌∷◌, [], List, length, take, true, false, refl, sym, ap, subst, ◌∙◌, rules, arith}
+use Rattle.std.proofs.Common.{◌≡◌, ◌≤◌, true, false, refl, sym, ap, subst, ◌∙◌, rules, arith}
 use Rattle.std.specs.Prelude.{not, nat_lt}
 use Rattle.stm_model.specs.declared.alg.Alg.TheVariants.{OrecLazy}
 use Rattle.stm_model.specs.Memories.{is_empty}
-use Rattle.rule_base.specs.declared.views.Phase.TheVariants.{In}
-use Rattle.stm_rule.specs.declared.local.Local.{Local}
-use Rattle.stm_rule.specs.Attempts.{SameLengths, good_by, own_of, Stands}
+use Rattle.stm_rule.specs.Attempts.{SameLengths, good_by, own_of}
 use Rattle.stm_rule.specs.Callers.{Handle, handle_of}
-use Rattle.stm_rule.specs.StandLemmas.{inside-of}
-use Rattle.tx_answers.specs.declared.answers.Check.TheVariants.{Marked, Deep}
 use Rattle.tx_answers.specs.declared.answers.Roll.TheVariants as rolls
-use Rattle.tx_answers.specs.Answers.{Checks, Rolls, Releases, IsMarked}
-use Rattle.tx_answers.specs.Known.{Known, known_of, is_in, is_irrevocable}
-use Rattle.tx_logs.specs.declared.marks.TheConstants.{MAX_MARKS}
-use Rattle.tx_logs.specs.LogStates.{LogState, rolled}
+use Rattle.tx_answers.specs.Answers.{Rolls}
+use Rattle.tx_answers.specs.Known.{is_irrevocable}
+use Rattle.tx_logs.specs.LogStates.{LogState}
 use Rattle.stm_gate.specs.Knowing.{known}
-use Rattle.stm_gate.specs.Standing.{runs-of, in-of}
-use Rattle.stm_gate.specs.Told.{told, stands-on, stands-in, running-by}
+use Rattle.stm_gate.specs.MarkLaws.{some-by}
+use Rattle.stm_gate.specs.Standing.{runs-of}
+use Rattle.stm_gate.specs.Told.{told, stands-in, running-by}
 use Rattle.alg_orec.proofs.LazyLaws as laws
 use Rattle.alg_orec.proofs.NestingLaws as nesting
 use Rattle.alg_orec.proofs.nesting.roll_to.Goals as goal
@@ -73,7 +69,7 @@ invariant_of-desc g c =
     let high : c.args.depth ≤ l.depth = subst (λ (p : Handle g.row.K.Denot). c.args.depth ≤ p.own.depth) (sym c.desc.view_is) c.requires.high in
     let log = c.roll_to.new.self in
     let wrote = nat_lt 0 c.count.result in
-    let some : wrote ≡ not (is_empty log.items) = nesting.some-by log.items c.count.result c.count.ensures.count in
+    let some : wrote ≡ not (is_empty log.items) = some-by log.items c.count.result c.count.ensures.count in
     let m = record l { writes = log; wrote = wrote; depth = c.args.depth } in
     let config = ap (λ (p : Handle g.row.K.Denot). p.who.config) c.desc.view_is ∙ c.requires.stm.config in
     let value = ap (λ (p : Handle g.row.K.Denot). p.who.rule) c.desc.view_is ∙ c.requires.stm.rule in
@@ -102,7 +98,7 @@ returns-clause-rolls g c =
     let high : c.args.depth ≤ l.depth = subst (λ (p : Handle g.row.K.Denot). c.args.depth ≤ p.own.depth) (sym c.desc.view_is) c.requires.high in
     let log = c.roll_to.new.self in
     let wrote = nat_lt 0 c.count.result in
-    let some : wrote ≡ not (is_empty log.items) = nesting.some-by log.items c.count.result c.count.ensures.count in
+    let some : wrote ≡ not (is_empty log.items) = some-by log.items c.count.result c.count.ensures.count in
     let m = record l { writes = log; wrote = wrote; depth = c.args.depth } in
     told (λ n v w. Rolls good f n c.args.depth rolls.Rolled v w) h e d.number s m c.desc.view_is refl c.desc.invariant.0.named
     (nesting.rolls-back good f d.number l s.view i lazy plain quiet k log wrote c.args.depth c.requires.low high c.roll_to.ensures.rolled some, nesting.revocable good f d.number l s.view i lazy plain quiet k)

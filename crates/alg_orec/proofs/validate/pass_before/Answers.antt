@@ -2,7 +2,7 @@ use Rattle.std.proofs.Common.{◌∙◌}
 use Rattle.std.proofs.lemmas.Result.{err_from_is_err_and}
 use Rattle.alg_orec.proofs.Passing as passing
 use Rattle.alg_orec.proofs.Seats.{seat-on}
-use Rattle.alg_orec.proofs.CountingLaws.{takes-trans, takes-more}
+use Rattle.alg_orec.proofs.CountingLaws.{takes-trans}
 use Rattle.alg_orec.proofs.validate.pass_before.Goals as goal
 
 pub returns-in_err-pass_read-clause-passes : goal.returns-in_err-pass_read-clause-passes
