@@ -1,6 +1,5 @@
 //! Marks in an attempt of OrecLazy, to which it can be rolled back. What it wrote lies with the descriptor, so none of
 //! these takes a step; nor do they take memory.
-ghost use Rattle.stm_gate.specs.Counting.{AddsAtMost};
 ghost use Rattle.std.specs.Prelude.{◌≡◌, ℕ, ◌≤◌, ◌+◌, length};
 ghost use Rattle.stm_model.specs.declared.alg.Alg.TheVariants.{OrecLazy};
 ghost use Rattle.stm_rule.specs.Callers.{IsOf, IsSameCaller};
