@@ -54,7 +54,7 @@ pub fn read<K: MemRule>(desc: &mut Desc<K>, stm: &Stm<K>, a: usize) -> Read
     requires spared { fenced (known desc.old).fence a ≡ false }
     ensures same { IsSameCaller desc.old desc.new }
     ensures read { HasRead (K.good stm.now.rule) stm.now.config (number desc.old) a result (known desc.old) (known desc.new) }
-    ensures steps { AddsAtMost (6 + (known desc.old).reads_limit + (known desc.old).writes_limit) (known desc.old) (known desc.new) }
+    ensures steps { AddsAtMost (6 + (known desc.old).reads_limit) (known desc.old) (known desc.new) }
 {
     if desc.local.granted {
         return direct_load(desc, stm, a);
@@ -80,7 +80,7 @@ fn first_read<K: MemRule>(desc: &mut Desc<K>, stm: &Stm<K>, a: usize) -> Read
     requires spared { fenced (known desc.old).fence a ≡ false }
     ensures same { IsSameCaller desc.old desc.new }
     ensures read { HasRead (K.good stm.now.rule) stm.now.config (number desc.old) a result (known desc.old) (known desc.new) }
-    ensures steps { AddsAtMost (6 + (known desc.old).reads_limit + (known desc.old).writes_limit) (known desc.old) (known desc.new) }
+    ensures steps { AddsAtMost (6 + (known desc.old).reads_limit) (known desc.old) (known desc.new) }
 {
     let caller = desc.number;
     let limit = desc.local.reads.len();
@@ -171,7 +171,7 @@ pub fn write<K: MemRule>(desc: &mut Desc<K>, stm: &Stm<K>, a: usize, x: u64) -> 
     requires spared { fenced (known desc.old).fence a ≡ false }
     ensures same { IsSameCaller desc.old desc.new }
     ensures write { HasWritten (K.good stm.now.rule) stm.now.config (number desc.old) a x result (known desc.old) (known desc.new) }
-    ensures steps { AddsAtMost (2 + (known desc.old).writes_limit) (known desc.old) (known desc.new) }
+    ensures steps { AddsAtMost 2 (known desc.old) (known desc.new) }
 {
     if desc.local.granted {
         return direct_store(desc, stm, a, x);

@@ -18,7 +18,7 @@ abbrev pub steps_of : Alg → ℕ → ℕ → ℕ → ℕ → Costs
 steps_of Cgl r x n t = record { read = 1; write = 1; commit = 3; cancel = 0; irrevocable = 0 }
 steps_of Serial r x n t = record { read = 1; write = 4 + x; commit = 3; cancel = 2 + x; irrevocable = 3 + x }
 steps_of Tml r x n t = record { read = 4; write = 4; commit = 5; cancel = 2; irrevocable = 5 + t }
-steps_of OrecLazy r x n t = record { read = 6 + r + x; write = 2 + x; commit = 5 + r + 4 * x; cancel = 2 + x; irrevocable = 6 + t + r + x }
+steps_of OrecLazy r x n t = record { read = 6 + r; write = 2; commit = 5 + r + 4 * x; cancel = 2 + x; irrevocable = 6 + t + r + x }
 steps_of OrecEager r x n t = record { read = 7 + r + 2 * x; write = 7 + r + 2 * x; commit = 5 + r + 2 * x; cancel = 3 + 2 * x; irrevocable = 7 + t + r + 2 * x }
 steps_of RingSw r x n t = record { read = 6 + 16 * (n - 1); write = 2; commit = 10 + x + 16 * n; cancel = 2; irrevocable = 8 + t + x + 16 * (n - 1) }
 

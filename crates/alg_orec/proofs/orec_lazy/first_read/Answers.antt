@@ -1,4 +1,4 @@
-use Rattle.std.proofs.Common.{ℕ, ◌≡◌, ◌≢◌, ◌<◌, length, subst, sym, ap, false, rules, ◌∙◌}
+use Rattle.std.proofs.Common.{ℕ, List, arith, ◌≡◌, ◌≢◌, ◌<◌, length, subst, sym, ap, false, rules, ◌∙◌}
 use Rattle.std.specs.Prelude.{◌^◌, None}
 use Rattle.stm_model.specs.declared.alg.Alg.TheVariants.{OrecLazy}
 use Rattle.stm_model.specs.Memories.{item_at}
@@ -6,6 +6,8 @@ use Rattle.rule_base.specs.declared.seats.SeatView.{SeatView}
 use Rattle.rule_base.specs.declared.seats.Who.{Who}
 use Rattle.rule_base.specs.declared.views.View.{View}
 use Rattle.rule_base.specs.Own.{Own}
+use Rattle.rule_base.specs.Bridge.{items}
+use Rattle.rule_base.specs.declared.entries.Cell.{Cell}
 use Rattle.stm_rule.specs.declared.local.Local.{Local}
 use Rattle.stm_rule.specs.Attempts.{SameLengths, good_by, own_of}
 use Rattle.stm_rule.specs.Callers.{Handle, handle_of}
@@ -142,3 +144,42 @@ returns-in-Err-clause-read g c =
     told (λ n v w. HasRead good f n a (reads.Conflict cause) v w) h e d.number w c.roll_back-in-Err.new.local c.desc.view_is (ap (λ (y : SeatView g.row.K.Denot). y.who) b.same.1 ∙ who) c.desc.invariant.0.named
     (subst (λ (p : Own). HasRead good f d.number a (reads.Conflict cause) (known_of s.view o) (known_of w.view p)) (sym (calls.ended-moved d.local m c.roll_back-in-Err.new.local quiet refused.local b.idle))
     (laws.reads-refused good f d.number d.local s.view i lazy plain quiet k a cause m u.view w.view unwritten unread room refused b.gives_up))
+
+pub returns-then-count-limit-clause-steps : goal.returns-then-count-limit-clause-steps
+returns-then-count-limit-clause-steps g c =
+    let f = c.args.stm.now.config in
+    let good = g.K.MemRule.good c.args.stm.now.rule in
+    let d = c.desc.inside in
+    let s = d.seat.me.0 in
+    let o = own_of d.local in
+    let h = handle_of d.seat o in
+    let i = runs-of g.K.MemRule.good f c.args.stm.now.rule h c.args.desc.now d.number d.local c.desc.view_is c.requires.stm.config c.requires.stm.rule c.requires.running.0 c.desc.invariant.1 in
+    let lazy = subst (λ (p : Handle g.row.K.Denot). (known p).alg ≡ OrecLazy) (sym c.desc.view_is) c.requires.algorithm in
+    let quiet : d.local.committing ≡ false = ap (λ (p : Handle g.row.K.Denot). (known p).committing) c.desc.view_is ∙ c.requires.running.1 in
+    let plain : d.local.granted ≡ false = calls.plain-of good f d.number d.local s.view i lazy o (subst (λ (p : Handle g.row.K.Denot). (known p).granted ≡ false) (sym c.desc.view_is) c.requires.revocable) in
+    let k = laws.lazy-of good f d.number d.local s.view i lazy plain in
+    let none : length d.local.locks.items ≡ 0 = ap length k.locks ∙ ap (λ (cs : List Cell). length (items cs)) (k.open_handed quiet) in
+    let first = ap (λ (p : Handle g.row.K.Denot). length (known p).trail) c.desc.view_is in
+    let limit = ap (λ (p : Handle g.row.K.Denot). (known p).reads_limit) c.desc.view_is in
+    let few = c.roll_back.ensures.unheld none in
+    omega arith
+
+pub returns-in-Err-clause-steps : goal.returns-in-Err-clause-steps
+returns-in-Err-clause-steps g c =
+    let f = c.args.stm.now.config in
+    let good = g.K.MemRule.good c.args.stm.now.rule in
+    let d = c.desc.inside in
+    let s = d.seat.me.0 in
+    let o = own_of d.local in
+    let h = handle_of d.seat o in
+    let i = runs-of g.K.MemRule.good f c.args.stm.now.rule h c.args.desc.now d.number d.local c.desc.view_is c.requires.stm.config c.requires.stm.rule c.requires.running.0 c.desc.invariant.1 in
+    let lazy = subst (λ (p : Handle g.row.K.Denot). (known p).alg ≡ OrecLazy) (sym c.desc.view_is) c.requires.algorithm in
+    let quiet : d.local.committing ≡ false = ap (λ (p : Handle g.row.K.Denot). (known p).committing) c.desc.view_is ∙ c.requires.running.1 in
+    let plain : d.local.granted ≡ false = calls.plain-of good f d.number d.local s.view i lazy o (subst (λ (p : Handle g.row.K.Denot). (known p).granted ≡ false) (sym c.desc.view_is) c.requires.revocable) in
+    let k = laws.lazy-of good f d.number d.local s.view i lazy plain in
+    let none : length d.local.locks.items ≡ 0 = ap length k.locks ∙ ap (λ (cs : List Cell). length (items cs)) (k.open_handed quiet) in
+    let first = ap (λ (p : Handle g.row.K.Denot). length (known p).trail) c.desc.view_is in
+    let limit = ap (λ (p : Handle g.row.K.Denot). (known p).reads_limit) c.desc.view_is in
+    let few = c.roll_back-in-Err.ensures.unheld (ap (λ (x : Local). length x.locks.items) c.in-Err.ensures.loads.local ∙ none) in
+    let loaded = c.load_valid.ensures.steps in
+    omega arith

@@ -1,7 +1,9 @@
-use Rattle.std.proofs.Common.{◌≡◌, ◌<◌, refl, subst, sym, ap, true, false, rules, ◌∙◌}
+use Rattle.std.proofs.Common.{List, length, arith, ◌≡◌, ◌<◌, refl, subst, sym, ap, true, false, rules, ◌∙◌}
 use Rattle.std.specs.Prelude.{◌^◌}
 use Rattle.stm_model.specs.declared.alg.Alg.TheVariants.{OrecLazy}
 use Rattle.stm_model.specs.Memories.{put}
+use Rattle.rule_base.specs.Bridge.{items}
+use Rattle.rule_base.specs.declared.entries.Cell.{Cell}
 use Rattle.rule_base.specs.Encodings.{fenced}
 use Rattle.rule_base.specs.declared.seats.SeatView.{SeatView}
 use Rattle.rule_base.specs.Own.{Own}
@@ -93,3 +95,20 @@ returns-clause-write g c =
     told (λ n v w. HasWritten good f n a x writes.Done v w) h e d.number s q c.desc.view_is refl c.desc.invariant.0.named
     (laws.writes-done good f d.number d.local s.view i lazy plain quiet k a x log c.requires.inside small pushed.1
     (laws.room-of good f d.number d.local s.view i lazy plain quiet k a (put a x d.local.writes.items) log c.desc.invariant.1.lengths.0 pushed))
+
+pub returns-in-Full-clause-steps : goal.returns-in-Full-clause-steps
+returns-in-Full-clause-steps g c =
+    let f = c.args.stm.now.config in
+    let good = g.K.MemRule.good c.args.stm.now.rule in
+    let d = c.desc.inside in
+    let s = d.seat.me.0 in
+    let h = handle_of d.seat (own_of d.local) in
+    let i = runs-of g.K.MemRule.good f c.args.stm.now.rule h c.args.desc.now d.number d.local c.desc.view_is c.requires.stm.config c.requires.stm.rule c.requires.running.0 c.desc.invariant.1 in
+    let lazy = subst (λ (p : Handle g.row.K.Denot). (known p).alg ≡ OrecLazy) (sym c.desc.view_is) c.requires.algorithm in
+    let quiet : d.local.committing ≡ false = ap (λ (p : Handle g.row.K.Denot). (known p).committing) c.desc.view_is ∙ c.requires.running.1 in
+    let plain : d.local.granted ≡ false = search rules in
+    let k = laws.lazy-of good f d.number d.local s.view i lazy plain in
+    let none : length d.local.locks.items ≡ 0 = ap length k.locks ∙ ap (λ (cs : List Cell). length (items cs)) (k.open_handed quiet) in
+    let few = c.roll_back.ensures.unheld none in
+    let first = ap (λ (p : Handle g.row.K.Denot). length (known p).trail) c.desc.view_is in
+    omega arith
