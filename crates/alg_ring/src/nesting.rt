@@ -22,6 +22,7 @@ pub fn checkpoint<K: MemRule>(desc: &mut Desc<K>) -> Check
     requires algorithm { (known desc.old).alg ≡ RingSw }
     ensures same { IsSameCaller desc.old desc.new }
     ensures checks { Checks result (known desc.old) (known desc.new) }
+    ensures steps { AddsAtMost 0 (known desc.old) (known desc.new) }
 {
     let depth = desc.local.depth;
     if depth >= MAX_MARKS {
@@ -67,6 +68,7 @@ pub fn release<K: MemRule>(desc: &mut Desc<K>, depth: usize)
     requires high { depth ≤ (known desc.old).depth }
     ensures same { IsSameCaller desc.old desc.new }
     ensures releases { Releases depth (known desc.old) (known desc.new) }
+    ensures steps { AddsAtMost 0 (known desc.old) (known desc.new) }
 {
     if desc.local.granted {
         desc.local.depth = depth - 1;
