@@ -3,8 +3,7 @@
 //! A removal is still to come: a key stays, and a put replaces its value.
 ghost use Rattle.std.specs.Prelude.{◌≡◌, ◌<◌, ◌≤◌, ◌+◌, ◌*◌, ◌%◌, ◌^◌, true, None, Some, IfOk, OnOk, IfErr, IfSome, ltb, if◌then◌else◌, length, suc, Option};
 ghost use Rattle.stm_model.specs.Logs.{SameMemories, IsExplained, IsReadStop};
-ghost use Rattle.tx_effects.specs.Effects.{DoesOver, Under};
-ghost use Rattle.tx_effects.specs.Effects.{Shows};
+ghost use Rattle.tx_effects.specs.Effects.{DoesOver, Under, Shows};
 ghost use Rattle.tx_effects.specs.Keys.{free_from};
 ghost use Rattle.tx_sums.specs.Sums.{SumMapFits, IsSumMap, LinksInside, tag, top, sum_within, sum_under, passed, position_of, summed_in, put_in, raised_in, mended_in, got_in};
 
@@ -175,8 +174,9 @@ impl SumMap {
 
     /// Gives the key this value: it replaces the one that the key's cell has, or goes with the key into the free
     /// cell of the lowest number, as a leaf. The sums of the cells from the root to the key's are mended: three reads
-    /// and one write a cell of that path, beside two reads a cell to find it and one a cell to find a free one. Two
-    /// to four further reads and writes.
+    /// and one write a cell of that path at most, beside two reads a cell to find it. Where it answers `Replaced`,
+    /// three reads and a write more; where the key is absent, one read a cell at most for a free one, and where it
+    /// answers `Added` two reads and three writes more.
     ///
     /// # Errors
     /// The Stop of the access.
