@@ -3,7 +3,6 @@ use Rattle.std.proofs.Common.{ℕ, zero, suc, ◌≡◌, ◌≢◌, ◌<◌, ◌
 use Rattle.std.proofs.lemmas.Bool.Decides.{nat_tests}
 use Rattle.std.specs.Prelude.{◌%◌, ◌-◌, ltb, nat_le, not, reverse, Some, None, MatchOption, slice_index, if◌then◌else◌}
 use Rattle.stm_model.specs.Algorithms.{entry_rise}
-use Rattle.stm_model.specs.AlgorithmLaws.{entry-some}
 use Rattle.stm_model.specs.declared.alg.Alg.{Alg}
 use Rattle.stm_model.specs.declared.alg.Alg.TheVariants.{Cgl, Tml, OrecLazy, OrecEager, RingSw, Serial}
 use Rattle.stm_model.specs.declared.config.Config.{Config}
@@ -27,7 +26,6 @@ use Rattle.rule_base.specs.HistoryLemmas.{over-miss, over-hit}
 use Rattle.rule_base.specs.InstallSteps.{HasChecked, settle, store_base, store_done}
 use Rattle.rule_base.specs.Own.{Own}
 use Rattle.rule_base.specs.StepKinds.{Nothing, Tells, view_after}
-use Rattle.rule_base.specs.World.{World}
 use Rattle.stm_rule.specs.declared.local.Local.{Local}
 use Rattle.stm_rule.specs.Attempts.{IsClosing}
 use Rattle.stm_rule.specs.FenceFindings.{FindsPast, FindsEven}

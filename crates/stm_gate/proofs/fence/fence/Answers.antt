@@ -1,4 +1,4 @@
-use Rattle.std.proofs.Common.{ℕ, ◌≡◌, ◌+◌, ◌<◌, ◌≤◌, ◌∙◌, ap, refl, subst, sym, arith, rules}
+use Rattle.std.proofs.Common.{ℕ, ◌≡◌, ◌+◌, ◌≤◌, ◌∙◌, ap, refl, subst, sym, arith, rules}
 use Rattle.rule_base.specs.Encodings.{gate_word, fence_number}
 use Rattle.rule_base.specs.FenceSteps.{fence}
 use Rattle.stm_rule.specs.Attempts.{good_by, own_of}
