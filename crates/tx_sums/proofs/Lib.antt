@@ -10,3 +10,7 @@ pub mod SumPuts
 pub mod SumContents
 pub mod SumRegions
 pub mod PlainZeros
+pub mod SumRemovals
+pub mod SumRetags
+pub mod SumTakes
+pub mod SumCalls

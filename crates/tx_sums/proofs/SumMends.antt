@@ -12,7 +12,7 @@ use Rattle.tx_sums.proofs.SumTrees.{Tree, due, holds-of, same-tree, same-link, s
 use Rattle.tx_sums.proofs.SumLaws.{is_within, left, left-less, named-used, left-link, right-link}
 
 -- the range of a cell in a link's range is a part of it
-nest : (r : SumMap) (m : List ℕ) (g : Ranges) (n l h a i : ℕ) → Tree r m g → LinkOf r m g l h a → left r m l h ≤ n → Within r m l h i → (l ≤ g.low i) × (g.high i ≤ h)
+pub nest : (r : SumMap) (m : List ℕ) (g : Ranges) (n l h a i : ℕ) → Tree r m g → LinkOf r m g l h a → left r m l h ≤ n → Within r m l h i → (l ≤ g.low i) × (g.high i ≤ h)
 nest r m g zero l h a i w k le y = by (slice_index m a) (w.names l h a k)
   where
     by : (v : ℕ) → Names r m g l h v → (l ≤ g.low i) × (g.high i ≤ h)

@@ -11,7 +11,7 @@ use Rattle.tx_effects.specs.KeyLaws.{how_many-most, free-is}
 use Rattle.tx_sums.specs.declared.sum_map.SumMap.{SumMap}
 use Rattle.tx_sums.specs.declared.sum_map.MapPut.{MapPut}
 use Rattle.tx_sums.specs.declared.sum_map.MapPut.TheVariants.{Added, Replaced, NoRoom}
-use Rattle.tx_sums.specs.Sums.{tag_at, left_at, right_at, value_at, sum_at, tag, value, top, Ranges, Used, Within, LinkOf, Names, Holds, IsSumMap, LinksInside, sum_within, position_of, mended, attached, step_to, put_in, put_by, added_by, replaced_in, got_in}
+use Rattle.tx_sums.specs.Sums.{tag_at, left_at, right_at, value_at, sum_at, tag, value, top, Ranges, Used, Within, LinkOf, Names, Holds, IsSumMap, LinksInside, HasKey, sum_within, position_of, mended, attached, step_to, put_in, put_by, added_by, replaced_in, got_in}
 use Rattle.tx_sums.proofs.SumTrees.{Tree, tree-of, same-tree, part, part-in, part-out, within-set, within-none, mod-grows, mod-changes}
 use Rattle.tx_sums.proofs.SumPairs.{value-none, value-some}
 use Rattle.tx_sums.proofs.SumLaws.{Found, position-found, word-inside}
@@ -29,7 +29,7 @@ tree-links r m g w = (word-inside r m g 0 top r.at w (inl (refl, refl, refl)), �
       word-inside r m g (tag r m i) (g.high i) (right_at r i) w (inr (inr (i, refl, refl, refl, u))),
     )
 
-link-off : (r : SumMap) (m : List ℕ) (g : Ranges) (l h a : ℕ) → LinkOf r m g l h a → (j : ℕ) → (a ≢ value_at r j) × (a ≢ sum_at r j)
+pub link-off : (r : SumMap) (m : List ℕ) (g : Ranges) (l h a : ℕ) → LinkOf r m g l h a → (j : ℕ) → (a ≢ value_at r j) × (a ≢ sum_at r j)
 link-off r m g l h a (inl x) j = let p = x.0 in ((λ e. absurd (omega arith)), (λ e. absurd (omega arith)))
 link-off r m g l h a (inr (inl (i, p, q, o, u))) j = ((λ e. absurd (omega arith)), (λ e. absurd (omega arith)))
 link-off r m g l h a (inr (inr (i, p, q, o, u))) j = ((λ e. absurd (omega arith)), (λ e. absurd (omega arith)))
@@ -181,10 +181,10 @@ module _ (r : SumMap) (m : List ℕ) (g : Ranges) (key v c : ℕ) (s : Position)
       mended-holds r n key v r.cells 0 top r.at leaf leaf-tree (inl (refl, refl, refl)) (omega arith) (omega arith) (how_many-most _ r.cells) (omega arith) leaf-broken
 
 -- THE STATES OF A PUT: m is the memory before it, x the one before the mending
-pub record Replacing (r : SumMap) (words key v : ℕ) (s : Position) (j old : ℕ) (m x : List ℕ) : Type 0 where
+pub record Replacing (r : SumMap) (words key v j old : ℕ) (m x : List ℕ) : Type 0 where
   pub well : IsSumMap r m
   pub long : length m ≡ words
-  pub place : s ≡ position_of r m key
+  pub at : tag r m j ≡ suc key
   pub held : old ≡ value r m j
   pub now : x ≡ set m (value_at r j) v
 
@@ -195,22 +195,22 @@ pub record Adding (r : SumMap) (words key v : ℕ) (s : Position) (c : ℕ) (m x
   pub free : Some c ≡ free_from (tag r m) 0 r.cells
   pub now : x ≡ attached r key v c s.link m
 
-module _ (r : SumMap) (words key v : ℕ) (s : Position) (j old : ℕ) (m x : List ℕ) (w : Replacing r words key v s j old m x) (small : key < 2 ^ 32) (room : r.at + 1 + 5 * r.cells ≤ words) (inside : j < r.cells) (next : s.next ≡ suc j) (fits : old < 2 ^ 64) where
-  at : tag r m j ≡ suc key
-  at = ((position-found r m w.well.0 key (tree-of r m w.well.0 w.well.1) small).some j (ap (λ p. p.next) (sym w.place) ∙ next)).1
-
+module _ (r : SumMap) (words key v j old : ℕ) (m x : List ℕ) (w : Replacing r words key v j old m x) (small : key < 2 ^ 32) (room : r.at + 1 + 5 * r.cells ≤ words) (inside : j < r.cells) (fits : old < 2 ^ 64) where
   was : value r m j < 2 ^ 64
   was = subst (λ z. z < 2 ^ 64) w.held fits
 
   pub replaced-links : LinksInside r x
-  replaced-links = subst (LinksInside r) (sym w.now) (tree-links r (set m (value_at r j) v) w.well.0 (value-tree r m w.well.0 key v j w.well.1 small inside at was (let e = w.long in omega arith)))
+  replaced-links = subst (LinksInside r) (sym w.now) (tree-links r (set m (value_at r j) v) w.well.0 (value-tree r m w.well.0 key v j w.well.1 small inside w.at was (let e = w.long in omega arith)))
 
-  pub replaced-is : (put_in r key v m ≡ changed Replaced (mended r key (step_to old v) r.cells r.at x)) × IsSumMap r (mended r key (step_to old v) r.cells r.at x)
+  pub replaced-is : (replaced_in r key v j m ≡ changed Replaced (mended r key (step_to old v) r.cells r.at x)) × IsSumMap r (mended r key (step_to old v) r.cells r.at x)
   replaced-is =
-      let n : (position_of r m key).next ≡ suc j = ap (λ p. p.next) (sym w.place) ∙ next in
       let o = w.held in
       let e = w.now in
-      (rw (n, o, e) refl, (w.well.0, rw (o, e) (value-holds r m w.well.0 key v j w.well.1 small inside at was (let e = w.long in omega arith))))
+      (rw (o, e) refl, (w.well.0, rw (o, e) (value-holds r m w.well.0 key v j w.well.1 small inside w.at was (let e = w.long in omega arith))))
+
+-- the cell that a find names has the key
+pub has-key : (r : SumMap) (m : List ℕ) (key j : ℕ) (s : Position) → IsSumMap r m → key < 2 ^ 32 → s ≡ position_of r m key → s.next ≡ suc j → HasKey r key j m
+has-key r m key j s w small e n = record { well = w; at = ((position-found r m w.0 key (tree-of r m w.0 w.1) small).some j (ap (λ p. p.next) (sym e) ∙ n)).1 }
 
 module _ (r : SumMap) (words key v : ℕ) (s : Position) (c : ℕ) (m x : List ℕ) (w : Adding r words key v s c m x) (small : key < 2 ^ 32) (room : r.at + 1 + 5 * r.cells ≤ words) (next : s.next ≡ 0) where
   is-free : (c < 0 + r.cells) × (tag r m c ≡ 0)

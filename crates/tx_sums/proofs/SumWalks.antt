@@ -87,14 +87,14 @@ from-is r key d zero a m = refl
 from-is r key d (suc n) a m = refl
 
 -- m is the memory before, x the one now
-pub record Mending (r : SumMap) (key d v n : ℕ) (b : Bool) (m x : List ℕ) : Type 0 where
-  pub on : mended r key d r.cells r.at m ≡ from_word r key d n v x
+pub record Mending (r : SumMap) (from key d v n : ℕ) (b : Bool) (m x : List ℕ) : Type 0 where
+  pub on : mended r key d r.cells from m ≡ from_word r key d n v x
   pub links : LinksInside r x
-  pub first : not (slice_index m r.at == 0) ≡ b
+  pub first : not (slice_index m from == 0) ≡ b
 
-pub mending-begins : (r : SumMap) (key d v : ℕ) (m : List ℕ) → v ≡ slice_index m r.at → LinksInside r m → Mending r key d v r.cells (not (v == 0)) m m
-mending-begins r key d v m e w = record {
-  on = from-is r key d r.cells r.at m ∙ ap (λ i. from_word r key d r.cells i m) (sym e);
+pub mending-begins : (r : SumMap) (from key d v : ℕ) (m : List ℕ) → v ≡ slice_index m from → LinksInside r m → Mending r from key d v r.cells (not (v == 0)) m m
+mending-begins r from key d v m e w = record {
+  on = from-is r key d r.cells from m ∙ ap (λ i. from_word r key d r.cells i m) (sym e);
   links = w;
   first = ap (λ i. not (i == 0)) (sym e);
 }
@@ -126,10 +126,10 @@ mending-found r key d v (suc n) j t x e lt z y =
     let q : (tag r x j == suc key) ≡ true = (let p : tag r x j ≡ suc key = omega arith in grind (arith, nat_tests)) in rw (e, q) refl
 
 -- one cell on
-pub mending-on : (r : SumMap) (key d v n less j t a u : ℕ) (b : Bool) (m x : List ℕ) → Mending r key d v n b m x → v ≡ suc j → n ≡ suc less → t ≡ tag r (raised r d j x) j → t ≢ key + 1
-    → a ≡ (if ltb key t then left_at r j else right_at r j) → u ≡ slice_index (raised r d j x) a → Mending r key d u less b m (raised r d j x)
-mending-on r key d v zero less j t a u b m x w e k z y f h = absurd (omega arith)
-mending-on r key d v (suc n) less j t a u b m x w e k z y f h =
+pub mending-on : (r : SumMap) (from key d v n less j t a u : ℕ) (b : Bool) (m x : List ℕ) → Mending r from key d v n b m x → v ≡ suc j → n ≡ suc less → t ≡ tag r (raised r d j x) j → t ≢ key + 1
+    → a ≡ (if ltb key t then left_at r j else right_at r j) → u ≡ slice_index (raised r d j x) a → Mending r from key d u less b m (raised r d j x)
+mending-on r from key d v zero less j t a u b m x w e k z y f h = absurd (omega arith)
+mending-on r from key d v (suc n) less j t a u b m x w e k z y f h =
     let same = raised-tag r d j j x in
     let q : (tag r x j == suc key) ≡ false = (let p : tag r x j ≢ suc key = λ i. y (omega arith) in grind (arith, nat_tests)) in
     let side : a ≡ side_at r x key j = f ∙ ap (λ i. if ltb key i then left_at r j else right_at r j) (z ∙ same) in
@@ -148,11 +148,11 @@ side-most r key t j a x w lt e = by (ltb key t) e
     by true e = subst (λ i. slice_index x i ≤ r.cells) (sym e) (w.1 j lt).0
     by false e = subst (λ i. slice_index x i ≤ r.cells) (sym e) (w.1 j lt).1
 
-pub word-most : (r : SumMap) (key d v n j t a u : ℕ) (b : Bool) (m x : List ℕ) → Mending r key d v n b m x → j < r.cells → a ≡ (if ltb key t then left_at r j else right_at r j) → u ≡ slice_index (raised r d j x) a → u ≤ r.cells
-word-most r key d v n j t a u b m x w lt f h = let y = side-most r key t j a (raised r d j x) (raised-links r d j x w.links) lt f in omega arith
+pub word-most : (r : SumMap) (from key d v n j t a u : ℕ) (b : Bool) (m x : List ℕ) → Mending r from key d v n b m x → j < r.cells → a ≡ (if ltb key t then left_at r j else right_at r j) → u ≡ slice_index (raised r d j x) a → u ≤ r.cells
+word-most r from key d v n j t a u b m x w lt f h = let y = side-most r key t j a (raised r d j x) (raised-links r d j x w.links) lt f in omega arith
 
-pub mended-is : (r : SumMap) (key d : ℕ) (b : Bool) (m x : List ℕ) → mended r key d r.cells r.at m ≡ x → not (slice_index m r.at == 0) ≡ b → mended_in r key d m ≡ record { reply = b; memory = x; wrote = b }
-mended-is r key d b m x e f = rw (e, f) refl
+pub mended-is : (r : SumMap) (from key d : ℕ) (b : Bool) (m x : List ℕ) → mended r key d r.cells from m ≡ x → not (slice_index m from == 0) ≡ b → mended_in r from key d m ≡ record { reply = b; memory = x; wrote = b }
+mended-is r from key d b m x e f = rw (e, f) refl
 
 -- at step i, where the link's word is v: nothing was written yet, or a sum was
 abbrev pub Wrote : ℕ → Log → Log → Bool → ℕ → Type 0

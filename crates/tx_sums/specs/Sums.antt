@@ -2,7 +2,7 @@
 use Rattle.std.specs.Prelude.{ℕ, zero, suc, ◌≡◌, ◌+◌, ◌-◌, ◌*◌, ◌%◌, ◌^◌, ◌<◌, ◌≤◌, ◌⊎◌, ◌==◌, ◌&&◌, ltb, leb, if◌then◌else◌, Bool, true, false, not, List, [], ◌∷◌, slice_index, slice_set, Option, Some, None}
 use Rattle.tx_effects.specs.declared.position.Position.{Position}
 use Rattle.tx_effects.specs.Effects.{Effect, unchanged, changed}
-use Rattle.tx_effects.specs.Keys.{free_from}
+use Rattle.tx_effects.specs.Keys.{free_from, less_one}
 use Rattle.tx_sums.specs.declared.sum_map.SumMap.{SumMap}
 use Rattle.tx_sums.specs.declared.sum_map.Passed.{Passed}
 use Rattle.tx_sums.specs.declared.sum_map.MapPut.{MapPut}
@@ -156,9 +156,9 @@ abbrev pub mended : SumMap → ℕ → ℕ → ℕ → ℕ → List ℕ → List
 mended r key d zero a m = m
 mended r key d (suc n) a m = mended_by (λ j. if tag r m j == suc key then raised r d j m else mended r key d n (side_at r m key j) (raised r d j m)) m (slice_index m a)
 
--- whether a cell's sum was raised: not in an empty tree
-abbrev pub mended_in : SumMap → ℕ → ℕ → List ℕ → Effect Bool
-mended_in r key d m = record { reply = not (slice_index m r.at == 0); memory = mended r key d r.cells r.at m; wrote = not (slice_index m r.at == 0) }
+-- from the link a on; whether a cell's sum was raised: not where the link names none
+abbrev pub mended_in : SumMap → ℕ → ℕ → ℕ → List ℕ → Effect Bool
+mended_in r a key d m = record { reply = not (slice_index m a == 0); memory = mended r key d r.cells a m; wrote = not (slice_index m a == 0) }
 
 -- a new key's cell, with no sum yet
 abbrev pub attached : SumMap → ℕ → ℕ → ℕ → ℕ → List ℕ → List ℕ
@@ -188,3 +188,81 @@ summed_in r lo hi m = unchanged (sum_of lo hi (pairs r m) % 2 ^ 64) m
 -- each link of the pool, and the root, names a cell or none
 abbrev pub LinksInside : SumMap → List ℕ → Type 0
 LinksInside r m = (slice_index m r.at ≤ r.cells) × ((j : ℕ) → j < r.cells → (slice_index m (left_at r j) ≤ r.cells) × (slice_index m (right_at r j) ≤ r.cells))
+
+-- and so does the link a
+pub record LinksFrom (r : SumMap) (a : ℕ) (m : List ℕ) : Type 0 where
+  pub links : LinksInside r m
+  pub from : slice_index m a ≤ r.cells
+
+-- the cell j has the key
+pub record HasKey (r : SumMap) (key j : ℕ) (m : List ℕ) : Type 0 where
+  pub well : IsSumMap r m
+  pub at : tag r m j ≡ suc key
+
+-- the address of a link: the root, or a link of a used cell
+abbrev pub IsLink : SumMap → List ℕ → ℕ → Type 0
+IsLink r m a = (a ≡ r.at) ⊎ ((i : ℕ) × Used r m i × ((a ≡ left_at r i) ⊎ (a ≡ right_at r i)))
+
+-- the link a names the cell j, which has no value
+pub record IsEmptied (r : SumMap) (j a : ℕ) (m : List ℕ) : Type 0 where
+  pub well : IsSumMap r m
+  pub link : IsLink r m a
+  pub named : slice_index m a ≡ suc j
+  pub none : value r m j ≡ 0
+
+-- the cell j, which has no value, has the word v as its right link
+pub record HasRight (r : SumMap) (j v : ℕ) (m : List ℕ) : Type 0 where
+  pub well : IsSumMap r m
+  pub used : Used r m j
+  pub none : value r m j ≡ 0
+  pub right : v ≡ slice_index m (right_at r j)
+
+-- the word at a is v, in a map
+pub record IsAt (r : SumMap) (a v : ℕ) (m : List ℕ) : Type 0 where
+  pub well : IsSumMap r m
+  pub at : v ≡ slice_index m a
+
+-- the link e, which names the cell y, gets v, and the words of y become 0
+abbrev pub spliced : SumMap → ℕ → ℕ → ℕ → List ℕ → List ℕ
+spliced r y e v m = slice_set (slice_set (slice_set (slice_set (slice_set (slice_set m e v) (tag_at r y) 0) (left_at r y) 0) (right_at r y) 0) (value_at r y) 0) (sum_at r y) 0
+
+abbrev pub retagged : SumMap → ℕ → ℕ → List ℕ → List ℕ
+retagged r x v m = slice_set m (tag_at r x) v
+
+-- the first cell from the link a on, to the left, that has nothing on its left
+abbrev pub leftmost_by : SumMap → List ℕ → ℕ → (ℕ → Position) → ℕ → Position
+leftmost_by r m a on zero = record { link = a; next = 0; tag = 0 }
+leftmost_by r m a on (suc j) = if slice_index m (left_at r j) == 0 then record { link = a; next = suc j; tag = tag r m j } else on j
+
+abbrev pub leftmost : SumMap → List ℕ → ℕ → ℕ → Position
+leftmost r m zero a = record { link = a; next = 0; tag = 0 }
+leftmost r m (suc n) a = leftmost_by r m a (λ j. leftmost r m n (left_at r j)) (slice_index m a)
+
+-- the cell x, which has no value, takes that of y, which is on its right and has this key; the sums from there on to y lose it
+abbrev pub moved_up : SumMap → ℕ → ℕ → ℕ → List ℕ → List ℕ
+moved_up r x y key m = mended r key (step_to (value r m y) 0) r.cells (right_at r x) (slice_set (slice_set m (value_at r x) (value r m y)) (value_at r y) 0)
+
+-- x gets value and tag of the cell that s names, the least on x's right, which is spliced out
+abbrev pub replaced_by : SumMap → ℕ → Position → List ℕ → List ℕ
+replaced_by r x s m = let y : ℕ = less_one s.next in retagged r x s.tag (spliced r y s.link (slice_index m (right_at r y)) (moved_up r x y (less_one s.tag) m))
+
+abbrev pub least_taken : SumMap → ℕ → List ℕ → Effect Bool
+least_taken r x m = changed true (replaced_by r x (leftmost r m r.cells (right_at r x)) m)
+
+-- a cell with one link at most is spliced out; one with two takes tag and value of the least cell on its right, which is spliced out in its place
+abbrev pub taken_out : SumMap → ℕ → ℕ → List ℕ → List ℕ
+taken_out r x e m =
+    if slice_index m (left_at r x) == 0 then spliced r x e (slice_index m (right_at r x)) m
+    else (if slice_index m (right_at r x) == 0 then spliced r x e (slice_index m (left_at r x)) m
+    else replaced_by r x (leftmost r m r.cells (right_at r x)) m)
+
+abbrev pub taken_in : SumMap → ℕ → ℕ → List ℕ → Effect Bool
+taken_in r x e m = changed true (taken_out r x e m)
+
+abbrev pub removed_by : SumMap → ℕ → List ℕ → ℕ → Effect Bool
+removed_by r key m zero = unchanged false m
+removed_by r key m (suc j) = taken_in r j (position_of r m key).link (replaced_in r key 0 j m).memory
+
+-- a key that is there loses its value, and then its cell
+abbrev pub removed_in : SumMap → ℕ → List ℕ → Effect Bool
+removed_in r key m = removed_by r key m (position_of r m key).next

@@ -1,11 +1,10 @@
 //! A map from keys to values with the sums of ranges of keys, over any access.
-//!
-//! A removal is still to come: a key stays, and a put replaces its value.
 ghost use Rattle.std.specs.Prelude.{◌≡◌, ◌<◌, ◌≤◌, ◌+◌, ◌*◌, ◌%◌, ◌^◌, true, None, Some, IfOk, OnOk, IfErr, IfSome, ltb, if◌then◌else◌, length, suc, Option};
 ghost use Rattle.stm_model.specs.Logs.{SameMemories, IsExplained, IsReadStop};
-ghost use Rattle.tx_effects.specs.Effects.{DoesOver, Under, Shows};
+ghost use Rattle.tx_effects.specs.Effects.{DoesOver, Under, Shows, Turns};
 ghost use Rattle.tx_effects.specs.Keys.{free_from};
-ghost use Rattle.tx_sums.specs.Sums.{SumMapFits, IsSumMap, LinksInside, tag, top, sum_within, sum_under, passed, position_of, summed_in, put_in, raised_in, mended_in, got_in};
+ghost use Rattle.tx_sums.specs.Sums.{SumMapFits, IsSumMap, LinksInside, tag, top, sum_within, sum_under, passed, position_of, summed_in, put_in, raised_in, mended_in, got_in, LinksFrom, HasKey, HasRight, IsEmptied, IsAt, replaced_in, leftmost, spliced, least_taken, taken_in, removed_in};
+ghost use Rattle.tx_sums.specs.declared.sum_map.MapPut.TheVariants.{Replaced};
 
 use stm_model::access::Access;
 use stm_model::stop::Stop;
@@ -195,10 +194,7 @@ impl SumMap {
     {
         let position = self.find(acc, key)?;
         if position.next != 0 {
-            let address = self.at + 1 + 5 * (position.next - 1) as usize + 3;
-            let old = acc.read(address)?;
-            acc.write(address, value)?;
-            self.mend(acc, key, value.wrapping_sub(old))?;
+            self.replace(acc, key, (position.next - 1) as usize, value)?;
             return Ok(MapPut::Replaced);
         }
         match self.free_cell(acc)? {
@@ -208,19 +204,41 @@ impl SumMap {
                 acc.write(address, key as u64 + 1)?;
                 acc.write(address + 3, value)?;
                 acc.write(position.link, cell as u64 + 1)?;
-                self.mend(acc, key, value)?;
+                self.mend(acc, self.at, key, value)?;
                 Ok(MapPut::Added)
             }
         }
     }
 
-    /// Adds to the sums of the cells from the root to the key's, modulo 2^64. Answers whether there is a cell. Three
-    /// reads and one write a cell of the path at most, and one read.
-    fn mend<A: Access>(&self, acc: &mut A, key: u32, by: u64) -> Result<bool, Stop>
+    /// Gives the key's cell, here from 0, this value, and mends the sums from the root to it. Three reads and one
+    /// write a cell of the path at most, and two reads and a write.
+    fn replace<A: Access>(&self, acc: &mut A, key: u32, cell: usize, value: u64) -> Result<(), Stop>
         requires going { A.stopped acc.old ≡ None }
-        requires within { SumMapFits self.now (A.words acc.old) }
-        requires links { Under (A.good acc.old) (A.words acc.old) (A.log acc.old) (LinksInside self.now) }
-        ensures reply { IfOk result (λ r. DoesOver (A.good acc.old) (A.words acc.old) (mended_in self.now key by) (A.log acc.old) r (A.log acc.new)) }
+        requires within { (cell < self.now.cells) × SumMapFits self.now (A.words acc.old) }
+        requires well { Under (A.good acc.old) (A.words acc.old) (A.log acc.old) (HasKey self.now key cell) }
+        ensures reply { OnOk result (DoesOver (A.good acc.old) (A.words acc.old) (replaced_in self.now key value cell) (A.log acc.old) Replaced (A.log acc.new)) }
+        ensures well { OnOk result (Under (A.good acc.new) (A.words acc.new) (A.log acc.new) (IsSumMap self.now)) }
+        ensures explained { OnOk result (IsExplained (A.good acc.new) (A.words acc.new) (A.log acc.new)) }
+        ensures goes { OnOk result (A.stopped acc.new ≡ None) }
+        ensures stops { IfErr result (λ s. A.stopped acc.new ≡ Some s) }
+        ensures good { SameMemories (A.good acc.old) (A.good acc.new) }
+        ensures words { A.words acc.new ≡ A.words acc.old }
+        ensures keeps { A.keeps acc.old acc.new }
+    {
+        let address = self.at + 1 + 5 * cell + 3;
+        let old = acc.read(address)?;
+        acc.write(address, value)?;
+        self.mend(acc, self.at, key, value.wrapping_sub(old))?;
+        Ok(())
+    }
+
+    /// Adds to the sums of the cells from this link on to the key's, modulo 2^64. Answers whether there is a cell.
+    /// Three reads and one write a cell of the path at most, and one read.
+    fn mend<A: Access>(&self, acc: &mut A, from: usize, key: u32, by: u64) -> Result<bool, Stop>
+        requires going { A.stopped acc.old ≡ None }
+        requires within { (from < A.words acc.old) × SumMapFits self.now (A.words acc.old) }
+        requires links { Under (A.good acc.old) (A.words acc.old) (A.log acc.old) (LinksFrom self.now from) }
+        ensures reply { IfOk result (λ r. DoesOver (A.good acc.old) (A.words acc.old) (mended_in self.now from key by) (A.log acc.old) r (A.log acc.new)) }
         ensures explained { OnOk result (IsExplained (A.good acc.new) (A.words acc.new) (A.log acc.new)) }
         ensures goes { OnOk result (A.stopped acc.new ≡ None) }
         ensures stops { IfErr result (λ s. A.stopped acc.new ≡ Some s) }
@@ -229,7 +247,7 @@ impl SumMap {
         ensures keeps { A.keeps acc.old acc.new }
     {
         let tag = key as u64 + 1;
-        let mut link = acc.read(self.at)?;
+        let mut link = acc.read(from)?;
         let wrote = link != 0;
         for _step in 0..self.cells {
             if link == 0 {
@@ -245,6 +263,168 @@ impl SumMap {
             link = acc.read(side(address, found, key))?;
         }
         Ok(wrote)
+    }
+
+    /// From the link `from`, whose word is `first`, to the left: the first cell with nothing on its left.
+    /// One read a cell at most, and one.
+    fn leftmost<A: Access>(&self, acc: &mut A, from: usize, first: u64) -> Result<Position, Stop>
+        requires going { A.stopped acc.old ≡ None }
+        requires within { (from < A.words acc.old) × (first ≤ self.now.cells) × SumMapFits self.now (A.words acc.old) }
+        requires explained { IsExplained (A.good acc.old) (A.words acc.old) (A.log acc.old) }
+        requires well { Under (A.good acc.old) (A.words acc.old) (A.log acc.old) (IsAt self.now from first) }
+        ensures finds { IfOk result (λ s. Shows (A.good acc.old) (A.words acc.old) (A.log acc.old) (A.log acc.new) (λ m. s ≡ leftmost self.now m self.now.cells from)) }
+        ensures inside { IfOk result (λ s. (s.link < A.words acc.old) × (s.next ≤ self.now.cells)) }
+        ensures writes { OnOk result ((A.log acc.new).writes ≡ (A.log acc.old).writes) }
+        ensures explained { OnOk result (IsExplained (A.good acc.new) (A.words acc.new) (A.log acc.new)) }
+        ensures cause { IfErr result IsReadStop }
+        ensures goes { OnOk result (A.stopped acc.new ≡ None) }
+        ensures stops { IfErr result (λ s. A.stopped acc.new ≡ Some s) }
+        ensures good { SameMemories (A.good acc.old) (A.good acc.new) }
+        ensures words { A.words acc.new ≡ A.words acc.old }
+        ensures keeps { A.keeps acc.old acc.new }
+    {
+        let mut link = from;
+        let mut next = first;
+        for _step in 0..self.cells {
+            if next == 0 {
+                return Ok(Position { link, next, tag: 0 });
+            }
+            let address = self.at + 1 + 5 * (next - 1) as usize;
+            let left = acc.read(address + 1)?;
+            if left == 0 {
+                let tag = acc.read(address)?;
+                return Ok(Position { link, next, tag });
+            }
+            link = address + 1;
+            next = left;
+        }
+        Ok(Position {
+            link,
+            next: 0,
+            tag: 0,
+        })
+    }
+
+    /// The link, which names the cell, gets `word`, and the cell's words become 0. Six writes.
+    fn splice<A: Access>(
+        &self,
+        acc: &mut A,
+        cell: usize,
+        link: usize,
+        word: u64,
+    ) -> Result<(), Stop>
+        requires going { A.stopped acc.old ≡ None }
+        requires within { (cell < self.now.cells) × (link < A.words acc.old) × SumMapFits self.now (A.words acc.old) }
+        ensures turns { OnOk result (Turns (A.log acc.old) (A.log acc.new) (spliced self.now cell link word)) }
+        ensures explained { OnOk result (IsExplained (A.good acc.new) (A.words acc.new) (A.log acc.new)) }
+        ensures goes { OnOk result (A.stopped acc.new ≡ None) }
+        ensures stops { IfErr result (λ s. A.stopped acc.new ≡ Some s) }
+        ensures good { SameMemories (A.good acc.old) (A.good acc.new) }
+        ensures words { A.words acc.new ≡ A.words acc.old }
+        ensures keeps { A.keeps acc.old acc.new }
+    {
+        let address = self.at + 1 + 5 * cell;
+        acc.write(link, word)?;
+        acc.write(address, 0)?;
+        acc.write(address + 1, 0)?;
+        acc.write(address + 2, 0)?;
+        acc.write(address + 3, 0)?;
+        acc.write(address + 4, 0)?;
+        Ok(())
+    }
+
+    /// The cell, which has no value and this right link, gets tag and value of the least cell on its right, which
+    /// is spliced out in its place; the sums on the way there lose the value. Four reads and one write a cell of
+    /// the way at most, four reads and nine writes.
+    fn take_least<A: Access>(&self, acc: &mut A, cell: usize, greater: u64) -> Result<(), Stop>
+        requires going { A.stopped acc.old ≡ None }
+        requires within { (cell < self.now.cells) × (0 < greater) × (greater ≤ self.now.cells) × SumMapFits self.now (A.words acc.old) }
+        requires explained { IsExplained (A.good acc.old) (A.words acc.old) (A.log acc.old) }
+        requires well { Under (A.good acc.old) (A.words acc.old) (A.log acc.old) (HasRight self.now cell greater) }
+        ensures reply { OnOk result (DoesOver (A.good acc.old) (A.words acc.old) (least_taken self.now cell) (A.log acc.old) true (A.log acc.new)) }
+        ensures well { OnOk result (Under (A.good acc.new) (A.words acc.new) (A.log acc.new) (IsSumMap self.now)) }
+        ensures explained { OnOk result (IsExplained (A.good acc.new) (A.words acc.new) (A.log acc.new)) }
+        ensures goes { OnOk result (A.stopped acc.new ≡ None) }
+        ensures stops { IfErr result (λ s. A.stopped acc.new ≡ Some s) }
+        ensures good { SameMemories (A.good acc.old) (A.good acc.new) }
+        ensures words { A.words acc.new ≡ A.words acc.old }
+        ensures keeps { A.keeps acc.old acc.new }
+    {
+        let address = self.at + 1 + 5 * cell;
+        let least = self.leftmost(acc, address + 2, greater)?;
+        if least.next == 0 {
+            unreachable!();
+        }
+        let moved = (least.next - 1) as usize;
+        let source = self.at + 1 + 5 * moved;
+        let after = acc.read(source + 2)?;
+        let value = acc.read(source + 3)?;
+        acc.write(address + 3, value)?;
+        acc.write(source + 3, 0)?;
+        let key = (least.tag - 1) as u32;
+        self.mend(acc, address + 2, key, 0u64.wrapping_sub(value))?;
+        self.splice(acc, moved, least.link, after)?;
+        acc.write(address, least.tag)?;
+        Ok(())
+    }
+
+    /// Takes the cell, which the link names and which has no value, out of the tree: one with one link at most is
+    /// spliced out, the link to it becomes its own; of one with two, the least on its right takes the place.
+    fn take_out<A: Access>(&self, acc: &mut A, cell: usize, link: usize) -> Result<(), Stop>
+        requires going { A.stopped acc.old ≡ None }
+        requires within { (cell < self.now.cells) × (link < A.words acc.old) × SumMapFits self.now (A.words acc.old) }
+        requires well { Under (A.good acc.old) (A.words acc.old) (A.log acc.old) (IsEmptied self.now cell link) }
+        ensures reply { OnOk result (DoesOver (A.good acc.old) (A.words acc.old) (taken_in self.now cell link) (A.log acc.old) true (A.log acc.new)) }
+        ensures well { OnOk result (Under (A.good acc.new) (A.words acc.new) (A.log acc.new) (IsSumMap self.now)) }
+        ensures explained { OnOk result (IsExplained (A.good acc.new) (A.words acc.new) (A.log acc.new)) }
+        ensures goes { OnOk result (A.stopped acc.new ≡ None) }
+        ensures stops { IfErr result (λ s. A.stopped acc.new ≡ Some s) }
+        ensures good { SameMemories (A.good acc.old) (A.good acc.new) }
+        ensures words { A.words acc.new ≡ A.words acc.old }
+        ensures keeps { A.keeps acc.old acc.new }
+    {
+        let address = self.at + 1 + 5 * cell;
+        let lesser = acc.read(address + 1)?;
+        let greater = acc.read(address + 2)?;
+        if lesser == 0 {
+            self.splice(acc, cell, link, greater)?;
+            return Ok(());
+        }
+        if greater == 0 {
+            self.splice(acc, cell, link, lesser)?;
+            return Ok(());
+        }
+        self.take_least(acc, cell, greater)?;
+        Ok(())
+    }
+
+    /// Takes the key and its value out, and answers whether the key was there. The sums above it are mended first,
+    /// and where the least key on its right takes its cell, the sums between the two: three reads and one write a
+    /// cell of the path to the cell that gets free, beside two reads a cell to find it.
+    ///
+    /// # Errors
+    /// The Stop of the access.
+    pub fn remove<A: Access>(&self, acc: &mut A, key: u32) -> Result<bool, Stop>
+        requires going { A.stopped acc.old ≡ None }
+        requires within { SumMapFits self.now (A.words acc.old) }
+        requires well { Under (A.good acc.old) (A.words acc.old) (A.log acc.old) (IsSumMap self.now) }
+        ensures reply { IfOk result (λ b. DoesOver (A.good acc.old) (A.words acc.old) (removed_in self.now key) (A.log acc.old) b (A.log acc.new)) }
+        ensures well { OnOk result (Under (A.good acc.new) (A.words acc.new) (A.log acc.new) (IsSumMap self.now)) }
+        ensures explained { OnOk result (IsExplained (A.good acc.new) (A.words acc.new) (A.log acc.new)) }
+        ensures goes { OnOk result (A.stopped acc.new ≡ None) }
+        ensures stops { IfErr result (λ s. A.stopped acc.new ≡ Some s) }
+        ensures good { SameMemories (A.good acc.old) (A.good acc.new) }
+        ensures words { A.words acc.new ≡ A.words acc.old }
+        ensures keeps { A.keeps acc.old acc.new }
+    {
+        let position = self.find(acc, key)?;
+        if position.next == 0 {
+            return Ok(false);
+        }
+        let cell = (position.next - 1) as usize;
+        self.replace(acc, key, cell, 0)?;
+        self.take_out(acc, cell, position.link)?;
+        Ok(true)
     }
 
     /// The sum word of the cell that the link names; 0 where it names none. One read at most.

@@ -74,6 +74,28 @@ fn put_agrees<A: Access>(
     Ok(reply == expected)
 }
 
+/// Takes the key out, and answers whether the reply is that of a plain map.
+fn remove_agrees<A: Access>(
+    acc: &mut A,
+    map: &SumMap,
+    values: &mut [Option<u64>],
+    key: usize,
+) -> Result<bool, Stop>
+    requires going { A.stopped acc.old ≡ None }
+    requires within { SumMapFits map.now (A.words acc.old) }
+    requires well { Under (A.good acc.old) (A.words acc.old) (A.log acc.old) (IsSumMap map.now) }
+    requires key { (key < length values.old) × (length values.old < 2 ^ 32) }
+    ensures going { OnOk result (A.stopped acc.new ≡ None) }
+    ensures words { OnOk result (A.words acc.new ≡ A.words acc.old) }
+    ensures well { OnOk result (Under (A.good acc.new) (A.words acc.new) (A.log acc.new) (IsSumMap map.now)) }
+    ensures values { length values.new ≡ length values.old }
+{
+    let expected = values[key].is_some();
+    let reply = map.remove(acc, key as u32)?;
+    values[key] = None;
+    Ok(reply == expected)
+}
+
 /// Whether each value, and the sum between each pair of bounds, is that of the plain map.
 fn replies_agree<A: Access>(acc: &mut A, map: &SumMap, values: &[Option<u64>]) -> Result<bool, Stop>
     requires going { A.stopped acc.old ≡ None }
@@ -118,14 +140,15 @@ fn key_of(order: Order, call: usize, draw: u64, keys: usize) -> usize
     }
 }
 
-/// Puts that many random values, whose sums wrap, and then asks for all. Whether all replies are those of a plain
-/// map.
+/// Makes that many calls, puts of random values, whose sums wrap, and removals where it says so, and then asks for
+/// all. Whether all replies are those of a plain map.
 fn calls_agree<A: Access>(
     acc: &mut A,
     map: &SumMap,
     values: &mut [Option<u64>],
     order: Order,
     calls: usize,
+    removes: bool,
 ) -> Result<bool, Stop>
     requires going { A.stopped acc.old ≡ None }
     requires within { SumMapFits map.now (A.words acc.old) }
@@ -136,7 +159,12 @@ fn calls_agree<A: Access>(
     for call in 0..calls {
         draw = next(draw);
         let key = key_of(order, call, draw, values.len());
-        if !put_agrees(acc, map, values, key, draw)? {
+        let agrees = if removes && (draw >> 40) % 8 < 3 {
+            remove_agrees(acc, map, values, key)?
+        } else {
+            put_agrees(acc, map, values, key, draw)?
+        };
+        if !agrees {
             return Ok(false);
         }
     }
@@ -150,6 +178,7 @@ fn is_a_map(
     cells: usize,
     order: Order,
     calls: usize,
+    removes: bool,
 ) -> Result<bool, Fail>
     requires small { (at < 2 ^ 32) × (cells < 2 ^ 32) }
 {
@@ -162,6 +191,7 @@ fn is_a_map(
         values.as_mut_slice(),
         order,
         calls,
+        removes,
     );
     Ok(replies == Ok(true))
 }
@@ -169,12 +199,14 @@ fn is_a_map(
 #[test]
 fn calls_reply_as_on_a_plain_map(rt: HostRuntime) -> Result<(), Fail> {
     let alloc = rt.alloc();
-    assert_eq!(rt; is_a_map(alloc, 0, 0, Order::Random, 3)?, true);
-    assert_eq!(rt; is_a_map(alloc, 3, 1, Order::Ascending, 20)?, true);
-    assert_eq!(rt; is_a_map(alloc, 1, 9, Order::Ascending, 30)?, true);
-    assert_eq!(rt; is_a_map(alloc, 1, 20, Order::Descending, 30)?, true);
-    assert_eq!(rt; is_a_map(alloc, 2, 13, Order::Random, 60)?, true);
-    assert_eq!(rt; is_a_map(alloc, 0, 20, Order::Random, 90)?, true);
+    assert_eq!(rt; is_a_map(alloc, 0, 0, Order::Random, 3, true)?, true);
+    assert_eq!(rt; is_a_map(alloc, 3, 1, Order::Ascending, 20, false)?, true);
+    assert_eq!(rt; is_a_map(alloc, 1, 9, Order::Ascending, 30, false)?, true);
+    assert_eq!(rt; is_a_map(alloc, 1, 20, Order::Descending, 30, false)?, true);
+    assert_eq!(rt; is_a_map(alloc, 2, 13, Order::Random, 60, true)?, true);
+    assert_eq!(rt; is_a_map(alloc, 0, 20, Order::Random, 90, false)?, true);
+    assert_eq!(rt; is_a_map(alloc, 0, 20, Order::Random, 400, true)?, true);
+    assert_eq!(rt; is_a_map(alloc, 5, 20, Order::Ascending, 200, true)?, true);
     Ok(())
 }
 

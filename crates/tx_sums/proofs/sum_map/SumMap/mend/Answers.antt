@@ -2,7 +2,7 @@ use Rattle.std.proofs.Common.{◌≡◌, ◌<◌, ◌≤◌, ◌≢◌, ◌+◌,
 use Rattle.std.specs.Prelude.{not, slice_index}
 use Rattle.stm_model.specs.Memories.{is_empty}
 use Rattle.tx_effects.specs.EffectLaws.{shows-none, shows-read, shown, same-trans}
-use Rattle.tx_sums.specs.Sums.{LinksInside, tag, tag_at, raised, raised_in, mended_in}
+use Rattle.tx_sums.specs.Sums.{LinksFrom, tag, tag_at, raised, raised_in, mended_in}
 use Rattle.tx_sums.proofs.SumLaws.{side-inside}
 use Rattle.tx_sums.proofs.SumWalks.{Mending, walks-shown, walks-read, walks-does, walked, walks-end, does-wrote, mending-begins, mending-ends, mending-stops, mending-found, mending-on, word-most, mended-is, wrote-true, wrote-here, wrote-end}
 use Rattle.tx_sums.proofs.sum_map.SumMap.mend.Goals as goal
@@ -14,21 +14,22 @@ loop-step-init g c =
     let log = g.A.Access.log c.args.acc.now in
     let r = c.args.self.now in
     let key = c.args.key in
+    let from = c.args.from in
     let d = c.args.by in
     let v = c.in_ok-link.link in
     let one = c.in_ok-link.ensures in
     let b = not (nat_eq v 0) in
-    let shows = shows-read good words log log _ (LinksInside r) (λ m. LinksInside r m × (v ≡ slice_index m r.at)) r.at v (shows-none good words log (LinksInside r) c.requires.links) refl (let w = c.requires.within in omega arith) one.value (λ m w e. (w, e)) in
+    let shows = shows-read good words log log _ (LinksFrom r from) (λ m. LinksFrom r from m × (v ≡ slice_index m from)) from v (shows-none good words log (LinksFrom r from) c.requires.links) refl (omega arith) one.value (λ m w e. (w, e)) in
     record {
       going = one.goes;
       words = one.words;
       good = one.good;
       keeps = one.keeps;
       explained = one.explained;
-      below = shown good words log (g.A.Access.log c.read.new.self) _ _ (λ m. LinksInside r m × (v ≡ slice_index m r.at)) (v ≤ r.cells) shows one.good one.words one.explained (λ m h. let le = h.0.0 in let e = h.1 in omega arith);
+      below = shown good words log (g.A.Access.log c.read.new.self) _ _ (λ m. LinksFrom r from m × (v ≡ slice_index m from)) (v ≤ r.cells) shows one.good one.words one.explained (λ m h. let le = h.0.from in let e = h.1 in omega arith);
       wrote = inl (refl, one.value.0, refl);
-      walks = walks-shown good words log (g.A.Access.log c.read.new.self) (λ m. LinksInside r m × (v ≡ slice_index m r.at)) (Mending r key d v (r.cells - 0) b) shows one.value.0
-          (λ m h. let q : r.cells - 0 ≡ r.cells = omega arith in subst (λ n. Mending r key d v n b m m) (sym q) (mending-begins r key d v m h.1 h.0));
+      walks = walks-shown good words log (g.A.Access.log c.read.new.self) (λ m. LinksFrom r from m × (v ≡ slice_index m from)) (Mending r from key d v (r.cells - 0) b) shows one.value.0
+          (λ m h. let q : r.cells - 0 ≡ r.cells = omega arith in subst (λ n. Mending r from key d v n b m m) (sym q) (mending-begins r from key d v m h.1 h.0.links));
     }
 
 pub returns-then-link-eq0-clause-reply : goal.returns-then-link-eq0-clause-reply
@@ -38,14 +39,15 @@ returns-then-link-eq0-clause-reply g c =
     let log = g.A.Access.log c.args.acc.now in
     let r = c.args.self.now in
     let key = c.args.key in
+    let from = c.args.from in
     let d = c.args.by in
     let inv = c.loop-step.invariant in
     let v = c.loop-step.link in
     let b = not (nat_eq c.in_ok-link.link 0) in
     let n = r.cells - c.loop-step._step in
     let z = c.if-link-eq0.true in
-    walks-end good words log (g.A.Access.log c.loop-step.acc) (mended_in r key d) b b (wrote-end c.loop-step._step log (g.A.Access.log c.loop-step.acc) b v inv.wrote (λ e. z))
-    (λ m fine len ex. let p = inv.walks m fine len ex in (p.0, mended-is r key d b _ _ (p.1.on ∙ mending-ends r key d v n _ z) p.1.first))
+    walks-end good words log (g.A.Access.log c.loop-step.acc) (mended_in r from key d) b b (wrote-end c.loop-step._step log (g.A.Access.log c.loop-step.acc) b v inv.wrote (λ e. z))
+    (λ m fine len ex. let p = inv.walks m fine len ex in (p.0, mended-is r from key d b _ _ (p.1.on ∙ mending-ends r key d v n _ z) p.1.first))
 
 pub returns-clause-reply : goal.returns-clause-reply
 returns-clause-reply g c =
@@ -54,6 +56,7 @@ returns-clause-reply g c =
     let log = g.A.Access.log c.args.acc.now in
     let r = c.args.self.now in
     let key = c.args.key in
+    let from = c.args.from in
     let d = c.args.by in
     let inv = c.loop-step.invariant in
     let v = c.loop-step.link in
@@ -62,8 +65,8 @@ returns-clause-reply g c =
     let z = c.loop-step-test.false in
     let below = inv.below in
     let q : n ≡ 0 = omega arith in
-    walks-end good words log (g.A.Access.log c.loop-step.acc) (mended_in r key d) b b (wrote-end c.loop-step._step log (g.A.Access.log c.loop-step.acc) b v inv.wrote (λ e. omega arith))
-    (λ m fine len ex. let p = inv.walks m fine len ex in (p.0, mended-is r key d b _ _ (p.1.on ∙ mending-stops r key d v n _ q) p.1.first))
+    walks-end good words log (g.A.Access.log c.loop-step.acc) (mended_in r from key d) b b (wrote-end c.loop-step._step log (g.A.Access.log c.loop-step.acc) b v inv.wrote (λ e. omega arith))
+    (λ m fine len ex. let p = inv.walks m fine len ex in (p.0, mended-is r from key d b _ _ (p.1.on ∙ mending-stops r key d v n _ q) p.1.first))
 
 pub returns-in_err-found-clause-keeps : goal.returns-in_err-found-clause-keeps
 returns-in_err-found-clause-keeps g c = g.met.A.Access.keeps_trans _ _ _ c.loop-step.invariant.keeps (g.met.A.Access.keeps_trans _ _ _ c.in_ok-raise.ensures.keeps c.in_err-found.ensures.keeps)
@@ -81,6 +84,7 @@ returns-then-found-tag-clause-reply g c =
     let log = g.A.Access.log c.args.acc.now in
     let r = c.args.self.now in
     let key = c.args.key in
+    let from = c.args.from in
     let d = c.args.by in
     let inv = c.loop-step.invariant in
     let v = c.loop-step.link in
@@ -92,18 +96,18 @@ returns-then-found-tag-clause-reply g c =
     let two = c.in_ok-found.ensures in
     let z = c.if-link-eq0.false in
     let below = inv.below in
-    let within = c.requires.within.0 in
+    let within = c.requires.within.1.0 in
     let s = c.loop-step-test.true in
     let pos : 0 < n = omega arith in
     let e : v ≡ suc j = omega arith in
     let some : v ≢ 0 = λ x. absurd (omega arith) in
     let wrote : b ≡ true = wrote-true c.loop-step._step log (g.A.Access.log c.loop-step.acc) b v inv.wrote some in
     let empty = does-wrote (g.A.Access.good c.loop-step.acc) (g.A.Access.words c.loop-step.acc) (g.A.Access.log c.loop-step.acc) (g.A.Access.log c.raise.new.acc) _ _ (raised_in r d j) c.in_ok-raise.field-0 one.reply one.good one.words one.explained (λ m. refl) in
-    let w1 = walks-does good words log (g.A.Access.log c.loop-step.acc) (g.A.Access.log c.raise.new.acc) _ _ (Mending r key d v n b) (λ m x. (y : List ℕ) × Mending r key d v n b m y × (x ≡ raised r d j y)) (raised_in r d j) c.in_ok-raise.field-0 inv.walks inv.good inv.words one.reply
+    let w1 = walks-does good words log (g.A.Access.log c.loop-step.acc) (g.A.Access.log c.raise.new.acc) _ _ (Mending r from key d v n b) (λ m x. (y : List ℕ) × Mending r from key d v n b m y × (x ≡ raised r d j y)) (raised_in r d j) c.in_ok-raise.field-0 inv.walks inv.good inv.words one.reply
     (λ m x h i. (x, h, refl)) in
-    walks-end good words log (g.A.Access.log c.read-in-loop-step.new.self) (mended_in r key d) b b (wrote-here log (g.A.Access.log c.read-in-loop-step.new.self) b (ap is_empty two.value.0 ∙ empty) wrote)
-    (walks-read good words log (g.A.Access.log c.raise.new.acc) (g.A.Access.log c.read-in-loop-step.new.self) (λ m x. (y : List ℕ) × Mending r key d v n b m y × (x ≡ raised r d j y)) (λ m x. mended_in r key d m ≡ record { reply = b; memory = x; wrote = b }) (tag_at r j) t w1 (omega arith) two.value
-    (λ m x h i. mended-is r key d b m x (h.1.on ∙ (mending-found r key d v n j t h.0 e pos (i ∙ ap (λ k. tag r k j) h.2) c.if-found-tag.true ∙ sym h.2)) h.1.first))
+    walks-end good words log (g.A.Access.log c.read-in-loop-step.new.self) (mended_in r from key d) b b (wrote-here log (g.A.Access.log c.read-in-loop-step.new.self) b (ap is_empty two.value.0 ∙ empty) wrote)
+    (walks-read good words log (g.A.Access.log c.raise.new.acc) (g.A.Access.log c.read-in-loop-step.new.self) (λ m x. (y : List ℕ) × Mending r from key d v n b m y × (x ≡ raised r d j y)) (λ m x. mended_in r from key d m ≡ record { reply = b; memory = x; wrote = b }) (tag_at r j) t w1 (omega arith) two.value
+    (λ m x h i. mended-is r from key d b m x (h.1.on ∙ (mending-found r key d v n j t h.0 e pos (i ∙ ap (λ k. tag r k j) h.2) c.if-found-tag.true ∙ sym h.2)) h.1.first))
 
 pub loop-step-preserved : goal.loop-step-preserved
 loop-step-preserved g c =
@@ -112,6 +116,7 @@ loop-step-preserved g c =
     let log = g.A.Access.log c.args.acc.now in
     let r = c.args.self.now in
     let key = c.args.key in
+    let from = c.args.from in
     let d = c.args.by in
     let inv = c.loop-step.invariant in
     let v = c.loop-step.link in
@@ -127,7 +132,7 @@ loop-step-preserved g c =
     let three = c.in_ok-link-2.ensures in
     let z = c.if-link-eq0.false in
     let below = inv.below in
-    let within = c.requires.within.0 in
+    let within = c.requires.within.1.0 in
     let s = c.loop-step-test.true in
     let e : v ≡ suc j = omega arith in
     let k : n ≡ suc less = omega arith in
@@ -136,14 +141,14 @@ loop-step-preserved g c =
     let other : t ≢ key + 1 = λ x. (let f = c.if-found-tag.false in absurd (omega arith)) in
     let wrote : b ≡ true = wrote-true c.loop-step._step log (g.A.Access.log c.loop-step.acc) b v inv.wrote some in
     let empty = does-wrote (g.A.Access.good c.loop-step.acc) (g.A.Access.words c.loop-step.acc) (g.A.Access.log c.loop-step.acc) (g.A.Access.log c.raise.new.acc) _ _ (raised_in r d j) c.in_ok-raise.field-0 one.reply one.good one.words one.explained (λ m. refl) in
-    let w1 = walks-does good words log (g.A.Access.log c.loop-step.acc) (g.A.Access.log c.raise.new.acc) _ _ (Mending r key d v n b) (λ m x. (y : List ℕ) × Mending r key d v n b m y × (x ≡ raised r d j y)) (raised_in r d j) c.in_ok-raise.field-0 inv.walks inv.good inv.words one.reply
+    let w1 = walks-does good words log (g.A.Access.log c.loop-step.acc) (g.A.Access.log c.raise.new.acc) _ _ (Mending r from key d v n b) (λ m x. (y : List ℕ) × Mending r from key d v n b m y × (x ≡ raised r d j y)) (raised_in r d j) c.in_ok-raise.field-0 inv.walks inv.good inv.words one.reply
     (λ m x h i. (x, h, refl)) in
-    let w2 = walks-read good words log (g.A.Access.log c.raise.new.acc) (g.A.Access.log c.read-in-loop-step.new.self) (λ m x. (y : List ℕ) × Mending r key d v n b m y × (x ≡ raised r d j y)) (λ m x. (y : List ℕ) × Mending r key d v n b m y × (x ≡ raised r d j y) × (t ≡ tag r (raised r d j y) j)) (tag_at r j) t w1 (omega arith) two.value
+    let w2 = walks-read good words log (g.A.Access.log c.raise.new.acc) (g.A.Access.log c.read-in-loop-step.new.self) (λ m x. (y : List ℕ) × Mending r from key d v n b m y × (x ≡ raised r d j y)) (λ m x. (y : List ℕ) × Mending r from key d v n b m y × (x ≡ raised r d j y) × (t ≡ tag r (raised r d j y) j)) (tag_at r j) t w1 (omega arith) two.value
     (λ m x h i. (h.0, h.1, h.2, i ∙ ap (λ q. tag r q j) h.2)) in
     let near = side-inside r key j t a c.side.ensures in
-    let w3 = walks-read good words log (g.A.Access.log c.read-in-loop-step.new.self) (g.A.Access.log c.read-in-loop-step-2.new.self) (λ m x. (y : List ℕ) × Mending r key d v n b m y × (x ≡ raised r d j y) × (t ≡ tag r (raised r d j y) j)) (λ m x. Mending r key d u less b m x × (u ≤ r.cells)) a u w2 (omega arith) three.value
+    let w3 = walks-read good words log (g.A.Access.log c.read-in-loop-step.new.self) (g.A.Access.log c.read-in-loop-step-2.new.self) (λ m x. (y : List ℕ) × Mending r from key d v n b m y × (x ≡ raised r d j y) × (t ≡ tag r (raised r d j y) j)) (λ m x. Mending r from key d u less b m x × (u ≤ r.cells)) a u w2 (omega arith) three.value
     (λ m x h i. let y : u ≡ slice_index (raised r d j h.0) a = i ∙ ap (λ q. slice_index q a) h.2 in
-    (subst (Mending r key d u less b m) (sym h.2) (mending-on r key d v n less j t a u b m h.0 h.1 e k h.3 other c.side.ensures y), word-most r key d v n j t a u b m h.0 h.1 in' c.side.ensures y)) in
+    (subst (Mending r from key d u less b m) (sym h.2) (mending-on r from key d v n less j t a u b m h.0 h.1 e k h.3 other c.side.ensures y), word-most r from key d v n j t a u b m h.0 h.1 in' c.side.ensures y)) in
     let good' = same-trans _ _ _ inv.good (same-trans _ _ _ one.good (same-trans _ _ _ two.good three.good)) in
     let words' = three.words ∙ (two.words ∙ (one.words ∙ inv.words)) in
     record {
@@ -152,7 +157,7 @@ loop-step-preserved g c =
       good = good';
       keeps = g.met.A.Access.keeps_trans _ _ _ inv.keeps (g.met.A.Access.keeps_trans _ _ _ one.keeps (g.met.A.Access.keeps_trans _ _ _ two.keeps three.keeps));
       explained = three.explained;
-      below = walked good words log (g.A.Access.log c.read-in-loop-step-2.new.self) _ _ (λ m x. Mending r key d u less b m x × (u ≤ r.cells)) (u ≤ r.cells) w3 good' words' three.explained (λ m x h. h.1);
+      below = walked good words log (g.A.Access.log c.read-in-loop-step-2.new.self) _ _ (λ m x. Mending r from key d u less b m x × (u ≤ r.cells)) (u ≤ r.cells) w3 good' words' three.explained (λ m x h. h.1);
       wrote = inr (ap is_empty three.value.0 ∙ (ap is_empty two.value.0 ∙ empty), wrote);
       walks = λ m fine len ex. let p = w3 m fine len ex in (p.0, p.1.0);
     }

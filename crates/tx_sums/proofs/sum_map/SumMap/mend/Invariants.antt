@@ -12,5 +12,5 @@ invariant-loop-step g l = record {
   explained : IsExplained (g.A.Access.good l.acc) (g.A.Access.words l.acc) (g.A.Access.log l.acc);
   below : l.link ≤ l.self.cells;
   wrote : Wrote l._step (g.A.Access.log l.fn.acc) (g.A.Access.log l.acc) l.wrote l.link;
-  walks : Walks (g.A.Access.good l.fn.acc) (g.A.Access.words l.fn.acc) (g.A.Access.log l.fn.acc) (g.A.Access.log l.acc) (Mending l.self l.key l.by l.link (l.self.cells - l._step) l.wrote);
+  walks : Walks (g.A.Access.good l.fn.acc) (g.A.Access.words l.fn.acc) (g.A.Access.log l.fn.acc) (g.A.Access.log l.acc) (Mending l.self l.from l.key l.by l.link (l.self.cells - l._step) l.wrote);
 }
