@@ -1,5 +1,5 @@
 //! The bank from its opening to its close.
-ghost use Rattle.std.specs.Prelude.{◌≡◌, ◌<◌, ◌+◌, ◌⊎◌, ℕ, length, slice_index_or, sum, All, IfOk};
+ghost use Rattle.std.specs.Prelude.{◌≡◌, ◌<◌, ◌+◌, ◌⊎◌, ℕ, false, length, slice_index_or, sum, All, IfOk};
 ghost use Rattle.stm_rule.specs.Callers.{Handle};
 ghost use Rattle.tx_atomic.specs.Callers.{AllReady, IsReady, IsThrough};
 ghost use Rattle.example_bank.specs.declared.bank.Bank.{Bank};
@@ -88,6 +88,7 @@ fn work_all<R: Threads + Wait + Sync>(rt: &R, descs: &mut [Desc<Bank>], stm: &St
 /// Closes the memory. Answers the sum of the balances in it.
 fn settle(alloc: Global, stm: Stm<Bank>, descs: Vec<Desc<Bank>>) -> Result<u64, NewError>
     requires ready { AllReady stm 0 descs.items }
+    requires plain { stm.config.fence ≡ false }
     requires all { length descs.items ≡ stm.config.callers }
     requires bank { Fits stm.rule stm.config.words }
     ensures { IfOk result (λ total. (total ≡ 0) ⊎ (total ≡ stm.rule.capital)) }

@@ -1,5 +1,5 @@
 //! The memory of a run, opened: its algorithm is installed, and it is filled.
-ghost use Rattle.std.specs.Prelude.{◌≡◌, ◌≤◌, length, IfOk};
+ghost use Rattle.std.specs.Prelude.{◌≡◌, ◌≤◌, false, length, IfOk};
 ghost use Rattle.stm_rule.specs.Callers.{IsOf, IsSameCaller};
 ghost use Rattle.tx_answers.specs.Known.{IsIdle};
 ghost use Rattle.stm_tx.specs.Descs.{known};
@@ -26,6 +26,7 @@ pub fn open<R: Wait>(
     ensures ready { IfOk result (λ r. AllReady r.0 0 r.1.items) }
     ensures count { IfOk result (λ r. length r.1.items ≡ r.0.config.callers) }
     ensures place { IfOk result (λ r. FitsPlace r.0) }
+    ensures plain { IfOk result (λ r. r.0.config.fence ≡ false) }
 {
     let config = Config {
         words: WORDS,

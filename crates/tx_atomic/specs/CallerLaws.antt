@@ -1,5 +1,5 @@
 -- Laws of callers between their transactions.
-use Rattle.std.proofs.Common.{ℕ, zero, suc, ◌≡◌, ◌<◌, ◌+◌, ◌∙◌, List, [], ◌∷◌, ◌++◌, length, get_or, set, take, drop, refl, sym, ap, arith, subst}
+use Rattle.std.proofs.Common.{ℕ, zero, suc, true, false, ◌≡◌, ◌<◌, ◌+◌, ◌∙◌, List, [], ◌∷◌, ◌++◌, length, get_or, set, take, drop, refl, sym, ap, arith, subst}
 use Rattle.std.specs.Prelude.{All}
 use Rattle.rule_base.specs.declared.views.View.{View}
 use Rattle.stm_rule.specs.declared.stm.Stm.{Stm}
@@ -8,7 +8,7 @@ use Rattle.stm_model.specs.Histories.{made_by}
 use Rattle.stm_rule.specs.Callers.{Handle, IsOf, AllOpened, AllIdle, BeginsHistory}
 use Rattle.stm_rule.specs.Closings.{AllTold, Ended}
 use Rattle.stm_tx.specs.Descs.{known}
-use Rattle.tx_answers.specs.Known.{Fenced, IsIdle, known_of}
+use Rattle.tx_answers.specs.Known.{IsIdle, known_of}
 use Rattle.tx_atomic.specs.Callers.{IsReady, IsThrough, AllReady}
 
 -- what a slice that was lent whole left
@@ -24,17 +24,17 @@ module _ {K : Type 0} (stm : Stm K) where
   -- those of a new memory
   pub opened-ready : (n : ℕ) (ds : List (Handle K)) → AllOpened stm n ds → AllReady stm n ds
   opened-ready n [] h = tt
-  opened-ready n (d ∷ ds) h = (h.0, h.1, subst (λ (v : View). IsIdle (known_of v d.own)) (sym h.2) (refl, refl, refl, refl), ap (λ (v : View). v.fence.holds) h.2, opened-ready (suc n) ds h.4)
+  opened-ready n (d ∷ ds) h = (h.0, h.1, subst (λ (v : View). IsIdle (known_of v d.own)) (sym h.2) (refl, refl, refl, refl), opened-ready (suc n) ds h.4)
 
-  -- as `close` asks for them
-  pub ready-idle : (n : ℕ) (ds : List (Handle K)) → AllReady stm n ds → AllIdle stm n ds
-  ready-idle n [] h = tt
-  ready-idle n (d ∷ ds) h = (h.0, h.1, (h.2.0, λ on. h.3), ready-idle (suc n) ds h.4)
+  -- as `close` asks for them, where the memory takes no fences
+  pub ready-idle : stm.config.fence ≡ false → (n : ℕ) (ds : List (Handle K)) → AllReady stm n ds → AllIdle stm n ds
+  ready-idle plain n [] h = tt
+  ready-idle plain n (d ∷ ds) h = (h.0, h.1, (h.2.0, λ on. absurd (let f : true ≡ false = sym on ∙ plain in cc)), ready-idle plain (suc n) ds h.3)
 
   pub ready-at : (n i : ℕ) (ds : List (Handle K)) (x : Handle K) → AllReady stm n ds → i < length ds → IsReady stm (get_or ds i x)
   ready-at n i [] x h lt = absurd (omega arith)
-  ready-at n zero (d ∷ ds) x h lt = record { own = h.0; idle = h.2; unfenced = h.3 }
-  ready-at n (suc i) (d ∷ ds) x h lt = ready-at (suc n) i ds x h.4 (omega arith)
+  ready-at n zero (d ∷ ds) x h lt = record { own = h.0; idle = h.2 }
+  ready-at n (suc i) (d ∷ ds) x h lt = ready-at (suc n) i ds x h.3 (omega arith)
 
   pub ready-all : (n : ℕ) (ds : List (Handle K)) → AllReady stm n ds → All (IsReady stm) ds
   ready-all n ds h = λ i d lt. ready-at n i ds d h lt
@@ -49,8 +49,8 @@ module _ {K : Type 0} (stm : Stm K) where
   -- one caller did its work
   pub ready-set : (n i : ℕ) (ds : List (Handle K)) (x e : Handle K) → AllReady stm n ds → IsThrough (get_or ds i x) e → i < length ds → AllReady stm n (set ds i e)
   ready-set n i [] x e h t lt = absurd (omega arith)
-  ready-set n zero (d ∷ ds) x e h t lt = (through d e h.0 t, ap (λ q. q.role) t.same.who ∙ h.1, t.idle, ap (λ (f : Fenced). f.held) t.fenced ∙ h.3, h.4)
-  ready-set n (suc i) (d ∷ ds) x e h t lt = (h.0, h.1, h.2, h.3, ready-set (suc n) i ds x e h.4 t (omega arith))
+  ready-set n zero (d ∷ ds) x e h t lt = (through d e h.0 t, ap (λ q. q.role) t.same.who ∙ h.1, t.idle, h.3)
+  ready-set n (suc i) (d ∷ ds) x e h t lt = (h.0, h.1, h.2, ready-set (suc n) i ds x e h.3 t (omega arith))
 
   -- each did its own
   pub ready-each : (n : ℕ) (ds es : List (Handle K)) → AllReady stm n ds → length es ≡ length ds → ((i : ℕ) (x : Handle K) → i < length ds → IsThrough (get_or ds i x) (get_or es i x)) → AllReady stm n es
@@ -59,7 +59,7 @@ module _ {K : Type 0} (stm : Stm K) where
   ready-each n (d ∷ ds) [] h len t = absurd cc
   ready-each n (d ∷ ds) (e ∷ es) h len t =
       let first : IsThrough d e = t 0 d (omega arith) in
-      (through d e h.0 first, ap (λ q. q.role) first.same.who ∙ h.1, first.idle, ap (λ (f : Fenced). f.held) first.fenced ∙ h.3, ready-each (suc n) ds es h.4 (omega arith) (λ i x lt. t (suc i) x (omega (arith, lt))))
+      (through d e h.0 first, ap (λ q. q.role) first.same.who ∙ h.1, first.idle, ready-each (suc n) ds es h.3 (omega arith) (λ i x lt. t (suc i) x (omega (arith, lt))))
 
   -- they were lent as a slice, and came back
   pub came-back : (ds lent left : List (Handle K)) (n : ℕ) → lent ≡ ds → length lent ≡ n → length left ≡ length lent → AllReady stm 0 left → AllReady stm 0 (take n (left ++ drop (length left) ds))

@@ -1,5 +1,5 @@
 -- Callers between their transactions.
-use Rattle.std.specs.Prelude.{ℕ, suc, ◌≡◌, false, List, [], ◌∷◌}
+use Rattle.std.specs.Prelude.{ℕ, suc, ◌≡◌, List, [], ◌∷◌}
 use Rattle.rule_base.specs.declared.seats.Role.TheVariants.{Caller}
 use Rattle.stm_rule.specs.declared.stm.Stm.{Stm}
 use Rattle.stm_rule.specs.Callers.{Handle, IsOf, IsSameCaller}
@@ -7,18 +7,16 @@ use Rattle.tx_answers.specs.Known.{IsIdle}
 use Rattle.stm_tx.specs.Descs.{known}
 
 module _ {K : Type 0} where
-  -- before and after its work a caller is in no attempt, and has no range of words out of the transactions
+  -- before and after its work a caller is in no attempt
   pub record IsReady (stm : Stm K) (d : Handle K) : Type 0 where
     pub own : IsOf d stm
     pub idle : IsIdle (known d)
-    pub unfenced : (known d).fenced.held ≡ false
 
   pub record IsThrough (d e : Handle K) : Type 0 where
     pub same : IsSameCaller d e
     pub idle : IsIdle (known e)
-    pub fenced : (known e).fenced ≡ (known d).fenced
 
-  -- the callers from n on, each in no attempt and with no such range
+  -- the callers from n on, each in no attempt
   abbrev pub AllReady : Stm K → ℕ → List (Handle K) → Type 0
   AllReady stm n [] = Unit {0}
-  AllReady stm n (d ∷ ds) = IsOf d stm × (d.who.role ≡ Caller n) × IsIdle (known d) × ((known d).fenced.held ≡ false) × AllReady stm (suc n) ds
+  AllReady stm n (d ∷ ds) = IsOf d stm × (d.who.role ≡ Caller n) × IsIdle (known d) × AllReady stm (suc n) ds

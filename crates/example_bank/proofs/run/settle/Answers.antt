@@ -6,7 +6,7 @@ use Rattle.example_bank.proofs.BankLaws.{closed-sound, sound-sum}
 use Rattle.example_bank.proofs.run.settle.Goals as goal
 
 pub close-requires-clause-descs : goal.close-requires-clause-descs
-close-requires-clause-descs c = ready-idle c.args.stm 0 c.args.descs.items c.requires.ready
+close-requires-clause-descs c = ready-idle c.args.stm c.requires.plain 0 c.args.descs.items c.requires.ready
 
 pub total_of-requires-clause-balanced : goal.total_of-requires-clause-balanced
 total_of-requires-clause-balanced c =

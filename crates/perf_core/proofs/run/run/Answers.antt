@@ -23,4 +23,4 @@ close-requires-clause-descs g c =
     let ready = subst (λ (cs : List (CachePadded Caller)). AllReady stm 0 (descs_in cs)) (sym c.as_mut_slice.ensures.value) hired in
     let worked = each-worked stm lent left ready c.work_all.ensures.count c.work_all.ensures.done in
     let back = came-back callers.items lent left callers.len c.as_mut_slice.ensures.value c.as_mut_slice.ensures.len c.work_all.ensures.count in
-    ready-idle stm 0 c.dismiss-descs.result.items (subst (AllReady stm 0) (sym (c.dismiss-descs.ensures ∙ ap descs_in back)) worked)
+    ready-idle stm c.in_ok-stm.ensures.plain 0 c.dismiss-descs.result.items (subst (AllReady stm 0) (sym (c.dismiss-descs.ensures ∙ ap descs_in back)) worked)
