@@ -1,10 +1,12 @@
 //! The verdict on a workload of three transactions and the reports that may stand behind it.
-use crate::checking::{Finding, check};
+use crate::checking::{Finding, MOST_CHECKED, check};
 use crate::reading::read_report;
 use crate::replay::replay;
 use crate::verdict::Verdict;
 use std::alloc::{AllocError, Global};
 use std::test::Fail;
+use stm_model::memory::Memory;
+use stm_text::laws::built_workloads_fit;
 use stm_text::parse::{Mode, ParseError, parse};
 
 /// Two transactions that add and one that reads: 20 lines.
@@ -114,11 +116,34 @@ fn with_report(alloc: Global, line: &str) -> Result<String, AllocError> {
     Ok(text)
 }
 
+/// What a text that is short enough comes to.
+fn check_short(alloc: Global, text: &[u8]) -> Result<Finding, Memory> {
+    if text.len() > MOST_CHECKED {
+        return Err(Memory);
+    }
+    check(alloc, text)
+}
+
+/// What a report of this workload comes to.
+fn verdict(alloc: Global, workload: &str, report: &[u8]) -> Result<Verdict, ParseError> {
+    built_workloads_fit();
+    let workload = parse(alloc, workload.as_bytes(), Mode::Run)?;
+    let report = read_report(alloc, report)?;
+    match replay(alloc, &workload, &report) {
+        Ok(verdict) => Ok(verdict),
+        Err(Memory) => Err(ParseError::Memory),
+    }
+}
+
 #[test]
 fn finds_the_first_fault(rt: HostRuntime) -> Result<(), Fail> {
     for (report, finding) in FINDINGS {
         let text = with_report(rt.alloc(), report)?;
-        assert_eq!(rt; check(rt.alloc(), text.as_bytes())?, *finding, "{report}");
+        assert_eq!(rt;
+            check_short(rt.alloc(), text.as_bytes())?,
+            *finding,
+            "{report}"
+        );
     }
     Ok(())
 }
@@ -148,7 +173,6 @@ fn finds_what_stands_in_no_line_of_a_report(rt: HostRuntime) -> Result<(), Fail>
 /// A report by itself: its lines count from 1.
 #[test]
 fn judges_a_report(rt: HostRuntime) -> Result<(), Fail> {
-    let workload = parse(rt.alloc(), WORKLOAD.as_bytes(), Mode::Run)?;
     let table = [
         (
             "report 1\nW 1 0 0 : 1\nW 2 0 1 : 2\nR 2 0 2 : 2\nmem 3 2\nend\n",
@@ -156,9 +180,9 @@ fn judges_a_report(rt: HostRuntime) -> Result<(), Fail> {
         ),
         ("report 1\nW 1 0 0 : 1\nend\n", Verdict::No { line: 3 }),
     ];
-    for (text, verdict) in table {
-        let report = read_report(rt.alloc(), text.as_bytes())?;
-        assert_eq!(rt; replay(rt.alloc(), &workload, &report)?, verdict, "{text}");
+    for (text, expected) in table {
+        let verdict = verdict(rt.alloc(), WORKLOAD, text.as_bytes())?;
+        assert_eq!(rt; verdict, expected, "{text}");
     }
     let fault = match read_report(rt.alloc(), b"report 1\n") {
         Err(ParseError::Fault { line, code }) => Some((line, code)),

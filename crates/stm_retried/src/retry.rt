@@ -1,6 +1,6 @@
 //! A memory whose logs are made longer, and which is closed: each is tried again where memory is refused for it, and all
 //! has to be as it was then.
-ghost use Rattle.std.specs.Prelude.{◌≡◌, ◌<◌, length, true, IfSome};
+ghost use Rattle.std.specs.Prelude.{◌≡◌, ◌<◌, length, true, false, IfSome};
 ghost use Rattle.stm_rule.specs.Callers.{AllIdle, IsOf, IsSameCaller};
 ghost use Rattle.tx_answers.specs.Known.{IsIdle};
 ghost use Rattle.stm_tx.specs.Descs.{known};
@@ -19,6 +19,7 @@ const SHORT: Config = Config {
     reads: 2,
     writes: 2,
     clock: 0,
+    fence: false,
 };
 
 /// Why there are no words.
@@ -55,6 +56,7 @@ fn has_room_to_read(stm: &Stm<AnyMem>, desc: &mut Desc<AnyMem>) -> Option<bool>
     requires desc { IsOf desc.old stm.now }
     requires idle { IsIdle (known desc.old) }
     requires words { 2 < stm.now.config.words }
+    requires plain { stm.now.config.fence ≡ false }
     ensures same { IsSameCaller desc.old desc.new }
     ensures idle { IfSome result (λ _. IsIdle (known desc.new)) }
 {
@@ -84,6 +86,7 @@ fn has_room_to_write(stm: &Stm<AnyMem>, desc: &mut Desc<AnyMem>) -> Option<bool>
     requires desc { IsOf desc.old stm.now }
     requires idle { IsIdle (known desc.old) }
     requires words { 2 < stm.now.config.words }
+    requires plain { stm.now.config.fence ≡ false }
     ensures same { IsSameCaller desc.old desc.new }
     ensures idle { IfSome result (λ _. IsIdle (known desc.new)) }
 {
@@ -113,6 +116,7 @@ fn lengthen(alloc: Global, stm: &Stm<AnyMem>, desc: &mut Desc<AnyMem>) -> bool
     requires desc { IsOf desc.old stm.now }
     requires idle { IsIdle (known desc.old) }
     requires words { 2 < stm.now.config.words }
+    requires plain { stm.now.config.fence ≡ false }
     ensures same { IsSameCaller desc.old desc.new }
     ensures idle { result ≡ true → IsIdle (known desc.new) }
 {

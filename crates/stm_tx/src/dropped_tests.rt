@@ -243,7 +243,9 @@ const FIRST: Option<Met> = Some(Met::Commits { time: 1 });
 const SECOND: Option<Met> = Some(Met::Commits { time: 2 });
 
 /// The gate, closed by caller 0 under the algorithm of this number.
-const fn shut(number: u64) -> Option<Met> {
+const fn shut(number: u64) -> Option<Met>
+    requires { number < 6 }
+{
     Some(Met::Shut { gate: 256 + number })
 }
 

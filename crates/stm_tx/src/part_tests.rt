@@ -42,7 +42,7 @@ fn move_piece(desc: &mut Desc<AnyMem>, stm: &Stm<AnyMem>, room: u64) -> Option<u
     requires words { 2 < stm.now.config.words }
     requires unfenced { (known desc.old).fence ≡ 0 }
     ensures same { IsSameCaller desc.old desc.new }
-    ensures runs { IsSome result → IsRunning (known desc.new) }
+    ensures runs { IsSome result → IsRunning (known desc.new) × ((known desc.new).fence ≡ 0) }
 {
     let Check::Marked { depth } = checkpoint(desc) else {
         return None;
