@@ -1,7 +1,7 @@
 //! The sizes of a memory and of its logs, and their limits.
 
 /// The greatest number of heap words.
-pub const MAX_WORDS: usize = 65_536;
+pub const MAX_WORDS: usize = 1_048_576;
 /// The greatest number of ownership records.
 pub const MAX_RECORDS: usize = 4_096;
 /// The smallest and the greatest number of ring slots.
