@@ -6,10 +6,8 @@ ghost use Rattle.stm_rule.specs.Callers.{IsOf, IsSameCaller};
 ghost use Rattle.tx_answers.specs.Known.{IsIdle};
 ghost use Rattle.stm_tx.specs.Descs.{known};
 
-use crate::calls::{commit, state, try_begin, try_irrevocable, write};
-use crate::gate::{close_gate, look, reopen};
+use crate::calls_tests::PAIR;
 use crate::serial_tests::switch;
-use crate::tests::PAIR;
 use std::alloc::Global;
 use std::test::Fail;
 use stm_model::alg::{ALGORITHMS, Alg};
@@ -17,6 +15,8 @@ use stm_model::rule::AnyMem;
 use stm_rule::desc::Desc;
 use stm_rule::refusal::NewError;
 use stm_rule::stm::Stm;
+use stm_tx::calls::{commit, state, try_begin, try_irrevocable, write};
+use stm_tx::gate::{close_gate, look, reopen};
 use tx_answers::answers::{Begin, CloseGate, Commit, Irrev, Look, TxState, Write};
 
 /// Where caller 0 is when its descriptor is dropped.

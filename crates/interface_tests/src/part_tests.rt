@@ -6,13 +6,13 @@ ghost use Rattle.tx_answers.specs.Known.{IsRunning};
 ghost use Rattle.stm_tx.specs.Descs.{known};
 ghost use Rattle.stm_tx.specs.Nesting.{takes_marks};
 
-use crate::calls::{commit, read, try_begin, write};
-use crate::nesting::{checkpoint, release, roll_to, takes_marks};
+use crate::calls_tests::PAIR;
 use crate::serial_tests::switch;
-use crate::tests::PAIR;
-use crate::{Alg, AnyMem, Begin, Check, Commit, Desc, NewError, Read, Roll, Stm, Write};
 use std::alloc::Global;
 use std::test::Fail;
+use stm_tx::calls::{commit, read, try_begin, write};
+use stm_tx::nesting::{checkpoint, release, roll_to, takes_marks};
+use stm_tx::{Alg, AnyMem, Begin, Check, Commit, Desc, NewError, Read, Roll, Stm, Write};
 
 /// Adds to a word, and answers what it then is, modulo 2^64.
 fn add(desc: &mut Desc<AnyMem>, stm: &Stm<AnyMem>, a: usize, n: u64) -> Option<u64>

@@ -4,7 +4,6 @@ ghost use Rattle.stm_rule.specs.Callers.{IsOf};
 ghost use Rattle.tx_answers.specs.Known.{IsIdle};
 ghost use Rattle.stm_tx.specs.Descs.{known};
 
-use crate::calls::{reserve, try_begin, write};
 use crate::serial_tests::switch;
 use std::alloc::Global;
 use std::test::Fail;
@@ -14,6 +13,7 @@ use stm_model::rule::{AnyMem, MemRule};
 use stm_rule::desc::Desc;
 use stm_rule::refusal::NewError;
 use stm_rule::stm::Stm;
+use stm_tx::calls::{reserve, try_begin, write};
 use tx_answers::answers::{Begin, Write};
 
 /// One caller with short logs.

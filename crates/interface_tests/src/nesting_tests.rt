@@ -6,10 +6,8 @@ ghost use Rattle.tx_answers.specs.Known.{IsIdle, IsRunning};
 ghost use Rattle.stm_tx.specs.Descs.{known};
 ghost use Rattle.stm_tx.specs.Nesting.{takes_marks};
 
-use crate::calls::{commit, read, try_begin, write};
-use crate::nesting::{checkpoint, marks, release, roll_to, takes_marks};
+use crate::calls_tests::PAIR;
 use crate::serial_tests::switch;
-use crate::tests::PAIR;
 use std::alloc::Global;
 use std::test::Fail;
 use stm_model::alg::Alg;
@@ -17,6 +15,8 @@ use stm_model::rule::AnyMem;
 use stm_rule::desc::Desc;
 use stm_rule::refusal::NewError;
 use stm_rule::stm::Stm;
+use stm_tx::calls::{commit, read, try_begin, write};
+use stm_tx::nesting::{checkpoint, marks, release, roll_to, takes_marks};
 use tx_answers::answers::{Begin, Check, Commit, Read, Roll, Write};
 
 /// What a script comes to.

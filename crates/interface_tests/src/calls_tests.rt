@@ -5,12 +5,7 @@ ghost use Rattle.stm_rule.specs.Callers.{IsOf};
 ghost use Rattle.tx_answers.specs.Known.{IsIdle};
 ghost use Rattle.stm_tx.specs.Descs.{known};
 
-use crate::calls::{
-    cancel, commit, holds_gate, is_irrevocable, read, start, state, try_begin, write,
-};
-use crate::live::Live;
 use crate::serial_tests::switch;
-use crate::serving::AnyAlgorithm;
 use std::alloc::Global;
 use std::test::Fail;
 use stm_model::access::Access;
@@ -21,6 +16,11 @@ use stm_model::stop::Stop;
 use stm_rule::desc::Desc;
 use stm_rule::refusal::NewError;
 use stm_rule::stm::Stm;
+use stm_tx::calls::{
+    cancel, commit, holds_gate, is_irrevocable, read, start, state, try_begin, write,
+};
+use stm_tx::live::Live;
+use stm_tx::serving::AnyAlgorithm;
 use tx_answers::answers::{Begin, Cancel, Commit, Read, TxState, Write};
 
 pub(crate) const PAIR: Config = Config {

@@ -1,4 +1,4 @@
-use Rattle.stm_tx.proofs.eager_tests.reads_around_a_cancelled_write.Goals as goal
+use Rattle.interface_tests.proofs.eager_tests.reads_around_a_cancelled_write.Goals as goal
 
 pub confirm-requires-clause-loaded : goal.confirm-requires-clause-loaded
 confirm-requires-clause-loaded g c =

@@ -4,7 +4,6 @@ ghost use Rattle.stm_rule.specs.Callers.{IsOf};
 ghost use Rattle.tx_answers.specs.Known.{IsIdle};
 ghost use Rattle.stm_tx.specs.Descs.{known};
 
-use crate::calls::{cancel, read, start, try_begin, write};
 use crate::serial_tests::switch;
 use alg_orec::eager_reading::{confirm, load, sample};
 use std::alloc::Global;
@@ -16,6 +15,7 @@ use stm_model::stop::Cause;
 use stm_rule::desc::Desc;
 use stm_rule::refusal::NewError;
 use stm_rule::stm::Stm;
+use stm_tx::calls::{cancel, read, start, try_begin, write};
 use tx_answers::answers::{Begin, Cancel, Read, Write};
 
 const PAIR: Config = Config {

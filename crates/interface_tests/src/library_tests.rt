@@ -5,10 +5,10 @@ ghost use Rattle.stm_rule.specs.Callers.{IsOf, IsSameCaller};
 ghost use Rattle.tx_answers.specs.Known.{IsIdle, IsRunning, no_log};
 ghost use Rattle.stm_tx.specs.Descs.{known};
 
-use crate::calls::{cancel, commit, read, try_begin, try_irrevocable, write};
-use crate::{Begin, Commit, Config, Desc, Irrev, MemRule, NewError, Read, Stm, Write, close};
 use std::alloc::Global;
 use std::test::Fail;
+use stm_tx::calls::{cancel, commit, read, try_begin, try_irrevocable, write};
+use stm_tx::{Begin, Commit, Config, Desc, Irrev, MemRule, NewError, Read, Stm, Write, close};
 
 /// The rule that a transaction may rely on, and has to keep: the words 0 and 1 are two stocks, which together
 /// are at most `room` pieces.

@@ -8,9 +8,6 @@ ghost use Rattle.tx_answers.specs.Fences.{is_within};
 ghost use Rattle.tx_answers.specs.Known.{IsIdle};
 ghost use Rattle.stm_tx.specs.Descs.{known};
 
-use crate::calls::{commit, read, start, try_begin, try_irrevocable, write};
-use crate::fencing::{direct_read, direct_write, fence, fence_seen, give_back, spares};
-use crate::gate::{close_gate, look, reopen};
 use crate::serial_tests::switch;
 use std::alloc::Global;
 use std::test::Fail;
@@ -20,6 +17,9 @@ use stm_model::rule::AnyMem;
 use stm_rule::desc::Desc;
 use stm_rule::refusal::NewError;
 use stm_rule::stm::Stm;
+use stm_tx::calls::{commit, read, start, try_begin, try_irrevocable, write};
+use stm_tx::fencing::{direct_read, direct_write, fence, fence_seen, give_back, spares};
+use stm_tx::gate::{close_gate, look, reopen};
 use tx_answers::answers::{Begin, CloseGate, Commit, Fence, Give, Irrev, Look, Read, Write};
 
 /// A memory for two callers that takes fences.

@@ -5,9 +5,8 @@ ghost use Rattle.stm_rule.specs.Callers.{IsOf, IsSameCaller};
 ghost use Rattle.tx_answers.specs.Known.{IsIdle, IsRunning, is_irrevocable, wrote};
 ghost use Rattle.stm_tx.specs.Descs.{known};
 
-use crate::calls::{commit, try_begin, write};
+use crate::calls_tests::PAIR;
 use crate::serial_tests::switch;
-use crate::tests::PAIR;
 use alg_ring::ring::{finish, turn};
 use std::alloc::Global;
 use std::test::Fail;
@@ -16,6 +15,7 @@ use stm_model::rule::AnyMem;
 use stm_rule::desc::Desc;
 use stm_rule::refusal::NewError;
 use stm_rule::stm::Stm;
+use stm_tx::calls::{commit, try_begin, write};
 use tx_answers::answers::{Begin, Commit, Write};
 
 /// Begins an attempt of RingSW that writes `x` to word `a`. Answers whether it runs.

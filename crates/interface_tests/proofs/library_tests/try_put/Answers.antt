@@ -4,11 +4,11 @@ use Rattle.stm_model.specs.Logs.{Writes, Keeps}
 use Rattle.stm_model.specs.Memories.{overlay, Explains}
 use Rattle.tx_answers.specs.Known.{wrote}
 use Rattle.stm_rule.specs.Callers.{Handle}
-use Rattle.stm_tx.specs.declared.library_tests.Shelf.{Shelf}
+use Rattle.interface_tests.specs.declared.library_tests.Shelf.{Shelf}
 use Rattle.stm_tx.specs.Descs.{known, number}
-use Rattle.stm_tx.proofs.Stocks.{HasRoom, stocks-read, stocks-put, still-revocable, cancels-idle}
-use Rattle.stm_tx.proofs.library_tests.try_put.Goals as goal
-use Rattle.stm_tx.proofs.library_tests.try_put.Goals.{then-has_room+in-Done, then-stock-eq0, else-stock-eq0, else-has_room}
+use Rattle.interface_tests.proofs.Stocks.{HasRoom, stocks-read, stocks-put, still-revocable, cancels-idle}
+use Rattle.interface_tests.proofs.library_tests.try_put.Goals as goal
+use Rattle.interface_tests.proofs.library_tests.try_put.Goals.{then-has_room+in-Done, then-stock-eq0, else-stock-eq0, else-has_room}
 
 pub commit-requires-clause-keeps : goal.commit-requires-clause-keeps
 commit-requires-clause-keeps c =

@@ -5,7 +5,7 @@ use Rattle.stm_rule.specs.declared.local.Local.{Local}
 use Rattle.tx_answers.specs.Known.{is_irrevocable, wrote}
 use Rattle.alg_ring.specs.Calls.{CanFinish, TookTurn}
 use Rattle.alg_ring.specs.Opening.{opened, has-attempt, stands-after}
-use Rattle.stm_tx.proofs.ring_tests.commits_in_turns.Goals as goal
+use Rattle.interface_tests.proofs.ring_tests.commits_in_turns.Goals as goal
 
 abbrev any : AnyMem → List ℕ → Type 0
 any rule memory = Unit {0}

@@ -5,8 +5,6 @@ ghost use Rattle.stm_rule.specs.Callers.{IsOf};
 ghost use Rattle.tx_answers.specs.Known.{IsIdle};
 ghost use Rattle.stm_tx.specs.Descs.{known};
 
-use crate::calls::{cancel, is_irrevocable, read, try_begin, try_irrevocable, write};
-use crate::gate::{close_gate, install, look, reopen};
 use std::alloc::Global;
 use std::test::Fail;
 use stm_model::alg::Alg;
@@ -15,6 +13,8 @@ use stm_model::rule::{AnyMem, MemRule};
 use stm_rule::desc::Desc;
 use stm_rule::refusal::NewError;
 use stm_rule::stm::Stm;
+use stm_tx::calls::{cancel, is_irrevocable, read, try_begin, try_irrevocable, write};
+use stm_tx::gate::{close_gate, install, look, reopen};
 use tx_answers::answers::{Begin, Cancel, CloseGate, Irrev, Look, Read, Write};
 
 /// One caller, with room for two items in its undo log.

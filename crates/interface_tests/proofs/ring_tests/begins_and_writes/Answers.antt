@@ -8,7 +8,7 @@ use Rattle.stm_model.specs.Memories.{item_at, is_empty}
 use Rattle.stm_model.specs.PlainLaws.{put-item}
 use Rattle.tx_answers.specs.Known.{Known, is_irrevocable, wrote}
 use Rattle.stm_tx.specs.Descs.{known}
-use Rattle.stm_tx.proofs.ring_tests.begins_and_writes.Goals as goal
+use Rattle.interface_tests.proofs.ring_tests.begins_and_writes.Goals as goal
 
 still-revocable : (k : Known) → k.alg ≡ RingSw → k.granted ≡ false → is_irrevocable k ≡ false
 still-revocable k alg granted = λ j. is_sure (alg j) (granted j) (wrote k)
