@@ -1,4 +1,4 @@
-//! Tests of what stands apart from the shared memory: stm_gen, stm_io, stm_profile, stm_words.
+//! Tests of what stands apart from the shared memory: stm_script, stm_gen, stm_profile, stm_words, stm_io.
 #![tactic(auto)]
 
 #[cfg(test)]
@@ -7,5 +7,7 @@ mod stm_gen_tests;
 mod stm_io_tests;
 #[cfg(test)]
 mod stm_profile_tests;
+#[cfg(test)]
+mod stm_script_tests;
 #[cfg(test)]
 mod stm_words_tests;
