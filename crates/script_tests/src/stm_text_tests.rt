@@ -1,6 +1,3 @@
-use crate::parse::{Mode, ParseError, parse};
-use crate::parting::{count_lines, part_at_done};
-use crate::report::{report_text, report_text_by};
 use smallvec::SmallVec;
 use std::alloc::{AllocError, Global};
 use std::process::Abort;
@@ -10,6 +7,9 @@ use stm_script::lists::Words;
 use stm_script::op::Op;
 use stm_script::report::{Kind, Pairs, Report, Row, Rows};
 use stm_script::workload::{Go, Header, Item, Workload};
+use stm_text::parse::{Mode, ParseError, parse};
+use stm_text::parting::{count_lines, part_at_done};
+use stm_text::report::{report_text, report_text_by};
 
 /// Two transactions that add and one that reads.
 const LINES: [&str; 20] = [
