@@ -1,6 +1,9 @@
-//! Tests of what stands apart from the shared memory: stm_script, stm_text, stm_gen, stm_profile, stm_words, stm_io.
+//! Tests of what stands apart from the shared memory: stm_script, stm_text, stm_check, stm_gen, stm_profile,
+//! stm_words, stm_io.
 #![tactic(auto)]
 
+#[cfg(test)]
+mod stm_check_tests;
 #[cfg(test)]
 mod stm_gen_tests;
 #[cfg(test)]

@@ -1,10 +1,10 @@
 //! The verdict on a workload of three transactions and the reports that may stand behind it.
-use crate::checking::{Finding, MOST_CHECKED, check};
-use crate::reading::read_report;
-use crate::replay::replay;
-use crate::verdict::Verdict;
 use std::alloc::{AllocError, Global};
 use std::test::Fail;
+use stm_check::checking::{Finding, MOST_CHECKED, check};
+use stm_check::reading::read_report;
+use stm_check::replay::replay;
+use stm_check::verdict::Verdict;
 use stm_model::memory::Memory;
 use stm_text::laws::built_workloads_fit;
 use stm_text::parse::{Mode, ParseError, parse};
