@@ -1,5 +1,5 @@
-//! Tests of what stands apart from the shared memory: stm_script, stm_text, stm_check, stm_gen, stm_profile,
-//! stm_words, stm_io.
+//! Tests of what stands apart from the shared memory: stm_script, stm_text, stm_check, stm_gen, stm_trace,
+//! stm_profile, stm_words, stm_io.
 #![tactic(auto)]
 
 #[cfg(test)]
@@ -14,5 +14,7 @@ mod stm_profile_tests;
 mod stm_script_tests;
 #[cfg(test)]
 mod stm_text_tests;
+#[cfg(test)]
+mod stm_trace_tests;
 #[cfg(test)]
 mod stm_words_tests;

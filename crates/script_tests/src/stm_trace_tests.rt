@@ -1,10 +1,11 @@
-use crate::line::Line;
-use crate::said::Said;
-use crate::text::trace_text;
 use std::test::Fail;
 use stm_model::alg::Alg;
 use stm_model::stop::{Cause, Stop};
 use stm_script::op::Op;
+use stm_trace::laws::{asks_by_policy, items_have_scripts, one_writer_fits, tells_each_once};
+use stm_trace::line::Line;
+use stm_trace::said::Said;
+use stm_trace::text::trace_text;
 use tx_answers::answers::{Begin, Cancel, CloseGate, Commit, Look};
 
 fn of(caller: usize, said: Said) -> Line {
@@ -177,4 +178,12 @@ fn lines_stand_in_order(rt: HostRuntime) -> Result<(), Fail> {
     let text = "0 begin CGL\n1 idle\nfinish\n0 commit readonly 0\n";
     assert_eq!(rt; bytes.as_slice(), text.as_bytes());
     Ok(())
+}
+
+#[test]
+fn laws_are_called() {
+    items_have_scripts();
+    tells_each_once();
+    one_writer_fits();
+    asks_by_policy();
 }
