@@ -4,11 +4,6 @@ ghost use Rattle.stm_model.specs.declared.rule.AnyMem.{AnyMem};
 ghost use Rattle.stm_rule.specs.Callers.{Handle};
 ghost use Rattle.tx_atomic.specs.Callers.{IsReady, IsThrough, AllReady};
 
-use crate::atomically::atomically;
-use crate::pace::Pace;
-use crate::switching::switch_to;
-use crate::tally::Tally;
-use crate::transaction::Transaction;
 use std::alloc::Global;
 use std::sync::Wait;
 use std::test::Fail;
@@ -23,6 +18,11 @@ use stm_rule::closing::close;
 use stm_rule::desc::Desc;
 use stm_rule::refusal::NewError;
 use stm_rule::stm::Stm;
+use tx_atomic::atomically::atomically;
+use tx_atomic::pace::Pace;
+use tx_atomic::switching::switch_to;
+use tx_atomic::tally::Tally;
+use tx_atomic::transaction::Transaction;
 
 /// One more in word 0. Answers what was there, and in the words 1 and 2.
 struct Increment;

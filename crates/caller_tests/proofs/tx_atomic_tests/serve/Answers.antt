@@ -1,6 +1,6 @@
 use Rattle.std.proofs.Common.{set}
 use Rattle.tx_atomic.specs.CallerLaws.{ready-all, ready-each, ready-set}
-use Rattle.tx_atomic.proofs.tests.serve.Goals as goal
+use Rattle.caller_tests.proofs.tx_atomic_tests.serve.Goals as goal
 
 pub count_all-requires-clause-ready : goal.count_all-requires-clause-ready
 count_all-requires-clause-ready g c κs within =
