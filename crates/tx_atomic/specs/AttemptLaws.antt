@@ -18,7 +18,7 @@ use Rattle.tx_answers.specs.Answers.{Cancels, Commits, Irrevs, Stops}
 use Rattle.tx_answers.specs.Known.{Known, Grows, IsIdle, caller_of, is_irrevocable}
 use Rattle.tx_answers.specs.KnownLaws.{grows-trans}
 use Rattle.stm_tx.specs.Descs.{Since, number}
-use Rattle.tx_atomic.specs.Attempts.{TookEffect, ended_by, HasFoundFull}
+use Rattle.tx_atomic.specs.Attempts.{TookEffect}
 
 -- no call changes a caller's number
 pub same-number : {K : Type 0} (d e : Handle K) → IsSameCaller d e → number e ≡ number d
@@ -79,18 +79,8 @@ module _ (good : List ℕ → Type 0) (c : Config) (n : ℕ) where
   stop-idle a (stops.Full limit) v w h = h.0.ends.idle
   stop-idle a (stops.ClockFull clock) v w h = h.0.ends.idle
 
-  stop-full : (a : ℕ) (stop : Stop) (v w : Known) → Stops good c n a stop v w → HasFoundFull (ended_by stop) w
-  stop-full a (stops.Conflict cause) v w h = tt
-  stop-full a (stops.Full limit) v w h = tt
-  stop-full a (stops.ClockFull clock) v w h = let low = h.2.limit in let high = h.2.top in omega arith
-
   -- an attempt that was stopped is over
   pub stopped-idle : (stop : Stop) (stopped : Option Stop) (v w : Known) → stopped ≡ Some stop → Since good c n None v stopped w → IsIdle w
   stopped-idle stop stopped v w is since =
       let at = (subst (λ (o : Option Stop). Since good c n None v o w) is since).1 in
       stop-idle at.address stop at.before w at.stops
-
-  pub stopped-full : (stop : Stop) (stopped : Option Stop) (v w : Known) → stopped ≡ Some stop → Since good c n None v stopped w → HasFoundFull (ended_by stop) w
-  stopped-full stop stopped v w is since =
-      let at = (subst (λ (o : Option Stop). Since good c n None v o w) is since).1 in
-      stop-full at.address stop at.before w at.stops

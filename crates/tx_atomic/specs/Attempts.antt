@@ -1,7 +1,6 @@
 -- What is known of an attempt at a transaction.
 use Rattle.std.specs.Prelude.{ℕ, ◌≡◌, ◌≤◌, ◌⊎◌, List}
 use Rattle.stm_model.specs.declared.config.Config.{Config}
-use Rattle.stm_model.specs.declared.config.TheConstants.{CLOCK_LIMIT}
 use Rattle.stm_model.specs.declared.stop.Stop.{Stop}
 use Rattle.stm_model.specs.declared.stop.Stop.TheVariants as stops
 use Rattle.stm_model.specs.Logs.{Log, Keeps}
@@ -24,18 +23,6 @@ abbrev pub ended_by : Stop → Ended
 ended_by (stops.Conflict cause) = ends.Conflict cause
 ended_by (stops.Full limit) = ends.Full
 ended_by (stops.ClockFull clock) = ends.ClockFull
-
--- who ended so for the clock has found it at its limit
-abbrev pub HasFoundFull : Ended → Known → Type 0
-HasFoundFull ends.Closed w = Unit {0}
-HasFoundFull ends.Held w = Unit {0}
-HasFoundFull ends.Fenced w = Unit {0}
-HasFoundFull (ends.Conflict cause) w = Unit {0}
-HasFoundFull ends.Full w = Unit {0}
-HasFoundFull ends.Busy w = Unit {0}
-HasFoundFull ends.Taken w = Unit {0}
-HasFoundFull ends.Again w = Unit {0}
-HasFoundFull ends.ClockFull w = CLOCK_LIMIT ≤ w.top
 
 -- an attempt that asked to be irrevocable first can fail so, before it does anything
 abbrev pub IsEarly : Ended → Type 0

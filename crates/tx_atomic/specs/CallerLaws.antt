@@ -8,8 +8,9 @@ use Rattle.stm_model.specs.Histories.{made_by}
 use Rattle.stm_rule.specs.Callers.{Handle, IsOf, AllOpened, AllIdle, BeginsHistory}
 use Rattle.stm_rule.specs.Closings.{AllTold, Ended}
 use Rattle.stm_tx.specs.Descs.{known}
-use Rattle.tx_answers.specs.Known.{IsIdle, known_of}
-use Rattle.tx_atomic.specs.Callers.{IsReady, IsThrough, AllReady}
+use Rattle.tx_answers.specs.Known.{Grows, IsIdle, known_of}
+use Rattle.tx_answers.specs.KnownLaws.{carries-refl, grows-trans}
+use Rattle.tx_atomic.specs.Callers.{IsReady, IsThrough, HasWorked, AllReady}
 
 -- what a slice that was lent whole left
 written : {A : Type 0} (n : ℕ) (xs ys : List A) → length xs ≡ n → length ys ≡ n → take n (xs ++ drop (length xs) ys) ≡ xs
@@ -19,6 +20,16 @@ written zero [] (y ∷ ys) a b = absurd (omega arith)
 written (suc n) [] ys a b = absurd (omega arith)
 written (suc n) (x ∷ xs) [] a b = absurd (omega arith)
 written (suc n) (x ∷ xs) (y ∷ ys) a b = ap (λ l. x ∷ l) (written n xs ys (omega arith) (omega arith))
+
+-- a caller that did nothing, and one that did more
+pub worked-refl : {K : Type 0} (d : Handle K) → IsIdle (known d) → HasWorked d d
+worked-refl d idle = record { through = record { same = record { table = refl; who = refl }; idle = idle }; grew = (carries-refl (known d)).grows }
+
+pub worked-trans : {K : Type 0} (d e f : Handle K) → HasWorked d e → IsThrough e f → Grows (known e) (known f) → HasWorked d f
+worked-trans d e f a b g = record {
+  through = record { same = record { table = b.same.table ∙ a.through.same.table; who = b.same.who ∙ a.through.same.who }; idle = b.idle };
+  grew = grows-trans (known d) (known e) (known f) a.grew g;
+}
 
 module _ {K : Type 0} (stm : Stm K) where
   -- those of a new memory
@@ -39,7 +50,7 @@ module _ {K : Type 0} (stm : Stm K) where
   pub ready-all : (n : ℕ) (ds : List (Handle K)) → AllReady stm n ds → All (IsReady stm) ds
   ready-all n ds h = λ i d lt. ready-at n i ds d h lt
 
-  through : (d e : Handle K) → IsOf d stm → IsThrough d e → IsOf e stm
+  pub through : (d e : Handle K) → IsOf d stm → IsThrough d e → IsOf e stm
   through d e of t = record {
     table = t.same.table ∙ of.table;
     config = ap (λ q. q.config) t.same.who ∙ of.config;

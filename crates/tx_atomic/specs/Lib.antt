@@ -3,5 +3,7 @@ pub mod AttemptLaws
 pub mod Callers
 pub mod CallerLaws
 pub mod Tallies
+pub mod Tries
+pub mod TryLaws
 pub mod Moments
 pub mod MomentLaws

@@ -1,5 +1,5 @@
 -- What came of a caller's attempts.
-use Rattle.std.specs.Prelude.{ℕ, ◌≡◌, ◌+◌, ◌-◌, ◌^◌, min}
+use Rattle.std.specs.Prelude.{ℕ, zero, suc, ◌≡◌, ◌+◌, ◌-◌, ◌^◌, min}
 use Rattle.tx_atomic.specs.declared.tally.Ended.{Ended}
 use Rattle.tx_atomic.specs.declared.tally.Ended.TheVariants as ends
 use Rattle.tx_atomic.specs.declared.tally.Tally.{Tally}
@@ -29,6 +29,11 @@ noted ends.Taken t = record t { taken = total t.taken 1 }
 noted ends.Again t = record t { again = total t.again 1 }
 noted ends.ClockFull t = t
 
+-- with so many more of its kind
+abbrev pub noted_times : ℕ → Ended → Tally → Tally
+noted_times zero e t = t
+noted_times (suc k) e t = noted e (noted_times k e t)
+
 -- the counts of both
 abbrev pub both : Tally → Tally → Tally
 both s t = record { commits = total s.commits t.commits; closed = total s.closed t.closed; held = total s.held t.held; fenced = total s.fenced t.fenced; conflicts = total s.conflicts t.conflicts; full = total s.full t.full; busy = total s.busy t.busy; taken = total s.taken t.taken; again = total s.again t.again; promotions = total s.promotions t.promotions }
@@ -39,3 +44,15 @@ CommitsStay s t = t.commits ≡ s.commits
 
 abbrev pub CommitsRise : Tally → Tally → Type 0
 CommitsRise s t = t.commits ≡ total s.commits 1
+
+-- the count of attempts that another was in the way of, after one more that ended so: a log that was too short will be so again; who didn't begin isn't counted
+abbrev pub failed_next : ℕ → Ended → ℕ
+failed_next failed ends.Closed = failed
+failed_next failed ends.Held = failed
+failed_next failed ends.Fenced = failed
+failed_next failed (ends.Conflict cause) = min (failed + 1) (2 ^ 32 - 1)
+failed_next failed ends.Full = 16
+failed_next failed ends.Busy = min (failed + 1) (2 ^ 32 - 1)
+failed_next failed ends.Taken = min (failed + 1) (2 ^ 32 - 1)
+failed_next failed ends.Again = min (failed + 1) (2 ^ 32 - 1)
+failed_next failed ends.ClockFull = min (failed + 1) (2 ^ 32 - 1)

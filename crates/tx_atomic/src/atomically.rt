@@ -1,17 +1,18 @@
 //! A transaction, tried until it commits.
-ghost use Rattle.std.specs.Prelude.{◌≡◌, ◌≤◌, IfSome, IfNone};
-ghost use Rattle.stm_rule.specs.Callers.{IsOf, IsSameCaller};
-ghost use Rattle.tx_answers.specs.Known.{Grows, IsIdle};
+ghost use Rattle.std.specs.Prelude.{◌≡◌, ℕ, IfSome, IfNone, Some, None};
+ghost use Rattle.tx_answers.specs.Known.{Grows};
 ghost use Rattle.stm_tx.specs.Descs.{known, number};
-ghost use Rattle.tx_atomic.specs.Attempts.{TookEffect};
-ghost use Rattle.tx_atomic.specs.Tallies.{CommitsStay, CommitsRise};
+ghost use Rattle.tx_atomic.specs.Callers.{IsReady, IsThrough, Took};
+ghost use Rattle.tx_answers.specs.Causes.{FindsFull};
+ghost use Rattle.tx_atomic.specs.Tallies.{CommitsStay, CommitsRise, failed_next};
+ghost use Rattle.tx_atomic.specs.declared.tally.Ended.TheVariants.{ClockFull};
+ghost use Rattle.tx_atomic.specs.Tries.{Ran};
 
 use crate::attempts::attempt;
 use crate::pace::Pace;
 use crate::tally::Ended;
 use crate::transaction::Transaction;
 use std::sync::Wait;
-use stm_model::config::CLOCK_LIMIT;
 use stm_model::rule::MemRule;
 use stm_rule::desc::Desc;
 use stm_rule::stm::Stm;
@@ -31,17 +32,18 @@ pub fn atomically<R: Wait, K: MemRule, T: Transaction<K>>(
     pace: &mut Pace,
     transaction: &T,
 ) -> Option<T::Output>
-    requires stm { IsOf desc.old stm.now }
-    requires idle { IsIdle (known desc.old) }
+    requires ready { IsReady stm.now desc.old }
     requires fits { T.fits transaction.now stm.now.rule stm.now.config.words }
-    ensures same { IsSameCaller desc.old desc.new }
-    ensures idle { IsIdle (known desc.new) }
+    ensures through { IsThrough desc.old desc.new }
     ensures grew { Grows (known desc.old) (known desc.new) }
-    ensures took { IfSome result (λ r. TookEffect (K.good stm.now.rule) stm.now.config (number desc.old) (T.tells transaction.now stm.now.rule stm.now.config.words r) (known desc.old).front (known desc.old) (known desc.new)) }
+    ensures took { IfSome result (λ r. Took K.good (T.tells transaction.now) stm.now desc.old r desc.new) }
     ensures none { IfNone result ((known desc.new).made ≡ (known desc.old).made) }
     ensures counted { IfSome result (λ r. CommitsRise pace.old.tally pace.new.tally) }
     ensures uncounted { IfNone result (CommitsStay pace.old.tally pace.new.tally) }
-    ensures full { IfNone result (CLOCK_LIMIT ≤ (known desc.new).top) }
+    ensures full { IfNone result ((clock : ℕ) × FindsFull clock (known desc.old) (known desc.new)) }
+    ensures installs { (known desc.new).installs ≡ (known desc.old).installs }
+    ensures ran { IfSome result (λ r. Ran (K.good stm.now.rule) stm.now.config (number desc.old) None (known desc.old) (known desc.new) pace.old.tally pace.new.tally) }
+    ensures gave_up { IfNone result (Ran (K.good stm.now.rule) stm.now.config (number desc.old) (Some ClockFull) (known desc.old) (known desc.new) pace.old.tally pace.new.tally) }
 {
     let mut failed: u32 = 0;
     for _ in rt.forever() {
@@ -50,11 +52,13 @@ pub fn atomically<R: Wait, K: MemRule, T: Transaction<K>>(
                 pace.get_on();
                 return Some(output);
             }
-            Err(Ended::ClockFull) => return None,
-            Err(ended) => {
-                pace.wait(ended);
-                failed = failed_next(failed, ended);
-            }
+            Err(ended) => match ended {
+                Ended::ClockFull => return None,
+                _ => {
+                    pace.wait(ended);
+                    failed = failed_next(failed, ended);
+                }
+            },
         }
     }
     unreachable!()
@@ -62,7 +66,9 @@ pub fn atomically<R: Wait, K: MemRule, T: Transaction<K>>(
 
 /// The count of failed attempts, after one more that ended so. A log that was too short for the transaction will be
 /// so again; an attempt that didn't begin isn't counted.
-fn failed_next(failed: u32, ended: Ended) -> u32 {
+fn failed_next(failed: u32, ended: Ended) -> u32
+    ensures { result ≡ failed_next failed ended }
+{
     match ended {
         Ended::Full => MOST_FAILED,
         Ended::Closed | Ended::Held | Ended::Fenced => failed,

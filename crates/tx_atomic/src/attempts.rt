@@ -1,11 +1,13 @@
 //! One attempt at a transaction. Each part begins with what the one before it left.
-ghost use Rattle.std.specs.Prelude.{◌≡◌, ◌≤◌, true, false, IfOk, OnOk, IfErr, OnErr};
+ghost use Rattle.std.specs.Prelude.{◌≡◌, ◌≤◌, true, false, IfOk, OnOk, IfErr, OnErr, MatchResult, Some, None};
 ghost use Rattle.stm_rule.specs.Callers.{IsOf, IsSameCaller};
 ghost use Rattle.tx_answers.specs.Answers.{KeepsRule, Commits};
 ghost use Rattle.tx_answers.specs.Known.{Grows, IsIdle, is_irrevocable};
 ghost use Rattle.stm_tx.specs.Descs.{known, number};
 ghost use Rattle.tx_atomic.specs.Tallies.{CommitsStay};
-ghost use Rattle.tx_atomic.specs.Attempts.{IsFresh, MayCommit, TookEffect, HasFoundFull, IsEarly};
+ghost use Rattle.tx_atomic.specs.Attempts.{IsFresh, MayCommit, TookEffect, IsEarly};
+ghost use Rattle.tx_atomic.specs.Callers.{IsReady, IsThrough, Took};
+ghost use Rattle.tx_atomic.specs.Tries.{Tried, Opens, Asks, IsRefused, IsStopped, Finishes};
 
 use crate::pace::Pace;
 use crate::tally::Ended;
@@ -36,16 +38,15 @@ pub fn attempt<R: Wait, K: MemRule, T: Transaction<K>>(
     transaction: &T,
     sure: bool,
 ) -> Result<T::Output, Ended>
-    requires stm { IsOf desc.old stm.now }
-    requires idle { IsIdle (known desc.old) }
+    requires ready { IsReady stm.now desc.old }
     requires fits { T.fits transaction.now stm.now.rule stm.now.config.words }
-    ensures same { IsSameCaller desc.old desc.new }
-    ensures idle { IsIdle (known desc.new) }
+    ensures through { IsThrough desc.old desc.new }
     ensures grew { Grows (known desc.old) (known desc.new) }
     ensures uncounted { CommitsStay pace.old.tally pace.new.tally }
-    ensures took { IfOk result (λ r. TookEffect (K.good stm.now.rule) stm.now.config (number desc.old) (T.tells transaction.now stm.now.rule stm.now.config.words r) (known desc.old).front (known desc.old) (known desc.new)) }
+    ensures took { IfOk result (λ r. Took K.good (T.tells transaction.now) stm.now desc.old r desc.new) }
     ensures none { OnErr result ((known desc.new).made ≡ (known desc.old).made) }
-    ensures full { IfErr result (λ e. HasFoundFull e (known desc.new)) }
+    ensures installs { (known desc.new).installs ≡ (known desc.old).installs }
+    ensures tried { MatchResult result (λ r. Tried (K.good stm.now.rule) stm.now.config (number desc.old) sure None (known desc.old) (known desc.new) pace.old.tally pace.new.tally) (λ e. Tried (K.good stm.now.rule) stm.now.config (number desc.old) sure (Some e) (known desc.old) (known desc.new) pace.old.tally pace.new.tally) }
     ensures unrefused { IfErr result (λ e. sure ≡ true → IsEarly e) }
 {
     open(rt, desc, stm, pace, sure)?;
@@ -72,7 +73,9 @@ fn open<R: Wait, K: MemRule>(
     ensures later { OnOk result ((known desc.old).front ≤ (known desc.new).start) }
     ensures sure { OnOk result (sure ≡ true → is_irrevocable (known desc.new) ≡ true) }
     ensures over { OnErr result (IsIdle (known desc.new)) }
-    ensures full { IfErr result (λ e. HasFoundFull e (known desc.new)) }
+    ensures installs { (known desc.new).installs ≡ (known desc.old).installs }
+    ensures opens { OnOk result (Opens (K.good stm.now.rule) stm.now.config (number desc.old) sure (known desc.old) (known desc.new) pace.old.tally pace.new.tally) }
+    ensures tried { IfErr result (λ e. Tried (K.good stm.now.rule) stm.now.config (number desc.old) sure (Some e) (known desc.old) (known desc.new) pace.old.tally pace.new.tally) }
     ensures early { IfErr result IsEarly }
 {
     begin(desc, stm)?;
@@ -92,7 +95,8 @@ fn begin<K: MemRule>(desc: &mut Desc<K>, stm: &Stm<K>) -> Result<(), Ended>
     ensures fresh { OnOk result (IsFresh (known desc.new)) }
     ensures later { OnOk result ((known desc.old).front ≤ (known desc.new).start) }
     ensures over { OnErr result (IsIdle (known desc.new)) }
-    ensures full { IfErr result (λ e. HasFoundFull e (known desc.new)) }
+    ensures installs { (known desc.new).installs ≡ (known desc.old).installs }
+    ensures refused { IfErr result (λ e. IsRefused (K.good stm.now.rule) stm.now.config (number desc.old) e (known desc.old) (known desc.new)) }
     ensures early { IfErr result IsEarly }
 {
     match try_begin(desc, stm) {
@@ -140,7 +144,8 @@ fn become_sure<R: Wait, K: MemRule>(
     ensures later { OnOk result ((known desc.old).start ≤ (known desc.new).start) }
     ensures sure { OnOk result (is_irrevocable (known desc.new) ≡ true) }
     ensures over { OnErr result (IsIdle (known desc.new)) }
-    ensures full { IfErr result (λ e. HasFoundFull e (known desc.new)) }
+    ensures installs { (known desc.new).installs ≡ (known desc.old).installs }
+    ensures asks { MatchResult result (λ r. Asks (K.good stm.now.rule) stm.now.config (number desc.old) None (known desc.old) (known desc.new) pace.old.tally pace.new.tally) (λ e. Asks (K.good stm.now.rule) stm.now.config (number desc.old) (Some e) (known desc.old) (known desc.new) pace.old.tally pace.new.tally) }
     ensures early { IfErr result IsEarly }
 {
     for _ in rt.forever() {
@@ -179,7 +184,8 @@ fn act<K: MemRule, T: Transaction<K>>(
     ensures may { OnOk result (MayCommit (K.good stm.now.rule) stm.now.config (known desc.new)) }
     ensures tells { IfOk result (λ r. T.tells transaction.now stm.now.rule stm.now.config.words r (known desc.new).log) }
     ensures over { OnErr result (IsIdle (known desc.new)) }
-    ensures full { IfErr result (λ e. HasFoundFull e (known desc.new)) }
+    ensures installs { (known desc.new).installs ≡ (known desc.old).installs }
+    ensures stopped { IfErr result (λ e. IsStopped (K.good stm.now.rule) stm.now.config (number desc.old) e (known desc.old) (known desc.new)) }
     ensures unrefused { OnErr result (is_irrevocable (known desc.old) ≡ false) }
     ensures sure { OnOk result (is_irrevocable (known desc.old) ≡ true → is_irrevocable (known desc.new) ≡ true) }
 {
@@ -211,7 +217,8 @@ fn act_by<K: MemRule, T: Transaction<K>, C: Calls>(
     ensures may { OnOk result (MayCommit (K.good stm.now.rule) stm.now.config (known desc.new)) }
     ensures tells { IfOk result (λ r. T.tells transaction.now stm.now.rule stm.now.config.words r (known desc.new).log) }
     ensures over { OnErr result (IsIdle (known desc.new)) }
-    ensures full { IfErr result (λ e. HasFoundFull e (known desc.new)) }
+    ensures installs { (known desc.new).installs ≡ (known desc.old).installs }
+    ensures stopped { IfErr result (λ e. IsStopped (K.good stm.now.rule) stm.now.config (number desc.old) e (known desc.old) (known desc.new)) }
     ensures unrefused { OnErr result (is_irrevocable (known desc.old) ≡ false) }
     ensures sure { OnOk result (is_irrevocable (known desc.old) ≡ true → is_irrevocable (known desc.new) ≡ true) }
 {
@@ -242,7 +249,8 @@ fn end<R: Wait, K: MemRule>(
     ensures uncounted { CommitsStay pace.old.tally pace.new.tally }
     ensures took { OnOk result (TookEffect (K.good stm.now.rule) stm.now.config (number desc.old) (λ l. l ≡ (known desc.old).log) (known desc.old).start (known desc.old) (known desc.new)) }
     ensures none { OnErr result ((known desc.new).made ≡ (known desc.old).made) }
-    ensures full { IfErr result (λ e. HasFoundFull e (known desc.new)) }
+    ensures installs { (known desc.new).installs ≡ (known desc.old).installs }
+    ensures finishes { MatchResult result (λ r. Finishes (K.good stm.now.rule) stm.now.config (number desc.old) None (known desc.old) (known desc.new) pace.old.tally pace.new.tally) (λ e. Finishes (K.good stm.now.rule) stm.now.config (number desc.old) (Some e) (known desc.old) (known desc.new) pace.old.tally pace.new.tally) }
     ensures unrefused { OnErr result (is_irrevocable (known desc.old) ≡ false) }
 {
     for _ in rt.forever() {

@@ -1,5 +1,6 @@
 pub mod Effects
 pub mod EffectLaws
+pub mod FreshLaws
 pub mod Keys
 pub mod KeyLaws
 pub mod Statements

@@ -1,7 +1,8 @@
 use Rattle.std.proofs.Common.{◌≡◌}
 use Rattle.stm_rule.specs.Callers.{IsSameCaller}
 use Rattle.tx_answers.specs.Known.{Grows, IsIdle}
-use Rattle.stm_tx.specs.Descs.{known}
+use Rattle.stm_tx.specs.Descs.{known, number}
+use Rattle.tx_atomic.specs.Tries.{Failing}
 use Rattle.tx_atomic.proofs.atomically.atomically.Given as goal
 
 abbrev pub invariant-loop : goal.invariant-loop
@@ -12,5 +13,7 @@ invariant-loop g l = record {
   idle : IsIdle (known l.desc);
   grew : Grows (known l.fn.desc) (known l.desc);
   made : (known l.desc).made ≡ (known l.fn.desc).made;
+  installs : (known l.desc).installs ≡ (known l.fn.desc).installs;
   commits : l.pace.tally.commits ≡ l.fn.pace.tally.commits;
+  failing : Failing (g.K.MemRule.good l.fn.stm.rule) l.fn.stm.config (number l.fn.desc) l.failed (known l.fn.desc) (known l.desc) l.fn.pace.tally l.pace.tally;
 }

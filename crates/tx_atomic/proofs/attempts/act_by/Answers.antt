@@ -1,6 +1,7 @@
 use Rattle.std.proofs.Common.{rules}
 use Rattle.stm_tx.specs.Descs.{known, number}
-use Rattle.tx_atomic.specs.AttemptLaws.{stopped-idle, stopped-full}
+use Rattle.tx_atomic.specs.AttemptLaws.{stopped-idle}
+use Rattle.tx_atomic.specs.TryLaws.{stopped}
 use Rattle.tx_atomic.proofs.attempts.act_by.Goals as goal
 
 pub invariant_of-memory-clause-own : goal.invariant_of-memory-clause-own
@@ -27,8 +28,8 @@ returns-in-Err-clause-over g c =
     let idle = stopped-idle (g.K.MemRule.good stm.rule) stm.config (number c.args.desc.now) _ _ (known c.args.desc.now) _ c.in-Err.ensures.stops c.in-Err.ensures.keeps.0.1 in
     search (rules, idle)
 
-pub returns-in-Err-clause-full : goal.returns-in-Err-clause-full
-returns-in-Err-clause-full g c =
+pub returns-in-Err-clause-stopped : goal.returns-in-Err-clause-stopped
+returns-in-Err-clause-stopped g c =
     let stm = c.args.stm.now in
-    let full = stopped-full (g.K.MemRule.good stm.rule) stm.config (number c.args.desc.now) _ _ (known c.args.desc.now) _ c.in-Err.ensures.stops c.in-Err.ensures.keeps.0.1 in
-    search (rules, full)
+    let is = stopped (g.K.MemRule.good stm.rule) stm.config (number c.args.desc.now) _ _ (known c.args.desc.now) _ c.in-Err.ensures.stops c.in-Err.ensures.keeps.0.1 in
+    search (rules, is)

@@ -1,14 +1,20 @@
 use Rattle.std.proofs.Common.{◌∙◌, sym, subst, arith}
 use Rattle.std.specs.Prelude.{◌⊎◌}
+use Rattle.std.proofs.lemmas.Result.{err_from_is_err_and}
 use Rattle.tx_answers.specs.declared.answers.Commit.TheVariants.{Committed, ReadOnly}
 use Rattle.tx_answers.specs.Answers.{Commits}
 use Rattle.tx_answers.specs.KnownLaws.{grows-trans}
-use Rattle.stm_tx.specs.Descs.{known}
+use Rattle.stm_rule.specs.Callers.{IsSameCaller}
+use Rattle.stm_tx.specs.Descs.{known, number}
 use Rattle.tx_atomic.specs.AttemptLaws.{same-number}
+use Rattle.tx_atomic.specs.Tries.{IsStopped, Finishes}
+use Rattle.tx_atomic.specs.TryLaws.{tried-stopped, tried-uncommitted, tried-done}
+use Rattle.std.specs.Prelude.{Some, None}
 use Rattle.tx_atomic.proofs.attempts.attempt.Goals as goal
 
 pub returns-in_err-output-clause-grew : goal.returns-in_err-output-clause-grew
-returns-in_err-output-clause-grew g c = grows-trans (known c.args.desc.now) (known c.open.new.desc) (known c.act.new.desc) c.open.ensures.grew c.act.ensures.grew
+returns-in_err-output-clause-grew g c =
+    grows-trans (known c.args.desc.now) (known c.open.new.desc) (known c.act.new.desc) c.open.ensures.grew c.act.ensures.grew
 
 pub returns-in_err-end-clause-grew : goal.returns-in_err-end-clause-grew
 returns-in_err-end-clause-grew g c =
@@ -38,3 +44,38 @@ returns-clause-took g c =
       time = t.time;
       commits = subst (λ n. Commits good stm.config n (Committed t.time) t.before (known c.end.new.desc) ⊎ Commits good stm.config n (ReadOnly t.time) t.before (known c.end.new.desc)) same t.commits;
     }
+
+pub returns-in_err-output-clause-tried : goal.returns-in_err-output-clause-tried
+returns-in_err-output-clause-tried g c =
+    let stm = c.args.stm.now in
+    let good = g.K.MemRule.good stm.rule in
+    let v = known c.open.new.desc in
+    let w = known c.act.new.desc in
+    let is = subst (λ n. IsStopped good stm.config n c.in_err-output.field-0.0 v w) (same-number c.args.desc.now c.open.new.desc c.open.ensures.same) c.in_err-output.ensures.stopped in
+    let tried = tried-stopped good stm.config (number c.args.desc.now) c.args.sure c.in_err-output.field-0.0 (known c.args.desc.now) v w c.args.pace.now.tally c.open.new.pace.tally (λ sure. let yes = c.in_ok-open.ensures.sure sure in let no = c.in_err-output.ensures.unrefused in absurd cc) c.in_ok-open.ensures.opens is in
+    let p = err_from_is_err_and c.from_residual-in_err-output.result c.from_residual-in_err-output.ensures.1 in
+    rw (p.1, p.2) tried
+
+pub returns-in_err-end-clause-tried : goal.returns-in_err-end-clause-tried
+returns-in_err-end-clause-tried g c =
+    let stm = c.args.stm.now in
+    let good = g.K.MemRule.good stm.rule in
+    let v = known c.open.new.desc in
+    let x = known c.act.new.desc in
+    let w = known c.end.new.desc in
+    let same : IsSameCaller c.args.desc.now c.act.new.desc = record { table = c.act.ensures.same.table ∙ c.open.ensures.same.table; who = c.act.ensures.same.who ∙ c.open.ensures.same.who } in
+    let is = subst (λ n. Finishes good stm.config n (Some c.in_err-end.field-0.0) x w c.open.new.pace.tally c.end.new.pace.tally) (same-number c.args.desc.now c.act.new.desc same) c.in_err-end.ensures.finishes in
+    let tried = tried-uncommitted good stm.config (number c.args.desc.now) c.args.sure c.in_err-end.field-0.0 (known c.args.desc.now) v x w c.args.pace.now.tally c.open.new.pace.tally c.end.new.pace.tally (λ sure. let yes = c.in_ok-output.ensures.sure (c.in_ok-open.ensures.sure sure) in let no = c.in_err-end.ensures.unrefused in absurd cc) c.in_ok-open.ensures.opens c.act.ensures.grew is in
+    let p = err_from_is_err_and c.from_residual-in_err-end.result c.from_residual-in_err-end.ensures.1 in
+    rw (p.1, p.2) tried
+
+pub returns-clause-tried : goal.returns-clause-tried
+returns-clause-tried g c =
+    let stm = c.args.stm.now in
+    let good = g.K.MemRule.good stm.rule in
+    let v = known c.open.new.desc in
+    let x = known c.act.new.desc in
+    let w = known c.end.new.desc in
+    let same : IsSameCaller c.args.desc.now c.act.new.desc = record { table = c.act.ensures.same.table ∙ c.open.ensures.same.table; who = c.act.ensures.same.who ∙ c.open.ensures.same.who } in
+    let is = subst (λ n. Finishes good stm.config n None x w c.open.new.pace.tally c.end.new.pace.tally) (same-number c.args.desc.now c.act.new.desc same) c.in_ok-end.ensures.finishes in
+    tried-done good stm.config (number c.args.desc.now) c.args.sure (known c.args.desc.now) v x w c.args.pace.now.tally c.open.new.pace.tally c.end.new.pace.tally c.in_ok-open.ensures.opens c.act.ensures.grew is

@@ -1,8 +1,40 @@
 use Rattle.stm_tx.specs.Descs.{known, number}
+use Rattle.std.proofs.Common.{ℕ, ◌≡◌, ◌≢◌, Bool, true, false, subst}
+use Rattle.std.specs.Prelude.{◌==◌, ◌&&◌, not, if◌then◌else◌, Option, Some, None, is_some}
+use Rattle.rule_base.specs.Encodings.{fence_from, fence_count}
+use Rattle.tx_answers.specs.Known.{Known}
+use Rattle.tx_answers.specs.KnownLaws.{carries-refl}
+use Rattle.stm_tx.specs.Fencing.{fence_seen}
 use Rattle.tx_atomic.specs.AttemptLaws.{commits-grow}
+use Rattle.tx_atomic.specs.TryLaws.{begin-closed, begin-held, begin-full, begin-fenced}
 use Rattle.tx_atomic.proofs.attempts.begin.Goals as goal
 
 pub returns-then-is_some-clause-grew : goal.returns-then-is_some-clause-grew
 returns-then-is_some-clause-grew g c =
     let stm = c.args.stm.now in
     commits-grow (g.K.MemRule.good stm.rule) stm.config (number c.try_begin.new.desc) c.turn_back.result (known c.args.desc.now) (known c.try_begin.new.desc) (known c.turn_back.new.desc) c.in-Begun.ensures.begins.grows c.turn_back.ensures.commits
+
+-- who sees a range knows of a fence
+seen : (v : Known) → is_some {T = ℕ × ℕ} (fence_seen v) ≡ true → v.fence ≢ 0
+seen v some none = by v.running v.fence none some where
+  by : (running : Bool) (fence : ℕ) → fence ≡ 0 → is_some {T = ℕ × ℕ} (if running && not (fence == 0) then Some (fence_from fence, fence_count fence) else None) ≡ true → ⊥
+  by true fence none some = let s = subst (λ (f : ℕ). is_some {T = ℕ × ℕ} (if true && not (f == 0) then Some (fence_from f, fence_count f) else None) ≡ true) none some in cc
+  by false fence none some = absurd cc
+
+pub returns-then-is_some-clause-refused : goal.returns-then-is_some-clause-refused
+returns-then-is_some-clause-refused g c =
+    let stm = c.args.stm.now in
+    let good = g.K.MemRule.good stm.rule in
+    let v = known c.try_begin.new.desc in
+    let w = known c.turn_back.new.desc in
+    let some : is_some {T = ℕ × ℕ} (fence_seen v) ≡ true = let found = c.fence_seen.ensures in let tested = c.is_some.ensures in let yes = c.if-is_some.true in cc in
+    begin-fenced good stm.config (number c.args.desc.now) c.try_begin.result _ (known c.args.desc.now) v w c.in-Begun.is c.try_begin.ensures.begins (seen v some) (commits-grow good stm.config (number c.try_begin.new.desc) c.turn_back.result v v w (carries-refl v).grows c.turn_back.ensures.commits)
+
+pub returns-in-Closed-clause-refused : goal.returns-in-Closed-clause-refused
+returns-in-Closed-clause-refused g c = begin-closed (g.K.MemRule.good c.args.stm.now.rule) c.args.stm.now.config (number c.args.desc.now) c.try_begin.result _ (known c.args.desc.now) (known c.try_begin.new.desc) c.in-Closed.is c.try_begin.ensures.begins
+
+pub returns-in-Held-clause-refused : goal.returns-in-Held-clause-refused
+returns-in-Held-clause-refused g c = begin-held (g.K.MemRule.good c.args.stm.now.rule) c.args.stm.now.config (number c.args.desc.now) c.try_begin.result _ (known c.args.desc.now) (known c.try_begin.new.desc) c.in-Held.is c.try_begin.ensures.begins
+
+pub returns-in-ClockFull-clause-refused : goal.returns-in-ClockFull-clause-refused
+returns-in-ClockFull-clause-refused g c = begin-full (g.K.MemRule.good c.args.stm.now.rule) c.args.stm.now.config (number c.args.desc.now) c.try_begin.result _ (known c.args.desc.now) (known c.try_begin.new.desc) c.in-ClockFull.is c.try_begin.ensures.begins

@@ -1,9 +1,19 @@
-use Rattle.std.proofs.Common.{rules, sym, subst}
+use Rattle.std.proofs.Common.{ℕ, suc, ◌≡◌, ◌∙◌, List, rules, refl, ap, sym, subst, inl, inr}
+use Rattle.std.specs.Prelude.{Option, Some, None}
+use Rattle.stm_model.specs.declared.config.Config.{Config}
 use Rattle.stm_model.specs.Logs.{Log, Keeps}
 use Rattle.tx_answers.specs.Answers.{Commits}
 use Rattle.tx_answers.specs.KnownLaws.{carries-refl}
 use Rattle.stm_tx.specs.Descs.{known, number}
 use Rattle.tx_atomic.specs.AttemptLaws.{commits-grow, same-number, took-by}
+use Rattle.tx_answers.specs.Known.{Known}
+use Rattle.tx_atomic.specs.declared.tally.Ended.{Ended}
+use Rattle.tx_atomic.specs.declared.tally.Ended.TheVariants as ends
+use Rattle.tx_atomic.specs.declared.tally.Ended.TheVariants.{Again}
+use Rattle.tx_atomic.specs.declared.tally.Tally.{Tally}
+use Rattle.tx_atomic.specs.Tallies.{noted, noted_times}
+use Rattle.tx_atomic.specs.Tries.{FindsAgain, EndsBy, Finishes}
+use Rattle.tx_atomic.specs.TryLaws.{again-more, commit-full, commit-done}
 use Rattle.tx_atomic.proofs.attempts.end.Goals as goal
 
 pub commit-requires-clause-keeps : goal.commit-requires-clause-keeps
@@ -20,13 +30,41 @@ returns-in-Committed-clause-took g c =
     took-by good stm.config (number c.args.desc.now) _ c.commit.result _ (known c.args.desc.now) (known c.loop.desc) (known c.commit.new.desc) inv.log inv.made inv.grew inv.later now c.in-Committed.is
 
 pub loop-init : goal.loop-init
-loop-init g c = let grew = (carries-refl (known c.args.desc.now)).grows in search (rules, grew)
+loop-init g c = let grew = (carries-refl (known c.args.desc.now)).grows in let again : (k : ℕ) × FindsAgain (g.K.MemRule.good c.args.stm.now.rule) c.args.stm.now.config (number c.args.desc.now) k (known c.args.desc.now) (known c.args.desc.now) × (c.args.pace.now.tally ≡ noted_times k Again c.args.pace.now.tally) = (0, refl, refl) in search (rules, grew, again)
 
 pub loop-preserved : goal.loop-preserved
 loop-preserved g c =
-    let grew = commits-grow (g.K.MemRule.good c.args.stm.now.rule) c.args.stm.now.config (number c.loop.desc) c.commit.result (known c.args.desc.now) (known c.loop.desc) (known c.commit.new.desc) c.loop.invariant.grew c.commit.ensures.commits in
-    let again = c.in-Again.ensures.commits in
-    search (rules, grew, again)
+    let stm = c.args.stm.now in
+    let good = g.K.MemRule.good stm.rule in
+    let n = number c.args.desc.now in
+    let u = known c.args.desc.now in
+    let v = known c.loop.desc in
+    let w = known c.commit.new.desc in
+    let inv = c.loop.invariant in
+    let grew = commits-grow good stm.config (number c.loop.desc) c.commit.result u v w inv.grew c.commit.ensures.commits in
+    let went = c.in-Again.ensures.commits in
+    let more = again-more good stm.config n inv.again.0 (number c.loop.desc) c.commit.result _ _ _ u v w (same-number c.args.desc.now c.loop.desc inv.same) inv.again.1 c.in-Again.is c.commit.ensures.commits in
+    let again : (k : ℕ) × FindsAgain good stm.config n k u w × (c.wait.new.self.tally ≡ noted_times k Again c.args.pace.now.tally) = (suc inv.again.0, more, c.wait.ensures.noted ∙ ap (noted Again) inv.again.2) in
+    search (rules, grew, went, again)
+
+-- what came of the calls, and the last of them
+finishes : (good : List ℕ → Type 0) (config : Config) (n m : ℕ) (o : Option Ended) (u v w : Known) (s t : Tally) → m ≡ n → (k : ℕ) × FindsAgain good config n k u v × (t ≡ noted_times k Again s) → EndsBy good config m o v w → Finishes good config n o u w s t
+finishes good config n m o u v w s t same again h = record { again = again.0; before = v; waits = again.1; last = subst (λ i. EndsBy good config i o v w) same h; counted = again.2 }
+
+pub returns-in-Committed-clause-finishes : goal.returns-in-Committed-clause-finishes
+returns-in-Committed-clause-finishes g c =
+    let stm = c.args.stm.now in
+    finishes (g.K.MemRule.good stm.rule) stm.config (number c.args.desc.now) (number c.loop.desc) None (known c.args.desc.now) (known c.loop.desc) (known c.commit.new.desc) c.args.pace.now.tally c.loop.pace.tally (same-number c.args.desc.now c.loop.desc c.loop.invariant.same) c.loop.invariant.again (commit-done (g.K.MemRule.good stm.rule) stm.config (number c.loop.desc) c.commit.result (known c.loop.desc) (known c.commit.new.desc) c.in-Committed.is c.commit.ensures.commits)
+
+pub returns-in-Conflict-clause-finishes : goal.returns-in-Conflict-clause-finishes
+returns-in-Conflict-clause-finishes g c =
+    let stm = c.args.stm.now in
+    finishes (g.K.MemRule.good stm.rule) stm.config (number c.args.desc.now) (number c.loop.desc) (Some (ends.Conflict c.in-Conflict.cause)) (known c.args.desc.now) (known c.loop.desc) (known c.commit.new.desc) c.args.pace.now.tally c.loop.pace.tally (same-number c.args.desc.now c.loop.desc c.loop.invariant.same) c.loop.invariant.again (inr (inr c.in-Conflict.ensures.commits))
+
+pub returns-in-ClockFull-clause-finishes : goal.returns-in-ClockFull-clause-finishes
+returns-in-ClockFull-clause-finishes g c =
+    let stm = c.args.stm.now in
+    finishes (g.K.MemRule.good stm.rule) stm.config (number c.args.desc.now) (number c.loop.desc) (Some ends.ClockFull) (known c.args.desc.now) (known c.loop.desc) (known c.commit.new.desc) c.args.pace.now.tally c.loop.pace.tally (same-number c.args.desc.now c.loop.desc c.loop.invariant.same) c.loop.invariant.again (commit-full (g.K.MemRule.good stm.rule) stm.config (number c.loop.desc) c.commit.result _ (known c.loop.desc) (known c.commit.new.desc) c.in-ClockFull.is c.commit.ensures.commits)
 
 pub returns-in-Committed-clause-grew : goal.returns-in-Committed-clause-grew
 returns-in-Committed-clause-grew g c = commits-grow (g.K.MemRule.good c.args.stm.now.rule) c.args.stm.now.config (number c.loop.desc) c.commit.result (known c.args.desc.now) (known c.loop.desc) (known c.commit.new.desc) c.loop.invariant.grew c.commit.ensures.commits

@@ -12,4 +12,6 @@ loop-preserved g c =
     search (rules, grew)
 
 pub returns-then-try_switch-clause-grew : goal.returns-then-try_switch-clause-grew
-returns-then-try_switch-clause-grew g c = grows-trans (known c.args.desc.now) (known c.loop.desc) (known c.try_switch.new.desc) c.loop.invariant.grew c.try_switch.ensures.grew
+returns-then-try_switch-clause-grew g c =
+    let grew = grows-trans (known c.args.desc.now) (known c.loop.desc) (known c.try_switch.new.desc) c.loop.invariant.grew c.try_switch.ensures.grew in
+    search (rules, grew)

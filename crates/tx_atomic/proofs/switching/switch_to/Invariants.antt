@@ -11,5 +11,7 @@ invariant-loop g l = record {
   same : IsSameCaller l.fn.desc l.desc;
   idle : IsIdle (known l.desc);
   grew : Grows (known l.fn.desc) (known l.desc);
+  made : (known l.desc).made ≡ (known l.fn.desc).made;
+  rises : (known l.desc).rises ≡ (known l.fn.desc).rises;
   installs : (known l.desc).installs ≡ (known l.fn.desc).installs;
 }

@@ -1,3 +1,4 @@
+use Rattle.std.proofs.Common.{rules}
 use Rattle.tx_answers.specs.KnownLaws.{grows-trans}
 use Rattle.stm_tx.specs.Descs.{known}
 use Rattle.tx_atomic.proofs.switching.try_switch.Goals as goal
@@ -13,4 +14,5 @@ pub returns-in-Busy-clause-grew : goal.returns-in-Busy-clause-grew
 returns-in-Busy-clause-grew g c =
     let u = known c.args.desc.now in
     let looked = grows-trans u (known c.close_gate.new.desc) (known c.look.new.desc) c.in-Closed.ensures.closes.grows c.in-Busy.ensures.looks.0.closed.grows in
-    grows-trans u (known c.look.new.desc) (known c.reopen-in-Busy.new.desc) looked c.reopen-in-Busy.ensures.reopens.grows
+    let grew = grows-trans u (known c.look.new.desc) (known c.reopen-in-Busy.new.desc) looked c.reopen-in-Busy.ensures.reopens.grows in
+    search (rules, grew)

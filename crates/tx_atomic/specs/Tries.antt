@@ -1,0 +1,192 @@
+-- What came of attempts at a transaction, by the answers of the calls that they made.
+use Rattle.std.specs.Prelude.{ℕ, zero, suc, ◌≡◌, ◌≢◌, ◌+◌, ◌⊎◌, ◌&&◌, ◌||◌, leb, Bool, true, false, if◌then◌else◌, List, [], ◌∷◌, Option, Some, None}
+use Rattle.stm_model.specs.declared.alg.Alg.{Alg}
+use Rattle.stm_model.specs.declared.config.Config.{Config}
+use Rattle.stm_model.specs.declared.stop.Stop.TheVariants as stops
+use Rattle.tx_answers.specs.declared.answers.Begin.TheVariants as begins
+use Rattle.tx_answers.specs.declared.answers.Commit.TheVariants as commits
+use Rattle.tx_answers.specs.declared.answers.Irrev.TheVariants as grants
+use Rattle.tx_answers.specs.Answers.{Begins, Commits, Irrevs, Stops}
+use Rattle.tx_answers.specs.Known.{Known, Grows}
+use Rattle.tx_atomic.specs.declared.tally.Ended.{Ended}
+use Rattle.tx_atomic.specs.declared.tally.Ended.TheVariants as ends
+use Rattle.tx_atomic.specs.declared.tally.Tally.{Tally}
+use Rattle.tx_atomic.specs.Tallies.{noted, noted_times, with_commit, with_promotion}
+
+-- one attempt: whether it was to be irrevocable before it did anything, how often that found another in an attempt, how often another was faster at its commit, and how it ended, None where it committed
+pub record Try : Type 0 where
+  pub sure : Bool
+  pub busy : ℕ
+  pub again : ℕ
+  pub ended : Option Ended
+
+abbrev pub has_committed : Option Ended → Bool
+has_committed None = true
+has_committed (Some e) = false
+
+-- the tally behind its calls, and behind it; who was to be irrevocable and committed was promoted
+abbrev pub waited : Try → Tally → Tally
+waited x t = noted_times x.again ends.Again (if x.sure && has_committed x.ended then with_promotion (noted_times x.busy ends.Busy t) else noted_times x.busy ends.Busy t)
+
+abbrev pub counted_end : Option Ended → Tally → Tally
+counted_end None t = with_commit t
+counted_end (Some e) t = noted e t
+
+abbrev pub counted : Try → Tally → Tally
+counted x t = counted_end x.ended (waited x t)
+
+-- the tally behind attempts, of which the latest stands first
+abbrev pub counted_all : List Try → Tally → Tally
+counted_all [] t = t
+counted_all (x ∷ xs) t = counted x (counted_all xs t)
+
+-- a log had its length; another was in the way of an attempt that had begun
+abbrev pub ran_full : Option Ended → Bool
+ran_full None = false
+ran_full (Some ends.Closed) = false
+ran_full (Some ends.Held) = false
+ran_full (Some ends.Fenced) = false
+ran_full (Some (ends.Conflict cause)) = false
+ran_full (Some ends.Full) = true
+ran_full (Some ends.Busy) = false
+ran_full (Some ends.Taken) = false
+ran_full (Some ends.Again) = false
+ran_full (Some ends.ClockFull) = false
+
+abbrev pub was_crossed : Option Ended → ℕ
+was_crossed None = 0
+was_crossed (Some ends.Closed) = 0
+was_crossed (Some ends.Held) = 0
+was_crossed (Some ends.Fenced) = 0
+was_crossed (Some (ends.Conflict cause)) = 1
+was_crossed (Some ends.Full) = 0
+was_crossed (Some ends.Busy) = 1
+was_crossed (Some ends.Taken) = 1
+was_crossed (Some ends.Again) = 1
+was_crossed (Some ends.ClockFull) = 1
+
+abbrev pub any_full : List Try → Bool
+any_full [] = false
+any_full (x ∷ xs) = ran_full x.ended || any_full xs
+
+abbrev pub crossed : List Try → ℕ
+crossed [] = 0
+crossed (x ∷ xs) = was_crossed x.ended + crossed xs
+
+-- after these the next one is to be irrevocable before it does anything: a log had its length, or sixteen that had begun were refused
+abbrev pub is_due : List Try → Bool
+is_due xs = any_full xs || leb 16 (crossed xs)
+
+-- good is what the user keeps true of memory; c is the memory's configuration, and n the caller
+module _ (good : List ℕ → Type 0) (c : Config) (n : ℕ) where
+  -- the answer of the call that ended an attempt so; no attempt ends for it may be tried again
+  abbrev pub IsRefused : Ended → Known → Known → Type 0
+  IsRefused ends.Closed v w = (gate : ℕ) × Begins good c n (begins.Closed gate) v w
+  IsRefused ends.Held v w = (word : ℕ) × Begins good c n (begins.Held word) v w
+  IsRefused ends.Fenced v w = (begun : Known) × (alg : Alg) × Begins good c n (begins.Begun alg) v begun × (begun.fence ≢ 0) × Grows begun w
+  IsRefused (ends.Conflict cause) v w = Irrevs good c n (grants.Conflict cause) v w ⊎ (((a : ℕ) × Stops good c n a (stops.Conflict cause) v w) ⊎ Commits good c n (commits.Conflict cause) v w)
+  IsRefused ends.Full v w = (a : ℕ) × (limit : ℕ) × Stops good c n a (stops.Full limit) v w
+  IsRefused ends.Busy v w = ⊥
+  IsRefused ends.Taken v w = (asked : Known) × (gate : ℕ) × Irrevs good c n (grants.Taken gate) v asked × Grows asked w
+  IsRefused ends.Again v w = ⊥
+  IsRefused ends.ClockFull v w = (clock : ℕ) × (Begins good c n (begins.ClockFull clock) v w ⊎ (Irrevs good c n (grants.ClockFull clock) v w ⊎ (((a : ℕ) × Stops good c n a (stops.ClockFull clock) v w) ⊎ Commits good c n (commits.ClockFull clock) v w)))
+
+  -- the answer of an attempt's last call
+  abbrev pub EndsBy : Option Ended → Known → Known → Type 0
+  EndsBy None v w = (time : ℕ) × (Commits good c n (commits.Committed time) v w ⊎ Commits good c n (commits.ReadOnly time) v w)
+  EndsBy (Some e) v w = IsRefused e v w
+
+  -- so many calls, one behind the other: each asked to be irrevocable and found another in an attempt; each asked to commit and another was faster
+  abbrev pub FindsBusy : ℕ → Known → Known → Type 0
+  FindsBusy zero u w = w ≡ u
+  FindsBusy (suc k) u w = (v : Known) × FindsBusy k u v × (caller : ℕ) × (status : ℕ) × Irrevs good c n (grants.Busy caller status) v w
+
+  abbrev pub FindsAgain : ℕ → Known → Known → Type 0
+  FindsAgain zero u w = w ≡ u
+  FindsAgain (suc k) u w = (v : Known) × FindsAgain k u v × (word : ℕ) × (had : ℕ) × (now : ℕ) × Commits good c n (commits.Again word had now) v w
+
+  -- the attempt from u to w: it began, asked to be irrevocable, went on, asked to commit, and ended by its last call
+  pub record WasTried (x : Try) (u w : Known) : Type 0 where
+    pub begun : Known
+    pub begins : Grows u begun
+    pub asked : Known
+    pub busy : FindsBusy x.busy begun asked
+    pub acted : Known
+    pub acts : Grows asked acted
+    pub before : Known
+    pub again : FindsAgain x.again acted before
+    pub last : EndsBy x.ended before w
+
+  -- attempts from u to w, one behind the other, the latest first: each was to be irrevocable where those before it say so
+  abbrev pub WereTried : List Try → Known → Known → Type 0
+  WereTried [] u w = w ≡ u
+  WereTried (x ∷ xs) u w = (v : Known) × WereTried xs u v × WasTried x v w × (x.sure ≡ is_due xs)
+
+  -- all failed, and none for the clock
+  abbrev pub AllFailed : List Try → Type 0
+  AllFailed [] = Unit {0}
+  AllFailed (x ∷ xs) = ((e : Ended) × (x.ended ≡ Some e) × (e ≢ ends.ClockFull)) × AllFailed xs
+
+  -- the last one ended so, and all before it failed, none for the clock
+  abbrev pub LastEnded : Option Ended → List Try → Type 0
+  LastEnded last [] = ⊥
+  LastEnded last (x ∷ xs) = (x.ended ≡ last) × AllFailed xs
+
+  -- one attempt, and the tally behind its calls
+  pub record Tried (sure : Bool) (ended : Option Ended) (u w : Known) (s t : Tally) : Type 0 where
+    pub busy : ℕ
+    pub again : ℕ
+    pub was : WasTried (record { sure = sure; busy = busy; again = again; ended = ended }) u w
+    pub counted : t ≡ waited (record { sure = sure; busy = busy; again = again; ended = ended }) s
+
+  -- a run of attempts from u to w of which the last ended so, and the tally behind it: each call that was refused is counted once
+  pub record Ran (last : Option Ended) (u w : Known) (s t : Tally) : Type 0 where
+    pub tries : List Try
+    pub were : WereTried tries u w
+    pub ended : LastEnded last tries
+    pub counted : t ≡ counted_all tries s
+
+  -- attempts that failed, with the count of those that another was in the way of
+  pub record Failing (failed : ℕ) (u w : Known) (s t : Tally) : Type 0 where
+    pub tries : List Try
+    pub were : WereTried tries u w
+    pub all : AllFailed tries
+    pub counted : t ≡ counted_all tries s
+    pub due : leb 16 failed ≡ is_due tries
+    pub low : is_due tries ≡ false → failed ≡ crossed tries
+
+  -- an attempt began, and was made irrevocable where it was to be
+  pub record Opens (sure : Bool) (u w : Known) (s t : Tally) : Type 0 where
+    pub busy : ℕ
+    pub begun : Known
+    pub begins : Grows u begun
+    pub asked : Known
+    pub waits : FindsBusy busy begun asked
+    pub goes : Grows asked w
+    pub counted : t ≡ (if sure then with_promotion (noted_times busy ends.Busy s) else noted_times busy ends.Busy s)
+
+  -- it asked to be irrevocable, and the last such call granted that or ended it
+  abbrev pub AsksBy : Option Ended → Known → Known → Type 0
+  AsksBy None v w = Irrevs good c n grants.Granted v w
+  AsksBy (Some e) v w = IsRefused e v w
+
+  pub record Asks (ended : Option Ended) (u w : Known) (s t : Tally) : Type 0 where
+    pub busy : ℕ
+    pub asked : Known
+    pub waits : FindsBusy busy u asked
+    pub last : AsksBy ended asked w
+    pub counted : t ≡ (if has_committed ended then with_promotion (noted_times busy ends.Busy s) else noted_times busy ends.Busy s)
+
+  -- what it did was refused
+  pub record IsStopped (e : Ended) (u w : Known) : Type 0 where
+    pub before : Known
+    pub goes : Grows u before
+    pub last : IsRefused e before w
+
+  -- it asked to commit, and the last such call did or ended it
+  pub record Finishes (ended : Option Ended) (u w : Known) (s t : Tally) : Type 0 where
+    pub again : ℕ
+    pub before : Known
+    pub waits : FindsAgain again u before
+    pub last : EndsBy ended before w
+    pub counted : t ≡ noted_times again ends.Again s

@@ -1,0 +1,203 @@
+-- Laws of what came of attempts.
+use Rattle.std.proofs.Common.{ℕ, zero, suc, ◌≡◌, ◌≢◌, ◌<◌, ◌≤◌, ◌+◌, ◌∙◌, List, [], ◌∷◌, ◌++◌, Bool, true, false, refl, sym, ap, subst, arith, inl, inr, append_assoc}
+use Rattle.std.specs.Prelude.{◌⊎◌, ◌||◌, leb, min, Option, Some, None}
+use Rattle.std.proofs.lemmas.Bool.Decides.{nat_tests}
+use Rattle.std.proofs.lemmas.List.Elements.{Contains-append_left}
+use Rattle.stm_model.specs.declared.config.Config.{Config}
+use Rattle.stm_model.specs.declared.stop.Stop.{Stop}
+use Rattle.stm_model.specs.declared.stop.Stop.TheVariants as stops
+use Rattle.rule_base.specs.declared.layout.At.{At}
+use Rattle.rule_base.specs.declared.layout.At.TheVariants.{Clock}
+use Rattle.rule_base.specs.declared.views.TrailItem.{TrailItem}
+use Rattle.stm_model.specs.declared.alg.Alg.{Alg}
+use Rattle.tx_answers.specs.declared.answers.Begin.{Begin}
+use Rattle.tx_answers.specs.declared.answers.Begin.TheVariants as begins
+use Rattle.tx_answers.specs.declared.answers.Commit.{Commit}
+use Rattle.tx_answers.specs.declared.answers.Commit.TheVariants as commits
+use Rattle.tx_answers.specs.declared.answers.Irrev.{Irrev}
+use Rattle.tx_answers.specs.declared.answers.Irrev.TheVariants as grants
+use Rattle.tx_answers.specs.Answers.{Begins, Commits, Irrevs, Stops}
+use Rattle.tx_answers.specs.Causes.{FindsFull}
+use Rattle.tx_answers.specs.Evidence.{Found}
+use Rattle.tx_answers.specs.Known.{Known, Grows}
+use Rattle.tx_answers.specs.KnownLaws.{carries-refl, grows-trans}
+use Rattle.stm_tx.specs.Descs.{Since}
+use Rattle.tx_atomic.specs.declared.tally.Ended.{Ended}
+use Rattle.tx_atomic.specs.declared.tally.Ended.TheVariants as ends
+use Rattle.tx_atomic.specs.declared.tally.Tally.{Tally}
+use Rattle.tx_atomic.specs.Attempts.{ended_by}
+use Rattle.tx_atomic.specs.AttemptLaws.{irrevs-grow, commits-grow}
+use Rattle.tx_atomic.specs.Tallies.{failed_next, noted, noted_times}
+use Rattle.tx_atomic.specs.Tries.{Try, IsRefused, EndsBy, FindsBusy, FindsAgain, WasTried, WereTried, AllFailed, Tried, Ran, Failing, Opens, Asks, IsStopped, Finishes, counted_all, counted, counted_end, waited, ran_full, was_crossed, any_full, crossed, is_due}
+
+pub grows-refl : (v : Known) → Grows v v
+grows-refl v = (carries-refl v).grows
+
+pub found-earlier : (p : At) (x : ℕ) (u v w : Known) → Grows u v → Found p x v w → Found p x u w
+found-earlier p x u v w g f = (f.0 ++ g.more, f.1 ∙ (ap (λ t. f.0 ++ t) g.trail ∙ sym (append_assoc f.0 g.more u.trail)), f.2, Contains-append_left f.0 g.more _ f.3)
+
+pub full-earlier : (clock : ℕ) (u v w : Known) → Grows u v → FindsFull clock v w → FindsFull clock u w
+full-earlier clock u v w g f = record { limit = f.limit; found = found-earlier Clock clock u v w g f.found; top = f.top }
+
+-- the count of those that another was in the way of says when the next one is due
+due-full : (s : ℕ) (any : Bool) (k : ℕ) → leb 16 s ≡ (any || leb 16 k) → ((any || leb 16 k) ≡ false → s ≡ k) → (leb 16 (min (s + 1) 4294967295) ≡ (any || leb 16 (1 + k))) × ((any || leb 16 (1 + k)) ≡ false → min (s + 1) 4294967295 ≡ 1 + k)
+due-full s true k due low = (grind (arith, nat_tests, due), λ less. absurd cc)
+due-full s false k due low = by (leb 16 k) refl
+  where
+    by : (b : Bool) → leb 16 k ≡ b → (leb 16 (min (s + 1) 4294967295) ≡ leb 16 (1 + k)) × (leb 16 (1 + k) ≡ false → min (s + 1) 4294967295 ≡ 1 + k)
+    by true is = (grind (arith, nat_tests, due, is), λ less. absurd (grind (arith, nat_tests, less, is)))
+    by false is = let e : s ≡ k = low is in let lt : k < 16 = grind (arith, nat_tests, is) in
+        (rw e (let m : min (k + 1) 4294967295 ≡ 1 + k = omega arith in rw m refl), λ less. omega arith)
+
+module _ (good : List ℕ → Type 0) (c : Config) (n : ℕ) where
+  -- the calls that left an attempt going
+  pub busy-grows : (k : ℕ) (u v : Known) → FindsBusy good c n k u v → Grows u v
+  busy-grows zero u v h = subst (λ (w : Known). Grows u w) (sym h) (grows-refl u)
+  busy-grows (suc k) u v h = irrevs-grow good c n (grants.Busy h.2 h.3) u h.0 v (busy-grows k u h.0 h.1) h.4
+
+  pub again-grows : (k : ℕ) (u v : Known) → FindsAgain good c n k u v → Grows u v
+  again-grows zero u v h = subst (λ (w : Known). Grows u w) (sym h) (grows-refl u)
+  again-grows (suc k) u v h = commits-grow good c n (commits.Again h.2 h.3 h.4) u h.0 v (again-grows k u h.0 h.1) h.5
+
+  -- an access that was stopped, as the end of its attempt
+  pub stop-refused : (a : ℕ) (stop : Stop) (v w : Known) → Stops good c n a stop v w → IsRefused good c n (ended_by stop) v w
+  stop-refused a (stops.Conflict cause) v w h = inr (inl (a, h))
+  stop-refused a (stops.Full limit) v w h = (a, limit, h)
+  stop-refused a (stops.ClockFull clock) v w h = (clock, inr (inr (inl (a, h))))
+
+  pub stopped : (stop : Stop) (o : Option Stop) (v w : Known) → o ≡ Some stop → Since good c n None v o w → IsStopped good c n (ended_by stop) v w
+  stopped stop o v w is since =
+      let at = (subst (λ (p : Option Stop). Since good c n None v p w) is since).1 in
+      record { before = at.before; goes = at.carries.grows; last = stop-refused at.address stop at.before w at.stops }
+
+  -- a clock that ended an attempt was found in it
+  refused-full : (v w : Known) → IsRefused good c n ends.ClockFull v w → (clock : ℕ) × FindsFull clock v w
+  refused-full v w h = (h.0, by h.1) where
+    by : Begins good c n (begins.ClockFull h.0) v w ⊎ (Irrevs good c n (grants.ClockFull h.0) v w ⊎ (((a : ℕ) × Stops good c n a (stops.ClockFull h.0) v w) ⊎ Commits good c n (commits.ClockFull h.0) v w)) → FindsFull h.0 v w
+    by (inl b) = b.3
+    by (inr (inl b)) = b.2
+    by (inr (inr (inl b))) = b.1.2
+    by (inr (inr (inr b))) = b.3
+
+  before-grows : (x : Try) (u w : Known) (t : WasTried good c n x u w) → Grows u t.before
+  before-grows x u w t =
+      let asked = grows-trans u t.begun t.asked t.begins (busy-grows x.busy t.begun t.asked t.busy) in
+      let acted = grows-trans u t.asked t.acted asked t.acts in
+      grows-trans u t.acted t.before acted (again-grows x.again t.acted t.before t.again)
+
+  pub tried-full : (sure : Bool) (s t : Tally) (u w : Known) → Tried good c n sure (Some ends.ClockFull) u w s t → (clock : ℕ) × FindsFull clock u w
+  tried-full sure s t u w h =
+      let f = refused-full h.was.before w h.was.last in
+      (f.0, full-earlier f.0 u h.was.before w (before-grows _ u w h.was) f.1)
+
+  -- none was tried yet
+  pub failing-none : (v : Known) (s : Tally) → Failing good c n 0 v v s s
+  failing-none v s = record { tries = []; were = refl; all = tt; counted = refl; due = refl; low = λ less. refl }
+
+  -- one more, which failed
+  pub failing-more : (failed : ℕ) (sure : Bool) (e : Ended) (u v w : Known) (r s t : Tally) → e ≢ ends.ClockFull → sure ≡ leb 16 failed → Failing good c n failed u v r s → Tried good c n sure (Some e) v w s t → Failing good c n (failed_next failed e) u w r (noted e t)
+  failing-more failed sure e u v w r s t apart is h x = record {
+    tries = this ∷ h.tries;
+    were = (v, h.were, x.was, is ∙ h.due);
+    all = ((e, refl, apart), h.all);
+    counted = ap (noted e) (x.counted ∙ ap (λ (q : Tally). waited this q) h.counted);
+    due = (next e).0;
+    low = (next e).1;
+  }
+    where
+      this : Try
+      this = record { sure = sure; busy = x.busy; again = x.again; ended = Some e }
+
+      same : (leb 16 failed ≡ (any_full h.tries || leb 16 (0 + crossed h.tries))) × ((any_full h.tries || leb 16 (0 + crossed h.tries)) ≡ false → failed ≡ 0 + crossed h.tries)
+      same = let z : 0 + crossed h.tries ≡ crossed h.tries = omega arith in rw z (h.due, h.low)
+
+      next : (d : Ended) → (leb 16 (failed_next failed d) ≡ ((ran_full (Some d) || any_full h.tries) || leb 16 (was_crossed (Some d) + crossed h.tries))) × (((ran_full (Some d) || any_full h.tries) || leb 16 (was_crossed (Some d) + crossed h.tries)) ≡ false → failed_next failed d ≡ was_crossed (Some d) + crossed h.tries)
+      next ends.Closed = same
+      next ends.Held = same
+      next ends.Fenced = same
+      next (ends.Conflict cause) = due-full failed (any_full h.tries) (crossed h.tries) h.due h.low
+      next ends.Full = (refl, λ less. absurd cc)
+      next ends.Busy = due-full failed (any_full h.tries) (crossed h.tries) h.due h.low
+      next ends.Taken = due-full failed (any_full h.tries) (crossed h.tries) h.due h.low
+      next ends.Again = due-full failed (any_full h.tries) (crossed h.tries) h.due h.low
+      next ends.ClockFull = due-full failed (any_full h.tries) (crossed h.tries) h.due h.low
+
+  -- the last one
+  pub ran : (failed : ℕ) (sure : Bool) (o : Option Ended) (u v w : Known) (r s t : Tally) → sure ≡ leb 16 failed → Failing good c n failed u v r s → Tried good c n sure o v w s t → Ran good c n o u w r (counted_end o t)
+  ran failed sure o u v w r s t is h x = record {
+    tries = this ∷ h.tries;
+    were = (v, h.were, x.was, is ∙ h.due);
+    ended = (refl, h.all);
+    counted = ap (counted_end o) (x.counted ∙ ap (λ (q : Tally). waited this q) h.counted);
+  }
+    where
+      this : Try
+      this = record { sure = sure; busy = x.busy; again = x.again; ended = o }
+
+  -- an attempt from its parts: it didn't begin
+  pub tried-unbegun : (sure : Bool) (e : Ended) (u w : Known) (t : Tally) → IsRefused good c n e u w → Tried good c n sure (Some e) u w t t
+  tried-unbegun true e u w t h = record { busy = 0; again = 0; was = record { begun = u; begins = grows-refl u; asked = u; busy = refl; acted = u; acts = grows-refl u; before = u; again = refl; last = h }; counted = refl }
+  tried-unbegun false e u w t h = record { busy = 0; again = 0; was = record { begun = u; begins = grows-refl u; asked = u; busy = refl; acted = u; acts = grows-refl u; before = u; again = refl; last = h }; counted = refl }
+
+  -- it was not made irrevocable
+  pub tried-asked : (sure : Bool) (e : Ended) (u v w : Known) (s t : Tally) → Grows u v → Asks good c n (Some e) v w s t → Tried good c n sure (Some e) u w s t
+  tried-asked true e u v w s t g a = record { busy = a.busy; again = 0; was = record { begun = v; begins = g; asked = a.asked; busy = a.waits; acted = a.asked; acts = grows-refl a.asked; before = a.asked; again = refl; last = a.last }; counted = a.counted }
+  tried-asked false e u v w s t g a = record { busy = a.busy; again = 0; was = record { begun = v; begins = g; asked = a.asked; busy = a.waits; acted = a.asked; acts = grows-refl a.asked; before = a.asked; again = refl; last = a.last }; counted = a.counted }
+
+  -- it was
+  pub opens-asked : (sure : Bool) (u v w : Known) (s t : Tally) → sure ≡ true → Grows u v → Asks good c n None v w s t → Opens good c n sure u w s t
+  opens-asked true u v w s t is g a = record { busy = a.busy; begun = v; begins = g; asked = a.asked; waits = a.waits; goes = a.last.continues.grows; counted = a.counted }
+  opens-asked false u v w s t is g a = absurd cc
+
+  -- it was not to be
+  pub opens-plain : (sure : Bool) (u w : Known) (t : Tally) → sure ≡ false → Grows u w → Opens good c n sure u w t t
+  opens-plain true u w t is g = absurd cc
+  opens-plain false u w t is g = record { busy = 0; begun = w; begins = g; asked = w; waits = refl; goes = grows-refl w; counted = refl }
+
+  -- what it did was refused
+  pub tried-stopped : (sure : Bool) (e : Ended) (u v w : Known) (s t : Tally) → (sure ≡ true → ⊥) → Opens good c n sure u v s t → IsStopped good c n e v w → Tried good c n sure (Some e) u w s t
+  tried-stopped true e u v w s t never o x = absurd (never refl)
+  tried-stopped false e u v w s t never o x = record { busy = o.busy; again = 0; was = record { begun = o.begun; begins = o.begins; asked = o.asked; busy = o.waits; acted = x.before; acts = grows-trans o.asked v x.before o.goes x.goes; before = x.before; again = refl; last = x.last }; counted = o.counted }
+
+  -- its commit was
+  pub tried-uncommitted : (sure : Bool) (e : Ended) (u v x w : Known) (r s t : Tally) → (sure ≡ true → ⊥) → Opens good c n sure u v r s → Grows v x → Finishes good c n (Some e) x w s t → Tried good c n sure (Some e) u w r t
+  tried-uncommitted true e u v x w r s t never o g f = absurd (never refl)
+  tried-uncommitted false e u v x w r s t never o g f = record { busy = o.busy; again = f.again; was = record { begun = o.begun; begins = o.begins; asked = o.asked; busy = o.waits; acted = x; acts = grows-trans o.asked v x o.goes g; before = f.before; again = f.waits; last = f.last }; counted = f.counted ∙ ap (noted_times f.again ends.Again) o.counted }
+
+  -- it committed
+  pub tried-done : (sure : Bool) (u v x w : Known) (r s t : Tally) → Opens good c n sure u v r s → Grows v x → Finishes good c n None x w s t → Tried good c n sure None u w r t
+  tried-done true u v x w r s t o g f = record { busy = o.busy; again = f.again; was = record { begun = o.begun; begins = o.begins; asked = o.asked; busy = o.waits; acted = x; acts = grows-trans o.asked v x o.goes g; before = f.before; again = f.waits; last = f.last }; counted = f.counted ∙ ap (noted_times f.again ends.Again) o.counted }
+  tried-done false u v x w r s t o g f = record { busy = o.busy; again = f.again; was = record { begun = o.begun; begins = o.begins; asked = o.asked; busy = o.waits; acted = x; acts = grows-trans o.asked v x o.goes g; before = f.before; again = f.waits; last = f.last }; counted = f.counted ∙ ap (noted_times f.again ends.Again) o.counted }
+
+  -- one call more that left it going, made by the same caller
+  pub busy-more : (k m : ℕ) (r : Irrev) (caller status : ℕ) (u v w : Known) → m ≡ n → FindsBusy good c n k u v → r ≡ grants.Busy caller status → Irrevs good c m r v w → FindsBusy good c n (suc k) u w
+  busy-more k m r caller status u v w same h is x = (v, h, caller, status, subst (λ i. Irrevs good c i (grants.Busy caller status) v w) same (subst (λ a. Irrevs good c m a v w) is x))
+
+  pub again-more : (k m : ℕ) (r : Commit) (word had now : ℕ) (u v w : Known) → m ≡ n → FindsAgain good c n k u v → r ≡ commits.Again word had now → Commits good c m r v w → FindsAgain good c n (suc k) u w
+  again-more k m r word had now u v w same h is x = (v, h, word, had, now, subst (λ i. Commits good c i (commits.Again word had now) v w) same (subst (λ a. Commits good c m a v w) is x))
+
+  -- the answers that end an attempt
+  pub begin-closed : (r : Begin) (gate : ℕ) (v w : Known) → r ≡ begins.Closed gate → Begins good c n r v w → IsRefused good c n ends.Closed v w
+  begin-closed r gate v w is h = (gate, subst (λ a. Begins good c n a v w) is h)
+
+  pub begin-held : (r : Begin) (word : ℕ) (v w : Known) → r ≡ begins.Held word → Begins good c n r v w → IsRefused good c n ends.Held v w
+  begin-held r word v w is h = (word, subst (λ a. Begins good c n a v w) is h)
+
+  pub begin-full : (r : Begin) (clock : ℕ) (v w : Known) → r ≡ begins.ClockFull clock → Begins good c n r v w → IsRefused good c n ends.ClockFull v w
+  begin-full r clock v w is h = (clock, inl (subst (λ a. Begins good c n a v w) is h))
+
+  pub begin-fenced : (r : Begin) (alg : Alg) (v x w : Known) → r ≡ begins.Begun alg → Begins good c n r v x → x.fence ≢ 0 → Grows x w → IsRefused good c n ends.Fenced v w
+  begin-fenced r alg v x w is h some grows = (x, alg, subst (λ a. Begins good c n a v x) is h, some, grows)
+
+  pub grant-taken : (r : Irrev) (gate : ℕ) (v x w : Known) → r ≡ grants.Taken gate → Irrevs good c n r v x → Grows x w → IsRefused good c n ends.Taken v w
+  grant-taken r gate v x w is h grows = (x, gate, subst (λ a. Irrevs good c n a v x) is h, grows)
+
+  pub grant-full : (r : Irrev) (clock : ℕ) (v w : Known) → r ≡ grants.ClockFull clock → Irrevs good c n r v w → IsRefused good c n ends.ClockFull v w
+  grant-full r clock v w is h = (clock, inr (inl (subst (λ a. Irrevs good c n a v w) is h)))
+
+  pub commit-full : (r : Commit) (clock : ℕ) (v w : Known) → r ≡ commits.ClockFull clock → Commits good c n r v w → IsRefused good c n ends.ClockFull v w
+  commit-full r clock v w is h = (clock, inr (inr (inr (subst (λ a. Commits good c n a v w) is h))))
+
+  pub commit-done : (r : Commit) (v w : Known) → ((t : ℕ) × (r ≡ commits.Committed t)) ⊎ ((t : ℕ) × (r ≡ commits.ReadOnly t)) → Commits good c n r v w → EndsBy good c n None v w
+  commit-done r v w (inl p) h = (p.0, inl (subst (λ a. Commits good c n a v w) p.1 h))
+  commit-done r v w (inr p) h = (p.0, inr (subst (λ a. Commits good c n a v w) p.1 h))
