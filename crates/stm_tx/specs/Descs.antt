@@ -19,7 +19,7 @@ use Rattle.stm_model.specs.declared.config.Config.{Config}
 use Rattle.stm_model.specs.declared.stop.Stop.{Stop}
 use Rattle.stm_rule.specs.Callers.{Handle, IsSameCaller}
 use Rattle.tx_answers.specs.Answers.{Stops}
-use Rattle.tx_answers.specs.Known.{Known, IsIdle, known_of, caller_of, written_under}
+use Rattle.tx_answers.specs.Known.{Known, known_of, caller_of, written_under}
 use Rattle.tx_answers.specs.KnownLaws.{Carries, carries-refl, carries-trans}
 
 -- the answers of a read and of a write as an access gives them
@@ -41,18 +41,9 @@ module _ {K : Type 0} where
   abbrev pub number : Handle K → ℕ
   number d = caller_of d.who.role
 
--- each log is as long as it was, or as was asked, if that is more; all else that an idle descriptor knows stays
-pub record Reserves (reads writes : ℕ) (v w : Known) : Type 0 where
-  pub reads_limit : w.reads_limit ≡ max v.reads_limit reads
-  pub writes_limit : w.writes_limit ≡ max v.writes_limit writes
-  pub idle : IsIdle w
-  pub made : w.made ≡ v.made
-  pub seen : w.seen ≡ v.seen
-  pub front : w.front ≡ v.front
-  pub rises : w.rises ≡ v.rises
-  pub top : w.top ≡ v.top
-  pub trail : w.trail ≡ v.trail
-  pub installs : w.installs ≡ v.installs
+-- each log is as long as it was, or as was asked, if that is more
+abbrev pub Reserves : ℕ → ℕ → Known → Known → Type 0
+Reserves reads writes v w = (w.reads_limit ≡ max v.reads_limit reads) × (w.writes_limit ≡ max v.writes_limit writes)
 
 module _ (good : List ℕ → Type 0) (c : Config) (n : ℕ) where
   -- an attempt was stopped so: what was known right before the refused call, and the address that it asked for
