@@ -3,3 +3,4 @@ pub mod Messages
 pub mod Outcomes
 pub mod Statuses
 pub mod Checks
+pub mod Confirming

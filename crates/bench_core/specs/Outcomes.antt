@@ -10,7 +10,7 @@ use Rattle.stm_script.specs.declared.workload.Workload.{Workload}
 use Rattle.stm_text.specs.declared.parse.Mode.{Mode}
 use Rattle.stm_text.specs.declared.parse.Mode.TheVariants.{Run, Step as Stepwise}
 use Rattle.stm_text.specs.Grammar.{workload_of}
-use Rattle.stm_text.specs.Reports.{report_bytes}
+use Rattle.stm_text.specs.Reports.{ReportFits, report_bytes}
 use Rattle.bench_core.specs.declared.status.Status.{Status}
 use Rattle.bench_core.specs.declared.status.Status.TheVariants.{Ok as Done, Usage, Refused, ReadFault, WriteFault, Memory, ClockFull, No}
 use Rattle.bench_core.specs.Checks.{SaidOfCheck}
@@ -24,9 +24,10 @@ use Rattle.stm_words.specs.declared.command.Command.{Command}
 use Rattle.stm_words.specs.declared.command.Command.TheVariants as commands
 use Rattle.stm_words.specs.Asking.{Asks, texts_of}
 
--- the run went to its end, and what is said is a report that replays the workload and shows the closed memory's history
+-- the run went to its end, and what is said is a report that replays the workload and shows the closed memory's history; its numbers are words of the machine
 pub record RanToEnd (policy : Policy) (w : Workload) (closed : Ended) (said : List ℕ) : Type 0 where
   pub report : Report
+  pub fits : ReportFits report
   pub shown : IsShown policy w report closed
   pub is : said ≡ report_bytes report
 

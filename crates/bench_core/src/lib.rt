@@ -5,6 +5,7 @@
 pub mod bench;
 mod checks;
 mod commands;
+pub mod laws;
 mod messages;
 mod parts;
 pub mod program;

@@ -42,15 +42,19 @@ const RUN: &[&str] = &["stm_bench", "run"];
 
 const STEP: &[&str] = &["stm_bench", "step"];
 
+const CHECK: &[&str] = &["stm_bench", "check"];
+
 const GEN: &[&str] = &["stm_bench", "gen", "8", "2", "1"];
 
 const NONE: &[&str] = &["stm_bench"];
 
-/// A command, the header's changes and body of the text that it reads, its status, and the lines that it writes.
-const TALKS: [(&[&str], &str, &str, Status, &str); 6] = [
+/// A command, the header's changes and body of the text that it reads, its status, and the lines that it writes. Under
+/// `check` the report stands behind the body.
+const TALKS: [(&[&str], &str, &str, Status, &str); 7] = [
     (RUN, "", ADDS, Status::Ok, ADDS_REPORT),
     (STEP, "alg TML / callers 2", HELD, Status::Ok, HELD_TRACE),
     (GEN, "", "", Status::Ok, SUMMARY),
+    (CHECK, "", ADDS, Status::Ok, "yes"),
     (
         STEP,
         "clock 4611686018427387903",
@@ -68,9 +72,9 @@ const TALKS: [(&[&str], &str, &str, Status, &str); 6] = [
     (NONE, "", ADDS, Status::Usage, USAGE),
 ];
 
-/// Whether a call with this status leaves a closed memory.
-fn closes(status: Status) -> bool {
-    matches!(status, Status::Ok | Status::ClockFull { .. })
+/// Whether a call with these words and this status leaves a closed memory.
+fn closes(words: &[&str], status: Status) -> bool {
+    words != CHECK && matches!(status, Status::Ok | Status::ClockFull { .. })
 }
 
 /// Tries the talk with the reader's call of this number failing.
@@ -82,7 +86,7 @@ fn try_taking(
 ) -> Result<(), Fail> {
     let bytes = talk.text.as_bytes().to_vec(alloc)?;
     let takes = bytes.len().saturating_add(1);
-    let reads = talk.words == RUN || talk.words == STEP;
+    let reads = talk.words == RUN || talk.words == STEP || talk.words == CHECK;
     let reader = Dribble {
         bytes,
         calls: 0,
@@ -98,7 +102,7 @@ fn try_taking(
     };
     assert_eq!(rt; status, wanted, "take {failing}");
     assert_eq!(rt; sink.held(), said.as_bytes(), "take {failing}");
-    assert_eq!(rt; closed, closes(wanted), "take {failing}");
+    assert_eq!(rt; closed, closes(talk.words, wanted), "take {failing}");
     assert_eq!(rt; source.into_inner().calls, calls, "take {failing}");
     Ok(())
 }
@@ -130,14 +134,14 @@ fn try_putting(
         });
         let (status, closed) = status_over(rt, alloc, talk.words, &mut source, &mut sink);
         assert_eq!(rt; status, wanted, "put {failing}");
-        assert_eq!(rt; closed, closes(wanted), "put {failing}");
+        assert_eq!(rt; closed, closes(talk.words, wanted), "put {failing}");
         assert_eq!(rt; sink.into_inner().held.as_slice(), said, "put {failing}");
     }
     let mut source = MemSource::new(text.to_vec(alloc)?, Vec::new(alloc));
     let mut sink = MemSink::new(alloc, failing, Vec::new(alloc))?;
     let (status, closed) = status_over(rt, alloc, talk.words, &mut source, &mut sink);
     assert_eq!(rt; status, wanted, "room {failing}");
-    assert_eq!(rt; closed, closes(wanted), "room {failing}");
+    assert_eq!(rt; closed, closes(talk.words, wanted), "room {failing}");
     assert_eq!(rt; sink.held(), said, "room {failing}");
     Ok(())
 }
@@ -146,7 +150,10 @@ fn try_putting(
 fn each_take_and_each_put_fails_in_turn(rt: HostRuntime) -> Result<(), Fail> {
     let alloc = rt.alloc();
     for (words, changes, body, status, said) in TALKS {
-        let text = workload(alloc, changes, body)?;
+        let mut text = workload(alloc, changes, body)?;
+        if words == CHECK {
+            text.push_str(lines(alloc, ADDS_REPORT)?.as_str())?;
+        }
         let said = lines(alloc, said)?.replace(alloc, " - ", " / ")?;
         let talk = Talk {
             words,
@@ -183,7 +190,7 @@ fn whole_calls_fail(rt: HostRuntime) -> Result<(), Fail> {
         let mut sink = MemSink::new(alloc, 4096, puts.to_vec(alloc)?)?;
         let (status, closed) = status_over(&rt, alloc, RUN, &mut source, &mut sink);
         assert_eq!(rt; status, wanted);
-        assert_eq!(rt; closed, closes(wanted));
+        assert_eq!(rt; closed, closes(RUN, wanted));
         if said.is_empty() {
             assert_eq!(rt; sink.held(), b"".as_slice());
         } else {

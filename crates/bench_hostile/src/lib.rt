@@ -18,3 +18,9 @@ mod ends;
 mod overrun_tests;
 #[cfg(test)]
 mod plain_grammar;
+#[cfg(test)]
+mod plain_replay;
+#[cfg(test)]
+mod random_tests;
+#[cfg(test)]
+mod report_tests;

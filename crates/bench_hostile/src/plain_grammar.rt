@@ -21,8 +21,8 @@ const NUMBERS: [(&str, u64, u64); 7] = [
 const ALGORITHMS: [&str; 6] = ["CGL", "TML", "OrecLazy", "OrecEager", "RingSW", "Serial"];
 
 /// Among which lines a line stands.
-#[derive(Clone, Copy, Drop, PartialEq, Eq)]
-enum Place {
+#[derive(Clone, Copy, Drop, Debug, PartialEq, Eq)]
+pub(crate) enum Place {
     Header,
     Items,
     Script,
@@ -33,7 +33,7 @@ enum Place {
 
 /// The lines behind the header: where each may stand, its first word, whether it needs structures, and a letter for
 /// each word that follows: a caller, an address, a number, a stripe, a key, turns, or (`A`) an algorithm.
-const FORMS: &[(Place, &str, bool, &str)] = &[
+pub(crate) const FORMS: &[(Place, &str, bool, &str)] = &[
     (Place::Items, "tx", false, "c"),
     (Place::Items, "switch", false, "cA"),
     (Place::Items, "schedule", false, ""),
@@ -126,12 +126,12 @@ pub(crate) fn first_fault(
     Ok(Some((reader.line, code)))
 }
 
-fn has_bad_byte(line: &[u8]) -> bool {
+pub(crate) fn has_bad_byte(line: &[u8]) -> bool {
     line.iter().any(|byte| *byte < 32 || *byte > 126)
 }
 
 /// A number of the form.
-fn number(word: &str) -> Option<u64> {
+pub(crate) fn number(word: &str) -> Option<u64> {
     let is_led = word.len() > 1 && word.starts_with('0');
     let has_digits = word.bytes().all(|byte| byte.is_ascii_digit());
     if is_led || !has_digits {

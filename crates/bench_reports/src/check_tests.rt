@@ -1,8 +1,12 @@
 //! `check` over a workload and a report.
-use bench_cases::cases::{check, lines, outcome, workload};
+use crate::{report_tests, structure_tests};
+use bench_cases::cases::{check, header, lines, outcome, workload};
 use bench_core::status::Status;
 use std::alloc::Global;
+use std::process::Abort;
+use std::sync::Wait;
 use std::test::Fail;
+use std::thread::Threads;
 
 /// Two transactions that add and one that reads: a workload of 20 lines.
 const THREE: &str = "tx 0 {add 3 1} / tx 0 {add 3 1} / tx 0 {read 3}";
@@ -65,22 +69,66 @@ fn judges_reports(rt: HostRuntime) -> Result<(), Fail> {
     Ok(())
 }
 
-/// What `run` writes is found to replay its workload, under each algorithm.
+/// A workload of 32 callers, each with three transactions and a switch.
+fn crowd(alloc: Global, alg: &str) -> Result<String, Fail> {
+    let changes = format!(in alloc; "words 1024 / callers 32 / alg {alg} / structs on")?;
+    let mut text = header(alloc, changes.as_str())?;
+    for caller in 0..32 {
+        let items = format!(in alloc;
+            "tx {caller} {{ladd {caller}; count 1 6; add 0 1; irrev; emit 0}} / tx {caller} {{hadd {caller}; write 0 5; cancel}} / switch {caller} {alg} / tx {caller} {{llen; total; tadd {caller}; read 0}}"
+        )?;
+        text.push_str(lines(alloc, items.as_str())?.as_str())?;
+    }
+    text.push_str("done\n")?;
+    Ok(text)
+}
+
+/// Whether `run` writes a report of this workload, which `check` confirms then. Its clock may be too near to its limit.
+fn is_confirmed(
+    rt: &(impl Threads + Wait + Abort + Sync),
+    alloc: Global,
+    mut text: String,
+) -> Result<bool, Fail> {
+    let words = ["stm_bench", "run"];
+    let (ended, report) = outcome(rt, alloc, &words, text.as_str(), &[], 16384)?;
+    if let Status::ClockFull { .. } = ended {
+        return Ok(false);
+    }
+    assert_eq!(rt; ended, Status::Ok, "{text}");
+    text.push_str(report.as_str())?;
+    let words = ["stm_bench", "check"];
+    let (ended, held) = outcome(rt, alloc, &words, text.as_str(), &[], 64)?;
+    assert_eq!(rt; held.as_str(), "yes\n", "{text}");
+    assert_eq!(rt; ended, Status::Ok, "{text}");
+    Ok(true)
+}
+
+const NAMES: [&str; 6] = ["CGL", "Serial", "TML", "OrecLazy", "OrecEager", "RingSW"];
+
 #[test]
-fn confirms_what_run_writes(rt: HostRuntime) -> Result<(), Fail> {
-    let body =
-        "tx 31 {write 0 5; cancel} / tx 0 {add 0 1; irrev; emit 0} / switch 3 Serial / tx 31 {ladd 7; llen; tadd 9} / tx 3 {count 2 6; total; hadd 1} / tx 7 / end";
-    for alg in ["CGL", "Serial", "TML", "OrecLazy", "OrecEager", "RingSW"] {
-        let changes = format!(in rt.alloc(); "words 1024 / callers 32 / alg {alg} / structs on")?;
-        let mut text = workload(rt.alloc(), changes.as_str(), body)?;
-        let words = ["stm_bench", "run"];
-        let (ended, report) = outcome(&rt, rt.alloc(), &words, text.as_str(), &[], 4096)?;
-        assert_eq!(rt; ended, Status::Ok, "{alg}");
-        text.push_str(report.as_str())?;
-        let words = ["stm_bench", "check"];
-        let (ended, held) = outcome(&rt, rt.alloc(), &words, text.as_str(), &[], 64)?;
-        assert_eq!(rt; held.as_str(), "yes\n", "{alg}: {text}");
-        assert_eq!(rt; ended, Status::Ok, "{alg}");
+fn confirms_what_many_callers_did(rt: HostRuntime) -> Result<(), Fail> {
+    for alg in NAMES {
+        assert!(rt;
+            is_confirmed(&rt, rt.alloc(), crowd(rt.alloc(), alg)?)?,
+            "{alg}"
+        );
+    }
+    Ok(())
+}
+
+/// The workload of each stored report, under each algorithm.
+#[test]
+fn confirms_each_stored_report(rt: HostRuntime) -> Result<(), Fail> {
+    for table in [report_tests::REPORTS, structure_tests::REPORTS] {
+        for (changes, body, _) in table {
+            for alg in NAMES {
+                let begin = format!(in rt.alloc(); "alg {alg} / {changes}")?;
+                let text = workload(rt.alloc(), begin.as_str(), body)?;
+                let is_told = is_confirmed(&rt, rt.alloc(), text)?;
+                // only a clock that begins near its limit comes to it
+                assert!(rt; is_told || changes.contains("clock "), "{begin}");
+            }
+        }
     }
     Ok(())
 }

@@ -4,7 +4,7 @@ use bench_core::status::Status;
 use std::test::Fail;
 
 /// What was run, and its report.
-const REPORTS: &[Case] = &[
+pub(crate) const REPORTS: &[Case] = &[
     // CGL
     (
         "alg CGL",

@@ -6,7 +6,7 @@ use std::alloc::Global;
 use std::test::Fail;
 
 /// What was run, and its report.
-const REPORTS: &[Case] = &[
+pub(crate) const REPORTS: &[Case] = &[
     (
         "words 1024 / alg OrecLazy / structs on",
         "tx 0 {ladd 5; ladd 5; lhas 5; llen}",

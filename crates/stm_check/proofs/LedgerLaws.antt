@@ -23,9 +23,6 @@ one-most : (o : Option ℕ) → one_where o ≤ 1
 one-most None = omega arith
 one-most (Some v) = omega arith
 
-owns : PlainWord → ℕ
-owns w = one_where w.own
-
 pub owned-most : (ws : List PlainWord) → owned ws ≤ length ws
 owned-most [] = omega arith
 owned-most (w ∷ ws) = let h = owned-most ws in let k = one-most w.own in let s = sum_by-cons (λ (x : PlainWord). one_where x.own) w ws in omega arith

@@ -11,3 +11,4 @@ pub mod WrittenLaws
 pub mod ConfirmedLaws
 pub mod CheckLaws
 pub mod FindingLaws
+pub mod BehindLaws

@@ -63,19 +63,3 @@ pub well-left : (regions : List Region) (kind : Kind) (old now : List PlainWord)
 well-left regions W old now same well under = let x = plain-explained now in subst (λ k. AllWellFormed regions (overlay k (own_writes now))) x.1 (under x.0 x.1 x.2 x.3)
 well-left regions R old now same well under = let x = plain-explained now in subst (λ k. AllWellFormed regions (overlay k (own_writes now))) x.1 (under x.0 x.1 x.2 x.3)
 well-left regions C old now same well under = subst (AllWellFormed regions) same well
-
--- what a row's kind asks for, in two parts
-pub kind-fits : (kind : Kind) (script : List Op) (wrote : Bool) → CanEnd kind script → WroteAs kind wrote → KindFits kind script wrote
-kind-fits W script wrote can as' = as'
-kind-fits R script wrote can as' = as'
-kind-fits C script wrote can as' = can
-
-pub kind-can : (kind : Kind) (script : List Op) (wrote : Bool) → KindFits kind script wrote → CanEnd kind script
-kind-can W script wrote h = tt
-kind-can R script wrote h = tt
-kind-can C script wrote h = h
-
-pub kind-wrote : (kind : Kind) (script : List Op) (wrote : Bool) → KindFits kind script wrote → WroteAs kind wrote
-kind-wrote W script wrote h = h
-kind-wrote R script wrote h = h
-kind-wrote C script wrote h = tt

@@ -46,16 +46,6 @@ scripts-fit regions header n (Tx caller script ∷ items) h =
 scripts-fit regions header n (Switch caller alg ∷ items) h =
     scripts-fit regions header n items (All-tail (ItemFits regions header) (Switch caller alg) items h)
 
-shorter-by : (b : Bool) (script : List Op) (rest : List (List Op)) (n : ℕ) → length rest ≤ n → length (if b then script ∷ rest else rest) ≤ suc n
-shorter-by true script rest n h = omega arith
-shorter-by false script rest n h = omega arith
-
--- a caller has no more transactions than there are items
-pub scripts-length : (n : ℕ) (items : List Item) → length (scripts_of n items) ≤ length items
-scripts-length n [] = omega arith
-scripts-length n (Tx caller script ∷ items) = shorter-by (caller == n) script (scripts_of n items) (length items) (scripts-length n items)
-scripts-length n (Switch caller alg ∷ items) = let h = scripts-length n items in omega arith
-
 -- what stands first behind so many
 first-of : {A : Type 0} (xs : List A) (k : ℕ) (x : A) (rest : List A) (d : A) → drop k xs ≡ x ∷ rest → (k < length xs) × (slice_index_or xs k d ≡ x) × (rest ≡ drop (suc k) xs)
 first-of [] zero x rest d h = absurd cc
@@ -176,12 +166,6 @@ none-left w above n c at none =
     let h = none-of (scripts_of n w.items) c.seq (sym at.left ∙ none) in
     let p = at.past in let r = at.rows in omega arith
 
--- one is left
-pub one-left : (w : Workload) (above : List Row) (n : ℕ) (c : Cursor) (script : List Op) (rest : List (List Op)) → IsAt w.items above n c → scripts_of n (drop c.item w.items) ≡ script ∷ rest → AllHaveRows w above → ⊥
-one-left w above n c script rest at some all =
-    let f = first-of (scripts_of n w.items) c.seq script rest [] (sym at.left ∙ some) in
-    let lt = f.0 in let r = at.rows in let a = all n in absurd (omega arith)
-
 -- the next row has no fault
 pub right-more : (w : Workload) (rows : List Row) (i : ℕ) (r : Row) (m now : List ℕ) → i < length rows → r ≡ get_or rows i r → IsRight w (take i rows) m r → now ≡ memory_after w m r → (last : List ℕ)
     → AreRight w (take (i + 1) rows) now (drop (i + 1) rows) last → AreRight w (take i rows) m (drop i rows) last
@@ -201,27 +185,6 @@ pub wrong-here : (w : Workload) (rows : List Row) (i : ℕ) (r : Row) (m : List 
 wrong-here w rows i r m lt at wrong =
     let d : drop i rows ≡ r ∷ drop (i + 1) rows = drop_more rows i r lt ∙ ap (λ x. x ∷ drop (i + 1) rows) (sym at) in
     subst (λ l. IsWrongAt w (take i rows) m l 0) (sym d) wrong
-
--- two tellings of a memory
-pub alike-more : (ps qs : List (ℕ × ℕ)) (i : ℕ) (d : ℕ × ℕ) → i < length ps → i < length qs → (get_or ps i d).0 ≡ (get_or qs i d).0 → (get_or ps i d).1 ≡ (get_or qs i d).1 → alike (drop i ps) (drop i qs) ≡ suc (alike (drop (i + 1) ps) (drop (i + 1) qs))
-alike-more ps qs i d lp lq e f =
-    let p = get_or ps i d in let q = get_or qs i d in
-    let a : (p.0 == q.0) ≡ true = grind (arith, nat_tests) in
-    let b : (p.1 == q.1) ≡ true = grind (arith, nat_tests) in
-    ap (λ l. alike l (drop i qs)) (drop_more ps i d lp) ∙ (ap (λ l. alike (p ∷ drop (i + 1) ps) l) (drop_more qs i d lq) ∙ rw (a, b) refl)
-
-pub alike-ends : (ps qs : List (ℕ × ℕ)) (i : ℕ) (d : ℕ × ℕ) → i < length ps → i < length qs → ((get_or ps i d).0 ≢ (get_or qs i d).0) ⊎ ((get_or ps i d).1 ≢ (get_or qs i d).1) → alike (drop i ps) (drop i qs) ≡ 0
-alike-ends ps qs i d lp lq differ =
-    let p = get_or ps i d in let q = get_or qs i d in
-    ap (λ l. alike l (drop i qs)) (drop_more ps i d lp) ∙ (ap (λ l. alike (p ∷ drop (i + 1) ps) l) (drop_more qs i d lq) ∙ ap (λ b. if b then suc (alike (drop (i + 1) ps) (drop (i + 1) qs)) else 0) (test differ))
-  where
-    test : ((get_or ps i d).0 ≢ (get_or qs i d).0) ⊎ ((get_or ps i d).1 ≢ (get_or qs i d).1) → (((get_or ps i d).0 == (get_or qs i d).0) && ((get_or ps i d).1 == (get_or qs i d).1)) ≡ false
-    test (inl h) = let a : ((get_or ps i d).0 == (get_or qs i d).0) ≡ false = grind (arith, nat_tests) in rw a refl
-    test (inr h) = let a : ((get_or ps i d).1 == (get_or qs i d).1) ≡ false = grind (arith, nat_tests) in rw a (by ((get_or ps i d).0 == (get_or qs i d).0))
-      where
-        by : (b : Bool) → (b && false) ≡ false
-        by true = refl
-        by false = refl
 
 pub alike-short : (ps qs : List (ℕ × ℕ)) (i : ℕ) → length qs ≤ i → alike (drop i ps) (drop i qs) ≡ 0
 alike-short ps qs i le = ap (alike (drop i ps)) (drop-past qs i le) ∙ none (drop i ps)

@@ -6,41 +6,9 @@ use Rattle.stm_text.specs.Lines.{number_of, words_of}
 use Rattle.stm_text.specs.LineLaws.{words_of-some}
 use Rattle.stm_check.specs.Grammar.{words_left, numbers_of, outputs_of, emits_of, memory_word_of, ◌>>=◌}
 
--- numbers, and then those of the rest
-abbrev pub behind : List ℕ → Option (List ℕ) → Option (List ℕ)
-behind ns o = o >>= λ ms. Some (ns ++ ms)
-
+-- replies, and then those of the rest
 abbrev pub replied : List ℕ → Option (List ℕ × List ℕ) → Option (List ℕ × List ℕ)
 replied ns o = o >>= λ p. Some (ns ++ p.0, p.1)
-
-behind-by : (ns : List ℕ) (n : ℕ) (o : Option (List ℕ)) → behind ns (o >>= λ ms. Some (n ∷ ms)) ≡ behind (ns ++ n ∷ []) o
-behind-by ns n None = refl
-behind-by ns n (Some ms) = ap (λ l. let o : Option (List ℕ) = Some l in o) (sym (append_assoc ns (n ∷ []) ms))
-
--- one number more
-pub behind-more : (ns : List ℕ) (w : List ℕ) (ws : List (List ℕ)) (n : ℕ) → number_of w ≡ Some n → behind ns (numbers_of (w ∷ ws)) ≡ behind (ns ++ n ∷ []) (numbers_of ws)
-behind-more ns w ws n is = ap (λ o. behind ns (o >>= λ k. numbers_of ws >>= λ ms. Some (k ∷ ms))) is ∙ behind-by ns n (numbers_of ws)
-
-pub behind-none : (ns : List ℕ) (w : List ℕ) (ws : List (List ℕ)) → number_of w ≡ None → behind ns (numbers_of (w ∷ ws)) ≡ None
-behind-none ns w ws is = ap (λ o. behind ns (o >>= λ k. numbers_of ws >>= λ ms. Some (k ∷ ms))) is
-
-pub behind-end : (o : Option (List ℕ)) → o ≡ behind [] o
-behind-end None = refl
-behind-end (Some ms) = refl
-
-replied-by : (ns : List ℕ) (n : ℕ) (o : Option (List ℕ × List ℕ)) → replied ns (o >>= λ p. Some (n ∷ p.0, p.1)) ≡ replied (ns ++ n ∷ []) o
-replied-by ns n None = refl
-replied-by ns n (Some p) = ap (λ l. let o : Option (List ℕ × List ℕ) = Some (l, p.1) in o) (sym (append_assoc ns (n ∷ []) p.0))
-
-pub replied-more : (ns : List ℕ) (w : List ℕ) (ws : List (List ℕ)) (n : ℕ) → bytes_eq w (codes "!") ≡ false → number_of w ≡ Some n → replied ns (outputs_of (w ∷ ws)) ≡ replied (ns ++ n ∷ []) (outputs_of ws)
-replied-more ns w ws n plain is =
-    ap (λ b. replied ns (if b then emits_of ws >>= (λ es. Some ([], es)) else number_of w >>= λ k. outputs_of ws >>= λ p. Some (k ∷ p.0, p.1))) plain
-    ∙ (ap (λ o. replied ns (o >>= λ k. outputs_of ws >>= λ p. Some (k ∷ p.0, p.1))) is ∙ replied-by ns n (outputs_of ws))
-
-pub replied-none : (ns : List ℕ) (w : List ℕ) (ws : List (List ℕ)) → bytes_eq w (codes "!") ≡ false → number_of w ≡ None → replied ns (outputs_of (w ∷ ws)) ≡ None
-replied-none ns w ws plain is =
-    ap (λ b. replied ns (if b then emits_of ws >>= (λ es. Some ([], es)) else number_of w >>= λ k. outputs_of ws >>= λ p. Some (k ∷ p.0, p.1))) plain
-    ∙ ap (λ o. replied ns (o >>= λ k. outputs_of ws >>= λ p. Some (k ∷ p.0, p.1))) is
 
 pub replied-marked : (ns : List ℕ) (w : List ℕ) (ws : List (List ℕ)) → bytes_eq w (codes "!") ≡ true → replied ns (outputs_of (w ∷ ws)) ≡ (emits_of ws >>= λ es. Some (ns ++ [], es))
 replied-marked ns w ws marked =
@@ -49,10 +17,6 @@ replied-marked ns w ws marked =
     by : (o : Option (List ℕ)) → replied ns (o >>= (λ es. Some ([], es))) ≡ (o >>= λ es. Some (ns ++ [], es))
     by None = refl
     by (Some es) = refl
-
-pub replied-end : (o : Option (List ℕ × List ℕ)) → o ≡ replied [] o
-replied-end None = refl
-replied-end (Some p) = refl
 
 append-nil : (xs : List ℕ) → xs ++ [] ≡ xs
 append-nil [] = refl
@@ -74,12 +38,6 @@ left-emits (b ∷ bs) lt = some-emits bs
 pub marked-some : (ns : List ℕ) (w rest es : List ℕ) → bytes_eq w (codes "!") ≡ true → 0 < length rest → numbers_of (words_left rest) ≡ Some es → replied ns (outputs_of (w ∷ words_left rest)) ≡ Some (ns, es)
 marked-some ns w rest es marked lt is =
     replied-marked ns w (words_left rest) marked ∙ (ap (λ o. o >>= λ (x : List ℕ). Some (ns ++ [], x)) (left-emits rest lt ∙ is) ∙ ap (λ l. let o : Option (List ℕ × List ℕ) = Some (l, es) in o) (append-nil ns))
-
-pub marked-none : (ns : List ℕ) (w rest : List ℕ) → bytes_eq w (codes "!") ≡ true → 0 < length rest → numbers_of (words_left rest) ≡ None → replied ns (outputs_of (w ∷ words_left rest)) ≡ None
-marked-none ns w rest marked lt is = replied-marked ns w (words_left rest) marked ∙ ap (λ o. o >>= λ (x : List ℕ). Some (ns ++ [], x)) (left-emits rest lt ∙ is)
-
-pub marked-empty : (ns : List ℕ) (w : List ℕ) → bytes_eq w (codes "!") ≡ true → replied ns (outputs_of (w ∷ [])) ≡ None
-marked-empty ns w marked = replied-marked ns w [] marked
 
 pub not-empty : (n : ℕ) (b : Bool) → b ≡ (n == 0) → b ≡ false → 0 < n
 not-empty n b is none = let e : (n == 0) ≡ false = sym is ∙ none in grind (arith, nat_tests)

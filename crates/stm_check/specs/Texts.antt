@@ -1,5 +1,5 @@
 -- The text of a report, written and read back.
-use Rattle.std.specs.Prelude.{ℕ, ◌≡◌, ◌<◌, ◌≤◌, List, [], ◌∷◌, All, length, Result, Ok, MatchResult}
+use Rattle.std.specs.Prelude.{ℕ, ◌≡◌, ◌<◌, ◌≤◌, List, [], ◌∷◌, ◌++◌, All, length, Result, Ok, MatchResult}
 use Rattle.stm_script.specs.declared.report.Report.{Report}
 use Rattle.stm_script.specs.declared.workload.Workload.{Workload}
 use Rattle.stm_script.specs.Reports.{Replays, regions_of}
@@ -11,6 +11,7 @@ use Rattle.stm_text.specs.Grammar.{workload_of}
 use Rattle.stm_text.specs.Reports.{ReportFits, report_bytes}
 use Rattle.stm_check.specs.declared.reading.TheConstants.{MAX_REPORT}
 use Rattle.stm_check.specs.Grammar.{report_of, Answers}
+use Rattle.stm_check.specs.Checks.{IsYes}
 use Rattle.stm_check.specs.Verdicts.{Judges}
 use Rattle.stm_check.specs.declared.verdict.Verdict.{Verdict}
 use Rattle.stm_check.specs.declared.verdict.Verdict.TheVariants.{Yes}
@@ -53,3 +54,7 @@ ReplayedIsReadable = (w : Workload) (r : Report) → Replays w r → ReportFits 
 -- a report of words of the machine that replays the workload of a text is read back and found to do so, where its text isn't too long
 abbrev pub ReplayedIsConfirmed : Type 0
 ReplayedIsConfirmed = (m : Mode) (text : List ℕ) (w : Workload) (r : Report) → workload_of m text ≡ Ok w → Replays w r → ReportFits r → length (report_bytes r) ≤ MAX_REPORT → IsConfirmed w r
+
+-- behind the text of a workload, the text of a report of words of the machine that replays it is found to do so, where it isn't too long
+abbrev pub BehindIsConfirmed : Type 0
+BehindIsConfirmed = (m : Mode) (text : List ℕ) (w : Workload) (r : Report) → workload_of m text ≡ Ok w → Replays w r → ReportFits r → length (report_bytes r) ≤ MAX_REPORT → IsYes (text ++ report_bytes r)

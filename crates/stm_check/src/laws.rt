@@ -1,8 +1,8 @@
 //! Laws of the definitions, each the contract of a function.
 ghost use Rattle.stm_check.specs.Checks.{OneFindingPerText};
-ghost use Rattle.stm_check.specs.Texts.{ReportIsRead, ReportIsWritten, ReplayedIsReadable, ReplayedIsConfirmed};
+ghost use Rattle.stm_check.specs.Texts.{ReportIsRead, ReportIsWritten, ReplayedIsReadable, ReplayedIsConfirmed, BehindIsConfirmed};
 
-use stm_text::laws::{built_workloads_fit, text_is_built};
+use stm_text::laws::{built_workloads_fit, text_is_built, text_is_read, text_is_written};
 
 /// A text has one finding: where it has a fault, that fault has one line, and one code.
 pub fn one_finding_per_text()
@@ -31,4 +31,15 @@ pub fn replayed_is_confirmed()
 {
     text_is_built();
     built_workloads_fit();
+}
+
+/// The text of a report that replays the workload of a text, and whose numbers are words of the machine, written behind
+/// that text, is found to replay it, where it isn't too long.
+pub fn behind_is_confirmed()
+    ensures { BehindIsConfirmed }
+{
+    text_is_read();
+    text_is_written();
+    text_is_built();
+    replayed_is_confirmed();
 }

@@ -161,9 +161,6 @@ pub record Gone (text rest : List ℕ) (at : ℕ) : Type 0 where
   pub count : at ≡ length gone
   pub parted : parted_by [] text ≡ behind gone (parted_by [] rest)
 
-pub gone-none : (text : List ℕ) → Gone text text 0
-gone-none text = record { gone = []; whole = refl; count = refl; parted = refl }
-
 -- a line at the place i
 line-of : (s : List ℕ) (i : ℕ) (r : List ℕ) (b : Bool) → Lacks 10 (take i s) → drop i s ≡ 10 ∷ r → bytes_eq (take i s) (codes "done") ≡ b → parted_by [] s ≡ line_parted b (take i s) r
 line-of s i r b lacks at e = ap (parted_by []) (cut-at i s 10 r at) ∙ parted-line [] (take i s) r b lacks e

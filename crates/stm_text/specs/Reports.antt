@@ -52,10 +52,14 @@ pub record RowFits (r : Row) : Type 0 where
   pub replies : All IsWord r.replies
   pub emits : All IsWord r.emits
 
--- a report's numbers are words, as they are in each report that code holds
+-- an address and a value are words
+abbrev pub PairFits : ℕ × ℕ → Type 0
+PairFits p = IsWord p.0 × IsWord p.1
+
+-- a report's numbers are words, as they are in each report that has its text
 pub record ReportFits (r : Report) : Type 0 where
   pub rows : All RowFits r.rows
-  pub memory : All (λ p. IsWord p.0 × IsWord p.1) r.memory
+  pub memory : All PairFits r.memory
 
 -- one report per text
 abbrev pub OneReportPerText : Type 0

@@ -1,9 +1,9 @@
 //! Reports, written as their text.
-ghost use Rattle.std.specs.Prelude.{◌≡◌, ◌<◌, ◌∷◌, ◌++◌, ℕ, List, codes, IfOk, OnOk, string_bytes};
+ghost use Rattle.std.specs.Prelude.{◌≡◌, ◌<◌, ◌∷◌, ◌++◌, ℕ, List, All, codes, IfOk, OnOk, string_bytes};
 ghost use Rattle.std.specs.Fmt.{decimal};
 ghost use Rattle.stm_script.specs.declared.report.Row.{Row};
 ghost use Rattle.stm_text.specs.Pieces.{ArePieces};
-ghost use Rattle.stm_text.specs.Reports.{spaced, emitted, letter_of, row_line, row_lines, memory_line, memory_lines, report_bytes};
+ghost use Rattle.stm_text.specs.Reports.{spaced, emitted, letter_of, row_line, row_lines, memory_line, memory_lines, report_bytes, IsWord, RowFits, PairFits, ReportFits};
 
 use std::alloc::{AllocError, Global};
 use std::thread;
@@ -13,7 +13,8 @@ use stm_script::report::{Kind, Report, Row};
 
 /// The text of a report. Memory may be refused.
 pub fn report_text(alloc: Global, report: &Report) -> Result<Vec<u8>, Memory>
-    ensures { IfOk result (λ t. t.items ≡ report_bytes report.now) }
+    ensures fits { OnOk result (ReportFits report.now) }
+    ensures text { IfOk result (λ t. t.items ≡ report_bytes report.now) }
 {
     let mut text = String::new(alloc);
     text.push_str("report 1\n")?;
@@ -35,7 +36,8 @@ pub fn report_text_by<R: Threads + Sync>(
     threads: usize,
 ) -> Result<Vec<u8>, Memory>
     requires { 0 < threads }
-    ensures { IfOk result (λ t. t.items ≡ report_bytes report.now) }
+    ensures fits { OnOk result (ReportFits report.now) }
+    ensures text { IfOk result (λ t. t.items ≡ report_bytes report.now) }
 {
     let rows = report.rows.as_slice();
     let size = rows.len().div_ceil(threads).max(FEWEST_ROWS);
@@ -56,7 +58,8 @@ pub fn report_text_by<R: Threads + Sync>(
 
 /// The lines of some of a report's rows.
 fn rows_text(alloc: Global, rows: &[Row]) -> Result<String, Memory>
-    ensures { IfOk result (λ t. string_bytes t ≡ row_lines rows.now) }
+    ensures fits { OnOk result (All RowFits rows.now) }
+    ensures text { IfOk result (λ t. string_bytes t ≡ row_lines rows.now) }
 {
     let mut text = String::new(alloc);
     put_rows(&mut text, rows)?;
@@ -65,7 +68,8 @@ fn rows_text(alloc: Global, rows: &[Row]) -> Result<String, Memory>
 
 /// The lines of all rows, of which each piece has those of a chunk.
 fn put_pieces(text: &mut String, pieces: Vec<Result<String, Memory>>) -> Result<(), Memory>
-    ensures { (size : ℕ) (rows : List Row) → ArePieces (λ t. string_bytes t) size rows pieces.items → OnOk result (string_bytes text.new ≡ string_bytes text.old ++ row_lines rows) }
+    ensures fits { (size : ℕ) (rows : List Row) → ArePieces (λ t. string_bytes t) size rows pieces.items → OnOk result (All RowFits rows) }
+    ensures text { (size : ℕ) (rows : List Row) → ArePieces (λ t. string_bytes t) size rows pieces.items → OnOk result (string_bytes text.new ≡ string_bytes text.old ++ row_lines rows) }
 {
     for piece in pieces {
         text.push_str(&piece?)?;
@@ -74,7 +78,8 @@ fn put_pieces(text: &mut String, pieces: Vec<Result<String, Memory>>) -> Result<
 }
 
 fn put_rows(text: &mut String, rows: &[Row]) -> Result<(), AllocError>
-    ensures { OnOk result (string_bytes text.new ≡ string_bytes text.old ++ row_lines rows.now) }
+    ensures fits { OnOk result (All RowFits rows.now) }
+    ensures text { OnOk result (string_bytes text.new ≡ string_bytes text.old ++ row_lines rows.now) }
 {
     for row in rows {
         put_row(text, row)?;
@@ -83,7 +88,8 @@ fn put_rows(text: &mut String, rows: &[Row]) -> Result<(), AllocError>
 }
 
 fn put_memory(text: &mut String, words: &[(usize, u64)]) -> Result<(), AllocError>
-    ensures { OnOk result (string_bytes text.new ≡ string_bytes text.old ++ memory_lines words.now) }
+    ensures fits { OnOk result (All PairFits words.now) }
+    ensures text { OnOk result (string_bytes text.new ≡ string_bytes text.old ++ memory_lines words.now) }
 {
     for word in words {
         put_word(text, word.0 as u64, word.1)?;
@@ -103,7 +109,8 @@ fn put_word(text: &mut String, a: u64, v: u64) -> Result<(), AllocError>
 
 /// `K place caller seq : r1 r2 ..`, and the emits.
 fn put_row(text: &mut String, row: &Row) -> Result<(), AllocError>
-    ensures { OnOk result (string_bytes text.new ≡ string_bytes text.old ++ row_line row.now) }
+    ensures fits { OnOk result (RowFits row.now) }
+    ensures text { OnOk result (string_bytes text.new ≡ string_bytes text.old ++ row_line row.now) }
 {
     text.push_str(letter(row.kind))?;
     put_number(text, row.place)?;
@@ -126,7 +133,8 @@ fn letter(kind: Kind) -> &'static str
 }
 
 fn put_emits(text: &mut String, emits: &[u64]) -> Result<(), AllocError>
-    ensures { OnOk result (string_bytes text.new ≡ string_bytes text.old ++ emitted emits.now) }
+    ensures fits { OnOk result (All IsWord emits.now) }
+    ensures text { OnOk result (string_bytes text.new ≡ string_bytes text.old ++ emitted emits.now) }
 {
     if emits.is_empty() {
         return Ok(());
@@ -136,7 +144,8 @@ fn put_emits(text: &mut String, emits: &[u64]) -> Result<(), AllocError>
 }
 
 fn put_numbers(text: &mut String, numbers: &[u64]) -> Result<(), AllocError>
-    ensures { OnOk result (string_bytes text.new ≡ string_bytes text.old ++ spaced numbers.now) }
+    ensures fits { OnOk result (All IsWord numbers.now) }
+    ensures text { OnOk result (string_bytes text.new ≡ string_bytes text.old ++ spaced numbers.now) }
 {
     for n in numbers {
         put_number(text, *n)?;

@@ -10,7 +10,7 @@ returns-in-ToEnd g c = λ policy.
     let came = subst (HasStepped w lines) c.in-ToEnd.is c.in_ok-lines.ensures in
     let trace = c.in_ok-trace_text-in-ToEnd.ensures ∙ ap trace_bytes c.as_slice.ensures.value in
     let other = c.in_ok-report_text-in-ToEnd.field-0.items in
-    let is = c.in_ok-behind-in-ToEnd.ensures ∙ (ap (λ (t : List ℕ). t ++ other) trace ∙ ap (λ (t : List ℕ). trace_bytes lines ++ t) c.in_ok-report_text-in-ToEnd.ensures) in
+    let is = c.in_ok-behind-in-ToEnd.ensures ∙ (ap (λ (t : List ℕ). t ++ other) trace ∙ ap (λ (t : List ℕ). trace_bytes lines ++ t) c.in_ok-report_text-in-ToEnd.ensures.text) in
     record { lines = lines; report = c.in-ToEnd.report; traced = came; is = is }
 
 pub returns-in-ToLimit : goal.returns-in-ToLimit

@@ -1,13 +1,15 @@
 use Rattle.std.proofs.Common.{ℕ, List, ◌≡◌, ◌*◌, ◌++◌, length, drop, string_bytes}
+use Rattle.std.specs.List.{All}
 use Rattle.std.specs.Vec.Iter.{into_iter_items, into_iter_len}
 use Rattle.stm_script.specs.declared.report.Row.{Row}
 use Rattle.stm_text.specs.Pieces.{ArePieces}
-use Rattle.stm_text.specs.Reports.{row_lines}
+use Rattle.stm_text.specs.Reports.{row_lines, RowFits}
 use Rattle.stm_text.proofs.report.put_pieces.Given as goal
 
 abbrev pub invariant-loop-piece : goal.invariant-loop-piece
 invariant-loop-piece l = record {
   all : l.yielded ++ into_iter_items l.piece-iterator ≡ into_iter_items l.initial.piece-iterator;
   len : into_iter_len l.piece-iterator ≡ length (into_iter_items l.piece-iterator);
+  fits : (size : ℕ) (rows : List Row) → ArePieces (λ t. string_bytes t) size rows (into_iter_items l.initial.piece-iterator) → All RowFits (drop (length l.yielded * size) rows) → All RowFits rows;
   put : (size : ℕ) (rows : List Row) → ArePieces (λ t. string_bytes t) size rows (into_iter_items l.initial.piece-iterator) → string_bytes l.text ++ row_lines (drop (length l.yielded * size) rows) ≡ string_bytes l.initial.text ++ row_lines rows;
 }

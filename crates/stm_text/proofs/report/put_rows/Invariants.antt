@@ -1,6 +1,10 @@
 use Rattle.std.proofs.Common.{◌≡◌, ◌++◌, drop, string_bytes}
-use Rattle.stm_text.specs.Reports.{row_lines}
+use Rattle.std.specs.List.{AllWithin}
+use Rattle.stm_text.specs.Reports.{row_lines, RowFits}
 use Rattle.stm_text.proofs.report.put_rows.Given as goal
 
 abbrev pub invariant-loop-row : goal.invariant-loop-row
-invariant-loop-row l = string_bytes l.text ++ row_lines (drop l.row-index l.rows) ≡ string_bytes l.initial.text ++ row_lines l.rows
+invariant-loop-row l = record {
+  fits : AllWithin RowFits l.rows 0 l.row-index;
+  text : string_bytes l.text ++ row_lines (drop l.row-index l.rows) ≡ string_bytes l.initial.text ++ row_lines l.rows;
+}

@@ -1,7 +1,8 @@
-use Rattle.std.proofs.Common.{rules, ◌≡◌, ◌<◌, ◌≤◌, ◌*◌, ◌++◌, length, slice_index_or, IfOk, codes, string_bytes, sym, ap, ◌∙◌, arith, subst, append_assoc}
+use Rattle.std.proofs.Common.{rules, ◌≡◌, ◌<◌, ◌≤◌, ◌*◌, ◌++◌, length, slice_index_or, IfOk, OnOk, codes, string_bytes, sym, ap, ◌∙◌, arith, subst, append_assoc}
+use Rattle.std.specs.Prelude.{All}
 use Rattle.std.proofs.lemmas.Grind.{div_ceil_times}
 use Rattle.stm_text.specs.Pieces.{ArePieces}
-use Rattle.stm_text.specs.Reports.{row_lines, memory_lines}
+use Rattle.stm_text.specs.Reports.{row_lines, memory_lines, RowFits, PairFits}
 use Rattle.stm_text.proofs.report.report_text_by.Goals as goal
 
 pub returns : goal.returns
@@ -18,12 +19,23 @@ returns g c =
           let call = at.call in
           let lines : IfOk (slice_index_or pieces.items n d) (λ t. string_bytes t ≡ row_lines at.argument.now) = search rules in
           subst (λ l. IfOk (slice_index_or pieces.items n d) (λ t. string_bytes t ≡ row_lines l)) at.argument_is.value lines;
+      fits = λ n d lt.
+          let at = (cut.each n d lt).1 in
+          let call = at.call in
+          let words : OnOk (slice_index_or pieces.items n d) (All RowFits at.argument.now) = search rules in
+          subst (λ l. OnOk (slice_index_or pieces.items n d) (All RowFits l)) at.argument_is.value words;
       all = all;
     } in
-    let put = c.in_ok-put_pieces.ensures size rows are in
+    let rows-fit : All RowFits c.args.report.now.rows = subst (λ l. All RowFits l) c.as_slice-rows.ensures (c.in_ok-put_pieces.ensures.fits size rows are) in
+    let memory-fits : All PairFits c.args.report.now.memory = subst (λ l. All PairFits l) c.as_slice.ensures c.in_ok-put_memory.ensures.fits in
+    let put = c.in_ok-put_pieces.ensures.text size rows are in
     let title : string_bytes c.push_str.new.self ≡ codes "report 1\n" = search rules in
     let start : string_bytes c.put_pieces.new.text ≡ codes "report 1\n" ++ row_lines c.args.report.now.rows = put ∙ (ap (λ l. l ++ row_lines rows) title ∙ ap (λ l. codes "report 1\n" ++ row_lines l) c.as_slice-rows.ensures) in
     let memory : string_bytes c.put_memory.new.text ≡ codes "report 1\n" ++ (row_lines c.args.report.now.rows ++ memory_lines c.args.report.now.memory) =
-    c.in_ok-put_memory.ensures ∙ (ap (λ l. l ++ memory_lines c.as_slice.result.now) start ∙ ap (λ l. codes "report 1\n" ++ (row_lines c.args.report.now.rows ++ memory_lines l)) c.as_slice.ensures) in
+    c.in_ok-put_memory.ensures.text ∙ (ap (λ l. l ++ memory_lines c.as_slice.result.now) start ∙ ap (λ l. codes "report 1\n" ++ (row_lines c.args.report.now.rows ++ memory_lines l)) c.as_slice.ensures) in
     let whole : c.into_bytes.result.items ≡ string_bytes c.put_memory.new.text ++ codes "end\n" = search rules in
-    whole ∙ (ap (λ l. l ++ codes "end\n") memory ∙ ap (λ l. codes "report 1\n" ++ l) (append_assoc (row_lines c.args.report.now.rows) (memory_lines c.args.report.now.memory) (codes "end\n")))
+    record {
+      fits = record { rows = rows-fit; memory = memory-fits };
+      text =
+          whole ∙ (ap (λ l. l ++ codes "end\n") memory ∙ ap (λ l. codes "report 1\n" ++ l) (append_assoc (row_lines c.args.report.now.rows) (memory_lines c.args.report.now.memory) (codes "end\n")));
+    }

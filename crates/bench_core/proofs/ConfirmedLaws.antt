@@ -1,0 +1,20 @@
+-- What `run` wrote, as `check` reads it.
+use Rattle.std.proofs.Common.{List, ℕ, ◌≤◌, ◌++◌, length, refl, sym, subst, Some, None}
+use Rattle.std.specs.Prelude.{Option}
+use Rattle.stm_profile.specs.declared.policy.Policy.{Policy}
+use Rattle.stm_rule.specs.Closings.{Ended}
+use Rattle.stm_text.specs.declared.parse.Mode.TheVariants.{Run}
+use Rattle.stm_check.specs.declared.reading.TheConstants.{MAX_REPORT}
+use Rattle.stm_check.specs.Checks.{IsYes}
+use Rattle.stm_check.specs.Texts.{BehindIsConfirmed}
+use Rattle.bench_core.specs.declared.status.Status.TheVariants.{Ok as Done}
+use Rattle.bench_core.specs.Checks.{SaidOfCheck}
+use Rattle.bench_core.specs.Messages.{yes_line}
+use Rattle.bench_core.specs.Outcomes.{SaidOf, RanToEnd}
+
+pub run-confirmed : BehindIsConfirmed → (policy : Policy) (text : List ℕ) (closed : Option Ended) (said : List ℕ) → SaidOf Run policy text Done closed said → length said ≤ MAX_REPORT → SaidOfCheck (text ++ said) Done yes_line
+run-confirmed behind policy text None said was le = absurd was.run
+run-confirmed behind policy text (Some closed) said was le =
+    let ran : RanToEnd policy was.workload closed said = was.run in
+    let short = subst (λ (t : List ℕ). length t ≤ MAX_REPORT) ran.is le in
+    (subst (λ (t : List ℕ). IsYes (text ++ t)) (sym ran.is) (behind Run text was.workload ran.report was.parses ran.shown.replays ran.fits short), refl)

@@ -1,0 +1,14 @@
+-- What `check` says of what `run` wrote.
+use Rattle.std.specs.Prelude.{ℕ, ◌≤◌, ◌++◌, List, length, Option}
+use Rattle.stm_profile.specs.declared.policy.Policy.{Policy}
+use Rattle.stm_rule.specs.Closings.{Ended}
+use Rattle.stm_text.specs.declared.parse.Mode.TheVariants.{Run}
+use Rattle.stm_check.specs.declared.reading.TheConstants.{MAX_REPORT}
+use Rattle.bench_core.specs.declared.status.Status.TheVariants.{Ok as Done}
+use Rattle.bench_core.specs.Checks.{SaidOfCheck}
+use Rattle.bench_core.specs.Messages.{yes_line}
+use Rattle.bench_core.specs.Outcomes.{SaidOf}
+
+-- of a workload's text, and behind it what `run` said at status 0 of it, `check` says yes, where that isn't too long
+abbrev pub RunIsConfirmed : Type 0
+RunIsConfirmed = (policy : Policy) (text : List ℕ) (closed : Option Ended) (said : List ℕ) → SaidOf Run policy text Done closed said → length said ≤ MAX_REPORT → SaidOfCheck (text ++ said) Done yes_line
