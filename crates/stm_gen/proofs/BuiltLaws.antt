@@ -19,6 +19,7 @@ use Rattle.stm_gen.specs.Generated.{header_for, deposits, drawn_move, draws_befo
 
 header-fits : (callers : ℕ) → 1 ≤ callers → callers ≤ 32 → HeaderFits (header_for callers)
 header-fits callers some few = record {
+  words = omega arith;
   config = record {
     words = (omega arith, omega arith);
     records = (omega arith, omega arith);

@@ -6,7 +6,7 @@ use Rattle.std.proofs.lemmas.List.Elements.{All-nil, All-push}
 use Rattle.std.proofs.lemmas.Slice.Eq.{bytes_eq-Decides}
 use Rattle.stm_model.specs.declared.alg.Alg.{Alg}
 use Rattle.stm_model.specs.declared.alg.TheConstants.{ALGORITHMS}
-use Rattle.stm_model.specs.declared.config.TheConstants.{MAX_WORDS, MAX_RECORDS, MIN_RING, MAX_RING, MAX_CALLERS, MAX_LOG, CLOCK_LIMIT}
+use Rattle.stm_model.specs.declared.config.TheConstants.{MAX_RECORDS, MIN_RING, MAX_RING, MAX_CALLERS, MAX_LOG, CLOCK_LIMIT}
 use Rattle.stm_model.specs.Algorithms.{alg_name, is_built}
 use Rattle.stm_script.specs.declared.op.Op.{Op}
 use Rattle.stm_script.specs.declared.op.Op.TheVariants.{Read, Write, Add as Sum, Move, Emit, Irrev, Cancel, Count}
@@ -23,6 +23,7 @@ use Rattle.stm_text.specs.declared.draft.Place.TheVariants.{Version, Words, Call
 use Rattle.stm_text.specs.declared.draft.Step.{Step}
 use Rattle.stm_text.specs.declared.draft.Step.TheVariants.{Head, Begin, Change, Add, End, Schedule, Turn, Done}
 use Rattle.stm_text.specs.declared.parse.Mode.{Mode}
+use Rattle.stm_text.specs.declared.parse.TheConstants.{MOST_WORDS}
 use Rattle.stm_text.specs.declared.parse.Mode.TheVariants.{Run, Step as Stepwise}
 use Rattle.stm_text.specs.Lines.{Line, words_of, any_bad, number_of}
 use Rattle.stm_text.specs.Drafts.{Writing, after, opening}
@@ -118,28 +119,28 @@ header_line-fits : (p : Place) (h : Header) (w v : List ℕ) → HeaderFits h �
 header_line-fits Version h w v f off =
     named-gives (FitsAt Words) (codes "stm") w (named (codes "1") v (Ok h)) (named-gives (FitsAt Words) (codes "1") v (Ok h) (f, off))
 header_line-fits Words h w v f off =
-    number-fits Callers (codes "words") 1 MAX_WORDS w v (λ n. record h { words = n }) (λ n k. let c = f.config in (record { config = record { words = k; records = c.records; ring = c.ring; callers = c.callers; reads = c.reads; writes = c.writes; clock = c.clock }; alg = f.alg; structs = off-fits (record h { words = n }) off }, off))
+    number-fits Callers (codes "words") 1 MOST_WORDS w v (λ n. record h { words = n }) (λ n k. let c = f.config in let most = k.1 in (record { words = most; config = record { words = (k.0, omega arith); records = c.records; ring = c.ring; callers = c.callers; reads = c.reads; writes = c.writes; clock = c.clock }; alg = f.alg; structs = off-fits (record h { words = n }) off }, off))
 header_line-fits Callers h w v f off =
-    number-fits Records (codes "callers") 1 MAX_CALLERS w v (λ n. record h { callers = n }) (λ n k. let c = f.config in (record { config = record { words = c.words; records = c.records; ring = c.ring; callers = k; reads = c.reads; writes = c.writes; clock = c.clock }; alg = f.alg; structs = off-fits (record h { callers = n }) off }, off))
+    number-fits Records (codes "callers") 1 MAX_CALLERS w v (λ n. record h { callers = n }) (λ n k. let c = f.config in (record { words = f.words; config = record { words = c.words; records = c.records; ring = c.ring; callers = k; reads = c.reads; writes = c.writes; clock = c.clock }; alg = f.alg; structs = off-fits (record h { callers = n }) off }, off))
 header_line-fits Records h w v f off =
-    number-fits Ring (codes "records") 1 MAX_RECORDS w v (λ n. record h { records = n }) (λ n k. let c = f.config in (record { config = record { words = c.words; records = k; ring = c.ring; callers = c.callers; reads = c.reads; writes = c.writes; clock = c.clock }; alg = f.alg; structs = off-fits (record h { records = n }) off }, off))
+    number-fits Ring (codes "records") 1 MAX_RECORDS w v (λ n. record h { records = n }) (λ n k. let c = f.config in (record { words = f.words; config = record { words = c.words; records = k; ring = c.ring; callers = c.callers; reads = c.reads; writes = c.writes; clock = c.clock }; alg = f.alg; structs = off-fits (record h { records = n }) off }, off))
 header_line-fits Ring h w v f off =
-    number-fits Reads (codes "ring") MIN_RING MAX_RING w v (λ n. record h { ring = n }) (λ n k. let c = f.config in (record { config = record { words = c.words; records = c.records; ring = k; callers = c.callers; reads = c.reads; writes = c.writes; clock = c.clock }; alg = f.alg; structs = off-fits (record h { ring = n }) off }, off))
+    number-fits Reads (codes "ring") MIN_RING MAX_RING w v (λ n. record h { ring = n }) (λ n k. let c = f.config in (record { words = f.words; config = record { words = c.words; records = c.records; ring = k; callers = c.callers; reads = c.reads; writes = c.writes; clock = c.clock }; alg = f.alg; structs = off-fits (record h { ring = n }) off }, off))
 header_line-fits Reads h w v f off =
-    number-fits Writes (codes "reads") 1 MAX_LOG w v (λ n. record h { reads = n }) (λ n k. let c = f.config in (record { config = record { words = c.words; records = c.records; ring = c.ring; callers = c.callers; reads = k; writes = c.writes; clock = c.clock }; alg = f.alg; structs = off-fits (record h { reads = n }) off }, off))
+    number-fits Writes (codes "reads") 1 MAX_LOG w v (λ n. record h { reads = n }) (λ n k. let c = f.config in (record { words = f.words; config = record { words = c.words; records = c.records; ring = c.ring; callers = c.callers; reads = k; writes = c.writes; clock = c.clock }; alg = f.alg; structs = off-fits (record h { reads = n }) off }, off))
 header_line-fits Writes h w v f off =
-    number-fits Clock (codes "writes") 1 MAX_LOG w v (λ n. record h { writes = n }) (λ n k. let c = f.config in (record { config = record { words = c.words; records = c.records; ring = c.ring; callers = c.callers; reads = c.reads; writes = k; clock = c.clock }; alg = f.alg; structs = off-fits (record h { writes = n }) off }, off))
+    number-fits Clock (codes "writes") 1 MAX_LOG w v (λ n. record h { writes = n }) (λ n k. let c = f.config in (record { words = f.words; config = record { words = c.words; records = c.records; ring = c.ring; callers = c.callers; reads = c.reads; writes = k; clock = c.clock }; alg = f.alg; structs = off-fits (record h { writes = n }) off }, off))
 header_line-fits Clock h w v f off =
-    number-fits Algorithm (codes "clock") 0 CLOCK_LIMIT w v (λ n. record h { clock = n }) (λ n k. let c = f.config in (record { config = record { words = c.words; records = c.records; ring = c.ring; callers = c.callers; reads = c.reads; writes = c.writes; clock = k.1 }; alg = f.alg; structs = off-fits (record h { clock = n }) off }, off))
+    number-fits Algorithm (codes "clock") 0 CLOCK_LIMIT w v (λ n. record h { clock = n }) (λ n k. let c = f.config in (record { words = f.words; config = record { words = c.words; records = c.records; ring = c.ring; callers = c.callers; reads = c.reads; writes = c.writes; clock = k.1 }; alg = f.alg; structs = off-fits (record h { clock = n }) off }, off))
 header_line-fits Algorithm h w v f off =
     then-gives (λ a. is_built a ≡ true) (FitsAt Structures) (named (codes "alg") w (algorithm v)) (λ a. Ok (record h { alg = a }))
     (named-gives (λ a. is_built a ≡ true) (codes "alg") w (algorithm v) (algorithm-fits v))
-    (λ a k. (record { config = f.config; alg = k; structs = f.structs }, off))
+    (λ a k. (record { config = f.config; words = f.words; alg = k; structs = f.structs }, off))
 header_line-fits Structures h w v f off =
     let P : Bool → Type 0 = λ on. on ≡ true → STRUCTS_END ≤ h.words in
     then-gives P (FitsAt Items) (named (codes "structs") w (switched h.words v)) (λ on. Ok (record h { structs = on }))
     (named-gives P (codes "structs") w (switched h.words v) (switched-fits h.words v))
-    (λ on k. (record { config = f.config; alg = f.alg; structs = k }, tt))
+    (λ on k. (record { config = f.config; words = f.words; alg = f.alg; structs = k }, tt))
 header_line-fits Items h w v f off = tt
 header_line-fits Ops h w v f off = tt
 header_line-fits Turns h w v f off = tt
@@ -570,6 +571,7 @@ parsed-built m d k (l ∷ ls) s =
 -- a memory opens under CGL, and so does a draft
 opening-fits : HeaderFits opening.header
 opening-fits = record {
+  words = omega arith;
   config = record {
     words = (omega arith, omega arith);
     records = (omega arith, omega arith);

@@ -24,7 +24,7 @@ use Rattle.stm_text.specs.declared.draft.Place.{Place}
 use Rattle.stm_text.specs.declared.draft.Place.TheVariants.{Version, Words, Callers, Records, Ring, Reads, Writes, Clock, Algorithm, Structures, Items, Ops, Turns}
 use Rattle.stm_text.specs.declared.draft.Step.{Step}
 use Rattle.stm_text.specs.declared.draft.Step.TheVariants.{Head, Begin, Change, Add, End, Schedule, Turn, Done}
-use Rattle.stm_text.specs.declared.parse.TheConstants.{MAX_TEXT}
+use Rattle.stm_text.specs.declared.parse.TheConstants.{MAX_TEXT, MOST_WORDS}
 use Rattle.stm_text.specs.declared.parse.Mode.{Mode}
 use Rattle.stm_text.specs.declared.parse.Mode.TheVariants.{Run, Step as Stepwise}
 use Rattle.stm_text.specs.Lines.{Line, lines_of, words_of, any_bad, number_of}
@@ -500,11 +500,11 @@ version-read m h k rest =
 field-set : (r : Result ℕ ℕ) (set : ℕ → Header) (p : Place) (n : ℕ) → r ≡ Ok n → (r >>= (λ v. Ok (set v)) >>= λ x. Ok (Head p x)) ≡ Ok (Head p (set n))
 field-set r set p n is = ap (λ z. z >>= (λ v. Ok (set v)) >>= λ x. Ok (Head p x)) is
 
-words-read : (m : Mode) (h : Header) (k n : ℕ) (rest : List ℕ) → 1 ≤ n → n ≤ MAX_WORDS
+words-read : (m : Mode) (h : Header) (k n : ℕ) (rest : List ℕ) → 1 ≤ n → n ≤ MOST_WORDS
     → parsed m (in_header Words h) k (lines_of (line (codes "words" ∷ decimal n ∷ []) ++ rest)) ≡ parsed m (in_header Callers (record h { words = n })) (k + 1) (lines_of rest)
 words-read m h k n rest le ge =
     number-read m h Words k (codes "words") n rest (record h { words = n }) (seen (codes "words") refl) (omega arith)
-    (field-set (sized (codes "words") 1 MAX_WORDS (codes "words") (decimal n)) (λ v. record h { words = v }) Callers n (sized-decimal (codes "words") 1 MAX_WORDS n refl le ge (omega arith)))
+    (field-set (sized (codes "words") 1 MOST_WORDS (codes "words") (decimal n)) (λ v. record h { words = v }) Callers n (sized-decimal (codes "words") 1 MOST_WORDS n refl le ge (omega arith)))
 
 callers-read : (m : Mode) (h : Header) (k n : ℕ) (rest : List ℕ) → 1 ≤ n → n ≤ MAX_CALLERS
     → parsed m (in_header Callers h) k (lines_of (line (codes "callers" ∷ decimal n ∷ []) ++ rest)) ≡ parsed m (in_header Records (record h { callers = n })) (k + 1) (lines_of rest)
@@ -584,7 +584,7 @@ head-read m h more f =
     let t2 : List ℕ = line (codes "callers" ∷ decimal h.callers ∷ []) ++ t3 in
     let t1 : List ℕ = line (codes "words" ∷ decimal h.words ∷ []) ++ t2 in
     version-read m h0 1 t1
-    ∙ (words-read m h0 2 h.words t2 f.config.words.0 f.config.words.1
+    ∙ (words-read m h0 2 h.words t2 f.config.words.0 f.words
     ∙ (callers-read m h1 3 h.callers t3 f.config.callers.0 f.config.callers.1
     ∙ (records-read m h2 4 h.records t4 f.config.records.0 f.config.records.1
     ∙ (ring-read m h3 5 h.ring t5 f.config.ring.0 f.config.ring.1

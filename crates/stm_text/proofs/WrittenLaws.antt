@@ -6,7 +6,7 @@ use Rattle.std.specs.Fmt.{decimal}
 use Rattle.std.proofs.lemmas.Slice.Eq.{bytes_eq-Decides}
 use Rattle.stm_model.specs.declared.alg.Alg.{Alg}
 use Rattle.stm_model.specs.declared.alg.TheConstants.{ALGORITHMS}
-use Rattle.stm_model.specs.declared.config.TheConstants.{MAX_WORDS, MAX_RECORDS, MIN_RING, MAX_RING, MAX_CALLERS, MAX_LOG, CLOCK_LIMIT}
+use Rattle.stm_model.specs.declared.config.TheConstants.{MAX_RECORDS, MIN_RING, MAX_RING, MAX_CALLERS, MAX_LOG, CLOCK_LIMIT}
 use Rattle.stm_script.specs.declared.op.Op.{Op}
 use Rattle.stm_script.specs.declared.op.Op.TheVariants.{Read, Write, Add as Sum, Move, Emit, Irrev, Cancel, Count}
 use Rattle.stm_script.specs.Operations.{with_key}
@@ -22,7 +22,7 @@ use Rattle.stm_text.specs.declared.draft.Place.{Place}
 use Rattle.stm_text.specs.declared.draft.Place.TheVariants.{Version, Words, Callers, Records, Ring, Reads, Writes, Clock, Algorithm, Structures, Items, Ops, Turns}
 use Rattle.stm_text.specs.declared.draft.Step.{Step}
 use Rattle.stm_text.specs.declared.draft.Step.TheVariants.{Head, Begin, Change, Add, End, Schedule, Turn, Done}
-use Rattle.stm_text.specs.declared.parse.TheConstants.{MAX_TEXT}
+use Rattle.stm_text.specs.declared.parse.TheConstants.{MAX_TEXT, MOST_WORDS}
 use Rattle.stm_text.specs.declared.parse.Mode.{Mode}
 use Rattle.stm_text.specs.declared.parse.Mode.TheVariants.{Run, Step as Stepwise}
 use Rattle.stm_text.specs.Lines.{Line, lines_of, words_of, any_bad, number_of}
@@ -129,7 +129,7 @@ header_line-grows : (m : Mode) (p : Place) (h : Header) (w v : List ℕ) → Giv
 header_line-grows m Version h w v =
     named-says (HeadGrows Version h w v) (codes "stm") w (named (codes "1") v (Ok h))
     (λ a. named-says (HeadGrows Version h w v) (codes "1") v (Ok h) (λ b. two-same [] (codes "stm") (codes "1") w v a b))
-header_line-grows m Words h w v = number-grows Words h (codes "words") 1 MAX_WORDS w v (λ n. record h { words = n }) (λ n. refl)
+header_line-grows m Words h w v = number-grows Words h (codes "words") 1 MOST_WORDS w v (λ n. record h { words = n }) (λ n. refl)
 header_line-grows m Callers h w v = number-grows Callers h (codes "callers") 1 MAX_CALLERS w v (λ n. record h { callers = n }) (λ n. refl)
 header_line-grows m Records h w v = number-grows Records h (codes "records") 1 MAX_RECORDS w v (λ n. record h { records = n }) (λ n. refl)
 header_line-grows m Ring h w v = number-grows Ring h (codes "ring") MIN_RING MAX_RING w v (λ n. record h { ring = n }) (λ n. refl)

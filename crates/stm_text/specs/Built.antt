@@ -14,11 +14,13 @@ use Rattle.stm_script.specs.declared.workload.Go.{Go}
 use Rattle.stm_script.specs.declared.workload.Workload.{Workload}
 use Rattle.stm_script.specs.declared.workload.TheConstants.{MAX_ITEMS, MAX_OPS, MAX_TURNS, MAX_KEY, STRUCTS_BEGIN, STRUCTS_END, STRIPES}
 use Rattle.stm_text.specs.declared.parse.Mode.{Mode}
+use Rattle.stm_text.specs.declared.parse.TheConstants.{MOST_WORDS}
 use Rattle.stm_text.specs.declared.parse.Mode.TheVariants.{Run, Step as Stepwise}
 
 -- the sizes are those of a configuration, the algorithm is built, and structures are on only where they have room
 pub record HeaderFits (h : Header) : Type 0 where
   pub config : IsConfig (config_of h)
+  pub words : h.words ≤ MOST_WORDS
   pub alg : is_built h.alg ≡ true
   pub structs : h.structs ≡ true → STRUCTS_END ≤ h.words
 

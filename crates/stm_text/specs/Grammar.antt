@@ -2,7 +2,7 @@
 use Rattle.std.specs.Prelude.{MatchResult, ℕ, ◌≡◌, ◌+◌, Bool, true, false, ◌&&◌, List, [], ◌∷◌, length, leb, ltb, if◌then◌else◌, Option, Some, None, Result, Ok, Err, codes, bytes_eq}
 use Rattle.stm_model.specs.declared.alg.Alg.{Alg}
 use Rattle.stm_model.specs.declared.alg.TheConstants.{ALGORITHMS}
-use Rattle.stm_model.specs.declared.config.TheConstants.{MAX_WORDS, MAX_RECORDS, MIN_RING, MAX_RING, MAX_CALLERS, MAX_LOG, CLOCK_LIMIT}
+use Rattle.stm_model.specs.declared.config.TheConstants.{MAX_RECORDS, MIN_RING, MAX_RING, MAX_CALLERS, MAX_LOG, CLOCK_LIMIT}
 use Rattle.stm_model.specs.Algorithms.{alg_name, is_built}
 use Rattle.stm_script.specs.declared.op.Op.{Op}
 use Rattle.stm_script.specs.declared.op.Op.TheVariants.{Read, Write, Add as Sum, Move, Emit, Irrev, Cancel, Count}
@@ -20,7 +20,7 @@ use Rattle.stm_text.specs.declared.draft.Step.{Step}
 use Rattle.stm_text.specs.declared.draft.Step.TheVariants.{Head, Begin, Change, Add, End, Schedule, Turn, Done}
 use Rattle.stm_text.specs.declared.parse.Mode.{Mode}
 use Rattle.stm_text.specs.declared.parse.Mode.TheVariants.{Run, Step as Stepwise}
-use Rattle.stm_text.specs.declared.parse.TheConstants.{MAX_TEXT}
+use Rattle.stm_text.specs.declared.parse.TheConstants.{MAX_TEXT, MOST_WORDS}
 use Rattle.stm_text.specs.declared.parse.ParseError.{ParseError}
 use Rattle.stm_text.specs.declared.parse.ParseError.TheVariants.{Fault, Memory}
 use Rattle.stm_text.specs.Lines.{Line, lines_of, words_of, any_bad, number_of}
@@ -74,7 +74,7 @@ switched words v = if bytes_eq v (codes "off") then Ok false else named (codes "
 -- THE HEADER, line by line: what a name and a value make of it
 abbrev pub header_line : Place → Header → List ℕ → List ℕ → Result Header ℕ
 header_line Version h w v = named (codes "stm") w (named (codes "1") v (Ok h))
-header_line Words h w v = sized (codes "words") 1 MAX_WORDS w v >>= λ n. Ok (record h { words = n })
+header_line Words h w v = sized (codes "words") 1 MOST_WORDS w v >>= λ n. Ok (record h { words = n })
 header_line Callers h w v = sized (codes "callers") 1 MAX_CALLERS w v >>= λ n. Ok (record h { callers = n })
 header_line Records h w v = sized (codes "records") 1 MAX_RECORDS w v >>= λ n. Ok (record h { records = n })
 header_line Ring h w v = sized (codes "ring") MIN_RING MAX_RING w v >>= λ n. Ok (record h { ring = n })

@@ -4,12 +4,10 @@ ghost use Rattle.stm_text.specs.Grammar.{algorithm_of, algorithm, ranged, sized,
 ghost use Rattle.stm_text.specs.Lines.{number_of, words_of, Line};
 
 use crate::draft::{Draft, Place, Step};
-use crate::parse::Mode;
+use crate::parse::{MOST_WORDS, Mode};
 use crate::{code, lines};
 use stm_model::alg::{ALGORITHMS, Alg};
-use stm_model::config::{
-    CLOCK_LIMIT, MAX_CALLERS, MAX_LOG, MAX_RECORDS, MAX_RING, MAX_WORDS, MIN_RING,
-};
+use stm_model::config::{CLOCK_LIMIT, MAX_CALLERS, MAX_LOG, MAX_RECORDS, MAX_RING, MIN_RING};
 use stm_script::op::{KEYED, KEYLESS, Op};
 use stm_script::workload::{Go, Header, MAX_KEY, MAX_TURNS, STRIPES, STRUCTS_BEGIN, STRUCTS_END};
 
@@ -120,7 +118,7 @@ fn header_line(place: Place, h: Header, w: &[u8], v: &[u8]) -> Result<Header, u3
     let mut next = h;
     match place {
         Place::Version => fixed(b"stm", b"1", w, v)?,
-        Place::Words => next.words = sized(b"words", 1, MAX_WORDS as u64, w, v)? as usize,
+        Place::Words => next.words = sized(b"words", 1, MOST_WORDS as u64, w, v)? as usize,
         Place::Callers => next.callers = sized(b"callers", 1, MAX_CALLERS as u64, w, v)? as usize,
         Place::Records => next.records = sized(b"records", 1, MAX_RECORDS as u64, w, v)? as usize,
         Place::Ring => next.ring = sized(b"ring", MIN_RING as u64, MAX_RING as u64, w, v)? as usize,
