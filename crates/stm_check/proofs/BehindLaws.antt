@@ -193,6 +193,9 @@ not-done line n is = let y : bytes_eq line (codes "done") ≡ true = (bytes_eq-D
 abbrev Two : Type 0
 Two = List ℕ × List ℕ
 
+abbrev two : List ℕ → List ℕ → Two
+two a b = (a, b)
+
 abbrev push : ℕ → Two → Two
 push b p = (b ∷ p.0, p.1)
 
@@ -207,7 +210,7 @@ parted-at line (b ∷ t) x before lacks is none =
     first lf = sym (ap (λ n. lines_of (line ++ n ∷ t)) lf ∙ lines_of-first line t lacks) ∙ is
 
     by : (Goes t → parted_by [] (t ++ x) ≡ (t, x)) → (b ≢ 10 → parted_by (line ++ b ∷ []) (t ++ x) ≡ (t, x)) → (lf : Bool) → (b == 10) ≡ lf → (done : Bool) → bytes_eq line (codes "done") ≡ done
-        → (if lf then (if done then (b ∷ [], t ++ x) else (b ∷ (parted_by [] (t ++ x)).0, (parted_by [] (t ++ x)).1)) else (b ∷ (parted_by (line ++ b ∷ []) (t ++ x)).0, (parted_by (line ++ b ∷ []) (t ++ x)).1)) ≡ (b ∷ t, x)
+        → (if lf then (if done then two (b ∷ []) (t ++ x) else two (b ∷ (parted_by [] (t ++ x)).0) (parted_by [] (t ++ x)).1) else two (b ∷ (parted_by (line ++ b ∷ []) (t ++ x)).0) (parted_by (line ++ b ∷ []) (t ++ x)).1) ≡ two (b ∷ t) x
     by new on true e true d =
         let lf : b ≡ 10 = grind (arith, nat_tests) in
         let gone = at-done line t before ((bytes_eq-Decides line (codes "done")).0 d) (first lf) none in

@@ -6,7 +6,10 @@ use Rattle.stm_text.specs.Lines.{number_of, words_of}
 use Rattle.stm_text.specs.LineLaws.{words_of-some}
 use Rattle.stm_check.specs.Grammar.{words_left, numbers_of, outputs_of, emits_of, memory_word_of, ◌>>=◌}
 
--- replies, and then those of the rest
+-- numbers, and then those of the rest
+abbrev pub behind : List ℕ → Option (List ℕ) → Option (List ℕ)
+behind ns o = o >>= λ ms. Some (ns ++ ms)
+
 abbrev pub replied : List ℕ → Option (List ℕ × List ℕ) → Option (List ℕ × List ℕ)
 replied ns o = o >>= λ p. Some (ns ++ p.0, p.1)
 
