@@ -1,8 +1,8 @@
 -- What the steps of a commit of OrecLazy come to.
-use Rattle.std.proofs.Common.{ℕ, ◌≡◌, ◌<◌, ◌≤◌, ◌+◌, List, [], ◌∷◌, ◌++◌, Bool, true, false, refl, sym, ap, ◌∙◌, arith, subst, append_assoc, inl, inr}
+use Rattle.std.proofs.Common.{ℕ, ◌≡◌, ◌<◌, ◌≤◌, ◌+◌, List, [], ◌∷◌, ◌++◌, Bool, true, false, refl, sym, ap, ◌∙◌, arith, subst, append_assoc, inl, inr, ⊎_elim}
 use Rattle.std.specs.Prelude.{Some, None, ◌||◌, ◌⊎◌, not, Result, Ok, Err}
 use Rattle.std.proofs.lemmas.Bool.Decides.{nat_tests}
-use Rattle.std.proofs.lemmas.List.Elements.{Contains-append_left}
+use Rattle.std.proofs.lemmas.List.Elements.{Contains-append_left, Contains-append_right}
 use Rattle.stm_model.specs.Algorithms.{has_records, asks_at_commit, is_sure}
 use Rattle.stm_model.specs.declared.alg.Alg.{Alg}
 use Rattle.stm_model.specs.declared.alg.Alg.TheVariants.{OrecLazy}
@@ -38,7 +38,7 @@ use Rattle.tx_answers.specs.KnownLaws.{grows-same}
 use Rattle.stm_gate.specs.LeavingLaws.{IsUnmade}
 use Rattle.stm_gate.specs.Opacity.{later-seen}
 use Rattle.stm_gate.specs.Peeling.{has-touched}
-use Rattle.alg_orec.specs.Committing.{CanCommit, readied, IsReady, IsStopped, Prepares}
+use Rattle.alg_orec.specs.Committing.{CanCommit, readied, IsOfRecord, Owed, IsReady, IsStopped, Prepares}
 use Rattle.alg_orec.specs.Ending.{CanRollBack}
 use Rattle.alg_orec.specs.Locking.{holding_still, lock_item, CanLockAll, WasFree, IsRefused, Holds, LocksEach, StopsLocking}
 use Rattle.alg_orec.specs.Validating.{load_of, OnlyLoads, CanValidate, Refuses, IsFoundStale, IsHeldNewer, IsStale, IsValid, Validates}
@@ -202,6 +202,7 @@ module _ (good : List ℕ → Type 0) (c : Config) (n : ℕ) (low : n < c.caller
     grows = λ o. subst (λ (y : View). Grows (known_of v o) (known_of y o)) (sym h.is) (grows-same (known_of v o) (known_of (holding_still v u.owned.held e.more) o) refl refl e.more refl refl refl refl);
     start = inl start;
     again = λ g o. absurd (let f : true ≡ false = sym g ∙ first in cc);
+    owed = inl start;
   }
     where
       h : Holds c n l v m u e.more
@@ -217,8 +218,8 @@ module _ (good : List ℕ → Type 0) (c : Config) (n : ℕ) (low : n < c.caller
       path = h.is ∙ (λ j. record (holding_still v u.owned.held e.more) { history = record v.history { front = (i.front ∙ sym start) j }; attempt = record v.attempt { start = (i.start ∙ sym start) j } })
 
   -- where all reads were validated
-  pub ready-valid : (m q : Local) (u w : View) (more : List TrailItem) → Holds c n l v m u more → ((a : ℕ) → touches (cells_of l.writes.items) a ≡ true → touches u.owned.held (home_of c a) ≡ true) → IsValid c n (of_words good c.words) m u q w → IsReady good c n l v q w
-  ready-valid m q u w more h covered valid = record {
+  pub ready-valid : (m q : Local) (u w : View) (more : List TrailItem) → Holds c n l v m u more → ((a : ℕ) → touches (cells_of l.writes.items) a ≡ true → touches u.owned.held (home_of c a) ≡ true) → Owed good c n l v w → IsValid c n (of_words good c.words) m u q w → IsReady good c n l v q w
+  ready-valid m q u w more h covered due valid = record {
     local = whole;
     len = ap (λ (p : Local). p.locks.len) valid.local ∙ h.len;
     seen = valid.history;
@@ -234,6 +235,7 @@ module _ (good : List ℕ → Type 0) (c : Config) (n : ℕ) (low : n < c.caller
     grows = λ o. subst (λ (y : View). Grows (known_of v o) (known_of y o)) (sym path) (grown o);
     start = inr found;
     again = λ g. found;
+    owed = inr due;
   }
     where
       whole : q ≡ record l { start = q.start; locks = q.locks }
@@ -280,6 +282,7 @@ module _ (good : List ℕ → Type 0) (c : Config) (n : ℕ) (low : n < c.caller
     rises = ap (λ (y : View). y.steps.rises) h.is;
     conflicts = λ o e. why cause o e s.last trail s.why;
     others = others_of cause s.last s.why;
+    owed = inl (s.a, home_of c s.a, s.written, refl, named_of cause s.last s.why);
   }
     where
       h : Holds c n l v m u (s.last ++ s.before)
@@ -322,6 +325,13 @@ module _ (good : List ℕ → Type 0) (c : Config) (n : ℕ) (low : n < c.caller
       )
       why (causes.Filter time bits) o e last t f = absurd f
       why (causes.Overrun start clock) o e last t f = absurd f
+
+      named_of : (cause : causes.the_data) (last : List TrailItem) → IsRefused c n (home_of c s.a) cause l.start last → IsOfRecord cause (home_of c s.a)
+      named_of (causes.Clock had now) last f = f
+      named_of (causes.Record index word start) last f = f.0
+      named_of (causes.Moved index before after) last f = f.0
+      named_of (causes.Filter time bits) last f = f
+      named_of (causes.Overrun start clock) last f = f
 
       others_of : (cause : causes.the_data) (last : List TrailItem) → IsRefused c n (home_of c s.a) cause l.start last → 1 < c.callers
       others_of (causes.Clock had now) last f = absurd f
@@ -386,9 +396,9 @@ module _ (good : List ℕ → Type 0) (c : Config) (n : ℕ) (low : n < c.caller
           others-by n c.callers low (λ one. let a = sole index f.held newer one in let b = k.sole one in let d = k.optimistic.rises in omega arith),
         )
 
-    pub stopped-validating : (cause : causes.the_data) → Refuses c n cause u w → IsStopped good c n cause l v m w
-    stopped-validating (causes.Clock had now) s = absurd s
-    stopped-validating (causes.Record index word start) s = let path = stale_path index word start s in record {
+    pub stopped-validating : (cause : causes.the_data) → Owed good c n l v w → Refuses c n cause u w → IsStopped good c n cause l v m w
+    stopped-validating (causes.Clock had now) due s = absurd s
+    stopped-validating (causes.Record index word start) due s = let path = stale_path index word start s in record {
       local = h.local;
       len = h.len;
       can = can-roll m w u.owned.held w.check (s.more ++ more) path h.locks h.places h.versions;
@@ -397,20 +407,52 @@ module _ (good : List ℕ → Type 0) (c : Config) (n : ℕ) (low : n < c.caller
       rises = ap (λ (y : View). y.steps.rises) path;
       conflicts = λ o e. (stale-conflicts index word start s o).0;
       others = (stale-conflicts index word start s (own_of l)).1;
+      owed = inr due;
     }
-    stopped-validating (causes.Moved index before after) s = absurd s
-    stopped-validating (causes.Filter time bits) s = absurd s
-    stopped-validating (causes.Overrun start clock) s = absurd s
+    stopped-validating (causes.Moved index before after) due s = absurd s
+    stopped-validating (causes.Filter time bits) due s = absurd s
+    stopped-validating (causes.Overrun start clock) due s = absurd s
 
   -- THE VALIDATION behind the locks, or in a later call
   pub after-validate : (res : Result (Unit {0}) causes.the_data) (m q : Local) (u w : View) (more : List TrailItem) → Holds c n l v m u more → ((a : ℕ) → touches (cells_of l.writes.items) a ≡ true → touches u.owned.held (home_of c a) ≡ true)
       → ((r : ℕ) → touches u.owned.held r ≡ true → l.start < over u.owned.held r 0 → WasFree r (over u.owned.held r 0) more) → ((r : ℕ) → touches u.owned.held r ≡ false → Untouched (Record r) more)
-      → ((r : ℕ) → touches u.owned.held r ≡ true → l.start < over u.owned.held r 0 → c.callers ≡ 1 → over u.owned.held r 0 ≤ c.clock + v.steps.rises) → Validates c n (of_words good c.words) res m u q w → Prepares good c n res l v q w
-  after-validate (Ok x) m q u w more h covered free apart sole valid = ready-valid m q u w more h covered valid
-  after-validate (Err cause) m q u w more h covered free apart sole stops = subst (λ (p : Local). IsStopped good c n cause l v p w) (sym stops.0) (stopped-validating m u w more h free apart sole cause stops.1)
+      → ((r : ℕ) → touches u.owned.held r ≡ true → l.start < over u.owned.held r 0 → c.callers ≡ 1 → over u.owned.held r 0 ≤ c.clock + v.steps.rises) → Owed good c n l v w → Validates c n (of_words good c.words) res m u q w → Prepares good c n res l v q w
+  after-validate (Ok x) m q u w more h covered free apart sole due valid = ready-valid m q u w more h covered due valid
+  after-validate (Err cause) m q u w more h covered free apart sole due stops = subst (λ (p : Local). IsStopped good c n cause l v p w) (sym stops.0) (stopped-validating m u w more h free apart sole cause due stops.1)
 
-  pub locked-validate : (res : Result (Unit {0}) causes.the_data) (newest : ℕ) (m q : Local) (u w : View) → LocksEach c n newest l v m u → Validates c n (of_words good c.words) res m u q w → Prepares good c n res l v q w
-  locked-validate res newest m q u w e valid = after-validate res m q u w e.more e.locks.holds e.covered (λ r t late. e.locks.free r t) e.locks.apart (λ r t late. e.locks.sole r t) valid
+  -- a validation only adds steps
+  validates-more : (res : Result (Unit {0}) causes.the_data) (m q : Local) (u w : View) → Validates c n (of_words good c.words) res m u q w → (late : List TrailItem) × (w.steps.trail ≡ late ++ u.steps.trail)
+  validates-more (Ok x) m q u w valid = (valid.more, ap (λ (y : View). y.steps.trail) valid.is)
+  validates-more (Err cause) m q u w stops = by cause stops.1
+    where
+      by : (cause : causes.the_data) → Refuses c n cause u w → (late : List TrailItem) × (w.steps.trail ≡ late ++ u.steps.trail)
+      by (causes.Clock had now) s = absurd s
+      by (causes.Record index word start) s = (s.more, ap (λ (y : View). y.steps.trail) s.is)
+      by (causes.Moved index before after) s = absurd s
+      by (causes.Filter time bits) s = absurd s
+      by (causes.Overrun start clock) s = absurd s
+
+  -- it is owed where the newest of the versions that were taken is above the start
+  locked-owes : (newest : ℕ) (m : Local) (u w : View) (late : List TrailItem) → w.steps.trail ≡ late ++ u.steps.trail → l.start < newest → LocksEach c n newest l v m u → Owed good c n l v w
+  locked-owes newest m u w late steps above e o buffered mid = ⊎_elim
+      (λ z. absurd (omega arith))
+      (λ f. inr (
+        f.0,
+        free_record newest,
+        has_written o f.0 buffered f.1,
+        (late ++ e.more, path, Load, Contains-append_right late e.more (load_of (Record (home_of c f.0)) (free_record newest)) f.2),
+        is_owned-free newest,
+        (let a : version_of (free_record newest) ≡ newest = version_of-free newest in let b = i.start in omega arith),
+      ))
+      e.found
+    where
+      path : w.steps.trail ≡ (late ++ e.more) ++ v.steps.trail
+      path = steps ∙ (ap (λ (y : View). late ++ y.steps.trail) e.locks.holds.is ∙ sym (append_assoc late e.more v.steps.trail))
+
+  pub locked-validate : (res : Result (Unit {0}) causes.the_data) (newest : ℕ) (m q : Local) (u w : View) → l.start < newest → LocksEach c n newest l v m u → Validates c n (of_words good c.words) res m u q w → Prepares good c n res l v q w
+  locked-validate res newest m q u w above e valid =
+      let more = validates-more res m q u w valid in
+      after-validate res m q u w e.more e.locks.holds e.covered (λ r t late. e.locks.free r t) e.locks.apart (λ r t late. e.locks.sole r t) (locked-owes newest m u w more.0 more.1 above e) valid
 
   pub again-validate : (res : Result (Unit {0}) causes.the_data) (q : Local) (w : View) → l.committing ≡ true → Validates c n (of_words good c.words) res l v q w → Prepares good c n res l v q w
-  again-validate res q w mid valid = after-validate res l q v w [] holds-still (k.locked mid) (λ r t late. absurd (let o = k.olds mid r t in omega arith)) (λ r t. tt) (λ r t late. absurd (let o = k.olds mid r t in omega arith)) valid
+  again-validate res q w mid valid = after-validate res l q v w [] holds-still (k.locked mid) (λ r t late. absurd (let o = k.olds mid r t in omega arith)) (λ r t. tt) (λ r t late. absurd (let o = k.olds mid r t in omega arith)) (λ o buffered same. inl (same ∙ mid)) valid

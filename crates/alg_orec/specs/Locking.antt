@@ -1,5 +1,5 @@
 -- What the parts of a commit ask and tell that take records, store what was written, and give the records back.
-use Rattle.std.specs.Prelude.{ℕ, ◌≡◌, ◌≢◌, ◌+◌, ◌<◌, ◌≤◌, true, false, List, [], ◌∷◌, ◌++◌, Some, Result, Ok, Err}
+use Rattle.std.specs.Prelude.{ℕ, ◌≡◌, ◌≢◌, ◌+◌, ◌<◌, ◌≤◌, true, false, ◌⊎◌, List, [], ◌∷◌, ◌++◌, Contains, Some, Result, Ok, Err}
 use Rattle.stm_model.specs.declared.config.Config.{Config}
 use Rattle.stm_model.specs.declared.config.TheConstants.{CLOCK_LIMIT}
 use Rattle.stm_model.specs.declared.stop.Cause.{Cause}
@@ -101,12 +101,17 @@ module _ (c : Config) (n : ℕ) where
     pub apart : (r : ℕ) → touches w.owned.held r ≡ false → Untouched (Record r) more
     pub sole : (r : ℕ) → touches w.owned.held r ≡ true → c.callers ≡ 1 → over w.owned.held r 0 ≤ c.clock + v.steps.rises
 
-  -- all records of what was written are held, and this is a version that none of them was newer than
+  -- 0, or a version at which the record of an address that was written was found free
+  abbrev pub IsOfWritten : Local → ℕ → List TrailItem → Type 0
+  IsOfWritten l version more = (version ≡ 0) ⊎ ((a : ℕ) × (touches (cells_of l.writes.items) a ≡ true) × Contains more (load_of (Record (home_of c a)) (free_record version)))
+
+  -- all records of what was written are held, and this is the newest of their versions
   pub record LocksEach (newest : ℕ) (l : Local) (v : View) (m : Local) (w : View) : Type 0 where
     pub more : List TrailItem
     pub locks : Locks l v m w more
     pub covered : (a : ℕ) → touches (cells_of l.writes.items) a ≡ true → touches w.owned.held (home_of c a) ≡ true
     pub olds : (r : ℕ) → touches w.owned.held r ≡ true → over w.owned.held r 0 ≤ newest
+    pub found : IsOfWritten l newest more
 
   -- or the record of an address that was written can't be taken
   pub record StopsLocking (cause : Cause) (l : Local) (v : View) (m : Local) (w : View) : Type 0 where

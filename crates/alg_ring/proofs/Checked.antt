@@ -13,17 +13,6 @@ use Rattle.rule_ring.specs.RingSteps.{RingBegins}
 use Rattle.tx_answers.specs.Known.{Known, Grows, known_of}
 use Rattle.stm_gate.specs.Opacity.{later-seen}
 use Rattle.alg_ring.specs.Checking.{Passes}
-use Rattle.alg_ring.proofs.Refuting.{FindsAll}
-use Rattle.alg_ring.proofs.Words.{trail-right, trail-left}
-
--- what its steps found, between earlier and later ones of the same call
-pub finds-between : (v w : Known) (late more early : List TrailItem) → w.trail ≡ late ++ (more ++ (early ++ v.trail)) → FindsAll more v w
-finds-between v w late more early is place x found = let t = trail-right late (more ++ early) place x (trail-left more early place x found) in (
-  late ++ (more ++ early),
-  is ∙ (ap (λ (s : List TrailItem). late ++ s) (sym (append_assoc more early v.trail)) ∙ sym (append_assoc late (more ++ early) v.trail)),
-  t.0,
-  t.1,
-)
 
 -- where it passed, what the caller has seen grew
 module _ (good : List ℕ → Type 0) (c : Config) (gate : GateView) (start : ℕ) (v w : View) (p : Passes good c gate start v w) where

@@ -1,11 +1,11 @@
 -- What the steps of a check come to.
-use Rattle.std.proofs.Common.{ℕ, ◌≡◌, ◌≢◌, ◌<◌, ◌≤◌, ◌+◌, List, [], ◌∷◌, ◌++◌, Bool, true, false, refl, sym, ap, ◌∙◌, arith, subst, inl, inr, ⊎_elim, append_assoc}
+use Rattle.std.proofs.Common.{ℕ, ◌≡◌, ◌≢◌, ◌<◌, ◌≤◌, ◌+◌, List, [], ◌∷◌, ◌++◌, Bool, true, false, refl, sym, ap, ◌∙◌, arith, subst, inl, inr, append_assoc}
 use Rattle.std.specs.Prelude.{◌==◌, ltb, if◌then◌else◌, max, min, Option, Some, None, Ok, Err}
 use Rattle.std.proofs.lemmas.Bool.Decides.{nat_tests}
 use Rattle.stm_model.specs.declared.config.Config.{Config}
 use Rattle.stm_model.specs.declared.stop.Cause.{Cause}
 use Rattle.stm_model.specs.declared.stop.Cause.TheVariants as causes
-use Rattle.rule_base.specs.declared.layout.At.TheVariants.{Clock, Done, Slot}
+use Rattle.rule_base.specs.declared.layout.At.TheVariants.{Clock, Done}
 use Rattle.rule_base.specs.declared.views.Act.TheVariants.{Load}
 use Rattle.rule_base.specs.declared.views.GateView.{GateView}
 use Rattle.rule_base.specs.declared.views.SlotWord.{SlotWord}
@@ -19,16 +19,10 @@ use Rattle.rule_base.specs.World.{World}
 use Rattle.rule_promoted.specs.PromotedSteps.{ring_look_grant, ring_move_grant}
 use Rattle.rule_ring.specs.RingSteps.{HasRing, ring_look, ring_again, ring_move, CanRingMove, AllClear, RingSees, RingMoves, read_in, passed, moved}
 use Rattle.rule_ring.specs.SlotFilter.{slot_filter}
-use Rattle.rule_ring.specs.Slots.{slot_place}
 use Rattle.steps_ring.specs.RingFindings.{FindsLook, FindsAgain, FindsMove, FindsLevel}
-use Rattle.alg_ring.specs.Checking.{InTrail, with_words, CanScan, Meeting, MeetsOne, OneMeets, Refutes, scanned, Scans, CanCheck, CanCheckToGrant, Passes, Fails, Checks, ChecksToGrant}
-use Rattle.alg_ring.proofs.Words.{trail-right, trail-left}
-
-meeting-right : (ring : ℕ) (filter : List ℕ) (time bits : ℕ) (more xs : List TrailItem) → Meeting ring filter time bits xs → Meeting ring filter time bits (more ++ xs)
-meeting-right ring filter time bits more xs m = record { slot = m.slot; loaded = λ i l k. trail-right more xs (Slot (slot_place ring time i)) (m.slot i) (m.loaded i l k); meet = m.meet; lowest = m.lowest; some = m.some }
-
-meeting-left : (ring : ℕ) (filter : List ℕ) (time bits : ℕ) (xs more : List TrailItem) → Meeting ring filter time bits xs → Meeting ring filter time bits (xs ++ more)
-meeting-left ring filter time bits xs more m = record { slot = m.slot; loaded = λ i l k. trail-left xs more (Slot (slot_place ring time i)) (m.slot i) (m.loaded i l k); meet = m.meet; lowest = m.lowest; some = m.some }
+use Rattle.tx_answers.specs.SlotEvidence.{InTrail}
+use Rattle.alg_ring.specs.Checking.{with_words, CanScan, MeetsOne, OneMeets, Refutes, scanned, Scans, CanCheck, CanCheckToGrant, Passes, Fails, Checks, ChecksToGrant}
+use Rattle.alg_ring.proofs.Words.{trail-right}
 
 -- where a check moves the start
 pub moved-is : (v : View) (start clock done : ℕ) → v.attempt.start ≡ start → v.ring_read.clock ≡ clock → moved v done ≡ max start (min done clock)
@@ -38,13 +32,6 @@ moved-is v start clock done e f = (λ i. if ltb (if ltb done (f i) then done els
     by s c d = grind (arith, nat_tests)
 
 module _ (c : Config) (start clock : ℕ) (filter : List ℕ) where
-  refutes-left : (cause : Cause) (xs more : List TrailItem) → Refutes c start clock cause filter xs → Refutes c start clock cause filter (xs ++ more)
-  refutes-left (causes.Filter time bits) xs more r = (r.0, r.1, meeting-left c.ring filter time bits xs more r.2)
-  refutes-left (causes.Clock had now) xs more r = r
-  refutes-left (causes.Record index word from) xs more r = r
-  refutes-left (causes.Moved index before after) xs more r = r
-  refutes-left (causes.Overrun from now) xs more r = (r.0, r.1, ⊎_elim (λ e. inl e) (λ f. inr (trail-left xs more Clock now f)) r.2)
-
   module _ (v : View) (can : CanScan start clock filter v) where
     -- the ring doesn't reach back to the start
     pub scans-far : start + c.ring ≤ clock → Scans c start clock (Err (causes.Overrun start clock)) filter v v
@@ -61,15 +48,15 @@ module _ (c : Config) (start clock : ℕ) (filter : List ℕ) where
       pub scans-later : (r : Option Cause) → MeetsOne c start clock r filter v w → start + c.ring ≤ later → Scans c start clock (Err (causes.Overrun start later)) filter v u
       scans-later r m far = let k = met-words r m in (k.0, ltb later (v.attempt.start + c.ring), record { place = Clock; act = Load; found = Some later } ∷ k.1, again_at k.0 k.1 k.2, (refl, far, inr (Load, (0, omega arith, refl))))
 
-      one-refutes : (cause : Cause) (more : List TrailItem) → OneMeets c start clock cause filter more → Refutes c start clock cause filter (record { place = Clock; act = Load; found = Some later } ∷ more)
-      one-refutes (causes.Filter time bits) more m = (m.0, m.1, meeting-right c.ring filter time bits (record { place = Clock; act = Load; found = Some later } ∷ []) more m.2)
-      one-refutes (causes.Clock had now) more m = m
-      one-refutes (causes.Record index word from) more m = m
-      one-refutes (causes.Moved index before after) more m = m
-      one-refutes (causes.Overrun from now) more m = absurd m
+      one-refutes : (cause : Cause) (more : List TrailItem) → later < start + c.ring → OneMeets c start clock cause filter more → Refutes c start clock cause filter (record { place = Clock; act = Load; found = Some later } ∷ more)
+      one-refutes (causes.Filter time bits) more near m = (later, more, refl, near, m)
+      one-refutes (causes.Clock had now) more near m = m
+      one-refutes (causes.Record index word from) more near m = m
+      one-refutes (causes.Moved index before after) more near m = m
+      one-refutes (causes.Overrun from now) more near m = absurd m
 
-      pub scans-met : (cause : Cause) → MeetsOne c start clock (Some cause) filter v w → Scans c start clock (Err cause) filter v u
-      scans-met cause m = (m.0, ltb later (v.attempt.start + c.ring), record { place = Clock; act = Load; found = Some later } ∷ m.1, again_at m.0 m.1 m.2, one-refutes cause m.1 m.3)
+      pub scans-met : (cause : Cause) → later < start + c.ring → MeetsOne c start clock (Some cause) filter v w → Scans c start clock (Err cause) filter v u
+      scans-met cause near m = (m.0, ltb later (v.attempt.start + c.ring), record { place = Clock; act = Load; found = Some later } ∷ m.1, again_at m.0 m.1 m.2, one-refutes cause m.1 near m.3)
 
       pub scans-ok : MeetsOne c start clock None filter v w → later < start + c.ring → (r : Unit {0}) → Scans c start clock (Ok r) filter v u
       scans-ok m near r =
@@ -135,8 +122,9 @@ module _ (good : List ℕ → Type 0) (c : Config) (start : ℕ) (filter : List 
         ∙ (λ i. record v { ring_read = record v.ring_read { checking = true; clock = clock; words = s.0; sure = s.1 }; steps = record v.steps { trail = sym (append_assoc s.2 (record { place = Clock; act = Load; found = Some clock } ∷ []) v.steps.trail) i } }));
     others = λ one. apart (f.sole one ∙ sym (sole one));
     clock = clock;
-    found = trail-right s.2 (record { place = Clock; act = Load; found = Some clock } ∷ []) Clock clock (Load, (0, omega arith, refl));
-    refutes = subst (λ (k : ℕ). Refutes c k clock cause filter (s.2 ++ record { place = Clock; act = Load; found = Some clock } ∷ [])) (sym start_is) (refutes-left c start clock filter cause s.2 (record { place = Clock; act = Load; found = Some clock } ∷ []) s.4);
+    loads = s.2;
+    parts = refl;
+    refutes = subst (λ (k : ℕ). Refutes c k clock cause filter s.2) (sym start_is) s.4;
   }
 
   -- the view before the load of DONE

@@ -86,11 +86,11 @@ module _ (f g h : ℕ → ℕ) (same : (i : ℕ) → i < 16 → f i ≡ g i) whe
   word : (i : ℕ) → i < 16 → word_meets f h i ≡ word_meets g h i
   word i low = ap (λ (k : ℕ). not (bit_and k (h i) == 0)) (same i low)
 
-  part : (p : ℕ) → p < 4 → part_meets f h p ≡ part_meets g h p
-  part p low = λ i. word (4 * p) (omega arith) i || (word (4 * p + 1) (omega arith) i || (word (4 * p + 2) (omega arith) i || word (4 * p + 3) (omega arith) i))
+  pub part-by : (p : ℕ) → p < 4 → part_meets f h p ≡ part_meets g h p
+  part-by p low = λ i. word (4 * p) (omega arith) i || (word (4 * p + 1) (omega arith) i || (word (4 * p + 2) (omega arith) i || word (4 * p + 3) (omega arith) i))
 
   pub meets-same : meets f h ≡ meets g h
-  meets-same = λ i. part 0 (omega arith) i && (part 1 (omega arith) i && (part 2 (omega arith) i && part 3 (omega arith) i))
+  meets-same = λ i. part-by 0 (omega arith) i && (part-by 1 (omega arith) i && (part-by 2 (omega arith) i && part-by 3 (omega arith) i))
 
   lowest-from : (n i : ℕ) → i + n ≤ 16 → lowest_from f h i n ≡ lowest_from g h i n
   unfolding lowest_from

@@ -42,8 +42,8 @@ use Rattle.stm_gate.specs.LeavingLaws.{quits-left, finds-full, found-left}
 use Rattle.stm_model.specs.Logs as logs
 use Rattle.alg_ring.specs.Calls.{HasAttempt, StandsTold, TookTurn, IsDecided, freed, CanEnter, Enters, entered_at, writing, CanWriteBack, WritesBack}
 use Rattle.alg_ring.specs.Checking.{CanCheck, Checks, Fails, passed_at}
-use Rattle.alg_ring.proofs.Checked.{passes-grows, finds-between}
-use Rattle.alg_ring.proofs.Refuting.{refuted}
+use Rattle.alg_ring.proofs.Checked.{passes-grows}
+use Rattle.alg_ring.proofs.Refuting.{refuted, finds-between}
 use Rattle.alg_ring.proofs.Running as attempt
 
 abbrev pub clock_found : ℕ → TrailItem
@@ -168,9 +168,8 @@ module _ (good : List ℕ → Type 0) (c : Config) (n : ℕ) (l : Local) (v w : 
     pub decides-conflict : n < c.callers → (cause : Cause) (x : View) → Fails good c cause l.loaded u x → IsDecided good c n (commits.Conflict cause) v l x
     decides-conflict low cause x f = unmade (commits.Conflict cause) f.read clock (f.more ++ early) x failed (λ quits. (
       quits,
-      refuted c n None (known_of v o) (known_of (left n (freed (ticked_at f.read clock (f.more ++ early)))) o) l.loaded u.attempt.start f.clock f.more cause named (sym (ap (λ (z : View). z.attempt.start) ticked)) k.read
-          (finds-between (known_of v o) (known_of (left n (freed (ticked_at f.read clock (f.more ++ early)))) o) (last ++ lock_freed ∷ []) f.more early
-          (ap (λ (s : List TrailItem). last ++ lock_freed ∷ s) (append_assoc f.more early v.steps.trail) ∙ sym (append_assoc last (lock_freed ∷ []) (f.more ++ (early ++ v.steps.trail))))) f.found f.refutes,
+      refuted c n None (known_of v o) (known_of (left n (freed (ticked_at f.read clock (f.more ++ early)))) o) l.loaded u.attempt.start f.clock (last ++ lock_freed ∷ []) f.loads early cause named (sym (ap (λ (z : View). z.attempt.start) ticked)) k.read
+          (ap (λ (s : List TrailItem). last ++ lock_freed ∷ s) (append_assoc f.more early v.steps.trail) ∙ (sym (append_assoc last (lock_freed ∷ []) (f.more ++ (early ++ v.steps.trail))) ∙ ap (λ (m : List TrailItem). (last ++ lock_freed ∷ []) ++ (m ++ (early ++ v.steps.trail))) f.parts)) f.refutes,
       (let d = f.others in omega arith),
       turn.has.wrote,
     ))

@@ -45,10 +45,10 @@ use Rattle.stm_gate.specs.Told.{stands-on}
 use Rattle.alg_ring.specs.Calls.{HasAttempt, StandsTold, Stores}
 use Rattle.alg_ring.specs.Opening.{Opened, has-attempt}
 use Rattle.alg_ring.specs.Checking.{CanCheckToGrant, ChecksToGrant, Fails, passed_at}
-use Rattle.alg_ring.proofs.Checked.{passes-grows, finds-between}
+use Rattle.alg_ring.proofs.Checked.{passes-grows}
 use Rattle.alg_ring.proofs.Entering.{some-cells}
 use Rattle.alg_ring.proofs.Finishing.{clock_found}
-use Rattle.alg_ring.proofs.Refuting.{refuted}
+use Rattle.alg_ring.proofs.Refuting.{refuted, finds-between}
 use Rattle.alg_ring.proofs.Running as attempt
 
 none-written : (ws : List (ℕ × ℕ)) → not (is_empty ws) ≡ false → cells_of ws ≡ []
@@ -175,11 +175,13 @@ module _ (good : List ℕ → Type 0) (c : Config) (n : ℕ) (l : Local) (v : Vi
       pub tells-conflict : n < c.callers → (y : View) → y ≡ left n u → Grants good c n (irrevs.Conflict cause) (known_of v o) (known_of y o)
       tells-conflict low y end = subst (λ (z : View). Grants good c n (irrevs.Conflict cause) (known_of v o) (known_of z o)) (sym (end ∙ ap (left n) failed-path)) (
         quits-settled clock f.read (f.more ++ clock_found clock ∷ []),
-        refuted c n None (known_of v o) (known_of (left n (settled_at clock f.read (f.more ++ clock_found clock ∷ []))) o) l.loaded w.attempt.start f.clock f.more cause named (sym (ap (λ (z : View). z.attempt.start) settled-path)) k.read
-            (finds-between (known_of v o) (known_of (left n (settled_at clock f.read (f.more ++ clock_found clock ∷ []))) o) (last_steps n v.gate.holds v.gate.fence v.gate.algorithm) f.more (clock_found clock ∷ [])
-            (ap (λ (s : List TrailItem). last_steps n v.gate.holds v.gate.fence v.gate.algorithm ++ s) (append_assoc f.more (clock_found clock ∷ []) v.steps.trail))) f.found f.refutes,
+        refuted c n None (known_of v o) (known_of (left n (settled_at clock f.read (f.more ++ clock_found clock ∷ []))) o) l.loaded w.attempt.start f.clock last f.loads (clock_found clock ∷ []) cause named (sym (ap (λ (z : View). z.attempt.start) settled-path)) k.read
+            (ap (λ (s : List TrailItem). last ++ s) (append_assoc f.more (clock_found clock ∷ []) v.steps.trail) ∙ ap (λ (m : List TrailItem). last ++ (m ++ clock_found clock ∷ v.steps.trail)) f.parts) f.refutes,
         (let d = f.others in omega arith),
       )
+        where
+          last : List TrailItem
+          last = last_steps n v.gate.holds v.gate.fence v.gate.algorithm
 
     -- it passed: the start is the clock
     module _ (under : clock < CLOCK_LIMIT) (start : ℕ) (u : View) (p : ChecksToGrant good c (Ok start) l.loaded w u) where

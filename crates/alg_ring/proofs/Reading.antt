@@ -32,7 +32,7 @@ use Rattle.tx_answers.specs.declared.answers.Read.TheVariants.{Value, Conflict}
 use Rattle.tx_answers.specs.Answers.{HasRead, GoesOn, Quits, StartMoves}
 use Rattle.tx_answers.specs.Causes.{Conflicts, has_item, reads_full}
 use Rattle.tx_answers.specs.Known.{Grows, known_of, written_under, is_irrevocable, is_in, is_closing}
-use Rattle.stm_gate.specs.Leaving.{left}
+use Rattle.stm_gate.specs.Leaving.{left, last_steps}
 use Rattle.stm_gate.specs.LeavingLaws.{quits-left, found-left}
 use Rattle.stm_gate.specs.Logging.{log_of, reads-logged}
 use Rattle.stm_gate.specs.Opacity.{opaque-at, later-seen}
@@ -41,7 +41,7 @@ use Rattle.alg_ring.specs.Checking.{CanCheck, Checks, Passes, passed_at, Fails}
 use Rattle.alg_ring.proofs.Buffering.{untouched-items}
 use Rattle.alg_ring.proofs.Ending.{revocable}
 use Rattle.alg_ring.proofs.FilterWords.{filter-put, slot-more}
-use Rattle.alg_ring.proofs.Refuting.{FindsAll, tells-behind, refuted}
+use Rattle.alg_ring.proofs.Refuting.{FindsAll, finds-between, refuted}
 use Rattle.alg_ring.proofs.Seen.{upto-upto}
 
 module _ (good : List ℕ → Type 0) (c : Config) (n a : ℕ) (l : Local) (v : View) (i : IsInside good c n l v) (named : v.gate.algorithm ≡ RingSw) (plain : l.granted ≡ false) (k : IsRing c l v) where
@@ -137,7 +137,7 @@ module _ (good : List ℕ → Type 0) (c : Config) (n a : ℕ) (l : Local) (v : 
         start-moves = ⊎_elim (λ e. inl e) (λ q. inr (q.0, q.1, found Clock q.0 q.2, found Done q.1 q.3, q.4)) p.moves
           where
             found : FindsAll p.more (known_of v o) (known_of after o)
-            found = tells-behind v loaded after o o (item ∷ []) p.more refl refl
+            found = finds-between (known_of v o) (known_of after o) [] p.more (item ∷ []) refl
 
         goes : GoesOn (known_of v o) (known_of after o)
         goes = record {
@@ -197,10 +197,13 @@ module _ (good : List ℕ → Type 0) (c : Config) (n a : ℕ) (l : Local) (v : 
             (let r = k.optimistic.rises in (omega arith, omega arith)) (revocable good c n l v i named k o)
 
         why : Conflicts c n (Some a) cause (known_of v o) (known_of (left n failed) o)
-        why = refuted c n (Some a) (known_of v o) (known_of (left n failed) o) filter v.attempt.start q.clock q.more cause named refl
+        why = refuted c n (Some a) (known_of v o) (known_of (left n failed) o) filter v.attempt.start q.clock last q.loads (item ∷ []) cause named refl
             (λ j less. words j less ∙ ap (bit_or (address_word a j)) (k.read j less))
-            (λ place y f. found-left n place y v failed o o (tells-behind v loaded failed o o (item ∷ []) q.more refl refl place y f))
-            q.found q.refutes
+            (ap (λ (m : List TrailItem). last ++ (m ++ item ∷ v.steps.trail)) q.parts)
+            q.refutes
+          where
+            last : List TrailItem
+            last = last_steps n v.gate.holds v.gate.fence v.gate.algorithm
 
       pub loads-conflict : (z : View) → n < c.callers → z ≡ left n w → IsOutside z → LoadsNew good c n a (Conflict cause) l v (ended (record l { loaded = filter })) z
       loads-conflict z low is out = (

@@ -15,7 +15,8 @@ use Rattle.rule_ring.specs.RingSteps.{CanRingWord, ring_word, AllClear}
 use Rattle.rule_ring.specs.SlotFilter.{slot_filter}
 use Rattle.rule_ring.specs.Slots.{slot_place, has_word, loaded_word}
 use Rattle.tx_logs.specs.Filters.{meets, part_meets}
-use Rattle.alg_ring.specs.Checking.{InTrail, with_words, CanLoadSlot, NoCommon, FirstCommon, LoadsPart, MeetsSlot, CanScan, MeetsOne}
+use Rattle.tx_answers.specs.SlotEvidence.{InTrail, LoadsWord, Misses}
+use Rattle.alg_ring.specs.Checking.{with_words, CanLoadSlot, NoCommon, FirstCommon, LoadsPart, MeetsSlot, CanScan, MeetsOne}
 use Rattle.alg_ring.proofs.Meeting.{part-yes, part-no, meets-yes, meets-no, part-same, lowest-at, ring-meets}
 use Rattle.alg_ring.proofs.Words.{front-has, back-has, loaded-some, last-here, last-else, last-of, trail-right, trail-left}
 
@@ -182,7 +183,9 @@ module _ (ring time : ℕ) (filter : List ℕ) where
       apart = λ z slot same. meets-no (slice_index filter) slot part low (part-no (slice_index filter) slot part (λ i a b.
           let n = l.none none i a b in let h = here i n.0 in
           ap (bit_and (slice_index filter i)) (sym (same i (omega arith) h.0) ∙ h.1) ∙ n.1));
+      missed = λ z. (part, low, λ i a b. let n = l.none none i a b in let h = here i n.0 in (h.0, ap (bit_and (slice_index filter i)) h.1 ∙ n.1));
       meet = λ k. absurd (k refl);
+      first = λ k. absurd (k refl);
       lowest = λ k. absurd (k refl);
     }
 
@@ -230,11 +233,22 @@ module _ (ring time : ℕ) (filter : List ℕ) where
     of = λ t j h. (s.of t j h).0;
     found = s.found;
     apart = λ z. absurd (k.some z);
+    missed = λ z. absurd (k.some z);
+    first = λ some. f;
     meet = λ some. meets-yes (slice_index filter) (loaded_word s.words time) (λ p l. k.met p (omega arith));
     lowest = λ some. f.is ∙ sym (lowest-at (slice_index filter) (loaded_word s.words time) 16 0 f.j (omega arith) (let q = f.high in omega arith) (λ i a b. (f.before i (omega arith) b).1) (λ z. some (f.is ∙ z)));
   }
 
 -- ALL SLOTS
+
+-- a word by its place in the ring
+loads-at : (ring : ℕ) (filter : ℕ → ℕ) (more : List TrailItem) (time i x : ℕ) → InTrail more (Slot (slot_place ring time i)) x → LoadsWord ring filter more time i x
+unfolding slot_place
+loads-at ring filter more time i x t = t
+
+-- with later loads
+misses-right : (ring : ℕ) (filter : ℕ → ℕ) (more xs : List TrailItem) (e : ℕ) → Misses ring filter xs e → Misses ring filter (more ++ xs) e
+misses-right ring filter more xs e m = record { slot = m.slot; part = m.part; low = m.low; loaded = λ i a b. trail-right more xs _ (m.slot i) (m.loaded i a b); none = m.none }
 
 module _ (c : Config) (start clock : ℕ) (filter : List ℕ) where
   -- whatever those words of the slot are that were not loaded, it doesn't meet the filter
@@ -247,9 +261,10 @@ module _ (c : Config) (start clock : ℕ) (filter : List ℕ) where
     pub more : List TrailItem
     pub is : w ≡ with_words v words more
     pub clear : (e : ℕ) → start < e → e ≤ start + passed → Apart words e
+    pub missed : (e : ℕ) → start < e → e ≤ start + passed → Misses c.ring (slice_index filter) more e
 
   pub scan-first : (v : View) → ScanSoFar 0 v v
-  scan-first v = record { words = v.ring_read.words; more = []; is = refl; clear = λ e a b. absurd (omega arith) }
+  scan-first v = record { words = v.ring_read.words; more = []; is = refl; clear = λ e a b. absurd (omega arith); missed = λ e a b. absurd (omega arith) }
 
   pub may-scan : (passed : ℕ) (v w : View) → CanScan start clock filter v → clock < start + c.ring → passed < clock - start → ScanSoFar passed v w → CanLoadSlot c.ring (start + 1 + passed) w
   may-scan passed v w can near low s = may-slot c.ring (start + 1 + passed) v w s.words s.more (record {
@@ -265,8 +280,12 @@ module _ (c : Config) (start clock : ℕ) (filter : List ℕ) where
     scan_is : u ≡ with_words v (m.words ++ s.words) (m.more ++ s.more)
     scan_is = m.is ∙ (ap (λ (y : View). with_words y (m.words ++ y.ring_read.words) m.more) s.is ∙ with-more v (m.words ++ s.words) m.more s.more)
 
+    loads : (i : ℕ) → has_word m.words (start + 1 + passed) i ≡ true → LoadsWord c.ring (slice_index filter) (m.more ++ s.more) (start + 1 + passed) i (loaded_word m.words (start + 1 + passed) i)
+    loads i h = loads-at c.ring (slice_index filter) (m.more ++ s.more) (start + 1 + passed) i (loaded_word m.words (start + 1 + passed) i)
+        (trail-left m.more s.more (Slot (slot_place c.ring (start + 1 + passed) i)) (loaded_word m.words (start + 1 + passed) i) (m.found i h))
+
     pub scan-next : bits ≡ 0 → ScanSoFar (passed + 1) v u
-    scan-next none = record { words = m.words ++ s.words; more = m.more ++ s.more; is = scan_is; clear = λ e a b. by e a b (e == start + 1 + passed) refl }
+    scan-next none = record { words = m.words ++ s.words; more = m.more ++ s.more; is = scan_is; clear = λ e a b. by e a b (e == start + 1 + passed) refl; missed = λ e a b. misses e a b (e == start + 1 + passed) refl }
       where
         by : (e : ℕ) → start < e → e ≤ start + (passed + 1) → (t : Bool) → (e == start + 1 + passed) ≡ t → Apart (m.words ++ s.words) e
         by e a b true q slot same = m.apart none slot (λ i low h.
@@ -277,23 +296,45 @@ module _ (c : Config) (start clock : ℕ) (filter : List ℕ) where
             let f = back-has m.words s.words e i (λ k. let d : e ≢ start + 1 + passed = grind (arith, nat_tests) in d (m.of e i k)) in
             sym f.1 ∙ same i low (f.0 ∙ h))
 
+        misses : (e : ℕ) → start < e → e ≤ start + (passed + 1) → (t : Bool) → (e == start + 1 + passed) ≡ t → Misses c.ring (slice_index filter) (m.more ++ s.more) e
+        misses e a b true q =
+            let same : start + 1 + passed ≡ e = grind (arith, nat_tests) in
+            let n = m.missed none in
+            subst (Misses c.ring (slice_index filter) (m.more ++ s.more)) same (record {
+              slot = loaded_word m.words (start + 1 + passed);
+              part = n.0;
+              low = n.1;
+              loaded = λ i l h. loads i (n.2 i l h).0;
+              none = part-no (slice_index filter) (loaded_word m.words (start + 1 + passed)) n.0 (λ i l h. (n.2 i l h).1);
+            })
+        misses e a b false q = misses-right c.ring (slice_index filter) m.more s.more e (s.missed e a (let d : e ≢ start + 1 + passed = grind (arith, nat_tests) in omega arith))
+
     pub scan-met : bits ≢ 0 → passed < clock - start → MeetsOne c start clock (Some (causes.Filter (start + 1 + passed) bits)) filter v u
     scan-met some low = (
       m.words ++ s.words,
       m.more ++ s.more,
       scan_is,
-      (
-        omega arith,
-        omega arith,
-        record {
+      let f = m.first some in record {
+        since = omega arith;
+        upto = omega arith;
+        meets = record {
           slot = loaded_word m.words (start + 1 + passed);
-          loaded = λ i l k. trail-left m.more s.more (Slot (slot_place c.ring (start + 1 + passed) i)) (loaded_word m.words (start + 1 + passed) i) (m.found i (loaded-some m.words (start + 1 + passed) i k));
+          loaded = λ i l k. loads i (loaded-some m.words (start + 1 + passed) i k);
           meet = m.meet some;
-          lowest = m.lowest some;
           some = some;
-        },
-      ),
+          lowest = m.lowest some;
+          index = f.j;
+          low = (let h = f.high in omega arith);
+          is = f.is;
+          upto = λ i l. loads i (upto i l (i == f.j) refl);
+        };
+        least = λ e a b. misses-right c.ring (slice_index filter) m.more s.more e (s.missed e a (omega arith));
+      },
     )
+      where
+        upto : (i : ℕ) → i ≤ (m.first some).j → (t : Bool) → (i == (m.first some).j) ≡ t → has_word m.words (start + 1 + passed) i ≡ true
+        upto i l true q = let f = m.first some in subst (λ (k : ℕ). has_word m.words (start + 1 + passed) k ≡ true) (let e : f.j ≡ i = grind (arith, nat_tests) in e) f.has
+        upto i l false q = let f = m.first some in (f.before i (omega arith) (let d : i ≢ f.j = grind (arith, nat_tests) in omega arith)).0
 
   pub scan-all : (v w : View) → CanScan start clock filter v → ScanSoFar (clock - start) v w → MeetsOne c start clock None filter v w
   scan-all v w can s = (

@@ -8,7 +8,7 @@ use Rattle.rule_base.specs.declared.layout.At.{At}
 use Rattle.rule_base.specs.declared.views.SlotWord.{SlotWord}
 use Rattle.rule_base.specs.declared.views.TrailItem.{TrailItem}
 use Rattle.rule_ring.specs.Slots.{has_word, loaded_word}
-use Rattle.alg_ring.specs.Checking.{InTrail}
+use Rattle.tx_answers.specs.SlotEvidence.{InTrail}
 
 pub has-append : (xs ys : List SlotWord) (e i : ℕ) → has_word (xs ++ ys) e i ≡ (if has_word xs e i then true else has_word ys e i)
 has-append [] ys e i = refl

@@ -1,5 +1,5 @@
 -- What the parts of a check of RingSW ask and tell.
-use Rattle.std.specs.Prelude.{ℕ, ◌≡◌, ◌≢◌, ◌+◌, ◌*◌, ◌<◌, ◌≤◌, ◌⊎◌, max, min, Bool, true, false, List, ◌++◌, slice_index, bit_and, Contains, Option, Some, None, Result, Ok, Err}
+use Rattle.std.specs.Prelude.{ℕ, ◌≡◌, ◌≢◌, ◌+◌, ◌*◌, ◌<◌, ◌≤◌, ◌⊎◌, max, min, Bool, true, false, List, [], ◌∷◌, ◌++◌, slice_index, bit_and, Contains, Option, Some, None, Result, Ok, Err}
 use Rattle.stm_model.specs.declared.config.Config.{Config}
 use Rattle.stm_model.specs.declared.stop.Cause.{Cause}
 use Rattle.stm_model.specs.declared.stop.Cause.TheVariants as causes
@@ -22,10 +22,7 @@ use Rattle.rule_ring.specs.RingSteps.{HasRing, AllClear, CanRingMove, RingSees, 
 use Rattle.rule_ring.specs.SlotFilter.{slot_filter}
 use Rattle.rule_ring.specs.Slots.{slot_place, has_word, loaded_word}
 use Rattle.tx_logs.specs.Filters.{meets, lowest_common}
-
--- a step of these found this number at this place
-abbrev pub InTrail : List TrailItem → At → ℕ → Type 0
-InTrail more place n = (act : Act) × Contains more (record { place = place; act = act; found = Some n })
+use Rattle.tx_answers.specs.SlotEvidence.{InTrail, FirstMet, clock_load}
 
 -- the filter has the addresses of these cells
 abbrev pub IsFilterOf : List ℕ → List Cell → Type 0
@@ -59,6 +56,10 @@ module _ (ring time : ℕ) (filter : List ℕ) where
     pub is : bits ≡ bit_and (slice_index filter j) (loaded_word words time j)
     pub before : (i : ℕ) → 4 * part ≤ i → i < j → NoCommon words i
 
+  -- all words of the part were loaded, and none has common bits
+  abbrev pub PartMisses : ℕ → List SlotWord → Type 0
+  PartMisses part words = (i : ℕ) → 4 * part ≤ i → i < 4 * part + 4 → NoCommon words i
+
   -- words of a part of the slot were loaded, up to the first that has common bits
   pub record LoadsPart (part bits : ℕ) (v w : View) : Type 0 where
     pub words : List SlotWord
@@ -66,7 +67,7 @@ module _ (ring time : ℕ) (filter : List ℕ) where
     pub is : w ≡ with_words v (words ++ v.ring_read.words) more
     pub of : (t i : ℕ) → has_word words t i ≡ true → (t ≡ time) × (4 * part ≤ i) × (i < 4 * part + 4)
     pub found : (i : ℕ) → has_word words time i ≡ true → InTrail more (Slot (slot_place ring time i)) (loaded_word words time i)
-    pub none : bits ≡ 0 → (i : ℕ) → 4 * part ≤ i → i < 4 * part + 4 → NoCommon words i
+    pub none : bits ≡ 0 → PartMisses part words
     pub some : bits ≢ 0 → FirstCommon part bits words
 
   -- words of the slot were loaded, as far as they tell whether it meets the filter
@@ -78,7 +79,9 @@ module _ (ring time : ℕ) (filter : List ℕ) where
     pub found : (i : ℕ) → has_word words time i ≡ true → InTrail more (Slot (slot_place ring time i)) (loaded_word words time i)
     -- whatever those words are that were not loaded
     pub apart : bits ≡ 0 → (slot : ℕ → ℕ) → ((i : ℕ) → i < SLOT_WORDS → has_word words time i ≡ true → loaded_word words time i ≡ slot i) → meets (slice_index filter) slot ≡ false
+    pub missed : bits ≡ 0 → (part : ℕ) × (part < 4) × PartMisses part words
     pub meet : bits ≢ 0 → meets (slice_index filter) (loaded_word words time) ≡ true
+    pub first : bits ≢ 0 → FirstCommon 0 bits words
     pub lowest : bits ≢ 0 → bits ≡ lowest_common (slice_index filter) (loaded_word words time)
 
 -- ALL SLOTS
@@ -92,17 +95,9 @@ pub record CanScan (start clock : ℕ) (filter : List ℕ) (v : View) : Type 0 w
   pub later : start ≤ clock
   pub watched : IsFilterOf filter v.ring_read.watched
 
--- the slot of the time meets the filter, in these lowest bits
-pub record Meeting (ring : ℕ) (filter : List ℕ) (time bits : ℕ) (more : List TrailItem) : Type 0 where
-  pub slot : ℕ → ℕ
-  pub loaded : (i : ℕ) → i < SLOT_WORDS → slot i ≢ 0 → InTrail more (Slot (slot_place ring time i)) (slot i)
-  pub meet : meets (slice_index filter) slot ≡ true
-  pub lowest : bits ≡ lowest_common (slice_index filter) slot
-  pub some : bits ≢ 0
-
 module _ (c : Config) (start clock : ℕ) where
   abbrev pub OneMeets : Cause → List ℕ → List TrailItem → Type 0
-  OneMeets (causes.Filter time bits) filter more = (start < time) × (time ≤ clock) × Meeting c.ring filter time bits more
+  OneMeets (causes.Filter time bits) filter more = FirstMet c.ring start clock (slice_index filter) time bits more
   OneMeets (causes.Clock had now) filter more = ⊥
   OneMeets (causes.Record index word from) filter more = ⊥
   OneMeets (causes.Moved index before after) filter more = ⊥
@@ -113,9 +108,9 @@ module _ (c : Config) (start clock : ℕ) where
   MeetsOne None filter v w = (words : List SlotWord) × (more : List TrailItem) × (w ≡ with_words v words more) × AllClear slot_filter w
   MeetsOne (Some cause) filter v w = (words : List SlotWord) × (more : List TrailItem) × (w ≡ with_words v words more) × OneMeets cause filter more
 
-  -- a slot meets the filter, or the ring no longer reaches back to the start
+  -- a slot meets the filter, and the ring still reached back to the start when the clock was loaded behind it; or it no longer reaches back
   abbrev pub Refutes : Cause → List ℕ → List TrailItem → Type 0
-  Refutes (causes.Filter time bits) filter more = (start < time) × (time ≤ clock) × Meeting c.ring filter time bits more
+  Refutes (causes.Filter time bits) filter more = (later : ℕ) × (loads : List TrailItem) × (more ≡ clock_load later ∷ loads) × (later < start + c.ring) × FirstMet c.ring start clock (slice_index filter) time bits loads
   Refutes (causes.Clock had now) filter more = ⊥
   Refutes (causes.Record index word from) filter more = ⊥
   Refutes (causes.Moved index before after) filter more = ⊥
@@ -183,8 +178,9 @@ module _ (good : List ℕ → Type 0) (c : Config) where
     pub is : w ≡ record v { ring_read = read; steps = record v.steps { trail = more ++ v.steps.trail } }
     pub others : c.callers ≢ 1
     pub clock : ℕ
-    pub found : InTrail more Clock clock
-    pub refutes : Refutes c v.attempt.start clock cause filter more
+    pub loads : List TrailItem
+    pub parts : more ≡ loads ++ clock_load clock ∷ []
+    pub refutes : Refutes c v.attempt.start clock cause filter loads
 
   -- what `check` tells: under the lock the start is the clock now
   abbrev pub Checks : Result ℕ Cause → List ℕ → View → View → Type 0

@@ -25,7 +25,7 @@ use Rattle.tx_answers.specs.KnownLaws.{grows-same}
 use Rattle.tx_logs.specs.LogStates.{LogState, rolled, firsts}
 use Rattle.stm_gate.specs.Opacity.{opaque-inside}
 use Rattle.stm_gate.specs.Peeling.{minus, items-without, has-touched, drop-all, no-items}
-use Rattle.alg_seq.specs.Nesting.{HasOlds, IsTakenBack, CanStoreAgain, IsStoredAgain}
+use Rattle.alg_seq.specs.Nesting.{IsTakenBack, CanStoreAgain, IsStoredAgain}
 use Rattle.alg_seq.proofs.Keeping.{sure-by}
 use Rattle.alg_seq.proofs.Locked.{locked, keeps-by, or-last, written-plain}
 use Rattle.alg_seq.proofs.Undoing.{taken, has-by, length-by}
@@ -179,9 +179,6 @@ module _ (good : List ℕ → Type 0) (c : Config) (n : ℕ) (l : Local) (v : Vi
 
   rev : v.lock.irrevocable ≡ false
   rev = sure-by good c n l v i (sym i.named ∙ serial) ∙ plain
-
-  pub has-olds : HasOlds c.words l.undo.items v
-  has-olds = record { has = record { phase = i.phase; algorithm = locks; taken = k.taken }; started = k.started; undone = k.undone rev; undoable = k.undoable rev; within = k.within }
 
   pub same-number : length l.undo.items ≡ length l.writes.items
   same-number = length-by l.undo.items (items v.attempt.stores) (k.undoable rev) ∙ ap length (sym (k.writes rev))

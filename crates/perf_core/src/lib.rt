@@ -14,5 +14,3 @@ pub mod plan;
 pub mod program;
 pub mod report;
 pub mod run;
-#[cfg(test)]
-mod tests;

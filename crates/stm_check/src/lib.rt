@@ -10,7 +10,5 @@ mod rows;
 mod running;
 mod scripts;
 mod table;
-#[cfg(test)]
-mod tests;
 pub mod verdict;
 mod words;

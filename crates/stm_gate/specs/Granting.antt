@@ -15,13 +15,13 @@ use Rattle.rule_base.specs.InstallSteps.{HasChecked}
 use Rattle.rule_base.specs.Own.{Own}
 use Rattle.stm_rule.specs.declared.local.Local.{Local}
 use Rattle.stm_rule.specs.Attempts.{IsInside}
-use Rattle.tx_logs.specs.Filters.{filter_word, meets, lowest_common}
 use Rattle.tx_answers.specs.declared.answers.Irrev.{Irrev}
 use Rattle.tx_answers.specs.declared.answers.Irrev.TheVariants as irrevs
 use Rattle.tx_answers.specs.Answers.{BecomesSure, Quits, Waits, Irrevs}
-use Rattle.tx_answers.specs.Causes.{Conflicts, FindsFull, IsAnothers, IsNewer, Meets, has_item, loaded_by}
+use Rattle.tx_answers.specs.Causes.{Conflicts, FindsFull, IsAnothers, IsNewer, has_item, read_filter}
 use Rattle.tx_answers.specs.Evidence.{Found, FoundAsWas, FoundMoved, Untouched}
-use Rattle.tx_answers.specs.Known.{Known, known_of, is_irrevocable, is_in, is_closing, wrote}
+use Rattle.tx_answers.specs.SlotEvidence.{FindsFirst, clock_load}
+use Rattle.tx_answers.specs.Known.{Known, Grows, known_of, is_irrevocable, is_in, is_closing, wrote}
 use Rattle.tx_answers.specs.KnownLaws.{grows-same, grows-trans}
 use Rattle.stm_gate.specs.LeavingLaws.{found-earlier}
 use Rattle.stm_gate.specs.Opacity.{opaque-inside}
@@ -78,13 +78,20 @@ module _ (good : List ℕ → Type 0) (c : Config) (n : ℕ) where
   found-before : (place : At) (x : ℕ) (u v w : Known) → Waits good c n u v → Found place x v w → Found place x u w
   found-before place x u v w a f = found-earlier place x u v w f a.continues.grows.more a.continues.grows.trail
 
-  meets-after : (time bits : ℕ) (u v w : Known) → Waits good c n u v → Meets c n None time bits v w → Meets c n None time bits u w
-  meets-after time bits u v w a m = record {
-    slot = m.slot;
-    loaded = λ i l d. found-before _ (m.slot i) u v w a (m.loaded i l d);
-    meet = sym (ap (λ (g : Log). meets (filter_word (loaded_by c n None None g.reads)) m.slot) a.log) ∙ m.meet;
-    lowest = m.lowest ∙ ap (λ (g : Log). lowest_common (filter_word (loaded_by c n None None g.reads)) m.slot) a.log;
-  }
+  first-after : (time bits : ℕ) (u v w : Known) → Waits good c n u v → FindsFirst c.ring v.start (read_filter c n None v.log.reads) time bits v w → FindsFirst c.ring u.start (read_filter c n None u.log.reads) time bits u w
+  first-after time bits u v w a f = subst (λ (g : Log). FindsFirst c.ring u.start (read_filter c n None g.reads) time bits u w) a.log (subst (λ (s : ℕ). FindsFirst c.ring s (read_filter c n None v.log.reads) time bits u w) a.start (record {
+    early = f.early ++ k.more;
+    clock = f.clock;
+    loads = f.loads;
+    later = f.later;
+    late = f.late;
+    trail = f.trail ∙ ap (λ (t : List TrailItem). f.late ++ clock_load f.later ∷ (f.loads ++ clock_load f.clock ∷ t)) (ap (λ (t : List TrailItem). f.early ++ t) k.trail ∙ sym (append_assoc f.early k.more u.trail));
+    near = f.near;
+    first = f.first;
+  }))
+    where
+      k : Grows u v
+      k = a.continues.grows
 
   abbrev ConcernsLog : ℕ → Log → Type 0
   ConcernsLog index g = (a : ℕ) × (index ≡ a % c.records) × ((None ≡ Some a) ⊎ ((has_item a g.reads ≡ true) ⊎ (has_item a g.writes ≡ true)))
@@ -97,7 +104,7 @@ module _ (good : List ℕ → Type 0) (c : Config) (n : ℕ) where
       why (inl x) = inl x
       why (inr x) = inr (x.0, x.1, (x.2.0, x.2.1, sym (ap (λ (g : Log). has_item x.2.0 g.reads) a.log) ∙ x.2.2))
   conflicts-after (causes.Moved index before after) u v w a s b = (ap has_records (sym a.continues.alg) ∙ b.0, subst (ConcernsLog index) a.log b.1, moved-earlier index before after u v w s b.2)
-  conflicts-after (causes.Filter time bits) u v w a s b = (sym a.continues.alg ∙ b.0, (let e = a.start in let l = b.1 in omega arith), (b.2.0, found-before Clock b.2.0 u v w a b.2.1, b.2.2), meets-after time bits u v w a b.3, b.4)
+  conflicts-after (causes.Filter time bits) u v w a s b = (sym a.continues.alg ∙ b.0, first-after time bits u v w a b.1)
   conflicts-after (causes.Overrun start clock) u v w a s b = (sym a.continues.alg ∙ b.0, b.1 ∙ a.start, found-before Clock clock u v w a b.2, b.3)
 
   -- THE CALL: it came to be alone, and then this became of it

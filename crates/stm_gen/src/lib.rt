@@ -6,5 +6,3 @@ pub mod generate;
 pub mod laws;
 pub mod summary;
 pub mod summary_text;
-#[cfg(test)]
-mod tests;

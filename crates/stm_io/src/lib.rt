@@ -4,6 +4,4 @@
 pub mod adapters;
 pub mod ends;
 pub mod memory;
-#[cfg(test)]
-mod tests;
 pub mod whole;

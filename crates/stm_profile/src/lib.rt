@@ -7,5 +7,3 @@ pub mod numbers;
 pub mod outcome;
 pub mod policy;
 pub mod profile;
-#[cfg(test)]
-mod tests;

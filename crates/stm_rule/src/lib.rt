@@ -17,6 +17,4 @@ mod promotion_kinds;
 pub mod refusal;
 mod splits;
 pub mod stm;
-#[cfg(test)]
-mod tests;
 mod tml_kinds;

@@ -28,6 +28,8 @@ pub struct Local {
     /// Whether it has closed the gate; if so, the callers below `next` were seen idle since.
     pub holds: bool,
     pub next: usize,
+    /// How many marks stand.
+    pub depth: usize,
     /// What stood in the heap before the attempt's first write of each address, while it can be taken back.
     pub undo: UndoLog,
     /// What the attempt read under the record algorithms, of words that it had not yet written.
@@ -39,8 +41,6 @@ pub struct Local {
     /// RingSW: the addresses that it loaded, and those that it wrote.
     pub loaded: Filter,
     pub stored: Filter,
-    /// How many marks stand.
-    pub depth: usize,
 }
 
 impl Local {
@@ -61,17 +61,17 @@ impl Local {
             granted: false,
             holds: false,
             next: 0,
+            depth: 0,
             undo: UndoLog::new(alloc, writes)?,
             reads: ReadLog::new(alloc, reads)?,
             writes: WriteLog::new(alloc, writes)?,
             locks: UndoLog::new(alloc, writes)?,
             loaded: Filter::new(),
             stored: Filter::new(),
-            depth: 0,
         })
     }
 
-    /// An attempt of this algorithm runs, from this start on, with empty logs.
+    /// An attempt of this algorithm runs, from this start on, with empty logs, and under RingSW with empty filters.
     pub fn begin(&mut self, algorithm: Alg, start: u64)
         ensures { self.new ≡ begun algorithm start self.old }
     {
@@ -81,13 +81,15 @@ impl Local {
         self.start = start;
         self.wrote = false;
         self.granted = false;
+        self.depth = 0;
         self.undo.clear();
         self.reads.clear();
         self.writes.clear();
         self.locks.clear();
-        self.loaded = Filter::new();
-        self.stored = Filter::new();
-        self.depth = 0;
+        if let Alg::RingSw = algorithm {
+            self.loaded = Filter::new();
+            self.stored = Filter::new();
+        }
     }
 
     /// No attempt runs any more, and the gate isn't closed.

@@ -1,5 +1,5 @@
 -- What is well formed in a memory of regions.
-use Rattle.std.proofs.Common.{ℕ, ◌≡◌, List, [], sym, subst, arith}
+use Rattle.std.proofs.Common.{ℕ, ◌≡◌, List, sym, subst}
 use Rattle.std.proofs.lemmas.List.Elements.{All-contains}
 use Rattle.stm_model.specs.Memories.{overlay}
 use Rattle.stm_model.specs.Logs.{Log}
@@ -28,7 +28,3 @@ module _ (good : List ℕ → Type 0) (words : ℕ) (l : Log) (regions : List Re
 
   pub tree-well : (x : Tree) → x ≡ tree_in regions → HasRegion regions words (OfTree (tree_in regions)) → Under good words l (IsTree x)
   tree-well x is has = subst (λ (y : Tree). Under good words l (IsTree y)) (sym is) (well-one (OfTree (tree_in regions)) has)
-
--- where there is no region, nothing is to be well formed
-pub none-well : (good : List ℕ → Type 0) (words : ℕ) (l : Log) (regions : List Region) → regions ≡ [] → Under good words l (AllWellFormed regions)
-none-well good words l regions none = subst (λ rs. Under good words l (AllWellFormed rs)) (sym none) (λ m fine len ex i d lt. absurd (omega arith))

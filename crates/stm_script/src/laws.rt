@@ -17,14 +17,3 @@ pub fn operations_keep_regions()
 pub fn report_replays<K: MemRule>(_rule: &K)
     ensures { ReportReplays (K.good _rule.now) }
 {}
-
-#[cfg(test)]
-mod tests {
-    use super::*;
-    use stm_model::rule::AnyMem;
-
-    #[test]
-    fn holds_for_any_memory() {
-        report_replays(&AnyMem);
-    }
-}

@@ -28,18 +28,3 @@ fn nonzero_words(alloc: Global, words: &[u64]) -> Result<Vec<(usize, u64)>, Allo
     }
     Ok(items)
 }
-
-#[cfg(test)]
-mod tests {
-    use super::*;
-    use std::test::Fail;
-
-    #[test]
-    fn leaves_zeros_out(rt: HostRuntime) -> Result<(), Fail> {
-        let found = pairs(rt.alloc(), &[0, 7, 0, u64::MAX])?;
-        assert_eq!(rt; found.as_slice(), [(1, 7), (3, u64::MAX)].as_slice());
-        let found = pairs(rt.alloc(), &[0])?;
-        assert_eq!(rt; found.as_slice().len(), 0);
-        Ok(())
-    }
-}

@@ -9,5 +9,3 @@ pub mod parse;
 pub mod parting;
 pub mod report;
 mod table;
-#[cfg(test)]
-mod tests;

@@ -94,7 +94,7 @@ module _ (good : List ℕ → Type 0) (c : Config) (n : ℕ) (h : Header) (at : 
           t.4,
     )
     fair-cause asked (Moved index before after) w t = (ap has_records is.alg ∙ t.0, in-range asked index v t.1, t.2.apart)
-    fair-cause asked (Filter time bits) w t = (is.alg ∙ t.0, (let lt = t.1 in omega (arith, lt)), t.4)
+    fair-cause asked (Filter time bits) w t = (is.alg ∙ t.0, (let lt = t.1.first.since in omega (arith, lt)), t.1.first.meets.some)
     fair-cause asked (Overrun start clock) w t = (is.alg ∙ t.0, (let le = t.3 in let same = sizes.2 in omega (arith, le, same)))
 
     -- the logs have the lengths of the header

@@ -22,16 +22,3 @@ pub fn one_writer_fits()
 pub fn asks_by_policy()
     ensures { AsksByPolicy }
 {}
-
-#[cfg(test)]
-mod tests {
-    use super::*;
-
-    #[test]
-    fn laws_are_called() {
-        items_have_scripts();
-        tells_each_once();
-        one_writer_fits();
-        asks_by_policy();
-    }
-}

@@ -4,6 +4,4 @@
 pub mod laws;
 pub mod line;
 pub mod said;
-#[cfg(test)]
-mod tests;
 pub mod text;

@@ -1,4 +1,3 @@
 pub mod Beginning
 pub mod Stopping
-pub mod Stocks
 pub mod CostLaws

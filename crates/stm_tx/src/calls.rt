@@ -149,6 +149,7 @@ pub fn write<K: MemRule>(desc: &mut Desc<K>, stm: &Stm<K>, a: usize, x: u64) -> 
 /// nothing. Under OrecLazy three for each record and one for each word that it wrote, two, and a validation where
 /// such a record was newer than the start and behind `Again`; under OrecEager one for each record, and two. Under
 /// RingSW 22, one for each word that it wrote, and the check of a read.
+#[inline(always)]
 pub fn commit<K: MemRule>(desc: &mut Desc<K>, stm: &Stm<K>) -> Commit
     requires stm { IsOf desc.old stm.now }
     requires running { (known desc.old).running ≡ true }

@@ -4,33 +4,11 @@
 #![tactic(auto)]
 
 pub mod calls;
-#[cfg(test)]
-mod dropped_tests;
-#[cfg(test)]
-mod eager_tests;
 pub mod fencing;
-#[cfg(test)]
-mod fencing_tests;
-#[cfg(test)]
-mod gate_tests;
 pub mod laws;
-#[cfg(test)]
-mod library_tests;
 pub mod live;
 pub mod nesting;
-#[cfg(test)]
-mod nesting_tests;
-#[cfg(test)]
-mod orec_tests;
-#[cfg(test)]
-mod part_tests;
-#[cfg(test)]
-mod ring_tests;
-#[cfg(test)]
-mod serial_tests;
 pub mod serving;
-#[cfg(test)]
-mod tests;
 
 pub use stm_gate::gate;
 pub use stm_model::access::Access;

@@ -5,5 +5,3 @@ pub mod command;
 mod grammar;
 pub mod laws;
 pub mod reading;
-#[cfg(test)]
-mod tests;

@@ -12,14 +12,3 @@ pub fn turns_pay<K: MemRule>(_rule: &K)
     ensures finishing { TurnsPayFinishing K (K.good _rule.now) }
     ensures items { ItemsPay K (K.good _rule.now) }
 {}
-
-#[cfg(test)]
-mod tests {
-    use super::*;
-    use stm_model::rule::AnyMem;
-
-    #[test]
-    fn holds_for_any_memory() {
-        turns_pay(&AnyMem);
-    }
-}

@@ -7,12 +7,12 @@ use Rattle.stm_model.specs.declared.config.TheConstants.{CLOCK_LIMIT}
 use Rattle.stm_model.specs.declared.stop.Cause.{Cause}
 use Rattle.stm_model.specs.declared.stop.Cause.TheVariants as causes
 use Rattle.stm_model.specs.Memories.{item_at}
-use Rattle.rule_base.specs.declared.layout.At.TheVariants.{Clock, Lock, Record, Slot}
-use Rattle.rule_base.specs.declared.layout.TheConstants.{SLOT_WORDS}
+use Rattle.rule_base.specs.declared.layout.At.TheVariants.{Clock, Lock, Record}
 use Rattle.rule_base.specs.Encodings.{is_owned, owner_of, version_of}
-use Rattle.tx_logs.specs.Filters.{filter_word, meets, lowest_common}
+use Rattle.tx_logs.specs.Filters.{filter_word}
 use Rattle.tx_answers.specs.Evidence.{Found, Refused, FoundAsWas, FoundMoved}
 use Rattle.tx_answers.specs.Known.{Known, is_irrevocable}
+use Rattle.tx_answers.specs.SlotEvidence.{FindsFirst}
 
 -- the clock was found at its limit
 pub record FindsFull (clock : ℕ) (v w : Known) : Type 0 where
@@ -63,12 +63,9 @@ module _ (c : Config) (n : ℕ) where
     loaded_by None reads = addresses reads
     loaded_by (Some a) reads = a ∷ addresses reads
 
-    -- these are words of the ring's slot of a time: where one isn't 0, it was loaded, and so were all before the first that has common bits
-    pub record Meets (time bits : ℕ) (v w : Known) : Type 0 where
-      pub slot : ℕ → ℕ
-      pub loaded : (i : ℕ) → i < SLOT_WORDS → slot i ≢ 0 → Found (Slot (time % c.ring * SLOT_WORDS + i)) (slot i) v w
-      pub meet : meets (filter_word (loaded_by asked v.log.reads)) slot ≡ true
-      pub lowest : bits ≡ lowest_common (filter_word (loaded_by asked v.log.reads)) slot
+    -- the filter of these addresses
+    abbrev pub read_filter : List (ℕ × ℕ) → ℕ → ℕ
+    read_filter reads = filter_word (loaded_by asked reads)
 
     -- why another transaction came in between
     abbrev pub Conflicts : Cause → Known → Known → Type 0
@@ -76,8 +73,7 @@ module _ (c : Config) (n : ℕ) where
     Conflicts (causes.Record index word start) v w =
         (has_records v.alg ≡ true) × (start ≡ v.start) × Concerns index v × FoundAsWas (Record index) word v w × (IsAnothers word ⊎ IsNewer index word start v)
     Conflicts (causes.Moved index before after) v w = (has_records v.alg ≡ true) × Concerns index v × FoundMoved (Record index) before after v w
-    Conflicts (causes.Filter time bits) v w =
-        (v.alg ≡ RingSw) × (v.start < time) × ((clock : ℕ) × Found Clock clock v w × (time ≤ clock)) × Meets time bits v w × (bits ≢ 0)
+    Conflicts (causes.Filter time bits) v w = (v.alg ≡ RingSw) × FindsFirst c.ring v.start (read_filter v.log.reads) time bits v w
     Conflicts (causes.Overrun start clock) v w = (v.alg ≡ RingSw) × (start ≡ v.start) × Found Clock clock v w × (start + c.ring ≤ clock)
 
   -- another commit was faster: the exchange of the clock from the start found another number, which after an earlier Again was loaded in this call; or the lock was another caller's

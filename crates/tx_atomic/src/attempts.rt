@@ -1,6 +1,7 @@
 //! One attempt at a transaction. Each part begins with what the one before it left.
 ghost use Rattle.std.specs.Prelude.{◌≡◌, ◌≤◌, true, false, IfOk, OnOk, IfErr, OnErr, MatchResult, Some, None};
 ghost use Rattle.stm_rule.specs.Callers.{IsOf, IsSameCaller};
+ghost use Rattle.tx_answers.specs.Answers.{KeepsRule, Commits};
 ghost use Rattle.tx_answers.specs.Known.{Grows, IsIdle, is_irrevocable};
 ghost use Rattle.stm_tx.specs.Descs.{known, number};
 ghost use Rattle.tx_atomic.specs.Tallies.{CommitsStay};
@@ -101,8 +102,7 @@ fn begin<K: MemRule>(desc: &mut Desc<K>, stm: &Stm<K>) -> Result<(), Ended>
     match try_begin(desc, stm) {
         Begin::Begun(_) => {
             if fence_seen(desc).is_some() {
-                // ends it whatever the algorithm, since nothing was written
-                commit(desc, stm);
+                turn_back(desc, stm);
                 return Err(Ended::Fenced);
             }
             Ok(())
@@ -111,6 +111,19 @@ fn begin<K: MemRule>(desc: &mut Desc<K>, stm: &Stm<K>) -> Result<(), Ended>
         Begin::Held { .. } => Err(Ended::Held),
         Begin::ClockFull { .. } => Err(Ended::ClockFull),
     }
+}
+
+/// Ends an attempt that has done nothing, whatever its algorithm. Apart, so that the commit of those that go on stays in
+/// line where it is called.
+#[cold]
+fn turn_back<K: MemRule>(desc: &mut Desc<K>, stm: &Stm<K>) -> Commit
+    requires stm { IsOf desc.old stm.now }
+    requires running { (known desc.old).running ≡ true }
+    requires keeps { KeepsRule (K.good stm.now.rule) stm.now.config (number desc.old) (known desc.old) }
+    ensures same { IsSameCaller desc.old desc.new }
+    ensures commits { Commits (K.good stm.now.rule) stm.now.config (number desc.old) result (known desc.old) (known desc.new) }
+{
+    commit(desc, stm)
 }
 
 /// Asks to be irrevocable until that is granted, or the attempt is over. While another is in an attempt it waits

@@ -7,6 +7,4 @@ pub mod laws;
 pub mod pace;
 pub mod switching;
 pub mod tally;
-#[cfg(test)]
-mod tests;
 pub mod transaction;

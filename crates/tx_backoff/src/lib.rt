@@ -3,9 +3,6 @@
 
 ghost use Rattle.std.specs.Prelude.{◌≤◌};
 
-#[cfg(test)]
-mod tests;
-
 use std::{hint, thread};
 
 /// The shortest and the longest pause of a caller that another was faster than, as powers of two of the processor's

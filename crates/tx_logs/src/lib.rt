@@ -10,7 +10,5 @@ pub mod laws;
 pub mod marks;
 pub mod push;
 pub mod read_log;
-#[cfg(test)]
-mod tests;
 pub mod undo_log;
 pub mod write_log;

@@ -1,3 +1,2 @@
 pub mod QueueLaws
 pub mod QueueReads
-pub mod PlainZeros

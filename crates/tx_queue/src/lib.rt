@@ -3,5 +3,3 @@
 
 pub mod laws;
 pub mod queue;
-#[cfg(test)]
-mod tests;

@@ -1,3 +1,2 @@
 pub mod RegionLemmas
 pub mod VersionOne
-pub mod PlainZeros

@@ -4,5 +4,3 @@
 
 pub mod laws;
 pub mod region;
-#[cfg(test)]
-mod tests;

@@ -9,7 +9,6 @@ pub mod SumInserts
 pub mod SumPuts
 pub mod SumContents
 pub mod SumRegions
-pub mod PlainZeros
 pub mod SumRemovals
 pub mod SumRetags
 pub mod SumTakes

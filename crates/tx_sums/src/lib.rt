@@ -3,5 +3,3 @@
 
 pub mod laws;
 pub mod sum_map;
-#[cfg(test)]
-mod tests;

@@ -1,4 +1,4 @@
-use Rattle.std.proofs.Common.{◌≡◌, ◌≤◌, [], ap, arith, rules, true, false}
+use Rattle.std.proofs.Common.{◌≡◌, ◌<◌, ◌≤◌, [], ap, arith, rules, true, false}
 use Rattle.std.proofs.lemmas.Result.{err_from_is_err_and}
 use Rattle.stm_rule.specs.declared.local.Local.{Local}
 use Rattle.alg_orec.proofs.CommittingLaws as laws
@@ -75,7 +75,9 @@ returns-then-newest-local-clause-prepares g c =
     let can = c.requires.attempt in
     let m = c.lock_all.new.local in
     let u = c.lock_all.new.seat.me.0.view in
-    laws.locked-validate good f n low l v can c.validate-then-newest-local.result c.in_ok-newest.newest m c.validate-then-newest-local.new.local u c.validate-then-newest-local.new.seat.me.0.view c.in_ok-newest.ensures.locks c.validate-then-newest-local.ensures.validates
+    let start : m.start ≡ l.start = ap (λ (q : Local). q.start) c.in_ok-newest.ensures.locks.locks.holds.local in
+    let above : l.start < c.in_ok-newest.newest = omega arith in
+    laws.locked-validate good f n low l v can c.validate-then-newest-local.result c.in_ok-newest.newest m c.validate-then-newest-local.new.local u c.validate-then-newest-local.new.seat.me.0.view above c.in_ok-newest.ensures.locks c.validate-then-newest-local.ensures.validates
 
 pub returns-clause-prepares : goal.returns-clause-prepares
 returns-clause-prepares g c =

@@ -1,4 +1,4 @@
-use Rattle.std.proofs.Common.{ℕ, ◌≡◌, ◌<◌, ◌≤◌, ◌+◌, [], ◌∷◌, length, get_or, refl, sym, ap, ◌∙◌, subst, arith, rules, true}
+use Rattle.std.proofs.Common.{ℕ, ◌≡◌, ◌<◌, ◌≤◌, ◌+◌, [], ◌∷◌, length, get_or, refl, sym, ap, ◌∙◌, subst, arith, rules, inl, true}
 use Rattle.std.specs.Prelude.{None, is_some, ◌%◌}
 use Rattle.std.proofs.lemmas.Nat.{mod_below}
 use Rattle.std.proofs.lemmas.Result.{err_from_is_err_and}
@@ -11,7 +11,7 @@ use Rattle.rule_base.specs.History.{over, touches}
 use Rattle.rule_base.specs.Ranks.{home_of}
 use Rattle.stm_rule.specs.declared.local.Local.{Local}
 use Rattle.stm_rule.specs.RecordsKept.{cells_of}
-use Rattle.alg_orec.specs.Locking.{HasLocked, Locks, lock_item}
+use Rattle.alg_orec.specs.Locking.{HasLocked, IsOfWritten, Locks, lock_item}
 use Rattle.alg_orec.specs.Validating.{load_of}
 use Rattle.alg_orec.proofs.Cells.{cells-there}
 use Rattle.alg_orec.proofs.Seats.{seat-on}
@@ -31,6 +31,7 @@ loop-i-init g c = let k = c.requires.view in record {
   locks = laws.locks-none c.args.stm.now.config c.args.caller c.args.local.now c.args.seat.now.me.0.view k;
   covered = λ j lt. absurd (omega arith);
   olds = λ r t. absurd (laws.none-held c.args.stm.now.config c.args.local.now c.args.seat.now.me.0.view k r t);
+  found = inl refl;
   room = laws.none-logged c.args.stm.now.config c.args.local.now c.args.seat.now.me.0.view k;
 }
 
@@ -52,6 +53,8 @@ loop-i-preserved g c =
     let t = c.if-is_none.seat in
     let low : r < f.records = mod_below c.item-a.result.0 f.records c.requires.view.records in
     let item_is : c.item-a.result ≡ get_or l.writes.items c.loop-i.i (0, 0) = c.item-a.ensures ∙ ap (λ (q : Local). get_or q.writes.items c.loop-i.i (0, 0)) i.locks.holds.local in
+    let low_item : c.loop-i.i < length l.writes.items = omega (arith, c.loop-i-test.true, c.count-i-end.ensures.count) in
+    let written = subst (λ (q : ℕ × ℕ). touches (cells_of l.writes.items) q.0 ≡ true) (sym item_is) (cells-there l.writes.items c.loop-i.i low_item) in
     elim c.if-is_none.branch [
       | then-is_none+in_ok-version w ↦
           let version = w.in_ok-version.version in
@@ -74,6 +77,7 @@ loop-i-preserved g c =
                 (λ j lt. laws.touches-more u.view.owned.held t.me.0.view.owned.held r version (home_of f (get_or l.writes.items j (0, 0)).0) held (i.covered j lt))
                 (subst (λ (q : ℕ × ℕ). touches t.me.0.view.owned.held (q.0 % f.records) ≡ true) item_is (laws.touches-new u.view.owned.held t.me.0.view.owned.held r version held));
             olds = laws.versions-more u.view.owned.held t.me.0.view.owned.held r version c.loop-i.newest c.if-is_none.newest held most.0 most.1 i.olds;
+            found = turns.found-more f n l c.item-a.result.0 version c.loop-i.newest c.if-is_none.newest (lock_item n r version (free_record version)) i.more written (w.newest-is ∙ w.max-newest.ensures) i.found;
             room = turns.one-logged f n r version c.loop-i.i m p u.view t.me.0.view h i.room;
           }
       | else-is_none w ↦
@@ -91,6 +95,7 @@ loop-i-preserved g c =
                 (laws.next-item (λ j. touches u.view.owned.held (home_of f (get_or l.writes.items j (0, 0)).0) ≡ true) c.loop-i.i i.covered
                 (subst (λ (q : ℕ × ℕ). touches u.view.owned.held (q.0 % f.records) ≡ true) item_is (turns.held-some u.view.owned.held m.locks.items r i.locks.holds.locks some)));
             olds = subst (λ (y : SeatView g.row.K.Denot). (q : ℕ) → touches y.view.owned.held q ≡ true → over y.view.owned.held q 0 ≤ c.if-is_none.newest) (sym to_seat) (λ q b. let old = i.olds q b in let same = w.newest-is in omega arith);
+            found = subst (λ (k : ℕ). IsOfWritten f n l k i.more) (sym w.newest-is) i.found;
             room = (let same : length p.locks.items ≡ length m.locks.items = ap (λ (q : Local). length q.locks.items) w.local-is in let room = i.room in omega arith);
           }
     ]
@@ -125,4 +130,5 @@ returns-clause-locks g c =
       locks = i.locks;
       covered = laws.covers-all f c.args.caller l v c.loop-i.seat.me.0.view.owned.held (λ j lt. i.covered j (omega (arith, c.loop-i-test.false, c.count-i-end.ensures.count)));
       olds = i.olds;
+      found = i.found;
     }

@@ -3,7 +3,7 @@ use Rattle.rule_base.specs.declared.views.TrailItem.{TrailItem}
 use Rattle.rule_base.specs.History.{over, touches}
 use Rattle.rule_base.specs.Ranks.{home_of}
 use Rattle.stm_rule.specs.Counting.{TakesAtMost}
-use Rattle.alg_orec.specs.Locking.{Locks}
+use Rattle.alg_orec.specs.Locking.{Locks, IsOfWritten}
 use Rattle.alg_orec.proofs.locking.lock_all.Given as goal
 
 abbrev pub invariant-loop-i : goal.invariant-loop-i
@@ -16,6 +16,7 @@ invariant-loop-i g l = record {
   locks : Locks l.stm.config l.caller l.initial.local l.initial.seat.me.0.view l.local l.seat.me.0.view more;
   covered : (j : ℕ) → j < l.i → touches l.seat.me.0.view.owned.held (home_of l.stm.config (get_or l.initial.local.writes.items j (0, 0)).0) ≡ true;
   olds : (r : ℕ) → touches l.seat.me.0.view.owned.held r ≡ true → over l.seat.me.0.view.owned.held r 0 ≤ l.newest;
+  found : IsOfWritten l.stm.config l.caller l.initial.local l.newest more;
   room : length l.local.locks.items ≤ l.i;
   steps : TakesAtMost (2 * l.i) l.initial.seat.me.0.view l.seat.me.0.view;
 }

@@ -27,7 +27,8 @@ returns-in-Some-clause-scans g c =
     let s = c.first_met-met.new.seat.me.0 in
     let u = c.again-later.new.seat.me.0 in
     let x = c.again-later.result in
-    scans-met f c.args.start c.args.clock c.args.filter.now c.args.seat.now.me.0.view c.requires.view (g.K.MemRule.good c.args.stm.now.rule) s.view u.view x (tells-of (ring_again f.ring) (FindsAgain (good_of g.K.MemRule.good f c.args.stm.now.rule) f) s x u c.again-later.ensures.step) c.in-Some.cause c.in-Some.ensures.meets
+    let near : x < c.args.start + f.ring = omega arith in
+    scans-met f c.args.start c.args.clock c.args.filter.now c.args.seat.now.me.0.view c.requires.view (g.K.MemRule.good c.args.stm.now.rule) s.view u.view x (tells-of (ring_again f.ring) (FindsAgain (good_of g.K.MemRule.good f c.args.stm.now.rule) f) s x u c.again-later.ensures.step) c.in-Some.cause near c.in-Some.ensures.meets
 
 pub returns-in-None-clause-scans : goal.returns-in-None-clause-scans
 returns-in-None-clause-scans g c =

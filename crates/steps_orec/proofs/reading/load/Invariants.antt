@@ -1,7 +1,8 @@
-use Rattle.rule_orec.specs.OrecSteps.{orec_load}
+use Rattle.rule_orec.specs.OrecRuns.OrecStep.{orec_loads}
+use Rattle.stm_rule.specs.CoreRuns.CoreStep.{of_orec}
 use Rattle.rule_base.specs.StepKinds.{Nothing}
 use Rattle.stm_rule.specs.Kept.{address_of}
 use Rattle.steps_orec.proofs.reading.load.Given as goal
 
 abbrev pub ghosts-load_as : goal.ghosts-load_as
-ghosts-load_as g a = record { kind = orec_load (address_of a.at); shows = Nothing; caller = a.said.now }
+ghosts-load_as g a = record { step = of_orec (orec_loads (address_of a.at)); shows = Nothing; caller = a.said.now }

@@ -1,6 +1,7 @@
-use Rattle.rule_ring.specs.RingSteps.{ring_done}
+use Rattle.rule_ring.specs.RingRuns.RingStep.{ring_dones}
+use Rattle.stm_rule.specs.CoreRuns.CoreStep.{of_ring}
 use Rattle.rule_base.specs.StepKinds.{Nothing}
 use Rattle.steps_ring.proofs.committing.done.Given as goal
 
 abbrev pub ghosts-store_as : goal.ghosts-store_as
-ghosts-store_as g a = record { kind = ring_done a.new; shows = Nothing; caller = a.said.now }
+ghosts-store_as g a = record { step = of_ring (ring_dones a.new); shows = Nothing; caller = a.said.now }

@@ -1,6 +1,7 @@
-use Rattle.rule_ring.specs.RingSteps.{ring_word}
+use Rattle.rule_ring.specs.RingRuns.RingStep.{ring_words}
+use Rattle.stm_rule.specs.CoreRuns.CoreStep.{of_ring}
 use Rattle.rule_base.specs.StepKinds.{Nothing}
 use Rattle.steps_ring.proofs.reading.word.Given as goal
 
 abbrev pub ghosts-load_as : goal.ghosts-load_as
-ghosts-load_as g a = record { kind = ring_word a.self.now.config.ring a.said.now.1 a.said.now.2; shows = Nothing; caller = a.said.now.0 }
+ghosts-load_as g a = record { step = of_ring (ring_words a.self.now.config.ring a.said.now.1 a.said.now.2); shows = Nothing; caller = a.said.now.0 }

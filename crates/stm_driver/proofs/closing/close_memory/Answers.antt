@@ -44,7 +44,7 @@ returns-in-Ok-report_of g c =
     let rows = subst (λ (rs : List Row). IsPermutation rs c.take_apart.new.rows.items) (ap rows_of back.is ∙ ap rows_of after) c.take_apart.ensures.rows in
     let told : (report : Report) → IsReport c.take_apart.new.rows.items c.as_slice.result.now report → Reported (g.K.MemRule.good c.args.stm.rule) c.args.stm ws report c.close_into-closed.result = λ report is. record {
       words = c.close_into-closed.new.words.items;
-      closes = subst (λ (ds : List (Handle g.row.K.Denot)). Closes (g.K.MemRule.good c.args.stm.rule) c.args.stm.config ds c.close_into-closed.new.words.items c.close_into-closed.result) descs c.close_into-closed.ensures;
+      closes = subst (λ (ds : List (Handle g.row.K.Denot)). Closes (g.K.MemRule.good c.args.stm.rule) c.args.stm.config ds c.close_into-closed.new.words.items c.close_into-closed.result) descs c.close_into-closed.ensures.closes;
       is = subst (λ ns. IsReport (rows_of ws) ns report) c.as_slice.ensures.value (report-moved (rows_of ws) c.take_apart.new.rows.items c.as_slice.result.now report rows is);
     } in
     subst (λ h. Came (g.K.MemRule.good c.args.stm.rule) c.args.stm ws h (ToEnd c.in-Ok-report_of.report c.close_into-closed.result)) (sym how) (told c.in-Ok-report_of.report c.in-Ok-report_of.ensures.is)
@@ -60,7 +60,7 @@ returns-in-Ok g c =
     let rows = subst (λ (rs : List Row). IsPermutation rs c.take_apart.new.rows.items) (ap rows_of back.is ∙ ap rows_of after) c.take_apart.ensures.rows in
     let told : (report : Report) → IsReport c.take_apart.new.rows.items c.as_slice.result.now report → Reported (g.K.MemRule.good c.args.stm.rule) c.args.stm ws report c.close_into-closed.result = λ report is. record {
       words = c.close_into-closed.new.words.items;
-      closes = subst (λ (ds : List (Handle g.row.K.Denot)). Closes (g.K.MemRule.good c.args.stm.rule) c.args.stm.config ds c.close_into-closed.new.words.items c.close_into-closed.result) descs c.close_into-closed.ensures;
+      closes = subst (λ (ds : List (Handle g.row.K.Denot)). Closes (g.K.MemRule.good c.args.stm.rule) c.args.stm.config ds c.close_into-closed.new.words.items c.close_into-closed.result) descs c.close_into-closed.ensures.closes;
       is = subst (λ ns. IsReport (rows_of ws) ns report) c.as_slice.ensures.value (report-moved (rows_of ws) c.take_apart.new.rows.items c.as_slice.result.now report rows is);
     } in
     let some = c.in-Err-report_of.ensures.refused in
@@ -74,7 +74,7 @@ returns-in-ClockFull g c =
       words = c.close_into-closed.new.words.items;
       after = workers_in c.make_all_idle.new.runners;
       idle = back.idle;
-      closes = subst (λ (ds : List (Handle g.row.K.Denot)). Closes (g.K.MemRule.good c.args.stm.rule) c.args.stm.config ds c.close_into-closed.new.words.items c.close_into-closed.result) (c.take_apart.ensures.descs ∙ ap descs_of back.is) c.close_into-closed.ensures;
+      closes = subst (λ (ds : List (Handle g.row.K.Denot)). Closes (g.K.MemRule.good c.args.stm.rule) c.args.stm.config ds c.close_into-closed.new.words.items c.close_into-closed.result) (c.take_apart.ensures.descs ∙ ap descs_of back.is) c.close_into-closed.ensures.closes;
     } in
     subst (λ h. Came (g.K.MemRule.good c.args.stm.rule) c.args.stm ws h (ToLimit c.in-ClockFull.clock c.close_into-closed.result)) (sym c.in-Err.is) (subst (λ (halt : Halt). Came (g.K.MemRule.good c.args.stm.rule) c.args.stm ws (Err halt) (ToLimit c.in-ClockFull.clock c.close_into-closed.result)) (sym c.in-ClockFull.is) (refl, short))
 
@@ -86,6 +86,6 @@ returns g c =
       words = c.close_into-closed.new.words.items;
       after = workers_in c.make_all_idle.new.runners;
       idle = back.idle;
-      closes = subst (λ (ds : List (Handle g.row.K.Denot)). Closes (g.K.MemRule.good c.args.stm.rule) c.args.stm.config ds c.close_into-closed.new.words.items c.close_into-closed.result) (c.take_apart.ensures.descs ∙ ap descs_of back.is) c.close_into-closed.ensures;
+      closes = subst (λ (ds : List (Handle g.row.K.Denot)). Closes (g.K.MemRule.good c.args.stm.rule) c.args.stm.config ds c.close_into-closed.new.words.items c.close_into-closed.result) (c.take_apart.ensures.descs ∙ ap descs_of back.is) c.close_into-closed.ensures.closes;
     } in
     subst (λ h. Came (g.K.MemRule.good c.args.stm.rule) c.args.stm ws h (OutOfMemory c.close_into-closed.result)) (sym c.in-Err.is) (subst (λ (halt : Halt). Came (g.K.MemRule.good c.args.stm.rule) c.args.stm ws (Err halt) (OutOfMemory c.close_into-closed.result)) (sym c.in-Memory.is) short)

@@ -12,7 +12,7 @@ use Rattle.tx_atomic.proofs.attempts.begin.Goals as goal
 pub returns-then-is_some-clause-grew : goal.returns-then-is_some-clause-grew
 returns-then-is_some-clause-grew g c =
     let stm = c.args.stm.now in
-    commits-grow (g.K.MemRule.good stm.rule) stm.config (number c.try_begin.new.desc) c.commit.result (known c.args.desc.now) (known c.try_begin.new.desc) (known c.commit.new.desc) c.in-Begun.ensures.begins.grows c.commit.ensures.commits
+    commits-grow (g.K.MemRule.good stm.rule) stm.config (number c.try_begin.new.desc) c.turn_back.result (known c.args.desc.now) (known c.try_begin.new.desc) (known c.turn_back.new.desc) c.in-Begun.ensures.begins.grows c.turn_back.ensures.commits
 
 -- who sees a range knows of a fence
 seen : (v : Known) → is_some {T = ℕ × ℕ} (fence_seen v) ≡ true → v.fence ≢ 0
@@ -26,9 +26,9 @@ returns-then-is_some-clause-refused g c =
     let stm = c.args.stm.now in
     let good = g.K.MemRule.good stm.rule in
     let v = known c.try_begin.new.desc in
-    let w = known c.commit.new.desc in
+    let w = known c.turn_back.new.desc in
     let some : is_some {T = ℕ × ℕ} (fence_seen v) ≡ true = let found = c.fence_seen.ensures in let tested = c.is_some.ensures in let yes = c.if-is_some.true in cc in
-    begin-fenced good stm.config (number c.args.desc.now) c.try_begin.result _ (known c.args.desc.now) v w c.in-Begun.is c.try_begin.ensures.begins (seen v some) (commits-grow good stm.config (number c.try_begin.new.desc) c.commit.result v v w (carries-refl v).grows c.commit.ensures.commits)
+    begin-fenced good stm.config (number c.args.desc.now) c.try_begin.result _ (known c.args.desc.now) v w c.in-Begun.is c.try_begin.ensures.begins (seen v some) (commits-grow good stm.config (number c.try_begin.new.desc) c.turn_back.result v v w (carries-refl v).grows c.turn_back.ensures.commits)
 
 pub returns-in-Closed-clause-refused : goal.returns-in-Closed-clause-refused
 returns-in-Closed-clause-refused g c = begin-closed (g.K.MemRule.good c.args.stm.now.rule) c.args.stm.now.config (number c.args.desc.now) c.try_begin.result _ (known c.args.desc.now) (known c.try_begin.new.desc) c.in-Closed.is c.try_begin.ensures.begins

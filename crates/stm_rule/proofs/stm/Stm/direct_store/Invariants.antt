@@ -1,7 +1,7 @@
-use Rattle.rule_promoted.specs.PromotedSteps.{direct_store}
+use Rattle.stm_rule.specs.CoreRuns.CoreStep.{direct_stores}
 use Rattle.rule_base.specs.StepKinds.{Nothing}
 use Rattle.stm_rule.specs.Kept.{address_of}
 use Rattle.stm_rule.proofs.stm.Stm.direct_store.Given as goal
 
 abbrev pub ghosts-store_as : goal.ghosts-store_as
-ghosts-store_as g a = record { kind = direct_store (address_of a.at) a.new; shows = Nothing; caller = a.said.now }
+ghosts-store_as g a = record { step = direct_stores (address_of a.at) a.new; shows = Nothing; caller = a.said.now }

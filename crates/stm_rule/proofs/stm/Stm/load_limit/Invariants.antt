@@ -1,5 +1,7 @@
-use Rattle.rule_seq.specs.CglSteps.{load_limit, LoadsLimit}
+use Rattle.rule_seq.specs.CglRuns.CglStep.{loads_limit}
+use Rattle.stm_rule.specs.CoreRuns.CoreStep.{of_cgl}
+use Rattle.rule_seq.specs.CglSteps.{LoadsLimit}
 use Rattle.stm_rule.proofs.stm.Stm.load_limit.Given as goal
 
 abbrev pub ghosts-load_as : goal.ghosts-load_as
-ghosts-load_as g a = record { kind = load_limit a.said.now.1; shows = LoadsLimit; caller = a.said.now.0 }
+ghosts-load_as g a = record { step = of_cgl (loads_limit a.said.now.1); shows = LoadsLimit; caller = a.said.now.0 }

@@ -3,6 +3,7 @@ use mathlib.Core.Option.{none}
 use Rattle.atomic_table.specs.Table.{step}
 use Rattle.rule_base.specs.Places.{offset, InRange}
 use Rattle.rule_base.specs.StepKinds.{word_after, answer_of}
+use Rattle.stm_rule.specs.CoreRuns.{core_kind}
 use Rattle.stm_rule.specs.Allowing.{allows_at, inside}
 use Rattle.stm_rule.proofs.stm.Stm.raise_as.Goals as goal
 
@@ -11,7 +12,7 @@ fetch_max-requires g c =
     let t = c.args.self.now in
     let z = t.table.shared.table_id in
     let r = c.requires in
-    let kind = g.D.Stepping.kind in
+    let kind = core_kind g.D.Stepping.caller g.D.Stepping.step in
     let word : ℕ = c.offset.result in
     let here = c.offset.ensures ∙ ap (λ p. offset t.config p) r.place.0 in
     let room = subst (λ p. InRange t.config p) r.place.0 r.place.1 in (

@@ -1,0 +1,11 @@
+//! Tests of what calls the one interface: tx_atomic, tx_backoff, stm_worker, perf_core.
+#![tactic(auto)]
+
+#[cfg(test)]
+mod perf_core_tests;
+#[cfg(test)]
+mod stm_worker_tests;
+#[cfg(test)]
+mod tx_atomic_tests;
+#[cfg(test)]
+mod tx_backoff_tests;

@@ -1,0 +1,205 @@
+//! What no clause says: that an attempt begins, commits and is refused at all, on one thread.
+ghost use Rattle.std.specs.Prelude.{◌≡◌, ◌<◌, None, true, false};
+ghost use Rattle.stm_model.specs.Algorithms.{is_built};
+ghost use Rattle.stm_rule.specs.Callers.{IsOf};
+ghost use Rattle.tx_answers.specs.Known.{IsIdle};
+ghost use Rattle.stm_tx.specs.Descs.{known};
+
+use crate::serial_tests::switch;
+use std::alloc::Global;
+use std::test::Fail;
+use stm_model::access::Access;
+use stm_model::alg::Alg;
+use stm_model::config::{CLOCK_LIMIT, Config};
+use stm_model::rule::{AnyMem, MemRule};
+use stm_model::stop::Stop;
+use stm_rule::desc::Desc;
+use stm_rule::refusal::NewError;
+use stm_rule::stm::Stm;
+use stm_tx::calls::{
+    cancel, commit, holds_gate, is_irrevocable, read, start, state, try_begin, write,
+};
+use stm_tx::live::Live;
+use stm_tx::serving::AnyAlgorithm;
+use tx_answers::answers::{Begin, Cancel, Commit, Read, TxState, Write};
+
+pub(crate) const PAIR: Config = Config {
+    words: 8,
+    records: 4,
+    ring: 4,
+    callers: 2,
+    reads: 256,
+    writes: 256,
+    clock: 0,
+    fence: false,
+};
+
+/// Caller 0 writes 5 to word 0, and then caller 1 reads it. Answers whether all went so.
+fn one_writes_the_other_reads(
+    stm: &Stm<AnyMem>,
+    first: &mut Desc<AnyMem>,
+    second: &mut Desc<AnyMem>,
+) -> bool
+    requires first { IsOf first.old stm.now }
+    requires second { IsOf second.old stm.now }
+    requires idle { IsIdle (known first.old) × IsIdle (known second.old) }
+    requires words { 0 < stm.now.config.words }
+    requires plain { stm.now.config.fence ≡ false }
+{
+    let Begin::Begun(Alg::Cgl) = try_begin(first, stm) else {
+        return false;
+    };
+    let Begin::Held { word: 1 } = try_begin(second, stm) else {
+        return false;
+    };
+    let Write::Done = write(first, stm, 0, 5) else {
+        return false;
+    };
+    let Cancel::Irrevocable = cancel(first, stm) else {
+        return false;
+    };
+    let Commit::Committed { time: 1 } = commit(first, stm) else {
+        return false;
+    };
+    let Begin::Begun(Alg::Cgl) = try_begin(second, stm) else {
+        return false;
+    };
+    if start(second) != 1 || !is_irrevocable(second) || holds_gate(second) {
+        return false;
+    }
+    let Read::Value(5) = read(second, stm, 0) else {
+        return false;
+    };
+    let Commit::ReadOnly { time: 1 } = commit(second, stm) else {
+        return false;
+    };
+    state(first) == TxState::Idle
+}
+
+/// Under this algorithm caller 0 writes 5 to word 0, commits and tells; caller 1 learns of it and begins. Answers
+/// whether it starts not before that commit, and the word that it reads.
+fn tells_and_learns(
+    stm: &Stm<AnyMem>,
+    first: &mut Desc<AnyMem>,
+    second: &mut Desc<AnyMem>,
+    alg: Alg,
+) -> Option<(bool, u64)>
+    requires first { IsOf first.old stm.now }
+    requires second { IsOf second.old stm.now }
+    requires idle { IsIdle (known first.old) × IsIdle (known second.old) }
+    requires words { 0 < stm.now.config.words }
+    requires plain { stm.now.config.fence ≡ false }
+    requires built { is_built alg ≡ true }
+{
+    if !switch(stm, first, alg) {
+        return None;
+    }
+    let Begin::Begun(_) = try_begin(first, stm) else {
+        return None;
+    };
+    let Write::Done = write(first, stm, 0, 5) else {
+        return None;
+    };
+    let Commit::Committed { time } = commit(first, stm) else {
+        return None;
+    };
+    let note = first.tell(stm);
+    second.learn(stm, note);
+    let Begin::Begun(_) = try_begin(second, stm) else {
+        return None;
+    };
+    let is_later = time >= 1 && start(second) >= time;
+    let Read::Value(word) = read(second, stm, 0) else {
+        return None;
+    };
+    Some((is_later, word))
+}
+
+/// Whether attempts of two callers go as they should under CGL.
+fn takes_turns(alloc: Global) -> Result<bool, NewError> {
+    let (stm, mut descs) = Stm::new(alloc, PAIR, AnyMem)?;
+    let (Some(mut second), Some(mut first)) = (descs.pop(), descs.pop()) else {
+        return Ok(false);
+    };
+    Ok(one_writes_the_other_reads(&stm, &mut first, &mut second))
+}
+
+/// What caller 1 learns under this algorithm.
+fn learns(alloc: Global, alg: Alg) -> Result<Option<(bool, u64)>, NewError>
+    requires { is_built alg ≡ true }
+{
+    let (stm, mut descs) = Stm::new(alloc, PAIR, AnyMem)?;
+    let (Some(mut second), Some(mut first)) = (descs.pop(), descs.pop()) else {
+        return Ok(None);
+    };
+    Ok(tells_and_learns(&stm, &mut first, &mut second, alg))
+}
+
+/// What a try to begin comes to where the clock opens at its limit.
+fn begin_at_the_limit(alloc: Global) -> Result<Begin, NewError> {
+    let config = Config {
+        callers: 1,
+        clock: CLOCK_LIMIT,
+        ..PAIR
+    };
+    let (stm, mut descs) = Stm::new(alloc, config, AnyMem)?;
+    match descs.pop() {
+        Some(mut desc) => Ok(try_begin(&mut desc, &stm)),
+        None => Err(NewError::Memory),
+    }
+}
+
+/// Adds 1 to the word at `a`, through the bound, and answers it.
+fn add_one<A: Access>(acc: &mut A, a: usize) -> Result<u64, Stop>
+    requires going { A.stopped acc.old ≡ None }
+    requires within { a < A.words acc.old }
+{
+    let old = acc.read(a)?;
+    acc.write(a, old.wrapping_add(1))?;
+    acc.read(a)
+}
+
+/// Adds 1 to the last word in an attempt, and answers it.
+fn begin_and_add<K: MemRule>(desc: &mut Desc<K>, stm: &Stm<K>) -> Option<u64>
+    requires stm { IsOf desc.old stm.now }
+    requires idle { IsIdle (known desc.old) }
+    requires inside { 7 < stm.now.config.words }
+    requires plain { stm.now.config.fence ≡ false }
+{
+    let Begin::Begun(_) = try_begin(desc, stm) else {
+        return None;
+    };
+    let mut live = Live {
+        calls: &AnyAlgorithm,
+        desc,
+        stm,
+        stopped: None,
+    };
+    match add_one(&mut live, 7) {
+        Ok(value) => Some(value),
+        Err(_) => None,
+    }
+}
+
+/// What a word is after 1 was added to it in an attempt.
+fn add_in_an_attempt(alloc: Global) -> Result<Option<u64>, NewError> {
+    let (stm, mut descs) = Stm::new(alloc, PAIR, AnyMem)?;
+    match descs.pop() {
+        Some(mut desc) => Ok(begin_and_add(&mut desc, &stm)),
+        None => Ok(None),
+    }
+}
+
+#[test]
+fn two_callers_take_turns(rt: HostRuntime) -> Result<(), Fail> {
+    assert_eq!(rt; takes_turns(rt.alloc()), Ok(true));
+    assert_eq!(rt;
+        begin_at_the_limit(rt.alloc()),
+        Ok(Begin::ClockFull { clock: CLOCK_LIMIT })
+    );
+    assert_eq!(rt; add_in_an_attempt(rt.alloc()), Ok(Some(1)));
+    for alg in [Alg::Cgl, Alg::Tml, Alg::OrecLazy, Alg::RingSw, Alg::Serial] {
+        assert_eq!(rt; learns(rt.alloc(), alg), Ok(Some((true, 5))));
+    }
+    Ok(())
+}

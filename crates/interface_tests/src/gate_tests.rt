@@ -1,0 +1,202 @@
+//! What no clause says: that closing the gate, looking, installing and reopening come to something at all,
+//! on one thread.
+ghost use Rattle.std.specs.Prelude.{◌≡◌, ◌<◌, false};
+ghost use Rattle.stm_rule.specs.Callers.{IsOf};
+ghost use Rattle.tx_answers.specs.Known.{IsIdle};
+ghost use Rattle.stm_tx.specs.Descs.{known};
+
+use std::alloc::Global;
+use std::test::Fail;
+use stm_model::alg::Alg;
+use stm_model::config::Config;
+use stm_model::rule::{AnyMem, MemRule};
+use stm_rule::desc::Desc;
+use stm_rule::refusal::NewError;
+use stm_rule::stm::Stm;
+use stm_tx::calls::{commit, holds_gate, state, try_begin};
+use stm_tx::gate::{close_gate, install, look, reopen};
+use tx_answers::answers::{Begin, CloseGate, Commit, Look, TxState};
+
+/// A memory for so many callers.
+fn memory(callers: usize) -> Config
+    ensures { result ≡ record { words = 8; records = 4; ring = 4; callers = callers; reads = 256; writes = 256; clock = 0; fence = false } }
+{
+    Config {
+        words: 8,
+        records: 4,
+        ring: 4,
+        callers,
+        reads: 256,
+        writes: 256,
+        clock: 0,
+        fence: false,
+    }
+}
+
+/// While caller 0 is in an attempt, caller 1 closes the gate and finds it busy, then quiet; meanwhile
+/// nobody begins. It installs, and caller 0 begins again once it has reopened.
+fn closes_looks_installs<K: MemRule>(
+    stm: &Stm<K>,
+    first: &mut Desc<K>,
+    second: &mut Desc<K>,
+) -> Option<bool>
+    requires first { IsOf first.old stm.now }
+    requires second { IsOf second.old stm.now }
+    requires idle { IsIdle (known first.old) × IsIdle (known second.old) }
+{
+    let Begin::Begun(Alg::Cgl) = try_begin(first, stm) else {
+        return None;
+    };
+    let CloseGate::Closed = close_gate(second, stm) else {
+        return None;
+    };
+    let is_closing = state(second) == TxState::Closing(Alg::Cgl) && holds_gate(second);
+    let Look::Busy {
+        caller: 0,
+        status: 1,
+    } = look(second, stm)
+    else {
+        return None;
+    };
+    let Commit::ReadOnly { time: 0 } = commit(first, stm) else {
+        return None;
+    };
+    let Begin::Closed { gate: 512 } = try_begin(first, stm) else {
+        return None;
+    };
+    let CloseGate::Taken { gate: 512 } = close_gate(first, stm) else {
+        return None;
+    };
+    let Look::Quiet = look(second, stm) else {
+        return None;
+    };
+    install(second, stm, Alg::Cgl);
+    let Begin::Closed { gate: 512 } = try_begin(first, stm) else {
+        return None;
+    };
+    reopen(second, stm);
+    let Begin::Begun(Alg::Cgl) = try_begin(first, stm) else {
+        return None;
+    };
+    Some(is_closing && state(second) == TxState::Idle && !holds_gate(second))
+}
+
+/// A look goes on at the caller that it found busy: caller 1, which was idle before, may announce and
+/// withdraw meanwhile. A closing that is given up leaves the gate to the next closer.
+fn looks_on_and_gives_up<K: MemRule>(
+    stm: &Stm<K>,
+    first: &mut Desc<K>,
+    second: &mut Desc<K>,
+    third: &mut Desc<K>,
+) -> Option<bool>
+    requires first { IsOf first.old stm.now }
+    requires second { IsOf second.old stm.now }
+    requires third { IsOf third.old stm.now }
+    requires first_idle { IsIdle (known first.old) }
+    requires second_idle { IsIdle (known second.old) }
+    requires third_idle { IsIdle (known third.old) }
+{
+    let Begin::Begun(Alg::Cgl) = try_begin(third, stm) else {
+        return None;
+    };
+    let CloseGate::Closed = close_gate(first, stm) else {
+        return None;
+    };
+    let Look::Busy {
+        caller: 2,
+        status: 1,
+    } = look(first, stm)
+    else {
+        return None;
+    };
+    let Begin::Closed { gate: 256 } = try_begin(second, stm) else {
+        return None;
+    };
+    let Commit::ReadOnly { time: 0 } = commit(third, stm) else {
+        return None;
+    };
+    let Look::Quiet = look(first, stm) else {
+        return None;
+    };
+    reopen(first, stm);
+    let CloseGate::Closed = close_gate(second, stm) else {
+        return None;
+    };
+    let Look::Quiet = look(second, stm) else {
+        return None;
+    };
+    reopen(second, stm);
+    Some(state(first) == TxState::Idle && state(second) == TxState::Idle)
+}
+
+/// Caller 0 is gone in the middle of its attempt: nobody sees the gate quiet from then on.
+fn waits_for_a_dropped_attempt<K: MemRule>(
+    stm: &Stm<K>,
+    mut first: Desc<K>,
+    second: &mut Desc<K>,
+) -> Option<bool>
+    requires first { IsOf first stm.now }
+    requires second { IsOf second.old stm.now }
+    requires idle { IsIdle (known first) × IsIdle (known second.old) }
+{
+    let Begin::Begun(Alg::Cgl) = try_begin(&mut first, stm) else {
+        return None;
+    };
+    drop(first);
+    finds_the_first_busy(stm, second)
+}
+
+/// Three looks find caller 0 busy.
+fn finds_the_first_busy<K: MemRule>(stm: &Stm<K>, desc: &mut Desc<K>) -> Option<bool>
+    requires desc { IsOf desc.old stm.now }
+    requires idle { IsIdle (known desc.old) }
+{
+    let busy = Look::Busy {
+        caller: 0,
+        status: 1,
+    };
+    let CloseGate::Closed = close_gate(desc, stm) else {
+        return None;
+    };
+    let is_busy = look(desc, stm) == busy && look(desc, stm) == busy && look(desc, stm) == busy;
+    reopen(desc, stm);
+    Some(is_busy && state(desc) == TxState::Idle)
+}
+
+fn two_callers(alloc: Global) -> Result<Option<bool>, NewError> {
+    let (stm, mut descs) = Stm::new(alloc, memory(2), AnyMem)?;
+    let (Some(mut second), Some(mut first)) = (descs.pop(), descs.pop()) else {
+        unreachable!()
+    };
+    Ok(closes_looks_installs(&stm, &mut first, &mut second))
+}
+
+fn three_callers(alloc: Global) -> Result<Option<bool>, NewError> {
+    let (stm, mut descs) = Stm::new(alloc, memory(3), AnyMem)?;
+    let Some(mut third) = descs.pop() else {
+        unreachable!()
+    };
+    let Some(mut second) = descs.pop() else {
+        unreachable!()
+    };
+    let Some(mut first) = descs.pop() else {
+        unreachable!()
+    };
+    Ok(looks_on_and_gives_up(&stm, &mut first, &mut second, &mut third))
+}
+
+fn one_dropped(alloc: Global) -> Result<Option<bool>, NewError> {
+    let (stm, mut descs) = Stm::new(alloc, memory(2), AnyMem)?;
+    let (Some(mut second), Some(first)) = (descs.pop(), descs.pop()) else {
+        unreachable!()
+    };
+    Ok(waits_for_a_dropped_attempt(&stm, first, &mut second))
+}
+
+#[test]
+fn the_gate_closes_and_reopens(rt: HostRuntime) -> Result<(), Fail> {
+    assert_eq!(rt; two_callers(rt.alloc()), Ok(Some(true)));
+    assert_eq!(rt; three_callers(rt.alloc()), Ok(Some(true)));
+    assert_eq!(rt; one_dropped(rt.alloc()), Ok(Some(true)));
+    Ok(())
+}

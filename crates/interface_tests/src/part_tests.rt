@@ -1,0 +1,112 @@
+//! A part of a transaction that is taken back, as a program of a library's user has it.
+ghost use Rattle.std.specs.Prelude.{◌≡◌, ◌<◌, IsSome, true, false};
+ghost use Rattle.stm_model.specs.Algorithms.{is_built};
+ghost use Rattle.stm_rule.specs.Callers.{IsOf, IsSameCaller};
+ghost use Rattle.tx_answers.specs.Known.{IsRunning};
+ghost use Rattle.stm_tx.specs.Descs.{known};
+ghost use Rattle.stm_tx.specs.Nesting.{takes_marks};
+
+use crate::calls_tests::PAIR;
+use crate::serial_tests::switch;
+use std::alloc::Global;
+use std::test::Fail;
+use stm_tx::calls::{commit, read, try_begin, write};
+use stm_tx::nesting::{checkpoint, release, roll_to, takes_marks};
+use stm_tx::{Alg, AnyMem, Begin, Check, Commit, Desc, NewError, Read, Roll, Stm, Write};
+
+/// Adds to a word, and answers what it then is, modulo 2^64.
+fn add(desc: &mut Desc<AnyMem>, stm: &Stm<AnyMem>, a: usize, n: u64) -> Option<u64>
+    requires stm { IsOf desc.old stm.now }
+    requires running { IsRunning (known desc.old) }
+    requires words { a < stm.now.config.words }
+    requires unfenced { (known desc.old).fence ≡ 0 }
+    ensures same { IsSameCaller desc.old desc.new }
+    ensures runs { IsSome result → IsRunning (known desc.new) × ((known desc.new).fence ≡ 0) × ((known desc.new).alg ≡ (known desc.old).alg) × ((known desc.new).depth ≡ (known desc.old).depth) }
+{
+    let Read::Value(old) = read(desc, stm, a) else {
+        return None;
+    };
+    let new = old.wrapping_add(n);
+    let Write::Done = write(desc, stm, a, new) else {
+        return None;
+    };
+    Some(new)
+}
+
+/// Takes a piece off stock 0 and puts it on stock 1, which has room for `room`; where that was full, on stock 2.
+/// Answers on which, or None where it is to be tried again.
+fn move_piece(desc: &mut Desc<AnyMem>, stm: &Stm<AnyMem>, room: u64) -> Option<usize>
+    requires stm { IsOf desc.old stm.now }
+    requires running { IsRunning (known desc.old) }
+    requires built { takes_marks (known desc.old).alg ≡ true }
+    requires words { 2 < stm.now.config.words }
+    requires unfenced { (known desc.old).fence ≡ 0 }
+    ensures same { IsSameCaller desc.old desc.new }
+    ensures runs { IsSome result → IsRunning (known desc.new) × ((known desc.new).fence ≡ 0) }
+{
+    let Check::Marked { depth } = checkpoint(desc) else {
+        return None;
+    };
+    add(desc, stm, 0, u64::MAX)?;
+    let count = add(desc, stm, 1, 1)?;
+    if count <= room {
+        release(desc, depth);
+        return Some(1);
+    }
+    let Roll::Rolled = roll_to(desc, stm, depth) else {
+        return None;
+    };
+    add(desc, stm, 0, u64::MAX)?;
+    add(desc, stm, 2, 1)?;
+    Some(2)
+}
+
+/// Moves a piece off the three of stock 0. Answers where it went, how the transaction ended, and the stocks then.
+fn moved(alloc: Global, alg: Alg, room: u64) -> Result<Option<(usize, Commit, [Read; 3])>, NewError>
+    requires built { is_built alg ≡ true }
+{
+    let (stm, mut descs) = Stm::new(alloc, PAIR, AnyMem)?;
+    let Some(mut desc) = descs.pop() else {
+        unreachable!()
+    };
+    if !switch(&stm, &mut desc, alg) {
+        return Ok(None);
+    }
+    let Begin::Begun(found) = try_begin(&mut desc, &stm) else {
+        return Ok(None);
+    };
+    if !takes_marks(found) {
+        return Ok(None);
+    }
+    let Write::Done = write(&mut desc, &stm, 0, 3) else {
+        return Ok(None);
+    };
+    let Some(stock) = move_piece(&mut desc, &stm, room) else {
+        return Ok(None);
+    };
+    let left = read(&mut desc, &stm, 0);
+    let Read::Value(_) = left else {
+        return Ok(None);
+    };
+    let middle = read(&mut desc, &stm, 1);
+    let Read::Value(_) = middle else {
+        return Ok(None);
+    };
+    let right = read(&mut desc, &stm, 2);
+    let Read::Value(_) = right else {
+        return Ok(None);
+    };
+    Ok(Some((stock, commit(&mut desc, &stm), [left, middle, right])))
+}
+
+#[test]
+fn a_piece_goes_where_there_is_room(rt: HostRuntime) -> Result<(), Fail> {
+    let committed = Commit::Committed { time: 1 };
+    let first = [Read::Value(2), Read::Value(1), Read::Value(0)];
+    let second = [Read::Value(2), Read::Value(0), Read::Value(1)];
+    for alg in [Alg::OrecLazy, Alg::RingSw, Alg::Serial] {
+        assert_eq!(rt; moved(rt.alloc(), alg, 1), Ok(Some((1, committed, first))));
+        assert_eq!(rt; moved(rt.alloc(), alg, 0), Ok(Some((2, committed, second))));
+    }
+    Ok(())
+}

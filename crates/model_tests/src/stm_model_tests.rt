@@ -1,0 +1,51 @@
+//! A plain memory commits and cancels, through the bound of an access.
+ghost use Rattle.std.specs.Prelude.{◌≡◌, ◌<◌, None, IfErr};
+
+use std::test::Fail;
+use stm_model::access::Access;
+use stm_model::plain::{Plain, PlainWord};
+use stm_model::stop::Stop;
+
+/// Adds what stands at 0 to the word at 1, through the bound.
+fn carry<A: Access>(acc: &mut A) -> Result<u64, Stop>
+    requires going { A.stopped acc.old ≡ None }
+    requires within { 1 < A.words acc.old }
+    ensures stops { IfErr result (λ s. A.stopped acc.new ≡ Some s) }
+{
+    let low = acc.read(0)?;
+    let high = acc.read(1)?;
+    acc.write(1, low.wrapping_add(high))?;
+    acc.read(1)
+}
+
+#[test]
+fn commits_and_cancels(rt: HostRuntime) -> Result<(), Fail> {
+    let mut words = Vec::new(rt.alloc());
+    for opening in [5, u64::MAX] {
+        words.push(PlainWord { opening, own: None })?;
+    }
+    let mut plain = Plain::new(words);
+    assert_eq!(rt; plain.settle(), false);
+    assert_eq!(rt; plain.words().len(), 2);
+    assert_eq!(rt; carry(&mut plain), Ok(4));
+    plain.forget();
+    assert_eq!(rt; plain.words().len(), 2);
+    assert_eq!(rt;
+        plain.words()[1],
+        PlainWord {
+            opening: u64::MAX,
+            own: None
+        }
+    );
+    assert_eq!(rt; carry(&mut plain), Ok(4));
+    assert_eq!(rt; plain.settle(), true);
+    assert_eq!(rt; plain.words().len(), 2);
+    assert_eq!(rt;
+        plain.words()[1],
+        PlainWord {
+            opening: 4,
+            own: None
+        }
+    );
+    Ok(())
+}

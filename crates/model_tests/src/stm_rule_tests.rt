@@ -1,0 +1,202 @@
+//! What no clause says: that a memory is opened and closed at all, and which number is refused first.
+ghost use Rattle.std.specs.Prelude.{◌≡◌};
+
+use rule_base::laws::models_agree;
+use rule_seq::laws::{cgl_commits, cgl_keeps_along, cgl_opens};
+use std::alloc::Global;
+use std::test::Fail;
+use stm_model::config::{CLOCK_LIMIT, Config};
+use stm_model::rule::AnyMem;
+use stm_rule::closing::close;
+use stm_rule::laws::{
+    core_checks, core_commits, core_installs, core_keeps_along, core_opens, core_promotes,
+    core_records, core_rings, core_stamps, one_irrevocable, quiet_is_rest,
+};
+use stm_rule::refusal::NewError;
+use stm_rule::stm::Stm;
+
+const SMALL: Config = Config {
+    words: 8,
+    records: 4,
+    ring: 4,
+    callers: 1,
+    reads: 256,
+    writes: 256,
+    clock: 0,
+    fence: false,
+};
+
+/// What refuses a configuration, if anything does.
+fn refusal(alloc: Global, config: Config) -> Option<NewError> {
+    match Stm::new(alloc, config, AnyMem) {
+        Ok((_stm, _descs)) => None,
+        Err(error) => Some(error),
+    }
+}
+
+/// Opens a memory and closes it again; where closing is refused for memory, once more.
+fn open_and_close(alloc: Global, config: Config) -> Result<Vec<u64>, NewError> {
+    let (stm, descs) = Stm::new(alloc, config, AnyMem)?;
+    let (words, closed) = match close(alloc, stm, descs) {
+        Ok(ended) => ended,
+        Err((stm, descs, _memory)) => match close(alloc, stm, descs) {
+            Ok(ended) => ended,
+            Err((_stm, _descs, _memory)) => return Err(NewError::Memory),
+        },
+    };
+    let _closed = cross(&config.words, closed);
+    Ok(words)
+}
+
+/// A memory is shared between threads; descriptors, notes and the evidence of a closing are sent.
+fn cross<S: Sync, T: Send>(shared: &S, sent: T) -> T
+    ensures { result ≡ sent }
+{
+    let _ = shared;
+    sent
+}
+
+/// Caller 0 tells, and caller 1 learns.
+fn tell_and_learn(alloc: Global) -> Result<bool, NewError> {
+    let config = Config {
+        callers: 2,
+        ..SMALL
+    };
+    let (stm, mut descs) = Stm::new(alloc, config, AnyMem)?;
+    let Some(second) = descs.pop() else {
+        return Ok(false);
+    };
+    let Some(mut first) = descs.pop() else {
+        return Ok(false);
+    };
+    let note = cross(&stm, first.tell(&stm));
+    let mut second = cross(&stm, second);
+    second.learn(&stm, note);
+    Ok(first.number == 0 && second.number == 1)
+}
+
+#[test]
+fn the_first_number_out_of_range_is_refused(rt: HostRuntime) {
+    let alloc = rt.alloc();
+    let rows = [
+        (
+            Config {
+                words: 0,
+                records: 0,
+                ..SMALL
+            },
+            NewError::Words,
+        ),
+        (
+            Config {
+                words: 1_048_577,
+                ..SMALL
+            },
+            NewError::Words,
+        ),
+        (
+            Config {
+                records: 0,
+                ring: 1,
+                ..SMALL
+            },
+            NewError::Records,
+        ),
+        (
+            Config {
+                records: 4_097,
+                ..SMALL
+            },
+            NewError::Records,
+        ),
+        (Config { ring: 1, ..SMALL }, NewError::Ring),
+        (
+            Config {
+                ring: 65,
+                callers: 0,
+                ..SMALL
+            },
+            NewError::Ring,
+        ),
+        (
+            Config {
+                callers: 0,
+                reads: 0,
+                ..SMALL
+            },
+            NewError::Callers,
+        ),
+        (
+            Config {
+                callers: 33,
+                ..SMALL
+            },
+            NewError::Callers,
+        ),
+        (Config { reads: 0, ..SMALL }, NewError::Logs),
+        (
+            Config {
+                writes: 4_097,
+                clock: CLOCK_LIMIT + 1,
+                ..SMALL
+            },
+            NewError::Logs,
+        ),
+        (
+            Config {
+                clock: CLOCK_LIMIT + 1,
+                ..SMALL
+            },
+            NewError::Clock,
+        ),
+    ];
+    for (config, error) in rows {
+        assert_eq!(rt; refusal(alloc, config), Some(error));
+    }
+    assert_eq!(rt;
+        refusal(
+            alloc,
+            Config {
+                clock: CLOCK_LIMIT,
+                ..SMALL
+            }
+        ),
+        None
+    );
+}
+
+#[test]
+fn a_memory_opens_and_closes(rt: HostRuntime) -> Result<(), Fail> {
+    let words = open_and_close(rt.alloc(), SMALL)?;
+    assert_eq!(rt; words.as_slice(), [0; 8].as_slice());
+    assert!(rt; tell_and_learn(rt.alloc())?);
+    let words = open_and_close(
+        rt.alloc(),
+        Config {
+            callers: 32,
+            words: 1,
+            ..SMALL
+        },
+    )?;
+    assert_eq!(rt; words.as_slice(), [0].as_slice());
+    Ok(())
+}
+
+#[test]
+fn the_laws_are_of_every_rule() {
+    models_agree::<AnyMem>();
+    cgl_keeps_along::<AnyMem>();
+    cgl_opens::<AnyMem>();
+    cgl_commits::<AnyMem>();
+    core_keeps_along::<AnyMem>();
+    core_opens::<AnyMem>();
+    core_commits::<AnyMem>();
+    quiet_is_rest::<AnyMem>();
+    core_installs::<AnyMem>();
+    one_irrevocable::<AnyMem>();
+    core_promotes::<AnyMem>();
+    core_rings::<AnyMem>();
+    core_checks::<AnyMem>();
+    core_records::<AnyMem>();
+    core_stamps::<AnyMem>();
+}

@@ -1,0 +1,592 @@
+use smallvec::SmallVec;
+use std::alloc::{AllocError, Global};
+use std::process::Abort;
+use std::test::Fail;
+use stm_model::alg::{ALGORITHMS, Alg};
+use stm_script::lists::Words;
+use stm_script::op::Op;
+use stm_script::report::{Kind, Pairs, Report, Row, Rows};
+use stm_script::workload::{Go, Header, Item, Workload};
+use stm_text::parse::{Mode, ParseError, parse};
+use stm_text::parting::{count_lines, part_at_done};
+use stm_text::report::{report_text, report_text_by};
+
+/// Two transactions that add and one that reads.
+const LINES: [&str; 20] = [
+    "stm 1",
+    "words 8",
+    "callers 1",
+    "records 4",
+    "ring 4",
+    "reads 256",
+    "writes 256",
+    "clock 0",
+    "alg CGL",
+    "structs off",
+    "tx 0",
+    "add 3 1",
+    "end",
+    "tx 0",
+    "add 3 1",
+    "end",
+    "tx 0",
+    "read 3",
+    "end",
+    "done",
+];
+
+/// Those lines with another in one's place, counted from 1.
+fn with_line(alloc: Global, number: usize, other: &str) -> Result<String, AllocError> {
+    let mut text = String::new(alloc);
+    for (i, line) in LINES.iter().enumerate() {
+        text.push_str(if i + 1 == number { other } else { *line })?;
+        text.push_str("\n")?;
+    }
+    Ok(text)
+}
+
+/// The header of those lines, and what follows it.
+fn with_body(alloc: Global, body: &str) -> Result<String, AllocError> {
+    let mut text = String::new(alloc);
+    for (i, line) in LINES.iter().enumerate() {
+        if i < 10 {
+            text.push_str(line)?;
+            text.push_str("\n")?;
+        }
+    }
+    text.push_str(body)?;
+    Ok(text)
+}
+
+fn fault(alloc: Global, text: &[u8], mode: Mode) -> Option<(usize, u32)> {
+    match parse(alloc, text, mode) {
+        Err(ParseError::Fault { line, code }) => Some((line, code)),
+        _ => None,
+    }
+}
+
+#[test]
+fn refuses_lines(rt: HostRuntime) -> Result<(), Fail> {
+    let table = [
+        (1, "stm 2", 4),
+        (1, "stm", 4),
+        (1, "stm 1 ", 4),
+        (1, " stm 1", 4),
+        (1, "stm  1", 4),
+        (1, "", 4),
+        (1, "stm\t1", 2),
+        (2, "words 0", 6),
+        (2, "words 65537", 6),
+        (2, "words 08", 5),
+        (2, "words +8", 5),
+        (2, "words ", 4),
+        (2, "words 18446744073709551616", 5),
+        (2, "words 18446744073709551615", 6),
+        (2, "words", 4),
+        (2, "words 8 8", 4),
+        (2, "records 4", 4),
+        (3, "callers 0", 6),
+        (3, "callers 33", 6),
+        (4, "records 4097", 6),
+        (5, "ring 1", 6),
+        (5, "ring 65", 6),
+        (6, "reads 0", 6),
+        (7, "writes 4097", 6),
+        (8, "clock 4611686018427387905", 6),
+        (8, "clock -1", 5),
+        (9, "alg none", 7),
+        (9, "algorithm CGL", 4),
+        (10, "structs on", 8),
+        (10, "structs On", 4),
+        (10, "structs", 4),
+        (11, "tx 1", 6),
+        (11, "tx x", 5),
+        (11, "tx", 4),
+        (11, "tx ", 4),
+        (11, "switch 0", 4),
+        (11, "switch 0 CGL 1", 4),
+        (11, "switch x none", 5),
+        (11, "switch 1 none", 6),
+        (11, "switch 0 none", 7),
+        (11, "go 0 1", 4),
+        (11, "schedule", 4),
+        (11, "read 0", 4),
+        (12, "add 8 1", 6),
+        (12, "add 9 01", 5),
+        (12, "add 03 1", 5),
+        (12, "add 3 18446744073709551616", 5),
+        (12, "add 3", 4),
+        (12, "add 3 1 1", 4),
+        (12, "add  3", 4),
+        (12, "add x ", 4),
+        (12, "emit 3", 9),
+        (12, "emit 8", 6),
+        (12, "emit 03", 5),
+        (12, "emit", 4),
+        (12, "emit 3 3", 4),
+        (12, "irrev 1", 4),
+        (12, "irrev ", 4),
+        (12, "cancel ", 4),
+        (12, "cancel 1", 4),
+        (12, "llen", 8),
+        (12, "llen 1", 4),
+        (12, "ladd 5", 8),
+        (12, "ladd", 4),
+        (12, "ladd 05", 5),
+        (12, "ladd 4294967296", 6),
+        (12, "count 3 1", 8),
+        (12, "count 4 1", 6),
+        (12, "count 4 x", 5),
+        (12, "count 3", 4),
+        (12, "move 8 1", 4),
+        (12, "move 8  1", 4),
+        (12, "move 8 9 1 1", 4),
+        (12, "move 8 01 1", 5),
+        (12, "move 8 9 x", 5),
+        (12, "move 8 0 1", 6),
+        (12, "move 0 8 1", 6),
+        (12, "switch 0 CGL", 4),
+        (12, "done", 4),
+        (12, "read 8", 6),
+        (12, "write 8 0", 6),
+        (12, "write 0 \x7f", 2),
+        (13, "end ", 4),
+        (20, "done ", 4),
+    ];
+    for (line, other, code) in table {
+        let text = with_line(rt.alloc(), line, other)?;
+        assert_eq!(rt;
+            fault(rt.alloc(), text.as_bytes(), Mode::Run),
+            Some((line, code)),
+            "{other}"
+        );
+    }
+    Ok(())
+}
+
+/// A header with 1,024 words and structures on, and a transaction with these operations.
+fn with_structures(alloc: Global, operations: &str) -> Result<String, AllocError> {
+    let mut text = String::new(alloc);
+    for (i, line) in LINES.iter().enumerate() {
+        if i < 10 {
+            text.push_str(match i {
+                1 => "words 1024",
+                9 => "structs on",
+                _ => *line,
+            })?;
+            text.push_str("\n")?;
+        }
+    }
+    text.push_str("tx 0\n")?;
+    text.push_str(operations)?;
+    text.push_str("end\ndone\n")?;
+    Ok(text)
+}
+
+#[test]
+fn keeps_plain_addresses_out_of_structures(rt: HostRuntime) -> Result<(), Fail> {
+    let table = [
+        ("read 63\n", None),
+        ("read 64\n", Some((12, 8))),
+        ("write 1023 1\n", Some((12, 8))),
+        ("write 1024 1\n", Some((12, 6))),
+        ("add 64 01\n", Some((12, 5))),
+        ("move 64 1024 1\n", Some((12, 6))),
+        ("move 63 64 1\n", Some((12, 8))),
+        ("emit 64\n", Some((12, 8))),
+        ("emit 63\n", Some((12, 9))),
+        ("ladd 4294967296\n", Some((12, 6))),
+        ("count 4 1\n", Some((12, 6))),
+    ];
+    for (operations, found) in table {
+        let text = with_structures(rt.alloc(), operations)?;
+        assert_eq!(rt;
+            fault(rt.alloc(), text.as_bytes(), Mode::Run),
+            found,
+            "{operations}"
+        );
+    }
+    Ok(())
+}
+
+#[test]
+fn reads_operations_on_structures(rt: HostRuntime) -> Result<(), Fail> {
+    let text = with_structures(
+        rt.alloc(),
+        "count 3 9\ntotal\nladd 1\nldel 2\nlhas 3\nllen\nhadd 4\nhdel 5\nhhas 6\ntadd 7\ntdel 8\nthas 4294967295\ntmin\n",
+    )?;
+    let read = parse(rt.alloc(), text.as_bytes(), Mode::Run)?;
+    assert!(rt; read.header.structs);
+    let scripts: &[&[Op]] = &[&[
+        Op::Count(3, 9),
+        Op::Total,
+        Op::ListInsert(1),
+        Op::ListRemove(2),
+        Op::ListContains(3),
+        Op::ListLength,
+        Op::HashInsert(4),
+        Op::HashRemove(5),
+        Op::HashContains(6),
+        Op::TreeInsert(7),
+        Op::TreeRemove(8),
+        Op::TreeContains(4294967295),
+        Op::TreeLeast,
+    ]];
+    assert_scripts(&rt, &read, scripts);
+    Ok(())
+}
+
+#[test]
+fn takes_the_algorithms_that_are_built(rt: HostRuntime) -> Result<(), Fail> {
+    for alg in ALGORITHMS {
+        let mut line = String::new(rt.alloc());
+        line.push_str("alg ")?;
+        line.push_str(alg.name())?;
+        let text = with_line(rt.alloc(), 9, line.as_str())?;
+        match parse(rt.alloc(), text.as_bytes(), Mode::Run) {
+            Ok(read) => {
+                assert!(rt; alg.is_built(), "{line}");
+                assert_eq!(rt; read.header.alg, alg);
+            }
+            Err(error) => {
+                assert!(rt; !alg.is_built(), "{line}");
+                assert_eq!(rt; error, ParseError::Fault { line: 9, code: 7 });
+            }
+        }
+    }
+    Ok(())
+}
+
+#[test]
+fn refuses_emits_that_come_too_early(rt: HostRuntime) -> Result<(), Fail> {
+    let table = [
+        ("tx 0\nread 0\nemit 0\nirrev\n", 13, 9),
+        ("tx 0\nirrev\nend\ntx 0\nemit 3\n", 15, 9),
+        ("tx 0\ncancel\nemit 3\n", 13, 9),
+        ("tx 0\nirrev\nemit 3\nemit 8\n", 14, 6),
+        ("tx 0\nirrev\nirrev\nemit 3\nend\nirrev\n", 16, 4),
+    ];
+    for (body, line, code) in table {
+        let text = with_body(rt.alloc(), body)?;
+        assert_eq!(rt;
+            fault(rt.alloc(), text.as_bytes(), Mode::Run),
+            Some((line, code)),
+            "{body}"
+        );
+    }
+    for (first, code) in [("read 0\n", 9), ("irrev\n", 10)] {
+        let mut body = String::new(rt.alloc());
+        body.push_str("tx 0\n")?;
+        body.push_str(first)?;
+        let text = repeated(rt.alloc(), body.as_str(), "read 0\n", 4095, "emit 0\n")?;
+        assert_eq!(rt;
+            fault(rt.alloc(), text.as_bytes(), Mode::Run),
+            Some((4108, code)),
+            "{first}"
+        );
+    }
+    Ok(())
+}
+
+#[test]
+fn refuses_ends(rt: HostRuntime) -> Result<(), Fail> {
+    let table = [
+        ("", 11, 3),
+        ("done", 11, 3),
+        ("don\te", 11, 2),
+        ("tx 0\n", 12, 3),
+        ("done\n\n", 12, 11),
+        ("done\n\tx", 12, 11),
+    ];
+    for (body, line, code) in table {
+        let text = with_body(rt.alloc(), body)?;
+        assert_eq!(rt;
+            fault(rt.alloc(), text.as_bytes(), Mode::Run),
+            Some((line, code)),
+            "{body}"
+        );
+    }
+    assert_eq!(rt; fault(rt.alloc(), b"", Mode::Run), Some((1, 3)));
+    Ok(())
+}
+
+#[test]
+fn refuses_schedules(rt: HostRuntime) -> Result<(), Fail> {
+    let table = [
+        ("schedule\ngo 0 0\n", 12, 6),
+        ("schedule\ngo 0 1000001\n", 12, 6),
+        ("schedule\ngo 1 1\n", 12, 6),
+        ("schedule\ngo 1 x\n", 12, 5),
+        ("schedule\ngo 0\n", 12, 4),
+        ("schedule\ngo 0 1 1\n", 12, 4),
+        ("schedule\nschedule\n", 12, 4),
+        ("schedule\ntx 0\n", 12, 4),
+        ("schedule\nswitch 0 CGL\n", 12, 4),
+        ("schedule \n", 11, 4),
+        ("schedule\ngo 0 600000\ngo 0 400001\n", 13, 10),
+        ("schedule\ngo 0 1000000\ngo 0 1\n", 13, 10),
+        ("schedule\ngo 0 1000000\ngo 1 1\n", 13, 6),
+        ("schedule\ngo 0 600000\ngo 0 400000\n", 14, 3),
+        ("schedule\ndone\n\n", 13, 11),
+    ];
+    for (body, line, code) in table {
+        let text = with_body(rt.alloc(), body)?;
+        assert_eq!(rt;
+            fault(rt.alloc(), text.as_bytes(), Mode::Step),
+            Some((line, code)),
+            "{body}"
+        );
+        assert_eq!(rt;
+            fault(rt.alloc(), text.as_bytes(), Mode::Run),
+            Some((11, 4)),
+            "{body}"
+        );
+    }
+    Ok(())
+}
+
+#[test]
+fn counts_callers_by_mode(rt: HostRuntime) -> Result<(), Fail> {
+    let most = with_line(rt.alloc(), 3, "callers 32")?;
+    assert!(rt; parse(rt.alloc(), most.as_bytes(), Mode::Step).is_ok());
+    let many = with_line(rt.alloc(), 3, "callers 33")?;
+    assert_eq!(rt;
+        fault(rt.alloc(), many.as_bytes(), Mode::Step),
+        Some((3, 6))
+    );
+    Ok(())
+}
+
+/// The header, and a line so many times.
+fn repeated(
+    alloc: Global,
+    first: &str,
+    line: &str,
+    times: usize,
+    last: &str,
+) -> Result<String, AllocError> {
+    let mut text = with_body(alloc, first)?;
+    for _ in 0..times {
+        text.push_str(line)?;
+    }
+    text.push_str(last)?;
+    Ok(text)
+}
+
+#[test]
+fn refuses_too_many(rt: HostRuntime) -> Result<(), Fail> {
+    let items = repeated(rt.alloc(), "", "tx 0\nend\n", 65536, "done\n")?;
+    assert!(rt; parse(rt.alloc(), items.as_bytes(), Mode::Run).is_ok());
+    let more = repeated(rt.alloc(), "", "tx 0\nend\n", 65536, "tx 0\n")?;
+    assert_eq!(rt;
+        fault(rt.alloc(), more.as_bytes(), Mode::Run),
+        Some((131083, 10))
+    );
+    let switch = repeated(rt.alloc(), "", "switch 0 CGL\n", 65536, "switch 0 CGL\n")?;
+    assert_eq!(rt;
+        fault(rt.alloc(), switch.as_bytes(), Mode::Run),
+        Some((65547, 10))
+    );
+    let ops = repeated(rt.alloc(), "tx 0\n", "read 0\n", 4096, "end\ndone\n")?;
+    assert!(rt; parse(rt.alloc(), ops.as_bytes(), Mode::Run).is_ok());
+    for (last, code) in [("read 0\n", 10), ("read 8\n", 6)] {
+        let more = repeated(rt.alloc(), "tx 0\n", "read 0\n", 4096, last)?;
+        assert_eq!(rt;
+            fault(rt.alloc(), more.as_bytes(), Mode::Run),
+            Some((4108, code))
+        );
+    }
+    for (length, line, code) in [(16777216, 1, 4), (16777217, 0, 1)] {
+        let long = vec![in rt.alloc(); b'\n'; length]?;
+        assert_eq!(rt;
+            fault(rt.alloc(), long.as_slice(), Mode::Run),
+            Some((line, code))
+        );
+    }
+    Ok(())
+}
+
+fn assert_scripts(rt: &impl Abort, read: &Workload, scripts: &[&[Op]]) {
+    let items = read.items.as_slice();
+    assert_eq!(rt; items.len(), scripts.len());
+    for (item, ops) in items.iter().zip(scripts) {
+        match item {
+            Item::Tx { caller, script } => {
+                assert_eq!(rt; *caller, 0);
+                assert_eq!(rt; script.as_slice(), *ops);
+            }
+            Item::Switch { caller: _, alg: _ } => panic!(rt; "a switch"),
+        }
+    }
+}
+
+#[test]
+fn reads_workloads(rt: HostRuntime) -> Result<(), Fail> {
+    let header = Header {
+        words: 8,
+        records: 4,
+        ring: 4,
+        callers: 1,
+        reads: 256,
+        writes: 256,
+        clock: 0,
+        alg: Alg::Cgl,
+        structs: false,
+    };
+    let adds: &[&[Op]] = &[&[Op::Add(3, 1)], &[Op::Add(3, 1)], &[Op::Read(3)]];
+    let none: &[&[Op]] = &[];
+    let reads: &[&[Op]] = &[&[Op::Read(5)], &[Op::Write(5, 9)]];
+    let writes: &[&[Op]] = &[&[Op::Write(2, 7), Op::Read(2), Op::Write(2, 8)]];
+    let emits: &[&[Op]] = &[&[Op::Irrev, Op::Emit(2), Op::Cancel, Op::Emit(3)]];
+    let table = [
+        ("tx 0\nirrev\nemit 2\ncancel\nemit 3\nend\ndone\n", emits),
+        (
+            "tx 0\nadd 3 1\nend\ntx 0\nadd 3 1\nend\ntx 0\nread 3\nend\ndone\n",
+            adds,
+        ),
+        ("done\n", none),
+        ("tx 0\nread 5\nend\ntx 0\nwrite 5 9\nend\ndone\n", reads),
+        ("tx 0\nwrite 2 7\nread 2\nwrite 2 8\nend\ndone\n", writes),
+    ];
+    for (body, scripts) in table {
+        let text = with_body(rt.alloc(), body)?;
+        let read = parse(rt.alloc(), text.as_bytes(), Mode::Run)?;
+        assert_eq!(rt; read.header, header);
+        assert_scripts(&rt, &read, scripts);
+        assert!(rt; read.schedule.as_slice().is_empty());
+    }
+    Ok(())
+}
+
+#[test]
+fn reads_step_workloads(rt: HostRuntime) -> Result<(), Fail> {
+    let mut text = with_line(rt.alloc(), 3, "callers 2")?;
+    let Some(end) = text.find("tx 0") else {
+        panic!(rt; "no transaction");
+    };
+    text.truncate(end);
+    text.push_str("tx 1\nmove 2 3 4\ncancel\nend\nswitch 1 CGL\ntx 0\nend\n")?;
+    text.push_str("schedule\ngo 1 2\ngo 0 999998\ndone\n")?;
+    let read = parse(rt.alloc(), text.as_bytes(), Mode::Step)?;
+    let ops: &[Op] = &[Op::Move(2, 3, 4), Op::Cancel];
+    match read.items.as_slice() {
+        [
+            Item::Tx { caller: 1, script },
+            Item::Switch {
+                caller: 1,
+                alg: Alg::Cgl,
+            },
+            Item::Tx {
+                caller: 0,
+                script: empty,
+            },
+        ] => {
+            assert_eq!(rt; script.as_slice(), ops);
+            assert!(rt; empty.as_slice().is_empty());
+        }
+        _ => panic!(rt; "other items"),
+    }
+    let turns = [
+        Go {
+            caller: 1,
+            turns: 2,
+        },
+        Go {
+            caller: 0,
+            turns: 999998,
+        },
+    ];
+    assert_eq!(rt; read.schedule.as_slice(), turns.as_slice());
+    Ok(())
+}
+
+fn row(
+    alloc: Global,
+    kind: Kind,
+    place: u64,
+    caller: usize,
+    seq: usize,
+    replies: &[u64],
+    emits: &[u64],
+) -> Result<Row, AllocError> {
+    Ok(Row {
+        kind,
+        place,
+        caller,
+        seq,
+        replies: Words::new(SmallVec::from_slice(alloc, replies)?),
+        emits: Words::new(SmallVec::from_slice(alloc, emits)?),
+    })
+}
+
+#[test]
+fn writes_reports(rt: HostRuntime) -> Result<(), Fail> {
+    let mut rows = Vec::new(rt.alloc());
+    rows.push(row(rt.alloc(), Kind::C, 0, 0, 0, &[5, 5, 1], &[])?)?;
+    rows.push(row(rt.alloc(), Kind::W, 1, 0, 1, &[5, 6, 1, 5], &[5])?)?;
+    rows.push(row(rt.alloc(), Kind::R, 1, 31, 10, &[], &[])?)?;
+    rows.push(row(
+        rt.alloc(),
+        Kind::W,
+        4611686018427387904,
+        1,
+        0,
+        &[18446744073709551615],
+        &[7, 0],
+    )?)?;
+    let memory = vec![in rt.alloc(); (0, 5), (65535, 18446744073709551615)]?;
+    let report = Report {
+        rows: Rows::new(rows),
+        memory: Pairs::new(memory),
+    };
+    let text = report_text(rt.alloc(), &report)?;
+    let want =
+        b"report 1\nC 0 0 0 : 5 5 1\nW 1 0 1 : 5 6 1 5 ! 5\nR 1 31 10 :\nW 4611686018427387904 1 0 : 18446744073709551615 ! 7 0\nmem 0 5\nmem 65535 18446744073709551615\nend\n";
+    assert_eq!(rt; text.as_slice(), want.as_slice());
+    Ok(())
+}
+
+/// More rows than one thread is given.
+#[test]
+fn writes_long_reports_by_threads(rt: HostRuntime) -> Result<(), Fail> {
+    let mut rows = Vec::new(rt.alloc());
+    for place in 0..2500u64 {
+        rows.push(row(rt.alloc(), Kind::W, place, 0, 0, &[place], &[])?)?;
+    }
+    let report = Report {
+        rows: Rows::new(rows),
+        memory: Pairs::new(vec![in rt.alloc(); (3, 7)]?),
+    };
+    let text = report_text_by(&rt, rt.alloc(), &report, 3)?;
+    assert_eq!(rt; text, report_text(rt.alloc(), &report)?);
+    Ok(())
+}
+
+#[test]
+fn writes_empty_report(rt: HostRuntime) -> Result<(), Fail> {
+    let report = Report {
+        rows: Rows::new(Vec::new(rt.alloc())),
+        memory: Pairs::new(Vec::new(rt.alloc())),
+    };
+    let text = report_text(rt.alloc(), &report)?;
+    assert_eq!(rt; text.as_slice(), b"report 1\nend\n".as_slice());
+    Ok(())
+}
+
+/// A text is parted behind its first line `done`, and its lines are counted, the last one also without an LF.
+#[test]
+fn parts_a_text(rt: HostRuntime) {
+    let table = [
+        ("stm 1\ndone\nreport 1\ndone\nend", "stm 1\ndone\n", 2, 3),
+        ("stm 1\ndone \nreport 1\n", "stm 1\ndone \nreport 1\n", 3, 0),
+        ("stm 1\ndone", "stm 1\ndone", 2, 0),
+        ("", "", 0, 0),
+    ];
+    for (text, wanted, above, below) in table {
+        let (head, rest) = part_at_done(text.as_bytes());
+        assert_eq!(rt; head, wanted.as_bytes(), "{text}");
+        assert_eq!(rt; count_lines(head), above, "{text}");
+        assert_eq!(rt; count_lines(rest), below, "{text}");
+        assert_eq!(rt; head.len() + rest.len(), text.len(), "{text}");
+    }
+}

@@ -1,0 +1,11 @@
+//! Tests of the structures over a plain memory: tx_queue, tx_sums, tx_regions.
+#![tactic(auto)]
+
+#[cfg(test)]
+mod shared;
+#[cfg(test)]
+mod tx_queue_tests;
+#[cfg(test)]
+mod tx_regions_tests;
+#[cfg(test)]
+mod tx_sums_tests;

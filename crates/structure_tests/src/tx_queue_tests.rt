@@ -1,0 +1,116 @@
+//! Calls over a plain memory: random ones, against a plain list of the values, and the words that a few leave.
+ghost use Rattle.std.specs.Prelude.{◌≡◌, ◌<◌, ◌≤◌, ◌+◌, ◌*◌, ◌^◌, None, Some, OnOk, IfErr, length};
+ghost use Rattle.tx_effects.specs.Effects.{Under};
+ghost use Rattle.tx_queue.specs.Queues.{QueueFits, IsQueue};
+
+use crate::shared::{next, zeros};
+use std::alloc::Global;
+use std::test::Fail;
+use stm_model::access::Access;
+use stm_model::stop::Stop;
+use tx_queue::laws::queues_are_apart;
+use tx_queue::queue::{Put, Queue};
+
+/// Random puts and gets, as many as `values` has room for. Whether each reply is that of a plain list: the values
+/// from the index `taken` to the index `added`.
+fn replies_agree<A: Access>(
+    acc: &mut A,
+    queue: &Queue,
+    seed: u64,
+    values: &mut [u32],
+) -> Result<bool, Stop>
+    requires going { A.stopped acc.old ≡ None }
+    requires within { QueueFits queue.now (A.words acc.old) }
+    requires well { Under (A.good acc.old) (A.words acc.old) (A.log acc.old) (IsQueue queue.now) }
+{
+    let mut draw = seed;
+    let mut added: usize = 0;
+    let mut taken: usize = 0;
+    for _call in 0..values.len() {
+        draw = next(draw);
+        let value = (draw >> 32) as u32;
+        let room = added - taken < queue.cells;
+        if value % 8 < 5 {
+            let reply = queue.put(acc, value)?;
+            if (reply == Put::Added) != room {
+                return Ok(false);
+            }
+            if room {
+                values[added] = value;
+                added += 1;
+            }
+        } else if taken < added {
+            if queue.get(acc)? != Some(values[taken]) {
+                return Ok(false);
+            }
+            taken += 1;
+        } else if queue.get(acc)?.is_some() {
+            return Ok(false);
+        }
+        if queue.len(acc)? != (added - taken) as u64 {
+            return Ok(false);
+        }
+    }
+    Ok(true)
+}
+
+/// Whether random calls on a queue of that many cells reply as on a plain list.
+fn is_a_list(alloc: Global, at: usize, cells: usize) -> Result<bool, Fail>
+    requires some { 0 < cells }
+    requires small { at + cells < 2 ^ 32 }
+{
+    queues_are_apart();
+    let mut memory = zeros(alloc, at + 2 + cells)?;
+    let mut values = vec![in alloc; 0; 2000]?;
+    let replies = replies_agree(
+        &mut memory,
+        &Queue::new(at, cells),
+        cells as u64,
+        values.as_mut_slice(),
+    );
+    Ok(replies == Ok(true))
+}
+
+#[test]
+fn random_calls_reply_as_on_a_list(rt: HostRuntime) -> Result<(), Fail> {
+    assert_eq!(rt; is_a_list(rt.alloc(), 0, 1)?, true);
+    assert_eq!(rt; is_a_list(rt.alloc(), 3, 2)?, true);
+    assert_eq!(rt; is_a_list(rt.alloc(), 1, 3)?, true);
+    assert_eq!(rt; is_a_list(rt.alloc(), 9, 17)?, true);
+    Ok(())
+}
+
+/// Puts three values in, takes two out, and puts two more in.
+fn goes_round<A: Access>(
+    acc: &mut A,
+    queue: &Queue,
+    values: [u32; 5],
+) -> Result<(Put, Option<u32>, Option<u32>, Put), Stop>
+    requires going { A.stopped acc.old ≡ None }
+    requires within { QueueFits queue.now (A.words acc.old) }
+    requires well { Under (A.good acc.old) (A.words acc.old) (A.log acc.old) (IsQueue queue.now) }
+{
+    queue.put(acc, values[0])?;
+    queue.put(acc, values[1])?;
+    queue.put(acc, values[2])?;
+    let first = queue.get(acc)?;
+    let second = queue.get(acc)?;
+    let fourth = queue.put(acc, values[3])?;
+    let fifth = queue.put(acc, values[4])?;
+    Ok((fourth, first, second, fifth))
+}
+
+#[test]
+fn the_ring_wraps(rt: HostRuntime) -> Result<(), Fail> {
+    queues_are_apart();
+    let mut memory = zeros(rt.alloc(), 7)?;
+    let replies = goes_round(&mut memory, &Queue::new(1, 3), [10, 11, 12, 13, 14]);
+    assert_eq!(rt; replies, Ok((Put::Added, Some(10), Some(11), Put::Added)));
+    let mut words = Vec::new(rt.alloc());
+    for word in memory.words() {
+        words.push(word.value())?;
+    }
+    // the front is cell 2, and the cells behind it are 0 and 1
+    assert_eq!(rt; words, vec![in rt.alloc(); 0, 2, 3, 13, 14, 12, 0]?);
+    Ok(())
+}
