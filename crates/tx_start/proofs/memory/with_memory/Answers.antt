@@ -1,8 +1,6 @@
-use Rattle.std.proofs.Common.{ℕ, ◌≡◌, ◌<◌, ◌∙◌, ap, arith, get_or, length, map, replicate, subst, sym}
-use Rattle.std.proofs.lemmas.List.{length-replicate}
+use Rattle.std.proofs.Common.{◌≡◌, ◌<◌, ◌∙◌, ap, arith, get_or, length, map, replicate, subst, sym}
 use Rattle.stm_model.specs.declared.config.Config.{Config}
 use Rattle.stm_model.specs.Histories.{IsLegal, memory_at}
-use Rattle.stm_model.specs.HistoryLaws.{length-memory_at}
 use Rattle.stm_rule.specs.Callers.{Handle}
 use Rattle.stm_rule.specs.Closings.{AllTold, installs_of}
 use Rattle.tx_atomic.specs.Callers.{AllReady}
@@ -21,11 +19,7 @@ close-requires-clause-descs g c =
     ready-idle stm (ap (λ (k : Config). k.fence) c.in_ok-stm.ensures.stm.0 ∙ c.requires.unfenced) 0 _ (subst (AllReady stm 0) (sym c.part-descs.ensures.descs) worked)
 
 pub returns-in-Ok-clause-count : goal.returns-in-Ok-clause-count
-returns-in-Ok-clause-count g c =
-    let h = c.in-Ok.ensures.closes in
-    let e = c.in-Ok.closed in
-    let words : ℕ = c.in_ok-stm.stm.config.words in
-    ap length h.words ∙ (length-memory_at e.clock e.history (replicate words 0) ∙ (length-replicate {A = ℕ} words 0 ∙ ap (λ (k : Config). k.words) c.in_ok-stm.ensures.stm.0))
+returns-in-Ok-clause-count g c = c.in-Ok.ensures.all_words ∙ ap (λ (k : Config). k.words) c.in_ok-stm.ensures.stm.0
 
 pub returns-in-Ok-clause-legal : goal.returns-in-Ok-clause-legal
 returns-in-Ok-clause-legal g c =
