@@ -1,0 +1,74 @@
+-- Laws of what callers leave.
+use Rattle.std.proofs.Common.{ℕ, zero, suc, ◌≡◌, ◌<◌, ◌+◌, ◌∙◌, List, [], ◌∷◌, map, length, get_or, set, sym, ap, arith, subst}
+use Rattle.std.proofs.lemmas.List.{get_or-map, length-map}
+use Rattle.stm_model.specs.declared.alg.Alg.{Alg}
+use Rattle.rule_base.specs.declared.views.View.{View}
+use Rattle.rule_base.specs.Bridge.{public_history}
+use Rattle.stm_rule.specs.declared.stm.Stm.{Stm}
+use Rattle.stm_rule.specs.Callers.{Handle, AllOpened}
+use Rattle.stm_rule.specs.Closings.{Ended, Told, AllTold, installs_of}
+use Rattle.tx_answers.specs.Known.{Known, caller_of}
+use Rattle.stm_tx.specs.Descs.{known, number}
+use Rattle.tx_atomic.specs.Callers.{AllReady, IsThrough}
+use Rattle.tx_atomic.specs.CallerLaws.{ready-each}
+use Rattle.tx_start.specs.declared.memory.Answer.{Answer}
+use Rattle.tx_start.specs.declared.working.Left.{Left}
+use Rattle.tx_start.specs.Lefts.{desc_in, descs_in, answer_in, answers_in, AllNew, Works}
+use Rattle.tx_start.specs.Stories.{IsStory}
+
+module _ {K : Type 0} (stm : Stm K) where
+  -- callers that were opened have made nothing, and one of them with other steps neither
+  pub opened-new : (n : ℕ) (ds : List (Handle K)) → AllOpened stm n ds → AllNew ds
+  opened-new n [] h i x lt = absurd (omega arith)
+  opened-new n (d ∷ ds) h zero x lt = ap (λ (v : View). public_history v.history.made) h.2
+  opened-new n (d ∷ ds) h (suc i) x lt = opened-new (suc n) ds h.4 i x (omega (arith, lt))
+
+  -- a caller's number
+  numbered : (n i : ℕ) (ds : List (Handle K)) (x : Handle K) → AllReady stm n ds → i < length ds → number (get_or ds i x) ≡ n + i
+  numbered n i [] x h lt = absurd (omega arith)
+  numbered n zero (d ∷ ds) x h lt = let e : n ≡ n + 0 = omega arith in ap caller_of h.1 ∙ e
+  numbered n (suc i) (d ∷ ds) x h lt = let e : suc n + i ≡ n + suc i = omega arith in numbered (suc n) i ds x h.3 (omega (arith, lt)) ∙ e
+
+pub new-set : {K : Type 0} (ds : List (Handle K)) (e : Handle K) → AllNew ds → (known e).made ≡ [] → AllNew (set ds 0 e)
+new-set [] e all new i x lt = absurd (omega (arith, lt))
+new-set (d ∷ ds) e all new zero x lt = new
+new-set (d ∷ ds) e all new (suc i) x lt = all (suc i) x lt
+
+told-at : {K : Type 0} (e : Ended) (n i : ℕ) (ds : List (Handle K)) (x : Handle K) → AllTold e n ds → i < length ds → Told e (n + i) (get_or ds i x)
+told-at e n i [] x h lt = absurd (omega arith)
+told-at e n zero (d ∷ ds) x h lt = let s : n ≡ n + 0 = omega arith in subst (λ k. Told e k d) s h.0
+told-at e n (suc i) (d ∷ ds) x h lt = let s : suc n + i ≡ n + suc i = omega arith in subst (λ k. Told e k (get_or ds i x)) s (told-at e (suc n) i ds x h.1 (omega (arith, lt)))
+
+module _ {K V : Type 0} (stm : Stm K) (tells : ℕ → V → Known → Known → Type 0) where
+  -- each caller did its job
+  pub each-worked : (ds : List (Handle K)) (ls : List (Left K V)) → AllReady stm 0 ds → length ls ≡ length ds → ((i : ℕ) (l : Left K V) (x : Handle K) → i < length ds → Works tells (get_or ds i x) (get_or ls i l)) → AllReady stm 0 (descs_in ls)
+  each-worked ds [] ready count each = ready-each stm 0 ds [] ready count (λ i x lt. absurd (omega (arith, lt, count)))
+  each-worked ds (l ∷ ls) ready count each =
+      let many = length-map (l ∷ ls) desc_in in
+      ready-each stm 0 ds (descs_in (l ∷ ls)) ready (many ∙ count) (λ i x lt. subst (λ (e : Handle K). IsThrough (get_or ds i x) e) (sym (get_or-map desc_in (l ∷ ls) i l x (omega (arith, lt, count)))) (each i l x lt).0)
+
+  -- and has its story
+  pub stories : (ds : List (Handle K)) (ls : List (Left K V)) (e : Ended) → AllReady stm 0 ds → AllNew ds → length ls ≡ length ds → ((i : ℕ) (l : Left K V) (x : Handle K) → i < length ds → Works tells (get_or ds i x) (get_or ls i l))
+      → AllTold e 0 (descs_in ls) → e.installs ≡ map (λ (d : Handle K). installs_of d.view) (descs_in ls) → (i : ℕ) (a : Answer V) → i < length ds → IsStory (tells i) e i (get_or (answers_in ls) i a).value
+  stories ds [] e ready new count each told installs i a lt = absurd (omega (arith, lt, count))
+  stories ds (l ∷ ls) e ready new count each told installs i a lt =
+      let here : i < length (l ∷ ls) = omega (arith, lt, count) in
+      let x : Handle K = l.desc in
+      let one : Left K V = get_or (l ∷ ls) i l in
+      let place : i < length (descs_in (l ∷ ls)) = let many = length-map (l ∷ ls) desc_in in omega (arith, here, many) in
+      let at : get_or (descs_in (l ∷ ls)) i x ≡ one.desc = get_or-map desc_in (l ∷ ls) i l x here in
+      let mine = subst (λ (d : Handle K). Told e (0 + i) d) at (told-at e 0 i (descs_in (l ∷ ls)) x told place) in
+      let zero_i : 0 + i ≡ i = omega arith in
+      let this = subst (λ k. Told e k one.desc) zero_i mine in
+      let works = each i l x lt in
+      let value : (get_or (answers_in (l ∷ ls)) i a) ≡ one.answer = get_or-map answer_in (l ∷ ls) i l a here in
+      let nth : number (get_or ds i x) ≡ i = numbered stm 0 i ds x ready lt ∙ zero_i in
+      record {
+        before = known (get_or ds i x);
+        after = known one.desc;
+        told = subst (λ (b : Answer V). tells i b.value (known (get_or ds i x)) (known one.desc)) (sym value) (subst (λ k. tells k one.answer.value (known (get_or ds i x)) (known one.desc)) nth works.1);
+        fresh = new i x lt;
+        made = this.made;
+        seen = this.seen;
+        installed = ap (λ (xs : List (List Alg)). get_or xs i []) installs ∙ (get_or-map (λ (d : Handle K). installs_of d.view) (descs_in (l ∷ ls)) i x [] place ∙ ap (λ (d : Handle K). installs_of d.view) at);
+      }

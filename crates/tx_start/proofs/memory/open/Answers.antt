@@ -1,0 +1,30 @@
+use Rattle.std.proofs.Common.{◌≡◌, ◌<◌, ◌∙◌, [], length, get_or, ap, subst, arith}
+use Rattle.stm_model.specs.declared.config.Config.{Config}
+use Rattle.stm_rule.specs.Callers.{Handle}
+use Rattle.stm_tx.specs.Descs.{known}
+use Rattle.tx_atomic.specs.Callers.{IsThrough}
+use Rattle.tx_start.proofs.LeftLaws.{opened-new, new-set}
+use Rattle.tx_atomic.specs.CallerLaws.{opened-ready, ready-set}
+use Rattle.tx_start.proofs.memory.open.Goals as goal
+
+pub returns-clause-ready : goal.returns-clause-ready
+returns-clause-ready g c =
+    let stm = c.in_ok-stm.stm in
+    let ds = c.in_ok-stm.descs.items in
+    let e = c.switch_to.new.desc in
+    let through = subst (λ (h : Handle g.row.K.Denot). IsThrough h e) c.index_mut.ensures.value c.switch_to.ensures.through in
+    let count = c.in_ok-stm.ensures.descs.1 in
+    let asked = ap (λ (k : Config). k.callers) c.in_ok-stm.ensures.stm.0 in
+    let some : 0 < length ds = let least = stm.ranges.callers.0 in omega arith in
+    ready-set stm 0 0 ds _ e (opened-ready stm 0 ds c.in_ok-stm.ensures.descs.0) through some
+
+pub returns-clause-new : goal.returns-clause-new
+returns-clause-new g c =
+    let stm = c.in_ok-stm.stm in
+    let ds = c.in_ok-stm.descs.items in
+    let all = opened-new stm 0 ds c.in_ok-stm.ensures.descs.0 in
+    let count = c.in_ok-stm.ensures.descs.1 in
+    let asked = ap (λ (k : Config). k.callers) c.in_ok-stm.ensures.stm.0 in
+    let some : 0 < length ds = let least = stm.ranges.callers.0 in omega arith in
+    let first : (known (get_or ds 0 c.index_mut.result.now)).made ≡ [] = all 0 c.index_mut.result.now some in
+    new-set ds c.switch_to.new.desc all (c.switch_to.ensures.made ∙ (ap (λ (h : Handle g.row.K.Denot). (known h).made) c.index_mut.ensures.value ∙ first))

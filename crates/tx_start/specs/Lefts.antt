@@ -1,0 +1,29 @@
+-- What callers leave.
+use Rattle.std.specs.Prelude.{ℕ, ◌≡◌, ◌<◌, List, [], map, length, get_or}
+use Rattle.stm_rule.specs.Callers.{Handle}
+use Rattle.tx_answers.specs.Known.{Known}
+use Rattle.stm_tx.specs.Descs.{known, number}
+use Rattle.tx_atomic.specs.Callers.{IsThrough}
+use Rattle.tx_start.specs.declared.memory.Answer.{Answer}
+use Rattle.tx_start.specs.declared.working.Left.{Left}
+
+-- none has made an entry yet
+abbrev pub AllNew : {K : Type 0} → List (Handle K) → Type 0
+AllNew {K = K} ds = (i : ℕ) (x : Handle K) → i < length ds → (known (get_or ds i x)).made ≡ []
+
+module _ {K V : Type 0} where
+  abbrev pub desc_in : Left K V → Handle K
+  desc_in l = l.desc
+
+  abbrev pub descs_in : List (Left K V) → List (Handle K)
+  descs_in ls = map desc_in ls
+
+  abbrev pub answer_in : Left K V → Answer V
+  answer_in l = l.answer
+
+  abbrev pub answers_in : List (Left K V) → List (Answer V)
+  answers_in ls = map answer_in ls
+
+  -- a caller did its job, whose answers tell this
+  abbrev pub Works : (ℕ → V → Known → Known → Type 0) → Handle K → Left K V → Type 0
+  Works tells d l = IsThrough d l.desc × tells (number d) l.answer.value (known d) (known l.desc)

@@ -1,0 +1,84 @@
+//! A caller of a memory, between its transactions.
+ghost use Rattle.std.specs.Prelude.{◌≡◌};
+ghost use Rattle.stm_rule.specs.Callers.{IsOf};
+ghost use Rattle.tx_answers.specs.Known.{IsIdle};
+ghost use Rattle.stm_tx.specs.Descs.{known};
+
+use std::sync::Wait;
+use stm_tx::{Alg, Desc, MemRule, Stm};
+use tx_atomic::atomically::atomically;
+use tx_atomic::pace::Pace;
+use tx_atomic::switching::switch_to;
+use tx_atomic::transaction::Transaction;
+
+/// A caller, on its thread. It is in no attempt.
+#[derive(Drop)]
+pub struct Caller<'a, R: Wait, K: MemRule> {
+    pub rt: &'a R,
+    pub stm: &'a Stm<K>,
+    pub desc: Desc<K>,
+    pub pace: Pace,
+    pub ghost own: { IsOf desc stm.now },
+    pub ghost idle: { IsIdle (known desc) },
+}
+
+impl<'a, R: Wait, K: MemRule> Caller<'a, R, K> {
+    ghost use Rattle.std.specs.Prelude.{◌≡◌, ℕ, ◌∷◌, ◌++◌, [], IfSome, IfNone};
+    ghost use Rattle.stm_tx.specs.Descs.{known, number};
+    ghost use Rattle.tx_atomic.specs.Callers.{HasWorked};
+    ghost use Rattle.tx_atomic.specs.Attempts.{TookEffect};
+    ghost use Rattle.tx_answers.specs.Causes.{FindsFull};
+    ghost use Rattle.tx_atomic.specs.Tallies.{CommitsRise};
+
+    /// Runs a transaction until it commits, and answers what it does. None where the clock was found at its limit.
+    pub fn run<T: Transaction<K>>(&mut self, transaction: &T) -> Option<T::Output>
+        requires fits { T.fits transaction.now self.old.stm.now.rule self.old.stm.now.config.words }
+        ensures worked { HasWorked self.old.desc self.new.desc }
+        ensures same { self.new.stm ≡ self.old.stm }
+        ensures took { IfSome result (λ r. TookEffect (K.good self.old.stm.now.rule) self.old.stm.now.config (number self.old.desc) (T.tells transaction.now self.old.stm.now.rule self.old.stm.now.config.words r) (known self.old.desc).front (known self.old.desc) (known self.new.desc)) }
+        ensures counted { IfSome result (λ r. CommitsRise self.old.pace.tally self.new.pace.tally) }
+        ensures none { IfNone result ((known self.new.desc).made ≡ (known self.old.desc).made) }
+        ensures full { IfNone result ((clock : ℕ) × FindsFull clock (known self.old.desc) (known self.new.desc)) }
+        ensures installs { (known self.new.desc).installs ≡ (known self.old.desc).installs }
+    {
+        atomically(
+            self.rt,
+            &mut self.desc,
+            self.stm,
+            &mut self.pace,
+            transaction,
+        )
+    }
+
+    /// Installs an algorithm: attempts that begin from then on run under it.
+    pub fn switch_to(&mut self, alg: Alg)
+        ensures worked { HasWorked self.old.desc self.new.desc }
+        ensures same { self.new.stm ≡ self.old.stm }
+        ensures made { (known self.new.desc).made ≡ (known self.old.desc).made }
+        ensures installs { (known self.new.desc).installs ≡ (known self.old.desc).installs ++ alg ∷ [] }
+    {
+        switch_to(self.rt, &mut self.desc, self.stm, alg);
+    }
+
+    /// Runs so many transactions, one behind the other, and answers how many took effect: fewer only where the clock
+    /// was found at its limit. `f` makes that of a round, the first of which is 0.
+    pub fn repeat<T: Transaction<K> + Drop, F: Fn(usize) -> T>(
+        &mut self,
+        rounds: usize,
+        f: &F,
+    ) -> usize
+        requires callable { F.IsAlwaysCallable f.now }
+        requires fits { (round : ℕ) (t : T) → F.post f.now round t → T.fits t self.old.stm.now.rule self.old.stm.now.config.words }
+        ensures worked { HasWorked self.old.desc self.new.desc }
+        ensures same { self.new.stm ≡ self.old.stm }
+        ensures installs { (known self.new.desc).installs ≡ (known self.old.desc).installs }
+    {
+        for round in 0..rounds {
+            let transaction = f(round);
+            if self.run(&transaction).is_none() {
+                return round;
+            }
+        }
+        rounds
+    }
+}

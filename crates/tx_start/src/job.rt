@@ -1,0 +1,28 @@
+//! What a caller does.
+ghost use Rattle.tx_atomic.specs.Callers.{HasWorked};
+ghost use Rattle.stm_tx.specs.Descs.{known, number};
+
+use crate::caller::Caller;
+use std::sync::Wait;
+use stm_tx::MemRule;
+
+/// What each caller does on its thread, in the order of its own transactions.
+pub trait Job<R: Wait, K: MemRule> {
+    ghost use Rattle.std.specs.Prelude.{ℕ};
+    ghost use Rattle.tx_answers.specs.Known.{Known};
+
+    /// What it answers.
+    type Output: Drop + Send;
+
+    // what it needs of the rule and of the number of words
+    ghost needs: { Self → K → ℕ → Type 0 };
+
+    // what is so of a caller's answer: by the rule, the number of words, the caller's number, and what it knew before and
+    // behind its work
+    ghost tells: { Self → K → ℕ → ℕ → Self.Output → Known → Known → Type 0 };
+
+    fn work(&self, caller: &mut Caller<'_, R, K>) -> Self::Output
+        requires needs { needs self.now caller.old.stm.now.rule caller.old.stm.now.config.words }
+        ensures worked { HasWorked caller.old.desc caller.new.desc }
+        ensures tells { tells self.now caller.old.stm.now.rule caller.old.stm.now.config.words (number caller.old.desc) result (known caller.old.desc) (known caller.new.desc) };
+}

@@ -1,0 +1,87 @@
+//! The callers at work, and what each leaves.
+ghost use Rattle.std.specs.Prelude.{◌≡◌, ◌≤◌, ◌<◌, ℕ, [], map, length, vec_len, vec_capacity, slice_index_or, IfOk, All};
+ghost use Rattle.stm_rule.specs.Callers.{Handle};
+ghost use Rattle.tx_atomic.specs.Callers.{IsReady};
+ghost use Rattle.tx_start.specs.declared.working.Left.{Left};
+ghost use Rattle.tx_start.specs.Lefts.{descs_in, answers_in, Works};
+
+use crate::caller::Caller;
+use crate::job::Job;
+use crate::memory::Answer;
+use std::sync::Wait;
+use std::thread;
+use std::thread::Threads;
+use stm_tx::{Desc, MemRule, NewError, Stm};
+use tx_atomic::pace::Pace;
+
+/// What a caller leaves.
+#[derive(Drop)]
+pub(crate) struct Left<K: MemRule, V> {
+    pub desc: Desc<K>,
+    pub answer: Answer<V>,
+}
+
+/// Has each caller do its job, on a thread of its own.
+pub(crate) fn work_all<
+    R: Threads + Wait + Sync,
+    K: MemRule + Drop + Sync + Send,
+    J: Job<R, K> + Sync,
+>(rt: &R, stm: &Stm<K>, descs: Vec<Desc<K>>, job: &J) -> Result<Vec<Left<K, J::Output>>, NewError>
+    requires ready { All (IsReady stm.now) descs.items }
+    requires needs { J.needs job.now stm.now.rule stm.now.config.words }
+    ensures count { IfOk result (λ left. length left.items ≡ length descs.items) }
+    ensures done { IfOk result (λ left. (i : ℕ) (d : Left K J.Output) (e : Handle K) → i < length descs.items → Works (J.tells job.now stm.now.rule stm.now.config.words) (slice_index_or descs.items i e) (slice_index_or left.items i d)) }
+{
+    let job_of = |desc|
+        requires { IsReady stm.now desc × J.needs job.now stm.now.rule stm.now.config.words }
+    { work(rt, stm, desc, job) };
+    let left = thread::map_vec(rt, descs, &job_of)?;
+    Ok(left)
+}
+
+/// Has one caller do its job.
+fn work<R: Wait, K: MemRule, J: Job<R, K>>(
+    rt: &R,
+    stm: &Stm<K>,
+    desc: Desc<K>,
+    job: &J,
+) -> Left<K, J::Output>
+    requires ready { IsReady stm.now desc }
+    requires needs { J.needs job.now stm.now.rule stm.now.config.words }
+    ensures works { Works (J.tells job.now stm.now.rule stm.now.config.words) desc result }
+{
+    let mut caller = Caller {
+        rt,
+        stm,
+        desc,
+        pace: Pace::new(),
+    };
+    let value = job.work(&mut caller);
+    let Caller { desc, pace, .. } = caller;
+    Left {
+        desc,
+        answer: Answer {
+            value,
+            tally: pace.tally,
+        },
+    }
+}
+
+/// The descriptors and the answers, in the callers' order, in the room for them.
+pub(crate) fn part<K: MemRule, V: Drop>(
+    left: Vec<Left<K, V>>,
+    mut descs: Vec<Desc<K>>,
+    mut answers: Vec<Answer<V>>,
+) -> (Vec<Desc<K>>, Vec<Answer<V>>)
+    requires empty { (descs.items ≡ []) × (vec_len descs ≡ 0) × (vec_len answers ≡ 0) × (answers.items ≡ []) }
+    requires room { (length left.items ≤ vec_capacity descs) × (length left.items ≤ vec_capacity answers) }
+    ensures descs { result.0.items ≡ descs_in left.items }
+    ensures answers { result.1.items ≡ answers_in left.items }
+{
+    for one in left {
+        let Left { desc, answer } = one;
+        descs.push_reserved(desc);
+        answers.push_reserved(answer);
+    }
+    (descs, answers)
+}
