@@ -14,6 +14,7 @@ use Rattle.stm_rule.specs.Closings.{Closes, Ended}
 use Rattle.tx_answers.specs.Known.{no_log}
 use Rattle.tx_effects.specs.Effects.{Effect, unchanged, changed, Under, Shows, DoesOver}
 use Rattle.tx_effects.specs.EffectLaws.{shows-read, shown, does-stay, does-change, turns-write, turns-then}
+use Rattle.tx_effects.specs.FreshLaws.{sound-first, has-effect}
 use Rattle.example_bank.specs.declared.bank.Bank.{Bank}
 use Rattle.example_bank.specs.Banks.{balances, paid_in, IsBalanced, HasEffect, opened_in, moved_in, audited_in}
 
@@ -176,28 +177,25 @@ module _ (bank : Bank) (m : List ℕ) (s : IsSound bank m) where
           subst (λ (f : Effect Bool). IsBalanced bank f.memory) (sym (opens-is bank m (paid_in bank m) refl shut)) (opened some shut)
 
 module _ (bank : Bank) (good : List ℕ → Type 0) (words : ℕ) (of : IsMemoryOf bank good words) (l : Log) (fresh : l ≡ no_log) where
-  bare : l.writes ≡ []
-  bare = ap (λ (k : Log). k.writes) fresh
-
   -- what an attempt that wrote nothing yet knows
-  pub sound-first : Under good words l (IsSound bank)
-  sound-first = λ m g len ex. subst (λ ws. IsSound bank (overlay m ws)) (sym bare) ((of.1 m).0 g, len ∙ of.0)
+  pub sound : Under good words l (IsSound bank)
+  sound = λ m g len ex. let s = sound-first (IsBalanced bank) good words of.1 l fresh m g len ex in (s.0, s.1 ∙ of.0)
 
-  pub has-effect : {A : Type 0} (effect : List ℕ → Effect A) (reply : A) (k : Log) → DoesOver good words effect l reply k → HasEffect bank words effect reply k
-  has-effect effect reply k does = subst (λ (f : Log). DoesOver (IsBalanced bank) words effect f reply k) fresh (λ m g. does m ((of.1 m).1 g))
+  pub bank-effect : {A : Type 0} (effect : List ℕ → Effect A) (reply : A) (k : Log) → DoesOver good words effect l reply k → HasEffect bank words effect reply k
+  bank-effect effect reply k does = has-effect (IsBalanced bank) good words of.1 l fresh effect reply k does
 
   -- the word behind the balances was read
   paid-read : (a : Log) (paid : ℕ) → Reads l bank.accounts paid a → Shows good words l a (λ m. paid ≡ paid_in bank m)
-  paid-read a paid read = shows-read good words l l a (IsSound bank) (λ m. paid ≡ paid_in bank m) bank.accounts paid (λ m g len ex. (ex, sound-first m g len ex)) refl (let e = of.0 in omega arith) read (λ m p e. e)
+  paid-read a paid read = shows-read good words l l a (IsSound bank) (λ m. paid ≡ paid_in bank m) bank.accounts paid (λ m g len ex. (ex, sound m g len ex)) refl (let e = of.0 in omega arith) read (λ m p e. e)
 
   pub finds-open : (a : Log) (paid : ℕ) → Reads l bank.accounts paid a → 0 < paid → HasEffect bank words (opened_in bank) false a
   finds-open a paid read some =
-      has-effect (opened_in bank) false a (does-stay good words l (opened_in bank) a false (IsSound bank) sound-first read.0 (λ m. paid ≡ paid_in bank m) (paid-read a paid read) (λ m p q. open-is bank m paid q some))
+      bank-effect (opened_in bank) false a (does-stay good words l (opened_in bank) a false (IsSound bank) sound read.0 (λ m. paid ≡ paid_in bank m) (paid-read a paid read) (λ m p q. open-is bank m paid q some))
 
   pub opens : (a b c : Log) (paid : ℕ) → Reads l bank.accounts paid a → paid ≡ 0 → Writes a bank.accounts bank.capital b → Writes b 0 bank.capital c → HasEffect bank words (opened_in bank) true c
   opens a b c paid read none one two =
-      has-effect (opened_in bank) true c
-      (does-change good words l (opened_in bank) a c true (IsSound bank) sound-first read.0 (λ m. paid ≡ paid_in bank m) (paid-read a paid read)
+      bank-effect (opened_in bank) true c
+      (does-change good words l (opened_in bank) a c true (IsSound bank) sound read.0 (λ m. paid ≡ paid_in bank m) (paid-read a paid read)
       (λ m. set (set m bank.accounts bank.capital) 0 bank.capital)
       (turns-then a b c (λ m. set m bank.accounts bank.capital) (λ m. set m 0 bank.capital) (turns-write a b bank.accounts bank.capital one) (turns-write b c 0 bank.capital two))
       (λ m p q. opens-is bank m paid q none))
@@ -209,7 +207,7 @@ module _ (bank : Bank) (good : List ℕ → Type 0) (words : ℕ) (of : IsMemory
 
     found : Shows good words l b Found
     found =
-        let one = shows-read good words l l a (IsSound bank) (λ m. IsSound bank m × (payer ≡ get_or m from 0)) from payer (λ m g len ex. (ex, sound-first m g len ex)) refl (let e = of.0 in omega arith) first (λ m p e. (p, e)) in
+        let one = shows-read good words l l a (IsSound bank) (λ m. IsSound bank m × (payer ≡ get_or m from 0)) from payer (λ m g len ex. (ex, sound m g len ex)) refl (let e = of.0 in omega arith) first (λ m p e. (p, e)) in
         shows-read good words l a b (λ m. IsSound bank m × (payer ≡ get_or m from 0)) Found to payee one first.0 (let e = of.0 in omega arith) second (λ m p e. (p, e))
 
     unwritten : b.writes ≡ l.writes
@@ -223,24 +221,15 @@ module _ (bank : Bank) (good : List ℕ → Type 0) (words : ℕ) (of : IsMemory
 
     pub stays : (amount : ℕ) → payer < amount → HasEffect bank words (moved_in from to amount) false b
     stays amount short =
-        has-effect (moved_in from to amount) false b (does-stay good words l (moved_in from to amount) b false (IsSound bank) sound-first unwritten Found found (λ m p q. stays-is m from to amount payer q.0.1 short))
+        bank-effect (moved_in from to amount) false b (does-stay good words l (moved_in from to amount) b false (IsSound bank) sound unwritten Found found (λ m p q. stays-is m from to amount payer q.0.1 short))
 
     pub moves : (c d : Log) (amount : ℕ) → amount ≤ payer → Writes b from (payer - amount) c → Writes c to (payee + amount) d → HasEffect bank words (moved_in from to amount) true d
     moves c d amount enough one two =
-        has-effect (moved_in from to amount) true d
-        (does-change good words l (moved_in from to amount) b d true (IsSound bank) sound-first unwritten Found found
+        bank-effect (moved_in from to amount) true d
+        (does-change good words l (moved_in from to amount) b d true (IsSound bank) sound unwritten Found found
         (λ m. set (set m from (payer - amount)) to (payee + amount))
         (turns-then b c d (λ m. set m from (payer - amount)) (λ m. set m to (payee + amount)) (turns-write b c from (payer - amount) one) (turns-write c d to (payee + amount) two))
         (λ m p q. moves-is m from to amount payer payee q.0.1 q.1 enough))
-
--- an effect that leads from balanced memories to balanced ones keeps the rule
-pub keeps-by : (bank : Bank) (words : ℕ) {A : Type 0} (effect : List ℕ → Effect A) (reply : A) (k : Log) → words ≡ bank.accounts + 1 → HasEffect bank words effect reply k → ((m : List ℕ) → IsSound bank m → IsBalanced bank (effect m).memory)
-    → Keeps (IsBalanced bank) words k
-keeps-by bank words effect reply k count does balanced = λ m g len ex. subst (IsBalanced bank) (sym (does m g len ex).left) (balanced m (g, len ∙ count))
-
--- an attempt that only reads keeps every rule
-pub reads-keep : (good : List ℕ → Type 0) (words : ℕ) (k : Log) → k.writes ≡ [] → Keeps good words k
-reads-keep good words k none = λ m fine len ex. subst (λ ws. good (overlay m ws)) (sym none) fine
 
 -- a closed memory is balanced
 pub closed-sound : (bank : Bank) (c : Config) (ds : List (Handle Bank)) (ws : List ℕ) (e : Ended) → Closes (IsBalanced bank) c ds ws e → c.words ≡ bank.accounts + 1 → IsSound bank ws

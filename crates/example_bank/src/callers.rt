@@ -1,8 +1,5 @@
 //! What callers do.
 ghost use Rattle.std.specs.Prelude.{◌≡◌, ◌⊎◌};
-ghost use Rattle.stm_rule.specs.Callers.{IsOf, IsSameCaller};
-ghost use Rattle.tx_answers.specs.Known.{IsIdle};
-ghost use Rattle.stm_tx.specs.Descs.{known};
 ghost use Rattle.tx_atomic.specs.Callers.{IsReady, IsThrough};
 ghost use Rattle.example_bank.specs.Banks.{Fits};
 
@@ -38,23 +35,19 @@ pub fn work<R: Wait>(rt: &R, caller: usize, desc: &mut Desc<Bank>, stm: &Stm<Ban
 
 /// Adds up the balances: nothing before the bank opens, and its capital from then on.
 pub fn audit<R: Wait>(rt: &R, desc: &mut Desc<Bank>, stm: &Stm<Bank>) -> u64
-    requires stm { IsOf desc.old stm.now }
-    requires idle { IsIdle (known desc.old) }
+    requires ready { IsReady stm.now desc.old }
     requires bank { Fits stm.now.rule stm.now.config.words }
     ensures sum { (result ≡ 0) ⊎ (result ≡ stm.now.rule.capital) }
-    ensures same { IsSameCaller desc.old desc.new }
-    ensures idle { IsIdle (known desc.new) }
+    ensures through { IsThrough desc.old desc.new }
 {
     atomically(rt, desc, stm, &mut Pace::new(), &Audit).unwrap_or(0)
 }
 
 /// Moves money from account to account.
 fn trade<R: Wait>(rt: &R, caller: usize, desc: &mut Desc<Bank>, stm: &Stm<Bank>)
-    requires stm { IsOf desc.old stm.now }
-    requires idle { IsIdle (known desc.old) }
+    requires ready { IsReady stm.now desc.old }
     requires bank { Fits stm.now.rule stm.now.config.words }
-    ensures same { IsSameCaller desc.old desc.new }
-    ensures idle { IsIdle (known desc.new) }
+    ensures through { IsThrough desc.old desc.new }
 {
     let accounts = stm.rule.accounts;
     let mut pace = Pace::new();

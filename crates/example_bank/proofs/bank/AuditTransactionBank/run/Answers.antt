@@ -1,8 +1,9 @@
 use Rattle.std.proofs.Common.{◌≡◌, ◌≤◌, ◌<◌, ◌+◌, ◌⊎◌, ◌∙◌, ℕ, List, sum, take, get_or, refl, ap, arith}
 use Rattle.stm_model.specs.Logs.{Log}
 use Rattle.tx_effects.specs.EffectLaws.{does-stay, shows-read, shown, same-trans}
+use Rattle.tx_effects.specs.FreshLaws.{reads-keep}
 use Rattle.example_bank.specs.Banks.{IsBalanced, balances, audited_in}
-use Rattle.example_bank.proofs.BankLaws.{IsMemoryOf, IsSound, sound-first, has-effect, part, part-next, audited-is, whole, reads-keep}
+use Rattle.example_bank.proofs.BankLaws.{IsMemoryOf, IsSound, sound, bank-effect, part, part-next, audited-is, whole}
 use Rattle.example_bank.proofs.bank.AuditTransactionBank.run.Goals as goal
 
 pub loop-account-init : goal.loop-account-init
@@ -18,7 +19,7 @@ loop-account-init g c =
       keeps = g.met.A.Access.keeps_refl _;
       writes = refl;
       explained = λ lt. absurd (omega arith);
-      shows = λ m fine len ex. (ex, (sound-first bank good words (c.requires.fits.0, c.requires.good) log c.requires.fresh m fine len ex, refl));
+      shows = λ m fine len ex. (ex, (sound bank good words (c.requires.fits.0, c.requires.good) log c.requires.fresh m fine len ex, refl));
     }
 
 pub loop-account-preserved : goal.loop-account-preserved
@@ -88,7 +89,7 @@ returns-clause-tells g c =
     let is : i ≡ bank.accounts = omega arith in
     let left = g.A.Access.log c.loop-account.memory in
     let Added : List ℕ → Type 0 = λ m. IsSound bank m × (t ≡ sum (take i (balances bank m))) in (
-      has-effect bank good words of log c.requires.fresh (audited_in bank) t left (does-stay good words log (audited_in bank) left t (IsSound bank) (sound-first bank good words of log c.requires.fresh) inv.writes Added inv.shows (λ m p q. audited-is bank m p i t is q.1)),
+      bank-effect bank good words of log c.requires.fresh (audited_in bank) t left (does-stay good words log (audited_in bank) left t (IsSound bank) (sound bank good words of log c.requires.fresh) inv.writes Added inv.shows (λ m p q. audited-is bank m p i t is q.1)),
       shown good words log left _ _ Added ((t ≡ 0) ⊎ (t ≡ bank.capital)) inv.shows inv.good inv.words (inv.explained (let s = c.requires.fits.1 in omega arith)) (λ m p. whole bank m p.0 i t is p.1),
     )
 
