@@ -176,12 +176,13 @@ fn with_long_report(alloc: Global, length: usize) -> Result<Vec<u8>, AllocError>
     let mut text = Vec::with_capacity(alloc, room)?;
     text.extend_from_slice(WORKLOAD.as_bytes())?;
     text.extend_from_slice(b"report 1\nR 0 0 0 :")?;
-    while room.saturating_sub(text.len()) > 26 {
+    // what is left for numbers but for the last one's first digit, and for the line `end`
+    let digits = length.saturating_sub(25);
+    for _ in 0..digits / 21 {
         text.extend_from_slice(b" 18446744073709551615")?;
     }
-    // two bytes at least are left
     text.extend_from_slice(b" 1")?;
-    while room.saturating_sub(text.len()) > 5 {
+    for _ in 0..digits % 21 {
         text.push(b'0')?;
     }
     text.extend_from_slice(b"\nend\n")?;
