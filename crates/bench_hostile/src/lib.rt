@@ -19,8 +19,4 @@ mod overrun_tests;
 #[cfg(test)]
 mod plain_grammar;
 #[cfg(test)]
-mod plain_replay;
-#[cfg(test)]
 mod random_tests;
-#[cfg(test)]
-mod report_tests;

@@ -2,7 +2,7 @@
 use std::alloc::{AllocError, Global};
 use std::test::Fail;
 use stm_check::checking::{Finding, MOST_CHECKED, check};
-use stm_check::reading::{MAX_REPORT, read_report};
+use stm_check::reading::read_report;
 use stm_check::replay::replay;
 use stm_check::verdict::Verdict;
 use stm_model::memory::Memory;
@@ -167,42 +167,6 @@ fn finds_what_stands_in_no_line_of_a_report(rt: HostRuntime) -> Result<(), Fail>
     }
     let alone = Finding::Faulty { line: 21, code: 3 };
     assert_eq!(rt; check(rt.alloc(), WORKLOAD.as_bytes())?, alone);
-    Ok(())
-}
-
-/// The workload, and a report of so many bytes: a row of numbers of twenty digits, and a shorter one at its end.
-fn with_long_report(alloc: Global, length: usize) -> Result<Vec<u8>, AllocError> {
-    let room = WORKLOAD.len().saturating_add(length);
-    let mut text = Vec::with_capacity(alloc, room)?;
-    text.extend_from_slice(WORKLOAD.as_bytes())?;
-    text.extend_from_slice(b"report 1\nR 0 0 0 :")?;
-    // what is left for numbers but for the last one's first digit, and for the line `end`
-    let digits = length.saturating_sub(25);
-    for _ in 0..digits / 21 {
-        text.extend_from_slice(b" 18446744073709551615")?;
-    }
-    text.extend_from_slice(b" 1")?;
-    for _ in 0..digits % 21 {
-        text.push(b'0')?;
-    }
-    text.extend_from_slice(b"\nend\n")?;
-    Ok(text)
-}
-
-#[test]
-fn takes_no_report_of_a_byte_too_many(rt: HostRuntime) -> Result<(), Fail> {
-    let table = [
-        (MAX_REPORT, Finding::No { line: 22 }),
-        (
-            MAX_REPORT.saturating_add(1),
-            Finding::Faulty { line: 0, code: 13 },
-        ),
-    ];
-    for (length, finding) in table {
-        let text = with_long_report(rt.alloc(), length)?;
-        assert_eq!(rt; text.len(), WORKLOAD.len().saturating_add(length));
-        assert_eq!(rt; check_short(rt.alloc(), text.as_slice())?, finding);
-    }
     Ok(())
 }
 
