@@ -35,6 +35,18 @@ pub fn check(
     Ok(())
 }
 
+/// The header of version 2 behind its line `words`, by the rest of it, and a body: both in one line.
+pub fn workload_two(alloc: Global, words: usize, rest: &str, body: &str) -> Result<String, Fail> {
+    let mut text = String::new(alloc);
+    write!(&mut text, "stm 2\nwords {words}\n")?;
+    text.push_str(lines(alloc, rest)?.as_str())?;
+    if !body.is_empty() {
+        text.push_str(lines(alloc, body)?.as_str())?;
+    }
+    text.push_str("done\n")?;
+    Ok(text)
+}
+
 /// The words of a command line: the program's name, and those of this line behind it.
 pub fn command_line<'a>(alloc: Global, line: &'a str) -> Result<Vec<&'a str>, Fail> {
     let mut words = Vec::new(alloc);

@@ -3,6 +3,7 @@ use Rattle.std.specs.Prelude.{ℕ, ◌≡◌, ◌≤◌, ◌++◌, length, List,
 use Rattle.std.specs.Borrow.{Bor}
 use Rattle.stm_profile.specs.declared.policy.Policy.{Policy}
 use Rattle.stm_profile.specs.declared.policy.Policy.TheVariants.{Fixed}
+use Rattle.stm_profile.specs.Policies.{ruling}
 use Rattle.stm_rule.specs.Closings.{Ended}
 use Rattle.stm_io.specs.Ends.{Rose, IsText, Took, TookSome, Gained, GainedSome}
 use Rattle.stm_script.specs.declared.report.Report.{Report}
@@ -28,12 +29,12 @@ use Rattle.stm_words.specs.Asking.{Asks, texts_of}
 pub record RanToEnd (policy : Policy) (w : Workload) (closed : Ended) (said : List ℕ) : Type 0 where
   pub report : Report
   pub fits : ReportFits report
-  pub shown : IsShown policy w report closed
+  pub shown : IsShown (ruling policy w.header.policy) w report closed
   pub is : said ≡ report_bytes report
 
 -- the run came to a transaction at the clock's limit
 pub record RanToLimit (policy : Policy) (w : Workload) (clock : ℕ) (closed : Ended) (said : List ℕ) : Type 0 where
-  pub full : IsFull policy w clock closed
+  pub full : IsFull (ruling policy w.header.policy) w clock closed
   pub is : said ≡ clock_full_line clock
 
 -- the run in turns went to its end, and what is said is its trace, which fits the workload and the report, and then the report

@@ -2,7 +2,7 @@
 ghost use Rattle.std.specs.Prelude.{ℕ, IfOk};
 ghost use Rattle.stm_driver.specs.Runs.{HasRun, HasStepped};
 ghost use Rattle.stm_text.specs.Built.{IsBuilt};
-ghost use Rattle.stm_profile.specs.declared.policy.Policy.TheVariants.{Fixed};
+ghost use Rattle.stm_profile.specs.Policies.{ruling};
 ghost use Rattle.stm_text.specs.declared.parse.Mode.TheVariants.{Run, Step};
 
 use std::alloc::Global;
@@ -91,8 +91,8 @@ impl Parts {
     }
 }
 
-/// What the run of a workload on a thread a caller came to, where caller 0 switches besides by the policy. Memory
-/// may be refused before its first turn.
+/// What the run of a workload on a thread a caller came to, where caller 0 switches besides by the policy, or by the
+/// text's where it is fixed. Memory may be refused before its first turn.
 pub(crate) fn run_workload<R: Threads + Wait + Sync, G: Turnstile + Sync>(
     rt: &R,
     alloc: Global,
@@ -101,10 +101,10 @@ pub(crate) fn run_workload<R: Threads + Wait + Sync, G: Turnstile + Sync>(
     turnstile: &G,
 ) -> Result<Outcome, Memory>
     requires { IsBuilt Run workload }
-    ensures { IfOk result (HasRun policy workload) }
+    ensures { IfOk result (HasRun (ruling policy workload.header.policy) workload) }
 {
     let parts = Parts::of(alloc, workload)?;
-    let prepared = parts.prepare(rt, alloc, policy)?;
+    let prepared = parts.prepare(rt, alloc, policy.ruling(parts.header.policy))?;
     Ok(run(rt, alloc, prepared, turnstile))
 }
 
@@ -119,6 +119,6 @@ pub(crate) fn step_workload<R: Threads + Wait + Sync>(
     ensures { IfOk result (λ r. HasStepped workload r.0.items r.1) }
 {
     let parts = Parts::of(alloc, workload)?;
-    let prepared = parts.prepare(rt, alloc, Policy::Fixed)?;
+    let prepared = parts.prepare(rt, alloc, parts.header.policy)?;
     Ok(step(rt, alloc, prepared, parts.schedule.as_slice()))
 }

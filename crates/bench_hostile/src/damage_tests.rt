@@ -17,6 +17,10 @@ const ADDS: &str =
 const EVERY: &str =
     "stm 1 / words 1030 / callers 2 / records 4 / ring 4 / reads 16 / writes 16 / clock 5 / alg TML / structs on / tx 0 {read 1; write 1028 7; add 2 3; move 1 2 3; irrev; emit 63; cancel} / switch 1 RingSW / tx 1 {count 3 10; total; ladd 9; ldel 8; lhas 7; llen; hadd 20; hdel 4; hhas 20; tadd 6; tdel 6; thas 6; tmin} / schedule / go 0 2 / go 1 10 / done";
 
+/// Every kind of line of version 2.
+const EVERY_TWO: &str =
+    "stm 2 / words 1030 / callers 2 / records 4 / ring 4 / reads 16 / writes 16 / clock 5 / alg TML / regions 6 / region counter 8 2 / region list 10 4 / region hash 20 4 / region tree 50 4 / region queue 70 2 / region summap 80 4 / policy state:3 / tx 0 {read 1; write 1028 7; add 2 3; move 1 2 3; irrev; emit 7; cancel} / switch 1 RingSW / reserve 1 20 30 / tx 1 {count 0 1 10; total 0; ladd 1 9; ldel 1 8; lhas 1 7; llen 1; hadd 2 20; hdel 2 4; hhas 2 20; tadd 3 6; tdel 3 6; thas 3 6; tmin 3; qput 4 5; qget 4; mput 5 6 7; mdel 5 6; mget 5 6; msum 5 0 9} / schedule / go 0 2 / go 1 10 / done";
+
 /// The bytes that take another's place.
 const WRONG: [u8; 8] = [0, 9, 10, 32, 127, 255, b'0', b'x'];
 
@@ -94,7 +98,12 @@ fn next_line(text: &[u8]) -> usize {
 #[test]
 fn a_prefix_is_unended(rt: HostRuntime) -> Result<(), Fail> {
     let alloc = rt.alloc();
-    for (command, text) in [("run", ADDS), ("step", ADDS), ("step", EVERY)] {
+    for (command, text) in [
+        ("run", ADDS),
+        ("step", ADDS),
+        ("step", EVERY),
+        ("step", EVERY_TWO),
+    ] {
         let whole = lines(alloc, text)?;
         for count in 0..whole.len() {
             let prefix = whole.as_bytes().get(..count).unwrap_or(&[]);
@@ -133,6 +142,23 @@ fn a_wrong_byte_is_found(rt: HostRuntime) -> Result<(), Fail> {
             }
         }
         assert_eq!(rt; counts, (tried, refused), "{command}");
+    }
+    Ok(())
+}
+
+/// Every line of version 2, with a digit or a letter too many or in another's place.
+#[test]
+fn a_wrong_byte_of_version_two_is_found(rt: HostRuntime) -> Result<(), Fail> {
+    let alloc = rt.alloc();
+    let whole = lines(alloc, EVERY_TWO)?.into_bytes();
+    for at in 0..whole.len() {
+        for wrong in [b'0', b'9'] {
+            let mut damaged = whole.clone()?;
+            if let Some(byte) = damaged.get_mut(at) {
+                *byte = wrong;
+            }
+            compare(&rt, alloc, "step", damaged.as_slice())?;
+        }
     }
     Ok(())
 }

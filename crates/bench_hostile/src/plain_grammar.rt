@@ -7,9 +7,9 @@ use std::test::Fail;
 /// No fault: above all codes.
 const NONE: u32 = 12;
 
-/// The lines 2 to 8 of the header, each with the range of its number.
+/// The lines 2 to 8 of the header, each with the range of its number; that of `words` in version 2.
 const NUMBERS: [(&str, u64, u64); 7] = [
-    ("words", 1, 65536),
+    ("words", 1, 1048576),
     ("callers", 1, 32),
     ("records", 1, 4096),
     ("ring", 2, 64),
@@ -63,9 +63,57 @@ pub(crate) const FORMS: &[(Place, &str, bool, &str)] = &[
     (Place::Script, "tmin", true, ""),
 ];
 
+/// The lines that version 2 has besides, or in place of those of that word: as [`FORMS`], with the kind of the region
+/// in place of whether structures are needed. `r` is the number of a region, `p` a stripe of it, `l` the length of a log.
+const FORMS_TWO: &[(Place, &str, &str, &str)] = &[
+    (Place::Items, "reserve", "", "cll"),
+    (Place::Script, "count", "counter", "rpn"),
+    (Place::Script, "total", "counter", "r"),
+    (Place::Script, "ladd", "list", "rk"),
+    (Place::Script, "ldel", "list", "rk"),
+    (Place::Script, "lhas", "list", "rk"),
+    (Place::Script, "llen", "list", "r"),
+    (Place::Script, "hadd", "hash", "rk"),
+    (Place::Script, "hdel", "hash", "rk"),
+    (Place::Script, "hhas", "hash", "rk"),
+    (Place::Script, "tadd", "tree", "rk"),
+    (Place::Script, "tdel", "tree", "rk"),
+    (Place::Script, "thas", "tree", "rk"),
+    (Place::Script, "tmin", "tree", "r"),
+    (Place::Script, "qput", "queue", "rk"),
+    (Place::Script, "qget", "queue", "r"),
+    (Place::Script, "mput", "summap", "rkn"),
+    (Place::Script, "mdel", "summap", "rk"),
+    (Place::Script, "mget", "summap", "rk"),
+    (Place::Script, "msum", "summap", "rkk"),
+];
+
+/// The kinds of regions: the greatest size, and the words of a region of so many: so many for each, and some besides.
+const KINDS: [(&str, u64, u64, u64); 6] = [
+    ("counter", 64, 1, 0),
+    ("list", 4096, 2, 1),
+    ("hash", 4096, 2, 16),
+    ("tree", 4096, 3, 1),
+    ("queue", 4096, 1, 2),
+    ("summap", 4096, 5, 1),
+];
+
+/// A region: its kind by its place among them, its first word, the word behind its last, and its size.
+#[derive(Clone, Copy, Drop)]
+struct Region {
+    kind: usize,
+    at: u64,
+    end: u64,
+    size: u64,
+}
+
 /// What the lines so far say.
 #[derive(Drop)]
 struct Reader {
+    is_two: bool,
+    /// How many regions there are to be, and those so far.
+    count: u64,
+    regions: Vec<Region>,
     /// Whether a schedule is allowed.
     is_step: bool,
     place: Place,
@@ -92,6 +140,9 @@ pub(crate) fn first_fault(
         return Ok(Some((0, 1)));
     }
     let mut reader = Reader {
+        is_two: false,
+        count: 0,
+        regions: Vec::new(alloc),
         is_step,
         place: Place::Header,
         line: 1,
@@ -132,7 +183,7 @@ pub(crate) fn has_bad_byte(line: &[u8]) -> bool {
 
 /// A number of the form.
 pub(crate) fn number(word: &str) -> Option<u64> {
-    let is_led = word.len() > 1 && word.starts_with('0');
+    let is_led = word.len() != 1 && (word.is_empty() || word.starts_with('0'));
     let has_digits = word.bytes().all(|byte| byte.is_ascii_digit());
     if is_led || !has_digits {
         return None;
@@ -155,6 +206,9 @@ impl Reader {
         }
         let code = self.fault(words.as_slice());
         if code == NONE {
+            if let Some(region) = self.region_of(words.as_slice()) {
+                self.regions.push(region)?;
+            }
             self.go_on(words.as_slice());
         }
         Ok(code)
@@ -165,6 +219,7 @@ impl Reader {
             return 4;
         }
         match (self.place, words) {
+            (Place::Header, words) if self.is_two && self.line >= 10 => self.layout_fault(words),
             (Place::Header, [name, value]) => self.header_fault(name, value),
             (Place::Header, _) => 4,
             (_, [name, operands @ ..]) => self.line_fault(name, operands),
@@ -179,8 +234,13 @@ impl Reader {
             10 => "structs",
             _ => match NUMBERS.get(self.line.wrapping_sub(2)) {
                 Some((wanted, low, high)) => {
+                    let most = if self.line == 2 && !self.is_two {
+                        65536
+                    } else {
+                        *high
+                    };
                     return if name == *wanted {
-                        in_range(value, *low, *high)
+                        in_range(value, *low, most)
                     } else {
                         4
                     };
@@ -192,7 +252,7 @@ impl Reader {
             return 4;
         }
         match (self.line, value) {
-            (1, "1") => NONE,
+            (1, "1" | "2") => NONE,
             (9, _) => self.operand_fault(b'A', value),
             (10, "off") => NONE,
             (10, "on") => { if self.words < 1024 { 8 } else { NONE } }
@@ -200,9 +260,97 @@ impl Reader {
         }
     }
 
+    /// Of the header of version 2 behind `alg`.
+    fn layout_fault(&self, words: &[&str]) -> u32 {
+        let is_over = self.line > 10 && self.regions.len() as u64 >= self.count;
+        match words {
+            ["regions", n] if self.line == 10 => in_range(n, 0, 16),
+            ["policy", p] if is_over => policy_fault(p),
+            ["region", kind, at, size] if self.line > 10 && !is_over => {
+                self.region_fault(kind, at, size)
+            }
+            _ => 4,
+        }
+    }
+
+    fn region_fault(&self, name: &str, at: &str, size: &str) -> u32 {
+        for (kind, most, each, besides) in KINDS {
+            if kind == name {
+                let (Some(at), Some(size)) = (number(at), number(size)) else {
+                    return 5;
+                };
+                if size < 1 || size > most {
+                    return 6;
+                }
+                let above = self
+                    .regions
+                    .as_slice()
+                    .last()
+                    .map_or(0, |region| region.end);
+                let end = at.saturating_add(size.wrapping_mul(each).wrapping_add(besides));
+                return if at < above || end > self.words {
+                    8
+                } else {
+                    NONE
+                };
+            }
+        }
+        4
+    }
+
+    /// The region of a line without a fault.
+    fn region_of(&self, words: &[&str]) -> Option<Region> {
+        let (["region", name, at, size], Place::Header) = (words, self.place) else {
+            return None;
+        };
+        let kind = KINDS.iter().position(|kind| kind.0 == *name)?;
+        let (_, _, each, besides) = *KINDS.get(kind)?;
+        let (at, size) = (number(at)?, number(size)?);
+        let words = size.wrapping_mul(each).wrapping_add(besides);
+        Some(Region {
+            kind,
+            at,
+            end: at.saturating_add(words),
+            size,
+        })
+    }
+
+    /// The lowest code of an operation's region that is there: of another kind than is wanted, or without that stripe.
+    fn kind_fault(&self, wanted: &str, operands: &[&str]) -> u32 {
+        let region = operands.first().and_then(|word| number(word));
+        let Some(region) = region.and_then(|n| self.regions.as_slice().get(n as usize)) else {
+            return NONE;
+        };
+        if !KINDS.get(region.kind).is_some_and(|kind| kind.0 == wanted) {
+            return 8;
+        }
+        match operands {
+            [_, stripe, _] if wanted == "counter" => match number(stripe) {
+                Some(n) if n >= region.size => 6,
+                _ => NONE,
+            },
+            _ => NONE,
+        }
+    }
+
     fn line_fault(&self, name: &str, operands: &[&str]) -> u32 {
+        if self.is_two {
+            for (place, first, kind, kinds) in FORMS_TWO {
+                if *place == self.place && *first == name && kinds.len() == operands.len() {
+                    let mut lowest = self.standing_fault(name, false);
+                    if *kind != "" {
+                        lowest = lowest.min(self.kind_fault(kind, operands));
+                    }
+                    for (kind, word) in kinds.bytes().zip(operands.iter()) {
+                        lowest = lowest.min(self.operand_fault(kind, word));
+                    }
+                    return lowest;
+                }
+            }
+        }
         for (place, first, structured, kinds) in FORMS {
-            if *place == self.place && *first == name && kinds.len() == operands.len() {
+            let is_here = *place == self.place && !(self.is_two && *structured);
+            if is_here && *first == name && kinds.len() == operands.len() {
                 let mut lowest = self.standing_fault(name, *structured);
                 for (kind, word) in kinds.bytes().zip(operands.iter()) {
                     lowest = lowest.min(self.operand_fault(kind, word));
@@ -224,7 +372,7 @@ impl Reader {
         if name == "emit" && !self.asked {
             return 9;
         }
-        let is_item = name == "tx" || name == "switch";
+        let is_item = name == "tx" || name == "switch" || name == "reserve";
         let is_operation = self.place == Place::Script && name != "end";
         if (is_item && self.items >= 65536) || (is_operation && self.operations >= 4096) {
             return 10;
@@ -246,6 +394,14 @@ impl Reader {
         match kind {
             b'c' => { if n < self.callers { NONE } else { 6 } }
             b's' => { if n < 4 { NONE } else { 6 } }
+            b'r' => {
+                if n < self.regions.len() as u64 {
+                    NONE
+                } else {
+                    6
+                }
+            }
+            b'l' => { if n >= 1 && n <= 4096 { NONE } else { 6 } }
             b'k' => { if n < 4294967296 { NONE } else { 6 } }
             b't' if n < 1 || n > 1000000 => 6,
             b't' => {
@@ -257,7 +413,10 @@ impl Reader {
             }
             b'a' if n >= self.words => 6,
             b'a' => {
-                if self.structs && n >= 64 && n < 1024 {
+                let is_in = |region: &Region| { region.at <= n && n < region.end };
+                if (self.structs && n >= 64 && n < 1024)
+                    || self.regions.as_slice().iter().any(is_in)
+                {
                     8
                 } else {
                     NONE
@@ -274,6 +433,9 @@ impl Reader {
         let n = number(last).unwrap_or(0);
         match self.place {
             Place::Header => match name {
+                "stm" => self.is_two = last == "2",
+                "regions" => self.count = n,
+                "policy" => self.place = Place::Items,
                 "words" => self.words = n,
                 "callers" => self.callers = n,
                 "structs" => {
@@ -318,5 +480,19 @@ fn in_range(word: &str, low: u64, high: u64) -> u32 {
     match number(word) {
         None => 5,
         Some(n) => { if low <= n && n <= high { NONE } else { 6 } }
+    }
+}
+
+/// The lowest code of the word of a policy.
+fn policy_fault(word: &str) -> u32 {
+    match word.split_once(':') {
+        None => if word == "fixed" || word == "expert" {
+            NONE
+        } else {
+            4
+        },
+        Some(("round", n)) => in_range(n, 1, 65536),
+        Some(("state", n)) => in_range(n, 1, 16),
+        Some(_) => 4,
     }
 }

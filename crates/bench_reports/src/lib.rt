@@ -9,3 +9,5 @@ mod random_tests;
 mod report_tests;
 #[cfg(test)]
 mod structure_tests;
+#[cfg(test)]
+mod version_two_tests;

@@ -1,4 +1,4 @@
-//! Tests of what calls the one interface: tx_atomic, tx_backoff, stm_worker, perf_core.
+//! Tests of what calls the one interface: tx_atomic, tx_backoff, tx_start, stm_worker, perf_core.
 #![tactic(auto)]
 
 #[cfg(test)]
@@ -9,3 +9,5 @@ mod stm_worker_tests;
 mod tx_atomic_tests;
 #[cfg(test)]
 mod tx_backoff_tests;
+#[cfg(test)]
+mod tx_start_tests;

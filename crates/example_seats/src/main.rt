@@ -3,8 +3,6 @@
 
 mod hall;
 mod sale;
-#[cfg(test)]
-mod tests;
 
 use crate::sale::sell;
 use std::process::ExitCode;

@@ -1,27 +1,26 @@
-//! What no clause says: that an attempt begins, commits and is refused at all, on one thread.
+//! What no clause says: that a note is learnt, and that an access over an attempt comes to something, on one thread. The
+//! other calls of an attempt, on marks and on ranges are among the scripts of member_scripts.
 ghost use Rattle.std.specs.Prelude.{◌≡◌, ◌<◌, None, true, false};
 ghost use Rattle.stm_model.specs.Algorithms.{is_built};
 ghost use Rattle.stm_rule.specs.Callers.{IsOf};
 ghost use Rattle.tx_answers.specs.Known.{IsIdle};
 ghost use Rattle.stm_tx.specs.Descs.{known};
 
-use crate::serial_tests::switch;
 use std::alloc::Global;
 use std::test::Fail;
 use stm_model::access::Access;
 use stm_model::alg::Alg;
-use stm_model::config::{CLOCK_LIMIT, Config};
+use stm_model::config::Config;
 use stm_model::rule::{AnyMem, MemRule};
 use stm_model::stop::Stop;
 use stm_rule::desc::Desc;
 use stm_rule::refusal::NewError;
 use stm_rule::stm::Stm;
-use stm_tx::calls::{
-    cancel, commit, holds_gate, is_irrevocable, read, start, state, try_begin, write,
-};
+use stm_tx::calls::{commit, read, start, try_begin, write};
+use stm_tx::gate::{close_gate, install, look, reopen};
 use stm_tx::live::Live;
 use stm_tx::serving::AnyAlgorithm;
-use tx_answers::answers::{Begin, Cancel, Commit, Read, TxState, Write};
+use tx_answers::answers::{Begin, CloseGate, Commit, Look, Read, Write};
 
 pub(crate) const PAIR: Config = Config {
     words: 8,
@@ -34,46 +33,24 @@ pub(crate) const PAIR: Config = Config {
     fence: false,
 };
 
-/// Caller 0 writes 5 to word 0, and then caller 1 reads it. Answers whether all went so.
-fn one_writes_the_other_reads(
-    stm: &Stm<AnyMem>,
-    first: &mut Desc<AnyMem>,
-    second: &mut Desc<AnyMem>,
-) -> bool
-    requires first { IsOf first.old stm.now }
-    requires second { IsOf second.old stm.now }
-    requires idle { IsIdle (known first.old) × IsIdle (known second.old) }
-    requires words { 0 < stm.now.config.words }
-    requires plain { stm.now.config.fence ≡ false }
+/// Installs the algorithm. Answers whether the gate was free and the caller alone.
+pub(crate) fn switch<K: MemRule>(stm: &Stm<K>, desc: &mut Desc<K>, alg: Alg) -> bool
+    requires desc { IsOf desc.old stm.now }
+    requires idle { IsIdle (known desc.old) }
+    requires built { is_built alg ≡ true }
+    ensures desc { IsOf desc.new stm.now }
+    ensures idle { IsIdle (known desc.new) }
 {
-    let Begin::Begun(Alg::Cgl) = try_begin(first, stm) else {
+    let CloseGate::Closed = close_gate(desc, stm) else {
         return false;
     };
-    let Begin::Held { word: 1 } = try_begin(second, stm) else {
+    let Look::Quiet = look(desc, stm) else {
+        reopen(desc, stm);
         return false;
     };
-    let Write::Done = write(first, stm, 0, 5) else {
-        return false;
-    };
-    let Cancel::Irrevocable = cancel(first, stm) else {
-        return false;
-    };
-    let Commit::Committed { time: 1 } = commit(first, stm) else {
-        return false;
-    };
-    let Begin::Begun(Alg::Cgl) = try_begin(second, stm) else {
-        return false;
-    };
-    if start(second) != 1 || !is_irrevocable(second) || holds_gate(second) {
-        return false;
-    }
-    let Read::Value(5) = read(second, stm, 0) else {
-        return false;
-    };
-    let Commit::ReadOnly { time: 1 } = commit(second, stm) else {
-        return false;
-    };
-    state(first) == TxState::Idle
+    install(desc, stm, alg);
+    reopen(desc, stm);
+    true
 }
 
 /// Under this algorithm caller 0 writes 5 to word 0, commits and tells; caller 1 learns of it and begins. Answers
@@ -115,15 +92,6 @@ fn tells_and_learns(
     Some((is_later, word))
 }
 
-/// Whether attempts of two callers go as they should under CGL.
-fn takes_turns(alloc: Global) -> Result<bool, NewError> {
-    let (stm, mut descs) = Stm::new(alloc, PAIR, AnyMem)?;
-    let (Some(mut second), Some(mut first)) = (descs.pop(), descs.pop()) else {
-        return Ok(false);
-    };
-    Ok(one_writes_the_other_reads(&stm, &mut first, &mut second))
-}
-
 /// What caller 1 learns under this algorithm.
 fn learns(alloc: Global, alg: Alg) -> Result<Option<(bool, u64)>, NewError>
     requires { is_built alg ≡ true }
@@ -133,20 +101,6 @@ fn learns(alloc: Global, alg: Alg) -> Result<Option<(bool, u64)>, NewError>
         return Ok(None);
     };
     Ok(tells_and_learns(&stm, &mut first, &mut second, alg))
-}
-
-/// What a try to begin comes to where the clock opens at its limit.
-fn begin_at_the_limit(alloc: Global) -> Result<Begin, NewError> {
-    let config = Config {
-        callers: 1,
-        clock: CLOCK_LIMIT,
-        ..PAIR
-    };
-    let (stm, mut descs) = Stm::new(alloc, config, AnyMem)?;
-    match descs.pop() {
-        Some(mut desc) => Ok(try_begin(&mut desc, &stm)),
-        None => Err(NewError::Memory),
-    }
 }
 
 /// Adds 1 to the word at `a`, through the bound, and answers it.
@@ -191,12 +145,7 @@ fn add_in_an_attempt(alloc: Global) -> Result<Option<u64>, NewError> {
 }
 
 #[test]
-fn two_callers_take_turns(rt: HostRuntime) -> Result<(), Fail> {
-    assert_eq!(rt; takes_turns(rt.alloc()), Ok(true));
-    assert_eq!(rt;
-        begin_at_the_limit(rt.alloc()),
-        Ok(Begin::ClockFull { clock: CLOCK_LIMIT })
-    );
+fn one_learns_of_the_others_commit(rt: HostRuntime) -> Result<(), Fail> {
     assert_eq!(rt; add_in_an_attempt(rt.alloc()), Ok(Some(1)));
     for alg in [Alg::Cgl, Alg::Tml, Alg::OrecLazy, Alg::RingSw, Alg::Serial] {
         assert_eq!(rt; learns(rt.alloc(), alg), Ok(Some((true, 5))));

@@ -4,7 +4,7 @@ ghost use Rattle.stm_rule.specs.Callers.{IsOf};
 ghost use Rattle.tx_answers.specs.Known.{IsIdle};
 ghost use Rattle.stm_tx.specs.Descs.{known};
 
-use crate::serial_tests::switch;
+use crate::calls_tests::switch;
 use alg_orec::eager_reading::{confirm, load, sample};
 use std::alloc::Global;
 use std::test::Fail;

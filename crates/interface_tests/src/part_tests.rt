@@ -6,8 +6,7 @@ ghost use Rattle.tx_answers.specs.Known.{IsRunning};
 ghost use Rattle.stm_tx.specs.Descs.{known};
 ghost use Rattle.stm_tx.specs.Nesting.{takes_marks};
 
-use crate::calls_tests::PAIR;
-use crate::serial_tests::switch;
+use crate::calls_tests::{PAIR, switch};
 use std::alloc::Global;
 use std::test::Fail;
 use stm_tx::calls::{commit, read, try_begin, write};

@@ -5,8 +5,7 @@ ghost use Rattle.stm_rule.specs.Callers.{IsOf, IsSameCaller};
 ghost use Rattle.tx_answers.specs.Known.{IsIdle, IsRunning, is_irrevocable, wrote};
 ghost use Rattle.stm_tx.specs.Descs.{known};
 
-use crate::calls_tests::PAIR;
-use crate::serial_tests::switch;
+use crate::calls_tests::{PAIR, switch};
 use alg_ring::ring::{finish, turn};
 use std::alloc::Global;
 use std::test::Fail;

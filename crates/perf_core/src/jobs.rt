@@ -76,7 +76,7 @@ fn perform<A: Access>(place: Place, memory: &mut A, job: Job) -> Result<Came, St
         Region::Counter(_) => on_accounts(memory, job),
         Region::List(list) => on_list(list, memory, job),
         Region::Hash(hash) => on_hash(hash, memory, job),
-        Region::Tree(_) => Ok(Came::Done),
+        Region::Tree(_) | Region::Queue(_) | Region::SumMap(_) => Ok(Came::Done),
     }
 }
 

@@ -1,9 +1,7 @@
-//! Tests of what stands apart from the shared memory: stm_script, stm_text, stm_check, stm_gen, stm_trace,
+//! Tests of what stands apart from the shared memory: stm_script, stm_text, stm_gen, stm_trace,
 //! stm_profile, stm_words, stm_io.
 #![tactic(auto)]
 
-#[cfg(test)]
-mod stm_check_tests;
 #[cfg(test)]
 mod stm_gen_tests;
 #[cfg(test)]
@@ -14,6 +12,8 @@ mod stm_profile_tests;
 mod stm_script_tests;
 #[cfg(test)]
 mod stm_text_tests;
+#[cfg(test)]
+mod stm_text_version_two_tests;
 #[cfg(test)]
 mod stm_trace_tests;
 #[cfg(test)]

@@ -13,12 +13,12 @@ fn transactions_are_drawn(rt: HostRuntime) -> Result<(), Fail> {
     let wanted = [
         (0, Op::Move(38, 46, 17)),
         (1, Op::Move(0, 59, 80)),
-        (0, Op::Count(0, 1)),
-        (1, Op::ListInsert(0)),
+        (0, Op::Count(0, 0, 1)),
+        (1, Op::ListInsert(1, 0)),
         (0, Op::Move(56, 0, 36)),
         (1, Op::Move(24, 35, 36)),
-        (0, Op::Count(1, 1)),
-        (1, Op::ListInsert(1)),
+        (0, Op::Count(0, 1, 1)),
+        (1, Op::ListInsert(1, 1)),
     ];
     let workload = generate(rt.alloc(), 8, 2, 1)?;
     let items = workload.items.into_vec();
@@ -33,7 +33,7 @@ fn transactions_are_drawn(rt: HostRuntime) -> Result<(), Fail> {
 fn first_op(item: &Item) -> Option<(usize, Op)> {
     match item {
         Item::Tx { caller, script } => Some((*caller, *script.as_slice().first()?)),
-        Item::Switch { .. } => None,
+        Item::Switch { .. } | Item::Reserve { .. } => None,
     }
 }
 

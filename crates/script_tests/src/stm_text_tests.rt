@@ -3,10 +3,11 @@ use std::alloc::{AllocError, Global};
 use std::process::Abort;
 use std::test::Fail;
 use stm_model::alg::{ALGORITHMS, Alg};
+use stm_profile::policy::Policy;
 use stm_script::lists::Words;
 use stm_script::op::Op;
 use stm_script::report::{Kind, Pairs, Report, Row, Rows};
-use stm_script::workload::{Go, Header, Item, Workload};
+use stm_script::workload::{Go, Item, Version, Workload};
 use stm_text::parse::{Mode, ParseError, parse};
 use stm_text::parting::{count_lines, part_at_done};
 use stm_text::report::{report_text, report_text_by};
@@ -65,99 +66,100 @@ fn fault(alloc: Global, text: &[u8], mode: Mode) -> Option<(usize, u32)> {
     }
 }
 
+const LINES_REFUSED: &[(usize, &str, u32)] = &[
+    (1, "stm 3", 4),
+    (1, "stm", 4),
+    (1, "stm 1 ", 4),
+    (1, " stm 1", 4),
+    (1, "stm  1", 4),
+    (1, "", 4),
+    (1, "stm\t1", 2),
+    (2, "words 0", 6),
+    (2, "words 65537", 6),
+    (2, "words 08", 5),
+    (2, "words +8", 5),
+    (2, "words ", 4),
+    (2, "words 18446744073709551616", 5),
+    (2, "words 18446744073709551615", 6),
+    (2, "words", 4),
+    (2, "words 8 8", 4),
+    (2, "records 4", 4),
+    (3, "callers 0", 6),
+    (3, "callers 33", 6),
+    (4, "records 4097", 6),
+    (5, "ring 1", 6),
+    (5, "ring 65", 6),
+    (6, "reads 0", 6),
+    (7, "writes 4097", 6),
+    (8, "clock 4611686018427387905", 6),
+    (8, "clock -1", 5),
+    (9, "alg none", 7),
+    (9, "algorithm CGL", 4),
+    (10, "structs on", 8),
+    (10, "structs On", 4),
+    (10, "structs", 4),
+    (11, "tx 1", 6),
+    (11, "tx x", 5),
+    (11, "tx", 4),
+    (11, "tx ", 4),
+    (11, "switch 0", 4),
+    (11, "switch 0 CGL 1", 4),
+    (11, "switch x none", 5),
+    (11, "switch 1 none", 6),
+    (11, "switch 0 none", 7),
+    (11, "go 0 1", 4),
+    (11, "schedule", 4),
+    (11, "read 0", 4),
+    (12, "add 8 1", 6),
+    (12, "add 9 01", 5),
+    (12, "add 03 1", 5),
+    (12, "add 3 18446744073709551616", 5),
+    (12, "add 3", 4),
+    (12, "add 3 1 1", 4),
+    (12, "add  3", 4),
+    (12, "add x ", 4),
+    (12, "emit 3", 9),
+    (12, "emit 8", 6),
+    (12, "emit 03", 5),
+    (12, "emit", 4),
+    (12, "emit 3 3", 4),
+    (12, "irrev 1", 4),
+    (12, "irrev ", 4),
+    (12, "cancel ", 4),
+    (12, "cancel 1", 4),
+    (12, "llen", 8),
+    (12, "llen 1", 4),
+    (12, "ladd 5", 8),
+    (12, "ladd", 4),
+    (12, "ladd 05", 5),
+    (12, "ladd 4294967296", 6),
+    (12, "count 3 1", 8),
+    (12, "count 4 1", 6),
+    (12, "count 4 x", 5),
+    (12, "count 3", 4),
+    (12, "move 8 1", 4),
+    (12, "move 8  1", 4),
+    (12, "move 8 9 1 1", 4),
+    (12, "move 8 01 1", 5),
+    (12, "move 8 9 x", 5),
+    (12, "move 8 0 1", 6),
+    (12, "move 0 8 1", 6),
+    (12, "switch 0 CGL", 4),
+    (12, "done", 4),
+    (12, "read 8", 6),
+    (12, "write 8 0", 6),
+    (12, "write 0 \x7f", 2),
+    (13, "end ", 4),
+    (20, "done ", 4),
+];
+
 #[test]
 fn refuses_lines(rt: HostRuntime) -> Result<(), Fail> {
-    let table = [
-        (1, "stm 2", 4),
-        (1, "stm", 4),
-        (1, "stm 1 ", 4),
-        (1, " stm 1", 4),
-        (1, "stm  1", 4),
-        (1, "", 4),
-        (1, "stm\t1", 2),
-        (2, "words 0", 6),
-        (2, "words 65537", 6),
-        (2, "words 08", 5),
-        (2, "words +8", 5),
-        (2, "words ", 4),
-        (2, "words 18446744073709551616", 5),
-        (2, "words 18446744073709551615", 6),
-        (2, "words", 4),
-        (2, "words 8 8", 4),
-        (2, "records 4", 4),
-        (3, "callers 0", 6),
-        (3, "callers 33", 6),
-        (4, "records 4097", 6),
-        (5, "ring 1", 6),
-        (5, "ring 65", 6),
-        (6, "reads 0", 6),
-        (7, "writes 4097", 6),
-        (8, "clock 4611686018427387905", 6),
-        (8, "clock -1", 5),
-        (9, "alg none", 7),
-        (9, "algorithm CGL", 4),
-        (10, "structs on", 8),
-        (10, "structs On", 4),
-        (10, "structs", 4),
-        (11, "tx 1", 6),
-        (11, "tx x", 5),
-        (11, "tx", 4),
-        (11, "tx ", 4),
-        (11, "switch 0", 4),
-        (11, "switch 0 CGL 1", 4),
-        (11, "switch x none", 5),
-        (11, "switch 1 none", 6),
-        (11, "switch 0 none", 7),
-        (11, "go 0 1", 4),
-        (11, "schedule", 4),
-        (11, "read 0", 4),
-        (12, "add 8 1", 6),
-        (12, "add 9 01", 5),
-        (12, "add 03 1", 5),
-        (12, "add 3 18446744073709551616", 5),
-        (12, "add 3", 4),
-        (12, "add 3 1 1", 4),
-        (12, "add  3", 4),
-        (12, "add x ", 4),
-        (12, "emit 3", 9),
-        (12, "emit 8", 6),
-        (12, "emit 03", 5),
-        (12, "emit", 4),
-        (12, "emit 3 3", 4),
-        (12, "irrev 1", 4),
-        (12, "irrev ", 4),
-        (12, "cancel ", 4),
-        (12, "cancel 1", 4),
-        (12, "llen", 8),
-        (12, "llen 1", 4),
-        (12, "ladd 5", 8),
-        (12, "ladd", 4),
-        (12, "ladd 05", 5),
-        (12, "ladd 4294967296", 6),
-        (12, "count 3 1", 8),
-        (12, "count 4 1", 6),
-        (12, "count 4 x", 5),
-        (12, "count 3", 4),
-        (12, "move 8 1", 4),
-        (12, "move 8  1", 4),
-        (12, "move 8 9 1 1", 4),
-        (12, "move 8 01 1", 5),
-        (12, "move 8 9 x", 5),
-        (12, "move 8 0 1", 6),
-        (12, "move 0 8 1", 6),
-        (12, "switch 0 CGL", 4),
-        (12, "done", 4),
-        (12, "read 8", 6),
-        (12, "write 8 0", 6),
-        (12, "write 0 \x7f", 2),
-        (13, "end ", 4),
-        (20, "done ", 4),
-    ];
-    for (line, other, code) in table {
-        let text = with_line(rt.alloc(), line, other)?;
+    for (line, other, code) in LINES_REFUSED {
+        let text = with_line(rt.alloc(), *line, other)?;
         assert_eq!(rt;
             fault(rt.alloc(), text.as_bytes(), Mode::Run),
-            Some((line, code)),
+            Some((*line, *code)),
             "{other}"
         );
     }
@@ -183,26 +185,27 @@ fn with_structures(alloc: Global, operations: &str) -> Result<String, AllocError
     Ok(text)
 }
 
+const ADDRESSES: &[(&str, Option<(usize, u32)>)] = &[
+    ("read 63\n", None),
+    ("read 64\n", Some((12, 8))),
+    ("write 1023 1\n", Some((12, 8))),
+    ("write 1024 1\n", Some((12, 6))),
+    ("add 64 01\n", Some((12, 5))),
+    ("move 64 1024 1\n", Some((12, 6))),
+    ("move 63 64 1\n", Some((12, 8))),
+    ("emit 64\n", Some((12, 8))),
+    ("emit 63\n", Some((12, 9))),
+    ("ladd 4294967296\n", Some((12, 6))),
+    ("count 4 1\n", Some((12, 6))),
+];
+
 #[test]
 fn keeps_plain_addresses_out_of_structures(rt: HostRuntime) -> Result<(), Fail> {
-    let table = [
-        ("read 63\n", None),
-        ("read 64\n", Some((12, 8))),
-        ("write 1023 1\n", Some((12, 8))),
-        ("write 1024 1\n", Some((12, 6))),
-        ("add 64 01\n", Some((12, 5))),
-        ("move 64 1024 1\n", Some((12, 6))),
-        ("move 63 64 1\n", Some((12, 8))),
-        ("emit 64\n", Some((12, 8))),
-        ("emit 63\n", Some((12, 9))),
-        ("ladd 4294967296\n", Some((12, 6))),
-        ("count 4 1\n", Some((12, 6))),
-    ];
-    for (operations, found) in table {
+    for (operations, found) in ADDRESSES {
         let text = with_structures(rt.alloc(), operations)?;
         assert_eq!(rt;
             fault(rt.alloc(), text.as_bytes(), Mode::Run),
-            found,
+            *found,
             "{operations}"
         );
     }
@@ -216,21 +219,21 @@ fn reads_operations_on_structures(rt: HostRuntime) -> Result<(), Fail> {
         "count 3 9\ntotal\nladd 1\nldel 2\nlhas 3\nllen\nhadd 4\nhdel 5\nhhas 6\ntadd 7\ntdel 8\nthas 4294967295\ntmin\n",
     )?;
     let read = parse(rt.alloc(), text.as_bytes(), Mode::Run)?;
-    assert!(rt; read.header.structs);
+    assert_eq!(rt; read.header.regions.as_slice().len(), 4);
     let scripts: &[&[Op]] = &[&[
-        Op::Count(3, 9),
-        Op::Total,
-        Op::ListInsert(1),
-        Op::ListRemove(2),
-        Op::ListContains(3),
-        Op::ListLength,
-        Op::HashInsert(4),
-        Op::HashRemove(5),
-        Op::HashContains(6),
-        Op::TreeInsert(7),
-        Op::TreeRemove(8),
-        Op::TreeContains(4294967295),
-        Op::TreeLeast,
+        Op::Count(0, 3, 9),
+        Op::Total(0),
+        Op::ListInsert(1, 1),
+        Op::ListRemove(1, 2),
+        Op::ListContains(1, 3),
+        Op::ListLength(1),
+        Op::HashInsert(2, 4),
+        Op::HashRemove(2, 5),
+        Op::HashContains(2, 6),
+        Op::TreeInsert(3, 7),
+        Op::TreeRemove(3, 8),
+        Op::TreeContains(3, 4294967295),
+        Op::TreeLeast(3),
     ]];
     assert_scripts(&rt, &read, scripts);
     Ok(())
@@ -257,20 +260,21 @@ fn takes_the_algorithms_that_are_built(rt: HostRuntime) -> Result<(), Fail> {
     Ok(())
 }
 
+const EMITS: &[(&str, usize, u32)] = &[
+    ("tx 0\nread 0\nemit 0\nirrev\n", 13, 9),
+    ("tx 0\nirrev\nend\ntx 0\nemit 3\n", 15, 9),
+    ("tx 0\ncancel\nemit 3\n", 13, 9),
+    ("tx 0\nirrev\nemit 3\nemit 8\n", 14, 6),
+    ("tx 0\nirrev\nirrev\nemit 3\nend\nirrev\n", 16, 4),
+];
+
 #[test]
 fn refuses_emits_that_come_too_early(rt: HostRuntime) -> Result<(), Fail> {
-    let table = [
-        ("tx 0\nread 0\nemit 0\nirrev\n", 13, 9),
-        ("tx 0\nirrev\nend\ntx 0\nemit 3\n", 15, 9),
-        ("tx 0\ncancel\nemit 3\n", 13, 9),
-        ("tx 0\nirrev\nemit 3\nemit 8\n", 14, 6),
-        ("tx 0\nirrev\nirrev\nemit 3\nend\nirrev\n", 16, 4),
-    ];
-    for (body, line, code) in table {
+    for (body, line, code) in EMITS {
         let text = with_body(rt.alloc(), body)?;
         assert_eq!(rt;
             fault(rt.alloc(), text.as_bytes(), Mode::Run),
-            Some((line, code)),
+            Some((*line, *code)),
             "{body}"
         );
     }
@@ -288,21 +292,22 @@ fn refuses_emits_that_come_too_early(rt: HostRuntime) -> Result<(), Fail> {
     Ok(())
 }
 
+const ENDS: &[(&str, usize, u32)] = &[
+    ("", 11, 3),
+    ("done", 11, 3),
+    ("don\te", 11, 2),
+    ("tx 0\n", 12, 3),
+    ("done\n\n", 12, 11),
+    ("done\n\tx", 12, 11),
+];
+
 #[test]
 fn refuses_ends(rt: HostRuntime) -> Result<(), Fail> {
-    let table = [
-        ("", 11, 3),
-        ("done", 11, 3),
-        ("don\te", 11, 2),
-        ("tx 0\n", 12, 3),
-        ("done\n\n", 12, 11),
-        ("done\n\tx", 12, 11),
-    ];
-    for (body, line, code) in table {
+    for (body, line, code) in ENDS {
         let text = with_body(rt.alloc(), body)?;
         assert_eq!(rt;
             fault(rt.alloc(), text.as_bytes(), Mode::Run),
-            Some((line, code)),
+            Some((*line, *code)),
             "{body}"
         );
     }
@@ -310,30 +315,31 @@ fn refuses_ends(rt: HostRuntime) -> Result<(), Fail> {
     Ok(())
 }
 
+const SCHEDULES: &[(&str, usize, u32)] = &[
+    ("schedule\ngo 0 0\n", 12, 6),
+    ("schedule\ngo 0 1000001\n", 12, 6),
+    ("schedule\ngo 1 1\n", 12, 6),
+    ("schedule\ngo 1 x\n", 12, 5),
+    ("schedule\ngo 0\n", 12, 4),
+    ("schedule\ngo 0 1 1\n", 12, 4),
+    ("schedule\nschedule\n", 12, 4),
+    ("schedule\ntx 0\n", 12, 4),
+    ("schedule\nswitch 0 CGL\n", 12, 4),
+    ("schedule \n", 11, 4),
+    ("schedule\ngo 0 600000\ngo 0 400001\n", 13, 10),
+    ("schedule\ngo 0 1000000\ngo 0 1\n", 13, 10),
+    ("schedule\ngo 0 1000000\ngo 1 1\n", 13, 6),
+    ("schedule\ngo 0 600000\ngo 0 400000\n", 14, 3),
+    ("schedule\ndone\n\n", 13, 11),
+];
+
 #[test]
 fn refuses_schedules(rt: HostRuntime) -> Result<(), Fail> {
-    let table = [
-        ("schedule\ngo 0 0\n", 12, 6),
-        ("schedule\ngo 0 1000001\n", 12, 6),
-        ("schedule\ngo 1 1\n", 12, 6),
-        ("schedule\ngo 1 x\n", 12, 5),
-        ("schedule\ngo 0\n", 12, 4),
-        ("schedule\ngo 0 1 1\n", 12, 4),
-        ("schedule\nschedule\n", 12, 4),
-        ("schedule\ntx 0\n", 12, 4),
-        ("schedule\nswitch 0 CGL\n", 12, 4),
-        ("schedule \n", 11, 4),
-        ("schedule\ngo 0 600000\ngo 0 400001\n", 13, 10),
-        ("schedule\ngo 0 1000000\ngo 0 1\n", 13, 10),
-        ("schedule\ngo 0 1000000\ngo 1 1\n", 13, 6),
-        ("schedule\ngo 0 600000\ngo 0 400000\n", 14, 3),
-        ("schedule\ndone\n\n", 13, 11),
-    ];
-    for (body, line, code) in table {
+    for (body, line, code) in SCHEDULES {
         let text = with_body(rt.alloc(), body)?;
         assert_eq!(rt;
             fault(rt.alloc(), text.as_bytes(), Mode::Step),
-            Some((line, code)),
+            Some((*line, *code)),
             "{body}"
         );
         assert_eq!(rt;
@@ -416,23 +422,13 @@ fn assert_scripts(rt: &impl Abort, read: &Workload, scripts: &[&[Op]]) {
                 assert_eq!(rt; script.as_slice(), *ops);
             }
             Item::Switch { caller: _, alg: _ } => panic!(rt; "a switch"),
+            Item::Reserve { .. } => panic!(rt; "a reserve"),
         }
     }
 }
 
 #[test]
 fn reads_workloads(rt: HostRuntime) -> Result<(), Fail> {
-    let header = Header {
-        words: 8,
-        records: 4,
-        ring: 4,
-        callers: 1,
-        reads: 256,
-        writes: 256,
-        clock: 0,
-        alg: Alg::Cgl,
-        structs: false,
-    };
     let adds: &[&[Op]] = &[&[Op::Add(3, 1)], &[Op::Add(3, 1)], &[Op::Read(3)]];
     let none: &[&[Op]] = &[];
     let reads: &[&[Op]] = &[&[Op::Read(5)], &[Op::Write(5, 9)]];
@@ -451,7 +447,17 @@ fn reads_workloads(rt: HostRuntime) -> Result<(), Fail> {
     for (body, scripts) in table {
         let text = with_body(rt.alloc(), body)?;
         let read = parse(rt.alloc(), text.as_bytes(), Mode::Run)?;
-        assert_eq!(rt; read.header, header);
+        assert_eq!(rt; read.header.words, 8);
+        assert_eq!(rt; read.header.records, 4);
+        assert_eq!(rt; read.header.ring, 4);
+        assert_eq!(rt; read.header.callers, 1);
+        assert_eq!(rt; read.header.reads, 256);
+        assert_eq!(rt; read.header.writes, 256);
+        assert_eq!(rt; read.header.clock, 0);
+        assert_eq!(rt; read.header.alg, Alg::Cgl);
+        assert_eq!(rt; read.header.version, Version::One);
+        assert_eq!(rt; read.header.policy, Policy::Fixed);
+        assert!(rt; read.header.regions.as_slice().is_empty());
         assert_scripts(&rt, &read, scripts);
         assert!(rt; read.schedule.as_slice().is_empty());
     }
@@ -573,20 +579,21 @@ fn writes_empty_report(rt: HostRuntime) -> Result<(), Fail> {
     Ok(())
 }
 
+const PARTED: &[(&str, &str, usize, usize)] = &[
+    ("stm 1\ndone\nreport 1\ndone\nend", "stm 1\ndone\n", 2, 3),
+    ("stm 1\ndone \nreport 1\n", "stm 1\ndone \nreport 1\n", 3, 0),
+    ("stm 1\ndone", "stm 1\ndone", 2, 0),
+    ("", "", 0, 0),
+];
+
 /// A text is parted behind its first line `done`, and its lines are counted, the last one also without an LF.
 #[test]
 fn parts_a_text(rt: HostRuntime) {
-    let table = [
-        ("stm 1\ndone\nreport 1\ndone\nend", "stm 1\ndone\n", 2, 3),
-        ("stm 1\ndone \nreport 1\n", "stm 1\ndone \nreport 1\n", 3, 0),
-        ("stm 1\ndone", "stm 1\ndone", 2, 0),
-        ("", "", 0, 0),
-    ];
-    for (text, wanted, above, below) in table {
+    for (text, wanted, above, below) in PARTED {
         let (head, rest) = part_at_done(text.as_bytes());
         assert_eq!(rt; head, wanted.as_bytes(), "{text}");
-        assert_eq!(rt; count_lines(head), above, "{text}");
-        assert_eq!(rt; count_lines(rest), below, "{text}");
+        assert_eq!(rt; count_lines(head), *above, "{text}");
+        assert_eq!(rt; count_lines(rest), *below, "{text}");
         assert_eq!(rt; head.len() + rest.len(), text.len(), "{text}");
     }
 }

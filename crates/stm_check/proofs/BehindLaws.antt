@@ -7,24 +7,26 @@ use Rattle.std.proofs.lemmas.Slice.Eq.{bytes_eq-Decides}
 use Rattle.stm_script.specs.declared.report.Report.{Report}
 use Rattle.stm_script.specs.declared.workload.Go.{Go}
 use Rattle.stm_script.specs.declared.workload.Header.{Header}
+use Rattle.stm_script.specs.declared.workload.Version.{Version}
+use Rattle.stm_script.specs.declared.workload.Version.TheVariants as versions
 use Rattle.stm_script.specs.declared.workload.Workload.{Workload}
 use Rattle.stm_script.specs.declared.workload.TheConstants.{MAX_TURNS}
 use Rattle.stm_script.specs.Reports.{Replays}
 use Rattle.stm_text.specs.declared.draft.Place.{Place}
-use Rattle.stm_text.specs.declared.draft.Place.TheVariants.{Version, Words, Callers, Records, Ring, Reads, Writes, Clock, Algorithm, Structures, Items, Ops, Turns}
+use Rattle.stm_text.specs.declared.draft.Place.TheVariants.{Items, Ops, Turns}
 use Rattle.stm_text.specs.declared.draft.Step.{Step}
-use Rattle.stm_text.specs.declared.draft.Step.TheVariants.{Head, Begin, Change, Add, End, Schedule, Turn, Done}
+use Rattle.stm_text.specs.declared.draft.Step.TheVariants.{Head, Count, Begin, Change, Lengthen, Add, End, Schedule, Turn, Done}
 use Rattle.stm_text.specs.declared.parse.Mode.{Mode}
 use Rattle.stm_text.specs.declared.parse.Mode.TheVariants.{Run, Step as Stepwise}
 use Rattle.stm_text.specs.declared.parse.TheConstants.{MAX_TEXT}
-use Rattle.stm_text.specs.Built.{IsBuilt, GoFits, ScheduleFits, all_turns}
+use Rattle.stm_text.specs.Built.{IsBuilt, GoFits, ScheduleFits}
 use Rattle.stm_text.specs.Drafts.{Writing, after, opening}
 use Rattle.stm_text.specs.Giving.{Gives, gives-with, given}
-use Rattle.stm_text.specs.Grammar.{one_word, step_of, ended, go_on, parsed, workload_of}
+use Rattle.stm_text.specs.Grammar.{keyless, one_word, step_of, ended, go_on, parsed, workload_of}
 use Rattle.stm_text.specs.LineLaws.{lines_of-first, lines_of-last, lacks-snoc}
 use Rattle.stm_text.specs.Lines.{Line, with_byte, lines_of, Lacks}
 use Rattle.stm_text.specs.Parting.{parted_by, to_done, behind_done, lines_to_done, done_line}
-use Rattle.stm_text.specs.Reports.{ReportFits, report_bytes}
+use Rattle.stm_text.specs.Reports.{report_bytes}
 use Rattle.stm_text.specs.Texts.{joined, header_lines, items_lines, lines_with, lines_text, schedule_lines, AreLinesOf, IsTextOf, TextIsRead, TextIsWritten, TextIsBuilt}
 use Rattle.stm_check.specs.Checks.{IsYes, with_report, with_workload}
 use Rattle.stm_check.specs.Grammar.{report_of}
@@ -79,7 +81,7 @@ done-regroup h i s x = simp append_assoc
 with-end : (schedule : List (List (List ℕ))) (w : Workload) (text : List ℕ) → text ≡ lines_text (lines_with schedule w) → EndsSo text
 with-end schedule w text is =
     let head = header_lines w.header in
-    let items = items_lines w.items in
+    let items = items_lines w.header.version w.items in
     subst EndsSo (sym (is ∙ ap lines_text (sym (done-regroup head items schedule done_words)))) (lines-end (head ++ (items ++ schedule)))
 
 text-ends : (m : Mode) (w : Workload) (text : List ℕ) → IsTextOf m w text → EndsSo text
@@ -95,20 +97,15 @@ text-ends m w text is = by is.0 is.1 is.2
 done-stops : (m : Mode) (d : Writing) → Gives (λ (s : Step). s ≡ Done) (step_of m d done_line)
 done-stops m d = by d.place
   where
+    in_tx : (x : Version) → Gives (λ (s : Step). s ≡ Done) (keyless x d (codes "done"))
+    in_tx versions.One = tt
+    in_tx versions.Two = tt
+
     by : (p : Place) → Gives (λ (s : Step). s ≡ Done) (one_word p m d (codes "done"))
-    by Version = tt
-    by Words = tt
-    by Callers = tt
-    by Records = tt
-    by Ring = tt
-    by Reads = tt
-    by Writes = tt
-    by Clock = tt
-    by Algorithm = tt
-    by Structures = tt
     by Items = refl
-    by Ops = tt
+    by Ops = in_tx d.header.version
     by Turns = refl
+    by p = tt
 
 other-line : (m : Mode) (d : Writing) (l : Line) (step : Step) → step ≢ Done → step_of m d l ≡ Ok step → IsOther l
 other-line m d l step n is same =
@@ -136,8 +133,10 @@ go_on-none : (m : Mode) (d : Writing) (k : ℕ) (l : Line) (ls : List Line) (r :
 go_on-none m d k l ls (Err c) is g = tt
 go_on-none m d k l ls (Ok Done) is g = ended-none d (k + 1) l ls
 go_on-none m d k l ls (Ok (Head q h)) is g = step-none m d k l ls (Head q h) (λ e. cc) is (g (after (Head q h) d))
+go_on-none m d k l ls (Ok (Count q n)) is g = step-none m d k l ls (Count q n) (λ e. cc) is (g (after (Count q n) d))
 go_on-none m d k l ls (Ok (Begin c)) is g = step-none m d k l ls (Begin c) (λ e. cc) is (g (after (Begin c) d))
 go_on-none m d k l ls (Ok (Change c a)) is g = step-none m d k l ls (Change c a) (λ e. cc) is (g (after (Change c a) d))
+go_on-none m d k l ls (Ok (Lengthen c r w)) is g = step-none m d k l ls (Lengthen c r w) (λ e. cc) is (g (after (Lengthen c r w) d))
 go_on-none m d k l ls (Ok (Add op)) is g = step-none m d k l ls (Add op) (λ e. cc) is (g (after (Add op) d))
 go_on-none m d k l ls (Ok End) is g = step-none m d k l ls End (λ e. cc) is (g (after End d))
 go_on-none m d k l ls (Ok Schedule) is g = step-none m d k l ls Schedule (λ e. cc) is (g (after Schedule d))

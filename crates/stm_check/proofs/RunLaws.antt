@@ -1,5 +1,5 @@
 -- A script that ran over a ledger, and its row.
-use Rattle.std.proofs.Common.{ℕ, ◌≡◌, List, [], ◌++◌, Bool, refl, sym, ap, ◌∙◌, length, subst}
+use Rattle.std.proofs.Common.{ℕ, ◌≡◌, List, [], ◌++◌, refl, sym, ap, ◌∙◌, length, subst}
 use Rattle.std.specs.Prelude.{not, ◌||◌}
 use Rattle.stm_model.specs.declared.plain.PlainWord.{PlainWord}
 use Rattle.stm_model.specs.Memories.{overlay, is_empty, Explains}
@@ -13,9 +13,9 @@ use Rattle.stm_script.specs.declared.op.Op.{Op}
 use Rattle.stm_script.specs.declared.report.Kind.{Kind}
 use Rattle.stm_script.specs.declared.report.Kind.TheVariants.{W, R, C}
 use Rattle.stm_script.specs.Outputs.{Output}
-use Rattle.stm_script.specs.Scripts.{Ran, run, run_row, ran_to_end, cancel_replied, before_cancel, KindFits}
+use Rattle.stm_script.specs.Scripts.{Ran, run, run_row, ran_to_end, cancel_replied, before_cancel}
 use Rattle.stm_script.specs.ScriptLaws.{GaveOver}
-use Rattle.stm_check.specs.Runs.{CanEnd, WroteAs, left_by}
+use Rattle.stm_check.specs.Runs.{CanEnd, left_by}
 
 -- the replies, emits and whether it wrote are those of the row
 pub record GaveRow (regions : List Region) (kind : Kind) (ops : List Op) (m : List ℕ) (now : List PlainWord) (after : Output) : Type 0 where

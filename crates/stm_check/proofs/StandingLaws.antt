@@ -1,6 +1,6 @@
 -- Callers behind their rows.
-use Rattle.std.proofs.Common.{ℕ, zero, suc, ◌≡◌, ◌≢◌, ◌<◌, ◌≤◌, ◌+◌, List, [], ◌∷◌, ◌++◌, length, get_or, slice_index_or, slice_set, drop, take, add-one, Bool, true, false, refl, sym, ap, ◌∙◌, arith, subst, length-append, inl, inr}
-use Rattle.std.specs.Prelude.{◌==◌, ◌&&◌, ◌⊎◌, if◌then◌else◌, Option, Some, None, IfSome, IfNone, MatchOption, All, replicate}
+use Rattle.std.proofs.Common.{ℕ, zero, suc, ◌≡◌, ◌≢◌, ◌<◌, ◌≤◌, ◌+◌, List, [], ◌∷◌, ◌++◌, length, get_or, slice_index_or, slice_set, drop, take, add-one, Bool, true, false, refl, sym, ap, ◌∙◌, arith, subst, length-append}
+use Rattle.std.specs.Prelude.{◌==◌, ◌&&◌, if◌then◌else◌, Option, Some, None, IfSome, IfNone, MatchOption, All, replicate}
 use Rattle.std.specs.List.{last_or}
 use Rattle.std.proofs.lemmas.Bool.Decides.{nat_tests}
 use Rattle.std.proofs.lemmas.List.{get_or-set_same, get_or-set_other, drop_more}
@@ -13,13 +13,13 @@ use Rattle.stm_script.specs.declared.report.Kind.TheVariants.{W, R, C}
 use Rattle.stm_script.specs.declared.report.Row.{Row}
 use Rattle.stm_script.specs.declared.workload.Header.{Header}
 use Rattle.stm_script.specs.declared.workload.Item.{Item}
-use Rattle.stm_script.specs.declared.workload.Item.TheVariants.{Tx, Switch}
+use Rattle.stm_script.specs.declared.workload.Item.TheVariants.{Tx, Switch, Reserve}
 use Rattle.stm_script.specs.declared.workload.Workload.{Workload}
 use Rattle.stm_script.specs.Operations.{ScriptFits}
 use Rattle.stm_script.specs.Reports.{scripts_of, rows_of, regions_of, writers, writer_to}
 use Rattle.stm_script.specs.Workloads.{ItemFits, ItemsFit}
 use Rattle.stm_check.specs.declared.replay.Cursor.{Cursor}
-use Rattle.stm_check.specs.Verdicts.{IsRight, memory_after, AreRight, IsWrongAt, AllHaveRows, alike}
+use Rattle.stm_check.specs.Verdicts.{IsRight, memory_after, AreRight, IsWrongAt, alike}
 use Rattle.stm_check.specs.Standing.{IsAt, IsNext, wrote_after}
 use Rattle.stm_check.proofs.VerdictLaws.{rows-append, writers-append, append-nil, last-push}
 
@@ -32,6 +32,8 @@ scripts-none regions header n (Tx caller script ∷ items) le h =
     rw test (scripts-none regions header n items le (All-tail (ItemFits regions header) (Tx caller script) items h))
 scripts-none regions header n (Switch caller alg ∷ items) le h =
     scripts-none regions header n items le (All-tail (ItemFits regions header) (Switch caller alg) items h)
+scripts-none regions header n (Reserve caller reads writes ∷ items) le h =
+    scripts-none regions header n items le (All-tail (ItemFits regions header) (Reserve caller reads writes) items h)
 
 cons-by : (b : Bool) (script : List Op) (rest : List (List Op)) (P : List Op → Type 0) → P script → All P rest → All P (if b then script ∷ rest else rest)
 cons-by true script rest P h k = All-cons P script rest h k
@@ -45,6 +47,8 @@ scripts-fit regions header n (Tx caller script ∷ items) h =
     (scripts-fit regions header n items (All-tail (ItemFits regions header) (Tx caller script) items h))
 scripts-fit regions header n (Switch caller alg ∷ items) h =
     scripts-fit regions header n items (All-tail (ItemFits regions header) (Switch caller alg) items h)
+scripts-fit regions header n (Reserve caller reads writes ∷ items) h =
+    scripts-fit regions header n items (All-tail (ItemFits regions header) (Reserve caller reads writes) items h)
 
 -- what stands first behind so many
 first-of : {A : Type 0} (xs : List A) (k : ℕ) (x : A) (rest : List A) (d : A) → drop k xs ≡ x ∷ rest → (k < length xs) × (slice_index_or xs k d ≡ x) × (rest ≡ drop (suc k) xs)

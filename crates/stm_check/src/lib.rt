@@ -11,4 +11,4 @@ mod running;
 mod scripts;
 mod table;
 pub mod verdict;
-mod words;
+pub mod words;

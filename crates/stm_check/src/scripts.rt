@@ -15,7 +15,7 @@ pub fn next_script(items: &[Item], caller: usize, from: usize) -> Option<(usize,
 {
     for i in from..items.len() {
         match &items[i] {
-            Item::Switch { caller: _, alg: _ } => {}
+            Item::Switch { caller: _, alg: _ } | Item::Reserve { .. } => {}
             Item::Tx {
                 caller: own,
                 script,

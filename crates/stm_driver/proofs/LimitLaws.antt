@@ -5,14 +5,13 @@ use Rattle.std.proofs.lemmas.Bool.Decides.{nat_tests}
 use Rattle.std.proofs.lemmas.List.Elements.{All-head, All-tail}
 use Rattle.std.proofs.lemmas.List.Sums.{sum_by-cons}
 use Rattle.stm_profile.specs.declared.policy.Policy.{Policy}
-use Rattle.stm_profile.specs.declared.policy.Policy.TheVariants.{Fixed}
 use Rattle.stm_rule.specs.declared.stm.Stm.{Stm}
 use Rattle.stm_model.specs.declared.config.Config.{Config}
 use Rattle.stm_model.specs.Histories.{Entry, made_by}
 use Rattle.tx_regions.specs.declared.region.Region.{Region}
 use Rattle.stm_script.specs.declared.workload.Go.{Go}
 use Rattle.stm_script.specs.declared.workload.Item.{Item}
-use Rattle.stm_script.specs.declared.workload.Item.TheVariants.{Tx, Switch}
+use Rattle.stm_script.specs.declared.workload.Item.TheVariants.{Tx, Switch, Reserve}
 use Rattle.stm_script.specs.declared.workload.Workload.{Workload}
 use Rattle.stm_script.specs.Reports.{scripts_of, zeros}
 use Rattle.stm_rule.specs.Callers.{Handle}
@@ -53,6 +52,7 @@ left-some n (Tx caller script ∷ items) b own =
     let some : length (scripts_of n (Tx caller script ∷ items)) ≡ suc (length (scripts_of n items)) = ap (λ t. length (if t then script ∷ scripts_of n items else scripts_of n items)) test in
     omega arith
 left-some n (Switch caller alg ∷ items) b own = absurd b
+left-some n (Reserve caller reads writes ∷ items) b own = absurd b
 
 drop-some : {A : Type 0} (k : ℕ) (xs : List A) → 1 ≤ length (drop k xs) → suc k ≤ length xs
 drop-some zero xs h = h
@@ -63,6 +63,7 @@ own-items : (good : List ℕ → Type 0) (words n : ℕ) (regions : List Region)
 own-items good words n regions [] h = λ i d lt. absurd (omega arith)
 own-items good words n regions (Tx caller script ∷ items) h = all-cons (λ i. caller_in i ≡ n) (Tx caller script) items h.0 (own-items good words n regions items h.3)
 own-items good words n regions (Switch caller alg ∷ items) h = all-cons (λ i. caller_in i ≡ n) (Switch caller alg) items h.0 (own-items good words n regions items h.2)
+own-items good words n regions (Reserve caller reads writes ∷ items) h = all-cons (λ i. caller_in i ≡ n) (Reserve caller reads writes) items h.0 (own-items good words n regions items h.3)
 
 before-some : (items : List Item) → BeforeTx items → 1 ≤ length items
 before-some [] b = absurd b
@@ -204,9 +205,9 @@ module _ {K : Type 0} (good : List ℕ → Type 0) (policy : Policy) (w : Worklo
   found-within n (v ∷ vs) (x ∷ ws) closed clock e t (inr f) = found-within (suc n) vs ws closed clock e.1 t.1 f
 
   -- a call of one found the clock full, whatever the others have open
-  pub cut : Forms good w → policy ≡ Fixed → (begun ran : List (Worker K)) (gos : List Go) (lines : List Line) (clock : ℕ) (closed : Ended) → gos ≡ w.schedule → Begun good policy w stm items sized begun → Drives stm.config gos begun ran lines (Err (ClockFull clock))
+  pub cut : Forms good w → policy ≡ w.header.policy → (begun ran : List (Worker K)) (gos : List Go) (lines : List Line) (clock : ℕ) (closed : Ended) → gos ≡ w.schedule → Begun good policy w stm items sized begun → Drives stm.config gos begun ran lines (Err (ClockFull clock))
       → CutShort good stm ran closed → RanSome ArePart policy w closed → IsCut w lines clock closed
-  cut forms fixed begun ran gos lines clock closed is b drives c some =
+  cut forms ruled begun ran gos lines clock closed is b drives c some =
       let found = found-within 0 ran c.after closed clock c.idle c.closes.told drives.2 in
       let low = found.0 in
       let high = found.1 in
@@ -217,13 +218,13 @@ module _ {K : Type 0} (good : List ℕ → Type 0) (policy : Policy) (w : Worklo
       let paid = drives.1 in
       let none = b.owes in
       let part = drives.0 w.header (sizes-of stm.config w.header sized) in
-      let sorted = subst (λ ps. fits.IsCut w.header ps gos lines clock) (b.starts fixed) part in
+      let sorted = subst (λ ps. fits.IsCut w.header ps gos lines clock) (b.starts ruled) part in
       record {
         fits = subst (λ s. fits.IsCut w.header (fits.first_places w) s lines clock) is sorted;
         opening = c.closes.opening ∙ opening;
         found = omega (arith, low, high, limit);
         limit = omega (arith, low, high, limit);
         history = history-of good w forms stm.config sized (descs_of c.after) c.words closed c.closes;
-        ran = subst (λ (p : Policy). RanSome ArePart p w closed) fixed some;
+        ran = subst (λ (p : Policy). RanSome ArePart p w closed) ruled some;
         bound = omega (arith, low, high, limit, opening, risen, rises, paid, none);
       }

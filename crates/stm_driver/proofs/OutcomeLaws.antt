@@ -1,11 +1,9 @@
 -- From the workers before the first turn to what a run came to.
 use Rattle.std.proofs.Common.{ℕ, suc, ◌≡◌, ◌<◌, ◌≤◌, List, [], ◌∷◌, ◌++◌, length, get_or, take, drop, refl, sym, ap, ◌∙◌, arith, subst, inl, inr}
-use Rattle.std.specs.Prelude.{Option, Some, None, Result, Ok, Err, OnOk, All, IsPermutation}
-use Rattle.std.specs.Option.{option_or}
+use Rattle.std.specs.Prelude.{Result, Ok, Err, OnOk, All, IsPermutation}
 use Rattle.std.proofs.lemmas.List.{append-nil}
 use Rattle.std.proofs.lemmas.List.Elements.{All-head, All-tail}
 use Rattle.stm_profile.specs.declared.policy.Policy.{Policy}
-use Rattle.stm_profile.specs.declared.policy.Policy.TheVariants.{Fixed}
 use Rattle.stm_rule.specs.declared.stm.Stm.{Stm}
 use Rattle.crossbeam_utils.specs.declared.cache_padded.CachePadded.{CachePadded}
 use Rattle.crossbeam_utils.specs.Padded.{padded_value}
@@ -29,7 +27,7 @@ use Rattle.stm_driver.specs.declared.outcome.Outcome.TheVariants.{ToEnd, ToLimit
 use Rattle.stm_driver.specs.declared.schedule.Halt.{Halt}
 use Rattle.stm_driver.specs.declared.schedule.Halt.TheVariants.{ClockFull, Memory}
 use Rattle.stm_driver.specs.declared.workers.Runner.{Runner}
-use Rattle.stm_driver.specs.AllWorkers.{worker_in, workers_in, AreCallers, descs_of, rows_of, first_full, how_of, ArePaidFor, IsReady, IsThrough, Finished}
+use Rattle.stm_driver.specs.AllWorkers.{worker_in, workers_in, AreCallers, descs_of, rows_of, how_all, sooner, ArePaidFor, IsReady, IsThrough, Finished}
 use Rattle.stm_driver.specs.ClosedRuns.{Reported, CutShort, Came}
 use Rattle.stm_script.specs.Workloads.{config_of}
 use Rattle.stm_script.specs.declared.workload.Item.{Item}
@@ -55,35 +53,41 @@ module _ {K : Type 0} where
   -- each ran on its thread until it was through
   abbrev AllThrough : List (CachePadded (Runner K)) → Type 0
   AllThrough [] = Unit {0}
-  AllThrough (r ∷ rs) = IsThrough (worker_in r) (padded_value r).full × AllThrough rs
+  AllThrough (r ∷ rs) = IsThrough (worker_in r) (padded_value r).how × AllThrough rs
 
-  met-some : (rs : List (CachePadded (Runner K))) (clock : ℕ) → AllThrough rs → first_full rs ≡ Some clock → MetSome (workers_in rs) clock
+  met-some : (rs : List (CachePadded (Runner K))) (clock : ℕ) → AllThrough rs → how_all rs ≡ Err (ClockFull clock) → MetSome (workers_in rs) clock
   met-some [] clock h is = absurd cc
-  met-some (r ∷ rs) clock h is = by (padded_value r).full h.0 is (met-some rs clock h.1)
+  met-some (r ∷ rs) clock h is = by (padded_value r).how (how_all rs) h.0 is (met-some rs clock h.1)
     where
-      by : (full : Option ℕ) → IsThrough (worker_in r) full → option_or full (first_full rs) ≡ Some clock → (first_full rs ≡ Some clock → MetSome (workers_in rs) clock) → MetSome (workers_in (r ∷ rs)) clock
-      by None through is more = inr (more is)
-      by (Some found) through is more = (let same : found ≡ clock = cc in inl (subst (λ (c : ℕ). IsThrough (worker_in r) (Some c)) same through))
+      by : (a b : Result (Unit {0}) Halt) → IsThrough (worker_in r) a → sooner a b ≡ Err (ClockFull clock) → (b ≡ Err (ClockFull clock) → MetSome (workers_in rs) clock) → MetSome (workers_in (r ∷ rs)) clock
+      by (Ok x) b through is more = inr (more is)
+      by (Err (ClockFull found)) (Ok x) through is more = (let same : found ≡ clock = cc in inl (subst (λ (c : ℕ). IsThrough (worker_in r) (Err (ClockFull c))) same through))
+      by (Err (ClockFull found)) (Err (ClockFull other)) through is more = (let same : found ≡ clock = cc in inl (subst (λ (c : ℕ). IsThrough (worker_in r) (Err (ClockFull c))) same through))
+      by (Err (ClockFull found)) (Err Memory) through is more = absurd cc
+      by (Err Memory) b through is more = absurd cc
 
-  none-left : (rs : List (CachePadded (Runner K))) → AllThrough rs → All (λ (w : Worker K). w.phase ≡ Between) (workers_in rs) → first_full rs ≡ None → All IsOver (places (workers_in rs))
+  none-left : (rs : List (CachePadded (Runner K))) → AllThrough rs → All (λ (w : Worker K). w.phase ≡ Between) (workers_in rs) → how_all rs ≡ Ok tt → All IsOver (places (workers_in rs))
   none-left [] h between is = λ i d lt. absurd (omega (arith, lt))
-  none-left (r ∷ rs) h between is = by (padded_value r).full h.0 is (none-left rs h.1 (All-tail P (worker_in r) (workers_in rs) between))
+  none-left (r ∷ rs) h between is = by (padded_value r).how (how_all rs) h.0 is (none-left rs h.1 (All-tail P (worker_in r) (workers_in rs) between))
     where
       P : Worker K → Type 0
       P w = w.phase ≡ Between
 
-      by : (full : Option ℕ) → IsThrough (worker_in r) full → option_or full (first_full rs) ≡ None → (first_full rs ≡ None → All IsOver (places (workers_in rs))) → All IsOver (places (workers_in (r ∷ rs)))
-      by None through is more = all-cons IsOver (place_of (worker_in r)) (places (workers_in rs)) (All-head (λ (w : Worker K). w.phase ≡ Between) (worker_in r) (workers_in rs) between, through.0, through.1) (more is)
-      by (Some found) through is more = absurd cc
+      by : (a b : Result (Unit {0}) Halt) → IsThrough (worker_in r) a → sooner a b ≡ Ok tt → (b ≡ Ok tt → All IsOver (places (workers_in rs))) → All IsOver (places (workers_in (r ∷ rs)))
+      by (Ok x) b through is more = all-cons IsOver (place_of (worker_in r)) (places (workers_in rs)) (All-head (λ (w : Worker K). w.phase ≡ Between) (worker_in r) (workers_in rs) between, through.0, through.1) (more is)
+      by (Err (ClockFull found)) (Ok x) through is more = absurd cc
+      by (Err (ClockFull found)) (Err (ClockFull other)) through is more = absurd cc
+      by (Err (ClockFull found)) (Err Memory) through is more = absurd cc
+      by (Err Memory) b through is more = absurd cc
 
   over-between : (ws : List (Worker K)) → All IsOver (places ws) → All (λ (w : Worker K). w.phase ≡ Between) ws
   over-between [] over = λ i d lt. absurd (omega (arith, lt))
   over-between (w ∷ ws) over =
       all-cons (λ (w : Worker K). w.phase ≡ Between) w ws (All-head IsOver (place_of w) (places ws) over).0 (over-between ws (All-tail IsOver (place_of w) (places ws) over))
 
-  pub how-between : (ws : List (Worker K)) (found : Option ℕ) (how : Result (Unit {0}) Halt) → how ≡ how_of found → All (λ (w : Worker K). w.phase ≡ Between) ws → OnOk how (All (λ (w : Worker K). w.phase ≡ Between) ws)
-  how-between ws found (Ok x) is between = between
-  how-between ws found (Err halt) is between = tt
+  pub how-between : (ws : List (Worker K)) (how : Result (Unit {0}) Halt) → All (λ (w : Worker K). w.phase ≡ Between) ws → OnOk how (All (λ (w : Worker K). w.phase ≡ Between) ws)
+  how-between ws (Ok x) between = between
+  how-between ws (Err halt) between = tt
 
 module _ {K : Type 0} (good : List ℕ → Type 0) (policy : Policy) (w : Workload) (stm : Stm K) (items : All (BuiltItem w.header) w.items) (sized : stm.config ≡ config_of w.header) where
   -- the workers after their turns, as closing wants them
@@ -173,35 +177,46 @@ module _ {K : Type 0} (good : List ℕ → Type 0) (policy : Policy) (w : Worklo
         ran-some good policy w stm items sized theorem forms ArePart (λ (w : Worker K). Unit {0}) (λ n v x s h p. (v.items_left.now, subst (λ l. IsPart l v.items_left.now h.did.items) s.own.all h.did.part))
         ran c.after c.words closed (stands ran t) (λ i d lt. tt) c.idle (idle-length good stm ran c.after c.idle ∙ t.count) c.closes
 
-    -- what `run` came to
-    pub has-run : (lent ran : List (CachePadded (Runner K))) (how : Result (Unit {0}) Halt) (outcome : Outcome) → Begun good policy w stm items sized (workers_in lent) → RanAll lent ran → Turned (workers_in ran) → how ≡ how_of (first_full ran) → Came good stm (workers_in ran) how outcome → HasRun policy w outcome
-    has-run lent ran how outcome b r t is came = by (first_full ran) refl outcome (subst (λ h. Came good stm (workers_in ran) h outcome) is came)
-      where
-        by : (full : Option ℕ) → first_full ran ≡ full → (o : Outcome) → Came good stm (workers_in ran) (how_of full) o → HasRun policy w o
-        by None e (ToEnd report closed) c = shown good policy w stm items sized theorem forms (workers_in ran) c.words closed report (stands (workers_in ran) t) t.count (none-left ran r.through r.between e) c.closes c.is
-        by None e (ToLimit clock closed) c = absurd c
-        by None e (OutOfMemory closed) c = let q = c.1 in (c.0, shown good policy w stm items sized theorem forms (workers_in ran) q.words closed c.0 (stands (workers_in ran) t) t.count (none-left ran r.through r.between e) q.closes q.is)
-        by (Some found) e (ToEnd report closed) c = absurd c
-        by (Some found) e (ToLimit clock closed) c =
-            let after = idle-still good stm (workers_in ran) c.1.after r.between c.1.idle in
-            full good policy w stm items sized forms (workers_in lent) (workers_in ran) c.1.words closed clock (ran-first (workers_in ran) closed t r.between c.1) b.paid r.paid (stands (workers_in ran) t) r.between t.count (met-some ran clock r.through (e ∙ ap Some (sym c.0)))
-            (subst (λ ws. Closes good stm.config (descs_of ws) c.1.words closed) after c.1.closes)
-        by (Some found) e (OutOfMemory closed) c = absurd c
+    -- nothing is open, and the memory is closed
+    stopped-between : (ran : List (Worker K)) (closed : Ended) → Turned ran → All (λ (w : Worker K). w.phase ≡ Between) ran → CutShort good stm ran closed → IsStopped AreFirst policy w closed
+    stopped-between ran closed t between c = record {
+      opening = c.closes.opening ∙ ap (λ (x : Config). x.clock) sized;
+      history = history-of good w forms stm.config sized (descs_of c.after) c.words closed c.closes;
+      ran = ran-first ran closed t between c;
+    }
 
-    module _ (fixed : policy ≡ Fixed) where
+    -- what `run` came to
+    pub has-run : (lent ran : List (CachePadded (Runner K))) (how : Result (Unit {0}) Halt) (outcome : Outcome) → Begun good policy w stm items sized (workers_in lent) → RanAll lent ran → Turned (workers_in ran) → how ≡ how_all ran → Came good stm (workers_in ran) how outcome → HasRun policy w outcome
+    has-run lent ran how outcome b r t is came = by how (sym is) outcome came
+      where
+        by : (h : Result (Unit {0}) Halt) → how_all ran ≡ h → (o : Outcome) → Came good stm (workers_in ran) h o → HasRun policy w o
+        by (Ok x) e (ToEnd report closed) c = shown good policy w stm items sized theorem forms (workers_in ran) c.words closed report (stands (workers_in ran) t) t.count (none-left ran r.through r.between e) c.closes c.is
+        by (Ok x) e (ToLimit clock closed) c = absurd c
+        by (Ok x) e (OutOfMemory closed) c = (let q = c.1 in inl (c.0, shown good policy w stm items sized theorem forms (workers_in ran) q.words closed c.0 (stands (workers_in ran) t) t.count (none-left ran r.through r.between e) q.closes q.is))
+        by (Err (ClockFull found)) e (ToEnd report closed) c = absurd c
+        by (Err (ClockFull found)) e (ToLimit clock closed) c =
+            let after = idle-still good stm (workers_in ran) c.1.after r.between c.1.idle in
+            full good policy w stm items sized forms (workers_in lent) (workers_in ran) c.1.words closed clock (ran-first (workers_in ran) closed t r.between c.1) b.paid r.paid (stands (workers_in ran) t) r.between t.count (met-some ran clock r.through (e ∙ ap (λ k. Err (ClockFull k)) (sym c.0)))
+            (subst (λ ws. Closes good stm.config (descs_of ws) c.1.words closed) after c.1.closes)
+        by (Err (ClockFull found)) e (OutOfMemory closed) c = absurd c
+        by (Err Memory) e (ToEnd report closed) c = absurd c
+        by (Err Memory) e (ToLimit clock closed) c = absurd c
+        by (Err Memory) e (OutOfMemory closed) c = inr (stopped-between (workers_in ran) closed t r.between c)
+
+    module _ (ruled : policy ≡ w.header.policy) where
       traced : (begun ran : List (Worker K)) (gos : List Go) (lines : List Line) (report : Report) (closed : Ended) → gos ≡ w.schedule → Begun good policy w stm items sized begun → Turned ran → Drives stm.config gos begun ran lines (Ok tt)
           → Reported good stm ran report closed → IsTraced w lines report closed
       traced begun ran gos lines report closed is b t drives r =
           let whole = drives.0 w.header (sizes-of stm.config w.header sized) report.rows (subst (λ rows. IsPermutation rows report.rows) (sym (told-rows ran)) r.is.moved) in
-          let sorted = subst (λ ps. fits.IsWhole w.header ps gos lines report.rows) (b.starts fixed) whole in
+          let sorted = subst (λ ps. fits.IsWhole w.header ps gos lines report.rows) (b.starts ruled) whole in
           record {
             fits = subst (λ s. fits.IsWhole w.header (first_places w) s lines report.rows) is sorted;
-            shown = subst (λ (p : Policy). IsShown p w report closed) fixed (shown good policy w stm items sized theorem forms ran r.words closed report (stands ran t) t.count drives.1 r.closes r.is);
+            shown = subst (λ (p : Policy). IsShown p w report closed) ruled (shown good policy w stm items sized theorem forms ran r.words closed report (stands ran t) t.count drives.1 r.closes r.is);
           }
 
       -- all was done, and no report of it was made
       stopped-whole : (begun ran : List (Worker K)) (gos : List Go) (lines : List Line) (report : Report) (closed : Ended) → Begun good policy w stm items sized begun → Turned ran → Drives stm.config gos begun ran lines (Ok tt) → Reported good stm ran report closed
-          → IsStopped w closed
+          → IsStopped ArePart w.header.policy w closed
       stopped-whole begun ran gos lines report closed b t d r = record {
         opening = r.closes.opening ∙ ap (λ (x : Config). x.clock) sized;
         history = history-of good w forms stm.config sized (descs_of ran) r.words closed r.closes;
@@ -210,7 +225,7 @@ module _ {K : Type 0} (good : List ℕ → Type 0) (policy : Policy) (w : Worklo
           header = refl;
           each = λ n lt. ([], (items_of n w.items, sym (append-nil (items_of n w.items)), inl refl));
           report = report;
-          shown = subst (λ (p : Policy). IsShown p w report closed) fixed (shown good policy w stm items sized theorem forms ran r.words closed report (stands ran t) t.count d.1 r.closes r.is);
+          shown = subst (λ (p : Policy). IsShown p w report closed) ruled (shown good policy w stm items sized theorem forms ran r.words closed report (stands ran t) t.count d.1 r.closes r.is);
         };
       }
 
@@ -222,11 +237,11 @@ module _ {K : Type 0} (good : List ℕ → Type 0) (policy : Policy) (w : Worklo
       has-stepped begun ran gos lines (Ok x) (OutOfMemory closed) is b t d c = stopped-whole begun ran gos lines c.0 closed b t d c.1
       has-stepped begun ran gos lines (Err (ClockFull found)) (ToEnd report closed) is b t d c = absurd c
       has-stepped begun ran gos lines (Err (ClockFull found)) (ToLimit clock closed) is b t d c =
-          cut good policy w stm items sized forms fixed begun ran gos lines clock closed is b (subst (λ k. Drives stm.config gos begun ran lines (Err (ClockFull k))) (sym c.0) d) c.1 (ran-part ran closed t c.1)
+          cut good policy w stm items sized forms ruled begun ran gos lines clock closed is b (subst (λ k. Drives stm.config gos begun ran lines (Err (ClockFull k))) (sym c.0) d) c.1 (ran-part ran closed t c.1)
       has-stepped begun ran gos lines (Err (ClockFull found)) (OutOfMemory closed) is b t d c = absurd c
       has-stepped begun ran gos lines (Err Memory) (ToEnd report closed) is b t d c = absurd c
       has-stepped begun ran gos lines (Err Memory) (ToLimit clock closed) is b t d c = absurd c
-      has-stepped begun ran gos lines (Err Memory) (OutOfMemory closed) is b t d c = record { opening = c.closes.opening ∙ ap (λ (x : Config). x.clock) sized; history = history-of good w forms stm.config sized (descs_of c.after) c.words closed c.closes; ran = subst (λ (p : Policy). RanSome ArePart p w closed) fixed (ran-part ran closed t c) }
+      has-stepped begun ran gos lines (Err Memory) (OutOfMemory closed) is b t d c = record { opening = c.closes.opening ∙ ap (λ (x : Config). x.clock) sized; history = history-of good w forms stm.config sized (descs_of c.after) c.words closed c.closes; ran = subst (λ (p : Policy). RanSome ArePart p w closed) ruled (ran-part ran closed t c) }
 
 pub driven-between : {K : Type 0} (config : Config) (gos : List Go) (begun ran : List (Worker K)) (lines : List Line) (how : Result (Unit {0}) Halt) → Drives config gos begun ran lines how → OnOk how (All (λ (w : Worker K). w.phase ≡ Between) ran)
 driven-between config gos begun ran lines (Ok x) d = over-between ran d.1

@@ -13,7 +13,7 @@ use Rattle.stm_model.specs.Histories.{Entry, made_by, memory_at, IsLegal}
 use Rattle.stm_script.specs.declared.op.Op.{Op}
 use Rattle.stm_script.specs.declared.report.Report.{Report}
 use Rattle.stm_script.specs.declared.workload.Item.{Item}
-use Rattle.stm_script.specs.declared.workload.Item.TheVariants.{Tx, Switch}
+use Rattle.stm_script.specs.declared.workload.Item.TheVariants.{Tx, Switch, Reserve}
 use Rattle.stm_script.specs.declared.workload.Workload.{Workload}
 use Rattle.stm_script.specs.Operations.{OpFits}
 use Rattle.stm_script.specs.Parts.{BeginsWith, Part, PartIn, IsGathered, ReportReplays, Worked, all_rows}
@@ -29,7 +29,8 @@ use Rattle.stm_worker.specs.Installs.{InstallsBy}
 use Rattle.stm_worker.specs.InstallLaws.{by-before}
 use Rattle.stm_worker.specs.Workers.{Works, switches_of, switches_with}
 use Rattle.stm_driver.specs.Preparings.{BuiltItem, Forms}
-use Rattle.stm_driver.specs.AllWorkers.{AreMadeIdle, descs_of, policy_for}
+use Rattle.stm_trace.specs.Adapting.{policy_for}
+use Rattle.stm_driver.specs.AllWorkers.{AreMadeIdle, descs_of}
 use Rattle.stm_driver.specs.Openings.{first_installs}
 use Rattle.stm_driver.specs.Runs.{AreInstalls, RanSome, installs_for}
 use Rattle.stm_driver.proofs.HistoryLaws.{dealt, dealt-all, all-below, made-own, made-within}
@@ -53,6 +54,7 @@ switches-append : (xs ys : List Item) → switches_of (xs ++ ys) ≡ switches_of
 switches-append [] ys = refl
 switches-append (Tx caller script ∷ xs) ys = switches-append xs ys
 switches-append (Switch caller alg ∷ xs) ys = ap (λ l. alg ∷ l) (switches-append xs ys)
+switches-append (Reserve caller reads writes ∷ xs) ys = switches-append xs ys
 
 items-append : (n : ℕ) (xs ys : List Item) → items_of n (xs ++ ys) ≡ items_of n xs ++ items_of n ys
 items-append n [] ys = refl
@@ -99,6 +101,7 @@ part-all P cut all left did h a = by left (subst (All P) h.1 a) h.2
         subst (All P) (sym n.3) (all-end P h.0 (Tx caller n.0) (all-first P h.0 (Tx caller script ∷ l) b)
         (cut caller n.0 n.1 (subst (λ s. P (Tx caller s)) n.2 (All-head P (Tx caller script) l (all-rest P h.0 (Tx caller script ∷ l) b)))))
     by (Switch caller alg ∷ l) b (inr n) = absurd n
+    by (Reserve caller reads writes ∷ l) b (inr n) = absurd n
 
 -- it has the switches of the first items
 part-switches : (first left did : List Item) → (did ≡ first) ⊎ BeginsNext first left did → switches_of did ≡ switches_of first
@@ -106,6 +109,7 @@ part-switches first left did (inl e) = ap switches_of e
 part-switches first [] did (inr n) = absurd n
 part-switches first (Tx caller script ∷ left) did (inr n) = ap switches_of n.3 ∙ (switches-append first (Tx caller n.0 ∷ []) ∙ append-nil (switches_of first))
 part-switches first (Switch caller alg ∷ left) did (inr n) = absurd n
+part-switches first (Reserve caller reads writes ∷ left) did (inr n) = absurd n
 
 module _ {K : Type 0} (good : List ℕ → Type 0) (policy : Policy) (w : Workload) (stm : Stm K) (items : All (BuiltItem w.header) w.items) (sized : stm.config ≡ config_of w.header) where
   pub record IsDid (some : List Item → List Item → Type 0) (closed : Ended) (n : ℕ) (d : Did) : Type 0 where

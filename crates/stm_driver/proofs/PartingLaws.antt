@@ -4,7 +4,7 @@ use Rattle.std.specs.Prelude.{◌==◌, if◌then◌else◌, All, replicate, sli
 use Rattle.std.proofs.lemmas.Bool.Decides.{nat_tests}
 use Rattle.std.proofs.lemmas.List.Elements.{All-head, All-tail}
 use Rattle.stm_script.specs.declared.workload.Item.{Item}
-use Rattle.stm_script.specs.declared.workload.Item.TheVariants.{Tx, Switch}
+use Rattle.stm_script.specs.declared.workload.Item.TheVariants.{Tx, Switch, Reserve}
 use Rattle.stm_script.specs.Reports.{scripts_of, counted}
 use Rattle.stm_trace.specs.Places.{caller_in, items_of}
 use Rattle.stm_driver.specs.Partings.{parted}
@@ -22,6 +22,12 @@ scripts-own n (Switch caller alg ∷ items) = by (caller == n) (scripts-own n it
   where
     by : (b : Bool) → scripts_of n (items_of n items) ≡ scripts_of n items
         → scripts_of n (if b then Switch caller alg ∷ items_of n items else items_of n items) ≡ scripts_of n items
+    by true r = r
+    by false r = r
+scripts-own n (Reserve caller reads writes ∷ items) = by (caller == n) (scripts-own n items)
+  where
+    by : (b : Bool) → scripts_of n (items_of n items) ≡ scripts_of n items
+        → scripts_of n (if b then Reserve caller reads writes ∷ items_of n items else items_of n items) ≡ scripts_of n items
     by true r = r
     by false r = r
 
@@ -123,6 +129,7 @@ total-same n (suc m) (Tx caller script) items lt =
     let head : length (scripts_of n (Tx caller script ∷ items)) ≡ length (scripts_of n items) = ap (λ b. length (if b then script ∷ scripts_of n items else scripts_of n items)) test in
     omega arith
 total-same n (suc m) (Switch caller alg) items lt = let rest = total-same (suc n) m (Switch caller alg) items (omega arith) in omega arith
+total-same n (suc m) (Reserve caller reads writes) items lt = let rest = total-same (suc n) m (Reserve caller reads writes) items (omega arith) in omega arith
 
 total-more : (n m : ℕ) (i : Item) (items : List Item) → total n m (i ∷ items) ≤ suc (total n m items)
 total-more n zero i items = omega arith
@@ -138,6 +145,7 @@ total-more n (suc m) (Tx caller script) items = by (caller == n) refl (total-mor
         let head : length (scripts_of n (Tx caller script ∷ items)) ≡ length (scripts_of n items) = ap (λ b. length (if b then script ∷ scripts_of n items else scripts_of n items)) e in
         omega arith
 total-more n (suc m) (Switch caller alg) items = let rest = total-more (suc n) m (Switch caller alg) items in omega arith
+total-more n (suc m) (Reserve caller reads writes) items = let rest = total-more (suc n) m (Reserve caller reads writes) items in omega arith
 
 -- no item is a transaction of two callers
 pub total-few : (n m : ℕ) (items : List Item) → total n m items ≤ length items

@@ -4,7 +4,6 @@ use Rattle.std.specs.Prelude.{All, slice_index_or, ◌==◌, if◌then◌else◌
 use Rattle.std.proofs.lemmas.List.Elements.{All-head, All-tail}
 use Rattle.std.proofs.lemmas.List.Sums.{sum_by-cons}
 use Rattle.stm_profile.specs.declared.policy.Policy.{Policy}
-use Rattle.stm_profile.specs.declared.policy.Policy.TheVariants.{Fixed}
 use Rattle.stm_rule.specs.declared.stm.Stm.{Stm}
 use Rattle.stm_model.specs.declared.config.Config.{Config}
 use Rattle.rule_base.specs.declared.seats.Role.TheVariants.{Caller}
@@ -13,7 +12,7 @@ use Rattle.tx_regions.specs.declared.region.Region.{Region}
 use Rattle.stm_script.specs.declared.workload.Go.{Go}
 use Rattle.stm_script.specs.declared.workload.Header.{Header}
 use Rattle.stm_script.specs.declared.workload.Item.{Item}
-use Rattle.stm_script.specs.declared.workload.Item.TheVariants.{Tx, Switch}
+use Rattle.stm_script.specs.declared.workload.Item.TheVariants.{Tx, Switch, Reserve}
 use Rattle.stm_script.specs.declared.workload.Workload.{Workload}
 use Rattle.stm_script.specs.Reports.{counted, regions_of}
 use Rattle.stm_text.specs.declared.parse.Mode.{Mode}
@@ -27,11 +26,12 @@ use Rattle.stm_worker.specs.declared.worker.Worker.{Worker}
 use Rattle.stm_trace.specs.Turns.{HasSizes}
 use Rattle.stm_worker.specs.Installs.{InstallsBy}
 use Rattle.stm_worker.specs.InstallLaws.{by-same, by-trans}
-use Rattle.stm_worker.specs.Workers.{HasLengths, place_of, Sound, Starts, switches_of, switches_with}
+use Rattle.stm_worker.specs.Workers.{place_of, Sound, Starts, switches_of, switches_with}
 use Rattle.stm_worker.specs.Workers.{ItemsFit as OwnItems}
 use Rattle.stm_worker.specs.Payments.{CountsNext, PaysBut, due_of, raised}
 use Rattle.stm_worker.specs.PaymentLaws.{starts-counts}
-use Rattle.stm_driver.specs.AllWorkers.{AreMade, AreCallers, policy_for}
+use Rattle.stm_trace.specs.Adapting.{policy_for}
+use Rattle.stm_driver.specs.AllWorkers.{AreMade, AreCallers}
 use Rattle.stm_script.specs.Workloads.{config_of}
 use Rattle.stm_driver.specs.Openings.{IsNew, first_installs, AllNew}
 use Rattle.stm_driver.specs.Partings.{parted}
@@ -57,17 +57,14 @@ items-own good h n (Switch caller alg ∷ items) b =
     let P : Item → Type 0 = λ i. (caller_in i ≡ n) × (BuiltItem h i × ItemKeeps good h i) in
     let head = All-head P (Switch caller alg) items b in
     (head.0, head.1.0.0.1, items-own good h n items (All-tail P (Switch caller alg) items b))
+items-own good h n (Reserve caller reads writes ∷ items) b =
+    let P : Item → Type 0 = λ i. (caller_in i ≡ n) × (BuiltItem h i × ItemKeeps good h i) in
+    let head = All-head P (Reserve caller reads writes) items b in
+    (head.0, head.1.0.0.1, head.1.0.0.2, items-own good h n items (All-tail P (Reserve caller reads writes) items b))
 
 -- who has not begun owes what it raised the clock by to install
 new-owes : (these : List Alg) (v : Known) → IsNew these v → owed v ≤ length these
 new-owes these v new = subst (λ b. (if b then v.base + 2 else v.rises) ≤ length these) (sym new.idle.1) new.done.rises
-
-pub fixed-for : (n : ℕ) → policy_for Fixed n ≡ Fixed
-fixed-for n = by (n == 0)
-  where
-    by : (b : Bool) → (if b then Fixed else Fixed) ≡ Fixed
-    by true = refl
-    by false = refl
 
 module _ {K : Type 0} where
   -- each is its caller's, from caller n on, has that caller's items, and installs what they say
@@ -138,17 +135,19 @@ module _ {K : Type 0} where
     paid-start stm items rs alg policy (suc n) ds ws o.4 h.1,
   )
 
-  -- where the callers stand at first, where none has a policy
-  starts-at : (stm : Stm K) (policy : Policy) → policy ≡ Fixed → (w : Workload) (n : ℕ) (ds : List (Handle K)) (ws : List (Worker K)) → AllNew stm w.header.alg n ds → AreMade (λ k. items_of k w.items) (regions_of w.header) w.header.alg policy n ds ws
+  -- where the callers stand at first, where caller 0 goes by the text's policy
+  starts-at : (stm : Stm K) (policy : Policy) (w : Workload) → policy ≡ w.header.policy → stm.config ≡ config_of w.header → (n : ℕ) (ds : List (Handle K)) (ws : List (Worker K)) → AllNew stm w.header.alg n ds → AreMade (λ k. items_of k w.items) (regions_of w.header) w.header.alg policy n ds ws
       → places ws ≡ map (first_place w) (counted n (length ws))
-  starts-at stm policy fixed w n [] [] o h = refl
-  starts-at stm policy fixed w n [] (x ∷ ws) o h = absurd h
-  starts-at stm policy fixed w n (d ∷ ds) [] o h = absurd h
-  starts-at stm policy fixed w n (d ∷ ds) (x ∷ ws) o h =
+  starts-at stm policy w ruled sized n [] [] o h = refl
+  starts-at stm policy w ruled sized n [] (x ∷ ws) o h = absurd h
+  starts-at stm policy w ruled sized n (d ∷ ds) [] o h = absurd h
+  starts-at stm policy w ruled sized n (d ∷ ds) (x ∷ ws) o h =
       let caller : caller_of d.who.role ≡ n = ap caller_of o.1 in
-      let none : policy_for policy n ≡ Fixed = ap (λ (p : Policy). policy_for p n) fixed ∙ fixed-for n in
-      let at : place_of x ≡ first_place w n = h.0.at ∙ (λ i. record (first_place w n) { caller = caller i; policy = none i }) in
-      ap (λ p. p ∷ places ws) at ∙ ap (λ ps. first_place w n ∷ ps) (starts-at stm policy fixed w (suc n) ds ws o.4 h.1)
+      let own : policy_for policy n ≡ policy_for w.header.policy n = ap (λ (p : Policy). policy_for p n) ruled in
+      let reads : (known d).reads_limit ≡ w.header.reads = o.3.0 ∙ ap (λ (c : Config). c.reads) sized in
+      let writes : (known d).writes_limit ≡ w.header.writes = o.3.1 ∙ ap (λ (c : Config). c.writes) sized in
+      let at : place_of x ≡ first_place w n = h.0.at ∙ (λ i. record (first_place w n) { caller = caller i; policy = own i; reads_limit = reads i; writes_limit = writes i }) in
+      ap (λ p. p ∷ places ws) at ∙ ap (λ ps. first_place w n ∷ ps) (starts-at stm policy w ruled sized (suc n) ds ws o.4 h.1)
 
 module _ (w : Workload) where
   -- what a caller is to install
@@ -188,25 +187,25 @@ module _ {K : Type 0} (good : List ℕ → Type 0) (policy : Policy) (w : Worklo
     pub sound : AreSound good stm ws
     pub count : length ws ≡ w.header.callers
     pub own : AreOwn policy w 0 ws
-    pub starts : policy ≡ Fixed → places ws ≡ first_places w
+    pub starts : policy ≡ w.header.policy → places ws ≡ first_places w
     pub owes : debts ws ≤ 1
     pub paid : StartPaid w.header.alg 0 ws
 
   module _ (keeps : WorkloadKeeps good w) where
-    sound-start : (alg : Alg) (n : ℕ) (d : Handle K) (u : Worker K) → IsOf d stm → d.who.role ≡ Caller n → IsNew (first_installs alg n) (known d) → HasLengths stm.config (known d) → Starts d (items_of n w.items) (regions_of w.header) alg (policy_for policy n) u → Sound good stm u
-    sound-start alg n d u own role new long s =
+    sound-start : (alg : Alg) (n : ℕ) (d : Handle K) (u : Worker K) → IsOf d stm → d.who.role ≡ Caller n → IsNew (first_installs alg n) (known d) → Starts d (items_of n w.items) (regions_of w.header) alg (policy_for policy n) u → Sound good stm u
+    sound-start alg n d u own role new s =
         let mine = items_of n w.items in
         let words : stm.config.words ≡ w.header.words = ap (λ (c : Config). c.words) sized in
         let both : All (λ i. BuiltItem w.header i × ItemKeeps good w.header i) w.items = λ i d lt. (items i d lt, keeps i d lt) in
         let owned : OwnItems good stm.config.words (regions_of w.header) n mine = subst (λ k. OwnItems good k (regions_of w.header) n mine) (sym words) (items-own good w.header n mine (own-all (λ i. BuiltItem w.header i × ItemKeeps good w.header i) n w.items both)) in
-        starts-sound good stm d mine (regions_of w.header) alg (policy_for policy n) (first_installs alg n) u (ap (λ (c : Config). c.fence) sized) own new long (subst (λ k. OwnItems good stm.config.words (regions_of w.header) k mine) (sym (ap caller_of role)) owned) s
+        starts-sound good stm d mine (regions_of w.header) alg (policy_for policy n) (first_installs alg n) u (ap (λ (c : Config). c.fence) sized) own new (subst (λ k. OwnItems good stm.config.words (regions_of w.header) k mine) (sym (ap caller_of role)) owned) s
 
     sound-all : (alg : Alg) (n : ℕ) (ds : List (Handle K)) (ws : List (Worker K)) → AllNew stm alg n ds → AreMade (λ k. items_of k w.items) (regions_of w.header) alg policy n ds ws → AreSound good stm ws
     sound-all alg n [] [] opened made = λ i d lt. absurd (omega (arith, lt))
     sound-all alg n [] (x ∷ ws) opened made = absurd made
     sound-all alg n (d ∷ ds) [] opened made = absurd made
     sound-all alg n (d ∷ ds) (x ∷ ws) opened made =
-        all-cons (Sound good stm) x ws (sound-start alg n d x opened.0 opened.1 opened.2 opened.3 made.0) (sound-all alg (suc n) ds ws opened.4 made.1)
+        all-cons (Sound good stm) x ws (sound-start alg n d x opened.0 opened.1 opened.2 made.0) (sound-all alg (suc n) ds ws opened.4 made.1)
 
     pub begun : (parts : List (List Item)) (ws : List (Worker K)) → parts ≡ parted w.header.callers w.items → IsPrepared w.header policy parts stm ws → Begun ws
     begun parts ws is p =
@@ -217,7 +216,7 @@ module _ {K : Type 0} (good : List ℕ → Type 0) (policy : Policy) (w : Worklo
           sound = sound-all w.header.alg 0 p.descs ws p.new owned;
           count = long;
           own = own-start policy w stm 0 p.descs ws p.new owned;
-          starts = λ fixed. starts-at stm policy fixed w 0 p.descs ws p.new owned ∙ ap (λ k. map (first_place w) (counted 0 k)) long;
+          starts = λ ruled. starts-at stm policy w ruled sized 0 p.descs ws p.new owned ∙ ap (λ k. map (first_place w) (counted 0 k)) long;
           owes = owes-start stm w.items (regions_of w.header) w.header.alg policy 0 p.descs ws p.new owned;
           paid = paid-start stm w.items (regions_of w.header) w.header.alg policy 0 p.descs ws p.new owned;
         }

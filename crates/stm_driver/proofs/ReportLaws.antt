@@ -26,7 +26,8 @@ use Rattle.stm_worker.specs.declared.worker.Worker.{Worker}
 use Rattle.stm_worker.specs.Installs.{InstallsBy}
 use Rattle.stm_worker.specs.Workers.{place_of, switches_of, switches_with}
 use Rattle.stm_driver.specs.Preparings.{BuiltItem, Forms}
-use Rattle.stm_driver.specs.AllWorkers.{descs_of, policy_for, rows_of}
+use Rattle.stm_trace.specs.Adapting.{policy_for}
+use Rattle.stm_driver.specs.AllWorkers.{descs_of, rows_of}
 use Rattle.stm_driver.specs.ClosedRuns.{IsReport}
 use Rattle.stm_script.specs.Workloads.{config_of}
 use Rattle.stm_driver.specs.Runs.{installs_for, AreInstalls, IsHistory, IsShown}

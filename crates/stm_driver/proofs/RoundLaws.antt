@@ -7,6 +7,8 @@ use Rattle.stm_rule.specs.declared.stm.Stm.{Stm}
 use Rattle.stm_model.specs.declared.config.Config.{Config}
 use Rattle.stm_model.specs.declared.alg.Alg.TheVariants.{Cgl}
 use Rattle.stm_script.specs.declared.workload.Go.{Go}
+use Rattle.stm_profile.specs.declared.policy.Policy.TheVariants.{Fixed}
+use Rattle.stm_script.specs.declared.workload.Version.TheVariants.{One}
 use Rattle.stm_script.specs.declared.workload.Header.{Header}
 use Rattle.tx_answers.specs.declared.answers.Cancel.TheVariants as cancels
 use Rattle.tx_answers.specs.declared.answers.Commit.TheVariants as commits
@@ -20,7 +22,7 @@ use Rattle.stm_trace.specs.declared.line.Line.{Line}
 use Rattle.stm_trace.specs.declared.line.Line.TheVariants.{Of, Finish}
 use Rattle.stm_trace.specs.declared.said.Phase.TheVariants.{Between, Inside, Closing, Quiet}
 use Rattle.stm_trace.specs.declared.said.Said.{Said}
-use Rattle.stm_trace.specs.declared.said.Said.TheVariants.{TryBegin, Reply, Stopped, TryCancel, TryIrrevocable, TryCommit, TryClose, Looked, Installed, Idle, Dropped, Reopened}
+use Rattle.stm_trace.specs.declared.said.Said.TheVariants.{TryBegin, Reply, Stopped, TryCancel, TryIrrevocable, TryCommit, TryClose, Looked, Installed, Reserved, Idle, Dropped, Reopened}
 use Rattle.stm_trace.specs.Fits.{turns}
 use Rattle.stm_trace.specs.Places.{Place, after, granted_at, is_forced, sure, writes}
 use Rattle.stm_trace.specs.Played.{Played}
@@ -102,6 +104,7 @@ sure-stays at (TryCommit (commits.ClockFull clock)) here is m = inl refl
 sure-stays at (TryClose c) here is m = absurd (let e : Between ≡ Inside = sym m.0 ∙ here in cc)
 sure-stays at (Looked l) here is m = absurd (let e : Closing ≡ Inside = sym m ∙ here in cc)
 sure-stays at (Installed alg) here is m = absurd (let e : Quiet ≡ Inside = sym m.0 ∙ here in cc)
+sure-stays at (Reserved reads writes) here is m = absurd (let e : Between ≡ Inside = sym m.0 ∙ here in cc)
 sure-stays at Idle here is m = absurd (let e : Between ≡ Inside = sym m.0 ∙ here in cc)
 sure-stays at Dropped here is m = absurd m
 sure-stays at Reopened here is m = absurd m
@@ -224,7 +227,7 @@ ready-none config ws lines n = (0, plays-none config MayFinish ws lines, tt)
 
 -- a header of these sizes
 abbrev sized : Config → Header
-sized c = record { words = c.words; callers = c.callers; records = c.records; ring = c.ring; reads = c.reads; writes = c.writes; clock = c.clock; alg = Cgl; structs = false }
+sized c = record { version = One; words = c.words; callers = c.callers; records = c.records; ring = c.ring; reads = c.reads; writes = c.writes; clock = c.clock; alg = Cgl; regions = []; policy = Fixed }
 
 module _ {K : Type 0} (config : Config) (schedule : List Go) (ws us : List (Worker K)) (a : List Line) where
   -- the clock was full in the schedule

@@ -16,7 +16,7 @@ use Rattle.stm_trace.specs.declared.line.Line.{Line}
 use Rattle.stm_trace.specs.declared.line.Line.TheVariants.{Of}
 use Rattle.stm_trace.specs.declared.said.Phase.TheVariants.{Between}
 use Rattle.stm_trace.specs.declared.said.Said.{Said}
-use Rattle.stm_trace.specs.declared.said.Said.TheVariants.{TryBegin, Reply, Stopped, TryCancel, TryIrrevocable, TryCommit, TryClose, Looked, Installed, Idle, Dropped, Reopened}
+use Rattle.stm_trace.specs.declared.said.Said.TheVariants.{TryBegin, Reply, Stopped, TryCancel, TryIrrevocable, TryCommit, TryClose, Looked, Installed, Reserved, Idle, Dropped, Reopened}
 use Rattle.stm_trace.specs.Fits.{no_place}
 use Rattle.stm_trace.specs.Places.{Place, after, clock_of}
 use Rattle.stm_trace.specs.Played.{Played, Halted}
@@ -60,6 +60,7 @@ full-between at (TryCommit (commits.ClockFull c)) clock e m = refl
 full-between at (TryClose c) clock e m = absurd cc
 full-between at (Looked l) clock e m = absurd cc
 full-between at (Installed alg) clock e m = absurd cc
+full-between at (Reserved reads writes) clock e m = absurd cc
 full-between at Idle clock e m = absurd cc
 full-between at Dropped clock e m = absurd m
 full-between at Reopened clock e m = absurd m

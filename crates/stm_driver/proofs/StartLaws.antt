@@ -18,7 +18,7 @@ use Rattle.stm_trace.specs.Places.{Place}
 use Rattle.stm_worker.specs.declared.worker.Worker.{Worker}
 use Rattle.stm_driver.specs.Openings.{IsNew}
 use Rattle.stm_worker.specs.InstallLaws.{by-same}
-use Rattle.stm_worker.specs.Workers.{IsAskedBy, IsAt, WhenInside, ToSwitch, ItemsFit, DidSwitches, switches_of, HasLengths, IsUnderWay, Works, Stands, Starts, Sound}
+use Rattle.stm_worker.specs.Workers.{IsAskedBy, IsAt, WhenInside, ToSwitch, ItemsFit, DidSwitches, switches_of, IsUnderWay, Works, Stands, Starts, Sound}
 
 asked-none : (policy : Policy) → IsAskedBy policy None
 asked-none Fixed = refl
@@ -38,9 +38,9 @@ module _ {K : Type 0} (good : List ℕ → Type 0) (stm : Stm K) where
     places = λ i d lt. absurd (omega arith);
   }
 
-  pub starts-sound : (d : Handle K) (items : List Item) (rs : List Region) (alg : Alg) (policy : Policy) (these : List Alg) (u : Worker K) → stm.config.fence ≡ false → IsOf d stm → IsNew these (known d) → HasLengths stm.config (known d) → ItemsFit good stm.config.words rs (caller_of d.who.role) items → Starts d items rs alg policy u
+  pub starts-sound : (d : Handle K) (items : List Item) (rs : List Region) (alg : Alg) (policy : Policy) (these : List Alg) (u : Worker K) → stm.config.fence ≡ false → IsOf d stm → IsNew these (known d) → ItemsFit good stm.config.words rs (caller_of d.who.role) items → Starts d items rs alg policy u
       → Sound good stm u
-  starts-sound d items rs alg policy these u plain own new long fits s =
+  starts-sound d items rs alg policy these u plain own new fits s =
       let who : caller_of u.desc.who.role ≡ caller_of d.who.role = ap (λ (x : Handle K). caller_of x.who.role) s.is_desc in
       let knows : known u.desc ≡ known d = ap known s.is_desc in
       let phase : u.phase ≡ Between = ap (λ (p : Place). p.phase) s.at in
@@ -57,7 +57,6 @@ module _ {K : Type 0} (good : List ℕ → Type 0) (stm : Stm K) where
       record {
         own = subst (λ (x : Handle K). IsOf x stm) (sym s.is_desc) own;
         at = subst (λ p. IsAt good stm.config (caller_of u.desc.who.role) p (known u.desc)) (sym phase) (subst IsIdle (sym knows) new.idle);
-        lengths = subst (HasLengths stm.config) (sym knows) long;
         stands = subst (Stands good stm.config.words u.regions.now u.all.now (caller_of u.desc.who.role) (known u.desc) u.rows.items) (sym phase) stands;
         done = ([], sym whole);
         todo = ap (scripts_of (caller_of u.desc.who.role)) whole ∙ ap (λ (rows : List Row). drop (length rows) (scripts_of (caller_of u.desc.who.role) u.all.now)) (sym none);

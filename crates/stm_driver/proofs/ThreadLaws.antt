@@ -11,15 +11,15 @@ use Rattle.stm_tx.specs.Descs.{known}
 use Rattle.stm_trace.specs.declared.said.Phase.{Phase}
 use Rattle.stm_trace.specs.declared.said.Phase.TheVariants.{Between, Inside}
 use Rattle.stm_trace.specs.declared.said.Said.{Said}
-use Rattle.stm_trace.specs.declared.said.Said.TheVariants.{TryBegin, Reply, Stopped, TryCancel, TryIrrevocable, TryCommit, TryClose, Looked, Installed, Idle, Dropped, Reopened}
+use Rattle.stm_trace.specs.declared.said.Said.TheVariants.{TryBegin, Reply, Stopped, TryCancel, TryIrrevocable, TryCommit, TryClose, Looked, Installed, Reserved, Idle, Dropped, Reopened}
 use Rattle.stm_trace.specs.Places.{Place, after, clock_of}
-use Rattle.stm_trace.specs.Turns.{BeforeTx, IsOver, MaySay}
+use Rattle.stm_trace.specs.Turns.{BeforeTx, IsOver, Lengthens, MaySay}
 use Rattle.stm_worker.specs.declared.worker.Worker.{Worker}
-use Rattle.stm_worker.specs.Workers.{IsUnderWay, Loaded, Sound, Turned, WhenInside, place_of}
+use Rattle.stm_worker.specs.Workers.{IsSame, IsUnderWay, Loaded, Sound, Starved, Turned, WhenInside, place_of}
 use Rattle.stm_worker.specs.Payments.{CountsNext, PaysBut, unpaid_at, unpaid_by}
 use Rattle.stm_worker.specs.PaymentLaws.{alone-pays-but, none-failed, pays-all, pays-left, same-unpaid, turned-counts, turned-pays-but}
-use Rattle.stm_driver.specs.AllWorkers.{Enough, IsPaid, MetLimit}
-use Rattle.stm_driver.proofs.ScheduleLaws.{full-between}
+use Rattle.stm_driver.specs.AllWorkers.{Enough, IsPaid, MetLimit, MetRefusal}
+use Rattle.stm_driver.proofs.ScheduleLaws.{full-between, self-same}
 
 -- a transaction is still to do
 full-before : (at : Place) (said : Said) (clock : ℕ) → clock_of said ≡ Some clock → MaySay at said → (at.phase ≡ Inside → BeforeTx at.left) → BeforeTx (after at said).left
@@ -46,6 +46,7 @@ full-before at (TryCommit (commits.ClockFull c)) clock e m here = here m.0
 full-before at (TryClose c) clock e m here = absurd cc
 full-before at (Looked l) clock e m here = absurd cc
 full-before at (Installed alg) clock e m here = absurd cc
+full-before at (Reserved reads writes) clock e m here = absurd cc
 full-before at Idle clock e m here = absurd cc
 full-before at Dropped clock e m here = absurd m
 full-before at Reopened clock e m here = absurd m
@@ -59,6 +60,17 @@ module _ {K : Type 0} (good : List ℕ → Type 0) (stm : Stm K) (u w : Worker K
       let found = subst (λ o. MatchOption o (Unit {0}) (λ c. (2 ^ 62 ≤ c) × Loaded (known w.desc) c)) full t.found in
       let way : (u.phase ≡ Inside) → IsUnderWay good stm.config.words u = λ e. subst (λ (p : Phase). WhenInside p (IsUnderWay good stm.config.words u)) e s.under_way in
       (found.0, found.1, subst BeforeTx (sym (ap (λ (p : Place). p.left) t.now)) (full-before (place_of u) said clock full t.here (λ e. (way e).here)))
+
+-- one that was refused memory stands as it did
+module _ {K : Type 0} (good : List ℕ → Type 0) (stm : Stm K) (u w : Worker K) (t : Starved good stm u w) where
+  pub starved-same : IsSame u w
+  starved-same = subst (IsSame u) (sym t.still) (self-same u)
+
+  pub starved-between : w.phase ≡ Between
+  starved-between = ap (λ (x : Worker K). x.phase) t.still ∙ t.between
+
+  pub starved-met : MetRefusal w
+  starved-met = (t.next.0, t.next.1, subst (λ (x : Worker K). Lengthens t.next.0 t.next.1 x.items_left.now) (sym t.still) t.next.2)
 
 -- who says that nothing is left has nothing to do, by its text or by its policy
 pub idle-through : {K : Type 0} (good : List ℕ → Type 0) (stm : Stm K) (u w : Worker K) (said : Said) → Turned good stm MaySay u said w → said ≡ Idle → (w.items_left.now ≡ []) × (w.chosen ≡ None)
@@ -84,6 +96,15 @@ module _ {K : Type 0} (good : List ℕ → Type 0) (stm : Stm K) where
   few-failed : (w : Worker K) (most : ℕ) → Sound good stm w → Enough stm most w → w.must ≡ false → w.failed ≤ most
   few-failed w most s (inl much) off = let f = s.counted off in omega arith
   few-failed w most s (inr e) off = let f = e.1 in omega arith
+
+  -- what stays so pays for all that is done
+  pub paid-kept : (first w : Worker K) → Sound good stm w → KeepsPaid stm first w → IsPaid stm first w
+  paid-kept first w s k = record {
+    all = λ unpaid each most e wide counts p. pays-all unpaid each most w (k.counts counts) (few-failed w most s (k.enough most e)) (omega (arith, wide)) (k.pays unpaid each most e wide p);
+  }
+
+  pub paid-starved : (first u w : Worker K) → Starved good stm u w → KeepsPaid stm first u → IsPaid stm first w
+  paid-starved first u w t k = paid-kept first w t.sound (subst (KeepsPaid stm first) (sym t.still) k)
 
   module _ (first u w : Worker K) (said : Said) (s : Sound good stm u) (t : Turned good stm MaySay u said w) (kept : KeepsPaid stm first u) where
     enough-next : (most : ℕ) → Enough stm most u → Enough stm most w
@@ -117,8 +138,4 @@ module _ {K : Type 0} (good : List ℕ → Type 0) (stm : Stm K) where
 
     -- nothing is left
     pub paid-over : clock_of said ≡ None → IsPaid stm first w
-    paid-over calm = record {
-      all = λ unpaid each most e wide counts p.
-          let k = paid-next calm in
-          pays-all unpaid each most w (k.counts counts) (few-failed w most t.sound (k.enough most e)) (omega (arith, wide)) (k.pays unpaid each most e wide p);
-    }
+    paid-over calm = paid-kept first w t.sound (paid-next calm)

@@ -10,7 +10,8 @@ use Rattle.stm_script.specs.declared.workload.Item.{Item}
 use Rattle.stm_rule.specs.Callers.{Handle}
 use Rattle.stm_worker.specs.declared.worker.Worker.{Worker}
 use Rattle.stm_driver.specs.declared.workers.Runner.{Runner}
-use Rattle.stm_driver.specs.AllWorkers.{AreMade, Finished, policy_for, worker_in, workers_in}
+use Rattle.stm_trace.specs.Adapting.{policy_for}
+use Rattle.stm_driver.specs.AllWorkers.{AreMade, Finished, worker_in, workers_in}
 use Rattle.stm_worker.specs.Workers.{Starts}
 
 pub made-length : {K : Type 0} (items_for : ℕ → List Item) (rs : List Region) (alg : Alg) (policy : Policy) (n : ℕ) (ds : List (Handle K)) (ws : List (Worker K)) → AreMade items_for rs alg policy n ds ws → length ws ≡ length ds

@@ -1,13 +1,11 @@
 -- The workers of all callers.
-use Rattle.std.specs.Prelude.{ℕ, suc, ◌≡◌, ◌<◌, ◌==◌, if◌then◌else◌, ◌≤◌, ◌+◌, ◌*◌, ◌^◌, ◌⊎◌, length, slice_index_or, List, [], ◌∷◌, ◌++◌, map, Option, Some, None, MatchOption, Result, Ok, Err}
-use Rattle.std.specs.Option.{option_or}
+use Rattle.std.specs.Prelude.{ℕ, suc, ◌≡◌, ◌<◌, ◌≤◌, ◌+◌, ◌*◌, ◌^◌, ◌⊎◌, length, slice_index_or, List, [], ◌∷◌, ◌++◌, map, None, Result, Ok, Err}
 use Rattle.stm_rule.specs.declared.stm.Stm.{Stm}
 use Rattle.crossbeam_utils.specs.declared.cache_padded.CachePadded.{CachePadded}
 use Rattle.crossbeam_utils.specs.Padded.{padded_value}
 use Rattle.rule_base.specs.declared.seats.Role.TheVariants.{Caller}
 use Rattle.stm_model.specs.declared.alg.Alg.{Alg}
 use Rattle.stm_profile.specs.declared.policy.Policy.{Policy}
-use Rattle.stm_profile.specs.declared.policy.Policy.TheVariants.{Fixed}
 use Rattle.tx_regions.specs.declared.region.Region.{Region}
 use Rattle.stm_script.specs.declared.report.Row.{Row}
 use Rattle.stm_script.specs.declared.workload.Item.{Item}
@@ -15,20 +13,25 @@ use Rattle.stm_rule.specs.Callers.{Handle}
 use Rattle.stm_tx.specs.Descs.{known}
 use Rattle.tx_answers.specs.Known.{caller_of}
 use Rattle.stm_trace.specs.declared.said.Phase.TheVariants.{Between}
-use Rattle.stm_trace.specs.Turns.{BeforeTx}
+use Rattle.stm_trace.specs.Adapting.{policy_for}
+use Rattle.stm_trace.specs.Turns.{BeforeTx, Lengthens}
 use Rattle.stm_worker.specs.declared.worker.Worker.{Worker}
 use Rattle.stm_worker.specs.Leavings.{MadeIdle}
 use Rattle.stm_trace.specs.Places.{most_failed}
 use Rattle.stm_worker.specs.Payments.{CountsNext, PaysBut, raised}
 use Rattle.stm_worker.specs.Workers.{IsSame, Loaded, Sound, Starts}
 use Rattle.stm_driver.specs.declared.schedule.Halt.{Halt}
-use Rattle.stm_driver.specs.declared.schedule.Halt.TheVariants.{ClockFull}
+use Rattle.stm_driver.specs.declared.schedule.Halt.TheVariants.{ClockFull, Memory}
 use Rattle.stm_driver.specs.declared.workers.Common.{Common}
 use Rattle.stm_driver.specs.declared.workers.Runner.{Runner}
 
--- caller 0 alone switches by a policy
-abbrev pub policy_for : Policy → ℕ → Policy
-policy_for policy n = if n == 0 then policy else Fixed
+-- of two ends the one that counts: want of memory before a full clock, and of two full clocks the first
+abbrev pub sooner : Result (Unit {0}) Halt → Result (Unit {0}) Halt → Result (Unit {0}) Halt
+sooner (Ok x) how = how
+sooner (Err Memory) how = Err Memory
+sooner (Err (ClockFull clock)) (Ok x) = Err (ClockFull clock)
+sooner (Err (ClockFull clock)) (Err (ClockFull other)) = Err (ClockFull clock)
+sooner (Err (ClockFull clock)) (Err Memory) = Err Memory
 
 module _ {K : Type 0} where
   abbrev pub worker_in : CachePadded (Runner K) → Worker K
@@ -69,18 +72,24 @@ module _ {K : Type 0} where
   rows_of [] = []
   rows_of (w ∷ ws) = w.rows.items ++ rows_of ws
 
-  -- the clock of the first worker that found it at its limit
-  abbrev pub first_full : List (CachePadded (Runner K)) → Option ℕ
-  first_full [] = None
-  first_full (r ∷ rs) = option_or (padded_value r).full (first_full rs)
+  -- how the turns of all ended
+  abbrev pub how_all : List (CachePadded (Runner K)) → Result (Unit {0}) Halt
+  how_all [] = Ok tt
+  how_all (r ∷ rs) = sooner (padded_value r).how (how_all rs)
 
   -- a transaction is still to be done, and a call of its caller found this clock, which is at its limit
   abbrev pub MetLimit : Worker K → ℕ → Type 0
   MetLimit w clock = (2 ^ 62 ≤ clock) × Loaded (known w.desc) clock × BeforeTx w.items_left.now
 
-  -- nothing is left, or the clock was found at its limit
-  abbrev pub IsThrough : Worker K → Option ℕ → Type 0
-  IsThrough w full = MatchOption full ((w.items_left.now ≡ []) × (w.chosen ≡ None)) (MetLimit w)
+  -- longer logs are still to be made, for which memory was refused
+  abbrev pub MetRefusal : Worker K → Type 0
+  MetRefusal w = (reads writes : ℕ) × Lengthens reads writes w.items_left.now
+
+  -- nothing is left, or the clock was found at its limit, or memory was refused
+  abbrev pub IsThrough : Worker K → Result (Unit {0}) Halt → Type 0
+  IsThrough w (Ok x) = (w.items_left.now ≡ []) × (w.chosen ≡ None)
+  IsThrough w (Err (ClockFull clock)) = MetLimit w clock
+  IsThrough w (Err Memory) = MetRefusal w
 
   -- so many attempts of one transaction that fail are paid for: 16 are counted, and none where there is one caller
   abbrev pub Enough : Stm K → ℕ → Worker K → Type 0
@@ -106,7 +115,7 @@ module _ {K : Type 0} where
       pub sound : Sound good stm (worker_in s)
       pub same : IsSame (worker_in r) (worker_in s)
       pub between : (worker_in s).phase ≡ Between
-      pub through : IsThrough (worker_in s) (padded_value s).full
+      pub through : IsThrough (worker_in s) (padded_value s).how
       pub paid : IsPaid stm (worker_in r) (worker_in s)
 
   module _ (good : List ℕ → Type 0) (stm : Stm K) where
@@ -116,8 +125,3 @@ module _ {K : Type 0} where
     AreMadeIdle (v ∷ vs) (w ∷ ws) = MadeIdle good stm v w × AreMadeIdle vs ws
     AreMadeIdle (v ∷ vs) [] = ⊥
     AreMadeIdle [] (w ∷ ws) = ⊥
-
--- how turns ended, by the full clock that was found
-abbrev pub how_of : Option ℕ → Result (Unit {0}) Halt
-how_of None = Ok tt
-how_of (Some clock) = Err (ClockFull clock)

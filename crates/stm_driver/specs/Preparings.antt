@@ -4,7 +4,7 @@ use Rattle.stm_profile.specs.declared.policy.Policy.{Policy}
 use Rattle.stm_rule.specs.declared.stm.Stm.{Stm}
 use Rattle.stm_script.specs.declared.workload.Header.{Header}
 use Rattle.stm_script.specs.declared.workload.Item.{Item}
-use Rattle.stm_script.specs.declared.workload.Item.TheVariants.{Tx, Switch}
+use Rattle.stm_script.specs.declared.workload.Item.TheVariants.{Tx, Switch, Reserve}
 use Rattle.stm_script.specs.declared.workload.Workload.{Workload}
 use Rattle.stm_script.specs.Keeping.{ScriptKeeps}
 use Rattle.stm_rule.specs.Callers.{Handle}
@@ -29,6 +29,7 @@ BuiltItem h i = built.ItemFits h i × ItemFits (regions_of h) h i
 abbrev pub ItemKeeps : (List ℕ → Type 0) → Header → Item → Type 0
 ItemKeeps good h (Tx caller script) = ScriptKeeps good h.words (regions_of h) script
 ItemKeeps good h (Switch caller alg) = Unit {0}
+ItemKeeps good h (Reserve caller reads writes) = Unit {0}
 
 abbrev pub WorkloadKeeps : (List ℕ → Type 0) → Workload → Type 0
 WorkloadKeeps good w = All (ItemKeeps good w.header) w.items

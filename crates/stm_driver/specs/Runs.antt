@@ -1,9 +1,8 @@
 -- What a run comes to.
-use Rattle.std.specs.Prelude.{ℕ, zero, suc, ◌≡◌, ◌<◌, ◌≤◌, ◌+◌, ◌*◌, ◌^◌, ◌==◌, if◌then◌else◌, List, [], ◌∷◌, ◌++◌, length}
+use Rattle.std.specs.Prelude.{ℕ, zero, suc, ◌≡◌, ◌<◌, ◌≤◌, ◌+◌, ◌*◌, ◌^◌, ◌⊎◌, ◌==◌, if◌then◌else◌, List, [], ◌∷◌, ◌++◌, length}
 use Rattle.stm_model.specs.declared.alg.Alg.{Alg}
 use Rattle.stm_model.specs.Histories.{IsLegal}
 use Rattle.stm_profile.specs.declared.policy.Policy.{Policy}
-use Rattle.stm_profile.specs.declared.policy.Policy.TheVariants.{Fixed}
 use Rattle.stm_model.specs.HistoryLaws.{Within}
 use Rattle.stm_script.specs.declared.report.Report.{Report}
 use Rattle.stm_script.specs.declared.workload.Workload.{Workload}
@@ -17,7 +16,7 @@ use Rattle.stm_worker.specs.Installs.{InstallsBy}
 use Rattle.stm_worker.specs.Leavings.{IsPart}
 use Rattle.stm_worker.specs.Workers.{switches_of}
 use Rattle.stm_rule.specs.Closings.{Ended}
-use Rattle.stm_driver.specs.AllWorkers.{policy_for}
+use Rattle.stm_trace.specs.Adapting.{policy_for}
 use Rattle.stm_driver.specs.declared.outcome.Outcome.{Outcome}
 use Rattle.stm_driver.specs.declared.outcome.Outcome.TheVariants.{ToEnd, ToLimit, OutOfMemory}
 
@@ -77,7 +76,7 @@ pub record IsFull (policy : Policy) (w : Workload) (clock : ℕ) (closed : Ended
 -- the trace fits the workload and its report, which shows the one history of the memory that was closed
 pub record IsTraced (w : Workload) (lines : List Line) (report : Report) (closed : Ended) : Type 0 where
   pub fits : TraceFits w lines report
-  pub shown : IsShown Fixed w report closed
+  pub shown : IsShown w.header.policy w report closed
 
 -- the trace fits the workload up to a clock that was found at its limit, which is that of the memory that was closed; so many lines can have brought it there
 pub record IsCut (w : Workload) (lines : List Line) (clock : ℕ) (closed : Ended) : Type 0 where
@@ -86,21 +85,22 @@ pub record IsCut (w : Workload) (lines : List Line) (clock : ℕ) (closed : Ende
   pub found : closed.clock ≡ clock
   pub limit : clock ≡ 2 ^ 62
   pub history : IsHistory w closed
-  pub ran : RanSome ArePart Fixed w closed
+  pub ran : RanSome ArePart w.header.policy w closed
   pub bound : 2 ^ 62 ≤ w.header.clock + 2 * length lines + 1
 
 -- the memory was closed, with nothing open
-pub record IsStopped (w : Workload) (closed : Ended) : Type 0 where
+pub record IsStopped (some : List Item → List Item → Type 0) (policy : Policy) (w : Workload) (closed : Ended) : Type 0 where
   pub opening : closed.opening ≡ w.header.clock
   pub history : IsHistory w closed
-  pub ran : RanSome ArePart Fixed w closed
+  pub ran : RanSome some policy w closed
 
+-- where memory was refused, for longer logs or for the report, the memory is that of a run of some of each caller's items to their end
 abbrev pub HasRun : Policy → Workload → Outcome → Type 0
 HasRun policy w (ToEnd report closed) = IsShown policy w report closed
 HasRun policy w (ToLimit clock closed) = IsFull policy w clock closed
-HasRun policy w (OutOfMemory closed) = (report : Report) × IsShown policy w report closed
+HasRun policy w (OutOfMemory closed) = ((report : Report) × IsShown policy w report closed) ⊎ IsStopped AreFirst policy w closed
 
 abbrev pub HasStepped : Workload → List Line → Outcome → Type 0
 HasStepped w lines (ToEnd report closed) = IsTraced w lines report closed
 HasStepped w lines (ToLimit clock closed) = IsCut w lines clock closed
-HasStepped w lines (OutOfMemory closed) = IsStopped w closed
+HasStepped w lines (OutOfMemory closed) = IsStopped ArePart w.header.policy w closed

@@ -10,6 +10,7 @@ ghost use Rattle.stm_driver.specs.Untils.{may_until, stands_until, ready_until};
 use crate::schedule::{Halt, play, turn};
 use crate::workers::Runner;
 use crossbeam_utils::CachePadded;
+use std::alloc::Global;
 use std::sync::Wait;
 use stm_model::rule::MemRule;
 use stm_rule::stm::Stm;
@@ -34,6 +35,7 @@ pub enum Until {
 /// as long as it takes.
 pub fn drive<R: Wait, K: MemRule>(
     rt: &R,
+    alloc: Global,
     stm: &Stm<K>,
     runners: &mut [CachePadded<Runner<K>>],
     schedule: &[Go],
@@ -46,7 +48,7 @@ pub fn drive<R: Wait, K: MemRule>(
     ensures same { AreSame (workers_in runners.old) (workers_in runners.new) }
     ensures drives { Drives stm.now.config schedule.now (workers_in runners.old) (workers_in runners.new) trace.new.items result }
 {
-    match play(stm, runners, schedule, trace) {
+    match play(alloc, stm, runners, schedule, trace) {
         Ok(()) => {}
         Err(halt) => return Err(halt),
     }
@@ -54,16 +56,17 @@ pub fn drive<R: Wait, K: MemRule>(
         Ok(()) => {}
         Err(_) => return Err(Halt::Memory),
     }
-    match round(rt, stm, runners, Until::NothingOpen, trace) {
+    match round(rt, alloc, stm, runners, Until::NothingOpen, trace) {
         Ok(()) => {}
         Err(halt) => return Err(halt),
     }
-    round(rt, stm, runners, Until::NothingLeft, trace)
+    round(rt, alloc, stm, runners, Until::NothingLeft, trace)
 }
 
 /// Each caller's turns until it stands so: one caller behind the other.
 fn round<R: Wait, K: MemRule>(
     rt: &R,
+    alloc: Global,
     stm: &Stm<K>,
     runners: &mut [CachePadded<Runner<K>>],
     until: Until,
@@ -75,7 +78,7 @@ fn round<R: Wait, K: MemRule>(
     ensures rounds { Rounds stm.now.config (may_until until) (stands_until until) (workers_in runners.old) (workers_in runners.new) trace.old.items trace.new.items result }
 {
     for caller in 0..runners.len() {
-        match turns_of_caller(rt, stm, runners, caller, until, trace) {
+        match turns_of_caller(rt, alloc, stm, runners, caller, until, trace) {
             Ok(()) => {}
             Err(halt) => return Err(halt),
         }
@@ -86,6 +89,7 @@ fn round<R: Wait, K: MemRule>(
 /// The caller's turns until it stands so, behind what it gives up.
 fn turns_of_caller<R: Wait, K: MemRule>(
     rt: &R,
+    alloc: Global,
     stm: &Stm<K>,
     runners: &mut [CachePadded<Runner<K>>],
     caller: usize,
@@ -102,7 +106,7 @@ fn turns_of_caller<R: Wait, K: MemRule>(
         Ok(()) => {}
         Err(halt) => return Err(halt),
     }
-    turns_until(rt, stm, runners, caller, until, trace)
+    turns_until(rt, alloc, stm, runners, caller, until, trace)
 }
 
 /// Before the turns until nothing is open: what can be given up is.
@@ -159,6 +163,7 @@ fn give_up_one<K: MemRule>(stm: &Stm<K>, runner: &mut CachePadded<Runner<K>>) ->
 /// The caller's turns until it stands so.
 fn turns_until<R: Wait, K: MemRule>(
     rt: &R,
+    alloc: Global,
     stm: &Stm<K>,
     runners: &mut [CachePadded<Runner<K>>],
     caller: usize,
@@ -176,7 +181,7 @@ fn turns_until<R: Wait, K: MemRule>(
         if stands(until, &runners[caller]) {
             return Ok(());
         }
-        match turn(stm, runners, caller, trace) {
+        match turn(alloc, stm, runners, caller, trace) {
             Ok(()) => {}
             Err(halt) => return Err(halt),
         }

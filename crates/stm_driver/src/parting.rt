@@ -93,5 +93,10 @@ fn caller_in(item: &Item) -> usize
     match item {
         Item::Tx { caller, script: _ } => *caller,
         Item::Switch { caller, alg: _ } => *caller,
+        Item::Reserve {
+            caller,
+            reads: _,
+            writes: _,
+        } => *caller,
     }
 }

@@ -1,13 +1,15 @@
 //! Turns of the workers of all callers, in the order of a schedule.
-ghost use Rattle.std.specs.Prelude.{◌≡◌, ◌<◌, ◌∷◌, [], All, length, replicate};
+ghost use Rattle.std.specs.Prelude.{◌≡◌, ◌<◌, ◌∷◌, [], All, MatchResult, length, replicate};
 ghost use Rattle.stm_trace.specs.Turns.{MaySay};
 ghost use Rattle.stm_trace.specs.Fits.{turns};
-ghost use Rattle.stm_worker.specs.Workers.{Sound, Turned};
+ghost use Rattle.stm_worker.specs.Workers.{Sound, Starved, Turned};
 ghost use Rattle.stm_driver.specs.AllWorkers.{worker_in, workers_in};
 ghost use Rattle.stm_driver.specs.Schedules.{AreSound, AreSame, Turns, Plays};
 
 use crate::workers::Runner;
 use crossbeam_utils::CachePadded;
+use std::alloc::Global;
+use stm_model::memory::Memory;
 use stm_model::rule::MemRule;
 use stm_rule::stm::Stm;
 use stm_script::workload::Go;
@@ -20,12 +22,13 @@ use stm_worker::turnstile::Open;
 pub enum Halt {
     /// A call found the clock at its limit.
     ClockFull { clock: u64 },
-    /// Memory for the trace was refused.
+    /// Memory was refused: for longer logs, or for the trace.
     Memory,
 }
 
 /// One turn of a caller, and its line.
 pub fn turn<K: MemRule>(
+    alloc: Global,
     stm: &Stm<K>,
     runners: &mut [CachePadded<Runner<K>>],
     caller: usize,
@@ -37,7 +40,10 @@ pub fn turn<K: MemRule>(
     ensures same { AreSame (workers_in runners.old) (workers_in runners.new) }
     ensures turns { Turns (K.good stm.now.rule) stm.now (workers_in runners.old) (workers_in runners.new) trace.old.items trace.new.items caller result }
 {
-    let said = turn_one(stm, &mut runners[caller]);
+    let said = match turn_one(alloc, stm, &mut runners[caller]) {
+        Ok(said) => said,
+        Err(Memory) => return Err(Halt::Memory),
+    };
     match trace.push(Line::Of { caller, said }) {
         Ok(()) => {}
         Err(_) => return Err(Halt::Memory),
@@ -49,16 +55,21 @@ pub fn turn<K: MemRule>(
 }
 
 /// One turn of a worker.
-fn turn_one<K: MemRule>(stm: &Stm<K>, runner: &mut CachePadded<Runner<K>>) -> Said
+fn turn_one<K: MemRule>(
+    alloc: Global,
+    stm: &Stm<K>,
+    runner: &mut CachePadded<Runner<K>>,
+) -> Result<Said, Memory>
     requires { Sound (K.good stm.now.rule) stm.now (worker_in runner.old) }
-    ensures { Turned (K.good stm.now.rule) stm.now MaySay (worker_in runner.old) result (worker_in runner.new) }
+    ensures { MatchResult result (λ said. Turned (K.good stm.now.rule) stm.now MaySay (worker_in runner.old) said (worker_in runner.new)) (λ _. Starved (K.good stm.now.rule) stm.now (worker_in runner.old) (worker_in runner.new)) }
 {
     let runner = &mut **runner;
-    runner.worker.turn(stm, &Open)
+    runner.worker.turn(alloc, stm, &Open)
 }
 
 /// The turns of a schedule.
 pub fn play<K: MemRule>(
+    alloc: Global,
     stm: &Stm<K>,
     runners: &mut [CachePadded<Runner<K>>],
     schedule: &[Go],
@@ -71,7 +82,7 @@ pub fn play<K: MemRule>(
     ensures plays { Plays stm.now.config MaySay (workers_in runners.old) (workers_in runners.new) trace.old.items trace.new.items (turns schedule.now) result }
 {
     for go in schedule {
-        match turns_of(stm, runners, *go, trace) {
+        match turns_of(alloc, stm, runners, *go, trace) {
             Ok(()) => {}
             Err(halt) => return Err(halt),
         }
@@ -81,6 +92,7 @@ pub fn play<K: MemRule>(
 
 /// The turns of one line of the schedule.
 fn turns_of<K: MemRule>(
+    alloc: Global,
     stm: &Stm<K>,
     runners: &mut [CachePadded<Runner<K>>],
     go: Go,
@@ -93,7 +105,7 @@ fn turns_of<K: MemRule>(
     ensures plays { Plays stm.now.config MaySay (workers_in runners.old) (workers_in runners.new) trace.old.items trace.new.items (replicate go.turns go.caller) result }
 {
     for _i in 0..go.turns {
-        match turn(stm, runners, go.caller, trace) {
+        match turn(alloc, stm, runners, go.caller, trace) {
             Ok(()) => {}
             Err(halt) => return Err(halt),
         }

@@ -1,6 +1,5 @@
 //! `step`: the transactions of all callers, in the turns of a schedule, and their trace.
 ghost use Rattle.std.specs.Prelude.{◌≡◌};
-ghost use Rattle.stm_profile.specs.declared.policy.Policy.TheVariants.{Fixed};
 ghost use Rattle.stm_script.specs.declared.workload.Workload.{Workload};
 ghost use Rattle.stm_text.specs.declared.parse.Mode.TheVariants.{Step};
 ghost use Rattle.stm_driver.specs.Preparings.{IsReadyFor};
@@ -19,16 +18,17 @@ use stm_text::laws::built_workloads_fit;
 use stm_trace::line::Line;
 
 /// Runs the transactions of all callers in the turns of the workload's schedule, and then each caller's to
-/// their end: the trace, and what the run came to. Where memory is refused, for the trace between two turns or for
-/// the report's pairs, the run ends with [`Outcome::OutOfMemory`].
+/// their end: the trace, and what the run came to; caller 0 switches besides by the text's policy. Where memory is
+/// refused, for longer logs, for the trace between two turns or for the report's pairs, the run ends with
+/// [`Outcome::OutOfMemory`].
 pub fn step<R: Wait, K: MemRule + Drop>(
     rt: &R,
     alloc: Global,
     prepared: Prepared<K>,
     schedule: &[Go],
 ) -> (Vec<Line>, Outcome)
-    requires ready { (w : Workload) × IsReadyFor (K.good prepared.stm.rule) Step Fixed w prepared × (schedule.now ≡ w.schedule) }
-    ensures { (w : Workload) → IsReadyFor (K.good prepared.entry.stm.rule) Step Fixed w prepared.entry → schedule.now ≡ w.schedule → HasStepped w result.0.items result.1 }
+    requires ready { (w : Workload) × IsReadyFor (K.good prepared.stm.rule) Step w.header.policy w prepared × (schedule.now ≡ w.schedule) }
+    ensures { (w : Workload) → IsReadyFor (K.good prepared.entry.stm.rule) Step w.header.policy w prepared.entry → schedule.now ≡ w.schedule → HasStepped w result.0.items result.1 }
 {
     let Prepared {
         stm,
@@ -38,7 +38,14 @@ pub fn step<R: Wait, K: MemRule + Drop>(
     built_workloads_fit();
     report_replays(&stm.rule);
     let mut lines = Vec::new(alloc);
-    let how = drive(rt, &stm, runners.as_mut_slice(), schedule, &mut lines);
+    let how = drive(
+        rt,
+        alloc,
+        &stm,
+        runners.as_mut_slice(),
+        schedule,
+        &mut lines,
+    );
     let outcome = close_memory(alloc, stm, runners, room, how);
     (lines, outcome)
 }

@@ -6,11 +6,14 @@ ghost use Rattle.stm_worker.specs.Workers.{IsSame, Sound};
 ghost use Rattle.stm_driver.specs.declared.workers.Runner.{Runner};
 ghost use Rattle.stm_driver.specs.AllWorkers.{IsThrough, IsReady, IsPaid, Finished};
 
+use crate::schedule::Halt;
 use crate::workers::Runner;
 use crossbeam_utils::CachePadded;
+use std::alloc::Global;
 use std::sync::Wait;
 use std::thread;
 use std::thread::Threads;
+use stm_model::memory::Memory;
 use stm_model::rule::MemRule;
 use stm_model::stop::Stop;
 use stm_rule::stm::Stm;
@@ -23,6 +26,7 @@ use tx_backoff::Backoff;
 /// Runs all workers, each to its end or to the clock's limit, on as many threads as there are workers.
 pub fn run_all<R: Threads + Wait + Sync, K: MemRule + Send + Sync, G: Turnstile + Sync>(
     rt: &R,
+    alloc: Global,
     stm: &Stm<K>,
     turnstile: &G,
     runners: &mut [CachePadded<Runner<K>>],
@@ -37,13 +41,14 @@ pub fn run_all<R: Threads + Wait + Sync, K: MemRule + Send + Sync, G: Turnstile 
         rt,
         runners,
         threads,
-        &|_, runner| { run_one(rt, stm, turnstile, runner) },
+        &|_, runner| { run_one(rt, alloc, stm, turnstile, runner) },
     );
 }
 
 /// Runs one worker.
 fn run_one<R: Wait, K: MemRule, G: Turnstile>(
     rt: &R,
+    alloc: Global,
     stm: &Stm<K>,
     turnstile: &G,
     runner: &mut CachePadded<Runner<K>>,
@@ -52,17 +57,18 @@ fn run_one<R: Wait, K: MemRule, G: Turnstile>(
     ensures { Finished (K.good stm.now.rule) stm.now runner.old runner.new }
 {
     let runner = &mut **runner;
-    runner.full = work(rt, stm, turnstile, &mut runner.worker);
+    runner.how = work(rt, alloc, stm, turnstile, &mut runner.worker);
 }
 
-/// Turns until nothing is left, or a call finds the clock at its limit: then that clock. A call that another
-/// caller stood in the way of is made again after a pause.
+/// Turns until nothing is left, or a call finds the clock at its limit, or a `reserve` finds no memory. A call that
+/// another caller stood in the way of is made again after a pause.
 fn work<R: Wait, K: MemRule, G: Turnstile>(
     rt: &R,
+    alloc: Global,
     stm: &Stm<K>,
     turnstile: &G,
     w: &mut Worker<K>,
-) -> Option<u64>
+) -> Result<(), Halt>
     requires sound { Sound (K.good stm.now.rule) stm.now w.old }
     ensures sound { Sound (K.good stm.now.rule) stm.now w.new }
     ensures same { IsSame w.old w.new }
@@ -72,12 +78,15 @@ fn work<R: Wait, K: MemRule, G: Turnstile>(
 {
     let mut backoff = Backoff::new();
     for _ in rt.forever() {
-        let said = w.turn(stm, turnstile);
+        let said = match w.turn(alloc, stm, turnstile) {
+            Ok(said) => said,
+            Err(Memory) => return Err(Halt::Memory),
+        };
         if let Said::Idle = said {
-            return None;
+            return Ok(());
         }
         if let Some(clock) = said.full_clock() {
-            return Some(clock);
+            return Err(Halt::ClockFull { clock });
         }
         pause(&mut backoff, said);
     }

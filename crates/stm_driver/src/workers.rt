@@ -1,11 +1,13 @@
 //! The workers of all callers.
 ghost use Rattle.std.specs.Prelude.{◌≡◌, ◌<◌, ◌≤◌, [], length, map, slice_index_or, vec_len, vec_capacity, IfOk, IsPermutation, Ok};
 ghost use Rattle.tx_answers.specs.Known.{caller_of};
-ghost use Rattle.stm_driver.specs.AllWorkers.{AreMade, AreMadeOf, AreNumbered, IsMadeOf, policy_for, workers_in, descs_of, rows_of, first_full};
+ghost use Rattle.stm_driver.specs.AllWorkers.{AreMade, AreMadeOf, AreNumbered, IsMadeOf, workers_in, descs_of, rows_of, how_all, sooner};
+ghost use Rattle.stm_trace.specs.Adapting.{policy_for};
 ghost use Rattle.stm_driver.specs.Gatherings.{joined};
 
 use crate::gathering::{OwnRows, gather};
 use crate::parting::{CallerItems, items_at};
+use crate::schedule::Halt;
 use crossbeam_utils::CachePadded;
 use std::alloc::Global;
 use std::thread;
@@ -22,11 +24,11 @@ use tx_regions::region::Regions;
 /// The workers of callers with fewer items each, on the average, are made in less time than threads take to start.
 const FEWEST_ITEMS: usize = 2048;
 
-/// A caller's worker, and the clock that a call of it found at its limit.
+/// A caller's worker, and how its turns ended.
 #[derive(Drop)]
 pub struct Runner<'a, K: MemRule> {
     pub worker: Worker<'a, K>,
-    pub full: Option<u64>,
+    pub how: Result<(), Halt>,
 }
 
 /// The policy of a caller: caller 0 alone switches by one.
@@ -96,7 +98,10 @@ fn make_in_turn<'a, K: MemRule>(
     let mut runners = Vec::with_capacity(common.alloc, descs.len())?;
     for desc in descs {
         let worker = make_one(common, desc)?;
-        runners.push_reserved(CachePadded::new(Runner { worker, full: None }));
+        runners.push_reserved(CachePadded::new(Runner {
+            worker,
+            how: Ok(()),
+        }));
     }
     Ok(runners)
 }
@@ -137,21 +142,36 @@ fn seat_all<'a, K: MemRule>(
     for worker in tried {
         runners.push_reserved(CachePadded::new(Runner {
             worker: worker?,
-            full: None,
+            how: Ok(()),
         }));
     }
     Ok(runners)
 }
 
-/// The clock that the first of those that found it at its limit found.
-pub fn full_clock<K: MemRule>(runners: &[CachePadded<Runner<K>>]) -> Option<u64>
-    ensures { result ≡ first_full runners.now }
+/// How the turns of all ended: where memory was refused to any of them by that, and else by the clock that the first of
+/// those found that found it at its limit.
+pub fn how_ended<K: MemRule>(runners: &[CachePadded<Runner<K>>]) -> Result<(), Halt>
+    ensures { result ≡ how_all runners.now }
 {
-    let mut full = None;
+    let mut how = Ok(());
     for runner in runners {
-        full = full.or(runner.full);
+        how = sooner(how, runner.how);
     }
-    full
+    how
+}
+
+/// Of two ends the one that counts: want of memory before a full clock, and of two full clocks the first.
+fn sooner(first: Result<(), Halt>, second: Result<(), Halt>) -> Result<(), Halt>
+    ensures { result ≡ sooner first second }
+{
+    match first {
+        Ok(()) => second,
+        Err(Halt::Memory) => Err(Halt::Memory),
+        Err(Halt::ClockFull { clock }) => match second {
+            Err(Halt::Memory) => Err(Halt::Memory),
+            _ => Err(Halt::ClockFull { clock }),
+        },
+    }
 }
 
 /// Takes the workers apart: their descriptors in the workers' order, and the rows of all, as [`gather`] leaves them. It

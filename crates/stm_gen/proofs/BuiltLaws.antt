@@ -1,5 +1,5 @@
 -- A generated workload is one of the grammar.
-use Rattle.std.proofs.Common.{ℕ, zero, suc, ◌≡◌, ◌≢◌, ◌<◌, ◌≤◌, ◌+◌, ◌/◌, ◌%◌, List, [], ◌∷◌, ◌++◌, length, Bool, true, false, refl, arith, inl}
+use Rattle.std.proofs.Common.{ℕ, zero, suc, ◌≡◌, ◌≢◌, ◌<◌, ◌≤◌, ◌+◌, ◌/◌, ◌%◌, List, [], ◌∷◌, ◌++◌, length, Bool, true, false, refl, arith, inl, inr}
 use Rattle.std.specs.Prelude.{◌==◌, ◌||◌, if◌then◌else◌, All}
 use Rattle.std.proofs.Math.Nat.{mod-lt}
 use Rattle.std.proofs.lemmas.Bool.Decides.{nat_tests}
@@ -19,7 +19,6 @@ use Rattle.stm_gen.specs.Generated.{header_for, deposits, drawn_move, draws_befo
 
 header-fits : (callers : ℕ) → 1 ≤ callers → callers ≤ 32 → HeaderFits (header_for callers)
 header-fits callers some few = record {
-  words = omega arith;
   config = record {
     words = (omega arith, omega arith);
     records = (omega arith, omega arith);
@@ -29,8 +28,9 @@ header-fits callers some few = record {
     writes = (omega arith, omega arith);
     clock = omega arith;
   };
+  words = omega arith;
   alg = refl;
-  structs = λ on. omega arith;
+  layout = (inr (refl, omega arith), refl);
 }
 
 -- how many items there are
@@ -58,7 +58,7 @@ deposits-many (suc n) = let rest = deposits-many n in let both = length-append (
 deposits-fit : (callers n : ℕ) → n ≤ 64 → All (OpFits (header_for callers)) (deposits n)
 deposits-fit callers zero le = All-nil (OpFits (header_for callers))
 deposits-fit callers (suc n) le =
-    All-push (OpFits (header_for callers)) (deposits n) (Write n 1000) (deposits-fit callers n (omega arith)) (omega arith, omega arith, λ on. inl (omega arith))
+    All-push (OpFits (header_for callers)) (deposits n) (Write n 1000) (deposits-fit callers n (omega arith)) (omega arith, omega arith, inr (inl (omega arith)))
 
 write-in-order : (asked : Bool) (ops : List Op) (a v : ℕ) → AreInOrder asked ops → AreInOrder asked (ops ++ Write a v ∷ [])
 write-in-order asked [] a v order = (tt, tt)
@@ -83,15 +83,15 @@ one-fits callers op fits order = record { count = omega arith; each = All-cons (
 operation-fits : (callers seed i : ℕ) → ScriptFits (header_for callers) (operation seed i ∷ [])
 operation-fits callers seed i = by (i % 4 == 2) (i % 4 == 3)
   where
-    by : (a b : Bool) → ScriptFits (header_for callers) ((if a then Count (i / 4 % 4) 1 else (if b then ListInsert (i / 4 % 24) else drawn_move seed (draws_before i))) ∷ [])
-    by true b = one-fits callers (Count (i / 4 % 4) 1) (mod-lt (i / 4) {m = 4} (omega arith), omega arith, refl) (tt, tt)
-    by false true = let low : i / 4 % 24 < 24 = mod-lt (i / 4) {m = 24} (omega arith) in one-fits callers (ListInsert (i / 4 % 24)) (omega arith, refl) (tt, tt)
+    by : (a b : Bool) → ScriptFits (header_for callers) ((if a then Count 0 (i / 4 % 4) 1 else (if b then ListInsert 1 (i / 4 % 24) else drawn_move seed (draws_before i))) ∷ [])
+    by true b = one-fits callers (Count 0 (i / 4 % 4) 1) ((omega arith, refl), mod-lt (i / 4) {m = 4} (omega arith), omega arith) (tt, tt)
+    by false true = let low : i / 4 % 24 < 24 = mod-lt (i / 4) {m = 24} (omega arith) in one-fits callers (ListInsert 1 (i / 4 % 24)) ((omega arith, refl), omega arith) (tt, tt)
     by false false =
         let k : ℕ = draws_before i in
         let from : drawn seed k % 64 < 64 = mod-lt (drawn seed k) {m = 64} (omega arith) in
         let to : drawn seed (k + 1) % 64 < 64 = mod-lt (drawn seed (k + 1)) {m = 64} (omega arith) in
         let amount : drawn seed (k + 2) % 100 < 100 = mod-lt (drawn seed (k + 2)) {m = 100} (omega arith) in
-        one-fits callers (drawn_move seed k) (omega arith, omega arith, omega arith, λ on. inl from, λ on. inl to) (tt, tt)
+        one-fits callers (drawn_move seed k) (omega arith, omega arith, omega arith, inr (inl from), inr (inl to)) (tt, tt)
 
 -- the items
 

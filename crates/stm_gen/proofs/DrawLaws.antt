@@ -1,11 +1,13 @@
 -- A generator, draw by draw, and the items, one by one.
-use Rattle.std.proofs.Common.{ℕ, zero, suc, ◌≡◌, ◌+◌, ◌%◌, [], ◌∷◌, ◌++◌, refl, sym, ap, ◌∙◌, arith, append_assoc}
+use Rattle.std.proofs.Common.{ℕ, zero, suc, ◌≡◌, ◌≢◌, ◌+◌, ◌%◌, false, [], ◌∷◌, ◌++◌, refl, sym, ap, ◌∙◌, arith, append_assoc}
+use Rattle.std.specs.Prelude.{◌==◌}
+use Rattle.std.proofs.lemmas.Bool.Decides.{nat_tests}
 use Rattle.rand_pcg.specs.Lcg.{Lcg, next_state, state_after}
 use Rattle.rand_pcg.specs.Pcg.{multiplier_64, pcg32, pcg32_of_seed}
 use Rattle.rand_core.specs.Pcg32Seed.{pcg32_seed}
 use Rattle.stm_script.specs.declared.workload.Item.TheVariants.{Tx}
 use Rattle.stm_gen.specs.Draws.{seeded, generator_at}
-use Rattle.stm_gen.specs.Generated.{operation, switch_behind, items_for}
+use Rattle.stm_gen.specs.Generated.{drawn_move, draws_before, operation, switch_behind, items_for}
 
 pub at-start : (seed : ℕ) → pcg32_of_seed (pcg32_seed 16 seed) ≡ generator_at seed 0
 unfolding seeded state_after
@@ -24,6 +26,15 @@ one-more seed k =
     let last : next_state 64 multiplier_64 g.increment (state_after 64 multiplier_64 g.increment k g.state) ≡ state_after 64 multiplier_64 g.increment (suc k) g.state = sym (state_after-last 64 multiplier_64 g.increment k g.state) in
     let next : suc k ≡ k + 1 = omega arith in
     ap (λ (s : ℕ). record g { state = s }) last ∙ ap (λ j. generator_at seed j) next
+
+-- of four transactions those that move
+pub moves-else : (seed i : ℕ) → i % 4 ≢ 2 → i % 4 ≢ 3 → operation seed i ≡ drawn_move seed (draws_before i)
+moves-else seed i a b =
+    let count : (i % 4 == 2) ≡ false = grind (arith, nat_tests) in
+    let insert : (i % 4 == 3) ≡ false = grind (arith, nat_tests) in rw (count, insert) refl
+
+pub draws-on : (i : ℕ) → i % 4 ≢ 2 → i % 4 ≢ 3 → draws_before i + 3 ≡ draws_before (i + 1)
+draws-on i a b = omega arith
 
 -- one transaction more, and what stands behind it
 pub items-on : (n callers seed : ℕ) → (items_for n callers seed ++ Tx (n % callers) (operation seed n ∷ []) ∷ []) ++ switch_behind n ≡ items_for (n + 1) callers seed

@@ -34,8 +34,8 @@ pub data IsMade (script : List Op) : Type 0 where
   nothing : script ≡ [] → IsMade script
   opening : script ≡ deposits 64 → IsMade script
   moving : (a b k : ℕ) → a < 64 → b < 64 → script ≡ Move a b k ∷ [] → IsMade script
-  counting : (stripe : ℕ) → stripe < 4 → script ≡ Count stripe 1 ∷ [] → IsMade script
-  inserting : (key : ℕ) → key < 24 → script ≡ ListInsert key ∷ [] → IsMade script
+  counting : (stripe : ℕ) → stripe < 4 → script ≡ Count 0 stripe 1 ∷ [] → IsMade script
+  inserting : (key : ℕ) → key < 24 → script ≡ ListInsert 1 key ∷ [] → IsMade script
 
 -- the laws of structures that stand on their own functions
 pub record Laws : Type 0 where
@@ -126,7 +126,7 @@ module _ (laws : Laws) where
           omega arith)
 
   -- a count
-  count-state : (o c : ℕ) (put : ℕ → ℕ) (m : List ℕ) (stripe : ℕ) → stripe < 4 → State o c put m → State o (c + 1) put (effect_of version_one (Count stripe 1) m).memory
+  count-state : (o c : ℕ) (put : ℕ → ℕ) (m : List ℕ) (stripe : ℕ) → stripe < 4 → State o c put m → State o (c + 1) put (effect_of version_one (Count 0 stripe 1) m).memory
   count-state o c put m stripe lt s =
       let k : List ℕ = (added_in counter_one stripe 1 m).memory in
       let size = s.long in
@@ -172,7 +172,7 @@ module _ (laws : Laws) where
 
   -- an insert
   insert-state : (o c : ℕ) (put : ℕ → ℕ) (m : List ℕ) (key : ℕ) → key < 24 → State o c put m
-      → State o c (λ k. put k + (if key == k then 1 else 0)) (effect_of version_one (ListInsert key) m).memory
+      → State o c (λ k. put k + (if key == k then 1 else 0)) (effect_of version_one (ListInsert 1 key) m).memory
   insert-state o c put m key lt s =
       let k : List ℕ = (inserted_in list key m).memory in
       let size = s.long in
@@ -251,10 +251,10 @@ module _ (laws : Laws) where
       (cast o c put (o + 0) (c + 0) (λ j. put j + 0) (effect_of version_one (Move a b k) m).memory (omega arith) (omega arith) (λ j. omega arith) (move-state laws o c put m a b k la lb st))
   made-state s (counting stripe lt e) o c put m st =
       subst (λ (x : List Op). State (o + weigh opens x) (c + weigh counts x) (λ j. put j + weigh (inserts j) x) (run version_one x m).memory) (sym e)
-      (cast o (c + 1) put (o + 0) (c + 1) (λ j. put j + 0) (effect_of version_one (Count stripe 1) m).memory (omega arith) refl (λ j. omega arith) (count-state laws o c put m stripe lt st))
+      (cast o (c + 1) put (o + 0) (c + 1) (λ j. put j + 0) (effect_of version_one (Count 0 stripe 1) m).memory (omega arith) refl (λ j. omega arith) (count-state laws o c put m stripe lt st))
   made-state s (inserting key lt e) o c put m st =
       subst (λ (x : List Op). State (o + weigh opens x) (c + weigh counts x) (λ j. put j + weigh (inserts j) x) (run version_one x m).memory) (sym e)
-      (cast o c (λ j. put j + (if key == j then 1 else 0)) (o + 0) (c + 0) (λ j. put j + ((if key == j then 1 else 0) + 0)) (effect_of version_one (ListInsert key) m).memory (omega arith) (omega arith) (λ j. omega arith) (insert-state laws o c put m key lt st))
+      (cast o c (λ j. put j + (if key == j then 1 else 0)) (o + 0) (c + 0) (λ j. put j + ((if key == j then 1 else 0) + 0)) (effect_of version_one (ListInsert 1 key) m).memory (omega arith) (omega arith) (λ j. omega arith) (insert-state laws o c put m key lt st))
 
   -- the rows of a report, in its order
   pub replay-state : (script : Row → List Op) → ((r : Row) → IsMade (script r)) → (rows : List Row) (o c : ℕ) (put : ℕ → ℕ) (m last : List ℕ) → State o c put m

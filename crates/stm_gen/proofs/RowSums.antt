@@ -5,7 +5,7 @@ use Rattle.std.proofs.lemmas.Bool.Decides.{nat_tests}
 use Rattle.stm_script.specs.declared.op.Op.{Op}
 use Rattle.stm_script.specs.declared.report.Row.{Row}
 use Rattle.stm_script.specs.declared.workload.Item.{Item}
-use Rattle.stm_script.specs.declared.workload.Item.TheVariants.{Tx, Switch}
+use Rattle.stm_script.specs.declared.workload.Item.TheVariants.{Tx, Switch, Reserve}
 use Rattle.stm_script.specs.Reports.{scripts_of, script_of, rows_of, counted}
 use Rattle.stm_gen.proofs.Weights.{scripts_sum, items_sum, rows_sum}
 
@@ -14,6 +14,7 @@ abbrev pub CallersBelow : ℕ → List Item → Type 0
 CallersBelow n [] = Unit {0}
 CallersBelow n (Tx caller script ∷ items) = (caller < n) × CallersBelow n items
 CallersBelow n (Switch caller alg ∷ items) = CallersBelow n items
+CallersBelow n (Reserve caller reads writes ∷ items) = CallersBelow n items
 
 abbrev RowsBelow : ℕ → List Row → Type 0
 RowsBelow n [] = Unit {0}
@@ -60,6 +61,7 @@ module _ (f : List Op → ℕ) where
       zeros zero = refl
       zeros (suc k) = let rest = zeros k in omega arith
   items-by-caller n (Switch caller alg ∷ items) below = items-by-caller n items below
+  items-by-caller n (Reserve caller reads writes ∷ items) below = items-by-caller n items below
   items-by-caller n (Tx caller script ∷ items) below =
       let g : ℕ → ℕ = λ i. scripts_sum f (scripts_of i items) in
       let h : ℕ → ℕ = λ i. scripts_sum f (scripts_of i (Tx caller script ∷ items)) in
@@ -124,6 +126,7 @@ own-scripts items n (r ∷ rs) = by (r.caller == n) refl (own-scripts items n rs
 none-above : (n c : ℕ) (items : List Item) → CallersBelow n items → n ≤ c → scripts_of c items ≡ []
 none-above n c [] below le = refl
 none-above n c (Switch caller alg ∷ items) below le = none-above n c items below le
+none-above n c (Reserve caller reads writes ∷ items) below le = none-above n c items below le
 none-above n c (Tx caller script ∷ items) below le = let lt = below.0 in by (caller == c) (grind (arith, nat_tests)) (none-above n c items below.1 le)
   where
     by : (t : Bool) → t ≡ false → scripts_of c items ≡ [] → (if t then script ∷ scripts_of c items else scripts_of c items) ≡ []

@@ -6,7 +6,7 @@ use Rattle.std.proofs.lemmas.Bool.Decides.{nat_tests}
 use Rattle.stm_script.specs.declared.op.Op.{Op}
 use Rattle.stm_script.specs.declared.op.Op.TheVariants.{Count, ListInsert}
 use Rattle.stm_script.specs.declared.workload.Item.{Item}
-use Rattle.stm_script.specs.declared.workload.Item.TheVariants.{Tx, Switch}
+use Rattle.stm_script.specs.declared.workload.Item.TheVariants.{Tx, Switch, Reserve}
 use Rattle.stm_script.specs.declared.report.Row.{Row}
 use Rattle.stm_script.specs.Reports.{scripts_of, script_of}
 use Rattle.stm_gen.specs.Draws.{drawn}
@@ -22,6 +22,7 @@ below-append : (n : ℕ) (xs ys : List Item) → CallersBelow n xs → CallersBe
 below-append n [] ys x y = y
 below-append n (Tx caller script ∷ xs) ys x y = (x.0, below-append n xs ys x.1 y)
 below-append n (Switch caller alg ∷ xs) ys x y = below-append n xs ys x y
+below-append n (Reserve caller reads writes ∷ xs) ys x y = below-append n xs ys x y
 
 switch-below : (n i : ℕ) → CallersBelow n (switch_behind i)
 switch-below n i = by (i % 16 == 15)
@@ -41,11 +42,13 @@ abbrev AllMade : List Item → Type 0
 AllMade [] = Unit {0}
 AllMade (Tx caller script ∷ items) = IsMade script × AllMade items
 AllMade (Switch caller alg ∷ items) = AllMade items
+AllMade (Reserve caller reads writes ∷ items) = AllMade items
 
 made-append : (xs ys : List Item) → AllMade xs → AllMade ys → AllMade (xs ++ ys)
 made-append [] ys x y = y
 made-append (Tx caller script ∷ xs) ys x y = (x.0, made-append xs ys x.1 y)
 made-append (Switch caller alg ∷ xs) ys x y = made-append xs ys x y
+made-append (Reserve caller reads writes ∷ xs) ys x y = made-append xs ys x y
 
 switch-made : (i : ℕ) → AllMade (switch_behind i)
 switch-made i = by (i % 16 == 15)
@@ -57,7 +60,7 @@ switch-made i = by (i % 16 == 15)
 operation-made : (seed i : ℕ) → IsMade (operation seed i ∷ [])
 operation-made seed i = by (i % 4 == 2) (i % 4 == 3)
   where
-    by : (a b : Bool) → IsMade ((if a then Count (i / 4 % 4) 1 else (if b then ListInsert (i / 4 % 24) else drawn_move seed (draws_before i))) ∷ [])
+    by : (a b : Bool) → IsMade ((if a then Count 0 (i / 4 % 4) 1 else (if b then ListInsert 1 (i / 4 % 24) else drawn_move seed (draws_before i))) ∷ [])
     by true b = counting (i / 4 % 4) (mod-lt (i / 4) {m = 4} (omega arith)) refl
     by false true = inserting (i / 4 % 24) (mod-lt (i / 4) {m = 24} (omega arith)) refl
     by false false =
@@ -71,6 +74,7 @@ items-made (suc n) callers seed = made-append (items_for n callers seed) (items_
 script-made : (items : List Item) (n j : ℕ) → AllMade items → IsMade (slice_index_or (scripts_of n items) j [])
 script-made [] n j made = nothing refl
 script-made (Switch caller alg ∷ items) n j made = script-made items n j made
+script-made (Reserve caller reads writes ∷ items) n j made = script-made items n j made
 script-made (Tx caller script ∷ items) n j made = by (caller == n) j (λ k. script-made items n k made.1)
   where
     by : (t : Bool) (k : ℕ) → ((x : ℕ) → IsMade (slice_index_or (scripts_of n items) x [])) → IsMade (slice_index_or (if t then script ∷ scripts_of n items else scripts_of n items) k [])
@@ -87,6 +91,7 @@ sum-append : (f : List Op → ℕ) (xs ys : List Item) → items_sum f (xs ++ ys
 sum-append f [] ys = omega arith
 sum-append f (Tx caller script ∷ xs) ys = let rest = sum-append f xs ys in omega arith
 sum-append f (Switch caller alg ∷ xs) ys = sum-append f xs ys
+sum-append f (Reserve caller reads writes ∷ xs) ys = sum-append f xs ys
 
 switch-sum : (f : List Op → ℕ) (i : ℕ) → items_sum f (switch_behind i) ≡ 0
 switch-sum f i = by (i % 16 == 15)
@@ -110,7 +115,7 @@ total-opens (suc n) callers seed =
     let rest = total-opens n callers seed in
     let none : weigh opens (operation seed n ∷ []) ≡ 0 = by (n % 4 == 2) (n % 4 == 3) in omega arith
   where
-    by : (a b : Bool) → weigh opens ((if a then Count (n / 4 % 4) 1 else (if b then ListInsert (n / 4 % 24) else drawn_move seed (draws_before n))) ∷ []) ≡ 0
+    by : (a b : Bool) → weigh opens ((if a then Count 0 (n / 4 % 4) 1 else (if b then ListInsert 1 (n / 4 % 24) else drawn_move seed (draws_before n))) ∷ []) ≡ 0
     by true b = refl
     by false true = refl
     by false false = refl
@@ -122,7 +127,7 @@ total-counts (suc n) callers seed =
     let rest = total-counts n callers seed in
     let one : weigh counts (operation seed n ∷ []) + (n + 1) / 4 ≡ (suc n + 1) / 4 = by (n % 4 == 2) (n % 4 == 3) refl in omega arith
   where
-    by : (a b : Bool) → (n % 4 == 2) ≡ a → weigh counts ((if a then Count (n / 4 % 4) 1 else (if b then ListInsert (n / 4 % 24) else drawn_move seed (draws_before n))) ∷ []) + (n + 1) / 4 ≡ (suc n + 1) / 4
+    by : (a b : Bool) → (n % 4 == 2) ≡ a → weigh counts ((if a then Count 0 (n / 4 % 4) 1 else (if b then ListInsert 1 (n / 4 % 24) else drawn_move seed (draws_before n))) ∷ []) + (n + 1) / 4 ≡ (suc n + 1) / 4
     by true b q = let e : n % 4 ≡ 2 = grind (arith, nat_tests) in omega arith
     by false true q = let d : n % 4 ≢ 2 = grind (arith, nat_tests) in omega arith
     by false false q = let d : n % 4 ≢ 2 = grind (arith, nat_tests) in omega arith
@@ -151,7 +156,7 @@ total-inserts key (suc n) callers seed =
         same false true a b d = let h : min (n / 4) 24 ≤ key = grind (arith, nat_tests) in let k : key < min (suc n / 4) 24 = grind (arith, nat_tests) in absurd (d (omega arith))
 
     by : (a b : Bool) (sum : ℕ) → (n % 4 == 2) ≡ a → (n % 4 == 3) ≡ b → ltb 0 sum ≡ ltb key (min (n / 4) 24)
-        → ltb 0 (sum + weigh (inserts key) ((if a then Count (n / 4 % 4) 1 else (if b then ListInsert (n / 4 % 24) else drawn_move seed (draws_before n))) ∷ [])) ≡ ltb key (min (suc n / 4) 24)
+        → ltb 0 (sum + weigh (inserts key) ((if a then Count 0 (n / 4 % 4) 1 else (if b then ListInsert 1 (n / 4 % 24) else drawn_move seed (draws_before n))) ∷ [])) ≡ ltb key (min (suc n / 4) 24)
     by true b sum p q go = let e : n % 4 ≡ 2 = grind (arith, nat_tests) in ap (λ k. ltb 0 k) (omega arith) ∙ (go ∙ ap (λ k. ltb key (min k 24)) (omega arith))
     by false true sum p q go = let e : n % 4 ≡ 3 = grind (arith, nat_tests) in hit (n / 4 % 24 == key) sum refl e go
     by false false sum p q go = let d : n % 4 ≢ 3 = grind (arith, nat_tests) in ap (λ k. ltb 0 k) (omega arith) ∙ (go ∙ ap (λ k. ltb key (min k 24)) (omega arith))

@@ -4,7 +4,7 @@ use Rattle.stm_script.specs.declared.op.Op.{Op}
 use Rattle.stm_script.specs.declared.op.Op.TheVariants.{Write, Count, ListInsert}
 use Rattle.stm_script.specs.declared.report.Row.{Row}
 use Rattle.stm_script.specs.declared.workload.Item.{Item}
-use Rattle.stm_script.specs.declared.workload.Item.TheVariants.{Tx, Switch}
+use Rattle.stm_script.specs.declared.workload.Item.TheVariants.{Tx, Switch, Reserve}
 
 -- of each script what it weighs
 abbrev pub scripts_sum : (List Op → ℕ) → List (List Op) → ℕ
@@ -15,6 +15,7 @@ abbrev pub items_sum : (List Op → ℕ) → List Item → ℕ
 items_sum f [] = 0
 items_sum f (Tx caller script ∷ items) = f script + items_sum f items
 items_sum f (Switch caller alg ∷ items) = items_sum f items
+items_sum f (Reserve caller reads writes ∷ items) = items_sum f items
 
 abbrev pub rows_sum : (List Op → ℕ) → (Row → List Op) → List Row → ℕ
 rows_sum f script [] = 0
@@ -36,10 +37,10 @@ opens op = 0
 
 -- what is counted
 abbrev pub counts : Op → ℕ
-counts (Count stripe k) = k
+counts (Count region stripe k) = k
 counts op = 0
 
 -- the inserts of one key into the list
 abbrev pub inserts : ℕ → Op → ℕ
-inserts key (ListInsert k) = if k == key then 1 else 0
+inserts key (ListInsert region k) = if k == key then 1 else 0
 inserts key op = 0

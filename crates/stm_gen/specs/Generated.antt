@@ -1,10 +1,14 @@
 -- THE GENERATED WORKLOAD.
-use Rattle.std.specs.Prelude.{ℕ, zero, suc, ◌+◌, ◌*◌, ◌/◌, ◌%◌, ◌==◌, true, min, List, [], ◌∷◌, ◌++◌, if◌then◌else◌}
+use Rattle.std.specs.Prelude.{ℕ, zero, suc, ◌+◌, ◌*◌, ◌/◌, ◌%◌, ◌==◌, min, List, [], ◌∷◌, ◌++◌, if◌then◌else◌}
 use Rattle.stm_model.specs.declared.alg.Alg.{Alg}
 use Rattle.stm_model.specs.declared.alg.Alg.TheVariants.{OrecLazy}
 use Rattle.stm_profile.specs.Policies.{next_in_cycle}
 use Rattle.stm_script.specs.declared.op.Op.{Op}
 use Rattle.stm_script.specs.declared.op.Op.TheVariants.{Write, Move, Count, ListInsert}
+use Rattle.stm_profile.specs.declared.policy.Policy.TheVariants.{Fixed}
+use Rattle.stm_script.specs.declared.op.TheConstants.{COUNTER, LIST}
+use Rattle.stm_script.specs.declared.workload.Version.TheVariants.{One}
+use Rattle.tx_regions.specs.Regions.{version_one}
 use Rattle.stm_script.specs.declared.workload.Header.{Header}
 use Rattle.stm_script.specs.declared.workload.Item.{Item}
 use Rattle.stm_script.specs.declared.workload.Item.TheVariants.{Tx, Switch}
@@ -13,7 +17,7 @@ use Rattle.stm_gen.specs.declared.generate.TheConstants.{ACCOUNTS, DEPOSIT, KEYS
 use Rattle.stm_gen.specs.Draws.{drawn}
 
 abbrev pub header_for : ℕ → Header
-header_for callers = record { words = 1024; records = 64; ring = 16; callers = callers; reads = 256; writes = 256; clock = 0; alg = OrecLazy; structs = true }
+header_for callers = record { version = One; words = 1024; records = 64; ring = 16; callers = callers; reads = 256; writes = 256; clock = 0; alg = OrecLazy; regions = version_one; policy = Fixed }
 
 -- the deposit for each of the first n accounts
 abbrev pub deposits : ℕ → List Op
@@ -31,8 +35,8 @@ draws_before i = 6 * (i / 4) + 3 * min (i % 4) 2
 -- the operation of transaction i
 abbrev pub operation : ℕ → ℕ → Op
 operation seed i =
-    if i % 4 == 2 then Count (i / 4 % STRIPES) 1
-    else (if i % 4 == 3 then ListInsert (i / 4 % KEYS)
+    if i % 4 == 2 then Count COUNTER (i / 4 % STRIPES) 1
+    else (if i % 4 == 3 then ListInsert LIST (i / 4 % KEYS)
     else drawn_move seed (draws_before i))
 
 -- the algorithm that the first j switches lead to, along the cycle

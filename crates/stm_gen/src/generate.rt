@@ -13,9 +13,11 @@ use std::alloc::{AllocError, Global};
 use stm_model::alg::Alg;
 use stm_model::memory::Memory;
 use stm_profile::choosing::next_in_cycle;
+use stm_profile::policy::Policy;
 use stm_script::lists::Script;
-use stm_script::op::Op;
-use stm_script::workload::{Gos, Header, Item, Items, Workload};
+use stm_script::op::{COUNTER, LIST, Op};
+use stm_script::workload::{Gos, Header, Item, Items, Version, Workload};
+use tx_regions::region::Regions;
 
 /// The most transactions behind the opening one.
 pub const MOST_TRANSACTIONS: u32 = 50_000;
@@ -51,7 +53,7 @@ pub fn generate(
 {
     let items = make_items(alloc, transactions, callers, seed)?;
     Ok(Workload {
-        header: header_for(callers as usize),
+        header: header_for(alloc, callers as usize)?,
         items: Items::new(items),
         schedule: Gos::new(Vec::new(alloc)),
     })
@@ -97,10 +99,11 @@ fn put_switch(items: &mut Vec<Item>, alg: &mut Alg, i: usize) -> Result<(), Allo
     Ok(())
 }
 
-fn header_for(callers: usize) -> Header
-    ensures { result ≡ header_for callers }
+fn header_for(alloc: Global, callers: usize) -> Result<Header, AllocError>
+    ensures { IfOk result (λ h. h ≡ header_for callers) }
 {
-    Header {
+    Ok(Header {
+        version: Version::One,
         words: 1_024,
         records: 64,
         ring: 16,
@@ -109,8 +112,9 @@ fn header_for(callers: usize) -> Header
         writes: 256,
         clock: 0,
         alg: Alg::OrecLazy,
-        structs: true,
-    }
+        regions: Regions::version_one(alloc)?,
+        policy: Policy::Fixed,
+    })
 }
 
 /// The transaction that opens all accounts.
@@ -145,8 +149,8 @@ fn operation(draws: &mut Pcg32, i: usize) -> Op
     ensures { (seed : ℕ) → draws.old ≡ generator_at seed (draws_before i) → (result ≡ operation seed i) × (draws.new ≡ generator_at seed (draws_before (i + 1))) }
 {
     match i % 4 {
-        2 => Op::Count(i / 4 % STRIPES, 1),
-        3 => Op::ListInsert((i / 4 % KEYS) as u32),
+        2 => Op::Count(COUNTER, i / 4 % STRIPES, 1),
+        3 => Op::ListInsert(LIST, (i / 4 % KEYS) as u32),
         _ => drawn_move(draws),
     }
 }

@@ -64,3 +64,10 @@ Chooses Fixed p alg next = next ≡ alg
 Chooses (Round n) p alg next = ByRound n p.since alg next
 Chooses Expert p alg next = OnceFull p alg next (ByExpert (conflicts p.window) (full_logs p.window) (commits p.window) next)
 Chooses (State n) p alg next = OnceFull p alg next (ByState n (conflicts p.window) alg next)
+
+-- the policy by which caller 0 goes: that of the words, and the text's where they leave it fixed
+abbrev pub ruling : Policy → Policy → Policy
+ruling Fixed text = text
+ruling (Round n) text = Round n
+ruling Expert text = Expert
+ruling (State n) text = State n

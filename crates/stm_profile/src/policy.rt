@@ -1,6 +1,7 @@
 //! Policies: when a caller changes the algorithm.
 ghost use Rattle.std.specs.Prelude.{◌≡◌, ◌≢◌, ◌++◌, ◌∷◌, codes, MatchOption};
 ghost use Rattle.stm_profile.specs.declared.policy.Policy.{Policy};
+ghost use Rattle.stm_profile.specs.Policies.{ruling};
 ghost use Rattle.stm_profile.specs.PolicyWords.{IsNoneNumbered, IsWordOf, Reads};
 
 use crate::numbers::number_up_to;
@@ -24,6 +25,18 @@ pub enum Policy {
     /// To the next stricter algorithm at so many conflicts in the last attempts, 1 to [`MOST_STATE`], and
     /// back at none.
     State(u32),
+}
+
+impl Policy {
+    /// This policy, or the text's where it is fixed.
+    pub fn ruling(self, text: Policy) -> Policy
+        ensures { result ≡ ruling self text }
+    {
+        match self {
+            Policy::Fixed => text,
+            other => other,
+        }
+    }
 }
 
 /// The word is no policy's.

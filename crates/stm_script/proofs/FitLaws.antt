@@ -6,15 +6,15 @@ use Rattle.stm_model.specs.Memories.{overlay, Explains}
 use Rattle.stm_model.specs.Histories.{Entry, memory_at, IsLegal}
 use Rattle.stm_model.specs.HistoryLaws.{memory_at-entry, length-memory_at}
 use Rattle.stm_script.specs.declared.op.Op.{Op}
-use Rattle.stm_script.specs.declared.op.Op.TheVariants.{Read, Write, Add, Move, Emit, Irrev, Cancel, Count, Total, ListInsert, ListRemove, ListContains, ListLength, HashInsert, HashRemove, HashContains, TreeInsert, TreeRemove, TreeContains, TreeLeast}
+use Rattle.stm_script.specs.declared.op.Op.TheVariants.{Read, Write, Add, Move, Emit, Irrev, Cancel, Count, Total, ListInsert, ListRemove, ListContains, ListLength, HashInsert, HashRemove, HashContains, TreeInsert, TreeRemove, TreeContains, TreeLeast, QueuePut, QueueGet, MapPut, MapRemove, MapGet, MapSum}
 use Rattle.tx_regions.specs.declared.region.Region.{Region}
 use Rattle.stm_script.specs.declared.report.Kind.{Kind}
 use Rattle.stm_script.specs.declared.report.Kind.TheVariants.{W, R, C}
 use Rattle.stm_script.specs.declared.report.Row.{Row}
 use Rattle.stm_script.specs.Operations.{replies, moved, effect_of}
 use Rattle.tx_cells.specs.Structures.{list_of, hash_of}
-use Rattle.stm_script.specs.Structures.{list_in, hash_in, tree_in}
-use Rattle.stm_script.specs.StructureLaws.{chain-insert-quiet, chain-remove-quiet, tree-insert-quiet, tree-remove-quiet}
+use Rattle.stm_script.specs.Structures.{list_in, hash_in, tree_in, queue_in, sum_map_in}
+use Rattle.stm_script.specs.StructureLaws.{chain-insert-quiet, chain-remove-quiet, tree-insert-quiet, tree-remove-quiet, queue-put-quiet, queue-get-quiet, map-put-quiet, map-remove-quiet}
 use Rattle.stm_script.specs.Scripts.{run, run_row, KindFits}
 use Rattle.stm_script.specs.Reports.{RowFits}
 use Rattle.stm_script.specs.Parts.{RowOf, RowIn, by_kind, BeginsWith}
@@ -37,19 +37,25 @@ module _ (regions : List Region) where
   op-quiet (Emit a) m h = refl
   op-quiet Irrev m h = refl
   op-quiet Cancel m h = refl
-  op-quiet (Count stripe k) m h = absurd cc
-  op-quiet Total m h = refl
-  op-quiet (ListInsert key) m h = chain-insert-quiet (list_of (list_in regions)) key m h
-  op-quiet (ListRemove key) m h = chain-remove-quiet (list_of (list_in regions)) key m h
-  op-quiet (ListContains key) m h = refl
-  op-quiet ListLength m h = refl
-  op-quiet (HashInsert key) m h = chain-insert-quiet (hash_of (hash_in regions)) key m h
-  op-quiet (HashRemove key) m h = chain-remove-quiet (hash_of (hash_in regions)) key m h
-  op-quiet (HashContains key) m h = refl
-  op-quiet (TreeInsert key) m h = tree-insert-quiet (tree_in regions) key m h
-  op-quiet (TreeRemove key) m h = tree-remove-quiet (tree_in regions) key m h
-  op-quiet (TreeContains key) m h = refl
-  op-quiet TreeLeast m h = refl
+  op-quiet (Count region stripe k) m h = absurd cc
+  op-quiet (Total region) m h = refl
+  op-quiet (ListInsert region key) m h = chain-insert-quiet (list_of (list_in regions region)) key m h
+  op-quiet (ListRemove region key) m h = chain-remove-quiet (list_of (list_in regions region)) key m h
+  op-quiet (ListContains region key) m h = refl
+  op-quiet (ListLength region) m h = refl
+  op-quiet (HashInsert region key) m h = chain-insert-quiet (hash_of (hash_in regions region)) key m h
+  op-quiet (HashRemove region key) m h = chain-remove-quiet (hash_of (hash_in regions region)) key m h
+  op-quiet (HashContains region key) m h = refl
+  op-quiet (TreeInsert region key) m h = tree-insert-quiet (tree_in regions region) key m h
+  op-quiet (TreeRemove region key) m h = tree-remove-quiet (tree_in regions region) key m h
+  op-quiet (TreeContains region key) m h = refl
+  op-quiet (TreeLeast region) m h = refl
+  op-quiet (QueuePut region v) m h = queue-put-quiet (queue_in regions region) m v h
+  op-quiet (QueueGet region) m h = queue-get-quiet (queue_in regions region) m h
+  op-quiet (MapPut region key v) m h = map-put-quiet (sum_map_in regions region) key v m h
+  op-quiet (MapRemove region key) m h = map-remove-quiet (sum_map_in regions region) key m h
+  op-quiet (MapGet region key) m h = refl
+  op-quiet (MapSum region lo hi) m h = refl
 
   or-left : (a b : Bool) → a || b ≡ false → a ≡ false
   or-left true b h = absurd cc

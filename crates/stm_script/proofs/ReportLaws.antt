@@ -13,7 +13,7 @@ use Rattle.stm_script.specs.declared.report.Kind.TheVariants.{W, R, C}
 use Rattle.stm_script.specs.declared.report.Row.{Row}
 use Rattle.stm_script.specs.declared.workload.Header.{Header}
 use Rattle.stm_script.specs.declared.workload.Item.{Item}
-use Rattle.stm_script.specs.declared.workload.Item.TheVariants.{Tx, Switch}
+use Rattle.stm_script.specs.declared.workload.Item.TheVariants.{Tx, Switch, Reserve}
 use Rattle.stm_script.specs.declared.workload.Workload.{Workload}
 use Rattle.stm_script.specs.Reports.{Ordered, Ascends, Apart, writers, writers_by, writer_to, rows_of, counted, scripts_of, script_of, regions_of, zeros, nonzero}
 use Rattle.stm_script.specs.Workloads.{ItemFits}
@@ -104,6 +104,8 @@ scripts-other regions header n (Tx caller script ∷ items) le h =
     rw test (scripts-other regions header n items le (All-tail (ItemFits regions header) (Tx caller script) items h))
 scripts-other regions header n (Switch caller alg ∷ items) le h =
     scripts-other regions header n items le (All-tail (ItemFits regions header) (Switch caller alg) items h)
+scripts-other regions header n (Reserve caller reads writes ∷ items) le h =
+    scripts-other regions header n items le (All-tail (ItemFits regions header) (Reserve caller reads writes) items h)
 
 cons-head : (x y : ℕ) (xs ys : List ℕ) → x ∷ xs ≡ y ∷ ys → x ≡ y
 cons-head x y xs ys h = cc

@@ -2,7 +2,7 @@
 use Rattle.std.proofs.Common.{ℕ, ◌≡◌, ◌+◌, ◌<◌, ◌≤◌, ap, ◌∙◌, take, List, [], ◌∷◌, ◌++◌, length, length-append, subst, sym, arith}
 use Rattle.std.proofs.lemmas.List.{length-take-le}
 use Rattle.stm_script.specs.declared.op.Op.{Op}
-use Rattle.stm_script.specs.declared.op.Op.TheVariants.{Read, Write, Add, Move, Emit, Irrev, Cancel, Count, Total, ListInsert, ListRemove, ListContains, ListLength, HashInsert, HashRemove, HashContains, TreeInsert, TreeRemove, TreeContains, TreeLeast}
+use Rattle.stm_script.specs.declared.op.Op.TheVariants.{Read, Write, Add, Move, Emit, Irrev, Cancel, Count, Total, ListInsert, ListRemove, ListContains, ListLength, HashInsert, HashRemove, HashContains, TreeInsert, TreeRemove, TreeContains, TreeLeast, QueuePut, QueueGet, MapPut, MapRemove, MapGet, MapSum}
 use Rattle.stm_script.specs.Operations.{emits_of}
 use Rattle.stm_script.specs.Outputs.{Output, HasRoom}
 
@@ -14,19 +14,25 @@ emits-few (Move a b k) r = omega arith
 emits-few (Emit a) r = omega arith
 emits-few Irrev r = omega arith
 emits-few Cancel r = omega arith
-emits-few (Count stripe k) r = omega arith
-emits-few Total r = omega arith
-emits-few (ListInsert key) r = omega arith
-emits-few (ListRemove key) r = omega arith
-emits-few (ListContains key) r = omega arith
-emits-few ListLength r = omega arith
-emits-few (HashInsert key) r = omega arith
-emits-few (HashRemove key) r = omega arith
-emits-few (HashContains key) r = omega arith
-emits-few (TreeInsert key) r = omega arith
-emits-few (TreeRemove key) r = omega arith
-emits-few (TreeContains key) r = omega arith
-emits-few TreeLeast r = omega arith
+emits-few (Count region stripe k) r = omega arith
+emits-few (Total region) r = omega arith
+emits-few (ListInsert region key) r = omega arith
+emits-few (ListRemove region key) r = omega arith
+emits-few (ListContains region key) r = omega arith
+emits-few (ListLength region) r = omega arith
+emits-few (HashInsert region key) r = omega arith
+emits-few (HashRemove region key) r = omega arith
+emits-few (HashContains region key) r = omega arith
+emits-few (TreeInsert region key) r = omega arith
+emits-few (TreeRemove region key) r = omega arith
+emits-few (TreeContains region key) r = omega arith
+emits-few (TreeLeast region) r = omega arith
+emits-few (QueuePut region v) r = omega arith
+emits-few (QueueGet region) r = omega arith
+emits-few (MapPut region key v) r = omega arith
+emits-few (MapRemove region key) r = omega arith
+emits-few (MapGet region key) r = omega arith
+emits-few (MapSum region lo hi) r = omega arith
 
 pub room-reply : (o p : Output) (op : Op) (r n : ℕ) → p ≡ record o { replies = o.replies ++ r ∷ []; emits = o.emits ++ emits_of op r } → HasRoom o (n + 1) → HasRoom p n
 room-reply o p op r n is h =

@@ -7,15 +7,15 @@ use Rattle.stm_model.specs.Memories.{overlay}
 use Rattle.stm_model.specs.Logs.{Log, Keeps}
 use Rattle.stm_model.specs.Overlays.{overlay-length}
 use Rattle.stm_script.specs.declared.op.Op.{Op}
-use Rattle.stm_script.specs.declared.op.Op.TheVariants.{Read, Write, Add, Move, Emit, Irrev, Cancel, Count, Total, ListInsert, ListRemove, ListContains, ListLength, HashInsert, HashRemove, HashContains, TreeInsert, TreeRemove, TreeContains, TreeLeast}
+use Rattle.stm_script.specs.declared.op.Op.TheVariants.{Read, Write, Add, Move, Emit, Irrev, Cancel, Count, Total, ListInsert, ListRemove, ListContains, ListLength, HashInsert, HashRemove, HashContains, TreeInsert, TreeRemove, TreeContains, TreeLeast, QueuePut, QueueGet, MapPut, MapRemove, MapGet, MapSum}
 use Rattle.tx_regions.specs.declared.region.Region.{Region}
 use Rattle.stm_script.specs.Operations.{replies, moved, effect_of}
 use Rattle.stm_script.specs.Outputs.{Output}
 use Rattle.stm_script.specs.Scripts.{Ran, run}
 use Rattle.stm_script.specs.ScriptLaws.{GaveOver}
 use Rattle.tx_cells.specs.Structures.{list_of, hash_of}
-use Rattle.stm_script.specs.Structures.{list_in, hash_in, tree_in}
-use Rattle.stm_script.specs.StructureLaws.{chain-insert-length, chain-remove-length, tree-insert-length, tree-remove-length}
+use Rattle.stm_script.specs.Structures.{list_in, hash_in, tree_in, queue_in, sum_map_in}
+use Rattle.stm_script.specs.StructureLaws.{chain-insert-length, chain-remove-length, tree-insert-length, tree-remove-length, queue-put-length, queue-get-length, map-put-length, map-remove-length}
 use Rattle.stm_script.specs.Keeping.{KeepsGood, OpKeeps, ScriptKeeps}
 
 pub keeps-gave : (good : List ℕ → Type 0) (words : ℕ) (ran : List ℕ → Ran) (l : Log) (before : Output) (k : Log) (after : Output)
@@ -37,19 +37,25 @@ length-effect regions (Move a b k) m = length-moves a b k m (ltb (get_or m a 0) 
 length-effect regions (Emit a) m = refl
 length-effect regions Irrev m = refl
 length-effect regions Cancel m = refl
-length-effect regions (Count stripe k) m = simp length-set
-length-effect regions Total m = refl
-length-effect regions (ListInsert key) m = chain-insert-length (list_of (list_in regions)) key m
-length-effect regions (ListRemove key) m = chain-remove-length (list_of (list_in regions)) key m
-length-effect regions (ListContains key) m = refl
-length-effect regions ListLength m = refl
-length-effect regions (HashInsert key) m = chain-insert-length (hash_of (hash_in regions)) key m
-length-effect regions (HashRemove key) m = chain-remove-length (hash_of (hash_in regions)) key m
-length-effect regions (HashContains key) m = refl
-length-effect regions (TreeInsert key) m = tree-insert-length (tree_in regions) key m
-length-effect regions (TreeRemove key) m = tree-remove-length (tree_in regions) key m
-length-effect regions (TreeContains key) m = refl
-length-effect regions TreeLeast m = refl
+length-effect regions (Count region stripe k) m = simp length-set
+length-effect regions (Total region) m = refl
+length-effect regions (ListInsert region key) m = chain-insert-length (list_of (list_in regions region)) key m
+length-effect regions (ListRemove region key) m = chain-remove-length (list_of (list_in regions region)) key m
+length-effect regions (ListContains region key) m = refl
+length-effect regions (ListLength region) m = refl
+length-effect regions (HashInsert region key) m = chain-insert-length (hash_of (hash_in regions region)) key m
+length-effect regions (HashRemove region key) m = chain-remove-length (hash_of (hash_in regions region)) key m
+length-effect regions (HashContains region key) m = refl
+length-effect regions (TreeInsert region key) m = tree-insert-length (tree_in regions region) key m
+length-effect regions (TreeRemove region key) m = tree-remove-length (tree_in regions region) key m
+length-effect regions (TreeContains region key) m = refl
+length-effect regions (TreeLeast region) m = refl
+length-effect regions (QueuePut region v) m = queue-put-length (queue_in regions region) m v
+length-effect regions (QueueGet region) m = queue-get-length (queue_in regions region) m
+length-effect regions (MapPut region key v) m = map-put-length (sum_map_in regions region) key v m
+length-effect regions (MapRemove region key) m = map-remove-length (sum_map_in regions region) key m
+length-effect regions (MapGet region key) m = refl
+length-effect regions (MapSum region lo hi) m = refl
 
 -- operations that each keep the rule keep it one after the other
 pub keeps-run : (good : List ℕ → Type 0) (words : ℕ) (regions : List Region) (ops : List Op) → ScriptKeeps good words regions ops → KeepsGood good words (λ m. (run regions ops m).memory)

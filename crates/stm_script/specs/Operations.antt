@@ -1,18 +1,22 @@
 -- What an operation does to a memory.
-use Rattle.std.specs.Prelude.{ℕ, ◌≡◌, ◌<◌, ◌+◌, ◌-◌, ◌%◌, ◌^◌, Bool, true, false, ◌||◌, not, ltb, if◌then◌else◌, List, [], ◌∷◌, length, slice_index, slice_set, All, codes}
+use Rattle.std.specs.Prelude.{ℕ, ◌≡◌, ◌<◌, ◌+◌, ◌-◌, ◌%◌, ◌^◌, Bool, true, false, ◌||◌, not, ltb, if◌then◌else◌, List, [], ◌∷◌, length, slice_index, slice_set, All, Option, Some, None, codes}
 use Rattle.stm_model.specs.Memories.{overlay, Explains, is_empty}
 use Rattle.stm_model.specs.Logs.{Log}
 use Rattle.stm_script.specs.declared.op.Op.{Op}
-use Rattle.stm_script.specs.declared.op.Op.TheVariants.{Read, Write, Add, Move, Emit, Irrev, Cancel, Count, Total, ListInsert, ListRemove, ListContains, ListLength, HashInsert, HashRemove, HashContains, TreeInsert, TreeRemove, TreeContains, TreeLeast}
+use Rattle.stm_script.specs.declared.op.Op.TheVariants.{Read, Write, Add, Move, Emit, Irrev, Cancel, Count, Total, ListInsert, ListRemove, ListContains, ListLength, HashInsert, HashRemove, HashContains, TreeInsert, TreeRemove, TreeContains, TreeLeast, QueuePut, QueueGet, MapPut, MapRemove, MapGet, MapSum}
 use Rattle.tx_regions.specs.declared.region.Region.{Region}
 use Rattle.tx_effects.specs.Effects as effects
-use Rattle.tx_regions.specs.declared.region.Region.TheVariants.{Counter as OfCounter, List as OfList, Hash as OfHash, Tree as OfTree}
+use Rattle.tx_regions.specs.declared.region.Region.TheVariants.{Counter as OfCounter, List as OfList, Hash as OfHash, Tree as OfTree, Queue as OfQueue, SumMap as OfSumMap}
 use Rattle.tx_regions.specs.Regions.{IsPlain}
 use Rattle.tx_cells.specs.Counters.{added_in, total_in}
 use Rattle.tx_cells.specs.Chains.{contained_in, inserted_in, removed_in, counted_in}
 use Rattle.tx_cells.specs.Structures.{list_of, hash_of}
 use Rattle.tx_tree.specs.Trees.{contained_in as tree_contained_in, inserted_in as tree_inserted_in, removed_in as tree_removed_in, least_in}
-use Rattle.stm_script.specs.Structures.{HasRegion, counter_in, list_in, hash_in, tree_in, insert_reply, bool_reply, least_reply}
+use Rattle.tx_queue.specs.Queues.{put_in, got_in}
+use Rattle.tx_sums.specs.Sums.{put_in as map_put_in, removed_in as map_removed_in, got_in as map_got_in, summed_in}
+use Rattle.tx_regions.specs.declared.region.Structure.{Structure}
+use Rattle.tx_regions.specs.declared.region.Structure.TheVariants as structures
+use Rattle.stm_script.specs.Structures.{HasRegion, counter_in, list_in, hash_in, tree_in, queue_in, sum_map_in, insert_reply, bool_reply, least_reply, put_reply, map_put_reply, value_reply}
 
 -- what an operation replies, what it emits, the memory after it, and whether it wrote
 pub record Effect : Type 0 where
@@ -56,42 +60,54 @@ effect_of regions (Move a b k) m = moves a b k m
 effect_of regions (Emit a) m = emits_word (slice_index m a) m
 effect_of regions Irrev m = replies 1 m
 effect_of regions Cancel m = replies 0 m
-effect_of regions (Count stripe k) m = replied_as (λ r. r) (added_in (counter_in regions) stripe k m)
-effect_of regions Total m = replied_as (λ r. r) (total_in (counter_in regions) m)
-effect_of regions (ListInsert key) m = replied_as insert_reply (inserted_in (list_of (list_in regions)) key m)
-effect_of regions (ListRemove key) m = replied_as bool_reply (removed_in (list_of (list_in regions)) key m)
-effect_of regions (ListContains key) m = replied_as bool_reply (contained_in (list_of (list_in regions)) key m)
-effect_of regions ListLength m = replied_as (λ r. r) (counted_in (list_of (list_in regions)) m)
-effect_of regions (HashInsert key) m = replied_as insert_reply (inserted_in (hash_of (hash_in regions)) key m)
-effect_of regions (HashRemove key) m = replied_as bool_reply (removed_in (hash_of (hash_in regions)) key m)
-effect_of regions (HashContains key) m = replied_as bool_reply (contained_in (hash_of (hash_in regions)) key m)
-effect_of regions (TreeInsert key) m = replied_as insert_reply (tree_inserted_in (tree_in regions) key m)
-effect_of regions (TreeRemove key) m = replied_as bool_reply (tree_removed_in (tree_in regions) key m)
-effect_of regions (TreeContains key) m = replied_as bool_reply (tree_contained_in (tree_in regions) key m)
-effect_of regions TreeLeast m = replied_as least_reply (least_in (tree_in regions) m)
+effect_of regions (Count r stripe k) m = replied_as (λ n. n) (added_in (counter_in regions r) stripe k m)
+effect_of regions (Total r) m = replied_as (λ n. n) (total_in (counter_in regions r) m)
+effect_of regions (ListInsert r key) m = replied_as insert_reply (inserted_in (list_of (list_in regions r)) key m)
+effect_of regions (ListRemove r key) m = replied_as bool_reply (removed_in (list_of (list_in regions r)) key m)
+effect_of regions (ListContains r key) m = replied_as bool_reply (contained_in (list_of (list_in regions r)) key m)
+effect_of regions (ListLength r) m = replied_as (λ n. n) (counted_in (list_of (list_in regions r)) m)
+effect_of regions (HashInsert r key) m = replied_as insert_reply (inserted_in (hash_of (hash_in regions r)) key m)
+effect_of regions (HashRemove r key) m = replied_as bool_reply (removed_in (hash_of (hash_in regions r)) key m)
+effect_of regions (HashContains r key) m = replied_as bool_reply (contained_in (hash_of (hash_in regions r)) key m)
+effect_of regions (TreeInsert r key) m = replied_as insert_reply (tree_inserted_in (tree_in regions r) key m)
+effect_of regions (TreeRemove r key) m = replied_as bool_reply (tree_removed_in (tree_in regions r) key m)
+effect_of regions (TreeContains r key) m = replied_as bool_reply (tree_contained_in (tree_in regions r) key m)
+effect_of regions (TreeLeast r) m = replied_as least_reply (least_in (tree_in regions r) m)
+effect_of regions (QueuePut r v) m = replied_as put_reply (put_in (queue_in regions r) v m)
+effect_of regions (QueueGet r) m = replied_as least_reply (got_in (queue_in regions r) m)
+effect_of regions (MapPut r key v) m = replied_as map_put_reply (map_put_in (sum_map_in regions r) key v m)
+effect_of regions (MapRemove r key) m = replied_as bool_reply (map_removed_in (sum_map_in regions r) key m)
+effect_of regions (MapGet r key) m = replied_as value_reply (map_got_in (sum_map_in regions r) key m)
+effect_of regions (MapSum r lo hi) m = replied_as (λ n. n) (summed_in (sum_map_in regions r) lo hi m)
 
 -- what an operation with this reply emits
 abbrev pub emits_of : Op → ℕ → List ℕ
-emits_of (Read a) r = []
-emits_of (Write a v) r = []
-emits_of (Add a k) r = []
-emits_of (Move a b k) r = []
-emits_of (Emit a) r = r ∷ []
-emits_of Irrev r = []
-emits_of Cancel r = []
-emits_of (Count stripe k) r = []
-emits_of Total r = []
-emits_of (ListInsert key) r = []
-emits_of (ListRemove key) r = []
-emits_of (ListContains key) r = []
-emits_of ListLength r = []
-emits_of (HashInsert key) r = []
-emits_of (HashRemove key) r = []
-emits_of (HashContains key) r = []
-emits_of (TreeInsert key) r = []
-emits_of (TreeRemove key) r = []
-emits_of (TreeContains key) r = []
-emits_of TreeLeast r = []
+emits_of (Read a) reply = []
+emits_of (Write a v) reply = []
+emits_of (Add a k) reply = []
+emits_of (Move a b k) reply = []
+emits_of (Emit a) reply = reply ∷ []
+emits_of Irrev reply = []
+emits_of Cancel reply = []
+emits_of (Count r stripe k) reply = []
+emits_of (Total r) reply = []
+emits_of (ListInsert r key) reply = []
+emits_of (ListRemove r key) reply = []
+emits_of (ListContains r key) reply = []
+emits_of (ListLength r) reply = []
+emits_of (HashInsert r key) reply = []
+emits_of (HashRemove r key) reply = []
+emits_of (HashContains r key) reply = []
+emits_of (TreeInsert r key) reply = []
+emits_of (TreeRemove r key) reply = []
+emits_of (TreeContains r key) reply = []
+emits_of (TreeLeast r) reply = []
+emits_of (QueuePut r v) reply = []
+emits_of (QueueGet r) reply = []
+emits_of (MapPut r key v) reply = []
+emits_of (MapRemove r key) reply = []
+emits_of (MapGet r key) reply = []
+emits_of (MapSum r lo hi) reply = []
 
 -- an operation that a memory of so many words and these regions takes: a plain one is on words of no region
 abbrev pub OpFits : List Region → ℕ → Op → Type 0
@@ -102,19 +118,25 @@ OpFits regions words (Move a b k) = (a < words) × IsPlain regions a × (b < wor
 OpFits regions words (Emit a) = (a < words) × IsPlain regions a
 OpFits regions words Irrev = Unit {0}
 OpFits regions words Cancel = Unit {0}
-OpFits regions words (Count stripe k) = HasRegion regions words (OfCounter (counter_in regions)) × (stripe < (counter_in regions).stripes)
-OpFits regions words Total = HasRegion regions words (OfCounter (counter_in regions)) × (0 < (counter_in regions).stripes)
-OpFits regions words (ListInsert key) = HasRegion regions words (OfList (list_in regions)) × (key < 2 ^ 32)
-OpFits regions words (ListRemove key) = HasRegion regions words (OfList (list_in regions)) × (key < 2 ^ 32)
-OpFits regions words (ListContains key) = HasRegion regions words (OfList (list_in regions)) × (key < 2 ^ 32)
-OpFits regions words ListLength = HasRegion regions words (OfList (list_in regions))
-OpFits regions words (HashInsert key) = HasRegion regions words (OfHash (hash_in regions)) × (key < 2 ^ 32)
-OpFits regions words (HashRemove key) = HasRegion regions words (OfHash (hash_in regions)) × (key < 2 ^ 32)
-OpFits regions words (HashContains key) = HasRegion regions words (OfHash (hash_in regions)) × (key < 2 ^ 32)
-OpFits regions words (TreeInsert key) = HasRegion regions words (OfTree (tree_in regions)) × (key < 2 ^ 32)
-OpFits regions words (TreeRemove key) = HasRegion regions words (OfTree (tree_in regions)) × (key < 2 ^ 32)
-OpFits regions words (TreeContains key) = HasRegion regions words (OfTree (tree_in regions)) × (key < 2 ^ 32)
-OpFits regions words TreeLeast = HasRegion regions words (OfTree (tree_in regions))
+OpFits regions words (Count r stripe k) = HasRegion regions words (OfCounter (counter_in regions r)) × (stripe < (counter_in regions r).stripes)
+OpFits regions words (Total r) = HasRegion regions words (OfCounter (counter_in regions r)) × (0 < (counter_in regions r).stripes)
+OpFits regions words (ListInsert r key) = HasRegion regions words (OfList (list_in regions r)) × (key < 2 ^ 32)
+OpFits regions words (ListRemove r key) = HasRegion regions words (OfList (list_in regions r)) × (key < 2 ^ 32)
+OpFits regions words (ListContains r key) = HasRegion regions words (OfList (list_in regions r)) × (key < 2 ^ 32)
+OpFits regions words (ListLength r) = HasRegion regions words (OfList (list_in regions r))
+OpFits regions words (HashInsert r key) = HasRegion regions words (OfHash (hash_in regions r)) × (key < 2 ^ 32)
+OpFits regions words (HashRemove r key) = HasRegion regions words (OfHash (hash_in regions r)) × (key < 2 ^ 32)
+OpFits regions words (HashContains r key) = HasRegion regions words (OfHash (hash_in regions r)) × (key < 2 ^ 32)
+OpFits regions words (TreeInsert r key) = HasRegion regions words (OfTree (tree_in regions r)) × (key < 2 ^ 32)
+OpFits regions words (TreeRemove r key) = HasRegion regions words (OfTree (tree_in regions r)) × (key < 2 ^ 32)
+OpFits regions words (TreeContains r key) = HasRegion regions words (OfTree (tree_in regions r)) × (key < 2 ^ 32)
+OpFits regions words (TreeLeast r) = HasRegion regions words (OfTree (tree_in regions r))
+OpFits regions words (QueuePut r v) = HasRegion regions words (OfQueue (queue_in regions r)) × (0 < (queue_in regions r).cells) × (v < 2 ^ 32)
+OpFits regions words (QueueGet r) = HasRegion regions words (OfQueue (queue_in regions r)) × (0 < (queue_in regions r).cells)
+OpFits regions words (MapPut r key v) = HasRegion regions words (OfSumMap (sum_map_in regions r)) × (key < 2 ^ 32) × (v < 2 ^ 64)
+OpFits regions words (MapRemove r key) = HasRegion regions words (OfSumMap (sum_map_in regions r)) × (key < 2 ^ 32)
+OpFits regions words (MapGet r key) = HasRegion regions words (OfSumMap (sum_map_in regions r)) × (key < 2 ^ 32)
+OpFits regions words (MapSum r lo hi) = HasRegion regions words (OfSumMap (sum_map_in regions r)) × (lo < 2 ^ 32) × (hi < 2 ^ 32)
 
 abbrev pub is_cancel : Op → Bool
 is_cancel (Read a) = false
@@ -124,19 +146,25 @@ is_cancel (Move a b k) = false
 is_cancel (Emit a) = false
 is_cancel Irrev = false
 is_cancel Cancel = true
-is_cancel (Count stripe k) = false
-is_cancel Total = false
-is_cancel (ListInsert key) = false
-is_cancel (ListRemove key) = false
-is_cancel (ListContains key) = false
-is_cancel ListLength = false
-is_cancel (HashInsert key) = false
-is_cancel (HashRemove key) = false
-is_cancel (HashContains key) = false
-is_cancel (TreeInsert key) = false
-is_cancel (TreeRemove key) = false
-is_cancel (TreeContains key) = false
-is_cancel TreeLeast = false
+is_cancel (Count r stripe k) = false
+is_cancel (Total r) = false
+is_cancel (ListInsert r key) = false
+is_cancel (ListRemove r key) = false
+is_cancel (ListContains r key) = false
+is_cancel (ListLength r) = false
+is_cancel (HashInsert r key) = false
+is_cancel (HashRemove r key) = false
+is_cancel (HashContains r key) = false
+is_cancel (TreeInsert r key) = false
+is_cancel (TreeRemove r key) = false
+is_cancel (TreeContains r key) = false
+is_cancel (TreeLeast r) = false
+is_cancel (QueuePut r v) = false
+is_cancel (QueueGet r) = false
+is_cancel (MapPut r key v) = false
+is_cancel (MapRemove r key) = false
+is_cancel (MapGet r key) = false
+is_cancel (MapSum r lo hi) = false
 
 abbrev pub is_irrev : Op → Bool
 is_irrev (Read a) = false
@@ -146,19 +174,25 @@ is_irrev (Move a b k) = false
 is_irrev (Emit a) = false
 is_irrev Irrev = true
 is_irrev Cancel = false
-is_irrev (Count stripe k) = false
-is_irrev Total = false
-is_irrev (ListInsert key) = false
-is_irrev (ListRemove key) = false
-is_irrev (ListContains key) = false
-is_irrev ListLength = false
-is_irrev (HashInsert key) = false
-is_irrev (HashRemove key) = false
-is_irrev (HashContains key) = false
-is_irrev (TreeInsert key) = false
-is_irrev (TreeRemove key) = false
-is_irrev (TreeContains key) = false
-is_irrev TreeLeast = false
+is_irrev (Count r stripe k) = false
+is_irrev (Total r) = false
+is_irrev (ListInsert r key) = false
+is_irrev (ListRemove r key) = false
+is_irrev (ListContains r key) = false
+is_irrev (ListLength r) = false
+is_irrev (HashInsert r key) = false
+is_irrev (HashRemove r key) = false
+is_irrev (HashContains r key) = false
+is_irrev (TreeInsert r key) = false
+is_irrev (TreeRemove r key) = false
+is_irrev (TreeContains r key) = false
+is_irrev (TreeLeast r) = false
+is_irrev (QueuePut r v) = false
+is_irrev (QueueGet r) = false
+is_irrev (MapPut r key v) = false
+is_irrev (MapRemove r key) = false
+is_irrev (MapGet r key) = false
+is_irrev (MapSum r lo hi) = false
 
 -- the operation works on a structure
 abbrev pub of_structure : Op → Bool
@@ -169,31 +203,40 @@ of_structure (Move a b k) = false
 of_structure (Emit a) = false
 of_structure Irrev = false
 of_structure Cancel = false
-of_structure (Count stripe k) = true
-of_structure Total = true
-of_structure (ListInsert key) = true
-of_structure (ListRemove key) = true
-of_structure (ListContains key) = true
-of_structure ListLength = true
-of_structure (HashInsert key) = true
-of_structure (HashRemove key) = true
-of_structure (HashContains key) = true
-of_structure (TreeInsert key) = true
-of_structure (TreeRemove key) = true
-of_structure (TreeContains key) = true
-of_structure TreeLeast = true
+of_structure (Count r stripe k) = true
+of_structure (Total r) = true
+of_structure (ListInsert r key) = true
+of_structure (ListRemove r key) = true
+of_structure (ListContains r key) = true
+of_structure (ListLength r) = true
+of_structure (HashInsert r key) = true
+of_structure (HashRemove r key) = true
+of_structure (HashContains r key) = true
+of_structure (TreeInsert r key) = true
+of_structure (TreeRemove r key) = true
+of_structure (TreeContains r key) = true
+of_structure (TreeLeast r) = true
+of_structure (QueuePut r v) = true
+of_structure (QueueGet r) = true
+of_structure (MapPut r key v) = true
+of_structure (MapRemove r key) = true
+of_structure (MapGet r key) = true
+of_structure (MapSum r lo hi) = true
 
--- the operation with another key, where it takes one
+-- the operation with another key, where it takes one alone
 abbrev pub with_key : ℕ → Op → Op
-with_key key (ListInsert old) = ListInsert key
-with_key key (ListRemove old) = ListRemove key
-with_key key (ListContains old) = ListContains key
-with_key key (HashInsert old) = HashInsert key
-with_key key (HashRemove old) = HashRemove key
-with_key key (HashContains old) = HashContains key
-with_key key (TreeInsert old) = TreeInsert key
-with_key key (TreeRemove old) = TreeRemove key
-with_key key (TreeContains old) = TreeContains key
+with_key key (ListInsert r old) = ListInsert r key
+with_key key (ListRemove r old) = ListRemove r key
+with_key key (ListContains r old) = ListContains r key
+with_key key (HashInsert r old) = HashInsert r key
+with_key key (HashRemove r old) = HashRemove r key
+with_key key (HashContains r old) = HashContains r key
+with_key key (TreeInsert r old) = TreeInsert r key
+with_key key (TreeRemove r old) = TreeRemove r key
+with_key key (TreeContains r old) = TreeContains r key
+with_key key (QueuePut r old) = QueuePut r key
+with_key key (MapRemove r old) = MapRemove r key
+with_key key (MapGet r old) = MapGet r key
 with_key key (Read a) = Read a
 with_key key (Write a v) = Write a v
 with_key key (Add a k) = Add a k
@@ -201,10 +244,71 @@ with_key key (Move a b k) = Move a b k
 with_key key (Emit a) = Emit a
 with_key key Irrev = Irrev
 with_key key Cancel = Cancel
-with_key key (Count stripe k) = Count stripe k
-with_key key Total = Total
-with_key key ListLength = ListLength
-with_key key TreeLeast = TreeLeast
+with_key key (Count r stripe k) = Count r stripe k
+with_key key (Total r) = Total r
+with_key key (ListLength r) = ListLength r
+with_key key (TreeLeast r) = TreeLeast r
+with_key key (QueueGet r) = QueueGet r
+with_key key (MapPut r k v) = MapPut r k v
+with_key key (MapSum r lo hi) = MapSum r lo hi
+
+-- the operation on another region, where it works on a structure
+abbrev pub with_region : ℕ → Op → Op
+with_region r (Count old stripe k) = Count r stripe k
+with_region r (Total old) = Total r
+with_region r (ListInsert old key) = ListInsert r key
+with_region r (ListRemove old key) = ListRemove r key
+with_region r (ListContains old key) = ListContains r key
+with_region r (ListLength old) = ListLength r
+with_region r (HashInsert old key) = HashInsert r key
+with_region r (HashRemove old key) = HashRemove r key
+with_region r (HashContains old key) = HashContains r key
+with_region r (TreeInsert old key) = TreeInsert r key
+with_region r (TreeRemove old key) = TreeRemove r key
+with_region r (TreeContains old key) = TreeContains r key
+with_region r (TreeLeast old) = TreeLeast r
+with_region r (QueuePut old v) = QueuePut r v
+with_region r (QueueGet old) = QueueGet r
+with_region r (MapPut old key v) = MapPut r key v
+with_region r (MapRemove old key) = MapRemove r key
+with_region r (MapGet old key) = MapGet r key
+with_region r (MapSum old lo hi) = MapSum r lo hi
+with_region r (Read a) = Read a
+with_region r (Write a v) = Write a v
+with_region r (Add a k) = Add a k
+with_region r (Move a b k) = Move a b k
+with_region r (Emit a) = Emit a
+with_region r Irrev = Irrev
+with_region r Cancel = Cancel
+
+-- the structure that it works on, and the number of its region
+abbrev pub structure_in : Op → Option (Structure × ℕ)
+structure_in (Read a) = None
+structure_in (Write a v) = None
+structure_in (Add a k) = None
+structure_in (Move a b k) = None
+structure_in (Emit a) = None
+structure_in Irrev = None
+structure_in Cancel = None
+structure_in (Count r stripe k) = Some (structures.Counter, r)
+structure_in (Total r) = Some (structures.Counter, r)
+structure_in (ListInsert r key) = Some (structures.List, r)
+structure_in (ListRemove r key) = Some (structures.List, r)
+structure_in (ListContains r key) = Some (structures.List, r)
+structure_in (ListLength r) = Some (structures.List, r)
+structure_in (HashInsert r key) = Some (structures.Hash, r)
+structure_in (HashRemove r key) = Some (structures.Hash, r)
+structure_in (HashContains r key) = Some (structures.Hash, r)
+structure_in (TreeInsert r key) = Some (structures.Tree, r)
+structure_in (TreeRemove r key) = Some (structures.Tree, r)
+structure_in (TreeContains r key) = Some (structures.Tree, r)
+structure_in (TreeLeast r) = Some (structures.Tree, r)
+structure_in (QueuePut r v) = Some (structures.Queue, r)
+structure_in (QueueGet r) = Some (structures.Queue, r)
+structure_in (MapPut r key v) = Some (structures.SumMap, r)
+structure_in (MapRemove r key) = Some (structures.SumMap, r)
+structure_in (MapGet r key) = Some (structures.SumMap, r)
+structure_in (MapSum r lo hi) = Some (structures.SumMap, r)
 
 -- an operation's word
 abbrev pub op_name : Op → List ℕ
@@ -215,19 +319,25 @@ op_name (Move a b k) = codes "move"
 op_name (Emit a) = codes "emit"
 op_name Irrev = codes "irrev"
 op_name Cancel = codes "cancel"
-op_name (Count stripe k) = codes "count"
-op_name Total = codes "total"
-op_name (ListInsert key) = codes "ladd"
-op_name (ListRemove key) = codes "ldel"
-op_name (ListContains key) = codes "lhas"
-op_name ListLength = codes "llen"
-op_name (HashInsert key) = codes "hadd"
-op_name (HashRemove key) = codes "hdel"
-op_name (HashContains key) = codes "hhas"
-op_name (TreeInsert key) = codes "tadd"
-op_name (TreeRemove key) = codes "tdel"
-op_name (TreeContains key) = codes "thas"
-op_name TreeLeast = codes "tmin"
+op_name (Count r stripe k) = codes "count"
+op_name (Total r) = codes "total"
+op_name (ListInsert r key) = codes "ladd"
+op_name (ListRemove r key) = codes "ldel"
+op_name (ListContains r key) = codes "lhas"
+op_name (ListLength r) = codes "llen"
+op_name (HashInsert r key) = codes "hadd"
+op_name (HashRemove r key) = codes "hdel"
+op_name (HashContains r key) = codes "hhas"
+op_name (TreeInsert r key) = codes "tadd"
+op_name (TreeRemove r key) = codes "tdel"
+op_name (TreeContains r key) = codes "thas"
+op_name (TreeLeast r) = codes "tmin"
+op_name (QueuePut r v) = codes "qput"
+op_name (QueueGet r) = codes "qget"
+op_name (MapPut r key v) = codes "mput"
+op_name (MapRemove r key) = codes "mdel"
+op_name (MapGet r key) = codes "mget"
+op_name (MapSum r lo hi) = codes "msum"
 
 abbrev pub ScriptFits : List Region → ℕ → List Op → Type 0
 ScriptFits regions words ops = All (OpFits regions words) ops
@@ -252,16 +362,22 @@ OnlyReads (Move a b k) = ⊥
 OnlyReads (Emit a) = Unit {0}
 OnlyReads Irrev = Unit {0}
 OnlyReads Cancel = Unit {0}
-OnlyReads (Count stripe k) = ⊥
-OnlyReads Total = Unit {0}
-OnlyReads (ListInsert key) = ⊥
-OnlyReads (ListRemove key) = ⊥
-OnlyReads (ListContains key) = Unit {0}
-OnlyReads ListLength = Unit {0}
-OnlyReads (HashInsert key) = ⊥
-OnlyReads (HashRemove key) = ⊥
-OnlyReads (HashContains key) = Unit {0}
-OnlyReads (TreeInsert key) = ⊥
-OnlyReads (TreeRemove key) = ⊥
-OnlyReads (TreeContains key) = Unit {0}
-OnlyReads TreeLeast = Unit {0}
+OnlyReads (Count r stripe k) = ⊥
+OnlyReads (Total r) = Unit {0}
+OnlyReads (ListInsert r key) = ⊥
+OnlyReads (ListRemove r key) = ⊥
+OnlyReads (ListContains r key) = Unit {0}
+OnlyReads (ListLength r) = Unit {0}
+OnlyReads (HashInsert r key) = ⊥
+OnlyReads (HashRemove r key) = ⊥
+OnlyReads (HashContains r key) = Unit {0}
+OnlyReads (TreeInsert r key) = ⊥
+OnlyReads (TreeRemove r key) = ⊥
+OnlyReads (TreeContains r key) = Unit {0}
+OnlyReads (TreeLeast r) = Unit {0}
+OnlyReads (QueuePut r v) = ⊥
+OnlyReads (QueueGet r) = ⊥
+OnlyReads (MapPut r key v) = ⊥
+OnlyReads (MapRemove r key) = ⊥
+OnlyReads (MapGet r key) = Unit {0}
+OnlyReads (MapSum r lo hi) = Unit {0}

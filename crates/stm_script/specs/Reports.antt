@@ -1,16 +1,15 @@
 -- What a report says of its workload.
-use Rattle.std.specs.Prelude.{ℕ, zero, suc, Bool, true, false, ◌≡◌, ◌<◌, ◌+◌, ◌*◌, ◌≤◌, ◌⊎◌, ◌==◌, List, [], ◌∷◌, map, length, replicate, slice_index_or, if◌then◌else◌}
+use Rattle.std.specs.Prelude.{ℕ, zero, suc, ◌≡◌, ◌<◌, ◌+◌, ◌*◌, ◌≤◌, ◌⊎◌, ◌==◌, List, [], ◌∷◌, map, length, replicate, slice_index_or, if◌then◌else◌}
 use Rattle.stm_model.specs.Histories.{Entry, memory_at}
 use Rattle.stm_script.specs.declared.op.Op.{Op}
 use Rattle.tx_regions.specs.declared.region.Region.{Region}
-use Rattle.tx_regions.specs.Regions.{version_one}
 use Rattle.stm_script.specs.declared.report.Kind.{Kind}
 use Rattle.stm_script.specs.declared.report.Kind.TheVariants.{W, R, C}
 use Rattle.stm_script.specs.declared.report.Row.{Row}
 use Rattle.stm_script.specs.declared.report.Report.{Report}
 use Rattle.stm_script.specs.declared.workload.Header.{Header}
 use Rattle.stm_script.specs.declared.workload.Item.{Item}
-use Rattle.stm_script.specs.declared.workload.Item.TheVariants.{Tx, Switch}
+use Rattle.stm_script.specs.declared.workload.Item.TheVariants.{Tx, Switch, Reserve}
 use Rattle.stm_script.specs.declared.workload.Workload.{Workload}
 use Rattle.stm_script.specs.Scripts.{run_row, KindFits}
 
@@ -19,6 +18,7 @@ abbrev pub scripts_of : ℕ → List Item → List (List Op)
 scripts_of n [] = []
 scripts_of n (Tx caller script ∷ items) = if caller == n then script ∷ scripts_of n items else scripts_of n items
 scripts_of n (Switch caller alg ∷ items) = scripts_of n items
+scripts_of n (Reserve caller reads writes ∷ items) = scripts_of n items
 
 -- the script of a row, by its caller and its number among that caller's
 abbrev pub script_of : List Item → Row → List Op
@@ -28,13 +28,9 @@ script_of items row = slice_index_or (scripts_of row.caller items) row.seq []
 abbrev pub zeros : ℕ → List ℕ
 zeros words = replicate words 0
 
--- the four regions where structures are on, and none where they are off
-abbrev pub regions_where : Bool → List Region
-regions_where true = version_one
-regions_where false = []
-
+-- THE REGIONS of a workload
 abbrev pub regions_of : Header → List Region
-regions_of header = regions_where header.structs
+regions_of header = header.regions
 
 -- the row is what its script does on this memory
 pub record RowFits (regions : List Region) (script : List Op) (row : Row) (m : List ℕ) : Type 0 where

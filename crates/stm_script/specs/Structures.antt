@@ -1,4 +1,4 @@
--- The structures that operations work on: each kind's region is known by its number.
+-- The structures that operations work on, each by the number of its region.
 use Rattle.std.specs.Prelude.{ℕ, ◌+◌, ◌<◌, ◌^◌, Bool, true, false, List, slice_index_or, All, AllPairs, Contains, Option, Some, None}
 use Rattle.tx_effects.specs.declared.insert.Insert.{Insert}
 use Rattle.tx_effects.specs.declared.insert.Insert.TheVariants.{Added, Present, NoRoom}
@@ -7,9 +7,14 @@ use Rattle.tx_cells.specs.declared.list.List.{List as KeyList}
 use Rattle.tx_cells.specs.declared.hash.Hash.{Hash}
 use Rattle.tx_tree.specs.declared.tree.Tree.{Tree}
 use Rattle.tx_regions.specs.declared.region.Region.{Region}
-use Rattle.tx_regions.specs.declared.region.Region.TheVariants.{Counter as OfCounter, List as OfList, Hash as OfHash, Tree as OfTree}
+use Rattle.tx_regions.specs.declared.region.Region.TheVariants.{Counter as OfCounter, List as OfList, Hash as OfHash, Tree as OfTree, Queue as OfQueue, SumMap as OfSumMap}
 use Rattle.tx_regions.specs.Regions.{start_of, size_of, AreApart, EndsWithin}
-use Rattle.stm_script.specs.declared.structures.TheConstants.{COUNTER, LIST, HASH, TREE}
+use Rattle.tx_queue.specs.declared.queue.Queue.{Queue}
+use Rattle.tx_queue.specs.declared.queue.Put.{Put}
+use Rattle.tx_queue.specs.declared.queue.Put.TheVariants as puts
+use Rattle.tx_sums.specs.declared.sum_map.SumMap.{SumMap}
+use Rattle.tx_sums.specs.declared.sum_map.MapPut.{MapPut}
+use Rattle.tx_sums.specs.declared.sum_map.MapPut.TheVariants as map_puts
 
 -- the region of this number
 abbrev pub region_at : List Region → ℕ → Region
@@ -20,37 +25,67 @@ as_counter (OfCounter c) = c
 as_counter (OfList l) = record { at = 0; stripes = 0 }
 as_counter (OfHash h) = record { at = 0; stripes = 0 }
 as_counter (OfTree t) = record { at = 0; stripes = 0 }
+as_counter (OfQueue q) = record { at = 0; stripes = 0 }
+as_counter (OfSumMap r) = record { at = 0; stripes = 0 }
 
 abbrev pub as_list : Region → KeyList
 as_list (OfCounter c) = record { at = 0; cells = 0 }
 as_list (OfList l) = l
 as_list (OfHash h) = record { at = 0; cells = 0 }
 as_list (OfTree t) = record { at = 0; cells = 0 }
+as_list (OfQueue q) = record { at = 0; cells = 0 }
+as_list (OfSumMap r) = record { at = 0; cells = 0 }
 
 abbrev pub as_hash : Region → Hash
 as_hash (OfCounter c) = record { at = 0; cells = 0 }
 as_hash (OfList l) = record { at = 0; cells = 0 }
 as_hash (OfHash h) = h
 as_hash (OfTree t) = record { at = 0; cells = 0 }
+as_hash (OfQueue q) = record { at = 0; cells = 0 }
+as_hash (OfSumMap r) = record { at = 0; cells = 0 }
 
 abbrev pub as_tree : Region → Tree
 as_tree (OfCounter c) = record { at = 0; cells = 0 }
 as_tree (OfList l) = record { at = 0; cells = 0 }
 as_tree (OfHash h) = record { at = 0; cells = 0 }
 as_tree (OfTree t) = t
+as_tree (OfQueue q) = record { at = 0; cells = 0 }
+as_tree (OfSumMap r) = record { at = 0; cells = 0 }
 
--- the counter, the list, the hash set and the tree: each without words where its region is of another kind, or missing
-abbrev pub counter_in : List Region → Counter
-counter_in regions = as_counter (region_at regions COUNTER)
+abbrev pub as_queue : Region → Queue
+as_queue (OfCounter c) = record { at = 0; cells = 0 }
+as_queue (OfList l) = record { at = 0; cells = 0 }
+as_queue (OfHash h) = record { at = 0; cells = 0 }
+as_queue (OfTree t) = record { at = 0; cells = 0 }
+as_queue (OfQueue q) = q
+as_queue (OfSumMap r) = record { at = 0; cells = 0 }
 
-abbrev pub list_in : List Region → KeyList
-list_in regions = as_list (region_at regions LIST)
+abbrev pub as_sum_map : Region → SumMap
+as_sum_map (OfCounter c) = record { at = 0; cells = 0 }
+as_sum_map (OfList l) = record { at = 0; cells = 0 }
+as_sum_map (OfHash h) = record { at = 0; cells = 0 }
+as_sum_map (OfTree t) = record { at = 0; cells = 0 }
+as_sum_map (OfQueue q) = record { at = 0; cells = 0 }
+as_sum_map (OfSumMap r) = r
 
-abbrev pub hash_in : List Region → Hash
-hash_in regions = as_hash (region_at regions HASH)
+-- the structure of this number: without words where the region is of another kind, or missing
+abbrev pub counter_in : List Region → ℕ → Counter
+counter_in regions n = as_counter (region_at regions n)
 
-abbrev pub tree_in : List Region → Tree
-tree_in regions = as_tree (region_at regions TREE)
+abbrev pub list_in : List Region → ℕ → KeyList
+list_in regions n = as_list (region_at regions n)
+
+abbrev pub hash_in : List Region → ℕ → Hash
+hash_in regions n = as_hash (region_at regions n)
+
+abbrev pub tree_in : List Region → ℕ → Tree
+tree_in regions n = as_tree (region_at regions n)
+
+abbrev pub queue_in : List Region → ℕ → Queue
+queue_in regions n = as_queue (region_at regions n)
+
+abbrev pub sum_map_in : List Region → ℕ → SumMap
+sum_map_in regions n = as_sum_map (region_at regions n)
 
 -- the regions are apart, and end within so many words
 pub record AreLaid (regions : List Region) (words : ℕ) : Type 0 where
@@ -75,3 +110,16 @@ bool_reply false = 0
 abbrev pub least_reply : Option ℕ → ℕ
 least_reply None = 0
 least_reply (Some key) = key + 1
+
+abbrev pub put_reply : Put → ℕ
+put_reply puts.Added = 1
+put_reply puts.NoRoom = 2
+
+abbrev pub map_put_reply : MapPut → ℕ
+map_put_reply map_puts.Added = 1
+map_put_reply map_puts.Replaced = 0
+map_put_reply map_puts.NoRoom = 2
+
+abbrev pub value_reply : Option ℕ → ℕ
+value_reply None = 0
+value_reply (Some v) = v

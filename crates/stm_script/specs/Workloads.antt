@@ -4,7 +4,7 @@ use Rattle.stm_model.specs.declared.config.Config.{Config}
 use Rattle.tx_regions.specs.declared.region.Region.{Region}
 use Rattle.stm_script.specs.declared.workload.Header.{Header}
 use Rattle.stm_script.specs.declared.workload.Item.{Item}
-use Rattle.stm_script.specs.declared.workload.Item.TheVariants.{Tx, Switch}
+use Rattle.stm_script.specs.declared.workload.Item.TheVariants.{Tx, Switch, Reserve}
 use Rattle.stm_script.specs.Operations.{ScriptFits}
 
 -- the sizes and the opening clock of the memory that a header asks for
@@ -15,6 +15,7 @@ config_of h = record { words = h.words; records = h.records; ring = h.ring; call
 abbrev pub ItemFits : List Region → Header → Item → Type 0
 ItemFits regions header (Tx caller script) = (caller < header.callers) × ScriptFits regions header.words script
 ItemFits regions header (Switch caller alg) = caller < header.callers
+ItemFits regions header (Reserve caller reads writes) = caller < header.callers
 
 abbrev pub ItemsFit : List Region → Header → List Item → Type 0
 ItemsFit regions header items = All (ItemFits regions header) items

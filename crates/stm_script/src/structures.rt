@@ -4,7 +4,7 @@ ghost use Rattle.stm_model.specs.Logs.{SameMemories, IsExplained, IsReadStop};
 ghost use Rattle.tx_effects.specs.Effects.{Under};
 ghost use Rattle.tx_regions.specs.Regions.{AllWellFormed};
 ghost use Rattle.stm_script.specs.Operations.{OpFits, OnlyReads, DoesOver, effect_of, of_structure};
-ghost use Rattle.stm_script.specs.Structures.{counter_in, list_in, hash_in, tree_in, insert_reply, bool_reply, least_reply};
+ghost use Rattle.stm_script.specs.Structures.{counter_in, list_in, hash_in, tree_in, queue_in, sum_map_in, insert_reply, bool_reply, least_reply, put_reply, map_put_reply, value_reply};
 
 use crate::op::Op;
 use stm_model::access::Access;
@@ -13,55 +13,68 @@ use tx_cells::counter::Counter;
 use tx_cells::hash::Hash;
 use tx_cells::list::List;
 use tx_effects::insert::Insert;
+use tx_queue::queue::{Put, Queue};
 use tx_regions::region::{Region, Regions};
+use tx_sums::sum_map::{MapPut, SumMap};
 use tx_tree::tree::Tree;
 
-/// The number of the counter's region.
-pub const COUNTER: usize = 0;
-/// The number of the list's region.
-pub const LIST: usize = 1;
-/// The number of the hash set's region.
-pub const HASH: usize = 2;
-/// The number of the tree's region.
-pub const TREE: usize = 3;
-
-/// The counter; without stripes where there is none.
-fn counter(regions: &Regions) -> Counter
-    ensures { result ≡ counter_in regions.now }
+/// The counter of this number; without stripes where there is none.
+fn counter(regions: &Regions, region: usize) -> Counter
+    ensures { result ≡ counter_in regions.now region }
 {
-    match regions.as_slice().get(COUNTER) {
+    match regions.as_slice().get(region) {
         Some(Region::Counter(counter)) => *counter,
         _ => Counter::new(0, 0),
     }
 }
 
-/// The list; without cells where there is none.
-fn list(regions: &Regions) -> List
-    ensures { result ≡ list_in regions.now }
+/// The list of this number; without cells where there is none.
+fn list(regions: &Regions, region: usize) -> List
+    ensures { result ≡ list_in regions.now region }
 {
-    match regions.as_slice().get(LIST) {
+    match regions.as_slice().get(region) {
         Some(Region::List(list)) => *list,
         _ => List::new(0, 0),
     }
 }
 
-/// The hash set; without cells where there is none.
-fn hash(regions: &Regions) -> Hash
-    ensures { result ≡ hash_in regions.now }
+/// The hash set of this number; without cells where there is none.
+fn hash(regions: &Regions, region: usize) -> Hash
+    ensures { result ≡ hash_in regions.now region }
 {
-    match regions.as_slice().get(HASH) {
+    match regions.as_slice().get(region) {
         Some(Region::Hash(hash)) => *hash,
         _ => Hash::new(0, 0),
     }
 }
 
-/// The tree; without cells where there is none.
-fn tree(regions: &Regions) -> Tree
-    ensures { result ≡ tree_in regions.now }
+/// The tree of this number; without cells where there is none.
+fn tree(regions: &Regions, region: usize) -> Tree
+    ensures { result ≡ tree_in regions.now region }
 {
-    match regions.as_slice().get(TREE) {
+    match regions.as_slice().get(region) {
         Some(Region::Tree(tree)) => *tree,
         _ => Tree::new(0, 0),
+    }
+}
+
+/// The queue of this number; without cells where there is none.
+fn queue(regions: &Regions, region: usize) -> Queue
+    ensures { result ≡ queue_in regions.now region }
+{
+    match regions.as_slice().get(region) {
+        Some(Region::Queue(queue)) => *queue,
+        _ => Queue::new(0, 0),
+    }
+}
+
+/// The map with sums of this number; without cells where there is none.
+fn sum_map(regions: &Regions, region: usize) -> SumMap
+    ensures { result ≡ sum_map_in regions.now region }
+{
+    match regions.as_slice().get(region) {
+        Some(Region::SumMap(sum_map)) => *sum_map,
+        _ => SumMap::new(0, 0),
     }
 }
 
@@ -83,13 +96,44 @@ fn bool_reply(answer: bool) -> u64
     if answer { 1 } else { 0 }
 }
 
-/// What the question for the least key replies.
+/// What the question for the least key replies, and a get out of a queue.
 fn least_reply(least: Option<u32>) -> u64
     ensures { result ≡ least_reply least }
 {
     match least {
         None => 0,
         Some(key) => key as u64 + 1,
+    }
+}
+
+/// What a put into a queue replies.
+fn put_reply(put: Put) -> u64
+    ensures { result ≡ put_reply put }
+{
+    match put {
+        Put::Added => 1,
+        Put::NoRoom => 2,
+    }
+}
+
+/// What a put into a map replies.
+fn map_put_reply(put: MapPut) -> u64
+    ensures { result ≡ map_put_reply put }
+{
+    match put {
+        MapPut::Added => 1,
+        MapPut::Replaced => 0,
+        MapPut::NoRoom => 2,
+    }
+}
+
+/// What the question for a value replies.
+fn value_reply(value: Option<u64>) -> u64
+    ensures { result ≡ value_reply value }
+{
+    match value {
+        None => 0,
+        Some(value) => value,
     }
 }
 
@@ -113,19 +157,25 @@ pub fn run_on_structure<A: Access>(acc: &mut A, regions: &Regions, op: Op) -> Re
     ensures keeps { A.keeps acc.old acc.new }
 {
     let reply = match op {
-        Op::Count(stripe, amount) => counter(regions).add(acc, stripe, amount)?,
-        Op::Total => counter(regions).total(acc)?,
-        Op::ListInsert(key) => insert_reply(list(regions).insert(acc, key)?),
-        Op::ListRemove(key) => bool_reply(list(regions).remove(acc, key)?),
-        Op::ListContains(key) => bool_reply(list(regions).contains(acc, key)?),
-        Op::ListLength => list(regions).len(acc)?,
-        Op::HashInsert(key) => insert_reply(hash(regions).insert(acc, key)?),
-        Op::HashRemove(key) => bool_reply(hash(regions).remove(acc, key)?),
-        Op::HashContains(key) => bool_reply(hash(regions).contains(acc, key)?),
-        Op::TreeInsert(key) => insert_reply(tree(regions).insert(acc, key)?),
-        Op::TreeRemove(key) => bool_reply(tree(regions).remove(acc, key)?),
-        Op::TreeContains(key) => bool_reply(tree(regions).contains(acc, key)?),
-        Op::TreeLeast => least_reply(tree(regions).min(acc)?),
+        Op::Count(r, stripe, amount) => counter(regions, r).add(acc, stripe, amount)?,
+        Op::Total(r) => counter(regions, r).total(acc)?,
+        Op::ListInsert(r, key) => insert_reply(list(regions, r).insert(acc, key)?),
+        Op::ListRemove(r, key) => bool_reply(list(regions, r).remove(acc, key)?),
+        Op::ListContains(r, key) => bool_reply(list(regions, r).contains(acc, key)?),
+        Op::ListLength(r) => list(regions, r).len(acc)?,
+        Op::HashInsert(r, key) => insert_reply(hash(regions, r).insert(acc, key)?),
+        Op::HashRemove(r, key) => bool_reply(hash(regions, r).remove(acc, key)?),
+        Op::HashContains(r, key) => bool_reply(hash(regions, r).contains(acc, key)?),
+        Op::TreeInsert(r, key) => insert_reply(tree(regions, r).insert(acc, key)?),
+        Op::TreeRemove(r, key) => bool_reply(tree(regions, r).remove(acc, key)?),
+        Op::TreeContains(r, key) => bool_reply(tree(regions, r).contains(acc, key)?),
+        Op::TreeLeast(r) => least_reply(tree(regions, r).min(acc)?),
+        Op::QueuePut(r, value) => put_reply(queue(regions, r).put(acc, value)?),
+        Op::QueueGet(r) => least_reply(queue(regions, r).get(acc)?),
+        Op::MapPut(r, key, value) => map_put_reply(sum_map(regions, r).put(acc, key, value)?),
+        Op::MapRemove(r, key) => bool_reply(sum_map(regions, r).remove(acc, key)?),
+        Op::MapGet(r, key) => value_reply(sum_map(regions, r).get(acc, key)?),
+        Op::MapSum(r, low, high) => sum_map(regions, r).sum(acc, low, high)?,
         _ => unreachable!(),
     };
     Ok(reply)

@@ -7,6 +7,7 @@ use std::marker::Model;
 use stm_model::alg::Alg;
 use stm_model::config::Config;
 use stm_model::memory::Memory;
+use stm_profile::policy::Policy;
 use tx_regions::region::Regions;
 
 /// The greatest number of items of a workload.
@@ -17,16 +18,35 @@ pub const MAX_OPS: usize = 4_096;
 pub const MAX_TURNS: u64 = 1_000_000;
 /// The greatest key.
 pub const MAX_KEY: u64 = 4_294_967_295;
-/// With structures on, the words from this one on are theirs.
+/// The greatest number of heap words in version 1.
+pub const MAX_WORDS_ONE: usize = 65_536;
+/// In version 1 with structures on, the words from this one on are theirs.
 pub const STRUCTS_BEGIN: usize = 64;
-/// The first word behind theirs, and so the least number of words that structures take.
+/// The first word behind theirs, and so the least number of words that structures take there.
 pub const STRUCTS_END: usize = 1_024;
-/// The stripes of the counter.
+/// The stripes of version 1's counter.
 pub const STRIPES: usize = 4;
+/// The greatest number of regions.
+pub const MAX_REGIONS: usize = 16;
+/// The greatest number of a counter's stripes.
+pub const MAX_STRIPES: u64 = 64;
+/// The greatest number of cells of any other structure.
+pub const MAX_CELLS: u64 = 4_096;
+
+/// The version of a workload's text.
+#[derive(Clone, Copy, Drop, Debug, PartialEq, Eq)]
+pub enum Version {
+    /// Up to 65,536 words, and four regions at fixed places or none.
+    One,
+    /// Up to 1,048,576 words, any regions, `reserve`, and a policy.
+    Two,
+}
 
 /// The sizes and the start of a memory.
-#[derive(Clone, Copy, Drop, Debug, PartialEq, Eq)]
+#[derive(Drop, Debug)]
 pub struct Header {
+    /// The version of the text that it is of.
+    pub version: Version,
     /// Words of the heap.
     pub words: usize,
     /// Ownership records.
@@ -42,8 +62,11 @@ pub struct Header {
     pub clock: u64,
     /// The algorithm at the start.
     pub alg: Alg,
-    /// Whether the words 64 to 1,023 are those of the four structures.
-    pub structs: bool,
+    /// The words of structures: in version 1 the four regions among the words 64 to 1,023 with structures on, and none
+    /// with them off.
+    pub regions: Regions,
+    /// When caller 0 changes the algorithm besides where the items say so; fixed in version 1.
+    pub policy: Policy,
 }
 
 impl Header {
@@ -67,28 +90,35 @@ impl Header {
         }
     }
 
-    /// The regions of the memory that the header asks for: the four of the structures where they are on, and none
-    /// where they are off.
+    /// The regions of the memory that the header asks for, once more.
     ///
     /// # Errors
     /// Memory, where it is refused.
     pub fn regions(&self, alloc: Global) -> Result<Regions, Memory>
         ensures { IfOk result (λ r. r ≡ regions_of self.now) }
     {
-        if self.structs {
-            let regions = Regions::version_one(alloc)?;
-            Ok(regions)
-        } else {
-            Ok(Regions::none(alloc))
-        }
+        let regions = self.regions.copy(alloc)?;
+        Ok(regions)
     }
 }
 
 /// One thing that a caller is to do.
 #[derive(Drop, Debug)]
 pub enum Item {
-    Tx { caller: usize, script: Script },
-    Switch { caller: usize, alg: Alg },
+    Tx {
+        caller: usize,
+        script: Script,
+    },
+    Switch {
+        caller: usize,
+        alg: Alg,
+    },
+    /// The caller's logs become so long, where they are shorter.
+    Reserve {
+        caller: usize,
+        reads: usize,
+        writes: usize,
+    },
 }
 
 /// What all callers are to do; each takes its own items in this order.

@@ -1,9 +1,13 @@
 pub mod OrderLaws
 pub mod ParseLaws
 mod PieceLaws
+pub mod HeaderLaws
 pub mod BuiltLaws
 pub mod ReportLaws
+mod OpTextLaws
+mod HeaderTextLaws
 pub mod TextLaws
+mod HeaderWrittenLaws
 pub mod WrittenLaws
 pub mod RegionLaws
 pub mod PartingLaws

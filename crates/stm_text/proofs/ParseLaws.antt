@@ -3,7 +3,7 @@ use Rattle.std.proofs.Common.{ℕ, ◌≡◌, ◌≢◌, ◌<◌, ◌+◌, List,
 use Rattle.std.specs.Prelude.{◌==◌, if◌then◌else◌}
 use Rattle.stm_script.specs.declared.workload.Workload.{Workload}
 use Rattle.stm_text.specs.declared.draft.Step.{Step}
-use Rattle.stm_text.specs.declared.draft.Step.TheVariants.{Head, Begin, Change, Add, End, Schedule, Turn, Done}
+use Rattle.stm_text.specs.declared.draft.Step.TheVariants.{Head, Count, Begin, Change, Lengthen, Add, End, Schedule, Turn, Done}
 use Rattle.stm_text.specs.declared.parse.Mode.{Mode}
 use Rattle.stm_text.specs.Lines.{Line, with_byte, lines_of, any_bad, Lacks}
 use Rattle.stm_text.specs.Drafts.{Writing, after}
@@ -20,8 +20,10 @@ parsed-first m d k s i r h at =
 -- what comes of a step other than `done`
 go_on-step : (step : Step) (d : Writing) (k : ℕ) (ls : List Line) (rest : Writing → Result Workload (ℕ × ℕ)) → step ≢ Done → go_on (Ok step) d k ls rest ≡ rest (after step d)
 go_on-step (Head p h) d k ls rest n = refl
+go_on-step (Count p m) d k ls rest n = refl
 go_on-step (Begin c) d k ls rest n = refl
 go_on-step (Change c a) d k ls rest n = refl
+go_on-step (Lengthen c r w) d k ls rest n = refl
 go_on-step (Add op) d k ls rest n = refl
 go_on-step Schedule d k ls rest n = refl
 go_on-step (Turn g t) d k ls rest n = refl

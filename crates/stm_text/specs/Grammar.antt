@@ -1,26 +1,40 @@
 -- The workload text: what may stand on a line, and the first fault.
-use Rattle.std.specs.Prelude.{MatchResult, ℕ, ◌≡◌, ◌+◌, Bool, true, false, ◌&&◌, List, [], ◌∷◌, length, leb, ltb, if◌then◌else◌, Option, Some, None, Result, Ok, Err, codes, bytes_eq}
+use Rattle.std.specs.Prelude.{MatchResult, ℕ, ◌≡◌, ◌+◌, Bool, true, false, ◌&&◌, not, List, [], ◌∷◌, length, leb, ltb, if◌then◌else◌, take, drop, Option, Some, None, Result, Ok, Err, codes, bytes_eq}
 use Rattle.stm_model.specs.declared.alg.Alg.{Alg}
 use Rattle.stm_model.specs.declared.alg.TheConstants.{ALGORITHMS}
-use Rattle.stm_model.specs.declared.config.TheConstants.{MAX_RECORDS, MIN_RING, MAX_RING, MAX_CALLERS, MAX_LOG, CLOCK_LIMIT}
+use Rattle.stm_model.specs.declared.config.TheConstants.{MAX_WORDS, MAX_RECORDS, MIN_RING, MAX_RING, MAX_CALLERS, MAX_LOG, CLOCK_LIMIT}
 use Rattle.stm_model.specs.Algorithms.{alg_name, is_built}
 use Rattle.stm_script.specs.declared.op.Op.{Op}
-use Rattle.stm_script.specs.declared.op.Op.TheVariants.{Read, Write, Add as Sum, Move, Emit, Irrev, Cancel, Count}
-use Rattle.stm_script.specs.declared.op.TheConstants.{KEYED, KEYLESS}
-use Rattle.stm_script.specs.Operations.{op_name, with_key}
+use Rattle.stm_script.specs.declared.op.Op.TheVariants.{Read, Write, Add as Sum, Move, Emit, Irrev, Cancel, Count as CountOn, MapPut, MapSum}
+use Rattle.stm_script.specs.declared.op.TheConstants.{COUNTER, KEYED, KEYLESS, PLACED_KEYED, PLACED_KEYLESS}
+use Rattle.stm_script.specs.Operations.{op_name, structure_in, with_key, with_region}
+use Rattle.stm_script.specs.Structures.{region_at}
 use Rattle.stm_script.specs.declared.workload.Header.{Header}
 use Rattle.stm_script.specs.declared.workload.Go.{Go}
 use Rattle.stm_script.specs.declared.workload.Workload.{Workload}
-use Rattle.stm_script.specs.declared.workload.TheConstants.{MAX_ITEMS, MAX_OPS, MAX_TURNS, MAX_KEY, STRUCTS_BEGIN, STRUCTS_END, STRIPES}
+use Rattle.stm_script.specs.declared.workload.TheConstants.{MAX_ITEMS, MAX_OPS, MAX_TURNS, MAX_KEY, MAX_WORDS_ONE, MAX_REGIONS, MAX_STRIPES, MAX_CELLS, STRUCTS_BEGIN, STRUCTS_END, STRIPES}
+use Rattle.stm_script.specs.declared.workload.Version.{Version}
+use Rattle.stm_script.specs.declared.workload.Version.TheVariants.{One, Two}
+use Rattle.stm_profile.specs.declared.policy.Policy.{Policy}
+use Rattle.stm_profile.specs.declared.policy.Policy.TheVariants as policies
+use Rattle.stm_profile.specs.declared.policy.TheConstants.{MOST_ROUND, MOST_STATE}
+use Rattle.tx_regions.specs.declared.region.Region.{Region}
+use Rattle.tx_regions.specs.declared.region.Region.TheVariants as kinds
+use Rattle.tx_regions.specs.declared.region.Structure.{Structure}
+use Rattle.tx_regions.specs.declared.region.Structure.TheVariants as structures
+use Rattle.tx_regions.specs.Regions.{start_of, size_of, is_outside, is_structure, structure_of, region_for}
+use Rattle.stm_text.specs.declared.table.TheConstants.{KINDS}
+use Rattle.stm_text.specs.declared.draft.Field.{Field}
+use Rattle.stm_text.specs.declared.draft.Field.TheVariants as fields
 use Rattle.stm_script.specs.Scripts.{has_irrev}
 use Rattle.stm_text.specs.declared.code.TheConstants.{LONG, BYTES, UNENDED, WORD, NUMBER, RANGE, ALG, REGION, ORDER, MANY, EXTRA}
 use Rattle.stm_text.specs.declared.draft.Place.{Place}
-use Rattle.stm_text.specs.declared.draft.Place.TheVariants.{Version, Words, Callers, Records, Ring, Reads, Writes, Clock, Algorithm, Structures, Items, Ops, Turns}
+use Rattle.stm_text.specs.declared.draft.Place.TheVariants.{Version as VersionLine, Words, Callers, Records, Ring, Reads, Writes, Clock, Algorithm, Structures, Regions, Region as RegionLine, Policy as PolicyLine, Items, Ops, Turns}
 use Rattle.stm_text.specs.declared.draft.Step.{Step}
-use Rattle.stm_text.specs.declared.draft.Step.TheVariants.{Head, Begin, Change, Add, End, Schedule, Turn, Done}
+use Rattle.stm_text.specs.declared.draft.Step.TheVariants.{Head, Count, Begin, Change, Lengthen, Add, End, Schedule, Turn, Done}
 use Rattle.stm_text.specs.declared.parse.Mode.{Mode}
 use Rattle.stm_text.specs.declared.parse.Mode.TheVariants.{Run, Step as Stepwise}
-use Rattle.stm_text.specs.declared.parse.TheConstants.{MAX_TEXT, MOST_WORDS}
+use Rattle.stm_text.specs.declared.parse.TheConstants.{MAX_TEXT}
 use Rattle.stm_text.specs.declared.parse.ParseError.{ParseError}
 use Rattle.stm_text.specs.declared.parse.ParseError.TheVariants.{Fault, Memory}
 use Rattle.stm_text.specs.Lines.{Line, lines_of, words_of, any_bad, number_of}
@@ -71,32 +85,106 @@ sized name low high w v = named name w (number low high v)
 abbrev pub switched : ℕ → List ℕ → Result Bool ℕ
 switched words v = if bytes_eq v (codes "off") then Ok false else named (codes "on") v (if leb STRUCTS_END words then Ok true else Err REGION)
 
--- THE HEADER, line by line: what a name and a value make of it
-abbrev pub header_line : Place → Header → List ℕ → List ℕ → Result Header ℕ
-header_line Version h w v = named (codes "stm") w (named (codes "1") v (Ok h))
-header_line Words h w v = sized (codes "words") 1 MOST_WORDS w v >>= λ n. Ok (record h { words = n })
-header_line Callers h w v = sized (codes "callers") 1 MAX_CALLERS w v >>= λ n. Ok (record h { callers = n })
-header_line Records h w v = sized (codes "records") 1 MAX_RECORDS w v >>= λ n. Ok (record h { records = n })
-header_line Ring h w v = sized (codes "ring") MIN_RING MAX_RING w v >>= λ n. Ok (record h { ring = n })
-header_line Reads h w v = sized (codes "reads") 1 MAX_LOG w v >>= λ n. Ok (record h { reads = n })
-header_line Writes h w v = sized (codes "writes") 1 MAX_LOG w v >>= λ n. Ok (record h { writes = n })
-header_line Clock h w v = sized (codes "clock") 0 CLOCK_LIMIT w v >>= λ n. Ok (record h { clock = n })
-header_line Algorithm h w v = named (codes "alg") w (algorithm v) >>= λ a. Ok (record h { alg = a })
-header_line Structures h w v = named (codes "structs") w (switched h.words v) >>= λ on. Ok (record h { structs = on })
+-- the version of a word
+abbrev pub version_of : List ℕ → Result Version ℕ
+version_of v = if bytes_eq v (codes "1") then Ok One else named (codes "2") v (Ok Two)
+
+-- the greatest number of words of a version
+abbrev pub most_words : Version → ℕ
+most_words One = MAX_WORDS_ONE
+most_words Two = MAX_WORDS
+
+-- the policy of a name with its colon, and of the number behind it
+abbrev pub numbered_policy : List ℕ → List ℕ → Result Policy ℕ
+numbered_policy name n =
+    if bytes_eq name (codes "round:") then number 1 MOST_ROUND n >>= (λ k. Ok (policies.Round k))
+    else named (codes "state:") name (number 1 MOST_STATE n >>= (λ k. Ok (policies.State k)))
+
+-- the policy of a word: both names that have a number are six bytes long, with their colon
+abbrev pub policy_of : List ℕ → Result Policy ℕ
+policy_of v =
+    if bytes_eq v (codes "fixed") then Ok policies.Fixed
+    else (if bytes_eq v (codes "expert") then Ok policies.Expert else numbered_policy (take 6 v) (drop 6 v))
+
+-- THE HEADER, line by line: what a name and a value give
+abbrev pub header_line : Place → Header → List ℕ → List ℕ → Result Field ℕ
+header_line VersionLine h w v = named (codes "stm") w (version_of v) >>= λ k. Ok (fields.Version k)
+header_line Words h w v = sized (codes "words") 1 (most_words h.version) w v >>= λ n. Ok (fields.Words n)
+header_line Callers h w v = sized (codes "callers") 1 MAX_CALLERS w v >>= λ n. Ok (fields.Callers n)
+header_line Records h w v = sized (codes "records") 1 MAX_RECORDS w v >>= λ n. Ok (fields.Records n)
+header_line Ring h w v = sized (codes "ring") MIN_RING MAX_RING w v >>= λ n. Ok (fields.Ring n)
+header_line Reads h w v = sized (codes "reads") 1 MAX_LOG w v >>= λ n. Ok (fields.Reads n)
+header_line Writes h w v = sized (codes "writes") 1 MAX_LOG w v >>= λ n. Ok (fields.Writes n)
+header_line Clock h w v = sized (codes "clock") 0 CLOCK_LIMIT w v >>= λ n. Ok (fields.Clock n)
+header_line Algorithm h w v = named (codes "alg") w (algorithm v) >>= λ a. Ok (fields.Algorithm a)
+header_line Structures h w v = named (codes "structs") w (switched h.words v) >>= λ on. Ok (fields.Structures on)
+header_line PolicyLine h w v = named (codes "policy") w (policy_of v) >>= λ p. Ok (fields.Policy p)
 header_line p h w v = Err WORD
 
+-- the line that follows that of the algorithm
+abbrev pub behind_algorithm : Version → Place
+behind_algorithm One = Structures
+behind_algorithm Two = Regions
+
 -- the line that follows one of the header
-abbrev pub next_line : Place → Place
-next_line Version = Words
-next_line Words = Callers
-next_line Callers = Records
-next_line Records = Ring
-next_line Ring = Reads
-next_line Reads = Writes
-next_line Writes = Clock
-next_line Clock = Algorithm
-next_line Algorithm = Structures
-next_line p = Items
+abbrev pub next_line : Version → Place → Place
+next_line v VersionLine = Words
+next_line v Words = Callers
+next_line v Callers = Records
+next_line v Records = Ring
+next_line v Ring = Reads
+next_line v Reads = Writes
+next_line v Writes = Clock
+next_line v Clock = Algorithm
+next_line v Algorithm = behind_algorithm v
+next_line v p = Items
+
+-- the line that comes where n regions of count are there
+abbrev pub next_region : ℕ → ℕ → Place
+next_region count n = if leb count n then PolicyLine else RegionLine
+
+-- the word of a structure
+abbrev pub kind_name : Structure → List ℕ
+kind_name structures.Counter = codes "counter"
+kind_name structures.List = codes "list"
+kind_name structures.Hash = codes "hash"
+kind_name structures.Tree = codes "tree"
+kind_name structures.Queue = codes "queue"
+kind_name structures.SumMap = codes "summap"
+
+-- of these structures the first one of this word
+abbrev pub kind_of : List Structure → List ℕ → Result Structure ℕ
+kind_of [] word = Err WORD
+kind_of (kind ∷ kinds) word = if bytes_eq word (kind_name kind) then Ok kind else kind_of kinds word
+
+-- the greatest number of its stripes or cells
+abbrev pub most_size : Structure → ℕ
+most_size structures.Counter = MAX_STRIPES
+most_size structures.List = MAX_CELLS
+most_size structures.Hash = MAX_CELLS
+most_size structures.Tree = MAX_CELLS
+most_size structures.Queue = MAX_CELLS
+most_size structures.SumMap = MAX_CELLS
+
+-- where the last of these regions ends
+abbrev pub end_of : List Region → ℕ
+end_of [] = 0
+end_of (r ∷ []) = start_of r + size_of r
+end_of (r ∷ s ∷ rs) = end_of (s ∷ rs)
+
+-- the region begins where the one above it ends, or later, and ends within so many words
+abbrev pub is_placed : List Region → ℕ → Region → Bool
+is_placed regions words r = leb (end_of regions) (start_of r) && leb (start_of r + size_of r) words
+
+-- a region in its place
+abbrev pub placed : Writing → Region → Result Step ℕ
+placed d r = if is_placed d.header.regions d.header.words r then Ok (Head (next_region d.count (length d.header.regions + 1)) (fields.Region r)) else Err REGION
+
+-- A REGION: both numbers of the form before the size is in range, and that before it has its place
+abbrev pub region_of : Writing → List ℕ → List ℕ → List ℕ → Result Step ℕ
+region_of d k a v =
+    kind_of KINDS k >>= λ kind. formed (number_of a) >>= λ at. formed (number_of v) >>= λ n.
+    ranged 1 (most_size kind) n >>= λ size. placed d (region_for kind at size)
 
 -- one more item
 abbrev pub one_item : Writing → Step → Result Step ℕ
@@ -108,6 +196,10 @@ begun d caller = one_item d (Begin caller)
 abbrev pub changed : Writing → ℕ → Alg → Result Step ℕ
 changed d caller alg = one_item d (Change caller alg)
 
+-- longer logs of a caller
+abbrev pub lengthened : Writing → ℕ → ℕ → ℕ → Result Step ℕ
+lengthened d caller reads writes = one_item d (Lengthen caller reads writes)
+
 -- one more operation
 abbrev pub added : Writing → Op → Result Step ℕ
 added d op = if ltb (length d.ops) MAX_OPS then Ok (Add op) else Err MANY
@@ -116,9 +208,18 @@ added d op = if ltb (length d.ops) MAX_OPS then Ok (Add op) else Err MANY
 abbrev pub emitted : Writing → ℕ → Result Step ℕ
 emitted d a = if has_irrev d.ops then added d (Emit a) else Err ORDER
 
--- one more operation on a structure, where they are on
+-- the region of this number is one of this structure
+abbrev pub has_region : List Region → Option (Structure × ℕ) → Bool
+has_region regions None = true
+has_region regions (Some s) = ltb s.1 (length regions) && is_structure s.0 (structure_of (region_at regions s.1))
+
+-- the region that the operation works on is one of its structure
+abbrev pub has_structure : List Region → Op → Bool
+has_structure regions op = has_region regions (structure_in op)
+
+-- one more operation on a structure, where its region is there
 abbrev pub structured : Writing → Op → Result Step ℕ
-structured d op = if d.header.structs then added d op else Err REGION
+structured d op = if has_structure d.header.regions op then added d op else Err REGION
 
 -- so many turns more
 abbrev pub planned : Writing → Go → Result Step ℕ
@@ -133,9 +234,22 @@ scheduled Stepwise = Ok Schedule
 abbrev pub caller_of : Writing → List ℕ → Result ℕ ℕ
 caller_of d v = formed (number_of v) >>= below d.header.callers
 
--- a plain address: with structures on, one that isn't theirs
+-- the address is in none of these regions
+abbrev pub is_plain : List Region → ℕ → Bool
+is_plain [] a = true
+is_plain (r ∷ rs) a = is_outside a r && is_plain rs a
+
+abbrev pub no_region : List Region → Bool
+no_region [] = true
+no_region (r ∷ rs) = false
+
+-- a plain address: in version 1 with structures on one that isn't theirs, in version 2 one of no region
+abbrev pub plain_in : Version → List Region → ℕ → Result ℕ ℕ
+plain_in One regions a = if not (no_region regions) && leb STRUCTS_BEGIN a && ltb a STRUCTS_END then Err REGION else Ok a
+plain_in Two regions a = if is_plain regions a then Ok a else Err REGION
+
 abbrev pub plain : Header → ℕ → Result ℕ ℕ
-plain h a = if h.structs && leb STRUCTS_BEGIN a && ltb a STRUCTS_END then Err REGION else Ok a
+plain h a = plain_in h.version h.regions a
 
 -- an address
 abbrev pub address : Writing → List ℕ → Result ℕ ℕ
@@ -153,7 +267,7 @@ move_of d a b v =
 
 -- a stripe and an amount, both of the form before the stripe is in range
 abbrev pub count_of : List ℕ → List ℕ → Result Op ℕ
-count_of a v = formed (number_of a) >>= λ i. formed (number_of v) >>= λ n. below STRIPES i >>= λ s. Ok (Count s n)
+count_of a v = formed (number_of a) >>= λ i. formed (number_of v) >>= λ n. below STRIPES i >>= λ s. Ok (CountOn COUNTER s n)
 
 -- of these operations the first one of this name
 abbrev pub op_of : List Op → List ℕ → Result Op ℕ
@@ -163,6 +277,59 @@ op_of (op ∷ ops) word = if bytes_eq word (op_name op) then Ok op else op_of op
 -- an operation on a key
 abbrev pub keyed : List ℕ → List ℕ → Result Op ℕ
 keyed w v = op_of KEYED w >>= λ op. number 0 MAX_KEY v >>= λ key. Ok (with_key key op)
+
+-- a region's number
+abbrev pub region_number : Writing → ℕ → Result ℕ ℕ
+region_number d n = below (length d.header.regions) n
+
+-- an operation on a structure that takes nothing, by its word alone: in version 1
+abbrev pub keyless : Version → Writing → List ℕ → Result Step ℕ
+keyless One d w = op_of KEYLESS w >>= structured d
+keyless Two d w = Err WORD
+
+-- an operation that takes a region alone
+abbrev pub placed_keyless : Writing → List ℕ → List ℕ → Result Step ℕ
+placed_keyless d w v = op_of PLACED_KEYLESS w >>= λ op. formed (number_of v) >>= region_number d >>= λ r. structured d (with_region r op)
+
+-- an operation that takes a region and a key, both of the form before either is in range
+abbrev pub placed_keyed : Writing → List ℕ → List ℕ → List ℕ → Result Step ℕ
+placed_keyed d w a v =
+    op_of PLACED_KEYED w >>= λ op. formed (number_of a) >>= λ i. formed (number_of v) >>= λ n.
+    region_number d i >>= λ r. ranged 0 MAX_KEY n >>= λ key. structured d (with_key key (with_region r op))
+
+-- a stripe of a region, which is to be a counter
+abbrev pub stripe_in : Region → ℕ → Result ℕ ℕ
+stripe_in (kinds.Counter c) n = below c.stripes n
+stripe_in (kinds.List l) n = Err REGION
+stripe_in (kinds.Hash h) n = Err REGION
+stripe_in (kinds.Tree t) n = Err REGION
+stripe_in (kinds.Queue q) n = Err REGION
+stripe_in (kinds.SumMap r) n = Err REGION
+
+abbrev pub stripe_of : List Region → ℕ → ℕ → Result ℕ ℕ
+stripe_of regions r n = if ltb r (length regions) then stripe_in (region_at regions r) n else Err REGION
+
+-- a region, a stripe and an amount; a region, a key and a value; a region and two keys: all of the form before any is in range
+abbrev pub placed_count : Writing → List ℕ → List ℕ → List ℕ → Result Step ℕ
+placed_count d a b v =
+    formed (number_of a) >>= λ i. formed (number_of b) >>= λ j. formed (number_of v) >>= λ n.
+    region_number d i >>= λ r. stripe_of d.header.regions r j >>= λ s. structured d (CountOn r s n)
+
+abbrev pub map_put_of : Writing → List ℕ → List ℕ → List ℕ → Result Step ℕ
+map_put_of d a b v =
+    formed (number_of a) >>= λ i. formed (number_of b) >>= λ j. formed (number_of v) >>= λ n.
+    region_number d i >>= λ r. ranged 0 MAX_KEY j >>= λ key. structured d (MapPut r key n)
+
+abbrev pub map_sum_of : Writing → List ℕ → List ℕ → List ℕ → Result Step ℕ
+map_sum_of d a b v =
+    formed (number_of a) >>= λ i. formed (number_of b) >>= λ j. formed (number_of v) >>= λ n.
+    region_number d i >>= λ r. ranged 0 MAX_KEY j >>= λ low. ranged 0 MAX_KEY n >>= λ high. structured d (MapSum r low high)
+
+-- a caller and the lengths of its logs, all of the form before any is in range
+abbrev pub reserve_of : Writing → List ℕ → List ℕ → List ℕ → Result Step ℕ
+reserve_of d a b v =
+    formed (number_of a) >>= λ i. formed (number_of b) >>= λ j. formed (number_of v) >>= λ n.
+    below d.header.callers i >>= λ c. ranged 1 MAX_LOG j >>= λ reads. ranged 1 MAX_LOG n >>= λ writes. lengthened d c reads writes
 
 -- a caller and its turns, both of the form before either is in range
 abbrev pub go_of : Writing → List ℕ → List ℕ → Result Go ℕ
@@ -176,32 +343,60 @@ one_word Items m d w = if bytes_eq w (codes "done") then Ok Done else named (cod
 one_word Ops m d w =
     if bytes_eq w (codes "irrev") then added d Irrev
     else (if bytes_eq w (codes "cancel") then added d Cancel
-    else (if bytes_eq w (codes "end") then Ok End else op_of KEYLESS w >>= structured d))
+    else (if bytes_eq w (codes "end") then Ok End else keyless d.header.version d w))
 one_word Turns m d w = named (codes "done") w (Ok Done)
 one_word p m d w = Err WORD
+
+-- an operation on a structure by two words
+abbrev pub pair_op : Version → Writing → List ℕ → List ℕ → Result Step ℕ
+pair_op One d w v = keyed w v >>= structured d
+pair_op Two d w v = placed_keyless d w v
+
+-- by three words
+abbrev pub triple_op : Version → Writing → List ℕ → List ℕ → List ℕ → Result Step ℕ
+triple_op One d w a v = named (codes "count") w (count_of a v >>= structured d)
+triple_op Two d w a v = placed_keyed d w a v
+
+-- by four words
+abbrev pub four_words_two : Writing → List ℕ → List ℕ → List ℕ → List ℕ → Result Step ℕ
+four_words_two d w a b v =
+    if bytes_eq w (codes "count") then placed_count d a b v
+    else (if bytes_eq w (codes "mput") then map_put_of d a b v else named (codes "msum") w (map_sum_of d a b v))
+
+abbrev pub quadruple_op : Version → Writing → List ℕ → List ℕ → List ℕ → List ℕ → Result Step ℕ
+quadruple_op One d w a b v = Err WORD
+quadruple_op Two d w a b v = four_words_two d w a b v
+
+-- an item of four words
+abbrev pub quadruple_item : Version → Writing → List ℕ → List ℕ → List ℕ → List ℕ → Result Step ℕ
+quadruple_item One d w a b v = Err WORD
+quadruple_item Two d w a b v = named (codes "reserve") w (reserve_of d a b v)
 
 -- LINES OF TWO WORDS
 abbrev pub two_words : Place → Mode → Writing → List ℕ → List ℕ → Result Step ℕ
 two_words Items m d w v = named (codes "tx") w (caller_of d v >>= begun d)
 two_words Ops m d w v =
     if bytes_eq w (codes "read") then address d v >>= (λ a. added d (Read a))
-    else (if bytes_eq w (codes "emit") then address d v >>= emitted d else keyed w v >>= structured d)
+    else (if bytes_eq w (codes "emit") then address d v >>= emitted d else pair_op d.header.version d w v)
 two_words Turns m d w v = Err WORD
-two_words p m d w v = header_line p d.header w v >>= λ h. Ok (Head (next_line p) h)
+two_words Regions m d w v = sized (codes "regions") 0 MAX_REGIONS w v >>= λ n. Ok (Count (next_region n 0) n)
+two_words p m d w v = header_line p d.header w v >>= λ field. Ok (Head (next_line d.header.version p) field)
 
 -- LINES OF THREE WORDS
 abbrev pub three_words : Place → Writing → List ℕ → List ℕ → List ℕ → Result Step ℕ
 three_words Ops d w a v =
     if bytes_eq w (codes "write") then operands d a v >>= (λ p. added d (Write p.0 p.1))
     else (if bytes_eq w (codes "add") then operands d a v >>= (λ p. added d (Sum p.0 p.1))
-    else named (codes "count") w (count_of a v >>= structured d))
+    else triple_op d.header.version d w a v)
 three_words Items d w a v = named (codes "switch") w (caller_of d a >>= λ c. algorithm v >>= λ alg. changed d c alg)
 three_words Turns d w a v = named (codes "go") w (go_of d a v >>= planned d)
 three_words p d w a v = Err WORD
 
 -- LINES OF FOUR WORDS
 abbrev pub four_words : Place → Writing → List ℕ → List ℕ → List ℕ → List ℕ → Result Step ℕ
-four_words Ops d w a b v = named (codes "move") w (move_of d a b v >>= added d)
+four_words Ops d w a b v = if bytes_eq w (codes "move") then move_of d a b v >>= added d else quadruple_op d.header.version d w a b v
+four_words Items d w a b v = quadruple_item d.header.version d w a b v
+four_words RegionLine d w a b v = named (codes "region") w (region_of d a b v)
 four_words p d w a b v = Err WORD
 
 -- what a line leads to where this word of it isn't empty: a space too many makes an empty word

@@ -14,8 +14,9 @@ pub const NUMBER: u32 = 5;
 pub const RANGE: u32 = 6;
 /// No such algorithm, or one that isn't built.
 pub const ALG: u32 = 7;
-/// Structures on with fewer than 1,024 words; with them on, a plain address among their words; with them off, an
-/// operation on one.
+/// In version 1: structures on with fewer than 1,024 words; with them on, a plain address among their words; with them
+/// off, an operation on one. In version 2: a region that ends behind the heap or begins before the one above it ends; a
+/// plain address in a region; an operation whose region is for another structure.
 pub const REGION: u32 = 8;
 /// An `emit` without an earlier `irrev` in its transaction.
 pub const ORDER: u32 = 9;

@@ -1,8 +1,8 @@
 //! A workload as far as it is read.
-ghost use Rattle.std.specs.Prelude.{◌≡◌, OnOk};
-ghost use Rattle.stm_text.specs.Drafts.{after, opening};
+ghost use Rattle.std.specs.Prelude.{◌≡◌, IfOk, OnOk};
+ghost use Rattle.stm_text.specs.Drafts.{after, opening, with_field, regions_where};
 ghost use Rattle.stm_text.specs.declared.draft.Step.TheVariants.{End};
-ghost use Rattle.stm_text.specs.Grammar.{one_item, begun, changed, added, emitted, structured, planned};
+ghost use Rattle.stm_text.specs.Grammar.{one_item, begun, changed, lengthened, added, emitted, has_structure, structured, next_region, planned};
 
 use crate::code;
 use smallvec::SmallVec;
@@ -10,9 +10,13 @@ use std::alloc::{AllocError, Global};
 use std::marker::Model;
 use std::mem;
 use stm_model::alg::Alg;
+use stm_profile::policy::Policy;
 use stm_script::lists::Script;
 use stm_script::op::Op;
-use stm_script::workload::{Go, Gos, Header, Item, Items, MAX_ITEMS, MAX_OPS, MAX_TURNS, Workload};
+use stm_script::workload::{
+    Go, Gos, Header, Item, Items, MAX_ITEMS, MAX_OPS, MAX_TURNS, Version, Workload,
+};
+use tx_regions::region::{Region, Regions};
 
 /// The line that comes next.
 #[derive(Clone, Copy, Drop)]
@@ -26,8 +30,15 @@ pub enum Place {
     Writes,
     Clock,
     Algorithm,
+    /// `structs`, the last line of the header in version 1.
     Structures,
-    /// `tx`, `switch`, `schedule` or `done`.
+    /// `regions`, which says how many regions there are.
+    Regions,
+    /// A region.
+    Region,
+    /// `policy`, the last line of the header in version 2.
+    Policy,
+    /// `tx`, `switch`, `reserve`, `schedule` or `done`.
     Items,
     /// An operation or `end`.
     Ops,
@@ -35,15 +46,38 @@ pub enum Place {
     Turns,
 }
 
+/// What a line of the header gives.
+#[derive(Clone, Copy, Drop)]
+pub enum Field {
+    Version(Version),
+    Words(usize),
+    Callers(usize),
+    Records(usize),
+    Ring(usize),
+    Reads(usize),
+    Writes(usize),
+    Clock(u64),
+    Algorithm(Alg),
+    /// Whether structures are on.
+    Structures(bool),
+    /// One more region.
+    Region(Region),
+    Policy(Policy),
+}
+
 /// What a line does.
 #[derive(Clone, Copy, Drop)]
 pub enum Step {
-    /// A line of the header: the line that comes next, and the header then.
-    Head(Place, Header),
+    /// A line of the header: the line that comes next, and what it gives.
+    Head(Place, Field),
+    /// `regions`: the line that comes next, and how many regions there are.
+    Count(Place, usize),
     /// `tx` of this caller.
     Begin(usize),
     /// `switch` of this caller to this algorithm.
     Change(usize, Alg),
+    /// `reserve` of this caller: the lengths of its logs.
+    Lengthen(usize, usize, usize),
     Add(Op),
     End,
     Schedule,
@@ -57,6 +91,8 @@ pub enum Step {
 pub struct Draft {
     place: Place,
     header: Header,
+    // how many regions the header has
+    count: usize,
     items: Vec<Item>,
     caller: usize,
     ops: SmallVec<Op, 1>,
@@ -73,9 +109,65 @@ impl Model for Draft {
 
     ghost Value = { Writing };
 
-    ghost view = { λ d. record { place = d.place; header = d.header; items = d.items.items; caller = d.caller; ops = d.ops.items; schedule = d.schedule.items; turns = d.turns } };
+    ghost view = { λ d. record { place = d.place; header = d.header; count = d.count; items = d.items.items; caller = d.caller; ops = d.ops.items; schedule = d.schedule.items; turns = d.turns } };
 
     ghost invariant = { λ d. d.asked ≡ has_irrev d.ops.items };
+}
+
+/// The line of the header that comes where there are `regions` of `count`.
+pub fn next_region(count: usize, regions: usize) -> Place
+    ensures { result ≡ next_region count regions }
+{
+    if count <= regions {
+        Place::Policy
+    } else {
+        Place::Region
+    }
+}
+
+/// Whether the region that the operation works on is one of its structure's.
+fn has_structure(regions: &[Region], op: Op) -> bool
+    ensures { result ≡ has_structure regions.now op }
+{
+    match op.structure() {
+        None => true,
+        Some((structure, number)) => match regions.get(number) {
+            None => false,
+            Some(region) => structure.is(region.structure()),
+        },
+    }
+}
+
+/// Gives the header what a line says. Memory may be refused.
+fn give(header: &mut Header, alloc: Global, field: Field) -> Result<(), AllocError>
+    ensures { OnOk result (header.new ≡ with_field field header.old) }
+{
+    match field {
+        Field::Version(version) => header.version = version,
+        Field::Words(words) => header.words = words,
+        Field::Callers(callers) => header.callers = callers,
+        Field::Records(records) => header.records = records,
+        Field::Ring(ring) => header.ring = ring,
+        Field::Reads(reads) => header.reads = reads,
+        Field::Writes(writes) => header.writes = writes,
+        Field::Clock(clock) => header.clock = clock,
+        Field::Algorithm(alg) => header.alg = alg,
+        Field::Structures(on) => header.regions = regions_where(alloc, on)?,
+        Field::Region(region) => header.regions.push(region)?,
+        Field::Policy(policy) => header.policy = policy,
+    }
+    Ok(())
+}
+
+/// The four regions of version 1 where structures are on, and none where they are off. Memory may be refused.
+fn regions_where(alloc: Global, on: bool) -> Result<Regions, AllocError>
+    ensures { IfOk result (λ r. r ≡ regions_where on) }
+{
+    if on {
+        Regions::version_one(alloc)
+    } else {
+        Ok(Regions::none(alloc))
+    }
 }
 
 impl Draft {
@@ -86,6 +178,7 @@ impl Draft {
         Draft {
             place: Place::Version,
             header: Header {
+                version: Version::One,
                 words: 1,
                 records: 1,
                 ring: 2,
@@ -94,8 +187,10 @@ impl Draft {
                 writes: 1,
                 clock: 0,
                 alg: Alg::Cgl,
-                structs: false,
+                regions: Regions::none(alloc),
+                policy: Policy::Fixed,
             },
+            count: 0,
             items: Vec::new(alloc),
             caller: 0,
             ops: SmallVec::new(alloc),
@@ -111,10 +206,17 @@ impl Draft {
         self.place
     }
 
-    pub fn header(&self) -> Header
-        ensures { result ≡ self.now.header }
+    pub fn header(&self) -> &Header
+        ensures { result.now ≡ self.now.header }
     {
-        self.header
+        &self.header
+    }
+
+    /// The line of the header that comes once there are so many regions.
+    pub fn next_region(&self, regions: usize) -> Place
+        ensures { result ≡ next_region self.now.count regions }
+    {
+        next_region(self.count, regions)
     }
 
     /// One more item, where it isn't one too many.
@@ -142,6 +244,13 @@ impl Draft {
         self.one_item(Step::Change(caller, alg))
     }
 
+    /// Longer logs, where it isn't one item too many.
+    pub fn lengthened(&self, caller: usize, reads: usize, writes: usize) -> Result<Step, u32>
+        ensures { result ≡ lengthened self.now caller reads writes }
+    {
+        self.one_item(Step::Lengthen(caller, reads, writes))
+    }
+
     /// One more operation, where it isn't one too many.
     pub fn added(&self, op: Op) -> Result<Step, u32>
         ensures { result ≡ added self.now op }
@@ -164,11 +273,11 @@ impl Draft {
         }
     }
 
-    /// One more operation on a structure, where they are on and it isn't one operation too many.
+    /// One more operation on a structure, where its region is of that kind and it isn't one operation too many.
     pub fn structured(&self, op: Op) -> Result<Step, u32>
         ensures { result ≡ structured self.now op }
     {
-        if self.header.structs {
+        if has_structure(self.header.regions.as_slice(), op) {
             self.added(op)
         } else {
             Err(code::REGION)
@@ -192,9 +301,14 @@ impl Draft {
         ensures { OnOk result (self.new ≡ after step self.old) }
     {
         match step {
-            Step::Head(place, header) => {
+            Step::Head(place, field) => {
+                give(&mut self.header, alloc, field)?;
                 self.place = place;
-                self.header = header;
+                Ok(())
+            }
+            Step::Count(place, count) => {
+                self.place = place;
+                self.count = count;
                 Ok(())
             }
             Step::Begin(caller) => {
@@ -204,6 +318,14 @@ impl Draft {
             }
             Step::Change(caller, alg) => {
                 self.items.push(Item::Switch { caller, alg })?;
+                Ok(())
+            }
+            Step::Lengthen(caller, reads, writes) => {
+                self.items.push(Item::Reserve {
+                    caller,
+                    reads,
+                    writes,
+                })?;
                 Ok(())
             }
             Step::Add(op) => {
@@ -246,6 +368,7 @@ impl Draft {
         let Draft {
             place: _,
             header,
+            count: _,
             items,
             caller: _,
             ops: _,

@@ -46,8 +46,6 @@ impl From<AllocError> for ParseError {
 
 /// The greatest number of bytes of a text.
 pub const MAX_TEXT: usize = 16_777_216;
-/// The greatest number of heap words that a text asks for.
-pub const MOST_WORDS: usize = 65_536;
 
 /// The workload of a text, or its first fault. The text is gone through line by line, once.
 pub fn parse(alloc: Global, bytes: &[u8], mode: Mode) -> Result<Workload, ParseError>

@@ -1,15 +1,32 @@
 //! What may stand on a line: the table of the grammar, row by row.
-ghost use Rattle.std.specs.Prelude.{◌≡◌, true, Ok, Err, codes};
-ghost use Rattle.stm_text.specs.Grammar.{algorithm_of, algorithm, ranged, sized, header_line, next_line, below, formed, named, scheduled, switched, plain, caller_of, address, operands, move_of, count_of, op_of, keyed, go_of, one_word, two_words, three_words, four_words, filled, by_words, step_of};
+ghost use Rattle.std.specs.Prelude.{◌≡◌, true, Ok, Err, codes, take, drop, leb};
+ghost use Rattle.stm_text.specs.Grammar.{algorithm_of, algorithm, version_of, most_words, policy_of, numbered_policy, kind_of, kind_name, most_size, end_of, is_placed, region_of, ranged, sized, header_line, next_line, below, formed, named, scheduled, switched, is_plain, plain, caller_of, address, operands, move_of, count_of, stripe_of, placed_count, map_put_of, map_sum_of, reserve_of, op_of, keyed, keyless, placed_keyless, placed_keyed, go_of, one_word, two_words, three_words, four_words, four_words_two, filled, by_words, step_of};
 ghost use Rattle.stm_text.specs.Lines.{number_of, words_of, Line};
 
-use crate::draft::{Draft, Place, Step};
-use crate::parse::{MOST_WORDS, Mode};
+use crate::draft::{Draft, Field, Place, Step, next_region};
+use crate::parse::Mode;
 use crate::{code, lines};
 use stm_model::alg::{ALGORITHMS, Alg};
-use stm_model::config::{CLOCK_LIMIT, MAX_CALLERS, MAX_LOG, MAX_RECORDS, MAX_RING, MIN_RING};
-use stm_script::op::{KEYED, KEYLESS, Op};
-use stm_script::workload::{Go, Header, MAX_KEY, MAX_TURNS, STRIPES, STRUCTS_BEGIN, STRUCTS_END};
+use stm_model::config::{
+    CLOCK_LIMIT, MAX_CALLERS, MAX_LOG, MAX_RECORDS, MAX_RING, MAX_WORDS, MIN_RING,
+};
+use stm_profile::policy::{MOST_ROUND, MOST_STATE, Policy};
+use stm_script::op::{COUNTER, KEYED, KEYLESS, Op, PLACED_KEYED, PLACED_KEYLESS};
+use stm_script::workload::{
+    Go, Header, MAX_CELLS, MAX_KEY, MAX_REGIONS, MAX_STRIPES, MAX_TURNS, MAX_WORDS_ONE, STRIPES,
+    STRUCTS_BEGIN, STRUCTS_END, Version,
+};
+use tx_regions::region::{Region, Structure};
+
+/// The structures that a region may be for.
+const KINDS: [Structure; 6] = [
+    Structure::Counter,
+    Structure::List,
+    Structure::Hash,
+    Structure::Tree,
+    Structure::Queue,
+    Structure::SumMap,
+];
 
 /// A word that is a number.
 fn formed(word: &[u8]) -> Result<u64, u32>
@@ -50,14 +67,37 @@ fn sized(name: &[u8], low: u64, high: u64, w: &[u8], v: &[u8]) -> Result<u64, u3
     ranged(low, high, formed(v)?)
 }
 
-/// A name and a word that stand as they are written.
-fn fixed(name: &[u8], word: &[u8], w: &[u8], v: &[u8]) -> Result<(), u32>
-    ensures { result ≡ named name.now w.now (named word.now v.now (Ok tt)) }
+/// The version that a word names.
+fn version_of(word: &[u8]) -> Result<Version, u32>
+    ensures { result ≡ version_of word.now }
 {
-    if lines::is(w, name) && lines::is(v, word) {
-        Ok(())
+    if lines::is(word, b"1") {
+        return Ok(Version::One);
+    }
+    if lines::is(word, b"2") {
+        return Ok(Version::Two);
+    }
+    Err(code::WORD)
+}
+
+/// A line that names the version.
+fn first_line(w: &[u8], v: &[u8]) -> Result<Version, u32>
+    ensures { result ≡ named (codes "stm") w.now (version_of v.now) }
+{
+    if lines::is(w, b"stm") {
+        version_of(v)
     } else {
         Err(code::WORD)
+    }
+}
+
+/// The greatest number of words of a version.
+fn most_words(version: Version) -> u64
+    ensures { result ≡ most_words version }
+{
+    match version {
+        Version::One => MAX_WORDS_ONE as u64,
+        Version::Two => MAX_WORDS as u64,
     }
 }
 
@@ -111,30 +151,162 @@ fn structures(words: usize, w: &[u8], v: &[u8]) -> Result<bool, u32>
     }
 }
 
-/// A line of the header: the header then.
-fn header_line(place: Place, h: Header, w: &[u8], v: &[u8]) -> Result<Header, u32>
-    ensures { result ≡ header_line place h w.now v.now }
+/// A word, parted behind its first six bytes: the name of a policy with its colon, and its number.
+fn parted(word: &[u8]) -> (&[u8], &[u8])
+    ensures name { result.0.now ≡ take 6 word.now }
+    ensures number { result.1.now ≡ drop 6 word.now }
 {
-    let mut next = h;
-    match place {
-        Place::Version => fixed(b"stm", b"1", w, v)?,
-        Place::Words => next.words = sized(b"words", 1, MOST_WORDS as u64, w, v)? as usize,
-        Place::Callers => next.callers = sized(b"callers", 1, MAX_CALLERS as u64, w, v)? as usize,
-        Place::Records => next.records = sized(b"records", 1, MAX_RECORDS as u64, w, v)? as usize,
-        Place::Ring => next.ring = sized(b"ring", MIN_RING as u64, MAX_RING as u64, w, v)? as usize,
-        Place::Reads => next.reads = sized(b"reads", 1, MAX_LOG as u64, w, v)? as usize,
-        Place::Writes => next.writes = sized(b"writes", 1, MAX_LOG as u64, w, v)? as usize,
-        Place::Clock => next.clock = sized(b"clock", 0, CLOCK_LIMIT, w, v)?,
-        Place::Algorithm => next.alg = first_algorithm(w, v)?,
-        Place::Structures => next.structs = structures(h.words, w, v)?,
-        Place::Items | Place::Ops | Place::Turns => return Err(code::WORD),
+    if word.len() < 6 {
+        (word, &word[word.len()..])
+    } else {
+        (&word[..6], &word[6..])
     }
-    Ok(next)
+}
+
+/// The policy of a name with its colon, and of the number behind it.
+fn numbered_policy(name: &[u8], number: &[u8]) -> Result<Policy, u32>
+    ensures { result ≡ numbered_policy name.now number.now }
+{
+    if lines::is(name, b"round:") {
+        let n = ranged(1, MOST_ROUND as u64, formed(number)?)?;
+        return Ok(Policy::Round(n as u32));
+    }
+    if lines::is(name, b"state:") {
+        let n = ranged(1, MOST_STATE as u64, formed(number)?)?;
+        return Ok(Policy::State(n as u32));
+    }
+    Err(code::WORD)
+}
+
+/// The policy of a word.
+fn policy_of(word: &[u8]) -> Result<Policy, u32>
+    ensures { result ≡ policy_of word.now }
+{
+    if lines::is(word, b"fixed") {
+        return Ok(Policy::Fixed);
+    }
+    if lines::is(word, b"expert") {
+        return Ok(Policy::Expert);
+    }
+    let (name, number) = parted(word);
+    numbered_policy(name, number)
+}
+
+/// A line that names the policy.
+fn policy(w: &[u8], v: &[u8]) -> Result<Policy, u32>
+    ensures { result ≡ named (codes "policy") w.now (policy_of v.now) }
+{
+    if lines::is(w, b"policy") {
+        policy_of(v)
+    } else {
+        Err(code::WORD)
+    }
+}
+
+/// The word of a structure, as `region` lines have it.
+fn kind_name(kind: Structure) -> &'static str
+    ensures { result.now ≡ kind_name kind }
+{
+    match kind {
+        Structure::Counter => "counter",
+        Structure::List => "list",
+        Structure::Hash => "hash",
+        Structure::Tree => "tree",
+        Structure::Queue => "queue",
+        Structure::SumMap => "summap",
+    }
+}
+
+/// Of these structures the first one of this word.
+fn kind_of(kinds: &[Structure], word: &[u8]) -> Result<Structure, u32>
+    ensures { result ≡ kind_of kinds.now word.now }
+{
+    for kind in kinds {
+        if lines::is(word, kind_name(*kind).as_bytes()) {
+            return Ok(*kind);
+        }
+    }
+    Err(code::WORD)
+}
+
+/// The greatest number of a structure's stripes or cells.
+fn most_size(kind: Structure) -> u64
+    ensures { result ≡ most_size kind }
+{
+    match kind {
+        Structure::Counter => MAX_STRIPES,
+        Structure::List
+        | Structure::Hash
+        | Structure::Tree
+        | Structure::Queue
+        | Structure::SumMap => MAX_CELLS,
+    }
+}
+
+/// Whether the last of the regions ends at the address or before it.
+fn end_by(regions: &[Region], a: usize) -> bool
+    ensures { result ≡ leb (end_of regions.now) a }
+{
+    match regions.last() {
+        None => true,
+        Some(last) => last.ends_by(a),
+    }
+}
+
+/// Whether the region begins where the one above it ends or later, and ends within so many words.
+fn is_placed(regions: &[Region], words: usize, region: Region) -> bool
+    ensures { result ≡ is_placed regions.now words region }
+{
+    end_by(regions, region.start()) && region.ends_by(words)
+}
+
+/// A region: its word, its first word and its size of the form before the size is in range, and that before it has
+/// its place.
+fn region_of(draft: &Draft, k: &[u8], a: &[u8], v: &[u8]) -> Result<Step, u32>
+    ensures { result ≡ region_of draft.now k.now a.now v.now }
+{
+    let header = draft.header();
+    let kind = kind_of(&KINDS, k)?;
+    let start = formed(a)?;
+    let size = formed(v)?;
+    let size = ranged(1, most_size(kind), size)?;
+    let region = Region::new(kind, start as usize, size as usize);
+    let regions = header.regions.as_slice();
+    if !is_placed(regions, header.words, region) {
+        return Err(code::REGION);
+    }
+    let next = draft.next_region(regions.len() + 1);
+    Ok(Step::Head(next, Field::Region(region)))
+}
+
+/// A line of the header: what it gives.
+fn header_line(place: Place, h: &Header, w: &[u8], v: &[u8]) -> Result<Field, u32>
+    ensures { result ≡ header_line place h.now w.now v.now }
+{
+    let field = match place {
+        Place::Version => Field::Version(first_line(w, v)?),
+        Place::Words => Field::Words(sized(b"words", 1, most_words(h.version), w, v)? as usize),
+        Place::Callers => Field::Callers(sized(b"callers", 1, MAX_CALLERS as u64, w, v)? as usize),
+        Place::Records => Field::Records(sized(b"records", 1, MAX_RECORDS as u64, w, v)? as usize),
+        Place::Ring => {
+            Field::Ring(sized(b"ring", MIN_RING as u64, MAX_RING as u64, w, v)? as usize)
+        }
+        Place::Reads => Field::Reads(sized(b"reads", 1, MAX_LOG as u64, w, v)? as usize),
+        Place::Writes => Field::Writes(sized(b"writes", 1, MAX_LOG as u64, w, v)? as usize),
+        Place::Clock => Field::Clock(sized(b"clock", 0, CLOCK_LIMIT, w, v)?),
+        Place::Algorithm => Field::Algorithm(first_algorithm(w, v)?),
+        Place::Structures => Field::Structures(structures(h.words, w, v)?),
+        Place::Policy => Field::Policy(policy(w, v)?),
+        Place::Regions | Place::Region | Place::Items | Place::Ops | Place::Turns => {
+            return Err(code::WORD);
+        }
+    };
+    Ok(field)
 }
 
 /// The line that follows one of the header.
-fn next_line(place: Place) -> Place
-    ensures { result ≡ next_line place }
+fn next_line(version: Version, place: Place) -> Place
+    ensures { result ≡ next_line version place }
 {
     match place {
         Place::Version => Place::Words,
@@ -145,8 +317,17 @@ fn next_line(place: Place) -> Place
         Place::Reads => Place::Writes,
         Place::Writes => Place::Clock,
         Place::Clock => Place::Algorithm,
-        Place::Algorithm => Place::Structures,
-        Place::Structures | Place::Items | Place::Ops | Place::Turns => Place::Items,
+        Place::Algorithm => match version {
+            Version::One => Place::Structures,
+            Version::Two => Place::Regions,
+        },
+        Place::Structures
+        | Place::Regions
+        | Place::Region
+        | Place::Policy
+        | Place::Items
+        | Place::Ops
+        | Place::Turns => Place::Items,
     }
 }
 
@@ -157,14 +338,38 @@ fn caller_of(draft: &Draft, word: &[u8]) -> Result<usize, u32>
     below(draft.header().callers, formed(word)?)
 }
 
-/// A plain address: with structures on, one that isn't theirs.
-fn plain(header: Header, a: usize) -> Result<usize, u32>
-    ensures { result ≡ plain header a }
+/// Whether the address is in no region.
+fn is_plain(regions: &[Region], a: usize) -> bool
+    ensures { result ≡ is_plain regions.now a }
 {
-    if header.structs && STRUCTS_BEGIN <= a && a < STRUCTS_END {
-        Err(code::REGION)
-    } else {
-        Ok(a)
+    for region in regions {
+        if region.has(a) {
+            return false;
+        }
+    }
+    true
+}
+
+/// A plain address: with structures on in version 1 one that isn't theirs, in version 2 one of no region.
+fn plain(header: &Header, a: usize) -> Result<usize, u32>
+    ensures { result ≡ plain header.now a }
+{
+    let regions = header.regions.as_slice();
+    match header.version {
+        Version::One => {
+            if !regions.is_empty() && STRUCTS_BEGIN <= a && a < STRUCTS_END {
+                Err(code::REGION)
+            } else {
+                Ok(a)
+            }
+        }
+        Version::Two => {
+            if is_plain(regions, a) {
+                Ok(a)
+            } else {
+                Err(code::REGION)
+            }
+        }
     }
 }
 
@@ -207,7 +412,7 @@ fn count_of(a: &[u8], v: &[u8]) -> Result<Op, u32>
 {
     let number = formed(a)?;
     let amount = formed(v)?;
-    Ok(Op::Count(below(STRIPES, number)?, amount))
+    Ok(Op::Count(COUNTER, below(STRIPES, number)?, amount))
 }
 
 /// Of these operations the first one of this name.
@@ -229,6 +434,98 @@ fn keyed(w: &[u8], v: &[u8]) -> Result<Op, u32>
     let op = op_of(&KEYED, w)?;
     let key = ranged(0, MAX_KEY, formed(v)?)?;
     Ok(op.with_key(key as u32))
+}
+
+/// An operation on a structure that takes nothing, by its word alone: in version 1.
+fn keyless(draft: &Draft, w: &[u8]) -> Result<Step, u32>
+    ensures { result ≡ keyless draft.now.header.version draft.now w.now }
+{
+    match draft.header().version {
+        Version::One => draft.structured(op_of(&KEYLESS, w)?),
+        Version::Two => Err(code::WORD),
+    }
+}
+
+/// An operation that takes a region alone.
+fn placed_keyless(draft: &Draft, w: &[u8], v: &[u8]) -> Result<Step, u32>
+    ensures { result ≡ placed_keyless draft.now w.now v.now }
+{
+    let op = op_of(&PLACED_KEYLESS, w)?;
+    let region = below(draft.header().regions.as_slice().len(), formed(v)?)?;
+    draft.structured(op.with_region(region))
+}
+
+/// An operation that takes a region and a key, both of the form before either is in range.
+fn placed_keyed(draft: &Draft, w: &[u8], a: &[u8], v: &[u8]) -> Result<Step, u32>
+    ensures { result ≡ placed_keyed draft.now w.now a.now v.now }
+{
+    let op = op_of(&PLACED_KEYED, w)?;
+    let number = formed(a)?;
+    let key = formed(v)?;
+    let region = below(draft.header().regions.as_slice().len(), number)?;
+    let key = ranged(0, MAX_KEY, key)?;
+    draft.structured(op.with_region(region).with_key(key as u32))
+}
+
+/// A stripe of a region, which is to be a counter.
+fn stripe_of(regions: &[Region], region: usize, stripe: u64) -> Result<usize, u32>
+    ensures { result ≡ stripe_of regions.now region stripe }
+{
+    match regions.get(region) {
+        Some(Region::Counter(counter)) => below(counter.stripes, stripe),
+        _ => Err(code::REGION),
+    }
+}
+
+/// A region, a stripe and an amount, all of the form before the region and the stripe are in range.
+fn placed_count(draft: &Draft, a: &[u8], b: &[u8], v: &[u8]) -> Result<Step, u32>
+    ensures { result ≡ placed_count draft.now a.now b.now v.now }
+{
+    let number = formed(a)?;
+    let stripe = formed(b)?;
+    let amount = formed(v)?;
+    let regions = draft.header().regions.as_slice();
+    let region = below(regions.len(), number)?;
+    let stripe = stripe_of(regions, region, stripe)?;
+    draft.structured(Op::Count(region, stripe, amount))
+}
+
+/// A region, a key and a value, all of the form before the region and the key are in range.
+fn map_put_of(draft: &Draft, a: &[u8], b: &[u8], v: &[u8]) -> Result<Step, u32>
+    ensures { result ≡ map_put_of draft.now a.now b.now v.now }
+{
+    let number = formed(a)?;
+    let key = formed(b)?;
+    let value = formed(v)?;
+    let region = below(draft.header().regions.as_slice().len(), number)?;
+    let key = ranged(0, MAX_KEY, key)?;
+    draft.structured(Op::MapPut(region, key as u32, value))
+}
+
+/// A region and two keys, all of the form before any is in range.
+fn map_sum_of(draft: &Draft, a: &[u8], b: &[u8], v: &[u8]) -> Result<Step, u32>
+    ensures { result ≡ map_sum_of draft.now a.now b.now v.now }
+{
+    let number = formed(a)?;
+    let low = formed(b)?;
+    let high = formed(v)?;
+    let region = below(draft.header().regions.as_slice().len(), number)?;
+    let low = ranged(0, MAX_KEY, low)?;
+    let high = ranged(0, MAX_KEY, high)?;
+    draft.structured(Op::MapSum(region, low as u32, high as u32))
+}
+
+/// A caller and the lengths of its logs, all of the form before any is in range.
+fn reserve_of(draft: &Draft, a: &[u8], b: &[u8], v: &[u8]) -> Result<Step, u32>
+    ensures { result ≡ reserve_of draft.now a.now b.now v.now }
+{
+    let number = formed(a)?;
+    let reads = formed(b)?;
+    let writes = formed(v)?;
+    let caller = below(draft.header().callers, number)?;
+    let reads = ranged(1, MAX_LOG as u64, reads)?;
+    let writes = ranged(1, MAX_LOG as u64, writes)?;
+    draft.lengthened(caller, reads as usize, writes as usize)
 }
 
 /// A caller and its turns, both of the form before either is in range.
@@ -281,7 +578,7 @@ fn one_word(mode: Mode, draft: &Draft, w: &[u8]) -> Result<Step, u32>
             if lines::is(w, b"end") {
                 return Ok(Step::End);
             }
-            draft.structured(op_of(&KEYLESS, w)?)
+            keyless(draft, w)
         }
         _ => Err(code::WORD),
     }
@@ -307,12 +604,20 @@ fn two_words(mode: Mode, draft: &Draft, w: &[u8], v: &[u8]) -> Result<Step, u32>
             if lines::is(w, b"emit") {
                 return draft.emitted(address(draft, v)?);
             }
-            draft.structured(keyed(w, v)?)
+            match draft.header().version {
+                Version::One => draft.structured(keyed(w, v)?),
+                Version::Two => placed_keyless(draft, w, v),
+            }
         }
         Place::Turns => Err(code::WORD),
+        Place::Regions => {
+            let count = sized(b"regions", 0, MAX_REGIONS as u64, w, v)? as usize;
+            Ok(Step::Count(next_region(count, 0), count))
+        }
         place => {
-            let header = header_line(place, draft.header(), w, v)?;
-            Ok(Step::Head(next_line(place), header))
+            let header = draft.header();
+            let field = header_line(place, header, w, v)?;
+            Ok(Step::Head(next_line(header.version, place), field))
         }
     }
 }
@@ -333,10 +638,16 @@ fn three_words(draft: &Draft, w: &[u8], a: &[u8], v: &[u8]) -> Result<Step, u32>
                 let (at, value) = operands(draft, a, v)?;
                 return draft.added(Op::Add(at, value));
             }
-            if lines::is(w, b"count") {
-                return draft.structured(count_of(a, v)?);
+            match draft.header().version {
+                Version::One => {
+                    if lines::is(w, b"count") {
+                        draft.structured(count_of(a, v)?)
+                    } else {
+                        Err(code::WORD)
+                    }
+                }
+                Version::Two => placed_keyed(draft, w, a, v),
             }
-            Err(code::WORD)
         }
         Place::Items => {
             if !lines::is(w, b"switch") {
@@ -362,14 +673,50 @@ fn four_words(draft: &Draft, w: &[u8], a: &[u8], b: &[u8], v: &[u8]) -> Result<S
         return Err(code::WORD);
     }
     match draft.place() {
-        Place::Ops => {
-            if !lines::is(w, b"move") {
-                return Err(code::WORD);
+        Place::Region => {
+            if lines::is(w, b"region") {
+                region_of(draft, a, b, v)
+            } else {
+                Err(code::WORD)
             }
-            draft.added(move_of(draft, a, b, v)?)
+        }
+        Place::Items => match draft.header().version {
+            Version::One => Err(code::WORD),
+            Version::Two => {
+                if lines::is(w, b"reserve") {
+                    reserve_of(draft, a, b, v)
+                } else {
+                    Err(code::WORD)
+                }
+            }
+        },
+        Place::Ops => {
+            if lines::is(w, b"move") {
+                return draft.added(move_of(draft, a, b, v)?);
+            }
+            match draft.header().version {
+                Version::One => Err(code::WORD),
+                Version::Two => four_words_two(draft, w, a, b, v),
+            }
         }
         _ => Err(code::WORD),
     }
+}
+
+/// The operations of four words that version 2 has besides.
+fn four_words_two(draft: &Draft, w: &[u8], a: &[u8], b: &[u8], v: &[u8]) -> Result<Step, u32>
+    ensures { result ≡ four_words_two draft.now w.now a.now b.now v.now }
+{
+    if lines::is(w, b"count") {
+        return placed_count(draft, a, b, v);
+    }
+    if lines::is(w, b"mput") {
+        return map_put_of(draft, a, b, v);
+    }
+    if lines::is(w, b"msum") {
+        return map_sum_of(draft, a, b, v);
+    }
+    Err(code::WORD)
 }
 
 /// A line by its words.

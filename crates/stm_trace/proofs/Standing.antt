@@ -9,7 +9,7 @@ use Rattle.stm_script.specs.declared.report.Kind.{Kind}
 use Rattle.stm_script.specs.declared.report.Kind.TheVariants.{W, R, C}
 use Rattle.stm_script.specs.declared.report.Row.{Row}
 use Rattle.stm_script.specs.declared.workload.Item.{Item}
-use Rattle.stm_script.specs.declared.workload.Item.TheVariants.{Tx, Switch}
+use Rattle.stm_script.specs.declared.workload.Item.TheVariants.{Tx, Switch, Reserve}
 use Rattle.stm_script.specs.Reports.{counted, scripts_of}
 use Rattle.tx_answers.specs.declared.answers.Begin.TheVariants.{Begun, Closed, Held, ClockFull}
 use Rattle.tx_answers.specs.declared.answers.Cancel.TheVariants.{Cancelled, Irrevocable}
@@ -21,10 +21,10 @@ use Rattle.tx_answers.specs.declared.answers.Look.TheVariants.{Quiet, Busy}
 use Rattle.stm_trace.specs.declared.said.Phase.{Phase}
 use Rattle.stm_trace.specs.declared.said.Phase.TheVariants.{Between, Inside, Closing, Quiet}
 use Rattle.stm_trace.specs.declared.said.Said.{Said}
-use Rattle.stm_trace.specs.declared.said.Said.TheVariants.{TryBegin, Reply, Stopped, TryCancel, TryIrrevocable, TryCommit, TryClose, Looked, Installed, Idle, Dropped, Reopened}
-use Rattle.stm_trace.specs.Places.{Place, after, ended, granted_at, is_forced, row_at, rest_of, script_at, switched, items_of}
+use Rattle.stm_trace.specs.declared.said.Said.TheVariants.{TryBegin, Reply, Stopped, TryCancel, TryIrrevocable, TryCommit, TryClose, Looked, Installed, Reserved, Idle, Dropped, Reopened}
+use Rattle.stm_trace.specs.Places.{Place, after, ended, granted_at, is_forced, lengthened, row_at, rest_of, script_at, switched, items_of}
 use Rattle.stm_trace.specs.Told.{AreOf, ItemsHaveScripts}
-use Rattle.stm_trace.specs.Turns.{MaySay, MayWind, MayFinish, BeforeTx, BeforeSwitch, MustSwitch, IsOver}
+use Rattle.stm_trace.specs.Turns.{MaySay, MayWind, MayFinish, BeforeTx, BeforeSwitch, Lengthens, MustSwitch, IsOver}
 
 scripts-by : (n c : ℕ) (script : List Op) (items : List Item) (b : Bool) → (c == n) ≡ b → scripts_of n (items_of n items) ≡ scripts_of n items
     → scripts_of n (if b then Tx c script ∷ items_of n items else items_of n items) ≡ (if b then script ∷ scripts_of n items else scripts_of n items)
@@ -40,12 +40,14 @@ pub scripts-items : ItemsHaveScripts
 scripts-items n [] = refl
 scripts-items n (Tx c script ∷ items) = scripts-by n c script items (c == n) refl (scripts-items n items)
 scripts-items n (Switch c alg ∷ items) = switches-by n c (Switch c alg) items (c == n) refl ∙ scripts-items n items
+scripts-items n (Reserve c reads writes ∷ items) = switches-by n c (Reserve c reads writes) items (c == n) refl ∙ scripts-items n items
 
 -- the items are the caller's
 abbrev pub OwnItems : ℕ → List Item → Type 0
 OwnItems n [] = Unit {0}
 OwnItems n (Tx c script ∷ items) = (c ≡ n) × OwnItems n items
 OwnItems n (Switch c alg ∷ items) = (c ≡ n) × OwnItems n items
+OwnItems n (Reserve c reads writes ∷ items) = (c ≡ n) × OwnItems n items
 
 own-by : (n c : ℕ) (item : Item) (items : List Item) (b : Bool) → (c == n) ≡ b → (c ≡ n → OwnItems n items → OwnItems n (item ∷ items)) → OwnItems n items
     → OwnItems n (if b then item ∷ items else items)
@@ -56,6 +58,7 @@ pub own-items : (n : ℕ) (items : List Item) → OwnItems n (items_of n items)
 own-items n [] = tt
 own-items n (Tx c script ∷ items) = own-by n c (Tx c script) (items_of n items) (c == n) refl (λ e h. (e, h)) (own-items n items)
 own-items n (Switch c alg ∷ items) = own-by n c (Switch c alg) (items_of n items) (c == n) refl (λ e h. (e, h)) (own-items n items)
+own-items n (Reserve c reads writes ∷ items) = own-by n c (Reserve c reads writes) (items_of n items) (c == n) refl (λ e h. (e, h)) (own-items n items)
 
 -- what an open attempt, and a closing, is for
 abbrev pub Faces : Phase → Option Alg → List Item → Type 0
@@ -97,16 +100,25 @@ tx-scripts : (n : ℕ) (left : List Item) → BeforeTx left → OwnItems n left 
 tx-scripts n [] b h = absurd b
 tx-scripts n (Tx c script ∷ items) b h = (let e = h.0 in let test : (c == n) ≡ true = grind (arith, nat_tests) in rw test refl)
 tx-scripts n (Switch c alg ∷ items) b h = absurd b
+tx-scripts n (Reserve c reads writes ∷ items) b h = absurd b
 
 switch-scripts : (n : ℕ) (left : List Item) → BeforeSwitch left → scripts_of n (rest_of left) ≡ scripts_of n left
 switch-scripts n [] b = absurd b
 switch-scripts n (Tx c script ∷ items) b = absurd b
 switch-scripts n (Switch c alg ∷ items) b = refl
+switch-scripts n (Reserve c reads writes ∷ items) b = absurd b
+
+reserve-scripts : (n reads writes : ℕ) (left : List Item) → Lengthens reads writes left → scripts_of n (rest_of left) ≡ scripts_of n left
+reserve-scripts n reads writes [] b = absurd b
+reserve-scripts n reads writes (Tx c script ∷ items) b = absurd b
+reserve-scripts n reads writes (Switch c alg ∷ items) b = absurd b
+reserve-scripts n reads writes (Reserve c r w ∷ items) b = refl
 
 own-rest : (n : ℕ) (left : List Item) → OwnItems n left → OwnItems n (rest_of left)
 own-rest n [] h = tt
 own-rest n (Tx c script ∷ items) h = h.1
 own-rest n (Switch c alg ∷ items) h = h.1
+own-rest n (Reserve c reads writes ∷ items) h = h.1
 
 module _ (items : List Item) (n : ℕ) (at : Place) (s : Stands items n at) where
   -- nothing is done, and the phase is one that fits what is left
@@ -133,6 +145,18 @@ module _ (items : List Item) (n : ℕ) (at : Place) (s : Stands items n at) wher
     faces = tt;
   }
   stands-switched (Some alg) b = moved (switched (Some alg) at) refl refl refl tt
+
+  -- longer logs are one item less
+  stands-lengthened : (reads writes : ℕ) → Lengthens reads writes at.left → at.phase ≡ Between → Stands items n (lengthened reads writes at)
+  stands-lengthened reads writes b between = record {
+    caller = s.caller;
+    todo = reserve-scripts n reads writes at.left b ∙ s.todo;
+    within = s.within;
+    numbered = s.numbered;
+    mine = s.mine;
+    owned = own-rest n at.left s.owned;
+    faces = subst (λ p. Faces p at.chosen (rest_of at.left)) (sym between) tt;
+  }
 
   -- the transaction has its row
   rowed : (kind : Kind) (time : ℕ) → BeforeTx at.left → Stands items n (ended kind time at)
@@ -188,6 +212,7 @@ stands-said items n at (TryClose (Taken gate)) m s = s
 stands-said items n at (Looked Quiet) m s = moved items n at s (after at (Looked Quiet)) refl refl refl (facing items n at s Closing m)
 stands-said items n at (Looked (Busy caller status)) m s = s
 stands-said items n at (Installed alg) m s = stands-switched items n at s at.chosen (facing items n at s Quiet m.0)
+stands-said items n at (Reserved reads writes) m s = stands-lengthened items n at s reads writes m.1 m.0
 stands-said items n at Idle m s = s
 stands-said items n at Dropped m s = absurd m
 stands-said items n at Reopened m s = absurd m
@@ -202,6 +227,7 @@ stands-wound items n at (TryCommit c) m s = stands-said items n at (TryCommit c)
 stands-wound items n at (TryClose c) m s = stands-said items n at (TryClose c) m.2 s
 stands-wound items n at (Looked l) m s = stands-said items n at (Looked l) m.2 s
 stands-wound items n at (Installed alg) m s = stands-said items n at (Installed alg) m.2 s
+stands-wound items n at (Reserved reads writes) m s = stands-said items n at (Reserved reads writes) m.2 s
 stands-wound items n at Idle m s = stands-said items n at Idle m.2 s
 stands-wound items n at Dropped m s = moved items n at s (after at Dropped) refl refl refl tt
 stands-wound items n at Reopened m s = moved items n at s (after at Reopened) refl refl refl tt
@@ -216,6 +242,7 @@ stands-finished items n at (TryCommit c) m s = stands-said items n at (TryCommit
 stands-finished items n at (TryClose c) m s = stands-said items n at (TryClose c) m s
 stands-finished items n at (Looked l) m s = stands-said items n at (Looked l) m s
 stands-finished items n at (Installed alg) m s = stands-said items n at (Installed alg) m s
+stands-finished items n at (Reserved reads writes) m s = stands-said items n at (Reserved reads writes) m s
 stands-finished items n at Idle m s = absurd m
 stands-finished items n at Dropped m s = absurd m
 stands-finished items n at Reopened m s = absurd m

@@ -23,6 +23,10 @@ outcome_of C = Cancelled
 abbrev pub no_profile : Noted
 no_profile = profile_of []
 
+-- caller 0 alone switches by a policy
+abbrev pub policy_for : Policy → ℕ → Policy
+policy_for policy n = if n == 0 then policy else Fixed
+
 abbrev pub expert_choice : ℕ → ℕ → ℕ → Alg
 expert_choice c f w = if leb 1 f then Cgl else if leb 12 c then Serial else if w == 0 then Tml else if leb 4 c then OrecLazy else if leb 1 c then RingSw else OrecEager
 

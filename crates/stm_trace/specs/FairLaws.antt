@@ -97,8 +97,8 @@ module _ (good : List ℕ → Type 0) (c : Config) (n : ℕ) (h : Header) (at : 
     fair-cause asked (Filter time bits) w t = (is.alg ∙ t.0, (let lt = t.1.first.since in omega (arith, lt)), t.1.first.meets.some)
     fair-cause asked (Overrun start clock) w t = (is.alg ∙ t.0, (let le = t.3 in let same = sizes.2 in omega (arith, le, same)))
 
-    -- the logs have the lengths of the header
-    module _ (reads : v.reads_limit ≡ h.reads) (writes : v.writes_limit ≡ h.writes) where
+    -- the logs have the lengths that the place tells
+    module _ (reads : v.reads_limit ≡ at.reads_limit) (writes : v.writes_limit ≡ at.writes_limit) where
       pub fair-stop : (op : Op) (a : ℕ) (stop : Stop) (w : Known) → ((clock : ℕ) → stop ≡ stops.ClockFull clock → may_write op ≡ true) → Stops good c n a stop v w
           → (sure at ≡ false) × IsFairStop h at op stop
       fair-stop op a (stops.Conflict cause) w may t = (is.unsure t.0.revocable, (others t.2, fair-cause (Option.Some a) cause w t.1))

@@ -8,7 +8,7 @@ use Rattle.stm_script.specs.declared.workload.Go.{Go}
 use Rattle.stm_script.specs.declared.workload.Header.{Header}
 use Rattle.stm_script.specs.declared.workload.Workload.{Workload}
 use Rattle.stm_script.specs.Reports.{counted}
-use Rattle.stm_trace.specs.Adapting.{no_profile}
+use Rattle.stm_trace.specs.Adapting.{no_profile, policy_for}
 use Rattle.stm_trace.specs.declared.line.Line.{Line}
 use Rattle.stm_trace.specs.declared.line.Line.TheVariants.{Of, Finish}
 use Rattle.stm_trace.specs.declared.said.Phase.TheVariants.{Between}
@@ -16,15 +16,15 @@ use Rattle.stm_trace.specs.declared.said.Said.{Said}
 use Rattle.stm_trace.specs.Places.{Place, after, clock_of, items_of}
 use Rattle.stm_trace.specs.Turns.{MaySay, MayWind, MayFinish, IsFair, IsOver}
 
--- where a caller stands at first: it switches where the text says so alone
+-- where a caller stands at first: it switches where the text says so, and caller 0 by the text's policy
 abbrev pub first_place : Workload → ℕ → Place
-first_place w n = record { caller = n; left = items_of n w.items; failed = 0; must = false; phase = Between; alg = w.header.alg; rest = []; replies = []; emits = []; wrote = false; granted = false; rows = []; policy = Fixed; profile = no_profile; chosen = None }
+first_place w n = record { caller = n; left = items_of n w.items; failed = 0; must = false; phase = Between; alg = w.header.alg; rest = []; replies = []; emits = []; wrote = false; granted = false; rows = []; policy = policy_for w.header.policy n; profile = no_profile; chosen = None; reads_limit = w.header.reads; writes_limit = w.header.writes }
 
 abbrev pub first_places : Workload → List Place
 first_places w = map (first_place w) (counted 0 w.header.callers)
 
 abbrev pub no_place : Place
-no_place = record { caller = 0; left = []; failed = 0; must = false; phase = Between; alg = Cgl; rest = []; replies = []; emits = []; wrote = false; granted = false; rows = []; policy = Fixed; profile = no_profile; chosen = None }
+no_place = record { caller = 0; left = []; failed = 0; must = false; phase = Between; alg = Cgl; rest = []; replies = []; emits = []; wrote = false; granted = false; rows = []; policy = Fixed; profile = no_profile; chosen = None; reads_limit = 1; writes_limit = 1 }
 
 abbrev pub place_of : List Place → ℕ → Place
 place_of places n = slice_index_or places n no_place

@@ -1,5 +1,5 @@
 -- Where a caller stands, as what was said so far tells.
-use Rattle.std.specs.Prelude.{ℕ, ◌+◌, ◌==◌, leb, Bool, true, false, ◌||◌, ◌&&◌, not, List, [], ◌∷◌, ◌++◌, length, Option, Some, None, if◌then◌else◌}
+use Rattle.std.specs.Prelude.{ℕ, ◌+◌, ◌==◌, leb, Bool, true, false, ◌||◌, ◌&&◌, not, max, List, [], ◌∷◌, ◌++◌, length, Option, Some, None, if◌then◌else◌}
 use Rattle.stm_model.specs.Algorithms.{is_sure}
 use Rattle.stm_model.specs.declared.alg.Alg.{Alg}
 use Rattle.stm_profile.specs.declared.outcome.Outcome.{Outcome}
@@ -9,13 +9,13 @@ use Rattle.stm_profile.specs.Profiles.{Noted, with_outcome}
 use Rattle.stm_model.specs.declared.stop.Stop.{Stop}
 use Rattle.stm_model.specs.declared.stop.Stop.TheVariants.{Conflict, Full, ClockFull}
 use Rattle.stm_script.specs.declared.op.Op.{Op}
-use Rattle.stm_script.specs.declared.op.Op.TheVariants.{Read, Write, Add, Move, Cancel, Irrev, Emit, Count, Total, ListInsert, ListRemove, ListContains, ListLength, HashInsert, HashRemove, HashContains, TreeInsert, TreeRemove, TreeContains, TreeLeast}
+use Rattle.stm_script.specs.declared.op.Op.TheVariants.{Read, Write, Add, Move, Cancel, Irrev, Emit, Count, Total, ListInsert, ListRemove, ListContains, ListLength, HashInsert, HashRemove, HashContains, TreeInsert, TreeRemove, TreeContains, TreeLeast, QueuePut, QueueGet, MapPut, MapRemove, MapGet, MapSum}
 use Rattle.stm_script.specs.Operations.{emits_of}
 use Rattle.stm_script.specs.declared.report.Kind.{Kind}
 use Rattle.stm_script.specs.declared.report.Kind.TheVariants.{W, R, C}
 use Rattle.stm_script.specs.declared.report.Row.{Row}
 use Rattle.stm_script.specs.declared.workload.Item.{Item}
-use Rattle.stm_script.specs.declared.workload.Item.TheVariants.{Tx, Switch}
+use Rattle.stm_script.specs.declared.workload.Item.TheVariants.{Tx, Switch, Reserve}
 use Rattle.tx_answers.specs.declared.answers.Begin.TheVariants.{Begun, Closed, Held, ClockFull}
 use Rattle.tx_answers.specs.declared.answers.Cancel.TheVariants.{Cancelled, Irrevocable}
 use Rattle.tx_answers.specs.declared.answers.CloseGate.TheVariants.{Closed, Taken}
@@ -26,7 +26,7 @@ use Rattle.stm_trace.specs.Adapting.{asked_by, no_profile, outcome_of}
 use Rattle.stm_trace.specs.declared.said.Phase.{Phase}
 use Rattle.stm_trace.specs.declared.said.Phase.TheVariants.{Between, Inside, Closing, Quiet}
 use Rattle.stm_trace.specs.declared.said.Said.{Said}
-use Rattle.stm_trace.specs.declared.said.Said.TheVariants.{TryBegin, Reply, Stopped, TryCancel, TryIrrevocable, TryCommit, TryClose, Looked, Installed, Idle, Dropped, Reopened}
+use Rattle.stm_trace.specs.declared.said.Said.TheVariants.{TryBegin, Reply, Stopped, TryCancel, TryIrrevocable, TryCommit, TryClose, Looked, Installed, Reserved, Idle, Dropped, Reopened}
 
 -- what the caller has still to do; of its next transaction how many attempts were in somebody's way, and whether it must become irrevocable; of its last attempt the algorithm, and of an open one the operations still to come, the replies and emits so far, whether it wrote, and whether it was granted to be irrevocable; its rows; and its policy, what its attempts came to since it last switched by it, and the switch that it asks for, which comes before the next item
 pub record Place : Type 0 where
@@ -45,12 +45,16 @@ pub record Place : Type 0 where
   pub policy : Policy
   pub profile : Noted
   pub chosen : Option Alg
+  -- the lengths of its logs
+  pub reads_limit : ℕ
+  pub writes_limit : ℕ
 
 -- the operations of the first item
 abbrev pub script_at : List Item → List Op
 script_at [] = []
 script_at (Tx caller script ∷ items) = script
 script_at (Switch caller alg ∷ items) = []
+script_at (Reserve caller reads writes ∷ items) = []
 
 abbrev pub rest_of : {A : Type 0} → List A → List A
 rest_of [] = []
@@ -65,19 +69,25 @@ writes (Move a b k) reply = reply == 1
 writes Cancel reply = false
 writes Irrev reply = false
 writes (Emit a) reply = false
-writes (Count stripe k) reply = true
-writes Total reply = false
-writes (ListInsert key) reply = reply == 1
-writes (ListRemove key) reply = reply == 1
-writes (ListContains key) reply = false
-writes ListLength reply = false
-writes (HashInsert key) reply = reply == 1
-writes (HashRemove key) reply = reply == 1
-writes (HashContains key) reply = false
-writes (TreeInsert key) reply = reply == 1
-writes (TreeRemove key) reply = reply == 1
-writes (TreeContains key) reply = false
-writes TreeLeast reply = false
+writes (Count r stripe k) reply = true
+writes (Total r) reply = false
+writes (ListInsert r key) reply = reply == 1
+writes (ListRemove r key) reply = reply == 1
+writes (ListContains r key) reply = false
+writes (ListLength r) reply = false
+writes (HashInsert r key) reply = reply == 1
+writes (HashRemove r key) reply = reply == 1
+writes (HashContains r key) reply = false
+writes (TreeInsert r key) reply = reply == 1
+writes (TreeRemove r key) reply = reply == 1
+writes (TreeContains r key) reply = false
+writes (TreeLeast r) reply = false
+writes (QueuePut r v) reply = reply == 1
+writes (QueueGet r) reply = not (reply == 0)
+writes (MapPut r key v) reply = not (reply == 2)
+writes (MapRemove r key) reply = reply == 1
+writes (MapGet r key) reply = false
+writes (MapSum r lo hi) reply = false
 
 abbrev pub may_write : Op → Bool
 may_write (Read a) = false
@@ -87,19 +97,25 @@ may_write (Move a b k) = true
 may_write Cancel = false
 may_write Irrev = false
 may_write (Emit a) = false
-may_write (Count stripe k) = true
-may_write Total = false
-may_write (ListInsert key) = true
-may_write (ListRemove key) = true
-may_write (ListContains key) = false
-may_write ListLength = false
-may_write (HashInsert key) = true
-may_write (HashRemove key) = true
-may_write (HashContains key) = false
-may_write (TreeInsert key) = true
-may_write (TreeRemove key) = true
-may_write (TreeContains key) = false
-may_write TreeLeast = false
+may_write (Count r stripe k) = true
+may_write (Total r) = false
+may_write (ListInsert r key) = true
+may_write (ListRemove r key) = true
+may_write (ListContains r key) = false
+may_write (ListLength r) = false
+may_write (HashInsert r key) = true
+may_write (HashRemove r key) = true
+may_write (HashContains r key) = false
+may_write (TreeInsert r key) = true
+may_write (TreeRemove r key) = true
+may_write (TreeContains r key) = false
+may_write (TreeLeast r) = false
+may_write (QueuePut r v) = true
+may_write (QueueGet r) = true
+may_write (MapPut r key v) = true
+may_write (MapRemove r key) = true
+may_write (MapGet r key) = false
+may_write (MapSum r lo hi) = false
 
 -- so many attempts of a transaction are in somebody's way: then it must become irrevocable
 abbrev pub most_failed : ℕ
@@ -165,6 +181,10 @@ abbrev pub switched : Option Alg → Place → Place
 switched None at = record at { phase = Between; left = rest_of at.left }
 switched (Some alg) at = record at { phase = Between; profile = no_profile; chosen = None }
 
+-- its logs are so long, or were longer
+abbrev pub lengthened : ℕ → ℕ → Place → Place
+lengthened reads writes at = record at { left = rest_of at.left; reads_limit = max at.reads_limit reads; writes_limit = max at.writes_limit writes }
+
 -- where the caller stands after this was said
 abbrev pub after : Place → Said → Place
 after at (TryBegin (Begun alg)) = begun alg at
@@ -190,6 +210,7 @@ after at (TryClose (Taken gate)) = at
 after at (Looked Quiet) = record at { phase = Quiet }
 after at (Looked (Busy caller status)) = at
 after at (Installed alg) = switched at.chosen at
+after at (Reserved reads writes) = lengthened reads writes at
 after at Idle = at
 after at Dropped = record (given_up at) { profile = with_outcome at.profile outcomes.Cancelled }
 after at Reopened = record at { phase = Between }
@@ -221,6 +242,7 @@ clock_of (TryCommit (ClockFull clock)) = Some clock
 clock_of (TryClose c) = None
 clock_of (Looked l) = None
 clock_of (Installed alg) = None
+clock_of (Reserved reads writes) = None
 clock_of Idle = None
 clock_of Dropped = None
 clock_of Reopened = None
@@ -228,6 +250,7 @@ clock_of Reopened = None
 abbrev pub caller_in : Item → ℕ
 caller_in (Tx caller script) = caller
 caller_in (Switch caller alg) = caller
+caller_in (Reserve caller reads writes) = caller
 
 -- the items of one caller, in the order of the text
 abbrev pub items_of : ℕ → List Item → List Item

@@ -10,7 +10,7 @@ use Rattle.tx_answers.specs.declared.answers.Irrev.TheVariants as irrevs
 use Rattle.stm_trace.specs.declared.line.Line.{Line}
 use Rattle.stm_trace.specs.declared.line.Line.TheVariants.{Of, Finish}
 use Rattle.stm_trace.specs.declared.said.Said.{Said}
-use Rattle.stm_trace.specs.declared.said.Said.TheVariants.{TryBegin, Reply, Stopped, TryCancel, TryIrrevocable, TryCommit, TryClose, Looked, Installed, Idle, Dropped, Reopened}
+use Rattle.stm_trace.specs.declared.said.Said.TheVariants.{TryBegin, Reply, Stopped, TryCancel, TryIrrevocable, TryCommit, TryClose, Looked, Installed, Reserved, Idle, Dropped, Reopened}
 use Rattle.stm_trace.specs.Fits.{Path, IsCalm, callers, place_of, no_place, says}
 use Rattle.stm_trace.specs.Places.{Place, after, clock_of, sure}
 use Rattle.stm_trace.specs.Played.{Played, Halted, EndsFull}
@@ -42,6 +42,7 @@ may-finish at (TryCommit c) still m = m
 may-finish at (TryClose c) still m = m
 may-finish at (Looked l) still m = m
 may-finish at (Installed alg) still m = m
+may-finish at (Reserved reads writes) still m = m
 may-finish at Idle still m = absurd (still m)
 may-finish at Dropped still m = m
 may-finish at Reopened still m = m
@@ -57,6 +58,7 @@ may-wind at (TryCommit c) here is m = (here, is, m)
 may-wind at (TryClose c) here is m = (here, is, m)
 may-wind at (Looked l) here is m = (here, is, m)
 may-wind at (Installed alg) here is m = (here, is, m)
+may-wind at (Reserved reads writes) here is m = (here, is, m)
 may-wind at Idle here is m = (here, is, m)
 may-wind at Dropped here is m = absurd m
 may-wind at Reopened here is m = absurd m
@@ -98,6 +100,7 @@ wind-calm h at (TryCommit (commits.ClockFull c)) clock m f e = absurd (let b : t
 wind-calm h at (TryClose c) clock m f e = absurd cc
 wind-calm h at (Looked l) clock m f e = absurd cc
 wind-calm h at (Installed alg) clock m f e = absurd cc
+wind-calm h at (Reserved reads writes) clock m f e = absurd cc
 wind-calm h at Idle clock m f e = absurd cc
 wind-calm h at Dropped clock m f e = absurd cc
 wind-calm h at Reopened clock m f e = absurd cc

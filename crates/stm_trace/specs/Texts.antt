@@ -16,7 +16,7 @@ use Rattle.tx_answers.specs.declared.answers.Look.TheVariants.{Quiet, Busy}
 use Rattle.stm_trace.specs.declared.line.Line.{Line}
 use Rattle.stm_trace.specs.declared.line.Line.TheVariants.{Of, Finish}
 use Rattle.stm_trace.specs.declared.said.Said.{Said}
-use Rattle.stm_trace.specs.declared.said.Said.TheVariants.{TryBegin, Reply, Stopped, TryCancel, TryIrrevocable, TryCommit, TryClose, Looked, Installed, Idle, Dropped, Reopened}
+use Rattle.stm_trace.specs.declared.said.Said.TheVariants.{TryBegin, Reply, Stopped, TryCancel, TryIrrevocable, TryCommit, TryClose, Looked, Installed, Reserved, Idle, Dropped, Reopened}
 
 -- numbers, each with a space before it
 abbrev pub spaced : List ℕ → List ℕ
@@ -63,6 +63,7 @@ said_bytes (TryClose (Taken gate)) = codes " close taken" ++ spaced (gate ∷ []
 said_bytes (Looked Quiet) = codes " look quiet"
 said_bytes (Looked (Busy caller status)) = codes " look busy" ++ spaced (caller ∷ status ∷ [])
 said_bytes (Installed alg) = codes " install " ++ alg_name alg
+said_bytes (Reserved reads writes) = codes " reserve" ++ spaced (reads ∷ writes ∷ [])
 said_bytes Idle = codes " idle"
 said_bytes Dropped = codes " drop"
 said_bytes Reopened = codes " reopen"

@@ -1,6 +1,7 @@
 -- What is so of every trace that fits.
 use Rattle.std.specs.Prelude.{ℕ, ◌≡◌, ◌<◌, List, [], ◌∷◌, ◌++◌, length, map, IsPermutation, slice_index_or}
 use Rattle.stm_model.specs.declared.alg.Alg.{Alg}
+use Rattle.stm_profile.specs.declared.policy.Policy.TheVariants.{Fixed}
 use Rattle.stm_script.specs.declared.op.Op.TheVariants.{Write}
 use Rattle.stm_script.specs.declared.report.Kind.TheVariants.{W}
 use Rattle.stm_script.specs.declared.report.Report.{Report}
@@ -43,9 +44,9 @@ pub record EachHasItsRow (w : Workload) (rows : List Row) : Type 0 where
 abbrev pub TellsEachOnce : Type 0
 TellsEachOnce = (w : Workload) (lines : List Line) (report : Report) → TraceFits w lines report → EachHasItsRow w report.rows
 
--- a workload of one caller, whose one transaction writes v at a; and its trace and report under an algorithm
+-- a workload of one caller without a policy, whose one transaction writes v at a; and its trace and report under an algorithm
 abbrev pub one_writer : Header → ℕ → ℕ → Workload
-one_writer h a v = record { header = record h { callers = 1 }; items = Tx 0 (Write a v ∷ []) ∷ []; schedule = [] }
+one_writer h a v = record { header = record h { callers = 1; policy = Fixed }; items = Tx 0 (Write a v ∷ []) ∷ []; schedule = [] }
 
 abbrev pub one_writer_lines : Alg → ℕ → ℕ → ℕ → List Line
 one_writer_lines alg a v time = Finish ∷ Of 0 (TryBegin (Begun alg)) ∷ Of 0 (Reply (Write a v) v) ∷ Of 0 (TryCommit (Committed time)) ∷ []

@@ -15,7 +15,7 @@ use Rattle.stm_script.specs.declared.op.Op.TheVariants.{Cancel, Irrev}
 use Rattle.stm_script.specs.Operations.{is_cancel, is_irrev}
 use Rattle.stm_script.specs.declared.workload.Header.{Header}
 use Rattle.stm_script.specs.declared.workload.Item.{Item}
-use Rattle.stm_script.specs.declared.workload.Item.TheVariants.{Tx, Switch}
+use Rattle.stm_script.specs.declared.workload.Item.TheVariants.{Tx, Switch, Reserve}
 use Rattle.tx_answers.specs.declared.answers.Begin.TheVariants.{Begun, Closed, Held, ClockFull}
 use Rattle.tx_answers.specs.declared.answers.Cancel.TheVariants.{Cancelled, Irrevocable}
 use Rattle.tx_answers.specs.declared.answers.CloseGate.TheVariants.{Closed, Taken}
@@ -24,7 +24,7 @@ use Rattle.tx_answers.specs.declared.answers.Irrev.TheVariants as irrevs
 use Rattle.tx_answers.specs.declared.answers.Look.TheVariants.{Quiet, Busy}
 use Rattle.stm_trace.specs.declared.said.Phase.TheVariants.{Between, Inside, Closing, Quiet}
 use Rattle.stm_trace.specs.declared.said.Said.{Said}
-use Rattle.stm_trace.specs.declared.said.Said.TheVariants.{TryBegin, Reply, Stopped, TryCancel, TryIrrevocable, TryCommit, TryClose, Looked, Installed, Idle, Dropped, Reopened}
+use Rattle.stm_trace.specs.declared.said.Said.TheVariants.{TryBegin, Reply, Stopped, TryCancel, TryIrrevocable, TryCommit, TryClose, Looked, Installed, Reserved, Idle, Dropped, Reopened}
 use Rattle.stm_trace.specs.Places.{Place, may_write, sure, is_forced}
 
 -- a transaction comes next
@@ -32,18 +32,28 @@ abbrev pub BeforeTx : List Item → Type 0
 BeforeTx [] = ⊥
 BeforeTx (Tx caller script ∷ items) = Unit {0}
 BeforeTx (Switch caller alg ∷ items) = ⊥
+BeforeTx (Reserve caller reads writes ∷ items) = ⊥
 
 -- a switch comes next
 abbrev pub BeforeSwitch : List Item → Type 0
 BeforeSwitch [] = ⊥
 BeforeSwitch (Tx caller script ∷ items) = ⊥
 BeforeSwitch (Switch caller alg ∷ items) = Unit {0}
+BeforeSwitch (Reserve caller reads writes ∷ items) = ⊥
+
+-- logs of these lengths come next
+abbrev pub Lengthens : ℕ → ℕ → List Item → Type 0
+Lengthens reads writes [] = ⊥
+Lengthens reads writes (Tx caller script ∷ items) = ⊥
+Lengthens reads writes (Switch caller alg ∷ items) = ⊥
+Lengthens reads writes (Reserve caller r w ∷ items) = (r ≡ reads) × (w ≡ writes)
 
 -- a switch to this algorithm comes next
 abbrev pub SwitchesTo : Alg → List Item → Type 0
 SwitchesTo alg [] = ⊥
 SwitchesTo alg (Tx caller script ∷ items) = ⊥
 SwitchesTo alg (Switch caller to ∷ items) = to ≡ alg
+SwitchesTo alg (Reserve caller reads writes ∷ items) = ⊥
 
 -- the caller's policy asks for a switch, or one comes next
 abbrev pub MustSwitch : Option Alg → List Item → Type 0
@@ -83,6 +93,7 @@ MaySay at (TryCommit c) = (at.phase ≡ Inside) × (is_forced at ≡ false) × (
 MaySay at (TryClose c) = (at.phase ≡ Between) × MustSwitch at.chosen at.left
 MaySay at (Looked l) = at.phase ≡ Closing
 MaySay at (Installed alg) = (at.phase ≡ Quiet) × MustSwitchTo alg at.chosen at.left
+MaySay at (Reserved reads writes) = (at.phase ≡ Between) × Lengthens reads writes at.left × (at.chosen ≡ None)
 MaySay at Idle = IsOver at
 MaySay at Dropped = ⊥
 MaySay at Reopened = ⊥
@@ -127,7 +138,7 @@ module _ (h : Header) where
 
   -- the length of a log that the algorithm has
   abbrev pub IsFairLimit : Place → ℕ → Type 0
-  IsFairLimit at limit = ((has_read_log at.alg ≡ true) × (limit ≡ h.reads)) ⊎ ((logs_writes at.alg ≡ true) × (limit ≡ h.writes))
+  IsFairLimit at limit = ((has_read_log at.alg ≡ true) × (limit ≡ at.reads_limit)) ⊎ ((logs_writes at.alg ≡ true) × (limit ≡ at.writes_limit))
 
   abbrev pub IsFairStop : Place → Op → Stop → Type 0
   IsFairStop at op (Conflict cause) = HasOthers × IsFairCause at cause
@@ -163,6 +174,7 @@ module _ (h : Header) where
   IsFair at (Looked Quiet) = Unit {0}
   IsFair at (Looked (Busy caller status)) = HasOthers × (caller < h.callers) × (caller ≢ at.caller) × (status ≢ 0)
   IsFair at (Installed alg) = Unit {0}
+  IsFair at (Reserved reads writes) = Unit {0}
   IsFair at Idle = Unit {0}
   IsFair at Dropped = Unit {0}
   IsFair at Reopened = Unit {0}

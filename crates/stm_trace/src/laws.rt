@@ -13,7 +13,7 @@ pub fn tells_each_once()
     ensures { TellsEachOnce }
 {}
 
-/// A begin, a write and a commit are the trace of a workload with the one transaction.
+/// A begin, a write and a commit are the trace of a workload with the one transaction, where no policy is.
 pub fn one_writer_fits()
     ensures { OneWriterFits }
 {}

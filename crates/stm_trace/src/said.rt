@@ -22,6 +22,8 @@ pub enum Said {
     Looked(Look),
     /// The gate was opened again under this algorithm.
     Installed(Alg),
+    /// The caller's logs have these lengths, or were longer.
+    Reserved { reads: usize, writes: usize },
     /// Nothing is left to do.
     Idle,
     /// Once the schedule is over: the open attempt was cancelled.

@@ -45,8 +45,8 @@ fn put_line(text: &mut String, line: Line) -> Result<(), AllocError>
     }
 }
 
-/// What a turn says, behind the caller.
-fn put_said(text: &mut String, said: Said) -> Result<(), AllocError>
+/// What a turn says, after the caller: a space and its words. Memory may be refused.
+pub fn put_said(text: &mut String, said: Said) -> Result<(), AllocError>
     ensures { OnOk result (string_bytes text.new ≡ string_bytes text.old ++ said_bytes said) }
 {
     match said {
@@ -59,6 +59,7 @@ fn put_said(text: &mut String, said: Said) -> Result<(), AllocError>
         Said::TryClose(close) => put_close(text, close),
         Said::Looked(look) => put_look(text, look),
         Said::Installed(alg) => put_alg(text, " install ", alg),
+        Said::Reserved { reads, writes } => put_two(text, " reserve", reads as u64, writes as u64),
         Said::Idle => text.push_str(" idle"),
         Said::Dropped => text.push_str(" drop"),
         Said::Reopened => text.push_str(" reopen"),

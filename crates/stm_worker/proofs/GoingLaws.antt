@@ -7,7 +7,7 @@ use Rattle.stm_model.specs.declared.alg.Alg.{Alg}
 use Rattle.stm_model.specs.Logs.{Log, IsExplained, Keeps}
 use Rattle.stm_model.specs.Memories.{overlay, Explains, is_empty}
 use Rattle.stm_script.specs.declared.op.Op.{Op}
-use Rattle.stm_script.specs.declared.op.Op.TheVariants.{Read, Write, Add, Move, Emit, Irrev, Cancel, Count, Total, ListInsert, ListRemove, ListContains, ListLength, HashInsert, HashRemove, HashContains, TreeInsert, TreeRemove, TreeContains, TreeLeast}
+use Rattle.stm_script.specs.declared.op.Op.TheVariants.{Read, Write, Add, Move, Emit, Irrev, Cancel, Count, Total, ListInsert, ListRemove, ListContains, ListLength, HashInsert, HashRemove, HashContains, TreeInsert, TreeRemove, TreeContains, TreeLeast, QueuePut, QueueGet, MapPut, MapRemove, MapGet, MapSum}
 use Rattle.tx_regions.specs.declared.region.Region.{Region}
 use Rattle.stm_script.specs.Keeping.{OpKeeps, ScriptKeeps}
 use Rattle.stm_script.specs.KeepingLaws.{keeps-gave, keeps-run}
@@ -19,7 +19,9 @@ use Rattle.tx_regions.specs.Regions.{AllWellFormed}
 use Rattle.tx_cells.specs.Chains.{inserted_in, removed_in}
 use Rattle.tx_cells.specs.Structures.{list_of, hash_of}
 use Rattle.tx_tree.specs.Trees.{inserted_in as tree_inserted_in, removed_in as tree_removed_in}
-use Rattle.stm_script.specs.Structures.{list_in, hash_in, tree_in}
+use Rattle.tx_queue.specs.Queues.{put_in, got_in}
+use Rattle.tx_sums.specs.Sums.{put_in as map_put_in, removed_in as map_removed_in}
+use Rattle.stm_script.specs.Structures.{list_in, hash_in, tree_in, queue_in, sum_map_in}
 use Rattle.stm_script.specs.StructureLaws.{chain-insert-wrote, chain-remove-wrote, tree-insert-wrote, tree-remove-wrote}
 use Rattle.stm_script.specs.Scripts.{run, before_cancel, has_cancel, has_irrev}
 use Rattle.stm_script.specs.ScriptLaws.{Gave, GaveOver, GivesOn, ran_one, gives-step, gives-none}
@@ -28,6 +30,7 @@ use Rattle.tx_answers.specs.Known as knows
 use Rattle.stm_trace.specs.Places.{writes}
 use Rattle.stm_trace.specs.Turns.{Next}
 use Rattle.stm_worker.specs.Goings.{Going, no_log, no_replies}
+use Rattle.stm_worker.proofs.ReplyLaws.{queue-put-wrote, queue-get-wrote, map-put-wrote, map-remove-wrote}
 
 begun-on : (regions : List Region) (ops : List Op) (m : List ℕ) (l : Log) (out : Output) → l ≡ no_log → out.replies ≡ [] → out.emits ≡ [] → GivesOn regions ops ops m no_log no_replies l out
 begun-on regions ops m l out log r e = λ j after h. again j after (subst (λ k. Gave (run regions ops) m k out j after) log h)
@@ -90,19 +93,25 @@ one-wrote regions (Move a b k) m = by (ltb (slice_index m a) k)
 one-wrote regions (Emit a) m = refl
 one-wrote regions Irrev m = refl
 one-wrote regions Cancel m = refl
-one-wrote regions (Count stripe k) m = refl
-one-wrote regions Total m = refl
-one-wrote regions (ListInsert key) m = or-none (inserted_in (list_of (list_in regions)) key m).wrote ∙ chain-insert-wrote (list_of (list_in regions)) key m
-one-wrote regions (ListRemove key) m = or-none (removed_in (list_of (list_in regions)) key m).wrote ∙ chain-remove-wrote (list_of (list_in regions)) key m
-one-wrote regions (ListContains key) m = refl
-one-wrote regions ListLength m = refl
-one-wrote regions (HashInsert key) m = or-none (inserted_in (hash_of (hash_in regions)) key m).wrote ∙ chain-insert-wrote (hash_of (hash_in regions)) key m
-one-wrote regions (HashRemove key) m = or-none (removed_in (hash_of (hash_in regions)) key m).wrote ∙ chain-remove-wrote (hash_of (hash_in regions)) key m
-one-wrote regions (HashContains key) m = refl
-one-wrote regions (TreeInsert key) m = or-none (tree_inserted_in (tree_in regions) key m).wrote ∙ tree-insert-wrote (tree_in regions) key m
-one-wrote regions (TreeRemove key) m = or-none (tree_removed_in (tree_in regions) key m).wrote ∙ tree-remove-wrote (tree_in regions) key m
-one-wrote regions (TreeContains key) m = refl
-one-wrote regions TreeLeast m = refl
+one-wrote regions (Count r stripe k) m = refl
+one-wrote regions (Total r) m = refl
+one-wrote regions (ListInsert r key) m = or-none (inserted_in (list_of (list_in regions r)) key m).wrote ∙ chain-insert-wrote (list_of (list_in regions r)) key m
+one-wrote regions (ListRemove r key) m = or-none (removed_in (list_of (list_in regions r)) key m).wrote ∙ chain-remove-wrote (list_of (list_in regions r)) key m
+one-wrote regions (ListContains r key) m = refl
+one-wrote regions (ListLength r) m = refl
+one-wrote regions (HashInsert r key) m = or-none (inserted_in (hash_of (hash_in regions r)) key m).wrote ∙ chain-insert-wrote (hash_of (hash_in regions r)) key m
+one-wrote regions (HashRemove r key) m = or-none (removed_in (hash_of (hash_in regions r)) key m).wrote ∙ chain-remove-wrote (hash_of (hash_in regions r)) key m
+one-wrote regions (HashContains r key) m = refl
+one-wrote regions (TreeInsert r key) m = or-none (tree_inserted_in (tree_in regions r) key m).wrote ∙ tree-insert-wrote (tree_in regions r) key m
+one-wrote regions (TreeRemove r key) m = or-none (tree_removed_in (tree_in regions r) key m).wrote ∙ tree-remove-wrote (tree_in regions r) key m
+one-wrote regions (TreeContains r key) m = refl
+one-wrote regions (TreeLeast r) m = refl
+one-wrote regions (QueuePut r v) m = or-none (put_in (queue_in regions r) v m).wrote ∙ queue-put-wrote (queue_in regions r) v m
+one-wrote regions (QueueGet r) m = or-none (got_in (queue_in regions r) m).wrote ∙ queue-get-wrote (queue_in regions r) m
+one-wrote regions (MapPut r key v) m = or-none (map_put_in (sum_map_in regions r) key v m).wrote ∙ map-put-wrote (sum_map_in regions r) key v m
+one-wrote regions (MapRemove r key) m = or-none (map_removed_in (sum_map_in regions r) key m).wrote ∙ map-remove-wrote (sum_map_in regions r) key m
+one-wrote regions (MapGet r key) m = refl
+one-wrote regions (MapSum r lo hi) m = refl
 
 -- the reply that was told is that of the operation
 one-reply : (xs : List ℕ) (r s : ℕ) → xs ++ r ∷ [] ≡ xs ++ s ∷ [] → r ≡ s

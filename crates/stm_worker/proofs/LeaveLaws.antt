@@ -9,7 +9,7 @@ use Rattle.tx_regions.specs.declared.region.Region.{Region}
 use Rattle.stm_script.specs.declared.report.Kind.TheVariants.{W}
 use Rattle.stm_script.specs.declared.report.Row.{Row}
 use Rattle.stm_script.specs.declared.workload.Item.{Item}
-use Rattle.stm_script.specs.declared.workload.Item.TheVariants.{Tx, Switch}
+use Rattle.stm_script.specs.declared.workload.Item.TheVariants.{Tx, Switch, Reserve}
 use Rattle.stm_script.specs.GrowthLaws.{Grew}
 use Rattle.stm_script.specs.Parts.{Worked, RowOf, RowIn, by_kind}
 use Rattle.stm_script.specs.Reports.{RowFits, counted, scripts_of, script_of, zeros}
@@ -39,6 +39,7 @@ scripts-append n (Tx caller script ∷ xs) ys = by (caller == n) (scripts-append
     by true r = ap (λ l. script ∷ l) r
     by false r = r
 scripts-append n (Switch caller alg ∷ xs) ys = scripts-append n xs ys
+scripts-append n (Reserve caller reads writes ∷ xs) ys = scripts-append n xs ys
 
 at-left : {A : Type 0} (xs ys : List A) (i : ℕ) (d : A) → i < length xs → get_or (xs ++ ys) i d ≡ get_or xs i d
 at-left [] ys i d lt = absurd (omega arith)
@@ -96,6 +97,7 @@ done-next good words regions n first (Tx caller script ∷ left) ops rest b f is
     let one : scripts_of n (Tx caller ops ∷ []) ≡ ops ∷ [] = ap (λ t. if t then ops ∷ [] else []) test in
     record { did = first ++ Tx caller ops ∷ []; begins = (ops, rest, is, refl); scripts = scripts-append n first (Tx caller ops ∷ []) ∙ ap (λ l. scripts_of n first ++ l) one }
 done-next good words regions n first (Switch caller alg ∷ left) ops rest b f is = absurd b
+done-next good words regions n first (Reserve caller reads writes ∷ left) ops rest b f is = absurd b
 
 module _ {K : Type 0} (good : List ℕ → Type 0) (stm : Stm K) (v : Worker K) (s : Sound good stm v) where
   -- each of the items that are done has its row

@@ -6,4 +6,5 @@ mod StandLaws
 mod TellLaws
 mod TurnLaws
 mod LeaveLaws
+mod ReplyLaws
 mod StopLaws

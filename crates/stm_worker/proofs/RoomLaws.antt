@@ -4,7 +4,7 @@ use Rattle.std.specs.Prelude.{None}
 use Rattle.stm_profile.specs.declared.policy.Policy.{Policy}
 use Rattle.stm_profile.specs.Profiles.{Noted}
 use Rattle.stm_script.specs.declared.workload.Item.{Item}
-use Rattle.stm_script.specs.declared.workload.Item.TheVariants.{Tx, Switch}
+use Rattle.stm_script.specs.declared.workload.Item.TheVariants.{Tx, Switch, Reserve}
 use Rattle.stm_script.specs.Outputs.{Output}
 use Rattle.stm_model.specs.declared.alg.Alg.{Alg}
 use Rattle.stm_script.specs.declared.report.Row.{Row}
@@ -30,6 +30,7 @@ tx-spares : (left : List Item) → BeforeTx left → spares left ≡ spares (res
 tx-spares [] b = absurd b
 tx-spares (Tx caller script ∷ items) b = refl
 tx-spares (Switch caller alg ∷ items) b = absurd b
+tx-spares (Reserve caller reads writes ∷ items) b = absurd b
 
 -- what is in use has the room of the next script, and what is spare that of those behind it
 pub spare-next : (left : List Item) (spare : List Output) (out : Output) → BeforeTx left → spare ++ cleared out ∷ [] ≡ spares left → (spare ≡ spares (rest_of left)) × (cleared out ≡ blank (length (script_at left)))
@@ -43,6 +44,7 @@ pub some-spare : (left : List Item) → 0 < length (spares left)
 some-spare [] = omega arith
 some-spare (Tx caller script ∷ items) = let l = length-append (spares items) (blank (length script) ∷ []) in omega arith
 some-spare (Switch caller alg ∷ items) = some-spare items
+some-spare (Reserve caller reads writes ∷ items) = some-spare items
 
 -- so there is room behind an open transaction
 pub room-left : (left : List Item) (spare : List Output) (out : Output) → BeforeTx left → spare ++ cleared out ∷ [] ≡ spares left → 0 < length spare
@@ -53,6 +55,7 @@ pub spare-empty : (left : List Item) (spare : List Output) (out : Output) → sp
 spare-empty [] spare out e = let is = (last-same spare [] out (blank 0) e).1 in is ∙ ap cleared (sym is)
 spare-empty (Tx caller script ∷ items) spare out e = let is = (last-same spare (spares items) out (blank (length script)) e).1 in is ∙ ap cleared (sym is)
 spare-empty (Switch caller alg ∷ items) spare out e = spare-empty items spare out e
+spare-empty (Reserve caller reads writes ∷ items) spare out e = spare-empty items spare out e
 
 -- what was the last spare is now in use
 pub room-ended : (left : List Item) (spare less : List Output) (out fresh : Output) → BeforeTx left → spare ++ cleared out ∷ [] ≡ spares left → spare ≡ less ++ fresh ∷ [] → (fresh ≡ cleared fresh) × (less ++ cleared fresh ∷ [] ≡ spares (rest_of left))
@@ -64,11 +67,11 @@ room-ended left spare less out fresh b h was =
 pub one-less : {A : Type 0} (xs ys : List A) (x : A) → xs ≡ ys ++ x ∷ [] → length xs ≡ length ys + 1
 one-less xs ys x e = ap length e ∙ length-append ys (x ∷ [])
 
-abbrev first_at : ℕ → List Item → Alg → Policy → Place
-first_at n items alg policy = record { caller = n; left = items; failed = 0; must = false; phase = Between; alg = alg; rest = []; replies = []; emits = []; wrote = false; granted = false; rows = []; policy = policy; profile = no_profile; chosen = None }
+abbrev first_at : ℕ → List Item → Alg → Policy → ℕ → ℕ → Place
+first_at n items alg policy reads writes = record { caller = n; left = items; failed = 0; must = false; phase = Between; alg = alg; rest = []; replies = []; emits = []; wrote = false; granted = false; rows = []; policy = policy; profile = no_profile; chosen = None; reads_limit = reads; writes_limit = writes }
 
 -- a worker's place at first, where what is in use is empty
-pub start-at : (n : ℕ) (items : List Item) (alg : Alg) (policy : Policy) (p : Noted) (o : Output) (rows : List Row) → o ≡ cleared o → rows ≡ [] → p ≡ no_profile
-    → record { caller = n; left = items; failed = 0; must = false; phase = Between; alg = alg; rest = []; replies = o.replies; emits = o.emits; wrote = false; granted = false; rows = rows; policy = policy; profile = p; chosen = None } ≡ first_at n items alg policy
-start-at n items alg policy p o rows empty none new =
+pub start-at : (n : ℕ) (items : List Item) (alg : Alg) (policy : Policy) (reads writes : ℕ) (p : Noted) (o : Output) (rows : List Row) → o ≡ cleared o → rows ≡ [] → p ≡ no_profile
+    → record { caller = n; left = items; failed = 0; must = false; phase = Between; alg = alg; rest = []; replies = o.replies; emits = o.emits; wrote = false; granted = false; rows = rows; policy = policy; profile = p; chosen = None; reads_limit = reads; writes_limit = writes } ≡ first_at n items alg policy reads writes
+start-at n items alg policy reads writes p o rows empty none new =
     let r = ap (λ (x : Output). x.replies) empty in let e = ap (λ (x : Output). x.emits) empty in cc

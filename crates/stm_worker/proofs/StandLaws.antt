@@ -9,11 +9,11 @@ use Rattle.stm_profile.specs.declared.policy.Policy.{Policy}
 use Rattle.stm_profile.specs.declared.policy.Policy.TheVariants.{Fixed, Round, Expert, State}
 use Rattle.stm_profile.specs.Profiles.{Noted}
 use Rattle.stm_script.specs.declared.op.Op.{Op}
-use Rattle.stm_script.specs.declared.op.Op.TheVariants.{Read, Write, Add, Move, Emit, Irrev, Cancel, Count, Total, ListInsert, ListRemove, ListContains, ListLength, HashInsert, HashRemove, HashContains, TreeInsert, TreeRemove, TreeContains, TreeLeast}
+use Rattle.stm_script.specs.declared.op.Op.TheVariants.{Read, Write, Add, Move, Emit, Irrev, Cancel, Count, Total, ListInsert, ListRemove, ListContains, ListLength, HashInsert, HashRemove, HashContains, TreeInsert, TreeRemove, TreeContains, TreeLeast, QueuePut, QueueGet, MapPut, MapRemove, MapGet, MapSum}
 use Rattle.tx_regions.specs.declared.region.Region.{Region}
 use Rattle.stm_script.specs.declared.report.Row.{Row}
 use Rattle.stm_script.specs.declared.workload.Item.{Item}
-use Rattle.stm_script.specs.declared.workload.Item.TheVariants.{Tx, Switch}
+use Rattle.stm_script.specs.declared.workload.Item.TheVariants.{Tx, Switch, Reserve}
 use Rattle.stm_script.specs.GrowthLaws.{Grew, grew-trans, worked-grows}
 use Rattle.stm_script.specs.Keeping.{ScriptKeeps}
 use Rattle.stm_script.specs.Operations.{ScriptFits, emits_of}
@@ -27,10 +27,10 @@ use Rattle.stm_trace.specs.Adapting.{asked_by}
 use Rattle.stm_trace.specs.declared.said.Phase.{Phase}
 use Rattle.stm_trace.specs.declared.said.Phase.TheVariants.{Between, Inside, Closing, Quiet}
 use Rattle.stm_trace.specs.Places.{script_at, rest_of}
-use Rattle.stm_trace.specs.Turns.{BeforeTx, MustSwitchTo, SwitchesTo, Next}
+use Rattle.stm_trace.specs.Turns.{BeforeTx, Lengthens, MustSwitchTo, SwitchesTo, Next}
 use Rattle.stm_worker.specs.Installs.{AreAmong, InstallsBy}
 use Rattle.stm_worker.specs.InstallLaws.{by-more}
-use Rattle.stm_worker.specs.Workers.{IsAskedBy, IsAt, WhenInside, ItemsFit, switches_of, DidFirst, DidSwitches, Works, WorksSince, Stands, cleared, spares}
+use Rattle.stm_worker.specs.Workers.{IsAskedBy, IsAt, IsLength, WhenInside, ItemsFit, switches_of, DidFirst, DidSwitches, Works, WorksSince, Stands, cleared, spares}
 
 pub callers-same : {K : Type 0} (d e : Handle K) → IsSameCaller d e → caller_of e.who.role ≡ caller_of d.who.role
 callers-same d e s = ap (λ x. caller_of x.role) s.who
@@ -43,11 +43,13 @@ pub head-fits : (good : List ℕ → Type 0) (words : ℕ) (regions : List Regio
 head-fits good words regions n [] b h = absurd b
 head-fits good words regions n (Tx caller script ∷ items) b h = (h.1, h.2)
 head-fits good words regions n (Switch caller alg ∷ items) b h = absurd b
+head-fits good words regions n (Reserve caller reads writes ∷ items) b h = absurd b
 
 pub rest-fits : (good : List ℕ → Type 0) (words : ℕ) (regions : List Region) (n : ℕ) (left : List Item) → ItemsFit good words regions n left → ItemsFit good words regions n (rest_of left)
 rest-fits good words regions n [] h = h
 rest-fits good words regions n (Tx caller script ∷ items) h = h.3
 rest-fits good words regions n (Switch caller alg ∷ items) h = h.2
+rest-fits good words regions n (Reserve caller reads writes ∷ items) h = h.3
 
 pub tx-scripts : (good : List ℕ → Type 0) (words : ℕ) (regions : List Region) (n : ℕ) (left : List Item) → BeforeTx left → ItemsFit good words regions n left → scripts_of n left ≡ script_at left ∷ scripts_of n (rest_of left)
 tx-scripts good words regions n [] b h = absurd b
@@ -55,12 +57,14 @@ tx-scripts good words regions n (Tx caller script ∷ items) b h =
     let e = h.0 in
     let test : (caller == n) ≡ true = grind (arith, nat_tests) in rw test refl
 tx-scripts good words regions n (Switch caller alg ∷ items) b h = absurd b
+tx-scripts good words regions n (Reserve caller reads writes ∷ items) b h = absurd b
 
 -- a transaction stands first
 pub tx-left : (left : List Item) → BeforeTx left → (switches_of left ≡ switches_of (rest_of left)) × (length left ≡ suc (length (rest_of left)))
 tx-left [] b = absurd b
 tx-left (Tx caller script ∷ items) b = (refl, refl)
 tx-left (Switch caller alg ∷ items) b = absurd b
+tx-left (Reserve caller reads writes ∷ items) b = absurd b
 
 -- a switch stands first
 pub switch-left : (n : ℕ) (alg : Alg) (left : List Item) → SwitchesTo alg left
@@ -68,11 +72,28 @@ pub switch-left : (n : ℕ) (alg : Alg) (left : List Item) → SwitchesTo alg le
 switch-left n alg [] h = absurd h
 switch-left n alg (Tx caller script ∷ items) h = absurd h
 switch-left n alg (Switch caller a ∷ items) h = (ap (λ x. x ∷ switches_of items) h, refl, refl, refl)
+switch-left n alg (Reserve caller reads writes ∷ items) h = absurd h
+
+-- longer logs stand first
+pub reserve-left : (n reads writes : ℕ) (left : List Item) → Lengthens reads writes left
+    → (switches_of left ≡ switches_of (rest_of left)) × (scripts_of n (rest_of left) ≡ scripts_of n left) × (spares left ≡ spares (rest_of left))
+reserve-left n reads writes [] h = absurd h
+reserve-left n reads writes (Tx caller script ∷ items) h = absurd h
+reserve-left n reads writes (Switch caller alg ∷ items) h = absurd h
+reserve-left n reads writes (Reserve caller r w ∷ items) h = (refl, refl, refl)
+
+-- each of them has a log's length
+pub reserve-sizes : (good : List ℕ → Type 0) (words : ℕ) (regions : List Region) (n reads writes : ℕ) (left : List Item) → Lengthens reads writes left → ItemsFit good words regions n left → IsLength reads × IsLength writes
+reserve-sizes good words regions n reads writes [] h f = absurd h
+reserve-sizes good words regions n reads writes (Tx caller script ∷ items) h f = absurd h
+reserve-sizes good words regions n reads writes (Switch caller alg ∷ items) h f = absurd h
+reserve-sizes good words regions n reads writes (Reserve caller r w ∷ items) h f = (subst IsLength h.0 f.1, subst IsLength h.1 f.2)
 
 switch-built : (good : List ℕ → Type 0) (words : ℕ) (regions : List Region) (n : ℕ) (alg : Alg) (left : List Item) → SwitchesTo alg left → ItemsFit good words regions n left → is_built alg ≡ true
 switch-built good words regions n alg [] h f = absurd h
 switch-built good words regions n alg (Tx caller script ∷ items) h f = absurd h
 switch-built good words regions n alg (Switch caller a ∷ items) h f = sym (ap is_built h) ∙ f.1
+switch-built good words regions n alg (Reserve caller reads writes ∷ items) h f = absurd h
 
 pub drop-head : {A : Type 0} (k : ℕ) (d x : A) (xs ys : List A) → x ∷ ys ≡ drop k xs → (get_or xs k d ≡ x) × (ys ≡ drop (suc k) xs)
 drop-head zero d x [] ys h = absurd cc
@@ -120,19 +141,25 @@ few-emits (Move a b k) reply = omega arith
 few-emits (Emit a) reply = omega arith
 few-emits Irrev reply = omega arith
 few-emits Cancel reply = omega arith
-few-emits (Count stripe k) reply = omega arith
-few-emits Total reply = omega arith
-few-emits (ListInsert key) reply = omega arith
-few-emits (ListRemove key) reply = omega arith
-few-emits (ListContains key) reply = omega arith
-few-emits ListLength reply = omega arith
-few-emits (HashInsert key) reply = omega arith
-few-emits (HashRemove key) reply = omega arith
-few-emits (HashContains key) reply = omega arith
-few-emits (TreeInsert key) reply = omega arith
-few-emits (TreeRemove key) reply = omega arith
-few-emits (TreeContains key) reply = omega arith
-few-emits TreeLeast reply = omega arith
+few-emits (Count r stripe k) reply = omega arith
+few-emits (Total r) reply = omega arith
+few-emits (ListInsert r key) reply = omega arith
+few-emits (ListRemove r key) reply = omega arith
+few-emits (ListContains r key) reply = omega arith
+few-emits (ListLength r) reply = omega arith
+few-emits (HashInsert r key) reply = omega arith
+few-emits (HashRemove r key) reply = omega arith
+few-emits (HashContains r key) reply = omega arith
+few-emits (TreeInsert r key) reply = omega arith
+few-emits (TreeRemove r key) reply = omega arith
+few-emits (TreeContains r key) reply = omega arith
+few-emits (TreeLeast r) reply = omega arith
+few-emits (QueuePut r v) reply = omega arith
+few-emits (QueueGet r) reply = omega arith
+few-emits (MapPut r key v) reply = omega arith
+few-emits (MapRemove r key) reply = omega arith
+few-emits (MapGet r key) reply = omega arith
+few-emits (MapSum r lo hi) reply = omega arith
 
 -- a reply more is in the room that was there
 pub cleared-told : (o p : Output) (rs : List ℕ) → p ≡ record o { replies = rs } → cleared p ≡ cleared o

@@ -13,7 +13,7 @@ use Rattle.stm_model.specs.declared.stop.Stop.{Stop}
 use Rattle.stm_model.specs.declared.stop.Stop.TheVariants as stops
 use Rattle.stm_script.specs.declared.workload.Header.{Header}
 use Rattle.stm_trace.specs.declared.said.Said.{Said}
-use Rattle.stm_trace.specs.declared.said.Said.TheVariants.{TryBegin, Reply, Stopped, TryCancel, TryIrrevocable, TryCommit, TryClose, Looked, Installed, Idle, Dropped, Reopened}
+use Rattle.stm_trace.specs.declared.said.Said.TheVariants.{TryBegin, Reply, Stopped, TryCancel, TryIrrevocable, TryCommit, TryClose, Looked, Installed, Reserved, Idle, Dropped, Reopened}
 use Rattle.stm_trace.specs.FairLaws.{IsPlaceOf, fair-begin, fair-close, fair-look, fair-cancel, fair-irrevocable, fair-commit, fair-stop}
 use Rattle.stm_trace.specs.Places.{Place, clock_of}
 use Rattle.stm_trace.specs.Turns.{HasSizes, IsFair}
@@ -28,7 +28,7 @@ use Rattle.tx_answers.specs.declared.answers.Commit.TheVariants as commits
 use Rattle.tx_answers.specs.declared.answers.Irrev.TheVariants as irrevs
 use Rattle.tx_answers.specs.declared.answers.Look.TheVariants as looks
 use Rattle.stm_worker.specs.Tellings.{Tells}
-use Rattle.stm_worker.specs.Workers.{HasLengths, Loaded, installed}
+use Rattle.stm_worker.specs.Workers.{Loaded, installed}
 
 pub owed-in : (v : Known) → v.running ≡ true → owed v ≡ v.base + 2
 owed-in v e = ap (λ b. if b then v.base + 2 else v.rises) e
@@ -47,6 +47,7 @@ Asks (TryCommit r) v = v.running ≡ true
 Asks (TryClose r) v = v.running ≡ false
 Asks (Looked l) v = v.running ≡ false
 Asks (Installed alg) v = v.running ≡ false
+Asks (Reserved reads writes) v = v.running ≡ false
 Asks Idle v = Unit {0}
 Asks Dropped v = v.running ≡ true
 Asks Reopened v = v.running ≡ false
@@ -108,6 +109,8 @@ module _ (good : List ℕ → Type 0) (c : Config) (n : ℕ) where
   tells-owed (Looked (looks.Busy caller status)) v w out t = let a = owed-out v out in let b = owed-out w t.0.closed.holds.running in let r = t.0.rises in omega arith
   tells-owed (Installed alg) v w out t =
       let a = owed-out v out in let b = owed-out w t.2.idle.1 in let r = t.2.rises in let i = t.1.rises.1 in let l = install-low alg in omega arith
+  tells-owed (Reserved reads writes) v w out t =
+      let a = owed-out v out in let b = owed-out w (ap (λ (k : Known). k.running) t.1 ∙ out) in let r : w.rises ≡ v.rises = ap (λ (k : Known). k.rises) t.1 in omega arith
   tells-owed Idle v w any t = (let e : owed w ≡ owed v = ap owed t in omega (arith, e))
   tells-owed Dropped v w inside t = let x = t.1 in ends-owed v w (quit_rise v.alg (wrote v)) inside x.0.ends x.2 (let l = quit-low v.alg (wrote v) in omega arith)
   tells-owed Reopened v w out t = stays-owed v w out t
@@ -135,6 +138,7 @@ module _ (good : List ℕ → Type 0) (c : Config) (n : ℕ) where
   tells-found (TryClose r) v w t = tt
   tells-found (Looked l) v w t = tt
   tells-found (Installed alg) v w t = tt
+  tells-found (Reserved reads writes) v w t = tt
   tells-found Idle v w t = tt
   tells-found Dropped v w t = tt
   tells-found Reopened v w t = tt
@@ -163,6 +167,7 @@ module _ (good : List ℕ → Type 0) (c : Config) (n : ℕ) where
   tells-installs (Looked looks.Quiet) v w t = none w.installs v.installs t.0.installs
   tells-installs (Looked (looks.Busy caller status)) v w t = none w.installs v.installs t.0.installs
   tells-installs (Installed alg) v w t = t.2.installs ∙ t.1.installs
+  tells-installs (Reserved reads writes) v w t = none w.installs v.installs (ap (λ (k : Known). k.installs) t.1)
   tells-installs Idle v w t = none w.installs v.installs (ap (λ (k : Known). k.installs) t)
   tells-installs Dropped v w t = none w.installs v.installs t.1.0.ends.installs
   tells-installs Reopened v w t = none w.installs v.installs t.installs
@@ -176,14 +181,14 @@ module _ (good : List ℕ → Type 0) (c : Config) (n : ℕ) where
         by true e = absurd (let t : true ≡ false = sym (k.sure inside e).1 ∙ off in cc)
         by false e = refl
 
-    pub tells-fair : (said : Said) (v w : Known) → Asks said v → (v.running ≡ true → IsPlaceOf v at) → HasLengths c v → Tells good c n said v w → IsFair h at said
+    pub tells-fair : (said : Said) (v w : Known) → Asks said v → (v.running ≡ true → IsPlaceOf v at) → (v.reads_limit ≡ at.reads_limit) × (v.writes_limit ≡ at.writes_limit) → Tells good c n said v w → IsFair h at said
     tells-fair (TryBegin b) v w out is lengths t = fair-begin good c n h at ranges sizes caller b v w t
     tells-fair (Reply op reply) v w inside is lengths t = tt
     tells-fair (Stopped op stop) v w inside is lengths t =
         let place = is inside in
         let k = t.carries in
         fair-stop good c n h at ranges sizes caller t.before (record { alg = place.alg ∙ sym k.alg; unsure = λ e. place.sure ∙ not-sure v t.before inside k e })
-        (k.grows.reads_limit ∙ (lengths.0 ∙ sym (sizes.4))) (k.grows.writes_limit ∙ (lengths.1 ∙ sym (sizes.5)))
+        (k.grows.reads_limit ∙ lengths.0) (k.grows.writes_limit ∙ lengths.1)
         op t.address stop w t.writes t.stops
     tells-fair (TryCancel r) v w inside is lengths t = fair-cancel good c n h at ranges sizes caller v (is inside) r w t
     tells-fair (TryIrrevocable irrevs.Granted) v w inside is lengths t = tt
@@ -195,6 +200,7 @@ module _ (good : List ℕ → Type 0) (c : Config) (n : ℕ) where
     tells-fair (TryClose r) v w out is lengths t = fair-close good c n h at ranges sizes caller r v w t
     tells-fair (Looked l) v w out is lengths t = fair-look good c n h at ranges sizes caller l v w t
     tells-fair (Installed alg) v w out is lengths t = tt
+    tells-fair (Reserved reads writes) v w out is lengths t = tt
     tells-fair Idle v w any is lengths t = tt
     tells-fair Dropped v w inside is lengths t = tt
     tells-fair Reopened v w out is lengths t = tt

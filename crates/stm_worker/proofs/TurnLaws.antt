@@ -25,45 +25,46 @@ use Rattle.stm_script.specs.Scripts.{run}
 use Rattle.stm_script.specs.ScriptLaws.{GaveOver, ran_one}
 use Rattle.stm_rule.specs.Callers.{Handle, IsOf, IsSameCaller}
 use Rattle.stm_rule.specs.declared.stm.Stm.{Stm}
+use Rattle.rule_base.specs.declared.views.View.{View}
 use Rattle.tx_answers.specs.Answers.{BeginsAt, Continues, HoldsClosed, Quits, Stays}
 use Rattle.tx_answers.specs.Answers as answers
-use Rattle.tx_answers.specs.Known.{Known, Grows, IsIdle, IsRunning, caller_of, is_irrevocable}
+use Rattle.tx_answers.specs.Known.{Known, Grows, IsIdle, IsRunning, caller_of, is_irrevocable, known_of}
 use Rattle.tx_answers.specs.Known as knows
 use Rattle.tx_answers.specs.KnownLaws.{Carries, IsStillIn, grows-same, grows-trans}
 use Rattle.tx_answers.specs.declared.answers.Begin.TheVariants.{Begun}
 use Rattle.tx_answers.specs.declared.answers.Cancel.TheVariants.{Cancelled, Irrevocable}
 use Rattle.tx_answers.specs.declared.answers.Commit.TheVariants.{Committed, ReadOnly, Again}
 use Rattle.tx_answers.specs.declared.answers.Irrev.TheVariants.{Granted, Busy}
-use Rattle.stm_tx.specs.Descs.{known}
+use Rattle.stm_tx.specs.Descs.{Reserves, known}
 use Rattle.stm_trace.specs.Adapting.{asked_by, no_profile, outcome_of}
 use Rattle.stm_trace.specs.declared.said.Phase.{Phase}
 use Rattle.stm_trace.specs.declared.said.Phase.TheVariants.{Between, Inside, Closing, Quiet}
 use Rattle.stm_trace.specs.declared.said.Said.{Said}
-use Rattle.stm_trace.specs.declared.said.Said.TheVariants.{TryBegin, Reply, Stopped, TryCancel, TryIrrevocable, TryCommit, Installed, Idle}
+use Rattle.stm_trace.specs.declared.said.Said.TheVariants.{TryBegin, Reply, Stopped, TryCancel, TryIrrevocable, TryCommit, Installed, Reserved, Idle}
 use Rattle.stm_trace.specs.FairLaws.{IsPlaceOf}
 use Rattle.stm_trace.specs.Places.{Place, script_at, rest_of, ended, after, failed_next, granted_at, is_forced, must_next, most_failed, sure, writes}
 use Rattle.stm_trace.specs.Places as places
-use Rattle.stm_trace.specs.Turns.{BeforeTx, Comes, MaySay, MayWind, MustSwitchTo, Next, SwitchesTo, is_call}
+use Rattle.stm_trace.specs.Turns.{BeforeTx, Comes, Lengthens, MaySay, MayWind, MustSwitchTo, Next, SwitchesTo, is_call}
 use Rattle.stm_worker.specs.declared.worker.Worker.{Worker}
 use Rattle.stm_worker.specs.Goings.{Going, no_log, no_replies}
-use Rattle.stm_worker.specs.Tellings.{Tells, StoppedBy}
+use Rattle.stm_worker.specs.Tellings.{Tells, IsOutside, StoppedBy}
 use Rattle.stm_worker.specs.Installs.{InstallsBy}
 use Rattle.stm_worker.specs.InstallLaws.{by-same, by-trans}
-use Rattle.stm_worker.specs.Workers.{place_of, switches_with, IsAskedBy, HasLengths, IsAt, IsCounted, IsSame, IsUnderWay, ToSwitch, WhenInside, ItemsFit, switches_of, DidFirst, DidSwitches, Works, WorksSince, Stands, cleared, spares, WroteRow, EndsWith, adapted, Sound, Turned, Refused, stopped_by}
+use Rattle.stm_worker.specs.Workers.{place_of, switches_with, IsAskedBy, IsAt, IsCounted, IsSame, IsUnderWay, ToSwitch, WhenInside, ItemsFit, switches_of, DidFirst, DidSwitches, Works, WorksSince, Stands, cleared, spares, WroteRow, EndsWith, adapted, Sound, Starved, Turned, Refused, stopped_by}
 use Rattle.stm_worker.proofs.Calls.{grew, nothing, commits, quits}
 use Rattle.stm_worker.proofs.GoingLaws.{wrote-one, going-begun, going-step, going-refused, going-asked, going-later, gave-all, gave-cut, cut-unasked}
 use Rattle.stm_worker.proofs.RoomLaws.{room-of}
 use Rattle.stm_worker.proofs.RowLaws.{row-wrote, row-read, row-cancelled, row_of}
-use Rattle.stm_worker.proofs.StandLaws.{asked-is, asked-none, besides, callers-same, cleared-more, cleared-told, did-first, did-left, did-same, did-switch, drop-head, drop-more, few-emits, head-fits, next-is, rest-between, rest-closed, rest-fits, rest-quiet, rest-runs, rest-stands, Rest, room-next, room-told, since-begin, since-later, stands-rest, switch-left, at-closed, tx-left, tx-scripts, when-rest, works-later, works-over}
+use Rattle.stm_worker.proofs.StandLaws.{asked-is, asked-none, besides, callers-same, cleared-more, cleared-told, did-first, did-left, did-same, did-switch, drop-head, drop-more, few-emits, head-fits, next-is, rest-between, rest-closed, rest-fits, rest-quiet, rest-runs, rest-stands, Rest, reserve-left, room-next, room-told, since-begin, since-later, stands-rest, switch-left, at-closed, tx-left, tx-scripts, when-rest, works-later, works-over}
 use Rattle.stm_worker.proofs.TellLaws.{Asks, stops-quits, tells-fair, tells-found, tells-installs, tells-owed}
 
-began-at : (at : Place) (n : ℕ) (ops : List Op) (o : Output) (alg : Alg) → n ≡ at.caller → ops ≡ script_at at.left → o.replies ≡ [] → o.emits ≡ []
-    → record at { caller = n; phase = Inside; alg = alg; rest = ops; replies = o.replies; emits = o.emits; wrote = false; granted = false } ≡ after at (TryBegin (Begun alg))
-began-at at n ops o alg c r a b = cc
+began-at : (at : Place) (ops : List Op) (o : Output) (alg : Alg) → ops ≡ script_at at.left → o.replies ≡ [] → o.emits ≡ []
+    → record at { phase = Inside; alg = alg; rest = ops; replies = o.replies; emits = o.emits; wrote = false; granted = false } ≡ after at (TryBegin (Begun alg))
+began-at at ops o alg r a b = cc
 
-operated-at : (at : Place) (n : ℕ) (ops : List Op) (o : Output) (wrote : Bool) (op : Op) (reply : ℕ) → n ≡ at.caller → ops ≡ rest_of at.rest → wrote ≡ at.wrote || writes op reply → o.replies ≡ at.replies ++ reply ∷ [] → o.emits ≡ at.emits ++ emits_of op reply
-    → record at { caller = n; rest = ops; replies = o.replies; emits = o.emits; wrote = wrote } ≡ after at (Reply op reply)
-operated-at at n ops o wrote op reply c r w a b = cc
+operated-at : (at : Place) (ops : List Op) (o : Output) (wrote : Bool) (op : Op) (reply : ℕ) → ops ≡ rest_of at.rest → wrote ≡ at.wrote || writes op reply → o.replies ≡ at.replies ++ reply ∷ [] → o.emits ≡ at.emits ++ emits_of op reply
+    → record at { rest = ops; replies = o.replies; emits = o.emits; wrote = wrote } ≡ after at (Reply op reply)
+operated-at at ops o wrote op reply r w a b = cc
 
 or-false : (a : Bool) → a ≡ a || false
 or-false true = refl
@@ -73,19 +74,19 @@ append-none : (xs : List ℕ) → xs ≡ xs ++ []
 append-none [] = refl
 append-none (x ∷ xs) = ap (λ w. x ∷ w) (append-none xs)
 
-refused-at : (at : Place) (n : ℕ) (ops : List Op) (o : Output) → n ≡ at.caller → ops ≡ rest_of at.rest → o.replies ≡ at.replies ++ 0 ∷ [] → o.emits ≡ at.emits
-    → record at { caller = n; rest = ops; replies = o.replies; emits = o.emits } ≡ after at (TryCancel Irrevocable)
-refused-at at n ops o c r a b = let w = or-false at.wrote in let e = append-none at.emits in cc
+refused-at : (at : Place) (ops : List Op) (o : Output) → ops ≡ rest_of at.rest → o.replies ≡ at.replies ++ 0 ∷ [] → o.emits ≡ at.emits
+    → record at { rest = ops; replies = o.replies; emits = o.emits } ≡ after at (TryCancel Irrevocable)
+refused-at at ops o r a b = let w = or-false at.wrote in let e = append-none at.emits in cc
 
-asked-at : (at : Place) (n : ℕ) (ops : List Op) (o : Output) → n ≡ at.caller → ops ≡ rest_of at.rest → o.replies ≡ at.replies ++ 1 ∷ [] → o.emits ≡ at.emits
-    → record at { caller = n; rest = ops; replies = o.replies; emits = o.emits; granted = true } ≡ granted_at false at
-asked-at at n ops o c r a b = let w = or-false at.wrote in let e = append-none at.emits in cc
+asked-at : (at : Place) (ops : List Op) (o : Output) → ops ≡ rest_of at.rest → o.replies ≡ at.replies ++ 1 ∷ [] → o.emits ≡ at.emits
+    → record at { rest = ops; replies = o.replies; emits = o.emits; granted = true } ≡ granted_at false at
+asked-at at ops o r a b = let w = or-false at.wrote in let e = append-none at.emits in cc
 
-installed-at : (at : Place) (n : ℕ) (left : List Item) → at.chosen ≡ None → n ≡ at.caller → left ≡ rest_of at.left → record at { caller = n; left = left; phase = Between } ≡ places.switched at.chosen at
-installed-at at n left none c l = (λ i. record at { caller = c i; left = l i; phase = Between }) ∙ sym (ap (λ (x : Option Alg). places.switched x at) none)
+installed-at : (at : Place) (left : List Item) → at.chosen ≡ None → left ≡ rest_of at.left → record at { left = left; phase = Between } ≡ places.switched at.chosen at
+installed-at at left none l = ap (λ x. record at { left = x; phase = Between }) l ∙ sym (ap (λ (x : Option Alg). places.switched x at) none)
 
-besides-at : (at : Place) (n : ℕ) (chosen : Alg) → at.chosen ≡ Some chosen → n ≡ at.caller → record at { caller = n; phase = Between; profile = no_profile; chosen = None } ≡ places.switched at.chosen at
-besides-at at n chosen some c = (λ i. record at { caller = c i; phase = Between; profile = no_profile; chosen = None }) ∙ sym (ap (λ (x : Option Alg). places.switched x at) some)
+besides-at : (at : Place) (chosen : Alg) → at.chosen ≡ Some chosen → record at { phase = Between; profile = no_profile; chosen = None } ≡ places.switched at.chosen at
+besides-at at chosen some = sym (ap (λ (x : Option Alg). places.switched x at) some)
 
 cancelled-at : (at : Place) (o p : Output) (t : ℕ) → at.replies ≡ o.replies → at.emits ≡ o.emits → p ≡ record o { replies = o.replies ++ 1 ∷ [] }
     → ended C t (record at { replies = p.replies; emits = p.emits }) ≡ after at (TryCancel (Cancelled t))
@@ -124,7 +125,7 @@ asks-out : {K : Type 0} (good : List ℕ → Type 0) (stm : Stm K) (u : Worker K
 asks-out good stm u s r = rest-runs good stm.config (caller_of u.desc.who.role) u.phase (known u.desc) r s.at
 
 module _ {K : Type 0} (good : List ℕ → Type 0) (stm : Stm K) (u : Worker K) (s : Sound good stm u) where
-  resting-now : Rest u.phase → Works good stm.config.words u.regions.now u.all.now (caller_of u.desc.who.role) (known u.desc) u.rows.items
+  pub resting-now : Rest u.phase → Works good stm.config.words u.regions.now u.all.now (caller_of u.desc.who.role) (known u.desc) u.rows.items
   resting-now r = rest-stands good stm.config.words u.regions.now u.all.now (caller_of u.desc.who.role) (known u.desc) u.rows.items u.phase r s.stands
 
   pub inside-now : u.phase ≡ Inside → WorksSince good stm.config.words u.regions.now u.all.now (caller_of u.desc.who.role) (known u.desc) u.rows.items
@@ -183,7 +184,7 @@ module _ {K : Type 0} (good : List ℕ → Type 0) (stm : Stm K) (u : Worker K) 
       told = told;
       now = now;
       same = same;
-      fair = λ h sizes. tells-fair good stm.config (caller_of u.desc.who.role) h (place_of u) config sizes refl said (known u.desc) (known w.desc) asks (λ e. place-is (inside-of-running u.phase s.at e)) s.lengths told;
+      fair = λ h sizes. tells-fair good stm.config (caller_of u.desc.who.role) h (place_of u) config sizes refl said (known u.desc) (known w.desc) asks (λ e. place-is (inside-of-running u.phase s.at e)) (refl, refl) told;
       pays = tells-owed good stm.config (caller_of u.desc.who.role) said (known u.desc) (known w.desc) asks told;
       found = tells-found good stm.config (caller_of u.desc.who.role) said (known u.desc) (known w.desc) told;
       installs = tells-installs good stm.config (caller_of u.desc.who.role) said (known u.desc) (known w.desc) told;
@@ -199,8 +200,9 @@ module _ {K : Type 0} (good : List ℕ → Type 0) (stm : Stm K) (u : Worker K) 
     pub own-same : IsOf d stm
     own-same = record { table = same.table ∙ s.own.table; config = ap (λ x. x.config) same.who ∙ s.own.config; rule = ap (λ x. x.rule) same.who ∙ s.own.rule }
 
-    lengths-same : HasLengths stm.config (known d)
-    lengths-same = (grows.reads_limit ∙ s.lengths.0, grows.writes_limit ∙ s.lengths.1)
+    -- the call left the place as it was
+    pub place-now : place_of (record u { desc = d }) ≡ place_of u
+    place-now = λ i. record (place_of u) { caller = n_is i; reads_limit = grows.reads_limit i; writes_limit = grows.writes_limit i }
 
     -- whatever changed of the attempt, the rows are as they were
     sound-noted : (q : Noted) (p : Phase) (alg : Alg) (r : Bor (List Op)) (o : Output) (wrote granted must b : Bool) (failed : ℕ) → IsAt good stm.config (caller_of u.desc.who.role) p (known d) → cleared o ≡ cleared u.out → (known d).installs ≡ (known u.desc).installs
@@ -210,7 +212,6 @@ module _ {K : Type 0} (good : List ℕ → Type 0) (stm : Stm K) (u : Worker K) 
     sound-noted q p alg r o wrote granted must b failed at room installs stands few turning under = record {
       own = own-same;
       at = subst (λ n. IsAt good stm.config n p (known d)) (sym n_is) at;
-      lengths = lengths-same;
       stands = subst (λ n. Stands good stm.config.words u.regions.now u.all.now n (known d) u.rows.items p) (sym n_is) stands;
       done = s.done;
       todo = subst (λ n. scripts_of n u.items_left.now ≡ drop (length u.rows.items) (scripts_of n u.all.now)) (sym n_is) s.todo;
@@ -272,7 +273,7 @@ module _ {K : Type 0} (good : List ℕ → Type 0) (stm : Stm K) (u : Worker K) 
         })
 
     pub began-now : (alg : Alg) (r : Bor (List Op)) (o : Output) → r.now ≡ script_at u.items_left.now → o ≡ cleared u.out → place_of (record u { desc = d; phase = Inside; alg = alg; operations_left = r; out = o; wrote = false; granted = false; passed = false }) ≡ after (place_of u) (TryBegin (Begun alg))
-    began-now alg r o is clear = began-at (place_of u) (caller_of d.who.role) r.now o alg n_is is (ap (λ (x : Output). x.replies) clear) (ap (λ (x : Output). x.emits) clear)
+    began-now alg r o is clear = began-at (place_of (record u { desc = d })) r.now o alg is (ap (λ (x : Output). x.replies) clear) (ap (λ (x : Output). x.emits) clear) ∙ ap (λ (p : Place). after p (TryBegin (Begun alg))) place-now
 
     -- the attempt goes on, from where the script was
     stays-in : (alg : Alg) (r : Bor (List Op)) (o : Output) (wrote granted must b : Bool) (failed : ℕ) → u.phase ≡ Inside → (known d).running ≡ true → (known d).made ≡ (known u.desc).made → (known u.desc).start ≤ (known d).start → (known d).installs ≡ (known u.desc).installs → cleared o ≡ cleared u.out
@@ -333,7 +334,7 @@ module _ {K : Type 0} (good : List ℕ → Type 0) (stm : Stm K) (u : Worker K) 
 
     pub operated-now : (op : Op) (reply : ℕ) (r : Bor (List Op)) (o : Output) (wrote : Bool) → r.now ≡ rest_of u.operations_left.now → wrote ≡ u.wrote || writes op reply → o ≡ record u.out { replies = u.out.replies ++ reply ∷ []; emits = u.out.emits ++ emits_of op reply }
         → place_of (record u { desc = d; operations_left = r; out = o; wrote = wrote }) ≡ after (place_of u) (Reply op reply)
-    operated-now op reply r o wrote is was told = operated-at (place_of u) (caller_of d.who.role) r.now o wrote op reply n_is is was (ap (λ (x : Output). x.replies) told) (ap (λ (x : Output). x.emits) told)
+    operated-now op reply r o wrote is was told = operated-at (place_of (record u { desc = d })) r.now o wrote op reply is was (ap (λ (x : Output). x.replies) told) (ap (λ (x : Output). x.emits) told) ∙ ap (λ (p : Place). after p (Reply op reply)) place-now
 
     -- the caller knows what it knew: the call changed nothing
     same-known : known d ≡ known u.desc → Stands good stm.config.words u.regions.now u.all.now (caller_of u.desc.who.role) (known d) u.rows.items u.phase
@@ -357,7 +358,7 @@ module _ {K : Type 0} (good : List ℕ → Type 0) (stm : Stm K) (u : Worker K) 
         }))
 
     pub refused-now : (r : Bor (List Op)) (o : Output) → r.now ≡ rest_of u.operations_left.now → o ≡ record u.out { replies = u.out.replies ++ 0 ∷ [] } → place_of (record u { desc = d; operations_left = r; out = o }) ≡ after (place_of u) (TryCancel Irrevocable)
-    refused-now r o is told = refused-at (place_of u) (caller_of d.who.role) r.now o n_is is (ap (λ (x : Output). x.replies) told) (ap (λ (x : Output). x.emits) told)
+    refused-now r o is told = refused-at (place_of (record u { desc = d })) r.now o is (ap (λ (x : Output). x.replies) told) (ap (λ (x : Output). x.emits) told) ∙ ap (λ (p : Place). after p (TryCancel Irrevocable)) place-now
 
     -- a cancel was refused outside the script
     pub refused-drop : u.phase ≡ Inside → known d ≡ known u.desc → is_irrevocable (known u.desc) ≡ true → Refused good stm u (record u { desc = d })
@@ -371,7 +372,7 @@ module _ {K : Type 0} (good : List ℕ → Type 0) (stm : Stm K) (u : Worker K) 
             waits = at.waits;
           }));
       is_sure = sure-place inside ∙ certain;
-      now = ap (λ n. record (place_of u) { caller = n }) n_is;
+      now = place-now;
       knows = knows;
       same = record { same = same; all = refl; regions = refl; policy = refl; switched = kept-switches u d (ap (λ (v : Known). v.installs) knows) };
     }
@@ -406,10 +407,10 @@ module _ {K : Type 0} (good : List ℕ → Type 0) (stm : Stm K) (u : Worker K) 
         })
 
     pub forced-now : is_forced (place_of u) ≡ true → place_of (record u { desc = d; granted = true }) ≡ after (place_of u) (TryIrrevocable Granted)
-    forced-now e = ap (λ n. record (place_of u) { caller = n; granted = true }) n_is ∙ sym (ap (λ b. granted_at b (place_of u)) e)
+    forced-now e = ap (λ (p : Place). record p { granted = true }) place-now ∙ sym (ap (λ b. granted_at b (place_of u)) e)
 
     pub asked-now : (r : Bor (List Op)) (o : Output) → is_forced (place_of u) ≡ false → r.now ≡ rest_of u.operations_left.now → o ≡ record u.out { replies = u.out.replies ++ 1 ∷ [] } → place_of (record u { desc = d; operations_left = r; out = o; granted = true }) ≡ after (place_of u) (TryIrrevocable Granted)
-    asked-now r o e is told = asked-at (place_of u) (caller_of d.who.role) r.now o n_is is (ap (λ (x : Output). x.replies) told) (ap (λ (x : Output). x.emits) told) ∙ sym (ap (λ b. granted_at b (place_of u)) e)
+    asked-now r o e is told = asked-at (place_of (record u { desc = d })) r.now o is (ap (λ (x : Output). x.replies) told) (ap (λ (x : Output). x.emits) told) ∙ (ap (granted_at false) place-now ∙ sym (ap (λ b. granted_at b (place_of u)) e))
 
     -- the attempt waits to be alone, or to commit
     waits-on : (b : Bool) → u.phase ≡ Inside → Continues (known u.desc) (known d) → (known d).log ≡ (known u.desc).log → (known d).granted ≡ (known u.desc).granted → answers.IsOpaque good stm.config (caller_of u.desc.who.role) (known d)
@@ -432,7 +433,7 @@ module _ {K : Type 0} (good : List ℕ → Type 0) (stm : Stm K) (u : Worker K) 
     again b inside none free h log opaque = waits-on b inside h.continues log h.granted opaque (λ e. (none, free))
 
     pub same-place : (b : Bool) → place_of (record u { desc = d; passed = b }) ≡ place_of u
-    same-place b = ap (λ n. record (place_of u) { caller = n }) n_is
+    same-place b = place-now
 
     pub still-same : (b : Bool) → (known d).installs ≡ (known u.desc).installs → IsSame u (record u { desc = d; passed = b })
     still-same b installs = record { same = same; all = refl; regions = refl; policy = refl; switched = kept-switches u d installs }
@@ -442,7 +443,7 @@ module _ {K : Type 0} (good : List ℕ → Type 0) (stm : Stm K) (u : Worker K) 
     over-now said q must b failed o clear is =
         let r : o.replies ≡ [] = ap (λ (x : Output). x.replies) clear in
         let e : o.emits ≡ [] = ap (λ (x : Output). x.emits) clear in
-        (λ i. record (place_of u) { caller = n_is i; phase = Between; replies = r i; emits = e i; failed = failed; must = must; profile = q }) ∙ is
+        (λ i. record (place-now i) { phase = Between; replies = r i; emits = e i; failed = failed; must = must; profile = q }) ∙ is
 
     script-here : BeforeTx u.items_left.now → slice_index_or (scripts_of (caller_of u.desc.who.role) u.all.now) (length u.rows.items) [] ≡ script_at u.items_left.now
     script-here b = (drop-head (length u.rows.items) [] (script_at u.items_left.now) (scripts_of (caller_of u.desc.who.role) u.all.now) (scripts_of (caller_of u.desc.who.role) (rest_of u.items_left.now)) (sym (tx-scripts good stm.config.words u.regions.now (caller_of u.desc.who.role) u.items_left.now b s.fits) ∙ s.todo)).0
@@ -455,7 +456,7 @@ module _ {K : Type 0} (good : List ℕ → Type 0) (stm : Stm K) (u : Worker K) 
         let n = caller_of u.desc.who.role in
         let first = (attempt-now inside).here in
         let row = row_of kind time n (length u.rows.items) o in
-        let at : place_of w ≡ ended kind time (record (place_of u) { replies = o.replies; emits = o.emits }) = ends.at ∙ ap (λ k. ended kind time (record (place_of u) { caller = k; replies = o.replies; emits = o.emits })) n_is in
+        let at : place_of w ≡ ended kind time (record (place_of u) { replies = o.replies; emits = o.emits }) = ends.at ∙ ap (λ (p : Place). ended kind time (record p { replies = o.replies; emits = o.emits })) place-now in
         let caller : caller_of w.desc.who.role ≡ n = ap (λ (p : Place). p.caller) at in
         let rows : w.rows.items ≡ u.rows.items ++ row ∷ [] = ap (λ (p : Place). p.rows) at in
         let left : w.items_left.now ≡ rest_of u.items_left.now = ap (λ (p : Place). p.left) at in
@@ -478,7 +479,6 @@ module _ {K : Type 0} (good : List ℕ → Type 0) (stm : Stm K) (u : Worker K) 
           record {
             own = subst (λ (h : Handle K). IsOf h stm) (sym ends.desc) own-same;
             at = subst (λ p. IsAt good stm.config (caller_of w.desc.who.role) p (known w.desc)) (sym phase) (subst (λ (h : Handle K). IsIdle (known h)) (sym ends.desc) idle);
-            lengths = subst (λ (h : Handle K). HasLengths stm.config (known h)) (sym ends.desc) lengths-same;
             stands = stands-rest good stm.config.words w.regions.now w.all.now (caller_of w.desc.who.role) (known w.desc) w.rows.items w.phase rests worked;
             done = subst (λ x. DidFirst x w.items_left.now) (sym ends.all) (subst (DidFirst u.all.now) (sym left) (did-first u.all.now u.items_left.now s.done));
             todo = subst (λ k. scripts_of k w.items_left.now ≡ drop (length w.rows.items) (scripts_of k w.all.now)) (sym caller)
@@ -554,7 +554,6 @@ module _ {K : Type 0} (good : List ℕ → Type 0) (stm : Stm K) (u : Worker K) 
           record {
             own = own-same;
             at = idle;
-            lengths = lengths-same;
             stands = rests-again (rest-quiet u.phase quiet) made;
             done = subst (DidFirst u.all.now) (sym is) (did-first u.all.now u.items_left.now s.done);
             todo = subst (λ k. scripts_of k r.now ≡ drop (length u.rows.items) (scripts_of k u.all.now)) (sym n_is) (ap (scripts_of n) is ∙ (left.1 ∙ s.todo));
@@ -576,7 +575,7 @@ module _ {K : Type 0} (good : List ℕ → Type 0) (stm : Stm K) (u : Worker K) 
             switched = by-same u.policy (switches_with u) ((known d).installs ++ switches_of r.now)
                 (ap (λ l. (known d).installs ++ switches_of l) is ∙ (ap (λ l. l ++ switches_of (rest_of u.items_left.now)) installs ∙ (append_assoc (known u.desc).installs (alg ∷ []) (switches_of (rest_of u.items_left.now)) ∙ ap (λ l. (known u.desc).installs ++ l) (sym left.0))));
           },
-          installed-at (place_of u) (caller_of d.who.role) r.now none n_is is,
+          installed-at (place_of (record u { desc = d })) r.now none is ∙ ap (λ (p : Place). places.switched p.chosen p) place-now,
         )
 
     -- the switch that the policy asked for is done
@@ -589,7 +588,6 @@ module _ {K : Type 0} (good : List ℕ → Type 0) (stm : Stm K) (u : Worker K) 
           record {
             own = own-same;
             at = idle;
-            lengths = lengths-same;
             stands = rests-again (rest-quiet u.phase quiet) made;
             done = s.done;
             todo = subst (λ k. scripts_of k u.items_left.now ≡ drop (length u.rows.items) (scripts_of k u.all.now)) (sym n_is) s.todo;
@@ -604,8 +602,13 @@ module _ {K : Type 0} (good : List ℕ → Type 0) (stm : Stm K) (u : Worker K) 
             under_way = tt;
           },
           record { same = same; all = refl; regions = refl; policy = refl; switched = more },
-          besides-at (place_of u) (caller_of d.who.role) chosen some n_is,
+          besides-at (place_of (record u { desc = d })) chosen some ∙ ap (λ (p : Place). places.switched p.chosen p) place-now,
         )
+
+-- whoever took the same steps is outside in the same way
+pub outside : {K : Type 0} (d e : Handle K) → e.view ≡ d.view → IsOutside (known d) (known e)
+outside d e same =
+    subst (λ (v : View). known_of v e.own ≡ record (known d) { committing = e.own.committing; log = (known_of v e.own).log; depth = e.own.depth; marks = e.own.marks; reads_limit = e.own.reads_limit; writes_limit = e.own.writes_limit }) (sym same) refl
 
 -- each call's turn
 module _ {K : Type 0} (good : List ℕ → Type 0) (stm : Stm K) (u : Worker K) (s : Sound good stm u) (d : Handle K) (same : IsSameCaller u.desc d) where
@@ -632,7 +635,7 @@ module _ {K : Type 0} (good : List ℕ → Type 0) (stm : Stm K) (u : Worker K) 
   pub turned-closed : (said : Said) (p : Phase) → Rest u.phase → Rest p → MaySay (place_of u) said → Asks said (known u.desc) → Tells good stm.config (caller_of u.desc.who.role) said (known u.desc) (known d) → record (place_of u) { phase = p } ≡ after (place_of u) said
       → (grows : Grows (known u.desc) (known d)) → (known d).made ≡ (known u.desc).made → (known d).installs ≡ (known u.desc).installs → IsAt good stm.config (caller_of u.desc.who.role) p (known d) → ToSwitch p u.chosen u.items_left.now → Turned good stm MaySay u said (record u { desc = d; phase = p })
   turned-closed said p r q here asks told is grows made installs at turning =
-      turned-by good stm u s MaySay said _ stm.ranges here asks told (ap (λ k. record (place_of u) { caller = k; phase = p }) (callers-same u.desc d same) ∙ is)
+      turned-by good stm u s MaySay said _ stm.ranges here asks told (ap (λ (q : Place). record q { phase = p }) (place-now good stm u s d same grows) ∙ is)
       (record { same = same; all = refl; regions = refl; policy = refl; switched = kept-switches u d installs })
       (rested good stm u s d same grows p r q made installs at turning)
 
@@ -640,7 +643,7 @@ module _ {K : Type 0} (good : List ℕ → Type 0) (stm : Stm K) (u : Worker K) 
   pub turned-reopened : (u.phase ≡ Closing) ⊎ (u.phase ≡ Quiet) → answers.Reopens good stm.config (caller_of u.desc.who.role) (known u.desc) (known d) → Turned good stm MayWind u Said.Reopened (record u { desc = d; phase = Between })
   turned-reopened closing h =
       let r = rest-closed u.phase closing in
-      turned-by good stm u s MayWind Said.Reopened _ stm.ranges closing (is-between r) h (ap (λ k. record (place_of u) { caller = k; phase = Between }) (callers-same u.desc d same))
+      turned-by good stm u s MayWind Said.Reopened _ stm.ranges closing (is-between r) h (ap (λ (q : Place). record q { phase = Between }) (place-now good stm u s d same h.grows))
       (record { same = same; all = refl; regions = refl; policy = refl; switched = kept-switches u d h.installs })
       (rested good stm u s d same h.grows Between r tt h.made h.installs h.idle tt)
 
@@ -748,6 +751,56 @@ module _ {K : Type 0} (good : List ℕ → Type 0) (stm : Stm K) (u : Worker K) 
       let grows = grows-trans (known u.desc) x (known d) i.closed.grows h.grows in
       let e = switched-besides good stm u s d same grows alg chosen quiet some (subst (λ (c : Option Alg). MustSwitchTo alg c u.items_left.now) some to) h.idle (h.made ∙ i.closed.made) (h.installs ∙ i.installs) in
       turned-by good stm u s MaySay (Installed alg) _ stm.ranges (quiet, to) (is-between (rest-quiet u.phase quiet)) (x, i, h) e.2 e.1 e.0
+
+  -- the logs are longer: nothing else is said of the caller than that its next item is done
+  pub turned-lengthened : (reads writes : ℕ) (r : Bor (List Item)) → u.phase ≡ Between → u.chosen ≡ None → Lengthens reads writes u.items_left.now → r.now ≡ rest_of u.items_left.now → Reserves reads writes (known u.desc) (known d) → IsOutside (known u.desc) (known d)
+      → Turned good stm MaySay u (Reserved reads writes) (record u { desc = d; items_left = r })
+  turned-lengthened reads writes r between none here is sizes outside =
+      let n = caller_of u.desc.who.role in
+      let n_is = callers-same u.desc d same in
+      let rest = rest-between u.phase between in
+      let left = reserve-left n reads writes u.items_left.now here in
+      let installs : (known d).installs ≡ (known u.desc).installs = ap (λ (v : Known). v.installs) outside in
+      let idle : IsIdle (known d) = subst IsIdle (sym outside) (idle-now good stm u s between) in
+      let works : Works good stm.config.words u.regions.now u.all.now n (known d) u.rows.items =
+      subst (λ (v : Known). Works good stm.config.words u.regions.now u.all.now n v u.rows.items) (sym outside) (resting-now good stm u s rest) in
+      turned-by good stm u s MaySay (Reserved reads writes) _ stm.ranges (between, here, none) (is-between rest) (sizes, outside)
+      (λ i. record (place_of u) { caller = n_is i; left = is i; reads_limit = sizes.0 i; writes_limit = sizes.1 i })
+      (record {
+        same = same;
+        all = refl;
+        regions = refl;
+        policy = refl;
+        switched = by-same u.policy (switches_with u) ((known d).installs ++ switches_of r.now)
+            (ap (λ l. (known d).installs ++ switches_of l) is ∙ (ap (λ l. l ++ switches_of (rest_of u.items_left.now)) installs ∙ ap (λ l. (known u.desc).installs ++ l) (sym left.0)));
+      })
+      (record {
+        own = record { table = same.table ∙ s.own.table; config = ap (λ x. x.config) same.who ∙ s.own.config; rule = ap (λ x. x.rule) same.who ∙ s.own.rule };
+        at = subst (λ p. IsAt good stm.config (caller_of d.who.role) p (known d)) (sym between) idle;
+        stands = stands-rest good stm.config.words u.regions.now u.all.now (caller_of d.who.role) (known d) u.rows.items u.phase rest (subst (λ k. Works good stm.config.words u.regions.now u.all.now k (known d) u.rows.items) (sym n_is) works);
+        done = subst (DidFirst u.all.now) (sym is) (did-first u.all.now u.items_left.now s.done);
+        todo = subst (λ k. scripts_of k r.now ≡ drop (length u.rows.items) (scripts_of k u.all.now)) (sym n_is) (ap (scripts_of n) is ∙ (left.1 ∙ s.todo));
+        within = subst (λ k. length u.rows.items ≤ length (scripts_of k u.all.now)) (sym n_is) s.within;
+        counted = s.counted;
+        switched = subst (λ l. DidSwitches u.policy u.all.now l (known d)) (sym is) (did-left u.policy u.all.now u.items_left.now (rest_of u.items_left.now) (known u.desc) (known d) installs left.0 s.switched);
+        asked = s.asked;
+        fits = subst (λ k. ItemsFit good stm.config.words u.regions.now k r.now) (sym n_is) (subst (ItemsFit good stm.config.words u.regions.now n) (sym is) (rest-fits good stm.config.words u.regions.now n u.items_left.now s.fits));
+        roomy = record { spare = s.roomy.spare ∙ (left.2 ∙ ap spares (sym is)); rows = s.roomy.rows };
+        turning = subst (λ p. ToSwitch p u.chosen r.now) (sym between) tt;
+        plain = s.plain;
+        under_way = when-rest u.phase rest _;
+      })
+
+  -- memory for longer logs was refused
+  pub starved : (reads writes : ℕ) → u.phase ≡ Between → Lengthens reads writes u.items_left.now → d ≡ u.desc → Starved good stm u (record u { desc = d })
+  starved reads writes between here still =
+      let whole : record u { desc = d } ≡ u = ap (λ (x : Handle K). record u { desc = x }) still in
+      record {
+        sound = subst (Sound good stm) (sym whole) s;
+        between = between;
+        next = (reads, writes, here);
+        still = whole;
+      }
 
   stopped-is : (op : Op) (stop : Stop) (o : Output) → Comes op (place_of u) → is_call op ≡ false → StoppedBy good stm.config (caller_of u.desc.who.role) op stop (known u.desc) (known d) → o ≡ cleared u.out
       → Turned good stm MaySay u (Stopped op stop) (stopped_by stop (record u { desc = d; out = o }))

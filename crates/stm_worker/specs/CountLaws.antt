@@ -9,7 +9,7 @@ use Rattle.stm_profile.specs.declared.outcome.Outcome.{Outcome}
 use Rattle.stm_profile.specs.declared.outcome.Outcome.TheVariants as outcomes
 use Rattle.stm_script.specs.declared.op.Op.{Op}
 use Rattle.stm_script.specs.declared.workload.Item.{Item}
-use Rattle.stm_script.specs.declared.workload.Item.TheVariants.{Tx, Switch}
+use Rattle.stm_script.specs.declared.workload.Item.TheVariants.{Tx, Switch, Reserve}
 use Rattle.tx_answers.specs.Answers.{Stops}
 use Rattle.tx_answers.specs.Known.{Known}
 use Rattle.tx_answers.specs.declared.answers.Begin.TheVariants as begins
@@ -21,9 +21,9 @@ use Rattle.tx_answers.specs.declared.answers.Irrev.TheVariants as irrevs
 use Rattle.tx_answers.specs.declared.answers.Look.TheVariants as looks
 use Rattle.stm_trace.specs.declared.said.Phase.TheVariants.{Inside}
 use Rattle.stm_trace.specs.declared.said.Said.{Said}
-use Rattle.stm_trace.specs.declared.said.Said.TheVariants.{TryBegin, Reply, Stopped, TryCancel, TryIrrevocable, TryCommit, TryClose, Looked, Installed, Idle, Dropped, Reopened}
+use Rattle.stm_trace.specs.declared.said.Said.TheVariants.{TryBegin, Reply, Stopped, TryCancel, TryIrrevocable, TryCommit, TryClose, Looked, Installed, Reserved, Idle, Dropped, Reopened}
 use Rattle.stm_trace.specs.Places.{Place, after, failed_next, granted_at, in_the_way, is_forced, must_next, rest_of, switched}
-use Rattle.stm_trace.specs.Turns.{BeforeTx, MaySay, MustSwitchTo, SwitchesTo}
+use Rattle.stm_trace.specs.Turns.{BeforeTx, Lengthens, MaySay, MustSwitchTo, SwitchesTo}
 use Rattle.stm_worker.specs.Payments.{IsCountedFor}
 use Rattle.stm_worker.specs.Tellings.{Tells}
 
@@ -70,6 +70,7 @@ module _ (good : List ℕ → Type 0) (c : Config) (n : ℕ) (one : c.callers �
   alone-failed (Looked looks.Quiet) at v w e t = e
   alone-failed (Looked (looks.Busy caller status)) at v w e t = e
   alone-failed (Installed alg) at v w e t = switched-failed at.chosen at e
+  alone-failed (Reserved reads writes) at v w e t = e
   alone-failed Idle at v w e t = e
   alone-failed Dropped at v w e t = e
   alone-failed Reopened at v w e t = e
@@ -79,16 +80,26 @@ counted-tx : (left : List Item) (failed : ℕ) (must : Bool) → BeforeTx left �
 counted-tx [] failed must b = absurd b
 counted-tx (Tx caller script ∷ items) failed must b = tt
 counted-tx (Switch caller alg ∷ items) failed must b = absurd b
+counted-tx (Reserve caller reads writes ∷ items) failed must b = absurd b
 
 pub counted-none : (left : List Item) → IsCountedFor left 0 false
 counted-none [] = (refl, refl)
 counted-none (Tx caller script ∷ items) = tt
 counted-none (Switch caller alg ∷ items) = (refl, refl)
+counted-none (Reserve caller reads writes ∷ items) = (refl, refl)
 
 counted-switch : (alg : Alg) (left : List Item) (failed : ℕ) (must : Bool) → SwitchesTo alg left → IsCountedFor left failed must → IsCountedFor (rest_of left) failed must
 counted-switch alg [] failed must to h = absurd to
 counted-switch alg (Tx caller script ∷ items) failed must to h = absurd to
 counted-switch alg (Switch caller is ∷ items) failed must to h =
+    subst (λ m. IsCountedFor items failed m) (sym h.1) (subst (λ f. IsCountedFor items f false) (sym h.0) (counted-none items))
+counted-switch alg (Reserve caller reads writes ∷ items) failed must to h = absurd to
+
+counted-reserve : (reads writes : ℕ) (left : List Item) (failed : ℕ) (must : Bool) → Lengthens reads writes left → IsCountedFor left failed must → IsCountedFor (rest_of left) failed must
+counted-reserve reads writes [] failed must to h = absurd to
+counted-reserve reads writes (Tx caller script ∷ items) failed must to h = absurd to
+counted-reserve reads writes (Switch caller alg ∷ items) failed must to h = absurd to
+counted-reserve reads writes (Reserve caller r w ∷ items) failed must to h =
     subst (λ m. IsCountedFor items failed m) (sym h.1) (subst (λ f. IsCountedFor items f false) (sym h.0) (counted-none items))
 
 abbrev pub CountsAt : Place → Type 0
@@ -139,6 +150,7 @@ said-counts (TryClose (closes.Taken gate)) at here may h = h
 said-counts (Looked looks.Quiet) at here may h = h
 said-counts (Looked (looks.Busy caller status)) at here may h = h
 said-counts (Installed alg) at here may h = switched-counts alg at.chosen at may.1 h
+said-counts (Reserved reads writes) at here may h = counted-reserve reads writes at.left at.failed at.must may.1 h
 said-counts Idle at here may h = h
 said-counts Dropped at here may h = absurd may
 said-counts Reopened at here may h = absurd may

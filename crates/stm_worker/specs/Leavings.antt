@@ -4,7 +4,7 @@ use Rattle.stm_model.specs.declared.config.Config.{Config}
 use Rattle.stm_script.specs.declared.op.Op.{Op}
 use Rattle.stm_script.specs.declared.report.Row.{Row}
 use Rattle.stm_script.specs.declared.workload.Item.{Item}
-use Rattle.stm_script.specs.declared.workload.Item.TheVariants.{Tx, Switch}
+use Rattle.stm_script.specs.declared.workload.Item.TheVariants.{Tx, Switch, Reserve}
 use Rattle.stm_script.specs.Reports.{scripts_of}
 use Rattle.stm_rule.specs.declared.stm.Stm.{Stm}
 use Rattle.stm_rule.specs.Callers.{IsOf, IsSameCaller}
@@ -52,6 +52,7 @@ abbrev pub BeginsNext : List Item → List Item → List Item → Type 0
 BeginsNext first [] did = ⊥
 BeginsNext first (Tx caller script ∷ left) did = (ops rest : List Op) × (script ≡ ops ++ rest) × (did ≡ first ++ Tx caller ops ∷ [])
 BeginsNext first (Switch caller alg ∷ left) did = ⊥
+BeginsNext first (Reserve caller reads writes ∷ left) did = ⊥
 
 -- of all items the first ones, behind which these are left, and maybe the first operations of the transaction that comes next
 abbrev pub IsPart : List Item → List Item → List Item → Type 0

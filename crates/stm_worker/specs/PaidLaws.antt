@@ -18,7 +18,7 @@ use Rattle.stm_script.specs.declared.op.Op.{Op}
 use Rattle.stm_script.specs.declared.report.Kind.{Kind}
 use Rattle.stm_script.specs.declared.report.Kind.TheVariants.{W, R, C}
 use Rattle.stm_script.specs.declared.workload.Item.{Item}
-use Rattle.stm_script.specs.declared.workload.Item.TheVariants.{Tx, Switch}
+use Rattle.stm_script.specs.declared.workload.Item.TheVariants.{Tx, Switch, Reserve}
 use Rattle.tx_answers.specs.Answers.{Quits, Stays}
 use Rattle.tx_answers.specs.Known.{Known, caller_of, is_irrevocable, wrote}
 use Rattle.tx_answers.specs.declared.answers.Begin.TheVariants as begins
@@ -32,9 +32,9 @@ use Rattle.stm_tx.specs.Descs.{known}
 use Rattle.stm_trace.specs.Adapting.{asked_by, outcome_of}
 use Rattle.stm_trace.specs.declared.said.Phase.TheVariants.{Between, Inside, Closing, Quiet}
 use Rattle.stm_trace.specs.declared.said.Said.{Said}
-use Rattle.stm_trace.specs.declared.said.Said.TheVariants.{TryBegin, Reply, Stopped, TryCancel, TryIrrevocable, TryCommit, TryClose, Looked, Installed, Idle, Dropped, Reopened}
+use Rattle.stm_trace.specs.declared.said.Said.TheVariants.{TryBegin, Reply, Stopped, TryCancel, TryIrrevocable, TryCommit, TryClose, Looked, Installed, Reserved, Idle, Dropped, Reopened}
 use Rattle.stm_trace.specs.Places.{after, ended, failed_next, given_up, granted_at, in_the_way, is_forced, most_failed, must_next, rest_of, sure, switched}
-use Rattle.stm_trace.specs.Turns.{BeforeTx, Comes, MaySay, MayWind, MustSwitchTo, SwitchesTo}
+use Rattle.stm_trace.specs.Turns.{BeforeTx, Comes, Lengthens, MaySay, MayWind, MustSwitchTo, SwitchesTo}
 use Rattle.stm_worker.specs.declared.worker.Worker.{Worker}
 use Rattle.stm_worker.specs.Payments.{raised, spent, Paid, dropped_of, due_of, unpaid_by}
 use Rattle.stm_worker.specs.RiseLaws.{raised-in, raised-out, stops-quits}
@@ -55,6 +55,7 @@ pub tx-less : (left : List Item) → BeforeTx left → length left ≡ suc (leng
 tx-less [] b = absurd b
 tx-less (Tx caller script ∷ items) b = refl
 tx-less (Switch caller alg ∷ items) b = absurd b
+tx-less (Reserve caller reads writes ∷ items) b = absurd b
 
 -- a policy asks for one switch at most
 due-low : (c : Option Alg) → due_of c ≤ 1
@@ -65,6 +66,13 @@ switch-less : (alg : Alg) (left : List Item) → SwitchesTo alg left → length 
 switch-less alg [] b = absurd b
 switch-less alg (Tx caller script ∷ items) b = absurd b
 switch-less alg (Switch caller to ∷ items) b = refl
+switch-less alg (Reserve caller reads writes ∷ items) b = absurd b
+
+reserve-less : (reads writes : ℕ) (left : List Item) → Lengthens reads writes left → length left ≡ suc (length (rest_of left))
+reserve-less reads writes [] b = absurd b
+reserve-less reads writes (Tx caller script ∷ items) b = absurd b
+reserve-less reads writes (Switch caller alg ∷ items) b = absurd b
+reserve-less reads writes (Reserve caller r w ∷ items) b = refl
 
 -- at most `most` are spent on an item
 pub spent-low : (most failed : ℕ) (must : Bool) → (must ≡ false → failed ≤ most) → spent most failed must ≤ most
@@ -226,6 +234,10 @@ module _ {K : Type 0} (good : List ℕ → Type 0) (stm : Stm K) (u : Worker K) 
         let i = t.1.rises.1 in
         let l = install-low alg in
         switched-paid alg x u.chosen refl may.1 (omega (arith, a, b))
+    said-paid (Reserved reads writes) x may t =
+        let e : raised x ≡ raised (known u.desc) = ap raised t.1 in
+        let one = each-item each u.items_left.now (reserve-less reads writes u.items_left.now may.1) in
+        omega (arith, e, one, pays)
     said-paid Idle x may t = same-paid x (ap raised t)
     said-paid Dropped x may t = absurd may
     said-paid Reopened x may t = absurd may
@@ -241,6 +253,7 @@ module _ {K : Type 0} (good : List ℕ → Type 0) (stm : Stm K) (u : Worker K) 
     wound-paid (TryClose c) x may t = said-paid (TryClose c) x may.2 t
     wound-paid (Looked l) x may t = said-paid (Looked l) x may.2 t
     wound-paid (Installed alg) x may t = said-paid (Installed alg) x may.2 t
+    wound-paid (Reserved reads writes) x may t = said-paid (Reserved reads writes) x may.2 t
     wound-paid Idle x may t = said-paid Idle x may.2 t
     wound-paid Dropped x may t =
         let c = t.1 in
@@ -255,16 +268,25 @@ pub dropped-low : (left : List Item) → dropped_of left ≤ 1
 dropped-low [] = omega arith
 dropped-low (Tx caller script ∷ items) = omega arith
 dropped-low (Switch caller alg ∷ items) = omega arith
+dropped-low (Reserve caller reads writes ∷ items) = omega arith
 
 pub dropped-tx : (left : List Item) → BeforeTx left → dropped_of left ≡ 1
 dropped-tx [] b = absurd b
 dropped-tx (Tx caller script ∷ items) b = refl
 dropped-tx (Switch caller alg ∷ items) b = absurd b
+dropped-tx (Reserve caller reads writes ∷ items) b = absurd b
 
 dropped-switch : (alg : Alg) (left : List Item) → SwitchesTo alg left → dropped_of left ≡ 0
 dropped-switch alg [] b = absurd b
 dropped-switch alg (Tx caller script ∷ items) b = absurd b
 dropped-switch alg (Switch caller to ∷ items) b = refl
+dropped-switch alg (Reserve caller reads writes ∷ items) b = absurd b
+
+dropped-reserve : (reads writes : ℕ) (left : List Item) → Lengthens reads writes left → dropped_of left ≡ 0
+dropped-reserve reads writes [] b = absurd b
+dropped-reserve reads writes (Tx caller script ∷ items) b = absurd b
+dropped-reserve reads writes (Switch caller alg ∷ items) b = absurd b
+dropped-reserve reads writes (Reserve caller r w ∷ items) b = refl
 
 -- an item that is done pays for an attempt of it that was dropped, too
 module _ {K : Type 0} (good : List ℕ → Type 0) (stm : Stm K) (u : Worker K) (s : Sound good stm u) (fixed : u.policy ≡ Fixed) (each most all : ℕ) (few : u.must ≡ false → u.failed + 1 ≤ most) (wide : most + 3 ≤ each)
@@ -321,6 +343,10 @@ module _ {K : Type 0} (good : List ℕ → Type 0) (stm : Stm K) (u : Worker K) 
   settles (Looked looks.Quiet) x may t = as-said (Looked looks.Quiet) x may t
   settles (Looked (looks.Busy caller status)) x may t = as-said (Looked (looks.Busy caller status)) x may t
   settles (Installed alg) x may t = switched-left alg x u.chosen may.1 (as-said (Installed alg) x may t)
+  settles (Reserved reads writes) x may t =
+      let h = as-said (Reserved reads writes) x may t in
+      let none = dropped-reserve reads writes u.items_left.now may.1 in
+      omega (arith, h, none)
   settles Idle x may t = as-said Idle x may t
   settles Dropped x may t = absurd may
   settles Reopened x may t = absurd may

@@ -7,13 +7,13 @@ use Rattle.std.specs.Prelude.{Option, Some, None, All, sum_by}
 use Rattle.stm_profile.specs.declared.policy.Policy.TheVariants.{Fixed}
 use Rattle.stm_rule.specs.declared.stm.Stm.{Stm}
 use Rattle.stm_script.specs.declared.workload.Item.{Item}
-use Rattle.stm_script.specs.declared.workload.Item.TheVariants.{Tx, Switch}
+use Rattle.stm_script.specs.declared.workload.Item.TheVariants.{Tx, Switch, Reserve}
 use Rattle.tx_answers.specs.Known.{owed, caller_of}
 use Rattle.stm_tx.specs.Descs.{known}
 use Rattle.stm_trace.specs.declared.said.Phase.{Phase}
 use Rattle.stm_trace.specs.declared.said.Phase.TheVariants.{Between, Inside, Closing, Quiet}
 use Rattle.stm_trace.specs.declared.said.Said.{Said}
-use Rattle.stm_trace.specs.declared.said.Said.TheVariants.{TryBegin, Reply, Stopped, TryCancel, TryIrrevocable, TryCommit, TryClose, Looked, Installed, Idle, Dropped, Reopened}
+use Rattle.stm_trace.specs.declared.said.Said.TheVariants.{TryBegin, Reply, Stopped, TryCancel, TryIrrevocable, TryCommit, TryClose, Looked, Installed, Reserved, Idle, Dropped, Reopened}
 use Rattle.stm_trace.specs.Places.{Place, after, clock_of, most_failed}
 use Rattle.stm_trace.specs.Turns.{MaySay, MayWind, MayFinish}
 use Rattle.stm_worker.specs.declared.worker.Worker.{Worker}
@@ -46,6 +46,7 @@ same-unpaid at (TryCommit c) may = refl
 same-unpaid at (TryClose c) may = refl
 same-unpaid at (Looked l) may = refl
 same-unpaid at (Installed alg) may = refl
+same-unpaid at (Reserved reads writes) may = refl
 same-unpaid at Idle may = refl
 same-unpaid at Dropped may = absurd may
 same-unpaid at Reopened may = absurd may
@@ -81,6 +82,7 @@ finish-says at (TryCommit c) may = may
 finish-says at (TryClose c) may = may
 finish-says at (Looked l) may = may
 finish-says at (Installed alg) may = may
+finish-says at (Reserved reads writes) may = may
 finish-says at Idle may = absurd may
 finish-says at Dropped may = may
 finish-says at Reopened may = may
@@ -114,6 +116,8 @@ all-pays unpaid each most all (Tx caller script ∷ items) failed must risen cou
     let one = each-item each (Tx caller script ∷ items) refl in
     omega (arith, m, one, pays)
 all-pays unpaid each most all (Switch caller alg ∷ items) failed must risen counts few wide pays =
+    let e : spent most failed must ≡ 0 = (λ i. spent most (counts.0 i) (counts.1 i)) in omega (arith, e, pays)
+all-pays unpaid each most all (Reserve caller reads writes ∷ items) failed must risen counts few wide pays =
     let e : spent most failed must ≡ 0 = (λ i. spent most (counts.0 i) (counts.1 i)) in omega (arith, e, pays)
 
 pub pays-all : {K : Type 0} (unpaid each most : ℕ) (w : Worker K) → CountsNext w → (w.must ≡ false → w.failed ≤ most) → most ≤ each → PaysBut unpaid each most w → raised (known w.desc) ≤ each * length w.all.now + unpaid
@@ -175,6 +179,7 @@ module _ {K : Type 0} (good : List ℕ → Type 0) (stm : Stm K) (u : Worker K) 
   wound-pays (TryClose c) t = goes-on (TryClose c) t t.here.0 t.here.2
   wound-pays (Looked l) t = goes-on (Looked l) t t.here.0 t.here.2
   wound-pays (Installed alg) t = goes-on (Installed alg) t t.here.0 t.here.2
+  wound-pays (Reserved reads writes) t = goes-on (Reserved reads writes) t t.here.0 t.here.2
   wound-pays Idle t = goes-on Idle t t.here.0 t.here.2
   wound-pays Dropped t =
       let now : Pays each most u = pays.1 t.here.0 in
@@ -198,6 +203,8 @@ done-all unpaid each most all (Tx caller script ∷ items) failed must risen cou
     let one = each-item each (Tx caller script ∷ items) refl in
     omega (arith, m, one, pays)
 done-all unpaid each most all (Switch caller alg ∷ items) failed must risen counts few wide pays =
+    let e : spent most failed must ≡ 0 = (λ i. spent most (counts.0 i) (counts.1 i)) in omega (arith, e, pays)
+done-all unpaid each most all (Reserve caller reads writes ∷ items) failed must risen counts few wide pays =
     let e : spent most failed must ≡ 0 = (λ i. spent most (counts.0 i) (counts.1 i)) in omega (arith, e, pays)
 
 module _ {K : Type 0} (good : List ℕ → Type 0) (stm : Stm K) (w : Worker K) (s : Sound good stm w) (unpaid each most : ℕ) (counts : CountsNext w) (few : Affords most w) (wide : most + 3 ≤ each)

@@ -3,12 +3,12 @@ use Rattle.std.specs.Prelude.{ℕ, ◌≡◌, ◌≤◌, ◌+◌, ◌*◌, Bool,
 use Rattle.stm_model.specs.declared.alg.Alg.{Alg}
 use Rattle.stm_profile.specs.declared.policy.Policy.TheVariants.{Fixed}
 use Rattle.stm_script.specs.declared.workload.Item.{Item}
-use Rattle.stm_script.specs.declared.workload.Item.TheVariants.{Tx, Switch}
+use Rattle.stm_script.specs.declared.workload.Item.TheVariants.{Tx, Switch, Reserve}
 use Rattle.tx_answers.specs.Known.{Known, owed}
 use Rattle.stm_tx.specs.Descs.{known}
 use Rattle.stm_trace.specs.declared.said.Phase.TheVariants.{Inside}
 use Rattle.stm_trace.specs.declared.said.Said.{Said}
-use Rattle.stm_trace.specs.declared.said.Said.TheVariants.{TryBegin, Reply, Stopped, TryCancel, TryIrrevocable, TryCommit, TryClose, Looked, Installed, Idle, Dropped, Reopened}
+use Rattle.stm_trace.specs.declared.said.Said.TheVariants.{TryBegin, Reply, Stopped, TryCancel, TryIrrevocable, TryCommit, TryClose, Looked, Installed, Reserved, Idle, Dropped, Reopened}
 use Rattle.stm_trace.specs.Places.{Place, clock_of}
 use Rattle.stm_trace.specs.Turns.{MaySay, MayWind, MayFinish}
 use Rattle.stm_rule.specs.declared.stm.Stm.{Stm}
@@ -47,6 +47,7 @@ abbrev pub dropped_of : List Item → ℕ
 dropped_of [] = 0
 dropped_of (Tx caller script ∷ items) = 1
 dropped_of (Switch caller alg ∷ items) = 0
+dropped_of (Reserve caller reads writes ∷ items) = 0
 
 -- it pays for all but that one, which the item pays for once it is done
 abbrev pub PaysOnceDone : {K : Type 0} → ℕ → ℕ → Worker K → Type 0
@@ -83,6 +84,7 @@ unpaid_by (TryCommit c) = unpaid_at (clock_of (TryCommit c))
 unpaid_by (TryClose c) = 0
 unpaid_by (Looked l) = 0
 unpaid_by (Installed alg) = 0
+unpaid_by (Reserved reads writes) = 0
 unpaid_by Idle = 0
 unpaid_by Dropped = 1
 unpaid_by Reopened = 0
@@ -96,6 +98,7 @@ abbrev pub IsCountedFor : List Item → ℕ → Bool → Type 0
 IsCountedFor [] failed must = (failed ≡ 0) × (must ≡ false)
 IsCountedFor (Tx caller script ∷ items) failed must = Unit {0}
 IsCountedFor (Switch caller alg ∷ items) failed must = (failed ≡ 0) × (must ≡ false)
+IsCountedFor (Reserve caller reads writes ∷ items) failed must = (failed ≡ 0) × (must ≡ false)
 
 abbrev pub CountsNext : {K : Type 0} → Worker K → Type 0
 CountsNext w = IsCountedFor w.items_left.now w.failed w.must

@@ -5,14 +5,19 @@ use Rattle.stm_model.specs.declared.stop.Stop.{Stop}
 use Rattle.stm_model.specs.declared.stop.Stop.TheVariants.{ClockFull}
 use Rattle.stm_script.specs.declared.op.Op.{Op}
 use Rattle.stm_trace.specs.declared.said.Said.{Said}
-use Rattle.stm_trace.specs.declared.said.Said.TheVariants.{TryBegin, Reply, Stopped, TryCancel, TryIrrevocable, TryCommit, TryClose, Looked, Installed, Idle, Dropped, Reopened}
+use Rattle.stm_trace.specs.declared.said.Said.TheVariants.{TryBegin, Reply, Stopped, TryCancel, TryIrrevocable, TryCommit, TryClose, Looked, Installed, Reserved, Idle, Dropped, Reopened}
 use Rattle.stm_trace.specs.Places.{may_write}
 use Rattle.tx_answers.specs.Answers.{Begins, Cancels, Closes, Commits, Installs, Irrevs, Looks, Reopens, Stops}
 use Rattle.tx_answers.specs.Known.{Known, IsRunning}
 use Rattle.tx_answers.specs.KnownLaws.{Carries}
+use Rattle.stm_tx.specs.Descs.{Reserves}
 use Rattle.tx_answers.specs.declared.answers.Cancel.TheVariants.{Cancelled}
 use Rattle.tx_answers.specs.declared.answers.Irrev.{Irrev}
 use Rattle.tx_answers.specs.declared.answers.Irrev.TheVariants.{Granted, Busy, Taken, Conflict, ClockFull}
+
+-- all is as it was but what is said of an attempt and of its logs, where none is open
+abbrev pub IsOutside : Known → Known → Type 0
+IsOutside v w = w ≡ record v { committing = w.committing; log = w.log; depth = w.depth; marks = w.marks; reads_limit = w.reads_limit; writes_limit = w.writes_limit }
 
 module _ (good : List ℕ → Type 0) (c : Config) (n : ℕ) where
   -- a read or a write of the operation ended the attempt by this stop, after others of it that went on
@@ -42,6 +47,7 @@ module _ (good : List ℕ → Type 0) (c : Config) (n : ℕ) where
   Tells (TryClose r) v w = Closes good c n r v w
   Tells (Looked l) v w = Looks good c n l v w
   Tells (Installed alg) v w = (u : Known) × Installs good c n alg v u × Reopens good c n u w
+  Tells (Reserved reads writes) v w = Reserves reads writes v w × IsOutside v w
   Tells Idle v w = w ≡ v
   Tells Dropped v w = (time : ℕ) × Cancels good c n (Cancelled time) v w
   Tells Reopened v w = Reopens good c n v w

@@ -11,6 +11,7 @@ use Rattle.stm_profile.specs.declared.policy.Policy.{Policy}
 use Rattle.stm_profile.specs.declared.policy.Policy.TheVariants.{Fixed, Round, Expert, State}
 use Rattle.stm_profile.specs.Profiles.{with_outcome}
 use Rattle.stm_model.specs.declared.config.Config.{Config}
+use Rattle.stm_model.specs.declared.config.TheConstants.{MAX_LOG}
 use Rattle.stm_model.specs.declared.stop.Stop.{Stop}
 use Rattle.stm_model.specs.declared.stop.Stop.TheVariants as stops
 use Rattle.tx_regions.specs.declared.region.Region.{Region}
@@ -18,7 +19,7 @@ use Rattle.stm_script.specs.declared.report.Kind.{Kind}
 use Rattle.stm_script.specs.declared.report.Row.{Row}
 use Rattle.stm_script.specs.declared.workload.Header.{Header}
 use Rattle.stm_script.specs.declared.workload.Item.{Item}
-use Rattle.stm_script.specs.declared.workload.Item.TheVariants.{Tx, Switch}
+use Rattle.stm_script.specs.declared.workload.Item.TheVariants.{Tx, Switch, Reserve}
 use Rattle.stm_script.specs.GrowthLaws.{Grew}
 use Rattle.stm_script.specs.Keeping.{ScriptKeeps}
 use Rattle.stm_script.specs.Operations.{ScriptFits}
@@ -33,17 +34,17 @@ use Rattle.stm_tx.specs.Descs.{known}
 use Rattle.stm_trace.specs.declared.said.Phase.{Phase}
 use Rattle.stm_trace.specs.declared.said.Phase.TheVariants.{Between, Inside, Closing, Quiet}
 use Rattle.stm_trace.specs.declared.said.Said.{Said}
-use Rattle.stm_trace.specs.declared.said.Said.TheVariants.{TryBegin, Reply, Stopped, TryCancel, TryIrrevocable, TryCommit, TryClose, Looked, Installed, Idle, Dropped, Reopened}
+use Rattle.stm_trace.specs.declared.said.Said.TheVariants.{TryBegin, Reply, Stopped, TryCancel, TryIrrevocable, TryCommit, TryClose, Looked, Installed, Reserved, Idle, Dropped, Reopened}
 use Rattle.stm_trace.specs.Adapting.{asked_by, no_profile}
 use Rattle.stm_trace.specs.Places.{Place, after, clock_of, ended, failed_next, must_next, most_failed, recorded, rest_of, script_at, sure}
-use Rattle.stm_trace.specs.Turns.{BeforeTx, MustSwitch, HasSizes, IsFair}
+use Rattle.stm_trace.specs.Turns.{BeforeTx, Lengthens, MustSwitch, HasSizes, IsFair}
 use Rattle.stm_worker.specs.declared.worker.Worker.{Worker}
 use Rattle.stm_worker.specs.Goings.{Going}
 use Rattle.stm_worker.specs.Installs.{InstallsBy}
 use Rattle.stm_worker.specs.Tellings.{Tells}
 
 abbrev pub place_of : {K : Type 0} → Worker K → Place
-place_of w = record { caller = caller_of w.desc.who.role; left = w.items_left.now; failed = w.failed; must = w.must; phase = w.phase; alg = w.alg; rest = w.operations_left.now; replies = w.out.replies; emits = w.out.emits; wrote = w.wrote; granted = w.granted; rows = w.rows.items; policy = w.policy; profile = w.profile; chosen = w.chosen }
+place_of w = record { caller = caller_of w.desc.who.role; left = w.items_left.now; failed = w.failed; must = w.must; phase = w.phase; alg = w.alg; rest = w.operations_left.now; replies = w.out.replies; emits = w.out.emits; wrote = w.wrote; granted = w.granted; rows = w.rows.items; policy = w.policy; profile = w.profile; chosen = w.chosen; reads_limit = (known w.desc).reads_limit; writes_limit = (known w.desc).writes_limit }
 
 -- the descriptor of caller n is idle, in an attempt, or holds the gate
 abbrev pub IsAt : (List ℕ → Type 0) → Config → ℕ → Phase → Known → Type 0
@@ -76,17 +77,23 @@ IsAskedBy (Round n) chosen = Unit {0}
 IsAskedBy Expert chosen = Unit {0}
 IsAskedBy (State n) chosen = Unit {0}
 
+-- the length of a log
+abbrev pub IsLength : ℕ → Type 0
+IsLength n = (1 ≤ n) × (n ≤ MAX_LOG)
+
 -- the items of caller n: each script fits and keeps the rule on memories, and each switch is to an algorithm that is built
 abbrev pub ItemsFit : (List ℕ → Type 0) → ℕ → List Region → ℕ → List Item → Type 0
 ItemsFit good words regions n [] = Unit {0}
 ItemsFit good words regions n (Tx caller script ∷ items) = (caller ≡ n) × ScriptFits regions words script × ScriptKeeps good words regions script × ItemsFit good words regions n items
 ItemsFit good words regions n (Switch caller alg ∷ items) = (caller ≡ n) × (is_built alg ≡ true) × ItemsFit good words regions n items
+ItemsFit good words regions n (Reserve caller reads writes ∷ items) = (caller ≡ n) × IsLength reads × IsLength writes × ItemsFit good words regions n items
 
 -- the algorithms that are switched to, in the order of the text
 abbrev pub switches_of : List Item → List Alg
 switches_of [] = []
 switches_of (Tx caller script ∷ items) = switches_of items
 switches_of (Switch caller alg ∷ items) = alg ∷ switches_of items
+switches_of (Reserve caller reads writes ∷ items) = switches_of items
 
 -- these are the last of all its items: the ones before them are done
 abbrev pub DidFirst : List Item → List Item → Type 0
@@ -133,6 +140,7 @@ abbrev pub spares : List Item → List Output
 spares [] = blank 0 ∷ []
 spares (Tx caller script ∷ items) = spares items ++ blank (length script) ∷ []
 spares (Switch caller alg ∷ items) = spares items
+spares (Reserve caller reads writes ∷ items) = spares items
 
 -- the room for the replies and rows to come is there
 pub record Roomy {K : Type 0} (w : Worker K) : Type 0 where
@@ -159,7 +167,7 @@ pub record IsSame {K : Type 0} (v w : Worker K) : Type 0 where
 pub record Starts {K : Type 0} (desc : Handle K) (items : List Item) (regions : List Region) (alg : Alg) (policy : Policy) (w : Worker K) : Type 0 where
   pub is_desc : w.desc ≡ desc
   pub all : w.all.now ≡ items
-  pub at : place_of w ≡ record { caller = caller_of desc.who.role; left = items; failed = 0; must = false; phase = Between; alg = alg; rest = []; replies = []; emits = []; wrote = false; granted = false; rows = []; policy = policy; profile = no_profile; chosen = None }
+  pub at : place_of w ≡ record { caller = caller_of desc.who.role; left = items; failed = 0; must = false; phase = Between; alg = alg; rest = []; replies = []; emits = []; wrote = false; granted = false; rows = []; policy = policy; profile = no_profile; chosen = None; reads_limit = (known desc).reads_limit; writes_limit = (known desc).writes_limit }
   pub over : w.regions.now ≡ regions
   pub roomy : Roomy w
 
@@ -218,6 +226,7 @@ installed (TryCommit c) = []
 installed (TryClose c) = []
 installed (Looked l) = []
 installed (Installed alg) = alg ∷ []
+installed (Reserved reads writes) = []
 installed Idle = []
 installed Dropped = []
 installed Reopened = []
@@ -235,7 +244,6 @@ module _ {K : Type 0} (good : List ℕ → Type 0) (stm : Stm K) where
   pub record Sound (w : Worker K) : Type 0 where
     pub own : IsOf w.desc stm
     pub at : IsAt good stm.config (caller_of w.desc.who.role) w.phase (known w.desc)
-    pub lengths : HasLengths stm.config (known w.desc)
     pub stands : Stands good stm.config.words w.regions.now w.all.now (caller_of w.desc.who.role) (known w.desc) w.rows.items w.phase
     pub done : DidFirst w.all.now w.items_left.now
     pub todo : scripts_of (caller_of w.desc.who.role) w.items_left.now ≡ drop (length w.rows.items) (scripts_of (caller_of w.desc.who.role) w.all.now)
@@ -262,6 +270,13 @@ module _ {K : Type 0} (good : List ℕ → Type 0) (stm : Stm K) where
     pub pays : owed (known w.desc) ≤ owed (known v.desc) + 2
     pub found : MatchOption (clock_of said) (Unit {0}) (λ clock. (2 ^ 62 ≤ clock) × Loaded (known w.desc) clock)
     pub installs : (known w.desc).installs ≡ (known v.desc).installs ++ installed said
+
+  -- memory for the longer logs of the next item was refused, and all is as it was
+  pub record Starved (v w : Worker K) : Type 0 where
+    pub sound : Sound w
+    pub between : v.phase ≡ Between
+    pub next : (reads writes : ℕ) × Lengthens reads writes v.items_left.now
+    pub still : w ≡ v
 
   -- the open attempt can't be cancelled, and stands as it did
   pub record Refused (v w : Worker K) : Type 0 where

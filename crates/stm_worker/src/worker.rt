@@ -1,5 +1,5 @@
 //! A caller's worker: one call a turn.
-ghost use Rattle.std.specs.Prelude.{◌≡◌, ◌⊎◌, ◌++◌, ◌∷◌, [], true, false, None, MatchBool, IfOk, IfErr, OnOk};
+ghost use Rattle.std.specs.Prelude.{◌≡◌, ◌⊎◌, ◌++◌, ◌∷◌, [], true, false, None, MatchBool, MatchResult, IfOk, IfErr, OnOk};
 ghost use Rattle.stm_model.specs.Logs.{IsExplained};
 ghost use Rattle.tx_effects.specs.Effects.{Under};
 ghost use Rattle.tx_regions.specs.Regions.{AllWellFormed};
@@ -13,9 +13,9 @@ ghost use Rattle.tx_answers.specs.Known.{IsRunning, caller_of, is_irrevocable};
 ghost use Rattle.tx_answers.specs.KnownLaws.{Carries};
 ghost use Rattle.stm_trace.specs.Adapting.{asked_by, no_profile, other_than, outcome_of};
 ghost use Rattle.stm_trace.specs.Places.{script_at, rest_of, writes, is_forced, sure};
-ghost use Rattle.stm_trace.specs.Turns.{BeforeTx, BeforeSwitch, MustSwitch, MustSwitchTo, SwitchesTo, Next, Comes, MaySay, MayWind, is_call};
+ghost use Rattle.stm_trace.specs.Turns.{BeforeTx, BeforeSwitch, MustSwitch, MustSwitchTo, SwitchesTo, Next, Comes, Lengthens, MaySay, MayWind, is_call};
 ghost use Rattle.stm_worker.specs.Tellings.{StoppedBy};
-ghost use Rattle.stm_worker.specs.Workers.{Sound, Turned, Refused, Roomy, WroteRow, EndsWith, IsCounted, Starts, DoneIrrev, adapted, gave_up, gave_up_as, made_way, stopped_by, place_of, spares};
+ghost use Rattle.stm_worker.specs.Workers.{Sound, Starved, Turned, Refused, Roomy, WroteRow, EndsWith, IsCounted, Starts, DoneIrrev, adapted, gave_up, gave_up_as, made_way, stopped_by, place_of, spares};
 
 use crate::turnstile::Turnstile;
 use std::alloc::{AllocError, Global};
@@ -36,7 +36,7 @@ use stm_script::replies::Replies;
 use stm_script::report::{Kind, Row};
 use stm_script::workload::Item;
 use stm_trace::said::{Phase, Said};
-use stm_tx::calls::{cancel, commit, is_irrevocable, try_begin, try_irrevocable};
+use stm_tx::calls::{cancel, commit, is_irrevocable, reserve, try_begin, try_irrevocable};
 use stm_tx::gate::{close_gate, install, look, reopen};
 use stm_tx::live::Live;
 use stm_tx::serving::AnyAlgorithm;
@@ -45,7 +45,7 @@ use tx_regions::region::Regions;
 
 /// A caller: what it has still to do, its open attempt, and the rows of its transactions that have ended.
 ///
-/// The room for all rows and replies is there from the start, so that no turn takes memory.
+/// The room for all rows and replies is there from the start, so that no turn takes memory but that of a `reserve`.
 #[derive(Drop)]
 pub struct Worker<'a, K: MemRule> {
     pub desc: Desc<K>,
@@ -116,6 +116,7 @@ fn next_target(items: &[Item]) -> Alg
     match items.first() {
         Some(Item::Switch { caller: _, alg }) => *alg,
         Some(Item::Tx { .. }) => unreachable!(),
+        Some(Item::Reserve { .. }) => unreachable!(),
         None => unreachable!(),
     }
 }
@@ -147,24 +148,30 @@ fn writes(op: Op, reply: u64) -> bool
     ensures { result ≡ writes op reply }
 {
     match op {
-        Op::Write(_, _) | Op::Add(_, _) | Op::Count(_, _) => true,
+        Op::Write(_, _) | Op::Add(_, _) | Op::Count(_, _, _) => true,
+        Op::QueueGet(_) => reply != 0,
+        Op::MapPut(_, _, _) => reply != 2,
         Op::Move(_, _, _)
-        | Op::ListInsert(_)
-        | Op::ListRemove(_)
-        | Op::HashInsert(_)
-        | Op::HashRemove(_)
-        | Op::TreeInsert(_)
-        | Op::TreeRemove(_) => reply == 1,
+        | Op::ListInsert(_, _)
+        | Op::ListRemove(_, _)
+        | Op::HashInsert(_, _)
+        | Op::HashRemove(_, _)
+        | Op::TreeInsert(_, _)
+        | Op::TreeRemove(_, _)
+        | Op::QueuePut(_, _)
+        | Op::MapRemove(_, _) => reply == 1,
         Op::Read(_)
         | Op::Emit(_)
         | Op::Irrev
         | Op::Cancel
-        | Op::Total
-        | Op::ListContains(_)
-        | Op::ListLength
-        | Op::HashContains(_)
-        | Op::TreeContains(_)
-        | Op::TreeLeast => false,
+        | Op::Total(_)
+        | Op::ListContains(_, _)
+        | Op::ListLength(_)
+        | Op::HashContains(_, _)
+        | Op::TreeContains(_, _)
+        | Op::TreeLeast(_)
+        | Op::MapGet(_, _)
+        | Op::MapSum(_, _, _) => false,
     }
 }
 
@@ -268,40 +275,78 @@ impl<'a, K: MemRule> Worker<'a, K> {
     }
 
     /// Makes the caller's next call, and says its answer.
-    pub fn turn<G: Turnstile>(&mut self, stm: &Stm<K>, turnstile: &G) -> Said
+    ///
+    /// # Errors
+    /// The item `reserve` is next, and memory for longer logs was refused: then all is as it was.
+    pub fn turn<G: Turnstile>(
+        &mut self,
+        alloc: Global,
+        stm: &Stm<K>,
+        turnstile: &G,
+    ) -> Result<Said, Memory>
         requires sound { Sound (K.good stm.now.rule) stm.now self.old }
-        ensures turned { Turned (K.good stm.now.rule) stm.now MaySay self.old result self.new }
+        ensures turned { MatchResult result (λ said. Turned (K.good stm.now.rule) stm.now MaySay self.old said self.new) (λ _. Starved (K.good stm.now.rule) stm.now self.old self.new) }
     {
         match self.phase {
             Phase::Between => match self.chosen {
-                Some(_) => Said::TryClose(self.close(stm)),
-                None => self.next_item(stm),
+                Some(_) => Ok(Said::TryClose(self.close(stm))),
+                None => self.next_item(alloc, stm),
             },
-            Phase::Inside => self.go_on(stm, turnstile),
-            Phase::Closing => Said::Looked(self.look(stm)),
+            Phase::Inside => Ok(self.go_on(stm, turnstile)),
+            Phase::Closing => Ok(Said::Looked(self.look(stm))),
             Phase::Quiet => {
                 let alg = target(self.chosen, self.items_left);
                 self.install(stm, alg);
-                Said::Installed(alg)
+                Ok(Said::Installed(alg))
             }
         }
     }
 
     /// The first call of the next item.
-    fn next_item(&mut self, stm: &Stm<K>) -> Said
+    fn next_item(&mut self, alloc: Global, stm: &Stm<K>) -> Result<Said, Memory>
         requires sound { Sound (K.good stm.now.rule) stm.now self.old }
         requires between { self.old.phase ≡ Phase.Between }
         requires unasked { self.old.chosen ≡ None }
-        ensures turned { Turned (K.good stm.now.rule) stm.now MaySay self.old result self.new }
+        ensures turned { MatchResult result (λ said. Turned (K.good stm.now.rule) stm.now MaySay self.old said self.new) (λ _. Starved (K.good stm.now.rule) stm.now self.old self.new) }
     {
         let items = self.items_left;
         match items.first() {
-            None => Said::Idle,
+            None => Ok(Said::Idle),
             Some(Item::Tx { caller: _, script }) => {
-                Said::TryBegin(self.begin(stm, script.as_slice()))
+                Ok(Said::TryBegin(self.begin(stm, script.as_slice())))
             }
-            Some(Item::Switch { caller: _, alg: _ }) => Said::TryClose(self.close(stm)),
+            Some(Item::Switch { caller: _, alg: _ }) => Ok(Said::TryClose(self.close(stm))),
+            Some(
+                Item::Reserve {
+                    caller: _,
+                    reads,
+                    writes,
+                },
+            ) => {
+                let (reads, writes) = (*reads, *writes);
+                self.lengthen(alloc, stm, reads, writes)?;
+                Ok(Said::Reserved { reads, writes })
+            }
         }
+    }
+
+    /// Makes the logs so long, where they are shorter.
+    fn lengthen(
+        &mut self,
+        alloc: Global,
+        _stm: &Stm<K>,
+        reads: usize,
+        writes: usize,
+    ) -> Result<(), Memory>
+        requires sound { Sound (K.good _stm.now.rule) _stm.now self.old }
+        requires between { self.old.phase ≡ Phase.Between }
+        requires unasked { self.old.chosen ≡ None }
+        requires here { Lengthens reads writes self.old.items_left.now }
+        ensures turned { MatchResult result (λ _. Turned (K.good _stm.now.rule) _stm.now MaySay self.old (Said.Reserved reads writes) self.new) (λ _. Starved (K.good _stm.now.rule) _stm.now self.old self.new) }
+    {
+        reserve(alloc, &mut self.desc, reads, writes)?;
+        self.items_left = tail(self.items_left);
+        Ok(())
     }
 
     /// The next call of the open attempt: before anything else it becomes irrevocable where it must.

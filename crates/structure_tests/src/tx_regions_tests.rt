@@ -20,7 +20,7 @@ use tx_cells::hash::Hash;
 use tx_cells::list;
 use tx_effects::insert::Insert;
 use tx_regions::laws::memories_stay_good;
-use tx_regions::region::{Region, Regions};
+use tx_regions::region::{Region, Regions, Structure};
 use tx_tree::tree::Tree;
 
 /// A plain memory of zeros.
@@ -206,5 +206,37 @@ fn regions(rt: HostRuntime) -> Result<(), Fail> {
     assert_eq!(rt; Regions::none(alloc).as_slice().len(), 0);
     let one = vec![in alloc; Region::List(list::List::new(100, 4))]?;
     assert_eq!(rt; Regions::new(one).as_slice().len(), 1);
+    Ok(())
+}
+
+/// A structure's region has its words and no other, and ends where they do.
+#[test]
+fn words_of_regions(rt: HostRuntime) -> Result<(), Fail> {
+    // how many words four stripes or cells take
+    let table = [
+        (Structure::Counter, 4),
+        (Structure::List, 9),
+        (Structure::Hash, 24),
+        (Structure::Tree, 13),
+        (Structure::Queue, 6),
+        (Structure::SumMap, 21),
+    ];
+    let mut regions = Regions::none(rt.alloc());
+    for (structure, words) in table {
+        let region = Region::new(structure, 10, 4);
+        assert!(rt; region.structure().is(structure));
+        assert_eq!(rt; region.start(), 10);
+        let has = (
+            region.has(9),
+            region.has(10),
+            region.has(9 + words),
+            region.has(10 + words),
+        );
+        assert_eq!(rt; has, (false, true, true, false), "{structure:?}");
+        assert!(rt; region.ends_by(10 + words) && !region.ends_by(9 + words));
+        regions.push(region)?;
+    }
+    assert!(rt; !Structure::Queue.is(Structure::SumMap));
+    assert_eq!(rt; regions.copy(rt.alloc())?.as_slice(), regions.as_slice());
     Ok(())
 }

@@ -5,11 +5,15 @@ use Rattle.tx_cells.specs.declared.hash.Hash.{Hash}
 use Rattle.tx_cells.specs.declared.list.List.{List as KeyList}
 use Rattle.tx_tree.specs.declared.tree.Tree.{Tree}
 use Rattle.tx_regions.specs.declared.region.Region.{Region}
-use Rattle.tx_regions.specs.declared.region.Region.TheVariants.{Counter as OfCounter, List as OfList, Hash as OfHash, Tree as OfTree}
+use Rattle.tx_regions.specs.declared.region.Region.TheVariants.{Counter as OfCounter, List as OfList, Hash as OfHash, Tree as OfTree, Queue as OfQueue, SumMap as OfSumMap}
 use Rattle.tx_cells.specs.Counters.{added_in}
 use Rattle.tx_cells.specs.Chains.{tag_at, next_at, head_of, inserted_in, removed_in}
 use Rattle.tx_cells.specs.Structures.{list_of, hash_of}
 use Rattle.tx_tree.specs.Trees.{tag_at as tree_tag_at, left_at, right_at, inserted_in as tree_inserted_in, removed_in as tree_removed_in}
+use Rattle.tx_queue.specs.declared.queue.Queue.{Queue}
+use Rattle.tx_queue.specs.Queues.{put_in as queue_put_in, got_in as queue_got_in}
+use Rattle.tx_sums.specs.declared.sum_map.SumMap.{SumMap}
+use Rattle.tx_sums.specs.Sums.{put_in as map_put_in, removed_in as map_removed_in}
 use Rattle.tx_regions.specs.Regions.{AllWellFormed, IsPlain, AreApart, EndsWithin, counter_one, list_one, hash_one, tree_one, version_one}
 
 abbrev pub OpeningIsGood : Type 0
@@ -36,6 +40,15 @@ HashKeeps = (regions : List Region) (h : Hash) (m : List ℕ) (key : ℕ) → Al
 abbrev pub TreeKeeps : Type 0
 TreeKeeps = (regions : List Region) (t : Tree) (m : List ℕ) (key : ℕ) → AllPairs AreApart regions → Contains regions (OfTree t) → EndsWithin (length m) (OfTree t) → key < 2 ^ 32
     → AllWellFormed regions m → AllWellFormed regions (tree_inserted_in t key m).memory × AllWellFormed regions (tree_removed_in t key m).memory
+
+-- a queue of no cells has no room for a front
+abbrev pub QueueKeeps : Type 0
+QueueKeeps = (regions : List Region) (q : Queue) (m : List ℕ) (v : ℕ) → AllPairs AreApart regions → Contains regions (OfQueue q) → EndsWithin (length m) (OfQueue q) → 0 < q.cells → q.at + 2 + q.cells < 2 ^ 64 → v < 2 ^ 32
+    → AllWellFormed regions m → AllWellFormed regions (queue_put_in q v m).memory × AllWellFormed regions (queue_got_in q m).memory
+
+abbrev pub SumMapKeeps : Type 0
+SumMapKeeps = (regions : List Region) (r : SumMap) (m : List ℕ) (key v : ℕ) → AllPairs AreApart regions → Contains regions (OfSumMap r) → EndsWithin (length m) (OfSumMap r) → r.at + 1 + 5 * r.cells < 2 ^ 64 → key < 2 ^ 32 → v < 2 ^ 64
+    → AllWellFormed regions m → AllWellFormed regions (map_put_in r key v m).memory × AllWellFormed regions (map_removed_in r key m).memory
 
 abbrev pub VersionOneFits : Type 0
 VersionOneFits = AllPairs AreApart version_one × All (EndsWithin 1024) version_one

@@ -1,7 +1,9 @@
 //! Laws of the rule, as the contracts of functions.
-ghost use Rattle.tx_regions.specs.Statements.{OpeningIsGood, NoRegionIsGood, PlainWriteKeeps, AddKeeps, ListKeeps, HashKeeps, TreeKeeps, VersionOneFits, VersionOnePlaces, VersionOnePlain};
+ghost use Rattle.tx_regions.specs.Statements.{OpeningIsGood, NoRegionIsGood, PlainWriteKeeps, AddKeeps, ListKeeps, HashKeeps, TreeKeeps, QueueKeeps, SumMapKeeps, VersionOneFits, VersionOnePlaces, VersionOnePlain};
 
 use tx_cells::laws::{chains_are_apart, contents_change};
+use tx_queue::laws::{contents_change as values_change, queues_are_apart};
+use tx_sums::laws::{maps_are_apart, pairs_change, removals_stay_within};
 use tx_tree::laws::{keys_change, trees_are_apart};
 
 /// What keeps memories good: a memory of zeros is good, and any memory where there is no region. For regions
@@ -15,11 +17,18 @@ pub fn memories_stay_good()
     ensures list { ListKeeps }
     ensures hash { HashKeeps }
     ensures tree { TreeKeeps }
+    ensures queue { QueueKeeps }
+    ensures sums { SumMapKeeps }
 {
     chains_are_apart();
     contents_change();
     trees_are_apart();
     keys_change();
+    values_change();
+    queues_are_apart();
+    pairs_change();
+    maps_are_apart();
+    removals_stay_within();
 }
 
 /// Where the regions of the workload text's first version stand, by the numbers of that text's format: they

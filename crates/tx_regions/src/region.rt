@@ -1,6 +1,6 @@
 //! Regions and their rule.
-ghost use Rattle.std.specs.Prelude.{◌≡◌, [], IfOk};
-ghost use Rattle.tx_regions.specs.Regions.{version_one};
+ghost use Rattle.std.specs.Prelude.{◌≡◌, ◌+◌, [], ◌∷◌, ◌++◌, not, leb, ltb, IfOk, OnOk};
+ghost use Rattle.tx_regions.specs.Regions.{version_one, start_of, size_of, is_outside, is_structure, structure_of, region_for};
 
 use std::alloc::{AllocError, Global};
 use std::marker::Model;
@@ -8,6 +8,8 @@ use stm_model::rule::MemRule;
 use tx_cells::counter::Counter;
 use tx_cells::hash::Hash;
 use tx_cells::list::List;
+use tx_queue::queue::Queue;
+use tx_sums::sum_map::SumMap;
 use tx_tree::tree::Tree;
 
 /// The words that one structure has for itself.
@@ -17,6 +19,110 @@ pub enum Region {
     List(List),
     Hash(Hash),
     Tree(Tree),
+    Queue(Queue),
+    SumMap(SumMap),
+}
+
+/// What a region is for.
+#[derive(Clone, Copy, Drop, Debug, PartialEq, Eq)]
+pub enum Structure {
+    Counter,
+    List,
+    Hash,
+    Tree,
+    Queue,
+    SumMap,
+}
+
+impl Structure {
+    /// Whether it is this one.
+    pub fn is(self, other: Structure) -> bool
+        ensures { result ≡ is_structure self other }
+    {
+        match (self, other) {
+            (Structure::Counter, Structure::Counter) => true,
+            (Structure::List, Structure::List) => true,
+            (Structure::Hash, Structure::Hash) => true,
+            (Structure::Tree, Structure::Tree) => true,
+            (Structure::Queue, Structure::Queue) => true,
+            (Structure::SumMap, Structure::SumMap) => true,
+            _ => false,
+        }
+    }
+}
+
+impl Region {
+    /// A structure's region: its first word, and its stripes or cells.
+    pub fn new(structure: Structure, at: usize, size: usize) -> Region
+        ensures { result ≡ region_for structure at size }
+    {
+        match structure {
+            Structure::Counter => Region::Counter(Counter::new(at, size)),
+            Structure::List => Region::List(List::new(at, size)),
+            Structure::Hash => Region::Hash(Hash::new(at, size)),
+            Structure::Tree => Region::Tree(Tree::new(at, size)),
+            Structure::Queue => Region::Queue(Queue::new(at, size)),
+            Structure::SumMap => Region::SumMap(SumMap::new(at, size)),
+        }
+    }
+
+    /// What it is for.
+    pub fn structure(&self) -> Structure
+        ensures { result ≡ structure_of self.now }
+    {
+        match self {
+            Region::Counter(_) => Structure::Counter,
+            Region::List(_) => Structure::List,
+            Region::Hash(_) => Structure::Hash,
+            Region::Tree(_) => Structure::Tree,
+            Region::Queue(_) => Structure::Queue,
+            Region::SumMap(_) => Structure::SumMap,
+        }
+    }
+
+    /// Its first word.
+    pub fn start(&self) -> usize
+        ensures { result ≡ start_of self.now }
+    {
+        match self {
+            Region::Counter(counter) => counter.at,
+            Region::List(list) => list.at,
+            Region::Hash(hash) => hash.at,
+            Region::Tree(tree) => tree.at,
+            Region::Queue(queue) => queue.at,
+            Region::SumMap(map) => map.at,
+        }
+    }
+
+    /// Whether it has more words than that. No sum, since that may not fit.
+    fn reaches(&self, offset: usize) -> bool
+        ensures { result ≡ ltb offset (size_of self.now) }
+    {
+        match self {
+            Region::Counter(counter) => offset < counter.stripes,
+            Region::List(list) => offset < 1 || (offset - 1) / 2 < list.cells,
+            Region::Hash(hash) => offset < 16 || (offset - 16) / 2 < hash.cells,
+            Region::Tree(tree) => offset < 1 || (offset - 1) / 3 < tree.cells,
+            Region::Queue(queue) => offset < 2 || offset - 2 < queue.cells,
+            Region::SumMap(map) => offset < 1 || (offset - 1) / 5 < map.cells,
+        }
+    }
+
+    /// Whether the word at the address is one of its.
+    pub fn has(&self, a: usize) -> bool
+        ensures { result ≡ not (is_outside a self.now) }
+    {
+        let start = self.start();
+        start <= a && self.reaches(a - start)
+    }
+
+    /// Whether it ends at the address or before it.
+    pub fn ends_by(&self, a: usize) -> bool
+        ensures { result ≡ leb (start_of self.now + size_of self.now) a }
+    {
+        let start = self.start();
+        start <= a && !self.reaches(a - start)
+    }
 }
 
 /// The regions of a memory, in any number, each at any place and of any size; contracts see a list. A
@@ -24,7 +130,7 @@ pub enum Region {
 ///
 /// As a rule on memory: each region's structure is well formed. Where there is no region, every memory is
 /// good. A caller has to keep regions apart from each other, and plain writes out of them.
-#[derive(Drop)]
+#[derive(Drop, Debug)]
 pub struct Regions {
     items: Vec<Region>,
 }
@@ -76,6 +182,22 @@ impl Regions {
             Region::Tree(Tree::new(512, 64)),
         ]?;
         Ok(Regions { items })
+    }
+
+    /// The same regions again. Memory may be refused.
+    pub fn copy(&self, alloc: Global) -> Result<Regions, AllocError>
+        ensures { IfOk result (λ r. r ≡ self.now) }
+    {
+        let items = self.items.as_slice().to_vec(alloc)?;
+        Ok(Regions { items })
+    }
+
+    /// One more region, behind the others. Memory may be refused.
+    pub fn push(&mut self, region: Region) -> Result<(), AllocError>
+        ensures { OnOk result (self.new ≡ self.old ++ region ∷ []) }
+    {
+        self.items.push(region)?;
+        Ok(())
     }
 
     /// The regions, by number.

@@ -6,6 +6,4 @@ pub mod caller;
 pub mod job;
 pub mod memory;
 pub mod sizes;
-#[cfg(test)]
-mod tests;
 mod working;

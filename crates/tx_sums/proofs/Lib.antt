@@ -13,3 +13,6 @@ pub mod SumRemovals
 pub mod SumRetags
 pub mod SumTakes
 pub mod SumCalls
+pub mod SumWords
+pub mod SumWithin
+pub mod SumGone

@@ -140,16 +140,16 @@ own-words r m k w same = (w.0, map-same r m k w.0 w.1 same)
 abbrev pub Outside : SumMap → ℕ → Type 0
 Outside r x = (x < r.at) ⊎ (r.at + 1 + 5 * r.cells ≤ x)
 
-out-of : (r : SumMap) (x a : ℕ) → Outside r x → r.at ≤ a → a < r.at + 1 + 5 * r.cells → x ≢ a
+pub out-of : (r : SumMap) (x a : ℕ) → Outside r x → r.at ≤ a → a < r.at + 1 + 5 * r.cells → x ≢ a
 out-of r x a (inl o) lo hi e = absurd (omega arith)
 out-of r x a (inr o) lo hi e = absurd (omega arith)
 
-link-place : (r : SumMap) (m : List ℕ) (g : Ranges) (l h a : ℕ) → LinkOf r m g l h a → (r.at ≤ a) × (a < r.at + 1 + 5 * r.cells)
+pub link-place : (r : SumMap) (m : List ℕ) (g : Ranges) (l h a : ℕ) → LinkOf r m g l h a → (r.at ≤ a) × (a < r.at + 1 + 5 * r.cells)
 link-place r m g l h a (inl x) = let p = x.0 in (omega arith, omega arith)
 link-place r m g l h a (inr (inl (i, p, q, o, u))) = let lt = u.inside in (omega arith, omega arith)
 link-place r m g l h a (inr (inr (i, p, q, o, u))) = let lt = u.inside in (omega arith, omega arith)
 
-mended-outside : (r : SumMap) (key d n a x : ℕ) (m : List ℕ) → LinksInside r m → slice_index m a ≤ r.cells → Outside r x → get_or (mended r key d n a m) x 0 ≡ get_or m x 0
+pub mended-outside : (r : SumMap) (key d n a x : ℕ) (m : List ℕ) → LinksInside r m → slice_index m a ≤ r.cells → Outside r x → get_or (mended r key d n a m) x 0 ≡ get_or m x 0
 mended-outside r key d zero a x m w le out = refl
 mended-outside r key d (suc n) a x m w le out = by (slice_index m a) le (λ j lt s. mended-outside r key d n (side_at r m key j) x (raised r d j m) (raised-links r d j m w) s out)
   where

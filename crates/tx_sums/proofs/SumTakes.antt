@@ -296,12 +296,12 @@ mended-length r key d (suc n) a m = by (slice_index m a) (λ j. mended-length r 
         at true = one j
         at false = go j ∙ one j
 
-less-one : (t : ℕ) → 0 < t → suc (less_one t) ≡ t
+pub less-one : (t : ℕ) → 0 < t → suc (less_one t) ≡ t
 less-one zero lt = absurd (omega arith)
 less-one (suc t) lt = refl
 
 -- a value moved changes no tag and no link
-moved-other : (r : SumMap) (x y key : ℕ) (m : List ℕ) (z : ℕ) → ((j : ℕ) → z ≢ sum_at r j) → ((j : ℕ) → z ≢ value_at r j) → get_or (moved_up r x y key m) z 0 ≡ get_or m z 0
+pub moved-other : (r : SumMap) (x y key : ℕ) (m : List ℕ) (z : ℕ) → ((j : ℕ) → z ≢ sum_at r j) → ((j : ℕ) → z ≢ value_at r j) → get_or (moved_up r x y key m) z 0 ≡ get_or m z 0
 moved-other r x y key m z s v = mended-other r key (step_to (value r m y) 0) r.cells (right_at r x) (set (set m (value_at r x) (value r m y)) (value_at r y) 0) z s
     ∙ (get_or-set_other (set m (value_at r x) (value r m y)) (value_at r y) z 0 0 (v y) ∙ get_or-set_other m (value_at r x) z (value r m y) 0 (v x))
 
@@ -498,7 +498,7 @@ module _ (r : SumMap) (words x : ℕ) (p : Position) (y a b : ℕ) (m : List ℕ
       (ap (changed true) all, subst (IsSumMap r) same (replaced-keeps r m w.well.0 x y p w.well.1 w.used w.none lm next fit (let e = w.long in omega arith)))
 
 -- THE STATES OF A REMOVAL
-emptied-link : (r : SumMap) (m : List ℕ) (g : Ranges) (a : ℕ) → IsLink r m a → (l : ℕ) × (h : ℕ) × LinkOf r m g l h a
+pub emptied-link : (r : SumMap) (m : List ℕ) (g : Ranges) (a : ℕ) → IsLink r m a → (l : ℕ) × (h : ℕ) × LinkOf r m g l h a
 emptied-link r m g a (inl e) = (0, top, inl (e, refl, refl))
 emptied-link r m g a (inr (i, u, inl e)) = (g.low i, tag r m i, inr (inl (i, e, refl, refl, u)))
 emptied-link r m g a (inr (i, u, inr e)) = (tag r m i, g.high i, inr (inr (i, e, refl, refl, u)))

@@ -1,8 +1,9 @@
 -- What the law functions say.
 use Rattle.std.specs.Prelude.{ℕ, ◌≡◌, ◌+◌, ◌*◌, ◌%◌, ◌^◌, ◌<◌, ◌≤◌, ◌⊎◌, ◌==◌, if◌then◌else◌, List, [], ◌∷◌, length, replicate, slice_index, Some, None}
+use Rattle.std.specs.Option.{is_some}
 use Rattle.tx_sums.specs.declared.sum_map.SumMap.{SumMap}
 use Rattle.tx_sums.specs.declared.sum_map.MapPut.TheVariants.{Added, Replaced, NoRoom}
-use Rattle.tx_sums.specs.Sums.{SumMapFits, Used, IsSumMap, left_at, right_at, sum_at, value, sum_under, pairs, value_of, with_pair, put_in}
+use Rattle.tx_sums.specs.Sums.{SumMapFits, Used, IsSumMap, left_at, right_at, sum_at, value, sum_under, pairs, value_of, with_pair, put_in, removed_in, HasWords}
 
 -- the pairs with another value at a key that is there
 abbrev pub with_value : ℕ × ℕ → List (ℕ × ℕ) → List (ℕ × ℕ)
@@ -32,3 +33,20 @@ DependsOnOwnWords = (r : SumMap) (m k : List ℕ) → IsSumMap r m → ((x : ℕ
 -- a put changes no word outside the region
 abbrev pub ChangesOwnWords : Type 0
 ChangesOwnWords = (r : SumMap) (m : List ℕ) (key v x : ℕ) → IsSumMap r m → SumMapFits r (length m) → ((i : ℕ) → i < r.cells → value r m i < 2 ^ 64) → key < 2 ^ 32 → (x < r.at) ⊎ (r.at + 1 + 5 * r.cells ≤ x) → slice_index (put_in r key v m).memory x ≡ slice_index m x
+
+-- a removal leaves the map well formed, and changes no word outside the region
+abbrev pub RemovesWithin : Type 0
+RemovesWithin = (r : SumMap) (m : List ℕ) (key : ℕ) → IsSumMap r m → SumMapFits r (length m) → HasWords r m → key < 2 ^ 32 →
+    IsSumMap r (removed_in r key m).memory
+    × ((x : ℕ) → (x < r.at) ⊎ (r.at + 1 + 5 * r.cells ≤ x) → slice_index (removed_in r key m).memory x ≡ slice_index m x)
+
+-- a removal takes the key with its value, and no other; its answer is whether the key was there
+abbrev pub RemovesKey : Type 0
+RemovesKey = (r : SumMap) (m : List ℕ) (key : ℕ) → IsSumMap r m → SumMapFits r (length m) → HasWords r m → key < 2 ^ 32 →
+    ((removed_in r key m).reply ≡ is_some (value_of key (pairs r m)))
+    × ((n : ℕ) → value_of n (pairs r (removed_in r key m).memory) ≡ (if n == key then None else value_of n (pairs r m)))
+
+-- the values stay words
+abbrev pub WordsStay : Type 0
+WordsStay = (r : SumMap) (m : List ℕ) (key v : ℕ) → IsSumMap r m → SumMapFits r (length m) → HasWords r m → key < 2 ^ 32 → v < 2 ^ 64 →
+    HasWords r (put_in r key v m).memory × HasWords r (removed_in r key m).memory

@@ -266,3 +266,7 @@ removed_by r key m (suc j) = taken_in r j (position_of r m key).link (replaced_i
 -- a key that is there loses its value, and then its cell
 abbrev pub removed_in : SumMap → ℕ → List ℕ → Effect Bool
 removed_in r key m = removed_by r key m (position_of r m key).next
+
+-- each cell's value is a word, as it is in each memory that code holds
+abbrev pub HasWords : SumMap → List ℕ → Type 0
+HasWords r m = (i : ℕ) → i < r.cells → value r m i < 2 ^ 64

@@ -1,5 +1,5 @@
 //! Laws of the definitions, as the contracts of functions.
-ghost use Rattle.tx_sums.specs.Statements.{PutsPair, SumsSubtrees, ZerosAreEmpty, DependsOnOwnWords, ChangesOwnWords};
+ghost use Rattle.tx_sums.specs.Statements.{PutsPair, SumsSubtrees, ZerosAreEmpty, DependsOnOwnWords, ChangesOwnWords, RemovesKey, RemovesWithin, WordsStay};
 
 /// What a put does to the pairs, and that it leaves the map well formed: it gives a key that is there the value,
 /// and adds the pair of one that isn't; NoRoom comes exactly where the key is absent and each cell has a pair. In
@@ -15,4 +15,15 @@ pub fn maps_are_apart()
     ensures empty { ZerosAreEmpty }
     ensures apart { DependsOnOwnWords }
     ensures within { ChangesOwnWords }
+{}
+
+/// What a removal leaves: a well-formed map, and each word outside it. And the values stay words.
+pub fn removals_stay_within()
+    ensures removes { RemovesWithin }
+    ensures words { WordsStay }
+{}
+
+/// What a removal does to the pairs: the key goes, with its value, and no other; the answer is whether it was there.
+pub fn removals_take_the_key()
+    ensures { RemovesKey }
 {}

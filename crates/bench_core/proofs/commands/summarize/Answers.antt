@@ -1,5 +1,6 @@
 use Rattle.std.proofs.Common.{◌≡◌, ◌≤◌, length, ap, subst, ◌∙◌}
 use Rattle.stm_profile.specs.declared.policy.Policy.TheVariants.{Fixed}
+use Rattle.stm_profile.specs.Policies.{ruling}
 use Rattle.stm_script.specs.declared.workload.Workload.{Workload}
 use Rattle.stm_driver.specs.Runs.{HasRun, IsShown}
 use Rattle.stm_gen.specs.Summaries.{summary_bytes}
@@ -9,8 +10,8 @@ use Rattle.bench_core.proofs.commands.summarize.Goals as goal
 pub returns-in-ToEnd : goal.returns-in-ToEnd
 returns-in-ToEnd g c =
     let report = c.in-ToEnd.report in
-    let shown = subst (HasRun Fixed c.in_ok-workload.workload) c.in-ToEnd.is c.in_ok-outcome.ensures in
-    let shown' = subst (λ (w : Workload). IsShown Fixed w report c.in-ToEnd.closed) c.in_ok-workload.ensures.generated shown in
+    let shown = subst (HasRun (ruling Fixed c.in_ok-workload.workload.header.policy) c.in_ok-workload.workload) c.in-ToEnd.is c.in_ok-outcome.ensures in
+    let shown' = subst (λ (w : Workload). IsShown (ruling Fixed w.header.policy) w report c.in-ToEnd.closed) c.in_ok-workload.ensures.generated shown in
     record {
       report = report;
       shown = shown';
@@ -21,7 +22,7 @@ returns-in-ToEnd g c =
 pub unreachable-unreachable : goal.unreachable-unreachable
 unreachable-unreachable g c =
     let w = c.in_ok-workload.workload in
-    let full = subst (HasRun Fixed w) c.in-ToLimit.is c.in_ok-outcome.ensures in
+    let full = subst (HasRun (ruling Fixed w.header.policy) w) c.in-ToLimit.is c.in_ok-outcome.ensures in
     let opens : w.header.clock ≡ 0 = ap (λ (v : Workload). v.header.clock) c.in_ok-workload.ensures.generated in
     let few : length w.items ≤ 65536 = c.in_ok-workload.ensures.built.count in
-    never-full Fixed w c.in-ToLimit.clock c.in-ToLimit.closed opens few full
+    never-full (ruling Fixed w.header.policy) w c.in-ToLimit.clock c.in-ToLimit.closed opens few full

@@ -1,3 +1,7 @@
+use Rattle.std.proofs.Common.{ap, subst, ◌∙◌}
+use Rattle.stm_profile.specs.Policies.{ruling}
+use Rattle.stm_script.specs.declared.workload.Header.{Header}
+use Rattle.stm_driver.specs.Runs.{HasRun}
 use Rattle.stm_text.specs.declared.parse.Mode.TheVariants.{Run}
 use Rattle.bench_core.proofs.parts.run_workload.Goals as goal
 
@@ -10,9 +14,10 @@ prepare-requires g c = (c.type_bounds.sync-R, (Run, c.args.workload, c.requires,
 pub run-requires-clause-ready : goal.run-requires-clause-ready
 run-requires-clause-ready g c κs within =
     let w = c.args.workload in
-    (c.args.policy, w, c.in_ok-prepared.ensures Run w c.requires c.in_ok-parts.ensures)
+    (c.ruling.result, w, c.in_ok-prepared.ensures Run w c.requires c.in_ok-parts.ensures)
 
 pub returns : goal.returns
 returns g c =
     let w = c.args.workload in
-    c.run.ensures c.args.policy w (c.in_ok-prepared.ensures Run w c.requires c.in_ok-parts.ensures)
+    let is = c.ruling.ensures ∙ ap (λ (h : Header). ruling c.args.policy h.policy) c.in_ok-parts.ensures.header in
+    subst (λ p. HasRun p w c.run.result) is (c.run.ensures c.ruling.result w (c.in_ok-prepared.ensures Run w c.requires c.in_ok-parts.ensures))

@@ -1,5 +1,8 @@
+use Rattle.std.proofs.Common.{◌∙◌, ap, subst}
+use Rattle.tx_regions.specs.Regions.{AllWellFormed}
+use Rattle.stm_script.specs.declared.workload.Header.{Header}
+use Rattle.stm_driver.specs.Preparings.{IsReadyFor}
 use Rattle.stm_text.specs.declared.parse.Mode.TheVariants.{Step}
-use Rattle.std.proofs.Common.{◌∙◌}
 use Rattle.bench_core.proofs.parts.step_workload.Goals as goal
 
 pub of-requires : goal.of-requires
@@ -11,9 +14,15 @@ prepare-requires g c = (c.type_bounds.sync-R, (Step, c.args.workload, c.requires
 pub step-requires : goal.step-requires
 step-requires g c =
     let w = c.args.workload in
-    record { ready = (w, c.in_ok-prepared.ensures Step w c.requires c.in_ok-parts.ensures, c.as_slice.ensures ∙ c.in_ok-parts.ensures.schedule) }
+    let p = c.in_ok-prepared.prepared in
+    let same = ap (λ (h : Header). h.policy) c.in_ok-parts.ensures.header in
+    let ready = subst (λ policy. IsReadyFor (AllWellFormed p.stm.rule) Step policy w p) same (c.in_ok-prepared.ensures Step w c.requires c.in_ok-parts.ensures) in
+    record { ready = (w, ready, c.as_slice.ensures ∙ c.in_ok-parts.ensures.schedule) }
 
 pub returns : goal.returns
 returns g c =
     let w = c.args.workload in
-    c.step.ensures w (c.in_ok-prepared.ensures Step w c.requires c.in_ok-parts.ensures) (c.as_slice.ensures ∙ c.in_ok-parts.ensures.schedule)
+    let p = c.in_ok-prepared.prepared in
+    let same = ap (λ (h : Header). h.policy) c.in_ok-parts.ensures.header in
+    let ready = subst (λ policy. IsReadyFor (AllWellFormed p.stm.rule) Step policy w p) same (c.in_ok-prepared.ensures Step w c.requires c.in_ok-parts.ensures) in
+    c.step.ensures w ready (c.as_slice.ensures ∙ c.in_ok-parts.ensures.schedule)

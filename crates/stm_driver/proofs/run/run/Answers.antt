@@ -3,7 +3,7 @@ use Rattle.std.specs.Prelude.{All}
 use Rattle.stm_model.specs.declared.config.Config.{Config}
 use Rattle.stm_trace.specs.declared.said.Phase.TheVariants.{Between}
 use Rattle.stm_worker.specs.declared.worker.Worker.{Worker}
-use Rattle.stm_driver.specs.AllWorkers.{IsReady, workers_in, first_full, how_of}
+use Rattle.stm_driver.specs.AllWorkers.{IsReady, workers_in, how_all}
 use Rattle.stm_driver.specs.ClosedRuns.{Came}
 use Rattle.stm_driver.specs.Partings.{parted}
 use Rattle.stm_text.specs.declared.parse.Mode.TheVariants.{Run}
@@ -97,7 +97,7 @@ close_memory-requires-clause-through g c =
     let s = c.args.prepared.stm in
     let ran = ran-all (g.K.MemRule.good s.rule) policy w s (built-items Run w c.built_workloads_fit.ensures r.built) r.prepared.sized c.as_mut_slice.result.now c.run_all.new.runners c.run_all.ensures.count c.run_all.ensures.done in
     let done = done (g.K.MemRule.good s.rule) policy w s (built-items Run w c.built_workloads_fit.ensures r.built) r.prepared.sized r.keeps (parted w.header.callers w.items) refl c.args.prepared.runners.items c.as_mut_slice.result.now c.run_all.new.runners c.args.prepared.runners.len r.prepared c.as_mut_slice.ensures.value c.as_mut_slice.ensures.len ran.same ran.sound in
-    how-between (workers_in (take c.args.prepared.runners.len (c.run_all.new.runners ++ drop (length c.run_all.new.runners) c.args.prepared.runners.items))) (first_full c.as_slice.result.now) c.how_ended-how.result c.how_ended-how.ensures
+    how-between (workers_in (take c.args.prepared.runners.len (c.run_all.new.runners ++ drop (length c.run_all.new.runners) c.args.prepared.runners.items))) c.how_ended-how.result
     (subst (λ l. All (λ (w : Worker g.row.K.Denot). w.phase ≡ Between) (workers_in l)) (sym done.is) ran.between)
 
 pub returns : goal.returns
@@ -105,6 +105,6 @@ returns g c policy w r =
     let s = c.args.prepared.stm in
     let ran = ran-all (g.K.MemRule.good s.rule) policy w s (built-items Run w c.built_workloads_fit.ensures r.built) r.prepared.sized c.as_mut_slice.result.now c.run_all.new.runners c.run_all.ensures.count c.run_all.ensures.done in
     let done = done (g.K.MemRule.good s.rule) policy w s (built-items Run w c.built_workloads_fit.ensures r.built) r.prepared.sized r.keeps (parted w.header.callers w.items) refl c.args.prepared.runners.items c.as_mut_slice.result.now c.run_all.new.runners c.args.prepared.runners.len r.prepared c.as_mut_slice.ensures.value c.as_mut_slice.ensures.len ran.same ran.sound in
-    let ended = c.how_ended-how.ensures ∙ ap (λ l. how_of (first_full l)) (c.as_slice.ensures.value ∙ done.is) in
+    let ended = c.how_ended-how.ensures ∙ ap how_all (c.as_slice.ensures.value ∙ done.is) in
     has-run (g.K.MemRule.good s.rule) policy w s (built-items Run w c.built_workloads_fit.ensures r.built) r.prepared.sized c.report_replays.ensures r.regions c.as_mut_slice.result.now c.run_all.new.runners c.how_ended-how.result c.close_memory.result (subst (λ l. Begun (g.K.MemRule.good s.rule) policy w s (built-items Run w c.built_workloads_fit.ensures r.built) r.prepared.sized (workers_in l)) (sym c.as_mut_slice.ensures.value) done.begun) ran (subst (λ l. Turned (g.K.MemRule.good s.rule) policy w s (built-items Run w c.built_workloads_fit.ensures r.built) r.prepared.sized (workers_in l)) done.is done.turned) ended
     (subst (λ l. Came (g.K.MemRule.good s.rule) s (workers_in l) c.how_ended-how.result c.close_memory.result) done.is c.close_memory.ensures)

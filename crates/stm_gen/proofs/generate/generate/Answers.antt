@@ -9,9 +9,9 @@ use Rattle.stm_gen.proofs.generate.generate.Goals as goal
 pub returns-clause-built : goal.returns-clause-built
 returns-clause-built c =
     let a = c.args in
-    let header : header_for a.callers ≡ c.header_for.result = sym c.header_for.ensures in
+    let header : header_for a.callers ≡ c.in_ok-header_for.field-0 = sym c.in_ok-header_for.ensures in
     let items : items_for a.transactions a.callers a.seed ≡ c.new.result = sym (c.new.ensures ∙ c.in_ok-items.ensures) in
     let schedule : [] ≡ c.new-3.result = sym (c.new-3.ensures ∙ c.new-2.ensures.items) in
-    let is : generated a.transactions a.callers a.seed ≡ record { header = c.header_for.result; items = c.new.result; schedule = c.new-3.result } =
+    let is : generated a.transactions a.callers a.seed ≡ record { header = c.in_ok-header_for.field-0; items = c.new.result; schedule = c.new-3.result } =
     λ i. record { header = header i; items = items i; schedule = schedule i } in
     subst (λ (w : Workload). IsBuilt Run w) is (generated-built a.transactions a.callers a.seed c.requires.transactions c.requires.callers.0 c.requires.callers.1)

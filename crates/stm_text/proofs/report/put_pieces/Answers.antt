@@ -1,10 +1,9 @@
-use Rattle.std.proofs.Common.{rules, List, ◌≡◌, ◌<◌, ◌≤◌, ◌+◌, ◌*◌, ◌++◌, ◌∷◌, [], length, length-append, drop, slice_index_or, IfOk, OnOk, string_bytes, sym, ap, ◌∙◌, arith, subst, append_assoc}
+use Rattle.std.proofs.Common.{rules, ◌≡◌, ◌<◌, ◌≤◌, ◌+◌, ◌*◌, ◌++◌, ◌∷◌, [], length, length-append, drop, slice_index_or, IfOk, OnOk, string_bytes, sym, ap, ◌∙◌, arith, subst, append_assoc}
 use Rattle.std.specs.Prelude.{All}
 use Rattle.std.proofs.lemmas.List.{length_push}
 use Rattle.std.proofs.Math.Seq.{get_or-append_seam}
 use Rattle.std.specs.Fork.{slice_chunk}
 use Rattle.std.specs.Vec.Iter.{into_iter_items}
-use Rattle.stm_script.specs.declared.report.Row.{Row}
 use Rattle.stm_text.specs.Pieces.{ArePieces}
 use Rattle.stm_text.specs.Reports.{row_lines, RowFits}
 use Rattle.stm_text.proofs.PieceLaws.{chunk-first, chunk-fits, none-behind, none-fits}

@@ -1,4 +1,4 @@
-use Rattle.std.proofs.Common.{rules, List, ◌≡◌, ◌<◌, ◌+◌, ◌∷◌, ◌++◌, length, drop, string_bytes, sym, ap, ◌∙◌, arith, append_assoc}
+use Rattle.std.proofs.Common.{rules, List, ◌≡◌, ◌<◌, ◌+◌, ◌∷◌, ◌++◌, length, drop, string_bytes, sym, ap, ◌∙◌, append_assoc}
 use Rattle.std.proofs.lemmas.List.{drop_more}
 use Rattle.std.proofs.lemmas.List.Elements.{AllWithin-more, at_read}
 use Rattle.stm_script.specs.declared.report.Row.{Row}

@@ -1,5 +1,6 @@
 use Rattle.std.proofs.Common.{rules, ◌≡◌, ◌++◌, ◌∷◌, [], ◌<◌, length, refl, sym, ap, ◌∙◌, subst}
 use Rattle.tx_answers.specs.Known.{caller_of}
+use Rattle.stm_tx.specs.Descs.{known}
 use Rattle.stm_worker.specs.Workers.{spares}
 use Rattle.stm_worker.proofs.RoomLaws.{some-spare, spare-empty, start-at}
 use Rattle.stm_worker.proofs.worker.Worker.new.Goals as goal
@@ -17,7 +18,7 @@ returns g c =
     record {
       is_desc = refl;
       all = refl;
-      at = start-at (caller_of c.args.desc.who.role) c.args.items.now c.args.alg c.args.policy c.in_ok-profile.profile c.in-Some.out c.reserve.new.self.items empty (c.in_ok-reserve.ensures.items ∙ c.new-rows.ensures.items) c.in_ok-profile.ensures;
+      at = start-at (caller_of c.args.desc.who.role) c.args.items.now c.args.alg c.args.policy (known c.args.desc).reads_limit (known c.args.desc).writes_limit c.in_ok-profile.profile c.in-Some.out c.reserve.new.self.items empty (c.in_ok-reserve.ensures.items ∙ c.new-rows.ensures.items) c.in_ok-profile.ensures;
       over = refl;
       roomy = record {
         spare = ap (λ o. c.pop.new.self.items ++ o ∷ []) (sym empty) ∙ is;

@@ -1,0 +1,239 @@
+/* Every misuse of every call, which is answered and changes nothing; and the sizes and numbers of the header. Ends with
+ * 0, or prints the line that went wrong. */
+#include "nekchhaul.h"
+#include <stdio.h>
+#include <string.h>
+
+_Static_assert(sizeof(nekchhaul_caller) == 16 && offsetof(nekchhaul_caller, at_) == 8, "a handle");
+_Static_assert(sizeof(nekchhaul_sizes) == 48 && offsetof(nekchhaul_sizes, clock) == 40, "sizes");
+_Static_assert(sizeof(nekchhaul_state_of) == 24 && offsetof(nekchhaul_state_of, range) == 20, "a state");
+_Static_assert(sizeof(nekchhaul_cause) == 32 && offsetof(nekchhaul_cause, third) == 24, "a cause");
+
+static int wrong;
+#define IS(call, status) do { uint32_t s_ = (call); if (s_ != (status)) { printf("%s:%d: %s is %u, not %u\n", __FILE__, __LINE__, #call, (unsigned)s_, (unsigned)(status)); wrong = 1; } } while (0)
+
+static nekchhaul_caller c[2];
+static nekchhaul_sizes sizes = { 4, 4, 4, 8, 8, 0 };
+
+/* Each call but begin and open, for a caller where it doesn't fit. */
+static void outside(uint32_t status)
+{
+    uint64_t v = 77;
+    size_t depth = 77, address = 0;
+    IS(nekchhaul_read(&c[0], 0, &v), status);
+    IS(nekchhaul_read_many(&c[0], &address, 1, &v, 1), status);
+    IS(nekchhaul_write(&c[0], 0, 1), status);
+    IS(nekchhaul_commit(&c[0]), status);
+    IS(nekchhaul_cancel(&c[0]), status);
+    IS(nekchhaul_become_irrevocable(&c[0]), status);
+    IS(nekchhaul_checkpoint(&c[0], &depth), status);
+    IS(nekchhaul_roll_to(&c[0], 1), status);
+    IS(nekchhaul_drop_marks(&c[0], 1), status);
+    IS(v != 77 || depth != 77, 0);
+}
+static void inside(uint32_t status)
+{
+    uint64_t v = 77, words[4] = { 77, 77, 77, 77 };
+    IS(nekchhaul_begin(&c[0]), status);
+    IS(nekchhaul_switch(&c[0], NEKCHHAUL_TML), status);
+    IS(nekchhaul_fence(&c[0], 0, 1), status);
+    IS(nekchhaul_direct_read(&c[0], 0, &v), status);
+    IS(nekchhaul_direct_write(&c[0], 0, 1), status);
+    IS(nekchhaul_give_back(&c[0]), status);
+    IS(nekchhaul_close(&c[0], words, 4), status);
+    IS(nekchhaul_reserve(&c[0], 8, 8), status);
+    IS(nekchhaul_release(&c[0]), status);
+    IS(v != 77 || words[0] != 77, 0);
+}
+
+static void opening(void)
+{
+    nekchhaul_sizes s = sizes;
+    nekchhaul_caller many[33];
+    memset(many, 0, sizeof many);
+    IS(nekchhaul_open(&s, 6, c, 2), NEKCHHAUL_ALGORITHM);
+    IS(nekchhaul_open(&s, 0, many, 33), NEKCHHAUL_SIZE_CALLERS);
+    IS(nekchhaul_open(&s, 0, many, 0), NEKCHHAUL_SIZE_CALLERS);
+    s.words = 0;
+    IS(nekchhaul_open(&s, 0, c, 2), NEKCHHAUL_SIZE_WORDS);
+    s.words = 1048577;
+    IS(nekchhaul_open(&s, 0, c, 2), NEKCHHAUL_SIZE_WORDS);
+    s = sizes, s.records = 4097;
+    IS(nekchhaul_open(&s, 0, c, 2), NEKCHHAUL_SIZE_RECORDS);
+    s = sizes, s.ring = 65;
+    IS(nekchhaul_open(&s, 0, c, 2), NEKCHHAUL_SIZE_RING);
+    s = sizes, s.reads = 0;
+    IS(nekchhaul_open(&s, 0, c, 2), NEKCHHAUL_SIZE_LOGS);
+    s = sizes, s.writes = 4097;
+    IS(nekchhaul_open(&s, 0, c, 2), NEKCHHAUL_SIZE_LOGS);
+    s = sizes, s.clock = ((uint64_t)1 << 62) + 1;
+    IS(nekchhaul_open(&s, 0, c, 2), NEKCHHAUL_SIZE_CLOCK);
+    for (int i = 0; i < 2; i++) IS(c[i].tag_ != 0 || c[i].at_ != NULL, 0);
+}
+
+/* Marks, logs, ranges, and what came in the way. */
+static void attempts(void)
+{
+    uint64_t v = 77;
+    size_t depth = 0;
+    nekchhaul_state_of state;
+    nekchhaul_cause cause;
+    IS(nekchhaul_begin(&c[0]), 0);
+    inside(NEKCHHAUL_IN_ATTEMPT);
+    IS(nekchhaul_read(&c[0], 4, &v), NEKCHHAUL_ADDRESS);
+    IS(nekchhaul_read(&c[0], SIZE_MAX, &v), NEKCHHAUL_ADDRESS);
+    IS(nekchhaul_write(&c[0], 4, 1), NEKCHHAUL_ADDRESS);
+    size_t addresses[3] = { 3, 0, 4 };
+    uint64_t many[3] = { 77, 77, 77 };
+    IS(nekchhaul_read_many(&c[0], addresses, 3, many, 2), NEKCHHAUL_ROOM);
+    IS(nekchhaul_read_many(&c[0], addresses, 3, many, 3), NEKCHHAUL_ADDRESS);
+    IS(nekchhaul_read_many(&c[0], addresses, 2, many, 3), 0);
+    IS(many[0] || many[1] || many[2] != 77, 0);
+    IS(nekchhaul_read_many(&c[0], addresses, 0, many, 0), 0);
+    IS(nekchhaul_roll_to(&c[0], 1), NEKCHHAUL_DEPTH);
+    IS(nekchhaul_drop_marks(&c[0], 0), NEKCHHAUL_DEPTH);
+    for (size_t i = 1; i <= 8; i++) {
+        IS(nekchhaul_checkpoint(&c[0], &depth), 0);
+        IS(depth != i, 0);
+    }
+    IS(nekchhaul_checkpoint(&c[0], &depth), NEKCHHAUL_DEEP);
+    IS(nekchhaul_why(&c[0], &cause), 0);
+    IS(cause.status, NEKCHHAUL_DEEP);
+    IS(cause.first != 8, 0);
+    IS(nekchhaul_roll_to(&c[0], 9), NEKCHHAUL_DEPTH);
+    IS(nekchhaul_roll_to(&c[0], 3), 0);
+    IS(nekchhaul_drop_marks(&c[0], 1), 0);
+    IS(nekchhaul_write(&c[0], 1, 5), 0);
+    IS(nekchhaul_become_irrevocable(&c[0]), 0);
+    IS(nekchhaul_cancel(&c[0]), NEKCHHAUL_IRREVOCABLE);
+    IS(nekchhaul_state(&c[0], &state), 0);
+    IS(state.stand != 1 || state.algorithm != NEKCHHAUL_OREC_LAZY || !state.irrevocable || state.marks || state.range, 0);
+    IS(nekchhaul_begin(&c[1]), NEKCHHAUL_GATE_CLOSED);
+    IS(nekchhaul_switch(&c[1], NEKCHHAUL_TML), NEKCHHAUL_BUSY);
+    IS(nekchhaul_commit(&c[0]), 0);
+    outside(NEKCHHAUL_NO_ATTEMPT);
+    IS(nekchhaul_switch(&c[0], NEKCHHAUL_OREC_EAGER), 0);
+    IS(nekchhaul_begin(&c[0]), 0);
+    IS(nekchhaul_checkpoint(&c[0], &depth), NEKCHHAUL_NO_MARKS);
+    IS(nekchhaul_cancel(&c[0]), 0);
+    IS(nekchhaul_reserve(&c[0], 0, 1), NEKCHHAUL_LOGS);
+    IS(nekchhaul_reserve(&c[0], 1, 4097), NEKCHHAUL_LOGS);
+    IS(nekchhaul_reserve(&c[0], 16, 16), 0);
+}
+
+/* An attempt that met another's commit, and one whose log is short. */
+static void conflicts(void)
+{
+    uint64_t v = 77;
+    nekchhaul_cause cause;
+    IS(nekchhaul_switch(&c[0], NEKCHHAUL_OREC_LAZY), 0);
+    IS(nekchhaul_begin(&c[0]), 0);
+    IS(nekchhaul_read(&c[0], 1, &v), 0);
+    IS(v != 5, 0);
+    IS(nekchhaul_begin(&c[1]), 0);
+    IS(nekchhaul_write(&c[1], 1, 6), 0);
+    IS(nekchhaul_commit(&c[1]), 0);
+    IS(nekchhaul_write(&c[0], 1, 7), 0);
+    IS(nekchhaul_commit(&c[0]), NEKCHHAUL_CONFLICT);
+    IS(nekchhaul_why(&c[0], &cause), 0);
+    IS(cause.status, NEKCHHAUL_CONFLICT);
+    IS(cause.kind == 0, 0);
+    IS(nekchhaul_commit(&c[0]), NEKCHHAUL_NO_ATTEMPT);
+}
+
+static void ranges(void)
+{
+    uint64_t v = 77, words[5] = { 77, 77, 77, 77, 77 };
+    nekchhaul_cause cause;
+    IS(nekchhaul_fence(&c[0], 0, 0), NEKCHHAUL_ADDRESS);
+    IS(nekchhaul_fence(&c[0], 4, 1), NEKCHHAUL_ADDRESS);
+    IS(nekchhaul_fence(&c[0], SIZE_MAX, 2), NEKCHHAUL_ADDRESS);
+    IS(nekchhaul_fence(&c[0], 1, SIZE_MAX), NEKCHHAUL_ADDRESS);
+    IS(nekchhaul_give_back(&c[0]), NEKCHHAUL_NO_RANGE);
+    IS(nekchhaul_direct_read(&c[0], 1, &v), NEKCHHAUL_NO_RANGE);
+    IS(nekchhaul_fence(&c[0], 1, 1), 0);
+    IS(nekchhaul_fence(&c[0], 2, 1), NEKCHHAUL_HOLDS_RANGE);
+    IS(nekchhaul_close(&c[0], words, 4), NEKCHHAUL_HOLDS_RANGE);
+    IS(nekchhaul_fence(&c[1], 2, 1), NEKCHHAUL_RANGE_TAKEN);
+    IS(nekchhaul_close(&c[1], words, 4), NEKCHHAUL_RANGE_TAKEN);
+    IS(nekchhaul_direct_read(&c[0], 0, &v), NEKCHHAUL_NO_RANGE);
+    IS(nekchhaul_direct_write(&c[0], SIZE_MAX, 1), NEKCHHAUL_NO_RANGE);
+    IS(nekchhaul_direct_read(&c[0], 1, &v), 0);
+    IS(v != 6, 0);
+    IS(nekchhaul_direct_write(&c[0], 1, 9), 0);
+    IS(nekchhaul_begin(&c[1]), 0);
+    IS(nekchhaul_read(&c[1], 1, &v), NEKCHHAUL_FENCED);
+    IS(nekchhaul_write(&c[1], 1, 1), NEKCHHAUL_FENCED);
+    IS(nekchhaul_read(&c[1], 2, &v), 0);
+    IS(nekchhaul_give_back(&c[0]), NEKCHHAUL_BUSY);
+    IS(nekchhaul_why(&c[0], &cause), 0);
+    IS(cause.status != NEKCHHAUL_BUSY || cause.first != 1, 0);
+    IS(nekchhaul_commit(&c[1]), 0);
+    IS(nekchhaul_give_back(&c[0]), 0);
+    IS(nekchhaul_close(&c[0], words, 3), NEKCHHAUL_ROOM);
+    IS(words[0] != 77, 0);
+    IS(nekchhaul_close(&c[0], words, 5), 0);
+    IS(words[0] || words[1] != 9 || words[2] || words[3] || words[4] != 77, 0);
+    IS(nekchhaul_give_back(&c[0]), NEKCHHAUL_NO_RANGE);
+    IS(nekchhaul_begin(&c[1]), 0);
+    IS(nekchhaul_read(&c[1], 0, &v), NEKCHHAUL_FENCED);
+    IS(nekchhaul_commit(&c[1]), 0);
+}
+
+static uint32_t misuses(nekchhaul_caller *caller, void *address)
+{
+    uint64_t v;
+    return nekchhaul_read(caller, *(size_t *)address, &v);
+}
+static uint32_t stops(nekchhaul_caller *caller, void *word)
+{
+    uint32_t s = nekchhaul_write(caller, 0, *(uint64_t *)word);
+    return s ? s : NEKCHHAUL_STOP + 3;
+}
+
+/* What the header's loop answers, under an algorithm that can't cancel and under one that can. */
+static void loops(void)
+{
+    size_t far = 4;
+    uint64_t word = 8, words[4];
+    IS(nekchhaul_open(&sizes, NEKCHHAUL_SERIAL, c, 2), 0);
+    IS(nekchhaul_atomically(&c[0], misuses, &far), NEKCHHAUL_ADDRESS);
+    IS(nekchhaul_atomically(&c[0], stops, &word), NEKCHHAUL_STOP + 3);
+    IS(nekchhaul_install(&c[0], NEKCHHAUL_CGL), 0);
+    IS(nekchhaul_atomically(&c[0], misuses, &far), NEKCHHAUL_IRREVOCABLE);
+    IS(nekchhaul_atomically(&c[0], stops, &word), NEKCHHAUL_IRREVOCABLE);
+    IS(nekchhaul_close(&c[1], words, 4), 0);
+    IS(words[0] != 8, 0);
+    nekchhaul_caller moved = nekchhaul_move(&c[1]);
+    IS(nekchhaul_begin(&c[1]), NEKCHHAUL_NO_CALLER);
+    IS(nekchhaul_release(&moved), 0);
+    IS(nekchhaul_release(&c[0]), 0);
+}
+
+int main(void)
+{
+    uint64_t v = 77;
+    nekchhaul_state_of state;
+    nekchhaul_cause cause;
+    IS(nekchhaul_version(), 65536u * NEKCHHAUL_VERSION_MAJOR + NEKCHHAUL_VERSION_MINOR);
+    outside(NEKCHHAUL_NO_CALLER);
+    inside(NEKCHHAUL_NO_CALLER);
+    IS(nekchhaul_state(&c[0], &state), NEKCHHAUL_NO_CALLER);
+    IS(nekchhaul_why(&c[0], &cause), NEKCHHAUL_NO_CALLER);
+    opening();
+    IS(nekchhaul_open(&sizes, NEKCHHAUL_OREC_LAZY, c, 2), 0);
+    IS(nekchhaul_open(&sizes, NEKCHHAUL_OREC_LAZY, c, 2), NEKCHHAUL_HOLDS_CALLER);
+    IS(nekchhaul_why(&c[0], &cause), 0);
+    IS(cause.status, 0);
+    outside(NEKCHHAUL_NO_ATTEMPT);
+    IS(nekchhaul_switch(&c[0], 6), NEKCHHAUL_ALGORITHM);
+    attempts();
+    conflicts();
+    ranges();
+    IS(nekchhaul_release(&c[0]), 0);
+    IS(nekchhaul_read(&c[0], 0, &v), NEKCHHAUL_NO_CALLER);
+    IS(nekchhaul_release(&c[0]), NEKCHHAUL_NO_CALLER);
+    IS(nekchhaul_release(&c[1]), 0);
+    loops();
+    return wrong;
+}

@@ -1,0 +1,319 @@
+/* Nekchhaul: a word-based software transactional memory, for C and C++.
+ *
+ * A memory has words of 64 bits, and callers. A caller is a handle, by which one thread at a time runs attempts at
+ * transactions: nekchhaul_begin, then nekchhaul_read and nekchhaul_write, then nekchhaul_commit. The whole program of
+ * docs/C.md shows how; nekchhaul_atomically, below, runs a transaction until it commits.
+ *
+ * ANSWERS. Every call returns, whatever was called before, and answers a nekchhaul_status. 0 is done. 1 to 15 say what
+ * came in the way of the transaction. 16 and up say that the call didn't fit, or that no memory was opened: then nothing
+ * has changed. A value behind a pointer is written only where the answer is 0 (nekchhaul_read_many says more). No call
+ * waits. nekchhaul_open and nekchhaul_reserve alone take memory.
+ *
+ * OWNERSHIP. The two words of a handle are the caller's storage, and the library alone reads and writes them. A handle
+ * that is all zero is no caller, and every call answers NEKCHHAUL_NO_CALLER for it. A handle is never copied:
+ * nekchhaul_move hands it on. The memory is freed with the last of its callers that is released.
+ *
+ * THREADS. A handle is used by one thread at a time. It may go to another thread behind anything that orders the two: a
+ * lock, a thread's start or its join. Different handles are used by as many threads at once as there are handles.
+ *
+ * WHAT IS PROVED, and of what. Each call of the archive meets its contract in crates/nekchhaul_c, which was checked by
+ * machine: no order of calls, no address and no number makes one go wrong, and each tells what the library's own calls
+ * tell. What this header has in C (nekchhaul_move, the waiting, nekchhaul_atomically), the wrappers above it, the C
+ * compiler and the linker are not proved. What the C side owes, since nothing can check it, is in docs/C.md: the
+ * pointers are not null and lead to objects of their own, no copy of a handle is used, no handle is used by two threads
+ * at once, and no call is made from a signal handler or in the child of a fork.
+ */
+#ifndef NEKCHHAUL_H
+#define NEKCHHAUL_H
+
+#include "nekchhaul_wait.h"
+
+#include <stddef.h>
+#include <stdint.h>
+
+#define NEKCHHAUL_VERSION_MAJOR 1
+#define NEKCHHAUL_VERSION_MINOR 0
+
+#ifdef __cplusplus
+extern "C" {
+#endif
+
+#if defined(__GNUC__)
+#define NEKCHHAUL_CALL __attribute__((nonnull, warn_unused_result))
+#else
+#define NEKCHHAUL_CALL
+#endif
+
+/* What a call came to. A number is never given another meaning. */
+typedef enum nekchhaul_status {
+    NEKCHHAUL_OK = 0,
+
+    /* What came in the way. "Over" says that the attempt has ended without a trace: begin again. */
+    NEKCHHAUL_CONFLICT = 1,     /* over: another transaction came in between */
+    NEKCHHAUL_GATE_CLOSED = 2,  /* another caller switches, is irrevocable, or takes a range: pause, and ask again */
+    NEKCHHAUL_HELD = 3,         /* of begin: another attempt has the lock: pause, and begin again */
+    NEKCHHAUL_BUSY = 4,         /* others are in attempts: pause, and ask again */
+    NEKCHHAUL_AGAIN = 5,        /* of commit: another commit was faster: commit again, or cancel */
+    NEKCHHAUL_LOG_FULL = 6,     /* over: a log has its length: reserve, or become irrevocable first */
+    NEKCHHAUL_CLOCK_FULL = 7,   /* over: the clock is at 2^62: close this memory, and open another */
+    NEKCHHAUL_IRREVOCABLE = 8,  /* of cancel and roll_to: the attempt can only be committed */
+    NEKCHHAUL_DEEP = 9,         /* of checkpoint: 8 marks stand */
+    NEKCHHAUL_RANGE_TAKEN = 10, /* of fence and close: a range is out of the transactions already */
+
+    /* What doesn't fit. Nothing has changed. */
+    NEKCHHAUL_NO_CALLER = 16,   /* the handle is all zero: never opened, or released */
+    NEKCHHAUL_NO_ATTEMPT = 17,
+    NEKCHHAUL_IN_ATTEMPT = 18,
+    NEKCHHAUL_COMMITTING = 19,  /* after AGAIN only commit and cancel go on */
+    NEKCHHAUL_ADDRESS = 20,     /* no such word, or no such range */
+    NEKCHHAUL_ALGORITHM = 21,   /* no such algorithm */
+    NEKCHHAUL_MEMORY = 23,      /* malloc refused: the one answer from 16 on that is no misuse */
+    NEKCHHAUL_HOLDS_CALLER = 24, /* of open: a handle holds a caller still */
+    NEKCHHAUL_FENCED = 25,      /* the word was out of the transactions as the attempt began: it goes on without it */
+    NEKCHHAUL_HOLDS_RANGE = 26, /* the caller has a range already */
+    NEKCHHAUL_NO_RANGES = 27,   /* never: memories opened here take ranges */
+    NEKCHHAUL_NO_RANGE = 28,    /* the caller has no range, or the word isn't in it */
+    NEKCHHAUL_NO_MARKS = 29,    /* OrecEager takes no marks */
+    NEKCHHAUL_DEPTH = 30,       /* no such mark stands */
+    NEKCHHAUL_LOGS = 31,        /* of reserve: a length isn't 1 to 4,096 */
+    NEKCHHAUL_ROOM = 32,        /* of close and read_many: too few places */
+    NEKCHHAUL_SIZE_WORDS = 33,  /* of open: this number is out of its range */
+    NEKCHHAUL_SIZE_RECORDS = 34,
+    NEKCHHAUL_SIZE_RING = 35,
+    NEKCHHAUL_SIZE_CALLERS = 36,
+    NEKCHHAUL_SIZE_LOGS = 37,
+    NEKCHHAUL_SIZE_CLOCK = 38
+} nekchhaul_status;
+
+/* The algorithms. docs/ALGORITHMS.md says which to choose. */
+typedef enum nekchhaul_algorithm {
+    NEKCHHAUL_CGL = 0,        /* one lock; an attempt can't be cancelled */
+    NEKCHHAUL_TML = 1,        /* one sequence lock: for many readers */
+    NEKCHHAUL_OREC_LAZY = 2,  /* ownership records, taken at the commit */
+    NEKCHHAUL_OREC_EAGER = 3, /* ownership records, taken at the first write; no marks */
+    NEKCHHAUL_RING_SW = 4,    /* a ring of write filters */
+    NEKCHHAUL_SERIAL = 5      /* one lock, with an undo log: an attempt can be cancelled */
+} nekchhaul_algorithm;
+
+/* The sizes of a memory. */
+typedef struct nekchhaul_sizes {
+    size_t words;    /* 1 to 1,048,576 */
+    size_t records;  /* ownership records, 1 to 4,096 */
+    size_t ring;     /* ring slots, 2 to 64 */
+    size_t reads;    /* a read log's length, 1 to 4,096 */
+    size_t writes;   /* a write log's length, 1 to 4,096 */
+    uint64_t clock;  /* 0, or the clock of a memory that went before; at most 2^62 */
+} nekchhaul_sizes;
+
+/* A caller. Its words belong to the library. */
+typedef struct nekchhaul_caller {
+    uint64_t tag_;
+    void *at_;
+} nekchhaul_caller;
+#define NEKCHHAUL_NO_CALLER_INIT { 0, NULL }
+
+/* Where a caller stands. */
+typedef struct nekchhaul_state_of {
+    size_t marks;         /* how many stand */
+    uint32_t stand;       /* 0 in no attempt, 1 in one, 2 in the middle of its commit */
+    uint32_t algorithm;   /* of the attempt; 0 where there is none */
+    uint32_t irrevocable; /* 1 where the attempt can only be committed */
+    uint32_t range;       /* 1 where it has a range out of the transactions */
+} nekchhaul_state_of;
+
+/* What came in the way of a caller last, by its status:
+ *   0             nothing yet
+ *   CONFLICT      by its kind: 1 the clock was `second` where the attempt had begun at `first`; 2 record `first` was
+ *                 `second`, locked by another or newer than the start `third`; 3 record `first` was `second`, and then
+ *                 `third`; 4 the ring's entry of time `first` met the read filter in the bits `second`; 5 the ring no
+ *                 longer reaches from the clock `second` back to the start `first`
+ *   GATE_CLOSED   `first` is the gate's word
+ *   HELD          `first` is the lock word, or the odd clock
+ *   BUSY          caller `first` was in an attempt: `second` is its status word
+ *   AGAIN         the word `first`, 0 the clock and 1 the lock, was `second` and is `third`
+ *   LOG_FULL, DEEP    `first` is the limit
+ *   CLOCK_FULL    `first` is the clock
+ *   RANGE_TAKEN   `first` is the gate's word
+ * A refused nekchhaul_switch leaves it as it was. */
+typedef struct nekchhaul_cause {
+    uint32_t status;
+    uint32_t kind;
+    uint64_t first, second, third;
+} nekchhaul_cause;
+
+/* NEKCHHAUL_VERSION_MAJOR and _MINOR of the archive, as 65,536 * major + minor. */
+uint32_t nekchhaul_version(void);
+
+/* Opens a memory of zeros under an algorithm, and makes `count` callers of it, 1 to 32. Answers ALGORITHM, HOLDS_CALLER,
+ * SIZE_WORDS to SIZE_CLOCK, MEMORY, or BUSY where the algorithm couldn't be installed; then no handle has changed. */
+uint32_t nekchhaul_open(const nekchhaul_sizes *sizes, uint32_t algorithm, nekchhaul_caller *callers, size_t count) NEKCHHAUL_CALL;
+
+/* Begins an attempt. GATE_CLOSED, HELD, CLOCK_FULL; IN_ATTEMPT. */
+uint32_t nekchhaul_begin(nekchhaul_caller *caller) NEKCHHAUL_CALL;
+
+/* Reads a word: the attempt's last write of it, else the memory at its start. CONFLICT, LOG_FULL; NO_ATTEMPT,
+ * COMMITTING, ADDRESS, FENCED. */
+uint32_t nekchhaul_read(nekchhaul_caller *caller, size_t address, uint64_t *value) NEKCHHAUL_CALL;
+
+/* Reads the words at `count` addresses, in turn, into the first places of `values`, of which there are `places`: one
+ * crossing for many reads. It answers as nekchhaul_read does for the first that is refused, and ROOM where there are fewer
+ * places than addresses; behind any answer but 0 the values are of no use. A misuse behind the first address leaves the
+ * words before it read. */
+uint32_t nekchhaul_read_many(nekchhaul_caller *caller, const size_t *addresses, size_t count, uint64_t *values, size_t places) NEKCHHAUL_CALL;
+
+/* Writes a word, for this attempt until it commits. CONFLICT, LOG_FULL, CLOCK_FULL; NO_ATTEMPT, COMMITTING, ADDRESS,
+ * FENCED. */
+uint32_t nekchhaul_write(nekchhaul_caller *caller, size_t address, uint64_t value) NEKCHHAUL_CALL;
+
+/* Commits the attempt: with 0 it took effect at one moment. CONFLICT, AGAIN, CLOCK_FULL; NO_ATTEMPT. */
+uint32_t nekchhaul_commit(nekchhaul_caller *caller) NEKCHHAUL_CALL;
+
+/* Ends the attempt without a trace. IRREVOCABLE; NO_ATTEMPT. */
+uint32_t nekchhaul_cancel(nekchhaul_caller *caller) NEKCHHAUL_CALL;
+
+/* From 0 on the attempt can only be committed, and no call that fits is refused. BUSY and GATE_CLOSED leave it running;
+ * with BUSY ask again, with GATE_CLOSED cancel it. CONFLICT, CLOCK_FULL; NO_ATTEMPT, COMMITTING. */
+uint32_t nekchhaul_become_irrevocable(nekchhaul_caller *caller) NEKCHHAUL_CALL;
+
+/* Installs an algorithm, for attempts that begin from then on. BUSY; ALGORITHM, IN_ATTEMPT. */
+uint32_t nekchhaul_switch(nekchhaul_caller *caller, uint32_t algorithm) NEKCHHAUL_CALL;
+
+/* Marks what the attempt has written; `depth` counts the marks. DEEP; NO_ATTEMPT, COMMITTING, NO_MARKS. */
+uint32_t nekchhaul_checkpoint(nekchhaul_caller *caller, size_t *depth) NEKCHHAUL_CALL;
+
+/* Rolls the attempt back to mark `depth`, which stands: what it wrote since is as if it had not been written.
+ * IRREVOCABLE; NO_ATTEMPT, COMMITTING, NO_MARKS, DEPTH. */
+uint32_t nekchhaul_roll_to(nekchhaul_caller *caller, size_t depth) NEKCHHAUL_CALL;
+
+/* Drops the marks from `depth` on, and keeps what was written. NO_ATTEMPT, COMMITTING, NO_MARKS, DEPTH. */
+uint32_t nekchhaul_drop_marks(nekchhaul_caller *caller, size_t depth) NEKCHHAUL_CALL;
+
+/* Takes `count` words from `from` on out of the transactions: this caller alone reads and writes them until it gives
+ * them back. GATE_CLOSED, BUSY, RANGE_TAKEN; IN_ATTEMPT, HOLDS_RANGE, ADDRESS. */
+uint32_t nekchhaul_fence(nekchhaul_caller *caller, size_t from, size_t count) NEKCHHAUL_CALL;
+
+/* Reads and writes a word of the caller's range, outside attempts. IN_ATTEMPT, NO_RANGE. */
+uint32_t nekchhaul_direct_read(nekchhaul_caller *caller, size_t address, uint64_t *value) NEKCHHAUL_CALL;
+uint32_t nekchhaul_direct_write(nekchhaul_caller *caller, size_t address, uint64_t value) NEKCHHAUL_CALL;
+
+/* Gives the range back; what was written there takes effect at one moment. GATE_CLOSED, BUSY, CLOCK_FULL; IN_ATTEMPT,
+ * NO_RANGE. */
+uint32_t nekchhaul_give_back(nekchhaul_caller *caller) NEKCHHAUL_CALL;
+
+/* Ends the memory: takes all its words out of the transactions for good, and writes them to the first places of
+ * `words`. They are the memory after all that was committed, by all callers. From then on every read and write of every
+ * caller is FENCED; release the callers. `count` is how many places there are, at least as many as words.
+ * GATE_CLOSED, BUSY, RANGE_TAKEN; IN_ATTEMPT, HOLDS_RANGE, ROOM. */
+uint32_t nekchhaul_close(nekchhaul_caller *caller, uint64_t *words, size_t count) NEKCHHAUL_CALL;
+
+/* Makes the caller's logs longer, each 1 to 4,096. MEMORY, and then all is as before; IN_ATTEMPT, LOGS. */
+uint32_t nekchhaul_reserve(nekchhaul_caller *caller, size_t reads, size_t writes) NEKCHHAUL_CALL;
+
+/* Where the caller stands, and what came in its way last. */
+uint32_t nekchhaul_state(nekchhaul_caller *caller, nekchhaul_state_of *state) NEKCHHAUL_CALL;
+uint32_t nekchhaul_why(nekchhaul_caller *caller, nekchhaul_cause *cause) NEKCHHAUL_CALL;
+
+/* Lets a caller go that is in no attempt; the handle is no caller then. A range that it has stays out of the
+ * transactions. IN_ATTEMPT. */
+uint32_t nekchhaul_release(nekchhaul_caller *caller) NEKCHHAUL_CALL;
+
+/* ---- From here on it is C, and not proved. ------------------------------------------------------------------------ */
+
+/* Hands a caller on: what stood there is no caller then. */
+static inline nekchhaul_caller nekchhaul_move(nekchhaul_caller *from)
+{
+    nekchhaul_caller to = *from;
+    from->tag_ = 0;
+    from->at_ = NULL;
+    return to;
+}
+
+/* What a body answers: 0 to commit, the status that a call gave it to have it run again where that serves, or
+ * NEKCHHAUL_STOP + n to cancel and have that answered. */
+enum { NEKCHHAUL_STOP = 256 };
+typedef uint32_t (*nekchhaul_body)(nekchhaul_caller *caller, void *argument);
+
+/* Ends an attempt that is to leave no trace. Where it can only be committed (always under CGL, and once irrevocable), it
+ * is, and the answer is IRREVOCABLE: what it wrote stands. */
+static inline uint32_t nekchhaul_abandon(nekchhaul_caller *caller)
+{
+    uint32_t s = nekchhaul_cancel(caller);
+    if (s == NEKCHHAUL_IRREVOCABLE) {
+        struct nekchhaul_pause pause = NEKCHHAUL_PAUSE_INIT;
+        while (nekchhaul_commit(caller) == NEKCHHAUL_AGAIN) nekchhaul_wait(&pause);
+    }
+    return s;
+}
+
+/* Begins; where it is to be `sure`, the attempt is irrevocable with 0. Else no attempt is open. */
+static inline uint32_t nekchhaul_enter(nekchhaul_caller *caller, int sure, struct nekchhaul_pause *pause)
+{
+    uint32_t s = nekchhaul_begin(caller);
+    if (s != NEKCHHAUL_OK || !sure) return s;
+    while ((s = nekchhaul_become_irrevocable(caller)) == NEKCHHAUL_BUSY) nekchhaul_wait(pause);
+    if (s == NEKCHHAUL_GATE_CLOSED) (void)!nekchhaul_cancel(caller);
+    return s;
+}
+
+/* Commits, again and again where another was faster. */
+static inline uint32_t nekchhaul_leave(nekchhaul_caller *caller, struct nekchhaul_pause *pause)
+{
+    uint32_t s;
+    while ((s = nekchhaul_commit(caller)) == NEKCHHAUL_AGAIN) nekchhaul_wait(pause);
+    return s;
+}
+
+/* The count of failed attempts after one more, which ended so; one that didn't begin isn't counted, and a log that was
+ * too short will be so again. */
+static inline unsigned nekchhaul_failed(unsigned failed, uint32_t status)
+{
+    if (status == NEKCHHAUL_LOG_FULL) return 16;
+    return status == NEKCHHAUL_GATE_CLOSED || status == NEKCHHAUL_HELD ? failed : failed + 1;
+}
+
+static inline void nekchhaul_pause_after(struct nekchhaul_pause *pause, uint32_t status)
+{
+    if (status == NEKCHHAUL_HELD) nekchhaul_wait_for_lock(pause);
+    else nekchhaul_wait(pause);
+}
+
+/* Runs `body` in attempts until one commits (0), it stops (its answer), a call didn't fit (its status, from 16 on), or
+ * the clock is full. After 16 attempts that failed, or a full log, the next asks to be irrevocable first. It waits, by
+ * pausing the processor and yielding. With any answer no attempt is open; where the body stops, or makes a call that
+ * doesn't fit, in an attempt that can't be cancelled, the answer is IRREVOCABLE, and what it wrote stands: a runtime
+ * whose users may abort installs Serial in the place of CGL. A body is left by its return alone, never by longjmp, and
+ * uses no other caller of the same memory. */
+static inline uint32_t nekchhaul_atomically(nekchhaul_caller *caller, nekchhaul_body body, void *argument)
+{
+    struct nekchhaul_pause pause = NEKCHHAUL_PAUSE_INIT;
+    unsigned failed = 0;
+    for (;;) {
+        uint32_t s = nekchhaul_enter(caller, failed >= 16, &pause);
+        if (s == NEKCHHAUL_OK) {
+            s = body(caller, argument);
+            if (s == NEKCHHAUL_OK) {
+                s = nekchhaul_leave(caller, &pause);
+                if (s == NEKCHHAUL_OK) return s;
+            } else if (nekchhaul_abandon(caller) == NEKCHHAUL_IRREVOCABLE) {
+                return NEKCHHAUL_IRREVOCABLE;
+            }
+        }
+        if (s >= NEKCHHAUL_NO_CALLER || s == NEKCHHAUL_CLOCK_FULL) return s;
+        failed = nekchhaul_failed(failed, s);
+        nekchhaul_pause_after(&pause, s);
+    }
+}
+
+/* Installs an algorithm, and waits while others are in the way. */
+static inline uint32_t nekchhaul_install(nekchhaul_caller *caller, uint32_t algorithm)
+{
+    struct nekchhaul_pause pause = NEKCHHAUL_PAUSE_INIT;
+    uint32_t s;
+    while ((s = nekchhaul_switch(caller, algorithm)) == NEKCHHAUL_BUSY) nekchhaul_wait(&pause);
+    return s;
+}
+
+#ifdef __cplusplus
+}
+#endif
+#endif

@@ -1,0 +1,305 @@
+//! Safe bindings to Nekchhaul, a verified software transactional memory. Not proved; the calls of the archive are.
+//!
+//! A [`Caller`] may go to another thread, and is used through `&mut` alone. [`Caller::atomically`] runs a transaction
+//! until it commits.
+//!
+//! ```no_run
+//! use nekchhaul::{open, Algorithm, Sizes};
+//! let sizes = Sizes { words: 2, records: 64, ring: 64, reads: 64, writes: 64, clock: 0 };
+//! let mut callers = open(&sizes, Algorithm::OrecLazy, 1)?;
+//! let count = callers[0].atomically(|t| {
+//!     let count = t.read(0)? + 1;
+//!     t.write(0, count)?;
+//!     Ok(count)
+//! })?;
+//! # Ok::<(), nekchhaul::Status>(())
+//! ```
+#![warn(missing_docs)]
+
+use std::fmt;
+use std::thread;
+
+/// A handle, as the library has it.
+#[repr(C)]
+struct Handle {
+    tag: u64,
+    at: *mut u8,
+}
+
+/// The sizes of a memory, as in `nekchhaul.h`.
+#[repr(C)]
+#[derive(Clone, Copy, Debug, PartialEq, Eq)]
+pub struct Sizes {
+    /// 1 to 1,048,576.
+    pub words: usize,
+    /// Ownership records, 1 to 4,096.
+    pub records: usize,
+    /// Ring slots, 2 to 64.
+    pub ring: usize,
+    /// A read log's length, 1 to 4,096.
+    pub reads: usize,
+    /// A write log's length, 1 to 4,096.
+    pub writes: usize,
+    /// 0, or the clock of a memory that went before.
+    pub clock: u64,
+}
+
+extern "C" {
+    fn nekchhaul_open(sizes: *const Sizes, algorithm: u32, callers: *mut Handle, count: usize) -> u32;
+    fn nekchhaul_begin(caller: *mut Handle) -> u32;
+    fn nekchhaul_read(caller: *mut Handle, address: usize, value: *mut u64) -> u32;
+    fn nekchhaul_read_many(caller: *mut Handle, addresses: *const usize, count: usize, values: *mut u64, places: usize) -> u32;
+    fn nekchhaul_write(caller: *mut Handle, address: usize, value: u64) -> u32;
+    fn nekchhaul_commit(caller: *mut Handle) -> u32;
+    fn nekchhaul_cancel(caller: *mut Handle) -> u32;
+    fn nekchhaul_become_irrevocable(caller: *mut Handle) -> u32;
+    fn nekchhaul_switch(caller: *mut Handle, algorithm: u32) -> u32;
+    fn nekchhaul_checkpoint(caller: *mut Handle, depth: *mut usize) -> u32;
+    fn nekchhaul_roll_to(caller: *mut Handle, depth: usize) -> u32;
+    fn nekchhaul_close(caller: *mut Handle, words: *mut u64, count: usize) -> u32;
+    fn nekchhaul_release(caller: *mut Handle) -> u32;
+}
+
+/// What a call came to, by the numbers of `nekchhaul.h`. A transaction gives it back by `?`, and `atomically` decides.
+#[derive(Clone, Copy, Debug, PartialEq, Eq)]
+pub struct Status(
+    /// The number.
+    pub u32,
+);
+
+impl Status {
+    /// Another caller holds the gate.
+    pub const GATE_CLOSED: Status = Status(2);
+    /// Another attempt has the lock.
+    pub const HELD: Status = Status(3);
+    /// Others are in attempts.
+    pub const BUSY: Status = Status(4);
+    /// Another commit was faster.
+    pub const AGAIN: Status = Status(5);
+    /// A log has its length.
+    pub const LOG_FULL: Status = Status(6);
+    /// The clock is at its limit.
+    pub const CLOCK_FULL: Status = Status(7);
+    /// The attempt can only be committed.
+    pub const IRREVOCABLE: Status = Status(8);
+    /// The address isn't there.
+    pub const ADDRESS: Status = Status(20);
+    /// The word is out of the transactions.
+    pub const FENCED: Status = Status(25);
+    /// From here on a body's own: the transaction is cancelled, and that is answered.
+    pub const STOP: u32 = 256;
+
+    fn is_final(self) -> bool {
+        self.0 >= 16 || self == Status::CLOCK_FULL
+    }
+}
+
+impl fmt::Display for Status {
+    fn fmt(&self, f: &mut fmt::Formatter<'_>) -> fmt::Result {
+        write!(f, "nekchhaul status {}", self.0)
+    }
+}
+
+impl std::error::Error for Status {}
+
+/// An algorithm.
+#[derive(Clone, Copy, Debug, PartialEq, Eq)]
+#[repr(u32)]
+#[allow(missing_docs)]
+pub enum Algorithm {
+    Cgl = 0,
+    Tml = 1,
+    OrecLazy = 2,
+    OrecEager = 3,
+    RingSw = 4,
+    Serial = 5,
+}
+
+fn told(status: u32) -> Result<(), Status> {
+    if status == 0 { Ok(()) } else { Err(Status(status)) }
+}
+
+/// Pauses that double, and from the longest on let another thread run.
+struct Pause(u32);
+
+impl Pause {
+    fn wait(&mut self, longest: u32) {
+        let now = self.0.min(longest);
+        for _ in 0..1u32 << now {
+            std::hint::spin_loop();
+        }
+        if now == longest { thread::yield_now() } else { self.0 = now + 1 }
+    }
+
+    fn after(&mut self, status: Status) {
+        if status == Status::HELD {
+            self.0 = self.0.max(10);
+            self.wait(14);
+        } else {
+            self.wait(10);
+        }
+    }
+}
+
+/// A running attempt.
+pub struct Attempt<'a>(&'a mut Handle);
+
+impl Attempt<'_> {
+    /// Reads a word.
+    pub fn read(&mut self, address: usize) -> Result<u64, Status> {
+        let mut value = 0;
+        // SAFETY: both lead to objects of their own, and the handle is this attempt's alone.
+        told(unsafe { nekchhaul_read(self.0, address, &mut value) })?;
+        Ok(value)
+    }
+
+    /// Reads many words in one call, into the places of as many values.
+    pub fn read_many(&mut self, addresses: &[usize], values: &mut [u64]) -> Result<(), Status> {
+        // SAFETY: both slices are the caller's, and the handle is this attempt's alone.
+        told(unsafe { nekchhaul_read_many(self.0, addresses.as_ptr(), addresses.len(), values.as_mut_ptr(), values.len()) })
+    }
+
+    /// Writes a word.
+    pub fn write(&mut self, address: usize, value: u64) -> Result<(), Status> {
+        // SAFETY: as above.
+        told(unsafe { nekchhaul_write(self.0, address, value) })
+    }
+
+    /// Marks what it has written.
+    pub fn checkpoint(&mut self) -> Result<usize, Status> {
+        let mut depth = 0;
+        // SAFETY: as above.
+        told(unsafe { nekchhaul_checkpoint(self.0, &mut depth) })?;
+        Ok(depth)
+    }
+
+    /// Rolls back to a mark.
+    pub fn roll_to(&mut self, depth: usize) -> Result<(), Status> {
+        // SAFETY: as above.
+        told(unsafe { nekchhaul_roll_to(self.0, depth) })
+    }
+}
+
+/// A caller of a memory. It cancels an attempt that a panic left open, and lets itself go, when it is dropped.
+pub struct Caller(Handle);
+
+// SAFETY: a caller may go to another thread, which orders the two; it is used through `&mut` alone, so it isn't `Sync`
+// by anything that it offers.
+unsafe impl Send for Caller {}
+
+/// Opens a memory of zeros with so many callers.
+pub fn open(sizes: &Sizes, algorithm: Algorithm, count: usize) -> Result<Vec<Caller>, Status> {
+    let mut handles: Vec<Handle> = (0..count).map(|_| Handle { tag: 0, at: std::ptr::null_mut() }).collect();
+    // SAFETY: the slice is the handles' own.
+    told(unsafe { nekchhaul_open(sizes, algorithm as u32, handles.as_mut_ptr(), count) })?;
+    Ok(handles.into_iter().map(Caller).collect())
+}
+
+impl Caller {
+    /// Installs an algorithm, and waits while others are in the way.
+    pub fn install(&mut self, algorithm: Algorithm) -> Result<(), Status> {
+        let mut pause = Pause(5);
+        loop {
+            // SAFETY: the handle is this caller's alone.
+            match Status(unsafe { nekchhaul_switch(&mut self.0, algorithm as u32) }) {
+                Status::BUSY => pause.wait(10),
+                status => return told(status.0),
+            }
+        }
+    }
+
+    /// Runs a transaction until it commits, and answers what it does. After 16 attempts that failed, or a full log, the
+    /// next is irrevocable. A status from 16 on, of a call that doesn't fit or of the body's own from `Status::STOP` on,
+    /// cancels it and is answered; where the attempt can't be cancelled it is committed, and `IRREVOCABLE` is answered.
+    pub fn atomically<T>(&mut self, mut body: impl FnMut(&mut Attempt<'_>) -> Result<T, Status>) -> Result<T, Status> {
+        let (mut pause, mut failed) = (Pause(5), 0u32);
+        loop {
+            let status = match self.attempt(&mut body, failed >= 16, &mut pause) {
+                Ok(answer) => return Ok(answer),
+                Err(status) => status,
+            };
+            if status.is_final() || status == Status::IRREVOCABLE {
+                return Err(status);
+            }
+            failed = match status {
+                Status::LOG_FULL => 16,
+                Status::GATE_CLOSED | Status::HELD => failed,
+                _ => failed.saturating_add(1),
+            };
+            pause.after(status);
+        }
+    }
+
+    fn attempt<T>(
+        &mut self,
+        body: &mut impl FnMut(&mut Attempt<'_>) -> Result<T, Status>,
+        sure: bool,
+        pause: &mut Pause,
+    ) -> Result<T, Status> {
+        // SAFETY: the handle is this caller's alone, here and below.
+        told(unsafe { nekchhaul_begin(&mut self.0) })?;
+        let open = Open(self);
+        while sure {
+            match Status(unsafe { nekchhaul_become_irrevocable(&mut open.0.0) }) {
+                Status(0) => break,
+                Status::BUSY => pause.wait(10),
+                // (an attempt that waits for the gate's holder is cancelled, as `open` is dropped)
+                status => return Err(status),
+            }
+        }
+        let answer = match body(&mut Attempt(&mut open.0.0)) {
+            Ok(answer) => answer,
+            Err(status) => return Err(if open.0.abandon() == Status::IRREVOCABLE { Status::IRREVOCABLE } else { status }),
+        };
+        loop {
+            match Status(unsafe { nekchhaul_commit(&mut open.0.0) }) {
+                Status::AGAIN => pause.wait(10),
+                status => {
+                    // the attempt is over
+                    std::mem::forget(open);
+                    return told(status.0).map(|()| answer);
+                }
+            }
+        }
+    }
+
+    /// Ends an attempt that is to leave no trace; one that can only be committed is.
+    fn abandon(&mut self) -> Status {
+        // SAFETY: the handle is this caller's alone.
+        let status = Status(unsafe { nekchhaul_cancel(&mut self.0) });
+        if status == Status::IRREVOCABLE {
+            while Status(unsafe { nekchhaul_commit(&mut self.0) }) == Status::AGAIN {}
+        }
+        status
+    }
+
+    /// Ends the memory, which has so many words: they are the memory after all that was committed. From then on each
+    /// read and write of each caller is `FENCED`.
+    pub fn close(&mut self, words: usize) -> Result<Vec<u64>, Status> {
+        let (mut out, mut pause) = (vec![0; words], Pause(5));
+        loop {
+            // SAFETY: the slice is the vector's own.
+            match Status(unsafe { nekchhaul_close(&mut self.0, out.as_mut_ptr(), words) }) {
+                Status::BUSY | Status::GATE_CLOSED => pause.wait(10),
+                status => return told(status.0).map(|()| out),
+            }
+        }
+    }
+}
+
+/// An attempt that may be open: it is abandoned where a body panics.
+struct Open<'a>(&'a mut Caller);
+
+impl Drop for Open<'_> {
+    fn drop(&mut self) {
+        self.0.abandon();
+    }
+}
+
+impl Drop for Caller {
+    fn drop(&mut self) {
+        self.abandon();
+        // SAFETY: the handle is this caller's alone, and no caller from here on.
+        unsafe { nekchhaul_release(&mut self.0) };
+    }
+}

@@ -1,0 +1,59 @@
+//! What no clause says: that callers come to their end, and that no increment is lost.
+use std::sync::Wait;
+use std::test::Fail;
+use stm_tx::{ALGORITHMS, Access, AnyMem, Stop};
+use tx_atomic::transaction::Transaction;
+use tx_start::caller::Caller;
+use tx_start::job::Job;
+use tx_start::memory::with_memory;
+use tx_start::sizes::sizes;
+
+/// One more in word 0.
+#[derive(Drop)]
+struct Add;
+
+impl Transaction<AnyMem> for Add {
+    ghost use Rattle.std.specs.Prelude.{◌<◌};
+
+    type Output = u64;
+
+    ghost fits = { λ it rule words. 0 < words };
+
+    ghost tells = { λ it rule words came log. Unit {0} };
+
+    fn run<A: Access>(&self, _: &AnyMem, memory: &mut A) -> Result<u64, Stop> {
+        let count = memory.read(0)?;
+        memory.write(0, count.wrapping_add(1))?;
+        Ok(count)
+    }
+}
+
+struct Count;
+
+impl<R: Wait> Job<R, AnyMem> for Count {
+    ghost use Rattle.std.specs.Prelude.{◌<◌};
+
+    type Output = usize;
+
+    ghost needs = { λ job rule words. 0 < words };
+
+    ghost tells = { λ job rule words caller answer before after. Unit {0} };
+
+    fn work(&self, caller: &mut Caller<'_, R, AnyMem>) -> usize {
+        caller.repeat(500, &|_| Add)
+    }
+}
+
+#[test]
+fn no_increment_is_lost(rt: HostRuntime) -> Result<(), Fail> {
+    for alg in ALGORITHMS {
+        let came = with_memory(&rt, rt.alloc(), sizes(1, 4), alg, AnyMem, &Count)?;
+        assert_eq!(rt; came.words.first().copied(), Some(2_000));
+        assert_eq!(rt; came.answers.len(), 4);
+        for answer in came.answers.iter() {
+            assert_eq!(rt; answer.value, 500);
+            assert_eq!(rt; answer.tally.commits, 500);
+        }
+    }
+    Ok(())
+}

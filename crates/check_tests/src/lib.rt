@@ -1,0 +1,9 @@
+//! Tests of stm_check: workloads and the reports behind them, right, wrong and damaged.
+#![tactic(auto)]
+
+#[cfg(test)]
+mod damage_tests;
+#[cfg(test)]
+mod plain_replay;
+#[cfg(test)]
+mod verdict_tests;

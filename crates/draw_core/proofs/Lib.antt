@@ -1,0 +1,9 @@
+pub mod Saying
+pub mod Tracing
+pub mod Fitting
+pub mod Boxes
+pub mod ReadLaws
+pub mod Drawing
+pub mod Marking
+pub mod Labelling
+pub mod Pictured

@@ -1,0 +1,225 @@
+-- Each part of a picture is markup.
+use Rattle.std.proofs.Common.{ℕ, ◌≡◌, ◌+◌, ◌*◌, List, [], ◌∷◌, ◌++◌, Bool, true, false, refl, subst, ◌∙◌, append_assoc}
+use Rattle.std.specs.Prelude.{if◌then◌else◌, ltb, length, Option, Some, None, codes}
+use Rattle.std.specs.Fmt.{decimal}
+use Rattle.stm_model.specs.Algorithms.{alg_name}
+use Rattle.stm_trace.specs.declared.line.Line.{Line}
+use Rattle.draw_core.specs.declared.kind.Kind.{Kind}
+use Rattle.draw_core.specs.declared.kind.Kind.TheVariants.{Begins}
+use Rattle.draw_core.specs.declared.picture.Sheet.{Sheet}
+use Rattle.draw_core.specs.declared.shape.Shape.{Shape}
+use Rattle.draw_core.specs.declared.shape.Shape.TheVariants.{Lane, Closed, Installed, Attempt, Irrevocable, Clock}
+use Rattle.draw_core.specs.declared.shape.Layer.{Layer}
+use Rattle.draw_core.specs.declared.shape.Layer.TheVariants.{Lanes, Closings, Installs as Installings, Attempts, Promotions, Clocks}
+use Rattle.draw_core.specs.Kinds.{class_of}
+use Rattle.draw_core.specs.Markup.{Words, Attributes, Value, reads_on, IsMarkup}
+use Rattle.draw_core.specs.Shapes.{Box, box_of, boxes_of, shape_at, is_finish}
+use Rattle.draw_core.specs.Texts.{place_bytes, size_bytes, rect_bytes, open_bytes, close_bytes, left, top, tall, edge, shape_bytes, part_bytes, layer_bytes, narrowed, squeezed, box_rect, box_bytes, boxes_bytes, page_width, page_height, style_bytes, legend_bytes, page_bytes, name_bytes, axis_bytes, head_bytes, foot_bytes, drawing_bytes, svg_of, sheet_of}
+use Rattle.draw_core.proofs.Marking.{all_calm, Calm, calm, calm-append, calm-decimal, Keeps, keeps-none, keeps-append, onto, past-value, past-words}
+use Rattle.draw_core.proofs.Labelling.{alg-calm, label-calm}
+
+class-test : (k : Kind) → all_calm (class_of k) ≡ true
+class-test (Begins alg) = refl
+class-test kind = refl
+
+class-calm : (k : Kind) → Calm (class_of k)
+class-calm k = calm (class_of k) (class-test k)
+
+-- a rectangle
+
+module _ (tags : List (List ℕ)) (class kind : List ℕ) (x y width height : ℕ) (c : Calm class) (k : Calm kind) where
+  place-reads : reads_on (Some (Words tags)) (place_bytes class kind x y) ≡ Some (Value tags (codes "rect"))
+  place-reads =
+      past-value tags (codes "rect") class (codes " " ++ (kind ++ (codes "' x='" ++ (decimal x ++ (codes "' y='" ++ decimal y))))) c
+      ∙ (past-value tags (codes "rect") kind (codes "' x='" ++ (decimal x ++ (codes "' y='" ++ decimal y))) k
+      ∙ (past-value tags (codes "rect") (decimal x) (codes "' y='" ++ decimal y) (calm-decimal x)
+      ∙ (calm-decimal y).value tags (codes "rect")))
+
+  size-reads : reads_on (Some (Value tags (codes "rect"))) (size_bytes width height) ≡ Some (Words tags)
+  size-reads =
+      past-value tags (codes "rect") (decimal width) (codes "' height='" ++ (decimal height ++ codes "' rx='4'/>\n")) (calm-decimal width)
+      ∙ past-value tags (codes "rect") (decimal height) (codes "' rx='4'/>\n") (calm-decimal height)
+
+  whole-reads : reads_on (Some (Words tags)) (place_bytes class kind x y ++ size_bytes width height) ≡ Some (Words tags)
+  whole-reads = onto (Some (Words tags)) (place_bytes class kind x y) (size_bytes width height) (Some (Value tags (codes "rect"))) place-reads ∙ size-reads
+
+rect-keeps : (class kind : List ℕ) (x y width height : ℕ) → Calm class → Calm kind → Keeps (rect_bytes class kind x y width height)
+unfolding rect_bytes
+rect-keeps class kind x y width height c k = record { keeps = λ tags. whole-reads tags class kind x y width height c k }
+
+-- words, with their tags
+
+-- more attributes, each with its value
+record More (bs : List ℕ) : Type 0 where
+  pub on : (tags : List (List ℕ)) (name : List ℕ) → reads_on (Some (Attributes tags name)) bs ≡ Some (Attributes tags name)
+
+none-more : More []
+none-more = record { on = λ tags name. refl }
+
+squeezed-by : (b : Bool) → More (if b then codes " textLength='184' lengthAdjust='spacingAndGlyphs'" else [])
+squeezed-by true = record { on = λ tags name. refl }
+squeezed-by false = none-more
+
+squeezed-more : (words : List ℕ) → More (squeezed words)
+squeezed-more words = squeezed-by (ltb 29 (length words))
+
+opening-reads : (tags : List (List ℕ)) (class kind : List ℕ) (x y : ℕ) (more : List ℕ) → Calm class → Calm kind → More more → reads_on (Some (Words tags)) (open_bytes class kind x y more) ≡ Some (Words (codes "text" ∷ tags))
+unfolding open_bytes
+opening-reads tags class kind x y more c k m =
+    past-value tags (codes "text") class (codes " " ++ (kind ++ (codes "' x='" ++ (decimal x ++ (codes "' y='" ++ (decimal y ++ (codes "'" ++ (more ++ codes ">")))))))) c
+    ∙ (past-value tags (codes "text") kind (codes "' x='" ++ (decimal x ++ (codes "' y='" ++ (decimal y ++ (codes "'" ++ (more ++ codes ">")))))) k
+    ∙ (past-value tags (codes "text") (decimal x) (codes "' y='" ++ (decimal y ++ (codes "'" ++ (more ++ codes ">")))) (calm-decimal x)
+    ∙ (past-value tags (codes "text") (decimal y) (codes "'" ++ (more ++ codes ">")) (calm-decimal y)
+    ∙ onto (Some (Attributes tags (codes "text"))) more (codes ">") (Some (Attributes tags (codes "text"))) (m.on tags (codes "text")))))
+
+text-keeps : (class kind : List ℕ) (x y : ℕ) (more words : List ℕ) → Calm class → Calm kind → More more → Calm words → Keeps (open_bytes class kind x y more ++ (words ++ close_bytes))
+text-keeps class kind x y more words c k m w = record {
+  keeps = λ tags.
+      onto (Some (Words tags)) (open_bytes class kind x y more) (words ++ close_bytes) (Some (Words (codes "text" ∷ tags))) (opening-reads tags class kind x y more c k m)
+      ∙ past-words (codes "text" ∷ tags) words close_bytes w;
+}
+
+narrowed-by : (b : Bool) → More (if b then codes " textLength='36' lengthAdjust='spacingAndGlyphs'" else [])
+narrowed-by true = record { on = λ tags name. refl }
+narrowed-by false = none-more
+
+narrowed-more : (time : ℕ) → More (narrowed time)
+narrowed-more time = narrowed-by (ltb 99999 time)
+
+-- the shapes
+
+plain : Calm (codes "words")
+plain = calm (codes "words") refl
+
+shape-keeps : (s : Sheet) (shape : Shape) → Keeps (shape_bytes s shape)
+unfolding shape_bytes
+shape-keeps s (Lane lane) =
+    keeps-append (rect_bytes (codes "lane") (codes "shape") (left lane + 2) 36 212 (s.rows * 24 + 16)) (open_bytes (codes "head") (codes "words") (left lane + 108) 28 [] ++ (codes "caller " ++ (decimal lane ++ close_bytes)))
+    (rect-keeps (codes "lane") (codes "shape") (left lane + 2) 36 212 (s.rows * 24 + 16) (calm (codes "lane") refl) (calm (codes "shape") refl))
+    (text-keeps (codes "head") (codes "words") (left lane + 108) 28 [] (codes "caller " ++ decimal lane) (calm (codes "head") refl) plain none-more (calm-append (codes "caller ") (decimal lane) (calm (codes "caller ") refl) (calm-decimal lane)))
+shape-keeps s (Closed lane from more) =
+    keeps-append (rect_bytes (codes "closed") (codes "shape") 84 (top from) (s.lanes * 216 + 16) (tall more + 2)) (open_bytes (codes "side") (codes "words") (edge s + 14) (top from + 16) [] ++ (codes "gate closed by " ++ (decimal lane ++ close_bytes)))
+    (rect-keeps (codes "closed") (codes "shape") 84 (top from) (s.lanes * 216 + 16) (tall more + 2) (calm (codes "closed") refl) (calm (codes "shape") refl))
+    (text-keeps (codes "side") (codes "words") (edge s + 14) (top from + 16) [] (codes "gate closed by " ++ decimal lane) (calm (codes "side") refl) plain none-more (calm-append (codes "gate closed by ") (decimal lane) (calm (codes "gate closed by ") refl) (calm-decimal lane)))
+shape-keeps s (Installed row alg) =
+    keeps-append (rect_bytes (codes "installed") (codes "shape") 84 (top row + 23) (s.lanes * 216 + 16) 2) (open_bytes (codes "side") (codes "words") (edge s + 14) (top row + 28) [] ++ (alg_name alg ++ codes " from here</text>\n"))
+    (rect-keeps (codes "installed") (codes "shape") 84 (top row + 23) (s.lanes * 216 + 16) 2 (calm (codes "installed") refl) (calm (codes "shape") refl))
+    (subst (λ (t : List ℕ). Keeps (open_bytes (codes "side") (codes "words") (edge s + 14) (top row + 28) [] ++ t)) (append_assoc (alg_name alg) (codes " from here") close_bytes)
+    (text-keeps (codes "side") (codes "words") (edge s + 14) (top row + 28) [] (alg_name alg ++ codes " from here") (calm (codes "side") refl) plain none-more (calm-append (alg_name alg) (codes " from here") (alg-calm alg) (calm (codes " from here") refl))))
+shape-keeps s (Attempt lane from more kind) = rect-keeps (codes "attempt") (class_of kind) (left lane + 4) (top from + 1) 208 (tall more) (calm (codes "attempt") refl) (class-calm kind)
+shape-keeps s (Irrevocable lane from more) = rect-keeps (codes "sure") (codes "shape") (left lane + 4) (top from + 1) 6 (tall more) (calm (codes "sure") refl) (calm (codes "shape") refl)
+shape-keeps s (Clock row time) =
+    keeps-append (rect_bytes (codes "tick") (codes "shape") 80 (top row + 8) 8 8) (open_bytes (codes "clock") (codes "words") 74 (top row + 16) (narrowed time) ++ (decimal time ++ close_bytes))
+    (rect-keeps (codes "tick") (codes "shape") 80 (top row + 8) 8 8 (calm (codes "tick") refl) (calm (codes "shape") refl))
+    (text-keeps (codes "clock") (codes "words") 74 (top row + 16) (narrowed time) (decimal time) (calm (codes "clock") refl) plain (narrowed-more time) (calm-decimal time))
+
+part-keeps : (s : Sheet) (shape : Option Shape) → Keeps (part_bytes s shape)
+part-keeps s None = keeps-none
+part-keeps s (Some shape) = shape-keeps s shape
+
+layer-keeps : (s : Sheet) (y : Layer) (row : ℕ) (bs : List Box) → Keeps (layer_bytes s y row bs)
+layer-keeps s y row [] = keeps-none
+layer-keeps s y row (b ∷ bs) = keeps-append (part_bytes s (shape_at y row b bs)) (layer_bytes s y (row + 1) bs) (part-keeps s (shape_at y row b bs)) (layer-keeps s y (row + 1) bs)
+
+-- the boxes
+
+either : (p : Bool) (xs ys : List ℕ) → Keeps xs → Keeps ys → Keeps (if p then xs else ys)
+either true xs ys c d = c
+either false xs ys c d = d
+
+box-rect-keeps : (s : Sheet) (row : ℕ) (b : Box) → Keeps (box_rect s row b)
+unfolding box_rect
+box-rect-keeps s row b =
+    either (is_finish b.kind) (rect_bytes (codes "box") (class_of b.kind) 88 (top row + 3) (s.lanes * 216 + 8) 18) (rect_bytes (codes "box") (class_of b.kind) (left b.lane + 14) (top row + 3) 194 18)
+    (rect-keeps (codes "box") (class_of b.kind) 88 (top row + 3) (s.lanes * 216 + 8) 18 (calm (codes "box") refl) (class-calm b.kind))
+    (rect-keeps (codes "box") (class_of b.kind) (left b.lane + 14) (top row + 3) 194 18 (calm (codes "box") refl) (class-calm b.kind))
+
+number_text : ℕ → List ℕ
+number_text row = open_bytes (codes "row") (codes "words") 34 (top row + 16) [] ++ (decimal (row + 1) ++ close_bytes)
+
+box-keeps : (s : Sheet) (row : ℕ) (b : Box) → Calm b.label → Keeps (box_bytes s row b)
+unfolding box_bytes number_text
+box-keeps s row b c = record {
+  keeps = λ tags.
+      onto (Some (Words tags)) (box_rect s row b) (open_bytes (codes "label") (class_of b.kind) (left b.lane + 19) (top row + 16) (squeezed b.label) ++ (b.label ++ (close_bytes ++ number_text row))) (Some (Words tags)) ((box-rect-keeps s row b).keeps tags)
+      ∙ (onto (Some (Words tags)) (open_bytes (codes "label") (class_of b.kind) (left b.lane + 19) (top row + 16) (squeezed b.label)) (b.label ++ (close_bytes ++ number_text row)) (Some (Words (codes "text" ∷ tags)))
+      (opening-reads tags (codes "label") (class_of b.kind) (left b.lane + 19) (top row + 16) (squeezed b.label) (calm (codes "label") refl) (class-calm b.kind) (squeezed-more b.label))
+      ∙ (past-words (codes "text" ∷ tags) b.label (close_bytes ++ number_text row) c
+      ∙ (text-keeps (codes "row") (codes "words") 34 (top row + 16) [] (decimal (row + 1)) (calm (codes "row") refl) plain none-more (calm-decimal (row + 1))).keeps tags));
+}
+
+boxes-keep : (s : Sheet) (row : ℕ) (ls : List Line) → Keeps (boxes_bytes s row (boxes_of ls))
+boxes-keep s row [] = keeps-none
+boxes-keep s row (l ∷ ls) = keeps-append (box_bytes s row (box_of l)) (boxes_bytes s (row + 1) (boxes_of ls)) (box-keeps s row (box_of l) (label-calm l)) (boxes-keep s (row + 1) ls)
+
+-- the page, and what stands around the lanes
+
+abbrev page : List (List ℕ)
+page = codes "svg" ∷ []
+
+page-reads : (width height : ℕ) → reads_on (Some (Words [])) (page_bytes width height) ≡ Some (Words page)
+unfolding page_bytes
+page-reads width height =
+    past-value [] (codes "svg") (decimal width) (codes "' height='" ++ (decimal height ++ codes "'>\n")) (calm-decimal width)
+    ∙ past-value [] (codes "svg") (decimal height) (codes "'>\n") (calm-decimal height)
+
+style-reads : reads_on (Some (Words page)) style_bytes ≡ Some (Words page)
+unfolding style_bytes
+style-reads = refl
+
+legend-reads : reads_on (Some (Words (codes "g" ∷ page))) legend_bytes ≡ Some (Words (codes "g" ∷ page))
+unfolding legend_bytes
+legend-reads = refl
+
+name-keeps : (x : ℕ) (words : List ℕ) → Calm words → Keeps (name_bytes x words)
+unfolding name_bytes
+name-keeps x words w = text-keeps (codes "name") (codes "words") x 28 [] words (calm (codes "name") refl) plain none-more w
+
+axis-keeps : (s : Sheet) → Keeps (axis_bytes s)
+unfolding axis_bytes
+axis-keeps s =
+    keeps-append (rect_bytes (codes "axis") (codes "shape") 83 36 2 (s.rows * 24 + 16)) (name_bytes 34 (codes "line") ++ name_bytes 74 (codes "clock"))
+    (rect-keeps (codes "axis") (codes "shape") 83 36 2 (s.rows * 24 + 16) (calm (codes "axis") refl) (calm (codes "shape") refl))
+    (keeps-append (name_bytes 34 (codes "line")) (name_bytes 74 (codes "clock")) (name-keeps 34 (codes "line") (calm (codes "line") refl)) (name-keeps 74 (codes "clock") (calm (codes "clock") refl)))
+
+head-reads : (s : Sheet) → reads_on (Some (Words [])) (head_bytes s) ≡ Some (Words page)
+unfolding head_bytes
+head-reads s =
+    onto (Some (Words [])) (page_bytes (page_width s) (page_height s)) (style_bytes ++ (rect_bytes (codes "page") (codes "shape") 0 0 (page_width s) (page_height s) ++ axis_bytes s)) (Some (Words page)) (page-reads (page_width s) (page_height s))
+    ∙ (onto (Some (Words page)) style_bytes (rect_bytes (codes "page") (codes "shape") 0 0 (page_width s) (page_height s) ++ axis_bytes s) (Some (Words page)) style-reads
+    ∙ (keeps-append (rect_bytes (codes "page") (codes "shape") 0 0 (page_width s) (page_height s)) (axis_bytes s)
+    (rect-keeps (codes "page") (codes "shape") 0 0 (page_width s) (page_height s) (calm (codes "page") refl) (calm (codes "shape") refl)) (axis-keeps s)).keeps page)
+
+foot-reads : (s : Sheet) → reads_on (Some (Words page)) (foot_bytes s) ≡ Some (Words [])
+unfolding foot_bytes
+foot-reads s =
+    past-value page (codes "g") (decimal (s.rows * 24 + 66)) (codes ")'>\n" ++ (legend_bytes ++ codes "</g>\n</svg>\n")) (calm-decimal (s.rows * 24 + 66))
+    ∙ onto (Some (Words (codes "g" ∷ page))) legend_bytes (codes "</g>\n</svg>\n") (Some (Words (codes "g" ∷ page))) legend-reads
+
+on-page : (xs ys : List ℕ) → reads_on (Some (Words [])) xs ≡ Some (Words page) → Keeps ys → reads_on (Some (Words [])) (xs ++ ys) ≡ Some (Words page)
+on-page xs ys is c = onto (Some (Words [])) xs ys (Some (Words page)) is ∙ c.keeps page
+
+module _ (s : Sheet) (ls : List Line) where
+  abbrev over : Layer → List ℕ
+  over y = layer_bytes s y 0 (boxes_of ls)
+
+  drawing-is-markup : IsMarkup (drawing_bytes s (boxes_of ls))
+  drawing-is-markup =
+      let t1 : List ℕ = head_bytes s ++ over Lanes in
+      let t2 : List ℕ = t1 ++ over Closings in
+      let t3 : List ℕ = t2 ++ over Installings in
+      let t4 : List ℕ = t3 ++ over Attempts in
+      let t5 : List ℕ = t4 ++ over Promotions in
+      let t6 : List ℕ = t5 ++ over Clocks in
+      let t7 : List ℕ = t6 ++ boxes_bytes s 0 (boxes_of ls) in
+      let r1 = on-page (head_bytes s) (over Lanes) (head-reads s) (layer-keeps s Lanes 0 (boxes_of ls)) in
+      let r2 = on-page t1 (over Closings) r1 (layer-keeps s Closings 0 (boxes_of ls)) in
+      let r3 = on-page t2 (over Installings) r2 (layer-keeps s Installings 0 (boxes_of ls)) in
+      let r4 = on-page t3 (over Attempts) r3 (layer-keeps s Attempts 0 (boxes_of ls)) in
+      let r5 = on-page t4 (over Promotions) r4 (layer-keeps s Promotions 0 (boxes_of ls)) in
+      let r6 = on-page t5 (over Clocks) r5 (layer-keeps s Clocks 0 (boxes_of ls)) in
+      let r7 = on-page t6 (boxes_bytes s 0 (boxes_of ls)) r6 (boxes-keep s 0 ls) in
+      onto (Some (Words [])) t7 (foot_bytes s) (Some (Words page)) r7 ∙ foot-reads s
+
+pub picture-is-markup : (ls : List Line) → IsMarkup (svg_of (boxes_of ls))
+picture-is-markup ls = drawing-is-markup (sheet_of (boxes_of ls)) ls

@@ -1,0 +1,11 @@
+use Rattle.std.proofs.Common.{◌≡◌, ◌≤◌, ◌^◌, drop}
+use Rattle.std.specs.Prelude.{max}
+use Rattle.draw_core.specs.Shapes.{boxes_of}
+use Rattle.draw_core.specs.Texts.{lanes_of}
+use Rattle.draw_core.proofs.picture.lanes.Given as goal
+
+abbrev pub invariant-loop-line : goal.invariant-loop-line
+invariant-loop-line l = record {
+  all : max l.lanes (lanes_of (boxes_of (drop l.line-index l.lines))) ≡ lanes_of (boxes_of l.lines);
+  few : l.lanes ≤ 2 ^ 64;
+}

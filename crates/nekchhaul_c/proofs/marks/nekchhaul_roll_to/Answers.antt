@@ -1,0 +1,14 @@
+use Rattle.std.proofs.Common.{◌≡◌, ap, sym, ◌∙◌}
+use Rattle.std.specs.Prelude.{Some}
+use Rattle.tx_checked.specs.declared.member.Member.{Member}
+use Rattle.tx_checked.specs.Misuses.{at_mark}
+use Rattle.tx_checked.specs.Tells.{HasRolled}
+use Rattle.nekchhaul_c.specs.Codes.{roll_code}
+use Rattle.nekchhaul_c.specs.Says.{Says}
+use Rattle.nekchhaul_c.proofs.Holding.{held}
+use Rattle.nekchhaul_c.proofs.marks.nekchhaul_roll_to.Goals as goal
+
+pub returns : goal.returns
+returns c =
+    let k = c.of_roll-answer.result in
+    held (k ≡ 16) (Says roll_code (at_mark c.args.depth) (HasRolled c.args.depth) k) c.deref_mut.result.now c.roll_to.new.self c.args.caller.now.inside c.hold.new.self.inside (c.in-Some.ensures.some ∙ ap (λ (x : Member). Some x) (sym c.deref_mut.ensures.value)) c.hold.ensures (c.roll_to.result, c.of_roll-answer.ensures, c.roll_to.ensures)

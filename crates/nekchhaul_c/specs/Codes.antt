@@ -1,0 +1,167 @@
+-- The numbers of the answers.
+use Rattle.std.specs.Prelude.{ℕ, Bool, true, false, Result, Ok, Err}
+use Rattle.stm_model.specs.declared.memory.Memory.{Memory}
+use Rattle.stm_rule.specs.declared.refusal.NewError.{NewError}
+use Rattle.stm_rule.specs.declared.refusal.NewError.TheVariants as sizes
+use Rattle.tx_answers.specs.declared.answers.Begin.{Begin}
+use Rattle.tx_answers.specs.declared.answers.Begin.TheVariants as begins
+use Rattle.tx_answers.specs.declared.answers.Cancel.{Cancel}
+use Rattle.tx_answers.specs.declared.answers.Cancel.TheVariants as cancels
+use Rattle.tx_answers.specs.declared.answers.Check.{Check}
+use Rattle.tx_answers.specs.declared.answers.Check.TheVariants as checks
+use Rattle.tx_answers.specs.declared.answers.Commit.{Commit}
+use Rattle.tx_answers.specs.declared.answers.Commit.TheVariants as commits
+use Rattle.tx_answers.specs.declared.answers.Give.{Give}
+use Rattle.tx_answers.specs.declared.answers.Give.TheVariants as gives
+use Rattle.tx_answers.specs.declared.answers.Irrev.{Irrev}
+use Rattle.tx_answers.specs.declared.answers.Irrev.TheVariants as grants
+use Rattle.tx_answers.specs.declared.answers.Read.{Read}
+use Rattle.tx_answers.specs.declared.answers.Read.TheVariants as reads
+use Rattle.tx_answers.specs.declared.answers.Roll.{Roll}
+use Rattle.tx_answers.specs.declared.answers.Roll.TheVariants as rolls
+use Rattle.tx_answers.specs.declared.answers.Write.{Write}
+use Rattle.tx_answers.specs.declared.answers.Write.TheVariants as writes
+use Rattle.tx_checked.specs.declared.misuse.Misuse.{Misuse}
+use Rattle.tx_checked.specs.declared.misuse.Misuse.TheVariants as wrong
+use Rattle.tx_checked.specs.declared.opening.OpenError.{OpenError}
+use Rattle.tx_checked.specs.declared.opening.OpenError.TheVariants as opens
+use Rattle.tx_checked.specs.declared.refusal.Refusal.{Refusal}
+use Rattle.tx_checked.specs.declared.refusal.Refusal.TheVariants as refusals
+
+abbrev pub misuse_code : Misuse → ℕ
+misuse_code wrong.NoAttempt = 17
+misuse_code wrong.InAttempt = 18
+misuse_code wrong.Committing = 19
+misuse_code wrong.Address = 20
+misuse_code wrong.Fenced = 25
+misuse_code wrong.HoldsRange = 26
+misuse_code wrong.NoRanges = 27
+misuse_code wrong.NoRange = 28
+misuse_code wrong.NoMarks = 29
+misuse_code wrong.Depth = 30
+misuse_code wrong.Logs = 31
+misuse_code wrong.Room = 32
+
+abbrev pub refusal_code : Refusal → ℕ
+refusal_code (refusals.Conflict cause) = 1
+refusal_code (refusals.GateClosed gate) = 2
+refusal_code (refusals.Held word) = 3
+refusal_code (refusals.Busy caller status) = 4
+refusal_code (refusals.Again word had now) = 5
+refusal_code (refusals.LogFull limit) = 6
+refusal_code (refusals.ClockFull clock) = 7
+refusal_code refusals.Irrevocable = 8
+refusal_code (refusals.Deep limit) = 9
+refusal_code (refusals.RangeTaken gate) = 10
+
+abbrev pub begin_code : Result Begin Misuse → ℕ
+begin_code (Ok (begins.Begun alg)) = 0
+begin_code (Ok (begins.Closed gate)) = 2
+begin_code (Ok (begins.Held word)) = 3
+begin_code (Ok (begins.ClockFull clock)) = 7
+begin_code (Err e) = misuse_code e
+
+abbrev pub read_code : Result Read Misuse → ℕ
+read_code (Ok (reads.Value x)) = 0
+read_code (Ok (reads.Conflict cause)) = 1
+read_code (Ok (reads.Full limit)) = 6
+read_code (Err e) = misuse_code e
+
+-- what the place for the word has then
+abbrev pub read_value : Result Read Misuse → ℕ → ℕ
+read_value (Ok (reads.Value x)) old = x
+read_value (Ok (reads.Conflict cause)) old = old
+read_value (Ok (reads.Full limit)) old = old
+read_value (Err e) old = old
+
+abbrev pub write_code : Result Write Misuse → ℕ
+write_code (Ok writes.Done) = 0
+write_code (Ok (writes.Conflict cause)) = 1
+write_code (Ok (writes.Full limit)) = 6
+write_code (Ok (writes.ClockFull clock)) = 7
+write_code (Err e) = misuse_code e
+
+-- 0 where it took effect
+abbrev pub commit_code : Result Commit Misuse → ℕ
+commit_code (Ok (commits.Committed time)) = 0
+commit_code (Ok (commits.ReadOnly time)) = 0
+commit_code (Ok (commits.Conflict cause)) = 1
+commit_code (Ok (commits.Again word had now)) = 5
+commit_code (Ok (commits.ClockFull clock)) = 7
+commit_code (Err e) = misuse_code e
+
+abbrev pub cancel_code : Result Cancel Misuse → ℕ
+cancel_code (Ok (cancels.Cancelled time)) = 0
+cancel_code (Ok cancels.Irrevocable) = 8
+cancel_code (Err e) = misuse_code e
+
+abbrev pub grant_code : Result Irrev Misuse → ℕ
+grant_code (Ok grants.Granted) = 0
+grant_code (Ok (grants.Busy caller status)) = 4
+grant_code (Ok (grants.Taken gate)) = 2
+grant_code (Ok (grants.Conflict cause)) = 1
+grant_code (Ok (grants.ClockFull clock)) = 7
+grant_code (Err e) = misuse_code e
+
+abbrev pub switch_code : Result Bool Misuse → ℕ
+switch_code (Ok true) = 0
+switch_code (Ok false) = 4
+switch_code (Err e) = misuse_code e
+
+abbrev pub mark_code : Result Check Misuse → ℕ
+mark_code (Ok (checks.Marked depth)) = 0
+mark_code (Ok (checks.Deep limit)) = 9
+mark_code (Err e) = misuse_code e
+
+abbrev pub mark_value : Result Check Misuse → ℕ → ℕ
+mark_value (Ok (checks.Marked depth)) old = depth
+mark_value (Ok (checks.Deep limit)) old = old
+mark_value (Err e) old = old
+
+abbrev pub roll_code : Result Roll Misuse → ℕ
+roll_code (Ok rolls.Rolled) = 0
+roll_code (Ok rolls.Irrevocable) = 8
+roll_code (Err e) = misuse_code e
+
+abbrev pub done_code : Result (Unit {0}) Misuse → ℕ
+done_code (Ok r) = 0
+done_code (Err e) = misuse_code e
+
+abbrev pub word_code : Result ℕ Misuse → ℕ
+word_code (Ok x) = 0
+word_code (Err e) = misuse_code e
+
+abbrev pub word_value : Result ℕ Misuse → ℕ → ℕ
+word_value (Ok x) old = x
+word_value (Err e) old = old
+
+abbrev pub taken_code : Result (Result (Unit {0}) Refusal) Misuse → ℕ
+taken_code (Ok (Ok r)) = 0
+taken_code (Ok (Err e)) = refusal_code e
+taken_code (Err e) = misuse_code e
+
+abbrev pub given_code : Result (Result Give Refusal) Misuse → ℕ
+given_code (Ok (Ok (gives.Committed time))) = 0
+given_code (Ok (Ok gives.Unchanged)) = 0
+given_code (Ok (Ok (gives.ClockFull clock))) = 7
+given_code (Ok (Err e)) = refusal_code e
+given_code (Err e) = misuse_code e
+
+abbrev pub reserved_code : Result (Result (Unit {0}) Memory) Misuse → ℕ
+reserved_code (Ok (Ok r)) = 0
+reserved_code (Ok (Err e)) = 23
+reserved_code (Err e) = misuse_code e
+
+abbrev pub size_code : NewError → ℕ
+size_code sizes.Words = 33
+size_code sizes.Records = 34
+size_code sizes.Ring = 35
+size_code sizes.Callers = 36
+size_code sizes.Logs = 37
+size_code sizes.Clock = 38
+size_code sizes.Memory = 23
+
+abbrev pub open_code : OpenError → ℕ
+open_code (opens.Refused e) = size_code e
+open_code opens.Memory = 23
+open_code opens.Busy = 4

@@ -1,0 +1,6 @@
+pub mod Codes
+pub mod Opens
+pub mod Owned
+pub mod Reads
+pub mod Says
+pub mod Shown

@@ -1,0 +1,48 @@
+-- What C is told.
+use Rattle.std.specs.Prelude.{ℕ, ◌≡◌, ◌==◌, if◌then◌else◌, List, length, Option, Some, None, Result, IfErr}
+use Rattle.stm_model.specs.declared.alg.Alg.{Alg}
+use Rattle.stm_model.specs.declared.alg.Alg.TheVariants.{Cgl, Tml, OrecLazy, OrecEager, RingSw, Serial}
+use Rattle.nekchhaul_c.specs.Codes.{switch_code, taken_code}
+use Rattle.tx_checked.specs.declared.member.Member.{Member}
+use Rattle.tx_checked.specs.declared.misuse.Misuse.{Misuse}
+use Rattle.tx_checked.specs.declared.refusal.Refusal.{Refusal}
+use Rattle.tx_checked.specs.Misuses.{outside, ending}
+use Rattle.tx_checked.specs.Endings.{HasEnded}
+use Rattle.tx_checked.specs.Tells.{Tells, HasSwitched}
+
+-- a handle that held no caller holds none, and then this is so; one that held a caller holds one, of which P
+abbrev pub Holds : Type 0 → (Member → Member → Type 0) → Option Member → Option Member → Type 0
+Holds Empty P None None = Empty
+Holds Empty P None (Some n) = ⊥
+Holds Empty P (Some m) None = ⊥
+Holds Empty P (Some m) (Some n) = P m n
+
+-- there is an answer of tx_checked's of which the status is the number, and it tells what that call tells: the same caller is held
+abbrev pub Says : {A : Type 0} → (Result A Misuse → ℕ) → (Member → Option Misuse) → (Member → Member → A → Type 0) → ℕ → Member → Member → Type 0
+Says {A = A} code wrong Told k m n = (r : Result A Misuse) × (k ≡ code r) × Tells (wrong m) (Told m n) m n r
+
+-- the same of an answer with a word, which is put in a place that had `old`
+abbrev pub SaysWord : {A : Type 0} → (Result A Misuse → ℕ) → (Result A Misuse → ℕ → ℕ) → ℕ → ℕ → (Member → Option Misuse) → (Member → Member → A → Type 0) → ℕ → Member → Member → Type 0
+SaysWord {A = A} code word old new wrong Told k m n = (r : Result A Misuse) × (k ≡ code r) × (new ≡ word r old) × Tells (wrong m) (Told m n) m n r
+
+-- only a caller in no attempt is let go, and then the handle holds none
+abbrev pub LetsGo : ℕ → Option Member → Option Member → Type 0
+LetsGo k None None = k ≡ 16
+LetsGo k None (Some n) = ⊥
+LetsGo k (Some m) None = (k ≡ 0) × (outside m ≡ None)
+LetsGo k (Some m) (Some n) = (k ≡ 18) × (n ≡ m)
+
+-- algorithms by their number
+abbrev pub algorithm_numbered : ℕ → Option Alg
+algorithm_numbered n = if n == 0 then Some Cgl else (if n == 1 then Some Tml else (if n == 2 then Some OrecLazy else (if n == 3 then Some OrecEager else (if n == 4 then Some RingSw else (if n == 5 then Some Serial else None)))))
+
+abbrev pub InstallSays : Option Alg → ℕ → Option Member → Option Member → Type 0
+InstallSays None k old new = (k ≡ 21) × (new ≡ old)
+InstallSays (Some alg) k old new = Holds (k ≡ 16) (Says switch_code outside (HasSwitched alg) k) old new
+
+abbrev pub SwitchSays : ℕ → ℕ → Option Member → Option Member → Type 0
+SwitchSays number k old new = InstallSays (algorithm_numbered number) k old new
+
+-- the end of a memory; a misuse leaves the words as they were, as a refusal does
+abbrev pub EndSays : List ℕ → List ℕ → ℕ → Member → Member → Type 0
+EndSays old new k m n = (r : Result (Result (Unit {0}) Refusal) Misuse) × (k ≡ taken_code r) × Tells (ending (length old) m) (HasEnded m n old new) m n r × IfErr r (λ _. new ≡ old)

@@ -1,0 +1,12 @@
+//! The memory for C: callers as handles, answers as numbers. No export has a precondition; each returns.
+#![tactic(auto)]
+
+mod asking;
+mod exports;
+mod handle;
+mod loose;
+mod marks;
+mod opening;
+mod ranges;
+mod reading;
+mod status;

@@ -1,0 +1,123 @@
+//! The opening of a memory, for C.
+ghost use Rattle.std.specs.Prelude.{◌≡◌, ◌≢◌, ◌≤◌, All, length, true, false, is_some, IfOk, IfErr};
+ghost use Rattle.nekchhaul_c.specs.Opens.{insides, NoneHeld, EachNew, EachNewBoxed, EachNewUnder, IsOpenRefusal, config_for};
+ghost use Rattle.nekchhaul_c.specs.Says.{algorithm_numbered};
+ghost use Rattle.tx_checked.specs.Ready.{IsOpenError};
+
+use crate::exports::algorithm_of;
+use crate::handle::Handle;
+use crate::status;
+use std::alloc::Global;
+use stm_model::alg::Alg;
+use stm_model::config::Config;
+use tx_checked::member::Member;
+use tx_checked::opening::{OpenError, open};
+
+/// The sizes of a memory, as C gives them.
+#[repr(C)]
+#[derive(Clone, Copy, Drop)]
+pub struct Sizes {
+    pub words: usize,
+    pub records: usize,
+    pub ring: usize,
+    pub reads: usize,
+    pub writes: usize,
+    pub clock: u64,
+}
+
+/// Opens a memory under an algorithm, with a caller for each place of `callers`. Where it is refused, no caller changes.
+#[unsafe(no_mangle)]
+pub extern "C" fn nekchhaul_open(
+    alloc: Global,
+    sizes: &Sizes,
+    algorithm: u32,
+    callers: &mut [Handle],
+) -> u32
+    ensures empty { result ≡ 0 → NoneHeld callers.old }
+    ensures new { result ≡ 0 → EachNewUnder (algorithm_numbered algorithm) (config_for sizes.now (length callers.old)) callers.new }
+    ensures refused { result ≢ 0 → IsOpenRefusal algorithm (config_for sizes.now (length callers.old)) callers.old result }
+    ensures kept { result ≢ 0 → insides callers.new ≡ insides callers.old }
+{
+    let Some(alg) = algorithm_of(algorithm) else {
+        return status::ALGORITHM;
+    };
+    if holds_one(alloc, callers) {
+        return status::HOLDS_CALLER;
+    }
+    let config = Config {
+        words: sizes.words,
+        records: sizes.records,
+        ring: sizes.ring,
+        callers: callers.len(),
+        reads: sizes.reads,
+        writes: sizes.writes,
+        clock: sizes.clock,
+        fence: true,
+    };
+    match boxed(alloc, config, alg) {
+        Ok(members) => {
+            deal(config, alg, members, callers);
+            status::OK
+        }
+        Err(error) => status::of_open(error),
+    }
+}
+
+/// Whether the handle holds a caller.
+fn holds(alloc: Global, handle: &mut Handle) -> bool
+    ensures kept { handle.new.inside ≡ handle.old.inside }
+    ensures holds { result ≡ is_some handle.old.inside }
+{
+    match handle.take(alloc) {
+        Some(member) => {
+            handle.hold(member);
+            true
+        }
+        None => false,
+    }
+}
+
+/// Whether a handle holds a caller, which would be forgotten.
+fn holds_one(alloc: Global, callers: &mut [Handle]) -> bool
+    ensures kept { insides callers.new ≡ insides callers.old }
+    ensures count { length callers.new ≡ length callers.old }
+    ensures none { result ≡ false → NoneHeld callers.old }
+    ensures some { result ≡ true → NoneHeld callers.old → ⊥ }
+{
+    for i in 0..callers.len() {
+        if holds(alloc, &mut callers[i]) {
+            return true;
+        }
+    }
+    false
+}
+
+/// Opens a memory, with each caller on the heap.
+fn boxed(alloc: Global, config: Config, alg: Alg) -> Result<Vec<Box<Member>>, OpenError>
+    ensures count { IfOk result (λ boxes. length boxes.items ≡ config.callers) }
+    ensures new { IfOk result (λ boxes. EachNewBoxed config alg boxes.items) }
+    ensures refused { IfErr result (IsOpenError config) }
+{
+    let members = open(alloc, config, alg)?;
+    let mut boxes = Vec::new(alloc);
+    for member in members {
+        let Ok(member) = Box::new(alloc, member) else {
+            return Err(OpenError::Memory);
+        };
+        let Ok(()) = boxes.push(member) else {
+            return Err(OpenError::Memory);
+        };
+    }
+    Ok(boxes)
+}
+
+/// Gives each handle its caller.
+fn deal(config: Config, alg: Alg, mut members: Vec<Box<Member>>, callers: &mut [Handle])
+    requires count { length members.items ≡ length callers.old }
+    requires new { EachNewBoxed config alg members.items }
+    ensures { EachNew config alg callers.new }
+{
+    while let Some(member) = members.pop() {
+        callers[members.len()].hold(member);
+    }
+}

@@ -1,0 +1,53 @@
+//! Many reads in one call, for C.
+ghost use Rattle.std.specs.Prelude.{◌≡◌, ◌≤◌, length, take};
+ghost use Rattle.nekchhaul_c.specs.Reads.{ReadManySays, ReadsInTurn};
+ghost use Rattle.nekchhaul_c.specs.Says.{Holds};
+ghost use Rattle.tx_checked.specs.Members.{IsSameMember};
+
+use crate::handle::Handle;
+use crate::status;
+use std::alloc::Global;
+use tx_answers::answers::Read;
+use tx_checked::member::Member;
+
+/// Reads the words at these addresses, in turn, up to the first that is refused.
+#[unsafe(no_mangle)]
+pub extern "C" fn nekchhaul_read_many(
+    alloc: Global,
+    caller: &mut Handle,
+    addresses: &[usize],
+    values: &mut [u64],
+) -> u32
+    ensures { Holds ((result ≡ 16) × (values.new ≡ values.old)) (ReadManySays addresses.now values.old values.new result) caller.old.inside caller.new.inside }
+{
+    let Some(mut member) = caller.take(alloc) else {
+        return status::NO_CALLER;
+    };
+    let answer = read_or_no_room(&mut member, addresses, values);
+    caller.hold(member);
+    answer
+}
+
+fn read_or_no_room(member: &mut Member, addresses: &[usize], values: &mut [u64]) -> u32
+    ensures { ReadManySays addresses.now values.old values.new result member.old member.new }
+{
+    if values.len() < addresses.len() {
+        return status::ROOM;
+    }
+    read_each(member, addresses, values)
+}
+
+fn read_each(member: &mut Member, addresses: &[usize], values: &mut [u64]) -> u32
+    requires room { length addresses.now ≤ length values.old }
+    ensures { ReadManySays addresses.now values.old values.new result member.old member.new }
+{
+    for i in 0..addresses.len() {
+        match member.read(addresses[i]) {
+            Ok(Read::Value(word)) => values[i] = word,
+            Ok(Read::Conflict(_)) => return status::CONFLICT,
+            Ok(Read::Full { .. }) => return status::LOG_FULL,
+            Err(misuse) => return status::of_misuse(misuse),
+        }
+    }
+    status::OK
+}

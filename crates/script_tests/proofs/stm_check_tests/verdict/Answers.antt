@@ -1,4 +1,0 @@
-use Rattle.script_tests.proofs.stm_check_tests.verdict.Goals as goal
-
-pub replay-requires : goal.replay-requires
-replay-requires c = record { items = c.built_workloads_fit.ensures _ _ c.in_ok-workload.ensures.built }

@@ -1,0 +1,260 @@
+//! The calls of the gate, on a range and on notes, and those of marks, each brought to its most steps.
+ghost use Rattle.std.specs.Prelude.{◌≡◌, ℕ, ◌≤◌, ◌<◌, true, false};
+ghost use Rattle.rule_base.specs.Encodings.{fenced};
+ghost use Rattle.stm_model.specs.Algorithms.{is_built};
+ghost use Rattle.stm_model.specs.Memories.{is_empty};
+ghost use Rattle.stm_rule.specs.Callers.{IsOf, IsSameCaller};
+ghost use Rattle.tx_answers.specs.Fences.{is_within};
+ghost use Rattle.tx_answers.specs.Known.{IsIdle, IsRunning};
+ghost use Rattle.stm_tx.specs.Descs.{known};
+ghost use Rattle.stm_tx.specs.Nesting.{takes_marks};
+ghost use Rattle.stm_steps.specs.Fresh.{IsFresh};
+
+use crate::caller::switch;
+use crate::counting::{begin_count, end_count};
+use crate::opening::{Opened, open};
+use std::alloc::Global;
+use stm_tx::calls::{try_begin, write};
+use stm_tx::fencing::{direct_read, direct_write, fence, give_back};
+use stm_tx::gate::{close_gate, install, look, reopen};
+use stm_tx::nesting::{checkpoint, release, roll_to};
+use stm_tx::{
+    Alg, AnyMem, Begin, Check, CloseGate, Config, Desc, Fence, Give, Look, Roll, Stm, Write,
+};
+
+/// Three callers and logs of three items, at an odd clock, which an install of TML makes even.
+const ODD: Config = Config {
+    words: 8,
+    records: 4,
+    ring: 4,
+    callers: 3,
+    reads: 3,
+    writes: 3,
+    clock: 1,
+    fence: true,
+};
+
+/// The same without ranges.
+const PLAIN: Config = Config {
+    fence: false,
+    ..ODD
+};
+
+/// Counts `close_gate`, `look`, `install` of TML and `reopen`.
+fn count_gate(stm: &Stm<AnyMem>, desc: &mut Desc<AnyMem>, alg: Alg) -> bool
+    requires desc { IsOf desc.old stm.now }
+    requires idle { IsIdle (known desc.old) }
+    requires built { is_built alg ≡ true }
+    ensures same { IsSameCaller desc.old desc.new }
+    ensures idle { result ≡ true → IsIdle (known desc.new) }
+{
+    begin_count();
+    let closed = close_gate(desc, stm);
+    end_count();
+    let CloseGate::Closed = closed else {
+        return false;
+    };
+    begin_count();
+    let seen = look(desc, stm);
+    end_count();
+    let Look::Quiet = seen else {
+        return false;
+    };
+    begin_count();
+    install(desc, stm, alg);
+    end_count();
+    begin_count();
+    reopen(desc, stm);
+    end_count();
+    true
+}
+
+/// Counts `fence`.
+fn count_fence(stm: &Stm<AnyMem>, desc: &mut Desc<AnyMem>) -> bool
+    requires stm { IsOf desc.old stm.now }
+    requires idle { IsIdle (known desc.old) }
+    requires fences { stm.now.config.fence ≡ true }
+    requires words { 8 ≤ stm.now.config.words }
+    ensures same { IsSameCaller desc.old desc.new }
+    ensures idle { IsIdle (known desc.new) }
+    ensures held { result ≡ true → (known desc.new).fenced.held ≡ true }
+    ensures words { result ≡ true → (a : ℕ) → fenced (known desc.new).fenced.number a ≡ is_within 4 2 a }
+    ensures unchanged { result ≡ true → is_empty (known desc.new).fenced.log.writes ≡ true }
+{
+    let CloseGate::Closed = close_gate(desc, stm) else {
+        return false;
+    };
+    let Look::Quiet = look(desc, stm) else {
+        reopen(desc, stm);
+        return false;
+    };
+    begin_count();
+    let answer = fence(desc, stm, 4, 2);
+    end_count();
+    match answer {
+        Fence::Fenced => {
+            reopen(desc, stm);
+            true
+        }
+        Fence::Taken { .. } => {
+            reopen(desc, stm);
+            false
+        }
+    }
+}
+
+/// Counts `direct_read` and `direct_write`.
+fn count_direct(stm: &Stm<AnyMem>, desc: &mut Desc<AnyMem>)
+    requires stm { IsOf desc.old stm.now }
+    requires idle { IsIdle (known desc.old) }
+    requires held { (known desc.old).fenced.held ≡ true }
+    requires inside { (a : ℕ) → fenced (known desc.old).fenced.number a ≡ is_within 4 2 a }
+    requires words { 8 ≤ stm.now.config.words }
+    requires unchanged { is_empty (known desc.old).fenced.log.writes ≡ true }
+    ensures same { IsSameCaller desc.old desc.new }
+    ensures idle { IsIdle (known desc.new) }
+    ensures held { (known desc.new).fenced.held ≡ true }
+    ensures changed { is_empty (known desc.new).fenced.log.writes ≡ false }
+{
+    begin_count();
+    let _ = direct_read(desc, stm, 4);
+    end_count();
+    begin_count();
+    direct_write(desc, stm, 5, 7);
+    end_count();
+}
+
+/// Counts `give_back`, where the range was written to.
+fn count_give(stm: &Stm<AnyMem>, desc: &mut Desc<AnyMem>) -> bool
+    requires stm { IsOf desc.old stm.now }
+    requires idle { IsIdle (known desc.old) }
+    requires held { (known desc.old).fenced.held ≡ true }
+    requires changed { is_empty (known desc.old).fenced.log.writes ≡ false }
+{
+    let CloseGate::Closed = close_gate(desc, stm) else {
+        return false;
+    };
+    let Look::Quiet = look(desc, stm) else {
+        return false;
+    };
+    begin_count();
+    let give = give_back(desc, stm, true);
+    end_count();
+    matches!(give, Give::Committed { .. })
+}
+
+/// Counts `tell` and `learn`.
+fn count_notes(stm: &Stm<AnyMem>, first: &mut Desc<AnyMem>, second: &mut Desc<AnyMem>)
+    requires first { IsOf first.old stm.now }
+    requires second { IsOf second.old stm.now }
+    requires idle { IsIdle (known first.old) × IsIdle (known second.old) }
+    ensures same { IsSameCaller first.old first.new }
+    ensures idle { IsIdle (known first.new) }
+{
+    begin_count();
+    let note = first.tell(stm);
+    end_count();
+    begin_count();
+    second.learn(stm, note);
+    end_count();
+}
+
+/// Counts `checkpoint`, `roll_to` behind three writes, and `release`, in an attempt that has just begun.
+fn count_marks(stm: &Stm<AnyMem>, desc: &mut Desc<AnyMem>) -> bool
+    requires desc { IsOf desc.old stm.now }
+    requires running { IsRunning (known desc.old) }
+    requires built { takes_marks (known desc.old).alg ≡ true }
+    requires words { 3 < stm.now.config.words }
+    requires unfenced { (known desc.old).fence ≡ 0 }
+{
+    begin_count();
+    let marked = checkpoint(desc);
+    end_count();
+    let Check::Marked { depth: 1 } = marked else {
+        return false;
+    };
+    let Write::Done = write(desc, stm, 1, 7) else {
+        return false;
+    };
+    let Write::Done = write(desc, stm, 2, 7) else {
+        return false;
+    };
+    let Write::Done = write(desc, stm, 3, 7) else {
+        return false;
+    };
+    begin_count();
+    let rolled = roll_to(desc, stm, 1);
+    end_count();
+    let Roll::Rolled = rolled else {
+        return false;
+    };
+    begin_count();
+    release(desc, 1);
+    end_count();
+    true
+}
+
+/// The names of the calls that `run` counts, in that order.
+pub const NAMES: [&str; 13] = [
+    "close_gate",
+    "look",
+    "install",
+    "reopen",
+    "tell",
+    "learn",
+    "fence",
+    "direct_read",
+    "direct_write",
+    "give_back",
+    "checkpoint",
+    "roll_to",
+    "release",
+];
+
+/// Counts each of these calls once. Answers whether each came to its most steps.
+pub fn run(alloc: Global) -> bool {
+    match (open(alloc, ODD), open(alloc, PLAIN)) {
+        (Some(odd), Some(plain)) => count_on_gate(odd) && count_in_attempt(plain),
+        _ => false,
+    }
+}
+
+fn count_on_gate(mut odd: Opened) -> bool
+    requires fences { odd.stm.config.fence ≡ true }
+    requires words { 8 ≤ odd.stm.config.words }
+    requires first { IsFresh odd.stm odd.first }
+    requires second { IsFresh odd.stm odd.second }
+{
+    let is_gate = count_gate(&odd.stm, &mut odd.first, Alg::Tml);
+    if is_gate {
+        count_notes(&odd.stm, &mut odd.first, &mut odd.second);
+    }
+    is_gate && count_range(&odd.stm, &mut odd.first)
+}
+
+/// Counts `fence`, `direct_read`, `direct_write` and `give_back`.
+fn count_range(stm: &Stm<AnyMem>, desc: &mut Desc<AnyMem>) -> bool
+    requires stm { IsOf desc.old stm.now }
+    requires idle { IsIdle (known desc.old) }
+    requires fences { stm.now.config.fence ≡ true }
+    requires words { 8 ≤ stm.now.config.words }
+{
+    if !count_fence(stm, desc) {
+        return false;
+    }
+    count_direct(stm, desc);
+    count_give(stm, desc)
+}
+
+fn count_in_attempt(mut plain: Opened) -> bool
+    requires plain { plain.stm.config.fence ≡ false }
+    requires words { 3 < plain.stm.config.words }
+    requires first { IsFresh plain.stm plain.first }
+{
+    switch(&plain.stm, &mut plain.first, Alg::Serial)
+        && matches!(
+            try_begin(&mut plain.first, &plain.stm),
+            Begin::Begun(Alg::Serial)
+        )
+        && count_marks(&plain.stm, &mut plain.first)
+}

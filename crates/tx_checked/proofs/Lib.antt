@@ -1,0 +1,5 @@
+pub mod Beside
+pub mod Ending
+pub mod Giving
+pub mod Held
+pub mod Newcomers

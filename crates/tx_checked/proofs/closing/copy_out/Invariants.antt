@@ -1,0 +1,23 @@
+use Rattle.std.proofs.Common.{ℕ, ◌≡◌, ◌<◌, ◌≤◌, length, [], true}
+use Rattle.std.specs.Prelude.{slice_index}
+use Rattle.stm_model.specs.Histories.{memory_after}
+use Rattle.stm_rule.specs.Callers.{IsSameCaller}
+use Rattle.stm_tx.specs.Descs.{known}
+use Rattle.tx_answers.specs.Known.{IsIdle, zeros}
+use Rattle.tx_checked.specs.Ranges.{GrowsBeside}
+use Rattle.tx_checked.proofs.closing.copy_out.Given as goal
+
+abbrev pub invariant-loop-a : goal.invariant-loop-a
+invariant-loop-a l = record {
+  same : IsSameCaller l.fn.desc l.desc;
+  idle : IsIdle (known l.desc);
+  held : (known l.desc).fenced.held ≡ true;
+  number : (known l.desc).fenced.number ≡ (known l.fn.desc).fenced.number;
+  unchanged : (known l.desc).fenced.log.writes ≡ [];
+  seen : (known l.desc).fenced.seen ≡ (known l.fn.desc).fenced.seen;
+  grew : GrowsBeside (known l.fn.desc) (known l.desc);
+  beyond : (k : ℕ) → l.stm.config.words ≤ k → slice_index l.words k ≡ slice_index l.fn.words k;
+  made : (known l.desc).made ≡ (known l.fn.desc).made;
+  long : length l.words ≡ length l.fn.words;
+  words : (k : ℕ) → k < l.a → slice_index l.words k ≡ slice_index (memory_after (known l.fn.desc).fenced.seen (zeros l.stm.config.words)) k;
+}

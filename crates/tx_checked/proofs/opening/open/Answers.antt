@@ -1,0 +1,15 @@
+use Rattle.std.proofs.Common.{◌∙◌, ap, refl, subst}
+use Rattle.std.specs.Prelude.{All}
+use Rattle.stm_model.specs.declared.config.Config.{Config}
+use Rattle.stm_model.specs.declared.rule.AnyMem.{AnyMem}
+use Rattle.stm_rule.specs.declared.stm.Stm.{Stm}
+use Rattle.tx_checked.specs.Ready.{IsUnused}
+use Rattle.tx_checked.proofs.Newcomers.{all-new}
+use Rattle.tx_checked.proofs.opening.open.Goals as goal
+
+pub returns-in-Ok-enlist-clause-new : goal.returns-in-Ok-enlist-clause-new
+returns-in-Ok-enlist-clause-new c =
+    let members = c.in-Ok-enlist.members.items in
+    let sizes = ap (λ (s : Stm AnyMem). s.config) c.in-Ok-new.ensures.ok ∙ c.in-Ok.ensures.stm.0 in
+    let unused = subst (λ (k : Config). All (IsUnused k) members) sizes c.in-Ok-enlist.ensures.unused in
+    all-new c.in-Ok.opened.0 c.args.config c.args.alg c.install_first.new.descs.items members (c.if-not-install_first.ensures.fresh refl) c.in-Ok-enlist.ensures.descs unused

@@ -1,0 +1,27 @@
+-- What the end of a memory hands out.
+use Rattle.std.specs.Prelude.{ℕ, ◌≡◌, ◌<◌, ◌≤◌, ◌++◌, List, None, true, slice_index, Result, Ok, Err}
+use Rattle.stm_model.specs.Histories.{Entry, memory_after, IsLegal}
+use Rattle.tx_answers.specs.Known.{zeros}
+use Rattle.tx_checked.specs.declared.member.Member.{Member}
+use Rattle.tx_checked.specs.declared.refusal.Refusal.{Refusal}
+use Rattle.tx_checked.specs.Members.{config_of, known_to}
+use Rattle.tx_checked.specs.Ranges.{GrowsBeside, IsLeft}
+use Rattle.tx_checked.specs.Stands.{Any}
+
+-- the first words are the memory after all that was committed, which is a legal history and begins with what the caller had seen; all of them are out of the transactions, and nobody has them to give back
+pub record EndsAs (m n : Member) (old ws : List ℕ) : Type 0 where
+  pub history : List Entry
+  pub legal : IsLegal Any (zeros (config_of m).words) (config_of m).clock history
+  pub later : List Entry
+  pub seen : history ≡ (known_to m).seen ++ later
+  pub words : (a : ℕ) → a < (config_of m).words → slice_index ws a ≡ slice_index (memory_after history (zeros (config_of m).words)) a
+  pub beyond : (a : ℕ) → (config_of m).words ≤ a → slice_index ws a ≡ slice_index old a
+  pub out : (known_to n).fenced.held ≡ true
+  pub grew : GrowsBeside (known_to m) (known_to n)
+  pub made : (known_to n).made ≡ (known_to m).made
+  pub range : n.range ≡ None
+  pub refusal : n.refusal ≡ m.refusal
+
+abbrev pub HasEnded : Member → Member → List ℕ → List ℕ → Result (Unit {0}) Refusal → Type 0
+HasEnded m n old ws (Ok r) = EndsAs m n old ws
+HasEnded m n old ws (Err e) = IsLeft e m n × (ws ≡ old)

@@ -1,0 +1,22 @@
+-- What contracts say of a caller with its memory.
+use Rattle.std.specs.Prelude.{ℕ, ◌≡◌}
+use Rattle.std.specs.Arc.{arc_value}
+use Rattle.stm_model.specs.declared.config.Config.{Config}
+use Rattle.stm_rule.specs.Callers.{IsSameCaller}
+use Rattle.stm_tx.specs.Descs.{known, number}
+use Rattle.tx_answers.specs.Known.{Known}
+use Rattle.tx_checked.specs.declared.member.Member.{Member}
+
+abbrev pub config_of : Member → Config
+config_of m = (arc_value m.stm).config
+
+abbrev pub number_of : Member → ℕ
+number_of m = number m.desc
+
+abbrev pub known_to : Member → Known
+known_to m = known m.desc
+
+-- the same caller of the same memory
+pub record IsSameMember (m n : Member) : Type 0 where
+  pub stm : n.stm ≡ m.stm
+  pub caller : IsSameCaller m.desc n.desc

@@ -1,0 +1,111 @@
+-- When a call doesn't fit, and what it is refused for then.
+use Rattle.std.specs.Prelude.{ℕ, Bool, ltb, nat_le, ◌+◌, ◌&&◌, if◌then◌else◌, Option, Some, None}
+use Rattle.rule_base.specs.Encodings.{fenced}
+use Rattle.stm_tx.specs.Nesting.{takes_marks, live_marks}
+use Rattle.tx_answers.specs.Fences.{is_within}
+use Rattle.tx_checked.specs.declared.member.Member.{Member}
+use Rattle.tx_checked.specs.declared.member.Range.{Range}
+use Rattle.tx_checked.specs.declared.misuse.Misuse.{Misuse}
+use Rattle.tx_checked.specs.declared.misuse.Misuse.TheVariants as wrong
+use Rattle.tx_checked.specs.declared.stand.Stand.{Stand}
+use Rattle.tx_checked.specs.declared.stand.Stand.TheVariants.{Idle, Running, Beside, Committing}
+use Rattle.tx_checked.specs.Members.{config_of, known_to}
+
+-- this first, and then that
+abbrev pub or_else : Option Misuse → Option Misuse → Option Misuse
+or_else None o = o
+or_else (Some e) o = Some e
+
+abbrev pub outside_at : Stand → Option Misuse
+outside_at Idle = None
+outside_at Running = Some wrong.InAttempt
+outside_at Beside = Some wrong.InAttempt
+outside_at Committing = Some wrong.InAttempt
+
+abbrev pub inside_at : Stand → Option Misuse
+inside_at Idle = Some wrong.NoAttempt
+inside_at Running = None
+inside_at Beside = None
+inside_at Committing = None
+
+abbrev pub running_at : Stand → Option Misuse
+running_at Idle = Some wrong.NoAttempt
+running_at Running = None
+running_at Beside = None
+running_at Committing = Some wrong.Committing
+
+-- words is how many there are, and fence what was out as the attempt began
+abbrev pub access_at : ℕ → ℕ → ℕ → Stand → Option Misuse
+access_at a words fence Idle = Some wrong.NoAttempt
+access_at a words fence Running = if ltb a words then None else Some wrong.Address
+access_at a words fence Beside = if ltb a words then (if fenced fence a then Some wrong.Fenced else None) else Some wrong.Address
+access_at a words fence Committing = Some wrong.Committing
+
+-- of a call for a caller in no attempt; for one in an attempt; for one in an attempt that isn't in the middle of its commit; and of a read or a write of a
+abbrev pub outside : Member → Option Misuse
+outside m = outside_at m.stand
+
+abbrev pub inside : Member → Option Misuse
+inside m = inside_at m.stand
+
+abbrev pub running : Member → Option Misuse
+running m = running_at m.stand
+
+abbrev pub access : ℕ → Member → Option Misuse
+access a m = access_at a (config_of m).words (known_to m).fence m.stand
+
+-- of a call for a mark, and of one at mark d
+abbrev pub marking_at : Bool → Stand → Option Misuse
+marking_at takes s = or_else (running_at s) (if takes then None else Some wrong.NoMarks)
+
+abbrev pub marking : Member → Option Misuse
+marking m = marking_at (takes_marks (known_to m).alg) m.stand
+
+abbrev pub at_mark : ℕ → Member → Option Misuse
+at_mark d m = or_else (marking m) (if nat_le 1 d then (if nat_le d (live_marks (known_to m)) then None else Some wrong.Depth) else Some wrong.Depth)
+
+-- of a call that takes `count` words from `from`
+abbrev pub takes_at : Bool → Option Misuse
+takes_at takes = if takes then None else Some wrong.NoRanges
+
+abbrev pub holds_at : Option Range → Option Misuse
+holds_at None = None
+holds_at (Some r) = Some wrong.HoldsRange
+
+abbrev pub reaches : ℕ → ℕ → ℕ → Option Misuse
+reaches from count words = if nat_le 1 count then (if nat_le (from + count) words then None else Some wrong.Address) else Some wrong.Address
+
+abbrev pub taking : ℕ → ℕ → Member → Option Misuse
+taking from count m = or_else (outside m) (or_else (takes_at (config_of m).fence) (or_else (holds_at m.range) (reaches from count (config_of m).words)))
+
+-- of one that asks for a range, and for a there
+abbrev pub gives_at : Option Range → Option Misuse
+gives_at None = Some wrong.NoRange
+gives_at (Some r) = None
+
+abbrev pub has_at : ℕ → Option Range → Option Misuse
+has_at a None = Some wrong.NoRange
+has_at a (Some r) = if is_within r.from r.count a then None else Some wrong.NoRange
+
+abbrev pub giving : Member → Option Misuse
+giving m = or_else (outside m) (gives_at m.range)
+
+abbrev pub in_range : ℕ → Member → Option Misuse
+in_range a m = or_else (outside m) (has_at a m.range)
+
+-- of one that hands out all words, with so much room
+abbrev pub room_at : ℕ → ℕ → Option Misuse
+room_at room words = if nat_le words room then None else Some wrong.Room
+
+abbrev pub ending : ℕ → Member → Option Misuse
+ending room m = or_else (taking 0 (config_of m).words m) (room_at room (config_of m).words)
+
+-- of one that makes logs longer
+abbrev pub is_length : ℕ → Bool
+is_length n = nat_le 1 n && nat_le n 4096
+
+abbrev pub lengths : ℕ → ℕ → Option Misuse
+lengths reads writes = if is_length reads && is_length writes then None else Some wrong.Logs
+
+abbrev pub reserving : ℕ → ℕ → Member → Option Misuse
+reserving reads writes m = or_else (outside m) (lengths reads writes)

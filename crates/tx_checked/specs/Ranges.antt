@@ -1,0 +1,84 @@
+-- What the calls on a range of words tell.
+use Rattle.std.specs.Prelude.{ℕ, ◌≡◌, ◌<◌, ◌≤◌, ◌++◌, ◌∷◌, [], true, false, List, length, Option, Some, None, Result, Ok, Err}
+use Rattle.stm_model.specs.declared.config.Config.{Config}
+use Rattle.stm_model.specs.declared.config.TheConstants.{CLOCK_LIMIT}
+use Rattle.stm_model.specs.Histories.{Entry, IsLegal}
+use Rattle.stm_model.specs.Memories.{is_empty}
+use Rattle.rule_base.specs.Encodings.{fenced}
+use Rattle.tx_answers.specs.Answers.{entry}
+use Rattle.tx_answers.specs.declared.answers.Give.{Give}
+use Rattle.tx_answers.specs.declared.answers.Give.TheVariants as gives
+use Rattle.tx_answers.specs.Fences.{ReadsDirect, WritesDirect, is_within}
+use Rattle.tx_answers.specs.Known.{Known, Grows, no_log, zeros}
+use Rattle.tx_checked.specs.declared.member.Member.{Member}
+use Rattle.tx_checked.specs.declared.member.Range.{Range}
+use Rattle.tx_checked.specs.declared.refusal.Refusal.{Refusal}
+use Rattle.tx_checked.specs.declared.refusal.Refusal.TheVariants as refusals
+use Rattle.tx_checked.specs.Members.{config_of, known_to, number_of}
+use Rattle.tx_checked.specs.Stands.{Any}
+
+-- it knows all that it knew, but of its range
+abbrev pub GrowsBeside : Known → Known → Type 0
+GrowsBeside v w = Grows v (record w { fenced = v.fenced })
+
+-- the words are the caller's alone. What had been committed then, of which it had seen a part, is a legal history.
+pub record TakesOut (c : Config) (from count : ℕ) (v w : Known) : Type 0 where
+  pub held : w.fenced.held ≡ true
+  pub words : (a : ℕ) → fenced w.fenced.number a ≡ is_within from count a
+  pub log : w.fenced.log ≡ no_log
+  pub legal : IsLegal Any (zeros c.words) c.clock w.fenced.seen
+  pub later : List Entry
+  pub seen : w.fenced.seen ≡ v.seen ++ later
+  pub front : v.front ≤ w.fenced.front
+
+-- the direct reads and writes are one entry of a legal history, later than all that the caller had seen
+pub record GivesAt (c : Config) (n time : ℕ) (v w : Known) : Type 0 where
+  pub made : w.made ≡ v.made ++ entry time n (length v.made) v.fenced.log ∷ []
+  pub before : List Entry
+  pub legal : IsLegal Any (zeros c.words) c.clock (before ++ entry time n (length v.made) v.fenced.log ∷ [])
+  pub since : List Entry
+  pub seen : w.seen ≡ (before ++ entry time n (length v.made) v.fenced.log ∷ []) ++ since
+  pub later : v.front < time
+  pub front : time ≤ w.front
+
+-- a full clock leaves the range to the caller
+abbrev pub GivesBack : Config → ℕ → Give → Known → Known → Type 0
+GivesBack c n (gives.Committed time) v w = GivesAt c n time v w
+GivesBack c n gives.Unchanged v w = (w.made ≡ v.made) × (is_empty v.fenced.log.writes ≡ true)
+GivesBack c n (gives.ClockFull clock) v w = (w.made ≡ v.made) × (w.fenced ≡ v.fenced) × (CLOCK_LIMIT ≤ clock)
+
+-- nothing was taken or given, for what is written down
+pub record IsLeft (e : Refusal) (m n : Member) : Type 0 where
+  pub grew : GrowsBeside (known_to m) (known_to n)
+  pub made : (known_to n).made ≡ (known_to m).made
+  pub fenced : (known_to n).fenced ≡ (known_to m).fenced
+  pub range : n.range ≡ m.range
+  pub refusal : n.refusal ≡ Some e
+
+abbrev pub HasTaken : ℕ → ℕ → Member → Member → Result (Unit {0}) Refusal → Type 0
+HasTaken from count m n (Ok r) = TakesOut (config_of m) from count (known_to m) (known_to n) × GrowsBeside (known_to m) (known_to n) × ((known_to n).made ≡ (known_to m).made) × (n.range ≡ Some (record { from = from; count = count; changed = false })) × (n.refusal ≡ m.refusal)
+HasTaken from count m n (Err e) = IsLeft e m n
+
+abbrev pub range_after : Give → Option Range → Option Range
+range_after (gives.Committed time) r = None
+range_after gives.Unchanged r = None
+range_after (gives.ClockFull clock) r = r
+
+abbrev pub give_refusal : Give → Option Refusal → Option Refusal
+give_refusal (gives.Committed time) old = old
+give_refusal gives.Unchanged old = old
+give_refusal (gives.ClockFull clock) old = Some (refusals.ClockFull clock)
+
+abbrev pub HasGiven : Member → Member → Result Give Refusal → Type 0
+HasGiven m n (Ok r) = GivesBack (config_of m) (number_of m) r (known_to m) (known_to n) × GrowsBeside (known_to m) (known_to n) × (n.range ≡ range_after r m.range) × (n.refusal ≡ give_refusal r m.refusal)
+HasGiven m n (Err e) = IsLeft e m n
+
+abbrev pub HasReadDirect : ℕ → Member → Member → ℕ → Type 0
+HasReadDirect a m n x = ReadsDirect Any (config_of m) (number_of m) a x (known_to m) (known_to n) × (n.range ≡ m.range) × (n.refusal ≡ m.refusal)
+
+abbrev pub is_changed : Option Range → Option Range
+is_changed None = None
+is_changed (Some r) = Some (record { from = r.from; count = r.count; changed = true })
+
+abbrev pub HasWrittenDirect : ℕ → ℕ → Member → Member → Unit {0} → Type 0
+HasWrittenDirect a x m n r = WritesDirect Any (config_of m) (number_of m) a x (known_to m) (known_to n) × (n.range ≡ is_changed m.range) × (n.refusal ≡ m.refusal)

@@ -1,0 +1,60 @@
+-- A memory that was just opened, and its callers.
+use Rattle.std.specs.Prelude.{ℕ, suc, zero, ◌≡◌, ◌<◌, List, [], ◌∷◌, None, map, length, get_or}
+use Rattle.stm_model.specs.declared.alg.Alg.{Alg}
+use Rattle.stm_model.specs.declared.config.Config.{Config}
+use Rattle.stm_model.specs.declared.rule.AnyMem.{AnyMem}
+use Rattle.stm_rule.specs.declared.stm.Stm.{Stm}
+use Rattle.stm_rule.specs.Callers.{Handle, IsOf}
+use Rattle.stm_rule.specs.Refusals.{first_fault, IsRefusal}
+use Rattle.stm_tx.specs.Descs.{known, number}
+use Rattle.tx_answers.specs.Known.{IsIdle}
+use Rattle.tx_checked.specs.declared.member.Member.{Member}
+use Rattle.tx_checked.specs.declared.opening.OpenError.{OpenError}
+use Rattle.tx_checked.specs.declared.opening.OpenError.TheVariants as opens
+use Rattle.tx_checked.specs.declared.stand.Stand.TheVariants.{Idle}
+use Rattle.tx_checked.specs.Members.{config_of, known_to, number_of}
+
+-- the first of the callers installed the algorithm
+abbrev pub installed : Alg → ℕ → List Alg
+installed alg zero = alg ∷ []
+installed alg (suc i) = []
+
+-- caller i of this memory, which has done nothing else
+pub record IsFresh (stm : Stm AnyMem) (alg : Alg) (i : ℕ) (d : Handle AnyMem) : Type 0 where
+  pub own : IsOf d stm
+  pub idle : IsIdle (known d)
+  pub number : number d ≡ i
+  pub made : (known d).made ≡ []
+  pub installs : (known d).installs ≡ installed alg i
+
+abbrev pub AreFresh : Stm AnyMem → Alg → List (Handle AnyMem) → Type 0
+AreFresh stm alg ds = (i : ℕ) (d : Handle AnyMem) → i < length ds → IsFresh stm alg i (get_or ds i d)
+
+abbrev pub desc_in : Member → Handle AnyMem
+desc_in m = m.desc
+
+abbrev pub descs_in : List Member → List (Handle AnyMem)
+descs_in ms = map desc_in ms
+
+-- a caller of a memory of these sizes that no call has been made of
+pub record IsUnused (c : Config) (m : Member) : Type 0 where
+  pub config : config_of m ≡ c
+  pub stand : m.stand ≡ Idle
+  pub range : m.range ≡ None
+  pub refusal : m.refusal ≡ None
+
+-- caller i of such a memory under the algorithm
+pub record IsNew (c : Config) (alg : Alg) (i : ℕ) (m : Member) : Type 0 where
+  pub unused : IsUnused c m
+  pub number : number_of m ≡ i
+  pub made : (known_to m).made ≡ []
+  pub installs : (known_to m).installs ≡ installed alg i
+
+abbrev pub AreNew : Config → Alg → List Member → Type 0
+AreNew c alg ms = (i : ℕ) (m : Member) → i < length ms → IsNew c alg i (get_or ms i m)
+
+-- where no number is at fault, memory was refused or the gate taken
+abbrev pub IsOpenError : Config → OpenError → Type 0
+IsOpenError c (opens.Refused e) = IsRefusal c e
+IsOpenError c opens.Memory = first_fault c ≡ None
+IsOpenError c opens.Busy = first_fault c ≡ None

@@ -1,0 +1,124 @@
+-- What the calls tell: what stm_tx tells, and what is written down of a refusal.
+use Rattle.std.specs.Prelude.{ℕ, ◌≡◌, ◌≤◌, ◌+◌, Bool, if◌then◌else◌, Option, Some, None, Result, Ok, Err, [], ◌∷◌, ◌++◌}
+use Rattle.stm_model.specs.Algorithms.{install_rise}
+use Rattle.stm_model.specs.declared.alg.Alg.{Alg}
+use Rattle.stm_model.specs.declared.memory.Memory.{Memory}
+use Rattle.stm_tx.specs.Descs.{Reserves}
+use Rattle.tx_answers.specs.Answers.{Begins, HasRead, HasWritten, Commits, Cancels, Irrevs, Checks, Rolls, Releases}
+use Rattle.tx_answers.specs.declared.answers.Begin.{Begin}
+use Rattle.tx_answers.specs.declared.answers.Begin.TheVariants as begins
+use Rattle.tx_answers.specs.declared.answers.Cancel.{Cancel}
+use Rattle.tx_answers.specs.declared.answers.Cancel.TheVariants as cancels
+use Rattle.tx_answers.specs.declared.answers.Check.{Check}
+use Rattle.tx_answers.specs.declared.answers.Check.TheVariants as checks
+use Rattle.tx_answers.specs.declared.answers.Commit.{Commit}
+use Rattle.tx_answers.specs.declared.answers.Commit.TheVariants as commits
+use Rattle.tx_answers.specs.declared.answers.Irrev.{Irrev}
+use Rattle.tx_answers.specs.declared.answers.Irrev.TheVariants as grants
+use Rattle.tx_answers.specs.declared.answers.Read.{Read}
+use Rattle.tx_answers.specs.declared.answers.Read.TheVariants as reads
+use Rattle.tx_answers.specs.declared.answers.Roll.{Roll}
+use Rattle.tx_answers.specs.declared.answers.Roll.TheVariants as rolls
+use Rattle.tx_answers.specs.declared.answers.Write.{Write}
+use Rattle.tx_answers.specs.declared.answers.Write.TheVariants as writes
+use Rattle.tx_answers.specs.Known.{Known, Grows}
+use Rattle.tx_checked.specs.declared.member.Member.{Member}
+use Rattle.tx_checked.specs.declared.misuse.Misuse.{Misuse}
+use Rattle.tx_checked.specs.declared.refusal.Refusal.{Refusal}
+use Rattle.tx_checked.specs.declared.refusal.Refusal.TheVariants as refusals
+use Rattle.tx_checked.specs.Members.{IsSameMember, config_of, known_to, number_of}
+use Rattle.tx_checked.specs.Stands.{Any}
+
+-- a call that fits is made, of the same caller; one that doesn't is answered by what is wrong with it, and changes nothing
+abbrev pub Tells : {A : Type 0} → Option Misuse → (A → Type 0) → Member → Member → Result A Misuse → Type 0
+Tells wrong Told m n (Ok answer) = (wrong ≡ None) × IsSameMember m n × Told answer
+Tells wrong Told m n (Err e) = (wrong ≡ Some e) × (n ≡ m)
+
+-- what is written down of an answer: a refusal, in the place of the one before
+abbrev pub begin_refusal : Begin → Option Refusal → Option Refusal
+begin_refusal (begins.Begun alg) old = old
+begin_refusal (begins.Closed gate) old = Some (refusals.GateClosed gate)
+begin_refusal (begins.Held word) old = Some (refusals.Held word)
+begin_refusal (begins.ClockFull clock) old = Some (refusals.ClockFull clock)
+
+abbrev pub read_refusal : Read → Option Refusal → Option Refusal
+read_refusal (reads.Value x) old = old
+read_refusal (reads.Conflict cause) old = Some (refusals.Conflict cause)
+read_refusal (reads.Full limit) old = Some (refusals.LogFull limit)
+
+abbrev pub write_refusal : Write → Option Refusal → Option Refusal
+write_refusal writes.Done old = old
+write_refusal (writes.Conflict cause) old = Some (refusals.Conflict cause)
+write_refusal (writes.Full limit) old = Some (refusals.LogFull limit)
+write_refusal (writes.ClockFull clock) old = Some (refusals.ClockFull clock)
+
+abbrev pub commit_refusal : Commit → Option Refusal → Option Refusal
+commit_refusal (commits.Committed time) old = old
+commit_refusal (commits.ReadOnly time) old = old
+commit_refusal (commits.Conflict cause) old = Some (refusals.Conflict cause)
+commit_refusal (commits.Again word had now) old = Some (refusals.Again word had now)
+commit_refusal (commits.ClockFull clock) old = Some (refusals.ClockFull clock)
+
+abbrev pub cancel_refusal : Cancel → Option Refusal → Option Refusal
+cancel_refusal (cancels.Cancelled time) old = old
+cancel_refusal cancels.Irrevocable old = Some refusals.Irrevocable
+
+abbrev pub grant_refusal : Irrev → Option Refusal → Option Refusal
+grant_refusal grants.Granted old = old
+grant_refusal (grants.Busy caller status) old = Some (refusals.Busy caller status)
+grant_refusal (grants.Taken gate) old = Some (refusals.GateClosed gate)
+grant_refusal (grants.Conflict cause) old = Some (refusals.Conflict cause)
+grant_refusal (grants.ClockFull clock) old = Some (refusals.ClockFull clock)
+
+module _ (m n : Member) where
+  abbrev pub HasBegun : Begin → Type 0
+  HasBegun r = Begins Any (config_of m) (number_of m) r (known_to m) (known_to n) × (n.range ≡ m.range) × (n.refusal ≡ begin_refusal r m.refusal)
+
+  abbrev pub HasCommitted : Commit → Type 0
+  HasCommitted r = Commits Any (config_of m) (number_of m) r (known_to m) (known_to n) × (n.range ≡ m.range) × (n.refusal ≡ commit_refusal r m.refusal)
+
+  abbrev pub HasCancelled : Cancel → Type 0
+  HasCancelled r = Cancels Any (config_of m) (number_of m) r (known_to m) (known_to n) × (n.range ≡ m.range) × (n.refusal ≡ cancel_refusal r m.refusal)
+
+  abbrev pub IsSure : Irrev → Type 0
+  IsSure r = Irrevs Any (config_of m) (number_of m) r (known_to m) (known_to n) × (n.range ≡ m.range) × (n.refusal ≡ grant_refusal r m.refusal)
+
+module _ (a : ℕ) (m n : Member) where
+  abbrev pub HasReadWord : Read → Type 0
+  HasReadWord r = HasRead Any (config_of m) (number_of m) a r (known_to m) (known_to n) × (n.range ≡ m.range) × (n.refusal ≡ read_refusal r m.refusal)
+
+module _ (a x : ℕ) (m n : Member) where
+  abbrev pub HasWrittenWord : Write → Type 0
+  HasWrittenWord r = HasWritten Any (config_of m) (number_of m) a x r (known_to m) (known_to n) × (n.range ≡ m.range) × (n.refusal ≡ write_refusal r m.refusal)
+
+-- what a switch tells: it installed that algorithm or none, and committed nothing
+pub record Switches (alg : Alg) (did : Bool) (v w : Known) : Type 0 where
+  pub grew : Grows v w
+  pub made : w.made ≡ v.made
+  pub rises : (v.rises ≤ w.rises) × (w.rises ≤ (if did then v.rises + install_rise alg else v.rises))
+  pub installs : w.installs ≡ (if did then v.installs ++ alg ∷ [] else v.installs)
+
+-- installed or not, nothing is refused for good
+abbrev pub HasSwitched : Alg → Member → Member → Bool → Type 0
+HasSwitched alg m n did = Switches alg did (known_to m) (known_to n) × (n.range ≡ m.range) × (n.refusal ≡ m.refusal)
+
+abbrev pub mark_refusal : Check → Option Refusal → Option Refusal
+mark_refusal (checks.Marked depth) old = old
+mark_refusal (checks.Deep limit) old = Some (refusals.Deep limit)
+
+abbrev pub roll_refusal : Roll → Option Refusal → Option Refusal
+roll_refusal rolls.Rolled old = old
+roll_refusal rolls.Irrevocable old = Some refusals.Irrevocable
+
+abbrev pub HasMarked : Member → Member → Check → Type 0
+HasMarked m n r = Checks r (known_to m) (known_to n) × (n.range ≡ m.range) × (n.refusal ≡ mark_refusal r m.refusal)
+
+abbrev pub HasRolled : ℕ → Member → Member → Roll → Type 0
+HasRolled d m n r = Rolls Any (config_of m) (number_of m) d r (known_to m) (known_to n) × (n.range ≡ m.range) × (n.refusal ≡ roll_refusal r m.refusal)
+
+abbrev pub HasDropped : ℕ → Member → Member → Unit {0} → Type 0
+HasDropped d m n r = Releases d (known_to m) (known_to n) × (n.range ≡ m.range) × (n.refusal ≡ m.refusal)
+
+abbrev pub HasReserved : ℕ → ℕ → Member → Member → Result (Unit {0}) Memory → Type 0
+HasReserved reads writes m n (Ok r) = Reserves reads writes (known_to m) (known_to n) × (n.range ≡ m.range) × (n.refusal ≡ m.refusal)
+HasReserved reads writes m n (Err e) = n ≡ m

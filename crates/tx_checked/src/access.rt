@@ -1,0 +1,60 @@
+//! The reads and writes of an attempt, for a caller with its memory.
+ghost use Rattle.std.specs.Prelude.{◌≡◌};
+ghost use Rattle.tx_checked.specs.Misuses.{access};
+ghost use Rattle.tx_checked.specs.Tells.{Tells, HasReadWord, HasWrittenWord};
+
+use crate::member::Member;
+use crate::misuse::Misuse;
+use crate::refusal::Refusal;
+use crate::stand::Stand;
+use stm_tx::calls;
+use tx_answers::answers::{Read, Write};
+
+impl Member {
+    /// Reads the word at `a`, as `stm_tx::calls::read` does.
+    #[inline]
+    pub fn read(&mut self, a: usize) -> Result<Read, Misuse>
+        ensures { Tells (access a self.old) (HasReadWord a self.old self.new) self.old self.new result }
+    {
+        self.may_access(a)?;
+        match calls::read(&mut self.desc, &self.stm, a) {
+            Read::Value(word) => Ok(Read::Value(word)),
+            Read::Conflict(cause) => {
+                self.stand = Stand::Idle;
+                self.refusal = Some(Refusal::Conflict(cause));
+                Ok(Read::Conflict(cause))
+            }
+            Read::Full { limit } => {
+                self.stand = Stand::Idle;
+                self.refusal = Some(Refusal::LogFull { limit });
+                Ok(Read::Full { limit })
+            }
+        }
+    }
+
+    /// Writes `x` to the word at `a`, as `stm_tx::calls::write` does.
+    #[inline]
+    pub fn write(&mut self, a: usize, x: u64) -> Result<Write, Misuse>
+        ensures { Tells (access a self.old) (HasWrittenWord a x self.old self.new) self.old self.new result }
+    {
+        self.may_access(a)?;
+        match calls::write(&mut self.desc, &self.stm, a, x) {
+            Write::Done => Ok(Write::Done),
+            Write::Conflict(cause) => {
+                self.stand = Stand::Idle;
+                self.refusal = Some(Refusal::Conflict(cause));
+                Ok(Write::Conflict(cause))
+            }
+            Write::Full { limit } => {
+                self.stand = Stand::Idle;
+                self.refusal = Some(Refusal::LogFull { limit });
+                Ok(Write::Full { limit })
+            }
+            Write::ClockFull { clock } => {
+                self.stand = Stand::Idle;
+                self.refusal = Some(Refusal::ClockFull { clock });
+                Ok(Write::ClockFull { clock })
+            }
+        }
+    }
+}

@@ -1,0 +1,46 @@
+//! What a caller with its memory is asked, and how its logs are made longer.
+ghost use Rattle.std.specs.Prelude.{◌≡◌, ◌&&◌};
+ghost use Rattle.tx_answers.specs.Known.{is_irrevocable, state_of};
+ghost use Rattle.tx_checked.specs.Members.{known_to};
+ghost use Rattle.tx_checked.specs.Misuses.{reserving};
+ghost use Rattle.tx_checked.specs.Tells.{Tells, HasReserved};
+
+use crate::member::Member;
+use crate::misuse::Misuse;
+use std::alloc::Global;
+use stm_model::config::MAX_LOG;
+use stm_model::memory::Memory;
+use stm_tx::calls;
+use tx_answers::answers::TxState;
+
+impl Member {
+    /// Where it stands, and under which algorithm.
+    pub fn state(&self) -> TxState
+        ensures { result ≡ state_of (known_to self.now) }
+    {
+        calls::state(&self.desc)
+    }
+
+    /// Whether its attempt can only be committed.
+    pub fn is_irrevocable(&self) -> bool
+        ensures { result ≡ ((known_to self.now).running && is_irrevocable (known_to self.now)) }
+    {
+        calls::is_irrevocable(&self.desc)
+    }
+
+    /// Makes its logs longer, as `stm_tx::calls::reserve` does.
+    pub fn reserve(
+        &mut self,
+        alloc: Global,
+        reads: usize,
+        writes: usize,
+    ) -> Result<Result<(), Memory>, Misuse>
+        ensures { Tells (reserving reads writes self.old) (HasReserved reads writes self.old self.new) self.old self.new result }
+    {
+        self.is_outside()?;
+        if reads < 1 || reads > MAX_LOG || writes < 1 || writes > MAX_LOG {
+            return Err(Misuse::Logs);
+        }
+        Ok(calls::reserve(alloc, &mut self.desc, reads, writes))
+    }
+}

@@ -1,0 +1,82 @@
+//! The end of a memory, for one of its callers.
+ghost use Rattle.std.specs.Prelude.{◌≡◌, ℕ, ◌<◌, ◌≤◌, None, Some, [], true, length, slice_index, OnOk, IfErr};
+ghost use Rattle.rule_base.specs.Encodings.{fenced};
+ghost use Rattle.stm_model.specs.Histories.{memory_after};
+ghost use Rattle.stm_rule.specs.Callers.{IsOf, IsSameCaller};
+ghost use Rattle.stm_tx.specs.Descs.{known};
+ghost use Rattle.tx_answers.specs.Known.{IsIdle, zeros};
+ghost use Rattle.tx_checked.specs.Endings.{HasEnded};
+ghost use Rattle.tx_checked.specs.Members.{config_of, known_to};
+ghost use Rattle.tx_checked.specs.Misuses.{ending, taking};
+ghost use Rattle.tx_checked.specs.Ranges.{GrowsBeside};
+ghost use Rattle.tx_checked.specs.Tells.{Tells};
+
+use crate::member::Member;
+use crate::misuse::Misuse;
+use crate::ranges::take_out;
+use crate::refusal::Refusal;
+use stm_model::rule::AnyMem;
+use stm_rule::desc::Desc;
+use stm_rule::stm::Stm;
+use stm_tx::fencing::direct_read;
+
+/// Reads all words, which are out of the transactions and unchanged since.
+fn copy_out(desc: &mut Desc<AnyMem>, stm: &Stm<AnyMem>, words: &mut [u64])
+    requires stm { IsOf desc.old stm.now }
+    requires idle { IsIdle (known desc.old) }
+    requires held { (known desc.old).fenced.held ≡ true }
+    requires all { (a : ℕ) → a < stm.now.config.words → fenced (known desc.old).fenced.number a ≡ true }
+    requires unchanged { (known desc.old).fenced.log.writes ≡ [] }
+    requires room { stm.now.config.words ≤ length words.old }
+    ensures same { IsSameCaller desc.old desc.new }
+    ensures idle { IsIdle (known desc.new) }
+    ensures held { (known desc.new).fenced.held ≡ true }
+    ensures seen { (known desc.new).fenced.seen ≡ (known desc.old).fenced.seen }
+    ensures grew { GrowsBeside (known desc.old) (known desc.new) }
+    ensures made { (known desc.new).made ≡ (known desc.old).made }
+    ensures beyond { (a : ℕ) → stm.now.config.words ≤ a → slice_index words.new a ≡ slice_index words.old a }
+    ensures words { (a : ℕ) → a < stm.now.config.words → slice_index words.new a ≡ slice_index (memory_after (known desc.old).fenced.seen (zeros stm.now.config.words)) a }
+{
+    for a in 0..stm.config.words {
+        words[a] = direct_read(desc, stm, a);
+    }
+}
+
+impl Member {
+    /// Takes all words out of the transactions for good, where no other caller is in the way and no range is out, and
+    /// hands them out: they are the memory after all that was committed. No attempt reads or writes a word from then on.
+    pub fn end(&mut self, words: &mut [u64]) -> Result<Result<(), Refusal>, Misuse>
+        ensures tells { Tells (ending (length words.old) self.old) (HasEnded self.old self.new words.old words.new) self.old self.new result }
+        ensures misuse { IfErr result (λ _. words.new ≡ words.old) }
+    {
+        self.may_end(words.len())?;
+        let count = self.stm.config.words;
+        match take_out(&mut self.desc, &self.stm, 0, count) {
+            Ok(()) => {
+                copy_out(&mut self.desc, &self.stm, words);
+                Ok(Ok(()))
+            }
+            Err(refusal) => {
+                self.refusal = Some(refusal);
+                Ok(Err(refusal))
+            }
+        }
+    }
+
+    /// Whether it may take all words, and there is room for them.
+    fn may_end(&self, room: usize) -> Result<(), Misuse>
+        ensures ok { OnOk result (IsIdle (known_to self.now)) }
+        ensures takes { OnOk result ((config_of self.now).fence ≡ true) }
+        ensures none { OnOk result (self.now.range ≡ None) }
+        ensures some { OnOk result (1 ≤ (config_of self.now).words) }
+        ensures room { OnOk result ((config_of self.now).words ≤ room) }
+        ensures fits { OnOk result (ending room self.now ≡ None) }
+        ensures wrong { IfErr result (λ e. ending room self.now ≡ Some e) }
+    {
+        self.may_take(0, self.stm.config.words)?;
+        if self.stm.config.words > room {
+            return Err(Misuse::Room);
+        }
+        Ok(())
+    }
+}

@@ -1,0 +1,16 @@
+//! A caller with its memory, for users whose own code isn't proved. No call of it has a precondition: each looks where
+//! the caller stands, and answers a `Misuse` where the call doesn't fit. Then nothing has changed.
+#![tactic(auto)]
+
+pub mod access;
+pub mod asking;
+pub mod calls;
+pub mod closing;
+pub mod marks;
+pub mod member;
+pub mod misuse;
+pub mod opening;
+pub mod ranges;
+pub mod refusal;
+pub mod stand;
+pub mod standing;

@@ -1,0 +1,36 @@
+//! A caller with its memory.
+ghost use Rattle.std.specs.Arc.{arc_value};
+ghost use Rattle.stm_rule.specs.Callers.{IsOf};
+ghost use Rattle.stm_tx.specs.Descs.{known};
+ghost use Rattle.tx_checked.specs.Stands.{StandsAs, HasRange};
+
+use crate::refusal::Refusal;
+use crate::stand::Stand;
+use std::alloc::Global;
+use std::sync::Arc;
+use stm_model::rule::AnyMem;
+use stm_rule::desc::Desc;
+use stm_rule::stm::Stm;
+
+/// Words that a caller has out of the transactions.
+#[derive(Clone, Copy, Drop, Debug, PartialEq, Eq)]
+pub struct Range {
+    pub from: usize,
+    pub count: usize,
+    /// Whether it wrote there.
+    pub changed: bool,
+}
+
+/// A caller with its share of the memory, which is freed with the last of them.
+#[derive(Drop)]
+pub struct Member {
+    pub stm: Arc<Stm<AnyMem>, Global>,
+    pub desc: Desc<AnyMem>,
+    pub stand: Stand,
+    pub range: Option<Range>,
+    /// What came in the way last.
+    pub refusal: Option<Refusal>,
+    pub ghost own: { IsOf desc (arc_value stm) },
+    pub ghost stands: { StandsAs stand (known desc) },
+    pub ghost ranged: { HasRange range (arc_value stm).config.words (known desc).fenced },
+}

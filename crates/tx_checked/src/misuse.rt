@@ -1,0 +1,30 @@
+//! What a call was refused for that its user did wrong.
+
+/// Why a call was not made. Nothing has changed.
+#[derive(Clone, Copy, Drop, Debug, PartialEq, Eq)]
+pub enum Misuse {
+    /// It asks for an attempt, and none is open.
+    NoAttempt,
+    /// It asks for a caller outside attempts, and one is open.
+    InAttempt,
+    /// The attempt is in the middle of its commit: it can only be committed or cancelled.
+    Committing,
+    /// The address is not below the number of words, or the range is empty or reaches beyond them.
+    Address,
+    /// The word is out of the transactions: it was so as the attempt began.
+    Fenced,
+    /// The caller has a range out of the transactions already.
+    HoldsRange,
+    /// The memory takes no ranges out of the transactions.
+    NoRanges,
+    /// The word is in no range that the caller has out of the transactions.
+    NoRange,
+    /// The attempt's algorithm takes no marks.
+    NoMarks,
+    /// No such mark stands.
+    Depth,
+    /// The length of a log is out of its range.
+    Logs,
+    /// There is no room for all words.
+    Room,
+}

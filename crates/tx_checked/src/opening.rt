@@ -1,0 +1,94 @@
+//! The opening of a memory with its callers.
+ghost use Rattle.std.specs.Prelude.{◌≡◌, ◌<◌, All, IsTrue, None, length, IfOk, IfErr, OnOk};
+ghost use Rattle.std.specs.Arc.{arc_value};
+ghost use Rattle.stm_rule.specs.Callers.{AllOpened};
+ghost use Rattle.stm_rule.specs.Refusals.{first_fault};
+ghost use Rattle.tx_atomic.specs.Callers.{IsReady};
+ghost use Rattle.tx_checked.specs.Ready.{AreFresh, AreNew, IsUnused, IsOpenError, descs_in};
+
+use crate::member::Member;
+use crate::stand::Stand;
+use std::alloc::Global;
+use std::sync::Arc;
+use stm_model::alg::Alg;
+use stm_model::config::Config;
+use stm_model::memory::Memory;
+use stm_model::rule::AnyMem;
+use stm_rule::desc::Desc;
+use stm_rule::refusal::NewError;
+use stm_rule::stm::Stm;
+use thiserror::Error;
+use tx_atomic::switching::try_switch;
+
+/// Why a memory was not opened.
+#[derive(Clone, Copy, Debug, Drop, PartialEq, Eq, Error)]
+pub enum OpenError {
+    #[error("a number is out of its range, or memory was refused")]
+    Refused(NewError),
+    #[error("memory was refused")]
+    Memory,
+    #[error("the algorithm could not be installed")]
+    Busy,
+}
+
+/// Opens a memory of zeros, under the algorithm, and answers its callers, in order.
+///
+/// # Errors
+/// Those of `Stm::new`. `Busy` where the algorithm could not be installed.
+pub fn open(alloc: Global, config: Config, alg: Alg) -> Result<Vec<Member>, OpenError>
+    ensures count { IfOk result (λ members. length members.items ≡ config.callers) }
+    ensures new { IfOk result (λ members. AreNew config alg members.items) }
+    ensures in_range { OnOk result (first_fault config ≡ None) }
+    ensures refused { IfErr result (IsOpenError config) }
+{
+    let (stm, mut descs) = match Stm::new(alloc, config, AnyMem) {
+        Ok(opened) => opened,
+        Err(error) => return Err(OpenError::Refused(error)),
+    };
+    if descs.len() == 0 || !install_first(&stm, &mut descs, alg) {
+        return Err(OpenError::Busy);
+    }
+    let Ok(stm) = Arc::new(alloc, stm) else {
+        return Err(OpenError::Memory);
+    };
+    match enlist(alloc, &stm, descs) {
+        Ok(members) => Ok(members),
+        Err(Memory) => Err(OpenError::Memory),
+    }
+}
+
+/// Has the first of the callers install an algorithm.
+fn install_first(stm: &Stm<AnyMem>, descs: &mut Vec<Desc<AnyMem>>, alg: Alg) -> bool
+    requires opened { AllOpened stm.now 0 descs.old.items }
+    requires some { 0 < length descs.old.items }
+    ensures fresh { IsTrue result → AreFresh stm.now alg descs.new.items }
+    ensures count { length descs.new.items ≡ length descs.old.items }
+{
+    try_switch(&mut descs[0], stm, alg)
+}
+
+/// A member for each descriptor, in their order.
+fn enlist(
+    alloc: Global,
+    stm: &Arc<Stm<AnyMem>, Global>,
+    descs: Vec<Desc<AnyMem>>,
+) -> Result<Vec<Member>, Memory>
+    requires ready { All (IsReady (arc_value stm.now)) descs.items }
+    ensures descs { IfOk result (λ members. descs_in members.items ≡ descs.items) }
+    ensures unused { IfOk result (λ members. All (IsUnused (arc_value stm.now).config) members.items) }
+{
+    let mut members = Vec::with_capacity(alloc, descs.len())?;
+    for desc in descs {
+        let Ok(shared) = Arc::try_clone(stm) else {
+            return Err(Memory);
+        };
+        members.push_reserved(Member {
+            stm: shared,
+            desc,
+            stand: Stand::Idle,
+            range: None,
+            refusal: None,
+        });
+    }
+    Ok(members)
+}
