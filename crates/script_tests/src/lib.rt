@@ -1,5 +1,4 @@
-//! Tests of what stands apart from the shared memory: stm_script, stm_text, stm_gen, stm_trace,
-//! stm_profile, stm_words, stm_io.
+//! Tests of what stands apart from the shared memory: stm_script, stm_gen, stm_trace, stm_profile, stm_words, stm_io.
 #![tactic(auto)]
 
 #[cfg(test)]
@@ -10,10 +9,6 @@ mod stm_io_tests;
 mod stm_profile_tests;
 #[cfg(test)]
 mod stm_script_tests;
-#[cfg(test)]
-mod stm_text_tests;
-#[cfg(test)]
-mod stm_text_version_two_tests;
 #[cfg(test)]
 mod stm_trace_tests;
 #[cfg(test)]
