@@ -50,29 +50,32 @@ fn a_sum_past_the_log_is_promoted(rt: HostRuntime) -> Result<(), Fail> {
     Ok(())
 }
 
+const PLAN: Plan = Plan {
+    workload: Workload::Bank,
+    alg: Alg::Tml,
+    threads: 4,
+    count: 1_000,
+    seed: 7,
+    reads: 2_048,
+};
+
+/// The words of a command line, and the plan that they say.
+const LINES: &[(&[&str], Option<Plan>)] = &[
+    (&["stm_perf", "bank", "TML", "4", "1000", "7"], Some(PLAN)),
+    (
+        &["stm_perf", "bank", "TML", "4", "1000", "7", "256"],
+        Some(Plan { reads: 256, ..PLAN }),
+    ),
+    (&["stm_perf", "bank", "TML", "33", "1000", "7"], None),
+    (&["stm_perf", "bank", "TML", "4", "0", "7"], None),
+    (&["stm_perf", "skew", "TML", "4", "1000", "7"], None),
+    (&["stm_perf", "bank", "TML", "4", "1000"], None),
+];
+
 #[test]
 fn words_are_read(rt: HostRuntime) -> Result<(), Fail> {
-    let plan = Plan {
-        workload: Workload::Bank,
-        alg: Alg::Tml,
-        threads: 4,
-        count: 1_000,
-        seed: 7,
-        reads: 2_048,
-    };
-    let words = ["stm_perf", "bank", "TML", "4", "1000", "7"];
-    assert_eq!(rt; plan_of(&words), Some(plan));
-    let shorter = ["stm_perf", "bank", "TML", "4", "1000", "7", "256"];
-    assert_eq!(rt; plan_of(&shorter), Some(Plan { reads: 256, ..plan }));
-    assert_eq!(rt;
-        plan_of(&["stm_perf", "bank", "TML", "33", "1000", "7"]),
-        None
-    );
-    assert_eq!(rt; plan_of(&["stm_perf", "bank", "TML", "4", "0", "7"]), None);
-    assert_eq!(rt;
-        plan_of(&["stm_perf", "skew", "TML", "4", "1000", "7"]),
-        None
-    );
-    assert_eq!(rt; plan_of(&["stm_perf", "bank", "TML", "4", "1000"]), None);
+    for &(words, plan) in LINES {
+        assert_eq!(rt; plan_of(words), plan, "{words:?}");
+    }
     Ok(())
 }

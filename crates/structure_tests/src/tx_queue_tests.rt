@@ -11,6 +11,31 @@ use stm_model::stop::Stop;
 use tx_queue::laws::queues_are_apart;
 use tx_queue::queue::{Put, Queue};
 
+/// Puts the value in, and answers whether it was added exactly where there was room.
+fn put_agrees<A: Access>(acc: &mut A, queue: &Queue, value: u32, room: bool) -> Result<bool, Stop>
+    requires going { A.stopped acc.old ≡ None }
+    requires within { QueueFits queue.now (A.words acc.old) }
+    requires well { Under (A.good acc.old) (A.words acc.old) (A.log acc.old) (IsQueue queue.now) }
+    ensures going { OnOk result (A.stopped acc.new ≡ None) }
+    ensures words { OnOk result (A.words acc.new ≡ A.words acc.old) }
+    ensures well { OnOk result (Under (A.good acc.new) (A.words acc.new) (A.log acc.new) (IsQueue queue.now)) }
+{
+    let reply = queue.put(acc, value)?;
+    Ok((reply == Put::Added) == room)
+}
+
+/// Takes the first value out, and answers whether it is this.
+fn get_agrees<A: Access>(acc: &mut A, queue: &Queue, first: Option<u32>) -> Result<bool, Stop>
+    requires going { A.stopped acc.old ≡ None }
+    requires within { QueueFits queue.now (A.words acc.old) }
+    requires well { Under (A.good acc.old) (A.words acc.old) (A.log acc.old) (IsQueue queue.now) }
+    ensures going { OnOk result (A.stopped acc.new ≡ None) }
+    ensures words { OnOk result (A.words acc.new ≡ A.words acc.old) }
+    ensures well { OnOk result (Under (A.good acc.new) (A.words acc.new) (A.log acc.new) (IsQueue queue.now)) }
+{
+    Ok(queue.get(acc)? == first)
+}
+
 /// Random puts and gets, as many as `values` has room for. Whether each reply is that of a plain list: the values
 /// from the index `taken` to the index `added`.
 fn replies_agree<A: Access>(
@@ -30,24 +55,19 @@ fn replies_agree<A: Access>(
         draw = next(draw);
         let value = (draw >> 32) as u32;
         let room = added - taken < queue.cells;
-        if value % 8 < 5 {
-            let reply = queue.put(acc, value)?;
-            if (reply == Put::Added) != room {
-                return Ok(false);
-            }
+        let agrees = if value % 8 < 5 {
             if room {
                 values[added] = value;
                 added += 1;
             }
+            put_agrees(acc, queue, value, room)?
         } else if taken < added {
-            if queue.get(acc)? != Some(values[taken]) {
-                return Ok(false);
-            }
             taken += 1;
-        } else if queue.get(acc)?.is_some() {
-            return Ok(false);
-        }
-        if queue.len(acc)? != (added - taken) as u64 {
+            get_agrees(acc, queue, Some(values[taken - 1]))?
+        } else {
+            get_agrees(acc, queue, None)?
+        };
+        if !agrees || queue.len(acc)? != (added - taken) as u64 {
             return Ok(false);
         }
     }
@@ -80,37 +100,36 @@ fn random_calls_reply_as_on_a_list(rt: HostRuntime) -> Result<(), Fail> {
     Ok(())
 }
 
-/// Puts three values in, takes two out, and puts two more in.
-fn goes_round<A: Access>(
-    acc: &mut A,
-    queue: &Queue,
-    values: [u32; 5],
-) -> Result<(Put, Option<u32>, Option<u32>, Put), Stop>
+/// Puts three values in, takes two out, and puts two more in. Answers which calls reply as on a list.
+fn goes_round<A: Access>(acc: &mut A, queue: &Queue) -> Result<[bool; 7], Stop>
     requires going { A.stopped acc.old ≡ None }
     requires within { QueueFits queue.now (A.words acc.old) }
     requires well { Under (A.good acc.old) (A.words acc.old) (A.log acc.old) (IsQueue queue.now) }
 {
-    queue.put(acc, values[0])?;
-    queue.put(acc, values[1])?;
-    queue.put(acc, values[2])?;
-    let first = queue.get(acc)?;
-    let second = queue.get(acc)?;
-    let fourth = queue.put(acc, values[3])?;
-    let fifth = queue.put(acc, values[4])?;
-    Ok((fourth, first, second, fifth))
+    Ok([
+        put_agrees(acc, queue, 10, true)?,
+        put_agrees(acc, queue, 11, true)?,
+        put_agrees(acc, queue, 12, true)?,
+        get_agrees(acc, queue, Some(10))?,
+        get_agrees(acc, queue, Some(11))?,
+        put_agrees(acc, queue, 13, true)?,
+        put_agrees(acc, queue, 14, true)?,
+    ])
 }
+
+/// The words of a queue at 1 that went round: its front is cell 2, and the cells behind it are 0 and 1.
+const ROUND: &[u64] = &[0, 2, 3, 13, 14, 12, 0];
 
 #[test]
 fn the_ring_wraps(rt: HostRuntime) -> Result<(), Fail> {
     queues_are_apart();
     let mut memory = zeros(rt.alloc(), 7)?;
-    let replies = goes_round(&mut memory, &Queue::new(1, 3), [10, 11, 12, 13, 14]);
-    assert_eq!(rt; replies, Ok((Put::Added, Some(10), Some(11), Put::Added)));
+    let replies = goes_round(&mut memory, &Queue::new(1, 3));
+    assert_eq!(rt; replies, Ok([true; 7]));
     let mut words = Vec::new(rt.alloc());
     for word in memory.words() {
         words.push(word.value())?;
     }
-    // the front is cell 2, and the cells behind it are 0 and 1
-    assert_eq!(rt; words, vec![in rt.alloc(); 0, 2, 3, 13, 14, 12, 0]?);
+    assert_eq!(rt; words.as_slice(), ROUND);
     Ok(())
 }

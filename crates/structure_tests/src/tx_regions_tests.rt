@@ -10,10 +10,11 @@ ghost use Rattle.tx_tree.specs.Trees.{TreeFits, IsTree};
 ghost use Rattle.tx_regions.specs.declared.region.Region.{Region};
 ghost use Rattle.tx_regions.specs.Regions.{AllWellFormed};
 
+use crate::shared;
 use std::alloc::{AllocError, Global};
 use std::test::Fail;
 use stm_model::access::Access;
-use stm_model::plain::{Plain, PlainWord};
+use stm_model::plain::Plain;
 use stm_model::stop::Stop;
 use tx_cells::counter::Counter;
 use tx_cells::hash::Hash;
@@ -23,17 +24,14 @@ use tx_regions::laws::memories_stay_good;
 use tx_regions::region::{Region, Regions, Structure};
 use tx_tree::tree::Tree;
 
-/// A plain memory of zeros.
+/// A plain memory of zeros, in which each region is well-formed.
 fn zeros(alloc: Global, words: usize) -> Result<Plain, AllocError>
     ensures words { IfOk result (λ p. length p ≡ words) }
     ensures good { IfOk result (λ p. (regions : List Region) → AllWellFormed regions (overlay (openings p) (own_writes p))) }
 {
+    let memory = shared::zeros(alloc, words)?;
     memories_stay_good();
-    let word = PlainWord {
-        opening: 0,
-        own: None,
-    };
-    Ok(Plain::new(vec![in alloc; word; words]?))
+    Ok(memory)
 }
 
 /// The words other than 0, as address and value.
@@ -135,27 +133,38 @@ fn takes_out<A: Access>(
     Ok((last, was_there, has, least))
 }
 
+/// The words other than 0 of a memory, as address and value.
+type Words = &'static [(usize, u64)];
+
+/// A list at 128 with one key.
+const LISTED: Words = &[(128, 1), (129, 6)];
+
+/// A full list at 1, whose third key found no cell, once its first key was taken out.
+const REFILLED: Words = &[(1, 2), (4, 5)];
+
 #[test]
 fn lists(rt: HostRuntime) -> Result<(), Fail> {
     let alloc = rt.alloc();
     let mut memory = zeros(alloc, 1024)?;
     let replies = adds_twice(&mut memory, &list::List::new(128, 32), 5);
     assert_eq!(rt; replies, Ok((Insert::Added, Insert::Present, true, 1)));
-    assert_eq!(rt;
-        filled(alloc, &memory)?,
-        vec![in alloc; (128, 1), (129, 6)]?
-    );
+    assert_eq!(rt; filled(alloc, &memory)?.as_slice(), LISTED);
 
-    // full: the third key has no cell; the first one's words become 0
     let mut small = zeros(alloc, 6)?;
     let replies = adds_three(&mut small, &list::List::new(1, 2), [9, 4, 6]);
     assert_eq!(rt;
         replies,
         Ok((Insert::Added, Insert::Added, Insert::NoRoom, true))
     );
-    assert_eq!(rt; filled(alloc, &small)?, vec![in alloc; (1, 2), (4, 5)]?);
+    assert_eq!(rt; filled(alloc, &small)?.as_slice(), REFILLED);
     Ok(())
 }
+
+/// A hash set at 256 with the keys 17 and 1.
+const HASHED: Words = &[(257, 2), (272, 18), (274, 2), (275, 1)];
+
+/// A counter at 64 whose stripe 1 has 5.
+const COUNTED: Words = &[(65, 5)];
 
 #[test]
 fn hashes_and_counts(rt: HostRuntime) -> Result<(), Fail> {
@@ -163,15 +172,14 @@ fn hashes_and_counts(rt: HostRuntime) -> Result<(), Fail> {
     let mut memory = zeros(alloc, 1024)?;
     let replies = hashes(&mut memory, &Hash::new(256, 64), [17, 1, 2]);
     assert_eq!(rt; replies, Ok((Insert::Added, Insert::Added, true, false)));
-    let hashed = vec![in alloc; (257, 2), (272, 18), (274, 2), (275, 1)]?;
-    assert_eq!(rt; filled(alloc, &memory)?, hashed);
+    assert_eq!(rt; filled(alloc, &memory)?.as_slice(), HASHED);
 
     let mut counted = zeros(alloc, 1024)?;
     assert_eq!(rt;
         counts(&mut counted, &Counter::new(64, 4), 1, 5),
         Ok((5, 5))
     );
-    assert_eq!(rt; filled(alloc, &counted)?, vec![in alloc; (65, 5)]?);
+    assert_eq!(rt; filled(alloc, &counted)?.as_slice(), COUNTED);
     Ok(())
 }
 
@@ -185,15 +193,23 @@ fn tree_words(alloc: Global, keys: [u32; 4]) -> Result<Vec<(usize, u64)>, Fail> 
     Ok(filled(alloc, &memory)?)
 }
 
+/// Four keys, and the tree: the least on the root's right is the root's child, or below that.
+const TREES: &[([u32; 4], Words)] = &[
+    (
+        [4, 2, 6, 7],
+        &[(512, 1), (513, 7), (514, 2), (515, 4), (516, 3), (522, 8)],
+    ),
+    (
+        [4, 2, 7, 6],
+        &[(512, 1), (513, 7), (514, 2), (515, 3), (516, 3), (519, 8)],
+    ),
+];
+
 #[test]
 fn trees(rt: HostRuntime) -> Result<(), Fail> {
-    let alloc = rt.alloc();
-    // the least on the root's right is the root's child
-    let child = vec![in alloc; (512, 1), (513, 7), (514, 2), (515, 4), (516, 3), (522, 8)]?;
-    assert_eq!(rt; tree_words(alloc, [4, 2, 6, 7])?, child);
-    // it is below that
-    let below = vec![in alloc; (512, 1), (513, 7), (514, 2), (515, 3), (516, 3), (519, 8)]?;
-    assert_eq!(rt; tree_words(alloc, [4, 2, 7, 6])?, below);
+    for &(keys, words) in TREES {
+        assert_eq!(rt; tree_words(rt.alloc(), keys)?.as_slice(), words);
+    }
     Ok(())
 }
 
@@ -209,20 +225,21 @@ fn regions(rt: HostRuntime) -> Result<(), Fail> {
     Ok(())
 }
 
+/// How many words four stripes or cells take.
+const SIZES: &[(Structure, usize)] = &[
+    (Structure::Counter, 4),
+    (Structure::List, 9),
+    (Structure::Hash, 24),
+    (Structure::Tree, 13),
+    (Structure::Queue, 6),
+    (Structure::SumMap, 21),
+];
+
 /// A structure's region has its words and no other, and ends where they do.
 #[test]
 fn words_of_regions(rt: HostRuntime) -> Result<(), Fail> {
-    // how many words four stripes or cells take
-    let table = [
-        (Structure::Counter, 4),
-        (Structure::List, 9),
-        (Structure::Hash, 24),
-        (Structure::Tree, 13),
-        (Structure::Queue, 6),
-        (Structure::SumMap, 21),
-    ];
     let mut regions = Regions::none(rt.alloc());
-    for (structure, words) in table {
+    for &(structure, words) in SIZES {
         let region = Region::new(structure, 10, 4);
         assert!(rt; region.structure().is(structure));
         assert_eq!(rt; region.start(), 10);

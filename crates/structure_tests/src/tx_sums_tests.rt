@@ -176,17 +176,33 @@ fn is_a_map(
     Ok(replies == Ok(true))
 }
 
+/// Where a map stands, its cells, in which order keys are put, how many calls, and whether some of them remove.
+type Case = (u32, u32, Order, usize, bool);
+
+const CASES: &[Case] = &[
+    (0, 0, Order::Random, 3, true),
+    (3, 1, Order::Ascending, 20, false),
+    (1, 9, Order::Ascending, 30, false),
+    (1, 20, Order::Descending, 30, false),
+    (2, 13, Order::Random, 60, true),
+    (0, 20, Order::Random, 90, false),
+    (0, 20, Order::Random, 400, true),
+    (5, 20, Order::Ascending, 200, true),
+];
+
 #[test]
 fn calls_reply_as_on_a_plain_map(rt: HostRuntime) -> Result<(), Fail> {
-    let alloc = rt.alloc();
-    assert_eq!(rt; is_a_map(alloc, 0, 0, Order::Random, 3, true)?, true);
-    assert_eq!(rt; is_a_map(alloc, 3, 1, Order::Ascending, 20, false)?, true);
-    assert_eq!(rt; is_a_map(alloc, 1, 9, Order::Ascending, 30, false)?, true);
-    assert_eq!(rt; is_a_map(alloc, 1, 20, Order::Descending, 30, false)?, true);
-    assert_eq!(rt; is_a_map(alloc, 2, 13, Order::Random, 60, true)?, true);
-    assert_eq!(rt; is_a_map(alloc, 0, 20, Order::Random, 90, false)?, true);
-    assert_eq!(rt; is_a_map(alloc, 0, 20, Order::Random, 400, true)?, true);
-    assert_eq!(rt; is_a_map(alloc, 5, 20, Order::Ascending, 200, true)?, true);
+    for &(at, cells, order, calls, removes) in CASES {
+        let agrees = is_a_map(
+            rt.alloc(),
+            at as usize,
+            cells as usize,
+            order,
+            calls,
+            removes,
+        )?;
+        assert_eq!(rt; agrees, true, "{at} {cells} {order:?}");
+    }
     Ok(())
 }
 
@@ -208,6 +224,27 @@ fn puts_four<A: Access>(
     Ok((third, fourth, sum))
 }
 
+/// The words of a map at 1: its root, and the cells of the keys 5, 3 and 9, each with its value and the sum below it.
+const SUMMED: &[u64] = &[
+    0,
+    1,
+    6,
+    2,
+    3,
+    11,
+    30,
+    4,
+    0,
+    0,
+    20,
+    20,
+    10,
+    0,
+    0,
+    u64::MAX,
+    u64::MAX,
+];
+
 #[test]
 fn sums_stand_in_the_cells(rt: HostRuntime) -> Result<(), Fail> {
     maps_are_apart();
@@ -219,13 +256,6 @@ fn sums_stand_in_the_cells(rt: HostRuntime) -> Result<(), Fail> {
     for word in memory.words() {
         words.push(word.value())?;
     }
-    let root = vec![in rt.alloc(); 0, 1]?;
-    assert_eq!(rt; words.as_slice().get(0..2), Some(root.as_slice()));
-    let five = vec![in rt.alloc(); 6, 2, 3, 11, 30]?;
-    assert_eq!(rt; words.as_slice().get(2..7), Some(five.as_slice()));
-    let three = vec![in rt.alloc(); 4, 0, 0, 20, 20]?;
-    assert_eq!(rt; words.as_slice().get(7..12), Some(three.as_slice()));
-    let nine = vec![in rt.alloc(); 10, 0, 0, u64::MAX, u64::MAX]?;
-    assert_eq!(rt; words.as_slice().get(12..17), Some(nine.as_slice()));
+    assert_eq!(rt; words.as_slice(), SUMMED);
     Ok(())
 }
