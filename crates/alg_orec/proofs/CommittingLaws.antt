@@ -3,7 +3,7 @@ use Rattle.std.proofs.Common.{ℕ, ◌≡◌, ◌<◌, ◌≤◌, ◌+◌, List,
 use Rattle.std.specs.Prelude.{Some, None, ◌||◌, ◌⊎◌, not, Result, Ok, Err}
 use Rattle.std.proofs.lemmas.Bool.Decides.{nat_tests}
 use Rattle.std.proofs.lemmas.List.Elements.{Contains-append_left, Contains-append_right}
-use Rattle.stm_model.specs.Algorithms.{has_records, asks_at_commit, is_sure}
+use Rattle.stm_model.specs.Algorithms.{has_records, asks_at_commit, irrevocable_under}
 use Rattle.stm_model.specs.declared.alg.Alg.{Alg}
 use Rattle.stm_model.specs.declared.alg.Alg.TheVariants.{OrecLazy}
 use Rattle.stm_model.specs.declared.config.Config.{Config}
@@ -74,7 +74,7 @@ module _ (good : List ℕ → Type 0) (c : Config) (n : ℕ) (low : n < c.caller
   wrote_is o e = ap (λ (ws : List (ℕ × ℕ)). not (is_empty ws)) (written o e) ∙ (sym k.buffers.wrote ∙ can.wrote)
 
   pub revocable : (o : Own) → is_irrevocable (known_of v o) ≡ false
-  revocable o = (λ j. is_sure (lazy j) (granted_under (lazy j) v.gate v.lock) (wrote (known_of v o))) ∙ k.optimistic.ungranted
+  revocable o = (λ j. irrevocable_under (lazy j) (granted_under (lazy j) v.gate v.lock) (wrote (known_of v o))) ∙ k.optimistic.ungranted
 
   -- an address that was written, or read, as an item of the log
   has_written : (o : Own) (a : ℕ) → o.buffered ≡ cells_of l.writes.items → touches (cells_of l.writes.items) a ≡ true → has_item a (known_of v o).log.writes ≡ true

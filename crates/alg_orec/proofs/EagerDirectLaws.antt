@@ -1,7 +1,7 @@
 -- What the commit of a promoted attempt of OrecEager comes to, which gives its records back.
 use Rattle.std.proofs.Common.{ℕ, ◌≡◌, ◌+◌, List, [], ◌∷◌, ◌++◌, Bool, true, false, refl, sym, ap, ◌∙◌, arith, subst, append_assoc}
 use Rattle.std.specs.Prelude.{None}
-use Rattle.stm_model.specs.Algorithms.{closes_gate, entry_rise}
+use Rattle.stm_model.specs.Algorithms.{closes_gate, entry_rise, has_records}
 use Rattle.stm_model.specs.AlgorithmLaws.{entry-some}
 use Rattle.stm_model.specs.declared.alg.Alg.{Alg}
 use Rattle.stm_model.specs.declared.alg.Alg.TheVariants.{OrecEager}
@@ -57,7 +57,7 @@ module _ (good : List ℕ → Type 0) (c : Config) (n : ℕ) (l : Local) (v : Vi
 
   module _ (t : ℕ) (dirty : l.wrote ≡ true) (time : t ≡ l.start + entry_rise l.algorithm) (s : View) (a : Tells (direct_commit n l.algorithm t) (Commits rule c n t) v t s) where
     pub may-give : CanGiveDirect c t l s
-    may-give = subst (CanGiveDirect c t l) (sym a.2) (record { granted = k.granted; entered = refl; time = refl; locks = k.locks; places = k.places })
+    may-give = subst (CanGiveDirect c t l) (sym a.2) (record { granted = k.granted; algorithm = ap has_records eager; entered = refl; time = refl; locks = k.locks; places = k.places })
 
     module _ (y : View) (q : ReleasesAll s y) where
       abbrev given : View

@@ -1,7 +1,7 @@
 -- What stands of an attempt of OrecEager, and what its end comes to as seen from before.
 use Rattle.std.proofs.Common.{ℕ, ◌≡◌, ◌≤◌, ◌+◌, List, [], ◌∷◌, ◌++◌, length, Bool, true, false, refl, sym, ap, ◌∙◌, arith, subst}
 use Rattle.std.specs.Prelude.{Option, not, ◌&&◌}
-use Rattle.stm_model.specs.Algorithms.{has_records, closes_gate, is_sure, quit_rise}
+use Rattle.stm_model.specs.Algorithms.{has_records, closes_gate, irrevocable_under, quit_rise}
 use Rattle.stm_model.specs.declared.alg.Alg.{Alg}
 use Rattle.stm_model.specs.declared.alg.Alg.TheVariants.{OrecEager}
 use Rattle.stm_model.specs.declared.config.Config.{Config}
@@ -55,8 +55,8 @@ module _ (c : Config) (l : Local) (v : View) (k : IsEager c l v) where
     wrote-known w p gate same = ap (λ (ws : List (ℕ × ℕ)). not (is_empty ws)) (written w p gate same) ∙ sym k.wrote
 
     pub revocable : (w : View) (p : Own) → w.gate ≡ v.gate → is_irrevocable (known_of w p) ≡ false
-    revocable w p gate = (λ j. is_sure (gate j).algorithm (granted_under (gate j).algorithm (gate j) w.lock) (wrote (known_of w p)))
-        ∙ ((λ j. is_sure (eager j) (granted_under (eager j) v.gate w.lock) (wrote (known_of w p))) ∙ k.optimistic.ungranted)
+    revocable w p gate = (λ j. irrevocable_under (gate j).algorithm (granted_under (gate j).algorithm (gate j) w.lock) (wrote (known_of w p)))
+        ∙ ((λ j. irrevocable_under (eager j) (granted_under (eager j) v.gate w.lock) (wrote (known_of w p))) ∙ k.optimistic.ungranted)
 
 -- by what contracts see of it, an attempt was promoted or not
 module _ (good : List ℕ → Type 0) (c : Config) (n : ℕ) (l : Local) (v : View) (i : IsInside good c n l v) (eager : v.gate.algorithm ≡ OrecEager) (o : Own) where
@@ -77,16 +77,16 @@ module _ (good : List ℕ → Type 0) (c : Config) (n : ℕ) (l : Local) (v : Vi
       by true q = refl
       by false q = absurd (let f : false ≡ true = sym (granted-of false q) ∙ e in cc)
 
-  pub sure-granted : l.granted ≡ true → is_irrevocable (known_of v o) ≡ true
-  sure-granted granted = let here : v.gate.granted ≡ true = i.granted ∙ (λ j. closes_gate ((sym i.named ∙ eager) j) && granted j) in
-      (λ j. is_sure (eager j) (granted_under (eager j) v.gate v.lock) (wrote (known_of v o))) ∙ here
+  pub irrevocable-granted : l.granted ≡ true → is_irrevocable (known_of v o) ≡ true
+  irrevocable-granted granted = let here : v.gate.granted ≡ true = i.granted ∙ (λ j. closes_gate ((sym i.named ∙ eager) j) && granted j) in
+      (λ j. irrevocable_under (eager j) (granted_under (eager j) v.gate v.lock) (wrote (known_of v o))) ∙ here
 
   -- one that can be cancelled wasn't promoted
   pub ungranted : is_irrevocable (known_of v o) ≡ false → l.granted ≡ false
   ungranted free = by l.granted refl
     where
       by : (b : Bool) → l.granted ≡ b → b ≡ false
-      by true e = absurd (let f : true ≡ false = sym (sure-granted e) ∙ free in cc)
+      by true e = absurd (let f : true ≡ false = sym (irrevocable-granted e) ∙ free in cc)
       by false e = refl
 
 -- more steps were taken
@@ -114,4 +114,4 @@ module _ (n : ℕ) (v u z : View) (o : Own) (eager : v.gate.algorithm ≡ OrecEa
 
   pub quits-back : IsUnmade v u → Quits (known_of v o) (known_of z (with_commit false o))
   quits-back m = quits-own v z o (with_commit false o) refl refl (subst (λ (y : View). Quits (known_of v o) (known_of y o)) (sym g.is)
-      (quits-left n v g.before o (unmade-trans v u g.before m g.unmade) rose ((λ j. is_sure (eager j) (granted_under (eager j) v.gate v.lock) (wrote (known_of v o))) ∙ plain)))
+      (quits-left n v g.before o (unmade-trans v u g.before m g.unmade) rose ((λ j. irrevocable_under (eager j) (granted_under (eager j) v.gate v.lock) (wrote (known_of v o))) ∙ plain)))

@@ -3,7 +3,7 @@ use Rattle.std.proofs.Common.{ℕ, ◌≡◌, ◌≢◌, ◌<◌, List, [], ◌�
 use Rattle.std.specs.Prelude.{◌%◌, ◌⊎◌, ◌==◌, ◌&&◌, not, if◌then◌else◌, Some, None, Err}
 use Rattle.std.proofs.lemmas.Bool.Decides.{nat_tests}
 use Rattle.std.proofs.lemmas.List.Elements.{Contains-append_left}
-use Rattle.stm_model.specs.Algorithms.{has_records, has_read_log, is_sure, quit_rise}
+use Rattle.stm_model.specs.Algorithms.{has_records, has_read_log, irrevocable_under, quit_rise}
 use Rattle.stm_model.specs.declared.alg.Alg.{Alg}
 use Rattle.stm_model.specs.declared.alg.Alg.TheVariants.{OrecEager}
 use Rattle.stm_model.specs.declared.config.Config.{Config}
@@ -64,11 +64,11 @@ moves-on u v w more t late s (inr e) (inl f) = inr (subst (λ (x : ℕ). Found C
 
 -- an attempt of OrecEager that went on, with its log as it was
 module _ (v u : Known) (eager : v.alg ≡ OrecEager) (a : GoesOn v u) (log : u.log ≡ v.log) where
-  same-sure : is_irrevocable u ≡ is_irrevocable v
-  same-sure = λ j. is_sure (a.continues.alg j) (a.granted j) (not (is_empty (log j).writes))
+  same-irrevocable : is_irrevocable u ≡ is_irrevocable v
+  same-irrevocable = λ j. irrevocable_under (a.continues.alg j) (a.granted j) (not (is_empty (log j).writes))
 
   pub same-room : (b : ℕ) → reads_full b u ≡ reads_full b v
-  same-room b = λ j. has_read_log (a.continues.alg j) && (not (same-sure j) && (not (has_item b (log j).writes) && (not (has_item b (log j).reads) && (length (log j).reads == a.continues.grows.reads_limit j))))
+  same-room b = λ j. has_read_log (a.continues.alg j) && (not (same-irrevocable j) && (not (has_item b (log j).writes) && (not (has_item b (log j).reads) && (length (log j).reads == a.continues.grows.reads_limit j))))
 
   pub still-new : (b : ℕ) → item_at b v.log.writes ≡ None → item_at b v.log.reads ≡ None → reads_full b v ≡ false → IsNew b u
   still-new b unwritten unread room = record { unwritten = ap (λ (g : Log). item_at b g.writes) log ∙ unwritten; unread = ap (λ (g : Log). item_at b g.reads) log ∙ unread; room = same-room b ∙ room }
@@ -110,7 +110,7 @@ module _ (v u : Known) (eager : v.alg ≡ OrecEager) (a : GoesOn v u) (log : u.l
         let e = k.base in let r = b.rises.0 in omega arith,
         let e = k.base in let r = b.rises.1 in let q : quit_rise u.alg (wrote u) ≡ quit_rise v.alg (wrote v) = (λ j. quit_rise (k.alg j) (not (is_empty (log j).writes))) in omega arith,
       );
-      revocable = sym same-sure ∙ b.revocable;
+      revocable = sym same-irrevocable ∙ b.revocable;
     }
 
 module _ (good : List ℕ → Type 0) (c : Config) (n a word x : ℕ) where

@@ -1,7 +1,7 @@
 -- The ends of an attempt of OrecLazy that makes no entry.
 use Rattle.std.proofs.Common.{ℕ, ◌≡◌, List, Bool, true, false, refl, sym, ap, ◌∙◌, arith, subst}
 use Rattle.std.specs.Prelude.{not, ◌&&◌}
-use Rattle.stm_model.specs.Algorithms.{has_records, closes_gate, is_sure}
+use Rattle.stm_model.specs.Algorithms.{has_records, closes_gate, irrevocable_under}
 use Rattle.stm_model.specs.declared.alg.Alg.TheVariants.{OrecLazy}
 use Rattle.stm_model.specs.declared.config.Config.{Config}
 use Rattle.stm_model.specs.Memories.{item_at, is_empty}
@@ -25,16 +25,16 @@ use Rattle.alg_orec.proofs.Proving.{lazy-of, with_commit, ends-own}
 
 module _ (good : List ℕ → Type 0) (c : Config) (n : ℕ) (l : Local) (v : View) (i : IsInside good c n l v) (lazy : v.gate.algorithm ≡ OrecLazy) where
   -- a promoted attempt is irrevocable
-  pub sure-granted : (o : Own) → l.granted ≡ true → is_irrevocable (known_of v o) ≡ true
-  sure-granted o granted = let here : v.gate.granted ≡ true = i.granted ∙ (λ j. closes_gate ((sym i.named ∙ lazy) j) && granted j) in
-      (λ j. is_sure (lazy j) (granted_under (lazy j) v.gate v.lock) (wrote (known_of v o))) ∙ here
+  pub irrevocable-granted : (o : Own) → l.granted ≡ true → is_irrevocable (known_of v o) ≡ true
+  irrevocable-granted o granted = let here : v.gate.granted ≡ true = i.granted ∙ (λ j. closes_gate ((sym i.named ∙ lazy) j) && granted j) in
+      (λ j. irrevocable_under (lazy j) (granted_under (lazy j) v.gate v.lock) (wrote (known_of v o))) ∙ here
 
   -- one that can be cancelled wasn't promoted
   pub ungranted : (o : Own) → is_irrevocable (known_of v o) ≡ false → l.granted ≡ false
   ungranted o revocable = by l.granted refl
     where
       by : (b : Bool) → l.granted ≡ b → b ≡ false
-      by true e = absurd (let f : true ≡ false = sym (sure-granted o e) ∙ revocable in cc)
+      by true e = absurd (let f : true ≡ false = sym (irrevocable-granted o e) ∙ revocable in cc)
       by false e = refl
 
   module _ (plain : l.granted ≡ false) where
@@ -60,7 +60,7 @@ module _ (good : List ℕ → Type 0) (c : Config) (n : ℕ) (l : Local) (v : Vi
     }
 
     revocable : (o : Own) → is_irrevocable (known_of v o) ≡ false
-    revocable o = (λ j. is_sure (lazy j) (granted_under (lazy j) v.gate v.lock) (wrote (known_of v o))) ∙ k.optimistic.ungranted
+    revocable o = (λ j. irrevocable_under (lazy j) (granted_under (lazy j) v.gate v.lock) (wrote (known_of v o))) ∙ k.optimistic.ungranted
 
     pub tells-cancelled : (z : View) (o : Own) → GivesUp n v z → Cancels good c n (Cancelled l.start) (known_of v o) (known_of z (with_commit false o))
     tells-cancelled z o g = (

@@ -3,7 +3,7 @@ use Rattle.std.proofs.Common.{ℕ, ◌≡◌, ◌<◌, ◌≤◌, ◌+◌, List,
 use Rattle.std.specs.Prelude.{Some, None, ◌%◌, ◌^◌, ◌⊎◌, ◌&&◌, not}
 use Rattle.std.proofs.lemmas.Bool.Decides.{nat_tests}
 use Rattle.std.proofs.lemmas.List.Elements.{Contains-append_right}
-use Rattle.stm_model.specs.Algorithms.{has_records, asks_at_grant, closes_gate, entry_rise, is_sure}
+use Rattle.stm_model.specs.Algorithms.{has_records, asks_at_grant, closes_gate, entry_rise, irrevocable_under}
 use Rattle.stm_model.specs.declared.alg.Alg.{Alg}
 use Rattle.stm_model.specs.declared.alg.Alg.TheVariants.{OrecLazy}
 use Rattle.stm_model.specs.declared.config.Config.{Config}
@@ -36,7 +36,7 @@ use Rattle.stm_rule.specs.Findings.{FindsWithin}
 use Rattle.stm_rule.specs.RecordsKept.{cells_of, IsLazy}
 use Rattle.steps_orec.specs.RecordFindings.{FindsClock, FindsAll, FindsGrant}
 use Rattle.steps_orec.specs.Validating.{to_validate}
-use Rattle.tx_answers.specs.Answers.{BecomesSure}
+use Rattle.tx_answers.specs.Answers.{BecomesIrrevocable}
 use Rattle.tx_answers.specs.declared.answers.Irrev.TheVariants as irrevs
 use Rattle.tx_answers.specs.Causes.{Conflicts}
 use Rattle.tx_answers.specs.Known.{Grows, known_of, granted_under, written_under, is_irrevocable, is_in, is_closing, wrote}
@@ -339,7 +339,7 @@ module _ (good : List ℕ → Type 0) (c : Config) (n : ℕ) (low : n < c.caller
     holds-promoted = ap (λ (q : View). q.gate.holds) path
 
     pub tells-granted : Grants good c n irrevs.Granted (known_of v (own_of l)) (known_of w (own_of promoted))
-    tells-granted = subst (λ (q : View). BecomesSure good c n (known_of v o) (known_of q p)) (sym path) (record {
+    tells-granted = subst (λ (q : View). BecomesIrrevocable good c n (known_of v o) (known_of q p)) (sym path) (record {
       continues = record {
         running = ap is_in i.phase;
         closing = ap is_closing i.phase;
@@ -356,7 +356,7 @@ module _ (good : List ℕ → Type 0) (c : Config) (n : ℕ) (low : n < c.caller
       still = refl;
       uncommitted = can.free;
       log = (λ j. record { reads = items v.attempt.reads; writes = written_under (lazy j) true y p }) ∙ (λ j. record { reads = items v.attempt.reads; writes = sym (λ h. written_under (lazy h) (k.optimistic.ungranted h) v o) j });
-      sure = ap (λ (a : Alg). is_sure a (granted_under a y.gate y.lock) (wrote (known_of y p))) lazy;
+      irrevocable = ap (λ (a : Alg). irrevocable_under a (granted_under a y.gate y.lock) (wrote (known_of y p))) lazy;
       opaque = opaque-at good c n y p m.start refl refl r.moves.legal r.moves.below r.moves.sees i.reads_inside;
       before = λ e. absurd (let f : true ≡ false = sym e ∙ revocable in cc);
       now = λ e. (ap (λ (a : Alg). granted_under a y.gate y.lock) lazy, (st.more ++ r.more, refl, Load, Contains-append_right st.more r.more (load_of Clock m.start) r.found));
@@ -370,7 +370,7 @@ module _ (good : List ℕ → Type 0) (c : Config) (n : ℕ) (low : n < c.caller
         p = own_of promoted
 
         revocable : is_irrevocable (known_of v o) ≡ false
-        revocable = (λ j. is_sure (lazy j) (granted_under (lazy j) v.gate v.lock) (wrote (known_of v o))) ∙ k.optimistic.ungranted
+        revocable = (λ j. irrevocable_under (lazy j) (granted_under (lazy j) v.gate v.lock) (wrote (known_of v o))) ∙ k.optimistic.ungranted
 
         grown : Grows (known_of v o) (known_of y p)
         grown = let q = later-seen r.seen v.history.front m.start r.moves.below r.moves.front in record {

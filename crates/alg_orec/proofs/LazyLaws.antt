@@ -2,7 +2,7 @@
 use Rattle.std.proofs.Common.{ℕ, ◌≡◌, ◌≢◌, ◌<◌, ◌≤◌, ◌+◌, List, [], ◌∷◌, ◌++◌, length, Bool, true, false, refl, sym, ap, ◌∙◌, arith, subst, inl, inr}
 use Rattle.std.specs.Prelude.{◌^◌, ◌⊎◌, ◌==◌, ◌&&◌, not, Option, Some, None, IsSome, MatchOption}
 use Rattle.std.proofs.lemmas.Bool.Decides.{nat_tests}
-use Rattle.stm_model.specs.Algorithms.{has_records, has_read_log, logs_writes, is_sure}
+use Rattle.stm_model.specs.Algorithms.{has_records, has_read_log, logs_writes, irrevocable_under}
 use Rattle.stm_model.specs.declared.alg.Alg.{Alg}
 use Rattle.stm_model.specs.declared.alg.Alg.TheVariants.{Cgl, Tml, OrecLazy, OrecEager, RingSw, Serial}
 use Rattle.stm_model.specs.declared.config.Config.{Config}
@@ -88,7 +88,7 @@ module _ (good : List ℕ → Type 0) (c : Config) (n : ℕ) (l : Local) (v : Vi
     written-here = written v l refl refl
 
     pub revocable : is_irrevocable (known_of v o) ≡ false
-    revocable = (λ j. is_sure (lazy j) (granted_under (lazy j) v.gate v.lock) (not (is_empty (written_under v.gate.algorithm v.gate.granted v o)))) ∙ ungranted
+    revocable = (λ j. irrevocable_under (lazy j) (granted_under (lazy j) v.gate v.lock) (not (is_empty (written_under v.gate.algorithm v.gate.granted v o)))) ∙ ungranted
 
     -- THE LOGS: no room is wanted for an address that they have
     has-room : (a x : ℕ) → (item_at a l.writes.items ≡ Some x) ⊎ (item_at a l.reads.items ≡ Some x) → reads_full a (known_of v o) ≡ false
@@ -203,7 +203,7 @@ module _ (good : List ℕ → Type 0) (c : Config) (n : ℕ) (l : Local) (v : Vi
 
         q : Quits (known_of u o) (known_of (left n g.before) o)
         q = quits-left n u g.before o g.unmade (let a = g.rises in let b = k.optimistic.rises in (omega arith, omega arith))
-            ((λ j. is_sure (lazy j) (granted_under (lazy j) v.gate v.lock) (not (is_empty (written_under v.gate.algorithm v.gate.granted u o)))) ∙ ungranted)
+            ((λ j. irrevocable_under (lazy j) (granted_under (lazy j) v.gate v.lock) (not (is_empty (written_under v.gate.algorithm v.gate.granted u o)))) ∙ ungranted)
 
     pub quits-here : (w : View) → GivesUp n v w → Quits (known_of v o) (known_of w o)
     quits-here w g = quits-moved v.attempt.start v.history.seen v.attempt.reads v.sample v.check [] w (inl (refl, refl)) (subst (λ (y : View). GivesUp n y w) here g)

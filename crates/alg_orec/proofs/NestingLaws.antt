@@ -1,7 +1,7 @@
 -- What the marks of an attempt of OrecLazy come to.
 use Rattle.std.proofs.Common.{ℕ, ◌≡◌, ◌≤◌, ◌+◌, ◌-◌, List, [], ◌∷◌, ◌++◌, take, Bool, true, false, refl, sym, ap, ◌∙◌, arith, subst}
 use Rattle.std.specs.Prelude.{not}
-use Rattle.stm_model.specs.Algorithms.{is_sure}
+use Rattle.stm_model.specs.Algorithms.{irrevocable_under}
 use Rattle.stm_model.specs.declared.alg.Alg.{Alg}
 use Rattle.stm_model.specs.declared.alg.Alg.TheVariants.{OrecLazy}
 use Rattle.stm_model.specs.declared.config.Config.{Config}
@@ -22,12 +22,12 @@ use Rattle.alg_orec.proofs.Cells.{items-cells}
 
 module _ (good : List ℕ → Type 0) (c : Config) (n : ℕ) (l : Local) (v : View) (i : IsInside good c n l v) (lazy : v.gate.algorithm ≡ OrecLazy) where
   -- ONCE IRREVOCABLE a mark is a number
-  module _ (sure : l.granted ≡ true) (d : ℕ) where
+  module _ (irrevocable : l.granted ≡ true) (d : ℕ) where
     abbrev deeper : Local
     deeper = record l { depth = d }
 
     promoted : IsPromoted l v
-    promoted = subst (λ (b : Bool). attempts.Keeps c OrecLazy b l v) sure (subst (λ (a : Alg). attempts.Keeps c a l.granted l v) (sym i.named ∙ lazy) i.keeps)
+    promoted = subst (λ (b : Bool). attempts.Keeps c OrecLazy b l v) irrevocable (subst (λ (a : Alg). attempts.Keeps c a l.granted l v) (sym i.named ∙ lazy) i.keeps)
 
     pub stays-deeper : IsInside good c n (record l { depth = d }) v
     stays-deeper = let p = promoted in record {
@@ -50,13 +50,13 @@ module _ (good : List ℕ → Type 0) (c : Config) (n : ℕ) (l : Local) (v : Vi
     }
       where
         keeps-promoted : IsPromoted deeper v → attempts.Keeps c deeper.algorithm deeper.granted deeper v
-        keeps-promoted q = subst (λ (a : Alg). attempts.Keeps c a l.granted deeper v) (sym (sym i.named ∙ lazy)) (subst (λ (b : Bool). attempts.Keeps c OrecLazy b deeper v) (sym sure) q)
+        keeps-promoted q = subst (λ (a : Alg). attempts.Keeps c a l.granted deeper v) (sym (sym i.named ∙ lazy)) (subst (λ (b : Bool). attempts.Keeps c OrecLazy b deeper v) (sym irrevocable) q)
 
     pub same-deeper : known_of v (own_of (record l { depth = d })) ≡ record (known_of v (own_of l)) { depth = d }
     same-deeper = ap (λ (ws : List (ℕ × ℕ)). let k : Known = record (known_of v (own_of deeper)) { log = record { reads = items v.attempt.reads; writes = ws } } in k) (written-same v.gate.algorithm v.gate.granted v (own_of l) (own_of deeper) refl)
 
-    pub sure-known : is_irrevocable (known_of v (own_of l)) ≡ true
-    sure-known = (λ j. is_sure (lazy j) (granted_under (lazy j) v.gate v.lock) (not (is_empty (known_of v (own_of l)).log.writes))) ∙ promoted.granted
+    pub irrevocable-known : is_irrevocable (known_of v (own_of l)) ≡ true
+    irrevocable-known = (λ j. irrevocable_under (lazy j) (granted_under (lazy j) v.gate v.lock) (not (is_empty (known_of v (own_of l)).log.writes))) ∙ promoted.granted
 
   -- UNTIL THEN the log of what it wrote has the marks
   module _ (plain : l.granted ≡ false) (quiet : l.committing ≡ false) (k : IsLazy c l v) where
@@ -70,7 +70,7 @@ module _ (good : List ℕ → Type 0) (c : Config) (n : ℕ) (l : Local) (v : Vi
     written-before = written-now l.writes l.wrote l.depth k.buffers.once
 
     pub revocable : is_irrevocable (known_of v (own_of l)) ≡ false
-    revocable = (λ j. is_sure (lazy j) (granted_under (lazy j) v.gate v.lock) (not (is_empty (known_of v (own_of l)).log.writes))) ∙ k.optimistic.ungranted
+    revocable = (λ j. irrevocable_under (lazy j) (granted_under (lazy j) v.gate v.lock) (not (is_empty (known_of v (own_of l)).log.writes))) ∙ k.optimistic.ungranted
 
     pub set-before : IsWriteSet c l.fence l.writes.items
     set-before = record { once = k.buffers.once; inside = k.buffers.inside; small = k.buffers.small; apart = k.buffers.apart }

@@ -1,7 +1,7 @@
 -- What a call found, as seen after more steps and from before.
 use Rattle.std.proofs.Common.{ℕ, ◌≡◌, ◌≤◌, ◌+◌, List, [], ◌∷◌, ◌++◌, Bool, false, refl, sym, ap, ◌∙◌, arith, subst, append_assoc, length}
 use Rattle.std.specs.Prelude.{Option, not}
-use Rattle.stm_model.specs.Algorithms.{entry_rise, quit_rise, is_sure}
+use Rattle.stm_model.specs.Algorithms.{entry_rise, quit_rise, irrevocable_under}
 use Rattle.stm_model.specs.declared.alg.Alg.{Alg}
 use Rattle.stm_model.specs.declared.alg.Alg.TheVariants.{Tml, OrecLazy, RingSw}
 use Rattle.stm_model.specs.declared.config.Config.{Config}
@@ -60,7 +60,7 @@ quits-leads u v w a b = record {
   ends = ends-leads u v w a b.ends;
   made = b.made ∙ a.made;
   rises = (let e = a.base in let r = b.rises.0 in omega arith, let e = a.base in let r = b.rises.1 in let q : quit_rise v.alg (wrote v) ≡ quit_rise u.alg (wrote u) = (λ j. quit_rise (a.alg j) (wrote-leads u v a j)) in omega arith);
-  revocable = sym (λ j. is_sure (a.alg j) (a.granted j) (wrote-leads u v a j)) ∙ b.revocable;
+  revocable = sym (λ j. irrevocable_under (a.alg j) (a.granted j) (wrote-leads u v a j)) ∙ b.revocable;
 }
 
 pub full-leads : (u v w : Known) (clock : ℕ) → Leads u v → FindsFull clock v w → FindsFull clock u w
@@ -117,7 +117,7 @@ with_commit b o = record o { committing = b }
 -- an attempt of OrecLazy that was taken back
 pub quits-back : (n : ℕ) (v u z : View) (o : Own) → v.gate.algorithm ≡ OrecLazy → v.gate.granted ≡ false → v.steps.rises ≡ v.steps.rises_at_begin → IsUnmade v u → u.steps.rises ≡ v.steps.rises → GivesUp n u z → Quits (known_of v o) (known_of z (with_commit false o))
 quits-back n v u z o lazy plain level m rises g = quits-own v z o (with_commit false o) refl refl (subst (λ (y : View). Quits (known_of v o) (known_of y o)) (sym g.is)
-    (quits-left n v g.before o (unmade-trans v u g.before m g.unmade) (let a = g.rises in (omega arith, omega arith)) ((λ j. is_sure (lazy j) (granted_under (lazy j) v.gate v.lock) (wrote (known_of v o))) ∙ plain)))
+    (quits-left n v g.before o (unmade-trans v u g.before m g.unmade) (let a = g.rises in (omega arith, omega arith)) ((λ j. irrevocable_under (lazy j) (granted_under (lazy j) v.gate v.lock) (wrote (known_of v o))) ∙ plain)))
 
 -- more steps were taken until it ended
 pub ended-by : (n : ℕ) (u z : View) → GivesUp n u z → (more : List TrailItem) × (z.steps.trail ≡ more ++ u.steps.trail)

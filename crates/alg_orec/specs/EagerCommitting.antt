@@ -1,5 +1,6 @@
 -- What the parts of the commit of an attempt of OrecEager that wrote ask and tell.
 use Rattle.std.specs.Prelude.{ℕ, ◌≡◌, ◌<◌, ◌++◌, ◌⊎◌, Bool, true, false, List, None, Result, Ok, Err}
+use Rattle.stm_model.specs.Algorithms.{has_records}
 use Rattle.stm_model.specs.declared.alg.Alg.TheVariants.{OrecEager}
 use Rattle.stm_model.specs.declared.config.Config.{Config}
 use Rattle.stm_model.specs.declared.stop.Cause.{Cause}
@@ -58,6 +59,7 @@ module _ (good : List ℕ → Type 0) (c : Config) (n : ℕ) where
 -- a promoted attempt whose entry was made at t
 pub record CanGiveDirect (c : Config) (t : ℕ) (l : Local) (v : View) : Type 0 where
   pub granted : v.gate.granted ≡ true
+  pub algorithm : has_records v.gate.algorithm ≡ true
   pub entered : v.attempt.entered ≡ true
   pub time : t ≡ v.attempt.start
   pub locks : l.locks.items ≡ items v.owned.held

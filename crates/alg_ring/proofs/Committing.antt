@@ -146,7 +146,7 @@ module _ (good : List ℕ → Type 0) (c : Config) (n : ℕ) (l : Local) (v : Vi
         opaque-inside good c n in_commit again_at (own_of in_commit) stays-again,
         inr (refl, a.named, refl, ((λ s. some (sym s)), tried n found ∷ [], refl, taken_lock n, (0, omega arith, refl)), t.1 some),
         (let q = t.1 some in let e = q.1 in let d = q.2 in omega arith),
-        attempt.sure-is good c n l v a ∙ plain,
+        attempt.irrevocable-is good c n l v a ∙ plain,
         dirty,
       )
 

@@ -1,7 +1,7 @@
 -- What stands of an attempt of RingSW that isn't promoted, and how it ends without its entry.
 use Rattle.std.proofs.Common.{ℕ, ◌≡◌, List, Bool, true, false, sym, ap, ◌∙◌, arith, subst}
 use Rattle.std.specs.Prelude.{not}
-use Rattle.stm_model.specs.Algorithms.{has_records, is_sure}
+use Rattle.stm_model.specs.Algorithms.{has_records, irrevocable_under}
 use Rattle.stm_model.specs.Memories.{is_empty}
 use Rattle.stm_model.specs.declared.alg.Alg.{Alg}
 use Rattle.stm_model.specs.declared.alg.Alg.TheVariants.{Cgl, Tml, OrecLazy, OrecEager, RingSw, Serial}
@@ -33,7 +33,7 @@ module _ (good : List ℕ → Type 0) (c : Config) (n : ℕ) (l : Local) (v : Vi
 
   module _ (k : IsRing c l v) where
     pub revocable : (o : Own) → is_irrevocable (known_of v o) ≡ false
-    revocable o = ap (λ (a : Alg). is_sure a (granted_under a v.gate v.lock) (not (is_empty (written_under a v.gate.granted v o)))) named ∙ k.optimistic.ungranted
+    revocable o = ap (λ (a : Alg). irrevocable_under a (granted_under a v.gate v.lock) (not (is_empty (written_under a v.gate.granted v o)))) named ∙ k.optimistic.ungranted
 
     pub may-leave : CanLeave v
     may-leave = record {

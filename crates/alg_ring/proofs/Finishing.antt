@@ -85,7 +85,7 @@ module _ (good : List ℕ → Type 0) (c : Config) (n : ℕ) (l : Local) (v w : 
   named = has.named
 
   plain : l.granted ≡ false
-  plain = sym (attempt.sure-is good c n l v has) ∙ turn.has.revocable
+  plain = sym (attempt.irrevocable-is good c n l v has) ∙ turn.has.revocable
 
   k : IsRing c l v
   k = attempt.kept good c n l v has plain

@@ -2,7 +2,7 @@
 use Rattle.std.proofs.Common.{ℕ, ◌≡◌, ◌<◌, ◌≤◌, List, [], ◌∷◌, ◌++◌, Bool, true, false, refl, sym, ap, ◌∙◌, arith, subst, append_assoc}
 use Rattle.std.specs.Prelude.{None, Ok, not, ◌&&◌, if◌then◌else◌, reverse}
 use Rattle.std.proofs.lemmas.List.{append-nil}
-use Rattle.stm_model.specs.Algorithms.{has_records, asks_at_grant, closes_gate, entry_rise, is_sure}
+use Rattle.stm_model.specs.Algorithms.{has_records, asks_at_grant, closes_gate, entry_rise, irrevocable_under}
 use Rattle.stm_model.specs.declared.alg.Alg.{Alg}
 use Rattle.stm_model.specs.declared.alg.Alg.TheVariants.{RingSw}
 use Rattle.stm_model.specs.declared.config.Config.{Config}
@@ -66,7 +66,7 @@ pub can-grant : {K : Type 0} (good : K → List ℕ → Type 0) (stm : Stm K) {e
     → CanGrant (good stm.rule) stm.config n l v
 can-grant {K} good stm {e} {who} {v} {n} {l} a running alg revocable alone = let at = has-attempt good stm a running.0 alg in record {
   attempt = at;
-  plain = sym (attempt.sure-is (good stm.rule) stm.config n l v at) ∙ (ap is_irrevocable (sym a.knows) ∙ revocable);
+  plain = sym (attempt.irrevocable-is (good stm.rule) stm.config n l v at) ∙ (ap is_irrevocable (sym a.knows) ∙ revocable);
   free = ap (λ (k : Known). k.committing) (sym a.knows) ∙ running.1;
   alone = subst (λ (w : View). IsAlone stm.config.callers n w) a.view (subst (λ (k : ℕ). IsAlone stm.config.callers k e.view) a.name alone);
 }
@@ -91,7 +91,7 @@ module _ (good : List ℕ → Type 0) (c : Config) (n : ℕ) (l : Local) (v : Vi
   k = attempt.kept good c n l v can.attempt can.plain
 
   revocable : is_irrevocable (known_of v o) ≡ false
-  revocable = attempt.sure-is good c n l v can.attempt ∙ can.plain
+  revocable = attempt.irrevocable-is good c n l v can.attempt ∙ can.plain
 
   pub kept-writes : Buffers c l
   kept-writes = k.buffers
@@ -292,7 +292,7 @@ module _ (good : List ℕ → Type 0) (c : Config) (n : ℕ) (l : Local) (v : Vi
           still = ap (λ (y : View). y.steps.rises) stored-path;
           uncommitted = can.free;
           log = ap (λ (y : View). (known_of y o).log) stored-path ∙ ((λ j. record { reads = items v.attempt.reads; writes = written_under (named j) true (promoted_at ws more) o }) ∙ (λ j. record { reads = items v.attempt.reads; writes = sym (attempt.written-is good c n l v can.attempt can.plain) j }));
-          sure = ap (λ (y : View). is_irrevocable (known_of y o)) stored-path ∙ ap (λ (a : Alg). is_sure a (granted_under a (granted_at clock v.gate) v.lock) (wrote (known_of (promoted_at ws more) o))) named;
+          irrevocable = ap (λ (y : View). is_irrevocable (known_of y o)) stored-path ∙ ap (λ (a : Alg). irrevocable_under a (granted_under a (granted_at clock v.gate) v.lock) (wrote (known_of (promoted_at ws more) o))) named;
           opaque = subst (λ (y : View). IsOpaque good c n (known_of y o)) (sym stored-path) (opaque-at good c n (promoted_at ws more) o start refl refl p.0.sees.begins.legal p.0.sees.begins.below sees-promoted i.reads_inside);
           before = λ e. absurd (let f : true ≡ false = sym e ∙ revocable in cc);
           now = λ e. (

@@ -2,7 +2,7 @@
 use Rattle.std.proofs.Common.{ℕ, suc, ◌≡◌, ◌<◌, ◌≤◌, ◌+◌, ◌-◌, List, [], ◌∷◌, ◌++◌, length, get_or, take, Bool, true, false, refl, sym, ap, ◌∙◌, arith, subst}
 use Rattle.std.specs.Prelude.{not, slice_index, bit_or}
 use Rattle.std.proofs.Math.Seq.{take-suc}
-use Rattle.stm_model.specs.Algorithms.{is_sure}
+use Rattle.stm_model.specs.Algorithms.{irrevocable_under}
 use Rattle.stm_model.specs.declared.alg.Alg.{Alg}
 use Rattle.stm_model.specs.declared.alg.Alg.TheVariants.{RingSw}
 use Rattle.stm_model.specs.declared.config.Config.{Config}
@@ -49,12 +49,12 @@ filter-next ws k w i x y low is before now =
 
 module _ (good : List ℕ → Type 0) (c : Config) (n : ℕ) (l : Local) (v : View) (i : IsInside good c n l v) (ring : v.gate.algorithm ≡ RingSw) where
   -- ONCE IRREVOCABLE a mark is a number
-  module _ (sure : l.granted ≡ true) (d : ℕ) where
+  module _ (irrevocable : l.granted ≡ true) (d : ℕ) where
     abbrev deeper : Local
     deeper = record l { depth = d }
 
     promoted : IsPromoted l v
-    promoted = subst (λ (b : Bool). attempts.Keeps c RingSw b l v) sure (subst (λ (a : Alg). attempts.Keeps c a l.granted l v) (sym i.named ∙ ring) i.keeps)
+    promoted = subst (λ (b : Bool). attempts.Keeps c RingSw b l v) irrevocable (subst (λ (a : Alg). attempts.Keeps c a l.granted l v) (sym i.named ∙ ring) i.keeps)
 
     pub stays-deeper : IsInside good c n (record l { depth = d }) v
     stays-deeper = let p = promoted in record {
@@ -77,13 +77,13 @@ module _ (good : List ℕ → Type 0) (c : Config) (n : ℕ) (l : Local) (v : Vi
     }
       where
         keeps-promoted : IsPromoted deeper v → attempts.Keeps c deeper.algorithm deeper.granted deeper v
-        keeps-promoted q = subst (λ (a : Alg). attempts.Keeps c a l.granted deeper v) (sym (sym i.named ∙ ring)) (subst (λ (b : Bool). attempts.Keeps c RingSw b deeper v) (sym sure) q)
+        keeps-promoted q = subst (λ (a : Alg). attempts.Keeps c a l.granted deeper v) (sym (sym i.named ∙ ring)) (subst (λ (b : Bool). attempts.Keeps c RingSw b deeper v) (sym irrevocable) q)
 
     pub same-deeper : known_of v (own_of (record l { depth = d })) ≡ record (known_of v (own_of l)) { depth = d }
     same-deeper = ap (λ (ws : List (ℕ × ℕ)). let k : Known = record (known_of v (own_of deeper)) { log = record { reads = items v.attempt.reads; writes = ws } } in k) (written-same v.gate.algorithm v.gate.granted v (own_of l) (own_of deeper) refl)
 
-    pub sure-known : is_irrevocable (known_of v (own_of l)) ≡ true
-    sure-known = (λ j. is_sure (ring j) (granted_under (ring j) v.gate v.lock) (not (is_empty (known_of v (own_of l)).log.writes))) ∙ promoted.granted
+    pub irrevocable-known : is_irrevocable (known_of v (own_of l)) ≡ true
+    irrevocable-known = (λ j. irrevocable_under (ring j) (granted_under (ring j) v.gate v.lock) (not (is_empty (known_of v (own_of l)).log.writes))) ∙ promoted.granted
 
   -- UNTIL THEN the log of what it wrote has the marks
   module _ (plain : l.granted ≡ false) (quiet : l.committing ≡ false) (k : IsRing c l v) where
@@ -97,7 +97,7 @@ module _ (good : List ℕ → Type 0) (c : Config) (n : ℕ) (l : Local) (v : Vi
     written-before = written-now l.writes l.stored l.wrote l.depth k.buffers.once
 
     pub revocable : is_irrevocable (known_of v (own_of l)) ≡ false
-    revocable = (λ j. is_sure (ring j) (granted_under (ring j) v.gate v.lock) (not (is_empty (known_of v (own_of l)).log.writes))) ∙ k.optimistic.ungranted
+    revocable = (λ j. irrevocable_under (ring j) (granted_under (ring j) v.gate v.lock) (not (is_empty (known_of v (own_of l)).log.writes))) ∙ k.optimistic.ungranted
 
     pub set-before : IsWriteSet c l.fence l.writes.items
     set-before = record { once = k.buffers.once; inside = k.buffers.inside; small = k.buffers.small; apart = k.buffers.apart }

@@ -1,7 +1,7 @@
 -- What stands of an attempt of RingSW between two calls.
 use Rattle.std.proofs.Common.{ℕ, ◌≡◌, List, true, false, sym, ap, ◌∙◌}
 use Rattle.std.specs.Prelude.{not, ◌&&◌, ◌||◌}
-use Rattle.stm_model.specs.Algorithms.{asks_at_commit, closes_gate, is_sure}
+use Rattle.stm_model.specs.Algorithms.{asks_at_commit, closes_gate, irrevocable_under}
 use Rattle.stm_model.specs.declared.alg.Alg.{Alg}
 use Rattle.stm_model.specs.declared.alg.Alg.TheVariants.{RingSw}
 use Rattle.stm_model.specs.declared.config.Config.{Config}
@@ -30,8 +30,8 @@ module _ (good : List ℕ → Type 0) (c : Config) (n : ℕ) (l : Local) (v : Vi
   pub granted-is : granted_under v.gate.algorithm v.gate v.lock ≡ l.granted
   granted-is = ap (λ (b : Alg). granted_under b v.gate v.lock) a.named ∙ (inside.granted ∙ (λ j. closes_gate (ring j) && l.granted))
 
-  pub sure-is : is_irrevocable (known_of v (own_of l)) ≡ l.granted
-  sure-is = ap (λ (b : Alg). is_sure b (granted_under v.gate.algorithm v.gate v.lock) (wrote (known_of v (own_of l)))) a.named ∙ granted-is
+  pub irrevocable-is : is_irrevocable (known_of v (own_of l)) ≡ l.granted
+  irrevocable-is = ap (λ (b : Alg). irrevocable_under b (granted_under v.gate.algorithm v.gate v.lock) (wrote (known_of v (own_of l)))) a.named ∙ granted-is
 
   -- and then in the middle of no commit
   pub steady : l.granted ≡ true → l.committing ≡ false

@@ -2,7 +2,7 @@
 use Rattle.std.proofs.Common.{ℕ, ◌≡◌, ◌≢◌, ◌<◌, ◌≤◌, List, [], ◌∷◌, ◌++◌, Bool, true, false, refl, sym, ap, ◌∙◌, arith, subst}
 use Rattle.std.specs.Prelude.{Some, None, ◌&&◌, ◌||◌, ◌==◌, if◌then◌else◌}
 use Rattle.std.proofs.lemmas.Bool.Decides.{nat_tests}
-use Rattle.stm_model.specs.Algorithms.{takes_lock, closes_gate, asks_at_begin, is_built, is_sure}
+use Rattle.stm_model.specs.Algorithms.{takes_lock, closes_gate, asks_at_begin, is_built, irrevocable_under}
 use Rattle.stm_model.specs.declared.alg.Alg.{Alg}
 use Rattle.stm_model.specs.declared.alg.Alg.TheVariants.{Cgl, Tml, OrecLazy, OrecEager, RingSw, Serial}
 use Rattle.stm_model.specs.declared.config.Config.{Config}
@@ -57,7 +57,7 @@ begins-clock OrecLazy t = absurd cc
 begins-clock OrecEager t = absurd cc
 begins-clock RingSw t = absurd cc
 
-ungranted : (a : Alg) (g : GateView) (l : LockView) → takes_lock a ≡ true → g.granted ≡ false → l.irrevocable ≡ is_sure a false false → granted_under a g l ≡ false
+ungranted : (a : Alg) (g : GateView) (l : LockView) → takes_lock a ≡ true → g.granted ≡ false → l.irrevocable ≡ irrevocable_under a false false → granted_under a g l ≡ false
 ungranted Cgl g l t e s = e
 ungranted Serial g l t e s = s
 ungranted Tml g l t e s = absurd cc
@@ -161,7 +161,7 @@ module _ (good : List ℕ → Type 0) (c : Config) (n : ℕ) (a : Alg) (locks : 
         reopened = free;
         clean = λ e. refl;
         dirty = λ e. absurd cc;
-        sure = ap (λ b. is_sure b false false) can.named;
+        irrevocable = ap (λ b. irrevocable_under b false false) can.named;
         undone = λ e. refl;
         undoable = λ e. refl;
         within = λ e p. absurd cc;

@@ -2,7 +2,7 @@
 use Rattle.std.proofs.Common.{ℕ, ◌≡◌, ◌<◌, ◌≤◌, List, [], ◌∷◌, Bool, true, false, refl, sym, ap, ◌∙◌, arith, subst, le_refl}
 use Rattle.std.specs.Prelude.{Some, ltb, if◌then◌else◌}
 use Rattle.std.proofs.lemmas.Bool.Decides.{nat_tests}
-use Rattle.stm_model.specs.Algorithms.{closes_gate, is_sure, takes_lock}
+use Rattle.stm_model.specs.Algorithms.{closes_gate, irrevocable_under, takes_lock}
 use Rattle.stm_model.specs.declared.alg.Alg.TheVariants.{Serial}
 use Rattle.stm_model.specs.declared.config.Config.{Config}
 use Rattle.stm_model.specs.declared.config.TheConstants.{CLOCK_LIMIT}
@@ -15,13 +15,13 @@ use Rattle.rule_base.specs.StepKinds.{Tells}
 use Rattle.rule_seq.specs.CglSteps.{load_limit, LoadsLimit, fixed_lock}
 use Rattle.stm_rule.specs.declared.local.Local.{Local}
 use Rattle.stm_rule.specs.Attempts.{IsInside}
-use Rattle.tx_answers.specs.Answers.{BecomesSure}
+use Rattle.tx_answers.specs.Answers.{BecomesIrrevocable}
 use Rattle.tx_answers.specs.Evidence.{Found}
 use Rattle.tx_answers.specs.Known.{known_of, is_in, is_closing, granted_under, is_irrevocable, wrote}
 use Rattle.tx_answers.specs.KnownLaws.{grows-same}
 use Rattle.alg_seq.specs.Storing.{IsClocked}
 use Rattle.alg_seq.proofs.Locked.{written-plain, still-opaque}
-use Rattle.alg_seq.proofs.Keeping.{named, locks, sure-by, revocable-by}
+use Rattle.alg_seq.proofs.Keeping.{named, locks, irrevocable-by, revocable-by}
 
 -- the view after the load, by whether the clock is below its limit
 abbrev pub asked : View → ℕ → Bool → View
@@ -37,8 +37,8 @@ clocked-full v u clock high t = let path : u ≡ asked v clock false = t.2 ∙ a
     no = grind (arith, nat_tests)
 
 pub tells-granted : (good : List ℕ → Type 0) (c : Config) (n : ℕ) (l : Local) (v : View) (i : IsInside good c n l v) (serial : l.algorithm ≡ Serial) (clock : ℕ) (u : View) (o : Own) → o.committing ≡ false → l.granted ≡ false → clock < CLOCK_LIMIT
-    → Tells (load_limit true) LoadsLimit v clock u → BecomesSure good c n (known_of v o) (known_of u o)
-tells-granted good c n l v i serial clock u o settled revocable low t = subst (λ (y : View). BecomesSure good c n (known_of v o) (known_of y o)) (sym path) (record {
+    → Tells (load_limit true) LoadsLimit v clock u → BecomesIrrevocable good c n (known_of v o) (known_of u o)
+tells-granted good c n l v i serial clock u o settled revocable low t = subst (λ (y : View). BecomesIrrevocable good c n (known_of v o) (known_of y o)) (sym path) (record {
   continues = record {
     running = ap is_in i.phase;
     closing = ap is_closing i.phase;
@@ -55,7 +55,7 @@ tells-granted good c n l v i serial clock u o settled revocable low t = subst (�
   still = refl;
   uncommitted = settled;
   log = ap (λ (ws : List (ℕ × ℕ)). record { reads = items v.attempt.reads; writes = ws }) (written-plain v.gate.algorithm v.gate.granted w o locks-by ∙ sym (written-plain v.gate.algorithm v.gate.granted v o locks-by));
-  sure = ap (λ a. is_sure a (granted_under a v.gate w.lock) (wrote (known_of w o))) serial-by;
+  irrevocable = ap (λ a. irrevocable_under a (granted_under a v.gate w.lock) (wrote (known_of w o))) serial-by;
   opaque = still-opaque good c n l v o i w refl refl refl;
   before = λ e. absurd (let no : true ≡ false = sym e ∙ not_yet in cc);
   now = λ e. (ap (λ a. granted_under a v.gate w.lock) serial-by, subst (λ k. Found Clock k (known_of v o) (known_of w o)) t.1 (record { place = Clock; act = Load; found = Some clock } ∷ [], refl, Load, (0, omega arith, refl)));
@@ -78,4 +78,4 @@ tells-granted good c n l v i serial clock u o settled revocable low t = subst (�
     locks-by = locks good c n l v i serial
 
     not_yet : is_irrevocable (known_of v o) ≡ false
-    not_yet = revocable-by good c n l v i serial o ∙ (sure-by good c n l v i serial ∙ revocable)
+    not_yet = revocable-by good c n l v i serial o ∙ (irrevocable-by good c n l v i serial ∙ revocable)

@@ -2,7 +2,7 @@
 use Rattle.std.proofs.Common.{ℕ, ◌≡◌, ◌<◌, ◌≤◌, List, [], ◌∷◌, ◌++◌, length, Bool, true, false, refl, sym, ap, ◌∙◌, arith, subst, append_assoc}
 use Rattle.std.specs.Prelude.{Option, Some, None, not, ◌&&◌, ◌==◌, if◌then◌else◌}
 use Rattle.std.proofs.lemmas.Bool.Decides.{nat_tests}
-use Rattle.stm_model.specs.Algorithms.{takes_lock, logs_writes, is_sure}
+use Rattle.stm_model.specs.Algorithms.{takes_lock, logs_writes, irrevocable_under}
 use Rattle.stm_model.specs.declared.alg.Alg.TheVariants.{Serial}
 use Rattle.stm_model.specs.declared.config.Config.{Config}
 use Rattle.stm_model.specs.declared.config.TheConstants.{CLOCK_LIMIT}
@@ -83,11 +83,11 @@ module _ (good : List ℕ → Type 0) (c : Config) (n : ℕ) (l : Local) (v : Vi
   locks = ap takes_lock named
 
   -- it is irrevocable where it was granted
-  pub sure-by : v.lock.irrevocable ≡ l.granted
-  sure-by = (locked good c n l v locks i).sure ∙ ap (λ a. is_sure a l.granted l.wrote) serial
+  pub irrevocable-by : v.lock.irrevocable ≡ l.granted
+  irrevocable-by = (locked good c n l v locks i).irrevocable ∙ ap (λ a. irrevocable_under a l.granted l.wrote) serial
 
   pub revocable-by : (o : Own) → is_irrevocable (known_of v o) ≡ v.lock.irrevocable
-  revocable-by o = ap (λ a. is_sure a (granted_under a v.gate v.lock) (wrote (known_of v o))) named
+  revocable-by o = ap (λ a. irrevocable_under a (granted_under a v.gate v.lock) (wrote (known_of v o))) named
 
   -- a word out of the fence's range beside others
   apart-more : (a x : ℕ) (cs : List Cell) → fenced l.fence a ≡ false → Apart l.fence cs → Apart l.fence (record { at = a; value = x } ∷ cs)
@@ -101,7 +101,7 @@ module _ (good : List ℕ → Type 0) (c : Config) (n : ℕ) (l : Local) (v : Vi
       → (k.irrevocable ≡ false → log.items ≡ items k.undo) → (k.irrevocable ≡ false → addresses log.items ≡ addresses (put a x (items v.attempt.stores))) → Inside c.words k.undo
       → (k.irrevocable ≡ false → (buffer.items ≡ put a x (items v.attempt.stores)) × (length buffer.marks ≡ l.depth)) → fenced l.fence a ≡ false
       → IsInside good c n (record l { undo = log; writes = buffer; wrote = true }) (view_after (store_heap a x) m (aside v k more) x)
-  stored log buffer k more a x m taken started sure low undone undoable within buffered out = let j = locked good c n l v locks i in record {
+  stored log buffer k more a x m taken started irrevocable low undone undoable within buffered out = let j = locked good c n l v locks i in record {
     phase = i.phase;
     named = i.named;
     spared = record { is = i.spared.is; fits = i.spared.fits };
@@ -125,13 +125,13 @@ module _ (good : List ℕ → Type 0) (c : Config) (n : ℕ) (l : Local) (v : Vi
       reopened = j.reopened;
       clean = λ e. absurd cc;
       dirty = λ e p. absurd cc;
-      sure = sure ∙ sym (ap (λ b. is_sure b l.granted true) serial);
+      irrevocable = irrevocable ∙ sym (ap (λ b. irrevocable_under b l.granted true) serial);
       undone = undone;
       undoable = undoable;
       within = within;
       writes = λ e. (buffered e).0;
       marked = λ e. (buffered e).1;
-      apart = λ e. apart-more a x v.attempt.stores out (j.apart (sure-by ∙ (sym sure ∙ e)));
+      apart = λ e. apart-more a x v.attempt.stores out (j.apart (irrevocable-by ∙ (sym irrevocable ∙ e)));
       rises = j.rises;
       limit = λ e. low;
     });
@@ -142,17 +142,17 @@ module _ (good : List ℕ → Type 0) (c : Config) (n : ℕ) (l : Local) (v : Vi
       ∙ (ap (λ b. logs_writes v.gate.algorithm && (not (is_irrevocable (known_of v o)) && b)) room ∙ and-false (logs_writes v.gate.algorithm) (not (is_irrevocable (known_of v o))))
 
   -- once irrevocable a store needs nothing
-  pub may-store-sure : (a x : ℕ) → a < c.words → fenced l.fence a ≡ false → l.granted ≡ true → l.start < CLOCK_LIMIT → MayStore good c n a x l v v
-  may-store-sure a x within out granted low = let sure = sure-by ∙ granted in let j = locked good c n l v locks i in record {
+  pub may-store-irrevocable : (a x : ℕ) → a < c.words → fenced l.fence a ≡ false → l.granted ≡ true → l.start < CLOCK_LIMIT → MayStore good c n a x l v v
+  may-store-irrevocable a x within out granted low = let irrevocable = irrevocable-by ∙ granted in let j = locked good c n l v locks i in record {
     gate = refl;
-    can = λ small. record { has = record { phase = i.phase; algorithm = locks; taken = j.taken }; started = j.started; inside = within; small = small; undoable = λ e. absurd (let no : true ≡ false = sym sure ∙ e in cc) };
-    inside = λ m. stored l.undo l.writes v.lock [] a x m j.taken j.started sure-by low (λ e. absurd (let no : true ≡ false = sym sure ∙ e in cc)) (λ e. absurd (let no : true ≡ false = sym sure ∙ e in cc)) j.within (λ e. absurd (let no : true ≡ false = sym sure ∙ e in cc)) out;
-    written = λ o own m. tells-store good c n a x v v o m i.phase locks own.0 (never-full a (known_of v o) (revocable-by o ∙ sure)).1 (logged-refl v) refl (still-opaque good c n l v o i);
+    can = λ small. record { has = record { phase = i.phase; algorithm = locks; taken = j.taken }; started = j.started; inside = within; small = small; undoable = λ e. absurd (let no : true ≡ false = sym irrevocable ∙ e in cc) };
+    inside = λ m. stored l.undo l.writes v.lock [] a x m j.taken j.started irrevocable-by low (λ e. absurd (let no : true ≡ false = sym irrevocable ∙ e in cc)) (λ e. absurd (let no : true ≡ false = sym irrevocable ∙ e in cc)) j.within (λ e. absurd (let no : true ≡ false = sym irrevocable ∙ e in cc)) out;
+    written = λ o own m. tells-store good c n a x v v o m i.phase locks own.0 (never-full a (known_of v o) (revocable-by o ∙ irrevocable)).1 (logged-refl v) refl (still-opaque good c n l v o i);
   }
 
   -- a store whose old value was kept
   pub may-store-logged : (a x : ℕ) (u w : View) (m : Local) → a < c.words → fenced l.fence a ≡ false → l.writes.len ≡ l.undo.len → l.granted ≡ false → l.start < CLOCK_LIMIT → IsClocked v u → HasLogged c.words a x l u m w → MayStore good c n a x m v w
-  may-store-logged a x u w m within out len revocable low k h = let j = locked good c n l v locks i in let rev : v.lock.irrevocable ≡ false = sure-by ∙ revocable in record {
+  may-store-logged a x u w m within out len revocable low k h = let j = locked good c n l v locks i in let rev : v.lock.irrevocable ≡ false = irrevocable-by ∙ revocable in record {
     gate = ap (λ (y : View). y.gate) path;
     can = λ small. record {
       has = subst (λ (y : View). HasLock y) (sym path) (record { phase = i.phase; algorithm = locks; taken = ap (λ (y : View). y.lock.taken) flat ∙ (ap (λ (y : View). y.lock.taken) k.is ∙ j.taken) });
@@ -163,11 +163,11 @@ module _ (good : List ℕ → Type 0) (c : Config) (n : ℕ) (l : Local) (v : Vi
     };
     inside = λ p. subst (λ (y : View). IsInside good c n (record m { wrote = true }) (view_after (store_heap a x) p y x)) (sym path)
         (subst (λ (q : Local). IsInside good c n (record q { wrote = true }) (view_after (store_heap a x) p (aside v w.lock more) x)) (sym h.local)
-        (stored m.undo m.writes w.lock more a x p (ap (λ (y : View). y.lock.taken) flat ∙ (ap (λ (y : View). y.lock.taken) k.is ∙ j.taken)) (ap (λ (y : View). y.lock.started) flat ∙ (ap (λ (y : View). y.lock.started) k.is ∙ j.started)) (ap (λ (y : View). y.lock.irrevocable) flat ∙ (ap (λ (y : View). y.lock.irrevocable) k.is ∙ sure-by)) low
+        (stored m.undo m.writes w.lock more a x p (ap (λ (y : View). y.lock.taken) flat ∙ (ap (λ (y : View). y.lock.taken) k.is ∙ j.taken)) (ap (λ (y : View). y.lock.started) flat ∙ (ap (λ (y : View). y.lock.started) k.is ∙ j.started)) (ap (λ (y : View). y.lock.irrevocable) flat ∙ (ap (λ (y : View). y.lock.irrevocable) k.is ∙ irrevocable-by)) low
         (λ e. h.undone) (λ e. h.undoable ∙ ap (λ (y : View). addresses (put a x (items y.attempt.stores))) k.is) h.within (λ e. (h.writes ∙ ap (λ (y : View). put a x (items y.attempt.stores)) k.is, ap length h.marks ∙ j.marked rev)) out));
     written = λ o own p. tells-store good c n a x v w o p i.phase locks own.0
         (room-by a o (roomy a l.writes.items (items v.attempt.stores) l.writes.len o.writes_limit (ap addresses (j.writes rev)) (own.1 ∙ (h.undo_len ∙ sym len)) h.room))
-        (subst (λ (y : View). IsLogged v y) (sym path) (record { history = refl; gate = refl; sure = ap (λ (y : View). y.lock.irrevocable) flat ∙ ap (λ (y : View). y.lock.irrevocable) k.is; fence = refl; start = refl; rises = refl; base = refl; installs = refl; trail = (more, refl) }))
+        (subst (λ (y : View). IsLogged v y) (sym path) (record { history = refl; gate = refl; irrevocable = ap (λ (y : View). y.lock.irrevocable) flat ∙ ap (λ (y : View). y.lock.irrevocable) k.is; fence = refl; start = refl; rises = refl; base = refl; installs = refl; trail = (more, refl) }))
         (ap (λ (y : View). y.attempt) path) (still-opaque good c n l v o i);
   }
     where
@@ -199,14 +199,14 @@ module _ (good : List ℕ → Type 0) (c : Config) (n : ℕ) (l : Local) (v : Vi
   pub quits-back : (u w : View) (o : Own) → l.granted ≡ false → IsClocked v u → GivesUp n u w → Quits (known_of v o) (known_of w o)
   quits-back u w o revocable k g = let j = locked good c n l v locks i in
       subst (λ (y : View). Quits (known_of v o) (known_of y o)) (sym g.is)
-      (quits-left n v g.before o (unmade-clocked u g.before k g.unmade) (let e = g.rises in let f : u.steps.rises ≡ v.steps.rises = ap (λ (y : View). y.steps.rises) k.is in let b = j.rises in (omega arith, omega arith)) (revocable-by o ∙ (sure-by ∙ revocable)))
+      (quits-left n v g.before o (unmade-clocked u g.before k g.unmade) (let e = g.rises in let f : u.steps.rises ≡ v.steps.rises = ap (λ (y : View). y.steps.rises) k.is in let b = j.rises in (omega arith, omega arith)) (revocable-by o ∙ (irrevocable-by ∙ revocable)))
 
   -- THE FULL LOG
   pub full-by : (a : ℕ) (o : Own) → l.granted ≡ false → o.writes_limit ≡ l.writes.len → item_at a l.writes.items ≡ None → length l.writes.items ≡ l.writes.len → writes_full a (known_of v o) ≡ true
   full-by a o revocable own none long = let j = locked good c n l v locks i in
       ap (λ (ws : List (ℕ × ℕ)). logs_writes v.gate.algorithm && (not (is_irrevocable (known_of v o)) && (not (has_item a ws) && (length ws == o.writes_limit)))) (written-plain v.gate.algorithm v.gate.granted v o locks)
-      ∙ (ap (λ b. logs_writes v.gate.algorithm && (not (is_irrevocable (known_of v o)) && b)) (filled a l.writes.items (items v.attempt.stores) l.writes.len o.writes_limit (ap addresses (j.writes (sure-by ∙ revocable))) own none long)
-      ∙ (ap (λ b. logs_writes v.gate.algorithm && (not b && true)) (revocable-by o ∙ (sure-by ∙ revocable)) ∙ ap (λ b. logs_writes b && true) named))
+      ∙ (ap (λ b. logs_writes v.gate.algorithm && (not (is_irrevocable (known_of v o)) && b)) (filled a l.writes.items (items v.attempt.stores) l.writes.len o.writes_limit (ap addresses (j.writes (irrevocable-by ∙ revocable))) own none long)
+      ∙ (ap (λ b. logs_writes v.gate.algorithm && (not b && true)) (revocable-by o ∙ (irrevocable-by ∙ revocable)) ∙ ap (λ b. logs_writes b && true) named))
 
   pub roomy-empty : (a : ℕ) (o : Own) → l.wrote ≡ false → 0 < o.writes_limit → writes_full a (known_of v o) ≡ false
   roomy-empty a o clean some = let j = locked good c n l v locks i in

@@ -103,7 +103,7 @@ or-middle false false c e = absurd cc
 pub record IsLogged (v w : View) : Type 0 where
   pub history : w.history ≡ v.history
   pub gate : w.gate ≡ v.gate
-  pub sure : w.lock.irrevocable ≡ v.lock.irrevocable
+  pub irrevocable : w.lock.irrevocable ≡ v.lock.irrevocable
   pub fence : w.fence ≡ v.fence
   pub start : w.attempt.start ≡ v.attempt.start
   pub rises : w.steps.rises ≡ v.steps.rises
@@ -112,7 +112,7 @@ pub record IsLogged (v w : View) : Type 0 where
   pub trail : (more : List TrailItem) × (w.steps.trail ≡ more ++ v.steps.trail)
 
 pub logged-refl : (v : View) → IsLogged v v
-logged-refl v = record { history = refl; gate = refl; sure = refl; fence = refl; start = refl; rises = refl; base = refl; installs = refl; trail = ([], refl) }
+logged-refl v = record { history = refl; gate = refl; irrevocable = refl; fence = refl; start = refl; rises = refl; base = refl; installs = refl; trail = ([], refl) }
 
 pub goes-on : (v w : View) (o : Own) → v.gate.phase ≡ In → IsLogged v w → GoesOn (known_of v o) (known_of w o)
 goes-on v w o inside i = record {
@@ -130,7 +130,7 @@ goes-on v w o inside i = record {
     depth = refl;
   };
   start = start-stays v.gate.algorithm (known_of v o) (known_of w o) i.start;
-  granted = ap (λ (g : GateView). granted_under g.algorithm g w.lock) i.gate ∙ granted-same v.gate.algorithm v.gate v.lock w.lock i.sure;
+  granted = ap (λ (g : GateView). granted_under g.algorithm g w.lock) i.gate ∙ granted-same v.gate.algorithm v.gate v.lock w.lock i.irrevocable;
   holds = ap (λ (g : GateView). g.holds) i.gate;
   checked = ap (λ (g : GateView). g.checked) i.gate;
   marks = refl;
@@ -149,7 +149,7 @@ module _ (good : List ℕ → Type 0) (c : Config) (n : ℕ) where
   pub tells-read : (a x : ℕ) (l : Local) (v w : View) (o : Own) → a < c.words → IsInside good c n l v → takes_lock v.gate.algorithm ≡ true → o.committing ≡ false → Tells (load_heap a) (Loads rule c a) v x w
       → HasRead good c n a (Value x) (known_of v o) (known_of w o)
   tells-read a x l v w o low i locks settled t = subst (λ (u : View). HasRead good c n a (Value x) (known_of v o) (known_of u o)) (sym t.2) (
-    goes-on v u o i.phase (record { history = refl; gate = refl; sure = refl; fence = refl; start = refl; rises = refl; base = refl; installs = refl; trail = (record { place = Heap a; act = Load; found = Some x } ∷ [], refl) }),
+    goes-on v u o i.phase (record { history = refl; gate = refl; irrevocable = refl; fence = refl; start = refl; rises = refl; base = refl; installs = refl; trail = (record { place = Heap a; act = Load; found = Some x } ∷ [], refl) }),
     settled,
     subst (λ (ws : List (ℕ × ℕ)). Reads (known_of v o).log a x (record { reads = items u.attempt.reads; writes = ws })) (sym (written-plain v.gate.algorithm v.gate.granted u o locks))
         (subst (λ (ws : List (ℕ × ℕ)). Reads (record { reads = items v.attempt.reads; writes = ws }) a x (record { reads = items u.attempt.reads; writes = items v.attempt.stores })) (sym (written-plain v.gate.algorithm v.gate.granted v o locks))
@@ -167,7 +167,7 @@ module _ (good : List ℕ → Type 0) (c : Config) (n : ℕ) where
       → IsLogged v w → w.attempt ≡ v.attempt → ((u : View) → u.history ≡ v.history → u.attempt.start ≡ v.attempt.start → u.attempt.reads ≡ v.attempt.reads → answers.IsOpaque good c n (known_of u o))
       → HasWritten good c n a x Done (known_of v o) (known_of (view_after (store_heap a x) m w x) o)
   tells-store a x v w o m inside locks settled room i same opaque = (
-    goes-on v u o inside (record { history = i.history; gate = i.gate; sure = i.sure; fence = i.fence; start = i.start; rises = i.rises; base = i.base; installs = i.installs; trail = (record { place = Heap a; act = Store x; found = None } ∷ i.trail.0, ap (λ t. record { place = Heap a; act = Store x; found = None } ∷ t) i.trail.1) }),
+    goes-on v u o inside (record { history = i.history; gate = i.gate; irrevocable = i.irrevocable; fence = i.fence; start = i.start; rises = i.rises; base = i.base; installs = i.installs; trail = (record { place = Heap a; act = Store x; found = None } ∷ i.trail.0, ap (λ t. record { place = Heap a; act = Store x; found = None } ∷ t) i.trail.1) }),
     settled,
     subst (λ (ws : List (ℕ × ℕ)). logs.Writes (known_of v o).log a x (record { reads = items u.attempt.reads; writes = ws })) (sym (written-plain w.gate.algorithm w.gate.granted u o (ap (λ (g : GateView). takes_lock g.algorithm) i.gate ∙ locks)))
         (subst (λ (ws : List (ℕ × ℕ)). logs.Writes (record { reads = items v.attempt.reads; writes = ws }) a x (record { reads = items w.attempt.reads; writes = put a x (items w.attempt.stores) })) (sym (written-plain v.gate.algorithm v.gate.granted v o locks))
@@ -186,8 +186,8 @@ module _ (good : List ℕ → Type 0) (c : Config) (n : ℕ) where
       (subst (λ (r : List Cell). Inside c.words r) (sym reads) i.reads_inside)
 
   -- an irrevocable attempt stays as it is
-  pub stays-sure : (l : Local) (v : View) (o : Own) → IsInside good c n l v → o.committing ≡ false → is_irrevocable (known_of v o) ≡ true → answers.BecomesSure good c n (known_of v o) (known_of v o)
-  stays-sure l v o i settled sure = record {
+  pub stays-irrevocable : (l : Local) (v : View) (o : Own) → IsInside good c n l v → o.committing ≡ false → is_irrevocable (known_of v o) ≡ true → answers.BecomesIrrevocable good c n (known_of v o) (known_of v o)
+  stays-irrevocable l v o i settled irrevocable = record {
     continues = record {
       running = ap is_in i.phase;
       closing = ap is_closing i.phase;
@@ -204,11 +204,11 @@ module _ (good : List ℕ → Type 0) (c : Config) (n : ℕ) where
     still = refl;
     uncommitted = settled;
     log = refl;
-    sure = sure;
+    irrevocable = irrevocable;
     opaque = opaque-inside good c n l v o i;
     before = λ e. refl;
-    now = λ e. absurd (let no : true ≡ false = sym sure ∙ e in cc);
-    alone = λ e. absurd (let no : true ≡ false = sym sure ∙ e in cc);
+    now = λ e. absurd (let no : true ≡ false = sym irrevocable ∙ e in cc);
+    alone = λ e. absurd (let no : true ≡ false = sym irrevocable ∙ e in cc);
   }
 
   -- an attempt that wrote may store the next clock

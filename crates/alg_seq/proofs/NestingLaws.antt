@@ -2,7 +2,7 @@
 use Rattle.std.proofs.Common.{ℕ, zero, suc, ◌≡◌, ◌≤◌, ◌+◌, ◌-◌, List, [], ◌∷◌, ◌++◌, length, get_or, take, Bool, true, false, refl, sym, ap, ◌∙◌, arith, subst, length-append}
 use Rattle.std.specs.Prelude.{replicate}
 use Rattle.std.proofs.lemmas.List.{length-replicate, get_or-replicate, take-replicate, length-take-le}
-use Rattle.stm_model.specs.Algorithms.{is_sure}
+use Rattle.stm_model.specs.Algorithms.{irrevocable_under}
 use Rattle.stm_model.specs.declared.alg.Alg.{Alg}
 use Rattle.stm_model.specs.declared.alg.Alg.TheVariants.{Cgl, Tml, OrecLazy, OrecEager, RingSw, Serial}
 use Rattle.stm_model.specs.declared.config.Config.{Config}
@@ -17,7 +17,7 @@ use Rattle.tx_answers.specs.Known.{Known, known_of, written_under, is_irrevocabl
 use Rattle.tx_answers.specs.KnownLaws.{grows-same}
 use Rattle.tx_logs.specs.LogStates.{LogState, rolled}
 use Rattle.stm_gate.specs.Opacity.{opaque-inside}
-use Rattle.stm_gate.specs.Sure.{sure-of}
+use Rattle.stm_gate.specs.Irrevocable.{irrevocable-of}
 use Rattle.alg_seq.specs.Nesting.{is_sequential}
 
 -- so many marks stand; those of TML had nothing
@@ -52,18 +52,18 @@ module _ (good : List ℕ → Type 0) (c : Config) (n : ℕ) (l : Local) (v : Vi
   other : (a : Alg) → l.algorithm ≡ a → is_sequential a ≡ true
   other a e = ap is_sequential (sym (i.named ∙ e)) ∙ sequential
 
-  pub sure-known : is_irrevocable (known_of v (own_of l)) ≡ is_sure l.algorithm l.granted l.wrote
-  sure-known = sure-of good c n l v (own_of l) i
+  pub irrevocable-known : is_irrevocable (known_of v (own_of l)) ≡ irrevocable_under l.algorithm l.granted l.wrote
+  irrevocable-known = irrevocable-of good c n l v (own_of l) i
 
   pub written : (o : Own) → written_under v.gate.algorithm v.gate.granted v o ≡ items v.attempt.stores
   written o = written-own v.gate.algorithm sequential v.gate.granted v o
 
   -- ANOTHER LOG, with as many marks as are counted
-  module _ (log : LogState) (d : ℕ) (same : log.items ≡ l.writes.items) (marks : is_sure l.algorithm l.granted l.wrote ≡ false → HasDepth l.algorithm log.marks d) where
+  module _ (log : LogState) (d : ℕ) (same : log.items ≡ l.writes.items) (marks : irrevocable_under l.algorithm l.granted l.wrote ≡ false → HasDepth l.algorithm log.marks d) where
     abbrev m : Local
     m = with_log log d
 
-    counted : (a : Alg) → l.algorithm ≡ a → is_sure l.algorithm l.granted l.wrote ≡ false → HasDepth a log.marks d
+    counted : (a : Alg) → l.algorithm ≡ a → irrevocable_under l.algorithm l.granted l.wrote ≡ false → HasDepth a log.marks d
     counted a e plain = subst (λ (q : Alg). HasDepth q log.marks d) e (marks plain)
 
     locked-with : (v.lock.irrevocable ≡ false → length log.marks ≡ d) → IsLocked c l v → IsLocked c m v
@@ -75,7 +75,7 @@ module _ (good : List ℕ → Type 0) (c : Config) (n : ℕ) (l : Local) (v : Vi
       reopened = p.reopened;
       clean = p.clean;
       dirty = p.dirty;
-      sure = p.sure;
+      irrevocable = p.irrevocable;
       undone = p.undone;
       undoable = p.undoable;
       within = p.within;
@@ -87,8 +87,8 @@ module _ (good : List ℕ → Type 0) (c : Config) (n : ℕ) (l : Local) (v : Vi
     }
 
     keeps-with : (a : Alg) (g : Bool) → l.algorithm ≡ a → l.granted ≡ g → attempts.Keeps c a g l v → attempts.Keeps c a g m v
-    keeps-with Cgl g e f k = locked-with (λ r. counted Cgl e (sym k.sure ∙ r)) k
-    keeps-with Serial g e f k = locked-with (λ r. counted Serial e (sym k.sure ∙ r)) k
+    keeps-with Cgl g e f k = locked-with (λ r. counted Cgl e (sym k.irrevocable ∙ r)) k
+    keeps-with Serial g e f k = locked-with (λ r. counted Serial e (sym k.irrevocable ∙ r)) k
     keeps-with Tml true e f k = record { granted = k.granted; calm = k.calm; holds = k.holds; clear = k.clear; clean = k.clean; dirty = k.dirty; rises = k.rises; limit = k.limit }
     keeps-with Tml false e f k = record {
       inside = k.inside;
@@ -105,7 +105,7 @@ module _ (good : List ℕ → Type 0) (c : Config) (n : ℕ) (l : Local) (v : Vi
       rises = k.rises;
       limit = k.limit;
       unbuffered = same ∙ k.unbuffered;
-      marked = λ w. counted Tml e ((λ j. is_sure (e j) (f j) l.wrote) ∙ w);
+      marked = λ w. counted Tml e ((λ j. irrevocable_under (e j) (f j) l.wrote) ∙ w);
       sole = k.sole;
     }
     keeps-with OrecLazy g e f k = absurd (let no : false ≡ true = other OrecLazy e in cc)
@@ -137,20 +137,20 @@ module _ (good : List ℕ → Type 0) (c : Config) (n : ℕ) (l : Local) (v : Vi
       (written (own_of (with_log log d)) ∙ sym (written (own_of l)))
 
   -- ONCE IRREVOCABLE a mark is a number
-  module _ (sure : is_sure l.algorithm l.granted l.wrote ≡ true) (d : ℕ) where
+  module _ (irrevocable : irrevocable_under l.algorithm l.granted l.wrote ≡ true) (d : ℕ) where
     pub stays-deeper : IsInside good c n (record l { depth = d }) v
-    stays-deeper = stays-with l.writes d refl (λ e. absurd (let no : true ≡ false = sym sure ∙ e in cc))
+    stays-deeper = stays-with l.writes d refl (λ e. absurd (let no : true ≡ false = sym irrevocable ∙ e in cc))
 
     pub deeper-marked : is_irrevocable (known_of v (own_of l)) ≡ true
-    deeper-marked = sure-known ∙ sure
+    deeper-marked = irrevocable-known ∙ irrevocable
 
   -- UNTIL THEN the write log has what was written, and the marks
-  module _ (plain : is_sure l.algorithm l.granted l.wrote ≡ false) where
+  module _ (plain : irrevocable_under l.algorithm l.granted l.wrote ≡ false) where
     pub revocable : is_irrevocable (known_of v (own_of l)) ≡ false
-    revocable = sure-known ∙ plain
+    revocable = irrevocable-known ∙ plain
 
-    clean-at : (a : Alg) (g : Bool) → l.algorithm ≡ a → l.granted ≡ g → is_sure a g l.wrote ≡ false
-    clean-at a g e f = (λ j. is_sure (sym e j) (sym f j) l.wrote) ∙ plain
+    clean-at : (a : Alg) (g : Bool) → l.algorithm ≡ a → l.granted ≡ g → irrevocable_under a g l.wrote ≡ false
+    clean-at a g e f = (λ j. irrevocable_under (sym e j) (sym f j) l.wrote) ∙ plain
 
     depth-at : (a : Alg) (g : Bool) → l.algorithm ≡ a → l.granted ≡ g → attempts.Keeps c a g l v → HasDepth a l.writes.marks l.depth × (length l.writes.marks ≡ l.depth) × (l.writes.items ≡ items v.attempt.stores) × HasDepth a (l.writes.marks ++ l.writes.items ∷ []) (l.depth + 1)
     depth-at Cgl g e f k = absurd (let no : true ≡ false = clean-at Cgl g e f in cc)
@@ -158,7 +158,7 @@ module _ (good : List ℕ → Type 0) (c : Config) (n : ℕ) (l : Local) (v : Vi
     depth-at Tml false e f k =
         let w : l.wrote ≡ false = clean-at Tml false e f in
         (k.marked w, ap length (k.marked w) ∙ length-replicate l.depth [], k.unbuffered ∙ ap items (sym (k.clean w)), (λ j. k.marked w j ++ k.unbuffered j ∷ []) ∙ replicate-more l.depth)
-    depth-at Serial g e f k = let r = sym (sym plain ∙ sym k.sure) in let count = k.marked r in let size = length-append l.writes.marks (l.writes.items ∷ []) in (count, count, k.writes r, omega arith)
+    depth-at Serial g e f k = let r = sym (sym plain ∙ sym k.irrevocable) in let count = k.marked r in let size = length-append l.writes.marks (l.writes.items ∷ []) in (count, count, k.writes r, omega arith)
     depth-at OrecLazy g e f k = absurd (let no : false ≡ true = other OrecLazy e in cc)
     depth-at OrecEager g e f k = absurd (let no : false ≡ true = other OrecEager e in cc)
     depth-at RingSw g e f k = absurd (let no : false ≡ true = other RingSw e in cc)

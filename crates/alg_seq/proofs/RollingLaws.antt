@@ -4,7 +4,7 @@ use Rattle.std.specs.Prelude.{Some, None, not, ◌==◌, ◌||◌, if◌then◌e
 use Rattle.std.proofs.Math.Seq.{take-suc}
 use Rattle.std.proofs.lemmas.Bool.Decides.{nat_tests}
 use Rattle.std.proofs.lemmas.List.{append-nil, length-take, length-take-le, length-map, take-map}
-use Rattle.stm_model.specs.Algorithms.{asks_at_begin, is_sure, takes_lock}
+use Rattle.stm_model.specs.Algorithms.{asks_at_begin, irrevocable_under, takes_lock}
 use Rattle.stm_model.specs.declared.alg.Alg.TheVariants.{Serial}
 use Rattle.stm_model.specs.declared.config.Config.{Config}
 use Rattle.stm_model.specs.Memories.{is_empty, item_at, put, Once}
@@ -26,7 +26,7 @@ use Rattle.tx_logs.specs.LogStates.{LogState, rolled, firsts}
 use Rattle.stm_gate.specs.Opacity.{opaque-inside}
 use Rattle.stm_gate.specs.Peeling.{minus, items-without, has-touched, drop-all, no-items}
 use Rattle.alg_seq.specs.Nesting.{IsTakenBack, CanStoreAgain, IsStoredAgain}
-use Rattle.alg_seq.proofs.Keeping.{sure-by}
+use Rattle.alg_seq.proofs.Keeping.{irrevocable-by}
 use Rattle.alg_seq.proofs.Locked.{locked, keeps-by, or-last, written-plain}
 use Rattle.alg_seq.proofs.Undoing.{taken, has-by, length-by}
 
@@ -178,7 +178,7 @@ module _ (good : List ℕ → Type 0) (c : Config) (n : ℕ) (l : Local) (v : Vi
   k = locked good c n l v locks i
 
   rev : v.lock.irrevocable ≡ false
-  rev = sure-by good c n l v i (sym i.named ∙ serial) ∙ plain
+  rev = irrevocable-by good c n l v i (sym i.named ∙ serial) ∙ plain
 
   pub same-number : length l.undo.items ≡ length l.writes.items
   same-number = length-by l.undo.items (items v.attempt.stores) (k.undoable rev) ∙ ap length (sym (k.writes rev))
@@ -274,7 +274,7 @@ module _ (good : List ℕ → Type 0) (c : Config) (n : ℕ) (l : Local) (v : Vi
             reopened = k.reopened;
             clean = λ e. no-items stores (stored ∙ nothing-left e);
             dirty = λ e none. absurd (let no : true ≡ false = sym e ∙ (some ∙ ap (λ (ws : List (ℕ × ℕ)). not (is_empty ws)) (sym stored ∙ ap items none)) in cc);
-            sure = k.sure ∙ ((λ j. is_sure (named-by j) l.granted l.wrote) ∙ (λ j. is_sure (sym named-by j) l.granted wrote));
+            irrevocable = k.irrevocable ∙ ((λ j. irrevocable_under (named-by j) l.granted l.wrote) ∙ (λ j. irrevocable_under (sym named-by j) l.granted wrote));
             undone = λ e. ap (λ (q : LogState). q.items) cut-is ∙ sym undone;
             undoable = λ e. ap (λ (q : LogState). addresses q.items) cut-is ∙ (of-undo ∙ ap addresses (sym stored));
             within = within;

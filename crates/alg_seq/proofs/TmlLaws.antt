@@ -2,7 +2,7 @@
 use Rattle.std.proofs.Common.{ℕ, ◌≡◌, ◌≢◌, ◌<◌, ◌≤◌, ◌+◌, List, [], ◌∷◌, ◌++◌, Bool, true, false, refl, sym, ap, ◌∙◌, arith, subst}
 use Rattle.std.proofs.lemmas.Bool.Decides.{nat_tests}
 use Rattle.std.specs.Prelude.{◌==◌, ◌%◌, ◌^◌, ltb, if◌then◌else◌, not, ◌&&◌, ◌||◌, Some, None}
-use Rattle.stm_model.specs.Algorithms.{entry_rise, is_sure, has_read_log, has_records, logs_writes, closes_gate, asks_at_write, asks_at_commit, asks_at_grant}
+use Rattle.stm_model.specs.Algorithms.{entry_rise, irrevocable_under, has_read_log, has_records, logs_writes, closes_gate, asks_at_write, asks_at_commit, asks_at_grant}
 use Rattle.stm_model.specs.declared.alg.Alg.{Alg}
 use Rattle.stm_model.specs.declared.alg.Alg.TheVariants.{Tml}
 use Rattle.stm_model.specs.declared.config.Config.{Config}
@@ -39,7 +39,7 @@ use Rattle.tx_answers.specs.declared.answers.Commit.TheVariants.{ReadOnly}
 use Rattle.tx_answers.specs.declared.answers.Irrev.TheVariants as irrevs
 use Rattle.tx_answers.specs.declared.answers.Read.TheVariants as reads
 use Rattle.tx_answers.specs.declared.answers.Write.TheVariants as writes
-use Rattle.tx_answers.specs.Answers.{write_rise, HasRead, HasWritten, KeepsRule, Commits, CommitsAt, Cancels, Quits, BecomesSure}
+use Rattle.tx_answers.specs.Answers.{write_rise, HasRead, HasWritten, KeepsRule, Commits, CommitsAt, Cancels, Quits, BecomesIrrevocable}
 use Rattle.tx_answers.specs.Evidence.{Found}
 use Rattle.tx_answers.specs.Causes.{reads_full, writes_full}
 use Rattle.tx_answers.specs.Known.{known_of, granted_under, written_under, is_irrevocable, wrote, is_in, is_closing}
@@ -127,7 +127,7 @@ module _ (good : List ℕ → Type 0) (c : Config) (n : ℕ) where
 
     -- a reader can still be cancelled, and may leave
     revocable : l.wrote ≡ false → is_irrevocable (known_of v o) ≡ false
-    revocable clean = ap (λ (a : Alg). is_sure a (granted_under a v.gate v.lock) (not (is_empty (written_under a v.gate.granted v o)))) tml ∙ (ap (λ (b : Bool). is_sure Tml b (not (is_empty (items v.attempt.stores)))) k.ungranted ∙ ap (λ (cs : List Cell). not (is_empty (items cs))) (k.clean clean))
+    revocable clean = ap (λ (a : Alg). irrevocable_under a (granted_under a v.gate v.lock) (not (is_empty (written_under a v.gate.granted v o)))) tml ∙ (ap (λ (b : Bool). irrevocable_under Tml b (not (is_empty (items v.attempt.stores)))) k.ungranted ∙ ap (λ (cs : List Cell). not (is_empty (items cs))) (k.clean clean))
 
     pub may-leave : (u : View) → l.wrote ≡ false → u.gate ≡ v.gate → u.lock ≡ v.lock → u.owned ≡ v.owned → u.tml.writer ≡ v.tml.writer → u.ring_commit.committed ≡ v.ring_commit.committed → u.attempt.stores ≡ v.attempt.stores → u.attempt.entered ≡ v.attempt.entered → CanLeave u
     may-leave u clean gate lock owned writer committed stores entered = record {
@@ -429,8 +429,8 @@ module _ (good : List ℕ → Type 0) (c : Config) (n : ℕ) where
         }) (let q = i.start in omega arith) (let q = i.front in omega arith) (k.dirty dirty) (written-here v))
 
     -- a writer is irrevocable
-    pub sure-writer : l.wrote ≡ true → is_irrevocable (known_of v o) ≡ true
-    sure-writer dirty = ap (λ (a : Alg). is_sure a (granted_under a v.gate v.lock) (not (is_empty (written_under a v.gate.granted v o)))) tml ∙ (ap (λ (b : Bool). is_sure Tml b (not (is_empty (items v.attempt.stores)))) k.ungranted ∙ ap not (wrote-some v.attempt.stores (k.dirty dirty)))
+    pub irrevocable-writer : l.wrote ≡ true → is_irrevocable (known_of v o) ≡ true
+    irrevocable-writer dirty = ap (λ (a : Alg). irrevocable_under a (granted_under a v.gate v.lock) (not (is_empty (written_under a v.gate.granted v o)))) tml ∙ (ap (λ (b : Bool). irrevocable_under Tml b (not (is_empty (items v.attempt.stores)))) k.ungranted ∙ ap not (wrote-some v.attempt.stores (k.dirty dirty)))
 
     -- the grant, by whether the clock allows it
     abbrev granted_view : ℕ → Bool → View
@@ -488,7 +488,7 @@ module _ (good : List ℕ → Type 0) (c : Config) (n : ℕ) where
         y = granted_view clock false
 
     pub grants-so : (clock : ℕ) (w : View) → l.wrote ≡ false → clock ≡ l.start → clock < CLOCK_LIMIT → IsAlone c.callers n v → Tells tml_grant (FindsSole c) v clock w → Grants good c n irrevs.Granted (known_of v o) (known_of w o)
-    grants-so clock w clean same under a t = subst (λ (y : View). BecomesSure good c n (known_of v o) (known_of y o)) (sym (grant_path clock w true (still_yes clock same under) t)) (record {
+    grants-so clock w clean same under a t = subst (λ (y : View). BecomesIrrevocable good c n (known_of v o) (known_of y o)) (sym (grant_path clock w true (still_yes clock same under) t)) (record {
       continues = record {
         running = ap is_in i.phase;
         closing = ap is_closing i.phase;
@@ -505,7 +505,7 @@ module _ (good : List ℕ → Type 0) (c : Config) (n : ℕ) where
       still = refl;
       uncommitted = quiet;
       log = λ j. record { reads = items v.attempt.reads; writes = (ap (λ (q : Alg). written_under q true y o) tml ∙ sym (written-here v)) j };
-      sure = ap (λ (q : Alg). is_sure q (granted_under q y.gate y.lock) (not (is_empty (written_under q true y o)))) tml;
+      irrevocable = ap (λ (q : Alg). irrevocable_under q (granted_under q y.gate y.lock) (not (is_empty (written_under q true y o)))) tml;
       opaque = opaque-at good c n y o l.start i.start i.front i.legal i.below i.sees i.reads_inside;
       before = λ e. absurd (let f : true ≡ false = sym e ∙ revocable clean in cc);
       now = λ e. (ap (λ (q : Alg). granted_under q y.gate y.lock) tml, subst (λ (q : ℕ). Found Clock q (known_of v o) (known_of y o)) (same ∙ sym i.start) (_ ∷ [], refl, Load, (0, omega arith, refl)));
@@ -554,10 +554,10 @@ module _ (good : List ℕ → Type 0) (c : Config) (n : ℕ) where
         y = granted_view clock true
 
   -- a promoted attempt is irrevocable
-  pub sure-granted : (l : Local) (v : View) (o : Own) → IsInside good c n l v → v.gate.algorithm ≡ Tml → l.granted ≡ true → is_irrevocable (known_of v o) ≡ true
-  sure-granted l v o i tml granted =
+  pub irrevocable-granted : (l : Local) (v : View) (o : Own) → IsInside good c n l v → v.gate.algorithm ≡ Tml → l.granted ≡ true → is_irrevocable (known_of v o) ≡ true
+  irrevocable-granted l v o i tml granted =
       let here : v.gate.granted ≡ true = i.granted ∙ (λ j. closes_gate ((sym i.named ∙ tml) j) && granted j) in
-      ap (λ (a : Alg). is_sure a (granted_under a v.gate v.lock) (not (is_empty (written_under a v.gate.granted v o)))) tml ∙ ap (λ (b : Bool). is_sure Tml b (not (is_empty (items v.attempt.stores)))) here
+      ap (λ (a : Alg). irrevocable_under a (granted_under a v.gate v.lock) (not (is_empty (written_under a v.gate.granted v o)))) tml ∙ ap (λ (b : Bool). irrevocable_under Tml b (not (is_empty (items v.attempt.stores)))) here
 
 module _ (good : List ℕ → Type 0) (c : Config) (n : ℕ) (v : View) (can : CanBegin Tml v) where
   abbrev begun_at : World → ℕ → Bool → View

@@ -33,11 +33,11 @@ pub fn checkpoint<K: MemRule>(desc: &mut Desc<K>) -> Check
     if depth >= MAX_MARKS {
         return Check::Deep { limit: MAX_MARKS };
     }
-    let sure = desc
+    let irrevocable = desc
         .local
         .algorithm
-        .is_sure(desc.local.granted, desc.local.wrote);
-    if sure {
+        .irrevocable_under(desc.local.granted, desc.local.wrote);
+    if irrevocable {
         desc.local.depth = depth + 1;
         return Check::Marked { depth: depth + 1 };
     }
@@ -58,11 +58,11 @@ pub fn roll_to<K: MemRule>(desc: &mut Desc<K>, stm: &Stm<K>, depth: usize) -> Ro
     ensures rolls { Rolls (K.good stm.now.rule) stm.now.config (number desc.old) depth result (known desc.old) (known desc.new) }
     ensures steps { AddsAtMost (known desc.old).writes_limit (known desc.old) (known desc.new) }
 {
-    let sure = desc
+    let irrevocable = desc
         .local
         .algorithm
-        .is_sure(desc.local.granted, desc.local.wrote);
-    if sure {
+        .irrevocable_under(desc.local.granted, desc.local.wrote);
+    if irrevocable {
         return Roll::Irrevocable;
     }
     if let Alg::Serial = desc.local.algorithm {
@@ -84,11 +84,11 @@ pub fn release<K: MemRule>(desc: &mut Desc<K>, depth: usize)
     ensures releases { Releases depth (known desc.old) (known desc.new) }
     ensures steps { AddsAtMost 0 (known desc.old) (known desc.new) }
 {
-    let sure = desc
+    let irrevocable = desc
         .local
         .algorithm
-        .is_sure(desc.local.granted, desc.local.wrote);
-    if sure {
+        .irrevocable_under(desc.local.granted, desc.local.wrote);
+    if irrevocable {
         desc.local.depth = depth - 1;
         return;
     }

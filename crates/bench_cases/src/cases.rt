@@ -2,12 +2,11 @@
 //! said of it.
 use bench_core::bench::bench;
 use bench_core::status::Status;
+use bench_core::{MemSink, MemSource, Open, Turnstile};
 use std::alloc::Global;
 use std::sync::Wait;
 use std::test::Fail;
 use std::thread::Threads;
-use stm_io::memory::{MemSink, MemSource};
-use stm_worker::turnstile::{Open, Turnstile};
 
 const HEADER: &str =
     "stm 1\nwords 8\ncallers 1\nrecords 4\nring 4\nreads 256\nwrites 256\nclock 0\nalg CGL\nstructs off\n";

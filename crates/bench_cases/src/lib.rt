@@ -3,3 +3,5 @@
 
 pub mod cases;
 pub mod plain_sets;
+
+pub use bench_core::status::Status;

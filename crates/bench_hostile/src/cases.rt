@@ -1,13 +1,11 @@
 //! Workloads in short, and what `bench` comes to over any ends.
 use bench_core::bench::bench;
 use bench_core::status::Status;
+use bench_core::{MemSink, MemSource, Open, Sink, Source};
 use std::alloc::Global;
 use std::sync::Wait;
 use std::test::Fail;
 use std::thread::Threads;
-use stm_io::ends::{Sink, Source};
-use stm_io::memory::{MemSink, MemSource};
-use stm_worker::turnstile::Open;
 
 /// The clock's limit, 2^62.
 pub(crate) const LIMIT: u64 = 4611686018427387904;

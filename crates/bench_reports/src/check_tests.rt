@@ -1,7 +1,7 @@
 //! `check` over a workload and a report.
 use crate::{report_tests, structure_tests};
+use bench_cases::Status;
 use bench_cases::cases::{check, header, lines, outcome, workload};
-use bench_core::status::Status;
 use std::alloc::Global;
 use std::process::Abort;
 use std::sync::Wait;

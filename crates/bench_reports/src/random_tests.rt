@@ -1,7 +1,7 @@
 //! Random operations on structures, beside plain sets of keys.
+use bench_cases::Status;
 use bench_cases::cases::{header, outcome};
 use bench_cases::plain_sets::{Sets, draw, holds, words_of};
-use bench_core::status::Status;
 use rand_core::SeedableRng;
 use rand_pcg::Pcg32;
 use std::alloc::Global;

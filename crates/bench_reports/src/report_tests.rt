@@ -1,6 +1,6 @@
 //! `run` over a text, and every end without a report.
+use bench_cases::Status;
 use bench_cases::cases::{Case, check, command_line, header, outcome, workload};
-use bench_core::status::Status;
 use std::test::Fail;
 
 /// What was run, and its report.

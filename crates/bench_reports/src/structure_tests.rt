@@ -1,7 +1,7 @@
 //! Workloads with structures: the words that they leave, and refusals.
+use bench_cases::Status;
 use bench_cases::cases::{Case, check, header, outcome};
 use bench_cases::plain_sets::{holds, words_of};
-use bench_core::status::Status;
 use std::alloc::Global;
 use std::test::Fail;
 

@@ -1,6 +1,6 @@
 //! Workloads of version 2: reports, refusals, the text's policy, and longer logs.
+use bench_cases::Status;
 use bench_cases::cases::{lines, outcome, workload_two};
-use bench_core::status::Status;
 use std::test::Fail;
 
 /// The lines of a header between `words` and `regions`.

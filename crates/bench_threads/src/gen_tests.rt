@@ -1,9 +1,9 @@
 //! `gen`: the summary of a generated workload, and who passes the turnstile in it.
 use bench_cases::cases::{command_line, lines, outcome, outcome_through};
+use bench_core::Turnstile;
 use bench_core::status::Status;
 use std::sync::atomic::{AtomicUsize, Ordering};
 use std::test::Fail;
-use stm_worker::turnstile::Turnstile;
 
 /// The words behind the program's name, and the summary that is written.
 const SUMMARIES: &[(&str, &str)] = &[

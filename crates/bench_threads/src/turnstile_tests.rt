@@ -1,10 +1,10 @@
 //! How often the turnstile is passed, and when.
 use bench_cases::cases::{header, lines, outcome_through, workload};
+use bench_core::Turnstile;
 use bench_core::status::Status;
 use std::sync::atomic::{AtomicUsize, Ordering};
 use std::test::Fail;
 use std::thread;
-use stm_worker::turnstile::Turnstile;
 
 const RUN: &[&str] = &["stm_bench", "run"];
 

@@ -1,6 +1,6 @@
 //! Attempts that write in place under versioned records.
+use bench_cases::Status;
 use bench_cases::cases::{Case, check};
-use bench_core::status::Status;
 use std::test::Fail;
 
 /// Traces of OrecEager, each with its report.

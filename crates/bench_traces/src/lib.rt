@@ -6,6 +6,8 @@ mod eager_tests;
 #[cfg(test)]
 mod orec_tests;
 #[cfg(test)]
+mod replies_tests;
+#[cfg(test)]
 mod ring_tests;
 #[cfg(test)]
 mod step_tests;

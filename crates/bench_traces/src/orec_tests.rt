@@ -1,6 +1,6 @@
 //! Attempts that run beside each other over versioned records.
+use bench_cases::Status;
 use bench_cases::cases::{Case, check, outcome, workload};
-use bench_core::status::Status;
 use std::test::Fail;
 
 /// Traces of OrecLazy, each with its report.

@@ -1,6 +1,6 @@
 //! Attempts that run beside each other over the ring of write filters.
+use bench_cases::Status;
 use bench_cases::cases::{Case, check, lines, outcome, workload};
-use bench_core::status::Status;
 use std::test::Fail;
 
 /// Traces of RingSW, each with its report.

@@ -1,6 +1,6 @@
 //! `step` over a text: the trace, and what stands behind it.
+use bench_cases::Status;
 use bench_cases::cases::{Case, check};
-use bench_core::status::Status;
 use std::alloc::Global;
 use std::process::Abort;
 use std::sync::Wait;

@@ -11,3 +11,5 @@ mod tx_atomic_tests;
 mod tx_backoff_tests;
 #[cfg(test)]
 mod tx_start_tests;
+#[cfg(test)]
+mod waiting_tests;

@@ -1,6 +1,6 @@
 -- THE DRAWING: a box for each line of the trace, and the shapes that its lines tell together.
 use Rattle.std.specs.Prelude.{ℕ, ◌+◌, ◌-◌, ◌==◌, min, Bool, true, false, ◌&&◌, ltb, if◌then◌else◌, List, [], ◌∷◌, length, take, drop, Option, Some, None, codes}
-use Rattle.stm_model.specs.Algorithms.{closes_gate, is_sure}
+use Rattle.stm_model.specs.Algorithms.{closes_gate, irrevocable_under}
 use Rattle.stm_model.specs.declared.alg.Alg.{Alg}
 use Rattle.stm_trace.specs.declared.line.Line.{Line}
 use Rattle.stm_trace.specs.declared.line.Line.TheVariants.{Of, Finish}
@@ -109,7 +109,7 @@ closing_at row lane kind bs = None
 -- an attempt is irrevocable from its begin, or from the line that says so
 abbrev pub promotion_at : ℕ → ℕ → Kind → List Box → Option Shape
 promotion_at row lane (Begins alg) bs =
-    if is_sure alg false false then Some (Irrevocable lane row (more (before End lane bs) bs)) else irrevocable_part lane (part Promotion row lane bs)
+    if irrevocable_under alg false false then Some (Irrevocable lane row (more (before End lane bs) bs)) else irrevocable_part lane (part Promotion row lane bs)
 promotion_at row lane kind bs = None
 
 -- no box of this caller is left

@@ -200,7 +200,7 @@ fn promotion_at(row: usize, lane: usize, kind: Kind, rest: &[Line]) -> Option<Sh
 {
     match kind {
         Kind::Begins(alg) => {
-            if alg.is_sure(false, false) {
+            if alg.irrevocable_under(false, false) {
                 return Some(Shape::Irrevocable {
                     lane,
                     from: row,

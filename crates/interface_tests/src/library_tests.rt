@@ -23,9 +23,9 @@ impl MemRule for Shelf {
     ghost good = { λ shelf memory. slice_index memory 0 + slice_index memory 1 ≤ shelf.room };
 }
 
-/// Begins an attempt, which is to be irrevocable where it is `sure`. Answers whether it runs; else it is to be
+/// Begins an attempt, which asks to be irrevocable where `irrevocable` says so. Answers whether it runs; else it is to be
 /// tried again.
-fn begin(desc: &mut Desc<Shelf>, stm: &Stm<Shelf>, sure: bool) -> bool
+fn begin(desc: &mut Desc<Shelf>, stm: &Stm<Shelf>, irrevocable: bool) -> bool
     requires stm { IsOf desc.old stm.now }
     requires idle { IsIdle (known desc.old) }
     requires plain { stm.now.config.fence ≡ false }
@@ -36,7 +36,7 @@ fn begin(desc: &mut Desc<Shelf>, stm: &Stm<Shelf>, sure: bool) -> bool
     let Begin::Begun(_) = try_begin(desc, stm) else {
         return false;
     };
-    if !sure {
+    if !irrevocable {
         return true;
     }
     match try_irrevocable(desc, stm) {
@@ -51,7 +51,12 @@ fn begin(desc: &mut Desc<Shelf>, stm: &Stm<Shelf>, sure: bool) -> bool
 
 /// One attempt to put a piece on a stock, 0 or 1. Answers whether there was room for it, or None where it is
 /// to be tried again.
-fn try_put(desc: &mut Desc<Shelf>, stm: &Stm<Shelf>, stock: usize, sure: bool) -> Option<bool>
+fn try_put(
+    desc: &mut Desc<Shelf>,
+    stm: &Stm<Shelf>,
+    stock: usize,
+    irrevocable: bool,
+) -> Option<bool>
     requires stm { IsOf desc.old stm.now }
     requires idle { IsIdle (known desc.old) }
     requires stock { (stock < 2) × (1 < stm.now.config.words) }
@@ -59,7 +64,7 @@ fn try_put(desc: &mut Desc<Shelf>, stm: &Stm<Shelf>, stock: usize, sure: bool) -
     ensures same { IsSameCaller desc.old desc.new }
     ensures idle { IsIdle (known desc.new) }
 {
-    if !begin(desc, stm, sure) {
+    if !begin(desc, stm, irrevocable) {
         return None;
     }
     let Read::Value(left) = read(desc, stm, 0) else {
@@ -98,8 +103,8 @@ fn put(desc: &mut Desc<Shelf>, stm: &Stm<Shelf>, stock: usize, attempts: u32) ->
     ensures idle { IsIdle (known desc.new) }
 {
     for attempt in 0..attempts {
-        let sure = attempt + 1 == attempts;
-        if let Some(had_room) = try_put(desc, stm, stock, sure) {
+        let irrevocable = attempt + 1 == attempts;
+        if let Some(had_room) = try_put(desc, stm, stock, irrevocable) {
             return Some(had_room);
         }
     }

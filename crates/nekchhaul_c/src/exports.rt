@@ -3,7 +3,7 @@ ghost use Rattle.std.specs.Prelude.{◌≡◌};
 ghost use Rattle.nekchhaul_c.specs.Codes.{begin_code, read_code, read_value, write_code, commit_code, cancel_code, grant_code, switch_code};
 ghost use Rattle.nekchhaul_c.specs.Says.{Holds, LetsGo, Says, SaysWord, SwitchSays, algorithm_numbered};
 ghost use Rattle.tx_checked.specs.Misuses.{outside, inside, running, access};
-ghost use Rattle.tx_checked.specs.Tells.{HasBegun, HasReadWord, HasWrittenWord, HasCommitted, HasCancelled, IsSure, HasSwitched};
+ghost use Rattle.tx_checked.specs.Tells.{HasBegun, HasReadWord, HasWrittenWord, HasCommitted, HasCancelled, IsIrrevocable, HasSwitched};
 
 use crate::handle::Handle;
 use crate::status;
@@ -90,7 +90,7 @@ pub extern "C" fn nekchhaul_cancel(alloc: Global, caller: &mut Handle) -> u32
 /// Tries to make the attempt irrevocable.
 #[unsafe(no_mangle)]
 pub extern "C" fn nekchhaul_become_irrevocable(alloc: Global, caller: &mut Handle) -> u32
-    ensures { Holds (result ≡ 16) (Says grant_code running IsSure result) caller.old.inside caller.new.inside }
+    ensures { Holds (result ≡ 16) (Says grant_code running IsIrrevocable result) caller.old.inside caller.new.inside }
 {
     let Some(mut member) = caller.take(alloc) else {
         return status::NO_CALLER;

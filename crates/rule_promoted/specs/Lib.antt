@@ -5,3 +5,4 @@ pub mod OrecGranted
 pub mod PromotedRuns
 pub mod QuittingSteps
 pub mod QuittingLaws
+pub mod ReleaseRanks

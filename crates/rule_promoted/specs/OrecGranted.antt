@@ -36,11 +36,11 @@ module _ (home : ℕ → ℕ) (words : ℕ) where
 
 -- THE GRANT: the attempt is validated at t, which is the clock
 pub orec-granted : (c : Config) (alg : Alg) (n t : ℕ) (w x : World) (v : View) → has_records alg ≡ true → x.views ≡ put w.views n v → x.clock ≡ w.clock → x.heap ≡ w.heap → x.history ≡ w.history → x.base ≡ w.base → x.records ≡ w.records
-    → v.attempt ≡ direct_attempt t (w.views n) → v.owned ≡ direct_owned (w.views n).owned → v.history.front ≡ t → t ≡ w.clock
+    → v.attempt ≡ direct_attempt t (w.views n) → v.owned ≡ direct_owned (w.views n).owned → v.history.front ≡ t → v.lock.taken ≡ false → t ≡ w.clock
     → (w.views n).owned.inside ≡ true → (w.views n).owned.committed ≡ false → HasStores c.words (w.views n)
     → ((m : ℕ) → m ≢ n → (w.views m).owned.inside ≡ true → ⊥) → ((a : ℕ) → over (w.views n).attempt.reads a (word_at w.history t a) ≡ word_at w.history t a) → Full (home_of c) c.words (orec_scene w)
     → DirectRuns c alg n (run_scene x)
-orec-granted c alg n t w x v has is clock heap history base records attempt owned front now i d stores alone sees g = record {
+orec-granted c alg n t w x v has is clock heap history base records attempt owned front unlocked now i d stores alone sees g = record {
   direct = subst (DirectRule c.words) (sym at) direct;
   suits = suits alg has;
   ring = λ e. absurd (let f : has_records RingSw ≡ true = ap has_records (sym e) ∙ has in cc);
@@ -58,20 +58,26 @@ orec-granted c alg n t w x v has is clock heap history base records attempt owne
       reads_inside = own.attempt.reads_inside;
       stores_inside = stores.inside;
       stores_small = stores.small;
+      unlocked = unlocked;
     }
 
     at : direct_scene n x ≡ record { clock = w.clock; heap = w.heap; history = w.history; own = record { attempt = direct_attempt t (w.views n); lock = v.lock; tml = v.tml; front = t } }
     at = direct_scene-own w x n v is ∙ (λ k. record { clock = clock k; heap = heap k; history = history k; own = record { attempt = attempt k; lock = v.lock; tml = v.tml; front = front k } })
 
-    orec : OrecSuits (home_of c) (record { clock = w.clock; base = w.base; records = w.records; history = w.history; own = record { attempt = direct_attempt t (w.views n); lock = v.lock; tml = v.tml; owned = direct_owned (w.views n).owned } })
-    orec = record { stamped = λ e a b. let s = g.whole.stamped a b in subst (λ (k : ℕ). 2 * last_write w.history a ≤ k) (alone-rank (home_of c) c.words (orec_scene w) n alone g (home_of c a) ∙ same (home_of c a) (rec_of (w.records (home_of c a)))) s }
+    orec : OrecSuits (home_of c) (record { clock = w.clock; base = w.base; records = w.records; history = w.history; own = record { attempt = direct_attempt t (w.views n); tml = v.tml; owned = direct_owned (w.views n).owned } })
+    orec = record {
+      stamped = λ e a b. let s = g.whole.stamped a b in subst (λ (k : ℕ). 2 * last_write w.history a ≤ k) (alone-rank (home_of c) c.words (orec_scene w) n alone g (home_of c a) ∙ same (home_of c a) (rec_of (w.records (home_of c a)))) s;
+      uncommitted = d;
+      olds = own.owned.olds;
+      older = λ e. absurd cc;
+    }
       where
         same : (r : ℕ) (k : Rec) → rank_one (w.views n).owned r k ≡ rank_one (direct_owned (w.views n).owned) r k
         same r (Free u) = refl
         same r (Taken m) = refl
 
-    suit_at : suit_scene n x ≡ record { clock = w.clock; base = w.base; records = w.records; history = w.history; own = record { attempt = direct_attempt t (w.views n); lock = v.lock; tml = v.tml; owned = direct_owned (w.views n).owned } }
-    suit_at = suit_scene-own w x n v is ∙ (λ k. record { clock = clock k; base = base k; records = records k; history = history k; own = record { attempt = attempt k; lock = v.lock; tml = v.tml; owned = owned k } })
+    suit_at : suit_scene n x ≡ record { clock = w.clock; base = w.base; records = w.records; history = w.history; own = record { attempt = direct_attempt t (w.views n); tml = v.tml; owned = direct_owned (w.views n).owned } }
+    suit_at = suit_scene-own w x n v is ∙ (λ k. record { clock = clock k; base = base k; records = records k; history = history k; own = record { attempt = attempt k; tml = v.tml; owned = owned k } })
 
     suits : (a : Alg) → has_records a ≡ true → Suits (home_of c) a (suit_scene n x)
     suits Cgl e = absurd cc

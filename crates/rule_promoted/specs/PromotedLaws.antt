@@ -1,6 +1,6 @@
 -- Each kind of step of a promoted attempt keeps its clauses, and the attempt of TML that is granted meets them.
-use Rattle.std.proofs.Common.{◌≡◌, ◌≢◌, ℕ, ◌+◌, ◌<◌, ◌≤◌, List, ◌∷◌, Bool, true, false, eqb, arith, refl, sym, subst, ap, ◌∙◌, le_refl, le_trans, ◌*◌}
-use Rattle.std.specs.Prelude.{◌^◌, ◌%◌, length}
+use Rattle.std.proofs.Common.{◌≡◌, ◌≢◌, ℕ, ◌+◌, ◌<◌, ◌≤◌, List, ◌∷◌, Bool, true, false, eqb, arith, refl, sym, subst, ap, ◌∙◌, le_refl, le_trans, ◌*◌, inl, inr, ⊎_elim}
+use Rattle.std.specs.Prelude.{◌^◌, ◌%◌, ◌⊎◌, length}
 use Rattle.std.proofs.lemmas.Bool.{eqb-true, eqb-false}
 use Rattle.stm_model.specs.declared.alg.Alg.{Alg}
 use Rattle.stm_model.specs.declared.alg.Alg.TheVariants.{Cgl, Tml, OrecLazy, OrecEager, RingSw, Serial}
@@ -9,12 +9,12 @@ use Rattle.rule_base.specs.declared.entries.Entry.{Entry}
 use Rattle.stm_model.specs.declared.config.Config.{Config}
 use Rattle.rule_base.specs.declared.views.Ownership.{Ownership}
 use Rattle.rule_base.specs.declared.views.View.{View}
-use Rattle.rule_base.specs.History.{over, word_now, Inside, Below, upto, Follows, last_write}
+use Rattle.rule_base.specs.History.{over, touches, without, word_now, Inside, Below, upto, Follows, last_write}
 use Rattle.rule_base.specs.RunScene.{run_view, run_scene}
 use Rattle.rule_base.specs.Encodings.{free_record}
 use Rattle.rule_base.specs.StepKinds.{view_after, world_after, Nothing, StepLaw}
 use Rattle.rule_base.specs.World.{World, put, parts}
-use Rattle.rule_base.specs.HistoryLemmas.{word_at-all, inside-more, small-more, below-more, upto-all, legal-good, legal-small}
+use Rattle.rule_base.specs.HistoryLemmas.{touches-without, over-without, word_at-all, inside-more, small-more, below-more, upto-all, legal-good, legal-small}
 use Rattle.rule_base.specs.HistoryRuleLemmas.{advances-same, advances-entry, history-kept, history-entry}
 use Rattle.rule_base.specs.PutLemmas.{put-all, put-here, parts-put}
 use Rattle.rule_base.specs.RecordLemmas.{records-stay, records-given}
@@ -40,14 +40,24 @@ suit_scene-own w x n v is = λ i. record { clock = x.clock; base = x.base; recor
 
 -- what a step of the attempt leaves alone
 pub record Alike (s t : SuitScene) : Type 0 where
-  pub lock : t.own.lock.taken ≡ s.own.lock.taken
   pub tml : t.own.tml.writer ≡ s.own.tml.writer
   -- the stamps, but after the entry
   pub base : s.base ≤ t.base
   pub stamps : t.own.attempt.entered ≡ false → (t.history ≡ s.history) × (t.records ≡ s.records) × (t.own.owned ≡ s.own.owned) × (s.own.attempt.entered ≡ false)
+  -- the clock doesn't fall, and rises with the entry
+  pub clock : s.clock ≤ t.clock
+  pub entered : t.own.attempt.entered ≡ true → (s.own.attempt.entered ≡ true) ⊎ (s.clock < t.clock)
+  -- what it holds it held, with that old version
+  pub held : (r : ℕ) → touches t.own.owned.held r ≡ true → (touches s.own.owned.held r ≡ true) × (over t.own.owned.held r 0 ≡ over s.own.owned.held r 0)
+  pub committed : t.own.owned.committed ≡ s.own.owned.committed
 
 orec-alike : (home : ℕ → ℕ) (s t : SuitScene) → Alike s t → OrecSuits home s → OrecSuits home t
-orec-alike home s t l k = record { stamped = λ e a b. go (l.stamps e) a b }
+orec-alike home s t l k = record {
+  stamped = λ e a b. go (l.stamps e) a b;
+  uncommitted = l.committed ∙ k.uncommitted;
+  olds = λ r h. let p = l.held r h in let same = p.1 in let old = k.olds r p.0 in let up = l.clock in omega arith;
+  older = λ e r h. let p = l.held r h in let same = p.1 in ⊎_elim (λ was. let old = k.older was r p.0 in let up = l.clock in omega arith) (λ up. let old = k.olds r p.0 in omega arith) (l.entered e);
+}
   where
     go : (t.history ≡ s.history) × (t.records ≡ s.records) × (t.own.owned ≡ s.own.owned) × (s.own.attempt.entered ≡ false) → (a : ℕ) → t.base < last_write t.history a → 2 * last_write t.history a ≤ rank_one t.own.owned (home a) (rec_of (t.records (home a)))
     go q a b = let was : s.base < last_write s.history a = let o = l.base in let same : last_write t.history a ≡ last_write s.history a = ap (λ (h : List Entry). last_write h a) q.0 in omega arith in
@@ -58,7 +68,7 @@ orec-alike home s t l k = record { stamped = λ e a b. go (l.stamps e) a b }
 -- a number of the clock that suits
 pub suits-later : (home : ℕ → ℕ) (alg : Alg) (s t : SuitScene) → t.clock % 2 ≡ s.clock % 2 → Alike s t → Suits home alg s → Suits home alg t
 suits-later home Cgl s t clock l k = k
-suits-later home Tml s t clock l k = record { even = clock ∙ k.even; unlocked = l.lock ∙ k.unlocked; unwritten = l.tml ∙ k.unwritten }
+suits-later home Tml s t clock l k = record { even = clock ∙ k.even; unwritten = l.tml ∙ k.unwritten }
 suits-later home OrecLazy s t clock l k = orec-alike home s t l k
 suits-later home OrecEager s t clock l k = orec-alike home s t l k
 suits-later home RingSw s t clock l k = k
@@ -96,8 +106,9 @@ tml-granted c n w r below inside reads unlocked others now = record {
     reads_inside = h.reads_inside;
     stores_inside = subst (Inside c.words) (sym (h.unstored reads)) (λ a f. absurd cc);
     stores_small = λ a d l. subst (λ (k : List Cell). over k a d < 2 ^ 64) (sym (h.unstored reads)) l;
+    unlocked = unlocked;
   };
-  suits = record { even = (r.free nobody).0; unlocked = unlocked; unwritten = reads };
+  suits = record { even = (r.free nobody).0; unwritten = reads };
   ring = λ e. absurd cc;
 }
   where
@@ -146,8 +157,9 @@ module _ (good : (ℕ → ℕ) → Type 0) (c : Config) (alg : Alg) (n : ℕ) wh
           reads_inside = logged_inside c.words (w.views n).attempt a (w.heap a) may.inside d.reads_inside;
           stores_inside = d.stores_inside;
           stores_small = d.stores_small;
+          unlocked = d.unlocked;
         });
-        suits = subst (Suits (home_of c) alg) (sym (suit_scene-own w x n v refl)) (suits-later (home_of c) alg (suit_scene n w) (record (suit_scene n w) { own = suit_view v }) refl (record { lock = refl; tml = refl; base = le_refl w.base; stamps = λ e. (refl, refl, refl, e) }) r.runs.suits);
+        suits = subst (Suits (home_of c) alg) (sym (suit_scene-own w x n v refl)) (suits-later (home_of c) alg (suit_scene n w) (record (suit_scene n w) { own = suit_view v }) refl (record { tml = refl; base = le_refl w.base; stamps = λ e. (refl, refl, refl, e); clock = le_refl w.clock; entered = λ e. inl e; held = λ r t. (t, refl); committed = refl }) r.runs.suits);
         ring = λ e. subst (RingKeeps c.ring n) (sym (scene_put w x n v refl refl refl refl refl refl refl refl refl)) (keeps-put c.ring n n (run_scene w) w.heap (run_view v) refl (λ d. absurd (d refl)) (r.runs.ring e));
       };
     };
@@ -181,8 +193,9 @@ module _ (good : (ℕ → ℕ) → Type 0) (c : Config) (alg : Alg) (n : ℕ) wh
           reads_inside = d.reads_inside;
           stores_inside = inside-more c.words (record { at = a; value = k }) (w.views n).attempt.stores may.inside d.stores_inside;
           stores_small = small-more (record { at = a; value = k }) (w.views n).attempt.stores may.small d.stores_small;
+          unlocked = d.unlocked;
         });
-        suits = subst (Suits (home_of c) alg) (sym (suit_scene-own w x n v refl)) (suits-later (home_of c) alg (suit_scene n w) (record (suit_scene n w) { own = suit_view v }) refl (record { lock = refl; tml = refl; base = le_refl w.base; stamps = λ e. (refl, refl, refl, e) }) r.runs.suits);
+        suits = subst (Suits (home_of c) alg) (sym (suit_scene-own w x n v refl)) (suits-later (home_of c) alg (suit_scene n w) (record (suit_scene n w) { own = suit_view v }) refl (record { tml = refl; base = le_refl w.base; stamps = λ e. (refl, refl, refl, e); clock = le_refl w.clock; entered = λ e. inl e; held = λ r t. (t, refl); committed = refl }) r.runs.suits);
         ring = λ e. subst (RingKeeps c.ring n) (sym (scene_put w x n v refl refl refl refl refl refl refl refl refl)) (keeps-put c.ring n n (run_scene w) (put w.heap a k) (run_view v) refl (λ d. absurd (d refl)) (r.runs.ring e));
       };
     };
@@ -217,8 +230,9 @@ module _ (good : (ℕ → ℕ) → Type 0) (c : Config) (alg : Alg) (n : ℕ) wh
           reads_inside = λ a f. absurd cc;
           stores_inside = λ a f. absurd cc;
           stores_small = λ a d l. l;
+          unlocked = d.unlocked;
         });
-        suits = subst (Suits (home_of c) alg) (sym (suit_scene-own w x n v refl)) (suits-ticked (home_of c) alg (suit_scene n w) (record { clock = t; base = w.base; records = w.records; history = e ∷ w.history; own = suit_view v }) next (record { lock = refl; tml = refl; base = le_refl w.base; stamps = λ f. absurd cc }) r.runs.suits);
+        suits = subst (Suits (home_of c) alg) (sym (suit_scene-own w x n v refl)) (suits-ticked (home_of c) alg (suit_scene n w) (record { clock = t; base = w.base; records = w.records; history = e ∷ w.history; own = suit_view v }) next (record { tml = refl; base = le_refl w.base; stamps = λ f. absurd cc; clock = (let k = later in omega arith); entered = λ f. inr later; held = λ r t. (t, refl); committed = refl }) r.runs.suits);
         ring = λ q. let o = r.runs.ring q in record {
           base = le_trans o.base (let k = later in omega arith);
           done = le_trans o.done (let k = later in omega arith);
@@ -283,8 +297,8 @@ module _ (good : (ℕ → ℕ) → Type 0) (c : Config) (alg : Alg) (n : ℕ) wh
       attempts = attempts-stay w x n v refl refl refl refl r.attempts;
       records = records-given w x n q t v refl refl refl refl refl (subst (λ (k : ℕ). t ≤ k) d.start (subst (λ (k : ℕ). t ≤ k) may.time (le_refl t))) r.records;
       runs = record {
-        direct = subst (DirectRule c.words) (sym (direct_scene-own w x n v refl)) (record { stored = d.stored; start = d.start; front = d.front; sees = d.sees; reads_inside = d.reads_inside; stores_inside = d.stores_inside; stores_small = d.stores_small });
-        suits = subst (Suits (home_of c) alg) (sym (suit_scene-own w x n v refl)) (suits-later (home_of c) alg (suit_scene n w) (record { clock = w.clock; base = w.base; records = put w.records q (free_record t); history = w.history; own = suit_view v }) refl (record { lock = refl; tml = refl; base = le_refl w.base; stamps = λ f. absurd (let k : true ≡ false = sym may.entered ∙ f in cc) }) r.runs.suits);
+        direct = subst (DirectRule c.words) (sym (direct_scene-own w x n v refl)) (record { stored = d.stored; start = d.start; front = d.front; sees = d.sees; reads_inside = d.reads_inside; stores_inside = d.stores_inside; stores_small = d.stores_small; unlocked = d.unlocked });
+        suits = subst (Suits (home_of c) alg) (sym (suit_scene-own w x n v refl)) (suits-later (home_of c) alg (suit_scene n w) (record { clock = w.clock; base = w.base; records = put w.records q (free_record t); history = w.history; own = suit_view v }) refl (record { tml = refl; base = le_refl w.base; stamps = λ f. absurd (let k : true ≡ false = sym may.entered ∙ f in cc); clock = le_refl w.clock; entered = λ f. inl may.entered; held = less; committed = refl }) r.runs.suits);
         ring = λ e. let o = r.runs.ring e in record {
           base = o.base;
           done = o.done;
@@ -309,3 +323,7 @@ module _ (good : (ℕ → ℕ) → Type 0) (c : Config) (alg : Alg) (n : ℕ) wh
 
       d : DirectRule c.words (direct_scene n w)
       d = r.runs.direct
+
+      -- what is held still was held
+      less : (r : ℕ) → touches (without (w.views n).owned.held q) r ≡ true → (touches (w.views n).owned.held r ≡ true) × (over (without (w.views n).owned.held q) r 0 ≡ over (w.views n).owned.held r 0)
+      less r h = (grind (arith, h, touches-without (w.views n).owned.held q r), grind (arith, h, touches-without (w.views n).owned.held q r, over-without (w.views n).owned.held q r 0))

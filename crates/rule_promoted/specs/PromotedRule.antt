@@ -1,5 +1,5 @@
 -- The clauses of a promoted attempt, under each algorithm that promotes: it is alone, and works in place.
-use Rattle.std.specs.Prelude.{ℕ, ◌≡◌, ◌%◌, ◌*◌, ◌<◌, ◌≤◌, false, List}
+use Rattle.std.specs.Prelude.{ℕ, ◌≡◌, ◌%◌, ◌*◌, ◌<◌, ◌≤◌, true, false, List}
 use Rattle.stm_model.specs.declared.alg.Alg.{Alg}
 use Rattle.stm_model.specs.declared.alg.Alg.TheVariants.{Cgl, Tml, OrecLazy, OrecEager, RingSw, Serial}
 use Rattle.rule_base.specs.declared.entries.Entry.{Entry}
@@ -9,7 +9,7 @@ use Rattle.rule_base.specs.declared.views.LockView.{LockView}
 use Rattle.rule_base.specs.declared.views.TmlView.{TmlView}
 use Rattle.rule_base.specs.declared.views.Ownership.{Ownership}
 use Rattle.rule_base.specs.declared.views.View.{View}
-use Rattle.rule_base.specs.History.{over, word_now, last_write, Inside, Small, Explains}
+use Rattle.rule_base.specs.History.{over, touches, word_now, last_write, Inside, Small, Explains}
 use Rattle.rule_base.specs.Ranks.{rec_of, rank_one, home_of}
 use Rattle.rule_base.specs.RunScene.{RunScene}
 use Rattle.rule_base.specs.World.{World}
@@ -46,16 +46,17 @@ pub record DirectRule (words : ℕ) (s : DirectScene) : Type 0 where
   pub reads_inside : Inside words s.own.attempt.reads
   pub stores_inside : Inside words s.own.attempt.stores
   pub stores_small : Small s.own.attempt.stores
+  -- a promotion takes the gate and no lock, and no attempt that has the lock is promoted
+  pub unlocked : s.own.lock.taken ≡ false
 
 -- what the algorithm's own clauses of a promoted attempt see
 pub record SuitView : Type 0 where
   pub attempt : Attempt
-  pub lock : LockView
   pub tml : TmlView
   pub owned : Ownership
 
 abbrev pub suit_view : View → SuitView
-suit_view v = record { attempt = v.attempt; lock = v.lock; tml = v.tml; owned = v.owned }
+suit_view v = record { attempt = v.attempt; tml = v.tml; owned = v.owned }
 
 pub record SuitScene : Type 0 where
   pub clock : ℕ
@@ -70,12 +71,15 @@ suit_scene n w = record { clock = w.clock; base = w.base; records = w.records; h
 -- what the algorithm takes back when the attempt is over
 pub record TmlSuits (s : SuitScene) : Type 0 where
   pub even : s.clock % 2 ≡ 0
-  pub unlocked : s.own.lock.taken ≡ false
   pub unwritten : s.own.tml.writer ≡ false
 
 -- while the attempt has no entry the stamps vouch as before; afterwards nobody looks at them until BASE has its time
 pub record OrecSuits (home : ℕ → ℕ) (s : SuitScene) : Type 0 where
   pub stamped : s.own.attempt.entered ≡ false → (a : ℕ) → s.base < last_write s.history a → 2 * last_write s.history a ≤ rank_one s.own.owned (home a) (rec_of (s.records (home a)))
+  -- what it holds had versions at most the clock, and older ones once it has raised the clock: given back with that number no stamp falls
+  pub uncommitted : s.own.owned.committed ≡ false
+  pub olds : (r : ℕ) → touches s.own.owned.held r ≡ true → over s.own.owned.held r 0 ≤ s.clock
+  pub older : s.own.attempt.entered ≡ true → (r : ℕ) → touches s.own.owned.held r ≡ true → over s.own.owned.held r 0 < s.clock
 
 -- by the algorithm: of its own part; under CGL and Serial nothing is promoted
 abbrev pub Suits : (ℕ → ℕ) → Alg → SuitScene → Type 0
@@ -91,7 +95,7 @@ abbrev pub direct_part : ℕ → RunScene → DirectScene
 direct_part n s = record { clock = s.clock; heap = s.heap; history = s.history; own = record { attempt = (s.views n).attempt; lock = (s.views n).lock; tml = (s.views n).tml; front = (s.views n).front } }
 
 abbrev pub suit_part : ℕ → RunScene → SuitScene
-suit_part n s = record { clock = s.clock; base = s.base; records = s.records; history = s.history; own = record { attempt = (s.views n).attempt; lock = (s.views n).lock; tml = (s.views n).tml; owned = (s.views n).owned } }
+suit_part n s = record { clock = s.clock; base = s.base; records = s.records; history = s.history; own = record { attempt = (s.views n).attempt; tml = (s.views n).tml; owned = (s.views n).owned } }
 
 pub record DirectRuns (c : Config) (alg : Alg) (n : ℕ) (s : RunScene) : Type 0 where
   pub direct : DirectRule c.words (direct_part n s)

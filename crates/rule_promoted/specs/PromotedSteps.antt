@@ -12,7 +12,7 @@ use Rattle.rule_base.specs.InstallSteps.{HasChecked}
 use Rattle.rule_base.specs.StepKinds.{StepKind, same_history}
 use Rattle.rule_base.specs.declared.views.Act.TheVariants.{Load, Store}
 use Rattle.rule_seq.specs.CglSteps.{logged, cgl_entry}
-use Rattle.stm_model.specs.Algorithms.{entry_rise}
+use Rattle.stm_model.specs.Algorithms.{entry_rise, has_records}
 use Rattle.rule_ring.specs.Filters.{Filters}
 use Rattle.rule_ring.specs.RingSteps.{HasRing, ring_look, moved, ring_move, CanRingMove}
 use Rattle.rule_seq.specs.TmlSteps.{HasTml}
@@ -128,6 +128,7 @@ direct_release r t = record {
 
 pub record CanDirectRelease (r t : ℕ) (v : View) : Type 0 where
   pub granted : v.gate.granted ≡ true
+  pub algorithm : has_records v.gate.algorithm ≡ true
   pub entered : v.attempt.entered ≡ true
   pub held : touches v.owned.held r ≡ true
   pub time : t ≡ v.attempt.start

@@ -1,35 +1,22 @@
 -- The end of a promoted attempt without an entry keeps its clauses.
-use Rattle.std.proofs.Common.{◌≡◌, ◌≢◌, ℕ, ◌+◌, ◌<◌, ◌≤◌, List, ◌∷◌, Bool, true, false, eqb, arith, refl, sym, subst, ap, ◌∙◌, le_refl, le_trans, ◌*◌}
-use Rattle.std.specs.Prelude.{◌^◌, ◌%◌, length}
-use Rattle.std.proofs.lemmas.Bool.{eqb-true, eqb-false}
+use Rattle.std.proofs.Common.{◌≡◌, ◌≢◌, ℕ, ◌+◌, ◌<◌, ◌≤◌, List, true, false, arith, refl, sym, subst, ap, ◌∙◌, le_refl, le_trans, inr}
 use Rattle.stm_model.specs.declared.alg.Alg.{Alg}
-use Rattle.stm_model.specs.declared.alg.Alg.TheVariants.{Cgl, Tml, OrecLazy, OrecEager, RingSw, Serial}
 use Rattle.rule_base.specs.declared.entries.Cell.{Cell}
-use Rattle.rule_base.specs.declared.entries.Entry.{Entry}
 use Rattle.stm_model.specs.declared.config.Config.{Config}
-use Rattle.rule_base.specs.declared.views.Ownership.{Ownership}
 use Rattle.rule_base.specs.declared.views.View.{View}
-use Rattle.rule_base.specs.History.{over, word_now, Inside, Below, upto, Follows, last_write}
-use Rattle.rule_base.specs.RunScene.{run_view, run_scene}
-use Rattle.rule_base.specs.Encodings.{free_record}
+use Rattle.rule_base.specs.History.{over, word_now}
 use Rattle.rule_base.specs.StepKinds.{view_after, world_after, Nothing, StepLaw}
-use Rattle.rule_base.specs.World.{World, put, parts}
-use Rattle.rule_base.specs.HistoryLemmas.{word_at-all, inside-more, small-more, below-more, upto-all, legal-good, legal-small}
-use Rattle.rule_base.specs.HistoryRuleLemmas.{advances-same, advances-entry, history-kept, history-entry}
-use Rattle.rule_base.specs.PutLemmas.{put-all, put-here, parts-put}
-use Rattle.rule_base.specs.RecordLemmas.{records-stay, records-given}
-use Rattle.rule_base.specs.Ranks.{rec_of, rank_one, home_of}
-use Rattle.rule_base.specs.StepsLemmas.{steps-kept, steps-raised}
-use Rattle.rule_seq.specs.AttemptLemmas.{attempts-stay, attempts-in}
+use Rattle.rule_base.specs.World.{World, put}
+use Rattle.rule_base.specs.HistoryRuleLemmas.{advances-same}
+use Rattle.rule_base.specs.PutLemmas.{put-all, put-here}
+use Rattle.rule_base.specs.RecordLemmas.{records-stay}
+use Rattle.rule_base.specs.Ranks.{home_of}
+use Rattle.rule_base.specs.StepsLemmas.{steps-raised}
+use Rattle.rule_seq.specs.AttemptLemmas.{attempts-in}
 use Rattle.rule_seq.specs.LockRule.{LockRule}
 use Rattle.rule_seq.specs.LockLemmas.{lock_scene-kept}
-use Rattle.rule_seq.specs.CglLaws.{logged_sees, logged_inside, loads_of}
-use Rattle.rule_seq.specs.CglSteps.{Loads, cgl_entry, Commits}
-use Rattle.rule_promoted.specs.PromotedRule.{direct_view, direct_scene, DirectRule, Suits, DirectRuns, DirectWorld, suit_view, SuitScene, suit_scene, OrecSuits}
+use Rattle.rule_promoted.specs.PromotedRule.{direct_scene, DirectRule, Suits, DirectWorld, suit_view, suit_scene}
 use Rattle.stm_model.specs.Algorithms.{entry_rise}
-use Rattle.rule_ring.specs.RingPromoted.{RingKeeps, keeps-put}
-use Rattle.rule_promoted.specs.PromotedSteps.{direct_load, CanDirectLoad, direct_store, CanDirectStore, direct_commit, CanDirectCommit, direct_release, CanDirectRelease}
-use Rattle.rule_seq.specs.TmlRule.{tml_scene, TmlRule, TmlReader}
 use Rattle.rule_base.specs.HistoryRule.{history_scene}
 use Rattle.rule_base.specs.HistoryRuleLemmas.{history-seen, history-raised}
 use Rattle.rule_promoted.specs.PromotedLaws.{direct_scene-own, suit_scene-own, suits-ticked, entry_rise-some}
@@ -54,8 +41,9 @@ module _ (good : (ℕ → ℕ) → Type 0) (c : Config) (alg : Alg) (n : ℕ) wh
           reads_inside = λ a f. absurd cc;
           stores_inside = λ a f. absurd cc;
           stores_small = λ a d l. l;
+          unlocked = d.unlocked;
         });
-        suits = subst (Suits (home_of c) alg) (sym (suit_scene-own w x n v refl)) (suits-ticked (home_of c) alg (suit_scene n w) (record { clock = t; base = w.base; records = w.records; history = w.history; own = suit_view v }) next (record { lock = refl; tml = refl; base = le_refl w.base; stamps = λ f. absurd cc }) r.runs.suits);
+        suits = subst (Suits (home_of c) alg) (sym (suit_scene-own w x n v refl)) (suits-ticked (home_of c) alg (suit_scene n w) (record { clock = t; base = w.base; records = w.records; history = w.history; own = suit_view v }) next (record { tml = refl; base = le_refl w.base; stamps = λ f. absurd cc; clock = (let k = later in omega arith); entered = λ f. inr later; held = λ r t. (t, refl); committed = refl }) r.runs.suits);
         ring = λ q. let o = r.runs.ring q in record {
           base = le_trans o.base (let k = later in omega arith);
           done = le_trans o.done (let k = later in omega arith);

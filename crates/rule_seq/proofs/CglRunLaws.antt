@@ -9,7 +9,7 @@ use Rattle.rule_base.specs.StepKinds.{world_after}
 use Rattle.rule_base.specs.World.{World}
 use Rattle.rule_seq.specs.CglRule.{CglWorld}
 use Rattle.stm_model.specs.declared.alg.Alg.{Alg}
-use Rattle.stm_model.specs.Algorithms.{takes_lock, is_sure}
+use Rattle.stm_model.specs.Algorithms.{takes_lock, irrevocable_under}
 use Rattle.rule_seq.specs.CglRuns.{CglStep, cgl_kind, CglMay, CglKeepsAlong, CglOpens, CglCommits}
 use Rattle.rule_seq.specs.CglRuns.CglStep.{acquires_lock, loads_start, loads_heap, stores_heap, stores_clock, frees_lock, loads_undo, loads_limit, takes_back}
 use Rattle.rule_seq.specs.CglOpening.{cgl_world-opening}
@@ -41,7 +41,7 @@ cgl_commits_lem good c gates a x phase alg unheld callers clock inside small kee
       (
         (callers, record { has = record { phase = phase; algorithm = ap takes_lock alg; taken = refl }; started = refl; inside = inside }),
         (
-          (callers, record { has = record { phase = phase; algorithm = ap takes_lock alg; taken = refl }; started = refl; inside = inside; small = small; undoable = λ e. absurd (let f : is_sure (gates 0).algorithm false false ≡ true = ap (λ (a : Alg). is_sure a false false) alg in let g : true ≡ false = sym f ∙ e in cc) }),
+          (callers, record { has = record { phase = phase; algorithm = ap takes_lock alg; taken = refl }; started = refl; inside = inside; small = small; undoable = λ e. absurd (let f : irrevocable_under (gates 0).algorithm false false ≡ true = ap (λ (a : Alg). irrevocable_under a false false) alg in let g : true ≡ false = sym f ∙ e in cc) }),
           (
             (callers, record { has = record { phase = phase; algorithm = ap takes_lock alg; taken = refl }; started = refl; free = unheld; time = refl; limit = omega arith; wrote = λ e. cc; keeps = keeps }),
             (

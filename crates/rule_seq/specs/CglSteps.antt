@@ -1,6 +1,6 @@
 -- The kinds of step that CGL takes: what each does, when a seat may take it, and what it shows.
 use Rattle.std.specs.Prelude.{ℕ, ◌≡◌, ◌≢◌, ◌+◌, ◌<◌, ◌≤◌, ◌^◌, ◌==◌, if◌then◌else◌, List, [], ◌∷◌, length, Bool, true, false, ltb}
-use Rattle.stm_model.specs.Algorithms.{takes_lock, is_sure}
+use Rattle.stm_model.specs.Algorithms.{takes_lock, irrevocable_under}
 use Rattle.stm_model.specs.declared.alg.Alg.{Alg}
 use Rattle.rule_base.specs.declared.entries.Cell.{Cell}
 use Rattle.rule_base.specs.declared.entries.Entry.{Entry}
@@ -21,7 +21,7 @@ abbrev pub no_attempt : Attempt
 no_attempt = record { start = 0; reads = []; stores = []; entered = false }
 
 abbrev pub fresh_lock : Alg → LockView
-fresh_lock alg = record { taken = true; started = false; clocked = false; undo = []; irrevocable = is_sure alg false false }
+fresh_lock alg = record { taken = true; started = false; clocked = false; undo = []; irrevocable = irrevocable_under alg false false }
 
 abbrev pub no_lock : LockView
 no_lock = record { taken = false; started = false; clocked = false; undo = []; irrevocable = false }

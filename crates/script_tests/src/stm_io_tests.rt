@@ -1,6 +1,7 @@
 //! What no clause says: worked runs, std's readers and writers, and calls that have to succeed.
 use std::io;
 use std::io::{ErrorKind, Read, Write};
+use std::process::Abort;
 use std::test::Fail;
 use stm_io::adapters::{ReadSource, WriteSink};
 use stm_io::ends::{Failed, Sink, Source};
@@ -56,10 +57,8 @@ impl Write for FaultyWriter {
     }
 }
 
-#[test]
-fn memory_ends_fail_where_listed(rt: HostRuntime) -> Result<(), Fail> {
-    let failing = [1u64, 3].to_vec(rt.alloc())?;
-    let mut source = MemSource::new(b"abcdef".to_vec(rt.alloc())?, failing);
+/// Takes of four bytes at most from six, where the calls 1 and 3 fail.
+fn check_takes(rt: &impl Abort, source: &mut MemSource) {
     let takes: [(Result<usize, Failed>, &[u8]); 5] = [
         (Ok(4), b"ef"),
         (Err(Failed), b"ef"),
@@ -74,9 +73,10 @@ fn memory_ends_fail_where_listed(rt: HostRuntime) -> Result<(), Fail> {
     }
     assert_eq!(rt; buf, *b"efcd");
     assert_eq!(rt; source.faults(), 2);
+}
 
-    let failing = [0u64, 2].to_vec(rt.alloc())?;
-    let mut sink = MemSink::new(rt.alloc(), 5, failing)?;
+/// Puts into room for five bytes, where the calls 0 and 2 fail.
+fn check_puts(rt: &impl Abort, sink: &mut MemSink) {
     let puts: [(&[u8], Result<usize, Failed>, &[u8]); 6] = [
         (b"abc", Err(Failed), b""),
         (b"abc", Ok(3), b"abc"),
@@ -90,6 +90,16 @@ fn memory_ends_fail_where_listed(rt: HostRuntime) -> Result<(), Fail> {
         assert_eq!(rt; sink.held(), held);
     }
     assert_eq!(rt; sink.faults(), 3);
+}
+
+#[test]
+fn memory_ends_fail_where_listed(rt: HostRuntime) -> Result<(), Fail> {
+    let failing = [1u64, 3].to_vec(rt.alloc())?;
+    let mut source = MemSource::new(b"abcdef".to_vec(rt.alloc())?, failing);
+    check_takes(&rt, &mut source);
+    let failing = [0u64, 2].to_vec(rt.alloc())?;
+    let mut sink = MemSink::new(rt.alloc(), 5, failing)?;
+    check_puts(&rt, &mut sink);
     Ok(())
 }
 

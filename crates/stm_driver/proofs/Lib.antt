@@ -10,6 +10,8 @@ mod ThreadLaws
 mod IdleLaws
 mod PreparedLaws
 mod StandingLaws
+mod KindLaws
+mod AlongLaws
 mod ReportLaws
 mod SortLaws
 mod GatherLaws

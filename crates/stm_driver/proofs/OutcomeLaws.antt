@@ -40,7 +40,7 @@ use Rattle.stm_driver.proofs.LimitLaws.{MetSome, full, cut}
 use Rattle.stm_driver.proofs.PartingLaws.{all-cons, written}
 use Rattle.stm_driver.proofs.PartLaws.{ran-some}
 use Rattle.stm_driver.proofs.PreparedLaws.{AreOwn, Begun, begun, own-callers, own-same, sizes-of}
-use Rattle.stm_driver.proofs.ReportLaws.{shown, history-of}
+use Rattle.stm_driver.proofs.ReportLaws.{shown, shown-some, history-of}
 use Rattle.stm_driver.proofs.ScheduleLaws.{same-length}
 use Rattle.stm_driver.proofs.StandingLaws.{Each, Stood, stood-each, rows-few}
 use Rattle.stm_driver.proofs.WorkersLaws.{workers-length}
@@ -225,7 +225,7 @@ module _ {K : Type 0} (good : List ℕ → Type 0) (policy : Policy) (w : Worklo
           header = refl;
           each = λ n lt. ([], (items_of n w.items, sym (append-nil (items_of n w.items)), inl refl));
           report = report;
-          shown = subst (λ (p : Policy). IsShown p w report closed) ruled (shown good policy w stm items sized theorem forms ran r.words closed report (stands ran t) t.count d.1 r.closes r.is);
+          shown = shown-some w.header.policy w report closed (subst (λ (p : Policy). IsShown p w report closed) ruled (shown good policy w stm items sized theorem forms ran r.words closed report (stands ran t) t.count d.1 r.closes r.is));
         };
       }
 

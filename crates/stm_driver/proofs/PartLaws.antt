@@ -1,8 +1,8 @@
 -- What was done before a full clock is a whole run of a part of the workload.
-use Rattle.std.proofs.Common.{ℕ, suc, ◌≡◌, ◌<◌, ◌≤◌, ◌+◌, Bool, true, false, List, [], ◌∷◌, ◌++◌, length, map, refl, sym, ap, ◌∙◌, arith, subst, append_assoc, inl, inr}
+use Rattle.std.proofs.Common.{ℕ, suc, ◌≡◌, ◌<◌, ◌≤◌, ◌+◌, Bool, true, false, List, [], ◌∷◌, ◌++◌, length, map, refl, sym, ap, ◌∙◌, arith, subst, inl, inr}
 use Rattle.std.specs.Prelude.{◌⊎◌, ◌==◌, if◌then◌else◌, All, Contains, sum_by}
 use Rattle.std.proofs.lemmas.Bool.Decides.{nat_tests}
-use Rattle.std.proofs.lemmas.List.{append-nil, length-map}
+use Rattle.std.proofs.lemmas.List.{append-nil, length-map, map-append}
 use Rattle.std.proofs.lemmas.List.Elements.{All-head, All-tail}
 use Rattle.std.proofs.lemmas.List.Sums.{sum_by-cons}
 use Rattle.stm_profile.specs.declared.policy.Policy.{Policy}
@@ -12,30 +12,35 @@ use Rattle.stm_model.specs.declared.config.Config.{Config}
 use Rattle.stm_model.specs.Histories.{Entry, made_by, memory_at, IsLegal}
 use Rattle.stm_script.specs.declared.op.Op.{Op}
 use Rattle.stm_script.specs.declared.report.Report.{Report}
+use Rattle.stm_script.specs.declared.report.Row.{Row}
 use Rattle.stm_script.specs.declared.workload.Item.{Item}
 use Rattle.stm_script.specs.declared.workload.Item.TheVariants.{Tx, Switch, Reserve}
 use Rattle.stm_script.specs.declared.workload.Workload.{Workload}
 use Rattle.stm_script.specs.Operations.{OpFits}
 use Rattle.stm_script.specs.Parts.{BeginsWith, Part, PartIn, IsGathered, ReportReplays, Worked, all_rows}
+use Rattle.stm_script.specs.Reports.{rows_of as own_rows}
 use Rattle.stm_script.specs.Reports.{regions_of, scripts_of, script_of, nonzero, zeros, counted, Shows}
 use Rattle.stm_script.specs.Workloads.{ItemFits, config_of}
 use Rattle.stm_rule.specs.Callers.{Handle}
 use Rattle.stm_rule.specs.Closings.{Ended, Closes, Told, AllTold, installs_of}
 use Rattle.stm_tx.specs.Descs.{known}
+use Rattle.stm_trace.specs.declared.said.Phase.TheVariants.{Inside}
 use Rattle.stm_trace.specs.Places.{caller_in, items_of}
 use Rattle.stm_worker.specs.declared.worker.Worker.{Worker}
 use Rattle.stm_worker.specs.Leavings.{BeginsNext, IsPart, MadeIdle}
+use Rattle.stm_worker.specs.Courses.{all_installed}
 use Rattle.stm_worker.specs.Installs.{InstallsBy}
-use Rattle.stm_worker.specs.InstallLaws.{by-before}
-use Rattle.stm_worker.specs.Workers.{Works, switches_of, switches_with}
+use Rattle.stm_worker.specs.InstallLaws.{first-installs, open-installs}
+use Rattle.stm_worker.specs.Workers.{place_of, Works}
 use Rattle.stm_driver.specs.Preparings.{BuiltItem, Forms}
 use Rattle.stm_trace.specs.Adapting.{policy_for}
 use Rattle.stm_driver.specs.AllWorkers.{AreMadeIdle, descs_of}
 use Rattle.stm_driver.specs.Openings.{first_installs}
-use Rattle.stm_driver.specs.Runs.{AreInstalls, RanSome, installs_for}
+use Rattle.stm_driver.specs.Runs.{AreInstalls, RanSome}
 use Rattle.stm_driver.proofs.HistoryLaws.{dealt, dealt-all, all-below, made-own, made-within}
+use Rattle.stm_driver.proofs.AlongLaws.{goes-along}
+use Rattle.stm_driver.proofs.KindLaws.{kinds, kinds-each}
 use Rattle.stm_driver.proofs.PartingLaws.{all-cons, own-all, scripts-own}
-use Rattle.stm_driver.proofs.PreparedLaws.{all-installs}
 use Rattle.stm_driver.proofs.ReportLaws.{reworked, history-of}
 use Rattle.stm_driver.proofs.SortLaws.{sorted-of}
 use Rattle.stm_driver.proofs.StandingLaws.{Each, Stood, stood-caller}
@@ -49,12 +54,6 @@ pub record Did : Type 0 where
 abbrev all_of : List Did → List Item
 all_of [] = []
 all_of (d ∷ ds) = d.items ++ all_of ds
-
-switches-append : (xs ys : List Item) → switches_of (xs ++ ys) ≡ switches_of xs ++ switches_of ys
-switches-append [] ys = refl
-switches-append (Tx caller script ∷ xs) ys = switches-append xs ys
-switches-append (Switch caller alg ∷ xs) ys = ap (λ l. alg ∷ l) (switches-append xs ys)
-switches-append (Reserve caller reads writes ∷ xs) ys = switches-append xs ys
 
 items-append : (n : ℕ) (xs ys : List Item) → items_of n (xs ++ ys) ≡ items_of n xs ++ items_of n ys
 items-append n [] ys = refl
@@ -103,13 +102,19 @@ part-all P cut all left did h a = by left (subst (All P) h.1 a) h.2
     by (Switch caller alg ∷ l) b (inr n) = absurd n
     by (Reserve caller reads writes ∷ l) b (inr n) = absurd n
 
--- it has the switches of the first items
-part-switches : (first left did : List Item) → (did ≡ first) ⊎ BeginsNext first left did → switches_of did ≡ switches_of first
-part-switches first left did (inl e) = ap switches_of e
-part-switches first [] did (inr n) = absurd n
-part-switches first (Tx caller script ∷ left) did (inr n) = ap switches_of n.3 ∙ (switches-append first (Tx caller n.0 ∷ []) ∙ append-nil (switches_of first))
-part-switches first (Switch caller alg ∷ left) did (inr n) = absurd n
-part-switches first (Reserve caller reads writes ∷ left) did (inr n) = absurd n
+-- what comes behind the first items is a transaction
+begins-tx : (first left did : List Item) → BeginsNext first left did → (caller : ℕ) × (ops : List Op) × (did ≡ first ++ Tx caller ops ∷ [])
+begins-tx first [] did n = absurd n
+begins-tx first (Tx caller script ∷ left) did n = (caller, n.0, n.3)
+begins-tx first (Switch caller alg ∷ left) did n = absurd n
+begins-tx first (Reserve caller reads writes ∷ left) did n = absurd n
+
+-- what a caller installed that did these items, with these rows
+pub record InstalledSome (callers : ℕ) (policy : Policy) (alg : Alg) (n : ℕ) (items : List Item) (rows : List Row) (installs : List Alg) : Type 0 where
+  pub more : List Alg
+  pub first : installs ≡ first_installs alg n ++ more
+  pub done : Bool
+  pub by : InstallsBy callers done (policy_for policy n) items (kinds rows) more
 
 module _ {K : Type 0} (good : List ℕ → Type 0) (policy : Policy) (w : Workload) (stm : Stm K) (items : All (BuiltItem w.header) w.items) (sized : stm.config ≡ config_of w.header) where
   pub record IsDid (some : List Item → List Item → Type 0) (closed : Ended) (n : ℕ) (d : Did) : Type 0 where
@@ -121,7 +126,31 @@ module _ {K : Type 0} (good : List ℕ → Type 0) (policy : Policy) (w : Worklo
     pub begins : BeginsWith closed.history d.part.seen d.part.front
     pub made : d.part.made ≡ made_by n closed.history
     pub whole : length d.part.rows ≡ length (scripts_of n d.items)
-    pub installs : InstallsBy (policy_for policy n) (first_installs w.header.alg n ++ switches_of d.items) d.installs
+    pub installs : InstalledSome w.header.callers policy w.header.alg n d.items d.part.rows d.installs
+
+  -- the installs of a caller that was left idle are those of the part that it did
+  installs-part : (n : ℕ) (v x : Worker K) → Stood good policy w stm sized n v → (h : MadeIdle good stm v x) → InstalledSome w.header.callers policy w.header.alg n h.did.items h.did.rows (known x.desc).installs
+  installs-part n v x s h =
+      let own = s.own in
+      let left : own.start.left ≡ v.all.now = own.left ∙ sym own.all in
+      let installed = all_installed own.course in
+      let by_policy : (done : Bool) → InstallsBy w.header.callers done own.start.policy h.did.items (kinds h.did.rows) installed → InstalledSome w.header.callers policy w.header.alg n h.did.items h.did.rows (known x.desc).installs =
+      λ done by. record { more = installed; first = h.keeps.installs ∙ own.installs; done = done; by = subst (λ p. InstallsBy w.header.callers done p h.did.items (kinds h.did.rows) installed) own.by by } in
+      of by_policy left h.did.behind
+    where
+      of : ((done : Bool) → InstallsBy w.header.callers done s.own.start.policy h.did.items (kinds h.did.rows) (all_installed s.own.course) → InstalledSome w.header.callers policy w.header.alg n h.did.items h.did.rows (known x.desc).installs)
+          → s.own.start.left ≡ v.all.now
+          → ((v.all.now ≡ h.did.items ++ v.items_left.now) × (h.did.rows ≡ v.rows.items) ⊎ (v.phase ≡ Inside) × ((first : List Item) × (v.all.now ≡ first ++ v.items_left.now) × BeginsNext first v.items_left.now h.did.items) × ((row : Row) × (h.did.rows ≡ v.rows.items ++ row ∷ [])))
+          → InstalledSome w.header.callers policy w.header.alg n h.did.items h.did.rows (known x.desc).installs
+      of give left (inl b) =
+          let i = first-installs w.header s.own.start (place_of v) s.own.course s.own.fresh s.own.went h.did.items (left ∙ b.0) in
+          give i.0 (subst (λ rows. InstallsBy w.header.callers i.0 s.own.start.policy h.did.items (kinds rows) (all_installed s.own.course)) (sym b.1) i.2)
+      of give left (inr b) =
+          let next = begins-tx b.1.0 v.items_left.now h.did.items b.1.2 in
+          let i = open-installs w.header s.own.start (place_of v) s.own.course s.own.fresh s.own.went b.1.0 (left ∙ b.1.1) b.0 next.0 next.1 b.2.0.kind in
+          let rows : kinds h.did.rows ≡ kinds v.rows.items ++ b.2.0.kind ∷ [] = ap kinds b.2.1 ∙ map-append (λ (r : Row). r.kind) v.rows.items (b.2.0 ∷ []) in
+          give false (subst (λ l. InstallsBy w.header.callers false s.own.start.policy l (kinds h.did.rows) (all_installed s.own.course)) (sym next.2)
+          (subst (λ k. InstallsBy w.header.callers false s.own.start.policy (b.1.0 ++ Tx next.0 next.1 ∷ []) k (all_installed s.own.course)) (sym rows) i))
 
   did-of : (n : ℕ) (v x : Worker K) → MadeIdle good stm v x → Did
   did-of n v x h = record {
@@ -144,13 +173,6 @@ module _ {K : Type 0} (good : List ℕ → Type 0) (policy : Policy) (w : Worklo
       subst (λ k. Works good k (regions_of w.header) did n (known x.desc) h.did.rows) words
       (subst (λ rs. Works good stm.config.words rs did n (known x.desc) h.did.rows) s.own.over
       (subst (λ k. Works good stm.config.words v.regions.now did k (known x.desc) h.did.rows) (stood-caller good policy w stm sized n v s) h.did.works)) in
-      let parted : switches_of (items_of n w.items) ≡ switches_of did ++ switches_of v.items_left.now =
-      ap switches_of part.1 ∙ (switches-append part.0 v.items_left.now ∙ ap (λ l. l ++ switches_of v.items_left.now) (sym (part-switches part.0 v.items_left.now did part.2))) in
-      let text : installs_for w n ≡ (first_installs w.header.alg n ++ switches_of did) ++ switches_of v.items_left.now =
-      sym (all-installs w n) ∙ (ap (λ l. first_installs w.header.alg n ++ l) parted ∙ sym (append_assoc (first_installs w.header.alg n) (switches_of did) (switches_of v.items_left.now))) in
-      let whole : InstallsBy (policy_for policy n) ((first_installs w.header.alg n ++ switches_of did) ++ switches_of v.items_left.now) ((known x.desc).installs ++ switches_of v.items_left.now) =
-      subst (λ l. InstallsBy (policy_for policy n) ((first_installs w.header.alg n ++ switches_of did) ++ switches_of v.items_left.now) (l ++ switches_of v.items_left.now)) (sym h.keeps.installs)
-      (subst (λ l. InstallsBy (policy_for policy n) l (switches_with v)) text s.own.switched) in
       record {
         is = is;
         own = λ i d lt. (each i d lt).0;
@@ -160,7 +182,7 @@ module _ {K : Type 0} (good : List ℕ → Type 0) (policy : Policy) (w : Worklo
         begins = told.seen;
         made = told.made;
         whole = h.did.whole ∙ ap (λ k. length (scripts_of k did)) (stood-caller good policy w stm sized n v s);
-        installs = by-before (policy_for policy n) (first_installs w.header.alg n ++ switches_of did) (known x.desc).installs (switches_of v.items_left.now) whole;
+        installs = installs-part n v x s h;
       }
 
   -- of all callers from n on
@@ -262,13 +284,20 @@ module _ {K : Type 0} (good : List ℕ → Type 0) (policy : Policy) (w : Worklo
         let cons = sum_by-cons (λ (p : Part). sum_by count p.made) d.part (map (λ (e : Did). e.part) ds) in
         omega (arith, head, rest, cons)
 
-    installs-in : (n : ℕ) (ds : List Did) → Each IsIn n ds → AreInstalls policy some_of n (map (λ (d : Did). d.installs) ds)
+    installs-in : (rows : List Row) (n : ℕ) (ds : List Did) → Each IsIn n ds → Each (λ k p. kinds (own_rows k rows) ≡ kinds p.rows) n (map (λ (d : Did). d.part) ds) → AreInstalls false policy some_of rows n (map (λ (d : Did). d.installs) ds)
     unfolding some_of
-    installs-in n [] h = tt
-    installs-in n (d ∷ ds) h = (
-      subst (λ l. InstallsBy (policy_for policy n) l d.installs) (ap (λ l. first_installs w.header.alg n ++ switches_of l) (sym h.0.here) ∙ all-installs some_of n) h.0.did.installs,
-      installs-in (suc n) ds h.1,
-    )
+    installs-in rows n [] h told = tt
+    installs-in rows n (d ∷ ds) h told =
+        let i = h.0.did.installs in (
+          record {
+            more = i.more;
+            first = i.first;
+            done = i.done;
+            all = λ e. absurd cc;
+            by = subst (λ k. InstallsBy w.header.callers i.done (policy_for policy n) (items_of n whole) k i.more) (sym told.0) (subst (λ l. InstallsBy w.header.callers i.done (policy_for policy n) l (kinds d.part.rows) i.more) (sym h.0.here) i.by);
+          },
+          installs-in rows (suc n) ds h.1 told.1,
+        )
 
   pub ran-some : ReportReplays good → Forms good w → (some : List Item → List Item → Type 0) (P : Worker K → Type 0) → ((n : ℕ) (v x : Worker K) → Stood good policy w stm sized n v → (h : MadeIdle good stm v x) → P v → some (items_of n w.items) h.did.items)
       → (vs xs : List (Worker K)) (ws : List ℕ) (closed : Ended) → Each (Stood good policy w stm sized) 0 vs → All P vs → AreMadeIdle good stm vs xs → length xs ≡ stm.config.callers → Closes good stm.config (descs_of xs) ws closed → RanSome some policy w closed
@@ -307,6 +336,7 @@ module _ {K : Type 0} (good : List ℕ → Type 0) (policy : Policy) (w : Worklo
           shows = subst (λ k. Shows closed.history k closed.clock part report) (sym (c.opening ∙ ap (λ (x : Config). x.clock) sized)) both.1;
           history = history-of good part forms stm.config sized (descs_of xs) ws closed c;
           callers = ap length (c.installs ∙ a.installs) ∙ (length-map ds (λ (d : Did). d.installs) ∙ callers);
-          installs = subst (AreInstalls policy part 0) (sym (c.installs ∙ a.installs)) (installs-in some closed whole 0 ds each);
+          along = goes-along good part closed.history closed.clock parts report gathered part.header.clock both.0 both.1;
+          installs = subst (AreInstalls false policy part report.rows 0) (sym (c.installs ∙ a.installs)) (installs-in some closed whole report.rows 0 ds each (kinds-each good part closed.history closed.clock parts report gathered both.0));
         };
       }

@@ -1,6 +1,7 @@
 -- The workers before the first turn, and what stays so of them.
-use Rattle.std.proofs.Common.{ℕ, zero, suc, ◌≡◌, ◌<◌, ◌≤◌, ◌+◌, ◌*◌, ◌++◌, Bool, true, false, List, [], ◌∷◌, length, get_or, map, refl, sym, ap, ◌∙◌, arith, subst}
-use Rattle.std.specs.Prelude.{All, slice_index_or, ◌==◌, if◌then◌else◌}
+use Rattle.std.proofs.Common.{ℕ, suc, ◌≡◌, ◌<◌, ◌≤◌, ◌+◌, ◌*◌, ◌++◌, List, [], ◌∷◌, length, get_or, map, refl, sym, ap, ◌∙◌, arith, subst}
+use Rattle.std.specs.Prelude.{All, slice_index_or, if◌then◌else◌}
+use Rattle.std.proofs.lemmas.List.{append-nil}
 use Rattle.std.proofs.lemmas.List.Elements.{All-head, All-tail}
 use Rattle.std.proofs.lemmas.List.Sums.{sum_by-cons}
 use Rattle.stm_profile.specs.declared.policy.Policy.{Policy}
@@ -20,13 +21,14 @@ use Rattle.stm_text.specs.Built.{IsBuilt, BuiltWorkloadsFit}
 use Rattle.stm_rule.specs.Callers.{Handle, IsOf}
 use Rattle.tx_answers.specs.Known.{Known, caller_of, owed}
 use Rattle.stm_tx.specs.Descs.{known}
+use Rattle.stm_trace.specs.declared.said.Said.{Said}
 use Rattle.stm_trace.specs.Fits.{first_place, first_places}
 use Rattle.stm_trace.specs.Places.{Place, caller_in, items_of}
 use Rattle.stm_worker.specs.declared.worker.Worker.{Worker}
 use Rattle.stm_trace.specs.Turns.{HasSizes}
-use Rattle.stm_worker.specs.Installs.{InstallsBy}
-use Rattle.stm_worker.specs.InstallLaws.{by-same, by-trans}
-use Rattle.stm_worker.specs.Workers.{place_of, Sound, Starts, switches_of, switches_with}
+use Rattle.stm_worker.specs.Courses.{IsFresh, Went, all_installed}
+use Rattle.stm_worker.specs.InstallLaws.{installed-on, went-append}
+use Rattle.stm_worker.specs.Workers.{place_of, Sound, Starts}
 use Rattle.stm_worker.specs.Workers.{ItemsFit as OwnItems}
 use Rattle.stm_worker.specs.Payments.{CountsNext, PaysBut, due_of, raised}
 use Rattle.stm_worker.specs.PaymentLaws.{starts-counts}
@@ -36,7 +38,6 @@ use Rattle.stm_script.specs.Workloads.{config_of}
 use Rattle.stm_driver.specs.Openings.{IsNew, first_installs, AllNew}
 use Rattle.stm_driver.specs.Partings.{parted}
 use Rattle.stm_driver.specs.Preparings.{BuiltItem, ItemKeeps, WorkloadKeeps, IsPrepared}
-use Rattle.stm_driver.specs.Runs.{installs_for}
 use Rattle.stm_driver.specs.Schedules.{places, AreSame, AreSound, debts}
 use Rattle.stm_driver.proofs.PartingLaws.{all-cons, own-all, part-at}
 use Rattle.stm_driver.proofs.StartLaws.{starts-sound}
@@ -66,14 +67,24 @@ items-own good h n (Reserve caller reads writes ∷ items) b =
 new-owes : (these : List Alg) (v : Known) → IsNew these v → owed v ≤ length these
 new-owes these v new = subst (λ b. (if b then v.base + 2 else v.rises) ≤ length these) (sym new.idle.1) new.done.rises
 
+pub sizes-of : (config : Config) (h : Header) → config ≡ config_of h → HasSizes config h
+sizes-of config h e =
+    (sym (ap (λ (c : Config). c.words) e), sym (ap (λ (c : Config). c.records) e), sym (ap (λ (c : Config). c.ring) e), sym (ap (λ (c : Config). c.callers) e), sym (ap (λ (c : Config). c.reads) e), sym (ap (λ (c : Config). c.writes) e))
+
 module _ {K : Type 0} where
-  -- each is its caller's, from caller n on, has that caller's items, and installs what they say
+  -- each is its caller's, from caller n on, has that caller's items, and went its course from the start
   pub record IsOwn (policy : Policy) (w : Workload) (n : ℕ) (x : Worker K) : Type 0 where
     pub role : x.desc.who.role ≡ Caller n
     pub all : x.all.now ≡ items_of n w.items
     pub over : x.regions.now ≡ regions_of w.header
-    pub policy_is : x.policy ≡ policy_for policy n
-    pub switched : InstallsBy (policy_for policy n) (installs_for w n) (switches_with x)
+    pub sized : x.desc.who.config ≡ config_of w.header
+    pub start : Place
+    pub fresh : IsFresh start
+    pub left : start.left ≡ items_of n w.items
+    pub by : start.policy ≡ policy_for policy n
+    pub course : List Said
+    pub went : Went w.header start course (place_of x)
+    pub installs : (known x.desc).installs ≡ first_installs w.header.alg n ++ all_installed course
 
   abbrev pub AreOwn : Policy → Workload → ℕ → List (Worker K) → Type 0
   AreOwn policy w n [] = Unit {0}
@@ -89,11 +100,17 @@ module _ {K : Type 0} where
   own-same policy w n (x ∷ xs) [] s h = absurd s
   own-same policy w n (x ∷ xs) (y ∷ ys) s h = (
     record {
-      role = ap (λ x. x.role) s.0.same.who ∙ h.0.role;
-      all = s.0.all ∙ h.0.all;
-      over = s.0.regions ∙ h.0.over;
-      policy_is = s.0.policy ∙ h.0.policy_is;
-      switched = by-trans (policy_for policy n) (installs_for w n) (switches_with x) (switches_with y) h.0.switched (subst (λ (p : Policy). InstallsBy p (switches_with x) (switches_with y)) h.0.policy_is s.0.switched);
+      role = ap (λ x. x.role) s.0.kept.same.who ∙ h.0.role;
+      all = s.0.kept.all ∙ h.0.all;
+      over = s.0.kept.regions ∙ h.0.over;
+      sized = ap (λ x. x.config) s.0.kept.same.who ∙ h.0.sized;
+      start = h.0.start;
+      fresh = h.0.fresh;
+      left = h.0.left;
+      by = h.0.by;
+      course = h.0.course ++ s.0.course;
+      went = went-append w.header h.0.start (place_of x) (place_of y) h.0.course s.0.course h.0.went (s.0.went w.header (sizes-of x.desc.who.config w.header h.0.sized));
+      installs = s.0.installs ∙ installed-on (first_installs w.header.alg n) (known x.desc).installs h.0.course s.0.course h.0.installs;
     },
     own-same policy w (suc n) xs ys s.1 h.1,
   )
@@ -149,37 +166,28 @@ module _ {K : Type 0} where
       let at : place_of x ≡ first_place w n = h.0.at ∙ (λ i. record (first_place w n) { caller = caller i; policy = own i; reads_limit = reads i; writes_limit = writes i }) in
       ap (λ p. p ∷ places ws) at ∙ ap (λ ps. first_place w n ∷ ps) (starts-at stm policy w ruled sized (suc n) ds ws o.4 h.1)
 
-module _ (w : Workload) where
-  -- what a caller is to install
-  pub all-installs : (n : ℕ) → first_installs w.header.alg n ++ switches_of (items_of n w.items) ≡ installs_for w n
-  all-installs zero = refl
-  all-installs (suc n) = refl
-
 module _ {K : Type 0} (policy : Policy) (w : Workload) where
-  starts-switches : (alg : Alg) (n : ℕ) (d : Handle K) (u : Worker K) → alg ≡ w.header.alg → IsNew (first_installs alg n) (known d) → Starts d (items_of n w.items) (regions_of w.header) alg (policy_for policy n) u → (known u.desc).installs ++ switches_of u.items_left.now ≡ installs_for w n
-  starts-switches alg n d u is new s =
-      ap (λ l. l ++ switches_of u.items_left.now) (ap (λ (x : Handle K). (known x).installs) s.is_desc ∙ (new.done.installs ∙ ap (λ a. first_installs a n) is))
-      ∙ (ap (λ (p : Place). first_installs w.header.alg n ++ switches_of p.left) s.at ∙ all-installs w n)
-
-  own-start : (stm : Stm K) (n : ℕ) (ds : List (Handle K)) (ws : List (Worker K)) → AllNew stm w.header.alg n ds → AreMade (λ k. items_of k w.items) (regions_of w.header) w.header.alg policy n ds ws → AreOwn policy w n ws
-  own-start stm n [] [] o h = tt
-  own-start stm n [] (x ∷ ws) o h = absurd h
-  own-start stm n (d ∷ ds) [] o h = absurd h
-  own-start stm n (d ∷ ds) (x ∷ ws) o h =
+  own-start : (stm : Stm K) → stm.config ≡ config_of w.header → (n : ℕ) (ds : List (Handle K)) (ws : List (Worker K)) → AllNew stm w.header.alg n ds → AreMade (λ k. items_of k w.items) (regions_of w.header) w.header.alg policy n ds ws → AreOwn policy w n ws
+  own-start stm sized n [] [] o h = tt
+  own-start stm sized n [] (x ∷ ws) o h = absurd h
+  own-start stm sized n (d ∷ ds) [] o h = absurd h
+  own-start stm sized n (d ∷ ds) (x ∷ ws) o h =
       let s = h.0 in (
         record {
           role = ap (λ (d : Handle K). d.who.role) s.is_desc ∙ o.1;
           all = s.all;
           over = s.over;
-          policy_is = ap (λ (p : Place). p.policy) s.at;
-          switched = by-same (policy_for policy n) (installs_for w n) (switches_with x) (starts-switches w.header.alg n d x refl o.2 s);
+          sized = ap (λ (h : Handle K). h.who.config) s.is_desc ∙ (o.0.config ∙ sized);
+          start = place_of x;
+          fresh = record { between = ap (λ (p : Place). p.phase) s.at; unasked = ap (λ (p : Place). p.chosen) s.at; noted = ap (λ (p : Place). p.profile) s.at; rows = ap (λ (p : Place). p.rows) s.at };
+          left = ap (λ (p : Place). p.left) s.at;
+          by = ap (λ (p : Place). p.policy) s.at;
+          course = [];
+          went = refl;
+          installs = ap (λ (h : Handle K). (known h).installs) s.is_desc ∙ (o.2.done.installs ∙ sym (append-nil (first_installs w.header.alg n)));
         },
-        own-start stm (suc n) ds ws o.4 h.1,
+        own-start stm sized (suc n) ds ws o.4 h.1,
       )
-
-pub sizes-of : (config : Config) (h : Header) → config ≡ config_of h → HasSizes config h
-sizes-of config h e =
-    (sym (ap (λ (c : Config). c.words) e), sym (ap (λ (c : Config). c.records) e), sym (ap (λ (c : Config). c.ring) e), sym (ap (λ (c : Config). c.callers) e), sym (ap (λ (c : Config). c.reads) e), sym (ap (λ (c : Config). c.writes) e))
 
 module _ {K : Type 0} (good : List ℕ → Type 0) (policy : Policy) (w : Workload) (stm : Stm K) (items : All (BuiltItem w.header) w.items) (sized : stm.config ≡ config_of w.header) where
   -- the workers before the first turn
@@ -215,7 +223,7 @@ module _ {K : Type 0} (good : List ℕ → Type 0) (policy : Policy) (w : Worklo
         record {
           sound = sound-all w.header.alg 0 p.descs ws p.new owned;
           count = long;
-          own = own-start policy w stm 0 p.descs ws p.new owned;
+          own = own-start policy w stm sized 0 p.descs ws p.new owned;
           starts = λ ruled. starts-at stm policy w ruled sized 0 p.descs ws p.new owned ∙ ap (λ k. map (first_place w) (counted 0 k)) long;
           owes = owes-start stm w.items (regions_of w.header) w.header.alg policy 0 p.descs ws p.new owned;
           paid = paid-start stm w.items (regions_of w.header) w.header.alg policy 0 p.descs ws p.new owned;

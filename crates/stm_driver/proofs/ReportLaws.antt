@@ -1,11 +1,12 @@
 -- From workers whose items are all done to the report.
-use Rattle.std.proofs.Common.{ℕ, zero, suc, ◌≡◌, ◌≤◌, ◌++◌, List, [], ◌∷◌, length, get_or, drop, map, refl, sym, ap, ◌∙◌, arith, subst}
+use Rattle.std.proofs.Common.{ℕ, zero, suc, ◌≡◌, ◌≤◌, ◌++◌, true, false, List, [], ◌∷◌, length, get_or, drop, map, refl, sym, ap, ◌∙◌, arith, subst}
 use Rattle.std.specs.Prelude.{All, Contains, sum_by, IsPermutation, slice_index_or, Result, Ok, Err, IfErr}
-use Rattle.std.proofs.lemmas.List.{append-nil, length-map}
+use Rattle.std.proofs.lemmas.List.{length-map}
 use Rattle.std.proofs.lemmas.List.Elements.{All-head, All-tail}
 use Rattle.std.proofs.lemmas.List.Sums.{sum_by-cons}
 use Rattle.stm_profile.specs.declared.policy.Policy.{Policy}
 use Rattle.stm_rule.specs.declared.stm.Stm.{Stm}
+use Rattle.stm_model.specs.declared.alg.Alg.{Alg}
 use Rattle.stm_model.specs.declared.config.Config.{Config}
 use Rattle.stm_model.specs.Histories.{Entry, made_by, memory_at, IsLegal}
 use Rattle.tx_regions.specs.declared.region.Region.{Region}
@@ -15,6 +16,7 @@ use Rattle.stm_script.specs.declared.report.Row.{Row}
 use Rattle.stm_script.specs.declared.workload.Item.{Item}
 use Rattle.stm_script.specs.declared.workload.Workload.{Workload}
 use Rattle.stm_script.specs.Parts.{Part, PartIn, IsGathered, ReportReplays, Worked, RowOf, RowIn, by_kind, all_rows}
+use Rattle.stm_script.specs.Reports.{rows_of as own_rows}
 use Rattle.stm_script.specs.Reports.{regions_of, scripts_of, script_of, nonzero, zeros, counted, Shows, RowFits}
 use Rattle.stm_rule.specs.Callers.{Handle}
 use Rattle.stm_rule.specs.Closings.{Ended, Closes, Told, AllTold, installs_of}
@@ -23,16 +25,20 @@ use Rattle.stm_tx.specs.Descs.{known}
 use Rattle.stm_trace.specs.Places.{items_of}
 use Rattle.stm_trace.specs.Turns.{IsOver}
 use Rattle.stm_worker.specs.declared.worker.Worker.{Worker}
+use Rattle.stm_worker.specs.Courses.{all_installed}
 use Rattle.stm_worker.specs.Installs.{InstallsBy}
-use Rattle.stm_worker.specs.Workers.{place_of, switches_of, switches_with}
+use Rattle.stm_worker.specs.InstallLaws.{courses-install}
+use Rattle.stm_worker.specs.Workers.{place_of}
 use Rattle.stm_driver.specs.Preparings.{BuiltItem, Forms}
 use Rattle.stm_trace.specs.Adapting.{policy_for}
 use Rattle.stm_driver.specs.AllWorkers.{descs_of, rows_of}
 use Rattle.stm_driver.specs.ClosedRuns.{IsReport}
 use Rattle.stm_script.specs.Workloads.{config_of}
-use Rattle.stm_driver.specs.Runs.{installs_for, AreInstalls, IsHistory, IsShown}
+use Rattle.stm_driver.specs.Runs.{AreInstalls, IsHistory, IsShown, IsShownBy}
 use Rattle.stm_driver.specs.Schedules.{places}
 use Rattle.stm_driver.proofs.HistoryLaws.{dealt, dealt-all, all-below, made-own, made-within}
+use Rattle.stm_driver.proofs.AlongLaws.{goes-along}
+use Rattle.stm_driver.proofs.KindLaws.{kinds, kinds-each}
 use Rattle.stm_driver.proofs.PartingLaws.{all-cons, scripts-own}
 use Rattle.stm_driver.proofs.StandingLaws.{Each, Stood, stood-caller, stood-works, stood-todo, stood-within}
 
@@ -124,13 +130,23 @@ module _ {K : Type 0} (good : List ℕ → Type 0) (policy : Policy) (w : Worklo
   all-made count rs ws closed len c = ap (λ m. dealt count 0 m closed.history) len ∙ dealt-all count stm.config.callers closed.history (all-below stm.config.callers closed.history c.nobody_else)
 
   -- each caller has installed what the text says, and what its policy asked for
-  installs-all : (n : ℕ) (rs : List (Worker K)) → Each (Stood good policy w stm sized) n rs → All IsOver (places rs) → AreInstalls policy w n (map (λ (d : Handle K). installs_of d.view) (descs_of rs))
-  installs-all n [] h over = tt
-  installs-all n (r ∷ rs) h over =
-      let none : r.items_left.now ≡ [] = (All-head IsOver (place_of r) (places rs) over).1 in
-      let done : switches_with r ≡ (known r.desc).installs = ap (λ l. (known r.desc).installs ++ switches_of l) none ∙ append-nil (known r.desc).installs in (
-        subst (InstallsBy (policy_for policy n) (installs_for w n)) done h.0.own.switched,
-        installs-all (suc n) rs h.1 (All-tail IsOver (place_of r) (places rs) over),
+  installs-all : (rows : List Row) (n : ℕ) (rs : List (Worker K)) → Each (Stood good policy w stm sized) n rs → All IsOver (places rs) → Each (λ k p. kinds (own_rows k rows) ≡ kinds p.rows) n (map part_of rs)
+      → AreInstalls true policy w rows n (map (λ (d : Handle K). installs_of d.view) (descs_of rs))
+  unfolding part_of
+  installs-all rows n [] h over told = tt
+  installs-all rows n (r ∷ rs) h over told =
+      let own = h.0.own in
+      let by = courses-install w.header own.start (place_of r) own.course own.fresh own.went (All-head IsOver (place_of r) (places rs) over) in (
+        record {
+          more = all_installed own.course;
+          first = own.installs;
+          done = true;
+          all = λ e. refl;
+          by = subst (λ k. InstallsBy w.header.callers true (policy_for policy n) (items_of n w.items) k (all_installed own.course)) (sym told.0)
+              (subst (λ l. InstallsBy w.header.callers true (policy_for policy n) l (kinds r.rows.items) (all_installed own.course)) own.left
+              (subst (λ p. InstallsBy w.header.callers true p own.start.left (kinds r.rows.items) (all_installed own.course)) own.by by));
+        },
+        installs-all rows (suc n) rs h.1 (All-tail IsOver (place_of r) (places rs) over) told.1,
       )
 
   descs-length : (rs : List (Worker K)) → length (descs_of rs) ≡ length rs
@@ -158,8 +174,17 @@ module _ {K : Type 0} (good : List ℕ → Type 0) (policy : Policy) (w : Worklo
         shows = subst (λ k. Shows closed.history k closed.clock w report) (sym (c.opening ∙ ap (λ (x : Config). x.clock) sized)) both.1;
         history = history-of good w forms stm.config sized (descs_of rs) ws closed c;
         callers = ap length c.installs ∙ (length-map (descs_of rs) (λ (d : Handle K). installs_of d.view) ∙ (descs-length rs ∙ (len ∙ ap (λ (x : Config). x.callers) sized)));
-        installs = subst (AreInstalls policy w 0) (sym c.installs) (installs-all 0 rs stood over);
+        along = goes-along good w closed.history closed.clock parts report gathered w.header.clock both.0 both.1;
+        installs = subst (AreInstalls true policy w report.rows 0) (sym c.installs) (installs-all report.rows 0 rs stood over (kinds-each good w closed.history closed.clock parts report gathered both.0));
       }
+
+-- what is so of a whole run is so of a run of some items
+pub shown-some : (policy : Policy) (w : Workload) (report : Report) (closed : Ended) → IsShown policy w report closed → IsShownBy false policy w report closed
+shown-some policy w report closed s = record { replays = s.replays; shows = s.shows; history = s.history; callers = s.callers; along = s.along; installs = some 0 closed.installs s.installs }
+  where
+    some : (n : ℕ) (all : List (List Alg)) → AreInstalls true policy w report.rows n all → AreInstalls false policy w report.rows n all
+    some n [] h = tt
+    some n (installs ∷ all) h = (record { more = h.0.more; first = h.0.first; done = h.0.done; all = λ e. absurd cc; by = h.0.by }, some (suc n) all h.1)
 
 -- what doesn't depend on the error
 pub if-err-any : {A E P : Type 0} (r : Result A E) → P → IfErr r (λ e. P)

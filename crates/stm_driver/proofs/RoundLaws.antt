@@ -16,7 +16,7 @@ use Rattle.tx_answers.specs.declared.answers.Irrev.TheVariants as irrevs
 use Rattle.stm_model.specs.declared.stop.Stop.TheVariants as stops
 use Rattle.stm_script.specs.declared.op.Op.TheVariants.{Irrev}
 use Rattle.tx_answers.specs.Known.{owed}
-use Rattle.stm_model.specs.AlgorithmLaws.{granted-sure, sure-wrote}
+use Rattle.stm_model.specs.AlgorithmLaws.{granted-irrevocable, irrevocable-wrote}
 use Rattle.stm_tx.specs.Descs.{known}
 use Rattle.stm_trace.specs.declared.line.Line.{Line}
 use Rattle.stm_trace.specs.declared.line.Line.TheVariants.{Of, Finish}
@@ -24,7 +24,7 @@ use Rattle.stm_trace.specs.declared.said.Phase.TheVariants.{Between, Inside, Clo
 use Rattle.stm_trace.specs.declared.said.Said.{Said}
 use Rattle.stm_trace.specs.declared.said.Said.TheVariants.{TryBegin, Reply, Stopped, TryCancel, TryIrrevocable, TryCommit, TryClose, Looked, Installed, Reserved, Idle, Dropped, Reopened}
 use Rattle.stm_trace.specs.Fits.{turns}
-use Rattle.stm_trace.specs.Places.{Place, after, granted_at, is_forced, sure, writes}
+use Rattle.stm_trace.specs.Places.{Place, after, granted_at, is_forced, irrevocable, writes}
 use Rattle.stm_trace.specs.Played.{Played}
 use Rattle.stm_trace.specs.PlayLaws.{append-nil, may-finish, may-wind, never-full, played-none}
 use Rattle.stm_trace.specs.RoundLaws.{WentRound, round-none, round-next, round-halted, round-all, rounds-cut, rounds-fit}
@@ -42,7 +42,7 @@ use Rattle.stm_driver.specs.declared.finishing.Until.{Until}
 use Rattle.stm_driver.specs.declared.finishing.Until.TheVariants.{NothingOpen, NothingLeft}
 use Rattle.stm_driver.specs.Untils.{may_until, stands_until, ready_until}
 use Rattle.stm_driver.specs.Schedules.{places, place_at, AreSame, debts, Plays, Goes, Rounded, Rounds, Turns, Drives}
-use Rattle.stm_worker.specs.Leavings.{HasNothingOpen, HasOnlySureOpen, NothingToGiveUp, GaveUp}
+use Rattle.stm_worker.specs.Leavings.{HasNothingOpen, HasOnlyIrrevocableOpen, NothingToGiveUp, GaveUp}
 use Rattle.stm_worker.specs.Workers.{place_of}
 use Rattle.stm_driver.proofs.ScheduleLaws.{plays-none, plays-as, plays-next, plays-halt, plays-early, took-plays, took-halts, place-is, same-length}
 
@@ -78,38 +78,38 @@ module _ {K : Type 0} (config : Config) (may : Place → Said → Type 0) (holds
     again-halts halt q =
         (k + 1, plays-early config may us ws a c (replicate k n ++ n ∷ []) [] (replicate (k + 1) n) halt (append-nil (replicate k n ++ n ∷ []) ∙ replicate-next k n) (plays-halt config may us vs ws a b c (replicate k n) (n ∷ []) p halt q))
 
-granted-stays : (forced : Bool) (at : Place) → at.phase ≡ Inside → HasOnlySureOpen (granted_at forced at)
-granted-stays true at here = inr (here, granted-sure at.alg at.wrote)
-granted-stays false at here = inr (here, granted-sure at.alg (at.wrote || writes Irrev 1))
+granted-stays : (forced : Bool) (at : Place) → at.phase ≡ Inside → HasOnlyIrrevocableOpen (granted_at forced at)
+granted-stays true at here = inr (here, granted-irrevocable at.alg at.wrote)
+granted-stays false at here = inr (here, granted-irrevocable at.alg (at.wrote || writes Irrev 1))
 
 -- who can't cancel its open attempt still can't, until it ends
-sure-stays : (at : Place) (said : Said) → at.phase ≡ Inside → sure at ≡ true → MaySay at said → HasOnlySureOpen (after at said)
-sure-stays at (TryBegin b) here is m = absurd (let e : Between ≡ Inside = sym m.0 ∙ here in cc)
-sure-stays at (Reply op reply) here is m = inr (here, sure-wrote at.alg at.granted at.wrote (writes op reply) is)
-sure-stays at (Stopped op (stops.Conflict cause)) here is m = inl refl
-sure-stays at (Stopped op (stops.Full limit)) here is m = inl refl
-sure-stays at (Stopped op (stops.ClockFull clock)) here is m = inl refl
-sure-stays at (TryCancel (cancels.Cancelled time)) here is m = inl refl
-sure-stays at (TryCancel cancels.Irrevocable) here is m = inr (here, sure-wrote at.alg at.granted at.wrote false is)
-sure-stays at (TryIrrevocable irrevs.Granted) here is m = granted-stays (is_forced at) at here
-sure-stays at (TryIrrevocable (irrevs.Busy caller status)) here is m = inr (here, is)
-sure-stays at (TryIrrevocable (irrevs.Taken gate)) here is m = inl refl
-sure-stays at (TryIrrevocable (irrevs.Conflict cause)) here is m = inl refl
-sure-stays at (TryIrrevocable (irrevs.ClockFull clock)) here is m = inl refl
-sure-stays at (TryCommit (commits.Committed time)) here is m = inl refl
-sure-stays at (TryCommit (commits.ReadOnly time)) here is m = inl refl
-sure-stays at (TryCommit (commits.Conflict cause)) here is m = inl refl
-sure-stays at (TryCommit (commits.Again word had now)) here is m = inr (here, is)
-sure-stays at (TryCommit (commits.ClockFull clock)) here is m = inl refl
-sure-stays at (TryClose c) here is m = absurd (let e : Between ≡ Inside = sym m.0 ∙ here in cc)
-sure-stays at (Looked l) here is m = absurd (let e : Closing ≡ Inside = sym m ∙ here in cc)
-sure-stays at (Installed alg) here is m = absurd (let e : Quiet ≡ Inside = sym m.0 ∙ here in cc)
-sure-stays at (Reserved reads writes) here is m = absurd (let e : Between ≡ Inside = sym m.0 ∙ here in cc)
-sure-stays at Idle here is m = absurd (let e : Between ≡ Inside = sym m.0 ∙ here in cc)
-sure-stays at Dropped here is m = absurd m
-sure-stays at Reopened here is m = absurd m
+irrevocable-stays : (at : Place) (said : Said) → at.phase ≡ Inside → irrevocable at ≡ true → MaySay at said → HasOnlyIrrevocableOpen (after at said)
+irrevocable-stays at (TryBegin b) here is m = absurd (let e : Between ≡ Inside = sym m.0 ∙ here in cc)
+irrevocable-stays at (Reply op reply) here is m = inr (here, irrevocable-wrote at.alg at.granted at.wrote (writes op reply) is)
+irrevocable-stays at (Stopped op (stops.Conflict cause)) here is m = inl refl
+irrevocable-stays at (Stopped op (stops.Full limit)) here is m = inl refl
+irrevocable-stays at (Stopped op (stops.ClockFull clock)) here is m = inl refl
+irrevocable-stays at (TryCancel (cancels.Cancelled time)) here is m = inl refl
+irrevocable-stays at (TryCancel cancels.Irrevocable) here is m = inr (here, irrevocable-wrote at.alg at.granted at.wrote false is)
+irrevocable-stays at (TryIrrevocable irrevs.Granted) here is m = granted-stays (is_forced at) at here
+irrevocable-stays at (TryIrrevocable (irrevs.Busy caller status)) here is m = inr (here, is)
+irrevocable-stays at (TryIrrevocable (irrevs.Taken gate)) here is m = inl refl
+irrevocable-stays at (TryIrrevocable (irrevs.Conflict cause)) here is m = inl refl
+irrevocable-stays at (TryIrrevocable (irrevs.ClockFull clock)) here is m = inl refl
+irrevocable-stays at (TryCommit (commits.Committed time)) here is m = inl refl
+irrevocable-stays at (TryCommit (commits.ReadOnly time)) here is m = inl refl
+irrevocable-stays at (TryCommit (commits.Conflict cause)) here is m = inl refl
+irrevocable-stays at (TryCommit (commits.Again word had now)) here is m = inr (here, is)
+irrevocable-stays at (TryCommit (commits.ClockFull clock)) here is m = inl refl
+irrevocable-stays at (TryClose c) here is m = absurd (let e : Between ≡ Inside = sym m.0 ∙ here in cc)
+irrevocable-stays at (Looked l) here is m = absurd (let e : Closing ≡ Inside = sym m ∙ here in cc)
+irrevocable-stays at (Installed alg) here is m = absurd (let e : Quiet ≡ Inside = sym m.0 ∙ here in cc)
+irrevocable-stays at (Reserved reads writes) here is m = absurd (let e : Between ≡ Inside = sym m.0 ∙ here in cc)
+irrevocable-stays at Idle here is m = absurd (let e : Between ≡ Inside = sym m.0 ∙ here in cc)
+irrevocable-stays at Dropped here is m = absurd m
+irrevocable-stays at Reopened here is m = absurd m
 
-still-inside : (at : Place) → HasOnlySureOpen at → (HasNothingOpen at → ⊥) → (at.phase ≡ Inside) × (sure at ≡ true)
+still-inside : (at : Place) → HasOnlyIrrevocableOpen at → (HasNothingOpen at → ⊥) → (at.phase ≡ Inside) × (irrevocable at ≡ true)
 still-inside at (inl e) unclosed = absurd (unclosed e)
 still-inside at (inr e) unclosed = e
 
@@ -136,19 +136,19 @@ module _ {K : Type 0} where
 
   module _ (good : List ℕ → Type 0) (stm : Stm K) (n : ℕ) where
     -- caller n has nothing to give up
-    pub left-goes : (ws : List (Worker K)) (d w : Worker K) (lines : List Line) → n < length ws → NothingToGiveUp good stm (get_or ws n d) w → Goes stm.config MayWind HasOnlySureOpen ws (set ws n w) lines lines n (Ok tt)
+    pub left-goes : (ws : List (Worker K)) (d w : Worker K) (lines : List Line) → n < length ws → NothingToGiveUp good stm (get_or ws n d) w → Goes stm.config MayWind HasOnlyIrrevocableOpen ws (set ws n w) lines lines n (Ok tt)
     left-goes ws d w lines lt l = (
       0,
       (
         (λ h sizes. subst (λ ps. Played h MayWind (places ws) ps lines lines []) (sym (places-same ws n d w l.now)) (played-none h MayWind (places ws) lines)),
         let x = debts-same ws n d w lt l.knows in omega (arith, x),
       ),
-      subst HasOnlySureOpen (sym (place-set ws n w lt)) l.sure_open,
+      subst HasOnlyIrrevocableOpen (sym (place-set ws n w lt)) l.irrevocable_open,
     )
 
     -- what caller n had open is given up
     pub gave-goes : (ws : List (Worker K)) (d w : Worker K) (said : Said) (old new : List Line) → n < length ws → GaveUp good stm (get_or ws n d) said w → new ≡ old ++ Of n said ∷ []
-        → Goes stm.config MayWind HasOnlySureOpen ws (set ws n w) old new n (Ok tt)
+        → Goes stm.config MayWind HasOnlyIrrevocableOpen ws (set ws n w) old new n (Ok tt)
     gave-goes ws d w said old new lt t lines = (
       1,
       took-plays good stm MayWind MayWind ws (set ws n w) old new n said lt (record { was = d; now = w; turned = t.turned; is = refl; lines = lines }) t.turned.here t.calm,
@@ -160,26 +160,26 @@ module _ {K : Type 0} where
       at-of d = place-is ws n d lt
 
       -- caller n goes on to the end of its attempt
-      pub wind-turn : (d : Worker K) → HasOnlySureOpen (place_at ws n) → (HasNothingOpen (place_of (get_or ws n d)) → ⊥) → Turns good stm ws vs old new n (Ok tt)
-          → Plays stm.config MayWind ws vs old new (n ∷ []) (Ok tt) × HasOnlySureOpen (place_at vs n)
+      pub wind-turn : (d : Worker K) → HasOnlyIrrevocableOpen (place_at ws n) → (HasNothingOpen (place_of (get_or ws n d)) → ⊥) → Turns good stm ws vs old new n (Ok tt)
+          → Plays stm.config MayWind ws vs old new (n ∷ []) (Ok tt) × HasOnlyIrrevocableOpen (place_at vs n)
       wind-turn d closing unclosed h =
           let t = h.1 in
           let still = still-inside (place_at ws n) closing (λ e. unclosed (subst HasNothingOpen (at-of d) e)) in
           let at = place_of (get_or ws n t.was) in
           let here : at.phase ≡ Inside = ap (λ (p : Place). p.phase) (sym (at-of t.was)) ∙ still.0 in
-          let is : sure at ≡ true = ap sure (sym (at-of t.was)) ∙ still.1 in (
+          let is : irrevocable at ≡ true = ap irrevocable (sym (at-of t.was)) ∙ still.1 in (
             took-plays good stm MaySay MayWind ws vs old new n h.0 lt t (may-wind at h.0 here is t.turned.here) h.2,
-            subst (λ x. HasOnlySureOpen (place_at x n)) (sym t.is) (subst HasOnlySureOpen (sym (place-set ws n t.now lt ∙ t.turned.now)) (sure-stays at h.0 here is t.turned.here)),
+            subst (λ x. HasOnlyIrrevocableOpen (place_at x n)) (sym t.is) (subst HasOnlyIrrevocableOpen (sym (place-set ws n t.now lt ∙ t.turned.now)) (irrevocable-stays at h.0 here is t.turned.here)),
           )
 
-      pub wind-halt : (d : Worker K) (halt : Halt) → HasOnlySureOpen (place_at ws n) → (HasNothingOpen (place_of (get_or ws n d)) → ⊥) → Turns good stm ws vs old new n (Err halt)
+      pub wind-halt : (d : Worker K) (halt : Halt) → HasOnlyIrrevocableOpen (place_at ws n) → (HasNothingOpen (place_of (get_or ws n d)) → ⊥) → Turns good stm ws vs old new n (Err halt)
           → Plays stm.config MayWind ws vs old new (n ∷ []) (Err halt)
       wind-halt d (ClockFull clock) closing unclosed h =
           let t = h.1 in
           let still = still-inside (place_at ws n) closing (λ e. unclosed (subst HasNothingOpen (at-of d) e)) in
           let at = place_of (get_or ws n t.was) in
           took-halts good stm MaySay MayWind ws vs old new n h.0 lt t
-          (may-wind at h.0 (ap (λ (p : Place). p.phase) (sym (at-of t.was)) ∙ still.0) (ap sure (sym (at-of t.was)) ∙ still.1) t.turned.here) clock h.2 t.turned.here
+          (may-wind at h.0 (ap (λ (p : Place). p.phase) (sym (at-of t.was)) ∙ still.0) (ap irrevocable (sym (at-of t.was)) ∙ still.1) t.turned.here) clock h.2 t.turned.here
       wind-halt d Memory closing unclosed h = tt
 
       still-busy : (d e : Worker K) → (IsOver (place_of (get_or ws n d)) → ⊥) → IsOver (place_of (get_or ws n e)) → ⊥
@@ -211,14 +211,14 @@ module _ {K : Type 0} (good : List ℕ → Type 0) (stm : Stm K) (n : ℕ) (ws v
 
 -- one runner of many gave up what it had open, where it could
 module _ {K : Type 0} (good : List ℕ → Type 0) (stm : Stm K) (rs : List (CachePadded (Runner K))) (n : ℕ) (d r : CachePadded (Runner K)) (lt : n < length (workers_in rs)) where
-  pub none-given-up : (lines : List Line) → NothingToGiveUp good stm (worker_in (get_or rs n d)) (worker_in r) → Goes stm.config MayWind HasOnlySureOpen (workers_in rs) (workers_in (set rs n r)) lines lines n (Ok tt)
+  pub none-given-up : (lines : List Line) → NothingToGiveUp good stm (worker_in (get_or rs n d)) (worker_in r) → Goes stm.config MayWind HasOnlyIrrevocableOpen (workers_in rs) (workers_in (set rs n r)) lines lines n (Ok tt)
   none-given-up lines h =
-      subst (λ ws. Goes stm.config MayWind HasOnlySureOpen (workers_in rs) ws lines lines n (Ok tt)) (sym (workers-set rs n r))
+      subst (λ ws. Goes stm.config MayWind HasOnlyIrrevocableOpen (workers_in rs) ws lines lines n (Ok tt)) (sym (workers-set rs n r))
       (left-goes good stm n (workers_in rs) (worker_in d) (worker_in r) lines lt (subst (λ (x : Worker K). NothingToGiveUp good stm x (worker_in r)) (sym (worker-at rs n d lt)) h))
 
-  pub given-up : (said : Said) (old new : List Line) → GaveUp good stm (worker_in (get_or rs n d)) said (worker_in r) → new ≡ old ++ Of n said ∷ [] → Goes stm.config MayWind HasOnlySureOpen (workers_in rs) (workers_in (set rs n r)) old new n (Ok tt)
+  pub given-up : (said : Said) (old new : List Line) → GaveUp good stm (worker_in (get_or rs n d)) said (worker_in r) → new ≡ old ++ Of n said ∷ [] → Goes stm.config MayWind HasOnlyIrrevocableOpen (workers_in rs) (workers_in (set rs n r)) old new n (Ok tt)
   given-up said old new h lines =
-      subst (λ ws. Goes stm.config MayWind HasOnlySureOpen (workers_in rs) ws old new n (Ok tt)) (sym (workers-set rs n r))
+      subst (λ ws. Goes stm.config MayWind HasOnlyIrrevocableOpen (workers_in rs) ws old new n (Ok tt)) (sym (workers-set rs n r))
       (gave-goes good stm n (workers_in rs) (worker_in d) (worker_in r) said old new lt (subst (λ (x : Worker K). GaveUp good stm x said (worker_in r)) (sym (worker-at rs n d lt)) h) lines)
 
 -- nothing has to be made ready for the turns to the end

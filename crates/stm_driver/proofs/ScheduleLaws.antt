@@ -1,7 +1,7 @@
 -- From one turn of one worker to turns of many, one behind the other.
 use Rattle.std.proofs.Common.{ℕ, zero, suc, ◌≡◌, ◌<◌, ◌≤◌, ◌+◌, ◌*◌, ◌^◌, List, [], ◌∷◌, ◌++◌, length, get_or, set, refl, sym, ap, ◌∙◌, arith, subst, inl, inr, length-append}
 use Rattle.std.specs.Prelude.{Some, None, Ok, Err, MatchOption}
-use Rattle.std.proofs.lemmas.List.{get_or-map}
+use Rattle.std.proofs.lemmas.List.{append-nil, get_or-map}
 use Rattle.std.proofs.lemmas.List.Sums.{sum_by-set}
 use Rattle.stm_rule.specs.declared.stm.Stm.{Stm}
 use Rattle.stm_model.specs.declared.config.Config.{Config}
@@ -21,7 +21,7 @@ use Rattle.stm_trace.specs.Fits.{no_place}
 use Rattle.stm_trace.specs.Places.{Place, after, clock_of}
 use Rattle.stm_trace.specs.Played.{Played, Halted}
 use Rattle.stm_trace.specs.PlayLaws.{played-none, played-one, halted-one, played-append, halted-append, played-as, halted-early}
-use Rattle.stm_trace.specs.Turns.{MaySay}
+use Rattle.stm_trace.specs.Turns.{HasSizes, MaySay}
 use Rattle.crossbeam_utils.specs.declared.cache_padded.CachePadded.{CachePadded}
 use Rattle.std.proofs.lemmas.List.Elements.{All-set}
 use Rattle.stm_driver.specs.declared.workers.Runner.{Runner}
@@ -31,10 +31,8 @@ use Rattle.stm_driver.specs.declared.schedule.Halt.{Halt}
 use Rattle.stm_driver.specs.declared.schedule.Halt.TheVariants.{ClockFull, Memory}
 use Rattle.stm_worker.specs.declared.worker.Worker.{Worker}
 use Rattle.stm_driver.specs.Schedules.{places, place_at, AreSame, AreSound, debts, ArePaid, FoundFull, Plays, Took, Turns}
-use Rattle.stm_profile.specs.declared.policy.Policy.{Policy}
-use Rattle.stm_worker.specs.Installs.{InstallsBy}
-use Rattle.stm_worker.specs.InstallLaws.{by-same, by-trans}
-use Rattle.stm_worker.specs.Workers.{place_of, switches_with, IsSame, Loaded, Sound, Turned}
+use Rattle.stm_worker.specs.InstallLaws.{installed-on, went-append}
+use Rattle.stm_worker.specs.Workers.{place_of, IsSame, Loaded, Sound, Turned}
 
 -- who found the clock full has no attempt open
 pub full-between : (at : Place) (said : Said) (clock : ℕ) → clock_of said ≡ Some clock → MaySay at said → (after at said).phase ≡ Between
@@ -73,15 +71,19 @@ module _ {K : Type 0} where
   same-twice d e f a b = record { table = b.table ∙ a.table; who = b.who ∙ a.who }
 
   pub self-same : (w : Worker K) → IsSame w w
-  self-same w = record { same = record { table = refl; who = refl }; all = refl; regions = refl; policy = refl; switched = by-same w.policy (switches_with w) (switches_with w) refl }
+  self-same w = record { kept = record { same = record { table = refl; who = refl }; all = refl; regions = refl; policy = refl }; course = []; went = λ h sizes. refl; installs = sym (append-nil (known w.desc).installs) }
 
   pub worker-trans : (u v w : Worker K) → IsSame u v → IsSame v w → IsSame u w
   worker-trans u v w a b = record {
-    same = same-twice u.desc v.desc w.desc a.same b.same;
-    all = b.all ∙ a.all;
-    regions = b.regions ∙ a.regions;
-    policy = b.policy ∙ a.policy;
-    switched = by-trans u.policy (switches_with u) (switches_with v) (switches_with w) a.switched (subst (λ (p : Policy). InstallsBy p (switches_with v) (switches_with w)) a.policy b.switched);
+    kept = record {
+      same = same-twice u.desc v.desc w.desc a.kept.same b.kept.same;
+      all = b.kept.all ∙ a.kept.all;
+      regions = b.kept.regions ∙ a.kept.regions;
+      policy = b.kept.policy ∙ a.kept.policy;
+    };
+    course = a.course ++ b.course;
+    went = λ h sizes. went-append h (place_of u) (place_of v) (place_of w) a.course b.course (a.went h sizes) (b.went h (subst (λ c. HasSizes c h) (sym (ap (λ x. x.config) a.kept.same.who)) sizes));
+    installs = b.installs ∙ installed-on (known u.desc).installs (known v.desc).installs a.course b.course a.installs;
   }
 
   pub same-refl : (ws : List (Worker K)) → AreSame ws ws

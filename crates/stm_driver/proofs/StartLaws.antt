@@ -1,8 +1,7 @@
 -- A worker that has done nothing.
 use Rattle.std.proofs.Common.{ℕ, ◌≡◌, false, List, [], length, drop, refl, sym, ap, ◌∙◌, arith, subst}
-use Rattle.std.specs.Prelude.{None, ◌++◌}
+use Rattle.std.specs.Prelude.{None}
 use Rattle.stm_profile.specs.declared.policy.Policy.{Policy}
-use Rattle.stm_profile.specs.declared.policy.Policy.TheVariants.{Fixed, Round, Expert, State}
 use Rattle.stm_rule.specs.declared.stm.Stm.{Stm}
 use Rattle.stm_model.specs.declared.alg.Alg.{Alg}
 use Rattle.tx_regions.specs.declared.region.Region.{Region}
@@ -17,14 +16,7 @@ use Rattle.stm_trace.specs.declared.said.Phase.TheVariants.{Between}
 use Rattle.stm_trace.specs.Places.{Place}
 use Rattle.stm_worker.specs.declared.worker.Worker.{Worker}
 use Rattle.stm_driver.specs.Openings.{IsNew}
-use Rattle.stm_worker.specs.InstallLaws.{by-same}
-use Rattle.stm_worker.specs.Workers.{IsAskedBy, IsAt, WhenInside, ToSwitch, ItemsFit, DidSwitches, switches_of, IsUnderWay, Works, Stands, Starts, Sound}
-
-asked-none : (policy : Policy) → IsAskedBy policy None
-asked-none Fixed = refl
-asked-none (Round n) = tt
-asked-none Expert = tt
-asked-none (State n) = tt
+use Rattle.stm_worker.specs.Workers.{IsAt, WhenInside, ToSwitch, ItemsFit, IsUnderWay, Works, Stands, Starts, Sound}
 
 module _ {K : Type 0} (good : List ℕ → Type 0) (stm : Stm K) where
   -- a caller that has made nothing has done nothing
@@ -62,9 +54,6 @@ module _ {K : Type 0} (good : List ℕ → Type 0) (stm : Stm K) where
         todo = ap (scripts_of (caller_of u.desc.who.role)) whole ∙ ap (λ (rows : List Row). drop (length rows) (scripts_of (caller_of u.desc.who.role) u.all.now)) (sym none);
         within = omega arith;
         counted = λ off. omega (arith, failed);
-        switched = subst (λ v. DidSwitches u.policy u.all.now u.items_left.now v) (sym knows)
-            (subst (λ l. DidSwitches u.policy u.all.now l (known d)) (sym whole) ((known d).installs, by-same u.policy ((known d).installs ++ switches_of u.all.now) ((known d).installs ++ switches_of u.all.now) refl));
-        asked = subst (IsAskedBy u.policy) (sym unasked) (asked-none u.policy);
         fits = subst (λ l. ItemsFit good stm.config.words u.regions.now (caller_of u.desc.who.role) l) (sym left)
             (subst (λ x. ItemsFit good stm.config.words x (caller_of u.desc.who.role) items) (sym s.over)
             (subst (λ n. ItemsFit good stm.config.words rs n items) (sym who) fits));

@@ -13,12 +13,12 @@ use Rattle.stm_trace.specs.declared.said.Phase.TheVariants.{Between, Inside}
 use Rattle.stm_trace.specs.declared.said.Said.{Said}
 use Rattle.stm_trace.specs.declared.said.Said.TheVariants.{TryBegin, Reply, Stopped, TryCancel, TryIrrevocable, TryCommit, TryClose, Looked, Installed, Reserved, Idle, Dropped, Reopened}
 use Rattle.stm_trace.specs.Places.{Place, after, clock_of}
-use Rattle.stm_trace.specs.Turns.{BeforeTx, IsOver, Lengthens, MaySay}
+use Rattle.stm_trace.specs.Turns.{BeforeTx, IsOver, MaySay}
 use Rattle.stm_worker.specs.declared.worker.Worker.{Worker}
 use Rattle.stm_worker.specs.Workers.{IsSame, IsUnderWay, Loaded, Sound, Starved, Turned, WhenInside, place_of}
 use Rattle.stm_worker.specs.Payments.{CountsNext, PaysBut, unpaid_at, unpaid_by}
 use Rattle.stm_worker.specs.PaymentLaws.{alone-pays-but, none-failed, pays-all, pays-left, same-unpaid, turned-counts, turned-pays-but}
-use Rattle.stm_driver.specs.AllWorkers.{Enough, IsPaid, MetLimit, MetRefusal}
+use Rattle.stm_driver.specs.AllWorkers.{Enough, IsPaid, MetLimit}
 use Rattle.stm_driver.proofs.ScheduleLaws.{full-between, self-same}
 
 -- a transaction is still to do
@@ -65,12 +65,6 @@ module _ {K : Type 0} (good : List ℕ → Type 0) (stm : Stm K) (u w : Worker K
 module _ {K : Type 0} (good : List ℕ → Type 0) (stm : Stm K) (u w : Worker K) (t : Starved good stm u w) where
   pub starved-same : IsSame u w
   starved-same = subst (IsSame u) (sym t.still) (self-same u)
-
-  pub starved-between : w.phase ≡ Between
-  starved-between = ap (λ (x : Worker K). x.phase) t.still ∙ t.between
-
-  pub starved-met : MetRefusal w
-  starved-met = (t.next.0, t.next.1, subst (λ (x : Worker K). Lengthens t.next.0 t.next.1 x.items_left.now) (sym t.still) t.next.2)
 
 -- who says that nothing is left has nothing to do, by its text or by its policy
 pub idle-through : {K : Type 0} (good : List ℕ → Type 0) (stm : Stm K) (u w : Worker K) (said : Said) → Turned good stm MaySay u said w → said ≡ Idle → (w.items_left.now ≡ []) × (w.chosen ≡ None)

@@ -6,4 +6,5 @@ pub mod Preparings
 pub mod Schedules
 pub mod Untils
 pub mod ClosedRuns
+pub mod Along
 pub mod Runs

@@ -1,12 +1,13 @@
 -- What a run comes to.
-use Rattle.std.specs.Prelude.{ℕ, zero, suc, ◌≡◌, ◌<◌, ◌≤◌, ◌+◌, ◌*◌, ◌^◌, ◌⊎◌, ◌==◌, if◌then◌else◌, List, [], ◌∷◌, ◌++◌, length}
+use Rattle.std.specs.Prelude.{ℕ, suc, ◌≡◌, ◌<◌, ◌≤◌, ◌+◌, ◌*◌, ◌^◌, ◌⊎◌, ◌==◌, Bool, true, false, if◌then◌else◌, List, [], ◌∷◌, ◌++◌, length, map}
 use Rattle.stm_model.specs.declared.alg.Alg.{Alg}
 use Rattle.stm_model.specs.Histories.{IsLegal}
 use Rattle.stm_profile.specs.declared.policy.Policy.{Policy}
 use Rattle.stm_model.specs.HistoryLaws.{Within}
 use Rattle.stm_script.specs.declared.report.Report.{Report}
+use Rattle.stm_script.specs.declared.report.Row.{Row}
 use Rattle.stm_script.specs.declared.workload.Workload.{Workload}
-use Rattle.stm_script.specs.Reports.{Replays, Shows, regions_of, zeros}
+use Rattle.stm_script.specs.Reports.{Replays, Shows, regions_of, rows_of, script_of, zeros}
 use Rattle.tx_regions.specs.Regions.{AllWellFormed}
 use Rattle.stm_trace.specs.declared.line.Line.{Line}
 use Rattle.stm_trace.specs.Fits.{TraceFits, TraceFitsSoFar}
@@ -14,34 +15,44 @@ use Rattle.stm_trace.specs.Places.{items_of}
 use Rattle.stm_script.specs.declared.workload.Item.{Item}
 use Rattle.stm_worker.specs.Installs.{InstallsBy}
 use Rattle.stm_worker.specs.Leavings.{IsPart}
-use Rattle.stm_worker.specs.Workers.{switches_of}
 use Rattle.stm_rule.specs.Closings.{Ended}
 use Rattle.stm_trace.specs.Adapting.{policy_for}
+use Rattle.stm_driver.specs.Along.{GoesAlong}
+use Rattle.stm_driver.specs.Openings.{first_installs}
 use Rattle.stm_driver.specs.declared.outcome.Outcome.{Outcome}
 use Rattle.stm_driver.specs.declared.outcome.Outcome.TheVariants.{ToEnd, ToLimit, OutOfMemory}
 
--- what the text has caller n install: its switches in their order, caller 0 after the header's algorithm
-abbrev pub installs_for : Workload → ℕ → List Alg
-installs_for w zero = w.header.alg ∷ switches_of (items_of 0 w.items)
-installs_for w (suc n) = switches_of (items_of (suc n) w.items)
+-- what caller n installed, caller 0 after the header's algorithm: the switches of its items, and behind its transactions those that its policy asked for, by what its rows say and the attempts before them
+pub record HasInstalled (whole : Bool) (policy : Policy) (w : Workload) (rows : List Row) (n : ℕ) (installs : List Alg) : Type 0 where
+  pub more : List Alg
+  pub first : installs ≡ first_installs w.header.alg n ++ more
+  -- the switch that was asked for last may be left, but not where nothing is
+  pub done : Bool
+  pub all : whole ≡ true → done ≡ true
+  pub by : InstallsBy w.header.callers done (policy_for policy n) (items_of n w.items) (map (λ (r : Row). r.kind) (rows_of n rows)) more
 
--- these are the installs of the callers from n on: those of the text, and under a policy others among caller 0's
-abbrev pub AreInstalls : Policy → Workload → ℕ → List (List Alg) → Type 0
-AreInstalls policy w n [] = Unit {0}
-AreInstalls policy w n (installs ∷ others) = InstallsBy (policy_for policy n) (installs_for w n) installs × AreInstalls policy w (suc n) others
+-- these are the installs of the callers from n on
+abbrev pub AreInstalls : Bool → Policy → Workload → List Row → ℕ → List (List Alg) → Type 0
+AreInstalls whole policy w rows n [] = Unit {0}
+AreInstalls whole policy w rows n (installs ∷ others) = HasInstalled whole policy w rows n installs × AreInstalls whole policy w rows (suc n) others
 
 -- the history of the memory that was closed is legal, over zeros from the header's clock on, with each structure well formed at every moment, and has no entry behind the last clock
 pub record IsHistory (w : Workload) (closed : Ended) : Type 0 where
   pub legal : IsLegal (AllWellFormed (regions_of w.header)) (zeros w.header.words) w.header.clock closed.history
   pub times : Within closed.clock closed.history
 
--- the report replays the workload, and shows the one history of the memory that was closed, which is legal; each caller's installs are those of the text, and what the policy asked for
-pub record IsShown (policy : Policy) (w : Workload) (report : Report) (closed : Ended) : Type 0 where
+-- the report replays the workload, and shows the one history of the memory that was closed, which is legal; each caller's installs are those of the text, and what its policy asked for, all of them where nothing is left
+pub record IsShownBy (whole : Bool) (policy : Policy) (w : Workload) (report : Report) (closed : Ended) : Type 0 where
   pub replays : Replays w report
   pub shows : Shows closed.history closed.opening closed.clock w report
   pub history : IsHistory w closed
   pub callers : length closed.installs ≡ w.header.callers
-  pub installs : AreInstalls policy w 0 closed.installs
+  -- each row is replayed over the memories of the history at its place
+  pub along : GoesAlong (regions_of w.header) (script_of w.items) closed.history (zeros w.header.words) (zeros w.header.words) report.rows
+  pub installs : AreInstalls whole policy w report.rows 0 closed.installs
+
+abbrev pub IsShown : Policy → Workload → Report → Ended → Type 0
+IsShown policy w report closed = IsShownBy true policy w report closed
 
 -- the first of all items
 abbrev pub AreFirst : List Item → List Item → Type 0
@@ -57,7 +68,7 @@ pub record RanSome (some : List Item → List Item → Type 0) (policy : Policy)
   pub header : part.header ≡ w.header
   pub each : (n : ℕ) → n < w.header.callers → some (items_of n w.items) (items_of n part.items)
   pub report : Report
-  pub shown : IsShown policy part report closed
+  pub shown : IsShownBy false policy part report closed
 
 -- by how much an item raises the clock at most, with the attempts of it that failed: with one caller none is in the way of another
 abbrev pub most_rises : ℕ → ℕ

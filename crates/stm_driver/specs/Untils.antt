@@ -2,7 +2,7 @@
 use Rattle.stm_trace.specs.declared.said.Said.{Said}
 use Rattle.stm_trace.specs.Places.{Place}
 use Rattle.stm_trace.specs.Turns.{MayWind, MayFinish, IsOver}
-use Rattle.stm_worker.specs.Leavings.{HasNothingOpen, HasOnlySureOpen}
+use Rattle.stm_worker.specs.Leavings.{HasNothingOpen, HasOnlyIrrevocableOpen}
 use Rattle.stm_driver.specs.declared.finishing.Until.{Until}
 use Rattle.stm_driver.specs.declared.finishing.Until.TheVariants.{NothingOpen, NothingLeft}
 
@@ -15,5 +15,5 @@ stands_until NothingOpen = HasNothingOpen
 stands_until NothingLeft = IsOver
 
 abbrev pub ready_until : Until → Place → Type 0
-ready_until NothingOpen = HasOnlySureOpen
+ready_until NothingOpen = HasOnlyIrrevocableOpen
 ready_until NothingLeft = λ at. Unit {0}

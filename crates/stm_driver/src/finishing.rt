@@ -1,7 +1,7 @@
 //! Behind a schedule: what is open ends, and then each caller goes on until nothing is left.
 ghost use Rattle.std.specs.Prelude.{◌≡◌, ◌<◌, [], ◌∷◌, All, MatchBool, MatchOption, length};
 ghost use Rattle.stm_trace.specs.Turns.{MayWind};
-ghost use Rattle.stm_worker.specs.Leavings.{HasOnlySureOpen, NothingToGiveUp, GaveUp};
+ghost use Rattle.stm_worker.specs.Leavings.{HasOnlyIrrevocableOpen, NothingToGiveUp, GaveUp};
 ghost use Rattle.stm_worker.specs.Workers.{Sound, place_of};
 ghost use Rattle.stm_driver.specs.AllWorkers.{worker_in, workers_in};
 ghost use Rattle.stm_driver.specs.Schedules.{AreSound, AreSame, Goes, Rounds, Drives, place_at};
@@ -140,7 +140,7 @@ fn give_up_open<K: MemRule>(
     requires below { caller < length (workers_in runners.old) }
     ensures sound { AreSound (K.good stm.now.rule) stm.now (workers_in runners.new) }
     ensures same { AreSame (workers_in runners.old) (workers_in runners.new) }
-    ensures goes { Goes stm.now.config MayWind HasOnlySureOpen (workers_in runners.old) (workers_in runners.new) trace.old.items trace.new.items caller result }
+    ensures goes { Goes stm.now.config MayWind HasOnlyIrrevocableOpen (workers_in runners.old) (workers_in runners.new) trace.old.items trace.new.items caller result }
 {
     match give_up_one(stm, &mut runners[caller]) {
         None => Ok(()),

@@ -1,7 +1,7 @@
 -- What the steps of a fence come to, as its caller knows it.
 use Rattle.std.proofs.Common.{ℕ, zero, suc, ◌≡◌, ◌≢◌, ◌<◌, ◌≤◌, ◌+◌, List, [], ◌∷◌, ◌++◌, Bool, true, false, refl, sym, ap, ◌∙◌, arith, subst, length, replicate, get_or, append_assoc}
 use Rattle.std.proofs.lemmas.Bool.Decides.{nat_tests}
-use Rattle.std.specs.Prelude.{◌%◌, ◌-◌, ltb, nat_le, not, reverse, Some, None, MatchOption, slice_index, if◌then◌else◌}
+use Rattle.std.specs.Prelude.{◌%◌, ◌-◌, ltb, nat_le, reverse, Some, None, MatchOption, slice_index, if◌then◌else◌}
 use Rattle.stm_model.specs.Algorithms.{entry_rise}
 use Rattle.stm_model.specs.declared.alg.Alg.{Alg}
 use Rattle.stm_model.specs.declared.alg.Alg.TheVariants.{Cgl, Tml, OrecLazy, OrecEager, RingSw, Serial}
@@ -37,7 +37,7 @@ use Rattle.tx_answers.specs.Known.{known_of, written_under, granted_under, is_in
 use Rattle.tx_answers.specs.KnownLaws.{grows-same, ascending-append, within-append}
 use Rattle.stm_gate.specs.InnerLaws.{granted-same}
 use Rattle.stm_gate.specs.LeavingLaws.{finds-full}
-use Rattle.stm_gate.specs.Logging.{item-touched, wrote-some}
+use Rattle.stm_gate.specs.Logging.{item-touched}
 use Rattle.stm_gate.specs.Opacity.{later-seen}
 
 memory_after-append : (es : List public.Entry) (e : public.Entry) (m : List ℕ) → memory_after (es ++ e ∷ []) m ≡ overlay (memory_after es m) e.writes
@@ -94,14 +94,6 @@ beside v u o history gate lock attempt owned steps = λ i. record (known_of u o)
   where
     written : written_under u.gate.algorithm u.gate.granted u o ≡ written_under v.gate.algorithm v.gate.granted v o
     written = ap (λ g. written_under g.algorithm g.granted u o) gate ∙ written-same v.gate.algorithm v.gate.granted v u o attempt owned
-
-pub not-false : (b : Bool) → not b ≡ false → b ≡ true
-not-false true e = refl
-not-false false e = absurd (let f : true ≡ false = e in cc)
-
-pub not-true : (b : Bool) → not b ≡ true → b ≡ false
-not-true true e = absurd (let f : false ≡ true = e in cc)
-not-true false e = refl
 
 module _ (good : List ℕ → Type 0) (c : Config) (n : ℕ) where
   abbrev rule : (ℕ → ℕ) → Type 0
@@ -161,13 +153,6 @@ module _ (good : List ℕ → Type 0) (c : Config) (n : ℕ) where
   -- who is closing and has a range in which nothing is stored may give it back
   pub can-unfence : (l : Local) (v : View) → IsClosing c.callers n l v → HasChecked c.callers n v → v.fence.holds ≡ true → v.fence.stores ≡ [] → CanUnfence c.callers n l.algorithm v
   can-unfence l v k quiet held none = record { phase = k.phase; quiet = quiet; named = k.named; holds = held; unstored = none; plain = λ e. k.clear.unentered; marked = λ e. absurd (let f : true ≡ false = sym e ∙ k.ungiven in cc) }
-
-  none-stored : (cs : List Cell) → is_empty (items cs) ≡ true → cs ≡ []
-  none-stored [] e = refl
-  none-stored (d ∷ cs) e = absurd (let f : true ≡ false = sym e ∙ wrote-some (d ∷ cs) (λ q. let g : d ∷ cs ≡ [] = q in cc) in cc)
-
-  pub stored-none : (v : View) (o : Own) → is_empty (known_of v o).fenced.log.writes ≡ true → v.fence.stores ≡ []
-  stored-none v o e = none-stored v.fence.stores e
 
   pub tells-unchanged : (alg : Alg) (v w : View) (o : Own) → HoldsClosed (known_of v o) → is_empty (known_of v o).fenced.log.writes ≡ true → Tells (unfence n alg) Nothing v (gate_word 0 (1 + n) alg) w → Gives good c n Unchanged (known_of v o) (known_of w o)
   tells-unchanged alg v w o h none t = subst (λ (y : View). Gives good c n Unchanged (known_of v o) (known_of y o)) (sym t.2) (

@@ -25,7 +25,7 @@ use Rattle.tx_answers.specs.declared.answers.Read.TheVariants.{Value}
 use Rattle.tx_answers.specs.declared.answers.Write.TheVariants.{Done}
 use Rattle.tx_answers.specs.Answers.{HasRead, HasWritten, KeepsRule, Commits, CommitsAt}
 use Rattle.tx_answers.specs.Known.{known_of, granted_under, written_under, is_irrevocable, wrote}
-use Rattle.stm_gate.specs.InnerLaws.{goes-inner, written-granted, sure-granted, never-full}
+use Rattle.stm_gate.specs.InnerLaws.{goes-inner, written-granted, irrevocable-granted, never-full}
 use Rattle.stm_gate.specs.Leaving.{left}
 use Rattle.stm_gate.specs.LeavingLaws.{unmade-refl, ended-left, commits-left}
 use Rattle.stm_gate.specs.Logging.{reads-logged, inside-logged, wrote-some}
@@ -37,8 +37,8 @@ module _ (good : List ℕ → Type 0) (c : Config) (n : ℕ) where
   rule = of_words good c.words
 
   -- a promoted attempt is irrevocable
-  sure-known : (v : View) (o : Own) → closes_gate v.gate.algorithm ≡ true → granted_under v.gate.algorithm v.gate v.lock ≡ true → is_irrevocable (known_of v o) ≡ true
-  sure-known v o closes granted = sure-granted v.gate.algorithm (granted_under v.gate.algorithm v.gate v.lock) (wrote (known_of v o)) closes granted
+  irrevocable-known : (v : View) (o : Own) → closes_gate v.gate.algorithm ≡ true → granted_under v.gate.algorithm v.gate v.lock ≡ true → is_irrevocable (known_of v o) ≡ true
+  irrevocable-known v o closes granted = irrevocable-granted v.gate.algorithm (granted_under v.gate.algorithm v.gate v.lock) (wrote (known_of v o)) closes granted
 
   pub tells-load : (a x : ℕ) (l : Local) (v w : View) (o : Own) → o.committing ≡ false → a < c.words → closes_gate v.gate.algorithm ≡ true → granted_under v.gate.algorithm v.gate v.lock ≡ true → IsInside good c n l v
       → Tells (direct_load a) (Loads rule c a) v x w → HasRead good c n a (Value x) (known_of v o) (known_of w o)
@@ -50,7 +50,7 @@ module _ (good : List ℕ → Type 0) (c : Config) (n : ℕ) where
         (reads-logged (word_now v.history.seen) v.attempt a x i.sees t.1.value)),
     t.1.small,
     opaque-at good c n u o l.start i.start i.front i.legal i.below t.1.sees (inside-logged c.words v.attempt a x low i.reads_inside),
-    (never-full a (known_of v o) (sure-known v o closes granted)).0,
+    (never-full a (known_of v o) (irrevocable-known v o closes granted)).0,
   )
     where
       u : View
@@ -66,7 +66,7 @@ module _ (good : List ℕ → Type 0) (c : Config) (n : ℕ) where
     quiet,
     (refl, λ b. ap (item_at b) (written u ∙ ap (put a x) (sym (written v)))),
     opaque-at good c n u o l.start i.start i.front i.legal i.below i.sees i.reads_inside,
-    (never-full a (known_of v o) (sure-known v o closes granted)).1,
+    (never-full a (known_of v o) (irrevocable-known v o closes granted)).1,
   )
     where
       u : View

@@ -1,7 +1,7 @@
 -- What comes of an attempt that is alone, and of the call in which it came to be so.
 use Rattle.std.proofs.Common.{ℕ, ◌≡◌, ◌<◌, ◌+◌, List, [], ◌∷◌, ◌++◌, true, false, refl, sym, ap, ◌∙◌, arith, subst, append_assoc, inl, inr}
 use Rattle.std.specs.Prelude.{◌%◌, ◌⊎◌, Some, None, not}
-use Rattle.stm_model.specs.Algorithms.{asks_at_grant, closes_gate, has_records, is_sure, quit_rise}
+use Rattle.stm_model.specs.Algorithms.{asks_at_grant, closes_gate, has_records, irrevocable_under, quit_rise}
 use Rattle.stm_model.specs.declared.config.Config.{Config}
 use Rattle.stm_model.specs.declared.stop.Cause.TheVariants as causes
 use Rattle.stm_model.specs.Logs.{Log}
@@ -17,7 +17,7 @@ use Rattle.stm_rule.specs.declared.local.Local.{Local}
 use Rattle.stm_rule.specs.Attempts.{IsInside}
 use Rattle.tx_answers.specs.declared.answers.Irrev.{Irrev}
 use Rattle.tx_answers.specs.declared.answers.Irrev.TheVariants as irrevs
-use Rattle.tx_answers.specs.Answers.{BecomesSure, Quits, Waits, Irrevs}
+use Rattle.tx_answers.specs.Answers.{BecomesIrrevocable, Quits, Waits, Irrevs}
 use Rattle.tx_answers.specs.Causes.{Conflicts, FindsFull, IsAnothers, IsNewer, has_item, read_filter}
 use Rattle.tx_answers.specs.Evidence.{Found, FoundAsWas, FoundMoved, Untouched}
 use Rattle.tx_answers.specs.SlotEvidence.{FindsFirst, clock_load}
@@ -61,7 +61,7 @@ moved-earlier r x y u v w s f = record {
 module _ (good : List ℕ → Type 0) (c : Config) (n : ℕ) where
   -- what becomes of an attempt that is alone
   abbrev pub Grants : Irrev → Known → Known → Type 0
-  Grants irrevs.Granted v w = BecomesSure good c n v w
+  Grants irrevs.Granted v w = BecomesIrrevocable good c n v w
   Grants (irrevs.Busy caller status) v w = ⊥
   Grants (irrevs.Taken gate) v w = ⊥
   Grants (irrevs.Conflict cause) v w = Quits v w × Conflicts c n None cause v w × (1 < c.callers)
@@ -110,7 +110,7 @@ module _ (good : List ℕ → Type 0) (c : Config) (n : ℕ) where
   -- THE CALL: it came to be alone, and then this became of it
   pub irrevs-after : (r : irrevs.the_data) (u v w : Known) → Waits good c n u v → SparesRecords u v → Grants r v w → Irrevs good c n r u w
   irrevs-after irrevs.Granted u v w a s b = let k = a.continues in let q = b.continues in
-      let still : is_irrevocable v ≡ false = (λ j. is_sure (k.alg j) (a.granted j) (not (is_empty (a.log j).writes))) ∙ a.revocable in record {
+      let still : is_irrevocable v ≡ false = (λ j. irrevocable_under (k.alg j) (a.granted j) (not (is_empty (a.log j).writes))) ∙ a.revocable in record {
         continues = record {
           running = q.running;
           closing = q.closing;
@@ -127,7 +127,7 @@ module _ (good : List ℕ → Type 0) (c : Config) (n : ℕ) where
         still = b.still ∙ a.still;
         uncommitted = b.uncommitted;
         log = b.log ∙ a.log;
-        sure = b.sure;
+        irrevocable = b.irrevocable;
         opaque = b.opaque;
         before = λ e. absurd (let f : true ≡ false = sym e ∙ a.revocable in cc);
         now = λ e. (let z = b.now still in (z.0, found-before Clock w.start u v w a z.1));
@@ -139,8 +139,8 @@ module _ (good : List ℕ → Type 0) (c : Config) (n : ℕ) where
   irrevs-after (irrevs.ClockFull clock) u v w a s b = (quits-after u v w a b.0, ap asks_at_grant (sym a.continues.alg) ∙ b.1, record { limit = b.2.limit; found = found-before Clock clock u v w a b.2.found; top = b.2.top })
 
   -- an attempt that was irrevocable before stays as it was
-  pub sure-already : (l : Local) (v : View) (o : Own) → o.committing ≡ false → IsInside good c n l v → is_irrevocable (known_of v o) ≡ true → BecomesSure good c n (known_of v o) (known_of v o)
-  sure-already l v o quiet i sure = record {
+  pub irrevocable-already : (l : Local) (v : View) (o : Own) → o.committing ≡ false → IsInside good c n l v → is_irrevocable (known_of v o) ≡ true → BecomesIrrevocable good c n (known_of v o) (known_of v o)
+  irrevocable-already l v o quiet i irrevocable = record {
     continues = record {
       running = ap is_in i.phase;
       closing = ap is_closing i.phase;
@@ -157,9 +157,9 @@ module _ (good : List ℕ → Type 0) (c : Config) (n : ℕ) where
     still = refl;
     uncommitted = quiet;
     log = refl;
-    sure = sure;
+    irrevocable = irrevocable;
     opaque = opaque-inside good c n l v o i;
     before = λ e. refl;
-    now = λ e. absurd (let f : true ≡ false = sym sure ∙ e in cc);
-    alone = λ e q. absurd (let f : true ≡ false = sym sure ∙ e in cc);
+    now = λ e. absurd (let f : true ≡ false = sym irrevocable ∙ e in cc);
+    alone = λ e q. absurd (let f : true ≡ false = sym irrevocable ∙ e in cc);
   }

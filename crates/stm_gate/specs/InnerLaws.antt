@@ -1,7 +1,7 @@
 -- A step inside an attempt that leaves all alone but what was read and stored, as its caller knows it.
 use Rattle.std.proofs.Common.{ℕ, ◌≡◌, List, ◌++◌, Bool, true, false, refl, ap, ◌∙◌, arith, inl}
 use Rattle.std.specs.Prelude.{not, reverse, length, ◌&&◌, ◌==◌}
-use Rattle.stm_model.specs.Algorithms.{closes_gate, is_sure, has_read_log, logs_writes}
+use Rattle.stm_model.specs.Algorithms.{closes_gate, irrevocable_under, has_read_log, logs_writes}
 use Rattle.stm_model.specs.declared.alg.Alg.{Alg}
 use Rattle.stm_model.specs.declared.alg.Alg.TheVariants.{Cgl, Tml, OrecLazy, OrecEager, RingSw, Serial}
 use Rattle.rule_base.specs.declared.views.GateView.{GateView}
@@ -88,14 +88,14 @@ written-granted RingSw true v o e = refl
 written-granted RingSw false v o e = absurd cc
 written-granted Serial granted v o e = refl
 
-pub sure-granted : (a : Alg) (granted wrote : Bool) → closes_gate a ≡ true → granted ≡ true → is_sure a granted wrote ≡ true
-sure-granted Cgl granted wrote c e = refl
-sure-granted Tml true wrote c e = refl
-sure-granted Tml false wrote c e = absurd cc
-sure-granted OrecLazy granted wrote c e = e
-sure-granted OrecEager granted wrote c e = e
-sure-granted RingSw granted wrote c e = e
-sure-granted Serial granted wrote c e = e
+pub irrevocable-granted : (a : Alg) (granted wrote : Bool) → closes_gate a ≡ true → granted ≡ true → irrevocable_under a granted wrote ≡ true
+irrevocable-granted Cgl granted wrote c e = refl
+irrevocable-granted Tml true wrote c e = refl
+irrevocable-granted Tml false wrote c e = absurd cc
+irrevocable-granted OrecLazy granted wrote c e = e
+irrevocable-granted OrecEager granted wrote c e = e
+irrevocable-granted RingSw granted wrote c e = e
+irrevocable-granted Serial granted wrote c e = e
 
 and-no : (b : Bool) → (b && false) ≡ false
 and-no true = refl
@@ -103,9 +103,9 @@ and-no false = refl
 
 -- an irrevocable attempt needs no item more
 pub never-full : (a : ℕ) (v : Known) → is_irrevocable v ≡ true → (reads_full a v ≡ false) × (writes_full a v ≡ false)
-never-full a v sure = (
-  ap (λ b. has_read_log v.alg && (not b && (not (has_item a v.log.writes) && (not (has_item a v.log.reads) && (length v.log.reads == v.reads_limit))))) sure ∙ and-no (has_read_log v.alg),
-  ap (λ b. logs_writes v.alg && (not b && (not (has_item a v.log.writes) && (length v.log.writes == v.writes_limit)))) sure ∙ and-no (logs_writes v.alg),
+never-full a v irrevocable = (
+  ap (λ b. has_read_log v.alg && (not b && (not (has_item a v.log.writes) && (not (has_item a v.log.reads) && (length v.log.reads == v.reads_limit))))) irrevocable ∙ and-no (has_read_log v.alg),
+  ap (λ b. logs_writes v.alg && (not b && (not (has_item a v.log.writes) && (length v.log.writes == v.writes_limit)))) irrevocable ∙ and-no (logs_writes v.alg),
 )
 
 -- nor does one of an algorithm without logs

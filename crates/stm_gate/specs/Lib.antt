@@ -16,4 +16,4 @@ pub mod Starts
 pub mod Granting
 pub mod DirectLaws
 pub mod MarkLaws
-pub mod Sure
+pub mod Irrevocable

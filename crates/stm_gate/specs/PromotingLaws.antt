@@ -2,7 +2,7 @@
 use Rattle.std.proofs.Common.{ℕ, ◌≡◌, ◌≢◌, ◌<◌, ◌+◌, List, [], ◌∷◌, ◌++◌, Bool, true, false, refl, sym, ap, ◌∙◌, arith, subst, append_assoc}
 use Rattle.std.proofs.lemmas.Bool.Decides.{nat_tests}
 use Rattle.std.specs.Prelude.{Some, None, not, ◌==◌, ◌&&◌, ◌||◌, if◌then◌else◌}
-use Rattle.stm_model.specs.Algorithms.{closes_gate, is_sure}
+use Rattle.stm_model.specs.Algorithms.{closes_gate, irrevocable_under}
 use Rattle.stm_model.specs.declared.alg.Alg.{Alg}
 use Rattle.stm_model.specs.declared.alg.Alg.TheVariants.{Cgl, Tml, OrecLazy, OrecEager, RingSw, Serial}
 use Rattle.stm_model.specs.declared.config.Config.{Config}
@@ -169,7 +169,7 @@ module _ (c : Config) (n : ℕ) where
     revocable-tml l v o i tml revocable = (free.0, plain, clean l.wrote refl, reader)
       where
         free : (v.gate.granted ≡ false) × (not (is_empty (items v.attempt.stores)) ≡ false)
-        free = or-no v.gate.granted (not (is_empty (items v.attempt.stores))) (subst (λ (a : Alg). is_sure a (granted_under a v.gate v.lock) (not (is_empty (written_under a v.gate.granted v o))) ≡ false) tml revocable)
+        free = or-no v.gate.granted (not (is_empty (items v.attempt.stores))) (subst (λ (a : Alg). irrevocable_under a (granted_under a v.gate v.lock) (not (is_empty (written_under a v.gate.granted v o))) ≡ false) tml revocable)
 
         plain : l.granted ≡ false
         plain = ap (λ b. b && l.granted) (sym (ap closes_gate (sym i.named ∙ tml))) ∙ (sym i.granted ∙ free.0)
@@ -182,7 +182,7 @@ module _ (c : Config) (n : ℕ) where
         clean false e = refl
 
     -- an attempt that closes the gate to be granted, and can still be cancelled, was not granted
-    revocable-plain : (a : Alg) (v : View) (o : Own) → closes_gate a ≡ true → is_sure a (granted_under a v.gate v.lock) (not (is_empty (written_under a v.gate.granted v o))) ≡ false → v.gate.granted ≡ false
+    revocable-plain : (a : Alg) (v : View) (o : Own) → closes_gate a ≡ true → irrevocable_under a (granted_under a v.gate v.lock) (not (is_empty (written_under a v.gate.granted v o))) ≡ false → v.gate.granted ≡ false
     revocable-plain Cgl v o e r = absurd cc
     revocable-plain Tml v o e r = (or-no v.gate.granted (not (is_empty (items v.attempt.stores))) r).0
     revocable-plain OrecLazy v o e r = r

@@ -7,9 +7,8 @@
 //! A range comes and goes only while the gate is closed and nobody is in an attempt, so no clean-up and no doomed
 //! attempt of another caller is late.
 ghost use Rattle.tx_answers.specs.Counting.{AddsAtMost};
-ghost use Rattle.std.specs.Prelude.{◌≡◌, ℕ, ◌<◌, ◌≤◌, ◌+◌, true, not};
+ghost use Rattle.std.specs.Prelude.{◌≡◌, ℕ, ◌<◌, ◌≤◌, ◌+◌, true};
 ghost use Rattle.rule_base.specs.Encodings.{fenced};
-ghost use Rattle.stm_model.specs.Memories.{is_empty};
 ghost use Rattle.stm_rule.specs.Callers.{IsOf, IsSameCaller};
 ghost use Rattle.tx_answers.specs.Answers.{HoldsClosed, SeesQuiet};
 ghost use Rattle.tx_answers.specs.Fences.{Fences, ReadsDirect, WritesDirect, KeepsFenced, Gives};
@@ -81,17 +80,16 @@ pub fn direct_write<K: MemRule>(desc: &mut Desc<K>, stm: &Stm<K>, a: usize, x: u
 }
 
 /// Gives the caller's range back, with what was written there as one entry of the history. It asks for a closing
-/// descriptor whose last look was quiet and, where there were direct writes, that they keep the memory rule; `changed`
-/// says whether there were any. It leaves the descriptor closing.
+/// descriptor whose last look was quiet and, where there were direct writes, that they keep the memory rule. It leaves
+/// the descriptor closing.
 ///
-/// `Unchanged` comes exactly where there were none, and costs one step. `Committed` costs five. `ClockFull` costs one,
-/// comes only with the clock at its limit, and leaves the range to the caller.
-pub fn give_back<K: MemRule>(desc: &mut Desc<K>, stm: &Stm<K>, changed: bool) -> Give
+/// `Unchanged` comes exactly where there were no direct writes, and costs one step. `Committed` costs five. `ClockFull`
+/// costs one, comes only with the clock at its limit, and leaves the range to the caller.
+pub fn give_back<K: MemRule>(desc: &mut Desc<K>, stm: &Stm<K>) -> Give
     requires stm { IsOf desc.old stm.now }
     requires closing { HoldsClosed (known desc.old) }
     requires quiet { SeesQuiet (K.good stm.now.rule) stm.now.config (number desc.old) (known desc.old) }
     requires held { (known desc.old).fenced.held ≡ true }
-    requires changed { changed ≡ not (is_empty (known desc.old).fenced.log.writes) }
     requires keeps { KeepsFenced (K.good stm.now.rule) stm.now.config (number desc.old) (known desc.old) }
     ensures same { IsSameCaller desc.old desc.new }
     ensures gives { Gives (K.good stm.now.rule) stm.now.config (number desc.old) result (known desc.old) (known desc.new) }
@@ -99,7 +97,8 @@ pub fn give_back<K: MemRule>(desc: &mut Desc<K>, stm: &Stm<K>, changed: bool) ->
 {
     let caller = desc.number;
     let algorithm = desc.local.algorithm;
-    if !changed {
+    let stored = desc.seat.own_fence().stored;
+    if !stored {
         stm.unfence(&mut desc.seat, caller, algorithm);
         desc.local.fence = 0;
         return Give::Unchanged;

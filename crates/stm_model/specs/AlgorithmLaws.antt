@@ -1,7 +1,7 @@
 -- What the table says of every algorithm.
 use Rattle.std.proofs.Common.{◌≡◌, ◌≤◌, ◌<◌, Bool, true, false, arith, refl}
 use Rattle.std.specs.Prelude.{◌||◌}
-use Rattle.stm_model.specs.Algorithms.{alg_number, entry_rise, quit_rise, install_rise, begins_even, is_sure}
+use Rattle.stm_model.specs.Algorithms.{alg_number, entry_rise, quit_rise, install_rise, begins_even, irrevocable_under}
 use Rattle.stm_model.specs.declared.alg.Alg.{Alg}
 use Rattle.stm_model.specs.declared.alg.Alg.TheVariants.{Cgl, Tml, OrecLazy, OrecEager, RingSw, Serial}
 
@@ -64,25 +64,25 @@ even-rises RingSw e = absurd cc
 even-rises Serial e = absurd cc
 
 -- once granted, an attempt can't be cancelled
-pub granted-sure : (alg : Alg) (wrote : Bool) → is_sure alg true wrote ≡ true
-granted-sure Cgl wrote = refl
-granted-sure Tml wrote = refl
-granted-sure OrecLazy wrote = refl
-granted-sure OrecEager wrote = refl
-granted-sure RingSw wrote = refl
-granted-sure Serial wrote = refl
+pub granted-irrevocable : (alg : Alg) (wrote : Bool) → irrevocable_under alg true wrote ≡ true
+granted-irrevocable Cgl wrote = refl
+granted-irrevocable Tml wrote = refl
+granted-irrevocable OrecLazy wrote = refl
+granted-irrevocable OrecEager wrote = refl
+granted-irrevocable RingSw wrote = refl
+granted-irrevocable Serial wrote = refl
 
 -- a write doesn't make it so that it can
-pub sure-writer : (alg : Alg) (granted wrote : Bool) → is_sure alg granted wrote ≡ true → is_sure alg granted true ≡ true
-sure-writer Cgl granted wrote h = refl
-sure-writer Tml true wrote h = refl
-sure-writer Tml false wrote h = refl
-sure-writer OrecLazy granted wrote h = h
-sure-writer OrecEager granted wrote h = h
-sure-writer RingSw granted wrote h = h
-sure-writer Serial granted wrote h = h
+pub irrevocable-writer : (alg : Alg) (granted wrote : Bool) → irrevocable_under alg granted wrote ≡ true → irrevocable_under alg granted true ≡ true
+irrevocable-writer Cgl granted wrote h = refl
+irrevocable-writer Tml true wrote h = refl
+irrevocable-writer Tml false wrote h = refl
+irrevocable-writer OrecLazy granted wrote h = h
+irrevocable-writer OrecEager granted wrote h = h
+irrevocable-writer RingSw granted wrote h = h
+irrevocable-writer Serial granted wrote h = h
 
-pub sure-wrote : (alg : Alg) (granted wrote more : Bool) → is_sure alg granted wrote ≡ true → is_sure alg granted (wrote || more) ≡ true
-sure-wrote alg granted true more h = h
-sure-wrote alg granted false true h = sure-writer alg granted false h
-sure-wrote alg granted false false h = h
+pub irrevocable-wrote : (alg : Alg) (granted wrote more : Bool) → irrevocable_under alg granted wrote ≡ true → irrevocable_under alg granted (wrote || more) ≡ true
+irrevocable-wrote alg granted true more h = h
+irrevocable-wrote alg granted false true h = irrevocable-writer alg granted false h
+irrevocable-wrote alg granted false false h = h

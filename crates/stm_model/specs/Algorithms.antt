@@ -171,10 +171,10 @@ begins_even RingSw = false
 begins_even Serial = false
 
 -- an attempt can't be cancelled: from its begin, from its first write, or since it was granted
-abbrev pub is_sure : Alg → Bool → Bool → Bool
-is_sure Cgl granted wrote = true
-is_sure Tml granted wrote = granted || wrote
-is_sure OrecLazy granted wrote = granted
-is_sure OrecEager granted wrote = granted
-is_sure RingSw granted wrote = granted
-is_sure Serial granted wrote = granted
+abbrev pub irrevocable_under : Alg → Bool → Bool → Bool
+irrevocable_under Cgl granted wrote = true
+irrevocable_under Tml granted wrote = granted || wrote
+irrevocable_under OrecLazy granted wrote = granted
+irrevocable_under OrecEager granted wrote = granted
+irrevocable_under RingSw granted wrote = granted
+irrevocable_under Serial granted wrote = granted

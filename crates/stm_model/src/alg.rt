@@ -30,7 +30,7 @@ pub const ALGORITHMS: [Alg; 6] = [
 
 impl Alg {
     ghost use Rattle.std.specs.Prelude.{◌≡◌};
-    ghost use Rattle.stm_model.specs.Algorithms.{alg_name, alg_number, begins_even, entry_rise, is_built, is_sure};
+    ghost use Rattle.stm_model.specs.Algorithms.{alg_name, alg_number, begins_even, entry_rise, is_built, irrevocable_under};
 
     /// Whether the algorithm is built; only such a one is installed.
     pub fn is_built(self) -> bool
@@ -95,8 +95,8 @@ impl Alg {
     }
 
     /// Whether an attempt can't be cancelled, by whether it was granted and whether it wrote.
-    pub fn is_sure(self, granted: bool, wrote: bool) -> bool
-        ensures { result ≡ is_sure self granted wrote }
+    pub fn irrevocable_under(self, granted: bool, wrote: bool) -> bool
+        ensures { result ≡ irrevocable_under self granted wrote }
     {
         match self {
             Alg::Cgl => true,

@@ -312,6 +312,7 @@ core_promotes_lem good c x inside small keeps = (
     ),
   ),
   refl,
+  refl,
 )
 
 pub core_installs_lem : (good : (ℕ → ℕ) → Type 0) (c : Config) → CoreInstalls good c

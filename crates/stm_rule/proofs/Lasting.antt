@@ -3,7 +3,6 @@ use Rattle.std.proofs.Common.{◌≡◌, ◌≢◌, ℕ, ◌<◌, [], ◌∷◌,
 use Rattle.stm_model.specs.declared.config.Config.{Config}
 use Rattle.rule_base.specs.declared.views.Phase.TheVariants.{In, Closing}
 use Rattle.rule_base.specs.declared.views.View.{View}
-use Rattle.stm_model.specs.Algorithms.{has_records}
 use Rattle.rule_base.specs.GateLaws.{others-rest}
 use Rattle.rule_base.specs.GateRule.{rests}
 use Rattle.rule_base.specs.History.{member}
@@ -17,11 +16,11 @@ use Rattle.rule_ring.specs.RingRuns.RingStep.{ring_begins, ring_loads, ring_look
 use Rattle.stm_rule.specs.CoreRuns.{CoreStep, core_kind, CoreMay}
 use Rattle.stm_rule.specs.CoreRuns.CoreStep.{announces, loads_gate, departs, aims, takes_gate, checks, reopens, settles, evens_clock, stores_base, stores_done, installs, of_cgl, of_tml, of_ring, looks_gate, seizes, grants, look_grants, move_grants, direct_loads, direct_stores, direct_commits, returns, fences, fence_loads, fence_stores, fence_commits, unfences, hears, loads_end, of_orec, orec_grants, orec_grants_all, direct_releases}
 use Rattle.stm_rule.specs.Product.{Whole}
-use Rattle.stm_rule.specs.Quiescence.{IsInsideOf, IsPromoting, RestLasts, PromotingLasts, IsOrecPromoting, OrecPromotingLasts}
-use Rattle.stm_rule.specs.RestLaws.{quiet-rests, promoting-rests, orec-promoting-rests}
+use Rattle.stm_rule.specs.Quiescence.{RestLasts, GrantedLasts}
+use Rattle.stm_rule.specs.RestLaws.{quiet-rests, granted-rests}
 use Rattle.rule_orec.specs.OrecRuns.OrecStep.{orec_begins, orec_samples, orec_loads, orec_confirms, orec_clocks, orec_clocks_all, orec_passes, orec_lasts, orec_looks, orec_limits, orec_locks, orec_commits, orec_writes_back, orec_times, orec_olds, orec_ups, orec_own_loads, orec_saves, orec_places, orec_restores, orec_lifts}
 use Rattle.rule_base.specs.Fence.{veil}
-use Rattle.stm_rule.specs.FencedRest.{rest-of, at-rest-of, promoting-veil, orec-promoting-veil}
+use Rattle.stm_rule.specs.FencedRest.{rest-of, at-rest-of}
 use Rattle.stm_rule.proofs.CoreLaws.{one_step}
 
 module _ (good : (ℕ → ℕ) → Type 0) (c : Config) where
@@ -129,51 +128,13 @@ module _ (good : (ℕ → ℕ) → Type 0) (c : Config) where
       let on = rest-lasts n (world_after (core_kind s.0 s.1) s.0 w) ss (one_step good c s.0 s.1 w g allowed.0).0 (quiet_after n s.0 s.1 w others.0 q) others.1 allowed.1 in
       (on.0, on.1 ∙ here.0, on.2 ∙ here.1)
 
-  -- the promoter's view stays
-  promoting_after : (n m : ℕ) (s : CoreStep) (w : World) → m ≢ n → IsPromoting c n w → IsPromoting c n (world_after (core_kind m s) m w)
-  promoting_after n m s w other p =
-      let same : (world_after (core_kind m s) m w).views n ≡ w.views n = put-else w.views m n (view_after (core_kind m s) w (w.views m) (answer (core_kind m s) w)) (λ e. other (sym e)) in record {
-        phase = ap (λ (v : View). v.gate.phase) same ∙ p.phase;
-        holds = ap (λ (v : View). v.gate.holds) same ∙ p.holds;
-        checked = subst (λ (v : View). (k : ℕ) → k < c.callers → k ≢ n → member v.gate.checked k ≡ true) (sym same) p.checked;
-        inside = subst (λ (v : View). IsInsideOf v) (sym same) p.inside;
-        apart = ap (λ (v : View). v.owned.inside) same ∙ p.apart;
-        reads = ap (λ (v : View). v.tml.writer) same ∙ p.reads;
-        unlocked = ap (λ (v : View). v.lock.taken) same ∙ p.unlocked;
-        uncommitted = ap (λ (v : View). v.ring_commit.committed) same ∙ p.uncommitted;
-      }
-
-  pub promoting-lasts : PromotingLasts good c
-  promoting-lasts n w [] g p others allowed = (rest-of good c n w g (promoting-rests good c n (veil w) g.core (promoting-veil c n w p)), refl, refl)
-  promoting-lasts n w (s ∷ ss) g p others allowed =
-      let rest = others-rest c.callers w n p.checked g.core.gate s.0 others.0 in
-      let out : (w.views s.0).gate.phase ≡ In → ⊥ = λ e. (let p : false ≡ true = sym (ap rests e) ∙ rest in cc) in
-      let apart : (w.views s.0).gate.phase ≡ Closing → ⊥ = λ e. (let p : false ≡ true = sym (ap rests e) ∙ rest in cc) in
-      let here = stands s.0 s.1 w g out apart allowed.0 in
-      let on = promoting-lasts n (world_after (core_kind s.0 s.1) s.0 w) ss (one_step good c s.0 s.1 w g allowed.0).0 (promoting_after n s.0 s.1 w others.0 p) others.1 allowed.1 in
-      (on.0, on.1 ∙ here.0, on.2 ∙ here.1)
-
-  -- and that of a promoter under the records
-  orec_promoting_after : (n m : ℕ) (s : CoreStep) (w : World) → m ≢ n → IsOrecPromoting c n w → IsOrecPromoting c n (world_after (core_kind m s) m w)
-  orec_promoting_after n m s w other p =
-      let same : (world_after (core_kind m s) m w).views n ≡ w.views n = put-else w.views m n (view_after (core_kind m s) w (w.views m) (answer (core_kind m s) w)) (λ e. other (sym e)) in record {
-        phase = ap (λ (v : View). v.gate.phase) same ∙ p.phase;
-        algorithm = ap (λ (v : View). has_records v.gate.algorithm) same ∙ p.algorithm;
-        holds = ap (λ (v : View). v.gate.holds) same ∙ p.holds;
-        checked = subst (λ (v : View). (k : ℕ) → k < c.callers → k ≢ n → member v.gate.checked k ≡ true) (sym same) p.checked;
-        inside = ap (λ (v : View). v.owned.inside) same ∙ p.inside;
-        open_yet = subst (λ (v : View). v.gate.granted ≡ false → v.owned.committed ≡ false) (sym same) p.open_yet;
-        reads = ap (λ (v : View). v.tml.writer) same ∙ p.reads;
-        unlocked = ap (λ (v : View). v.lock.taken) same ∙ p.unlocked;
-        uncommitted = ap (λ (v : View). v.ring_commit.committed) same ∙ p.uncommitted;
-      }
-
-  pub orec-promoting-lasts : OrecPromotingLasts good c
-  orec-promoting-lasts n w [] g p others allowed = (rest-of good c n w g (orec-promoting-rests good c n (veil w) g.core (orec-promoting-veil c n w p)), refl, refl)
-  orec-promoting-lasts n w (s ∷ ss) g p others allowed =
-      let rest = others-rest c.callers w n p.checked g.core.gate s.0 others.0 in
-      let out : (w.views s.0).gate.phase ≡ In → ⊥ = λ e. (let p : false ≡ true = sym (ap rests e) ∙ rest in cc) in
-      let apart : (w.views s.0).gate.phase ≡ Closing → ⊥ = λ e. (let p : false ≡ true = sym (ap rests e) ∙ rest in cc) in
-      let here = stands s.0 s.1 w g out apart allowed.0 in
-      let on = orec-promoting-lasts n (world_after (core_kind s.0 s.1) s.0 w) ss (one_step good c s.0 s.1 w g allowed.0).0 (orec_promoting_after n s.0 s.1 w others.0 p) others.1 allowed.1 in
+  pub granted-lasts : GrantedLasts good c
+  granted-lasts n w [] g granted others allowed = (rest-of good c n w g (granted-rests good c n (veil w) g.core granted), refl, refl)
+  granted-lasts n w (s ∷ ss) g granted others allowed =
+      let apart = others-rest c.callers w n (λ k low other. g.core.install.alone n k (g.core.install.promoted n granted).0 low other) g.core.gate s.0 others.0 in
+      let out : (w.views s.0).gate.phase ≡ In → ⊥ = λ e. (let p : false ≡ true = sym (ap rests e) ∙ apart in cc) in
+      let away : (w.views s.0).gate.phase ≡ Closing → ⊥ = λ e. (let p : false ≡ true = sym (ap rests e) ∙ apart in cc) in
+      let here = stands s.0 s.1 w g out away allowed.0 in
+      let same : (world_after (core_kind s.0 s.1) s.0 w).views n ≡ w.views n = put-else w.views s.0 n (view_after (core_kind s.0 s.1) w (w.views s.0) (answer (core_kind s.0 s.1) w)) (λ e. others.0 (sym e)) in
+      let on = granted-lasts n (world_after (core_kind s.0 s.1) s.0 w) ss (one_step good c s.0 s.1 w g allowed.0).0 (ap (λ (v : View). v.gate.granted) same ∙ granted) others.1 allowed.1 in
       (on.0, on.1 ∙ here.0, on.2 ∙ here.1)

@@ -109,7 +109,7 @@ core_records_lem good c lazy eager x inside small keeps keeps_twice = (
                                                                                                 (
                                                                                                   ((omega arith), record { phase = refl; granted = refl; named = refl; time = refl; limit = omega arith; wrote = λ e. cc; keeps = keeps_twice }),
                                                                                                   (
-                                                                                                    ((omega arith), record { granted = refl; entered = refl; held = refl; time = refl }),
+                                                                                                    ((omega arith), record { granted = refl; algorithm = refl; entered = refl; held = refl; time = refl }),
                                                                                                     (
                                                                                                       ((omega arith), record { closing = λ e. absurd cc; calm = refl; time = refl }),
                                                                                                       (

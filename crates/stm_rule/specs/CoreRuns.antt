@@ -1,5 +1,5 @@
 -- Every list of steps of the core: at the gate, of each algorithm, of a promoted attempt, and with notes.
-use Rattle.std.specs.Prelude.{ℕ, ◌≡◌, ◌+◌, ◌<◌, ◌^◌, true, false, List, [], ◌∷◌}
+use Rattle.std.specs.Prelude.{ℕ, ◌≡◌, ◌+◌, ◌<◌, ◌^◌, true, false, List, [], ◌∷◌, take}
 use Rattle.stm_model.specs.declared.alg.Alg.{Alg}
 use Rattle.stm_model.specs.declared.config.Config.{Config}
 use Rattle.stm_model.specs.declared.config.TheConstants.{CLOCK_LIMIT}
@@ -185,10 +185,11 @@ module _ (good : (ℕ → ℕ) → Type 0) (c : Config) where
   abbrev pub one_of_each : ℕ → List (ℕ × CoreStep)
   one_of_each x = (0, announces) ∷ (0, aims) ∷ (0, takes_gate 0) ∷ (0, departs) ∷ (0, settles) ∷ (0, stores_base 0) ∷ (0, stores_done 0) ∷ (0, installs 0 Tml) ∷ (0, reopens 0 Tml) ∷ (0, announces) ∷ (0, loads_gate) ∷ (0, of_tml tml_begins) ∷ (0, of_tml (tml_loads 0)) ∷ (0, of_tml tml_agains) ∷ (0, of_tml (tml_writes 0)) ∷ (0, of_tml (tml_stores 0 x)) ∷ (0, of_tml (tml_commits 2)) ∷ (0, departs) ∷ (0, announces) ∷ (0, loads_gate) ∷ (0, of_tml tml_begins) ∷ (0, looks_gate) ∷ (0, seizes 0 Tml) ∷ (0, grants) ∷ (0, direct_loads 0) ∷ (0, direct_stores 0 x) ∷ (0, direct_commits Tml 4) ∷ (0, stores_base 4) ∷ (0, stores_done 4) ∷ (0, returns 0 Tml) ∷ (0, departs) ∷ (0, announces) ∷ (0, aims) ∷ (0, takes_gate 1) ∷ (0, departs) ∷ (0, settles) ∷ (0, stores_base 4) ∷ (0, stores_done 4) ∷ (0, installs 0 Serial) ∷ (0, reopens 0 Serial) ∷ (0, announces) ∷ (0, loads_gate) ∷ (0, of_cgl acquires_lock) ∷ (0, of_cgl loads_start) ∷ (0, of_cgl (loads_heap 0)) ∷ (0, of_cgl (loads_undo 0)) ∷ (0, of_cgl (loads_limit false)) ∷ (0, of_cgl (stores_heap 0 0)) ∷ (0, of_cgl (takes_back 0 x)) ∷ (0, of_cgl (loads_limit true)) ∷ (0, of_cgl (stores_heap 0 x)) ∷ (0, of_cgl (stores_clock 5)) ∷ (0, of_cgl frees_lock) ∷ (0, departs) ∷ []
 
--- with one caller and from clock 0 these steps are allowed, and the history is then these three entries
+-- with one caller and from clock 0 these steps are allowed; after the first 24 its attempt is promoted, and the history is in the end these three entries
 abbrev pub CorePromotes : ((ℕ → ℕ) → Type 0) → Config → Type 0
 CorePromotes good c = (x : ℕ) → 0 < c.words → x < 2 ^ 64 → ((y : ℕ) → Keeps good (record { at = 0; value = y } ∷ []) (record { at = 0; value = x } ∷ []))
     → Allowed core_kind (CoreMay good (record c { callers = 1; clock = 0 })) (one_of_each good (record c { callers = 1; clock = 0 }) x) (opening_world (record c { callers = 1; clock = 0 }))
+    × (((run core_kind (CoreMay good (record c { callers = 1; clock = 0 })) (take 24 (one_of_each good (record c { callers = 1; clock = 0 }) x)) (opening_world (record c { callers = 1; clock = 0 }))).views 0).gate.granted ≡ true)
     × ((run core_kind (CoreMay good (record c { callers = 1; clock = 0 })) (one_of_each good (record c { callers = 1; clock = 0 }) x) (opening_world (record c { callers = 1; clock = 0 }))).history
     ≡ record { time = 5; caller = 0; number = 2; reads = record { at = 0; value = x } ∷ []; writes = record { at = 0; value = x } ∷ [] } ∷ record { time = 4; caller = 0; number = 1; reads = record { at = 0; value = x } ∷ []; writes = record { at = 0; value = x } ∷ [] } ∷ record { time = 2; caller = 0; number = 0; reads = record { at = 0; value = 0 } ∷ []; writes = record { at = 0; value = x } ∷ [] } ∷ [])
 

@@ -9,7 +9,6 @@ use Rattle.rule_base.specs.HistoryLemmas.{word_at-all}
 use Rattle.rule_base.specs.Rest.{BareRest, BareAtRest, Rest, AtRest}
 use Rattle.rule_base.specs.World.{World}
 use Rattle.stm_rule.specs.Product.{Whole}
-use Rattle.stm_rule.specs.Quiescence.{IsPromoting, IsOrecPromoting}
 
 module _ (good : (ℕ → ℕ) → Type 0) (c : Config) (n : ℕ) (w : World) (g : Whole good c w) where
   pub rest-of : BareRest n (veil w) → Rest n w
@@ -26,9 +25,3 @@ module _ (good : (ℕ → ℕ) → Type 0) (c : Config) (n : ℕ) (w : World) (g
 
   pub at-rest-of : BareAtRest n (veil w) → AtRest n w
   at-rest-of r = record { rest = rest-of r.rest; outside = r.outside }
-
-pub promoting-veil : (c : Config) (n : ℕ) (w : World) → IsPromoting c n w → IsPromoting c n (veil w)
-promoting-veil c n w p = record { phase = p.phase; holds = p.holds; checked = p.checked; inside = p.inside; apart = p.apart; reads = p.reads; unlocked = p.unlocked; uncommitted = p.uncommitted }
-
-pub orec-promoting-veil : (c : Config) (n : ℕ) (w : World) → IsOrecPromoting c n w → IsOrecPromoting c n (veil w)
-orec-promoting-veil c n w p = record { phase = p.phase; algorithm = p.algorithm; holds = p.holds; checked = p.checked; inside = p.inside; open_yet = p.open_yet; reads = p.reads; unlocked = p.unlocked; uncommitted = p.uncommitted }

@@ -1,5 +1,5 @@
 -- Each kind of step of who installs an algorithm keeps the one rule.
-use Rattle.std.proofs.Common.{inr, ◌≡◌, ℕ, ◌+◌, ◌<◌, ◌≤◌, List, Bool, true, false, arith, refl, sym, subst, ap, ◌∙◌, le_refl, le_trans}
+use Rattle.std.proofs.Common.{inl, inr, ◌≡◌, ℕ, ◌+◌, ◌<◌, ◌≤◌, List, Bool, true, false, arith, refl, sym, subst, ap, ◌∙◌, le_refl, le_trans}
 use Rattle.std.specs.Prelude.{◌%◌}
 use Rattle.stm_model.specs.declared.alg.Alg.{Alg}
 use Rattle.stm_model.specs.declared.config.Config.{Config}
@@ -24,7 +24,7 @@ use Rattle.rule_base.specs.RecordLemmas.{records-stay}
 use Rattle.rule_base.specs.Rest.{IsQuiet}
 use Rattle.rule_base.specs.StepsLemmas.{steps-raised}
 use Rattle.rule_base.specs.StepKinds.{view_after, world_after, Nothing, StepLaw}
-use Rattle.rule_base.specs.History.{word_now}
+use Rattle.rule_base.specs.History.{over, touches, word_now}
 use Rattle.rule_base.specs.World.{World, put, parts, horizon}
 use Rattle.rule_seq.specs.AttemptLemmas.{attempts-after}
 use Rattle.rule_base.specs.declared.entries.Entry.{Entry}
@@ -74,10 +74,13 @@ module _ (good : (ℕ → ℕ) → Type 0) (c : Config) (n : ℕ) where
           subst (λ (r : Regime). Runs c r (run_scene x)) (sym at) (record {
             direct = subst (DirectRule c.words) (sym path) d.direct;
             suits = suits-later (home_of c) (w.views n).gate.algorithm (suit_part n (run_scene w)) (suit_part n (run_scene x)) (ap (λ k. k % 2) clock) (record {
-              lock = ap (λ (f : ℕ → RunView). (f n).lock.taken) views;
               tml = ap (λ (f : ℕ → RunView). (f n).tml.writer) views;
               base = moved.base;
               stamps = λ e. (moved.history, moved.records, ap (λ (f : ℕ → RunView). (f n).owned) views, own_entered e);
+              clock = moved.clock;
+              entered = λ e. inl (sym (ap (λ (f : ℕ → RunView). (f n).attempt.entered) views) ∙ e);
+              held = λ r t. (ap (λ (f : ℕ → RunView). touches (f n).owned.held r) (sym views) ∙ t, ap (λ (f : ℕ → RunView). over (f n).owned.held r 0) views);
+              committed = ap (λ (f : ℕ → RunView). (f n).owned.committed) views;
             }) d.suits;
             ring = λ q. let k = d.ring q in record {
               base = moved.based;

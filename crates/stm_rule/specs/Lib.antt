@@ -17,6 +17,7 @@ pub mod Quiescence
 pub mod RestLaws
 pub mod InstallingLaws
 pub mod Kept
+pub mod OwnFences
 pub mod Counting
 pub mod Refusals
 pub mod RecordsKept
@@ -32,6 +33,8 @@ pub mod RingPromotionLaws
 pub mod Irrevocable
 pub mod BesideLaws
 pub mod CheckRun
+pub mod FenceRun
+pub mod NoteRun
 pub mod Stamping
 pub mod Allowing
 pub mod Lifting

@@ -200,13 +200,13 @@ module _ (good : (ℕ → ℕ) → Type 0) (c : Config) (n : ℕ) where
 
   -- what a validated attempt is granted: x is the world after it, at the time t, which is the clock
   orec_promoted : (w x : World) (v : View) (t : ℕ) → Core good c w → HasOpen (w.views n) → HasChecked c.callers n (w.views n) → (w.views n).gate.holds ≡ true → HasStores c.words (w.views n) → t ≡ w.clock
-      → x ≡ record w { views = put w.views n v } → v.attempt ≡ direct_attempt t (w.views n) → v.owned ≡ direct_owned (w.views n).owned → v.history.front ≡ t → v.gate ≡ granted_at t (w.views n).gate
+      → x ≡ record w { views = put w.views n v } → v.attempt ≡ direct_attempt t (w.views n) → v.owned ≡ direct_owned (w.views n).owned → v.history.front ≡ t → v.lock.taken ≡ false → v.gate ≡ granted_at t (w.views n).gate
       → ((a : ℕ) → over (w.views n).attempt.reads a (word_at w.history t a) ≡ word_at w.history t a)
       → Runs c (regime x) (run_scene x)
-  orec_promoted w x v t g may quiet holds stores now is attempt owned front gate sees =
+  orec_promoted w x v t g may quiet holds stores now is attempt owned front unlocked gate sees =
       subst (λ (r : Regime). Runs c r (run_scene x)) (sym (regime-promoted x n (ap (λ (y : World). holder_of y.gate) is ∙ g.gate.mine n holds) (ap (λ (f : ℕ → View). (f n).gate.granted) (ap (λ (y : World). y.views) is) ∙ (ap (λ (u : View). u.gate.granted) (put-here w.views n v) ∙ ap (λ (q : GateView). q.granted) gate)) ∙ ap (λ (a : Alg). Promoted a n) (ap (λ (y : World). alg_of y.gate) is ∙ g.gate.named n may.has.runs.phase)))
       (orec-granted c (w.views n).gate.algorithm n t w x v may.has.runs.algorithm (ap (λ (y : World). y.views) is) (ap (λ (y : World). y.clock) is) (ap (λ (y : World). y.heap) is) (ap (λ (y : World). y.history) is) (ap (λ (y : World). y.base) is) (ap (λ (y : World). y.records) is)
-      attempt owned front now may.has.inside may.open_yet stores (none_inside w g quiet) sees (full-world good c w (orec-world good c w n g may.has.runs)))
+      attempt owned front unlocked now may.has.inside may.open_yet stores (none_inside w g quiet) sees (full-world good c w (orec-world good c w n g may.has.runs)))
 
   -- a check that failed: the sample and the validation are forgotten
   forgotten : (w x : World) (v : View) → Core good c w → RunsOrec (w.views n) → x ≡ record w { views = put w.views n v } → orec_view v ≡ record (orec_view (w.views n)) { sample = no_sample; check = no_check } → mode_of v.gate ≡ mode_of (w.views n).gate → Runs c (regime x) (run_scene x)
@@ -281,7 +281,7 @@ module _ (good : (ℕ → ℕ) → Type 0) (c : Config) (n : ℕ) where
         records-stay w (at true) n (next true) refl (le_refl w.clock) refl refl refl g.records,
         subst LockRule (sym (lock_scene-kept w (at true) n (next true) refl refl refl refl)) g.lock,
         attempts-in w (at true) n (next true) refl may.last.opens.has.runs.phase g.attempts,
-        orec_promoted w (at true) (next true) (w.views n).gate.time g may.last.opens quiet holds may.stores (sym now) refl refl refl refl refl
+        orec_promoted w (at true) (next true) (w.views n).gate.time g may.last.opens quiet holds may.stores (sym now) refl refl refl refl may.stores.unlocked refl
             (subst (λ (k : ℕ). (a : ℕ) → over (w.views n).attempt.reads a (word_at w.history k a) ≡ word_at w.history k a) may.upto
             (validated (home_of c) c.words (orec_scene w) n b (version_of (w.records q)) may.last.opens.has.inside (ap (λ (k : ℕ). rec_of (w.records k)) may.last.its ∙ rec-free (w.records q) p.0) p.1 may.last.checking may.last.rest (full-world good c w o))),
       )
@@ -336,7 +336,7 @@ module _ (good : (ℕ → ℕ) → Type 0) (c : Config) (n : ℕ) where
         records-stay w (at true) n (next true) refl (le_refl w.clock) refl refl refl g.records,
         subst LockRule (sym (lock_scene-kept w (at true) n (next true) refl refl refl refl)) g.lock,
         attempts-in w (at true) n (next true) refl may.all.opens.has.runs.phase g.attempts,
-        orec_promoted w (at true) (next true) w.clock g may.all.opens may.quiet may.holds may.stores refl refl refl refl refl refl
+        orec_promoted w (at true) (next true) w.clock g may.all.opens may.quiet may.holds may.stores refl refl refl refl refl may.stores.unlocked refl
             (validated-all (home_of c) c.words (orec_scene w) n may.all.opens.has.inside may.all.opens.open_yet (λ a t. may.all.mine a t refl) (λ a t. may.all.old a t refl) (full-world good c w o)),
       )
       go false = (

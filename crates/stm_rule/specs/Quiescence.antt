@@ -1,11 +1,8 @@
 -- What stands while a caller holds the quiet gate, as statements.
-use Rattle.std.specs.Prelude.{ℕ, ◌≡◌, ◌≢◌, true, false, List, [], ◌∷◌, ◌⊎◌}
+use Rattle.std.specs.Prelude.{ℕ, ◌≡◌, ◌≢◌, ◌+◌, true, List, [], ◌∷◌}
 use Rattle.stm_model.specs.declared.config.Config.{Config}
-use Rattle.rule_base.specs.Encodings.{alg_of}
-use Rattle.stm_model.specs.declared.alg.Alg.TheVariants.{Tml, RingSw}
-use Rattle.stm_model.specs.Algorithms.{has_records}
-use Rattle.rule_base.specs.declared.views.Phase.TheVariants.{In}
-use Rattle.rule_base.specs.declared.views.View.{View}
+use Rattle.rule_base.specs.Encodings.{alg_of, holder_of}
+use Rattle.rule_base.specs.GateRule.{rests}
 use Rattle.rule_base.specs.InstallSteps.{HasChecked}
 use Rattle.rule_base.specs.Rest.{Rest, AtRest, IsQuiet, HasInstalled}
 use Rattle.rule_base.specs.Runs.{run, Allowed}
@@ -24,44 +21,18 @@ pub record IsInstalled (n : ℕ) (w : World) : Type 0 where
   pub done : w.done ≡ w.clock
   pub named : alg_of w.gate ≡ (w.views n).gate.algorithm
 
--- the view is inside an attempt of an algorithm that is promoted so
-abbrev pub IsInsideOf : View → Type 0
-IsInsideOf v = ((v.gate.algorithm ≡ Tml) × (v.tml.inside ≡ true)) ⊎ ((v.gate.algorithm ≡ RingSw) × (v.ring_read.inside ≡ true))
-
--- caller n promotes its attempt of TML or RingSW, or did so: it holds the gate and has seen all others idle since
-pub record IsPromoting (c : Config) (n : ℕ) (w : World) : Type 0 where
-  pub phase : (w.views n).gate.phase ≡ In
-  pub holds : (w.views n).gate.holds ≡ true
-  pub checked : HasChecked c.callers n (w.views n)
-  pub inside : IsInsideOf (w.views n)
-  pub reads : (w.views n).tml.writer ≡ false
-  pub unlocked : (w.views n).lock.taken ≡ false
-  pub uncommitted : (w.views n).ring_commit.committed ≡ false
-  pub apart : (w.views n).owned.inside ≡ false
-
--- caller n promotes its attempt of OrecLazy or OrecEager, or did so
-pub record IsOrecPromoting (c : Config) (n : ℕ) (w : World) : Type 0 where
-  pub phase : (w.views n).gate.phase ≡ In
-  pub algorithm : has_records (w.views n).gate.algorithm ≡ true
-  pub holds : (w.views n).gate.holds ≡ true
-  pub checked : HasChecked c.callers n (w.views n)
-  pub inside : (w.views n).owned.inside ≡ true
-  pub open_yet : (w.views n).gate.granted ≡ false → (w.views n).owned.committed ≡ false
-  pub reads : (w.views n).tml.writer ≡ false
-  pub unlocked : (w.views n).lock.taken ≡ false
-  pub uncommitted : (w.views n).ring_commit.committed ≡ false
-
 module _ (good : (ℕ → ℕ) → Type 0) (c : Config) where
   -- who has closed the gate and seen all others idle is alone with the memory
   abbrev pub QuietRests : Type 0
   QuietRests = (n : ℕ) (w : World) → Whole good c w → IsQuiet c n w → AtRest n w
 
-  -- who promotes is alone with it too, but for its own stores
-  abbrev pub PromotingRests : Type 0
-  PromotingRests = (n : ℕ) (w : World) → Whole good c w → IsPromoting c n w → Rest n w
+  -- who holds the gate and has seen all others idle, be it in its attempt, is the only one in an attempt, aiming or closing
+  abbrev pub HolderAlone : Type 0
+  HolderAlone = (n : ℕ) (w : World) → Whole good c w → (w.views n).gate.holds ≡ true → HasChecked c.callers n (w.views n) → (holder_of w.gate ≡ 1 + n) × ((k : ℕ) → k ≢ n → rests (w.views k).gate.phase ≡ true)
 
-  abbrev pub OrecPromotingRests : Type 0
-  OrecPromotingRests = (n : ℕ) (w : World) → Whole good c w → IsOrecPromoting c n w → Rest n w
+  -- whose attempt is promoted is alone with the memory, but for its own stores: that its view says so is enough
+  abbrev pub GrantedRests : Type 0
+  GrantedRests = (n : ℕ) (w : World) → Whole good c w → (w.views n).gate.granted ≡ true → Rest n w
 
   -- and so it stays, whatever steps the others take, until it takes one itself: the history and the clock stand still
   abbrev pub RestLasts : Type 0
@@ -70,15 +41,9 @@ module _ (good : (ℕ → ℕ) → Type 0) (c : Config) where
       × ((run core_kind (CoreMay good c) steps w).history ≡ w.history)
       × ((run core_kind (CoreMay good c) steps w).clock ≡ w.clock)
 
-  -- and who promotes, or was promoted, stays alone with its own stores
-  abbrev pub PromotingLasts : Type 0
-  PromotingLasts = (n : ℕ) (w : World) (steps : List (ℕ × CoreStep)) → Whole good c w → IsPromoting c n w → OfOthers n steps → Allowed core_kind (CoreMay good c) steps w
-      → Rest n (run core_kind (CoreMay good c) steps w)
-      × ((run core_kind (CoreMay good c) steps w).history ≡ w.history)
-      × ((run core_kind (CoreMay good c) steps w).clock ≡ w.clock)
-
-  abbrev pub OrecPromotingLasts : Type 0
-  OrecPromotingLasts = (n : ℕ) (w : World) (steps : List (ℕ × CoreStep)) → Whole good c w → IsOrecPromoting c n w → OfOthers n steps → Allowed core_kind (CoreMay good c) steps w
+  -- and whose attempt is promoted stays alone with its own stores
+  abbrev pub GrantedLasts : Type 0
+  GrantedLasts = (n : ℕ) (w : World) (steps : List (ℕ × CoreStep)) → Whole good c w → (w.views n).gate.granted ≡ true → OfOthers n steps → Allowed core_kind (CoreMay good c) steps w
       → Rest n (run core_kind (CoreMay good c) steps w)
       × ((run core_kind (CoreMay good c) steps w).history ≡ w.history)
       × ((run core_kind (CoreMay good c) steps w).clock ≡ w.clock)

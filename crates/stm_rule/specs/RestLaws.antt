@@ -1,5 +1,5 @@
 -- Who has closed the gate and seen all other callers idle is alone with the memory.
-use Rattle.std.proofs.Common.{◌≡◌, ◌≢◌, ℕ, zero, suc, ◌+◌, List, [], Bool, true, false, arith, refl, sym, subst, ap, ◌∙◌, le_refl, ⊎_elim}
+use Rattle.std.proofs.Common.{◌≡◌, ◌≢◌, ℕ, zero, suc, ◌+◌, List, Bool, true, false, arith, refl, sym, subst, ap, ◌∙◌, le_refl}
 use Rattle.std.specs.Prelude.{◌==◌, ◌%◌, if◌then◌else◌}
 use Rattle.std.proofs.lemmas.Bool.Decides.{nat_tests}
 use Rattle.stm_model.specs.declared.alg.Alg.{Alg}
@@ -25,17 +25,10 @@ use Rattle.rule_base.specs.Ranks.Rec.{Taken}
 use Rattle.rule_base.specs.RunScene.{run_scene}
 use Rattle.rule_base.specs.World.{World}
 use Rattle.rule_seq.specs.AttemptLemmas.{busy-owned, busy-tml, busy-writer, busy-ring, busy-turn}
-use Rattle.rule_ring.specs.RingRule.{ring_part, RingRule}
-use Rattle.rule_ring.specs.SlotFilter.{slot_filter}
 use Rattle.rule_promoted.specs.PromotedRule.{TmlSuits, Suits, DirectRuns, suit_scene}
-use Rattle.rule_seq.specs.TmlRule.{tml_part, TmlRule}
-use Rattle.rule_orec.specs.OrecRule.{orec_scene}
-use Rattle.rule_orec.specs.OrecSteps.{RunsOrec}
-use Rattle.rule_orec.specs.OrecLaws.{full-world}
-use Rattle.rule_promoted.specs.OrecGranted.{alone-heap}
-use Rattle.stm_rule.specs.Frames.{ungranted-out, ungiven-out, owner-holds, orec-world}
+use Rattle.stm_rule.specs.Frames.{ungranted-out, ungiven-out, owner-holds}
 use Rattle.stm_rule.specs.Product.{Gives, Runs, Core}
-use Rattle.stm_rule.specs.Quiescence.{IsInsideOf, IsInstalled, IsPromoting, IsOrecPromoting}
+use Rattle.stm_rule.specs.Quiescence.{IsInstalled}
 use Rattle.stm_rule.specs.Running.{Ease, at-rest}
 
 module _ (good : (ℕ → ℕ) → Type 0) (c : Config) (n : ℕ) (w : World) (g : Core good c w) where
@@ -59,15 +52,9 @@ module _ (good : (ℕ → ℕ) → Type 0) (c : Config) (n : ℕ) (w : World) (g
         apart true e = own (subst P (let same : m ≡ n = grind (arith, nat_tests, e) in same) p)
         apart false e = nobody-else m (λ same. grind (arith, nat_tests, e, same)) (inside m p)
 
-    module _ (unlocked : (w.views n).lock.taken ≡ false) (unwritten : (w.views n).tml.writer ≡ false) (uncommitted : (w.views n).ring_commit.committed ≡ false) where
+    module _ (unlocked : (w.views n).lock.taken ≡ false) where
       pub nobody-takes : (m : ℕ) → (w.views m).lock.taken ≡ true → ⊥
       nobody-takes = nobody-by (λ m. (w.views m).lock.taken ≡ true) (λ t. let f : true ≡ false = sym t ∙ unlocked in cc) g.lock.inside
-
-      pub nobody-writes : (m : ℕ) → (w.views m).tml.writer ≡ true → ⊥
-      nobody-writes = nobody-by (λ m. (w.views m).tml.writer ≡ true) (λ t. let f : true ≡ false = sym t ∙ unwritten in cc) (λ m t. g.attempts.busy m (busy-writer (w.views m) t))
-
-      pub nobody-commits : (m : ℕ) → (w.views m).ring_commit.committed ≡ true → ⊥
-      nobody-commits = nobody-by (λ m. (w.views m).ring_commit.committed ≡ true) (λ t. let f : true ≡ false = sym t ∙ uncommitted in cc) (λ m t. g.attempts.busy m (busy-turn (w.views m) t))
 
       lock_free : (x : ℕ) → w.lock ≡ x → w.lock ≡ 0
       lock_free zero e = e
@@ -76,9 +63,16 @@ module _ (good : (ℕ → ℕ) → Type 0) (c : Config) (n : ℕ) (w : World) (g
       pub lock-rests : w.lock ≡ 0
       lock-rests = lock_free w.lock refl
 
+    module _ (unlocked : (w.views n).lock.taken ≡ false) (unwritten : (w.views n).tml.writer ≡ false) (uncommitted : (w.views n).ring_commit.committed ≡ false) where
+      pub nobody-writes : (m : ℕ) → (w.views m).tml.writer ≡ true → ⊥
+      nobody-writes = nobody-by (λ m. (w.views m).tml.writer ≡ true) (λ t. let f : true ≡ false = sym t ∙ unwritten in cc) (λ m t. g.attempts.busy m (busy-writer (w.views m) t))
+
+      pub nobody-commits : (m : ℕ) → (w.views m).ring_commit.committed ≡ true → ⊥
+      nobody-commits = nobody-by (λ m. (w.views m).ring_commit.committed ≡ true) (λ t. let f : true ≡ false = sym t ∙ uncommitted in cc) (λ m t. g.attempts.busy m (busy-turn (w.views m) t))
+
       -- while its attempt isn't promoted the heap is the memory
       pub running-rests : (w.views n).gate.holds ≡ true → (w.views n).gate.granted ≡ false → (w.views n).gate.giving ≡ false → (has_records (alg_of w.gate) ≡ true → (r m : ℕ) → rec_of (w.records r) ≡ Taken m → ⊥) → ((a : ℕ) → w.heap a ≡ word_now w.history a) × (alg_of w.gate ≡ Tml → w.clock % 2 ≡ 0) × (alg_of w.gate ≡ RingSw → ((m : ℕ) → (w.views m).attempt.entered ≡ false) → w.done ≡ w.clock)
-      running-rests holds plain kept freed = at-rest c (alg_of w.gate) (run_scene w) (subst (λ (r : Regime). Runs c r (run_scene w)) (regime-held holds plain kept) g.running) lock-rests nobody-writes nobody-commits freed
+      running-rests holds plain kept freed = at-rest c (alg_of w.gate) (run_scene w) (subst (λ (r : Regime). Runs c r (run_scene w)) (regime-held holds plain kept) g.running) (lock-rests unlocked) nobody-writes nobody-commits freed
 
   record_free : (checked : HasChecked c.callers n (w.views n)) (r : ℕ) → touches (w.views n).owned.held r ≡ false → (b : Bool) → is_owned (w.records r) ≡ b → b ≡ false
   record_free checked r bare true e = absurd (nobody-by checked (λ m. touches (w.views m).owned.held r ≡ true) (λ t. let f : true ≡ false = sym t ∙ bare in cc) (λ m t. g.records.inside m r t) (owner_of (w.records r)) (g.records.owned r e))
@@ -119,57 +113,34 @@ module _ (good : (ℕ → ℕ) → Type 0) (c : Config) (n : ℕ) (w : World) (g
     done = done;
   }
 
-  -- THE LAW OF QUIESCENCE OF A PROMOTER: its own stores lie in the heap, and all else is at rest
-  pub promoting-rests : IsPromoting c n w → BareRest n w
-  promoting-rests p = rest_of p.checked p.holds (lock-rests p.checked p.unlocked p.reads p.uncommitted) (by (w.views n).gate.granted refl).0 (by (w.views n).gate.granted refl).1 (by (w.views n).gate.granted refl).2
+  -- THE LAW OF QUIESCENCE OF A PROMOTED ATTEMPT: its own stores lie in the heap, and all else is at rest
+  pub granted-rests : (w.views n).gate.granted ≡ true → BareRest n w
+  granted-rests granted = rest_of checked holds (lock-rests checked d.direct.unlocked) (λ a. d.direct.stored a ∙ ap (λ (l : List Cell). over l a (word_now w.history a)) (sym own)) (λ q. even (sym named ∙ q)) (λ q. (d.ring (sym named ∙ q)).level)
     where
-      own : in_place (w.views n) ≡ (w.views n).attempt.stores
-      own = ap (λ q. in_place_at q (own_stores (w.views n))) p.phase ∙ ap (λ (b : Bool). if b then (if (w.views n).gate.granted then (w.views n).attempt.stores else (w.views n).owned.in_place) else (w.views n).attempt.stores) p.apart
+      promoted : ((w.views n).gate.calm ≡ true) × ((w.views n).gate.phase ≡ In)
+      promoted = g.install.promoted n granted
+
+      holds : (w.views n).gate.holds ≡ true
+      holds = g.install.holding n promoted.0
+
+      checked : HasChecked c.callers n (w.views n)
+      checked k low other = g.install.alone n k promoted.0 low other
+
+      d : DirectRuns c (w.views n).gate.algorithm n (run_scene w)
+      d = subst (λ (r : Regime). Runs c r (run_scene w)) (regime-granted c w n g.gate g.install granted) g.running
 
       named : alg_of w.gate ≡ (w.views n).gate.algorithm
-      named = g.gate.named n p.phase
+      named = g.gate.held n holds
 
-      no_records : IsInsideOf (w.views n) → has_records (w.views n).gate.algorithm ≡ true → ⊥
-      no_records i has = ⊎_elim (λ t. let f : has_records Tml ≡ true = ap has_records (sym t.0) ∙ has in cc) (λ t. let f : has_records RingSw ≡ true = ap has_records (sym t.0) ∙ has in cc) i
+      even : (w.views n).gate.algorithm ≡ Tml → w.clock % 2 ≡ 0
+      even q = let s : TmlSuits (suit_scene n w) = subst (λ (a : Alg). Suits (home_of c) a (suit_scene n w)) q d.suits in s.even
 
-      -- before the grant nothing is stored
-      none : (w.views n).gate.granted ≡ false → (w.views n).attempt.stores ≡ []
-      none e = ⊎_elim
-          (λ t. let r : TmlRule c.words (tml_part (run_scene w)) = subst (λ (q : Regime). Runs c q (run_scene w)) (regime-held p.holds e (in-ungiven p.phase) ∙ ap Running (named ∙ t.0)) g.running in (r.reader n t.1).unstored p.reads)
-          (λ t. let r : RingRule slot_filter c.ring c.words (ring_part (run_scene w)) = subst (λ (q : Regime). Runs c q (run_scene w)) (regime-held p.holds e (in-ungiven p.phase) ∙ ap Running (named ∙ t.0)) g.running in (r.reader n t.1).unstored)
-          p.inside
+      direct : (b : Bool) → (if b then (if (w.views n).gate.granted then (w.views n).attempt.stores else (w.views n).owned.in_place) else (w.views n).attempt.stores) ≡ (w.views n).attempt.stores
+      direct true = ap (λ (t : Bool). if t then (w.views n).attempt.stores else (w.views n).owned.in_place) granted
+      direct false = refl
 
-      by : (b : Bool) → (w.views n).gate.granted ≡ b → ((a : ℕ) → w.heap a ≡ over (in_place (w.views n)) a (word_now w.history a)) × (alg_of w.gate ≡ Tml → w.clock % 2 ≡ 0) × (alg_of w.gate ≡ RingSw → (w.views n).attempt.entered ≡ false → w.done ≡ w.clock)
-      by true e =
-          let d : DirectRuns c (w.views n).gate.algorithm n (run_scene w) = subst (λ (r : Regime). Runs c r (run_scene w)) (regime-granted c w n g.gate g.install e) g.running in
-          (λ a. d.direct.stored a ∙ ap (λ (l : List Cell). over l a (word_now w.history a)) (sym own), λ q. even d (sym named ∙ q), λ q f. (d.ring (sym named ∙ q)).level f)
-        where
-          even : DirectRuns c (w.views n).gate.algorithm n (run_scene w) → (w.views n).gate.algorithm ≡ Tml → w.clock % 2 ≡ 0
-          even d q = let s : TmlSuits (suit_scene n w) = subst (λ (a : Alg). Suits (home_of c) a (suit_scene n w)) q d.suits in s.even
-      by false e =
-          let r = running-rests p.checked p.unlocked p.reads p.uncommitted p.holds e (in-ungiven p.phase) (λ has. absurd (no_records p.inside (ap has_records (sym named) ∙ has))) in
-          (λ a. r.0 a ∙ ap (λ (l : List Cell). over l a (word_now w.history a)) (sym (own ∙ none e)), r.1, λ q f. r.2 q (nobody-enters p.checked f))
-
-  -- and under the records
-  pub orec-promoting-rests : IsOrecPromoting c n w → BareRest n w
-  orec-promoting-rests p = rest_of p.checked p.holds (lock-rests p.checked p.unlocked p.reads p.uncommitted) (by (w.views n).gate.granted refl) (λ e. absurd (other (alg_of w.gate) e (ap has_records (g.gate.named n p.phase) ∙ p.algorithm))) (λ e. absurd (ringless (alg_of w.gate) e (ap has_records (g.gate.named n p.phase) ∙ p.algorithm)))
-    where
-      other : (a : Alg) → a ≡ Tml → has_records a ≡ true → ⊥
-      other a e has = let f : has_records Tml ≡ true = ap has_records (sym e) ∙ has in cc
-
-      ringless : (a : Alg) → a ≡ RingSw → has_records a ≡ true → ⊥
-      ringless a e has = let f : has_records RingSw ≡ true = ap has_records (sym e) ∙ has in cc
-
-      own : (b : Bool) → (w.views n).gate.granted ≡ b → in_place (w.views n) ≡ (if b then (w.views n).attempt.stores else (w.views n).owned.in_place)
-      own b e = ap (λ q. in_place_at q (own_stores (w.views n))) p.phase ∙ (ap (λ (i : Bool). if i then (if (w.views n).gate.granted then (w.views n).attempt.stores else (w.views n).owned.in_place) else (w.views n).attempt.stores) p.inside ∙ ap (λ (i : Bool). if i then (w.views n).attempt.stores else (w.views n).owned.in_place) e)
-
-      by : (b : Bool) → (w.views n).gate.granted ≡ b → (a : ℕ) → w.heap a ≡ over (in_place (w.views n)) a (word_now w.history a)
-      by true e a =
-          let d : DirectRuns c (w.views n).gate.algorithm n (run_scene w) = subst (λ (r : Regime). Runs c r (run_scene w)) (regime-granted c w n g.gate g.install e) g.running in
-          d.direct.stored a ∙ ap (λ (l : List Cell). over l a (word_now w.history a)) (sym (own true e))
-      by false e a =
-          let runs : RunsOrec (w.views n) = record { phase = p.phase; algorithm = p.algorithm; plain = e } in
-          alone-heap (home_of c) c.words (orec_scene w) n p.inside (p.open_yet e) (λ m d t. nobody-else p.checked m d (g.attempts.busy m (busy-owned (w.views m) t))) (full-world good c w (orec-world good c w n g runs)) a ∙ ap (λ (l : List Cell). over l a (word_now w.history a)) (sym (own false e))
+      own : in_place (w.views n) ≡ (w.views n).attempt.stores
+      own = ap (λ q. in_place_at q (own_stores (w.views n))) promoted.1 ∙ direct (w.views n).owned.inside
 
   module _ (quiet : IsQuiet c n w) where
     out_of : (w.views n).gate.phase ≡ In → ⊥
@@ -221,7 +192,7 @@ module _ (good : (ℕ → ℕ) → Type 0) (c : Config) (n : ℕ) (w : World) (g
     -- THE LAW OF QUIESCENCE
     pub quiet-rests : BareAtRest n w
     quiet-rests = record {
-      rest = rest_of quiet.checked (g.gate.closing n quiet.closing) (lock-rests quiet.checked (free (w.views n).lock.taken refl) (reads (w.views n).tml.writer refl) (early (w.views n).ring_commit.committed refl))
+      rest = rest_of quiet.checked (g.gate.closing n quiet.closing) (lock-rests quiet.checked (free (w.views n).lock.taken refl))
           (λ a. heap-rests.0 a ∙ ap (λ p. over (in_place_at p (own_stores (w.views n))) a (word_now w.history a)) (sym quiet.closing)) heap-rests.1 (λ e own. heap-rests.2 e (nobody-enters quiet.checked own));
       outside = quiet.closing;
     }

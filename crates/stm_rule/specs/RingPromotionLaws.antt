@@ -67,6 +67,7 @@ module _ (good : (ℕ → ℕ) → Type 0) (c : Config) (n : ℕ) where
       reads_inside = h.reads_inside;
       stores_inside = subst (Inside c.words) (sym h.unstored) (λ a f. absurd cc);
       stores_small = λ a d l. subst (λ (k : List Cell). over k a d < 2 ^ 64) (sym h.unstored) l;
+      unlocked = o.unlocked;
     };
     suits = tt;
     ring = λ e. record {
@@ -88,7 +89,7 @@ module _ (good : (ℕ → ℕ) → Type 0) (c : Config) (n : ℕ) where
       checked k low other = g.install.alone n k o.calm low other
 
       lock : y.lock ≡ 0
-      lock = lock-rests good c n y g checked o.unlocked o.unwritten o.uncommitted
+      lock = lock-rests good c n y g checked o.unlocked
 
       punctual : (m : ℕ) → late ((ring_part (run_scene y)).views m) ≡ false
       punctual m = go (y.views m).ring_commit.committed refl

@@ -325,7 +325,7 @@ runs-leave c r s n u l front plain k = by r front plain k
         path = ap (λ (v : RunView). record { clock = s.clock; heap = s.heap; history = s.history; own = record { attempt = v.attempt; lock = v.lock; tml = v.tml; front = v.front } }) (put-else s.views n m u other)
 
         suits : suit_part m (record s { views = put s.views n u }) ≡ suit_part m s
-        suits = ap (λ (v : RunView). record { clock = s.clock; base = s.base; records = s.records; history = s.history; own = record { attempt = v.attempt; lock = v.lock; tml = v.tml; owned = v.owned } }) (put-else s.views n m u other)
+        suits = ap (λ (v : RunView). record { clock = s.clock; base = s.base; records = s.records; history = s.history; own = record { attempt = v.attempt; tml = v.tml; owned = v.owned } }) (put-else s.views n m u other)
 
     gives : (a : Alg) → (u.front ≡ (s.views n).front) ⊎ (a ≡ RingSw → u.front ≤ s.done) → Gives a s → Gives a (record s { views = put s.views n u })
     gives a low q = record {

@@ -8,7 +8,7 @@ ghost use Rattle.stm_rule.specs.Callers.{IsSeatOf};
 ghost use Rattle.stm_rule.specs.FenceFindings.{FindsPast, FindsEven, CanSettleBack};
 ghost use Rattle.stm_rule.specs.Kept.{good_of, SeatTells, IsSameSeat, view_of};
 
-use crate::stm::{Stm, Token};
+use crate::stm::{OwnFence, Stm, Token};
 use rule_base::layout::At;
 use rule_base::words::{fence_number, gate_word};
 use std::marker::Brand;
@@ -26,10 +26,15 @@ impl<K: MemRule> Stm<K> {
     {
         let number = fence_number(caller as u64, from as u64, count as u64);
         let word = gate_word(number, 1 + caller as u64, alg);
-        self.store_as::<Brand, (usize, usize, usize, Alg)>(
+        let own = OwnFence {
+            number,
+            stored: false,
+        };
+        self.store_own_as::<Brand, (usize, usize, usize, Alg)>(
             seat,
             At::Gate,
             word,
+            own,
             &(caller, from, count, alg),
         );
     }
@@ -53,7 +58,11 @@ impl<K: MemRule> Stm<K> {
         ensures same { IsSameSeat seat.old seat.new }
         ensures step { SeatTells (fence_store a x) Nothing seat.old.me.0 x seat.new.me.0 }
     {
-        self.store_as::<Brand, usize>(seat, At::Heap(a), x, &caller);
+        let own = OwnFence {
+            number: seat.own_fence().number,
+            stored: true,
+        };
+        self.store_own_as::<Brand, usize>(seat, At::Heap(a), x, own, &caller);
     }
 
     /// Loads the clock, to give the own range back, and answers it.
@@ -73,7 +82,11 @@ impl<K: MemRule> Stm<K> {
         ensures same { IsSameSeat seat.old seat.new }
         ensures step { SeatTells (fence_commit caller alg time) (FenceCommits (good_of K.good self.now.config self.now.rule) self.now.config caller time) seat.old.me.0 time seat.new.me.0 }
     {
-        self.store_as::<Brand, (usize, Alg)>(seat, At::Clock, time, &(caller, alg));
+        let own = OwnFence {
+            number: seat.own_fence().number,
+            stored: false,
+        };
+        self.store_own_as::<Brand, (usize, Alg)>(seat, At::Clock, time, own, &(caller, alg));
     }
 
     /// Stores the gate, still closed by the caller, without a fence.
@@ -85,6 +98,10 @@ impl<K: MemRule> Stm<K> {
         ensures step { SeatTells (unfence caller alg) Nothing seat.old.me.0 (gate_word 0 (1 + caller) alg) seat.new.me.0 }
     {
         let word = gate_word(0, 1 + caller as u64, alg);
-        self.store_as::<Brand, (usize, Alg)>(seat, At::Gate, word, &(caller, alg));
+        let own = OwnFence {
+            number: 0,
+            stored: false,
+        };
+        self.store_own_as::<Brand, (usize, Alg)>(seat, At::Gate, word, own, &(caller, alg));
     }
 }

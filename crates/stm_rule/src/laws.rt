@@ -3,13 +3,15 @@ ghost use Rattle.std.specs.Prelude.{ℕ, List, replicate};
 ghost use Rattle.stm_model.specs.declared.config.Config.{Config};
 ghost use Rattle.stm_model.specs.Configs.{IsConfig};
 ghost use Rattle.stm_rule.specs.CheckRun.{CoreChecks};
+ghost use Rattle.stm_rule.specs.FenceRun.{CoreFences};
+ghost use Rattle.stm_rule.specs.NoteRun.{CoreNotes};
 ghost use Rattle.stm_rule.specs.CoreRuns.{CoreOpens, CoreCommits, CoreInstalls, CorePromotes, CoreRecords, CoreRings};
 ghost use Rattle.stm_rule.specs.Irrevocable.{OneIrrevocable};
 ghost use Rattle.stm_rule.specs.Kept.{good_of};
 ghost use Rattle.stm_rule.specs.NoteRuns.{CoreKeepsAlong};
 ghost use Rattle.stm_rule.specs.Privatization.{RangeIsPrivate};
 ghost use Rattle.stm_rule.specs.Stamping.{CoreStamps};
-ghost use Rattle.stm_rule.specs.Quiescence.{QuietRests, PromotingRests, PromotingLasts, OrecPromotingRests, OrecPromotingLasts, RestLasts, InstalledRests};
+ghost use Rattle.stm_rule.specs.Quiescence.{GrantedLasts, GrantedRests, HolderAlone, InstalledRests, QuietRests, RestLasts};
 
 use stm_model::config::Config;
 use stm_model::rule::MemRule;
@@ -32,13 +34,15 @@ pub fn core_commits<K: MemRule>()
 
 /// A caller that has closed the gate and seen all others idle since is alone with the memory, which lies in
 /// the heap, and stays so until it takes a step itself, while the others announce, load the closed gate and
-/// withdraw. After an install it is so under the new algorithm, with BASE and DONE at the clock.
+/// withdraw. After an install it is so under the new algorithm, with BASE and DONE at the clock. Whoever holds the
+/// gate and has seen all others idle, be it in its attempt, is the only one in an attempt; and once its view says that
+/// the attempt is promoted, it is alone with the memory too, but for its own stores, the records that it holds, and
+/// DONE from where it raises the clock until it stores it.
 pub fn quiet_is_rest<K: MemRule>()
     ensures rests { (rule : K) (c : Config) → QuietRests (good_of K.good c rule) c }
-    ensures promoting { (rule : K) (c : Config) → PromotingRests (good_of K.good c rule) c }
-    ensures promoting_lasts { (rule : K) (c : Config) → PromotingLasts (good_of K.good c rule) c }
-    ensures orec_promoting { (rule : K) (c : Config) → OrecPromotingRests (good_of K.good c rule) c }
-    ensures orec_promoting_lasts { (rule : K) (c : Config) → OrecPromotingLasts (good_of K.good c rule) c }
+    ensures alone { (rule : K) (c : Config) → HolderAlone (good_of K.good c rule) c }
+    ensures granted { (rule : K) (c : Config) → GrantedRests (good_of K.good c rule) c }
+    ensures granted_lasts { (rule : K) (c : Config) → GrantedLasts (good_of K.good c rule) c }
     ensures lasts { (rule : K) (c : Config) → RestLasts (good_of K.good c rule) c }
     ensures installed { (rule : K) (c : Config) → InstalledRests (good_of K.good c rule) c }
 {}
@@ -59,7 +63,8 @@ pub fn range_is_private<K: MemRule>()
     ensures { (rule : K) (c : Config) → RangeIsPrivate (good_of K.good c rule) c }
 {}
 
-/// And so is a run that switches the algorithm twice, with a commit of TML, a promoted one and one of Serial.
+/// And so is a run that switches the algorithm twice, with a commit of TML, a promoted one and one of Serial. Right
+/// after the promotion the view says that the attempt is promoted.
 pub fn core_promotes<K: MemRule>()
     ensures { (rule : K) (c : Config) → CorePromotes (good_of K.good c rule) c }
 {}
@@ -74,12 +79,23 @@ pub fn core_checks<K: MemRule>()
     ensures { (rule : K) (c : Config) → CoreChecks (good_of K.good c rule) c }
 {}
 
+/// And one in which a caller takes a range out, loads and stores there while another comes and withdraws, and gives it
+/// back with one entry.
+pub fn core_fences<K: MemRule>()
+    ensures { (rule : K) (c : Config) → CoreFences (good_of K.good c rule) c }
+{}
+
+/// And one in which a caller commits and tells, and another learns it and has then seen the entry.
+pub fn core_notes<K: MemRule>()
+    ensures { (rule : K) (c : Config) → CoreNotes (good_of K.good c rule) c }
+{}
+
 /// And one that commits under OrecLazy, and promoted under OrecEager.
 pub fn core_records<K: MemRule>()
     ensures { (rule : K) (c : Config) → CoreRecords (good_of K.good c rule) c }
 {}
 
-/// No step lets the stamp of a record fall, the store of a record by a promoted attempt left out.
+/// No step lets the stamp of a record fall.
 pub fn core_stamps<K: MemRule>()
     ensures { (rule : K) (c : Config) → CoreStamps (good_of K.good c rule) c }
 {}

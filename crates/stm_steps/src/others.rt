@@ -2,7 +2,6 @@
 ghost use Rattle.std.specs.Prelude.{◌≡◌, ℕ, ◌≤◌, ◌<◌, true, false};
 ghost use Rattle.rule_base.specs.Encodings.{fenced};
 ghost use Rattle.stm_model.specs.Algorithms.{is_built};
-ghost use Rattle.stm_model.specs.Memories.{is_empty};
 ghost use Rattle.stm_rule.specs.Callers.{IsOf, IsSameCaller};
 ghost use Rattle.tx_answers.specs.Fences.{is_within};
 ghost use Rattle.tx_answers.specs.Known.{IsIdle, IsRunning};
@@ -79,7 +78,6 @@ fn count_fence(stm: &Stm<AnyMem>, desc: &mut Desc<AnyMem>) -> bool
     ensures idle { IsIdle (known desc.new) }
     ensures held { result ≡ true → (known desc.new).fenced.held ≡ true }
     ensures words { result ≡ true → (a : ℕ) → fenced (known desc.new).fenced.number a ≡ is_within 4 2 a }
-    ensures unchanged { result ≡ true → is_empty (known desc.new).fenced.log.writes ≡ true }
 {
     let CloseGate::Closed = close_gate(desc, stm) else {
         return false;
@@ -110,11 +108,9 @@ fn count_direct(stm: &Stm<AnyMem>, desc: &mut Desc<AnyMem>)
     requires held { (known desc.old).fenced.held ≡ true }
     requires inside { (a : ℕ) → fenced (known desc.old).fenced.number a ≡ is_within 4 2 a }
     requires words { 8 ≤ stm.now.config.words }
-    requires unchanged { is_empty (known desc.old).fenced.log.writes ≡ true }
     ensures same { IsSameCaller desc.old desc.new }
     ensures idle { IsIdle (known desc.new) }
     ensures held { (known desc.new).fenced.held ≡ true }
-    ensures changed { is_empty (known desc.new).fenced.log.writes ≡ false }
 {
     begin_count();
     let _ = direct_read(desc, stm, 4);
@@ -129,7 +125,6 @@ fn count_give(stm: &Stm<AnyMem>, desc: &mut Desc<AnyMem>) -> bool
     requires stm { IsOf desc.old stm.now }
     requires idle { IsIdle (known desc.old) }
     requires held { (known desc.old).fenced.held ≡ true }
-    requires changed { is_empty (known desc.old).fenced.log.writes ≡ false }
 {
     let CloseGate::Closed = close_gate(desc, stm) else {
         return false;
@@ -138,7 +133,7 @@ fn count_give(stm: &Stm<AnyMem>, desc: &mut Desc<AnyMem>) -> bool
         return false;
     };
     begin_count();
-    let give = give_back(desc, stm, true);
+    let give = give_back(desc, stm);
     end_count();
     matches!(give, Give::Committed { .. })
 }

@@ -28,7 +28,7 @@ use Rattle.tx_answers.specs.declared.answers.Irrev.TheVariants as irrevs
 use Rattle.tx_answers.specs.declared.answers.Look.{Look}
 use Rattle.tx_answers.specs.declared.answers.Look.TheVariants as looks
 use Rattle.stm_trace.specs.declared.said.Said.TheVariants.{TryBegin, TryCancel, TryIrrevocable, TryCommit, TryClose, Looked}
-use Rattle.stm_trace.specs.Places.{Place, may_write, sure}
+use Rattle.stm_trace.specs.Places.{Place, may_write, irrevocable}
 use Rattle.stm_trace.specs.Turns.{HasSizes, IsFair, IsFairCause, IsFairStop}
 use Rattle.stm_trace.specs.Turns as turns
 
@@ -36,12 +36,12 @@ use Rattle.stm_trace.specs.Turns as turns
 pub record IsPlaceOf (v : Known) (at : Place) : Type 0 where
   pub alg : at.alg ≡ v.alg
   pub wrote : at.wrote ≡ wrote v
-  pub sure : sure at ≡ is_irrevocable v
+  pub irrevocable : irrevocable at ≡ is_irrevocable v
 
 -- or of what it knew in the middle of an operation
 pub record IsPlaceIn (v : Known) (at : Place) : Type 0 where
   pub alg : at.alg ≡ v.alg
-  pub unsure : is_irrevocable v ≡ false → sure at ≡ false
+  pub revocable : is_irrevocable v ≡ false → irrevocable at ≡ false
 
 both : (a b : Bool) → (a && b) ≡ true → (a ≡ true) × (b ≡ true)
 both true b e = (refl, e)
@@ -100,45 +100,45 @@ module _ (good : List ℕ → Type 0) (c : Config) (n : ℕ) (h : Header) (at : 
     -- the logs have the lengths that the place tells
     module _ (reads : v.reads_limit ≡ at.reads_limit) (writes : v.writes_limit ≡ at.writes_limit) where
       pub fair-stop : (op : Op) (a : ℕ) (stop : Stop) (w : Known) → ((clock : ℕ) → stop ≡ stops.ClockFull clock → may_write op ≡ true) → Stops good c n a stop v w
-          → (sure at ≡ false) × IsFairStop h at op stop
-      fair-stop op a (stops.Conflict cause) w may t = (is.unsure t.0.revocable, (others t.2, fair-cause (Option.Some a) cause w t.1))
+          → (irrevocable at ≡ false) × IsFairStop h at op stop
+      fair-stop op a (stops.Conflict cause) w may t = (is.revocable t.0.revocable, (others t.2, fair-cause (Option.Some a) cause w t.1))
       fair-stop op a (stops.Full limit) w may t = (
-        is.unsure t.0.revocable,
+        is.revocable t.0.revocable,
         ⊎_elim
             (λ f. inl (ap has_read_log is.alg ∙ (both (has_read_log v.alg) _ f.0).0, f.1 ∙ reads))
             (λ f. inr (ap logs_writes is.alg ∙ (both (logs_writes v.alg) _ f.0).0, f.1 ∙ writes))
             t.1,
       )
-      fair-stop op a (stops.ClockFull clock) w may t = (is.unsure t.0.revocable, (t.2.limit, ap asks_at_write is.alg ∙ t.1, may clock refl))
+      fair-stop op a (stops.ClockFull clock) w may t = (is.revocable t.0.revocable, (t.2.limit, ap asks_at_write is.alg ∙ t.1, may clock refl))
 
   module _ (v : Known) (is : IsPlaceOf v at) where
     cause-of : (asked : Option ℕ) (cause : Cause) (w : Known) → Conflicts c n asked cause v w → IsFairCause h at cause
-    cause-of asked cause w t = fair-cause v (record { alg = is.alg; unsure = λ e. is.sure ∙ e }) asked cause w t
+    cause-of asked cause w t = fair-cause v (record { alg = is.alg; revocable = λ e. is.irrevocable ∙ e }) asked cause w t
 
     fair-again : (word had now : ℕ) (w : Known) → IsAgain c n word had now v w → turns.IsFairAgain h at word had now
     fair-again word had now w (inl t) = inl (t.0, ap has_records is.alg ∙ t.1, t.3.0)
     fair-again word had now w (inr t) = inr (t.0, is.alg ∙ t.1, t.2, names-other now t.4)
 
     -- who was refused can be cancelled
-    unsure : is_irrevocable v ≡ false → sure at ≡ false
-    unsure e = is.sure ∙ e
+    revocable : is_irrevocable v ≡ false → irrevocable at ≡ false
+    revocable e = is.irrevocable ∙ e
 
     pub fair-cancel : (r : Cancel) (w : Known) → Cancels good c n r v w → IsFair h at (TryCancel r)
-    fair-cancel (cancels.Cancelled time) w t = unsure t.3
-    fair-cancel cancels.Irrevocable w t = is.sure ∙ t.1
+    fair-cancel (cancels.Cancelled time) w t = revocable t.3
+    fair-cancel cancels.Irrevocable w t = is.irrevocable ∙ t.1
 
     pub fair-irrevocable : (r : Irrev) (w : Known) → Irrevs good c n r v w → IsFair h at (TryIrrevocable r)
     fair-irrevocable irrevs.Granted w t = tt
     fair-irrevocable (irrevs.Busy k status) w t =
         let o = t.2.other in let below = o.0 in let same = sizes.3 in
-        ((unsure t.0.revocable, ap closes_gate is.alg ∙ t.0.closes, others o.2), omega (arith, below, same), (λ e. o.1 (e ∙ caller)), above-zero status t.2.announced)
-    fair-irrevocable (irrevs.Taken gate) w t = ((unsure t.0.revocable, ap closes_gate is.alg ∙ t.0.closes, others t.5), names-other (holder_of gate) t.4)
-    fair-irrevocable (irrevs.Conflict cause) w t = (unsure t.0.revocable, others t.2, cause-of Option.None cause w t.1)
-    fair-irrevocable (irrevs.ClockFull clock) w t = (unsure t.0.revocable, t.2.limit, ap asks_at_grant is.alg ∙ t.1)
+        ((revocable t.0.revocable, ap closes_gate is.alg ∙ t.0.closes, others o.2), omega (arith, below, same), (λ e. o.1 (e ∙ caller)), above-zero status t.2.announced)
+    fair-irrevocable (irrevs.Taken gate) w t = ((revocable t.0.revocable, ap closes_gate is.alg ∙ t.0.closes, others t.5), names-other (holder_of gate) t.4)
+    fair-irrevocable (irrevs.Conflict cause) w t = (revocable t.0.revocable, others t.2, cause-of Option.None cause w t.1)
+    fair-irrevocable (irrevs.ClockFull clock) w t = (revocable t.0.revocable, t.2.limit, ap asks_at_grant is.alg ∙ t.1)
 
     pub fair-commit : (r : Commit) (w : Known) → Commits good c n r v w → IsFair h at (TryCommit r)
     fair-commit (commits.Committed time) w t = is.wrote ∙ t.wrote
     fair-commit (commits.ReadOnly time) w t = is.wrote ∙ t.2
-    fair-commit (commits.Conflict cause) w t = (unsure t.0.revocable, others t.2, cause-of Option.None cause w t.1, is.wrote ∙ t.3)
-    fair-commit (commits.Again word had now) w t = (unsure t.6, others t.5, fair-again word had now w t.4, is.wrote ∙ t.7)
-    fair-commit (commits.ClockFull clock) w t = (unsure t.0.revocable, t.3.limit, ap asks_at_commit is.alg ∙ t.1, is.wrote ∙ t.2)
+    fair-commit (commits.Conflict cause) w t = (revocable t.0.revocable, others t.2, cause-of Option.None cause w t.1, is.wrote ∙ t.3)
+    fair-commit (commits.Again word had now) w t = (revocable t.6, others t.5, fair-again word had now w t.4, is.wrote ∙ t.7)
+    fair-commit (commits.ClockFull clock) w t = (revocable t.0.revocable, t.3.limit, ap asks_at_commit is.alg ∙ t.1, is.wrote ∙ t.2)

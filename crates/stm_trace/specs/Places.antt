@@ -1,6 +1,6 @@
 -- Where a caller stands, as what was said so far tells.
 use Rattle.std.specs.Prelude.{ℕ, ◌+◌, ◌==◌, leb, Bool, true, false, ◌||◌, ◌&&◌, not, max, List, [], ◌∷◌, ◌++◌, length, Option, Some, None, if◌then◌else◌}
-use Rattle.stm_model.specs.Algorithms.{is_sure}
+use Rattle.stm_model.specs.Algorithms.{irrevocable_under}
 use Rattle.stm_model.specs.declared.alg.Alg.{Alg}
 use Rattle.stm_profile.specs.declared.outcome.Outcome.{Outcome}
 use Rattle.stm_profile.specs.declared.outcome.Outcome.TheVariants as outcomes
@@ -122,12 +122,12 @@ abbrev pub most_failed : ℕ
 most_failed = 16
 
 -- the open attempt can't be cancelled
-abbrev pub sure : Place → Bool
-sure at = is_sure at.alg at.granted at.wrote
+abbrev pub irrevocable : Place → Bool
+irrevocable at = irrevocable_under at.alg at.granted at.wrote
 
 -- it must become irrevocable before it goes on
 abbrev pub is_forced : Place → Bool
-is_forced at = at.must && not (sure at)
+is_forced at = at.must && not (irrevocable at)
 
 -- a new attempt: nothing of an earlier one stays
 abbrev pub begun : Alg → Place → Place

@@ -12,7 +12,7 @@ use Rattle.stm_trace.specs.declared.line.Line.TheVariants.{Of, Finish}
 use Rattle.stm_trace.specs.declared.said.Said.{Said}
 use Rattle.stm_trace.specs.declared.said.Said.TheVariants.{TryBegin, Reply, Stopped, TryCancel, TryIrrevocable, TryCommit, TryClose, Looked, Installed, Reserved, Idle, Dropped, Reopened}
 use Rattle.stm_trace.specs.Fits.{Path, IsCalm, callers, place_of, no_place, says}
-use Rattle.stm_trace.specs.Places.{Place, after, clock_of, sure}
+use Rattle.stm_trace.specs.Places.{Place, after, clock_of, irrevocable}
 use Rattle.stm_trace.specs.Played.{Played, Halted, EndsFull}
 use Rattle.stm_trace.specs.Turns.{IsFair, IsOver, MaySay, MayWind, MayFinish}
 use Rattle.stm_trace.specs.declared.said.Phase.TheVariants.{Between, Inside}
@@ -48,7 +48,7 @@ may-finish at Dropped still m = m
 may-finish at Reopened still m = m
 
 -- who can't cancel its open attempt says the same once the schedule is over
-pub may-wind : (at : Place) (said : Said) → at.phase ≡ Inside → sure at ≡ true → MaySay at said → MayWind at said
+pub may-wind : (at : Place) (said : Said) → at.phase ≡ Inside → irrevocable at ≡ true → MaySay at said → MayWind at said
 may-wind at (TryBegin b) here is m = (here, is, m)
 may-wind at (Reply op reply) here is m = (here, is, m)
 may-wind at (Stopped op stop) here is m = (here, is, m)

@@ -25,7 +25,7 @@ use Rattle.tx_answers.specs.declared.answers.Look.TheVariants.{Quiet, Busy}
 use Rattle.stm_trace.specs.declared.said.Phase.TheVariants.{Between, Inside, Closing, Quiet}
 use Rattle.stm_trace.specs.declared.said.Said.{Said}
 use Rattle.stm_trace.specs.declared.said.Said.TheVariants.{TryBegin, Reply, Stopped, TryCancel, TryIrrevocable, TryCommit, TryClose, Looked, Installed, Reserved, Idle, Dropped, Reopened}
-use Rattle.stm_trace.specs.Places.{Place, may_write, sure, is_forced}
+use Rattle.stm_trace.specs.Places.{Place, may_write, irrevocable, is_forced}
 
 -- a transaction comes next
 abbrev pub BeforeTx : List Item → Type 0
@@ -100,9 +100,9 @@ MaySay at Reopened = ⊥
 
 -- once the schedule is over, until no attempt and no closing is open: an attempt that can't be cancelled goes on to its end
 abbrev pub MayWind : Place → Said → Type 0
-MayWind at Dropped = (at.phase ≡ Inside) × (sure at ≡ false)
+MayWind at Dropped = (at.phase ≡ Inside) × (irrevocable at ≡ false)
 MayWind at Reopened = (at.phase ≡ Closing) ⊎ (at.phase ≡ Quiet)
-MayWind at said = (at.phase ≡ Inside) × (sure at ≡ true) × MaySay at said
+MayWind at said = (at.phase ≡ Inside) × (irrevocable at ≡ true) × MaySay at said
 
 -- and then: nobody says that nothing is left
 abbrev pub MayFinish : Place → Said → Type 0
@@ -147,7 +147,7 @@ module _ (h : Header) where
 
   -- an attempt that can be cancelled waits to be alone
   abbrev pub IsFairWait : Place → Type 0
-  IsFairWait at = (sure at ≡ false) × (closes_gate at.alg ≡ true) × HasOthers
+  IsFairWait at = (irrevocable at ≡ false) × (closes_gate at.alg ≡ true) × HasOthers
 
   -- THE NUMBERS of each answer are such as its cause allows; who can't be cancelled is not refused
   abbrev pub IsFair : Place → Said → Type 0
@@ -156,19 +156,19 @@ module _ (h : Header) where
   IsFair at (TryBegin (Held word)) = HasOthers × (word ≢ 0)
   IsFair at (TryBegin (ClockFull clock)) = CLOCK_LIMIT ≤ clock
   IsFair at (Reply op reply) = Unit {0}
-  IsFair at (Stopped op stop) = (sure at ≡ false) × IsFairStop at op stop
-  IsFair at (TryCancel (Cancelled time)) = sure at ≡ false
-  IsFair at (TryCancel Irrevocable) = sure at ≡ true
+  IsFair at (Stopped op stop) = (irrevocable at ≡ false) × IsFairStop at op stop
+  IsFair at (TryCancel (Cancelled time)) = irrevocable at ≡ false
+  IsFair at (TryCancel Irrevocable) = irrevocable at ≡ true
   IsFair at (TryIrrevocable irrevs.Granted) = Unit {0}
   IsFair at (TryIrrevocable (irrevs.Busy caller status)) = IsFairWait at × (caller < h.callers) × (caller ≢ at.caller) × (status ≢ 0)
   IsFair at (TryIrrevocable (irrevs.Taken gate)) = IsFairWait at × NamesOther at (holder_of gate)
-  IsFair at (TryIrrevocable (irrevs.Conflict cause)) = (sure at ≡ false) × HasOthers × IsFairCause at cause
-  IsFair at (TryIrrevocable (irrevs.ClockFull clock)) = (sure at ≡ false) × (CLOCK_LIMIT ≤ clock) × (asks_at_grant at.alg ≡ true)
+  IsFair at (TryIrrevocable (irrevs.Conflict cause)) = (irrevocable at ≡ false) × HasOthers × IsFairCause at cause
+  IsFair at (TryIrrevocable (irrevs.ClockFull clock)) = (irrevocable at ≡ false) × (CLOCK_LIMIT ≤ clock) × (asks_at_grant at.alg ≡ true)
   IsFair at (TryCommit (Committed time)) = at.wrote ≡ true
   IsFair at (TryCommit (ReadOnly time)) = at.wrote ≡ false
-  IsFair at (TryCommit (Conflict cause)) = (sure at ≡ false) × HasOthers × IsFairCause at cause × (at.wrote ≡ true)
-  IsFair at (TryCommit (Again word had now)) = (sure at ≡ false) × HasOthers × IsFairAgain at word had now × (at.wrote ≡ true)
-  IsFair at (TryCommit (ClockFull clock)) = (sure at ≡ false) × (CLOCK_LIMIT ≤ clock) × (asks_at_commit at.alg ≡ true) × (at.wrote ≡ true)
+  IsFair at (TryCommit (Conflict cause)) = (irrevocable at ≡ false) × HasOthers × IsFairCause at cause × (at.wrote ≡ true)
+  IsFair at (TryCommit (Again word had now)) = (irrevocable at ≡ false) × HasOthers × IsFairAgain at word had now × (at.wrote ≡ true)
+  IsFair at (TryCommit (ClockFull clock)) = (irrevocable at ≡ false) × (CLOCK_LIMIT ≤ clock) × (asks_at_commit at.alg ≡ true) × (at.wrote ≡ true)
   IsFair at (TryClose Closed) = Unit {0}
   IsFair at (TryClose (Taken gate)) = HasOthers × NamesOther at (holder_of gate)
   IsFair at (Looked Quiet) = Unit {0}

@@ -6,3 +6,7 @@ use Rattle.tx_answers.specs.Known.{Known}
 -- the range that was out as the running attempt began
 abbrev pub fence_seen : Known → Option (ℕ × ℕ)
 fence_seen v = if v.running && not (v.fence == 0) then Some (fence_from v.fence, fence_count v.fence) else None
+
+-- the range that the caller has out
+abbrev pub range_held : Known → Option (ℕ × ℕ)
+range_held v = if v.fenced.held then Some (fence_from v.fenced.number, fence_count v.fenced.number) else None

@@ -2,3 +2,4 @@ pub mod Descs
 pub mod Fencing
 pub mod Nesting
 pub mod Costs
+pub mod Resting

@@ -270,7 +270,7 @@ pub fn is_irrevocable<K: MemRule>(desc: &Desc<K>) -> bool
         && desc
             .local
             .algorithm
-            .is_sure(desc.local.granted, desc.local.wrote)
+            .irrevocable_under(desc.local.granted, desc.local.wrote)
 }
 
 /// Whether this caller has closed the gate. No step.

@@ -3,7 +3,7 @@
 ghost use Rattle.std.specs.Prelude.{◌≡◌, true, not};
 ghost use Rattle.rule_base.specs.Encodings.{fenced};
 ghost use Rattle.stm_tx.specs.Descs.{known};
-ghost use Rattle.stm_tx.specs.Fencing.{fence_seen};
+ghost use Rattle.stm_tx.specs.Fencing.{fence_seen, range_held};
 
 use rule_base::words::{fence_count, fence_from};
 pub use stm_gate::fence::{direct_read, direct_write, fence, give_back};
@@ -17,6 +17,19 @@ pub fn fence_seen<K: MemRule>(desc: &Desc<K>) -> Option<(usize, usize)>
 {
     let fence = desc.local.fence;
     if desc.local.running && fence != 0 {
+        Some((fence_from(fence) as usize, fence_count(fence) as usize))
+    } else {
+        None
+    }
+}
+
+/// The range that this caller has out of the transactions, by its first address and how many words it has: it may read
+/// and write there directly, and give it back. No step.
+pub fn fenced<K: MemRule>(desc: &Desc<K>) -> Option<(usize, usize)>
+    ensures { result ≡ range_held (known desc.now) }
+{
+    let fence = desc.seat.own_fence().number;
+    if fence != 0 {
         Some((fence_from(fence) as usize, fence_count(fence) as usize))
     } else {
         None

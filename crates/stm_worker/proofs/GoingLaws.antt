@@ -11,7 +11,7 @@ use Rattle.stm_script.specs.declared.op.Op.TheVariants.{Read, Write, Add, Move, 
 use Rattle.tx_regions.specs.declared.region.Region.{Region}
 use Rattle.stm_script.specs.Keeping.{OpKeeps, ScriptKeeps}
 use Rattle.stm_script.specs.KeepingLaws.{keeps-gave, keeps-run}
-use Rattle.stm_model.specs.Algorithms.{is_sure}
+use Rattle.stm_model.specs.Algorithms.{irrevocable_under}
 use Rattle.stm_script.specs.Operations.{OpFits, ScriptFits, is_cancel, is_irrev, effect_of, emits_of, replies, moved}
 use Rattle.stm_script.specs.Outputs.{Output, HasRoom}
 use Rattle.tx_effects.specs.Effects.{Under}
@@ -55,7 +55,7 @@ going-begun good words regions script v alg out fits rule room r e log ex named 
   keeps = subst (Keeps good words) (sym log) (λ m fine len x. fine);
   named = named;
   writer = sym (ap (λ (l : Log). not (is_empty l.writes)) log);
-  sure = (λ i. is_sure (sym named i) (sym ungranted i) (sym (ap (λ (l : Log). not (is_empty l.writes)) log) i));
+  irrevocable = (λ i. irrevocable_under (sym named i) (sym ungranted i) (sym (ap (λ (l : Log). not (is_empty l.writes)) log) i));
   first = [];
   is = refl;
   on = λ more m fine len x. begun-on regions more m v.log out log r e;
@@ -117,9 +117,9 @@ one-wrote regions (MapSum r lo hi) m = refl
 one-reply : (xs : List ℕ) (r s : ℕ) → xs ++ r ∷ [] ≡ xs ++ s ∷ [] → r ≡ s
 one-reply xs r s e = let h = append_cancel_left xs (r ∷ []) (s ∷ []) e in cc
 
-not-sure : (a b : Bool) → (a ≡ true → b ≡ true) → b ≡ false → a ≡ false
-not-sure true b up off = absurd (let e = up refl in cc)
-not-sure false b up off = refl
+not-irrevocable : (a b : Bool) → (a ≡ true → b ≡ true) → b ≡ false → a ≡ false
+not-irrevocable true b up off = absurd (let e = up refl in cc)
+not-irrevocable false b up off = refl
 
 or-right : (a b : Bool) → b ≡ true → a || b ≡ true
 or-right true b h = refl
@@ -149,9 +149,9 @@ wrote-one good words regions op v w out next wrote reply told was gave ex =
 pub going-step : (good : List ℕ → Type 0) (words : ℕ) (regions : List Region) (script : List Op) (op : Op) (rest : List Op) (v w : Known) (alg : Alg) (was granted : Bool) (out next : Output) (wrote : Bool) (reply : ℕ)
     → is_cancel op ≡ false → (is_irrevocable w ≡ false → is_irrev op ≡ false) → next ≡ record out { replies = out.replies ++ reply ∷ []; emits = out.emits ++ emits_of op reply } → Going good words regions script (op ∷ rest) v alg was out wrote
     → GaveOver good words (ran_one regions op) v.log out w.log next → IsExplained good words w.log
-    → w.alg ≡ v.alg → is_sure alg granted (wrote || writes op reply) ≡ is_irrevocable w → (is_irrevocable v ≡ true → is_irrevocable w ≡ true) → HasRoom next (length rest)
+    → w.alg ≡ v.alg → irrevocable_under alg granted (wrote || writes op reply) ≡ is_irrevocable w → (is_irrevocable v ≡ true → is_irrevocable w ≡ true) → HasRoom next (length rest)
     → Going good words regions script rest w alg granted next (wrote || writes op reply)
-going-step good words regions script op rest v w alg was granted out next wrote reply plain unasked told g gave ex same sure up room =
+going-step good words regions script op rest v w alg was granted out next wrote reply plain unasked told g gave ex same irrevocable up room =
     let m = ex.0 in
     let here = gave m ex.1 ex.2 ex.3 in
     let same_reply : (effect_of regions op (overlay m v.log.writes)).reply ≡ reply =
@@ -166,23 +166,23 @@ going-step good words regions script op rest v w alg was granted out next wrote 
       keeps = keeps-gave good words (ran_one regions op) v.log out w.log next gave (keeps-run good words regions (op ∷ []) (one-of (OpKeeps good words regions) op (All-head (OpKeeps good words regions) op rest g.rule))) g.keeps;
       named = same ∙ g.named;
       writer = ap (λ b. b || writes op reply) g.writer ∙ sym more;
-      sure = sure;
+      irrevocable = irrevocable;
       first = g.first ++ op ∷ [];
       is = g.is ∙ sym (append_assoc g.first (op ∷ []) rest);
       on = λ more x fine len e. gives-more regions g.first op more x v.log out w.log next (g.on (op ∷ more) x fine len (gave x fine len e).explained) (gave x fine len e);
       ends = λ h. g.ends (or-right (is_cancel op) (has_cancel rest) h);
       cut = λ off x fine len e.
           gives-step regions (before_cancel script) op (before_cancel rest) x no_log no_replies v.log out w.log next
-          (subst (λ ops. GivesOn regions (before_cancel script) ops x no_log no_replies v.log out) (cut-plain op rest plain) (g.cut (not-sure (is_irrevocable v) (is_irrevocable w) up off) x fine len (gave x fine len e).explained))
+          (subst (λ ops. GivesOn regions (before_cancel script) ops x no_log no_replies v.log out) (cut-plain op rest plain) (g.cut (not-irrevocable (is_irrevocable v) (is_irrevocable w) up off) x fine len (gave x fine len e).explained))
           (gave x fine len e);
-      unasked = λ off. g.unasked (not-sure (is_irrevocable v) (is_irrevocable w) up off) ∙ cut-irrev op rest (unasked off) plain;
+      unasked = λ off. g.unasked (not-irrevocable (is_irrevocable v) (is_irrevocable w) up off) ∙ cut-irrev op rest (unasked off) plain;
     }
 
 -- a cancel that is refused replies 0, and no later one will end the attempt
 pub going-refused : (good : List ℕ → Type 0) (words : ℕ) (regions : List Region) (script rest : List Op) (v : Known) (alg : Alg) (granted : Bool) (out next : Output) (wrote : Bool)
     → Going good words regions script (Cancel ∷ rest) v alg granted out wrote → is_irrevocable v ≡ true → next ≡ record out { replies = out.replies ++ 0 ∷ [] } → HasRoom next (length rest)
     → Going good words regions script rest v alg granted next wrote
-going-refused good words regions script rest v alg granted out next wrote g sure told room =
+going-refused good words regions script rest v alg granted out next wrote g irrevocable told room =
     let one : (x : List ℕ) → Explains x v.log.reads → Gave (ran_one regions Cancel) x v.log out v.log next = λ x e. record {
       explained = e;
       replied = ap (λ (o : Output). o.replies) told;
@@ -198,20 +198,20 @@ going-refused good words regions script rest v alg granted out next wrote g sure
       keeps = g.keeps;
       named = g.named;
       writer = g.writer;
-      sure = g.sure;
+      irrevocable = g.irrevocable;
       first = g.first ++ Cancel ∷ [];
       is = g.is ∙ sym (append_assoc g.first (Cancel ∷ []) rest);
       on = λ more x fine len e. gives-more regions g.first Cancel more x v.log out v.log next (g.on (Cancel ∷ more) x fine len e) (one x e);
       ends = λ h. g.ends refl;
-      cut = λ off. absurd (let e : true ≡ false = sym sure ∙ off in cc);
-      unasked = λ off. absurd (let e : true ≡ false = sym sure ∙ off in cc);
+      cut = λ off. absurd (let e : true ≡ false = sym irrevocable ∙ off in cc);
+      unasked = λ off. absurd (let e : true ≡ false = sym irrevocable ∙ off in cc);
     }
 
 -- what was asked for by `irrev` is granted, which replies 1
 pub going-asked : (good : List ℕ → Type 0) (words : ℕ) (regions : List Region) (script rest : List Op) (v w : Known) (alg : Alg) (was granted : Bool) (out next : Output) (wrote : Bool)
-    → Going good words regions script (Irrev ∷ rest) v alg was out wrote → w.log ≡ v.log → w.alg ≡ v.alg → IsExplained good words w.log → is_sure alg granted wrote ≡ true → is_irrevocable w ≡ true
+    → Going good words regions script (Irrev ∷ rest) v alg was out wrote → w.log ≡ v.log → w.alg ≡ v.alg → IsExplained good words w.log → irrevocable_under alg granted wrote ≡ true → is_irrevocable w ≡ true
     → next ≡ record out { replies = out.replies ++ 1 ∷ [] } → HasRoom next (length rest) → Going good words regions script rest w alg granted next wrote
-going-asked good words regions script rest v w alg was granted out next wrote g log same ex sure certain told room =
+going-asked good words regions script rest v w alg was granted out next wrote g log same ex irrevocable certain told room =
     let one : (x : List ℕ) → Explains x w.log.reads → Gave (ran_one regions Irrev) x v.log out w.log next = λ x e. record {
       explained = subst (λ (l : Log). Explains x l.reads) log e;
       replied = ap (λ (o : Output). o.replies) told;
@@ -227,7 +227,7 @@ going-asked good words regions script rest v w alg was granted out next wrote g 
       keeps = subst (Keeps good words) (sym log) g.keeps;
       named = same ∙ g.named;
       writer = g.writer ∙ ap (λ (l : Log). not (is_empty l.writes)) (sym log);
-      sure = sure ∙ sym certain;
+      irrevocable = irrevocable ∙ sym certain;
       first = g.first ++ Irrev ∷ [];
       is = g.is ∙ sym (append_assoc g.first (Irrev ∷ []) rest);
       on = λ more x fine len e. gives-more regions g.first Irrev more x v.log out w.log next (g.on (Irrev ∷ more) x fine len (one x e).explained) (one x e);
@@ -238,9 +238,9 @@ going-asked good words regions script rest v w alg was granted out next wrote g 
 
 -- the attempt knows more, and its script is where it was
 pub going-later : (good : List ℕ → Type 0) (words : ℕ) (regions : List Region) (script rest : List Op) (v w : Known) (alg : Alg) (was granted : Bool) (out : Output) (wrote : Bool)
-    → Going good words regions script rest v alg was out wrote → w.log ≡ v.log → w.alg ≡ v.alg → IsExplained good words w.log → is_sure alg granted wrote ≡ is_irrevocable w → (is_irrevocable w ≡ false → is_irrevocable v ≡ false)
+    → Going good words regions script rest v alg was out wrote → w.log ≡ v.log → w.alg ≡ v.alg → IsExplained good words w.log → irrevocable_under alg granted wrote ≡ is_irrevocable w → (is_irrevocable w ≡ false → is_irrevocable v ≡ false)
     → Going good words regions script rest w alg granted out wrote
-going-later good words regions script rest v w alg was granted out wrote g log same ex sure down = record {
+going-later good words regions script rest v w alg was granted out wrote g log same ex irrevocable down = record {
   fits = g.fits;
   rule = g.rule;
   room = g.room;
@@ -248,7 +248,7 @@ going-later good words regions script rest v w alg was granted out wrote g log s
   keeps = subst (Keeps good words) (sym log) g.keeps;
   named = same ∙ g.named;
   writer = g.writer ∙ ap (λ (l : Log). not (is_empty l.writes)) (sym log);
-  sure = sure;
+  irrevocable = irrevocable;
   first = g.first;
   is = g.is;
   on = λ more m fine len x. subst (λ (l : Log). GivesOn regions (g.first ++ more) more m no_log no_replies l out) (sym log) (g.on more m fine len (subst (λ (l : Log). Explains m l.reads) log x));

@@ -128,6 +128,7 @@ module _ {K : Type 0} (good : List ℕ → Type 0) (stm : Stm K) (v : Worker K) 
         part = (s.done.0, s.done.1, inl refl);
         calm = λ e. s.done.1;
         rows = v.rows.items;
+        behind = inl (s.done.1, refl);
         works = reworked good (zeros stm.config.words) v.regions.now v.all.now s.done.0 n (known d).made (known d).seen (known d).front v.rows.items (same-script s.done.0 [] (sym (append-nil (scripts_of n s.done.0))))
             (stands-over good stm.config.words v.regions.now v.all.now n (known v.desc) (known d) v.rows.items v.phase made grows s.stands);
         whole = whole-first;
@@ -159,6 +160,7 @@ module _ {K : Type 0} (good : List ℕ → Type 0) (stm : Stm K) (v : Worker K) 
         part = (s.done.0, s.done.1, inr next.begins);
         calm = λ e. absurd (let x = sym inside ∙ e in cc);
         rows = v.rows.items ++ row ∷ [];
+        behind = inr (inside, (s.done.0, s.done.1, next.begins), (row, refl));
         works = row-wrote good v.regions.now next.did stm.config n (known v.desc) (known d) v.rows.items going.first v.out here mine time
             (gave-first good stm.config.words v.regions.now (script_at v.items_left.now) v.operations_left.now (known v.desc) v.alg v.granted v.out v.wrote going) (commits good stm.config n time (known v.desc) (known d) h);
         whole = omega (arith, whole, long, more);

@@ -5,9 +5,6 @@ use Rattle.std.proofs.lemmas.Bool.Decides.{nat_tests}
 use Rattle.stm_model.specs.Algorithms.{is_built}
 use Rattle.stm_model.specs.declared.alg.Alg.{Alg}
 use Rattle.stm_model.specs.declared.config.Config.{Config}
-use Rattle.stm_profile.specs.declared.policy.Policy.{Policy}
-use Rattle.stm_profile.specs.declared.policy.Policy.TheVariants.{Fixed, Round, Expert, State}
-use Rattle.stm_profile.specs.Profiles.{Noted}
 use Rattle.stm_script.specs.declared.op.Op.{Op}
 use Rattle.stm_script.specs.declared.op.Op.TheVariants.{Read, Write, Add, Move, Emit, Irrev, Cancel, Count, Total, ListInsert, ListRemove, ListContains, ListLength, HashInsert, HashRemove, HashContains, TreeInsert, TreeRemove, TreeContains, TreeLeast, QueuePut, QueueGet, MapPut, MapRemove, MapGet, MapSum}
 use Rattle.tx_regions.specs.declared.region.Region.{Region}
@@ -23,14 +20,11 @@ use Rattle.stm_script.specs.Reports.{scripts_of, script_of, zeros}
 use Rattle.stm_rule.specs.Callers.{Handle, IsSameCaller}
 use Rattle.tx_answers.specs.Answers.{HoldsClosed}
 use Rattle.tx_answers.specs.Known.{Known, caller_of}
-use Rattle.stm_trace.specs.Adapting.{asked_by}
 use Rattle.stm_trace.specs.declared.said.Phase.{Phase}
 use Rattle.stm_trace.specs.declared.said.Phase.TheVariants.{Between, Inside, Closing, Quiet}
 use Rattle.stm_trace.specs.Places.{script_at, rest_of}
 use Rattle.stm_trace.specs.Turns.{BeforeTx, Lengthens, MustSwitchTo, SwitchesTo, Next}
-use Rattle.stm_worker.specs.Installs.{AreAmong, InstallsBy}
-use Rattle.stm_worker.specs.InstallLaws.{by-more}
-use Rattle.stm_worker.specs.Workers.{IsAskedBy, IsAt, IsLength, WhenInside, ItemsFit, switches_of, DidFirst, DidSwitches, Works, WorksSince, Stands, cleared, spares}
+use Rattle.stm_worker.specs.Workers.{IsAt, WhenInside, ItemsFit, DidFirst, Works, WorksSince, Stands, cleared, spares}
 
 pub callers-same : {K : Type 0} (d e : Handle K) → IsSameCaller d e → caller_of e.who.role ≡ caller_of d.who.role
 callers-same d e s = ap (λ x. caller_of x.role) s.who
@@ -60,34 +54,21 @@ tx-scripts good words regions n (Switch caller alg ∷ items) b h = absurd b
 tx-scripts good words regions n (Reserve caller reads writes ∷ items) b h = absurd b
 
 -- a transaction stands first
-pub tx-left : (left : List Item) → BeforeTx left → (switches_of left ≡ switches_of (rest_of left)) × (length left ≡ suc (length (rest_of left)))
-tx-left [] b = absurd b
-tx-left (Tx caller script ∷ items) b = (refl, refl)
-tx-left (Switch caller alg ∷ items) b = absurd b
-tx-left (Reserve caller reads writes ∷ items) b = absurd b
-
 -- a switch stands first
 pub switch-left : (n : ℕ) (alg : Alg) (left : List Item) → SwitchesTo alg left
-    → (switches_of left ≡ alg ∷ switches_of (rest_of left)) × (scripts_of n (rest_of left) ≡ scripts_of n left) × (spares left ≡ spares (rest_of left)) × (length left ≡ suc (length (rest_of left)))
+    → (scripts_of n (rest_of left) ≡ scripts_of n left) × (spares left ≡ spares (rest_of left))
 switch-left n alg [] h = absurd h
 switch-left n alg (Tx caller script ∷ items) h = absurd h
-switch-left n alg (Switch caller a ∷ items) h = (ap (λ x. x ∷ switches_of items) h, refl, refl, refl)
+switch-left n alg (Switch caller a ∷ items) h = (refl, refl)
 switch-left n alg (Reserve caller reads writes ∷ items) h = absurd h
 
 -- longer logs stand first
 pub reserve-left : (n reads writes : ℕ) (left : List Item) → Lengthens reads writes left
-    → (switches_of left ≡ switches_of (rest_of left)) × (scripts_of n (rest_of left) ≡ scripts_of n left) × (spares left ≡ spares (rest_of left))
+    → (scripts_of n (rest_of left) ≡ scripts_of n left) × (spares left ≡ spares (rest_of left))
 reserve-left n reads writes [] h = absurd h
 reserve-left n reads writes (Tx caller script ∷ items) h = absurd h
 reserve-left n reads writes (Switch caller alg ∷ items) h = absurd h
-reserve-left n reads writes (Reserve caller r w ∷ items) h = (refl, refl, refl)
-
--- each of them has a log's length
-pub reserve-sizes : (good : List ℕ → Type 0) (words : ℕ) (regions : List Region) (n reads writes : ℕ) (left : List Item) → Lengthens reads writes left → ItemsFit good words regions n left → IsLength reads × IsLength writes
-reserve-sizes good words regions n reads writes [] h f = absurd h
-reserve-sizes good words regions n reads writes (Tx caller script ∷ items) h f = absurd h
-reserve-sizes good words regions n reads writes (Switch caller alg ∷ items) h f = absurd h
-reserve-sizes good words regions n reads writes (Reserve caller r w ∷ items) h f = (subst IsLength h.0 f.1, subst IsLength h.1 f.2)
+reserve-left n reads writes (Reserve caller r w ∷ items) h = (refl, refl)
 
 switch-built : (good : List ℕ → Type 0) (words : ℕ) (regions : List Region) (n : ℕ) (alg : Alg) (left : List Item) → SwitchesTo alg left → ItemsFit good words regions n left → is_built alg ≡ true
 switch-built good words regions n alg [] h f = absurd h
@@ -249,36 +230,6 @@ works-over good words regions all n v w rows made grows h =
 pub did-first : (all left : List Item) → DidFirst all left → DidFirst all (rest_of left)
 did-first all [] h = h
 did-first all (i ∷ left) h = (h.0 ++ i ∷ [], h.1 ∙ sym (append_assoc h.0 (i ∷ []) left))
-
-pub did-same : (policy : Policy) (all left : List Item) (v w : Known) → w.installs ≡ v.installs → DidSwitches policy all left v → DidSwitches policy all left w
-did-same policy all left v w e h = (h.0, subst (λ l. InstallsBy policy (h.0 ++ switches_of all) (l ++ switches_of left)) (sym e) h.1)
-
-pub did-left : (policy : Policy) (all left rest : List Item) (v w : Known) → w.installs ≡ v.installs → switches_of left ≡ switches_of rest → DidSwitches policy all left v → DidSwitches policy all rest w
-did-left policy all left rest v w e l h =
-    (h.0, subst (λ x. InstallsBy policy (h.0 ++ switches_of all) x) (sym (ap (λ x. x ++ switches_of rest) e ∙ ap (λ x. v.installs ++ x) (sym l))) h.1)
-
-pub did-switch : (policy : Policy) (all left rest : List Item) (alg : Alg) (v w : Known) → w.installs ≡ v.installs ++ alg ∷ [] → switches_of left ≡ alg ∷ switches_of rest → DidSwitches policy all left v → DidSwitches policy all rest w
-did-switch policy all left rest alg v w e l h =
-    (h.0, subst (λ x. InstallsBy policy (h.0 ++ switches_of all) x) (sym (ap (λ x. x ++ switches_of rest) e ∙ (append_assoc v.installs (alg ∷ []) (switches_of rest) ∙ ap (λ x. v.installs ++ x) (sym l)))) h.1)
-
--- what a policy asks for is installed besides
-pub besides : (policy : Policy) (alg : Alg) (installs switches : List Alg) → IsAskedBy policy (Some alg) → InstallsBy policy (installs ++ switches) ((installs ++ alg ∷ []) ++ switches)
-besides Fixed alg installs switches asked = absurd cc
-besides (Round n) alg installs switches asked = subst (AreAmong (installs ++ switches)) (sym (append_assoc installs (alg ∷ []) switches)) (by-more installs switches alg)
-besides Expert alg installs switches asked = subst (AreAmong (installs ++ switches)) (sym (append_assoc installs (alg ∷ []) switches)) (by-more installs switches alg)
-besides (State n) alg installs switches asked = subst (AreAmong (installs ++ switches)) (sym (append_assoc installs (alg ∷ []) switches)) (by-more installs switches alg)
-
-pub asked-none : (policy : Policy) → IsAskedBy policy None
-asked-none Fixed = refl
-asked-none (Round n) = tt
-asked-none Expert = tt
-asked-none (State n) = tt
-
-pub asked-is : (policy : Policy) (p : Noted) (alg : Alg) → IsAskedBy policy (asked_by policy p alg)
-asked-is Fixed p alg = refl
-asked-is (Round n) p alg = tt
-asked-is Expert p alg = tt
-asked-is (State n) p alg = tt
 
 all-built : (alg : Alg) → is_built alg ≡ true
 all-built Alg.Cgl = refl

@@ -28,7 +28,8 @@ use Rattle.tx_answers.specs.declared.answers.Commit.TheVariants as commits
 use Rattle.tx_answers.specs.declared.answers.Irrev.TheVariants as irrevs
 use Rattle.tx_answers.specs.declared.answers.Look.TheVariants as looks
 use Rattle.stm_worker.specs.Tellings.{Tells}
-use Rattle.stm_worker.specs.Workers.{Loaded, installed}
+use Rattle.stm_worker.specs.Courses.{installed}
+use Rattle.stm_worker.specs.Workers.{Loaded}
 
 pub owed-in : (v : Known) → v.running ≡ true → owed v ≡ v.base + 2
 owed-in v e = ap (λ b. if b then v.base + 2 else v.rises) e
@@ -174,11 +175,11 @@ module _ (good : List ℕ → Type 0) (c : Config) (n : ℕ) where
 
   -- the place is that of what the caller knows
   module _ (h : Header) (at : Place) (ranges : IsConfig c) (sizes : HasSizes c h) (caller : at.caller ≡ n) where
-    not-sure : (v : Known) (u : Known) → v.running ≡ true → Carries v u → is_irrevocable u ≡ false → is_irrevocable v ≡ false
-    not-sure v u inside k off = by (is_irrevocable v) refl
+    not-irrevocable : (v : Known) (u : Known) → v.running ≡ true → Carries v u → is_irrevocable u ≡ false → is_irrevocable v ≡ false
+    not-irrevocable v u inside k off = by (is_irrevocable v) refl
       where
         by : (b : Bool) → is_irrevocable v ≡ b → b ≡ false
-        by true e = absurd (let t : true ≡ false = sym (k.sure inside e).1 ∙ off in cc)
+        by true e = absurd (let t : true ≡ false = sym (k.irrevocable inside e).1 ∙ off in cc)
         by false e = refl
 
     pub tells-fair : (said : Said) (v w : Known) → Asks said v → (v.running ≡ true → IsPlaceOf v at) → (v.reads_limit ≡ at.reads_limit) × (v.writes_limit ≡ at.writes_limit) → Tells good c n said v w → IsFair h at said
@@ -187,7 +188,7 @@ module _ (good : List ℕ → Type 0) (c : Config) (n : ℕ) where
     tells-fair (Stopped op stop) v w inside is lengths t =
         let place = is inside in
         let k = t.carries in
-        fair-stop good c n h at ranges sizes caller t.before (record { alg = place.alg ∙ sym k.alg; unsure = λ e. place.sure ∙ not-sure v t.before inside k e })
+        fair-stop good c n h at ranges sizes caller t.before (record { alg = place.alg ∙ sym k.alg; revocable = λ e. place.irrevocable ∙ not-irrevocable v t.before inside k e })
         (k.grows.reads_limit ∙ lengths.0) (k.grows.writes_limit ∙ lengths.1)
         op t.address stop w t.writes t.stops
     tells-fair (TryCancel r) v w inside is lengths t = fair-cancel good c n h at ranges sizes caller v (is inside) r w t

@@ -1,10 +1,11 @@
 -- From the clauses of a call to what its turn did.
-use Rattle.std.proofs.Common.{ℕ, suc, ◌≡◌, ◌<◌, ◌≤◌, ◌+◌, Bool, true, false, List, [], ◌∷◌, ◌++◌, length, drop, refl, sym, ap, ◌∙◌, arith, subst, length-append, append_assoc, inl, inr}
+use Rattle.std.proofs.Common.{ℕ, suc, ◌≡◌, ◌<◌, ◌≤◌, ◌+◌, Bool, true, false, List, [], ◌∷◌, ◌++◌, length, drop, refl, sym, ap, ◌∙◌, arith, subst, length-append, inl, inr}
 use Rattle.std.proofs.lemmas.Bool.Decides.{nat_tests}
+use Rattle.std.proofs.lemmas.List.{append-nil}
 use Rattle.std.specs.Prelude.{◌⊎◌, ◌||◌, ◌&&◌, not, slice_index_or, Option, Some, None}
 use Rattle.std.specs.Borrow.{Bor}
-use Rattle.stm_model.specs.Algorithms.{is_sure}
-use Rattle.stm_model.specs.AlgorithmLaws.{granted-sure, sure-wrote}
+use Rattle.stm_model.specs.Algorithms.{irrevocable_under}
+use Rattle.stm_model.specs.AlgorithmLaws.{granted-irrevocable, irrevocable-wrote}
 use Rattle.stm_model.specs.Configs.{IsConfig}
 use Rattle.stm_model.specs.Logs.{IsExplained}
 use Rattle.stm_model.specs.declared.alg.Alg.{Alg}
@@ -17,6 +18,7 @@ use Rattle.stm_script.specs.declared.op.Op.{Op}
 use Rattle.stm_script.specs.declared.op.Op.TheVariants.{Cancel, Irrev}
 use Rattle.stm_script.specs.declared.report.Kind.{Kind}
 use Rattle.stm_script.specs.declared.report.Kind.TheVariants.{W, R, C}
+use Rattle.stm_script.specs.declared.workload.Header.{Header}
 use Rattle.stm_script.specs.declared.workload.Item.{Item}
 use Rattle.stm_script.specs.Operations.{emits_of, is_cancel, is_irrev}
 use Rattle.stm_script.specs.Outputs.{Output}
@@ -36,26 +38,26 @@ use Rattle.tx_answers.specs.declared.answers.Cancel.TheVariants.{Cancelled, Irre
 use Rattle.tx_answers.specs.declared.answers.Commit.TheVariants.{Committed, ReadOnly, Again}
 use Rattle.tx_answers.specs.declared.answers.Irrev.TheVariants.{Granted, Busy}
 use Rattle.stm_tx.specs.Descs.{Reserves, known}
-use Rattle.stm_trace.specs.Adapting.{asked_by, no_profile, outcome_of}
+use Rattle.stm_trace.specs.Adapting.{no_profile, outcome_of}
 use Rattle.stm_trace.specs.declared.said.Phase.{Phase}
 use Rattle.stm_trace.specs.declared.said.Phase.TheVariants.{Between, Inside, Closing, Quiet}
 use Rattle.stm_trace.specs.declared.said.Said.{Said}
 use Rattle.stm_trace.specs.declared.said.Said.TheVariants.{TryBegin, Reply, Stopped, TryCancel, TryIrrevocable, TryCommit, Installed, Reserved, Idle}
 use Rattle.stm_trace.specs.FairLaws.{IsPlaceOf}
-use Rattle.stm_trace.specs.Places.{Place, script_at, rest_of, ended, after, failed_next, granted_at, is_forced, must_next, most_failed, sure, writes}
+use Rattle.stm_trace.specs.Places.{Place, script_at, rest_of, ended, after, failed_next, granted_at, is_forced, must_next, most_failed, irrevocable, writes}
 use Rattle.stm_trace.specs.Places as places
-use Rattle.stm_trace.specs.Turns.{BeforeTx, Comes, Lengthens, MaySay, MayWind, MustSwitchTo, Next, SwitchesTo, is_call}
+use Rattle.stm_trace.specs.Turns.{BeforeTx, Comes, HasSizes, IsFair, Lengthens, MaySay, MayWind, MustSwitchTo, Next, SwitchesTo, is_call}
 use Rattle.stm_worker.specs.declared.worker.Worker.{Worker}
 use Rattle.stm_worker.specs.Goings.{Going, no_log, no_replies}
 use Rattle.stm_worker.specs.Tellings.{Tells, IsOutside, StoppedBy}
-use Rattle.stm_worker.specs.Installs.{InstallsBy}
-use Rattle.stm_worker.specs.InstallLaws.{by-same, by-trans}
-use Rattle.stm_worker.specs.Workers.{place_of, switches_with, IsAskedBy, IsAt, IsCounted, IsSame, IsUnderWay, ToSwitch, WhenInside, ItemsFit, switches_of, DidFirst, DidSwitches, Works, WorksSince, Stands, cleared, spares, WroteRow, EndsWith, adapted, Sound, Starved, Turned, Refused, stopped_by}
+use Rattle.stm_worker.specs.Courses.{MayTurn, installed}
+use Rattle.stm_worker.specs.InstallLaws.{say-turn}
+use Rattle.stm_worker.specs.Workers.{place_of, IsAt, IsCounted, IsKept, IsSame, IsUnderWay, ToSwitch, WhenInside, ItemsFit, DidFirst, Works, WorksSince, Stands, cleared, spares, WroteRow, EndsWith, adapted, Sound, Starved, Turned, Refused, stopped_by}
 use Rattle.stm_worker.proofs.Calls.{grew, nothing, commits, quits}
 use Rattle.stm_worker.proofs.GoingLaws.{wrote-one, going-begun, going-step, going-refused, going-asked, going-later, gave-all, gave-cut, cut-unasked}
 use Rattle.stm_worker.proofs.RoomLaws.{room-of}
 use Rattle.stm_worker.proofs.RowLaws.{row-wrote, row-read, row-cancelled, row_of}
-use Rattle.stm_worker.proofs.StandLaws.{asked-is, asked-none, besides, callers-same, cleared-more, cleared-told, did-first, did-left, did-same, did-switch, drop-head, drop-more, few-emits, head-fits, next-is, rest-between, rest-closed, rest-fits, rest-quiet, rest-runs, rest-stands, Rest, reserve-left, room-next, room-told, since-begin, since-later, stands-rest, switch-left, at-closed, tx-left, tx-scripts, when-rest, works-later, works-over}
+use Rattle.stm_worker.proofs.StandLaws.{callers-same, cleared-more, cleared-told, did-first, drop-head, drop-more, few-emits, head-fits, next-is, rest-between, rest-closed, rest-fits, rest-quiet, rest-runs, rest-stands, Rest, reserve-left, room-next, room-told, since-begin, since-later, stands-rest, switch-left, at-closed, tx-scripts, when-rest, works-later, works-over}
 use Rattle.stm_worker.proofs.TellLaws.{Asks, stops-quits, tells-fair, tells-found, tells-installs, tells-owed}
 
 began-at : (at : Place) (ops : List Op) (o : Output) (alg : Alg) → ops ≡ script_at at.left → o.replies ≡ [] → o.emits ≡ []
@@ -104,8 +106,11 @@ still-few : (failed : ℕ) (must : Bool) → IsCounted failed must → IsCounted
 still-few failed true few e = absurd cc
 still-few failed false few e = let lt = few refl in grind (arith, nat_tests)
 
+self-kept : {K : Type 0} (w : Worker K) → IsKept w w
+self-kept w = record { same = record { table = refl; who = refl }; all = refl; regions = refl; policy = refl }
+
 pub self-same : {K : Type 0} (w : Worker K) → IsSame w w
-self-same w = record { same = record { table = refl; who = refl }; all = refl; regions = refl; policy = refl; switched = by-same w.policy (switches_with w) (switches_with w) refl }
+self-same w = record { kept = self-kept w; course = []; went = λ h sizes. refl; installs = sym (append-nil (known w.desc).installs) }
 
 -- the row is written, and then the policy asked
 pub ends-with : {K : Type 0} (kind : Kind) (time : ℕ) (v m w : Worker K) (outcome : Outcome) → outcome ≡ outcome_of kind → WroteRow kind time v m → w ≡ adapted outcome m → EndsWith kind time v w
@@ -116,10 +121,6 @@ ends-with kind time v m w outcome is h e = subst (EndsWith kind time v) (sym e) 
   regions = h.regions;
   roomy = record { spare = h.roomy.spare; rows = h.roomy.rows };
 })
-
--- nothing is installed, and the items are those that they were
-kept-switches : {K : Type 0} (u : Worker K) (d : Handle K) → (known d).installs ≡ (known u.desc).installs → InstallsBy u.policy (switches_with u) ((known d).installs ++ switches_of u.items_left.now)
-kept-switches u d e = by-same u.policy (switches_with u) ((known d).installs ++ switches_of u.items_left.now) (ap (λ l. l ++ switches_of u.items_left.now) e)
 
 asks-out : {K : Type 0} (good : List ℕ → Type 0) (stm : Stm K) (u : Worker K) → Sound good stm u → Rest u.phase → (known u.desc).running ≡ false
 asks-out good stm u s r = rest-runs good stm.config (caller_of u.desc.who.role) u.phase (known u.desc) r s.at
@@ -147,11 +148,11 @@ module _ {K : Type 0} (good : List ℕ → Type 0) (stm : Stm K) (u : Worker K) 
   quiet-now e = (subst (λ p. IsAt good stm.config (caller_of u.desc.who.role) p (known u.desc)) e s.at).1
 
   -- the place tells whether the attempt can be cancelled
-  pub sure-place : u.phase ≡ Inside → sure (place_of u) ≡ is_irrevocable (known u.desc)
-  sure-place e = (attempt-now e).going.sure
+  pub irrevocable-place : u.phase ≡ Inside → irrevocable (place_of u) ≡ is_irrevocable (known u.desc)
+  irrevocable-place e = (attempt-now e).going.irrevocable
 
   place-is : u.phase ≡ Inside → IsPlaceOf (known u.desc) (place_of u)
-  place-is e = let g = (attempt-now e).going in record { alg = sym g.named; wrote = g.writer; sure = g.sure }
+  place-is e = let g = (attempt-now e).going in record { alg = sym g.named; wrote = g.writer; irrevocable = g.irrevocable }
 
   -- an attempt that isn't forced is not in the middle of its commit while operations are left
   pub runs-free : u.phase ≡ Inside → (op : Op) → Next op u.operations_left.now → IsRunning (known u.desc)
@@ -175,23 +176,31 @@ module _ {K : Type 0} (good : List ℕ → Type 0) (stm : Stm K) (u : Worker K) 
   inside-of-running Closing h e = absurd (let f : true ≡ false = sym e ∙ h.running in cc)
   inside-of-running Quiet h e = absurd (let f : true ≡ false = sym e ∙ h.0.running in cc)
 
-  module _ (may : Place → Said → Type 0) (said : Said) (w : Worker K) (config : IsConfig stm.config) where
+  module _ (may : Place → Said → Type 0) (said : Said) (w : Worker K) (config : IsConfig stm.config) (goes : may (place_of u) said → MayTurn (place_of u) said) where
+    fair-turn : Asks said (known u.desc) → Tells good stm.config (caller_of u.desc.who.role) said (known u.desc) (known w.desc) → (h : Header) → HasSizes stm.config h → IsFair h (place_of u) said
+    fair-turn asks told h sizes = tells-fair good stm.config (caller_of u.desc.who.role) h (place_of u) config sizes refl said (known u.desc) (known w.desc) asks (λ e. place-is (inside-of-running u.phase s.at e)) (refl, refl) told
+
     -- a turn by what its call told, and by what it left
-    pub turned-by : may (place_of u) said → Asks said (known u.desc) → Tells good stm.config (caller_of u.desc.who.role) said (known u.desc) (known w.desc) → place_of w ≡ after (place_of u) said → IsSame u w → Sound good stm w → Turned good stm may u said w
-    turned-by here asks told now same sound = record {
+    pub turned-by : may (place_of u) said → Asks said (known u.desc) → Tells good stm.config (caller_of u.desc.who.role) said (known u.desc) (known w.desc) → place_of w ≡ after (place_of u) said → IsKept u w → Sound good stm w → Turned good stm may u said w
+    turned-by here asks told now kept sound = let fair = fair-turn asks told in record {
       sound = sound;
       here = here;
       told = told;
       now = now;
-      same = same;
-      fair = λ h sizes. tells-fair good stm.config (caller_of u.desc.who.role) h (place_of u) config sizes refl said (known u.desc) (known w.desc) asks (λ e. place-is (inside-of-running u.phase s.at e)) (refl, refl) told;
+      same = record {
+        kept = kept;
+        course = said ∷ [];
+        went = λ h sizes. (goes here, fair h (subst (λ c. HasSizes c h) s.own.config sizes), sym now);
+        installs = tells-installs good stm.config (caller_of u.desc.who.role) said (known u.desc) (known w.desc) told ∙ ap (λ l. (known u.desc).installs ++ l) (sym (append-nil (installed said)));
+      };
+      fair = fair;
       pays = tells-owed good stm.config (caller_of u.desc.who.role) said (known u.desc) (known w.desc) asks told;
       found = tells-found good stm.config (caller_of u.desc.who.role) said (known u.desc) (known w.desc) told;
       installs = tells-installs good stm.config (caller_of u.desc.who.role) said (known u.desc) (known w.desc) told;
     }
 
   pub turned-idle : u.phase ≡ Between → u.items_left.now ≡ [] → u.chosen ≡ None → Turned good stm MaySay u Idle u
-  turned-idle between left none = turned-by MaySay Idle u stm.ranges (between, left, none) tt refl refl (self-same u) s
+  turned-idle between left none = turned-by MaySay Idle u stm.ranges (λ m. m) (between, left, none) tt refl refl (self-kept u) s
 
   module _ (d : Handle K) (same : IsSameCaller u.desc d) (grows : Grows (known u.desc) (known d)) where
     n_is : caller_of d.who.role ≡ caller_of u.desc.who.role
@@ -205,11 +214,11 @@ module _ {K : Type 0} (good : List ℕ → Type 0) (stm : Stm K) (u : Worker K) 
     place-now = λ i. record (place_of u) { caller = n_is i; reads_limit = grows.reads_limit i; writes_limit = grows.writes_limit i }
 
     -- whatever changed of the attempt, the rows are as they were
-    sound-noted : (q : Noted) (p : Phase) (alg : Alg) (r : Bor (List Op)) (o : Output) (wrote granted must b : Bool) (failed : ℕ) → IsAt good stm.config (caller_of u.desc.who.role) p (known d) → cleared o ≡ cleared u.out → (known d).installs ≡ (known u.desc).installs
+    sound-noted : (q : Noted) (p : Phase) (alg : Alg) (r : Bor (List Op)) (o : Output) (wrote granted must b : Bool) (failed : ℕ) → IsAt good stm.config (caller_of u.desc.who.role) p (known d) → cleared o ≡ cleared u.out
         → Stands good stm.config.words u.regions.now u.all.now (caller_of u.desc.who.role) (known d) u.rows.items p → IsCounted failed must → ToSwitch p u.chosen u.items_left.now
         → WhenInside p (IsUnderWay good stm.config.words (record u { desc = d; phase = p; alg = alg; operations_left = r; out = o; wrote = wrote; granted = granted; must = must; failed = failed; passed = b; profile = q }))
         → Sound good stm (record u { desc = d; phase = p; alg = alg; operations_left = r; out = o; wrote = wrote; granted = granted; must = must; failed = failed; passed = b; profile = q })
-    sound-noted q p alg r o wrote granted must b failed at room installs stands few turning under = record {
+    sound-noted q p alg r o wrote granted must b failed at room stands few turning under = record {
       own = own-same;
       at = subst (λ n. IsAt good stm.config n p (known d)) (sym n_is) at;
       stands = subst (λ n. Stands good stm.config.words u.regions.now u.all.now n (known d) u.rows.items p) (sym n_is) stands;
@@ -217,8 +226,6 @@ module _ {K : Type 0} (good : List ℕ → Type 0) (stm : Stm K) (u : Worker K) 
       todo = subst (λ n. scripts_of n u.items_left.now ≡ drop (length u.rows.items) (scripts_of n u.all.now)) (sym n_is) s.todo;
       within = subst (λ n. length u.rows.items ≤ length (scripts_of n u.all.now)) (sym n_is) s.within;
       counted = few;
-      switched = did-same u.policy u.all.now u.items_left.now (known u.desc) (known d) installs s.switched;
-      asked = s.asked;
       fits = subst (λ n. ItemsFit good stm.config.words u.regions.now n u.items_left.now) (sym n_is) s.fits;
       roomy = record {
         spare = ap (λ x. u.spare.items ++ x ∷ []) room ∙ s.roomy.spare;
@@ -230,26 +237,26 @@ module _ {K : Type 0} (good : List ℕ → Type 0) (stm : Stm K) (u : Worker K) 
     }
 
     -- and nothing is noted
-    sound-of : (p : Phase) (alg : Alg) (r : Bor (List Op)) (o : Output) (wrote granted must b : Bool) (failed : ℕ) → IsAt good stm.config (caller_of u.desc.who.role) p (known d) → cleared o ≡ cleared u.out → (known d).installs ≡ (known u.desc).installs
+    sound-of : (p : Phase) (alg : Alg) (r : Bor (List Op)) (o : Output) (wrote granted must b : Bool) (failed : ℕ) → IsAt good stm.config (caller_of u.desc.who.role) p (known d) → cleared o ≡ cleared u.out
         → Stands good stm.config.words u.regions.now u.all.now (caller_of u.desc.who.role) (known d) u.rows.items p → IsCounted failed must → ToSwitch p u.chosen u.items_left.now
         → WhenInside p (IsUnderWay good stm.config.words (record u { desc = d; phase = p; alg = alg; operations_left = r; out = o; wrote = wrote; granted = granted; must = must; failed = failed; passed = b }))
         → Sound good stm (record u { desc = d; phase = p; alg = alg; operations_left = r; out = o; wrote = wrote; granted = granted; must = must; failed = failed; passed = b })
-    sound-of p alg r o wrote granted must b failed at room installs stands few turning under = sound-noted u.profile p alg r o wrote granted must b failed at room installs stands few turning under
+    sound-of p alg r o wrote granted must b failed at room stands few turning under = sound-noted u.profile p alg r o wrote granted must b failed at room stands few turning under
 
     -- no attempt is open, before and after
-    pub rested : (p : Phase) → Rest u.phase → Rest p → (known d).made ≡ (known u.desc).made → (known d).installs ≡ (known u.desc).installs → IsAt good stm.config (caller_of u.desc.who.role) p (known d) → ToSwitch p u.chosen u.items_left.now
+    pub rested : (p : Phase) → Rest u.phase → Rest p → (known d).made ≡ (known u.desc).made → IsAt good stm.config (caller_of u.desc.who.role) p (known d) → ToSwitch p u.chosen u.items_left.now
         → Sound good stm (record u { desc = d; phase = p })
-    rested p r q made installs at turning =
-        sound-of p u.alg u.operations_left u.out u.wrote u.granted u.must u.passed u.failed at refl installs
+    rested p r q made at turning =
+        sound-of p u.alg u.operations_left u.out u.wrote u.granted u.must u.passed u.failed at refl
         (stands-rest good stm.config.words u.regions.now u.all.now (caller_of u.desc.who.role) (known d) u.rows.items p q
         (works-later good stm.config.words u.regions.now u.all.now (caller_of u.desc.who.role) (known u.desc) (known d) u.rows.items made (grew (known u.desc) (known d) grows) (resting-now r)))
         s.counted turning (when-rest p q _)
 
     -- the attempt is over, without a row
-    pub over : (q : Noted) (must b : Bool) (failed : ℕ) (o : Output) → u.phase ≡ Inside → IsIdle (known d) → (known d).made ≡ (known u.desc).made → (known d).installs ≡ (known u.desc).installs → o ≡ cleared u.out → IsCounted failed must
+    pub over : (q : Noted) (must b : Bool) (failed : ℕ) (o : Output) → u.phase ≡ Inside → IsIdle (known d) → (known d).made ≡ (known u.desc).made → o ≡ cleared u.out → IsCounted failed must
         → Sound good stm (record u { desc = d; phase = Between; out = o; must = must; failed = failed; passed = b; profile = q })
-    over q must b failed o inside idle made installs clear few =
-        sound-noted q Between u.alg u.operations_left o u.wrote u.granted must b failed idle (ap cleared clear) installs
+    over q must b failed o inside idle made clear few =
+        sound-noted q Between u.alg u.operations_left o u.wrote u.granted must b failed idle (ap cleared clear)
         (works-over good stm.config.words u.regions.now u.all.now (caller_of u.desc.who.role) (known u.desc) (known d) u.rows.items made (grew (known u.desc) (known d) grows) (inside-now inside))
         few tt tt
 
@@ -262,7 +269,7 @@ module _ {K : Type 0} (good : List ℕ → Type 0) (stm : Stm K) (u : Worker K) 
         let emits : o.emits ≡ [] = ap (λ (x : Output). x.emits) clear in
         let most : length (script_at u.items_left.now) ≤ o.room = (let e = room-of u.items_left.now u.spare.items u.out here s.roomy.spare in omega (arith, e, room)) in
         let going = going-begun good stm.config.words u.regions.now (script_at u.items_left.now) (known d) alg o f.0 f.1 most replies emits h.log h.opaque.explained h.named h.granted in
-        sound-of Inside alg r o false false u.must false u.failed h.running (ap cleared clear) h.installs
+        sound-of Inside alg r o false false u.must false u.failed h.running (ap cleared clear)
         (since-begin good stm.config.words u.regions.now u.all.now (caller_of u.desc.who.role) (known u.desc) (known d) u.rows.items h.made (grew (known u.desc) (known d) grows) h.fresh (resting-now (rest-between u.phase between)))
         s.counted tt (record {
           going = subst (λ ops. Going good stm.config.words u.regions.now (script_at u.items_left.now) ops (known d) alg false o false) (sym is) going;
@@ -276,11 +283,11 @@ module _ {K : Type 0} (good : List ℕ → Type 0) (stm : Stm K) (u : Worker K) 
     began-now alg r o is clear = began-at (place_of (record u { desc = d })) r.now o alg is (ap (λ (x : Output). x.replies) clear) (ap (λ (x : Output). x.emits) clear) ∙ ap (λ (p : Place). after p (TryBegin (Begun alg))) place-now
 
     -- the attempt goes on, from where the script was
-    stays-in : (alg : Alg) (r : Bor (List Op)) (o : Output) (wrote granted must b : Bool) (failed : ℕ) → u.phase ≡ Inside → (known d).running ≡ true → (known d).made ≡ (known u.desc).made → (known u.desc).start ≤ (known d).start → (known d).installs ≡ (known u.desc).installs → cleared o ≡ cleared u.out
+    stays-in : (alg : Alg) (r : Bor (List Op)) (o : Output) (wrote granted must b : Bool) (failed : ℕ) → u.phase ≡ Inside → (known d).running ≡ true → (known d).made ≡ (known u.desc).made → (known u.desc).start ≤ (known d).start → cleared o ≡ cleared u.out
         → IsCounted failed must → IsUnderWay good stm.config.words (record u { desc = d; phase = u.phase; alg = alg; operations_left = r; out = o; wrote = wrote; granted = granted; must = must; failed = failed; passed = b })
         → Sound good stm (record u { desc = d; phase = u.phase; alg = alg; operations_left = r; out = o; wrote = wrote; granted = granted; must = must; failed = failed; passed = b })
-    stays-in alg r o wrote granted must b failed inside runs made start installs room few under =
-        sound-of u.phase alg r o wrote granted must b failed (subst (λ p. IsAt good stm.config (caller_of u.desc.who.role) p (known d)) (sym inside) runs) room installs
+    stays-in alg r o wrote granted must b failed inside runs made start room few under =
+        sound-of u.phase alg r o wrote granted must b failed (subst (λ p. IsAt good stm.config (caller_of u.desc.who.role) p (known d)) (sym inside) runs) room
         (subst (Stands good stm.config.words u.regions.now u.all.now (caller_of u.desc.who.role) (known d) u.rows.items) (sym inside)
         (since-later good stm.config.words u.regions.now u.all.now (caller_of u.desc.who.role) (known u.desc) (known d) u.rows.items made (grew (known u.desc) (known d) grows) start (inside-now inside)))
         few s.turning (subst (λ p. WhenInside p (IsUnderWay good stm.config.words (record u { desc = d; phase = u.phase; alg = alg; operations_left = r; out = o; wrote = wrote; granted = granted; must = must; failed = failed; passed = b }))) (sym inside) under)
@@ -297,29 +304,29 @@ module _ {K : Type 0} (good : List ℕ → Type 0) (stm : Stm K) (u : Worker K) 
         let g = subst (λ x. Going good stm.config.words u.regions.now (script_at u.items_left.now) x (known u.desc) u.alg u.granted u.out u.wrote) ops at.going in
         let still = carries.going runs.0 in
         let written : knows.wrote (known d) ≡ u.wrote || writes op reply = sym (going-writes ops gave told g (more g.explained)) in
-        let certain : is_sure u.alg u.granted (u.wrote || writes op reply) ≡ is_irrevocable (known d) = sure-after carries still (g.named) (g.writer) written g.sure in
+        let certain : irrevocable_under u.alg u.granted (u.wrote || writes op reply) ≡ is_irrevocable (known d) = irrevocable-after carries still (g.named) (g.writer) written g.irrevocable in
         let step = going-step good stm.config.words u.regions.now (script_at u.items_left.now) op (rest_of u.operations_left.now) (known u.desc) (known d) u.alg u.granted u.granted u.out o u.wrote reply plain (λ off. unasked) told g gave (more g.explained)
-        carries.alg certain (λ i. (carries.sure (runs-now inside) i).1) (room-next u.out o reply (length (rest_of u.operations_left.now)) (emits_of op reply) told (few-emits op reply) g.room) in
+        carries.alg certain (λ i. (carries.irrevocable (runs-now inside) i).1) (room-next u.out o reply (length (rest_of u.operations_left.now)) (emits_of op reply) told (few-emits op reply) g.room) in
         let going = subst (λ x. Going good stm.config.words u.regions.now (script_at u.items_left.now) x (known d) u.alg u.granted o wrote) (sym is)
         (subst (λ b. Going good stm.config.words u.regions.now (script_at u.items_left.now) (rest_of u.operations_left.now) (known d) u.alg u.granted o b) (sym was) step) in
-        stays-in u.alg r o wrote u.granted u.must u.passed u.failed inside runs.0 carries.made still.start carries.installs (cleared-more u.out o (u.out.replies ++ reply ∷ []) (u.out.emits ++ emits_of op reply) told) s.counted (record {
+        stays-in u.alg r o wrote u.granted u.must u.passed u.failed inside runs.0 carries.made still.start (cleared-more u.out o (u.out.replies ++ reply ∷ []) (u.out.emits ++ emits_of op reply) told) s.counted (record {
           going = going;
           here = at.here;
           unfenced = still.fence ∙ at.unfenced;
           committing = λ e. absurd (let f : true ≡ false = sym e ∙ runs.1 in cc);
-          waits = λ e off. absurd (let now = and-left u.must (sure (place_of u)) comes.1 e in let later = ap (is_sure u.alg u.granted) was ∙ sure-wrote u.alg u.granted u.wrote (writes op reply) now in let f : true ≡ false = sym later ∙ off in cc);
+          waits = λ e off. absurd (let now = and-left u.must (irrevocable (place_of u)) comes.1 e in let later = ap (irrevocable_under u.alg u.granted) was ∙ irrevocable-wrote u.alg u.granted u.wrote (writes op reply) now in let f : true ≡ false = sym later ∙ off in cc);
         })
       where
         going-writes : u.operations_left.now ≡ op ∷ rest_of u.operations_left.now → GaveOver good stm.config.words (ran_one u.regions.now op) (known u.desc).log u.out (known d).log o → o ≡ record u.out { replies = u.out.replies ++ reply ∷ []; emits = u.out.emits ++ emits_of op reply }
             → Going good stm.config.words u.regions.now (script_at u.items_left.now) (op ∷ rest_of u.operations_left.now) (known u.desc) u.alg u.granted u.out u.wrote → IsExplained good stm.config.words (known d).log → u.wrote || writes op reply ≡ knows.wrote (known d)
         going-writes ops gave told g ex = wrote-one good stm.config.words u.regions.now op (known u.desc) (known d) u.out o u.wrote reply told g.writer gave ex
 
-        sure-after : Carries (known u.desc) (known d) → IsStillIn (known u.desc) (known d) → (known u.desc).alg ≡ u.alg → u.wrote ≡ knows.wrote (known u.desc) → knows.wrote (known d) ≡ u.wrote || writes op reply
-            → is_sure u.alg u.granted u.wrote ≡ is_irrevocable (known u.desc) → is_sure u.alg u.granted (u.wrote || writes op reply) ≡ is_irrevocable (known d)
-        sure-after c still named was now sure = by u.alg u.granted (known u.desc).granted u.wrote (writes op reply) (subst (λ a. is_sure u.alg u.granted u.wrote ≡ is_sure a (known u.desc).granted (knows.wrote (known u.desc))) named sure ∙ ap (is_sure u.alg (known u.desc).granted) (sym was))
-            ∙ ((λ i. is_sure (sym (c.alg ∙ named) i) (sym still.granted i) (sym now i)))
+        irrevocable-after : Carries (known u.desc) (known d) → IsStillIn (known u.desc) (known d) → (known u.desc).alg ≡ u.alg → u.wrote ≡ knows.wrote (known u.desc) → knows.wrote (known d) ≡ u.wrote || writes op reply
+            → irrevocable_under u.alg u.granted u.wrote ≡ is_irrevocable (known u.desc) → irrevocable_under u.alg u.granted (u.wrote || writes op reply) ≡ is_irrevocable (known d)
+        irrevocable-after c still named was now irrevocable = by u.alg u.granted (known u.desc).granted u.wrote (writes op reply) (subst (λ a. irrevocable_under u.alg u.granted u.wrote ≡ irrevocable_under a (known u.desc).granted (knows.wrote (known u.desc))) named irrevocable ∙ ap (irrevocable_under u.alg (known u.desc).granted) (sym was))
+            ∙ ((λ i. irrevocable_under (sym (c.alg ∙ named) i) (sym still.granted i) (sym now i)))
           where
-            by : (a : Alg) (x y w m : Bool) → is_sure a x w ≡ is_sure a y w → is_sure a x (w || m) ≡ is_sure a y (w || m)
+            by : (a : Alg) (x y w m : Bool) → irrevocable_under a x w ≡ irrevocable_under a y w → irrevocable_under a x (w || m) ≡ irrevocable_under a y (w || m)
             by Alg.Cgl x y w m h = refl
             by Alg.Tml true true w m h = refl
             by Alg.Tml false false w m h = refl
@@ -348,7 +355,7 @@ module _ {K : Type 0} (good : List ℕ → Type 0) (stm : Stm K) (u : Worker K) 
         let g = subst (λ x. Going good stm.config.words u.regions.now (script_at u.items_left.now) x (known u.desc) u.alg u.granted u.out u.wrote) (next-is Cancel u.operations_left.now comes.2) at.going in
         let step = going-refused good stm.config.words u.regions.now (script_at u.items_left.now) (rest_of u.operations_left.now) (known u.desc) u.alg u.granted u.out o u.wrote g certain told (room-told u.out o 0 (length (rest_of u.operations_left.now)) told g.room) in
         let going = subst (λ v. Going good stm.config.words u.regions.now (script_at u.items_left.now) r.now v u.alg u.granted o u.wrote) (sym knows) (subst (λ x. Going good stm.config.words u.regions.now (script_at u.items_left.now) x (known u.desc) u.alg u.granted o u.wrote) (sym is) step) in
-        sound-of u.phase u.alg r o u.wrote u.granted u.must u.passed u.failed (subst (IsAt good stm.config (caller_of u.desc.who.role) u.phase) (sym knows) s.at) (cleared-told u.out o (u.out.replies ++ 0 ∷ []) told) (ap (λ (v : Known). v.installs) knows)
+        sound-of u.phase u.alg r o u.wrote u.granted u.must u.passed u.failed (subst (IsAt good stm.config (caller_of u.desc.who.role) u.phase) (sym knows) s.at) (cleared-told u.out o (u.out.replies ++ 0 ∷ []) told)
         (same-known knows) s.counted s.turning (subst (λ p. WhenInside p (IsUnderWay good stm.config.words (record u { desc = d; operations_left = r; out = o }))) (sym inside) (record {
           going = going;
           here = at.here;
@@ -363,7 +370,7 @@ module _ {K : Type 0} (good : List ℕ → Type 0) (stm : Stm K) (u : Worker K) 
     -- a cancel was refused outside the script
     pub refused-drop : u.phase ≡ Inside → known d ≡ known u.desc → is_irrevocable (known u.desc) ≡ true → Refused good stm u (record u { desc = d })
     refused-drop inside knows certain = record {
-      sound = sound-of u.phase u.alg u.operations_left u.out u.wrote u.granted u.must u.passed u.failed (subst (IsAt good stm.config (caller_of u.desc.who.role) u.phase) (sym knows) s.at) refl (ap (λ (v : Known). v.installs) knows)
+      sound = sound-of u.phase u.alg u.operations_left u.out u.wrote u.granted u.must u.passed u.failed (subst (IsAt good stm.config (caller_of u.desc.who.role) u.phase) (sym knows) s.at) refl
           (same-known knows) s.counted s.turning (subst (λ p. WhenInside p (IsUnderWay good stm.config.words (record u { desc = d }))) (sym inside) (let at = attempt-now inside in record {
             going = subst (λ v. Going good stm.config.words u.regions.now (script_at u.items_left.now) u.operations_left.now v u.alg u.granted u.out u.wrote) (sym knows) at.going;
             here = at.here;
@@ -371,34 +378,39 @@ module _ {K : Type 0} (good : List ℕ → Type 0) (stm : Stm K) (u : Worker K) 
             committing = λ e. at.committing (sym (ap (λ (v : Known). v.committing) knows) ∙ e);
             waits = at.waits;
           }));
-      is_sure = sure-place inside ∙ certain;
+      irrevocable_now = irrevocable-place inside ∙ certain;
       now = place-now;
       knows = knows;
-      same = record { same = same; all = refl; regions = refl; policy = refl; switched = kept-switches u d (ap (λ (v : Known). v.installs) knows) };
+      same = record {
+        kept = record { same = same; all = refl; regions = refl; policy = refl };
+        course = [];
+        went = λ h sizes. sym place-now;
+        installs = ap (λ (v : Known). v.installs) knows ∙ sym (append-nil (known u.desc).installs);
+      };
     }
 
     -- granted because it must be: the script is where it was
-    pub granted-forced : u.phase ≡ Inside → answers.BecomesSure good stm.config (caller_of u.desc.who.role) (known u.desc) (known d) → Sound good stm (record u { desc = d; granted = true })
+    pub granted-forced : u.phase ≡ Inside → answers.BecomesIrrevocable good stm.config (caller_of u.desc.who.role) (known u.desc) (known d) → Sound good stm (record u { desc = d; granted = true })
     granted-forced inside h =
         let at = attempt-now inside in
-        let certain = granted-sure u.alg u.wrote in
-        stays-in u.alg u.operations_left u.out u.wrote true u.must u.passed u.failed inside h.continues.running h.continues.made h.continues.later h.continues.installs refl s.counted (record {
-          going = going-later good stm.config.words u.regions.now (script_at u.items_left.now) u.operations_left.now (known u.desc) (known d) u.alg u.granted true u.out u.wrote at.going h.log h.continues.alg h.opaque.explained (certain ∙ sym h.sure) (λ off. absurd (let f : true ≡ false = sym h.sure ∙ off in cc));
+        let certain = granted-irrevocable u.alg u.wrote in
+        stays-in u.alg u.operations_left u.out u.wrote true u.must u.passed u.failed inside h.continues.running h.continues.made h.continues.later refl s.counted (record {
+          going = going-later good stm.config.words u.regions.now (script_at u.items_left.now) u.operations_left.now (known u.desc) (known d) u.alg u.granted true u.out u.wrote at.going h.log h.continues.alg h.opaque.explained (certain ∙ sym h.irrevocable) (λ off. absurd (let f : true ≡ false = sym h.irrevocable ∙ off in cc));
           here = at.here;
           unfenced = h.continues.fence ∙ at.unfenced;
           committing = λ e. absurd (let f : true ≡ false = sym e ∙ h.uncommitted in cc);
           waits = λ e off. absurd (let f : true ≡ false = sym certain ∙ off in cc);
         })
 
-    pub granted-asked : (r : Bor (List Op)) (o : Output) → Comes Irrev (place_of u) → r.now ≡ rest_of u.operations_left.now → o ≡ record u.out { replies = u.out.replies ++ 1 ∷ [] } → answers.BecomesSure good stm.config (caller_of u.desc.who.role) (known u.desc) (known d)
+    pub granted-asked : (r : Bor (List Op)) (o : Output) → Comes Irrev (place_of u) → r.now ≡ rest_of u.operations_left.now → o ≡ record u.out { replies = u.out.replies ++ 1 ∷ [] } → answers.BecomesIrrevocable good stm.config (caller_of u.desc.who.role) (known u.desc) (known d)
         → Sound good stm (record u { desc = d; operations_left = r; out = o; granted = true })
     granted-asked r o comes is told h =
         let inside = comes.0 in
         let at = attempt-now inside in
-        let certain = granted-sure u.alg u.wrote in
+        let certain = granted-irrevocable u.alg u.wrote in
         let g = subst (λ x. Going good stm.config.words u.regions.now (script_at u.items_left.now) x (known u.desc) u.alg u.granted u.out u.wrote) (next-is Irrev u.operations_left.now comes.2) at.going in
-        let step = going-asked good stm.config.words u.regions.now (script_at u.items_left.now) (rest_of u.operations_left.now) (known u.desc) (known d) u.alg u.granted true u.out o u.wrote g h.log h.continues.alg h.opaque.explained certain h.sure told (room-told u.out o 1 (length (rest_of u.operations_left.now)) told g.room) in
-        stays-in u.alg r o u.wrote true u.must u.passed u.failed inside h.continues.running h.continues.made h.continues.later h.continues.installs (cleared-told u.out o (u.out.replies ++ 1 ∷ []) told) s.counted (record {
+        let step = going-asked good stm.config.words u.regions.now (script_at u.items_left.now) (rest_of u.operations_left.now) (known u.desc) (known d) u.alg u.granted true u.out o u.wrote g h.log h.continues.alg h.opaque.explained certain h.irrevocable told (room-told u.out o 1 (length (rest_of u.operations_left.now)) told g.room) in
+        stays-in u.alg r o u.wrote true u.must u.passed u.failed inside h.continues.running h.continues.made h.continues.later (cleared-told u.out o (u.out.replies ++ 1 ∷ []) told) s.counted (record {
           going = subst (λ x. Going good stm.config.words u.regions.now (script_at u.items_left.now) x (known d) u.alg true o u.wrote) (sym is) step;
           here = at.here;
           unfenced = h.continues.fence ∙ at.unfenced;
@@ -417,9 +429,9 @@ module _ {K : Type 0} (good : List ℕ → Type 0) (stm : Stm K) (u : Worker K) 
         → ((known d).committing ≡ true → (u.operations_left.now ≡ []) × (is_forced (place_of u) ≡ false)) → Sound good stm (record u { desc = d; passed = b })
     waits-on b inside h log grant opaque committing =
         let at = attempt-now inside in
-        let same_sure : is_irrevocable (known d) ≡ is_irrevocable (known u.desc) = λ i. is_sure (h.alg i) (grant i) (knows.wrote (record (known u.desc) { log = log i })) in
-        stays-in u.alg u.operations_left u.out u.wrote u.granted u.must b u.failed inside h.running h.made h.later h.installs refl s.counted (record {
-          going = going-later good stm.config.words u.regions.now (script_at u.items_left.now) u.operations_left.now (known u.desc) (known d) u.alg u.granted u.granted u.out u.wrote at.going log h.alg opaque.explained (at.going.sure ∙ sym same_sure) (λ off. sym same_sure ∙ off);
+        let same_irrevocable : is_irrevocable (known d) ≡ is_irrevocable (known u.desc) = λ i. irrevocable_under (h.alg i) (grant i) (knows.wrote (record (known u.desc) { log = log i })) in
+        stays-in u.alg u.operations_left u.out u.wrote u.granted u.must b u.failed inside h.running h.made h.later refl s.counted (record {
+          going = going-later good stm.config.words u.regions.now (script_at u.items_left.now) u.operations_left.now (known u.desc) (known d) u.alg u.granted u.granted u.out u.wrote at.going log h.alg opaque.explained (at.going.irrevocable ∙ sym same_irrevocable) (λ off. sym same_irrevocable ∙ off);
           here = at.here;
           unfenced = h.fence ∙ at.unfenced;
           committing = committing;
@@ -435,8 +447,8 @@ module _ {K : Type 0} (good : List ℕ → Type 0) (stm : Stm K) (u : Worker K) 
     pub same-place : (b : Bool) → place_of (record u { desc = d; passed = b }) ≡ place_of u
     same-place b = place-now
 
-    pub still-same : (b : Bool) → (known d).installs ≡ (known u.desc).installs → IsSame u (record u { desc = d; passed = b })
-    still-same b installs = record { same = same; all = refl; regions = refl; policy = refl; switched = kept-switches u d installs }
+    pub still-same : (b : Bool) → IsKept u (record u { desc = d; passed = b })
+    still-same b = record { same = same; all = refl; regions = refl; policy = refl }
 
     pub over-now : (said : Said) (q : Noted) (must b : Bool) (failed : ℕ) (o : Output) → o ≡ cleared u.out → record (place_of u) { phase = Between; replies = []; emits = []; failed = failed; must = must; profile = q } ≡ after (place_of u) said
         → place_of (record u { desc = d; phase = Between; out = o; must = must; failed = failed; passed = b; profile = q }) ≡ after (place_of u) said
@@ -449,10 +461,10 @@ module _ {K : Type 0} (good : List ℕ → Type 0) (stm : Stm K) (u : Worker K) 
     script-here b = (drop-head (length u.rows.items) [] (script_at u.items_left.now) (scripts_of (caller_of u.desc.who.role) u.all.now) (scripts_of (caller_of u.desc.who.role) (rest_of u.items_left.now)) (sym (tx-scripts good stm.config.words u.regions.now (caller_of u.desc.who.role) u.items_left.now b s.fits) ∙ s.todo)).0
 
     -- the row is written, whose replies are those in o
-    row-ended : (kind : Kind) (time : ℕ) (o : Output) (b : Bool) (w : Worker K) → u.phase ≡ Inside → IsIdle (known d) → (known d).installs ≡ (known u.desc).installs
+    row-ended : (kind : Kind) (time : ℕ) (o : Output) (b : Bool) (w : Worker K) → u.phase ≡ Inside → IsIdle (known d)
         → Works good stm.config.words u.regions.now u.all.now (caller_of u.desc.who.role) (known d) (u.rows.items ++ row_of kind time (caller_of u.desc.who.role) (length u.rows.items) o ∷ []) → EndsWith kind time (record u { desc = d; out = o; passed = b }) w
-        → Sound good stm w × IsSame u w × (place_of w ≡ ended kind time (record (place_of u) { replies = o.replies; emits = o.emits }))
-    row-ended kind time o b w inside idle installs works ends =
+        → Sound good stm w × IsKept u w × (place_of w ≡ ended kind time (record (place_of u) { replies = o.replies; emits = o.emits }))
+    row-ended kind time o b w inside idle works ends =
         let n = caller_of u.desc.who.role in
         let first = (attempt-now inside).here in
         let row = row_of kind time n (length u.rows.items) o in
@@ -463,7 +475,6 @@ module _ {K : Type 0} (good : List ℕ → Type 0) (stm : Stm K) (u : Worker K) 
         let phase : w.phase ≡ Between = ap (λ (p : Place). p.phase) at in
         let failed : w.failed ≡ 0 = ap (λ (p : Place). p.failed) at in
         let policy : w.policy ≡ u.policy = ap (λ (p : Place). p.policy) at in
-        let chosen : w.chosen ≡ asked_by u.policy (with_outcome u.profile (outcome_of kind)) u.alg = ap (λ (p : Place). p.chosen) at in
         let long : length w.rows.items ≡ length u.rows.items + 1 = ap length rows ∙ length-append u.rows.items (row ∷ []) in
         let todo = sym (tx-scripts good stm.config.words u.regions.now n u.items_left.now first s.fits) ∙ s.todo in
         let next = (drop-head (length u.rows.items) [] (script_at u.items_left.now) (scripts_of n u.all.now) (scripts_of n (rest_of u.items_left.now)) todo).1 in
@@ -485,10 +496,6 @@ module _ {K : Type 0} (good : List ℕ → Type 0) (stm : Stm K) (u : Worker K) 
                 (ap (scripts_of n) left ∙ (next ∙ (ap (λ k. drop k (scripts_of n u.all.now)) one ∙ ap (λ x. drop (length w.rows.items) (scripts_of n x)) (sym ends.all))));
             within = subst (λ k. length w.rows.items ≤ length (scripts_of k w.all.now)) (sym caller) (subst (λ x. length w.rows.items ≤ length (scripts_of n x)) (sym ends.all) (omega arith));
             counted = λ e. subst (λ k. k < most_failed) (sym failed) (omega arith);
-            switched = subst (λ x. DidSwitches x w.all.now w.items_left.now (known w.desc)) (sym policy)
-                (subst (λ x. DidSwitches u.policy x w.items_left.now (known w.desc)) (sym ends.all) (subst (λ x. DidSwitches u.policy u.all.now x (known w.desc)) (sym left)
-                (subst (λ (h : Handle K). DidSwitches u.policy u.all.now (rest_of u.items_left.now) (known h)) (sym ends.desc) (did-left u.policy u.all.now u.items_left.now (rest_of u.items_left.now) (known u.desc) (known d) installs (tx-left u.items_left.now first).0 s.switched))));
-            asked = subst (λ x. IsAskedBy x w.chosen) (sym policy) (subst (IsAskedBy u.policy) (sym chosen) (asked-is u.policy (with_outcome u.profile (outcome_of kind)) u.alg));
             fits = subst (λ k. ItemsFit good stm.config.words w.regions.now k w.items_left.now) (sym caller)
                 (subst (λ l. ItemsFit good stm.config.words w.regions.now n l) (sym left)
                 (subst (λ x. ItemsFit good stm.config.words x n (rest_of u.items_left.now)) (sym ends.regions) (rest-fits good stm.config.words u.regions.now n u.items_left.now s.fits)));
@@ -502,9 +509,6 @@ module _ {K : Type 0} (good : List ℕ → Type 0) (stm : Stm K) (u : Worker K) 
             all = ends.all;
             regions = ends.regions;
             policy = policy;
-            switched = by-same u.policy (switches_with u) (switches_with w)
-                (ap (λ x. x ++ switches_of w.items_left.now) (ap (λ (h : Handle K). (known h).installs) ends.desc ∙ installs)
-                ∙ (ap (λ x. (known u.desc).installs ++ switches_of x) left ∙ ap (λ x. (known u.desc).installs ++ x) (sym (tx-left u.items_left.now first).0)));
           },
           at,
         )
@@ -513,27 +517,27 @@ module _ {K : Type 0} (good : List ℕ → Type 0) (stm : Stm K) (u : Worker K) 
     script-over inside none = gave-all good stm.config.words u.regions.now (script_at u.items_left.now) u.operations_left.now (known u.desc) u.alg u.granted u.out u.wrote (attempt-now inside).going none
 
     pub committed : (t : ℕ) (b : Bool) (w : Worker K) → u.phase ≡ Inside → u.operations_left.now ≡ [] → answers.CommitsAt good stm.config (caller_of u.desc.who.role) t (known u.desc) (known d) → EndsWith W t (record u { desc = d; passed = b }) w
-        → Sound good stm w × IsSame u w × (place_of w ≡ after (place_of u) (TryCommit (Committed t)))
+        → Sound good stm w × IsKept u w × (place_of w ≡ after (place_of u) (TryCommit (Committed t)))
     committed t b w inside none h ends =
-        row-ended W t u.out b w inside h.ends.idle h.ends.installs
+        row-ended W t u.out b w inside h.ends.idle
         (row-wrote good u.regions.now u.all.now stm.config (caller_of u.desc.who.role) (known u.desc) (known d) u.rows.items (script_at u.items_left.now) u.out (script-here (attempt-now inside).here) (inside-now inside) t (script-over inside none)
         (commits good stm.config (caller_of u.desc.who.role) t (known u.desc) (known d) h))
         ends
 
     pub readonly : (t : ℕ) (b : Bool) (w : Worker K) → u.phase ≡ Inside → u.operations_left.now ≡ [] → answers.EndsAt good stm.config (caller_of u.desc.who.role) t (known u.desc) (known d) → knows.wrote (known u.desc) ≡ false → EndsWith R t (record u { desc = d; passed = b }) w
-        → Sound good stm w × IsSame u w × (place_of w ≡ after (place_of u) (TryCommit (ReadOnly t)))
+        → Sound good stm w × IsKept u w × (place_of w ≡ after (place_of u) (TryCommit (ReadOnly t)))
     readonly t b w inside none h unwritten ends =
-        row-ended R t u.out b w inside h.ends.idle h.ends.installs
+        row-ended R t u.out b w inside h.ends.idle
         (row-read good u.regions.now u.all.now stm.config (caller_of u.desc.who.role) (known u.desc) (known d) u.rows.items (script_at u.items_left.now) u.out (script-here (attempt-now inside).here) (inside-now inside) t (script-over inside none)
         (quits good stm.config (caller_of u.desc.who.role) t (known u.desc) (known d) h) (nothing (known u.desc) unwritten))
         ends
 
     pub cancelled : (t : ℕ) (o : Output) (w : Worker K) → Comes Cancel (place_of u) → answers.EndsAt good stm.config (caller_of u.desc.who.role) t (known u.desc) (known d) → is_irrevocable (known u.desc) ≡ false → o ≡ record u.out { replies = u.out.replies ++ 1 ∷ [] } → EndsWith C t (record u { desc = d; out = o }) w
-        → Sound good stm w × IsSame u w × (place_of w ≡ after (place_of u) (TryCancel (Cancelled t)))
+        → Sound good stm w × IsKept u w × (place_of w ≡ after (place_of u) (TryCancel (Cancelled t)))
     cancelled t o w comes h off told ends =
         let inside = comes.0 in
         let g = subst (λ x. Going good stm.config.words u.regions.now (script_at u.items_left.now) x (known u.desc) u.alg u.granted u.out u.wrote) (next-is Cancel u.operations_left.now comes.2) (attempt-now inside).going in
-        let e = row-ended C t o u.passed w inside h.ends.idle h.ends.installs
+        let e = row-ended C t o u.passed w inside h.ends.idle
         (row-cancelled good u.regions.now u.all.now stm.config (caller_of u.desc.who.role) (known u.desc) (known d) u.rows.items (script_at u.items_left.now) u.out (script-here (attempt-now inside).here) (inside-now inside) t o
         (gave-cut good stm.config.words u.regions.now (script_at u.items_left.now) (rest_of u.operations_left.now) (known u.desc) u.alg u.granted u.out u.wrote g off) (g.ends refl)
         (cut-unasked good stm.config.words u.regions.now (script_at u.items_left.now) (rest_of u.operations_left.now) (known u.desc) u.alg u.granted u.out u.wrote g off)
@@ -546,9 +550,9 @@ module _ {K : Type 0} (good : List ℕ → Type 0) (stm : Stm K) (u : Worker K) 
         (works-later good stm.config.words u.regions.now u.all.now (caller_of u.desc.who.role) (known u.desc) (known d) u.rows.items made (grew (known u.desc) (known d) grows) (resting-now r))
 
     -- the switch of the text is done
-    pub switched : (alg : Alg) (r : Bor (List Item)) → u.phase ≡ Quiet → u.chosen ≡ None → SwitchesTo alg u.items_left.now → r.now ≡ rest_of u.items_left.now → IsIdle (known d) → (known d).made ≡ (known u.desc).made → (known d).installs ≡ (known u.desc).installs ++ alg ∷ []
-        → Sound good stm (record u { desc = d; items_left = r; phase = Between }) × IsSame u (record u { desc = d; items_left = r; phase = Between }) × (place_of (record u { desc = d; items_left = r; phase = Between }) ≡ after (place_of u) (Installed alg))
-    switched alg r quiet none to is idle made installs =
+    pub switched : (alg : Alg) (r : Bor (List Item)) → u.phase ≡ Quiet → u.chosen ≡ None → SwitchesTo alg u.items_left.now → r.now ≡ rest_of u.items_left.now → IsIdle (known d) → (known d).made ≡ (known u.desc).made
+        → Sound good stm (record u { desc = d; items_left = r; phase = Between }) × IsKept u (record u { desc = d; items_left = r; phase = Between }) × (place_of (record u { desc = d; items_left = r; phase = Between }) ≡ after (place_of u) (Installed alg))
+    switched alg r quiet none to is idle made =
         let n = caller_of u.desc.who.role in
         let left = switch-left n alg u.items_left.now to in (
           record {
@@ -556,13 +560,11 @@ module _ {K : Type 0} (good : List ℕ → Type 0) (stm : Stm K) (u : Worker K) 
             at = idle;
             stands = rests-again (rest-quiet u.phase quiet) made;
             done = subst (DidFirst u.all.now) (sym is) (did-first u.all.now u.items_left.now s.done);
-            todo = subst (λ k. scripts_of k r.now ≡ drop (length u.rows.items) (scripts_of k u.all.now)) (sym n_is) (ap (scripts_of n) is ∙ (left.1 ∙ s.todo));
+            todo = subst (λ k. scripts_of k r.now ≡ drop (length u.rows.items) (scripts_of k u.all.now)) (sym n_is) (ap (scripts_of n) is ∙ (left.0 ∙ s.todo));
             within = subst (λ k. length u.rows.items ≤ length (scripts_of k u.all.now)) (sym n_is) s.within;
             counted = s.counted;
-            switched = subst (λ l. DidSwitches u.policy u.all.now l (known d)) (sym is) (did-switch u.policy u.all.now u.items_left.now (rest_of u.items_left.now) alg (known u.desc) (known d) installs left.0 s.switched);
-            asked = s.asked;
             fits = subst (λ k. ItemsFit good stm.config.words u.regions.now k r.now) (sym n_is) (subst (ItemsFit good stm.config.words u.regions.now n) (sym is) (rest-fits good stm.config.words u.regions.now n u.items_left.now s.fits));
-            roomy = record { spare = s.roomy.spare ∙ (left.2 ∙ ap spares (sym is)); rows = s.roomy.rows };
+            roomy = record { spare = s.roomy.spare ∙ (left.1 ∙ ap spares (sym is)); rows = s.roomy.rows };
             turning = tt;
             plain = s.plain;
             under_way = tt;
@@ -572,38 +574,31 @@ module _ {K : Type 0} (good : List ℕ → Type 0) (stm : Stm K) (u : Worker K) 
             all = refl;
             regions = refl;
             policy = refl;
-            switched = by-same u.policy (switches_with u) ((known d).installs ++ switches_of r.now)
-                (ap (λ l. (known d).installs ++ switches_of l) is ∙ (ap (λ l. l ++ switches_of (rest_of u.items_left.now)) installs ∙ (append_assoc (known u.desc).installs (alg ∷ []) (switches_of (rest_of u.items_left.now)) ∙ ap (λ l. (known u.desc).installs ++ l) (sym left.0))));
           },
           installed-at (place_of (record u { desc = d })) r.now none is ∙ ap (λ (p : Place). places.switched p.chosen p) place-now,
         )
 
     -- the switch that the policy asked for is done
-    pub switched-besides : (alg chosen : Alg) → u.phase ≡ Quiet → u.chosen ≡ Some chosen → chosen ≡ alg → IsIdle (known d) → (known d).made ≡ (known u.desc).made → (known d).installs ≡ (known u.desc).installs ++ alg ∷ []
-        → Sound good stm (record u { desc = d; phase = Between; profile = no_profile; chosen = None }) × IsSame u (record u { desc = d; phase = Between; profile = no_profile; chosen = None }) × (place_of (record u { desc = d; phase = Between; profile = no_profile; chosen = None }) ≡ after (place_of u) (Installed alg))
-    switched-besides alg chosen quiet some to idle made installs =
-        let more : InstallsBy u.policy (switches_with u) ((known d).installs ++ switches_of u.items_left.now) =
-        subst (λ l. InstallsBy u.policy (switches_with u) (l ++ switches_of u.items_left.now)) (sym installs)
-        (besides u.policy alg (known u.desc).installs (switches_of u.items_left.now) (subst (λ (a : Alg). IsAskedBy u.policy (Some a)) to (subst (IsAskedBy u.policy) some s.asked))) in (
-          record {
-            own = own-same;
-            at = idle;
-            stands = rests-again (rest-quiet u.phase quiet) made;
-            done = s.done;
-            todo = subst (λ k. scripts_of k u.items_left.now ≡ drop (length u.rows.items) (scripts_of k u.all.now)) (sym n_is) s.todo;
-            within = subst (λ k. length u.rows.items ≤ length (scripts_of k u.all.now)) (sym n_is) s.within;
-            counted = s.counted;
-            switched = (s.switched.0, by-trans u.policy (s.switched.0 ++ switches_of u.all.now) (switches_with u) ((known d).installs ++ switches_of u.items_left.now) s.switched.1 more);
-            asked = asked-none u.policy;
-            fits = subst (λ k. ItemsFit good stm.config.words u.regions.now k u.items_left.now) (sym n_is) s.fits;
-            roomy = record { spare = s.roomy.spare; rows = s.roomy.rows };
-            turning = tt;
-            plain = s.plain;
-            under_way = tt;
-          },
-          record { same = same; all = refl; regions = refl; policy = refl; switched = more },
-          besides-at (place_of (record u { desc = d })) chosen some ∙ ap (λ (p : Place). places.switched p.chosen p) place-now,
-        )
+    pub switched-besides : (alg chosen : Alg) → u.phase ≡ Quiet → u.chosen ≡ Some chosen → chosen ≡ alg → IsIdle (known d) → (known d).made ≡ (known u.desc).made
+        → Sound good stm (record u { desc = d; phase = Between; profile = no_profile; chosen = None }) × IsKept u (record u { desc = d; phase = Between; profile = no_profile; chosen = None }) × (place_of (record u { desc = d; phase = Between; profile = no_profile; chosen = None }) ≡ after (place_of u) (Installed alg))
+    switched-besides alg chosen quiet some to idle made = (
+      record {
+        own = own-same;
+        at = idle;
+        stands = rests-again (rest-quiet u.phase quiet) made;
+        done = s.done;
+        todo = subst (λ k. scripts_of k u.items_left.now ≡ drop (length u.rows.items) (scripts_of k u.all.now)) (sym n_is) s.todo;
+        within = subst (λ k. length u.rows.items ≤ length (scripts_of k u.all.now)) (sym n_is) s.within;
+        counted = s.counted;
+        fits = subst (λ k. ItemsFit good stm.config.words u.regions.now k u.items_left.now) (sym n_is) s.fits;
+        roomy = record { spare = s.roomy.spare; rows = s.roomy.rows };
+        turning = tt;
+        plain = s.plain;
+        under_way = tt;
+      },
+      record { same = same; all = refl; regions = refl; policy = refl },
+      besides-at (place_of (record u { desc = d })) chosen some ∙ ap (λ (p : Place). places.switched p.chosen p) place-now,
+    )
 
 -- whoever took the same steps is outside in the same way
 pub outside : {K : Type 0} (d e : Handle K) → e.view ≡ d.view → IsOutside (known d) (known e)
@@ -617,9 +612,9 @@ module _ {K : Type 0} (good : List ℕ → Type 0) (stm : Stm K) (u : Worker K) 
 
   pub turned-began : (alg : Alg) (r : Bor (List Op)) (o : Output) → u.phase ≡ Between → BeforeTx u.items_left.now → u.chosen ≡ None → r.now ≡ script_at u.items_left.now → o ≡ cleared u.out → BeginsAt good stm.config (caller_of u.desc.who.role) alg (known u.desc) (known d)
       → Turned good stm MaySay u (TryBegin (Begun alg)) (record u { desc = d; phase = Inside; alg = alg; operations_left = r; out = o; wrote = false; granted = false; passed = false })
-  turned-began alg r o between here unasked is clear h = turned-by good stm u s MaySay (TryBegin (Begun alg)) _ stm.ranges (between, here, unasked) (idle-now good stm u s between).1 h
+  turned-began alg r o between here unasked is clear h = turned-by good stm u s MaySay (TryBegin (Begun alg)) _ stm.ranges (λ m. m) (between, here, unasked) (idle-now good stm u s between).1 h
       (began-now good stm u s d same h.grows alg r o is clear)
-      (record { same = same; all = refl; regions = refl; policy = refl; switched = kept-switches u d h.installs })
+      (record { same = same; all = refl; regions = refl; policy = refl })
       (began good stm u s d same h.grows alg r o between here is clear h)
 
   -- nothing began
@@ -627,25 +622,25 @@ module _ {K : Type 0} (good : List ℕ → Type 0) (stm : Stm K) (u : Worker K) 
       → Turned good stm MaySay u said (record u { desc = d })
   turned-stayed said between here asks told is h =
       let r = rest-between u.phase between in
-      turned-by good stm u s MaySay said _ stm.ranges here asks told (same-place good stm u s d same h.grows u.passed ∙ is)
-      (record { same = same; all = refl; regions = refl; policy = refl; switched = kept-switches u d h.installs })
-      (rested good stm u s d same h.grows u.phase r r h.made h.installs (subst (λ p. IsAt good stm.config (caller_of u.desc.who.role) p (known d)) (sym between) h.idle) s.turning)
+      turned-by good stm u s MaySay said _ stm.ranges (say-turn (place_of u) said) here asks told (same-place good stm u s d same h.grows u.passed ∙ is)
+      (record { same = same; all = refl; regions = refl; policy = refl })
+      (rested good stm u s d same h.grows u.phase r r h.made (subst (λ p. IsAt good stm.config (caller_of u.desc.who.role) p (known d)) (sym between) h.idle) s.turning)
 
   -- the gate is closed, or stays so
   pub turned-closed : (said : Said) (p : Phase) → Rest u.phase → Rest p → MaySay (place_of u) said → Asks said (known u.desc) → Tells good stm.config (caller_of u.desc.who.role) said (known u.desc) (known d) → record (place_of u) { phase = p } ≡ after (place_of u) said
-      → (grows : Grows (known u.desc) (known d)) → (known d).made ≡ (known u.desc).made → (known d).installs ≡ (known u.desc).installs → IsAt good stm.config (caller_of u.desc.who.role) p (known d) → ToSwitch p u.chosen u.items_left.now → Turned good stm MaySay u said (record u { desc = d; phase = p })
-  turned-closed said p r q here asks told is grows made installs at turning =
-      turned-by good stm u s MaySay said _ stm.ranges here asks told (ap (λ (q : Place). record q { phase = p }) (place-now good stm u s d same grows) ∙ is)
-      (record { same = same; all = refl; regions = refl; policy = refl; switched = kept-switches u d installs })
-      (rested good stm u s d same grows p r q made installs at turning)
+      → (grows : Grows (known u.desc) (known d)) → (known d).made ≡ (known u.desc).made → IsAt good stm.config (caller_of u.desc.who.role) p (known d) → ToSwitch p u.chosen u.items_left.now → Turned good stm MaySay u said (record u { desc = d; phase = p })
+  turned-closed said p r q here asks told is grows made at turning =
+      turned-by good stm u s MaySay said _ stm.ranges (say-turn (place_of u) said) here asks told (ap (λ (q : Place). record q { phase = p }) (place-now good stm u s d same grows) ∙ is)
+      (record { same = same; all = refl; regions = refl; policy = refl })
+      (rested good stm u s d same grows p r q made at turning)
 
   -- the closing is given up
   pub turned-reopened : (u.phase ≡ Closing) ⊎ (u.phase ≡ Quiet) → answers.Reopens good stm.config (caller_of u.desc.who.role) (known u.desc) (known d) → Turned good stm MayWind u Said.Reopened (record u { desc = d; phase = Between })
   turned-reopened closing h =
       let r = rest-closed u.phase closing in
-      turned-by good stm u s MayWind Said.Reopened _ stm.ranges closing (is-between r) h (ap (λ (q : Place). record q { phase = Between }) (place-now good stm u s d same h.grows))
-      (record { same = same; all = refl; regions = refl; policy = refl; switched = kept-switches u d h.installs })
-      (rested good stm u s d same h.grows Between r tt h.made h.installs h.idle tt)
+      turned-by good stm u s MayWind Said.Reopened _ stm.ranges (λ m. m) closing (is-between r) h (ap (λ (q : Place). record q { phase = Between }) (place-now good stm u s d same h.grows))
+      (record { same = same; all = refl; regions = refl; policy = refl })
+      (rested good stm u s d same h.grows Between r tt h.made h.idle tt)
 
   pub turned-operated : (op : Op) (reply : ℕ) (r : Bor (List Op)) (o : Output) (wrote : Bool) → Comes op (place_of u) → is_call op ≡ false → r.now ≡ rest_of u.operations_left.now → wrote ≡ u.wrote || writes op reply
       → Carries (known u.desc) (known d) → IsRunning (known d)
@@ -654,9 +649,9 @@ module _ {K : Type 0} (good : List ℕ → Type 0) (stm : Stm K) (u : Worker K) 
       → Turned good stm MaySay u (Reply op reply) (record u { desc = d; operations_left = r; out = o; wrote = wrote })
   turned-operated op reply r o wrote comes plain is was carries runs gave more told =
       let kinds = or-none (is_cancel op) (is_irrev op) plain in
-      turned-by good stm u s MaySay (Reply op reply) _ stm.ranges (comes, plain) (runs-now good stm u s comes.0) (carries, runs)
+      turned-by good stm u s MaySay (Reply op reply) _ stm.ranges (λ m. m) (comes, plain) (runs-now good stm u s comes.0) (carries, runs)
       (operated-now good stm u s d same carries.grows op reply r o wrote is was told)
-      (record { same = same; all = refl; regions = refl; policy = refl; switched = kept-switches u d carries.installs })
+      (record { same = same; all = refl; regions = refl; policy = refl })
       (operated good stm u s d same carries.grows op reply r o wrote comes kinds.0 kinds.1 is was carries runs gave more told)
     where
       or-none : (a b : Bool) → a || b ≡ false → (a ≡ false) × (b ≡ false)
@@ -664,14 +659,14 @@ module _ {K : Type 0} (good : List ℕ → Type 0) (stm : Stm K) (u : Worker K) 
       or-none false b h = (refl, h)
 
   -- the attempt is over, without a row
-  pub turned-over : (may : Place → Said → Type 0) (said : Said) (q : Noted) (must b : Bool) (failed : ℕ) (o : Output) → u.phase ≡ Inside → may (place_of u) said → Asks said (known u.desc) → Tells good stm.config (caller_of u.desc.who.role) said (known u.desc) (known d)
+  pub turned-over : (may : Place → Said → Type 0) (said : Said) (q : Noted) (must b : Bool) (failed : ℕ) (o : Output) → (may (place_of u) said → MayTurn (place_of u) said) → u.phase ≡ Inside → may (place_of u) said → Asks said (known u.desc) → Tells good stm.config (caller_of u.desc.who.role) said (known u.desc) (known d)
       → record (place_of u) { phase = Between; replies = []; emits = []; failed = failed; must = must; profile = q } ≡ after (place_of u) said
-      → (grows : Grows (known u.desc) (known d)) → IsIdle (known d) → (known d).made ≡ (known u.desc).made → (known d).installs ≡ (known u.desc).installs → o ≡ cleared u.out → IsCounted failed must
+      → (grows : Grows (known u.desc) (known d)) → IsIdle (known d) → (known d).made ≡ (known u.desc).made → o ≡ cleared u.out → IsCounted failed must
       → Turned good stm may u said (record u { desc = d; phase = Between; out = o; must = must; failed = failed; passed = b; profile = q })
-  turned-over may said q must b failed o inside here asks told is grows idle made installs clear few =
-      turned-by good stm u s may said _ stm.ranges here asks told (over-now good stm u s d same grows said q must b failed o clear is)
-      (record { same = same; all = refl; regions = refl; policy = refl; switched = kept-switches u d installs })
-      (over good stm u s d same grows q must b failed o inside idle made installs clear few)
+  turned-over may said q must b failed o goes inside here asks told is grows idle made clear few =
+      turned-by good stm u s may said _ stm.ranges goes here asks told (over-now good stm u s d same grows said q must b failed o clear is)
+      (record { same = same; all = refl; regions = refl; policy = refl })
+      (over good stm u s d same grows q must b failed o inside idle made clear few)
 
   pub few-next : IsCounted (failed_next u.must u.failed) (must_next u.must u.failed)
   few-next = still-few u.failed u.must s.counted
@@ -681,76 +676,76 @@ module _ {K : Type 0} (good : List ℕ → Type 0) (stm : Stm K) (u : Worker K) 
       → record (place_of u) { phase = Between; replies = []; emits = []; failed = failed; must = must; profile = q } ≡ after (place_of u) said
       → Quits (known u.desc) (known d) → o ≡ cleared u.out → IsCounted failed must
       → Turned good stm MaySay u said (record u { desc = d; phase = Between; out = o; must = must; failed = failed; passed = b; profile = q })
-  turned-quit said q must b failed o inside here told asks is h clear few = turned-over MaySay said q must b failed o inside here asks told is h.ends.grows h.ends.idle h.made h.ends.installs clear few
+  turned-quit said q must b failed o inside here told asks is h clear few = turned-over MaySay said q must b failed o (say-turn (place_of u) said) inside here asks told is h.ends.grows h.ends.idle h.made clear few
 
   pub turned-refused : (r : Bor (List Op)) (o : Output) → Comes Cancel (place_of u) → r.now ≡ rest_of u.operations_left.now → known d ≡ known u.desc → is_irrevocable (known u.desc) ≡ true → o ≡ record u.out { replies = u.out.replies ++ 0 ∷ [] }
       → Turned good stm MaySay u (TryCancel Irrevocable) (record u { desc = d; operations_left = r; out = o })
   turned-refused r o comes is knows certain told =
       let grows = subst (Grows (known u.desc)) (sym knows) (grows-same (known u.desc) (known u.desc) refl refl [] refl refl refl refl) in
-      turned-by good stm u s MaySay (TryCancel Irrevocable) _ stm.ranges comes (runs-now good stm u s comes.0) (knows, certain) (refused-now good stm u s d same grows r o is told)
-      (record { same = same; all = refl; regions = refl; policy = refl; switched = kept-switches u d (ap (λ (v : Known). v.installs) knows) })
+      turned-by good stm u s MaySay (TryCancel Irrevocable) _ stm.ranges (λ m. m) comes (runs-now good stm u s comes.0) (knows, certain) (refused-now good stm u s d same grows r o is told)
+      (record { same = same; all = refl; regions = refl; policy = refl })
       (refused good stm u s d same grows r o comes is knows certain told)
 
   pub dropped-refused : u.phase ≡ Inside → known d ≡ known u.desc → is_irrevocable (known u.desc) ≡ true → Refused good stm u (record u { desc = d })
   dropped-refused inside knows certain = refused-drop good stm u s d same (subst (Grows (known u.desc)) (sym knows) (grows-same (known u.desc) (known u.desc) refl refl [] refl refl refl refl)) inside knows certain
 
-  pub turned-forced : u.phase ≡ Inside → is_forced (place_of u) ≡ true → answers.BecomesSure good stm.config (caller_of u.desc.who.role) (known u.desc) (known d) → Turned good stm MaySay u (TryIrrevocable Granted) (record u { desc = d; granted = true })
+  pub turned-forced : u.phase ≡ Inside → is_forced (place_of u) ≡ true → answers.BecomesIrrevocable good stm.config (caller_of u.desc.who.role) (known u.desc) (known d) → Turned good stm MaySay u (TryIrrevocable Granted) (record u { desc = d; granted = true })
   turned-forced inside forced h =
-      turned-by good stm u s MaySay (TryIrrevocable Granted) _ stm.ranges (inl (inside, forced)) (runs-now good stm u s inside) h (forced-now good stm u s d same h.continues.grows forced)
-      (record { same = same; all = refl; regions = refl; policy = refl; switched = kept-switches u d h.continues.installs })
+      turned-by good stm u s MaySay (TryIrrevocable Granted) _ stm.ranges (λ m. m) (inl (inside, forced)) (runs-now good stm u s inside) h (forced-now good stm u s d same h.continues.grows forced)
+      (record { same = same; all = refl; regions = refl; policy = refl })
       (granted-forced good stm u s d same h.continues.grows inside h)
 
-  pub turned-asked : (r : Bor (List Op)) (o : Output) → Comes Irrev (place_of u) → r.now ≡ rest_of u.operations_left.now → o ≡ record u.out { replies = u.out.replies ++ 1 ∷ [] } → answers.BecomesSure good stm.config (caller_of u.desc.who.role) (known u.desc) (known d)
+  pub turned-asked : (r : Bor (List Op)) (o : Output) → Comes Irrev (place_of u) → r.now ≡ rest_of u.operations_left.now → o ≡ record u.out { replies = u.out.replies ++ 1 ∷ [] } → answers.BecomesIrrevocable good stm.config (caller_of u.desc.who.role) (known u.desc) (known d)
       → Turned good stm MaySay u (TryIrrevocable Granted) (record u { desc = d; operations_left = r; out = o; granted = true })
   turned-asked r o comes is told h =
-      turned-by good stm u s MaySay (TryIrrevocable Granted) _ stm.ranges (inr comes) (runs-now good stm u s comes.0) h (asked-now good stm u s d same h.continues.grows r o comes.1 is told)
-      (record { same = same; all = refl; regions = refl; policy = refl; switched = kept-switches u d h.continues.installs })
+      turned-by good stm u s MaySay (TryIrrevocable Granted) _ stm.ranges (λ m. m) (inr comes) (runs-now good stm u s comes.0) h (asked-now good stm u s d same h.continues.grows r o comes.1 is told)
+      (record { same = same; all = refl; regions = refl; policy = refl })
       (granted-asked good stm u s d same h.continues.grows r o comes is told h)
 
   pub turned-busy : (k status : ℕ) → u.phase ≡ Inside → MaySay (place_of u) (TryIrrevocable (Busy k status)) → answers.Irrevs good stm.config (caller_of u.desc.who.role) (Busy k status) (known u.desc) (known d) → Turned good stm MaySay u (TryIrrevocable (Busy k status)) (record u { desc = d })
   turned-busy k status inside here h =
-      turned-by good stm u s MaySay (TryIrrevocable (Busy k status)) _ stm.ranges here (runs-now good stm u s inside) h (same-place good stm u s d same h.0.continues.grows u.passed)
-      (still-same good stm u s d same h.0.continues.grows u.passed h.0.continues.installs)
+      turned-by good stm u s MaySay (TryIrrevocable (Busy k status)) _ stm.ranges (λ m. m) here (runs-now good stm u s inside) h (same-place good stm u s d same h.0.continues.grows u.passed)
+      (still-same good stm u s d same h.0.continues.grows u.passed)
       (busied good stm u s d same h.0.continues.grows inside h.0)
 
   pub turned-again : (word had now : ℕ) (b : Bool) → u.phase ≡ Inside → u.operations_left.now ≡ [] → is_forced (place_of u) ≡ false → answers.Commits good stm.config (caller_of u.desc.who.role) (Again word had now) (known u.desc) (known d)
       → Turned good stm MaySay u (TryCommit (Again word had now)) (record u { desc = d; passed = b })
   turned-again word had now b inside none free h =
-      turned-by good stm u s MaySay (TryCommit (Again word had now)) _ stm.ranges (inside, free, none) (runs-now good stm u s inside) h (same-place good stm u s d same h.0.continues.grows b)
-      (still-same good stm u s d same h.0.continues.grows b h.0.continues.installs)
+      turned-by good stm u s MaySay (TryCommit (Again word had now)) _ stm.ranges (λ m. m) (inside, free, none) (runs-now good stm u s inside) h (same-place good stm u s d same h.0.continues.grows b)
+      (still-same good stm u s d same h.0.continues.grows b)
       (again good stm u s d same h.0.continues.grows b inside none free h.0 h.2 h.3)
 
   pub turned-committed : (t : ℕ) (b : Bool) (w : Worker K) → u.phase ≡ Inside → u.operations_left.now ≡ [] → is_forced (place_of u) ≡ false → answers.CommitsAt good stm.config (caller_of u.desc.who.role) t (known u.desc) (known d) → EndsWith W t (record u { desc = d; passed = b }) w
       → Turned good stm MaySay u (TryCommit (Committed t)) w
   turned-committed t b w inside none free h ends =
       let e = committed good stm u s d same h.ends.grows t b w inside none h ends in
-      turned-by good stm u s MaySay (TryCommit (Committed t)) w stm.ranges (inside, free, none) (runs-now good stm u s inside) (subst (λ (k : Handle K). answers.CommitsAt good stm.config (caller_of u.desc.who.role) t (known u.desc) (known k)) (sym ends.desc) h) e.2 e.1 e.0
+      turned-by good stm u s MaySay (TryCommit (Committed t)) w stm.ranges (λ m. m) (inside, free, none) (runs-now good stm u s inside) (subst (λ (k : Handle K). answers.CommitsAt good stm.config (caller_of u.desc.who.role) t (known u.desc) (known k)) (sym ends.desc) h) e.2 e.1 e.0
 
   pub turned-readonly : (t : ℕ) (b : Bool) (w : Worker K) → u.phase ≡ Inside → u.operations_left.now ≡ [] → is_forced (place_of u) ≡ false → answers.Commits good stm.config (caller_of u.desc.who.role) (ReadOnly t) (known u.desc) (known d) → EndsWith R t (record u { desc = d; passed = b }) w
       → Turned good stm MaySay u (TryCommit (ReadOnly t)) w
   turned-readonly t b w inside none free h ends =
       let e = readonly good stm u s d same h.0.ends.grows t b w inside none h.0 h.2 ends in
-      turned-by good stm u s MaySay (TryCommit (ReadOnly t)) w stm.ranges (inside, free, none) (runs-now good stm u s inside) (subst (λ (k : Handle K). answers.Commits good stm.config (caller_of u.desc.who.role) (ReadOnly t) (known u.desc) (known k)) (sym ends.desc) h) e.2 e.1 e.0
+      turned-by good stm u s MaySay (TryCommit (ReadOnly t)) w stm.ranges (λ m. m) (inside, free, none) (runs-now good stm u s inside) (subst (λ (k : Handle K). answers.Commits good stm.config (caller_of u.desc.who.role) (ReadOnly t) (known u.desc) (known k)) (sym ends.desc) h) e.2 e.1 e.0
 
   pub turned-cancelled : (t : ℕ) (o : Output) (w : Worker K) → Comes Cancel (place_of u) → answers.Cancels good stm.config (caller_of u.desc.who.role) (Cancelled t) (known u.desc) (known d) → o ≡ record u.out { replies = u.out.replies ++ 1 ∷ [] } → EndsWith C t (record u { desc = d; out = o }) w
       → Turned good stm MaySay u (TryCancel (Cancelled t)) w
   turned-cancelled t o w comes h told ends =
       let e = cancelled good stm u s d same h.0.ends.grows t o w comes h.0 h.3 told ends in
-      turned-by good stm u s MaySay (TryCancel (Cancelled t)) w stm.ranges comes (runs-now good stm u s comes.0) (subst (λ (k : Handle K). answers.Cancels good stm.config (caller_of u.desc.who.role) (Cancelled t) (known u.desc) (known k)) (sym ends.desc) h) e.2 e.1 e.0
+      turned-by good stm u s MaySay (TryCancel (Cancelled t)) w stm.ranges (λ m. m) comes (runs-now good stm u s comes.0) (subst (λ (k : Handle K). answers.Cancels good stm.config (caller_of u.desc.who.role) (Cancelled t) (known u.desc) (known k)) (sym ends.desc) h) e.2 e.1 e.0
 
   pub turned-switched : (alg : Alg) (r : Bor (List Item)) (x : Known) → u.phase ≡ Quiet → u.chosen ≡ None → MustSwitchTo alg u.chosen u.items_left.now → r.now ≡ rest_of u.items_left.now → answers.Installs good stm.config (caller_of u.desc.who.role) alg (known u.desc) x → answers.Reopens good stm.config (caller_of u.desc.who.role) x (known d)
       → Turned good stm MaySay u (Installed alg) (record u { desc = d; items_left = r; phase = Between })
   turned-switched alg r x quiet none to is i h =
       let grows = grows-trans (known u.desc) x (known d) i.closed.grows h.grows in
-      let e = switched good stm u s d same grows alg r quiet none (subst (λ (c : Option Alg). MustSwitchTo alg c u.items_left.now) none to) is h.idle (h.made ∙ i.closed.made) (h.installs ∙ i.installs) in
-      turned-by good stm u s MaySay (Installed alg) _ stm.ranges (quiet, to) (is-between (rest-quiet u.phase quiet)) (x, i, h) e.2 e.1 e.0
+      let e = switched good stm u s d same grows alg r quiet none (subst (λ (c : Option Alg). MustSwitchTo alg c u.items_left.now) none to) is h.idle (h.made ∙ i.closed.made) in
+      turned-by good stm u s MaySay (Installed alg) _ stm.ranges (λ m. m) (quiet, to) (is-between (rest-quiet u.phase quiet)) (x, i, h) e.2 e.1 e.0
 
   pub turned-besides : (alg chosen : Alg) (x : Known) → u.phase ≡ Quiet → u.chosen ≡ Some chosen → MustSwitchTo alg u.chosen u.items_left.now → answers.Installs good stm.config (caller_of u.desc.who.role) alg (known u.desc) x → answers.Reopens good stm.config (caller_of u.desc.who.role) x (known d)
       → Turned good stm MaySay u (Installed alg) (record u { desc = d; phase = Between; profile = no_profile; chosen = None })
   turned-besides alg chosen x quiet some to i h =
       let grows = grows-trans (known u.desc) x (known d) i.closed.grows h.grows in
-      let e = switched-besides good stm u s d same grows alg chosen quiet some (subst (λ (c : Option Alg). MustSwitchTo alg c u.items_left.now) some to) h.idle (h.made ∙ i.closed.made) (h.installs ∙ i.installs) in
-      turned-by good stm u s MaySay (Installed alg) _ stm.ranges (quiet, to) (is-between (rest-quiet u.phase quiet)) (x, i, h) e.2 e.1 e.0
+      let e = switched-besides good stm u s d same grows alg chosen quiet some (subst (λ (c : Option Alg). MustSwitchTo alg c u.items_left.now) some to) h.idle (h.made ∙ i.closed.made) in
+      turned-by good stm u s MaySay (Installed alg) _ stm.ranges (λ m. m) (quiet, to) (is-between (rest-quiet u.phase quiet)) (x, i, h) e.2 e.1 e.0
 
   -- the logs are longer: nothing else is said of the caller than that its next item is done
   pub turned-lengthened : (reads writes : ℕ) (r : Bor (List Item)) → u.phase ≡ Between → u.chosen ≡ None → Lengthens reads writes u.items_left.now → r.now ≡ rest_of u.items_left.now → Reserves reads writes (known u.desc) (known d) → IsOutside (known u.desc) (known d)
@@ -760,32 +755,27 @@ module _ {K : Type 0} (good : List ℕ → Type 0) (stm : Stm K) (u : Worker K) 
       let n_is = callers-same u.desc d same in
       let rest = rest-between u.phase between in
       let left = reserve-left n reads writes u.items_left.now here in
-      let installs : (known d).installs ≡ (known u.desc).installs = ap (λ (v : Known). v.installs) outside in
       let idle : IsIdle (known d) = subst IsIdle (sym outside) (idle-now good stm u s between) in
       let works : Works good stm.config.words u.regions.now u.all.now n (known d) u.rows.items =
       subst (λ (v : Known). Works good stm.config.words u.regions.now u.all.now n v u.rows.items) (sym outside) (resting-now good stm u s rest) in
-      turned-by good stm u s MaySay (Reserved reads writes) _ stm.ranges (between, here, none) (is-between rest) (sizes, outside)
+      turned-by good stm u s MaySay (Reserved reads writes) _ stm.ranges (λ m. m) (between, here, none) (is-between rest) (sizes, outside)
       (λ i. record (place_of u) { caller = n_is i; left = is i; reads_limit = sizes.0 i; writes_limit = sizes.1 i })
       (record {
         same = same;
         all = refl;
         regions = refl;
         policy = refl;
-        switched = by-same u.policy (switches_with u) ((known d).installs ++ switches_of r.now)
-            (ap (λ l. (known d).installs ++ switches_of l) is ∙ (ap (λ l. l ++ switches_of (rest_of u.items_left.now)) installs ∙ ap (λ l. (known u.desc).installs ++ l) (sym left.0)));
       })
       (record {
         own = record { table = same.table ∙ s.own.table; config = ap (λ x. x.config) same.who ∙ s.own.config; rule = ap (λ x. x.rule) same.who ∙ s.own.rule };
         at = subst (λ p. IsAt good stm.config (caller_of d.who.role) p (known d)) (sym between) idle;
         stands = stands-rest good stm.config.words u.regions.now u.all.now (caller_of d.who.role) (known d) u.rows.items u.phase rest (subst (λ k. Works good stm.config.words u.regions.now u.all.now k (known d) u.rows.items) (sym n_is) works);
         done = subst (DidFirst u.all.now) (sym is) (did-first u.all.now u.items_left.now s.done);
-        todo = subst (λ k. scripts_of k r.now ≡ drop (length u.rows.items) (scripts_of k u.all.now)) (sym n_is) (ap (scripts_of n) is ∙ (left.1 ∙ s.todo));
+        todo = subst (λ k. scripts_of k r.now ≡ drop (length u.rows.items) (scripts_of k u.all.now)) (sym n_is) (ap (scripts_of n) is ∙ (left.0 ∙ s.todo));
         within = subst (λ k. length u.rows.items ≤ length (scripts_of k u.all.now)) (sym n_is) s.within;
         counted = s.counted;
-        switched = subst (λ l. DidSwitches u.policy u.all.now l (known d)) (sym is) (did-left u.policy u.all.now u.items_left.now (rest_of u.items_left.now) (known u.desc) (known d) installs left.0 s.switched);
-        asked = s.asked;
         fits = subst (λ k. ItemsFit good stm.config.words u.regions.now k r.now) (sym n_is) (subst (ItemsFit good stm.config.words u.regions.now n) (sym is) (rest-fits good stm.config.words u.regions.now n u.items_left.now s.fits));
-        roomy = record { spare = s.roomy.spare ∙ (left.2 ∙ ap spares (sym is)); rows = s.roomy.rows };
+        roomy = record { spare = s.roomy.spare ∙ (left.1 ∙ ap spares (sym is)); rows = s.roomy.rows };
         turning = subst (λ p. ToSwitch p u.chosen r.now) (sym between) tt;
         plain = s.plain;
         under_way = when-rest u.phase rest _;
@@ -806,16 +796,16 @@ module _ {K : Type 0} (good : List ℕ → Type 0) (stm : Stm K) (u : Worker K) 
       → Turned good stm MaySay u (Stopped op stop) (stopped_by stop (record u { desc = d; out = o }))
   stopped-is op (stops.Conflict cause) o comes plain h clear =
       let q = stops-quits good stm.config (caller_of u.desc.who.role) h.address (stops.Conflict cause) h.before (known d) h.stops in
-      turned-over MaySay (Stopped op (stops.Conflict cause)) (with_outcome u.profile outcomes.Conflict) (must_next u.must u.failed) u.passed (failed_next u.must u.failed) (cleared o) comes.0 (comes, plain) (runs-now good stm u s comes.0) h refl
-      (grows-trans (known u.desc) h.before (known d) h.carries.grows q.ends.grows) q.ends.idle (q.made ∙ h.carries.made) (q.ends.installs ∙ h.carries.installs) (ap cleared clear) few-next
+      turned-over MaySay (Stopped op (stops.Conflict cause)) (with_outcome u.profile outcomes.Conflict) (must_next u.must u.failed) u.passed (failed_next u.must u.failed) (cleared o) (λ m. m) comes.0 (comes, plain) (runs-now good stm u s comes.0) h refl
+      (grows-trans (known u.desc) h.before (known d) h.carries.grows q.ends.grows) q.ends.idle (q.made ∙ h.carries.made) (ap cleared clear) few-next
   stopped-is op (stops.Full limit) o comes plain h clear =
       let q = stops-quits good stm.config (caller_of u.desc.who.role) h.address (stops.Full limit) h.before (known d) h.stops in
-      turned-over MaySay (Stopped op (stops.Full limit)) (with_outcome u.profile outcomes.Full) true u.passed u.failed (cleared o) comes.0 (comes, plain) (runs-now good stm u s comes.0) h refl
-      (grows-trans (known u.desc) h.before (known d) h.carries.grows q.ends.grows) q.ends.idle (q.made ∙ h.carries.made) (q.ends.installs ∙ h.carries.installs) (ap cleared clear) (λ e. absurd cc)
+      turned-over MaySay (Stopped op (stops.Full limit)) (with_outcome u.profile outcomes.Full) true u.passed u.failed (cleared o) (λ m. m) comes.0 (comes, plain) (runs-now good stm u s comes.0) h refl
+      (grows-trans (known u.desc) h.before (known d) h.carries.grows q.ends.grows) q.ends.idle (q.made ∙ h.carries.made) (ap cleared clear) (λ e. absurd cc)
   stopped-is op (stops.ClockFull clock) o comes plain h clear =
       let q = stops-quits good stm.config (caller_of u.desc.who.role) h.address (stops.ClockFull clock) h.before (known d) h.stops in
-      turned-over MaySay (Stopped op (stops.ClockFull clock)) u.profile u.must u.passed u.failed (cleared o) comes.0 (comes, plain) (runs-now good stm u s comes.0) h refl
-      (grows-trans (known u.desc) h.before (known d) h.carries.grows q.ends.grows) q.ends.idle (q.made ∙ h.carries.made) (q.ends.installs ∙ h.carries.installs) (ap cleared clear) s.counted
+      turned-over MaySay (Stopped op (stops.ClockFull clock)) u.profile u.must u.passed u.failed (cleared o) (λ m. m) comes.0 (comes, plain) (runs-now good stm u s comes.0) h refl
+      (grows-trans (known u.desc) h.before (known d) h.carries.grows q.ends.grows) q.ends.idle (q.made ∙ h.carries.made) (ap cleared clear) s.counted
 
   -- an operation was stopped, and its attempt is over
   pub turned-stopped : (op : Op) (stop : Stop) (o : Output) (w : Worker K) → Comes op (place_of u) → is_call op ≡ false → StoppedBy good stm.config (caller_of u.desc.who.role) op stop (known u.desc) (known d) → o ≡ u.out → w ≡ stopped_by stop (record u { desc = d; out = o })

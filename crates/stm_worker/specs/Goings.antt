@@ -1,6 +1,6 @@
 -- An attempt in the middle of its script.
 use Rattle.std.specs.Prelude.{ℕ, ◌≡◌, Bool, true, false, List, [], ◌++◌, length}
-use Rattle.stm_model.specs.Algorithms.{is_sure}
+use Rattle.stm_model.specs.Algorithms.{irrevocable_under}
 use Rattle.stm_model.specs.declared.alg.Alg.{Alg}
 use Rattle.stm_model.specs.Memories.{Explains}
 use Rattle.stm_model.specs.Logs.{Log, IsExplained, Keeps}
@@ -31,7 +31,7 @@ pub record Going (good : List ℕ → Type 0) (words : ℕ) (regions : List Regi
   pub named : v.alg ≡ alg
   pub writer : wrote ≡ knows.wrote v
   -- what was said tells whether it can be cancelled
-  pub sure : is_sure alg granted wrote ≡ is_irrevocable v
+  pub irrevocable : irrevocable_under alg granted wrote ≡ is_irrevocable v
   -- those that are done: whatever comes behind them, where that gives something, they and it give it
   pub first : List Op
   pub is : script ≡ first ++ rest

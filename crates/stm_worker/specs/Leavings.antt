@@ -13,7 +13,7 @@ use Rattle.tx_answers.specs.Known.{Known, Grows, IsIdle, caller_of, is_irrevocab
 use Rattle.stm_tx.specs.Descs.{known}
 use Rattle.stm_trace.specs.declared.said.Phase.TheVariants.{Between, Inside}
 use Rattle.stm_trace.specs.declared.said.Said.{Said}
-use Rattle.stm_trace.specs.Places.{Place, clock_of, sure}
+use Rattle.stm_trace.specs.Places.{Place, clock_of, irrevocable}
 use Rattle.stm_trace.specs.Turns.{MayWind}
 use Rattle.stm_worker.specs.declared.worker.Worker.{Worker}
 use Rattle.stm_worker.specs.Workers.{place_of, IsSame, Sound, Turned, Works}
@@ -23,8 +23,8 @@ abbrev pub HasNothingOpen : Place → Type 0
 HasNothingOpen at = at.phase ≡ Between
 
 -- nothing is open but an attempt that can't be cancelled
-abbrev pub HasOnlySureOpen : Place → Type 0
-HasOnlySureOpen at = (at.phase ≡ Between) ⊎ ((at.phase ≡ Inside) × (sure at ≡ true))
+abbrev pub HasOnlyIrrevocableOpen : Place → Type 0
+HasOnlyIrrevocableOpen at = (at.phase ≡ Between) ⊎ ((at.phase ≡ Inside) × (irrevocable at ≡ true))
 
 module _ {K : Type 0} (good : List ℕ → Type 0) (stm : Stm K) where
   -- nothing is open that can be given up
@@ -33,7 +33,7 @@ module _ {K : Type 0} (good : List ℕ → Type 0) (stm : Stm K) where
     pub now : place_of w ≡ place_of v
     pub knows : known w.desc ≡ known v.desc
     pub same : IsSame v w
-    pub sure_open : HasOnlySureOpen (place_of w)
+    pub irrevocable_open : HasOnlyIrrevocableOpen (place_of w)
 
   -- what was open is given up, and this said of it
   pub record GaveUp (v : Worker K) (said : Said) (w : Worker K) : Type 0 where
@@ -65,6 +65,8 @@ module _ {K : Type 0} (good : List ℕ → Type 0) (stm : Stm K) where
     pub part : IsPart v.all.now v.items_left.now items
     pub calm : v.phase ≡ Between → v.all.now ≡ items ++ v.items_left.now
     pub rows : List Row
+    -- those that it had, or one more
+    pub behind : (v.all.now ≡ items ++ v.items_left.now) × (rows ≡ v.rows.items) ⊎ (v.phase ≡ Inside) × ((first : List Item) × (v.all.now ≡ first ++ v.items_left.now) × BeginsNext first v.items_left.now items) × ((row : Row) × (rows ≡ v.rows.items ++ row ∷ []))
     pub works : Works good stm.config.words v.regions.now items (caller_of v.desc.who.role) (known w.desc) rows
     pub whole : length rows ≡ length (scripts_of (caller_of v.desc.who.role) items)
 

@@ -1,8 +1,10 @@
 pub mod Installs
+pub mod Courses
 pub mod InstallLaws
 pub mod Goings
 pub mod Tellings
 pub mod Workers
+pub mod Rooms
 pub mod Leavings
 pub mod Payments
 pub mod RiseLaws

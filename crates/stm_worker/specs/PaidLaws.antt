@@ -33,7 +33,7 @@ use Rattle.stm_trace.specs.Adapting.{asked_by, outcome_of}
 use Rattle.stm_trace.specs.declared.said.Phase.TheVariants.{Between, Inside, Closing, Quiet}
 use Rattle.stm_trace.specs.declared.said.Said.{Said}
 use Rattle.stm_trace.specs.declared.said.Said.TheVariants.{TryBegin, Reply, Stopped, TryCancel, TryIrrevocable, TryCommit, TryClose, Looked, Installed, Reserved, Idle, Dropped, Reopened}
-use Rattle.stm_trace.specs.Places.{after, ended, failed_next, given_up, granted_at, in_the_way, is_forced, most_failed, must_next, rest_of, sure, switched}
+use Rattle.stm_trace.specs.Places.{after, ended, failed_next, given_up, granted_at, in_the_way, is_forced, most_failed, must_next, rest_of, irrevocable, switched}
 use Rattle.stm_trace.specs.Turns.{BeforeTx, Comes, Lengthens, MaySay, MayWind, MustSwitchTo, SwitchesTo}
 use Rattle.stm_worker.specs.declared.worker.Worker.{Worker}
 use Rattle.stm_worker.specs.Payments.{raised, spent, Paid, dropped_of, due_of, unpaid_by}
@@ -42,10 +42,10 @@ use Rattle.stm_worker.specs.Tellings.{Tells, StoppedBy}
 use Rattle.stm_worker.specs.Workers.{place_of, IsAt, IsUnderWay, Sound, WhenInside}
 
 -- an attempt that had to be irrevocable before it went on, and went on, is so
-sure-then : (must certain : Bool) → (must && not certain) ≡ false → must ≡ true → certain ≡ true
-sure-then true true h e = refl
-sure-then true false h e = absurd cc
-sure-then false certain h e = absurd cc
+irrevocable-then : (must certain : Bool) → (must && not certain) ≡ false → must ≡ true → certain ≡ true
+irrevocable-then true true h e = refl
+irrevocable-then true false h e = absurd cc
+irrevocable-then false certain h e = absurd cc
 
 -- one item less to do
 pub each-item : (each : ℕ) (left : List Item) → length left ≡ suc (length (rest_of left)) → each * length left ≡ each * length (rest_of left) + each
@@ -111,7 +111,7 @@ module _ {K : Type 0} (good : List ℕ → Type 0) (stm : Stm K) (u : Worker K) 
 
   -- an attempt that must become irrevocable and is not yet has written nothing
   unwritten : u.phase ≡ Inside → u.must ≡ true → is_irrevocable (known u.desc) ≡ false → wrote (known u.desc) ≡ false
-  unwritten e must off = let a = under e in sym a.going.writer ∙ a.waits must (a.going.sure ∙ off)
+  unwritten e must off = let a = under e in sym a.going.writer ∙ a.waits must (a.going.irrevocable ∙ off)
 
   -- an operation stops no attempt that must not fail
   unforced : (op : Op) (stop : Stop) (x : Known) → Comes op (place_of u) → StoppedBy good stm.config (caller_of u.desc.who.role) op stop (known u.desc) x → u.must ≡ false
@@ -120,8 +120,8 @@ module _ {K : Type 0} (good : List ℕ → Type 0) (stm : Stm K) (u : Worker K) 
       by : (b : Bool) → u.must ≡ b → b ≡ false
       by false e = refl
       by true e =
-          let certain = sym (under comes.0).going.sure ∙ sure-then u.must (sure (place_of u)) comes.1 e in
-          let still = (t.carries.sure (runs comes.0) certain).1 in
+          let certain = sym (under comes.0).going.irrevocable ∙ irrevocable-then u.must (irrevocable (place_of u)) comes.1 e in
+          let still = (t.carries.irrevocable (runs comes.0) certain).1 in
           let q = stops-quits good stm.config (caller_of u.desc.who.role) t.address stop t.before x t.stops in
           absurd (let f : true ≡ false = sym still ∙ q.revocable in cc)
 

@@ -27,7 +27,7 @@ use Rattle.stm_worker.specs.CountLaws.{CountsAt, alone-failed, counted-none, sai
 paid-there : {K : Type 0} (good : List ℕ → Type 0) (stm : Stm K) (may : Place → Said → Type 0) (u : Worker K) (said : Said) (w : Worker K) (unpaid each most : ℕ) → Turned good stm may u said w
     → Paid unpaid each most (length u.all.now) (known w.desc) (after (place_of u) said) → PaysBut unpaid each most w
 paid-there good stm may u said w unpaid each most t h =
-    subst (λ items. Paid unpaid each most (length items) (known w.desc) (place_of w)) (sym t.same.all)
+    subst (λ items. Paid unpaid each most (length items) (known w.desc) (place_of w)) (sym t.same.kept.all)
     (subst (Paid unpaid each most (length u.all.now) (known w.desc)) (sym t.now) h)
 
 -- what was unpaid is the one rise of an attempt that found the clock full, if it did

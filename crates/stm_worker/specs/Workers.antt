@@ -8,7 +8,6 @@ use Rattle.stm_model.specs.declared.alg.Alg.{Alg}
 use Rattle.stm_profile.specs.declared.outcome.Outcome.{Outcome}
 use Rattle.stm_profile.specs.declared.outcome.Outcome.TheVariants as outcomes
 use Rattle.stm_profile.specs.declared.policy.Policy.{Policy}
-use Rattle.stm_profile.specs.declared.policy.Policy.TheVariants.{Fixed, Round, Expert, State}
 use Rattle.stm_profile.specs.Profiles.{with_outcome}
 use Rattle.stm_model.specs.declared.config.Config.{Config}
 use Rattle.stm_model.specs.declared.config.TheConstants.{MAX_LOG}
@@ -34,13 +33,12 @@ use Rattle.stm_tx.specs.Descs.{known}
 use Rattle.stm_trace.specs.declared.said.Phase.{Phase}
 use Rattle.stm_trace.specs.declared.said.Phase.TheVariants.{Between, Inside, Closing, Quiet}
 use Rattle.stm_trace.specs.declared.said.Said.{Said}
-use Rattle.stm_trace.specs.declared.said.Said.TheVariants.{TryBegin, Reply, Stopped, TryCancel, TryIrrevocable, TryCommit, TryClose, Looked, Installed, Reserved, Idle, Dropped, Reopened}
 use Rattle.stm_trace.specs.Adapting.{asked_by, no_profile}
-use Rattle.stm_trace.specs.Places.{Place, after, clock_of, ended, failed_next, must_next, most_failed, recorded, rest_of, script_at, sure}
+use Rattle.stm_trace.specs.Places.{Place, after, clock_of, ended, failed_next, must_next, most_failed, recorded, rest_of, script_at, irrevocable}
 use Rattle.stm_trace.specs.Turns.{BeforeTx, Lengthens, MustSwitch, HasSizes, IsFair}
 use Rattle.stm_worker.specs.declared.worker.Worker.{Worker}
 use Rattle.stm_worker.specs.Goings.{Going}
-use Rattle.stm_worker.specs.Installs.{InstallsBy}
+use Rattle.stm_worker.specs.Courses.{Went, all_installed, installed}
 use Rattle.stm_worker.specs.Tellings.{Tells}
 
 abbrev pub place_of : {K : Type 0} → Worker K → Place
@@ -70,13 +68,6 @@ ToSwitch Inside chosen left = Unit {0}
 ToSwitch Closing chosen left = MustSwitch chosen left
 ToSwitch Quiet chosen left = MustSwitch chosen left
 
--- a fixed policy asks for no switch
-abbrev pub IsAskedBy : Policy → Option Alg → Type 0
-IsAskedBy Fixed chosen = chosen ≡ None
-IsAskedBy (Round n) chosen = Unit {0}
-IsAskedBy Expert chosen = Unit {0}
-IsAskedBy (State n) chosen = Unit {0}
-
 -- the length of a log
 abbrev pub IsLength : ℕ → Type 0
 IsLength n = (1 ≤ n) × (n ≤ MAX_LOG)
@@ -88,20 +79,9 @@ ItemsFit good words regions n (Tx caller script ∷ items) = (caller ≡ n) × S
 ItemsFit good words regions n (Switch caller alg ∷ items) = (caller ≡ n) × (is_built alg ≡ true) × ItemsFit good words regions n items
 ItemsFit good words regions n (Reserve caller reads writes ∷ items) = (caller ≡ n) × IsLength reads × IsLength writes × ItemsFit good words regions n items
 
--- the algorithms that are switched to, in the order of the text
-abbrev pub switches_of : List Item → List Alg
-switches_of [] = []
-switches_of (Tx caller script ∷ items) = switches_of items
-switches_of (Switch caller alg ∷ items) = alg ∷ switches_of items
-switches_of (Reserve caller reads writes ∷ items) = switches_of items
-
 -- these are the last of all its items: the ones before them are done
 abbrev pub DidFirst : List Item → List Item → Type 0
 DidFirst all left = (first : List Item) × (all ≡ first ++ left)
-
--- what the caller has installed since it began: the switches that it did, in their order, and what its policy asked for among them
-abbrev pub DidSwitches : Policy → List Item → List Item → Known → Type 0
-DidSwitches policy all left v = (first : List Alg) × InstallsBy policy (first ++ switches_of all) (v.installs ++ switches_of left)
 
 -- the caller's rows and what it knows: each row is what its script does
 abbrev pub Works : (List ℕ → Type 0) → ℕ → List Region → List Item → ℕ → Known → List Row → Type 0
@@ -147,21 +127,19 @@ pub record Roomy {K : Type 0} (w : Worker K) : Type 0 where
   pub spare : w.spare.items ++ cleared w.out ∷ [] ≡ spares w.items_left.now
   pub rows : vec_len w.rows + length w.spare.items ≤ vec_capacity w.rows
 
--- what was installed, and what the items that are left switch to
-abbrev pub switches_with : {K : Type 0} → Worker K → List Alg
-switches_with w = (known w.desc).installs ++ switches_of w.items_left.now
-
--- what was installed between the two, and what is still to be switched to, is what was to be switched to, and what the policy asked for among it
-abbrev pub Switches : {K : Type 0} → Worker K → Worker K → Type 0
-Switches v w = InstallsBy v.policy (switches_with v) (switches_with w)
-
--- the same caller, with the same items to do, of which it passed over no switch
-pub record IsSame {K : Type 0} (v w : Worker K) : Type 0 where
+-- the same caller, with the same items to do
+pub record IsKept {K : Type 0} (v w : Worker K) : Type 0 where
   pub same : IsSameCaller v.desc w.desc
   pub all : w.all.now ≡ v.all.now
   pub regions : w.regions.now ≡ v.regions.now
   pub policy : w.policy ≡ v.policy
-  pub switched : Switches v w
+
+-- the same caller later: it took turns, and installed what they say
+pub record IsSame {K : Type 0} (v w : Worker K) : Type 0 where
+  pub kept : IsKept v w
+  pub course : List Said
+  pub went : (h : Header) → HasSizes v.desc.who.config h → Went h (place_of v) course (place_of w)
+  pub installs : (known w.desc).installs ≡ (known v.desc).installs ++ all_installed course
 
 -- nothing is done, and there is room for all; alg is the memory's algorithm at the start
 pub record Starts {K : Type 0} (desc : Handle K) (items : List Item) (regions : List Region) (alg : Alg) (policy : Policy) (w : Worker K) : Type 0 where
@@ -215,30 +193,14 @@ pub record DoneIrrev {K : Type 0} (v w : Worker K) : Type 0 where
   pub told : w.out ≡ record v.out { replies = v.out.replies ++ 1 ∷ [] }
   pub is : w ≡ record v { operations_left = w.operations_left; out = w.out; granted = true }
 
--- what was installed in a turn
-abbrev pub installed : Said → List Alg
-installed (TryBegin b) = []
-installed (Reply op reply) = []
-installed (Stopped op stop) = []
-installed (TryCancel c) = []
-installed (TryIrrevocable r) = []
-installed (TryCommit c) = []
-installed (TryClose c) = []
-installed (Looked l) = []
-installed (Installed alg) = alg ∷ []
-installed (Reserved reads writes) = []
-installed Idle = []
-installed Dropped = []
-installed Reopened = []
-
 -- an open attempt: where it is in the middle of its commit its script is over; where it must become irrevocable and is not yet, it has done nothing
 pub record IsUnderWay {K : Type 0} (good : List ℕ → Type 0) (words : ℕ) (w : Worker K) : Type 0 where
   pub going : Going good words w.regions.now (script_at w.items_left.now) w.operations_left.now (known w.desc) w.alg w.granted w.out w.wrote
   pub here : BeforeTx w.items_left.now
   -- no range of words is out of the transactions
   pub unfenced : (known w.desc).fence ≡ 0
-  pub committing : (known w.desc).committing ≡ true → (w.operations_left.now ≡ []) × ((w.must && not (sure (place_of w))) ≡ false)
-  pub waits : w.must ≡ true → sure (place_of w) ≡ false → w.wrote ≡ false
+  pub committing : (known w.desc).committing ≡ true → (w.operations_left.now ≡ []) × ((w.must && not (irrevocable (place_of w))) ≡ false)
+  pub waits : w.must ≡ true → irrevocable (place_of w) ≡ false → w.wrote ≡ false
 
 module _ {K : Type 0} (good : List ℕ → Type 0) (stm : Stm K) where
   pub record Sound (w : Worker K) : Type 0 where
@@ -249,8 +211,6 @@ module _ {K : Type 0} (good : List ℕ → Type 0) (stm : Stm K) where
     pub todo : scripts_of (caller_of w.desc.who.role) w.items_left.now ≡ drop (length w.rows.items) (scripts_of (caller_of w.desc.who.role) w.all.now)
     pub within : length w.rows.items ≤ length (scripts_of (caller_of w.desc.who.role) w.all.now)
     pub counted : IsCounted w.failed w.must
-    pub switched : DidSwitches w.policy w.all.now w.items_left.now (known w.desc)
-    pub asked : IsAskedBy w.policy w.chosen
     pub fits : ItemsFit good stm.config.words w.regions.now (caller_of w.desc.who.role) w.items_left.now
     pub roomy : Roomy w
     pub turning : ToSwitch w.phase w.chosen w.items_left.now
@@ -281,7 +241,7 @@ module _ {K : Type 0} (good : List ℕ → Type 0) (stm : Stm K) where
   -- the open attempt can't be cancelled, and stands as it did
   pub record Refused (v w : Worker K) : Type 0 where
     pub sound : Sound w
-    pub is_sure : sure (place_of v) ≡ true
+    pub irrevocable_now : irrevocable (place_of v) ≡ true
     pub now : place_of w ≡ place_of v
     pub knows : known w.desc ≡ known v.desc
     pub same : IsSame v w

@@ -3,5 +3,6 @@
 
 pub mod laws;
 pub mod leaving;
+mod room;
 pub mod turnstile;
 pub mod worker;

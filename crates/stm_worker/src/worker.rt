@@ -12,13 +12,14 @@ ghost use Rattle.stm_tx.specs.Descs.{known};
 ghost use Rattle.tx_answers.specs.Known.{IsRunning, caller_of, is_irrevocable};
 ghost use Rattle.tx_answers.specs.KnownLaws.{Carries};
 ghost use Rattle.stm_trace.specs.Adapting.{asked_by, no_profile, other_than, outcome_of};
-ghost use Rattle.stm_trace.specs.Places.{script_at, rest_of, writes, is_forced, sure};
+ghost use Rattle.stm_trace.specs.Places.{script_at, rest_of, writes, is_forced, irrevocable};
 ghost use Rattle.stm_trace.specs.Turns.{BeforeTx, BeforeSwitch, MustSwitch, MustSwitchTo, SwitchesTo, Next, Comes, Lengthens, MaySay, MayWind, is_call};
 ghost use Rattle.stm_worker.specs.Tellings.{StoppedBy};
-ghost use Rattle.stm_worker.specs.Workers.{Sound, Starved, Turned, Refused, Roomy, WroteRow, EndsWith, IsCounted, Starts, DoneIrrev, adapted, gave_up, gave_up_as, made_way, stopped_by, place_of, spares};
+ghost use Rattle.stm_worker.specs.Workers.{Sound, Starved, Turned, Refused, Roomy, WroteRow, EndsWith, IsCounted, Starts, DoneIrrev, adapted, gave_up, gave_up_as, made_way, stopped_by, place_of};
 
+use crate::room::Room;
 use crate::turnstile::Turnstile;
-use std::alloc::{AllocError, Global};
+use std::alloc::Global;
 use std::mem;
 use stm_model::alg::Alg;
 use stm_model::memory::Memory;
@@ -207,27 +208,6 @@ fn operate<K: MemRule>(
     perform(&mut live, regions, &op, out)
 }
 
-/// Empty room for the replies of each transaction, the last one's first, behind an empty one of no room.
-fn rooms(alloc: Global, items: &[Item]) -> Result<Vec<Replies>, Memory>
-    ensures { IfOk result (λ spare. spare.items ≡ spares items.now) }
-{
-    let mut spare = Vec::with_capacity(alloc, items.len().saturating_add(1))?;
-    push_room(&mut spare, Replies::new(alloc, 0)?)?;
-    for done in 0..items.len() {
-        if let Item::Tx { caller: _, script } = &items[items.len() - 1 - done] {
-            push_room(&mut spare, Replies::new(alloc, script.as_slice().len())?)?;
-        }
-    }
-    Ok(spare)
-}
-
-fn push_room(spare: &mut Vec<Replies>, room: Replies) -> Result<(), AllocError>
-    ensures { OnOk result (spare.new.items ≡ spare.old.items ++ room ∷ []) }
-{
-    spare.push(room)?;
-    Ok(())
-}
-
 impl<'a, K: MemRule> Worker<'a, K> {
     /// A worker that has done nothing, with room for all its rows and replies; `alg` is the memory's
     /// algorithm at the start.
@@ -244,14 +224,8 @@ impl<'a, K: MemRule> Worker<'a, K> {
     ) -> Result<Worker<'a, K>, Memory>
         ensures { IfOk result (Starts desc items.now regions.now alg policy) }
     {
-        let mut spare = rooms(alloc, items)?;
-        let out = match spare.pop() {
-            Some(out) => out,
-            None => unreachable!(),
-        };
-        let mut rows = Vec::new(alloc);
-        rows.reserve(spare.len())?;
-        let profile = Profile::new(alloc)?;
+        // made apart, so that the descriptor is there at one early exit alone
+        let room = Room::new(alloc, items)?;
         Ok(Worker {
             desc,
             all: items,
@@ -261,15 +235,15 @@ impl<'a, K: MemRule> Worker<'a, K> {
             phase: Phase::Between,
             alg,
             operations_left: &[],
-            out,
+            out: room.out,
             wrote: false,
             granted: false,
             passed: false,
             regions,
-            rows,
-            spare,
+            rows: room.rows,
+            spare: room.spare,
             policy,
-            profile,
+            profile: room.profile,
             chosen: None,
         })
     }
@@ -370,7 +344,7 @@ impl<'a, K: MemRule> Worker<'a, K> {
     /// Whether the open attempt must become irrevocable before it goes on.
     fn is_forced(&self) -> bool
         requires running { (known self.now.desc).running ≡ true }
-        requires told { sure (place_of self.now) ≡ is_irrevocable (known self.now.desc) }
+        requires told { irrevocable (place_of self.now) ≡ is_irrevocable (known self.now.desc) }
         ensures { result ≡ is_forced (place_of self.now) }
     {
         self.must && !is_irrevocable(&self.desc)

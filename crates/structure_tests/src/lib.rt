@@ -1,8 +1,10 @@
-//! Tests of the structures over a plain memory: tx_queue, tx_sums, tx_regions.
+//! Tests of the structures over a plain memory: tx_places, tx_queue, tx_sums, tx_regions.
 #![tactic(auto)]
 
 #[cfg(test)]
 mod shared;
+#[cfg(test)]
+mod tx_places_tests;
 #[cfg(test)]
 mod tx_queue_tests;
 #[cfg(test)]

@@ -72,13 +72,13 @@ StartMoves Serial v w = w.start ≡ v.start
 
 -- by how much at most a call raises the clock that leaves the attempt open: TML's first write makes it odd, and the attempt irrevocable
 abbrev pub write_rise : Alg → Bool → ℕ
-write_rise Cgl sure = 0
+write_rise Cgl irrevocable = 0
 write_rise Tml true = 0
 write_rise Tml false = 1
-write_rise OrecLazy sure = 0
-write_rise OrecEager sure = 0
-write_rise RingSw sure = 0
-write_rise Serial sure = 0
+write_rise OrecLazy irrevocable = 0
+write_rise OrecEager irrevocable = 0
+write_rise RingSw irrevocable = 0
+write_rise Serial irrevocable = 0
 
 -- the attempt stays open, with or without the gate
 pub record Continues (v w : Known) : Type 0 where
@@ -315,12 +315,12 @@ module _ (good : List ℕ → Type 0) (c : Config) (n : ℕ) where
     pub before : (j : ℕ) → j < k → j ≢ n → member w.checked j ≡ true
 
   -- the attempt is irrevocable now: it was so before, and nothing changed; or its start is the clock, and but under Serial it has closed the gate and is alone
-  pub record BecomesSure (v w : Known) : Type 0 where
+  pub record BecomesIrrevocable (v w : Known) : Type 0 where
     pub continues : Continues v w
     pub still : w.rises ≡ v.rises
     pub uncommitted : w.committing ≡ false
     pub log : w.log ≡ v.log
-    pub sure : is_irrevocable w ≡ true
+    pub irrevocable : is_irrevocable w ≡ true
     pub opaque : IsOpaque w
     pub before : is_irrevocable v ≡ true → w ≡ v
     pub now : is_irrevocable v ≡ false → (w.granted ≡ true) × Found Clock w.start v w
@@ -341,7 +341,7 @@ module _ (good : List ℕ → Type 0) (c : Config) (n : ℕ) where
 
   -- what `try_irrevocable` tells
   abbrev pub Irrevs : Irrev → Known → Known → Type 0
-  Irrevs grants.Granted v w = BecomesSure v w
+  Irrevs grants.Granted v w = BecomesIrrevocable v w
   Irrevs (grants.Busy caller status) v w = Waits v w × (w.holds ≡ true) × IsBusy caller status v w
   Irrevs (grants.Taken gate) v w = Waits v w × (w.holds ≡ v.holds) × (w.checked ≡ v.checked) × Found Gate gate v w × NamesOther c n (holder_of gate) × HasOthers
   Irrevs (grants.Conflict cause) v w = Quits v w × Conflicts c n None cause v w × HasOthers

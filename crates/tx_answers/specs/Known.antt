@@ -1,6 +1,6 @@
 -- What contracts see of a caller: its part in the history, its attempt, and the steps that it took.
 use Rattle.std.specs.Prelude.{ℕ, ◌≡◌, ◌≤◌, ◌+◌, ◌&&◌, max, not, Bool, true, false, if◌then◌else◌, List, [], ◌∷◌, ◌++◌, reverse, replicate, Option, Some, None}
-use Rattle.stm_model.specs.Algorithms.{is_sure}
+use Rattle.stm_model.specs.Algorithms.{irrevocable_under}
 use Rattle.stm_model.specs.declared.alg.Alg.{Alg}
 use Rattle.stm_model.specs.declared.alg.Alg.TheVariants.{Cgl, Tml, OrecLazy, OrecEager, RingSw, Serial}
 use Rattle.stm_model.specs.Histories.{Entry, Ascending}
@@ -192,7 +192,7 @@ abbrev pub wrote : Known → Bool
 wrote v = not (is_empty v.log.writes)
 
 abbrev pub is_irrevocable : Known → Bool
-is_irrevocable v = is_sure v.alg v.granted (wrote v)
+is_irrevocable v = irrevocable_under v.alg v.granted (wrote v)
 
 -- by how much its steps raised the clock, with what an open attempt may still raise it
 abbrev pub owed : Known → ℕ

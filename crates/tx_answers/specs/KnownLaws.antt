@@ -3,8 +3,8 @@ use Rattle.std.proofs.Common.{ℕ, ◌≡◌, ◌≤◌, ◌+◌, List, [], ◌�
 use Rattle.std.specs.Prelude.{Some, not, ◌==◌, if◌then◌else◌}
 use Rattle.std.proofs.lemmas.Bool.Decides.{nat_tests}
 use Rattle.std.proofs.lemmas.List.{append-nil}
-use Rattle.stm_model.specs.Algorithms.{is_sure}
-use Rattle.stm_model.specs.AlgorithmLaws.{quit-low, sure-writer}
+use Rattle.stm_model.specs.Algorithms.{irrevocable_under}
+use Rattle.stm_model.specs.AlgorithmLaws.{quit-low, irrevocable-writer}
 use Rattle.stm_model.specs.Histories.{Entry, Ascending}
 use Rattle.stm_model.specs.HistoryLaws.{Within}
 use Rattle.stm_model.specs.Logs.{Log, Writes}
@@ -37,7 +37,7 @@ pub record Carries (v w : Known) : Type 0 where
   pub pays : owed w ≤ owed v
   pub going : w.running ≡ true → IsStillIn v w
   -- an irrevocable attempt goes on, and stays so
-  pub sure : v.running ≡ true → is_irrevocable v ≡ true → (w.running ≡ true) × (is_irrevocable w ≡ true)
+  pub irrevocable : v.running ≡ true → is_irrevocable v ≡ true → (w.running ≡ true) × (is_irrevocable w ≡ true)
 
 pub grows-same : (v w : Known) → w.seen ≡ v.seen → w.front ≡ v.front → (more : List TrailItem) → w.trail ≡ more ++ v.trail → w.reads_limit ≡ v.reads_limit → w.writes_limit ≡ v.writes_limit → w.fenced ≡ v.fenced → Grows v w
 grows-same v w s f more t r l e = record { later = []; is = s ∙ sym (append-nil v.seen); ascending = tt; up_to = tt; front_rose = omega arith; more = more; trail = t; reads_limit = r; writes_limit = l; fenced = e }
@@ -68,7 +68,7 @@ grows-trans u v w a b =
     }
 
 pub carries-refl : (v : Known) → Carries v v
-carries-refl v = record { made = refl; grows = grows-same v v refl refl [] refl refl refl refl; closing = refl; alg = refl; installs = refl; base = refl; pays = omega arith; going = λ r. record { running = r; start = le_refl v.start; granted = refl; holds = refl; depth = refl; marks = refl; fence = refl }; sure = λ r i. (r, i) }
+carries-refl v = record { made = refl; grows = grows-same v v refl refl [] refl refl refl refl; closing = refl; alg = refl; installs = refl; base = refl; pays = omega arith; going = λ r. record { running = r; start = le_refl v.start; granted = refl; holds = refl; depth = refl; marks = refl; fence = refl }; irrevocable = λ r i. (r, i) }
 
 pub carries-trans : (u v w : Known) → Carries u v → Carries v w → Carries u w
 carries-trans u v w a b = record {
@@ -80,7 +80,7 @@ carries-trans u v w a b = record {
   base = b.base ∙ a.base;
   pays = (let x = a.pays in let y = b.pays in omega arith);
   going = λ r. let y = b.going r in let x = a.going y.running in record { running = x.running; start = (let m = x.start in let n = y.start in omega arith); granted = y.granted ∙ x.granted; holds = y.holds ∙ x.holds; depth = y.depth ∙ x.depth; marks = y.marks ∙ x.marks; fence = y.fence ∙ x.fence };
-  sure = λ r i. let m = a.sure r i in b.sure m.0 m.1;
+  irrevocable = λ r i. let m = a.irrevocable r i in b.irrevocable m.0 m.1;
 }
 
 some-item : (a x : ℕ) (ws : List (ℕ × ℕ)) → item_at a ws ≡ Some x → not (is_empty ws) ≡ true
@@ -93,11 +93,11 @@ writes-some l k a x w =
     let put_there : item_at a (put a x l.writes) ≡ Some x = put-item a x a l.writes ∙ ap (λ t. if t then Some x else item_at a l.writes) here in
     some-item a x k.writes (w.1 a ∙ put_there)
 
-sure-along : (v w : Known) (some : Bool) → w.alg ≡ v.alg → w.granted ≡ v.granted → wrote w ≡ some → is_sure v.alg v.granted some ≡ true → is_irrevocable w ≡ true
-sure-along v w some alg granted is h = (λ i. is_sure (alg i) (granted i) (is i)) ∙ h
+irrevocable-along : (v w : Known) (some : Bool) → w.alg ≡ v.alg → w.granted ≡ v.granted → wrote w ≡ some → irrevocable_under v.alg v.granted some ≡ true → is_irrevocable w ≡ true
+irrevocable-along v w some alg granted is h = (λ i. irrevocable_under (alg i) (granted i) (is i)) ∙ h
 
 carries-goes : (v w : Known) → v.running ≡ true → v.closing ≡ false → GoesOn v w → (is_irrevocable v ≡ true → is_irrevocable w ≡ true) → Carries v w
-carries-goes v w running closing g sure = let k = g.continues in record {
+carries-goes v w running closing g irrevocable = let k = g.continues in record {
   made = k.made;
   grows = k.grows;
   closing = k.closing ∙ sym closing;
@@ -106,14 +106,14 @@ carries-goes v w running closing g sure = let k = g.continues in record {
   base = k.base;
   pays = owed-goes v w k.running running k.base;
   going = λ r. record { running = running; start = k.later; granted = g.granted; holds = g.holds; depth = k.depth; marks = g.marks; fence = k.fence };
-  sure = λ r i. (k.running, sure i);
+  irrevocable = λ r i. (k.running, irrevocable i);
 }
   where
     owed-goes : (v w : Known) → w.running ≡ true → v.running ≡ true → w.base ≡ v.base → owed w ≤ owed v
     owed-goes v w now before b = grind (arith, now, before, b)
 
 pub carries-wrote : (v w : Known) (a x : ℕ) → v.running ≡ true → v.closing ≡ false → GoesOn v w → Writes v.log a x w.log → Carries v w
-carries-wrote v w a x running closing g writes = carries-goes v w running closing g (λ h. sure-along v w true g.continues.alg g.granted (writes-some v.log w.log a x writes) (sure-writer v.alg v.granted (wrote v) h))
+carries-wrote v w a x running closing g writes = carries-goes v w running closing g (λ h. irrevocable-along v w true g.continues.alg g.granted (writes-some v.log w.log a x writes) (irrevocable-writer v.alg v.granted (wrote v) h))
 
 pub carries-quits : (v w : Known) → v.running ≡ true → v.closing ≡ false → Quits v w → Carries v w
 carries-quits v w running closing q = record {
@@ -125,7 +125,7 @@ carries-quits v w running closing q = record {
   base = q.ends.base;
   pays = owed-quits v w q.ends.idle.1 running (let r = q.rises.1 in let l = quit-low v.alg (wrote v) in omega arith);
   going = λ r. absurd (elim-no w.running r q.ends.idle.1);
-  sure = λ r i. absurd (elim-no (is_irrevocable v) i q.revocable);
+  irrevocable = λ r i. absurd (elim-no (is_irrevocable v) i q.revocable);
 }
   where
     owed-quits : (v w : Known) → w.running ≡ false → v.running ≡ true → w.rises ≤ v.base + 2 → owed w ≤ owed v

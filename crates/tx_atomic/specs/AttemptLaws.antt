@@ -1,8 +1,9 @@
 -- Laws of attempts.
-use Rattle.std.proofs.Common.{ℕ, ◌≡◌, ◌≤◌, ◌∙◌, List, true, false, arith, sym, ap, subst, inl, inr}
-use Rattle.std.specs.Prelude.{Option, Some, None, ◌⊎◌}
+use Rattle.std.proofs.Common.{ℕ, ◌≡◌, ◌≤◌, ◌∙◌, List, [], true, false, arith, sym, ap, subst, inl, inr}
+use Rattle.std.specs.Prelude.{Option, Some, None, ◌⊎◌, not}
 use Rattle.rule_base.specs.declared.seats.Who.{Who}
 use Rattle.stm_model.specs.Logs.{Log}
+use Rattle.stm_model.specs.Memories.{is_empty}
 use Rattle.stm_rule.specs.Callers.{Handle, IsSameCaller}
 use Rattle.stm_model.specs.declared.config.Config.{Config}
 use Rattle.stm_model.specs.declared.stop.Stop.{Stop}
@@ -40,6 +41,14 @@ took-since good c n tells late early u v w made grows le t = record {
   time = t.time;
   commits = t.commits;
 }
+
+-- what took effect and had written nothing left no entry
+pub took-nothing : (good : List ℕ → Type 0) (c : Config) (n : ℕ) (tells : Log → Type 0) (from : ℕ) (u w : Known) → ((log : Log) → tells log → log.writes ≡ []) → TookEffect good c n tells from u w → w.made ≡ u.made
+took-nothing good c n tells from u w nothing t = by t.commits
+  where
+    by : Commits good c n (Committed t.time) t.before w ⊎ Commits good c n (ReadOnly t.time) t.before w → w.made ≡ u.made
+    by (inl h) = absurd (let f : false ≡ true = sym (ap (λ ws. not (is_empty ws)) (nothing t.before.log t.told)) ∙ h.wrote in cc)
+    by (inr h) = h.0.made ∙ t.made
 
 -- an attempt that goes on as it was can still be cancelled
 pub still-revocable : (v w : Known) → w.alg ≡ v.alg → w.granted ≡ v.granted → w.log ≡ v.log → is_irrevocable v ≡ false → is_irrevocable w ≡ false

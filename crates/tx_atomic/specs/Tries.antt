@@ -15,7 +15,7 @@ use Rattle.tx_atomic.specs.Tallies.{noted, noted_times, with_commit, with_promot
 
 -- one attempt: whether it was to be irrevocable before it did anything, how often that found another in an attempt, how often another was faster at its commit, and how it ended, None where it committed
 pub record Try : Type 0 where
-  pub sure : Bool
+  pub irrevocable : Bool
   pub busy : ℕ
   pub again : ℕ
   pub ended : Option Ended
@@ -26,7 +26,7 @@ has_committed (Some e) = false
 
 -- the tally behind its calls, and behind it; who was to be irrevocable and committed was promoted
 abbrev pub waited : Try → Tally → Tally
-waited x t = noted_times x.again ends.Again (if x.sure && has_committed x.ended then with_promotion (noted_times x.busy ends.Busy t) else noted_times x.busy ends.Busy t)
+waited x t = noted_times x.again ends.Again (if x.irrevocable && has_committed x.ended then with_promotion (noted_times x.busy ends.Busy t) else noted_times x.busy ends.Busy t)
 
 abbrev pub counted_end : Option Ended → Tally → Tally
 counted_end None t = with_commit t
@@ -120,7 +120,7 @@ module _ (good : List ℕ → Type 0) (c : Config) (n : ℕ) where
   -- attempts from u to w, one behind the other, the latest first: each was to be irrevocable where those before it say so
   abbrev pub WereTried : List Try → Known → Known → Type 0
   WereTried [] u w = w ≡ u
-  WereTried (x ∷ xs) u w = (v : Known) × WereTried xs u v × WasTried x v w × (x.sure ≡ is_due xs)
+  WereTried (x ∷ xs) u w = (v : Known) × WereTried xs u v × WasTried x v w × (x.irrevocable ≡ is_due xs)
 
   -- all failed, and none for the clock
   abbrev pub AllFailed : List Try → Type 0
@@ -133,11 +133,11 @@ module _ (good : List ℕ → Type 0) (c : Config) (n : ℕ) where
   LastEnded last (x ∷ xs) = (x.ended ≡ last) × AllFailed xs
 
   -- one attempt, and the tally behind its calls
-  pub record Tried (sure : Bool) (ended : Option Ended) (u w : Known) (s t : Tally) : Type 0 where
+  pub record Tried (irrevocable : Bool) (ended : Option Ended) (u w : Known) (s t : Tally) : Type 0 where
     pub busy : ℕ
     pub again : ℕ
-    pub was : WasTried (record { sure = sure; busy = busy; again = again; ended = ended }) u w
-    pub counted : t ≡ waited (record { sure = sure; busy = busy; again = again; ended = ended }) s
+    pub was : WasTried (record { irrevocable = irrevocable; busy = busy; again = again; ended = ended }) u w
+    pub counted : t ≡ waited (record { irrevocable = irrevocable; busy = busy; again = again; ended = ended }) s
 
   -- a run of attempts from u to w of which the last ended so, and the tally behind it: each call that was refused is counted once
   pub record Ran (last : Option Ended) (u w : Known) (s t : Tally) : Type 0 where
@@ -156,14 +156,14 @@ module _ (good : List ℕ → Type 0) (c : Config) (n : ℕ) where
     pub low : is_due tries ≡ false → failed ≡ crossed tries
 
   -- an attempt began, and was made irrevocable where it was to be
-  pub record Opens (sure : Bool) (u w : Known) (s t : Tally) : Type 0 where
+  pub record Opens (irrevocable : Bool) (u w : Known) (s t : Tally) : Type 0 where
     pub busy : ℕ
     pub begun : Known
     pub begins : Grows u begun
     pub asked : Known
     pub waits : FindsBusy busy begun asked
     pub goes : Grows asked w
-    pub counted : t ≡ (if sure then with_promotion (noted_times busy ends.Busy s) else noted_times busy ends.Busy s)
+    pub counted : t ≡ (if irrevocable then with_promotion (noted_times busy ends.Busy s) else noted_times busy ends.Busy s)
 
   -- it asked to be irrevocable, and the last such call granted that or ended it
   abbrev pub AsksBy : Option Ended → Known → Known → Type 0

@@ -85,8 +85,8 @@ module _ (good : List ℕ → Type 0) (c : Config) (n : ℕ) where
       let acted = grows-trans u t.asked t.acted asked t.acts in
       grows-trans u t.acted t.before acted (again-grows x.again t.acted t.before t.again)
 
-  pub tried-full : (sure : Bool) (s t : Tally) (u w : Known) → Tried good c n sure (Some ends.ClockFull) u w s t → (clock : ℕ) × FindsFull clock u w
-  tried-full sure s t u w h =
+  pub tried-full : (irrevocable : Bool) (s t : Tally) (u w : Known) → Tried good c n irrevocable (Some ends.ClockFull) u w s t → (clock : ℕ) × FindsFull clock u w
+  tried-full irrevocable s t u w h =
       let f = refused-full h.was.before w h.was.last in
       (f.0, full-earlier f.0 u h.was.before w (before-grows _ u w h.was) f.1)
 
@@ -95,8 +95,8 @@ module _ (good : List ℕ → Type 0) (c : Config) (n : ℕ) where
   failing-none v s = record { tries = []; were = refl; all = tt; counted = refl; due = refl; low = λ less. refl }
 
   -- one more, which failed
-  pub failing-more : (failed : ℕ) (sure : Bool) (e : Ended) (u v w : Known) (r s t : Tally) → e ≢ ends.ClockFull → sure ≡ leb 16 failed → Failing good c n failed u v r s → Tried good c n sure (Some e) v w s t → Failing good c n (failed_next failed e) u w r (noted e t)
-  failing-more failed sure e u v w r s t apart is h x = record {
+  pub failing-more : (failed : ℕ) (irrevocable : Bool) (e : Ended) (u v w : Known) (r s t : Tally) → e ≢ ends.ClockFull → irrevocable ≡ leb 16 failed → Failing good c n failed u v r s → Tried good c n irrevocable (Some e) v w s t → Failing good c n (failed_next failed e) u w r (noted e t)
+  failing-more failed irrevocable e u v w r s t apart is h x = record {
     tries = this ∷ h.tries;
     were = (v, h.were, x.was, is ∙ h.due);
     all = ((e, refl, apart), h.all);
@@ -106,7 +106,7 @@ module _ (good : List ℕ → Type 0) (c : Config) (n : ℕ) where
   }
     where
       this : Try
-      this = record { sure = sure; busy = x.busy; again = x.again; ended = Some e }
+      this = record { irrevocable = irrevocable; busy = x.busy; again = x.again; ended = Some e }
 
       same : (leb 16 failed ≡ (any_full h.tries || leb 16 (0 + crossed h.tries))) × ((any_full h.tries || leb 16 (0 + crossed h.tries)) ≡ false → failed ≡ 0 + crossed h.tries)
       same = let z : 0 + crossed h.tries ≡ crossed h.tries = omega arith in rw z (h.due, h.low)
@@ -123,8 +123,8 @@ module _ (good : List ℕ → Type 0) (c : Config) (n : ℕ) where
       next ends.ClockFull = due-full failed (any_full h.tries) (crossed h.tries) h.due h.low
 
   -- the last one
-  pub ran : (failed : ℕ) (sure : Bool) (o : Option Ended) (u v w : Known) (r s t : Tally) → sure ≡ leb 16 failed → Failing good c n failed u v r s → Tried good c n sure o v w s t → Ran good c n o u w r (counted_end o t)
-  ran failed sure o u v w r s t is h x = record {
+  pub ran : (failed : ℕ) (irrevocable : Bool) (o : Option Ended) (u v w : Known) (r s t : Tally) → irrevocable ≡ leb 16 failed → Failing good c n failed u v r s → Tried good c n irrevocable o v w s t → Ran good c n o u w r (counted_end o t)
+  ran failed irrevocable o u v w r s t is h x = record {
     tries = this ∷ h.tries;
     were = (v, h.were, x.was, is ∙ h.due);
     ended = (refl, h.all);
@@ -132,40 +132,40 @@ module _ (good : List ℕ → Type 0) (c : Config) (n : ℕ) where
   }
     where
       this : Try
-      this = record { sure = sure; busy = x.busy; again = x.again; ended = o }
+      this = record { irrevocable = irrevocable; busy = x.busy; again = x.again; ended = o }
 
   -- an attempt from its parts: it didn't begin
-  pub tried-unbegun : (sure : Bool) (e : Ended) (u w : Known) (t : Tally) → IsRefused good c n e u w → Tried good c n sure (Some e) u w t t
+  pub tried-unbegun : (irrevocable : Bool) (e : Ended) (u w : Known) (t : Tally) → IsRefused good c n e u w → Tried good c n irrevocable (Some e) u w t t
   tried-unbegun true e u w t h = record { busy = 0; again = 0; was = record { begun = u; begins = grows-refl u; asked = u; busy = refl; acted = u; acts = grows-refl u; before = u; again = refl; last = h }; counted = refl }
   tried-unbegun false e u w t h = record { busy = 0; again = 0; was = record { begun = u; begins = grows-refl u; asked = u; busy = refl; acted = u; acts = grows-refl u; before = u; again = refl; last = h }; counted = refl }
 
   -- it was not made irrevocable
-  pub tried-asked : (sure : Bool) (e : Ended) (u v w : Known) (s t : Tally) → Grows u v → Asks good c n (Some e) v w s t → Tried good c n sure (Some e) u w s t
+  pub tried-asked : (irrevocable : Bool) (e : Ended) (u v w : Known) (s t : Tally) → Grows u v → Asks good c n (Some e) v w s t → Tried good c n irrevocable (Some e) u w s t
   tried-asked true e u v w s t g a = record { busy = a.busy; again = 0; was = record { begun = v; begins = g; asked = a.asked; busy = a.waits; acted = a.asked; acts = grows-refl a.asked; before = a.asked; again = refl; last = a.last }; counted = a.counted }
   tried-asked false e u v w s t g a = record { busy = a.busy; again = 0; was = record { begun = v; begins = g; asked = a.asked; busy = a.waits; acted = a.asked; acts = grows-refl a.asked; before = a.asked; again = refl; last = a.last }; counted = a.counted }
 
   -- it was
-  pub opens-asked : (sure : Bool) (u v w : Known) (s t : Tally) → sure ≡ true → Grows u v → Asks good c n None v w s t → Opens good c n sure u w s t
+  pub opens-asked : (irrevocable : Bool) (u v w : Known) (s t : Tally) → irrevocable ≡ true → Grows u v → Asks good c n None v w s t → Opens good c n irrevocable u w s t
   opens-asked true u v w s t is g a = record { busy = a.busy; begun = v; begins = g; asked = a.asked; waits = a.waits; goes = a.last.continues.grows; counted = a.counted }
   opens-asked false u v w s t is g a = absurd cc
 
   -- it was not to be
-  pub opens-plain : (sure : Bool) (u w : Known) (t : Tally) → sure ≡ false → Grows u w → Opens good c n sure u w t t
+  pub opens-plain : (irrevocable : Bool) (u w : Known) (t : Tally) → irrevocable ≡ false → Grows u w → Opens good c n irrevocable u w t t
   opens-plain true u w t is g = absurd cc
   opens-plain false u w t is g = record { busy = 0; begun = w; begins = g; asked = w; waits = refl; goes = grows-refl w; counted = refl }
 
   -- what it did was refused
-  pub tried-stopped : (sure : Bool) (e : Ended) (u v w : Known) (s t : Tally) → (sure ≡ true → ⊥) → Opens good c n sure u v s t → IsStopped good c n e v w → Tried good c n sure (Some e) u w s t
+  pub tried-stopped : (irrevocable : Bool) (e : Ended) (u v w : Known) (s t : Tally) → (irrevocable ≡ true → ⊥) → Opens good c n irrevocable u v s t → IsStopped good c n e v w → Tried good c n irrevocable (Some e) u w s t
   tried-stopped true e u v w s t never o x = absurd (never refl)
   tried-stopped false e u v w s t never o x = record { busy = o.busy; again = 0; was = record { begun = o.begun; begins = o.begins; asked = o.asked; busy = o.waits; acted = x.before; acts = grows-trans o.asked v x.before o.goes x.goes; before = x.before; again = refl; last = x.last }; counted = o.counted }
 
   -- its commit was
-  pub tried-uncommitted : (sure : Bool) (e : Ended) (u v x w : Known) (r s t : Tally) → (sure ≡ true → ⊥) → Opens good c n sure u v r s → Grows v x → Finishes good c n (Some e) x w s t → Tried good c n sure (Some e) u w r t
+  pub tried-uncommitted : (irrevocable : Bool) (e : Ended) (u v x w : Known) (r s t : Tally) → (irrevocable ≡ true → ⊥) → Opens good c n irrevocable u v r s → Grows v x → Finishes good c n (Some e) x w s t → Tried good c n irrevocable (Some e) u w r t
   tried-uncommitted true e u v x w r s t never o g f = absurd (never refl)
   tried-uncommitted false e u v x w r s t never o g f = record { busy = o.busy; again = f.again; was = record { begun = o.begun; begins = o.begins; asked = o.asked; busy = o.waits; acted = x; acts = grows-trans o.asked v x o.goes g; before = f.before; again = f.waits; last = f.last }; counted = f.counted ∙ ap (noted_times f.again ends.Again) o.counted }
 
   -- it committed
-  pub tried-done : (sure : Bool) (u v x w : Known) (r s t : Tally) → Opens good c n sure u v r s → Grows v x → Finishes good c n None x w s t → Tried good c n sure None u w r t
+  pub tried-done : (irrevocable : Bool) (u v x w : Known) (r s t : Tally) → Opens good c n irrevocable u v r s → Grows v x → Finishes good c n None x w s t → Tried good c n irrevocable None u w r t
   tried-done true u v x w r s t o g f = record { busy = o.busy; again = f.again; was = record { begun = o.begun; begins = o.begins; asked = o.asked; busy = o.waits; acted = x; acts = grows-trans o.asked v x o.goes g; before = f.before; again = f.waits; last = f.last }; counted = f.counted ∙ ap (noted_times f.again ends.Again) o.counted }
   tried-done false u v x w r s t o g f = record { busy = o.busy; again = f.again; was = record { begun = o.begun; begins = o.begins; asked = o.asked; busy = o.waits; acted = x; acts = grows-trans o.asked v x o.goes g; before = f.before; again = f.waits; last = f.last }; counted = f.counted ∙ ap (noted_times f.again ends.Again) o.counted }
 

@@ -25,8 +25,8 @@ use stm_tx::serving::{
 };
 use tx_answers::answers::{Begin, Commit, Irrev};
 
-/// Tries a transaction once, irrevocably where it is `sure`. Answers what the transaction does, where the attempt
-/// committed; else it left no trace. A `sure` attempt fails only before it does anything.
+/// Tries a transaction once, irrevocably where `irrevocable` says so. Answers what the transaction does, where the
+/// attempt committed; else it left no trace. An irrevocable attempt fails only before it does anything.
 ///
 /// # Errors
 /// How the attempt ended.
@@ -36,7 +36,7 @@ pub fn attempt<R: Wait, K: MemRule, T: Transaction<K>>(
     stm: &Stm<K>,
     pace: &mut Pace,
     transaction: &T,
-    sure: bool,
+    irrevocable: bool,
 ) -> Result<T::Output, Ended>
     requires ready { IsReady stm.now desc.old }
     requires fits { T.fits transaction.now stm.now.rule stm.now.config.words }
@@ -46,22 +46,22 @@ pub fn attempt<R: Wait, K: MemRule, T: Transaction<K>>(
     ensures took { IfOk result (λ r. Took K.good (T.tells transaction.now) stm.now desc.old r desc.new) }
     ensures none { OnErr result ((known desc.new).made ≡ (known desc.old).made) }
     ensures installs { (known desc.new).installs ≡ (known desc.old).installs }
-    ensures tried { MatchResult result (λ r. Tried (K.good stm.now.rule) stm.now.config (number desc.old) sure None (known desc.old) (known desc.new) pace.old.tally pace.new.tally) (λ e. Tried (K.good stm.now.rule) stm.now.config (number desc.old) sure (Some e) (known desc.old) (known desc.new) pace.old.tally pace.new.tally) }
-    ensures unrefused { IfErr result (λ e. sure ≡ true → IsEarly e) }
+    ensures tried { MatchResult result (λ r. Tried (K.good stm.now.rule) stm.now.config (number desc.old) irrevocable None (known desc.old) (known desc.new) pace.old.tally pace.new.tally) (λ e. Tried (K.good stm.now.rule) stm.now.config (number desc.old) irrevocable (Some e) (known desc.old) (known desc.new) pace.old.tally pace.new.tally) }
+    ensures unrefused { IfErr result (λ e. irrevocable ≡ true → IsEarly e) }
 {
-    open(rt, desc, stm, pace, sure)?;
+    open(rt, desc, stm, pace, irrevocable)?;
     let output = act(desc, stm, transaction)?;
     end(rt, desc, stm, pace)?;
     Ok(output)
 }
 
-/// Begins, and asks to be irrevocable where it is to be `sure`.
+/// Begins, and asks to be irrevocable where `irrevocable` says so.
 fn open<R: Wait, K: MemRule>(
     rt: &R,
     desc: &mut Desc<K>,
     stm: &Stm<K>,
     pace: &mut Pace,
-    sure: bool,
+    irrevocable: bool,
 ) -> Result<(), Ended>
     requires stm { IsOf desc.old stm.now }
     requires idle { IsIdle (known desc.old) }
@@ -71,16 +71,16 @@ fn open<R: Wait, K: MemRule>(
     ensures uncounted { CommitsStay pace.old.tally pace.new.tally }
     ensures fresh { OnOk result (IsFresh (known desc.new)) }
     ensures later { OnOk result ((known desc.old).front ≤ (known desc.new).start) }
-    ensures sure { OnOk result (sure ≡ true → is_irrevocable (known desc.new) ≡ true) }
+    ensures irrevocable { OnOk result (irrevocable ≡ true → is_irrevocable (known desc.new) ≡ true) }
     ensures over { OnErr result (IsIdle (known desc.new)) }
     ensures installs { (known desc.new).installs ≡ (known desc.old).installs }
-    ensures opens { OnOk result (Opens (K.good stm.now.rule) stm.now.config (number desc.old) sure (known desc.old) (known desc.new) pace.old.tally pace.new.tally) }
-    ensures tried { IfErr result (λ e. Tried (K.good stm.now.rule) stm.now.config (number desc.old) sure (Some e) (known desc.old) (known desc.new) pace.old.tally pace.new.tally) }
+    ensures opens { OnOk result (Opens (K.good stm.now.rule) stm.now.config (number desc.old) irrevocable (known desc.old) (known desc.new) pace.old.tally pace.new.tally) }
+    ensures tried { IfErr result (λ e. Tried (K.good stm.now.rule) stm.now.config (number desc.old) irrevocable (Some e) (known desc.old) (known desc.new) pace.old.tally pace.new.tally) }
     ensures early { IfErr result IsEarly }
 {
     begin(desc, stm)?;
-    if sure {
-        become_sure(rt, desc, stm, pace)?;
+    if irrevocable {
+        promote(rt, desc, stm, pace)?;
     }
     Ok(())
 }
@@ -128,7 +128,7 @@ fn turn_back<K: MemRule>(desc: &mut Desc<K>, stm: &Stm<K>) -> Commit
 
 /// Asks to be irrevocable until that is granted, or the attempt is over. While another is in an attempt it waits
 /// with the gate closed.
-fn become_sure<R: Wait, K: MemRule>(
+fn promote<R: Wait, K: MemRule>(
     rt: &R,
     desc: &mut Desc<K>,
     stm: &Stm<K>,
@@ -142,7 +142,7 @@ fn become_sure<R: Wait, K: MemRule>(
     ensures uncounted { CommitsStay pace.old.tally pace.new.tally }
     ensures fresh { OnOk result (IsFresh (known desc.new)) }
     ensures later { OnOk result ((known desc.old).start ≤ (known desc.new).start) }
-    ensures sure { OnOk result (is_irrevocable (known desc.new) ≡ true) }
+    ensures irrevocable { OnOk result (is_irrevocable (known desc.new) ≡ true) }
     ensures over { OnErr result (IsIdle (known desc.new)) }
     ensures installs { (known desc.new).installs ≡ (known desc.old).installs }
     ensures asks { MatchResult result (λ r. Asks (K.good stm.now.rule) stm.now.config (number desc.old) None (known desc.old) (known desc.new) pace.old.tally pace.new.tally) (λ e. Asks (K.good stm.now.rule) stm.now.config (number desc.old) (Some e) (known desc.old) (known desc.new) pace.old.tally pace.new.tally) }
@@ -187,7 +187,7 @@ fn act<K: MemRule, T: Transaction<K>>(
     ensures installs { (known desc.new).installs ≡ (known desc.old).installs }
     ensures stopped { IfErr result (λ e. IsStopped (K.good stm.now.rule) stm.now.config (number desc.old) e (known desc.old) (known desc.new)) }
     ensures unrefused { OnErr result (is_irrevocable (known desc.old) ≡ false) }
-    ensures sure { OnOk result (is_irrevocable (known desc.old) ≡ true → is_irrevocable (known desc.new) ≡ true) }
+    ensures irrevocable { OnOk result (is_irrevocable (known desc.old) ≡ true → is_irrevocable (known desc.new) ≡ true) }
 {
     match algorithm(desc) {
         Alg::Cgl => act_by(&OnlyCgl, desc, stm, transaction),
@@ -220,7 +220,7 @@ fn act_by<K: MemRule, T: Transaction<K>, C: Calls>(
     ensures installs { (known desc.new).installs ≡ (known desc.old).installs }
     ensures stopped { IfErr result (λ e. IsStopped (K.good stm.now.rule) stm.now.config (number desc.old) e (known desc.old) (known desc.new)) }
     ensures unrefused { OnErr result (is_irrevocable (known desc.old) ≡ false) }
-    ensures sure { OnOk result (is_irrevocable (known desc.old) ≡ true → is_irrevocable (known desc.new) ≡ true) }
+    ensures irrevocable { OnOk result (is_irrevocable (known desc.old) ≡ true → is_irrevocable (known desc.new) ≡ true) }
 {
     let mut memory = Live {
         calls,

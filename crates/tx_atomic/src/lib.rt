@@ -8,3 +8,4 @@ pub mod pace;
 pub mod switching;
 pub mod tally;
 pub mod transaction;
+pub mod waiting;

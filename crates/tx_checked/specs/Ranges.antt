@@ -1,5 +1,5 @@
 -- What the calls on a range of words tell.
-use Rattle.std.specs.Prelude.{ℕ, ◌≡◌, ◌<◌, ◌≤◌, ◌++◌, ◌∷◌, [], true, false, List, length, Option, Some, None, Result, Ok, Err}
+use Rattle.std.specs.Prelude.{ℕ, ◌≡◌, ◌<◌, ◌≤◌, ◌++◌, ◌∷◌, [], true, List, length, Option, Some, None, Result, Ok, Err}
 use Rattle.stm_model.specs.declared.config.Config.{Config}
 use Rattle.stm_model.specs.declared.config.TheConstants.{CLOCK_LIMIT}
 use Rattle.stm_model.specs.Histories.{Entry, IsLegal}
@@ -56,7 +56,7 @@ pub record IsLeft (e : Refusal) (m n : Member) : Type 0 where
   pub refusal : n.refusal ≡ Some e
 
 abbrev pub HasTaken : ℕ → ℕ → Member → Member → Result (Unit {0}) Refusal → Type 0
-HasTaken from count m n (Ok r) = TakesOut (config_of m) from count (known_to m) (known_to n) × GrowsBeside (known_to m) (known_to n) × ((known_to n).made ≡ (known_to m).made) × (n.range ≡ Some (record { from = from; count = count; changed = false })) × (n.refusal ≡ m.refusal)
+HasTaken from count m n (Ok r) = TakesOut (config_of m) from count (known_to m) (known_to n) × GrowsBeside (known_to m) (known_to n) × ((known_to n).made ≡ (known_to m).made) × (n.range ≡ Some (record { from = from; count = count })) × (n.refusal ≡ m.refusal)
 HasTaken from count m n (Err e) = IsLeft e m n
 
 abbrev pub range_after : Give → Option Range → Option Range
@@ -76,9 +76,5 @@ HasGiven m n (Err e) = IsLeft e m n
 abbrev pub HasReadDirect : ℕ → Member → Member → ℕ → Type 0
 HasReadDirect a m n x = ReadsDirect Any (config_of m) (number_of m) a x (known_to m) (known_to n) × (n.range ≡ m.range) × (n.refusal ≡ m.refusal)
 
-abbrev pub is_changed : Option Range → Option Range
-is_changed None = None
-is_changed (Some r) = Some (record { from = r.from; count = r.count; changed = true })
-
 abbrev pub HasWrittenDirect : ℕ → ℕ → Member → Member → Unit {0} → Type 0
-HasWrittenDirect a x m n r = WritesDirect Any (config_of m) (number_of m) a x (known_to m) (known_to n) × (n.range ≡ is_changed m.range) × (n.refusal ≡ m.refusal)
+HasWrittenDirect a x m n r = WritesDirect Any (config_of m) (number_of m) a x (known_to m) (known_to n) × (n.range ≡ m.range) × (n.refusal ≡ m.refusal)

@@ -1,8 +1,6 @@
 -- Where a caller stands, as its user may ask.
-use Rattle.std.proofs.Common.{sym, subst}
-use Rattle.std.specs.Prelude.{ℕ, ◌≡◌, ◌≤◌, ◌+◌, true, not, Option, Some, List}
+use Rattle.std.specs.Prelude.{ℕ, ◌≡◌, ◌≤◌, ◌+◌, true, Option, Some, List}
 use Rattle.rule_base.specs.Encodings.{fenced}
-use Rattle.stm_model.specs.Memories.{is_empty}
 use Rattle.tx_answers.specs.Fences.{is_within}
 use Rattle.tx_answers.specs.Known.{Known, Fenced, IsIdle, IsRunning}
 use Rattle.tx_checked.specs.declared.member.Range.{Range}
@@ -19,11 +17,7 @@ StandsAs s v = (s ≡ Idle → IsIdle v) × (s ≡ Running → IsRunning v × (v
 
 -- what is written down of a caller's range is true
 abbrev pub IsRangeOf : Range → ℕ → Fenced → Type 0
-IsRangeOf r words f = (f.held ≡ true) × (r.from + r.count ≤ words) × ((a : ℕ) → fenced f.number a ≡ is_within r.from r.count a) × (r.changed ≡ not (is_empty f.log.writes))
+IsRangeOf r words f = (f.held ≡ true) × (r.from + r.count ≤ words) × ((a : ℕ) → fenced f.number a ≡ is_within r.from r.count a)
 
 abbrev pub HasRange : Option Range → ℕ → Fenced → Type 0
 HasRange range words f = (r : Range) → range ≡ Some r → IsRangeOf r words f
-
--- a call that leaves the range alone
-pub same-range : (range : Option Range) (words : ℕ) (f g : Fenced) → HasRange range words f → g ≡ f → HasRange range words g
-same-range range words f g h e = subst (λ (x : Fenced). HasRange range words x) (sym e) h

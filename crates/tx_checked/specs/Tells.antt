@@ -80,8 +80,8 @@ module _ (m n : Member) where
   abbrev pub HasCancelled : Cancel → Type 0
   HasCancelled r = Cancels Any (config_of m) (number_of m) r (known_to m) (known_to n) × (n.range ≡ m.range) × (n.refusal ≡ cancel_refusal r m.refusal)
 
-  abbrev pub IsSure : Irrev → Type 0
-  IsSure r = Irrevs Any (config_of m) (number_of m) r (known_to m) (known_to n) × (n.range ≡ m.range) × (n.refusal ≡ grant_refusal r m.refusal)
+  abbrev pub IsIrrevocable : Irrev → Type 0
+  IsIrrevocable r = Irrevs Any (config_of m) (number_of m) r (known_to m) (known_to n) × (n.range ≡ m.range) × (n.refusal ≡ grant_refusal r m.refusal)
 
 module _ (a : ℕ) (m n : Member) where
   abbrev pub HasReadWord : Read → Type 0

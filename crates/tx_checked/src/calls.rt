@@ -4,7 +4,7 @@ ghost use Rattle.stm_tx.specs.Descs.{known};
 ghost use Rattle.tx_answers.specs.Known.{IsRunning};
 ghost use Rattle.tx_checked.specs.Stands.{StandsAs};
 ghost use Rattle.tx_checked.specs.Misuses.{outside, inside, running};
-ghost use Rattle.tx_checked.specs.Tells.{Tells, HasBegun, HasCommitted, HasCancelled, IsSure, HasSwitched};
+ghost use Rattle.tx_checked.specs.Tells.{Tells, HasBegun, HasCommitted, HasCancelled, IsIrrevocable, HasSwitched};
 
 use crate::member::Member;
 use crate::misuse::Misuse;
@@ -106,7 +106,7 @@ impl Member {
 
     /// Tries to make the attempt irrevocable, as `stm_tx::calls::try_irrevocable` does.
     pub fn become_irrevocable(&mut self) -> Result<Irrev, Misuse>
-        ensures { Tells (running self.old) (IsSure self.old self.new) self.old self.new result }
+        ensures { Tells (running self.old) (IsIrrevocable self.old self.new) self.old self.new result }
     {
         self.is_running()?;
         match calls::try_irrevocable(&mut self.desc, &self.stm) {

@@ -17,8 +17,6 @@ use stm_rule::stm::Stm;
 pub struct Range {
     pub from: usize,
     pub count: usize,
-    /// Whether it wrote there.
-    pub changed: bool,
 }
 
 /// A caller with its share of the memory, which is freed with the last of them.

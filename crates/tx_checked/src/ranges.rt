@@ -1,8 +1,7 @@
 //! Privatization, for a caller with its memory: it takes a range of words out of the transactions, reads and writes
 //! there directly, and gives it back.
-ghost use Rattle.std.specs.Prelude.{◌≡◌, ◌≤◌, ◌+◌, None, Some, true, not, OnOk, OnErr, IfOk, IfErr};
+ghost use Rattle.std.specs.Prelude.{◌≡◌, ◌≤◌, ◌+◌, None, Some, true, OnOk, OnErr, IfOk, IfErr};
 ghost use Rattle.rule_base.specs.Encodings.{fenced};
-ghost use Rattle.stm_model.specs.Memories.{is_empty};
 ghost use Rattle.stm_rule.specs.Callers.{IsOf, IsSameCaller};
 ghost use Rattle.stm_tx.specs.Descs.{known, number};
 ghost use Rattle.tx_answers.specs.Answers.{HoldsClosed, SeesQuiet};
@@ -98,11 +97,7 @@ impl Member {
         self.may_take(from, count)?;
         match take_out(&mut self.desc, &self.stm, from, count) {
             Ok(()) => {
-                self.range = Some(Range {
-                    from,
-                    count,
-                    changed: false,
-                });
+                self.range = Some(Range { from, count });
                 Ok(Ok(()))
             }
             Err(refusal) => {
@@ -177,13 +172,8 @@ impl Member {
     pub fn direct_write(&mut self, a: usize, x: u64) -> Result<(), Misuse>
         ensures { Tells (in_range a self.old) (HasWrittenDirect a x self.old self.new) self.old self.new result }
     {
-        let range = self.range_of(a)?;
+        self.range_of(a)?;
         fencing::direct_write(&mut self.desc, &self.stm, a, x);
-        self.range = Some(Range {
-            from: range.from,
-            count: range.count,
-            changed: true,
-        });
         Ok(())
     }
 
@@ -191,8 +181,8 @@ impl Member {
     pub fn give_back(&mut self) -> Result<Result<Give, Refusal>, Misuse>
         ensures { Tells (giving self.old) (HasGiven self.old self.new) self.old self.new result }
     {
-        let range = self.own_range()?;
-        match put_back(&mut self.desc, &self.stm, range.changed) {
+        self.own_range()?;
+        match put_back(&mut self.desc, &self.stm) {
             Ok(Give::Committed { time }) => {
                 self.range = None;
                 Ok(Ok(Give::Committed { time }))
@@ -214,11 +204,10 @@ impl Member {
 }
 
 /// Gives a caller's range back.
-fn put_back(desc: &mut Desc<AnyMem>, stm: &Stm<AnyMem>, changed: bool) -> Result<Give, Refusal>
+fn put_back(desc: &mut Desc<AnyMem>, stm: &Stm<AnyMem>) -> Result<Give, Refusal>
     requires stm { IsOf desc.old stm.now }
     requires idle { IsIdle (known desc.old) }
     requires held { (known desc.old).fenced.held ≡ true }
-    requires changed { changed ≡ not (is_empty (known desc.old).fenced.log.writes) }
     ensures same { IsSameCaller desc.old desc.new }
     ensures idle { IsIdle (known desc.new) }
     ensures grew { GrowsBeside (known desc.old) (known desc.new) }
@@ -227,7 +216,7 @@ fn put_back(desc: &mut Desc<AnyMem>, stm: &Stm<AnyMem>, changed: bool) -> Result
     ensures made { OnErr result ((known desc.new).made ≡ (known desc.old).made) }
 {
     close_alone(desc, stm)?;
-    let answer = fencing::give_back(desc, stm, changed);
+    let answer = fencing::give_back(desc, stm);
     reopen(desc, stm);
     Ok(answer)
 }

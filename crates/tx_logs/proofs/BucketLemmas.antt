@@ -84,6 +84,7 @@ lookup-open g items bs a at d x s free = record {
   distance = s.few;
   at = s.at-is;
   passed = s.passed;
+  others = s.others;
   answer = (none-where items a absent, (λ e. free (sym (ap (λ (p : Bucket). p.mark) (here-is bs at s.within)) ∙ e)));
 }
   where

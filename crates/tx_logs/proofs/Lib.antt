@@ -1,5 +1,6 @@
 pub mod ItemLemmas
 pub mod BucketLemmas
+pub mod ProbingLaws
 pub mod PushLemmas
 pub mod FilterLemmas
 pub mod MarkLemmas

@@ -51,4 +51,5 @@ pub record IsLookup (g : ℕ) (items : List (ℕ × ℕ)) (bs : List Bucket) (a 
   pub distance : found.distance ≤ length items
   pub at : found.at ≡ wrapped (length bs) (a % length bs + found.distance)
   pub passed : AllTaken g bs (a % length bs) found.distance
+  pub others : (k : ℕ) → k < found.distance → address_of items (bucket_at bs (a % length bs + k)).item ≢ a
   pub answer : MatchOption found.item ((item_at a items ≡ None) × ((bucket_at bs found.at).mark ≢ g)) (λ i. (i < length items) × (address_of items i ≡ a) × ((bucket_at bs found.at).mark ≡ g) × ((bucket_at bs found.at).item ≡ i))

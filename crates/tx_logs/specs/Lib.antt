@@ -1,4 +1,5 @@
 pub mod Buckets
+pub mod Probing
 pub mod LogStates
 pub mod Filters
 pub mod Statements

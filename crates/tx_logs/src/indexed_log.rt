@@ -1,7 +1,8 @@
 //! The common part of the logs: items of address and value, in the order in which the addresses came, found by
 //! an index.
-ghost use Rattle.std.specs.Prelude.{◌≡◌, ◌≤◌, ◌<◌, ◌+◌, ◌-◌, [], IfOk, MatchResult, length, max, slice_index_or, take};
+ghost use Rattle.std.specs.Prelude.{◌*◌, ◌≡◌, ◌≤◌, ◌<◌, ◌+◌, ◌-◌, [], IfOk, MatchResult, length, max, slice_index_or, take};
 ghost use Rattle.stm_model.specs.Memories.{item_at, Once};
+ghost use Rattle.tx_logs.specs.Probing.{IsProbed};
 ghost use Rattle.tx_logs.specs.LogStates.{LogState, Pushes, empty_at, next_generation, pushed, with_last};
 
 use crate::index::{Bucket, clear_marks, inverse_of, look_up};
@@ -70,9 +71,10 @@ impl IndexedLog {
         }
     }
 
-    /// How many buckets a lookup of the address looks at: 1 at least, the number of items plus 1 at most.
+    /// How many buckets a lookup of the address looks at: those from its home on that other addresses have, and one
+    /// more. At most the number of items plus 1.
     pub fn probes(&self, a: usize) -> usize
-        ensures low { 1 ≤ result }
+        ensures probed { IsProbed (2 * self.now.len) self.now.items a result }
         ensures high { result ≤ length self.now.items + 1 }
     {
         look_up(&self.index, &self.items, self.generation, self.inverse, a).distance + 1

@@ -1,6 +1,7 @@
 //! What an attempt has read.
-ghost use Rattle.std.specs.Prelude.{◌≡◌, ◌≤◌, ◌<◌, ◌+◌, [], IfOk, MatchResult, length, max, slice_index_or};
+ghost use Rattle.std.specs.Prelude.{◌*◌, ◌≡◌, ◌≤◌, ◌<◌, ◌+◌, [], IfOk, MatchResult, length, max, slice_index_or};
 ghost use Rattle.stm_model.specs.Memories.{item_at, Once};
+ghost use Rattle.tx_logs.specs.Probing.{IsProbed};
 ghost use Rattle.tx_logs.specs.LogStates.{LogState, Pushes, empty_at, next_generation, keep};
 
 use crate::indexed_log::IndexedLog;
@@ -62,9 +63,10 @@ impl ReadLog {
         self.log.find(a)
     }
 
-    /// How many buckets a lookup of the address looks at: 1 at least, the number of items plus 1 at most.
+    /// How many buckets a lookup of the address looks at: those from its home on that other addresses have, and one
+    /// more. At most the number of items plus 1.
     pub fn probes(&self, a: usize) -> usize
-        ensures low { 1 ≤ result }
+        ensures probed { IsProbed (2 * self.now.len) self.now.items a result }
         ensures high { result ≤ length self.now.items + 1 }
     {
         self.log.probes(a)

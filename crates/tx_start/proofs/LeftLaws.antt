@@ -17,10 +17,10 @@ use Rattle.tx_start.specs.Lefts.{desc_in, descs_in, answer_in, answers_in, AllNe
 use Rattle.tx_start.specs.Stories.{IsStory}
 
 module _ {K : Type 0} (stm : Stm K) where
-  -- callers that were opened have made nothing, and one of them with other steps neither
-  pub opened-new : (n : ℕ) (ds : List (Handle K)) → AllOpened stm n ds → AllNew ds
+  -- callers that were opened have made and installed nothing
+  pub opened-new : (n : ℕ) (ds : List (Handle K)) → AllOpened stm n ds → (i : ℕ) (x : Handle K) → i < length ds → ((known (get_or ds i x)).made ≡ []) × ((known (get_or ds i x)).installs ≡ [])
   opened-new n [] h i x lt = absurd (omega arith)
-  opened-new n (d ∷ ds) h zero x lt = ap (λ (v : View). public_history v.history.made) h.2
+  opened-new n (d ∷ ds) h zero x lt = (ap (λ (v : View). public_history v.history.made) h.2, ap installs_of h.2)
   opened-new n (d ∷ ds) h (suc i) x lt = opened-new (suc n) ds h.4 i x (omega (arith, lt))
 
   -- a caller's number
@@ -29,17 +29,19 @@ module _ {K : Type 0} (stm : Stm K) where
   numbered n zero (d ∷ ds) x h lt = let e : n ≡ n + 0 = omega arith in ap caller_of h.1 ∙ e
   numbered n (suc i) (d ∷ ds) x h lt = let e : suc n + i ≡ n + suc i = omega arith in numbered (suc n) i ds x h.3 (omega (arith, lt)) ∙ e
 
-pub new-set : {K : Type 0} (ds : List (Handle K)) (e : Handle K) → AllNew ds → (known e).made ≡ [] → AllNew (set ds 0 e)
-new-set [] e all new i x lt = absurd (omega (arith, lt))
-new-set (d ∷ ds) e all new zero x lt = new
-new-set (d ∷ ds) e all new (suc i) x lt = all (suc i) x lt
+-- the first of them installed the memory's first algorithm
+pub new-set : {K : Type 0} (alg : Alg) (ds : List (Handle K)) (e : Handle K) → ((i : ℕ) (x : Handle K) → i < length ds → ((known (get_or ds i x)).made ≡ []) × ((known (get_or ds i x)).installs ≡ []))
+    → (known e).made ≡ [] → (known e).installs ≡ alg ∷ [] → AllNew alg (set ds 0 e)
+new-set alg [] e all made installs i x lt = absurd (omega (arith, lt))
+new-set alg (d ∷ ds) e all made installs zero x lt = (made, installs)
+new-set alg (d ∷ ds) e all made installs (suc i) x lt = all (suc i) x lt
 
 told-at : {K : Type 0} (e : Ended) (n i : ℕ) (ds : List (Handle K)) (x : Handle K) → AllTold e n ds → i < length ds → Told e (n + i) (get_or ds i x)
 told-at e n i [] x h lt = absurd (omega arith)
 told-at e n zero (d ∷ ds) x h lt = let s : n ≡ n + 0 = omega arith in subst (λ k. Told e k d) s h.0
 told-at e n (suc i) (d ∷ ds) x h lt = let s : suc n + i ≡ n + suc i = omega arith in subst (λ k. Told e k (get_or ds i x)) s (told-at e (suc n) i ds x h.1 (omega (arith, lt)))
 
-module _ {K V : Type 0} (stm : Stm K) (tells : ℕ → V → Known → Known → Type 0) where
+module _ {K V : Type 0} (stm : Stm K) (alg : Alg) (tells : ℕ → V → Known → Known → Type 0) where
   -- each caller did its job
   pub each-worked : (ds : List (Handle K)) (ls : List (Left K V)) → AllReady stm 0 ds → length ls ≡ length ds → ((i : ℕ) (l : Left K V) (x : Handle K) → i < length ds → Works tells (get_or ds i x) (get_or ls i l)) → AllReady stm 0 (descs_in ls)
   each-worked ds [] ready count each = ready-each stm 0 ds [] ready count (λ i x lt. absurd (omega (arith, lt, count)))
@@ -48,8 +50,8 @@ module _ {K V : Type 0} (stm : Stm K) (tells : ℕ → V → Known → Known →
       ready-each stm 0 ds (descs_in (l ∷ ls)) ready (many ∙ count) (λ i x lt. subst (λ (e : Handle K). IsThrough (get_or ds i x) e) (sym (get_or-map desc_in (l ∷ ls) i l x (omega (arith, lt, count)))) (each i l x lt).0)
 
   -- and has its story
-  pub stories : (ds : List (Handle K)) (ls : List (Left K V)) (e : Ended) → AllReady stm 0 ds → AllNew ds → length ls ≡ length ds → ((i : ℕ) (l : Left K V) (x : Handle K) → i < length ds → Works tells (get_or ds i x) (get_or ls i l))
-      → AllTold e 0 (descs_in ls) → e.installs ≡ map (λ (d : Handle K). installs_of d.view) (descs_in ls) → (i : ℕ) (a : Answer V) → i < length ds → IsStory (tells i) e i (get_or (answers_in ls) i a).value
+  pub stories : (ds : List (Handle K)) (ls : List (Left K V)) (e : Ended) → AllReady stm 0 ds → AllNew alg ds → length ls ≡ length ds → ((i : ℕ) (l : Left K V) (x : Handle K) → i < length ds → Works tells (get_or ds i x) (get_or ls i l))
+      → AllTold e 0 (descs_in ls) → e.installs ≡ map (λ (d : Handle K). installs_of d.view) (descs_in ls) → (i : ℕ) (a : Answer V) → i < length ds → IsStory alg (tells i) e i (get_or (answers_in ls) i a).value
   stories ds [] e ready new count each told installs i a lt = absurd (omega (arith, lt, count))
   stories ds (l ∷ ls) e ready new count each told installs i a lt =
       let here : i < length (l ∷ ls) = omega (arith, lt, count) in
@@ -67,7 +69,8 @@ module _ {K V : Type 0} (stm : Stm K) (tells : ℕ → V → Known → Known →
         before = known (get_or ds i x);
         after = known one.desc;
         told = subst (λ (b : Answer V). tells i b.value (known (get_or ds i x)) (known one.desc)) (sym value) (subst (λ k. tells k one.answer.value (known (get_or ds i x)) (known one.desc)) nth works.1);
-        fresh = new i x lt;
+        fresh = (new i x lt).0;
+        begun = (new i x lt).1;
         made = this.made;
         seen = this.seen;
         installed = ap (λ (xs : List (List Alg)). get_or xs i []) installs ∙ (get_or-map (λ (d : Handle K). installs_of d.view) (descs_in (l ∷ ls)) i x [] place ∙ ap (λ (d : Handle K). installs_of d.view) at);

@@ -1,15 +1,17 @@
 -- What callers leave.
 use Rattle.std.specs.Prelude.{ℕ, ◌≡◌, ◌<◌, List, [], map, length, get_or}
+use Rattle.stm_model.specs.declared.alg.Alg.{Alg}
 use Rattle.stm_rule.specs.Callers.{Handle}
 use Rattle.tx_answers.specs.Known.{Known}
 use Rattle.stm_tx.specs.Descs.{known, number}
 use Rattle.tx_atomic.specs.Callers.{IsThrough}
 use Rattle.tx_start.specs.declared.memory.Answer.{Answer}
 use Rattle.tx_start.specs.declared.working.Left.{Left}
+use Rattle.tx_start.specs.Stories.{first_installs}
 
--- none has made an entry yet
-abbrev pub AllNew : {K : Type 0} → List (Handle K) → Type 0
-AllNew {K = K} ds = (i : ℕ) (x : Handle K) → i < length ds → (known (get_or ds i x)).made ≡ []
+-- none has made an entry yet, nor installed anything but the memory's first algorithm
+abbrev pub AllNew : {K : Type 0} → Alg → List (Handle K) → Type 0
+AllNew {K = K} alg ds = (i : ℕ) (x : Handle K) → i < length ds → ((known (get_or ds i x)).made ≡ []) × ((known (get_or ds i x)).installs ≡ first_installs alg i)
 
 module _ {K V : Type 0} where
   abbrev pub desc_in : Left K V → Handle K

@@ -1,2 +1,4 @@
 pub mod Lefts
 pub mod Stories
+pub mod StoryLaws
+pub mod WordLaws

@@ -10,6 +10,7 @@ use tx_atomic::atomically::atomically;
 use tx_atomic::pace::Pace;
 use tx_atomic::switching::switch_to;
 use tx_atomic::transaction::Transaction;
+use tx_atomic::waiting::until_some;
 
 /// A caller, on its thread. It is in no attempt.
 #[derive(Drop)]
@@ -23,12 +24,20 @@ pub struct Caller<'a, R: Wait, K: MemRule> {
 }
 
 impl<'a, R: Wait, K: MemRule> Caller<'a, R, K> {
-    ghost use Rattle.std.specs.Prelude.{◌≡◌, ℕ, ◌∷◌, ◌++◌, [], IfSome, IfNone};
+    ghost use Rattle.std.specs.Prelude.{◌≡◌, ℕ, ◌∷◌, ◌++◌, [], IfSome, IfNone, Some, None};
+    ghost use Rattle.stm_model.specs.Logs.{Log};
     ghost use Rattle.stm_tx.specs.Descs.{known, number};
     ghost use Rattle.tx_atomic.specs.Callers.{HasWorked};
     ghost use Rattle.tx_atomic.specs.Attempts.{TookEffect};
     ghost use Rattle.tx_answers.specs.Causes.{FindsFull};
     ghost use Rattle.tx_atomic.specs.Tallies.{CommitsRise};
+
+    /// The caller's number, from 0 on.
+    pub fn number(&self) -> usize
+        ensures { result ≡ number self.now.desc }
+    {
+        self.desc.number
+    }
 
     /// Runs a transaction until it commits, and answers what it does. None where the clock was found at its limit.
     pub fn run<T: Transaction<K>>(&mut self, transaction: &T) -> Option<T::Output>
@@ -42,6 +51,30 @@ impl<'a, R: Wait, K: MemRule> Caller<'a, R, K> {
         ensures installs { (known self.new.desc).installs ≡ (known self.old.desc).installs }
     {
         atomically(
+            self.rt,
+            &mut self.desc,
+            self.stm,
+            &mut self.pace,
+            transaction,
+        )
+    }
+
+    /// Runs a transaction until it commits with an answer, and answers that: where it answers None, having written
+    /// nothing, it is tried again after a pause. None where the clock was found at its limit.
+    pub fn until_some<V: Drop, T: Transaction<K, Output = Option<V>>>(
+        &mut self,
+        transaction: &T,
+    ) -> Option<V>
+        requires fits { T.fits transaction.now self.old.stm.now.rule self.old.stm.now.config.words }
+        requires waits { (log : Log) → T.tells transaction.now self.old.stm.now.rule self.old.stm.now.config.words None log → log.writes ≡ [] }
+        ensures worked { HasWorked self.old.desc self.new.desc }
+        ensures same { self.new.stm ≡ self.old.stm }
+        ensures took { IfSome result (λ v. TookEffect (K.good self.old.stm.now.rule) self.old.stm.now.config (number self.old.desc) (T.tells transaction.now self.old.stm.now.rule self.old.stm.now.config.words (Some v)) (known self.old.desc).front (known self.old.desc) (known self.new.desc)) }
+        ensures none { IfNone result ((known self.new.desc).made ≡ (known self.old.desc).made) }
+        ensures full { IfNone result ((clock : ℕ) × FindsFull clock (known self.old.desc) (known self.new.desc)) }
+        ensures installs { (known self.new.desc).installs ≡ (known self.old.desc).installs }
+    {
+        until_some(
             self.rt,
             &mut self.desc,
             self.stm,

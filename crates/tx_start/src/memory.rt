@@ -1,6 +1,7 @@
 //! A memory from its opening to its close.
-ghost use Rattle.std.specs.Prelude.{◌≡◌, ◌<◌, ℕ, false, length, replicate, slice_index_or, IfOk};
-ghost use Rattle.stm_model.specs.Histories.{IsLegal, memory_at};
+ghost use Rattle.std.specs.Prelude.{◌≡◌, ◌<◌, ◌≤◌, ℕ, [], false, length, replicate, slice_index_or, IfOk};
+ghost use Rattle.stm_model.specs.Histories.{IsLegal, made_by, memory_at};
+ghost use Rattle.stm_model.specs.HistoryLaws.{Within};
 ghost use Rattle.tx_atomic.specs.Callers.{AllReady};
 ghost use Rattle.tx_start.specs.declared.memory.Answer.{Answer};
 ghost use Rattle.tx_start.specs.Lefts.{AllNew};
@@ -50,8 +51,10 @@ pub fn with_memory<R: Threads + Wait + Sync, K: MemRule + Drop + Sync + Send, J:
     ensures count { IfOk result (λ came. length came.words.items ≡ config.words) }
     ensures answers { IfOk result (λ came. length came.answers.items ≡ config.callers) }
     ensures legal { IfOk result (λ came. IsLegal (K.good rule) (replicate config.words 0) config.clock came.closed.history) }
+    ensures within { IfOk result (λ came. Within came.closed.clock came.closed.history) }
     ensures end { IfOk result (λ came. came.words.items ≡ memory_at came.closed.clock came.closed.history (replicate config.words 0)) }
-    ensures stories { IfOk result (λ came. (i : ℕ) (d : Answer J.Output) → i < config.callers → IsStory (J.tells job.now rule config.words i) came.closed i (slice_index_or came.answers.items i d).value) }
+    ensures stories { IfOk result (λ came. (i : ℕ) (d : Answer J.Output) → i < config.callers → IsStory alg (J.tells job.now rule config.words i) came.closed i (slice_index_or came.answers.items i d).value) }
+    ensures nobody_else { IfOk result (λ came. (n : ℕ) → config.callers ≤ n → made_by n came.closed.history ≡ []) }
 {
     let (stm, descs) = open(rt, alloc, config, alg, rule)?;
     let room = Vec::with_capacity(alloc, descs.len())?;
@@ -79,7 +82,7 @@ fn open<R: Wait, K: MemRule + Drop>(
     requires good { K.good rule (replicate config.words 0) }
     ensures stm { IfOk result (λ r. (r.0.config ≡ config) × (r.0.rule ≡ rule)) }
     ensures ready { IfOk result (λ r. AllReady r.0 0 r.1.items) }
-    ensures new { IfOk result (λ r. AllNew r.1.items) }
+    ensures new { IfOk result (λ r. AllNew alg r.1.items) }
     ensures count { IfOk result (λ r. length r.1.items ≡ config.callers) }
 {
     let (stm, mut descs) = Stm::new(alloc, config, rule)?;

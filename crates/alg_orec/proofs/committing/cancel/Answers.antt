@@ -23,7 +23,7 @@ returns-then-desc-clause-cancels g c =
     let i = runs-of g.K.MemRule.good f c.args.stm.now.rule (handle_of d.seat o) c.args.desc.now d.number d.local c.desc.view_is c.requires.stm.config c.requires.stm.rule c.requires.running c.desc.invariant.1 in
     let lazy = subst (λ (h : Handle g.row.K.Denot). (known h).alg ≡ OrecLazy) (sym c.desc.view_is) c.requires.algorithm in
     let granted : d.local.granted ≡ true = search rules in
-    (refl, subst (λ (p : Handle g.row.K.Denot). is_irrevocable (known p) ≡ true) c.desc.view_is (laws.sure-granted good f d.number d.local s.view i lazy o granted))
+    (refl, subst (λ (p : Handle g.row.K.Denot). is_irrevocable (known p) ≡ true) c.desc.view_is (laws.irrevocable-granted good f d.number d.local s.view i lazy o granted))
 
 pub roll_back-requires-clause-view : goal.roll_back-requires-clause-view
 roll_back-requires-clause-view g c =

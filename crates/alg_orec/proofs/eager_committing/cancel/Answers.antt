@@ -24,7 +24,7 @@ returns-then-desc-clause-cancels g c =
     let i = runs-of g.K.MemRule.good f c.args.stm.now.rule (handle_of d.seat o) c.args.desc.now d.number d.local c.desc.view_is c.requires.stm.config c.requires.stm.rule c.requires.running c.desc.invariant.1 in
     let eager = subst (λ (h : Handle g.row.K.Denot). (known h).alg ≡ OrecEager) (sym c.desc.view_is) c.requires.algorithm in
     let granted : d.local.granted ≡ true = search rules in
-    (refl, subst (λ (p : Handle g.row.K.Denot). is_irrevocable (known p) ≡ true) c.desc.view_is (proving.sure-granted good f d.number d.local s.view i eager o granted))
+    (refl, subst (λ (p : Handle g.row.K.Denot). is_irrevocable (known p) ≡ true) c.desc.view_is (proving.irrevocable-granted good f d.number d.local s.view i eager o granted))
 
 pub take_back-requires-clause-view : goal.take_back-requires-clause-view
 take_back-requires-clause-view g c =

@@ -1,4 +1,5 @@
 use Rattle.std.proofs.Common.{◌≤◌, ◌≡◌, ◌<◌, List, [], ◌∷◌, length, refl, sym, ap, ◌∙◌, subst, arith}
+use Rattle.stm_model.specs.Algorithms.{has_records}
 use Rattle.rule_base.specs.declared.entries.Cell.{Cell}
 use Rattle.rule_base.specs.declared.seats.SeatView.{SeatView}
 use Rattle.rule_base.specs.declared.views.View.{View}
@@ -39,6 +40,7 @@ direct_release-requires-clause-view g c =
     let is = ap (λ (y : SeatView g.row.K.Denot). y.view) i.seat in
     record {
       granted = ap (λ (y : View). y.gate.granted) is ∙ k.granted;
+      algorithm = ap (λ (y : View). has_records y.gate.algorithm) is ∙ k.algorithm;
       entered = ap (λ (y : View). y.attempt.entered) is ∙ k.entered;
       held = p.0;
       time = k.time ∙ sym (ap (λ (y : View). y.attempt.start) is);

@@ -4,9 +4,9 @@ use Rattle.stm_model.specs.declared.config.Config.{Config}
 use Rattle.rule_base.specs.declared.seats.Who.{Who}
 use Rattle.stm_rule.specs.Attempts.{own_of}
 use Rattle.stm_rule.specs.Callers.{Handle, handle_of}
-use Rattle.tx_answers.specs.Answers.{BecomesSure}
+use Rattle.tx_answers.specs.Answers.{BecomesIrrevocable}
 use Rattle.tx_answers.specs.Known.{caller_of}
-use Rattle.stm_gate.specs.Granting.{Grants, irrevs-after, sure-already}
+use Rattle.stm_gate.specs.Granting.{Grants, irrevs-after, irrevocable-already}
 use Rattle.stm_gate.specs.Knowing.{known, number}
 use Rattle.stm_gate.specs.Standing.{runs-of}
 use Rattle.alg_orec.proofs.EndingLaws as laws
@@ -26,9 +26,9 @@ returns-then-desc-clause-irrevs g c =
     let lazy = subst (λ (p : Handle g.row.K.Denot). (known p).alg ≡ OrecLazy) (sym c.desc.view_is) c.requires.algorithm in
     let low : d.number < f.callers = subst (λ (q : Config). d.number < q.callers) (subst (λ (p : Handle g.row.K.Denot). p.who.config ≡ f) (sym c.desc.view_is) c.requires.stm.config) c.desc.invariant.0.low in
     let granted : d.local.granted ≡ true = search rules in
-    let sure = laws.sure-granted good f d.number d.local s.view i lazy o granted in
-    subst (λ (p : Handle g.row.K.Denot). BecomesSure good f (number p) (known p) (known p)) c.desc.view_is (subst (λ (q : ℕ). BecomesSure good f q (known h) (known h)) (sym name)
-    (sure-already good f d.number d.local s.view o (ap (λ (p : Handle g.row.K.Denot). (known p).committing) c.desc.view_is ∙ c.requires.running.1) i sure))
+    let irrevocable = laws.irrevocable-granted good f d.number d.local s.view i lazy o granted in
+    subst (λ (p : Handle g.row.K.Denot). BecomesIrrevocable good f (number p) (known p) (known p)) c.desc.view_is (subst (λ (q : ℕ). BecomesIrrevocable good f q (known h) (known h)) (sym name)
+    (irrevocable-already good f d.number d.local s.view o (ap (λ (p : Handle g.row.K.Denot). (known p).committing) c.desc.view_is ∙ c.requires.running.1) i irrevocable))
 
 pub returns-in-Alone-clause-irrevs : goal.returns-in-Alone-clause-irrevs
 returns-in-Alone-clause-irrevs g c =

@@ -29,8 +29,8 @@ returns-then-desc-clause-rolls g c =
     let i = runs-of g.K.MemRule.good f c.args.stm.now.rule h e d.number l c.desc.view_is c.requires.stm.config c.requires.stm.rule c.requires.running.0 c.desc.invariant.1 in
     let lazy = subst (λ (p : Handle g.row.K.Denot). (known p).alg ≡ OrecLazy) (sym c.desc.view_is) c.requires.algorithm in
     let quiet : l.committing ≡ false = ap (λ (p : Handle g.row.K.Denot). (known p).committing) c.desc.view_is ∙ c.requires.running.1 in
-    let sure : l.granted ≡ true = search rules in
-    (refl, subst (λ (p : Handle g.row.K.Denot). is_irrevocable (known p) ≡ true) c.desc.view_is (nesting.sure-known good f d.number l s.view i lazy sure 0))
+    let irrevocable : l.granted ≡ true = search rules in
+    (refl, subst (λ (p : Handle g.row.K.Denot). is_irrevocable (known p) ≡ true) c.desc.view_is (nesting.irrevocable-known good f d.number l s.view i lazy irrevocable 0))
 
 pub roll_to-requires-clause-high : goal.roll_to-requires-clause-high
 roll_to-requires-clause-high g c =

@@ -25,10 +25,10 @@ returns-then-desc-clause-checks g c =
     let i = inside-of good f d.number l s.view phase c.desc.invariant.1 in
     let ring = subst (λ (p : Handle g.row.K.Denot). (known p).alg ≡ RingSw) (sym c.desc.view_is) c.requires.algorithm in
     let quiet : l.committing ≡ false = ap (λ (p : Handle g.row.K.Denot). (known p).committing) c.desc.view_is ∙ c.requires.running.1 in
-    let sure : l.granted ≡ true = search rules in
+    let irrevocable : l.granted ≡ true = search rules in
     let m = record l { depth = l.depth + 1 } in
     subst (λ (p : Handle g.row.K.Denot). (p.own.depth < MAX_MARKS) × (l.depth + 1 ≡ p.own.depth + 1) × IsMarked (known p) (known_of s.view (own_of m))) c.desc.view_is
-    (c.if-depth-ge-MAX_MARKS.false, refl, record { is = nesting.same-deeper good f d.number l s.view i ring sure (l.depth + 1); marks = (λ r. absurd (let z : true ≡ false = sym (nesting.sure-known good f d.number l s.view i ring sure (l.depth + 1)) ∙ r in cc)) })
+    (c.if-depth-ge-MAX_MARKS.false, refl, record { is = nesting.same-deeper good f d.number l s.view i ring irrevocable (l.depth + 1); marks = (λ r. absurd (let z : true ≡ false = sym (nesting.irrevocable-known good f d.number l s.view i ring irrevocable (l.depth + 1)) ∙ r in cc)) })
 
 pub mark-requires : goal.mark-requires
 mark-requires g c =
@@ -58,9 +58,9 @@ invariant_of-desc g c =
     let i = inside-of good f d.number l s.view phase c.desc.invariant.1 in
     let ring = subst (λ (p : Handle g.row.K.Denot). (known p).alg ≡ RingSw) (sym c.desc.view_is) c.requires.algorithm in
     let quiet : l.committing ≡ false = ap (λ (p : Handle g.row.K.Denot). (known p).committing) c.desc.view_is ∙ c.requires.running.1 in
-    let sure : l.granted ≡ true = search rules in
+    let irrevocable : l.granted ≡ true = search rules in
     let m = record l { depth = l.depth + 1 } in
-    (c.desc.invariant.0, stands-on good f d.number l m s.view s.view phase c.desc.invariant.1 refl refl c.desc.invariant.1.lengths refl (nesting.stays-deeper good f d.number l s.view i ring sure (l.depth + 1)))
+    (c.desc.invariant.0, stands-on good f d.number l m s.view s.view phase c.desc.invariant.1 refl refl c.desc.invariant.1.lengths refl (nesting.stays-deeper good f d.number l s.view i ring irrevocable (l.depth + 1)))
 
 pub invariant_of-desc-2 : goal.invariant_of-desc-2
 invariant_of-desc-2 g c =

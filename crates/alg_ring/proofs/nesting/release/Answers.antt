@@ -24,10 +24,10 @@ returns-then-desc-clause-releases g c =
     let i = inside-of good f d.number l s.view phase c.desc.invariant.1 in
     let ring = subst (λ (p : Handle g.row.K.Denot). (known p).alg ≡ RingSw) (sym c.desc.view_is) c.requires.algorithm in
     let quiet : l.committing ≡ false = ap (λ (p : Handle g.row.K.Denot). (known p).committing) c.desc.view_is ∙ c.requires.running.1 in
-    let sure : l.granted ≡ true = search rules in
+    let irrevocable : l.granted ≡ true = search rules in
     let m = record l { depth = c.args.depth - 1 } in
     subst (λ (p : Handle g.row.K.Denot). Releases c.args.depth (known p) (known_of s.view (own_of m))) c.desc.view_is
-    (record { is = nesting.same-deeper good f d.number l s.view i ring sure (c.args.depth - 1); marks = (λ r. absurd (let z : true ≡ false = sym (nesting.sure-known good f d.number l s.view i ring sure (c.args.depth - 1)) ∙ r in cc)) })
+    (record { is = nesting.same-deeper good f d.number l s.view i ring irrevocable (c.args.depth - 1); marks = (λ r. absurd (let z : true ≡ false = sym (nesting.irrevocable-known good f d.number l s.view i ring irrevocable (c.args.depth - 1)) ∙ r in cc)) })
 
 pub invariant_of-desc : goal.invariant_of-desc
 invariant_of-desc g c =
@@ -40,9 +40,9 @@ invariant_of-desc g c =
     let i = inside-of good f d.number l s.view phase c.desc.invariant.1 in
     let ring = subst (λ (p : Handle g.row.K.Denot). (known p).alg ≡ RingSw) (sym c.desc.view_is) c.requires.algorithm in
     let quiet : l.committing ≡ false = ap (λ (p : Handle g.row.K.Denot). (known p).committing) c.desc.view_is ∙ c.requires.running.1 in
-    let sure : l.granted ≡ true = search rules in
+    let irrevocable : l.granted ≡ true = search rules in
     let m = record l { depth = c.args.depth - 1 } in
-    (c.desc.invariant.0, stands-on good f d.number l m s.view s.view phase c.desc.invariant.1 refl refl c.desc.invariant.1.lengths refl (nesting.stays-deeper good f d.number l s.view i ring sure (c.args.depth - 1)))
+    (c.desc.invariant.0, stands-on good f d.number l m s.view s.view phase c.desc.invariant.1 refl refl c.desc.invariant.1.lengths refl (nesting.stays-deeper good f d.number l s.view i ring irrevocable (c.args.depth - 1)))
 
 pub release-requires-clause-high : goal.release-requires-clause-high
 release-requires-clause-high g c =

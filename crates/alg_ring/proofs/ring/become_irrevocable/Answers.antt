@@ -1,9 +1,9 @@
 use Rattle.std.proofs.Common.{ℕ, ◌≡◌, subst, sym, ap, refl, true, rules, ◌∙◌}
 use Rattle.rule_base.specs.declared.seats.Who.{Who}
 use Rattle.stm_rule.specs.Attempts.{own_of}
-use Rattle.tx_answers.specs.Answers.{BecomesSure}
+use Rattle.tx_answers.specs.Answers.{BecomesIrrevocable}
 use Rattle.tx_answers.specs.Known.{Known, known_of, caller_of}
-use Rattle.stm_gate.specs.Granting.{Grants, irrevs-after, sure-already}
+use Rattle.stm_gate.specs.Granting.{Grants, irrevs-after, irrevocable-already}
 use Rattle.stm_gate.specs.Knowing.{known, number}
 use Rattle.alg_ring.specs.Opening.{opened, has-attempt}
 use Rattle.alg_ring.proofs.Running as attempt
@@ -18,8 +18,8 @@ returns-then-desc-clause-irrevs g c =
     let a = opened good stm d.number d.local c.desc.view_is refl c.desc.invariant.0.named c.desc.invariant.0.low c.desc.invariant.1 c.requires.stm in
     let at = has-attempt good stm a c.requires.running.0 c.requires.algorithm in
     let granted : d.local.granted ≡ true = search rules in
-    subst (λ (k : Known). BecomesSure (good stm.rule) stm.config (number c.args.desc.now) k k) (sym a.knows) (subst (λ (n : ℕ). BecomesSure (good stm.rule) stm.config n (known_of v (own_of d.local)) (known_of v (own_of d.local))) (sym a.name)
-    (sure-already (good stm.rule) stm.config d.number d.local v (own_of d.local) (ap (λ (k : Known). k.committing) (sym a.knows) ∙ c.requires.running.1) (attempt.inside (good stm.rule) stm.config d.number d.local v at) (attempt.sure-is (good stm.rule) stm.config d.number d.local v at ∙ granted)))
+    subst (λ (k : Known). BecomesIrrevocable (good stm.rule) stm.config (number c.args.desc.now) k k) (sym a.knows) (subst (λ (n : ℕ). BecomesIrrevocable (good stm.rule) stm.config n (known_of v (own_of d.local)) (known_of v (own_of d.local))) (sym a.name)
+    (irrevocable-already (good stm.rule) stm.config d.number d.local v (own_of d.local) (ap (λ (k : Known). k.committing) (sym a.knows) ∙ c.requires.running.1) (attempt.inside (good stm.rule) stm.config d.number d.local v at) (attempt.irrevocable-is (good stm.rule) stm.config d.number d.local v at ∙ granted)))
 
 pub returns-in-Alone-clause-irrevs : goal.returns-in-Alone-clause-irrevs
 returns-in-Alone-clause-irrevs g c =

@@ -17,7 +17,7 @@ returns-then-desc-clause-cancels g c =
     let a = opened good stm d.number d.local c.desc.view_is refl c.desc.invariant.0.named c.desc.invariant.0.low c.desc.invariant.1 c.requires.stm in
     let at = has-attempt good stm a c.requires.running c.requires.algorithm in
     let granted : d.local.granted ≡ true = search rules in
-    (refl, ap is_irrevocable a.knows ∙ (attempt.sure-is (good stm.rule) stm.config d.number d.local d.seat.me.0.view at ∙ granted))
+    (refl, ap is_irrevocable a.knows ∙ (attempt.irrevocable-is (good stm.rule) stm.config d.number d.local d.seat.me.0.view at ∙ granted))
 
 pub leave-requires-clause-view : goal.leave-requires-clause-view
 leave-requires-clause-view g c =

@@ -68,7 +68,7 @@ commit_writes-requires-clause-wrote g c =
     let dirty : d.local.wrote ≡ true = search rules in
     record {
       attempt = at;
-      revocable = attempt.sure-is (good stm.rule) stm.config d.number d.local v at ∙ plain;
+      revocable = attempt.irrevocable-is (good stm.rule) stm.config d.number d.local v at ∙ plain;
       wrote = attempt.wrote-is (good stm.rule) stm.config d.number d.local v at plain ∙ dirty;
       keeps = of-view good stm a (λ (n : ℕ) (k : Known). answers.KeepsRule (good stm.rule) stm.config n k) c.requires.keeps;
     }

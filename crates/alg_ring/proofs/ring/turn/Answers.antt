@@ -14,7 +14,7 @@ lock-found-requires-clause-view g c =
     let l = c.args.local.now in
     let v = c.args.seat.now.me.0.view in
     let has = c.requires.wrote in
-    laws.may-lock good f n l v has.attempt (sym (attempt.sure-is good f n l v has.attempt) ∙ has.revocable)
+    laws.may-lock good f n l v has.attempt (sym (attempt.irrevocable-is good f n l v has.attempt) ∙ has.revocable)
 
 pub returns-then-found-ne0-clause-turns : goal.returns-then-found-ne0-clause-turns
 returns-then-found-ne0-clause-turns g c =
@@ -27,7 +27,7 @@ returns-then-found-ne0-clause-turns g c =
     let found = c.lock-found.result in
     let w = c.lock-found.new.seat.me.0 in
     let some : found ≢ 0 = search rules in
-    laws.waits good f n l s.view has.attempt (sym (attempt.sure-is good f n l s.view has.attempt) ∙ has.revocable) found w.view (tells-of (ring_lock n) (FindsLock f n) s found w c.lock-found.ensures.step) some c.requires.caller has.wrote
+    laws.waits good f n l s.view has.attempt (sym (attempt.irrevocable-is good f n l s.view has.attempt) ∙ has.revocable) found w.view (tells-of (ring_lock n) (FindsLock f n) s found w c.lock-found.ensures.step) some c.requires.caller has.wrote
 
 pub returns-clause-turns : goal.returns-clause-turns
 returns-clause-turns g c =
@@ -40,4 +40,4 @@ returns-clause-turns g c =
     let found = c.lock-found.result in
     let w = c.lock-found.new.seat.me.0 in
     let none : found ≡ 0 = search rules in
-    (refl, laws.took-turn good f n l s.view has.attempt (sym (attempt.sure-is good f n l s.view has.attempt) ∙ has.revocable) found w.view (tells-of (ring_lock n) (FindsLock f n) s found w c.lock-found.ensures.step) has none)
+    (refl, laws.took-turn good f n l s.view has.attempt (sym (attempt.irrevocable-is good f n l s.view has.attempt) ∙ has.revocable) found w.view (tells-of (ring_lock n) (FindsLock f n) s found w c.lock-found.ensures.step) has none)

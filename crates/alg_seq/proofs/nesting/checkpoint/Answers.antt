@@ -1,5 +1,5 @@
 use Rattle.std.proofs.Common.{◌≡◌, ◌<◌, ◌+◌, true, false, refl, sym, ap, subst, ◌∙◌, arith}
-use Rattle.stm_model.specs.Algorithms.{is_sure}
+use Rattle.stm_model.specs.Algorithms.{irrevocable_under}
 use Rattle.stm_rule.specs.Attempts.{SameLengths, good_by, own_of}
 use Rattle.stm_rule.specs.Callers.{Handle}
 use Rattle.stm_rule.specs.StandLemmas.{inside-of}
@@ -24,12 +24,12 @@ invariant_of-desc g c =
     let phase = in-of s.view.gate.phase (ap (λ (p : Handle g.row.K.Denot). is_in p.view.gate.phase) c.desc.view_is ∙ c.requires.running.0) in
     let i = inside-of good f d.number l s.view phase c.desc.invariant.1 in
     let sequential : is_sequential s.view.gate.algorithm ≡ true = subst (λ (p : Handle g.row.K.Denot). is_sequential (known p).alg ≡ true) (sym c.desc.view_is) c.requires.algorithm in
-    let sure : is_sure l.algorithm l.granted l.wrote ≡ true = sym c.is_sure-sure.ensures ∙ c.if-sure.true in
+    let irrevocable : irrevocable_under l.algorithm l.granted l.wrote ≡ true = sym c.irrevocable_under-irrevocable.ensures ∙ c.if-irrevocable.true in
     let m = record l { depth = l.depth + 1 } in
-    (c.desc.invariant.0, stands-on good f d.number l m s.view s.view phase c.desc.invariant.1 refl refl c.desc.invariant.1.lengths refl (nesting.stays-deeper good f d.number l s.view i sequential sure (l.depth + 1)))
+    (c.desc.invariant.0, stands-on good f d.number l m s.view s.view phase c.desc.invariant.1 refl refl c.desc.invariant.1.lengths refl (nesting.stays-deeper good f d.number l s.view i sequential irrevocable (l.depth + 1)))
 
-pub returns-then-sure-clause-checks : goal.returns-then-sure-clause-checks
-returns-then-sure-clause-checks g c =
+pub returns-then-irrevocable-clause-checks : goal.returns-then-irrevocable-clause-checks
+returns-then-irrevocable-clause-checks g c =
     let d = c.desc.inside in
     let s = d.seat.me.0 in
     let l = d.local in
@@ -38,10 +38,10 @@ returns-then-sure-clause-checks g c =
     let phase = in-of s.view.gate.phase (ap (λ (p : Handle g.row.K.Denot). is_in p.view.gate.phase) c.desc.view_is ∙ c.requires.running.0) in
     let i = inside-of good f d.number l s.view phase c.desc.invariant.1 in
     let sequential : is_sequential s.view.gate.algorithm ≡ true = subst (λ (p : Handle g.row.K.Denot). is_sequential (known p).alg ≡ true) (sym c.desc.view_is) c.requires.algorithm in
-    let sure : is_sure l.algorithm l.granted l.wrote ≡ true = sym c.is_sure-sure.ensures ∙ c.if-sure.true in
+    let irrevocable : irrevocable_under l.algorithm l.granted l.wrote ≡ true = sym c.irrevocable_under-irrevocable.ensures ∙ c.if-irrevocable.true in
     let m = record l { depth = l.depth + 1 } in
     subst (λ (p : Handle g.row.K.Denot). (p.own.depth < MAX_MARKS) × (l.depth + 1 ≡ p.own.depth + 1) × IsMarked (known p) (known_of s.view (own_of m))) c.desc.view_is
-    (c.if-depth-ge-MAX_MARKS.false, refl, record { is = nesting.known-with good f d.number l s.view i sequential l.writes (l.depth + 1); marks = λ r. absurd (let no : true ≡ false = sym (nesting.deeper-marked good f d.number l s.view i sequential sure (l.depth + 1)) ∙ r in cc) })
+    (c.if-depth-ge-MAX_MARKS.false, refl, record { is = nesting.known-with good f d.number l s.view i sequential l.writes (l.depth + 1); marks = λ r. absurd (let no : true ≡ false = sym (nesting.deeper-marked good f d.number l s.view i sequential irrevocable (l.depth + 1)) ∙ r in cc) })
 
 pub mark-requires : goal.mark-requires
 mark-requires g c =
@@ -53,7 +53,7 @@ mark-requires g c =
     let phase = in-of s.view.gate.phase (ap (λ (p : Handle g.row.K.Denot). is_in p.view.gate.phase) c.desc.view_is ∙ c.requires.running.0) in
     let i = inside-of good f d.number l s.view phase c.desc.invariant.1 in
     let sequential : is_sequential s.view.gate.algorithm ≡ true = subst (λ (p : Handle g.row.K.Denot). is_sequential (known p).alg ≡ true) (sym c.desc.view_is) c.requires.algorithm in
-    let plain : is_sure l.algorithm l.granted l.wrote ≡ false = sym c.is_sure-sure.ensures ∙ c.if-sure.false in
+    let plain : irrevocable_under l.algorithm l.granted l.wrote ≡ false = sym c.irrevocable_under-irrevocable.ensures ∙ c.if-irrevocable.false in
     let n = nesting.count good f d.number l s.view i sequential plain in
     let low : l.depth < MAX_MARKS = c.if-depth-ge-MAX_MARKS.false in
     omega arith
@@ -68,7 +68,7 @@ invariant_of-desc-2 g c =
     let phase = in-of s.view.gate.phase (ap (λ (p : Handle g.row.K.Denot). is_in p.view.gate.phase) c.desc.view_is ∙ c.requires.running.0) in
     let i = inside-of good f d.number l s.view phase c.desc.invariant.1 in
     let sequential : is_sequential s.view.gate.algorithm ≡ true = subst (λ (p : Handle g.row.K.Denot). is_sequential (known p).alg ≡ true) (sym c.desc.view_is) c.requires.algorithm in
-    let plain : is_sure l.algorithm l.granted l.wrote ≡ false = sym c.is_sure-sure.ensures ∙ c.if-sure.false in
+    let plain : irrevocable_under l.algorithm l.granted l.wrote ≡ false = sym c.irrevocable_under-irrevocable.ensures ∙ c.if-irrevocable.false in
     let log = c.mark.new.self in
     let m = record l { writes = log; depth = l.depth + 1 } in
     let lengths : SameLengths m = (ap (λ (y : LogState). y.len) c.mark.ensures ∙ c.desc.invariant.1.lengths.0, c.desc.invariant.1.lengths.1) in
@@ -84,7 +84,7 @@ returns-clause-checks g c =
     let phase = in-of s.view.gate.phase (ap (λ (p : Handle g.row.K.Denot). is_in p.view.gate.phase) c.desc.view_is ∙ c.requires.running.0) in
     let i = inside-of good f d.number l s.view phase c.desc.invariant.1 in
     let sequential : is_sequential s.view.gate.algorithm ≡ true = subst (λ (p : Handle g.row.K.Denot). is_sequential (known p).alg ≡ true) (sym c.desc.view_is) c.requires.algorithm in
-    let plain : is_sure l.algorithm l.granted l.wrote ≡ false = sym c.is_sure-sure.ensures ∙ c.if-sure.false in
+    let plain : irrevocable_under l.algorithm l.granted l.wrote ≡ false = sym c.irrevocable_under-irrevocable.ensures ∙ c.if-irrevocable.false in
     let log = c.mark.new.self in
     let m = record l { writes = log; depth = l.depth + 1 } in
     subst (λ (p : Handle g.row.K.Denot). (p.own.depth < MAX_MARKS) × (l.depth + 1 ≡ p.own.depth + 1) × IsMarked (known p) (known_of s.view (own_of m))) c.desc.view_is

@@ -1,5 +1,5 @@
 use Rattle.std.proofs.Common.{◌≡◌, ◌≤◌, ◌-◌, true, false, refl, sym, ap, subst, ◌∙◌, arith}
-use Rattle.stm_model.specs.Algorithms.{is_sure}
+use Rattle.stm_model.specs.Algorithms.{irrevocable_under}
 use Rattle.stm_rule.specs.Attempts.{SameLengths, good_by, own_of}
 use Rattle.stm_rule.specs.Callers.{Handle}
 use Rattle.stm_rule.specs.StandLemmas.{inside-of}
@@ -23,12 +23,12 @@ invariant_of-desc g c =
     let phase = in-of s.view.gate.phase (ap (λ (p : Handle g.row.K.Denot). is_in p.view.gate.phase) c.desc.view_is ∙ c.requires.running.0) in
     let i = inside-of good f d.number l s.view phase c.desc.invariant.1 in
     let sequential : is_sequential s.view.gate.algorithm ≡ true = subst (λ (p : Handle g.row.K.Denot). is_sequential (known p).alg ≡ true) (sym c.desc.view_is) c.requires.algorithm in
-    let sure : is_sure l.algorithm l.granted l.wrote ≡ true = sym c.is_sure-sure.ensures ∙ c.if-sure.true in
+    let irrevocable : irrevocable_under l.algorithm l.granted l.wrote ≡ true = sym c.irrevocable_under-irrevocable.ensures ∙ c.if-irrevocable.true in
     let m = record l { depth = c.args.depth - 1 } in
-    (c.desc.invariant.0, stands-on good f d.number l m s.view s.view phase c.desc.invariant.1 refl refl c.desc.invariant.1.lengths refl (nesting.stays-deeper good f d.number l s.view i sequential sure (c.args.depth - 1)))
+    (c.desc.invariant.0, stands-on good f d.number l m s.view s.view phase c.desc.invariant.1 refl refl c.desc.invariant.1.lengths refl (nesting.stays-deeper good f d.number l s.view i sequential irrevocable (c.args.depth - 1)))
 
-pub returns-then-sure-clause-releases : goal.returns-then-sure-clause-releases
-returns-then-sure-clause-releases g c =
+pub returns-then-irrevocable-clause-releases : goal.returns-then-irrevocable-clause-releases
+returns-then-irrevocable-clause-releases g c =
     let d = c.desc.inside in
     let s = d.seat.me.0 in
     let l = d.local in
@@ -37,10 +37,10 @@ returns-then-sure-clause-releases g c =
     let phase = in-of s.view.gate.phase (ap (λ (p : Handle g.row.K.Denot). is_in p.view.gate.phase) c.desc.view_is ∙ c.requires.running.0) in
     let i = inside-of good f d.number l s.view phase c.desc.invariant.1 in
     let sequential : is_sequential s.view.gate.algorithm ≡ true = subst (λ (p : Handle g.row.K.Denot). is_sequential (known p).alg ≡ true) (sym c.desc.view_is) c.requires.algorithm in
-    let sure : is_sure l.algorithm l.granted l.wrote ≡ true = sym c.is_sure-sure.ensures ∙ c.if-sure.true in
+    let irrevocable : irrevocable_under l.algorithm l.granted l.wrote ≡ true = sym c.irrevocable_under-irrevocable.ensures ∙ c.if-irrevocable.true in
     let m = record l { depth = c.args.depth - 1 } in
     subst (λ (p : Handle g.row.K.Denot). Releases c.args.depth (known p) (known_of s.view (own_of m))) c.desc.view_is
-    (record { is = nesting.known-with good f d.number l s.view i sequential l.writes (c.args.depth - 1); marks = λ r. absurd (let no : true ≡ false = sym (nesting.deeper-marked good f d.number l s.view i sequential sure (c.args.depth - 1)) ∙ r in cc) })
+    (record { is = nesting.known-with good f d.number l s.view i sequential l.writes (c.args.depth - 1); marks = λ r. absurd (let no : true ≡ false = sym (nesting.deeper-marked good f d.number l s.view i sequential irrevocable (c.args.depth - 1)) ∙ r in cc) })
 
 pub release-requires-clause-high : goal.release-requires-clause-high
 release-requires-clause-high g c =
@@ -52,7 +52,7 @@ release-requires-clause-high g c =
     let phase = in-of s.view.gate.phase (ap (λ (p : Handle g.row.K.Denot). is_in p.view.gate.phase) c.desc.view_is ∙ c.requires.running.0) in
     let i = inside-of good f d.number l s.view phase c.desc.invariant.1 in
     let sequential : is_sequential s.view.gate.algorithm ≡ true = subst (λ (p : Handle g.row.K.Denot). is_sequential (known p).alg ≡ true) (sym c.desc.view_is) c.requires.algorithm in
-    let plain : is_sure l.algorithm l.granted l.wrote ≡ false = sym c.is_sure-sure.ensures ∙ c.if-sure.false in
+    let plain : irrevocable_under l.algorithm l.granted l.wrote ≡ false = sym c.irrevocable_under-irrevocable.ensures ∙ c.if-irrevocable.false in
     let high : c.args.depth ≤ l.depth = subst (λ (p : Handle g.row.K.Denot). c.args.depth ≤ p.own.depth) (sym c.desc.view_is) c.requires.high in
     let n = nesting.count good f d.number l s.view i sequential plain in
     omega arith
@@ -67,7 +67,7 @@ invariant_of-desc-2 g c =
     let phase = in-of s.view.gate.phase (ap (λ (p : Handle g.row.K.Denot). is_in p.view.gate.phase) c.desc.view_is ∙ c.requires.running.0) in
     let i = inside-of good f d.number l s.view phase c.desc.invariant.1 in
     let sequential : is_sequential s.view.gate.algorithm ≡ true = subst (λ (p : Handle g.row.K.Denot). is_sequential (known p).alg ≡ true) (sym c.desc.view_is) c.requires.algorithm in
-    let plain : is_sure l.algorithm l.granted l.wrote ≡ false = sym c.is_sure-sure.ensures ∙ c.if-sure.false in
+    let plain : irrevocable_under l.algorithm l.granted l.wrote ≡ false = sym c.irrevocable_under-irrevocable.ensures ∙ c.if-irrevocable.false in
     let high : c.args.depth ≤ l.depth = subst (λ (p : Handle g.row.K.Denot). c.args.depth ≤ p.own.depth) (sym c.desc.view_is) c.requires.high in
     let log = c.release.new.self in
     let m = record l { writes = log; depth = c.args.depth - 1 } in
@@ -84,7 +84,7 @@ returns-clause-releases g c =
     let phase = in-of s.view.gate.phase (ap (λ (p : Handle g.row.K.Denot). is_in p.view.gate.phase) c.desc.view_is ∙ c.requires.running.0) in
     let i = inside-of good f d.number l s.view phase c.desc.invariant.1 in
     let sequential : is_sequential s.view.gate.algorithm ≡ true = subst (λ (p : Handle g.row.K.Denot). is_sequential (known p).alg ≡ true) (sym c.desc.view_is) c.requires.algorithm in
-    let plain : is_sure l.algorithm l.granted l.wrote ≡ false = sym c.is_sure-sure.ensures ∙ c.if-sure.false in
+    let plain : irrevocable_under l.algorithm l.granted l.wrote ≡ false = sym c.irrevocable_under-irrevocable.ensures ∙ c.if-irrevocable.false in
     let high : c.args.depth ≤ l.depth = subst (λ (p : Handle g.row.K.Denot). c.args.depth ≤ p.own.depth) (sym c.desc.view_is) c.requires.high in
     let log = c.release.new.self in
     let m = record l { writes = log; depth = c.args.depth - 1 } in

@@ -1,6 +1,6 @@
 use Rattle.std.proofs.Common.{ℕ, ◌≡◌, ◌<◌, ◌≤◌, take, false, sym, ap, subst, ◌∙◌, arith}
 use Rattle.std.specs.Prelude.{not, nat_lt}
-use Rattle.stm_model.specs.Algorithms.{is_sure}
+use Rattle.stm_model.specs.Algorithms.{irrevocable_under}
 use Rattle.stm_model.specs.declared.alg.Alg.TheVariants.{Serial}
 use Rattle.stm_model.specs.Memories.{is_empty}
 use Rattle.rule_base.specs.declared.seats.SeatView.{SeatView}
@@ -16,7 +16,7 @@ use Rattle.stm_gate.specs.Knowing.{known}
 use Rattle.stm_gate.specs.Standing.{runs-of}
 use Rattle.stm_gate.specs.Told.{told, stands-in, running-by}
 use Rattle.stm_gate.specs.MarkLaws.{some-by}
-use Rattle.stm_gate.specs.Sure.{sure-of}
+use Rattle.stm_gate.specs.Irrevocable.{irrevocable-of}
 use Rattle.alg_seq.specs.Nesting.{IsTakenBack}
 use Rattle.alg_seq.proofs.RollingLaws as rolling
 use Rattle.alg_seq.proofs.nesting.roll_in_place.Goals as goal
@@ -34,7 +34,7 @@ take_back-requires-clause-left g c =
     let i = runs-of g.K.MemRule.good f c.args.stm.now.rule h e d.number l c.desc.view_is c.requires.stm.config c.requires.stm.rule c.requires.running.0 c.desc.invariant.1 in
     let serial : s.view.gate.algorithm ≡ Serial = subst (λ (p : Handle g.row.K.Denot). (known p).alg ≡ Serial) (sym c.desc.view_is) c.requires.algorithm in
     let named : l.algorithm ≡ Serial = sym i.named ∙ serial in
-    let plain : l.granted ≡ false = (λ j. is_sure (sym named j) l.granted l.wrote) ∙ (sym (sure-of good f d.number l s.view o i) ∙ subst (λ (p : Handle g.row.K.Denot). is_irrevocable (known p) ≡ false) (sym c.desc.view_is) c.requires.revocable) in
+    let plain : l.granted ≡ false = (λ j. irrevocable_under (sym named j) l.granted l.wrote) ∙ (sym (irrevocable-of good f d.number l s.view o i) ∙ subst (λ (p : Handle g.row.K.Denot). is_irrevocable (known p) ≡ false) (sym c.desc.view_is) c.requires.revocable) in
     let quiet : l.committing ≡ false = ap (λ (p : Handle g.row.K.Denot). (known p).committing) c.desc.view_is ∙ c.requires.running.1 in
     let high : c.args.depth ≤ l.depth = subst (λ (p : Handle g.row.K.Denot). c.args.depth ≤ p.own.depth) (sym c.desc.view_is) c.requires.high in
     let log = c.roll_to.new.self in
@@ -57,7 +57,7 @@ truncate-requires g c =
     let i = runs-of g.K.MemRule.good f c.args.stm.now.rule h e d.number l c.desc.view_is c.requires.stm.config c.requires.stm.rule c.requires.running.0 c.desc.invariant.1 in
     let serial : s.view.gate.algorithm ≡ Serial = subst (λ (p : Handle g.row.K.Denot). (known p).alg ≡ Serial) (sym c.desc.view_is) c.requires.algorithm in
     let named : l.algorithm ≡ Serial = sym i.named ∙ serial in
-    let plain : l.granted ≡ false = (λ j. is_sure (sym named j) l.granted l.wrote) ∙ (sym (sure-of good f d.number l s.view o i) ∙ subst (λ (p : Handle g.row.K.Denot). is_irrevocable (known p) ≡ false) (sym c.desc.view_is) c.requires.revocable) in
+    let plain : l.granted ≡ false = (λ j. irrevocable_under (sym named j) l.granted l.wrote) ∙ (sym (irrevocable-of good f d.number l s.view o i) ∙ subst (λ (p : Handle g.row.K.Denot). is_irrevocable (known p) ≡ false) (sym c.desc.view_is) c.requires.revocable) in
     let quiet : l.committing ≡ false = ap (λ (p : Handle g.row.K.Denot). (known p).committing) c.desc.view_is ∙ c.requires.running.1 in
     let high : c.args.depth ≤ l.depth = subst (λ (p : Handle g.row.K.Denot). c.args.depth ≤ p.own.depth) (sym c.desc.view_is) c.requires.high in
     let log = c.roll_to.new.self in
@@ -80,7 +80,7 @@ store_again-requires-clause-again g c =
     let i = runs-of g.K.MemRule.good f c.args.stm.now.rule h e d.number l c.desc.view_is c.requires.stm.config c.requires.stm.rule c.requires.running.0 c.desc.invariant.1 in
     let serial : s.view.gate.algorithm ≡ Serial = subst (λ (p : Handle g.row.K.Denot). (known p).alg ≡ Serial) (sym c.desc.view_is) c.requires.algorithm in
     let named : l.algorithm ≡ Serial = sym i.named ∙ serial in
-    let plain : l.granted ≡ false = (λ j. is_sure (sym named j) l.granted l.wrote) ∙ (sym (sure-of good f d.number l s.view o i) ∙ subst (λ (p : Handle g.row.K.Denot). is_irrevocable (known p) ≡ false) (sym c.desc.view_is) c.requires.revocable) in
+    let plain : l.granted ≡ false = (λ j. irrevocable_under (sym named j) l.granted l.wrote) ∙ (sym (irrevocable-of good f d.number l s.view o i) ∙ subst (λ (p : Handle g.row.K.Denot). is_irrevocable (known p) ≡ false) (sym c.desc.view_is) c.requires.revocable) in
     let quiet : l.committing ≡ false = ap (λ (p : Handle g.row.K.Denot). (known p).committing) c.desc.view_is ∙ c.requires.running.1 in
     let high : c.args.depth ≤ l.depth = subst (λ (p : Handle g.row.K.Denot). c.args.depth ≤ p.own.depth) (sym c.desc.view_is) c.requires.high in
     let log = c.roll_to.new.self in
@@ -104,7 +104,7 @@ invariant_of-desc g c =
     let i = runs-of g.K.MemRule.good f c.args.stm.now.rule h e d.number l c.desc.view_is c.requires.stm.config c.requires.stm.rule c.requires.running.0 c.desc.invariant.1 in
     let serial : s.view.gate.algorithm ≡ Serial = subst (λ (p : Handle g.row.K.Denot). (known p).alg ≡ Serial) (sym c.desc.view_is) c.requires.algorithm in
     let named : l.algorithm ≡ Serial = sym i.named ∙ serial in
-    let plain : l.granted ≡ false = (λ j. is_sure (sym named j) l.granted l.wrote) ∙ (sym (sure-of good f d.number l s.view o i) ∙ subst (λ (p : Handle g.row.K.Denot). is_irrevocable (known p) ≡ false) (sym c.desc.view_is) c.requires.revocable) in
+    let plain : l.granted ≡ false = (λ j. irrevocable_under (sym named j) l.granted l.wrote) ∙ (sym (irrevocable-of good f d.number l s.view o i) ∙ subst (λ (p : Handle g.row.K.Denot). is_irrevocable (known p) ≡ false) (sym c.desc.view_is) c.requires.revocable) in
     let quiet : l.committing ≡ false = ap (λ (p : Handle g.row.K.Denot). (known p).committing) c.desc.view_is ∙ c.requires.running.1 in
     let high : c.args.depth ≤ l.depth = subst (λ (p : Handle g.row.K.Denot). c.args.depth ≤ p.own.depth) (sym c.desc.view_is) c.requires.high in
     let log = c.roll_to.new.self in
@@ -152,7 +152,7 @@ returns-clause-rolls g c =
     let i = runs-of g.K.MemRule.good f c.args.stm.now.rule h e d.number l c.desc.view_is c.requires.stm.config c.requires.stm.rule c.requires.running.0 c.desc.invariant.1 in
     let serial : s.view.gate.algorithm ≡ Serial = subst (λ (p : Handle g.row.K.Denot). (known p).alg ≡ Serial) (sym c.desc.view_is) c.requires.algorithm in
     let named : l.algorithm ≡ Serial = sym i.named ∙ serial in
-    let plain : l.granted ≡ false = (λ j. is_sure (sym named j) l.granted l.wrote) ∙ (sym (sure-of good f d.number l s.view o i) ∙ subst (λ (p : Handle g.row.K.Denot). is_irrevocable (known p) ≡ false) (sym c.desc.view_is) c.requires.revocable) in
+    let plain : l.granted ≡ false = (λ j. irrevocable_under (sym named j) l.granted l.wrote) ∙ (sym (irrevocable-of good f d.number l s.view o i) ∙ subst (λ (p : Handle g.row.K.Denot). is_irrevocable (known p) ≡ false) (sym c.desc.view_is) c.requires.revocable) in
     let quiet : l.committing ≡ false = ap (λ (p : Handle g.row.K.Denot). (known p).committing) c.desc.view_is ∙ c.requires.running.1 in
     let high : c.args.depth ≤ l.depth = subst (λ (p : Handle g.row.K.Denot). c.args.depth ≤ p.own.depth) (sym c.desc.view_is) c.requires.high in
     let log = c.roll_to.new.self in

@@ -1,5 +1,5 @@
 use Rattle.std.proofs.Common.{◌≡◌, ◌≤◌, true, false, refl, sym, ap, subst, ◌∙◌, rules, arith}
-use Rattle.stm_model.specs.Algorithms.{is_sure}
+use Rattle.stm_model.specs.Algorithms.{irrevocable_under}
 use Rattle.stm_rule.specs.Attempts.{SameLengths, good_by, own_of}
 use Rattle.stm_rule.specs.Callers.{Handle, handle_of}
 use Rattle.tx_answers.specs.declared.answers.Roll.TheVariants as rolls
@@ -14,8 +14,8 @@ use Rattle.alg_seq.specs.Nesting.{is_sequential}
 use Rattle.alg_seq.proofs.NestingLaws as nesting
 use Rattle.alg_seq.proofs.nesting.roll_to.Goals as goal
 
-pub returns-then-sure-clause-rolls : goal.returns-then-sure-clause-rolls
-returns-then-sure-clause-rolls g c =
+pub returns-then-irrevocable-clause-rolls : goal.returns-then-irrevocable-clause-rolls
+returns-then-irrevocable-clause-rolls g c =
     let f = c.args.stm.now.config in
     let good = g.K.MemRule.good c.args.stm.now.rule in
     let d = c.desc.inside in
@@ -26,8 +26,8 @@ returns-then-sure-clause-rolls g c =
     let e = c.args.desc.now in
     let i = runs-of g.K.MemRule.good f c.args.stm.now.rule h e d.number l c.desc.view_is c.requires.stm.config c.requires.stm.rule c.requires.running.0 c.desc.invariant.1 in
     let sequential : is_sequential s.view.gate.algorithm ≡ true = subst (λ (p : Handle g.row.K.Denot). is_sequential (known p).alg ≡ true) (sym c.desc.view_is) c.requires.algorithm in
-    let sure : is_sure l.algorithm l.granted l.wrote ≡ true = sym c.is_sure-sure.ensures ∙ c.if-sure.true in
-    (refl, subst (λ (p : Handle g.row.K.Denot). is_irrevocable (known p) ≡ true) c.desc.view_is (nesting.deeper-marked good f d.number l s.view i sequential sure 0))
+    let irrevocable : irrevocable_under l.algorithm l.granted l.wrote ≡ true = sym c.irrevocable_under-irrevocable.ensures ∙ c.if-irrevocable.true in
+    (refl, subst (λ (p : Handle g.row.K.Denot). is_irrevocable (known p) ≡ true) c.desc.view_is (nesting.deeper-marked good f d.number l s.view i sequential irrevocable 0))
 
 pub invariant_of-desc : goal.invariant_of-desc
 invariant_of-desc g c =
@@ -41,7 +41,7 @@ invariant_of-desc g c =
     let e = c.args.desc.now in
     let i = runs-of g.K.MemRule.good f c.args.stm.now.rule h e d.number l c.desc.view_is c.requires.stm.config c.requires.stm.rule c.requires.running.0 c.desc.invariant.1 in
     let sequential : is_sequential s.view.gate.algorithm ≡ true = subst (λ (p : Handle g.row.K.Denot). is_sequential (known p).alg ≡ true) (sym c.desc.view_is) c.requires.algorithm in
-    let plain : is_sure l.algorithm l.granted l.wrote ≡ false = sym c.is_sure-sure.ensures ∙ c.if-sure.false in
+    let plain : irrevocable_under l.algorithm l.granted l.wrote ≡ false = sym c.irrevocable_under-irrevocable.ensures ∙ c.if-irrevocable.false in
     let high : c.args.depth ≤ l.depth = subst (λ (p : Handle g.row.K.Denot). c.args.depth ≤ p.own.depth) (sym c.desc.view_is) c.requires.high in
     let quiet : l.committing ≡ false = ap (λ (p : Handle g.row.K.Denot). (known p).committing) c.desc.view_is ∙ c.requires.running.1 in
     let tml = nesting.reads-only good f d.number l s.view i sequential plain c.in_default.not-Serial in
@@ -68,7 +68,7 @@ returns g c =
     let e = c.args.desc.now in
     let i = runs-of g.K.MemRule.good f c.args.stm.now.rule h e d.number l c.desc.view_is c.requires.stm.config c.requires.stm.rule c.requires.running.0 c.desc.invariant.1 in
     let sequential : is_sequential s.view.gate.algorithm ≡ true = subst (λ (p : Handle g.row.K.Denot). is_sequential (known p).alg ≡ true) (sym c.desc.view_is) c.requires.algorithm in
-    let plain : is_sure l.algorithm l.granted l.wrote ≡ false = sym c.is_sure-sure.ensures ∙ c.if-sure.false in
+    let plain : irrevocable_under l.algorithm l.granted l.wrote ≡ false = sym c.irrevocable_under-irrevocable.ensures ∙ c.if-irrevocable.false in
     let high : c.args.depth ≤ l.depth = subst (λ (p : Handle g.row.K.Denot). c.args.depth ≤ p.own.depth) (sym c.desc.view_is) c.requires.high in
     let quiet : l.committing ≡ false = ap (λ (p : Handle g.row.K.Denot). (known p).committing) c.desc.view_is ∙ c.requires.running.1 in
     let tml = nesting.reads-only good f d.number l s.view i sequential plain c.in_default.not-Serial in

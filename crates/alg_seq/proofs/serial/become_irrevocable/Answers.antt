@@ -15,10 +15,10 @@ use Rattle.stm_model.specs.declared.config.TheConstants.{CLOCK_LIMIT}
 use Rattle.rule_seq.specs.CglSteps.{load_limit, LoadsLimit}
 use Rattle.tx_logs.specs.LogStates.{LogState}
 use Rattle.tx_answers.specs.declared.answers.Irrev.TheVariants as grants
-use Rattle.tx_answers.specs.Answers.{Irrevs, BecomesSure}
+use Rattle.tx_answers.specs.Answers.{Irrevs, BecomesIrrevocable}
 use Rattle.tx_answers.specs.Known.{caller_of}
-use Rattle.alg_seq.proofs.Locked.{stays-sure}
-use Rattle.alg_seq.proofs.Keeping.{sure-by, revocable-by, quits-back, full-after}
+use Rattle.alg_seq.proofs.Locked.{stays-irrevocable}
+use Rattle.alg_seq.proofs.Keeping.{irrevocable-by, revocable-by, quits-back, full-after}
 use Rattle.alg_seq.proofs.Granting.{clocked-full, tells-granted}
 use Rattle.alg_seq.proofs.serial.become_irrevocable.Goals as goal
 
@@ -32,9 +32,9 @@ returns-then-desc-clause-irrevs g c =
     let i = runs-of g.K.MemRule.good f c.args.stm.now.rule (handle_of d.seat o) c.args.desc.now d.number d.local c.desc.view_is c.requires.stm.config c.requires.stm.rule c.requires.running.0 c.desc.invariant.1 in
     let named = subst (λ (h : Handle g.row.K.Denot). (known h).alg ≡ Serial) (sym c.desc.view_is) c.requires.algorithm in
     let serial : d.local.algorithm ≡ Serial = sym i.named ∙ named in
-    let sure = revocable-by good f d.number d.local s.view i serial o ∙ (sure-by good f d.number d.local s.view i serial ∙ c.if-desc.true) in
-    subst (λ (h : Handle g.row.K.Denot). BecomesSure good f (number h) (known h) (known h)) c.desc.view_is
-    (subst (λ k. BecomesSure good f k (known_of s.view o) (known_of s.view o)) (sym (ap caller_of c.desc.invariant.0.named)) (stays-sure good f d.number d.local s.view o i (ap (λ (p : Handle g.row.K.Denot). (known p).committing) c.desc.view_is ∙ c.requires.running.1) sure))
+    let irrevocable = revocable-by good f d.number d.local s.view i serial o ∙ (irrevocable-by good f d.number d.local s.view i serial ∙ c.if-desc.true) in
+    subst (λ (h : Handle g.row.K.Denot). BecomesIrrevocable good f (number h) (known h) (known h)) c.desc.view_is
+    (subst (λ k. BecomesIrrevocable good f k (known_of s.view o) (known_of s.view o)) (sym (ap caller_of c.desc.invariant.0.named)) (stays-irrevocable good f d.number d.local s.view o i (ap (λ (p : Handle g.row.K.Denot). (known p).committing) c.desc.view_is ∙ c.requires.running.1) irrevocable))
 
 pub returns-then-clock-ge-CLOCK_LIMIT-clause-irrevs : goal.returns-then-clock-ge-CLOCK_LIMIT-clause-irrevs
 returns-then-clock-ge-CLOCK_LIMIT-clause-irrevs g c =

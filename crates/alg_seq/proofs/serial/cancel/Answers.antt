@@ -13,7 +13,7 @@ use Rattle.stm_gate.specs.Told.{told}
 use Rattle.tx_answers.specs.declared.answers.Cancel.TheVariants.{Cancelled}
 use Rattle.tx_answers.specs.Answers.{Cancels}
 use Rattle.alg_seq.proofs.Locked.{locked}
-use Rattle.alg_seq.proofs.Keeping.{ended-back, sure-by, revocable-by}
+use Rattle.alg_seq.proofs.Keeping.{ended-back, irrevocable-by, revocable-by}
 use Rattle.alg_seq.proofs.serial.cancel.Goals as goal
 
 pub returns-clause-cancels : goal.returns-clause-cancels
@@ -36,5 +36,5 @@ returns-clause-cancels g c =
       ended-back good f d.number d.local s.view i serial w.view o gives,
       omega arith,
       omega arith,
-      revocable-by good f d.number d.local s.view i serial o ∙ (sure-by good f d.number d.local s.view i serial ∙ c.if-desc.false),
+      revocable-by good f d.number d.local s.view i serial o ∙ (irrevocable-by good f d.number d.local s.view i serial ∙ c.if-desc.false),
     ))

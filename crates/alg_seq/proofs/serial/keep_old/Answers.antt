@@ -4,7 +4,7 @@ use Rattle.rule_base.specs.declared.views.View.{View}
 use Rattle.rule_base.specs.Encodings.{fenced}
 use Rattle.stm_rule.specs.Attempts.{ended}
 use Rattle.alg_seq.specs.Storing.{GivesUp}
-use Rattle.alg_seq.proofs.Keeping.{named, may-store-sure, may-store-logged, quits-back, full-after, full-by, roomy-empty}
+use Rattle.alg_seq.proofs.Keeping.{named, may-store-irrevocable, may-store-logged, quits-back, full-after, full-by, roomy-empty}
 use Rattle.alg_seq.proofs.Locked.{locked, or-middle}
 use Rattle.alg_seq.proofs.serial.keep_old.Goals as goal
 
@@ -21,7 +21,7 @@ returns-then-local-clause-keeps g c =
       undo_len = refl;
       writes_len = refl;
       marks = refl;
-      may = may-store-sure good f c.args.caller l v i c.requires.serial c.args.a c.args.x c.requires.inside (ap (λ k. fenced k c.args.a) (sym i.spared.is) ∙ c.requires.spared) c.if-local.true (j.limit (or-middle (asks_at_begin l.algorithm) l.granted l.wrote c.if-local.true));
+      may = may-store-irrevocable good f c.args.caller l v i c.requires.serial c.args.a c.args.x c.requires.inside (ap (λ k. fenced k c.args.a) (sym i.spared.is) ∙ c.requires.spared) c.if-local.true (j.limit (or-middle (asks_at_begin l.algorithm) l.granted l.wrote c.if-local.true));
     }
 
 pub returns-in-Err-clause-keeps : goal.returns-in-Err-clause-keeps

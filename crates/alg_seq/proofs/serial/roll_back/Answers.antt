@@ -1,6 +1,6 @@
 use Rattle.std.proofs.Common.{◌≡◌, ◌<◌, ◌≤◌, List, [], ◌∷◌, length, false, refl, sym, ap, ◌∙◌, subst, arith}
 use Rattle.std.specs.Prelude.{None}
-use Rattle.stm_model.specs.Algorithms.{takes_lock, is_sure}
+use Rattle.stm_model.specs.Algorithms.{takes_lock, irrevocable_under}
 use Rattle.rule_base.specs.declared.layout.At.TheVariants.{Heap, Lock}
 use Rattle.rule_base.specs.declared.seats.SeatView.{SeatView}
 use Rattle.rule_base.specs.declared.views.Act.TheVariants.{Store}
@@ -26,7 +26,7 @@ loop-i-init g c =
     let v = c.args.seat.now.me.0.view in
     let i = c.requires.attempt in
     let k = locked good f c.args.caller l v (ap takes_lock (i.named ∙ c.requires.serial.0)) i in
-    let revocable : v.lock.irrevocable ≡ false = k.sure ∙ (ap (λ a. is_sure a l.granted l.wrote) c.requires.serial.0 ∙ c.requires.serial.1) in
+    let revocable : v.lock.irrevocable ≡ false = k.irrevocable ∙ (ap (λ a. irrevocable_under a l.granted l.wrote) c.requires.serial.0 ∙ c.requires.serial.1) in
     record {
       table = refl;
       id = refl;

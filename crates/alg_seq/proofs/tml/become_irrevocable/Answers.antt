@@ -9,7 +9,7 @@ use Rattle.tx_answers.specs.Answers as answers
 use Rattle.tx_answers.specs.Known.{caller_of}
 use Rattle.stm_gate.specs.Knowing.{known, number}
 use Rattle.stm_gate.specs.Standing.{runs-of, tml-of}
-use Rattle.stm_gate.specs.Granting.{Grants, irrevs-after, sure-already}
+use Rattle.stm_gate.specs.Granting.{Grants, irrevs-after, irrevocable-already}
 use Rattle.alg_seq.proofs.TmlLaws as laws
 use Rattle.alg_seq.proofs.tml.become_irrevocable.Goals as goal
 
@@ -28,8 +28,8 @@ returns-then-desc-clause-irrevs g c =
     let tml = subst (λ (p : Handle g.row.K.Denot). (known p).alg ≡ Tml) (sym c.desc.view_is) c.requires.algorithm in
     let low : d.number < f.callers = subst (λ (q : Config). d.number < q.callers) (subst (λ (p : Handle g.row.K.Denot). p.who.config ≡ f) (sym c.desc.view_is) c.requires.stm.config) c.desc.invariant.0.low in
     let granted : d.local.granted ≡ true = search rules in
-    let sure = laws.sure-granted good f d.number d.local s.view o i tml granted in
-    subst (λ (p : Handle g.row.K.Denot). answers.BecomesSure good f (number p) (known p) (known p)) c.desc.view_is (subst (λ (q : ℕ). answers.BecomesSure good f q (known h) (known h)) (sym name) (sure-already good f d.number d.local s.view o (ap (λ (p : Handle g.row.K.Denot). (known p).committing) c.desc.view_is ∙ c.requires.running.1) i sure))
+    let irrevocable = laws.irrevocable-granted good f d.number d.local s.view o i tml granted in
+    subst (λ (p : Handle g.row.K.Denot). answers.BecomesIrrevocable good f (number p) (known p) (known p)) c.desc.view_is (subst (λ (q : ℕ). answers.BecomesIrrevocable good f q (known h) (known h)) (sym name) (irrevocable-already good f d.number d.local s.view o (ap (λ (p : Handle g.row.K.Denot). (known p).committing) c.desc.view_is ∙ c.requires.running.1) i irrevocable))
 
 pub returns-then-desc-2-clause-irrevs : goal.returns-then-desc-2-clause-irrevs
 returns-then-desc-2-clause-irrevs g c =
@@ -48,8 +48,8 @@ returns-then-desc-2-clause-irrevs g c =
     let plain : d.local.granted ≡ false = search rules in
     let k = tml-of good f d.number d.local s.view i tml plain in
     let dirty : d.local.wrote ≡ true = search rules in
-    let sure = laws.sure-writer good f d.number d.local s.view o (ap (λ (p : Handle g.row.K.Denot). (known p).committing) c.desc.view_is ∙ c.requires.running.1) i tml k dirty in
-    subst (λ (p : Handle g.row.K.Denot). answers.BecomesSure good f (number p) (known p) (known p)) c.desc.view_is (subst (λ (q : ℕ). answers.BecomesSure good f q (known h) (known h)) (sym name) (sure-already good f d.number d.local s.view o (ap (λ (p : Handle g.row.K.Denot). (known p).committing) c.desc.view_is ∙ c.requires.running.1) i sure))
+    let irrevocable = laws.irrevocable-writer good f d.number d.local s.view o (ap (λ (p : Handle g.row.K.Denot). (known p).committing) c.desc.view_is ∙ c.requires.running.1) i tml k dirty in
+    subst (λ (p : Handle g.row.K.Denot). answers.BecomesIrrevocable good f (number p) (known p) (known p)) c.desc.view_is (subst (λ (q : ℕ). answers.BecomesIrrevocable good f q (known h) (known h)) (sym name) (irrevocable-already good f d.number d.local s.view o (ap (λ (p : Handle g.row.K.Denot). (known p).committing) c.desc.view_is ∙ c.requires.running.1) i irrevocable))
 
 pub returns-in-Alone-clause-irrevs : goal.returns-in-Alone-clause-irrevs
 returns-in-Alone-clause-irrevs g c =

@@ -27,8 +27,8 @@ returns-then-desc-clause-cancels g c =
     let tml = subst (λ (p : Handle g.row.K.Denot). (known p).alg ≡ Tml) (sym c.desc.view_is) c.requires.algorithm in
     let low : d.number < f.callers = subst (λ (q : Config). d.number < q.callers) (subst (λ (p : Handle g.row.K.Denot). p.who.config ≡ f) (sym c.desc.view_is) c.requires.stm.config) c.desc.invariant.0.low in
     let granted : d.local.granted ≡ true = search rules in
-    let sure = laws.sure-granted good f d.number d.local s.view o i tml granted in
-    (refl, subst (λ (p : Handle g.row.K.Denot). is_irrevocable (known p) ≡ true) c.desc.view_is sure)
+    let irrevocable = laws.irrevocable-granted good f d.number d.local s.view o i tml granted in
+    (refl, subst (λ (p : Handle g.row.K.Denot). is_irrevocable (known p) ≡ true) c.desc.view_is irrevocable)
 
 pub returns-then-desc-2-clause-cancels : goal.returns-then-desc-2-clause-cancels
 returns-then-desc-2-clause-cancels g c =
@@ -47,8 +47,8 @@ returns-then-desc-2-clause-cancels g c =
     let plain : d.local.granted ≡ false = search rules in
     let k = tml-of good f d.number d.local s.view i tml plain in
     let dirty : d.local.wrote ≡ true = search rules in
-    let sure = laws.sure-writer good f d.number d.local s.view o (ap (λ (p : Handle g.row.K.Denot). (known p).committing) c.desc.view_is ∙ c.requires.running.1) i tml k dirty in
-    (refl, subst (λ (p : Handle g.row.K.Denot). is_irrevocable (known p) ≡ true) c.desc.view_is sure)
+    let irrevocable = laws.irrevocable-writer good f d.number d.local s.view o (ap (λ (p : Handle g.row.K.Denot). (known p).committing) c.desc.view_is ∙ c.requires.running.1) i tml k dirty in
+    (refl, subst (λ (p : Handle g.row.K.Denot). is_irrevocable (known p) ≡ true) c.desc.view_is irrevocable)
 
 pub returns-clause-cancels : goal.returns-clause-cancels
 returns-clause-cancels g c =

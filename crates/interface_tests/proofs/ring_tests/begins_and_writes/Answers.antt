@@ -1,7 +1,7 @@
 use Rattle.std.proofs.Common.{ℕ, ◌≡◌, Bool, List, [], ◌∷◌, ap, true, false, refl, ◌∙◌, arith}
 use Rattle.std.specs.Prelude.{Some, not, ◌==◌, if◌then◌else◌}
 use Rattle.std.proofs.lemmas.Bool.Decides.{nat_tests}
-use Rattle.stm_model.specs.Algorithms.{is_sure}
+use Rattle.stm_model.specs.Algorithms.{irrevocable_under}
 use Rattle.stm_model.specs.declared.alg.Alg.TheVariants.{RingSw}
 use Rattle.stm_model.specs.Logs.{Log, Writes}
 use Rattle.stm_model.specs.Memories.{item_at, is_empty}
@@ -11,7 +11,7 @@ use Rattle.stm_tx.specs.Descs.{known}
 use Rattle.interface_tests.proofs.ring_tests.begins_and_writes.Goals as goal
 
 still-revocable : (k : Known) → k.alg ≡ RingSw → k.granted ≡ false → is_irrevocable k ≡ false
-still-revocable k alg granted = λ j. is_sure (alg j) (granted j) (wrote k)
+still-revocable k alg granted = λ j. irrevocable_under (alg j) (granted j) (wrote k)
 
 -- what was written is in the log
 some-written : (l k : Log) (a x : ℕ) → Writes l a x k → not (is_empty k.writes) ≡ true

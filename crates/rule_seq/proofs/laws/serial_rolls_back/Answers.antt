@@ -1,5 +1,5 @@
 use Rattle.std.proofs.Common.{ℕ, ◌≡◌, ◌<◌, ◌+◌, true, false, refl, sym, ap, ◌∙◌, arith}
-use Rattle.stm_model.specs.Algorithms.{takes_lock, is_sure}
+use Rattle.stm_model.specs.Algorithms.{takes_lock, irrevocable_under}
 use Rattle.stm_model.specs.declared.alg.Alg.{Alg}
 use Rattle.stm_model.specs.declared.config.Config.{Config}
 use Rattle.rule_base.specs.declared.views.GateView.{GateView}
@@ -12,7 +12,7 @@ use Rattle.rule_seq.proofs.laws.serial_rolls_back.Goals as goal
 serial_rolls_back_lem : (good : (ℕ → ℕ) → Type 0) (c : Config) → SerialRollsBack good c
 serial_rolls_back_lem good c gates phase alg unheld callers clock words keeps =
     let locks : takes_lock (gates 0).algorithm ≡ true = ap takes_lock alg in
-    let open_yet : is_sure (gates 0).algorithm false false ≡ false = ap (λ (a : Alg). is_sure a false false) alg in (
+    let open_yet : irrevocable_under (gates 0).algorithm false false ≡ false = ap (λ (a : Alg). irrevocable_under a false false) alg in (
       (
         (callers, record { phase = phase; algorithm = locks; free = refl }),
         (

@@ -1,8 +1,9 @@
-use Rattle.std.proofs.Common.{ℕ, ◌≡◌, ◌<◌, ◌≤◌, ◌+◌, ◌∙◌, true, false, ap, refl, subst, sym, rules}
-use Rattle.std.specs.Prelude.{not}
+use Rattle.std.proofs.Common.{ℕ, List, ◌≡◌, ◌<◌, ◌≤◌, ◌+◌, true, false, ap, refl, subst, sym, rules}
 use Rattle.stm_model.specs.declared.config.Config.{Config}
 use Rattle.stm_model.specs.declared.config.TheConstants.{CLOCK_LIMIT}
 use Rattle.stm_model.specs.Memories.{is_empty}
+use Rattle.rule_base.specs.Bridge.{items}
+use Rattle.rule_base.specs.declared.entries.Cell.{Cell}
 use Rattle.rule_base.specs.Encodings.{gate_word}
 use Rattle.rule_base.specs.FenceSteps.{fence_commit, FenceCommits, unfence}
 use Rattle.rule_base.specs.InstallSteps.{settle, store_base, store_done}
@@ -18,7 +19,8 @@ use Rattle.tx_answers.specs.Fences.{KeepsFenced, Gives}
 use Rattle.tx_answers.specs.Known.{Known, caller_of}
 use Rattle.stm_gate.specs.Knowing.{known, number}
 use Rattle.stm_gate.specs.Standing.{shown-of}
-use Rattle.stm_gate.proofs.FenceLaws.{not-false, not-true, can-unfence, stored-none, can-commit, tells-unchanged, tells-full, tells-given}
+use Rattle.stm_gate.specs.Logging.{wrote-some}
+use Rattle.stm_gate.proofs.FenceLaws.{can-unfence, can-commit, tells-unchanged, tells-full, tells-given}
 use Rattle.stm_gate.proofs.fence.give_back.Goals as goal
 
 pub unfence-requires-clause-view : goal.unfence-requires-clause-view
@@ -34,12 +36,12 @@ unfence-requires-clause-view g c =
     let closing = subst (λ (q : Config). IsClosing q.callers d.number d.local s.view) configured (closing-of (good_by g.K.MemRule.good s.who.rule) s.who.config d.number d.local s.view holds.phase c.desc.invariant.1) in
     let quiet = subst (λ (k : ℕ). SeesQuiet good f k (known h)) name (subst (λ (p : Handle g.row.K.Denot). SeesQuiet good f (number p) (known p)) (sym c.desc.view_is) c.requires.quiet) in
     let held = subst (λ (p : Handle g.row.K.Denot). (known p).fenced.held ≡ true) (sym c.desc.view_is) c.requires.held in
-    let off : c.args.changed ≡ false = search rules in
-    let none = not-false (is_empty (known h).fenced.log.writes) (sym (subst (λ (p : Handle g.row.K.Denot). c.args.changed ≡ not (is_empty (known p).fenced.log.writes)) (sym c.desc.view_is) c.requires.changed) ∙ off) in
-    can-unfence good f d.number d.local s.view closing quiet held (stored-none good f d.number s.view (own_of d.local) none)
+    let off : c.own_fence-stored.result.stored ≡ false = search rules in
+    let none = c.own_fence-stored.ensures.clean off in
+    can-unfence good f d.number d.local s.view closing quiet held none
 
-pub returns-then-not-changed-clause-gives : goal.returns-then-not-changed-clause-gives
-returns-then-not-changed-clause-gives g c =
+pub returns-then-not-stored-clause-gives : goal.returns-then-not-stored-clause-gives
+returns-then-not-stored-clause-gives g c =
     let f = c.args.stm.now.config in
     let good = g.K.MemRule.good c.args.stm.now.rule in
     let d = c.desc.inside in
@@ -49,11 +51,11 @@ returns-then-not-changed-clause-gives g c =
     let e = c.args.desc.now in
     let name : caller_of s.who.role ≡ d.number = ap caller_of c.desc.invariant.0.named in
     let holds = subst (λ (p : Handle g.row.K.Denot). HoldsClosed (known p)) (sym c.desc.view_is) c.requires.closing in
-    let off : c.args.changed ≡ false = search rules in
-    let none = not-false (is_empty (known h).fenced.log.writes) (sym (subst (λ (p : Handle g.row.K.Denot). c.args.changed ≡ not (is_empty (known p).fenced.log.writes)) (sym c.desc.view_is) c.requires.changed) ∙ off) in
+    let off : c.own_fence-stored.result.stored ≡ false = search rules in
+    let none = c.own_fence-stored.ensures.clean off in
     let w = c.unfence.new.seat.me.0 in
     shown-of (λ (n : ℕ) (v w : Known). Gives good f n Unchanged v w) h e d.number w.view d.local (record d.local { fence = 0 }) c.desc.view_is refl name
-    (tells-unchanged good f d.number d.local.algorithm s.view w.view o holds none (tells-of (unfence d.number d.local.algorithm) Nothing s (gate_word 0 (1 + d.number) d.local.algorithm) w c.unfence.ensures.step))
+    (tells-unchanged good f d.number d.local.algorithm s.view w.view o holds (ap (λ (cs : List Cell). is_empty (items cs)) none) (tells-of (unfence d.number d.local.algorithm) Nothing s (gate_word 0 (1 + d.number) d.local.algorithm) w c.unfence.ensures.step))
 
 pub returns-then-clock-ge-CLOCK_LIMIT-clause-gives : goal.returns-then-clock-ge-CLOCK_LIMIT-clause-gives
 returns-then-clock-ge-CLOCK_LIMIT-clause-gives g c =
@@ -66,8 +68,8 @@ returns-then-clock-ge-CLOCK_LIMIT-clause-gives g c =
     let e = c.args.desc.now in
     let name : caller_of s.who.role ≡ d.number = ap caller_of c.desc.invariant.0.named in
     let holds = subst (λ (p : Handle g.row.K.Denot). HoldsClosed (known p)) (sym c.desc.view_is) c.requires.closing in
-    let on : c.args.changed ≡ true = search rules in
-    let some = not-true (is_empty (known h).fenced.log.writes) (sym (subst (λ (p : Handle g.row.K.Denot). c.args.changed ≡ not (is_empty (known p).fenced.log.writes)) (sym c.desc.view_is) c.requires.changed) ∙ on) in
+    let on : c.own_fence-stored.result.stored ≡ true = search rules in
+    let some = wrote-some s.view.fence.stores (c.own_fence-stored.ensures.dirty on) in
     let t = c.settle_back-clock.result in
     let w = c.settle_back-clock.new.seat.me.0 in
     let high : CLOCK_LIMIT ≤ t = search rules in
@@ -87,8 +89,8 @@ fence_commit-requires-clause-view g c =
     let closing = subst (λ (q : Config). IsClosing q.callers d.number d.local s.view) configured (closing-of (good_by g.K.MemRule.good s.who.rule) s.who.config d.number d.local s.view holds.phase c.desc.invariant.1) in
     let held = subst (λ (p : Handle g.row.K.Denot). (known p).fenced.held ≡ true) (sym c.desc.view_is) c.requires.held in
     let keeps = subst (λ (k : ℕ). KeepsFenced good f k (known h)) name (subst (λ (p : Handle g.row.K.Denot). KeepsFenced good f (number p) (known p)) (sym c.desc.view_is) c.requires.keeps) in
-    let on : c.args.changed ≡ true = search rules in
-    let some = not-true (is_empty (known h).fenced.log.writes) (sym (subst (λ (p : Handle g.row.K.Denot). c.args.changed ≡ not (is_empty (known p).fenced.log.writes)) (sym c.desc.view_is) c.requires.changed) ∙ on) in
+    let on : c.own_fence-stored.result.stored ≡ true = search rules in
+    let some = wrote-some s.view.fence.stores (c.own_fence-stored.ensures.dirty on) in
     let t = c.settle_back-clock.result in
     let w = c.settle_back-clock.new.seat.me.0 in
     let low : t < CLOCK_LIMIT = search rules in
@@ -107,8 +109,8 @@ returns-clause-gives g c =
     let holds = subst (λ (p : Handle g.row.K.Denot). HoldsClosed (known p)) (sym c.desc.view_is) c.requires.closing in
     let configured = subst (λ (p : Handle g.row.K.Denot). p.who.config ≡ f) (sym c.desc.view_is) c.requires.stm.config in
     let closing = subst (λ (q : Config). IsClosing q.callers d.number d.local s.view) configured (closing-of (good_by g.K.MemRule.good s.who.rule) s.who.config d.number d.local s.view holds.phase c.desc.invariant.1) in
-    let on : c.args.changed ≡ true = search rules in
-    let some = not-true (is_empty (known h).fenced.log.writes) (sym (subst (λ (p : Handle g.row.K.Denot). c.args.changed ≡ not (is_empty (known p).fenced.log.writes)) (sym c.desc.view_is) c.requires.changed) ∙ on) in
+    let on : c.own_fence-stored.result.stored ≡ true = search rules in
+    let some = wrote-some s.view.fence.stores (c.own_fence-stored.ensures.dirty on) in
     let alg = d.local.algorithm in
     let t = c.settle_back-clock.result in
     let time = t + c.entry_rise.result in

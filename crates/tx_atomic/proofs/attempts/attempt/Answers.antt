@@ -52,7 +52,7 @@ returns-in_err-output-clause-tried g c =
     let v = known c.open.new.desc in
     let w = known c.act.new.desc in
     let is = subst (λ n. IsStopped good stm.config n c.in_err-output.field-0.0 v w) (same-number c.args.desc.now c.open.new.desc c.open.ensures.same) c.in_err-output.ensures.stopped in
-    let tried = tried-stopped good stm.config (number c.args.desc.now) c.args.sure c.in_err-output.field-0.0 (known c.args.desc.now) v w c.args.pace.now.tally c.open.new.pace.tally (λ sure. let yes = c.in_ok-open.ensures.sure sure in let no = c.in_err-output.ensures.unrefused in absurd cc) c.in_ok-open.ensures.opens is in
+    let tried = tried-stopped good stm.config (number c.args.desc.now) c.args.irrevocable c.in_err-output.field-0.0 (known c.args.desc.now) v w c.args.pace.now.tally c.open.new.pace.tally (λ irrevocable. let yes = c.in_ok-open.ensures.irrevocable irrevocable in let no = c.in_err-output.ensures.unrefused in absurd cc) c.in_ok-open.ensures.opens is in
     let p = err_from_is_err_and c.from_residual-in_err-output.result c.from_residual-in_err-output.ensures.1 in
     rw (p.1, p.2) tried
 
@@ -65,7 +65,7 @@ returns-in_err-end-clause-tried g c =
     let w = known c.end.new.desc in
     let same : IsSameCaller c.args.desc.now c.act.new.desc = record { table = c.act.ensures.same.table ∙ c.open.ensures.same.table; who = c.act.ensures.same.who ∙ c.open.ensures.same.who } in
     let is = subst (λ n. Finishes good stm.config n (Some c.in_err-end.field-0.0) x w c.open.new.pace.tally c.end.new.pace.tally) (same-number c.args.desc.now c.act.new.desc same) c.in_err-end.ensures.finishes in
-    let tried = tried-uncommitted good stm.config (number c.args.desc.now) c.args.sure c.in_err-end.field-0.0 (known c.args.desc.now) v x w c.args.pace.now.tally c.open.new.pace.tally c.end.new.pace.tally (λ sure. let yes = c.in_ok-output.ensures.sure (c.in_ok-open.ensures.sure sure) in let no = c.in_err-end.ensures.unrefused in absurd cc) c.in_ok-open.ensures.opens c.act.ensures.grew is in
+    let tried = tried-uncommitted good stm.config (number c.args.desc.now) c.args.irrevocable c.in_err-end.field-0.0 (known c.args.desc.now) v x w c.args.pace.now.tally c.open.new.pace.tally c.end.new.pace.tally (λ irrevocable. let yes = c.in_ok-output.ensures.irrevocable (c.in_ok-open.ensures.irrevocable irrevocable) in let no = c.in_err-end.ensures.unrefused in absurd cc) c.in_ok-open.ensures.opens c.act.ensures.grew is in
     let p = err_from_is_err_and c.from_residual-in_err-end.result c.from_residual-in_err-end.ensures.1 in
     rw (p.1, p.2) tried
 
@@ -78,4 +78,4 @@ returns-clause-tried g c =
     let w = known c.end.new.desc in
     let same : IsSameCaller c.args.desc.now c.act.new.desc = record { table = c.act.ensures.same.table ∙ c.open.ensures.same.table; who = c.act.ensures.same.who ∙ c.open.ensures.same.who } in
     let is = subst (λ n. Finishes good stm.config n None x w c.open.new.pace.tally c.end.new.pace.tally) (same-number c.args.desc.now c.act.new.desc same) c.in_ok-end.ensures.finishes in
-    tried-done good stm.config (number c.args.desc.now) c.args.sure (known c.args.desc.now) v x w c.args.pace.now.tally c.open.new.pace.tally c.end.new.pace.tally c.in_ok-open.ensures.opens c.act.ensures.grew is
+    tried-done good stm.config (number c.args.desc.now) c.args.irrevocable (known c.args.desc.now) v x w c.args.pace.now.tally c.open.new.pace.tally c.end.new.pace.tally c.in_ok-open.ensures.opens c.act.ensures.grew is

@@ -14,7 +14,7 @@ invariant-loop g l = record {
   same : IsSameCaller l.fn.desc l.desc;
   running : (known l.desc).running ≡ true;
   log : (known l.desc).log ≡ (known l.fn.desc).log;
-  sure : is_irrevocable (known l.desc) ≡ is_irrevocable (known l.fn.desc);
+  irrevocable : is_irrevocable (known l.desc) ≡ is_irrevocable (known l.fn.desc);
   grew : Grows (known l.fn.desc) (known l.desc);
   later : (known l.fn.desc).start ≤ (known l.desc).start;
   made : (known l.desc).made ≡ (known l.fn.desc).made;

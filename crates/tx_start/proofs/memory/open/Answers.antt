@@ -1,4 +1,5 @@
-use Rattle.std.proofs.Common.{◌≡◌, ◌<◌, ◌∙◌, [], length, get_or, ap, subst, arith}
+use Rattle.std.proofs.Common.{◌≡◌, ◌<◌, ◌∙◌, List, [], ◌∷◌, ◌++◌, length, get_or, ap, subst, arith}
+use Rattle.stm_model.specs.declared.alg.Alg.{Alg}
 use Rattle.stm_model.specs.declared.config.Config.{Config}
 use Rattle.stm_rule.specs.Callers.{Handle}
 use Rattle.stm_tx.specs.Descs.{known}
@@ -26,5 +27,9 @@ returns-clause-new g c =
     let count = c.in_ok-stm.ensures.descs.1 in
     let asked = ap (λ (k : Config). k.callers) c.in_ok-stm.ensures.stm.0 in
     let some : 0 < length ds = let least = stm.ranges.callers.0 in omega arith in
-    let first : (known (get_or ds 0 c.index_mut.result.now)).made ≡ [] = all 0 c.index_mut.result.now some in
-    new-set ds c.switch_to.new.desc all (c.switch_to.ensures.made ∙ (ap (λ (h : Handle g.row.K.Denot). (known h).made) c.index_mut.ensures.value ∙ first))
+    let alg = c.args.alg in
+    let lent = c.index_mut.ensures.value in
+    let first = all 0 c.index_mut.result.now some in
+    let made : (known c.index_mut.result.now).made ≡ [] = ap (λ (h : Handle g.row.K.Denot). (known h).made) lent ∙ first.0 in
+    let none : (known c.index_mut.result.now).installs ≡ [] = ap (λ (h : Handle g.row.K.Denot). (known h).installs) lent ∙ first.1 in
+    new-set alg ds c.switch_to.new.desc all (c.switch_to.ensures.made ∙ made) (c.switch_to.ensures.installs ∙ ap (λ (xs : List Alg). xs ++ alg ∷ []) none)

@@ -6,8 +6,8 @@ use Rattle.stm_rule.specs.Product.{Whole}
 use Rattle.stm_rule.specs.Allowing.{law_of}
 use Rattle.stm_rule.proofs.stm.Stm.fence_store.Goals as goal
 
-pub store_as-requires-clause-law : goal.store_as-requires-clause-law
-store_as-requires-clause-law g c =
+pub store_own_as-requires-clause-law : goal.store_own_as-requires-clause-law
+store_own_as-requires-clause-law g c =
     let f = c.args.self.now.config in
     let m = good_of g.K.MemRule.good f c.args.self.now.rule in
     let n = c.args.caller in

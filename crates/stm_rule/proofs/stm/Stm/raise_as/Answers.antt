@@ -1,10 +1,13 @@
-use Rattle.std.proofs.Common.{ℕ, max, subst, ap, ◌∙◌}
+use Rattle.std.proofs.Common.{ℕ, max, subst, sym, ap, ◌∙◌}
 use mathlib.Core.Option.{none}
+use Rattle.atomic_table.specs.declared.shared.Seat.{Seat}
 use Rattle.atomic_table.specs.Table.{step}
+use Rattle.rule_base.specs.declared.seats.SeatView.{SeatView}
 use Rattle.rule_base.specs.Places.{offset, InRange}
-use Rattle.rule_base.specs.StepKinds.{word_after, answer_of}
+use Rattle.rule_base.specs.StepKinds.{word_after, answer_of, LawAt}
 use Rattle.stm_rule.specs.CoreRuns.{core_kind}
 use Rattle.stm_rule.specs.Allowing.{allows_at, inside}
+use Rattle.stm_rule.specs.Kept.{Rule}
 use Rattle.stm_rule.proofs.stm.Stm.raise_as.Goals as goal
 
 pub fetch_max-requires : goal.fetch_max-requires
@@ -15,9 +18,11 @@ fetch_max-requires g c =
     let kind = core_kind g.D.Stepping.caller g.D.Stepping.step in
     let word : ℕ = c.offset.result in
     let here = c.offset.ensures ∙ ap (λ p. offset t.config p) r.place.0 in
-    let room = subst (λ p. InRange t.config p) r.place.0 r.place.1 in (
-      r.seat.0,
+    let room = subst (λ p. InRange t.config p) r.place.0 r.place.1 in
+    let s = c.seat.inside.seat in
+    let law = subst (λ (q : Seat (Unit {0}) (SeatView g.row.K.Denot)). LawAt (Rule g.K.MemRule.good t.config t.rule) kind g.D.Stepping.shows g.D.Stepping.caller q.me.0.view) (sym c.seat.view_is) r.law in (
+      ap (λ (q : Seat (Unit {0}) (SeatView g.row.K.Denot)). q.table_id) c.seat.view_is ∙ r.seat.0,
       inside t.config kind word z.words here room t.sized.0,
-      allows_at g.K.MemRule.good t.config t.rule kind g.D.Stepping.shows g.D.Stepping.caller c.args.seat.now.id c.args.seat.now.me (step z.slots word c.args.least 0 none) t.table.shared.key t.keyed z.slots word (λ x. max x c.args.least) (λ x. x) here room
-          (λ x. ap (λ a. word_after a x) r.act) (λ x. ap (λ a. answer_of a x) r.act) r.seat.1 r.law,
+      allows_at g.K.MemRule.good t.config t.rule kind g.D.Stepping.shows g.D.Stepping.caller s.id s.me (step z.slots word c.args.least 0 none) t.table.shared.key t.keyed z.slots word (λ x. max x c.args.least) (λ x. x) here room
+          (λ x. ap (λ a. word_after a x) r.act) (λ x. ap (λ a. answer_of a x) r.act) (ap (λ (q : Seat (Unit {0}) (SeatView g.row.K.Denot)). q.me.0.who.role) c.seat.view_is ∙ r.seat.1) law,
     )

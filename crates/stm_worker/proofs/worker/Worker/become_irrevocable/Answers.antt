@@ -9,7 +9,7 @@ use Rattle.stm_trace.specs.Turns.{MaySay, Next}
 use Rattle.tx_answers.specs.Answers as answers
 use Rattle.tx_answers.specs.Known.{Known, IsRunning, caller_of, is_irrevocable}
 use Rattle.tx_answers.specs.Known as knows
-use Rattle.stm_model.specs.Algorithms.{is_sure}
+use Rattle.stm_model.specs.Algorithms.{irrevocable_under}
 use Rattle.stm_model.specs.declared.config.Config.{Config}
 use Rattle.tx_answers.specs.declared.answers.Cancel.{Cancel}
 use Rattle.tx_answers.specs.declared.answers.Cancel.TheVariants.{Cancelled, Irrevocable}
@@ -30,7 +30,7 @@ may u true r inside is next = inl (inside, sym is)
 may u false r inside is next = inr (inside, sym is, next refl)
 
 granted : {K : Type 0} → (good : _) (stm : Stm K) (u : Worker K) → Sound good stm u → (d : _) → IsSameCaller u.desc d → (forced : Bool) (w : Worker K) → u.phase ≡ Rattle.stm_trace.specs.declared.said.Phase.TheVariants.Inside → forced ≡ is_forced (place_of u) → (forced ≡ false → Next Irrev u.operations_left.now)
-    → answers.BecomesSure good stm.config (caller_of u.desc.who.role) (known u.desc) (known d) → MatchBool forced (w ≡ record (record u { desc = d }) { granted = true }) (DoneIrrev (record u { desc = d }) w)
+    → answers.BecomesIrrevocable good stm.config (caller_of u.desc.who.role) (known u.desc) (known d) → MatchBool forced (w ≡ record (record u { desc = d }) { granted = true }) (DoneIrrev (record u { desc = d }) w)
     → Turned good stm MaySay u (TryIrrevocable irrevs.Granted) w
 granted good stm u s d same true w inside is next h e = subst (Turned good stm MaySay u (TryIrrevocable irrevs.Granted)) (sym e) (turned-forced good stm u s d same inside (sym is) h)
 granted good stm u s d same false w inside is next h e =
@@ -94,15 +94,15 @@ returns-in-Taken g c =
     let w = h.0 in
     let n = caller_of u.desc.who.role in
     let x = known c.try_irrevocable.new.desc in
-    let off : is_irrevocable x ≡ false = (λ i. is_sure (w.continues.alg i) (w.granted i) (knows.wrote (record (known u.desc) { log = w.log i }))) ∙ w.revocable in
+    let off : is_irrevocable x ≡ false = (λ i. irrevocable_under (w.continues.alg i) (w.granted i) (knows.wrote (record (known u.desc) { log = w.log i }))) ∙ w.revocable in
     let here : caller_of c.try_irrevocable.new.desc.who.role ≡ n = callers-same u.desc c.try_irrevocable.new.desc c.try_irrevocable.ensures.same in
     let q = gone good stm.config n c.cancel.result x (known c.cancel.new.desc) off (subst (λ k. answers.Cancels good stm.config k c.cancel.result x (known c.cancel.new.desc)) here c.cancel.ensures.cancels) in
     let e = q.1.0 in
     let same = same-twice u.desc c.try_irrevocable.new.desc c.cancel.new.desc c.try_irrevocable.ensures.same c.cancel.ensures.same in
     record {
       turned = subst (Turned good stm MaySay u (TryIrrevocable said)) (sym c.make_way.ensures)
-          (turned-over good stm u s c.cancel.new.desc same MaySay (TryIrrevocable said) (with_outcome u.profile outcomes.Cancelled) (must_next u.must u.failed) u.passed (failed_next u.must u.failed) (cleared u.out) c.requires.inside (may u c.args.forced said c.requires.inside c.requires.forced c.requires.asked)
-          (runs-now good stm u s c.requires.inside) (x, h, q) refl (grows-trans (known u.desc) x (known c.cancel.new.desc) w.continues.grows e.ends.grows) e.ends.idle (e.made ∙ w.continues.made) (e.ends.installs ∙ w.continues.installs) refl
+          (turned-over good stm u s c.cancel.new.desc same MaySay (TryIrrevocable said) (with_outcome u.profile outcomes.Cancelled) (must_next u.must u.failed) u.passed (failed_next u.must u.failed) (cleared u.out) (λ m. m) c.requires.inside (may u c.args.forced said c.requires.inside c.requires.forced c.requires.asked)
+          (runs-now good stm u s c.requires.inside) (x, h, q) refl (grows-trans (known u.desc) x (known c.cancel.new.desc) w.continues.grows e.ends.grows) e.ends.idle (e.made ∙ w.continues.made) refl
           (few-next good stm u s c.cancel.new.desc same));
     }
 

@@ -13,7 +13,7 @@ returns-in-Closed g c =
     let u = c.args.self.now in
     let s = c.requires.sound in
     let h = c.in-Closed.ensures.closes in
-    record { turned = turned-closed good stm u s c.close_gate.new.desc c.close_gate.ensures.same (TryClose Closed) Closing (rest-between u.phase c.requires.between) tt (c.requires.between, c.requires.here) (idle-now good stm u s c.requires.between).1 h refl h.grows h.made h.installs h.holds c.requires.here }
+    record { turned = turned-closed good stm u s c.close_gate.new.desc c.close_gate.ensures.same (TryClose Closed) Closing (rest-between u.phase c.requires.between) tt (c.requires.between, c.requires.here) (idle-now good stm u s c.requires.between).1 h refl h.grows h.made h.holds c.requires.here }
 
 pub returns-in-Taken : goal.returns-in-Taken
 returns-in-Taken g c =

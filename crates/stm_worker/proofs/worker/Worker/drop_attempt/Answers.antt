@@ -4,7 +4,7 @@ use Rattle.stm_profile.specs.Profiles.{with_outcome}
 use Rattle.stm_trace.specs.declared.said.Said.TheVariants.{Dropped}
 use Rattle.stm_trace.specs.Turns.{MayWind}
 use Rattle.stm_worker.specs.Workers.{Turned, cleared}
-use Rattle.stm_worker.proofs.TurnLaws.{turned-over, dropped-refused, sure-place, runs-now}
+use Rattle.stm_worker.proofs.TurnLaws.{turned-over, dropped-refused, irrevocable-place, runs-now}
 use Rattle.std.proofs.Common.{◌∙◌}
 use Rattle.stm_worker.proofs.worker.Worker.drop_attempt.Goals as goal
 
@@ -16,8 +16,8 @@ returns-in-Cancelled g c =
     let s = c.requires.sound in
     let h = c.in-Cancelled.ensures.cancels in
     subst (Turned good stm MayWind u Dropped) (sym c.give_up_as.ensures)
-    (turned-over good stm u s c.cancel.new.desc c.cancel.ensures.same MayWind Dropped (with_outcome u.profile outcomes.Cancelled) u.must u.passed u.failed (cleared u.out) c.requires.inside (c.requires.inside, sure-place good stm u s c.requires.inside ∙ h.3) (runs-now good stm u s c.requires.inside) (c.in-Cancelled.time, h) refl
-    h.0.ends.grows h.0.ends.idle h.0.made h.0.ends.installs refl s.counted)
+    (turned-over good stm u s c.cancel.new.desc c.cancel.ensures.same MayWind Dropped (with_outcome u.profile outcomes.Cancelled) u.must u.passed u.failed (cleared u.out) (λ m. m) c.requires.inside (c.requires.inside, irrevocable-place good stm u s c.requires.inside ∙ h.3) (runs-now good stm u s c.requires.inside) (c.in-Cancelled.time, h) refl
+    h.0.ends.grows h.0.ends.idle h.0.made refl s.counted)
 
 pub returns-in-Irrevocable : goal.returns-in-Irrevocable
 returns-in-Irrevocable g c =

@@ -1,0 +1,14 @@
+use Rattle.std.proofs.Common.{◌≡◌}
+use Rattle.stm_rule.specs.Callers.{IsSameCaller}
+use Rattle.tx_answers.specs.Answers.{HoldsClosed}
+use Rattle.stm_tx.specs.Descs.{known}
+use Rattle.example_buffer.proofs.waiting.see_others_leave.Given as goal
+
+abbrev pub invariant-loop : goal.invariant-loop
+invariant-loop g l = record {
+  next : (goal.iterator-loop g).can_next l.iterator';
+  ends : (goal.iterator-loop g).is_finite l.iterator';
+  same : IsSameCaller l.fn.desc l.desc;
+  closing : HoldsClosed (known l.desc);
+  fenced : (known l.desc).fenced ≡ (known l.fn.desc).fenced;
+}

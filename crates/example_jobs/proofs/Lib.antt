@@ -1,0 +1,4 @@
+mod CountLaws
+mod DayLaws
+mod DeedLaws
+mod OrderLaws

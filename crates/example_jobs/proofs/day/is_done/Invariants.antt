@@ -1,0 +1,7 @@
+use Rattle.std.proofs.Common.{◌≡◌, ◌<◌, ℕ, true, get_or}
+use Rattle.tx_start.specs.declared.memory.Answer.{Answer}
+use Rattle.example_jobs.specs.declared.hands.Hand.{Hand}
+use Rattle.example_jobs.proofs.day.is_done.Given as goal
+
+abbrev pub invariant-loop-i : goal.invariant-loop-i
+invariant-loop-i l = l.done ≡ true → (get_or l.fn.day.words.items 1 0 ≡ 0) × ((n : ℕ) (a : Answer Hand) → n < l.i → (get_or l.fn.day.answers.items n a).value.gave ≡ l.fn.plan.each)

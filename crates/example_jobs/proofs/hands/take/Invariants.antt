@@ -1,0 +1,11 @@
+use Rattle.std.proofs.Common.{◌≡◌}
+use Rattle.stm_tx.specs.Descs.{known}
+use Rattle.tx_atomic.specs.Callers.{HasWorked}
+use Rattle.example_jobs.proofs.hands.take.Given as goal
+
+abbrev pub invariant-loop : goal.invariant-loop
+invariant-loop g l = record {
+  worked : HasWorked l.fn.caller.desc l.caller.desc;
+  same : l.caller.stm ≡ l.fn.caller.stm;
+  made : (known l.caller.desc).made ≡ (known l.fn.caller.desc).made;
+}

@@ -1,0 +1,6 @@
+use Rattle.stm_rule.specs.Kept.{good_of}
+use Rattle.stm_rule.specs.FenceRun.{core_fences_lem}
+use Rattle.stm_rule.proofs.laws.core_fences.Goals as goal
+
+pub returns : goal.returns
+returns g c = λ rule config. core_fences_lem (good_of g.K.MemRule.good config rule) config

@@ -1,0 +1,25 @@
+use Rattle.std.proofs.Common.{◌≡◌, true}
+use Rattle.stm_model.specs.Algorithms.{closes_gate}
+use Rattle.stm_model.specs.declared.alg.Alg.{Alg}
+use Rattle.stm_model.specs.declared.alg.Alg.TheVariants.{Cgl, Tml, OrecLazy, OrecEager, RingSw, Serial}
+use Rattle.rule_base.specs.declared.views.View.{View}
+use Rattle.rule_base.specs.Fence.{veil}
+use Rattle.stm_rule.specs.FencedRest.{rest-of, at-rest-of}
+use Rattle.stm_rule.specs.Kept.{good_of}
+use Rattle.stm_rule.specs.RestLaws.{quiet-rests, granted-rests}
+use Rattle.tx_answers.specs.Known.{granted_under}
+use Rattle.stm_tx.proofs.laws.rest_is_answered.Goals as goal
+
+pub returns : goal.returns
+returns g c = record {
+  quiet = λ rule config n own w r closed quiet. at-rest-of (good_of g.K.MemRule.good config rule) config n w r (quiet-rests (good_of g.K.MemRule.good config rule) config n (veil w) r.core (record { closing = closed.phase; checked = quiet }));
+  granted = λ rule config n own w r closes granted. rest-of (good_of g.K.MemRule.good config rule) config n w r (granted-rests (good_of g.K.MemRule.good config rule) config n (veil w) r.core (promoted (w.views n) (w.views n).gate.algorithm closes granted));
+}
+  where
+    promoted : (v : View) (a : Alg) → closes_gate a ≡ true → granted_under a v.gate v.lock ≡ true → v.gate.granted ≡ true
+    promoted v Cgl closes granted = granted
+    promoted v Tml closes granted = granted
+    promoted v OrecLazy closes granted = granted
+    promoted v OrecEager closes granted = granted
+    promoted v RingSw closes granted = granted
+    promoted v Serial closes granted = absurd cc

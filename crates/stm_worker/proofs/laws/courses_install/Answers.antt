@@ -1,0 +1,5 @@
+use Rattle.stm_worker.specs.InstallLaws.{courses-install}
+use Rattle.stm_worker.proofs.laws.courses_install.Goals as goal
+
+pub returns : goal.returns
+returns c = courses-install

@@ -1,0 +1,70 @@
+//! Token buckets: their rule, and what a wish for tokens does to them.
+ghost use Rattle.std.specs.Prelude.{◌≡◌, ◌≤◌, ◌+◌};
+ghost use Rattle.token_bucket.specs.Buckets.{granted};
+
+use stm_tx::{Access, MemRule, Stop};
+use tx_atomic::transaction::Transaction;
+
+/// Buckets of this capacity, one for each of 16 clients. Word `n` of their memory has what client `n` was handed, word
+/// `16 + n` its tokens, and word 32 what all were handed.
+#[derive(Clone, Copy, Drop, Debug, PartialEq, Eq)]
+pub struct Limiter {
+    pub capacity: u64,
+}
+
+/// No bucket is over its capacity, and what was handed out is what was counted.
+impl MemRule for Limiter {
+    ghost use Rattle.token_bucket.specs.Buckets.{IsFair};
+
+    ghost good = { IsFair };
+}
+
+/// Adds `more` tokens to a client's bucket, as far as there is room, and hands out `amount` of them: all or none. Answers
+/// how many it handed out.
+#[derive(Clone, Copy, Drop, Debug, PartialEq, Eq)]
+pub struct Wish {
+    pub client: usize,
+    pub more: u64,
+    pub amount: u64,
+}
+
+impl Wish {
+    /// The amount, where the bucket has as much and the counter room for it; else 0.
+    fn granted(&self, tokens: u64, counted: u64) -> u64
+        ensures is { result ≡ granted self.now.amount tokens counted }
+        ensures within { (result ≤ tokens) × (counted + result ≤ 18446744073709551615) }
+    {
+        if self.amount <= tokens && self.amount <= u64::MAX - counted {
+            self.amount
+        } else {
+            0
+        }
+    }
+}
+
+impl Transaction<Limiter> for Wish {
+    ghost use Rattle.std.specs.Prelude.{◌<◌, ◌≡◌};
+    ghost use Rattle.tx_effects.specs.Effects.{DoesOver};
+    ghost use Rattle.tx_answers.specs.Known.{no_log};
+    ghost use Rattle.token_bucket.specs.Buckets.{IsFair, wished_in};
+
+    type Output = u64;
+
+    ghost fits = { λ it limiter words. (words ≡ 33) × (it.client < 16) };
+
+    ghost tells = { λ it limiter words given log. DoesOver (IsFair limiter) words (wished_in limiter it) no_log given log };
+
+    fn run<A: Access>(&self, limiter: &Limiter, memory: &mut A) -> Result<u64, Stop> {
+        let found = memory.read(16 + self.client)?;
+        let handed = memory.read(self.client)?;
+        let counted = memory.read(32)?;
+        // this can't wrap: no bucket is over its capacity
+        let tokens = found + self.more.min(limiter.capacity - found);
+        let given = self.granted(tokens, counted);
+        memory.write(16 + self.client, tokens - given)?;
+        // nor can this: what one client was handed is a part of what was counted
+        memory.write(self.client, handed + given)?;
+        memory.write(32, counted + given)?;
+        Ok(given)
+    }
+}

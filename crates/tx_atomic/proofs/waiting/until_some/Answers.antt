@@ -1,0 +1,48 @@
+use Rattle.std.proofs.Common.{rules, ◌∙◌, subst}
+use Rattle.std.specs.Prelude.{Some, None}
+use Rattle.tx_answers.specs.KnownLaws.{carries-refl, grows-trans}
+use Rattle.stm_tx.specs.Descs.{known, number}
+use Rattle.tx_atomic.specs.Attempts.{TookEffect}
+use Rattle.tx_atomic.specs.AttemptLaws.{same-number, took-nothing, took-since}
+use Rattle.tx_atomic.specs.TryLaws.{full-earlier}
+use Rattle.tx_atomic.proofs.waiting.until_some.Goals as goal
+
+pub loop-init : goal.loop-init
+loop-init g c = let grew = (carries-refl (known c.args.desc.now)).grows in search (rules, grew)
+
+pub loop-preserved : goal.loop-preserved
+loop-preserved g c =
+    let stm = c.args.stm.now in
+    let v = known c.loop.desc in
+    let w = known c.atomically.new.desc in
+    let tells = g.T.Transaction.tells c.args.transaction.now stm.rule stm.config.words None in
+    let took = subst (λ r. TookEffect (g.K.MemRule.good stm.rule) stm.config (number c.loop.desc) (g.T.Transaction.tells c.args.transaction.now stm.rule stm.config.words r) v.front v w) c.in-Some-None.field-0-is c.in-Some-None.ensures.took in
+    let grew = grows-trans (known c.args.desc.now) v w c.loop.invariant.grew c.atomically.ensures.grew in
+    let made = took-nothing (g.K.MemRule.good stm.rule) stm.config (number c.loop.desc) tells v.front v w c.requires.waits took ∙ c.loop.invariant.made in
+    search (rules, grew, made)
+
+pub returns-in-None-atomically-clause-grew : goal.returns-in-None-atomically-clause-grew
+returns-in-None-atomically-clause-grew g c =
+    grows-trans (known c.args.desc.now) (known c.loop.desc) (known c.atomically.new.desc) c.loop.invariant.grew c.atomically.ensures.grew
+
+pub returns-in-None-atomically-clause-full : goal.returns-in-None-atomically-clause-full
+returns-in-None-atomically-clause-full g c =
+    let found = c.in-None-atomically.ensures.full in
+    (found.0, full-earlier found.0 (known c.args.desc.now) (known c.loop.desc) (known c.atomically.new.desc) c.loop.invariant.grew found.1)
+
+pub returns-in-Some-Some-clause-grew : goal.returns-in-Some-Some-clause-grew
+returns-in-Some-Some-clause-grew g c =
+    grows-trans (known c.args.desc.now) (known c.loop.desc) (known c.atomically.new.desc) c.loop.invariant.grew c.atomically.ensures.grew
+
+pub returns-in-Some-Some-clause-took : goal.returns-in-Some-Some-clause-took
+returns-in-Some-Some-clause-took g c =
+    let stm = c.args.stm.now in
+    let good = g.K.MemRule.good stm.rule in
+    let inv = c.loop.invariant in
+    let u = known c.args.desc.now in
+    let v = known c.loop.desc in
+    let w = known c.atomically.new.desc in
+    let tells = g.T.Transaction.tells c.args.transaction.now stm.rule stm.config.words in
+    let took = subst (λ r. TookEffect good stm.config (number c.loop.desc) (tells r) v.front v w) c.in-Some-Some.field-0-is c.in-Some-Some.ensures.took in
+    let now = subst (λ n. TookEffect good stm.config n (tells (Some c.in-Some-Some.answer)) v.front v w) (same-number c.args.desc.now c.loop.desc inv.same) took in
+    took-since good stm.config (number c.args.desc.now) (tells (Some c.in-Some-Some.answer)) v.front u.front u v w inv.made inv.grew inv.grew.front_rose now

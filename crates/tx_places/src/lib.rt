@@ -1,0 +1,5 @@
+//! Typed places over the words of a memory, over any access.
+#![tactic(auto)]
+
+pub mod place;
+pub mod word;

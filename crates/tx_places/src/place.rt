@@ -1,0 +1,64 @@
+//! A place for a value, which is one word.
+ghost use Rattle.std.specs.Prelude.{◌≡◌, ◌<◌, ℕ, None, Some, IfOk, OnOk, IfErr};
+ghost use Rattle.stm_model.specs.Logs.{Reads, Writes, SameMemories, IsExplained, IsReadStop};
+
+use crate::word::Word;
+use std::marker::PhantomData;
+use stm_model::access::Access;
+use stm_model::stop::Stop;
+
+/// The word at `at`, as a value of `T`. A memory of zeros has there the value whose word is 0.
+#[derive(Drop)]
+pub struct Place<T> {
+    pub at: usize,
+    of: PhantomData<T>,
+}
+
+impl<T: Word> Place<T> {
+    pub fn new(at: usize) -> Place<T>
+        ensures { result.at ≡ at }
+    {
+        Place {
+            at,
+            of: PhantomData,
+        }
+    }
+
+    /// Reads the value: where the word that was read is a value's, that value.
+    ///
+    /// # Errors
+    /// The Stop of the access.
+    pub fn get<A: Access>(&self, memory: &mut A) -> Result<T, Stop>
+        requires going { A.stopped memory.old ≡ None }
+        requires within { self.now.at < A.words memory.old }
+        ensures value { IfOk result (λ v. (word : ℕ) × Reads (A.log memory.old) self.now.at word (A.log memory.new) × ((x : T) → T.fits x → word ≡ T.code x → v ≡ x)) }
+        ensures explained { OnOk result (IsExplained (A.good memory.new) (A.words memory.new) (A.log memory.new)) }
+        ensures goes { OnOk result (A.stopped memory.new ≡ None) }
+        ensures stops { IfErr result (λ s. A.stopped memory.new ≡ Some s) }
+        ensures cause { IfErr result IsReadStop }
+        ensures good { SameMemories (A.good memory.old) (A.good memory.new) }
+        ensures words { A.words memory.new ≡ A.words memory.old }
+        ensures keeps { A.keeps memory.old memory.new }
+    {
+        let word = memory.read(self.at)?;
+        Ok(T::of_word(word))
+    }
+
+    /// Writes the value's word.
+    ///
+    /// # Errors
+    /// The Stop of the access.
+    pub fn set<A: Access>(&self, memory: &mut A, value: &T) -> Result<(), Stop>
+        requires going { A.stopped memory.old ≡ None }
+        requires within { self.now.at < A.words memory.old }
+        ensures value { OnOk result (Writes (A.log memory.old) self.now.at (T.code value.now) (A.log memory.new) × T.fits value.now) }
+        ensures explained { OnOk result (IsExplained (A.good memory.new) (A.words memory.new) (A.log memory.new)) }
+        ensures goes { OnOk result (A.stopped memory.new ≡ None) }
+        ensures stops { IfErr result (λ s. A.stopped memory.new ≡ Some s) }
+        ensures good { SameMemories (A.good memory.old) (A.good memory.new) }
+        ensures words { A.words memory.new ≡ A.words memory.old }
+        ensures keeps { A.keeps memory.old memory.new }
+    {
+        memory.write(self.at, value.to_word())
+    }
+}
