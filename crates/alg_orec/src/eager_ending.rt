@@ -15,6 +15,8 @@ use stm_rule::stm::{Stm, Token};
 
 /// Restores what it wrote, gives back its records and ends the attempt. The steps of `give_back`, and one, two where it
 /// holds the gate.
+#[cold]
+#[inline(never)]
 pub(crate) fn take_back<K: MemRule>(
     seat: &mut Token<K>,
     local: &mut Local,

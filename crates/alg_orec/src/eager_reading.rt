@@ -26,6 +26,7 @@ use tx_answers::answers::Read;
 /// version that the start has seen. None, with no step, where the attempt holds the record: then nobody else stores
 /// there. One step, and those of a validation where the record is newer than the start; then those of a rollback where
 /// that, or a full read log, ends the attempt.
+#[inline(always)]
 pub fn sample<K: MemRule>(desc: &mut Desc<K>, stm: &Stm<K>, a: usize) -> Result<Option<u64>, Read>
     requires stm { IsOf desc.old stm.now }
     requires running { IsRunning (known desc.old) }
@@ -58,6 +59,7 @@ pub fn sample<K: MemRule>(desc: &mut Desc<K>, stm: &Stm<K>, a: usize) -> Result<
 }
 
 /// Loads the word, whose record was sampled, and answers it. One step.
+#[inline(always)]
 pub fn load<K: MemRule>(desc: &mut Desc<K>, stm: &Stm<K>, a: usize) -> u64
     requires stm { IsOf desc.old stm.now }
     requires running { IsRunning (known desc.old) }
@@ -77,6 +79,7 @@ pub fn load<K: MemRule>(desc: &mut Desc<K>, stm: &Stm<K>, a: usize) -> u64
 
 /// Loads the record again, which `sample` found as `word`, behind the word, which `load` found as `x`. Where the record
 /// is as it was, `x` is read, and logged; else the attempt ends. One step, then those of a rollback.
+#[inline(always)]
 pub fn confirm<K: MemRule>(desc: &mut Desc<K>, stm: &Stm<K>, a: usize, word: u64, x: u64) -> Read
     requires stm { IsOf desc.old stm.now }
     requires running { IsRunning (known desc.old) }

@@ -14,6 +14,8 @@ use stm_rule::stm::{Stm, Token};
 
 /// Gives back the records that the attempt holds, each with the version that it replaced, and ends it. A step for
 /// each, and one, two where it holds the gate.
+#[cold]
+#[inline(never)]
 pub(crate) fn roll_back<K: MemRule>(
     seat: &mut Token<K>,
     local: &mut Local,

@@ -1,11 +1,12 @@
 //! The records of a commit: each is taken before the entry, and given back behind it.
 ghost use Rattle.stm_rule.specs.Counting.{TakesAtMost};
-ghost use Rattle.std.specs.Prelude.{◌≡◌, ℕ, ◌<◌, ◌≤◌, ◌+◌, length, None, ◌*◌};
+ghost use Rattle.std.specs.Prelude.{◌≡◌, ℕ, ◌<◌, ◌≤◌, ◌+◌, length, None, ◌*◌, ◌%◌};
 ghost use Rattle.stm_model.specs.Memories.{item_at};
 ghost use Rattle.stm_rule.specs.Callers.{IsSeatOf};
 ghost use Rattle.stm_rule.specs.Kept.{IsSameSeat, view_of};
 ghost use Rattle.alg_orec.specs.Locking.{CanLock, CanLockAll, LocksOne, LocksAll, Owes, OwesNothing, Pays, ReleasesAll};
 
+use crate::records::{held, record_of};
 use rule_base::words::{is_owned, version_of};
 use steps_orec::lazy::{lock, look, release, write_back};
 use stm_model::config::CLOCK_LIMIT;
@@ -32,13 +33,35 @@ pub(crate) fn lock_all<K: MemRule>(
     let mut newest = 0;
     for i in 0..local.writes.count() {
         let (a, _) = local.writes.item(i);
-        let r = a % stm.config.records;
-        if local.locks.find(r).is_none() {
-            let version = lock_record(seat, local, stm, caller, r)?;
+        if held(local, stm.config.records, a).is_none() {
+            let version = lock_record_of(seat, local, stm, caller, a)?;
             newest = newest.max(version);
         }
     }
     Ok(newest)
+}
+
+/// Takes the record of the word at `a`, as `lock_record` does.
+#[inline]
+fn lock_record_of<K: MemRule>(
+    seat: &mut Token<K>,
+    local: &mut Local,
+    stm: &Stm<K>,
+    caller: usize,
+    a: usize,
+) -> Result<u64, Cause>
+    requires seat { IsSeatOf stm.now caller seat.old }
+    requires caller { caller < stm.now.config.callers }
+    requires some { 0 < stm.now.config.records }
+    requires view { CanLock local.old (view_of seat.old) }
+    requires new { item_at (a % stm.now.config.records) local.old.locks.items ≡ None }
+    requires room { length local.old.locks.items < local.old.locks.len }
+    ensures same { IsSameSeat seat.old seat.new × (seat.new.me.0 ≡ record seat.old.me.0 { view = view_of seat.new }) }
+    ensures locks { LocksOne stm.now.config caller (a % stm.now.config.records) result local.old (view_of seat.old) local.new (view_of seat.new) }
+    ensures steps { TakesAtMost 2 (view_of seat.old) (view_of seat.new) }
+{
+    let r = record_of(stm.config.records, a);
+    lock_record(seat, local, stm, caller, r)
 }
 
 /// Takes a record that the attempt doesn't hold yet, and answers the version that it had. Two steps, one where another

@@ -43,6 +43,7 @@ pub fn begin<K: MemRule>(seat: &mut Token<K>, stm: &Stm<K>, caller: usize) -> Re
 /// Answers what it wrote or has read at the word, with no step; else loads it: one step where the attempt holds the
 /// record, else three, and those of a validation where the record is newer than the start; then those of a rollback
 /// where that ends the attempt.
+#[inline(always)]
 pub fn read<K: MemRule>(desc: &mut Desc<K>, stm: &Stm<K>, a: usize) -> Read
     requires stm { IsOf desc.old stm.now }
     requires running { IsRunning (known desc.old) }
@@ -66,6 +67,7 @@ pub fn read<K: MemRule>(desc: &mut Desc<K>, stm: &Stm<K>, a: usize) -> Read
 }
 
 /// Loads the word, which was neither written nor read before, and logs it.
+#[inline(always)]
 fn first_read<K: MemRule>(desc: &mut Desc<K>, stm: &Stm<K>, a: usize) -> Read
     requires stm { IsOf desc.old stm.now }
     requires running { IsRunning (known desc.old) }
@@ -90,6 +92,7 @@ fn first_read<K: MemRule>(desc: &mut Desc<K>, stm: &Stm<K>, a: usize) -> Read
 }
 
 /// Loads the word under the own record with no look at that, since nobody else stores there, and logs it. One step.
+#[inline]
 fn read_held<K: MemRule>(desc: &mut Desc<K>, stm: &Stm<K>, a: usize) -> Read
     requires stm { IsOf desc.old stm.now }
     requires running { IsRunning (known desc.old) }
@@ -111,6 +114,7 @@ fn read_held<K: MemRule>(desc: &mut Desc<K>, stm: &Stm<K>, a: usize) -> Read
 /// Stores the word in place, under its record, which the attempt takes first where it doesn't hold it: one step where it
 /// wrote there before, else two, three more to take the record, and those of a validation where that is newer than the
 /// start; then those of a rollback where that ends the attempt.
+#[inline(always)]
 pub fn write<K: MemRule>(desc: &mut Desc<K>, stm: &Stm<K>, a: usize, x: u64) -> Write
     requires stm { IsOf desc.old stm.now }
     requires running { IsRunning (known desc.old) }
@@ -131,6 +135,7 @@ pub fn write<K: MemRule>(desc: &mut Desc<K>, stm: &Stm<K>, a: usize, x: u64) -> 
 }
 
 /// Stores the word where the attempt wrote before. One step.
+#[inline(never)]
 fn write_again<K: MemRule>(desc: &mut Desc<K>, stm: &Stm<K>, a: usize, x: u64) -> Write
     requires stm { IsOf desc.old stm.now }
     requires running { IsRunning (known desc.old) }
@@ -149,6 +154,7 @@ fn write_again<K: MemRule>(desc: &mut Desc<K>, stm: &Stm<K>, a: usize, x: u64) -
 }
 
 /// Takes the record where the attempt doesn't hold it, keeps what the word was, and stores it.
+#[inline(never)]
 fn first_write<K: MemRule>(desc: &mut Desc<K>, stm: &Stm<K>, a: usize, x: u64) -> Write
     requires stm { IsOf desc.old stm.now }
     requires running { IsRunning (known desc.old) }

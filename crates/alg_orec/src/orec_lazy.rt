@@ -46,6 +46,7 @@ pub fn begin<K: MemRule>(seat: &mut Token<K>, stm: &Stm<K>, caller: usize) -> Re
 
 /// Answers what it wrote or has read at the word, with no step; else loads it. Three steps, and those of a validation
 /// where its record is newer than the start; then those of a rollback where that ends the attempt.
+#[inline(always)]
 pub fn read<K: MemRule>(desc: &mut Desc<K>, stm: &Stm<K>, a: usize) -> Read
     requires stm { IsOf desc.old stm.now }
     requires running { IsRunning (known desc.old) }
@@ -69,6 +70,7 @@ pub fn read<K: MemRule>(desc: &mut Desc<K>, stm: &Stm<K>, a: usize) -> Read
 }
 
 /// Loads the word, which was neither written nor read before, and logs it.
+#[inline(always)]
 fn first_read<K: MemRule>(desc: &mut Desc<K>, stm: &Stm<K>, a: usize) -> Read
     requires stm { IsOf desc.old stm.now }
     requires running { IsRunning (known desc.old) }
@@ -102,6 +104,7 @@ fn first_read<K: MemRule>(desc: &mut Desc<K>, stm: &Stm<K>, a: usize) -> Read
 
 /// Loads the word between two loads of its record, which is to be free both times, at one version that the start has
 /// seen: an older start moves up to the clock where all reads are valid there. Three steps, and those of a validation.
+#[inline(always)]
 fn load_valid<K: MemRule>(
     seat: &mut Token<K>,
     local: &mut Local,
@@ -131,6 +134,7 @@ fn load_valid<K: MemRule>(
 }
 
 /// Loads the record of the word, and answers its word: it is free, at a version that the start has seen.
+#[inline(always)]
 pub(crate) fn sample_valid<K: MemRule>(
     seat: &mut Token<K>,
     local: &mut Local,
@@ -163,6 +167,7 @@ pub(crate) fn sample_valid<K: MemRule>(
 
 /// Logs what is to be written: it lies with the descriptor until the commit. No step, but for those of a rollback where
 /// the log is full.
+#[inline(always)]
 pub fn write<K: MemRule>(desc: &mut Desc<K>, stm: &Stm<K>, a: usize, x: u64) -> Write
     requires stm { IsOf desc.old stm.now }
     requires running { IsRunning (known desc.old) }

@@ -14,8 +14,8 @@ use stm_rule::stm::{Stm, Token};
 
 /// The number of the record that the word at `a` belongs to, among so many. Where the memory has a record for each of its
 /// words this takes no division, which would cost more than the three loads of a read.
-#[inline]
-fn record_of(records: usize, a: usize) -> usize
+#[inline(always)]
+pub(crate) fn record_of(records: usize, a: usize) -> usize
     requires { 0 < records }
     ensures { result ≡ a % records }
 {
@@ -23,7 +23,7 @@ fn record_of(records: usize, a: usize) -> usize
 }
 
 /// The version that the record of the word at `a` had, where the attempt holds that record. No step.
-#[inline]
+#[inline(always)]
 pub(crate) fn held(local: &Local, records: usize, a: usize) -> Option<u64>
     requires { 0 < records }
     ensures { result ≡ item_at (a % records) local.now.locks.items }
@@ -32,7 +32,7 @@ pub(crate) fn held(local: &Local, records: usize, a: usize) -> Option<u64>
 }
 
 /// Loads the record of the word at `a`, before the word: a free one is sampled. Answers the record's word.
-#[inline]
+#[inline(always)]
 pub(crate) fn sample<K: MemRule>(stm: &Stm<K>, seat: &mut Token<K>, caller: usize, a: usize) -> u64
     requires seat { IsSeatOf stm.now caller seat.old }
     requires some { 0 < stm.now.config.records }
@@ -45,7 +45,7 @@ pub(crate) fn sample<K: MemRule>(stm: &Stm<K>, seat: &mut Token<K>, caller: usiz
 }
 
 /// Loads the record again, behind the word: where it is as sampled, the word is read. Answers the record's word.
-#[inline]
+#[inline(always)]
 pub(crate) fn confirm<K: MemRule>(stm: &Stm<K>, seat: &mut Token<K>, caller: usize, a: usize) -> u64
     requires seat { IsSeatOf stm.now caller seat.old }
     requires some { 0 < stm.now.config.records }
@@ -59,7 +59,7 @@ pub(crate) fn confirm<K: MemRule>(stm: &Stm<K>, seat: &mut Token<K>, caller: usi
 
 /// Loads the record of a read at `b`, to validate it: it passes where it is free at a version of at most the start.
 /// Answers its word.
-#[inline]
+#[inline(always)]
 pub(crate) fn pass<K: MemRule>(stm: &Stm<K>, seat: &mut Token<K>, caller: usize, b: usize) -> u64
     requires seat { IsSeatOf stm.now caller seat.old }
     requires some { 0 < stm.now.config.records }

@@ -16,6 +16,7 @@ use stm_rule::stm::{Stm, Token};
 
 /// Moves the start to the clock, where all reads are of the memory there. One step, and one for each read but those
 /// whose records the attempt holds in the place of versions that its start has seen.
+#[inline(never)]
 pub(crate) fn validate<K: MemRule>(
     seat: &mut Token<K>,
     local: &mut Local,

@@ -6,7 +6,7 @@ ghost use Rattle.stm_rule.specs.Callers.{IsSeatOf};
 ghost use Rattle.stm_rule.specs.Kept.{IsSameSeat, view_of};
 
 use steps_ring::promoting::{advance_grant, look_grant};
-use steps_ring::reading::{advance, again, look, word};
+use steps_ring::reading::{advance, again, first_word, look, word};
 use stm_model::rule::MemRule;
 use stm_model::stop::Cause;
 use stm_rule::stm::{Stm, Token};
@@ -14,6 +14,7 @@ use tx_logs::filter::Filter;
 
 /// Checks the entries since the start against the filter of what was read, and answers the start from then on. One
 /// step where the clock is the start; else three, and one for each slot word that is needed.
+#[inline(always)]
 pub(crate) fn check<K: MemRule>(
     seat: &mut Token<K>,
     stm: &Stm<K>,
@@ -76,6 +77,8 @@ fn later_start(start: u64, clock: u64, done: u64) -> u64
 
 /// Loads the slots of the times from the start to the clock, and the clock behind them: a slot that a later entry may
 /// have taken tells nothing.
+#[cold]
+#[inline(never)]
 fn scan<K: MemRule>(
     seat: &mut Token<K>,
     stm: &Stm<K>,
@@ -178,8 +181,9 @@ fn part_bits<K: MemRule>(
     ensures loads { LoadsPart stm.now.config.ring time filter.now part result (view_of seat.old) (view_of seat.new) }
     ensures steps { TakesAtMost 4 (view_of seat.old) (view_of seat.new) }
 {
+    let first = first_word(stm.config.ring, time);
     for i in 4 * part..4 * part + 4 {
-        let bits = filter.word(i) & word(stm, seat, caller, time, i);
+        let bits = filter.word(i) & word(stm, seat, caller, time, first, i);
         if bits != 0 {
             return bits;
         }

@@ -47,6 +47,7 @@ pub fn begin<K: MemRule>(seat: &mut Token<K>, stm: &Stm<K>, caller: usize) -> Re
 
 /// The own write, if there is one, with no step. Else it loads the word and checks: two steps where the clock is the
 /// start, and at most four and one for each slot word that is needed.
+#[inline(always)]
 pub fn read<K: MemRule>(desc: &mut Desc<K>, stm: &Stm<K>, a: usize) -> Read
     requires stm { IsOf desc.old stm.now }
     requires running { IsRunning (known desc.old) }
@@ -67,6 +68,7 @@ pub fn read<K: MemRule>(desc: &mut Desc<K>, stm: &Stm<K>, a: usize) -> Read
 }
 
 /// Loads a word that the attempt has not written, and checks. A conflict has ended the attempt.
+#[inline(always)]
 fn load_new<K: MemRule>(
     seat: &mut Token<K>,
     local: &mut Local,
@@ -100,6 +102,7 @@ fn load_new<K: MemRule>(
 }
 
 /// Adds the write to the write log. No step; a full log ends the attempt, which takes one, two where it holds the gate.
+#[inline(always)]
 pub fn write<K: MemRule>(desc: &mut Desc<K>, stm: &Stm<K>, a: usize, x: u64) -> Write
     requires stm { IsOf desc.old stm.now }
     requires running { IsRunning (known desc.old) }
@@ -251,12 +254,14 @@ fn enter<K: MemRule>(seat: &mut Token<K>, local: &Local, stm: &Stm<K>, caller: u
     ensures enters { Enters (K.good stm.now.rule) stm.now.config caller time local.now (view_of seat.old) (view_of seat.new) }
     ensures steps { TakesAtMost 17 (view_of seat.old) (view_of seat.new) }
 {
+    let first = loads::first_word(stm.config.ring, time);
     for i in 0..SLOT_WORDS {
         steps::slot(
             stm,
             seat,
             caller,
             time,
+            first,
             i,
             local.stored.word(i),
             &local.writes,

@@ -57,6 +57,7 @@ pub fn read<K: MemRule>(desc: &mut Desc<K>, stm: &Stm<K>, a: usize) -> Read
 
 /// Stores the word, whose old value and new one go into the logs first; once irrevocable it stores and no more. One
 /// step, one more for an address that is new to the log, and one more at the attempt's first write.
+#[inline(always)]
 pub fn write<K: MemRule>(desc: &mut Desc<K>, stm: &Stm<K>, a: usize, x: u64) -> Write
     requires stm { IsOf desc.old stm.now }
     requires running { IsRunning (known desc.old) }
@@ -135,6 +136,7 @@ pub fn become_irrevocable<K: MemRule>(desc: &mut Desc<K>, stm: &Stm<K>) -> Irrev
 
 /// Sees to it that `x` can be stored at `a`: the undo log has the word's old value and the write log the new one, or
 /// the attempt is irrevocable. A refusal has taken the attempt back and ended it.
+#[inline(always)]
 fn keep_old<K: MemRule>(
     seat: &mut Token<K>,
     local: &mut Local,
@@ -171,6 +173,7 @@ fn keep_old<K: MemRule>(
 }
 
 /// Loads the clock where the attempt has not yet written, and answers it where it is at its limit.
+#[inline(always)]
 fn below_limit<K: MemRule>(
     seat: &mut Token<K>,
     local: &Local,
@@ -196,6 +199,7 @@ fn below_limit<K: MemRule>(
 
 /// Adds the write to the write log, and loads the word at `a` into the undo log where the address is new. Neither log
 /// changes where the write log is full.
+#[inline(always)]
 fn log_old<K: MemRule>(
     seat: &mut Token<K>,
     local: &mut Local,
@@ -224,6 +228,8 @@ fn log_old<K: MemRule>(
 }
 
 /// Stores back what the undo log has, frees the lock, and ends the attempt.
+#[cold]
+#[inline(never)]
 fn roll_back<K: MemRule>(seat: &mut Token<K>, local: &mut Local, stm: &Stm<K>, caller: usize)
     requires seat { IsSeatOf stm.now caller seat.old }
     requires caller { caller < stm.now.config.callers }

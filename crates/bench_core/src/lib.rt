@@ -11,7 +11,6 @@ mod parts;
 pub mod program;
 pub mod status;
 
-pub use stm_io::adapters::{ReadSource, WriteSink};
 pub use stm_io::ends::{Sink, Source};
 pub use stm_io::memory::{MemSink, MemSource};
 pub use stm_worker::turnstile::{Open, Turnstile};

@@ -1,4 +1,7 @@
 //! The program: `bench` over a runtime's arguments, standard input and standard output.
+ghost use Rattle.std.specs.Prelude.{◌≡◌};
+ghost use Rattle.std.specs.Process.{exit_status};
+ghost use Rattle.bench_core.specs.Statuses.{exit_code_of};
 
 use crate::bench::bench;
 use crate::status::Status;
@@ -19,6 +22,13 @@ pub fn program<R: Env + AllocGlobal + Input + Print + Threads + Wait + Sync>(rt:
         Err(ErrorKind::InvalidData) => answer(rt, &[]),
         Err(_) => Status::Memory,
     };
+    ending(status)
+}
+
+/// The status as exit status.
+fn ending(status: Status) -> ExitCode
+    ensures { exit_status result ≡ exit_code_of status }
+{
     ExitCode::from(status.exit_code())
 }
 

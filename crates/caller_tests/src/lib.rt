@@ -1,6 +1,8 @@
-//! Tests of what calls the one interface: tx_atomic, tx_backoff, tx_start, stm_worker, perf_core.
+//! Tests of what calls the one interface: tx_atomic, tx_backoff, tx_parts, tx_start, stm_worker, perf_core.
 #![tactic(auto)]
 
+#[cfg(test)]
+mod observer_tests;
 #[cfg(test)]
 mod perf_core_tests;
 #[cfg(test)]
@@ -9,6 +11,8 @@ mod stm_worker_tests;
 mod tx_atomic_tests;
 #[cfg(test)]
 mod tx_backoff_tests;
+#[cfg(test)]
+mod tx_parts_tests;
 #[cfg(test)]
 mod tx_start_tests;
 #[cfg(test)]

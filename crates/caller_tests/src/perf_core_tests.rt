@@ -1,9 +1,13 @@
 //! Small runs of each workload under each algorithm, and the command line.
 
+use perf_core::conflicts::Conflicts;
 use perf_core::plan::{Plan, Workload, plan_of};
 use perf_core::run::run;
 use std::test::Fail;
 use stm_model::alg::{ALGORITHMS, Alg};
+use stm_model::stop::Cause;
+use tx_atomic::observer::Observer;
+use tx_atomic::tally::Ended;
 
 const WORKLOADS: [Workload; 4] = [
     Workload::Bank,
@@ -23,6 +27,7 @@ fn each_memory_is_right(rt: HostRuntime) -> Result<(), Fail> {
                 count: 100,
                 seed: 5,
                 reads: 2_048,
+                conflicts: true,
             };
             let report = run(&rt, rt.alloc(), &plan)?;
             assert!(rt; report.right);
@@ -42,6 +47,7 @@ fn a_sum_past_the_log_is_promoted(rt: HostRuntime) -> Result<(), Fail> {
         count: 2_000,
         seed: 5,
         reads: 256,
+        conflicts: false,
     };
     let report = run(&rt, rt.alloc(), &plan)?;
     assert!(rt; report.right);
@@ -57,6 +63,7 @@ const PLAN: Plan = Plan {
     count: 1_000,
     seed: 7,
     reads: 2_048,
+    conflicts: false,
 };
 
 /// The words of a command line, and the plan that they say.
@@ -65,6 +72,30 @@ const LINES: &[(&[&str], Option<Plan>)] = &[
     (
         &["stm_perf", "bank", "TML", "4", "1000", "7", "256"],
         Some(Plan { reads: 256, ..PLAN }),
+    ),
+    (
+        &["stm_perf", "bank", "TML", "4", "1000", "7", "conflicts"],
+        Some(Plan {
+            conflicts: true,
+            ..PLAN
+        }),
+    ),
+    (
+        &[
+            "stm_perf",
+            "bank",
+            "TML",
+            "4",
+            "1000",
+            "7",
+            "256",
+            "conflicts",
+        ],
+        Some(Plan {
+            reads: 256,
+            conflicts: true,
+            ..PLAN
+        }),
     ),
     (&["stm_perf", "bank", "TML", "33", "1000", "7"], None),
     (&["stm_perf", "bank", "TML", "4", "0", "7"], None),
@@ -77,5 +108,47 @@ fn words_are_read(rt: HostRuntime) -> Result<(), Fail> {
     for &(words, plan) in LINES {
         assert_eq!(rt; plan_of(words), plan, "{words:?}");
     }
+    Ok(())
+}
+
+/// The conflicts that are met at some words, in the order in which they are met.
+const MET: [Option<usize>; 8] = [
+    Some(7),
+    Some(1_039),
+    Some(3),
+    None,
+    Some(1_039),
+    Some(3),
+    Some(1_040),
+    Some(3),
+];
+
+/// Most first, and of as many the lower address; what has no address, or is no conflict, is counted nowhere.
+#[test]
+fn the_words_that_conflict_most_are_named(rt: HostRuntime) -> Result<(), Fail> {
+    let cause = Cause::Clock { had: 0, now: 2 };
+    let mut conflicts = Conflicts::new(rt.alloc(), true)?;
+    for at in MET {
+        conflicts.refused(Ended::Conflict(cause), at);
+        conflicts.refused(Ended::Full, at);
+    }
+    let mut all = Conflicts::new(rt.alloc(), true)?;
+    all.refused(Ended::Conflict(cause), Some(0));
+    all.gain(&conflicts);
+    let named = format!(in rt.alloc(); "{all}")?;
+    assert_eq!(rt;
+        named.as_str(),
+        "\nword 3 conflicts 3\nword 1039 conflicts 2\nword 0 conflicts 1\nword 7 conflicts 1"
+    );
+    Ok(())
+}
+
+/// Where they aren't counted none is named.
+#[test]
+fn no_word_is_named_unasked(rt: HostRuntime) -> Result<(), Fail> {
+    let mut conflicts = Conflicts::new(rt.alloc(), false)?;
+    conflicts.refused(Ended::Conflict(Cause::Clock { had: 0, now: 2 }), Some(3));
+    let named = format!(in rt.alloc(); "{conflicts}")?;
+    assert_eq!(rt; named.as_str(), "");
     Ok(())
 }

@@ -25,7 +25,7 @@ use tx_atomic::tally::Tally;
 use tx_atomic::transaction::Transaction;
 
 /// One more in word 0. Answers what was there, and in the words 1 and 2.
-struct Increment;
+pub(crate) struct Increment;
 
 impl Transaction<AnyMem> for Increment {
     ghost use Rattle.std.specs.Prelude.{◌<◌};
@@ -45,7 +45,7 @@ impl Transaction<AnyMem> for Increment {
     }
 }
 
-const COUNTING: Config = Config {
+pub(crate) const COUNTING: Config = Config {
     words: 3,
     records: 2,
     ring: 4,

@@ -2,7 +2,7 @@
 //! other calls of an attempt, on marks and on ranges are among the scripts of member_scripts.
 ghost use Rattle.std.specs.Prelude.{◌≡◌, ◌<◌, None, true, false};
 ghost use Rattle.stm_model.specs.Algorithms.{is_built};
-ghost use Rattle.stm_rule.specs.Callers.{IsOf};
+ghost use Rattle.stm_rule.specs.Callers.{IsOf, AllOpened};
 ghost use Rattle.tx_answers.specs.Known.{IsIdle};
 ghost use Rattle.stm_tx.specs.Descs.{known};
 
@@ -92,15 +92,25 @@ fn tells_and_learns(
     Some((is_later, word))
 }
 
+/// The same of the two callers of a new memory.
+fn two_learn(stm: &Stm<AnyMem>, descs: &mut [Desc<AnyMem>], alg: Alg) -> Option<(bool, u64)>
+    requires opened { AllOpened stm.now 0 descs.old }
+    requires words { 0 < stm.now.config.words }
+    requires plain { stm.now.config.fence ≡ false }
+    requires built { is_built alg ≡ true }
+{
+    match descs {
+        [first, second] => tells_and_learns(stm, first, second, alg),
+        _ => None,
+    }
+}
+
 /// What caller 1 learns under this algorithm.
 fn learns(alloc: Global, alg: Alg) -> Result<Option<(bool, u64)>, NewError>
     requires { is_built alg ≡ true }
 {
     let (stm, mut descs) = Stm::new(alloc, PAIR, AnyMem)?;
-    let (Some(mut second), Some(mut first)) = (descs.pop(), descs.pop()) else {
-        return Ok(None);
-    };
-    Ok(tells_and_learns(&stm, &mut first, &mut second, alg))
+    Ok(two_learn(&stm, descs.as_mut_slice(), alg))
 }
 
 /// Adds 1 to the word at `a`, through the bound, and answers it.
@@ -135,13 +145,22 @@ fn begin_and_add<K: MemRule>(desc: &mut Desc<K>, stm: &Stm<K>) -> Option<u64>
     }
 }
 
+/// The same of the first caller of a new memory.
+fn one_adds(stm: &Stm<AnyMem>, descs: &mut [Desc<AnyMem>]) -> Option<u64>
+    requires opened { AllOpened stm.now 0 descs.old }
+    requires inside { 7 < stm.now.config.words }
+    requires plain { stm.now.config.fence ≡ false }
+{
+    match descs {
+        [desc, ..] => begin_and_add(desc, stm),
+        [] => None,
+    }
+}
+
 /// What a word is after 1 was added to it in an attempt.
 fn add_in_an_attempt(alloc: Global) -> Result<Option<u64>, NewError> {
     let (stm, mut descs) = Stm::new(alloc, PAIR, AnyMem)?;
-    match descs.pop() {
-        Some(mut desc) => Ok(begin_and_add(&mut desc, &stm)),
-        None => Ok(None),
-    }
+    Ok(one_adds(&stm, descs.as_mut_slice()))
 }
 
 #[test]

@@ -1,6 +1,6 @@
 //! What no clause says: that a read of OrecEager tells a word that was stored and taken back while it was under way.
 ghost use Rattle.std.specs.Prelude.{◌≡◌, ◌<◌, false};
-ghost use Rattle.stm_rule.specs.Callers.{IsOf};
+ghost use Rattle.stm_rule.specs.Callers.{IsOf, AllOpened};
 ghost use Rattle.tx_answers.specs.Known.{IsIdle};
 ghost use Rattle.stm_tx.specs.Descs.{known};
 
@@ -72,16 +72,25 @@ fn reads_around_a_cancelled_write<K: MemRule>(
     Some((word, x, cause, next, read(reader, stm, 2)))
 }
 
+/// The same of the two callers of a new memory, under OrecEager.
+fn two_read(stm: &Stm<AnyMem>, descs: &mut [Desc<AnyMem>]) -> Option<Seen>
+    requires opened { AllOpened stm.now 0 descs.old }
+    requires words { 2 < stm.now.config.words }
+    requires plain { stm.now.config.fence ≡ false }
+{
+    let [writer, reader] = descs else {
+        return None;
+    };
+    if !switch(stm, writer, Alg::OrecEager) {
+        return None;
+    }
+    reads_around_a_cancelled_write(stm, reader, writer)
+}
+
 /// In a memory of two callers, which opens at 0.
 fn reads_under_eager(alloc: Global) -> Result<Option<Seen>, NewError> {
     let (stm, mut descs) = Stm::new(alloc, PAIR, AnyMem)?;
-    let (Some(mut reader), Some(mut writer)) = (descs.pop(), descs.pop()) else {
-        unreachable!()
-    };
-    if !switch(&stm, &mut writer, Alg::OrecEager) {
-        return Ok(None);
-    }
-    Ok(reads_around_a_cancelled_write(&stm, &mut reader, &mut writer))
+    Ok(two_read(&stm, descs.as_mut_slice()))
 }
 
 #[test]

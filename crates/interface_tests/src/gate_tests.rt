@@ -1,7 +1,7 @@
 //! What no clause says: that closing the gate, looking, installing and reopening come to something at all,
 //! on one thread.
 ghost use Rattle.std.specs.Prelude.{◌≡◌, ◌<◌, false};
-ghost use Rattle.stm_rule.specs.Callers.{IsOf};
+ghost use Rattle.stm_rule.specs.Callers.{IsOf, AllOpened};
 ghost use Rattle.tx_answers.specs.Known.{IsIdle};
 ghost use Rattle.stm_tx.specs.Descs.{known};
 
@@ -163,26 +163,21 @@ fn finds_the_first_busy<K: MemRule>(stm: &Stm<K>, desc: &mut Desc<K>) -> Option<
     Some(is_busy && state(desc) == TxState::Idle)
 }
 
-fn two_callers(alloc: Global) -> Result<Option<bool>, NewError> {
-    let (stm, mut descs) = Stm::new(alloc, memory(2), AnyMem)?;
-    let (Some(mut second), Some(mut first)) = (descs.pop(), descs.pop()) else {
-        unreachable!()
-    };
-    Ok(closes_looks_installs(&stm, &mut first, &mut second))
+/// What comes of two callers, or of three, of a new memory.
+fn close_and_look(stm: &Stm<AnyMem>, descs: &mut [Desc<AnyMem>]) -> Option<bool>
+    requires opened { AllOpened stm.now 0 descs.old }
+{
+    match descs {
+        [first, second] => closes_looks_installs(stm, first, second),
+        [first, second, third] => looks_on_and_gives_up(stm, first, second, third),
+        _ => None,
+    }
 }
 
-fn three_callers(alloc: Global) -> Result<Option<bool>, NewError> {
-    let (stm, mut descs) = Stm::new(alloc, memory(3), AnyMem)?;
-    let Some(mut third) = descs.pop() else {
-        unreachable!()
-    };
-    let Some(mut second) = descs.pop() else {
-        unreachable!()
-    };
-    let Some(mut first) = descs.pop() else {
-        unreachable!()
-    };
-    Ok(looks_on_and_gives_up(&stm, &mut first, &mut second, &mut third))
+/// In a memory for so many callers.
+fn callers(alloc: Global, count: usize) -> Result<Option<bool>, NewError> {
+    let (stm, mut descs) = Stm::new(alloc, memory(count), AnyMem)?;
+    Ok(close_and_look(&stm, descs.as_mut_slice()))
 }
 
 fn one_dropped(alloc: Global) -> Result<Option<bool>, NewError> {
@@ -195,8 +190,8 @@ fn one_dropped(alloc: Global) -> Result<Option<bool>, NewError> {
 
 #[test]
 fn the_gate_closes_and_reopens(rt: HostRuntime) -> Result<(), Fail> {
-    assert_eq!(rt; two_callers(rt.alloc()), Ok(Some(true)));
-    assert_eq!(rt; three_callers(rt.alloc()), Ok(Some(true)));
+    assert_eq!(rt; callers(rt.alloc(), 2), Ok(Some(true)));
+    assert_eq!(rt; callers(rt.alloc(), 3), Ok(Some(true)));
     assert_eq!(rt; one_dropped(rt.alloc()), Ok(Some(true)));
     Ok(())
 }

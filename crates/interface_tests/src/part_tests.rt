@@ -1,8 +1,8 @@
 //! A part of a transaction that is taken back, as a program of a library's user has it.
 ghost use Rattle.std.specs.Prelude.{◌≡◌, ◌<◌, IsSome, true, false};
 ghost use Rattle.stm_model.specs.Algorithms.{is_built};
-ghost use Rattle.stm_rule.specs.Callers.{IsOf, IsSameCaller};
-ghost use Rattle.tx_answers.specs.Known.{IsRunning};
+ghost use Rattle.stm_rule.specs.Callers.{IsOf, IsSameCaller, AllOpened};
+ghost use Rattle.tx_answers.specs.Known.{IsIdle, IsRunning};
 ghost use Rattle.stm_tx.specs.Descs.{known};
 ghost use Rattle.stm_tx.specs.Nesting.{takes_marks};
 
@@ -60,49 +60,68 @@ fn move_piece(desc: &mut Desc<AnyMem>, stm: &Stm<AnyMem>, room: u64) -> Option<u
     Some(2)
 }
 
-/// Moves a piece off the three of stock 0. Answers where it went, how the transaction ended, and the stocks then.
-fn moved(alloc: Global, alg: Alg, room: u64) -> Result<Option<(usize, Commit, [Read; 3])>, NewError>
+/// On which stock a piece was put that was taken off the three of stock 0, how the transaction ended, and the stocks then.
+type Moved = (usize, Commit, [u64; 3]);
+
+/// Takes a piece off the three of stock 0, under this algorithm.
+fn moves(desc: &mut Desc<AnyMem>, stm: &Stm<AnyMem>, alg: Alg, room: u64) -> Option<Moved>
+    requires stm { IsOf desc.old stm.now }
+    requires idle { IsIdle (known desc.old) }
+    requires built { is_built alg ≡ true }
+    requires words { 2 < stm.now.config.words }
+    requires plain { stm.now.config.fence ≡ false }
+{
+    if !switch(stm, desc, alg) {
+        return None;
+    }
+    let Begin::Begun(found) = try_begin(desc, stm) else {
+        return None;
+    };
+    if !takes_marks(found) {
+        return None;
+    }
+    let Write::Done = write(desc, stm, 0, 3) else {
+        return None;
+    };
+    let stock = move_piece(desc, stm, room)?;
+    let Read::Value(left) = read(desc, stm, 0) else {
+        return None;
+    };
+    let Read::Value(middle) = read(desc, stm, 1) else {
+        return None;
+    };
+    let Read::Value(right) = read(desc, stm, 2) else {
+        return None;
+    };
+    Some((stock, commit(desc, stm), [left, middle, right]))
+}
+
+/// The same by the first caller of a new memory.
+fn one_moves(stm: &Stm<AnyMem>, descs: &mut [Desc<AnyMem>], alg: Alg, room: u64) -> Option<Moved>
+    requires opened { AllOpened stm.now 0 descs.old }
+    requires built { is_built alg ≡ true }
+    requires words { 2 < stm.now.config.words }
+    requires plain { stm.now.config.fence ≡ false }
+{
+    match descs {
+        [desc, ..] => moves(desc, stm, alg, room),
+        [] => None,
+    }
+}
+
+/// In a memory of its own.
+fn moved(alloc: Global, alg: Alg, room: u64) -> Result<Option<Moved>, NewError>
     requires built { is_built alg ≡ true }
 {
     let (stm, mut descs) = Stm::new(alloc, PAIR, AnyMem)?;
-    let Some(mut desc) = descs.pop() else {
-        unreachable!()
-    };
-    if !switch(&stm, &mut desc, alg) {
-        return Ok(None);
-    }
-    let Begin::Begun(found) = try_begin(&mut desc, &stm) else {
-        return Ok(None);
-    };
-    if !takes_marks(found) {
-        return Ok(None);
-    }
-    let Write::Done = write(&mut desc, &stm, 0, 3) else {
-        return Ok(None);
-    };
-    let Some(stock) = move_piece(&mut desc, &stm, room) else {
-        return Ok(None);
-    };
-    let left = read(&mut desc, &stm, 0);
-    let Read::Value(_) = left else {
-        return Ok(None);
-    };
-    let middle = read(&mut desc, &stm, 1);
-    let Read::Value(_) = middle else {
-        return Ok(None);
-    };
-    let right = read(&mut desc, &stm, 2);
-    let Read::Value(_) = right else {
-        return Ok(None);
-    };
-    Ok(Some((stock, commit(&mut desc, &stm), [left, middle, right])))
+    Ok(one_moves(&stm, descs.as_mut_slice(), alg, room))
 }
 
 #[test]
 fn a_piece_goes_where_there_is_room(rt: HostRuntime) -> Result<(), Fail> {
     let committed = Commit::Committed { time: 1 };
-    let first = [Read::Value(2), Read::Value(1), Read::Value(0)];
-    let second = [Read::Value(2), Read::Value(0), Read::Value(1)];
+    let first = [2, 1, 0];
+    let second = [2, 0, 1];
     for alg in [Alg::OrecLazy, Alg::RingSw, Alg::Serial] {
         assert_eq!(rt; moved(rt.alloc(), alg, 1), Ok(Some((1, committed, first))));
         assert_eq!(rt; moved(rt.alloc(), alg, 0), Ok(Some((2, committed, second))));

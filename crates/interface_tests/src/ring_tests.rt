@@ -1,7 +1,7 @@
 //! What no clause says: that of two commits of RingSW the second waits for the first, and then both are done.
 ghost use Rattle.std.specs.Prelude.{◌≡◌, ◌<◌, true, false};
 ghost use Rattle.stm_model.specs.declared.alg.Alg.TheVariants.{RingSw};
-ghost use Rattle.stm_rule.specs.Callers.{IsOf, IsSameCaller};
+ghost use Rattle.stm_rule.specs.Callers.{IsOf, IsSameCaller, AllOpened};
 ghost use Rattle.tx_answers.specs.Known.{IsIdle, IsRunning, is_irrevocable, wrote};
 ghost use Rattle.stm_tx.specs.Descs.{known};
 
@@ -90,13 +90,22 @@ fn begin_and_commit(
     commits_in_turns(stm, first, second)
 }
 
+/// The same of the two callers of a new memory.
+fn two_commit(stm: &Stm<AnyMem>, descs: &mut [Desc<AnyMem>]) -> Option<[Commit; 3]>
+    requires opened { AllOpened stm.now 0 descs.old }
+    requires words { 1 < stm.now.config.words }
+    requires plain { stm.now.config.fence ≡ false }
+{
+    match descs {
+        [first, second] => begin_and_commit(stm, first, second),
+        _ => None,
+    }
+}
+
 /// What the commits of two callers come to.
 fn two_commits(alloc: Global) -> Result<Option<[Commit; 3]>, NewError> {
     let (stm, mut descs) = Stm::new(alloc, PAIR, AnyMem)?;
-    let (Some(mut second), Some(mut first)) = (descs.pop(), descs.pop()) else {
-        unreachable!()
-    };
-    Ok(begin_and_commit(&stm, &mut first, &mut second))
+    Ok(two_commit(&stm, descs.as_mut_slice()))
 }
 
 #[test]

@@ -1,5 +1,7 @@
 //! What no clause says: that a memory is opened and closed at all, and which number is refused first.
 ghost use Rattle.std.specs.Prelude.{◌≡◌};
+ghost use Rattle.rule_base.specs.declared.views.Phase.TheVariants.{Idle};
+ghost use Rattle.stm_rule.specs.Callers.{IsOf};
 
 use rule_base::laws::models_agree;
 use rule_seq::laws::{cgl_commits, cgl_keeps_along, cgl_opens};
@@ -8,6 +10,7 @@ use std::test::Fail;
 use stm_model::config::{CLOCK_LIMIT, Config};
 use stm_model::rule::AnyMem;
 use stm_rule::closing::close;
+use stm_rule::desc::Desc;
 use stm_rule::laws::{
     core_checks, core_commits, core_installs, core_keeps_along, core_opens, core_promotes,
     core_records, core_rings, core_stamps, one_irrevocable, quiet_is_rest,
@@ -56,120 +59,126 @@ fn cross<S: Sync, T: Send>(shared: &S, sent: T) -> T
     sent
 }
 
-/// Caller 0 tells, and caller 1 learns.
-fn tell_and_learn(alloc: Global) -> Result<bool, NewError> {
+/// Caller 0 tells, and caller 1 learns. Answers their numbers.
+fn tells(stm: &Stm<AnyMem>, first: &mut Desc<AnyMem>, second: &mut Desc<AnyMem>) -> (usize, usize)
+    requires first { IsOf first.old stm.now }
+    requires second { IsOf second.old stm.now }
+    requires idle { (first.old.view.gate.phase ≡ Idle) × (second.old.view.gate.phase ≡ Idle) }
+{
+    let note = cross(stm, first.tell(stm));
+    let second = cross(stm, second);
+    second.learn(stm, note);
+    (first.number, second.number)
+}
+
+/// The same in a memory of two callers.
+fn tell_and_learn(alloc: Global) -> Result<Option<(usize, usize)>, NewError> {
     let config = Config {
         callers: 2,
         ..SMALL
     };
     let (stm, mut descs) = Stm::new(alloc, config, AnyMem)?;
-    let Some(second) = descs.pop() else {
-        return Ok(false);
+    let (Some(mut second), Some(mut first)) = (descs.pop(), descs.pop()) else {
+        return Ok(None);
     };
-    let Some(mut first) = descs.pop() else {
-        return Ok(false);
-    };
-    let note = cross(&stm, first.tell(&stm));
-    let mut second = cross(&stm, second);
-    second.learn(&stm, note);
-    Ok(first.number == 0 && second.number == 1)
+    Ok(Some(tells(&stm, &mut first, &mut second)))
 }
+
+/// Configurations with one number or more out of its range, and the one that is named.
+const REFUSED: &[(Config, NewError)] = &[
+    (
+        Config {
+            words: 0,
+            records: 0,
+            ..SMALL
+        },
+        NewError::Words,
+    ),
+    (
+        Config {
+            words: 1_048_577,
+            ..SMALL
+        },
+        NewError::Words,
+    ),
+    (
+        Config {
+            records: 0,
+            ring: 1,
+            ..SMALL
+        },
+        NewError::Records,
+    ),
+    (
+        Config {
+            records: 4_097,
+            ..SMALL
+        },
+        NewError::Records,
+    ),
+    (Config { ring: 1, ..SMALL }, NewError::Ring),
+    (
+        Config {
+            ring: 65,
+            callers: 0,
+            ..SMALL
+        },
+        NewError::Ring,
+    ),
+    (
+        Config {
+            callers: 0,
+            reads: 0,
+            ..SMALL
+        },
+        NewError::Callers,
+    ),
+    (
+        Config {
+            callers: 33,
+            ..SMALL
+        },
+        NewError::Callers,
+    ),
+    (Config { reads: 0, ..SMALL }, NewError::Logs),
+    (
+        Config {
+            writes: 4_097,
+            clock: CLOCK_LIMIT + 1,
+            ..SMALL
+        },
+        NewError::Logs,
+    ),
+    (
+        Config {
+            clock: CLOCK_LIMIT + 1,
+            ..SMALL
+        },
+        NewError::Clock,
+    ),
+];
 
 #[test]
 fn the_first_number_out_of_range_is_refused(rt: HostRuntime) {
-    let alloc = rt.alloc();
-    let rows = [
-        (
-            Config {
-                words: 0,
-                records: 0,
-                ..SMALL
-            },
-            NewError::Words,
-        ),
-        (
-            Config {
-                words: 1_048_577,
-                ..SMALL
-            },
-            NewError::Words,
-        ),
-        (
-            Config {
-                records: 0,
-                ring: 1,
-                ..SMALL
-            },
-            NewError::Records,
-        ),
-        (
-            Config {
-                records: 4_097,
-                ..SMALL
-            },
-            NewError::Records,
-        ),
-        (Config { ring: 1, ..SMALL }, NewError::Ring),
-        (
-            Config {
-                ring: 65,
-                callers: 0,
-                ..SMALL
-            },
-            NewError::Ring,
-        ),
-        (
-            Config {
-                callers: 0,
-                reads: 0,
-                ..SMALL
-            },
-            NewError::Callers,
-        ),
-        (
-            Config {
-                callers: 33,
-                ..SMALL
-            },
-            NewError::Callers,
-        ),
-        (Config { reads: 0, ..SMALL }, NewError::Logs),
-        (
-            Config {
-                writes: 4_097,
-                clock: CLOCK_LIMIT + 1,
-                ..SMALL
-            },
-            NewError::Logs,
-        ),
-        (
-            Config {
-                clock: CLOCK_LIMIT + 1,
-                ..SMALL
-            },
-            NewError::Clock,
-        ),
-    ];
-    for (config, error) in rows {
-        assert_eq!(rt; refusal(alloc, config), Some(error));
+    for (config, error) in REFUSED {
+        assert_eq!(rt; refusal(rt.alloc(), *config), Some(*error));
     }
-    assert_eq!(rt;
-        refusal(
-            alloc,
-            Config {
-                clock: CLOCK_LIMIT,
-                ..SMALL
-            }
-        ),
-        None
-    );
+}
+
+#[test]
+fn a_clock_may_open_at_its_limit(rt: HostRuntime) {
+    let config = Config {
+        clock: CLOCK_LIMIT,
+        ..SMALL
+    };
+    assert_eq!(rt; refusal(rt.alloc(), config), None);
 }
 
 #[test]
 fn a_memory_opens_and_closes(rt: HostRuntime) -> Result<(), Fail> {
     let words = open_and_close(rt.alloc(), SMALL)?;
     assert_eq!(rt; words.as_slice(), [0; 8].as_slice());
-    assert!(rt; tell_and_learn(rt.alloc())?);
+    assert_eq!(rt; tell_and_learn(rt.alloc()), Ok(Some((0, 1))));
     let words = open_and_close(
         rt.alloc(),
         Config {

@@ -19,6 +19,32 @@ fn a_find_looks_at_the_addresses_in_its_way(rt: HostRuntime) -> Result<(), Fail>
     Ok(())
 }
 
+/// Of a short log, in the index that it would have; and of a longer one, whose addresses share their last six bits.
+#[test]
+fn a_log_finds_its_addresses_below_and_above_eight_items(rt: HostRuntime) -> Result<(), Fail> {
+    let mut log = UndoLog::new(rt.alloc(), 16)?;
+    for a in [3, 35, 67] {
+        log.push(a, 7);
+    }
+    for (a, probes) in [(3, 1), (35, 2), (67, 3), (99, 4), (4, 3), (6, 1)] {
+        assert_eq!(rt; log.probes(a), probes, "at {a}");
+    }
+    log.clear();
+    for i in 0..12 {
+        assert_eq!(rt; log.find(64 * i + 5), None);
+        log.push(64 * i + 5, i as u64);
+        assert_eq!(rt; log.find(64 * i + 5), Some(i as u64));
+    }
+    assert_eq!(rt; log.find(5), Some(0));
+    let count = log.count();
+    assert!(rt; count == 12);
+    log.truncate(6);
+    assert_eq!(rt; log.find(64 * 5 + 5), Some(5));
+    assert_eq!(rt; log.find(64 * 6 + 5), None);
+    assert_eq!(rt; log.probes(64 * 6 + 5), 7);
+    Ok(())
+}
+
 #[test]
 fn the_generations_begin_again(rt: HostRuntime) -> Result<(), Fail> {
     let mut log = WriteLog::with_generation(rt.alloc(), 2, 4294967294)?;
@@ -42,21 +68,37 @@ fn the_generations_begin_again(rt: HostRuntime) -> Result<(), Fail> {
 }
 
 #[test]
-fn a_repeated_address_keeps_or_replaces_its_value(rt: HostRuntime) -> Result<(), Fail> {
+fn reads_keep_the_first_value(rt: HostRuntime) -> Result<(), Fail> {
     let mut reads = ReadLog::new(rt.alloc(), 1)?;
-    let mut writes = WriteLog::new(rt.alloc(), 1)?;
-    let mut undo = UndoLog::new(rt.alloc(), 1)?;
     reads.reserve(rt.alloc(), 2)?;
-    writes.reserve(rt.alloc(), 2)?;
-    undo.reserve(rt.alloc(), 2)?;
     for (a, v) in [(9, 1), (4, 2), (9, 3)] {
         assert_eq!(rt; reads.push(a, v), Push::Done);
+    }
+    assert_eq!(rt; reads.count(), 2);
+    assert_eq!(rt; reads.item(0), (9, 1));
+    Ok(())
+}
+
+#[test]
+fn writes_keep_the_last_value(rt: HostRuntime) -> Result<(), Fail> {
+    let mut writes = WriteLog::new(rt.alloc(), 1)?;
+    writes.reserve(rt.alloc(), 2)?;
+    for (a, v) in [(9, 1), (4, 2), (9, 3)] {
         assert_eq!(rt; writes.push(a, v), Push::Done);
+    }
+    assert_eq!(rt; writes.count(), 2);
+    assert_eq!(rt; writes.item(0), (9, 3));
+    Ok(())
+}
+
+#[test]
+fn an_undo_log_keeps_the_first_value(rt: HostRuntime) -> Result<(), Fail> {
+    let mut undo = UndoLog::new(rt.alloc(), 1)?;
+    undo.reserve(rt.alloc(), 2)?;
+    for (a, v) in [(9, 1), (4, 2), (9, 3)] {
         assert_eq!(rt; undo.push(a, v), Push::Done);
     }
-    assert_eq!(rt; (reads.count(), writes.count(), undo.count()), (2, 2, 2));
-    assert_eq!(rt; reads.item(0), (9, 1));
-    assert_eq!(rt; writes.item(0), (9, 3));
+    assert_eq!(rt; undo.count(), 2);
     assert_eq!(rt; undo.item(0), (9, 1));
     assert_eq!(rt; undo.push(5, 4), Push::Full { limit: 2 });
     Ok(())
@@ -88,47 +130,74 @@ fn filter_of(a: usize) -> Filter {
     filter
 }
 
-#[test]
-fn an_address_sets_four_bits(rt: HostRuntime) {
-    let table = [
-        (1, [(0, 2), (4, 1), (10, 1 << 30), (14, 1 << 5)]),
-        (
-            70_000,
-            [(1, 1 << 48), (4, 1 << 17), (9, 1 << 33), (12, 1 << 10)],
-        ),
-        (
-            usize::MAX,
-            [(3, 1 << 63), (7, 1 << 63), (9, 1 << 33), (13, 1 << 58)],
-        ),
-    ];
-    for (a, words) in table {
-        let filter = filter_of(a);
-        let mut bits: u32 = 0;
-        for i in 0..16 {
-            bits = filter.word(i).count_ones().saturating_add(bits);
-        }
-        assert_eq!(rt; bits, 4, "at {a}");
-        for (i, word) in words {
-            assert_eq!(rt; filter.word(i), word, "word {i} at {a}");
+/// How many bits of a filter are set.
+fn bits_of(filter: &Filter) -> u32 {
+    let mut bits: u32 = 0;
+    for i in 0..16 {
+        bits = filter.word(i).count_ones().saturating_add(bits);
+    }
+    bits
+}
+
+/// An address, and the words of its filter that have a bit.
+const BITS: &[(usize, &[(usize, u64)])] = &[
+    (1, &[(0, 2), (4, 1), (10, 1 << 30), (14, 1 << 5)]),
+    (
+        70_000,
+        &[(1, 1 << 48), (4, 1 << 17), (9, 1 << 33), (12, 1 << 10)],
+    ),
+    (
+        usize::MAX,
+        &[(3, 1 << 63), (7, 1 << 63), (9, 1 << 33), (13, 1 << 58)],
+    ),
+];
+
+/// Whether a filter has these words and four bits in all.
+fn has(filter: &Filter, words: &[(usize, u64)]) -> bool {
+    for (i, word) in words {
+        if *i >= 16 || filter.word(*i) != *word {
+            return false;
         }
     }
+    bits_of(filter) == 4
 }
 
 #[test]
-fn filters_meet_where_all_parts_do(rt: HostRuntime) {
-    assert_eq!(rt; filter_of(1).meets(&filter_of(65)), false);
-    assert_eq!(rt; filter_of(1).common(&filter_of(65)), 1);
-    assert_eq!(rt; filter_of(1).meets(&filter_of(1)), true);
-    assert_eq!(rt; filter_of(1).common(&filter_of(1)), 2);
-    assert_eq!(rt; filter_of(200).common(&filter_of(200)), 256);
-    let mut low = Filter::new();
-    let mut high = Filter::new();
-    for part in 0..4 {
-        low.set_word(4 * part + 1, 5);
-        high.set_word(4 * part + 1, 6);
+fn an_address_sets_four_bits(rt: HostRuntime) {
+    for (a, words) in BITS {
+        assert!(rt; has(&filter_of(*a), words), "at {a}");
     }
-    assert_eq!(rt; low.meets(&high), true);
-    assert_eq!(rt; low.common(&high), 4);
+}
+
+/// Two addresses, whether their filters meet, and the common bits of the lowest word that has any.
+const PAIRS: &[(usize, usize, bool, u64)] = &[
+    (1, 65, false, 1),
+    (1, 1, true, 2),
+    (200, 200, true, 256),
+];
+
+#[test]
+fn filters_meet_where_all_parts_do(rt: HostRuntime) {
+    for (a, b, meets, common) in PAIRS {
+        let found = compare(&filter_of(*a), &filter_of(*b));
+        assert_eq!(rt; found, (*meets, *common), "{a} and {b}");
+    }
+    let low = filled(5);
+    let mut high = filled(6);
+    assert_eq!(rt; compare(&low, &high), (true, 4));
     high.set_word(13, 8);
     assert_eq!(rt; low.meets(&high), false);
+}
+
+fn compare(one: &Filter, other: &Filter) -> (bool, u64) {
+    (one.meets(other), one.common(other))
+}
+
+/// A filter with this word in each part.
+fn filled(word: u64) -> Filter {
+    let mut filter = Filter::new();
+    for part in 0..4 {
+        filter.set_word(4 * part + 1, word);
+    }
+    filter
 }

@@ -5,6 +5,7 @@ ghost use Rattle.tx_answers.specs.Known.{IsIdle};
 ghost use Rattle.stm_tx.specs.Descs.{known};
 ghost use Rattle.perf_core.specs.Places.{FitsPlace};
 
+use crate::conflicts::Conflicts;
 use crate::drawing::draw;
 use crate::outcome::Outcome;
 use crate::place::Place;
@@ -14,27 +15,28 @@ use rand_pcg::Pcg32;
 use std::sync::Wait;
 use stm_tx::{Desc, Stm};
 use tx_atomic::atomically::atomically;
-use tx_atomic::pace::Pace;
+use tx_atomic::pace::Pacing;
 
 /// A caller, with its own random numbers.
 #[derive(Drop)]
 pub struct Caller {
     pub desc: Desc<Place>,
     pub draws: Pcg32,
-    pub pace: Pace,
+    /// Its observer counts conflicts.
+    pub pace: Pacing<Conflicts>,
     pub outcome: Outcome,
     /// How many transactions it is to commit.
     pub share: u32,
 }
 
 impl Caller {
-    pub fn new(desc: Desc<Place>, share: u32, seed: u64) -> Caller
+    pub fn new(desc: Desc<Place>, share: u32, seed: u64, conflicts: Conflicts) -> Caller
         ensures { result.desc ≡ desc }
     {
         Caller {
             desc,
             draws: Pcg32::seed_from_u64(seed),
-            pace: Pace::new(),
+            pace: Pacing::observed(conflicts),
             outcome: Outcome::new(),
             share,
         }

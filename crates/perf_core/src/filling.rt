@@ -5,57 +5,70 @@ ghost use Rattle.tx_answers.specs.Known.{IsIdle};
 ghost use Rattle.stm_tx.specs.Descs.{known};
 ghost use Rattle.perf_core.specs.Places.{FitsPlace};
 
+use crate::conflicts::Conflicts;
 use crate::jobs::Job;
 use crate::place::Place;
 use crate::plan::{ACCOUNTS, BALANCE, KEYS, Workload};
+use std::alloc::Global;
 use std::sync::Wait;
 use stm_tx::{Desc, Stm};
 use tx_atomic::atomically::atomically;
-use tx_atomic::pace::Pace;
+use tx_atomic::pace::Pacing;
 
 /// Fills the memory, a transaction an account or a key.
-pub fn fill<R: Wait>(rt: &R, desc: &mut Desc<Place>, stm: &Stm<Place>, workload: Workload)
+pub fn fill<R: Wait>(
+    rt: &R,
+    alloc: Global,
+    desc: &mut Desc<Place>,
+    stm: &Stm<Place>,
+    workload: Workload,
+)
     requires stm { IsOf desc.old stm.now }
     requires idle { IsIdle (known desc.old) }
     requires place { FitsPlace stm.now }
     ensures same { IsSameCaller desc.old desc.new }
     ensures idle { IsIdle (known desc.new) }
 {
+    // the callers' kind of pace, so that an attempt is compiled once for both
+    let mut pace = Pacing::observed(Conflicts::none(alloc));
     match workload {
-        Workload::Bank => fill_accounts(rt, desc, stm),
-        Workload::Hash | Workload::List => fill_set(rt, desc, stm),
+        Workload::Bank => fill_accounts(rt, desc, stm, &mut pace),
+        Workload::Hash | Workload::List => fill_set(rt, desc, stm, &mut pace),
         Workload::Count => {}
     }
 }
 
-fn fill_accounts<R: Wait>(rt: &R, desc: &mut Desc<Place>, stm: &Stm<Place>)
+fn fill_accounts<R: Wait>(
+    rt: &R,
+    desc: &mut Desc<Place>,
+    stm: &Stm<Place>,
+    pace: &mut Pacing<Conflicts>,
+)
     requires stm { IsOf desc.old stm.now }
     requires idle { IsIdle (known desc.old) }
     requires place { FitsPlace stm.now }
     ensures same { IsSameCaller desc.old desc.new }
     ensures idle { IsIdle (known desc.new) }
 {
-    let mut pace = Pace::new();
     for account in 0..ACCOUNTS {
         let job = Job::Store {
             account,
             value: BALANCE,
         };
-        atomically(rt, desc, stm, &mut pace, &job);
+        atomically(rt, desc, stm, pace, &job);
     }
 }
 
 /// The greatest keys go first, so that each finds its place at once.
-fn fill_set<R: Wait>(rt: &R, desc: &mut Desc<Place>, stm: &Stm<Place>)
+fn fill_set<R: Wait>(rt: &R, desc: &mut Desc<Place>, stm: &Stm<Place>, pace: &mut Pacing<Conflicts>)
     requires stm { IsOf desc.old stm.now }
     requires idle { IsIdle (known desc.old) }
     requires place { FitsPlace stm.now }
     ensures same { IsSameCaller desc.old desc.new }
     ensures idle { IsIdle (known desc.new) }
 {
-    let mut pace = Pace::new();
     for i in 0..KEYS / 2 {
         let job = Job::Insert(KEYS - 2 - 2 * i);
-        atomically(rt, desc, stm, &mut pace, &job);
+        atomically(rt, desc, stm, pace, &job);
     }
 }

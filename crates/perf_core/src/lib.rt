@@ -4,6 +4,7 @@
 
 pub mod caller;
 pub mod checks;
+pub mod conflicts;
 pub mod drawing;
 pub mod filling;
 pub mod jobs;

@@ -39,12 +39,12 @@ pub fn open<R: Wait>(
         fence: false,
     };
     let (stm, mut descs) = Stm::new(alloc, config, Place::of(plan.workload))?;
-    begin(rt, &mut descs[0], &stm, plan);
+    begin(rt, alloc, &mut descs[0], &stm, plan);
     Ok((stm, descs))
 }
 
 /// Installs the algorithm, and fills the memory.
-fn begin<R: Wait>(rt: &R, desc: &mut Desc<Place>, stm: &Stm<Place>, plan: &Plan)
+fn begin<R: Wait>(rt: &R, alloc: Global, desc: &mut Desc<Place>, stm: &Stm<Place>, plan: &Plan)
     requires stm { IsOf desc.old stm.now }
     requires idle { IsIdle (known desc.old) }
     requires place { FitsPlace stm.now }
@@ -52,5 +52,5 @@ fn begin<R: Wait>(rt: &R, desc: &mut Desc<Place>, stm: &Stm<Place>, plan: &Plan)
     ensures idle { IsIdle (known desc.new) }
 {
     switch_to(rt, desc, stm, plan.alg);
-    fill(rt, desc, stm, plan.workload);
+    fill(rt, alloc, desc, stm, plan.workload);
 }

@@ -54,6 +54,8 @@ pub struct Plan {
     pub seed: u64,
     /// The length of the read log, 1 to 4,096.
     pub reads: usize,
+    /// Whether the words that conflict most are named.
+    pub conflicts: bool,
 }
 
 fn workload_of(word: &str) -> Option<Workload> {
@@ -76,8 +78,23 @@ fn algorithm_of(word: &str) -> Option<Alg> {
 }
 
 /// The run that the words ask for, the first of them the program's name: `WORKLOAD ALGORITHM THREADS COUNT SEED`,
-/// and a read log's length where it is not to be 2,048. Numbers are decimal, without sign and leading zeros.
+/// a read log's length where it is not to be 2,048, and `conflicts` where the words that conflict most are to be named.
+/// Numbers are decimal, without sign and leading zeros.
 pub fn plan_of(words: &[&str]) -> Option<Plan> {
+    match words {
+        [words @ .., "conflicts"] => {
+            let plan = run_of(words)?;
+            Some(Plan {
+                conflicts: true,
+                ..plan
+            })
+        }
+        _ => run_of(words),
+    }
+}
+
+/// The run that is asked for without that word.
+fn run_of(words: &[&str]) -> Option<Plan> {
     match words {
         [_, kind, alg, threads, count, seed] => of(kind, alg, threads, count, seed, READS),
         [_, kind, alg, threads, count, seed, reads] => {
@@ -96,5 +113,6 @@ fn of(kind: &str, alg: &str, threads: &str, count: &str, seed: &str, reads: usiz
         count: number_up_to(u32::MAX, count)?,
         seed: number(seed)?,
         reads,
+        conflicts: false,
     })
 }

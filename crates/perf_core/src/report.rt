@@ -1,22 +1,26 @@
-//! What a run came to, as two lines of text.
+//! What a run came to, as two lines of text, and one for each word that is named.
 
+use crate::conflicts::Conflicts;
 use crate::plan::Plan;
 use std::fmt::{self, Display, Formatter, Write};
 use tx_atomic::tally::Tally;
 
 /// What a run came to.
-#[derive(Clone, Copy, Drop, Debug, PartialEq, Eq)]
+#[derive(Drop)]
 pub struct Report {
     pub plan: Plan,
     pub tally: Tally,
     /// Whether the memory was what the transactions leave.
     pub right: bool,
+    /// What the callers met, word by word; nothing where the plan doesn't ask for it.
+    pub conflicts: Conflicts,
 }
 
 impl Display for Report {
     fn fmt<W: Write>(&self, f: &mut Formatter<W>) -> fmt::Result {
         self.fmt_run(f)?;
-        self.fmt_tally(f)
+        self.fmt_tally(f)?;
+        write!(f, "{}", self.conflicts)
     }
 }
 

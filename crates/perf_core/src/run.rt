@@ -8,6 +8,7 @@ ghost use Rattle.perf_core.specs.Places.{FitsPlace};
 
 use crate::caller::Caller;
 use crate::checks::is_right;
+use crate::conflicts::Conflicts;
 use crate::opening::open;
 use crate::outcome::Outcome;
 use crate::place::Place;
@@ -32,9 +33,11 @@ pub fn run<R: Threads + Wait + Sync>(
 ) -> Result<Report, NewError> {
     let (stm, descs) = open(rt, alloc, plan)?;
     let room = Vec::with_capacity(alloc, descs.len())?;
+    let none_met = Conflicts::new(alloc, plan.conflicts)?;
     let mut callers = hire(alloc, descs, plan)?;
     work_all(rt, callers.as_mut_slice(), &stm, plan.workload);
     let (tally, outcome) = told_by(callers.as_slice());
+    let conflicts = met_by(callers.as_slice(), none_met);
     let descs = dismiss(callers, room);
     match close(alloc, stm, descs) {
         Ok((words, _closed)) => {
@@ -43,6 +46,7 @@ pub fn run<R: Threads + Wait + Sync>(
                 plan: *plan,
                 tally,
                 right,
+                conflicts,
             })
         }
         Err((_stm, _descs, _memory)) => Err(NewError::Memory),
@@ -65,7 +69,8 @@ fn hire(
         let extra = u32::from(number < u64::from(plan.count % threads));
         let share = (plan.count / threads).saturating_add(extra);
         let seed = plan.seed.wrapping_mul(32).wrapping_add(number);
-        callers.push_reserved(CachePadded::new(Caller::new(desc, share, seed)));
+        let conflicts = Conflicts::new(alloc, plan.conflicts)?;
+        callers.push_reserved(CachePadded::new(Caller::new(desc, share, seed, conflicts)));
     }
     Ok(callers)
 }
@@ -110,6 +115,15 @@ fn told_by(callers: &[CachePadded<Caller>]) -> (Tally, Outcome) {
         outcome = outcome.with(&caller.outcome);
     }
     (tally, outcome)
+}
+
+/// What all callers met, added to none.
+fn met_by(callers: &[CachePadded<Caller>], none: Conflicts) -> Conflicts {
+    let mut conflicts = none;
+    for caller in callers {
+        conflicts.gain(&caller.pace.observer);
+    }
+    conflicts
 }
 
 /// The descriptors, in the callers' order, in the room for them.

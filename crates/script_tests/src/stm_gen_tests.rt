@@ -1,4 +1,5 @@
 //! The items of generated workloads, by a generator written apart from this one, and the text of a summary.
+use std::process::Abort;
 use std::test::Fail;
 use stm_gen::generate::{MOST_TRANSACTIONS, generate};
 use stm_gen::summary::Summary;
@@ -7,25 +8,30 @@ use stm_model::alg::Alg;
 use stm_script::op::Op;
 use stm_script::workload::Item;
 
-/// The operations of the first transactions behind the opening one, by caller.
+/// The callers and the first operations of the transactions behind the opening one.
+const DRAWN: &[(usize, Op)] = &[
+    (0, Op::Move(38, 46, 17)),
+    (1, Op::Move(0, 59, 80)),
+    (0, Op::Count(0, 0, 1)),
+    (1, Op::ListInsert(1, 0)),
+    (0, Op::Move(56, 0, 36)),
+    (1, Op::Move(24, 35, 36)),
+    (0, Op::Count(0, 1, 1)),
+    (1, Op::ListInsert(1, 1)),
+];
+
+/// Checks the transactions behind the opening one.
+fn check_drawn(rt: &impl Abort, items: &[Item]) {
+    assert_eq!(rt; items.len(), 9);
+    for (item, wanted) in items.iter().skip(1).zip(DRAWN) {
+        assert_eq!(rt; first_op(item), Some(*wanted));
+    }
+}
+
 #[test]
 fn transactions_are_drawn(rt: HostRuntime) -> Result<(), Fail> {
-    let wanted = [
-        (0, Op::Move(38, 46, 17)),
-        (1, Op::Move(0, 59, 80)),
-        (0, Op::Count(0, 0, 1)),
-        (1, Op::ListInsert(1, 0)),
-        (0, Op::Move(56, 0, 36)),
-        (1, Op::Move(24, 35, 36)),
-        (0, Op::Count(0, 1, 1)),
-        (1, Op::ListInsert(1, 1)),
-    ];
     let workload = generate(rt.alloc(), 8, 2, 1)?;
-    let items = workload.items.into_vec();
-    assert_eq!(rt; items.len(), 9);
-    for (i, want) in wanted.iter().enumerate() {
-        assert_eq!(rt; items.get(i + 1).and_then(first_op), Some(*want), "{i}");
-    }
+    check_drawn(&rt, workload.items.as_slice());
     Ok(())
 }
 
@@ -37,28 +43,33 @@ fn first_op(item: &Item) -> Option<(usize, Op)> {
     }
 }
 
-/// The switches go round the cycle, one behind each sixteenth transaction.
-#[test]
-fn switches_go_round(rt: HostRuntime) -> Result<(), Fail> {
-    let wanted = [
-        Alg::OrecEager,
-        Alg::RingSw,
-        Alg::Serial,
-        Alg::Cgl,
-        Alg::Tml,
-        Alg::OrecLazy,
-    ];
-    let workload = generate(rt.alloc(), 100, 4, 7)?;
-    let mut algorithms = Vec::new(rt.alloc());
-    let mut places = Vec::new(rt.alloc());
-    for (place, item) in workload.items.as_slice().iter().enumerate() {
-        if let Item::Switch { caller: 0, alg } = item {
-            algorithms.push(*alg)?;
-            places.push(place)?;
+/// Where the switches stand, and what they install: they go round the cycle, one behind each sixteenth transaction.
+const SWITCHES: &[(usize, Alg)] = &[
+    (17, Alg::OrecEager),
+    (34, Alg::RingSw),
+    (51, Alg::Serial),
+    (68, Alg::Cgl),
+    (85, Alg::Tml),
+    (102, Alg::OrecLazy),
+];
+
+/// Whether the switches are those, each of caller 0.
+fn are_switches(items: &[Item]) -> bool {
+    let mut wanted = SWITCHES.iter();
+    for (place, item) in items.iter().enumerate() {
+        if let Item::Switch { caller, alg } = item {
+            if *caller != 0 || wanted.next() != Some(&(place, *alg)) {
+                return false;
+            }
         }
     }
-    assert_eq!(rt; algorithms.as_slice(), wanted.as_slice());
-    assert_eq!(rt; places.as_slice(), [17, 34, 51, 68, 85, 102].as_slice());
+    wanted.next().is_none()
+}
+
+#[test]
+fn switches_go_round(rt: HostRuntime) -> Result<(), Fail> {
+    let workload = generate(rt.alloc(), 100, 4, 7)?;
+    assert!(rt; are_switches(workload.items.as_slice()));
     Ok(())
 }
 

@@ -1,4 +1,5 @@
 //! What no clause says: worked runs, std's readers and writers, and calls that have to succeed.
+use std::alloc::{AllocError, Global};
 use std::io;
 use std::io::{ErrorKind, Read, Write};
 use std::process::Abort;
@@ -103,23 +104,42 @@ fn memory_ends_fail_where_listed(rt: HostRuntime) -> Result<(), Fail> {
     Ok(())
 }
 
-#[test]
-fn whole_texts_pass_through_memory(rt: HostRuntime) -> Result<(), Fail> {
-    for (limit, wanted) in [(0, &b""[..]), (4, b"abcd"), (6, b"abcdef"), (9, b"abcdef")] {
-        let bytes = b"abcdef".to_vec(rt.alloc())?;
-        let mut source = MemSource::new(bytes, Vec::new(rt.alloc()));
-        let text = read_all(rt.alloc(), &mut source, limit)?;
-        assert_eq!(rt; text.as_slice(), wanted, "up to {limit}");
-    }
-    let failing = [0u64].to_vec(rt.alloc())?;
-    let mut source = MemSource::new(b"abc".to_vec(rt.alloc())?, failing);
-    let failed = matches!(read_all(rt.alloc(), &mut source, 3), Err(ReadError::Failed));
-    assert!(rt; failed);
+/// How many bytes of six are read at most, and what that is.
+const PREFIXES: &[(usize, &[u8])] = &[(0, b""), (4, b"abcd"), (6, b"abcdef"), (9, b"abcdef")];
 
-    let mut sink = MemSink::new(rt.alloc(), 5, Vec::new(rt.alloc()))?;
-    assert_eq!(rt; put_all(&mut sink, b"abc"), Ok(()));
-    assert_eq!(rt; put_all(&mut sink, b"xyz"), Err(Failed));
+/// A source of these bytes, of which the calls `failing` fail.
+fn source_of(alloc: Global, bytes: &[u8], failing: &[u64]) -> Result<MemSource, AllocError> {
+    let bytes = bytes.to_vec(alloc)?;
+    Ok(MemSource::new(bytes, failing.to_vec(alloc)?))
+}
+
+#[test]
+fn whole_texts_are_read_from_memory(rt: HostRuntime) -> Result<(), Fail> {
+    for (limit, wanted) in PREFIXES {
+        let mut source = source_of(rt.alloc(), b"abcdef", &[])?;
+        let text = read_all(rt.alloc(), &mut source, *limit)?;
+        assert_eq!(rt; text.as_slice(), *wanted, "up to {limit}");
+    }
+    let mut source = source_of(rt.alloc(), b"abc", &[0])?;
+    assert!(rt; fails(rt.alloc(), &mut source, 3));
+    Ok(())
+}
+
+/// Whether the source fails before its end or so many bytes.
+fn fails(alloc: Global, source: &mut impl Source, limit: usize) -> bool {
+    matches!(read_all(alloc, source, limit), Err(ReadError::Failed))
+}
+
+/// Puts two texts of three bytes into room for five.
+fn check_room(rt: &impl Abort, sink: &mut MemSink) {
+    assert_eq!(rt; put_all(sink, b"abc"), Ok(()));
+    assert_eq!(rt; put_all(sink, b"xyz"), Err(Failed));
     assert_eq!(rt; sink.held(), &b"abcxy"[..]);
+}
+
+#[test]
+fn whole_texts_are_put_into_memory(rt: HostRuntime) -> Result<(), Fail> {
+    check_room(&rt, &mut MemSink::new(rt.alloc(), 5, Vec::new(rt.alloc()))?);
     Ok(())
 }
 
@@ -130,12 +150,24 @@ fn read_source_reads(rt: HostRuntime) -> Result<(), Fail> {
     assert_eq!(rt; text.as_slice(), &b"abcd"[..]);
     assert_eq!(rt; source.faults(), 0);
     assert_eq!(rt; source.into_inner(), &b"ef"[..]);
+    Ok(())
+}
 
-    let mut source = ReadSource::new(FaultyReader { calls: 0 });
-    let failed = matches!(read_all(rt.alloc(), &mut source, 9), Err(ReadError::Failed));
-    assert!(rt; failed);
+/// Reads up to the fault, and what is behind it.
+fn read_on(
+    rt: &impl Abort,
+    alloc: Global,
+    source: &mut ReadSource<FaultyReader>,
+) -> Result<Vec<u8>, Fail> {
+    assert!(rt; fails(alloc, source, 9));
     assert_eq!(rt; source.faults(), 1);
-    let text = read_all(rt.alloc(), &mut source, 9)?;
+    Ok(read_all(alloc, source, 9)?)
+}
+
+#[test]
+fn read_source_goes_on_behind_a_fault(rt: HostRuntime) -> Result<(), Fail> {
+    let mut source = ReadSource::new(FaultyReader { calls: 0 });
+    let text = read_on(&rt, rt.alloc(), &mut source)?;
     assert_eq!(rt; text.as_slice(), &b"e"[..]);
     assert_eq!(rt; source.faults(), 1);
     assert_eq!(rt; source.into_inner().calls, 6);
@@ -143,18 +175,25 @@ fn read_source_reads(rt: HostRuntime) -> Result<(), Fail> {
 }
 
 #[test]
-fn write_sink_writes(rt: HostRuntime) -> Result<(), Fail> {
+fn write_sink_writes(rt: HostRuntime) {
     let mut sink = WriteSink::new(Vec::new(rt.alloc()));
     assert_eq!(rt; put_all(&mut sink, b"abc"), Ok(()));
     assert_eq!(rt; put_all(&mut sink, b"def"), Ok(()));
     assert_eq!(rt; sink.faults(), 0);
     assert_eq!(rt; sink.into_inner().as_slice(), &b"abcdef"[..]);
+}
 
-    let mut sink = WriteSink::new(FaultyWriter { calls: 0 });
+/// Puts a text of two bytes three times.
+fn check_faulty(rt: &impl Abort, sink: &mut WriteSink<FaultyWriter>) {
     for (wanted, faults) in [(Err(Failed), 1), (Err(Failed), 2), (Ok(()), 2)] {
-        assert_eq!(rt; put_all(&mut sink, b"ab"), wanted);
+        assert_eq!(rt; put_all(sink, b"ab"), wanted);
         assert_eq!(rt; sink.faults(), faults);
     }
+}
+
+#[test]
+fn write_sink_goes_on_behind_a_fault(rt: HostRuntime) {
+    let mut sink = WriteSink::new(FaultyWriter { calls: 0 });
+    check_faulty(&rt, &mut sink);
     assert_eq!(rt; sink.into_inner().calls, 7);
-    Ok(())
 }

@@ -18,8 +18,8 @@ use stm_script::report::Kind;
 use tx_regions::region::Regions;
 
 /// What the script replies and emits over the words 5 and 2^64 - 1.
-fn outputs(alloc: Global, ops: &[Op], kind: Kind) -> Result<(Words, Words), Fail>
-    requires { ScriptFits [] 2 ops.now }
+fn outputs(alloc: Global, script: &Script, kind: Kind) -> Result<(Words, Words), Fail>
+    requires { ScriptFits [] 2 script.now }
 {
     let five = PlainWord {
         opening: 5,
@@ -30,9 +30,8 @@ fn outputs(alloc: Global, ops: &[Op], kind: Kind) -> Result<(Words, Words), Fail
         own: None,
     };
     let mut plain = Plain::new(vec![in alloc; five, most]?);
-    let script = Script::new(SmallVec::from_slice(alloc, ops)?);
     let mut out = Replies::new(alloc, script.as_slice().len())?;
-    interpret(&mut plain, &Regions::none(alloc), &script, kind, &mut out)?;
+    interpret(&mut plain, &Regions::none(alloc), script, kind, &mut out)?;
     Ok(out.into_words())
 }
 
@@ -46,7 +45,8 @@ fn check_outputs(
 ) -> Result<(), Fail>
     requires { ScriptFits [] 2 ops.now }
 {
-    let (replied, emitted) = outputs(alloc, ops, kind)?;
+    let script = Script::new(SmallVec::from_slice(alloc, ops)?);
+    let (replied, emitted) = outputs(alloc, &script, kind)?;
     let both = (replied.as_slice(), emitted.as_slice());
     assert_eq!(rt; both, (replies, emits), "as {kind:?}");
     Ok(())

@@ -2,7 +2,8 @@
 ghost use Rattle.rule_base.specs.StepKinds.{Nothing};
 ghost use Rattle.rule_ring.specs.RingSteps.{ring_lock, CanRingLock, ring_tick, HasTurn, ring_slot, CanRingSlot, ring_enter, CanRingEnter, RingEnters, ring_write, CanRingWrite, ring_done, CanRingDone, ring_free, CanRingFree};
 ghost use Rattle.rule_ring.specs.SlotFilter.{slot_filter};
-ghost use Rattle.std.specs.Prelude.{◌<◌, ℕ, ◌≡◌};
+ghost use Rattle.rule_base.specs.declared.layout.TheConstants.{SLOT_WORDS};
+ghost use Rattle.std.specs.Prelude.{◌<◌, ℕ, ◌≡◌, ◌%◌, ◌*◌};
 ghost use Rattle.steps_ring.specs.RingFindings.{FindsTick};
 ghost use Rattle.stm_rule.specs.Findings.{FindsLock};
 ghost use Rattle.stm_rule.specs.RecordsKept.{cells_of};
@@ -10,7 +11,7 @@ ghost use Rattle.stm_rule.specs.Callers.{IsSeatOf};
 ghost use Rattle.stm_rule.specs.Lifting.{AreSpared};
 ghost use Rattle.stm_rule.specs.Kept.{good_of, SeatTells, IsSameSeat, view_of};
 
-use rule_base::layout::{At, SLOT_WORDS};
+use rule_base::layout::At;
 use std::marker::Brand;
 use stm_model::rule::MemRule;
 use stm_rule::stm::{Stm, Token};
@@ -37,26 +38,27 @@ pub fn tick<K: MemRule>(stm: &Stm<K>, seat: &mut Token<K>, caller: usize) -> u64
     stm.load_as::<Brand, usize>(seat, At::Clock, &caller)
 }
 
-/// Stores word `index` of the filter of these writes in the slot of `time`.
+/// Stores word `index` of the filter of these writes in the slot of `time`, whose words begin at `first`.
 pub fn slot<K: MemRule>(
     stm: &Stm<K>,
     seat: &mut Token<K>,
     caller: usize,
     time: u64,
+    first: usize,
     index: usize,
     x: u64,
     writes: &WriteLog,
 )
     requires seat { IsSeatOf stm.now caller seat.old }
+    requires first { first ≡ time % stm.now.config.ring * SLOT_WORDS }
     requires word { x ≡ slot_filter.word (cells_of writes.now.items) index }
     requires view { CanRingSlot time index (cells_of writes.now.items) (view_of seat.old) }
     ensures same { IsSameSeat seat.old seat.new }
     ensures step { SeatTells (ring_slot slot_filter stm.now.config.ring time index (cells_of writes.now.items)) Nothing seat.old.me.0 x seat.new.me.0 }
 {
-    let place = time % stm.config.ring as u64 * SLOT_WORDS as u64 + index as u64;
     stm.store_as::<Brand, (usize, u64, usize, &WriteLog)>(
         seat,
-        At::Slot(place as usize),
+        At::Slot(first + index),
         x,
         &(caller, time, index, writes),
     );

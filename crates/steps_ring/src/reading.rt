@@ -2,7 +2,8 @@
 ghost use Rattle.rule_base.specs.StepKinds.{Nothing};
 ghost use Rattle.rule_ring.specs.RingSteps.{ring_begin, CanRingBegin, ring_load, CanRingLoad, ring_look, CanRingLook, ring_word, CanRingWord, ring_again, CanRingAgain, ring_move, CanRingMove};
 ghost use Rattle.rule_ring.specs.SlotFilter.{slot_filter};
-ghost use Rattle.std.specs.Prelude.{◌<◌, ℕ, ◌≡◌};
+ghost use Rattle.rule_base.specs.declared.layout.TheConstants.{SLOT_WORDS};
+ghost use Rattle.std.specs.Prelude.{◌<◌, ◌≤◌, ℕ, ◌≡◌, ◌%◌, ◌*◌};
 ghost use Rattle.steps_ring.specs.RingFindings.{FindsStart, FindsLook, FindsAgain, FindsMove};
 ghost use Rattle.stm_rule.specs.Callers.{IsSeatOf};
 ghost use Rattle.stm_rule.specs.Lifting.{IsSpared};
@@ -44,25 +45,31 @@ pub fn look<K: MemRule>(stm: &Stm<K>, seat: &mut Token<K>, caller: usize) -> u64
     stm.load_as::<Brand, usize>(seat, At::Clock, &caller)
 }
 
-/// Loads word `index` of the slot of `time`, and answers it.
+/// The place of the first word of the slot of `time` among the words of a ring of so many slots. It takes a division, so
+/// that a caller asks once for all 16 words.
+pub fn first_word(ring: usize, time: u64) -> usize
+    requires ring { (0 < ring) × (ring ≤ 64) }
+    ensures { result ≡ time % ring * SLOT_WORDS }
+{
+    (time % ring as u64) as usize * SLOT_WORDS
+}
+
+/// Loads word `index` of the slot of `time`, whose words begin at `first`, and answers it.
 pub fn word<K: MemRule>(
     stm: &Stm<K>,
     seat: &mut Token<K>,
     caller: usize,
     time: u64,
+    first: usize,
     index: usize,
 ) -> u64
     requires seat { IsSeatOf stm.now caller seat.old }
+    requires first { first ≡ time % stm.now.config.ring * SLOT_WORDS }
     requires view { CanRingWord stm.now.config.ring time index (view_of seat.old) }
     ensures same { IsSameSeat seat.old seat.new }
     ensures step { SeatTells (ring_word stm.now.config.ring time index) Nothing seat.old.me.0 result seat.new.me.0 }
 {
-    let place = time % stm.config.ring as u64 * SLOT_WORDS as u64 + index as u64;
-    stm.load_as::<Brand, (usize, u64, usize)>(
-        seat,
-        At::Slot(place as usize),
-        &(caller, time, index),
-    )
+    stm.load_as::<Brand, (usize, u64, usize)>(seat, At::Slot(first + index), &(caller, time, index))
 }
 
 /// Loads the clock behind the slots, and answers it.

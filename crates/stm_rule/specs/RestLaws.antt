@@ -26,7 +26,7 @@ use Rattle.rule_base.specs.RunScene.{run_scene}
 use Rattle.rule_base.specs.World.{World}
 use Rattle.rule_seq.specs.AttemptLemmas.{busy-owned, busy-tml, busy-writer, busy-ring, busy-turn}
 use Rattle.rule_promoted.specs.PromotedRule.{TmlSuits, Suits, DirectRuns, suit_scene}
-use Rattle.stm_rule.specs.Frames.{ungranted-out, ungiven-out, owner-holds}
+use Rattle.stm_rule.specs.Frames.{ungranted-out, owner-holds}
 use Rattle.stm_rule.specs.Product.{Gives, Runs, Core}
 use Rattle.stm_rule.specs.Quiescence.{IsInstalled}
 use Rattle.stm_rule.specs.Running.{Ease, at-rest}
@@ -35,9 +35,6 @@ module _ (good : (ℕ → ℕ) → Type 0) (c : Config) (n : ℕ) (w : World) (g
   -- who isn't promoted and holds the gate has the regime of its algorithm
   pub regime-held : (w.views n).gate.holds ≡ true → (w.views n).gate.granted ≡ false → (w.views n).gate.giving ≡ false → regime w ≡ Running (alg_of w.gate)
   regime-held holds plain kept = regime-running w (λ m h. subst (λ (k : ℕ). mode_of (w.views k).gate ≡ Plain) (let o = g.gate.mine n holds in let e : n ≡ m = omega arith in e) (plain-mode (w.views n).gate plain kept))
-
-  in-ungiven : (w.views n).gate.phase ≡ In → (w.views n).gate.giving ≡ false
-  in-ungiven inside = ungiven-out good c w n g (λ e. let k : In ≡ Closing = sym inside ∙ e in cc)
 
   module _ (checked : HasChecked c.callers n (w.views n)) where
     -- the others are in no attempt

@@ -82,10 +82,10 @@ impl Local {
         self.wrote = false;
         self.granted = false;
         self.depth = 0;
-        self.undo.clear();
-        self.reads.clear();
-        self.writes.clear();
-        self.locks.clear();
+        self.undo.renew();
+        self.reads.renew();
+        self.writes.renew();
+        self.locks.renew();
         if let Alg::RingSw = algorithm {
             self.loaded = Filter::new();
             self.stored = Filter::new();

@@ -4,15 +4,13 @@
 //! A word of moves has the caller's number and what it calls: b `try_begin`, r `read` and w `write` of a word,
 //! c `commit`, x `cancel`, p `try_irrevocable`. `0p` while caller 1 is in an attempt answers Busy, and leaves caller 0 the
 //! gate, which it has to reopen at its end.
-ghost use Rattle.stm_steps.specs.Fresh.{IsFresh};
-ghost use Rattle.stm_steps.specs.Standing.{AreAt};
-
-use crate::caller::{Answer, Caller, Move};
+use crate::caller::{Answer, Move, play};
 use crate::counting::{begin_count, end_count};
-use crate::opening::{Opened, open};
 use std::alloc::Global;
-use stm_model::config::CLOCK_LIMIT;
-use stm_tx::{Alg, AnyMem, Config, Stm};
+use stm_model::alg::Alg;
+use stm_model::config::{CLOCK_LIMIT, Config};
+use tx_checked::member::Member;
+use tx_checked::opening::open;
 
 /// Three callers; logs of three items, a ring of four slots. The bits of word 49345 lie in the last words of the four
 /// parts of a filter; words 193, 49152 and 16 have a bit with it each in one of the first three parts, and none in the
@@ -155,15 +153,7 @@ pub const CASES: [Case; 36] = [
     ),
 ];
 
-/// The callers of a memory.
-#[derive(Drop)]
-pub struct Callers {
-    pub first: Caller,
-    pub second: Caller,
-    pub third: Caller,
-}
-
-/// Opens a memory, installs the algorithm, makes the moves of the case, and counts the last. Answers what that came to;
+/// Opens a memory under the algorithm, makes the moves of the case, and counts the last. Answers what that came to;
 /// None where no memory is found.
 pub fn run(alloc: Global, case: &Case) -> Option<Answer> {
     let (_, alg, is_full, before, counted) = *case;
@@ -171,50 +161,32 @@ pub fn run(alloc: Global, case: &Case) -> Option<Answer> {
         clock: if is_full { CLOCK_LIMIT } else { 0 },
         ..MEMORY
     };
-    match open(alloc, config) {
-        Some(opened) => Some(play_case(opened, alg, before, counted)),
-        None => None,
+    match open(alloc, config, alg) {
+        Ok(mut callers) => Some(play_all(callers.as_mut_slice(), before, counted)),
+        Err(_) => None,
     }
-}
-
-fn play_case(opened: Opened, alg: Alg, before: &str, counted: &str) -> Answer
-    requires first { IsFresh opened.stm opened.first }
-    requires second { IsFresh opened.stm opened.second }
-    requires third { IsFresh opened.stm opened.third }
-{
-    let mut callers = Callers {
-        first: Caller::new(opened.first),
-        second: Caller::new(opened.second),
-        third: Caller::new(opened.third),
-    };
-    callers.first.play(&opened.stm, Move::Switch(alg));
-    play_all(&opened.stm, &mut callers, before, counted)
 }
 
 /// Makes the moves, and counts the last.
-fn play_all(stm: &Stm<AnyMem>, callers: &mut Callers, before: &str, counted: &str) -> Answer
-    requires at { AreAt stm.now callers.old }
-{
+fn play_all(callers: &mut [Member], before: &str, counted: &str) -> Answer {
     for word in before.split(' ') {
-        make(stm, callers, word.as_bytes());
+        make(callers, word.as_bytes());
     }
     begin_count();
-    let answer = make(stm, callers, counted.as_bytes());
+    let answer = make(callers, counted.as_bytes());
     end_count();
     answer
 }
 
 /// Makes the move of a word.
-fn make(stm: &Stm<AnyMem>, callers: &mut Callers, word: &[u8]) -> Answer
-    requires at { AreAt stm.now callers.old }
-    ensures at { AreAt stm.now callers.new }
-{
-    let step = parse(word);
-    match word.first() {
-        Some(b'0') => callers.first.play(stm, step),
-        Some(b'1') => callers.second.play(stm, step),
-        Some(b'2') => callers.third.play(stm, step),
-        _ => Answer::Misplaced,
+fn make(callers: &mut [Member], word: &[u8]) -> Answer {
+    let number = match word.first() {
+        Some(digit) => digit.wrapping_sub(b'0'),
+        None => return Answer::Misplaced,
+    };
+    match callers.get_mut(usize::from(number)) {
+        Some(caller) => play(caller, parse(word)),
+        None => Answer::Misplaced,
     }
 }
 

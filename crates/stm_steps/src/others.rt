@@ -1,25 +1,23 @@
 //! The calls of the gate, on a range and on notes, and those of marks, each brought to its most steps.
-ghost use Rattle.std.specs.Prelude.{◌≡◌, ℕ, ◌≤◌, ◌<◌, true, false};
+ghost use Rattle.std.specs.Prelude.{◌≡◌, ℕ, ◌≤◌, true};
 ghost use Rattle.rule_base.specs.Encodings.{fenced};
 ghost use Rattle.stm_model.specs.Algorithms.{is_built};
 ghost use Rattle.stm_rule.specs.Callers.{IsOf, IsSameCaller};
 ghost use Rattle.tx_answers.specs.Fences.{is_within};
-ghost use Rattle.tx_answers.specs.Known.{IsIdle, IsRunning};
+ghost use Rattle.tx_answers.specs.Known.{IsIdle};
 ghost use Rattle.stm_tx.specs.Descs.{known};
-ghost use Rattle.stm_tx.specs.Nesting.{takes_marks};
 ghost use Rattle.stm_steps.specs.Fresh.{IsFresh};
 
-use crate::caller::switch;
 use crate::counting::{begin_count, end_count};
-use crate::opening::{Opened, open};
+use crate::opening::{self, Opened};
 use std::alloc::Global;
-use stm_tx::calls::{try_begin, write};
 use stm_tx::fencing::{direct_read, direct_write, fence, give_back};
 use stm_tx::gate::{close_gate, install, look, reopen};
-use stm_tx::nesting::{checkpoint, release, roll_to};
 use stm_tx::{
     Alg, AnyMem, Begin, Check, CloseGate, Config, Desc, Fence, Give, Look, Roll, Stm, Write,
 };
+use tx_checked::member::Member;
+use tx_checked::opening::open;
 
 /// Three callers and logs of three items, at an odd clock, which an install of TML makes even.
 const ODD: Config = Config {
@@ -154,39 +152,24 @@ fn count_notes(stm: &Stm<AnyMem>, first: &mut Desc<AnyMem>, second: &mut Desc<An
     end_count();
 }
 
-/// Counts `checkpoint`, `roll_to` behind three writes, and `release`, in an attempt that has just begun.
-fn count_marks(stm: &Stm<AnyMem>, desc: &mut Desc<AnyMem>) -> bool
-    requires desc { IsOf desc.old stm.now }
-    requires running { IsRunning (known desc.old) }
-    requires built { takes_marks (known desc.old).alg ≡ true }
-    requires words { 3 < stm.now.config.words }
-    requires unfenced { (known desc.old).fence ≡ 0 }
-{
+/// Counts `checkpoint`, `roll_to` behind three writes, and `release`, in an attempt that has just begun. Answers whether
+/// each came to something.
+fn count_marks(caller: &mut Member) -> bool {
     begin_count();
-    let marked = checkpoint(desc);
+    let marked = caller.checkpoint();
     end_count();
-    let Check::Marked { depth: 1 } = marked else {
-        return false;
-    };
-    let Write::Done = write(desc, stm, 1, 7) else {
-        return false;
-    };
-    let Write::Done = write(desc, stm, 2, 7) else {
-        return false;
-    };
-    let Write::Done = write(desc, stm, 3, 7) else {
-        return false;
-    };
+    for a in 1..4 {
+        if caller.write(a, 7) != Ok(Write::Done) {
+            return false;
+        }
+    }
     begin_count();
-    let rolled = roll_to(desc, stm, 1);
+    let rolled = caller.roll_to(1);
     end_count();
-    let Roll::Rolled = rolled else {
-        return false;
-    };
     begin_count();
-    release(desc, 1);
+    let dropped = caller.drop_marks(1);
     end_count();
-    true
+    (marked, rolled, dropped) == (Ok(Check::Marked { depth: 1 }), Ok(Roll::Rolled), Ok(()))
 }
 
 /// The names of the calls that `run` counts, in that order.
@@ -208,9 +191,9 @@ pub const NAMES: [&str; 13] = [
 
 /// Counts each of these calls once. Answers whether each came to its most steps.
 pub fn run(alloc: Global) -> bool {
-    match (open(alloc, ODD), open(alloc, PLAIN)) {
-        (Some(odd), Some(plain)) => count_on_gate(odd) && count_in_attempt(plain),
-        _ => false,
+    match opening::open(alloc, ODD) {
+        Some(odd) => count_on_gate(odd) && count_in_attempt(alloc),
+        None => false,
     }
 }
 
@@ -241,15 +224,12 @@ fn count_range(stm: &Stm<AnyMem>, desc: &mut Desc<AnyMem>) -> bool
     count_give(stm, desc)
 }
 
-fn count_in_attempt(mut plain: Opened) -> bool
-    requires plain { plain.stm.config.fence ≡ false }
-    requires words { 3 < plain.stm.config.words }
-    requires first { IsFresh plain.stm plain.first }
-{
-    switch(&plain.stm, &mut plain.first, Alg::Serial)
-        && matches!(
-            try_begin(&mut plain.first, &plain.stm),
-            Begin::Begun(Alg::Serial)
-        )
-        && count_marks(&plain.stm, &mut plain.first)
+fn count_in_attempt(alloc: Global) -> bool {
+    let Ok(mut callers) = open(alloc, PLAIN, Alg::Serial) else {
+        return false;
+    };
+    match callers.first_mut() {
+        Some(caller) => { caller.begin() == Ok(Begin::Begun(Alg::Serial)) && count_marks(caller) }
+        None => false,
+    }
 }

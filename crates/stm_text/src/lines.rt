@@ -34,12 +34,12 @@ pub fn is(word: &[u8], name: &[u8]) -> bool
 pub fn is_any_bad(line: &[u8]) -> bool
     ensures { result ≡ any_bad line.now }
 {
+    // no way out before the end: so the compiler looks at many bytes at once
+    let mut bad = false;
     for b in line {
-        if *b < 32 || 126 < *b {
-            return true;
-        }
+        bad |= *b < 32 || 126 < *b;
     }
-    false
+    bad
 }
 
 /// The number that a word is: decimal, without sign and leading zeros, below 2^64.

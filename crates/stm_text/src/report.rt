@@ -5,6 +5,7 @@ ghost use Rattle.stm_script.specs.declared.report.Row.{Row};
 ghost use Rattle.stm_text.specs.Pieces.{ArePieces};
 ghost use Rattle.stm_text.specs.Reports.{spaced, emitted, letter_of, row_line, row_lines, memory_line, memory_lines, report_bytes, IsWord, RowFits, PairFits, ReportFits};
 
+use itoa::Buffer;
 use std::alloc::{AllocError, Global};
 use std::thread;
 use std::thread::Threads;
@@ -156,5 +157,7 @@ fn put_numbers(text: &mut String, numbers: &[u64]) -> Result<(), AllocError>
 fn put_number(text: &mut String, n: u64) -> Result<(), AllocError>
     ensures { OnOk result (string_bytes text.new ≡ string_bytes text.old ++ (32 ∷ decimal n)) }
 {
-    write!(text, " {n}")
+    let mut digits = Buffer::new();
+    text.push_str(" ")?;
+    text.push_str(digits.format(n))
 }

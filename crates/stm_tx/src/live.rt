@@ -49,7 +49,7 @@ impl<'a, K: MemRule, C: Calls> Access for Live<'a, K, C> {
 
     ghost once = { λ s. log-once s.desc.now.view s.desc.now.own };
 
-    #[inline]
+    #[inline(always)]
     fn read(&mut self, a: usize) -> Result<u64, Stop> {
         match as_read(self.calls.read(self.desc, self.stm, a)) {
             Ok(value) => Ok(value),
@@ -60,7 +60,7 @@ impl<'a, K: MemRule, C: Calls> Access for Live<'a, K, C> {
         }
     }
 
-    #[inline]
+    #[inline(always)]
     fn write(&mut self, a: usize, v: u64) -> Result<(), Stop> {
         match as_write(self.calls.write(self.desc, self.stm, a, v)) {
             Ok(()) => Ok(()),
@@ -73,7 +73,7 @@ impl<'a, K: MemRule, C: Calls> Access for Live<'a, K, C> {
 }
 
 /// The answer of a read as an access gives it.
-#[inline]
+#[inline(always)]
 fn as_read(answer: Read) -> Result<u64, Stop>
     ensures { result ≡ as_read answer }
 {
@@ -85,7 +85,7 @@ fn as_read(answer: Read) -> Result<u64, Stop>
 }
 
 /// The answer of a write as an access gives it.
-#[inline]
+#[inline(always)]
 fn as_write(answer: Write) -> Result<(), Stop>
     ensures { result ≡ as_write answer }
 {

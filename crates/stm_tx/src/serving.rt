@@ -72,12 +72,12 @@ impl Calls for OnlyCgl {
 
     ghost acts_as = { λ alg. Cgl };
 
-    #[inline]
+    #[inline(always)]
     fn read<K: MemRule>(&self, desc: &mut Desc<K>, stm: &Stm<K>, a: usize) -> Read {
         cgl::read(desc, stm, a)
     }
 
-    #[inline]
+    #[inline(always)]
     fn write<K: MemRule>(&self, desc: &mut Desc<K>, stm: &Stm<K>, a: usize, x: u64) -> Write {
         cgl::write(desc, stm, a, x)
     }
@@ -92,12 +92,12 @@ impl Calls for OnlyTml {
 
     ghost acts_as = { λ alg. Tml };
 
-    #[inline]
+    #[inline(always)]
     fn read<K: MemRule>(&self, desc: &mut Desc<K>, stm: &Stm<K>, a: usize) -> Read {
         tml::read(desc, stm, a)
     }
 
-    #[inline]
+    #[inline(always)]
     fn write<K: MemRule>(&self, desc: &mut Desc<K>, stm: &Stm<K>, a: usize, x: u64) -> Write {
         tml::write(desc, stm, a, x)
     }
@@ -112,12 +112,12 @@ impl Calls for OnlySerial {
 
     ghost acts_as = { λ alg. Serial };
 
-    #[inline]
+    #[inline(always)]
     fn read<K: MemRule>(&self, desc: &mut Desc<K>, stm: &Stm<K>, a: usize) -> Read {
         serial::read(desc, stm, a)
     }
 
-    #[inline]
+    #[inline(always)]
     fn write<K: MemRule>(&self, desc: &mut Desc<K>, stm: &Stm<K>, a: usize, x: u64) -> Write {
         serial::write(desc, stm, a, x)
     }
@@ -132,12 +132,12 @@ impl Calls for OnlyOrecLazy {
 
     ghost acts_as = { λ alg. OrecLazy };
 
-    #[inline]
+    #[inline(always)]
     fn read<K: MemRule>(&self, desc: &mut Desc<K>, stm: &Stm<K>, a: usize) -> Read {
         orec_lazy::read(desc, stm, a)
     }
 
-    #[inline]
+    #[inline(always)]
     fn write<K: MemRule>(&self, desc: &mut Desc<K>, stm: &Stm<K>, a: usize, x: u64) -> Write {
         orec_lazy::write(desc, stm, a, x)
     }
@@ -152,12 +152,12 @@ impl Calls for OnlyOrecEager {
 
     ghost acts_as = { λ alg. OrecEager };
 
-    #[inline]
+    #[inline(always)]
     fn read<K: MemRule>(&self, desc: &mut Desc<K>, stm: &Stm<K>, a: usize) -> Read {
         orec_eager::read(desc, stm, a)
     }
 
-    #[inline]
+    #[inline(always)]
     fn write<K: MemRule>(&self, desc: &mut Desc<K>, stm: &Stm<K>, a: usize, x: u64) -> Write {
         orec_eager::write(desc, stm, a, x)
     }
@@ -172,12 +172,12 @@ impl Calls for OnlyRingSw {
 
     ghost acts_as = { λ alg. RingSw };
 
-    #[inline]
+    #[inline(always)]
     fn read<K: MemRule>(&self, desc: &mut Desc<K>, stm: &Stm<K>, a: usize) -> Read {
         ring::read(desc, stm, a)
     }
 
-    #[inline]
+    #[inline(always)]
     fn write<K: MemRule>(&self, desc: &mut Desc<K>, stm: &Stm<K>, a: usize, x: u64) -> Write {
         ring::write(desc, stm, a, x)
     }

@@ -20,18 +20,26 @@ run_shape = (with_rule (new_app (codes "run")) policy_option).top
 abbrev pub step_shape : Shape
 step_shape = (new_app (codes "step")).top
 
+-- `gen N T`
+abbrev pub sized_shape : Shape
+sized_shape = (with_rule (with_rule (new_app (codes "gen")) (needed (codes "N"))) (needed (codes "T"))).top
+
 abbrev pub gen_shape : Shape
 gen_shape = (with_rule (with_rule (with_rule (new_app (codes "gen")) (needed (codes "N"))) (needed (codes "T"))) (needed (codes "SEED"))).top
 
 abbrev pub check_shape : Shape
 check_shape = (new_app (codes "check")).top
 
--- the commands that run a workload
-abbrev pub first_app : App
-first_app =
-    with_subcommand (with_subcommand (with_subcommand
+-- the commands that read the workload that they run
+abbrev pub reading_app : App
+reading_app =
+    with_subcommand (with_subcommand
     (on_top (λ s. record s { subcommand_required = true }) (new_app (codes "stm_bench")))
-    run_shape) step_shape) gen_shape
+    run_shape) step_shape
+
+-- those that run a workload
+abbrev pub first_app : App
+first_app = with_subcommand reading_app gen_shape
 
 abbrev pub bench_app : App
 bench_app = with_subcommand first_app check_shape

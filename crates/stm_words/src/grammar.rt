@@ -1,7 +1,7 @@
 //! The command line's grammar, as clap takes it.
 ghost use Rattle.std.specs.Prelude.{◌≡◌, IfOk};
 ghost use Rattle.clap.specs.Words.{app_of};
-ghost use Rattle.stm_words.specs.Grammar.{bench_app, run_shape, step_shape, gen_shape, check_shape, first_app, IsAbove, IsLeafCommand};
+ghost use Rattle.stm_words.specs.Grammar.{bench_app, run_shape, step_shape, sized_shape, gen_shape, check_shape, reading_app, first_app, IsAbove, IsLeafCommand};
 
 use clap::{Arg, Command};
 use std::alloc::{AllocError, Global};
@@ -18,11 +18,17 @@ pub fn bench_command<'a>(alloc: Global) -> Result<Command<'a>, AllocError>
 fn first_commands<'a>(alloc: Global) -> Result<Command<'a>, AllocError>
     ensures { IfOk result (IsAbove first_app) }
 {
+    reading_commands(alloc)?.subcommand(gen_command(alloc)?)
+}
+
+/// Those that read the workload that they run.
+fn reading_commands<'a>(alloc: Global) -> Result<Command<'a>, AllocError>
+    ensures { IfOk result (IsAbove reading_app) }
+{
     Command::new(alloc, "stm_bench")
         .subcommand_required(true)
         .subcommand(run_command(alloc)?)?
-        .subcommand(step_command(alloc))?
-        .subcommand(gen_command(alloc)?)
+        .subcommand(step_command(alloc))
 }
 
 fn run_command<'a>(alloc: Global) -> Result<Command<'a>, AllocError>
@@ -41,13 +47,16 @@ fn step_command<'a>(alloc: Global) -> Command<'a>
 fn gen_command<'a>(alloc: Global) -> Result<Command<'a>, AllocError>
     ensures { IfOk result (IsLeafCommand gen_shape) }
 {
-    let transactions = Arg::new(alloc, "N").required(true);
-    let callers = Arg::new(alloc, "T").required(true);
-    let seed = Arg::new(alloc, "SEED").required(true);
+    sized_command(alloc)?.arg(Arg::new(alloc, "SEED").required(true))
+}
+
+/// `gen N T`.
+fn sized_command<'a>(alloc: Global) -> Result<Command<'a>, AllocError>
+    ensures { IfOk result (IsLeafCommand sized_shape) }
+{
     Command::new(alloc, "gen")
-        .arg(transactions)?
-        .arg(callers)?
-        .arg(seed)
+        .arg(Arg::new(alloc, "N").required(true))?
+        .arg(Arg::new(alloc, "T").required(true))
 }
 
 fn check_command<'a>(alloc: Global) -> Command<'a>

@@ -288,9 +288,6 @@ module _ (h : Header) (done : Bool) (policy : Policy) (to : Place) (items : List
 
   -- a turn, by what it says
   module _ (course : List Said) (at : Place) (since : List Outcome) (n : IsNotedAt policy since at) where
-    not-inside : at.phase ≡ Between → at.phase ≡ Inside → (at.chosen ≡ None) × BeforeTx at.left
-    not-inside b e = absurd (let x = sym b ∙ e in cc)
-
     by-stop : (op : Op) (stop : Stop) → IsFair h at (Stopped op stop) → at.phase ≡ Inside → Further (after at (Stopped op stop)) course → TellsAt since at (Stopped op stop ∷ course)
     by-stop op (stops.Conflict cause) fair inside next = failed (Stopped op (stops.Conflict cause)) course at since n outcomes.Conflict fair.1.0 refl inside next
     by-stop op (stops.Full limit) fair inside next = failed (Stopped op (stops.Full limit)) course at since n outcomes.Full tt refl inside next

@@ -59,10 +59,12 @@ fn with_body(alloc: Global, body: &str) -> Result<String, AllocError> {
     Ok(text)
 }
 
+/// The first fault of a text, its line and its code; line 0 and code 0 where memory is refused.
 fn fault(alloc: Global, text: &[u8], mode: Mode) -> Option<(usize, u32)> {
     match parse(alloc, text, mode) {
+        Ok(_) => None,
         Err(ParseError::Fault { line, code }) => Some((line, code)),
-        _ => None,
+        Err(ParseError::Memory) => Some((0, 0)),
     }
 }
 
@@ -212,50 +214,64 @@ fn keeps_plain_addresses_out_of_structures(rt: HostRuntime) -> Result<(), Fail> 
     Ok(())
 }
 
+/// A line for each operation on a structure.
+const ON_STRUCTURES: &str =
+    "count 3 9\ntotal\nladd 1\nldel 2\nlhas 3\nllen\nhadd 4\nhdel 5\nhhas 6\ntadd 7\ntdel 8\nthas 4294967295\ntmin\n";
+
+/// Those operations, in one script.
+const STRUCTURE_SCRIPTS: &[&[Op]] = &[&[
+    Op::Count(0, 3, 9),
+    Op::Total(0),
+    Op::ListInsert(1, 1),
+    Op::ListRemove(1, 2),
+    Op::ListContains(1, 3),
+    Op::ListLength(1),
+    Op::HashInsert(2, 4),
+    Op::HashRemove(2, 5),
+    Op::HashContains(2, 6),
+    Op::TreeInsert(3, 7),
+    Op::TreeRemove(3, 8),
+    Op::TreeContains(3, 4294967295),
+    Op::TreeLeast(3),
+]];
+
 #[test]
 fn reads_operations_on_structures(rt: HostRuntime) -> Result<(), Fail> {
-    let text = with_structures(
-        rt.alloc(),
-        "count 3 9\ntotal\nladd 1\nldel 2\nlhas 3\nllen\nhadd 4\nhdel 5\nhhas 6\ntadd 7\ntdel 8\nthas 4294967295\ntmin\n",
-    )?;
+    let text = with_structures(rt.alloc(), ON_STRUCTURES)?;
     let read = parse(rt.alloc(), text.as_bytes(), Mode::Run)?;
     assert_eq!(rt; read.header.regions.as_slice().len(), 4);
-    let scripts: &[&[Op]] = &[&[
-        Op::Count(0, 3, 9),
-        Op::Total(0),
-        Op::ListInsert(1, 1),
-        Op::ListRemove(1, 2),
-        Op::ListContains(1, 3),
-        Op::ListLength(1),
-        Op::HashInsert(2, 4),
-        Op::HashRemove(2, 5),
-        Op::HashContains(2, 6),
-        Op::TreeInsert(3, 7),
-        Op::TreeRemove(3, 8),
-        Op::TreeContains(3, 4294967295),
-        Op::TreeLeast(3),
-    ]];
-    assert_scripts(&rt, &read, scripts);
+    assert_scripts(&rt, &read, STRUCTURE_SCRIPTS);
     Ok(())
+}
+
+/// A text under the algorithm of this name.
+fn under(alloc: Global, name: &str) -> Result<String, AllocError> {
+    let line = format!(in alloc; "alg {name}")?;
+    with_line(alloc, 9, line.as_str())
+}
+
+/// The algorithm that a text names.
+fn algorithm_of(alloc: Global, text: &[u8]) -> Result<Alg, ParseError> {
+    match parse(alloc, text, Mode::Run) {
+        Ok(read) => Ok(read.header.alg),
+        Err(error) => Err(error),
+    }
 }
 
 #[test]
 fn takes_the_algorithms_that_are_built(rt: HostRuntime) -> Result<(), Fail> {
     for alg in ALGORITHMS {
-        let mut line = String::new(rt.alloc());
-        line.push_str("alg ")?;
-        line.push_str(alg.name())?;
-        let text = with_line(rt.alloc(), 9, line.as_str())?;
-        match parse(rt.alloc(), text.as_bytes(), Mode::Run) {
-            Ok(read) => {
-                assert!(rt; alg.is_built(), "{line}");
-                assert_eq!(rt; read.header.alg, alg);
-            }
-            Err(error) => {
-                assert!(rt; !alg.is_built(), "{line}");
-                assert_eq!(rt; error, ParseError::Fault { line: 9, code: 7 });
-            }
-        }
+        let text = under(rt.alloc(), alg.name())?;
+        let wanted = if alg.is_built() {
+            Ok(alg)
+        } else {
+            Err(ParseError::Fault { line: 9, code: 7 })
+        };
+        assert_eq!(rt;
+            algorithm_of(rt.alloc(), text.as_bytes()),
+            wanted,
+            "{alg:?}"
+        );
     }
     Ok(())
 }
@@ -276,17 +292,6 @@ fn refuses_emits_that_come_too_early(rt: HostRuntime) -> Result<(), Fail> {
             fault(rt.alloc(), text.as_bytes(), Mode::Run),
             Some((*line, *code)),
             "{body}"
-        );
-    }
-    for (first, code) in [("read 0\n", 9), ("irrev\n", 10)] {
-        let mut body = String::new(rt.alloc());
-        body.push_str("tx 0\n")?;
-        body.push_str(first)?;
-        let text = repeated(rt.alloc(), body.as_str(), "read 0\n", 4095, "emit 0\n")?;
-        assert_eq!(rt;
-            fault(rt.alloc(), text.as_bytes(), Mode::Run),
-            Some((4108, code)),
-            "{first}"
         );
     }
     Ok(())
@@ -351,15 +356,22 @@ fn refuses_schedules(rt: HostRuntime) -> Result<(), Fail> {
     Ok(())
 }
 
+/// How many callers there may be under `step`.
+const CALLERS: &[(&str, Option<(usize, u32)>)] = &[
+    ("callers 32", None),
+    ("callers 33", Some((3, 6))),
+];
+
 #[test]
 fn counts_callers_by_mode(rt: HostRuntime) -> Result<(), Fail> {
-    let most = with_line(rt.alloc(), 3, "callers 32")?;
-    assert!(rt; parse(rt.alloc(), most.as_bytes(), Mode::Step).is_ok());
-    let many = with_line(rt.alloc(), 3, "callers 33")?;
-    assert_eq!(rt;
-        fault(rt.alloc(), many.as_bytes(), Mode::Step),
-        Some((3, 6))
-    );
+    for (line, found) in CALLERS {
+        let text = with_line(rt.alloc(), 3, line)?;
+        assert_eq!(rt;
+            fault(rt.alloc(), text.as_bytes(), Mode::Step),
+            *found,
+            "{line}"
+        );
+    }
     Ok(())
 }
 
@@ -379,29 +391,60 @@ fn repeated(
     Ok(text)
 }
 
+/// How a body begins, a line that follows so many times, how it ends, and its first fault.
+type Repeated = (
+    &'static str,
+    &'static str,
+    usize,
+    &'static str,
+    Option<(usize, u32)>,
+);
+
+const MANY: &[Repeated] = &[
+    ("", "tx 0\nend\n", 65536, "done\n", None),
+    ("", "tx 0\nend\n", 65536, "tx 0\n", Some((131083, 10))),
+    (
+        "",
+        "switch 0 CGL\n",
+        65536,
+        "switch 0 CGL\n",
+        Some((65547, 10)),
+    ),
+    ("tx 0\n", "read 0\n", 4096, "end\ndone\n", None),
+    ("tx 0\n", "read 0\n", 4096, "read 0\n", Some((4108, 10))),
+    ("tx 0\n", "read 0\n", 4096, "read 8\n", Some((4108, 6))),
+    // an `emit` that comes too early is one operation too many only behind an `irrev`
+    (
+        "tx 0\nread 0\n",
+        "read 0\n",
+        4095,
+        "emit 0\n",
+        Some((4108, 9)),
+    ),
+    (
+        "tx 0\nirrev\n",
+        "read 0\n",
+        4095,
+        "emit 0\n",
+        Some((4108, 10)),
+    ),
+];
+
 #[test]
 fn refuses_too_many(rt: HostRuntime) -> Result<(), Fail> {
-    let items = repeated(rt.alloc(), "", "tx 0\nend\n", 65536, "done\n")?;
-    assert!(rt; parse(rt.alloc(), items.as_bytes(), Mode::Run).is_ok());
-    let more = repeated(rt.alloc(), "", "tx 0\nend\n", 65536, "tx 0\n")?;
-    assert_eq!(rt;
-        fault(rt.alloc(), more.as_bytes(), Mode::Run),
-        Some((131083, 10))
-    );
-    let switch = repeated(rt.alloc(), "", "switch 0 CGL\n", 65536, "switch 0 CGL\n")?;
-    assert_eq!(rt;
-        fault(rt.alloc(), switch.as_bytes(), Mode::Run),
-        Some((65547, 10))
-    );
-    let ops = repeated(rt.alloc(), "tx 0\n", "read 0\n", 4096, "end\ndone\n")?;
-    assert!(rt; parse(rt.alloc(), ops.as_bytes(), Mode::Run).is_ok());
-    for (last, code) in [("read 0\n", 10), ("read 8\n", 6)] {
-        let more = repeated(rt.alloc(), "tx 0\n", "read 0\n", 4096, last)?;
+    for (first, line, times, last, found) in MANY {
+        let text = repeated(rt.alloc(), first, line, *times, last)?;
         assert_eq!(rt;
-            fault(rt.alloc(), more.as_bytes(), Mode::Run),
-            Some((4108, code))
+            fault(rt.alloc(), text.as_bytes(), Mode::Run),
+            *found,
+            "{first}{line}{last}"
         );
     }
+    Ok(())
+}
+
+#[test]
+fn refuses_a_text_that_is_too_long(rt: HostRuntime) -> Result<(), Fail> {
     for (length, line, code) in [(16777216, 1, 4), (16777217, 0, 1)] {
         let long = vec![in rt.alloc(); b'\n'; length]?;
         assert_eq!(rt;
@@ -427,55 +470,71 @@ fn assert_scripts(rt: &impl Abort, read: &Workload, scripts: &[&[Op]]) {
     }
 }
 
+/// Bodies, and the scripts of their transactions.
+const BODIES: &[(&str, &[&[Op]])] = &[
+    (
+        "tx 0\nirrev\nemit 2\ncancel\nemit 3\nend\ndone\n",
+        &[&[Op::Irrev, Op::Emit(2), Op::Cancel, Op::Emit(3)]],
+    ),
+    (
+        "tx 0\nadd 3 1\nend\ntx 0\nadd 3 1\nend\ntx 0\nread 3\nend\ndone\n",
+        &[&[Op::Add(3, 1)], &[Op::Add(3, 1)], &[Op::Read(3)]],
+    ),
+    ("done\n", &[]),
+    (
+        "tx 0\nread 5\nend\ntx 0\nwrite 5 9\nend\ndone\n",
+        &[&[Op::Read(5)], &[Op::Write(5, 9)]],
+    ),
+    (
+        "tx 0\nwrite 2 7\nread 2\nwrite 2 8\nend\ndone\n",
+        &[&[Op::Write(2, 7), Op::Read(2), Op::Write(2, 8)]],
+    ),
+];
+
+/// The header is that of [`LINES`], and there is no schedule.
+fn assert_header(rt: &impl Abort, read: &Workload) {
+    let header = &read.header;
+    let sizes = (header.words, header.records, header.ring, header.callers);
+    assert_eq!(rt; sizes, (8, 4, 4, 1));
+    assert_eq!(rt; (header.reads, header.writes, header.clock), (256, 256, 0));
+    assert_eq!(rt; header.alg, Alg::Cgl);
+    assert_eq!(rt; header.version, Version::One);
+    assert_eq!(rt; header.policy, Policy::Fixed);
+    assert!(rt; header.regions.as_slice().is_empty());
+    assert!(rt; read.schedule.as_slice().is_empty());
+}
+
 #[test]
 fn reads_workloads(rt: HostRuntime) -> Result<(), Fail> {
-    let adds: &[&[Op]] = &[&[Op::Add(3, 1)], &[Op::Add(3, 1)], &[Op::Read(3)]];
-    let none: &[&[Op]] = &[];
-    let reads: &[&[Op]] = &[&[Op::Read(5)], &[Op::Write(5, 9)]];
-    let writes: &[&[Op]] = &[&[Op::Write(2, 7), Op::Read(2), Op::Write(2, 8)]];
-    let emits: &[&[Op]] = &[&[Op::Irrev, Op::Emit(2), Op::Cancel, Op::Emit(3)]];
-    let table = [
-        ("tx 0\nirrev\nemit 2\ncancel\nemit 3\nend\ndone\n", emits),
-        (
-            "tx 0\nadd 3 1\nend\ntx 0\nadd 3 1\nend\ntx 0\nread 3\nend\ndone\n",
-            adds,
-        ),
-        ("done\n", none),
-        ("tx 0\nread 5\nend\ntx 0\nwrite 5 9\nend\ndone\n", reads),
-        ("tx 0\nwrite 2 7\nread 2\nwrite 2 8\nend\ndone\n", writes),
-    ];
-    for (body, scripts) in table {
+    for (body, scripts) in BODIES {
         let text = with_body(rt.alloc(), body)?;
         let read = parse(rt.alloc(), text.as_bytes(), Mode::Run)?;
-        assert_eq!(rt; read.header.words, 8);
-        assert_eq!(rt; read.header.records, 4);
-        assert_eq!(rt; read.header.ring, 4);
-        assert_eq!(rt; read.header.callers, 1);
-        assert_eq!(rt; read.header.reads, 256);
-        assert_eq!(rt; read.header.writes, 256);
-        assert_eq!(rt; read.header.clock, 0);
-        assert_eq!(rt; read.header.alg, Alg::Cgl);
-        assert_eq!(rt; read.header.version, Version::One);
-        assert_eq!(rt; read.header.policy, Policy::Fixed);
-        assert!(rt; read.header.regions.as_slice().is_empty());
+        assert_header(&rt, &read);
         assert_scripts(&rt, &read, scripts);
-        assert!(rt; read.schedule.as_slice().is_empty());
     }
     Ok(())
 }
 
-#[test]
-fn reads_step_workloads(rt: HostRuntime) -> Result<(), Fail> {
-    let mut text = with_line(rt.alloc(), 3, "callers 2")?;
-    let Some(end) = text.find("tx 0") else {
-        panic!(rt; "no transaction");
-    };
-    text.truncate(end);
-    text.push_str("tx 1\nmove 2 3 4\ncancel\nend\nswitch 1 CGL\ntx 0\nend\n")?;
-    text.push_str("schedule\ngo 1 2\ngo 0 999998\ndone\n")?;
-    let read = parse(rt.alloc(), text.as_bytes(), Mode::Step)?;
-    let ops: &[Op] = &[Op::Move(2, 3, 4), Op::Cancel];
-    match read.items.as_slice() {
+/// Two callers, a switch and a schedule.
+const STEPPED: &str =
+    "stm 1\nwords 8\ncallers 2\nrecords 4\nring 4\nreads 256\nwrites 256\nclock 0\nalg CGL\nstructs off\ntx 1\nmove 2 3 4\ncancel\nend\nswitch 1 CGL\ntx 0\nend\nschedule\ngo 1 2\ngo 0 999998\ndone\n";
+
+const MOVES: &[Op] = &[Op::Move(2, 3, 4), Op::Cancel];
+
+const TURNS: &[Go] = &[
+    Go {
+        caller: 1,
+        turns: 2,
+    },
+    Go {
+        caller: 0,
+        turns: 999998,
+    },
+];
+
+/// Whether these are the items of [`STEPPED`].
+fn are_stepped(items: &[Item]) -> bool {
+    match items {
         [
             Item::Tx { caller: 1, script },
             Item::Switch {
@@ -486,96 +545,103 @@ fn reads_step_workloads(rt: HostRuntime) -> Result<(), Fail> {
                 caller: 0,
                 script: empty,
             },
-        ] => {
-            assert_eq!(rt; script.as_slice(), ops);
-            assert!(rt; empty.as_slice().is_empty());
-        }
-        _ => panic!(rt; "other items"),
+        ] => script.as_slice() == MOVES && empty.as_slice().is_empty(),
+        _ => false,
     }
-    let turns = [
-        Go {
-            caller: 1,
-            turns: 2,
-        },
-        Go {
-            caller: 0,
-            turns: 999998,
-        },
-    ];
-    assert_eq!(rt; read.schedule.as_slice(), turns.as_slice());
+}
+
+#[test]
+fn reads_step_workloads(rt: HostRuntime) -> Result<(), Fail> {
+    let read = parse(rt.alloc(), STEPPED.as_bytes(), Mode::Step)?;
+    assert!(rt; are_stepped(read.items.as_slice()), "{read:?}");
+    assert_eq!(rt; read.schedule.as_slice(), TURNS);
     Ok(())
 }
 
-fn row(
-    alloc: Global,
-    kind: Kind,
-    place: u64,
-    caller: usize,
-    seq: usize,
-    replies: &[u64],
-    emits: &[u64],
-) -> Result<Row, AllocError> {
+/// A row's kind, place, caller and number, its replies and its emits.
+type RowCase = (Kind, u64, usize, usize, &'static [u64], &'static [u64]);
+
+fn row(alloc: Global, case: &RowCase) -> Result<Row, AllocError> {
+    let (kind, place, caller, seq, replies, emits) = *case;
+    let replies = words(alloc, replies)?;
     Ok(Row {
         kind,
         place,
         caller,
         seq,
-        replies: Words::new(SmallVec::from_slice(alloc, replies)?),
-        emits: Words::new(SmallVec::from_slice(alloc, emits)?),
+        replies,
+        emits: words(alloc, emits)?,
     })
 }
 
+fn words(alloc: Global, values: &[u64]) -> Result<Words, AllocError> {
+    Ok(Words::new(SmallVec::from_slice(alloc, values)?))
+}
+
+/// A report of these rows, and of these words as address and value.
+fn report(alloc: Global, cases: &[RowCase], memory: &[(usize, u64)]) -> Result<Report, AllocError> {
+    let mut rows = Vec::new(alloc);
+    for case in cases {
+        rows.push(row(alloc, case)?)?;
+    }
+    let rows = Rows::new(rows);
+    Ok(Report {
+        rows,
+        memory: Pairs::new(memory.to_vec(alloc)?),
+    })
+}
+
+/// Rows, words, and the text of their report.
+const REPORTS: &[(&[RowCase], &[(usize, u64)], &str)] = &[
+    (
+        &[
+            (Kind::C, 0, 0, 0, &[5, 5, 1], &[]),
+            (Kind::W, 1, 0, 1, &[5, 6, 1, 5], &[5]),
+            (Kind::R, 1, 31, 10, &[], &[]),
+            (
+                Kind::W,
+                4611686018427387904,
+                1,
+                0,
+                &[18446744073709551615],
+                &[7, 0],
+            ),
+        ],
+        &[(0, 5), (65535, 18446744073709551615)],
+        "report 1\nC 0 0 0 : 5 5 1\nW 1 0 1 : 5 6 1 5 ! 5\nR 1 31 10 :\nW 4611686018427387904 1 0 : 18446744073709551615 ! 7 0\nmem 0 5\nmem 65535 18446744073709551615\nend\n",
+    ),
+    (&[], &[], "report 1\nend\n"),
+];
+
 #[test]
 fn writes_reports(rt: HostRuntime) -> Result<(), Fail> {
-    let mut rows = Vec::new(rt.alloc());
-    rows.push(row(rt.alloc(), Kind::C, 0, 0, 0, &[5, 5, 1], &[])?)?;
-    rows.push(row(rt.alloc(), Kind::W, 1, 0, 1, &[5, 6, 1, 5], &[5])?)?;
-    rows.push(row(rt.alloc(), Kind::R, 1, 31, 10, &[], &[])?)?;
-    rows.push(row(
-        rt.alloc(),
-        Kind::W,
-        4611686018427387904,
-        1,
-        0,
-        &[18446744073709551615],
-        &[7, 0],
-    )?)?;
-    let memory = vec![in rt.alloc(); (0, 5), (65535, 18446744073709551615)]?;
-    let report = Report {
-        rows: Rows::new(rows),
-        memory: Pairs::new(memory),
-    };
-    let text = report_text(rt.alloc(), &report)?;
-    let want =
-        b"report 1\nC 0 0 0 : 5 5 1\nW 1 0 1 : 5 6 1 5 ! 5\nR 1 31 10 :\nW 4611686018427387904 1 0 : 18446744073709551615 ! 7 0\nmem 0 5\nmem 65535 18446744073709551615\nend\n";
-    assert_eq!(rt; text.as_slice(), want.as_slice());
+    for (rows, memory, wanted) in REPORTS {
+        let report = report(rt.alloc(), rows, memory)?;
+        let text = report_text(rt.alloc(), &report)?;
+        assert_eq!(rt; text.as_slice(), wanted.as_bytes());
+    }
     Ok(())
+}
+
+/// A report of so many rows.
+fn long_report(alloc: Global, count: u64) -> Result<Report, AllocError> {
+    let mut rows = Vec::new(alloc);
+    for place in 0..count {
+        rows.push(row(alloc, &(Kind::W, place, 0, 0, &[7], &[]))?)?;
+    }
+    let rows = Rows::new(rows);
+    Ok(Report {
+        rows,
+        memory: Pairs::new(vec![in alloc; (3, 7)]?),
+    })
 }
 
 /// More rows than one thread is given.
 #[test]
 fn writes_long_reports_by_threads(rt: HostRuntime) -> Result<(), Fail> {
-    let mut rows = Vec::new(rt.alloc());
-    for place in 0..2500u64 {
-        rows.push(row(rt.alloc(), Kind::W, place, 0, 0, &[place], &[])?)?;
-    }
-    let report = Report {
-        rows: Rows::new(rows),
-        memory: Pairs::new(vec![in rt.alloc(); (3, 7)]?),
-    };
+    let report = long_report(rt.alloc(), 2500)?;
     let text = report_text_by(&rt, rt.alloc(), &report, 3)?;
     assert_eq!(rt; text, report_text(rt.alloc(), &report)?);
-    Ok(())
-}
-
-#[test]
-fn writes_empty_report(rt: HostRuntime) -> Result<(), Fail> {
-    let report = Report {
-        rows: Rows::new(Vec::new(rt.alloc())),
-        memory: Pairs::new(Vec::new(rt.alloc())),
-    };
-    let text = report_text(rt.alloc(), &report)?;
-    assert_eq!(rt; text.as_slice(), b"report 1\nend\n".as_slice());
     Ok(())
 }
 

@@ -1,8 +1,9 @@
 use std::alloc::{AllocError, Global};
+use std::process::Abort;
 use std::test::Fail;
 use stm_profile::policy::Policy;
 use stm_script::op::Op;
-use stm_script::workload::{Item, Version};
+use stm_script::workload::{Item, Version, Workload};
 use stm_text::parse::{Mode, ParseError, parse};
 use tx_regions::region::Structure;
 
@@ -44,10 +45,12 @@ fn with_line(alloc: Global, number: usize, other: &str) -> Result<String, AllocE
     Ok(text)
 }
 
+/// The first fault of a text, its line and its code; line 0 and code 0 where memory is refused.
 fn fault(alloc: Global, text: &[u8]) -> Option<(usize, u32)> {
     match parse(alloc, text, Mode::Run) {
+        Ok(_) => None,
         Err(ParseError::Fault { line, code }) => Some((line, code)),
-        _ => None,
+        Err(ParseError::Memory) => Some((0, 0)),
     }
 }
 
@@ -254,36 +257,43 @@ fn refuses_reserves(rt: HostRuntime) -> Result<(), Fail> {
     Ok(())
 }
 
-#[test]
-fn reads_what_version_two_has(rt: HostRuntime) -> Result<(), Fail> {
-    let operations =
-        "count 0 1 7\ntotal 0\nldel 1 2\nllen 1\nhhas 2 3\ntadd 3 4\ntmin 3\nqput 4 5\nqget 4\nmput 5 6 18446744073709551615\nmdel 5 7\nmget 5 8\nmsum 5 9 4294967295";
-    let text = with_line(rt.alloc(), 19, operations)?;
-    let read = parse(rt.alloc(), text.as_bytes(), Mode::Run)?;
-    assert_eq!(rt; read.header.version, Version::Two);
-    assert_eq!(rt; read.header.words, 1_048_576);
-    assert_eq!(rt; read.header.policy, Policy::Round(3));
-    let regions = read.header.regions.as_slice();
+/// Operations of version 2, which stand in line 19.
+const OPERATIONS: &str =
+    "count 0 1 7\ntotal 0\nldel 1 2\nllen 1\nhhas 2 3\ntadd 3 4\ntmin 3\nqput 4 5\nqget 4\nmput 5 6 18446744073709551615\nmdel 5 7\nmget 5 8\nmsum 5 9 4294967295";
+
+/// Those operations, and the one in line 20.
+const READ: &[Op] = &[
+    Op::Count(0, 1, 7),
+    Op::Total(0),
+    Op::ListRemove(1, 2),
+    Op::ListLength(1),
+    Op::HashContains(2, 3),
+    Op::TreeInsert(3, 4),
+    Op::TreeLeast(3),
+    Op::QueuePut(4, 5),
+    Op::QueueGet(4),
+    Op::MapPut(5, 6, u64::MAX),
+    Op::MapRemove(5, 7),
+    Op::MapGet(5, 8),
+    Op::MapSum(5, 9, 4_294_967_295),
+    Op::Write(11, 3),
+];
+
+/// The header is that of [`LINES`].
+fn assert_header(rt: &impl Abort, read: &Workload) {
+    let header = &read.header;
+    assert_eq!(rt; header.version, Version::Two);
+    assert_eq!(rt; header.words, 1_048_576);
+    assert_eq!(rt; header.policy, Policy::Round(3));
+    let regions = header.regions.as_slice();
     assert_eq!(rt; regions.len(), 6);
     assert_eq!(rt; regions[4].structure(), Structure::Queue);
     assert_eq!(rt; regions[5].start(), 400);
-    let wanted: &[Op] = &[
-        Op::Count(0, 1, 7),
-        Op::Total(0),
-        Op::ListRemove(1, 2),
-        Op::ListLength(1),
-        Op::HashContains(2, 3),
-        Op::TreeInsert(3, 4),
-        Op::TreeLeast(3),
-        Op::QueuePut(4, 5),
-        Op::QueueGet(4),
-        Op::MapPut(5, 6, u64::MAX),
-        Op::MapRemove(5, 7),
-        Op::MapGet(5, 8),
-        Op::MapSum(5, 9, 4_294_967_295),
-        Op::Write(11, 3),
-    ];
-    match read.items.as_slice() {
+}
+
+/// Whether the items are those of [`LINES`], with the operations of [`READ`].
+fn are_read(items: &[Item]) -> bool {
+    match items {
         [
             Item::Tx { caller: 0, script },
             Item::Reserve {
@@ -292,9 +302,17 @@ fn reads_what_version_two_has(rt: HostRuntime) -> Result<(), Fail> {
                 writes: 4096,
             },
             Item::Switch { .. },
-        ] => assert_eq!(rt; script.as_slice(), wanted),
-        _ => panic!(rt; "other items"),
+        ] => script.as_slice() == READ,
+        _ => false,
     }
+}
+
+#[test]
+fn reads_what_version_two_has(rt: HostRuntime) -> Result<(), Fail> {
+    let text = with_line(rt.alloc(), 19, OPERATIONS)?;
+    let read = parse(rt.alloc(), text.as_bytes(), Mode::Run)?;
+    assert_header(&rt, &read);
+    assert!(rt; are_read(read.items.as_slice()), "{read:?}");
     Ok(())
 }
 

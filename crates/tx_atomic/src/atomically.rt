@@ -9,7 +9,8 @@ ghost use Rattle.tx_atomic.specs.declared.tally.Ended.TheVariants.{ClockFull};
 ghost use Rattle.tx_atomic.specs.Tries.{Ran};
 
 use crate::attempts::attempt;
-use crate::pace::Pace;
+use crate::observer::Observer;
+use crate::pace::Pacing;
 use crate::tally::Ended;
 use crate::transaction::Transaction;
 use std::sync::Wait;
@@ -25,11 +26,12 @@ const MOST_FAILED: u32 = 16;
 /// caller did and behind all that it had seen: no attempt that failed before left a trace. None where the clock was
 /// found at its limit, 2^62, and then no attempt took effect: close the memory, and open another. The pace counts it
 /// where it took effect.
-pub fn atomically<R: Wait, K: MemRule, T: Transaction<K>>(
+#[inline(always)]
+pub fn atomically<R: Wait, K: MemRule, T: Transaction<K>, O: Observer>(
     rt: &R,
     desc: &mut Desc<K>,
     stm: &Stm<K>,
-    pace: &mut Pace,
+    pace: &mut Pacing<O>,
     transaction: &T,
 ) -> Option<T::Output>
     requires ready { IsReady stm.now desc.old }

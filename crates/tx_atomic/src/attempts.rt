@@ -9,7 +9,9 @@ ghost use Rattle.tx_atomic.specs.Attempts.{IsFresh, MayCommit, TookEffect, IsEar
 ghost use Rattle.tx_atomic.specs.Callers.{IsReady, IsThrough, Took};
 ghost use Rattle.tx_atomic.specs.Tries.{Tried, Opens, Asks, IsRefused, IsStopped, Finishes};
 
-use crate::pace::Pace;
+use crate::noting::Noting;
+use crate::observer::Observer;
+use crate::pace::Pacing;
 use crate::tally::Ended;
 use crate::transaction::Transaction;
 use std::sync::Wait;
@@ -30,11 +32,12 @@ use tx_answers::answers::{Begin, Commit, Irrev};
 ///
 /// # Errors
 /// How the attempt ended.
-pub fn attempt<R: Wait, K: MemRule, T: Transaction<K>>(
+#[inline(never)]
+pub fn attempt<R: Wait, K: MemRule, T: Transaction<K>, O: Observer>(
     rt: &R,
     desc: &mut Desc<K>,
     stm: &Stm<K>,
-    pace: &mut Pace,
+    pace: &mut Pacing<O>,
     transaction: &T,
     irrevocable: bool,
 ) -> Result<T::Output, Ended>
@@ -49,18 +52,29 @@ pub fn attempt<R: Wait, K: MemRule, T: Transaction<K>>(
     ensures tried { MatchResult result (λ r. Tried (K.good stm.now.rule) stm.now.config (number desc.old) irrevocable None (known desc.old) (known desc.new) pace.old.tally pace.new.tally) (λ e. Tried (K.good stm.now.rule) stm.now.config (number desc.old) irrevocable (Some e) (known desc.old) (known desc.new) pace.old.tally pace.new.tally) }
     ensures unrefused { IfErr result (λ e. irrevocable ≡ true → IsEarly e) }
 {
-    open(rt, desc, stm, pace, irrevocable)?;
-    let output = act(desc, stm, transaction)?;
-    end(rt, desc, stm, pace)?;
-    Ok(output)
+    match open(rt, desc, stm, pace, irrevocable) {
+        Ok(()) => {}
+        Err(ended) => {
+            pace.tell(ended, None);
+            return Err(ended);
+        }
+    }
+    let output = act(desc, stm, pace, transaction)?;
+    match end(rt, desc, stm, pace) {
+        Ok(()) => Ok(output),
+        Err(ended) => {
+            pace.tell(ended, None);
+            Err(ended)
+        }
+    }
 }
 
 /// Begins, and asks to be irrevocable where `irrevocable` says so.
-fn open<R: Wait, K: MemRule>(
+fn open<R: Wait, K: MemRule, O: Observer>(
     rt: &R,
     desc: &mut Desc<K>,
     stm: &Stm<K>,
-    pace: &mut Pace,
+    pace: &mut Pacing<O>,
     irrevocable: bool,
 ) -> Result<(), Ended>
     requires stm { IsOf desc.old stm.now }
@@ -128,11 +142,13 @@ fn turn_back<K: MemRule>(desc: &mut Desc<K>, stm: &Stm<K>) -> Commit
 
 /// Asks to be irrevocable until that is granted, or the attempt is over. While another is in an attempt it waits
 /// with the gate closed.
-fn promote<R: Wait, K: MemRule>(
+#[cold]
+#[inline(never)]
+fn promote<R: Wait, K: MemRule, O: Observer>(
     rt: &R,
     desc: &mut Desc<K>,
     stm: &Stm<K>,
-    pace: &mut Pace,
+    pace: &mut Pacing<O>,
 ) -> Result<(), Ended>
     requires stm { IsOf desc.old stm.now }
     requires fresh { IsFresh (known desc.old) }
@@ -154,7 +170,10 @@ fn promote<R: Wait, K: MemRule>(
                 pace.promote();
                 return Ok(());
             }
-            Irrev::Busy { .. } => pace.wait(Ended::Busy),
+            Irrev::Busy { .. } => {
+                pace.tell(Ended::Busy, None);
+                pace.wait(Ended::Busy);
+            }
             Irrev::Taken { .. } => {
                 // its holder waits for this very attempt to end
                 cancel(desc, stm);
@@ -169,9 +188,11 @@ fn promote<R: Wait, K: MemRule>(
 
 /// Does the transaction in a running attempt. It is compiled once for each algorithm, so that the algorithm is looked up
 /// once an attempt, and not at each read and write.
-fn act<K: MemRule, T: Transaction<K>>(
+#[inline(always)]
+fn act<K: MemRule, T: Transaction<K>, O: Observer>(
     desc: &mut Desc<K>,
     stm: &Stm<K>,
+    pace: &mut Pacing<O>,
     transaction: &T,
 ) -> Result<T::Output, Ended>
     requires stm { IsOf desc.old stm.now }
@@ -180,6 +201,7 @@ fn act<K: MemRule, T: Transaction<K>>(
     ensures same { IsSameCaller desc.old desc.new }
     ensures made { (known desc.new).made ≡ (known desc.old).made }
     ensures grew { Grows (known desc.old) (known desc.new) }
+    ensures uncounted { pace.new.tally ≡ pace.old.tally }
     ensures later { OnOk result ((known desc.old).start ≤ (known desc.new).start) }
     ensures may { OnOk result (MayCommit (K.good stm.now.rule) stm.now.config (known desc.new)) }
     ensures tells { IfOk result (λ r. T.tells transaction.now stm.now.rule stm.now.config.words r (known desc.new).log) }
@@ -190,20 +212,21 @@ fn act<K: MemRule, T: Transaction<K>>(
     ensures irrevocable { OnOk result (is_irrevocable (known desc.old) ≡ true → is_irrevocable (known desc.new) ≡ true) }
 {
     match algorithm(desc) {
-        Alg::Cgl => act_by(&OnlyCgl, desc, stm, transaction),
-        Alg::Tml => act_by(&OnlyTml, desc, stm, transaction),
-        Alg::Serial => act_by(&OnlySerial, desc, stm, transaction),
-        Alg::OrecLazy => act_by(&OnlyOrecLazy, desc, stm, transaction),
-        Alg::OrecEager => act_by(&OnlyOrecEager, desc, stm, transaction),
-        Alg::RingSw => act_by(&OnlyRingSw, desc, stm, transaction),
+        Alg::Cgl => act_by(&Noting::of(OnlyCgl), desc, stm, pace, transaction),
+        Alg::Tml => act_by(&Noting::of(OnlyTml), desc, stm, pace, transaction),
+        Alg::Serial => act_by(&Noting::of(OnlySerial), desc, stm, pace, transaction),
+        Alg::OrecLazy => act_by(&Noting::of(OnlyOrecLazy), desc, stm, pace, transaction),
+        Alg::OrecEager => act_by(&Noting::of(OnlyOrecEager), desc, stm, pace, transaction),
+        Alg::RingSw => act_by(&Noting::of(OnlyRingSw), desc, stm, pace, transaction),
     }
 }
 
 /// Does the transaction in a running attempt, by these reads and writes.
-fn act_by<K: MemRule, T: Transaction<K>, C: Calls>(
-    calls: &C,
+fn act_by<K: MemRule, T: Transaction<K>, C: Calls, O: Observer>(
+    calls: &Noting<C>,
     desc: &mut Desc<K>,
     stm: &Stm<K>,
+    pace: &mut Pacing<O>,
     transaction: &T,
 ) -> Result<T::Output, Ended>
     requires stm { IsOf desc.old stm.now }
@@ -213,6 +236,7 @@ fn act_by<K: MemRule, T: Transaction<K>, C: Calls>(
     ensures same { IsSameCaller desc.old desc.new }
     ensures made { (known desc.new).made ≡ (known desc.old).made }
     ensures grew { Grows (known desc.old) (known desc.new) }
+    ensures uncounted { pace.new.tally ≡ pace.old.tally }
     ensures later { OnOk result ((known desc.old).start ≤ (known desc.new).start) }
     ensures may { OnOk result (MayCommit (K.good stm.now.rule) stm.now.config (known desc.new)) }
     ensures tells { IfOk result (λ r. T.tells transaction.now stm.now.rule stm.now.config.words r (known desc.new).log) }
@@ -230,16 +254,20 @@ fn act_by<K: MemRule, T: Transaction<K>, C: Calls>(
     };
     match transaction.run(&stm.rule, &mut memory) {
         Ok(output) => Ok(output),
-        Err(stop) => Err(Ended::by(stop)),
+        Err(stop) => {
+            let ended = Ended::by(stop);
+            pace.tell(ended, calls.at.get());
+            Err(ended)
+        }
     }
 }
 
 /// Commits, again and again where another was faster.
-fn end<R: Wait, K: MemRule>(
+fn end<R: Wait, K: MemRule, O: Observer>(
     rt: &R,
     desc: &mut Desc<K>,
     stm: &Stm<K>,
-    pace: &mut Pace,
+    pace: &mut Pacing<O>,
 ) -> Result<(), Ended>
     requires stm { IsOf desc.old stm.now }
     requires may { MayCommit (K.good stm.now.rule) stm.now.config (known desc.old) }
@@ -256,7 +284,10 @@ fn end<R: Wait, K: MemRule>(
     for _ in rt.forever() {
         match commit(desc, stm) {
             Commit::Committed { .. } | Commit::ReadOnly { .. } => return Ok(()),
-            Commit::Again { .. } => pace.wait(Ended::Again),
+            Commit::Again { .. } => {
+                pace.tell(Ended::Again, None);
+                pace.wait(Ended::Again);
+            }
             Commit::Conflict(cause) => return Err(Ended::Conflict(cause)),
             Commit::ClockFull { .. } => return Err(Ended::ClockFull),
         }

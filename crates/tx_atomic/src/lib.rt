@@ -4,6 +4,8 @@
 pub mod atomically;
 pub mod attempts;
 pub mod laws;
+pub mod noting;
+pub mod observer;
 pub mod pace;
 pub mod switching;
 pub mod tally;

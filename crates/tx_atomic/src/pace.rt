@@ -1,26 +1,55 @@
-//! What a caller waits by, and what it counts.
+//! What a caller waits by, what it counts, and who is told.
 ghost use Rattle.std.specs.Prelude.{◌≡◌};
 
+use crate::observer::Observer;
 use crate::tally::{Ended, Tally};
 use tx_backoff::Backoff;
 
-/// The next pause of a caller, and what came of its attempts.
+/// The next pause of a caller, what came of its attempts, and who is told of each that was refused.
 #[derive(Clone, Copy, Drop, Debug, PartialEq, Eq)]
-pub struct Pace {
+pub struct Pacing<O> {
     pub backoff: Backoff,
     pub tally: Tally,
+    pub observer: O,
 }
 
-impl Pace {
-    ghost use Rattle.tx_atomic.specs.Tallies.{CommitsStay, none, with_commit, with_promotion, noted};
+/// The pace of a caller that no one observes.
+pub type Pace = Pacing<()>;
+
+impl Pacing<()> {
+    ghost use Rattle.tx_atomic.specs.Tallies.{none};
 
     pub fn new() -> Pace
         ensures { result.tally ≡ none }
     {
-        Pace {
+        Pacing::observed(())
+    }
+}
+
+impl<O> Pacing<O> {
+    ghost use Rattle.tx_atomic.specs.Tallies.{none};
+
+    /// The pace of a caller whose observer this is.
+    pub fn observed(observer: O) -> Pacing<O>
+        ensures tally { result.tally ≡ none }
+        ensures observer { result.observer ≡ observer }
+    {
+        Pacing {
             backoff: Backoff::new(),
             tally: Tally::new(),
+            observer,
         }
+    }
+}
+
+impl<O: Observer> Pacing<O> {
+    ghost use Rattle.tx_atomic.specs.Tallies.{CommitsStay, with_commit, with_promotion, noted};
+
+    /// Tells the observer what an attempt or a call of it was refused by, and where.
+    pub fn tell(&mut self, ended: Ended, at: Option<usize>)
+        ensures { self.new.tally ≡ self.old.tally }
+    {
+        self.observer.refused(ended, at);
     }
 
     /// Counts what an attempt or a call of it came to, and pauses: longer where a lock was held.

@@ -12,7 +12,8 @@ ghost use Rattle.stm_tx.specs.Descs.{known};
 ghost use Rattle.tx_atomic.specs.Callers.{IsReady, IsThrough, Took};
 
 use crate::atomically::atomically;
-use crate::pace::Pace;
+use crate::observer::Observer;
+use crate::pace::Pacing;
 use crate::transaction::Transaction;
 use std::sync::Wait;
 use stm_model::rule::MemRule;
@@ -25,11 +26,11 @@ use tx_backoff::Backoff;
 /// commit.
 ///
 /// None where the clock was found at its limit, 2^62, and then nothing took effect.
-pub fn until_some<R: Wait, K: MemRule, V: Drop, T: Transaction<K, Output = Option<V>>>(
+pub fn until_some<R: Wait, K: MemRule, V: Drop, T: Transaction<K, Output = Option<V>>, O: Observer>(
     rt: &R,
     desc: &mut Desc<K>,
     stm: &Stm<K>,
-    pace: &mut Pace,
+    pace: &mut Pacing<O>,
     transaction: &T,
 ) -> Option<V>
     requires ready { IsReady stm.now desc.old }

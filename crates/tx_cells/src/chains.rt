@@ -41,6 +41,7 @@ impl Chains {
         ensures words { A.words acc.new ≡ A.words acc.old }
         ensures keeps { A.keeps acc.old acc.new }
     {
+        let cells = self.at + self.heads;
         let mut link = self.at + key as usize % self.heads;
         let mut next = acc.read(link)?;
         for _step in 0..self.cells {
@@ -48,11 +49,11 @@ impl Chains {
                 return Ok(Position { link, next, tag: 0 });
             }
             let cell = (next - 1) as usize;
-            let tag = acc.read(self.at + self.heads + 2 * cell)?;
+            let tag = acc.read(cells + 2 * cell)?;
             if tag > key as u64 {
                 return Ok(Position { link, next, tag });
             }
-            link = self.at + self.heads + 2 * cell + 1;
+            link = cells + 2 * cell + 1;
             next = acc.read(link)?;
         }
         Ok(Position {
@@ -78,8 +79,9 @@ impl Chains {
         ensures words { A.words acc.new ≡ A.words acc.old }
         ensures keeps { A.keeps acc.old acc.new }
     {
+        let cells = self.at + self.heads;
         for cell in 0..self.cells {
-            let tag = acc.read(self.at + self.heads + 2 * cell)?;
+            let tag = acc.read(cells + 2 * cell)?;
             if tag == 0 {
                 return Ok(Some(cell));
             }

@@ -444,3 +444,11 @@ index-popped g items bs a last s x some size found e =
     let all : take last items ++ get_or items last (0, 0) ∷ [] ≡ items = sym (take_more items last (0, 0) (omega arith)) ∙ (ap (λ (k : ℕ). take k items) size ∙ take-length items) in
     let front : length (take last items) ≡ last = length-take-le last items (omega arith) in
     index-pop g (take last items) bs (get_or items last (0, 0)).0 (get_or items last (0, 0)).1 s.at (subst (λ (ys : List (ℕ × ℕ)). IsIndex g ys bs) (sym all) x) some found.within h.0 (h.1 ∙ sym front)
+
+-- a new item of an address that none has, at the bucket where its lookup ends
+pub index-taken : (g : ℕ) (items : List (ℕ × ℕ)) (bs : List Bucket) (a v : ℕ) (s : Lookup) → IsIndex g items bs → length items < length bs → IsLookup g items bs a s → item_at a items ≡ None → IsIndex g (items ++ (a, v) ∷ []) (set bs s.at (record { mark = g; item = length items }))
+index-taken g items bs a v s x room found new = by s.item refl
+  where
+    by : (o : Option ℕ) → s.item ≡ o → IsIndex g (items ++ (a, v) ∷ []) (set bs s.at (record { mark = g; item = length items }))
+    by None e = index-push g items bs a v s x room found e
+    by (Some i) e = let h = lookup-found g items bs a i s found e in absurd (none-other items a i new h.0 h.1)

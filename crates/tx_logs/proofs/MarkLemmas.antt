@@ -1,9 +1,8 @@
 -- What saving, restoring and merging make of the items at the marks.
 use Rattle.std.proofs.Common.{ℕ, zero, suc, ◌≡◌, ◌≢◌, ◌<◌, ◌≤◌, ◌+◌, ◌-◌, List, [], ◌∷◌, ◌++◌, length, get_or, set, take, map, Bool, true, false, refl, sym, ap, ◌∙◌, subst, arith, length-append}
-use Rattle.std.specs.Prelude.{Option, Some, None, IsSome, is_some, min, ◌==◌, if◌then◌else◌}
+use Rattle.std.specs.Prelude.{Option, Some, None, IsSome, is_some, ◌==◌, if◌then◌else◌}
 use Rattle.std.proofs.lemmas.Bool.Decides.{nat_tests}
 use Rattle.std.proofs.lemmas.List.{length-map, map-append, take-map, take-take, take-append-le, take_more, length-set, get_or_default, get_or-set_same, get_or-set_other, set-set}
-use Rattle.std.proofs.Math.Seq.{take-length}
 use Rattle.stm_model.specs.Memories.{item_at, put, Once}
 use Rattle.stm_model.specs.PlainLaws.{put-item}
 use Rattle.tx_logs.specs.declared.marks.Mark.{Mark}
@@ -268,14 +267,6 @@ some-old a olds (w ∷ ws) h = by (w.0 == a) h (some-old a olds ws)
     by : (t : Bool) → IsSome (if t then Some w.1 else item_at a ws) → (IsSome (item_at a ws) → IsSome (item_at a (map (old_or olds) ws))) → IsSome (if t then Some (value_or (item_at w.0 olds) w.1) else item_at a (map (old_or olds) ws))
     by true f rec = refl
     by false f rec = rec f
-
-pub once-old : (olds ws : List (ℕ × ℕ)) → Once ws → Once (map (old_or olds) ws)
-once-old olds [] o = tt
-once-old olds (w ∷ ws) o = (none w.0 ws o.0, once-old olds ws o.1)
-  where
-    none : (a : ℕ) (xs : List (ℕ × ℕ)) → item_at a xs ≡ None → item_at a (map (old_or olds) xs) ≡ None
-    none a [] h = refl
-    none a (x ∷ xs) h = let p = apart x a _ h in there (old_or olds x) a _ p.0 ∙ none a xs p.1
 
 pub old-none : (ws : List (ℕ × ℕ)) → map (old_or []) ws ≡ ws
 old-none [] = refl

@@ -1,16 +1,16 @@
 -- The marks of a log beside its items: what a write, a mark, a roll back and a release make of both.
-use Rattle.std.proofs.Common.{ℕ, zero, suc, ◌≡◌, ◌≢◌, ◌<◌, ◌≤◌, ◌+◌, ◌-◌, List, [], ◌∷◌, ◌++◌, length, get_or, set, take, map, Bool, true, false, inl, inr, refl, sym, ap, ◌∙◌, subst, arith, length-append}
-use Rattle.std.specs.Prelude.{Option, Some, None, IsSome, is_some, min, ◌==◌, if◌then◌else◌}
-use Rattle.std.proofs.lemmas.Bool.{cases_lt, cases_order}
-use Rattle.std.proofs.lemmas.List.{length-map, take-map, length-take, length-take-le, take_more, take_more_set, take-append-le, length-set, get_or_default, get_or-set_same, get_or-set_other, set-get_or}
+use Rattle.std.proofs.Common.{ℕ, ◌≡◌, ◌<◌, ◌≤◌, ◌+◌, ◌-◌, List, [], ◌∷◌, ◌++◌, length, get_or, set, take, map, Bool, true, false, inl, inr, refl, sym, ap, ◌∙◌, subst, arith}
+use Rattle.std.specs.Prelude.{Option, Some, None, IsSome, is_some, ◌==◌, if◌then◌else◌}
+use Rattle.std.proofs.lemmas.Bool.{cases_order}
+use Rattle.std.proofs.lemmas.List.{length-map, take-map, length-take-le, take_more, take_more_set, length-set, get_or-set_same, get_or-set_other, set-get_or}
 use Rattle.std.proofs.Math.Seq.{take-length, get_or-append_seam, take-append_seam}
 use Rattle.stm_model.specs.Memories.{item_at, put, Once}
 use Rattle.tx_logs.specs.declared.marks.Mark.{Mark}
 use Rattle.tx_logs.specs.declared.push.Push.{Push}
 use Rattle.tx_logs.specs.declared.push.Push.TheVariants.{Done, Full}
-use Rattle.tx_logs.specs.LogStates.{LogState, Pushes, keep, firsts}
-use Rattle.tx_logs.specs.Marks.{value_or, old_or, at_mark, at_first, marked, Covers, Saves, Tied, Rooms, keep_some, saved, emptied_mark, keep_all, merged, blank_mark, CanMerge}
-use Rattle.tx_logs.proofs.MarkLemmas.{at-saved, saves-saved, at-merged, old-none, marked-last, tied-last, tied-more, length-marked, keep_all-fits, covers-take, some-take}
+use Rattle.tx_logs.specs.LogStates.{LogState, Pushes, firsts}
+use Rattle.tx_logs.specs.Marks.{value_or, old_or, at_mark, marked, Covers, Saves, Tied, Rooms, keep_some, saved, emptied_mark, merged, blank_mark, CanMerge}
+use Rattle.tx_logs.proofs.MarkLemmas.{at-saved, saves-saved, at-merged, old-none, marked-last, tied-last, tied-more, length-marked, keep_all-fits, some-take}
 
 -- the last mark and those below it
 pub top-split : (ms : List Mark) (d : ℕ) → 0 < d → d ≤ length ms → take d ms ≡ take (d - 1) ms ++ get_or ms (d - 1) blank_mark ∷ []

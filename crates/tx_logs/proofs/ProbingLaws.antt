@@ -1,5 +1,5 @@
 -- How many buckets a lookup looks at, by the index.
-use Rattle.std.proofs.Common.{ℕ, ◌≡◌, ◌≢◌, ◌<◌, ◌≤◌, ◌+◌, ◌%◌, List, length, get_or, Bool, true, false, refl, sym, ap, ◌∙◌, subst, arith}
+use Rattle.std.proofs.Common.{ℕ, ◌≡◌, ◌≢◌, ◌<◌, ◌+◌, ◌%◌, List, length, get_or, Bool, true, false, refl, sym, ap, ◌∙◌, subst, arith}
 use Rattle.std.specs.Prelude.{Option, Some, None, MatchOption, ◌==◌, if◌then◌else◌}
 use Rattle.std.proofs.lemmas.Bool.Decides.{nat_tests}
 use Rattle.std.proofs.lemmas.Nat.{mod_below}
@@ -7,7 +7,7 @@ use Rattle.stm_model.specs.Memories.{item_at}
 use Rattle.tx_logs.specs.declared.index.Bucket.{Bucket}
 use Rattle.tx_logs.specs.declared.index.Lookup.{Lookup}
 use Rattle.tx_logs.specs.Buckets.{wrapped, blank, bucket_at, address_of, IsIndex, IsLookup}
-use Rattle.tx_logs.specs.Probing.{behind_home, HasBuckets, IsProbed}
+use Rattle.tx_logs.specs.Probing.{HasBuckets, IsProbed}
 use Rattle.tx_logs.proofs.BucketLemmas.{here-is, wrapped-below}
 
 module _ (g : ℕ) (items : List (ℕ × ℕ)) (bs : List Bucket) (x : IsIndex g items bs) where

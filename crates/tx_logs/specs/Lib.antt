@@ -4,3 +4,4 @@ pub mod LogStates
 pub mod Filters
 pub mod Statements
 pub mod Marks
+pub mod ShortLogs

@@ -39,6 +39,10 @@ with_last v ws = set ws (length ws - 1) ((slice_index_or ws (length ws - 1) (0, 
 abbrev pub next_generation : ℕ → ℕ
 next_generation g = if g == 4294967295 then 1 else g + 1
 
+-- the log without its items and marks, a generation on unless it has no items
+abbrev pub renewed : LogState → LogState
+renewed log = record log { items = []; generation = if length log.items == 0 then log.generation else next_generation log.generation; marks = [] }
+
 -- rolled back to mark d: the items are those at the mark, which stands, and the marks above it are gone
 abbrev pub rolled : ℕ → LogState → LogState
 rolled d log = record log { items = get_or log.marks (d - 1) []; marks = take d log.marks }

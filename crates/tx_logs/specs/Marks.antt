@@ -2,7 +2,7 @@
 use Rattle.std.specs.Prelude.{ℕ, ◌≡◌, ◌<◌, ◌≤◌, List, [], ◌∷◌, length, get_or, map, take, Option, Some, None, IsSome}
 use Rattle.stm_model.specs.Memories.{item_at, Once}
 use Rattle.tx_logs.specs.declared.marks.Mark.{Mark}
-use Rattle.tx_logs.specs.LogStates.{LogState, empty_at, keep, next_generation}
+use Rattle.tx_logs.specs.LogStates.{empty_at, keep, next_generation}
 
 abbrev pub blank_mark : Mark
 blank_mark = record { count = 0; olds = empty_at 0 0 }

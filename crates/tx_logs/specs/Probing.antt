@@ -1,5 +1,5 @@
 -- How many buckets a lookup looks at, by the list of the items alone.
-use Rattle.std.specs.Prelude.{ℕ, ◌≡◌, ◌≢◌, ◌<◌, ◌≤◌, ◌+◌, ◌%◌, List, length, Option, Some, MatchOption}
+use Rattle.std.specs.Prelude.{ℕ, ◌≡◌, ◌≢◌, ◌<◌, ◌+◌, ◌%◌, List, length, Option, Some, MatchOption}
 use Rattle.tx_logs.specs.Buckets.{wrapped, address_of}
 
 -- the bucket so many behind the address's home

@@ -2,7 +2,8 @@
 //! the bucket whose number is the address modulo the number of buckets; a lookup goes on from there, from the
 //! last bucket to the first, up to the address or an open bucket. A bucket is taken where its mark is the
 //! log's generation, so a log becomes empty by raising its generation.
-ghost use Rattle.std.specs.Prelude.{◌≡◌, ◌<◌, ◌≤◌, ◌%◌, ℕ, length, slice_index_or};
+ghost use Rattle.std.specs.Prelude.{◌≡◌, ◌<◌, ◌≤◌, ◌%◌, ◌++◌, ◌∷◌, [], ℕ, None, length, slice_index_or};
+ghost use Rattle.stm_model.specs.Memories.{item_at, Once};
 ghost use Rattle.tx_logs.specs.Buckets.{IsIndex, IsLookup, blank};
 
 /// A bucket, and the item that it names while it is taken.
@@ -98,6 +99,36 @@ pub fn look_up(
         if at == index.len() {
             at = 0;
         }
+    }
+}
+
+/// Takes a bucket for a new item behind these, of an address that none of them has: the one at which its lookup ends.
+pub fn take(index: &mut [Bucket], items: &[(usize, u64)], generation: u32, inverse: usize, a: usize)
+    requires few { length index.old ≤ 8192 }
+    requires indexed { IsIndex generation items.now index.old }
+    requires room { length items.now < length index.old }
+    requires new { item_at a items.now ≡ None }
+    ensures size { length index.new ≡ length index.old }
+    ensures indexed { (v : ℕ) → IsIndex generation (items.now ++ (a, v) ∷ []) index.new }
+{
+    let found = look_up(index, items, generation, inverse, a);
+    index[found.at] = Bucket {
+        mark: generation,
+        item: items.len() as u32,
+    };
+}
+
+/// Takes a bucket for each of the items, of which none has one.
+pub fn take_all(index: &mut [Bucket], items: &[(usize, u64)], generation: u32, inverse: usize)
+    requires few { length index.old ≤ 8192 }
+    requires blank { IsIndex generation [] index.old }
+    requires room { length items.now < length index.old }
+    requires once { Once items.now }
+    ensures size { length index.new ≡ length index.old }
+    ensures indexed { IsIndex generation items.now index.new }
+{
+    for i in 0..items.len() {
+        take(index, &items[..i], generation, inverse, items[i].0);
     }
 }
 

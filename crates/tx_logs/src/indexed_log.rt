@@ -1,9 +1,8 @@
-//! The common part of the logs: items of address and value, in the order in which the addresses came, found by
-//! an index.
-ghost use Rattle.std.specs.Prelude.{◌*◌, ◌≡◌, ◌≤◌, ◌<◌, ◌+◌, ◌-◌, [], IfOk, MatchResult, length, max, slice_index_or, take};
+//! A log that grows long: items of address and value, in the order in which the addresses came, all found by an index.
+ghost use Rattle.std.specs.Prelude.{◌*◌, ◌≡◌, ◌≤◌, ◌<◌, ◌+◌, [], IfOk, MatchResult, length, max, slice_index_or};
 ghost use Rattle.stm_model.specs.Memories.{item_at, Once};
 ghost use Rattle.tx_logs.specs.Probing.{IsProbed};
-ghost use Rattle.tx_logs.specs.LogStates.{LogState, Pushes, empty_at, next_generation, pushed, with_last};
+ghost use Rattle.tx_logs.specs.LogStates.{LogState, Pushes, empty_at, next_generation, pushed, renewed};
 
 use crate::index::{Bucket, clear_marks, inverse_of, look_up};
 use crate::push::{Push, Repeat};
@@ -142,39 +141,6 @@ impl IndexedLog {
         Push::Done
     }
 
-    /// Puts the value in the place of the last item's, whose address stays. No lookup.
-    #[inline]
-    pub fn set_last(&mut self, v: u64)
-        requires { 0 < length self.old.items }
-        ensures { self.new ≡ record self.old { items = with_last v self.old.items } }
-    {
-        let last = self.count() - 1;
-        let (a, _) = self.item(last);
-        self.items[last] = (a, v);
-    }
-
-    /// Takes the last item away: its bucket is open again. One lookup.
-    pub fn pop(&mut self)
-        requires { 0 < length self.old.items }
-        ensures { self.new ≡ record self.old { items = take (length self.old.items - 1) self.old.items } }
-    {
-        let last = self.count() - 1;
-        let (a, _) = self.item(last);
-        let found = look_up(&self.index, &self.items, self.generation, self.inverse, a);
-        self.index[found.at] = Bucket { mark: 0, item: 0 };
-        self.items.truncate(last);
-    }
-
-    /// Takes all items but the first `count` away, which are no more than there are. One lookup for each that goes.
-    pub fn truncate(&mut self, count: usize)
-        requires { count ≤ length self.old.items }
-        ensures { self.new ≡ record self.old { items = take count self.old.items } }
-    {
-        while self.count() > count {
-            self.pop();
-        }
-    }
-
     /// Makes the length the greater of its old one and `len`, 1 to 4,096. Where memory is refused the log is as before.
     /// A greater length costs a push an item into a new log, whose room is taken beside the old one's.
     pub fn reserve(&mut self, alloc: Global, len: usize) -> Result<(), Memory>
@@ -205,5 +171,17 @@ impl IndexedLog {
         } else {
             self.generation += 1;
         }
+    }
+
+    /// Empties the log as `clear` does, but for its generation, which stays where the log is empty. So a log that an attempt
+    /// doesn't use costs a test.
+    #[inline]
+    pub fn renew(&mut self)
+        ensures { self.new ≡ renewed self.old }
+    {
+        if self.items.is_empty() {
+            return;
+        }
+        self.clear();
     }
 }

@@ -10,5 +10,6 @@ pub mod laws;
 pub mod marks;
 pub mod push;
 pub mod read_log;
+pub mod short_log;
 pub mod undo_log;
 pub mod write_log;

@@ -4,8 +4,8 @@ ghost use Rattle.std.specs.Prelude.{◌≡◌, ◌≤◌, ◌<◌, ◌-◌, [], 
 ghost use Rattle.tx_logs.specs.LogStates.{LogState, next_generation};
 ghost use Rattle.tx_logs.specs.Marks.{AreBlank, CanMerge, Saves, at_mark, emptied_mark, merged, saved, blank_mark};
 
-use crate::indexed_log::IndexedLog;
 use crate::push::Repeat;
+use crate::short_log::ShortLog;
 use crate::undo_log::UndoLog;
 use std::alloc::Global;
 use stm_model::memory::Memory;
@@ -49,7 +49,7 @@ pub(crate) fn begin(mark: &mut Mark, count: usize)
 
 /// Keeps what the address has in the log before it is written, unless the mark has its value or the log has none.
 #[inline]
-pub(crate) fn save(mark: &mut Mark, log: &IndexedLog, a: usize)
+pub(crate) fn save(mark: &mut Mark, log: &ShortLog, a: usize)
     requires saves { Saves mark.old log.now.items }
     requires room { log.now.len ≤ mark.old.olds.len }
     ensures { mark.new ≡ saved a log.now.items mark.old }
@@ -61,7 +61,7 @@ pub(crate) fn save(mark: &mut Mark, log: &IndexedLog, a: usize)
 }
 
 /// Puts the log back to what it was at the mark.
-pub(crate) fn restore(mark: &mut Mark, log: &mut IndexedLog)
+pub(crate) fn restore(mark: &mut Mark, log: &mut ShortLog)
     requires saves { Saves mark.old log.old.items }
     ensures mark { mark.new ≡ emptied_mark mark.old }
     ensures log { log.new ≡ record log.old { items = at_mark mark.old log.old.items } }

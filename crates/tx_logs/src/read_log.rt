@@ -2,7 +2,7 @@
 ghost use Rattle.std.specs.Prelude.{◌*◌, ◌≡◌, ◌≤◌, ◌<◌, ◌+◌, [], IfOk, MatchResult, length, max, slice_index_or};
 ghost use Rattle.stm_model.specs.Memories.{item_at, Once};
 ghost use Rattle.tx_logs.specs.Probing.{IsProbed};
-ghost use Rattle.tx_logs.specs.LogStates.{LogState, Pushes, empty_at, next_generation, keep};
+ghost use Rattle.tx_logs.specs.LogStates.{LogState, Pushes, empty_at, next_generation, renewed, keep};
 
 use crate::indexed_log::IndexedLog;
 use crate::push::{Push, Repeat};
@@ -112,5 +112,14 @@ impl ReadLog {
         ensures { self.new ≡ record self.old { items = []; generation = next_generation self.old.generation; marks = [] } }
     {
         self.log.clear();
+    }
+
+    /// Empties the log as `clear` does, but for its generation, which stays where the log is empty. So a log that an attempt
+    /// doesn't use costs a test.
+    #[inline]
+    pub fn renew(&mut self)
+        ensures { self.new ≡ renewed self.old }
+    {
+        self.log.renew();
     }
 }

@@ -2,10 +2,10 @@
 ghost use Rattle.std.specs.Prelude.{◌*◌, ◌≡◌, ◌≤◌, ◌<◌, ◌+◌, [], IfOk, MatchResult, length, max, slice_index_or, take};
 ghost use Rattle.stm_model.specs.Memories.{item_at, Once};
 ghost use Rattle.tx_logs.specs.Probing.{IsProbed};
-ghost use Rattle.tx_logs.specs.LogStates.{LogState, Pushes, empty_at, next_generation, keep, with_last};
+ghost use Rattle.tx_logs.specs.LogStates.{LogState, Pushes, empty_at, next_generation, renewed, keep, with_last};
 
-use crate::indexed_log::IndexedLog;
 use crate::push::{Push, Repeat};
+use crate::short_log::ShortLog;
 use std::alloc::Global;
 use std::marker::Model;
 use stm_model::memory::Memory;
@@ -13,7 +13,7 @@ use stm_model::memory::Memory;
 /// The value that each written address had before, in the order of the first writes.
 #[derive(Drop, Debug)]
 pub struct UndoLog {
-    log: IndexedLog,
+    log: ShortLog,
 }
 
 impl Model for UndoLog {
@@ -32,7 +32,7 @@ impl UndoLog {
         ensures { IfOk result (λ l. l ≡ empty_at len 1) }
     {
         Ok(UndoLog {
-            log: IndexedLog::with_generation(alloc, len, 1)?,
+            log: ShortLog::with_generation(alloc, len, 1)?,
         })
     }
 
@@ -47,8 +47,8 @@ impl UndoLog {
     }
 
     /// Adds the value where the address is new; else the item stays as it is. `Full` comes exactly where the log has its
-    /// length and the address isn't in it, and leaves the log as it was. One lookup.
-    #[inline]
+    /// length and the address isn't in it, and leaves the log as it was. Two lookups at most.
+    #[inline(always)]
     pub fn push(&mut self, a: usize, v: u64) -> Push
         ensures { Pushes self.old a (keep a v self.old.items) result self.new }
     {
@@ -74,7 +74,7 @@ impl UndoLog {
     }
 
     /// The value at the address, if it is in the log. One lookup, and none in an empty log.
-    #[inline]
+    #[inline(always)]
     pub fn find(&self, a: usize) -> Option<u64>
         ensures { result ≡ item_at a self.now.items }
     {
@@ -131,5 +131,14 @@ impl UndoLog {
         ensures { self.new ≡ record self.old { items = []; generation = next_generation self.old.generation; marks = [] } }
     {
         self.log.clear();
+    }
+
+    /// Empties the log as `clear` does, but for its generation, which stays where the log is empty. So a log that an attempt
+    /// doesn't use costs a test.
+    #[inline]
+    pub fn renew(&mut self)
+        ensures { self.new ≡ renewed self.old }
+    {
+        self.log.renew();
     }
 }

@@ -2,12 +2,12 @@
 ghost use Rattle.std.specs.Prelude.{◌*◌, ◌≡◌, ◌≤◌, ◌<◌, ◌+◌, ◌-◌, [], ◌∷◌, ◌++◌, IfOk, MatchResult, length, max, slice_index_or, get_or, take};
 ghost use Rattle.stm_model.specs.Memories.{item_at, Once, put};
 ghost use Rattle.tx_logs.specs.Probing.{IsProbed};
-ghost use Rattle.tx_logs.specs.LogStates.{LogState, Pushes, empty_at, next_generation, rolled, firsts};
+ghost use Rattle.tx_logs.specs.LogStates.{LogState, Pushes, empty_at, next_generation, renewed, rolled, firsts};
 
-use crate::indexed_log::IndexedLog;
 pub use crate::marks::MAX_MARKS;
 use crate::marks::{Mark, begin, blank_marks, merge, restore, save};
 use crate::push::{Push, Repeat};
+use crate::short_log::ShortLog;
 use std::alloc::Global;
 use std::marker::Model;
 use stm_model::memory::Memory;
@@ -16,7 +16,7 @@ use stm_model::memory::Memory;
 /// which it can be rolled back. Marks are numbered from 1, the oldest.
 #[derive(Drop, Debug)]
 pub struct WriteLog {
-    log: IndexedLog,
+    log: ShortLog,
     /// The marks that stand, the first `depth`, and room for the others.
     marks: Vec<Mark>,
     depth: usize,
@@ -52,7 +52,7 @@ impl WriteLog {
         ensures { IfOk result (λ l. l ≡ empty_at len generation) }
     {
         Ok(WriteLog {
-            log: IndexedLog::with_generation(alloc, len, generation)?,
+            log: ShortLog::with_generation(alloc, len, generation)?,
             marks: blank_marks(alloc, len)?,
             depth: 0,
         })
@@ -75,8 +75,8 @@ impl WriteLog {
     }
 
     /// Adds the value where the address is new; else replaces the item's. `Full` comes exactly where the log has its
-    /// length and the address isn't in it, and leaves the log as it was. One lookup.
-    #[inline]
+    /// length and the address isn't in it, and leaves the log as it was. Two lookups at most.
+    #[inline(always)]
     pub fn push(&mut self, a: usize, v: u64) -> Push
         ensures { Pushes self.old a (put a v self.old.items) result self.new }
     {
@@ -166,7 +166,7 @@ impl WriteLog {
     }
 
     /// The value at the address, if it is in the log. One lookup, and none in an empty log.
-    #[inline]
+    #[inline(always)]
     pub fn find(&self, a: usize) -> Option<u64>
         ensures { result ≡ item_at a self.now.items }
     {
@@ -223,5 +223,15 @@ impl WriteLog {
     {
         self.depth = 0;
         self.log.clear();
+    }
+
+    /// Empties the log as `clear` does, but for its generation, which stays where the log is empty. So a log that an attempt
+    /// doesn't use costs a test.
+    #[inline]
+    pub fn renew(&mut self)
+        ensures { self.new ≡ renewed self.old }
+    {
+        self.depth = 0;
+        self.log.renew();
     }
 }

@@ -231,9 +231,6 @@ module _ (q : Queue) (m : List ℕ) (h : IsQueue q m) (fits : QueueFits q (lengt
         (sym (values_from-same q m past f 1 n first (omega arith) (λ i lt. past-other (wrapped q.cells (f + (1 + i))) (subst (λ x. wrapped q.cells (f + x) ≢ f) (let e : i + 1 ≡ 1 + i = omega arith in e) (later i (omega arith)))))
         ∙ (ap (λ x. values_from q past x n) (sym past-front) ∙ ap (values_from q past (front q past)) (sym past-count)))
 
-  pub first-inside : front q m < q.cells
-  first-inside = first
-
 -- a put, by what was read
 pub no-room : (q : Queue) (m : List ℕ) (v n : ℕ) → n ≡ count q m → q.cells ≤ n → put_in q v m ≡ unchanged NoRoom m
 no-room q m v n is le = let t : leb q.cells (count q m) ≡ true = grind (arith, nat_tests) in rw t refl

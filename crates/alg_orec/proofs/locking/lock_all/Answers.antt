@@ -35,8 +35,8 @@ loop-i-init g c = let k = c.requires.view in record {
   room = laws.none-logged c.args.stm.now.config c.args.local.now c.args.seat.now.me.0.view k;
 }
 
-pub lock_record-requires-clause-view : goal.lock_record-requires-clause-view
-lock_record-requires-clause-view g c = let i = c.loop-i.invariant in
+pub lock_record_of-requires-clause-view : goal.lock_record_of-requires-clause-view
+lock_record_of-requires-clause-view g c = let i = c.loop-i.invariant in
     laws.can-lock c.args.stm.now.config c.args.caller c.args.local.now c.args.seat.now.me.0.view c.requires.view c.loop-i.local c.loop-i.seat.me.0.view i.more i.locks
 
 pub loop-i-preserved : goal.loop-i-preserved
@@ -58,9 +58,9 @@ loop-i-preserved g c =
     elim c.if-is_none.branch [
       | then-is_none+in_ok-version w ↦
           let version = w.in_ok-version.version in
-          let same = w.lock_record.ensures.same in
-          let to_seat : t.me.0 ≡ w.lock_record.new.seat.me.0 = ap (λ q. q.me.0) w.seat-is in
-          let h : HasLocked f n r version m u.view p t.me.0.view = subst (λ (y : SeatView g.row.K.Denot). HasLocked f n r version m u.view p y.view) (sym to_seat) (subst (λ (q : Local). HasLocked f n r version m u.view q w.lock_record.new.seat.me.0.view) (sym w.local-is) w.in_ok-version.ensures.locks) in
+          let same = w.lock_record_of.ensures.same in
+          let to_seat : t.me.0 ≡ w.lock_record_of.new.seat.me.0 = ap (λ q. q.me.0) w.seat-is in
+          let h : HasLocked f n r version m u.view p t.me.0.view = subst (λ (y : SeatView g.row.K.Denot). HasLocked f n r version m u.view p y.view) (sym to_seat) (subst (λ (q : Local). HasLocked f n r version m u.view q w.lock_record_of.new.seat.me.0.view) (sym w.local-is) w.in_ok-version.ensures.locks) in
           let none : item_at r m.locks.items ≡ None = search rules in
           let new = laws.unheld-of u.view.owned.held m.locks.items r i.locks.holds.locks none in
           let held : t.me.0.view.owned.held ≡ record { at = r; value = version } ∷ u.view.owned.held = ap (λ (y : View). y.owned.held) h.is in
@@ -69,7 +69,7 @@ loop-i-preserved g c =
             table = ap (λ q. q.table_id) w.seat-is ∙ (same.0.0 ∙ i.table);
             id = ap (λ q. q.id) w.seat-is ∙ (same.0.1 ∙ i.id);
             bare = ap (λ q. q.me.1) w.seat-is ∙ (same.0.2 ∙ i.bare);
-            steps = (let e = ap (λ (y : SeatView g.row.K.Denot). length y.view.steps.trail) to_seat in let k = w.lock_record.ensures.steps in let q = i.steps in omega arith);
+            steps = (let e = ap (λ (y : SeatView g.row.K.Denot). length y.view.steps.trail) to_seat in let k = w.lock_record_of.ensures.steps in let q = i.steps in omega arith);
             seat = seat-on c.args.seat.now.me.0 u t.me.0 t.me.0.view i.seat (to_seat ∙ (same.1 ∙ ap (λ (y : SeatView g.row.K.Denot). record u { view = y.view }) (sym to_seat)));
             more = lock_item n r version (free_record version) ∷ load_of (Record r) (free_record version) ∷ i.more;
             locks = laws.locks-more f n l v r version m p u.view t.me.0.view i.more i.locks h low new;
@@ -117,7 +117,7 @@ returns-in_err-version-clause-locks g c =
     let unheld = laws.unheld-of u.owned.held m.locks.items r i.locks.holds.locks none in
     let e = c.in_err-version.ensures.locks in
     let p = err_from_is_err_and c.from_residual.result c.from_residual.ensures.1 in
-    rw (p.1, p.2) (laws.locks-stop f n l v _ c.item-a.result.0 m c.lock_record.new.local u c.lock_record.new.seat.me.0.view i.more e.1.0 i.locks unheld written e.0 e.1.1 e.1.2)
+    rw (p.1, p.2) (laws.locks-stop f n l v _ c.item-a.result.0 m c.lock_record_of.new.local u c.lock_record_of.new.seat.me.0.view i.more e.1.0 i.locks unheld written e.0 e.1.1 e.1.2)
 
 pub returns-clause-locks : goal.returns-clause-locks
 returns-clause-locks g c =

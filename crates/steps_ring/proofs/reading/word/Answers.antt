@@ -1,7 +1,9 @@
 use Rattle.rule_ring.specs.RingSteps.{ring_word, CanRingWord}
 use Rattle.rule_base.specs.StepKinds.{Nothing}
 use Rattle.stm_rule.specs.Lifted.{ring_words}
-use Rattle.std.proofs.Common.{refl, arith}
+use Rattle.std.proofs.Common.{◌+◌, ◌*◌, ◌<◌, ℕ, sym, ap, subst, arith}
+use Rattle.rule_base.specs.declared.layout.At.TheVariants.{Slot}
+use Rattle.rule_base.specs.declared.layout.TheConstants.{SLOT_WORDS}
 use Rattle.rule_ring.specs.Slots.{slot_place, slot_place-inside}
 use Rattle.stm_rule.specs.Kept.{good_of}
 use Rattle.stm_rule.specs.Product.{Whole}
@@ -17,4 +19,18 @@ load_as-requires-clause-law g c =
 
 pub load_as-requires-clause-place : goal.load_as-requires-clause-place
 unfolding slot_place
-load_as-requires-clause-place g c = let f = c.args.stm.now.config in let r = c.args.stm.now.ranges in (refl, slot_place-inside f.ring c.args.time c.args.index (let k = r.ring.0 in omega arith) c.requires.view.index)
+load_as-requires-clause-place g c =
+    let f = c.args.stm.now.config in
+    let r = c.args.stm.now.ranges in
+    let at = ap (λ (k : ℕ). k + c.args.index) c.requires.first in
+    (ap Slot at, subst (λ (k : ℕ). k < f.ring * SLOT_WORDS) (sym at) (slot_place-inside f.ring c.args.time c.args.index (let k = r.ring.0 in omega arith) c.requires.view.index))
+
+pub overflow_add-first : goal.overflow_add-first
+unfolding slot_place
+overflow_add-first g c =
+    let f = c.args.stm.now.config in
+    let r = c.args.stm.now.ranges in
+    let at = ap (λ (k : ℕ). k + c.args.index) c.requires.first in
+    let in_ring = slot_place-inside f.ring c.args.time c.args.index (let k = r.ring.0 in omega arith) c.requires.view.index in
+    let most = r.ring.1 in
+    omega arith

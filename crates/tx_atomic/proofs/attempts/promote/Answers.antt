@@ -44,7 +44,7 @@ loop-preserved g c =
     let grew = irrevs-grow good stm.config (number c.loop.desc) c.try_irrevocable.result u v w inv.grew c.try_irrevocable.ensures.irrevs in
     let waits = c.in-Busy.ensures.irrevs.0 in
     let more = busy-more good stm.config n inv.busy.0 (number c.loop.desc) c.try_irrevocable.result _ _ u v w (same-number c.args.desc.now c.loop.desc inv.same) inv.busy.1 c.in-Busy.is c.try_irrevocable.ensures.irrevs in
-    let busy : (k : ℕ) × FindsBusy good stm.config n k u w × (c.wait.new.self.tally ≡ noted_times k Busy c.args.pace.now.tally) = (suc inv.busy.0, more, c.wait.ensures.noted ∙ ap (noted Busy) inv.busy.2) in
+    let busy : (k : ℕ) × FindsBusy good stm.config n k u w × (c.wait.new.self.tally ≡ noted_times k Busy c.args.pace.now.tally) = (suc inv.busy.0, more, c.wait.ensures.noted ∙ ap (noted Busy) (c.tell.ensures ∙ inv.busy.2)) in
     search (rules, grew, waits, busy)
 
 -- what came of the calls, and the last of them

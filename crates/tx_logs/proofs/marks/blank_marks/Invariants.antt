@@ -1,4 +1,4 @@
-use Rattle.std.proofs.Common.{ℕ, ◌≡◌, ◌≤◌, ◌+◌, ◌-◌, length}
+use Rattle.std.proofs.Common.{◌≡◌, ◌≤◌, length}
 use Rattle.std.specs.Prelude.{vec_capacity}
 use Rattle.tx_logs.specs.Marks.{Rooms}
 use Rattle.tx_logs.proofs.marks.blank_marks.Given as goal

@@ -1,4 +1,4 @@
-use Rattle.std.proofs.Common.{ℕ, ◌≡◌, List, get_or, take}
+use Rattle.std.proofs.Common.{◌≡◌, get_or, take}
 use Rattle.tx_logs.specs.Marks.{blank_mark}
 use Rattle.tx_logs.proofs.MarkLemmas.{lower}
 use Rattle.tx_logs.proofs.marks.merge.Given as goal

@@ -1,6 +1,5 @@
-use Rattle.std.proofs.Common.{ℕ, ◌≡◌, ◌≤◌, ◌+◌, List, map, take, length, sym, ap, ◌∙◌, arith}
+use Rattle.std.proofs.Common.{ℕ, ◌≡◌, ◌+◌, List, map, take, length, sym, ap, ◌∙◌, arith}
 use Rattle.std.proofs.lemmas.List.{length-map}
-use Rattle.std.proofs.Math.Seq.{take-length}
 use Rattle.tx_logs.specs.LogStates.{LogState}
 use Rattle.tx_logs.specs.Marks.{old_or}
 use Rattle.tx_logs.proofs.MarkLemmas.{old-none, restored-next}

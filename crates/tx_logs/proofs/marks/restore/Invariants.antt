@@ -1,5 +1,4 @@
-use Rattle.std.proofs.Common.{ℕ, ◌≡◌, List, map, take}
-use Rattle.tx_logs.specs.LogStates.{LogState}
+use Rattle.std.proofs.Common.{◌≡◌, map, take}
 use Rattle.tx_logs.specs.Marks.{old_or}
 use Rattle.tx_logs.proofs.marks.restore.Given as goal
 

@@ -1,9 +1,9 @@
-use Rattle.std.proofs.Common.{ℕ, ◌≡◌, ◌≤◌, length, sym, ap, ◌∙◌, arith}
+use Rattle.std.proofs.Common.{ℕ, ◌≡◌, sym, ap, ◌∙◌, arith}
 use Rattle.std.specs.Prelude.{Option, Some, is_some, IsSome}
 use Rattle.stm_model.specs.Memories.{item_at}
 use Rattle.tx_logs.specs.declared.marks.Mark.{Mark}
-use Rattle.tx_logs.specs.LogStates.{LogState, keep}
-use Rattle.tx_logs.specs.Marks.{keep_some, saved}
+use Rattle.tx_logs.specs.LogStates.{LogState}
+use Rattle.tx_logs.specs.Marks.{keep_some}
 use Rattle.tx_logs.proofs.MarkLemmas.{push-kept}
 use Rattle.tx_logs.proofs.marks.save.Goals as goal
 

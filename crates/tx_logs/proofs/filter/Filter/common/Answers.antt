@@ -1,4 +1,4 @@
-use Rattle.std.proofs.Common.{sym, ◌∙◌, arith, slice_index}
+use Rattle.std.proofs.Common.{sym, ◌∙◌, slice_index}
 use Rattle.tx_logs.proofs.FilterLemmas.{lowest-next, lowest-here, lowest-none, meets-lowest}
 use Rattle.tx_logs.proofs.filter.Filter.common.Goals as goal
 

@@ -1,4 +1,4 @@
-use Rattle.std.proofs.Common.{ℕ, ◌≡◌, List, length, sym, ap, ◌∙◌, arith}
+use Rattle.std.proofs.Common.{length, sym, ap, ◌∙◌, arith}
 use Rattle.tx_logs.specs.LogStates.{LogState}
 use Rattle.tx_logs.proofs.MarkTies.{length-marks}
 use Rattle.tx_logs.proofs.write_log.WriteLog.depth.Goals as goal

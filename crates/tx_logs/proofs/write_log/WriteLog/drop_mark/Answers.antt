@@ -1,13 +1,10 @@
-use Rattle.std.proofs.Common.{ℕ, ◌≡◌, ◌≢◌, ◌<◌, ◌≤◌, ◌+◌, ◌-◌, List, [], ◌++◌, ◌∷◌, length, get_or, set, take, drop, refl, sym, ap, subst, ◌∙◌, arith}
-use Rattle.std.proofs.lemmas.List.{length-set, get_or_default}
-use Rattle.stm_model.specs.Memories.{item_at, put}
+use Rattle.std.proofs.Common.{ℕ, ◌≡◌, ◌<◌, ◌≤◌, ◌-◌, List, ◌++◌, length, get_or, set, take, drop, refl, sym, ap, ◌∙◌, arith}
+use Rattle.std.proofs.lemmas.List.{length-set}
 use Rattle.tx_logs.specs.declared.marks.Mark.{Mark}
-use Rattle.tx_logs.specs.declared.push.Push.{Push}
-use Rattle.tx_logs.specs.declared.push.Push.TheVariants.{Done, Full}
-use Rattle.tx_logs.specs.LogStates.{LogState, Pushes, empty_at, next_generation}
-use Rattle.tx_logs.specs.Marks.{Saves, Tied, Rooms, marked, at_mark, saved, emptied_mark, merged, blank_mark, CanMerge}
+use Rattle.tx_logs.specs.LogStates.{LogState}
+use Rattle.tx_logs.specs.Marks.{marked, merged, blank_mark}
 use Rattle.tx_logs.proofs.BucketLemmas.{written-over}
-use Rattle.tx_logs.proofs.MarkTies.{mark-tied, rooms-set, length-marks, top-tied, push-tied, push-refused, restored-tied, last-marked, can-merge, dropped-tied}
+use Rattle.tx_logs.proofs.MarkTies.{rooms-set, length-marks, can-merge, dropped-tied}
 use Rattle.tx_logs.proofs.write_log.WriteLog.drop_mark.Goals as goal
 
 pub merge-requires-clause-can : goal.merge-requires-clause-can

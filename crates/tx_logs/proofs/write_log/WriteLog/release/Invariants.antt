@@ -1,5 +1,4 @@
-use Rattle.std.proofs.Common.{ℕ, ◌≡◌, ◌≤◌, ◌+◌, length, take}
-use Rattle.tx_logs.specs.LogStates.{LogState}
+use Rattle.std.proofs.Common.{◌≡◌, ◌≤◌, ◌+◌, length, take}
 use Rattle.tx_logs.proofs.write_log.WriteLog.release.Given as goal
 
 abbrev pub invariant-loop-self : goal.invariant-loop-self

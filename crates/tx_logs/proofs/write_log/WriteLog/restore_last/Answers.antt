@@ -1,13 +1,9 @@
-use Rattle.std.proofs.Common.{ℕ, ◌≡◌, ◌≢◌, ◌<◌, ◌≤◌, ◌+◌, ◌-◌, List, [], ◌++◌, ◌∷◌, length, get_or, set, take, refl, sym, ap, subst, ◌∙◌, arith}
+use Rattle.std.proofs.Common.{◌≡◌, ◌<◌, ◌≤◌, ◌-◌, [], length, get_or, set, take, sym, ap, subst, ◌∙◌, arith}
 use Rattle.std.proofs.lemmas.List.{length-set, get_or_default}
-use Rattle.stm_model.specs.Memories.{item_at, put}
 use Rattle.tx_logs.specs.declared.marks.Mark.{Mark}
-use Rattle.tx_logs.specs.declared.push.Push.{Push}
-use Rattle.tx_logs.specs.declared.push.Push.TheVariants.{Done, Full}
-use Rattle.tx_logs.specs.LogStates.{LogState, Pushes, empty_at, next_generation, firsts}
-use Rattle.tx_logs.specs.Marks.{Saves, Tied, Rooms, marked, at_mark, saved, emptied_mark, blank_mark, CanMerge}
-use Rattle.tx_logs.proofs.BucketLemmas.{written-over}
-use Rattle.tx_logs.proofs.MarkTies.{mark-tied, rooms-set, length-marks, top-tied, push-tied, push-refused, restored-tied, last-marked, can-merge, dropped-tied, at-prefix}
+use Rattle.tx_logs.specs.LogStates.{LogState, firsts}
+use Rattle.tx_logs.specs.Marks.{Saves, marked, at_mark, emptied_mark, blank_mark}
+use Rattle.tx_logs.proofs.MarkTies.{rooms-set, length-marks, top-tied, restored-tied, last-marked, at-prefix}
 use Rattle.tx_logs.proofs.write_log.WriteLog.restore_last.Goals as goal
 
 pub restore-requires : goal.restore-requires

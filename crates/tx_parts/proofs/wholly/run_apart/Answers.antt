@@ -1,0 +1,50 @@
+use Rattle.std.proofs.Common.{ℕ, ◌≡◌, List, length, sym, ap, ◌∙◌, subst, arith}
+use Rattle.std.specs.Prelude.{Some, None}
+use Rattle.stm_model.specs.Logs.{Log, Keeps}
+use Rattle.tx_parts.specs.Laying.{over}
+use Rattle.tx_parts.specs.LayingLaws.{keeps-like, goes-either}
+use Rattle.tx_parts.proofs.wholly.run_apart.Goals as goal
+
+pub run-came-requires-clause-shallow : goal.run-came-requires-clause-shallow
+run-came-requires-clause-shallow g c = let e = ap length c.requires.empty.1 in let s = c.requires.shallow in omega arith
+
+pub returns-in_ok-settle-in-Ok-Some-clause-comes : goal.returns-in_ok-settle-in-Ok-Some-clause-comes
+returns-in_ok-settle-in-Ok-Some-clause-comes g c =
+    let a = g.A.Access in
+    let good = g.K.MemRule.good c.args.rule.now in
+    let s = c.args.overlay.now in
+    let t = c.run-came.new.memory in
+    let l = a.log s.below in
+    let j = over t.room.items (a.log t.below) in
+    let k = a.log c.settle.new.self.below in
+    let words = a.words s.below in
+    let first : over s.room.items l ≡ l = ap (λ (is : List (ℕ × ℕ)). over is l) c.requires.empty.0 in
+    let came = c.in-Ok-Some.ensures in
+    let told = rw c.in-Ok-Some.field-0-is at came.tells in
+    let kept = rw c.in-Ok-Some.field-0-is at came.kept in
+    let same = c.in_ok-settle-in-Ok-Some.ensures.lays in
+    let only = (came.keeps.1.marks came.goes).2 in
+    rw c.in-Ok-Some.field-0-is (
+      (j, subst (λ (q : Log). g.P.Part.tells c.args.part.now c.args.rule.now words (Some c.in-Ok-Some.done) q j) first told, same),
+      (only.0.0, same.0 ∙ only.0.1),
+      λ h. keeps-like good words j k same (kept (subst (Keeps good words) (sym first) h)),
+    )
+
+pub returns-in-Ok-None-clause-comes : goal.returns-in-Ok-None-clause-comes
+returns-in-Ok-None-clause-comes g c =
+    let a = g.A.Access in
+    let s = c.args.overlay.now in
+    let t = c.run-came.new.memory in
+    let l = a.log s.below in
+    let j = over t.room.items (a.log t.below) in
+    let words = a.words s.below in
+    let first : over s.room.items l ≡ l = ap (λ (is : List (ℕ × ℕ)). over is l) c.requires.empty.0 in
+    let came = c.in-Ok-None.ensures in
+    let told = rw c.in-Ok-None.field-0-is at came.tells in
+    let only = (came.keeps.1.marks came.goes).2 in
+    ((j, subst (λ (q : Log). g.P.Part.tells c.args.part.now c.args.rule.now words None q j) first told, (λ i. record { reads = (a.log t.below).reads; writes = only.1 i })), only)
+
+pub returns-in-Ok-None-clause-goes : goal.returns-in-Ok-None-clause-goes
+returns-in-Ok-None-clause-goes g c =
+    let t = c.run-came.new.memory in
+    goes-either (g.A.Access.stopped t.below) t.stopped t.room.len (g.A.Access.words t.below) c.no_room-full.result c.no_room-full.ensures.some c.no_room-full.ensures.none c.in-Ok-None.ensures.goes

@@ -1,0 +1,41 @@
+//! A part of a transaction, as a value.
+ghost use Rattle.std.specs.Prelude.{◌≡◌, ◌≤◌, ◌+◌, None, Some, IfOk, OnOk, IfErr, IfSome};
+ghost use Rattle.stm_model.specs.Logs.{Keeps, SameMemories};
+ghost use Rattle.tx_logs.specs.declared.marks.TheConstants.{MAX_MARKS};
+
+use crate::nesting::Nesting;
+use stm_model::rule::MemRule;
+use stm_model::stop::Stop;
+
+/// What one part of a transaction does, from whatever was done before. None where it gives way: on this memory it can't
+/// be done.
+pub trait Part<K: MemRule> {
+    ghost use Rattle.std.specs.Prelude.{ℕ, Option};
+    ghost use Rattle.stm_model.specs.Logs.{Log};
+
+    type Output: Drop;
+
+    // what it needs of the rule and of the number of words
+    ghost fits: { Self → K → ℕ → Type 0 };
+
+    // how deep the parts in it stand in one another: 0 for none
+    ghost depth: { Self → ℕ };
+
+    // what is so of its answer, and of what had been read and written before it and behind it
+    ghost tells: { Self → K → ℕ → Option Self.Output → Log → Log → Type 0 };
+
+    /// Does it.
+    ///
+    /// # Errors
+    /// The Stop of the access.
+    fn run<N: Nesting>(&self, rule: &K, memory: &mut N) -> Result<Option<Self::Output>, Stop>
+        requires going { N.stopped memory.old ≡ None }
+        requires good { SameMemories (N.good memory.old) (K.good rule.now) }
+        requires fits { fits self.now rule.now (N.words memory.old) }
+        requires shallow { N.depth memory.old + depth self.now ≤ MAX_MARKS }
+        ensures kept { IfOk result (λ o. IfSome o (λ r. Keeps (K.good rule.now) (N.words memory.old) (N.log memory.old) → Keeps (K.good rule.now) (N.words memory.old) (N.log memory.new))) }
+        ensures tells { IfOk result (λ o. tells self.now rule.now (N.words memory.old) o (N.log memory.old) (N.log memory.new)) }
+        ensures goes { OnOk result (N.stopped memory.new ≡ None) }
+        ensures stops { IfErr result (λ s. N.stopped memory.new ≡ Some s) }
+        ensures keeps { N.keeps memory.old memory.new };
+}

@@ -1,0 +1,77 @@
+//! A part as a transaction.
+ghost use Rattle.tx_logs.specs.declared.marks.TheConstants.{MAX_MARKS};
+
+use crate::part::Part;
+use crate::wholly::{Outcome, wholly};
+use std::alloc::Global;
+use stm_model::access::Access;
+use stm_model::rule::MemRule;
+use stm_model::stop::Stop;
+use tx_atomic::transaction::Transaction;
+use tx_logs::write_log::WriteLog;
+
+/// The transaction that is this part, done wholly or not at all.
+#[derive(Clone, Copy, Drop, Debug)]
+pub struct Whole<P> {
+    pub part: P,
+    /// A word that is read before the part is done: best one that the part reads, since it adds a read else.
+    pub first: usize,
+    /// For how many words there is room, 1 to 4,096: as many as the part writes in all.
+    pub room: usize,
+    pub alloc: Global,
+}
+
+impl<K: MemRule, P: Part<K>> Transaction<K> for Whole<P> {
+    ghost use Rattle.std.specs.Prelude.{◌<◌, ◌≤◌};
+    ghost use Rattle.tx_parts.specs.Laying.{ComesFirst};
+
+    type Output = Outcome<P::Output>;
+
+    ghost fits = { λ it rule words. P.fits it.part rule words × (P.depth it.part ≤ MAX_MARKS) × (it.first < words) × (1 ≤ it.room) × (it.room ≤ 4096) };
+
+    ghost tells = { λ it rule words came log. ComesFirst (K.good rule) words it.first it.room (P.tells it.part rule words) came log };
+
+    /// `NoRoom` of 0 words where memory was refused for the part's log.
+    fn run<A: Access>(&self, rule: &K, memory: &mut A) -> Result<Outcome<P::Output>, Stop> {
+        memory.read(self.first)?;
+        let Ok(room) = WriteLog::new(self.alloc, self.room) else {
+            return Ok(Outcome::NoRoom { limit: 0 });
+        };
+        wholly(&self.part, rule, memory, room)
+    }
+}
+
+/// A part wrote more words than there was room for.
+#[derive(Clone, Copy, Drop, Debug, PartialEq, Eq)]
+pub struct Crowded {
+    pub limit: usize,
+}
+
+/// The same for a caller that waits until the part is done: None where it gives way, as `until_some` asks.
+#[derive(Clone, Copy, Drop, Debug)]
+pub struct Awaited<P> {
+    pub whole: Whole<P>,
+}
+
+impl<K: MemRule, P: Part<K>> Transaction<K> for Awaited<P> {
+    ghost use Rattle.std.specs.Prelude.{◌<◌, ◌≤◌};
+    ghost use Rattle.tx_parts.specs.Laying.{ComesAwaited};
+
+    type Output = Option<Result<P::Output, Crowded>>;
+
+    ghost fits = { λ it rule words. P.fits it.whole.part rule words × (P.depth it.whole.part ≤ MAX_MARKS) × (it.whole.first < words) × (1 ≤ it.whole.room) × (it.whole.room ≤ 4096) };
+
+    ghost tells = { λ it rule words came log. ComesAwaited (K.good rule) words it.whole.first it.whole.room (P.tells it.whole.part rule words) came log };
+
+    fn run<A: Access>(
+        &self,
+        rule: &K,
+        memory: &mut A,
+    ) -> Result<Option<Result<P::Output, Crowded>>, Stop> {
+        match self.whole.run(rule, memory)? {
+            Outcome::Done(done) => Ok(Some(Ok(done))),
+            Outcome::GaveWay => Ok(None),
+            Outcome::NoRoom { limit } => Ok(Some(Err(Crowded { limit }))),
+        }
+    }
+}
