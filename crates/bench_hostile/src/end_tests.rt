@@ -2,12 +2,13 @@
 use crate::cases::{LIMIT, lines, status_over, workload};
 use crate::ends::{Dribble, Trickle};
 use bench_core::status::Status;
-use bench_core::{MemSink, MemSource, ReadSource, WriteSink};
+use bench_core::{MemSink, MemSource};
 use std::alloc::Global;
 use std::process::Abort;
 use std::sync::Wait;
 use std::test::Fail;
 use std::thread::Threads;
+use stm_io::adapters::{ReadSource, WriteSink};
 
 /// A command, the text that it reads, its status, and what it writes, where no end fails.
 #[derive(Clone, Copy, Drop)]
