@@ -74,6 +74,7 @@ int main()
         auditor.atomically([&](auto &t) {
             for (size_t i = 0; i < accounts; i++) t.write(i, balance);
         });
+        for (size_t n = 0; n < 3; n++) callers[n].learn(auditor);
         std::vector<std::thread> threads;
         for (size_t n = 0; n < 3; n++) threads.emplace_back([mine = std::move(callers[n]), n]() mutable { trade(mine, 88172645463325252u + n); });
         wrong += audit(auditor, a);

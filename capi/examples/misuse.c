@@ -41,6 +41,8 @@ static void inside(uint32_t status)
     IS(nekchhaul_direct_write(&c[0], 0, 1), status);
     IS(nekchhaul_give_back(&c[0]), status);
     IS(nekchhaul_close(&c[0], words, 4), status);
+    IS(nekchhaul_learn(&c[0], &c[1]), status);
+    IS(nekchhaul_learn(&c[1], &c[0]), status);
     IS(nekchhaul_reserve(&c[0], 8, 8), status);
     IS(nekchhaul_release(&c[0]), status);
     IS(v != 77 || words[0] != 77, 0);
@@ -114,7 +116,10 @@ static void attempts(void)
     outside(NEKCHHAUL_NO_ATTEMPT);
     IS(nekchhaul_switch(&c[0], NEKCHHAUL_OREC_EAGER), 0);
     IS(nekchhaul_begin(&c[0]), 0);
-    IS(nekchhaul_checkpoint(&c[0], &depth), NEKCHHAUL_NO_MARKS);
+    IS(nekchhaul_checkpoint(&c[0], &depth), 0);
+    IS(nekchhaul_write(&c[0], 1, 6), 0);
+    IS(nekchhaul_roll_to(&c[0], 2), NEKCHHAUL_DEPTH);
+    IS(nekchhaul_roll_to(&c[0], 1), 0);
     IS(nekchhaul_cancel(&c[0]), 0);
     IS(nekchhaul_reserve(&c[0], 0, 1), NEKCHHAUL_LOGS);
     IS(nekchhaul_reserve(&c[0], 1, 4097), NEKCHHAUL_LOGS);
@@ -191,6 +196,32 @@ static uint32_t stops(nekchhaul_caller *caller, void *word)
     return s ? s : NEKCHHAUL_STOP + 3;
 }
 
+/* What two callers of one memory tell each other, and two of different memories don't; the second memory has one caller
+ * more, whose place the first has not. */
+static void learning(void)
+{
+    nekchhaul_caller d[3], none = NEKCHHAUL_NO_CALLER_INIT;
+    nekchhaul_state_of state;
+    memset(d, 0, sizeof d);
+    IS(nekchhaul_open(&sizes, NEKCHHAUL_TML, d, 3), 0);
+    for (int turn = 0; turn < 2; turn++) {
+        IS(nekchhaul_learn(&c[0], &c[1]), 0);
+        IS(nekchhaul_learn(&c[1], &c[0]), 0);
+        for (int i = 0; i < 2; i++) {
+            for (int k = 0; k < 3; k++) {
+                IS(nekchhaul_learn(&c[i], &d[k]), NEKCHHAUL_STRANGER);
+                IS(nekchhaul_learn(&d[k], &c[i]), NEKCHHAUL_STRANGER);
+            }
+        }
+        IS(nekchhaul_learn(&d[2], &d[0]), 0);
+    }
+    IS(nekchhaul_learn(&none, &c[0]), NEKCHHAUL_NO_CALLER);
+    IS(nekchhaul_learn(&c[0], &none), NEKCHHAUL_NO_CALLER);
+    IS(nekchhaul_state(&c[0], &state), 0);
+    IS(state.stand, 0);
+    for (int k = 0; k < 3; k++) IS(nekchhaul_release(&d[k]), 0);
+}
+
 /* What the header's loop answers, under an algorithm that can't cancel and under one that can. */
 static void loops(void)
 {
@@ -228,6 +259,7 @@ int main(void)
     outside(NEKCHHAUL_NO_ATTEMPT);
     IS(nekchhaul_switch(&c[0], 6), NEKCHHAUL_ALGORITHM);
     attempts();
+    learning();
     conflicts();
     ranges();
     IS(nekchhaul_release(&c[0]), 0);

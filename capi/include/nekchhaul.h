@@ -73,7 +73,6 @@ typedef enum nekchhaul_status {
     NEKCHHAUL_HOLDS_RANGE = 26, /* the caller has a range already */
     NEKCHHAUL_NO_RANGES = 27,   /* never: memories opened here take ranges */
     NEKCHHAUL_NO_RANGE = 28,    /* the caller has no range, or the word isn't in it */
-    NEKCHHAUL_NO_MARKS = 29,    /* OrecEager takes no marks */
     NEKCHHAUL_DEPTH = 30,       /* no such mark stands */
     NEKCHHAUL_LOGS = 31,        /* of reserve: a length isn't 1 to 4,096 */
     NEKCHHAUL_ROOM = 32,        /* of close and read_many: too few places */
@@ -82,7 +81,8 @@ typedef enum nekchhaul_status {
     NEKCHHAUL_SIZE_RING = 35,
     NEKCHHAUL_SIZE_CALLERS = 36,
     NEKCHHAUL_SIZE_LOGS = 37,
-    NEKCHHAUL_SIZE_CLOCK = 38
+    NEKCHHAUL_SIZE_CLOCK = 38,
+    NEKCHHAUL_STRANGER = 39     /* of learn: the callers are not of one memory */
 } nekchhaul_status;
 
 /* The algorithms. docs/ALGORITHMS.md says which to choose. */
@@ -178,14 +178,14 @@ uint32_t nekchhaul_become_irrevocable(nekchhaul_caller *caller) NEKCHHAUL_CALL;
 /* Installs an algorithm, for attempts that begin from then on. BUSY; ALGORITHM, IN_ATTEMPT. */
 uint32_t nekchhaul_switch(nekchhaul_caller *caller, uint32_t algorithm) NEKCHHAUL_CALL;
 
-/* Marks what the attempt has written; `depth` counts the marks. DEEP; NO_ATTEMPT, COMMITTING, NO_MARKS. */
+/* Marks what the attempt has written; `depth` counts the marks. DEEP; NO_ATTEMPT, COMMITTING. */
 uint32_t nekchhaul_checkpoint(nekchhaul_caller *caller, size_t *depth) NEKCHHAUL_CALL;
 
 /* Rolls the attempt back to mark `depth`, which stands: what it wrote since is as if it had not been written.
- * IRREVOCABLE; NO_ATTEMPT, COMMITTING, NO_MARKS, DEPTH. */
+ * IRREVOCABLE; NO_ATTEMPT, COMMITTING, DEPTH. */
 uint32_t nekchhaul_roll_to(nekchhaul_caller *caller, size_t depth) NEKCHHAUL_CALL;
 
-/* Drops the marks from `depth` on, and keeps what was written. NO_ATTEMPT, COMMITTING, NO_MARKS, DEPTH. */
+/* Drops the marks from `depth` on, and keeps what was written. NO_ATTEMPT, COMMITTING, DEPTH. */
 uint32_t nekchhaul_drop_marks(nekchhaul_caller *caller, size_t depth) NEKCHHAUL_CALL;
 
 /* Takes `count` words from `from` on out of the transactions: this caller alone reads and writes them until it gives
@@ -208,6 +208,11 @@ uint32_t nekchhaul_close(nekchhaul_caller *caller, uint64_t *words, size_t count
 
 /* Makes the caller's logs longer, each 1 to 4,096. MEMORY, and then all is as before; IN_ATTEMPT, LOGS. */
 uint32_t nekchhaul_reserve(nekchhaul_caller *caller, size_t reads, size_t writes) NEKCHHAUL_CALL;
+
+/* Has `to` take in what `from` has seen: an attempt of `to` that begins after this starts no earlier than anything that
+ * `from` had seen. They are two handles, of callers of one memory, which this thread uses meanwhile; the clock of `to` is
+ * read, and nothing else changes. IN_ATTEMPT, of either; STRANGER (docs/C.md says how the two are compared). */
+uint32_t nekchhaul_learn(nekchhaul_caller *to, nekchhaul_caller *from) NEKCHHAUL_CALL;
 
 /* Where the caller stands, and what came in its way last. */
 uint32_t nekchhaul_state(nekchhaul_caller *caller, nekchhaul_state_of *state) NEKCHHAUL_CALL;

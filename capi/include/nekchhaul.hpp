@@ -90,6 +90,13 @@ public:
         if (uint32_t s = nekchhaul_install(&handle_, static_cast<uint32_t>(a))) throw error(s);
     }
 
+    // Takes in what another caller of the same memory has seen.
+    void learn(caller &from)
+    {
+        if (&from == this) return;
+        if (uint32_t s = nekchhaul_learn(&handle_, &from.handle_)) throw error(s);
+    }
+
     // The memory after all that was committed; every read and write is refused from then on.
     std::vector<uint64_t> close(size_t words)
     {

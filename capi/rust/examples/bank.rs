@@ -32,6 +32,9 @@ fn main() {
         let mut callers = open(&sizes, algorithm, 4).unwrap();
         let mut auditor = callers.pop().unwrap();
         auditor.atomically(|t| (0..ACCOUNTS).try_for_each(|i| t.write(i, BALANCE))).unwrap();
+        for trader in &mut callers {
+            trader.learn(&mut auditor).unwrap();
+        }
         let all: Vec<usize> = (0..ACCOUNTS).collect();
         let mut balances = [0; ACCOUNTS];
         thread::scope(|scope| {

@@ -56,6 +56,7 @@ extern "C" {
     fn nekchhaul_switch(caller: *mut Handle, algorithm: u32) -> u32;
     fn nekchhaul_checkpoint(caller: *mut Handle, depth: *mut usize) -> u32;
     fn nekchhaul_roll_to(caller: *mut Handle, depth: usize) -> u32;
+    fn nekchhaul_learn(to: *mut Handle, from: *mut Handle) -> u32;
     fn nekchhaul_close(caller: *mut Handle, words: *mut u64, count: usize) -> u32;
     fn nekchhaul_release(caller: *mut Handle) -> u32;
 }
@@ -86,6 +87,8 @@ impl Status {
     pub const ADDRESS: Status = Status(20);
     /// The word is out of the transactions.
     pub const FENCED: Status = Status(25);
+    /// The callers are not of one memory.
+    pub const STRANGER: Status = Status(39);
     /// From here on a body's own: the transaction is cancelled, and that is answered.
     pub const STOP: u32 = 256;
 
@@ -271,6 +274,12 @@ impl Caller {
             while Status(unsafe { nekchhaul_commit(&mut self.0) }) == Status::AGAIN {}
         }
         status
+    }
+
+    /// Takes in what another caller of the same memory has seen.
+    pub fn learn(&mut self, from: &mut Caller) -> Result<(), Status> {
+        // SAFETY: the two handles are these callers' alone.
+        told(unsafe { nekchhaul_learn(&mut self.0, &mut from.0) })
     }
 
     /// Ends the memory, which has so many words: they are the memory after all that was committed. From then on each

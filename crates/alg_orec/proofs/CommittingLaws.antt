@@ -1,5 +1,5 @@
 -- What the steps of a commit of OrecLazy come to.
-use Rattle.std.proofs.Common.{ℕ, ◌≡◌, ◌<◌, ◌≤◌, ◌+◌, List, [], ◌∷◌, ◌++◌, Bool, true, false, refl, sym, ap, ◌∙◌, arith, subst, append_assoc, inl, inr, ⊎_elim}
+use Rattle.std.proofs.Common.{ℕ, ◌≡◌, ◌<◌, ◌≤◌, ◌+◌, List, [], ◌∷◌, ◌++◌, length, Bool, true, false, refl, sym, ap, ◌∙◌, arith, subst, append_assoc, inl, inr, ⊎_elim}
 use Rattle.std.specs.Prelude.{Some, None, ◌||◌, ◌⊎◌, not, Result, Ok, Err}
 use Rattle.std.proofs.lemmas.Bool.Decides.{nat_tests}
 use Rattle.std.proofs.lemmas.List.Elements.{Contains-append_left, Contains-append_right}
@@ -84,13 +84,13 @@ module _ (good : List ℕ → Type 0) (c : Config) (n : ℕ) (low : n < c.caller
   may-lock_all free records = record {
     can = record { opens = record { has = record { runs = record { phase = i.phase; algorithm = ap has_records lazy; plain = k.optimistic.ungranted }; inside = k.inside }; open_yet = k.open_yet }; lazy = k.lazy; unraised = k.unraised; locks = k.locks };
     none = k.open_handed free;
-    lengths = can.lengths.1 ∙ sym can.lengths.0;
+    lengths = (let e = can.lengths.0 in let h = can.lengths.1 in omega arith);
     records = records;
   }
 
   -- what it holds in the middle of its commit
   pub holds-still : Holds c n l v l v []
-  holds-still = record { local = refl; len = refl; is = refl; locks = k.locks; places = k.places; versions = k.versions }
+  holds-still = record { local = refl; len = refl; is = refl; locks = k.locks; places = k.places; few = k.few; versions = k.versions }
 
   pub may-validate : (m : Local) (u : View) (more : List TrailItem) → Holds c n l v m u more → CanValidate c m u
   may-validate m u more h = record {
@@ -129,10 +129,10 @@ module _ (good : List ℕ → Type 0) (c : Config) (n : ℕ) (low : n < c.caller
     abbrev y : View
     y = readied v seen start held loaded check more
 
-    pub stays-ready : locks.items ≡ items held → Inside c.records held → ((r : ℕ) → touches held r ≡ true → over held r 0 ≤ CLOCK_LIMIT) → ((a : ℕ) → touches (cells_of l.writes.items) a ≡ true → touches held (home_of c a) ≡ true)
+    pub stays-ready : locks.items ≡ items held → Inside c.records held → length locks.items ≤ l.writes.len → ((r : ℕ) → touches held r ≡ true → over held r 0 ≤ CLOCK_LIMIT) → ((a : ℕ) → touches (cells_of l.writes.items) a ≡ true → touches held (home_of c a) ≡ true)
         → ((r : ℕ) → touches held r ≡ true → over held r 0 ≤ start) → check.checking ≡ false → Legal (of_words good c.words) c seen → Below seen (start + 1) → Explains (word_now seen) v.attempt.reads
         → (c.callers ≡ 1 → start ≡ c.clock + v.steps.rises_at_begin) → IsInside good c n in_commit y
-    stays-ready logs places versions covered olds unchecked legal below sees sole = record {
+    stays-ready logs places few versions covered olds unchecked legal below sees sole = record {
       phase = i.phase;
       named = i.named;
       built = i.built;
@@ -176,6 +176,7 @@ module _ (good : List ℕ → Type 0) (c : Config) (n : ℕ) (low : n < c.caller
           reads = k.reads;
           locks = logs;
           places = places;
+          few = few;
           versions = versions;
           open_handed = λ e. absurd cc;
           locked = λ e. covered;
@@ -197,7 +198,7 @@ module _ (good : List ℕ → Type 0) (c : Config) (n : ℕ) (low : n < c.caller
     more = e.more;
     is = path;
     stays = subst (λ (q : Local). IsInside good c n (record q { committing = true }) u) (sym whole) (subst (IsInside good c n (record l { start = m.start; locks = m.locks; committing = true })) (sym path)
-        (stays-ready m.start m.locks v.history.seen u.owned.held v.sample.loaded v.check e.more h.locks h.places h.versions e.covered
+        (stays-ready m.start m.locks v.history.seen u.owned.held v.sample.loaded v.check e.more h.locks h.places h.few h.versions e.covered
         (λ r t. let o = e.olds r t in let s = start in omega arith) k.unchecked i.legal (subst (λ (s : ℕ). Below v.history.seen (s + 1)) (sym start) i.below) i.sees (λ one. start ∙ k.sole one)));
     grows = λ o. subst (λ (y : View). Grows (known_of v o) (known_of y o)) (sym h.is) (grows-same (known_of v o) (known_of (holding_still v u.owned.held e.more) o) refl refl e.more refl refl refl refl);
     start = inl start;
@@ -229,7 +230,7 @@ module _ (good : List ℕ → Type 0) (c : Config) (n : ℕ) (low : n < c.caller
     more = valid.more ++ more;
     is = path;
     stays = subst (λ (p : Local). IsInside good c n (record p { committing = true }) w) (sym whole) (subst (IsInside good c n (record l { start = q.start; locks = q.locks; committing = true })) (sym path)
-        (stays-ready q.start q.locks valid.history u.owned.held false no_check (valid.more ++ more) (ap (λ (p : Local). p.locks.items) valid.local ∙ h.locks) h.places h.versions covered valid.olds refl
+        (stays-ready q.start q.locks valid.history u.owned.held false no_check (valid.more ++ more) (ap (λ (p : Local). p.locks.items) valid.local ∙ h.locks) h.places (let e = ap (λ (p : Local). length p.locks.items) valid.local in let f = h.few in omega arith) h.versions covered valid.olds refl
         valid.moves.legal valid.moves.below (subst (Explains (word_now valid.history)) (ap (λ (y : View). y.attempt.reads) h.is) valid.moves.sees)
         (λ one. let s = valid.sole one in let r = ap (λ (y : View). y.steps.rises) h.is in let b = k.optimistic.rises in omega arith)));
     grows = λ o. subst (λ (y : View). Grows (known_of v o) (known_of y o)) (sym path) (grown o);
@@ -276,6 +277,7 @@ module _ (good : List ℕ → Type 0) (c : Config) (n : ℕ) (low : n < c.caller
   stopped-locking cause m u s = record {
     local = h.local;
     len = h.len;
+    few = h.few;
     can = can-roll m u u.owned.held v.check (s.last ++ s.before) h.is h.locks h.places h.versions;
     gate = ap (λ (y : View). y.gate) h.is;
     unmade = subst (IsUnmade v) (sym h.is) (record { carried = record { named = refl; base = refl; installs = refl; fence = refl; trail = (s.last ++ s.before, refl) }; history = refl });
@@ -401,6 +403,7 @@ module _ (good : List ℕ → Type 0) (c : Config) (n : ℕ) (low : n < c.caller
     stopped-validating (causes.Record index word start) due s = let path = stale_path index word start s in record {
       local = h.local;
       len = h.len;
+      few = h.few;
       can = can-roll m w u.owned.held w.check (s.more ++ more) path h.locks h.places h.versions;
       gate = ap (λ (y : View). y.gate) path;
       unmade = subst (IsUnmade v) (sym path) (record { carried = record { named = refl; base = refl; installs = refl; fence = refl; trail = (s.more ++ more, refl) }; history = refl });

@@ -9,7 +9,7 @@ use Rattle.rule_base.specs.declared.views.Phase.TheVariants.{In}
 use Rattle.rule_base.specs.declared.views.View.{View}
 use Rattle.rule_base.specs.Own.{Own}
 use Rattle.stm_rule.specs.declared.local.Local.{Local}
-use Rattle.stm_rule.specs.Attempts.{SameLengths, Stands, good_by, own_of, IsInside}
+use Rattle.stm_rule.specs.Attempts.{HasRoom, Stands, good_by, own_of, IsInside}
 use Rattle.stm_rule.specs.Callers.{Handle, IsTied}
 use Rattle.stm_rule.specs.EagerKept.{IsEager}
 use Rattle.tx_answers.specs.Known.{IsRunning}
@@ -50,7 +50,7 @@ module _ {K : Type 0} (good : K → List ℕ → Type 0) (c : Config) (rule : K)
 
     -- me is the descriptor's seat; after the call that is w, and q are the descriptor's fields
     pub stays-tied : (q : Local) (me w : SeatView K × List (ℕ × Unit {0})) → me.0.who ≡ d.who → IsTied n me → Stands (good_by good d.who.rule) d.who.config n l d.view → d.view.gate.phase ≡ In
-        → w.0.who ≡ me.0.who → w.0.gathered ≡ me.0.gathered → w.1 ≡ me.1 → q.running ≡ l.running → q.holds ≡ l.holds → SameLengths q → w.0.view.gate.holds ≡ d.view.gate.holds → IsInside (good rule) c n q w.0.view
+        → w.0.who ≡ me.0.who → w.0.gathered ≡ me.0.gathered → w.1 ≡ me.1 → q.running ≡ l.running → q.holds ≡ l.holds → HasRoom d.who.config q → w.0.view.gate.holds ≡ d.view.gate.holds → IsInside (good rule) c n q w.0.view
         → IsTied n w × Stands (good_by good w.0.who.rule) w.0.who.config n q w.0.view
     stays-tied q me w here tied stands phase who bare empty running held lengths gate i = (
       record {
@@ -60,5 +60,5 @@ module _ {K : Type 0} (good : K → List ℕ → Type 0) (c : Config) (rule : K)
         empty = empty ∙ tied.empty;
       },
       stands-in good c rule w.0.who n q w.0.view (ap (λ (y : Who K). y.config) (who ∙ here) ∙ (ap (λ (p : Handle K). p.who.config) same ∙ config)) (ap (λ (y : Who K). y.rule) (who ∙ here) ∙ (ap (λ (p : Handle K). p.who.rule) same ∙ value))
-          (running ∙ running-by (good_by good d.who.rule) d.who.config n l d.view phase stands) (held ∙ (stands.holds ∙ sym gate)) lengths i,
+          (running ∙ running-by (good_by good d.who.rule) d.who.config n l d.view phase stands) (held ∙ (stands.holds ∙ sym gate)) (subst (λ (y : Who K). HasRoom y.config q) (sym (who ∙ here)) lengths) i,
     )

@@ -36,7 +36,7 @@ use Rattle.stm_gate.specs.Logging.{item-touched}
 use Rattle.stm_gate.specs.Opacity.{opaque-inside, later-seen}
 use Rattle.stm_gate.specs.Told.{running-by}
 use Rattle.stm_rule.specs.declared.local.Local.{Local}
-use Rattle.stm_rule.specs.Attempts.{own_of, IsInside, IsOutside, SameLengths, Stands, StandsBy}
+use Rattle.stm_rule.specs.Attempts.{own_of, IsInside, IsOutside, HasRoom, Stands, StandsBy}
 use Rattle.stm_rule.specs.Attempts as attempts
 use Rattle.stm_rule.specs.EagerKept.{IsEager}
 use Rattle.steps_orec.specs.OthersLaws.{clock-others}
@@ -46,7 +46,7 @@ use Rattle.tx_answers.specs.declared.answers.Commit.TheVariants as commits
 use Rattle.tx_answers.specs.Answers.{KeepsRule, Commits, CommitsAt, Cancels, EndsAt, StartMoves, entry}
 use Rattle.tx_answers.specs.Causes.{Conflicts, NamesOther, has_item, is_some}
 use Rattle.tx_answers.specs.Evidence.{Found}
-use Rattle.tx_answers.specs.Known.{Grows, known_of, fenced_of, granted_under, written_under, is_in, is_closing, wrote}
+use Rattle.tx_answers.specs.Known.{Grows, known_of, fenced_of, granted_under, written_under, is_in, is_closing, wrote, has_written}
 use Rattle.tx_answers.specs.KnownLaws.{grows-same, grows-trans}
 use Rattle.tx_logs.specs.LogStates.{LogState}
 use Rattle.alg_orec.proofs.EagerProving as proving
@@ -60,7 +60,7 @@ use Rattle.alg_orec.specs.Locking.{OwesNothing, holding_still, ReleasesAll}
 use Rattle.alg_orec.specs.Validating.{load_of, OnlyLoads, CanValidate, HasVersions, IsFoundStale, IsHeldNewer, Refuses, IsValid, Validates}
 
 module _ (good : List ℕ → Type 0) (c : Config) (n : ℕ) (l : Local) (v : View) (i : IsInside good c n l v) (eager : v.gate.algorithm ≡ OrecEager) (plain : l.granted ≡ false) where
-  k : IsEager c l v
+  pub k : IsEager c l v
   k = eager-of good c n l v i (sym i.named ∙ eager) plain
 
   has-orec : HasOrec v
@@ -93,12 +93,12 @@ module _ (good : List ℕ → Type 0) (c : Config) (n : ℕ) (l : Local) (v : Vi
   pub may-take-here : CanTakeBack c l v
   may-take-here = may-take l v.check [] refl refl
 
-  clean : (o : Own) → wrote (known_of v o) ≡ false → v.owned.held ≡ []
-  clean o e = proving.none-held c l v k (sym (proving.wrote-known c l v k eager v o refl refl) ∙ e)
+  clean : (o : Own) → o.retains ≡ l.retains → has_written (known_of v o) ≡ false → v.owned.held ≡ []
+  clean o same e = let p = proving.no-or (wrote (known_of v o)) o.retains e in proving.none-held c l v k (sym (proving.wrote-known c l v k eager v o refl refl) ∙ p.0) (sym same ∙ p.1)
 
   -- CANCEL
-  pub tells-cancelled : (z : View) (o : Own) → TakesBack n v z → Cancels good c n (Cancelled l.start) (known_of v o) (known_of z (with_commit false o))
-  tells-cancelled z o g = (
+  pub tells-cancelled : (z : View) (o : Own) → o.retains ≡ l.retains → TakesBack n v z → Cancels good c n (Cancelled l.start) (known_of v o) (known_of z (with_commit false o))
+  tells-cancelled z o same g = (
     record { ends = ends-own v z o (with_commit false o) refl refl q.ends; made = q.made; is_start = q.is_start; seen = q.seen; kept = q.kept; sees = q.sees },
     (let a = rose.0 in let e = rises in omega arith),
     (let a = rose.1 in let e = rises in omega arith),
@@ -111,20 +111,24 @@ module _ (good : List ℕ → Type 0) (c : Config) (n : ℕ) (l : Local) (v : Vi
       rises : z.steps.rises ≡ g.before.steps.rises
       rises = ap (λ (y : View). y.steps.rises) g.is
 
-      rose : (v.steps.rises_at_begin ≤ g.before.steps.rises) × (g.before.steps.rises ≤ v.steps.rises_at_begin + quit_rise v.gate.algorithm (wrote (known_of v o)))
-      rose = proving.rose n v v z o eager k.optimistic.ungranted k.optimistic.rises refl (clean o) g
+      rose : (v.steps.rises_at_begin ≤ g.before.steps.rises) × (g.before.steps.rises ≤ v.steps.rises_at_begin + quit_rise v.gate.algorithm (has_written (known_of v o)))
+      rose = proving.rose n v v z o eager k.optimistic.ungranted k.optimistic.rises refl (clean o same) g
+
+  -- where it was rolled back and wrote nothing else
+  pub tells-unwritten : l.wrote ≡ false → (z : View) (o : Own) → o.retains ≡ l.retains → TakesBack n v z → Commits good c n (commits.ReadOnly l.start) (known_of v o) (known_of z (with_commit false o))
+  tells-unwritten unwritten z o same g = let t = tells-cancelled z o same g in (t.0, (t.1, t.2), proving.wrote-known c l v k eager v o refl refl ∙ unwritten)
 
   pub may-commit : l.wrote ≡ true → Stands good c n l v → CanCommitPlaced good c n l v
   may-commit wrote stands = record { inside = i; eager = sym i.named ∙ eager; plain = plain; wrote = wrote; running = running-by good c n l v i.phase stands; holds = stands.holds; lengths = stands.lengths }
 
   -- READ ONLY
-  module _ (unwritten : l.wrote ≡ false) where
+  module _ (unwritten : l.wrote ≡ false) (handed : v.owned.held ≡ []) where
     pub may-leave : CanLeave v
     may-leave = record {
       phase = i.phase;
       unlocked = k.optimistic.unlocked;
       unfixed = k.optimistic.unfixed;
-      disowned = proving.none-held c l v k unwritten;
+      disowned = handed;
       unwritten = k.optimistic.unwritten;
       uncommitted = k.optimistic.uncommitted;
       ungranted = λ e. k.optimistic.ungranted;
@@ -136,7 +140,7 @@ module _ (good : List ℕ → Type 0) (c : Config) (n : ℕ) (l : Local) (v : Vi
     pub tells-read_only : (z : View) (o : Own) → z ≡ left n v → Commits good c n (commits.ReadOnly l.start) (known_of v o) (known_of z o)
     tells-read_only z o is = subst (λ (y : View). Commits good c n (commits.ReadOnly l.start) (known_of v o) (known_of y o)) (sym is) (
       ended-left n good c l.start v v o (unmade-refl v) (sym i.start) (opaque-inside good c n l v o i),
-      k.optimistic.rises,
+      (let r = k.optimistic.rises in omega arith, let r = k.optimistic.rises in omega arith),
       proving.wrote-known c l v k eager v o refl refl ∙ unwritten,
     )
 
@@ -148,7 +152,7 @@ pub own-again : (l m : Local) → m ≡ record l { start = m.start } → (P : Ow
 own-again l m is P p = subst (λ (q : Local). P (own_of (record q { committing = true }))) (sym is) p
 
 -- an attempt that ended leaves a descriptor that stands
-pub ended-stands : (good : List ℕ → Type 0) (c : Config) (n : ℕ) (q : Local) (z : View) → SameLengths q → IsOutside z → Stands good c n (attempts.ended q) z
+pub ended-stands : (good : List ℕ → Type 0) (c : Config) (n : ℕ) (q : Local) (z : View) → HasRoom c q → IsOutside z → Stands good c n (attempts.ended q) z
 ended-stands good c n q z lengths out = record { holds = sym out.reopened; lengths = lengths; by = out }
 
 module _ (good : List ℕ → Type 0) (c : Config) (n : ℕ) (low : n < c.callers) where
@@ -192,7 +196,7 @@ module _ (good : List ℕ → Type 0) (c : Config) (n : ℕ) (low : n < c.caller
 
     pub tells-full : (clock : ℕ) (u z : View) → CLOCK_LIMIT ≤ l.start → Tells orec_limit (FindsClock c) v clock u → TakesBack n u z → Commits good c n (commits.ClockFull clock) (known_of v o) (known_of z (with_commit false o))
     tells-full clock u z high t g = let f = proving.ended-by n u z g in (
-      proving.quits-back n v u z o eager kept.optimistic.ungranted kept.optimistic.rises (ap (λ (y : View). y.steps.rises) t.2) (λ e. ap (λ (y : View). y.owned.held) t.2 ∙ some e) g
+      proving.quits-back n v u z o eager kept.optimistic.ungranted kept.optimistic.rises (ap (λ (y : View). y.steps.rises) t.2) (λ e. ap (λ (y : View). y.owned.held) t.2 ∙ some (proving.no-or (wrote (known_of v o)) o.retains e).0) g
           (subst (IsUnmade v) (sym t.2) (record { carried = record { named = refl; base = refl; installs = refl; fence = refl; trail = (load_of Clock clock ∷ [], refl) }; history = refl })),
       ap asks_at_commit eager,
       wrote_is,
@@ -374,11 +378,13 @@ module _ (good : List ℕ → Type 0) (c : Config) (n : ℕ) (low : n < c.caller
         small = kept.small;
         old_words = kept.old_words;
         covered = kept.covered;
+        short = kept.short;
         few = kept.few;
         places = kept.places;
         olds = kept.olds;
         below = kept.below;
         committing = λ e. can.wrote;
+        marked = kept.marked;
         sole = kept.sole;
       }));
     }
@@ -476,11 +482,13 @@ module _ (good : List ℕ → Type 0) (c : Config) (n : ℕ) (low : n < c.caller
             small = kept.small;
             old_words = kept.old_words;
             covered = kept.covered;
+            short = kept.short;
             few = kept.few;
             places = kept.places;
             olds = h.olds;
             below = kept.below;
             committing = kept.committing;
+            marked = kept.marked;
             sole = λ one. h.sole one ∙ ap (λ (t : ℕ). c.clock + t) kept.optimistic.rises;
           }));
         }
@@ -541,7 +549,7 @@ module _ (good : List ℕ → Type 0) (c : Config) (n : ℕ) (low : n < c.caller
 
     pub tells-stopped : (cause : causes.the_data) (m : Local) (u z : View) → IsOverrun good c n cause l v m u → TakesBack n u z → Commits good c n (commits.Conflict cause) (known_of v o) (known_of z (with_commit false o))
     tells-stopped cause m u z h g = let t = proving.ended-by n u z g in (
-      proving.quits-back n v u z o eager kept.optimistic.ungranted kept.optimistic.rises (ap (λ (y : View). y.steps.rises) h.is) (λ e. ap (λ (y : View). y.owned.held) h.is ∙ some e) g
+      proving.quits-back n v u z o eager kept.optimistic.ungranted kept.optimistic.rises (ap (λ (y : View). y.steps.rises) h.is) (λ e. ap (λ (y : View). y.owned.held) h.is ∙ some (proving.no-or (wrote (known_of v o)) o.retains e).0) g
           (subst (IsUnmade v) (sym h.is) (record { carried = record { named = refl; base = refl; installs = refl; fence = refl; trail = (h.more, refl) }; history = refl })),
       proving.conflicts-later c n None cause (known_of v o) (known_of u o) (known_of z (with_commit false o)) (ap has_records eager) t.0 t.1 (h.conflicts o o),
       h.others,
@@ -566,7 +574,8 @@ module _ (good : List ℕ → Type 0) (c : Config) (n : ℕ) (low : n < c.caller
       holds = ap (λ (q : Local). q.holds) r.local ∙ (can.holds ∙ sym (ap (λ (y : View). y.gate.holds) r.is));
       lengths = (
         ap (λ (q : Local). q.writes.len) r.local ∙ (can.lengths.0 ∙ sym (ap (λ (q : Local). q.undo.len) r.local)),
-        ap (λ (q : Local). q.locks.len) r.local ∙ (can.lengths.1 ∙ sym (ap (λ (q : Local). q.undo.len) r.local)),
+        (let a = ap (λ (q : Local). q.locks.len) r.local in let b = can.lengths.1 in let e = ap (λ (q : Local). q.undo.len) r.local in omega arith),
+        (let a = ap (λ (q : Local). q.locks.len) r.local in let b = can.lengths.2 in omega arith),
       );
     }
 
@@ -586,6 +595,7 @@ module _ (good : List ℕ → Type 0) (c : Config) (n : ℕ) (low : n < c.caller
       start = (let a = begins in let b : w.attempt.start ≡ m.start = ap (λ (y : View). y.attempt.start) r.is in omega arith);
       log = log_at o w (ap (λ (y : View). y.gate) r.is) (ap (λ (y : View). y.attempt.reads) r.is) (ap (λ (y : View). y.owned.in_place) r.is);
       granted = ap (λ (y : View). granted_under y.gate.algorithm y.gate y.lock) r.is;
+      retains = refl;
     }
 
     pub keeps-ready : KeepsRule good c n (known_of v o) → KeepsRule good c n (known_of w o)
@@ -644,6 +654,7 @@ module _ (good : List ℕ → Type 0) (c : Config) (n : ℕ) (low : n < c.caller
             later = (let a = begins in let b = start_is in omega arith);
             installs = ap (λ (y : View). reverse y.steps.installs) again_path;
             depth = refl;
+            retains = refl;
           };
           start = subst (λ (a : Alg). StartMoves a (known_of v o) (known_of u p)) (sym named) (moves r.start);
           granted = ap (λ (y : View). granted_under y.gate.algorithm y.gate y.lock) again_path;

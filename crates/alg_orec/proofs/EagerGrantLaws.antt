@@ -47,7 +47,7 @@ use Rattle.alg_orec.specs.EagerEnding.{AllBelow, CanTakeBack, TakesBack}
 use Rattle.alg_orec.specs.EagerGranting.{CanGrantPlaced, placed_at, IsGrantedPlaced, IsNotGrantedPlaced}
 use Rattle.alg_orec.specs.Validating.{load_of, read_at, is_old, vouches, HasVersions, IsLast, CanValidate, Refuses, IsFoundStale, IsHeldNewer, IsStale, HasPassed}
 use Rattle.alg_orec.proofs.PromotingLaws as promoting
-use Rattle.alg_orec.proofs.EagerProving.{conflicts-later, eager-of, ended-by, no-writes, none-held, quits-back, wrote-known}
+use Rattle.alg_orec.proofs.EagerProving.{conflicts-later, eager-of, ended-by, no-or, no-writes, none-held, quits-back, wrote-known}
 use Rattle.alg_orec.proofs.Proving.{with_commit}
 use Rattle.alg_orec.proofs.Validity as validity
 
@@ -276,17 +276,17 @@ module _ (good : List ℕ → Type 0) (c : Config) (n : ℕ) (low : n < c.caller
           refusal = promoting.refusal rule c n low l v ready time s first j now last p second u h b x w t stale at none
 
   -- THE END of an attempt that isn't promoted
-  pub tells-refused : (refusal : irrevs.the_data) (m : Local) (u z : View) (o : Own) → IsNotGrantedPlaced good c n refusal l v m u → TakesBack n u z → Grants good c n refusal (known_of v o) (known_of z (with_commit false o))
-  tells-refused irrevs.Granted m u z o q g = absurd q.why
-  tells-refused (irrevs.Busy caller status) m u z o q g = absurd q.why
-  tells-refused (irrevs.Taken gate) m u z o q g = absurd q.why
-  tells-refused (irrevs.Conflict cause) m u z o q g = let t = ended-by n u z g in (
-    quits-back n v u z o eager k.optimistic.ungranted k.optimistic.rises q.rises (λ e. q.held ∙ none-held c l v k (sym (wrote-known c l v k eager v o refl refl) ∙ e)) g q.unmade,
+  pub tells-refused : (refusal : irrevs.the_data) (m : Local) (u z : View) (o : Own) → o.retains ≡ l.retains → IsNotGrantedPlaced good c n refusal l v m u → TakesBack n u z → Grants good c n refusal (known_of v o) (known_of z (with_commit false o))
+  tells-refused irrevs.Granted m u z o same q g = absurd q.why
+  tells-refused (irrevs.Busy caller status) m u z o same q g = absurd q.why
+  tells-refused (irrevs.Taken gate) m u z o same q g = absurd q.why
+  tells-refused (irrevs.Conflict cause) m u z o same q g = let t = ended-by n u z g in (
+    quits-back n v u z o eager k.optimistic.ungranted k.optimistic.rises q.rises (λ e. let p = no-or (wrote (known_of v o)) o.retains e in q.held ∙ none-held c l v k (sym (wrote-known c l v k eager v o refl refl) ∙ p.0) (sym same ∙ p.1)) g q.unmade,
     conflicts-later c n None cause (known_of v o) (known_of u o) (known_of z (with_commit false o)) (ap has_records eager) t.0 t.1 (q.why.0 o),
     q.why.1,
   )
-  tells-refused (irrevs.ClockFull clock) m u z o q g = let t = ended-by n u z g in (
-    quits-back n v u z o eager k.optimistic.ungranted k.optimistic.rises q.rises (λ e. q.held ∙ none-held c l v k (sym (wrote-known c l v k eager v o refl refl) ∙ e)) g q.unmade,
+  tells-refused (irrevs.ClockFull clock) m u z o same q g = let t = ended-by n u z g in (
+    quits-back n v u z o eager k.optimistic.ungranted k.optimistic.rises q.rises (λ e. let p = no-or (wrote (known_of v o)) o.retains e in q.held ∙ none-held c l v k (sym (wrote-known c l v k eager v o refl refl) ∙ p.0) (sym same ∙ p.1)) g q.unmade,
     ap asks_at_grant eager,
     finds-full clock v z o (with_commit false o) q.why.0 (found-later Clock clock (known_of v o) (known_of u o) (known_of z (with_commit false o)) (q.why.1 o) t.0 t.1),
   )
@@ -337,6 +337,7 @@ module _ (good : List ℕ → Type 0) (c : Config) (n : ℕ) (low : n < c.caller
         locks = k.locks;
         places = k.places;
         disowned = none-held c l v k;
+        few = λ never. let f = k.few never in let m = k.short in omega arith;
         clean = stores-none;
         dirty = stores-some;
         rises = k.optimistic.rises;
@@ -361,6 +362,7 @@ module _ (good : List ℕ → Type 0) (c : Config) (n : ℕ) (low : n < c.caller
         later = (let a = i.start in let b = i.front in let d = r.moves.front in omega arith);
         installs = refl;
         depth = refl;
+        retains = refl;
       };
       still = refl;
       uncommitted = can.free;

@@ -35,7 +35,7 @@ use Rattle.tx_answers.specs.declared.answers.Read.TheVariants as reads
 use Rattle.tx_answers.specs.Answers.{HasRead, Quits, GoesOn, StartMoves}
 use Rattle.tx_answers.specs.Causes.{Conflicts, has_item, is_some, reads_full}
 use Rattle.tx_answers.specs.Evidence.{Found}
-use Rattle.tx_answers.specs.Known.{Grows, known_of, granted_under, written_under, is_irrevocable, is_in, is_closing, wrote}
+use Rattle.tx_answers.specs.Known.{Grows, known_of, granted_under, written_under, is_irrevocable, is_in, is_closing, wrote, has_written}
 use Rattle.tx_answers.specs.KnownLaws.{grows-same, grows-trans}
 use Rattle.tx_logs.specs.LogStates.{LogState}
 use Rattle.stm_gate.specs.InnerLaws.{goes-inner}
@@ -172,8 +172,8 @@ module _ (good : List ℕ → Type 0) (c : Config) (n : ℕ) (l : Local) (v : Vi
     pub may-take-here : CanTakeBack c l v
     may-take-here = subst (CanTakeBack c l) (sym here) (may-take l v.attempt.start v.history.seen v.attempt.reads v.sample v.check [] refl refl)
 
-    clean : (u : View) → u.gate ≡ v.gate → u.owned ≡ v.owned → wrote (known_of u o) ≡ false → u.owned.held ≡ []
-    clean u gate owned e = ap (λ (h : Ownership). h.held) owned ∙ proving.none-held c l v k (sym (proving.wrote-known c l v k eager u o gate (ap (λ (h : Ownership). h.in_place) owned)) ∙ e)
+    clean : (u : View) → u.gate ≡ v.gate → u.owned ≡ v.owned → has_written (known_of u o) ≡ false → u.owned.held ≡ []
+    clean u gate owned e = let p = proving.no-or (wrote (known_of u o)) l.retains e in ap (λ (h : Ownership). h.held) owned ∙ proving.none-held c l v k (sym (proving.wrote-known c l v k eager u o gate (ap (λ (h : Ownership). h.in_place) owned)) ∙ p.0) p.1
 
     pub grown : (start : ℕ) (seen : List Entry) (rs : List Cell) (sample : Sample) (check : Validation) (more : List TrailItem) (p : Own) → p.reads_limit ≡ l.reads.len → p.writes_limit ≡ l.undo.len → MayMove rule c n start seen more v → Grows (known_of v o) (known_of (moved v start seen rs sample check more) p)
     grown start seen rs sample check more p r w (inl s) = grows-same (known_of v o) (known_of (moved v start seen rs sample check more) p) (ap public_history s.1) (s.0 ∙ (i.start ∙ sym i.front)) more refl r w refl
@@ -282,6 +282,7 @@ module _ (good : List ℕ → Type 0) (c : Config) (n : ℕ) (l : Local) (v : Vi
         later = begins start seen more moves;
         installs = refl;
         depth = refl;
+        retains = refl;
       };
       start = subst (λ (b : Alg). StartMoves b (known_of v o) (known_of (moved v start seen rs sample check more) o)) (sym eager) (start-moves moves);
       granted = refl;
@@ -355,11 +356,13 @@ module _ (good : List ℕ → Type 0) (c : Config) (n : ℕ) (l : Local) (v : Vi
         small = k.small;
         old_words = k.old_words;
         covered = k.covered;
+        short = k.short;
         few = k.few;
         places = k.places;
         olds = λ r t. (let o = k.olds r t in let s = i.start in let b = begins start seen more moves in omega arith);
         below = k.below;
         committing = k.committing;
+        marked = k.marked;
         sole = sole-at start seen more moves;
       });
     }
@@ -424,11 +427,13 @@ module _ (good : List ℕ → Type 0) (c : Config) (n : ℕ) (v : View) (can : C
         small = λ a d e. e;
         old_words = λ a e. absurd cc;
         covered = λ a e. absurd cc;
-        few = omega arith;
+        short = omega arith;
+        few = λ never. omega arith;
         places = λ a e. absurd cc;
         olds = λ r e. absurd cc;
         below = λ r e. absurd cc;
         committing = λ e. absurd cc;
+        marked = refl;
         sole = λ one. (let q = t.1.sole one in let r = can.rises in omega arith);
       };
     };

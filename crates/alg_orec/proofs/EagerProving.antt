@@ -1,6 +1,6 @@
 -- What stands of an attempt of OrecEager, and what its end comes to as seen from before.
 use Rattle.std.proofs.Common.{ℕ, ◌≡◌, ◌≤◌, ◌+◌, List, [], ◌∷◌, ◌++◌, length, Bool, true, false, refl, sym, ap, ◌∙◌, arith, subst}
-use Rattle.std.specs.Prelude.{Option, not, ◌&&◌}
+use Rattle.std.specs.Prelude.{Option, not, ◌&&◌, ◌||◌, if◌then◌else◌}
 use Rattle.stm_model.specs.Algorithms.{has_records, closes_gate, irrevocable_under, quit_rise}
 use Rattle.stm_model.specs.declared.alg.Alg.{Alg}
 use Rattle.stm_model.specs.declared.alg.Alg.TheVariants.{OrecEager}
@@ -18,7 +18,8 @@ use Rattle.stm_rule.specs.Attempts.{Keeps, IsInside}
 use Rattle.stm_rule.specs.EagerKept.{IsEager}
 use Rattle.tx_answers.specs.Answers.{Quits}
 use Rattle.tx_answers.specs.Causes.{Conflicts}
-use Rattle.tx_answers.specs.Known.{Known, known_of, granted_under, written_under, is_irrevocable, wrote}
+use Rattle.tx_answers.specs.Known.{Known, known_of, granted_under, written_under, is_irrevocable, wrote, has_written}
+use Rattle.alg_orec.proofs.CountingLaws.{records-within}
 use Rattle.alg_orec.proofs.Proving.{as-was-later, moved-later, quits-own, unmade-trans, with_commit}
 use Rattle.alg_orec.specs.EagerEnding.{TakesBack}
 
@@ -34,17 +35,30 @@ is-none : (ws : List (ℕ × ℕ)) → is_empty ws ≡ true → length ws ≡ 0
 is-none [] e = refl
 is-none (w ∷ ws) e = absurd cc
 
-length-none : (ws : List (ℕ × ℕ)) → length ws ≤ 0 → ws ≡ []
+-- who has not written neither writes nor was rolled back
+pub no-or : (a b : Bool) → a || b ≡ false → (a ≡ false) × (b ≡ false)
+no-or false b e = (refl, e)
+no-or true b e = absurd cc
+
+pub length-none : (ws : List (ℕ × ℕ)) → length ws ≤ 0 → ws ≡ []
 length-none [] l = refl
 length-none (w ∷ ws) l = absurd (omega arith)
 
 module _ (c : Config) (l : Local) (v : View) (k : IsEager c l v) where
-  -- who wrote nothing holds nothing, and has nothing to restore
+  -- who wrote nothing has nothing to restore, and holds nothing unless it was rolled back
   pub no-writes : l.wrote ≡ false → length l.writes.items ≡ 0
   no-writes clean = is-none l.writes.items (no-not (is_empty l.writes.items) (sym k.wrote ∙ clean))
 
-  pub none-held : l.wrote ≡ false → v.owned.held ≡ []
-  none-held clean = no-items v.owned.held (sym k.locks ∙ length-none l.locks.items (let e = no-writes clean in let f = k.few in omega arith))
+  pub none-held : l.wrote ≡ false → l.retains ≡ false → v.owned.held ≡ []
+  none-held clean never = no-items v.owned.held (sym k.locks ∙ length-none l.locks.items (let e = no-writes clean in let f = k.few never in omega arith))
+
+  -- it holds no more records than contracts see that it may
+  pub held-within : length l.locks.items ≤ (if l.retains then c.records else l.undo.len)
+  held-within = by l.retains refl
+    where
+      by : (b : Bool) → l.retains ≡ b → length l.locks.items ≤ (if b then c.records else l.undo.len)
+      by true q = records-within c.records v.owned.held l.locks.items k.locks k.places
+      by false q = let f = k.few q in let s = k.short in omega arith
 
   module _ (eager : v.gate.algorithm ≡ OrecEager) where
     -- what was written lies in place
@@ -108,9 +122,9 @@ rose-by a true base rises e one none = let q : quit_rise a true ≡ 1 = ap (λ (
 rose-by a false base rises e one none = let z = none refl in omega arith
 
 -- an attempt of OrecEager that was taken back
-module _ (n : ℕ) (v u z : View) (o : Own) (eager : v.gate.algorithm ≡ OrecEager) (plain : v.gate.granted ≡ false) (level : v.steps.rises ≡ v.steps.rises_at_begin) (rises : u.steps.rises ≡ v.steps.rises) (clean : wrote (known_of v o) ≡ false → u.owned.held ≡ []) (g : TakesBack n u z) where
-  pub rose : (v.steps.rises_at_begin ≤ g.before.steps.rises) × (g.before.steps.rises ≤ v.steps.rises_at_begin + quit_rise v.gate.algorithm (wrote (known_of v o)))
-  rose = ((let a = g.rose.0 in omega arith), rose-by v.gate.algorithm (wrote (known_of v o)) v.steps.rises_at_begin g.before.steps.rises eager (let a = g.rose.1 in omega arith) (λ e. let q = g.level (clean e) in omega arith))
+module _ (n : ℕ) (v u z : View) (o : Own) (eager : v.gate.algorithm ≡ OrecEager) (plain : v.gate.granted ≡ false) (level : v.steps.rises ≡ v.steps.rises_at_begin) (rises : u.steps.rises ≡ v.steps.rises) (clean : has_written (known_of v o) ≡ false → u.owned.held ≡ []) (g : TakesBack n u z) where
+  pub rose : (v.steps.rises_at_begin ≤ g.before.steps.rises) × (g.before.steps.rises ≤ v.steps.rises_at_begin + quit_rise v.gate.algorithm (has_written (known_of v o)))
+  rose = ((let a = g.rose.0 in omega arith), rose-by v.gate.algorithm (has_written (known_of v o)) v.steps.rises_at_begin g.before.steps.rises eager (let a = g.rose.1 in omega arith) (λ e. let q = g.level (clean e) in omega arith))
 
   pub quits-back : IsUnmade v u → Quits (known_of v o) (known_of z (with_commit false o))
   quits-back m = quits-own v z o (with_commit false o) refl refl (subst (λ (y : View). Quits (known_of v o) (known_of y o)) (sym g.is)

@@ -1,6 +1,6 @@
 -- What the parts of a read of OrecEager come to, and what they come to together.
 use Rattle.std.proofs.Common.{ℕ, ◌≡◌, ◌≢◌, ◌<◌, List, [], ◌∷◌, ◌++◌, length, Bool, true, false, refl, sym, ap, ◌∙◌, arith, subst, inl, inr, append_assoc}
-use Rattle.std.specs.Prelude.{◌%◌, ◌⊎◌, ◌==◌, ◌&&◌, not, if◌then◌else◌, Some, None, Err}
+use Rattle.std.specs.Prelude.{◌%◌, ◌⊎◌, ◌==◌, ◌&&◌, not, if◌then◌else◌, Some, None, Err, ◌||◌}
 use Rattle.std.proofs.lemmas.Bool.Decides.{nat_tests}
 use Rattle.std.proofs.lemmas.List.Elements.{Contains-append_left}
 use Rattle.stm_model.specs.Algorithms.{has_records, has_read_log, irrevocable_under, quit_rise}
@@ -43,7 +43,7 @@ use Rattle.tx_answers.specs.declared.answers.Read.TheVariants as reads
 use Rattle.tx_answers.specs.Answers.{GoesOn, HasRead, Quits, StartMoves, write_rise}
 use Rattle.tx_answers.specs.Causes.{Conflicts, has_item, reads_full}
 use Rattle.tx_answers.specs.Evidence.{Found}
-use Rattle.tx_answers.specs.Known.{Known, caller_of, known_of, is_irrevocable, wrote}
+use Rattle.tx_answers.specs.Known.{Known, caller_of, known_of, is_irrevocable, wrote, has_written}
 use Rattle.tx_answers.specs.KnownLaws.{grows-trans}
 use Rattle.alg_orec.proofs.EagerCalls.{RunsEager}
 use Rattle.alg_orec.proofs.EagerLaws as laws
@@ -91,6 +91,7 @@ module _ (v u : Known) (eager : v.alg ≡ OrecEager) (a : GoesOn v u) (log : u.l
         later = (let x = k.later in let y = q.later in omega arith);
         installs = q.installs ∙ k.installs;
         depth = q.depth ∙ k.depth;
+        retains = q.retains ∙ k.retains;
       };
       start = subst (λ (r : Alg). StartMoves r v w) (sym eager) (moves-on v u w k.grows.more k.grows.trail q.grows.more q.grows.trail (subst (λ (r : Alg). StartMoves r v u) eager a.start) (subst (λ (r : Alg). StartMoves r u w) (k.alg ∙ eager) b.start));
       granted = b.granted ∙ a.granted;
@@ -108,7 +109,7 @@ module _ (v u : Known) (eager : v.alg ≡ OrecEager) (a : GoesOn v u) (log : u.l
       made = b.made ∙ k.made;
       rises = (
         let e = k.base in let r = b.rises.0 in omega arith,
-        let e = k.base in let r = b.rises.1 in let q : quit_rise u.alg (wrote u) ≡ quit_rise v.alg (wrote v) = (λ j. quit_rise (k.alg j) (not (is_empty (log j).writes))) in omega arith,
+        let e = k.base in let r = b.rises.1 in let q : quit_rise u.alg (has_written u) ≡ quit_rise v.alg (has_written v) = (λ j. quit_rise (k.alg j) (not (is_empty (log j).writes) || k.retains j)) in omega arith,
       );
       revocable = sym same-irrevocable ∙ b.revocable;
     }

@@ -364,7 +364,7 @@ module _ (good : (ℕ → ℕ) → Type 0) (c : Config) (n : ℕ) (low : n < c.c
             none = item-none v.owned.held r unheld
 
             room : length m.locks.items < m.locks.len
-            room = subst (λ (q : Local). length q.locks.items < q.locks.len) (sym h.local) can.room
+            room = subst (λ (q : Local). length q.locks.items < q.locks.len) (sym h.local) (can.room unheld)
 
             new_is : new ≡ record m.locks { items = m.locks.items ++ (r, version_of word) ∷ [] }
             new_is = pushes-new m.locks new r (version_of word) p push (ap (item_at r) locks_is ∙ none) room

@@ -3,6 +3,7 @@ use Rattle.std.proofs.Common.{ℕ, suc, ◌≡◌, ◌≢◌, ◌<◌, ◌≤◌
 use Rattle.std.specs.Prelude.{◌^◌, ◌⊎◌, ◌==◌, ◌&&◌, not, map, if◌then◌else◌, Option, Some, None, IsSome}
 use Rattle.std.proofs.lemmas.Bool.Decides.{nat_tests}
 use Rattle.std.proofs.lemmas.List.Elements.{Contains-append_right}
+use Rattle.std.proofs.lemmas.Nat.{mod_below}
 use Rattle.stm_model.specs.Algorithms.{has_records, logs_writes, asks_at_write}
 use Rattle.stm_model.specs.declared.alg.Alg.{Alg}
 use Rattle.stm_model.specs.declared.alg.Alg.TheVariants.{OrecEager}
@@ -32,7 +33,7 @@ use Rattle.stm_gate.specs.LeavingLaws.{trail-left, finds-full, found-later}
 use Rattle.stm_gate.specs.Logging.{put-new}
 use Rattle.stm_gate.specs.Opacity.{opaque-at}
 use Rattle.stm_rule.specs.declared.local.Local.{Local}
-use Rattle.stm_rule.specs.Attempts.{own_of, IsInside, SameLengths}
+use Rattle.stm_rule.specs.Attempts.{own_of, IsInside, HasRoom}
 use Rattle.stm_rule.specs.Attempts as attempts
 use Rattle.stm_rule.specs.EagerKept.{IsEager}
 use Rattle.tx_answers.specs.declared.answers.Write.{Write}
@@ -44,6 +45,7 @@ use Rattle.tx_answers.specs.Known.{Grows, known_of, written_under, is_in, is_clo
 use Rattle.tx_logs.specs.declared.push.Push.{Push}
 use Rattle.tx_logs.specs.declared.push.Push.TheVariants as pushes
 use Rattle.tx_logs.specs.LogStates.{LogState, Pushes}
+use Rattle.alg_orec.proofs.CountingLaws.{fewer-records}
 use Rattle.alg_orec.proofs.EagerCalls.{RunsEager}
 use Rattle.alg_orec.proofs.EagerLaws as laws
 use Rattle.alg_orec.proofs.EagerProving as proving
@@ -151,7 +153,8 @@ module _ (good : List ℕ → Type 0) (c : Config) (n : ℕ) (l : Local) (v : Vi
     pub undos : q.undo.items ≡ items undo
     pub undoable : map (λ (k : ℕ × ℕ). k.0) q.undo.items ≡ map (λ (k : ℕ × ℕ). k.0) q.writes.items
     pub old_words : Inside c.words undo
-    pub few : length q.locks.items ≤ length q.writes.items
+    pub short : length q.writes.items ≤ q.undo.len
+    pub few : l.retains ≡ false → length q.locks.items ≤ length q.writes.items
     pub places : Inside c.records held
     pub olds : AllSeen q.start held
     pub below : AllBelow CLOCK_LIMIT held
@@ -200,18 +203,22 @@ module _ (good : List ℕ → Type 0) (c : Config) (n : ℕ) (l : Local) (v : Vi
     pub writes-full : (a x : ℕ) (w : View) → item_at a l.writes.items ≡ None → length l.undo.items ≡ l.undo.len → TakesBack n v w → HasWritten good c n a x (writes.Full l.undo.len) (known_of v o) (known_of w o)
     writes-full a x w none full g = (laws.quits-here good c n l v runs w g, filled a None true none (let e = level in let f : length l.writes.items ≡ l.undo.len = sym e ∙ full in grind (arith, nat_tests)), refl)
 
-    pub may-take : (a : ℕ) → a < c.words → 0 < c.records → SameLengths l → item_at a l.writes.items ≡ None → length l.undo.items ≢ l.undo.len → length l.undo.items ≤ l.undo.len → CanTake c a l v
+    pub may-take : (a : ℕ) → a < c.words → 0 < c.records → HasRoom c l → item_at a l.writes.items ≡ None → length l.undo.items ≢ l.undo.len → length l.undo.items ≤ l.undo.len → CanTake c a l v
     may-take a low records lengths none room most = let can = laws.may-load good c n l v runs a low none in record {
       can = can.can;
       unraised = k.unraised;
       olds = can.olds;
       below = k.below;
       places = k.places;
-      room = (let e = level in let f = k.few in let g = lengths.1 in let h : length l.undo.items < l.undo.len = grind (arith, room, most) in omega arith);
+      room = λ unheld. has-room unheld l.retains refl;
       records = records;
       front = can.front;
       inside = low;
     }
+      where
+        has-room : touches v.owned.held (home_of c a) ≡ false → (b : Bool) → l.retains ≡ b → length l.locks.items < l.locks.len
+        has-room unheld false never = (let e = level in let f = k.few never in let g = lengths.1 in let h : length l.undo.items < l.undo.len = grind (arith, room, most) in omega arith)
+        has-room unheld true kept = (let g = lengths.2 in let h = fewer-records c.records (home_of c a) v.owned.held l.locks.items k.locks k.places (mod_below a c.records records) unheld in omega arith)
 
     pub writes-refused : (a x : ℕ) (cause : Cause) (m : Local) (u w : View) → item_at a l.writes.items ≡ None → length l.undo.items ≢ l.undo.len → RefusesRead rule c n a cause l v m u → TakesBack n u w → HasWritten good c n a x (writes.Conflict cause) (known_of v o) (known_of w o)
     writes-refused a x cause m u w none room h g = (
@@ -256,7 +263,7 @@ module _ (good : List ℕ → Type 0) (c : Config) (n : ℕ) (l : Local) (v : Vi
     writes-refusal a x (writes.ClockFull clock) m u w none room h g = writes-limit a x clock m u w none room h g
 
     -- THE STORES: of a word under a record that was taken, or was held
-    pub may-store : (a : ℕ) (m : Local) (u : View) → fenced v.gate.fence a ≡ false → SameLengths l → item_at a l.writes.items ≡ None → length l.undo.items ≢ l.undo.len → length l.undo.items ≤ l.undo.len → HasTaken rule c n a l v m u → CanStoreFirst c a m u
+    pub may-store : (a : ℕ) (m : Local) (u : View) → fenced v.gate.fence a ≡ false → HasRoom c l → item_at a l.writes.items ≡ None → length l.undo.items ≢ l.undo.len → length l.undo.items ≤ l.undo.len → HasTaken rule c n a l v m u → CanStoreFirst c a m u
     may-store a m u spared lengths none room most h = subst (λ (y : View). CanStoreFirst c a m y) (sym h.is) (subst (λ (q : Local). CanStoreFirst c a q (laws_taken)) (sym h.local) (record {
       opens = record { has = record { runs = record { phase = i.phase; algorithm = ap has_records eager; plain = ungranted }; inside = k.inside }; open_yet = k.open_yet };
       eager = k.eager;
@@ -275,8 +282,8 @@ module _ (good : List ℕ → Type 0) (c : Config) (n : ℕ) (l : Local) (v : Vi
         laws_taken : View
         laws_taken = record v { history = record v.history { seen = h.seen; front = m.start }; attempt = record v.attempt { start = m.start }; owned = record v.owned { held = h.held }; sample = h.sample; check = h.check; steps = record v.steps { trail = h.more ++ v.steps.trail } }
 
-    pub stores-first : (a x : ℕ) (m q : Local) (u w : View) → a < c.words → item_at a l.writes.items ≡ None → HasTaken rule c n a l v m u → StoresFirst a x m u q w → Stores a x q w
-    stores-first a x m q u w low none h s = record {
+    pub stores-first : (a x : ℕ) (m q : Local) (u w : View) → a < c.words → item_at a l.writes.items ≡ None → length l.undo.items < l.undo.len → HasTaken rule c n a l v m u → StoresFirst a x m u q w → Stores a x q w
+    stores-first a x m q u w low none space h s = record {
       local = by;
       seen = h.seen;
       held = h.held;
@@ -294,7 +301,8 @@ module _ (good : List ℕ → Type 0) (c : Config) (n : ℕ) (l : Local) (v : Vi
       undos = undo_items ∙ (ap (λ (ws : List (ℕ × ℕ)). ws ++ (a, s.old) ∷ []) k.undo ∙ sym (put-new a s.old (items v.owned.undo) (sym (ap (item_at a) k.undo) ∙ none-there a l.undo.items l.writes.items k.undoable none)));
       undoable = ap (map (λ (p : ℕ × ℕ). p.0)) undo_items ∙ (map-last l.undo.items (a, s.old) ∙ (ap (λ (ks : List ℕ). ks ++ a ∷ []) k.undoable ∙ (sym (map-last l.writes.items (a, x)) ∙ sym (ap (map (λ (p : ℕ × ℕ). p.0)) write_items))));
       old_words = inside-more c.words (record { at = a; value = s.old }) v.owned.undo low k.old_words;
-      few = (let e = ap (λ (ws : List (ℕ × ℕ)). length ws) write_items in let f = length-append l.writes.items ((a, x) ∷ []) in let g = h.few in let b = k.few in let d = ap (λ (p : Local). length p.locks.items) s.local in omega arith);
+      short = (let e = ap (λ (ws : List (ℕ × ℕ)). length ws) write_items in let f = length-append l.writes.items ((a, x) ∷ []) in let b = level in let d = ap (λ (p : Local). p.undo.len) s.local in let g = ap (λ (p : Local). p.undo.len) h.local in omega arith);
+      few = λ never. (let e = ap (λ (ws : List (ℕ × ℕ)). length ws) write_items in let f = length-append l.writes.items ((a, x) ∷ []) in let g = h.few in let b = k.few never in let d = ap (λ (p : Local). length p.locks.items) s.local in omega arith);
       places = h.places;
       olds = λ r t. (let b = h.olds r t in let e = start_is in omega arith);
       below = h.below;
@@ -364,7 +372,8 @@ module _ (good : List ℕ → Type 0) (c : Config) (n : ℕ) (l : Local) (v : Vi
       undos = k.undo;
       undoable = k.undoable ∙ sym (ap (λ (q : LogState). map (λ (e : ℕ × ℕ). e.0) q.items) push.1 ∙ put-firsts a x l.writes.items there);
       old_words = k.old_words;
-      few = (let e = ap (λ (q : LogState). length q.items) push.1 in let f = same-length (put a x l.writes.items) l.writes.items (put-firsts a x l.writes.items there) in let g = k.few in omega arith);
+      short = (let e = ap (λ (q : LogState). length q.items) push.1 in let f = same-length (put a x l.writes.items) l.writes.items (put-firsts a x l.writes.items there) in let g = k.short in omega arith);
+      few = λ never. (let e = ap (λ (q : LogState). length q.items) push.1 in let f = same-length (put a x l.writes.items) l.writes.items (put-firsts a x l.writes.items there) in let g = k.few never in omega arith);
       places = k.places;
       olds = k.olds;
       below = k.below;
@@ -397,7 +406,7 @@ module _ (good : List ℕ → Type 0) (c : Config) (n : ℕ) (l : Local) (v : Vi
       pub writes-done : writes_full a (known_of v o) ≡ false → HasWritten good c n a x writes.Done (known_of v o) (known_of w p)
       writes-done room = subst (λ (z : View). HasWritten good c n a x writes.Done (known_of v o) (known_of z p)) (sym s.is) (
         record {
-          continues = record { running = ap is_in i.phase; closing = ap is_closing i.phase; made = refl; grows = grown; alg = refl; fence = refl; base = refl; rises = (omega arith, omega arith); later = laws.begins good c n l v runs q.start s.seen s.more s.moves; installs = refl; depth = ap (λ (d : Local). d.depth) s.local };
+          continues = record { running = ap is_in i.phase; closing = ap is_closing i.phase; made = refl; grows = grown; alg = refl; fence = refl; base = refl; rises = (omega arith, omega arith); later = laws.begins good c n l v runs q.start s.seen s.more s.moves; installs = refl; depth = ap (λ (d : Local). d.depth) s.local; retains = ap (λ (d : Local). d.retains) s.local };
           start = subst (λ (b : Alg). StartMoves b (known_of v o) (known_of y p)) (sym eager) (start-moves s.moves);
           granted = refl;
           holds = refl;
@@ -454,11 +463,13 @@ module _ (good : List ℕ → Type 0) (c : Config) (n : ℕ) (l : Local) (v : Vi
           small = small-more (record { at = a; value = x }) v.owned.in_place small k.small;
           old_words = s.old_words;
           covered = covered;
+          short = s.short;
           few = s.few;
           places = s.places;
           olds = s.olds;
           below = s.below;
           committing = λ e. refl;
+          marked = ap length s.marks ∙ k.marked;
           sole = laws.sole-at good c n l v runs q.start s.seen s.more s.moves;
         });
       }))
@@ -466,5 +477,5 @@ module _ (good : List ℕ → Type 0) (c : Config) (n : ℕ) (l : Local) (v : Vi
           keeps-eager : IsEager c kept y → attempts.Keeps c kept.algorithm kept.granted kept y
           keeps-eager d = subst (λ (b : Alg). attempts.Keeps c b l.granted kept y) (sym (sym i.named ∙ eager)) (subst (λ (b : Bool). attempts.Keeps c OrecEager b kept y) (sym runs.plain) d)
 
-      pub lengths-stored : SameLengths l → SameLengths q
-      lengths-stored same = (s.writes_len ∙ (same.0 ∙ sym s.undo_len), s.locks_len ∙ (same.1 ∙ sym s.undo_len))
+      pub lengths-stored : HasRoom c l → HasRoom c q
+      lengths-stored same = let u = s.undo_len in let k = s.locks_len in (s.writes_len ∙ (same.0 ∙ sym u), (let h = same.1 in omega arith), (let h = same.2 in omega arith))

@@ -34,7 +34,7 @@ use Rattle.rule_base.specs.World.{World}
 use Rattle.rule_orec.specs.OrecOwning.{entered_at}
 use Rattle.rule_orec.specs.OrecSteps.{HasOrec, orec_limit, orec_entry, orec_commit, CanOrecCommit}
 use Rattle.stm_rule.specs.declared.local.Local.{Local}
-use Rattle.stm_rule.specs.Attempts.{IsInside, IsOutside, SameLengths, Stands, StandsBy, ended}
+use Rattle.stm_rule.specs.Attempts.{IsInside, IsOutside, HasRoom, Stands, StandsBy, ended}
 use Rattle.stm_rule.specs.RecordsKept.{cells_of, IsLazy}
 use Rattle.steps_orec.specs.OthersLaws.{clock-others}
 use Rattle.steps_orec.specs.RecordFindings.{FindsClock, FindsCommit, Enters}
@@ -64,13 +64,14 @@ not-yes true e = absurd cc
 not-yes false e = refl
 
 -- an attempt that ended leaves a descriptor that stands
-pub ended-stands : (good : List ℕ → Type 0) (c : Config) (n : ℕ) (q : Local) (z : View) → SameLengths q → IsOutside z → Stands good c n (ended q) z
+pub ended-stands : (good : List ℕ → Type 0) (c : Config) (n : ℕ) (q : Local) (z : View) → HasRoom c q → IsOutside z → Stands good c n (ended q) z
 ended-stands good c n q z lengths out = record { holds = sym out.reopened; lengths = lengths; by = out }
 
-pub stopped-lengths : (l m : Local) → m ≡ record l { locks = m.locks } → m.locks.len ≡ l.locks.len → SameLengths l → SameLengths m
-stopped-lengths l m is len same = (
-  ap (λ (q : Local). q.writes.len) is ∙ (same.0 ∙ sym (ap (λ (q : Local). q.undo.len) is)),
-  len ∙ (same.1 ∙ sym (ap (λ (q : Local). q.undo.len) is)),
+pub stopped-lengths : (c : Config) (l m : Local) → m ≡ record l { locks = m.locks } → m.locks.len ≡ l.locks.len → HasRoom c l → HasRoom c m
+stopped-lengths c l m is len same = let e = ap (λ (q : Local). q.undo.len) is in (
+  ap (λ (q : Local). q.writes.len) is ∙ (same.0 ∙ sym e),
+  (let h = same.1 in omega arith),
+  (let h = same.2 in omega arith),
 )
 
 module _ (good : List ℕ → Type 0) (c : Config) (n : ℕ) (low : n < c.callers) where
@@ -274,7 +275,8 @@ module _ (good : List ℕ → Type 0) (c : Config) (n : ℕ) (low : n < c.caller
       holds = ap (λ (q : Local). q.holds) r.local ∙ (can.holds ∙ sym (ap (λ (y : View). y.gate.holds) r.is));
       lengths = (
         ap (λ (q : Local). q.writes.len) r.local ∙ (can.lengths.0 ∙ sym (ap (λ (q : Local). q.undo.len) r.local)),
-        r.len ∙ (can.lengths.1 ∙ sym (ap (λ (q : Local). q.undo.len) r.local)),
+        (let a = r.len in let b = can.lengths.1 in let e = ap (λ (q : Local). q.undo.len) r.local in omega arith),
+        (let a = r.len in let b = can.lengths.2 in omega arith),
       );
     }
 
@@ -298,6 +300,7 @@ module _ (good : List ℕ → Type 0) (c : Config) (n : ℕ) (low : n < c.caller
       start = (let a = begins in let b : w.attempt.start ≡ m.start = ap (λ (y : View). y.attempt.start) r.is in omega arith);
       log = log_at o w refl (ap (λ (y : View). y.gate) r.is) (ap (λ (y : View). y.attempt.reads) r.is);
       granted = ap (λ (y : View). granted_under y.gate.algorithm y.gate y.lock) r.is;
+      retains = refl;
     }
 
     pub keeps-ready : KeepsRule good c n (known_of v o) → KeepsRule good c n (known_of w o)
@@ -327,7 +330,7 @@ module _ (good : List ℕ → Type 0) (c : Config) (n : ℕ) (low : n < c.caller
       pub stays-again : IsInside good c n in_commit u
       stays-again = let i = r.stays in let k = lazy-of good c n in_commit w r.stays can-ready.lazy can-ready.plain in
           subst (IsInside good c n in_commit) (sym (still_path ∙ (λ j. record (record w { steps = record w.steps { trail = tries ∷ w.steps.trail } }) { history = record w.history { front = i.front j }; attempt = record w.attempt { start = i.start j } })))
-          (laws.stays-ready good c n low in_commit w can-ready m.start m.locks w.history.seen w.owned.held w.sample.loaded w.check (tries ∷ []) k.locks k.places k.versions (k.locked refl) (k.olds refl) k.unchecked i.legal i.below i.sees k.sole)
+          (laws.stays-ready good c n low in_commit w can-ready m.start m.locks w.history.seen w.owned.held w.sample.loaded w.check (tries ∷ []) k.locks k.places k.few k.versions (k.locked refl) (k.olds refl) k.unchecked i.legal i.below i.sees k.sole)
 
       pub stands-again : Stands good c n in_commit u
       stands-again = record {
@@ -355,6 +358,7 @@ module _ (good : List ℕ → Type 0) (c : Config) (n : ℕ) (low : n < c.caller
             later = (let a = begins in let b = start_is in omega arith);
             installs = ap (λ (y : View). reverse y.steps.installs) again_path;
             depth = refl;
+            retains = refl;
           };
           start = subst (λ (a : Alg). StartMoves a (known_of v o) (known_of u p)) (sym named) (moves r.start);
           granted = ap (λ (y : View). granted_under y.gate.algorithm y.gate y.lock) again_path;

@@ -352,6 +352,7 @@ module _ (good : List ℕ → Type 0) (c : Config) (n : ℕ) (low : n < c.caller
         later = (let a = i.start in let b = i.front in let d = r.moves.front in omega arith);
         installs = refl;
         depth = refl;
+        retains = refl;
       };
       still = refl;
       uncommitted = can.free;

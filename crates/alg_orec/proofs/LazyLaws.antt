@@ -239,6 +239,7 @@ module _ (good : List ℕ → Type 0) (c : Config) (n : ℕ) (l : Local) (v : Vi
         later = later moves;
         installs = refl;
         depth = refl;
+        retains = refl;
       };
       start = subst (λ (b : Alg). StartMoves b (known_of v o) (known_of (moved v start seen rs no_sample no_check more) o)) (sym lazy) (start-moves moves);
       granted = refl;
@@ -313,6 +314,7 @@ module _ (good : List ℕ → Type 0) (c : Config) (n : ℕ) (l : Local) (v : Vi
         reads = ap (λ (q : LogState). q.items) is ∙ (sym (put-new a x l.reads.items unread) ∙ ap (put a x) k.reads);
         locks = k.locks;
         places = k.places;
+        few = k.few;
         versions = k.versions;
         open_handed = k.open_handed;
         locked = k.locked;
@@ -340,7 +342,7 @@ module _ (good : List ℕ → Type 0) (c : Config) (n : ℕ) (l : Local) (v : Vi
     pub writes-done : (a x : ℕ) (log : LogState) → a < c.words → x < 2 ^ 64 → log ≡ record l.writes { items = put a x l.writes.items } → writes_full a (known_of v o) ≡ false → HasWritten good c n a x writes.Done (known_of v o) (known_of v (own_of (record l { writes = log; wrote = true })))
     writes-done a x log low small is room = (
       record {
-        continues = record { running = ap is_in i.phase; closing = ap is_closing i.phase; made = refl; grows = grows-same (known_of v o) (known_of v p) refl refl [] refl refl refl refl; alg = refl; fence = refl; base = refl; rises = (omega arith, omega arith); later = omega arith; installs = refl; depth = refl };
+        continues = record { running = ap is_in i.phase; closing = ap is_closing i.phase; made = refl; grows = grows-same (known_of v o) (known_of v p) refl refl [] refl refl refl refl; alg = refl; fence = refl; base = refl; rises = (omega arith, omega arith); later = omega arith; installs = refl; depth = refl; retains = refl };
         start = subst (λ (b : Alg). StartMoves b (known_of v o) (known_of v p)) (sym lazy) (inl refl);
         granted = refl;
         holds = refl;
@@ -413,6 +415,7 @@ module _ (good : List ℕ → Type 0) (c : Config) (n : ℕ) (l : Local) (v : Vi
         reads = k.reads;
         locks = k.locks;
         places = k.places;
+        few = (let e : length l.locks.items ≡ 0 = ap length k.locks ∙ ap (λ (cs : List Cell). length (items cs)) (k.open_handed quiet) in omega arith);
         versions = k.versions;
         open_handed = k.open_handed;
         locked = λ e. absurd (let f : false ≡ true = sym quiet ∙ e in cc);
@@ -470,6 +473,7 @@ module _ (good : List ℕ → Type 0) (c : Config) (n : ℕ) (v : View) (can : C
         reads = refl;
         locks = refl;
         places = λ a e. absurd cc;
+        few = omega arith;
         versions = λ r e. absurd cc;
         open_handed = λ e. refl;
         locked = λ e. absurd cc;

@@ -25,6 +25,8 @@ pub mod EagerCalls
 pub mod EagerLaws
 pub mod EagerReadLaws
 pub mod EagerWriteLaws
+pub mod EagerNestingLaws
+pub mod EagerRollingLaws
 pub mod EagerCommitLaws
 pub mod EagerDirectLaws
 pub mod EagerGrantLaws

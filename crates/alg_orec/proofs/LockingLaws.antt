@@ -133,7 +133,7 @@ none-logged c l v k = let e : length l.locks.items ≡ 0 = ap length (k.can.lock
 module _ (c : Config) (n : ℕ) (l : Local) (v : View) where
   pub locks-none : CanLockAll c l v → Locks c n l v l v []
   locks-none k = record {
-    holds = record { local = refl; len = refl; is = refl; locks = k.can.locks; places = λ r t. absurd (none-held c l v k r t); versions = λ r t. absurd (none-held c l v k r t) };
+    holds = record { local = refl; len = refl; is = refl; locks = k.can.locks; places = λ r t. absurd (none-held c l v k r t); few = (let z = none-logged c l v k in omega arith); versions = λ r t. absurd (none-held c l v k r t) };
     free = λ r t. absurd (none-held c l v k r t);
     apart = λ r t. tt;
     sole = λ r t. absurd (none-held c l v k r t);
@@ -153,7 +153,7 @@ module _ (c : Config) (n : ℕ) (l : Local) (v : View) where
   covers-all held h a t = let p = cells-at l.writes.items a t in subst (λ (b : ℕ). touches held (home_of c b) ≡ true) p.2 (h p.0 p.1)
 
   -- one record more
-  module _ (r version : ℕ) (m m' : Local) (w w' : View) (more : List TrailItem) (k : Locks c n l v m w more) (h : HasLocked c n r version m w m' w') (low : r < c.records) (new : touches w.owned.held r ≡ false) where
+  module _ (r version : ℕ) (m m' : Local) (w w' : View) (more : List TrailItem) (k : Locks c n l v m w more) (h : HasLocked c n r version m w m' w') (low : r < c.records) (new : touches w.owned.held r ≡ false) (few : length m'.locks.items ≤ l.writes.len) where
     abbrev grown : List Cell
     grown = record { at = r; value = version } ∷ w.owned.held
 
@@ -198,6 +198,7 @@ module _ (c : Config) (n : ℕ) (l : Local) (v : View) where
         is = refl;
         locks = held_is;
         places = inside-more c.records (record { at = r; value = version }) w.owned.held low k.holds.places;
+        few = few;
         versions = λ q t. versions_of q (r == q) refl t;
       };
       free = λ q t. free_of q (r == q) refl t;
@@ -223,7 +224,7 @@ module _ (c : Config) (n : ℕ) (l : Local) (v : View) where
     a = a;
     written = written;
     locks = record {
-      holds = record { local = k.holds.local; len = k.holds.len; is = refl; locks = k.holds.locks; places = k.holds.places; versions = k.holds.versions };
+      holds = record { local = k.holds.local; len = k.holds.len; is = refl; locks = k.holds.locks; places = k.holds.places; few = k.holds.few; versions = k.holds.versions };
       free = λ r t. let f = k.free r t in record { late = last ++ f.late; early = f.early; is = ap (λ (s : List TrailItem). last ++ s) f.is ∙ sym (append_assoc last f.late (load_of (Record r) (free_record (over w.owned.held r 0)) ∷ f.early)); untouched = f.untouched };
       apart = λ r t. untouched-last (home_of c a) r m.start cause last before why (k.apart r t);
       sole = k.sole;

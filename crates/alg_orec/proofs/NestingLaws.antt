@@ -1,11 +1,12 @@
 -- What the marks of an attempt of OrecLazy come to.
-use Rattle.std.proofs.Common.{ℕ, ◌≡◌, ◌≤◌, ◌+◌, ◌-◌, List, [], ◌∷◌, ◌++◌, take, Bool, true, false, refl, sym, ap, ◌∙◌, arith, subst}
-use Rattle.std.specs.Prelude.{not}
+use Rattle.std.proofs.Common.{ℕ, ◌≡◌, ◌≤◌, ◌+◌, ◌-◌, List, [], ◌∷◌, ◌++◌, length, take, Bool, true, false, refl, sym, ap, ◌∙◌, arith, subst}
+use Rattle.std.specs.Prelude.{◌||◌, not}
 use Rattle.stm_model.specs.Algorithms.{irrevocable_under}
 use Rattle.stm_model.specs.declared.alg.Alg.{Alg}
 use Rattle.stm_model.specs.declared.alg.Alg.TheVariants.{OrecLazy}
 use Rattle.stm_model.specs.declared.config.Config.{Config}
 use Rattle.stm_model.specs.Memories.{is_empty, Once}
+use Rattle.rule_base.specs.declared.entries.Cell.{Cell}
 use Rattle.rule_base.specs.declared.views.View.{View}
 use Rattle.rule_base.specs.Bridge.{items}
 use Rattle.stm_rule.specs.declared.local.Local.{Local}
@@ -13,7 +14,7 @@ use Rattle.stm_rule.specs.Attempts.{own_of, IsInside, IsPromoted}
 use Rattle.stm_rule.specs.Attempts as attempts
 use Rattle.stm_rule.specs.RecordsKept.{IsLazy, IsWriteSet, HasMarks}
 use Rattle.tx_answers.specs.Answers.{IsMarked, IsRolled, Releases}
-use Rattle.tx_answers.specs.Known.{Known, known_of, granted_under, written_under, is_irrevocable, is_in, is_closing}
+use Rattle.tx_answers.specs.Known.{Known, known_of, granted_under, written_under, is_irrevocable, is_in, is_closing, keeps_records}
 use Rattle.tx_answers.specs.KnownLaws.{grows-same}
 use Rattle.tx_logs.specs.LogStates.{LogState, rolled}
 use Rattle.stm_gate.specs.MarkLaws.{written-same, marks-take, marks-more}
@@ -107,6 +108,7 @@ module _ (good : List ℕ → Type 0) (c : Config) (n : ℕ) (l : Local) (v : Vi
         reads = k.reads;
         locks = k.locks;
         places = k.places;
+        few = (let e : length l.locks.items ≡ 0 = ap length k.locks ∙ ap (λ (cs : List Cell). length (items cs)) (k.open_handed quiet) in omega arith);
         versions = k.versions;
         open_handed = k.open_handed;
         locked = λ e. absurd (let f : false ≡ true = sym quiet ∙ e in cc);
@@ -175,6 +177,7 @@ module _ (good : List ℕ → Type 0) (c : Config) (n : ℕ) (l : Local) (v : Vi
         reads = refl;
         writes = written-now log wrote d set.once ∙ ap (λ (q : LogState). q.items) is;
         depth = refl;
+        retains = ap (λ (a : Alg). keeps_records a || l.retains) (sym lazy);
         marks = ap (λ (q : LogState). q.marks) is;
         opaque = opaque-inside good c n m v (own_of m) stays-rolled;
       }

@@ -1,5 +1,5 @@
 -- What the parts of the commit of an attempt that wrote ask and tell.
-use Rattle.std.specs.Prelude.{ℕ, ◌≡◌, ◌<◌, ◌++◌, ◌⊎◌, Bool, true, false, List, [], None, Result, Ok, Err}
+use Rattle.std.specs.Prelude.{ℕ, ◌≡◌, ◌<◌, ◌++◌, ◌⊎◌, Bool, true, false, List, [], None, Result, Ok, Err, length, ◌≤◌}
 use Rattle.stm_model.specs.declared.alg.Alg.TheVariants.{OrecLazy}
 use Rattle.stm_model.specs.declared.config.Config.{Config}
 use Rattle.stm_model.specs.declared.stop.Cause.{Cause}
@@ -17,7 +17,7 @@ use Rattle.rule_base.specs.Own.{Own}
 use Rattle.rule_base.specs.Ranks.{home_of}
 use Rattle.rule_orec.specs.OrecSteps.{HasOrec}
 use Rattle.stm_rule.specs.declared.local.Local.{Local}
-use Rattle.stm_rule.specs.Attempts.{IsInside, SameLengths}
+use Rattle.stm_rule.specs.Attempts.{IsInside, HasRoom}
 use Rattle.stm_rule.specs.RecordsKept.{cells_of}
 use Rattle.stm_gate.specs.LeavingLaws.{IsUnmade}
 use Rattle.tx_answers.specs.Causes.{Conflicts, has_item}
@@ -33,7 +33,7 @@ pub record CanCommit (good : List ℕ → Type 0) (c : Config) (n : ℕ) (l : Lo
   pub wrote : l.wrote ≡ true
   pub running : l.running ≡ true
   pub holds : l.holds ≡ v.gate.holds
-  pub lengths : SameLengths l
+  pub lengths : HasRoom c l
 
 -- the view after the records were taken, and the reads validated
 abbrev pub readied : View → List Entry → ℕ → List Cell → Bool → Validation → List TrailItem → View
@@ -84,6 +84,7 @@ module _ (good : List ℕ → Type 0) (c : Config) (n : ℕ) where
   pub record IsStopped (cause : Cause) (l : Local) (v : View) (m : Local) (w : View) : Type 0 where
     pub local : m ≡ record l { locks = m.locks }
     pub len : m.locks.len ≡ l.locks.len
+    pub few : length m.locks.items ≤ l.writes.len
     pub can : CanRollBack c m w
     pub gate : w.gate ≡ v.gate
     pub unmade : IsUnmade v w

@@ -13,7 +13,7 @@ use Rattle.rule_base.specs.Bridge.{items}
 use Rattle.rule_base.specs.History.{Inside}
 use Rattle.rule_base.specs.Own.{Own}
 use Rattle.stm_rule.specs.declared.local.Local.{Local}
-use Rattle.stm_rule.specs.Attempts.{IsInside, SameLengths}
+use Rattle.stm_rule.specs.Attempts.{IsInside, HasRoom}
 use Rattle.tx_answers.specs.Causes.{Conflicts}
 use Rattle.tx_answers.specs.Evidence.{Found}
 use Rattle.tx_answers.specs.Known.{Grows, known_of}
@@ -27,7 +27,7 @@ pub record CanCommitPlaced (good : List ℕ → Type 0) (c : Config) (n : ℕ) (
   pub wrote : l.wrote ≡ true
   pub running : l.running ≡ true
   pub holds : l.holds ≡ v.gate.holds
-  pub lengths : SameLengths l
+  pub lengths : HasRoom c l
 
 module _ (good : List ℕ → Type 0) (c : Config) (n : ℕ) where
   -- the reads are valid at the start, which is the clock loaded in this call where the call before answered Again

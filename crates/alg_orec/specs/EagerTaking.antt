@@ -42,7 +42,7 @@ pub record CanTake (c : Config) (a : ℕ) (l : Local) (v : View) : Type 0 where
   pub olds : AllSeen v.attempt.start v.owned.held
   pub below : AllBelow CLOCK_LIMIT v.owned.held
   pub places : Inside c.records v.owned.held
-  pub room : length l.locks.items < l.locks.len
+  pub room : touches v.owned.held (home_of c a) ≡ false → length l.locks.items < l.locks.len
   pub records : 0 < c.records
   pub front : v.history.front ≡ l.start
   pub inside : a < c.words

@@ -9,3 +9,4 @@ pub mod EagerTaking
 pub mod EagerCommitting
 pub mod EagerGranting
 pub mod EagerReading
+pub mod EagerNesting

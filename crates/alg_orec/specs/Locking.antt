@@ -1,5 +1,5 @@
 -- What the parts of a commit ask and tell that take records, store what was written, and give the records back.
-use Rattle.std.specs.Prelude.{ℕ, ◌≡◌, ◌≢◌, ◌+◌, ◌<◌, ◌≤◌, true, false, ◌⊎◌, List, [], ◌∷◌, ◌++◌, Contains, Some, Result, Ok, Err}
+use Rattle.std.specs.Prelude.{ℕ, ◌≡◌, ◌≢◌, ◌+◌, ◌<◌, ◌≤◌, true, false, ◌⊎◌, List, [], ◌∷◌, ◌++◌, Contains, length, Some, Result, Ok, Err}
 use Rattle.stm_model.specs.declared.config.Config.{Config}
 use Rattle.stm_model.specs.declared.config.TheConstants.{CLOCK_LIMIT}
 use Rattle.stm_model.specs.declared.stop.Cause.{Cause}
@@ -35,11 +35,11 @@ pub record CanLock (l : Local) (v : View) : Type 0 where
   pub unraised : v.owned.raised ≡ false
   pub locks : l.locks.items ≡ items v.owned.held
 
--- it holds none, and the log of the records is as long as that of what was written
+-- it holds none, and the log of the records is no shorter than that of what was written
 pub record CanLockAll (c : Config) (l : Local) (v : View) : Type 0 where
   pub can : CanLock l v
   pub none : v.owned.held ≡ []
-  pub lengths : l.locks.len ≡ l.writes.len
+  pub lengths : l.writes.len ≤ l.locks.len
   pub records : 0 < c.records
 
 -- a load found the record free at this version, and no own step had changed it before
@@ -92,6 +92,7 @@ module _ (c : Config) (n : ℕ) where
     pub is : w ≡ holding_still v w.owned.held more
     pub locks : m.locks.items ≡ items w.owned.held
     pub places : Inside c.records w.owned.held
+    pub few : length m.locks.items ≤ l.writes.len
     pub versions : (r : ℕ) → touches w.owned.held r ≡ true → over w.owned.held r 0 ≤ CLOCK_LIMIT
 
   -- each record that is held was free when it was looked at, and no other was changed

@@ -148,7 +148,7 @@ fn finish<K: MemRule>(
     ensures same { IsSameSeat seat.old seat.new × (seat.new.me.0 ≡ record seat.old.me.0 { view = view_of seat.new }) }
     ensures finishes { GivesUp caller (view_of seat.old) (view_of seat.new) }
     ensures idle { local.new ≡ ended (record local.old { committing = false }) }
-    ensures steps { TakesAtMost (2 + local.old.writes.len + local.old.locks.len) (view_of seat.old) (view_of seat.new) }
+    ensures steps { TakesAtMost (2 + local.old.writes.len + length local.old.locks.items) (view_of seat.old) (view_of seat.new) }
 {
     write_back_all(seat, local, stm, caller);
     release_all(seat, local, stm, caller, time);

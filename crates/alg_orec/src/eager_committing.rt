@@ -1,14 +1,14 @@
 //! The end of an attempt of OrecEager: its commit, and what cancels it.
 ghost use Rattle.stm_rule.specs.Counting.{TakesAtMost};
 ghost use Rattle.tx_answers.specs.Counting.{AddsAtMost};
-ghost use Rattle.std.specs.Prelude.{◌≡◌, ℕ, ◌<◌, ◌≤◌, true, false, ◌+◌, ◌*◌};
+ghost use Rattle.std.specs.Prelude.{length, ◌≡◌, ℕ, ◌<◌, ◌≤◌, true, false, ◌+◌, ◌*◌};
 ghost use Rattle.stm_model.specs.declared.alg.Alg.TheVariants.{OrecEager};
 ghost use Rattle.stm_rule.specs.Attempts.{own_of, Stands};
 ghost use Rattle.stm_rule.specs.Callers.{IsOf, IsSameCaller, IsSeatOf};
 ghost use Rattle.stm_gate.specs.Knowing.{known, number};
 ghost use Rattle.stm_rule.specs.Kept.{IsSameSeat, view_of};
 ghost use Rattle.tx_answers.specs.Answers.{KeepsRule, Commits, Cancels};
-ghost use Rattle.tx_answers.specs.Known.{known_of};
+ghost use Rattle.tx_answers.specs.Known.{held_limit, known_of, wrote};
 ghost use Rattle.alg_orec.specs.EagerCommitting.{CanCommitPlaced, Revalidates, CanGiveDirect};
 ghost use Rattle.alg_orec.specs.Locking.{ReleasesAll};
 
@@ -27,7 +27,8 @@ use stm_rule::stm::{Stm, Token};
 use tx_answers::answers::{Cancel, Commit};
 
 /// Commits the attempt: what it wrote becomes one entry of the history, unless another transaction came in between.
-/// Where it wrote nothing, one step, two where it holds the gate; else those of `commit_placed`, or of `commit_direct`.
+/// Where it wrote nothing, one step, two where it holds the gate, and those of a rollback where it was rolled back; else
+/// those of `commit_placed`, or of `commit_direct`.
 pub fn commit<K: MemRule>(desc: &mut Desc<K>, stm: &Stm<K>) -> Commit
     requires stm { IsOf desc.old stm.now }
     requires running { (known desc.old).running ≡ true }
@@ -35,7 +36,7 @@ pub fn commit<K: MemRule>(desc: &mut Desc<K>, stm: &Stm<K>) -> Commit
     requires keeps { KeepsRule (K.good stm.now.rule) stm.now.config (number desc.old) (known desc.old) }
     ensures same { IsSameCaller desc.old desc.new }
     ensures commits { Commits (K.good stm.now.rule) stm.now.config (number desc.old) result (known desc.old) (known desc.new) }
-    ensures steps { AddsAtMost (5 + (known desc.old).reads_limit + 2 * (known desc.old).writes_limit) (known desc.old) (known desc.new) }
+    ensures steps { AddsAtMost (5 + (known desc.old).reads_limit + (known desc.old).writes_limit + held_limit stm.now.config (known desc.old)) (known desc.old) (known desc.new) }
 {
     if desc.local.granted {
         return commit_direct(desc, stm);
@@ -43,7 +44,11 @@ pub fn commit<K: MemRule>(desc: &mut Desc<K>, stm: &Stm<K>) -> Commit
     let caller = desc.number;
     if !desc.local.wrote {
         let time = desc.local.start;
-        leave(&mut desc.seat, &mut desc.local, stm, caller);
+        if desc.local.locks.count() == 0 {
+            leave(&mut desc.seat, &mut desc.local, stm, caller);
+        } else {
+            take_back(&mut desc.seat, &mut desc.local, stm, caller);
+        }
         return Commit::ReadOnly { time };
     }
     commit_placed(&mut desc.seat, &mut desc.local, stm, caller)
@@ -56,7 +61,7 @@ pub fn cancel<K: MemRule>(desc: &mut Desc<K>, stm: &Stm<K>) -> Cancel
     requires algorithm { (known desc.old).alg ≡ OrecEager }
     ensures same { IsSameCaller desc.old desc.new }
     ensures cancels { Cancels (K.good stm.now.rule) stm.now.config (number desc.old) result (known desc.old) (known desc.new) }
-    ensures steps { AddsAtMost (3 + 2 * (known desc.old).writes_limit) (known desc.old) (known desc.new) }
+    ensures steps { AddsAtMost (3 + (known desc.old).writes_limit + held_limit stm.now.config (known desc.old)) (known desc.old) (known desc.new) }
 {
     if desc.local.granted {
         return Cancel::Irrevocable;
@@ -82,7 +87,7 @@ fn commit_placed<K: MemRule>(
     ensures same { IsSameSeat seat.old seat.new × (seat.new.me.0 ≡ record seat.old.me.0 { view = view_of seat.new }) }
     ensures commits { Commits (K.good stm.now.rule) stm.now.config caller result (known_of (view_of seat.old) (own_of local.old)) (known_of (view_of seat.new) (own_of local.new)) }
     ensures stands { Stands (K.good stm.now.rule) stm.now.config caller local.new (view_of seat.new) }
-    ensures steps { TakesAtMost (5 + local.old.reads.len + local.old.undo.len + local.old.locks.len) (view_of seat.old) (view_of seat.new) }
+    ensures steps { TakesAtMost (5 + local.old.reads.len + local.old.undo.len + length local.old.locks.items) (view_of seat.old) (view_of seat.new) }
 {
     if let Err(cause) = revalidate(seat, local, stm, caller) {
         take_back(seat, local, stm, caller);
@@ -139,11 +144,14 @@ fn commit_direct<K: MemRule>(desc: &mut Desc<K>, stm: &Stm<K>) -> Commit
     requires keeps { KeepsRule (K.good stm.now.rule) stm.now.config (number desc.old) (known desc.old) }
     ensures same { IsSameCaller desc.old desc.new }
     ensures commits { Commits (K.good stm.now.rule) stm.now.config (number desc.old) result (known desc.old) (known desc.new) }
-    ensures steps { AddsAtMost (5 + (known desc.old).writes_limit) (known desc.old) (known desc.new) }
+    ensures steps { AddsAtMost (5 + held_limit stm.now.config (known desc.old)) (known desc.old) (known desc.new) }
 {
     let caller = desc.number;
     let start = desc.local.start;
     if !desc.local.wrote {
+        if desc.local.locks.count() > 0 {
+            return quit_direct(desc, stm);
+        }
         leave(&mut desc.seat, &mut desc.local, stm, caller);
         return Commit::ReadOnly { time: start };
     }
@@ -157,7 +165,32 @@ fn commit_direct<K: MemRule>(desc: &mut Desc<K>, stm: &Stm<K>) -> Commit
     Commit::Committed { time }
 }
 
-/// Gives back the records of a promoted attempt, each with the time of its entry as its version. A step for each.
+/// Ends a promoted attempt that was rolled back and wrote nothing else: it raises the clock with no entry, gives its
+/// records back at that number, stores it in BASE and in DONE, and reopens the gate. Five steps, and one for each record.
+fn quit_direct<K: MemRule>(desc: &mut Desc<K>, stm: &Stm<K>) -> Commit
+    requires stm { IsOf desc.old stm.now }
+    requires running { (known desc.old).running ≡ true }
+    requires algorithm { (known desc.old).alg ≡ OrecEager }
+    requires granted { (known desc.old).granted ≡ true }
+    requires unwritten { wrote (known desc.old) ≡ false }
+    requires kept { (known desc.old).retains ≡ true }
+    ensures same { IsSameCaller desc.old desc.new }
+    ensures commits { Commits (K.good stm.now.rule) stm.now.config (number desc.old) result (known desc.old) (known desc.new) }
+    ensures steps { AddsAtMost (5 + held_limit stm.now.config (known desc.old)) (known desc.old) (known desc.new) }
+{
+    let caller = desc.number;
+    let start = desc.local.start;
+    let alg = desc.local.algorithm;
+    let time = start + alg.entry_rise();
+    stm.direct_quit(&mut desc.seat, caller, alg, time);
+    give_direct(&mut desc.seat, &desc.local, stm, caller, time);
+    stm.store_base(&mut desc.seat, caller, time);
+    stm.store_done(&mut desc.seat, caller, time);
+    leave(&mut desc.seat, &mut desc.local, stm, caller);
+    Commit::ReadOnly { time: start }
+}
+
+/// Gives back the records of a promoted attempt, each with this time as its version. A step for each.
 fn give_direct<K: MemRule>(
     seat: &mut Token<K>,
     local: &Local,
@@ -170,7 +203,7 @@ fn give_direct<K: MemRule>(
     requires view { CanGiveDirect stm.now.config time local.now (view_of seat.old) }
     ensures same { IsSameSeat seat.old seat.new × (seat.new.me.0 ≡ record seat.old.me.0 { view = view_of seat.new }) }
     ensures releases { ReleasesAll (view_of seat.old) (view_of seat.new) }
-    ensures steps { TakesAtMost local.now.locks.len (view_of seat.old) (view_of seat.new) }
+    ensures steps { TakesAtMost (length local.now.locks.items) (view_of seat.old) (view_of seat.new) }
 {
     for i in 0..local.locks.count() {
         let (r, _) = local.locks.item(i);

@@ -1,6 +1,6 @@
 //! How an attempt of OrecEager is taken back.
 ghost use Rattle.stm_rule.specs.Counting.{TakesAtMost};
-ghost use Rattle.std.specs.Prelude.{◌≡◌, ℕ, ◌<◌, ◌≤◌, false, ◌+◌};
+ghost use Rattle.std.specs.Prelude.{length, ◌≡◌, ℕ, ◌<◌, ◌≤◌, false, ◌+◌};
 ghost use Rattle.stm_rule.specs.Attempts.{ended, IsFenceOf};
 ghost use Rattle.stm_rule.specs.Callers.{IsSeatOf};
 ghost use Rattle.stm_rule.specs.Kept.{IsSameSeat, view_of};
@@ -32,7 +32,7 @@ pub(crate) fn take_back<K: MemRule>(
     ensures same { IsSameSeat seat.old seat.new × (seat.new.me.0 ≡ record seat.old.me.0 { view = view_of seat.new }) }
     ensures takes_back { TakesBack caller (view_of seat.old) (view_of seat.new) }
     ensures idle { local.new ≡ ended (record local.old { committing = false }) }
-    ensures steps { TakesAtMost (3 + local.old.undo.len + local.old.locks.len) (view_of seat.old) (view_of seat.new) }
+    ensures steps { TakesAtMost (3 + local.old.undo.len + length local.old.locks.items) (view_of seat.old) (view_of seat.new) }
 {
     give_back(seat, local, stm, caller);
     local.committing = false;
@@ -48,7 +48,7 @@ fn give_back<K: MemRule>(seat: &mut Token<K>, local: &Local, stm: &Stm<K>, calle
     requires view { CanGiveBack stm.now.config local.now (view_of seat.old) }
     ensures same { IsSameSeat seat.old seat.new × (seat.new.me.0 ≡ record seat.old.me.0 { view = view_of seat.new }) }
     ensures gives_back { GivesBack (view_of seat.old) (view_of seat.new) }
-    ensures steps { TakesAtMost (1 + local.now.undo.len + local.now.locks.len) (view_of seat.old) (view_of seat.new) }
+    ensures steps { TakesAtMost (1 + local.now.undo.len + length local.now.locks.items) (view_of seat.old) (view_of seat.new) }
 {
     if local.locks.count() == 0 {
         return;
@@ -91,7 +91,7 @@ fn release_all_above<K: MemRule>(seat: &mut Token<K>, local: &Local, stm: &Stm<K
     requires view { CanReleaseAbove stm.now.config local.now (view_of seat.old) }
     ensures same { IsSameSeat seat.old seat.new × (seat.new.me.0 ≡ record seat.old.me.0 { view = view_of seat.new }) }
     ensures releases { ReleasesAll (view_of seat.old) (view_of seat.new) }
-    ensures steps { TakesAtMost local.now.locks.len (view_of seat.old) (view_of seat.new) }
+    ensures steps { TakesAtMost (length local.now.locks.items) (view_of seat.old) (view_of seat.new) }
 {
     for i in 0..local.locks.count() {
         let (r, version) = local.locks.item(i);

@@ -6,7 +6,7 @@ ghost use Rattle.stm_rule.specs.Kept.{IsSameSeat, view_of};
 ghost use Rattle.stm_rule.specs.Counting.{TakesAtMost};
 ghost use Rattle.tx_answers.specs.Answers.{Irrevs};
 ghost use Rattle.tx_answers.specs.Counting.{AddsAtMost};
-ghost use Rattle.tx_answers.specs.Known.{IsRunning, is_irrevocable};
+ghost use Rattle.tx_answers.specs.Known.{held_limit, IsRunning, is_irrevocable};
 ghost use Rattle.stm_gate.specs.Knowing.{known, number};
 ghost use Rattle.stm_gate.specs.Granting.{IsAlone, Grants};
 ghost use Rattle.alg_orec.specs.EagerGranting.{CanGrantPlaced, GrantsPlaced};
@@ -33,7 +33,7 @@ pub fn become_irrevocable<K: MemRule>(desc: &mut Desc<K>, stm: &Stm<K>) -> Irrev
     requires algorithm { (known desc.old).alg ≡ OrecEager }
     ensures same { IsSameCaller desc.old desc.new }
     ensures irrevs { Irrevs (K.good stm.now.rule) stm.now.config (number desc.old) result (known desc.old) (known desc.new) }
-    ensures steps { AddsAtMost (7 + stm.now.config.callers + (known desc.old).reads_limit + 2 * (known desc.old).writes_limit) (known desc.old) (known desc.new) }
+    ensures steps { AddsAtMost (7 + stm.now.config.callers + (known desc.old).reads_limit + (known desc.old).writes_limit + held_limit stm.now.config (known desc.old)) (known desc.old) (known desc.new) }
 {
     if desc.local.granted {
         return Irrev::Granted;
@@ -54,7 +54,7 @@ fn grant<K: MemRule>(desc: &mut Desc<K>, stm: &Stm<K>) -> Irrev
     requires alone { IsAlone stm.now.config.callers (number desc.old) desc.old.view }
     ensures same { IsSameCaller desc.old desc.new }
     ensures grants { Grants (K.good stm.now.rule) stm.now.config (number desc.old) result (known desc.old) (known desc.new) }
-    ensures steps { AddsAtMost (5 + (known desc.old).reads_limit + 2 * (known desc.old).writes_limit) (known desc.old) (known desc.new) }
+    ensures steps { AddsAtMost (5 + (known desc.old).reads_limit + (known desc.old).writes_limit + held_limit stm.now.config (known desc.old)) (known desc.old) (known desc.new) }
 {
     let caller = desc.number;
     if let Err(refusal) = grant_reads(&mut desc.seat, &mut desc.local, stm, caller) {

@@ -31,8 +31,7 @@ pub(crate) fn roll_back<K: MemRule>(
     ensures same { IsSameSeat seat.old seat.new × (seat.new.me.0 ≡ record seat.old.me.0 { view = view_of seat.new }) }
     ensures gives_up { GivesUp caller (view_of seat.old) (view_of seat.new) }
     ensures idle { local.new ≡ ended (record local.old { committing = false }) }
-    ensures steps { TakesAtMost (2 + local.old.locks.len) (view_of seat.old) (view_of seat.new) }
-    ensures unheld { length local.old.locks.items ≡ 0 → TakesAtMost 2 (view_of seat.old) (view_of seat.new) }
+    ensures steps { TakesAtMost (2 + length local.old.locks.items) (view_of seat.old) (view_of seat.new) }
 {
     for i in 0..local.locks.count() {
         let (r, version) = local.locks.item(i);

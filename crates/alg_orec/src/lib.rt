@@ -6,6 +6,7 @@ pub mod committing;
 pub mod eager_committing;
 mod eager_ending;
 pub mod eager_granting;
+pub mod eager_nesting;
 pub mod eager_reading;
 mod eager_taking;
 mod ending;

@@ -136,7 +136,7 @@ pub(crate) fn release_all<K: MemRule>(
     requires view { OwesNothing stm.now.config time local.now (view_of seat.old) }
     ensures same { IsSameSeat seat.old seat.new × (seat.new.me.0 ≡ record seat.old.me.0 { view = view_of seat.new }) }
     ensures releases { ReleasesAll (view_of seat.old) (view_of seat.new) }
-    ensures steps { TakesAtMost local.now.locks.len (view_of seat.old) (view_of seat.new) }
+    ensures steps { TakesAtMost (length local.now.locks.items) (view_of seat.old) (view_of seat.new) }
 {
     for i in 0..local.locks.count() {
         let (r, _) = local.locks.item(i);

@@ -1,16 +1,15 @@
 -- What a check showed to its caller.
-use Rattle.std.proofs.Common.{ℕ, ◌≡◌, List, ◌++◌, refl, sym, ap, ◌∙◌, subst, append_assoc}
+use Rattle.std.proofs.Common.{ℕ, ◌≡◌, List, ◌++◌, refl, sym, ◌∙◌, subst}
 use Rattle.stm_model.specs.declared.config.Config.{Config}
 use Rattle.rule_base.specs.declared.entries.Entry.{Entry}
 use Rattle.rule_base.specs.declared.views.GateView.{GateView}
-use Rattle.rule_base.specs.declared.views.TrailItem.{TrailItem}
 use Rattle.rule_base.specs.declared.views.View.{View}
 use Rattle.rule_base.specs.Bridge.{of_words, public_history}
 use Rattle.rule_base.specs.History.{upto}
 use Rattle.alg_ring.proofs.Seen.{upto-upto}
 use Rattle.rule_base.specs.Own.{Own}
 use Rattle.rule_ring.specs.RingSteps.{RingBegins}
-use Rattle.tx_answers.specs.Known.{Known, Grows, known_of}
+use Rattle.tx_answers.specs.Known.{Grows, known_of}
 use Rattle.stm_gate.specs.Opacity.{later-seen}
 use Rattle.alg_ring.specs.Checking.{Passes}
 

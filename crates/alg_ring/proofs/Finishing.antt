@@ -27,7 +27,7 @@ use Rattle.rule_base.specs.StepKinds.{Nothing, Tells, view_after}
 use Rattle.rule_ring.specs.RingSteps.{HasTurn, ring_tick, ring_free, ring_done, CanRingDone, RingEnters, no_read, no_turn}
 use Rattle.rule_seq.specs.CglSteps.{fresh_lock}
 use Rattle.stm_rule.specs.declared.local.Local.{Local}
-use Rattle.stm_rule.specs.Attempts.{IsInside, IsOutside, SameLengths, ended, own_of}
+use Rattle.stm_rule.specs.Attempts.{IsInside, IsOutside, HasRoom, ended, own_of}
 use Rattle.stm_rule.specs.Kept.{SeatTells}
 use Rattle.stm_rule.specs.RecordsKept.{cells_of}
 use Rattle.stm_rule.specs.RingKept.{IsRing}
@@ -43,7 +43,7 @@ use Rattle.stm_model.specs.Logs as logs
 use Rattle.alg_ring.specs.Calls.{HasAttempt, StandsTold, TookTurn, IsDecided, freed, CanEnter, Enters, entered_at, writing, CanWriteBack, WritesBack}
 use Rattle.alg_ring.specs.Checking.{CanCheck, Checks, Fails, passed_at}
 use Rattle.alg_ring.proofs.Checked.{passes-grows}
-use Rattle.alg_ring.proofs.Refuting.{refuted, finds-between}
+use Rattle.alg_ring.proofs.Refuting.{refuted}
 use Rattle.alg_ring.proofs.Running as attempt
 
 abbrev pub clock_found : ℕ → TrailItem
@@ -59,7 +59,7 @@ pub freed-is : {K : Type 0} (s t : SeatView K) → SeatTells ring_free Nothing s
 freed-is {K} s t h = ap (λ (y : SeatView K). y.view) h.3
 
 -- the lock is free and the attempt has left: what was decided is told
-pub finishes : (good : List ℕ → Type 0) (c : Config) (n : ℕ) (answer : Commit) (l m : Local) (v u w : View) → IsDecided good c n answer v l u → SameLengths l → w ≡ left n (freed u) → m ≡ ended l → IsOutside w → StandsTold good c n (Commits good c n answer) l v m w
+pub finishes : (good : List ℕ → Type 0) (c : Config) (n : ℕ) (answer : Commit) (l m : Local) (v u w : View) → IsDecided good c n answer v l u → HasRoom c l → w ≡ left n (freed u) → m ≡ ended l → IsOutside w → StandsTold good c n (Commits good c n answer) l v m w
 finishes good c n answer l m v u w d lengths end idle out = subst (λ (k : Local). StandsTold good c n (Commits good c n answer) l v k w) (sym idle) (record {
   stands = record { holds = sym out.reopened; lengths = lengths; by = out };
   told = subst (λ (y : View). Commits good c n answer (known_of v (own_of l)) (known_of y (own_of l))) (sym end) d.commits;

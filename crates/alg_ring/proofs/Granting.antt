@@ -48,7 +48,7 @@ use Rattle.alg_ring.specs.Checking.{CanCheckToGrant, ChecksToGrant, Fails, passe
 use Rattle.alg_ring.proofs.Checked.{passes-grows}
 use Rattle.alg_ring.proofs.Entering.{some-cells}
 use Rattle.alg_ring.proofs.Finishing.{clock_found}
-use Rattle.alg_ring.proofs.Refuting.{refuted, finds-between}
+use Rattle.alg_ring.proofs.Refuting.{refuted}
 use Rattle.alg_ring.proofs.Running as attempt
 
 none-written : (ws : List (ℕ × ℕ)) → not (is_empty ws) ≡ false → cells_of ws ≡ []
@@ -288,6 +288,7 @@ module _ (good : List ℕ → Type 0) (c : Config) (n : ℕ) (l : Local) (v : Vi
             later = (let a : x.attempt.start ≡ start = ap (λ (y : View). y.attempt.start) stored-path in let b : w.attempt.start ≡ v.attempt.start = ap (λ (y : View). y.attempt.start) settled-path in let d = p.0.later in omega arith);
             installs = ap (λ (y : View). reverse y.steps.installs) stored-path;
             depth = refl;
+            retains = refl;
           };
           still = ap (λ (y : View). y.steps.rises) stored-path;
           uncommitted = can.free;

@@ -1,6 +1,6 @@
 -- What the marks of an attempt of RingSW come to.
 use Rattle.std.proofs.Common.{ℕ, suc, ◌≡◌, ◌<◌, ◌≤◌, ◌+◌, ◌-◌, List, [], ◌∷◌, ◌++◌, length, get_or, take, Bool, true, false, refl, sym, ap, ◌∙◌, arith, subst}
-use Rattle.std.specs.Prelude.{not, slice_index, bit_or}
+use Rattle.std.specs.Prelude.{◌||◌, not, slice_index, bit_or}
 use Rattle.std.proofs.Math.Seq.{take-suc}
 use Rattle.stm_model.specs.Algorithms.{irrevocable_under}
 use Rattle.stm_model.specs.declared.alg.Alg.{Alg}
@@ -17,7 +17,7 @@ use Rattle.rule_ring.specs.SlotFilter.{slot_filter}
 use Rattle.stm_rule.specs.RecordsKept.{cells_of, IsWriteSet, HasMarks}
 use Rattle.stm_rule.specs.RingKept.{IsRing}
 use Rattle.tx_answers.specs.Answers.{IsMarked, IsRolled, Releases}
-use Rattle.tx_answers.specs.Known.{Known, known_of, granted_under, written_under, is_irrevocable, is_in, is_closing}
+use Rattle.tx_answers.specs.Known.{Known, known_of, granted_under, written_under, is_irrevocable, is_in, is_closing, keeps_records}
 use Rattle.tx_answers.specs.KnownLaws.{grows-same}
 use Rattle.tx_logs.specs.Filters.{address_word, filter_word}
 use Rattle.tx_logs.specs.LogStates.{LogState, rolled}
@@ -191,6 +191,7 @@ module _ (good : List ℕ → Type 0) (c : Config) (n : ℕ) (l : Local) (v : Vi
         reads = refl;
         writes = written-now log stored wrote d set.once ∙ ap (λ (q : LogState). q.items) is;
         depth = refl;
+        retains = ap (λ (a : Alg). keeps_records a || l.retains) (sym ring);
         marks = ap (λ (q : LogState). q.marks) is;
         opaque = opaque-inside good c n m v (own_of m) stays-rolled;
       }

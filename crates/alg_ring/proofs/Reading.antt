@@ -33,7 +33,7 @@ use Rattle.tx_answers.specs.Answers.{HasRead, GoesOn, Quits, StartMoves}
 use Rattle.tx_answers.specs.Causes.{Conflicts, has_item, reads_full}
 use Rattle.tx_answers.specs.Known.{Grows, known_of, written_under, is_irrevocable, is_in, is_closing}
 use Rattle.stm_gate.specs.Leaving.{left, last_steps}
-use Rattle.stm_gate.specs.LeavingLaws.{quits-left, found-left}
+use Rattle.stm_gate.specs.LeavingLaws.{quits-left}
 use Rattle.stm_gate.specs.Logging.{log_of, reads-logged}
 use Rattle.stm_gate.specs.Opacity.{opaque-at, later-seen}
 use Rattle.alg_ring.specs.Calls.{LoadsNew}
@@ -141,7 +141,7 @@ module _ (good : List ℕ → Type 0) (c : Config) (n a : ℕ) (l : Local) (v : 
 
         goes : GoesOn (known_of v o) (known_of after o)
         goes = record {
-          continues = record { running = ap is_in i.phase; closing = ap is_closing i.phase; made = refl; grows = grown; alg = refl; fence = refl; base = refl; rises = (omega arith, omega arith); later = p.later; installs = refl; depth = refl };
+          continues = record { running = ap is_in i.phase; closing = ap is_closing i.phase; made = refl; grows = grown; alg = refl; fence = refl; base = refl; rises = (omega arith, omega arith); later = p.later; installs = refl; depth = refl; retains = refl };
           start = subst (λ (b : Alg). StartMoves b (known_of v o) (known_of after o)) (sym named) start-moves;
           granted = refl;
           holds = refl;

@@ -1,6 +1,6 @@
 -- What a check that failed tells the caller: another entry came in between.
-use Rattle.std.proofs.Common.{ℕ, ◌≡◌, ◌<◌, ◌+◌, ◌*◌, List, [], ◌∷◌, ◌++◌, refl, sym, ap, ◌∙◌, arith, subst, ⊎_elim, append_assoc}
-use Rattle.std.specs.Prelude.{Option, Some, slice_index, bit_and}
+use Rattle.std.proofs.Common.{ℕ, ◌≡◌, ◌<◌, List, [], ◌∷◌, ◌++◌, refl, sym, ap, ◌∙◌, arith, subst, ⊎_elim, append_assoc}
+use Rattle.std.specs.Prelude.{Option, slice_index, bit_and}
 use Rattle.stm_model.specs.declared.alg.Alg.TheVariants.{RingSw}
 use Rattle.stm_model.specs.declared.config.Config.{Config}
 use Rattle.stm_model.specs.declared.stop.Cause.{Cause}
@@ -10,12 +10,10 @@ use Rattle.rule_base.specs.declared.layout.At.TheVariants.{Clock}
 use Rattle.rule_base.specs.declared.layout.TheConstants.{SLOT_WORDS}
 use Rattle.rule_base.specs.declared.views.Act.TheVariants.{Load}
 use Rattle.rule_base.specs.declared.views.TrailItem.{TrailItem}
-use Rattle.rule_base.specs.declared.views.View.{View}
-use Rattle.rule_base.specs.Own.{Own}
 use Rattle.tx_answers.specs.Causes.{Conflicts, read_filter}
 use Rattle.tx_answers.specs.Evidence.{Found}
 use Rattle.tx_answers.specs.SlotEvidence.{InTrail, FirstMet, FindsFirst, clock_load}
-use Rattle.tx_answers.specs.Known.{Known, known_of}
+use Rattle.tx_answers.specs.Known.{Known}
 use Rattle.alg_ring.specs.Checking.{Refutes}
 use Rattle.alg_ring.proofs.FilterWords.{part-by, meets-same, lowest-same}
 use Rattle.alg_ring.proofs.Words.{trail-right, trail-left}

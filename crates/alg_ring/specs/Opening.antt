@@ -1,67 +1,20 @@
 -- What a call knows of the descriptor that it is given, and what it tells of it.
-use Rattle.std.proofs.Common.{ℕ, ◌≡◌, ◌<◌, List, true, sym, ap, ◌∙◌, subst}
-use Rattle.std.specs.Prelude.{Some}
+use Rattle.std.proofs.Common.{ℕ, ◌≡◌, List, true, sym, ap, ◌∙◌}
 use Rattle.stm_model.specs.declared.alg.Alg.TheVariants.{RingSw}
-use Rattle.stm_model.specs.declared.config.Config.{Config}
-use Rattle.rule_base.specs.declared.seats.Role.TheVariants.{Caller}
-use Rattle.rule_base.specs.declared.seats.SeatView.{SeatView}
 use Rattle.rule_base.specs.declared.seats.Who.{Who}
 use Rattle.rule_base.specs.declared.views.View.{View}
-use Rattle.rule_base.specs.Own.{Own}
 use Rattle.stm_rule.specs.declared.local.Local.{Local}
 use Rattle.stm_rule.specs.declared.stm.Stm.{Stm}
-use Rattle.stm_rule.specs.Attempts.{Stands, good_by, own_of}
-use Rattle.stm_rule.specs.Callers.{Handle, IsOf}
-use Rattle.tx_answers.specs.Known.{Known, known_of, caller_of}
-use Rattle.stm_gate.specs.Knowing.{known, number}
-use Rattle.stm_gate.specs.Standing.{stands-of}
-use Rattle.stm_gate.specs.Told.{stands-back}
+use Rattle.stm_rule.specs.Callers.{Handle}
+use Rattle.tx_answers.specs.Known.{Known}
+use Rattle.stm_gate.specs.Knowing.{known}
 use Rattle.alg_ring.specs.Calls.{HasAttempt}
+pub use Rattle.stm_gate.specs.Opening.{Opened, opened, of-view, tells-of, stands-after}
 
-module _ {K : Type 0} (good : K → List ℕ → Type 0) (stm : Stm K) where
-  -- e is the descriptor of caller n, with this view and these fields
-  pub record Opened (e : Handle K) (who : Who K) (v : View) (n : ℕ) (l : Local) : Type 0 where
-    pub view : e.view ≡ v
-    pub knows : known e ≡ known_of v (own_of l)
-    pub name : number e ≡ n
-    pub low : n < stm.config.callers
-    pub config : who.config ≡ stm.config
-    pub rule : who.rule ≡ Some stm.rule
-    pub stands : Stands (good stm.rule) stm.config n l v
-
-  pub opened : {d e : Handle K} (n : ℕ) (l : Local) → d ≡ e → d.own ≡ own_of l → d.who.role ≡ Caller n → n < d.who.config.callers → Stands (good_by good d.who.rule) d.who.config n l d.view → IsOf e stm → Opened e d.who d.view n l
-  opened {d} {e} n l same own role low stands belongs = record {
-    view = ap (λ (p : Handle K). p.view) (sym same);
-    knows = ap known (sym same) ∙ ap (λ (o : Own). known_of d.view o) own;
-    name = ap number (sym same) ∙ ap caller_of role;
-    low = subst (λ (c : Config). n < c.callers) config low;
-    config = config;
-    rule = rule;
-    stands = stands-of good stm.config stm.rule d.who n l d.view config rule stands;
+module _ {K : Type 0} (good : K → List ℕ → Type 0) (stm : Stm K) {e : Handle K} {who : Who K} {v : View} {n : ℕ} {l : Local} (a : Opened good stm e who v n l) where
+  pub has-attempt : (known e).running ≡ true → (known e).alg ≡ RingSw → HasAttempt (good stm.rule) stm.config n l v
+  has-attempt running alg = record {
+    stands = a.stands;
+    running = ap (λ (k : Known). k.running) (sym a.knows) ∙ running;
+    named = ap (λ (k : Known). k.alg) (sym a.knows) ∙ alg;
   }
-    where
-      config : d.who.config ≡ stm.config
-      config = ap (λ (p : Handle K). p.who.config) same ∙ belongs.config
-
-      rule : d.who.rule ≡ Some stm.rule
-      rule = ap (λ (p : Handle K). p.who.rule) same ∙ belongs.rule
-
-  module _ {e : Handle K} {who : Who K} {v : View} {n : ℕ} {l : Local} (a : Opened e who v n l) where
-    -- what is known of the descriptor is known of its view
-    pub of-view : (P : ℕ → Known → Type 0) → P (number e) (known e) → P n (known_of v (own_of l))
-    of-view P p = subst (λ (k : Known). P n k) a.knows (subst (λ (k : ℕ). P k (known e)) a.name p)
-
-    pub has-attempt : (known e).running ≡ true → (known e).alg ≡ RingSw → HasAttempt (good stm.rule) stm.config n l v
-    has-attempt running alg = record {
-      stands = a.stands;
-      running = ap (λ (k : Known). k.running) (sym a.knows) ∙ running;
-      named = ap (λ (k : Known). k.alg) (sym a.knows) ∙ alg;
-    }
-
-    -- and what is told of the view is told of the descriptor
-    pub tells-of : (P : ℕ → Known → Known → Type 0) (w : Known) → P n (known_of v (own_of l)) w → P (number e) (known e) w
-    tells-of P w p = subst (λ (k : ℕ). P k (known e) w) (sym a.name) (subst (λ (k : Known). P n k w) (sym a.knows) p)
-
-    -- which stands, with the fields and the view that it has then
-    pub stands-after : (t : SeatView K) (m : Local) → t.who ≡ who → Stands (good stm.rule) stm.config n m t.view → Stands (good_by good t.who.rule) t.who.config n m t.view
-    stands-after t m same stands = stands-back good stm.config stm.rule t.who n m t.view (ap (λ (p : Who K). p.config) same ∙ a.config) (ap (λ (p : Who K). p.rule) same ∙ a.rule) stands

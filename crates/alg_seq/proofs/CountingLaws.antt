@@ -1,5 +1,5 @@
 -- Steps are counted one by one.
-use Rattle.std.proofs.Common.{ℕ, Bool, true, false, ◌≡◌, ◌≤◌, ◌+◌, length, arith, subst, sym}
+use Rattle.std.proofs.Common.{ℕ, Bool, false, ◌≡◌, arith, subst, sym}
 use Rattle.rule_base.specs.declared.views.View.{View}
 use Rattle.stm_gate.specs.Leaving.{left, left_by}
 use Rattle.stm_rule.specs.Counting.{TakesAtMost}

@@ -51,6 +51,7 @@ tells-granted good c n l v i serial clock u o settled revocable low t = subst (Î
     later = le_refl v.attempt.start;
     installs = refl;
     depth = refl;
+    retains = refl;
   };
   still = refl;
   uncommitted = settled;

@@ -32,7 +32,7 @@ use Rattle.stm_gate.specs.LeavingLaws.{IsUnmade, quits-left, ended-left, trail-l
 use Rattle.stm_gate.specs.Opacity.{opaque-inside}
 use Rattle.alg_seq.specs.Storing.{GivesUp, IsClocked, HasLogged, MayStore}
 use Rattle.alg_seq.proofs.Locked.{locked, keeps-by, written-plain, IsLogged, logged-refl, tells-store, still-opaque}
-use Rattle.alg_seq.proofs.Undoing.{has-by, length-by}
+use Rattle.stm_gate.specs.RollItems.{has-by, length-by}
 
 -- the view with this lock and these steps
 abbrev pub aside : View → LockView → List TrailItem → View

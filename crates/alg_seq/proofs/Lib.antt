@@ -5,6 +5,7 @@ pub mod Keeping
 pub mod Pushing
 pub mod Granting
 mod TmlLaws
+mod TmlOpening
 pub mod NestingLaws
 pub mod CountingLaws
 pub mod RollingLaws

@@ -30,7 +30,7 @@ use Rattle.stm_rule.specs.Attempts.{IsInside, IsLocked, Keeps}
 use Rattle.tx_answers.specs.declared.answers.Read.TheVariants.{Value}
 use Rattle.tx_answers.specs.declared.answers.Write.TheVariants.{Done}
 use Rattle.tx_answers.specs.Answers as answers
-use Rattle.tx_answers.specs.Answers.{GoesOn, HasRead, HasWritten, KeepsRule, CommitsAt, EndsAt}
+use Rattle.tx_answers.specs.Answers.{GoesOn, HasRead, HasWritten, KeepsRule, CommitsAt, EndsAt, RisesWithout}
 use Rattle.tx_answers.specs.Causes.{has_item, reads_full, writes_full}
 use Rattle.tx_answers.specs.Known.{Known, known_of, fenced_of, granted_under, written_under, is_in, is_closing, is_irrevocable, wrote}
 use Rattle.tx_answers.specs.KnownLaws.{grows-same}
@@ -128,6 +128,7 @@ goes-on v w o inside i = record {
     later = (let e = i.start in omega arith);
     installs = ap reverse i.installs;
     depth = refl;
+    retains = refl;
   };
   start = start-stays v.gate.algorithm (known_of v o) (known_of w o) i.start;
   granted = ap (λ (g : GateView). granted_under g.algorithm g w.lock) i.gate ∙ granted-same v.gate.algorithm v.gate v.lock w.lock i.irrevocable;
@@ -200,6 +201,7 @@ module _ (good : List ℕ → Type 0) (c : Config) (n : ℕ) where
       later = le_refl v.attempt.start;
       installs = refl;
       depth = refl;
+      retains = refl;
     };
     still = refl;
     uncommitted = settled;
@@ -228,10 +230,10 @@ module _ (good : List ℕ → Type 0) (c : Config) (n : ℕ) where
       wrote-of l v o i locks dirty = ap (λ (ws : List (ℕ × ℕ)). not (is_empty ws)) (written-plain v.gate.algorithm v.gate.granted v o locks) ∙ ap not (wrote-some v.attempt.stores ((locked l v locks i).dirty dirty))
 
   pub tells-ended : (l : Local) (v u : View) (o : Own) → IsInside good c n l v → takes_lock v.gate.algorithm ≡ true → l.wrote ≡ false → Tells free_lock Nothing v 0 u
-      → EndsAt good c n l.start (known_of v o) (known_of (left n u) o) × ((known_of (left n u) o).rises ≡ (known_of v o).base) × (wrote (known_of v o) ≡ false)
+      → EndsAt good c n l.start (known_of v o) (known_of (left n u) o) × RisesWithout (known_of v o) (known_of (left n u) o) × (wrote (known_of v o) ≡ false)
   tells-ended l v u o i locks clean t = let k = locked l v locks i in (
     ended-left n good c l.start v u o (subst (λ (y : View). IsUnmade v y) (sym t.2) unmade) (sym i.start) (opaque-inside good c n l v o i),
-    ap (λ (y : View). y.steps.rises) t.2 ∙ k.rises,
+    (let r = ap (λ (y : View). y.steps.rises) t.2 in let e = k.rises in omega arith, let r = ap (λ (y : View). y.steps.rises) t.2 in let e = k.rises in omega arith),
     ap (λ (ws : List (ℕ × ℕ)). not (is_empty ws)) (written-plain v.gate.algorithm v.gate.granted v o locks) ∙ ap (λ (cs : List Cell). not (is_empty (items cs))) (k.clean clean),
   )
     where

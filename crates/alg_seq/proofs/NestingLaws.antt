@@ -1,6 +1,6 @@
 -- What the marks of an attempt of CGL, TML or Serial come to.
 use Rattle.std.proofs.Common.{ℕ, zero, suc, ◌≡◌, ◌≤◌, ◌+◌, ◌-◌, List, [], ◌∷◌, ◌++◌, length, get_or, take, Bool, true, false, refl, sym, ap, ◌∙◌, arith, subst, length-append}
-use Rattle.std.specs.Prelude.{replicate}
+use Rattle.std.specs.Prelude.{◌||◌, replicate}
 use Rattle.std.proofs.lemmas.List.{length-replicate, get_or-replicate, take-replicate, length-take-le}
 use Rattle.stm_model.specs.Algorithms.{irrevocable_under}
 use Rattle.stm_model.specs.declared.alg.Alg.{Alg}
@@ -13,7 +13,7 @@ use Rattle.stm_rule.specs.declared.local.Local.{Local}
 use Rattle.stm_rule.specs.Attempts.{own_of, IsInside, IsLocked}
 use Rattle.stm_rule.specs.Attempts as attempts
 use Rattle.tx_answers.specs.Answers.{IsMarked, IsRolled, Releases}
-use Rattle.tx_answers.specs.Known.{Known, known_of, written_under, is_irrevocable, is_in, is_closing}
+use Rattle.tx_answers.specs.Known.{Known, known_of, written_under, is_irrevocable, is_in, is_closing, keeps_records}
 use Rattle.tx_answers.specs.KnownLaws.{grows-same}
 use Rattle.tx_logs.specs.LogStates.{LogState, rolled}
 use Rattle.stm_gate.specs.Opacity.{opaque-inside}
@@ -44,6 +44,15 @@ written-own Serial s granted v o = refl
 written-own OrecLazy s granted v o = absurd cc
 written-own OrecEager s granted v o = absurd cc
 written-own RingSw s granted v o = absurd cc
+
+-- none of them holds records
+retains-none : (a : Alg) → is_sequential a ≡ true → (retains : Bool) → retains ≡ (keeps_records a || retains)
+retains-none Cgl s retains = refl
+retains-none Tml s retains = refl
+retains-none Serial s retains = refl
+retains-none OrecLazy s retains = absurd cc
+retains-none OrecEager s retains = absurd cc
+retains-none RingSw s retains = absurd cc
 
 module _ (good : List ℕ → Type 0) (c : Config) (n : ℕ) (l : Local) (v : View) (i : IsInside good c n l v) (sequential : is_sequential v.gate.algorithm ≡ true) where
   abbrev with_log : LogState → ℕ → Local
@@ -253,6 +262,7 @@ module _ (good : List ℕ → Type 0) (c : Config) (n : ℕ) (l : Local) (v : Vi
         reads = refl;
         writes = written (own_of (with_log log d)) ∙ (nothing.1 ∙ sym empty);
         depth = refl;
+        retains = retains-none v.gate.algorithm sequential l.retains;
         marks = ap (λ (q : LogState). q.marks) is;
         opaque = opaque-inside good c n (with_log log d) v (own_of (with_log log d)) stays-rolled;
       }

@@ -21,7 +21,8 @@ use Rattle.tx_answers.specs.Causes.{has_item, is_some}
 use Rattle.stm_gate.specs.Logging.{put-new}
 use Rattle.alg_seq.specs.Storing.{HasLogged, Logs}
 use Rattle.stm_gate.specs.Peeling.{has-touched}
-use Rattle.alg_seq.proofs.Undoing.{has-by, length-by, put-by, put-there-by}
+use Rattle.stm_gate.specs.RollItems.{has-by, length-by}
+use Rattle.alg_seq.proofs.Undoing.{put-by, put-there-by}
 
 keep-new : (a x : ℕ) (ws : List (ℕ × ℕ)) → item_at a ws ≡ None → keep a x ws ≡ ws ++ (a, x) ∷ []
 keep-new a x [] e = refl

@@ -58,11 +58,20 @@ use Rattle.stm_gate.specs.Opacity.{opaque-at, opaque-inside, later-seen}
 others-by : (n callers : ℕ) → n < callers → callers ≢ 1 → 1 < callers
 others-by n callers low apart = omega arith
 
+-- an attempt that was not promoted, between two calls
+pub record InTml (good : List ℕ → Type 0) (c : Config) (n : ℕ) (l : Local) (v : View) (o : Own) : Type 0 where
+  pub quiet : o.committing ≡ false
+  pub inside : IsInside good c n l v
+  pub named : v.gate.algorithm ≡ Tml
+  pub keeps : IsTml c l v
+
 module _ (good : List ℕ → Type 0) (c : Config) (n : ℕ) where
   abbrev pub rule : (ℕ → ℕ) → Type 0
   rule = of_words good c.words
 
-  module _ (l : Local) (v : View) (o : Own) (quiet : o.committing ≡ false) (i : IsInside good c n l v) (tml : v.gate.algorithm ≡ Tml) (k : IsTml c l v) where
+  module _ {l : Local} {v : View} {o : Own} (a : InTml good c n l v o) where
+    open a use {quiet, inside as i, named as tml, keeps as k}
+
     pub has-tml : HasTml v
     has-tml = record { runs = record { phase = i.phase; algorithm = tml; plain = k.ungranted }; inside = k.inside }
 
@@ -162,7 +171,7 @@ module _ (good : List ℕ → Type 0) (c : Config) (n : ℕ) where
         now = same ∙ sym i.start
 
         here : (clock == v.attempt.start) ≡ true
-        here = grind (arith, nat_tests)
+        here = grind (arith, nat_tests, now)
 
         u : View
         u = again_at a x clock true
@@ -363,6 +372,7 @@ module _ (good : List ℕ → Type 0) (c : Config) (n : ℕ) where
           later = omega arith;
           installs = refl;
           depth = refl;
+          retains = refl;
         };
         start = start-stays v.gate.algorithm (known_of v o) (known_of y o) refl;
         granted = refl;
@@ -401,7 +411,7 @@ module _ (good : List ℕ → Type 0) (c : Config) (n : ℕ) where
 
     pub tells-read_only : (w : View) → l.wrote ≡ false → w ≡ left n v → Commits good c n (ReadOnly l.start) (known_of v o) (known_of w o)
     tells-read_only w clean is = subst (λ (y : View). Commits good c n (ReadOnly l.start) (known_of v o) (known_of y o)) (sym is)
-        (ended-left n good c l.start v v o (unmade-refl v) (sym i.start) (opaque-inside good c n l v o i), clean_rises clean, unwritten clean)
+        (ended-left n good c l.start v v o (unmade-refl v) (sym i.start) (opaque-inside good c n l v o i), (let r = clean_rises clean in omega arith, let r = clean_rises clean in omega arith), unwritten clean)
 
     pub tells-cancelled : (w : View) → l.wrote ≡ false → w ≡ left n v → Cancels good c n (Cancelled l.start) (known_of v o) (known_of w o)
     tells-cancelled w clean is = subst (λ (y : View). Cancels good c n (Cancelled l.start) (known_of v o) (known_of y o)) (sym is)
@@ -501,6 +511,7 @@ module _ (good : List ℕ → Type 0) (c : Config) (n : ℕ) where
         later = omega arith;
         installs = refl;
         depth = refl;
+        retains = refl;
       };
       still = refl;
       uncommitted = quiet;

@@ -1,5 +1,5 @@
 -- The undo log of an attempt, as its items and as the cells that its caller's view has.
-use Rattle.std.proofs.Common.{ℕ, suc, ◌≡◌, List, [], ◌∷◌, ◌++◌, length, Bool, true, false, refl, sym, ap, ◌∙◌, arith}
+use Rattle.std.proofs.Common.{ℕ, ◌≡◌, List, [], ◌∷◌, ◌++◌, Bool, true, false, refl, sym, ap, ◌∙◌, arith}
 use Rattle.std.specs.Prelude.{Some, None, ◌==◌, if◌then◌else◌}
 use Rattle.std.proofs.lemmas.Bool.Decides.{nat_tests}
 use Rattle.stm_model.specs.Memories.{item_at, put}
@@ -18,28 +18,11 @@ use Rattle.rule_seq.specs.CglSteps.{store_heap, take_back}
 use Rattle.stm_rule.specs.Attempts.{addresses}
 use Rattle.tx_answers.specs.Causes.{has_item, is_some}
 use Rattle.stm_gate.specs.Peeling.{has-touched, untouched-none}
+use Rattle.stm_gate.specs.RollItems.{has-by}
 
 -- the view with these stores and this undo log left, and with these steps added
 abbrev pub taken : View → List Cell → List Cell → List TrailItem → View
 taken v stores undo more = record v { attempt = record v.attempt { stores = stores }; lock = record v.lock { undo = undo }; steps = record v.steps { trail = more ++ v.steps.trail } }
-
--- whether a log has an item, and how many, is told by the addresses
-pub has-by : (a : ℕ) (us ws : List (ℕ × ℕ)) → addresses us ≡ addresses ws → has_item a us ≡ has_item a ws
-has-by a [] [] e = refl
-has-by a [] (w ∷ ws) e = absurd cc
-has-by a (u ∷ us) [] e = absurd cc
-has-by a (u ∷ us) (w ∷ ws) e = let head : u.0 ≡ w.0 = cc in let tail : addresses us ≡ addresses ws = cc in
-    ap (λ k. is_some (if k == a then Some u.1 else item_at a us)) head ∙ by (w.0 == a) (has-by a us ws tail)
-  where
-    by : (b : Bool) → has_item a us ≡ has_item a ws → is_some (if b then Some u.1 else item_at a us) ≡ is_some (if b then Some w.1 else item_at a ws)
-    by true r = refl
-    by false r = r
-
-pub length-by : (us ws : List (ℕ × ℕ)) → addresses us ≡ addresses ws → length us ≡ length ws
-length-by [] [] e = refl
-length-by [] (w ∷ ws) e = absurd cc
-length-by (u ∷ us) [] e = absurd cc
-length-by (u ∷ us) (w ∷ ws) e = let tail : addresses us ≡ addresses ws = cc in ap suc (length-by us ws tail)
 
 -- an item put into both
 pub put-by : (a x y : ℕ) (us ws : List (ℕ × ℕ)) → addresses us ≡ addresses ws → addresses (put a x us) ≡ addresses (put a y ws)

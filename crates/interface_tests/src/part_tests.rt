@@ -4,13 +4,12 @@ ghost use Rattle.stm_model.specs.Algorithms.{is_built};
 ghost use Rattle.stm_rule.specs.Callers.{IsOf, IsSameCaller, AllOpened};
 ghost use Rattle.tx_answers.specs.Known.{IsIdle, IsRunning};
 ghost use Rattle.stm_tx.specs.Descs.{known};
-ghost use Rattle.stm_tx.specs.Nesting.{takes_marks};
 
 use crate::calls_tests::{PAIR, switch};
 use std::alloc::Global;
 use std::test::Fail;
 use stm_tx::calls::{commit, read, try_begin, write};
-use stm_tx::nesting::{checkpoint, release, roll_to, takes_marks};
+use stm_tx::nesting::{checkpoint, release, roll_to};
 use stm_tx::{Alg, AnyMem, Begin, Check, Commit, Desc, NewError, Read, Roll, Stm, Write};
 
 /// Adds to a word, and answers what it then is, modulo 2^64.
@@ -37,7 +36,6 @@ fn add(desc: &mut Desc<AnyMem>, stm: &Stm<AnyMem>, a: usize, n: u64) -> Option<u
 fn move_piece(desc: &mut Desc<AnyMem>, stm: &Stm<AnyMem>, room: u64) -> Option<usize>
     requires stm { IsOf desc.old stm.now }
     requires running { IsRunning (known desc.old) }
-    requires built { takes_marks (known desc.old).alg ≡ true }
     requires words { 2 < stm.now.config.words }
     requires unfenced { (known desc.old).fence ≡ 0 }
     ensures same { IsSameCaller desc.old desc.new }
@@ -74,12 +72,9 @@ fn moves(desc: &mut Desc<AnyMem>, stm: &Stm<AnyMem>, alg: Alg, room: u64) -> Opt
     if !switch(stm, desc, alg) {
         return None;
     }
-    let Begin::Begun(found) = try_begin(desc, stm) else {
+    let Begin::Begun(_) = try_begin(desc, stm) else {
         return None;
     };
-    if !takes_marks(found) {
-        return None;
-    }
     let Write::Done = write(desc, stm, 0, 3) else {
         return None;
     };
@@ -122,7 +117,7 @@ fn a_piece_goes_where_there_is_room(rt: HostRuntime) -> Result<(), Fail> {
     let committed = Commit::Committed { time: 1 };
     let first = [2, 1, 0];
     let second = [2, 0, 1];
-    for alg in [Alg::OrecLazy, Alg::RingSw, Alg::Serial] {
+    for alg in [Alg::OrecLazy, Alg::OrecEager, Alg::RingSw, Alg::Serial] {
         assert_eq!(rt; moved(rt.alloc(), alg, 1), Ok(Some((1, committed, first))));
         assert_eq!(rt; moved(rt.alloc(), alg, 0), Ok(Some((2, committed, second))));
     }

@@ -84,7 +84,10 @@ fn end(alloc: Global, caller: &mut Member, room: usize) -> Result<String, AllocE
 }
 
 /// An answer, or why the call was not made.
-fn said<T: Debug + Drop>(alloc: Global, answer: Result<T, Misuse>) -> Result<String, AllocError> {
+pub(crate) fn said<T: Debug + Drop>(
+    alloc: Global,
+    answer: Result<T, Misuse>,
+) -> Result<String, AllocError> {
     match answer {
         Ok(answer) => format!(in alloc; ": {answer:?}"),
         Err(misuse) => format!(in alloc; ": misuse {misuse:?}"),

@@ -2,7 +2,8 @@
 //!
 //! `memory WORDS RECORDS RING CALLERS READS WRITES CLOCK ALG` opens a memory that takes ranges out of the transactions,
 //! under the algorithm of this name. Each line below it is a caller's number, one of the words of [`calls`], and that
-//! word's numbers. A line that begins with `#` and an empty one are repeated as they are.
+//! word's numbers; or `learn`, and the number of the caller that tells. A line that begins with `#` and an empty one are
+//! repeated as they are.
 #![tactic(auto)]
 
 mod calls;

@@ -1,5 +1,5 @@
 //! A script: its memory, and one line after the other.
-use crate::calls::{algorithm, call, number};
+use crate::calls::{algorithm, call, number, said};
 use std::alloc::{AllocError, Global};
 use std::str::SplitWhitespace;
 use stm_model::config::Config;
@@ -32,6 +32,10 @@ impl Script {
         }
         let n = number(Some(first)).unwrap_or(u64::MAX);
         let word = words.next().unwrap_or("");
+        if word == "learn" {
+            let from = number(words.next()).unwrap_or(u64::MAX);
+            return self.learn(alloc, n as usize, from as usize);
+        }
         let Some(place) = self.callers.get_mut(n as usize) else {
             return String::from_str(alloc, ": no such caller");
         };
@@ -48,6 +52,21 @@ impl Script {
             Some(answer) => Ok(answer),
             None => String::from_str(alloc, ": no such call"),
         }
+    }
+
+    /// Has a caller learn from another.
+    fn learn(&mut self, alloc: Global, to: usize, from: usize) -> Result<String, AllocError> {
+        let Some(Some(mut teller)) = self.callers.get_mut(from).map(Option::take) else {
+            return String::from_str(alloc, ": no such caller");
+        };
+        let answer = match self.callers.get_mut(to) {
+            Some(Some(caller)) => said(alloc, caller.learn(&mut teller)),
+            _ => String::from_str(alloc, ": no such caller"),
+        };
+        if let Some(place) = self.callers.get_mut(from) {
+            *place = Some(teller);
+        }
+        answer
     }
 
     /// Opens the memory of these sizes.

@@ -37,10 +37,10 @@ misuse_code wrong.Fenced = 25
 misuse_code wrong.HoldsRange = 26
 misuse_code wrong.NoRanges = 27
 misuse_code wrong.NoRange = 28
-misuse_code wrong.NoMarks = 29
 misuse_code wrong.Depth = 30
 misuse_code wrong.Logs = 31
 misuse_code wrong.Room = 32
+misuse_code wrong.Stranger = 39
 
 abbrev pub refusal_code : Refusal → ℕ
 refusal_code (refusals.Conflict cause) = 1

@@ -2,10 +2,12 @@
 use Rattle.std.specs.Prelude.{ℕ, ◌≡◌, ◌==◌, if◌then◌else◌, List, length, Option, Some, None, Result, IfErr}
 use Rattle.stm_model.specs.declared.alg.Alg.{Alg}
 use Rattle.stm_model.specs.declared.alg.Alg.TheVariants.{Cgl, Tml, OrecLazy, OrecEager, RingSw, Serial}
-use Rattle.nekchhaul_c.specs.Codes.{switch_code, taken_code}
+use Rattle.nekchhaul_c.specs.Codes.{done_code, switch_code, taken_code}
 use Rattle.tx_checked.specs.declared.member.Member.{Member}
 use Rattle.tx_checked.specs.declared.misuse.Misuse.{Misuse}
 use Rattle.tx_checked.specs.declared.refusal.Refusal.{Refusal}
+use Rattle.tx_checked.specs.Learning.{HasLearned, TellsKin, meeting}
+use Rattle.tx_checked.specs.Members.{IsUntouched}
 use Rattle.tx_checked.specs.Misuses.{outside, ending}
 use Rattle.tx_checked.specs.Endings.{HasEnded}
 use Rattle.tx_checked.specs.Tells.{Tells, HasSwitched}
@@ -46,3 +48,15 @@ SwitchSays number k old new = InstallSays (algorithm_numbered number) k old new
 -- the end of a memory; a misuse leaves the words as they were, as a refusal does
 abbrev pub EndSays : List ℕ → List ℕ → ℕ → Member → Member → Type 0
 EndSays old new k m n = (r : Result (Result (Unit {0}) Refusal) Misuse) × (k ≡ taken_code r) × Tells (ending (length old) m) (HasEnded m n old new) m n r × IfErr r (λ _. new ≡ old)
+
+-- of a call on two callers: m is to learn from f
+abbrev pub LearnTells : ℕ → Member → Member → Member → Member → Type 0
+LearnTells k m n f g = (r : Result (Unit {0}) Misuse) × (k ≡ done_code r) × TellsKin (meeting m f) (HasLearned m n) m n r × IsUntouched f g
+
+-- where one of the two handles holds no caller, none is touched
+abbrev pub LearnSays : ℕ → Option Member → Option Member → Option Member → Option Member → Type 0
+LearnSays k None to from from' = (k ≡ 16) × (to ≡ None) × (from' ≡ from)
+LearnSays k (Some m) to None from' = (k ≡ 16) × (to ≡ Some m) × (from' ≡ None)
+LearnSays k (Some m) None (Some f) from' = ⊥
+LearnSays k (Some m) (Some n) (Some f) None = ⊥
+LearnSays k (Some m) (Some n) (Some f) (Some g) = LearnTells k m n f g

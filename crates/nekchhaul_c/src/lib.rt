@@ -4,6 +4,7 @@
 mod asking;
 mod exports;
 mod handle;
+mod learning;
 mod loose;
 mod marks;
 mod opening;

@@ -2,7 +2,7 @@
 ghost use Rattle.std.specs.Prelude.{◌≡◌};
 ghost use Rattle.nekchhaul_c.specs.Codes.{mark_code, mark_value, roll_code, done_code};
 ghost use Rattle.nekchhaul_c.specs.Says.{Holds, Says, SaysWord};
-ghost use Rattle.tx_checked.specs.Misuses.{marking, at_mark};
+ghost use Rattle.tx_checked.specs.Misuses.{running, at_mark};
 ghost use Rattle.tx_checked.specs.Tells.{HasMarked, HasRolled, HasDropped};
 
 use crate::handle::Handle;
@@ -12,7 +12,7 @@ use std::alloc::Global;
 /// Marks what the attempt has written. `depth` is written only where the answer is 0.
 #[unsafe(no_mangle)]
 pub extern "C" fn nekchhaul_checkpoint(alloc: Global, caller: &mut Handle, depth: &mut usize) -> u32
-    ensures { Holds ((result ≡ 16) × (depth.new ≡ depth.old)) (SaysWord mark_code mark_value depth.old depth.new marking HasMarked result) caller.old.inside caller.new.inside }
+    ensures { Holds ((result ≡ 16) × (depth.new ≡ depth.old)) (SaysWord mark_code mark_value depth.old depth.new running HasMarked result) caller.old.inside caller.new.inside }
 {
     let Some(mut member) = caller.take(alloc) else {
         return status::NO_CALLER;

@@ -56,8 +56,6 @@ pub(crate) const NO_RANGES: u32 = 27;
 
 pub(crate) const NO_RANGE: u32 = 28;
 
-pub(crate) const NO_MARKS: u32 = 29;
-
 pub(crate) const DEPTH: u32 = 30;
 
 pub(crate) const LOGS: u32 = 31;
@@ -76,6 +74,8 @@ pub(crate) const SIZE_LOGS: u32 = 37;
 
 pub(crate) const SIZE_CLOCK: u32 = 38;
 
+pub(crate) const STRANGER: u32 = 39;
+
 pub(crate) fn of_misuse(misuse: Misuse) -> u32
     ensures { result ≡ misuse_code misuse }
 {
@@ -88,10 +88,10 @@ pub(crate) fn of_misuse(misuse: Misuse) -> u32
         Misuse::HoldsRange => HOLDS_RANGE,
         Misuse::NoRanges => NO_RANGES,
         Misuse::NoRange => NO_RANGE,
-        Misuse::NoMarks => NO_MARKS,
         Misuse::Depth => DEPTH,
         Misuse::Logs => LOGS,
         Misuse::Room => ROOM,
+        Misuse::Stranger => STRANGER,
     }
 }
 

@@ -96,8 +96,8 @@ pub struct Attempt {
     pub reads: LinkedList<Cell>,
     /// What it stored in the heap.
     pub stores: LinkedList<Cell>,
-    /// It raised the clock as the gate's holder, by the entry of a promoted attempt or to install: BASE and
-    /// DONE are to have that number.
+    /// It raised the clock as the gate's holder, by the entry of a promoted attempt, at its end without one, or to
+    /// install: BASE and DONE are to have that number.
     pub entered: bool,
 }
 

@@ -4,7 +4,8 @@ use Rattle.stm_model.specs.declared.alg.Alg.{Alg}
 use Rattle.rule_base.specs.declared.entries.Cell.{Cell}
 use Rattle.stm_model.specs.declared.config.Config.{Config}
 use Rattle.rule_base.specs.declared.views.View.{View}
-use Rattle.rule_base.specs.History.{over, word_now}
+use Rattle.rule_base.specs.History.{over, upto, word_now}
+use Rattle.rule_base.specs.HistoryLemmas.{upto-all}
 use Rattle.rule_base.specs.StepKinds.{view_after, world_after, Nothing, StepLaw}
 use Rattle.rule_base.specs.World.{World, put}
 use Rattle.rule_base.specs.HistoryRuleLemmas.{advances-same}
@@ -27,7 +28,7 @@ module _ (good : (ℕ → ℕ) → Type 0) (c : Config) (alg : Alg) (n : ℕ) wh
   pub direct_quits : (t : ℕ) → n < c.callers → StepLaw (DirectWorld good c alg n) (direct_quit alg t) Nothing n (CanDirectQuit alg t)
   direct_quits t low w r may = record {
     rule = record {
-      history = history-seen good c (record w { clock = t }) x n v refl refl refl refl (history-raised good c (history_scene w) t (let k = later in omega arith) may.limit r.history);
+      history = history-seen good c (record w { clock = t }) x n v refl refl refl (λ i. record (w.views n).history { seen = whole i; front = t }) (history-raised good c (history_scene w) t (let k = later in omega arith) may.limit r.history);
       steps = steps-raised c (direct_quit alg t) n w (entry_rise alg) low next refl refl r.steps;
       lock = subst LockRule (sym (lock_scene-kept w x n v refl refl refl refl)) r.lock;
       attempts = attempts-in w x n v refl may.phase r.attempts;
@@ -65,6 +66,10 @@ module _ (good : (ℕ → ℕ) → Type 0) (c : Config) (alg : Alg) (n : ℕ) wh
 
       d : DirectRule c.words (direct_scene n w)
       d = r.runs.direct
+
+      -- it has seen the whole history
+      whole : (w.views n).history.seen ≡ w.history
+      whole = (r.history.known n).seen ∙ (ap (upto w.history) d.front ∙ upto-all w.history (w.clock + 1) w.clock r.history.below (le_refl (w.clock + 1)))
 
       marked : (put w.views n v n).attempt.entered ≡ false → ⊥
       marked f = let q : true ≡ false = sym (ap (λ (u : View). u.attempt.entered) (put-here w.views n v)) ∙ f in cc

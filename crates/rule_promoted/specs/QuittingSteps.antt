@@ -9,13 +9,13 @@ use Rattle.rule_base.specs.declared.views.Phase.TheVariants.{In}
 use Rattle.rule_base.specs.declared.views.View.{View}
 use Rattle.rule_base.specs.StepKinds.{StepKind, same_history}
 
--- store the clock, with no entry: as an entry's step but for the history
+-- store the clock, with no entry: as an entry's step, but that the history is still the one that it has seen
 abbrev pub direct_quit : Alg → ℕ → StepKind
 direct_quit alg t = record {
   place = Clock;
   act = Store t;
   after = λ w v x. record v {
-    history = record v.history { seen = w.history; front = t };
+    history = record v.history { front = t };
     steps = record v.steps { rises = v.steps.rises + entry_rise alg };
     gate = record v.gate { time = t; rebased = false; completed = false };
     attempt = record { start = t; reads = []; stores = []; entered = true };

@@ -18,6 +18,7 @@ use Rattle.rule_base.specs.InstallSteps.{store_base, store_done, CanMark}
 use Rattle.rule_seq.specs.CglSteps.{Loads, logged}
 use Rattle.rule_seq.specs.CglSteps as steps
 use Rattle.rule_promoted.specs.PromotedSteps.{direct_load, direct_store, direct_commit, CanDirectCommit}
+use Rattle.rule_promoted.specs.QuittingSteps.{CanDirectQuit}
 use Rattle.stm_rule.specs.declared.local.Local.{Local}
 use Rattle.stm_rule.specs.Attempts.{IsInside}
 use Rattle.tx_answers.specs.declared.answers.Commit.TheVariants.{ReadOnly}
@@ -83,12 +84,18 @@ module _ (good : List ℕ → Type 0) (c : Config) (n : ℕ) where
       → Commits good c n (ReadOnly l.start) (known_of v o) (known_of w o)
   tells-read_only l v w o clean closes granted i is = subst (λ (u : View). Commits good c n (ReadOnly l.start) (known_of v o) (known_of u o)) (sym is) (
     ended-left n good c l.start v v o (unmade-refl v) (sym i.start) (opaque-inside good c n l v o i),
-    p.rises,
+    (let r = p.rises in omega arith, let r = p.rises in omega arith),
     ap (λ (ws : List (ℕ × ℕ)). not (is_empty ws)) (written-here l v o closes granted i ∙ ap items (p.clean clean)),
   )
     where
       p : IsDirect l v
       p = (promoted-of good c n l v i closes granted).2
+
+  due : (alg : Alg) (t : ℕ) (l : Local) (v : View) → t ≡ l.start + entry_rise alg → IsInside good c n l v → t ≡ v.attempt.start + entry_rise alg
+  due alg t l v time i = time ∙ ap (λ (k : ℕ). k + entry_rise alg) (sym i.start)
+
+  within : (alg : Alg) (t : ℕ) (l : Local) (v : View) → l.algorithm ≡ alg → t ≡ l.start + entry_rise alg → IsDirect l v → t ≤ CLOCK_LIMIT
+  within alg t l v named time p = subst (λ (k : ℕ). k ≤ CLOCK_LIMIT) (sym time) (subst (λ (a : Alg). l.start + entry_rise a ≤ CLOCK_LIMIT) named p.limit)
 
   -- a promoted attempt that wrote may store the next time
   pub may-commit : (alg : Alg) (t : ℕ) (l : Local) (v : View) (o : Own) → l.algorithm ≡ alg → t ≡ l.start + entry_rise alg → l.wrote ≡ true → closes_gate v.gate.algorithm ≡ true → granted_under v.gate.algorithm v.gate v.lock ≡ true → IsInside good c n l v
@@ -97,8 +104,8 @@ module _ (good : List ℕ → Type 0) (c : Config) (n : ℕ) where
     phase = i.phase;
     granted = p.granted;
     named = i.named ∙ named;
-    time = time ∙ ap (λ (k : ℕ). k + entry_rise alg) (sym i.start);
-    limit = subst (λ (k : ℕ). k ≤ CLOCK_LIMIT) (sym time) (subst (λ (a : Alg). l.start + entry_rise a ≤ CLOCK_LIMIT) named p.limit);
+    time = due alg t l v time i;
+    limit = within alg t l v named time p;
     wrote = p.dirty dirty;
     keeps = keeps-cells good c.words v.attempt.reads v.attempt.stores i.reads_inside
         (subst (λ (ws : List (ℕ × ℕ)). Keeps good c.words (record { reads = items v.attempt.reads; writes = ws })) written (keeps (ap (λ (ws : List (ℕ × ℕ)). not (is_empty ws)) written ∙ ap not (wrote-some v.attempt.stores (p.dirty dirty)))));
@@ -109,6 +116,11 @@ module _ (good : List ℕ → Type 0) (c : Config) (n : ℕ) where
 
       written : written_under v.gate.algorithm v.gate.granted v o ≡ items v.attempt.stores
       written = written-here l v o closes granted i
+
+  -- and so may one that wrote nothing, without an entry
+  pub may-quit : (alg : Alg) (t : ℕ) (l : Local) (v : View) → l.algorithm ≡ alg → t ≡ l.start + entry_rise alg → l.wrote ≡ false → closes_gate v.gate.algorithm ≡ true → granted_under v.gate.algorithm v.gate v.lock ≡ true → IsInside good c n l v → CanDirectQuit alg t v
+  may-quit alg t l v named time clean closes granted i = let p = (promoted-of good c n l v i closes granted).2 in
+      record { phase = i.phase; granted = p.granted; named = i.named ∙ named; time = due alg t l v time i; limit = within alg t l v named time p; unwritten = p.clean clean }
 
   pub tells-commit : (alg : Alg) (t : ℕ) (l : Local) (v s u y w : View) (o : Own) → l.algorithm ≡ alg → t ≡ l.start + entry_rise alg → l.wrote ≡ true → closes_gate v.gate.algorithm ≡ true → granted_under v.gate.algorithm v.gate v.lock ≡ true → IsInside good c n l v
       → Tells (direct_commit n alg t) (steps.Commits rule c n t) v t s → Tells (store_base t) Nothing s t u → Tells (store_done t) Nothing u t y → w ≡ left n y

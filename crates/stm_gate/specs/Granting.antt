@@ -1,6 +1,6 @@
 -- What comes of an attempt that is alone, and of the call in which it came to be so.
-use Rattle.std.proofs.Common.{ℕ, ◌≡◌, ◌<◌, ◌+◌, List, [], ◌∷◌, ◌++◌, true, false, refl, sym, ap, ◌∙◌, arith, subst, append_assoc, inl, inr}
-use Rattle.std.specs.Prelude.{◌%◌, ◌⊎◌, Some, None, not}
+use Rattle.std.proofs.Common.{ℕ, ◌≡◌, ◌<◌, List, [], ◌∷◌, ◌++◌, true, false, refl, sym, ap, ◌∙◌, arith, subst, append_assoc, inl, inr}
+use Rattle.std.specs.Prelude.{◌||◌, ◌%◌, ◌⊎◌, Some, None, not}
 use Rattle.stm_model.specs.Algorithms.{asks_at_grant, closes_gate, has_records, irrevocable_under, quit_rise}
 use Rattle.stm_model.specs.declared.config.Config.{Config}
 use Rattle.stm_model.specs.declared.stop.Cause.TheVariants as causes
@@ -21,7 +21,7 @@ use Rattle.tx_answers.specs.Answers.{BecomesIrrevocable, Quits, Waits, Irrevs}
 use Rattle.tx_answers.specs.Causes.{Conflicts, FindsFull, IsAnothers, IsNewer, has_item, read_filter}
 use Rattle.tx_answers.specs.Evidence.{Found, FoundAsWas, FoundMoved, Untouched}
 use Rattle.tx_answers.specs.SlotEvidence.{FindsFirst, clock_load}
-use Rattle.tx_answers.specs.Known.{Known, Grows, known_of, is_irrevocable, is_in, is_closing, wrote}
+use Rattle.tx_answers.specs.Known.{Known, Grows, known_of, is_irrevocable, is_in, is_closing, has_written}
 use Rattle.tx_answers.specs.KnownLaws.{grows-same, grows-trans}
 use Rattle.stm_gate.specs.LeavingLaws.{found-earlier}
 use Rattle.stm_gate.specs.Opacity.{opaque-inside}
@@ -71,7 +71,7 @@ module _ (good : List ℕ → Type 0) (c : Config) (n : ℕ) where
   quits-after u v w a b = let k = a.continues in record {
     ends = record { idle = b.ends.idle; grows = grows-trans u v w k.grows b.ends.grows; alg = b.ends.alg ∙ k.alg; base = b.ends.base ∙ k.base; installs = b.ends.installs ∙ k.installs };
     made = b.made ∙ k.made;
-    rises = (let e = k.base in let r = b.rises.0 in omega arith, let e = k.base in let r = b.rises.1 in let q : quit_rise v.alg (wrote v) ≡ quit_rise u.alg (wrote u) = (λ j. quit_rise (k.alg j) (not (is_empty (a.log j).writes))) in omega arith);
+    rises = (let e = k.base in let r = b.rises.0 in omega arith, let e = k.base in let r = b.rises.1 in let q : quit_rise v.alg (has_written v) ≡ quit_rise u.alg (has_written u) = (λ j. quit_rise (k.alg j) (not (is_empty (a.log j).writes) || k.retains j)) in omega arith);
     revocable = a.revocable;
   }
 
@@ -123,6 +123,7 @@ module _ (good : List ℕ → Type 0) (c : Config) (n : ℕ) where
           later = (let x = k.later in let y = q.later in omega arith);
           installs = q.installs ∙ k.installs;
           depth = q.depth ∙ k.depth;
+          retains = q.retains ∙ k.retains;
         };
         still = b.still ∙ a.still;
         uncommitted = b.uncommitted;
@@ -153,6 +154,7 @@ module _ (good : List ℕ → Type 0) (c : Config) (n : ℕ) where
       later = omega arith;
       installs = refl;
       depth = refl;
+      retains = refl;
     };
     still = refl;
     uncommitted = quiet;

@@ -51,6 +51,7 @@ goes-inner v w o inside i = record {
     later = (let e = i.start in omega arith);
     installs = ap reverse i.installs;
     depth = refl;
+    retains = refl;
   };
   start = start-stays v.gate.algorithm (known_of v o) (known_of w o) i.start;
   granted = λ k. granted_under (i.gate k).algorithm (i.gate k) (i.lock k);

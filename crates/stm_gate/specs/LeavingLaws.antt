@@ -1,5 +1,6 @@
 -- The end of an attempt as its caller knows it: from what stood before the last steps to the answers' relations.
-use Rattle.std.proofs.Common.{ℕ, zero, suc, ◌≡◌, ◌≢◌, ◌<◌, ◌≤◌, ◌+◌, List, [], ◌∷◌, ◌++◌, false, refl, sym, ap, ◌∙◌, arith, subst, append_assoc, length, get_or}
+use Rattle.std.proofs.Common.{ℕ, zero, suc, ◌≡◌, ◌≢◌, ◌<◌, ◌≤◌, ◌+◌, List, [], ◌∷◌, ◌++◌, false, refl, sym, ap, ◌∙◌, arith, subst, append_assoc, length, get_or, le_refl}
+use Rattle.std.proofs.lemmas.List.{append-nil}
 use Rattle.std.specs.Prelude.{Some, reverse, not}
 use Rattle.std.proofs.lemmas.List.Elements.{Contains-append_left, Contains-append_right}
 use Rattle.stm_model.specs.Algorithms.{entry_rise, quit_rise}
@@ -24,8 +25,7 @@ use Rattle.rule_seq.specs.CglSteps.{Commits, cgl_entry}
 use Rattle.tx_answers.specs.Answers.{Ends, Quits, EndsAt, CommitsAt, IsOpaque, entry}
 use Rattle.tx_answers.specs.Causes.{FindsFull}
 use Rattle.tx_answers.specs.Evidence.{Found}
-use Rattle.tx_answers.specs.Known.{Known, Grows, known_of, fenced_of, is_irrevocable, wrote, written_under, zeros, clock_in, top_of}
-use Rattle.tx_answers.specs.KnownLaws.{grows-same}
+use Rattle.tx_answers.specs.Known.{Known, Grows, known_of, fenced_of, is_irrevocable, has_written, written_under, zeros, clock_in, top_of}
 use Rattle.stm_gate.specs.Leaving.{last_steps, left}
 use Rattle.stm_gate.specs.Logging.{wrote-some}
 
@@ -42,6 +42,11 @@ pub record IsUnmade (v u : View) : Type 0 where
   pub carried : Carried v u
   pub history : u.history ≡ v.history
 
+-- or none was, but the clock was raised to t, up to which all is seen
+pub record IsRaised (t : ℕ) (v u : View) : Type 0 where
+  pub carried : Carried v u
+  pub history : u.history ≡ record v.history { front = t }
+
 -- or the attempt's entry was made, at this time, after this history
 pub record IsMade (n t : ℕ) (before : List Entry) (v u : View) : Type 0 where
   pub carried : Carried v u
@@ -50,6 +55,9 @@ pub record IsMade (n t : ℕ) (before : List Entry) (v u : View) : Type 0 where
 
 pub unmade-refl : (v : View) → IsUnmade v v
 unmade-refl v = record { carried = record { named = refl; base = refl; installs = refl; fence = refl; trail = ([], refl) }; history = refl }
+
+unmade-raised : (v u : View) → IsUnmade v u → IsRaised v.history.front v u
+unmade-raised v u m = record { carried = m.carried; history = m.history }
 
 -- what was found in the middle, as seen from earlier and from later on
 pub found-later : (p : At) (x : ℕ) (u v w : Known) → Found p x u v → (more : List TrailItem) → w.trail ≡ more ++ v.trail → Found p x u w
@@ -92,26 +100,42 @@ module _ (n : ℕ) where
   pub ends-left : (v u : View) (o : Own) → Carried v u → Grows (known_of v o) (known_of (left n u) o) → Ends (known_of v o) (known_of (left n u) o)
   ends-left v u o c grows = record { idle = (refl, refl, refl, refl); grows = grows; alg = c.named; base = c.base; installs = ap reverse c.installs }
 
+  raised-ends : (t : ℕ) (v u : View) (o : Own) → IsRaised t v u → v.history.front ≤ t → Ends (known_of v o) (known_of (left n u) o)
+  raised-ends t v u o m up = let k = trail-left v u m.carried in ends-left v u o m.carried (record {
+    later = [];
+    is = ap (λ (h : SeenHistory). public_history h.seen) m.history ∙ sym (append-nil (public_history v.history.seen));
+    ascending = tt;
+    up_to = tt;
+    front_rose = subst (λ (h : SeenHistory). v.history.front ≤ h.front) (sym m.history) up;
+    more = k.0;
+    trail = k.1;
+    reads_limit = refl;
+    writes_limit = refl;
+    fenced = ap fenced_of m.carried.fence;
+  })
+
   unmade-ends : (v u : View) (o : Own) → IsUnmade v u → Ends (known_of v o) (known_of (left n u) o)
-  unmade-ends v u o m = let t = trail-left v u m.carried in ends-left v u o m.carried
-      (grows-same (known_of v o) (known_of (left n u) o) (ap (λ (h : SeenHistory). public_history h.seen) m.history) (ap (λ (h : SeenHistory). h.front) m.history) t.0 t.1 refl refl (ap fenced_of m.carried.fence))
+  unmade-ends v u o m = raised-ends v.history.front v u o (unmade-raised v u m) (le_refl v.history.front)
 
   -- THE REFUSAL: the attempt ended without an entry
-  pub quits-left : (v u : View) (o : Own) → IsUnmade v u → (v.steps.rises_at_begin ≤ u.steps.rises) × (u.steps.rises ≤ v.steps.rises_at_begin + quit_rise v.gate.algorithm (wrote (known_of v o))) → is_irrevocable (known_of v o) ≡ false
+  pub quits-left : (v u : View) (o : Own) → IsUnmade v u → (v.steps.rises_at_begin ≤ u.steps.rises) × (u.steps.rises ≤ v.steps.rises_at_begin + quit_rise v.gate.algorithm (has_written (known_of v o))) → is_irrevocable (known_of v o) ≡ false
       → Quits (known_of v o) (known_of (left n u) o)
   quits-left v u o m rises revocable = record { ends = unmade-ends v u o m; made = ap (λ (h : SeenHistory). public_history h.made) m.history; rises = rises; revocable = revocable }
 
   module _ (good : List ℕ → Type 0) (c : Config) where
-    -- THE END AT THE START: what the attempt read is the memory there
-    pub ended-left : (time : ℕ) (v u : View) (o : Own) → IsUnmade v u → time ≡ v.attempt.start → IsOpaque good c n (known_of v o) → EndsAt good c n time (known_of v o) (known_of (left n u) o)
-    ended-left time v u o m is q = record {
-      ends = unmade-ends v u o m;
+    -- THE END AT THE START: what the attempt read is the memory there, be the clock raised without an entry afterwards
+    pub ended-raised : (time t : ℕ) (v u : View) (o : Own) → IsRaised t v u → v.history.front ≤ t → time ≡ v.attempt.start → IsOpaque good c n (known_of v o) → EndsAt good c n time (known_of v o) (known_of (left n u) o)
+    ended-raised time t v u o m up is q = record {
+      ends = raised-ends t v u o m up;
       made = ap (λ (h : SeenHistory). public_history h.made) m.history;
       is_start = is;
-      seen = (let r = q.reach in let f : u.history.front ≡ v.history.front = ap (λ (h : SeenHistory). h.front) m.history in omega arith);
+      seen = (let r = q.reach in let f : u.history.front ≡ t = ap (λ (h : SeenHistory). h.front) m.history in omega arith);
       kept = subst (λ (h : SeenHistory). good (memory_at time (public_history h.seen) (zeros c.words))) (sym m.history) (subst (λ (s : ℕ). good (memory_at s (public_history v.history.seen) (zeros c.words))) (sym is) q.kept);
       sees = subst (λ (h : SeenHistory). Sees time (public_history h.seen) (zeros c.words) (known_of v o).log) (sym m.history) (subst (λ (s : ℕ). Sees s (public_history v.history.seen) (zeros c.words) (known_of v o).log) (sym is) q.sees);
     }
+
+    pub ended-left : (time : ℕ) (v u : View) (o : Own) → IsUnmade v u → time ≡ v.attempt.start → IsOpaque good c n (known_of v o) → EndsAt good c n time (known_of v o) (known_of (left n u) o)
+    ended-left time v u o m is q = ended-raised time v.history.front v u o (unmade-raised v u m) (le_refl v.history.front) is q
 
     -- THE COMMIT: the attempt ended with its entry, the latest of a legal history
     pub commits-left : (t : ℕ) (w : World) (v u : View) (o : Own) → Commits (of_words good c.words) c n t w v t → IsMade n t w.history v u → v.attempt.start < t → v.history.front < t → v.attempt.stores ≢ []

@@ -12,8 +12,10 @@ pub mod LookingLaws
 pub mod PromotingLaws
 pub mod Installing
 pub mod Told
+pub mod Opening
 pub mod Starts
 pub mod Granting
 pub mod DirectLaws
 pub mod MarkLaws
 pub mod Irrevocable
+pub mod RollItems

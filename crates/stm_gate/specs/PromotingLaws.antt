@@ -126,6 +126,7 @@ module _ (c : Config) (n : ℕ) where
         later = omega arith;
         installs = refl;
         depth = refl;
+        retains = refl;
       };
       still = refl;
       uncommitted = quiet;
@@ -212,6 +213,7 @@ module _ (c : Config) (n : ℕ) where
       reads = k.reads;
       locks = k.locks;
       places = k.places;
+      few = k.few;
       versions = k.versions;
       open_handed = k.open_handed;
       locked = k.locked;
@@ -237,11 +239,13 @@ module _ (c : Config) (n : ℕ) where
       small = k.small;
       old_words = k.old_words;
       covered = k.covered;
+      short = k.short;
       few = k.few;
       places = k.places;
       olds = k.olds;
       below = k.below;
       committing = k.committing;
+      marked = k.marked;
       sole = k.sole;
     }
     keeps-seized l v trail RingSw e k = record {

@@ -28,7 +28,7 @@ pub record CanBegin (alg : Alg) (v : View) : Type 0 where
 
 -- an idle descriptor keeps nothing of an attempt
 abbrev pub IsFresh : Own → Type 0
-IsFresh o = (o.committing ≡ false) × (o.buffered ≡ []) × (o.depth ≡ 0) × (o.marks ≡ [])
+IsFresh o = (o.committing ≡ false) × (o.buffered ≡ []) × (o.depth ≡ 0) × (o.marks ≡ []) × (o.retains ≡ false)
 
 -- what no begin changes
 pub record KeepsCaller (v w : Known) : Type 0 where

@@ -6,7 +6,7 @@ use crate::ends::{Failed, Sink, Source};
 use std::alloc::{AllocError, Global};
 
 /// How many bytes are asked of a source at once, at most.
-const CHUNK: usize = 4096;
+const CHUNK: usize = 65_536;
 
 /// Why a text couldn't be read.
 #[derive(Clone, Copy, Debug, PartialEq, Eq)]

@@ -18,7 +18,7 @@ use Rattle.rule_orec.specs.OrecRule.{OrecView, orec_view, OrecScene, orec_scene,
 use Rattle.rule_orec.specs.OrecRuns.OrecStep.{orec_begins, orec_samples, orec_loads, orec_confirms, orec_clocks, orec_clocks_all, orec_passes, orec_lasts, orec_looks, orec_limits, orec_locks, orec_commits, orec_writes_back, orec_times, orec_olds, orec_ups, orec_own_loads, orec_saves, orec_places, orec_restores, orec_lifts}
 use Rattle.rule_orec.specs.OrecSteps.{passes, direct_owned}
 use Rattle.stm_rule.specs.CoreRuns.{CoreStep, core_kind, CoreMay}
-use Rattle.stm_rule.specs.CoreRuns.CoreStep.{announces, loads_gate, departs, aims, takes_gate, checks, reopens, settles, evens_clock, stores_base, stores_done, installs, looks_gate, seizes, grants, orec_grants, orec_grants_all, direct_loads, direct_stores, direct_commits, returns, fences, fence_loads, fence_stores, fence_commits, unfences, hears, loads_end, of_cgl, of_tml, of_orec, direct_releases, of_ring, look_grants, move_grants}
+use Rattle.stm_rule.specs.CoreRuns.CoreStep.{announces, loads_gate, departs, aims, takes_gate, checks, reopens, settles, evens_clock, stores_base, stores_done, installs, looks_gate, seizes, grants, orec_grants, orec_grants_all, direct_loads, direct_stores, direct_commits, direct_quits, returns, fences, fence_loads, fence_stores, fence_commits, unfences, hears, loads_end, of_cgl, of_tml, of_orec, direct_releases, of_ring, look_grants, move_grants}
 use Rattle.rule_ring.specs.RingRuns.RingStep.{ring_begins, ring_loads, ring_looks, ring_words, ring_agains, ring_moves, ring_locks, ring_ticks, ring_slots, ring_enters, ring_writes, ring_dones, ring_frees}
 use Rattle.stm_rule.specs.Frames.{orec-world}
 use Rattle.rule_base.specs.Fence.{veil}
@@ -92,6 +92,7 @@ core_ranks good c n orec_grants_all w g m = let k = held_by (ltb w.clock CLOCK_L
 core_ranks good c n (direct_loads a) w g m = level w (world_after (core_kind n (direct_loads a)) n w) n (view_after (core_kind n (direct_loads a)) w (w.views n) (answer (core_kind n (direct_loads a)) w)) refl refl refl refl refl refl
 core_ranks good c n (direct_stores a x) w g m = level w (world_after (core_kind n (direct_stores a x)) n w) n (view_after (core_kind n (direct_stores a x)) w (w.views n) (answer (core_kind n (direct_stores a x)) w)) refl refl refl refl refl refl
 core_ranks good c n (direct_commits alg time) w g m = level w (world_after (core_kind n (direct_commits alg time)) n w) n (view_after (core_kind n (direct_commits alg time)) w (w.views n) (answer (core_kind n (direct_commits alg time)) w)) refl refl refl refl refl refl
+core_ranks good c n (direct_quits alg time) w g m = level w (world_after (core_kind n (direct_quits alg time)) n w) n (view_after (core_kind n (direct_quits alg time)) w (w.views n) (answer (core_kind n (direct_quits alg time)) w)) refl refl refl refl refl refl
 core_ranks good c n (returns fence alg) w g m = level w (world_after (core_kind n (returns fence alg)) n w) n (view_after (core_kind n (returns fence alg)) w (w.views n) (answer (core_kind n (returns fence alg)) w)) refl refl refl refl refl refl
 core_ranks good c n (fences from count alg) w g m = level w (world_after (core_kind n (fences from count alg)) n w) n (view_after (core_kind n (fences from count alg)) w (w.views n) (answer (core_kind n (fences from count alg)) w)) refl refl refl refl refl refl
 core_ranks good c n (fence_loads a) w g m = level w (world_after (core_kind n (fence_loads a)) n w) n (view_after (core_kind n (fence_loads a)) w (w.views n) (answer (core_kind n (fence_loads a)) w)) refl refl refl refl refl refl

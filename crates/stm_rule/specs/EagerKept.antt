@@ -29,14 +29,16 @@ pub record IsEager (c : Config) (l : Local) (v : View) : Type 0 where
   pub words : Inside c.words v.owned.in_place
   pub small : Small v.owned.in_place
   pub old_words : Inside c.words v.owned.undo
-  -- the record of each is held; there are no more records than words, and each was free at a number of the clock that its start has seen
+  -- the record of each is held; there are no more records than words unless it was rolled back, and each was free at a number of the clock that its start has seen
   pub covered : (a : ℕ) → touches v.owned.in_place a ≡ true → touches v.owned.held (home_of c a) ≡ true
-  pub few : length l.locks.items ≤ length l.writes.items
+  pub short : length l.writes.items ≤ l.undo.len
+  pub few : l.retains ≡ false → length l.locks.items ≤ length l.writes.items
   pub places : Inside c.records v.owned.held
   pub olds : (r : ℕ) → touches v.owned.held r ≡ true → over v.owned.held r 0 ≤ l.start
   -- below the limit, so the clock can be raised above it
   pub below : (r : ℕ) → touches v.owned.held r ≡ true → over v.owned.held r 0 < CLOCK_LIMIT
   pub committing : l.committing ≡ true → l.wrote ≡ true
+  pub marked : length l.writes.marks ≡ l.depth
   -- with one caller alone the start is the clock, which has stood since
   pub sole : c.callers ≡ 1 → l.start ≡ c.clock + v.steps.rises_at_begin
 
@@ -52,7 +54,9 @@ pub record IsEagerPromoted (c : Config) (l : Local) (v : View) : Type 0 where
   pub uncommitted : v.ring_commit.committed ≡ false
   pub locks : l.locks.items ≡ items v.owned.held
   pub places : Inside c.records v.owned.held
-  pub disowned : l.wrote ≡ false → v.owned.held ≡ []
+  -- it holds records only where it wrote, or was rolled back
+  pub disowned : l.wrote ≡ false → l.retains ≡ false → v.owned.held ≡ []
+  pub few : l.retains ≡ false → length l.locks.items ≤ l.undo.len
   pub clean : l.wrote ≡ false → v.attempt.stores ≡ []
   pub dirty : l.wrote ≡ true → v.attempt.stores ≢ []
   pub rises : v.steps.rises ≡ v.steps.rises_at_begin

@@ -11,10 +11,10 @@ use Rattle.rule_base.specs.declared.views.View.{View}
 use Rattle.rule_base.specs.Encodings.{alg_of}
 use Rattle.stm_model.specs.Algorithms.{has_ring, has_records, takes_lock, is_built}
 use Rattle.rule_base.specs.GateRule.{gate_scene, GateRule, may_hold}
-use Rattle.rule_base.specs.GateLaws.{gate_scene-kept}
+use Rattle.rule_base.specs.GateLaws.{gate_scene-kept, gate-marked}
 use Rattle.rule_base.specs.History.{upto, touches}
 use Rattle.rule_base.specs.HistoryRuleLemmas.{choice-grows, history-kept}
-use Rattle.rule_base.specs.InstallLaws.{not-calm, install-raised, install-done, install_scene-kept, nobody-calm}
+use Rattle.rule_base.specs.InstallLaws.{not-calm, install-raised, install-done, install_scene-kept, nobody-calm, ticked-install}
 use Rattle.rule_base.specs.Ranks.{rec_of, home_of}
 use Rattle.rule_base.specs.Ranks.Rec.{Taken}
 use Rattle.rule_base.specs.InstallRule.{install_scene, InstallRule}
@@ -24,7 +24,7 @@ use Rattle.rule_base.specs.Regime.Regime.{Running, Promoted}
 use Rattle.rule_base.specs.RegimeLemmas.{named-regime, regime-kept, regime-inside, regime-granted}
 use Rattle.rule_base.specs.RunScene.{RunView, run_view, RunScene, run_scene}
 use Rattle.rule_base.specs.StepsLemmas.{steps-kept}
-use Rattle.rule_base.specs.StepKinds.{StepKind, Advances, answer, view_after, world_after, StepLaw}
+use Rattle.rule_base.specs.StepKinds.{StepKind, Advances, answer, view_after, world_after, Outcome, StepLaw}
 use Rattle.rule_base.specs.World.{World, horizon}
 use Rattle.rule_seq.specs.AttemptLemmas.{busy-owned, busy-tml, busy-writer, busy-ring, busy-turn, attempts-after}
 use Rattle.rule_seq.specs.AttemptRule.{is_busy}
@@ -187,6 +187,16 @@ pub record LeavesGate (kind : StepKind) (n : ℕ) : Type 0 where
   pub gate : (w : World) → (world_after kind n w).gate ≡ w.gate
   pub status : (w : World) → (world_after kind n w).status ≡ w.status
   pub view : (w : World) → (kind.after w (w.views n) (answer kind w)).gate ≡ (w.views n).gate
+  pub marks : (w : World) → ((world_after kind n w).base ≡ w.base) × ((world_after kind n w).done ≡ w.done)
+  pub trail : (w : World) → (kind.after w (w.views n) (answer kind w)).steps.trail ≡ (w.views n).steps.trail
+
+-- the step raises the clock to t, and what the caller knows as the gate's holder is of that time; it leaves the other words alone
+pub record RaisesClock (kind : StepKind) (n t : ℕ) : Type 0 where
+  pub clock : (w : World) → (world_after kind n w).clock ≡ t
+  pub gate : (w : World) → (world_after kind n w).gate ≡ w.gate
+  pub status : (w : World) → (world_after kind n w).status ≡ w.status
+  pub records : (w : World) → (world_after kind n w).records ≡ w.records
+  pub view : (w : World) → (kind.after w (w.views n) (answer kind w)).gate ≡ record (w.views n).gate { time = t; rebased = false; completed = false }
   pub marks : (w : World) → ((world_after kind n w).base ≡ w.base) × ((world_after kind n w).done ≡ w.done)
   pub trail : (w : World) → (kind.after w (w.views n) (answer kind w)).steps.trail ≡ (w.views n).steps.trail
 
@@ -386,6 +396,45 @@ module _ (good : (ℕ → ℕ) → Type 0) (c : Config) (kind : StepKind) (shows
   pub by-direct : LeavesGate kind n → ((w : World) → (world_after kind n w).clock ≡ w.clock) → ((v : View) → May v → v.gate.granted ≡ true) → ((a : Alg) → StepLaw (RunWorld (Runs c (Promoted a n)) good c) kind shows n May) → StepLaw (Core good c) kind shows n May
   by-direct leaves clock inside law = by-attempt good c kind shows n May leaves (λ w g may.
       record { runs = Promoted (w.views n).gate.algorithm n; is = regime-granted c w n g.gate g.install (inside (w.views n) may); inside = (g.install.promoted n (inside (w.views n) may)).1; raised = λ e t. (g.install.promoted n (inside (w.views n) may)).0; law = law (w.views n).gate.algorithm; stands = inr (clock w) })
+
+-- a step by which a promoted attempt raises the clock, with an entry or without one
+pub by-raise : (good : (ℕ → ℕ) → Type 0) (c : Config) (kind : StepKind) (shows : World → View → ℕ → Type 0) (n t : ℕ) (May : View → Type 0) (alg : Alg) → RaisesClock kind n t → ((v : View) → May v → (v.gate.granted ≡ true) × (v.gate.algorithm ≡ alg)) → StepLaw (RunWorld (Runs c (Promoted alg n)) good c) kind shows n May → StepLaw (Core good c) kind shows n May
+by-raise good c kind shows n t May alg raises inside law w g may = record {
+  rule = record {
+    history = o.rule.history;
+    steps = o.rule.steps;
+    gate = gate-marked c.callers w x n v refl (raises.status w) (raises.gate w) (known (λ q. q.phase)) (known (λ q. q.present)) (known (λ q. q.algorithm)) (known (λ q. q.fence)) (known (λ q. q.aim)) (known (λ q. q.holds)) (known (λ q. q.checked)) g.gate;
+    install = ticked-install c w x n t v refl (raises.clock w) (raises.marks w).0 (raises.marks w).1 (raises.view w) (subst (λ (k : ℕ). w.clock ≤ k) (raises.clock w) o.advances.clock) calm g.gate g.install;
+    records = o.rule.records;
+    built = ap (λ (k : ℕ). is_built (alg_of k)) (raises.gate w) ∙ g.built;
+    lock = o.rule.lock;
+    attempts = o.rule.attempts;
+    running = subst (λ (r : Regime). Runs c r (run_scene x)) (sym (regime-kept w x n v refl (raises.gate w) (known mode_of) ∙ is)) o.rule.runs;
+    alone = alone-kept c kind n w (raises.trail w) (λ sole. inr (raises.records w)) g.alone;
+    raised = raised-put w x n v refl (λ e. sym (ap alg_of (raises.gate w)) ∙ e) (λ e k. known (λ q. q.calm) ∙ calm) g.raised;
+  };
+  advances = o.advances;
+  shown = o.shown;
+}
+  where
+    x : World
+    x = world_after kind n w
+
+    v : View
+    v = view_after kind w (w.views n) (answer kind w)
+
+    -- a part of what the caller knows of the gate that the time is not in
+    known : {A : Type 0} (part : GateView → A) → part v.gate ≡ part (record (w.views n).gate { time = t; rebased = false; completed = false })
+    known part = ap part (raises.view w)
+
+    calm : (w.views n).gate.calm ≡ true
+    calm = (g.install.promoted n (inside (w.views n) may).0).0
+
+    is : regime w ≡ Promoted alg n
+    is = regime-granted c w n g.gate g.install (inside (w.views n) may).0 ∙ ap (λ (a : Alg). Promoted a n) (inside (w.views n) may).1
+
+    o : Outcome (RunWorld (Runs c (Promoted alg n)) good c) kind shows n w
+    o = law w (record { history = g.history; steps = g.steps; records = g.records; lock = g.lock; attempts = g.attempts; runs = subst (λ (r : Regime). Runs c r (run_scene w)) is g.running }) may
 
 -- a step by which an attempt that isn't promoted raises DONE, while nobody knows the clock as the gate's holder
 pub by-done : (good : (ℕ → ℕ) → Type 0) (c : Config) (kind : StepKind) (shows : World → View → ℕ → Type 0) (n : ℕ) (May : View → Type 0) (a : Alg) → ((w : World) → ((world_after kind n w).gate ≡ w.gate) × ((world_after kind n w).status ≡ w.status) × ((kind.after w (w.views n) (answer kind w)).gate ≡ (w.views n).gate) × ((world_after kind n w).base ≡ w.base) × ((kind.after w (w.views n) (answer kind w)).steps.trail ≡ (w.views n).steps.trail) × ((kind.after w (w.views n) (answer kind w)).attempt.entered ≡ (w.views n).attempt.entered)) → has_ring a ≡ true

@@ -34,6 +34,7 @@ pub mod Irrevocable
 pub mod BesideLaws
 pub mod CheckRun
 pub mod FenceRun
+pub mod QuitRun
 pub mod NoteRun
 pub mod Stamping
 pub mod Allowing

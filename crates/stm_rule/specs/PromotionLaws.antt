@@ -21,7 +21,7 @@ use Rattle.rule_base.specs.RecordRule.{record_scene, RecordRule}
 use Rattle.rule_base.specs.declared.views.GateView.{GateView}
 use Rattle.stm_model.specs.declared.config.TheConstants.{CLOCK_LIMIT}
 use Rattle.rule_base.specs.HistoryRuleLemmas.{history-kept, history-seen, advances-same}
-use Rattle.rule_base.specs.InstallLaws.{install_scene-kept, install-view, grant-install, ticked-install}
+use Rattle.rule_base.specs.InstallLaws.{install_scene-kept, install-view, grant-install}
 use Rattle.rule_base.specs.InstallSteps.{HasChecked}
 use Rattle.rule_base.specs.InstallRule.{install_scene, InstallRule}
 use Rattle.rule_base.specs.PutLemmas.{put-all, put-here}
@@ -31,7 +31,7 @@ use Rattle.rule_base.specs.Regime.Mode.{Plain}
 use Rattle.rule_base.specs.Regime.Regime.{Running, Promoted}
 use Rattle.rule_base.specs.RegimeLemmas.{plain-mode, regime-running, regime-promoted, regime-kept, regime-inside, regime-granted, granted-regime}
 use Rattle.rule_base.specs.RunScene.{run_view, run_scene}
-use Rattle.rule_base.specs.StepKinds.{view_after, world_after, Nothing, Outcome, StepLaw}
+use Rattle.rule_base.specs.StepKinds.{view_after, world_after, Nothing, StepLaw}
 use Rattle.rule_base.specs.StepsLemmas.{steps-kept}
 use Rattle.rule_base.specs.World.{World, put, parts}
 use Rattle.rule_seq.specs.AttemptLemmas.{busy-owned, busy-tml, busy-writer, busy-ring, busy-turn, attempts-in}
@@ -40,13 +40,15 @@ use Rattle.rule_seq.specs.LockLemmas.{lock_scene-kept}
 use Rattle.rule_seq.specs.LockRule.{LockRule, lock_scene}
 use Rattle.rule_promoted.specs.PromotedLaws.{tml-granted}
 use Rattle.rule_promoted.specs.PromotedLaws as direct
-use Rattle.rule_promoted.specs.PromotedRule.{DirectRuns, DirectWorld}
+use Rattle.rule_promoted.specs.PromotedRule.{DirectRuns}
 use Rattle.rule_promoted.specs.PromotedSteps.{tml_grants, tml_grant, CanTmlGrant, direct_load, CanDirectLoad, direct_store, CanDirectStore, direct_commit, CanDirectCommit, direct_release, CanDirectRelease}
+use Rattle.rule_promoted.specs.QuittingSteps.{direct_quit, CanDirectQuit}
+use Rattle.rule_promoted.specs.QuittingLaws as quitting
 use Rattle.stm_rule.specs.ClosingLaws.{regime-handed}
 use Rattle.stm_rule.specs.Findings.{NamesOther, FindsHolder, FindsTaken, OrecFails}
 use Rattle.stm_rule.specs.Alone.{alone-kept}
 use Rattle.stm_rule.specs.Raised.{raised-put}
-use Rattle.stm_rule.specs.Frames.{by-gate, by-running, by-direct, ungranted, ungiven-out, same-horizon, owner-holds, none-apart, orec-world}
+use Rattle.stm_rule.specs.Frames.{by-gate, by-running, by-direct, by-raise, ungranted, ungiven-out, same-horizon, owner-holds, none-apart, orec-world}
 use Rattle.stm_rule.specs.Laws.{closer}
 use Rattle.stm_rule.specs.RecordLaws.{fails}
 use Rattle.stm_rule.specs.Product.{Runs, Core}
@@ -164,35 +166,10 @@ module _ (good : (ℕ → ℕ) → Type 0) (c : Config) (n : ℕ) where
   direct_stores a x = by-direct good c (direct_store a x) Nothing n (CanDirectStore c.words a x) (record { gate = λ w. refl; status = λ w. refl; view = λ w. refl; marks = λ w. (refl, refl); trail = λ w. refl }) (λ w. refl) (λ v m. m.granted) (λ alg. direct.direct_stores good c alg n a x)
 
   pub direct_commits : (alg : Alg) (t : ℕ) → n < c.callers → StepLaw (Core good c) (direct_commit n alg t) (Commits good c n t) n (CanDirectCommit good alg t)
-  direct_commits alg t low w g may = record {
-    rule = record {
-      history = o.rule.history;
-      steps = o.rule.steps;
-      gate = gate-marked c.callers w x n v refl refl refl refl refl refl refl refl refl refl g.gate;
-      install = ticked-install c w x n t v refl refl refl refl refl o.advances.clock (g.install.promoted n may.granted).0 g.gate g.install;
-      records = o.rule.records;
-      built = g.built;
-      lock = o.rule.lock;
-      attempts = o.rule.attempts;
-      running = subst (λ (r : Regime). Runs c r (run_scene x)) (sym (regime-kept w x n v refl refl refl ∙ is)) o.rule.runs;
-      alone = alone-kept c (direct_commit n alg t) n w refl (λ sole. inr refl) g.alone;
-      raised = raised-put w x n v refl (λ e. e) (λ e k. (g.install.promoted n may.granted).0) g.raised;
-    };
-    advances = o.advances;
-    shown = o.shown;
-  }
-    where
-      x : World
-      x = world_after (direct_commit n alg t) n w
+  direct_commits alg t low = by-raise good c (direct_commit n alg t) (Commits good c n t) n t (CanDirectCommit good alg t) alg (record { clock = λ w. refl; gate = λ w. refl; status = λ w. refl; records = λ w. refl; view = λ w. refl; marks = λ w. (refl, refl); trail = λ w. refl }) (λ v m. (m.granted, m.named)) (direct.direct_commits good c alg n t low)
 
-      v : View
-      v = view_after (direct_commit n alg t) w (w.views n) t
-
-      is : regime w ≡ Promoted alg n
-      is = regime-granted c w n g.gate g.install may.granted ∙ ap (λ (a : Alg). Promoted a n) may.named
-
-      o : Outcome (DirectWorld good c alg n) (direct_commit n alg t) (Commits good c n t) n w
-      o = direct.direct_commits good c alg n t low w (record { history = g.history; steps = g.steps; records = g.records; lock = g.lock; attempts = g.attempts; runs = subst (λ (r : Regime). Runs c r (run_scene w)) is g.running }) may
+  pub direct_quits : (alg : Alg) (t : ℕ) → n < c.callers → StepLaw (Core good c) (direct_quit alg t) Nothing n (CanDirectQuit alg t)
+  direct_quits alg t low = by-raise good c (direct_quit alg t) Nothing n t (CanDirectQuit alg t) alg (record { clock = λ w. refl; gate = λ w. refl; status = λ w. refl; records = λ w. refl; view = λ w. refl; marks = λ w. (refl, refl); trail = λ w. refl }) (λ v m. (m.granted, m.named)) (quitting.direct_quits good c alg n t low)
 
   -- nobody else is inside the records
   none_inside : (w : World) → Core good c w → HasChecked c.callers n (w.views n) → (m : ℕ) → m ≢ n → (w.views m).owned.inside ≡ true → ⊥

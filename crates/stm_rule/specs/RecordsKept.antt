@@ -66,8 +66,9 @@ pub record IsLazy (c : Config) (l : Local) (v : View) : Type 0 where
   pub unchecked : v.check.checking ≡ false
   pub reads : l.reads.items ≡ items v.attempt.reads
   pub locks : l.locks.items ≡ items v.owned.held
-  -- each is a record, and was free at a number of the clock
+  -- each is a record, and was free at a number of the clock; there are no more than words that may be written
   pub places : Inside c.records v.owned.held
+  pub few : length l.locks.items ≤ l.writes.len
   pub versions : (r : ℕ) → touches v.owned.held r ≡ true → over v.owned.held r 0 ≤ CLOCK_LIMIT
   pub open_handed : l.committing ≡ false → v.owned.held ≡ []
   pub locked : l.committing ≡ true → (a : ℕ) → touches (cells_of l.writes.items) a ≡ true → touches v.owned.held (home_of c a) ≡ true

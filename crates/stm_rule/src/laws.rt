@@ -5,6 +5,7 @@ ghost use Rattle.stm_model.specs.Configs.{IsConfig};
 ghost use Rattle.stm_rule.specs.CheckRun.{CoreChecks};
 ghost use Rattle.stm_rule.specs.FenceRun.{CoreFences};
 ghost use Rattle.stm_rule.specs.NoteRun.{CoreNotes};
+ghost use Rattle.stm_rule.specs.QuitRun.{CoreQuits};
 ghost use Rattle.stm_rule.specs.CoreRuns.{CoreOpens, CoreCommits, CoreInstalls, CorePromotes, CoreRecords, CoreRings};
 ghost use Rattle.stm_rule.specs.Irrevocable.{OneIrrevocable};
 ghost use Rattle.stm_rule.specs.Kept.{good_of};
@@ -93,6 +94,12 @@ pub fn core_notes<K: MemRule>()
 /// And one that commits under OrecLazy, and promoted under OrecEager.
 pub fn core_records<K: MemRule>()
     ensures { (rule : K) (c : Config) → CoreRecords (good_of K.good c rule) c }
+{}
+
+/// And one in which a promoted attempt of OrecEager that wrote nothing raises the clock without an entry, and gives back at
+/// that number the record of a word that it took back.
+pub fn core_quits<K: MemRule>()
+    ensures { (rule : K) (c : Config) → CoreQuits (good_of K.good c rule) c }
 {}
 
 /// No step lets the stamp of a record fall.

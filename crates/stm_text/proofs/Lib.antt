@@ -11,3 +11,4 @@ mod HeaderWrittenLaws
 pub mod WrittenLaws
 pub mod RegionLaws
 pub mod PartingLaws
+pub mod ReadingLaws

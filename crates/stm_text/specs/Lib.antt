@@ -11,3 +11,4 @@ pub mod Decimals
 pub mod Numbers
 pub mod WordLaws
 pub mod Giving
+pub mod Reading

@@ -8,7 +8,6 @@ use crate::code;
 use smallvec::SmallVec;
 use std::alloc::{AllocError, Global};
 use std::marker::Model;
-use std::mem;
 use stm_model::alg::Alg;
 use stm_profile::policy::Policy;
 use stm_script::lists::Script;
@@ -95,7 +94,8 @@ pub struct Draft {
     count: usize,
     items: Vec<Item>,
     caller: usize,
-    ops: SmallVec<Op, 1>,
+    // room that the transactions use in turn, so that each takes the memory of its own operations alone
+    ops: Vec<Op>,
     // whether an irrev is among them
     asked: bool,
     schedule: Vec<Go>,
@@ -193,7 +193,7 @@ impl Draft {
             count: 0,
             items: Vec::new(alloc),
             caller: 0,
-            ops: SmallVec::new(alloc),
+            ops: Vec::new(alloc),
             asked: false,
             schedule: Vec::new(alloc),
             turns: 0,
@@ -351,8 +351,9 @@ impl Draft {
     fn close(&mut self, alloc: Global) -> Result<(), AllocError>
         ensures { OnOk result (self.new ≡ after End self.old) }
     {
+        let script = Script::new(SmallVec::from_slice(alloc, self.ops.as_slice())?);
+        self.ops.clear();
         self.asked = false;
-        let script = Script::new(mem::replace(&mut self.ops, SmallVec::new(alloc)));
         self.items.push(Item::Tx {
             caller: self.caller,
             script,

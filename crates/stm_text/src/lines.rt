@@ -1,6 +1,11 @@
 //! Bytes of a line: words and numbers.
-ghost use Rattle.std.specs.Prelude.{◌≡◌, ◌<◌, ◌+◌, ◌∷◌, MatchOption, take, drop, length, bytes_eq};
+ghost use Rattle.std.specs.Prelude.{◌≡◌, ◌<◌, ◌≤◌, ◌+◌, ◌∷◌, MatchOption, take, drop, length, bytes_eq, not, ltb, ◌||◌, ◌↔◌, ℕ, false, slice_index, IfSome};
 ghost use Rattle.stm_text.specs.Lines.{any_bad, number_of, number_from, Lacks};
+ghost use Rattle.stm_text.specs.WordLaws.{Visible};
+ghost use Rattle.std.specs.Int.{bit_at};
+ghost use Rattle.stm_text.specs.Reading.{is_visible, end_of, EndsBy};
+
+use std::simd::prelude::*;
 
 /// The place of the first `b`.
 pub fn find(b: u8, s: &[u8]) -> Option<usize>
@@ -23,11 +28,109 @@ pub fn past(s: &[u8], i: usize) -> &[u8]
     &s[i + 1..]
 }
 
+/// What ends a word.
+#[derive(Clone, Copy, Drop, Debug, PartialEq, Eq)]
+pub enum End {
+    /// A space: another word follows.
+    Space,
+    /// An LF: the line is over.
+    Line,
+    /// A byte that no line may have.
+    Bad,
+    /// The end of the text.
+    Text,
+}
+
+/// The length of the first word, of bytes from 33 to 126, and what ends it.
+#[inline(always)]
+pub fn first_word(s: &[u8]) -> (usize, End)
+    ensures within { result.0 ≤ length s.now }
+    ensures visible { Visible (take result.0 s.now) }
+    ensures end { EndsBy result.1 result.0 s.now }
+{
+    match near_end(s) {
+        Some(i) => (i, end_of(s[i])),
+        None => long_word(s),
+    }
+}
+
+/// How many bytes are looked at together.
+const LANES: usize = 16;
+
+/// The length of the first word, where it ends within so many bytes and as many are there.
+#[inline(always)]
+fn near_end(s: &[u8]) -> Option<usize>
+    ensures { IfSome result (λ i. (i < length s.now) × Visible (take i s.now) × (is_visible (slice_index s.now i) ≡ false)) }
+{
+    if s.len() < LANES {
+        return None;
+    }
+    let ends = ends(s);
+    if ends == 0 {
+        return None;
+    }
+    Some(ends.trailing_zeros() as usize)
+}
+
+/// Which of the first bytes can't stand in a word: bit k is for byte k.
+#[inline(always)]
+fn ends(s: &[u8]) -> u64
+    requires { 16 ≤ length s.now }
+    ensures { (k : ℕ) → (bit_at result k ≡ 1) ↔ ((k < 16) × (is_visible (slice_index s.now k) ≡ false)) }
+{
+    // less 127, which wraps below it, those of a word are the numbers from 162 on
+    let turned = u8x16::from_slice(s) - u8x16::splat(127);
+    turned.simd_lt(u8x16::splat(162)).to_bitmask()
+}
+
+/// The same of a word of any length.
+#[inline(never)]
+fn long_word(s: &[u8]) -> (usize, End)
+    ensures within { result.0 ≤ length s.now }
+    ensures visible { Visible (take result.0 s.now) }
+    ensures end { EndsBy result.1 result.0 s.now }
+{
+    for (i, b) in s.iter().enumerate() {
+        if !is_visible(*b) {
+            return (i, end_of(*b));
+        }
+    }
+    (s.len(), End::Text)
+}
+
+/// Whether a byte may stand on a line.
+pub(crate) fn may_stand(b: u8) -> bool
+    ensures { result ≡ not (ltb b 32 || ltb 126 b) }
+{
+    32 <= b && b <= 126
+}
+
+/// Whether a byte may stand in a word.
+#[inline(always)]
+fn is_visible(b: u8) -> bool
+    ensures { result ≡ is_visible b }
+{
+    33 <= b && b <= 126
+}
+
+/// What a byte is the end of a word as, where it isn't one of a word.
+#[inline(always)]
+fn end_of(b: u8) -> End
+    ensures { result ≡ end_of b }
+{
+    match b {
+        b' ' => End::Space,
+        b'\n' => End::Line,
+        _ => End::Bad,
+    }
+}
+
 /// Whether a word is this one.
+#[inline(always)]
 pub fn is(word: &[u8], name: &[u8]) -> bool
     ensures { result ≡ bytes_eq word.now name.now }
 {
-    word == name
+    word.len() == name.len() && name.starts_with(word)
 }
 
 /// Whether a byte of the line is outside 32 to 126.
@@ -43,6 +146,7 @@ pub fn is_any_bad(line: &[u8]) -> bool
 }
 
 /// The number that a word is: decimal, without sign and leading zeros, below 2^64.
+#[inline(always)]
 pub fn number(word: &[u8]) -> Option<u64>
     ensures { result ≡ number_of word.now }
 {
@@ -53,6 +157,10 @@ pub fn number(word: &[u8]) -> Option<u64>
     }
 }
 
+/// Behind each number below this one there is room for any digit.
+const ROOMY: u64 = u64::MAX / 10;
+
+#[inline(always)]
 fn digits(word: &[u8]) -> Option<u64>
     ensures { result ≡ number_from 0 word.now }
 {
@@ -61,7 +169,12 @@ fn digits(word: &[u8]) -> Option<u64>
         if !b.is_ascii_digit() {
             return None;
         }
-        n = n.checked_mul(10)?.checked_add(u64::from(*b - b'0'))?;
+        let digit = u64::from(*b - b'0');
+        n = if n < ROOMY {
+            n * 10 + digit
+        } else {
+            n.checked_mul(10)?.checked_add(digit)?
+        };
     }
     Some(n)
 }

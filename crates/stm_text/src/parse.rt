@@ -1,14 +1,13 @@
 //! Workloads, read from their text.
-ghost use Rattle.std.specs.Prelude.{◌≡◌, ◌≤◌, length, if◌then◌else◌, IfOk, IfErr, Ok};
+ghost use Rattle.std.specs.Prelude.{◌≡◌, ◌≤◌, length, IfOk, IfErr, Ok};
 ghost use Rattle.stm_text.specs.Grammar.{workload_of, parsed, ended, IsFirstFault, Answers};
 ghost use Rattle.stm_text.specs.Drafts.{opening};
-ghost use Rattle.stm_text.specs.Lines.{lines_of, any_bad};
-ghost use Rattle.stm_text.specs.declared.code.TheConstants.{BYTES, UNENDED};
+ghost use Rattle.stm_text.specs.Lines.{lines_of};
 ghost use Rattle.stm_text.specs.Built.{IsBuilt};
 
+use crate::code;
 use crate::draft::{Draft, Step};
 use crate::table::step_of;
-use crate::{code, lines};
 use std::alloc::{AllocError, Global};
 use stm_script::workload::Workload;
 use thiserror::Error;
@@ -70,12 +69,13 @@ fn read_lines(alloc: Global, mode: Mode, text: &[u8]) -> Result<Workload, ParseE
     let mut draft = Draft::new(alloc);
     let mut rest = text;
     let mut number = 1usize;
-    while let Some(i) = lines::find(b'\n', rest) {
-        let step = match step_of(mode, &draft, &rest[..i]) {
+    while !rest.is_empty() {
+        let (read, others) = step_of(mode, &draft, rest);
+        let step = match read {
             Ok(step) => step,
             Err(code) => return Err(ParseError::Fault { line: number, code }),
         };
-        rest = lines::past(rest, i);
+        rest = others;
         number += 1;
         if let Step::Done = step {
             return finished(draft, number, rest);
@@ -84,19 +84,8 @@ fn read_lines(alloc: Global, mode: Mode, text: &[u8]) -> Result<Workload, ParseE
     }
     Err(ParseError::Fault {
         line: number,
-        code: unended(rest),
+        code: code::UNENDED,
     })
-}
-
-/// The lowest code of a line without an LF.
-fn unended(line: &[u8]) -> u32
-    ensures { result ≡ (if any_bad line.now then BYTES else UNENDED) }
-{
-    if lines::is_any_bad(line) {
-        code::BYTES
-    } else {
-        code::UNENDED
-    }
 }
 
 /// The workload, where nothing follows `done`.

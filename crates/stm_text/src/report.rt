@@ -1,11 +1,11 @@
 //! Reports, written as their text.
-ghost use Rattle.std.specs.Prelude.{◌≡◌, ◌<◌, ◌∷◌, ◌++◌, ℕ, List, All, codes, IfOk, OnOk, string_bytes};
+ghost use Rattle.std.specs.Prelude.{◌≡◌, ◌<◌, ◌∷◌, ◌++◌, ℕ, List, All, codes, IfOk, OnOk};
 ghost use Rattle.std.specs.Fmt.{decimal};
 ghost use Rattle.stm_script.specs.declared.report.Row.{Row};
 ghost use Rattle.stm_text.specs.Pieces.{ArePieces};
 ghost use Rattle.stm_text.specs.Reports.{spaced, emitted, letter_of, row_line, row_lines, memory_line, memory_lines, report_bytes, IsWord, RowFits, PairFits, ReportFits};
 
-use itoa::Buffer;
+use itoa::write_digits;
 use std::alloc::{AllocError, Global};
 use std::thread;
 use std::thread::Threads;
@@ -17,13 +17,16 @@ pub fn report_text(alloc: Global, report: &Report) -> Result<Vec<u8>, Memory>
     ensures fits { OnOk result (ReportFits report.now) }
     ensures text { IfOk result (λ t. t.items ≡ report_bytes report.now) }
 {
-    let mut text = String::new(alloc);
-    text.push_str("report 1\n")?;
+    let mut text = Vec::new(alloc);
+    text.extend_from_slice(b"report 1\n")?;
     put_rows(&mut text, report.rows.as_slice())?;
     put_memory(&mut text, report.memory.as_slice())?;
-    text.push_str("end\n")?;
-    Ok(text.into_bytes())
+    text.extend_from_slice(b"end\n")?;
+    Ok(text)
 }
+
+/// The longest number of 64 bits, and a space before it.
+const LONGEST: usize = 21;
 
 /// A thread is given at least so many rows, if there are: the lines of fewer take less time than its start.
 const FEWEST_ROWS: usize = 1024;
@@ -49,38 +52,38 @@ pub fn report_text_by<R: Threads + Sync>(
         size,
         &|_, piece| { rows_text(alloc, piece) },
     )?;
-    let mut text = String::new(alloc);
-    text.push_str("report 1\n")?;
+    let mut text = Vec::new(alloc);
+    text.extend_from_slice(b"report 1\n")?;
     put_pieces(&mut text, pieces)?;
     put_memory(&mut text, report.memory.as_slice())?;
-    text.push_str("end\n")?;
-    Ok(text.into_bytes())
+    text.extend_from_slice(b"end\n")?;
+    Ok(text)
 }
 
 /// The lines of some of a report's rows.
-fn rows_text(alloc: Global, rows: &[Row]) -> Result<String, Memory>
+fn rows_text(alloc: Global, rows: &[Row]) -> Result<Vec<u8>, Memory>
     ensures fits { OnOk result (All RowFits rows.now) }
-    ensures text { IfOk result (λ t. string_bytes t ≡ row_lines rows.now) }
+    ensures text { IfOk result (λ t. t.items ≡ row_lines rows.now) }
 {
-    let mut text = String::new(alloc);
+    let mut text = Vec::new(alloc);
     put_rows(&mut text, rows)?;
     Ok(text)
 }
 
 /// The lines of all rows, of which each piece has those of a chunk.
-fn put_pieces(text: &mut String, pieces: Vec<Result<String, Memory>>) -> Result<(), Memory>
-    ensures fits { (size : ℕ) (rows : List Row) → ArePieces (λ t. string_bytes t) size rows pieces.items → OnOk result (All RowFits rows) }
-    ensures text { (size : ℕ) (rows : List Row) → ArePieces (λ t. string_bytes t) size rows pieces.items → OnOk result (string_bytes text.new ≡ string_bytes text.old ++ row_lines rows) }
+fn put_pieces(text: &mut Vec<u8>, pieces: Vec<Result<Vec<u8>, Memory>>) -> Result<(), Memory>
+    ensures fits { (size : ℕ) (rows : List Row) → ArePieces (λ t. t.items) size rows pieces.items → OnOk result (All RowFits rows) }
+    ensures text { (size : ℕ) (rows : List Row) → ArePieces (λ t. t.items) size rows pieces.items → OnOk result (text.new.items ≡ text.old.items ++ row_lines rows) }
 {
     for piece in pieces {
-        text.push_str(&piece?)?;
+        text.extend_from_slice(piece?.as_slice())?;
     }
     Ok(())
 }
 
-fn put_rows(text: &mut String, rows: &[Row]) -> Result<(), AllocError>
+fn put_rows(text: &mut Vec<u8>, rows: &[Row]) -> Result<(), AllocError>
     ensures fits { OnOk result (All RowFits rows.now) }
-    ensures text { OnOk result (string_bytes text.new ≡ string_bytes text.old ++ row_lines rows.now) }
+    ensures text { OnOk result (text.new.items ≡ text.old.items ++ row_lines rows.now) }
 {
     for row in rows {
         put_row(text, row)?;
@@ -88,9 +91,9 @@ fn put_rows(text: &mut String, rows: &[Row]) -> Result<(), AllocError>
     Ok(())
 }
 
-fn put_memory(text: &mut String, words: &[(usize, u64)]) -> Result<(), AllocError>
+fn put_memory(text: &mut Vec<u8>, words: &[(usize, u64)]) -> Result<(), AllocError>
     ensures fits { OnOk result (All PairFits words.now) }
-    ensures text { OnOk result (string_bytes text.new ≡ string_bytes text.old ++ memory_lines words.now) }
+    ensures text { OnOk result (text.new.items ≡ text.old.items ++ memory_lines words.now) }
 {
     for word in words {
         put_word(text, word.0 as u64, word.1)?;
@@ -99,54 +102,55 @@ fn put_memory(text: &mut String, words: &[(usize, u64)]) -> Result<(), AllocErro
 }
 
 /// `mem a v`.
-fn put_word(text: &mut String, a: u64, v: u64) -> Result<(), AllocError>
-    ensures { OnOk result (string_bytes text.new ≡ string_bytes text.old ++ memory_line (a, v)) }
+fn put_word(text: &mut Vec<u8>, a: u64, v: u64) -> Result<(), AllocError>
+    ensures { OnOk result (text.new.items ≡ text.old.items ++ memory_line (a, v)) }
 {
-    text.push_str("mem")?;
+    text.extend_from_slice(b"mem")?;
     put_number(text, a)?;
     put_number(text, v)?;
-    text.push_str("\n")
+    text.extend_from_slice(b"\n")
 }
 
 /// `K place caller seq : r1 r2 ..`, and the emits.
-fn put_row(text: &mut String, row: &Row) -> Result<(), AllocError>
+fn put_row(text: &mut Vec<u8>, row: &Row) -> Result<(), AllocError>
     ensures fits { OnOk result (RowFits row.now) }
-    ensures text { OnOk result (string_bytes text.new ≡ string_bytes text.old ++ row_line row.now) }
+    ensures text { OnOk result (text.new.items ≡ text.old.items ++ row_line row.now) }
 {
-    text.push_str(letter(row.kind))?;
+    text.extend_from_slice(letter(row.kind))?;
     put_number(text, row.place)?;
     put_number(text, row.caller as u64)?;
     put_number(text, row.seq as u64)?;
-    text.push_str(" :")?;
+    text.extend_from_slice(b" :")?;
     put_numbers(text, row.replies.as_slice())?;
     put_emits(text, row.emits.as_slice())?;
-    text.push_str("\n")
+    text.extend_from_slice(b"\n")
 }
 
-fn letter(kind: Kind) -> &'static str
+fn letter(kind: Kind) -> &'static [u8]
     ensures { result.now ≡ letter_of kind }
 {
     match kind {
-        Kind::W => "W",
-        Kind::R => "R",
-        Kind::C => "C",
+        Kind::W => b"W",
+        Kind::R => b"R",
+        Kind::C => b"C",
     }
 }
 
-fn put_emits(text: &mut String, emits: &[u64]) -> Result<(), AllocError>
+fn put_emits(text: &mut Vec<u8>, emits: &[u64]) -> Result<(), AllocError>
     ensures fits { OnOk result (All IsWord emits.now) }
-    ensures text { OnOk result (string_bytes text.new ≡ string_bytes text.old ++ emitted emits.now) }
+    ensures text { OnOk result (text.new.items ≡ text.old.items ++ emitted emits.now) }
 {
     if emits.is_empty() {
         return Ok(());
     }
-    text.push_str(" !")?;
+    text.extend_from_slice(b" !")?;
     put_numbers(text, emits)
 }
 
-fn put_numbers(text: &mut String, numbers: &[u64]) -> Result<(), AllocError>
+/// Each behind a space.
+fn put_numbers(text: &mut Vec<u8>, numbers: &[u64]) -> Result<(), AllocError>
     ensures fits { OnOk result (All IsWord numbers.now) }
-    ensures text { OnOk result (string_bytes text.new ≡ string_bytes text.old ++ spaced numbers.now) }
+    ensures text { OnOk result (text.new.items ≡ text.old.items ++ spaced numbers.now) }
 {
     for n in numbers {
         put_number(text, *n)?;
@@ -154,10 +158,12 @@ fn put_numbers(text: &mut String, numbers: &[u64]) -> Result<(), AllocError>
     Ok(())
 }
 
-fn put_number(text: &mut String, n: u64) -> Result<(), AllocError>
-    ensures { OnOk result (string_bytes text.new ≡ string_bytes text.old ++ (32 ∷ decimal n)) }
+/// A space, and the number behind it.
+#[inline(always)]
+fn put_number(text: &mut Vec<u8>, n: u64) -> Result<(), AllocError>
+    ensures { OnOk result (text.new.items ≡ text.old.items ++ (32 ∷ decimal n)) }
 {
-    let mut digits = Buffer::new();
-    text.push_str(" ")?;
-    text.push_str(digits.format(n))
+    let mut word = [b' '; LONGEST];
+    let start = write_digits(n, &mut word, LONGEST);
+    text.extend_from_slice(&word[start - 1..])
 }

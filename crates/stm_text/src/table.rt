@@ -1,9 +1,12 @@
 //! What may stand on a line: the table of the grammar, row by row.
-ghost use Rattle.std.specs.Prelude.{◌≡◌, true, Ok, Err, codes, take, drop, leb};
-ghost use Rattle.stm_text.specs.Grammar.{algorithm_of, algorithm, version_of, most_words, policy_of, numbered_policy, kind_of, kind_name, most_size, end_of, is_placed, region_of, ranged, sized, header_line, next_line, below, formed, named, scheduled, switched, is_plain, plain, caller_of, address, operands, move_of, count_of, stripe_of, placed_count, map_put_of, map_sum_of, reserve_of, op_of, keyed, keyless, placed_keyless, placed_keyed, go_of, one_word, two_words, three_words, four_words, four_words_two, filled, by_words, step_of};
-ghost use Rattle.stm_text.specs.Lines.{number_of, words_of, Line};
+ghost use Rattle.std.specs.Prelude.{◌≡◌, ◌∷◌, Err, OnOk, codes, take, drop, leb};
+ghost use Rattle.stm_text.specs.Grammar.{algorithm_of, algorithm, version_of, most_words, policy_of, numbered_policy, kind_of, kind_name, most_size, end_of, is_placed, region_of, ranged, sized, header_line, next_line, below, formed, named, scheduled, switched, is_plain, plain, caller_of, address, operands, move_of, count_of, stripe_of, placed_count, map_put_of, map_sum_of, reserve_of, op_of, keyed, keyless, placed_keyless, placed_keyed, go_of, one_word, two_words, three_words, four_words, four_words_two, filled, by_words};
+ghost use Rattle.stm_text.specs.Lines.{lines_of, number_of};
+ghost use Rattle.stm_text.specs.Reading.{judged, Leaves};
+ghost use Rattle.stm_text.specs.declared.code.TheConstants.{WORD};
 
 use crate::draft::{Draft, Field, Place, Step, next_region};
+use crate::lines::End;
 use crate::parse::Mode;
 use crate::{code, lines};
 use stm_model::alg::{ALGORITHMS, Alg};
@@ -29,6 +32,7 @@ const KINDS: [Structure; 6] = [
 ];
 
 /// A word that is a number.
+#[inline(always)]
 fn formed(word: &[u8]) -> Result<u64, u32>
     ensures { result ≡ formed (number_of word.now) }
 {
@@ -36,6 +40,7 @@ fn formed(word: &[u8]) -> Result<u64, u32>
 }
 
 /// A number below an end.
+#[inline(always)]
 fn below(end: usize, n: u64) -> Result<usize, u32>
     ensures { result ≡ below end n }
 {
@@ -351,6 +356,7 @@ fn is_plain(regions: &[Region], a: usize) -> bool
 }
 
 /// A plain address: with structures on in version 1 one that isn't theirs, in version 2 one of no region.
+#[inline(always)]
 fn plain(header: &Header, a: usize) -> Result<usize, u32>
     ensures { result ≡ plain header.now a }
 {
@@ -374,6 +380,7 @@ fn plain(header: &Header, a: usize) -> Result<usize, u32>
 }
 
 /// An address.
+#[inline(always)]
 fn address(draft: &Draft, word: &[u8]) -> Result<usize, u32>
     ensures { result ≡ address draft.now word.now }
 {
@@ -382,6 +389,7 @@ fn address(draft: &Draft, word: &[u8]) -> Result<usize, u32>
 }
 
 /// An address and a value, both of the form before the address is in range.
+#[inline(always)]
 fn operands(draft: &Draft, a: &[u8], v: &[u8]) -> Result<(usize, u64), u32>
     ensures { result ≡ operands draft.now a.now v.now }
 {
@@ -393,6 +401,7 @@ fn operands(draft: &Draft, a: &[u8], v: &[u8]) -> Result<(usize, u64), u32>
 
 /// Two addresses and a value: all of the form before an address is in range, and both in range before one is
 /// plain.
+#[inline(always)]
 fn move_of(draft: &Draft, a: &[u8], b: &[u8], v: &[u8]) -> Result<Op, u32>
     ensures { result ≡ move_of draft.now a.now b.now v.now }
 {
@@ -622,6 +631,7 @@ fn two_words(mode: Mode, draft: &Draft, w: &[u8], v: &[u8]) -> Result<Step, u32>
     }
 }
 
+#[inline(always)]
 fn three_words(draft: &Draft, w: &[u8], a: &[u8], v: &[u8]) -> Result<Step, u32>
     ensures { result ≡ filled a.now (filled v.now (three_words draft.now.place draft.now w.now a.now v.now)) }
 {
@@ -666,6 +676,7 @@ fn three_words(draft: &Draft, w: &[u8], a: &[u8], v: &[u8]) -> Result<Step, u32>
     }
 }
 
+#[inline(always)]
 fn four_words(draft: &Draft, w: &[u8], a: &[u8], b: &[u8], v: &[u8]) -> Result<Step, u32>
     ensures { result ≡ filled a.now (filled b.now (filled v.now (four_words draft.now.place draft.now w.now a.now b.now v.now))) }
 {
@@ -719,35 +730,100 @@ fn four_words_two(draft: &Draft, w: &[u8], a: &[u8], b: &[u8], v: &[u8]) -> Resu
     Err(code::WORD)
 }
 
-/// A line by its words.
-fn by_words(mode: Mode, draft: &Draft, line: &[u8]) -> Result<Step, u32>
-    ensures { result ≡ by_words mode draft.now (words_of line.now) }
+/// What the first line of a text does after those before it, or its lowest code; and where it has none, what stands behind
+/// that line.
+pub fn step_of<'t>(mode: Mode, draft: &Draft, text: &'t [u8]) -> (Result<Step, u32>, &'t [u8])
+    ensures step { result.0 ≡ judged (by_words mode draft.now) (lines_of text.now) }
+    ensures rest { OnOk result.0 (Leaves text.now result.1.now) }
 {
-    let Some(i) = lines::find(b' ', line) else {
-        return one_word(mode, draft, line);
-    };
-    let rest = lines::past(line, i);
-    let Some(j) = lines::find(b' ', rest) else {
-        return two_words(mode, draft, &line[..i], rest);
-    };
-    let more = lines::past(rest, j);
-    let Some(k) = lines::find(b' ', more) else {
-        return three_words(draft, &line[..i], &rest[..j], more);
-    };
-    let last = lines::past(more, k);
-    match lines::find(b' ', last) {
-        None => four_words(draft, &line[..i], &rest[..j], &more[..k], last),
-        Some(_) => Err(code::WORD),
+    let (i, end) = lines::first_word(text);
+    let w = &text[..i];
+    match end {
+        End::Space => behind_one(mode, draft, w, lines::past(text, i)),
+        End::Line => (one_word(mode, draft, w), lines::past(text, i)),
+        End::Bad => (Err(code::BYTES), text),
+        End::Text => (Err(code::UNENDED), text),
     }
 }
 
-/// What a line that an LF ends does after those before it, or its lowest code.
-pub fn step_of(mode: Mode, draft: &Draft, line: &[u8]) -> Result<Step, u32>
-    ensures { result ≡ step_of mode draft.now (record { bytes = line.now; ended = true }) }
+/// The same from the second word on, where `w` is the first.
+#[inline(always)]
+fn behind_one<'t>(
+    mode: Mode,
+    draft: &Draft,
+    w: &[u8],
+    text: &'t [u8],
+) -> (Result<Step, u32>, &'t [u8])
+    ensures step { result.0 ≡ judged (λ ws. by_words mode draft.now (w.now ∷ ws)) (lines_of text.now) }
+    ensures rest { OnOk result.0 (Leaves text.now result.1.now) }
 {
-    if lines::is_any_bad(line) {
-        Err(code::BYTES)
-    } else {
-        by_words(mode, draft, line)
+    let (i, end) = lines::first_word(text);
+    let v = &text[..i];
+    match end {
+        End::Space => behind_two(mode, draft, w, v, lines::past(text, i)),
+        End::Line => (two_words(mode, draft, w, v), lines::past(text, i)),
+        End::Bad => (Err(code::BYTES), text),
+        End::Text => (Err(code::UNENDED), text),
     }
+}
+
+/// The same from the third word on.
+#[inline(always)]
+fn behind_two<'t>(
+    _mode: Mode,
+    draft: &Draft,
+    w: &[u8],
+    a: &[u8],
+    text: &'t [u8],
+) -> (Result<Step, u32>, &'t [u8])
+    ensures step { result.0 ≡ judged (λ ws. by_words _mode draft.now (w.now ∷ a.now ∷ ws)) (lines_of text.now) }
+    ensures rest { OnOk result.0 (Leaves text.now result.1.now) }
+{
+    let (i, end) = lines::first_word(text);
+    let v = &text[..i];
+    match end {
+        End::Space => behind_three(_mode, draft, w, a, v, lines::past(text, i)),
+        End::Line => (three_words(draft, w, a, v), lines::past(text, i)),
+        End::Bad => (Err(code::BYTES), text),
+        End::Text => (Err(code::UNENDED), text),
+    }
+}
+
+/// The same from the fourth word on.
+#[inline(always)]
+fn behind_three<'t>(
+    _mode: Mode,
+    draft: &Draft,
+    w: &[u8],
+    a: &[u8],
+    b: &[u8],
+    text: &'t [u8],
+) -> (Result<Step, u32>, &'t [u8])
+    ensures step { result.0 ≡ judged (λ ws. by_words _mode draft.now (w.now ∷ a.now ∷ b.now ∷ ws)) (lines_of text.now) }
+    ensures rest { OnOk result.0 (Leaves text.now result.1.now) }
+{
+    let (i, end) = lines::first_word(text);
+    let v = &text[..i];
+    match end {
+        End::Space => (Err(too_many(lines::past(text, i))), text),
+        End::Line => (four_words(draft, w, a, b, v), lines::past(text, i)),
+        End::Bad => (Err(code::BYTES), text),
+        End::Text => (Err(code::UNENDED), text),
+    }
+}
+
+/// The lowest code of a line that has a word too many, from that word on.
+#[cold]
+fn too_many(text: &[u8]) -> u32
+    ensures { judged (λ _. Err WORD) (lines_of text.now) ≡ Err result }
+{
+    for b in text {
+        if *b == b'\n' {
+            return code::WORD;
+        }
+        if !lines::may_stand(*b) {
+            return code::BYTES;
+        }
+    }
+    code::UNENDED
 }

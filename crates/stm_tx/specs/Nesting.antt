@@ -1,21 +1,10 @@
 -- Marks, in the terms of what a caller knows.
 use Rattle.std.specs.Prelude.{ℕ, ◌≡◌, ◌&&◌, not, if◌then◌else◌, Bool, true, false, List}
-use Rattle.stm_model.specs.declared.alg.Alg.{Alg}
-use Rattle.stm_model.specs.declared.alg.Alg.TheVariants.{Cgl, Tml, OrecLazy, OrecEager, RingSw, Serial}
 use Rattle.stm_model.specs.declared.config.Config.{Config}
 use Rattle.tx_answers.specs.declared.answers.Check.TheVariants.{Marked}
 use Rattle.tx_answers.specs.declared.answers.Roll.TheVariants.{Rolled}
 use Rattle.tx_answers.specs.Answers.{Checks, Rolls}
 use Rattle.tx_answers.specs.Known.{Known, is_irrevocable}
-
--- the algorithms under which marks are built
-abbrev pub takes_marks : Alg → Bool
-takes_marks Cgl = true
-takes_marks Tml = true
-takes_marks OrecLazy = true
-takes_marks OrecEager = false
-takes_marks RingSw = true
-takes_marks Serial = true
 
 -- marks end with the first commit call, and with the attempt
 abbrev pub live_marks : Known → ℕ

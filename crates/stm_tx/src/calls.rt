@@ -235,13 +235,16 @@ pub fn reserve<K: MemRule>(
         writes: longer_writes,
         locks,
         ..
-    } = Local::idle(alloc, reads, writes)?;
+    } = Local::idle(alloc, reads, writes, writes)?;
     if desc.local.reads.len() < reads {
         desc.local.reads = longer_reads;
     }
     if desc.local.undo.len() < writes {
         desc.local.undo = undo;
         desc.local.writes = longer_writes;
+    }
+    // it has room for every record already
+    if desc.local.locks.len() < writes {
         desc.local.locks = locks;
     }
     Ok(())

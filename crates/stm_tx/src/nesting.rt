@@ -7,9 +7,9 @@ ghost use Rattle.tx_answers.specs.Answers.{Checks, Rolls, Releases};
 ghost use Rattle.tx_answers.specs.Counting.{AddsAtMost};
 ghost use Rattle.tx_answers.specs.Known.{IsRunning};
 ghost use Rattle.stm_tx.specs.Descs.{known, number};
-ghost use Rattle.stm_tx.specs.Nesting.{takes_marks, live_marks, RollsToMark};
+ghost use Rattle.stm_tx.specs.Nesting.{live_marks, RollsToMark};
 
-use alg_orec::nesting as lazy;
+use alg_orec::{eager_nesting as eager, nesting as lazy};
 use alg_ring::nesting as ring;
 use alg_seq::nesting as sequential;
 use stm_model::alg::Alg;
@@ -18,27 +18,17 @@ use stm_rule::desc::Desc;
 use stm_rule::stm::Stm;
 use tx_answers::answers::{Check, Roll};
 
-/// Whether an attempt can be marked under the algorithm. It is the one that the attempt's begin has answered.
-pub fn takes_marks(alg: Alg) -> bool
-    ensures { result ≡ takes_marks alg }
-{
-    match alg {
-        Alg::Cgl | Alg::Tml | Alg::OrecLazy | Alg::RingSw | Alg::Serial => true,
-        Alg::OrecEager => false,
-    }
-}
-
 /// Makes a mark at what the attempt has written: `depth` counts those that stand. `Deep` comes exactly where 8 stand,
 /// and changes nothing. No step.
 pub fn checkpoint<K: MemRule>(desc: &mut Desc<K>) -> Check
     requires running { IsRunning (known desc.old) }
-    requires built { takes_marks (known desc.old).alg ≡ true }
     ensures same { IsSameCaller desc.old desc.new }
     ensures checks { Checks result (known desc.old) (known desc.new) }
     ensures steps { AddsAtMost 0 (known desc.old) (known desc.new) }
 {
     match desc.local.algorithm {
         Alg::OrecLazy => lazy::checkpoint(desc),
+        Alg::OrecEager => eager::checkpoint(desc),
         Alg::RingSw => ring::checkpoint(desc),
         _ => sequential::checkpoint(desc),
     }
@@ -46,11 +36,11 @@ pub fn checkpoint<K: MemRule>(desc: &mut Desc<K>) -> Check
 
 /// Rolls the attempt back to mark `depth`: what it has written is what it had written there, and what it has read stays
 /// read. The mark stands, and those above it are gone. `Irrevocable` comes exactly where the attempt is irrevocable, and
-/// changes nothing. Under Serial one step for each word that the attempt has stored, else none.
+/// changes nothing. Under Serial and OrecEager one step for each word that the attempt has stored, else none;
+/// under OrecEager it goes on to hold the records of the words.
 pub fn roll_to<K: MemRule>(desc: &mut Desc<K>, stm: &Stm<K>, depth: usize) -> Roll
     requires stm { IsOf desc.old stm.now }
     requires running { IsRunning (known desc.old) }
-    requires built { takes_marks (known desc.old).alg ≡ true }
     requires low { 1 ≤ depth }
     requires high { depth ≤ (known desc.old).depth }
     ensures same { IsSameCaller desc.old desc.new }
@@ -59,6 +49,7 @@ pub fn roll_to<K: MemRule>(desc: &mut Desc<K>, stm: &Stm<K>, depth: usize) -> Ro
 {
     match desc.local.algorithm {
         Alg::OrecLazy => lazy::roll_to(desc, stm, depth),
+        Alg::OrecEager => eager::roll_to(desc, stm, depth),
         Alg::RingSw => ring::roll_to(desc, stm, depth),
         _ => sequential::roll_to(desc, stm, depth),
     }
@@ -67,7 +58,6 @@ pub fn roll_to<K: MemRule>(desc: &mut Desc<K>, stm: &Stm<K>, depth: usize) -> Ro
 /// Drops the marks from `depth` on, and keeps what was written since. No step.
 pub fn release<K: MemRule>(desc: &mut Desc<K>, depth: usize)
     requires running { IsRunning (known desc.old) }
-    requires built { takes_marks (known desc.old).alg ≡ true }
     requires low { 1 ≤ depth }
     requires high { depth ≤ (known desc.old).depth }
     ensures same { IsSameCaller desc.old desc.new }
@@ -76,6 +66,7 @@ pub fn release<K: MemRule>(desc: &mut Desc<K>, depth: usize)
 {
     match desc.local.algorithm {
         Alg::OrecLazy => lazy::release(desc, depth),
+        Alg::OrecEager => eager::release(desc, depth),
         Alg::RingSw => ring::release(desc, depth),
         _ => sequential::release(desc, depth),
     }

@@ -19,7 +19,7 @@ use Rattle.stm_trace.specs.Places.{Place, clock_of}
 use Rattle.stm_trace.specs.Turns.{HasSizes, IsFair}
 use Rattle.tx_answers.specs.Answers.{Stays, Quits, Ends, Stops}
 use Rattle.tx_answers.specs.Causes.{FindsFull}
-use Rattle.tx_answers.specs.Known.{Known, is_irrevocable, owed, wrote}
+use Rattle.tx_answers.specs.Known.{Known, is_irrevocable, owed, has_written}
 use Rattle.tx_answers.specs.KnownLaws.{Carries}
 use Rattle.tx_answers.specs.declared.answers.Begin.TheVariants as begins
 use Rattle.tx_answers.specs.declared.answers.Cancel.TheVariants as cancels
@@ -57,7 +57,7 @@ stays-owed : (v w : Known) → v.running ≡ false → Stays v w → owed w ≤ 
 stays-owed v w out h = let a = owed-out v out in let b = owed-out w h.idle.1 in let r = h.rises in omega arith
 
 pub quits-owed : (v w : Known) → v.running ≡ true → Quits v w → owed w ≤ owed v
-quits-owed v w inside h = let a = owed-in v inside in let b = owed-out w h.ends.idle.1 in let r = h.rises.1 in let l = quit-low v.alg (wrote v) in omega arith
+quits-owed v w inside h = let a = owed-in v inside in let b = owed-out w h.ends.idle.1 in let r = h.rises.1 in let l = quit-low v.alg (has_written v) in omega arith
 
 ends-owed : (v w : Known) (by : ℕ) → v.running ≡ true → Ends v w → w.rises ≤ v.base + by → by ≤ 2 → owed w ≤ owed v + 2
 ends-owed v w by inside h r l = let a = owed-in v inside in let b = owed-out w h.idle.1 in omega arith
@@ -90,17 +90,17 @@ module _ (good : List ℕ → Type 0) (c : Config) (n : ℕ) where
   tells-owed (Reply op reply) v w inside t = le-two (owed w) (owed v) t.0.pays
   tells-owed (Stopped op stop) v w inside t =
       let q = quits-owed t.before w t.running (stops-quits t.address stop t.before w t.stops) in let p = t.carries.pays in omega (arith, q, p)
-  tells-owed (TryCancel (cancels.Cancelled time)) v w inside t = ends-owed v w (quit_rise v.alg (wrote v)) inside t.0.ends t.2 (let l = quit-low v.alg (wrote v) in omega arith)
+  tells-owed (TryCancel (cancels.Cancelled time)) v w inside t = ends-owed v w (quit_rise v.alg (has_written v)) inside t.0.ends t.2 (let l = quit-low v.alg (has_written v) in omega arith)
   tells-owed (TryCancel cancels.Irrevocable) v w inside t = (let e : owed w ≡ owed v = ap owed t.0 in omega (arith, e))
   tells-owed (TryIrrevocable irrevs.Granted) v w inside t = goes-owed v w inside t.continues.running t.continues.base
   tells-owed (TryIrrevocable (irrevs.Busy caller status)) v w inside t = goes-owed v w inside t.0.continues.running t.0.continues.base
   tells-owed (TryIrrevocable (irrevs.Taken gate)) v w inside t =
       let u = t.0 in let i = t.1.0 in let x = t.2.1 in
-      let a = owed-in v inside in let b = owed-out w x.0.ends.idle.1 in let r = x.2 in let l = quit-low u.alg (wrote u) in let e = i.continues.base in omega arith
+      let a = owed-in v inside in let b = owed-out w x.0.ends.idle.1 in let r = x.2 in let l = quit-low u.alg (has_written u) in let e = i.continues.base in omega arith
   tells-owed (TryIrrevocable (irrevs.Conflict cause)) v w inside t = le-two (owed w) (owed v) (quits-owed v w inside t.0)
   tells-owed (TryIrrevocable (irrevs.ClockFull clock)) v w inside t = le-two (owed w) (owed v) (quits-owed v w inside t.0)
   tells-owed (TryCommit (commits.Committed time)) v w inside t = ends-owed v w (entry_rise v.alg) inside t.ends (let r = t.rises in omega arith) (entry-low v.alg)
-  tells-owed (TryCommit (commits.ReadOnly time)) v w inside t = ends-owed v w 0 inside t.0.ends (let r = t.1 in omega arith) (omega arith)
+  tells-owed (TryCommit (commits.ReadOnly time)) v w inside t = ends-owed v w (quit_rise v.alg (has_written v)) inside t.0.ends t.1.1 (let l = quit-low v.alg (has_written v) in omega arith)
   tells-owed (TryCommit (commits.Conflict cause)) v w inside t = le-two (owed w) (owed v) (quits-owed v w inside t.0)
   tells-owed (TryCommit (commits.Again word had now)) v w inside t = goes-owed v w inside t.0.continues.running t.0.continues.base
   tells-owed (TryCommit (commits.ClockFull clock)) v w inside t = le-two (owed w) (owed v) (quits-owed v w inside t.0)
@@ -113,7 +113,7 @@ module _ (good : List ℕ → Type 0) (c : Config) (n : ℕ) where
   tells-owed (Reserved reads writes) v w out t =
       let a = owed-out v out in let b = owed-out w (ap (λ (k : Known). k.running) t.1 ∙ out) in let r : w.rises ≡ v.rises = ap (λ (k : Known). k.rises) t.1 in omega arith
   tells-owed Idle v w any t = (let e : owed w ≡ owed v = ap owed t in omega (arith, e))
-  tells-owed Dropped v w inside t = let x = t.1 in ends-owed v w (quit_rise v.alg (wrote v)) inside x.0.ends x.2 (let l = quit-low v.alg (wrote v) in omega arith)
+  tells-owed Dropped v w inside t = let x = t.1 in ends-owed v w (quit_rise v.alg (has_written v)) inside x.0.ends x.2 (let l = quit-low v.alg (has_written v) in omega arith)
   tells-owed Reopened v w out t = stays-owed v w out t
 
   pub tells-found : (said : Said) (v w : Known) → Tells good c n said v w → MatchOption (clock_of said) (Unit {0}) (λ clock. (2 ^ 62 ≤ clock) × Loaded w clock)

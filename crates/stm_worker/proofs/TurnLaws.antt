@@ -275,6 +275,7 @@ module _ {K : Type 0} (good : List ℕ → Type 0) (stm : Stm K) (u : Worker K) 
           going = subst (λ ops. Going good stm.config.words u.regions.now (script_at u.items_left.now) ops (known d) alg false o false) (sym is) going;
           here = here;
           unfenced = h.unfenced s.plain;
+          recordless = h.recordless;
           committing = λ e. absurd (let f : true ≡ false = sym e ∙ h.committing in cc);
           waits = λ e f. refl;
         })
@@ -313,6 +314,7 @@ module _ {K : Type 0} (good : List ℕ → Type 0) (stm : Stm K) (u : Worker K) 
           going = going;
           here = at.here;
           unfenced = still.fence ∙ at.unfenced;
+          recordless = still.retains ∙ at.recordless;
           committing = λ e. absurd (let f : true ≡ false = sym e ∙ runs.1 in cc);
           waits = λ e off. absurd (let now = and-left u.must (irrevocable (place_of u)) comes.1 e in let later = ap (irrevocable_under u.alg u.granted) was ∙ irrevocable-wrote u.alg u.granted u.wrote (writes op reply) now in let f : true ≡ false = sym later ∙ off in cc);
         })
@@ -360,6 +362,7 @@ module _ {K : Type 0} (good : List ℕ → Type 0) (stm : Stm K) (u : Worker K) 
           going = going;
           here = at.here;
           unfenced = ap (λ (v : Known). v.fence) knows ∙ at.unfenced;
+          recordless = ap (λ (v : Known). v.retains) knows ∙ at.recordless;
           committing = λ e. absurd (let f = (at.committing (sym (ap (λ (v : Known). v.committing) knows) ∙ e)).0 in subst (Next Cancel) f comes.2);
           waits = at.waits;
         }))
@@ -375,6 +378,7 @@ module _ {K : Type 0} (good : List ℕ → Type 0) (stm : Stm K) (u : Worker K) 
             going = subst (λ v. Going good stm.config.words u.regions.now (script_at u.items_left.now) u.operations_left.now v u.alg u.granted u.out u.wrote) (sym knows) at.going;
             here = at.here;
             unfenced = ap (λ (v : Known). v.fence) knows ∙ at.unfenced;
+            recordless = ap (λ (v : Known). v.retains) knows ∙ at.recordless;
             committing = λ e. at.committing (sym (ap (λ (v : Known). v.committing) knows) ∙ e);
             waits = at.waits;
           }));
@@ -398,6 +402,7 @@ module _ {K : Type 0} (good : List ℕ → Type 0) (stm : Stm K) (u : Worker K) 
           going = going-later good stm.config.words u.regions.now (script_at u.items_left.now) u.operations_left.now (known u.desc) (known d) u.alg u.granted true u.out u.wrote at.going h.log h.continues.alg h.opaque.explained (certain ∙ sym h.irrevocable) (λ off. absurd (let f : true ≡ false = sym h.irrevocable ∙ off in cc));
           here = at.here;
           unfenced = h.continues.fence ∙ at.unfenced;
+          recordless = h.continues.retains ∙ at.recordless;
           committing = λ e. absurd (let f : true ≡ false = sym e ∙ h.uncommitted in cc);
           waits = λ e off. absurd (let f : true ≡ false = sym certain ∙ off in cc);
         })
@@ -414,6 +419,7 @@ module _ {K : Type 0} (good : List ℕ → Type 0) (stm : Stm K) (u : Worker K) 
           going = subst (λ x. Going good stm.config.words u.regions.now (script_at u.items_left.now) x (known d) u.alg true o u.wrote) (sym is) step;
           here = at.here;
           unfenced = h.continues.fence ∙ at.unfenced;
+          recordless = h.continues.retains ∙ at.recordless;
           committing = λ e. absurd (let f : true ≡ false = sym e ∙ h.uncommitted in cc);
           waits = λ e off. absurd (let f : true ≡ false = sym certain ∙ off in cc);
         })
@@ -434,6 +440,7 @@ module _ {K : Type 0} (good : List ℕ → Type 0) (stm : Stm K) (u : Worker K) 
           going = going-later good stm.config.words u.regions.now (script_at u.items_left.now) u.operations_left.now (known u.desc) (known d) u.alg u.granted u.granted u.out u.wrote at.going log h.alg opaque.explained (at.going.irrevocable ∙ sym same_irrevocable) (λ off. sym same_irrevocable ∙ off);
           here = at.here;
           unfenced = h.fence ∙ at.unfenced;
+          recordless = h.retains ∙ at.recordless;
           committing = committing;
           waits = at.waits;
         })
@@ -603,7 +610,7 @@ module _ {K : Type 0} (good : List ℕ → Type 0) (stm : Stm K) (u : Worker K) 
 -- whoever took the same steps is outside in the same way
 pub outside : {K : Type 0} (d e : Handle K) → e.view ≡ d.view → IsOutside (known d) (known e)
 outside d e same =
-    subst (λ (v : View). known_of v e.own ≡ record (known d) { committing = e.own.committing; log = (known_of v e.own).log; depth = e.own.depth; marks = e.own.marks; reads_limit = e.own.reads_limit; writes_limit = e.own.writes_limit }) (sym same) refl
+    subst (λ (v : View). known_of v e.own ≡ record (known d) { committing = e.own.committing; log = (known_of v e.own).log; depth = e.own.depth; marks = e.own.marks; retains = e.own.retains; reads_limit = e.own.reads_limit; writes_limit = e.own.writes_limit }) (sym same) refl
 
 -- each call's turn
 module _ {K : Type 0} (good : List ℕ → Type 0) (stm : Stm K) (u : Worker K) (s : Sound good stm u) (d : Handle K) (same : IsSameCaller u.desc d) where

@@ -1,7 +1,7 @@
 -- What each answer raised the clock by, and what pays for it at the place of its turn.
 use Rattle.std.proofs.Common.{ℕ, suc, ◌≡◌, ◌≤◌, ◌+◌, ◌*◌, Bool, true, false, List, [], ◌∷◌, length, refl, sym, ap, ◌∙◌, arith, subst, inl, inr}
 use Rattle.std.proofs.Math.Nat.{mul-suc}
-use Rattle.std.specs.Prelude.{◌⊎◌, ◌&&◌, not, leb, Option, Some, None}
+use Rattle.std.specs.Prelude.{◌⊎◌, ◌&&◌, not, leb, Option, Some, None, ◌||◌}
 use Rattle.stm_model.specs.Algorithms.{entry_rise, quit_rise}
 use Rattle.stm_model.specs.AlgorithmLaws.{entry-low, install-low, quit-low, quit-none}
 use Rattle.stm_model.specs.Logs.{Log}
@@ -20,7 +20,7 @@ use Rattle.stm_script.specs.declared.report.Kind.TheVariants.{W, R, C}
 use Rattle.stm_script.specs.declared.workload.Item.{Item}
 use Rattle.stm_script.specs.declared.workload.Item.TheVariants.{Tx, Switch, Reserve}
 use Rattle.tx_answers.specs.Answers.{Quits, Stays}
-use Rattle.tx_answers.specs.Known.{Known, caller_of, is_irrevocable, wrote}
+use Rattle.tx_answers.specs.Known.{Known, caller_of, is_irrevocable, has_written}
 use Rattle.tx_answers.specs.declared.answers.Begin.TheVariants as begins
 use Rattle.tx_answers.specs.declared.answers.Cancel.TheVariants as cancels
 use Rattle.tx_answers.specs.declared.answers.CloseGate.TheVariants as closes
@@ -110,8 +110,8 @@ module _ {K : Type 0} (good : List ℕ → Type 0) (stm : Stm K) (u : Worker K) 
   quiets e = (subst (λ p. IsAt good stm.config (caller_of u.desc.who.role) p (known u.desc)) e s.at).0.running
 
   -- an attempt that must become irrevocable and is not yet has written nothing
-  unwritten : u.phase ≡ Inside → u.must ≡ true → is_irrevocable (known u.desc) ≡ false → wrote (known u.desc) ≡ false
-  unwritten e must off = let a = under e in sym a.going.writer ∙ a.waits must (a.going.irrevocable ∙ off)
+  unwritten : u.phase ≡ Inside → u.must ≡ true → is_irrevocable (known u.desc) ≡ false → has_written (known u.desc) ≡ false
+  unwritten e must off = let a = under e in (λ j. (sym a.going.writer ∙ a.waits must (a.going.irrevocable ∙ off)) j || a.recordless j)
 
   -- an operation stops no attempt that must not fail
   unforced : (op : Op) (stop : Stop) (x : Known) → Comes op (place_of u) → StoppedBy good stm.config (caller_of u.desc.who.role) op stop (known u.desc) x → u.must ≡ false
@@ -179,16 +179,16 @@ module _ {K : Type 0} (good : List ℕ → Type 0) (stm : Stm K) (u : Worker K) 
       where
         by : (stop : Stop) → u.must ≡ false → Quits t.before x → Paid (unpaid + unpaid_by (Stopped op stop)) each most all x (after (place_of u) (Stopped op stop))
         by (stops.Conflict cause) free q =
-            way-paid x (quit_rise t.before.alg (wrote t.before)) comes.0 q.ends.idle.1 (let r = q.rises.1 in let e = t.carries.base in omega arith) (quit-low t.before.alg (wrote t.before)) (λ must. absurd (let f : true ≡ false = sym must ∙ free in cc))
+            way-paid x (quit_rise t.before.alg (has_written t.before)) comes.0 q.ends.idle.1 (let r = q.rises.1 in let e = t.carries.base in omega arith) (quit-low t.before.alg (has_written t.before)) (λ must. absurd (let f : true ≡ false = sym must ∙ free in cc))
         by (stops.Full limit) free q =
-            full-paid x (quit_rise t.before.alg (wrote t.before)) comes.0 free q.ends.idle.1 (let r = q.rises.1 in let e = t.carries.base in omega arith) (quit-low t.before.alg (wrote t.before))
+            full-paid x (quit_rise t.before.alg (has_written t.before)) comes.0 free q.ends.idle.1 (let r = q.rises.1 in let e = t.carries.base in omega arith) (quit-low t.before.alg (has_written t.before))
         by (stops.ClockFull clock) free q =
-            quit-paid x (quit_rise t.before.alg (wrote t.before)) comes.0 q.ends.idle.1 (let r = q.rises.1 in let e = t.carries.base in omega arith) (quit-low t.before.alg (wrote t.before))
+            quit-paid x (quit_rise t.before.alg (has_written t.before)) comes.0 q.ends.idle.1 (let r = q.rises.1 in let e = t.carries.base in omega arith) (quit-low t.before.alg (has_written t.before))
 
     -- it was refused where it could have been cancelled
     refused-paid : (x : Known) → u.phase ≡ Inside → Quits (known u.desc) x → Paid (unpaid + 0) each most all x (in_the_way outcomes.Conflict (place_of u))
-    refused-paid x e q = way-paid x (quit_rise (known u.desc).alg (wrote (known u.desc))) e q.ends.idle.1 q.rises.1 (quit-low (known u.desc).alg (wrote (known u.desc)))
-        (λ must. quit-none (known u.desc).alg (wrote (known u.desc)) (unwritten e must q.revocable))
+    refused-paid x e q = way-paid x (quit_rise (known u.desc).alg (has_written (known u.desc))) e q.ends.idle.1 q.rises.1 (quit-low (known u.desc).alg (has_written (known u.desc)))
+        (λ must. quit-none (known u.desc).alg (has_written (known u.desc)) (unwritten e must q.revocable))
 
     irrevocable-paid : (r : Irrev) (x : Known) → u.phase ≡ Inside → Tells good stm.config (caller_of u.desc.who.role) (TryIrrevocable r) (known u.desc) x → Paid (unpaid + unpaid_by (TryIrrevocable r)) each most all x (after (place_of u) (TryIrrevocable r))
     irrevocable-paid irrevs.Granted x e t = granted-paid (is_forced (place_of u)) x (goes-paid x e t.continues.running t.continues.base)
@@ -197,10 +197,10 @@ module _ {K : Type 0} (good : List ℕ → Type 0) (stm : Stm K) (u : Worker K) 
         let y = t.0 in
         let i = t.1.0 in
         let c = t.2.1 in
-        way-paid x (quit_rise y.alg (wrote y)) e c.0.ends.idle.1 (let r = c.2 in let b = i.continues.base in omega arith) (quit-low y.alg (wrote y))
-        (λ must. quit-none y.alg (wrote y) (ap (λ (l : Log). not (is_empty l.writes)) i.log ∙ unwritten e must i.revocable))
+        way-paid x (quit_rise y.alg (has_written y)) e c.0.ends.idle.1 (let r = c.2 in let b = i.continues.base in omega arith) (quit-low y.alg (has_written y))
+        (λ must. quit-none y.alg (has_written y) ((λ j. not (is_empty (i.log j).writes) || i.continues.retains j) ∙ unwritten e must i.revocable))
     irrevocable-paid (irrevs.Conflict cause) x e t = refused-paid x e t.0
-    irrevocable-paid (irrevs.ClockFull clock) x e t = quit-paid x (quit_rise (known u.desc).alg (wrote (known u.desc))) e t.0.ends.idle.1 t.0.rises.1 (quit-low (known u.desc).alg (wrote (known u.desc)))
+    irrevocable-paid (irrevs.ClockFull clock) x e t = quit-paid x (quit_rise (known u.desc).alg (has_written (known u.desc))) e t.0.ends.idle.1 t.0.rises.1 (quit-low (known u.desc).alg (has_written (known u.desc)))
 
     -- a switch is an item that is done, or it was due
     switched-paid : (alg : Alg) (x : Known) (c : Option Alg) → u.chosen ≡ c → MustSwitchTo alg c u.items_left.now → raised x ≤ raised (known u.desc) + 1 → Paid (unpaid + 0) each most all x (switched c (place_of u))
@@ -215,14 +215,14 @@ module _ {K : Type 0} (good : List ℕ → Type 0) (stm : Stm K) (u : Worker K) 
     said-paid (Reply op reply) x may t = goes-paid x may.0.0 t.1.0 t.0.base
     said-paid (Stopped op stop) x may t = stopped-paid op stop x may.0 t
     said-paid (TryCancel (cancels.Cancelled time)) x may t =
-        row-paid C x (quit_rise (known u.desc).alg (wrote (known u.desc))) may.0 t.0.ends.idle.1 t.2 (let l = quit-low (known u.desc).alg (wrote (known u.desc)) in omega arith)
+        row-paid C x (quit_rise (known u.desc).alg (has_written (known u.desc))) may.0 t.0.ends.idle.1 t.2 (let l = quit-low (known u.desc).alg (has_written (known u.desc)) in omega arith)
     said-paid (TryCancel cancels.Irrevocable) x may t = same-paid x (ap raised t.0)
     said-paid (TryIrrevocable r) x may t = irrevocable-paid r x (asked-inside may) t
     said-paid (TryCommit (commits.Committed time)) x may t = row-paid W x (entry_rise (known u.desc).alg) may.0 t.ends.idle.1 (let r = t.rises in omega arith) (entry-low (known u.desc).alg)
-    said-paid (TryCommit (commits.ReadOnly time)) x may t = row-paid R x 0 may.0 t.0.ends.idle.1 (let r = t.1 in omega arith) (omega arith)
+    said-paid (TryCommit (commits.ReadOnly time)) x may t = row-paid R x (quit_rise (known u.desc).alg (has_written (known u.desc))) may.0 t.0.ends.idle.1 t.1.1 (let l = quit-low (known u.desc).alg (has_written (known u.desc)) in omega arith)
     said-paid (TryCommit (commits.Conflict cause)) x may t = refused-paid x may.0 t.0
     said-paid (TryCommit (commits.Again word had now)) x may t = goes-paid x may.0 t.0.continues.running t.0.continues.base
-    said-paid (TryCommit (commits.ClockFull clock)) x may t = quit-paid x (quit_rise (known u.desc).alg (wrote (known u.desc))) may.0 t.0.ends.idle.1 t.0.rises.1 (quit-low (known u.desc).alg (wrote (known u.desc)))
+    said-paid (TryCommit (commits.ClockFull clock)) x may t = quit-paid x (quit_rise (known u.desc).alg (has_written (known u.desc))) may.0 t.0.ends.idle.1 t.0.rises.1 (quit-low (known u.desc).alg (has_written (known u.desc)))
     said-paid (TryClose closes.Closed) x may t = same-paid x (raised-out x t.holds.running ∙ (t.rises ∙ sym (raised-out (known u.desc) (idles may.0))))
     said-paid (TryClose (closes.Taken gate)) x may t = stays-paid x may.0 t.0
     said-paid (Looked looks.Quiet) x may t = same-paid x (raised-out x t.0.closed.holds.running ∙ (t.0.rises ∙ sym (raised-out (known u.desc) (closing-now may))))
@@ -257,7 +257,7 @@ module _ {K : Type 0} (good : List ℕ → Type 0) (stm : Stm K) (u : Worker K) 
     wound-paid Idle x may t = said-paid Idle x may.2 t
     wound-paid Dropped x may t =
         let c = t.1 in
-        quit-paid x (quit_rise (known u.desc).alg (wrote (known u.desc))) may.0 c.0.ends.idle.1 c.2 (quit-low (known u.desc).alg (wrote (known u.desc)))
+        quit-paid x (quit_rise (known u.desc).alg (has_written (known u.desc))) may.0 c.0.ends.idle.1 c.2 (quit-low (known u.desc).alg (has_written (known u.desc)))
     wound-paid Reopened x may t = same-paid x (raised-out x t.idle.1 ∙ (t.rises ∙ sym (raised-out (known u.desc) (closed may))))
       where
         closed : (u.phase ≡ Closing) ⊎ (u.phase ≡ Quiet) → (known u.desc).running ≡ false
@@ -326,7 +326,7 @@ module _ {K : Type 0} (good : List ℕ → Type 0) (stm : Stm K) (u : Worker K) 
   settles (Stopped op (stops.Full limit)) x may t = as-said (Stopped op (stops.Full limit)) x may t
   settles (Stopped op (stops.ClockFull clock)) x may t = as-said (Stopped op (stops.ClockFull clock)) x may t
   settles (TryCancel (cancels.Cancelled time)) x may t =
-      row-settles C x (quit_rise (known u.desc).alg (wrote (known u.desc))) may.0 t.0.ends.idle.1 t.2 (let l = quit-low (known u.desc).alg (wrote (known u.desc)) in omega arith)
+      row-settles C x (quit_rise (known u.desc).alg (has_written (known u.desc))) may.0 t.0.ends.idle.1 t.2 (let l = quit-low (known u.desc).alg (has_written (known u.desc)) in omega arith)
   settles (TryCancel cancels.Irrevocable) x may t = as-said (TryCancel cancels.Irrevocable) x may t
   settles (TryIrrevocable irrevs.Granted) x may t = granted-left (is_forced (place_of u)) x (as-said (TryIrrevocable irrevs.Granted) x may t)
   settles (TryIrrevocable (irrevs.Busy caller status)) x may t = as-said (TryIrrevocable (irrevs.Busy caller status)) x may t
@@ -334,7 +334,7 @@ module _ {K : Type 0} (good : List ℕ → Type 0) (stm : Stm K) (u : Worker K) 
   settles (TryIrrevocable (irrevs.Conflict cause)) x may t = as-said (TryIrrevocable (irrevs.Conflict cause)) x may t
   settles (TryIrrevocable (irrevs.ClockFull clock)) x may t = as-said (TryIrrevocable (irrevs.ClockFull clock)) x may t
   settles (TryCommit (commits.Committed time)) x may t = row-settles W x (entry_rise (known u.desc).alg) may.0 t.ends.idle.1 (let r = t.rises in omega arith) (entry-low (known u.desc).alg)
-  settles (TryCommit (commits.ReadOnly time)) x may t = row-settles R x 0 may.0 t.0.ends.idle.1 (let r = t.1 in omega arith) (omega arith)
+  settles (TryCommit (commits.ReadOnly time)) x may t = row-settles R x (quit_rise (known u.desc).alg (has_written (known u.desc))) may.0 t.0.ends.idle.1 t.1.1 (let l = quit-low (known u.desc).alg (has_written (known u.desc)) in omega arith)
   settles (TryCommit (commits.Conflict cause)) x may t = as-said (TryCommit (commits.Conflict cause)) x may t
   settles (TryCommit (commits.Again word had now)) x may t = as-said (TryCommit (commits.Again word had now)) x may t
   settles (TryCommit (commits.ClockFull clock)) x may t = as-said (TryCommit (commits.ClockFull clock)) x may t

@@ -17,7 +17,7 @@ use Rattle.tx_answers.specs.declared.answers.Irrev.TheVariants.{Granted, Busy, T
 
 -- all is as it was but what is said of an attempt and of its logs, where none is open
 abbrev pub IsOutside : Known → Known → Type 0
-IsOutside v w = w ≡ record v { committing = w.committing; log = w.log; depth = w.depth; marks = w.marks; reads_limit = w.reads_limit; writes_limit = w.writes_limit }
+IsOutside v w = w ≡ record v { committing = w.committing; log = w.log; depth = w.depth; marks = w.marks; retains = w.retains; reads_limit = w.reads_limit; writes_limit = w.writes_limit }
 
 module _ (good : List ℕ → Type 0) (c : Config) (n : ℕ) where
   -- a read or a write of the operation ended the attempt by this stop, after others of it that went on

@@ -199,6 +199,8 @@ pub record IsUnderWay {K : Type 0} (good : List ℕ → Type 0) (words : ℕ) (w
   pub here : BeforeTx w.items_left.now
   -- no range of words is out of the transactions
   pub unfenced : (known w.desc).fence ≡ 0
+  -- it was not rolled back, so it holds no more than it wrote
+  pub recordless : (known w.desc).retains ≡ false
   pub committing : (known w.desc).committing ≡ true → (w.operations_left.now ≡ []) × ((w.must && not (irrevocable (place_of w))) ≡ false)
   pub waits : w.must ≡ true → irrevocable (place_of w) ≡ false → w.wrote ≡ false
 

@@ -1,5 +1,5 @@
 -- When each answer comes, and what stands after it.
-use Rattle.std.specs.Prelude.{ℕ, ◌≡◌, ◌≢◌, ◌<◌, ◌≤◌, ◌+◌, ◌%◌, ◌^◌, ◌⊎◌, max, min, Some, None, Bool, true, false, List, [], ◌∷◌, ◌++◌, ◌-◌, length, get_or, take}
+use Rattle.std.specs.Prelude.{ℕ, ◌≡◌, ◌||◌, ◌≢◌, ◌<◌, ◌≤◌, ◌+◌, ◌%◌, ◌^◌, ◌⊎◌, max, min, Some, None, Bool, true, false, List, [], ◌∷◌, ◌++◌, ◌-◌, length, get_or, take}
 use Rattle.stm_model.specs.Algorithms.{is_built, asks_at_begin, asks_at_write, asks_at_commit, asks_at_grant, closes_gate, entry_rise, quit_rise, install_rise}
 use Rattle.stm_model.specs.declared.alg.Alg.{Alg}
 use Rattle.stm_model.specs.declared.alg.Alg.TheVariants.{Cgl, Tml, OrecLazy, OrecEager, RingSw, Serial}
@@ -38,7 +38,7 @@ use Rattle.tx_answers.specs.declared.answers.Write.{Write}
 use Rattle.tx_answers.specs.declared.answers.Write.TheVariants.{Done, Conflict, Full, ClockFull}
 use Rattle.tx_answers.specs.Causes.{FindsFull, NamesOther, Conflicts, IsAgain, reads_full, writes_full}
 use Rattle.tx_answers.specs.Evidence.{Found}
-use Rattle.tx_answers.specs.Known.{Known, Grows, IsIdle, is_irrevocable, wrote, no_log, zeros}
+use Rattle.tx_answers.specs.Known.{Known, Grows, IsIdle, is_irrevocable, keeps_records, wrote, has_written, no_log, zeros}
 
 -- the entry that a commit makes of the log: the caller has made this many before
 abbrev pub entry : ℕ → ℕ → ℕ → Log → Entry
@@ -93,6 +93,7 @@ pub record Continues (v w : Known) : Type 0 where
   pub later : v.start ≤ w.start
   pub installs : w.installs ≡ v.installs
   pub depth : w.depth ≡ v.depth
+  pub retains : w.retains ≡ v.retains
 
 -- the attempt stays open, and all but its log and its marks is as it was
 pub record StaysOpen (v w : Known) : Type 0 where
@@ -163,11 +164,15 @@ pub record Ends (v w : Known) : Type 0 where
   pub base : w.base ≡ v.base
   pub installs : w.installs ≡ v.installs
 
+-- the attempt made no entry: its steps have raised the clock at most as records raise it that are given back
+abbrev pub RisesWithout : Known → Known → Type 0
+RisesWithout v w = (v.base ≤ w.rises) × (w.rises ≤ v.base + quit_rise v.alg (has_written v))
+
 -- the attempt ended and made no entry, by a refusal: once irrevocable, it is not refused
 pub record Quits (v w : Known) : Type 0 where
   pub ends : Ends v w
   pub made : w.made ≡ v.made
-  pub rises : (v.base ≤ w.rises) × (w.rises ≤ v.base + quit_rise v.alg (wrote v))
+  pub rises : RisesWithout v w
   pub revocable : is_irrevocable v ≡ false
 
 -- good is what the user keeps true of memory; c is the memory's configuration, and n the caller
@@ -205,6 +210,7 @@ module _ (good : List ℕ → Type 0) (c : Config) (n : ℕ) where
     pub fresh : v.front ≤ w.start
     pub log : w.log ≡ no_log
     pub unmarked : (w.depth ≡ 0) × (w.marks ≡ [])
+    pub recordless : w.retains ≡ false
     pub opaque : IsOpaque w
     pub granted : w.granted ≡ false
     pub holds : w.holds ≡ false
@@ -256,6 +262,7 @@ module _ (good : List ℕ → Type 0) (c : Config) (n : ℕ) where
     pub writes : w.log.writes ≡ get_or v.marks (d - 1) []
     pub depth : w.depth ≡ d
     pub marks : w.marks ≡ take d v.marks
+    pub retains : w.retains ≡ (keeps_records v.alg || v.retains)
     pub opaque : IsOpaque w
 
   -- what `roll_to` mark d tells
@@ -292,7 +299,7 @@ module _ (good : List ℕ → Type 0) (c : Config) (n : ℕ) where
   -- what `commit` tells
   abbrev pub Commits : Commit → Known → Known → Type 0
   Commits (Committed time) v w = CommitsAt time v w
-  Commits (ReadOnly time) v w = EndsAt time v w × (w.rises ≡ v.base) × (wrote v ≡ false)
+  Commits (ReadOnly time) v w = EndsAt time v w × RisesWithout v w × (wrote v ≡ false)
   Commits (Conflict cause) v w = Quits v w × Conflicts c n None cause v w × HasOthers × (wrote v ≡ true)
   Commits (Again word had now) v w =
       GoesOn v w × (w.committing ≡ true) × (w.log ≡ v.log) × IsOpaque w × IsAgain c n word had now v w × HasOthers × (is_irrevocable v ≡ false) × (wrote v ≡ true)
@@ -300,7 +307,7 @@ module _ (good : List ℕ → Type 0) (c : Config) (n : ℕ) where
 
   -- what `cancel` tells
   abbrev pub Cancels : Cancel → Known → Known → Type 0
-  Cancels (Cancelled time) v w = EndsAt time v w × (v.base ≤ w.rises) × (w.rises ≤ v.base + quit_rise v.alg (wrote v)) × (is_irrevocable v ≡ false)
+  Cancels (Cancelled time) v w = EndsAt time v w × (v.base ≤ w.rises) × (w.rises ≤ v.base + quit_rise v.alg (has_written v)) × (is_irrevocable v ≡ false)
   Cancels Irrevocable v w = (w ≡ v) × (is_irrevocable v ≡ true)
 
   -- all callers but this one were seen idle since it closed the gate

@@ -1,8 +1,9 @@
 -- What contracts see of a caller: its part in the history, its attempt, and the steps that it took.
-use Rattle.std.specs.Prelude.{ℕ, ◌≡◌, ◌≤◌, ◌+◌, ◌&&◌, max, not, Bool, true, false, if◌then◌else◌, List, [], ◌∷◌, ◌++◌, reverse, replicate, Option, Some, None}
+use Rattle.std.specs.Prelude.{ℕ, ◌≡◌, ◌≤◌, ◌+◌, ◌&&◌, ◌||◌, max, not, Bool, true, false, if◌then◌else◌, List, [], ◌∷◌, ◌++◌, reverse, replicate, Option, Some, None}
 use Rattle.stm_model.specs.Algorithms.{irrevocable_under}
 use Rattle.stm_model.specs.declared.alg.Alg.{Alg}
 use Rattle.stm_model.specs.declared.alg.Alg.TheVariants.{Cgl, Tml, OrecLazy, OrecEager, RingSw, Serial}
+use Rattle.stm_model.specs.declared.config.Config.{Config}
 use Rattle.stm_model.specs.Histories.{Entry, Ascending}
 use Rattle.stm_model.specs.HistoryLaws.{Within}
 use Rattle.stm_model.specs.Logs.{Log}
@@ -66,6 +67,8 @@ pub record Known : Type 0 where
   -- how many marks stand; and while the attempt can be taken back, what it had written at each, the oldest first
   pub depth : ℕ
   pub marks : List (List (ℕ × ℕ))
+  -- it was rolled back to a mark under OrecEager, and may hold records of what was taken back
+  pub retains : Bool
   -- how many items its read log, and its write or undo log, may have
   pub reads_limit : ℕ
   pub writes_limit : ℕ
@@ -158,6 +161,7 @@ known_of v own = record {
   log = record { reads = items v.attempt.reads; writes = written_under v.gate.algorithm v.gate.granted v own };
   depth = own.depth;
   marks = own.marks;
+  retains = own.retains;
   reads_limit = own.reads_limit;
   writes_limit = own.writes_limit;
   fenced = fenced_of v.fence;
@@ -187,9 +191,26 @@ IsRunning v = (v.running ≡ true) × (v.committing ≡ false)
 abbrev pub state_of : Known → TxState
 state_of v = if v.running then (if v.committing then states.Committing v.alg else states.Running v.alg) else (if v.closing then states.Closing v.alg else states.Idle)
 
+-- who rolls back under this algorithm keeps the records of what is taken back
+abbrev pub keeps_records : Alg → Bool
+keeps_records Cgl = false
+keeps_records Tml = false
+keeps_records OrecLazy = false
+keeps_records OrecEager = true
+keeps_records RingSw = false
+keeps_records Serial = false
+
 -- the attempt wrote something
 abbrev pub wrote : Known → Bool
 wrote v = not (is_empty v.log.writes)
+
+-- the attempt wrote something, or did so before it was rolled back
+abbrev pub has_written : Known → Bool
+has_written v = wrote v || v.retains
+
+-- how many records it may hold at once: no more than words written, unless it was rolled back
+abbrev pub held_limit : Config → Known → ℕ
+held_limit c v = if v.retains then c.records else v.writes_limit
 
 abbrev pub is_irrevocable : Known → Bool
 is_irrevocable v = irrevocable_under v.alg v.granted (wrote v)

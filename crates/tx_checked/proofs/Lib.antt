@@ -2,4 +2,5 @@ pub mod Beside
 pub mod Ending
 pub mod Giving
 pub mod Held
+pub mod Mails
 pub mod Newcomers

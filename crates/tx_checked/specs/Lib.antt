@@ -1,4 +1,6 @@
 pub mod Stands
+pub mod Mails
+pub mod Learning
 pub mod Members
 pub mod Misuses
 pub mod Tells

@@ -20,3 +20,12 @@ known_to m = known m.desc
 pub record IsSameMember (m n : Member) : Type 0 where
   pub stm : n.stm ≡ m.stm
   pub caller : IsSameCaller m.desc n.desc
+
+-- nothing of it has changed
+pub record IsUntouched (m n : Member) : Type 0 where
+  pub stm : n.stm ≡ m.stm
+  pub mail : n.mail ≡ m.mail
+  pub desc : n.desc ≡ m.desc
+  pub stand : n.stand ≡ m.stand
+  pub range : n.range ≡ m.range
+  pub refusal : n.refusal ≡ m.refusal

@@ -1,7 +1,7 @@
 -- When a call doesn't fit, and what it is refused for then.
 use Rattle.std.specs.Prelude.{ℕ, Bool, ltb, nat_le, ◌+◌, ◌&&◌, if◌then◌else◌, Option, Some, None}
 use Rattle.rule_base.specs.Encodings.{fenced}
-use Rattle.stm_tx.specs.Nesting.{takes_marks, live_marks}
+use Rattle.stm_tx.specs.Nesting.{live_marks}
 use Rattle.tx_answers.specs.Fences.{is_within}
 use Rattle.tx_checked.specs.declared.member.Member.{Member}
 use Rattle.tx_checked.specs.declared.member.Range.{Range}
@@ -54,15 +54,9 @@ running m = running_at m.stand
 abbrev pub access : ℕ → Member → Option Misuse
 access a m = access_at a (config_of m).words (known_to m).fence m.stand
 
--- of a call for a mark, and of one at mark d
-abbrev pub marking_at : Bool → Stand → Option Misuse
-marking_at takes s = or_else (running_at s) (if takes then None else Some wrong.NoMarks)
-
-abbrev pub marking : Member → Option Misuse
-marking m = marking_at (takes_marks (known_to m).alg) m.stand
-
+-- of a call at mark d
 abbrev pub at_mark : ℕ → Member → Option Misuse
-at_mark d m = or_else (marking m) (if nat_le 1 d then (if nat_le d (live_marks (known_to m)) then None else Some wrong.Depth) else Some wrong.Depth)
+at_mark d m = or_else (running m) (if nat_le 1 d then (if nat_le d (live_marks (known_to m)) then None else Some wrong.Depth) else Some wrong.Depth)
 
 -- of a call that takes `count` words from `from`
 abbrev pub takes_at : Bool → Option Misuse

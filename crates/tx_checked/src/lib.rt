@@ -6,6 +6,8 @@ pub mod access;
 pub mod asking;
 pub mod calls;
 pub mod closing;
+pub mod learning;
+pub mod mail;
 pub mod marks;
 pub mod member;
 pub mod misuse;

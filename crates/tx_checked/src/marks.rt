@@ -1,43 +1,26 @@
 //! Closed nesting by marks, for a caller with its memory.
-ghost use Rattle.std.specs.Prelude.{◌≡◌, ◌≤◌, None, Some, true, OnOk, IfErr};
-ghost use Rattle.stm_tx.specs.Nesting.{takes_marks, live_marks};
+ghost use Rattle.std.specs.Prelude.{◌≡◌, ◌≤◌, None, Some, OnOk, IfErr};
+ghost use Rattle.stm_tx.specs.Nesting.{live_marks};
 ghost use Rattle.tx_answers.specs.Known.{IsRunning};
 ghost use Rattle.tx_checked.specs.Members.{known_to};
-ghost use Rattle.tx_checked.specs.Misuses.{marking, at_mark};
+ghost use Rattle.tx_checked.specs.Misuses.{running, at_mark};
 ghost use Rattle.tx_checked.specs.Tells.{Tells, HasMarked, HasRolled, HasDropped};
 
 use crate::member::Member;
 use crate::misuse::Misuse;
 use crate::refusal::Refusal;
-use stm_tx::calls::algorithm;
 use stm_tx::nesting;
 use tx_answers::answers::{Check, Roll};
 
 impl Member {
-    /// Whether it is in an attempt that can be marked.
-    fn may_mark(&self) -> Result<(), Misuse>
-        ensures ok { OnOk result (IsRunning (known_to self.now)) }
-        ensures built { OnOk result (takes_marks (known_to self.now).alg ≡ true) }
-        ensures fits { OnOk result (marking self.now ≡ None) }
-        ensures wrong { IfErr result (λ e. marking self.now ≡ Some e) }
-    {
-        self.is_running()?;
-        if nesting::takes_marks(algorithm(&self.desc)) {
-            Ok(())
-        } else {
-            Err(Misuse::NoMarks)
-        }
-    }
-
     /// Whether it is in an attempt at which mark `depth` stands.
     fn is_at_mark(&self, depth: usize) -> Result<(), Misuse>
         ensures ok { OnOk result (IsRunning (known_to self.now)) }
-        ensures built { OnOk result (takes_marks (known_to self.now).alg ≡ true) }
         ensures stands { OnOk result ((1 ≤ depth) × (depth ≤ (known_to self.now).depth)) }
         ensures fits { OnOk result (at_mark depth self.now ≡ None) }
         ensures wrong { IfErr result (λ e. at_mark depth self.now ≡ Some e) }
     {
-        self.may_mark()?;
+        self.is_running()?;
         if depth == 0 || depth > nesting::marks(&self.desc) {
             return Err(Misuse::Depth);
         }
@@ -46,9 +29,9 @@ impl Member {
 
     /// Makes a mark at what the attempt has written, as `stm_tx::nesting::checkpoint` does.
     pub fn checkpoint(&mut self) -> Result<Check, Misuse>
-        ensures { Tells (marking self.old) (HasMarked self.old self.new) self.old self.new result }
+        ensures { Tells (running self.old) (HasMarked self.old self.new) self.old self.new result }
     {
-        self.may_mark()?;
+        self.is_running()?;
         match nesting::checkpoint(&mut self.desc) {
             Check::Marked { depth } => Ok(Check::Marked { depth }),
             Check::Deep { limit } => {

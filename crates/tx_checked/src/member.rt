@@ -4,6 +4,7 @@ ghost use Rattle.stm_rule.specs.Callers.{IsOf};
 ghost use Rattle.stm_tx.specs.Descs.{known};
 ghost use Rattle.tx_checked.specs.Stands.{StandsAs, HasRange};
 
+use crate::mail::Mail;
 use crate::refusal::Refusal;
 use crate::stand::Stand;
 use std::alloc::Global;
@@ -19,16 +20,18 @@ pub struct Range {
     pub count: usize,
 }
 
-/// A caller with its share of the memory, which is freed with the last of them.
+/// A caller with its share of the memory and of its mail, which are freed with the last of them.
 #[derive(Drop)]
 pub struct Member {
     pub stm: Arc<Stm<AnyMem>, Global>,
+    pub mail: Arc<Mail, Global>,
     pub desc: Desc<AnyMem>,
     pub stand: Stand,
     pub range: Option<Range>,
     /// What came in the way last.
     pub refusal: Option<Refusal>,
     pub ghost own: { IsOf desc (arc_value stm) },
+    pub ghost mailed: { IsOf (arc_value mail).table.shared.key (arc_value stm) },
     pub ghost stands: { StandsAs stand (known desc) },
     pub ghost ranged: { HasRange range (arc_value stm).config.words (known desc).fenced },
 }

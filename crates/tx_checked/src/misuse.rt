@@ -19,12 +19,12 @@ pub enum Misuse {
     NoRanges,
     /// The word is in no range that the caller has out of the transactions.
     NoRange,
-    /// The attempt's algorithm takes no marks.
-    NoMarks,
     /// No such mark stands.
     Depth,
     /// The length of a log is out of its range.
     Logs,
     /// There is no room for all words.
     Room,
+    /// The two callers are not of one memory.
+    Stranger,
 }

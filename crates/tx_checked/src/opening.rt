@@ -1,11 +1,12 @@
 //! The opening of a memory with its callers.
 ghost use Rattle.std.specs.Prelude.{◌≡◌, ◌<◌, All, IsTrue, None, length, IfOk, IfErr, OnOk};
 ghost use Rattle.std.specs.Arc.{arc_value};
-ghost use Rattle.stm_rule.specs.Callers.{AllOpened};
+ghost use Rattle.stm_rule.specs.Callers.{AllOpened, IsOf};
 ghost use Rattle.stm_rule.specs.Refusals.{first_fault};
 ghost use Rattle.tx_atomic.specs.Callers.{IsReady};
 ghost use Rattle.tx_checked.specs.Ready.{AreFresh, AreNew, IsUnused, IsOpenError, descs_in};
 
+use crate::mail::Mail;
 use crate::member::Member;
 use crate::stand::Stand;
 use std::alloc::Global;
@@ -48,10 +49,16 @@ pub fn open(alloc: Global, config: Config, alg: Alg) -> Result<Vec<Member>, Open
     if descs.len() == 0 || !install_first(&stm, &mut descs, alg) {
         return Err(OpenError::Busy);
     }
+    let Ok(mail) = Mail::new(alloc, &descs[0], descs.len()) else {
+        return Err(OpenError::Memory);
+    };
     let Ok(stm) = Arc::new(alloc, stm) else {
         return Err(OpenError::Memory);
     };
-    match enlist(alloc, &stm, descs) {
+    let Ok(mail) = Arc::new(alloc, mail) else {
+        return Err(OpenError::Memory);
+    };
+    match enlist(alloc, &stm, &mail, descs) {
         Ok(members) => Ok(members),
         Err(Memory) => Err(OpenError::Memory),
     }
@@ -71,8 +78,10 @@ fn install_first(stm: &Stm<AnyMem>, descs: &mut Vec<Desc<AnyMem>>, alg: Alg) -> 
 fn enlist(
     alloc: Global,
     stm: &Arc<Stm<AnyMem>, Global>,
+    mail: &Arc<Mail, Global>,
     descs: Vec<Desc<AnyMem>>,
 ) -> Result<Vec<Member>, Memory>
+    requires mail { IsOf (arc_value mail.now).table.shared.key (arc_value stm.now) }
     requires ready { All (IsReady (arc_value stm.now)) descs.items }
     ensures descs { IfOk result (λ members. descs_in members.items ≡ descs.items) }
     ensures unused { IfOk result (λ members. All (IsUnused (arc_value stm.now).config) members.items) }
@@ -82,8 +91,12 @@ fn enlist(
         let Ok(shared) = Arc::try_clone(stm) else {
             return Err(Memory);
         };
+        let Ok(mail) = Arc::try_clone(mail) else {
+            return Err(Memory);
+        };
         members.push_reserved(Member {
             stm: shared,
+            mail,
             desc,
             stand: Stand::Idle,
             range: None,

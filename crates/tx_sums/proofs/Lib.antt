@@ -1,11 +1,8 @@
 pub mod SumTrees
-pub mod SumLaws
-pub mod SumOrder
 pub mod SumPairs
 pub mod SumBelow
 pub mod SumWalks
 pub mod SumMends
-pub mod SumInserts
 pub mod SumPuts
 pub mod SumContents
 pub mod SumRegions

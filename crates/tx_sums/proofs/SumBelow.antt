@@ -5,11 +5,12 @@ use Rattle.std.proofs.Math.Nat.{mod-add-mod, add-mod-mod, mod-lt, div-add-mod, a
 use Rattle.std.proofs.lemmas.Bool.Decides.{nat_tests}
 use Rattle.tx_effects.specs.Effects.{unchanged}
 use Rattle.tx_effects.specs.KeyLaws.{how_many-most}
+use Rattle.tx_tree.specs.Shapes.{Ranges, LinkOf, Names, top}
+use Rattle.tx_tree.specs.ShapeWalks.{left, left-less, named-used, left-link, right-link}
 use Rattle.tx_sums.specs.declared.sum_map.SumMap.{SumMap}
 use Rattle.tx_sums.specs.declared.sum_map.Passed.{Passed}
-use Rattle.tx_sums.specs.Sums.{left_at, right_at, sum_at, tag, value, top, Ranges, LinkOf, Names, Holds, IsSumMap, sum_within, sum_under, step_to, passed_by, passed, pair_of, pairs_to, pairs, sum_of, summed_in}
+use Rattle.tx_sums.specs.Sums.{pool, left_at, right_at, sum_at, tag, value, Holds, IsSumMap, sum_within, sum_under, step_to, passed_by, passed, pair_of, pairs_to, pairs, sum_of, summed_in}
 use Rattle.tx_sums.proofs.SumTrees.{part, part-step, part-in, part-out, within-none}
-use Rattle.tx_sums.proofs.SumLaws.{left, left-less, named-used, left-link, right-link}
 use Rattle.tx_sums.proofs.SumPairs.{sum-with}
 
 -- SUMS OF RANGES that meet at a tag
@@ -97,11 +98,11 @@ pub record Passing (r : SumMap) (bound link total n : ℕ) (m : List ℕ) : Type
   pub low : ℕ
   pub high : ℕ
   pub address : ℕ
-  pub is_link : LinkOf r m ranges low high address
+  pub is_link : LinkOf (pool r) m ranges low high address
   pub at : link ≡ slice_index m address
   pub above : low < bound
   pub below : bound ≤ high
-  pub few : left r m low high ≤ n
+  pub few : left (pool r) m low high ≤ n
   pub total_is : total ≡ sum_within r m 0 (suc low) r.cells % 2 ^ 64
 
 pub passing-begins : (r : SumMap) (bound link : ℕ) (m : List ℕ) → IsSumMap r m → link ≡ slice_index m r.at → 0 < bound → bound ≤ top → Passing r bound link 0 r.cells m
@@ -120,24 +121,24 @@ passing-begins r bound link m w e lo hi = record {
 }
 
 -- what stands under a link of a range is the range's sum
-pub under-is : (r : SumMap) (m : List ℕ) (g : Ranges) (l h a v : ℕ) → Holds r m g → LinkOf r m g l h a → v ≡ slice_index m a → sum_under r m v ≡ sum_within r m l h r.cells % 2 ^ 64
-under-is r m g l h a v w k e = by v (subst (Names r m g l h) (sym e) (w.names l h a k))
+pub under-is : (r : SumMap) (m : List ℕ) (g : Ranges) (l h a v : ℕ) → Holds r m g → LinkOf (pool r) m g l h a → v ≡ slice_index m a → sum_under r m v ≡ sum_within r m l h r.cells % 2 ^ 64
+under-is r m g l h a v w k e = by v (subst (Names (pool r) m g l h) (sym e) (w.shape.names l h a k))
   where
-    by : (v : ℕ) → Names r m g l h v → sum_under r m v ≡ sum_within r m l h r.cells % 2 ^ 64
+    by : (v : ℕ) → Names (pool r) m g l h v → sum_under r m v ≡ sum_within r m l h r.cells % 2 ^ 64
     by zero z = ap (λ x. x % 2 ^ 64) (sym (within-none r m l h r.cells (λ i lt a b. z i (record { inside = lt; above = a; below = b }))))
-    by (suc j) z = w.sums j (named-used r m g l h j z) ∙ (ap (λ x. sum_within r m x (g.high j) r.cells % 2 ^ 64) z.1 ∙ ap (λ x. sum_within r m l x r.cells % 2 ^ 64) z.2)
+    by (suc j) z = w.sums j (named-used (pool r) m g l h j z) ∙ (ap (λ x. sum_within r m x (g.high j) r.cells % 2 ^ 64) z.1 ∙ ap (λ x. sum_within r m l x r.cells % 2 ^ 64) z.2)
 
 pub passing-on : (r : SumMap) (bound link total j n less : ℕ) (p : Passed) (m : List ℕ) → Passing r bound link total n m → link ≡ suc j → n ≡ suc less → p ≡ passed r m bound j → Passing r bound p.next ((total + p.added) % 2 ^ 64) less m
 passing-on r bound link total j n less p m s e k f = subst (λ q. Passing r bound q.next ((total + q.added) % 2 ^ 64) less m) (sym f) (by (ltb (tag r m j) bound) refl)
   where
-    z : Names r m s.ranges s.low s.high (suc j)
-    z = subst (Names r m s.ranges s.low s.high) (sym s.at ∙ e) (s.holds.names s.low s.high s.address s.is_link)
+    z : Names (pool r) m s.ranges s.low s.high (suc j)
+    z = subst (Names (pool r) m s.ranges s.low s.high) (sym s.at ∙ e) (s.holds.shape.names s.low s.high s.address s.is_link)
 
-    rl : LinkOf r m s.ranges (tag r m j) s.high (right_at r j)
-    rl = right-link r m s.ranges s.low s.high j z
+    rl : LinkOf (pool r) m s.ranges (tag r m j) s.high (right_at r j)
+    rl = right-link (pool r) m s.ranges s.low s.high j z
 
-    ll : LinkOf r m s.ranges s.low (tag r m j) (left_at r j)
-    ll = left-link r m s.ranges s.low s.high j z
+    ll : LinkOf (pool r) m s.ranges s.low (tag r m j) (left_at r j)
+    ll = left-link (pool r) m s.ranges s.low s.high j z
 
     whole : slice_index m (sum_at r j) ≡ (sum_within r m s.low (suc (tag r m j)) r.cells + sum_within r m (tag r m j) s.high r.cells) % 2 ^ 64
     whole = under-is r m s.ranges s.low s.high s.address (suc j) s.holds s.is_link (sym e ∙ s.at)
@@ -164,7 +165,7 @@ passing-on r bound link total j n less p m s e k f = subst (λ q. Passing r boun
       at = refl;
       above = grind (arith, nat_tests);
       below = s.below;
-      few = let x = left-less r m s.low s.high (tag r m j) s.high j z.0 (let a = z.0.above in omega arith) (omega arith) (inl (omega arith)) in let c = s.few in omega arith;
+      few = let x = left-less (pool r) m s.low s.high (tag r m j) s.high j z.0 (let a = z.0.above in omega arith) (omega arith) (inl (omega arith)) in let c = s.few in omega arith;
       total_is = total-on _ adds;
     }
     by false q = record {
@@ -177,13 +178,13 @@ passing-on r bound link total j n less p m s e k f = subst (λ q. Passing r boun
       at = refl;
       above = s.above;
       below = grind (arith, nat_tests);
-      few = let x = left-less r m s.low s.high s.low (tag r m j) j z.0 (omega arith) (let a = z.0.below in omega arith) (inr (omega arith)) in let c = s.few in omega arith;
+      few = let x = left-less (pool r) m s.low s.high s.low (tag r m j) j z.0 (omega arith) (let a = z.0.below in omega arith) (inr (omega arith)) in let c = s.few in omega arith;
       total_is = let x : ℕ = sum_within r m 0 (suc s.low) r.cells in let y : x + 0 ≡ x = omega arith in ap (λ i. (i + 0) % 2 ^ 64) s.total_is ∙ (mod-add-mod x (2 ^ 64) 0 ∙ ap (λ i. i % 2 ^ 64) y);
     }
 
 pub passing-ends : (r : SumMap) (bound link total n : ℕ) (m : List ℕ) → Passing r bound link total n m → link ≡ 0 → total ≡ sum_within r m 0 bound r.cells % 2 ^ 64
 passing-ends r bound link total n m s e =
-    let z : Names r m s.ranges s.low s.high 0 = subst (Names r m s.ranges s.low s.high) (sym s.at ∙ e) (s.holds.names s.low s.high s.address s.is_link) in
+    let z : Names (pool r) m s.ranges s.low s.high 0 = subst (Names (pool r) m s.ranges s.low s.high) (sym s.at ∙ e) (s.holds.shape.names s.low s.high s.address s.is_link) in
     let none = within-none r m s.low bound r.cells (λ i lt a b. z i (record { inside = lt; above = a; below = (let c = s.below in omega arith) })) in
     let split = within-split r m 0 s.low bound r.cells (omega arith) s.above in
     let q : sum_within r m 0 bound r.cells ≡ sum_within r m 0 (suc s.low) r.cells = omega arith in
@@ -191,11 +192,11 @@ passing-ends r bound link total n m s e =
 
 -- with no step left there is no cell left
 pub passing-stops : (r : SumMap) (bound link total n : ℕ) (m : List ℕ) → Passing r bound link total n m → n ≡ 0 → total ≡ sum_within r m 0 bound r.cells % 2 ^ 64
-passing-stops r bound link total n m s e = by link refl (subst (Names r m s.ranges s.low s.high) (sym s.at) (s.holds.names s.low s.high s.address s.is_link))
+passing-stops r bound link total n m s e = by link refl (subst (Names (pool r) m s.ranges s.low s.high) (sym s.at) (s.holds.shape.names s.low s.high s.address s.is_link))
   where
-    by : (v : ℕ) → link ≡ v → Names r m s.ranges s.low s.high v → total ≡ sum_within r m 0 bound r.cells % 2 ^ 64
+    by : (v : ℕ) → link ≡ v → Names (pool r) m s.ranges s.low s.high v → total ≡ sum_within r m 0 bound r.cells % 2 ^ 64
     by zero f z = passing-ends r bound link total n m s f
-    by (suc j) f z = let x = left-less r m s.low s.high s.low s.low j z.0 (omega arith) (let p = z.0.above in let q = z.0.below in omega arith) (inr (let p = z.0.above in omega arith)) in let c = s.few in absurd (omega arith)
+    by (suc j) f z = let x = left-less (pool r) m s.low s.high s.low s.low j z.0 (omega arith) (let p = z.0.above in let q = z.0.below in omega arith) (inr (let p = z.0.above in omega arith)) in let c = s.few in absurd (omega arith)
 
 -- WHAT A SUM ANSWERS
 pub summed-is : (r : SumMap) (m : List ℕ) (lo hi upper lower v : ℕ) → lo ≤ hi → upper ≡ sum_within r m 0 (hi + 2) r.cells % 2 ^ 64 → lower ≡ sum_within r m 0 (lo + 1) r.cells % 2 ^ 64

@@ -7,13 +7,13 @@ use Rattle.tx_effects.specs.declared.position.Position.{Position}
 use Rattle.tx_effects.specs.Effects.{changed, unchanged}
 use Rattle.tx_effects.specs.Keys.{free_from}
 use Rattle.tx_effects.specs.KeyLaws.{free-is}
+use Rattle.tx_tree.specs.Shapes.{Names}
+use Rattle.tx_tree.specs.ShapeWalks.{Found, position-found}
 use Rattle.tx_sums.specs.declared.sum_map.SumMap.{SumMap}
 use Rattle.tx_sums.specs.declared.sum_map.MapPut.TheVariants.{Added, Replaced, NoRoom}
-use Rattle.tx_sums.specs.Sums.{tag_at, value_at, sum_at, tag, value, Names, IsSumMap, with_pair, pair_of, pairs_to, pairs, value_of, side_at, raised, mended_by, mended, attached, step_to, position_of, put_by, added_by, replaced_in, put_in}
+use Rattle.tx_sums.specs.Sums.{pool, tag_at, value_at, sum_at, tag, value, IsSumMap, with_pair, pair_of, pairs_to, pairs, value_of, side_at, raised, mended_by, mended, attached, step_to, position_of, put_by, added_by, replaced_in, put_in}
 use Rattle.tx_sums.specs.Statements.{with_value, PutsPair}
-use Rattle.tx_sums.proofs.SumTrees.{tree-of}
 use Rattle.tx_sums.proofs.SumPairs.{value-none, value-some}
-use Rattle.tx_sums.proofs.SumLaws.{Found, position-found}
 use Rattle.tx_sums.proofs.SumPuts.{a-tags, a-values, a-tag, a-value, put-keeps}
 
 -- THE MENDING changes sum words alone
@@ -183,21 +183,21 @@ free-all t j (suc n) i e lo hi = by (t j == 0) refl (j == i) refl e (free-all t 
 
 -- A PUT
 module _ (r : SumMap) (m : List ℕ) (key v : ℕ) (w : IsSumMap r m) (room : r.at + 1 + 5 * r.cells ≤ length m) (small : key < 2 ^ 32) where
-  f : Found r m w.0 key (position_of r m key)
-  f = position-found r m w.0 key (tree-of r m w.0 w.1) small
+  f : Found (pool r) m w.0 key (position_of r m key)
+  f = position-found (pool r) m w.0 key w.1.shape small
 
   absent : (position_of r m key).next ≡ 0 → (i : ℕ) → i < r.cells → tag r m i ≢ suc key
   absent e i lt t =
-      let z : Names r m w.0 f.low f.high 0 = subst (Names r m w.0 f.low f.high) (f.word ∙ e) (w.1.names f.low f.high (position_of r m key).link f.link) in
+      let z : Names (pool r) m w.0 f.low f.high 0 = subst (Names (pool r) m w.0 f.low f.high) (f.word ∙ e) (w.1.shape.names f.low f.high (position_of r m key).link f.link) in
       z i (record { inside = lt; above = (let a = f.above in omega arith); below = (let b = f.below in omega arith) })
 
   there : (j : ℕ) → (position_of r m key).next ≡ suc j → (j < r.cells) × (tag r m j ≡ suc key)
   there j e =
-      let z : Names r m w.0 f.low f.high (suc j) = subst (Names r m w.0 f.low f.high) (f.word ∙ e) (w.1.names f.low f.high (position_of r m key).link f.link) in
+      let z : Names (pool r) m w.0 f.low f.high (suc j) = subst (Names (pool r) m w.0 f.low f.high) (f.word ∙ e) (w.1.shape.names f.low f.high (position_of r m key).link f.link) in
       (z.0.inside, (f.some j e).1)
 
   once : (j i : ℕ) → j < r.cells → tag r m j ≡ suc key → i < r.cells → i ≢ j → tag r m i ≢ suc key
-  once j i lj t li d e = d (w.1.differ i j (record { inside = li; pos = omega arith }) (record { inside = lj; pos = omega arith }) (e ∙ sym t))
+  once j i lj t li d e = d (w.1.shape.differ i j (record { inside = li; pos = omega arith }) (record { inside = lj; pos = omega arith }) (e ∙ sym t))
 
   replaced-pairs : (j : ℕ) → (position_of r m key).next ≡ suc j → ((put_in r key v m).reply ≡ Replaced) × (pairs r (put_in r key v m).memory ≡ with_value (key, v) (pairs r m))
   replaced-pairs j e =

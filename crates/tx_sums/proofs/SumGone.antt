@@ -2,22 +2,22 @@
 use Rattle.std.proofs.Common.{ℕ, zero, suc, ◌≡◌, ◌<◌, ◌≤◌, ◌≢◌, ◌+◌, ◌*◌, ◌^◌, List, length, set, Bool, true, false, refl, sym, ap, ◌∙◌, arith, subst, inl, inr}
 use Rattle.std.specs.Option.{is_some}
 use Rattle.std.specs.Prelude.{◌⊎◌, ◌==◌, if◌then◌else◌, Some, None, slice_index}
-use Rattle.std.proofs.Math.ListN.{length-set}
 use Rattle.std.proofs.lemmas.List.{get_or-set_same, get_or-set_other}
 use Rattle.std.proofs.lemmas.Bool.Decides.{nat_tests}
 use Rattle.tx_effects.specs.declared.position.Position.{Position}
 use Rattle.tx_effects.specs.Keys.{less_one}
 use Rattle.tx_effects.specs.KeyLaws.{how_many-most}
+use Rattle.tx_tree.specs.Shapes.{Ranges, LinkOf, Names}
+use Rattle.tx_tree.specs.ShapeWalks.{named-used, Found, position-found}
+use Rattle.tx_tree.specs.ShapeLeast.{Leftmost, leftmost-found}
 use Rattle.tx_sums.specs.declared.sum_map.SumMap.{SumMap}
-use Rattle.tx_sums.specs.Sums.{sum_at, HasWords, IsSumMap, Ranges, Used, LinkOf, Names, Holds, value, value_at, tag_at, left_at, right_at, step_to, tag, position_of, pairs, value_of, replaced_in, removed_in, taken_out, spliced, leftmost, moved_up, retagged, replaced_by}
+use Rattle.tx_sums.specs.Sums.{pool, HasWords, IsSumMap, Used, Holds, value, value_at, tag_at, left_at, right_at, step_to, tag, position_of, pairs, value_of, replaced_in, removed_in, taken_out, spliced, leftmost, moved_up, retagged, replaced_by}
 use Rattle.tx_sums.specs.Statements.{RemovesKey}
-use Rattle.tx_sums.proofs.SumTrees.{Tree, tree-of, same-link}
-use Rattle.tx_sums.proofs.SumLaws.{Found, position-found, named-used}
-use Rattle.tx_sums.proofs.SumPuts.{link-off}
+use Rattle.tx_sums.proofs.SumTrees.{Tree, tree-of}
 use Rattle.tx_sums.proofs.SumPairs.{value-none, value-some}
 use Rattle.tx_sums.proofs.SumContents.{mended-tag, mended-value}
 use Rattle.tx_sums.proofs.SumRemovals.{s-tags, s-tag, s-values}
-use Rattle.tx_sums.proofs.SumTakes.{Leftmost, leftmost-found, emptied-link, emptied-of, remove-none, remove-some, moved-other, moved-tag, moved-length, moved-holds, less-one}
+use Rattle.tx_sums.proofs.SumTakes.{emptied-link, emptied-of, remove-none, remove-some, moved_out, least-names, least-apart, least-tags, least-freed, least-values, least-room}
 use Rattle.tx_sums.proofs.SumWithin.{replaced-kept, removes-within}
 
 -- the cells of k hold what those of m do, but for the cell x
@@ -27,7 +27,7 @@ record Gone (r : SumMap) (x : ℕ) (m k : List ℕ) : Type 0 where
   old : (j : ℕ) → Used r k j → (i : ℕ) × Used r m i × (tag r m i ≡ tag r k j)
 
 -- a cell spliced out
-gone-spliced : (r : SumMap) (m : List ℕ) (g : Ranges) (l h e x v : ℕ) → Holds r m g → LinkOf r m g l h e → slice_index m e ≡ suc x → Used r m x → r.at + 1 + 5 * r.cells ≤ length m → Gone r x m (spliced r x e v m)
+gone-spliced : (r : SumMap) (m : List ℕ) (g : Ranges) (l h e x v : ℕ) → Holds r m g → LinkOf (pool r) m g l h e → slice_index m e ≡ suc x → Used r m x → r.at + 1 + 5 * r.cells ≤ length m → Gone r x m (spliced r x e v m)
 gone-spliced r m g l h e x v w k named u room = record {
   none = λ j lt. by j lt (j == x) refl;
   kept = λ i ui d. (i, ui.inside, tags i d, s-values r m g l h e x v tree k named room i d);
@@ -48,132 +48,94 @@ gone-spliced r m g l h e x v w k named u room = record {
 
     by : (j : ℕ) → j < r.cells → (b : Bool) → (j == x) ≡ b → tag r (spliced r x e v m) j ≢ tag r m x
     by j lt true q c = let is : j ≡ x = grind (arith, nat_tests) in let a = ap (tag r (spliced r x e v m)) is in let f = freed in let p = u.pos in absurd (omega arith)
-    by j lt false q c = let d : j ≢ x = grind (arith, nat_tests) in let p = u.pos in let t = tags j d in d (w.differ j x (record { inside = lt; pos = omega arith }) u (omega arith))
+    by j lt false q c = let d : j ≢ x = grind (arith, nat_tests) in let p = u.pos in let t = tags j d in d (w.shape.differ j x (record { inside = lt; pos = omega arith }) u (omega arith))
 
 -- the cell x gets value and tag of y, the least on its right, which is spliced out
-gone-least : (r : SumMap) (m : List ℕ) (g : Ranges) (x y : ℕ) (s : Position) → Holds r m g → Used r m x → value r m x ≡ 0 → Leftmost r m g (tag r m x) (g.high x) s → s.next ≡ suc y → value r m y < 2 ^ 64
-    → r.at + 1 + 5 * r.cells ≤ length m → Gone r x m (replaced_by r x s m)
-gone-least r m g x y s w u none f e fits room =
-    subst (λ z. Gone r x m (retagged r x s.tag (spliced r z s.link (slice_index m (right_at r z)) (moved_up r x z (less_one s.tag) m)))) (sym (ap less_one e))
-    (record {
-      none = λ j lt. none-left j lt (j == x) refl (j == y) refl;
-      kept = λ i ui d. keeps i ui d (i == y) refl;
-      old = λ j uj. was j uj (j == x) refl (j == y) refl;
-    })
-  where
-    named : slice_index m s.link ≡ suc y
-    named = f.word ∙ e
+module _ (r : SumMap) (m : List ℕ) (g : Ranges) (x y : ℕ) (s : Position) (w : Holds r m g) (u : Used r m x) (none : value r m x ≡ 0) (f : Leftmost (pool r) m g (tag r m x) (g.high x) s) (e : s.next ≡ suc y) (fits : value r m y < 2 ^ 64)
+    (room : r.at + 1 + 5 * r.cells ≤ length m) where
+  abbrev k : List ℕ
+  k = moved_out r x y s m
 
-    names : Names r m g (tag r m x) f.high (suc y)
-    names = subst (Names r m g (tag r m x) f.high) named (w.names (tag r m x) f.high s.link f.link)
+  abbrev n : List ℕ
+  n = retagged r x s.tag k
 
-    uy : Used r m y
-    uy = record { inside = names.0.inside; pos = (let a = names.0.above in omega arith) }
+  apart : x ≢ y
+  apart = least-apart r m g x y s w u none f e fits room
 
-    tag-is : s.tag ≡ tag r m y
-    tag-is = (f.some y e).0
+  names : Names (pool r) m g (tag r m x) f.high (suc y)
+  names = least-names r m g x y s w u none f e fits room
 
-    at : tag r m y ≡ suc (less_one s.tag)
-    at = sym (less-one s.tag (let a = uy.pos in let b = tag-is in omega arith) ∙ tag-is)
+  values2 : (i : ℕ) → i ≢ x → i ≢ y → value r (moved_up r x y (less_one s.tag) m) i ≡ value r m i
+  values2 i a b = mended-value r (less_one s.tag) (step_to (value r m y) 0) r.cells (right_at r x) (set (set m (value_at r x) (value r m y)) (value_at r y) 0) i
+      ∙ (get_or-set_other (set m (value_at r x) (value r m y)) (value_at r y) (value_at r i) 0 0 (λ q. b (omega arith)) ∙ get_or-set_other m (value_at r x) (value_at r i) (value r m y) 0 (λ q. a (omega arith)))
 
-    apart : x ≢ y
-    apart q = let a : tag r m x ≡ tag r m y = ap (tag r m) q in let b = names.0.above in absurd (omega arith)
+  value2 : value r (moved_up r x y (less_one s.tag) m) x ≡ value r m y
+  value2 = mended-value r (less_one s.tag) (step_to (value r m y) 0) r.cells (right_at r x) (set (set m (value_at r x) (value r m y)) (value_at r y) 0) x
+      ∙ (get_or-set_other (set m (value_at r x) (value r m y)) (value_at r y) (value_at r x) 0 0 (λ q. apart (omega arith)) ∙ get_or-set_same m (value_at r x) (value r m y) 0 (let i = u.inside in omega arith))
 
-    h2 : Holds r (moved_up r x y (less_one s.tag) m) g
-    h2 = moved-holds r m g x y f.high s.link (less_one s.tag) w u none f.link named (f.some y e).1 at fits room
+  tags : (i : ℕ) → i ≢ x → i ≢ y → tag r n i ≡ tag r m i
+  tags i a b = get_or-set_other k (tag_at r x) (tag_at r i) s.tag 0 (λ q. a (omega arith)) ∙ least-tags r m g x y s w u none f e fits room i b
 
-    other : (z : ℕ) → ((j : ℕ) → z ≢ sum_at r j) → ((j : ℕ) → z ≢ value_at r j) → slice_index (moved_up r x y (less_one s.tag) m) z ≡ slice_index m z
-    other z a b = moved-other r x y (less_one s.tag) m z a b
+  new-tag : tag r n x ≡ tag r m y
+  new-tag = get_or-set_same k (tag_at r x) s.tag 0 (let i = u.inside in let l = least-room r m g x y s w u none f e fits room in omega arith) ∙ (f.some y e).0
 
-    tags2 : (i : ℕ) → tag r (moved_up r x y (less_one s.tag) m) i ≡ tag r m i
-    tags2 i = moved-tag r x y (less_one s.tag) m i
+  freed : tag r n y ≡ 0
+  freed = get_or-set_other k (tag_at r x) (tag_at r y) s.tag 0 (λ q. apart (omega arith)) ∙ least-freed r m g x y s w u none f e fits room
 
-    values2 : (i : ℕ) → i ≢ x → i ≢ y → value r (moved_up r x y (less_one s.tag) m) i ≡ value r m i
-    values2 i a b = mended-value r (less_one s.tag) (step_to (value r m y) 0) r.cells (right_at r x) (set (set m (value_at r x) (value r m y)) (value_at r y) 0) i
-        ∙ (get_or-set_other (set m (value_at r x) (value r m y)) (value_at r y) (value_at r i) 0 0 (λ q. b (omega arith)) ∙ get_or-set_other m (value_at r x) (value_at r i) (value r m y) 0 (λ q. a (omega arith)))
+  values : (i : ℕ) → i ≢ y → value r n i ≡ value r (moved_up r x y (less_one s.tag) m) i
+  values i b = get_or-set_other k (tag_at r x) (value_at r i) s.tag 0 (λ q. absurd (omega arith)) ∙ least-values r m g x y s w u none f e fits room i b
 
-    value2 : value r (moved_up r x y (less_one s.tag) m) x ≡ value r m y
-    value2 = mended-value r (less_one s.tag) (step_to (value r m y) 0) r.cells (right_at r x) (set (set m (value_at r x) (value r m y)) (value_at r y) 0) x
-        ∙ (get_or-set_other (set m (value_at r x) (value r m y)) (value_at r y) (value_at r x) 0 0 (λ q. apart (omega arith)) ∙ get_or-set_same m (value_at r x) (value r m y) 0 (let i = u.inside in omega arith))
+  at-x : (j : ℕ) → j ≡ x → tag r n j ≡ tag r m y
+  at-x j q = ap (tag r n) q ∙ new-tag
 
-    lk2 : LinkOf r (moved_up r x y (less_one s.tag) m) g (tag r m x) f.high s.link
-    lk2 = same-link r m (moved_up r x y (less_one s.tag) m) g (tree-of r m g w) (other r.at (λ j q. absurd (omega arith)) (λ j q. absurd (omega arith))) tags2
-        (λ i. other (left_at r i) (λ j q. absurd (omega arith)) (λ j q. absurd (omega arith))) (λ i. other (right_at r i) (λ j q. absurd (omega arith)) (λ j q. absurd (omega arith)))
-        (λ i lt z. let o = h2.spare i lt (tags2 i ∙ z) in (o.2, o.3)) (tag r m x) f.high s.link f.link
+  at-y : (j : ℕ) → j ≡ y → tag r n j ≡ 0
+  at-y j q = ap (tag r n) q ∙ freed
 
-    named2 : slice_index (moved_up r x y (less_one s.tag) m) s.link ≡ suc y
-    named2 = other s.link (λ j. (link-off r m g (tag r m x) f.high s.link f.link j).1) (λ j. (link-off r m g (tag r m x) f.high s.link f.link j).0) ∙ named
+  none-left : (j : ℕ) → j < r.cells → (b : Bool) → (j == x) ≡ b → (c : Bool) → (j == y) ≡ c → tag r n j ≢ tag r m x
+  none-left j lt true p c q z = let a = at-x j (grind (arith, nat_tests)) in let b = names.0.above in absurd (omega arith)
+  none-left j lt false p true q z = let a = at-y j (grind (arith, nat_tests)) in let b = u.pos in absurd (omega arith)
+  none-left j lt false p false q z =
+      let a : j ≢ x = grind (arith, nat_tests) in
+      let b : j ≢ y = grind (arith, nat_tests) in
+      let t = tags j a b in let o = u.pos in a (w.shape.differ j x (record { inside = lt; pos = omega arith }) u (omega arith))
 
-    tree2 : Tree r (moved_up r x y (less_one s.tag) m) g
-    tree2 = tree-of r (moved_up r x y (less_one s.tag) m) g h2
+  keeps : (i : ℕ) → Used r m i → i ≢ x → (c : Bool) → (i == y) ≡ c → (j : ℕ) × (j < r.cells) × (tag r n j ≡ tag r m i) × (value r n j ≡ value r m i)
+  keeps i ui d true q = let a : y ≡ i = grind (arith, nat_tests) in (x, u.inside, new-tag ∙ ap (tag r m) a, values x apart ∙ (value2 ∙ ap (value r m) a))
+  keeps i ui d false q = let b : i ≢ y = grind (arith, nat_tests) in (i, ui.inside, tags i d b, values i b ∙ values2 i d b)
 
-    room2 : r.at + 1 + 5 * r.cells ≤ length (moved_up r x y (less_one s.tag) m)
-    room2 = let l = moved-length r x y (less_one s.tag) m in omega arith
+  was : (j : ℕ) → Used r n j → (b : Bool) → (j == x) ≡ b → (c : Bool) → (j == y) ≡ c → (i : ℕ) × Used r m i × (tag r m i ≡ tag r n j)
+  was j uj true p c q = (y, record { inside = names.0.inside; pos = (let a = names.0.above in omega arith) }, sym (at-x j (grind (arith, nat_tests))))
+  was j uj false p true q = let a = at-y j (grind (arith, nat_tests)) in let o = uj.pos in absurd (omega arith)
+  was j uj false p false q = let t = tags j (grind (arith, nat_tests)) (grind (arith, nat_tests)) in (j, record { inside = uj.inside; pos = subst (λ z. 0 < z) t uj.pos }, sym t)
 
-    tags4 : (i : ℕ) → i ≢ x → i ≢ y → tag r (retagged r x s.tag (spliced r y s.link (slice_index m (right_at r y)) (moved_up r x y (less_one s.tag) m))) i ≡ tag r m i
-    tags4 i a b = get_or-set_other (spliced r y s.link (slice_index m (right_at r y)) (moved_up r x y (less_one s.tag) m)) (tag_at r x) (tag_at r i) s.tag 0 (λ q. a (omega arith))
-        ∙ (s-tags r (moved_up r x y (less_one s.tag) m) g (tag r m x) f.high s.link y (slice_index m (right_at r y)) tree2 lk2 named2 room2 i b ∙ tags2 i)
-
-    tag4 : tag r (retagged r x s.tag (spliced r y s.link (slice_index m (right_at r y)) (moved_up r x y (less_one s.tag) m))) x ≡ tag r m y
-    tag4 = get_or-set_same (spliced r y s.link (slice_index m (right_at r y)) (moved_up r x y (less_one s.tag) m)) (tag_at r x) s.tag 0 (let i = u.inside in let l = room2 in simp length-set (omega arith)) ∙ tag-is
-
-    freed : tag r (retagged r x s.tag (spliced r y s.link (slice_index m (right_at r y)) (moved_up r x y (less_one s.tag) m))) y ≡ 0
-    freed = get_or-set_other (spliced r y s.link (slice_index m (right_at r y)) (moved_up r x y (less_one s.tag) m)) (tag_at r x) (tag_at r y) s.tag 0 (λ q. apart (omega arith))
-        ∙ s-tag r (moved_up r x y (less_one s.tag) m) g (tag r m x) f.high s.link y (slice_index m (right_at r y)) tree2 lk2 named2 room2
-
-    values4 : (i : ℕ) → i ≢ y → value r (retagged r x s.tag (spliced r y s.link (slice_index m (right_at r y)) (moved_up r x y (less_one s.tag) m))) i ≡ value r (moved_up r x y (less_one s.tag) m) i
-    values4 i b = get_or-set_other (spliced r y s.link (slice_index m (right_at r y)) (moved_up r x y (less_one s.tag) m)) (tag_at r x) (value_at r i) s.tag 0 (λ q. absurd (omega arith))
-        ∙ s-values r (moved_up r x y (less_one s.tag) m) g (tag r m x) f.high s.link y (slice_index m (right_at r y)) tree2 lk2 named2 room2 i b
-
-    at-x : (j : ℕ) → j ≡ x → tag r (retagged r x s.tag (spliced r y s.link (slice_index m (right_at r y)) (moved_up r x y (less_one s.tag) m))) j ≡ tag r m y
-    at-x j q = ap (tag r (retagged r x s.tag (spliced r y s.link (slice_index m (right_at r y)) (moved_up r x y (less_one s.tag) m)))) q ∙ tag4
-
-    at-y : (j : ℕ) → j ≡ y → tag r (retagged r x s.tag (spliced r y s.link (slice_index m (right_at r y)) (moved_up r x y (less_one s.tag) m))) j ≡ 0
-    at-y j q = ap (tag r (retagged r x s.tag (spliced r y s.link (slice_index m (right_at r y)) (moved_up r x y (less_one s.tag) m)))) q ∙ freed
-
-    none-left : (j : ℕ) → j < r.cells → (b : Bool) → (j == x) ≡ b → (c : Bool) → (j == y) ≡ c → tag r (retagged r x s.tag (spliced r y s.link (slice_index m (right_at r y)) (moved_up r x y (less_one s.tag) m))) j ≢ tag r m x
-    none-left j lt true p c q z = let a = at-x j (grind (arith, nat_tests)) in let b = names.0.above in absurd (omega arith)
-    none-left j lt false p true q z = let a = at-y j (grind (arith, nat_tests)) in let b = u.pos in absurd (omega arith)
-    none-left j lt false p false q z =
-        let a : j ≢ x = grind (arith, nat_tests) in
-        let b : j ≢ y = grind (arith, nat_tests) in
-        let t = tags4 j a b in let o = u.pos in a (w.differ j x (record { inside = lt; pos = omega arith }) u (omega arith))
-
-    keeps : (i : ℕ) → Used r m i → i ≢ x → (c : Bool) → (i == y) ≡ c → (j : ℕ) × (j < r.cells) × (tag r (retagged r x s.tag (spliced r y s.link (slice_index m (right_at r y)) (moved_up r x y (less_one s.tag) m))) j ≡ tag r m i) × (value r (retagged r x s.tag (spliced r y s.link (slice_index m (right_at r y)) (moved_up r x y (less_one s.tag) m))) j ≡ value r m i)
-    keeps i ui d true q = let a : y ≡ i = grind (arith, nat_tests) in (x, u.inside, tag4 ∙ ap (tag r m) a, values4 x apart ∙ (value2 ∙ ap (value r m) a))
-    keeps i ui d false q = let b : i ≢ y = grind (arith, nat_tests) in (i, ui.inside, tags4 i d b, values4 i b ∙ values2 i d b)
-
-    was : (j : ℕ) → Used r (retagged r x s.tag (spliced r y s.link (slice_index m (right_at r y)) (moved_up r x y (less_one s.tag) m))) j → (b : Bool) → (j == x) ≡ b → (c : Bool) → (j == y) ≡ c → (i : ℕ) × Used r m i × (tag r m i ≡ tag r (retagged r x s.tag (spliced r y s.link (slice_index m (right_at r y)) (moved_up r x y (less_one s.tag) m))) j)
-    was j uj true p c q = (y, uy, sym (at-x j (grind (arith, nat_tests))))
-    was j uj false p true q = let a = at-y j (grind (arith, nat_tests)) in let o = uj.pos in absurd (omega arith)
-    was j uj false p false q =
-        let t = tags4 j (grind (arith, nat_tests)) (grind (arith, nat_tests)) in
-        (j, record { inside = uj.inside; pos = subst (λ z. 0 < z) t uj.pos }, sym t)
+  gone-least : Gone r x m (replaced_by r x s m)
+  gone-least = subst (λ z. Gone r x m (retagged r x s.tag (spliced r z s.link (slice_index m (right_at r z)) (moved_up r x z (less_one s.tag) m)))) (sym (ap less_one e))
+      (record { none = λ j lt. none-left j lt (j == x) refl (j == y) refl; kept = λ i ui d. keeps i ui d (i == y) refl; old = λ j uj. was j uj (j == x) refl (j == y) refl })
 
 -- a cell taken out that has no value
-gone-taken : (r : SumMap) (m : List ℕ) (g : Ranges) (l h e x : ℕ) → Holds r m g → LinkOf r m g l h e → slice_index m e ≡ suc x → value r m x ≡ 0 → HasWords r m → r.at + 1 + 5 * r.cells ≤ length m → Used r m x × Gone r x m (taken_out r x e m)
+gone-taken : (r : SumMap) (m : List ℕ) (g : Ranges) (l h e x : ℕ) → Holds r m g → LinkOf (pool r) m g l h e → slice_index m e ≡ suc x → value r m x ≡ 0 → HasWords r m → r.at + 1 + 5 * r.cells ≤ length m → Used r m x × Gone r x m (taken_out r x e m)
 gone-taken r m g l h e x w k named none words room = (u, by (slice_index m (left_at r x) == 0) (slice_index m (right_at r x) == 0) refl)
   where
     u : Used r m x
-    u = named-used r m g l h x (subst (Names r m g l h) named (w.names l h e k))
+    u = named-used (pool r) m g l h x (subst (Names (pool r) m g l h) named (w.shape.names l h e k))
 
-    rl : LinkOf r m g (tag r m x) (g.high x) (right_at r x)
+    rl : LinkOf (pool r) m g (tag r m x) (g.high x) (right_at r x)
     rl = inr (inr (x, refl, refl, refl, u))
 
-    least : Leftmost r m g (tag r m x) (g.high x) (leftmost r m r.cells (right_at r x))
-    least = leftmost-found r m g r.cells (tag r m x) (g.high x) (right_at r x) (tree-of r m g w) rl (how_many-most _ r.cells)
+    least : Leftmost (pool r) m g (tag r m x) (g.high x) (leftmost r m r.cells (right_at r x))
+    least = leftmost-found (pool r) m g r.cells (tag r m x) (g.high x) (right_at r x) w.shape rl (how_many-most _ r.cells)
 
     by : (b : Bool) (c : Bool) → (slice_index m (right_at r x) == 0) ≡ c
         → Gone r x m (if b then spliced r x e (slice_index m (right_at r x)) m else (if c then spliced r x e (slice_index m (left_at r x)) m else replaced_by r x (leftmost r m r.cells (right_at r x)) m))
     by true c q = gone-spliced r m g l h e x (slice_index m (right_at r x)) w k named u room
     by false true q = gone-spliced r m g l h e x (slice_index m (left_at r x)) w k named u room
-    by false false q = at (leftmost r m r.cells (right_at r x)).next refl (slice_index m (right_at r x)) refl (w.names (tag r m x) (g.high x) (right_at r x) rl)
+    by false false q = at (leftmost r m r.cells (right_at r x)).next refl (slice_index m (right_at r x)) refl (w.shape.names (tag r m x) (g.high x) (right_at r x) rl)
       where
-        at : (n : ℕ) → (leftmost r m r.cells (right_at r x)).next ≡ n → (v : ℕ) → slice_index m (right_at r x) ≡ v → Names r m g (tag r m x) (g.high x) v → Gone r x m (replaced_by r x (leftmost r m r.cells (right_at r x)) m)
+        at : (n : ℕ) → (leftmost r m r.cells (right_at r x)).next ≡ n → (v : ℕ) → slice_index m (right_at r x) ≡ v → Names (pool r) m g (tag r m x) (g.high x) v → Gone r x m (replaced_by r x (leftmost r m r.cells (right_at r x)) m)
         at n c zero d nm = absurd (grind (arith, nat_tests))
         at zero c (suc j) d nm = absurd (least.none c j nm.0)
         at (suc y) c (suc j) d nm =
-            let ny : Names r m g (tag r m x) least.high (suc y) = subst (Names r m g (tag r m x) least.high) (least.word ∙ c) (w.names (tag r m x) least.high (leftmost r m r.cells (right_at r x)).link least.link) in
+            let ny : Names (pool r) m g (tag r m x) least.high (suc y) = subst (Names (pool r) m g (tag r m x) least.high) (least.word ∙ c) (w.shape.names (tag r m x) least.high (leftmost r m r.cells (right_at r x)).link least.link) in
             gone-least r m g x y (leftmost r m r.cells (right_at r x)) w u none least c (words y ny.0.inside) room
 
 -- some cell of the first n has the tag, or none has
@@ -192,7 +154,7 @@ some-cell t v (suc n) = by (t n == v) refl (some-cell t v n)
 
 -- the value of a key that a cell has
 valued : (r : SumMap) (m : List ℕ) (g : Ranges) (key c : ℕ) → Holds r m g → c < r.cells → tag r m c ≡ suc key → value_of key (pairs r m) ≡ Some (value r m c)
-valued r m g key c w lt t = value-some r m key c r.cells lt t (λ i li d e. d (w.differ i c (record { inside = li; pos = omega arith }) (record { inside = lt; pos = omega arith }) (e ∙ sym t)))
+valued r m g key c w lt t = value-some r m key c r.cells lt t (λ i li d e. d (w.shape.differ i c (record { inside = li; pos = omega arith }) (record { inside = lt; pos = omega arith }) (e ∙ sym t)))
 
 -- without the cell x, and with its value another one before
 gone-values : (r : SumMap) (o m k : List ℕ) (g a : Ranges) (key x : ℕ) → Holds r o g → Holds r k a → x < r.cells → tag r o x ≡ suc key
@@ -216,13 +178,13 @@ gone-values r o m k g a key x w wk lt t tags values gone n = by (n == key) refl 
 pub removes-key : RemovesKey
 removes-key r m key w fits words small = by (position_of r m key).next refl
   where
-    f : Found r m w.0 key (position_of r m key)
-    f = position-found r m w.0 key (tree-of r m w.0 w.1) small
+    f : Found (pool r) m w.0 key (position_of r m key)
+    f = position-found (pool r) m w.0 key w.1.shape small
 
     by : (n : ℕ) → (position_of r m key).next ≡ n → ((removed_in r key m).reply ≡ is_some (value_of key (pairs r m)))
         × ((n : ℕ) → value_of n (pairs r (removed_in r key m).memory) ≡ (if n == key then None else value_of n (pairs r m)))
     by zero e =
-        let z : Names r m w.0 f.low f.high 0 = subst (Names r m w.0 f.low f.high) (f.word ∙ e) (w.1.names f.low f.high (position_of r m key).link f.link) in
+        let z : Names (pool r) m w.0 f.low f.high 0 = subst (Names (pool r) m w.0 f.low f.high) (f.word ∙ e) (w.1.shape.names f.low f.high (position_of r m key).link f.link) in
         let none : value_of key (pairs r m) ≡ None = value-none r m key r.cells (λ i lt t. z i (record { inside = lt; above = (let a = f.above in omega arith); below = (let b = f.below in omega arith) })) in
         let is = remove-none r m key (position_of r m key) refl e in
         (ap (λ x. x.reply) is ∙ ap is_some (sym none), λ n. ap (λ x. value_of n (pairs r x.memory)) is ∙ same n none (n == key) refl)
@@ -231,7 +193,7 @@ removes-key r m key w fits words small = by (position_of r m key).next refl
         same n none true q = let e : n ≡ key = grind (arith, nat_tests) in ap (λ z. value_of z (pairs r m)) e ∙ none
         same n none false q = refl
     by (suc j) e =
-        let z : Names r m w.0 f.low f.high (suc j) = subst (Names r m w.0 f.low f.high) (f.word ∙ e) (w.1.names f.low f.high (position_of r m key).link f.link) in
+        let z : Names (pool r) m w.0 f.low f.high (suc j) = subst (Names (pool r) m w.0 f.low f.high) (f.word ∙ e) (w.1.shape.names f.low f.high (position_of r m key).link f.link) in
         let t : tag r m j ≡ suc key = (f.some j e).1 in
         let d = step_to (value r m j) 0 in
         let k = (replaced_in r key 0 j m).memory in

@@ -6,27 +6,28 @@ use Rattle.std.proofs.lemmas.List.{get_or-set_same, get_or-set_other}
 use Rattle.std.proofs.lemmas.Bool.Decides.{nat_tests}
 use Rattle.tx_effects.specs.Keys.{how_many}
 use Rattle.tx_effects.specs.KeyLaws.{how_many-most}
+use Rattle.tx_tree.specs.Shapes.{Ranges, Within, LinkOf, Names}
+use Rattle.tx_tree.specs.ShapeWalks.{is_within, left, left-less, named-used, left-link, right-link}
 use Rattle.tx_sums.specs.declared.sum_map.SumMap.{SumMap}
-use Rattle.tx_sums.specs.Sums.{tag_at, left_at, right_at, value_at, sum_at, tag, value, Ranges, Used, Within, LinkOf, Names, Holds, side_at, raised, mended_by, mended}
+use Rattle.tx_sums.specs.Sums.{pool, tag_at, left_at, right_at, value_at, sum_at, tag, value, Used, Holds, side_at, raised, mended_by, mended}
 use Rattle.tx_sums.proofs.SumTrees.{Tree, due, holds-of, same-tree, same-link, same-used-old, within-same}
-use Rattle.tx_sums.proofs.SumLaws.{is_within, left, left-less, named-used, left-link, right-link}
 
 -- the range of a cell in a link's range is a part of it
-pub nest : (r : SumMap) (m : List ℕ) (g : Ranges) (n l h a i : ℕ) → Tree r m g → LinkOf r m g l h a → left r m l h ≤ n → Within r m l h i → (l ≤ g.low i) × (g.high i ≤ h)
-nest r m g zero l h a i w k le y = by (slice_index m a) (w.names l h a k)
+pub nest : (r : SumMap) (m : List ℕ) (g : Ranges) (n l h a i : ℕ) → Tree r m g → LinkOf (pool r) m g l h a → left (pool r) m l h ≤ n → Within (pool r) m l h i → (l ≤ g.low i) × (g.high i ≤ h)
+nest r m g zero l h a i w k le y = by (slice_index m a) (w.shape.names l h a k)
   where
-    by : (v : ℕ) → Names r m g l h v → (l ≤ g.low i) × (g.high i ≤ h)
+    by : (v : ℕ) → Names (pool r) m g l h v → (l ≤ g.low i) × (g.high i ≤ h)
     by zero z = absurd (z i y)
-    by (suc j) z = let x = left-less r m l h l l j z.0 (omega arith) (let p = z.0.above in let q = z.0.below in omega arith) (inr (let p = z.0.above in omega arith)) in absurd (omega arith)
-nest r m g (suc n) l h a i w k le y = by (slice_index m a) (w.names l h a k)
-    (λ j z lt. nest r m g n l (tag r m j) (left_at r j) i w (left-link r m g l h j z)
-    (let x = left-less r m l h l (tag r m j) j z.0 (omega arith) (let b = z.0.below in omega arith) (inr (omega arith)) in omega arith) (record { inside = y.inside; above = y.above; below = lt }))
-    (λ j z lt. nest r m g n (tag r m j) h (right_at r j) i w (right-link r m g l h j z)
-    (let x = left-less r m l h (tag r m j) h j z.0 (let b = z.0.above in omega arith) (omega arith) (inl (omega arith)) in omega arith) (record { inside = y.inside; above = lt; below = y.below }))
+    by (suc j) z = let x = left-less (pool r) m l h l l j z.0 (omega arith) (let p = z.0.above in let q = z.0.below in omega arith) (inr (let p = z.0.above in omega arith)) in absurd (omega arith)
+nest r m g (suc n) l h a i w k le y = by (slice_index m a) (w.shape.names l h a k)
+    (λ j z lt. nest r m g n l (tag r m j) (left_at r j) i w (left-link (pool r) m g l h j z)
+    (let x = left-less (pool r) m l h l (tag r m j) j z.0 (omega arith) (let b = z.0.below in omega arith) (inr (omega arith)) in omega arith) (record { inside = y.inside; above = y.above; below = lt }))
+    (λ j z lt. nest r m g n (tag r m j) h (right_at r j) i w (right-link (pool r) m g l h j z)
+    (let x = left-less (pool r) m l h (tag r m j) h j z.0 (let b = z.0.above in omega arith) (omega arith) (inl (omega arith)) in omega arith) (record { inside = y.inside; above = lt; below = y.below }))
   where
-    by : (v : ℕ) → Names r m g l h v
-        → ((j : ℕ) → Names r m g l h (suc j) → tag r m i < tag r m j → (l ≤ g.low i) × (g.high i ≤ tag r m j))
-        → ((j : ℕ) → Names r m g l h (suc j) → tag r m j < tag r m i → (tag r m j ≤ g.low i) × (g.high i ≤ h))
+    by : (v : ℕ) → Names (pool r) m g l h v
+        → ((j : ℕ) → Names (pool r) m g l h (suc j) → tag r m i < tag r m j → (l ≤ g.low i) × (g.high i ≤ tag r m j))
+        → ((j : ℕ) → Names (pool r) m g l h (suc j) → tag r m j < tag r m i → (tag r m j ≤ g.low i) × (g.high i ≤ h))
         → (l ≤ g.low i) × (g.high i ≤ h)
     by zero z lefts rights = absurd (z i y)
     by (suc j) z lefts rights = at (ltb (tag r m i) (tag r m j)) refl (ltb (tag r m j) (tag r m i)) refl
@@ -36,7 +37,7 @@ nest r m g (suc n) l h a i w k le y = by (slice_index m a) (w.names l h a k)
         at false p true q = let x = rights j z (grind (arith, nat_tests)) in let x0 = x.0 in let x1 = x.1 in let b = z.0.above in (omega arith, x1)
         at false p false q =
             let e : tag r m i ≡ tag r m j = grind (arith, nat_tests) in
-            let ij : i ≡ j = w.differ i j (record { inside = y.inside; pos = (let b = y.above in omega arith) }) (named-used r m g l h j z) e in
+            let ij : i ≡ j = w.shape.differ i j (record { inside = y.inside; pos = (let b = y.above in omega arith) }) (named-used (pool r) m g l h j z) e in
             let lo : g.low i ≡ l = ap g.low ij ∙ z.1 in
             let hi : g.high i ≡ h = ap g.high ij ∙ z.2 in
             (omega arith, omega arith)
@@ -46,17 +47,17 @@ pub record Broken (r : SumMap) (m : List ℕ) (g : Ranges) (t d l h : ℕ) : Typ
   pub broken : (i : ℕ) → Used r m i → g.low i < t → t < g.high i → l < tag r m i → tag r m i < h → (slice_index m (sum_at r i) + d) % 2 ^ 64 ≡ due r m g i
   pub right : (i : ℕ) → Used r m i → (g.low i < t → t < g.high i → l < tag r m i → tag r m i < h → ⊥) → slice_index m (sum_at r i) ≡ due r m g i
 
-how_many-alike : (r : SumMap) (m k : List ℕ) (l h n : ℕ) → ((i : ℕ) → tag r k i ≡ tag r m i) → how_many (is_within r k l h) n ≡ how_many (is_within r m l h) n
+how_many-alike : (r : SumMap) (m k : List ℕ) (l h n : ℕ) → ((i : ℕ) → tag r k i ≡ tag r m i) → how_many (is_within (pool r) k l h) n ≡ how_many (is_within (pool r) m l h) n
 how_many-alike r m k l h zero s = refl
 how_many-alike r m k l h (suc n) s = let e = how_many-alike r m k l h n s in let t = s n in rw (t, e) refl
 
 -- A STEP: the link a names the cell j
-module _ (r : SumMap) (m : List ℕ) (g : Ranges) (t d l h a j : ℕ) (w : Tree r m g) (k : LinkOf r m g l h a) (z : Names r m g l h (suc j)) (lo : l < t) (hi : t < h) (room : r.at + 1 + 5 * r.cells ≤ length m) (b : Broken r m g t d l h) where
+module _ (r : SumMap) (m : List ℕ) (g : Ranges) (t d l h a j : ℕ) (w : Tree r m g) (k : LinkOf (pool r) m g l h a) (z : Names (pool r) m g l h (suc j)) (lo : l < t) (hi : t < h) (room : r.at + 1 + 5 * r.cells ≤ length m) (b : Broken r m g t d l h) where
   abbrev y : List ℕ
   y = raised r d j m
 
   uj : Used r m j
-  uj = named-used r m g l h j z
+  uj = named-used (pool r) m g l h j z
 
   y-other : (x : ℕ) → x ≢ sum_at r j → get_or y x 0 ≡ get_or m x 0
   y-other x e = get_or-set_other m (sum_at r j) x _ 0 e
@@ -80,16 +81,16 @@ module _ (r : SumMap) (m : List ℕ) (g : Ranges) (t d l h a j : ℕ) (w : Tree 
   y-sums i d = y-other (sum_at r i) (λ e. d (omega arith))
 
   y-spares : (i : ℕ) → i < r.cells → tag r m i ≡ 0 → (value r y i ≡ 0) × (slice_index y (sum_at r i) ≡ 0)
-  y-spares i lt e = let s = w.spare i lt e in (y-values i ∙ s.2, y-sums i (λ q. (let x : tag r m i ≡ tag r m j = ap (tag r m) q in let p = uj.pos in absurd (omega arith))) ∙ s.3)
+  y-spares i lt e = let s = w.bare i lt e in (y-values i ∙ s.0, y-sums i (λ q. (let x : tag r m i ≡ tag r m j = ap (tag r m) q in let p = uj.pos in absurd (omega arith))) ∙ s.1)
 
   pub y-tree : Tree r (raised r d j m) g
   y-tree = same-tree r m y g w y-root y-tags y-lefts y-rights y-spares
 
-  pub y-left : LinkOf r (raised r d j m) g l (tag r m j) (left_at r j)
-  y-left = same-link r m y g w y-root y-tags y-lefts y-rights y-spares l (tag r m j) (left_at r j) (left-link r m g l h j z)
+  pub y-left : LinkOf (pool r) (raised r d j m) g l (tag r m j) (left_at r j)
+  y-left = same-link r m y g w y-root y-tags y-lefts y-rights y-spares l (tag r m j) (left_at r j) (left-link (pool r) m g l h j z)
 
-  pub y-right : LinkOf r (raised r d j m) g (tag r m j) h (right_at r j)
-  y-right = same-link r m y g w y-root y-tags y-lefts y-rights y-spares (tag r m j) h (right_at r j) (right-link r m g l h j z)
+  pub y-right : LinkOf (pool r) (raised r d j m) g (tag r m j) h (right_at r j)
+  y-right = same-link r m y g w y-root y-tags y-lefts y-rights y-spares (tag r m j) h (right_at r j) (right-link (pool r) m g l h j z)
 
   old : (i : ℕ) → Used r y i → Used r m i
   old i u = same-used-old r m y g w y-root y-tags y-lefts y-rights y-spares i u
@@ -106,10 +107,10 @@ module _ (r : SumMap) (m : List ℕ) (g : Ranges) (t d l h a j : ℕ) (w : Tree 
     where
       at : (s : Bool) → ltb (tag r m i) (tag r m j) ≡ s → (t : Bool) → ltb (tag r m j) (tag r m i) ≡ t → ((tag r m i < tag r m j) × (g.high i ≤ tag r m j)) ⊎ ((tag r m j < tag r m i) × (tag r m j ≤ g.low i))
       at true e t f = let lt : tag r m i < tag r m j = grind (arith, nat_tests) in
-          inl (lt, (nest r m g r.cells l (tag r m j) (left_at r j) i w (left-link r m g l h j z) (how_many-most _ r.cells) (record { inside = u.inside; above = p; below = lt })).1)
+          inl (lt, (nest r m g r.cells l (tag r m j) (left_at r j) i w (left-link (pool r) m g l h j z) (how_many-most _ r.cells) (record { inside = u.inside; above = p; below = lt })).1)
       at false e true f = let lt : tag r m j < tag r m i = grind (arith, nat_tests) in
-          inr (lt, (nest r m g r.cells (tag r m j) h (right_at r j) i w (right-link r m g l h j z) (how_many-most _ r.cells) (record { inside = u.inside; above = lt; below = q })).0)
-      at false e false f = let s : tag r m i ≡ tag r m j = grind (arith, nat_tests) in absurd (d (w.differ i j u uj s))
+          inr (lt, (nest r m g r.cells (tag r m j) h (right_at r j) i w (right-link (pool r) m g l h j z) (how_many-most _ r.cells) (record { inside = u.inside; above = lt; below = q })).0)
+      at false e false f = let s : tag r m i ≡ tag r m j = grind (arith, nat_tests) in absurd (d (w.shape.differ i j u uj s))
 
   -- a cell beside j is right where the rest says so
   beside : (i : ℕ) → Used r y i → ((i ≢ j) → g.low i < t → t < g.high i → l < tag r m i → tag r m i < h → ⊥) → slice_index y (sum_at r i) ≡ due r y g i
@@ -149,27 +150,27 @@ module _ (r : SumMap) (m : List ℕ) (g : Ranges) (t d l h a j : ℕ) (w : Tree 
       by i p q v out (inl s) = let s1 = s.1 in absurd (omega arith)
       by i p q v out (inr s) = out p q s.0 v
 
-  pub y-count : (x v : ℕ) → left r (raised r d j m) x v ≡ left r m x v
+  pub y-count : (x v : ℕ) → left (pool r) (raised r d j m) x v ≡ left (pool r) m x v
   y-count x v = how_many-alike r m y x v r.cells y-tags
 
 -- THE WALK
-pub mended-holds : (r : SumMap) (g : Ranges) (key d n l h a : ℕ) (m : List ℕ) → Tree r m g → LinkOf r m g l h a → l ≤ key → suc key < h → left r m l h ≤ n → r.at + 1 + 5 * r.cells ≤ length m → Broken r m g (suc key) d l h → Holds r (mended r key d n a m) g
-mended-holds r g key d zero l h a m w k lo hi le room b = by (slice_index m a) (w.names l h a k)
+pub mended-holds : (r : SumMap) (g : Ranges) (key d n l h a : ℕ) (m : List ℕ) → Tree r m g → LinkOf (pool r) m g l h a → l ≤ key → suc key < h → left (pool r) m l h ≤ n → r.at + 1 + 5 * r.cells ≤ length m → Broken r m g (suc key) d l h → Holds r (mended r key d n a m) g
+mended-holds r g key d zero l h a m w k lo hi le room b = by (slice_index m a) (w.shape.names l h a k)
   where
-    by : (v : ℕ) → Names r m g l h v → Holds r m g
+    by : (v : ℕ) → Names (pool r) m g l h v → Holds r m g
     by zero z = holds-of r m g w (λ i u. b.right i u (λ p q x v. z i (record { inside = u.inside; above = x; below = v })))
-    by (suc j) z = let x = left-less r m l h l l j z.0 (omega arith) (let p = z.0.above in let q = z.0.below in omega arith) (inr (let p = z.0.above in omega arith)) in absurd (omega arith)
-mended-holds r g key d (suc n) l h a m w k lo hi le room b = by (slice_index m a) (w.names l h a k)
+    by (suc j) z = let x = left-less (pool r) m l h l l j z.0 (omega arith) (let p = z.0.above in let q = z.0.below in omega arith) (inr (let p = z.0.above in omega arith)) in absurd (omega arith)
+mended-holds r g key d (suc n) l h a m w k lo hi le room b = by (slice_index m a) (w.shape.names l h a k)
     (λ j z gt. let lt : l < suc key = omega arith in let kl : length (raised r d j m) ≡ length m = simp length-set in
     mended-holds r g key d n l (tag r m j) (left_at r j) (raised r d j m) (y-tree r m g (suc key) d l h a j w k z lt hi room b) (y-left r m g (suc key) d l h a j w k z lt hi room b) lo gt
-    (let x = left-less r m l h l (tag r m j) j z.0 (omega arith) (let b = z.0.below in omega arith) (inr (omega arith)) in let e = y-count r m g (suc key) d l h a j w k z lt hi room b l (tag r m j) in omega arith) (omega arith) (mends-left r m g (suc key) d l h a j w k z lt hi room b gt))
+    (let x = left-less (pool r) m l h l (tag r m j) j z.0 (omega arith) (let b = z.0.below in omega arith) (inr (omega arith)) in let e = y-count r m g (suc key) d l h a j w k z lt hi room b l (tag r m j) in omega arith) (omega arith) (mends-left r m g (suc key) d l h a j w k z lt hi room b gt))
     (λ j z gt. let lt : l < suc key = omega arith in let kl : length (raised r d j m) ≡ length m = simp length-set in
     mended-holds r g key d n (tag r m j) h (right_at r j) (raised r d j m) (y-tree r m g (suc key) d l h a j w k z lt hi room b) (y-right r m g (suc key) d l h a j w k z lt hi room b) gt hi
-    (let x = left-less r m l h (tag r m j) h j z.0 (let b = z.0.above in omega arith) (omega arith) (inl (omega arith)) in let e = y-count r m g (suc key) d l h a j w k z lt hi room b (tag r m j) h in omega arith) (omega arith) (mends-right r m g (suc key) d l h a j w k z lt hi room b (omega arith)))
+    (let x = left-less (pool r) m l h (tag r m j) h j z.0 (let b = z.0.above in omega arith) (omega arith) (inl (omega arith)) in let e = y-count r m g (suc key) d l h a j w k z lt hi room b (tag r m j) h in omega arith) (omega arith) (mends-right r m g (suc key) d l h a j w k z lt hi room b (omega arith)))
   where
-    by : (v : ℕ) → Names r m g l h v
-        → ((j : ℕ) → Names r m g l h (suc j) → suc key < tag r m j → Holds r (mended r key d n (left_at r j) (raised r d j m)) g)
-        → ((j : ℕ) → Names r m g l h (suc j) → tag r m j ≤ key → Holds r (mended r key d n (right_at r j) (raised r d j m)) g)
+    by : (v : ℕ) → Names (pool r) m g l h v
+        → ((j : ℕ) → Names (pool r) m g l h (suc j) → suc key < tag r m j → Holds r (mended r key d n (left_at r j) (raised r d j m)) g)
+        → ((j : ℕ) → Names (pool r) m g l h (suc j) → tag r m j ≤ key → Holds r (mended r key d n (right_at r j) (raised r d j m)) g)
         → Holds r (mended_by (λ j. if tag r m j == suc key then raised r d j m else mended r key d n (side_at r m key j) (raised r d j m)) m v) g
     by zero z lefts rights = holds-of r m g w (λ i u. b.right i u (λ p q x v. z i (record { inside = u.inside; above = x; below = v })))
     by (suc j) z lefts rights = here (tag r m j == suc key) refl (ltb key (tag r m j)) refl

@@ -1,18 +1,20 @@
 -- A map in a region: its subtrees, its own words, and what a put leaves.
 use Rattle.std.proofs.Common.{ℕ, zero, suc, ◌≡◌, ◌<◌, ◌≤◌, ◌≢◌, ◌+◌, ◌*◌, ◌%◌, ◌^◌, List, [], length, get_or, set, replicate, Bool, true, false, refl, sym, ap, ◌∙◌, arith, subst, inl, inr}
-use Rattle.std.specs.Prelude.{◌⊎◌, ◌==◌, if◌then◌else◌, Option, Some, None, slice_index}
+use Rattle.std.specs.Prelude.{◌==◌, if◌then◌else◌, Option, Some, None, slice_index}
 use Rattle.std.proofs.Math.Nat.{add-mod-mod}
 use Rattle.std.proofs.lemmas.List.{get_or-set_other}
 use Rattle.std.proofs.lemmas.Bool.Decides.{nat_tests}
 use Rattle.tx_effects.specs.EffectLaws.{zero-at}
 use Rattle.tx_effects.specs.Keys.{free_from}
 use Rattle.tx_effects.specs.KeyLaws.{free-is}
+use Rattle.tx_tree.specs.Shapes.{Ranges, Names}
+use Rattle.tx_tree.specs.ShapeWalks.{Found, position-found}
+use Rattle.tx_tree.specs.ShapeSame.{same-shape, zeros-shape, Outside, out-of, link-place}
 use Rattle.tx_sums.specs.declared.sum_map.SumMap.{SumMap}
-use Rattle.tx_sums.specs.Sums.{tag_at, left_at, right_at, value_at, sum_at, tag, value, top, Ranges, Used, LinkOf, Names, Bounds, Holds, LinksInside, sum_within, sum_under, pairs_to, raised, mended_by, mended, attached, step_to, side_at, position_of, put_by, added_by, put_in}
+use Rattle.tx_sums.specs.Sums.{pool, tag_at, left_at, right_at, value_at, sum_at, tag, value, Holds, LinksInside, sum_within, sum_under, pairs_to, raised, mended_by, mended, attached, step_to, side_at, position_of, put_by, added_by, put_in}
 use Rattle.tx_sums.specs.Statements.{SumsSubtrees, ZerosAreEmpty, DependsOnOwnWords, ChangesOwnWords}
-use Rattle.tx_sums.proofs.SumTrees.{tree-of, part-step, part-in, part-out, within-none}
+use Rattle.tx_sums.proofs.SumTrees.{part-step, part-in, part-out, within-none}
 use Rattle.tx_sums.proofs.SumBelow.{within-split, under-is}
-use Rattle.tx_sums.proofs.SumLaws.{Found, position-found}
 use Rattle.tx_sums.proofs.SumWalks.{raised-links, side-most}
 use Rattle.tx_sums.proofs.SumPuts.{tree-links, leaf-tree, value-tree}
 
@@ -28,13 +30,13 @@ within-one r m g l c (suc n) w le lt t = by (n == c) refl (λ less. within-one r
         let vn : value r m n ≡ value r m c = ap (value r m) s in
         let a = part-step r m l (suc (suc l)) n in
         let b = part-in r m l (suc (suc l)) n (omega arith) (omega arith) in
-        let z = within-none r m l (suc (suc l)) n (λ i li x y. (let e = w.differ i c (record { inside = omega arith; pos = omega arith }) (record { inside = omega arith; pos = omega arith }) (omega arith) in absurd (omega arith))) in
+        let z = within-none r m l (suc (suc l)) n (λ i li x y. (let e = w.shape.differ i c (record { inside = omega arith; pos = omega arith }) (record { inside = omega arith; pos = omega arith }) (omega arith) in absurd (omega arith))) in
         omega arith
     by false q go =
         let d : n ≢ c = grind (arith, nat_tests) in
         let h = go (omega arith) in
         let a = part-step r m l (suc (suc l)) n in
-        let b = part-out r m l (suc (suc l)) n (λ x y. (let e = w.differ n c (record { inside = omega arith; pos = omega arith }) (record { inside = omega arith; pos = omega arith }) (omega arith) in absurd (omega arith))) in
+        let b = part-out r m l (suc (suc l)) n (λ x y. (let e = w.shape.differ n c (record { inside = omega arith; pos = omega arith }) (record { inside = omega arith; pos = omega arith }) (omega arith) in absurd (omega arith))) in
         omega arith
 
 pub sums-subtrees : SumsSubtrees
@@ -52,8 +54,8 @@ sums-subtrees r m i w u = by (tag r m i) refl
     by zero e = let p = u.pos in absurd (omega arith)
     by (suc k) e =
         let g : Ranges = w.0 in
-        let lo = (w.1.lows i u).0 in
-        let hi = (w.1.highs i u).0 in
+        let lo = (w.1.shape.lows i u).0 in
+        let hi = (w.1.shape.highs i u).0 in
         let whole = within-split r m (w.0.low i) (tag r m i) (w.0.high i) r.cells (omega arith) hi in
         let low = within-split r m (w.0.low i) k (suc (tag r m i)) r.cells (omega arith) (omega arith) in
         let own : sum_within r m k (suc (tag r m i)) r.cells ≡ value r m i = ap (λ x. sum_within r m k (suc x) r.cells) e ∙ within-one r m w.0 k i r.cells w.1 (omega arith) u.inside e in
@@ -69,42 +71,22 @@ zero-pairs r n zero = refl
 zero-pairs r n (suc k) = let z = zero-at n (tag_at r k) in rw z (zero-pairs r n k)
 
 pub zeros-map : ZerosAreEmpty
-zeros-map r n =
-    let g : Ranges = record { low = λ i. 0; high = λ i. 0; rank = λ i. 0 } in
-    let no : (i : ℕ) → 0 < tag r (replicate n 0) i → ⊥ = λ i p. (let z = zero-at n (tag_at r i) in absurd (omega arith)) in (
-      (
-        g,
-        record {
-          names = λ l h a x. subst (Names r (replicate n 0) g l h) (sym (zero-at n a)) (λ i y. no i (let p = y.above in omega arith));
-          lows = λ i u. absurd (no i u.pos);
-          highs = λ i u. absurd (no i u.pos);
-          differ = λ i j u v e. absurd (no i u.pos);
-          spare = λ i lt z. (zero-at n (left_at r i), zero-at n (right_at r i), zero-at n (value_at r i), zero-at n (sum_at r i));
-          small = λ i lt. let z = zero-at n (tag_at r i) in omega arith;
-          sums = λ i u. absurd (no i u.pos);
-        },
-      ),
-      zero-pairs r n r.cells,
-    )
+zeros-map r n = (
+  (
+    _,
+    record {
+      shape = zeros-shape (pool r) n;
+      bare = λ i lt z. (zero-at n (value_at r i), zero-at n (sum_at r i));
+      sums = λ i u. let z = zero-at n (tag_at r i) in let p = u.pos in absurd (omega arith);
+    },
+  ),
+  zero-pairs r n r.cells,
+)
 
 -- what leaves the words of the region leaves its map
 module _ (r : SumMap) (m k : List ℕ) (g : Ranges) (w : Holds r m g) (same : (x : ℕ) → r.at ≤ x → x < r.at + 1 + 5 * r.cells → slice_index k x ≡ slice_index m x) where
   tags : (i : ℕ) → i < r.cells → tag r k i ≡ tag r m i
   tags i lt = same (tag_at r i) (omega arith) (omega arith)
-
-  used-old : (i : ℕ) → Used r k i → Used r m i
-  used-old i u = record { inside = u.inside; pos = subst (λ z. 0 < z) (tags i u.inside) u.pos }
-
-  used-new : (i : ℕ) → Used r m i → Used r k i
-  used-new i u = record { inside = u.inside; pos = subst (λ z. 0 < z) (sym (tags i u.inside)) u.pos }
-
-  names-new : (l h v : ℕ) → Names r m g l h v → Names r k g l h v
-  names-new l h zero n = λ i y. let t = tags i y.inside in n i (record { inside = y.inside; above = subst (λ z. l < z) t y.above; below = subst (λ z. z < h) t y.below })
-  names-new l h (suc j) n = let t = sym (tags j n.0.inside) in (record { inside = n.0.inside; above = subst (λ z. l < z) t n.0.above; below = subst (λ z. z < h) t n.0.below }, n.1, n.2)
-
-  bounds-new : (end p l : ℕ) → Bounds r m g end p l → Bounds r k g end p l
-  bounds-new end p l (inl e) = inl e
-  bounds-new end p l (inr (i, u, e, lt)) = inr (i, used-new i u, tags i u.inside ∙ e, lt)
 
   within-new : (l h n : ℕ) → n ≤ r.cells → sum_within r k l h n ≡ sum_within r m l h n
   within-new l h zero le = refl
@@ -115,46 +97,23 @@ module _ (r : SumMap) (m k : List ℕ) (g : Ranges) (w : Holds r m g) (same : (x
 
   pub map-same : Holds r k g
   map-same = record {
-    names = names;
-    lows = λ i u. let o = used-old i u in let a = w.lows i o in (subst (λ z. g.low i < z) (sym (tags i u.inside)) a.0, bounds-new 0 (g.rank i) (g.low i) a.1);
-    highs = λ i u. let o = used-old i u in let a = w.highs i o in (subst (λ z. z < g.high i) (sym (tags i u.inside)) a.0, bounds-new top (g.rank i) (g.high i) a.1);
-    differ = λ i j u v e. w.differ i j (used-old i u) (used-old j v) (sym (tags i u.inside) ∙ (e ∙ tags j v.inside));
-    spare = λ i lt z. let s = w.spare i lt (sym (tags i lt) ∙ z) in
-        (same (left_at r i) (omega arith) (omega arith) ∙ s.0, same (right_at r i) (omega arith) (omega arith) ∙ s.1, same (value_at r i) (omega arith) (omega arith) ∙ s.2, same (sum_at r i) (omega arith) (omega arith) ∙ s.3);
-    small = λ i lt. subst (λ z. z < top) (sym (tags i lt)) (w.small i lt);
-    sums = λ i u. let lt = u.inside in same (sum_at r i) (omega arith) (omega arith) ∙ (w.sums i (used-old i u) ∙ ap (λ x. x % 2 ^ 64) (sym (within-new (g.low i) (g.high i) r.cells (omega arith))));
+    shape = same-shape (pool r) m k g w.shape (same r.at (omega arith) (omega arith)) tags (λ i lt. same (left_at r i) (omega arith) (omega arith)) (λ i lt. same (right_at r i) (omega arith) (omega arith));
+    bare = λ i lt z. let s = w.bare i lt (sym (tags i lt) ∙ z) in (same (value_at r i) (omega arith) (omega arith) ∙ s.0, same (sum_at r i) (omega arith) (omega arith) ∙ s.1);
+    sums = λ i u. let lt = u.inside in
+        same (sum_at r i) (omega arith) (omega arith)
+        ∙ (w.sums i (record { inside = lt; pos = subst (λ z. 0 < z) (tags i lt) u.pos }) ∙ ap (λ x. x % 2 ^ 64) (sym (within-new (g.low i) (g.high i) r.cells (omega arith))));
   }
-    where
-      move : (l h a : ℕ) → LinkOf r m g l h a → r.at ≤ a → a < r.at + 1 + 5 * r.cells → Names r k g l h (slice_index k a)
-      move l h a x lo hi = subst (Names r k g l h) (sym (same a lo hi)) (names-new l h (slice_index m a) (w.names l h a x))
-
-      names : (l h a : ℕ) → LinkOf r k g l h a → Names r k g l h (slice_index k a)
-      names l h a (inl x) = let p = x.0 in move l h a (inl x) (omega arith) (omega arith)
-      names l h a (inr (inl (i, p, q, o, u))) = let lt = u.inside in move l h a (inr (inl (i, p, q, o ∙ tags i lt, used-old i u))) (omega arith) (omega arith)
-      names l h a (inr (inr (i, p, q, o, u))) = let lt = u.inside in move l h a (inr (inr (i, p, q ∙ tags i lt, o, used-old i u))) (omega arith) (omega arith)
 
 pub own-words : DependsOnOwnWords
 own-words r m k w same = (w.0, map-same r m k w.0 w.1 same)
 
 -- WHAT IS OUTSIDE
-abbrev pub Outside : SumMap → ℕ → Type 0
-Outside r x = (x < r.at) ⊎ (r.at + 1 + 5 * r.cells ≤ x)
-
-pub out-of : (r : SumMap) (x a : ℕ) → Outside r x → r.at ≤ a → a < r.at + 1 + 5 * r.cells → x ≢ a
-out-of r x a (inl o) lo hi e = absurd (omega arith)
-out-of r x a (inr o) lo hi e = absurd (omega arith)
-
-pub link-place : (r : SumMap) (m : List ℕ) (g : Ranges) (l h a : ℕ) → LinkOf r m g l h a → (r.at ≤ a) × (a < r.at + 1 + 5 * r.cells)
-link-place r m g l h a (inl x) = let p = x.0 in (omega arith, omega arith)
-link-place r m g l h a (inr (inl (i, p, q, o, u))) = let lt = u.inside in (omega arith, omega arith)
-link-place r m g l h a (inr (inr (i, p, q, o, u))) = let lt = u.inside in (omega arith, omega arith)
-
-pub mended-outside : (r : SumMap) (key d n a x : ℕ) (m : List ℕ) → LinksInside r m → slice_index m a ≤ r.cells → Outside r x → get_or (mended r key d n a m) x 0 ≡ get_or m x 0
+pub mended-outside : (r : SumMap) (key d n a x : ℕ) (m : List ℕ) → LinksInside r m → slice_index m a ≤ r.cells → Outside (pool r) x → get_or (mended r key d n a m) x 0 ≡ get_or m x 0
 mended-outside r key d zero a x m w le out = refl
 mended-outside r key d (suc n) a x m w le out = by (slice_index m a) le (λ j lt s. mended-outside r key d n (side_at r m key j) x (raised r d j m) (raised-links r d j m w) s out)
   where
     off : (j : ℕ) → j < r.cells → get_or (raised r d j m) x 0 ≡ get_or m x 0
-    off j lt = get_or-set_other m (sum_at r j) x _ 0 (out-of r x (sum_at r j) out (omega arith) (omega arith))
+    off j lt = get_or-set_other m (sum_at r j) x _ 0 (out-of (pool r) x (sum_at r j) out (omega arith) (omega arith))
 
     by : (v : ℕ) → v ≤ r.cells
         → ((j : ℕ) → j < r.cells → slice_index (raised r d j m) (side_at r m key j) ≤ r.cells → get_or (mended r key d n (side_at r m key j) (raised r d j m)) x 0 ≡ get_or (raised r d j m) x 0)
@@ -169,8 +128,8 @@ mended-outside r key d (suc n) a x m w le out = by (slice_index m a) le (λ j lt
 pub put-outside : ChangesOwnWords
 put-outside r m key v x w fits values small out = by (position_of r m key).next refl (free_from (tag r m) 0 r.cells) refl
   where
-    f : Found r m w.0 key (position_of r m key)
-    f = position-found r m w.0 key (tree-of r m w.0 w.1) small
+    f : Found (pool r) m w.0 key (position_of r m key)
+    f = position-found (pool r) m w.0 key w.1.shape small
 
     room : r.at + 1 + 5 * r.cells ≤ length m
     room = fits.0
@@ -182,15 +141,15 @@ put-outside r m key v x w fits values small out = by (position_of r m key).next 
         let lt : c < r.cells = (let y = z.0 in omega arith) in
         let s = position_of r m key in
         let k : List ℕ = attached r key v c s.link m in
-        let l = link-place r m w.0 f.low f.high s.link f.link in
+        let l = link-place (pool r) m w.0 f.low f.high s.link f.link in
         let links = tree-links r k _ (leaf-tree r m w.0 key v c s w.1 f small e lt z.1 room) in
-        let same : get_or k x 0 ≡ get_or m x 0 = get_or-set_other (set (set m (tag_at r c) (suc key)) (value_at r c) v) s.link x (suc c) 0 (out-of r x s.link out l.0 l.1)
-        ∙ (get_or-set_other (set m (tag_at r c) (suc key)) (value_at r c) x v 0 (out-of r x (value_at r c) out (omega arith) (omega arith)) ∙ get_or-set_other m (tag_at r c) x (suc key) 0 (out-of r x (tag_at r c) out (omega arith) (omega arith))) in
+        let same : get_or k x 0 ≡ get_or m x 0 = get_or-set_other (set (set m (tag_at r c) (suc key)) (value_at r c) v) s.link x (suc c) 0 (out-of (pool r) x s.link out l.0 l.1)
+        ∙ (get_or-set_other (set m (tag_at r c) (suc key)) (value_at r c) x v 0 (out-of (pool r) x (value_at r c) out (omega arith) (omega arith)) ∙ get_or-set_other m (tag_at r c) x (suc key) 0 (out-of (pool r) x (tag_at r c) out (omega arith) (omega arith))) in
         ap (λ y. slice_index y.memory x) (ap (put_by r key v m) e ∙ ap (added_by r key v m) q) ∙ (mended-outside r key v r.cells r.at x k links links.0 out ∙ same)
     by (suc j) e o q =
-        let z : Names r m w.0 f.low f.high (suc j) = subst (Names r m w.0 f.low f.high) (f.word ∙ e) (w.1.names f.low f.high (position_of r m key).link f.link) in
+        let z : Names (pool r) m w.0 f.low f.high (suc j) = subst (Names (pool r) m w.0 f.low f.high) (f.word ∙ e) (w.1.shape.names f.low f.high (position_of r m key).link f.link) in
         let lt = z.0.inside in
         let k : List ℕ = set m (value_at r j) v in
         let links = tree-links r k w.0 (value-tree r m w.0 key v j w.1 small lt (f.some j e).1 (values j lt) room) in
         ap (λ y. slice_index y.memory x) (ap (put_by r key v m) e) ∙ (mended-outside r key (step_to (value r m j) v) r.cells r.at x k links links.0 out
-        ∙ get_or-set_other m (value_at r j) x v 0 (out-of r x (value_at r j) out (omega arith) (omega arith)))
+        ∙ get_or-set_other m (value_at r j) x v 0 (out-of (pool r) x (value_at r j) out (omega arith) (omega arith)))

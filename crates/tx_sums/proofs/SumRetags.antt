@@ -1,232 +1,61 @@
 -- A cell whose tag moves up, past no other, keeps a map well formed.
-use Rattle.std.proofs.Common.{ℕ, zero, suc, ◌≡◌, ◌<◌, ◌≤◌, ◌≢◌, ◌+◌, ◌*◌, ◌%◌, ◌^◌, List, length, Bool, true, false, refl, sym, ap, ◌∙◌, arith, subst, inl, inr}
-use Rattle.std.specs.Prelude.{◌⊎◌, ◌==◌, ltb, slice_index}
+use Rattle.std.proofs.Common.{ℕ, zero, suc, ◌≡◌, ◌<◌, ◌≤◌, ◌≢◌, ◌+◌, ◌*◌, ◌%◌, ◌^◌, List, length, Bool, true, false, refl, sym, ap, ◌∙◌, arith}
+use Rattle.std.specs.Prelude.{◌==◌, slice_index}
 use Rattle.std.proofs.lemmas.List.{get_or-set_same, get_or-set_other}
 use Rattle.std.proofs.lemmas.Bool.Decides.{nat_tests}
+use Rattle.tx_tree.specs.Shapes.{Ranges, LinkOf, top}
+use Rattle.tx_tree.specs.ShapeOrder.{link-inside}
+use Rattle.tx_tree.specs.ShapeSplices.{shift, shifted}
+use Rattle.tx_tree.specs.ShapeRetags.{retag-keeps, retag-in, retag-back, used-old}
 use Rattle.tx_sums.specs.declared.sum_map.SumMap.{SumMap}
-use Rattle.tx_sums.specs.Sums.{tag_at, left_at, right_at, value_at, sum_at, tag, value, top, Ranges, Used, LinkOf, Names, Bounds, Holds, sum_within, retagged}
-use Rattle.tx_sums.proofs.SumTrees.{Tree, tree-of, holds-of, part, part-step, part-in, part-out}
-use Rattle.tx_sums.proofs.SumOrder.{link-low, link-high, link-inside}
-use Rattle.tx_sums.proofs.SumRemovals.{shift, shift-at, shift-off, shift-by, shifted}
+use Rattle.tx_sums.specs.Sums.{pool, tag_at, left_at, right_at, value_at, sum_at, tag, value, Used, Holds, sum_within, retagged}
+use Rattle.tx_sums.proofs.SumTrees.{part-step, part-same}
 
--- A CELL RETAGGED. k is m with x's tag v, and no tag stands between
-module _ (r : SumMap) (m k : List ℕ) (g : Ranges) (x v : ℕ) (w : Tree r m g) (u : Used r m x) (up : tag r m x ≤ v) (under : v < top)
-    (gap : (i : ℕ) → Used r m i → tag r m x < tag r m i → v < tag r m i)
-    (others : (i : ℕ) → i ≢ x → tag r k i ≡ tag r m i) (new : tag r k x ≡ v)
-    (words : (l h a : ℕ) → LinkOf r m g l h a → slice_index k a ≡ slice_index m a)
-    (spares : (i : ℕ) → i < r.cells → tag r m i ≡ 0 → (slice_index k (left_at r i) ≡ 0) × (slice_index k (right_at r i) ≡ 0) × (value r k i ≡ 0) × (slice_index k (sum_at r i) ≡ 0)) where
-  abbrev t : ℕ
-  t = tag r m x
+-- A CELL RETAGGED, the word written
+module _ (r : SumMap) (m : List ℕ) (g : Ranges) (x v : ℕ) (w : Holds r m g) (u : Used r m x) (up : tag r m x ≤ v) (under : v < top) (gap : (i : ℕ) → Used r m i → tag r m x < tag r m i → v < tag r m i) (room : r.at + 1 + 5 * r.cells ≤ length m) where
+  abbrev k : List ℕ
+  k = retagged r x v m
 
-  abbrev n : Ranges
-  n = shifted g t v v
+  others : (i : ℕ) → i ≢ x → tag r k i ≡ tag r m i
+  others i d = get_or-set_other m (tag_at r x) (tag_at r i) v 0 (λ q. d (omega arith))
 
-  pos : 0 < t
-  pos = u.pos
+  new : tag r k x ≡ v
+  new = get_or-set_same m (tag_at r x) v 0 (let i = u.inside in omega arith)
 
-  -- tags, and where ranges end
-  abbrev End : ℕ → Type 0
-  End a = (a ≡ 0) ⊎ ((a ≡ top) ⊎ ((i : ℕ) × Used r m i × (tag r m i ≡ a)))
+  words : (l h a : ℕ) → LinkOf (pool r) m g l h a → slice_index k a ≡ slice_index m a
+  words l h a z = get_or-set_other m (tag_at r x) a v 0 ((link-inside (pool r) m g l h a z).0 x)
 
-  beyond : (a : ℕ) → End a → t < a → v < a
-  beyond a (inl e) lt = absurd (omega arith)
-  beyond a (inr (inl e)) lt = omega arith
-  beyond a (inr (inr (i, ui, e))) lt = let b = gap i ui (omega arith) in omega arith
+  values : (i : ℕ) → value r k i ≡ value r m i
+  values i = get_or-set_other m (tag_at r x) (value_at r i) v 0 (λ q. absurd (omega arith))
 
-  -- the shift keeps their order
-  keeps : (a b : ℕ) → End a → End b → a < b → shift t v a < shift t v b
-  keeps a b ea eb lt = by (shift-by t v a) (shift-by t v b)
-    where
-      by : ((a ≡ t) × (shift t v a ≡ v)) ⊎ ((a ≢ t) × (shift t v a ≡ a)) → ((b ≡ t) × (shift t v b ≡ v)) ⊎ ((b ≢ t) × (shift t v b ≡ b)) → shift t v a < shift t v b
-      by (inl (p, q)) (inl (c, d)) = absurd (omega arith)
-      by (inl (p, q)) (inr (c, d)) = let z = beyond b eb (omega arith) in omega arith
-      by (inr (p, q)) (inl (c, d)) = omega arith
-      by (inr (p, q)) (inr (c, d)) = omega arith
+  sums : (i : ℕ) → slice_index k (sum_at r i) ≡ slice_index m (sum_at r i)
+  sums i = get_or-set_other m (tag_at r x) (sum_at r i) v 0 (λ q. absurd (omega arith))
 
-  back : (a b : ℕ) → End a → End b → shift t v a < shift t v b → a < b
-  back a b ea eb lt = by (ltb a b) refl (ltb b a) refl
-    where
-      by : (p : Bool) → ltb a b ≡ p → (q : Bool) → ltb b a ≡ q → a < b
-      by true p q o = grind (arith, nat_tests)
-      by false p true o = let z = keeps b a eb ea (grind (arith, nat_tests)) in absurd (omega arith)
-      by false p false o = let e : a ≡ b = grind (arith, nat_tests) in let z : shift t v a ≡ shift t v b = ap (shift t v) e in absurd (omega arith)
+  spares : (i : ℕ) → i < r.cells → tag r m i ≡ 0 → (slice_index k (left_at r i) ≡ 0) × (slice_index k (right_at r i) ≡ 0)
+  spares i lt z = let s = w.shape.spare i lt z in
+      (get_or-set_other m (tag_at r x) (left_at r i) v 0 (λ q. absurd (omega arith)) ∙ s.0, get_or-set_other m (tag_at r x) (right_at r i) v 0 (λ q. absurd (omega arith)) ∙ s.1)
 
-  once : (a b : ℕ) → End a → End b → shift t v a ≡ shift t v b → a ≡ b
-  once a b ea eb e = by (ltb a b) refl (ltb b a) refl
-    where
-      by : (p : Bool) → ltb a b ≡ p → (q : Bool) → ltb b a ≡ q → a ≡ b
-      by true p q o = let z = keeps a b ea eb (grind (arith, nat_tests)) in absurd (omega arith)
-      by false p true o = let z = keeps b a eb ea (grind (arith, nat_tests)) in absurd (omega arith)
-      by false p false o = grind (arith, nat_tests)
+  by : (i : ℕ) → i < r.cells → tag r k i ≡ 0 → (b : Bool) → (i == x) ≡ b → (value r k i ≡ 0) × (slice_index k (sum_at r i) ≡ 0)
+  by i lt z true q = let e : tag r k i ≡ v = ap (tag r k) (grind (arith, nat_tests)) ∙ new in let p = u.pos in absurd (omega arith)
+  by i lt z false q = let s = w.bare i lt (sym (others i (grind (arith, nat_tests))) ∙ z) in (values i ∙ s.0, sums i ∙ s.1)
 
-  pub used-old : (i : ℕ) → Used r k i → Used r m i
-  used-old i o = by (i == x) refl
-    where
-      by : (b : Bool) → (i == x) ≡ b → Used r m i
-      by true q = subst (Used r m) (sym (grind (arith, nat_tests))) u
-      by false q = record { inside = o.inside; pos = subst (λ z. 0 < z) (others i (grind (arith, nat_tests))) o.pos }
+  old : (i : ℕ) → Used r k i → Used r m i
+  old i o = used-old (pool r) m k g x v w.shape u up under gap others new words spares i o
 
-  tags : (i : ℕ) → Used r m i → tag r k i ≡ shift t v (tag r m i)
-  tags i o = by (i == x) refl
-    where
-      by : (b : Bool) → (i == x) ≡ b → tag r k i ≡ shift t v (tag r m i)
-      by true q = let e : i ≡ x = grind (arith, nat_tests) in ap (tag r k) e ∙ (new ∙ sym (shift-at t v (tag r m i) (ap (tag r m) e)))
-      by false q = let d : i ≢ x = grind (arith, nat_tests) in others i d ∙ sym (shift-off t v (tag r m i) (λ e. d (w.differ i x o u e)))
-
-  used-new : (i : ℕ) → Used r m i → Used r k i
-  used-new i o = record { inside = o.inside; pos = subst (λ z. 0 < z) (sym (tags i o)) (by (shift-by t v (tag r m i))) }
-    where
-      by : ((tag r m i ≡ t) × (shift t v (tag r m i) ≡ v)) ⊎ ((tag r m i ≢ t) × (shift t v (tag r m i) ≡ tag r m i)) → 0 < shift t v (tag r m i)
-      by (inl (a, b)) = let p = pos in omega arith
-      by (inr (a, b)) = let p = o.pos in omega arith
-
-  tag-end : (i : ℕ) → Used r m i → End (tag r m i)
-  tag-end i o = inr (inr (i, o, refl))
-
-  low-end : (p a : ℕ) → Bounds r m g 0 p a → End a
-  low-end p a (inl e) = inl e
-  low-end p a (inr (i, o, e, lt)) = inr (inr (i, o, e))
-
-  high-end : (p a : ℕ) → Bounds r m g top p a → End a
-  high-end p a (inl e) = inr (inl e)
-  high-end p a (inr (i, o, e, lt)) = inr (inr (i, o, e))
-
-  shift-zero : shift t v 0 ≡ 0
-  shift-zero = shift-off t v 0 (λ e. (let p = pos in absurd (omega arith)))
-
-  shift-top : shift t v top ≡ top
-  shift-top = shift-off t v top (λ e. (let p = w.small x u.inside in absurd (omega arith)))
-
-  from-new : (l h a : ℕ) → LinkOf r k n l h a → (l0 : ℕ) × (h0 : ℕ) × LinkOf r m g l0 h0 a × (l ≡ shift t v l0) × (h ≡ shift t v h0)
-  from-new l h a (inl z) = (0, top, inl (z.0, refl, refl), z.1 ∙ sym shift-zero, z.2 ∙ sym shift-top)
-  from-new l h a (inr (inl (i, p, q, o, z))) = let b = used-old i z in (g.low i, tag r m i, inr (inl (i, p, refl, refl, b)), q, o ∙ tags i b)
-  from-new l h a (inr (inr (i, p, q, o, z))) = let b = used-old i z in (tag r m i, g.high i, inr (inr (i, p, refl, refl, b)), q ∙ tags i b, o)
-
-  names-new : (l0 h0 a : ℕ) → LinkOf r m g l0 h0 a → (z : ℕ) → Names r m g l0 h0 z → Names r k n (shift t v l0) (shift t v h0) z
-  names-new l0 h0 a y zero nm = λ i o.
-      let b = used-old i (record { inside = o.inside; pos = (let c = o.above in omega arith) }) in
-      let e = tags i b in
-      nm i (record {
-        inside = o.inside;
-        above = back l0 (tag r m i) (low-end _ l0 (link-low r m g l0 h0 a w y)) (tag-end i b) (subst (λ c. shift t v l0 < c) e o.above);
-        below = back (tag r m i) h0 (tag-end i b) (high-end _ h0 (link-high r m g l0 h0 a w y)) (subst (λ c. c < shift t v h0) e o.below);
-      })
-  names-new l0 h0 a y (suc j) nm =
-      let b : Used r m j = record { inside = nm.0.inside; pos = (let c = nm.0.above in omega arith) } in
-      let e = sym (tags j b) in (
-        record {
-          inside = nm.0.inside;
-          above = subst (λ c. shift t v l0 < c) e (keeps l0 (tag r m j) (low-end _ l0 (link-low r m g l0 h0 a w y)) (tag-end j b) nm.0.above);
-          below = subst (λ c. c < shift t v h0) e (keeps (tag r m j) h0 (tag-end j b) (high-end _ h0 (link-high r m g l0 h0 a w y)) nm.0.below);
-        },
-        ap (shift t v) nm.1,
-        ap (shift t v) nm.2,
-      )
-
-  pub retag-keeps : Tree r k n
-  retag-keeps = record {
-    names = names;
-    lows = lows;
-    highs = highs;
-    differ = λ i j a b e. let c = used-old i a in let d = used-old j b in w.differ i j c d (once (tag r m i) (tag r m j) (tag-end i c) (tag-end j d) (sym (tags i c) ∙ (e ∙ tags j d)));
-    spare = λ i lt z. spare i lt z (i == x) refl;
-    small = λ i lt. small i lt (i == x) refl;
-  }
-    where
-      names : (l h a : ℕ) → LinkOf r k n l h a → Names r k n l h (slice_index k a)
-      names l h a y = let q = from-new l h a y in
-          subst (λ z. Names r k n z h (slice_index k a)) (sym q.3) (subst (λ z. Names r k n (shift t v q.0) z (slice_index k a)) (sym q.4)
-          (subst (Names r k n (shift t v q.0) (shift t v q.1)) (sym (words q.0 q.1 a q.2)) (names-new q.0 q.1 a q.2 (slice_index m a) (w.names q.0 q.1 a q.2))))
-
-      lows : (i : ℕ) → Used r k i → (n.low i < tag r k i) × Bounds r k n 0 (n.rank i) (n.low i)
-      lows i o = let b = used-old i o in let a = w.lows i b in
-          (subst (λ z. shift t v (g.low i) < z) (sym (tags i b)) (keeps (g.low i) (tag r m i) (low-end _ (g.low i) a.1) (tag-end i b) a.0), bound a.1)
-        where
-          bound : Bounds r m g 0 (g.rank i) (g.low i) → Bounds r k n 0 (g.rank i) (shift t v (g.low i))
-          bound (inl e) = inl (ap (shift t v) e ∙ shift-zero)
-          bound (inr (j, b, e, lt)) = inr (j, used-new j b, tags j b ∙ ap (shift t v) e, lt)
-
-      highs : (i : ℕ) → Used r k i → (tag r k i < n.high i) × Bounds r k n top (n.rank i) (n.high i)
-      highs i o = let b = used-old i o in let a = w.highs i b in
-          (subst (λ z. z < shift t v (g.high i)) (sym (tags i b)) (keeps (tag r m i) (g.high i) (tag-end i b) (high-end _ (g.high i) a.1) a.0), bound a.1)
-        where
-          bound : Bounds r m g top (g.rank i) (g.high i) → Bounds r k n top (g.rank i) (shift t v (g.high i))
-          bound (inl e) = inl (ap (shift t v) e ∙ shift-top)
-          bound (inr (j, b, e, lt)) = inr (j, used-new j b, tags j b ∙ ap (shift t v) e, lt)
-
-      spare : (i : ℕ) → i < r.cells → tag r k i ≡ 0 → (b : Bool) → (i == x) ≡ b → (slice_index k (left_at r i) ≡ 0) × (slice_index k (right_at r i) ≡ 0) × (value r k i ≡ 0) × (slice_index k (sum_at r i) ≡ 0)
-      spare i lt z true q = let e : tag r k i ≡ v = ap (tag r k) (grind (arith, nat_tests)) ∙ new in let p = pos in absurd (omega arith)
-      spare i lt z false q = spares i lt (sym (others i (grind (arith, nat_tests))) ∙ z)
-
-      small : (i : ℕ) → i < r.cells → (b : Bool) → (i == x) ≡ b → tag r k i < top
-      small i lt true q = let e : tag r k i ≡ v = ap (tag r k) (grind (arith, nat_tests)) ∙ new in omega arith
-      small i lt false q = subst (λ z. z < top) (sym (others i (grind (arith, nat_tests)))) (w.small i lt)
-
-  -- THE SUMS: values stay, and ranges shift with the tags
-  pub retag-within : ((i : ℕ) → value r k i ≡ value r m i) → (i n : ℕ) → Used r m i → n ≤ r.cells → sum_within r k (shift t v (g.low i)) (shift t v (g.high i)) n ≡ sum_within r m (g.low i) (g.high i) n
-  retag-within values i zero u le = refl
-  retag-within values i (suc n) u le =
-      let e = retag-within values i n u (omega arith) in
-      let a = part-step r k (shift t v (g.low i)) (shift t v (g.high i)) n in
+  -- values stay, and ranges shift with the tags
+  within : (i : ℕ) → Used r m i → (n : ℕ) → n ≤ r.cells → sum_within r k (shift (tag r m x) v (g.low i)) (shift (tag r m x) v (g.high i)) n ≡ sum_within r m (g.low i) (g.high i) n
+  within i o zero le = refl
+  within i o (suc n) le =
+      let e = within i o n (omega arith) in
+      let a = part-step r k (shift (tag r m x) v (g.low i)) (shift (tag r m x) v (g.high i)) n in
       let b = part-step r m (g.low i) (g.high i) n in
-      let c = by (tag r m n) refl in omega arith
-    where
-      lo-end : End (g.low i)
-      lo-end = low-end _ (g.low i) (w.lows i u).1
+      let c = part-same r m k (g.low i) (g.high i) (shift (tag r m x) v (g.low i)) (shift (tag r m x) v (g.high i)) n (values n)
+      (λ p q. let un : Used r m n = record { inside = omega arith; pos = omega arith } in retag-in (pool r) m k g x v w.shape u up under gap others new words spares i n o un p q)
+      (λ p q. let un : Used r m n = old n (record { inside = omega arith; pos = omega arith }) in retag-back (pool r) m k g x v w.shape u up under gap others new words spares i n o un p q) in omega arith
 
-      hi-end : End (g.high i)
-      hi-end = high-end _ (g.high i) (w.highs i u).1
-
-      by : (c : ℕ) → tag r m n ≡ c → part r k (shift t v (g.low i)) (shift t v (g.high i)) n ≡ part r m (g.low i) (g.high i) n
-      by zero e = part-out r k (shift t v (g.low i)) (shift t v (g.high i)) n (λ p q. (let f = (used-old n (record { inside = omega arith; pos = omega arith })).pos in absurd (omega arith))) ∙ sym (part-out r m (g.low i) (g.high i) n (λ p q. absurd (omega arith)))
-      by (suc c) e = at (ltb (g.low i) (tag r m n)) refl (ltb (tag r m n) (g.high i)) refl
-        where
-          un : Used r m n
-          un = record { inside = omega arith; pos = omega arith }
-
-          off : ((g.low i < tag r m n) → (tag r m n < g.high i) → ⊥) → part r k (shift t v (g.low i)) (shift t v (g.high i)) n ≡ part r m (g.low i) (g.high i) n
-          off out = part-out r k (shift t v (g.low i)) (shift t v (g.high i)) n (λ p q. out
-              (back (g.low i) (tag r m n) lo-end (tag-end n un) (subst (λ z. shift t v (g.low i) < z) (tags n un) p))
-              (back (tag r m n) (g.high i) (tag-end n un) hi-end (subst (λ z. z < shift t v (g.high i)) (tags n un) q)))
-              ∙ sym (part-out r m (g.low i) (g.high i) n out)
-
-          at : (b : Bool) → ltb (g.low i) (tag r m n) ≡ b → (d : Bool) → ltb (tag r m n) (g.high i) ≡ d → part r k (shift t v (g.low i)) (shift t v (g.high i)) n ≡ part r m (g.low i) (g.high i) n
-          at true p true q =
-              let a : g.low i < tag r m n = grind (arith, nat_tests) in
-              let b : tag r m n < g.high i = grind (arith, nat_tests) in
-              part-in r k (shift t v (g.low i)) (shift t v (g.high i)) n
-              (subst (λ z. shift t v (g.low i) < z) (sym (tags n un)) (keeps (g.low i) (tag r m n) lo-end (tag-end n un) a))
-              (subst (λ z. z < shift t v (g.high i)) (sym (tags n un)) (keeps (tag r m n) (g.high i) (tag-end n un) hi-end b))
-              ∙ (values n ∙ sym (part-in r m (g.low i) (g.high i) n a b))
-          at true p false q = off (λ a b. (let z : g.high i ≤ tag r m n = grind (arith, nat_tests) in absurd (omega arith)))
-          at false p d q = off (λ a b. (let z : tag r m n ≤ g.low i = grind (arith, nat_tests) in absurd (omega arith)))
-
--- THE WORD WRITTEN
-pub retagged-holds : (r : SumMap) (m : List ℕ) (g : Ranges) (x v : ℕ) → Holds r m g → Used r m x → tag r m x ≤ v → v < top → ((i : ℕ) → Used r m i → tag r m x < tag r m i → v < tag r m i) → r.at + 1 + 5 * r.cells ≤ length m
-    → Holds r (retagged r x v m) (shifted g (tag r m x) v v)
-retagged-holds r m g x v w u up under gap room =
-    holds-of r (retagged r x v m) (shifted g (tag r m x) v v) (retag-keeps r m (retagged r x v m) g x v tree u up under gap others new words spares)
-    (λ i o. let b = used-old r m (retagged r x v m) g x v tree u up under gap others new words spares i o in
-    sums i ∙ (w.sums i b ∙ ap (λ z. z % 2 ^ 64) (sym (retag-within r m (retagged r x v m) g x v tree u up under gap others new words spares values i r.cells b (omega arith)))))
-  where
-    tree : Tree r m g
-    tree = tree-of r m g w
-
-    others : (i : ℕ) → i ≢ x → tag r (retagged r x v m) i ≡ tag r m i
-    others i d = get_or-set_other m (tag_at r x) (tag_at r i) v 0 (λ q. d (omega arith))
-
-    new : tag r (retagged r x v m) x ≡ v
-    new = get_or-set_same m (tag_at r x) v 0 (let i = u.inside in omega arith)
-
-    words : (l h a : ℕ) → LinkOf r m g l h a → slice_index (retagged r x v m) a ≡ slice_index m a
-    words l h a z = get_or-set_other m (tag_at r x) a v 0 ((link-inside r m g l h a z).0 x)
-
-    values : (i : ℕ) → value r (retagged r x v m) i ≡ value r m i
-    values i = get_or-set_other m (tag_at r x) (value_at r i) v 0 (λ q. absurd (omega arith))
-
-    sums : (i : ℕ) → slice_index (retagged r x v m) (sum_at r i) ≡ slice_index m (sum_at r i)
-    sums i = get_or-set_other m (tag_at r x) (sum_at r i) v 0 (λ q. absurd (omega arith))
-
-    spares : (i : ℕ) → i < r.cells → tag r m i ≡ 0 → (slice_index (retagged r x v m) (left_at r i) ≡ 0) × (slice_index (retagged r x v m) (right_at r i) ≡ 0) × (value r (retagged r x v m) i ≡ 0) × (slice_index (retagged r x v m) (sum_at r i) ≡ 0)
-    spares i lt z = let s = w.spare i lt z in
-        (get_or-set_other m (tag_at r x) (left_at r i) v 0 (λ q. absurd (omega arith)) ∙ s.0, get_or-set_other m (tag_at r x) (right_at r i) v 0 (λ q. absurd (omega arith)) ∙ s.1, values i ∙ s.2, sums i ∙ s.3)
+  pub retagged-holds : Holds r (retagged r x v m) (shifted g (tag r m x) v v)
+  retagged-holds = record {
+    shape = retag-keeps (pool r) m k g x v w.shape u up under gap others new words spares;
+    bare = λ i lt z. by i lt z (i == x) refl;
+    sums = λ i o. let b = old i o in sums i ∙ (w.sums i b ∙ ap (λ z. z % 2 ^ 64) (sym (within i b r.cells (omega arith))));
+  }

@@ -8,64 +8,21 @@ use Rattle.tx_effects.specs.declared.position.Position.{Position}
 use Rattle.tx_effects.specs.Effects.{changed, unchanged}
 use Rattle.tx_effects.specs.Keys.{less_one}
 use Rattle.tx_effects.specs.KeyLaws.{how_many-most}
+use Rattle.tx_tree.specs.Shapes.{Ranges, Within, LinkOf, Names, Bounds, top}
+use Rattle.tx_tree.specs.ShapeWalks.{named-used, left-link, Found, position-found}
+use Rattle.tx_tree.specs.ShapeLeast.{Leftmost, leftmost-found, least-gap}
+use Rattle.tx_tree.specs.ShapeSplices.{shifted}
 use Rattle.tx_sums.specs.declared.sum_map.SumMap.{SumMap}
-use Rattle.tx_sums.specs.Sums.{tag_at, left_at, right_at, value_at, sum_at, tag, value, top, Ranges, Used, Within, LinkOf, Names, Bounds, Holds, IsSumMap, LinksInside, LinksFrom, HasRight, IsLink, IsEmptied, sum_within, side_at, raised, mended_by, mended, step_to, spliced, retagged, leftmost_by, leftmost, moved_up, replaced_by, least_taken, taken_out, taken_in, replaced_in, position_of, removed_by, removed_in}
+use Rattle.tx_sums.specs.Sums.{pool, tag_at, left_at, right_at, value_at, sum_at, tag, value, Used, Holds, IsSumMap, LinksInside, LinksFrom, HasRight, IsLink, IsEmptied, sum_within, side_at, raised, mended_by, mended, step_to, spliced, retagged, leftmost, moved_up, replaced_by, least_taken, taken_out, taken_in, replaced_in, position_of, removed_by, removed_in}
 use Rattle.tx_sums.proofs.SumTrees.{Tree, tree-of, same-tree, same-link, same-used-old, part, part-in, part-out, within-set, mod-changes}
-use Rattle.tx_sums.proofs.SumLaws.{Found, position-found, left, left-less, left-link, named-used}
 use Rattle.tx_sums.proofs.SumPuts.{link-off, tree-links}
 use Rattle.tx_sums.proofs.SumMends.{Broken, nest, mended-holds}
 use Rattle.tx_sums.proofs.SumContents.{mended-other, mended-value}
-use Rattle.tx_sums.proofs.SumRemovals.{shifted, named-by, low-of, s-tags, s-tag, spliced-holds}
+use Rattle.tx_sums.proofs.SumRemovals.{named-by, low-of, s-tags, s-tag, spliced-holds, s-values}
 use Rattle.tx_sums.proofs.SumRetags.{retagged-holds}
 
--- the least cell of the range from l: its left link is empty
-pub record Leftmost (r : SumMap) (m : List ℕ) (g : Ranges) (l h : ℕ) (s : Position) : Type 0 where
-  pub high : ℕ
-  pub link : LinkOf r m g l high s.link
-  pub word : slice_index m s.link ≡ s.next
-  pub none : s.next ≡ 0 → (k : ℕ) → Within r m l h k → ⊥
-  pub tagless : s.next ≡ 0 → s.tag ≡ 0
-  pub some : (j : ℕ) → s.next ≡ suc j → (s.tag ≡ tag r m j) × (slice_index m (left_at r j) ≡ 0)
-
-pub leftmost-found : (r : SumMap) (m : List ℕ) (g : Ranges) (n l h a : ℕ) → Tree r m g → LinkOf r m g l h a → left r m l h ≤ n → Leftmost r m g l h (leftmost r m n a)
-leftmost-found r m g zero l h a w x le = by (slice_index m a) refl (w.names l h a x)
-  where
-    by : (v : ℕ) → slice_index m a ≡ v → Names r m g l h v → Leftmost r m g l h (record { link = a; next = 0; tag = 0 })
-    by zero e n = record { high = h; link = x; word = e; none = λ z. n; tagless = λ z. refl; some = λ j z. absurd cc }
-    by (suc j) e n = let q = left-less r m l h l l j n.0 (omega arith) (let p = n.0.above in let b = n.0.below in omega arith) (inr (let p = n.0.above in omega arith)) in absurd (omega arith)
-leftmost-found r m g (suc n) l h a w x le = by (slice_index m a) refl (w.names l h a x)
-    (λ j z. leftmost-found r m g n l (tag r m j) (left_at r j) w (left-link r m g l h j z)
-    (let q = left-less r m l h l (tag r m j) j z.0 (omega arith) (let b = z.0.below in omega arith) (inr (omega arith)) in omega arith))
-  where
-    by : (v : ℕ) → slice_index m a ≡ v → Names r m g l h v → ((j : ℕ) → Names r m g l h (suc j) → Leftmost r m g l (tag r m j) (leftmost r m n (left_at r j)))
-        → Leftmost r m g l h (leftmost_by r m a (λ j. leftmost r m n (left_at r j)) v)
-    by zero e z go = record { high = h; link = x; word = e; none = λ q. z; tagless = λ c. refl; some = λ j q. absurd cc }
-    by (suc j) e z go = here (slice_index m (left_at r j) == 0) refl
-      where
-        here : (b : Bool) → (slice_index m (left_at r j) == 0) ≡ b → Leftmost r m g l h (if b then record { link = a; next = suc j; tag = tag r m j } else leftmost r m n (left_at r j))
-        here true q = record {
-          high = h;
-          link = x;
-          word = e;
-          none = λ c. absurd (omega arith);
-          tagless = λ c. absurd (omega arith);
-          some = λ i c. let s : j ≡ i = omega arith in (ap (tag r m) s, ap (λ y. get_or m (left_at r y) 0) (sym s) ∙ grind (arith, nat_tests));
-        }
-        here false q = let o = go j z in record {
-          high = o.high;
-          link = o.link;
-          word = o.word;
-          tagless = o.tagless;
-          some = o.some;
-          none = λ c. absurd (filled (slice_index m (left_at r j)) refl (w.names l (tag r m j) (left_at r j) (left-link r m g l h j z)) (o.none c));
-        }
-          where
-            filled : (v : ℕ) → slice_index m (left_at r j) ≡ v → Names r m g l (tag r m j) v → ((k : ℕ) → Within r m l (tag r m j) k → ⊥) → ⊥
-            filled zero f nm gap = grind (arith, nat_tests)
-            filled (suc i) f nm gap = gap i nm.0
-
 -- THE VALUE MOVED UP: the cell y, the least on the right of x, gives x its value; x had none
-module _ (r : SumMap) (m : List ℕ) (g : Ranges) (x y high link key : ℕ) (w : Holds r m g) (ux : Used r m x) (none : value r m x ≡ 0) (lk : LinkOf r m g (tag r m x) high link) (named : slice_index m link ≡ suc y)
+module _ (r : SumMap) (m : List ℕ) (g : Ranges) (x y high link key : ℕ) (w : Holds r m g) (ux : Used r m x) (none : value r m x ≡ 0) (lk : LinkOf (pool r) m g (tag r m x) high link) (named : slice_index m link ≡ suc y)
     (least : slice_index m (left_at r y) ≡ 0) (at : tag r m y ≡ suc key) (fits : value r m y < 2 ^ 64) (room : r.at + 1 + 5 * r.cells ≤ length m) where
   abbrev b : ℕ
   b = value r m y
@@ -79,8 +36,8 @@ module _ (r : SumMap) (m : List ℕ) (g : Ranges) (x y high link key : ℕ) (w :
   tree : Tree r m g
   tree = tree-of r m g w
 
-  names : Names r m g (tag r m x) high (suc y)
-  names = subst (Names r m g (tag r m x) high) named (w.names (tag r m x) high link lk)
+  names : Names (pool r) m g (tag r m x) high (suc y)
+  names = subst (Names (pool r) m g (tag r m x) high) named (w.shape.names (tag r m x) high link lk)
 
   uy : Used r m y
   uy = record { inside = names.0.inside; pos = (let a = names.0.above in omega arith) }
@@ -126,10 +83,10 @@ module _ (r : SumMap) (m : List ℕ) (g : Ranges) (x y high link key : ℕ) (w :
 
   k-spares : (i : ℕ) → i < r.cells → tag r m i ≡ 0 → (value r k i ≡ 0) × (slice_index k (sum_at r i) ≡ 0)
   k-spares i lt z =
-      let s = w.spare i lt z in
+      let s = w.bare i lt z in
       let dx : i ≢ x = λ q. (let t : tag r m i ≡ tag r m x = ap (tag r m) q in let p = ux.pos in absurd (omega arith)) in
       let dy : i ≢ y = λ q. (let t : tag r m i ≡ tag r m y = ap (tag r m) q in let p = uy.pos in absurd (omega arith)) in
-      (k-values i dx dy ∙ s.2, k-sums i ∙ s.3)
+      (k-values i dx dy ∙ s.0, k-sums i ∙ s.1)
 
   pub k-tree : Tree r k g
   k-tree = same-tree r m k g tree k-root k-tags k-lefts k-rights k-spares
@@ -137,17 +94,17 @@ module _ (r : SumMap) (m : List ℕ) (g : Ranges) (x y high link key : ℕ) (w :
   k-old : (i : ℕ) → Used r k i → Used r m i
   k-old i u = same-used-old r m k g tree k-root k-tags k-lefts k-rights k-spares i u
 
-  xr : LinkOf r m g (tag r m x) (g.high x) (right_at r x)
+  xr : LinkOf (pool r) m g (tag r m x) (g.high x) (right_at r x)
   xr = inr (inr (x, refl, refl, refl, ux))
 
   y-high : g.high y ≤ g.high x
   y-high = (low-of r m g x (g.rank y) y tree ux (omega arith) uy names.1).0
 
   y-less : tag r m y < g.high y
-  y-less = (w.highs y uy).0
+  y-less = (w.shape.highs y uy).0
 
-  gap : (i : ℕ) → Within r m (tag r m x) (tag r m y) i → ⊥
-  gap = subst (Names r m g (tag r m x) (tag r m y)) least (w.names (tag r m x) (tag r m y) (left_at r y) (left-link r m g (tag r m x) high y names))
+  gap : (i : ℕ) → Within (pool r) m (tag r m x) (tag r m y) i → ⊥
+  gap = subst (Names (pool r) m g (tag r m x) (tag r m y)) least (w.shape.names (tag r m x) (tag r m y) (left_at r y) (left-link (pool r) m g (tag r m x) high y names))
 
   -- of the two cells alone the values differ
   parts : (l h : ℕ) → sum_within r k l h r.cells + part r m l h y ≡ sum_within r m l h r.cells + part r k l h x
@@ -170,11 +127,11 @@ module _ (r : SumMap) (m : List ℕ) (g : Ranges) (x y high link key : ℕ) (w :
 
   -- a range from above that has y has x
   has-x : (i : ℕ) → Used r m i → g.low i < tag r m y → tag r m y < g.high i → (tag r m x < tag r m i → tag r m i < g.high x → ⊥) → (g.low i < tag r m x) × (tag r m x < g.high i)
-  has-x i u lo hi out = (by (ltb (tag r m x) (tag r m i)) refl (ltb (g.low i) (tag r m x)) refl (w.lows i u).1, (let c = names.0.above in omega arith))
+  has-x i u lo hi out = (by (ltb (tag r m x) (tag r m i)) refl (ltb (g.low i) (tag r m x)) refl (w.shape.lows i u).1, (let c = names.0.above in omega arith))
     where
-      by : (p : Bool) → ltb (tag r m x) (tag r m i) ≡ p → (q : Bool) → ltb (g.low i) (tag r m x) ≡ q → Bounds r m g 0 (g.rank i) (g.low i) → g.low i < tag r m x
+      by : (p : Bool) → ltb (tag r m x) (tag r m i) ≡ p → (q : Bool) → ltb (g.low i) (tag r m x) ≡ q → Bounds (pool r) m g 0 (g.rank i) (g.low i) → g.low i < tag r m x
       by p e true f o = grind (arith, nat_tests)
-      by false e false f o = let a : tag r m i ≤ tag r m x = grind (arith, nat_tests) in let c = (w.lows i u).0 in omega arith
+      by false e false f o = let a : tag r m i ≤ tag r m x = grind (arith, nat_tests) in let c = (w.shape.lows i u).0 in omega arith
       by true e false f (inl z) = let p = ux.pos in omega arith
       by true e false f (inr (j, uj, q, lt)) = ends (ltb (tag r m x) (tag r m j)) refl
         where
@@ -184,7 +141,7 @@ module _ (r : SumMap) (m : List ℕ) (g : Ranges) (x y high link key : ℕ) (w :
               let a : tag r m j ≤ tag r m x = grind (arith, nat_tests) in
               let c : tag r m x ≤ g.low i = grind (arith, nat_tests) in
               let z = (low-of r m g x (g.rank i) i tree ux (omega arith) u (omega arith)).0 in
-              let hi = (w.highs i u).0 in
+              let hi = (w.shape.highs i u).0 in
               absurd (out (grind (arith, nat_tests)) (omega arith))
 
   -- one that has x has y
@@ -242,43 +199,6 @@ module _ (r : SumMap) (m : List ℕ) (g : Ranges) (x y high link key : ℕ) (w :
       mended-holds r g key (step_to b 0) r.cells (tag r m x) (g.high x) (right_at r x) k k-tree (same-link r m k g tree k-root k-tags k-lefts k-rights k-spares (tag r m x) (g.high x) (right_at r x) xr)
       (let a = names.0.above in omega arith) (let a = y-less in let c = y-high in omega arith) (how_many-most _ r.cells) (omega arith) value-broken
 
--- the walk to the least, a step at a time
-pub leftmost-end : (r : SumMap) (m : List ℕ) (n a v : ℕ) → v ≡ slice_index m a → v ≡ 0 → record { link = a; next = v; tag = 0 } ≡ leftmost r m n a
-leftmost-end r m zero a v e z = rw z refl
-leftmost-end r m (suc n) a v e z = let q : slice_index m a ≡ 0 = sym e ∙ z in rw (z, q) refl
-
-pub leftmost-stop : (r : SumMap) (m : List ℕ) (n a v j u t : ℕ) → 0 < n → v ≡ slice_index m a → v ≡ suc j → u ≡ slice_index m (left_at r j) → u ≡ 0 → t ≡ tag r m j → record { link = a; next = v; tag = t } ≡ leftmost r m n a
-leftmost-stop r m zero a v j u t lt e z s g o = absurd (omega arith)
-leftmost-stop r m (suc n) a v j u t lt e z s g o = let q : slice_index m a ≡ suc j = sym e ∙ z in let p : (slice_index m (left_at r j) == 0) ≡ true = (let x : slice_index m (left_at r j) ≡ 0 = sym s ∙ g in grind (arith, nat_tests)) in rw (z, q, o, p) refl
-
-pub leftmost-on : (r : SumMap) (m : List ℕ) (n less a v j u : ℕ) → n ≡ suc less → v ≡ slice_index m a → v ≡ suc j → u ≡ slice_index m (left_at r j) → u ≢ 0 → leftmost r m n a ≡ leftmost r m less (left_at r j)
-leftmost-on r m zero less a v j u k e z s g = absurd (omega arith)
-leftmost-on r m (suc n) less a v j u k e z s g = let q : slice_index m a ≡ suc j = sym e ∙ z in let p : (slice_index m (left_at r j) == 0) ≡ false = (let x : slice_index m (left_at r j) ≢ 0 = λ y. g (s ∙ y) in grind (arith, nat_tests)) in let d : n ≡ less = omega arith in rw (q, p, d) refl
-
-pub record WalkedLeft (r : SumMap) (from a v n : ℕ) (m : List ℕ) : Type 0 where
-  pub well : IsSumMap r m
-  pub on : leftmost r m r.cells from ≡ leftmost r m n a
-  pub at : v ≡ slice_index m a
-
-pub leftmost-some : (r : SumMap) (m : List ℕ) (g : Ranges) (x : ℕ) → Tree r m g → Used r m x → slice_index m (right_at r x) ≢ 0
-    → ((leftmost r m r.cells (right_at r x)).next ≡ 0 → ⊥) × ((leftmost r m r.cells (right_at r x)).tag < top)
-leftmost-some r m g x w u d = (λ z. filled (slice_index m (right_at r x)) refl (w.names (tag r m x) (g.high x) (right_at r x) rl) (least.none z), small (leftmost r m r.cells (right_at r x)).next refl)
-  where
-    rl : LinkOf r m g (tag r m x) (g.high x) (right_at r x)
-    rl = inr (inr (x, refl, refl, refl, u))
-
-    least : Leftmost r m g (tag r m x) (g.high x) (leftmost r m r.cells (right_at r x))
-    least = leftmost-found r m g r.cells (tag r m x) (g.high x) (right_at r x) w rl (how_many-most _ r.cells)
-
-    filled : (v : ℕ) → slice_index m (right_at r x) ≡ v → Names r m g (tag r m x) (g.high x) v → ((k : ℕ) → Within r m (tag r m x) (g.high x) k → ⊥) → ⊥
-    filled zero f nm gap = d f
-    filled (suc i) f nm gap = gap i nm.0
-
-    small : (n : ℕ) → (leftmost r m r.cells (right_at r x)).next ≡ n → (leftmost r m r.cells (right_at r x)).tag < top
-    small zero e = absurd (filled (slice_index m (right_at r x)) refl (w.names (tag r m x) (g.high x) (right_at r x) rl) (least.none e))
-    small (suc j) e = let q = (least.some j e).0 in let nm : Names r m g (tag r m x) least.high (suc j) = subst (Names r m g (tag r m x) least.high) (least.word ∙ e) (w.names (tag r m x) least.high (leftmost r m r.cells (right_at r x)).link least.link) in
-        let s = w.small j nm.0.inside in omega arith
-
 -- THE WHOLE REPLACEMENT of x by the least cell on its right
 pub mended-length : (r : SumMap) (key d n a : ℕ) (m : List ℕ) → length (mended r key d n a m) ≡ length m
 mended-length r key d zero a m = refl
@@ -311,143 +231,142 @@ moved-tag r x y key m i = moved-other r x y key m (tag_at r i) (λ j e. absurd (
 pub moved-length : (r : SumMap) (x y key : ℕ) (m : List ℕ) → length (moved_up r x y key m) ≡ length m
 moved-length r x y key m = mended-length r key (step_to (value r m y) 0) r.cells (right_at r x) (set (set m (value_at r x) (value r m y)) (value_at r y) 0) ∙ simp length-set
 
-pub replaced-keeps : (r : SumMap) (m : List ℕ) (g : Ranges) (x y : ℕ) (s : Position) → Holds r m g → Used r m x → value r m x ≡ 0 → Leftmost r m g (tag r m x) (g.high x) s → s.next ≡ suc y → value r m y < 2 ^ 64
-    → r.at + 1 + 5 * r.cells ≤ length m → IsSumMap r (replaced_by r x s m)
-replaced-keeps r m g x y s w u none f e fits room = subst (λ z. IsSumMap r (retagged r x s.tag (spliced r z s.link (slice_index m (right_at r z)) (moved_up r x z (less_one s.tag) m)))) (sym (ap less_one e)) (_, last)
-  where
-    named : slice_index m s.link ≡ suc y
-    named = f.word ∙ e
+-- before x takes the tag of y, which s names: y's value moved up, and y spliced out
+abbrev pub moved_out : SumMap → ℕ → ℕ → Position → List ℕ → List ℕ
+moved_out r x y s m = spliced r y s.link (slice_index m (right_at r y)) (moved_up r x y (less_one s.tag) m)
 
-    names : Names r m g (tag r m x) f.high (suc y)
-    names = subst (Names r m g (tag r m x) f.high) named (w.names (tag r m x) f.high s.link f.link)
+module _ (r : SumMap) (m : List ℕ) (g : Ranges) (x y : ℕ) (s : Position) (w : Holds r m g) (u : Used r m x) (none : value r m x ≡ 0) (f : Leftmost (pool r) m g (tag r m x) (g.high x) s) (e : s.next ≡ suc y) (fits : value r m y < 2 ^ 64)
+    (room : r.at + 1 + 5 * r.cells ≤ length m) where
+  abbrev up : List ℕ
+  up = moved_up r x y (less_one s.tag) m
 
-    yu : Used r m y
-    yu = record { inside = names.0.inside; pos = (let a = names.0.above in omega arith) }
+  abbrev v : ℕ
+  v = slice_index m (right_at r y)
 
-    tag-is : s.tag ≡ tag r m y
-    tag-is = (f.some y e).0
+  named : slice_index m s.link ≡ suc y
+  named = f.word ∙ e
 
-    least : slice_index m (left_at r y) ≡ 0
-    least = (f.some y e).1
+  pub least-names : Names (pool r) m g (tag r m x) f.high (suc y)
+  least-names = subst (Names (pool r) m g (tag r m x) f.high) named (w.shape.names (tag r m x) f.high s.link f.link)
 
-    at : tag r m y ≡ suc (less_one s.tag)
-    at = sym (less-one s.tag (let a = yu.pos in let b = tag-is in omega arith) ∙ tag-is)
+  yu : Used r m y
+  yu = record { inside = least-names.0.inside; pos = (let a = least-names.0.above in omega arith) }
 
-    h2 : Holds r (moved_up r x y (less_one s.tag) m) g
-    h2 = moved-holds r m g x y f.high s.link (less_one s.tag) w u none f.link named least at fits room
+  tag-is : s.tag ≡ tag r m y
+  tag-is = (f.some y e).0
 
-    other : (z : ℕ) → ((j : ℕ) → z ≢ sum_at r j) → ((j : ℕ) → z ≢ value_at r j) → get_or (moved_up r x y (less_one s.tag) m) z 0 ≡ get_or m z 0
-    other z a b = moved-other r x y (less_one s.tag) m z a b
+  least : slice_index m (left_at r y) ≡ 0
+  least = (f.some y e).1
 
-    tags2 : (i : ℕ) → tag r (moved_up r x y (less_one s.tag) m) i ≡ tag r m i
-    tags2 i = moved-tag r x y (less_one s.tag) m i
+  h2 : Holds r up g
+  h2 = moved-holds r m g x y f.high s.link (less_one s.tag) w u none f.link named least (sym (less-one s.tag (let a = yu.pos in let b = tag-is in omega arith) ∙ tag-is)) fits room
 
-    lk2 : LinkOf r (moved_up r x y (less_one s.tag) m) g (tag r m x) f.high s.link
-    lk2 = same-link r m (moved_up r x y (less_one s.tag) m) g (tree-of r m g w) (other r.at (λ j q. absurd (omega arith)) (λ j q. absurd (omega arith))) tags2
-        (λ i. other (left_at r i) (λ j q. absurd (omega arith)) (λ j q. absurd (omega arith))) (λ i. other (right_at r i) (λ j q. absurd (omega arith)) (λ j q. absurd (omega arith)))
-        (λ i lt z. let o = h2.spare i lt (tags2 i ∙ z) in (o.2, o.3)) (tag r m x) f.high s.link f.link
+  other : (z : ℕ) → ((j : ℕ) → z ≢ sum_at r j) → ((j : ℕ) → z ≢ value_at r j) → get_or up z 0 ≡ get_or m z 0
+  other z a b = moved-other r x y (less_one s.tag) m z a b
 
-    named2 : slice_index (moved_up r x y (less_one s.tag) m) s.link ≡ suc y
-    named2 = other s.link (λ j. (link-off r m g (tag r m x) f.high s.link f.link j).1) (λ j. (link-off r m g (tag r m x) f.high s.link f.link j).0) ∙ named
+  tags2 : (i : ℕ) → tag r up i ≡ tag r m i
+  tags2 i = moved-tag r x y (less_one s.tag) m i
 
-    left2 : slice_index (moved_up r x y (less_one s.tag) m) (left_at r y) ≡ 0
-    left2 = other (left_at r y) (λ j q. absurd (omega arith)) (λ j q. absurd (omega arith)) ∙ least
+  lk2 : LinkOf (pool r) up g (tag r m x) f.high s.link
+  lk2 = same-link r m up g (tree-of r m g w) (other r.at (λ j q. absurd (omega arith)) (λ j q. absurd (omega arith))) tags2
+      (λ i. other (left_at r i) (λ j q. absurd (omega arith)) (λ j q. absurd (omega arith))) (λ i. other (right_at r i) (λ j q. absurd (omega arith)) (λ j q. absurd (omega arith)))
+      (λ i lt z. h2.bare i lt (tags2 i ∙ z)) (tag r m x) f.high s.link f.link
 
-    right2 : slice_index (moved_up r x y (less_one s.tag) m) (right_at r y) ≡ slice_index m (right_at r y)
-    right2 = other (right_at r y) (λ j q. absurd (omega arith)) (λ j q. absurd (omega arith))
+  named2 : slice_index up s.link ≡ suc y
+  named2 = other s.link (λ j. (link-off r m g (tag r m x) f.high s.link f.link j).1) (λ j. (link-off r m g (tag r m x) f.high s.link f.link j).0) ∙ named
 
-    value2 : value r (moved_up r x y (less_one s.tag) m) y ≡ 0
-    value2 = mended-value r (less_one s.tag) (step_to (value r m y) 0) r.cells (right_at r x) (set (set m (value_at r x) (value r m y)) (value_at r y) 0) y
-        ∙ get_or-set_same (set m (value_at r x) (value r m y)) (value_at r y) 0 0 (let i = yu.inside in simp length-set (omega arith))
+  left2 : slice_index up (left_at r y) ≡ 0
+  left2 = other (left_at r y) (λ j q. absurd (omega arith)) (λ j q. absurd (omega arith)) ∙ least
 
-    room2 : r.at + 1 + 5 * r.cells ≤ length (moved_up r x y (less_one s.tag) m)
-    room2 = let l = moved-length r x y (less_one s.tag) m in omega arith
+  right2 : slice_index up (right_at r y) ≡ v
+  right2 = other (right_at r y) (λ j q. absurd (omega arith)) (λ j q. absurd (omega arith))
 
-    h3 : Holds r (spliced r y s.link (slice_index m (right_at r y)) (moved_up r x y (less_one s.tag) m)) (shifted g (tag r (moved_up r x y (less_one s.tag) m) y) (tag r m x) f.high)
-    h3 = spliced-holds r (moved_up r x y (less_one s.tag) m) g (tag r m x) f.high s.link y (slice_index m (right_at r y)) h2 lk2 named2 (inl (left2, right2)) value2 room2
+  value2 : value r up y ≡ 0
+  value2 = mended-value r (less_one s.tag) (step_to (value r m y) 0) r.cells (right_at r x) (set (set m (value_at r x) (value r m y)) (value_at r y) 0) y
+      ∙ get_or-set_same (set m (value_at r x) (value r m y)) (value_at r y) 0 0 (let i = yu.inside in simp length-set (omega arith))
 
-    tags3 : (i : ℕ) → i ≢ y → tag r (spliced r y s.link (slice_index m (right_at r y)) (moved_up r x y (less_one s.tag) m)) i ≡ tag r m i
-    tags3 i d = s-tags r (moved_up r x y (less_one s.tag) m) g (tag r m x) f.high s.link y (slice_index m (right_at r y)) (tree-of r (moved_up r x y (less_one s.tag) m) g h2) lk2 named2 room2 i d ∙ tags2 i
+  room2 : r.at + 1 + 5 * r.cells ≤ length up
+  room2 = let l = moved-length r x y (less_one s.tag) m in omega arith
 
-    freed : tag r (spliced r y s.link (slice_index m (right_at r y)) (moved_up r x y (less_one s.tag) m)) y ≡ 0
-    freed = s-tag r (moved_up r x y (less_one s.tag) m) g (tag r m x) f.high s.link y (slice_index m (right_at r y)) (tree-of r (moved_up r x y (less_one s.tag) m) g h2) lk2 named2 room2
+  h3 : Holds r (moved_out r x y s m) (shifted g (tag r up y) (tag r m x) f.high)
+  h3 = spliced-holds r up g (tag r m x) f.high s.link y v h2 lk2 named2 (inl (left2, right2)) value2 room2
 
-    apart : x ≢ y
-    apart q = let a : tag r m x ≡ tag r m y = ap (tag r m) q in let b = names.0.above in absurd (omega arith)
+  pub least-tags : (i : ℕ) → i ≢ y → tag r (moved_out r x y s m) i ≡ tag r m i
+  least-tags i d = s-tags r up g (tag r m x) f.high s.link y v (tree-of r up g h2) lk2 named2 room2 i d ∙ tags2 i
 
-    not-y : (i : ℕ) → Used r (spliced r y s.link (slice_index m (right_at r y)) (moved_up r x y (less_one s.tag) m)) i → i ≢ y
-    not-y i o q = let a = ap (tag r (spliced r y s.link (slice_index m (right_at r y)) (moved_up r x y (less_one s.tag) m))) q in let b = freed in let p = o.pos in absurd (omega arith)
+  pub least-freed : tag r (moved_out r x y s m) y ≡ 0
+  least-freed = s-tag r up g (tag r m x) f.high s.link y v (tree-of r up g h2) lk2 named2 room2
 
-    gap : (i : ℕ) → Within r m (tag r m x) (tag r m y) i → ⊥
-    gap = subst (Names r m g (tag r m x) (tag r m y)) least (w.names (tag r m x) (tag r m y) (left_at r y) (left-link r m g (tag r m x) f.high y names))
+  pub least-values : (i : ℕ) → i ≢ y → value r (moved_out r x y s m) i ≡ value r (moved_up r x y (less_one s.tag) m) i
+  least-values i d = s-values r up g (tag r m x) f.high s.link y v (tree-of r up g h2) lk2 named2 room2 i d
 
-    beyond : (i : ℕ) → Used r (spliced r y s.link (slice_index m (right_at r y)) (moved_up r x y (less_one s.tag) m)) i → tag r (spliced r y s.link (slice_index m (right_at r y)) (moved_up r x y (less_one s.tag) m)) x < tag r (spliced r y s.link (slice_index m (right_at r y)) (moved_up r x y (less_one s.tag) m)) i
-        → s.tag < tag r (spliced r y s.link (slice_index m (right_at r y)) (moved_up r x y (less_one s.tag) m)) i
-    beyond i o lt =
-        let d = not-y i o in
-        let ti = tags3 i d in
-        let tx = tags3 x apart in
-        let z = by d (record { inside = o.inside; pos = (let p = o.pos in omega arith) }) (omega arith) (ltb (tag r m i) (tag r m y)) refl in
-        let q = tag-is in omega arith
-      where
-        by : i ≢ y → Used r m i → tag r m x < tag r m i → (b : Bool) → ltb (tag r m i) (tag r m y) ≡ b → tag r m y < tag r m i
-        by d ui lt true q = absurd (gap i (record { inside = ui.inside; above = lt; below = grind (arith, nat_tests) }))
-        by d ui lt false q = let ne : tag r m i ≢ tag r m y = λ c. d (w.differ i y ui yu c) in let ge : tag r m y ≤ tag r m i = grind (arith, nat_tests) in omega arith
+  pub least-apart : x ≢ y
+  least-apart q = let a : tag r m x ≡ tag r m y = ap (tag r m) q in let b = least-names.0.above in absurd (omega arith)
 
-    last : Holds r (retagged r x s.tag (spliced r y s.link (slice_index m (right_at r y)) (moved_up r x y (less_one s.tag) m))) (shifted (shifted g (tag r (moved_up r x y (less_one s.tag) m) y) (tag r m x) f.high) (tag r (spliced r y s.link (slice_index m (right_at r y)) (moved_up r x y (less_one s.tag) m)) x) s.tag s.tag)
-    last = retagged-holds r (spliced r y s.link (slice_index m (right_at r y)) (moved_up r x y (less_one s.tag) m)) (shifted g (tag r (moved_up r x y (less_one s.tag) m) y) (tag r m x) f.high) x s.tag h3
-        (record { inside = u.inside; pos = (let t = tags3 x apart in let p = u.pos in omega arith) })
-        (let t = tags3 x apart in let q = tag-is in let a = names.0.above in omega arith)
-        (let q = tag-is in let b = w.small y yu.inside in omega arith)
-        beyond
-        (let l : length (spliced r y s.link (slice_index m (right_at r y)) (moved_up r x y (less_one s.tag) m)) ≡ length (moved_up r x y (less_one s.tag) m) = simp length-set in let r2 = room2 in omega arith)
+  pub least-room : r.at + 1 + 5 * r.cells ≤ length (moved_out r x y s m)
+  least-room = let l : length (moved_out r x y s m) ≡ length up = simp length-set in let r2 = room2 in omega arith
+
+  beyond : (i : ℕ) → Used r (moved_out r x y s m) i → tag r (moved_out r x y s m) x < tag r (moved_out r x y s m) i → s.tag < tag r (moved_out r x y s m) i
+  beyond i o lt =
+      let d : i ≢ y = λ q. (let a = ap (tag r (moved_out r x y s m)) q in let b = least-freed in let p = o.pos in absurd (omega arith)) in
+      let ti = least-tags i d in
+      let tx = least-tags x least-apart in
+      let z = least-gap (pool r) m g (tag r m x) (g.high x) y i s w.shape f e (record { inside = o.inside; pos = (let p = o.pos in omega arith) }) d (omega arith) in omega arith
+
+  pub replaced-keeps : IsSumMap r (replaced_by r x s m)
+  replaced-keeps = subst (λ z. IsSumMap r (retagged r x s.tag (spliced r z s.link (slice_index m (right_at r z)) (moved_up r x z (less_one s.tag) m)))) (sym (ap less_one e)) (
+    _,
+    retagged-holds r (moved_out r x y s m) (shifted g (tag r up y) (tag r m x) f.high) x s.tag h3 (record { inside = u.inside; pos = (let t = least-tags x least-apart in let p = u.pos in omega arith) })
+        (let t = least-tags x least-apart in let q = tag-is in let a = least-names.0.above in omega arith)
+        (let q = tag-is in let b = w.shape.small y yu.inside in omega arith) beyond least-room,
+  )
 
 -- A CELL TAKEN OUT that has no value
-pub taken_out-keeps : (r : SumMap) (m : List ℕ) (g : Ranges) (l h e x : ℕ) → Holds r m g → LinkOf r m g l h e → slice_index m e ≡ suc x → value r m x ≡ 0 → ((i : ℕ) → i < r.cells → value r m i < 2 ^ 64) → r.at + 1 + 5 * r.cells ≤ length m → IsSumMap r (taken_out r x e m)
+pub taken_out-keeps : (r : SumMap) (m : List ℕ) (g : Ranges) (l h e x : ℕ) → Holds r m g → LinkOf (pool r) m g l h e → slice_index m e ≡ suc x → value r m x ≡ 0 → ((i : ℕ) → i < r.cells → value r m i < 2 ^ 64) → r.at + 1 + 5 * r.cells ≤ length m → IsSumMap r (taken_out r x e m)
 taken_out-keeps r m g l h e x w k named none fits room = by (slice_index m (left_at r x) == 0) refl (slice_index m (right_at r x) == 0) refl
   where
-    names : Names r m g l h (suc x)
-    names = subst (Names r m g l h) named (w.names l h e k)
+    names : Names (pool r) m g l h (suc x)
+    names = subst (Names (pool r) m g l h) named (w.shape.names l h e k)
 
     u : Used r m x
-    u = named-used r m g l h x names
+    u = named-used (pool r) m g l h x names
 
-    rl : LinkOf r m g (tag r m x) (g.high x) (right_at r x)
+    rl : LinkOf (pool r) m g (tag r m x) (g.high x) (right_at r x)
     rl = inr (inr (x, refl, refl, refl, u))
 
-    least : Leftmost r m g (tag r m x) (g.high x) (leftmost r m r.cells (right_at r x))
-    least = leftmost-found r m g r.cells (tag r m x) (g.high x) (right_at r x) (tree-of r m g w) rl (how_many-most _ r.cells)
+    least : Leftmost (pool r) m g (tag r m x) (g.high x) (leftmost r m r.cells (right_at r x))
+    least = leftmost-found (pool r) m g r.cells (tag r m x) (g.high x) (right_at r x) w.shape rl (how_many-most _ r.cells)
 
     by : (b : Bool) → (slice_index m (left_at r x) == 0) ≡ b → (c : Bool) → (slice_index m (right_at r x) == 0) ≡ c
         → IsSumMap r (if b then spliced r x e (slice_index m (right_at r x)) m else (if c then spliced r x e (slice_index m (left_at r x)) m else replaced_by r x (leftmost r m r.cells (right_at r x)) m))
     by true p c q = (_, spliced-holds r m g l h e x (slice_index m (right_at r x)) w k named (inl (grind (arith, nat_tests), refl)) none room)
     by false p true q = (_, spliced-holds r m g l h e x (slice_index m (left_at r x)) w k named (inr (grind (arith, nat_tests), refl)) none room)
-    by false p false q = at (leftmost r m r.cells (right_at r x)).next refl (slice_index m (right_at r x)) refl (w.names (tag r m x) (g.high x) (right_at r x) rl)
+    by false p false q = at (leftmost r m r.cells (right_at r x)).next refl (slice_index m (right_at r x)) refl (w.shape.names (tag r m x) (g.high x) (right_at r x) rl)
       where
-        at : (n : ℕ) → (leftmost r m r.cells (right_at r x)).next ≡ n → (v : ℕ) → slice_index m (right_at r x) ≡ v → Names r m g (tag r m x) (g.high x) v → IsSumMap r (replaced_by r x (leftmost r m r.cells (right_at r x)) m)
+        at : (n : ℕ) → (leftmost r m r.cells (right_at r x)).next ≡ n → (v : ℕ) → slice_index m (right_at r x) ≡ v → Names (pool r) m g (tag r m x) (g.high x) v → IsSumMap r (replaced_by r x (leftmost r m r.cells (right_at r x)) m)
         at n c zero d nm = absurd (grind (arith, nat_tests))
         at zero c (suc j) d nm = absurd (least.none c j nm.0)
         at (suc y) c (suc j) d nm =
-            let ny : Names r m g (tag r m x) least.high (suc y) = subst (Names r m g (tag r m x) least.high) (least.word ∙ c) (w.names (tag r m x) least.high (leftmost r m r.cells (right_at r x)).link least.link) in
+            let ny : Names (pool r) m g (tag r m x) least.high (suc y) = subst (Names (pool r) m g (tag r m x) least.high) (least.word ∙ c) (w.shape.names (tag r m x) least.high (leftmost r m r.cells (right_at r x)).link least.link) in
             replaced-keeps r m g x y (leftmost r m r.cells (right_at r x)) w u none least c (fits y ny.0.inside) room
 
 -- WHAT THE LEAST IS, where there is something on the right
 pub least-facts : (r : SumMap) (m : List ℕ) (x v : ℕ) (p : Position) → HasRight r x v m → 0 < v → p ≡ leftmost r m r.cells (right_at r x) → (p.next ≢ 0) × (0 < p.tag) × (p.tag < top)
-least-facts r m x v p h lt e = subst (λ q. (q.next ≢ 0) × (0 < q.tag) × (q.tag < top)) (sym e) (by (leftmost r m r.cells (right_at r x)).next refl (slice_index m (right_at r x)) refl (h.well.1.names (tag r m x) (h.well.0.high x) (right_at r x) rl))
+least-facts r m x v p h lt e = subst (λ q. (q.next ≢ 0) × (0 < q.tag) × (q.tag < top)) (sym e) (by (leftmost r m r.cells (right_at r x)).next refl (slice_index m (right_at r x)) refl (h.well.1.shape.names (tag r m x) (h.well.0.high x) (right_at r x) rl))
   where
-    rl : LinkOf r m h.well.0 (tag r m x) (h.well.0.high x) (right_at r x)
+    rl : LinkOf (pool r) m h.well.0 (tag r m x) (h.well.0.high x) (right_at r x)
     rl = inr (inr (x, refl, refl, refl, h.used))
 
-    f : Leftmost r m h.well.0 (tag r m x) (h.well.0.high x) (leftmost r m r.cells (right_at r x))
-    f = leftmost-found r m h.well.0 r.cells (tag r m x) (h.well.0.high x) (right_at r x) (tree-of r m h.well.0 h.well.1) rl (how_many-most _ r.cells)
+    f : Leftmost (pool r) m h.well.0 (tag r m x) (h.well.0.high x) (leftmost r m r.cells (right_at r x))
+    f = leftmost-found (pool r) m h.well.0 r.cells (tag r m x) (h.well.0.high x) (right_at r x) h.well.1.shape rl (how_many-most _ r.cells)
 
-    by : (n : ℕ) → (leftmost r m r.cells (right_at r x)).next ≡ n → (u : ℕ) → slice_index m (right_at r x) ≡ u → Names r m h.well.0 (tag r m x) (h.well.0.high x) u
+    by : (n : ℕ) → (leftmost r m r.cells (right_at r x)).next ≡ n → (u : ℕ) → slice_index m (right_at r x) ≡ u → Names (pool r) m h.well.0 (tag r m x) (h.well.0.high x) u
         → ((leftmost r m r.cells (right_at r x)).next ≢ 0) × (0 < (leftmost r m r.cells (right_at r x)).tag) × ((leftmost r m r.cells (right_at r x)).tag < top)
     by n q zero d nm = let z = h.right in absurd (omega arith)
     by zero q (suc j) d nm = absurd (f.none q j nm.0)
     by (suc y) q (suc j) d nm =
-        let ny : Names r m h.well.0 (tag r m x) f.high (suc y) = subst (Names r m h.well.0 (tag r m x) f.high) (f.word ∙ q) (h.well.1.names (tag r m x) f.high (leftmost r m r.cells (right_at r x)).link f.link) in
-        let t = (f.some y q).0 in let a = ny.0.above in let s = h.well.1.small y ny.0.inside in
+        let ny : Names (pool r) m h.well.0 (tag r m x) f.high (suc y) = subst (Names (pool r) m h.well.0 (tag r m x) f.high) (f.word ∙ q) (h.well.1.shape.names (tag r m x) f.high (leftmost r m r.cells (right_at r x)).link f.link) in
+        let t = (f.some y q).0 in let a = ny.0.above in let s = h.well.1.shape.small y ny.0.inside in
         ((λ z. absurd (omega arith)), omega arith, omega arith)
 
 pub minus-one : (t : ℕ) → t - 1 ≡ less_one t
@@ -455,6 +374,11 @@ minus-one zero = refl
 minus-one (suc t) = omega arith
 
 -- THE STATES OF THE REPLACEMENT: m is the memory before it
+pub record Leaving (r : SumMap) (words x v : ℕ) (p : Position) (m : List ℕ) : Type 0 where
+  pub right : HasRight r x v m
+  pub long : length m ≡ words
+  pub place : p ≡ leftmost r m r.cells (right_at r x)
+
 pub record Taking (r : SumMap) (words x : ℕ) (p : Position) (y a b : ℕ) (m : List ℕ) : Type 0 where
   pub well : IsSumMap r m
   pub long : length m ≡ words
@@ -469,14 +393,14 @@ abbrev pub valued : SumMap → ℕ → ℕ → ℕ → List ℕ → List ℕ
 valued r x y b m = set (set m (value_at r x) b) (value_at r y) 0
 
 module _ (r : SumMap) (words x : ℕ) (p : Position) (y a b : ℕ) (m : List ℕ) (w : Taking r words x p y a b m) (next : p.next ≡ suc y) (fits : b < 2 ^ 64) (room : r.at + 1 + 5 * r.cells ≤ words) where
-  rx : LinkOf r m w.well.0 (tag r m x) (w.well.0.high x) (right_at r x)
+  rx : LinkOf (pool r) m w.well.0 (tag r m x) (w.well.0.high x) (right_at r x)
   rx = inr (inr (x, refl, refl, refl, w.used))
 
-  lm : Leftmost r m w.well.0 (tag r m x) (w.well.0.high x) p
-  lm = subst (Leftmost r m w.well.0 (tag r m x) (w.well.0.high x)) (sym w.place) (leftmost-found r m w.well.0 r.cells (tag r m x) (w.well.0.high x) (right_at r x) (tree-of r m w.well.0 w.well.1) rx (how_many-most _ r.cells))
+  lm : Leftmost (pool r) m w.well.0 (tag r m x) (w.well.0.high x) p
+  lm = subst (Leftmost (pool r) m w.well.0 (tag r m x) (w.well.0.high x)) (sym w.place) (leftmost-found (pool r) m w.well.0 r.cells (tag r m x) (w.well.0.high x) (right_at r x) w.well.1.shape rx (how_many-most _ r.cells))
 
-  ny : Names r m w.well.0 (tag r m x) lm.high (suc y)
-  ny = subst (Names r m w.well.0 (tag r m x) lm.high) (lm.word ∙ next) (w.well.1.names (tag r m x) lm.high p.link lm.link)
+  ny : Names (pool r) m w.well.0 (tag r m x) lm.high (suc y)
+  ny = subst (Names (pool r) m w.well.0 (tag r m x) lm.high) (lm.word ∙ next) (w.well.1.shape.names (tag r m x) lm.high p.link lm.link)
 
   fit : value r m y < 2 ^ 64
   fit = subst (λ z. z < 2 ^ 64) w.held fits
@@ -498,7 +422,7 @@ module _ (r : SumMap) (words x : ℕ) (p : Position) (y a b : ℕ) (m : List ℕ
       (ap (changed true) all, subst (IsSumMap r) same (replaced-keeps r m w.well.0 x y p w.well.1 w.used w.none lm next fit (let e = w.long in omega arith)))
 
 -- THE STATES OF A REMOVAL
-pub emptied-link : (r : SumMap) (m : List ℕ) (g : Ranges) (a : ℕ) → IsLink r m a → (l : ℕ) × (h : ℕ) × LinkOf r m g l h a
+pub emptied-link : (r : SumMap) (m : List ℕ) (g : Ranges) (a : ℕ) → IsLink r m a → (l : ℕ) × (h : ℕ) × LinkOf (pool r) m g l h a
 emptied-link r m g a (inl e) = (0, top, inl (e, refl, refl))
 emptied-link r m g a (inr (i, u, inl e)) = (g.low i, tag r m i, inr (inl (i, e, refl, refl, u)))
 emptied-link r m g a (inr (i, u, inr e)) = (tag r m i, g.high i, inr (inr (i, e, refl, refl, u)))
@@ -506,7 +430,14 @@ emptied-link r m g a (inr (i, u, inr e)) = (tag r m i, g.high i, inr (inr (i, e,
 pub emptied-used : (r : SumMap) (m : List ℕ) (x e : ℕ) → IsEmptied r x e m → Used r m x
 emptied-used r m x e w =
     let o = emptied-link r m w.well.0 e w.link in
-    named-used r m w.well.0 o.0 o.1 x (subst (Names r m w.well.0 o.0 o.1) w.named (w.well.1.names o.0 o.1 e o.2))
+    named-used (pool r) m w.well.0 o.0 o.1 x (subst (Names (pool r) m w.well.0 o.0 o.1) w.named (w.well.1.shape.names o.0 o.1 e o.2))
+
+-- what a cell's links are before it is taken out
+pub record Cutting (r : SumMap) (words x e u v : ℕ) (m : List ℕ) : Type 0 where
+  pub well : IsEmptied r x e m
+  pub long : length m ≡ words
+  pub left : u ≡ slice_index m (left_at r x)
+  pub right : v ≡ slice_index m (right_at r x)
 
 pub out-right : (r : SumMap) (m : List ℕ) (x e u v : ℕ) → IsEmptied r x e m → r.at + 1 + 5 * r.cells ≤ length m → u ≡ slice_index m (left_at r x) → u ≡ 0 → v ≡ slice_index m (right_at r x) → (taken_in r x e m ≡ changed true (spliced r x e v m)) × IsSumMap r (spliced r x e v m)
 out-right r m x e u v w room a z b =
@@ -533,11 +464,11 @@ out-both r m x e u v a d b f =
 pub emptied-of : (r : SumMap) (m : List ℕ) (key j : ℕ) (s : Position) → IsSumMap r m → key < 2 ^ 32 → s ≡ position_of r m key → s.next ≡ suc j → r.at + 1 + 5 * r.cells ≤ length m → IsSumMap r (replaced_in r key 0 j m).memory → IsEmptied r j s.link (replaced_in r key 0 j m).memory
 emptied-of r m key j s w small e n room after = record { well = after; link = moved f.link; named = words ∙ (f.word ∙ n); none = mended-value r key (step_to (value r m j) 0) r.cells r.at (set m (value_at r j) 0) j ∙ get_or-set_same m (value_at r j) 0 0 (let i = inside in omega arith) }
   where
-    f : Found r m w.0 key s
-    f = subst (Found r m w.0 key) (sym e) (position-found r m w.0 key (tree-of r m w.0 w.1) small)
+    f : Found (pool r) m w.0 key s
+    f = subst (Found (pool r) m w.0 key) (sym e) (position-found (pool r) m w.0 key w.1.shape small)
 
     inside : j < r.cells
-    inside = (subst (Names r m w.0 f.low f.high) (f.word ∙ n) (w.1.names f.low f.high s.link f.link)).0.inside
+    inside = (subst (Names (pool r) m w.0 f.low f.high) (f.word ∙ n) (w.1.shape.names f.low f.high s.link f.link)).0.inside
 
     other : (z : ℕ) → ((i : ℕ) → z ≢ sum_at r i) → z ≢ value_at r j → get_or (replaced_in r key 0 j m).memory z 0 ≡ get_or m z 0
     other z a b = mended-other r key (step_to (value r m j) 0) r.cells r.at (set m (value_at r j) 0) z a ∙ get_or-set_other m (value_at r j) z 0 0 b
@@ -548,7 +479,7 @@ emptied-of r m key j s w small e n room after = record { well = after; link = mo
     used : (i : ℕ) → Used r m i → Used r (replaced_in r key 0 j m).memory i
     used i u = record { inside = u.inside; pos = subst (λ z. 0 < z) (sym (other (tag_at r i) (λ k q. absurd (omega arith)) (λ q. absurd (omega arith)))) u.pos }
 
-    moved : LinkOf r m w.0 f.low f.high s.link → IsLink r (replaced_in r key 0 j m).memory s.link
+    moved : LinkOf (pool r) m w.0 f.low f.high s.link → IsLink r (replaced_in r key 0 j m).memory s.link
     moved (inl x) = inl x.0
     moved (inr (inl (i, p, q, o, u))) = inr (i, used i u, inl p)
     moved (inr (inr (i, p, q, o, u))) = inr (i, used i u, inr p)

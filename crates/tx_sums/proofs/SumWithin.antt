@@ -5,25 +5,26 @@ use Rattle.std.proofs.lemmas.Bool.Decides.{nat_tests}
 use Rattle.tx_effects.specs.declared.position.Position.{Position}
 use Rattle.tx_effects.specs.Keys.{free_from, less_one}
 use Rattle.tx_effects.specs.KeyLaws.{free-is, how_many-most}
+use Rattle.tx_tree.specs.Shapes.{Ranges, LinkOf, Names}
+use Rattle.tx_tree.specs.ShapeWalks.{named-used, Found, position-found}
+use Rattle.tx_tree.specs.ShapeSame.{link-place}
+use Rattle.tx_tree.specs.ShapeLeast.{Leftmost, leftmost-found}
 use Rattle.tx_sums.specs.declared.sum_map.SumMap.{SumMap}
-use Rattle.tx_sums.specs.Sums.{SumMapFits, HasWords, IsSumMap, Ranges, Used, LinkOf, Names, Holds, value, value_at, tag_at, left_at, right_at, step_to, tag, position_of, attached, put_by, added_by, put_in, replaced_in, removed_in, taken_out, spliced, leftmost, moved_up, retagged, replaced_by}
+use Rattle.tx_sums.specs.Sums.{pool, SumMapFits, HasWords, IsSumMap, Used, Holds, value, value_at, tag_at, left_at, right_at, step_to, tag, position_of, attached, put_by, added_by, put_in, replaced_in, removed_in, taken_out, spliced, leftmost, moved_up, retagged, replaced_by}
 use Rattle.tx_sums.specs.Statements.{RemovesWithin, WordsStay}
-use Rattle.tx_sums.proofs.SumTrees.{tree-of}
-use Rattle.tx_sums.proofs.SumLaws.{Found, position-found, named-used}
 use Rattle.tx_sums.proofs.SumPuts.{link-off, leaf-tree, value-holds, value-tree, tree-links}
-use Rattle.tx_sums.proofs.SumRegions.{link-place}
-use Rattle.tx_sums.proofs.SumTakes.{Leftmost, leftmost-found, less-one, k-tree, emptied-link, emptied-of, remove-none, remove-some, taken_out-keeps}
+use Rattle.tx_sums.proofs.SumTakes.{less-one, k-tree, emptied-link, emptied-of, remove-none, remove-some, taken_out-keeps}
 use Rattle.tx_sums.proofs.SumWords.{Kept, kept-self, kept-set, kept-mended, kept-spliced}
 
 -- the cell x gets value and tag of y, the least on its right; o is a memory before
-least-kept : (r : SumMap) (o m : List ℕ) (g : Ranges) (x y : ℕ) (s : Position) → Kept r o m → Holds r m g → Used r m x → value r m x ≡ 0 → Leftmost r m g (tag r m x) (g.high x) s → s.next ≡ suc y → r.at + 1 + 5 * r.cells ≤ length o
+least-kept : (r : SumMap) (o m : List ℕ) (g : Ranges) (x y : ℕ) (s : Position) → Kept r o m → Holds r m g → Used r m x → value r m x ≡ 0 → Leftmost (pool r) m g (tag r m x) (g.high x) s → s.next ≡ suc y → r.at + 1 + 5 * r.cells ≤ length o
     → Kept r o (replaced_by r x s m)
 least-kept r o m g x y s kept w u none f e room =
     subst (λ z. Kept r o (retagged r x s.tag (spliced r z s.link (slice_index m (right_at r z)) (moved_up r x z (less_one s.tag) m)))) (sym (ap less_one e))
     (let i = u.inside in kept-set r o _ (tag_at r x) s.tag out room (omega arith) (omega arith) (inr (λ j q. absurd (omega arith))))
   where
-    names : Names r m g (tag r m x) f.high (suc y)
-    names = subst (Names r m g (tag r m x) f.high) (f.word ∙ e) (w.names (tag r m x) f.high s.link f.link)
+    names : Names (pool r) m g (tag r m x) f.high (suc y)
+    names = subst (Names (pool r) m g (tag r m x) f.high) (f.word ∙ e) (w.shape.names (tag r m x) f.high s.link f.link)
 
     at : tag r m y ≡ suc (less_one s.tag)
     at = let q = (f.some y e).0 in let c = names.0.above in sym (less-one s.tag (omega arith) ∙ q)
@@ -46,32 +47,32 @@ least-kept r o m g x y s kept w u none f e room =
 
     out : Kept r o (spliced r y s.link (slice_index m (right_at r y)) (moved_up r x y (less_one s.tag) m))
     out =
-        let p = link-place r m g (tag r m x) f.high s.link f.link in
+        let p = link-place (pool r) m g (tag r m x) f.high s.link f.link in
         kept-spliced r o _ y s.link (slice_index m (right_at r y)) moved room names.0.inside p.0 p.1 (λ i q. (link-off r m g (tag r m x) f.high s.link f.link i).0 (sym q))
 
 -- a cell taken out that has no value
-taken-kept : (r : SumMap) (o m : List ℕ) (g : Ranges) (l h e x : ℕ) → Kept r o m → Holds r m g → LinkOf r m g l h e → slice_index m e ≡ suc x → value r m x ≡ 0 → r.at + 1 + 5 * r.cells ≤ length o → Kept r o (taken_out r x e m)
+taken-kept : (r : SumMap) (o m : List ℕ) (g : Ranges) (l h e x : ℕ) → Kept r o m → Holds r m g → LinkOf (pool r) m g l h e → slice_index m e ≡ suc x → value r m x ≡ 0 → r.at + 1 + 5 * r.cells ≤ length o → Kept r o (taken_out r x e m)
 taken-kept r o m g l h e x kept w k named none room = by (slice_index m (left_at r x) == 0) (slice_index m (right_at r x) == 0) refl
   where
     u : Used r m x
-    u = named-used r m g l h x (subst (Names r m g l h) named (w.names l h e k))
+    u = named-used (pool r) m g l h x (subst (Names (pool r) m g l h) named (w.shape.names l h e k))
 
-    rl : LinkOf r m g (tag r m x) (g.high x) (right_at r x)
+    rl : LinkOf (pool r) m g (tag r m x) (g.high x) (right_at r x)
     rl = inr (inr (x, refl, refl, refl, u))
 
-    least : Leftmost r m g (tag r m x) (g.high x) (leftmost r m r.cells (right_at r x))
-    least = leftmost-found r m g r.cells (tag r m x) (g.high x) (right_at r x) (tree-of r m g w) rl (how_many-most _ r.cells)
+    least : Leftmost (pool r) m g (tag r m x) (g.high x) (leftmost r m r.cells (right_at r x))
+    least = leftmost-found (pool r) m g r.cells (tag r m x) (g.high x) (right_at r x) w.shape rl (how_many-most _ r.cells)
 
     cut : (v : ℕ) → Kept r o (spliced r x e v m)
-    cut v = let p = link-place r m g l h e k in kept-spliced r o m x e v kept room u.inside p.0 p.1 (λ i q. (link-off r m g l h e k i).0 (sym q))
+    cut v = let p = link-place (pool r) m g l h e k in kept-spliced r o m x e v kept room u.inside p.0 p.1 (λ i q. (link-off r m g l h e k i).0 (sym q))
 
     by : (b : Bool) (c : Bool) → (slice_index m (right_at r x) == 0) ≡ c
         → Kept r o (if b then spliced r x e (slice_index m (right_at r x)) m else (if c then spliced r x e (slice_index m (left_at r x)) m else replaced_by r x (leftmost r m r.cells (right_at r x)) m))
     by true c q = cut (slice_index m (right_at r x))
     by false true q = cut (slice_index m (left_at r x))
-    by false false q = at (leftmost r m r.cells (right_at r x)).next refl (slice_index m (right_at r x)) refl (w.names (tag r m x) (g.high x) (right_at r x) rl)
+    by false false q = at (leftmost r m r.cells (right_at r x)).next refl (slice_index m (right_at r x)) refl (w.shape.names (tag r m x) (g.high x) (right_at r x) rl)
       where
-        at : (n : ℕ) → (leftmost r m r.cells (right_at r x)).next ≡ n → (v : ℕ) → slice_index m (right_at r x) ≡ v → Names r m g (tag r m x) (g.high x) v → Kept r o (replaced_by r x (leftmost r m r.cells (right_at r x)) m)
+        at : (n : ℕ) → (leftmost r m r.cells (right_at r x)).next ≡ n → (v : ℕ) → slice_index m (right_at r x) ≡ v → Names (pool r) m g (tag r m x) (g.high x) v → Kept r o (replaced_by r x (leftmost r m r.cells (right_at r x)) m)
         at n c zero d nm = absurd (grind (arith, nat_tests))
         at zero c (suc j) d nm = absurd (least.none c j nm.0)
         at (suc y) c (suc j) d nm = least-kept r o m g x y (leftmost r m r.cells (right_at r x)) kept w u none least c room
@@ -80,8 +81,8 @@ taken-kept r o m g l h e x kept w k named none room = by (slice_index m (left_at
 pub replaced-kept : (r : SumMap) (m : List ℕ) (key v j : ℕ) → (w : IsSumMap r m) → SumMapFits r (length m) → HasWords r m → key < 2 ^ 32 → v < 2 ^ 64 → (position_of r m key).next ≡ suc j
     → IsSumMap r (replaced_in r key v j m).memory × Kept r m (replaced_in r key v j m).memory
 replaced-kept r m key v j w fits words small fv e =
-    let f : Found r m w.0 key (position_of r m key) = position-found r m w.0 key (tree-of r m w.0 w.1) small in
-    let z : Names r m w.0 f.low f.high (suc j) = subst (Names r m w.0 f.low f.high) (f.word ∙ e) (w.1.names f.low f.high (position_of r m key).link f.link) in
+    let f : Found (pool r) m w.0 key (position_of r m key) = position-found (pool r) m w.0 key w.1.shape small in
+    let z : Names (pool r) m w.0 f.low f.high (suc j) = subst (Names (pool r) m w.0 f.low f.high) (f.word ∙ e) (w.1.shape.names f.low f.high (position_of r m key).link f.link) in
     let i = z.0.inside in
     let t : tag r m j ≡ suc key = (f.some j e).1 in
     let links = tree-links r (set m (value_at r j) v) w.0 (value-tree r m w.0 key v j w.1 small i t (words j i) fits.0) in (
@@ -113,8 +114,8 @@ removes-within r m key w fits words small = let z = removed-kept r m key w fits 
 put-kept : (r : SumMap) (m : List ℕ) (key v : ℕ) → IsSumMap r m → SumMapFits r (length m) → HasWords r m → key < 2 ^ 32 → v < 2 ^ 64 → Kept r m (put_in r key v m).memory
 put-kept r m key v w fits words small fv = by (position_of r m key).next refl (free_from (tag r m) 0 r.cells) refl
   where
-    f : Found r m w.0 key (position_of r m key)
-    f = position-found r m w.0 key (tree-of r m w.0 w.1) small
+    f : Found (pool r) m w.0 key (position_of r m key)
+    f = position-found (pool r) m w.0 key w.1.shape small
 
     by : (n : ℕ) → (position_of r m key).next ≡ n → (o : Option ℕ) → free_from (tag r m) 0 r.cells ≡ o → Kept r m (put_in r key v m).memory
     by zero e None q = subst (λ x. Kept r m x.memory) (sym (ap (put_by r key v m) e ∙ ap (added_by r key v m) q)) (kept-self r m words)
@@ -123,7 +124,7 @@ put-kept r m key v w fits words small fv = by (position_of r m key).next refl (f
         let lt : c < r.cells = (let y = z.0 in omega arith) in
         let s = position_of r m key in
         let room = fits.0 in
-        let p = link-place r m w.0 f.low f.high s.link f.link in
+        let p = link-place (pool r) m w.0 f.low f.high s.link f.link in
         let one = kept-set r m m (tag_at r c) (suc key) (kept-self r m words) room (omega arith) (omega arith) (inr (λ i x. absurd (omega arith))) in
         let two = kept-set r m _ (value_at r c) v one room (omega arith) (omega arith) (inl fv) in
         let all = kept-set r m _ s.link (suc c) two room p.0 p.1 (inr (λ i x. (link-off r m w.0 f.low f.high s.link f.link i).0 (sym x))) in

@@ -4,16 +4,17 @@ use Rattle.std.specs.Prelude.{◌⊎◌, ◌==◌, slice_index}
 use Rattle.std.proofs.Math.ListN.{length-set}
 use Rattle.std.proofs.lemmas.List.{get_or-set_same, get_or-set_other}
 use Rattle.std.proofs.lemmas.Bool.Decides.{nat_tests}
+use Rattle.tx_tree.specs.ShapeSame.{Outside, out-of}
 use Rattle.tx_sums.specs.declared.sum_map.SumMap.{SumMap}
-use Rattle.tx_sums.specs.Sums.{tag_at, left_at, right_at, value_at, sum_at, value, LinksInside, HasWords, mended, spliced}
+use Rattle.tx_sums.specs.Sums.{pool, tag_at, left_at, right_at, value_at, sum_at, value, LinksInside, HasWords, mended, spliced}
 use Rattle.tx_sums.proofs.SumContents.{mended-value}
-use Rattle.tx_sums.proofs.SumRegions.{Outside, out-of, mended-outside}
+use Rattle.tx_sums.proofs.SumRegions.{mended-outside}
 use Rattle.tx_sums.proofs.SumTakes.{mended-length}
 
 -- what a change within the region leaves
 pub record Kept (r : SumMap) (m k : List ℕ) : Type 0 where
   pub words : HasWords r k
-  pub out : (x : ℕ) → Outside r x → get_or k x 0 ≡ get_or m x 0
+  pub out : (x : ℕ) → Outside (pool r) x → get_or k x 0 ≡ get_or m x 0
   pub long : length k ≡ length m
 
 pub kept-self : (r : SumMap) (m : List ℕ) → HasWords r m → Kept r m m
@@ -22,7 +23,7 @@ kept-self r m w = record { words = w; out = λ x o. refl; long = refl }
 pub kept-set : (r : SumMap) (m k : List ℕ) (a v : ℕ) → Kept r m k → r.at + 1 + 5 * r.cells ≤ length m → r.at ≤ a → a < r.at + 1 + 5 * r.cells → (v < 2 ^ 64) ⊎ ((i : ℕ) → value_at r i ≢ a) → Kept r m (set k a v)
 kept-set r m k a v w room lo hi ok = record {
   words = λ i lt. by ok i (w.words i lt) (value_at r i == a) refl;
-  out = λ x o. get_or-set_other k a x v 0 (out-of r x a o lo hi) ∙ w.out x o;
+  out = λ x o. get_or-set_other k a x v 0 (out-of (pool r) x a o lo hi) ∙ w.out x o;
   long = length-set k a v ∙ w.long;
 }
   where

@@ -1,8 +1,11 @@
--- A binary search tree in a memory whose cells have values and the sums of what is below them. A cell is named by its place j, from 0; a link to it is j + 1.
-use Rattle.std.specs.Prelude.{ℕ, zero, suc, ◌≡◌, ◌+◌, ◌-◌, ◌*◌, ◌%◌, ◌^◌, ◌<◌, ◌≤◌, ◌⊎◌, ◌==◌, ◌&&◌, ltb, leb, if◌then◌else◌, Bool, true, false, not, List, [], ◌∷◌, slice_index, slice_set, Option, Some, None}
+-- A tree (tx_tree's shape) in a memory whose cells have values and the sums of what is below them. A cell is named by its place j, from 0; a link to it is j + 1.
+use Rattle.std.specs.Prelude.{ℕ, zero, suc, ◌≡◌, ◌+◌, ◌-◌, ◌*◌, ◌%◌, ◌^◌, ◌<◌, ◌≤◌, ◌==◌, ◌&&◌, ltb, leb, if◌then◌else◌, Bool, true, false, not, List, [], ◌∷◌, slice_index, slice_set, Option, Some, None}
 use Rattle.tx_effects.specs.declared.position.Position.{Position}
 use Rattle.tx_effects.specs.Effects.{Effect, unchanged, changed}
 use Rattle.tx_effects.specs.Keys.{free_from, less_one}
+use Rattle.std.proofs.Common.{arith}
+use Rattle.tx_tree.specs.Shapes.{Pool, Ranges}
+use Rattle.tx_tree.specs.Shapes as shapes
 use Rattle.tx_sums.specs.declared.sum_map.SumMap.{SumMap}
 use Rattle.tx_sums.specs.declared.sum_map.Passed.{Passed}
 use Rattle.tx_sums.specs.declared.sum_map.MapPut.{MapPut}
@@ -59,51 +62,21 @@ abbrev pub sum_of : ℕ → ℕ → List (ℕ × ℕ) → ℕ
 sum_of lo hi [] = 0
 sum_of lo hi (p ∷ ps) = if leb lo p.0 && leb p.0 hi then p.1 + sum_of lo hi ps else sum_of lo hi ps
 
--- above every tag
-abbrev pub top : ℕ
-top = 2 ^ 32 + 1
+abbrev pub pool : SumMap → Pool
+pool r = record { at = r.at; cells = r.cells; width = 5; wide = omega arith }
 
--- of each used cell: the range of tags that it and the cells below it may have, and its rank
-pub record Ranges : Type 0 where
-  pub low : ℕ → ℕ
-  pub high : ℕ → ℕ
-  pub rank : ℕ → ℕ
-
-pub record Used (r : SumMap) (m : List ℕ) (k : ℕ) : Type 0 where
-  pub inside : k < r.cells
-  pub pos : 0 < tag r m k
-
-pub record Within (r : SumMap) (m : List ℕ) (l h k : ℕ) : Type 0 where
-  pub inside : k < r.cells
-  pub above : l < tag r m k
-  pub below : tag r m k < h
-
-abbrev pub LinkOf : SumMap → List ℕ → Ranges → ℕ → ℕ → ℕ → Type 0
-LinkOf r m g l h a =
-    ((a ≡ r.at) × (l ≡ 0) × (h ≡ top))
-    ⊎ (((i : ℕ) × (a ≡ left_at r i) × (l ≡ g.low i) × (h ≡ tag r m i) × Used r m i)
-    ⊎ ((i : ℕ) × (a ≡ right_at r i) × (l ≡ tag r m i) × (h ≡ g.high i) × Used r m i))
-
-abbrev pub Names : SumMap → List ℕ → Ranges → ℕ → ℕ → ℕ → Type 0
-Names r m g l h zero = (k : ℕ) → Within r m l h k → ⊥
-Names r m g l h (suc j) = Within r m l h j × (g.low j ≡ l) × (g.high j ≡ h)
-
-abbrev pub Bounds : SumMap → List ℕ → Ranges → ℕ → ℕ → ℕ → Type 0
-Bounds r m g end n l = (l ≡ end) ⊎ ((k : ℕ) × Used r m k × (tag r m k ≡ l) × (g.rank k < n))
+abbrev pub Used : SumMap → List ℕ → ℕ → Type 0
+Used r m k = shapes.Used (pool r) m k
 
 -- the sum of the values of the first n cells whose tags are between l and h
 abbrev pub sum_within : SumMap → List ℕ → ℕ → ℕ → ℕ → ℕ
 sum_within r m l h zero = 0
 sum_within r m l h (suc n) = if ltb l (tag r m n) && ltb (tag r m n) h then sum_within r m l h n + value r m n else sum_within r m l h n
 
--- as a tree's; the cells below a cell are those of its range, so its sum word is the sum over that range
+-- a tree, whose free cells have no value and no sum; the cells below a cell are those of its range, so its sum word is the sum over that range
 pub record Holds (r : SumMap) (m : List ℕ) (g : Ranges) : Type 0 where
-  pub names : (l h a : ℕ) → LinkOf r m g l h a → Names r m g l h (slice_index m a)
-  pub lows : (i : ℕ) → Used r m i → (g.low i < tag r m i) × Bounds r m g 0 (g.rank i) (g.low i)
-  pub highs : (i : ℕ) → Used r m i → (tag r m i < g.high i) × Bounds r m g top (g.rank i) (g.high i)
-  pub differ : (i j : ℕ) → Used r m i → Used r m j → tag r m i ≡ tag r m j → i ≡ j
-  pub spare : (i : ℕ) → i < r.cells → tag r m i ≡ 0 → (slice_index m (left_at r i) ≡ 0) × (slice_index m (right_at r i) ≡ 0) × (value r m i ≡ 0) × (slice_index m (sum_at r i) ≡ 0)
-  pub small : (i : ℕ) → i < r.cells → tag r m i < top
+  pub shape : shapes.Holds (pool r) m g
+  pub bare : (i : ℕ) → i < r.cells → tag r m i ≡ 0 → (value r m i ≡ 0) × (slice_index m (sum_at r i) ≡ 0)
   pub sums : (i : ℕ) → Used r m i → slice_index m (sum_at r i) ≡ sum_within r m (g.low i) (g.high i) r.cells % 2 ^ 64
 
 -- WELL FORMED
@@ -111,18 +84,13 @@ abbrev pub IsSumMap : SumMap → List ℕ → Type 0
 IsSumMap r m = (g : Ranges) × Holds r m g
 
 abbrev pub side_at : SumMap → List ℕ → ℕ → ℕ → ℕ
-side_at r m key j = if ltb key (tag r m j) then left_at r j else right_at r j
-
-abbrev pub found_by : SumMap → List ℕ → ℕ → ℕ → (ℕ → Position) → ℕ → Position
-found_by r m key a on zero = record { link = a; next = 0; tag = 0 }
-found_by r m key a on (suc j) = if tag r m j == suc key then record { link = a; next = suc j; tag = tag r m j } else on j
+side_at r m key j = shapes.side_at (pool r) m key j
 
 abbrev pub find : SumMap → List ℕ → ℕ → ℕ → ℕ → Position
-find r m key zero a = record { link = a; next = 0; tag = 0 }
-find r m key (suc n) a = found_by r m key a (λ j. find r m key n (side_at r m key j)) (slice_index m a)
+find r m key n a = shapes.find (pool r) m key n a
 
 abbrev pub position_of : SumMap → List ℕ → ℕ → Position
-position_of r m key = find r m key r.cells r.at
+position_of r m key = shapes.position_of (pool r) m key
 
 -- the sum word of the cell that a link names
 abbrev pub sum_under : SumMap → List ℕ → ℕ → ℕ
@@ -201,7 +169,7 @@ pub record HasKey (r : SumMap) (key j : ℕ) (m : List ℕ) : Type 0 where
 
 -- the address of a link: the root, or a link of a used cell
 abbrev pub IsLink : SumMap → List ℕ → ℕ → Type 0
-IsLink r m a = (a ≡ r.at) ⊎ ((i : ℕ) × Used r m i × ((a ≡ left_at r i) ⊎ (a ≡ right_at r i)))
+IsLink r m a = shapes.IsLink (pool r) m a
 
 -- the link a names the cell j, which has no value
 pub record IsEmptied (r : SumMap) (j a : ℕ) (m : List ℕ) : Type 0 where
@@ -230,13 +198,8 @@ abbrev pub retagged : SumMap → ℕ → ℕ → List ℕ → List ℕ
 retagged r x v m = slice_set m (tag_at r x) v
 
 -- the first cell from the link a on, to the left, that has nothing on its left
-abbrev pub leftmost_by : SumMap → List ℕ → ℕ → (ℕ → Position) → ℕ → Position
-leftmost_by r m a on zero = record { link = a; next = 0; tag = 0 }
-leftmost_by r m a on (suc j) = if slice_index m (left_at r j) == 0 then record { link = a; next = suc j; tag = tag r m j } else on j
-
 abbrev pub leftmost : SumMap → List ℕ → ℕ → ℕ → Position
-leftmost r m zero a = record { link = a; next = 0; tag = 0 }
-leftmost r m (suc n) a = leftmost_by r m a (λ j. leftmost r m n (left_at r j)) (slice_index m a)
+leftmost r m n a = shapes.leftmost (pool r) m n a
 
 -- the cell x, which has no value, takes that of y, which is on its right and has this key; the sums from there on to y lose it
 abbrev pub moved_up : SumMap → ℕ → ℕ → ℕ → List ℕ → List ℕ

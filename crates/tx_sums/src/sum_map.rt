@@ -3,7 +3,8 @@ ghost use Rattle.std.specs.Prelude.{◌≡◌, ◌<◌, ◌≤◌, ◌+◌, ◌*
 ghost use Rattle.stm_model.specs.Logs.{SameMemories, IsExplained, IsReadStop};
 ghost use Rattle.tx_effects.specs.Effects.{DoesOver, Under, Shows, Turns};
 ghost use Rattle.tx_effects.specs.Keys.{free_from};
-ghost use Rattle.tx_sums.specs.Sums.{SumMapFits, IsSumMap, LinksInside, tag, top, sum_within, sum_under, passed, position_of, summed_in, put_in, raised_in, mended_in, got_in, LinksFrom, HasKey, HasRight, IsEmptied, IsAt, replaced_in, leftmost, spliced, least_taken, taken_in, removed_in};
+ghost use Rattle.tx_tree.specs.Shapes.{top};
+ghost use Rattle.tx_sums.specs.Sums.{SumMapFits, IsSumMap, LinksInside, tag, sum_within, sum_under, passed, position_of, summed_in, put_in, raised_in, mended_in, got_in, LinksFrom, HasKey, HasRight, IsEmptied, IsAt, replaced_in, leftmost, spliced, least_taken, taken_in, removed_in};
 ghost use Rattle.tx_sums.specs.declared.sum_map.MapPut.TheVariants.{Replaced};
 
 use stm_model::access::Access;

@@ -1,8 +1,4 @@
-pub mod TreeLaws
-pub mod TreeOrder
-pub mod TreeInserts
-pub mod TreeRemovals
-pub mod TreeRetags
+pub mod TreeWrites
 pub mod TreeTakes
 pub mod TreeEffects
 pub mod TreeContents

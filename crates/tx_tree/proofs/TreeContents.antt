@@ -1,5 +1,5 @@
--- What inserts and removals do to the contents of a tree, and the empty tree.
-use Rattle.std.proofs.Common.{ℕ, zero, suc, ◌≡◌, ◌<◌, ◌≤◌, ◌≢◌, ◌+◌, ◌*◌, ◌^◌, List, length, set, replicate, Bool, true, false, refl, sym, ap, ◌∙◌, arith, subst, inr}
+-- What inserts and removals do to the contents of a tree.
+use Rattle.std.proofs.Common.{ℕ, zero, suc, ◌≡◌, ◌<◌, ◌≤◌, ◌≢◌, ◌+◌, ◌*◌, ◌^◌, List, length, set, Bool, true, false, refl, sym, ap, ◌∙◌, arith, subst, inr}
 use Rattle.std.specs.Prelude.{◌==◌, if◌then◌else◌, Option, Some, None, slice_index}
 use Rattle.std.proofs.Math.ListN.{length-set}
 use Rattle.std.proofs.lemmas.List.{get_or-set_same, get_or-set_other}
@@ -9,38 +9,23 @@ use Rattle.tx_effects.specs.declared.position.Position.{Position}
 use Rattle.tx_effects.specs.declared.insert.Insert.TheVariants.{Present}
 use Rattle.tx_effects.specs.Effects.{unchanged, changed}
 use Rattle.tx_effects.specs.Keys.{has, keys_after, with_key, without_key, with_tag, free_from, less_one}
-use Rattle.tx_effects.specs.EffectLaws.{zero-at}
 use Rattle.tx_effects.specs.KeyLaws.{free-is, keys-set, without-with, without-none, with-swap, how_many-most}
-use Rattle.tx_tree.specs.Trees.{tag_at, left_at, right_at, tag, keys, Ranges, Used, LinkOf, Names, Holds, IsTree, position_of, attached, spliced, retagged, leftmost, replaced, taken_out, inserted_by, inserted_in, removed_in}
-use Rattle.tx_tree.proofs.TreeLaws.{Found, has-found}
-use Rattle.tx_tree.proofs.TreeOrder.{link-inside}
-use Rattle.tx_tree.proofs.TreeTakes.{Leftmost, leftmost-found}
+use Rattle.tx_tree.specs.Shapes.{Ranges, Used, LinkOf, Names, Holds}
+use Rattle.tx_tree.specs.ShapeWalks.{Found, has-found}
+use Rattle.tx_tree.specs.ShapeOrder.{link-inside}
+use Rattle.tx_tree.specs.ShapeLeast.{Leftmost, leftmost-found}
+use Rattle.tx_tree.specs.Trees.{pool, tag_at, left_at, right_at, tag, keys, IsTree, position_of, attached, spliced, retagged, leftmost, replaced, taken_out, inserted_by, inserted_in, removed_in}
+use Rattle.tx_tree.proofs.TreeWrites.{spliced-tags, spliced-freed}
 use Rattle.tx_tree.proofs.TreeEffects.{found}
-
--- the memory of zeros has the empty tree
-pub zeros-tree : (r : Tree) (n : ℕ) → IsTree r (replicate n 0)
-zeros-tree r n =
-    let g : Ranges = record { low = λ i. 0; high = λ i. 0; rank = λ i. 0 } in
-    let no : (i : ℕ) → 0 < tag r (replicate n 0) i → ⊥ = λ i p. (let z = zero-at n (tag_at r i) in absurd (omega arith)) in (
-      g,
-      record {
-        names = λ l h a x. subst (Names r (replicate n 0) g l h) (sym (zero-at n a)) (λ i y. no i (let p = y.above in omega arith));
-        lows = λ i u. absurd (no i u.pos);
-        highs = λ i u. absurd (no i u.pos);
-        differ = λ i j u v e. absurd (no i u.pos);
-        spare = λ i lt z. (zero-at n (left_at r i), zero-at n (right_at r i));
-        small = λ i lt. let z = zero-at n (tag_at r i) in omega arith;
-      },
-    )
 
 pub inserted-keys : (r : Tree) (m : List ℕ) (key : ℕ) → IsTree r m → key < 2 ^ 32 → r.at + 1 + 3 * r.cells ≤ length m → keys r (inserted_in r key m).memory ≡ keys_after (inserted_in r key m).reply key (keys r m)
 inserted-keys r m key w small room = by (has key (keys r m)) (free_from (tag r m) 0 r.cells) refl
   where
-    f : Found r m w.0 key (position_of r m key)
+    f : Found (pool r) m w.0 key (position_of r m key)
     f = found r m key w small
 
     off : (j : ℕ) → (position_of r m key).link ≢ tag_at r j
-    off = (link-inside r m w.0 f.low f.high (position_of r m key).link f.link).0
+    off = (link-inside (pool r) m w.0 f.low f.high (position_of r m key).link f.link).0
 
     by : (t : Bool) (o : Option ℕ) → free_from (tag r m) 0 r.cells ≡ o → keys r (if t then unchanged Present m else inserted_by r key m o).memory ≡ keys_after (if t then unchanged Present m else inserted_by r key m o).reply key (keys r m)
     by true o q = refl
@@ -55,22 +40,9 @@ inserted-keys r m key w small room = by (has key (keys r m)) (free_from (tag r m
         (λ i l d. get_or-set_other (set m (tag_at r c) (suc key)) a (tag_at r i) (suc c) 0 (λ e. off i (sym e)) ∙ get_or-set_other m (tag_at r c) (tag_at r i) (suc key) 0 (λ e. d (omega arith))) (omega arith) z.1
         ∙ ap (λ t. with_tag t (keys r m)) new
 
--- a splice frees the cell, and leaves the other tags
-module _ (r : Tree) (m : List ℕ) (e y v : ℕ) (off : (j : ℕ) → e ≢ tag_at r j) where
-  spliced-tags : (i : ℕ) → i ≢ y → tag r (spliced r y e v m) i ≡ tag r m i
-  spliced-tags i q =
-      get_or-set_other (set (set (set m e v) (tag_at r y) 0) (left_at r y) 0) (right_at r y) (tag_at r i) 0 0 (λ z. absurd (omega arith))
-      ∙ (get_or-set_other (set (set m e v) (tag_at r y) 0) (left_at r y) (tag_at r i) 0 0 (λ z. absurd (omega arith))
-      ∙ (get_or-set_other (set m e v) (tag_at r y) (tag_at r i) 0 0 (λ z. q (omega arith)) ∙ get_or-set_other m e (tag_at r i) v 0 (λ z. off i (sym z))))
-
-  spliced-freed : y < r.cells → r.at + 1 + 3 * r.cells ≤ length m → tag r (spliced r y e v m) y ≡ 0
-  spliced-freed lt room =
-      get_or-set_other (set (set (set m e v) (tag_at r y) 0) (left_at r y) 0) (right_at r y) (tag_at r y) 0 0 (λ z. absurd (omega arith))
-      ∙ (get_or-set_other (set (set m e v) (tag_at r y) 0) (left_at r y) (tag_at r y) 0 0 (λ z. absurd (omega arith))
-      ∙ get_or-set_same (set m e v) (tag_at r y) 0 0 (simp length-set (omega arith)))
-
-  spliced-keys : (k : ℕ) → y < r.cells → r.at + 1 + 3 * r.cells ≤ length m → tag r m y ≡ suc k → keys r m ≡ with_key k (keys r (spliced r y e v m))
-  spliced-keys k lt room t = keys-set (tag r (spliced r y e v m)) (tag r m) y r.cells (λ i l d. sym (spliced-tags i d)) lt (spliced-freed lt room) ∙ ap (λ z. with_tag z (keys r (spliced r y e v m))) t
+spliced-keys : (r : Tree) (m : List ℕ) (e y v : ℕ) (off : (j : ℕ) → e ≢ tag_at r j) (k : ℕ) → y < r.cells → r.at + 1 + 3 * r.cells ≤ length m → tag r m y ≡ suc k → keys r m ≡ with_key k (keys r (spliced r y e v m))
+spliced-keys r m e y v off k lt room t =
+    keys-set (tag r (spliced r y e v m)) (tag r m) y r.cells (λ i l d. sym (spliced-tags r m e y v off i d)) lt (spliced-freed r m e y v off lt room) ∙ ap (λ z. with_tag z (keys r (spliced r y e v m))) t
 
 -- a tag that moves: the key goes, and another comes
 retagged-keys : (r : Tree) (m : List ℕ) (x k v : ℕ) → x < r.cells → r.at + 1 + 3 * r.cells ≤ length m → tag r m x ≡ suc k → with_key k (keys r (retagged r x (suc v) m)) ≡ with_key v (keys r m)
@@ -85,37 +57,37 @@ retagged-keys r m x k v lt room t =
     let two : keys r n ≡ with_key v (keys r b) = keys-set (tag r b) (tag r n) x r.cells (λ i l d. offn i d ∙ sym (off i d)) lt zero' ∙ ap (λ z. with_tag z (keys r b)) new in
     ap (with_key k) two ∙ (with-swap k v (keys r b) ∙ ap (with_key v) (sym one))
 
-taken-keys : (r : Tree) (m : List ℕ) (g : Ranges) (l h e x key : ℕ) → Holds r m g → LinkOf r m g l h e → slice_index m e ≡ suc x → tag r m x ≡ suc key → r.at + 1 + 3 * r.cells ≤ length m
+taken-keys : (r : Tree) (m : List ℕ) (g : Ranges) (l h e x key : ℕ) → Holds (pool r) m g → LinkOf (pool r) m g l h e → slice_index m e ≡ suc x → tag r m x ≡ suc key → r.at + 1 + 3 * r.cells ≤ length m
     → keys r m ≡ with_key key (keys r (taken_out r x e m))
 taken-keys r m g l h e x key w k named t room = by (slice_index m (left_at r x) == 0) (slice_index m (right_at r x) == 0) refl
   where
-    names : Names r m g l h (suc x)
-    names = subst (Names r m g l h) named (w.names l h e k)
+    names : Names (pool r) m g l h (suc x)
+    names = subst (Names (pool r) m g l h) named (w.names l h e k)
 
-    u : Used r m x
+    u : Used (pool r) m x
     u = record { inside = names.0.inside; pos = omega arith }
 
-    rl : LinkOf r m g (tag r m x) (g.high x) (right_at r x)
+    rl : LinkOf (pool r) m g (tag r m x) (g.high x) (right_at r x)
     rl = inr (inr (x, refl, refl, refl, u))
 
     off : (j : ℕ) → e ≢ tag_at r j
-    off = (link-inside r m g l h e k).0
+    off = (link-inside (pool r) m g l h e k).0
 
-    both : (s : Position) → Leftmost r m g (tag r m x) (g.high x) s → slice_index m (right_at r x) ≢ 0 → keys r m ≡ with_key key (keys r (replaced r x s m))
+    both : (s : Position) → Leftmost (pool r) m g (tag r m x) (g.high x) s → slice_index m (right_at r x) ≢ 0 → keys r m ≡ with_key key (keys r (replaced r x s m))
     both s f d = at s.next refl (slice_index m (right_at r x)) refl (w.names (tag r m x) (g.high x) (right_at r x) rl)
       where
-        at : (n : ℕ) → s.next ≡ n → (v : ℕ) → slice_index m (right_at r x) ≡ v → Names r m g (tag r m x) (g.high x) v → keys r m ≡ with_key key (keys r (replaced r x s m))
+        at : (n : ℕ) → s.next ≡ n → (v : ℕ) → slice_index m (right_at r x) ≡ v → Names (pool r) m g (tag r m x) (g.high x) v → keys r m ≡ with_key key (keys r (replaced r x s m))
         at n c zero q nm = absurd (d q)
         at zero c (suc j) q nm = absurd (f.none c j nm.0)
         at (suc y) c (suc j) q nm = tagged (tag r m y) refl
           where
-            ny : Names r m g (tag r m x) f.high (suc y)
-            ny = subst (Names r m g (tag r m x) f.high) (f.word ∙ c) (w.names (tag r m x) f.high s.link f.link)
+            ny : Names (pool r) m g (tag r m x) f.high (suc y)
+            ny = subst (Names (pool r) m g (tag r m x) f.high) (f.word ∙ c) (w.names (tag r m x) f.high s.link f.link)
 
             tagged : (v : ℕ) → tag r m y ≡ v → keys r m ≡ with_key key (keys r (replaced r x s m))
             tagged zero z = let a = ny.0.above in absurd (omega arith)
             tagged (suc ky) z =
-                let o = (link-inside r m g (tag r m x) f.high s.link f.link).0 in
+                let o = (link-inside (pool r) m g (tag r m x) f.high s.link f.link).0 in
                 let v : ℕ = slice_index m (right_at r y) in
                 let k1 : List ℕ = spliced r y s.link v m in
                 let xy : x ≢ y = λ q. (let a : tag r m x ≡ tag r m y = ap (tag r m) q in let b = ny.0.above in absurd (omega arith)) in
@@ -132,12 +104,12 @@ taken-keys r m g l h e x key w k named t room = by (slice_index m (left_at r x) 
         → keys r m ≡ with_key key (keys r (if b then spliced r x e (slice_index m (right_at r x)) m else (if c then spliced r x e (slice_index m (left_at r x)) m else replaced r x (leftmost r m r.cells (right_at r x)) m)))
     by true c q = spliced-keys r m e x (slice_index m (right_at r x)) off key names.0.inside room t
     by false true q = spliced-keys r m e x (slice_index m (left_at r x)) off key names.0.inside room t
-    by false false q = both (leftmost r m r.cells (right_at r x)) (leftmost-found r m g r.cells (tag r m x) (g.high x) (right_at r x) w rl (how_many-most _ r.cells)) (grind (arith, nat_tests))
+    by false false q = both (leftmost r m r.cells (right_at r x)) (leftmost-found (pool r) m g r.cells (tag r m x) (g.high x) (right_at r x) w rl (how_many-most _ r.cells)) (grind (arith, nat_tests))
 
 pub removed-keys : (r : Tree) (m : List ℕ) (key : ℕ) → IsTree r m → key < 2 ^ 32 → r.at + 1 + 3 * r.cells ≤ length m → keys r (removed_in r key m).memory ≡ without_key key (keys r m)
 removed-keys r m key w small room = by (has key (keys r m)) refl
   where
-    f : Found r m w.0 key (position_of r m key)
+    f : Found (pool r) m w.0 key (position_of r m key)
     f = found r m key w small
 
     by : (t : Bool) → has key (keys r m) ≡ t → keys r (if t then changed true (taken_out r (less_one (position_of r m key).next) (position_of r m key).link m) else unchanged false m).memory ≡ without_key key (keys r m)
@@ -145,7 +117,7 @@ removed-keys r m key w small room = by (has key (keys r m)) refl
     by true h = at (position_of r m key).next refl
       where
         u : (position_of r m key).tag ≡ suc key
-        u = let q : ((position_of r m key).tag == suc key) ≡ true = has-found r m w.0 key (position_of r m key) w.1 f ∙ h in grind (arith, nat_tests)
+        u = let q : ((position_of r m key).tag == suc key) ≡ true = has-found (pool r) m w.0 key (position_of r m key) w.1 f ∙ h in grind (arith, nat_tests)
 
         at : (n : ℕ) → (position_of r m key).next ≡ n → keys r (taken_out r (less_one (position_of r m key).next) (position_of r m key).link m) ≡ without_key key (keys r m)
         at zero e = let z = f.none e in let y = u in absurd (omega arith)

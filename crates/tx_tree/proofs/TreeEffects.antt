@@ -1,24 +1,28 @@
 -- What the calls on trees do to a memory.
-use Rattle.std.proofs.Common.{ℕ, zero, suc, ◌≡◌, ◌<◌, ◌≤◌, ◌≢◌, ◌+◌, ◌*◌, ◌^◌, List, length, set, Bool, true, false, refl, sym, ap, ◌∙◌, arith, subst}
+use Rattle.std.proofs.Common.{ℕ, zero, suc, ◌≡◌, ◌<◌, ◌≤◌, ◌≢◌, ◌+◌, ◌-◌, ◌*◌, ◌^◌, List, length, set, Bool, true, false, refl, sym, ap, ◌∙◌, arith, subst}
 use Rattle.std.specs.Prelude.{◌==◌, if◌then◌else◌, Option, Some, None, slice_index}
 use Rattle.std.proofs.lemmas.Bool.Decides.{nat_tests}
 use Rattle.tx_tree.specs.declared.tree.Tree.{Tree}
 use Rattle.tx_effects.specs.declared.position.Position.{Position}
 use Rattle.tx_effects.specs.declared.insert.Insert.TheVariants.{Added, Present, NoRoom}
-use Rattle.tx_effects.specs.Effects.{unchanged, changed}
+use Rattle.stm_model.specs.Logs.{Log, SameMemories}
+use Rattle.tx_effects.specs.Effects.{unchanged, changed, Under, DoesOver}
+use Rattle.tx_effects.specs.EffectLaws.{under-after}
 use Rattle.tx_effects.specs.Keys.{has, free_from, less_one}
 use Rattle.tx_effects.specs.KeyLaws.{has-yes, free-is}
-use Rattle.tx_tree.specs.Trees.{tag, tag_at, left_at, right_at, top, keys, IsTree, position_of, spliced, retagged, leftmost, taken_out, contained_in, inserted_by, inserted_in, removed_in}
-use Rattle.tx_tree.proofs.TreeLaws.{Found, position-found, has-found}
-use Rattle.tx_tree.proofs.TreeInserts.{attached-keeps}
-use Rattle.tx_tree.proofs.TreeTakes.{leftmost-some, taken_out-keeps}
+use Rattle.tx_tree.specs.Shapes.{top}
+use Rattle.tx_tree.specs.ShapeWalks.{Found, position-found, has-found}
+use Rattle.tx_tree.specs.ShapeLeast.{leftmost-some}
+use Rattle.tx_tree.specs.Trees.{pool, tag, tag_at, left_at, right_at, keys, IsTree, position_of, spliced, retagged, leftmost, taken_out, contained_in, inserted_by, inserted_in, removed_in}
+use Rattle.tx_tree.proofs.TreeWrites.{attached-keeps}
+use Rattle.tx_tree.proofs.TreeTakes.{taken_out-keeps}
 
 module _ (r : Tree) (m : List ℕ) (key : ℕ) (w : IsTree r m) (small : key < 2 ^ 32) where
-  pub found : Found r m w.0 key (position_of r m key)
-  found = position-found r m w.0 key w.1 small
+  pub found : Found (pool r) m w.0 key (position_of r m key)
+  found = position-found (pool r) m w.0 key w.1 small
 
   there : (t : Bool) → ((position_of r m key).tag == suc key) ≡ t → has key (keys r m) ≡ t
-  there t q = sym (has-found r m w.0 key (position_of r m key) w.1 found) ∙ q
+  there t q = sym (has-found (pool r) m w.0 key (position_of r m key) w.1 found) ∙ q
 
   pub contained : (s : Position) → s ≡ position_of r m key → contained_in r key m ≡ unchanged (s.tag == key + 1) m
   contained s e = let q : key + 1 ≡ suc key = omega arith in let h = there ((position_of r m key).tag == suc key) refl in rw (h, e, q) refl
@@ -87,7 +91,7 @@ module _ (r : Tree) (m : List ℕ) (key : ℕ) (w : IsTree r m) (small : key < 2
     least-some v p lt b o l =
         let z = found.some c (ap (λ x. x.next) (sym e) ∙ n) in
         let q = z.1 in
-        subst (λ x. (x.next ≡ 0 → ⊥) × (x.tag < top)) (sym l) (leftmost-some r m w.0 c w.1 (record { inside = lt; pos = omega arith }) (λ y. o (b ∙ y)))
+        subst (λ x. (x.next ≡ 0 → ⊥) × (x.tag < top)) (sym l) (leftmost-some (pool r) m w.0 c w.1 (record { inside = lt; pos = omega arith }) (λ y. o (b ∙ y)))
 
   pub removed-keeps : r.at + 1 + 3 * r.cells ≤ length m → IsTree r (removed_in r key m).memory
   removed-keeps room = by (has key (keys r m)) refl
@@ -97,8 +101,18 @@ module _ (r : Tree) (m : List ℕ) (key : ℕ) (w : IsTree r m) (small : key < 2
       by true h = at (position_of r m key).next refl
         where
           u : (position_of r m key).tag ≡ suc key
-          u = let q : ((position_of r m key).tag == suc key) ≡ true = has-found r m w.0 key (position_of r m key) w.1 found ∙ h in grind (arith, nat_tests)
+          u = let q : ((position_of r m key).tag == suc key) ≡ true = has-found (pool r) m w.0 key (position_of r m key) w.1 found ∙ h in grind (arith, nat_tests)
 
           at : (n : ℕ) → (position_of r m key).next ≡ n → IsTree r (taken_out r (less_one (position_of r m key).next) (position_of r m key).link m)
           at zero e = let z = found.none e in let y = u in absurd (omega arith)
           at (suc c) e = rw e (taken_out-keeps r m w.0 found.low found.high (position_of r m key).link c w.1 found.link (found.word ∙ e) room)
+
+-- a removal has found the key, and read the links of its cell
+pub record Opened (r : Tree) (key : ℕ) (s : Position) (u v : ℕ) (m : List ℕ) : Type 0 where
+  pub place : s ≡ position_of r m key
+  pub left : u ≡ slice_index m (left_at r (s.next - 1))
+  pub right : v ≡ slice_index m (right_at r (s.next - 1))
+
+-- a removal keeps the tree, in a memory that code holds
+pub removal-keeps : (good good' : List ℕ → Type 0) (words words' : ℕ) (log log' : Log) (r : Tree) (key : ℕ) (b : Bool) → key < 2 ^ 32 → r.at + 1 + 3 * r.cells ≤ words → Under good words log (IsTree r) → DoesOver good words (removed_in r key) log b log' → SameMemories good good' → words' ≡ words → Under good' words' log' (IsTree r)
+removal-keeps good good' words words' log log' r key b small room well does same long = under-after good words log (removed_in r key) _ _ _ b (IsTree r) (IsTree r) does well same long (λ m len w. removed-keeps r m key w small (omega arith))

@@ -1,4 +1,4 @@
-use Rattle.std.proofs.Common.{◌≡◌, ◌≢◌, ◌<◌, ◌≤◌, ◌+◌, subst, sym, ap, refl, true, false, rules, ◌∙◌}
+use Rattle.std.proofs.Common.{◌≡◌, ◌≢◌, ◌<◌, ◌≤◌, ◌+◌, subst, sym, ap, refl, true, false, rules, ◌∙◌, length, arith}
 use Rattle.stm_model.specs.declared.config.TheConstants.{CLOCK_LIMIT}
 use Rattle.rule_orec.specs.OrecSteps.{orec_limit, orec_commit}
 use Rattle.stm_rule.specs.declared.local.Local.{Local}
@@ -10,8 +10,9 @@ use Rattle.steps_orec.specs.RecordFindings.{FindsClock, FindsCommit}
 use Rattle.tx_answers.specs.declared.answers.Commit.TheVariants as commits
 use Rattle.tx_answers.specs.Answers as answers
 use Rattle.tx_answers.specs.Known.{known_of}
+use Rattle.rule_base.specs.declared.seats.SeatView.{SeatView}
 use Rattle.alg_orec.proofs.EntryLaws as laws
-use Rattle.alg_orec.proofs.Proving.{own-ready, own-stopped}
+use Rattle.alg_orec.proofs.Proving.{own-ready, own-stopped, lazy-of}
 use Rattle.alg_orec.proofs.committing.commit_writes.Goals as goal
 
 pub roll_back-requires-clause-view : goal.roll_back-requires-clause-view
@@ -50,7 +51,7 @@ returns-in-Err-clause-stands g c =
     let s = c.in-Err.ensures.prepares in
     let r = c.roll_back.ensures in
     let z = c.roll_back.new.seat.me.0.view in
-    subst (λ (q : Local). Stands good f n q z) (sym r.idle) (laws.ended-stands good f n (record m { committing = false }) z (laws.stopped-lengths l m s.local s.len can.lengths) r.gives_up.outside)
+    subst (λ (q : Local). Stands good f n q z) (sym r.idle) (laws.ended-stands good f n (record m { committing = false }) z (laws.stopped-lengths f l m s.local s.len can.lengths) r.gives_up.outside)
 
 pub limit-clock-requires-clause-view : goal.limit-clock-requires-clause-view
 limit-clock-requires-clause-view g c =
@@ -257,3 +258,52 @@ returns-clause-stands g c =
     let b = c.finish.ensures in
     let z = c.finish.new.seat.me.0.view in
     subst (λ (q : Local). Stands good f n q z) (sym b.idle) (laws.ended-stands good f n (record m { committing = false }) z (laws.can-ready good f n low l v can o refl m w.view r).lengths b.finishes.outside)
+
+pub returns-in-Err-clause-steps : goal.returns-in-Err-clause-steps
+returns-in-Err-clause-steps g c =
+    let few = c.in-Err.ensures.prepares.few in
+    let prepared = c.prepare.ensures.steps in
+    let back = c.roll_back.ensures.steps in
+    omega arith
+
+pub returns-then-start-ge-CLOCK_LIMIT-clause-steps : goal.returns-then-start-ge-CLOCK_LIMIT-clause-steps
+returns-then-start-ge-CLOCK_LIMIT-clause-steps g c =
+    let f = c.args.stm.now.config in
+    let good = g.K.MemRule.good c.args.stm.now.rule in
+    let n = c.args.caller in
+    let low = c.requires.caller in
+    let l = c.args.local.now in
+    let v = c.args.seat.now.me.0.view in
+    let o = own_of l in
+    let can = c.requires.attempt in
+    let m = c.prepare.new.local in
+    let w = c.prepare.new.seat.me.0 in
+    let r = c.in_default.ensures.prepares in
+    let ready = laws.can-ready good f n low l v can o refl m w.view r in
+    let few = (lazy-of good f n (record m { committing = true }) w.view ready.inside ready.lazy ready.plain).few in
+    let words = ap (λ (x : Local). x.writes.len) r.local in
+    let prepared = c.prepare.ensures.steps in
+    let looked = ap (λ (y : SeatView g.row.K.Denot). length y.view.steps.trail) c.limit-clock.ensures.step.3 in
+    let back = c.roll_back-then-start-ge-CLOCK_LIMIT.ensures.steps in
+    omega arith
+
+pub returns-clause-steps : goal.returns-clause-steps
+returns-clause-steps g c =
+    let f = c.args.stm.now.config in
+    let good = g.K.MemRule.good c.args.stm.now.rule in
+    let n = c.args.caller in
+    let low = c.requires.caller in
+    let l = c.args.local.now in
+    let v = c.args.seat.now.me.0.view in
+    let o = own_of l in
+    let can = c.requires.attempt in
+    let m = c.prepare.new.local in
+    let w = c.prepare.new.seat.me.0 in
+    let r = c.in_default.ensures.prepares in
+    let ready = laws.can-ready good f n low l v can o refl m w.view r in
+    let few = (lazy-of good f n (record m { committing = true }) w.view ready.inside ready.lazy ready.plain).few in
+    let words = ap (λ (x : Local). x.writes.len) r.local in
+    let prepared = c.prepare.ensures.steps in
+    let entered = ap (λ (y : SeatView g.row.K.Denot). length y.view.steps.trail) c.commit-now.ensures.step.3 in
+    let finished = c.finish.ensures.steps in
+    grind (arith, few, words, prepared, entered, finished)

@@ -1,4 +1,4 @@
-use Rattle.std.proofs.Common.{◌≡◌, subst, sym, ap, refl, true, false, rules}
+use Rattle.std.proofs.Common.{◌≡◌, subst, sym, ap, refl, true, false, rules, ◌≤◌, length, arith}
 use Rattle.stm_model.specs.declared.alg.Alg.TheVariants.{OrecEager}
 use Rattle.rule_base.specs.declared.seats.SeatView.{SeatView}
 use Rattle.stm_rule.specs.declared.local.Local.{Local}
@@ -6,10 +6,11 @@ use Rattle.stm_rule.specs.Attempts.{own_of}
 use Rattle.stm_rule.specs.Callers.{Handle, handle_of}
 use Rattle.tx_answers.specs.declared.answers.Cancel.TheVariants.{Cancelled}
 use Rattle.tx_answers.specs.Answers.{Cancels}
-use Rattle.tx_answers.specs.Known.{known_of, is_irrevocable}
+use Rattle.tx_answers.specs.Known.{known_of, is_irrevocable, held_limit}
 use Rattle.stm_gate.specs.Knowing.{known}
 use Rattle.stm_gate.specs.Standing.{runs-of}
 use Rattle.stm_gate.specs.Told.{told}
+use Rattle.alg_orec.proofs.EagerProving.{held-within}
 use Rattle.alg_orec.proofs.EagerCommitLaws as laws
 use Rattle.alg_orec.proofs.EagerProving as proving
 use Rattle.alg_orec.proofs.eager_committing.cancel.Goals as goal
@@ -58,4 +59,21 @@ returns-clause-cancels g c =
     let r = c.take_back.ensures in
     let w = c.take_back.new.seat.me.0 in
     told (λ n v w. Cancels good f n (Cancelled d.local.start) v w) (handle_of d.seat o) c.args.desc.now d.number w c.take_back.new.local c.desc.view_is (ap (λ (y : SeatView g.row.K.Denot). y.who) r.same.1) c.desc.invariant.0.named
-    (subst (λ (m : Local). Cancels good f d.number (Cancelled d.local.start) (known_of s.view o) (known_of w.view (own_of m))) (sym r.idle) (laws.tells-cancelled good f d.number d.local s.view i eager plain w.view o r.takes_back))
+    (subst (λ (m : Local). Cancels good f d.number (Cancelled d.local.start) (known_of s.view o) (known_of w.view (own_of m))) (sym r.idle) (laws.tells-cancelled good f d.number d.local s.view i eager plain w.view o refl r.takes_back))
+
+pub returns-clause-steps : goal.returns-clause-steps
+returns-clause-steps g c =
+    let f = c.args.stm.now.config in
+    let good = g.K.MemRule.good c.args.stm.now.rule in
+    let d = c.desc.inside in
+    let s = d.seat.me.0 in
+    let o = own_of d.local in
+    let i = runs-of g.K.MemRule.good f c.args.stm.now.rule (handle_of d.seat o) c.args.desc.now d.number d.local c.desc.view_is c.requires.stm.config c.requires.stm.rule c.requires.running c.desc.invariant.1 in
+    let eager = subst (λ (h : Handle g.row.K.Denot). (known h).alg ≡ OrecEager) (sym c.desc.view_is) c.requires.algorithm in
+    let plain : d.local.granted ≡ false = search rules in
+    let within : length d.local.locks.items ≤ held_limit f (known (handle_of d.seat o)) = held-within f d.local s.view (laws.k good f d.number d.local s.view i eager plain) in
+    let first = ap (λ (p : Handle g.row.K.Denot). length (known p).trail) c.desc.view_is in
+    let held = ap (λ (p : Handle g.row.K.Denot). held_limit f (known p)) c.desc.view_is in
+    let words = ap (λ (p : Handle g.row.K.Denot). (known p).writes_limit) c.desc.view_is in
+    let back = c.take_back.ensures.steps in
+    omega arith

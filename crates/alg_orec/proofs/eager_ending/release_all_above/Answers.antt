@@ -108,5 +108,5 @@ pub returns-clause-steps : goal.returns-clause-steps
 returns-clause-steps g c =
     let q = c.loop-i.invariant.steps in
     let k = c.count-i-end.ensures in
-    let most : c.loop-i.i ≤ c.args.local.now.locks.len = omega (arith, c.loop-i.auto.i-end, k) in
+    let most : c.loop-i.i ≤ length c.args.local.now.locks.items = omega (arith, c.loop-i.auto.i-end, k) in
     omega arith

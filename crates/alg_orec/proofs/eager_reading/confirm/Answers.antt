@@ -1,4 +1,4 @@
-use Rattle.std.proofs.Common.{ℕ, ◌≡◌, ◌≢◌, ◌<◌, refl, subst, sym, ap, rules, ◌∙◌}
+use Rattle.std.proofs.Common.{ℕ, ◌≡◌, ◌≢◌, ◌<◌, refl, subst, sym, ap, rules, ◌∙◌, ◌≤◌, length, arith}
 use Rattle.std.specs.Prelude.{◌^◌, ◌%◌}
 use Rattle.stm_model.specs.declared.config.Config.{Config}
 use Rattle.stm_model.specs.declared.stop.Cause.TheVariants as causes
@@ -13,9 +13,10 @@ use Rattle.stm_rule.specs.StandLemmas.{tells-of}
 use Rattle.steps_orec.specs.RecordFindings.{FindsAgain}
 use Rattle.tx_answers.specs.declared.answers.Read.TheVariants as reads
 use Rattle.tx_answers.specs.Answers.{HasRead}
-use Rattle.tx_answers.specs.Known.{known_of}
+use Rattle.tx_answers.specs.Known.{known_of, held_limit}
 use Rattle.stm_gate.specs.Knowing.{known}
 use Rattle.stm_gate.specs.Told.{told}
+use Rattle.alg_orec.proofs.EagerProving.{held-within}
 use Rattle.alg_orec.proofs.EagerCalls.{runs-eager, stays-tied}
 use Rattle.alg_orec.proofs.EagerLaws as eager
 use Rattle.alg_orec.proofs.EagerReadLaws as laws
@@ -139,3 +140,18 @@ returns-clause-confirms g c =
           (subst (λ (p : Own). HasRead good f d.number a (reads.Value x) (known_of s.view o) (known_of u.view p)) (sym (calls.own-read d.local d.local a x c.push.new.self refl is))
           (eager.reads-new good f d.number d.local s.view runs a x d.local u.view small c.requires.inside unwritten unread room read)),
     )
+
+pub returns-then-after-word-clause-steps : goal.returns-then-after-word-clause-steps
+returns-then-after-word-clause-steps g c =
+    let f = c.args.stm.now.config in
+    let d = c.desc.inside in
+    let s = d.seat.me.0 in
+    let h = handle_of d.seat (own_of d.local) in
+    let runs = runs-eager g.K.MemRule.good f c.args.stm.now.rule d.number d.local (handle_of d.seat (own_of d.local)) c.args.desc.now refl c.desc.view_is c.requires.stm.config c.requires.stm.rule c.requires.running c.requires.algorithm c.requires.revocable c.desc.invariant.1 in
+    let within : length d.local.locks.items ≤ held_limit f (known h) = held-within f d.local s.view runs.kept in
+    let first = ap (λ (p : Handle g.row.K.Denot). length (known p).trail) c.desc.view_is in
+    let held = ap (λ (p : Handle g.row.K.Denot). held_limit f (known p)) c.desc.view_is in
+    let words = ap (λ (p : Handle g.row.K.Denot). (known p).writes_limit) c.desc.view_is in
+    let step = ap (λ (y : SeatView g.row.K.Denot). length y.view.steps.trail) c.confirm-after.ensures.step.3 in
+    let back = c.take_back.ensures.steps in
+    omega arith

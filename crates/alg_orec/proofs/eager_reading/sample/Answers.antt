@@ -1,4 +1,4 @@
-use Rattle.std.proofs.Common.{ℕ, ◌≡◌, ◌≢◌, length, subst, sym, ap, true, rules, ◌∙◌, refl}
+use Rattle.std.proofs.Common.{ℕ, ◌≡◌, ◌≢◌, length, subst, sym, ap, true, rules, ◌∙◌, refl, arith, ◌≤◌}
 use Rattle.std.specs.Prelude.{◌%◌, None}
 use Rattle.std.specs.Option.{is_some}
 use Rattle.stm_model.specs.Memories.{item_at}
@@ -6,13 +6,14 @@ use Rattle.rule_base.specs.declared.seats.SeatView.{SeatView}
 use Rattle.rule_base.specs.declared.views.View.{View}
 use Rattle.rule_base.specs.Own.{Own}
 use Rattle.stm_rule.specs.declared.local.Local.{Local}
-use Rattle.stm_rule.specs.Attempts.{SameLengths, own_of}
+use Rattle.stm_rule.specs.Attempts.{HasRoom, own_of}
 use Rattle.stm_rule.specs.Callers.{Handle, handle_of}
 use Rattle.tx_answers.specs.declared.answers.Read.TheVariants as reads
 use Rattle.tx_answers.specs.Answers.{HasRead}
-use Rattle.tx_answers.specs.Known.{known_of}
+use Rattle.tx_answers.specs.Known.{known_of, held_limit}
 use Rattle.stm_gate.specs.Knowing.{known}
 use Rattle.stm_gate.specs.Told.{told}
+use Rattle.alg_orec.proofs.EagerProving.{held-within}
 use Rattle.alg_orec.proofs.EagerCalls.{runs-eager, stays-tied}
 use Rattle.alg_orec.proofs.EagerLaws as eager
 use Rattle.alg_orec.proofs.EagerReadLaws as laws
@@ -100,7 +101,9 @@ invariant_of-desc-in-Ok g c =
     let seated = c.sample_valid.ensures.same.1 in
     let who = ap (λ (y : SeatView g.row.K.Denot). y.who) seated in
     let sampled = c.in-Ok.ensures.samples in
-    let lengths : SameLengths m = (ap (λ (y : Local). y.writes.len) sampled.local ∙ (c.desc.invariant.1.lengths.0 ∙ sym (ap (λ (y : Local). y.undo.len) sampled.local)), ap (λ (y : Local). y.locks.len) sampled.local ∙ (c.desc.invariant.1.lengths.1 ∙ sym (ap (λ (y : Local). y.undo.len) sampled.local))) in
+    let undo = ap (λ (y : Local). y.undo.len) sampled.local in
+    let locks = ap (λ (y : Local). y.locks.len) sampled.local in
+    let lengths : HasRoom s.who.config m = (ap (λ (y : Local). y.writes.len) sampled.local ∙ (c.desc.invariant.1.lengths.0 ∙ sym undo), (let r = c.desc.invariant.1.lengths.1 in omega arith), (let r = c.desc.invariant.1.lengths.2 in omega arith)) in
     stays-tied g.K.MemRule.good f c.args.stm.now.rule d.number d.local (handle_of d.seat (own_of d.local)) c.args.desc.now refl c.desc.view_is c.requires.stm.config c.requires.stm.rule m d.seat.me c.sample_valid.new.seat.me refl c.desc.invariant.0 c.desc.invariant.1 runs.inside.phase
     who (ap (λ (y : SeatView g.row.K.Denot). y.gathered) seated) c.sample_valid.ensures.same.0.2 (ap (λ (y : Local). y.running) sampled.local) (ap (λ (y : Local). y.holds) sampled.local) lengths (ap (λ (y : View). y.gate.holds) sampled.is)
     (laws.stays-sampled good f d.number d.local s.view runs a c.in-Ok.word m u.view sampled)
@@ -165,3 +168,36 @@ returns-in-Err-clause-samples g c =
     told (λ n v w. HasRead good f n a (reads.Conflict cause) v w) h e d.number w c.take_back-in-Err.new.local c.desc.view_is (ap (λ (y : SeatView g.row.K.Denot). y.who) b.same.1 ∙ who) c.desc.invariant.0.named
     (subst (λ (p : Own). HasRead good f d.number a (reads.Conflict cause) (known_of s.view o) (known_of w.view p)) (sym (calls.ended-moved d.local m c.take_back-in-Err.new.local runs.quiet refused.local b.idle))
     (eager.reads-refused good f d.number d.local s.view runs a cause m u.view w.view unwritten unread room refused b.takes_back))
+
+pub returns-then-count-limit-clause-steps : goal.returns-then-count-limit-clause-steps
+returns-then-count-limit-clause-steps g c =
+    let f = c.args.stm.now.config in
+    let d = c.desc.inside in
+    let s = d.seat.me.0 in
+    let h = handle_of d.seat (own_of d.local) in
+    let runs = runs-eager g.K.MemRule.good f c.args.stm.now.rule d.number d.local (handle_of d.seat (own_of d.local)) c.args.desc.now refl c.desc.view_is c.requires.stm.config c.requires.stm.rule c.requires.running c.requires.algorithm c.requires.revocable c.desc.invariant.1 in
+    let within : length d.local.locks.items ≤ held_limit f (known h) = held-within f d.local s.view runs.kept in
+    let first = ap (λ (p : Handle g.row.K.Denot). length (known p).trail) c.desc.view_is in
+    let held = ap (λ (p : Handle g.row.K.Denot). held_limit f (known p)) c.desc.view_is in
+    let words = ap (λ (p : Handle g.row.K.Denot). (known p).writes_limit) c.desc.view_is in
+    let back = c.take_back.ensures.steps in
+    omega arith
+
+pub returns-in-Err-clause-steps : goal.returns-in-Err-clause-steps
+returns-in-Err-clause-steps g c =
+    let f = c.args.stm.now.config in
+    let d = c.desc.inside in
+    let s = d.seat.me.0 in
+    let h = handle_of d.seat (own_of d.local) in
+    let runs = runs-eager g.K.MemRule.good f c.args.stm.now.rule d.number d.local (handle_of d.seat (own_of d.local)) c.args.desc.now refl c.desc.view_is c.requires.stm.config c.requires.stm.rule c.requires.running c.requires.algorithm c.requires.revocable c.desc.invariant.1 in
+    let within : length d.local.locks.items ≤ held_limit f (known h) = held-within f d.local s.view runs.kept in
+    let first = ap (λ (p : Handle g.row.K.Denot). length (known p).trail) c.desc.view_is in
+    let held = ap (λ (p : Handle g.row.K.Denot). held_limit f (known p)) c.desc.view_is in
+    let words = ap (λ (p : Handle g.row.K.Denot). (known p).writes_limit) c.desc.view_is in
+    let reads = ap (λ (p : Handle g.row.K.Denot). (known p).reads_limit) c.desc.view_is in
+    let m = c.in-Err.ensures.samples.local in
+    let locks = ap (λ (x : Local). length x.locks.items) m in
+    let undo = ap (λ (x : Local). x.undo.len) m in
+    let sampled = c.sample_valid.ensures.steps in
+    let back = c.take_back-in-Err.ensures.steps in
+    omega arith

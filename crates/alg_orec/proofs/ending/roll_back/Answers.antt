@@ -128,15 +128,5 @@ returns-clause-steps g c =
     let e = ap (λ (y : SeatView g.row.K.Denot). length y.view.steps.trail) c.leave.ensures.left in
     let two = takes-left c.args.caller s in
     let q = c.loop-i.invariant.steps in
-    let k = c.count-i-end.ensures in let most : c.loop-i.i ≤ c.args.local.now.locks.len = omega (arith, c.loop-i.auto.i-end, k) in
-    omega arith
-
-pub returns-clause-unheld : goal.returns-clause-unheld
-returns-clause-unheld g c = λ none.
-    let s = c.loop-i.seat.me.0.view in
-    let e = ap (λ (y : SeatView g.row.K.Denot). length y.view.steps.trail) c.leave.ensures.left in
-    let two = takes-left c.args.caller s in
-    let q = c.loop-i.invariant.steps in
-    let k = c.count-i-end.ensures in
-    let most : c.loop-i.i ≤ length c.args.local.now.locks.items = omega (arith, c.loop-i.auto.i-end, k) in
+    let k = c.count-i-end.ensures in let most : c.loop-i.i ≤ length c.args.local.now.locks.items = omega (arith, c.loop-i.auto.i-end, k) in
     omega arith

@@ -72,7 +72,7 @@ loop-i-preserved g c =
             steps = (let e = ap (λ (y : SeatView g.row.K.Denot). length y.view.steps.trail) to_seat in let k = w.lock_record_of.ensures.steps in let q = i.steps in omega arith);
             seat = seat-on c.args.seat.now.me.0 u t.me.0 t.me.0.view i.seat (to_seat ∙ (same.1 ∙ ap (λ (y : SeatView g.row.K.Denot). record u { view = y.view }) (sym to_seat)));
             more = lock_item n r version (free_record version) ∷ load_of (Record r) (free_record version) ∷ i.more;
-            locks = laws.locks-more f n l v r version m p u.view t.me.0.view i.more i.locks h low new;
+            locks = laws.locks-more f n l v r version m p u.view t.me.0.view i.more i.locks h low new (let one = turns.one-logged f n r version c.loop-i.i m p u.view t.me.0.view h i.room in let within = c.count-i-end.ensures.within in let count = c.count-i-end.ensures.count in omega arith);
             covered = laws.next-item (λ j. touches t.me.0.view.owned.held (home_of f (get_or l.writes.items j (0, 0)).0) ≡ true) c.loop-i.i
                 (λ j lt. laws.touches-more u.view.owned.held t.me.0.view.owned.held r version (home_of f (get_or l.writes.items j (0, 0)).0) held (i.covered j lt))
                 (subst (λ (q : ℕ × ℕ). touches t.me.0.view.owned.held (q.0 % f.records) ≡ true) item_is (laws.touches-new u.view.owned.held t.me.0.view.owned.held r version held));

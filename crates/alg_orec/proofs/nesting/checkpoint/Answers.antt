@@ -1,6 +1,6 @@
 use Rattle.std.proofs.Common.{◌≡◌, ◌<◌, ◌+◌, true, false, refl, sym, ap, subst, ◌∙◌, rules, arith}
 use Rattle.stm_model.specs.declared.alg.Alg.TheVariants.{OrecLazy}
-use Rattle.stm_rule.specs.Attempts.{SameLengths, good_by, own_of}
+use Rattle.stm_rule.specs.Attempts.{HasRoom, good_by, own_of}
 use Rattle.stm_rule.specs.Callers.{Handle}
 use Rattle.stm_rule.specs.StandLemmas.{inside-of}
 use Rattle.tx_answers.specs.Answers.{IsMarked}
@@ -77,7 +77,7 @@ invariant_of-desc-2 g c =
     let k = laws.lazy-of good f d.number l s.view i lazy plain in
     let log = c.mark.new.self in
     let m = record l { writes = log; depth = l.depth + 1 } in
-    let lengths : SameLengths m = (ap (λ (y : LogState). y.len) c.mark.ensures ∙ c.desc.invariant.1.lengths.0, c.desc.invariant.1.lengths.1) in
+    let lengths : HasRoom s.who.config m = (ap (λ (y : LogState). y.len) c.mark.ensures ∙ c.desc.invariant.1.lengths.0, c.desc.invariant.1.lengths.1, c.desc.invariant.1.lengths.2) in
     (c.desc.invariant.0, stands-on good f d.number l m s.view s.view phase c.desc.invariant.1 refl refl lengths refl (nesting.stays-marked good f d.number l s.view i lazy plain quiet k log c.mark.ensures))
 
 pub returns-clause-checks : goal.returns-clause-checks

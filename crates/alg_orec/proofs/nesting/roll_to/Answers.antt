@@ -2,7 +2,7 @@ use Rattle.std.proofs.Common.{◌≡◌, ◌≤◌, true, false, refl, sym, ap, 
 use Rattle.std.specs.Prelude.{not, nat_lt}
 use Rattle.stm_model.specs.declared.alg.Alg.TheVariants.{OrecLazy}
 use Rattle.stm_model.specs.Memories.{is_empty}
-use Rattle.stm_rule.specs.Attempts.{SameLengths, good_by, own_of}
+use Rattle.stm_rule.specs.Attempts.{HasRoom, good_by, own_of}
 use Rattle.stm_rule.specs.Callers.{Handle, handle_of}
 use Rattle.tx_answers.specs.declared.answers.Roll.TheVariants as rolls
 use Rattle.tx_answers.specs.Answers.{Rolls}
@@ -74,7 +74,7 @@ invariant_of-desc g c =
     let config = ap (λ (p : Handle g.row.K.Denot). p.who.config) c.desc.view_is ∙ c.requires.stm.config in
     let value = ap (λ (p : Handle g.row.K.Denot). p.who.rule) c.desc.view_is ∙ c.requires.stm.rule in
     let running = running-by (good_by g.K.MemRule.good s.who.rule) s.who.config d.number l s.view i.phase c.desc.invariant.1 in
-    let lengths : SameLengths m = (ap (λ (y : LogState). y.len) c.roll_to.ensures.rolled ∙ c.desc.invariant.1.lengths.0, c.desc.invariant.1.lengths.1) in (
+    let lengths : HasRoom s.who.config m = (ap (λ (y : LogState). y.len) c.roll_to.ensures.rolled ∙ c.desc.invariant.1.lengths.0, c.desc.invariant.1.lengths.1, c.desc.invariant.1.lengths.2) in (
       c.desc.invariant.0,
       stands-in g.K.MemRule.good f c.args.stm.now.rule s.who d.number m s.view config value running c.desc.invariant.1.holds lengths
           (nesting.stays-rolled good f d.number l s.view i lazy plain quiet k log wrote c.args.depth c.requires.low high c.roll_to.ensures.rolled some),

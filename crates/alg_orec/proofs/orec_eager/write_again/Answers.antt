@@ -1,12 +1,13 @@
-use Rattle.std.proofs.Common.{◌≡◌, ◌<◌, subst, sym, ap, true, rules, refl}
+use Rattle.std.proofs.Common.{◌≡◌, ◌<◌, subst, sym, ap, true, rules, refl, ◌∙◌}
 use Rattle.std.specs.Prelude.{◌^◌, IsSome}
 use Rattle.stm_model.specs.Memories.{item_at}
 use Rattle.rule_base.specs.declared.seats.SeatView.{SeatView}
 use Rattle.rule_base.specs.declared.views.View.{View}
 use Rattle.rule_base.specs.StepKinds.{Nothing}
 use Rattle.rule_orec.specs.OrecSteps.{orec_place}
+use Rattle.stm_model.specs.declared.config.Config.{Config}
 use Rattle.stm_rule.specs.declared.local.Local.{Local}
-use Rattle.stm_rule.specs.Attempts.{SameLengths, own_of}
+use Rattle.stm_rule.specs.Attempts.{HasRoom, own_of}
 use Rattle.stm_rule.specs.Callers.{Handle, handle_of}
 use Rattle.stm_rule.specs.StandLemmas.{tells-of}
 use Rattle.tx_answers.specs.declared.answers.Write.TheVariants as writes
@@ -48,7 +49,9 @@ invariant_of-desc g c =
     let seated = c.place.ensures.step.3 in
     let who = ap (λ (y : SeatView g.row.K.Denot). y.who) seated in
     let small : x < 2 ^ 64 = search rules in
-    let lengths : SameLengths q = laws.lengths-stored good f d.number d.local s.view runs a x q w.view stores c.desc.invariant.1.lengths in
+    let config = ap (λ (p : Handle g.row.K.Denot). p.who.config) c.desc.view_is ∙ c.requires.stm.config in
+    let space : HasRoom f d.local = subst (λ (y : Config). HasRoom y d.local) config c.desc.invariant.1.lengths in
+    let lengths : HasRoom s.who.config q = subst (λ (y : Config). HasRoom y q) (sym config) (laws.lengths-stored good f d.number d.local s.view runs a x q w.view stores space) in
     stays-tied g.K.MemRule.good f c.args.stm.now.rule d.number d.local (handle_of d.seat (own_of d.local)) c.args.desc.now refl c.desc.view_is c.requires.stm.config c.requires.stm.rule q d.seat.me c.place.new.seat.me refl c.desc.invariant.0 c.desc.invariant.1 runs.inside.phase
     who (ap (λ (y : SeatView g.row.K.Denot). y.gathered) seated) c.place.ensures.same.2 (ap (λ (y : Local). y.running) stores.local) (ap (λ (y : Local). y.holds) stores.local) lengths (ap (λ (y : View). y.gate.holds) stores.is)
     (laws.stays-stored good f d.number d.local s.view runs a x q w.view stores c.requires.inside small)

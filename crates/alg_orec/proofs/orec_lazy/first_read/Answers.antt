@@ -9,7 +9,7 @@ use Rattle.rule_base.specs.Own.{Own}
 use Rattle.rule_base.specs.Bridge.{items}
 use Rattle.rule_base.specs.declared.entries.Cell.{Cell}
 use Rattle.stm_rule.specs.declared.local.Local.{Local}
-use Rattle.stm_rule.specs.Attempts.{SameLengths, good_by, own_of}
+use Rattle.stm_rule.specs.Attempts.{HasRoom, good_by, own_of}
 use Rattle.stm_rule.specs.Callers.{Handle, handle_of}
 use Rattle.tx_answers.specs.declared.answers.Read.TheVariants as reads
 use Rattle.tx_answers.specs.Answers.{HasRead}
@@ -75,7 +75,9 @@ invariant_of-desc-in-Ok g c =
     let value = ap (λ (p : Handle g.row.K.Denot). p.who.rule) c.desc.view_is ∙ c.requires.stm.rule in
     let running = ap (λ (y : Local). y.running) moved ∙ running-by (good_by g.K.MemRule.good s.who.rule) s.who.config d.number d.local s.view i.phase c.desc.invariant.1 in
     let tied = c.desc.invariant.0 in
-    let lengths : SameLengths q = (ap (λ (y : Local). y.writes.len) moved ∙ (c.desc.invariant.1.lengths.0 ∙ sym (ap (λ (y : Local). y.undo.len) moved)), ap (λ (y : Local). y.locks.len) moved ∙ (c.desc.invariant.1.lengths.1 ∙ sym (ap (λ (y : Local). y.undo.len) moved))) in (
+    let undo = ap (λ (y : Local). y.undo.len) moved in
+    let locks = ap (λ (y : Local). y.locks.len) moved in
+    let lengths : HasRoom s.who.config q = (ap (λ (y : Local). y.writes.len) moved ∙ (c.desc.invariant.1.lengths.0 ∙ sym undo), (let r = c.desc.invariant.1.lengths.1 in omega arith), (let r = c.desc.invariant.1.lengths.2 in omega arith)) in (
       record {
         named = ap (λ (y : Who g.row.K.Denot). y.role) who ∙ tied.named;
         low = subst (λ (y : Who g.row.K.Denot). d.number < y.config.callers) (sym who) tied.low;
@@ -83,7 +85,7 @@ invariant_of-desc-in-Ok g c =
         empty = c.load_valid.ensures.same.0.2 ∙ tied.empty;
       },
       stands-in g.K.MemRule.good f c.args.stm.now.rule u.who d.number q u.view (ap (λ (y : Who g.row.K.Denot). y.config) who ∙ config) (ap (λ (y : Who g.row.K.Denot). y.rule) who ∙ value) running
-          (ap (λ (y : Local). y.holds) moved ∙ (c.desc.invariant.1.holds ∙ sym (ap (λ (y : View). y.gate.holds) loaded.is))) lengths
+          (ap (λ (y : Local). y.holds) moved ∙ (c.desc.invariant.1.holds ∙ sym (ap (λ (y : View). y.gate.holds) loaded.is))) (subst (λ (y : Who g.row.K.Denot). HasRoom y.config q) (sym who) lengths)
           (laws.stays-read good f d.number d.local s.view i lazy plain quiet k a x m u.view c.push.new.self c.requires.inside unread is loaded),
     )
 
@@ -161,7 +163,7 @@ returns-then-count-limit-clause-steps g c =
     let none : length d.local.locks.items ≡ 0 = ap length k.locks ∙ ap (λ (cs : List Cell). length (items cs)) (k.open_handed quiet) in
     let first = ap (λ (p : Handle g.row.K.Denot). length (known p).trail) c.desc.view_is in
     let limit = ap (λ (p : Handle g.row.K.Denot). (known p).reads_limit) c.desc.view_is in
-    let few = c.roll_back.ensures.unheld none in
+    let few = c.roll_back.ensures.steps in
     omega arith
 
 pub returns-in-Err-clause-steps : goal.returns-in-Err-clause-steps
@@ -180,6 +182,7 @@ returns-in-Err-clause-steps g c =
     let none : length d.local.locks.items ≡ 0 = ap length k.locks ∙ ap (λ (cs : List Cell). length (items cs)) (k.open_handed quiet) in
     let first = ap (λ (p : Handle g.row.K.Denot). length (known p).trail) c.desc.view_is in
     let limit = ap (λ (p : Handle g.row.K.Denot). (known p).reads_limit) c.desc.view_is in
-    let few = c.roll_back-in-Err.ensures.unheld (ap (λ (x : Local). length x.locks.items) c.in-Err.ensures.loads.local ∙ none) in
+    let few = c.roll_back-in-Err.ensures.steps in
+    let same = ap (λ (x : Local). length x.locks.items) c.in-Err.ensures.loads.local in
     let loaded = c.load_valid.ensures.steps in
     omega arith

@@ -7,7 +7,7 @@ use Rattle.rule_base.specs.declared.entries.Cell.{Cell}
 use Rattle.rule_base.specs.Encodings.{fenced}
 use Rattle.rule_base.specs.declared.seats.SeatView.{SeatView}
 use Rattle.rule_base.specs.Own.{Own}
-use Rattle.stm_rule.specs.Attempts.{SameLengths, good_by, own_of}
+use Rattle.stm_rule.specs.Attempts.{HasRoom, good_by, own_of}
 use Rattle.stm_rule.specs.Callers.{Handle, handle_of}
 use Rattle.tx_answers.specs.declared.answers.Write.TheVariants as writes
 use Rattle.tx_answers.specs.Answers.{HasWritten}
@@ -66,7 +66,7 @@ invariant_of-desc-2 g c =
     let config = ap (λ (p : Handle g.row.K.Denot). p.who.config) c.desc.view_is ∙ c.requires.stm.config in
     let value = ap (λ (p : Handle g.row.K.Denot). p.who.rule) c.desc.view_is ∙ c.requires.stm.rule in
     let running = running-by (good_by g.K.MemRule.good s.who.rule) s.who.config d.number d.local s.view i.phase c.desc.invariant.1 in
-    let lengths : SameLengths q = (ap (λ (y : LogState). y.len) is ∙ c.desc.invariant.1.lengths.0, c.desc.invariant.1.lengths.1) in (
+    let lengths : HasRoom s.who.config q = (ap (λ (y : LogState). y.len) is ∙ c.desc.invariant.1.lengths.0, c.desc.invariant.1.lengths.1, c.desc.invariant.1.lengths.2) in (
       c.desc.invariant.0,
       stands-in g.K.MemRule.good f c.args.stm.now.rule s.who d.number q s.view config value running c.desc.invariant.1.holds lengths
           (laws.stays-written good f d.number d.local s.view i lazy plain quiet k a x log c.requires.inside (subst (λ (p : Handle g.row.K.Denot). fenced (known p).fence a ≡ false) (sym c.desc.view_is) c.requires.spared) small is),
@@ -109,6 +109,6 @@ returns-in-Full-clause-steps g c =
     let plain : d.local.granted ≡ false = search rules in
     let k = laws.lazy-of good f d.number d.local s.view i lazy plain in
     let none : length d.local.locks.items ≡ 0 = ap length k.locks ∙ ap (λ (cs : List Cell). length (items cs)) (k.open_handed quiet) in
-    let few = c.roll_back.ensures.unheld none in
+    let few = c.roll_back.ensures.steps in
     let first = ap (λ (p : Handle g.row.K.Denot). length (known p).trail) c.desc.view_is in
     omega arith

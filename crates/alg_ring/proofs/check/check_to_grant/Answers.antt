@@ -1,4 +1,4 @@
-use Rattle.std.proofs.Common.{ℕ, ◌≡◌, ◌≢◌, sym, subst, rules}
+use Rattle.std.proofs.Common.{ℕ, sym, subst, rules}
 use Rattle.std.specs.Prelude.{Ok}
 use Rattle.rule_promoted.specs.PromotedSteps.{ring_look_grant, ring_move_grant}
 use Rattle.steps_ring.specs.RingFindings.{FindsLook, FindsLevel}
@@ -10,35 +10,14 @@ use Rattle.alg_ring.proofs.check.check_to_grant.Goals as goal
 
 pub returns-then-clock-start-clause-checks : goal.returns-then-clock-start-clause-checks
 returns-then-clock-start-clause-checks g c =
-    let f = c.args.stm.now.config in
-    let rule = good_of g.K.MemRule.good f c.args.stm.now.rule in
-    let s = c.args.seat.now.me.0 in
-    let x = c.look_grant-clock.result in
-    let w = c.look_grant-clock.new.seat.me.0 in
-    let same : x ≡ c.args.start = search rules in
-    grant-passes (g.K.MemRule.good c.args.stm.now.rule) f c.args.start c.args.filter.now s.view c.requires.view x w.view (tells-of ring_look_grant (FindsLook rule f) s x w c.look_grant-clock.ensures.step) same
+    grant-passes (g.K.MemRule.good c.args.stm.now.rule) c.args.stm.now.config c.args.start c.args.filter.now c.args.seat.now.me.0.view c.requires.view c.look_grant-clock.result c.look_grant-clock.new.seat.me.0.view (tells-of ring_look_grant (FindsLook (good_of g.K.MemRule.good c.args.stm.now.config c.args.stm.now.rule) c.args.stm.now.config) _ _ _ c.look_grant-clock.ensures.step) (search rules)
 
 pub returns-in-Err-clause-checks : goal.returns-in-Err-clause-checks
 returns-in-Err-clause-checks g c =
-    let f = c.args.stm.now.config in
-    let rule = good_of g.K.MemRule.good f c.args.stm.now.rule in
-    let s = c.args.seat.now.me.0 in
-    let x = c.look_grant-clock.result in
-    let w = c.look_grant-clock.new.seat.me.0 in
-    let apart : x ≢ c.args.start = search rules in
-    grant-fails (g.K.MemRule.good c.args.stm.now.rule) f c.args.start c.args.filter.now s.view c.requires.view x w.view (tells-of ring_look_grant (FindsLook rule f) s x w c.look_grant-clock.ensures.step) c.in-Err.cause c.scan.new.seat.me.0.view apart c.in-Err.ensures.scans
+    grant-fails (g.K.MemRule.good c.args.stm.now.rule) c.args.stm.now.config c.args.start c.args.filter.now c.args.seat.now.me.0.view c.requires.view c.look_grant-clock.result c.look_grant-clock.new.seat.me.0.view (tells-of ring_look_grant (FindsLook (good_of g.K.MemRule.good c.args.stm.now.config c.args.stm.now.rule) c.args.stm.now.config) _ _ _ c.look_grant-clock.ensures.step) c.in-Err.cause c.scan.new.seat.me.0.view (search rules) c.in-Err.ensures.scans
 
 pub returns-in-Ok-clause-checks : goal.returns-in-Ok-clause-checks
 returns-in-Ok-clause-checks g c =
-    let f = c.args.stm.now.config in
-    let good = g.K.MemRule.good c.args.stm.now.rule in
-    let rule = good_of g.K.MemRule.good f c.args.stm.now.rule in
-    let s = c.args.seat.now.me.0 in
-    let x = c.look_grant-clock.result in
-    let w = c.look_grant-clock.new.seat.me.0 in
-    let u = c.scan.new.seat.me.0 in
-    let done = c.advance_grant-done.result in
-    let y = c.advance_grant-done.new.seat.me.0 in
-    let apart : x ≢ c.args.start = search rules in
-    subst (λ (k : ℕ). checking.ChecksToGrant good f (Ok k) c.args.filter.now s.view y.view) (sym c.later_start.ensures)
-    (grant-moves good f c.args.start c.args.filter.now s.view c.requires.view x w.view (tells-of ring_look_grant (FindsLook rule f) s x w c.look_grant-clock.ensures.step) _ u.view y.view done apart c.in-Ok.ensures.scans (tells-of ring_move_grant (FindsLevel rule f) u done y c.advance_grant-done.ensures.step))
+    let rule = good_of g.K.MemRule.good c.args.stm.now.config c.args.stm.now.rule in
+    subst (λ (k : ℕ). checking.ChecksToGrant (g.K.MemRule.good c.args.stm.now.rule) c.args.stm.now.config (Ok k) c.args.filter.now c.args.seat.now.me.0.view c.advance_grant-done.new.seat.me.0.view) (sym c.later_start.ensures)
+    (grant-moves (g.K.MemRule.good c.args.stm.now.rule) c.args.stm.now.config c.args.start c.args.filter.now c.args.seat.now.me.0.view c.requires.view c.look_grant-clock.result c.look_grant-clock.new.seat.me.0.view (tells-of ring_look_grant (FindsLook rule c.args.stm.now.config) _ _ _ c.look_grant-clock.ensures.step) _ c.scan.new.seat.me.0.view c.advance_grant-done.new.seat.me.0.view c.advance_grant-done.result (search rules) c.in-Ok.ensures.scans (tells-of ring_move_grant (FindsLevel rule c.args.stm.now.config) _ _ _ c.advance_grant-done.ensures.step))

@@ -1,4 +1,4 @@
-use Rattle.std.proofs.Common.{◌*◌, ◌-◌, ◌≡◌}
+use Rattle.std.proofs.Common.{◌*◌, ◌≡◌}
 use Rattle.stm_rule.specs.Counting.{TakesAtMost}
 use Rattle.alg_ring.proofs.Slot.{ScanSoFar}
 use Rattle.alg_ring.proofs.check.first_met.Given as goal

@@ -22,34 +22,20 @@ word-requires-in-loop-i-clause-view g c = let i = c.loop-i.invariant in
 
 pub loop-i-preserved : goal.loop-i-preserved
 loop-i-preserved g c =
-    let ring = c.args.stm.now.config.ring in
-    let i = c.loop-i.invariant in
-    let s = c.loop-i.seat.me.0 in
-    let x = c.word-in-loop-i.result in
-    let t = c.word-in-loop-i.new.seat.me.0 in
-    let same = c.word-in-loop-i.ensures.same in
-    let step = c.word-in-loop-i.ensures.step in
     record {
-      table = same.0 ∙ i.table;
-      id = same.1 ∙ i.id;
-      bare = same.2 ∙ i.bare;
-      seat = seat-on c.args.seat.now.me.0 s t (view_after (ring_word ring c.args.time c.loop-i.i) step.0 s.view x) i.seat step.3;
-      low = (let l = i.low in omega arith);
-      steps = (let l = ap (λ (y : SeatView g.row.K.Denot). length y.view.steps.trail) step.3 in let q = i.steps in let w = i.low in omega arith);
-      loads = part-next ring c.args.time c.args.filter.now c.args.part c.loop-i.i c.args.seat.now.me.0.view s.view t.view x i.loads (tells-of (ring_word ring c.args.time c.loop-i.i) Nothing s x t step) i.low
-          (ap (λ (k : ℕ). bit_and k x) (sym c.word.ensures) ∙ c.if-bits-ne0.false);
+      table = c.word-in-loop-i.ensures.same.0 ∙ c.loop-i.invariant.table;
+      id = c.word-in-loop-i.ensures.same.1 ∙ c.loop-i.invariant.id;
+      bare = c.word-in-loop-i.ensures.same.2 ∙ c.loop-i.invariant.bare;
+      seat = seat-on c.args.seat.now.me.0 c.loop-i.seat.me.0 c.word-in-loop-i.new.seat.me.0 (view_after (ring_word c.args.stm.now.config.ring c.args.time c.loop-i.i) c.word-in-loop-i.ensures.step.0 c.loop-i.seat.me.0.view c.word-in-loop-i.result) c.loop-i.invariant.seat c.word-in-loop-i.ensures.step.3;
+      low = (let l = c.loop-i.invariant.low in omega arith);
+      steps = (let l = ap (λ (y : SeatView g.row.K.Denot). length y.view.steps.trail) c.word-in-loop-i.ensures.step.3 in let q = c.loop-i.invariant.steps in let w = c.loop-i.invariant.low in omega arith);
+      loads = part-next c.args.stm.now.config.ring c.args.time c.args.filter.now c.args.part c.loop-i.i c.args.seat.now.me.0.view c.loop-i.seat.me.0.view c.word-in-loop-i.new.seat.me.0.view c.word-in-loop-i.result c.loop-i.invariant.loads (tells-of (ring_word c.args.stm.now.config.ring c.args.time c.loop-i.i) Nothing _ _ _ c.word-in-loop-i.ensures.step) c.loop-i.invariant.low
+          (ap (λ (k : ℕ). bit_and k c.word-in-loop-i.result) (sym c.word.ensures) ∙ c.if-bits-ne0.false);
     }
 
 pub returns-then-bits-ne0-clause-same : goal.returns-then-bits-ne0-clause-same
 returns-then-bits-ne0-clause-same g c =
-    let ring = c.args.stm.now.config.ring in
-    let i = c.loop-i.invariant in
-    let s = c.loop-i.seat.me.0 in
-    let x = c.word-in-loop-i.result in
-    let t = c.word-in-loop-i.new.seat.me.0 in
-    let same = c.word-in-loop-i.ensures.same in
-    let step = c.word-in-loop-i.ensures.step in
-    ((same.0 ∙ i.table, same.1 ∙ i.id, same.2 ∙ i.bare), seat-on c.args.seat.now.me.0 s t (view_after (ring_word ring c.args.time c.loop-i.i) step.0 s.view x) i.seat step.3)
+    ((c.word-in-loop-i.ensures.same.0 ∙ c.loop-i.invariant.table, c.word-in-loop-i.ensures.same.1 ∙ c.loop-i.invariant.id, c.word-in-loop-i.ensures.same.2 ∙ c.loop-i.invariant.bare), seat-on c.args.seat.now.me.0 c.loop-i.seat.me.0 c.word-in-loop-i.new.seat.me.0 (view_after (ring_word c.args.stm.now.config.ring c.args.time c.loop-i.i) c.word-in-loop-i.ensures.step.0 c.loop-i.seat.me.0.view c.word-in-loop-i.result) c.loop-i.invariant.seat c.word-in-loop-i.ensures.step.3)
 
 pub returns-then-bits-ne0-clause-loads : goal.returns-then-bits-ne0-clause-loads
 returns-then-bits-ne0-clause-loads g c =
@@ -69,7 +55,5 @@ returns-clause-same g c = let i = c.loop-i.invariant in ((i.table, i.id, i.bare)
 
 pub returns-clause-loads : goal.returns-clause-loads
 returns-clause-loads g c =
-    let ring = c.args.stm.now.config.ring in
-    let i = c.loop-i.invariant in
     let end : c.loop-i.i ≡ 4 * c.args.part + 4 = (let a = c.loop-i-test.false in let b = c.loop-i.auto.i-end in omega arith) in
-    part-last ring c.args.time c.args.filter.now c.args.part c.args.seat.now.me.0.view c.loop-i.seat.me.0.view (subst (λ (k : ℕ). PartSoFar ring c.args.time c.args.filter.now c.args.part k c.args.seat.now.me.0.view c.loop-i.seat.me.0.view) end i.loads)
+    part-last c.args.stm.now.config.ring c.args.time c.args.filter.now c.args.part c.args.seat.now.me.0.view c.loop-i.seat.me.0.view (subst (λ (k : ℕ). PartSoFar c.args.stm.now.config.ring c.args.time c.args.filter.now c.args.part k c.args.seat.now.me.0.view c.loop-i.seat.me.0.view) end c.loop-i.invariant.loads)

@@ -1,6 +1,6 @@
 use Rattle.std.proofs.Common.{◌≡◌, ◌≤◌, ◌-◌, true, false, refl, sym, ap, subst, ◌∙◌, rules, arith}
 use Rattle.stm_model.specs.declared.alg.Alg.TheVariants.{RingSw}
-use Rattle.stm_rule.specs.Attempts.{SameLengths, good_by, own_of}
+use Rattle.stm_rule.specs.Attempts.{HasRoom, good_by, own_of}
 use Rattle.stm_rule.specs.Callers.{Handle}
 use Rattle.stm_rule.specs.StandLemmas.{inside-of}
 use Rattle.tx_answers.specs.Answers.{Releases}
@@ -15,86 +15,45 @@ use Rattle.alg_ring.proofs.nesting.release.Goals as goal
 
 pub returns-then-desc-clause-releases : goal.returns-then-desc-clause-releases
 returns-then-desc-clause-releases g c =
-    let d = c.desc.inside in
-    let s = d.seat.me.0 in
-    let l = d.local in
-    let good = good_by g.K.MemRule.good s.who.rule in
-    let f = s.who.config in
-    let phase = in-of s.view.gate.phase (ap (λ (p : Handle g.row.K.Denot). is_in p.view.gate.phase) c.desc.view_is ∙ c.requires.running.0) in
-    let i = inside-of good f d.number l s.view phase c.desc.invariant.1 in
+    let i = inside-of (good_by g.K.MemRule.good c.desc.inside.seat.me.0.who.rule) c.desc.inside.seat.me.0.who.config c.desc.inside.number c.desc.inside.local c.desc.inside.seat.me.0.view (in-of c.desc.inside.seat.me.0.view.gate.phase (ap (λ (p : Handle g.row.K.Denot). is_in p.view.gate.phase) c.desc.view_is ∙ c.requires.running.0)) c.desc.invariant.1 in
     let ring = subst (λ (p : Handle g.row.K.Denot). (known p).alg ≡ RingSw) (sym c.desc.view_is) c.requires.algorithm in
-    let quiet : l.committing ≡ false = ap (λ (p : Handle g.row.K.Denot). (known p).committing) c.desc.view_is ∙ c.requires.running.1 in
-    let irrevocable : l.granted ≡ true = search rules in
-    let m = record l { depth = c.args.depth - 1 } in
-    subst (λ (p : Handle g.row.K.Denot). Releases c.args.depth (known p) (known_of s.view (own_of m))) c.desc.view_is
-    (record { is = nesting.same-deeper good f d.number l s.view i ring irrevocable (c.args.depth - 1); marks = (λ r. absurd (let z : true ≡ false = sym (nesting.irrevocable-known good f d.number l s.view i ring irrevocable (c.args.depth - 1)) ∙ r in cc)) })
+    let quiet : c.desc.inside.local.committing ≡ false = ap (λ (p : Handle g.row.K.Denot). (known p).committing) c.desc.view_is ∙ c.requires.running.1 in
+    let irrevocable : c.desc.inside.local.granted ≡ true = search rules in
+    subst (λ (p : Handle g.row.K.Denot). Releases c.args.depth (known p) (known_of c.desc.inside.seat.me.0.view (own_of (record c.desc.inside.local { depth = c.args.depth - 1 })))) c.desc.view_is
+    (record { is = nesting.same-deeper (good_by g.K.MemRule.good c.desc.inside.seat.me.0.who.rule) c.desc.inside.seat.me.0.who.config c.desc.inside.number c.desc.inside.local c.desc.inside.seat.me.0.view i ring irrevocable (c.args.depth - 1); marks = (λ r. absurd (let z : true ≡ false = sym (nesting.irrevocable-known (good_by g.K.MemRule.good c.desc.inside.seat.me.0.who.rule) c.desc.inside.seat.me.0.who.config c.desc.inside.number c.desc.inside.local c.desc.inside.seat.me.0.view i ring irrevocable (c.args.depth - 1)) ∙ r in cc)) })
 
 pub invariant_of-desc : goal.invariant_of-desc
 invariant_of-desc g c =
-    let d = c.desc.inside in
-    let s = d.seat.me.0 in
-    let l = d.local in
-    let good = good_by g.K.MemRule.good s.who.rule in
-    let f = s.who.config in
-    let phase = in-of s.view.gate.phase (ap (λ (p : Handle g.row.K.Denot). is_in p.view.gate.phase) c.desc.view_is ∙ c.requires.running.0) in
-    let i = inside-of good f d.number l s.view phase c.desc.invariant.1 in
-    let ring = subst (λ (p : Handle g.row.K.Denot). (known p).alg ≡ RingSw) (sym c.desc.view_is) c.requires.algorithm in
-    let quiet : l.committing ≡ false = ap (λ (p : Handle g.row.K.Denot). (known p).committing) c.desc.view_is ∙ c.requires.running.1 in
-    let irrevocable : l.granted ≡ true = search rules in
-    let m = record l { depth = c.args.depth - 1 } in
-    (c.desc.invariant.0, stands-on good f d.number l m s.view s.view phase c.desc.invariant.1 refl refl c.desc.invariant.1.lengths refl (nesting.stays-deeper good f d.number l s.view i ring irrevocable (c.args.depth - 1)))
+    let phase = in-of c.desc.inside.seat.me.0.view.gate.phase (ap (λ (p : Handle g.row.K.Denot). is_in p.view.gate.phase) c.desc.view_is ∙ c.requires.running.0) in
+    let quiet : c.desc.inside.local.committing ≡ false = ap (λ (p : Handle g.row.K.Denot). (known p).committing) c.desc.view_is ∙ c.requires.running.1 in
+    (c.desc.invariant.0, stands-on (good_by g.K.MemRule.good c.desc.inside.seat.me.0.who.rule) c.desc.inside.seat.me.0.who.config c.desc.inside.number c.desc.inside.local (record c.desc.inside.local { depth = c.args.depth - 1 }) c.desc.inside.seat.me.0.view c.desc.inside.seat.me.0.view phase c.desc.invariant.1 refl refl c.desc.invariant.1.lengths refl (nesting.stays-deeper (good_by g.K.MemRule.good c.desc.inside.seat.me.0.who.rule) c.desc.inside.seat.me.0.who.config c.desc.inside.number c.desc.inside.local c.desc.inside.seat.me.0.view (inside-of (good_by g.K.MemRule.good c.desc.inside.seat.me.0.who.rule) c.desc.inside.seat.me.0.who.config c.desc.inside.number c.desc.inside.local c.desc.inside.seat.me.0.view phase c.desc.invariant.1) (subst (λ (p : Handle g.row.K.Denot). (known p).alg ≡ RingSw) (sym c.desc.view_is) c.requires.algorithm) (search rules) (c.args.depth - 1)))
 
 pub release-requires-clause-high : goal.release-requires-clause-high
 release-requires-clause-high g c =
-    let d = c.desc.inside in
-    let s = d.seat.me.0 in
-    let l = d.local in
-    let good = good_by g.K.MemRule.good s.who.rule in
-    let f = s.who.config in
-    let phase = in-of s.view.gate.phase (ap (λ (p : Handle g.row.K.Denot). is_in p.view.gate.phase) c.desc.view_is ∙ c.requires.running.0) in
-    let i = inside-of good f d.number l s.view phase c.desc.invariant.1 in
-    let ring = subst (λ (p : Handle g.row.K.Denot). (known p).alg ≡ RingSw) (sym c.desc.view_is) c.requires.algorithm in
-    let quiet : l.committing ≡ false = ap (λ (p : Handle g.row.K.Denot). (known p).committing) c.desc.view_is ∙ c.requires.running.1 in
-    let plain : l.granted ≡ false = search rules in
-    let k = ending.ring-of good f d.number l s.view i ring plain in
-    let n = k.marked.count in
-    let high : c.args.depth ≤ l.depth = subst (λ (p : Handle g.row.K.Denot). c.args.depth ≤ p.own.depth) (sym c.desc.view_is) c.requires.high in
+    let quiet : c.desc.inside.local.committing ≡ false = ap (λ (p : Handle g.row.K.Denot). (known p).committing) c.desc.view_is ∙ c.requires.running.1 in
+    let n = (ending.ring-of (good_by g.K.MemRule.good c.desc.inside.seat.me.0.who.rule) c.desc.inside.seat.me.0.who.config c.desc.inside.number c.desc.inside.local c.desc.inside.seat.me.0.view (inside-of (good_by g.K.MemRule.good c.desc.inside.seat.me.0.who.rule) c.desc.inside.seat.me.0.who.config c.desc.inside.number c.desc.inside.local c.desc.inside.seat.me.0.view (in-of c.desc.inside.seat.me.0.view.gate.phase (ap (λ (p : Handle g.row.K.Denot). is_in p.view.gate.phase) c.desc.view_is ∙ c.requires.running.0)) c.desc.invariant.1) (subst (λ (p : Handle g.row.K.Denot). (known p).alg ≡ RingSw) (sym c.desc.view_is) c.requires.algorithm) (search rules)).marked.count in
+    let high : c.args.depth ≤ c.desc.inside.local.depth = subst (λ (p : Handle g.row.K.Denot). c.args.depth ≤ p.own.depth) (sym c.desc.view_is) c.requires.high in
     omega arith
 
 pub invariant_of-desc-2 : goal.invariant_of-desc-2
 invariant_of-desc-2 g c =
-    let d = c.desc.inside in
-    let s = d.seat.me.0 in
-    let l = d.local in
-    let good = good_by g.K.MemRule.good s.who.rule in
-    let f = s.who.config in
-    let phase = in-of s.view.gate.phase (ap (λ (p : Handle g.row.K.Denot). is_in p.view.gate.phase) c.desc.view_is ∙ c.requires.running.0) in
-    let i = inside-of good f d.number l s.view phase c.desc.invariant.1 in
+    let good = good_by g.K.MemRule.good c.desc.inside.seat.me.0.who.rule in
+    let phase = in-of c.desc.inside.seat.me.0.view.gate.phase (ap (λ (p : Handle g.row.K.Denot). is_in p.view.gate.phase) c.desc.view_is ∙ c.requires.running.0) in
+    let i = inside-of good c.desc.inside.seat.me.0.who.config c.desc.inside.number c.desc.inside.local c.desc.inside.seat.me.0.view phase c.desc.invariant.1 in
     let ring = subst (λ (p : Handle g.row.K.Denot). (known p).alg ≡ RingSw) (sym c.desc.view_is) c.requires.algorithm in
-    let quiet : l.committing ≡ false = ap (λ (p : Handle g.row.K.Denot). (known p).committing) c.desc.view_is ∙ c.requires.running.1 in
-    let plain : l.granted ≡ false = search rules in
-    let k = ending.ring-of good f d.number l s.view i ring plain in
-    let high : c.args.depth ≤ l.depth = subst (λ (p : Handle g.row.K.Denot). c.args.depth ≤ p.own.depth) (sym c.desc.view_is) c.requires.high in
-    let log = c.release.new.self in
-    let m = record l { writes = log; depth = c.args.depth - 1 } in
-    let lengths : SameLengths m = (ap (λ (y : LogState). y.len) c.release.ensures ∙ c.desc.invariant.1.lengths.0, c.desc.invariant.1.lengths.1) in
-    (c.desc.invariant.0, stands-on good f d.number l m s.view s.view phase c.desc.invariant.1 refl refl lengths refl (nesting.stays-released good f d.number l s.view i ring plain quiet k log c.args.depth c.requires.low high c.release.ensures))
+    let quiet : c.desc.inside.local.committing ≡ false = ap (λ (p : Handle g.row.K.Denot). (known p).committing) c.desc.view_is ∙ c.requires.running.1 in
+    let plain : c.desc.inside.local.granted ≡ false = search rules in
+    let high : c.args.depth ≤ c.desc.inside.local.depth = subst (λ (p : Handle g.row.K.Denot). c.args.depth ≤ p.own.depth) (sym c.desc.view_is) c.requires.high in
+    let m = record c.desc.inside.local { writes = c.release.new.self; depth = c.args.depth - 1 } in
+    let lengths : HasRoom c.desc.inside.seat.me.0.who.config m = (ap (λ (y : LogState). y.len) c.release.ensures ∙ c.desc.invariant.1.lengths.0, c.desc.invariant.1.lengths.1, c.desc.invariant.1.lengths.2) in
+    (c.desc.invariant.0, stands-on good c.desc.inside.seat.me.0.who.config c.desc.inside.number c.desc.inside.local m c.desc.inside.seat.me.0.view c.desc.inside.seat.me.0.view phase c.desc.invariant.1 refl refl lengths refl (nesting.stays-released good c.desc.inside.seat.me.0.who.config c.desc.inside.number c.desc.inside.local c.desc.inside.seat.me.0.view i ring plain quiet (ending.ring-of good c.desc.inside.seat.me.0.who.config c.desc.inside.number c.desc.inside.local c.desc.inside.seat.me.0.view i ring plain) c.release.new.self c.args.depth c.requires.low high c.release.ensures))
 
 pub returns-clause-releases : goal.returns-clause-releases
 returns-clause-releases g c =
-    let d = c.desc.inside in
-    let s = d.seat.me.0 in
-    let l = d.local in
-    let good = good_by g.K.MemRule.good s.who.rule in
-    let f = s.who.config in
-    let phase = in-of s.view.gate.phase (ap (λ (p : Handle g.row.K.Denot). is_in p.view.gate.phase) c.desc.view_is ∙ c.requires.running.0) in
-    let i = inside-of good f d.number l s.view phase c.desc.invariant.1 in
+    let i = inside-of (good_by g.K.MemRule.good c.desc.inside.seat.me.0.who.rule) c.desc.inside.seat.me.0.who.config c.desc.inside.number c.desc.inside.local c.desc.inside.seat.me.0.view (in-of c.desc.inside.seat.me.0.view.gate.phase (ap (λ (p : Handle g.row.K.Denot). is_in p.view.gate.phase) c.desc.view_is ∙ c.requires.running.0)) c.desc.invariant.1 in
     let ring = subst (λ (p : Handle g.row.K.Denot). (known p).alg ≡ RingSw) (sym c.desc.view_is) c.requires.algorithm in
-    let quiet : l.committing ≡ false = ap (λ (p : Handle g.row.K.Denot). (known p).committing) c.desc.view_is ∙ c.requires.running.1 in
-    let plain : l.granted ≡ false = search rules in
-    let k = ending.ring-of good f d.number l s.view i ring plain in
-    let high : c.args.depth ≤ l.depth = subst (λ (p : Handle g.row.K.Denot). c.args.depth ≤ p.own.depth) (sym c.desc.view_is) c.requires.high in
-    let log = c.release.new.self in
-    let m = record l { writes = log; depth = c.args.depth - 1 } in
-    subst (λ (p : Handle g.row.K.Denot). Releases c.args.depth (known p) (known_of s.view (own_of m))) c.desc.view_is
-    (nesting.releases-now good f d.number l s.view i ring plain quiet k log c.args.depth c.requires.low high c.release.ensures)
+    let quiet : c.desc.inside.local.committing ≡ false = ap (λ (p : Handle g.row.K.Denot). (known p).committing) c.desc.view_is ∙ c.requires.running.1 in
+    let plain : c.desc.inside.local.granted ≡ false = search rules in
+    let high : c.args.depth ≤ c.desc.inside.local.depth = subst (λ (p : Handle g.row.K.Denot). c.args.depth ≤ p.own.depth) (sym c.desc.view_is) c.requires.high in
+    subst (λ (p : Handle g.row.K.Denot). Releases c.args.depth (known p) (known_of c.desc.inside.seat.me.0.view (own_of (record c.desc.inside.local { writes = c.release.new.self; depth = c.args.depth - 1 })))) c.desc.view_is
+    (nesting.releases-now (good_by g.K.MemRule.good c.desc.inside.seat.me.0.who.rule) c.desc.inside.seat.me.0.who.config c.desc.inside.number c.desc.inside.local c.desc.inside.seat.me.0.view i ring plain quiet (ending.ring-of (good_by g.K.MemRule.good c.desc.inside.seat.me.0.who.rule) c.desc.inside.seat.me.0.who.config c.desc.inside.number c.desc.inside.local c.desc.inside.seat.me.0.view i ring plain) c.release.new.self c.args.depth c.requires.low high c.release.ensures)

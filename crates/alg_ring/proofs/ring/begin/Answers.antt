@@ -10,8 +10,4 @@ begin-requires-clause-view g c = may-begin (g.K.MemRule.good c.args.stm.now.rule
 
 pub returns-clause-begins : goal.returns-clause-begins
 returns-clause-begins g c =
-    let f = c.args.stm.now.config in
-    let s = c.args.seat.now.me.0 in
-    let x = c.begin.result in
-    let w = c.begin.new.seat.me.0 in
-    tells-started (g.K.MemRule.good c.args.stm.now.rule) f c.args.caller s.view c.requires.view x w.view (tells-of ring_begin (FindsStart (good_of g.K.MemRule.good f c.args.stm.now.rule) f) s x w c.begin.ensures.step)
+    tells-started (g.K.MemRule.good c.args.stm.now.rule) c.args.stm.now.config c.args.caller c.args.seat.now.me.0.view c.requires.view c.begin.result c.begin.new.seat.me.0.view (tells-of ring_begin (FindsStart (good_of g.K.MemRule.good c.args.stm.now.config c.args.stm.now.rule) c.args.stm.now.config) _ _ _ c.begin.ensures.step)

@@ -1,4 +1,4 @@
-use Rattle.std.proofs.Common.{ℕ, ◌≡◌, subst, sym, ap, refl, true, false, rules, ◌∙◌}
+use Rattle.std.proofs.Common.{ℕ, subst, sym, ap, refl, rules, ◌∙◌}
 use Rattle.stm_rule.specs.declared.local.Local.{Local}
 use Rattle.stm_rule.specs.Attempts.{own_of}
 use Rattle.tx_answers.specs.declared.answers.Cancel.TheVariants as cancels
@@ -11,35 +11,18 @@ use Rattle.alg_ring.proofs.ring.cancel.Goals as goal
 
 pub returns-then-desc-clause-cancels : goal.returns-then-desc-clause-cancels
 returns-then-desc-clause-cancels g c =
-    let good = g.K.MemRule.good in
-    let stm = c.args.stm.now in
-    let d = c.desc.inside in
-    let a = opened good stm d.number d.local c.desc.view_is refl c.desc.invariant.0.named c.desc.invariant.0.low c.desc.invariant.1 c.requires.stm in
-    let at = has-attempt good stm a c.requires.running c.requires.algorithm in
-    let granted : d.local.granted ≡ true = search rules in
-    (refl, ap is_irrevocable a.knows ∙ (attempt.irrevocable-is (good stm.rule) stm.config d.number d.local d.seat.me.0.view at ∙ granted))
+    let a = opened g.K.MemRule.good c.args.stm.now c.desc.inside.number c.desc.inside.local c.desc.view_is refl c.desc.invariant.0.named c.desc.invariant.0.low c.desc.invariant.1 c.requires.stm in
+    (refl, ap is_irrevocable a.knows ∙ (attempt.irrevocable-is _ _ _ _ _ (has-attempt g.K.MemRule.good c.args.stm.now a c.requires.running c.requires.algorithm) ∙ (search rules)))
 
 pub leave-requires-clause-view : goal.leave-requires-clause-view
 leave-requires-clause-view g c =
-    let good = g.K.MemRule.good in
-    let stm = c.args.stm.now in
-    let d = c.desc.inside in
-    let v = d.seat.me.0.view in
-    let a = opened good stm d.number d.local c.desc.view_is refl c.desc.invariant.0.named c.desc.invariant.0.low c.desc.invariant.1 c.requires.stm in
-    let at = has-attempt good stm a c.requires.running c.requires.algorithm in
-    let plain : d.local.granted ≡ false = search rules in
-    laws.may-leave (good stm.rule) stm.config d.number d.local v (attempt.inside (good stm.rule) stm.config d.number d.local v at) at.named (attempt.kept (good stm.rule) stm.config d.number d.local v at plain)
+    let at = has-attempt g.K.MemRule.good c.args.stm.now (opened g.K.MemRule.good c.args.stm.now c.desc.inside.number c.desc.inside.local c.desc.view_is refl c.desc.invariant.0.named c.desc.invariant.0.low c.desc.invariant.1 c.requires.stm) c.requires.running c.requires.algorithm in
+    laws.may-leave _ _ _ _ _ (attempt.inside _ _ _ _ _ at) at.named (attempt.kept _ _ _ _ _ at (search rules))
 
 pub returns-clause-cancels : goal.returns-clause-cancels
 returns-clause-cancels g c =
-    let good = g.K.MemRule.good in
-    let stm = c.args.stm.now in
-    let d = c.desc.inside in
-    let v = d.seat.me.0.view in
-    let a = opened good stm d.number d.local c.desc.view_is refl c.desc.invariant.0.named c.desc.invariant.0.low c.desc.invariant.1 c.requires.stm in
-    let at = has-attempt good stm a c.requires.running c.requires.algorithm in
-    let plain : d.local.granted ≡ false = search rules in
-    let y = c.leave.new.seat.me.0.view in
-    let P = λ (n : ℕ) (v w : Known). answers.Cancels (good stm.rule) stm.config n (cancels.Cancelled d.local.start) v w in
-    tells-of good stm a P (known_of y (own_of c.leave.new.local)) (subst (λ (m : Local). P d.number (known_of v (own_of d.local)) (known_of y (own_of m))) (sym c.leave.ensures.idle)
-    (laws.tells-cancelled (good stm.rule) stm.config d.number d.local v (attempt.inside (good stm.rule) stm.config d.number d.local v at) at.named (attempt.kept (good stm.rule) stm.config d.number d.local v at plain) (own_of d.local) y (ap (λ q. q.view) c.leave.ensures.left)))
+    let a = opened g.K.MemRule.good c.args.stm.now c.desc.inside.number c.desc.inside.local c.desc.view_is refl c.desc.invariant.0.named c.desc.invariant.0.low c.desc.invariant.1 c.requires.stm in
+    let at = has-attempt g.K.MemRule.good c.args.stm.now a c.requires.running c.requires.algorithm in
+    let P = λ (n : ℕ) (v w : Known). answers.Cancels (g.K.MemRule.good c.args.stm.now.rule) c.args.stm.now.config n (cancels.Cancelled c.desc.inside.local.start) v w in
+    tells-of g.K.MemRule.good c.args.stm.now a P (known_of c.leave.new.seat.me.0.view (own_of c.leave.new.local)) (subst (λ (m : Local). P c.desc.inside.number (known_of c.desc.inside.seat.me.0.view (own_of c.desc.inside.local)) (known_of c.leave.new.seat.me.0.view (own_of m))) (sym c.leave.ensures.idle)
+    (laws.tells-cancelled _ _ _ _ _ (attempt.inside _ _ _ _ _ at) at.named (attempt.kept _ _ _ _ _ at (search rules)) (own_of c.desc.inside.local) c.leave.new.seat.me.0.view (ap (λ q. q.view) c.leave.ensures.left)))

@@ -1,4 +1,4 @@
-use Rattle.std.proofs.Common.{◌<◌, ◌≤◌, ◌+◌, rules}
+use Rattle.std.proofs.Common.{◌≤◌, ◌+◌, rules}
 use Rattle.stm_model.specs.declared.config.TheConstants.{CLOCK_LIMIT}
 use Rattle.rule_base.specs.StepKinds.{Nothing}
 use Rattle.rule_ring.specs.RingSteps.{ring_tick, ring_done}
@@ -23,13 +23,7 @@ returns-then-clock-ge-CLOCK_LIMIT-clause-decides g c = λ before turn.
 
 pub check-requires-clause-view : goal.check-requires-clause-view
 check-requires-clause-view g c =
-    let f = c.args.stm.now.config in
-    let good = g.K.MemRule.good c.args.stm.now.rule in
-    let b = c.requires.turn in
-    let s = c.args.seat.now.me.0 in
-    let u = c.tick-clock.new.seat.me.0 in
-    let t = tells-of ring_tick (FindsTick (good_of g.K.MemRule.good f c.args.stm.now.rule) f) s c.tick-clock.result u c.tick-clock.ensures.step in
-    laws.may-check good f c.args.caller c.args.local.now b.0 s.view b.1 c.tick-clock.result u.view t
+    laws.may-check (g.K.MemRule.good c.args.stm.now.rule) c.args.stm.now.config c.args.caller c.args.local.now c.requires.turn.0 c.args.seat.now.me.0.view c.requires.turn.1 c.tick-clock.result c.tick-clock.new.seat.me.0.view (tells-of ring_tick (FindsTick (good_of g.K.MemRule.good c.args.stm.now.config c.args.stm.now.rule) c.args.stm.now.config) _ _ _ c.tick-clock.ensures.step)
 
 pub returns-in-Err-clause-decides : goal.returns-in-Err-clause-decides
 returns-in-Err-clause-decides g c = λ before turn.
@@ -42,34 +36,15 @@ returns-in-Err-clause-decides g c = λ before turn.
 
 pub enter-requires-clause-enter : goal.enter-requires-clause-enter
 enter-requires-clause-enter g c =
-    let f = c.args.stm.now.config in
-    let good = g.K.MemRule.good c.args.stm.now.rule in
-    let b = c.requires.turn in
-    let s = c.args.seat.now.me.0 in
-    let u = c.tick-clock.new.seat.me.0 in
-    let t = tells-of ring_tick (FindsTick (good_of g.K.MemRule.good f c.args.stm.now.rule) f) s c.tick-clock.result u c.tick-clock.ensures.step in
-    let under : c.tick-clock.result < CLOCK_LIMIT = search rules in
-    laws.may-enter good f c.args.caller c.args.local.now b.0 s.view b.1 c.tick-clock.result u.view t c.in_default.field-0 c.check.new.seat.me.0.view c.in_default.ensures.checks under
+    laws.may-enter (g.K.MemRule.good c.args.stm.now.rule) c.args.stm.now.config c.args.caller c.args.local.now c.requires.turn.0 c.args.seat.now.me.0.view c.requires.turn.1 c.tick-clock.result c.tick-clock.new.seat.me.0.view (tells-of ring_tick (FindsTick (good_of g.K.MemRule.good c.args.stm.now.config c.args.stm.now.rule) c.args.stm.now.config) _ _ _ c.tick-clock.ensures.step) c.in_default.field-0 c.check.new.seat.me.0.view c.in_default.ensures.checks (search rules)
 
 pub write_back-requires-clause-back : goal.write_back-requires-clause-back
 write_back-requires-clause-back g c =
-    let f = c.args.stm.now.config in
-    let good = g.K.MemRule.good c.args.stm.now.rule in
-    let b = c.requires.turn in
-    let s = c.args.seat.now.me.0 in
-    let u = c.tick-clock.new.seat.me.0 in
-    let t = tells-of ring_tick (FindsTick (good_of g.K.MemRule.good f c.args.stm.now.rule) f) s c.tick-clock.result u c.tick-clock.ensures.step in
-    laws.may-write_back good f c.args.caller c.args.local.now b.0 s.view b.1 c.tick-clock.result u.view t c.in_default.field-0 c.check.new.seat.me.0.view c.in_default.ensures.checks c.enter.new.seat.me.0.view c.enter.ensures.enters
+    laws.may-write_back (g.K.MemRule.good c.args.stm.now.rule) c.args.stm.now.config c.args.caller c.args.local.now c.requires.turn.0 c.args.seat.now.me.0.view c.requires.turn.1 c.tick-clock.result c.tick-clock.new.seat.me.0.view (tells-of ring_tick (FindsTick (good_of g.K.MemRule.good c.args.stm.now.config c.args.stm.now.rule) c.args.stm.now.config) _ _ _ c.tick-clock.ensures.step) c.in_default.field-0 c.check.new.seat.me.0.view c.in_default.ensures.checks c.enter.new.seat.me.0.view c.enter.ensures.enters
 
 pub done-requires-clause-view : goal.done-requires-clause-view
 done-requires-clause-view g c =
-    let f = c.args.stm.now.config in
-    let good = g.K.MemRule.good c.args.stm.now.rule in
-    let b = c.requires.turn in
-    let s = c.args.seat.now.me.0 in
-    let u = c.tick-clock.new.seat.me.0 in
-    let t = tells-of ring_tick (FindsTick (good_of g.K.MemRule.good f c.args.stm.now.rule) f) s c.tick-clock.result u c.tick-clock.ensures.step in
-    laws.may-done good f c.args.caller c.args.local.now b.0 s.view b.1 c.tick-clock.result u.view t c.in_default.field-0 c.check.new.seat.me.0.view c.in_default.ensures.checks c.enter.new.seat.me.0.view c.enter.ensures.enters c.write_back.new.seat.me.0.view c.write_back.ensures.back
+    laws.may-done (g.K.MemRule.good c.args.stm.now.rule) c.args.stm.now.config c.args.caller c.args.local.now c.requires.turn.0 c.args.seat.now.me.0.view c.requires.turn.1 c.tick-clock.result c.tick-clock.new.seat.me.0.view (tells-of ring_tick (FindsTick (good_of g.K.MemRule.good c.args.stm.now.config c.args.stm.now.rule) c.args.stm.now.config) _ _ _ c.tick-clock.ensures.step) c.in_default.field-0 c.check.new.seat.me.0.view c.in_default.ensures.checks c.enter.new.seat.me.0.view c.enter.ensures.enters c.write_back.new.seat.me.0.view c.write_back.ensures.back
 
 pub returns-clause-decides : goal.returns-clause-decides
 returns-clause-decides g c = λ before turn.

@@ -37,30 +37,22 @@ slot-requires-clause-word g c = let low : c.loop-i.i < SLOT_WORDS = (let a = c.l
 
 pub slot-requires-clause-view : goal.slot-requires-clause-view
 slot-requires-clause-view g c =
-    let i = c.loop-i.invariant in
-    let l = c.args.local.now in
     let low : c.loop-i.i < SLOT_WORDS = (let a = c.loop-i-test.true in omega arith) in
-    subst (CanRingSlot c.args.time c.loop-i.i (cells_of l.writes.items)) (sym (ap (λ (y : SeatView g.row.K.Denot). y.view) i.seat))
-    (may-slot (g.K.MemRule.good c.args.stm.now.rule) c.args.stm.now.config c.args.time l c.args.seat.now.me.0.view c.requires.enter c.loop-i.i i.writes i.more low i.same)
+    subst (CanRingSlot c.args.time c.loop-i.i (cells_of c.args.local.now.writes.items)) (sym (ap (λ (y : SeatView g.row.K.Denot). y.view) c.loop-i.invariant.seat))
+    (may-slot (g.K.MemRule.good c.args.stm.now.rule) c.args.stm.now.config c.args.time c.args.local.now c.args.seat.now.me.0.view c.requires.enter c.loop-i.i c.loop-i.invariant.writes c.loop-i.invariant.more low c.loop-i.invariant.same)
 
 pub loop-i-preserved : goal.loop-i-preserved
 loop-i-preserved g c =
-    let i = c.loop-i.invariant in
-    let s = c.args.seat.now.me.0 in
-    let ws = cells_of c.args.local.now.writes.items in
-    let x = c.word.result in
-    let ring = c.args.stm.now.config.ring in
-    let step = c.slot.ensures.step in
     let same = c.slot.ensures.same in
     record {
-      table = same.0 ∙ i.table;
-      id = same.1 ∙ i.id;
-      steps = (let l = ap (λ (y : SeatView g.row.K.Denot). length y.view.steps.trail) step.3 in let q = i.steps in omega arith);
-      bare = same.2 ∙ i.bare;
-      writes = ws;
-      more = record { place = Slot (slot_place ring c.args.time c.loop-i.i); act = Store (slot_filter.word ws c.loop-i.i); found = None } ∷ i.more;
+      table = same.0 ∙ c.loop-i.invariant.table;
+      id = same.1 ∙ c.loop-i.invariant.id;
+      steps = (let l = ap (λ (y : SeatView g.row.K.Denot). length y.view.steps.trail) c.slot.ensures.step.3 in let q = c.loop-i.invariant.steps in omega arith);
+      bare = same.2 ∙ c.loop-i.invariant.bare;
+      writes = (cells_of c.args.local.now.writes.items);
+      more = record { place = Slot (slot_place c.args.stm.now.config.ring c.args.time c.loop-i.i); act = Store (slot_filter.word (cells_of c.args.local.now.writes.items) c.loop-i.i); found = None } ∷ c.loop-i.invariant.more;
       same = λ z. refl;
-      seat = step.3 ∙ ap (λ (y : SeatView g.row.K.Denot). record y { view = view_after (ring_slot slot_filter ring c.args.time c.loop-i.i ws) step.0 y.view x }) i.seat;
+      seat = c.slot.ensures.step.3 ∙ ap (λ (y : SeatView g.row.K.Denot). record y { view = view_after (ring_slot slot_filter c.args.stm.now.config.ring c.args.time c.loop-i.i (cells_of c.args.local.now.writes.items)) c.slot.ensures.step.0 y.view c.word.result }) c.loop-i.invariant.seat;
     }
 
 pub enter-requires-clause-seat : goal.enter-requires-clause-seat
@@ -68,43 +60,24 @@ enter-requires-clause-seat g c = let i = c.loop-i.invariant in (i.table ∙ c.re
 
 pub enter-requires-clause-view : goal.enter-requires-clause-view
 enter-requires-clause-view g c =
-    let f = c.args.stm.now.config in
-    let good = g.K.MemRule.good c.args.stm.now.rule in
-    let i = c.loop-i.invariant in
-    let v = c.args.seat.now.me.0.view in
-    let l = c.args.local.now in
     let all : c.loop-i.i ≡ SLOT_WORDS = (let a = c.loop-i-test.false in let b = c.loop-i.auto.i-end in omega arith) in
-    subst (CanRingEnter (good_of g.K.MemRule.good f c.args.stm.now.rule) f.words c.args.time) (sym (ap (λ (y : SeatView g.row.K.Denot). y.view) i.seat ∙ ap (λ (k : ℕ). slotted_at v k i.writes i.more) all))
-    (may-enter good f c.args.time l v c.requires.enter i.writes i.more (i.same (omega arith)))
+    subst (CanRingEnter (good_of g.K.MemRule.good c.args.stm.now.config c.args.stm.now.rule) c.args.stm.now.config.words c.args.time) (sym (ap (λ (y : SeatView g.row.K.Denot). y.view) c.loop-i.invariant.seat ∙ ap (λ (k : ℕ). slotted_at c.args.seat.now.me.0.view k c.loop-i.invariant.writes c.loop-i.invariant.more) all))
+    (may-enter (g.K.MemRule.good c.args.stm.now.rule) c.args.stm.now.config c.args.time c.args.local.now c.args.seat.now.me.0.view c.requires.enter c.loop-i.invariant.writes c.loop-i.invariant.more (c.loop-i.invariant.same (omega arith)))
 
 pub enter-requires-clause-spared : goal.enter-requires-clause-spared
 enter-requires-clause-spared g c =
-    let i = c.loop-i.invariant in
-    let v = c.args.seat.now.me.0.view in
     let all : c.loop-i.i ≡ SLOT_WORDS = (let a = c.loop-i-test.false in let b = c.loop-i.auto.i-end in omega arith) in
-    subst (λ (y : View). AreSpared y.ring_commit.writes y) (sym (ap (λ (y : SeatView g.row.K.Denot). y.view) i.seat ∙ ap (λ (k : ℕ). slotted_at v k i.writes i.more) all))
-    (subst (λ (cs : List Cell). Apart v.gate.fence cs) (i.same (omega arith)) c.requires.enter.spared)
+    subst (λ (y : View). AreSpared y.ring_commit.writes y) (sym (ap (λ (y : SeatView g.row.K.Denot). y.view) c.loop-i.invariant.seat ∙ ap (λ (k : ℕ). slotted_at c.args.seat.now.me.0.view k c.loop-i.invariant.writes c.loop-i.invariant.more) all))
+    (subst (λ (cs : List Cell). Apart c.args.seat.now.me.0.view.gate.fence cs) (c.loop-i.invariant.same (omega arith)) c.requires.enter.spared)
 
 pub returns-clause-same : goal.returns-clause-same
 returns-clause-same g c =
-    let i = c.loop-i.invariant in
-    let s = c.args.seat.now.me.0 in
-    let same = c.enter.ensures.same in
-    let step = c.enter.ensures.step in
-    ((same.0 ∙ i.table, same.1 ∙ i.id, same.2 ∙ i.bare), step.3 ∙ (ap (λ (y : SeatView g.row.K.Denot). record y { view = view_after (ring_enter c.args.caller c.args.time) step.0 c.loop-i.seat.me.0.view c.args.time }) i.seat ∙ ap (λ (w : View). record s { view = w }) (sym (ap (λ (y : SeatView g.row.K.Denot). y.view) step.3))))
+    ((c.enter.ensures.same.0 ∙ c.loop-i.invariant.table, c.enter.ensures.same.1 ∙ c.loop-i.invariant.id, c.enter.ensures.same.2 ∙ c.loop-i.invariant.bare), c.enter.ensures.step.3 ∙ (ap (λ (y : SeatView g.row.K.Denot). record y { view = view_after (ring_enter c.args.caller c.args.time) c.enter.ensures.step.0 c.loop-i.seat.me.0.view c.args.time }) c.loop-i.invariant.seat ∙ ap (λ (w : View). record c.args.seat.now.me.0 { view = w }) (sym (ap (λ (y : SeatView g.row.K.Denot). y.view) c.enter.ensures.step.3))))
 
 pub returns-clause-enters : goal.returns-clause-enters
 returns-clause-enters g c =
-    let f = c.args.stm.now.config in
-    let good = g.K.MemRule.good c.args.stm.now.rule in
-    let rule = good_of g.K.MemRule.good f c.args.stm.now.rule in
-    let i = c.loop-i.invariant in
-    let v = c.args.seat.now.me.0.view in
-    let l = c.args.local.now in
-    let n = c.args.caller in
-    let t = c.args.time in
-    let w = c.enter.new.seat.me.0 in
+    let rule = good_of g.K.MemRule.good c.args.stm.now.config c.args.stm.now.rule in
     let all : c.loop-i.i ≡ SLOT_WORDS = (let a = c.loop-i-test.false in let b = c.loop-i.auto.i-end in omega arith) in
-    tells-entered good f t l v c.requires.enter n i.writes i.more w.view (i.same (omega arith))
-    (subst (λ (y : View). Tells (ring_enter n t) (RingEnters rule f n t) y t w.view) (ap (λ (y : SeatView g.row.K.Denot). y.view) i.seat ∙ ap (λ (k : ℕ). slotted_at v k i.writes i.more) all)
-    (tells-of (ring_enter n t) (RingEnters rule f n t) c.loop-i.seat.me.0 t w c.enter.ensures.step))
+    tells-entered (g.K.MemRule.good c.args.stm.now.rule) c.args.stm.now.config c.args.time c.args.local.now c.args.seat.now.me.0.view c.requires.enter c.args.caller c.loop-i.invariant.writes c.loop-i.invariant.more c.enter.new.seat.me.0.view (c.loop-i.invariant.same (omega arith))
+    (subst (λ (y : View). Tells (ring_enter c.args.caller c.args.time) (RingEnters rule c.args.stm.now.config c.args.caller c.args.time) y c.args.time c.enter.new.seat.me.0.view) (ap (λ (y : SeatView g.row.K.Denot). y.view) c.loop-i.invariant.seat ∙ ap (λ (k : ℕ). slotted_at c.args.seat.now.me.0.view k c.loop-i.invariant.writes c.loop-i.invariant.more) all)
+    (tells-of (ring_enter c.args.caller c.args.time) (RingEnters rule c.args.stm.now.config c.args.caller c.args.time) _ _ _ c.enter.ensures.step))

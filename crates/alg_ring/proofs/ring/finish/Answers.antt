@@ -10,22 +10,15 @@ free-requires-clause-view g c = let b = c.requires.turn in (c.commit_locked-answ
 
 pub leave-requires-clause-view : goal.leave-requires-clause-view
 leave-requires-clause-view g c =
-    let b = c.requires.turn in
-    let is = laws.freed-is c.commit_locked-answer.new.seat.me.0 c.free.new.seat.me.0 c.free.ensures.step in
-    subst CanLeave (sym is) (c.commit_locked-answer.ensures.decides b.0 b.1).leave
+    subst CanLeave (sym (laws.freed-is c.commit_locked-answer.new.seat.me.0 c.free.new.seat.me.0 c.free.ensures.step)) (c.commit_locked-answer.ensures.decides c.requires.turn.0 c.requires.turn.1).leave
 
 pub leave-requires-clause-holds : goal.leave-requires-clause-holds
 leave-requires-clause-holds g c =
-    let b = c.requires.turn in
-    let is = laws.freed-is c.commit_locked-answer.new.seat.me.0 c.free.new.seat.me.0 c.free.ensures.step in
-    b.1.has.attempt.stands.holds ∙ sym (ap (λ (y : View). y.gate.holds) is ∙ ap (λ h. h.holds) (c.commit_locked-answer.ensures.decides b.0 b.1).gate)
+    c.requires.turn.1.has.attempt.stands.holds ∙ sym (ap (λ (y : View). y.gate.holds) (laws.freed-is c.commit_locked-answer.new.seat.me.0 c.free.new.seat.me.0 c.free.ensures.step) ∙ ap (λ h. h.holds) (c.commit_locked-answer.ensures.decides c.requires.turn.0 c.requires.turn.1).gate)
 
 pub leave-requires-clause-named : goal.leave-requires-clause-named
 leave-requires-clause-named g c =
-    let b = c.requires.turn in
-    let is = laws.freed-is c.commit_locked-answer.new.seat.me.0 c.free.new.seat.me.0 c.free.ensures.step in
-    let i = inside (g.K.MemRule.good c.args.stm.now.rule) c.args.stm.now.config c.args.caller c.args.local.now b.0 b.1.has.attempt in
-    sym i.named ∙ sym (ap (λ (y : View). y.gate.algorithm) is ∙ ap (λ h. h.algorithm) (c.commit_locked-answer.ensures.decides b.0 b.1).gate)
+    sym (inside (g.K.MemRule.good c.args.stm.now.rule) c.args.stm.now.config c.args.caller c.args.local.now c.requires.turn.0 c.requires.turn.1.has.attempt).named ∙ sym (ap (λ (y : View). y.gate.algorithm) (laws.freed-is c.commit_locked-answer.new.seat.me.0 c.free.new.seat.me.0 c.free.ensures.step) ∙ ap (λ h. h.algorithm) (c.commit_locked-answer.ensures.decides c.requires.turn.0 c.requires.turn.1).gate)
 
 pub returns-clause-finishes : goal.returns-clause-finishes
 returns-clause-finishes g c = λ before turn.

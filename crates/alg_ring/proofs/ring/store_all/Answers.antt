@@ -20,9 +20,8 @@ direct_store-requires-clause-seat g c = let i = c.loop-i.invariant in (i.table �
 
 pub direct_store-requires-clause-view : goal.direct_store-requires-clause-view
 direct_store-requires-clause-view g c =
-    let i = c.loop-i.invariant in
     let low : c.loop-i.i < length c.args.writes.now.items = omega (arith, c.loop-i-test.true, c.count-i-end.ensures.count) in
-    subst (CanDirectStore c.args.stm.now.config.words c.item-a.result.0 c.item-a.result.1) (sym (ap (λ (y : SeatView g.row.K.Denot). y.view) i.seat)) (record {
+    subst (CanDirectStore c.args.stm.now.config.words c.item-a.result.0 c.item-a.result.1) (sym (ap (λ (y : SeatView g.row.K.Denot). y.view) c.loop-i.invariant.seat)) (record {
       granted = c.requires.granted;
       inside = c.requires.inside c.item-a.result.0 (item-inside c.args.writes.now.items c.loop-i.i c.item-a.result low c.item-a.ensures);
       small = omega arith;
@@ -30,27 +29,20 @@ direct_store-requires-clause-view g c =
 
 pub direct_store-requires-clause-spared : goal.direct_store-requires-clause-spared
 direct_store-requires-clause-spared g c =
-    let i = c.loop-i.invariant in
     let low : c.loop-i.i < length c.args.writes.now.items = omega (arith, c.loop-i-test.true, c.count-i-end.ensures.count) in
-    ap (λ (y : SeatView g.row.K.Denot). fenced y.view.gate.fence c.item-a.result.0) i.seat ∙ c.requires.spared c.item-a.result.0 (item-inside c.args.writes.now.items c.loop-i.i c.item-a.result low c.item-a.ensures)
+    ap (λ (y : SeatView g.row.K.Denot). fenced y.view.gate.fence c.item-a.result.0) c.loop-i.invariant.seat ∙ c.requires.spared c.item-a.result.0 (item-inside c.args.writes.now.items c.loop-i.i c.item-a.result low c.item-a.ensures)
 
 pub loop-i-preserved : goal.loop-i-preserved
 loop-i-preserved g c =
-    let i = c.loop-i.invariant in
-    let v = c.args.seat.now.me.0.view in
-    let a = c.item-a.result.0 in
-    let x = c.item-a.result.1 in
     let low : c.loop-i.i < length c.args.writes.now.items = omega (arith, c.loop-i-test.true, c.count-i-end.ensures.count) in
-    let step = c.direct_store.ensures.step in
-    let same = c.direct_store.ensures.same in
     record {
-      table = same.0 ∙ i.table;
-      id = same.1 ∙ i.id;
-      steps = (let l = ap (λ (y : SeatView g.row.K.Denot). length y.view.steps.trail) step.3 in let q = i.steps in omega arith);
-      bare = same.2 ∙ i.bare;
-      more = record { place = Heap a; act = Store x; found = None } ∷ i.more;
-      seat = step.3 ∙ (ap (λ (y : SeatView g.row.K.Denot). record y { view = view_after (direct_store a x) step.0 y.view x }) i.seat
-          ∙ ap (λ (cs : List Cell). record c.args.seat.now.me.0 { view = stored_at v cs (record { place = Heap a; act = Store x; found = None } ∷ i.more) }) (next-stored c.args.writes.now.items c.loop-i.i c.item-a.result low c.item-a.ensures));
+      table = c.direct_store.ensures.same.0 ∙ c.loop-i.invariant.table;
+      id = c.direct_store.ensures.same.1 ∙ c.loop-i.invariant.id;
+      steps = (let l = ap (λ (y : SeatView g.row.K.Denot). length y.view.steps.trail) c.direct_store.ensures.step.3 in let q = c.loop-i.invariant.steps in omega arith);
+      bare = c.direct_store.ensures.same.2 ∙ c.loop-i.invariant.bare;
+      more = record { place = Heap c.item-a.result.0; act = Store c.item-a.result.1; found = None } ∷ c.loop-i.invariant.more;
+      seat = c.direct_store.ensures.step.3 ∙ (ap (λ (y : SeatView g.row.K.Denot). record y { view = view_after (direct_store c.item-a.result.0 c.item-a.result.1) c.direct_store.ensures.step.0 y.view c.item-a.result.1 }) c.loop-i.invariant.seat
+          ∙ ap (λ (cs : List Cell). record c.args.seat.now.me.0 { view = stored_at c.args.seat.now.me.0.view cs (record { place = Heap c.item-a.result.0; act = Store c.item-a.result.1; found = None } ∷ c.loop-i.invariant.more) }) (next-stored c.args.writes.now.items c.loop-i.i c.item-a.result low c.item-a.ensures));
     }
 
 pub returns-clause-same : goal.returns-clause-same
@@ -58,8 +50,7 @@ returns-clause-same g c = let i = c.loop-i.invariant in ((i.table, i.id, i.bare)
 
 pub returns-clause-stores : goal.returns-clause-stores
 returns-clause-stores g c =
-    let i = c.loop-i.invariant in
     record {
-      more = i.more;
-      is = ap (λ (y : SeatView g.row.K.Denot). y.view) i.seat ∙ ap (λ (l : List (ℕ × ℕ)). stored_at c.args.seat.now.me.0.view (cells_of l) i.more) (take-all c.args.writes.now.items c.loop-i.i (omega (arith, c.loop-i-test.false, c.count-i-end.ensures.count)));
+      more = c.loop-i.invariant.more;
+      is = ap (λ (y : SeatView g.row.K.Denot). y.view) c.loop-i.invariant.seat ∙ ap (λ (l : List (ℕ × ℕ)). stored_at c.args.seat.now.me.0.view (cells_of l) c.loop-i.invariant.more) (take-all c.args.writes.now.items c.loop-i.i (omega (arith, c.loop-i-test.false, c.count-i-end.ensures.count)));
     }

@@ -27,39 +27,29 @@ write_back-requires-clause-seat g c = let i = c.loop-i.invariant in (i.table ∙
 pub write_back-requires-clause-place : goal.write_back-requires-clause-place
 write_back-requires-clause-place g c =
     let low : c.loop-i.i < length c.args.writes.now.items = omega (arith, c.loop-i-test.true, c.count-i-end.ensures.count) in
-    let p = next-back c.args.writes.now.items c.loop-i.i c.item-a.result low c.requires.back.once c.item-a.ensures in
-    c.requires.back.inside c.item-a.result.0 (sub-inside c.args.writes.now.items c.loop-i.i c.item-a.result.0 p.0)
+    c.requires.back.inside c.item-a.result.0 (sub-inside c.args.writes.now.items c.loop-i.i c.item-a.result.0 (next-back c.args.writes.now.items c.loop-i.i c.item-a.result low c.requires.back.once c.item-a.ensures).0)
 
 pub write_back-requires-clause-view : goal.write_back-requires-clause-view
 write_back-requires-clause-view g c =
-    let i = c.loop-i.invariant in
     let low : c.loop-i.i < length c.args.writes.now.items = omega (arith, c.loop-i-test.true, c.count-i-end.ensures.count) in
     let p = next-back c.args.writes.now.items c.loop-i.i c.item-a.result low c.requires.back.once c.item-a.ensures in
-    let e = c.requires.back.entered in
-    subst (CanRingWrite c.item-a.result.0 c.item-a.result.1) (sym (ap (λ (y : SeatView g.row.K.Denot). y.view) i.seat)) (record {
-      entered = record { runs = record { phase = e.runs.phase; algorithm = e.runs.algorithm; plain = e.runs.plain }; committed = e.committed; unfinished = e.unfinished };
+    subst (CanRingWrite c.item-a.result.0 c.item-a.result.1) (sym (ap (λ (y : SeatView g.row.K.Denot). y.view) c.loop-i.invariant.seat)) (record {
+      entered = record { runs = record { phase = c.requires.back.entered.runs.phase; algorithm = c.requires.back.entered.runs.algorithm; plain = c.requires.back.entered.runs.plain }; committed = c.requires.back.entered.committed; unfinished = c.requires.back.entered.unfinished };
       owed = p.0;
       value = p.1;
     })
 
 pub loop-i-preserved : goal.loop-i-preserved
 loop-i-preserved g c =
-    let i = c.loop-i.invariant in
-    let v = c.args.seat.now.me.0.view in
-    let a = c.item-a.result.0 in
-    let x = c.item-a.result.1 in
     let low : c.loop-i.i < length c.args.writes.now.items = omega (arith, c.loop-i-test.true, c.count-i-end.ensures.count) in
-    let p = next-back c.args.writes.now.items c.loop-i.i c.item-a.result low c.requires.back.once c.item-a.ensures in
-    let step = c.write_back.ensures.step in
-    let same = c.write_back.ensures.same in
     record {
-      table = same.0 ∙ i.table;
-      id = same.1 ∙ i.id;
-      steps = (let l = ap (λ (y : SeatView g.row.K.Denot). length y.view.steps.trail) step.3 in let q = i.steps in omega arith);
-      bare = same.2 ∙ i.bare;
-      more = record { place = Heap a; act = Store x; found = None } ∷ i.more;
-      seat = step.3 ∙ (ap (λ (y : SeatView g.row.K.Denot). record y { view = view_after (ring_write a x) step.0 y.view x }) i.seat
-          ∙ ap (λ (cs : List Cell). record c.args.seat.now.me.0 { view = back_at v cs (record { place = Heap a; act = Store x; found = None } ∷ i.more) }) p.2);
+      table = c.write_back.ensures.same.0 ∙ c.loop-i.invariant.table;
+      id = c.write_back.ensures.same.1 ∙ c.loop-i.invariant.id;
+      steps = (let l = ap (λ (y : SeatView g.row.K.Denot). length y.view.steps.trail) c.write_back.ensures.step.3 in let q = c.loop-i.invariant.steps in omega arith);
+      bare = c.write_back.ensures.same.2 ∙ c.loop-i.invariant.bare;
+      more = record { place = Heap c.item-a.result.0; act = Store c.item-a.result.1; found = None } ∷ c.loop-i.invariant.more;
+      seat = c.write_back.ensures.step.3 ∙ (ap (λ (y : SeatView g.row.K.Denot). record y { view = view_after (ring_write c.item-a.result.0 c.item-a.result.1) c.write_back.ensures.step.0 y.view c.item-a.result.1 }) c.loop-i.invariant.seat
+          ∙ ap (λ (cs : List Cell). record c.args.seat.now.me.0 { view = back_at c.args.seat.now.me.0.view cs (record { place = Heap c.item-a.result.0; act = Store c.item-a.result.1; found = None } ∷ c.loop-i.invariant.more) }) (next-back c.args.writes.now.items c.loop-i.i c.item-a.result low c.requires.back.once c.item-a.ensures).2);
     }
 
 pub returns-clause-same : goal.returns-clause-same
@@ -67,8 +57,7 @@ returns-clause-same g c = let i = c.loop-i.invariant in ((i.table, i.id, i.bare)
 
 pub returns-clause-back : goal.returns-clause-back
 returns-clause-back g c =
-    let i = c.loop-i.invariant in
     record {
-      more = i.more;
-      is = ap (λ (y : SeatView g.row.K.Denot). y.view) i.seat ∙ ap (λ (l : List (ℕ × ℕ)). back_at c.args.seat.now.me.0.view (cells_of l) i.more) (drop-all c.args.writes.now.items c.loop-i.i (omega (arith, c.loop-i-test.false, c.count-i-end.ensures.count)));
+      more = c.loop-i.invariant.more;
+      is = ap (λ (y : SeatView g.row.K.Denot). y.view) c.loop-i.invariant.seat ∙ ap (λ (l : List (ℕ × ℕ)). back_at c.args.seat.now.me.0.view (cells_of l) c.loop-i.invariant.more) (drop-all c.args.writes.now.items c.loop-i.i (omega (arith, c.loop-i-test.false, c.count-i-end.ensures.count)));
     }

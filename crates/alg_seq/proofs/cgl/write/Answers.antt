@@ -19,18 +19,12 @@ use Rattle.alg_seq.proofs.cgl.write.Goals as goal
 
 pub returns-clause-write : goal.returns-clause-write
 returns-clause-write g c =
-    let f = c.args.stm.now.config in
     let good = g.K.MemRule.good c.args.stm.now.rule in
-    let a = c.args.a in
-    let x = c.args.x in
-    let d = c.desc.inside in
-    let s = d.seat.me.0 in
-    let w = c.store_heap.new.seat.me.0 in
-    let o = own_of d.local in
-    let i = runs-of g.K.MemRule.good f c.args.stm.now.rule (handle_of d.seat o) c.args.desc.now d.number d.local c.desc.view_is c.requires.stm.config c.requires.stm.rule c.requires.running.0 c.desc.invariant.1 in
+    let o = own_of c.desc.inside.local in
+    let i = runs-of g.K.MemRule.good c.args.stm.now.config c.args.stm.now.rule (handle_of c.desc.inside.seat o) c.args.desc.now c.desc.inside.number c.desc.inside.local c.desc.view_is c.requires.stm.config c.requires.stm.rule c.requires.running.0 c.desc.invariant.1 in
     let named = subst (λ (h : Handle g.row.K.Denot). (known h).alg ≡ Cgl) (sym c.desc.view_is) c.requires.algorithm in
-    let t = tells-of (store_heap a x) Nothing s x w c.store_heap.ensures.step in
-    told (λ n v w. HasWritten good f n a x Done v w) (handle_of d.seat o) c.args.desc.now d.number w d.local c.desc.view_is
-    (who-of (store_heap a x) Nothing s x w c.store_heap.ensures.step) c.desc.invariant.0.named
-    (subst (λ (y : View). HasWritten good f d.number a x Done (known_of s.view o) (known_of y o)) (sym t.2)
-    (tells-store good f d.number a x s.view s.view o t.0 i.phase (ap takes_lock named) (ap (λ (p : Handle g.row.K.Denot). (known p).committing) c.desc.view_is ∙ c.requires.running.1) (no-log-full a (known_of s.view o) (ap has_read_log named) (ap logs_writes named)).1 (logged-refl s.view) refl (still-opaque good f d.number d.local s.view o i)))
+    let t = tells-of (store_heap c.args.a c.args.x) Nothing _ c.args.x _ c.store_heap.ensures.step in
+    told (λ n v w. HasWritten good c.args.stm.now.config n c.args.a c.args.x Done v w) (handle_of c.desc.inside.seat o) c.args.desc.now c.desc.inside.number c.store_heap.new.seat.me.0 c.desc.inside.local c.desc.view_is
+    (who-of (store_heap c.args.a c.args.x) Nothing c.desc.inside.seat.me.0 c.args.x c.store_heap.new.seat.me.0 c.store_heap.ensures.step) c.desc.invariant.0.named
+    (subst (λ (y : View). HasWritten good c.args.stm.now.config c.desc.inside.number c.args.a c.args.x Done (known_of c.desc.inside.seat.me.0.view o) (known_of y o)) (sym t.2)
+    (tells-store good c.args.stm.now.config c.desc.inside.number c.args.a c.args.x c.desc.inside.seat.me.0.view c.desc.inside.seat.me.0.view o t.0 i.phase (ap takes_lock named) (ap (λ (p : Handle g.row.K.Denot). (known p).committing) c.desc.view_is ∙ c.requires.running.1) (no-log-full c.args.a (known_of c.desc.inside.seat.me.0.view o) (ap has_read_log named) (ap logs_writes named)).1 (logged-refl c.desc.inside.seat.me.0.view) refl (still-opaque good c.args.stm.now.config c.desc.inside.number c.desc.inside.local c.desc.inside.seat.me.0.view o i)))

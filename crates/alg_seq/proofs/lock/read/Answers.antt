@@ -1,7 +1,7 @@
 use Rattle.std.proofs.Common.{subst, sym, ◌≡◌, true, ap, ◌∙◌}
 use Rattle.stm_model.specs.Algorithms.{takes_lock}
 use Rattle.stm_rule.specs.Attempts.{own_of}
-use Rattle.stm_rule.specs.Callers.{Handle, handle_of}
+use Rattle.stm_rule.specs.Callers.{Handle}
 use Rattle.stm_rule.specs.Kept.{good_of}
 use Rattle.stm_rule.specs.StandLemmas.{tells-of}
 use Rattle.stm_gate.specs.Knowing.{known}
@@ -15,15 +15,7 @@ use Rattle.alg_seq.proofs.lock.read.Goals as goal
 
 pub returns-clause-read : goal.returns-clause-read
 returns-clause-read g c =
-    let f = c.args.stm.now.config in
-    let good = g.K.MemRule.good c.args.stm.now.rule in
-    let d = c.desc.inside in
-    let s = d.seat.me.0 in
-    let w = c.load_heap.new.seat.me.0 in
-    let o = own_of d.local in
-    let shows = Loads (good_of g.K.MemRule.good f c.args.stm.now.rule) f c.args.a in
-    let i = runs-of g.K.MemRule.good f c.args.stm.now.rule (handle_of d.seat o) c.args.desc.now d.number d.local c.desc.view_is c.requires.stm.config c.requires.stm.rule c.requires.running.0 c.desc.invariant.1 in
-    let locks = subst (λ (h : Handle g.row.K.Denot). takes_lock (known h).alg ≡ true) (sym c.desc.view_is) c.requires.locks in
-    told (λ n v w. HasRead good f n c.args.a (Value c.load_heap.result) v w) (handle_of d.seat o) c.args.desc.now d.number w d.local c.desc.view_is
-    (who-of (load_heap c.args.a) shows s c.load_heap.result w c.load_heap.ensures.step) c.desc.invariant.0.named
-    (tells-read good f d.number c.args.a c.load_heap.result d.local s.view w.view o c.requires.inside i locks (ap (λ (p : Handle g.row.K.Denot). (known p).committing) c.desc.view_is ∙ c.requires.running.1) (tells-of (load_heap c.args.a) shows s c.load_heap.result w c.load_heap.ensures.step))
+    let shows = Loads (good_of g.K.MemRule.good c.args.stm.now.config c.args.stm.now.rule) c.args.stm.now.config c.args.a in
+    told (λ n v w. HasRead (g.K.MemRule.good c.args.stm.now.rule) c.args.stm.now.config n c.args.a (Value c.load_heap.result) v w) _ _ _ c.load_heap.new.seat.me.0 c.desc.inside.local c.desc.view_is
+    (who-of (load_heap c.args.a) shows c.desc.inside.seat.me.0 c.load_heap.result c.load_heap.new.seat.me.0 c.load_heap.ensures.step) c.desc.invariant.0.named
+    (tells-read _ _ _ c.args.a c.load_heap.result c.desc.inside.local c.desc.inside.seat.me.0.view c.load_heap.new.seat.me.0.view (own_of c.desc.inside.local) c.requires.inside (runs-of g.K.MemRule.good _ _ _ _ _ _ c.desc.view_is c.requires.stm.config c.requires.stm.rule c.requires.running.0 c.desc.invariant.1) (subst (λ (h : Handle g.row.K.Denot). takes_lock (known h).alg ≡ true) (sym c.desc.view_is) c.requires.locks) (ap (λ (p : Handle g.row.K.Denot). (known p).committing) c.desc.view_is ∙ c.requires.running.1) (tells-of (load_heap c.args.a) shows _ _ _ c.load_heap.ensures.step))

@@ -1,6 +1,5 @@
 use Rattle.std.proofs.Common.{◌≡◌, ◌<◌, ◌+◌, true, false, refl, sym, ap, subst, ◌∙◌, arith}
-use Rattle.stm_model.specs.Algorithms.{irrevocable_under}
-use Rattle.stm_rule.specs.Attempts.{SameLengths, good_by, own_of}
+use Rattle.stm_rule.specs.Attempts.{HasRoom, good_by, own_of}
 use Rattle.stm_rule.specs.Callers.{Handle}
 use Rattle.stm_rule.specs.StandLemmas.{inside-of}
 use Rattle.tx_answers.specs.Answers.{IsMarked}
@@ -16,76 +15,41 @@ use Rattle.alg_seq.proofs.nesting.checkpoint.Goals as goal
 
 pub invariant_of-desc : goal.invariant_of-desc
 invariant_of-desc g c =
-    let d = c.desc.inside in
-    let s = d.seat.me.0 in
-    let l = d.local in
-    let good = good_by g.K.MemRule.good s.who.rule in
-    let f = s.who.config in
-    let phase = in-of s.view.gate.phase (ap (λ (p : Handle g.row.K.Denot). is_in p.view.gate.phase) c.desc.view_is ∙ c.requires.running.0) in
-    let i = inside-of good f d.number l s.view phase c.desc.invariant.1 in
-    let sequential : is_sequential s.view.gate.algorithm ≡ true = subst (λ (p : Handle g.row.K.Denot). is_sequential (known p).alg ≡ true) (sym c.desc.view_is) c.requires.algorithm in
-    let irrevocable : irrevocable_under l.algorithm l.granted l.wrote ≡ true = sym c.irrevocable_under-irrevocable.ensures ∙ c.if-irrevocable.true in
-    let m = record l { depth = l.depth + 1 } in
-    (c.desc.invariant.0, stands-on good f d.number l m s.view s.view phase c.desc.invariant.1 refl refl c.desc.invariant.1.lengths refl (nesting.stays-deeper good f d.number l s.view i sequential irrevocable (l.depth + 1)))
+    let phase = in-of c.desc.inside.seat.me.0.view.gate.phase (ap (λ (p : Handle g.row.K.Denot). is_in p.view.gate.phase) c.desc.view_is ∙ c.requires.running.0) in (
+      c.desc.invariant.0,
+      stands-on (good_by g.K.MemRule.good c.desc.inside.seat.me.0.who.rule) c.desc.inside.seat.me.0.who.config c.desc.inside.number c.desc.inside.local (record c.desc.inside.local { depth = c.desc.inside.local.depth + 1 }) c.desc.inside.seat.me.0.view c.desc.inside.seat.me.0.view phase c.desc.invariant.1 refl refl c.desc.invariant.1.lengths refl
+          (nesting.stays-deeper (good_by g.K.MemRule.good c.desc.inside.seat.me.0.who.rule) c.desc.inside.seat.me.0.who.config c.desc.inside.number c.desc.inside.local c.desc.inside.seat.me.0.view (inside-of (good_by g.K.MemRule.good c.desc.inside.seat.me.0.who.rule) c.desc.inside.seat.me.0.who.config c.desc.inside.number c.desc.inside.local c.desc.inside.seat.me.0.view phase c.desc.invariant.1) (subst (λ (p : Handle g.row.K.Denot). is_sequential (known p).alg ≡ true) (sym c.desc.view_is) c.requires.algorithm) (sym c.irrevocable_under-irrevocable.ensures ∙ c.if-irrevocable.true) (c.desc.inside.local.depth + 1)),
+    )
 
 pub returns-then-irrevocable-clause-checks : goal.returns-then-irrevocable-clause-checks
 returns-then-irrevocable-clause-checks g c =
-    let d = c.desc.inside in
-    let s = d.seat.me.0 in
-    let l = d.local in
-    let good = good_by g.K.MemRule.good s.who.rule in
-    let f = s.who.config in
-    let phase = in-of s.view.gate.phase (ap (λ (p : Handle g.row.K.Denot). is_in p.view.gate.phase) c.desc.view_is ∙ c.requires.running.0) in
-    let i = inside-of good f d.number l s.view phase c.desc.invariant.1 in
-    let sequential : is_sequential s.view.gate.algorithm ≡ true = subst (λ (p : Handle g.row.K.Denot). is_sequential (known p).alg ≡ true) (sym c.desc.view_is) c.requires.algorithm in
-    let irrevocable : irrevocable_under l.algorithm l.granted l.wrote ≡ true = sym c.irrevocable_under-irrevocable.ensures ∙ c.if-irrevocable.true in
-    let m = record l { depth = l.depth + 1 } in
-    subst (λ (p : Handle g.row.K.Denot). (p.own.depth < MAX_MARKS) × (l.depth + 1 ≡ p.own.depth + 1) × IsMarked (known p) (known_of s.view (own_of m))) c.desc.view_is
-    (c.if-depth-ge-MAX_MARKS.false, refl, record { is = nesting.known-with good f d.number l s.view i sequential l.writes (l.depth + 1); marks = λ r. absurd (let no : true ≡ false = sym (nesting.deeper-marked good f d.number l s.view i sequential irrevocable (l.depth + 1)) ∙ r in cc) })
+    let i = inside-of (good_by g.K.MemRule.good c.desc.inside.seat.me.0.who.rule) c.desc.inside.seat.me.0.who.config c.desc.inside.number c.desc.inside.local c.desc.inside.seat.me.0.view (in-of c.desc.inside.seat.me.0.view.gate.phase (ap (λ (p : Handle g.row.K.Denot). is_in p.view.gate.phase) c.desc.view_is ∙ c.requires.running.0)) c.desc.invariant.1 in
+    let sequential : is_sequential c.desc.inside.seat.me.0.view.gate.algorithm ≡ true = subst (λ (p : Handle g.row.K.Denot). is_sequential (known p).alg ≡ true) (sym c.desc.view_is) c.requires.algorithm in
+    subst (λ (p : Handle g.row.K.Denot). (p.own.depth < MAX_MARKS) × (c.desc.inside.local.depth + 1 ≡ p.own.depth + 1) × IsMarked (known p) (known_of c.desc.inside.seat.me.0.view (own_of (record c.desc.inside.local { depth = c.desc.inside.local.depth + 1 })))) c.desc.view_is
+    (c.if-depth-ge-MAX_MARKS.false, refl, record { is = nesting.known-with (good_by g.K.MemRule.good c.desc.inside.seat.me.0.who.rule) c.desc.inside.seat.me.0.who.config c.desc.inside.number c.desc.inside.local c.desc.inside.seat.me.0.view i sequential c.desc.inside.local.writes (c.desc.inside.local.depth + 1); marks = λ r. absurd (let no : true ≡ false = sym (nesting.deeper-marked (good_by g.K.MemRule.good c.desc.inside.seat.me.0.who.rule) c.desc.inside.seat.me.0.who.config c.desc.inside.number c.desc.inside.local c.desc.inside.seat.me.0.view i sequential (sym c.irrevocable_under-irrevocable.ensures ∙ c.if-irrevocable.true) (c.desc.inside.local.depth + 1)) ∙ r in cc) })
 
 pub mark-requires : goal.mark-requires
 mark-requires g c =
-    let d = c.desc.inside in
-    let s = d.seat.me.0 in
-    let l = d.local in
-    let good = good_by g.K.MemRule.good s.who.rule in
-    let f = s.who.config in
-    let phase = in-of s.view.gate.phase (ap (λ (p : Handle g.row.K.Denot). is_in p.view.gate.phase) c.desc.view_is ∙ c.requires.running.0) in
-    let i = inside-of good f d.number l s.view phase c.desc.invariant.1 in
-    let sequential : is_sequential s.view.gate.algorithm ≡ true = subst (λ (p : Handle g.row.K.Denot). is_sequential (known p).alg ≡ true) (sym c.desc.view_is) c.requires.algorithm in
-    let plain : irrevocable_under l.algorithm l.granted l.wrote ≡ false = sym c.irrevocable_under-irrevocable.ensures ∙ c.if-irrevocable.false in
-    let n = nesting.count good f d.number l s.view i sequential plain in
-    let low : l.depth < MAX_MARKS = c.if-depth-ge-MAX_MARKS.false in
+    let n = nesting.count (good_by g.K.MemRule.good c.desc.inside.seat.me.0.who.rule) c.desc.inside.seat.me.0.who.config c.desc.inside.number c.desc.inside.local c.desc.inside.seat.me.0.view (inside-of (good_by g.K.MemRule.good c.desc.inside.seat.me.0.who.rule) c.desc.inside.seat.me.0.who.config c.desc.inside.number c.desc.inside.local c.desc.inside.seat.me.0.view (in-of c.desc.inside.seat.me.0.view.gate.phase (ap (λ (p : Handle g.row.K.Denot). is_in p.view.gate.phase) c.desc.view_is ∙ c.requires.running.0)) c.desc.invariant.1)
+    (subst (λ (p : Handle g.row.K.Denot). is_sequential (known p).alg ≡ true) (sym c.desc.view_is) c.requires.algorithm) (sym c.irrevocable_under-irrevocable.ensures ∙ c.if-irrevocable.false) in
+    let low : c.desc.inside.local.depth < MAX_MARKS = c.if-depth-ge-MAX_MARKS.false in
     omega arith
 
 pub invariant_of-desc-2 : goal.invariant_of-desc-2
 invariant_of-desc-2 g c =
-    let d = c.desc.inside in
-    let s = d.seat.me.0 in
-    let l = d.local in
-    let good = good_by g.K.MemRule.good s.who.rule in
-    let f = s.who.config in
-    let phase = in-of s.view.gate.phase (ap (λ (p : Handle g.row.K.Denot). is_in p.view.gate.phase) c.desc.view_is ∙ c.requires.running.0) in
-    let i = inside-of good f d.number l s.view phase c.desc.invariant.1 in
-    let sequential : is_sequential s.view.gate.algorithm ≡ true = subst (λ (p : Handle g.row.K.Denot). is_sequential (known p).alg ≡ true) (sym c.desc.view_is) c.requires.algorithm in
-    let plain : irrevocable_under l.algorithm l.granted l.wrote ≡ false = sym c.irrevocable_under-irrevocable.ensures ∙ c.if-irrevocable.false in
-    let log = c.mark.new.self in
-    let m = record l { writes = log; depth = l.depth + 1 } in
-    let lengths : SameLengths m = (ap (λ (y : LogState). y.len) c.mark.ensures ∙ c.desc.invariant.1.lengths.0, c.desc.invariant.1.lengths.1) in
-    (c.desc.invariant.0, stands-on good f d.number l m s.view s.view phase c.desc.invariant.1 refl refl lengths refl (nesting.stays-marked good f d.number l s.view i sequential plain log c.mark.ensures))
+    let phase = in-of c.desc.inside.seat.me.0.view.gate.phase (ap (λ (p : Handle g.row.K.Denot). is_in p.view.gate.phase) c.desc.view_is ∙ c.requires.running.0) in
+    let m = record c.desc.inside.local { writes = c.mark.new.self; depth = c.desc.inside.local.depth + 1 } in
+    let lengths : HasRoom c.desc.inside.seat.me.0.who.config m = (ap (λ (y : LogState). y.len) c.mark.ensures ∙ c.desc.invariant.1.lengths.0, c.desc.invariant.1.lengths.1, c.desc.invariant.1.lengths.2) in (
+      c.desc.invariant.0,
+      stands-on (good_by g.K.MemRule.good c.desc.inside.seat.me.0.who.rule) c.desc.inside.seat.me.0.who.config c.desc.inside.number c.desc.inside.local m c.desc.inside.seat.me.0.view c.desc.inside.seat.me.0.view phase c.desc.invariant.1 refl refl lengths refl
+          (nesting.stays-marked (good_by g.K.MemRule.good c.desc.inside.seat.me.0.who.rule) c.desc.inside.seat.me.0.who.config c.desc.inside.number c.desc.inside.local c.desc.inside.seat.me.0.view (inside-of (good_by g.K.MemRule.good c.desc.inside.seat.me.0.who.rule) c.desc.inside.seat.me.0.who.config c.desc.inside.number c.desc.inside.local c.desc.inside.seat.me.0.view phase c.desc.invariant.1) (subst (λ (p : Handle g.row.K.Denot). is_sequential (known p).alg ≡ true) (sym c.desc.view_is) c.requires.algorithm) (sym c.irrevocable_under-irrevocable.ensures ∙ c.if-irrevocable.false) c.mark.new.self c.mark.ensures),
+    )
 
 pub returns-clause-checks : goal.returns-clause-checks
 returns-clause-checks g c =
-    let d = c.desc.inside in
-    let s = d.seat.me.0 in
-    let l = d.local in
-    let good = good_by g.K.MemRule.good s.who.rule in
-    let f = s.who.config in
-    let phase = in-of s.view.gate.phase (ap (λ (p : Handle g.row.K.Denot). is_in p.view.gate.phase) c.desc.view_is ∙ c.requires.running.0) in
-    let i = inside-of good f d.number l s.view phase c.desc.invariant.1 in
-    let sequential : is_sequential s.view.gate.algorithm ≡ true = subst (λ (p : Handle g.row.K.Denot). is_sequential (known p).alg ≡ true) (sym c.desc.view_is) c.requires.algorithm in
-    let plain : irrevocable_under l.algorithm l.granted l.wrote ≡ false = sym c.irrevocable_under-irrevocable.ensures ∙ c.if-irrevocable.false in
-    let log = c.mark.new.self in
-    let m = record l { writes = log; depth = l.depth + 1 } in
-    subst (λ (p : Handle g.row.K.Denot). (p.own.depth < MAX_MARKS) × (l.depth + 1 ≡ p.own.depth + 1) × IsMarked (known p) (known_of s.view (own_of m))) c.desc.view_is
-    (c.if-depth-ge-MAX_MARKS.false, refl, nesting.marks-now good f d.number l s.view i sequential plain log c.mark.ensures)
+    subst (λ (p : Handle g.row.K.Denot). (p.own.depth < MAX_MARKS) × (c.desc.inside.local.depth + 1 ≡ p.own.depth + 1) × IsMarked (known p) (known_of c.desc.inside.seat.me.0.view (own_of (record c.desc.inside.local { writes = c.mark.new.self; depth = c.desc.inside.local.depth + 1 })))) c.desc.view_is (
+      c.if-depth-ge-MAX_MARKS.false,
+      refl,
+      nesting.marks-now (good_by g.K.MemRule.good c.desc.inside.seat.me.0.who.rule) c.desc.inside.seat.me.0.who.config c.desc.inside.number c.desc.inside.local c.desc.inside.seat.me.0.view (inside-of (good_by g.K.MemRule.good c.desc.inside.seat.me.0.who.rule) c.desc.inside.seat.me.0.who.config c.desc.inside.number c.desc.inside.local c.desc.inside.seat.me.0.view (in-of c.desc.inside.seat.me.0.view.gate.phase (ap (λ (p : Handle g.row.K.Denot). is_in p.view.gate.phase) c.desc.view_is ∙ c.requires.running.0)) c.desc.invariant.1)
+          (subst (λ (p : Handle g.row.K.Denot). is_sequential (known p).alg ≡ true) (sym c.desc.view_is) c.requires.algorithm) (sym c.irrevocable_under-irrevocable.ensures ∙ c.if-irrevocable.false) c.mark.new.self c.mark.ensures,
+    )

@@ -6,8 +6,8 @@ use Rattle.stm_model.specs.Memories.{is_empty}
 use Rattle.rule_base.specs.declared.seats.SeatView.{SeatView}
 use Rattle.rule_base.specs.declared.seats.Who.{Who}
 use Rattle.rule_base.specs.declared.views.View.{View}
-use Rattle.stm_rule.specs.Attempts.{SameLengths, good_by, own_of}
-use Rattle.stm_rule.specs.Callers.{Handle, handle_of}
+use Rattle.stm_rule.specs.Attempts.{HasRoom, good_by, own_of}
+use Rattle.stm_rule.specs.Callers.{Handle}
 use Rattle.tx_answers.specs.declared.answers.Roll.TheVariants as rolls
 use Rattle.tx_answers.specs.Answers.{Rolls}
 use Rattle.tx_answers.specs.Known.{is_irrevocable}
@@ -23,152 +23,62 @@ use Rattle.alg_seq.proofs.nesting.roll_in_place.Goals as goal
 
 pub take_back-requires-clause-left : goal.take_back-requires-clause-left
 take_back-requires-clause-left g c =
-    let f = c.args.stm.now.config in
-    let good = g.K.MemRule.good c.args.stm.now.rule in
-    let d = c.desc.inside in
-    let s = d.seat.me.0 in
-    let l = d.local in
-    let o = own_of l in
-    let h = handle_of d.seat o in
-    let e = c.args.desc.now in
-    let i = runs-of g.K.MemRule.good f c.args.stm.now.rule h e d.number l c.desc.view_is c.requires.stm.config c.requires.stm.rule c.requires.running.0 c.desc.invariant.1 in
-    let serial : s.view.gate.algorithm ≡ Serial = subst (λ (p : Handle g.row.K.Denot). (known p).alg ≡ Serial) (sym c.desc.view_is) c.requires.algorithm in
-    let named : l.algorithm ≡ Serial = sym i.named ∙ serial in
-    let plain : l.granted ≡ false = (λ j. irrevocable_under (sym named j) l.granted l.wrote) ∙ (sym (irrevocable-of good f d.number l s.view o i) ∙ subst (λ (p : Handle g.row.K.Denot). is_irrevocable (known p) ≡ false) (sym c.desc.view_is) c.requires.revocable) in
-    let quiet : l.committing ≡ false = ap (λ (p : Handle g.row.K.Denot). (known p).committing) c.desc.view_is ∙ c.requires.running.1 in
-    let high : c.args.depth ≤ l.depth = subst (λ (p : Handle g.row.K.Denot). c.args.depth ≤ p.own.depth) (sym c.desc.view_is) c.requires.high in
-    let log = c.roll_to.new.self in
-    let is = c.roll_to.ensures.rolled in
-    let prefix = c.roll_to.ensures.prefix in
-    let n = c.count-count.ensures.count in
-    let k = rolling.left-low good f d.number l s.view i serial plain quiet log c.args.depth c.requires.low high is prefix in
+    let i = runs-of g.K.MemRule.good _ _ _ _ _ _ c.desc.view_is c.requires.stm.config c.requires.stm.rule c.requires.running.0 c.desc.invariant.1 in
+    let serial : c.desc.inside.seat.me.0.view.gate.algorithm ≡ Serial = subst (λ (p : Handle g.row.K.Denot). (known p).alg ≡ Serial) (sym c.desc.view_is) c.requires.algorithm in
+    let plain : c.desc.inside.local.granted ≡ false = (λ j. irrevocable_under (sym (sym i.named ∙ serial) j) c.desc.inside.local.granted c.desc.inside.local.wrote) ∙ (sym (irrevocable-of _ _ _ _ _ (own_of c.desc.inside.local) i) ∙ subst (λ (p : Handle g.row.K.Denot). is_irrevocable (known p) ≡ false) (sym c.desc.view_is) c.requires.revocable) in
+    let k = rolling.left-low _ _ _ _ _ i serial plain (ap (λ (p : Handle g.row.K.Denot). (known p).committing) c.desc.view_is ∙ c.requires.running.1) c.roll_to.new.self c.args.depth c.requires.low (subst (λ (p : Handle g.row.K.Denot). c.args.depth ≤ p.own.depth) (sym c.desc.view_is) c.requires.high) c.roll_to.ensures.rolled c.roll_to.ensures.prefix in
     omega arith
 
 pub truncate-requires : goal.truncate-requires
 truncate-requires g c =
-    let f = c.args.stm.now.config in
-    let good = g.K.MemRule.good c.args.stm.now.rule in
-    let d = c.desc.inside in
-    let s = d.seat.me.0 in
-    let l = d.local in
-    let o = own_of l in
-    let h = handle_of d.seat o in
-    let e = c.args.desc.now in
-    let i = runs-of g.K.MemRule.good f c.args.stm.now.rule h e d.number l c.desc.view_is c.requires.stm.config c.requires.stm.rule c.requires.running.0 c.desc.invariant.1 in
-    let serial : s.view.gate.algorithm ≡ Serial = subst (λ (p : Handle g.row.K.Denot). (known p).alg ≡ Serial) (sym c.desc.view_is) c.requires.algorithm in
-    let named : l.algorithm ≡ Serial = sym i.named ∙ serial in
-    let plain : l.granted ≡ false = (λ j. irrevocable_under (sym named j) l.granted l.wrote) ∙ (sym (irrevocable-of good f d.number l s.view o i) ∙ subst (λ (p : Handle g.row.K.Denot). is_irrevocable (known p) ≡ false) (sym c.desc.view_is) c.requires.revocable) in
-    let quiet : l.committing ≡ false = ap (λ (p : Handle g.row.K.Denot). (known p).committing) c.desc.view_is ∙ c.requires.running.1 in
-    let high : c.args.depth ≤ l.depth = subst (λ (p : Handle g.row.K.Denot). c.args.depth ≤ p.own.depth) (sym c.desc.view_is) c.requires.high in
-    let log = c.roll_to.new.self in
-    let is = c.roll_to.ensures.rolled in
-    let prefix = c.roll_to.ensures.prefix in
-    let n = c.count-count.ensures.count in
-    let k = rolling.left-low good f d.number l s.view i serial plain quiet log c.args.depth c.requires.low high is prefix in
+    let i = runs-of g.K.MemRule.good _ _ _ _ _ _ c.desc.view_is c.requires.stm.config c.requires.stm.rule c.requires.running.0 c.desc.invariant.1 in
+    let serial : c.desc.inside.seat.me.0.view.gate.algorithm ≡ Serial = subst (λ (p : Handle g.row.K.Denot). (known p).alg ≡ Serial) (sym c.desc.view_is) c.requires.algorithm in
+    let plain : c.desc.inside.local.granted ≡ false = (λ j. irrevocable_under (sym (sym i.named ∙ serial) j) c.desc.inside.local.granted c.desc.inside.local.wrote) ∙ (sym (irrevocable-of _ _ _ _ _ (own_of c.desc.inside.local) i) ∙ subst (λ (p : Handle g.row.K.Denot). is_irrevocable (known p) ≡ false) (sym c.desc.view_is) c.requires.revocable) in
+    let k = rolling.left-low _ _ _ _ _ i serial plain (ap (λ (p : Handle g.row.K.Denot). (known p).committing) c.desc.view_is ∙ c.requires.running.1) c.roll_to.new.self c.args.depth c.requires.low (subst (λ (p : Handle g.row.K.Denot). c.args.depth ≤ p.own.depth) (sym c.desc.view_is) c.requires.high) c.roll_to.ensures.rolled c.roll_to.ensures.prefix in
     omega arith
 
 pub store_again-requires-clause-again : goal.store_again-requires-clause-again
 store_again-requires-clause-again g c =
-    let f = c.args.stm.now.config in
-    let good = g.K.MemRule.good c.args.stm.now.rule in
-    let d = c.desc.inside in
-    let s = d.seat.me.0 in
-    let l = d.local in
-    let o = own_of l in
-    let h = handle_of d.seat o in
-    let e = c.args.desc.now in
-    let i = runs-of g.K.MemRule.good f c.args.stm.now.rule h e d.number l c.desc.view_is c.requires.stm.config c.requires.stm.rule c.requires.running.0 c.desc.invariant.1 in
-    let serial : s.view.gate.algorithm ≡ Serial = subst (λ (p : Handle g.row.K.Denot). (known p).alg ≡ Serial) (sym c.desc.view_is) c.requires.algorithm in
-    let named : l.algorithm ≡ Serial = sym i.named ∙ serial in
-    let plain : l.granted ≡ false = (λ j. irrevocable_under (sym named j) l.granted l.wrote) ∙ (sym (irrevocable-of good f d.number l s.view o i) ∙ subst (λ (p : Handle g.row.K.Denot). is_irrevocable (known p) ≡ false) (sym c.desc.view_is) c.requires.revocable) in
-    let quiet : l.committing ≡ false = ap (λ (p : Handle g.row.K.Denot). (known p).committing) c.desc.view_is ∙ c.requires.running.1 in
-    let high : c.args.depth ≤ l.depth = subst (λ (p : Handle g.row.K.Denot). c.args.depth ≤ p.own.depth) (sym c.desc.view_is) c.requires.high in
-    let log = c.roll_to.new.self in
-    let is = c.roll_to.ensures.rolled in
-    let prefix = c.roll_to.ensures.prefix in
-    let n = c.count-count.ensures.count in
-    let u = c.take_back.new.seat.me.0.view in
-    let back = subst (λ (k : ℕ). IsTakenBack f.words k l.undo.items s.view u) n c.take_back.ensures.back in
-    rolling.may-store-again good f d.number l s.view i serial plain quiet log c.args.depth c.requires.low high is prefix u back
+    let i = runs-of g.K.MemRule.good _ _ _ _ _ _ c.desc.view_is c.requires.stm.config c.requires.stm.rule c.requires.running.0 c.desc.invariant.1 in
+    let serial : c.desc.inside.seat.me.0.view.gate.algorithm ≡ Serial = subst (λ (p : Handle g.row.K.Denot). (known p).alg ≡ Serial) (sym c.desc.view_is) c.requires.algorithm in
+    let plain : c.desc.inside.local.granted ≡ false = (λ j. irrevocable_under (sym (sym i.named ∙ serial) j) c.desc.inside.local.granted c.desc.inside.local.wrote) ∙ (sym (irrevocable-of _ _ _ _ _ (own_of c.desc.inside.local) i) ∙ subst (λ (p : Handle g.row.K.Denot). is_irrevocable (known p) ≡ false) (sym c.desc.view_is) c.requires.revocable) in
+    rolling.may-store-again _ _ _ _ _ i serial plain (ap (λ (p : Handle g.row.K.Denot). (known p).committing) c.desc.view_is ∙ c.requires.running.1) c.roll_to.new.self c.args.depth c.requires.low (subst (λ (p : Handle g.row.K.Denot). c.args.depth ≤ p.own.depth) (sym c.desc.view_is) c.requires.high) c.roll_to.ensures.rolled c.roll_to.ensures.prefix c.take_back.new.seat.me.0.view (subst (λ (k : ℕ). IsTakenBack c.args.stm.now.config.words k c.desc.inside.local.undo.items c.desc.inside.seat.me.0.view c.take_back.new.seat.me.0.view) c.count-count.ensures.count c.take_back.ensures.back)
 
 pub invariant_of-desc : goal.invariant_of-desc
 invariant_of-desc g c =
-    let f = c.args.stm.now.config in
-    let good = g.K.MemRule.good c.args.stm.now.rule in
-    let d = c.desc.inside in
-    let s = d.seat.me.0 in
-    let l = d.local in
-    let o = own_of l in
-    let h = handle_of d.seat o in
-    let e = c.args.desc.now in
-    let i = runs-of g.K.MemRule.good f c.args.stm.now.rule h e d.number l c.desc.view_is c.requires.stm.config c.requires.stm.rule c.requires.running.0 c.desc.invariant.1 in
-    let serial : s.view.gate.algorithm ≡ Serial = subst (λ (p : Handle g.row.K.Denot). (known p).alg ≡ Serial) (sym c.desc.view_is) c.requires.algorithm in
-    let named : l.algorithm ≡ Serial = sym i.named ∙ serial in
-    let plain : l.granted ≡ false = (λ j. irrevocable_under (sym named j) l.granted l.wrote) ∙ (sym (irrevocable-of good f d.number l s.view o i) ∙ subst (λ (p : Handle g.row.K.Denot). is_irrevocable (known p) ≡ false) (sym c.desc.view_is) c.requires.revocable) in
-    let quiet : l.committing ≡ false = ap (λ (p : Handle g.row.K.Denot). (known p).committing) c.desc.view_is ∙ c.requires.running.1 in
-    let high : c.args.depth ≤ l.depth = subst (λ (p : Handle g.row.K.Denot). c.args.depth ≤ p.own.depth) (sym c.desc.view_is) c.requires.high in
-    let log = c.roll_to.new.self in
-    let is = c.roll_to.ensures.rolled in
-    let prefix = c.roll_to.ensures.prefix in
-    let n = c.count-count.ensures.count in
-    let u = c.take_back.new.seat.me.0.view in
-    let back = subst (λ (k : ℕ). IsTakenBack f.words k l.undo.items s.view u) n c.take_back.ensures.back in
-    let w = c.store_again.new.seat.me.0 in
-    let cut = c.truncate.new.self in
-    let cut_is = c.truncate.ensures ∙ ap (λ (k : ℕ). record l.undo { items = take k l.undo.items }) n in
+    let i = runs-of g.K.MemRule.good _ _ _ _ _ _ c.desc.view_is c.requires.stm.config c.requires.stm.rule c.requires.running.0 c.desc.invariant.1 in
+    let serial : c.desc.inside.seat.me.0.view.gate.algorithm ≡ Serial = subst (λ (p : Handle g.row.K.Denot). (known p).alg ≡ Serial) (sym c.desc.view_is) c.requires.algorithm in
+    let named : c.desc.inside.local.algorithm ≡ Serial = sym i.named ∙ serial in
+    let plain : c.desc.inside.local.granted ≡ false = (λ j. irrevocable_under (sym named j) c.desc.inside.local.granted c.desc.inside.local.wrote) ∙ (sym (irrevocable-of _ _ _ _ _ (own_of c.desc.inside.local) i) ∙ subst (λ (p : Handle g.row.K.Denot). is_irrevocable (known p) ≡ false) (sym c.desc.view_is) c.requires.revocable) in
+    let quiet : c.desc.inside.local.committing ≡ false = ap (λ (p : Handle g.row.K.Denot). (known p).committing) c.desc.view_is ∙ c.requires.running.1 in
+    let high : c.args.depth ≤ c.desc.inside.local.depth = subst (λ (p : Handle g.row.K.Denot). c.args.depth ≤ p.own.depth) (sym c.desc.view_is) c.requires.high in
+    let back = subst (λ (k : ℕ). IsTakenBack c.args.stm.now.config.words k c.desc.inside.local.undo.items c.desc.inside.seat.me.0.view c.take_back.new.seat.me.0.view) c.count-count.ensures.count c.take_back.ensures.back in
+    let cut_is = c.truncate.ensures ∙ ap (λ (k : ℕ). record c.desc.inside.local.undo { items = take k c.desc.inside.local.undo.items }) c.count-count.ensures.count in
     let wrote = nat_lt 0 c.count-count.result in
-    let some : wrote ≡ not (is_empty log.items) = some-by log.items c.count-count.result n in
-    let m = record l { writes = log; undo = cut; wrote = wrote; depth = c.args.depth } in
-    let b = c.take_back.ensures.same in
-    let a = c.store_again.ensures.same in
-    let who = ap (λ (y : SeatView g.row.K.Denot). y.who) a.1 ∙ ap (λ (y : SeatView g.row.K.Denot). y.who) b.1 in
-    let tied = c.desc.invariant.0 in
-    let config = ap (λ (p : Handle g.row.K.Denot). p.who.config) c.desc.view_is ∙ c.requires.stm.config in
-    let value = ap (λ (p : Handle g.row.K.Denot). p.who.rule) c.desc.view_is ∙ c.requires.stm.rule in
-    let running = running-by (good_by g.K.MemRule.good s.who.rule) s.who.config d.number l s.view i.phase c.desc.invariant.1 in
+    let some : wrote ≡ not (is_empty c.roll_to.new.self.items) = some-by c.roll_to.new.self.items c.count-count.result c.count-count.ensures.count in
+    let m = record c.desc.inside.local { writes = c.roll_to.new.self; undo = c.truncate.new.self; wrote = wrote; depth = c.args.depth } in
+    let who = ap (λ (y : SeatView g.row.K.Denot). y.who) c.store_again.ensures.same.1 ∙ ap (λ (y : SeatView g.row.K.Denot). y.who) c.take_back.ensures.same.1 in
     let short = ap (λ (y : LogState). y.len) cut_is in
-    let lengths : SameLengths m = (ap (λ (y : LogState). y.len) is ∙ (c.desc.invariant.1.lengths.0 ∙ sym short), c.desc.invariant.1.lengths.1 ∙ sym short) in
-    let path = rolling.path good f d.number l s.view i serial plain quiet log c.args.depth c.requires.low high is prefix u back w.view c.store_again.ensures.again cut cut_is wrote some in (
+    let lengths : HasRoom c.desc.inside.seat.me.0.who.config m = (ap (λ (y : LogState). y.len) c.roll_to.ensures.rolled ∙ (c.desc.invariant.1.lengths.0 ∙ sym short), (let h = c.desc.invariant.1.lengths.1 in omega arith), c.desc.invariant.1.lengths.2) in
+    let path = rolling.path _ _ _ _ _ i serial plain quiet c.roll_to.new.self c.args.depth c.requires.low high c.roll_to.ensures.rolled c.roll_to.ensures.prefix c.take_back.new.seat.me.0.view back c.store_again.new.seat.me.0.view c.store_again.ensures.again c.truncate.new.self cut_is wrote some in (
       record {
-        named = ap (λ (q : Who g.row.K.Denot). q.role) who ∙ tied.named;
-        low = subst (λ (q : Who g.row.K.Denot). d.number < q.config.callers) (sym who) tied.low;
-        bare = ap (λ (y : SeatView g.row.K.Denot). y.gathered) a.1 ∙ (ap (λ (y : SeatView g.row.K.Denot). y.gathered) b.1 ∙ tied.bare);
-        empty = a.0.2 ∙ (b.0.2 ∙ tied.empty);
+        named = ap (λ (q : Who g.row.K.Denot). q.role) who ∙ c.desc.invariant.0.named;
+        low = subst (λ (q : Who g.row.K.Denot). c.desc.inside.number < q.config.callers) (sym who) c.desc.invariant.0.low;
+        bare = ap (λ (y : SeatView g.row.K.Denot). y.gathered) c.store_again.ensures.same.1 ∙ (ap (λ (y : SeatView g.row.K.Denot). y.gathered) c.take_back.ensures.same.1 ∙ c.desc.invariant.0.bare);
+        empty = c.store_again.ensures.same.0.2 ∙ (c.take_back.ensures.same.0.2 ∙ c.desc.invariant.0.empty);
       },
-      stands-in g.K.MemRule.good f c.args.stm.now.rule w.who d.number m w.view (ap (λ (q : Who g.row.K.Denot). q.config) who ∙ config) (ap (λ (q : Who g.row.K.Denot). q.rule) who ∙ value) running
-          (c.desc.invariant.1.holds ∙ sym (ap (λ (y : View). y.gate.holds) path)) lengths (rolling.stays-rolled good f d.number l s.view i serial plain quiet log c.args.depth c.requires.low high is prefix u back w.view c.store_again.ensures.again cut cut_is wrote some),
+      stands-in g.K.MemRule.good c.args.stm.now.config c.args.stm.now.rule c.store_again.new.seat.me.0.who c.desc.inside.number m c.store_again.new.seat.me.0.view (ap (λ (q : Who g.row.K.Denot). q.config) who ∙ (ap (λ (p : Handle g.row.K.Denot). p.who.config) c.desc.view_is ∙ c.requires.stm.config)) (ap (λ (q : Who g.row.K.Denot). q.rule) who ∙ (ap (λ (p : Handle g.row.K.Denot). p.who.rule) c.desc.view_is ∙ c.requires.stm.rule)) (running-by (good_by g.K.MemRule.good c.desc.inside.seat.me.0.who.rule) c.desc.inside.seat.me.0.who.config c.desc.inside.number c.desc.inside.local c.desc.inside.seat.me.0.view i.phase c.desc.invariant.1)
+          (c.desc.invariant.1.holds ∙ sym (ap (λ (y : View). y.gate.holds) path)) (subst (λ (q : Who g.row.K.Denot). HasRoom q.config m) (sym who) lengths) (rolling.stays-rolled _ _ _ _ _ i serial plain quiet c.roll_to.new.self c.args.depth c.requires.low high c.roll_to.ensures.rolled c.roll_to.ensures.prefix c.take_back.new.seat.me.0.view back c.store_again.new.seat.me.0.view c.store_again.ensures.again c.truncate.new.self cut_is wrote some),
     )
 
 pub returns-clause-rolls : goal.returns-clause-rolls
 returns-clause-rolls g c =
-    let f = c.args.stm.now.config in
-    let good = g.K.MemRule.good c.args.stm.now.rule in
-    let d = c.desc.inside in
-    let s = d.seat.me.0 in
-    let l = d.local in
-    let o = own_of l in
-    let h = handle_of d.seat o in
-    let e = c.args.desc.now in
-    let i = runs-of g.K.MemRule.good f c.args.stm.now.rule h e d.number l c.desc.view_is c.requires.stm.config c.requires.stm.rule c.requires.running.0 c.desc.invariant.1 in
-    let serial : s.view.gate.algorithm ≡ Serial = subst (λ (p : Handle g.row.K.Denot). (known p).alg ≡ Serial) (sym c.desc.view_is) c.requires.algorithm in
-    let named : l.algorithm ≡ Serial = sym i.named ∙ serial in
-    let plain : l.granted ≡ false = (λ j. irrevocable_under (sym named j) l.granted l.wrote) ∙ (sym (irrevocable-of good f d.number l s.view o i) ∙ subst (λ (p : Handle g.row.K.Denot). is_irrevocable (known p) ≡ false) (sym c.desc.view_is) c.requires.revocable) in
-    let quiet : l.committing ≡ false = ap (λ (p : Handle g.row.K.Denot). (known p).committing) c.desc.view_is ∙ c.requires.running.1 in
-    let high : c.args.depth ≤ l.depth = subst (λ (p : Handle g.row.K.Denot). c.args.depth ≤ p.own.depth) (sym c.desc.view_is) c.requires.high in
-    let log = c.roll_to.new.self in
-    let is = c.roll_to.ensures.rolled in
-    let prefix = c.roll_to.ensures.prefix in
-    let n = c.count-count.ensures.count in
-    let u = c.take_back.new.seat.me.0.view in
-    let back = subst (λ (k : ℕ). IsTakenBack f.words k l.undo.items s.view u) n c.take_back.ensures.back in
-    let w = c.store_again.new.seat.me.0 in
-    let cut = c.truncate.new.self in
-    let cut_is = c.truncate.ensures ∙ ap (λ (k : ℕ). record l.undo { items = take k l.undo.items }) n in
+    let i = runs-of g.K.MemRule.good _ _ _ _ _ _ c.desc.view_is c.requires.stm.config c.requires.stm.rule c.requires.running.0 c.desc.invariant.1 in
+    let serial : c.desc.inside.seat.me.0.view.gate.algorithm ≡ Serial = subst (λ (p : Handle g.row.K.Denot). (known p).alg ≡ Serial) (sym c.desc.view_is) c.requires.algorithm in
+    let plain : c.desc.inside.local.granted ≡ false = (λ j. irrevocable_under (sym (sym i.named ∙ serial) j) c.desc.inside.local.granted c.desc.inside.local.wrote) ∙ (sym (irrevocable-of _ _ _ _ _ (own_of c.desc.inside.local) i) ∙ subst (λ (p : Handle g.row.K.Denot). is_irrevocable (known p) ≡ false) (sym c.desc.view_is) c.requires.revocable) in
     let wrote = nat_lt 0 c.count-count.result in
-    let some : wrote ≡ not (is_empty log.items) = some-by log.items c.count-count.result n in
-    let m = record l { writes = log; undo = cut; wrote = wrote; depth = c.args.depth } in
-    let b = c.take_back.ensures.same in
-    let a = c.store_again.ensures.same in
-    let who = ap (λ (y : SeatView g.row.K.Denot). y.who) a.1 ∙ ap (λ (y : SeatView g.row.K.Denot). y.who) b.1 in
-    told (λ n v w. Rolls good f n c.args.depth rolls.Rolled v w) h e d.number w m c.desc.view_is who c.desc.invariant.0.named
-    (rolling.rolls-back good f d.number l s.view i serial plain quiet log c.args.depth c.requires.low high is prefix u back w.view c.store_again.ensures.again cut cut_is wrote some, subst (λ (p : Handle g.row.K.Denot). is_irrevocable (known p) ≡ false) (sym c.desc.view_is) c.requires.revocable)
+    told (λ n v w. Rolls (g.K.MemRule.good c.args.stm.now.rule) c.args.stm.now.config n c.args.depth rolls.Rolled v w) _ _ _ c.store_again.new.seat.me.0 (record c.desc.inside.local { writes = c.roll_to.new.self; undo = c.truncate.new.self; wrote = wrote; depth = c.args.depth }) c.desc.view_is (ap (λ (y : SeatView g.row.K.Denot). y.who) c.store_again.ensures.same.1 ∙ ap (λ (y : SeatView g.row.K.Denot). y.who) c.take_back.ensures.same.1) c.desc.invariant.0.named (
+      rolling.rolls-back _ _ _ _ _ i serial plain (ap (λ (p : Handle g.row.K.Denot). (known p).committing) c.desc.view_is ∙ c.requires.running.1) c.roll_to.new.self c.args.depth c.requires.low (subst (λ (p : Handle g.row.K.Denot). c.args.depth ≤ p.own.depth) (sym c.desc.view_is) c.requires.high) c.roll_to.ensures.rolled c.roll_to.ensures.prefix c.take_back.new.seat.me.0.view
+          (subst (λ (k : ℕ). IsTakenBack c.args.stm.now.config.words k c.desc.inside.local.undo.items c.desc.inside.seat.me.0.view c.take_back.new.seat.me.0.view) c.count-count.ensures.count c.take_back.ensures.back) c.store_again.new.seat.me.0.view c.store_again.ensures.again c.truncate.new.self (c.truncate.ensures ∙ ap (λ (k : ℕ). record c.desc.inside.local.undo { items = take k c.desc.inside.local.undo.items }) c.count-count.ensures.count) wrote (some-by c.roll_to.new.self.items c.count-count.result c.count-count.ensures.count),
+      subst (λ (p : Handle g.row.K.Denot). is_irrevocable (known p) ≡ false) (sym c.desc.view_is) c.requires.revocable,
+    )

@@ -1,4 +1,4 @@
-use Rattle.std.proofs.Common.{◌≡◌, ◌<◌, ◌≤◌, ◌∙◌, true, subst, sym, ap, rules}
+use Rattle.std.proofs.Common.{◌≡◌, ◌≤◌, ◌∙◌, true, subst, sym, ap, rules}
 use Rattle.stm_model.specs.declared.alg.Alg.TheVariants.{Serial}
 use Rattle.rule_base.specs.declared.seats.SeatView.{SeatView}
 use Rattle.rule_base.specs.Own.{Own}
@@ -24,58 +24,34 @@ use Rattle.alg_seq.proofs.serial.become_irrevocable.Goals as goal
 
 pub returns-then-desc-clause-irrevs : goal.returns-then-desc-clause-irrevs
 returns-then-desc-clause-irrevs g c =
-    let f = c.args.stm.now.config in
     let good = g.K.MemRule.good c.args.stm.now.rule in
-    let d = c.desc.inside in
-    let s = d.seat.me.0 in
-    let o = own_of d.local in
-    let i = runs-of g.K.MemRule.good f c.args.stm.now.rule (handle_of d.seat o) c.args.desc.now d.number d.local c.desc.view_is c.requires.stm.config c.requires.stm.rule c.requires.running.0 c.desc.invariant.1 in
-    let named = subst (λ (h : Handle g.row.K.Denot). (known h).alg ≡ Serial) (sym c.desc.view_is) c.requires.algorithm in
-    let serial : d.local.algorithm ≡ Serial = sym i.named ∙ named in
-    let irrevocable = revocable-by good f d.number d.local s.view i serial o ∙ (irrevocable-by good f d.number d.local s.view i serial ∙ c.if-desc.true) in
-    subst (λ (h : Handle g.row.K.Denot). BecomesIrrevocable good f (number h) (known h) (known h)) c.desc.view_is
-    (subst (λ k. BecomesIrrevocable good f k (known_of s.view o) (known_of s.view o)) (sym (ap caller_of c.desc.invariant.0.named)) (stays-irrevocable good f d.number d.local s.view o i (ap (λ (p : Handle g.row.K.Denot). (known p).committing) c.desc.view_is ∙ c.requires.running.1) irrevocable))
+    let o = own_of c.desc.inside.local in
+    let i = runs-of g.K.MemRule.good c.args.stm.now.config c.args.stm.now.rule (handle_of c.desc.inside.seat o) c.args.desc.now c.desc.inside.number c.desc.inside.local c.desc.view_is c.requires.stm.config c.requires.stm.rule c.requires.running.0 c.desc.invariant.1 in
+    let serial : c.desc.inside.local.algorithm ≡ Serial = sym i.named ∙ (subst (λ (h : Handle g.row.K.Denot). (known h).alg ≡ Serial) (sym c.desc.view_is) c.requires.algorithm) in
+    subst (λ (h : Handle g.row.K.Denot). BecomesIrrevocable good c.args.stm.now.config (number h) (known h) (known h)) c.desc.view_is
+    (subst (λ k. BecomesIrrevocable good c.args.stm.now.config k (known_of c.desc.inside.seat.me.0.view o) (known_of c.desc.inside.seat.me.0.view o)) (sym (ap caller_of c.desc.invariant.0.named)) (stays-irrevocable good c.args.stm.now.config c.desc.inside.number c.desc.inside.local c.desc.inside.seat.me.0.view o i (ap (λ (p : Handle g.row.K.Denot). (known p).committing) c.desc.view_is ∙ c.requires.running.1) (revocable-by good c.args.stm.now.config c.desc.inside.number c.desc.inside.local c.desc.inside.seat.me.0.view i serial o ∙ (irrevocable-by good c.args.stm.now.config c.desc.inside.number c.desc.inside.local c.desc.inside.seat.me.0.view i serial ∙ c.if-desc.true))))
 
 pub returns-then-clock-ge-CLOCK_LIMIT-clause-irrevs : goal.returns-then-clock-ge-CLOCK_LIMIT-clause-irrevs
 returns-then-clock-ge-CLOCK_LIMIT-clause-irrevs g c =
-    let f = c.args.stm.now.config in
     let good = g.K.MemRule.good c.args.stm.now.rule in
-    let d = c.desc.inside in
-    let s = d.seat.me.0 in
-    let o = own_of d.local in
-    let i = runs-of g.K.MemRule.good f c.args.stm.now.rule (handle_of d.seat o) c.args.desc.now d.number d.local c.desc.view_is c.requires.stm.config c.requires.stm.rule c.requires.running.0 c.desc.invariant.1 in
+    let o = own_of c.desc.inside.local in
+    let i = runs-of g.K.MemRule.good c.args.stm.now.config c.args.stm.now.rule (handle_of c.desc.inside.seat o) c.args.desc.now c.desc.inside.number c.desc.inside.local c.desc.view_is c.requires.stm.config c.requires.stm.rule c.requires.running.0 c.desc.invariant.1 in
     let named = subst (λ (h : Handle g.row.K.Denot). (known h).alg ≡ Serial) (sym c.desc.view_is) c.requires.algorithm in
-    let serial : d.local.algorithm ≡ Serial = sym i.named ∙ named in
-    let clock = c.load_limit-clock.result in
-    let u = c.load_limit-clock.new.seat.me.0 in
-    let w = c.roll_back.new.seat.me.0 in
-    let r = c.roll_back.ensures in
-    let t = tells-of (load_limit true) LoadsLimit s clock u c.load_limit-clock.ensures.step in
-    let high : CLOCK_LIMIT ≤ clock = search rules in
-    let k = clocked-full s.view u.view clock high t in
-    let who = ap (λ (y : SeatView g.row.K.Denot). y.who) r.same.1 ∙ ap (λ (y : SeatView g.row.K.Denot). y.who) c.load_limit-clock.ensures.step.3 in
-    told (λ n v w. Irrevs good f n (grants.ClockFull clock) v w) (handle_of d.seat o) c.args.desc.now d.number w c.roll_back.new.local c.desc.view_is who c.desc.invariant.0.named
-    (subst (λ (m : Local). Irrevs good f d.number (grants.ClockFull clock) (known_of s.view o) (known_of w.view (own_of m))) (sym r.ended) (
-      quits-back good f d.number d.local s.view i serial u.view w.view o c.if-desc.false k.0 r.gives_up,
+    let serial : c.desc.inside.local.algorithm ≡ Serial = sym i.named ∙ named in
+    let high : CLOCK_LIMIT ≤ c.load_limit-clock.result = search rules in
+    let k = clocked-full c.desc.inside.seat.me.0.view c.load_limit-clock.new.seat.me.0.view c.load_limit-clock.result high (tells-of (load_limit true) LoadsLimit _ _ _ c.load_limit-clock.ensures.step) in
+    told (λ n v w. Irrevs good c.args.stm.now.config n (grants.ClockFull c.load_limit-clock.result) v w) (handle_of c.desc.inside.seat o) c.args.desc.now c.desc.inside.number c.roll_back.new.seat.me.0 c.roll_back.new.local c.desc.view_is (ap (λ (y : SeatView g.row.K.Denot). y.who) c.roll_back.ensures.same.1 ∙ ap (λ (y : SeatView g.row.K.Denot). y.who) c.load_limit-clock.ensures.step.3) c.desc.invariant.0.named
+    (subst (λ (m : Local). Irrevs good c.args.stm.now.config c.desc.inside.number (grants.ClockFull c.load_limit-clock.result) (known_of c.desc.inside.seat.me.0.view o) (known_of c.roll_back.new.seat.me.0.view (own_of m))) (sym c.roll_back.ensures.ended) (
+      quits-back good c.args.stm.now.config c.desc.inside.number c.desc.inside.local c.desc.inside.seat.me.0.view i serial c.load_limit-clock.new.seat.me.0.view c.roll_back.new.seat.me.0.view o c.if-desc.false k.0 c.roll_back.ensures.gives_up,
       ap asks_at_grant named,
-      full-after good f d.number d.local s.view i serial clock u.view w.view o high (k.1 o) r.gives_up,
+      full-after good c.args.stm.now.config c.desc.inside.number c.desc.inside.local c.desc.inside.seat.me.0.view i serial c.load_limit-clock.result c.load_limit-clock.new.seat.me.0.view c.roll_back.new.seat.me.0.view o high (k.1 o) c.roll_back.ensures.gives_up,
     ))
 
 pub returns-clause-irrevs : goal.returns-clause-irrevs
 returns-clause-irrevs g c =
-    let f = c.args.stm.now.config in
-    let good = g.K.MemRule.good c.args.stm.now.rule in
-    let d = c.desc.inside in
-    let s = d.seat.me.0 in
-    let o = own_of d.local in
-    let i = runs-of g.K.MemRule.good f c.args.stm.now.rule (handle_of d.seat o) c.args.desc.now d.number d.local c.desc.view_is c.requires.stm.config c.requires.stm.rule c.requires.running.0 c.desc.invariant.1 in
-    let named = subst (λ (h : Handle g.row.K.Denot). (known h).alg ≡ Serial) (sym c.desc.view_is) c.requires.algorithm in
-    let serial : d.local.algorithm ≡ Serial = sym i.named ∙ named in
-    let clock = c.load_limit-clock.result in
-    let u = c.load_limit-clock.new.seat.me.0 in
-    let t = tells-of (load_limit true) LoadsLimit s clock u c.load_limit-clock.ensures.step in
-    let low : clock < CLOCK_LIMIT = search rules in
-    let m : Local = record d.local { granted = true; undo = c.clear.new.self } in
-    told (λ n v w. Irrevs good f n grants.Granted v w) (handle_of d.seat o) c.args.desc.now d.number u m c.desc.view_is (ap (λ (y : SeatView g.row.K.Denot). y.who) c.load_limit-clock.ensures.step.3) c.desc.invariant.0.named
-    (subst (λ (p : Own). Irrevs good f d.number grants.Granted (known_of s.view o) (known_of u.view p)) (sym (ap (λ (q : LogState). record o { writes_limit = q.len }) c.clear.ensures))
-    (tells-granted good f d.number d.local s.view i serial clock u.view o (ap (λ (p : Handle g.row.K.Denot). (known p).committing) c.desc.view_is ∙ c.requires.running.1) c.if-desc.false low t))
+    let o = own_of c.desc.inside.local in
+    let i = runs-of g.K.MemRule.good c.args.stm.now.config c.args.stm.now.rule (handle_of c.desc.inside.seat o) c.args.desc.now c.desc.inside.number c.desc.inside.local c.desc.view_is c.requires.stm.config c.requires.stm.rule c.requires.running.0 c.desc.invariant.1 in
+    let m : Local = record c.desc.inside.local { granted = true; undo = c.clear.new.self } in
+    told (λ n v w. Irrevs (g.K.MemRule.good c.args.stm.now.rule) c.args.stm.now.config n grants.Granted v w) (handle_of c.desc.inside.seat o) c.args.desc.now c.desc.inside.number c.load_limit-clock.new.seat.me.0 m c.desc.view_is (ap (λ (y : SeatView g.row.K.Denot). y.who) c.load_limit-clock.ensures.step.3) c.desc.invariant.0.named
+    (subst (λ (p : Own). Irrevs (g.K.MemRule.good c.args.stm.now.rule) c.args.stm.now.config c.desc.inside.number grants.Granted (known_of c.desc.inside.seat.me.0.view o) (known_of c.load_limit-clock.new.seat.me.0.view p)) (sym (ap (λ (q : LogState). record o { writes_limit = q.len }) c.clear.ensures))
+    (tells-granted (g.K.MemRule.good c.args.stm.now.rule) c.args.stm.now.config c.desc.inside.number c.desc.inside.local c.desc.inside.seat.me.0.view i (sym i.named ∙ (subst (λ (h : Handle g.row.K.Denot). (known h).alg ≡ Serial) (sym c.desc.view_is) c.requires.algorithm)) c.load_limit-clock.result c.load_limit-clock.new.seat.me.0.view o (ap (λ (p : Handle g.row.K.Denot). (known p).committing) c.desc.view_is ∙ c.requires.running.1) c.if-desc.false (search rules) (tells-of (load_limit true) LoadsLimit c.desc.inside.seat.me.0 c.load_limit-clock.result c.load_limit-clock.new.seat.me.0 c.load_limit-clock.ensures.step)))

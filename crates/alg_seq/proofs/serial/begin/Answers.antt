@@ -1,4 +1,4 @@
-use Rattle.std.proofs.Common.{◌≡◌, ◌≢◌, refl, rules}
+use Rattle.std.proofs.Common.{refl, rules}
 use Rattle.stm_model.specs.declared.alg.Alg.TheVariants.{Serial}
 use Rattle.rule_seq.specs.CglSteps.{take_lock, load_start, Begins}
 use Rattle.stm_rule.specs.Findings.{FindsLock}
@@ -9,23 +9,9 @@ use Rattle.alg_seq.proofs.serial.begin.Goals as goal
 
 pub returns-then-found-ne0-clause-begins : goal.returns-then-found-ne0-clause-begins
 returns-then-found-ne0-clause-begins g c =
-    let f = c.args.stm.now.config in
-    let n = c.args.caller in
-    let s = c.args.seat.now.me.0 in
-    let x = c.take_lock-found.result in
-    let w = c.take_lock-found.new.seat.me.0 in
-    let other : x ≢ 0 = search rules in
-    tells-held (g.K.MemRule.good c.args.stm.now.rule) f n Serial refl x s.view w.view c.requires.caller c.requires.view other (tells-of (take_lock n) (FindsLock f n) s x w c.take_lock-found.ensures.step)
+    tells-held (g.K.MemRule.good c.args.stm.now.rule) c.args.stm.now.config c.args.caller Serial refl c.take_lock-found.result c.args.seat.now.me.0.view c.take_lock-found.new.seat.me.0.view c.requires.caller c.requires.view (search rules) (tells-of (take_lock c.args.caller) (FindsLock c.args.stm.now.config c.args.caller) _ _ _ c.take_lock-found.ensures.step)
 
 pub returns-clause-begins : goal.returns-clause-begins
 returns-clause-begins g c =
-    let f = c.args.stm.now.config in
-    let n = c.args.caller in
-    let s = c.args.seat.now.me.0 in
-    let x = c.take_lock-found.result in
-    let t = c.take_lock-found.new.seat.me.0 in
-    let clock = c.load_start.result in
-    let w = c.load_start.new.seat.me.0 in
-    let zero : x ≡ 0 = search rules in
-    tells-started (g.K.MemRule.good c.args.stm.now.rule) f n Serial refl x clock s.view t.view w.view c.requires.view zero (λ e. absurd cc) (tells-of (take_lock n) (FindsLock f n) s x t c.take_lock-found.ensures.step)
-    (tells-of load_start (Begins (good_of g.K.MemRule.good f c.args.stm.now.rule) f) t clock w c.load_start.ensures.step)
+    tells-started (g.K.MemRule.good c.args.stm.now.rule) c.args.stm.now.config c.args.caller Serial refl c.take_lock-found.result c.load_start.result c.args.seat.now.me.0.view c.take_lock-found.new.seat.me.0.view c.load_start.new.seat.me.0.view c.requires.view (search rules) (λ e. absurd cc) (tells-of (take_lock c.args.caller) (FindsLock c.args.stm.now.config c.args.caller) _ _ _ c.take_lock-found.ensures.step)
+    (tells-of load_start (Begins (good_of g.K.MemRule.good c.args.stm.now.config c.args.stm.now.rule) c.args.stm.now.config) _ _ _ c.load_start.ensures.step)

@@ -1,6 +1,5 @@
-use Rattle.std.proofs.Common.{◌≡◌, ◌<◌, ◌≤◌, [], ◌∷◌, refl, sym, subst, arith, rules, false}
+use Rattle.std.proofs.Common.{◌≡◌, [], ◌∷◌, refl, sym, subst, arith, rules, false}
 use Rattle.std.specs.Prelude.{Some}
-use Rattle.stm_model.specs.declared.config.TheConstants.{CLOCK_LIMIT}
 use Rattle.rule_base.specs.declared.layout.At.TheVariants.{Clock}
 use Rattle.rule_base.specs.declared.views.Act.TheVariants.{Load}
 use Rattle.rule_base.specs.declared.views.View.{View}
@@ -13,27 +12,18 @@ use Rattle.alg_seq.proofs.serial.below_limit.Goals as goal
 
 pub returns-then-clock-ge-CLOCK_LIMIT-clause-below : goal.returns-then-clock-ge-CLOCK_LIMIT-clause-below
 returns-then-clock-ge-CLOCK_LIMIT-clause-below g c =
-    let s = c.args.seat.now.me.0 in
-    let clock = c.load_limit-clock.result in
-    let w = c.load_limit-clock.new.seat.me.0 in
-    let t = tells-of (load_limit false) LoadsLimit s clock w c.load_limit-clock.ensures.step in
-    let high : CLOCK_LIMIT ≤ clock = search rules in
+    let t = tells-of (load_limit false) LoadsLimit _ _ _ c.load_limit-clock.ensures.step in
     let clean : c.args.local.now.wrote ≡ false = search rules in (
-      subst (λ (y : View). IsClocked s.view y) (sym t.2) (record { more = record { place = Clock; act = Load; found = Some clock } ∷ []; is = refl }),
+      subst (λ (y : View). IsClocked c.args.seat.now.me.0.view y) (sym t.2) (record { more = record { place = Clock; act = Load; found = Some c.load_limit-clock.result } ∷ []; is = refl }),
       clean,
-      high,
-      λ o. subst (λ (y : View). Found Clock clock (known_of s.view o) (known_of y o)) (sym t.2) (record { place = Clock; act = Load; found = Some clock } ∷ [], refl, Load, (0, omega arith, refl)),
+      (search rules),
+      λ o. subst (λ (y : View). Found Clock c.load_limit-clock.result (known_of c.args.seat.now.me.0.view o) (known_of y o)) (sym t.2) (record { place = Clock; act = Load; found = Some c.load_limit-clock.result } ∷ [], refl, Load, (0, omega arith, refl)),
     )
 
 pub returns-clause-below : goal.returns-clause-below
 returns-clause-below g c =
-    let s = c.args.seat.now.me.0 in
-    let clock = c.load_limit-clock.result in
-    let w = c.load_limit-clock.new.seat.me.0 in
-    let t = tells-of (load_limit false) LoadsLimit s clock w c.load_limit-clock.ensures.step in
-    let low : clock < CLOCK_LIMIT = search rules in
-    let first : clock ≡ s.view.attempt.start = t.1 in
-    let start : s.view.attempt.start ≡ c.args.local.now.start = c.requires.attempt.start in (
-      subst (λ (y : View). IsClocked s.view y) (sym t.2) (record { more = record { place = Clock; act = Load; found = Some clock } ∷ []; is = refl }),
+    let t = tells-of (load_limit false) LoadsLimit _ _ _ c.load_limit-clock.ensures.step in
+    let start : c.args.seat.now.me.0.view.attempt.start ≡ c.args.local.now.start = c.requires.attempt.start in (
+      subst (λ (y : View). IsClocked c.args.seat.now.me.0.view y) (sym t.2) (record { more = record { place = Clock; act = Load; found = Some c.load_limit-clock.result } ∷ []; is = refl }),
       omega arith,
     )

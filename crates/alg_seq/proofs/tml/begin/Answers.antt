@@ -1,5 +1,4 @@
-use Rattle.std.proofs.Common.{◌≡◌, arith, rules}
-use Rattle.std.specs.Prelude.{◌%◌}
+use Rattle.std.proofs.Common.{arith, rules}
 use Rattle.rule_seq.specs.TmlSteps.{tml_begin}
 use Rattle.stm_rule.specs.Findings.{FindsBegin}
 use Rattle.stm_rule.specs.Kept.{good_of}
@@ -9,24 +8,8 @@ use Rattle.alg_seq.proofs.tml.begin.Goals as goal
 
 pub returns-then-clock-eq1-clause-begins : goal.returns-then-clock-eq1-clause-begins
 returns-then-clock-eq1-clause-begins g c =
-    let f = c.args.stm.now.config in
-    let good = g.K.MemRule.good c.args.stm.now.rule in
-    let n = c.args.caller in
-    let s = c.args.seat.now.me.0 in
-    let clock = c.tml_begin-clock.result in
-    let w = c.tml_begin-clock.new.seat.me.0 in
-    let t = tells-of tml_begin (FindsBegin (good_of g.K.MemRule.good f c.args.stm.now.rule) f) s clock w c.tml_begin-clock.ensures.step in
-    let odd : clock % 2 ≡ 1 = search rules in
-    tells-held good f n s.view c.requires.view clock w.view odd t
+    tells-held (g.K.MemRule.good c.args.stm.now.rule) c.args.stm.now.config c.args.caller c.args.seat.now.me.0.view c.requires.view c.tml_begin-clock.result c.tml_begin-clock.new.seat.me.0.view (search rules) (tells-of tml_begin (FindsBegin (good_of g.K.MemRule.good c.args.stm.now.config c.args.stm.now.rule) c.args.stm.now.config) _ _ _ c.tml_begin-clock.ensures.step)
 
 pub returns-clause-begins : goal.returns-clause-begins
 returns-clause-begins g c =
-    let f = c.args.stm.now.config in
-    let good = g.K.MemRule.good c.args.stm.now.rule in
-    let n = c.args.caller in
-    let s = c.args.seat.now.me.0 in
-    let clock = c.tml_begin-clock.result in
-    let w = c.tml_begin-clock.new.seat.me.0 in
-    let t = tells-of tml_begin (FindsBegin (good_of g.K.MemRule.good f c.args.stm.now.rule) f) s clock w c.tml_begin-clock.ensures.step in
-    let even : clock % 2 ≡ 0 = omega arith in
-    tells-started good f n s.view c.requires.view clock w.view even t
+    tells-started (g.K.MemRule.good c.args.stm.now.rule) c.args.stm.now.config c.args.caller c.args.seat.now.me.0.view c.requires.view c.tml_begin-clock.result c.tml_begin-clock.new.seat.me.0.view (omega arith) (tells-of tml_begin (FindsBegin (good_of g.K.MemRule.good c.args.stm.now.config c.args.stm.now.rule) c.args.stm.now.config) _ _ _ c.tml_begin-clock.ensures.step)

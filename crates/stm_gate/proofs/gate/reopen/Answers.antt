@@ -1,4 +1,4 @@
-use Rattle.std.proofs.Common.{ℕ, ◌≡◌, ap, refl}
+use Rattle.std.proofs.Common.{ℕ, ap, refl}
 use Rattle.rule_base.specs.Encodings.{gate_word}
 use Rattle.rule_base.specs.GateSteps.{reopen}
 use Rattle.rule_base.specs.StepKinds.{Nothing}
@@ -13,15 +13,5 @@ use Rattle.stm_gate.proofs.gate.reopen.Goals as goal
 
 pub returns-clause-reopens : goal.returns-clause-reopens
 returns-clause-reopens g c =
-    let f = c.args.stm.now.config in
-    let good = g.K.MemRule.good c.args.stm.now.rule in
-    let d = c.desc.inside in
-    let s = d.seat.me.0 in
-    let o = own_of d.local in
-    let h = handle_of d.seat o in
-    let e = c.args.desc.now in
-    let name : caller_of s.who.role ≡ d.number = ap caller_of c.desc.invariant.0.named in
-    let alg = d.local.algorithm in
-    let w = c.reopen.new.seat.me.0 in
-    shown-of (λ (n : ℕ) (v w : Known). Reopens good f n v w) h e d.number w.view d.local d.local c.desc.view_is refl name
-    (tells-reopened good f d.number d.local.fence alg s.view w.view o (tells-of (reopen d.local.fence alg) Nothing s (gate_word d.local.fence 0 alg) w c.reopen.ensures.step))
+    shown-of (λ (n : ℕ) (v w : Known). Reopens (g.K.MemRule.good c.args.stm.now.rule) c.args.stm.now.config n v w) (handle_of c.desc.inside.seat (own_of c.desc.inside.local)) c.args.desc.now c.desc.inside.number c.reopen.new.seat.me.0.view c.desc.inside.local c.desc.inside.local c.desc.view_is refl (ap caller_of c.desc.invariant.0.named)
+    (tells-reopened (g.K.MemRule.good c.args.stm.now.rule) c.args.stm.now.config c.desc.inside.number c.desc.inside.local.fence c.desc.inside.local.algorithm c.desc.inside.seat.me.0.view c.reopen.new.seat.me.0.view (own_of c.desc.inside.local) (tells-of (reopen c.desc.inside.local.fence c.desc.inside.local.algorithm) Nothing c.desc.inside.seat.me.0 (gate_word c.desc.inside.local.fence 0 c.desc.inside.local.algorithm) c.reopen.new.seat.me.0 c.reopen.ensures.step))

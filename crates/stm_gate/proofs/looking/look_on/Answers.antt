@@ -1,4 +1,4 @@
-use Rattle.std.proofs.Common.{arith, subst, sym, ap, ◌∙◌, ◌≡◌, ◌≢◌, ◌<◌, refl, rules}
+use Rattle.std.proofs.Common.{arith, subst, sym, ap, ◌∙◌, ◌≡◌, ◌<◌, refl, rules}
 use Rattle.stm_rule.specs.Attempts.{HasLooked}
 use Rattle.stm_gate.specs.Knowing.{number}
 use Rattle.stm_gate.specs.Looking.{Finds}
@@ -14,49 +14,24 @@ look_at-status-requires-clause-holds g c = c.loop-other.invariant.holds
 
 pub look_at-status-requires-clause-looked : goal.look_at-status-requires-clause-looked
 look_at-status-requires-clause-looked g c =
-    let i = c.loop-other.invariant in
-    let name = ap (λ q. caller_of q.role) i.same.who in
-    subst (λ m. HasLooked c.args.stm.now.config.callers m c.loop-other.other c.loop-other.desc.view) (sym name) i.looked
+    subst (λ m. HasLooked c.args.stm.now.config.callers m c.loop-other.other c.loop-other.desc.view) (sym (ap (λ q. caller_of q.role) c.loop-other.invariant.same.who)) c.loop-other.invariant.looked
 
 pub returns-then-status-ne0-clause-looks : goal.returns-then-status-ne0-clause-looks
 returns-then-status-ne0-clause-looks g c =
-    let f = c.args.stm.now.config in
-    let good = g.K.MemRule.good c.args.stm.now.rule in
-    let n = number c.args.desc.now in
-    let k = c.loop-other.other in
-    let x = c.look_at-status.result in
-    let i = c.loop-other.invariant in
-    let u = c.args.desc.now.view in
-    let v = c.loop-other.desc.view in
-    let w = c.look_at-status.new.desc.view in
-    let name : number c.loop-other.desc ≡ n = ap (λ q. caller_of q.role) i.same.who in
-    let busy : x ≢ 0 = search rules in
-    let low : k < f.callers = search rules in
-    let own : n < f.callers = subst (λ m. m < f.callers) name c.look_at-status.ensures.own.1 in
-    looks-busy f n good k x u v w own low busy i.looks c.look_at-status.ensures.looks (subst (λ m. Finds f m k x v w) name c.look_at-status.ensures.found)
+    let name : number c.loop-other.desc ≡ (number c.args.desc.now) = ap (λ q. caller_of q.role) c.loop-other.invariant.same.who in
+    looks-busy c.args.stm.now.config (number c.args.desc.now) (g.K.MemRule.good c.args.stm.now.rule) c.loop-other.other c.look_at-status.result c.args.desc.now.view c.loop-other.desc.view c.look_at-status.new.desc.view (subst (λ m. m < c.args.stm.now.config.callers) name c.look_at-status.ensures.own.1) (search rules) (search rules) c.loop-other.invariant.looks c.look_at-status.ensures.looks (subst (λ m. Finds c.args.stm.now.config m c.loop-other.other c.look_at-status.result c.loop-other.desc.view c.look_at-status.new.desc.view) name c.look_at-status.ensures.found)
 
 pub loop-other-preserved : goal.loop-other-preserved
 loop-other-preserved g c =
-    let f = c.args.stm.now.config in
-    let n = number c.args.desc.now in
-    let k = c.loop-other.other in
-    let x = c.look_at-status.result in
-    let i = c.loop-other.invariant in
-    let u = c.args.desc.now.view in
-    let v = c.loop-other.desc.view in
-    let w = c.look_at-status.new.desc.view in
-    let name : number c.loop-other.desc ≡ n = ap (λ q. caller_of q.role) i.same.who in
-    let idle : x ≡ 0 = search rules in
     let looks = c.look_at-status.ensures.looks in
-    let s = c.look_at-status.ensures.same in
     record {
-      of = record { table = s.table ∙ i.of.table; config = ap (λ q. q.config) s.who ∙ i.of.config; rule = ap (λ q. q.rule) s.who ∙ i.of.rule };
-      same = record { table = s.table ∙ i.same.table; who = s.who ∙ i.same.who };
-      own = c.look_at-status.ensures.own.0 ∙ i.own;
-      holds = ap (λ y. y.gate.holds) looks.is ∙ i.holds;
-      looked = (subst (λ m. Finds f m k x v w) name c.look_at-status.ensures.found).idle idle;
+      of = record { table = c.look_at-status.ensures.same.table ∙ c.loop-other.invariant.of.table; config = ap (λ q. q.config) c.look_at-status.ensures.same.who ∙ c.loop-other.invariant.of.config; rule = ap (λ q. q.rule) c.look_at-status.ensures.same.who ∙ c.loop-other.invariant.of.rule };
+      same = record { table = c.look_at-status.ensures.same.table ∙ c.loop-other.invariant.same.table; who = c.look_at-status.ensures.same.who ∙ c.loop-other.invariant.same.who };
+      own = c.look_at-status.ensures.own.0 ∙ c.loop-other.invariant.own;
+      holds = ap (λ y. y.gate.holds) looks.is ∙ c.loop-other.invariant.holds;
+      looked = (subst (λ m. Finds c.args.stm.now.config m c.loop-other.other c.look_at-status.result c.loop-other.desc.view c.look_at-status.new.desc.view) (ap (λ q. caller_of q.role) c.loop-other.invariant.same.who) c.look_at-status.ensures.found).idle (search rules);
       steps = (let q = c.look_at-status.ensures.steps in let p = c.loop-other.invariant.steps in omega arith);
-      looks = looks-more u v w i.looks looks;
+      looks = looks-more c.args.desc.now.view c.loop-other.desc.view c.look_at-status.new.desc.view c.loop-other.invariant.looks looks;
     }
 
 pub loop-other-init : goal.loop-other-init

@@ -1,35 +1,36 @@
-use Rattle.std.proofs.Common.{◌≡◌, ◌-◌, ◌∙◌, ◌∷◌, ◌+◌, Err, sym, ap, subst, drop, arith, length, length-drop}
-use Rattle.stm_text.specs.Grammar.{parsed, Answers}
+use Rattle.std.proofs.Common.{◌∙◌, ◌+◌, sym, ap, subst, arith, OnOk}
+use Rattle.stm_text.specs.Grammar.{parsed, ended, Answers}
 use Rattle.stm_text.specs.Lines.{lines_of}
-use Rattle.stm_text.proofs.ParseLaws.{parsed-fault, parsed-step, parsed-done, parsed-last}
+use Rattle.stm_text.specs.Reading.{Leaves}
+use Rattle.stm_text.proofs.ParseLaws.{parsed-fault, parsed-step, parsed-done, parsed-end}
 use Rattle.stm_text.proofs.parse.read_lines.Goals as goal
 
 pub returns-in-Err : goal.returns-in-Err
 returns-in-Err c =
-    let s = c.loop-i.rest.now in
-    let i = c.in-Some.i in
-    c.loop-i.invariant.0 ∙ parsed-fault c.args.mode c.loop-i.draft c.loop-i.number s i (drop (i + 1) s) c.in-Err.code c.in-Some.ensures.1 c.in-Some.ensures.2 c.in-Err.ensures
+    c.loop-rest.invariant.0 ∙ parsed-fault c.args.mode c.loop-rest.draft c.loop-rest.number (lines_of c.loop-rest.rest.now) c.in-Err.code (sym c.step_of-read.ensures.step ∙ c.in-Err.is)
 
 pub returns-in-Done : goal.returns-in-Done
 returns-in-Done c =
-    let s = c.loop-i.rest.now in
-    let i = c.in-Some.i in
-    let at = c.in-Some.ensures.2 ∙ ap (λ t. 10 ∷ t) (sym c.past-rest.ensures) in
-    let done = parsed-done c.args.mode c.loop-i.draft c.loop-i.number s i c.past-rest.result.now c.in-Ok.step c.in-Some.ensures.1 at c.in-Ok.ensures c.in-Done.is in
-    subst (Answers c.finished.result) (sym (c.loop-i.invariant.0 ∙ done)) c.finished.ensures
+    let s = c.loop-rest.rest.now in
+    let left = subst (λ r. OnOk r (Leaves s c.step_of-read.result.1.now)) c.in-Ok.is c.step_of-read.ensures.rest in
+    let done = parsed-done c.args.mode c.loop-rest.draft c.loop-rest.number (lines_of s) c.in-Ok.step (sym c.step_of-read.ensures.step ∙ c.in-Ok.is) c.in-Done.is in
+    let all = c.loop-rest.invariant.0 ∙ (done ∙ ap (ended c.loop-rest.draft (c.loop-rest.number + 1)) left.0) in
+    subst (Answers c.finished.result) (sym all) c.finished.ensures
 
-pub loop-i-preserved : goal.loop-i-preserved
-loop-i-preserved c =
-    let s = c.loop-i.rest.now in
-    let i = c.in-Some.i in
-    let room = c.loop-i.invariant.1 in
-    let within = c.in-Some.ensures.0 in
-    let long : length c.past-rest.result.now ≡ length s - (i + 1) = ap length c.past-rest.ensures ∙ length-drop (i + 1) s in
-    let at = c.in-Some.ensures.2 ∙ ap (λ t. 10 ∷ t) (sym c.past-rest.ensures) in
-    let step = parsed-step c.args.mode c.loop-i.draft c.loop-i.number s i c.past-rest.result.now c.in-Ok.step c.in-Some.ensures.1 at c.in-Ok.ensures c.in_default-step.not-Done in
-    (c.loop-i.invariant.0 ∙ (step ∙ ap (λ d. parsed c.args.mode d (c.loop-i.number + 1) (lines_of c.past-rest.result.now)) (sym c.in_ok-take.ensures)), omega arith)
+pub loop-rest-preserved : goal.loop-rest-preserved
+loop-rest-preserved c =
+    let s = c.loop-rest.rest.now in
+    let room = c.loop-rest.invariant.1 in
+    let left = subst (λ r. OnOk r (Leaves s c.step_of-read.result.1.now)) c.in-Ok.is c.step_of-read.ensures.rest in
+    let less = left.1 in
+    let step = parsed-step c.args.mode c.loop-rest.draft c.loop-rest.number (lines_of s) c.in-Ok.step (sym c.step_of-read.ensures.step ∙ c.in-Ok.is) c.in_default.not-Done in (
+      c.loop-rest.invariant.0
+          ∙ (step
+          ∙ (ap (parsed c.args.mode _ (c.loop-rest.number + 1)) left.0
+          ∙ ap (λ d. parsed c.args.mode d (c.loop-rest.number + 1) (lines_of c.step_of-read.result.1.now)) (sym c.in_ok-take.ensures))),
+      omega (arith, room, less),
+    )
 
 pub returns : goal.returns
 returns c =
-    let s = c.loop-i.rest.now in
-    c.loop-i.invariant.0 ∙ (parsed-last c.args.mode c.loop-i.draft c.loop-i.number s c.in_default.ensures ∙ ap (λ code. Err (c.loop-i.number, code)) (sym c.unended.ensures))
+    c.loop-rest.invariant.0 ∙ parsed-end c.args.mode c.loop-rest.draft c.loop-rest.number c.loop-rest.rest.now c.loop-rest-test.ensures

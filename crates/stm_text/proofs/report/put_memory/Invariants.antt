@@ -1,4 +1,4 @@
-use Rattle.std.proofs.Common.{◌≡◌, ◌++◌, drop, string_bytes}
+use Rattle.std.proofs.Common.{◌≡◌, ◌++◌, drop}
 use Rattle.std.specs.List.{AllWithin}
 use Rattle.stm_text.specs.Reports.{memory_lines, PairFits}
 use Rattle.stm_text.proofs.report.put_memory.Given as goal
@@ -6,5 +6,5 @@ use Rattle.stm_text.proofs.report.put_memory.Given as goal
 abbrev pub invariant-loop-word : goal.invariant-loop-word
 invariant-loop-word l = record {
   fits : AllWithin PairFits l.words 0 l.word-index;
-  text : string_bytes l.text ++ memory_lines (drop l.word-index l.words) ≡ string_bytes l.initial.text ++ memory_lines l.words;
+  text : l.text.items ++ memory_lines (drop l.word-index l.words) ≡ l.initial.text.items ++ memory_lines l.words;
 }

@@ -1,4 +1,4 @@
-use Rattle.std.proofs.Common.{rules, ◌≡◌, ◌<◌, ◌≤◌, ◌+◌, ◌*◌, ◌++◌, ◌∷◌, [], length, length-append, drop, slice_index_or, IfOk, OnOk, string_bytes, sym, ap, ◌∙◌, arith, subst, append_assoc}
+use Rattle.std.proofs.Common.{rules, ◌≡◌, ◌<◌, ◌≤◌, ◌+◌, ◌*◌, ◌++◌, ◌∷◌, [], length, length-append, drop, slice_index_or, IfOk, OnOk, sym, ap, ◌∙◌, arith, subst, append_assoc}
 use Rattle.std.specs.Prelude.{All}
 use Rattle.std.proofs.lemmas.List.{length_push}
 use Rattle.std.proofs.Math.Seq.{get_or-append_seam}
@@ -39,13 +39,13 @@ loop-piece-preserved c =
           at.invariant.fits size rows ps (chunk-fits size n rows chunk (subst (λ k. All RowFits (drop k rows)) next behind));
       put = λ size rows ps.
           let n = length at.yielded in
-          let made = subst (λ r. IfOk r (λ t. string_bytes t ≡ row_lines (slice_chunk rows size n))) (here ∙ c.in_ok-piece.was) (ps.each n x lt) in
-          let pushed : string_bytes c.push_str.new.self ≡ string_bytes at.text ++ row_lines (slice_chunk rows size n) = c.in_ok-push_str.ensures.bytes ∙ ap (λ l. string_bytes at.text ++ l) (c.deref.ensures ∙ made) in
+          let made = subst (λ r. IfOk r (λ t. t.items ≡ row_lines (slice_chunk rows size n))) (here ∙ c.in_ok-piece.was) (ps.each n x lt) in
+          let pushed : c.extend_from_slice.new.self.items ≡ at.text.items ++ row_lines (slice_chunk rows size n) = c.in_ok-extend_from_slice.ensures.items ∙ ap (λ l. at.text.items ++ l) (c.as_slice.ensures.value ∙ made) in
           let next : length (at.yielded ++ x ∷ []) * size ≡ n * size + size = ap (λ k. k * size) (length_push at.yielded x) ∙ (omega arith) in
           ap (λ l. l ++ row_lines (drop (length (at.yielded ++ x ∷ []) * size) rows)) pushed
-          ∙ (append_assoc (string_bytes at.text) (row_lines (slice_chunk rows size n)) (row_lines (drop (length (at.yielded ++ x ∷ []) * size) rows))
-          ∙ (ap (λ k. string_bytes at.text ++ (row_lines (slice_chunk rows size n) ++ row_lines (drop k rows))) next
-          ∙ (ap (λ l. string_bytes at.text ++ l) (chunk-first size n rows) ∙ at.invariant.put size rows ps)));
+          ∙ (append_assoc (at.text.items) (row_lines (slice_chunk rows size n)) (row_lines (drop (length (at.yielded ++ x ∷ []) * size) rows))
+          ∙ (ap (λ k. at.text.items ++ (row_lines (slice_chunk rows size n) ++ row_lines (drop k rows))) next
+          ∙ (ap (λ l. at.text.items ++ l) (chunk-first size n rows) ∙ at.invariant.put size rows ps)));
     }
 
 pub returns-clause-fits : goal.returns-clause-fits
@@ -58,7 +58,7 @@ returns-clause-fits c size rows ps =
     let both = length-append at.yielded (into_iter_items at.piece-iterator) in
     let every : length at.yielded ≡ length c.args.pieces.items = omega (arith, over, len, all, both) in
     let last : length rows ≤ length at.yielded * size = subst (λ n. length rows ≤ n * size) (sym every) ps.all in
-    at.invariant.fits size rows (subst (λ l. ArePieces (λ t. string_bytes t) size rows l) (sym gives) ps) (none-fits (length at.yielded * size) rows last)
+    at.invariant.fits size rows (subst (λ l. ArePieces (λ t. t.items) size rows l) (sym gives) ps) (none-fits (length at.yielded * size) rows last)
 
 pub returns-clause-text : goal.returns-clause-text
 returns-clause-text c size rows ps =
@@ -70,5 +70,5 @@ returns-clause-text c size rows ps =
     let both = length-append at.yielded (into_iter_items at.piece-iterator) in
     let every : length at.yielded ≡ length c.args.pieces.items = omega (arith, over, len, all, both) in
     let last : length rows ≤ length at.yielded * size = subst (λ n. length rows ≤ n * size) (sym every) ps.all in
-    sym (none-behind (length at.yielded * size) rows (string_bytes at.text) last)
-    ∙ at.invariant.put size rows (subst (λ l. ArePieces (λ t. string_bytes t) size rows l) (sym gives) ps)
+    sym (none-behind (length at.yielded * size) rows (at.text.items) last)
+    ∙ at.invariant.put size rows (subst (λ l. ArePieces (λ t. t.items) size rows l) (sym gives) ps)

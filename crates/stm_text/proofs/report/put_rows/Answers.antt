@@ -1,4 +1,4 @@
-use Rattle.std.proofs.Common.{rules, List, ◌≡◌, ◌<◌, ◌+◌, ◌∷◌, ◌++◌, length, drop, string_bytes, sym, ap, ◌∙◌, append_assoc}
+use Rattle.std.proofs.Common.{rules, List, ◌≡◌, ◌<◌, ◌+◌, ◌∷◌, ◌++◌, length, drop, sym, ap, ◌∙◌, append_assoc}
 use Rattle.std.proofs.lemmas.List.{drop_more}
 use Rattle.std.proofs.lemmas.List.Elements.{AllWithin-more, at_read}
 use Rattle.stm_script.specs.declared.report.Row.{Row}
@@ -10,7 +10,7 @@ loop-row-preserved c =
     let rows = c.args.rows.now in
     let i = c.loop-row.row-index in
     let row = c.row-item.result in
-    let before = string_bytes c.loop-row.text in
+    let before = c.loop-row.text.items in
     let more : i < length rows = search rules in
     let here = at_read rows RowFits i row more c.row-item.is c.in_ok-put_row.ensures.fits in
     let left : drop i rows ≡ row ∷ drop (i + 1) rows = drop_more rows i row more ∙ ap (λ (x : Row). x ∷ drop (i + 1) rows) (sym c.row-item.is) in

@@ -1,4 +1,4 @@
-use Rattle.std.proofs.Common.{◌≡◌, ◌++◌, drop, string_bytes}
+use Rattle.std.proofs.Common.{◌≡◌, ◌++◌, drop}
 use Rattle.std.specs.List.{AllWithin}
 use Rattle.stm_text.specs.Reports.{row_lines, RowFits}
 use Rattle.stm_text.proofs.report.put_rows.Given as goal
@@ -6,5 +6,5 @@ use Rattle.stm_text.proofs.report.put_rows.Given as goal
 abbrev pub invariant-loop-row : goal.invariant-loop-row
 invariant-loop-row l = record {
   fits : AllWithin RowFits l.rows 0 l.row-index;
-  text : string_bytes l.text ++ row_lines (drop l.row-index l.rows) ≡ string_bytes l.initial.text ++ row_lines l.rows;
+  text : l.text.items ++ row_lines (drop l.row-index l.rows) ≡ l.initial.text.items ++ row_lines l.rows;
 }

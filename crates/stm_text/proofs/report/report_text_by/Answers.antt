@@ -1,4 +1,4 @@
-use Rattle.std.proofs.Common.{rules, ◌≡◌, ◌<◌, ◌≤◌, ◌*◌, ◌++◌, length, slice_index_or, IfOk, OnOk, codes, string_bytes, sym, ap, ◌∙◌, arith, subst, append_assoc}
+use Rattle.std.proofs.Common.{rules, ◌≡◌, ◌<◌, ◌≤◌, ◌*◌, ◌++◌, length, slice_index_or, IfOk, OnOk, codes, sym, ap, ◌∙◌, arith, subst, append_assoc}
 use Rattle.std.specs.Prelude.{All}
 use Rattle.std.proofs.lemmas.Grind.{div_ceil_times}
 use Rattle.stm_text.specs.Pieces.{ArePieces}
@@ -13,12 +13,12 @@ returns g c =
     let cut = c.in_ok-pieces.ensures in
     let some : 0 < size = (let most = c.max-size.ensures in omega (arith, most)) in
     let all : length rows ≤ length pieces.items * size = subst (λ n. length rows ≤ n * size) (sym cut.len ∙ pieces.ok.0) (div_ceil_times (length rows) size some).0 in
-    let are : ArePieces (λ t. string_bytes t) size rows pieces.items = record {
+    let are : ArePieces (λ t. t.items) size rows pieces.items = record {
       each = λ n d lt.
           let at = (cut.each n d lt).1 in
           let call = at.call in
-          let lines : IfOk (slice_index_or pieces.items n d) (λ t. string_bytes t ≡ row_lines at.argument.now) = search rules in
-          subst (λ l. IfOk (slice_index_or pieces.items n d) (λ t. string_bytes t ≡ row_lines l)) at.argument_is.value lines;
+          let lines : IfOk (slice_index_or pieces.items n d) (λ t. t.items ≡ row_lines at.argument.now) = search rules in
+          subst (λ l. IfOk (slice_index_or pieces.items n d) (λ t. t.items ≡ row_lines l)) at.argument_is.value lines;
       fits = λ n d lt.
           let at = (cut.each n d lt).1 in
           let call = at.call in
@@ -29,13 +29,12 @@ returns g c =
     let rows-fit : All RowFits c.args.report.now.rows = subst (λ l. All RowFits l) c.as_slice-rows.ensures (c.in_ok-put_pieces.ensures.fits size rows are) in
     let memory-fits : All PairFits c.args.report.now.memory = subst (λ l. All PairFits l) c.as_slice.ensures c.in_ok-put_memory.ensures.fits in
     let put = c.in_ok-put_pieces.ensures.text size rows are in
-    let title : string_bytes c.push_str.new.self ≡ codes "report 1\n" = search rules in
-    let start : string_bytes c.put_pieces.new.text ≡ codes "report 1\n" ++ row_lines c.args.report.now.rows = put ∙ (ap (λ l. l ++ row_lines rows) title ∙ ap (λ l. codes "report 1\n" ++ row_lines l) c.as_slice-rows.ensures) in
-    let memory : string_bytes c.put_memory.new.text ≡ codes "report 1\n" ++ (row_lines c.args.report.now.rows ++ memory_lines c.args.report.now.memory) =
+    let title : c.extend_from_slice.new.self.items ≡ codes "report 1\n" = search rules in
+    let start : c.put_pieces.new.text.items ≡ codes "report 1\n" ++ row_lines c.args.report.now.rows = put ∙ (ap (λ l. l ++ row_lines rows) title ∙ ap (λ l. codes "report 1\n" ++ row_lines l) c.as_slice-rows.ensures) in
+    let memory : c.put_memory.new.text.items ≡ codes "report 1\n" ++ (row_lines c.args.report.now.rows ++ memory_lines c.args.report.now.memory) =
     c.in_ok-put_memory.ensures.text ∙ (ap (λ l. l ++ memory_lines c.as_slice.result.now) start ∙ ap (λ l. codes "report 1\n" ++ (row_lines c.args.report.now.rows ++ memory_lines l)) c.as_slice.ensures) in
-    let whole : c.into_bytes.result.items ≡ string_bytes c.put_memory.new.text ++ codes "end\n" = search rules in
     record {
       fits = record { rows = rows-fit; memory = memory-fits };
       text =
-          whole ∙ (ap (λ l. l ++ codes "end\n") memory ∙ ap (λ l. codes "report 1\n" ++ l) (append_assoc (row_lines c.args.report.now.rows) (memory_lines c.args.report.now.memory) (codes "end\n")));
+          c.in_ok-extend_from_slice-2.ensures.items ∙ (ap (λ l. l ++ codes "end\n") memory ∙ ap (λ l. codes "report 1\n" ++ l) (append_assoc (row_lines c.args.report.now.rows) (memory_lines c.args.report.now.memory) (codes "end\n")));
     }

@@ -9,6 +9,7 @@ use Rattle.stm_rule.specs.declared.stm.Stm.{Stm}
 use Rattle.stm_rule.specs.Callers.{IsOf}
 use Rattle.stm_tx.specs.Descs.{known}
 use Rattle.tx_atomic.specs.Callers.{IsReady}
+use Rattle.tx_checked.specs.declared.mail.Mail.{Mail}
 use Rattle.tx_checked.specs.Ready.{IsUnused, desc_in, descs_in}
 use Rattle.tx_checked.proofs.Held.{no-range, idle-stands}
 use Rattle.tx_checked.proofs.Newcomers.{all-head, all-tail}
@@ -22,6 +23,7 @@ invariant_of-push_reserved c =
     let ready : IsReady stm desc = all-head (IsReady stm) desc rest (subst (All (IsReady stm)) c.in-Some.ensures.steps.0 c.loop-desc.invariant.ready) in
     record {
       own = subst (λ (s : Stm AnyMem). IsOf desc s) (sym c.in-Ok.ensures) ready.own;
+      mailed = subst (λ (s : Stm AnyMem). IsOf (arc_value c.in-Ok-try_clone.mail).table.shared.key s) (sym c.in-Ok.ensures) (subst (λ (b : Mail). IsOf b.table.shared.key stm) (sym c.in-Ok-try_clone.ensures) c.requires.mail);
       stands = idle-stands (known desc) ready.idle;
       ranged = no-range (arc_value c.in-Ok.shared).config.words (known desc).fenced;
     }

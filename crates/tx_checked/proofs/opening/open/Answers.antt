@@ -10,6 +10,6 @@ use Rattle.tx_checked.proofs.opening.open.Goals as goal
 pub returns-in-Ok-enlist-clause-new : goal.returns-in-Ok-enlist-clause-new
 returns-in-Ok-enlist-clause-new c =
     let members = c.in-Ok-enlist.members.items in
-    let sizes = ap (λ (s : Stm AnyMem). s.config) c.in-Ok-new.ensures.ok ∙ c.in-Ok.ensures.stm.0 in
+    let sizes = ap (λ (s : Stm AnyMem). s.config) c.in-Ok-new-2.ensures.ok ∙ c.in-Ok.ensures.stm.0 in
     let unused = subst (λ (k : Config). All (IsUnused k) members) sizes c.in-Ok-enlist.ensures.unused in
     all-new c.in-Ok.opened.0 c.args.config c.args.alg c.install_first.new.descs.items members (c.if-not-install_first.ensures.fresh refl) c.in-Ok-enlist.ensures.descs unused

@@ -1,9 +1,9 @@
 use Rattle.tx_effects.specs.KeyLaws.{keys-ascend}
 use Rattle.std.proofs.Common.{◌<◌, subst}
-use Rattle.tx_tree.specs.Trees.{tag}
+use Rattle.tx_tree.specs.ShapeOrder.{named-once}
+use Rattle.tx_tree.specs.Trees.{pool, tag}
 use Rattle.tx_tree.proofs.TreeContents.{inserted-keys, removed-keys}
 use Rattle.tx_tree.proofs.TreeEffects.{inserted-keeps, removed-keeps}
-use Rattle.tx_tree.proofs.TreeOrder.{named-once}
 use Rattle.tx_tree.proofs.TreeRegions.{reached}
 use Rattle.tx_tree.proofs.laws.keys_change.Goals as goal
 
@@ -13,5 +13,5 @@ returns c = record {
   removes = λ r m key w small room. (removed-keys r m key w small room, removed-keeps r m key w small room);
   ascends = λ r m w. keys-ascend (tag r m) r.cells (λ i j il jl pos e. w.1.differ i j (record { inside = il; pos = pos }) (record { inside = jl; pos = subst (λ z. 0 < z) e pos }) e);
   reaches = reached;
-  once = named-once;
+  once = λ r m a d j w. named-once (pool r) m w.0 a d j w.1;
 }

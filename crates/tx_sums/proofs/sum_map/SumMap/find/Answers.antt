@@ -1,9 +1,10 @@
 use Rattle.std.proofs.Common.{◌≡◌, ◌<◌, ◌≤◌, ◌≢◌, ◌+◌, ◌-◌, ◌∙◌, suc, refl, sym, get_or, ap, arith, inl}
 use Rattle.stm_model.specs.Memories.{overlay}
 use Rattle.tx_effects.specs.EffectLaws.{shows-none, shows-read, shown, same-trans}
-use Rattle.tx_sums.specs.Sums.{IsSumMap, find, position_of, tag, tag_at, top, side_at}
-use Rattle.tx_sums.proofs.SumLaws.{Walked, find-end, find-stop, find-on, word-inside, side-is, side-inside, side-word}
-use Rattle.tx_sums.proofs.SumTrees.{tree-of}
+use Rattle.tx_tree.specs.Shapes.{top}
+use Rattle.tx_tree.specs.ShapeWalks.{word-inside, find-end, find-stop, find-on, side-is, side-inside, side-word}
+use Rattle.tx_sums.specs.Sums.{pool, IsSumMap, find, position_of, tag, tag_at, side_at}
+use Rattle.tx_sums.proofs.SumTrees.{Walked}
 use Rattle.tx_sums.proofs.sum_map.SumMap.find.Goals as goal
 
 pub loop-step-init : goal.loop-step-init
@@ -26,7 +27,7 @@ loop-step-init g c =
       explained = one.explained;
       inside = inside;
       below = shown good words log (g.A.Access.log c.read.new.self) _ _ (Walked r c.args.key r.at v (r.cells - 0)) (v ≤ r.cells) shows one.good one.words one.explained
-          (λ m h. let le = word-inside r m h.well.0 0 top r.at (tree-of r m h.well.0 h.well.1) (inl (refl, refl, refl)) in let e = h.at in omega arith);
+          (λ m h. let le = word-inside (pool r) m h.well.0 0 top r.at h.well.1.shape (inl (refl, refl, refl)) in let e = h.at in omega arith);
       shows = shows;
     }
 
@@ -37,7 +38,7 @@ pub returns-then-next-eq0-clause-finds : goal.returns-then-next-eq0-clause-finds
 returns-then-next-eq0-clause-finds g c = λ m fine len ex.
     let r = c.args.self.now in
     let s = c.loop-step.invariant.shows m fine len ex in
-    (s.0, find-end r _ c.args.key (r.cells - c.loop-step._step) c.loop-step.link c.loop-step.next s.1.at c.if-next-eq0.true ∙ sym s.1.on)
+    (s.0, find-end (pool r) _ c.args.key (r.cells - c.loop-step._step) c.loop-step.link c.loop-step.next s.1.at c.if-next-eq0.true ∙ sym s.1.on)
 
 pub returns-then-tag-key-clause-finds : goal.returns-then-tag-key-clause-finds
 returns-then-tag-key-clause-finds g c =
@@ -56,7 +57,7 @@ returns-then-tag-key-clause-finds g c =
     let e : v ≡ suc j = omega arith in
     let same = c.if-tag-key.true in
     shows-read (g.A.Access.good c.args.acc.now) (g.A.Access.words c.args.acc.now) (g.A.Access.log c.args.acc.now) _ _ (Walked r c.args.key a v n) (λ m. record { link = a; next = v; tag = t } ≡ position_of r m c.args.key) (tag_at r j) t inv.shows inv.writes
-    (omega arith) c.in_ok-tag.ensures.value (λ m h x. find-stop r m c.args.key n a v j t pos h.at e x same ∙ sym h.on)
+    (omega arith) c.in_ok-tag.ensures.value (λ m h x. find-stop (pool r) m c.args.key n a v j t pos h.at e x same ∙ sym h.on)
 
 pub loop-step-preserved : goal.loop-step-preserved
 loop-step-preserved g c =
@@ -84,11 +85,11 @@ loop-step-preserved g c =
     let k : n ≡ suc less = omega arith in
     let in' : j < r.cells = omega arith in
     let other : t ≢ key + 1 = λ x. (let f = c.if-tag-key.false in absurd (omega arith)) in
-    let near = side-inside r key j t d c.side-link.ensures in
+    let near = side-inside (pool r) key j t d c.side-link.ensures in
     let tags = shows-read good words log _ _ (Walked r key a v n) (λ m. Walked r key a v n m × (t ≡ tag r m j)) (tag_at r j) t inv.shows inv.writes (omega arith) one.value (λ m h x. (h, x)) in
     let shows = shows-read good words log _ _ (λ m. Walked r key a v n m × (t ≡ tag r m j)) (λ m. Walked r key d u less m × (d ≡ side_at r m key j)) d u tags (one.value.0 ∙ inv.writes) (omega arith) two.value
-    (λ m h x. let y = side-is r m key j t d h.1 c.side-link.ensures in
-    (record { well = h.0.well; on = h.0.on ∙ (find-on r m key n less a v j t k h.0.at e h.1 other ∙ ap (find r m key less) (sym y)); at = x }, y)) in
+    (λ m h x. let y = side-is (pool r) m key j t d h.1 c.side-link.ensures in
+    (record { well = h.0.well; on = h.0.on ∙ (find-on (pool r) m key n less a v j t k h.0.at e h.1 other ∙ ap (find r m key less) (sym y)); at = x }, y)) in
     let good' = same-trans _ _ _ inv.good (same-trans _ _ _ one.good two.good) in
     let words' = two.words ∙ (one.words ∙ inv.words) in
     record {
@@ -100,7 +101,7 @@ loop-step-preserved g c =
       explained = two.explained;
       inside = omega arith;
       below = shown good words log (g.A.Access.log c.read-in-loop-step-2.new.self) _ _ (λ m. Walked r key d u less m × (d ≡ side_at r m key j)) (u ≤ r.cells) shows good' words' two.explained
-          (λ m h. let x = h.0.at in let le = side-word r m key j h.0.well in' in let y : get_or m d 0 ≡ get_or m (side_at r m key j) 0 = ap (λ i. get_or m i 0) h.1 in omega arith);
+          (λ m h. let x = h.0.at in let le = side-word (pool r) m h.0.well.0 key j h.0.well.1.shape in' in let y : get_or m d 0 ≡ get_or m (side_at r m key j) 0 = ap (λ i. get_or m i 0) h.1 in omega arith);
       shows = λ m fine len ex. let x = shows m fine len ex in (x.0, x.1.0);
     }
 

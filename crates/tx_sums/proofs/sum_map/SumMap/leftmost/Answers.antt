@@ -1,9 +1,10 @@
 use Rattle.std.proofs.Common.{◌≡◌, ◌<◌, ◌≤◌, ◌≢◌, ◌+◌, ◌-◌, ◌∙◌, suc, refl, sym, get_or, ap, arith}
 use Rattle.stm_model.specs.Memories.{overlay}
 use Rattle.tx_effects.specs.EffectLaws.{shows-read, shown, same-trans}
-use Rattle.tx_sums.specs.Sums.{leftmost, tag_at, left_at}
-use Rattle.tx_sums.proofs.SumLaws.{cell-inside}
-use Rattle.tx_sums.proofs.SumTakes.{WalkedLeft, leftmost-end, leftmost-stop, leftmost-on}
+use Rattle.tx_tree.specs.ShapeWalks.{cell-inside}
+use Rattle.tx_tree.specs.ShapeLeast.{leftmost-end, leftmost-stop, leftmost-on}
+use Rattle.tx_sums.specs.Sums.{pool, leftmost, tag_at, left_at}
+use Rattle.tx_sums.proofs.SumTrees.{WalkedLeft}
 use Rattle.tx_sums.proofs.sum_map.SumMap.leftmost.Goals as goal
 
 pub loop-step-init : goal.loop-step-init
@@ -25,7 +26,7 @@ pub returns-then-next-eq0-clause-finds : goal.returns-then-next-eq0-clause-finds
 returns-then-next-eq0-clause-finds g c = λ m fine len ex.
     let r = c.args.self.now in
     let s = c.loop-step.invariant.shows m fine len ex in
-    (s.0, leftmost-end r _ (r.cells - c.loop-step._step) c.loop-step.link c.loop-step.next s.1.at c.if-next-eq0.true ∙ sym s.1.on)
+    (s.0, leftmost-end (pool r) _ (r.cells - c.loop-step._step) c.loop-step.link c.loop-step.next s.1.at c.if-next-eq0.true ∙ sym s.1.on)
 
 pub returns-then-left-eq0-clause-finds : goal.returns-then-left-eq0-clause-finds
 returns-then-left-eq0-clause-finds g c =
@@ -52,7 +53,7 @@ returns-then-left-eq0-clause-finds g c =
     let none = c.if-left-eq0.true in
     let lefts = shows-read good words log _ _ (WalkedLeft r from a v n) (λ m. WalkedLeft r from a v n m × (u ≡ get_or m (left_at r j) 0)) (left_at r j) u inv.shows inv.writes (omega arith) one.value (λ m h x. (h, x)) in
     shows-read good words log _ _ (λ m. WalkedLeft r from a v n m × (u ≡ get_or m (left_at r j) 0)) (λ m. record { link = a; next = v; tag = t } ≡ leftmost r m r.cells from) (tag_at r j) t lefts (one.value.0 ∙ inv.writes) (omega arith) two.value
-    (λ m h x. leftmost-stop r m n a v j u t pos h.0.at e h.1 none x ∙ sym h.0.on)
+    (λ m h x. leftmost-stop (pool r) m n a v j u t pos h.0.at e h.1 none x ∙ sym h.0.on)
 
 pub loop-step-preserved : goal.loop-step-preserved
 loop-step-preserved g c =
@@ -78,7 +79,7 @@ loop-step-preserved g c =
     let in' : j < r.cells = omega arith in
     let other : u ≢ 0 = λ x. (let f = c.if-left-eq0.false in absurd (omega arith)) in
     let shows = shows-read good words log _ _ (WalkedLeft r from a v n) (WalkedLeft r from (left_at r j) u less) (left_at r j) u inv.shows inv.writes (omega arith) one.value
-    (λ m h x. record { well = h.well; on = h.on ∙ leftmost-on r m n less a v j u k h.at e x other; at = x }) in
+    (λ m h x. record { well = h.well; on = h.on ∙ leftmost-on (pool r) m n less a v j u k h.at e x other; at = x }) in
     let good' = same-trans _ _ _ inv.good one.good in
     let words' = one.words ∙ inv.words in
     record {
@@ -90,7 +91,7 @@ loop-step-preserved g c =
       explained = one.explained;
       inside = omega arith;
       below = shown good words log (g.A.Access.log c.read.new.self) _ _ (WalkedLeft r from (left_at r j) u less) (u ≤ r.cells) shows good' words' one.explained
-          (λ m h. let le = (cell-inside r m j h.well in').0 in let x = h.at in omega arith);
+          (λ m h. let le = (cell-inside (pool r) m h.well.0 j h.well.1.shape in').0 in let x = h.at in omega arith);
       shows = shows;
     }
 

@@ -1,7 +1,7 @@
 use Rattle.std.proofs.Common.{◌≡◌, ◌<◌, ◌≤◌, ◌-◌, None}
 use Rattle.stm_model.specs.Logs.{SameMemories, IsExplained}
 use Rattle.tx_effects.specs.Effects.{Shows}
-use Rattle.tx_sums.proofs.SumTakes.{WalkedLeft}
+use Rattle.tx_sums.proofs.SumTrees.{WalkedLeft}
 use Rattle.tx_sums.proofs.sum_map.SumMap.leftmost.Given as goal
 
 abbrev pub invariant-loop-step : goal.invariant-loop-step

@@ -2,8 +2,8 @@ use Rattle.std.proofs.Common.{◌≡◌, ◌<◌, ◌≤◌, ◌≢◌, ◌+◌,
 use Rattle.std.specs.Prelude.{not, slice_index}
 use Rattle.stm_model.specs.Memories.{is_empty}
 use Rattle.tx_effects.specs.EffectLaws.{shows-none, shows-read, shown, same-trans}
-use Rattle.tx_sums.specs.Sums.{LinksFrom, tag, tag_at, raised, raised_in, mended_in}
-use Rattle.tx_sums.proofs.SumLaws.{side-inside}
+use Rattle.tx_tree.specs.ShapeWalks.{side-inside}
+use Rattle.tx_sums.specs.Sums.{pool, LinksFrom, tag, tag_at, raised, raised_in, mended_in}
 use Rattle.tx_sums.proofs.SumWalks.{Mending, walks-shown, walks-read, walks-does, walked, walks-end, does-wrote, mending-begins, mending-ends, mending-stops, mending-found, mending-on, word-most, mended-is, wrote-true, wrote-here, wrote-end}
 use Rattle.tx_sums.proofs.sum_map.SumMap.mend.Goals as goal
 
@@ -145,7 +145,7 @@ loop-step-preserved g c =
     (λ m x h i. (x, h, refl)) in
     let w2 = walks-read good words log (g.A.Access.log c.raise.new.acc) (g.A.Access.log c.read-in-loop-step.new.self) (λ m x. (y : List ℕ) × Mending r from key d v n b m y × (x ≡ raised r d j y)) (λ m x. (y : List ℕ) × Mending r from key d v n b m y × (x ≡ raised r d j y) × (t ≡ tag r (raised r d j y) j)) (tag_at r j) t w1 (omega arith) two.value
     (λ m x h i. (h.0, h.1, h.2, i ∙ ap (λ q. tag r q j) h.2)) in
-    let near = side-inside r key j t a c.side.ensures in
+    let near = side-inside (pool r) key j t a c.side.ensures in
     let w3 = walks-read good words log (g.A.Access.log c.read-in-loop-step.new.self) (g.A.Access.log c.read-in-loop-step-2.new.self) (λ m x. (y : List ℕ) × Mending r from key d v n b m y × (x ≡ raised r d j y) × (t ≡ tag r (raised r d j y) j)) (λ m x. Mending r from key d u less b m x × (u ≤ r.cells)) a u w2 (omega arith) three.value
     (λ m x h i. let y : u ≡ slice_index (raised r d j h.0) a = i ∙ ap (λ q. slice_index q a) h.2 in
     (subst (Mending r from key d u less b m) (sym h.2) (mending-on r from key d v n less j t a u b m h.0 h.1 e k h.3 other c.side.ensures y), word-most r from key d v n j t a u b m h.0 h.1 in' c.side.ensures y)) in

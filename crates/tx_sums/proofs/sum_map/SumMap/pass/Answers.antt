@@ -1,7 +1,7 @@
 use Rattle.std.proofs.Common.{◌≡◌, ◌<◌, ◌≤◌, ◌+◌, ◌-◌, ◌%◌, ◌^◌, ◌∙◌, refl, get_or, arith}
 use Rattle.tx_effects.specs.EffectLaws.{shows-none, shows-read, shows-then, shown, same-trans}
-use Rattle.tx_sums.specs.Sums.{IsSumMap, tag, tag_at, left_at, right_at, sum_at, sum_under, passed}
-use Rattle.tx_sums.proofs.SumLaws.{cell-inside}
+use Rattle.tx_tree.specs.ShapeWalks.{cell-inside}
+use Rattle.tx_sums.specs.Sums.{pool, IsSumMap, tag, tag_at, left_at, right_at, sum_at, sum_under, passed}
 use Rattle.tx_sums.proofs.SumBelow.{pass-left, pass-right}
 use Rattle.tx_sums.proofs.sum_map.SumMap.pass.Goals as goal
 
@@ -34,7 +34,7 @@ returns-then-tag-bound-clause-inside g c =
     let two = c.in_ok-next.ensures in
     let w = c.requires.within in
     let q1 = shows-read good words log log _ (IsSumMap r) (IsSumMap r) (tag_at r j) c.in_ok-tag.tag (shows-none good words log (IsSumMap r) c.requires.well) refl (omega arith) one.value (λ m h x. h) in
-    let q2 = shows-read good words log _ _ (IsSumMap r) (λ m. u ≤ r.cells) (left_at r j) u q1 one.value.0 (omega arith) two.value (λ m h x. let le = (cell-inside r m j h w.0).0 in omega arith) in
+    let q2 = shows-read good words log _ _ (IsSumMap r) (λ m. u ≤ r.cells) (left_at r j) u q1 one.value.0 (omega arith) two.value (λ m h x. let le = (cell-inside (pool r) m h.0 j h.1.shape w.0).0 in omega arith) in
     shown good words log (g.A.Access.log c.read-then-tag-bound.new.self) _ _ (λ m. u ≤ r.cells) (u ≤ r.cells) q2 (same-trans _ _ _ one.good two.good) (two.words ∙ one.words) two.explained (λ m h. h)
 
 -- A CELL BELOW IT
@@ -52,7 +52,7 @@ sum_under-requires-clause-within g c =
     let w = c.requires.within in
     let q1 = shows-read good words log log _ (IsSumMap r) (IsSumMap r) (tag_at r j) c.in_ok-tag.tag (shows-none good words log (IsSumMap r) c.requires.well) refl (omega arith) one.value (λ m h x. h) in
     let q2 = shows-read good words log _ _ (IsSumMap r) (IsSumMap r) (sum_at r j) c.in_ok-whole.whole q1 one.value.0 (omega arith) two.value (λ m h x. h) in
-    let q3 = shows-read good words log _ _ (IsSumMap r) (λ m. u ≤ r.cells) (right_at r j) u q2 (two.value.0 ∙ one.value.0) (omega arith) three.value (λ m h x. let le = (cell-inside r m j h w.0).1 in omega arith) in
+    let q3 = shows-read good words log _ _ (IsSumMap r) (λ m. u ≤ r.cells) (right_at r j) u q2 (two.value.0 ∙ one.value.0) (omega arith) three.value (λ m h x. let le = (cell-inside (pool r) m h.0 j h.1.shape w.0).1 in omega arith) in
     let words' = three.words ∙ (two.words ∙ one.words) in
     let most = shown good words log (g.A.Access.log c.read-3.new.self) _ _ (λ m. u ≤ r.cells) (u ≤ r.cells) q3 (same-trans _ _ _ one.good (same-trans _ _ _ two.good three.good)) words' three.explained (λ m h. h) in
     (most, (omega arith, w.1.1))
@@ -71,7 +71,7 @@ returns-clause-inside g c =
     let w = c.requires.within in
     let q1 = shows-read good words log log _ (IsSumMap r) (IsSumMap r) (tag_at r j) c.in_ok-tag.tag (shows-none good words log (IsSumMap r) c.requires.well) refl (omega arith) one.value (λ m h x. h) in
     let q2 = shows-read good words log _ _ (IsSumMap r) (IsSumMap r) (sum_at r j) c.in_ok-whole.whole q1 one.value.0 (omega arith) two.value (λ m h x. h) in
-    let q3 = shows-read good words log _ _ (IsSumMap r) (λ m. u ≤ r.cells) (right_at r j) u q2 (two.value.0 ∙ one.value.0) (omega arith) three.value (λ m h x. let le = (cell-inside r m j h w.0).1 in omega arith) in
+    let q3 = shows-read good words log _ _ (IsSumMap r) (λ m. u ≤ r.cells) (right_at r j) u q2 (two.value.0 ∙ one.value.0) (omega arith) three.value (λ m h x. let le = (cell-inside (pool r) m h.0 j h.1.shape w.0).1 in omega arith) in
     shown good words log (g.A.Access.log c.read-3.new.self) _ _ (λ m. u ≤ r.cells) (u ≤ r.cells) q3 (same-trans _ _ _ one.good (same-trans _ _ _ two.good three.good)) (three.words ∙ (two.words ∙ one.words)) three.explained (λ m h. h)
 
 pub returns-clause-passes : goal.returns-clause-passes

@@ -1,9 +1,8 @@
 use Rattle.std.proofs.Common.{◌≡◌, ◌<◌, ◌≤◌, ◌+◌, ◌-◌, ◌∙◌, suc, refl, sym, subst, arith}
 use Rattle.stm_model.specs.Memories.{overlay}
 use Rattle.tx_effects.specs.EffectLaws.{shows-none, shows-read, shows-then, shown, same-trans}
-use Rattle.tx_sums.specs.Sums.{IsSumMap, passed}
-use Rattle.tx_sums.proofs.SumLaws.{word-inside}
-use Rattle.tx_sums.proofs.SumTrees.{tree-of}
+use Rattle.tx_tree.specs.ShapeWalks.{word-inside}
+use Rattle.tx_sums.specs.Sums.{pool, IsSumMap, passed}
 use Rattle.tx_sums.proofs.SumBelow.{Passing, passing-begins, passing-on, passing-ends, passing-stops}
 use Rattle.tx_sums.proofs.sum_map.SumMap.sum_below.Goals as goal
 
@@ -28,7 +27,7 @@ loop-step-init g c =
       writes = one.value.0;
       explained = one.explained;
       below = shown good words log (g.A.Access.log c.read.new.self) _ _ (Passing r b v 0 (r.cells - 0)) (v ≤ r.cells) shows one.good one.words one.explained
-          (λ m h. let le = word-inside r m h.ranges h.low h.high h.address (tree-of r m h.ranges h.holds) h.is_link in let e = h.at in omega arith);
+          (λ m h. let le = word-inside (pool r) m h.ranges h.low h.high h.address h.holds.shape h.is_link in let e = h.at in omega arith);
       shows = shows;
     }
 

@@ -1,7 +1,7 @@
 use Rattle.std.proofs.Common.{◌≡◌, ◌<◌, ◌≤◌, ◌-◌, None}
 use Rattle.stm_model.specs.Logs.{SameMemories, IsExplained}
 use Rattle.tx_effects.specs.Effects.{Shows}
-use Rattle.tx_tree.proofs.TreeLaws.{Walked}
+use Rattle.tx_tree.proofs.TreeTakes.{Walked}
 use Rattle.tx_tree.proofs.tree.Tree.find.Given as goal
 
 abbrev pub invariant-loop-step : goal.invariant-loop-step

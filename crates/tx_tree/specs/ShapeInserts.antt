@@ -1,17 +1,14 @@
--- An insert keeps a tree well formed.
-use Rattle.std.proofs.Common.{ℕ, zero, suc, ◌≡◌, ◌<◌, ◌≤◌, ◌≢◌, ◌+◌, ◌*◌, List, length, get_or, set, Bool, true, false, refl, sym, ap, ◌∙◌, arith, subst, inl, inr}
+-- A leaf attached keeps a tree's shape.
+use Rattle.std.proofs.Common.{ℕ, zero, suc, ◌≡◌, ◌<◌, ◌≤◌, ◌≢◌, List, get_or, Bool, true, false, refl, sym, ap, ◌∙◌, arith, subst, inl, inr}
 use Rattle.std.specs.Prelude.{◌⊎◌, ◌==◌, if◌then◌else◌, slice_index}
-use Rattle.std.proofs.Math.ListN.{length-set}
-use Rattle.std.proofs.lemmas.List.{get_or-set_same, get_or-set_other}
 use Rattle.std.proofs.lemmas.Bool.Decides.{nat_tests}
-use Rattle.tx_tree.specs.declared.tree.Tree.{Tree}
 use Rattle.tx_effects.specs.declared.position.Position.{Position}
-use Rattle.tx_tree.specs.Trees.{tag_at, left_at, right_at, tag, top, Ranges, Used, Within, LinkOf, Names, Bounds, Holds, IsTree, attached}
-use Rattle.tx_tree.proofs.TreeLaws.{Found}
-use Rattle.tx_tree.proofs.TreeOrder.{over, link-low, link-high, link-one, link-used, link-inside, same-gap, high-most}
+use Rattle.tx_tree.specs.Shapes.{Pool, left_at, right_at, tag, top, Ranges, Used, Within, LinkOf, Names, Bounds, Holds}
+use Rattle.tx_tree.specs.ShapeWalks.{Found}
+use Rattle.tx_tree.specs.ShapeOrder.{over, link-low, link-high, link-one, same-gap, high-most}
 
 -- A LEAF ATTACHED. k is m with the key in the free cell c, at the position of the key, which was empty
-module _ (r : Tree) (m k : List ℕ) (g n : Ranges) (key c : ℕ) (s : Position) (w : Holds r m g) (f : Found r m g key s) (empty : s.next ≡ 0) (inside : c < r.cells) (free : tag r m c ≡ 0)
+module _ (r : Pool) (m k : List ℕ) (g n : Ranges) (key c : ℕ) (s : Position) (w : Holds r m g) (f : Found r m g key s) (empty : s.next ≡ 0) (inside : c < r.cells) (free : tag r m c ≡ 0)
     (absent : (i : ℕ) → i < r.cells → tag r m i ≢ suc key)
     (others : (i : ℕ) → i ≢ c → tag r k i ≡ tag r m i) (new : tag r k c ≡ suc key)
     (words : (l h a : ℕ) → LinkOf r m g l h a → a ≢ s.link → slice_index k a ≡ slice_index m a)
@@ -135,25 +132,3 @@ with_range g c l h n = record {
   high = λ i. if i == c then h else g.high i;
   rank = λ i. if i == c then n else g.rank i;
 }
-
-pub attached-keeps : (r : Tree) (m : List ℕ) (g : Ranges) (key c : ℕ) (s : Position) → Holds r m g → Found r m g key s → s.next ≡ 0 → r.at + 1 + 3 * r.cells ≤ length m → c < r.cells → tag r m c ≡ 0
-    → ((i : ℕ) → i < r.cells → tag r m i ≢ suc key) → IsTree r (attached r key c s.link m)
-attached-keeps r m g key c s w f empty room inside free absent =
-    let a = s.link in
-    let t = tag_at r c in
-    let k : List ℕ = attached r key c a m in
-    let l = link-inside r m g f.low f.high a f.link in
-    let al = l.1 in
-    let n : ℕ = over r m g f.low f.high a f.link in
-    let other : (x : ℕ) → x ≢ a → x ≢ t → get_or k x 0 ≡ get_or m x 0 = λ x p q. get_or-set_other (set m t (suc key)) a x (suc c) 0 p ∙ get_or-set_other m t x (suc key) 0 q in (
-      with_range g c f.low f.high n,
-      attach-keeps r m k g (with_range g c f.low f.high n) key c s w f empty inside free absent
-          (λ i d. other (tag_at r i) (λ e. l.0 i (sym e)) (λ e. d (omega arith)))
-          (get_or-set_other (set m t (suc key)) a t (suc c) 0 (λ e. l.0 c (sym e)) ∙ get_or-set_same m t (suc key) 0 (omega arith))
-          (λ lo hi x y d. other x d ((link-inside r m g lo hi x y).0 c))
-          (get_or-set_same (set m t (suc key)) a (suc c) 0 (simp length-set (omega arith)))
-          (λ i lt z. let u = link-used r m g f.low f.high a i f.link z in let v = w.spare i lt z in
-          (other (left_at r i) (λ e. u.0 (sym e)) (λ e. absurd (omega arith)) ∙ v.0, other (right_at r i) (λ e. u.1 (sym e)) (λ e. absurd (omega arith)) ∙ v.1))
-          (λ i d. let q : (i == c) ≡ false = grind (arith, nat_tests) in (rw q refl, rw q refl, rw q refl))
-          (let q : (c == c) ≡ true = grind (arith, nat_tests) in (rw q refl, rw q refl, rw q refl)),
-    )

@@ -1,12 +1,9 @@
--- A cell taken out of a tree keeps it well formed.
-use Rattle.std.proofs.Common.{ℕ, zero, suc, ◌≡◌, ◌<◌, ◌≤◌, ◌≢◌, ◌+◌, ◌*◌, List, length, get_or, set, Bool, true, false, refl, sym, ap, ◌∙◌, arith, subst, inl, inr}
+-- A cell spliced out of a tree keeps its shape.
+use Rattle.std.proofs.Common.{ℕ, zero, suc, ◌≡◌, ◌<◌, ◌≤◌, ◌≢◌, List, get_or, Bool, true, false, refl, sym, ap, ◌∙◌, arith, subst, inl, inr}
 use Rattle.std.specs.Prelude.{◌⊎◌, ◌==◌, ltb, if◌then◌else◌, slice_index}
-use Rattle.std.proofs.Math.ListN.{length-set}
-use Rattle.std.proofs.lemmas.List.{get_or-set_same, get_or-set_other}
 use Rattle.std.proofs.lemmas.Bool.Decides.{nat_tests}
-use Rattle.tx_tree.specs.declared.tree.Tree.{Tree}
-use Rattle.tx_tree.specs.Trees.{tag_at, left_at, right_at, tag, top, Ranges, Used, Within, LinkOf, Names, Bounds, Holds, spliced}
-use Rattle.tx_tree.proofs.TreeOrder.{link-one, link-same, link-used, link-inside, link-order, same-low, same-high}
+use Rattle.tx_tree.specs.Shapes.{Pool, left_at, right_at, tag, top, Ranges, Used, Within, LinkOf, Names, Bounds, Holds}
+use Rattle.tx_tree.specs.ShapeOrder.{left-once, right-once, sides-apart, link-one, link-same, link-order, same-low, same-high}
 
 -- t becomes v
 abbrev pub shift : ℕ → ℕ → ℕ → ℕ
@@ -29,7 +26,7 @@ abbrev pub shifted : Ranges → ℕ → ℕ → ℕ → Ranges
 shifted g t l h = record { low = λ i. shift t l (g.low i); high = λ i. shift t h (g.high i); rank = g.rank }
 
 -- A CELL SPLICED OUT. k is m without the cell y, of which one link is 0, and whose other link v stands at e now
-module _ (r : Tree) (m k : List ℕ) (g : Ranges) (l h e y v : ℕ) (w : Holds r m g) (x : LinkOf r m g l h e) (named : slice_index m e ≡ suc y)
+module _ (r : Pool) (m k : List ℕ) (g : Ranges) (l h e y v : ℕ) (w : Holds r m g) (x : LinkOf r m g l h e) (named : slice_index m e ≡ suc y)
     (one : ((slice_index m (left_at r y) ≡ 0) × (slice_index m (right_at r y) ≡ v)) ⊎ ((slice_index m (right_at r y) ≡ 0) × (slice_index m (left_at r y) ≡ v)))
     (others : (i : ℕ) → i ≢ y → tag r k i ≡ tag r m i) (freed : tag r k y ≡ 0)
     (words : (l h a : ℕ) → LinkOf r m g l h a → a ≢ e → a ≢ left_at r y → a ≢ right_at r y → slice_index k a ≡ slice_index m a)
@@ -77,9 +74,9 @@ module _ (r : Tree) (m k : List ℕ) (g : Ranges) (l h e y v : ℕ) (w : Holds r
     (λ q. (let p = z.0 in absurd (omega arith))),
   )
   from-new l' h' a (inr (inl (i, p, q, o, u))) = let z = used-old i u in
-      (g.low i, tag r m i, inr (inl (i, p, refl, refl, z.1)), q, o ∙ (others i z.0 ∙ sym (shift-off t h (tag r m i) (tag-off i z.0 z.1))), (λ c. z.0 (omega arith)), (λ c. absurd (omega arith)))
+      (g.low i, tag r m i, inr (inl (i, p, refl, refl, z.1)), q, o ∙ (others i z.0 ∙ sym (shift-off t h (tag r m i) (tag-off i z.0 z.1))), (λ c. z.0 (left-once r i y (sym p ∙ c))), (λ c. sides-apart r i y (sym p ∙ c)))
   from-new l' h' a (inr (inr (i, p, q, o, u))) = let z = used-old i u in
-      (tag r m i, g.high i, inr (inr (i, p, refl, refl, z.1)), q ∙ (others i z.0 ∙ sym (shift-off t l (tag r m i) (tag-off i z.0 z.1))), o, (λ c. absurd (omega arith)), (λ c. z.0 (omega arith)))
+      (tag r m i, g.high i, inr (inr (i, p, refl, refl, z.1)), q ∙ (others i z.0 ∙ sym (shift-off t l (tag r m i) (tag-off i z.0 z.1))), o, (λ c. sides-apart r y i (sym c ∙ p)), (λ c. z.0 (right-once r i y (sym p ∙ c))))
 
   within-old : (l' h' i : ℕ) → Within r k l' h' i → (i ≢ y) × (tag r m i ≢ t) × Within r m l' h' i
   within-old l' h' i z = let d = not-y i (let a = z.above in omega arith) in let q = others i d in
@@ -249,39 +246,3 @@ module _ (r : Tree) (m k : List ℕ) (g : Ranges) (l h e y v : ℕ) (w : Holds r
       small : (i : ℕ) → i < r.cells → (b : Bool) → (i == y) ≡ b → tag r k i < top
       small i lt true q = let c : tag r k i ≡ 0 = ap (tag r k) (grind (arith, nat_tests)) ∙ freed in omega arith
       small i lt false q = subst (λ z. z < top) (sym (others i (grind (arith, nat_tests)))) (w.small i lt)
-
-pub spliced-keeps : (r : Tree) (m : List ℕ) (g : Ranges) (l h e y v : ℕ) → Holds r m g → LinkOf r m g l h e → slice_index m e ≡ suc y
-    → ((slice_index m (left_at r y) ≡ 0) × (slice_index m (right_at r y) ≡ v)) ⊎ ((slice_index m (right_at r y) ≡ 0) × (slice_index m (left_at r y) ≡ v))
-    → r.at + 1 + 3 * r.cells ≤ length m → Holds r (spliced r y e v m) (shifted g (tag r m y) l h)
-spliced-keeps r m g l h e y v w x named one room =
-    let names : Names r m g l h (suc y) = subst (Names r m g l h) named (w.names l h e x) in
-    let inside : y < r.cells = names.0.inside in
-    let used : Used r m y = record { inside = inside; pos = (let a = names.0.above in omega arith) } in
-    let li = link-inside r m g l h e x in
-    let lt = li.1 in
-    let tn = tag_at r y in
-    let ln = left_at r y in
-    let rn = right_at r y in
-    let e-l : e ≢ ln = λ q. (let o = (link-one r m g l h (g.low y) (tag r m y) ln w (subst (LinkOf r m g l h) q x) (inr (inl (y, refl, refl, refl, used)))).1 in let b = names.0.below in absurd (omega arith)) in
-    let e-r : e ≢ rn = λ q. (let o = (link-one r m g l h (tag r m y) (g.high y) rn w (subst (LinkOf r m g l h) q x) (inr (inr (y, refl, refl, refl, used)))).0 in let b = names.0.above in absurd (omega arith)) in
-    let e-t : e ≢ tn = li.0 y in
-    let m1 : List ℕ = set m e v in
-    let m2 : List ℕ = set m1 tn 0 in
-    let m3 : List ℕ = set m2 ln 0 in
-    let k : List ℕ = set m3 rn 0 in
-    let other : (z : ℕ) → z ≢ e → z ≢ tn → z ≢ ln → z ≢ rn → get_or k z 0 ≡ get_or m z 0 =
-    λ z a b c d. get_or-set_other m3 rn z 0 0 d ∙ (get_or-set_other m2 ln z 0 0 c ∙ (get_or-set_other m1 tn z 0 0 b ∙ get_or-set_other m e z v 0 a)) in
-    let r-l : ln ≢ rn = λ q. absurd (omega arith) in
-    let t-l : tn ≢ ln = λ q. absurd (omega arith) in
-    let t-r : tn ≢ rn = λ q. absurd (omega arith) in
-    splice-keeps r m k g l h e y v w x named one
-    (λ i d. other (tag_at r i) (λ q. li.0 i (sym q)) (λ q. d (omega arith)) (λ q. absurd (omega arith)) (λ q. absurd (omega arith)))
-    (get_or-set_other m3 rn tn 0 0 t-r ∙ (get_or-set_other m2 ln tn 0 0 t-l ∙ get_or-set_same m1 tn 0 0 (simp length-set (omega arith))))
-    (λ lo hi a z d nl nr. let o = link-inside r m g lo hi a z in other a d (o.0 y) nl nr)
-    (get_or-set_other m3 rn e 0 0 e-r ∙ (get_or-set_other m2 ln e 0 0 e-l ∙ (get_or-set_other m1 tn e 0 0 e-t ∙ get_or-set_same m e v 0 (omega arith))))
-    (get_or-set_other m3 rn ln 0 0 r-l ∙ get_or-set_same m2 ln 0 0 (simp length-set (omega arith)), get_or-set_same m3 rn 0 0 (simp length-set (omega arith)))
-    (λ i lt z. let o = link-used r m g l h e i x z in let sp = w.spare i lt z in
-    let d : i ≢ y = λ q. (let a : tag r m i ≡ tag r m y = ap (tag r m) q in let b = used.pos in absurd (omega arith)) in (
-      other (left_at r i) (λ q. o.0 (sym q)) (λ q. absurd (omega arith)) (λ q. d (omega arith)) (λ q. absurd (omega arith)) ∙ sp.0,
-      other (right_at r i) (λ q. o.1 (sym q)) (λ q. absurd (omega arith)) (λ q. absurd (omega arith)) (λ q. d (omega arith)) ∙ sp.1,
-    ))

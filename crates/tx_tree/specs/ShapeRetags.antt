@@ -1,14 +1,13 @@
--- A cell whose tag moves up, past no other, keeps a tree well formed.
+-- A cell whose tag moves up, past no other, keeps a tree's shape.
 use Rattle.std.proofs.Common.{ℕ, zero, suc, ◌≡◌, ◌<◌, ◌≤◌, ◌≢◌, List, Bool, true, false, refl, sym, ap, ◌∙◌, arith, subst, inl, inr}
 use Rattle.std.specs.Prelude.{◌⊎◌, ◌==◌, ltb, slice_index}
 use Rattle.std.proofs.lemmas.Bool.Decides.{nat_tests}
-use Rattle.tx_tree.specs.declared.tree.Tree.{Tree}
-use Rattle.tx_tree.specs.Trees.{left_at, right_at, tag, top, Ranges, Used, LinkOf, Names, Bounds, Holds}
-use Rattle.tx_tree.proofs.TreeOrder.{link-low, link-high}
-use Rattle.tx_tree.proofs.TreeRemovals.{shift, shift-at, shift-off, shift-by, shifted}
+use Rattle.tx_tree.specs.Shapes.{Pool, left_at, right_at, tag, top, Ranges, Used, LinkOf, Names, Bounds, Holds}
+use Rattle.tx_tree.specs.ShapeOrder.{link-low, link-high}
+use Rattle.tx_tree.specs.ShapeSplices.{shift, shift-at, shift-off, shift-by, shifted}
 
 -- A CELL RETAGGED. k is m with x's tag v, and no tag stands between
-module _ (r : Tree) (m k : List ℕ) (g : Ranges) (x v : ℕ) (w : Holds r m g) (u : Used r m x) (up : tag r m x ≤ v) (under : v < top)
+module _ (r : Pool) (m k : List ℕ) (g : Ranges) (x v : ℕ) (w : Holds r m g) (u : Used r m x) (up : tag r m x ≤ v) (under : v < top)
     (gap : (i : ℕ) → Used r m i → tag r m x < tag r m i → v < tag r m i)
     (others : (i : ℕ) → i ≢ x → tag r k i ≡ tag r m i) (new : tag r k x ≡ v)
     (words : (l h a : ℕ) → LinkOf r m g l h a → slice_index k a ≡ slice_index m a)
@@ -57,7 +56,7 @@ module _ (r : Tree) (m k : List ℕ) (g : Ranges) (x v : ℕ) (w : Holds r m g) 
       by false p true o = let z = keeps b a eb ea (grind (arith, nat_tests)) in absurd (omega arith)
       by false p false o = grind (arith, nat_tests)
 
-  used-old : (i : ℕ) → Used r k i → Used r m i
+  pub used-old : (i : ℕ) → Used r k i → Used r m i
   used-old i o = by (i == x) refl
     where
       by : (b : Bool) → (i == x) ≡ b → Used r m i
@@ -88,6 +87,19 @@ module _ (r : Tree) (m k : List ℕ) (g : Ranges) (x v : ℕ) (w : Holds r m g) 
   high-end : (p a : ℕ) → Bounds r m g top p a → End a
   high-end p a (inl e) = inr (inl e)
   high-end p a (inr (i, o, e, lt)) = inr (inr (i, o, e))
+
+  -- a cell stays in the range of another, and comes into none
+  pub retag-in : (i j : ℕ) → Used r m i → Used r m j → g.low i < tag r m j → tag r m j < g.high i → (shift t v (g.low i) < tag r k j) × (tag r k j < shift t v (g.high i))
+  retag-in i j a b lo hi = (
+    subst (λ z. shift t v (g.low i) < z) (sym (tags j b)) (keeps (g.low i) (tag r m j) (low-end _ (g.low i) (w.lows i a).1) (tag-end j b) lo),
+    subst (λ z. z < shift t v (g.high i)) (sym (tags j b)) (keeps (tag r m j) (g.high i) (tag-end j b) (high-end _ (g.high i) (w.highs i a).1) hi),
+  )
+
+  pub retag-back : (i j : ℕ) → Used r m i → Used r m j → shift t v (g.low i) < tag r k j → tag r k j < shift t v (g.high i) → (g.low i < tag r m j) × (tag r m j < g.high i)
+  retag-back i j a b lo hi = (
+    back (g.low i) (tag r m j) (low-end _ (g.low i) (w.lows i a).1) (tag-end j b) (subst (λ z. shift t v (g.low i) < z) (tags j b) lo),
+    back (tag r m j) (g.high i) (tag-end j b) (high-end _ (g.high i) (w.highs i a).1) (subst (λ z. z < shift t v (g.high i)) (tags j b) hi),
+  )
 
   shift-zero : shift t v 0 ≡ 0
   shift-zero = shift-off t v 0 (λ e. (let p = pos in absurd (omega arith)))

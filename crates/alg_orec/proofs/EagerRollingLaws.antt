@@ -1,0 +1,212 @@
+-- What a roll back in place of OrecEager comes to.
+use Rattle.std.proofs.Common.{ℕ, ◌≡◌, ◌<◌, ◌≤◌, List, ◌∷◌, ◌++◌, length, take, Bool, true, false, refl, sym, ap, ◌∙◌, arith, subst, append_assoc}
+use Rattle.std.specs.Prelude.{◌^◌, ◌==◌, ◌||◌, not, if◌then◌else◌}
+use Rattle.std.proofs.lemmas.List.{length-take-le}
+use Rattle.stm_model.specs.Algorithms.{has_records}
+use Rattle.stm_model.specs.declared.alg.Alg.{Alg}
+use Rattle.stm_model.specs.declared.alg.Alg.TheVariants.{OrecEager}
+use Rattle.stm_model.specs.declared.config.Config.{Config}
+use Rattle.stm_model.specs.Memories.{is_empty}
+use Rattle.rule_base.specs.declared.entries.Cell.{Cell}
+use Rattle.rule_base.specs.declared.seats.SeatView.{SeatView}
+use Rattle.rule_base.specs.declared.views.TrailItem.{TrailItem}
+use Rattle.rule_base.specs.declared.views.View.{View}
+use Rattle.rule_base.specs.Bridge.{items}
+use Rattle.rule_base.specs.History.{over, touches, without, Inside, Small}
+use Rattle.rule_base.specs.HistoryLemmas.{over-without}
+use Rattle.rule_base.specs.StepKinds.{view_after}
+use Rattle.rule_base.specs.World.{World}
+use Rattle.rule_orec.specs.OrecSteps.{HasOpen, orec_place, orec_restore}
+use Rattle.stm_rule.specs.declared.local.Local.{Local}
+use Rattle.stm_rule.specs.Attempts.{addresses, own_of, IsInside}
+use Rattle.stm_rule.specs.Attempts as attempts
+use Rattle.stm_rule.specs.EagerKept.{IsEager}
+use Rattle.tx_answers.specs.Answers.{IsRolled}
+use Rattle.tx_answers.specs.Causes.{has_item}
+use Rattle.tx_answers.specs.Known.{known_of, written_under, is_in, is_closing, keeps_records}
+use Rattle.tx_answers.specs.KnownLaws.{grows-same}
+use Rattle.tx_logs.specs.LogStates.{LogState, rolled, firsts}
+use Rattle.stm_gate.specs.Opacity.{opaque-inside}
+use Rattle.stm_gate.specs.Peeling.{has-touched}
+use Rattle.stm_gate.specs.RollItems.{has-by, length-by, has-take, addresses-firsts, addresses-take, first-addresses, first-fewer}
+use Rattle.alg_orec.proofs.EagerCalls.{RunsEager}
+use Rattle.alg_orec.proofs.EagerReleasing.{restore_item}
+use Rattle.alg_orec.specs.EagerEnding.{restoring}
+use Rattle.alg_orec.specs.EagerNesting.{RestoresBehind, CanPlaceAgain, PlacesAgain}
+
+-- THE STEPS, with what is in place and to be restored behind them
+pub behind-step : {K : Type 0} → (first s t : SeatView K) (more : List TrailItem) (a x y : ℕ) (m : World) → s ≡ record first { view = restoring first.view s.view.owned.in_place s.view.owned.undo more } → t ≡ record s { view = view_after (orec_restore a x) m s.view y }
+    → t ≡ record first { view = restoring first.view t.view.owned.in_place t.view.owned.undo (restore_item a x ∷ more) }
+behind-step {K} first s t more a x y m e p = p ∙ (ap (λ (z : SeatView K). record z { view = view_after (orec_restore a x) m z.view y }) e
+    ∙ (λ j. record first { view = restoring first.view (sym in_place j) (sym undo j) (restore_item a x ∷ more) }))
+  where
+    in_place : t.view.owned.in_place ≡ without s.view.owned.in_place a
+    in_place = ap (λ (z : SeatView K). z.view.owned.in_place) p
+
+    undo : t.view.owned.undo ≡ without s.view.owned.undo a
+    undo = ap (λ (z : SeatView K). z.view.owned.undo) p
+
+pub again-step : {K : Type 0} → (first s t : SeatView K) (more : List TrailItem) (a x y : ℕ) (m : World) → s ≡ record first { view = restoring first.view s.view.owned.in_place first.view.owned.undo more } → t ≡ record s { view = view_after (orec_place a x) m s.view y }
+    → t ≡ record first { view = restoring first.view t.view.owned.in_place first.view.owned.undo (restore_item a x ∷ more) }
+again-step {K} first s t more a x y m e p = p ∙ (ap (λ (z : SeatView K). record z { view = view_after (orec_place a x) m z.view y }) e
+    ∙ (λ j. record first { view = restoring first.view (sym in_place j) first.view.owned.undo (restore_item a x ∷ more) }))
+  where
+    in_place : t.view.owned.in_place ≡ record { at = a; value = x } ∷ s.view.owned.in_place
+    in_place = ap (λ (z : SeatView K). z.view.owned.in_place) p
+
+pub small-without : (a : ℕ) (cs : List Cell) → Small cs → Small (without cs a)
+small-without a cs h b d low = subst (λ (x : ℕ). x < 2 ^ 64) (sym (over-without cs a b d)) (by (a == b))
+  where
+    by : (q : Bool) → (if q then d else over cs b d) < 2 ^ 64
+    by true = low
+    by false = h b d low
+
+module _ (good : List ℕ → Type 0) (c : Config) (n : ℕ) (l : Local) (v : View) (runs : RunsEager good c n l v) where
+  abbrev i : IsInside good c n l v
+  i = runs.inside
+
+  abbrev k : IsEager c l v
+  k = runs.kept
+
+  -- the undo log has the addresses of the words in place
+  undoable : addresses l.undo.items ≡ addresses (items v.owned.in_place)
+  undoable = addresses-firsts l.undo.items ∙ (k.undoable ∙ (sym (addresses-firsts l.writes.items) ∙ ap addresses k.writes))
+
+  module _ (log : LogState) (d : ℕ) (low : 1 ≤ d) (high : d ≤ l.depth) (is : log ≡ rolled d l.writes) (prefix : firsts log.items ≡ take (length log.items) (firsts l.writes.items)) where
+    abbrev left : ℕ
+    left = length log.items
+
+    fewer : left ≤ length l.writes.items
+    fewer = first-fewer log.items l.writes.items prefix
+
+    pub left-low : left ≤ length l.undo.items
+    left-low = let e = length-by l.undo.items (items v.owned.in_place) undoable in let g = ap length k.writes in let f = fewer in omega arith
+
+    of-place : addresses log.items ≡ addresses (take left (items v.owned.in_place))
+    of-place = first-addresses log.items l.writes.items prefix ∙ ap (λ (ws : List (ℕ × ℕ)). addresses (take left ws)) k.writes
+
+    of-undo : addresses (take left l.undo.items) ≡ addresses log.items
+    of-undo = addresses-take left l.undo.items (items v.owned.in_place) undoable ∙ sym of-place
+
+    was-placed : (a : ℕ) → has_item a log.items ≡ true → touches v.owned.in_place a ≡ true
+    was-placed a h = has-touched a v.owned.in_place ∙ has-take a left (items v.owned.in_place) (sym (has-by a log.items (take left (items v.owned.in_place)) of-place) ∙ h)
+
+    -- the first words are stored still
+    module _ (u : View) (back : RestoresBehind c.words left l.undo.items v u) where
+      pub may-place-again : CanPlaceAgain c.words log.items u
+      may-place-again = record {
+        opens = opens-still;
+        eager = ap (λ (y : View). y.owned.eager) back.is ∙ k.eager;
+        within = back.within;
+        placed = of-place ∙ ap addresses (sym back.in_place);
+        undoable = λ a h. has-touched a u.owned.undo ∙ (ap (has_item a) back.undo ∙ (has-by a (take left l.undo.items) log.items of-undo ∙ h));
+        small = back.small;
+      }
+        where
+          opens-still : HasOpen u
+          opens-still = subst HasOpen (sym back.is) (record { has = record { runs = record { phase = i.phase; algorithm = ap has_records runs.eager; plain = k.optimistic.ungranted }; inside = k.inside }; open_yet = k.open_yet })
+
+      -- and have the values that they had at the mark
+      module _ (w : View) (again : PlacesAgain log.items u w) (cut : LogState) (cut-is : cut ≡ record l.undo { items = take left l.undo.items }) (wrote : Bool) (some : wrote ≡ not (is_empty log.items)) where
+        abbrev m : Local
+        m = record l { writes = log; undo = cut; wrote = wrote; depth = d; retains = true }
+
+        abbrev more : List TrailItem
+        more = again.more ++ back.more
+
+        abbrev after : List Cell → List Cell → View
+        after in_place undo = restoring v in_place undo more
+
+        undo-same : w.owned.undo ≡ u.owned.undo
+        undo-same = ap (λ (y : View). y.owned.undo) again.is
+
+        pub path : w ≡ after w.owned.in_place w.owned.undo
+        path = again.is ∙ ((λ j. restoring (back.is j) w.owned.in_place u.owned.undo again.more)
+            ∙ (λ j. record v { owned = record v.owned { in_place = w.owned.in_place; undo = sym undo-same j }; steps = record v.steps { trail = sym (append_assoc again.more back.more v.steps.trail) j } }))
+
+        stays-at : (in_place undo : List Cell) → items in_place ≡ log.items → Small in_place → items undo ≡ take left l.undo.items → Inside c.words undo → IsInside good c n m (after in_place undo)
+        stays-at in_place undo placed small undone within = record {
+          phase = i.phase;
+          named = i.named;
+          built = i.built;
+          disowned = i.disowned;
+          unentered = i.unentered;
+          start = i.start;
+          front = i.front;
+          legal = i.legal;
+          below = i.below;
+          sees = i.sees;
+          reads_inside = i.reads_inside;
+          looked = λ e. let h = i.looked e in record { low = h.low; seen = h.seen; unseen = h.unseen };
+          granted = i.granted;
+          steady = i.steady;
+          spared = record { is = i.spared.is; fits = i.spared.fits };
+          keeps = keeps-eager (record {
+            optimistic = record { unlocked = k.optimistic.unlocked; unfixed = k.optimistic.unfixed; unwritten = k.optimistic.unwritten; uncommitted = k.optimistic.uncommitted; ungranted = k.optimistic.ungranted; uncalm = k.optimistic.uncalm; unstored = k.optimistic.unstored; rises = k.optimistic.rises };
+            inside = k.inside;
+            eager = k.eager;
+            open_yet = k.open_yet;
+            unraised = k.unraised;
+            repaid = k.repaid;
+            reads = k.reads;
+            locks = k.locks;
+            writes = sym placed;
+            undo = ap (λ (q : LogState). q.items) cut-is ∙ sym undone;
+            wrote = some;
+            undoable = ap (λ (q : LogState). firsts q.items) cut-is ∙ (sym (addresses-firsts (take left l.undo.items)) ∙ (of-undo ∙ addresses-firsts log.items));
+            words = λ a t. k.words a (of-now a t);
+            small = small;
+            old_words = within;
+            covered = λ a t. k.covered a (of-now a t);
+            short = (let e = ap (λ (q : LogState). q.len) cut-is in let f = fewer in let g = k.short in omega arith);
+            few = λ never. absurd (let no : true ≡ false = never in cc);
+            places = k.places;
+            olds = k.olds;
+            below = k.below;
+            committing = λ e. absurd (let no : false ≡ true = sym runs.quiet ∙ e in cc);
+            marked = ap (λ (q : LogState). length q.marks) is ∙ length-take-le d l.writes.marks (let h = k.marked in omega arith);
+            sole = k.sole;
+          });
+        }
+          where
+            of-now : (a : ℕ) → touches in_place a ≡ true → touches v.owned.in_place a ≡ true
+            of-now a t = was-placed a (ap (has_item a) (sym placed) ∙ (sym (has-touched a in_place) ∙ t))
+
+            keeps-eager : IsEager c m (after in_place undo) → attempts.Keeps c l.algorithm l.granted m (after in_place undo)
+            keeps-eager p = subst (λ (a : Alg). attempts.Keeps c a l.granted m (after in_place undo)) (sym (sym i.named ∙ runs.eager)) (subst (λ (b : Bool). attempts.Keeps c OrecEager b m (after in_place undo)) (sym runs.plain) p)
+
+        stays-now : IsInside good c n m (after w.owned.in_place w.owned.undo)
+        stays-now = stays-at w.owned.in_place w.owned.undo again.in_place again.small (ap items undo-same ∙ back.undo) (subst (λ (cs : List Cell). Inside c.words cs) (sym undo-same) back.within)
+
+        pub stays-rolled : IsInside good c n (record l { writes = log; undo = cut; wrote = wrote; depth = d; retains = true }) w
+        stays-rolled = subst (λ (y : View). IsInside good c n m y) (sym path) stays-now
+
+        tells-at : (in_place undo : List Cell) → items in_place ≡ log.items → IsInside good c n m (after in_place undo) → IsRolled good c n d (known_of v (own_of l)) (known_of (after in_place undo) (own_of m))
+        tells-at in_place undo placed inside = record {
+          stays = record {
+            running = ap is_in i.phase;
+            uncommitted = runs.quiet;
+            closing = ap is_closing i.phase;
+            made = refl;
+            grows = grows-same (known_of v (own_of l)) (known_of (after in_place undo) (own_of m)) refl refl more refl refl (ap (λ (q : LogState). q.len) cut-is) refl;
+            alg = refl;
+            fence = refl;
+            base = refl;
+            rises = refl;
+            start = refl;
+            installs = refl;
+            granted = refl;
+            holds = refl;
+            checked = refl;
+          };
+          within = (let h = k.marked in omega arith);
+          reads = refl;
+          writes = (λ j. written_under (runs.eager j) (k.optimistic.ungranted j) (after in_place undo) (own_of m)) ∙ (placed ∙ ap (λ (q : LogState). q.items) is);
+          depth = refl;
+          retains = ap (λ (a : Alg). keeps_records a || l.retains) (sym runs.eager);
+          marks = ap (λ (q : LogState). q.marks) is;
+          opaque = opaque-inside good c n m (after in_place undo) (own_of m) inside;
+        }
+
+        pub rolls-back : IsRolled good c n d (known_of v (own_of l)) (known_of w (own_of (record l { writes = log; undo = cut; wrote = wrote; depth = d; retains = true })))
+        rolls-back = subst (λ (y : View). IsRolled good c n d (known_of v (own_of l)) (known_of y (own_of m))) (sym path) (tells-at w.owned.in_place w.owned.undo again.in_place stays-now)

@@ -1,0 +1,6 @@
+use Rattle.stm_rule.specs.Kept.{good_of}
+use Rattle.stm_rule.specs.QuitRun.{core_quits_lem}
+use Rattle.stm_rule.proofs.laws.core_quits.Goals as goal
+
+pub returns : goal.returns
+returns g c = λ rule config. core_quits_lem (good_of g.K.MemRule.good config rule) config
