@@ -20,7 +20,7 @@ use Rattle.tx_answers.specs.Answers.{Quits}
 use Rattle.tx_answers.specs.Causes.{Conflicts}
 use Rattle.tx_answers.specs.Known.{Known, known_of, granted_under, written_under, is_irrevocable, wrote, has_written}
 use Rattle.alg_orec.proofs.CountingLaws.{records-within}
-use Rattle.alg_orec.proofs.Proving.{as-was-later, moved-later, quits-own, unmade-trans, with_commit}
+use Rattle.alg_orec.proofs.Proving.{conflicts-by-records, quits-own, unmade-trans, with_commit}
 use Rattle.alg_orec.specs.EagerEnding.{TakesBack}
 
 -- an attempt of OrecEager that was not promoted
@@ -95,22 +95,9 @@ module _ (good : List ℕ → Type 0) (c : Config) (n : ℕ) (l : Local) (v : Vi
   irrevocable-granted granted = let here : v.gate.granted ≡ true = i.granted ∙ (λ j. closes_gate ((sym i.named ∙ eager) j) && granted j) in
       (λ j. irrevocable_under (eager j) (granted_under (eager j) v.gate v.lock) (wrote (known_of v o))) ∙ here
 
-  -- one that can be cancelled wasn't promoted
-  pub ungranted : is_irrevocable (known_of v o) ≡ false → l.granted ≡ false
-  ungranted free = by l.granted refl
-    where
-      by : (b : Bool) → l.granted ≡ b → b ≡ false
-      by true e = absurd (let f : true ≡ false = sym (irrevocable-granted e) ∙ free in cc)
-      by false e = refl
-
 -- more steps were taken
-module _ (c : Config) (n : ℕ) (asked : Option ℕ) where
-  pub conflicts-later : (cause : causes.the_data) (v u w : Known) → has_records v.alg ≡ true → (more : List TrailItem) → w.trail ≡ more ++ u.trail → Conflicts c n asked cause v u → Conflicts c n asked cause v w
-  conflicts-later (causes.Clock had now) v u w has more t k = absurd (let e : true ≡ false = sym has ∙ ap has_records k.0 in cc)
-  conflicts-later (causes.Record index word start) v u w has more t k = (k.0, k.1, k.2, as-was-later _ word v u w more t k.3, k.4)
-  conflicts-later (causes.Moved index before after) v u w has more t k = (k.0, k.1, moved-later _ before after v u w more t k.2)
-  conflicts-later (causes.Filter time bits) v u w has more t k = absurd (let e : true ≡ false = sym has ∙ ap has_records k.0 in cc)
-  conflicts-later (causes.Overrun start clock) v u w has more t k = absurd (let e : true ≡ false = sym has ∙ ap has_records k.0 in cc)
+pub conflicts-later : (c : Config) (n : ℕ) (asked : Option ℕ) (cause : causes.the_data) (v u w : Known) → has_records v.alg ≡ true → (more : List TrailItem) → w.trail ≡ more ++ u.trail → Conflicts c n asked cause v u → Conflicts c n asked cause v w
+conflicts-later = conflicts-by-records
 
 -- until it ended
 pub ended-by : (n : ℕ) (u z : View) → TakesBack n u z → (more : List TrailItem) × (z.steps.trail ≡ more ++ u.steps.trail)

@@ -43,13 +43,14 @@ use Rattle.tx_answers.specs.declared.answers.Read.TheVariants as reads
 use Rattle.tx_answers.specs.Answers.{GoesOn, HasRead, Quits, StartMoves, write_rise}
 use Rattle.tx_answers.specs.Causes.{Conflicts, has_item, reads_full}
 use Rattle.tx_answers.specs.Evidence.{Found}
-use Rattle.tx_answers.specs.Known.{Known, caller_of, known_of, is_irrevocable, wrote, has_written}
+use Rattle.tx_answers.specs.Known.{Known, caller_of, known_of, is_irrevocable, has_written}
 use Rattle.tx_answers.specs.KnownLaws.{grows-trans}
 use Rattle.alg_orec.proofs.EagerCalls.{RunsEager}
 use Rattle.alg_orec.proofs.EagerLaws as laws
 use Rattle.alg_orec.proofs.EagerProving.{ended-by, written}
 use Rattle.alg_orec.proofs.EagerTakingLaws as taking
 use Rattle.alg_orec.proofs.LoadLaws.{free-word, untouched-loads}
+use Rattle.alg_orec.proofs.RecordReads as records
 use Rattle.alg_orec.proofs.LockingLaws.{unheld-of}
 use Rattle.alg_orec.specs.EagerEnding.{CanTakeBack, TakesBack}
 use Rattle.alg_orec.specs.EagerReading.{IsNew, HasSample, IsSampled, IsLoaded, LoadsSampled, GoesOnReading, FindsFree, FindsMoved, Samples, Confirms}
@@ -175,6 +176,12 @@ module _ {K : Type 0} (good : List ℕ → Type 0) (c : Config) (a : ℕ) where
       first : number s ≡ number d
       first = ap (λ (y : Who K). caller_of y.role) p.who
 
+-- a was neither written nor read before, and the read log has room
+pub record IsUnread (l : Local) (a : ℕ) : Type 0 where
+  pub unwritten : item_at a l.writes.items ≡ None
+  pub unread : item_at a l.reads.items ≡ None
+  pub room : length l.reads.items ≢ l.reads.len
+
 -- THE PARTS
 module _ (good : List ℕ → Type 0) (c : Config) (n : ℕ) (l : Local) (v : View) (runs : RunsEager good c n l v) where
   abbrev rule : (ℕ → ℕ) → Type 0
@@ -197,13 +204,16 @@ module _ (good : List ℕ → Type 0) (c : Config) (n : ℕ) (l : Local) (v : Vi
   unread-of a e = ap (item_at a) k.reads ∙ e
 
   pub new-of : (a : ℕ) → item_at a l.writes.items ≡ None → item_at a l.reads.items ≡ None → length l.reads.items ≢ l.reads.len → IsNew a (known_of v o)
-  new-of a unwritten unread room = record { unwritten = ap (item_at a) (laws.written-here good c n l v runs) ∙ unwritten; unread = ap (item_at a) (sym k.reads) ∙ unread; room = laws.full-by good c n l v runs a false unwritten unread (grind (arith, nat_tests)) }
+  new-of a unwritten unread room = record { unwritten = ap (item_at a) (laws.written-here good c n l v runs) ∙ unwritten; unread = ap (item_at a) (sym k.reads) ∙ unread; room = records.full-by (laws.reading good c n l v runs) a false unwritten unread (grind (arith, nat_tests)) }
 
   pub room-of : (a : ℕ) → IsNew a (known_of v o) → length l.reads.items ≢ l.reads.len
-  room-of a new e = absurd (let full : reads_full a (known_of v o) ≡ true = laws.full-by good c n l v runs a true (unwritten-of a new.unwritten) (unread-of a new.unread) (grind (arith, nat_tests)) in let q : true ≡ false = sym full ∙ new.room in cc)
+  room-of a new e = absurd (let full : reads_full a (known_of v o) ≡ true = records.full-by (laws.reading good c n l v runs) a true (unwritten-of a new.unwritten) (unread-of a new.unread) (grind (arith, nat_tests)) in let q : true ≡ false = sym full ∙ new.room in cc)
+
+  pub unread-new : (a : ℕ) → IsNew a (known_of v o) → IsUnread l a
+  unread-new a new = record { unwritten = unwritten-of a new.unwritten; unread = unread-of a new.unread; room = room-of a new }
 
   stays : (start : ℕ) (seen : List Entry) (sample : Sample) (check : Validation) (more : List TrailItem) → MayMove rule c n start seen more v → IsInside good c n (record l { start = start; reads = l.reads }) (moved v start seen v.attempt.reads sample check more)
-  stays start seen sample check more moves = laws.stays-moved good c n l v runs start seen v.attempt.reads sample check more l.reads moves (laws.legal-at good c n l v runs start seen more moves) (laws.below-at good c n l v runs start seen more moves) (laws.sees-at good c n l v runs start seen more moves) i.reads_inside k.reads
+  stays start seen sample check more moves = laws.stays-moved good c n l v runs start seen v.attempt.reads sample check more l.reads moves (records.legal-at (laws.reading good c n l v runs) start seen more moves) (records.below-at (laws.reading good c n l v runs) start seen more moves) (records.sees-at (laws.reading good c n l v runs) start seen more moves) i.reads_inside k.reads
 
   -- it goes on where it came to, and has yet to read a
   reads-on : (a start : ℕ) (seen : List Entry) (sample : Sample) (check : Validation) (more : List TrailItem) → MayMove rule c n start seen more v → IsNew a (known_of v o) → GoesOnReading good c n a more (known_of v o) (known_of (moved v start seen v.attempt.reads sample check more) o)
@@ -220,7 +230,7 @@ module _ (good : List ℕ → Type 0) (c : Config) (n : ℕ) (l : Local) (v : Vi
       w = moved v start seen v.attempt.reads sample check more
 
       goes : GoesOn (known_of v o) (known_of w o)
-      goes = laws.goes-moved good c n l v runs start seen v.attempt.reads sample check more moves
+      goes = records.goes-moved (laws.reading good c n l v runs) start seen more moves v.attempt.reads sample check
 
       log : (known_of w o).log ≡ (known_of v o).log
       log = λ j. record { reads = items v.attempt.reads; writes = (written c l v k runs.eager w o refl refl ∙ sym (written c l v k runs.eager v o refl refl)) j }

@@ -18,19 +18,20 @@ use Rattle.rule_base.specs.StepKinds.{view_after}
 use Rattle.rule_base.specs.World.{World}
 use Rattle.rule_orec.specs.OrecSteps.{HasOpen, orec_place, orec_restore}
 use Rattle.stm_rule.specs.declared.local.Local.{Local}
-use Rattle.stm_rule.specs.Attempts.{addresses, own_of, IsInside}
-use Rattle.stm_rule.specs.Attempts as attempts
+use Rattle.stm_rule.specs.Attempts.{addresses, own_of, HasRoom, IsInside, Keeps, Stands}
 use Rattle.stm_rule.specs.EagerKept.{IsEager}
-use Rattle.tx_answers.specs.Answers.{IsRolled}
+use Rattle.tx_answers.specs.declared.answers.Roll.TheVariants.{Rolled}
+use Rattle.tx_answers.specs.Answers.{Rolls}
 use Rattle.tx_answers.specs.Causes.{has_item}
-use Rattle.tx_answers.specs.Known.{known_of, written_under, is_in, is_closing, keeps_records}
-use Rattle.tx_answers.specs.KnownLaws.{grows-same}
+use Rattle.tx_answers.specs.Known.{Known, known_of, written_under, keeps_records}
 use Rattle.tx_logs.specs.LogStates.{LogState, rolled, firsts}
-use Rattle.stm_gate.specs.Opacity.{opaque-inside}
 use Rattle.stm_gate.specs.Peeling.{has-touched}
 use Rattle.stm_gate.specs.RollItems.{has-by, length-by, has-take, addresses-firsts, addresses-take, first-addresses, first-fewer}
-use Rattle.alg_orec.proofs.EagerCalls.{RunsEager}
+use Rattle.stm_gate.specs.Told.{stands-on}
+use Rattle.alg_orec.proofs.EagerNestingLaws.{kept}
+use Rattle.alg_orec.proofs.EagerProving.{plain-of}
 use Rattle.alg_orec.proofs.EagerReleasing.{restore_item}
+use Rattle.alg_orec.proofs.NestingOpening.{GoesOn, inside-at, rolls-log}
 use Rattle.alg_orec.specs.EagerEnding.{restoring}
 use Rattle.alg_orec.specs.EagerNesting.{RestoresBehind, CanPlaceAgain, PlacesAgain}
 
@@ -61,12 +62,15 @@ small-without a cs h b d low = subst (λ (x : ℕ). x < 2 ^ 64) (sym (over-witho
     by true = low
     by false = h b d low
 
-module _ (good : List ℕ → Type 0) (c : Config) (n : ℕ) (l : Local) (v : View) (runs : RunsEager good c n l v) where
-  abbrev i : IsInside good c n l v
-  i = runs.inside
+module _ {good : List ℕ → Type 0} {c : Config} {n : ℕ} {l : Local} {v : View} {q : Known} (a : GoesOn good c n l v q) (named : q.alg ≡ OrecEager) (revocable : q.granted ≡ false) where
+  eager : v.gate.algorithm ≡ OrecEager
+  eager = ap (λ (p : Known). p.alg) (sym a.knows) ∙ named
 
-  abbrev k : IsEager c l v
-  k = runs.kept
+  plain : l.granted ≡ false
+  plain = plain-of good c n l v a.inside eager (own_of l) (ap (λ (p : Known). p.granted) (sym a.knows) ∙ revocable)
+
+  k : IsEager c l v
+  k = kept a named plain
 
   -- the undo log has the addresses of the words in place
   undoable : addresses l.undo.items ≡ addresses (items v.owned.in_place)
@@ -104,7 +108,7 @@ module _ (good : List ℕ → Type 0) (c : Config) (n : ℕ) (l : Local) (v : Vi
       }
         where
           opens-still : HasOpen u
-          opens-still = subst HasOpen (sym back.is) (record { has = record { runs = record { phase = i.phase; algorithm = ap has_records runs.eager; plain = k.optimistic.ungranted }; inside = k.inside }; open_yet = k.open_yet })
+          opens-still = subst HasOpen (sym back.is) (record { has = record { runs = record { phase = a.inside.phase; algorithm = ap has_records eager; plain = k.optimistic.ungranted }; inside = k.inside }; open_yet = k.open_yet })
 
       -- and have the values that they had at the mark
       module _ (w : View) (again : PlacesAgain log.items u w) (cut : LogState) (cut-is : cut ≡ record l.undo { items = take left l.undo.items }) (wrote : Bool) (some : wrote ≡ not (is_empty log.items)) where
@@ -120,93 +124,56 @@ module _ (good : List ℕ → Type 0) (c : Config) (n : ℕ) (l : Local) (v : Vi
         undo-same : w.owned.undo ≡ u.owned.undo
         undo-same = ap (λ (y : View). y.owned.undo) again.is
 
-        pub path : w ≡ after w.owned.in_place w.owned.undo
+        path : w ≡ after w.owned.in_place w.owned.undo
         path = again.is ∙ ((λ j. restoring (back.is j) w.owned.in_place u.owned.undo again.more)
             ∙ (λ j. record v { owned = record v.owned { in_place = w.owned.in_place; undo = sym undo-same j }; steps = record v.steps { trail = sym (append_assoc again.more back.more v.steps.trail) j } }))
 
-        stays-at : (in_place undo : List Cell) → items in_place ≡ log.items → Small in_place → items undo ≡ take left l.undo.items → Inside c.words undo → IsInside good c n m (after in_place undo)
-        stays-at in_place undo placed small undone within = record {
-          phase = i.phase;
-          named = i.named;
-          built = i.built;
-          disowned = i.disowned;
-          unentered = i.unentered;
-          start = i.start;
-          front = i.front;
-          legal = i.legal;
-          below = i.below;
-          sees = i.sees;
-          reads_inside = i.reads_inside;
-          looked = λ e. let h = i.looked e in record { low = h.low; seen = h.seen; unseen = h.unseen };
-          granted = i.granted;
-          steady = i.steady;
-          spared = record { is = i.spared.is; fits = i.spared.fits };
-          keeps = keeps-eager (record {
-            optimistic = record { unlocked = k.optimistic.unlocked; unfixed = k.optimistic.unfixed; unwritten = k.optimistic.unwritten; uncommitted = k.optimistic.uncommitted; ungranted = k.optimistic.ungranted; uncalm = k.optimistic.uncalm; unstored = k.optimistic.unstored; rises = k.optimistic.rises };
-            inside = k.inside;
-            eager = k.eager;
-            open_yet = k.open_yet;
-            unraised = k.unraised;
-            repaid = k.repaid;
-            reads = k.reads;
-            locks = k.locks;
-            writes = sym placed;
-            undo = ap (λ (q : LogState). q.items) cut-is ∙ sym undone;
-            wrote = some;
-            undoable = ap (λ (q : LogState). firsts q.items) cut-is ∙ (sym (addresses-firsts (take left l.undo.items)) ∙ (of-undo ∙ addresses-firsts log.items));
-            words = λ a t. k.words a (of-now a t);
-            small = small;
-            old_words = within;
-            covered = λ a t. k.covered a (of-now a t);
-            short = (let e = ap (λ (q : LogState). q.len) cut-is in let f = fewer in let g = k.short in omega arith);
-            few = λ never. absurd (let no : true ≡ false = never in cc);
-            places = k.places;
-            olds = k.olds;
-            below = k.below;
-            committing = λ e. absurd (let no : false ≡ true = sym runs.quiet ∙ e in cc);
-            marked = ap (λ (q : LogState). length q.marks) is ∙ length-take-le d l.writes.marks (let h = k.marked in omega arith);
-            sole = k.sole;
-          });
-        }
+        keeps-at : (in_place undo : List Cell) → items in_place ≡ log.items → Small in_place → items undo ≡ take left l.undo.items → Inside c.words undo → Keeps c l.algorithm l.granted m (after in_place undo)
+        keeps-at in_place undo placed small undone within =
+            subst (λ (a : Alg). Keeps c a l.granted m (after in_place undo)) (sym (sym a.inside.named ∙ eager)) (subst (λ (b : Bool). Keeps c OrecEager b m (after in_place undo)) (sym plain) keeps)
           where
             of-now : (a : ℕ) → touches in_place a ≡ true → touches v.owned.in_place a ≡ true
             of-now a t = was-placed a (ap (has_item a) (sym placed) ∙ (sym (has-touched a in_place) ∙ t))
 
-            keeps-eager : IsEager c m (after in_place undo) → attempts.Keeps c l.algorithm l.granted m (after in_place undo)
-            keeps-eager p = subst (λ (a : Alg). attempts.Keeps c a l.granted m (after in_place undo)) (sym (sym i.named ∙ runs.eager)) (subst (λ (b : Bool). attempts.Keeps c OrecEager b m (after in_place undo)) (sym runs.plain) p)
+            keeps : IsEager c m (after in_place undo)
+            keeps = record {
+              optimistic = record { unlocked = k.optimistic.unlocked; unfixed = k.optimistic.unfixed; unwritten = k.optimistic.unwritten; uncommitted = k.optimistic.uncommitted; ungranted = k.optimistic.ungranted; uncalm = k.optimistic.uncalm; unstored = k.optimistic.unstored; rises = k.optimistic.rises };
+              inside = k.inside;
+              eager = k.eager;
+              open_yet = k.open_yet;
+              unraised = k.unraised;
+              repaid = k.repaid;
+              reads = k.reads;
+              locks = k.locks;
+              writes = sym placed;
+              undo = ap (λ (q : LogState). q.items) cut-is ∙ sym undone;
+              wrote = some;
+              undoable = ap (λ (q : LogState). firsts q.items) cut-is ∙ (sym (addresses-firsts (take left l.undo.items)) ∙ (of-undo ∙ addresses-firsts log.items));
+              words = λ a t. k.words a (of-now a t);
+              small = small;
+              old_words = within;
+              covered = λ a t. k.covered a (of-now a t);
+              short = (let e = ap (λ (q : LogState). q.len) cut-is in let f = fewer in let g = k.short in omega arith);
+              few = λ never. absurd (let no : true ≡ false = never in cc);
+              places = k.places;
+              olds = k.olds;
+              below = k.below;
+              committing = λ e. absurd (let no : false ≡ true = sym a.quiet ∙ e in cc);
+              marked = ap (λ (q : LogState). length q.marks) is ∙ length-take-le d l.writes.marks (let h = k.marked in omega arith);
+              sole = k.sole;
+            }
 
-        stays-now : IsInside good c n m (after w.owned.in_place w.owned.undo)
-        stays-now = stays-at w.owned.in_place w.owned.undo again.in_place again.small (ap items undo-same ∙ back.undo) (subst (λ (cs : List Cell). Inside c.words cs) (sym undo-same) back.within)
+        inside : IsInside good c n m (after w.owned.in_place w.owned.undo)
+        inside = inside-at a log cut wrote d true w.owned.in_place w.owned.undo more
+            (keeps-at w.owned.in_place w.owned.undo again.in_place again.small (ap items undo-same ∙ back.undo) (subst (λ (cs : List Cell). Inside c.words cs) (sym undo-same) back.within))
 
-        pub stays-rolled : IsInside good c n (record l { writes = log; undo = cut; wrote = wrote; depth = d; retains = true }) w
-        stays-rolled = subst (λ (y : View). IsInside good c n m y) (sym path) stays-now
+        pub stands-rolled : Stands good c n (record l { writes = log; undo = cut; wrote = wrote; depth = d; retains = true }) w
+        stands-rolled = stands-on good c n l m v w a.inside.phase a.stands refl refl room (ap (λ (y : View). y.gate.holds) path) (subst (λ (y : View). IsInside good c n m y) (sym path) inside)
+          where
+            room : HasRoom c m
+            room = let short = ap (λ (y : LogState). y.len) cut-is in let h = a.stands.lengths.1 in (ap (λ (y : LogState). y.len) is ∙ (a.stands.lengths.0 ∙ sym short), omega arith, a.stands.lengths.2)
 
-        tells-at : (in_place undo : List Cell) → items in_place ≡ log.items → IsInside good c n m (after in_place undo) → IsRolled good c n d (known_of v (own_of l)) (known_of (after in_place undo) (own_of m))
-        tells-at in_place undo placed inside = record {
-          stays = record {
-            running = ap is_in i.phase;
-            uncommitted = runs.quiet;
-            closing = ap is_closing i.phase;
-            made = refl;
-            grows = grows-same (known_of v (own_of l)) (known_of (after in_place undo) (own_of m)) refl refl more refl refl (ap (λ (q : LogState). q.len) cut-is) refl;
-            alg = refl;
-            fence = refl;
-            base = refl;
-            rises = refl;
-            start = refl;
-            installs = refl;
-            granted = refl;
-            holds = refl;
-            checked = refl;
-          };
-          within = (let h = k.marked in omega arith);
-          reads = refl;
-          writes = (λ j. written_under (runs.eager j) (k.optimistic.ungranted j) (after in_place undo) (own_of m)) ∙ (placed ∙ ap (λ (q : LogState). q.items) is);
-          depth = refl;
-          retains = ap (λ (a : Alg). keeps_records a || l.retains) (sym runs.eager);
-          marks = ap (λ (q : LogState). q.marks) is;
-          opaque = opaque-inside good c n m (after in_place undo) (own_of m) inside;
-        }
-
-        pub rolls-back : IsRolled good c n d (known_of v (own_of l)) (known_of w (own_of (record l { writes = log; undo = cut; wrote = wrote; depth = d; retains = true })))
-        rolls-back = subst (λ (y : View). IsRolled good c n d (known_of v (own_of l)) (known_of y (own_of m))) (sym path) (tells-at w.owned.in_place w.owned.undo again.in_place stays-now)
+        pub rolls-back : Rolls good c n d Rolled (known_of v (own_of l)) (known_of w (own_of (record l { writes = log; undo = cut; wrote = wrote; depth = d; retains = true })))
+        rolls-back = subst (λ (y : View). Rolls good c n d Rolled (known_of v (own_of l)) (known_of y (own_of m))) (sym path)
+            (rolls-log a (ap has_records eager) plain log cut wrote d true w.owned.in_place w.owned.undo more is (let h = k.marked in omega arith) (ap (λ (q : LogState). q.len) cut-is) (ap (λ (a : Alg). keeps_records a || l.retains) (sym eager))
+            ((λ j. written_under (eager j) (k.optimistic.ungranted j) (after w.owned.in_place w.owned.undo) (own_of m)) ∙ again.in_place) inside)

@@ -84,16 +84,13 @@ module _ (good : (ℕ → ℕ) → Type 0) (c : Config) (n a : ℕ) (l : Local) 
   may-load_valid free = record { can = can.can; unheld = free; olds = can.olds; front = can.front; inside = can.inside }
 
 -- THE RECORD
-module _ (good : (ℕ → ℕ) → Type 0) (c : Config) (n : ℕ) (low : n < c.callers) (a : ℕ) (l : Local) (v : View) (can : CanTake c a l v) where
-  abbrev r : ℕ
-  r = a % c.records
-
+module _ {c : Config} {a : ℕ} {l : Local} {v : View} (can : CanTake c a l v) where
   -- where nothing moved
   stays : (sample : Sample) (check : Validation) (more : List TrailItem) → record v { sample = sample; check = check; steps = record v.steps { trail = more ++ v.steps.trail } } ≡ moved v l.start v.history.seen v.attempt.reads sample check more
   stays sample check more = λ i. record v { history = record v.history { front = can.front i }; attempt = record v.attempt { start = can.can.start i }; sample = sample; check = check; steps = record v.steps { trail = more ++ v.steps.trail } }
 
   -- it is held already
-  pub taken-before : touches v.owned.held (home_of c a) ≡ true → HasTaken good c n a l v l v
+  pub taken-before : {good : (ℕ → ℕ) → Type 0} {n : ℕ} → touches v.owned.held (home_of c a) ≡ true → HasTaken good c n a l v l v
   taken-before held = record {
     local = refl;
     len = refl;
@@ -113,273 +110,291 @@ module _ (good : (ℕ → ℕ) → Type 0) (c : Config) (n : ℕ) (low : n < c.c
     below = can.below;
   }
 
-  module _ (unheld : touches v.owned.held (home_of c a) ≡ false) (clock : ℕ) (s : View) (t : Tells orec_limit (FindsClock c) v clock s) where
-    abbrev timed : View
-    timed = record v { steps = record v.steps { trail = load_of Clock clock ∷ v.steps.trail } }
+-- the record isn't held, and the clock was loaded
+pub record HasClock (good : (ℕ → ℕ) → Type 0) (c : Config) (n a : ℕ) (l : Local) (v : View) (clock : ℕ) (s : View) : Type 0 where
+  pub low : n < c.callers
+  pub can : CanTake c a l v
+  pub unheld : touches v.owned.held (home_of c a) ≡ false
+  pub tells : Tells orec_limit (FindsClock c) v clock s
 
-    -- the clock is at its limit
-    pub full-before : CLOCK_LIMIT ≤ clock → FindsLimit good c n clock l v l s
-    full-before high = subst (FindsLimit good c n clock l v l) (sym t.2) (record {
-      local = refl;
-      seen = v.history.seen;
-      more = load_of Clock clock ∷ [];
-      is = stays v.sample v.check (load_of Clock clock ∷ []);
-      moves = inl (sym can.can.start, refl);
+-- below its limit, and then the record, free, at a version that the start has seen
+pub record HasFree (good : (ℕ → ℕ) → Type 0) (c : Config) (n a : ℕ) (l : Local) (clock : ℕ) (s : View) (word : ℕ) (m : Local) (u : View) : Type 0 where
+  pub below : clock < CLOCK_LIMIT
+  pub sampled : HasSampled good c n a word l s m u
+
+module _ {good : (ℕ → ℕ) → Type 0} {c : Config} {n a : ℕ} {l : Local} {v : View} {clock : ℕ} {s : View} (o : HasClock good c n a l v clock s) where
+  open o use {low, can, unheld, tells as t}
+
+  abbrev r : ℕ
+  r = a % c.records
+
+  abbrev timed : View
+  timed = record v { steps = record v.steps { trail = load_of Clock clock ∷ v.steps.trail } }
+
+  -- the clock is at its limit
+  pub full-before : CLOCK_LIMIT ≤ clock → FindsLimit good c n clock l v l s
+  full-before high = subst (FindsLimit good c n clock l v l) (sym t.2) (record {
+    local = refl;
+    seen = v.history.seen;
+    more = load_of Clock clock ∷ [];
+    is = stays can v.sample v.check (load_of Clock clock ∷ []);
+    moves = inl (sym can.can.start, refl);
+    limit = high;
+    found = (0, omega arith, refl);
+  })
+
+  pub may-sample : CanLoadValid c a l s
+  may-sample = subst (CanLoadValid c a l) (sym t.2) (let k = can.can in record {
+    can = record {
+      opens = record { has = record { runs = record { phase = k.opens.has.runs.phase; algorithm = k.opens.has.runs.algorithm; plain = k.opens.has.runs.plain }; inside = k.opens.has.inside }; open_yet = k.opens.open_yet };
+      start = k.start;
+      reads = k.reads;
+      locks = k.locks;
+      versions = k.versions;
+      level = k.level;
+    };
+    unheld = unheld;
+    olds = can.olds;
+    front = can.front;
+    inside = can.inside;
+  })
+
+  -- what comes behind the load of the clock, as seen from before it
+  move-earlier : (start : ℕ) (seen : List Entry) (more : List TrailItem) → MayMove good c n start seen more timed → MayMove good c n start seen (more ++ load_of Clock clock ∷ []) v
+  move-earlier start seen more (inl q) = inl q
+  move-earlier start seen more (inr q) = inr (Contains-append_left more (load_of Clock clock ∷ []) (load_of Clock start) q.0, (let m = q.1 in record { legal = m.legal; below = m.below; seen = m.seen; front = m.front; limit = m.limit; sees = m.sees }), q.2)
+
+  join : (more : List TrailItem) → more ++ (load_of Clock clock ∷ v.steps.trail) ≡ (more ++ load_of Clock clock ∷ []) ++ v.steps.trail
+  join more = sym (append_assoc more (load_of Clock clock ∷ []) v.steps.trail)
+
+  no-alg : (b : Alg) → v.gate.algorithm ≡ b → has_records b ≡ false → ⊥
+  no-alg b e none = let f : true ≡ false = sym can.can.opens.has.runs.algorithm ∙ (ap has_records e ∙ none) in absurd cc
+
+  written-timed : (b : Alg) (g : Bool) (o : Own) → written_under b g timed o ≡ written_under b g v o
+  written-timed Cgl g o = refl
+  written-timed Tml g o = refl
+  written-timed OrecLazy true o = refl
+  written-timed OrecLazy false o = refl
+  written-timed OrecEager true o = refl
+  written-timed OrecEager false o = refl
+  written-timed RingSw true o = refl
+  written-timed RingSw false o = refl
+  written-timed Serial g o = refl
+
+  concerns : (index : ℕ) (o : Own) → Concerns c n (Some a) index (known_of timed o) → Concerns c n (Some a) index (known_of v o)
+  concerns index o k = (k.0, k.1, by k.2)
+    where
+      by : (Some a ≡ Some k.0) ⊎ ((has_item k.0 (known_of timed o).log.reads ≡ true) ⊎ (has_item k.0 (known_of timed o).log.writes ≡ true)) → (Some a ≡ Some k.0) ⊎ ((has_item k.0 (known_of v o).log.reads ≡ true) ⊎ (has_item k.0 (known_of v o).log.writes ≡ true))
+      by (inl e) = inl e
+      by (inr (inl e)) = inr (inl e)
+      by (inr (inr e)) = inr (inr (sym (ap (has_item k.0) (written-timed v.gate.algorithm v.gate.granted o)) ∙ e))
+
+  conflicts-earlier : (cause : Cause) (o p : Own) (w : View) → Conflicts c n (Some a) cause (known_of timed o) (known_of w p) → Conflicts c n (Some a) cause (known_of v o) (known_of w p)
+  conflicts-earlier (causes.Clock had now) o p w k = absurd (no-alg Tml k.0 refl)
+  conflicts-earlier (causes.Record index word start) o p w k = (
+    k.0,
+    k.1,
+    concerns index o k.2,
+    record {
+      early = k.3.early ++ load_of Clock clock ∷ [];
+      act = k.3.act;
+      late = k.3.late;
+      trail = k.3.trail ∙ ap (λ (q : List TrailItem). k.3.late ++ record { place = Record index; act = k.3.act; found = Some word } ∷ q) (join k.3.early);
+      untouched = untouched-append (Record index) k.3.early (load_of Clock clock ∷ []) k.3.untouched ((λ e. refl), tt);
+    },
+    why k.4,
+  )
+    where
+      why : IsAnothers c n (Some a) word ⊎ IsNewer c n (Some a) index word start (known_of timed o) → IsAnothers c n (Some a) word ⊎ IsNewer c n (Some a) index word start (known_of v o)
+      why (inl x) = inl x
+      why (inr x) = inr (x.0, x.1, (x.2.0, x.2.1, x.2.2))
+  conflicts-earlier (causes.Moved index before after) o p w k = (
+    k.0,
+    concerns index o k.1,
+    record {
+      apart = k.2.apart;
+      early = k.2.early ++ load_of Clock clock ∷ [];
+      middle = k.2.middle;
+      act = k.2.act;
+      late = k.2.late;
+      trail = k.2.trail ∙ ap (λ (q : List TrailItem). k.2.late ++ record { place = Record index; act = k.2.act; found = Some after } ∷ (k.2.middle ++ record { place = Record index; act = Load; found = Some before } ∷ q)) (join k.2.early);
+      untouched = k.2.untouched;
+      refused = k.2.refused;
+    },
+  )
+  conflicts-earlier (causes.Filter time bits) o p w k = absurd (no-alg RingSw k.0 refl)
+  conflicts-earlier (causes.Overrun start now) o p w k = absurd (no-alg RingSw k.0 refl)
+
+  pub refused-sample : (cause : Cause) (m : Local) (w : View) → RefusesRead good c n a cause l s m w → RefusesRead good c n a cause l v m w
+  refused-sample cause m w h = by (subst (λ (y : View). RefusesRead good c n a cause l y m w) t.2 h)
+    where
+      by : RefusesRead good c n a cause l timed m w → RefusesRead good c n a cause l v m w
+      by k = record {
+        local = k.local;
+        seen = k.seen;
+        more = k.more ++ load_of Clock clock ∷ [];
+        is = k.is ∙ ap (λ (q : List TrailItem). record v { history = record v.history { seen = k.seen; front = m.start }; attempt = record v.attempt { start = m.start }; sample = w.sample; check = w.check; steps = record v.steps { trail = q } }) (join k.more);
+        moves = move-earlier m.start k.seen k.more k.moves;
+        why = λ o p. conflicts-earlier cause o p w (k.why o p);
+        others = k.others;
+      }
+
+  module _ {word : ℕ} {m : Local} {u : View} (f : HasFree good c n a l clock s word m u) where
+    open f use {below, sampled}
+
+    h : HasSampled good c n a word l timed m u
+    h = subst (λ (y : View). HasSampled good c n a word l y m u) t.2 sampled
+
+    abbrev late : List TrailItem
+    late = h.late ++ load_of (Record r) word ∷ []
+
+    abbrev all : List TrailItem
+    all = late ++ load_of Clock clock ∷ []
+
+    moves : MayMove good c n m.start h.seen late timed
+    moves = by h.moves
+      where
+        by : MayMove good c n m.start h.seen h.late timed → MayMove good c n m.start h.seen late timed
+        by (inl q) = inl q
+        by (inr q) = inr (Contains-append_left h.late (load_of (Record r) word ∷ []) (load_of Clock m.start) q.0, q.1, q.2)
+
+    abbrev at_sample : Validation → List TrailItem → View
+    at_sample check more = moved v m.start h.seen v.attempt.reads (sampled_at a (version_of word)) check more
+
+    u_path : u ≡ at_sample u.check all
+    u_path = h.is ∙ ap (λ (q : List TrailItem). record v { history = record v.history { seen = h.seen; front = m.start }; attempt = record v.attempt { start = m.start }; sample = sampled_at a (version_of word); check = u.check; steps = record v.steps { trail = q } }) (join late)
+
+    -- the start moved to the limit
+    pub full-later : CLOCK_LIMIT ≤ m.start → FindsLimit good c n m.start l v m u
+    full-later high = record {
+      local = h.local;
+      seen = h.seen;
+      more = all;
+      is = u_path ∙ ap (λ (k : Sample). moved v m.start h.seen v.attempt.reads k u.check all) (sym (ap (λ (y : View). y.sample) h.is));
+      moves = move-earlier m.start h.seen late moves;
       limit = high;
-      found = (0, omega arith, refl);
-    })
-
-    pub may-sample : CanLoadValid c a l s
-    may-sample = subst (CanLoadValid c a l) (sym t.2) (let k = can.can in record {
-      can = record {
-        opens = record { has = record { runs = record { phase = k.opens.has.runs.phase; algorithm = k.opens.has.runs.algorithm; plain = k.opens.has.runs.plain }; inside = k.opens.has.inside }; open_yet = k.opens.open_yet };
-        start = k.start;
-        reads = k.reads;
-        locks = k.locks;
-        versions = k.versions;
-        level = k.level;
-      };
-      unheld = unheld;
-      olds = can.olds;
-      front = can.front;
-      inside = can.inside;
-    })
-
-    -- what comes behind the load of the clock, as seen from before it
-    move-earlier : (start : ℕ) (seen : List Entry) (more : List TrailItem) → MayMove good c n start seen more timed → MayMove good c n start seen (more ++ load_of Clock clock ∷ []) v
-    move-earlier start seen more (inl q) = inl q
-    move-earlier start seen more (inr q) = inr (Contains-append_left more (load_of Clock clock ∷ []) (load_of Clock start) q.0, (let m = q.1 in record { legal = m.legal; below = m.below; seen = m.seen; front = m.front; limit = m.limit; sees = m.sees }), q.2)
-
-    join : (more : List TrailItem) → more ++ (load_of Clock clock ∷ v.steps.trail) ≡ (more ++ load_of Clock clock ∷ []) ++ v.steps.trail
-    join more = sym (append_assoc more (load_of Clock clock ∷ []) v.steps.trail)
-
-    no-alg : (b : Alg) → v.gate.algorithm ≡ b → has_records b ≡ false → ⊥
-    no-alg b e none = let f : true ≡ false = sym can.can.opens.has.runs.algorithm ∙ (ap has_records e ∙ none) in absurd cc
-
-    written-timed : (b : Alg) (g : Bool) (o : Own) → written_under b g timed o ≡ written_under b g v o
-    written-timed Cgl g o = refl
-    written-timed Tml g o = refl
-    written-timed OrecLazy true o = refl
-    written-timed OrecLazy false o = refl
-    written-timed OrecEager true o = refl
-    written-timed OrecEager false o = refl
-    written-timed RingSw true o = refl
-    written-timed RingSw false o = refl
-    written-timed Serial g o = refl
-
-    concerns : (index : ℕ) (o : Own) → Concerns c n (Some a) index (known_of timed o) → Concerns c n (Some a) index (known_of v o)
-    concerns index o k = (k.0, k.1, by k.2)
+      found = by moves;
+    }
       where
-        by : (Some a ≡ Some k.0) ⊎ ((has_item k.0 (known_of timed o).log.reads ≡ true) ⊎ (has_item k.0 (known_of timed o).log.writes ≡ true)) → (Some a ≡ Some k.0) ⊎ ((has_item k.0 (known_of v o).log.reads ≡ true) ⊎ (has_item k.0 (known_of v o).log.writes ≡ true))
-        by (inl e) = inl e
-        by (inr (inl e)) = inr (inl e)
-        by (inr (inr e)) = inr (inr (sym (ap (has_item k.0) (written-timed v.gate.algorithm v.gate.granted o)) ∙ e))
+        by : MayMove good c n m.start h.seen late timed → Contains all (load_of Clock m.start)
+        by (inl q) = absurd (let e = q.0 in let f = t.1.started in let b = below in omega arith)
+        by (inr q) = Contains-append_left late (load_of Clock clock ∷ []) (load_of Clock m.start) q.0
 
-    conflicts-earlier : (cause : Cause) (o p : Own) (w : View) → Conflicts c n (Some a) cause (known_of timed o) (known_of w p) → Conflicts c n (Some a) cause (known_of v o) (known_of w p)
-    conflicts-earlier (causes.Clock had now) o p w k = absurd (no-alg Tml k.0 refl)
-    conflicts-earlier (causes.Record index word start) o p w k = (
-      k.0,
-      k.1,
-      concerns index o k.2,
-      record {
-        early = k.3.early ++ load_of Clock clock ∷ [];
-        act = k.3.act;
-        late = k.3.late;
-        trail = k.3.trail ∙ ap (λ (q : List TrailItem). k.3.late ++ record { place = Record index; act = k.3.act; found = Some word } ∷ q) (join k.3.early);
-        untouched = untouched-append (Record index) k.3.early (load_of Clock clock ∷ []) k.3.untouched ((λ e. refl), tt);
-      },
-      why k.4,
-    )
-      where
-        why : IsAnothers c n (Some a) word ⊎ IsNewer c n (Some a) index word start (known_of timed o) → IsAnothers c n (Some a) word ⊎ IsNewer c n (Some a) index word start (known_of v o)
-        why (inl x) = inl x
-        why (inr x) = inr (x.0, x.1, (x.2.0, x.2.1, x.2.2))
-    conflicts-earlier (causes.Moved index before after) o p w k = (
-      k.0,
-      concerns index o k.1,
-      record {
-        apart = k.2.apart;
-        early = k.2.early ++ load_of Clock clock ∷ [];
-        middle = k.2.middle;
-        act = k.2.act;
-        late = k.2.late;
-        trail = k.2.trail ∙ ap (λ (q : List TrailItem). k.2.late ++ record { place = Record index; act = k.2.act; found = Some after } ∷ (k.2.middle ++ record { place = Record index; act = Load; found = Some before } ∷ q)) (join k.2.early);
-        untouched = k.2.untouched;
-        refused = k.2.refused;
-      },
-    )
-    conflicts-earlier (causes.Filter time bits) o p w k = absurd (no-alg RingSw k.0 refl)
-    conflicts-earlier (causes.Overrun start now) o p w k = absurd (no-alg RingSw k.0 refl)
+    open_at : (check : Validation) → HasOpen (at_sample check all)
+    open_at check = let o = can.can.opens in record { has = record { runs = record { phase = o.has.runs.phase; algorithm = o.has.runs.algorithm; plain = o.has.runs.plain }; inside = o.has.inside }; open_yet = o.open_yet }
 
-    pub refused-sample : (cause : Cause) (m : Local) (w : View) → RefusesRead good c n a cause l s m w → RefusesRead good c n a cause l v m w
-    refused-sample cause m w h = by (subst (λ (y : View). RefusesRead good c n a cause l y m w) t.2 h)
-      where
-        by : RefusesRead good c n a cause l timed m w → RefusesRead good c n a cause l v m w
-        by k = record {
-          local = k.local;
-          seen = k.seen;
-          more = k.more ++ load_of Clock clock ∷ [];
-          is = k.is ∙ ap (λ (q : List TrailItem). record v { history = record v.history { seen = k.seen; front = m.start }; attempt = record v.attempt { start = m.start }; sample = w.sample; check = w.check; steps = record v.steps { trail = q } }) (join k.more);
-          moves = move-earlier m.start k.seen k.more k.moves;
-          why = λ o p. conflicts-earlier cause o p w (k.why o p);
-          others = k.others;
-        }
+    pub version-old : version_of word ≤ m.start
+    version-old = h.old
 
-    -- the record was found free, at a version that the start has seen
-    module _ (below : clock < CLOCK_LIMIT) (word : ℕ) (m : Local) (u : View) (sampled : HasSampled good c n a word l s m u) where
-      h : HasSampled good c n a word l timed m u
-      h = subst (λ (y : View). HasSampled good c n a word l y m u) t.2 sampled
+    pub may-lock : CanOrecLock (version_of word) u
+    may-lock = subst (CanOrecLock (version_of word)) (sym u_path) (record { opens = open_at u.check; unraised = can.unraised; new = λ e. h.old })
 
-      abbrev late : List TrailItem
-      late = h.late ++ load_of (Record r) word ∷ []
+    module _ (found : ℕ) (w : View) (k : Tells (orec_lock n r (version_of word)) (FindsRecord c n r) u found w) where
+      abbrev step : TrailItem
+      step = lock_item n r (version_of word) found
 
-      abbrev all : List TrailItem
-      all = late ++ load_of Clock clock ∷ []
+      abbrev locked : Bool → View
+      locked b = record (at_sample u.check (step ∷ all)) { owned = if b then holding r (version_of word) v.owned else v.owned }
 
-      moves : MayMove good c n m.start h.seen late timed
-      moves = by h.moves
+      lock_path : (b : Bool) → (found == free_record (version_of word)) ≡ b → w ≡ locked b
+      lock_path b e = k.2 ∙ (ap (λ (y : View). view_after (orec_lock n r (version_of word)) k.0 y found) u_path ∙ ap locked e)
+
+      is_free : free_record (version_of word) ≡ word
+      is_free = free-word word h.free
+
+      others : found ≢ word → (h.late ≡ []) ⊎ (1 < c.callers) → 1 < c.callers
+      others apart (inl none) = moved-others c n low k.0 u found r word k.1 (ap (λ (y : View). left_at r y.steps.trail) h.is ∙ (ap (λ (q : List TrailItem). left_at r ((q ++ load_of (Record r) word ∷ []) ++ timed.steps.trail)) none ∙ left-found r word timed.steps.trail)) apart
+      others apart (inr many) = many
+
+      moves_all : MayMove good c n m.start h.seen (step ∷ all) v
+      moves_all = by (move-earlier m.start h.seen late moves)
         where
-          by : MayMove good c n m.start h.seen h.late timed → MayMove good c n m.start h.seen late timed
+          by : MayMove good c n m.start h.seen all v → MayMove good c n m.start h.seen (step ∷ all) v
           by (inl q) = inl q
-          by (inr q) = inr (Contains-append_left h.late (load_of (Record r) word ∷ []) (load_of Clock m.start) q.0, q.1, q.2)
+          by (inr q) = inr (Contains-append_right (step ∷ []) all (load_of Clock m.start) q.0, q.1, q.2)
 
-      abbrev at_sample : Validation → List TrailItem → View
-      at_sample check more = moved v m.start h.seen v.attempt.reads (sampled_at a (version_of word)) check more
-
-      u_path : u ≡ at_sample u.check all
-      u_path = h.is ∙ ap (λ (q : List TrailItem). record v { history = record v.history { seen = h.seen; front = m.start }; attempt = record v.attempt { start = m.start }; sample = sampled_at a (version_of word); check = u.check; steps = record v.steps { trail = q } }) (join late)
-
-      -- the start moved to the limit
-      pub full-later : CLOCK_LIMIT ≤ m.start → FindsLimit good c n m.start l v m u
-      full-later high = record {
+      -- another caller was there in between
+      pub refused-lock : found ≢ word → RefusesRead good c n a (causes.Moved r word found) l v m w
+      refused-lock apart = subst (RefusesRead good c n a (causes.Moved r word found) l v m) (sym (lock_path false there)) (record {
         local = h.local;
         seen = h.seen;
-        more = all;
-        is = u_path ∙ ap (λ (k : Sample). moved v m.start h.seen v.attempt.reads k u.check all) (sym (ap (λ (y : View). y.sample) h.is));
-        moves = move-earlier m.start h.seen late moves;
-        limit = high;
-        found = by moves;
+        more = step ∷ all;
+        is = refl;
+        moves = moves_all;
+        why = λ o p. (
+          can.can.opens.has.runs.algorithm,
+          (a, refl, inl refl),
+          record {
+            apart = λ e. apart (sym e);
+            early = load_of Clock clock ∷ [];
+            middle = h.late;
+            act = Exchange (free_record (version_of word)) (owned_record n);
+            late = [];
+            trail = ap (λ (q : List TrailItem). step ∷ q) (sym (join late) ∙ append_assoc h.late (load_of (Record r) word ∷ []) (load_of Clock clock ∷ v.steps.trail));
+            untouched = untouched-loads (Record r) h.late h.loads;
+            refused = there;
+          },
+        );
+        others = others apart h.next;
+      })
+        where
+          there : (found == free_record (version_of word)) ≡ false
+          there = let e = is_free in grind (arith, nat_tests)
+
+      begins : MayMove good c n m.start h.seen late timed → v.attempt.start ≤ m.start
+      begins (inl q) = let e = q.0 in omega arith
+      begins (inr q) = let f = q.1.front in let e = can.front in let b = can.can.start in omega arith
+
+      abbrev held : List Cell
+      held = record { at = r; value = version_of word } ∷ v.owned.held
+
+      -- it is taken
+      pub taken-now : (p : Push) (new : LogState) → m.start < CLOCK_LIMIT → found ≡ word → Pushes m.locks r (keep r (version_of word) m.locks.items) p new → HasTaken good c n a l v (record m { locks = new }) w
+      taken-now p new under same push = record {
+        local = ap (λ (q : Local). record q { locks = new }) h.local;
+        len = ap (λ (q : LogState). q.len) new_is ∙ ap (λ (q : Local). q.locks.len) h.local;
+        seen = h.seen;
+        held = held;
+        sample = sampled_at a (version_of word);
+        check = u.check;
+        more = step ∷ all;
+        is = lock_path true here;
+        moves = moves_all;
+        its = (let q : (r == r) ≡ true = grind (arith, nat_tests) in ap (λ (b : Bool). if b then true else touches v.owned.held r) q);
+        keeps = λ q e. by-keeps (r == q) q e;
+        locks = ap (λ (q : LogState). q.items) new_is ∙ (ap (λ (ws : List (ℕ × ℕ)). ws ++ (r, version_of word) ∷ []) locks_is ∙ sym (put-new r (version_of word) (items v.owned.held) none));
+        few = (let e = ap (λ (q : LogState). length q.items) new_is in let f = length-append m.locks.items ((r, version_of word) ∷ []) in let b = ap (λ (q : Local). length q.locks.items) h.local in omega arith);
+        places = inside-more c.records (record { at = r; value = version_of word }) v.owned.held (mod_below a c.records can.records) can.places;
+        olds = λ q e. by-olds q (r == q) refl e;
+        below = λ q e. by-below q (r == q) refl e;
       }
         where
-          by : MayMove good c n m.start h.seen late timed → Contains all (load_of Clock m.start)
-          by (inl q) = absurd (let e = q.0 in let f = t.1.started in omega arith)
-          by (inr q) = Contains-append_left late (load_of Clock clock ∷ []) (load_of Clock m.start) q.0
+          here : (found == free_record (version_of word)) ≡ true
+          here = let e = is_free in grind (arith, nat_tests)
 
-      open_at : (check : Validation) → HasOpen (at_sample check all)
-      open_at check = let o = can.can.opens in record { has = record { runs = record { phase = o.has.runs.phase; algorithm = o.has.runs.algorithm; plain = o.has.runs.plain }; inside = o.has.inside }; open_yet = o.open_yet }
+          locks_is : m.locks.items ≡ items v.owned.held
+          locks_is = ap (λ (q : Local). q.locks.items) h.local ∙ can.can.locks
 
-      pub version-old : version_of word ≤ m.start
-      version-old = h.old
+          none : item_at r (items v.owned.held) ≡ None
+          none = item-none v.owned.held r unheld
 
-      pub may-lock : CanOrecLock (version_of word) u
-      may-lock = subst (CanOrecLock (version_of word)) (sym u_path) (record { opens = open_at u.check; unraised = can.unraised; new = λ e. h.old })
+          room : length m.locks.items < m.locks.len
+          room = subst (λ (q : Local). length q.locks.items < q.locks.len) (sym h.local) (can.room unheld)
 
-      module _ (found : ℕ) (w : View) (k : Tells (orec_lock n r (version_of word)) (FindsRecord c n r) u found w) where
-        abbrev step : TrailItem
-        step = lock_item n r (version_of word) found
+          new_is : new ≡ record m.locks { items = m.locks.items ++ (r, version_of word) ∷ [] }
+          new_is = pushes-new m.locks new r (version_of word) p push (ap (item_at r) locks_is ∙ none) room
 
-        abbrev locked : Bool → View
-        locked b = record (at_sample u.check (step ∷ all)) { owned = if b then holding r (version_of word) v.owned else v.owned }
+          by-keeps : (b : Bool) (q : ℕ) → touches v.owned.held q ≡ true → (if b then true else touches v.owned.held q) ≡ true
+          by-keeps true q e = refl
+          by-keeps false q e = e
 
-        lock_path : (b : Bool) → (found == free_record (version_of word)) ≡ b → w ≡ locked b
-        lock_path b e = k.2 ∙ (ap (λ (y : View). view_after (orec_lock n r (version_of word)) k.0 y found) u_path ∙ ap locked e)
+          by-olds : (q : ℕ) (b : Bool) → (r == q) ≡ b → (if b then true else touches v.owned.held q) ≡ true → (if b then version_of word else over v.owned.held q 0) ≤ m.start
+          by-olds q true f e = h.old
+          by-olds q false f e = let o = can.olds q e in let g = begins moves in omega arith
 
-        is_free : free_record (version_of word) ≡ word
-        is_free = free-word word h.free
-
-        others : found ≢ word → (h.late ≡ []) ⊎ (1 < c.callers) → 1 < c.callers
-        others apart (inl none) = moved-others c n low k.0 u found r word k.1 (ap (λ (y : View). left_at r y.steps.trail) h.is ∙ (ap (λ (q : List TrailItem). left_at r ((q ++ load_of (Record r) word ∷ []) ++ timed.steps.trail)) none ∙ left-found r word timed.steps.trail)) apart
-        others apart (inr many) = many
-
-        moves_all : MayMove good c n m.start h.seen (step ∷ all) v
-        moves_all = by (move-earlier m.start h.seen late moves)
-          where
-            by : MayMove good c n m.start h.seen all v → MayMove good c n m.start h.seen (step ∷ all) v
-            by (inl q) = inl q
-            by (inr q) = inr (Contains-append_right (step ∷ []) all (load_of Clock m.start) q.0, q.1, q.2)
-
-        -- another caller was there in between
-        pub refused-lock : found ≢ word → RefusesRead good c n a (causes.Moved r word found) l v m w
-        refused-lock apart = subst (RefusesRead good c n a (causes.Moved r word found) l v m) (sym (lock_path false there)) (record {
-          local = h.local;
-          seen = h.seen;
-          more = step ∷ all;
-          is = refl;
-          moves = moves_all;
-          why = λ o p. (
-            can.can.opens.has.runs.algorithm,
-            (a, refl, inl refl),
-            record {
-              apart = λ e. apart (sym e);
-              early = load_of Clock clock ∷ [];
-              middle = h.late;
-              act = Exchange (free_record (version_of word)) (owned_record n);
-              late = [];
-              trail = ap (λ (q : List TrailItem). step ∷ q) (sym (join late) ∙ append_assoc h.late (load_of (Record r) word ∷ []) (load_of Clock clock ∷ v.steps.trail));
-              untouched = untouched-loads (Record r) h.late h.loads;
-              refused = there;
-            },
-          );
-          others = others apart h.next;
-        })
-          where
-            there : (found == free_record (version_of word)) ≡ false
-            there = let e = is_free in grind (arith, nat_tests)
-
-        begins : MayMove good c n m.start h.seen late timed → v.attempt.start ≤ m.start
-        begins (inl q) = let e = q.0 in omega arith
-        begins (inr q) = let f = q.1.front in let e = can.front in let b = can.can.start in omega arith
-
-        abbrev held : List Cell
-        held = record { at = r; value = version_of word } ∷ v.owned.held
-
-        -- it is taken
-        pub taken-now : (p : Push) (new : LogState) → m.start < CLOCK_LIMIT → found ≡ word → Pushes m.locks r (keep r (version_of word) m.locks.items) p new → HasTaken good c n a l v (record m { locks = new }) w
-        taken-now p new under same push = record {
-          local = ap (λ (q : Local). record q { locks = new }) h.local;
-          len = ap (λ (q : LogState). q.len) new_is ∙ ap (λ (q : Local). q.locks.len) h.local;
-          seen = h.seen;
-          held = held;
-          sample = sampled_at a (version_of word);
-          check = u.check;
-          more = step ∷ all;
-          is = lock_path true here;
-          moves = moves_all;
-          its = (let q : (r == r) ≡ true = grind (arith, nat_tests) in ap (λ (b : Bool). if b then true else touches v.owned.held r) q);
-          keeps = λ q e. by-keeps (r == q) q e;
-          locks = ap (λ (q : LogState). q.items) new_is ∙ (ap (λ (ws : List (ℕ × ℕ)). ws ++ (r, version_of word) ∷ []) locks_is ∙ sym (put-new r (version_of word) (items v.owned.held) none));
-          few = (let e = ap (λ (q : LogState). length q.items) new_is in let f = length-append m.locks.items ((r, version_of word) ∷ []) in let b = ap (λ (q : Local). length q.locks.items) h.local in omega arith);
-          places = inside-more c.records (record { at = r; value = version_of word }) v.owned.held (mod_below a c.records can.records) can.places;
-          olds = λ q e. by-olds q (r == q) refl e;
-          below = λ q e. by-below q (r == q) refl e;
-        }
-          where
-            here : (found == free_record (version_of word)) ≡ true
-            here = let e = is_free in grind (arith, nat_tests)
-
-            locks_is : m.locks.items ≡ items v.owned.held
-            locks_is = ap (λ (q : Local). q.locks.items) h.local ∙ can.can.locks
-
-            none : item_at r (items v.owned.held) ≡ None
-            none = item-none v.owned.held r unheld
-
-            room : length m.locks.items < m.locks.len
-            room = subst (λ (q : Local). length q.locks.items < q.locks.len) (sym h.local) (can.room unheld)
-
-            new_is : new ≡ record m.locks { items = m.locks.items ++ (r, version_of word) ∷ [] }
-            new_is = pushes-new m.locks new r (version_of word) p push (ap (item_at r) locks_is ∙ none) room
-
-            by-keeps : (b : Bool) (q : ℕ) → touches v.owned.held q ≡ true → (if b then true else touches v.owned.held q) ≡ true
-            by-keeps true q e = refl
-            by-keeps false q e = e
-
-            by-olds : (q : ℕ) (b : Bool) → (r == q) ≡ b → (if b then true else touches v.owned.held q) ≡ true → (if b then version_of word else over v.owned.held q 0) ≤ m.start
-            by-olds q true f e = h.old
-            by-olds q false f e = let o = can.olds q e in let g = begins moves in omega arith
-
-            by-below : (q : ℕ) (b : Bool) → (r == q) ≡ b → (if b then true else touches v.owned.held q) ≡ true → (if b then version_of word else over v.owned.held q 0) < CLOCK_LIMIT
-            by-below q true f e = let o = h.old in omega arith
-            by-below q false f e = can.below q e
+          by-below : (q : ℕ) (b : Bool) → (r == q) ≡ b → (if b then true else touches v.owned.held q) ≡ true → (if b then version_of word else over v.owned.held q 0) < CLOCK_LIMIT
+          by-below q true f e = let o = h.old in omega arith
+          by-below q false f e = can.below q e
 
 -- THE FIRST STORE at a
 module _ (c : Config) (a x : ℕ) (l : Local) (v : View) (can : CanStoreFirst c a l v) where

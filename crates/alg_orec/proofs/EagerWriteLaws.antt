@@ -49,6 +49,7 @@ use Rattle.alg_orec.proofs.CountingLaws.{fewer-records}
 use Rattle.alg_orec.proofs.EagerCalls.{RunsEager}
 use Rattle.alg_orec.proofs.EagerLaws as laws
 use Rattle.alg_orec.proofs.EagerProving as proving
+use Rattle.alg_orec.proofs.RecordReads as records
 use Rattle.alg_orec.proofs.LockingLaws.{held-of, unheld-of}
 use Rattle.alg_orec.specs.EagerEnding.{AllBelow, CanTakeBack, TakesBack}
 use Rattle.alg_orec.specs.EagerTaking.{AllSeen, CanTake, HasTaken, FindsLimit, RefusesTake, CanStoreFirst, StoresFirst}
@@ -393,7 +394,7 @@ module _ (good : List ℕ → Type 0) (c : Config) (n : ℕ) (l : Local) (v : Vi
       y = stored v q.start s.seen s.held s.sample s.check a x s.undo s.more
 
       grown : Grows (known_of v o) (known_of y p)
-      grown = let g = laws.grown good c n l v runs q.start s.seen v.attempt.reads s.sample s.check s.more p (ap (λ (d : Local). d.reads.len) s.local) s.undo_len s.moves in
+      grown = let g = records.grown (laws.reading good c n l v runs) q.start s.seen s.more s.moves v.attempt.reads s.sample s.check p (ap (λ (d : Local). d.reads.len) s.local) s.undo_len in
           record { later = g.later; is = g.is; ascending = g.ascending; up_to = g.up_to; front_rose = g.front_rose; more = g.more; trail = g.trail; reads_limit = g.reads_limit; writes_limit = g.writes_limit; fenced = g.fenced }
 
       start-moves : MayMove rule c n q.start s.seen s.more v → (q.start ≡ v.attempt.start) ⊎ Found Clock q.start (known_of v o) (known_of y p)
@@ -406,7 +407,7 @@ module _ (good : List ℕ → Type 0) (c : Config) (n : ℕ) (l : Local) (v : Vi
       pub writes-done : writes_full a (known_of v o) ≡ false → HasWritten good c n a x writes.Done (known_of v o) (known_of w p)
       writes-done room = subst (λ (z : View). HasWritten good c n a x writes.Done (known_of v o) (known_of z p)) (sym s.is) (
         record {
-          continues = record { running = ap is_in i.phase; closing = ap is_closing i.phase; made = refl; grows = grown; alg = refl; fence = refl; base = refl; rises = (omega arith, omega arith); later = laws.begins good c n l v runs q.start s.seen s.more s.moves; installs = refl; depth = ap (λ (d : Local). d.depth) s.local; retains = ap (λ (d : Local). d.retains) s.local };
+          continues = record { running = ap is_in i.phase; closing = ap is_closing i.phase; made = refl; grows = grown; alg = refl; fence = refl; base = refl; rises = (omega arith, omega arith); later = records.begins (laws.reading good c n l v runs) q.start s.seen s.more s.moves; installs = refl; depth = ap (λ (d : Local). d.depth) s.local; retains = ap (λ (d : Local). d.retains) s.local };
           start = subst (λ (b : Alg). StartMoves b (known_of v o) (known_of y p)) (sym eager) (start-moves s.moves);
           granted = refl;
           holds = refl;
@@ -415,7 +416,7 @@ module _ (good : List ℕ → Type 0) (c : Config) (n : ℕ) (l : Local) (v : Vi
         },
         ap (λ (d : Local). d.committing) s.local ∙ quiet,
         (refl, λ b. ap (item_at b) wrote-put),
-        opaque-at good c n y p q.start refl refl (laws.legal-at good c n l v runs q.start s.seen s.more s.moves) (laws.below-at good c n l v runs q.start s.seen s.more s.moves) (laws.sees-at good c n l v runs q.start s.seen s.more s.moves) i.reads_inside,
+        opaque-at good c n y p q.start refl refl (records.legal-at (laws.reading good c n l v runs) q.start s.seen s.more s.moves) (records.below-at (laws.reading good c n l v runs) q.start s.seen s.more s.moves) (records.sees-at (laws.reading good c n l v runs) q.start s.seen s.more s.moves) i.reads_inside,
         room,
       )
 
@@ -433,14 +434,13 @@ module _ (good : List ℕ → Type 0) (c : Config) (n : ℕ) (l : Local) (v : Vi
       stays-stored low small = subst (λ (z : View). IsInside good c n q z) (sym s.is) (subst (λ (d : Local). IsInside good c n d y) (sym s.local) (record {
         phase = i.phase;
         named = i.named;
-        built = i.built;
         disowned = λ e. absurd (let f : false ≡ true = sym e ∙ ap has_records (sym i.named ∙ eager) in cc);
         unentered = i.unentered;
         start = refl;
         front = refl;
-        legal = laws.legal-at good c n l v runs q.start s.seen s.more s.moves;
-        below = laws.below-at good c n l v runs q.start s.seen s.more s.moves;
-        sees = laws.sees-at good c n l v runs q.start s.seen s.more s.moves;
+        legal = records.legal-at (laws.reading good c n l v runs) q.start s.seen s.more s.moves;
+        below = records.below-at (laws.reading good c n l v runs) q.start s.seen s.more s.moves;
+        sees = records.sees-at (laws.reading good c n l v runs) q.start s.seen s.more s.moves;
         reads_inside = i.reads_inside;
         looked = λ e. let h = i.looked e in record { low = h.low; seen = h.seen; unseen = h.unseen };
         granted = i.granted;
@@ -470,7 +470,7 @@ module _ (good : List ℕ → Type 0) (c : Config) (n : ℕ) (l : Local) (v : Vi
           below = s.below;
           committing = λ e. refl;
           marked = ap length s.marks ∙ k.marked;
-          sole = laws.sole-at good c n l v runs q.start s.seen s.more s.moves;
+          sole = records.sole-at (laws.reading good c n l v runs) q.start s.seen s.more s.moves k.sole;
         });
       }))
         where

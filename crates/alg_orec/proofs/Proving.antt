@@ -1,9 +1,9 @@
 -- What a call found, as seen after more steps and from before.
-use Rattle.std.proofs.Common.{ℕ, ◌≡◌, ◌≤◌, ◌+◌, List, [], ◌∷◌, ◌++◌, Bool, false, refl, sym, ap, ◌∙◌, arith, subst, append_assoc, length}
+use Rattle.std.proofs.Common.{ℕ, ◌≡◌, ◌≤◌, ◌+◌, List, [], ◌∷◌, ◌++◌, Bool, true, false, refl, sym, ap, ◌∙◌, arith, subst, append_assoc, length}
 use Rattle.std.specs.Prelude.{Option, not, ◌||◌}
-use Rattle.stm_model.specs.Algorithms.{entry_rise, quit_rise, irrevocable_under}
+use Rattle.stm_model.specs.Algorithms.{entry_rise, has_records, quit_rise, irrevocable_under}
 use Rattle.stm_model.specs.declared.alg.Alg.{Alg}
-use Rattle.stm_model.specs.declared.alg.Alg.TheVariants.{Tml, OrecLazy, RingSw}
+use Rattle.stm_model.specs.declared.alg.Alg.TheVariants.{OrecLazy}
 use Rattle.stm_model.specs.declared.config.Config.{Config}
 use Rattle.stm_model.specs.declared.stop.Cause.TheVariants as causes
 use Rattle.stm_model.specs.Logs.{Log}
@@ -31,12 +31,15 @@ pub moved-later : (p : At) (x y : ℕ) (v u w : Known) (more : List TrailItem) �
 moved-later p x y v u w more t f = record { apart = f.apart; early = f.early; middle = f.middle; act = f.act; late = more ++ f.late; trail = t ∙ (ap (λ (s : List TrailItem). more ++ s) f.trail ∙ sym (append_assoc more f.late _)); untouched = f.untouched; refused = f.refused }
 
 module _ (c : Config) (n : ℕ) (asked : Option ℕ) where
+  pub conflicts-by-records : (cause : causes.the_data) (v u w : Known) → has_records v.alg ≡ true → (more : List TrailItem) → w.trail ≡ more ++ u.trail → Conflicts c n asked cause v u → Conflicts c n asked cause v w
+  conflicts-by-records (causes.Clock had now) v u w has more t k = absurd (let e : true ≡ false = sym has ∙ ap has_records k.0 in cc)
+  conflicts-by-records (causes.Record index word start) v u w has more t k = (k.0, k.1, k.2, as-was-later _ word v u w more t k.3, k.4)
+  conflicts-by-records (causes.Moved index before after) v u w has more t k = (k.0, k.1, moved-later _ before after v u w more t k.2)
+  conflicts-by-records (causes.Filter time bits) v u w has more t k = absurd (let e : true ≡ false = sym has ∙ ap has_records k.0 in cc)
+  conflicts-by-records (causes.Overrun start clock) v u w has more t k = absurd (let e : true ≡ false = sym has ∙ ap has_records k.0 in cc)
+
   pub conflicts-later : (cause : causes.the_data) (v u w : Known) → v.alg ≡ OrecLazy → (more : List TrailItem) → w.trail ≡ more ++ u.trail → Conflicts c n asked cause v u → Conflicts c n asked cause v w
-  conflicts-later (causes.Clock had now) v u w lazy more t k = absurd (let e : OrecLazy ≡ Tml = sym lazy ∙ k.0 in cc)
-  conflicts-later (causes.Record index word start) v u w lazy more t k = (k.0, k.1, k.2, as-was-later _ word v u w more t k.3, k.4)
-  conflicts-later (causes.Moved index before after) v u w lazy more t k = (k.0, k.1, moved-later _ before after v u w more t k.2)
-  conflicts-later (causes.Filter time bits) v u w lazy more t k = absurd (let e : OrecLazy ≡ RingSw = sym lazy ∙ k.0 in cc)
-  conflicts-later (causes.Overrun start clock) v u w lazy more t k = absurd (let e : OrecLazy ≡ RingSw = sym lazy ∙ k.0 in cc)
+  conflicts-later cause v u w lazy = conflicts-by-records cause v u w (ap has_records lazy)
 
 -- from v to w the attempt went on, without an entry, to a start that is not before
 pub record Leads (v w : Known) : Type 0 where

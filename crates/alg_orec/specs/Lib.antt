@@ -7,6 +7,5 @@ pub mod Granting
 pub mod EagerEnding
 pub mod EagerTaking
 pub mod EagerCommitting
-pub mod EagerGranting
 pub mod EagerReading
 pub mod EagerNesting

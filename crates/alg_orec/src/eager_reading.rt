@@ -13,8 +13,8 @@ ghost use Rattle.alg_orec.specs.EagerReading.{IsNew, HasSample, IsLoaded, LoadsS
 ghost use Rattle.alg_orec.specs.Validating.{load_of};
 
 use crate::eager_ending::take_back;
-use crate::orec_lazy::sample_valid;
 use crate::records;
+use crate::sampling::sample_valid;
 use steps_orec::reading;
 use stm_model::rule::MemRule;
 use stm_model::stop::Cause;
@@ -103,6 +103,6 @@ pub fn confirm<K: MemRule>(desc: &mut Desc<K>, stm: &Stm<K>, a: usize, word: u64
             after,
         });
     }
-    desc.local.reads.push(a, x);
+    desc.local.reads.push_new(a, x);
     Read::Value(x)
 }

@@ -5,7 +5,8 @@ ghost use Rattle.stm_rule.specs.Callers.{IsSeatOf};
 ghost use Rattle.stm_rule.specs.Kept.{IsSameSeat, good_of, view_of};
 ghost use Rattle.alg_orec.specs.EagerTaking.{CanTake, Takes, CanStoreFirst, StoresFirst};
 
-use crate::orec_lazy::sample_valid;
+use crate::records::{held, record_of};
+use crate::sampling::sample_valid;
 use rule_base::words::version_of;
 use steps_orec::eager::{place, save};
 use steps_orec::lazy::{limit, lock};
@@ -32,8 +33,7 @@ pub(crate) fn take_record<K: MemRule>(
     ensures takes { Takes (good_of K.good stm.now.config stm.now.rule) stm.now.config caller a result local.old (view_of seat.old) local.new (view_of seat.new) }
     ensures steps { TakesAtMost (4 + local.old.reads.len) (view_of seat.old) (view_of seat.new) }
 {
-    let index = a % stm.config.records;
-    if local.locks.find(index).is_some() {
+    if held(local, stm.config.records, a).is_some() {
         return Ok(());
     }
     let clock = limit(stm, seat, caller);
@@ -48,6 +48,7 @@ pub(crate) fn take_record<K: MemRule>(
         return Err(Write::ClockFull { clock: local.start });
     }
     let version = version_of(word);
+    let index = record_of(stm.config.records, a);
     let found = lock(stm, seat, caller, index, version);
     if found != word {
         return Err(Write::Conflict(Cause::Moved {

@@ -2,18 +2,20 @@
 //! functions in the same order as all algorithms: begin, read, write, commit, cancel, become_irrevocable.
 #![tactic(auto)]
 
-pub mod committing;
 pub mod eager_committing;
 mod eager_ending;
 pub mod eager_granting;
 pub mod eager_nesting;
 pub mod eager_reading;
 mod eager_taking;
-mod ending;
-pub mod granting;
+mod granting;
+pub mod lazy_committing;
+mod lazy_ending;
+pub mod lazy_granting;
+pub mod lazy_nesting;
 mod locking;
-pub mod nesting;
 pub mod orec_eager;
 pub mod orec_lazy;
 mod records;
+mod sampling;
 mod validate;

@@ -107,7 +107,7 @@ fn read_held<K: MemRule>(desc: &mut Desc<K>, stm: &Stm<K>, a: usize) -> Read
     ensures steps { AddsAtMost 1 (known desc.old) (known desc.new) }
 {
     let x = own_load(stm, &mut desc.seat, desc.number, a);
-    desc.local.reads.push(a, x);
+    desc.local.reads.push_new(a, x);
     Read::Value(x)
 }
 

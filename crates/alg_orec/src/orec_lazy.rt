@@ -13,14 +13,13 @@ ghost use Rattle.tx_answers.specs.Known.{IsRunning};
 ghost use Rattle.rule_base.specs.Encodings.{fenced};
 ghost use Rattle.stm_gate.specs.Knowing.{known, number};
 ghost use Rattle.stm_gate.specs.Starts.{CanBegin, Starts};
-ghost use Rattle.alg_orec.specs.Loading.{CanLoadValid, LoadsValid, Samples};
+ghost use Rattle.alg_orec.specs.Loading.{CanLoadValid, LoadsValid};
 
-pub use crate::committing::{cancel, commit};
-use crate::ending::roll_back;
-pub use crate::granting::become_irrevocable;
-use crate::records::{confirm, sample};
-use crate::validate::validate;
-use rule_base::words::{is_owned, version_of};
+pub use crate::lazy_committing::{cancel, commit};
+use crate::lazy_ending::roll_back;
+pub use crate::lazy_granting::become_irrevocable;
+use crate::records::record_of;
+use crate::sampling::sample_valid;
 use steps_orec::reading;
 use steps_orec::reading::load;
 use stm_gate::direct::{direct_load, direct_store};
@@ -92,7 +91,7 @@ fn first_read<K: MemRule>(desc: &mut Desc<K>, stm: &Stm<K>, a: usize) -> Read
     }
     match load_valid(&mut desc.seat, &mut desc.local, stm, caller, a) {
         Ok(x) => {
-            desc.local.reads.push(a, x);
+            desc.local.reads.push_new(a, x);
             Read::Value(x)
         }
         Err(cause) => {
@@ -120,49 +119,18 @@ fn load_valid<K: MemRule>(
     ensures loads { LoadsValid (good_of K.good stm.now.config stm.now.rule) stm.now.config caller a result local.old (view_of seat.old) local.new (view_of seat.new) }
     ensures steps { TakesAtMost (4 + local.old.reads.len) (view_of seat.old) (view_of seat.new) }
 {
+    let r = record_of(stm.config.records, a);
     let word = sample_valid(seat, local, stm, caller, a)?;
     let x = load(stm, seat, caller, a);
-    let after = confirm(stm, seat, caller, a);
+    let after = reading::confirm(stm, seat, caller, r);
     if after != word {
         return Err(Cause::Moved {
-            index: a % stm.config.records,
+            index: r,
             before: word,
             after,
         });
     }
     Ok(x)
-}
-
-/// Loads the record of the word, and answers its word: it is free, at a version that the start has seen.
-#[inline(always)]
-pub(crate) fn sample_valid<K: MemRule>(
-    seat: &mut Token<K>,
-    local: &mut Local,
-    stm: &Stm<K>,
-    caller: usize,
-    a: usize,
-) -> Result<u64, Cause>
-    requires seat { IsSeatOf stm.now caller seat.old }
-    requires caller { caller < stm.now.config.callers }
-    requires view { CanLoadValid stm.now.config a local.old (view_of seat.old) }
-    ensures same { IsSameSeat seat.old seat.new × (seat.new.me.0 ≡ record seat.old.me.0 { view = view_of seat.new }) }
-    ensures samples { Samples (good_of K.good stm.now.config stm.now.rule) stm.now.config caller a result local.old (view_of seat.old) local.new (view_of seat.new) }
-    ensures steps { TakesAtMost (2 + local.old.reads.len) (view_of seat.old) (view_of seat.new) }
-{
-    let word = sample(stm, seat, caller, a);
-    let start = local.start;
-    if is_owned(word) {
-        return Err(Cause::Record {
-            index: a % stm.config.records,
-            word,
-            start,
-        });
-    }
-    if version_of(word) <= start {
-        return Ok(word);
-    }
-    validate(seat, local, stm, caller)?;
-    Ok(word)
 }
 
 /// Logs what is to be written: it lies with the descriptor until the commit. No step, but for those of a rollback where

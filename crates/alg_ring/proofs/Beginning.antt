@@ -35,7 +35,6 @@ module _ (good : List ℕ → Type 0) (c : Config) (n : ℕ) (v : View) (can : C
       spared = record { is = fenced.is; fits = fenced.fits };
       phase = can.phase;
       named = can.named;
-      built = refl;
       disowned = λ e. can.clear.disowned;
       unentered = can.clear.unentered;
       start = refl;

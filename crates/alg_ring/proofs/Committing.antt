@@ -81,7 +81,6 @@ module _ (good : List ℕ → Type 0) (c : Config) (n : ℕ) (l : Local) (v : Vi
       stays-again = record {
         phase = i.phase;
         named = i.named;
-        built = i.built;
         disowned = i.disowned;
         unentered = i.unentered;
         start = i.start;

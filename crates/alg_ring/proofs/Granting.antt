@@ -233,7 +233,6 @@ module _ (good : List ℕ → Type 0) (c : Config) (n : ℕ) (l : Local) (v : Vi
         stays-promoted = subst (IsInside good c n promoted) (sym stored-path) (record {
           phase = i.phase;
           named = i.named;
-          built = i.built;
           disowned = i.disowned;
           unentered = i.unentered;
           start = refl;

@@ -48,6 +48,27 @@ filter-next ws k w i x y low is before now =
     more = ap (λ (n : ℕ). take n ws) next ∙ (take-suc ws k (0, 0) low ∙ ap (λ (q : ℕ × ℕ). take k ws ++ q ∷ []) (sym is))
 
 module _ (good : List ℕ → Type 0) (c : Config) (n : ℕ) (l : Local) (v : View) (i : IsInside good c n l v) (ring : v.gate.algorithm ≡ RingSw) where
+  -- with another log of writes and filter of it, and at another depth
+  inside-with : (log : LogState) (stored : List ℕ) (wrote : Bool) (d : ℕ) → attempts.Keeps c l.algorithm l.granted (record l { writes = log; stored = stored; wrote = wrote; depth = d }) v
+      → IsInside good c n (record l { writes = log; stored = stored; wrote = wrote; depth = d }) v
+  inside-with log stored wrote d keeps = record {
+    phase = i.phase;
+    named = i.named;
+    disowned = i.disowned;
+    unentered = i.unentered;
+    start = i.start;
+    front = i.front;
+    legal = i.legal;
+    below = i.below;
+    sees = i.sees;
+    reads_inside = i.reads_inside;
+    looked = i.looked;
+    granted = i.granted;
+    steady = i.steady;
+    spared = record { is = i.spared.is; fits = i.spared.fits };
+    keeps = keeps;
+  }
+
   -- ONCE IRREVOCABLE a mark is a number
   module _ (irrevocable : l.granted ≡ true) (d : ℕ) where
     abbrev deeper : Local
@@ -57,24 +78,7 @@ module _ (good : List ℕ → Type 0) (c : Config) (n : ℕ) (l : Local) (v : Vi
     promoted = subst (λ (b : Bool). attempts.Keeps c RingSw b l v) irrevocable (subst (λ (a : Alg). attempts.Keeps c a l.granted l v) (sym i.named ∙ ring) i.keeps)
 
     pub stays-deeper : IsInside good c n (record l { depth = d }) v
-    stays-deeper = let p = promoted in record {
-      phase = i.phase;
-      named = i.named;
-      built = i.built;
-      disowned = i.disowned;
-      unentered = i.unentered;
-      start = i.start;
-      front = i.front;
-      legal = i.legal;
-      below = i.below;
-      sees = i.sees;
-      reads_inside = i.reads_inside;
-      looked = i.looked;
-      granted = i.granted;
-      steady = i.steady;
-      spared = record { is = i.spared.is; fits = i.spared.fits };
-      keeps = keeps-promoted (record { granted = p.granted; calm = p.calm; holds = p.holds; clear = p.clear; clean = p.clean; dirty = p.dirty; rises = p.rises; limit = p.limit });
-    }
+    stays-deeper = let p = promoted in inside-with l.writes l.stored l.wrote d (keeps-promoted (record { granted = p.granted; calm = p.calm; holds = p.holds; clear = p.clear; clean = p.clean; dirty = p.dirty; rises = p.rises; limit = p.limit }))
       where
         keeps-promoted : IsPromoted deeper v → attempts.Keeps c deeper.algorithm deeper.granted deeper v
         keeps-promoted q = subst (λ (a : Alg). attempts.Keeps c a l.granted deeper v) (sym (sym i.named ∙ ring)) (subst (λ (b : Bool). attempts.Keeps c RingSw b deeper v) (sym irrevocable) q)
@@ -104,34 +108,17 @@ module _ (good : List ℕ → Type 0) (c : Config) (n : ℕ) (l : Local) (v : Vi
 
     pub stays-with : (log : LogState) (stored : List ℕ) (wrote : Bool) (d : ℕ) → IsWriteSet c l.fence log.items → wrote ≡ not (is_empty log.items) → HasMarks c l.fence log.marks d → IsFilterOf stored log.items
         → IsInside good c n (record l { writes = log; stored = stored; wrote = wrote; depth = d }) v
-    stays-with log stored wrote d set some marks words = record {
-      phase = i.phase;
-      named = i.named;
-      built = i.built;
-      disowned = i.disowned;
-      unentered = i.unentered;
-      start = i.start;
-      front = i.front;
-      legal = i.legal;
-      below = i.below;
-      sees = i.sees;
-      reads_inside = i.reads_inside;
-      looked = i.looked;
-      granted = i.granted;
-      steady = i.steady;
-      spared = record { is = i.spared.is; fits = i.spared.fits };
-      keeps = keeps-ring (record {
-        optimistic = k.optimistic;
-        buffers = record { wrote = some; once = set.once; inside = set.inside; small = set.small; apart = set.apart };
-        inside = k.inside;
-        settled = k.settled;
-        loaded = k.loaded;
-        stored = words;
-        read = k.read;
-        marked = marks;
-        sole = k.sole;
-      });
-    }
+    stays-with log stored wrote d set some marks words = inside-with log stored wrote d (keeps-ring (record {
+      optimistic = k.optimistic;
+      buffers = record { wrote = some; once = set.once; inside = set.inside; small = set.small; apart = set.apart };
+      inside = k.inside;
+      settled = k.settled;
+      loaded = k.loaded;
+      stored = words;
+      read = k.read;
+      marked = marks;
+      sole = k.sole;
+    }))
       where
         keeps-ring : IsRing c (with_log log stored wrote d) v → attempts.Keeps c l.algorithm l.granted (with_log log stored wrote d) v
         keeps-ring p = subst (λ (a : Alg). attempts.Keeps c a l.granted (with_log log stored wrote d) v) (sym (sym i.named ∙ ring)) (subst (λ (b : Bool). attempts.Keeps c RingSw b (with_log log stored wrote d) v) (sym plain) p)

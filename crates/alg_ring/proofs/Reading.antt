@@ -92,7 +92,6 @@ module _ (good : List ℕ → Type 0) (c : Config) (n a : ℕ) (l : Local) (v : 
       stays low = record {
         phase = i.phase;
         named = i.named;
-        built = i.built;
         disowned = i.disowned;
         unentered = i.unentered;
         start = refl;

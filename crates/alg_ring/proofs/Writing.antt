@@ -96,7 +96,6 @@ module _ (good : List ℕ → Type 0) (c : Config) (n a : ℕ) (l : Local) (v : 
     stays-written low out small words = record {
       phase = i.phase;
       named = i.named;
-      built = i.built;
       disowned = i.disowned;
       unentered = i.unentered;
       start = i.start;

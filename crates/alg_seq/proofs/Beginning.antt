@@ -2,7 +2,7 @@
 use Rattle.std.proofs.Common.{ℕ, ◌≡◌, ◌≢◌, ◌<◌, ◌≤◌, List, [], ◌∷◌, ◌++◌, Bool, true, false, refl, sym, ap, ◌∙◌, arith, subst}
 use Rattle.std.specs.Prelude.{Some, None, ◌&&◌, ◌||◌, ◌==◌, if◌then◌else◌}
 use Rattle.std.proofs.lemmas.Bool.Decides.{nat_tests}
-use Rattle.stm_model.specs.Algorithms.{takes_lock, closes_gate, asks_at_begin, is_built, irrevocable_under}
+use Rattle.stm_model.specs.Algorithms.{takes_lock, closes_gate, asks_at_begin, irrevocable_under}
 use Rattle.stm_model.specs.declared.alg.Alg.{Alg}
 use Rattle.stm_model.specs.declared.alg.Alg.TheVariants.{Cgl, Tml, OrecLazy, OrecEager, RingSw, Serial}
 use Rattle.stm_model.specs.declared.config.Config.{Config}
@@ -32,14 +32,6 @@ use Rattle.stm_gate.specs.Opacity.{opaque-at, later-seen}
 use Rattle.stm_gate.specs.LeavingLaws.{finds-full}
 use Rattle.stm_gate.specs.Starts.{CanBegin, StartsAt, Refuses}
 use Rattle.alg_seq.proofs.Locked.{written-plain, keeps-by}
-
-built-lock : (a : Alg) → takes_lock a ≡ true → is_built a ≡ true
-built-lock Cgl t = refl
-built-lock Serial t = refl
-built-lock Tml t = absurd cc
-built-lock OrecLazy t = absurd cc
-built-lock OrecEager t = absurd cc
-built-lock RingSw t = absurd cc
 
 unpromoted : (a : Alg) → (closes_gate a && false) ≡ false
 unpromoted Cgl = refl
@@ -90,7 +82,6 @@ module _ (good : List ℕ → Type 0) (c : Config) (n : ℕ) (a : Alg) (locks : 
       can = record {
         phase = can.phase;
         named = can.named;
-        built = can.built;
         reopened = can.reopened;
         ungranted = can.ungranted;
         clear = record { unlocked = ap (λ b. (if b then fresh_lock v.gate.algorithm else v.lock).taken) apart ∙ can.clear.unlocked; disowned = can.clear.disowned; unwritten = can.clear.unwritten; uncommitted = can.clear.uncommitted; unentered = ap (λ b. (if b then no_attempt else v.attempt).entered) apart ∙ can.clear.unentered; unfixed = ap (λ b. (if b then fresh_lock v.gate.algorithm else v.lock).irrevocable) apart ∙ can.clear.unfixed };
@@ -142,7 +133,6 @@ module _ (good : List ℕ → Type 0) (c : Config) (n : ℕ) (a : Alg) (locks : 
       phase = can.phase;
       named = can.named;
       spared = record { is = fenced.is; fits = fenced.fits };
-      built = built-lock a locks;
       disowned = λ e. can.clear.disowned;
       unentered = refl;
       start = refl;
@@ -202,7 +192,7 @@ module _ (good : List ℕ → Type 0) (c : Config) (n : ℕ) (a : Alg) (locks : 
       → Refuses good c n a (ClockFull clock) v w
   tells-full found clock v t u w can zero asks high f l r = subst (λ (y : View). Refuses good c n a (ClockFull clock) v y) (sym path) (
     record {
-      can = record { phase = can.phase; named = can.named; built = can.built; reopened = can.reopened; ungranted = can.ungranted; clear = record { unlocked = refl; disowned = can.clear.disowned; unwritten = can.clear.unwritten; uncommitted = can.clear.uncommitted; unentered = refl; unfixed = refl }; unentered = can.unentered; rises = can.rises };
+      can = record { phase = can.phase; named = can.named; reopened = can.reopened; ungranted = can.ungranted; clear = record { unlocked = refl; disowned = can.clear.disowned; unwritten = can.clear.unwritten; uncommitted = can.clear.uncommitted; unentered = refl; unfixed = refl }; unentered = can.unentered; rises = can.rises };
       keeps = λ o. let h = grows-started v f.0 l.0 clock o b in record {
         made = refl;
         grows = record { later = h.later; is = h.is; ascending = h.ascending; up_to = h.up_to; front_rose = h.front_rose; more = freed ∷ h.more; trail = ap (λ s. freed ∷ s) h.trail; reads_limit = refl; writes_limit = refl; fenced = refl };

@@ -105,7 +105,6 @@ module _ (good : List ℕ → Type 0) (c : Config) (n : ℕ) (l : Local) (v : Vi
     phase = i.phase;
     named = i.named;
     spared = record { is = i.spared.is; fits = i.spared.fits };
-    built = i.built;
     steady = i.steady;
     disowned = i.disowned;
     unentered = i.unentered;

@@ -6,6 +6,8 @@ use Rattle.stm_model.specs.Algorithms.{irrevocable_under}
 use Rattle.stm_model.specs.declared.alg.Alg.{Alg}
 use Rattle.stm_model.specs.declared.alg.Alg.TheVariants.{Cgl, Tml, OrecLazy, OrecEager, RingSw, Serial}
 use Rattle.stm_model.specs.declared.config.Config.{Config}
+use Rattle.rule_base.specs.declared.entries.Cell.{Cell}
+use Rattle.rule_base.specs.declared.views.TrailItem.{TrailItem}
 use Rattle.rule_base.specs.declared.views.View.{View}
 use Rattle.rule_base.specs.Bridge.{items}
 use Rattle.rule_base.specs.Own.{Own}
@@ -13,12 +15,13 @@ use Rattle.stm_rule.specs.declared.local.Local.{Local}
 use Rattle.stm_rule.specs.Attempts.{own_of, IsInside, IsLocked}
 use Rattle.stm_rule.specs.Attempts as attempts
 use Rattle.tx_answers.specs.Answers.{IsMarked, IsRolled, Releases}
-use Rattle.tx_answers.specs.Known.{Known, known_of, written_under, is_irrevocable, is_in, is_closing, keeps_records}
+use Rattle.tx_answers.specs.Known.{Known, known_of, granted_under, written_under, is_irrevocable, is_in, is_closing, keeps_records}
 use Rattle.tx_answers.specs.KnownLaws.{grows-same}
 use Rattle.tx_logs.specs.LogStates.{LogState, rolled}
 use Rattle.stm_gate.specs.Opacity.{opaque-inside}
 use Rattle.stm_gate.specs.Irrevocable.{irrevocable-of}
 use Rattle.alg_seq.specs.Nesting.{is_sequential}
+use Rattle.alg_seq.proofs.Undoing.{taken}
 
 -- so many marks stand; those of TML had nothing
 abbrev HasDepth : Alg → List (List (ℕ × ℕ)) → ℕ → Type 0
@@ -54,12 +57,66 @@ retains-none OrecLazy s retains = absurd cc
 retains-none OrecEager s retains = absurd cc
 retains-none RingSw s retains = absurd cc
 
+-- AN ATTEMPT with other logs and at another depth, where this is stored and to be restored, after these steps
+module _ (good : List ℕ → Type 0) (c : Config) (n : ℕ) (l : Local) (v : View) (i : IsInside good c n l v) (log cut : LogState) (wrote : Bool) (d : ℕ) (stores undo : List Cell) (more : List TrailItem) where
+  abbrev other : Local
+  other = record l { writes = log; undo = cut; wrote = wrote; depth = d }
+
+  pub inside-at : attempts.Keeps c l.algorithm l.granted other (taken v stores undo more) → IsInside good c n other (taken v stores undo more)
+  inside-at keeps = record {
+    phase = i.phase;
+    named = i.named;
+    disowned = i.disowned;
+    unentered = i.unentered;
+    start = i.start;
+    front = i.front;
+    legal = i.legal;
+    below = i.below;
+    sees = i.sees;
+    reads_inside = i.reads_inside;
+    looked = λ e. let h = i.looked e in record { low = h.low; seen = h.seen; unseen = h.unseen };
+    granted = i.granted;
+    steady = i.steady;
+    spared = record { is = i.spared.is; fits = i.spared.fits };
+    keeps = keeps;
+  }
+
+  -- it was rolled back to mark d
+  pub rolls-at : l.committing ≡ false → log ≡ rolled d l.writes → d ≤ length l.writes.marks → cut.len ≡ l.undo.len → granted_under v.gate.algorithm v.gate (taken v stores undo more).lock ≡ granted_under v.gate.algorithm v.gate v.lock
+      → l.retains ≡ (keeps_records v.gate.algorithm || l.retains) → written_under v.gate.algorithm v.gate.granted (taken v stores undo more) (own_of other) ≡ log.items → IsInside good c n other (taken v stores undo more)
+      → IsRolled good c n d (known_of v (own_of l)) (known_of (taken v stores undo more) (own_of other))
+  rolls-at quiet is within short granted retains written inside = record {
+    stays = record {
+      running = ap is_in i.phase;
+      uncommitted = quiet;
+      closing = ap is_closing i.phase;
+      made = refl;
+      grows = grows-same (known_of v (own_of l)) (known_of (taken v stores undo more) (own_of other)) refl refl more refl refl short refl;
+      alg = refl;
+      fence = refl;
+      base = refl;
+      rises = refl;
+      start = refl;
+      installs = refl;
+      granted = granted;
+      holds = refl;
+      checked = refl;
+    };
+    within = within;
+    reads = refl;
+    writes = written ∙ ap (λ (q : LogState). q.items) is;
+    depth = refl;
+    retains = retains;
+    marks = ap (λ (q : LogState). q.marks) is;
+    opaque = opaque-inside good c n other (taken v stores undo more) (own_of other) inside;
+  }
+
 module _ (good : List ℕ → Type 0) (c : Config) (n : ℕ) (l : Local) (v : View) (i : IsInside good c n l v) (sequential : is_sequential v.gate.algorithm ≡ true) where
   abbrev with_log : LogState → ℕ → Local
   with_log log d = record l { writes = log; depth = d }
 
-  other : (a : Alg) → l.algorithm ≡ a → is_sequential a ≡ true
-  other a e = ap is_sequential (sym (i.named ∙ e)) ∙ sequential
+  is-other : (a : Alg) → l.algorithm ≡ a → is_sequential a ≡ true
+  is-other a e = ap is_sequential (sym (i.named ∙ e)) ∙ sequential
 
   pub irrevocable-known : is_irrevocable (known_of v (own_of l)) ≡ irrevocable_under l.algorithm l.granted l.wrote
   irrevocable-known = irrevocable-of good c n l v (own_of l) i
@@ -117,29 +174,12 @@ module _ (good : List ℕ → Type 0) (c : Config) (n : ℕ) (l : Local) (v : Vi
       marked = λ w. counted Tml e ((λ j. irrevocable_under (e j) (f j) l.wrote) ∙ w);
       sole = k.sole;
     }
-    keeps-with OrecLazy g e f k = absurd (let no : false ≡ true = other OrecLazy e in cc)
-    keeps-with OrecEager g e f k = absurd (let no : false ≡ true = other OrecEager e in cc)
-    keeps-with RingSw g e f k = absurd (let no : false ≡ true = other RingSw e in cc)
+    keeps-with OrecLazy g e f k = absurd (let no : false ≡ true = is-other OrecLazy e in cc)
+    keeps-with OrecEager g e f k = absurd (let no : false ≡ true = is-other OrecEager e in cc)
+    keeps-with RingSw g e f k = absurd (let no : false ≡ true = is-other RingSw e in cc)
 
     pub stays-with : IsInside good c n (record l { writes = log; depth = d }) v
-    stays-with = record {
-      phase = i.phase;
-      named = i.named;
-      built = i.built;
-      disowned = i.disowned;
-      unentered = i.unentered;
-      start = i.start;
-      front = i.front;
-      legal = i.legal;
-      below = i.below;
-      sees = i.sees;
-      reads_inside = i.reads_inside;
-      looked = i.looked;
-      granted = i.granted;
-      steady = i.steady;
-      spared = record { is = i.spared.is; fits = i.spared.fits };
-      keeps = keeps-with l.algorithm l.granted refl refl i.keeps;
-    }
+    stays-with = inside-at good c n l v i log l.undo l.wrote d v.attempt.stores v.lock.undo [] (keeps-with l.algorithm l.granted refl refl i.keeps)
 
   pub known-with : (log : LogState) (d : ℕ) → known_of v (own_of (record l { writes = log; depth = d })) ≡ record (known_of v (own_of l)) { depth = d; marks = log.marks }
   known-with log d = ap (λ (ws : List (ℕ × ℕ)). let k : Known = record (known_of v (own_of (with_log log d))) { log = record { reads = items v.attempt.reads; writes = ws } } in k)
@@ -168,9 +208,9 @@ module _ (good : List ℕ → Type 0) (c : Config) (n : ℕ) (l : Local) (v : Vi
         let w : l.wrote ≡ false = clean-at Tml false e f in
         (k.marked w, ap length (k.marked w) ∙ length-replicate l.depth [], k.unbuffered ∙ ap items (sym (k.clean w)), (λ j. k.marked w j ++ k.unbuffered j ∷ []) ∙ replicate-more l.depth)
     depth-at Serial g e f k = let r = sym (sym plain ∙ sym k.irrevocable) in let count = k.marked r in let size = length-append l.writes.marks (l.writes.items ∷ []) in (count, count, k.writes r, omega arith)
-    depth-at OrecLazy g e f k = absurd (let no : false ≡ true = other OrecLazy e in cc)
-    depth-at OrecEager g e f k = absurd (let no : false ≡ true = other OrecEager e in cc)
-    depth-at RingSw g e f k = absurd (let no : false ≡ true = other RingSw e in cc)
+    depth-at OrecLazy g e f k = absurd (let no : false ≡ true = is-other OrecLazy e in cc)
+    depth-at OrecEager g e f k = absurd (let no : false ≡ true = is-other OrecEager e in cc)
+    depth-at RingSw g e f k = absurd (let no : false ≡ true = is-other RingSw e in cc)
 
     stands : HasDepth l.algorithm l.writes.marks l.depth × (length l.writes.marks ≡ l.depth) × (l.writes.items ≡ items v.attempt.stores) × HasDepth l.algorithm (l.writes.marks ++ l.writes.items ∷ []) (l.depth + 1)
     stands = depth-at l.algorithm l.granted refl refl i.keeps
@@ -197,9 +237,9 @@ module _ (good : List ℕ → Type 0) (c : Config) (n : ℕ) (l : Local) (v : Vi
         by Tml e h = e
         by Serial e h = absurd (h refl)
         by Cgl e h = absurd (let no : true ≡ false = clean-at Cgl l.granted e refl in cc)
-        by OrecLazy e h = absurd (let no : false ≡ true = other OrecLazy e in cc)
-        by OrecEager e h = absurd (let no : false ≡ true = other OrecEager e in cc)
-        by RingSw e h = absurd (let no : false ≡ true = other RingSw e in cc)
+        by OrecLazy e h = absurd (let no : false ≡ true = is-other OrecLazy e in cc)
+        by OrecEager e h = absurd (let no : false ≡ true = is-other OrecEager e in cc)
+        by RingSw e h = absurd (let no : false ≡ true = is-other RingSw e in cc)
 
     -- A MARK
     module _ (log : LogState) (is : log ≡ record l.writes { marks = l.writes.marks ++ l.writes.items ∷ [] }) where
@@ -241,28 +281,5 @@ module _ (good : List ℕ → Type 0) (c : Config) (n : ℕ) (l : Local) (v : Vi
       stays-rolled = stays-with log d (ap (λ (q : LogState). q.items) is ∙ (empty ∙ sym nothing.0)) (λ p. subst (λ (ms : List (List (ℕ × ℕ))). HasDepth l.algorithm ms d) (sym (ap (λ (q : LogState). q.marks) is)) (depth-take l.algorithm d stands.0 high))
 
       pub rolls-back : IsRolled good c n d (known_of v (own_of l)) (known_of v (own_of (record l { writes = log; depth = d })))
-      rolls-back = record {
-        stays = record {
-          running = ap is_in i.phase;
-          uncommitted = quiet;
-          closing = ap is_closing i.phase;
-          made = refl;
-          grows = grows-same (known_of v (own_of l)) (known_of v (own_of (with_log log d))) refl refl [] refl refl refl refl;
-          alg = refl;
-          fence = refl;
-          base = refl;
-          rises = refl;
-          start = refl;
-          installs = refl;
-          granted = refl;
-          holds = refl;
-          checked = refl;
-        };
-        within = (let h = count in omega arith);
-        reads = refl;
-        writes = written (own_of (with_log log d)) ∙ (nothing.1 ∙ sym empty);
-        depth = refl;
-        retains = retains-none v.gate.algorithm sequential l.retains;
-        marks = ap (λ (q : LogState). q.marks) is;
-        opaque = opaque-inside good c n (with_log log d) v (own_of (with_log log d)) stays-rolled;
-      }
+      rolls-back = rolls-at good c n l v i log l.undo l.wrote d v.attempt.stores v.lock.undo [] quiet is (let h = count in omega arith) refl refl (retains-none v.gate.algorithm sequential l.retains)
+          (written (own_of (with_log log d)) ∙ (nothing.1 ∙ sym (ap (λ (q : LogState). q.items) is ∙ empty))) stays-rolled

@@ -18,15 +18,14 @@ use Rattle.stm_rule.specs.declared.local.Local.{Local}
 use Rattle.stm_rule.specs.Attempts.{addresses, own_of, IsInside, IsLocked}
 use Rattle.tx_answers.specs.Answers.{IsRolled}
 use Rattle.tx_answers.specs.Causes.{has_item}
-use Rattle.tx_answers.specs.Known.{known_of, granted_under, is_in, is_closing, keeps_records}
-use Rattle.tx_answers.specs.KnownLaws.{grows-same}
+use Rattle.tx_answers.specs.Known.{known_of, granted_under, keeps_records}
 use Rattle.tx_logs.specs.LogStates.{LogState, rolled, firsts}
-use Rattle.stm_gate.specs.Opacity.{opaque-inside}
 use Rattle.stm_gate.specs.Peeling.{has-touched, no-items}
 use Rattle.stm_gate.specs.RollItems.{has-by, length-by, has-take, first-addresses, first-fewer, addresses-take}
 use Rattle.alg_seq.specs.Nesting.{IsTakenBack, CanStoreAgain, IsStoredAgain}
 use Rattle.alg_seq.proofs.Keeping.{irrevocable-by}
 use Rattle.alg_seq.proofs.Locked.{locked, keeps-by, or-last, written-plain}
+use Rattle.alg_seq.proofs.NestingLaws.{inside-at, rolls-at}
 use Rattle.alg_seq.proofs.Undoing.{taken}
 
 empty : (ws : List (ℕ × ℕ)) → length ws ≡ 0 → not (is_empty ws) ≡ false
@@ -113,41 +112,24 @@ module _ (good : List ℕ → Type 0) (c : Config) (n : ℕ) (l : Local) (v : Vi
             by false f = absurd (let none : length l.writes.items ≡ 0 = ap length (k.writes rev) ∙ ap (λ (cs : List Cell). length (items cs)) (k.clean f) in let g = fewer in let zero_left : left ≡ 0 = omega arith in let no : true ≡ false = sym e ∙ (some ∙ empty log.items zero_left) in cc)
 
         stays-at : (stores undo : List Cell) → items stores ≡ log.items → items undo ≡ take left l.undo.items → Inside c.words undo → IsInside good c n m (after stores undo)
-        stays-at stores undo stored undone within = record {
-          phase = i.phase;
-          named = i.named;
-          built = i.built;
-          disowned = i.disowned;
-          unentered = i.unentered;
-          start = i.start;
-          front = i.front;
-          legal = i.legal;
-          below = i.below;
-          sees = i.sees;
-          reads_inside = i.reads_inside;
-          looked = λ e. let h = i.looked e in record { low = h.low; seen = h.seen; unseen = h.unseen };
-          granted = i.granted;
-          steady = i.steady;
-          spared = record { is = i.spared.is; fits = i.spared.fits };
-          keeps = keeps-by c l.algorithm l.granted m (after stores undo) (ap takes_lock (sym i.named) ∙ locks) (record {
-            taken = k.taken;
-            started = k.started;
-            unwritten = k.unwritten;
-            uncommitted = k.uncommitted;
-            reopened = k.reopened;
-            clean = λ e. no-items stores (stored ∙ nothing-left e);
-            dirty = λ e none. absurd (let no : true ≡ false = sym e ∙ (some ∙ ap (λ (ws : List (ℕ × ℕ)). not (is_empty ws)) (sym stored ∙ ap items none)) in cc);
-            irrevocable = k.irrevocable ∙ ((λ j. irrevocable_under (named-by j) l.granted l.wrote) ∙ (λ j. irrevocable_under (sym named-by j) l.granted wrote));
-            undone = λ e. ap (λ (q : LogState). q.items) cut-is ∙ sym undone;
-            undoable = λ e. ap (λ (q : LogState). addresses q.items) cut-is ∙ (of-undo ∙ ap addresses (sym stored));
-            within = within;
-            writes = λ e. sym stored;
-            marked = λ e. ap (λ (q : LogState). length q.marks) is ∙ length-take-le d l.writes.marks (let h = mark-count in omega arith);
-            apart = λ e a t. spared-at a (ap (has_item a) (sym stored) ∙ (sym (has-touched a stores) ∙ t));
-            rises = k.rises;
-            limit = λ e. k.limit (limit-by e);
-          });
-        }
+        stays-at stores undo stored undone within = inside-at good c n l v i log cut wrote d stores undo more (keeps-by c l.algorithm l.granted m (after stores undo) (ap takes_lock (sym i.named) ∙ locks) (record {
+          taken = k.taken;
+          started = k.started;
+          unwritten = k.unwritten;
+          uncommitted = k.uncommitted;
+          reopened = k.reopened;
+          clean = λ e. no-items stores (stored ∙ nothing-left e);
+          dirty = λ e none. absurd (let no : true ≡ false = sym e ∙ (some ∙ ap (λ (ws : List (ℕ × ℕ)). not (is_empty ws)) (sym stored ∙ ap items none)) in cc);
+          irrevocable = k.irrevocable ∙ ((λ j. irrevocable_under (named-by j) l.granted l.wrote) ∙ (λ j. irrevocable_under (sym named-by j) l.granted wrote));
+          undone = λ e. ap (λ (q : LogState). q.items) cut-is ∙ sym undone;
+          undoable = λ e. ap (λ (q : LogState). addresses q.items) cut-is ∙ (of-undo ∙ ap addresses (sym stored));
+          within = within;
+          writes = λ e. sym stored;
+          marked = λ e. ap (λ (q : LogState). length q.marks) is ∙ length-take-le d l.writes.marks (let h = mark-count in omega arith);
+          apart = λ e a t. spared-at a (ap (has_item a) (sym stored) ∙ (sym (has-touched a stores) ∙ t));
+          rises = k.rises;
+          limit = λ e. k.limit (limit-by e);
+        }))
           where
             named-by : l.algorithm ≡ Serial
             named-by = sym i.named ∙ serial
@@ -159,31 +141,9 @@ module _ (good : List ℕ → Type 0) (c : Config) (n : ℕ) (l : Local) (v : Vi
         stays-rolled = subst (λ (y : View). IsInside good c n m y) (sym path) (stays-at w.attempt.stores w.lock.undo again.stores (ap items undo-same ∙ back.undo) (subst (λ (cs : List Cell). Inside c.words cs) (sym undo-same) back.within))
 
         tells-at : (stores undo : List Cell) → items stores ≡ log.items → IsInside good c n m (after stores undo) → IsRolled good c n d (known_of v (own_of l)) (known_of (after stores undo) (own_of m))
-        tells-at stores undo stored inside = record {
-          stays = record {
-            running = ap is_in i.phase;
-            uncommitted = quiet;
-            closing = ap is_closing i.phase;
-            made = refl;
-            grows = grows-same (known_of v (own_of l)) (known_of (after stores undo) (own_of m)) refl refl more refl refl (ap (λ (q : LogState). q.len) cut-is) refl;
-            alg = refl;
-            fence = refl;
-            base = refl;
-            rises = refl;
-            start = refl;
-            installs = refl;
-            granted = (λ j. granted_under (serial j) v.gate (after stores undo).lock) ∙ (λ j. granted_under (sym serial j) v.gate v.lock);
-            holds = refl;
-            checked = refl;
-          };
-          within = (let h = mark-count in omega arith);
-          reads = refl;
-          writes = written-plain v.gate.algorithm v.gate.granted (after stores undo) (own_of m) locks ∙ (stored ∙ ap (λ (q : LogState). q.items) is);
-          depth = refl;
-          retains = ap (λ (a : Alg). keeps_records a || l.retains) (sym serial);
-          marks = ap (λ (q : LogState). q.marks) is;
-          opaque = opaque-inside good c n m (after stores undo) (own_of m) inside;
-        }
+        tells-at stores undo stored inside = rolls-at good c n l v i log cut wrote d stores undo more quiet is (let h = mark-count in omega arith) (ap (λ (q : LogState). q.len) cut-is)
+            ((λ j. granted_under (serial j) v.gate (after stores undo).lock) ∙ (λ j. granted_under (sym serial j) v.gate v.lock)) (ap (λ (a : Alg). keeps_records a || l.retains) (sym serial))
+            (written-plain v.gate.algorithm v.gate.granted (after stores undo) (own_of m) locks ∙ stored) inside
 
         pub rolls-back : IsRolled good c n d (known_of v (own_of l)) (known_of w (own_of (record l { writes = log; undo = cut; wrote = wrote; depth = d })))
         rolls-back = subst (λ (y : View). IsRolled good c n d (known_of v (own_of l)) (known_of y (own_of m))) (sym path)

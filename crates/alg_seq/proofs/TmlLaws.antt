@@ -318,7 +318,6 @@ module _ (good : List ℕ → Type 0) (c : Config) (n : ℕ) where
       phase = i.phase;
       named = i.named;
       spared = record { is = i.spared.is; fits = i.spared.fits };
-      built = i.built;
       steady = i.steady;
       disowned = i.disowned;
       unentered = i.unentered;
@@ -534,7 +533,6 @@ module _ (good : List ℕ → Type 0) (c : Config) (n : ℕ) where
       phase = i.phase;
       named = i.named;
       spared = record { is = i.spared.is; fits = i.spared.fits };
-      built = i.built;
       steady = λ e. i.steady (ap (λ (a : Alg). not (asks_at_commit a) || l.granted) (sym i.named ∙ tml));
       disowned = i.disowned;
       unentered = i.unentered;
@@ -586,7 +584,7 @@ module _ (good : List ℕ → Type 0) (c : Config) (n : ℕ) (v : View) (can : C
   pub tells-held : (clock : ℕ) (w : View) → clock % 2 ≡ 1 → Tells tml_begin (FindsBegin (of_words good c.words) c) v clock w → Starts.Refuses good c n Tml (begins.Held clock) v w
   tells-held clock w odd t = subst (λ (y : View). Starts.Refuses good c n Tml (begins.Held clock) v y) (sym (begun_path clock w false (grind (arith, nat_tests)) t)) (
     record {
-      can = record { phase = can.phase; named = can.named; built = can.built; reopened = can.reopened; ungranted = can.ungranted; clear = record { unlocked = can.clear.unlocked; disowned = can.clear.disowned; unwritten = can.clear.unwritten; uncommitted = can.clear.uncommitted; unentered = can.clear.unentered; unfixed = can.clear.unfixed }; unentered = can.unentered; rises = can.rises };
+      can = record { phase = can.phase; named = can.named; reopened = can.reopened; ungranted = can.ungranted; clear = record { unlocked = can.clear.unlocked; disowned = can.clear.disowned; unwritten = can.clear.unwritten; uncommitted = can.clear.uncommitted; unentered = can.clear.unentered; unfixed = can.clear.unfixed }; unentered = can.unentered; rises = can.rises };
       keeps = λ o. record { made = refl; grows = grows-same (known_of v o) (known_of y o) refl refl (_ ∷ []) refl refl refl refl; rises = refl; installs = refl };
     },
     omega arith,
@@ -604,7 +602,6 @@ module _ (good : List ℕ → Type 0) (c : Config) (n : ℕ) (v : View) (can : C
       phase = can.phase;
       named = can.named;
       spared = record { is = fenced.is; fits = fenced.fits };
-      built = refl;
       disowned = λ e. can.clear.disowned;
       unentered = refl;
       start = refl;

@@ -55,7 +55,7 @@ pub fn bench<R: Threads + Wait + Sync, S: Source, K: Sink, G: Turnstile + Sync>(
 ) -> Status
     ensures { IsOutcome S.left S.faults source.old source.new words.now K.held K.faults sink.old sink.new last.old last.new result }
 {
-    let Ok(saying) = say(rt, alloc, words, source, turnstile) else {
+    let Ok(saying) = saying_of_words(rt, alloc, words, source, turnstile) else {
         return Status::Memory;
     };
     match put_all(sink, saying.text.as_slice()) {
@@ -77,7 +77,7 @@ fn keep(last: &mut Option<Closed>, closed: Option<Closed>)
 }
 
 /// What is to be written, made whole before any of it is.
-fn say<R: Threads + Wait + Sync, S: Source, G: Turnstile + Sync>(
+fn saying_of_words<R: Threads + Wait + Sync, S: Source, G: Turnstile + Sync>(
     rt: &R,
     alloc: Global,
     words: &[&str],
@@ -96,19 +96,26 @@ fn say<R: Threads + Wait + Sync, S: Source, G: Turnstile + Sync>(
         });
     };
     match command {
-        Command::Run { policy } => say_of_text(rt, alloc, Mode::Run, policy, source, turnstile),
-        Command::Step => say_of_text(rt, alloc, Mode::Step, Policy::Fixed, source, turnstile),
+        Command::Run { policy } => saying_of_source(
+            rt,
+            alloc,
+            Mode::Run,
+            policy,
+            source,
+            turnstile,
+        ),
+        Command::Step => saying_of_source(rt, alloc, Mode::Step, Policy::Fixed, source, turnstile),
         Command::Gen {
             transactions,
             callers,
             seed,
         } => summarize(rt, alloc, transactions, callers, seed, turnstile),
-        Command::Check => say_of_check(alloc, source),
+        Command::Check => saying_of_check(alloc, source),
     }
 }
 
 /// What is to be written of the workload and the report that the source has.
-fn say_of_check<S: Source>(alloc: Global, source: &mut S) -> Result<Saying, Memory>
+fn saying_of_check<S: Source>(alloc: Global, source: &mut S) -> Result<Saying, Memory>
     ensures says { IfOk result (λ s. SaysChecked S.left S.faults source.old source.new s.status s.closed s.text.items) }
     ensures lost { OnErr result (TookSome most_checked (S.left source.old) (S.left source.new)) }
     ensures calm { OnErr result (S.faults source.new ≡ S.faults source.old) }
@@ -134,7 +141,7 @@ fn say_of_check<S: Source>(alloc: Global, source: &mut S) -> Result<Saying, Memo
 }
 
 /// What is to be written of the text that the source has.
-fn say_of_text<R: Threads + Wait + Sync, S: Source, G: Turnstile + Sync>(
+fn saying_of_source<R: Threads + Wait + Sync, S: Source, G: Turnstile + Sync>(
     rt: &R,
     alloc: Global,
     mode: Mode,
@@ -149,7 +156,7 @@ fn say_of_text<R: Threads + Wait + Sync, S: Source, G: Turnstile + Sync>(
     // made before the source is read, so that its fault is never told as want of memory
     let read_fault = messages::read_fault(alloc)?;
     match read_all(alloc, source, MOST_READ) {
-        Ok(text) => execute(rt, alloc, mode, policy, text.as_slice(), turnstile),
+        Ok(text) => saying_of_text(rt, alloc, mode, policy, text.as_slice(), turnstile),
         Err(ReadError::Failed) => Ok(Saying {
             status: Status::ReadFault,
             text: read_fault,
@@ -160,7 +167,7 @@ fn say_of_text<R: Threads + Wait + Sync, S: Source, G: Turnstile + Sync>(
 }
 
 /// What is to be written of a text that was read.
-fn execute<R: Threads + Wait + Sync, G: Turnstile + Sync>(
+fn saying_of_text<R: Threads + Wait + Sync, G: Turnstile + Sync>(
     rt: &R,
     alloc: Global,
     mode: Mode,

@@ -21,7 +21,7 @@ const MOST_READ: usize = 134217729;
 pub fn draw<S: Source, K: Sink>(alloc: Global, words: usize, source: &mut S, sink: &mut K) -> Status
     ensures { IsOutcome S.left S.faults source.old source.new words K.held K.faults sink.old sink.new result }
 {
-    let Ok((status, text)) = say(alloc, words, source) else {
+    let Ok((status, text)) = drawn_of_source(alloc, words, source) else {
         return Status::Memory;
     };
     match put_all(sink, text.as_slice()) {
@@ -31,7 +31,11 @@ pub fn draw<S: Source, K: Sink>(alloc: Global, words: usize, source: &mut S, sin
 }
 
 /// What is to be written, made whole before any of it is.
-fn say<S: Source>(alloc: Global, words: usize, source: &mut S) -> Result<(Status, Vec<u8>), Memory>
+fn drawn_of_source<S: Source>(
+    alloc: Global,
+    words: usize,
+    source: &mut S,
+) -> Result<(Status, Vec<u8>), Memory>
     ensures says { IfOk result (λ s. Says S.left S.faults source.old source.new words s.0 s.1.items) }
     ensures lost { OnErr result (TookSome most_read (S.left source.old) (S.left source.new)) }
     ensures calm { OnErr result (S.faults source.new ≡ S.faults source.old) }

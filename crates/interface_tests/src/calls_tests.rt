@@ -1,7 +1,6 @@
 //! What no clause says: that a note is learnt, and that an access over an attempt comes to something, on one thread. The
 //! other calls of an attempt, on marks and on ranges are among the scripts of member_scripts.
 ghost use Rattle.std.specs.Prelude.{◌≡◌, ◌<◌, None, true, false};
-ghost use Rattle.stm_model.specs.Algorithms.{is_built};
 ghost use Rattle.stm_rule.specs.Callers.{IsOf, AllOpened};
 ghost use Rattle.tx_answers.specs.Known.{IsIdle};
 ghost use Rattle.stm_tx.specs.Descs.{known};
@@ -37,7 +36,6 @@ pub(crate) const PAIR: Config = Config {
 pub(crate) fn switch<K: MemRule>(stm: &Stm<K>, desc: &mut Desc<K>, alg: Alg) -> bool
     requires desc { IsOf desc.old stm.now }
     requires idle { IsIdle (known desc.old) }
-    requires built { is_built alg ≡ true }
     ensures desc { IsOf desc.new stm.now }
     ensures idle { IsIdle (known desc.new) }
 {
@@ -66,7 +64,6 @@ fn tells_and_learns(
     requires idle { IsIdle (known first.old) × IsIdle (known second.old) }
     requires words { 0 < stm.now.config.words }
     requires plain { stm.now.config.fence ≡ false }
-    requires built { is_built alg ≡ true }
 {
     if !switch(stm, first, alg) {
         return None;
@@ -97,7 +94,6 @@ fn two_learn(stm: &Stm<AnyMem>, descs: &mut [Desc<AnyMem>], alg: Alg) -> Option<
     requires opened { AllOpened stm.now 0 descs.old }
     requires words { 0 < stm.now.config.words }
     requires plain { stm.now.config.fence ≡ false }
-    requires built { is_built alg ≡ true }
 {
     match descs {
         [first, second] => tells_and_learns(stm, first, second, alg),
@@ -106,9 +102,7 @@ fn two_learn(stm: &Stm<AnyMem>, descs: &mut [Desc<AnyMem>], alg: Alg) -> Option<
 }
 
 /// What caller 1 learns under this algorithm.
-fn learns(alloc: Global, alg: Alg) -> Result<Option<(bool, u64)>, NewError>
-    requires { is_built alg ≡ true }
-{
+fn learns(alloc: Global, alg: Alg) -> Result<Option<(bool, u64)>, NewError> {
     let (stm, mut descs) = Stm::new(alloc, PAIR, AnyMem)?;
     Ok(two_learn(&stm, descs.as_mut_slice(), alg))
 }

@@ -1,7 +1,6 @@
 //! A descriptor that is dropped while it holds the gate: the gate stays closed, and nothing else breaks. One that is dropped
 //! in an attempt is among the scripts of member_scripts.
 ghost use Rattle.std.specs.Prelude.{◌≡◌, true};
-ghost use Rattle.stm_model.specs.Algorithms.{is_built};
 ghost use Rattle.stm_rule.specs.Callers.{IsOf};
 ghost use Rattle.tx_answers.specs.Known.{IsIdle};
 ghost use Rattle.stm_tx.specs.Descs.{known};
@@ -52,9 +51,11 @@ fn finds(
 }
 
 /// The same under an algorithm.
-fn found_under(alloc: Global, alg: Alg, looks: bool) -> Result<Option<(CloseGate, Begin)>, NewError>
-    requires { is_built alg ≡ true }
-{
+fn found_under(
+    alloc: Global,
+    alg: Alg,
+    looks: bool,
+) -> Result<Option<(CloseGate, Begin)>, NewError> {
     let (stm, mut descs) = Stm::new(alloc, PAIR, AnyMem)?;
     let (Some(mut second), Some(first)) = (descs.pop(), descs.pop()) else {
         unreachable!()

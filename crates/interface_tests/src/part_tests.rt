@@ -1,6 +1,5 @@
 //! A part of a transaction that is taken back, as a program of a library's user has it.
 ghost use Rattle.std.specs.Prelude.{◌≡◌, ◌<◌, IsSome, true, false};
-ghost use Rattle.stm_model.specs.Algorithms.{is_built};
 ghost use Rattle.stm_rule.specs.Callers.{IsOf, IsSameCaller, AllOpened};
 ghost use Rattle.tx_answers.specs.Known.{IsIdle, IsRunning};
 ghost use Rattle.stm_tx.specs.Descs.{known};
@@ -65,7 +64,6 @@ type Moved = (usize, Commit, [u64; 3]);
 fn moves(desc: &mut Desc<AnyMem>, stm: &Stm<AnyMem>, alg: Alg, room: u64) -> Option<Moved>
     requires stm { IsOf desc.old stm.now }
     requires idle { IsIdle (known desc.old) }
-    requires built { is_built alg ≡ true }
     requires words { 2 < stm.now.config.words }
     requires plain { stm.now.config.fence ≡ false }
 {
@@ -94,7 +92,6 @@ fn moves(desc: &mut Desc<AnyMem>, stm: &Stm<AnyMem>, alg: Alg, room: u64) -> Opt
 /// The same by the first caller of a new memory.
 fn one_moves(stm: &Stm<AnyMem>, descs: &mut [Desc<AnyMem>], alg: Alg, room: u64) -> Option<Moved>
     requires opened { AllOpened stm.now 0 descs.old }
-    requires built { is_built alg ≡ true }
     requires words { 2 < stm.now.config.words }
     requires plain { stm.now.config.fence ≡ false }
 {
@@ -105,9 +102,7 @@ fn one_moves(stm: &Stm<AnyMem>, descs: &mut [Desc<AnyMem>], alg: Alg, room: u64)
 }
 
 /// In a memory of its own.
-fn moved(alloc: Global, alg: Alg, room: u64) -> Result<Option<Moved>, NewError>
-    requires built { is_built alg ≡ true }
-{
+fn moved(alloc: Global, alg: Alg, room: u64) -> Result<Option<Moved>, NewError> {
     let (stm, mut descs) = Stm::new(alloc, PAIR, AnyMem)?;
     Ok(one_moves(&stm, descs.as_mut_slice(), alg, room))
 }

@@ -93,7 +93,7 @@ module _ {K : Type 0} (good : List ℕ → Type 0) (stm : Stm K) where
   idle-rises (v ∷ vs) (w ∷ ws) h =
       let a = sum_by-cons (λ (d : Handle K). d.view.steps.rises) w.desc (descs_of ws) in
       let b = sum_by-cons (λ (x : Worker K). owed (known x.desc)) v vs in
-      let one = h.0.pays in
+      let one = h.0.owes in
       let rest = idle-rises vs ws h.1 in
       omega (arith, a, b, one, rest)
 

@@ -28,10 +28,10 @@ use Rattle.stm_worker.specs.Workers.{IsAt, Loaded}
 use Rattle.stm_worker.specs.Workers.{ItemsFit as OwnItems}
 use Rattle.stm_driver.specs.Preparings.{BuiltItem, Forms}
 use Rattle.stm_driver.specs.declared.schedule.Halt.TheVariants.{ClockFull}
-use Rattle.stm_driver.specs.AllWorkers.{AreMadeIdle, ArePaidFor, Enough, MetLimit, descs_of, rows_of}
+use Rattle.stm_driver.specs.AllWorkers.{AreMadeIdle, AreCoveredFor, Enough, MetLimit, descs_of, rows_of}
 use Rattle.stm_driver.specs.Openings.{first_installs}
 use Rattle.stm_trace.specs.Places.{most_failed}
-use Rattle.stm_worker.specs.Payments.{raised}
+use Rattle.stm_worker.specs.RiseCovers.{raised}
 use Rattle.stm_driver.specs.ClosedRuns.{CutShort}
 use Rattle.stm_script.specs.Workloads.{config_of}
 use Rattle.stm_driver.specs.Runs.{ArePart, AreFirst, IsFull, IsCut, RanSome, most_rises}
@@ -39,7 +39,7 @@ use Rattle.stm_driver.specs.Schedules.{Drives, FoundFull}
 use Rattle.stm_driver.proofs.HistoryLaws.{dealt, ones}
 use Rattle.stm_driver.proofs.IdleLaws.{idle-rises}
 use Rattle.stm_driver.proofs.PartingLaws.{all-cons, total, total-few, all_items, all_items-few}
-use Rattle.stm_driver.proofs.PreparedLaws.{Begun, StartPaid, sizes-of}
+use Rattle.stm_driver.proofs.PreparedLaws.{Begun, StartCovered, sizes-of}
 use Rattle.stm_driver.proofs.ReportLaws.{all-made, history-of}
 use Rattle.stm_driver.proofs.StandingLaws.{Each, Stood, clock-within, made-few, stood-caller, stood-works, stood-todo, stood-within, rows-total}
 
@@ -62,7 +62,7 @@ drop-some (suc k) (x ∷ xs) h = let r = drop-some k xs h in omega arith
 own-items : (good : List ℕ → Type 0) (words n : ℕ) (regions : List Region) (items : List Item) → OwnItems good words regions n items → All (λ i. caller_in i ≡ n) items
 own-items good words n regions [] h = λ i d lt. absurd (omega arith)
 own-items good words n regions (Tx caller script ∷ items) h = all-cons (λ i. caller_in i ≡ n) (Tx caller script) items h.0 (own-items good words n regions items h.3)
-own-items good words n regions (Switch caller alg ∷ items) h = all-cons (λ i. caller_in i ≡ n) (Switch caller alg) items h.0 (own-items good words n regions items h.2)
+own-items good words n regions (Switch caller alg ∷ items) h = all-cons (λ i. caller_in i ≡ n) (Switch caller alg) items h.0 (own-items good words n regions items h.1)
 own-items good words n regions (Reserve caller reads writes ∷ items) h = all-cons (λ i. caller_in i ≡ n) (Reserve caller reads writes) items h.0 (own-items good words n regions items h.3)
 
 before-some : (items : List Item) → BeforeTx items → 1 ≤ length items
@@ -135,7 +135,7 @@ module _ {K : Type 0} (good : List ℕ → Type 0) (policy : Policy) (w : Worklo
       let idle : IsIdle (known r.desc) = subst (λ p. IsAt good stm.config (caller_of r.desc.who.role) p (known r.desc)) between s.sound.at in
       ap (λ b. if b then (known r.desc).base else (known r.desc).rises) idle.1
 
-  -- so many attempts of a transaction that fail are paid for
+  -- so many attempts of a transaction that fail are covered
   abbrev IsEnough : ℕ → Type 0
   IsEnough most = (most_failed ≤ most) ⊎ ((stm.config.callers ≡ 1) × (1 ≤ most))
 
@@ -143,24 +143,24 @@ module _ {K : Type 0} (good : List ℕ → Type 0) (policy : Policy) (w : Worklo
   enough-first most u none (inl much) = inl much
   enough-first most u none (inr e) = inr (e.0, none, e.1)
 
-  rises-total : (each most : ℕ) → IsEnough most → most + 3 ≤ each → ((a b : ℕ) → each * (a + b) ≡ each * a + each * b) → (n : ℕ) (us rs : List (Worker K)) → StartPaid w.header.alg n us → ArePaidFor stm us rs
+  rises-total : (each most : ℕ) → IsEnough most → most + 3 ≤ each → ((a b : ℕ) → each * (a + b) ≡ each * a + each * b) → (n : ℕ) (us rs : List (Worker K)) → StartCovered w.header.alg n us → AreCoveredFor stm us rs
       → Each (Stood good policy w stm sized) n rs → All (λ (r : Worker K). r.phase ≡ Between) rs → sum_by (λ (d : Handle K). d.view.steps.rises) (descs_of rs) ≤ each * all_items n (length rs) w.items + length (first_installs w.header.alg n)
-  rises-total each most much wide over n [] [] starts paid h between = omega arith
-  rises-total each most much wide over n [] (r ∷ rs) starts paid h between = absurd paid
-  rises-total each most much wide over n (u ∷ us) [] starts paid h between = absurd paid
-  rises-total each most much wide over n (u ∷ us) (r ∷ rs) starts paid h between =
+  rises-total each most much wide over n [] [] starts covered h between = omega arith
+  rises-total each most much wide over n [] (r ∷ rs) starts covered h between = absurd covered
+  rises-total each most much wide over n (u ∷ us) [] starts covered h between = absurd covered
+  rises-total each most much wide over n (u ∷ us) (r ∷ rs) starts covered h between =
       let P : Worker K → Type 0 = λ (r : Worker K). r.phase ≡ Between in
-      let alone = paid.0.all (length (first_installs w.header.alg n)) each most (enough-first most u starts.2 much) wide starts.1 (starts.0 each most) in
+      let alone = covered.0.all (length (first_installs w.header.alg n)) each most (enough-first most u starts.2 much) wide starts.1 (starts.0 each most) in
       let all = ap (λ (l : List Item). each * length l) h.0.own.all in
       let whole = raised-all n r h.0 (All-head P r rs between) in
-      let rest = rises-total each most much wide over (suc n) us rs starts.3 paid.1 h.1 (All-tail P r rs between) in
+      let rest = rises-total each most much wide over (suc n) us rs starts.3 covered.1 h.1 (All-tail P r rs between) in
       let cons = sum_by-cons (λ (d : Handle K). d.view.steps.rises) r.desc (descs_of rs) in
       let both = over (length (items_of n w.items)) (all_items (suc n) (length rs) w.items) in
       omega (arith, alone, all, whole, rest, cons, both)
 
-  rises-most : (us rs : List (Worker K)) → StartPaid w.header.alg 0 us → ArePaidFor stm us rs → Each (Stood good policy w stm sized) 0 rs → All (λ (r : Worker K). r.phase ≡ Between) rs
+  rises-most : (us rs : List (Worker K)) → StartCovered w.header.alg 0 us → AreCoveredFor stm us rs → Each (Stood good policy w stm sized) 0 rs → All (λ (r : Worker K). r.phase ≡ Between) rs
       → sum_by (λ (d : Handle K). d.view.steps.rises) (descs_of rs) ≤ most_rises w.header.callers * length w.items + 1
-  rises-most us rs starts paid h between = by (w.header.callers == 1) refl
+  rises-most us rs starts covered h between = by (w.header.callers == 1) refl
     where
       few : all_items 0 (length rs) w.items ≤ length w.items
       few = all_items-few 0 (length rs) w.items
@@ -169,18 +169,18 @@ module _ {K : Type 0} (good : List ℕ → Type 0) (policy : Policy) (w : Worklo
       by true test =
           let callers = ap (λ (x : Config). x.callers) sized in
           let one : w.header.callers ≡ 1 = grind (arith, nat_tests) in
-          let r = rises-total 4 1 (inr (callers ∙ one, omega arith)) (omega arith) (λ a b. omega arith) 0 us rs starts paid h between in
+          let r = rises-total 4 1 (inr (callers ∙ one, omega arith)) (omega arith) (λ a b. omega arith) 0 us rs starts covered h between in
           let f = few in
           omega (arith, r, f)
       by false test =
-          let r = rises-total 20 16 (inl (omega arith)) (omega arith) (λ a b. omega arith) 0 us rs starts paid h between in
+          let r = rises-total 20 16 (inl (omega arith)) (omega arith) (λ a b. omega arith) 0 us rs starts covered h between in
           let f = few in
           omega (arith, r, f)
 
   -- none has anything open, and one met the limit
-  pub full : Forms good w → (us rs : List (Worker K)) (ws : List ℕ) (closed : Ended) (clock : ℕ) → RanSome AreFirst policy w closed → StartPaid w.header.alg 0 us → ArePaidFor stm us rs → Each (Stood good policy w stm sized) 0 rs → All (λ (r : Worker K). r.phase ≡ Between) rs → length rs ≡ stm.config.callers → MetSome rs clock → Closes good stm.config (descs_of rs) ws closed
+  pub full : Forms good w → (us rs : List (Worker K)) (ws : List ℕ) (closed : Ended) (clock : ℕ) → RanSome AreFirst policy w closed → StartCovered w.header.alg 0 us → AreCoveredFor stm us rs → Each (Stood good policy w stm sized) 0 rs → All (λ (r : Worker K). r.phase ≡ Between) rs → length rs ≡ stm.config.callers → MetSome rs clock → Closes good stm.config (descs_of rs) ws closed
       → IsFull policy w clock closed
-  full forms us rs ws closed clock ran starts paid stood between len is c =
+  full forms us rs ws closed clock ran starts covered stood between len is c =
       let met = met-first 0 rs closed clock stood c.told is in
       let low = met.low in
       let high = met.high in
@@ -189,7 +189,7 @@ module _ {K : Type 0} (good : List ℕ → Type 0) (policy : Policy) (w : Worklo
       let limit : closed.clock ≤ 2 ^ 62 = c.limit in
       let opening : stm.config.clock ≡ w.header.clock = ap (λ (x : Config). x.clock) sized in
       let risen = c.clock in
-      let rises = rises-most us rs starts paid stood between in
+      let rises = rises-most us rs starts covered stood between in
       let made = made-total 0 rs closed stood between c.told in
       let all = all-made good policy w stm items sized (λ (e : Entry). 1) rs ws closed len c ∙ ones closed.history in
       record { opening = c.opening ∙ opening; found = omega arith; limit = omega arith; history = history-of good w forms stm.config sized (descs_of rs) ws closed c; ran = ran; left = omega arith; bound = omega arith }
@@ -215,7 +215,7 @@ module _ {K : Type 0} (good : List ℕ → Type 0) (policy : Policy) (w : Worklo
       let opening : stm.config.clock ≡ w.header.clock = ap (λ (x : Config). x.clock) sized in
       let risen = c.closes.clock in
       let rises = idle-rises good stm ran c.after c.idle in
-      let paid = drives.1 in
+      let covered = drives.1 in
       let none = b.owes in
       let part = drives.0 w.header (sizes-of stm.config w.header sized) in
       let sorted = subst (λ ps. fits.IsCut w.header ps gos lines clock) (b.starts ruled) part in
@@ -226,5 +226,5 @@ module _ {K : Type 0} (good : List ℕ → Type 0) (policy : Policy) (w : Worklo
         limit = omega (arith, low, high, limit);
         history = history-of good w forms stm.config sized (descs_of c.after) c.words closed c.closes;
         ran = subst (λ (p : Policy). RanSome ArePart p w closed) ruled some;
-        bound = omega (arith, low, high, limit, opening, risen, rises, paid, none);
+        bound = omega (arith, low, high, limit, opening, risen, rises, covered, none);
       }

@@ -27,7 +27,7 @@ use Rattle.stm_driver.specs.declared.outcome.Outcome.TheVariants.{ToEnd, ToLimit
 use Rattle.stm_driver.specs.declared.schedule.Halt.{Halt}
 use Rattle.stm_driver.specs.declared.schedule.Halt.TheVariants.{ClockFull, Memory}
 use Rattle.stm_driver.specs.declared.workers.Runner.{Runner}
-use Rattle.stm_driver.specs.AllWorkers.{worker_in, workers_in, AreCallers, descs_of, rows_of, how_all, sooner, ArePaidFor, IsReady, IsThrough, Finished}
+use Rattle.stm_driver.specs.AllWorkers.{worker_in, workers_in, AreCallers, descs_of, rows_of, how_all, sooner, AreCoveredFor, IsReady, IsThrough, Finished}
 use Rattle.stm_driver.specs.ClosedRuns.{Reported, CutShort, Came}
 use Rattle.stm_script.specs.Workloads.{config_of}
 use Rattle.stm_script.specs.declared.workload.Item.{Item}
@@ -142,10 +142,10 @@ module _ {K : Type 0} (good : List ℕ → Type 0) (policy : Policy) (w : Worklo
     pub sound : AreSound good stm (workers_in ran)
     pub between : All (λ (w : Worker K). w.phase ≡ Between) (workers_in ran)
     pub through : AllThrough ran
-    pub paid : ArePaidFor stm (workers_in lent) (workers_in ran)
+    pub covered : AreCoveredFor stm (workers_in lent) (workers_in ran)
 
   pub ran-all : (lent ran : List (CachePadded (Runner K))) → length ran ≡ length lent → ((i : ℕ) (d : CachePadded (Runner K)) → i < length lent → Finished good stm (get_or lent i d) (get_or ran i d)) → RanAll lent ran
-  ran-all [] [] len h = record { same = tt; sound = λ i d lt. absurd (omega (arith, lt)); between = λ i d lt. absurd (omega (arith, lt)); through = tt; paid = tt }
+  ran-all [] [] len h = record { same = tt; sound = λ i d lt. absurd (omega (arith, lt)); between = λ i d lt. absurd (omega (arith, lt)); through = tt; covered = tt }
   ran-all [] (s ∷ ran) len h = absurd cc
   ran-all (r ∷ lent) [] len h = absurd cc
   ran-all (r ∷ lent) (s ∷ ran) len h =
@@ -156,7 +156,7 @@ module _ {K : Type 0} (good : List ℕ → Type 0) (policy : Policy) (w : Worklo
         sound = all-cons (Sound good stm) (worker_in s) (workers_in ran) one.sound rest.sound;
         between = all-cons (λ (w : Worker K). w.phase ≡ Between) (worker_in s) (workers_in ran) one.between rest.between;
         through = (one.through, rest.through);
-        paid = (one.paid, rest.paid);
+        covered = (one.covered, rest.covered);
       }
 
   pub all-ready : (rs : List (CachePadded (Runner K))) → AreSound good stm (workers_in rs) → All (IsReady good stm) rs
@@ -196,7 +196,7 @@ module _ {K : Type 0} (good : List ℕ → Type 0) (policy : Policy) (w : Worklo
         by (Err (ClockFull found)) e (ToEnd report closed) c = absurd c
         by (Err (ClockFull found)) e (ToLimit clock closed) c =
             let after = idle-still good stm (workers_in ran) c.1.after r.between c.1.idle in
-            full good policy w stm items sized forms (workers_in lent) (workers_in ran) c.1.words closed clock (ran-first (workers_in ran) closed t r.between c.1) b.paid r.paid (stands (workers_in ran) t) r.between t.count (met-some ran clock r.through (e ∙ ap (λ k. Err (ClockFull k)) (sym c.0)))
+            full good policy w stm items sized forms (workers_in lent) (workers_in ran) c.1.words closed clock (ran-first (workers_in ran) closed t r.between c.1) b.covered r.covered (stands (workers_in ran) t) r.between t.count (met-some ran clock r.through (e ∙ ap (λ k. Err (ClockFull k)) (sym c.0)))
             (subst (λ ws. Closes good stm.config (descs_of ws) c.1.words closed) after c.1.closes)
         by (Err (ClockFull found)) e (OutOfMemory closed) c = absurd c
         by (Err Memory) e (ToEnd report closed) c = absurd c

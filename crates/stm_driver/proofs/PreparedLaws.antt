@@ -30,8 +30,8 @@ use Rattle.stm_worker.specs.Courses.{IsFresh, Went, all_installed}
 use Rattle.stm_worker.specs.InstallLaws.{installed-on, went-append}
 use Rattle.stm_worker.specs.Workers.{place_of, Sound, Starts}
 use Rattle.stm_worker.specs.Workers.{ItemsFit as OwnItems}
-use Rattle.stm_worker.specs.Payments.{CountsNext, PaysBut, due_of, raised}
-use Rattle.stm_worker.specs.PaymentLaws.{starts-counts}
+use Rattle.stm_worker.specs.RiseCovers.{CountsNext, CoversBut, due_of, raised}
+use Rattle.stm_worker.specs.RiseCoverLaws.{starts-counts}
 use Rattle.stm_trace.specs.Adapting.{policy_for}
 use Rattle.stm_driver.specs.AllWorkers.{AreMade, AreCallers}
 use Rattle.stm_script.specs.Workloads.{config_of}
@@ -57,7 +57,7 @@ items-own good h n (Tx caller script ∷ items) b =
 items-own good h n (Switch caller alg ∷ items) b =
     let P : Item → Type 0 = λ i. (caller_in i ≡ n) × (BuiltItem h i × ItemKeeps good h i) in
     let head = All-head P (Switch caller alg) items b in
-    (head.0, head.1.0.0.1, items-own good h n items (All-tail P (Switch caller alg) items b))
+    (head.0, items-own good h n items (All-tail P (Switch caller alg) items b))
 items-own good h n (Reserve caller reads writes ∷ items) b =
     let P : Item → Type 0 = λ i. (caller_in i ≡ n) × (BuiltItem h i × ItemKeeps good h i) in
     let head = All-head P (Reserve caller reads writes) items b in
@@ -129,27 +129,27 @@ module _ {K : Type 0} where
         omega (arith, few, cons, rest)
 
   -- nothing is done, and nothing raised but by the first install
-  abbrev pub StartPaid : Alg → ℕ → List (Worker K) → Type 0
-  StartPaid alg n [] = Unit {0}
-  StartPaid alg n (x ∷ ws) = ((each most : ℕ) → PaysBut (length (first_installs alg n)) each most x) × CountsNext x × (x.failed ≡ 0) × StartPaid alg (suc n) ws
+  abbrev pub StartCovered : Alg → ℕ → List (Worker K) → Type 0
+  StartCovered alg n [] = Unit {0}
+  StartCovered alg n (x ∷ ws) = ((each most : ℕ) → CoversBut (length (first_installs alg n)) each most x) × CountsNext x × (x.failed ≡ 0) × StartCovered alg (suc n) ws
 
-  start-pays : (d : Handle K) (items : List Item) (rs : List Region) (alg : Alg) (policy : Policy) (these : List Alg) (x : Worker K) → IsNew these (known d) → Starts d items rs alg policy x → (each most : ℕ) → PaysBut (length these) each most x
-  start-pays d items rs alg policy these x new s each most =
+  start-covers : (d : Handle K) (items : List Item) (rs : List Region) (alg : Alg) (policy : Policy) (these : List Alg) (x : Worker K) → IsNew these (known d) → Starts d items rs alg policy x → (each most : ℕ) → CoversBut (length these) each most x
+  start-covers d items rs alg policy these x new s each most =
       let few : raised (known x.desc) ≤ length these = subst (λ (y : Handle K). raised (known y) ≤ length these) (sym s.is_desc) (subst (λ b. (if b then (known d).base else (known d).rises) ≤ length these) (sym new.idle.1) new.done.rises) in
       let left : x.items_left.now ≡ x.all.now = ap (λ (p : Place). p.left) s.at ∙ sym s.all in
       let same : each * length x.items_left.now ≡ each * length x.all.now = ap (λ (l : List Item). each * length l) left in
       let due : due_of x.chosen ≡ 0 = ap (λ (p : Place). due_of p.chosen) s.at in
       omega (arith, few, same, due)
 
-  paid-start : (stm : Stm K) (items : List Item) (rs : List Region) (alg : Alg) (policy : Policy) (n : ℕ) (ds : List (Handle K)) (ws : List (Worker K)) → AllNew stm alg n ds → AreMade (λ k. items_of k items) rs alg policy n ds ws → StartPaid alg n ws
-  paid-start stm items rs alg policy n [] [] o h = tt
-  paid-start stm items rs alg policy n [] (x ∷ ws) o h = absurd h
-  paid-start stm items rs alg policy n (d ∷ ds) [] o h = absurd h
-  paid-start stm items rs alg policy n (d ∷ ds) (x ∷ ws) o h = (
-    start-pays d (items_of n items) rs alg (policy_for policy n) (first_installs alg n) x o.2 h.0,
+  covered-start : (stm : Stm K) (items : List Item) (rs : List Region) (alg : Alg) (policy : Policy) (n : ℕ) (ds : List (Handle K)) (ws : List (Worker K)) → AllNew stm alg n ds → AreMade (λ k. items_of k items) rs alg policy n ds ws → StartCovered alg n ws
+  covered-start stm items rs alg policy n [] [] o h = tt
+  covered-start stm items rs alg policy n [] (x ∷ ws) o h = absurd h
+  covered-start stm items rs alg policy n (d ∷ ds) [] o h = absurd h
+  covered-start stm items rs alg policy n (d ∷ ds) (x ∷ ws) o h = (
+    start-covers d (items_of n items) rs alg (policy_for policy n) (first_installs alg n) x o.2 h.0,
     starts-counts x (ap (λ (p : Place). p.failed) h.0.at) (ap (λ (p : Place). p.must) h.0.at),
     ap (λ (p : Place). p.failed) h.0.at,
-    paid-start stm items rs alg policy (suc n) ds ws o.4 h.1,
+    covered-start stm items rs alg policy (suc n) ds ws o.4 h.1,
   )
 
   -- where the callers stand at first, where caller 0 goes by the text's policy
@@ -197,7 +197,7 @@ module _ {K : Type 0} (good : List ℕ → Type 0) (policy : Policy) (w : Worklo
     pub own : AreOwn policy w 0 ws
     pub starts : policy ≡ w.header.policy → places ws ≡ first_places w
     pub owes : debts ws ≤ 1
-    pub paid : StartPaid w.header.alg 0 ws
+    pub covered : StartCovered w.header.alg 0 ws
 
   module _ (keeps : WorkloadKeeps good w) where
     sound-start : (alg : Alg) (n : ℕ) (d : Handle K) (u : Worker K) → IsOf d stm → d.who.role ≡ Caller n → IsNew (first_installs alg n) (known d) → Starts d (items_of n w.items) (regions_of w.header) alg (policy_for policy n) u → Sound good stm u
@@ -226,7 +226,7 @@ module _ {K : Type 0} (good : List ℕ → Type 0) (policy : Policy) (w : Worklo
           own = own-start policy w stm sized 0 p.descs ws p.new owned;
           starts = λ ruled. starts-at stm policy w ruled sized 0 p.descs ws p.new owned ∙ ap (λ k. map (first_place w) (counted 0 k)) long;
           owes = owes-start stm w.items (regions_of w.header) w.header.alg policy 0 p.descs ws p.new owned;
-          paid = paid-start stm w.items (regions_of w.header) w.header.alg policy 0 p.descs ws p.new owned;
+          covered = covered-start stm w.items (regions_of w.header) w.header.alg policy 0 p.descs ws p.new owned;
         }
 
   pub turns-below : (gos : List Go) (ws : List (Worker K)) → All (λ (go : Go). go.caller < w.header.callers) gos → Begun ws → All (λ (go : Go). go.caller < length ws) gos

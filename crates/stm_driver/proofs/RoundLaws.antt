@@ -48,14 +48,14 @@ use Rattle.stm_driver.proofs.ScheduleLaws.{plays-none, plays-as, plays-next, pla
 
 module _ {K : Type 0} (config : Config) (may : Place → Said → Type 0) (holds : Place → Type 0) where
   pub rounded-none : (ws : List (Worker K)) (lines : List Line) → Rounded config may holds 0 ws ws lines lines
-  rounded-none ws lines = record { round = λ h sizes. round-none h may holds (places ws) lines; paid = omega arith }
+  rounded-none ws lines = record { round = λ h sizes. round-none h may holds (places ws) lines; covered = omega arith }
 
   module _ (n : ℕ) (us vs ws : List (Worker K)) (a b c : List Line) (round : Rounded config may holds n us vs a b) where
     -- the next caller's turns
     pub rounded-next : Goes config may holds vs ws b c n (Ok tt) → Rounded config may holds (n + 1) us ws a c
     rounded-next g = record {
       round = λ h sizes. subst (λ (j : ℕ). WentRound h may holds j (places us) (places ws) a c) (sym (add-one n)) (round-next h may holds n g.0 (places us) (places vs) (places ws) a b c (round.round h sizes) (g.1.0 h sizes) g.2);
-      paid = (let x = round.paid in let y = g.1.1 in omega (arith, x, y));
+      covered = (let x = round.covered in let y = g.1.1 in omega (arith, x, y));
     }
 
     pub rounded-all : (k : ℕ) → k ≤ n → n ≤ k → Rounded config may holds k us vs a b
@@ -64,7 +64,7 @@ module _ {K : Type 0} (config : Config) (may : Place → Said → Type 0) (holds
     pub rounds-halt : (halt : Halt) → Goes config may holds vs ws b c n (Err halt) → Rounds config may holds us ws a c (Err halt)
     rounds-halt (ClockFull clock) g = (
       (λ h sizes. round-halted h may holds n g.0 (places us) (places vs) (places ws) a b c (round.round h sizes) clock (g.1.0 h sizes)),
-      (let x = round.paid in let y = g.1.1 in omega (arith, x, y)),
+      (let x = round.covered in let y = g.1.1 in omega (arith, x, y)),
       g.1.2,
     )
     rounds-halt Memory g = tt
@@ -254,7 +254,7 @@ module _ {K : Type 0} (config : Config) (schedule : List Go) (ws us : List (Work
       pub cut-third : (halt : Halt) → Rounds config MayFinish IsOver vs xs b c (Err halt) → Drives config schedule ws xs c (Err halt)
       cut-third (ClockFull clock) r = (
         (λ h sizes. rounds-cut h (places ws) (places us) (places vs) (places xs) schedule a b c (length us) (p.0 h sizes) (w.round h sizes) most clock (r.0 h sizes)),
-        (let x = p.1 in let y = w.paid in let z = r.1 in let l = length-append a (Finish ∷ []) in omega (arith, x, y, z, l)),
+        (let x = p.1 in let y = w.covered in let z = r.1 in let l = length-append a (Finish ∷ []) in omega (arith, x, y, z, l)),
         r.2,
       )
       cut-third Memory r = tt

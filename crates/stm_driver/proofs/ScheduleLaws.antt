@@ -30,7 +30,7 @@ use Rattle.stm_driver.proofs.WorkersLaws.{workers-set, worker-at}
 use Rattle.stm_driver.specs.declared.schedule.Halt.{Halt}
 use Rattle.stm_driver.specs.declared.schedule.Halt.TheVariants.{ClockFull, Memory}
 use Rattle.stm_worker.specs.declared.worker.Worker.{Worker}
-use Rattle.stm_driver.specs.Schedules.{places, place_at, AreSame, AreSound, debts, ArePaid, FoundFull, Plays, Took, Turns}
+use Rattle.stm_driver.specs.Schedules.{places, place_at, AreSame, AreSound, debts, AreCovered, FoundFull, Plays, Took, Turns}
 use Rattle.stm_worker.specs.InstallLaws.{installed-on, went-append}
 use Rattle.stm_worker.specs.Workers.{place_of, IsSame, Loaded, Sound, Turned}
 
@@ -144,17 +144,17 @@ module _ {K : Type 0} where
   module _ (good : List ℕ → Type 0) (stm : Stm K) where
     module _ (asked may : Place → Said → Type 0) (ws vs : List (Worker K)) (old new : List Line) (n : ℕ) (said : Said) (lt : n < length ws)
         (t : Took good stm asked ws vs old new n said) (here : may (place_of (get_or ws n t.was)) said) where
-      paid : ArePaid ws vs old new
-      paid =
+      covered : AreCovered ws vs old new
+      covered =
           let f : Worker K → ℕ = λ w. owed (known w.desc) in
-          subst (λ x. ArePaid ws x old new) (sym t.is)
-          (one-more (debts (set ws n t.now)) (debts ws) (f (get_or ws n t.was)) (f t.now) old new n said (sum_by-set f ws n t.now t.was lt) t.turned.pays t.lines)
+          subst (λ x. AreCovered ws x old new) (sym t.is)
+          (one-more (debts (set ws n t.now)) (debts ws) (f (get_or ws n t.was)) (f t.now) old new n said (sum_by-set f ws n t.now t.was lt) t.turned.owes t.lines)
 
       pub took-plays : clock_of said ≡ None → Plays stm.config may ws vs old new (n ∷ []) (Ok tt)
       took-plays calm = (
         (λ h sizes. subst (λ x. Played h may (places ws) (places x) old new (n ∷ [])) (sym t.is)
             (played-one h may place_of ws n t.was t.now said old new lt here (t.turned.fair h sizes) t.turned.now t.lines calm)),
-        paid,
+        covered,
       )
 
       pub took-halts : (clock : ℕ) → clock_of said ≡ Some clock → MaySay (place_of (get_or ws n t.was)) said → Plays stm.config may ws vs old new (n ∷ []) (Err (ClockFull clock))
@@ -163,7 +163,7 @@ module _ {K : Type 0} where
           let found = subst (λ o. MatchOption o (Unit {0}) (λ c. (2 ^ 62 ≤ c) × Loaded (known t.now.desc) c)) full t.turned.found in (
             (λ h sizes. subst (λ x. Halted h may (places ws) (places x) old new (n ∷ []) clock) (sym t.is)
                 (halted-one h may place_of ws n t.was t.now said old new lt here (t.turned.fair h sizes) t.turned.now t.lines clock full)),
-            paid,
+            covered,
             subst (λ x. FoundFull x clock) (sym t.is) (found-set ws n t.now clock lt (between, found.0, found.1)),
           )
 

@@ -16,9 +16,9 @@ use Rattle.stm_trace.specs.Places.{Place, after, clock_of}
 use Rattle.stm_trace.specs.Turns.{BeforeTx, IsOver, MaySay}
 use Rattle.stm_worker.specs.declared.worker.Worker.{Worker}
 use Rattle.stm_worker.specs.Workers.{IsSame, IsUnderWay, Loaded, Sound, Starved, Turned, WhenInside, place_of}
-use Rattle.stm_worker.specs.Payments.{CountsNext, PaysBut, unpaid_at, unpaid_by}
-use Rattle.stm_worker.specs.PaymentLaws.{alone-pays-but, none-failed, pays-all, pays-left, same-unpaid, turned-counts, turned-pays-but}
-use Rattle.stm_driver.specs.AllWorkers.{Enough, IsPaid, MetLimit}
+use Rattle.stm_worker.specs.RiseCovers.{CountsNext, CoversBut, uncovered_at, uncovered_by}
+use Rattle.stm_worker.specs.RiseCoverLaws.{alone-covers-but, none-failed, covers-all, covers-left, same-uncovered, turned-counts, turned-covers-but}
+use Rattle.stm_driver.specs.AllWorkers.{Enough, IsCovered, MetLimit}
 use Rattle.stm_driver.proofs.ScheduleLaws.{full-between, self-same}
 
 -- a transaction is still to do
@@ -73,14 +73,14 @@ idle-through good stm u w said t is =
     let over : IsOver (place_of u) = subst (MaySay (place_of u)) is t.here in
     (ap (λ (p : Place). p.left) now ∙ over.1, ap (λ (p : Place). p.chosen) now ∙ over.2)
 
--- what stays so of a worker from turn to turn: what is unpaid, and what is counted
-pub record KeepsPaid {K : Type 0} (stm : Stm K) (u w : Worker K) : Type 0 where
-  pub pays : (unpaid each most : ℕ) → Enough stm most u → most + 3 ≤ each → PaysBut unpaid each most u → PaysBut unpaid each most w
+-- what stays so of a worker from turn to turn: what is uncovered, and what is counted
+pub record KeepsCovered {K : Type 0} (stm : Stm K) (u w : Worker K) : Type 0 where
+  pub covers : (uncovered each most : ℕ) → Enough stm most u → most + 3 ≤ each → CoversBut uncovered each most u → CoversBut uncovered each most w
   pub enough : (most : ℕ) → Enough stm most u → Enough stm most w
   pub counts : CountsNext u → CountsNext w
 
-pub paid-self : {K : Type 0} (stm : Stm K) (u : Worker K) → KeepsPaid stm u u
-paid-self stm u = record { pays = λ unpaid each most e wide p. p; enough = λ most e. e; counts = λ h. h }
+pub covered-self : {K : Type 0} (stm : Stm K) (u : Worker K) → KeepsCovered stm u u
+covered-self stm u = record { covers = λ uncovered each most e wide p. p; enough = λ most e. e; counts = λ h. h }
 
 some-items : (left : List Item) → BeforeTx left → 0 < length left
 some-items [] b = absurd b
@@ -91,45 +91,45 @@ module _ {K : Type 0} (good : List ℕ → Type 0) (stm : Stm K) where
   few-failed w most s (inl much) off = let f = s.counted off in omega arith
   few-failed w most s (inr e) off = let f = e.1 in omega arith
 
-  -- what stays so pays for all that is done
-  pub paid-kept : (first w : Worker K) → Sound good stm w → KeepsPaid stm first w → IsPaid stm first w
-  paid-kept first w s k = record {
-    all = λ unpaid each most e wide counts p. pays-all unpaid each most w (k.counts counts) (few-failed w most s (k.enough most e)) (omega (arith, wide)) (k.pays unpaid each most e wide p);
+  -- what stays so covers all that is done
+  pub covered-kept : (first w : Worker K) → Sound good stm w → KeepsCovered stm first w → IsCovered stm first w
+  covered-kept first w s k = record {
+    all = λ uncovered each most e wide counts p. covers-all uncovered each most w (k.counts counts) (few-failed w most s (k.enough most e)) (omega (arith, wide)) (k.covers uncovered each most e wide p);
   }
 
-  pub paid-starved : (first u w : Worker K) → Starved good stm u w → KeepsPaid stm first u → IsPaid stm first w
-  paid-starved first u w t k = paid-kept first w t.sound (subst (KeepsPaid stm first) (sym t.still) k)
+  pub covered-starved : (first u w : Worker K) → Starved good stm u w → KeepsCovered stm first u → IsCovered stm first w
+  covered-starved first u w t k = covered-kept first w t.sound (subst (KeepsCovered stm first) (sym t.still) k)
 
-  module _ (first u w : Worker K) (said : Said) (s : Sound good stm u) (t : Turned good stm MaySay u said w) (kept : KeepsPaid stm first u) where
+  module _ (first u w : Worker K) (said : Said) (s : Sound good stm u) (t : Turned good stm MaySay u said w) (kept : KeepsCovered stm first u) where
     enough-next : (most : ℕ) → Enough stm most u → Enough stm most w
     enough-next most (inl much) = inl much
     enough-next most (inr e) = inr (e.0, none-failed good stm u said w s MaySay t e.0 e.1, e.2)
 
-    pays-next : (unpaid each most : ℕ) → Enough stm most u → most + 3 ≤ each → PaysBut unpaid each most u → PaysBut (unpaid + unpaid_by said) each most w
-    pays-next unpaid each most (inl much) wide p = turned-pays-but good stm u said w s unpaid each most t much wide p
-    pays-next unpaid each most (inr e) wide p = alone-pays-but good stm u said w s unpaid each most t e.1 e.2 wide p
+    covers-next : (uncovered each most : ℕ) → Enough stm most u → most + 3 ≤ each → CoversBut uncovered each most u → CoversBut (uncovered + uncovered_by said) each most w
+    covers-next uncovered each most (inl much) wide p = turned-covers-but good stm u said w s uncovered each most t much wide p
+    covers-next uncovered each most (inr e) wide p = alone-covers-but good stm u said w s uncovered each most t e.1 e.2 wide p
 
-    pays-after : (unpaid each most : ℕ) (clock : Option ℕ) → clock_of said ≡ clock → Enough stm most u → most + 3 ≤ each → PaysBut unpaid each most u → PaysBut (unpaid + unpaid_at clock) each most w
-    pays-after unpaid each most clock is e wide p =
-        subst (λ k. PaysBut (unpaid + k) each most w) (same-unpaid (place_of u) said t.here ∙ ap unpaid_at is) (pays-next unpaid each most e wide p)
+    covers-after : (uncovered each most : ℕ) (clock : Option ℕ) → clock_of said ≡ clock → Enough stm most u → most + 3 ≤ each → CoversBut uncovered each most u → CoversBut (uncovered + uncovered_at clock) each most w
+    covers-after uncovered each most clock is e wide p =
+        subst (λ k. CoversBut (uncovered + k) each most w) (same-uncovered (place_of u) said t.here ∙ ap uncovered_at is) (covers-next uncovered each most e wide p)
 
     -- a turn that found no full clock
-    pub paid-next : clock_of said ≡ None → KeepsPaid stm first w
-    paid-next calm = record {
-      pays = λ unpaid each most e wide p. (let h = pays-after unpaid each most None calm (kept.enough most e) wide (kept.pays unpaid each most e wide p) in omega (arith, h));
+    pub covered-next : clock_of said ≡ None → KeepsCovered stm first w
+    covered-next calm = record {
+      covers = λ uncovered each most e wide p. (let h = covers-after uncovered each most None calm (kept.enough most e) wide (kept.covers uncovered each most e wide p) in omega (arith, h));
       enough = λ most e. enough-next most (kept.enough most e);
       counts = λ h. turned-counts good stm u said w s t (kept.counts h);
     }
 
-    -- one that found it full is the last, and leaves an item that pays for it
-    pub paid-full : (clock : ℕ) → clock_of said ≡ Some clock → BeforeTx w.items_left.now → IsPaid stm first w
-    paid-full clock full left = record {
-      all = λ unpaid each most e wide counts p.
-          let h = pays-after unpaid each most (Some clock) full (kept.enough most e) wide (kept.pays unpaid each most e wide p) in
-          let r = pays-left (unpaid + 1) each most w (some-items w.items_left.now left) (few-failed w most t.sound (enough-next most (kept.enough most e))) (omega (arith, wide)) h in
+    -- one that found it full is the last, and leaves an item that covers it
+    pub covered-full : (clock : ℕ) → clock_of said ≡ Some clock → BeforeTx w.items_left.now → IsCovered stm first w
+    covered-full clock full left = record {
+      all = λ uncovered each most e wide counts p.
+          let h = covers-after uncovered each most (Some clock) full (kept.enough most e) wide (kept.covers uncovered each most e wide p) in
+          let r = covers-left (uncovered + 1) each most w (some-items w.items_left.now left) (few-failed w most t.sound (enough-next most (kept.enough most e))) (omega (arith, wide)) h in
           omega (arith, r);
     }
 
     -- nothing is left
-    pub paid-over : clock_of said ≡ None → IsPaid stm first w
-    paid-over calm = paid-kept first w t.sound (paid-next calm)
+    pub covered-over : clock_of said ≡ None → IsCovered stm first w
+    covered-over calm = covered-kept first w t.sound (covered-next calm)

@@ -18,7 +18,7 @@ use Rattle.stm_trace.specs.Turns.{BeforeTx, Lengthens}
 use Rattle.stm_worker.specs.declared.worker.Worker.{Worker}
 use Rattle.stm_worker.specs.Leavings.{MadeIdle}
 use Rattle.stm_trace.specs.Places.{most_failed}
-use Rattle.stm_worker.specs.Payments.{CountsNext, PaysBut, raised}
+use Rattle.stm_worker.specs.RiseCovers.{CountsNext, CoversBut, raised}
 use Rattle.stm_worker.specs.Workers.{IsSame, Loaded, Sound, Starts}
 use Rattle.stm_driver.specs.declared.schedule.Halt.{Halt}
 use Rattle.stm_driver.specs.declared.schedule.Halt.TheVariants.{ClockFull, Memory}
@@ -91,20 +91,20 @@ module _ {K : Type 0} where
   IsThrough w (Err (ClockFull clock)) = MetLimit w clock
   IsThrough w (Err Memory) = MetRefusal w
 
-  -- so many attempts of one transaction that fail are paid for: 16 are counted, and none where there is one caller
+  -- so many attempts of one transaction that fail are covered: 16 are counted, and none where there is one caller
   abbrev pub Enough : Stm K → ℕ → Worker K → Type 0
   Enough stm most w = (most_failed ≤ most) ⊎ ((stm.config.callers ≡ 1) × (w.failed ≡ 0) × (1 ≤ most))
 
-  -- its items pay for what its steps raised the clock by, but for what was unpaid before
-  pub record IsPaid (stm : Stm K) (u w : Worker K) : Type 0 where
-    pub all : (unpaid each most : ℕ) → Enough stm most u → most + 3 ≤ each → CountsNext u → PaysBut unpaid each most u → raised (known w.desc) ≤ each * length w.all.now + unpaid
+  -- its items cover what its steps raised the clock by, but for what was uncovered before
+  pub record IsCovered (stm : Stm K) (u w : Worker K) : Type 0 where
+    pub all : (uncovered each most : ℕ) → Enough stm most u → most + 3 ≤ each → CountsNext u → CoversBut uncovered each most u → raised (known w.desc) ≤ each * length w.all.now + uncovered
 
-  -- each paid
-  abbrev pub ArePaidFor : Stm K → List (Worker K) → List (Worker K) → Type 0
-  ArePaidFor stm [] [] = Unit {0}
-  ArePaidFor stm (u ∷ us) (w ∷ ws) = IsPaid stm u w × ArePaidFor stm us ws
-  ArePaidFor stm (u ∷ us) [] = ⊥
-  ArePaidFor stm [] (w ∷ ws) = ⊥
+  -- each covered
+  abbrev pub AreCoveredFor : Stm K → List (Worker K) → List (Worker K) → Type 0
+  AreCoveredFor stm [] [] = Unit {0}
+  AreCoveredFor stm (u ∷ us) (w ∷ ws) = IsCovered stm u w × AreCoveredFor stm us ws
+  AreCoveredFor stm (u ∷ us) [] = ⊥
+  AreCoveredFor stm [] (w ∷ ws) = ⊥
 
   module _ (good : List ℕ → Type 0) (stm : Stm K) where
     pub record IsReady (r : CachePadded (Runner K)) : Type 0 where
@@ -116,7 +116,7 @@ module _ {K : Type 0} where
       pub same : IsSame (worker_in r) (worker_in s)
       pub between : (worker_in s).phase ≡ Between
       pub through : IsThrough (worker_in s) (padded_value s).how
-      pub paid : IsPaid stm (worker_in r) (worker_in s)
+      pub covered : IsCovered stm (worker_in r) (worker_in s)
 
   module _ (good : List ℕ → Type 0) (stm : Stm K) where
     -- each ended without a row

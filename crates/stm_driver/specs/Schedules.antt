@@ -42,9 +42,9 @@ module _ {K : Type 0} where
   abbrev pub debts : List (Worker K) → ℕ
   debts ws = sum_by (λ (w : Worker K). owed (known w.desc)) ws
 
-  -- each line that was added pays for two rises of the clock
-  abbrev pub ArePaid : List (Worker K) → List (Worker K) → List Line → List Line → Type 0
-  ArePaid ws vs old new = debts vs + 2 * length old ≤ debts ws + 2 * length new
+  -- each line that was added covers two rises of the clock
+  abbrev pub AreCovered : List (Worker K) → List (Worker K) → List Line → List Line → Type 0
+  AreCovered ws vs old new = debts vs + 2 * length old ≤ debts ws + 2 * length new
 
   -- a caller with nothing open loaded this full clock
   abbrev pub FoundFull : List (Worker K) → ℕ → Type 0
@@ -54,8 +54,8 @@ module _ {K : Type 0} where
   module _ (config : Config) (may : Place → Said → Type 0) where
     -- turns of these callers in this order, or up to a full clock
     abbrev pub Plays : List (Worker K) → List (Worker K) → List Line → List Line → List ℕ → Result (Unit {0}) Halt → Type 0
-    Plays ws vs old new order (Ok x) = ((h : Header) → HasSizes config h → Played h may (places ws) (places vs) old new order) × ArePaid ws vs old new
-    Plays ws vs old new order (Err (ClockFull clock)) = ((h : Header) → HasSizes config h → Halted h may (places ws) (places vs) old new order clock) × ArePaid ws vs old new × FoundFull vs clock
+    Plays ws vs old new order (Ok x) = ((h : Header) → HasSizes config h → Played h may (places ws) (places vs) old new order) × AreCovered ws vs old new
+    Plays ws vs old new order (Err (ClockFull clock)) = ((h : Header) → HasSizes config h → Halted h may (places ws) (places vs) old new order clock) × AreCovered ws vs old new × FoundFull vs clock
     Plays ws vs old new order (Err Memory) = Unit {0}
 
     module _ (holds : Place → Type 0) where
@@ -67,11 +67,11 @@ module _ {K : Type 0} where
       -- the turns of all callers below n, one caller behind the other
       pub record Rounded (n : ℕ) (ws vs : List (Worker K)) (old new : List Line) : Type 0 where
         pub round : (h : Header) → HasSizes config h → WentRound h may holds n (places ws) (places vs) old new
-        pub paid : ArePaid ws vs old new
+        pub covered : AreCovered ws vs old new
 
       abbrev pub Rounds : List (Worker K) → List (Worker K) → List Line → List Line → Result (Unit {0}) Halt → Type 0
       Rounds ws vs old new (Ok x) = Rounded (length ws) ws vs old new
-      Rounds ws vs old new (Err (ClockFull clock)) = ((h : Header) → HasSizes config h → HaltedRound h may holds (places ws) (places vs) old new clock) × ArePaid ws vs old new × FoundFull vs clock
+      Rounds ws vs old new (Err (ClockFull clock)) = ((h : Header) → HasSizes config h → HaltedRound h may holds (places ws) (places vs) old new clock) × AreCovered ws vs old new × FoundFull vs clock
       Rounds ws vs old new (Err Memory) = Unit {0}
 
   module _ (good : List ℕ → Type 0) (stm : Stm K) where

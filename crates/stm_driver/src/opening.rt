@@ -4,7 +4,6 @@ ghost use Rattle.stm_text.specs.Built.{HeaderFits};
 ghost use Rattle.stm_rule.specs.Callers.{IsOf, IsSameCaller};
 ghost use Rattle.tx_answers.specs.Answers.{SeesQuiet};
 ghost use Rattle.tx_answers.specs.Known.{caller_of};
-ghost use Rattle.stm_model.specs.Algorithms.{is_built};
 ghost use Rattle.stm_tx.specs.Descs.{known};
 ghost use Rattle.stm_driver.specs.Openings.{IsNew, HoldsGate, OpensFor, SameLengths};
 
@@ -47,7 +46,6 @@ pub fn open<R: Wait, K: MemRule + Drop>(
 fn install_first<R: Wait, K: MemRule>(rt: &R, stm: &Stm<K>, desc: &mut Desc<K>, alg: Alg)
     requires own { IsOf desc.old stm.now }
     requires new { IsNew [] (known desc.old) }
-    requires offered { is_built alg ≡ true }
     ensures same { IsSameCaller desc.old desc.new }
     ensures new { IsNew (alg ∷ []) (known desc.new) }
     ensures lengths { SameLengths (known desc.old) (known desc.new) }

@@ -4,7 +4,7 @@ ghost use Rattle.crossbeam_utils.specs.declared.cache_padded.CachePadded.{CacheP
 ghost use Rattle.stm_trace.specs.declared.said.Phase.TheVariants.{Between};
 ghost use Rattle.stm_worker.specs.Workers.{IsSame, Sound};
 ghost use Rattle.stm_driver.specs.declared.workers.Runner.{Runner};
-ghost use Rattle.stm_driver.specs.AllWorkers.{IsThrough, IsReady, IsPaid, Finished};
+ghost use Rattle.stm_driver.specs.AllWorkers.{IsThrough, IsReady, IsCovered, Finished};
 
 use crate::schedule::Halt;
 use crate::workers::Runner;
@@ -74,7 +74,7 @@ fn work<R: Wait, K: MemRule, G: Turnstile>(
     ensures same { IsSame w.old w.new }
     ensures between { w.new.phase ≡ Phase.Between }
     ensures through { IsThrough w.new result }
-    ensures paid { IsPaid stm.now w.old w.new }
+    ensures covered { IsCovered stm.now w.old w.new }
 {
     let mut backoff = Backoff::new();
     for _ in rt.forever() {

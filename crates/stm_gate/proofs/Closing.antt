@@ -16,7 +16,6 @@ use Rattle.rule_base.specs.StepKinds.{Nothing, Tells, view_after}
 use Rattle.rule_base.specs.World.{World}
 use Rattle.stm_rule.specs.Attempts.{IsOutside}
 use Rattle.stm_rule.specs.Findings.{FindsGate, FindsTaken}
-use Rattle.stm_model.specs.Algorithms.{is_built}
 use Rattle.tx_answers.specs.declared.answers.CloseGate.TheVariants.{Closed, Taken}
 use Rattle.tx_answers.specs.Answers.{Closes, ClosesGate, Stays}
 use Rattle.tx_answers.specs.Causes.{NamesOther}
@@ -84,7 +83,7 @@ module _ (good : List ℕ → Type 0) (c : Config) (n : ℕ) where
       apart = grind (arith, nat_tests)
 
       who : NamesOther c n (holder_of found)
-      who = k.1.closer other
+      who = k.1 other
 
       last : View
       last = view_after (depart n) d.0 (taken a.0 l.0 k.0 v gate found) 0
@@ -109,7 +108,6 @@ module _ (good : List ℕ → Type 0) (c : Config) (n : ℕ) where
     rises = refl;
     installs = refl;
     gate = (gate, (record { place = Status n; act = Store 0; found = None } ∷ record { place = Gate; act = Exchange gate (gate_word (fence_of gate) (1 + n) (alg_of gate)); found = Some found } ∷ record { place = Gate; act = Load; found = Some gate } ∷ record { place = Status n; act = Store announced; found = None } ∷ [], refl, Load, (2, omega arith, refl)), free, sym named);
-    built = ap is_built named ∙ subst (λ x. is_built (alg_of x) ≡ true) same k.1.built;
   })
     where
       here : (found == gate) ≡ true

@@ -15,7 +15,6 @@ use Rattle.rule_base.specs.InstallSteps.{settle, even_clock, store_base, store_d
 use Rattle.rule_base.specs.Own.{Own}
 use Rattle.rule_base.specs.StepKinds.{Nothing, Tells, view_after}
 use Rattle.rule_base.specs.declared.views.Phase.TheVariants.{Idle, In, Closing}
-use Rattle.stm_model.specs.Algorithms.{is_built}
 use Rattle.stm_rule.specs.declared.local.Local.{Local}
 use Rattle.stm_rule.specs.Attempts.{IsClosing, HasRoom, StandsBy, Stands}
 use Rattle.stm_rule.specs.Findings.{FindsWithin}
@@ -69,16 +68,15 @@ module _ (good : List ℕ → Type 0) (c : Config) (n : ℕ) where
       path = d.2 ∙ ap (λ x. view_after (install n fence alg) d.0 x (gate_word fence (1 + n) alg)) (b.2 ∙ ap (λ x. view_after (store_done t) b.0 x t) (a.2 ∙ ap (λ x. view_after (store_base t) a.0 x t) z.is))
 
 -- who installed goes on closing, under the new algorithm
-pub closing-installed : (callers n : ℕ) (fence : ℕ) (alg : Alg) (l : Local) (t : ℕ) (v s u y w : View) → IsClosing callers n l v → is_built alg ≡ true → Settles alg t v s
+pub closing-installed : (callers n : ℕ) (fence : ℕ) (alg : Alg) (l : Local) (t : ℕ) (v s u y w : View) → IsClosing callers n l v → Settles alg t v s
     → Tells (store_base t) Nothing s t u → Tells (store_done t) Nothing u t y → Tells (install n fence alg) Nothing y (gate_word fence (1 + n) alg) w → IsClosing callers n (record l { algorithm = alg }) w
-closing-installed callers n fence alg l t v s u y w k built z a b d = subst (IsClosing callers n (record l { algorithm = alg })) (sym path) (record {
+closing-installed callers n fence alg l t v s u y w k z a b d = subst (IsClosing callers n (record l { algorithm = alg })) (sym path) (record {
   phase = k.phase;
   absent = k.absent;
   holds = k.holds;
   named = refl;
   guarded = record { is = k.guarded.is; fits = k.guarded.fits };
   ungiven = k.ungiven;
-  built = built;
   ungranted = k.ungranted;
   clear = record { unlocked = k.clear.unlocked; unfixed = k.clear.unfixed; disowned = k.clear.disowned; unwritten = k.clear.unwritten; uncommitted = k.clear.uncommitted; unentered = refl };
   unentered = k.unentered;

@@ -95,7 +95,7 @@ module _ (c : Config) (n : ℕ) where
   seizes-taken fence alg gate found v s w low other t k =
       let apart : (found == gate_word fence 0 alg) ≡ false = grind (arith, nat_tests) in
       let path = seize_path fence alg gate found v s w false apart t k in
-      let who = k.1.closer other in (
+      let who = k.1 other in (
         (items_of gate found fence alg, path),
         (items_of gate found fence alg, ap (λ (y : View). y.steps.trail) path, Exchange (gate_word fence 0 alg) (gate_word fence (1 + n) alg), (0, omega arith, refl)),
         who,
@@ -290,7 +290,6 @@ module _ (c : Config) (n : ℕ) where
           phase = i.phase;
           named = i.named;
           spared = record { is = i.spared.is; fits = i.spared.fits };
-          built = i.built;
           disowned = i.disowned;
           unentered = i.unentered;
           start = i.start;

@@ -1,6 +1,6 @@
 -- What the begin of an algorithm asks and tells, where the caller is not between two calls.
 use Rattle.std.specs.Prelude.{ℕ, ◌≡◌, ◌<◌, ◌≤◌, true, false, List, [], Result, Ok, Err}
-use Rattle.stm_model.specs.Algorithms.{is_built, asks_at_begin}
+use Rattle.stm_model.specs.Algorithms.{asks_at_begin}
 use Rattle.stm_model.specs.declared.alg.Alg.{Alg}
 use Rattle.stm_model.specs.declared.config.Config.{Config}
 use Rattle.rule_base.specs.declared.views.Phase.TheVariants.{In}
@@ -19,7 +19,6 @@ use Rattle.tx_answers.specs.Known.{Known, Grows, known_of, no_log}
 pub record CanBegin (alg : Alg) (v : View) : Type 0 where
   pub phase : v.gate.phase ≡ In
   pub named : v.gate.algorithm ≡ alg
-  pub built : is_built alg ≡ true
   pub reopened : v.gate.holds ≡ false
   pub ungranted : v.gate.granted ≡ false
   pub clear : IsClear v

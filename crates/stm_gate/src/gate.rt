@@ -13,7 +13,6 @@ ghost use Rattle.stm_rule.specs.Callers.{IsOf, IsSameCaller, IsSeatOf};
 ghost use Rattle.stm_rule.specs.Kept.{IsSameSeat, view_of};
 ghost use Rattle.tx_answers.specs.Answers.{Closes, Looks, Installs, Reopens, HoldsClosed, SeesQuiet};
 ghost use Rattle.tx_answers.specs.Known.{IsIdle};
-ghost use Rattle.stm_model.specs.Algorithms.{is_built};
 ghost use Rattle.stm_gate.specs.Installing.{Settles};
 ghost use Rattle.stm_gate.specs.Knowing.{known, number};
 
@@ -74,7 +73,6 @@ pub fn install<K: MemRule>(desc: &mut Desc<K>, stm: &Stm<K>, alg: Alg)
     requires stm { IsOf desc.old stm.now }
     requires closing { HoldsClosed (known desc.old) }
     requires quiet { SeesQuiet (K.good stm.now.rule) stm.now.config (number desc.old) (known desc.old) }
-    requires built { is_built alg ≡ true }
     ensures same { IsSameCaller desc.old desc.new }
     ensures installs { Installs (K.good stm.now.rule) stm.now.config (number desc.old) alg (known desc.old) (known desc.new) }
     ensures steps { AddsAtMost 5 (known desc.old) (known desc.new) }

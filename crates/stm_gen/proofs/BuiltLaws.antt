@@ -5,9 +5,6 @@ use Rattle.std.proofs.Math.Nat.{mod-lt}
 use Rattle.std.proofs.lemmas.Bool.Decides.{nat_tests}
 use Rattle.std.proofs.lemmas.List.{length-append}
 use Rattle.std.proofs.lemmas.List.Elements.{All-nil, All-cons, All-push, All-append}
-use Rattle.stm_model.specs.declared.alg.Alg.{Alg}
-use Rattle.stm_model.specs.declared.alg.Alg.TheVariants.{Cgl, Tml, OrecLazy, OrecEager, RingSw, Serial}
-use Rattle.stm_model.specs.Algorithms.{is_built}
 use Rattle.stm_script.specs.Operations.{is_irrev}
 use Rattle.stm_script.specs.declared.op.Op.{Op}
 use Rattle.stm_script.specs.declared.op.Op.TheVariants.{Write, Count, ListInsert}
@@ -29,7 +26,6 @@ header-fits callers some few = record {
     clock = omega arith;
   };
   words = omega arith;
-  alg = refl;
   layout = (inr (refl, omega arith), refl);
 }
 
@@ -95,19 +91,11 @@ operation-fits callers seed i = by (i % 4 == 2) (i % 4 == 3)
 
 -- the items
 
-all-built : (alg : Alg) → is_built alg ≡ true
-all-built Cgl = refl
-all-built Tml = refl
-all-built OrecLazy = refl
-all-built OrecEager = refl
-all-built RingSw = refl
-all-built Serial = refl
-
 switch-fits : (callers i : ℕ) → 1 ≤ callers → All (ItemFits (header_for callers)) (switch_behind i)
 switch-fits callers i some = by (i % 16 == 15)
   where
     by : (t : Bool) → All (ItemFits (header_for callers)) (if t then Switch 0 (switched (suc (i / 16))) ∷ [] else [])
-    by true = All-cons (ItemFits (header_for callers)) (Switch 0 (switched (suc (i / 16)))) [] (some, all-built (switched (suc (i / 16)))) (All-nil (ItemFits (header_for callers)))
+    by true = All-cons (ItemFits (header_for callers)) (Switch 0 (switched (suc (i / 16)))) [] some (All-nil (ItemFits (header_for callers)))
     by false = All-nil (ItemFits (header_for callers))
 
 items-fit : (n callers seed : ℕ) → 1 ≤ callers → All (ItemFits (header_for callers)) (items_for n callers seed)

@@ -3,15 +3,6 @@ use Rattle.std.specs.Prelude.{ℕ, ◌||◌, Bool, true, false, List, codes}
 use Rattle.stm_model.specs.declared.alg.Alg.{Alg}
 use Rattle.stm_model.specs.declared.alg.Alg.TheVariants.{Cgl, Tml, OrecLazy, OrecEager, RingSw, Serial}
 
--- the algorithms that are built: only these are installed
-abbrev pub is_built : Alg → Bool
-is_built Cgl = true
-is_built Tml = true
-is_built OrecLazy = true
-is_built OrecEager = true
-is_built RingSw = true
-is_built Serial = true
-
 -- the name in workloads and traces
 abbrev pub alg_name : Alg → List ℕ
 alg_name Cgl = codes "CGL"

@@ -30,21 +30,7 @@ pub const ALGORITHMS: [Alg; 6] = [
 
 impl Alg {
     ghost use Rattle.std.specs.Prelude.{◌≡◌};
-    ghost use Rattle.stm_model.specs.Algorithms.{alg_name, alg_number, begins_even, entry_rise, is_built, irrevocable_under};
-
-    /// Whether the algorithm is built; only such a one is installed.
-    pub fn is_built(self) -> bool
-        ensures { result ≡ is_built self }
-    {
-        match self {
-            Alg::Cgl => true,
-            Alg::Tml => true,
-            Alg::OrecLazy => true,
-            Alg::OrecEager => true,
-            Alg::RingSw => true,
-            Alg::Serial => true,
-        }
-    }
+    ghost use Rattle.stm_model.specs.Algorithms.{alg_name, alg_number, begins_even, entry_rise, irrevocable_under};
 
     /// The name in workloads and traces.
     pub fn name(self) -> &'static str

@@ -1,5 +1,6 @@
 -- Every list of steps of the core keeps the rule.
-use Rattle.std.proofs.Common.{◌≡◌, ◌≢◌, ◌<◌, ℕ, zero, suc, List, [], ◌∷◌, true, replicate, refl, sym, subst, arith}
+use Rattle.std.proofs.Common.{◌≡◌, ◌≢◌, ◌<◌, ℕ, zero, suc, List, [], ◌∷◌, true, replicate, drop, refl, sym, subst, arith}
+use Rattle.stm_model.specs.declared.alg.Alg.TheVariants.{Tml, RingSw}
 use Rattle.stm_model.specs.declared.config.Config.{Config}
 use Rattle.rule_base.specs.EncodingLemmas.{fenced-none}
 use Rattle.rule_base.specs.Bridge.{of_words}
@@ -12,7 +13,7 @@ use Rattle.rule_base.specs.declared.views.View.{View}
 use Rattle.rule_base.specs.World.{World}
 use Rattle.rule_seq.specs.CglRuns.CglStep.{acquires_lock, loads_start, loads_heap, stores_heap, stores_clock, frees_lock, loads_undo, loads_limit, takes_back}
 use Rattle.rule_seq.specs.TmlRuns.TmlStep.{tml_begins, tml_loads, tml_agains, tml_writes, tml_stores, tml_commits}
-use Rattle.stm_rule.specs.CoreRuns.{CoreStep, core_kind, CoreMay, CoreOpens, CoreCommits, CoreInstalls, CorePromotes, CoreRings}
+use Rattle.stm_rule.specs.CoreRuns.{CoreStep, core_kind, CoreMay, CoreOpens, CoreCommits, CoreInstalls, CorePromotes, CoreRings, one_of_each, two_by_ring}
 use Rattle.stm_rule.specs.CoreRuns.CoreStep.{announces, loads_gate, departs, aims, takes_gate, checks, reopens, settles, evens_clock, stores_base, stores_done, installs, of_cgl, of_tml, looks_gate, seizes, grants, direct_loads, direct_stores, direct_commits, direct_quits, returns, fences, fence_loads, fence_stores, fence_commits, unfences, hears, loads_end, of_ring, look_grants, move_grants, of_orec, orec_grants, orec_grants_all, direct_releases}
 use Rattle.rule_orec.specs.OrecRuns.OrecStep.{orec_begins, orec_samples, orec_loads, orec_confirms, orec_clocks, orec_clocks_all, orec_passes, orec_lasts, orec_looks, orec_limits, orec_locks, orec_commits, orec_writes_back, orec_times, orec_olds, orec_ups, orec_own_loads, orec_saves, orec_places, orec_restores, orec_lifts}
 use Rattle.stm_rule.specs.FencingLaws as fencing
@@ -22,6 +23,7 @@ use Rattle.rule_ring.specs.SlotFilter.{slot_filter}
 use Rattle.rule_ring.specs.RingSteps.{ring_word, ring_again, ring_slot}
 use Rattle.rule_ring.specs.RingRuns.RingStep.{ring_begins, ring_loads, ring_looks, ring_words, ring_agains, ring_moves, ring_locks, ring_ticks, ring_slots, ring_enters, ring_writes, ring_dones, ring_frees}
 use Rattle.stm_rule.specs.Product.{Whole}
+use Rattle.stm_rule.proofs.Taken.{◌▸◌, may-install}
 use Rattle.stm_rule.proofs.Opens.{whole_opens, opening_lies}
 
 -- what every law of a kind gives
@@ -40,7 +42,7 @@ one_step good c n settles w r m = kept_by (lifted.settles good c n w r m.1)
 one_step good c n (evens_clock time) w r m = kept_by (lifted.evens_clock good c n time m.0 w r m.1)
 one_step good c n (stores_base time) w r m = kept_by (lifted.stores_base good c n time w r m.1)
 one_step good c n (stores_done time) w r m = kept_by (lifted.stores_done good c n time w r m.1)
-one_step good c n (installs fence alg) w r m = kept_by (lifted.installs good c n fence alg m.1.0 w r m.1.1)
+one_step good c n (installs fence alg) w r m = kept_by (lifted.installs good c n fence alg w r m.1)
 one_step good c n (of_cgl acquires_lock) w r m = kept_by (lifted.acquires_lock good c n w r m.1)
 one_step good c n (of_cgl loads_start) w r m = kept_by (lifted.loads_start good c n w r m.1)
 one_step good c n (of_cgl (loads_heap a)) w r m = kept_by (lifted.loads_heap good c n a w r m.1)
@@ -116,236 +118,83 @@ core_opens_lem good c config start = (whole_opens (of_words good c.words) c conf
 
 pub core_commits_lem : (good : (ℕ → ℕ) → Type 0) (c : Config) → CoreCommits good c
 core_commits_lem good c a x callers clock inside small keeps = (
-  (
-    (callers, refl),
-    (
-      (callers, refl),
-      (
-        (callers, record { phase = refl; algorithm = refl; free = refl }),
-        (
-          (callers, record { has = record { phase = refl; algorithm = refl; taken = refl }; unstarted = refl }),
-          (
-            (callers, (record { has = record { phase = refl; algorithm = refl; taken = refl }; started = refl; inside = inside }, fenced-none a)),
-            (
-              (callers, (record { has = record { phase = refl; algorithm = refl; taken = refl }; started = refl; inside = inside; small = small; undoable = λ e. absurd cc }, fenced-none a)),
-              (
-                (callers, record { has = record { phase = refl; algorithm = refl; taken = refl }; started = refl; free = refl; time = refl; limit = omega arith; wrote = λ e. cc; keeps = keeps }),
-                (
-                  (callers, record { has = record { phase = refl; algorithm = refl; taken = refl }; unstored = refl }),
-                  (
-                    (callers, record { phase = refl; reopened = λ e. refl; unlocked = refl; disowned = refl; unwritten = refl; uncommitted = refl; unentered = λ e. refl }),
-                    tt,
-                  ),
-                ),
-              ),
-            ),
-          ),
-        ),
-      ),
-    ),
-  ),
+  (callers, refl)
+      ▸ (callers, refl)
+      ▸ (callers, record { phase = refl; algorithm = refl; free = refl })
+      ▸ (callers, record { has = record { phase = refl; algorithm = refl; taken = refl }; unstarted = refl })
+      ▸ (callers, (record { has = record { phase = refl; algorithm = refl; taken = refl }; started = refl; inside = inside }, fenced-none a))
+      ▸ (callers, (record { has = record { phase = refl; algorithm = refl; taken = refl }; started = refl; inside = inside; small = small; undoable = λ e. absurd cc }, fenced-none a))
+      ▸ (callers, record { has = record { phase = refl; algorithm = refl; taken = refl }; started = refl; free = refl; time = refl; limit = omega arith; wrote = λ e. cc; keeps = keeps })
+      ▸ (callers, record { has = record { phase = refl; algorithm = refl; taken = refl }; unstored = refl })
+      ▸ (callers, record { phase = refl; reopened = λ e. refl; unlocked = refl; disowned = refl; unwritten = refl; uncommitted = refl; unentered = λ e. refl })
+      ▸ tt,
   refl,
 )
 
 pub core_promotes_lem : (good : (ℕ → ℕ) → Type 0) (c : Config) → CorePromotes good c
 core_promotes_lem good c x inside small keeps = (
-  (
-    ((omega arith), refl),
-    (
-      ((omega arith), refl),
-      (
-        ((omega arith), record { phase = refl; aimed = refl }),
-        (
-          ((omega arith), record { phase = refl; reopened = λ e. absurd cc; unlocked = refl; disowned = refl; unwritten = refl; uncommitted = refl; unentered = λ e. refl }),
-          (
-            ((omega arith), record { holds = refl; quiet = λ k l o. absurd (o (omega arith)) }),
-            (
-              ((omega arith), record { closing = λ e. refl; calm = refl; time = refl }),
-              (
-                ((omega arith), record { closing = λ e. refl; calm = refl; time = refl }),
-                (
-                  ((omega arith), (refl, record { phase = refl; guarded = refl; ungiven = refl; calm = refl; rebased = refl; completed = refl; even = λ e. refl })),
-                  (
-                    ((omega arith), record { phase = refl; absent = refl; named = refl; guarded = refl; ungiven = refl; unentered = refl }),
-                    (
-                      ((omega arith), refl),
-                      (
-                        ((omega arith), refl),
-                        (
-                          ((omega arith), record { runs = record { phase = refl; algorithm = refl; plain = refl }; outside = refl; unwritten = refl }),
-                          (
-                            ((omega arith), (record { has = record { runs = record { phase = refl; algorithm = refl; plain = refl }; inside = refl }; inside = inside }, fenced-none 0)),
-                            (
-                              ((omega arith), record { has = record { runs = record { phase = refl; algorithm = refl; plain = refl }; inside = refl }; reads = refl }),
-                              (
-                                ((omega arith), record { has = record { runs = record { phase = refl; algorithm = refl; plain = refl }; inside = refl }; reads = refl; start = refl; limit = omega arith; settled = refl; uncalm = refl }),
-                                (
-                                  ((omega arith), (record { has = record { runs = record { phase = refl; algorithm = refl; plain = refl }; inside = refl }; writes = refl; inside = inside; small = small }, fenced-none 0)),
-                                  (
-                                    ((omega arith), record { has = record { runs = record { phase = refl; algorithm = refl; plain = refl }; inside = refl }; writes = refl; uncalm = refl; time = refl; limit = omega arith; wrote = λ e. cc; keeps = keeps 0 }),
-                                    (
-                                      ((omega arith), record { phase = refl; reopened = λ e. refl; unlocked = refl; disowned = refl; unwritten = refl; uncommitted = refl; unentered = λ e. refl }),
-                                      (
-                                        ((omega arith), refl),
-                                        (
-                                          ((omega arith), refl),
-                                          (
-                                            ((omega arith), record { runs = record { phase = refl; algorithm = refl; plain = refl }; outside = refl; unwritten = refl }),
-                                            (
-                                              ((omega arith), refl),
-                                              (
-                                                ((omega arith), record { phase = refl; named = refl; spared = refl; free = refl }),
-                                                (
-                                                  ((omega arith), record { has = record { runs = record { phase = refl; algorithm = refl; plain = refl }; inside = refl }; reads = refl; unlocked = refl; holds = refl; quiet = λ k l o. absurd (o (omega arith)) }),
-                                                  (
-                                                    ((omega arith), (record { granted = refl; inside = inside }, fenced-none 0)),
-                                                    (
-                                                      ((omega arith), (record { granted = refl; inside = inside; small = small }, fenced-none 0)),
-                                                      (
-                                                        ((omega arith), record { phase = refl; granted = refl; named = refl; time = refl; limit = omega arith; wrote = λ e. cc; keeps = keeps x }),
-                                                        (
-                                                          ((omega arith), record { closing = λ e. absurd cc; calm = refl; time = refl }),
-                                                          (
-                                                            ((omega arith), record { closing = λ e. absurd cc; calm = refl; time = refl }),
-                                                            (
-                                                              ((omega arith), record { phase = refl; holds = refl; named = refl; spared = refl; marked = λ e. (refl, refl); unstored = refl; unlocked = refl; disowned = refl; unwritten = refl; uncommitted = refl; plain = λ e. absurd cc }),
-                                                              (
-                                                                ((omega arith), record { phase = refl; reopened = λ e. refl; unlocked = refl; disowned = refl; unwritten = refl; uncommitted = refl; unentered = λ e. refl }),
-                                                                (
-                                                                  ((omega arith), refl),
-                                                                  (
-                                                                    ((omega arith), refl),
-                                                                    (
-                                                                      ((omega arith), record { phase = refl; aimed = refl }),
-                                                                      (
-                                                                        ((omega arith), record { phase = refl; reopened = λ e. absurd cc; unlocked = refl; disowned = refl; unwritten = refl; uncommitted = refl; unentered = λ e. refl }),
-                                                                        (
-                                                                          ((omega arith), record { holds = refl; quiet = λ k l o. absurd (o (omega arith)) }),
-                                                                          (
-                                                                            ((omega arith), record { closing = λ e. refl; calm = refl; time = refl }),
-                                                                            (
-                                                                              ((omega arith), record { closing = λ e. refl; calm = refl; time = refl }),
-                                                                              (
-                                                                                ((omega arith), (refl, record { phase = refl; guarded = refl; ungiven = refl; calm = refl; rebased = refl; completed = refl; even = λ e. absurd cc })),
-                                                                                (
-                                                                                  ((omega arith), record { phase = refl; absent = refl; named = refl; guarded = refl; ungiven = refl; unentered = refl }),
-                                                                                  (
-                                                                                    ((omega arith), refl),
-                                                                                    (
-                                                                                      ((omega arith), refl),
-                                                                                      (
-                                                                                        ((omega arith), record { phase = refl; algorithm = refl; free = refl }),
-                                                                                        (
-                                                                                          ((omega arith), record { has = record { phase = refl; algorithm = refl; taken = refl }; unstarted = refl }),
-                                                                                          (
-                                                                                            ((omega arith), (record { has = record { phase = refl; algorithm = refl; taken = refl }; started = refl; inside = inside }, fenced-none 0)),
-                                                                                            (
-                                                                                              ((omega arith), (record { has = record { phase = refl; algorithm = refl; taken = refl }; started = refl; revocable = refl; fresh = refl }, fenced-none 0)),
-                                                                                              (
-                                                                                                ((omega arith), record { has = record { phase = refl; algorithm = refl; taken = refl }; started = refl }),
-                                                                                                (
-                                                                                                  ((omega arith), (record { has = record { phase = refl; algorithm = refl; taken = refl }; started = refl; inside = inside; small = omega arith; undoable = λ e. refl }, fenced-none 0)),
-                                                                                                  (
-                                                                                                    ((omega arith), record { has = record { phase = refl; algorithm = refl; taken = refl }; started = refl; logged = refl; value = refl }),
-                                                                                                    (
-                                                                                                      ((omega arith), record { has = record { phase = refl; algorithm = refl; taken = refl }; started = refl }),
-                                                                                                      (
-                                                                                                        ((omega arith), (record { has = record { phase = refl; algorithm = refl; taken = refl }; started = refl; inside = inside; small = small; undoable = λ e. absurd cc }, fenced-none 0)),
-                                                                                                        (
-                                                                                                          ((omega arith), record { has = record { phase = refl; algorithm = refl; taken = refl }; started = refl; free = refl; time = refl; limit = omega arith; wrote = λ e. cc; keeps = keeps x }),
-                                                                                                          (
-                                                                                                            ((omega arith), record { has = record { phase = refl; algorithm = refl; taken = refl }; unstored = refl }),
-                                                                                                            (
-                                                                                                              ((omega arith), record { phase = refl; reopened = λ e. refl; unlocked = refl; disowned = refl; unwritten = refl; uncommitted = refl; unentered = λ e. refl }),
-                                                                                                              tt,
-                                                                                                            ),
-                                                                                                          ),
-                                                                                                        ),
-                                                                                                      ),
-                                                                                                    ),
-                                                                                                  ),
-                                                                                                ),
-                                                                                              ),
-                                                                                            ),
-                                                                                          ),
-                                                                                        ),
-                                                                                      ),
-                                                                                    ),
-                                                                                  ),
-                                                                                ),
-                                                                              ),
-                                                                            ),
-                                                                          ),
-                                                                        ),
-                                                                      ),
-                                                                    ),
-                                                                  ),
-                                                                ),
-                                                              ),
-                                                            ),
-                                                          ),
-                                                        ),
-                                                      ),
-                                                    ),
-                                                  ),
-                                                ),
-                                              ),
-                                            ),
-                                          ),
-                                        ),
-                                      ),
-                                    ),
-                                  ),
-                                ),
-                              ),
-                            ),
-                          ),
-                        ),
-                      ),
-                    ),
-                  ),
-                ),
-              ),
-            ),
-          ),
-        ),
+  may-install good c c.records Tml (drop 11 (one_of_each good (record c { callers = 1; clock = 0 }) x)) (
+      (omega arith, record { runs = record { phase = refl; algorithm = refl; plain = refl }; outside = refl; unwritten = refl })
+      ▸ (omega arith, (record { has = record { runs = record { phase = refl; algorithm = refl; plain = refl }; inside = refl }; inside = inside }, fenced-none 0))
+      ▸ (omega arith, record { has = record { runs = record { phase = refl; algorithm = refl; plain = refl }; inside = refl }; reads = refl })
+      ▸ (omega arith, record { has = record { runs = record { phase = refl; algorithm = refl; plain = refl }; inside = refl }; reads = refl; start = refl; limit = omega arith; settled = refl; uncalm = refl })
+      ▸ (omega arith, (record { has = record { runs = record { phase = refl; algorithm = refl; plain = refl }; inside = refl }; writes = refl; inside = inside; small = small }, fenced-none 0))
+      ▸ (omega arith, record { has = record { runs = record { phase = refl; algorithm = refl; plain = refl }; inside = refl }; writes = refl; uncalm = refl; time = refl; limit = omega arith; wrote = λ e. cc; keeps = keeps 0 })
+      ▸ (omega arith, record { phase = refl; reopened = λ e. refl; unlocked = refl; disowned = refl; unwritten = refl; uncommitted = refl; unentered = λ e. refl })
+      ▸ (omega arith, refl)
+      ▸ (omega arith, refl)
+      ▸ (omega arith, record { runs = record { phase = refl; algorithm = refl; plain = refl }; outside = refl; unwritten = refl })
+      ▸ (omega arith, refl)
+      ▸ (omega arith, record { phase = refl; named = refl; spared = refl; free = refl })
+      ▸ (omega arith, record { has = record { runs = record { phase = refl; algorithm = refl; plain = refl }; inside = refl }; reads = refl; unlocked = refl; holds = refl; quiet = λ k l o. absurd (o (omega arith)) })
+      ▸ (omega arith, (record { granted = refl; inside = inside }, fenced-none 0))
+      ▸ (omega arith, (record { granted = refl; inside = inside; small = small }, fenced-none 0))
+      ▸ (omega arith, record { phase = refl; granted = refl; named = refl; time = refl; limit = omega arith; wrote = λ e. cc; keeps = keeps x })
+      ▸ (omega arith, record { closing = λ e. absurd cc; calm = refl; time = refl })
+      ▸ (omega arith, record { closing = λ e. absurd cc; calm = refl; time = refl })
+      ▸ (omega arith, record { phase = refl; holds = refl; named = refl; spared = refl; marked = λ e. (refl, refl); unstored = refl; unlocked = refl; disowned = refl; unwritten = refl; uncommitted = refl; plain = λ e. absurd cc })
+      ▸ (omega arith, record { phase = refl; reopened = λ e. refl; unlocked = refl; disowned = refl; unwritten = refl; uncommitted = refl; unentered = λ e. refl })
+      ▸ (omega arith, refl)
+      ▸ (omega arith, refl)
+      ▸ (omega arith, record { phase = refl; aimed = refl })
+      ▸ (omega arith, record { phase = refl; reopened = λ e. absurd cc; unlocked = refl; disowned = refl; unwritten = refl; uncommitted = refl; unentered = λ e. refl })
+      ▸ (omega arith, record { holds = refl; quiet = λ k l o. absurd (o (omega arith)) })
+      ▸ (omega arith, record { closing = λ e. refl; calm = refl; time = refl })
+      ▸ (omega arith, record { closing = λ e. refl; calm = refl; time = refl })
+      ▸ (omega arith, record { phase = refl; guarded = refl; ungiven = refl; calm = refl; rebased = refl; completed = refl; even = λ e. absurd cc })
+      ▸ (omega arith, record { phase = refl; absent = refl; named = refl; guarded = refl; ungiven = refl; unentered = refl })
+      ▸ (omega arith, refl)
+      ▸ (omega arith, refl)
+      ▸ (omega arith, record { phase = refl; algorithm = refl; free = refl })
+      ▸ (omega arith, record { has = record { phase = refl; algorithm = refl; taken = refl }; unstarted = refl })
+      ▸ (omega arith, (record { has = record { phase = refl; algorithm = refl; taken = refl }; started = refl; inside = inside }, fenced-none 0))
+      ▸ (omega arith, (record { has = record { phase = refl; algorithm = refl; taken = refl }; started = refl; revocable = refl; fresh = refl }, fenced-none 0))
+      ▸ (omega arith, record { has = record { phase = refl; algorithm = refl; taken = refl }; started = refl })
+      ▸ (omega arith, (record { has = record { phase = refl; algorithm = refl; taken = refl }; started = refl; inside = inside; small = omega arith; undoable = λ e. refl }, fenced-none 0))
+      ▸ (omega arith, record { has = record { phase = refl; algorithm = refl; taken = refl }; started = refl; logged = refl; value = refl })
+      ▸ (omega arith, record { has = record { phase = refl; algorithm = refl; taken = refl }; started = refl })
+      ▸ (omega arith, (record { has = record { phase = refl; algorithm = refl; taken = refl }; started = refl; inside = inside; small = small; undoable = λ e. absurd cc }, fenced-none 0))
+      ▸ (omega arith, record { has = record { phase = refl; algorithm = refl; taken = refl }; started = refl; free = refl; time = refl; limit = omega arith; wrote = λ e. cc; keeps = keeps x })
+      ▸ (omega arith, record { has = record { phase = refl; algorithm = refl; taken = refl }; unstored = refl })
+      ▸ (omega arith, record { phase = refl; reopened = λ e. refl; unlocked = refl; disowned = refl; unwritten = refl; uncommitted = refl; unentered = λ e. refl })
+      ▸ tt
       ),
-    ),
-  ),
   refl,
   refl,
 )
 
 pub core_installs_lem : (good : (ℕ → ℕ) → Type 0) (c : Config) → CoreInstalls good c
 core_installs_lem good c = (
-  (
-    ((omega arith), refl),
-    (
-      ((omega arith), refl),
-      (
-        ((omega arith), record { phase = refl; aimed = refl }),
-        (
-          ((omega arith), record { phase = refl; reopened = λ e. absurd cc; unlocked = refl; disowned = refl; unwritten = refl; uncommitted = refl; unentered = λ e. refl }),
-          (
-            ((omega arith), record { holds = refl; other = λ e. cc }),
-            (
-              ((omega arith), record { holds = refl; quiet = seen }),
-              (
-                ((omega arith), record { closing = λ e. refl; calm = refl; time = refl }),
-                (
-                  ((omega arith), record { closing = λ e. refl; calm = refl; time = refl }),
-                  (
-                    ((omega arith), (refl, record { phase = refl; guarded = refl; ungiven = refl; calm = refl; rebased = refl; completed = refl; even = λ e. absurd cc })),
-                    tt,
-                  ),
-                ),
-              ),
-            ),
-          ),
-        ),
-      ),
-    ),
-  ),
+  (omega arith, refl)
+      ▸ (omega arith, refl)
+      ▸ (omega arith, record { phase = refl; aimed = refl })
+      ▸ (omega arith, record { phase = refl; reopened = λ e. absurd cc; unlocked = refl; disowned = refl; unwritten = refl; uncommitted = refl; unentered = λ e. refl })
+      ▸ (omega arith, record { holds = refl; other = λ e. cc })
+      ▸ (omega arith, record { holds = refl; quiet = seen })
+      ▸ (omega arith, record { closing = λ e. refl; calm = refl; time = refl })
+      ▸ (omega arith, record { closing = λ e. refl; calm = refl; time = refl })
+      ▸ (omega arith, record { phase = refl; guarded = refl; ungiven = refl; calm = refl; rebased = refl; completed = refl; even = λ e. absurd cc })
+      ▸ tt,
   record { closing = refl; checked = seen },
   record { calm = refl; rebased = refl; completed = refl },
 )
@@ -357,163 +206,50 @@ core_installs_lem good c = (
     seen (suc (suc k)) low other = absurd (omega arith)
 
 pub core_rings_lem : (good : (ℕ → ℕ) → Type 0) (c : Config) → CoreRings good c
-core_rings_lem good c built x inside small keeps = (
-  (
-    (omega arith, refl),
-    (
-      (omega arith, refl),
-      (
-        (omega arith, record { phase = refl; aimed = refl }),
-        (
-          (omega arith, record { phase = refl; reopened = λ e. absurd cc; unlocked = refl; disowned = refl; unwritten = refl; uncommitted = refl; unentered = λ e. refl }),
-          (
-            (omega arith, record { holds = refl; quiet = λ k l o. absurd (o (omega arith)) }),
-            (
-              (omega arith, record { closing = λ e. refl; calm = refl; time = refl }),
-              (
-                (omega arith, record { closing = λ e. refl; calm = refl; time = refl }),
-                (
-                  (omega arith, (built, record { phase = refl; guarded = refl; ungiven = refl; calm = refl; rebased = refl; completed = refl; even = λ e. absurd cc })),
-                  (
-                    (omega arith, record { phase = refl; absent = refl; named = refl; guarded = refl; ungiven = refl; unentered = refl }),
-                    (
-                      (omega arith, refl),
-                      (
-                        (omega arith, refl),
-                        (
-                          (omega arith, record { runs = record { phase = refl; algorithm = refl; plain = refl }; unlocked = refl }),
-                          (
-                            (omega arith, (record { has = record { runs = record { phase = refl; algorithm = refl; plain = refl }; inside = refl }; inside = inside; settled = refl }, fenced-none 0)),
-                            (
-                              (omega arith, record { has = record { runs = record { phase = refl; algorithm = refl; plain = refl }; inside = refl } }),
-                              (
-                                (omega arith, record { has = record { runs = record { phase = refl; algorithm = refl; plain = refl }; inside = refl }; free = refl }),
-                                (
-                                  (omega arith, record { has = record { runs = record { phase = refl; algorithm = refl; plain = refl }; inside = refl }; taken = refl; unentered = refl }),
-                                  (
-                                    (omega arith, record { has = record { runs = record { phase = refl; algorithm = refl; plain = refl }; inside = refl } }),
-                                    (
-                                      (omega arith, (refl, record { turn = record { has = record { runs = record { phase = refl; algorithm = refl; plain = refl }; inside = refl }; taken = refl; unentered = refl }; ticked = refl; checked = refl; next = refl; index = refl; low = omega arith; same = λ l. absurd (omega arith) })),
-                                      (
-                                        (omega arith, (refl, record { turn = record { has = record { runs = record { phase = refl; algorithm = refl; plain = refl }; inside = refl }; taken = refl; unentered = refl }; ticked = refl; checked = refl; next = refl; index = refl; low = omega arith; same = λ l. refl })),
-                                        (
-                                          (omega arith, (refl, record { turn = record { has = record { runs = record { phase = refl; algorithm = refl; plain = refl }; inside = refl }; taken = refl; unentered = refl }; ticked = refl; checked = refl; next = refl; index = refl; low = omega arith; same = λ l. refl })),
-                                          (
-                                            (omega arith, (refl, record { turn = record { has = record { runs = record { phase = refl; algorithm = refl; plain = refl }; inside = refl }; taken = refl; unentered = refl }; ticked = refl; checked = refl; next = refl; index = refl; low = omega arith; same = λ l. refl })),
-                                            (
-                                              (omega arith, (refl, record { turn = record { has = record { runs = record { phase = refl; algorithm = refl; plain = refl }; inside = refl }; taken = refl; unentered = refl }; ticked = refl; checked = refl; next = refl; index = refl; low = omega arith; same = λ l. refl })),
-                                              (
-                                                (omega arith, (refl, record { turn = record { has = record { runs = record { phase = refl; algorithm = refl; plain = refl }; inside = refl }; taken = refl; unentered = refl }; ticked = refl; checked = refl; next = refl; index = refl; low = omega arith; same = λ l. refl })),
-                                                (
-                                                  (omega arith, (refl, record { turn = record { has = record { runs = record { phase = refl; algorithm = refl; plain = refl }; inside = refl }; taken = refl; unentered = refl }; ticked = refl; checked = refl; next = refl; index = refl; low = omega arith; same = λ l. refl })),
-                                                  (
-                                                    (omega arith, (refl, record { turn = record { has = record { runs = record { phase = refl; algorithm = refl; plain = refl }; inside = refl }; taken = refl; unentered = refl }; ticked = refl; checked = refl; next = refl; index = refl; low = omega arith; same = λ l. refl })),
-                                                    (
-                                                      (omega arith, (refl, record { turn = record { has = record { runs = record { phase = refl; algorithm = refl; plain = refl }; inside = refl }; taken = refl; unentered = refl }; ticked = refl; checked = refl; next = refl; index = refl; low = omega arith; same = λ l. refl })),
-                                                      (
-                                                        (omega arith, (refl, record { turn = record { has = record { runs = record { phase = refl; algorithm = refl; plain = refl }; inside = refl }; taken = refl; unentered = refl }; ticked = refl; checked = refl; next = refl; index = refl; low = omega arith; same = λ l. refl })),
-                                                        (
-                                                          (omega arith, (refl, record { turn = record { has = record { runs = record { phase = refl; algorithm = refl; plain = refl }; inside = refl }; taken = refl; unentered = refl }; ticked = refl; checked = refl; next = refl; index = refl; low = omega arith; same = λ l. refl })),
-                                                          (
-                                                            (omega arith, (refl, record { turn = record { has = record { runs = record { phase = refl; algorithm = refl; plain = refl }; inside = refl }; taken = refl; unentered = refl }; ticked = refl; checked = refl; next = refl; index = refl; low = omega arith; same = λ l. refl })),
-                                                            (
-                                                              (omega arith, (refl, record { turn = record { has = record { runs = record { phase = refl; algorithm = refl; plain = refl }; inside = refl }; taken = refl; unentered = refl }; ticked = refl; checked = refl; next = refl; index = refl; low = omega arith; same = λ l. refl })),
-                                                              (
-                                                                (omega arith, (refl, record { turn = record { has = record { runs = record { phase = refl; algorithm = refl; plain = refl }; inside = refl }; taken = refl; unentered = refl }; ticked = refl; checked = refl; next = refl; index = refl; low = omega arith; same = λ l. refl })),
-                                                                (
-                                                                  (omega arith, (refl, record { turn = record { has = record { runs = record { phase = refl; algorithm = refl; plain = refl }; inside = refl }; taken = refl; unentered = refl }; ticked = refl; checked = refl; next = refl; index = refl; low = omega arith; same = λ l. refl })),
-                                                                  (
-                                                                    (omega arith, (refl, record { turn = record { has = record { runs = record { phase = refl; algorithm = refl; plain = refl }; inside = refl }; taken = refl; unentered = refl }; ticked = refl; checked = refl; next = refl; index = refl; low = omega arith; same = λ l. refl })),
-                                                                    (
-                                                                      (omega arith, (record { turn = record { has = record { runs = record { phase = refl; algorithm = refl; plain = refl }; inside = refl }; taken = refl; unentered = refl }; ticked = refl; checked = refl; full = refl; time = refl; limit = omega arith; settled = refl; free = refl; wrote = λ e. cc; writes_inside = inside-more c.words (record { at = 0; value = x }) [] inside (λ a e. absurd cc); writes_small = small-more (record { at = 0; value = x }) [] small (λ a d l. l); keeps = keeps 0 }, λ b e. fenced-none b)),
-                                                                      (
-                                                                        (omega arith, record { entered = record { runs = record { phase = refl; algorithm = refl; plain = refl }; committed = refl; unfinished = refl }; owed = refl; value = refl }),
-                                                                        (
-                                                                          (omega arith, record { entered = record { runs = record { phase = refl; algorithm = refl; plain = refl }; committed = refl; unfinished = refl }; time = refl; written = λ a. refl; free = refl }),
-                                                                          (
-                                                                            (omega arith, record { runs = record { phase = refl; algorithm = refl; plain = refl }; taken = refl; finished = λ e. refl }),
-                                                                            (
-                                                                              (omega arith, record { phase = refl; reopened = λ e. refl; unlocked = refl; disowned = refl; unwritten = refl; uncommitted = refl; unentered = λ e. refl }),
-                                                                              (
-                                                                                (omega arith, refl),
-                                                                                (
-                                                                                  (omega arith, refl),
-                                                                                  (
-                                                                                    (omega arith, record { runs = record { phase = refl; algorithm = refl; plain = refl }; unlocked = refl }),
-                                                                                    (
-                                                                                      (omega arith, (record { has = record { runs = record { phase = refl; algorithm = refl; plain = refl }; inside = refl }; inside = inside; settled = refl }, fenced-none 0)),
-                                                                                      (
-                                                                                        (omega arith, refl),
-                                                                                        (
-                                                                                          (omega arith, record { phase = refl; named = refl; spared = refl; free = refl }),
-                                                                                          (
-                                                                                            (omega arith, record { holds = refl; quiet = λ k l o. absurd (o (omega arith)) }),
-                                                                                            (
-                                                                                              (omega arith, record { has = record { runs = record { phase = refl; algorithm = refl; plain = refl }; inside = refl }; calm = refl; limit = omega arith; unlocked = refl; uncommitted = refl; unwritten = refl }),
-                                                                                              (
-                                                                                                (omega arith, (record { granted = refl; inside = inside; small = small }, fenced-none 0)),
-                                                                                                (
-                                                                                                  (omega arith, record { phase = refl; granted = refl; named = refl; time = refl; limit = omega arith; wrote = λ e. cc; keeps = keeps x }),
-                                                                                                  (
-                                                                                                    (omega arith, record { closing = λ e. absurd cc; calm = refl; time = refl }),
-                                                                                                    (
-                                                                                                      (omega arith, record { closing = λ e. absurd cc; calm = refl; time = refl }),
-                                                                                                      (
-                                                                                                        (omega arith, record { phase = refl; holds = refl; named = refl; spared = refl; marked = λ e. (refl, refl); unstored = refl; unlocked = refl; disowned = refl; unwritten = refl; uncommitted = refl; plain = λ e. absurd cc }),
-                                                                                                        (
-                                                                                                          (omega arith, record { phase = refl; reopened = λ e. refl; unlocked = refl; disowned = refl; unwritten = refl; uncommitted = refl; unentered = λ e. refl }),
-                                                                                                          tt,
-                                                                                                        ),
-                                                                                                      ),
-                                                                                                    ),
-                                                                                                  ),
-                                                                                                ),
-                                                                                              ),
-                                                                                            ),
-                                                                                          ),
-                                                                                        ),
-                                                                                      ),
-                                                                                    ),
-                                                                                  ),
-                                                                                ),
-                                                                              ),
-                                                                            ),
-                                                                          ),
-                                                                        ),
-                                                                      ),
-                                                                    ),
-                                                                  ),
-                                                                ),
-                                                              ),
-                                                            ),
-                                                          ),
-                                                        ),
-                                                      ),
-                                                    ),
-                                                  ),
-                                                ),
-                                              ),
-                                            ),
-                                          ),
-                                        ),
-                                      ),
-                                    ),
-                                  ),
-                                ),
-                              ),
-                            ),
-                          ),
-                        ),
-                      ),
-                    ),
-                  ),
-                ),
-              ),
-            ),
-          ),
-        ),
+core_rings_lem good c x inside small keeps = (
+  may-install good c c.records RingSw (drop 11 (two_by_ring c x)) (
+      (omega arith, record { runs = record { phase = refl; algorithm = refl; plain = refl }; unlocked = refl })
+      ▸ (omega arith, (record { has = record { runs = record { phase = refl; algorithm = refl; plain = refl }; inside = refl }; inside = inside; settled = refl }, fenced-none 0))
+      ▸ (omega arith, record { has = record { runs = record { phase = refl; algorithm = refl; plain = refl }; inside = refl } })
+      ▸ (omega arith, record { has = record { runs = record { phase = refl; algorithm = refl; plain = refl }; inside = refl }; free = refl })
+      ▸ (omega arith, record { has = record { runs = record { phase = refl; algorithm = refl; plain = refl }; inside = refl }; taken = refl; unentered = refl })
+      ▸ (omega arith, record { has = record { runs = record { phase = refl; algorithm = refl; plain = refl }; inside = refl } })
+      ▸ (omega arith, (refl, record { turn = record { has = record { runs = record { phase = refl; algorithm = refl; plain = refl }; inside = refl }; taken = refl; unentered = refl }; ticked = refl; checked = refl; next = refl; index = refl; low = omega arith; same = λ l. absurd (omega arith) }))
+      ▸ (omega arith, (refl, record { turn = record { has = record { runs = record { phase = refl; algorithm = refl; plain = refl }; inside = refl }; taken = refl; unentered = refl }; ticked = refl; checked = refl; next = refl; index = refl; low = omega arith; same = λ l. refl }))
+      ▸ (omega arith, (refl, record { turn = record { has = record { runs = record { phase = refl; algorithm = refl; plain = refl }; inside = refl }; taken = refl; unentered = refl }; ticked = refl; checked = refl; next = refl; index = refl; low = omega arith; same = λ l. refl }))
+      ▸ (omega arith, (refl, record { turn = record { has = record { runs = record { phase = refl; algorithm = refl; plain = refl }; inside = refl }; taken = refl; unentered = refl }; ticked = refl; checked = refl; next = refl; index = refl; low = omega arith; same = λ l. refl }))
+      ▸ (omega arith, (refl, record { turn = record { has = record { runs = record { phase = refl; algorithm = refl; plain = refl }; inside = refl }; taken = refl; unentered = refl }; ticked = refl; checked = refl; next = refl; index = refl; low = omega arith; same = λ l. refl }))
+      ▸ (omega arith, (refl, record { turn = record { has = record { runs = record { phase = refl; algorithm = refl; plain = refl }; inside = refl }; taken = refl; unentered = refl }; ticked = refl; checked = refl; next = refl; index = refl; low = omega arith; same = λ l. refl }))
+      ▸ (omega arith, (refl, record { turn = record { has = record { runs = record { phase = refl; algorithm = refl; plain = refl }; inside = refl }; taken = refl; unentered = refl }; ticked = refl; checked = refl; next = refl; index = refl; low = omega arith; same = λ l. refl }))
+      ▸ (omega arith, (refl, record { turn = record { has = record { runs = record { phase = refl; algorithm = refl; plain = refl }; inside = refl }; taken = refl; unentered = refl }; ticked = refl; checked = refl; next = refl; index = refl; low = omega arith; same = λ l. refl }))
+      ▸ (omega arith, (refl, record { turn = record { has = record { runs = record { phase = refl; algorithm = refl; plain = refl }; inside = refl }; taken = refl; unentered = refl }; ticked = refl; checked = refl; next = refl; index = refl; low = omega arith; same = λ l. refl }))
+      ▸ (omega arith, (refl, record { turn = record { has = record { runs = record { phase = refl; algorithm = refl; plain = refl }; inside = refl }; taken = refl; unentered = refl }; ticked = refl; checked = refl; next = refl; index = refl; low = omega arith; same = λ l. refl }))
+      ▸ (omega arith, (refl, record { turn = record { has = record { runs = record { phase = refl; algorithm = refl; plain = refl }; inside = refl }; taken = refl; unentered = refl }; ticked = refl; checked = refl; next = refl; index = refl; low = omega arith; same = λ l. refl }))
+      ▸ (omega arith, (refl, record { turn = record { has = record { runs = record { phase = refl; algorithm = refl; plain = refl }; inside = refl }; taken = refl; unentered = refl }; ticked = refl; checked = refl; next = refl; index = refl; low = omega arith; same = λ l. refl }))
+      ▸ (omega arith, (refl, record { turn = record { has = record { runs = record { phase = refl; algorithm = refl; plain = refl }; inside = refl }; taken = refl; unentered = refl }; ticked = refl; checked = refl; next = refl; index = refl; low = omega arith; same = λ l. refl }))
+      ▸ (omega arith, (refl, record { turn = record { has = record { runs = record { phase = refl; algorithm = refl; plain = refl }; inside = refl }; taken = refl; unentered = refl }; ticked = refl; checked = refl; next = refl; index = refl; low = omega arith; same = λ l. refl }))
+      ▸ (omega arith, (refl, record { turn = record { has = record { runs = record { phase = refl; algorithm = refl; plain = refl }; inside = refl }; taken = refl; unentered = refl }; ticked = refl; checked = refl; next = refl; index = refl; low = omega arith; same = λ l. refl }))
+      ▸ (omega arith, (refl, record { turn = record { has = record { runs = record { phase = refl; algorithm = refl; plain = refl }; inside = refl }; taken = refl; unentered = refl }; ticked = refl; checked = refl; next = refl; index = refl; low = omega arith; same = λ l. refl }))
+      ▸ (omega arith, (record { turn = record { has = record { runs = record { phase = refl; algorithm = refl; plain = refl }; inside = refl }; taken = refl; unentered = refl }; ticked = refl; checked = refl; full = refl; time = refl; limit = omega arith; settled = refl; free = refl; wrote = λ e. cc; writes_inside = inside-more c.words (record { at = 0; value = x }) [] inside (λ a e. absurd cc); writes_small = small-more (record { at = 0; value = x }) [] small (λ a d l. l); keeps = keeps 0 }, λ b e. fenced-none b))
+      ▸ (omega arith, record { entered = record { runs = record { phase = refl; algorithm = refl; plain = refl }; committed = refl; unfinished = refl }; owed = refl; value = refl })
+      ▸ (omega arith, record { entered = record { runs = record { phase = refl; algorithm = refl; plain = refl }; committed = refl; unfinished = refl }; time = refl; written = λ a. refl; free = refl })
+      ▸ (omega arith, record { runs = record { phase = refl; algorithm = refl; plain = refl }; taken = refl; finished = λ e. refl })
+      ▸ (omega arith, record { phase = refl; reopened = λ e. refl; unlocked = refl; disowned = refl; unwritten = refl; uncommitted = refl; unentered = λ e. refl })
+      ▸ (omega arith, refl)
+      ▸ (omega arith, refl)
+      ▸ (omega arith, record { runs = record { phase = refl; algorithm = refl; plain = refl }; unlocked = refl })
+      ▸ (omega arith, (record { has = record { runs = record { phase = refl; algorithm = refl; plain = refl }; inside = refl }; inside = inside; settled = refl }, fenced-none 0))
+      ▸ (omega arith, refl)
+      ▸ (omega arith, record { phase = refl; named = refl; spared = refl; free = refl })
+      ▸ (omega arith, record { holds = refl; quiet = λ k l o. absurd (o (omega arith)) })
+      ▸ (omega arith, record { has = record { runs = record { phase = refl; algorithm = refl; plain = refl }; inside = refl }; calm = refl; limit = omega arith; unlocked = refl; uncommitted = refl; unwritten = refl })
+      ▸ (omega arith, (record { granted = refl; inside = inside; small = small }, fenced-none 0))
+      ▸ (omega arith, record { phase = refl; granted = refl; named = refl; time = refl; limit = omega arith; wrote = λ e. cc; keeps = keeps x })
+      ▸ (omega arith, record { closing = λ e. absurd cc; calm = refl; time = refl })
+      ▸ (omega arith, record { closing = λ e. absurd cc; calm = refl; time = refl })
+      ▸ (omega arith, record { phase = refl; holds = refl; named = refl; spared = refl; marked = λ e. (refl, refl); unstored = refl; unlocked = refl; disowned = refl; unwritten = refl; uncommitted = refl; plain = λ e. absurd cc })
+      ▸ (omega arith, record { phase = refl; reopened = λ e. refl; unlocked = refl; disowned = refl; unwritten = refl; uncommitted = refl; unentered = λ e. refl })
+      ▸ tt
       ),
-    ),
-  ),
   refl,
 )

@@ -114,7 +114,6 @@ core_opens good c config start = let w = cgl_world-opening good c config start (
   gate = opening_gate c config;
   install = opening_install c;
   records = opening_records c;
-  built = refl;
   lock = w.lock;
   attempts = w.attempts;
   running = w.runs;

@@ -1,8 +1,8 @@
 -- While a caller has a range out of the transactions, no other deed is in it.
-use Rattle.std.proofs.Common.{◌≡◌, ℕ, ◌+◌, ◌<◌, List, [], ◌∷◌, Bool, true, false, refl, sym, subst, ap, ◌∙◌, arith}
+use Rattle.std.proofs.Common.{◌≡◌, ℕ, ◌+◌, [], ◌∷◌, true, false, refl, sym, subst, ap, ◌∙◌, arith}
 use Rattle.stm_model.specs.declared.config.Config.{Config}
 use Rattle.rule_base.specs.declared.views.View.{View}
-use Rattle.rule_base.specs.Encodings.{fence_of, fence_owner, fenced}
+use Rattle.rule_base.specs.Encodings.{fence_of, fence_owner}
 use Rattle.rule_base.specs.Notes.{learned_history}
 use Rattle.rule_base.specs.PutLemmas.{put-all}
 use Rattle.rule_base.specs.StepKinds.{answer, view_after}

@@ -1,7 +1,6 @@
 -- A check that loads the slot of another's entry: caller 1 reads word 0, caller 0 commits word 1, and the start of caller 1 moves past it.
 use Rattle.std.proofs.Common.{◌≡◌, ℕ, zero, suc, ◌<◌, List, [], ◌∷◌, true, false, refl, sym, subst, arith, ◌∙◌}
 use Rattle.std.specs.Prelude.{◌^◌}
-use Rattle.stm_model.specs.Algorithms.{is_built}
 use Rattle.stm_model.specs.declared.alg.Alg.TheVariants.{RingSw}
 use Rattle.rule_base.specs.declared.entries.Cell.{Cell}
 use Rattle.stm_model.specs.declared.config.Config.{Config}
@@ -54,14 +53,14 @@ abbrev pub checked_run : ℕ → List (ℕ × CoreStep)
 checked_run x = (0, announces) ∷ (0, aims) ∷ (0, takes_gate 0) ∷ (0, checks 1) ∷ (0, departs) ∷ (0, settles) ∷ (0, stores_base 0) ∷ (0, stores_done 0) ∷ (0, installs 0 RingSw) ∷ (0, reopens 0 RingSw) ∷ (1, announces) ∷ (1, loads_gate) ∷ (1, of_ring ring_begins) ∷ (1, of_ring (ring_loads 0)) ∷ (0, announces) ∷ (0, loads_gate) ∷ (0, of_ring ring_begins) ∷ (0, of_ring ring_locks) ∷ (0, of_ring ring_ticks) ∷ (0, of_ring ring_looks) ∷ (0, of_ring (ring_slots 2 1 0 (cell_of x))) ∷ (0, of_ring (ring_slots 2 1 1 (cell_of x))) ∷ (0, of_ring (ring_slots 2 1 2 (cell_of x))) ∷ (0, of_ring (ring_slots 2 1 3 (cell_of x))) ∷ (0, of_ring (ring_slots 2 1 4 (cell_of x))) ∷ (0, of_ring (ring_slots 2 1 5 (cell_of x))) ∷ (0, of_ring (ring_slots 2 1 6 (cell_of x))) ∷ (0, of_ring (ring_slots 2 1 7 (cell_of x))) ∷ (0, of_ring (ring_slots 2 1 8 (cell_of x))) ∷ (0, of_ring (ring_slots 2 1 9 (cell_of x))) ∷ (0, of_ring (ring_slots 2 1 10 (cell_of x))) ∷ (0, of_ring (ring_slots 2 1 11 (cell_of x))) ∷ (0, of_ring (ring_slots 2 1 12 (cell_of x))) ∷ (0, of_ring (ring_slots 2 1 13 (cell_of x))) ∷ (0, of_ring (ring_slots 2 1 14 (cell_of x))) ∷ (0, of_ring (ring_slots 2 1 15 (cell_of x))) ∷ (0, of_ring (ring_enters 1)) ∷ (0, of_ring (ring_writes 1 x)) ∷ (0, of_ring (ring_dones 1)) ∷ (0, of_ring ring_frees) ∷ (0, departs) ∷ (1, of_ring ring_looks) ∷ (1, of_ring (ring_words 2 1 0)) ∷ (1, of_ring (ring_words 2 1 1)) ∷ (1, of_ring (ring_words 2 1 2)) ∷ (1, of_ring (ring_words 2 1 3)) ∷ (1, of_ring (ring_words 2 1 4)) ∷ (1, of_ring (ring_words 2 1 5)) ∷ (1, of_ring (ring_words 2 1 6)) ∷ (1, of_ring (ring_words 2 1 7)) ∷ (1, of_ring (ring_words 2 1 8)) ∷ (1, of_ring (ring_words 2 1 9)) ∷ (1, of_ring (ring_words 2 1 10)) ∷ (1, of_ring (ring_words 2 1 11)) ∷ (1, of_ring (ring_words 2 1 12)) ∷ (1, of_ring (ring_words 2 1 13)) ∷ (1, of_ring (ring_words 2 1 14)) ∷ (1, of_ring (ring_words 2 1 15)) ∷ (1, of_ring (ring_agains 2)) ∷ (1, of_ring ring_moves) ∷ (1, departs) ∷ []
 
 abbrev pub CoreChecks : ((ℕ → ℕ) → Type 0) → Config → Type 0
-CoreChecks good c = is_built RingSw ≡ true → (x : ℕ) → 0 < c.words → 1 < c.words → x < 2 ^ 64 → Keeps good [] (cell_of x)
+CoreChecks good c = (x : ℕ) → 0 < c.words → 1 < c.words → x < 2 ^ 64 → Keeps good [] (cell_of x)
     → Allowed core_kind (CoreMay good (record c { callers = 2; clock = 0; ring = 2 })) (checked_run x) (opening_world (record c { callers = 2; clock = 0; ring = 2 }))
     × (((run core_kind (CoreMay good (record c { callers = 2; clock = 0; ring = 2 })) (checked_run x) (opening_world (record c { callers = 2; clock = 0; ring = 2 }))).views 1).attempt.start ≡ 1)
     × (((run core_kind (CoreMay good (record c { callers = 2; clock = 0; ring = 2 })) (checked_run x) (opening_world (record c { callers = 2; clock = 0; ring = 2 }))).views 1).attempt.reads ≡ record { at = 0; value = 0 } ∷ [])
 
 pub core_checks_lem : (good : (ℕ → ℕ) → Type 0) (c : Config) → CoreChecks good c
 unfolding slot_place slot_filter part_bit
-core_checks_lem good c built x low high small keeps = (
+core_checks_lem good c x low high small keeps = (
   (
     (omega arith, refl),
     (
@@ -79,7 +78,7 @@ core_checks_lem good c built x low high small keeps = (
                 (
                   (omega arith, record { closing = λ e. refl; calm = refl; time = refl }),
                   (
-                    (omega arith, (built, record { phase = refl; guarded = refl; ungiven = refl; calm = refl; rebased = refl; completed = refl; even = λ e. absurd cc })),
+                    (omega arith, record { phase = refl; guarded = refl; ungiven = refl; calm = refl; rebased = refl; completed = refl; even = λ e. absurd cc }),
                     (
                       (omega arith, record { phase = refl; absent = refl; named = refl; guarded = refl; ungiven = refl; unentered = refl }),
                       (

@@ -30,7 +30,7 @@ module _ (good : (ℕ → ℕ) → Type 0) (c : Config) (n : ℕ) where
   pub aims : StepLaw (Core good c) aim (FindsHolder c n) n CanAim
   aims w g may = let o = by-gate good c aim n w (record { common = record { words = λ w. (refl, refl, refl); history = λ w. (refl, refl); steps = λ w. (refl, refl); held = λ w. (refl, refl); busy = λ w. refl }; marks = λ w. (refl, refl); memory = λ w. (refl, refl); view = λ w. refl }) g (λ e. absurd (out e)) (λ e. absurd (unentered good c w n g (ap may_hold may) e)) (λ k e. k) (aim-gate c.callers w n may g.gate)
       (install-apart c w (world_after aim n w) n (view_after aim w (w.views n) w.gate) refl refl refl refl (unheld good c w n g (ap may_hold may)) refl refl refl refl refl g.install) (regime-kept w (world_after aim n w) n (view_after aim w (w.views n) w.gate) refl refl refl) in
-      record { rule = o.0; advances = o.1; shown = record { built = g.built; closer = λ free other. closer good c n w g w.gate refl other free } }
+      record { rule = o.0; advances = o.1; shown = λ free other. closer good c n w g w.gate refl other free }
     where
       out : (w.views n).gate.phase ≡ In → ⊥
       out e = let k : Announced ≡ In = sym may ∙ e in cc
@@ -44,7 +44,7 @@ module _ (good : (ℕ → ℕ) → Type 0) (c : Config) (n : ℕ) where
 
   pub takes_gate : (word : ℕ) → n < c.callers → StepLaw (Core good c) (take_gate n word) (FindsTaken c n word) n (CanTakeGate word)
   takes_gate word low w g may = let o = by-gate good c (take_gate n word) n w (record { common = record { words = λ w. (refl, refl, refl); history = λ w. (refl, refl); steps = λ w. (refl, refl); held = λ w. (refl, refl); busy = λ w. refl }; marks = λ w. (refl, refl); memory = λ w. (refl, refl); view = λ w. refl }) g (λ e. absurd (out e)) (λ e. absurd (unentered good c w n g (ap may_hold may.phase) e)) (λ k e. absurd (unentered good c w n g (ap may_hold may.phase) e)) (take_gate-gate c.callers word w n low may g.gate) install (runs (w.gate == word) (λ e. eqb-true w.gate word e)) in
-      record { rule = o.0; advances = o.1; shown = record { built = g.built; closer = other } }
+      record { rule = o.0; advances = o.1; shown = other }
     where
       out : (w.views n).gate.phase ≡ In → ⊥
       out e = let k : Aiming ≡ In = sym may.phase ∙ e in cc

@@ -37,7 +37,6 @@ use Rattle.stm_rule.specs.Lifting.{IsSpared, AreSpared}
 use Rattle.stm_rule.specs.NoteSteps.{hear, load_end, CanLoadEnd}
 use Rattle.stm_rule.specs.Openings.{opening_words}
 use Rattle.stm_rule.specs.Product.{Whole}
-use Rattle.stm_model.specs.Algorithms.{is_built}
 
 -- a step by its kind and its numbers
 pub data CoreStep : Type 0 where
@@ -129,7 +128,7 @@ module _ (good : (ℕ → ℕ) → Type 0) (c : Config) where
   CoreMayAs n (evens_clock time) v = CanEvenClock time v
   CoreMayAs n (stores_base time) v = CanMark time v
   CoreMayAs n (stores_done time) v = CanMark time v
-  CoreMayAs n (installs fence alg) v = (is_built alg ≡ true) × CanInstall fence alg v
+  CoreMayAs n (installs fence alg) v = CanInstall fence alg v
   CoreMayAs n (of_cgl (loads_heap a)) v = CanLoadHeap c.words a v × IsSpared a v
   CoreMayAs n (of_cgl (stores_heap a x)) v = CanStoreHeap c.words a x v × IsSpared a v
   CoreMayAs n (of_cgl (loads_undo a)) v = CanLoadUndo a v × IsSpared a v
@@ -215,7 +214,7 @@ abbrev pub two_by_ring : Config → ℕ → List (ℕ × CoreStep)
 two_by_ring c x = (0, announces) ∷ (0, aims) ∷ (0, takes_gate 0) ∷ (0, departs) ∷ (0, settles) ∷ (0, stores_base 0) ∷ (0, stores_done 0) ∷ (0, installs 0 RingSw) ∷ (0, reopens 0 RingSw) ∷ (0, announces) ∷ (0, loads_gate) ∷ (0, of_ring ring_begins) ∷ (0, of_ring (ring_loads 0)) ∷ (0, of_ring ring_looks) ∷ (0, of_ring ring_locks) ∷ (0, of_ring ring_ticks) ∷ (0, of_ring ring_looks) ∷ (0, of_ring (ring_slots c.ring 1 0 (one_cell x))) ∷ (0, of_ring (ring_slots c.ring 1 1 (one_cell x))) ∷ (0, of_ring (ring_slots c.ring 1 2 (one_cell x))) ∷ (0, of_ring (ring_slots c.ring 1 3 (one_cell x))) ∷ (0, of_ring (ring_slots c.ring 1 4 (one_cell x))) ∷ (0, of_ring (ring_slots c.ring 1 5 (one_cell x))) ∷ (0, of_ring (ring_slots c.ring 1 6 (one_cell x))) ∷ (0, of_ring (ring_slots c.ring 1 7 (one_cell x))) ∷ (0, of_ring (ring_slots c.ring 1 8 (one_cell x))) ∷ (0, of_ring (ring_slots c.ring 1 9 (one_cell x))) ∷ (0, of_ring (ring_slots c.ring 1 10 (one_cell x))) ∷ (0, of_ring (ring_slots c.ring 1 11 (one_cell x))) ∷ (0, of_ring (ring_slots c.ring 1 12 (one_cell x))) ∷ (0, of_ring (ring_slots c.ring 1 13 (one_cell x))) ∷ (0, of_ring (ring_slots c.ring 1 14 (one_cell x))) ∷ (0, of_ring (ring_slots c.ring 1 15 (one_cell x))) ∷ (0, of_ring (ring_enters 1)) ∷ (0, of_ring (ring_writes 0 x)) ∷ (0, of_ring (ring_dones 1)) ∷ (0, of_ring ring_frees) ∷ (0, departs) ∷ (0, announces) ∷ (0, loads_gate) ∷ (0, of_ring ring_begins) ∷ (0, of_ring (ring_loads 0)) ∷ (0, looks_gate) ∷ (0, seizes 0 RingSw) ∷ (0, settles) ∷ (0, look_grants) ∷ (0, direct_stores 0 x) ∷ (0, direct_commits RingSw 2) ∷ (0, stores_base 2) ∷ (0, stores_done 2) ∷ (0, returns 0 RingSw) ∷ (0, departs) ∷ []
 
 abbrev pub CoreRings : ((ℕ → ℕ) → Type 0) → Config → Type 0
-CoreRings good c = is_built RingSw ≡ true → (x : ℕ) → 0 < c.words → x < 2 ^ 64 → ((y : ℕ) → Keeps good (record { at = 0; value = y } ∷ []) (one_cell x))
+CoreRings good c = (x : ℕ) → 0 < c.words → x < 2 ^ 64 → ((y : ℕ) → Keeps good (record { at = 0; value = y } ∷ []) (one_cell x))
     → Allowed core_kind (CoreMay good (record c { callers = 1; clock = 0 })) (two_by_ring c x) (opening_world (record c { callers = 1; clock = 0 }))
     × ((run core_kind (CoreMay good (record c { callers = 1; clock = 0 })) (two_by_ring c x) (opening_world (record c { callers = 1; clock = 0 }))).history
     ≡ record { time = 2; caller = 0; number = 1; reads = one_cell x; writes = one_cell x } ∷ record { time = 1; caller = 0; number = 0; reads = one_cell 0; writes = one_cell x } ∷ [])
@@ -229,7 +228,7 @@ small_config c = record c { callers = 1; records = 1; clock = 0 }
 
 -- with one caller and one record and from clock 0 these steps are allowed, and the history is then these three entries
 abbrev pub CoreRecords : ((ℕ → ℕ) → Type 0) → Config → Type 0
-CoreRecords good c = is_built OrecLazy ≡ true → is_built OrecEager ≡ true → (x : ℕ) → 0 < c.words → x < 2 ^ 64 → ((y : ℕ) → Keeps good (record { at = 0; value = y } ∷ []) (record { at = 0; value = x } ∷ [])) → Keeps good (record { at = 0; value = x } ∷ []) (record { at = 0; value = x } ∷ record { at = 0; value = x } ∷ [])
+CoreRecords good c = (x : ℕ) → 0 < c.words → x < 2 ^ 64 → ((y : ℕ) → Keeps good (record { at = 0; value = y } ∷ []) (record { at = 0; value = x } ∷ [])) → Keeps good (record { at = 0; value = x } ∷ []) (record { at = 0; value = x } ∷ record { at = 0; value = x } ∷ [])
     → Allowed core_kind (CoreMay good (small_config c)) (record_steps x) (opening_world (small_config c))
     × ((run core_kind (CoreMay good (small_config c)) (record_steps x) (opening_world (small_config c))).history
     ≡ record { time = 3; caller = 0; number = 2; reads = record { at = 0; value = x } ∷ []; writes = record { at = 0; value = x } ∷ [] } ∷ record { time = 2; caller = 0; number = 1; reads = record { at = 0; value = x } ∷ []; writes = record { at = 0; value = x } ∷ record { at = 0; value = x } ∷ [] } ∷ record { time = 1; caller = 0; number = 0; reads = record { at = 0; value = 0 } ∷ []; writes = record { at = 0; value = x } ∷ [] } ∷ [])

@@ -1,5 +1,5 @@
 -- Who is at rest behind the veil is at rest.
-use Rattle.std.proofs.Common.{◌≡◌, ℕ, ◌+◌, true, false, sym, ap, ◌∙◌, le_refl}
+use Rattle.std.proofs.Common.{ℕ, ◌+◌, sym, ap, ◌∙◌, le_refl}
 use Rattle.stm_model.specs.declared.config.Config.{Config}
 use Rattle.rule_base.specs.Encodings.{fence_of}
 use Rattle.rule_base.specs.Fence.{veil}

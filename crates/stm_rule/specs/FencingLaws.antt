@@ -1,35 +1,31 @@
 -- The kinds of step of a fence keep the one rule: it comes, and its holder loads and stores in its range.
-use Rattle.std.proofs.Common.{◌≡◌, ◌≢◌, ℕ, ◌+◌, ◌<◌, ◌≤◌, List, [], ◌∷◌, Bool, true, false, eqb, inr, refl, sym, subst, ap, ◌∙◌, le_refl, arith}
-use Rattle.std.specs.Prelude.{if◌then◌else◌, ◌==◌, ◌^◌}
-use Rattle.std.proofs.lemmas.Bool.{eqb-true, eqb-false}
+use Rattle.std.proofs.Common.{◌≡◌, ℕ, ◌+◌, ◌<◌, ◌∷◌, Bool, true, false, inr, refl, sym, subst, ap, ◌∙◌, le_refl, arith}
+use Rattle.std.specs.Prelude.{if◌then◌else◌}
 use Rattle.std.proofs.Math.Path.{fun_ext}
-use Rattle.stm_model.specs.Algorithms.{is_built}
 use Rattle.stm_model.specs.declared.alg.Alg.{Alg}
 use Rattle.stm_model.specs.declared.config.Config.{Config}
-use Rattle.rule_base.specs.declared.entries.Cell.{Cell}
-use Rattle.rule_base.specs.declared.views.FenceView.{FenceView}
 use Rattle.rule_base.specs.declared.views.Phase.TheVariants.{Idle, In, Closing}
 use Rattle.rule_base.specs.declared.views.View.{View}
 use Rattle.rule_base.specs.EncodingLemmas.{alg_of-gate, fence_of-gate}
-use Rattle.rule_base.specs.Encodings.{alg_of, holder_of, fence_of, fence_number, fenced, gate_word}
-use Rattle.rule_base.specs.Fence.{veiled, veil, FenceScene, fence_scene, FenceHolder, FenceRule}
+use Rattle.rule_base.specs.Encodings.{alg_of, fence_of, fence_number, fenced, gate_word}
+use Rattle.rule_base.specs.Fence.{veiled, veil, fence_scene, FenceHolder}
 use Rattle.rule_base.specs.FenceLaws.{veiled-none, veiled-rest, fence-held, fence-comes}
 use Rattle.rule_base.specs.FenceSteps.{fence, CanFence, fence_load, CanFenceLoad, FenceLoads, fence_store, CanFenceStore}
-use Rattle.rule_base.specs.GateLaws.{gate_scene-kept, fence-gate, holder-closed, closed-fits, is-caller-at}
-use Rattle.rule_base.specs.GateRule.{gate_scene, GateRule, may_hold, rests}
+use Rattle.rule_base.specs.GateLaws.{gate_scene-kept, fence-gate, holder-closed, closed-fits}
+use Rattle.rule_base.specs.GateRule.{gate_scene, GateRule}
 use Rattle.rule_base.specs.History.{over, touches, word_now}
 use Rattle.rule_base.specs.HistoryLemmas.{over-miss, small-more}
 use Rattle.rule_base.specs.HistoryRuleLemmas.{advances-same, history-kept}
 use Rattle.rule_base.specs.InstallLaws.{install_scene-kept, install-stood}
-use Rattle.rule_base.specs.InstallRule.{install_scene, InstallRule}
-use Rattle.rule_base.specs.PutLemmas.{put-all, put-here, put-else}
+use Rattle.rule_base.specs.InstallRule.{InstallRule}
+use Rattle.rule_base.specs.PutLemmas.{put-all, put-else}
 use Rattle.rule_base.specs.RecordLemmas.{records-stay}
 use Rattle.rule_base.specs.Regime.{mode_of, regime}
 use Rattle.rule_base.specs.Regime.Mode.{Plain}
 use Rattle.rule_base.specs.RegimeLemmas.{plain-mode, regime-kept}
 use Rattle.rule_base.specs.Rest.{IsQuiet}
 use Rattle.rule_base.specs.RunScene.{run_scene}
-use Rattle.rule_base.specs.StepKinds.{StepKind, view_after, world_after, answer, Nothing, StepLaw, Advances}
+use Rattle.rule_base.specs.StepKinds.{view_after, world_after, Nothing, StepLaw}
 use Rattle.rule_base.specs.StepsLemmas.{steps-kept}
 use Rattle.rule_base.specs.World.{World, put}
 use Rattle.rule_seq.specs.AttemptLemmas.{attempts-stay}
@@ -39,7 +35,7 @@ use Rattle.stm_rule.specs.Alone.{alone-kept}
 use Rattle.stm_rule.specs.ClosingLaws.{regime-handed}
 use Rattle.stm_rule.specs.FenceFindings.{FindsPast}
 use Rattle.stm_rule.specs.Frames.{is-caller, same-horizon, ungranted-out}
-use Rattle.stm_rule.specs.Product.{Runs, Core, Whole}
+use Rattle.stm_rule.specs.Product.{Whole}
 use Rattle.stm_rule.specs.Raised.{raised-put}
 use Rattle.stm_rule.specs.RestLaws.{quiet-ease, nobody-else}
 use Rattle.stm_rule.specs.Running.{runs-stays, run_scene-kept}
@@ -59,7 +55,6 @@ module _ (good : (ℕ → ℕ) → Type 0) (c : Config) (n : ℕ) where
         gate = subst (GateRule c.callers) (sym (gate_scene-kept w x n v refl refl refl refl)) g.core.gate;
         install = subst (InstallRule c) (sym (install_scene-kept w x n v refl refl refl refl refl)) g.core.install;
         records = records-stay w x n v refl (le_refl w.clock) refl refl refl g.core.records;
-        built = g.core.built;
         lock = subst LockRule (sym (lock_scene-kept w x n v refl refl refl refl)) g.core.lock;
         attempts = attempts-stay w x n v refl refl refl refl g.core.attempts;
         running = runs-stays c (regime w) (regime x) (run_scene (veil w)) (run_scene (veil x)) (regime-kept w x n v refl refl refl) (run_scene-kept (veil w) (veil x) n v refl refl refl refl refl refl refl refl refl refl) g.core.running;
@@ -111,7 +106,6 @@ module _ (good : (ℕ → ℕ) → Type 0) (c : Config) (n : ℕ) where
         gate = subst (GateRule c.callers) (sym (gate_scene-kept w x n v refl refl refl refl)) g.core.gate;
         install = subst (InstallRule c) (sym (install_scene-kept w x n v refl refl refl refl refl)) g.core.install;
         records = records-stay w x n v refl (le_refl w.clock) refl refl refl g.core.records;
-        built = g.core.built;
         lock = subst LockRule (sym (lock_scene-kept w x n v refl refl refl refl)) g.core.lock;
         attempts = attempts-stay w x n v refl refl refl refl g.core.attempts;
         running = runs-stays c (regime w) (regime x) (run_scene (veil w)) (run_scene (veil x)) (regime-kept w x n v refl refl refl) (run_scene-kept (veil w) (veil x) n v refl refl refl refl refl refl refl hidden refl refl) g.core.running;
@@ -163,7 +157,6 @@ module _ (good : (ℕ → ℕ) → Type 0) (c : Config) (n : ℕ) where
         gate = fence-gate c.callers (fence_number n from count) (w.views n).gate.giving alg w x n v refl refl refl refl may.named may.phase may.quiet g.core.gate;
         install = install-stood c w x n (fence_number n from count) v refl refl refl refl refl g.core.install;
         records = records-stay w x n v refl (le_refl w.clock) refl refl refl g.core.records;
-        built = ap is_built (named ∙ sym same) ∙ g.core.built;
         lock = subst LockRule (sym (lock_scene-kept w x n v refl refl refl refl)) g.core.lock;
         attempts = attempts-stay w x n v refl refl refl refl g.core.attempts;
         running = runs-stays c (regime w) (regime x) (run_scene (veil w)) (run_scene (veil x)) handed (run_scene-kept (veil w) (veil x) n v refl refl refl refl refl refl refl bare refl refl) g.core.running;

@@ -9,7 +9,7 @@ use Rattle.rule_base.specs.declared.views.GateView.{GateView}
 use Rattle.rule_base.specs.declared.views.Phase.TheVariants.{Idle, In, Closing}
 use Rattle.rule_base.specs.declared.views.View.{View}
 use Rattle.rule_base.specs.Encodings.{alg_of}
-use Rattle.stm_model.specs.Algorithms.{has_ring, has_records, takes_lock, is_built}
+use Rattle.stm_model.specs.Algorithms.{has_ring, has_records, takes_lock}
 use Rattle.rule_base.specs.GateRule.{gate_scene, GateRule, may_hold}
 use Rattle.rule_base.specs.GateLaws.{gate_scene-kept, gate-marked}
 use Rattle.rule_base.specs.History.{upto, touches}
@@ -222,10 +222,10 @@ pub record LeavesRuns (kind : StepKind) (n : ℕ) : Type 0 where
 
 module _ (good : (ℕ → ℕ) → Type 0) (c : Config) (kind : StepKind) (n : ℕ) (w : World) where
   -- a step at the gate, after which these clauses stand of what runs
-  pub by-running : LeavesCommon kind n → Core good c w → ((w.views n).gate.phase ≡ In → (kind.after w (w.views n) (answer kind w)).gate.phase ≡ In) → ((kind.after w (w.views n) (answer kind w)).attempt.entered ≡ true → may_hold (kind.after w (w.views n) (answer kind w)).gate.phase ≡ true) → Raised (world_after kind n w) → horizon w ≤ horizon (world_after kind n w) → is_built (alg_of (world_after kind n w).gate) ≡ true
+  pub by-running : LeavesCommon kind n → Core good c w → ((w.views n).gate.phase ≡ In → (kind.after w (w.views n) (answer kind w)).gate.phase ≡ In) → ((kind.after w (w.views n) (answer kind w)).attempt.entered ≡ true → may_hold (kind.after w (w.views n) (answer kind w)).gate.phase ≡ true) → Raised (world_after kind n w) → horizon w ≤ horizon (world_after kind n w)
       → GateRule c.callers (gate_scene (world_after kind n w)) → InstallRule c (install_scene (world_after kind n w)) → Runs c (regime (world_after kind n w)) (run_scene (world_after kind n w))
       → Core good c (world_after kind n w) × Advances w (world_after kind n w)
-  by-running leaves g phase entered raised level built gate install running = (
+  by-running leaves g phase entered raised level gate install running = (
     record {
       history = history-kept good c w x n v refl (leaves.words w).0 (leaves.history w).0 (leaves.history w).1 g.history;
       steps = steps-kept c kind n w (leaves.words w).0 (leaves.steps w).0 (leaves.steps w).1 g.steps;
@@ -233,7 +233,6 @@ module _ (good : (ℕ → ℕ) → Type 0) (c : Config) (kind : StepKind) (n : �
       install = install;
       records = records-after w x n v refl up (leaves.words w).2 (leaves.held w).1 (λ r t. phase (g.records.inside n r t)) g.records;
       lock = lock-phase w x n v refl (leaves.words w).1 (leaves.held w).0 (λ t. phase (g.lock.inside n (sym (leaves.held w).0 ∙ t))) g.lock;
-      built = built;
       attempts = attempts-after w x n v refl (λ e. phase (g.attempts.busy n (sym (leaves.busy w) ∙ e))) entered g.attempts;
       running = running;
       alone = alone-kept c kind n w (leaves.steps w).0 (λ sole. inr (leaves.words w).2) g.alone;
@@ -258,7 +257,7 @@ module _ (good : (ℕ → ℕ) → Type 0) (c : Config) (kind : StepKind) (n : �
   by-gate leaves g phase entered calm gate install same = by-running leaves.common g phase (λ e. entered (sym (ap (λ (u : RunView). u.attempt.entered) (leaves.view w)) ∙ e))
       (raised-put w x n v refl (λ e. sym (named-regime w) ∙ (sym (ap named_in same) ∙ (named-regime x ∙ e))) (λ e k. let t = sym (ap (λ (u : RunView). u.attempt.entered) (leaves.view w)) ∙ k in calm (g.raised (sym (named-regime w) ∙ (sym (ap named_in same) ∙ (named-regime x ∙ e))) n t) t) g.raised)
       (same-horizon w x (sym (named-regime x) ∙ (ap named_in same ∙ named-regime w)) (subst (λ (k : ℕ). w.clock ≤ k) (sym (leaves.common.words w).0) (le_refl w.clock)) (subst (λ (k : ℕ). w.done ≤ k) (sym (leaves.marks w).1) (le_refl w.done)))
-      (ap is_built (sym (named-regime x) ∙ (ap named_in same ∙ named-regime w)) ∙ g.built) gate install
+      gate install
       (runs-stays c (regime w) (regime x) (run_scene w) (run_scene x) same
       (run_scene-kept w x n v refl (leaves.common.words w).0 (leaves.common.words w).1 (leaves.marks w).0 (leaves.marks w).1 (leaves.common.words w).2 (leaves.memory w).1 (leaves.memory w).0 (leaves.common.history w).0 (leaves.view w)) g.running)
     where
@@ -300,7 +299,6 @@ by-attempt good c kind shows n May leaves opens w g may =
             (λ same. subst (InstallRule c) (sym (install_scene-kept w x n v refl same (leaves.marks w).0 (leaves.marks w).1 (leaves.view w))) g.install)
             p.stands;
         records = o.rule.records;
-        built = ap (λ (k : ℕ). is_built (alg_of k)) (leaves.gate w) ∙ g.built;
         lock = o.rule.lock;
         attempts = o.rule.attempts;
         running = subst (λ (r : Regime). Runs c r (run_scene x)) (sym (regime-kept w x n v refl (leaves.gate w) (ap mode_of (leaves.view w)) ∙ p.is)) o.rule.runs;
@@ -406,7 +404,6 @@ by-raise good c kind shows n t May alg raises inside law w g may = record {
     gate = gate-marked c.callers w x n v refl (raises.status w) (raises.gate w) (known (λ q. q.phase)) (known (λ q. q.present)) (known (λ q. q.algorithm)) (known (λ q. q.fence)) (known (λ q. q.aim)) (known (λ q. q.holds)) (known (λ q. q.checked)) g.gate;
     install = ticked-install c w x n t v refl (raises.clock w) (raises.marks w).0 (raises.marks w).1 (raises.view w) (subst (λ (k : ℕ). w.clock ≤ k) (raises.clock w) o.advances.clock) calm g.gate g.install;
     records = o.rule.records;
-    built = ap (λ (k : ℕ). is_built (alg_of k)) (raises.gate w) ∙ g.built;
     lock = o.rule.lock;
     attempts = o.rule.attempts;
     running = subst (λ (r : Regime). Runs c r (run_scene x)) (sym (regime-kept w x n v refl (raises.gate w) (known mode_of) ∙ is)) o.rule.runs;
@@ -450,7 +447,6 @@ by-done good c kind shows n May a leaves ring inside low law w g may =
         install = install-done c w x n v refl o.advances.clock (leaves w).3 (low (run_scene x) o.rule.runs) (up o.advances.horizon) (leaves w).2
             (nobody-calm c w n i.0 i.3 g.gate g.install (is-caller good c w g n (λ idle. let e : In ≡ Idle = sym i.0 ∙ idle in cc))) g.install;
         records = o.rule.records;
-        built = ap (λ (k : ℕ). is_built (alg_of k)) (leaves w).0 ∙ g.built;
         lock = o.rule.lock;
         attempts = o.rule.attempts;
         running = subst (λ (r : Regime). Runs c r (run_scene x)) (sym (regime-kept w x n v refl (leaves w).0 (ap mode_of (leaves w).2) ∙ is)) o.rule.runs;

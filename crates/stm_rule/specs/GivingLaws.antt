@@ -1,38 +1,37 @@
 -- The give-back keeps the one rule: its entry, and the gate without the fence.
-use Rattle.std.proofs.Common.{◌≡◌, ◌≢◌, ℕ, ◌+◌, ◌<◌, ◌≤◌, List, [], ◌∷◌, Bool, true, false, inr, refl, sym, subst, ap, ◌∙◌, le_refl, arith}
-use Rattle.std.specs.Prelude.{if◌then◌else◌, ◌==◌, ◌%◌, length}
-use Rattle.stm_model.specs.Algorithms.{is_built, entry_rise}
+use Rattle.std.proofs.Common.{◌≡◌, ℕ, ◌+◌, ◌<◌, ◌≤◌, List, ◌∷◌, Bool, true, false, inr, refl, sym, subst, ap, ◌∙◌, le_refl, arith}
+use Rattle.std.specs.Prelude.{if◌then◌else◌, ◌%◌, length}
+use Rattle.stm_model.specs.Algorithms.{entry_rise}
 use Rattle.stm_model.specs.declared.alg.Alg.{Alg}
 use Rattle.stm_model.specs.declared.alg.Alg.TheVariants.{Cgl, Tml, OrecLazy, OrecEager, RingSw, Serial}
 use Rattle.stm_model.specs.declared.config.Config.{Config}
 use Rattle.rule_base.specs.declared.entries.Cell.{Cell}
 use Rattle.rule_base.specs.declared.entries.Entry.{Entry}
-use Rattle.rule_base.specs.declared.views.FenceView.{FenceView}
-use Rattle.rule_base.specs.declared.views.Phase.TheVariants.{Idle, In, Closing}
+use Rattle.rule_base.specs.declared.views.Phase.TheVariants.{In, Closing}
 use Rattle.rule_base.specs.declared.views.View.{View}
 use Rattle.rule_base.specs.EncodingLemmas.{alg_of-gate, fence_of-gate}
 use Rattle.rule_base.specs.Encodings.{alg_of, holder_of, fence_of, fenced, gate_word}
-use Rattle.rule_base.specs.Fence.{veiled, veil, FenceScene, fence_scene, FenceHolder, FenceRule}
+use Rattle.rule_base.specs.Fence.{veiled, veil, fence_scene, FenceHolder}
 use Rattle.rule_base.specs.FenceLaws.{veiled-none, veiled-out, veiled-rest, fence-held, fence-goes}
 use Rattle.rule_base.specs.FenceSteps.{fence_entry, fence_commit, CanFenceCommit, FenceCommits, unfence, CanUnfence}
 use Rattle.rule_base.specs.GateLaws.{gate-marked, fence-gate, holder-closed, closed-fits}
 use Rattle.rule_base.specs.GateRule.{gate_scene, may_hold}
-use Rattle.rule_base.specs.History.{over, touches, word_now, upto, Below, Follows}
+use Rattle.rule_base.specs.History.{over, touches, word_now, Below, Follows}
 use Rattle.rule_base.specs.HistoryLemmas.{over-miss, below-more, upto-all, legal-good}
 use Rattle.rule_base.specs.HistoryRuleLemmas.{advances-entry, history-kept, history-entry}
 use Rattle.rule_base.specs.InstallLaws.{given-install, install-given}
 use Rattle.rule_base.specs.InstallSteps.{settle}
-use Rattle.rule_base.specs.PutLemmas.{put-all, put-here, put-else}
+use Rattle.rule_base.specs.PutLemmas.{put-all, put-here}
 use Rattle.rule_base.specs.RecordLemmas.{records-stay}
 use Rattle.rule_base.specs.Regime.{Regime, mode_of, regime}
 use Rattle.rule_base.specs.Regime.Mode.{Plain}
 use Rattle.rule_base.specs.Regime.Regime.{Running, Giving}
 use Rattle.rule_base.specs.RegimeLemmas.{named-regime, plain-mode, regime-running, regime-giving}
 use Rattle.rule_base.specs.Rest.{IsQuiet}
-use Rattle.rule_base.specs.RunScene.{RunView, run_view, run_scene}
+use Rattle.rule_base.specs.RunScene.{run_view, run_scene}
 use Rattle.rule_base.specs.StepKinds.{view_after, world_after, Nothing, StepLaw}
 use Rattle.rule_base.specs.StepsLemmas.{steps-kept, steps-raised}
-use Rattle.rule_base.specs.World.{World, put}
+use Rattle.rule_base.specs.World.{World}
 use Rattle.rule_seq.specs.AttemptLemmas.{attempts-after}
 use Rattle.rule_seq.specs.LockLemmas.{lock_scene-kept}
 use Rattle.rule_seq.specs.LockRule.{LockRule}
@@ -41,7 +40,7 @@ use Rattle.stm_rule.specs.ClosingLaws.{regime-handed}
 use Rattle.stm_rule.specs.FenceFindings.{FindsEven, CanSettleBack}
 use Rattle.stm_rule.specs.Frames.{same-horizon, ungranted-out, uncommitted}
 use Rattle.stm_rule.specs.Lifted.{settles_within}
-use Rattle.stm_rule.specs.Product.{Gives, Runs, Core, Whole}
+use Rattle.stm_rule.specs.Product.{Gives, Runs, Whole}
 use Rattle.stm_rule.specs.Raised.{raised-put}
 use Rattle.stm_rule.specs.RestLaws.{quiet-ease, heap-rests, nobody-else}
 use Rattle.stm_rule.specs.Running.{Ready, from-rest, ease-own, runs-fresh, runs-stays, run_scene-kept}
@@ -79,7 +78,6 @@ module _ (good : (ℕ → ℕ) → Type 0) (c : Config) (n : ℕ) where
         gate = gate-marked c.callers w x n v refl refl refl refl refl refl refl refl refl refl g.core.gate;
         install = given-install c w x n t v refl refl refl refl refl up may.calm may.phase g.core.gate g.core.install;
         records = records-stay w x n v refl up refl refl refl g.core.records;
-        built = g.core.built;
         lock = subst LockRule (sym (lock_scene-kept w x n v refl refl refl refl)) g.core.lock;
         attempts = attempts-after w x n v refl (λ f. g.core.attempts.busy n f) (λ f. ap may_hold may.phase) g.core.attempts;
         running = subst (λ (r : Regime). Runs c r (run_scene (veil x))) (sym giving) gives;
@@ -202,7 +200,6 @@ module _ (good : (ℕ → ℕ) → Type 0) (c : Config) (n : ℕ) where
         gate = fence-gate c.callers 0 false alg w x n v refl refl refl refl may.named may.phase may.quiet g.core.gate;
         install = install-given c w x n 0 v refl refl refl refl refl g.core.install;
         records = records-stay w x n v refl (le_refl w.clock) refl refl refl g.core.records;
-        built = ap is_built (named ∙ sym same) ∙ g.core.built;
         lock = subst LockRule (sym (lock_scene-kept w x n v refl refl refl refl)) g.core.lock;
         attempts = attempts-after w x n v refl (λ f. g.core.attempts.busy n f) (λ f. absurd cc) g.core.attempts;
         running = runs (w.views n).gate.giving refl;

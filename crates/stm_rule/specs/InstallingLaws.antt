@@ -40,7 +40,6 @@ use Rattle.stm_rule.specs.Running.{Ready, from-rest, Moved, ease-moved, ease-own
 use Rattle.stm_rule.specs.Alone.{alone-kept}
 use Rattle.stm_rule.specs.Raised.{Raised, raised-put}
 use Rattle.stm_rule.specs.Product.{Gives, Runs, Core}
-use Rattle.stm_model.specs.Algorithms.{is_built}
 use Rattle.stm_rule.specs.RestLaws.{quiet-regime, quiet-ease, heap-rests, else-unentered}
 
 module _ (good : (ℕ → ℕ) → Type 0) (c : Config) (n : ℕ) where
@@ -117,7 +116,7 @@ module _ (good : (ℕ → ℕ) → Type 0) (c : Config) (n : ℕ) where
               (λ a settled. level ((heap-rests good c n w g quiet).2 a (λ m. ap (λ (f : ℕ → RunView). (f m).attempt.entered) (sym views) ∙ settled m))))
 
   pub stores_base : (t : ℕ) → StepLaw (Core good c) (store_base t) Nothing n (CanMark t)
-  stores_base t w g may = let o = by-running good c (store_base t) n w (record { words = λ w. (refl, refl, refl); history = λ w. (refl, refl); steps = λ w. (refl, refl); held = λ w. (refl, refl); busy = λ w. refl }) g (λ e. e) (λ e. g.attempts.entered n e) (raised-put w x n v refl (λ e. e) (λ e k. g.raised e n k) g.raised) (same-horizon w x refl (le_refl w.clock) (le_refl w.done)) g.built
+  stores_base t w g may = let o = by-running good c (store_base t) n w (record { words = λ w. (refl, refl, refl); history = λ w. (refl, refl); steps = λ w. (refl, refl); held = λ w. (refl, refl); busy = λ w. refl }) g (λ e. e) (λ e. g.attempts.entered n e) (raised-put w x n v refl (λ e. e) (λ e k. g.raised e n k) g.raised) (same-horizon w x refl (le_refl w.clock) (le_refl w.done))
       (gate-marked c.callers w x n v refl refl refl refl refl refl refl refl refl refl g.gate) (store_base-install c t w n may g.gate g.install)
       (marked w x v g may.closing may.calm refl refl refl (record { clock = le_refl w.clock; base = (let b = g.install.base in let k = clock in omega arith); based = (let k = clock in omega arith); done = le_refl w.done; within = g.install.done; lock = refl; records = refl; slots = refl; heap = refl; history = refl; fronts = λ m. ap (λ (f : ℕ → RunView). (f m).front) (parts-kept run_view w.views n v refl) }) refl refl (λ e. e)) in
       record { rule = o.0; advances = o.1; shown = tt }
@@ -132,7 +131,7 @@ module _ (good : (ℕ → ℕ) → Type 0) (c : Config) (n : ℕ) where
       v = view_after (store_base t) w (w.views n) t
 
   pub stores_done : (t : ℕ) → StepLaw (Core good c) (store_done t) Nothing n (CanMark t)
-  stores_done t w g may = let o = by-running good c (store_done t) n w (record { words = λ w. (refl, refl, refl); history = λ w. (refl, refl); steps = λ w. (refl, refl); held = λ w. (refl, refl); busy = λ w. refl }) g (λ e. e) (λ e. g.attempts.entered n e) (raised-put w x n v refl (λ e. e) (λ e k. g.raised e n k) g.raised) (same-horizon w x refl (le_refl w.clock) up) g.built
+  stores_done t w g may = let o = by-running good c (store_done t) n w (record { words = λ w. (refl, refl, refl); history = λ w. (refl, refl); steps = λ w. (refl, refl); held = λ w. (refl, refl); busy = λ w. refl }) g (λ e. e) (λ e. g.attempts.entered n e) (raised-put w x n v refl (λ e. e) (λ e k. g.raised e n k) g.raised) (same-horizon w x refl (le_refl w.clock) up)
       (gate-marked c.callers w x n v refl refl refl refl refl refl refl refl refl refl g.gate) (store_done-install c t w n may g.gate g.install)
       (marked w x v g may.closing may.calm refl refl refl (record { clock = le_refl w.clock; base = le_refl w.base; based = g.install.base; done = up; within = (let k = clock in omega arith); lock = refl; records = refl; slots = refl; heap = refl; history = refl; fronts = λ m. ap (λ (f : ℕ → RunView). (f m).front) (parts-kept run_view w.views n v refl) }) refl refl (λ e. sym clock)) in
       record { rule = o.0; advances = o.1; shown = tt }
@@ -165,7 +164,6 @@ module _ (good : (ℕ → ℕ) → Type 0) (c : Config) (n : ℕ) where
       install = even_clock-install c t w n may g.gate g.install;
       records = records-stay w x n v refl up refl refl refl g.records;
       lock = subst LockRule (sym (lock_scene-kept w x n v refl refl refl refl)) g.lock;
-      built = g.built;
       attempts = attempts-after w x n v refl (λ e. g.attempts.busy n e) (λ e. ap may_hold may.phase) g.attempts;
       running = subst (λ (r : Regime). Runs c r (run_scene x)) (sym (regime-kept w x n v refl refl refl ∙ quiet-regime good c n w g quiet may.ungiven))
           (runs-moved c (alg_of w.gate) (run_scene w) (run_scene x) (subst (λ (r : Regime). Runs c r (run_scene w)) (quiet-regime good c n w g quiet may.ungiven) g.running) (quiet-ease good c n w g quiet)
@@ -204,8 +202,8 @@ module _ (good : (ℕ → ℕ) → Type 0) (c : Config) (n : ℕ) where
       path : history_scene x ≡ record (history_scene w) { clock = t }
       path = λ i. record { clock = t; history = w.history; views = parts-kept (λ (u : View). u.history) w.views n v refl i }
 
-  pub installs : (fence : ℕ) (alg : Alg) → is_built alg ≡ true → StepLaw (Core good c) (install n fence alg) Nothing n (CanInstall fence alg)
-  installs fence alg built w g may = let o = by-running good c (install n fence alg) n w (record { words = λ w. (refl, refl, refl); history = λ w. (refl, refl); steps = λ w. (refl, refl); held = λ w. (refl, refl); busy = λ w. refl }) g (λ e. e) (λ e. absurd cc) raised (subst (λ (k : ℕ). horizon w ≤ k) (sym (horizon-level x ready.done)) (horizon-low w g.install.done)) (ap is_built (alg_of-gate fence (1 + n) alg) ∙ built)
+  pub installs : (fence : ℕ) (alg : Alg) → StepLaw (Core good c) (install n fence alg) Nothing n (CanInstall fence alg)
+  installs fence alg w g may = let o = by-running good c (install n fence alg) n w (record { words = λ w. (refl, refl, refl); history = λ w. (refl, refl); steps = λ w. (refl, refl); held = λ w. (refl, refl); busy = λ w. refl }) g (λ e. e) (λ e. absurd cc) raised (subst (λ (k : ℕ). horizon w ≤ k) (sym (horizon-level x ready.done)) (horizon-low w g.install.done))
       (install-gate c.callers fence alg w n may.guarded may.phase quiet.checked g.gate) (install-install c fence alg w n g.install)
       (subst (λ (r : Regime). Runs c r (run_scene x)) (sym runs) (from-rest c alg (run_scene x) (ease-own w x n v refl (le_refl w.clock) refl refl refl refl refl refl refl refl (quiet-ease good c n w g quiet)) ready)) in
       record { rule = o.0; advances = o.1; shown = tt }

@@ -129,7 +129,7 @@ module _ (good : (ℕ → ℕ) → Type 0) (c : Config) (n : ℕ) where
   pub loads_gate : StepLaw (Core good c) load_gate (FindsHolder c n) n CanLoadGate
   loads_gate w g may = let o = by-gate good c load_gate n w (record { common = record { words = λ w. (refl, refl, refl); history = λ w. (refl, refl); steps = λ w. (refl, refl); held = λ w. (refl, refl); busy = λ w. refl }; marks = λ w. (refl, refl); memory = λ w. (refl, refl); view = λ w. refl }) g (λ e. absurd (out e)) (λ e. absurd (unentered good c w n g (ap may_hold may) e)) (λ k e. k) (load_gate-gate c.callers w n may g.gate)
       (install-apart c w x n v refl refl refl refl (unheld good c w n g (ap may_hold may)) refl refl refl refl refl g.install) (regime-kept w x n v refl refl refl) in
-      record { rule = o.0; advances = o.1; shown = record { built = g.built; closer = λ free other. closer w g w.gate refl other free } }
+      record { rule = o.0; advances = o.1; shown = λ free other. closer w g w.gate refl other free }
     where
       x : World
       x = world_after load_gate n w
@@ -148,7 +148,6 @@ module _ (good : (ℕ → ℕ) → Type 0) (c : Config) (n : ℕ) where
       gate = depart-gate c.callers w n may g.gate;
       install = depart-install c w n may g.install;
       records = records-after w x n v refl (le_refl w.clock) refl refl (λ k t. absurd (let e : false ≡ true = sym (ap (λ q. touches q k) may.disowned) ∙ t in cc)) g.records;
-      built = g.built;
       lock = lock-phase w x n v refl refl refl (λ t. absurd (let o = may.unlocked in cc)) g.lock;
       attempts = attempts-after w x n v refl (λ t. absurd (let f : true ≡ false = sym t ∙ idle-busy v refl may.unwritten refl refl may.uncommitted in cc)) (λ e. still (w.views n).gate.phase may.unentered e (g.attempts.entered n e)) g.attempts;
       running = runs-stays c (regime w) (regime x) (record (run_scene w) { views = put (run_scene w).views n (run_view v) }) (run_scene x) (regime-kept w x n v refl refl refl) (run_scene-put w x n v refl refl refl refl refl refl refl refl refl)
@@ -206,7 +205,6 @@ module _ (good : (ℕ → ℕ) → Type 0) (c : Config) (n : ℕ) where
       gate = subst (GateRule c.callers) (sym (gate_scene-kept w x n v refl refl refl refl)) g.gate;
       install = subst (InstallRule c) (sym (install_scene-kept w x n v refl refl refl refl refl)) g.install;
       records = records-stay w x n v refl (le_refl w.clock) refl refl refl g.records;
-      built = g.built;
       lock = subst LockRule (sym (lock_scene-kept w x n v refl refl refl refl)) g.lock;
       attempts = attempts-stay w x n v refl refl refl refl g.attempts;
       running = runs-stays c (regime w) (regime x) (run_scene w) (run_scene x) (regime-kept w x n v refl refl refl) (run_scene-kept w x n v refl refl refl refl refl refl refl refl refl refl) g.running;
@@ -243,7 +241,6 @@ module _ (good : (ℕ → ℕ) → Type 0) (c : Config) (n : ℕ) where
     gate = subst (GateRule c.callers) (sym (gate_scene-kept w x n v refl refl refl refl)) g.gate;
     install = subst (InstallRule c) (sym (install_scene-kept w x n v refl refl refl refl refl)) g.install;
     records = records-stay w x n v refl (le_refl w.clock) refl refl refl g.records;
-    built = g.built;
     lock = subst LockRule (sym (lock_scene-kept w x n v refl refl refl refl)) g.lock;
     attempts = attempts-stay w x n v refl refl refl refl g.attempts;
     running = runs-stays c (regime w) (regime x) (record (run_scene w) { views = put (run_scene w).views n (run_view v) }) (run_scene x) (regime-kept w x n v refl refl refl) (run_scene-put w x n v refl refl refl refl refl refl refl refl refl) (runs-leave c (regime w) (run_scene w) n (run_view v) (record { was = idle; out = record { unlocked = idle.unlocked; unwritten = idle.unwritten; uncommitted = idle.uncommitted }; tml = outside good c w n g out; owned = outside-records good c w n g out; bare = bare good c w n g out; apart = none-apart good c w n g (bare good c w n g out); unread = unread good c w n g out; entered = refl }) (low (nat_le k.front (w.views n).history.front) refl)

@@ -11,6 +11,7 @@ pub mod RecordLaws
 pub mod RingLaws
 pub mod ClosingLaws
 pub mod Openings
+pub mod Starting
 pub mod CoreRuns
 pub mod NoteRuns
 pub mod Quiescence

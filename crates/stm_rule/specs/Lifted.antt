@@ -1,20 +1,18 @@
 -- THE LAWS OF ALL KINDS, with a fence: each is the core's law, lifted.
-use Rattle.std.proofs.Common.{◌≡◌, ◌≢◌, ℕ, ◌+◌, ◌<◌, ◌≤◌, List, [], ◌∷◌, Bool, true, false, refl, sym, subst, ap, ◌∙◌, arith}
-use Rattle.std.specs.Prelude.{◌^◌}
+use Rattle.std.proofs.Common.{◌≡◌, ℕ, ◌<◌, List, [], Bool, true, subst}
 use Rattle.rule_base.specs.Encodings.{fence_of, gate_word}
 use Rattle.rule_base.specs.GateSteps.{CanAim, CanAnnounce, CanCheck, CanDepart, CanLoadGate, CanLookGate, CanReopen, CanReturn, CanSeize, CanTakeGate, aim, announce, check, depart, load_gate, look_gate, reopen, return_gate, seize, take_gate}
 use Rattle.rule_base.specs.InstallSteps.{CanEvenClock, CanInstall, CanMark, CanSettle, Settles, even_clock, install, settle, store_base, store_done}
 use Rattle.rule_base.specs.Ranks.{home_of}
 use Rattle.rule_base.specs.StepKinds.{Nothing, StepLaw}
 use Rattle.rule_base.specs.declared.entries.Cell.{Cell}
-use Rattle.rule_orec.specs.OrecSteps.{CanOrecBegin, CanOrecClock, CanOrecCommit, CanOrecConfirm, CanOrecGrant, CanOrecGrantAll, CanOrecLast, CanOrecLift, CanOrecLoad, CanOrecLock, CanOrecOld, CanOrecOwnLoad, CanOrecPass, CanOrecPlace, CanOrecRestore, CanOrecSample, CanOrecSave, CanOrecTime, CanOrecUp, CanOrecWriteBack, HasOrec, OrecClocks, OrecConfirms, OrecOwnLoads, orec_begin, orec_clock, orec_clock_all, orec_commit, orec_confirm, orec_grant, orec_grant_all, orec_last, orec_lift, orec_limit, orec_load, orec_lock, orec_look, orec_own_load, orec_pass, orec_place, orec_release, orec_restore, orec_sample, orec_save, orec_write_back, passes}
+use Rattle.rule_orec.specs.OrecSteps.{CanOrecBegin, CanOrecClock, CanOrecCommit, CanOrecConfirm, CanOrecGrant, CanOrecGrantAll, CanOrecLast, CanOrecLift, CanOrecLoad, CanOrecLock, CanOrecOld, CanOrecOwnLoad, CanOrecPass, CanOrecPlace, CanOrecRestore, CanOrecSample, CanOrecSave, CanOrecTime, CanOrecUp, CanOrecWriteBack, HasOrec, OrecClocks, OrecConfirms, OrecOwnLoads, orec_begin, orec_clock, orec_clock_all, orec_commit, orec_confirm, orec_grant, orec_grant_all, orec_last, orec_lift, orec_limit, orec_load, orec_lock, orec_look, orec_own_load, orec_pass, orec_place, orec_release, orec_restore, orec_sample, orec_save, orec_write_back}
 use Rattle.rule_promoted.specs.PromotedSteps.{CanDirectCommit, CanDirectLoad, CanDirectRelease, CanDirectStore, CanRingGrant, CanRingMoveGrant, CanTmlGrant, direct_commit, direct_load, direct_release, direct_store, ring_look_grant, ring_move_grant, tml_grant}
 use Rattle.rule_promoted.specs.QuittingSteps.{direct_quit, CanDirectQuit}
 use Rattle.rule_ring.specs.RingSteps.{CanRingAgain, CanRingBegin, CanRingDone, CanRingEnter, CanRingFree, CanRingLoad, CanRingLock, CanRingLook, CanRingMove, CanRingSlot, CanRingWord, CanRingWrite, HasTurn, RingBegins, RingEnters, RingLooks, RingMoves, ring_again, ring_begin, ring_done, ring_enter, ring_free, ring_load, ring_lock, ring_look, ring_move, ring_slot, ring_tick, ring_word, ring_write}
 use Rattle.rule_ring.specs.SlotFilter.{slot_filter}
 use Rattle.rule_seq.specs.CglSteps.{Begins, CanFreeLock, CanLoadHeap, CanLoadLimit, CanLoadStart, CanLoadUndo, CanStoreClock, CanStoreHeap, CanTakeBack, CanTakeLock, Commits, Loads, LoadsLimit, free_lock, load_heap, load_limit, load_start, load_undo, store_clock, store_heap, take_back, take_lock}
 use Rattle.rule_seq.specs.TmlSteps.{CanTmlAgain, CanTmlBegin, CanTmlCommit, CanTmlLoad, CanTmlStore, CanTmlWrite, TmlAgain, TmlBegins, TmlLoads, tml_again, tml_begin, tml_commit, tml_load, tml_store, tml_write}
-use Rattle.stm_model.specs.Algorithms.{is_built}
 use Rattle.stm_model.specs.declared.alg.Alg.{Alg}
 use Rattle.stm_rule.specs.Findings.{FindsAgain, FindsBegin, FindsGate, FindsHolder, FindsLock, FindsSole, FindsTaken, FindsWithin, OrecFails, OrecSettled}
 use Rattle.stm_rule.specs.NoteSteps.{CanLoadEnd, Ends, EndsAt, Hears, hear, load_end}
@@ -98,7 +96,7 @@ module _ (good : (ℕ → ℕ) → Type 0) (c : Config) (n : ℕ) where
   announces low = lift good c (announce n) Nothing Nothing n CanAnnounce (sparing.announces good c n) (λ w g may s. s) (core.announces good c n low)
 
   pub loads_gate : StepLaw (Whole good c) load_gate (FindsGate c n) n CanLoadGate
-  loads_gate = lift good c load_gate (FindsHolder c n) (FindsGate c n) n CanLoadGate (sparing.loads_gate good c n) (λ w g may s. record { built = s.built; closer = s.closer; unfenced = g.fence.off }) (core.loads_gate good c n)
+  loads_gate = lift good c load_gate (FindsHolder c n) (FindsGate c n) n CanLoadGate (sparing.loads_gate good c n) (λ w g may s. record { closer = s; unfenced = g.fence.off }) (core.loads_gate good c n)
 
   pub departs : StepLaw (Whole good c) (depart n) Nothing n CanDepart
   departs = lift good c (depart n) Nothing Nothing n CanDepart (sparing.departs good c n) (λ w g may s. s) (core.departs good c n)
@@ -110,10 +108,10 @@ module _ (good : (ℕ → ℕ) → Type 0) (c : Config) (n : ℕ) where
   loads_end = lift good c load_end EndsAt (Ends good c) n CanLoadEnd (sparing.loads_end good c n) (λ w g may s. record { rule = g; clock = s }) (core.loads_end good c n)
 
   pub aims : StepLaw (Whole good c) aim (FindsGate c n) n CanAim
-  aims = lift good c aim (FindsHolder c n) (FindsGate c n) n CanAim (sparing.aims good c n) (λ w g may s. record { built = s.built; closer = s.closer; unfenced = g.fence.off }) (closing.aims good c n)
+  aims = lift good c aim (FindsHolder c n) (FindsGate c n) n CanAim (sparing.aims good c n) (λ w g may s. record { closer = s; unfenced = g.fence.off }) (closing.aims good c n)
 
   pub takes_gate : (word : ℕ) → n < c.callers → StepLaw (Whole good c) (take_gate n word) (FindsTaken c n word) n (CanTakeGate word)
-  takes_gate word low = lift good c (take_gate n word) (FindsTaken c n word) (FindsTaken c n word) n (CanTakeGate word) (sparing.takes_gate good c n word low) (λ w g may s. record { built = s.built; closer = s.closer }) (closing.takes_gate good c n word low)
+  takes_gate word low = lift good c (take_gate n word) (FindsTaken c n word) (FindsTaken c n word) n (CanTakeGate word) (sparing.takes_gate good c n word low) (λ w g may s. s) (closing.takes_gate good c n word low)
 
   pub checks : (k : ℕ) → StepLaw (Whole good c) (check k) Nothing n (CanCheck n k)
   checks k = lift good c (check k) Nothing Nothing n (CanCheck n k) (sparing.checks good c n k) (λ w g may s. s) (closing.checks good c n k)
@@ -133,14 +131,14 @@ module _ (good : (ℕ → ℕ) → Type 0) (c : Config) (n : ℕ) where
   pub evens_clock : (t : ℕ) → n < c.callers → StepLaw (Whole good c) (even_clock t) Nothing n (CanEvenClock t)
   evens_clock t low = lift good c (even_clock t) Nothing Nothing n (CanEvenClock t) (sparing.evens_clock good c n t) (λ w g may s. s) (installing.evens_clock good c n t low)
 
-  pub installs : (fence : ℕ) (alg : Alg) → is_built alg ≡ true → StepLaw (Whole good c) (install n fence alg) Nothing n (CanInstall fence alg)
-  installs fence alg built = lift good c (install n fence alg) Nothing Nothing n (CanInstall fence alg) (sparing.installs good c n fence alg) (λ w g may s. s) (installing.installs good c n fence alg built)
+  pub installs : (fence : ℕ) (alg : Alg) → StepLaw (Whole good c) (install n fence alg) Nothing n (CanInstall fence alg)
+  installs fence alg = lift good c (install n fence alg) Nothing Nothing n (CanInstall fence alg) (sparing.installs good c n fence alg) (λ w g may s. s) (installing.installs good c n fence alg)
 
   pub looks_gate : StepLaw (Whole good c) look_gate (FindsGate c n) n CanLookGate
-  looks_gate = lift good c look_gate (FindsHolder c n) (FindsGate c n) n CanLookGate (sparing.looks_gate good c n) (λ w g may s. record { built = s.built; closer = s.closer; unfenced = g.fence.off }) (promotion.looks_gate good c n)
+  looks_gate = lift good c look_gate (FindsHolder c n) (FindsGate c n) n CanLookGate (sparing.looks_gate good c n) (λ w g may s. record { closer = s; unfenced = g.fence.off }) (promotion.looks_gate good c n)
 
   pub seizes : (fence : ℕ) (alg : Alg) → StepLaw (Whole good c) (seize n fence alg) (FindsTaken c n (gate_word fence 0 alg)) n (CanSeize fence alg)
-  seizes fence alg = lift good c (seize n fence alg) (FindsTaken c n (gate_word fence 0 alg)) (FindsTaken c n (gate_word fence 0 alg)) n (CanSeize fence alg) (sparing.seizes good c n fence alg) (λ w g may s. record { built = s.built; closer = s.closer }) (promotion.seizes good c n fence alg)
+  seizes fence alg = lift good c (seize n fence alg) (FindsTaken c n (gate_word fence 0 alg)) (FindsTaken c n (gate_word fence 0 alg)) n (CanSeize fence alg) (sparing.seizes good c n fence alg) (λ w g may s. s) (promotion.seizes good c n fence alg)
 
   pub grants : StepLaw (Whole good c) tml_grant Nothing n (CanTmlGrant c.callers n)
   grants = lift good c tml_grant Nothing Nothing n (CanTmlGrant c.callers n) (sparing_more.grants good c n) (λ w g may s. s) (promotion.grants good c n)

@@ -1,6 +1,5 @@
 -- THE LIFT: a law of a kind of step without a fence is one with it, where the step leaves the fenced range alone.
-use Rattle.std.proofs.Common.{◌≡◌, ℕ, ◌+◌, ◌<◌, ◌≤◌, List, [], ◌∷◌, Bool, true, false, refl, sym, subst, ap, ◌∙◌, le_refl}
-use Rattle.std.specs.Prelude.{if◌then◌else◌, ◌==◌, ◌||◌}
+use Rattle.std.proofs.Common.{◌≡◌, ℕ, List, ◌∷◌, true, false, refl, sym, subst, ap, ◌∙◌, le_refl}
 use Rattle.stm_model.specs.declared.config.Config.{Config}
 use Rattle.rule_base.specs.declared.entries.Cell.{Cell}
 use Rattle.rule_base.specs.declared.entries.Entry.{Entry}
@@ -8,9 +7,8 @@ use Rattle.rule_base.specs.declared.views.Phase.TheVariants.{Idle, In}
 use Rattle.rule_base.specs.declared.views.View.{View}
 use Rattle.rule_base.specs.Encodings.{fence_of, fenced}
 use Rattle.rule_base.specs.Fence.{veiled, veil, owes}
-use Rattle.rule_base.specs.FenceLaws.{veiled-out, veiled-put, veiled-entry, entry-apart, fence-stays}
-use Rattle.rule_base.specs.History.{over, touches, without, word_now}
-use Rattle.rule_base.specs.HistoryLemmas.{touches-without}
+use Rattle.rule_base.specs.FenceLaws.{veiled-out, veiled-put, veiled-entry, fence-stays}
+use Rattle.rule_base.specs.History.{touches, word_now}
 use Rattle.rule_base.specs.PutLemmas.{put-else}
 use Rattle.rule_base.specs.StepKinds.{StepKind, Advances, answer, view_after, world_after, StepLaw}
 use Rattle.rule_base.specs.World.{World, put}

@@ -6,7 +6,7 @@ use Rattle.rule_base.specs.declared.layout.At.TheVariants.{Heap}
 use Rattle.rule_base.specs.Encodings.{fenced}
 use Rattle.stm_rule.specs.CoreRuns.{core_kind}
 use Rattle.stm_rule.specs.CoreRuns.CoreStep.{fence_loads, fence_stores, unfences}
-use Rattle.stm_rule.specs.NoteRuns.{Shared, Deed, SharedRule, after_deed, MayDo, AllMay}
+use Rattle.stm_rule.specs.NoteRuns.{Shared, Deed, SharedRule, AllMay}
 use Rattle.stm_rule.specs.NoteRuns.Deed.{steps, tells, learns}
 
 -- the place is no word of the fence's range

@@ -2,7 +2,6 @@
 use Rattle.std.specs.Prelude.{ℕ, ◌≡◌, ◌≤◌, ◌%◌, true, false}
 use Rattle.stm_model.specs.declared.alg.Alg.{Alg}
 use Rattle.rule_base.specs.History.{word_now}
-use Rattle.stm_model.specs.Algorithms.{is_built}
 use Rattle.stm_model.specs.declared.alg.Alg.TheVariants.{Cgl, Tml, OrecLazy, OrecEager, RingSw, Serial}
 use Rattle.stm_model.specs.declared.config.Config.{Config}
 use Rattle.rule_base.specs.Encodings.{alg_of}
@@ -53,8 +52,6 @@ pub record Core (good : (ℕ → ℕ) → Type 0) (c : Config) (w : World) : Typ
   pub gate : GateRule c.callers (gate_scene w)
   pub install : InstallRule c (install_scene w)
   pub records : RecordRule (record_scene w)
-  -- only an algorithm that is built was installed
-  pub built : is_built (alg_of w.gate) ≡ true
   pub lock : LockRule (lock_scene w)
   pub attempts : AttemptRule (attempt_scene w)
   pub running : Runs c (regime w) (run_scene w)

@@ -12,7 +12,7 @@ use Rattle.rule_base.specs.EncodingLemmas.{alg_of-gate, holder_of-open}
 use Rattle.rule_base.specs.Encodings.{alg_of, holder_of, fence_of, gate_word, version_of}
 use Rattle.rule_base.specs.GateLaws.{gate_scene-kept, gate-marked, seize-gate, return_gate-gate, holder-closed, is-caller-at}
 use Rattle.rule_base.specs.GateRule.{gate_scene, GateRule, may_hold}
-use Rattle.stm_model.specs.Algorithms.{has_records, is_built}
+use Rattle.stm_model.specs.Algorithms.{has_records}
 use Rattle.rule_base.specs.GateSteps.{look_gate, CanLookGate, seized, seize, CanSeize, granted_at, returned, return_gate, CanReturn}
 use Rattle.rule_base.specs.History.{over, touches, word_at, word_now}
 use Rattle.rule_base.specs.HistoryRule.{HistoryRule, history_scene}
@@ -71,7 +71,7 @@ module _ (good : (ℕ → ℕ) → Type 0) (c : Config) (n : ℕ) where
   pub looks_gate : StepLaw (Core good c) look_gate (FindsHolder c n) n CanLookGate
   looks_gate w g may = let o = by-gate good c look_gate n w (record { common = record { words = λ w. (refl, refl, refl); history = λ w. (refl, refl); steps = λ w. (refl, refl); held = λ w. (refl, refl); busy = λ w. refl }; marks = λ w. (refl, refl); memory = λ w. (refl, refl); view = λ w. refl }) g (λ e. e) (λ e. g.attempts.entered n e) (λ k e. k) (subst (GateRule c.callers) (sym (gate_scene-kept w x n v refl refl refl refl)) g.gate)
       (subst (InstallRule c) (sym (install_scene-kept w x n v refl refl refl refl refl)) g.install) (regime-kept w x n v refl refl refl) in
-      record { rule = o.0; advances = o.1; shown = record { built = g.built; closer = λ free other. closer good c n w g w.gate refl other free } }
+      record { rule = o.0; advances = o.1; shown = λ free other. closer good c n w g w.gate refl other free }
     where
       x : World
       x = world_after look_gate n w
@@ -81,7 +81,7 @@ module _ (good : (ℕ → ℕ) → Type 0) (c : Config) (n : ℕ) where
 
   pub seizes : (fence : ℕ) (alg : Alg) → StepLaw (Core good c) (seize n fence alg) (FindsTaken c n (gate_word fence 0 alg)) n (CanSeize fence alg)
   seizes fence alg w g may = let o = by-gate good c (seize n fence alg) n w (record { common = record { words = λ w. (refl, refl, refl); history = λ w. (refl, refl); steps = λ w. (refl, refl); held = λ w. (refl, refl); busy = λ w. refl }; marks = λ w. (refl, refl); memory = λ w. (refl, refl); view = λ w. refl }) g (inside (w.gate == gate_word fence 0 alg)) (λ e. held (w.gate == gate_word fence 0 alg) (g.attempts.entered n e)) (λ k e. absurd (let f : true ≡ false = sym (g.install.holding n k) ∙ may.free in cc)) (seize-gate c.callers fence alg w n may g.gate) (settled (w.gate == gate_word fence 0 alg)) (runs (w.gate == gate_word fence 0 alg) (λ e. eqb-true w.gate (gate_word fence 0 alg) e)) in
-      record { rule = o.0; advances = o.1; shown = record { built = g.built; closer = other } }
+      record { rule = o.0; advances = o.1; shown = other }
     where
       next : Bool → View
       next b = record (view_after (seize n fence alg) w (w.views n) w.gate) { gate = if b then seized (w.views n).gate else (w.views n).gate }
@@ -120,7 +120,7 @@ module _ (good : (ℕ → ℕ) → Type 0) (c : Config) (n : ℕ) where
   -- THE GRANT: what ran is the promoted attempt's
   pub grants : StepLaw (Core good c) tml_grant Nothing n (CanTmlGrant c.callers n)
   grants w g may = let p = go (tml_grants w.clock (w.views n)) (λ e. grants-at w.clock (w.views n) e) in
-      let o = by-running good c tml_grant n w (record { words = λ w. (refl, refl, refl); history = λ w. (refl, refl); steps = λ w. (refl, refl); held = λ w. (refl, refl); busy = λ w. refl }) g (inside (tml_grants w.clock (w.views n))) (λ e. held (tml_grants w.clock (w.views n)) (g.attempts.entered n e)) (λ e. absurd (let f : Tml ≡ RingSw = sym named ∙ e in cc)) (same-horizon w (world_after tml_grant n w) refl (le_refl w.clock) (le_refl w.done)) g.built p.0 p.1 p.2 in
+      let o = by-running good c tml_grant n w (record { words = λ w. (refl, refl, refl); history = λ w. (refl, refl); steps = λ w. (refl, refl); held = λ w. (refl, refl); busy = λ w. refl }) g (inside (tml_grants w.clock (w.views n))) (λ e. held (tml_grants w.clock (w.views n)) (g.attempts.entered n e)) (λ e. absurd (let f : Tml ≡ RingSw = sym named ∙ e in cc)) (same-horizon w (world_after tml_grant n w) refl (le_refl w.clock) (le_refl w.done)) p.0 p.1 p.2 in
       record { rule = o.0; advances = o.1; shown = tt }
     where
       next : Bool → View
@@ -216,7 +216,6 @@ module _ (good : (ℕ → ℕ) → Type 0) (c : Config) (n : ℕ) where
       gate = p.1;
       install = p.2;
       records = p.3;
-      built = g.built;
       lock = p.4;
       attempts = p.5;
       running = p.6;
@@ -280,7 +279,6 @@ module _ (good : (ℕ → ℕ) → Type 0) (c : Config) (n : ℕ) where
       gate = p.1;
       install = p.2;
       records = p.3;
-      built = g.built;
       lock = p.4;
       attempts = p.5;
       running = p.6;
@@ -338,7 +336,6 @@ module _ (good : (ℕ → ℕ) → Type 0) (c : Config) (n : ℕ) where
       gate = return_gate-gate c.callers fence alg w n may g.gate;
       install = install-view c w x n (returned (w.views n).gate) v refl refl refl refl refl refl refl refl refl refl g.install;
       records = records-stay w x n v refl (le_refl w.clock) refl refl refl g.records;
-      built = ap is_built (named ∙ sym same) ∙ g.built;
       lock = subst LockRule (sym (lock_scene-kept w x n v refl refl refl refl)) g.lock;
       attempts = attempts-in w x n v refl may.phase g.attempts;
       running = runs (w.views n).gate.granted refl;

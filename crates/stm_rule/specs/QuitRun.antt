@@ -1,6 +1,5 @@
 -- A promoted attempt that holds a record of a word that it took back, and wrote nothing: it raises the clock without an entry, and gives the record back at that number.
 use Rattle.std.proofs.Common.{◌≡◌, ℕ, List, [], ◌∷◌, true, refl, arith}
-use Rattle.stm_model.specs.Algorithms.{is_built}
 use Rattle.stm_model.specs.declared.alg.Alg.TheVariants.{OrecEager}
 use Rattle.stm_model.specs.declared.config.Config.{Config}
 use Rattle.rule_base.specs.Encodings.{free_record}
@@ -21,13 +20,13 @@ quit_end good c x = run core_kind (CoreMay good (small_config c)) (quitting x) (
 
 -- with one caller and one record and from clock 0 these steps are allowed; behind them there is no entry, the clock, BASE and DONE are 1, the record is free since 1, and word 0 is as it was
 abbrev pub CoreQuits : ((ℕ → ℕ) → Type 0) → Config → Type 0
-CoreQuits good c = is_built OrecEager ≡ true → (x : ℕ)
+CoreQuits good c = (x : ℕ)
     → Allowed core_kind (CoreMay good (small_config c)) (quitting x) (opening_world (small_config c))
     × ((quit_end good c x).history ≡ []) × ((quit_end good c x).clock ≡ 1) × ((quit_end good c x).base ≡ 1) × ((quit_end good c x).done ≡ 1)
     × ((quit_end good c x).records 0 ≡ free_record 1) × ((quit_end good c x).heap 0 ≡ 0)
 
 pub core_quits_lem : (good : (ℕ → ℕ) → Type 0) (c : Config) → CoreQuits good c
-core_quits_lem good c built x = (
+core_quits_lem good c x = (
   (
     (omega arith, refl),
     (
@@ -43,7 +42,7 @@ core_quits_lem good c built x = (
               (
                 (omega arith, record { closing = λ e. refl; calm = refl; time = refl }),
                 (
-                  (omega arith, (built, record { phase = refl; guarded = refl; ungiven = refl; calm = refl; rebased = refl; completed = refl; even = λ e. absurd cc })),
+                  (omega arith, record { phase = refl; guarded = refl; ungiven = refl; calm = refl; rebased = refl; completed = refl; even = λ e. absurd cc }),
                   (
                     (omega arith, record { phase = refl; absent = refl; named = refl; guarded = refl; ungiven = refl; unentered = refl }),
                     (

@@ -5,7 +5,6 @@ ghost use Rattle.rule_base.specs.Encodings.{gate_word};
 ghost use Rattle.rule_base.specs.InstallSteps.{settle, CanSettle, even_clock, CanEvenClock, store_base, store_done, CanMark, install, CanInstall};
 ghost use Rattle.rule_base.specs.StepKinds.{Nothing};
 ghost use Rattle.std.specs.Prelude.{◌≡◌, ◌<◌, ◌+◌, ◌^◌, true, ℕ};
-ghost use Rattle.stm_model.specs.Algorithms.{is_built};
 ghost use Rattle.stm_rule.specs.Callers.{IsSeatOf};
 ghost use Rattle.stm_rule.specs.Findings.{FindsWithin};
 ghost use Rattle.stm_rule.specs.Kept.{SeatTells, IsSameSeat, view_of};
@@ -63,7 +62,6 @@ impl<K: MemRule> Stm<K> {
     pub fn install(&self, seat: &mut Token<K>, caller: usize, fence: u64, alg: Alg)
         requires seat { IsSeatOf self.now caller seat.old }
         requires caller { caller < self.now.config.callers }
-        requires built { is_built alg ≡ true }
         requires fence { fence < 2 ^ 48 }
         requires view { CanInstall fence alg (view_of seat.old) }
         ensures same { IsSameSeat seat.old seat.new }

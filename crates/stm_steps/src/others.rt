@@ -1,7 +1,6 @@
 //! The calls of the gate, on a range and on notes, and those of marks, each brought to its most steps.
 ghost use Rattle.std.specs.Prelude.{◌≡◌, ℕ, ◌≤◌, true};
 ghost use Rattle.rule_base.specs.Encodings.{fenced};
-ghost use Rattle.stm_model.specs.Algorithms.{is_built};
 ghost use Rattle.stm_rule.specs.Callers.{IsOf, IsSameCaller};
 ghost use Rattle.tx_answers.specs.Fences.{is_within};
 ghost use Rattle.tx_answers.specs.Known.{IsIdle};
@@ -41,7 +40,6 @@ const PLAIN: Config = Config {
 fn count_gate(stm: &Stm<AnyMem>, desc: &mut Desc<AnyMem>, alg: Alg) -> bool
     requires desc { IsOf desc.old stm.now }
     requires idle { IsIdle (known desc.old) }
-    requires built { is_built alg ≡ true }
     ensures same { IsSameCaller desc.old desc.new }
     ensures idle { result ≡ true → IsIdle (known desc.new) }
 {

@@ -6,7 +6,6 @@ use Rattle.std.proofs.lemmas.List.Elements.{All-nil, All-cons, All-push}
 use Rattle.std.proofs.lemmas.Slice.Eq.{bytes_eq-Decides}
 use Rattle.stm_model.specs.declared.alg.Alg.{Alg}
 use Rattle.stm_model.specs.declared.config.TheConstants.{MAX_LOG}
-use Rattle.stm_model.specs.Algorithms.{is_built}
 use Rattle.tx_regions.specs.declared.region.Region.{Region}
 use Rattle.tx_regions.specs.declared.region.Region.TheVariants as kinds
 use Rattle.tx_regions.specs.declared.region.Structure.{Structure}
@@ -37,21 +36,21 @@ use Rattle.stm_text.specs.Grammar.{◌>>=◌, named, formed, ranged, below, numb
 use Rattle.stm_text.specs.Built.{RegionsOne, LayoutFits, HeaderFits, IsFreeIn, IsFree, HasStructure, OpFits, IsAllowed, IsLength, ItemFits, GoFits, all_turns, ScheduleFits, IsBuilt}
 use Rattle.stm_text.specs.Giving.{Gives}
 use Rattle.stm_text.proofs.OrderLaws.{order-snoc}
-use Rattle.stm_text.proofs.HeaderLaws.{then-gives, if-gives, if-else-gives, named-gives, formed-fits, below-fits, both-true, ranged-fits, algorithm-fits, if-both, HeadAt, bare-fits, Puts, number-within, header_line-fits, IsFront, At, Sound, none-fit, none-planned, next-by, next-no_turns, Leaves, head-sound, regions-sound, region-sound}
+use Rattle.stm_text.proofs.HeaderLaws.{then-gives, if-gives, if-else-gives, named-gives, formed-fits, below-fits, both-true, ranged-fits, gives-any, if-both, HeadAt, bare-fits, Puts, number-within, header_line-fits, IsFront, At, Sound, none-fit, none-planned, next-by, next-no_turns, Leaves, head-sound, regions-sound, region-sound}
 
 begun-sound : (m : Mode) (d : Writing) (c : ℕ) → Sound m d → d.schedule ≡ [] → c < d.header.callers → Gives (Leaves m d) (begun d c)
 begun-sound m d c s none lt = if-gives (Leaves m d) (ltb (length d.items) MAX_ITEMS) (Ok (Begin c)) 10
     (λ e. let room : length d.items < MAX_ITEMS = grind (arith, nat_tests) in
     record { header = s.header; count = s.count; items = s.items; ops = s.ops; schedule = s.schedule; turns = s.turns; here = (room, lt, none) })
 
-changed-sound : (m : Mode) (d : Writing) (c : ℕ) (alg : Alg) → Sound m d → At m Items d → d.place ≡ Items → c < d.header.callers → is_built alg ≡ true → Gives (Leaves m d) (changed d c alg)
-changed-sound m d c alg s at p lt is = if-gives (Leaves m d) (ltb (length d.items) MAX_ITEMS) (Ok (Change c alg)) 10
+changed-sound : (m : Mode) (d : Writing) (c : ℕ) (alg : Alg) → Sound m d → At m Items d → d.place ≡ Items → c < d.header.callers → Gives (Leaves m d) (changed d c alg)
+changed-sound m d c alg s at p lt = if-gives (Leaves m d) (ltb (length d.items) MAX_ITEMS) (Ok (Change c alg)) 10
     (λ e. let room : length d.items < MAX_ITEMS = grind (arith, nat_tests) in
     let more : Writing = record d { items = d.items ++ Switch c alg ∷ [] } in
     record {
       header = s.header;
       count = omega (arith, length-append d.items (Switch c alg ∷ []));
-      items = All-push (ItemFits d.header) d.items (Switch c alg) s.items (lt, is);
+      items = All-push (ItemFits d.header) d.items (Switch c alg) s.items lt;
       ops = s.ops;
       schedule = s.schedule;
       turns = s.turns;
@@ -440,7 +439,7 @@ three-sound m d Items w a v s at e =
     let switches : Result Step ℕ = caller_of d a >>= λ c. algorithm v >>= λ alg. changed d c alg in
     named-gives (Leaves m d) (codes "switch") w switches
     (then-gives (λ c. c < d.header.callers) (Leaves m d) (caller_of d a) (λ c. algorithm v >>= λ alg. changed d c alg) (caller-fits d a)
-    (λ c lt. then-gives (λ a. is_built a ≡ true) (Leaves m d) (algorithm v) (λ alg. changed d c alg) (algorithm-fits v) (λ alg is. changed-sound m d c alg s at e lt is)))
+    (λ c lt. then-gives (λ a. Unit {0}) (Leaves m d) (algorithm v) (λ alg. changed d c alg) (gives-any (algorithm v)) (λ alg _. changed-sound m d c alg s at e lt)))
 three-sound m d Turns w a v s at e =
     named-gives (Leaves m d) (codes "go") w (go_of d a v >>= planned d)
     (then-gives (GoFits d.header) (Leaves m d) (go_of d a v) (planned d) (go-fits d a v) (λ go fits. planned-sound m d go s at e fits))
@@ -515,7 +514,6 @@ opening-fits = record {
     writes = (omega arith, omega arith);
     clock = omega arith;
   };
-  alg = refl;
   layout = bare-fits One opening.header (refl, refl);
 }
 

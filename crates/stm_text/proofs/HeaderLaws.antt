@@ -6,7 +6,7 @@ use Rattle.std.proofs.lemmas.List.Elements.{All-nil, All-push}
 use Rattle.stm_model.specs.declared.alg.Alg.{Alg}
 use Rattle.stm_model.specs.declared.alg.TheConstants.{ALGORITHMS}
 use Rattle.stm_model.specs.declared.config.TheConstants.{MAX_WORDS, MAX_RECORDS, MIN_RING, MAX_RING, MAX_CALLERS, MAX_LOG, CLOCK_LIMIT}
-use Rattle.stm_model.specs.Algorithms.{alg_name, is_built}
+use Rattle.stm_model.specs.Algorithms.{alg_name}
 use Rattle.stm_profile.specs.declared.policy.Policy.{Policy}
 use Rattle.stm_profile.specs.declared.policy.Policy.TheVariants.{Fixed}
 use Rattle.stm_profile.specs.declared.policy.Policy.TheVariants as policies
@@ -77,15 +77,6 @@ sized-fits : (name : List ℕ) (low high : ℕ) (w v : List ℕ) → Gives (λ k
 sized-fits name low high w v =
     named-gives (λ k. (low ≤ k) × (k ≤ high)) name w (number low high v)
     (then-gives (λ n. n < 2 ^ 64) (λ k. (low ≤ k) × (k ≤ high)) (formed (number_of v)) (ranged low high) (formed-fits v) (λ n h. ranged-fits low high n))
-
-algorithm_of-fits : (algs : List Alg) (w : List ℕ) → Gives (λ a. is_built a ≡ true) (algorithm_of algs w)
-algorithm_of-fits [] w = tt
-algorithm_of-fits (alg ∷ algs) w =
-    if-else-gives (λ a. is_built a ≡ true) (bytes_eq w (alg_name alg) && is_built alg) (Ok alg) (algorithm_of algs w)
-    (λ e. let two = both-true (bytes_eq w (alg_name alg)) (is_built alg) e in two.1) (algorithm_of-fits algs w)
-
-pub algorithm-fits : (w : List ℕ) → Gives (λ a. is_built a ≡ true) (algorithm w)
-algorithm-fits w = algorithm_of-fits ALGORITHMS w
 
 pub if-both : {A : Type 0} (P : A → Type 0) (b : Bool) (x y : Result A ℕ) → Gives P x → Gives P y → Gives P (if b then x else y)
 if-both P true x y h g = h
@@ -187,7 +178,7 @@ behind-at : (v : Version) (h : Header) (n : ℕ) → h.version ≡ v → IsBare 
 behind-at One h n e b = (e, b)
 behind-at Two h n e b = (e, b)
 
-gives-any : {A : Type 0} (r : Result A ℕ) → Gives (λ a. Unit {0}) r
+pub gives-any : {A : Type 0} (r : Result A ℕ) → Gives (λ a. Unit {0}) r
 gives-any (Ok a) = tt
 gives-any (Err c) = tt
 
@@ -197,58 +188,58 @@ header_line-fits VersionLine h n w v f at =
     then-gives (λ k. Unit {0}) (Puts h n Words) first (λ k. Ok (fields.Version k)) (gives-any first)
     (λ k _.
     let words = subst (λ x. h.words ≤ most_words x) at.0 f.words in
-    (record { config = f.config; words = least-words k h.words words; alg = f.alg; layout = bare-fits k (record h { version = k }) at.1 }, at.1))
+    (record { config = f.config; words = least-words k h.words words; layout = bare-fits k (record h { version = k }) at.1 }, at.1))
 header_line-fits Words h n w v f at =
     number-fits (Puts h n Callers) (codes "words") 1 (most_words h.version) w v (λ k. fields.Words k)
     (λ k le.
     let c = f.config in
     let most = le.1 in
     let all = most-words h.version in
-    (record { config = record { words = (le.0, omega arith); records = c.records; ring = c.ring; callers = c.callers; reads = c.reads; writes = c.writes; clock = c.clock }; words = most; alg = f.alg; layout = bare-fits h.version (record h { words = k }) at }, at))
+    (record { config = record { words = (le.0, omega arith); records = c.records; ring = c.ring; callers = c.callers; reads = c.reads; writes = c.writes; clock = c.clock }; words = most; layout = bare-fits h.version (record h { words = k }) at }, at))
 header_line-fits Callers h n w v f at =
     number-fits (Puts h n Records) (codes "callers") 1 MAX_CALLERS w v (λ k. fields.Callers k)
     (λ k le.
     let c = f.config in
-    (record { config = record { words = c.words; records = c.records; ring = c.ring; callers = le; reads = c.reads; writes = c.writes; clock = c.clock }; words = f.words; alg = f.alg; layout = bare-fits h.version (record h { callers = k }) at }, at))
+    (record { config = record { words = c.words; records = c.records; ring = c.ring; callers = le; reads = c.reads; writes = c.writes; clock = c.clock }; words = f.words; layout = bare-fits h.version (record h { callers = k }) at }, at))
 header_line-fits Records h n w v f at =
     number-fits (Puts h n Ring) (codes "records") 1 MAX_RECORDS w v (λ k. fields.Records k)
     (λ k le.
     let c = f.config in
-    (record { config = record { words = c.words; records = le; ring = c.ring; callers = c.callers; reads = c.reads; writes = c.writes; clock = c.clock }; words = f.words; alg = f.alg; layout = bare-fits h.version (record h { records = k }) at }, at))
+    (record { config = record { words = c.words; records = le; ring = c.ring; callers = c.callers; reads = c.reads; writes = c.writes; clock = c.clock }; words = f.words; layout = bare-fits h.version (record h { records = k }) at }, at))
 header_line-fits Ring h n w v f at =
     number-fits (Puts h n Reads) (codes "ring") MIN_RING MAX_RING w v (λ k. fields.Ring k)
     (λ k le.
     let c = f.config in
-    (record { config = record { words = c.words; records = c.records; ring = le; callers = c.callers; reads = c.reads; writes = c.writes; clock = c.clock }; words = f.words; alg = f.alg; layout = bare-fits h.version (record h { ring = k }) at }, at))
+    (record { config = record { words = c.words; records = c.records; ring = le; callers = c.callers; reads = c.reads; writes = c.writes; clock = c.clock }; words = f.words; layout = bare-fits h.version (record h { ring = k }) at }, at))
 header_line-fits Reads h n w v f at =
     number-fits (Puts h n Writes) (codes "reads") 1 MAX_LOG w v (λ k. fields.Reads k)
     (λ k le.
     let c = f.config in
-    (record { config = record { words = c.words; records = c.records; ring = c.ring; callers = c.callers; reads = le; writes = c.writes; clock = c.clock }; words = f.words; alg = f.alg; layout = bare-fits h.version (record h { reads = k }) at }, at))
+    (record { config = record { words = c.words; records = c.records; ring = c.ring; callers = c.callers; reads = le; writes = c.writes; clock = c.clock }; words = f.words; layout = bare-fits h.version (record h { reads = k }) at }, at))
 header_line-fits Writes h n w v f at =
     number-fits (Puts h n Clock) (codes "writes") 1 MAX_LOG w v (λ k. fields.Writes k)
     (λ k le.
     let c = f.config in
-    (record { config = record { words = c.words; records = c.records; ring = c.ring; callers = c.callers; reads = c.reads; writes = le; clock = c.clock }; words = f.words; alg = f.alg; layout = bare-fits h.version (record h { writes = k }) at }, at))
+    (record { config = record { words = c.words; records = c.records; ring = c.ring; callers = c.callers; reads = c.reads; writes = le; clock = c.clock }; words = f.words; layout = bare-fits h.version (record h { writes = k }) at }, at))
 header_line-fits Clock h n w v f at =
     number-fits (Puts h n Algorithm) (codes "clock") 0 CLOCK_LIMIT w v (λ k. fields.Clock k)
     (λ k le.
     let c = f.config in
-    (record { config = record { words = c.words; records = c.records; ring = c.ring; callers = c.callers; reads = c.reads; writes = c.writes; clock = le.1 }; words = f.words; alg = f.alg; layout = bare-fits h.version (record h { clock = k }) at }, at))
+    (record { config = record { words = c.words; records = c.records; ring = c.ring; callers = c.callers; reads = c.reads; writes = c.writes; clock = le.1 }; words = f.words; layout = bare-fits h.version (record h { clock = k }) at }, at))
 header_line-fits Algorithm h n w v f at =
     let P : Field → Type 0 = Puts h n (behind_algorithm h.version) in
-    then-gives (λ a. is_built a ≡ true) P (named (codes "alg") w (algorithm v)) (λ a. Ok (fields.Algorithm a))
-    (named-gives (λ a. is_built a ≡ true) (codes "alg") w (algorithm v) (algorithm-fits v))
-    (λ a is. let next : Header = record h { alg = a } in (record { config = f.config; words = f.words; alg = is; layout = bare-fits h.version next at }, behind-at h.version next n refl at))
+    let named : Result Alg ℕ = named (codes "alg") w (algorithm v) in
+    then-gives (λ a. Unit {0}) P named (λ a. Ok (fields.Algorithm a)) (gives-any named)
+    (λ a _. let next : Header = record h { alg = a } in (record { config = f.config; words = f.words; layout = bare-fits h.version next at }, behind-at h.version next n refl at))
 header_line-fits Structures h n w v f at =
     let P : Bool → Type 0 = λ on. on ≡ true → STRUCTS_END ≤ h.words in
     then-gives P (Puts h n Items) (named (codes "structs") w (switched h.words v)) (λ on. Ok (fields.Structures on))
     (named-gives P (codes "structs") w (switched h.words v) (switched-fits h.words v))
-    (λ on room. (record { config = f.config; words = f.words; alg = f.alg; layout = with-regions h on at.0 at.1.1 room }, tt))
+    (λ on room. (record { config = f.config; words = f.words; layout = with-regions h on at.0 at.1.1 room }, tt))
 header_line-fits PolicyLine h n w v f at =
     then-gives HasWord (Puts h n Items) (named (codes "policy") w (policy_of v)) (λ p. Ok (fields.Policy p))
     (named-gives HasWord (codes "policy") w (policy_of v) (policy-fits v))
-    (λ p word. (record { config = f.config; words = f.words; alg = f.alg; layout = with-policy h p at.0 f.layout word }, tt))
+    (λ p word. (record { config = f.config; words = f.words; layout = with-policy h p at.0 f.layout word }, tt))
 header_line-fits Regions h n w v f at = tt
 header_line-fits RegionLine h n w v f at = tt
 header_line-fits Items h n w v f at = tt
@@ -414,7 +405,7 @@ placed-sound m d r s at size =
     let f = s.header in
     let left : Writing = after (Head (next_region d.count next) (fields.Region r)) d in
     let long : length left.header.regions ≡ next = length-append d.header.regions (r ∷ []) in
-    front-sound m left (record { config = f.config; words = f.words; alg = f.alg; layout = with-region d.header r at.1.0 f.layout (omega arith) size above within }) at.0 s.turns
+    front-sound m left (record { config = f.config; words = f.words; layout = with-region d.header r at.1.0 f.layout (omega arith) size above within }) at.0 s.turns
     (next-at m left d.count next at.0 at.1.0 refl long (omega arith) most))
 
 pub region-sound : (m : Mode) (d : Writing) (k a v : List ℕ) → Sound m d → At m RegionLine d → Gives (Leaves m d) (region_of d k a v)

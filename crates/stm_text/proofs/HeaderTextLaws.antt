@@ -8,7 +8,7 @@ use Rattle.stm_model.specs.declared.alg.Alg.{Alg}
 use Rattle.stm_model.specs.declared.alg.Alg.TheVariants.{Cgl, Tml, OrecLazy, OrecEager, RingSw, Serial}
 use Rattle.stm_model.specs.declared.alg.TheConstants.{ALGORITHMS}
 use Rattle.stm_model.specs.declared.config.TheConstants.{MAX_WORDS, MAX_RECORDS, MIN_RING, MAX_RING, MAX_CALLERS, MAX_LOG, CLOCK_LIMIT}
-use Rattle.stm_model.specs.Algorithms.{alg_name, is_built}
+use Rattle.stm_model.specs.Algorithms.{alg_name}
 use Rattle.stm_profile.specs.declared.policy.Policy.{Policy}
 use Rattle.stm_profile.specs.declared.policy.Policy.TheVariants as policies
 use Rattle.stm_profile.specs.declared.policy.TheConstants.{MOST_ROUND, MOST_STATE}
@@ -57,18 +57,14 @@ filled-name OrecEager rest = refl
 filled-name RingSw rest = refl
 filled-name Serial rest = refl
 
-where-built : (b : Bool) (alg : Alg) (rest : Result Alg ℕ) → b ≡ true → (if b then Ok alg else rest) ≡ Ok alg
-where-built true alg rest h = refl
-where-built false alg rest h = absurd cc
-
--- each algorithm that is built is known by its name
-pub algorithm-name : (alg : Alg) → is_built alg ≡ true → algorithm (alg_name alg) ≡ Ok alg
-algorithm-name Cgl h = where-built (is_built Cgl) Cgl (algorithm_of (drop 1 ALGORITHMS) (codes "CGL")) h
-algorithm-name Tml h = where-built (is_built Tml) Tml (algorithm_of (drop 2 ALGORITHMS) (codes "TML")) h
-algorithm-name OrecLazy h = where-built (is_built OrecLazy) OrecLazy (algorithm_of (drop 3 ALGORITHMS) (codes "OrecLazy")) h
-algorithm-name OrecEager h = where-built (is_built OrecEager) OrecEager (algorithm_of (drop 4 ALGORITHMS) (codes "OrecEager")) h
-algorithm-name RingSw h = where-built (is_built RingSw) RingSw (algorithm_of (drop 5 ALGORITHMS) (codes "RingSW")) h
-algorithm-name Serial h = where-built (is_built Serial) Serial (algorithm_of [] (codes "Serial")) h
+-- each algorithm is known by its name
+pub algorithm-name : (alg : Alg) → algorithm (alg_name alg) ≡ Ok alg
+algorithm-name Cgl = refl
+algorithm-name Tml = refl
+algorithm-name OrecLazy = refl
+algorithm-name OrecEager = refl
+algorithm-name RingSw = refl
+algorithm-name Serial = refl
 
 -- within the header, of which n regions were announced
 abbrev in_header : Place → ℕ → Header → Writing
@@ -141,13 +137,13 @@ clock-read m h k n rest le ge =
     number-read m h Clock Algorithm k (codes "clock") n rest (fields.Clock n) (seen (codes "clock") refl) (omega arith)
     (field-set (sized (codes "clock") 0 CLOCK_LIMIT (codes "clock") (decimal n)) (λ v. fields.Clock v) Algorithm n (sized-decimal (codes "clock") 0 CLOCK_LIMIT n refl le ge (omega arith)))
 
-alg-read : (m : Mode) (h : Header) (k : ℕ) (alg : Alg) (rest : List ℕ) → is_built alg ≡ true
+alg-read : (m : Mode) (h : Header) (k : ℕ) (alg : Alg) (rest : List ℕ)
     → parsed m (in_header Algorithm 0 h) k (lines_of (line (codes "alg" ∷ alg_name alg ∷ []) ++ rest)) ≡ parsed m (in_header (behind_algorithm h.version) 0 (record h { alg = alg })) (k + 1) (lines_of rest)
-alg-read m h k alg rest built =
+alg-read m h k alg rest =
     let q : Place = behind_algorithm h.version in
     step-read m (in_header Algorithm 0 h) k (codes "alg") (alg_name alg ∷ []) rest (Head q (fields.Algorithm alg)) (seen (codes "alg") refl, (visible-name alg, tt))
     (filled-name alg (two_words Algorithm m (in_header Algorithm 0 h) (codes "alg") (alg_name alg))
-    ∙ ap (λ r. r >>= (λ a. Ok (fields.Algorithm a)) >>= λ x. Ok (Head q x)) (algorithm-name alg built))
+    ∙ ap (λ r. r >>= (λ a. Ok (fields.Algorithm a)) >>= λ x. Ok (Head q x)) (algorithm-name alg))
     (not-done q (fields.Algorithm alg))
 
 structs-read : (m : Mode) (h : Header) (k : ℕ) (on : Bool) (rest : List ℕ) → (on ≡ true → STRUCTS_END ≤ h.words)
@@ -344,7 +340,7 @@ nine-read m h rest f =
     ∙ (reads-read m h5 6 h.reads t6 f.config.reads.0 f.config.reads.1
     ∙ (writes-read m h6 7 h.writes t7 f.config.writes.0 f.config.writes.1
     ∙ (clock-read m h7 8 h.clock t8 (omega arith) f.config.clock
-    ∙ alg-read m h8 9 h.alg t9 f.alg)))))))
+    ∙ alg-read m h8 9 h.alg t9)))))))
 
 where-one : (h : Header) → RegionsOne h → regions_where (not (no_region h.regions)) ≡ h.regions
 where-one h (inl none) = subst (λ rs. regions_where (not (no_region rs)) ≡ rs) (sym none) refl

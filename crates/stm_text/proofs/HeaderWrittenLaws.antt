@@ -1,6 +1,6 @@
 -- A line of a header that is read is that line of the header.
 use Rattle.std.proofs.Common.{ℕ, ◌≡◌, List, [], ◌∷◌, ◌++◌, Bool, true, false, ◌&&◌, Option, Some, None, Result, Ok, Err, refl, sym, ap, ◌∙◌, take, drop}
-use Rattle.stm_model.specs.Algorithms.{alg_name, is_built}
+use Rattle.stm_model.specs.Algorithms.{alg_name}
 use Rattle.std.specs.Prelude.{not, if◌then◌else◌, leb, ltb, codes, map, bytes_eq}
 use Rattle.std.specs.Fmt.{decimal}
 use Rattle.std.proofs.lemmas.List.{take-append-drop}
@@ -52,8 +52,8 @@ Names name w v n = (w ≡ name) × (v ≡ decimal n)
 algorithm_of-says : (algs : List Alg) (w : List ℕ) → Gives (λ a. w ≡ alg_name a) (algorithm_of algs w)
 algorithm_of-says [] w = tt
 algorithm_of-says (alg ∷ algs) w =
-    if-else-gives (λ a. w ≡ alg_name a) (bytes_eq w (alg_name alg) && is_built alg) (Ok alg) (algorithm_of algs w)
-    (λ e. (bytes_eq-Decides w (alg_name alg)).0 (both-true (bytes_eq w (alg_name alg)) (is_built alg) e).0) (algorithm_of-says algs w)
+    if-else-gives (λ a. w ≡ alg_name a) (bytes_eq w (alg_name alg)) (Ok alg) (algorithm_of algs w)
+    (λ e. (bytes_eq-Decides w (alg_name alg)).0 e) (algorithm_of-says algs w)
 
 pub algorithm-says : (w : List ℕ) → Gives (λ a. w ≡ alg_name a) (algorithm w)
 algorithm-says w = algorithm_of-says ALGORITHMS w

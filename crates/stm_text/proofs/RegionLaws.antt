@@ -191,7 +191,7 @@ module _ (plain : VersionOnePlain) where
 
   item-fits : (h : Header) (item : Item) → built.HeaderFits h → built.ItemFits h item → ItemFits (regions_of h) h item
   item-fits h (Tx caller script) f b = (b.0, λ i d lt. op-fits h (get_or script i d) f (b.1.each i d lt))
-  item-fits h (Switch caller alg) f b = b.0
+  item-fits h (Switch caller alg) f b = b
   item-fits h (Reserve caller reads writes) f b = b.0
 
   pub workload-fits : BuiltWorkloadsFit

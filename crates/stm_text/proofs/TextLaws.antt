@@ -6,7 +6,7 @@ use Rattle.std.proofs.lemmas.Bool.Decides.{nat_tests}
 use Rattle.std.proofs.lemmas.List.Elements.{All-nil, All-head, All-tail}
 use Rattle.stm_model.specs.declared.alg.Alg.{Alg}
 use Rattle.stm_model.specs.declared.config.TheConstants.{MAX_CALLERS, MAX_LOG}
-use Rattle.stm_model.specs.Algorithms.{alg_name, is_built}
+use Rattle.stm_model.specs.Algorithms.{alg_name}
 use Rattle.stm_script.specs.declared.op.Op.{Op}
 use Rattle.stm_script.specs.declared.workload.Header.{Header}
 use Rattle.stm_script.specs.declared.workload.Item.{Item}
@@ -63,9 +63,9 @@ end-read m h items c k ops rest = step-read m (in_tx h items c ops) k (codes "en
 change-not : (c : ℕ) (a : Alg) → Change c a ≢ Done
 change-not c a e = cc
 
-switch-read : (m : Mode) (h : Header) (items : List Item) (c k caller : ℕ) (alg : Alg) (rest : List ℕ) → caller < h.callers → h.callers ≤ MAX_CALLERS → length items < MAX_ITEMS → is_built alg ≡ true
+switch-read : (m : Mode) (h : Header) (items : List Item) (c k caller : ℕ) (alg : Alg) (rest : List ℕ) → caller < h.callers → h.callers ≤ MAX_CALLERS → length items < MAX_ITEMS
     → parsed m (between h items c) k (lines_of (line (codes "switch" ∷ decimal caller ∷ alg_name alg ∷ []) ++ rest)) ≡ parsed m (between h (items ++ Switch caller alg ∷ []) c) (k + 1) (lines_of rest)
-switch-read m h items c k caller alg rest within small room built =
+switch-read m h items c k caller alg rest within small room =
     let d : Writing = between h items c in
     let fits : caller < 2 ^ 64 = omega arith in
     let three : Result Step ℕ = three_words Items d (codes "switch") (decimal caller) (alg_name alg) in
@@ -73,7 +73,7 @@ switch-read m h items c k caller alg rest within small room built =
     filled-decimal caller (filled (alg_name alg) three) fits
     ∙ (filled-name alg three
     ∙ (ap (λ r. r >>= λ x. algorithm (alg_name alg) >>= λ a. changed d x a) (caller-decimal d caller within fits)
-    ∙ (ap (λ r. r >>= λ a. changed d caller a) (algorithm-name alg built) ∙ changed-room d caller alg room))) in
+    ∙ (ap (λ r. r >>= λ a. changed d caller a) (algorithm-name alg) ∙ changed-room d caller alg room))) in
     step-read m d k (codes "switch") (decimal caller ∷ alg_name alg ∷ []) rest (Change caller alg) (seen (codes "switch") refl, (visible-decimal caller fits, (visible-name alg, tt))) words (change-not caller alg)
 
 regroup : (o e i d : List (List (List ℕ))) → ((o ++ e) ++ i) ++ d ≡ o ++ (e ++ (i ++ d))
@@ -130,7 +130,7 @@ items-read m h before c k (Switch caller alg ∷ items) more f room fits =
     let next = items-read m h (before ++ Switch caller alg ∷ []) c (k + 1) items more f (omega (arith, length-append before (Switch caller alg ∷ []))) (All-tail (ItemFits h) (Switch caller alg) items fits) in (
       next.0,
       next.1,
-      switch-read m h before c k caller alg (lines_text (items_lines h.version items ++ more)) here.0 few (omega arith) here.1
+      switch-read m h before c k caller alg (lines_text (items_lines h.version items ++ more)) here few (omega arith)
           ∙ (next.2 ∙ ap (λ is. parsed m (between h is next.0) next.1 (lines_of (lines_text more))) (append_assoc before (Switch caller alg ∷ []) items)),
     )
 items-read m h before c k (Reserve caller reads writes ∷ items) more f room fits =

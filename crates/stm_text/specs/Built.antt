@@ -1,6 +1,5 @@
 -- What a workload of the grammar fits.
 use Rattle.std.specs.Prelude.{ℕ, ◌≡◌, ◌≤◌, ◌<◌, ◌+◌, ◌^◌, ◌⊎◌, Bool, true, false, ◌||◌, List, [], ◌∷◌, length, All}
-use Rattle.stm_model.specs.Algorithms.{is_built}
 use Rattle.stm_model.specs.Configs.{IsConfig}
 use Rattle.stm_script.specs.Operations.{is_irrev}
 use Rattle.stm_script.specs.Reports.{regions_of}
@@ -61,11 +60,10 @@ abbrev pub LayoutFits : Version → Header → Type 0
 LayoutFits One h = RegionsOne h × (h.policy ≡ Fixed)
 LayoutFits Two h = RegionsTwo h × HasWord h.policy
 
--- the sizes are those of a configuration and of the version, and the algorithm is built
+-- the sizes are those of a configuration and of the version
 pub record HeaderFits (h : Header) : Type 0 where
   pub config : IsConfig (config_of h)
   pub words : h.words ≤ most_words h.version
-  pub alg : is_built h.alg ≡ true
   pub layout : LayoutFits h.version h
 
 -- in version 1 with structures on the address isn't theirs, in version 2 it is in no region
@@ -133,10 +131,10 @@ pub record ScriptFits (h : Header) (ops : List Op) : Type 0 where
 abbrev pub IsLength : ℕ → Type 0
 IsLength n = (1 ≤ n) × (n ≤ MAX_LOG)
 
--- a transaction, a switch to an algorithm that is built, or in version 2 longer logs, of a caller of the header
+-- a transaction, a switch, or in version 2 longer logs, of a caller of the header
 abbrev pub ItemFits : Header → Item → Type 0
 ItemFits h (Tx caller script) = (caller < h.callers) × ScriptFits h script
-ItemFits h (Switch caller alg) = (caller < h.callers) × (is_built alg ≡ true)
+ItemFits h (Switch caller alg) = caller < h.callers
 ItemFits h (Reserve caller reads writes) = (caller < h.callers) × IsLength reads × IsLength writes × (h.version ≡ Two)
 
 -- turns of a caller of the header

@@ -3,7 +3,7 @@ use Rattle.std.specs.Prelude.{MatchResult, ℕ, ◌≡◌, ◌+◌, Bool, true, 
 use Rattle.stm_model.specs.declared.alg.Alg.{Alg}
 use Rattle.stm_model.specs.declared.alg.TheConstants.{ALGORITHMS}
 use Rattle.stm_model.specs.declared.config.TheConstants.{MAX_WORDS, MAX_RECORDS, MIN_RING, MAX_RING, MAX_CALLERS, MAX_LOG, CLOCK_LIMIT}
-use Rattle.stm_model.specs.Algorithms.{alg_name, is_built}
+use Rattle.stm_model.specs.Algorithms.{alg_name}
 use Rattle.stm_script.specs.declared.op.Op.{Op}
 use Rattle.stm_script.specs.declared.op.Op.TheVariants.{Read, Write, Add as Sum, Move, Emit, Irrev, Cancel, Count as CountOn, MapPut, MapSum}
 use Rattle.stm_script.specs.declared.op.TheConstants.{COUNTER, KEYED, KEYLESS, PLACED_KEYED, PLACED_KEYLESS}
@@ -69,10 +69,10 @@ below end n = if ltb n end then Ok n else Err RANGE
 abbrev pub number : ℕ → ℕ → List ℕ → Result ℕ ℕ
 number low high word = formed (number_of word) >>= ranged low high
 
--- of these algorithms the first one that is built and has this name
+-- of these algorithms the first that has this name
 abbrev pub algorithm_of : List Alg → List ℕ → Result Alg ℕ
 algorithm_of [] word = Err ALG
-algorithm_of (alg ∷ algs) word = if bytes_eq word (alg_name alg) && is_built alg then Ok alg else algorithm_of algs word
+algorithm_of (alg ∷ algs) word = if bytes_eq word (alg_name alg) then Ok alg else algorithm_of algs word
 
 abbrev pub algorithm : List ℕ → Result Alg ℕ
 algorithm word = algorithm_of ALGORITHMS word

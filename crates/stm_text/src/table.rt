@@ -106,19 +106,19 @@ fn most_words(version: Version) -> u64
     }
 }
 
-/// Of these algorithms the first one that is built and has this name.
+/// Of these algorithms the first that has this name.
 fn algorithm_of(algs: &[Alg], word: &[u8]) -> Result<Alg, u32>
     ensures { result ≡ algorithm_of algs.now word.now }
 {
     for alg in algs {
-        if lines::is(word, alg.name().as_bytes()) && alg.is_built() {
+        if lines::is(word, alg.name().as_bytes()) {
             return Ok(*alg);
         }
     }
     Err(code::ALG)
 }
 
-/// The built algorithm of this name.
+/// The algorithm of this name.
 fn algorithm(word: &[u8]) -> Result<Alg, u32>
     ensures { result ≡ algorithm word.now }
 {

@@ -47,7 +47,6 @@ module _ (good : List ℕ → Type 0) (c : Config) (n : ℕ) where
   can-begin gate v s t out zero a l = subst (λ (y : View). CanBegin (alg_of gate) y) (sym (looked-at gate v s t a l)) (record {
     phase = ap (λ b. if b then In else Turned) open_gate;
     named = refl;
-    built = l.1.built;
     reopened = out.reopened;
     ungranted = out.ungranted;
     clear = record { unlocked = out.clear.unlocked; disowned = out.clear.disowned; unwritten = out.clear.unwritten; uncommitted = out.clear.uncommitted; unentered = out.clear.unentered; unfixed = out.clear.unfixed };
@@ -70,7 +69,6 @@ module _ (good : List ℕ → Type 0) (c : Config) (n : ℕ) where
     fence = b.fence;
     unfenced = b.unfenced;
     named = b.named;
-    built = b.built;
     start = b.start;
     fresh = b.fresh;
     log = b.log;
@@ -143,7 +141,6 @@ module _ (good : List ℕ → Type 0) (c : Config) (n : ℕ) where
           fence = (gate, found-later Gate gate (known_of v o) (known_of t o) (known_of w o) found-gate g.more g.trail, seen);
           unfenced = λ off. seen ∙ l.1.unfenced off;
           named = i.named;
-          built = i.built;
           start = subst (λ x. Found (start_word (alg_of gate)) x (known_of v o) (known_of w o)) (sym q.is) (found-earlier (start_word (alg_of gate)) start (known_of v o) (known_of t o) (known_of w o) q.found (first_steps gate) trail-looked);
           fresh = (let f = q.fresh in let s = q.is in let e : t.history.front ≡ v.history.front = same (λ y. y.history.front) in omega arith);
           log = q.log;

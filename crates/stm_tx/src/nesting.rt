@@ -9,7 +9,7 @@ ghost use Rattle.tx_answers.specs.Known.{IsRunning};
 ghost use Rattle.stm_tx.specs.Descs.{known, number};
 ghost use Rattle.stm_tx.specs.Nesting.{live_marks, RollsToMark};
 
-use alg_orec::{eager_nesting as eager, nesting as lazy};
+use alg_orec::{eager_nesting as eager, lazy_nesting as lazy};
 use alg_ring::nesting as ring;
 use alg_seq::nesting as sequential;
 use stm_model::alg::Alg;

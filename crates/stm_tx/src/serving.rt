@@ -13,6 +13,7 @@ use crate::calls;
 use alg_orec::{orec_eager, orec_lazy};
 use alg_ring::ring;
 use alg_seq::{cgl, serial, tml};
+use stm_model::alg::Alg;
 use stm_model::rule::MemRule;
 use stm_rule::desc::Desc;
 use stm_rule::stm::Stm;
@@ -47,19 +48,28 @@ pub trait Calls {
         ensures steps { AddsAtMost (costs stm.now.config (known desc.old)).write (known desc.old) (known desc.new) };
 }
 
-/// Serves all, and looks at each call which algorithm the attempt runs under.
+/// Serves all, and looks at each call which algorithm the attempt runs under. An access of CGL is one load or store, less
+/// than the call that looks the algorithm up, so it stands in line.
 #[derive(Clone, Copy, Drop, Debug, PartialEq, Eq)]
 pub struct AnyAlgorithm;
 
 impl Calls for AnyAlgorithm {
     ghost acts_as = { λ alg. alg };
 
+    #[inline(always)]
     fn read<K: MemRule>(&self, desc: &mut Desc<K>, stm: &Stm<K>, a: usize) -> Read {
-        calls::read(desc, stm, a)
+        match desc.local.algorithm {
+            Alg::Cgl => cgl::read(desc, stm, a),
+            _ => calls::read(desc, stm, a),
+        }
     }
 
+    #[inline(always)]
     fn write<K: MemRule>(&self, desc: &mut Desc<K>, stm: &Stm<K>, a: usize, x: u64) -> Write {
-        calls::write(desc, stm, a, x)
+        match desc.local.algorithm {
+            Alg::Cgl => cgl::write(desc, stm, a, x),
+            _ => calls::write(desc, stm, a, x),
+        }
     }
 }
 

@@ -175,11 +175,11 @@ module _ {K : Type 0} (good : List ℕ → Type 0) (stm : Stm K) (v : Worker K) 
 
   -- the worker with its descriptor left so
   pub made-idle : (d : Handle K) → IsSameCaller v.desc d → IsIdle (known d) → (known d).rises ≤ owed (known v.desc) → KeepsMade good stm.config (caller_of v.desc.who.role) (known v.desc) (known d) → (v.phase ≡ Between → d ≡ v.desc) → MadeIdle good stm v (record v { desc = d })
-  made-idle d same idle pays keeps still = record {
+  made-idle d same idle owes keeps still = record {
     own = record { table = same.table ∙ s.own.table; config = ap (λ x. x.config) same.who ∙ s.own.config; rule = ap (λ x. x.rule) same.who ∙ s.own.rule };
     idle = idle;
     plain = s.plain;
-    pays = pays;
+    owes = owes;
     keeps = keeps;
     did = did-part d keeps;
     same = same;

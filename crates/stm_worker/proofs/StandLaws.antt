@@ -2,7 +2,6 @@
 use Rattle.std.proofs.Common.{ℕ, zero, suc, ◌≡◌, ◌≤◌, ◌+◌, true, false, List, [], ◌∷◌, ◌++◌, length, get_or, drop, refl, sym, ap, ◌∙◌, arith, subst, length-append, append_assoc, inl, inr}
 use Rattle.std.specs.Prelude.{◌⊎◌, ◌==◌, Option, Some, None}
 use Rattle.std.proofs.lemmas.Bool.Decides.{nat_tests}
-use Rattle.stm_model.specs.Algorithms.{is_built}
 use Rattle.stm_model.specs.declared.alg.Alg.{Alg}
 use Rattle.stm_model.specs.declared.config.Config.{Config}
 use Rattle.stm_script.specs.declared.op.Op.{Op}
@@ -42,7 +41,7 @@ head-fits good words regions n (Reserve caller reads writes ∷ items) b h = abs
 pub rest-fits : (good : List ℕ → Type 0) (words : ℕ) (regions : List Region) (n : ℕ) (left : List Item) → ItemsFit good words regions n left → ItemsFit good words regions n (rest_of left)
 rest-fits good words regions n [] h = h
 rest-fits good words regions n (Tx caller script ∷ items) h = h.3
-rest-fits good words regions n (Switch caller alg ∷ items) h = h.2
+rest-fits good words regions n (Switch caller alg ∷ items) h = h.1
 rest-fits good words regions n (Reserve caller reads writes ∷ items) h = h.3
 
 pub tx-scripts : (good : List ℕ → Type 0) (words : ℕ) (regions : List Region) (n : ℕ) (left : List Item) → BeforeTx left → ItemsFit good words regions n left → scripts_of n left ≡ script_at left ∷ scripts_of n (rest_of left)
@@ -69,12 +68,6 @@ reserve-left n reads writes [] h = absurd h
 reserve-left n reads writes (Tx caller script ∷ items) h = absurd h
 reserve-left n reads writes (Switch caller alg ∷ items) h = absurd h
 reserve-left n reads writes (Reserve caller r w ∷ items) h = (refl, refl)
-
-switch-built : (good : List ℕ → Type 0) (words : ℕ) (regions : List Region) (n : ℕ) (alg : Alg) (left : List Item) → SwitchesTo alg left → ItemsFit good words regions n left → is_built alg ≡ true
-switch-built good words regions n alg [] h f = absurd h
-switch-built good words regions n alg (Tx caller script ∷ items) h f = absurd h
-switch-built good words regions n alg (Switch caller a ∷ items) h f = sym (ap is_built h) ∙ f.1
-switch-built good words regions n alg (Reserve caller reads writes ∷ items) h f = absurd h
 
 pub drop-head : {A : Type 0} (k : ℕ) (d x : A) (xs ys : List A) → x ∷ ys ≡ drop k xs → (get_or xs k d ≡ x) × (ys ≡ drop (suc k) xs)
 drop-head zero d x [] ys h = absurd cc
@@ -230,16 +223,3 @@ works-over good words regions all n v w rows made grows h =
 pub did-first : (all left : List Item) → DidFirst all left → DidFirst all (rest_of left)
 did-first all [] h = h
 did-first all (i ∷ left) h = (h.0 ++ i ∷ [], h.1 ∙ sym (append_assoc h.0 (i ∷ []) left))
-
-all-built : (alg : Alg) → is_built alg ≡ true
-all-built Alg.Cgl = refl
-all-built Alg.Tml = refl
-all-built Alg.OrecLazy = refl
-all-built Alg.OrecEager = refl
-all-built Alg.RingSw = refl
-all-built Alg.Serial = refl
-
--- what is switched to is built
-pub must-built : (good : List ℕ → Type 0) (words : ℕ) (regions : List Region) (n : ℕ) (alg : Alg) (chosen : Option Alg) (left : List Item) → MustSwitchTo alg chosen left → ItemsFit good words regions n left → is_built alg ≡ true
-must-built good words regions n alg None left h f = switch-built good words regions n alg left h f
-must-built good words regions n alg (Some other) left h f = all-built alg

@@ -87,9 +87,9 @@ module _ (good : List ℕ → Type 0) (c : Config) (n : ℕ) where
   tells-owed (TryBegin (begins.Closed gate)) v w out t = stays-owed v w out t.0
   tells-owed (TryBegin (begins.Held word)) v w out t = stays-owed v w out t.0
   tells-owed (TryBegin (begins.ClockFull clock)) v w out t = stays-owed v w out t.0
-  tells-owed (Reply op reply) v w inside t = le-two (owed w) (owed v) t.0.pays
+  tells-owed (Reply op reply) v w inside t = le-two (owed w) (owed v) t.0.owes
   tells-owed (Stopped op stop) v w inside t =
-      let q = quits-owed t.before w t.running (stops-quits t.address stop t.before w t.stops) in let p = t.carries.pays in omega (arith, q, p)
+      let q = quits-owed t.before w t.running (stops-quits t.address stop t.before w t.stops) in let p = t.carries.owes in omega (arith, q, p)
   tells-owed (TryCancel (cancels.Cancelled time)) v w inside t = ends-owed v w (quit_rise v.alg (has_written v)) inside t.0.ends t.2 (let l = quit-low v.alg (has_written v) in omega arith)
   tells-owed (TryCancel cancels.Irrevocable) v w inside t = (let e : owed w ≡ owed v = ap owed t.0 in omega (arith, e))
   tells-owed (TryIrrevocable irrevs.Granted) v w inside t = goes-owed v w inside t.continues.running t.continues.base

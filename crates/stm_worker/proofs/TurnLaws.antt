@@ -194,7 +194,7 @@ module _ {K : Type 0} (good : List ℕ → Type 0) (stm : Stm K) (u : Worker K) 
         installs = tells-installs good stm.config (caller_of u.desc.who.role) said (known u.desc) (known w.desc) told ∙ ap (λ l. (known u.desc).installs ++ l) (sym (append-nil (installed said)));
       };
       fair = fair;
-      pays = tells-owed good stm.config (caller_of u.desc.who.role) said (known u.desc) (known w.desc) asks told;
+      owes = tells-owed good stm.config (caller_of u.desc.who.role) said (known u.desc) (known w.desc) asks told;
       found = tells-found good stm.config (caller_of u.desc.who.role) said (known u.desc) (known w.desc) told;
       installs = tells-installs good stm.config (caller_of u.desc.who.role) said (known u.desc) (known w.desc) told;
     }

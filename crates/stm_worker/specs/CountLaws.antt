@@ -24,7 +24,7 @@ use Rattle.stm_trace.specs.declared.said.Said.{Said}
 use Rattle.stm_trace.specs.declared.said.Said.TheVariants.{TryBegin, Reply, Stopped, TryCancel, TryIrrevocable, TryCommit, TryClose, Looked, Installed, Reserved, Idle, Dropped, Reopened}
 use Rattle.stm_trace.specs.Places.{Place, after, failed_next, granted_at, in_the_way, is_forced, must_next, rest_of, switched}
 use Rattle.stm_trace.specs.Turns.{BeforeTx, Lengthens, MaySay, MustSwitchTo, SwitchesTo}
-use Rattle.stm_worker.specs.Payments.{IsCountedFor}
+use Rattle.stm_worker.specs.RiseCovers.{IsCountedFor}
 use Rattle.stm_worker.specs.Tellings.{Tells}
 
 -- with one caller nobody is in the way

@@ -76,7 +76,7 @@ module _ {K : Type 0} (good : List ℕ → Type 0) (stm : Stm K) where
     pub idle : IsIdle (known w.desc)
     -- and so has no range of words out of the transactions
     pub plain : stm.config.fence ≡ false
-    pub pays : (known w.desc).rises ≤ owed (known v.desc)
+    pub owes : (known w.desc).rises ≤ owed (known v.desc)
     pub keeps : KeepsMade good stm.config (caller_of v.desc.who.role) (known v.desc) (known w.desc)
     pub did : DidPart v w
     pub same : IsSameCaller v.desc w.desc

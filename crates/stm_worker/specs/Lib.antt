@@ -6,8 +6,8 @@ pub mod Tellings
 pub mod Workers
 pub mod Rooms
 pub mod Leavings
-pub mod Payments
+pub mod RiseCovers
 pub mod RiseLaws
-pub mod PaidLaws
+pub mod CoveredLaws
 pub mod CountLaws
-pub mod PaymentLaws
+pub mod RiseCoverLaws

@@ -6,7 +6,7 @@ use Rattle.stm_model.specs.declared.stop.Stop.{Stop}
 use Rattle.stm_model.specs.declared.stop.Stop.TheVariants as stops
 use Rattle.tx_answers.specs.Answers.{Quits, Stops}
 use Rattle.tx_answers.specs.Known.{Known, owed}
-use Rattle.stm_worker.specs.Payments.{raised}
+use Rattle.stm_worker.specs.RiseCovers.{raised}
 
 pub raised-in : (v : Known) → v.running ≡ true → raised v ≡ v.base
 raised-in v e = ap (λ b. if b then v.base else v.rises) e

@@ -6,7 +6,8 @@ use Rattle.stm_model.specs.declared.stop.Stop.TheVariants.{ClockFull}
 use Rattle.stm_script.specs.declared.op.Op.{Op}
 use Rattle.stm_trace.specs.declared.said.Said.{Said}
 use Rattle.stm_trace.specs.declared.said.Said.TheVariants.{TryBegin, Reply, Stopped, TryCancel, TryIrrevocable, TryCommit, TryClose, Looked, Installed, Reserved, Idle, Dropped, Reopened}
-use Rattle.stm_trace.specs.Places.{may_write}
+use Rattle.stm_trace.specs.Places.{Place, may_write}
+use Rattle.stm_trace.specs.Turns.{Comes, is_call}
 use Rattle.tx_answers.specs.Answers.{Begins, Cancels, Closes, Commits, Installs, Irrevs, Looks, Reopens, Stops}
 use Rattle.tx_answers.specs.Known.{Known, IsRunning}
 use Rattle.tx_answers.specs.KnownLaws.{Carries}
@@ -18,6 +19,10 @@ use Rattle.tx_answers.specs.declared.answers.Irrev.TheVariants.{Granted, Busy, T
 -- all is as it was but what is said of an attempt and of its logs, where none is open
 abbrev pub IsOutside : Known → Known → Type 0
 IsOutside v w = w ≡ record v { committing = w.committing; log = w.log; depth = w.depth; marks = w.marks; retains = w.retains; reads_limit = w.reads_limit; writes_limit = w.writes_limit }
+
+-- an operation of the script that comes next is no operation on the memory
+abbrev pub OnlyCalls : Place → Type 0
+OnlyCalls at = (op : Op) → Comes op at → is_call op ≡ true
 
 module _ (good : List ℕ → Type 0) (c : Config) (n : ℕ) where
   -- a read or a write of the operation ended the attempt by this stop, after others of it that went on

@@ -2,7 +2,6 @@
 use Rattle.std.specs.Prelude.{ℕ, ◌≡◌, ◌<◌, ◌≤◌, ◌+◌, ◌^◌, ◌&&◌, not, Bool, true, false, List, [], ◌∷◌, ◌++◌, length, drop, Contains, Option, Some, None, MatchOption, vec_capacity, vec_len}
 use Rattle.rule_base.specs.declared.layout.At.TheVariants.{Clock}
 use Rattle.rule_base.specs.declared.views.Act.{Act}
-use Rattle.stm_model.specs.Algorithms.{is_built}
 use Rattle.stm_model.specs.Histories.{Entry}
 use Rattle.stm_model.specs.declared.alg.Alg.{Alg}
 use Rattle.stm_profile.specs.declared.outcome.Outcome.{Outcome}
@@ -72,11 +71,11 @@ ToSwitch Quiet chosen left = MustSwitch chosen left
 abbrev pub IsLength : ℕ → Type 0
 IsLength n = (1 ≤ n) × (n ≤ MAX_LOG)
 
--- the items of caller n: each script fits and keeps the rule on memories, and each switch is to an algorithm that is built
+-- the items of caller n: each script fits and keeps the rule on memories
 abbrev pub ItemsFit : (List ℕ → Type 0) → ℕ → List Region → ℕ → List Item → Type 0
 ItemsFit good words regions n [] = Unit {0}
 ItemsFit good words regions n (Tx caller script ∷ items) = (caller ≡ n) × ScriptFits regions words script × ScriptKeeps good words regions script × ItemsFit good words regions n items
-ItemsFit good words regions n (Switch caller alg ∷ items) = (caller ≡ n) × (is_built alg ≡ true) × ItemsFit good words regions n items
+ItemsFit good words regions n (Switch caller alg ∷ items) = (caller ≡ n) × ItemsFit good words regions n items
 ItemsFit good words regions n (Reserve caller reads writes ∷ items) = (caller ≡ n) × IsLength reads × IsLength writes × ItemsFit good words regions n items
 
 -- these are the last of all its items: the ones before them are done
@@ -229,7 +228,7 @@ module _ {K : Type 0} (good : List ℕ → Type 0) (stm : Stm K) where
     pub same : IsSame v w
     -- what follows of it: the numbers of its line, the clock's rises (by the attempt and not by the turn), the clock that was found full, and what was installed
     pub fair : (h : Header) → HasSizes stm.config h → IsFair h (place_of v) said
-    pub pays : owed (known w.desc) ≤ owed (known v.desc) + 2
+    pub owes : owed (known w.desc) ≤ owed (known v.desc) + 2
     pub found : MatchOption (clock_of said) (Unit {0}) (λ clock. (2 ^ 62 ≤ clock) × Loaded (known w.desc) clock)
     pub installs : (known w.desc).installs ≡ (known v.desc).installs ++ installed said
 

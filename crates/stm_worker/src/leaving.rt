@@ -62,7 +62,7 @@ fn end_attempt<K: MemRule>(stm: &Stm<K>, desc: &mut Desc<K>)
     requires keeps { KeepsRule (K.good stm.now.rule) stm.now.config (caller_of desc.old.who.role) (known desc.old) }
     ensures same { IsSameCaller desc.old desc.new }
     ensures idle { IsIdle (known desc.new) }
-    ensures pays { (known desc.new).rises ≤ owed (known desc.old) }
+    ensures owes { (known desc.new).rises ≤ owed (known desc.old) }
     ensures keeps { KeepsMade (K.good stm.now.rule) stm.now.config (caller_of desc.old.who.role) (known desc.old) (known desc.new) }
 {
     match cancel(desc, stm) {

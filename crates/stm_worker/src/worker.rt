@@ -1,5 +1,5 @@
 //! A caller's worker: one call a turn.
-ghost use Rattle.std.specs.Prelude.{◌≡◌, ◌⊎◌, ◌++◌, ◌∷◌, [], true, false, None, MatchBool, MatchResult, IfOk, IfErr, OnOk};
+ghost use Rattle.std.specs.Prelude.{◌≡◌, ◌⊎◌, ◌++◌, ◌∷◌, [], true, false, None, MatchBool, MatchResult, IfOk, IfErr, OnOk, MatchOption};
 ghost use Rattle.stm_model.specs.Logs.{IsExplained};
 ghost use Rattle.tx_effects.specs.Effects.{Under};
 ghost use Rattle.tx_regions.specs.Regions.{AllWellFormed};
@@ -14,7 +14,7 @@ ghost use Rattle.tx_answers.specs.KnownLaws.{Carries};
 ghost use Rattle.stm_trace.specs.Adapting.{asked_by, no_profile, other_than, outcome_of};
 ghost use Rattle.stm_trace.specs.Places.{script_at, rest_of, writes, is_forced, irrevocable};
 ghost use Rattle.stm_trace.specs.Turns.{BeforeTx, BeforeSwitch, MustSwitch, MustSwitchTo, SwitchesTo, Next, Comes, Lengthens, MaySay, MayWind, is_call};
-ghost use Rattle.stm_worker.specs.Tellings.{StoppedBy};
+ghost use Rattle.stm_worker.specs.Tellings.{StoppedBy, OnlyCalls};
 ghost use Rattle.stm_worker.specs.Workers.{Sound, Starved, Turned, Refused, Roomy, WroteRow, EndsWith, IsCounted, Starts, DoneIrrev, adapted, gave_up, gave_up_as, made_way, stopped_by, place_of};
 
 use crate::room::Room;
@@ -261,6 +261,67 @@ impl<'a, K: MemRule> Worker<'a, K> {
         requires sound { Sound (K.good stm.now.rule) stm.now self.old }
         ensures turned { MatchResult result (λ said. Turned (K.good stm.now.rule) stm.now MaySay self.old said self.new) (λ _. Starved (K.good stm.now.rule) stm.now self.old self.new) }
     {
+        let Some((op, later)) = self.next_operation() else {
+            return self.other_call(alloc, stm, turnstile);
+        };
+        let reply = match self.operation(stm, op, later) {
+            Ok(reply) => reply,
+            Err(stop) => return Ok(Said::Stopped(op, stop)),
+        };
+        Ok(Said::Reply(op, reply))
+    }
+
+    /// The operation that is the next call, and those behind it: the next one of the open attempt, where that is no
+    /// cancel and no irrev and need not wait until the attempt is irrevocable.
+    #[inline(always)]
+    fn next_operation(&self) -> Option<(Op, &'a [Op])>
+        requires running { self.now.phase ≡ Phase.Inside → (known self.now.desc).running ≡ true }
+        requires told { self.now.phase ≡ Phase.Inside → irrevocable (place_of self.now) ≡ is_irrevocable (known self.now.desc) }
+        ensures { MatchOption result (OnlyCalls (place_of self.now)) (λ next. Comes next.0 (place_of self.now) × (is_call next.0 ≡ false) × (next.1.now ≡ rest_of self.now.operations_left.now)) }
+    {
+        match self.phase {
+            Phase::Inside => {}
+            _ => return None,
+        }
+        if self.is_forced() {
+            return None;
+        }
+        match self.operations_left.split_first() {
+            None => None,
+            Some((Op::Cancel, _)) => None,
+            Some((Op::Irrev, _)) => None,
+            Some((op, later)) => Some((*op, later)),
+        }
+    }
+
+    /// The next call, where it is no operation on the memory. It is in line so that a turn sets aside no room for
+    /// an answer before it knows which call is next.
+    #[inline(always)]
+    fn other_call<G: Turnstile>(
+        &mut self,
+        alloc: Global,
+        stm: &Stm<K>,
+        turnstile: &G,
+    ) -> Result<Said, Memory>
+        requires sound { Sound (K.good stm.now.rule) stm.now self.old }
+        requires call { OnlyCalls (place_of self.old) }
+        ensures turned { MatchResult result (λ said. Turned (K.good stm.now.rule) stm.now MaySay self.old said self.new) (λ _. Starved (K.good stm.now.rule) stm.now self.old self.new) }
+    {
+        self.call(alloc, stm, turnstile)
+    }
+
+    /// The same, by a call of its own.
+    #[inline(never)]
+    fn call<G: Turnstile>(
+        &mut self,
+        alloc: Global,
+        stm: &Stm<K>,
+        turnstile: &G,
+    ) -> Result<Said, Memory>
+        requires sound { Sound (K.good stm.now.rule) stm.now self.old }
+        requires call { OnlyCalls (place_of self.old) }
+        ensures turned { MatchResult result (λ said. Turned (K.good stm.now.rule) stm.now MaySay self.old said self.new) (λ _. Starved (K.good stm.now.rule) stm.now self.old self.new) }
+    {
         match self.phase {
             Phase::Between => match self.chosen {
                 Some(_) => Ok(Said::TryClose(self.close(stm))),
@@ -327,6 +388,7 @@ impl<'a, K: MemRule> Worker<'a, K> {
     fn go_on<G: Turnstile>(&mut self, stm: &Stm<K>, turnstile: &G) -> Said
         requires sound { Sound (K.good stm.now.rule) stm.now self.old }
         requires inside { self.old.phase ≡ Phase.Inside }
+        requires call { OnlyCalls (place_of self.old) }
         ensures turned { Turned (K.good stm.now.rule) stm.now MaySay self.old result self.new }
     {
         if self.is_forced() {
@@ -337,7 +399,7 @@ impl<'a, K: MemRule> Worker<'a, K> {
             None => Said::TryCommit(self.commit(stm, turnstile)),
             Some(Op::Cancel) => Said::TryCancel(self.cancel(stm)),
             Some(Op::Irrev) => Said::TryIrrevocable(self.become_irrevocable(stm, false)),
-            Some(op) => self.operation(stm, *op),
+            Some(_) => unreachable!(),
         }
     }
 
@@ -376,22 +438,25 @@ impl<'a, K: MemRule> Worker<'a, K> {
         }
     }
 
-    /// The next operation of the open attempt, other than a cancel or an irrev.
-    fn operation(&mut self, stm: &Stm<K>, op: Op) -> Said
+    /// The next operation of the open attempt, other than a cancel or an irrev: its reply, or why it ended the
+    /// attempt.
+    #[inline(always)]
+    fn operation(&mut self, stm: &Stm<K>, op: Op, later: &'a [Op]) -> Result<u64, Stop>
         requires sound { Sound (K.good stm.now.rule) stm.now self.old }
         requires comes { Comes op (place_of self.old) }
         requires plain { is_call op ≡ false }
-        ensures turned { Turned (K.good stm.now.rule) stm.now MaySay self.old result self.new }
+        requires later { later.now ≡ rest_of self.old.operations_left.now }
+        ensures turned { MatchResult result (λ reply. Turned (K.good stm.now.rule) stm.now MaySay self.old (Said.Reply op reply) self.new) (λ stop. Turned (K.good stm.now.rule) stm.now MaySay self.old (Said.Stopped op stop) self.new) }
     {
         match operate(stm, &mut self.desc, self.regions, op, &mut self.out) {
             Ok(reply) => {
-                self.operations_left = tail(self.operations_left);
+                self.operations_left = later;
                 self.wrote = self.wrote | writes(op, reply);
-                Said::Reply(op, reply)
+                Ok(reply)
             }
             Err(stop) => {
                 self.stop(stop);
-                Said::Stopped(op, stop)
+                Err(stop)
             }
         }
     }
@@ -610,6 +675,7 @@ impl<'a, K: MemRule> Worker<'a, K> {
 
     /// The attempt has ended without a row, by this stop. A log that was too short for it will be so again, so
     /// that the next attempt must become irrevocable.
+    #[inline(never)]
     fn stop(&mut self, stop: Stop)
         requires { IsCounted self.old.failed self.old.must }
         ensures { self.new ≡ stopped_by stop self.old }

@@ -1,6 +1,6 @@
 -- When each answer comes, and what stands after it.
 use Rattle.std.specs.Prelude.{ℕ, ◌≡◌, ◌||◌, ◌≢◌, ◌<◌, ◌≤◌, ◌+◌, ◌%◌, ◌^◌, ◌⊎◌, max, min, Some, None, Bool, true, false, List, [], ◌∷◌, ◌++◌, ◌-◌, length, get_or, take}
-use Rattle.stm_model.specs.Algorithms.{is_built, asks_at_begin, asks_at_write, asks_at_commit, asks_at_grant, closes_gate, entry_rise, quit_rise, install_rise}
+use Rattle.stm_model.specs.Algorithms.{asks_at_begin, asks_at_write, asks_at_commit, asks_at_grant, closes_gate, entry_rise, quit_rise, install_rise}
 use Rattle.stm_model.specs.declared.alg.Alg.{Alg}
 use Rattle.stm_model.specs.declared.alg.Alg.TheVariants.{Cgl, Tml, OrecLazy, OrecEager, RingSw, Serial}
 use Rattle.stm_model.specs.declared.config.Config.{Config}
@@ -205,7 +205,6 @@ module _ (good : List ℕ → Type 0) (c : Config) (n : ℕ) where
     pub fence : (word : ℕ) × Found Gate word v w × (w.fence ≡ fence_of word)
     pub unfenced : c.fence ≡ false → w.fence ≡ 0
     pub named : w.alg ≡ alg
-    pub built : is_built alg ≡ true
     pub start : Found (start_word alg) w.start v w
     pub fresh : v.front ≤ w.start
     pub log : w.log ≡ no_log
@@ -364,7 +363,6 @@ module _ (good : List ℕ → Type 0) (c : Config) (n : ℕ) where
     pub rises : w.rises ≡ v.rises
     pub installs : w.installs ≡ v.installs
     pub gate : FindsOpen w.alg v w
-    pub built : is_built w.alg ≡ true
 
   -- what `close_gate` tells
   abbrev pub Closes : CloseGate → Known → Known → Type 0

@@ -35,7 +35,7 @@ pub record Carries (v w : Known) : Type 0 where
   pub alg : w.alg ≡ v.alg
   pub installs : w.installs ≡ v.installs
   pub base : w.base ≡ v.base
-  pub pays : owed w ≤ owed v
+  pub owes : owed w ≤ owed v
   pub going : w.running ≡ true → IsStillIn v w
   -- an irrevocable attempt goes on, and stays so
   pub irrevocable : v.running ≡ true → is_irrevocable v ≡ true → (w.running ≡ true) × (is_irrevocable w ≡ true)
@@ -69,7 +69,7 @@ grows-trans u v w a b =
     }
 
 pub carries-refl : (v : Known) → Carries v v
-carries-refl v = record { made = refl; grows = grows-same v v refl refl [] refl refl refl refl; closing = refl; alg = refl; installs = refl; base = refl; pays = omega arith; going = λ r. record { running = r; start = le_refl v.start; granted = refl; holds = refl; depth = refl; marks = refl; retains = refl; fence = refl }; irrevocable = λ r i. (r, i) }
+carries-refl v = record { made = refl; grows = grows-same v v refl refl [] refl refl refl refl; closing = refl; alg = refl; installs = refl; base = refl; owes = omega arith; going = λ r. record { running = r; start = le_refl v.start; granted = refl; holds = refl; depth = refl; marks = refl; retains = refl; fence = refl }; irrevocable = λ r i. (r, i) }
 
 pub carries-trans : (u v w : Known) → Carries u v → Carries v w → Carries u w
 carries-trans u v w a b = record {
@@ -79,7 +79,7 @@ carries-trans u v w a b = record {
   alg = b.alg ∙ a.alg;
   installs = b.installs ∙ a.installs;
   base = b.base ∙ a.base;
-  pays = (let x = a.pays in let y = b.pays in omega arith);
+  owes = (let x = a.owes in let y = b.owes in omega arith);
   going = λ r. let y = b.going r in let x = a.going y.running in record { running = x.running; start = (let m = x.start in let n = y.start in omega arith); granted = y.granted ∙ x.granted; holds = y.holds ∙ x.holds; depth = y.depth ∙ x.depth; marks = y.marks ∙ x.marks; retains = y.retains ∙ x.retains; fence = y.fence ∙ x.fence };
   irrevocable = λ r i. let m = a.irrevocable r i in b.irrevocable m.0 m.1;
 }
@@ -105,7 +105,7 @@ carries-goes v w running closing g irrevocable = let k = g.continues in record {
   alg = k.alg;
   installs = k.installs;
   base = k.base;
-  pays = owed-goes v w k.running running k.base;
+  owes = owed-goes v w k.running running k.base;
   going = λ r. record { running = running; start = k.later; granted = g.granted; holds = g.holds; depth = k.depth; marks = g.marks; retains = k.retains; fence = k.fence };
   irrevocable = λ r i. (k.running, irrevocable i);
 }
@@ -124,7 +124,7 @@ carries-quits v w running closing q = record {
   alg = q.ends.alg;
   installs = q.ends.installs;
   base = q.ends.base;
-  pays = owed-quits v w q.ends.idle.1 running (let r = q.rises.1 in let l = quit-low v.alg (has_written v) in omega arith);
+  owes = owed-quits v w q.ends.idle.1 running (let r = q.rises.1 in let l = quit-low v.alg (has_written v) in omega arith);
   going = λ r. absurd (elim-no w.running r q.ends.idle.1);
   irrevocable = λ r i. absurd (elim-no (is_irrevocable v) i q.revocable);
 }

@@ -1,12 +1,12 @@
 //! Sorted chains of cells in one pool, over any access.
-ghost use Rattle.std.specs.Prelude.{◌≡◌, ◌<◌, ◌≤◌, ◌+◌, ◌*◌, ◌^◌, suc, None, Some, Option, IfOk, OnOk, IfErr, IfSome, length};
+ghost use Rattle.std.specs.Prelude.{◌≡◌, ◌<◌, ◌≤◌, None, Some, IfOk, OnOk, IfErr};
 ghost use Rattle.stm_model.specs.Logs.{SameMemories, IsExplained, IsReadStop};
 ghost use Rattle.tx_effects.specs.Effects.{DoesOver, Under, Shows};
-ghost use Rattle.tx_effects.specs.Keys.{free_from};
-ghost use Rattle.tx_cells.specs.Chains.{ChainsFit, IsChains, tag, head_of, find, contained_in, inserted_in, removed_in, counted_in};
+ghost use Rattle.tx_cells.specs.Chains.{ChainsFit, IsChains, head_of, find, contained_in, inserted_in, removed_in, counted_in};
 
 use stm_model::access::Access;
 use stm_model::stop::Stop;
+use tx_effects::cells::Cells;
 use tx_effects::insert::Insert;
 use tx_effects::position::Position;
 
@@ -63,32 +63,6 @@ impl Chains {
         })
     }
 
-    /// The free cell of the lowest number, here from 0. One read a cell at most.
-    fn free_cell<A: Access>(&self, acc: &mut A) -> Result<Option<usize>, Stop>
-        requires going { A.stopped acc.old ≡ None }
-        requires within { ChainsFit self.now (A.words acc.old) }
-        requires explained { IsExplained (A.good acc.old) (A.words acc.old) (A.log acc.old) }
-        ensures frees { IfOk result (λ o. Shows (A.good acc.old) (A.words acc.old) (A.log acc.old) (A.log acc.new) (λ m. o ≡ free_from (tag self.now m) 0 self.now.cells)) }
-        ensures inside { IfOk result (λ o. IfSome o (λ c. c < self.now.cells)) }
-        ensures writes { OnOk result ((A.log acc.new).writes ≡ (A.log acc.old).writes) }
-        ensures explained { OnOk result (IsExplained (A.good acc.new) (A.words acc.new) (A.log acc.new)) }
-        ensures cause { IfErr result IsReadStop }
-        ensures goes { OnOk result (A.stopped acc.new ≡ None) }
-        ensures stops { IfErr result (λ s. A.stopped acc.new ≡ Some s) }
-        ensures good { SameMemories (A.good acc.old) (A.good acc.new) }
-        ensures words { A.words acc.new ≡ A.words acc.old }
-        ensures keeps { A.keeps acc.old acc.new }
-    {
-        let cells = self.at + self.heads;
-        for cell in 0..self.cells {
-            let tag = acc.read(cells + 2 * cell)?;
-            if tag == 0 {
-                return Ok(Some(cell));
-            }
-        }
-        Ok(None)
-    }
-
     /// Whether the key is there. Two reads a cell at most, and one.
     ///
     /// # Errors
@@ -134,7 +108,12 @@ impl Chains {
         if position.tag == tag {
             return Ok(Insert::Present);
         }
-        match self.free_cell(acc)? {
+        let cells = Cells {
+            first: self.at + self.heads,
+            width: 2,
+            count: self.cells,
+        };
+        match cells.free_cell(acc)? {
             None => Ok(Insert::NoRoom),
             Some(cell) => {
                 let address = self.at + self.heads + 2 * cell;

@@ -100,6 +100,13 @@ lookup-open g items bs a at d x s free = record {
           ]
         ]
 
+-- an open home ends it at once
+pub home-open : (g : ℕ) (items : List (ℕ × ℕ)) (bs : List Bucket) (a home : ℕ) → IsIndex g items bs → 0 < length bs → home ≡ a % length bs → (get_or bs home blank).mark ≢ g → IsLookup g items bs a (record { at = home; distance = 0; item = None })
+home-open g items bs a home x some is free =
+    let low : home < length bs = omega arith in
+    let first : home ≡ wrapped (length bs) (a % length bs + 0) = sym (ap (wrapped (length bs)) (omega arith) ∙ wrapped-low (length bs) home low) in
+    lookup-open g items bs a home 0 x (record { few = omega arith; at-is = first; within = low; passed = λ k l. absurd (omega arith); others = λ k l. absurd (omega arith) }) free
+
 pub named : (g : ℕ) (items : List (ℕ × ℕ)) (bs : List Bucket) (x : ℕ) → IsIndex g items bs → x < length bs → (get_or bs x blank).mark ≡ g → (get_or bs x blank).item < length items
 named g items bs x h l m =
     let e = here-is bs x l in

@@ -102,7 +102,9 @@ pub fn look_up(
     }
 }
 
-/// Takes a bucket for a new item behind these, of an address that none of them has: the one at which its lookup ends.
+/// Takes a bucket for a new item behind these, of an address that none of them has: the one at which its lookup ends. Where
+/// the first is open, no address is compared.
+#[inline(always)]
 pub fn take(index: &mut [Bucket], items: &[(usize, u64)], generation: u32, inverse: usize, a: usize)
     requires few { length index.old ≤ 8192 }
     requires indexed { IsIndex generation items.now index.old }
@@ -111,8 +113,11 @@ pub fn take(index: &mut [Bucket], items: &[(usize, u64)], generation: u32, inver
     ensures size { length index.new ≡ length index.old }
     ensures indexed { (v : ℕ) → IsIndex generation (items.now ++ (a, v) ∷ []) index.new }
 {
-    let found = look_up(index, items, generation, inverse, a);
-    index[found.at] = Bucket {
+    let mut at = home(index.len(), inverse, a);
+    if index[at].mark == generation {
+        at = look_up(index, items, generation, inverse, a).at;
+    }
+    index[at] = Bucket {
         mark: generation,
         item: items.len() as u32,
     };

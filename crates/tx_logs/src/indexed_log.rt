@@ -1,10 +1,11 @@
 //! A log that grows long: items of address and value, in the order in which the addresses came, all found by an index.
-ghost use Rattle.std.specs.Prelude.{◌*◌, ◌≡◌, ◌≤◌, ◌<◌, ◌+◌, [], IfOk, MatchResult, length, max, slice_index_or};
+ghost use Rattle.std.specs.Prelude.{◌*◌, ◌≡◌, ◌≤◌, ◌<◌, ◌+◌, ◌++◌, ◌∷◌, ◌≢◌, [], IfOk, MatchResult, None, length, max, slice_index_or};
 ghost use Rattle.stm_model.specs.Memories.{item_at, Once};
 ghost use Rattle.tx_logs.specs.Probing.{IsProbed};
 ghost use Rattle.tx_logs.specs.LogStates.{LogState, Pushes, empty_at, next_generation, pushed, renewed};
+ghost use Rattle.tx_logs.specs.ShortLogs.{IsPosition};
 
-use crate::index::{Bucket, clear_marks, inverse_of, look_up};
+use crate::index::{Bucket, clear_marks, home, inverse_of, look_up, take};
 use crate::push::{Push, Repeat};
 use std::alloc::Global;
 use std::marker::Model;
@@ -57,16 +58,36 @@ impl IndexedLog {
         })
     }
 
-    /// The value at the address, if it is in the log. One lookup, and none in an empty log.
+    /// The value at the address, if it is in the log. One lookup, and none in an empty log: it ends here where the first
+    /// bucket is open.
+    #[inline(always)]
     pub fn find(&self, a: usize) -> Option<u64>
         ensures { result ≡ item_at a self.now.items }
     {
         if self.items.is_empty() {
             return None;
         }
+        let home = home(self.index.len(), self.inverse, a);
+        if self.index[home].mark != self.generation {
+            return None;
+        }
+        let i = self.position(a);
+        let count = self.items.len();
+        if i == count {
+            return None;
+        }
+        Some(self.items[i].1)
+    }
+
+    /// The number of the address's item, or that of the items where none has it. It answers a number, since an option would
+    /// have its room set to 0 in each caller.
+    #[inline(never)]
+    fn position(&self, a: usize) -> usize
+        ensures { IsPosition a self.now.items result }
+    {
         match look_up(&self.index, &self.items, self.generation, self.inverse, a).item {
-            Some(i) => Some(self.items[i].1),
-            None => None,
+            Some(i) => i,
+            None => self.items.len(),
         }
     }
 
@@ -139,6 +160,23 @@ impl IndexedLog {
             item: count as u32,
         };
         Push::Done
+    }
+
+    /// Adds the value at an address that no item has, where there is room for it. It takes no memory.
+    #[inline(always)]
+    pub fn push_new(&mut self, a: usize, v: u64)
+        requires new { item_at a self.old.items ≡ None }
+        requires room { length self.old.items ≢ self.old.len }
+        ensures { self.new ≡ record self.old { items = self.old.items ++ (a, v) ∷ [] } }
+    {
+        take(
+            &mut self.index,
+            &self.items,
+            self.generation,
+            self.inverse,
+            a,
+        );
+        self.items.push_reserved((a, v));
     }
 
     /// Makes the length the greater of its old one and `len`, 1 to 4,096. Where memory is refused the log is as before.

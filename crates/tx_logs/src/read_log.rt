@@ -1,5 +1,5 @@
 //! What an attempt has read.
-ghost use Rattle.std.specs.Prelude.{◌*◌, ◌≡◌, ◌≤◌, ◌<◌, ◌+◌, [], IfOk, MatchResult, length, max, slice_index_or};
+ghost use Rattle.std.specs.Prelude.{◌*◌, ◌≡◌, ◌≤◌, ◌<◌, ◌+◌, ◌++◌, ◌∷◌, ◌≢◌, [], IfOk, MatchResult, None, length, max, slice_index_or};
 ghost use Rattle.stm_model.specs.Memories.{item_at, Once};
 ghost use Rattle.tx_logs.specs.Probing.{IsProbed};
 ghost use Rattle.tx_logs.specs.LogStates.{LogState, Pushes, empty_at, next_generation, renewed, keep};
@@ -53,6 +53,17 @@ impl ReadLog {
         ensures { Pushes self.old a (keep a v self.old.items) result self.new }
     {
         self.log.push(a, v, Repeat::Keep)
+    }
+
+    /// Adds the value at an address that isn't in the log, where there is room for it. One lookup, which compares no address
+    /// where the first bucket is open.
+    #[inline(always)]
+    pub fn push_new(&mut self, a: usize, v: u64)
+        requires new { item_at a self.old.items ≡ None }
+        requires room { length self.old.items ≢ self.old.len }
+        ensures { self.new ≡ record self.old { items = self.old.items ++ (a, v) ∷ [] } }
+    {
+        self.log.push_new(a, v);
     }
 
     /// The value at the address, if it is in the log. One lookup, and none in an empty log.

@@ -5,7 +5,8 @@ use Rattle.std.proofs.Math.ListN.{length-set}
 use Rattle.std.proofs.lemmas.List.{get_or-set_same, get_or-set_other}
 use Rattle.std.proofs.lemmas.Bool.Decides.{nat_tests}
 use Rattle.tx_effects.specs.declared.position.Position.{Position}
-use Rattle.tx_effects.specs.Effects.{changed, unchanged}
+use Rattle.stm_model.specs.Logs.{Log}
+use Rattle.tx_effects.specs.Effects.{Shows, Turns, changed, unchanged}
 use Rattle.tx_effects.specs.Keys.{less_one}
 use Rattle.tx_effects.specs.KeyLaws.{how_many-most}
 use Rattle.tx_tree.specs.Shapes.{Ranges, Within, LinkOf, Names, Bounds, top}
@@ -15,6 +16,7 @@ use Rattle.tx_tree.specs.ShapeSplices.{shifted}
 use Rattle.tx_sums.specs.declared.sum_map.SumMap.{SumMap}
 use Rattle.tx_sums.specs.Sums.{pool, tag_at, left_at, right_at, value_at, sum_at, tag, value, Used, Holds, IsSumMap, LinksInside, LinksFrom, HasRight, IsLink, IsEmptied, sum_within, side_at, raised, mended_by, mended, step_to, spliced, retagged, leftmost, moved_up, replaced_by, least_taken, taken_out, taken_in, replaced_in, position_of, removed_by, removed_in}
 use Rattle.tx_sums.proofs.SumTrees.{Tree, tree-of, same-tree, same-link, same-used-old, part, part-in, part-out, within-set, mod-changes}
+use Rattle.tx_sums.proofs.SumWalks.{Walks, walks-shown, walks-turns}
 use Rattle.tx_sums.proofs.SumPuts.{link-off, tree-links}
 use Rattle.tx_sums.proofs.SumMends.{Broken, nest, mended-holds}
 use Rattle.tx_sums.proofs.SumContents.{mended-other, mended-value}
@@ -438,6 +440,14 @@ pub record Cutting (r : SumMap) (words x e u v : ℕ) (m : List ℕ) : Type 0 wh
   pub long : length m ≡ words
   pub left : u ≡ slice_index m (left_at r x)
   pub right : v ≡ slice_index m (right_at r x)
+
+-- what a splice that gives the link the word s leaves
+pub walks-cut : (good : List ℕ → Type 0) (words : ℕ) (l k j : Log) (r : SumMap) (x e u v s : ℕ) → Shows good words l k (Cutting r words x e u v) → k.writes ≡ l.writes → Turns k j (spliced r x e s)
+    → ((m : List ℕ) → Cutting r words x e u v m → (taken_in r x e m ≡ changed true (spliced r x e s m)) × IsSumMap r (spliced r x e s m)) → Walks good words l j (λ m z. (taken_in r x e m ≡ changed true z) × IsSumMap r z)
+walks-cut good words l k j r x e u v s reads ws turns cut =
+    let w0 = walks-shown good words l k (Cutting r words x e u v) (λ m z. Cutting r words x e u v m × (z ≡ m)) reads ws (λ m h. (h, refl)) in
+    walks-turns good words l k j (λ m z. Cutting r words x e u v m × (z ≡ m)) (λ m z. (taken_in r x e m ≡ changed true z) × IsSumMap r z) (spliced r x e s) w0 turns
+    (λ m z h. subst (λ i. (taken_in r x e m ≡ changed true (spliced r x e s i)) × IsSumMap r (spliced r x e s i)) (sym h.1) (cut m h.0))
 
 pub out-right : (r : SumMap) (m : List ℕ) (x e u v : ℕ) → IsEmptied r x e m → r.at + 1 + 5 * r.cells ≤ length m → u ≡ slice_index m (left_at r x) → u ≡ 0 → v ≡ slice_index m (right_at r x) → (taken_in r x e m ≡ changed true (spliced r x e v m)) × IsSumMap r (spliced r x e v m)
 out-right r m x e u v w room a z b =

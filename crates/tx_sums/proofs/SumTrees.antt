@@ -8,7 +8,7 @@ use Rattle.tx_tree.specs.Shapes as shapes
 use Rattle.tx_tree.specs.ShapeSame.{same-shape}
 use Rattle.tx_tree.specs.ShapeSame.{same-link as shape-link}
 use Rattle.tx_sums.specs.declared.sum_map.SumMap.{SumMap}
-use Rattle.tx_sums.specs.Sums.{pool, left_at, right_at, sum_at, tag, value, Used, sum_within, Holds, IsSumMap, find, position_of, leftmost}
+use Rattle.tx_sums.specs.Sums.{pool, left_at, right_at, sum_at, tag, value, Used, sum_within, Holds}
 
 -- as Holds, without the sums
 pub record Tree (r : SumMap) (m : List ℕ) (g : Ranges) : Type 0 where
@@ -37,17 +37,6 @@ module _ (r : SumMap) (m k : List ℕ) (g : Ranges) (w : Tree r m g) (root : sli
 
   pub same-link : (l h a : ℕ) → LinkOf (pool r) m g l h a → LinkOf (pool r) k g l h a
   same-link l h a x = shape-link (pool r) m k g w.shape root (λ i lt. tags i) (λ i lt. lefts i) (λ i lt. rights i) l h a x
-
--- THE WALKS to a key's place and to the least
-pub record Walked (r : SumMap) (key a v n : ℕ) (m : List ℕ) : Type 0 where
-  pub well : IsSumMap r m
-  pub on : position_of r m key ≡ find r m key n a
-  pub at : v ≡ slice_index m a
-
-pub record WalkedLeft (r : SumMap) (from a v n : ℕ) (m : List ℕ) : Type 0 where
-  pub well : IsSumMap r m
-  pub on : leftmost r m r.cells from ≡ leftmost r m n a
-  pub at : v ≡ slice_index m a
 
 -- SUMS OVER RANGES
 abbrev pub part : SumMap → List ℕ → ℕ → ℕ → ℕ → ℕ

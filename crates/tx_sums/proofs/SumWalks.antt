@@ -169,3 +169,8 @@ pub wrote-end : (i : ℕ) (l k : Log) (b : Bool) (v : ℕ) → Wrote i l k b v �
 wrote-end i l k b v (inl x) z = let q : (v == 0) ≡ true = (let y = z x.0 in grind (arith, nat_tests)) in let f : b ≡ false = x.2 ∙ ap not q in
     ap (λ y. not (is_empty y)) x.1 ∙ (or-not (not (is_empty l.writes)) ∙ ap (λ y. not (is_empty l.writes) || y) (sym f))
 wrote-end i l k b v (inr x) z = wrote-here l k b x.0 x.1
+
+-- a walk that has no more to mend
+pub mending-over : (good : List ℕ → Type 0) (words : ℕ) (l k : Log) (r : SumMap) (from key d v n i : ℕ) (b : Bool) → Walks good words l k (Mending r from key d v n b) → Wrote i l k b v → (i ≡ 0 → v ≡ 0) → ((x : List ℕ) → from_word r key d n v x ≡ x) → DoesOver good words (mended_in r from key d) l b k
+mending-over good words l k r from key d v n i b walks wrote empty over =
+    walks-end good words l k (mended_in r from key d) b b (wrote-end i l k b v wrote empty) (λ m fine len ex. let p = walks m fine len ex in (p.0, mended-is r from key d b _ _ (p.1.on ∙ over _) p.1.first))

@@ -3,8 +3,8 @@ use Rattle.std.specs.Prelude.{ℕ, zero, suc, ◌≡◌, ◌+◌, ◌-◌, ◌*�
 use Rattle.tx_effects.specs.declared.position.Position.{Position}
 use Rattle.tx_effects.specs.Effects.{Effect, unchanged, changed}
 use Rattle.tx_effects.specs.Keys.{free_from, less_one}
-use Rattle.std.proofs.Common.{arith}
-use Rattle.tx_tree.specs.Shapes.{Pool, Ranges}
+use Rattle.tx_tree.specs.declared.pool.Pool.{Pool}
+use Rattle.tx_tree.specs.Shapes.{Ranges}
 use Rattle.tx_tree.specs.Shapes as shapes
 use Rattle.tx_sums.specs.declared.sum_map.SumMap.{SumMap}
 use Rattle.tx_sums.specs.declared.sum_map.Passed.{Passed}
@@ -63,7 +63,7 @@ sum_of lo hi [] = 0
 sum_of lo hi (p ∷ ps) = if leb lo p.0 && leb p.0 hi then p.1 + sum_of lo hi ps else sum_of lo hi ps
 
 abbrev pub pool : SumMap → Pool
-pool r = record { at = r.at; cells = r.cells; width = 5; wide = omega arith }
+pool r = record { at = r.at; cells = r.cells; extra = 2 }
 
 abbrev pub Used : SumMap → List ℕ → ℕ → Type 0
 Used r m k = shapes.Used (pool r) m k
@@ -184,11 +184,6 @@ pub record HasRight (r : SumMap) (j v : ℕ) (m : List ℕ) : Type 0 where
   pub used : Used r m j
   pub none : value r m j ≡ 0
   pub right : v ≡ slice_index m (right_at r j)
-
--- the word at a is v, in a map
-pub record IsAt (r : SumMap) (a v : ℕ) (m : List ℕ) : Type 0 where
-  pub well : IsSumMap r m
-  pub at : v ≡ slice_index m a
 
 -- the link e, which names the cell y, gets v, and the words of y become 0
 abbrev pub spliced : SumMap → ℕ → ℕ → ℕ → List ℕ → List ℕ

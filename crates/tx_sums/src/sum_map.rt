@@ -1,15 +1,15 @@
 //! A map from keys to values with the sums of ranges of keys, over any access.
-ghost use Rattle.std.specs.Prelude.{◌≡◌, ◌<◌, ◌≤◌, ◌+◌, ◌*◌, ◌%◌, ◌^◌, true, None, Some, IfOk, OnOk, IfErr, IfSome, ltb, if◌then◌else◌, length, suc, Option};
+ghost use Rattle.std.specs.Prelude.{◌≡◌, ◌<◌, ◌≤◌, ◌%◌, ◌^◌, true, None, Some, IfOk, OnOk, IfErr};
 ghost use Rattle.stm_model.specs.Logs.{SameMemories, IsExplained, IsReadStop};
 ghost use Rattle.tx_effects.specs.Effects.{DoesOver, Under, Shows, Turns};
-ghost use Rattle.tx_effects.specs.Keys.{free_from};
 ghost use Rattle.tx_tree.specs.Shapes.{top};
-ghost use Rattle.tx_sums.specs.Sums.{SumMapFits, IsSumMap, LinksInside, tag, sum_within, sum_under, passed, position_of, summed_in, put_in, raised_in, mended_in, got_in, LinksFrom, HasKey, HasRight, IsEmptied, IsAt, replaced_in, leftmost, spliced, least_taken, taken_in, removed_in};
+ghost use Rattle.tx_sums.specs.Sums.{SumMapFits, IsSumMap, sum_within, sum_under, passed, summed_in, put_in, raised_in, mended_in, got_in, LinksFrom, HasKey, HasRight, IsEmptied, replaced_in, spliced, least_taken, taken_in, removed_in};
 ghost use Rattle.tx_sums.specs.declared.sum_map.MapPut.TheVariants.{Replaced};
 
 use stm_model::access::Access;
 use stm_model::stop::Stop;
-use tx_effects::position::Position;
+use tx_effects::cells::Cells;
+use tx_tree::pool::{Pool, side};
 
 /// What a put did.
 #[derive(Clone, Copy, Drop, Debug, PartialEq, Eq)]
@@ -43,18 +43,6 @@ struct Passed {
     added: u64,
 }
 
-/// The link towards the key, of the cell whose tag stands at this address.
-fn side(address: usize, tag: u64, key: u32) -> usize
-    requires { address + 2 < 2 ^ 64 }
-    ensures { result ≡ (if ltb key tag then address + 1 else address + 2) }
-{
-    if tag > key as u64 {
-        address + 1
-    } else {
-        address + 2
-    }
-}
-
 impl SumMap {
     pub fn new(at: usize, cells: usize) -> SumMap
         ensures { result ≡ record { at = at; cells = cells } }
@@ -82,69 +70,6 @@ impl SumMap {
         Ok(sum)
     }
 
-    /// The link that names the key's cell, or the empty one where the key would go. Two reads a cell of the path at
-    /// most, and one.
-    fn find<A: Access>(&self, acc: &mut A, key: u32) -> Result<Position, Stop>
-        requires going { A.stopped acc.old ≡ None }
-        requires within { SumMapFits self.now (A.words acc.old) }
-        requires well { Under (A.good acc.old) (A.words acc.old) (A.log acc.old) (IsSumMap self.now) }
-        ensures finds { IfOk result (λ s. Shows (A.good acc.old) (A.words acc.old) (A.log acc.old) (A.log acc.new) (λ m. s ≡ position_of self.now m key)) }
-        ensures inside { IfOk result (λ s. (s.link < A.words acc.old) × (s.next ≤ self.now.cells) × (s.next ≡ 0 → s.tag ≡ 0)) }
-        ensures writes { OnOk result ((A.log acc.new).writes ≡ (A.log acc.old).writes) }
-        ensures explained { OnOk result (IsExplained (A.good acc.new) (A.words acc.new) (A.log acc.new)) }
-        ensures goes { OnOk result (A.stopped acc.new ≡ None) }
-        ensures stops { IfErr result (λ s. A.stopped acc.new ≡ Some s) }
-        ensures cause { IfErr result IsReadStop }
-        ensures good { SameMemories (A.good acc.old) (A.good acc.new) }
-        ensures words { A.words acc.new ≡ A.words acc.old }
-        ensures keeps { A.keeps acc.old acc.new }
-    {
-        let mut link = self.at;
-        let mut next = acc.read(link)?;
-        for _step in 0..self.cells {
-            if next == 0 {
-                return Ok(Position { link, next, tag: 0 });
-            }
-            let address = self.at + 1 + 5 * (next - 1) as usize;
-            let tag = acc.read(address)?;
-            if tag == key as u64 + 1 {
-                return Ok(Position { link, next, tag });
-            }
-            link = side(address, tag, key);
-            next = acc.read(link)?;
-        }
-        Ok(Position {
-            link,
-            next: 0,
-            tag: 0,
-        })
-    }
-
-    /// The free cell of the lowest number, here from 0. One read a cell at most.
-    fn free_cell<A: Access>(&self, acc: &mut A) -> Result<Option<usize>, Stop>
-        requires going { A.stopped acc.old ≡ None }
-        requires within { SumMapFits self.now (A.words acc.old) }
-        requires explained { IsExplained (A.good acc.old) (A.words acc.old) (A.log acc.old) }
-        ensures frees { IfOk result (λ o. Shows (A.good acc.old) (A.words acc.old) (A.log acc.old) (A.log acc.new) (λ m. o ≡ free_from (tag self.now m) 0 self.now.cells)) }
-        ensures inside { IfOk result (λ o. IfSome o (λ c. c < self.now.cells)) }
-        ensures writes { OnOk result ((A.log acc.new).writes ≡ (A.log acc.old).writes) }
-        ensures explained { OnOk result (IsExplained (A.good acc.new) (A.words acc.new) (A.log acc.new)) }
-        ensures goes { OnOk result (A.stopped acc.new ≡ None) }
-        ensures stops { IfErr result (λ s. A.stopped acc.new ≡ Some s) }
-        ensures cause { IfErr result IsReadStop }
-        ensures good { SameMemories (A.good acc.old) (A.good acc.new) }
-        ensures words { A.words acc.new ≡ A.words acc.old }
-        ensures keeps { A.keeps acc.old acc.new }
-    {
-        for cell in 0..self.cells {
-            let tag = acc.read(self.at + 1 + 5 * cell)?;
-            if tag == 0 {
-                return Ok(Some(cell));
-            }
-        }
-        Ok(None)
-    }
-
     /// The key's value, where it has one. Two reads a cell of the path at most, and two.
     ///
     /// # Errors
@@ -163,7 +88,12 @@ impl SumMap {
         ensures words { A.words acc.new ≡ A.words acc.old }
         ensures keeps { A.keeps acc.old acc.new }
     {
-        let position = self.find(acc, key)?;
+        let pool = Pool {
+            at: self.at,
+            cells: self.cells,
+            extra: 2,
+        };
+        let position = pool.find(acc, key)?;
         if position.next == 0 {
             return Ok(None);
         }
@@ -193,12 +123,22 @@ impl SumMap {
         ensures words { A.words acc.new ≡ A.words acc.old }
         ensures keeps { A.keeps acc.old acc.new }
     {
-        let position = self.find(acc, key)?;
+        let pool = Pool {
+            at: self.at,
+            cells: self.cells,
+            extra: 2,
+        };
+        let position = pool.find(acc, key)?;
         if position.next != 0 {
             self.replace(acc, key, (position.next - 1) as usize, value)?;
             return Ok(MapPut::Replaced);
         }
-        match self.free_cell(acc)? {
+        let cells = Cells {
+            first: self.at + 1,
+            width: 5,
+            count: self.cells,
+        };
+        match cells.free_cell(acc)? {
             None => Ok(MapPut::NoRoom),
             Some(cell) => {
                 let address = self.at + 1 + 5 * cell;
@@ -266,46 +206,6 @@ impl SumMap {
         Ok(wrote)
     }
 
-    /// From the link `from`, whose word is `first`, to the left: the first cell with nothing on its left.
-    /// One read a cell at most, and one.
-    fn leftmost<A: Access>(&self, acc: &mut A, from: usize, first: u64) -> Result<Position, Stop>
-        requires going { A.stopped acc.old ≡ None }
-        requires within { (from < A.words acc.old) × (first ≤ self.now.cells) × SumMapFits self.now (A.words acc.old) }
-        requires explained { IsExplained (A.good acc.old) (A.words acc.old) (A.log acc.old) }
-        requires well { Under (A.good acc.old) (A.words acc.old) (A.log acc.old) (IsAt self.now from first) }
-        ensures finds { IfOk result (λ s. Shows (A.good acc.old) (A.words acc.old) (A.log acc.old) (A.log acc.new) (λ m. s ≡ leftmost self.now m self.now.cells from)) }
-        ensures inside { IfOk result (λ s. (s.link < A.words acc.old) × (s.next ≤ self.now.cells)) }
-        ensures writes { OnOk result ((A.log acc.new).writes ≡ (A.log acc.old).writes) }
-        ensures explained { OnOk result (IsExplained (A.good acc.new) (A.words acc.new) (A.log acc.new)) }
-        ensures cause { IfErr result IsReadStop }
-        ensures goes { OnOk result (A.stopped acc.new ≡ None) }
-        ensures stops { IfErr result (λ s. A.stopped acc.new ≡ Some s) }
-        ensures good { SameMemories (A.good acc.old) (A.good acc.new) }
-        ensures words { A.words acc.new ≡ A.words acc.old }
-        ensures keeps { A.keeps acc.old acc.new }
-    {
-        let mut link = from;
-        let mut next = first;
-        for _step in 0..self.cells {
-            if next == 0 {
-                return Ok(Position { link, next, tag: 0 });
-            }
-            let address = self.at + 1 + 5 * (next - 1) as usize;
-            let left = acc.read(address + 1)?;
-            if left == 0 {
-                let tag = acc.read(address)?;
-                return Ok(Position { link, next, tag });
-            }
-            link = address + 1;
-            next = left;
-        }
-        Ok(Position {
-            link,
-            next: 0,
-            tag: 0,
-        })
-    }
-
     /// The link, which names the cell, gets `word`, and the cell's words become 0. Six writes.
     fn splice<A: Access>(
         &self,
@@ -352,7 +252,12 @@ impl SumMap {
         ensures keeps { A.keeps acc.old acc.new }
     {
         let address = self.at + 1 + 5 * cell;
-        let least = self.leftmost(acc, address + 2, greater)?;
+        let pool = Pool {
+            at: self.at,
+            cells: self.cells,
+            extra: 2,
+        };
+        let least = pool.leftmost(acc, address + 2, greater)?;
         if least.next == 0 {
             unreachable!();
         }
@@ -418,7 +323,12 @@ impl SumMap {
         ensures words { A.words acc.new ≡ A.words acc.old }
         ensures keeps { A.keeps acc.old acc.new }
     {
-        let position = self.find(acc, key)?;
+        let pool = Pool {
+            at: self.at,
+            cells: self.cells,
+            extra: 2,
+        };
+        let position = pool.find(acc, key)?;
         if position.next == 0 {
             return Ok(false);
         }

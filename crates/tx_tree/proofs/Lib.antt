@@ -1,3 +1,4 @@
+pub mod Walking
 pub mod TreeWrites
 pub mod TreeTakes
 pub mod TreeEffects

@@ -15,7 +15,7 @@ use Rattle.tx_tree.specs.ShapeWalks.{left-link, named-used}
 use Rattle.tx_tree.specs.ShapeLeast.{Leftmost, leftmost-found, least-gap}
 use Rattle.tx_tree.specs.ShapeSplices.{shifted}
 use Rattle.tx_tree.specs.ShapeRetags.{retag-keeps}
-use Rattle.tx_tree.specs.Trees.{pool, tag_at, left_at, right_at, tag, keys, IsTree, find, position_of, spliced, retagged, leftmost, replaced, taken_out}
+use Rattle.tx_tree.specs.Trees.{pool, tag_at, left_at, right_at, tag, keys, IsTree, spliced, retagged, leftmost, replaced, taken_out}
 use Rattle.tx_tree.proofs.TreeWrites.{spliced-tags, spliced-freed, spliced-keeps}
 
 -- a cell x with something on its right takes the tag of the least there
@@ -78,16 +78,6 @@ taken_out-keeps r m g l h e x w k named room = by (slice_index m (left_at r x) =
         at n c zero d nm = absurd (grind (arith, nat_tests))
         at zero c (suc j) d nm = absurd (least.none c j nm.0)
         at (suc y) c (suc j) d nm = replaced-keeps r m g x y (leftmost r m r.cells (right_at r x)) w u least c room
-
-pub record Walked (r : Tree) (key a v n : ℕ) (m : List ℕ) : Type 0 where
-  pub well : IsTree r m
-  pub on : position_of r m key ≡ find r m key n a
-  pub at : v ≡ slice_index m a
-
-pub record WalkedLeft (r : Tree) (from a v n : ℕ) (m : List ℕ) : Type 0 where
-  pub well : IsTree r m
-  pub on : leftmost r m r.cells from ≡ leftmost r m n a
-  pub at : v ≡ slice_index m a
 
 -- the answer of min: from the root, the least cell has the least key
 module _ (r : Tree) (m : List ℕ) (g : Ranges) (w : Holds (pool r) m g) where

@@ -3,7 +3,8 @@ use Rattle.std.proofs.Common.{ℕ, zero, suc, ◌≡◌, ◌<◌, ◌≤◌, ◌
 use Rattle.std.specs.Prelude.{◌⊎◌, ◌==◌, if◌then◌else◌, slice_index}
 use Rattle.std.proofs.lemmas.Bool.Decides.{nat_tests}
 use Rattle.tx_effects.specs.declared.position.Position.{Position}
-use Rattle.tx_tree.specs.Shapes.{Pool, left_at, right_at, tag, top, Ranges, Used, Within, LinkOf, Names, Bounds, Holds}
+use Rattle.tx_tree.specs.declared.pool.Pool.{Pool}
+use Rattle.tx_tree.specs.Shapes.{left_at, right_at, tag, top, Ranges, Used, Within, LinkOf, Names, Bounds, Holds}
 use Rattle.tx_tree.specs.ShapeWalks.{Found}
 use Rattle.tx_tree.specs.ShapeOrder.{over, link-low, link-high, link-one, same-gap, high-most}
 

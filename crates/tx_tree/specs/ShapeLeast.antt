@@ -4,7 +4,8 @@ use Rattle.std.specs.Prelude.{◌==◌, ltb, if◌then◌else◌, slice_index}
 use Rattle.std.proofs.lemmas.Bool.Decides.{nat_tests}
 use Rattle.tx_effects.specs.declared.position.Position.{Position}
 use Rattle.tx_effects.specs.KeyLaws.{how_many-most}
-use Rattle.tx_tree.specs.Shapes.{Pool, left_at, right_at, tag, top, Ranges, Used, Within, LinkOf, Names, Holds, leftmost_by, leftmost}
+use Rattle.tx_tree.specs.declared.pool.Pool.{Pool}
+use Rattle.tx_tree.specs.Shapes.{left_at, right_at, tag, top, Ranges, Used, Within, LinkOf, Names, Holds, leftmost_by, leftmost}
 use Rattle.tx_tree.specs.ShapeWalks.{left, left-less, left-link, named-used}
 
 -- the least cell of the range from l: its left link is empty

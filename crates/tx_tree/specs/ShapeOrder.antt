@@ -3,16 +3,17 @@ use Rattle.std.proofs.Common.{ℕ, suc, ◌≡◌, ◌<◌, ◌≤◌, ◌≢◌
 use Rattle.std.specs.Prelude.{ltb, slice_index}
 use Rattle.std.proofs.Math.Nat.{mul-le-mul_left}
 use Rattle.std.proofs.lemmas.Bool.Decides.{nat_tests}
-use Rattle.tx_tree.specs.Shapes.{Pool, tag_at, left_at, right_at, tag, top, Ranges, Used, Within, LinkOf, Names, Bounds, Holds, IsLink}
+use Rattle.tx_tree.specs.declared.pool.Pool.{Pool}
+use Rattle.tx_tree.specs.Shapes.{width, tag_at, left_at, right_at, tag, top, Ranges, Used, Within, LinkOf, Names, Bounds, Holds, IsLink}
 
 -- a cell's tag and links are apart from each other, and from those of another
-cells-apart : (r : Pool) (i j a b : ℕ) → a < 3 → b < 3 → r.width * i + a ≡ r.width * j + b → (i ≡ j) × (a ≡ b)
+cells-apart : (r : Pool) (i j a b : ℕ) → a < 3 → b < 3 → width r * i + a ≡ width r * j + b → (i ≡ j) × (a ≡ b)
 cells-apart r i j a b la lb e = by (ltb i j) refl (ltb j i) refl
   where
     by : (p : Bool) → ltb i j ≡ p → (q : Bool) → ltb j i ≡ q → (i ≡ j) × (a ≡ b)
-    by true p q o = let lt : suc i ≤ j = grind (arith, nat_tests) in let m = mul-le-mul_left r.width lt in let w = r.wide in absurd (omega arith)
-    by false p true o = let lt : suc j ≤ i = grind (arith, nat_tests) in let m = mul-le-mul_left r.width lt in let w = r.wide in absurd (omega arith)
-    by false p false o = let same : i ≡ j = grind (arith, nat_tests) in let m : r.width * i ≡ r.width * j = ap (λ z. r.width * z) same in (same, omega arith)
+    by true p q o = let lt : suc i ≤ j = grind (arith, nat_tests) in let m = mul-le-mul_left (width r) lt in absurd (omega arith)
+    by false p true o = let lt : suc j ≤ i = grind (arith, nat_tests) in let m = mul-le-mul_left (width r) lt in absurd (omega arith)
+    by false p false o = let same : i ≡ j = grind (arith, nat_tests) in let m : width r * i ≡ width r * j = ap (λ z. width r * z) same in (same, omega arith)
 
 pub left-once : (r : Pool) (i j : ℕ) → left_at r i ≡ left_at r j → i ≡ j
 left-once r i j e = (cells-apart r i j 1 1 (omega arith) (omega arith) (omega arith)).0
@@ -29,8 +30,8 @@ left-no-tag r i j e = let z = (cells-apart r i j 1 0 (omega arith) (omega arith)
 right-no-tag : (r : Pool) (i j : ℕ) → right_at r i ≡ tag_at r j → ⊥
 right-no-tag r i j e = let z = (cells-apart r i j 2 0 (omega arith) (omega arith) (omega arith)).1 in absurd (omega arith)
 
-pub cell-end : (r : Pool) (i : ℕ) → i < r.cells → r.width * i + 3 ≤ r.width * r.cells
-cell-end r i lt = let le : suc i ≤ r.cells = omega arith in let m = mul-le-mul_left r.width le in let w = r.wide in omega arith
+pub cell-end : (r : Pool) (i : ℕ) → i < r.cells → width r * i + 3 ≤ width r * r.cells
+cell-end r i lt = let le : suc i ≤ r.cells = omega arith in let m = mul-le-mul_left (width r) le in omega arith
 
 -- the rank of a cell that the link names is this at least
 abbrev pub over : (r : Pool) (m : List ℕ) (g : Ranges) (l h a : ℕ) → LinkOf r m g l h a → ℕ
@@ -132,7 +133,7 @@ same-gap r m g l h l' h' t a d w x y za zd a1 a2 b1 b2 = by (ltb l l') refl (ltb
         let hi : h' ≡ h = grind (arith, nat_tests) in
         link-same r m g l h a d w x (subst (λ z. LinkOf r m g z h d) lo (subst (λ z. LinkOf r m g l' z d) hi y))
 
-pub link-inside : (r : Pool) (m : List ℕ) (g : Ranges) (l h a : ℕ) → LinkOf r m g l h a → ((j : ℕ) → a ≢ tag_at r j) × (a < r.at + 1 + r.width * r.cells)
+pub link-inside : (r : Pool) (m : List ℕ) (g : Ranges) (l h a : ℕ) → LinkOf r m g l h a → ((j : ℕ) → a ≢ tag_at r j) × (a < r.at + 1 + width r * r.cells)
 link-inside r m g l h a (inl x) = let p = x.0 in ((λ j e. absurd (omega arith)), omega arith)
 link-inside r m g l h a (inr (inl (i, p, q, o, u))) = let lt = cell-end r i u.inside in ((λ j e. left-no-tag r i j (sym p ∙ e)), omega arith)
 link-inside r m g l h a (inr (inr (i, p, q, o, u))) = let lt = cell-end r i u.inside in ((λ j e. right-no-tag r i j (sym p ∙ e)), omega arith)

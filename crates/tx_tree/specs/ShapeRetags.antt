@@ -2,7 +2,8 @@
 use Rattle.std.proofs.Common.{ℕ, zero, suc, ◌≡◌, ◌<◌, ◌≤◌, ◌≢◌, List, Bool, true, false, refl, sym, ap, ◌∙◌, arith, subst, inl, inr}
 use Rattle.std.specs.Prelude.{◌⊎◌, ◌==◌, ltb, slice_index}
 use Rattle.std.proofs.lemmas.Bool.Decides.{nat_tests}
-use Rattle.tx_tree.specs.Shapes.{Pool, left_at, right_at, tag, top, Ranges, Used, LinkOf, Names, Bounds, Holds}
+use Rattle.tx_tree.specs.declared.pool.Pool.{Pool}
+use Rattle.tx_tree.specs.Shapes.{left_at, right_at, tag, top, Ranges, Used, LinkOf, Names, Bounds, Holds}
 use Rattle.tx_tree.specs.ShapeOrder.{link-low, link-high}
 use Rattle.tx_tree.specs.ShapeSplices.{shift, shift-at, shift-off, shift-by, shifted}
 

@@ -2,7 +2,8 @@
 use Rattle.std.proofs.Common.{ℕ, zero, suc, ◌≡◌, ◌<◌, ◌≤◌, ◌≢◌, ◌+◌, ◌*◌, List, get_or, replicate, sym, ◌∙◌, arith, subst, inl, inr}
 use Rattle.std.specs.Prelude.{◌⊎◌, slice_index}
 use Rattle.tx_effects.specs.EffectLaws.{zero-at}
-use Rattle.tx_tree.specs.Shapes.{Pool, tag_at, left_at, right_at, tag, top, Ranges, Used, LinkOf, Names, Bounds, Holds}
+use Rattle.tx_tree.specs.declared.pool.Pool.{Pool}
+use Rattle.tx_tree.specs.Shapes.{width, tag_at, left_at, right_at, tag, top, Ranges, Used, LinkOf, Names, Bounds, Holds}
 use Rattle.tx_tree.specs.ShapeOrder.{link-inside}
 
 -- k has the tags and links of m
@@ -66,13 +67,13 @@ zeros-shape r n = record {
 
 -- the words outside a tree
 abbrev pub Outside : Pool → ℕ → Type 0
-Outside r x = (x < r.at) ⊎ (r.at + 1 + r.width * r.cells ≤ x)
+Outside r x = (x < r.at) ⊎ (r.at + 1 + width r * r.cells ≤ x)
 
-pub out-of : (r : Pool) (x a : ℕ) → Outside r x → r.at ≤ a → a < r.at + 1 + r.width * r.cells → x ≢ a
+pub out-of : (r : Pool) (x a : ℕ) → Outside r x → r.at ≤ a → a < r.at + 1 + width r * r.cells → x ≢ a
 out-of r x a (inl o) lo hi e = absurd (omega arith)
 out-of r x a (inr o) lo hi e = absurd (omega arith)
 
-pub link-place : (r : Pool) (m : List ℕ) (g : Ranges) (l h a : ℕ) → LinkOf r m g l h a → (r.at ≤ a) × (a < r.at + 1 + r.width * r.cells)
+pub link-place : (r : Pool) (m : List ℕ) (g : Ranges) (l h a : ℕ) → LinkOf r m g l h a → (r.at ≤ a) × (a < r.at + 1 + width r * r.cells)
 link-place r m g l h a x = (by x, (link-inside r m g l h a x).1)
   where
     by : LinkOf r m g l h a → r.at ≤ a

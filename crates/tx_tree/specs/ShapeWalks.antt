@@ -5,7 +5,8 @@ use Rattle.std.proofs.lemmas.Bool.Decides.{nat_tests}
 use Rattle.tx_effects.specs.declared.position.Position.{Position}
 use Rattle.tx_effects.specs.Keys.{has, how_many, keys_of}
 use Rattle.tx_effects.specs.KeyLaws.{how_many-fewer, how_many-most, has-yes, has-no}
-use Rattle.tx_tree.specs.Shapes.{Pool, left_at, right_at, tag, top, Ranges, Used, Within, LinkOf, Names, Holds, side_at, found_by, find, position_of}
+use Rattle.tx_tree.specs.declared.pool.Pool.{Pool}
+use Rattle.tx_tree.specs.Shapes.{width, left_at, right_at, tag, top, Ranges, Used, Within, LinkOf, Names, Holds, side_at, found_by, find, position_of}
 
 -- whether cell k has a tag between l and h
 abbrev pub is_within : Pool → List ℕ → ℕ → ℕ → ℕ → Bool
@@ -136,10 +137,10 @@ find-on r m key (suc n) less a v j t k e z s g = let q : slice_index m a ≡ suc
 pub side-is : (r : Pool) (m : List ℕ) (key j t d : ℕ) → t ≡ tag r m j → d ≡ (if ltb key t then left_at r j else right_at r j) → d ≡ side_at r m key j
 side-is r m key j t d e h = h ∙ ap (λ x. if ltb key x then left_at r j else right_at r j) e
 
-pub side-inside : (r : Pool) (key j t d : ℕ) → d ≡ (if ltb key t then left_at r j else right_at r j) → (r.at + 1 + r.width * j < d) × (d ≤ r.at + 1 + r.width * j + 2)
+pub side-inside : (r : Pool) (key j t d : ℕ) → d ≡ (if ltb key t then left_at r j else right_at r j) → (r.at + 1 + width r * j < d) × (d ≤ r.at + 1 + width r * j + 2)
 side-inside r key j t d h = by (ltb key t) h
   where
-    by : (b : Bool) → d ≡ (if b then left_at r j else right_at r j) → (r.at + 1 + r.width * j < d) × (d ≤ r.at + 1 + r.width * j + 2)
+    by : (b : Bool) → d ≡ (if b then left_at r j else right_at r j) → (r.at + 1 + width r * j < d) × (d ≤ r.at + 1 + width r * j + 2)
     by true e = (omega arith, omega arith)
     by false e = (omega arith, omega arith)
 

@@ -1,22 +1,24 @@
 -- The shape of a binary search tree in a memory, whatever else its cells hold. A cell is named by its place j in the pool, from 0; a link to it is j + 1, and 0 is a link to none.
 use Rattle.std.specs.Prelude.{ℕ, zero, suc, ◌≡◌, ◌+◌, ◌*◌, ◌^◌, ◌<◌, ◌≤◌, ◌⊎◌, ◌==◌, ltb, if◌then◌else◌, List, slice_index}
 use Rattle.tx_effects.specs.declared.position.Position.{Position}
+use Rattle.tx_tree.specs.declared.pool.Pool.{Pool}
 
--- where a tree lies: its root, then its cells, each of width words: the tag, the left link, the right one, and what else a cell holds
-pub record Pool : Type 0 where
-  pub at : ℕ
-  pub cells : ℕ
-  pub width : ℕ
-  pub wide : 3 ≤ width
+-- how long a cell is: its tag, its links, and what else it holds
+abbrev pub width : Pool → ℕ
+width r = 3 + r.extra
+
+-- the pool's words are there
+abbrev pub PoolFits : Pool → ℕ → Type 0
+PoolFits r words = (r.at + 1 + width r * r.cells ≤ words) × (r.at + 1 + width r * r.cells < 2 ^ 64)
 
 abbrev pub tag_at : Pool → ℕ → ℕ
-tag_at r j = r.at + 1 + r.width * j
+tag_at r j = r.at + 1 + width r * j
 
 abbrev pub left_at : Pool → ℕ → ℕ
-left_at r j = r.at + 1 + r.width * j + 1
+left_at r j = r.at + 1 + width r * j + 1
 
 abbrev pub right_at : Pool → ℕ → ℕ
-right_at r j = r.at + 1 + r.width * j + 2
+right_at r j = r.at + 1 + width r * j + 2
 
 abbrev pub tag : Pool → List ℕ → ℕ → ℕ
 tag r m j = slice_index m (tag_at r j)
@@ -66,6 +68,9 @@ pub record Holds (r : Pool) (m : List ℕ) (g : Ranges) : Type 0 where
   pub spare : (i : ℕ) → i < r.cells → tag r m i ≡ 0 → (slice_index m (left_at r i) ≡ 0) × (slice_index m (right_at r i) ≡ 0)
   pub small : (i : ℕ) → i < r.cells → tag r m i < top
 
+abbrev pub IsShape : Pool → List ℕ → Type 0
+IsShape r m = (g : Ranges) × Holds r m g
+
 -- the address of a link: the root, or a link of a used cell
 abbrev pub IsLink : Pool → List ℕ → ℕ → Type 0
 IsLink r m a = (a ≡ r.at) ⊎ ((i : ℕ) × Used r m i × ((a ≡ left_at r i) ⊎ (a ≡ right_at r i)))
@@ -94,3 +99,8 @@ leftmost_by r m a on (suc j) = if slice_index m (left_at r j) == 0 then record {
 abbrev pub leftmost : Pool → List ℕ → ℕ → ℕ → Position
 leftmost r m zero a = record { link = a; next = 0; tag = 0 }
 leftmost r m (suc n) a = leftmost_by r m a (λ j. leftmost r m n (left_at r j)) (slice_index m a)
+
+-- the word at a is v, in a tree
+pub record IsAt (r : Pool) (a v : ℕ) (m : List ℕ) : Type 0 where
+  pub well : IsShape r m
+  pub at : v ≡ slice_index m a

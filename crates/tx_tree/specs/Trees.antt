@@ -1,8 +1,8 @@
 -- A set of keys in a binary search tree in a memory.
-use Rattle.std.specs.Prelude.{ℕ, suc, ◌≡◌, ◌+◌, ◌*◌, ◌^◌, ◌<◌, ◌≤◌, ◌==◌, if◌then◌else◌, Bool, true, false, List, slice_index, slice_set, Option, Some, None}
-use Rattle.std.proofs.Common.{arith}
+use Rattle.std.specs.Prelude.{ℕ, suc, ◌+◌, ◌*◌, ◌^◌, ◌<◌, ◌≤◌, ◌==◌, if◌then◌else◌, Bool, true, false, List, slice_index, slice_set, Option, Some, None}
 use Rattle.tx_tree.specs.declared.tree.Tree.{Tree}
-use Rattle.tx_tree.specs.Shapes.{Pool, Ranges, Holds}
+use Rattle.tx_tree.specs.declared.pool.Pool.{Pool}
+use Rattle.tx_tree.specs.Shapes.{IsShape}
 use Rattle.tx_tree.specs.Shapes as shapes
 use Rattle.tx_effects.specs.declared.position.Position.{Position}
 use Rattle.tx_effects.specs.declared.insert.Insert.{Insert}
@@ -30,14 +30,14 @@ abbrev pub keys : Tree → List ℕ → List ℕ
 keys r m = keys_of (tag r m) r.cells
 
 abbrev pub pool : Tree → Pool
-pool r = record { at = r.at; cells = r.cells; width = 3; wide = omega arith }
+pool r = record { at = r.at; cells = r.cells; extra = 0 }
 
 abbrev pub Used : Tree → List ℕ → ℕ → Type 0
 Used r m k = shapes.Used (pool r) m k
 
 -- WELL FORMED: so each used cell is reached from the root, once, lesser keys on its left, greater ones on its right
 abbrev pub IsTree : Tree → List ℕ → Type 0
-IsTree r m = (g : Ranges) × Holds (pool r) m g
+IsTree r m = IsShape (pool r) m
 
 -- the address of a link: the root, or a link of a used cell
 abbrev pub IsLink : Tree → List ℕ → ℕ → Type 0
@@ -96,8 +96,3 @@ removed_in r key m = if has key (keys r m) then changed true (taken_out r (less_
 
 abbrev pub least_in : Tree → List ℕ → Effect (Option ℕ)
 least_in r m = unchanged (least (keys r m)) m
-
--- the word at a is v, in a tree
-pub record IsAt (r : Tree) (a v : ℕ) (m : List ℕ) : Type 0 where
-  pub well : IsTree r m
-  pub at : v ≡ slice_index m a

@@ -1,411 +1,184 @@
-use Rattle.std.proofs.Common.{◌≡◌, ◌≢◌, ◌<◌, ◌≤◌, ◌+◌, [], subst, sym, ap, refl, false, rules, ◌∙◌}
-use Rattle.stm_model.specs.declared.config.TheConstants.{CLOCK_LIMIT}
+use Rattle.std.proofs.Common.{◌+◌, [], subst, sym, ap, refl, false, rules, ◌∙◌}
 use Rattle.rule_base.specs.declared.seats.SeatView.{SeatView}
 use Rattle.rule_base.specs.declared.views.GateView.{GateView}
 use Rattle.rule_base.specs.declared.views.View.{View}
+use Rattle.rule_base.specs.Own.{Own}
+use Rattle.rule_base.specs.StepKinds.{Tells}
 use Rattle.rule_orec.specs.OrecSteps.{orec_limit, orec_commit}
 use Rattle.stm_rule.specs.declared.local.Local.{Local}
 use Rattle.stm_rule.specs.Attempts.{own_of, ended, Stands}
 use Rattle.stm_rule.specs.Kept.{good_of}
-use Rattle.stm_rule.specs.StandLemmas.{tells-of}
 use Rattle.steps_orec.specs.RecordFindings.{FindsClock, FindsCommit}
 use Rattle.tx_answers.specs.declared.answers.Commit.TheVariants as commits
 use Rattle.tx_answers.specs.Answers as answers
 use Rattle.tx_answers.specs.Known.{known_of}
+use Rattle.alg_orec.specs.EagerCommitting.{CanCommitPlaced}
 use Rattle.alg_orec.proofs.EagerCommitLaws as laws
-use Rattle.alg_orec.proofs.Proving.{with_commit}
+use Rattle.alg_orec.proofs.eager_committing.commit_placed.Goals.{In_default, After-limit-clock, After-commit_placed-now}
 use Rattle.alg_orec.proofs.eager_committing.commit_placed.Goals as goal
 
+-- the attempt where its reads are valid
+ready : (g : _) (c : In_default g) → CanCommitPlaced (g.K.MemRule.good c.args.stm.now.rule) c.args.stm.now.config
+    c.args.caller c.revalidate.new.local c.revalidate.new.seat.me.0.view
+ready g c = laws.can-ready c.requires.attempt c.in_default.ensures.revalidates
+
+-- where it asked for the clock
+asked : (g : _) (c : After-limit-clock g) → Tells orec_limit (FindsClock c.args.stm.now.config)
+    c.revalidate.new.seat.me.0.view c.limit-clock.result c.limit-clock.new.seat.me.0.view
+asked g c = let h = c.limit-clock.ensures.step in (h.0, h.1, ap (λ (x : SeatView g.row.K.Denot). x.view) h.3)
+
+-- and where it tried to make its entry
+tried : (g : _) (c : After-commit_placed-now g) →
+    Tells (orec_commit c.args.caller c.revalidate.new.local.start c.revalidate.new.seat.me.0.view.owned.in_place [])
+    (FindsCommit (good_of g.K.MemRule.good c.args.stm.now.config c.args.stm.now.rule) c.args.stm.now.config
+    c.args.caller c.revalidate.new.local.start c.revalidate.new.seat.me.0.view.owned.in_place)
+    c.revalidate.new.seat.me.0.view c.commit_placed-now.result c.commit_placed-now.new.seat.me.0.view
+tried g c = let h = c.commit_placed-now.ensures.step in (h.0, h.1, ap (λ (x : SeatView g.row.K.Denot). x.view) h.3)
+
 pub take_back-requires-clause-view : goal.take_back-requires-clause-view
-take_back-requires-clause-view g c =
-    let f = c.args.stm.now.config in
-    let good = g.K.MemRule.good c.args.stm.now.rule in
-    let n = c.args.caller in
-    let low = c.requires.caller in
-    let l = c.args.local.now in
-    let v = c.args.seat.now.me.0.view in
-    let o = own_of l in
-    let can = c.requires.attempt in
-    let m = c.revalidate.new.local in
-    let u = c.revalidate.new.seat.me.0.view in
-    let s = c.in-Err.ensures.revalidates in
-    laws.may-take-overrun good f n low l v can o c.in-Err.cause m u s
+take_back-requires-clause-view g c = laws.may-take-overrun c.requires.attempt c.in-Err.cause _ _
+    c.in-Err.ensures.revalidates
 
 pub take_back-requires-clause-holds : goal.take_back-requires-clause-holds
 take_back-requires-clause-holds g c =
-    let f = c.args.stm.now.config in
-    let good = g.K.MemRule.good c.args.stm.now.rule in
-    let n = c.args.caller in
-    let low = c.requires.caller in
-    let l = c.args.local.now in
-    let v = c.args.seat.now.me.0.view in
-    let o = own_of l in
-    let can = c.requires.attempt in
-    let m = c.revalidate.new.local in
-    let u = c.revalidate.new.seat.me.0.view in
     let s = c.in-Err.ensures.revalidates in
-    ap (λ (q : Local). q.holds) s.local ∙ (can.holds ∙ sym (ap (λ (y : View). y.gate.holds) s.is))
+    ap (λ (q : Local). q.holds) s.local ∙ (c.requires.attempt.holds ∙ sym (ap (λ (y : View). y.gate.holds) s.is))
 
 pub take_back-requires-clause-named : goal.take_back-requires-clause-named
 take_back-requires-clause-named g c =
-    let f = c.args.stm.now.config in
-    let good = g.K.MemRule.good c.args.stm.now.rule in
-    let n = c.args.caller in
-    let low = c.requires.caller in
-    let l = c.args.local.now in
-    let v = c.args.seat.now.me.0.view in
-    let o = own_of l in
-    let can = c.requires.attempt in
-    let m = c.revalidate.new.local in
-    let u = c.revalidate.new.seat.me.0.view in
     let s = c.in-Err.ensures.revalidates in
-    ap (λ (q : Local). q.algorithm) s.local ∙ (sym can.inside.named ∙ sym (ap (λ (y : View). y.gate.algorithm) s.is))
+    ap (λ (q : Local). q.algorithm) s.local
+    ∙ (sym c.requires.attempt.inside.named ∙ sym (ap (λ (y : View). y.gate.algorithm) s.is))
 
 pub returns-in-Err-clause-commits : goal.returns-in-Err-clause-commits
 returns-in-Err-clause-commits g c =
-    let f = c.args.stm.now.config in
-    let good = g.K.MemRule.good c.args.stm.now.rule in
-    let n = c.args.caller in
-    let low = c.requires.caller in
-    let l = c.args.local.now in
-    let v = c.args.seat.now.me.0.view in
-    let o = own_of l in
-    let can = c.requires.attempt in
-    let m = c.revalidate.new.local in
-    let u = c.revalidate.new.seat.me.0.view in
-    let s = c.in-Err.ensures.revalidates in
-    let b = c.take_back.ensures in
+    let P = λ (z : View) (q : Local). answers.Commits (g.K.MemRule.good c.args.stm.now.rule) c.args.stm.now.config
+    c.args.caller (commits.Conflict c.in-Err.cause) (known_of c.args.seat.now.me.0.view (own_of c.args.local.now))
+    (known_of z (own_of q)) in
     let z = c.take_back.new.seat.me.0.view in
-    subst (λ (q : Local). answers.Commits good f n (commits.Conflict c.in-Err.cause) (known_of v o) (known_of z (own_of q))) (sym b.idle)
-    (subst (λ (q : Local). answers.Commits good f n (commits.Conflict c.in-Err.cause) (known_of v o) (known_of z (with_commit false (own_of q)))) (sym s.local)
-    (laws.tells-stopped good f n low l v can o c.in-Err.cause m u z s b.takes_back))
+    subst (P z) (sym c.take_back.ensures.idle) (subst (λ (q : Local). P z (ended (record q { committing = false })))
+    (sym c.in-Err.ensures.revalidates.local)
+    (laws.tells-stopped c.requires.attempt (own_of c.args.local.now) c.in-Err.cause _ _ z c.in-Err.ensures.revalidates
+    c.take_back.ensures.takes_back))
 
 pub returns-in-Err-clause-stands : goal.returns-in-Err-clause-stands
 returns-in-Err-clause-stands g c =
-    let f = c.args.stm.now.config in
-    let good = g.K.MemRule.good c.args.stm.now.rule in
-    let n = c.args.caller in
-    let low = c.requires.caller in
-    let l = c.args.local.now in
-    let v = c.args.seat.now.me.0.view in
-    let o = own_of l in
-    let can = c.requires.attempt in
-    let m = c.revalidate.new.local in
-    let u = c.revalidate.new.seat.me.0.view in
-    let s = c.in-Err.ensures.revalidates in
-    let b = c.take_back.ensures in
-    let z = c.take_back.new.seat.me.0.view in
-    subst (λ (q : Local). Stands good f n q z) (sym b.idle) (subst (λ (q : Local). Stands good f n (ended (record q { committing = false })) z) (sym s.local) (laws.ended-stands good f n (record l { committing = false }) z can.lengths b.takes_back.outside))
+    let P = λ (q : Local). Stands (g.K.MemRule.good c.args.stm.now.rule) c.args.stm.now.config c.args.caller q
+    c.take_back.new.seat.me.0.view in
+    subst P (sym c.take_back.ensures.idle) (subst (λ (q : Local). P (ended (record q { committing = false })))
+    (sym c.in-Err.ensures.revalidates.local)
+    (laws.ended-stands _ _ _ (record c.args.local.now { committing = false }) _ c.requires.attempt.lengths
+    c.take_back.ensures.takes_back.outside))
 
 pub limit-clock-requires-clause-view : goal.limit-clock-requires-clause-view
-limit-clock-requires-clause-view g c =
-    let f = c.args.stm.now.config in
-    let good = g.K.MemRule.good c.args.stm.now.rule in
-    let n = c.args.caller in
-    let low = c.requires.caller in
-    let l = c.args.local.now in
-    let v = c.args.seat.now.me.0.view in
-    let o = own_of l in
-    let can = c.requires.attempt in
-    let m = c.revalidate.new.local in
-    let w = c.revalidate.new.seat.me.0 in
-    let r = c.in_default.ensures.revalidates in
-    laws.may-limit good f n low m w.view (laws.can-ready good f n low l v can o m w.view r) o
+limit-clock-requires-clause-view g c = laws.may-limit
+    (ready g (goal.at.limit-clock-requires-clause-view g c).In_default)
 
 pub take_back-requires-then-start-ge-CLOCK_LIMIT-clause-view : goal.take_back-requires-then-start-ge-CLOCK_LIMIT-clause-view
 take_back-requires-then-start-ge-CLOCK_LIMIT-clause-view g c =
-    let f = c.args.stm.now.config in
-    let good = g.K.MemRule.good c.args.stm.now.rule in
-    let n = c.args.caller in
-    let low = c.requires.caller in
-    let l = c.args.local.now in
-    let v = c.args.seat.now.me.0.view in
-    let o = own_of l in
-    let can = c.requires.attempt in
-    let m = c.revalidate.new.local in
-    let w = c.revalidate.new.seat.me.0 in
-    let r = c.in_default.ensures.revalidates in
-    let clock = c.limit-clock.result in
-    let u = c.limit-clock.new.seat.me.0 in
-    let high : CLOCK_LIMIT ≤ m.start = search rules in
-    let t = tells-of orec_limit (FindsClock f) w clock u c.limit-clock.ensures.step in
-    laws.may-take-full good f n low m w.view (laws.can-ready good f n low l v can o m w.view r) o m.committing clock u.view t
+    let at = goal.at.take_back-requires-then-start-ge-CLOCK_LIMIT-clause-view g c in
+    laws.may-take-full (ready g at.In_default) c.revalidate.new.local.committing _ _ (asked g at.After-limit-clock)
 
 pub take_back-requires-then-start-ge-CLOCK_LIMIT-clause-holds : goal.take_back-requires-then-start-ge-CLOCK_LIMIT-clause-holds
 take_back-requires-then-start-ge-CLOCK_LIMIT-clause-holds g c =
-    let f = c.args.stm.now.config in
-    let good = g.K.MemRule.good c.args.stm.now.rule in
-    let n = c.args.caller in
-    let low = c.requires.caller in
-    let l = c.args.local.now in
-    let v = c.args.seat.now.me.0.view in
-    let o = own_of l in
-    let can = c.requires.attempt in
-    let m = c.revalidate.new.local in
-    let w = c.revalidate.new.seat.me.0 in
-    let r = c.in_default.ensures.revalidates in
-    let clock = c.limit-clock.result in
-    let u = c.limit-clock.new.seat.me.0 in
-    let high : CLOCK_LIMIT ≤ m.start = search rules in
-    let t = tells-of orec_limit (FindsClock f) w clock u c.limit-clock.ensures.step in
-    (laws.can-ready good f n low l v can o m w.view r).holds ∙ sym (ap (λ (y : View). y.gate.holds) t.2)
+    let at = goal.at.take_back-requires-then-start-ge-CLOCK_LIMIT-clause-holds g c in
+    (ready g at.In_default).holds ∙ sym (ap (λ (y : View). y.gate.holds) (asked g at.After-limit-clock).2)
 
 pub take_back-requires-then-start-ge-CLOCK_LIMIT-clause-named : goal.take_back-requires-then-start-ge-CLOCK_LIMIT-clause-named
 take_back-requires-then-start-ge-CLOCK_LIMIT-clause-named g c =
-    let f = c.args.stm.now.config in
-    let good = g.K.MemRule.good c.args.stm.now.rule in
-    let n = c.args.caller in
-    let low = c.requires.caller in
-    let l = c.args.local.now in
-    let v = c.args.seat.now.me.0.view in
-    let o = own_of l in
-    let can = c.requires.attempt in
-    let m = c.revalidate.new.local in
-    let w = c.revalidate.new.seat.me.0 in
-    let r = c.in_default.ensures.revalidates in
-    let clock = c.limit-clock.result in
-    let u = c.limit-clock.new.seat.me.0 in
-    let high : CLOCK_LIMIT ≤ m.start = search rules in
-    let t = tells-of orec_limit (FindsClock f) w clock u c.limit-clock.ensures.step in
-    sym r.stays.named ∙ sym (ap (λ (y : View). y.gate.algorithm) t.2)
+    let at = goal.at.take_back-requires-then-start-ge-CLOCK_LIMIT-clause-named g c in
+    sym c.in_default.ensures.revalidates.stays.named ∙ sym
+    (ap (λ (y : View). y.gate.algorithm) (asked g at.After-limit-clock).2)
 
 pub returns-then-start-ge-CLOCK_LIMIT-clause-commits : goal.returns-then-start-ge-CLOCK_LIMIT-clause-commits
 returns-then-start-ge-CLOCK_LIMIT-clause-commits g c =
-    let f = c.args.stm.now.config in
-    let good = g.K.MemRule.good c.args.stm.now.rule in
-    let n = c.args.caller in
-    let low = c.requires.caller in
-    let l = c.args.local.now in
-    let v = c.args.seat.now.me.0.view in
-    let o = own_of l in
-    let can = c.requires.attempt in
-    let m = c.revalidate.new.local in
-    let w = c.revalidate.new.seat.me.0 in
+    let at = goal.at.returns-then-start-ge-CLOCK_LIMIT-clause-commits g c in
     let r = c.in_default.ensures.revalidates in
-    let clock = c.limit-clock.result in
-    let u = c.limit-clock.new.seat.me.0 in
-    let high : CLOCK_LIMIT ≤ m.start = search rules in
-    let t = tells-of orec_limit (FindsClock f) w clock u c.limit-clock.ensures.step in
     let b = c.take_back-then-start-ge-CLOCK_LIMIT.ensures in
     let z = c.take_back-then-start-ge-CLOCK_LIMIT.new.seat.me.0.view in
-    subst (λ (q : Local). answers.Commits good f n (commits.ClockFull clock) (known_of v o) (known_of z (own_of q))) (sym b.idle)
-    (laws.own-moved l m r.local (λ p. answers.Commits good f n (commits.ClockFull clock) (known_of v o) (known_of z p)) (laws.full-call good f n low l v can o m w.view r clock u.view z high t b.takes_back))
+    let P = λ (p : Own). answers.Commits (g.K.MemRule.good c.args.stm.now.rule) c.args.stm.now.config c.args.caller
+    (commits.ClockFull c.limit-clock.result) (known_of c.args.seat.now.me.0.view (own_of c.args.local.now))
+    (known_of z p) in
+    subst (λ (q : Local). P (own_of q)) (sym b.idle) (laws.own-moved c.args.local.now c.revalidate.new.local r.local P
+    (laws.full-call c.requires.attempt r (own_of c.args.local.now) _ _ z (search rules) (asked g at.After-limit-clock)
+    b.takes_back))
 
 pub returns-then-start-ge-CLOCK_LIMIT-clause-stands : goal.returns-then-start-ge-CLOCK_LIMIT-clause-stands
 returns-then-start-ge-CLOCK_LIMIT-clause-stands g c =
-    let f = c.args.stm.now.config in
-    let good = g.K.MemRule.good c.args.stm.now.rule in
-    let n = c.args.caller in
-    let low = c.requires.caller in
-    let l = c.args.local.now in
-    let v = c.args.seat.now.me.0.view in
-    let o = own_of l in
-    let can = c.requires.attempt in
-    let m = c.revalidate.new.local in
-    let w = c.revalidate.new.seat.me.0 in
-    let r = c.in_default.ensures.revalidates in
-    let clock = c.limit-clock.result in
-    let u = c.limit-clock.new.seat.me.0 in
-    let high : CLOCK_LIMIT ≤ m.start = search rules in
-    let t = tells-of orec_limit (FindsClock f) w clock u c.limit-clock.ensures.step in
     let b = c.take_back-then-start-ge-CLOCK_LIMIT.ensures in
-    let z = c.take_back-then-start-ge-CLOCK_LIMIT.new.seat.me.0.view in
-    subst (λ (q : Local). Stands good f n q z) (sym b.idle) (laws.ended-stands good f n (record m { committing = false }) z (laws.can-ready good f n low l v can o m w.view r).lengths b.takes_back.outside)
+    subst (λ (q : Local). Stands (g.K.MemRule.good c.args.stm.now.rule) c.args.stm.now.config c.args.caller q
+    c.take_back-then-start-ge-CLOCK_LIMIT.new.seat.me.0.view) (sym b.idle)
+    (laws.ended-stands _ _ _ (record c.revalidate.new.local { committing = false }) _
+    (ready g (goal.at.returns-then-start-ge-CLOCK_LIMIT-clause-stands g c).In_default).lengths b.takes_back.outside)
 
 pub commit_placed-now-requires-clause-view : goal.commit_placed-now-requires-clause-view
 commit_placed-now-requires-clause-view g c =
-    let f = c.args.stm.now.config in
-    let good = g.K.MemRule.good c.args.stm.now.rule in
-    let n = c.args.caller in
-    let low = c.requires.caller in
-    let l = c.args.local.now in
-    let v = c.args.seat.now.me.0.view in
-    let o = own_of l in
-    let can = c.requires.attempt in
-    let m = c.revalidate.new.local in
-    let w = c.revalidate.new.seat.me.0 in
-    let r = c.in_default.ensures.revalidates in
-    let under : m.start < CLOCK_LIMIT = search rules in
-    laws.may-enter good f n low m w.view (laws.can-ready good f n low l v can o m w.view r) o under (laws.keeps-ready good f n low l v can o m w.view r c.requires.keeps)
+    let o = own_of c.args.local.now in
+    laws.may-enter (ready g (goal.at.commit_placed-now-requires-clause-view g c).In_default) o (search rules)
+    (laws.keeps-ready c.requires.attempt c.in_default.ensures.revalidates o c.requires.keeps)
 
 pub returns-then-now-start-clause-commits : goal.returns-then-now-start-clause-commits
 returns-then-now-start-clause-commits g c =
-    let f = c.args.stm.now.config in
-    let good = g.K.MemRule.good c.args.stm.now.rule in
-    let n = c.args.caller in
-    let low = c.requires.caller in
-    let l = c.args.local.now in
-    let v = c.args.seat.now.me.0.view in
-    let o = own_of l in
-    let can = c.requires.attempt in
-    let m = c.revalidate.new.local in
-    let w = c.revalidate.new.seat.me.0 in
+    let at = goal.at.returns-then-now-start-clause-commits g c in
     let r = c.in_default.ensures.revalidates in
-    let rule = good_of g.K.MemRule.good f c.args.stm.now.rule in
+    let m = c.revalidate.new.local in
     let now = c.commit_placed-now.result in
-    let u = c.commit_placed-now.new.seat.me.0 in
-    let ws = w.view.owned.in_place in
-    let t = tells-of (orec_commit n m.start ws []) (FindsCommit rule f n m.start ws) w now u c.commit_placed-now.ensures.step in
-    let apart : now ≢ m.start = search rules in
-    laws.own-again l m r.local (λ p. answers.Commits good f n (commits.Again 0 m.start now) (known_of v o) (known_of u.view p)) (laws.tells-again good f n low l v can o m w.view r now u.view apart t refl)
+    laws.own-again c.args.local.now m r.local (λ p. answers.Commits (g.K.MemRule.good c.args.stm.now.rule)
+    c.args.stm.now.config c.args.caller (commits.Again 0 m.start now)
+    (known_of c.args.seat.now.me.0.view (own_of c.args.local.now))
+    (known_of c.commit_placed-now.new.seat.me.0.view p))
+    (laws.tells-again c.requires.attempt r now _ (search rules) (tried g at.After-commit_placed-now) c.requires.caller
+    (own_of c.args.local.now) refl)
 
 pub returns-then-now-start-clause-stands : goal.returns-then-now-start-clause-stands
 returns-then-now-start-clause-stands g c =
-    let f = c.args.stm.now.config in
-    let good = g.K.MemRule.good c.args.stm.now.rule in
-    let n = c.args.caller in
-    let low = c.requires.caller in
-    let l = c.args.local.now in
-    let v = c.args.seat.now.me.0.view in
-    let o = own_of l in
-    let can = c.requires.attempt in
-    let m = c.revalidate.new.local in
-    let w = c.revalidate.new.seat.me.0 in
-    let r = c.in_default.ensures.revalidates in
-    let rule = good_of g.K.MemRule.good f c.args.stm.now.rule in
-    let now = c.commit_placed-now.result in
-    let u = c.commit_placed-now.new.seat.me.0 in
-    let ws = w.view.owned.in_place in
-    let t = tells-of (orec_commit n m.start ws []) (FindsCommit rule f n m.start ws) w now u c.commit_placed-now.ensures.step in
-    let apart : now ≢ m.start = search rules in
-    laws.stands-again good f n low l v can o m w.view r now u.view apart t
+    let at = goal.at.returns-then-now-start-clause-stands g c in
+    laws.stands-again c.requires.attempt c.in_default.ensures.revalidates c.commit_placed-now.result _ (search rules)
+    (tried g at.After-commit_placed-now)
 
 pub release_all-requires-clause-view : goal.release_all-requires-clause-view
 release_all-requires-clause-view g c =
-    let f = c.args.stm.now.config in
-    let good = g.K.MemRule.good c.args.stm.now.rule in
-    let n = c.args.caller in
-    let low = c.requires.caller in
-    let l = c.args.local.now in
-    let v = c.args.seat.now.me.0.view in
-    let o = own_of l in
-    let can = c.requires.attempt in
-    let m = c.revalidate.new.local in
-    let w = c.revalidate.new.seat.me.0 in
-    let r = c.in_default.ensures.revalidates in
-    let rule = good_of g.K.MemRule.good f c.args.stm.now.rule in
-    let now = c.commit_placed-now.result in
-    let u = c.commit_placed-now.new.seat.me.0 in
-    let ws = w.view.owned.in_place in
-    let t = tells-of (orec_commit n m.start ws []) (FindsCommit rule f n m.start ws) w now u c.commit_placed-now.ensures.step in
-    let same : now ≡ m.start = search rules in
-    laws.may-release good f n low m w.view (laws.can-ready good f n low l v can o m w.view r) o now u.view same t
+    let at = goal.at.release_all-requires-clause-view g c in
+    laws.may-release (ready g at.In_default) c.commit_placed-now.result _ (search rules)
+    (tried g at.After-commit_placed-now)
 
 pub leave-requires-clause-view : goal.leave-requires-clause-view
 leave-requires-clause-view g c =
-    let f = c.args.stm.now.config in
-    let good = g.K.MemRule.good c.args.stm.now.rule in
-    let n = c.args.caller in
-    let low = c.requires.caller in
-    let l = c.args.local.now in
-    let v = c.args.seat.now.me.0.view in
-    let o = own_of l in
-    let can = c.requires.attempt in
-    let m = c.revalidate.new.local in
-    let w = c.revalidate.new.seat.me.0 in
-    let r = c.in_default.ensures.revalidates in
-    let rule = good_of g.K.MemRule.good f c.args.stm.now.rule in
-    let now = c.commit_placed-now.result in
-    let u = c.commit_placed-now.new.seat.me.0 in
-    let ws = w.view.owned.in_place in
-    let t = tells-of (orec_commit n m.start ws []) (FindsCommit rule f n m.start ws) w now u c.commit_placed-now.ensures.step in
-    let same : now ≡ m.start = search rules in
-    let y = c.release_all.new.seat.me.0 in
-    let q = c.release_all.ensures.releases in
-    laws.may-end good f n low m w.view (laws.can-ready good f n low l v can o m w.view r) o now u.view same t y.view q
+    let at = goal.at.leave-requires-clause-view g c in
+    laws.may-end (ready g at.In_default) c.commit_placed-now.result _ (search rules)
+    (tried g at.After-commit_placed-now) _ c.release_all.ensures.releases
 
 pub leave-requires-clause-holds : goal.leave-requires-clause-holds
 leave-requires-clause-holds g c =
-    let f = c.args.stm.now.config in
-    let good = g.K.MemRule.good c.args.stm.now.rule in
-    let n = c.args.caller in
-    let low = c.requires.caller in
-    let l = c.args.local.now in
-    let v = c.args.seat.now.me.0.view in
-    let o = own_of l in
-    let can = c.requires.attempt in
-    let m = c.revalidate.new.local in
-    let w = c.revalidate.new.seat.me.0 in
-    let r = c.in_default.ensures.revalidates in
-    let rule = good_of g.K.MemRule.good f c.args.stm.now.rule in
-    let now = c.commit_placed-now.result in
-    let u = c.commit_placed-now.new.seat.me.0 in
-    let ws = w.view.owned.in_place in
-    let t = tells-of (orec_commit n m.start ws []) (FindsCommit rule f n m.start ws) w now u c.commit_placed-now.ensures.step in
-    let same : now ≡ m.start = search rules in
-    let y = c.release_all.new.seat.me.0 in
-    let q = c.release_all.ensures.releases in
-    (laws.can-ready good f n low l v can o m w.view r).holds ∙ sym (ap (λ (k : GateView). k.holds) (laws.gate-end good f n low m w.view (laws.can-ready good f n low l v can o m w.view r) o now u.view same t y.view q))
+    let at = goal.at.leave-requires-clause-holds g c in
+    let ready = ready g at.In_default in
+    ready.holds ∙ sym (ap (λ (k : GateView). k.holds) (laws.gate-end ready c.commit_placed-now.result _ (search rules)
+    (tried g at.After-commit_placed-now) _ c.release_all.ensures.releases))
 
 pub leave-requires-clause-named : goal.leave-requires-clause-named
 leave-requires-clause-named g c =
-    let f = c.args.stm.now.config in
-    let good = g.K.MemRule.good c.args.stm.now.rule in
-    let n = c.args.caller in
-    let low = c.requires.caller in
-    let l = c.args.local.now in
-    let v = c.args.seat.now.me.0.view in
-    let o = own_of l in
-    let can = c.requires.attempt in
-    let m = c.revalidate.new.local in
-    let w = c.revalidate.new.seat.me.0 in
-    let r = c.in_default.ensures.revalidates in
-    let rule = good_of g.K.MemRule.good f c.args.stm.now.rule in
-    let now = c.commit_placed-now.result in
-    let u = c.commit_placed-now.new.seat.me.0 in
-    let ws = w.view.owned.in_place in
-    let t = tells-of (orec_commit n m.start ws []) (FindsCommit rule f n m.start ws) w now u c.commit_placed-now.ensures.step in
-    let same : now ≡ m.start = search rules in
-    let y = c.release_all.new.seat.me.0 in
-    let q = c.release_all.ensures.releases in
-    sym r.stays.named ∙ sym (ap (λ (k : GateView). k.algorithm) (laws.gate-end good f n low m w.view (laws.can-ready good f n low l v can o m w.view r) o now u.view same t y.view q))
+    let at = goal.at.leave-requires-clause-named g c in
+    let ready = ready g at.In_default in
+    sym ready.inside.named ∙ sym (ap (λ (k : GateView). k.algorithm)
+    (laws.gate-end ready c.commit_placed-now.result _ (search rules) (tried g at.After-commit_placed-now) _
+    c.release_all.ensures.releases))
 
 pub returns-clause-commits : goal.returns-clause-commits
 returns-clause-commits g c =
-    let f = c.args.stm.now.config in
-    let good = g.K.MemRule.good c.args.stm.now.rule in
-    let n = c.args.caller in
-    let low = c.requires.caller in
-    let l = c.args.local.now in
-    let v = c.args.seat.now.me.0.view in
-    let o = own_of l in
-    let can = c.requires.attempt in
-    let m = c.revalidate.new.local in
-    let w = c.revalidate.new.seat.me.0 in
+    let at = goal.at.returns-clause-commits g c in
     let r = c.in_default.ensures.revalidates in
-    let rule = good_of g.K.MemRule.good f c.args.stm.now.rule in
-    let now = c.commit_placed-now.result in
-    let u = c.commit_placed-now.new.seat.me.0 in
-    let ws = w.view.owned.in_place in
-    let t = tells-of (orec_commit n m.start ws []) (FindsCommit rule f n m.start ws) w now u c.commit_placed-now.ensures.step in
-    let same : now ≡ m.start = search rules in
-    let y = c.release_all.new.seat.me.0 in
-    let q = c.release_all.ensures.releases in
+    let m = c.revalidate.new.local in
     let z = c.leave.new.seat.me.0.view in
-    let is = ap (λ (k : SeatView g.row.K.Denot). k.view) c.leave.ensures.left in
-    subst (λ (d : Local). answers.CommitsAt good f n (m.start + 1) (known_of v o) (known_of z (own_of d))) (sym c.leave.ensures.idle)
-    (laws.own-moved l m r.local (λ p. answers.CommitsAt good f n (m.start + 1) (known_of v o) (known_of z p)) (laws.committed-call good f n low l v can o m w.view r now u.view y.view z same t q is))
+    let P = λ (p : Own). answers.CommitsAt (g.K.MemRule.good c.args.stm.now.rule) c.args.stm.now.config c.args.caller
+    (m.start + 1) (known_of c.args.seat.now.me.0.view (own_of c.args.local.now)) (known_of z p) in
+    subst (λ (q : Local). P (own_of q)) (sym c.leave.ensures.idle) (laws.own-moved c.args.local.now m r.local P
+    (laws.committed-call c.requires.attempt r (own_of c.args.local.now) c.commit_placed-now.result _ _ z (search rules)
+    (tried g at.After-commit_placed-now) c.release_all.ensures.releases
+    (ap (λ (k : SeatView g.row.K.Denot). k.view) c.leave.ensures.left)))
 
 pub returns-clause-stands : goal.returns-clause-stands
 returns-clause-stands g c =
-    let f = c.args.stm.now.config in
-    let good = g.K.MemRule.good c.args.stm.now.rule in
-    let n = c.args.caller in
-    let low = c.requires.caller in
-    let l = c.args.local.now in
-    let v = c.args.seat.now.me.0.view in
-    let o = own_of l in
-    let can = c.requires.attempt in
-    let m = c.revalidate.new.local in
-    let w = c.revalidate.new.seat.me.0 in
-    let r = c.in_default.ensures.revalidates in
-    let rule = good_of g.K.MemRule.good f c.args.stm.now.rule in
-    let now = c.commit_placed-now.result in
-    let u = c.commit_placed-now.new.seat.me.0 in
-    let ws = w.view.owned.in_place in
-    let t = tells-of (orec_commit n m.start ws []) (FindsCommit rule f n m.start ws) w now u c.commit_placed-now.ensures.step in
-    let same : now ≡ m.start = search rules in
-    let y = c.release_all.new.seat.me.0 in
-    let q = c.release_all.ensures.releases in
-    let z = c.leave.new.seat.me.0.view in
-    subst (λ (d : Local). Stands good f n d z) (sym c.leave.ensures.idle) (laws.ended-stands good f n (record m { committing = false }) z (laws.can-ready good f n low l v can o m w.view r).lengths c.leave.ensures.outside)
+    subst (λ (q : Local). Stands (g.K.MemRule.good c.args.stm.now.rule) c.args.stm.now.config c.args.caller q
+    c.leave.new.seat.me.0.view) (sym c.leave.ensures.idle)
+    (laws.ended-stands _ _ _ (record c.revalidate.new.local { committing = false }) _
+    (ready g (goal.at.returns-clause-stands g c).In_default).lengths c.leave.ensures.outside)

@@ -1,48 +1,41 @@
-use Rattle.std.proofs.Common.{◌≤◌, ◌≡◌, ◌<◌, List, [], ◌∷◌, length, refl, sym, ap, ◌∙◌, subst, arith}
+use Rattle.std.proofs.Common.{◌≤◌, ◌≡◌, ◌<◌, length, refl, sym, ap, ◌∙◌, arith, true}
 use Rattle.stm_model.specs.Algorithms.{has_records}
-use Rattle.rule_base.specs.declared.entries.Cell.{Cell}
 use Rattle.rule_base.specs.declared.seats.SeatView.{SeatView}
 use Rattle.rule_base.specs.declared.views.View.{View}
-use Rattle.rule_base.specs.Bridge.{items}
 use Rattle.rule_base.specs.Encodings.{free_record}
-use Rattle.rule_base.specs.History.{without, Inside}
-use Rattle.stm_gate.specs.Peeling.{drop-all, peeled, inside-without, no-items}
-use Rattle.alg_orec.specs.Locking.{holding_still}
+use Rattle.rule_base.specs.History.{touches}
 use Rattle.alg_orec.proofs.EagerReleasing.{direct-step}
-use Rattle.alg_orec.proofs.Releasing.{release_item}
+use Rattle.alg_orec.proofs.Releasing.{gives-none, next-held, gives-more, gives-all}
+use Rattle.alg_orec.proofs.eager_committing.give_direct.Goals.{After-item-r}
 use Rattle.alg_orec.proofs.eager_committing.give_direct.Goals as goal
 
 pub loop-i-init : goal.loop-i-init
-loop-i-init g c = let k = c.requires.view in record {
+loop-i-init g c = record {
   table = refl;
   id = refl;
-  steps = omega arith;
   bare = refl;
-  more = [];
-  seat = refl;
-  left = sym k.locks;
-  places = k.places;
+  gives = gives-none _ _ _ c.requires.view.locks
+      c.requires.view.places;
 }
 
+-- the record that is given back is held
+next : (g : _) (c : After-item-r g) → touches c.loop-i.seat.me.0.view.owned.held c.item-r.result.0 ≡ true
+next g c = next-held _ _ _ _ _ c.loop-i.invariant.gives _
+    (omega (arith, c.loop-i-test.true, c.count-i-end.ensures.count)) c.count-i-end.ensures.once c.item-r.ensures
+
 pub direct_release-requires-clause-place : goal.direct_release-requires-clause-place
-direct_release-requires-clause-place g c =
-    let i = c.loop-i.invariant in
-    let low : c.loop-i.i < length c.args.local.now.locks.items = omega (arith, c.loop-i-test.true, c.count-i-end.ensures.count) in
-    let p = peeled c.args.local.now.locks.items c.loop-i.i c.loop-i.seat.me.0.view.owned.held c.item-r.result low c.count-i-end.ensures.once i.left c.item-r.ensures in
-    i.places c.item-r.result.0 p.0
+direct_release-requires-clause-place g c = c.loop-i.invariant.gives.places c.item-r.result.0
+    (next g (goal.at.direct_release-requires-clause-place g c).After-item-r)
 
 pub direct_release-requires-clause-view : goal.direct_release-requires-clause-view
 direct_release-requires-clause-view g c =
     let k = c.requires.view in
-    let i = c.loop-i.invariant in
-    let low : c.loop-i.i < length c.args.local.now.locks.items = omega (arith, c.loop-i-test.true, c.count-i-end.ensures.count) in
-    let p = peeled c.args.local.now.locks.items c.loop-i.i c.loop-i.seat.me.0.view.owned.held c.item-r.result low c.count-i-end.ensures.once i.left c.item-r.ensures in
-    let is = ap (λ (y : SeatView g.row.K.Denot). y.view) i.seat in
+    let is = ap (λ (y : SeatView g.row.K.Denot). y.view) c.loop-i.invariant.gives.seat in
     record {
       granted = ap (λ (y : View). y.gate.granted) is ∙ k.granted;
       algorithm = ap (λ (y : View). has_records y.gate.algorithm) is ∙ k.algorithm;
       entered = ap (λ (y : View). y.attempt.entered) is ∙ k.entered;
-      held = p.0;
+      held = next g (goal.at.direct_release-requires-clause-view g c).After-item-r;
       time = k.time ∙ sym (ap (λ (y : View). y.attempt.start) is);
     }
 
@@ -51,34 +44,26 @@ loop-i-preserved g c =
     let i = c.loop-i.invariant in
     let s = c.loop-i.seat.me.0 in
     let t = c.direct_release.new.seat.me.0 in
-    let step = c.direct_release.ensures.step in
-    let same = c.direct_release.ensures.same in
-    let r = c.item-r.result.0 in
-    let time = c.args.time in
-    let low : c.loop-i.i < length c.args.local.now.locks.items = omega (arith, c.loop-i-test.true, c.count-i-end.ensures.count) in
-    let p = peeled c.args.local.now.locks.items c.loop-i.i s.view.owned.held c.item-r.result low c.count-i-end.ensures.once i.left c.item-r.ensures in
-    let held : t.view.owned.held ≡ without s.view.owned.held r = ap (λ (y : SeatView g.row.K.Denot). y.view.owned.held) step.3 in
+    let e = c.direct_release.ensures in
+    let low : c.loop-i.i < length c.args.local.now.locks.items = omega
+    (arith, c.loop-i-test.true, c.count-i-end.ensures.count) in
     record {
-      table = same.0 ∙ i.table;
-      id = same.1 ∙ i.id;
-      steps = (let l = ap (λ (y : SeatView g.row.K.Denot). length y.view.steps.trail) step.3 in let q = i.steps in omega arith);
-      bare = same.2 ∙ i.bare;
-      more = release_item r time ∷ i.more;
-      seat = direct-step c.args.seat.now.me.0 s t i.more r time (free_record time) step.0 i.seat step.3;
-      left = ap items held ∙ p.2;
-      places = subst (λ (cs : List Cell). Inside c.args.stm.now.config.records cs) (sym held) (inside-without c.args.stm.now.config.records r s.view.owned.held i.places);
+      table = e.same.0 ∙ i.table;
+      id = e.same.1 ∙ i.id;
+      bare = e.same.2 ∙ i.bare;
+      gives = gives-more _ _ _ _ s i.gives c.item-r.result low c.count-i-end.ensures.once c.item-r.ensures t c.args.time
+          (ap (λ (y : SeatView g.row.K.Denot). y.view.owned.held) e.step.3)
+          (direct-step c.args.seat.now.me.0 s t i.gives.more c.item-r.result.0 c.args.time (free_record c.args.time)
+          e.step.0 i.gives.seat e.step.3);
     }
 
 pub returns-clause-releases : goal.returns-clause-releases
-returns-clause-releases g c =
-    let i = c.loop-i.invariant in
-    let s = c.loop-i.seat.me.0.view in
-    let none = no-items s.owned.held (i.left ∙ drop-all c.args.local.now.locks.items c.loop-i.i (omega (arith, c.loop-i-test.false, c.count-i-end.ensures.count))) in
-    record { more = i.more; is = ap (λ (y : SeatView g.row.K.Denot). y.view) i.seat ∙ ap (λ (cs : List Cell). holding_still c.args.seat.now.me.0.view cs i.more) none }
+returns-clause-releases g c = gives-all _ _ _ _ _ c.loop-i.invariant.gives
+    (omega (arith, c.loop-i-test.false, c.count-i-end.ensures.count))
 
 pub returns-clause-steps : goal.returns-clause-steps
 returns-clause-steps g c =
-    let q = c.loop-i.invariant.steps in
-    let k = c.count-i-end.ensures in
-    let most : c.loop-i.i ≤ length c.args.local.now.locks.items = omega (arith, c.loop-i.auto.i-end, k) in
+    let q = c.loop-i.invariant.gives.steps in
+    let most : c.loop-i.i ≤ length c.args.local.now.locks.items = omega
+    (arith, c.loop-i.auto.i-end, c.count-i-end.ensures) in
     omega arith

@@ -1,212 +1,86 @@
-use Rattle.std.proofs.Common.{ℕ, ◌≡◌, ◌+◌, subst, sym, ap, ◌∙◌, refl, true, false, rules, ◌≤◌, length, arith}
-use Rattle.stm_model.specs.Algorithms.{entry_rise}
-use Rattle.stm_model.specs.declared.alg.Alg.TheVariants.{OrecEager}
+use Rattle.std.proofs.Common.{ℕ, ◌≡◌, ◌∙◌, ◌+◌, length, sym, ap, refl, false, arith, ◌≤◌}
 use Rattle.rule_base.specs.declared.seats.SeatView.{SeatView}
 use Rattle.rule_base.specs.InstallSteps.{store_base, store_done}
 use Rattle.rule_base.specs.StepKinds.{Nothing}
 use Rattle.rule_promoted.specs.QuittingSteps.{direct_quit}
 use Rattle.stm_rule.specs.Attempts.{own_of}
-use Rattle.stm_rule.specs.Callers.{Handle, handle_of}
 use Rattle.stm_rule.specs.StandLemmas.{tells-of}
 use Rattle.tx_answers.specs.declared.answers.Commit.TheVariants.{ReadOnly}
 use Rattle.tx_answers.specs.Answers as answers
-use Rattle.tx_answers.specs.Known.{Known, caller_of, wrote, held_limit}
-use Rattle.stm_gate.specs.DirectLaws as direct
-use Rattle.stm_gate.specs.Knowing.{known, number}
-use Rattle.stm_gate.specs.Standing.{runs-of, shown-of, who-of}
+use Rattle.tx_answers.specs.Known.{Known, wrote, held_limit, known_of}
+use Rattle.stm_gate.specs.Opening.{Opened, opened, shows}
+use Rattle.alg_orec.proofs.CommitOpening.{Promoted, promoted}
 use Rattle.alg_orec.proofs.EagerDirectLaws as laws
-use Rattle.alg_orec.proofs.EagerProving as proving
+use Rattle.alg_orec.proofs.eager_committing.quit_direct.Goals.{After-entry_rise}
 use Rattle.alg_orec.proofs.eager_committing.quit_direct.Goals as goal
+
+opens : (g : _) (c : After-entry_rise g) → Opened g.K.MemRule.good c.args.stm.now c.args.desc.now
+    c.desc.inside.seat.me.0.who c.desc.inside.seat.me.0.view c.desc.inside.number c.desc.inside.local
+opens g c = opened g.K.MemRule.good c.args.stm.now c.desc.inside.number c.desc.inside.local c.desc.view_is refl
+    c.desc.invariant.0.named c.desc.invariant.0.low c.desc.invariant.1 c.requires.stm
+
+here : (g : _) (c : After-entry_rise g) → Promoted (g.K.MemRule.good c.args.stm.now.rule) c.args.stm.now.config
+    c.desc.inside.number c.desc.inside.local c.desc.inside.seat.me.0.view
+here g c = promoted g.K.MemRule.good c.args.stm.now (opens g c) c.requires.running c.requires.algorithm
+    c.requires.granted
+
+clean : (g : _) (c : After-entry_rise g) → c.desc.inside.local.wrote ≡ false
+clean g c = laws.unwritten-here (here g c) (own_of c.desc.inside.local)
+    (ap wrote (sym (opens g c).knows) ∙ c.requires.unwritten)
 
 pub direct_quit-requires-clause-view : goal.direct_quit-requires-clause-view
 direct_quit-requires-clause-view g c =
-    let f = c.args.stm.now.config in
-    let good = g.K.MemRule.good c.args.stm.now.rule in
-    let d = c.desc.inside in
-    let s = d.seat.me.0 in
-    let l = d.local in
-    let o = own_of d.local in
-    let h = handle_of d.seat o in
-    let e = c.args.desc.now in
-    let i = runs-of g.K.MemRule.good f c.args.stm.now.rule h e d.number d.local c.desc.view_is c.requires.stm.config c.requires.stm.rule c.requires.running c.desc.invariant.1 in
-    let eager = subst (λ (p : Handle g.row.K.Denot). (known p).alg ≡ OrecEager) (sym c.desc.view_is) c.requires.algorithm in
-    let granted = proving.was-granted good f d.number d.local s.view i eager o (subst (λ (p : Handle g.row.K.Denot). (known p).granted ≡ true) (sym c.desc.view_is) c.requires.granted) in
-    let holds = c.desc.invariant.1.holds in
-    let closes = laws.closes good f d.number d.local s.view i eager granted holds in
-    let here = laws.granted-here good f d.number d.local s.view i eager granted holds in
-    let name : caller_of s.who.role ≡ d.number = ap caller_of c.desc.invariant.0.named in
-    let alg = d.local.algorithm in
-    let t = d.local.start + c.entry_rise.result in
-    let time : t ≡ d.local.start + entry_rise alg = ap (λ (k : ℕ). d.local.start + k) c.entry_rise.ensures in
-    let clean = laws.unwritten-here good f d.number d.local s.view i eager granted holds o (subst (λ (p : Handle g.row.K.Denot). wrote (known p) ≡ false) (sym c.desc.view_is) c.requires.unwritten) in
-    laws.may-quit good f d.number d.local s.view i eager granted holds t clean time
+    let a = (goal.at.direct_quit-requires-clause-view g c).After-entry_rise in
+    laws.may-quit (here g a) _ (clean g a) (ap (λ (k : ℕ). c.desc.inside.local.start + k) c.entry_rise.ensures)
 
 pub give_direct-requires-clause-view : goal.give_direct-requires-clause-view
 give_direct-requires-clause-view g c =
-    let f = c.args.stm.now.config in
-    let good = g.K.MemRule.good c.args.stm.now.rule in
-    let d = c.desc.inside in
-    let s = d.seat.me.0 in
-    let l = d.local in
-    let o = own_of d.local in
-    let h = handle_of d.seat o in
-    let e = c.args.desc.now in
-    let i = runs-of g.K.MemRule.good f c.args.stm.now.rule h e d.number d.local c.desc.view_is c.requires.stm.config c.requires.stm.rule c.requires.running c.desc.invariant.1 in
-    let eager = subst (λ (p : Handle g.row.K.Denot). (known p).alg ≡ OrecEager) (sym c.desc.view_is) c.requires.algorithm in
-    let granted = proving.was-granted good f d.number d.local s.view i eager o (subst (λ (p : Handle g.row.K.Denot). (known p).granted ≡ true) (sym c.desc.view_is) c.requires.granted) in
-    let holds = c.desc.invariant.1.holds in
-    let closes = laws.closes good f d.number d.local s.view i eager granted holds in
-    let here = laws.granted-here good f d.number d.local s.view i eager granted holds in
-    let name : caller_of s.who.role ≡ d.number = ap caller_of c.desc.invariant.0.named in
-    let alg = d.local.algorithm in
-    let t = d.local.start + c.entry_rise.result in
-    let time : t ≡ d.local.start + entry_rise alg = ap (λ (k : ℕ). d.local.start + k) c.entry_rise.ensures in
-    let clean = laws.unwritten-here good f d.number d.local s.view i eager granted holds o (subst (λ (p : Handle g.row.K.Denot). wrote (known p) ≡ false) (sym c.desc.view_is) c.requires.unwritten) in
-    let p = c.direct_quit.new.seat.me.0 in
-    let a = tells-of (direct_quit alg t) Nothing s t p c.direct_quit.ensures.step in
-    laws.quit-give good f d.number d.local s.view i eager granted holds t clean time p.view a
+    laws.may-give (here g (goal.at.give_direct-requires-clause-view g c).After-entry_rise) _ _ _
+    (ap (λ (y : SeatView g.row.K.Denot). y.view) c.direct_quit.ensures.step.3)
 
 pub store_base-requires-clause-view : goal.store_base-requires-clause-view
 store_base-requires-clause-view g c =
-    let f = c.args.stm.now.config in
-    let good = g.K.MemRule.good c.args.stm.now.rule in
-    let d = c.desc.inside in
-    let s = d.seat.me.0 in
-    let l = d.local in
-    let o = own_of d.local in
-    let h = handle_of d.seat o in
-    let e = c.args.desc.now in
-    let i = runs-of g.K.MemRule.good f c.args.stm.now.rule h e d.number d.local c.desc.view_is c.requires.stm.config c.requires.stm.rule c.requires.running c.desc.invariant.1 in
-    let eager = subst (λ (p : Handle g.row.K.Denot). (known p).alg ≡ OrecEager) (sym c.desc.view_is) c.requires.algorithm in
-    let granted = proving.was-granted good f d.number d.local s.view i eager o (subst (λ (p : Handle g.row.K.Denot). (known p).granted ≡ true) (sym c.desc.view_is) c.requires.granted) in
-    let holds = c.desc.invariant.1.holds in
-    let closes = laws.closes good f d.number d.local s.view i eager granted holds in
-    let here = laws.granted-here good f d.number d.local s.view i eager granted holds in
-    let name : caller_of s.who.role ≡ d.number = ap caller_of c.desc.invariant.0.named in
-    let alg = d.local.algorithm in
-    let t = d.local.start + c.entry_rise.result in
-    let time : t ≡ d.local.start + entry_rise alg = ap (λ (k : ℕ). d.local.start + k) c.entry_rise.ensures in
-    let clean = laws.unwritten-here good f d.number d.local s.view i eager granted holds o (subst (λ (p : Handle g.row.K.Denot). wrote (known p) ≡ false) (sym c.desc.view_is) c.requires.unwritten) in
-    let p = c.direct_quit.new.seat.me.0 in
-    let a = tells-of (direct_quit alg t) Nothing s t p c.direct_quit.ensures.step in
-    let y = c.give_direct.new.seat.me.0 in
-    let q = c.give_direct.ensures.releases in
-    laws.quit-base good f d.number d.local s.view i eager granted holds t clean time p.view a y.view q
+    laws.may-base (here g (goal.at.store_base-requires-clause-view g c).After-entry_rise) _ _ _
+    (ap (λ (y : SeatView g.row.K.Denot). y.view) c.direct_quit.ensures.step.3) _ c.give_direct.ensures.releases
 
 pub store_done-requires-clause-view : goal.store_done-requires-clause-view
 store_done-requires-clause-view g c =
-    let f = c.args.stm.now.config in
-    let good = g.K.MemRule.good c.args.stm.now.rule in
-    let d = c.desc.inside in
-    let s = d.seat.me.0 in
-    let l = d.local in
-    let o = own_of d.local in
-    let h = handle_of d.seat o in
-    let e = c.args.desc.now in
-    let i = runs-of g.K.MemRule.good f c.args.stm.now.rule h e d.number d.local c.desc.view_is c.requires.stm.config c.requires.stm.rule c.requires.running c.desc.invariant.1 in
-    let eager = subst (λ (p : Handle g.row.K.Denot). (known p).alg ≡ OrecEager) (sym c.desc.view_is) c.requires.algorithm in
-    let granted = proving.was-granted good f d.number d.local s.view i eager o (subst (λ (p : Handle g.row.K.Denot). (known p).granted ≡ true) (sym c.desc.view_is) c.requires.granted) in
-    let holds = c.desc.invariant.1.holds in
-    let closes = laws.closes good f d.number d.local s.view i eager granted holds in
-    let here = laws.granted-here good f d.number d.local s.view i eager granted holds in
-    let name : caller_of s.who.role ≡ d.number = ap caller_of c.desc.invariant.0.named in
-    let alg = d.local.algorithm in
-    let t = d.local.start + c.entry_rise.result in
-    let time : t ≡ d.local.start + entry_rise alg = ap (λ (k : ℕ). d.local.start + k) c.entry_rise.ensures in
-    let clean = laws.unwritten-here good f d.number d.local s.view i eager granted holds o (subst (λ (p : Handle g.row.K.Denot). wrote (known p) ≡ false) (sym c.desc.view_is) c.requires.unwritten) in
-    let p = c.direct_quit.new.seat.me.0 in
-    let a = tells-of (direct_quit alg t) Nothing s t p c.direct_quit.ensures.step in
-    let y = c.give_direct.new.seat.me.0 in
-    let q = c.give_direct.ensures.releases in
-    let u = c.store_base.new.seat.me.0 in
-    let b = tells-of (store_base t) Nothing y t u c.store_base.ensures.step in
-    laws.quit-done good f d.number d.local s.view i eager granted holds t clean time p.view a y.view q u.view b
+    let time = c.desc.inside.local.start + c.entry_rise.result in
+    laws.may-done (here g (goal.at.store_done-requires-clause-view g c).After-entry_rise) _ _ _
+    (ap (λ (y : SeatView g.row.K.Denot). y.view) c.direct_quit.ensures.step.3) _ c.give_direct.ensures.releases
+    _ (tells-of (store_base time) Nothing _ time _ c.store_base.ensures.step)
 
 pub leave-requires-clause-view : goal.leave-requires-clause-view
 leave-requires-clause-view g c =
-    let f = c.args.stm.now.config in
-    let good = g.K.MemRule.good c.args.stm.now.rule in
-    let d = c.desc.inside in
-    let s = d.seat.me.0 in
-    let l = d.local in
-    let o = own_of d.local in
-    let h = handle_of d.seat o in
-    let e = c.args.desc.now in
-    let i = runs-of g.K.MemRule.good f c.args.stm.now.rule h e d.number d.local c.desc.view_is c.requires.stm.config c.requires.stm.rule c.requires.running c.desc.invariant.1 in
-    let eager = subst (λ (p : Handle g.row.K.Denot). (known p).alg ≡ OrecEager) (sym c.desc.view_is) c.requires.algorithm in
-    let granted = proving.was-granted good f d.number d.local s.view i eager o (subst (λ (p : Handle g.row.K.Denot). (known p).granted ≡ true) (sym c.desc.view_is) c.requires.granted) in
-    let holds = c.desc.invariant.1.holds in
-    let closes = laws.closes good f d.number d.local s.view i eager granted holds in
-    let here = laws.granted-here good f d.number d.local s.view i eager granted holds in
-    let name : caller_of s.who.role ≡ d.number = ap caller_of c.desc.invariant.0.named in
-    let alg = d.local.algorithm in
-    let t = d.local.start + c.entry_rise.result in
-    let time : t ≡ d.local.start + entry_rise alg = ap (λ (k : ℕ). d.local.start + k) c.entry_rise.ensures in
-    let clean = laws.unwritten-here good f d.number d.local s.view i eager granted holds o (subst (λ (p : Handle g.row.K.Denot). wrote (known p) ≡ false) (sym c.desc.view_is) c.requires.unwritten) in
-    let p = c.direct_quit.new.seat.me.0 in
-    let a = tells-of (direct_quit alg t) Nothing s t p c.direct_quit.ensures.step in
-    let y = c.give_direct.new.seat.me.0 in
-    let q = c.give_direct.ensures.releases in
-    let u = c.store_base.new.seat.me.0 in
-    let b = tells-of (store_base t) Nothing y t u c.store_base.ensures.step in
-    let x = c.store_done.new.seat.me.0 in
-    let k = tells-of (store_done t) Nothing u t x c.store_done.ensures.step in
-    laws.quit-end good f d.number d.local s.view i eager granted holds t clean time p.view a y.view q u.view b x.view k
+    let time = c.desc.inside.local.start + c.entry_rise.result in
+    laws.may-end (here g (goal.at.leave-requires-clause-view g c).After-entry_rise) _ _ _
+    (ap (λ (y : SeatView g.row.K.Denot). y.view) c.direct_quit.ensures.step.3) _ c.give_direct.ensures.releases
+    _ (tells-of (store_base time) Nothing _ time _ c.store_base.ensures.step) _
+    (tells-of (store_done time) Nothing _ time _ c.store_done.ensures.step)
 
 pub returns-clause-commits : goal.returns-clause-commits
 returns-clause-commits g c =
-    let f = c.args.stm.now.config in
-    let good = g.K.MemRule.good c.args.stm.now.rule in
-    let d = c.desc.inside in
-    let s = d.seat.me.0 in
-    let l = d.local in
-    let o = own_of d.local in
-    let h = handle_of d.seat o in
-    let e = c.args.desc.now in
-    let i = runs-of g.K.MemRule.good f c.args.stm.now.rule h e d.number d.local c.desc.view_is c.requires.stm.config c.requires.stm.rule c.requires.running c.desc.invariant.1 in
-    let eager = subst (λ (p : Handle g.row.K.Denot). (known p).alg ≡ OrecEager) (sym c.desc.view_is) c.requires.algorithm in
-    let granted = proving.was-granted good f d.number d.local s.view i eager o (subst (λ (p : Handle g.row.K.Denot). (known p).granted ≡ true) (sym c.desc.view_is) c.requires.granted) in
-    let holds = c.desc.invariant.1.holds in
-    let closes = laws.closes good f d.number d.local s.view i eager granted holds in
-    let here = laws.granted-here good f d.number d.local s.view i eager granted holds in
-    let name : caller_of s.who.role ≡ d.number = ap caller_of c.desc.invariant.0.named in
-    let alg = d.local.algorithm in
-    let t = d.local.start + c.entry_rise.result in
-    let time : t ≡ d.local.start + entry_rise alg = ap (λ (k : ℕ). d.local.start + k) c.entry_rise.ensures in
-    let clean = laws.unwritten-here good f d.number d.local s.view i eager granted holds o (subst (λ (p : Handle g.row.K.Denot). wrote (known p) ≡ false) (sym c.desc.view_is) c.requires.unwritten) in
-    let p = c.direct_quit.new.seat.me.0 in
-    let a = tells-of (direct_quit alg t) Nothing s t p c.direct_quit.ensures.step in
-    let y = c.give_direct.new.seat.me.0 in
-    let q = c.give_direct.ensures.releases in
-    let u = c.store_base.new.seat.me.0 in
-    let b = tells-of (store_base t) Nothing y t u c.store_base.ensures.step in
-    let x = c.store_done.new.seat.me.0 in
-    let k = tells-of (store_done t) Nothing u t x c.store_done.ensures.step in
-    let w = c.leave.new.seat.me.0 in
-    let who = ap (λ r. r.who) c.leave.ensures.left ∙ (who-of (store_done t) Nothing u t x c.store_done.ensures.step ∙ (who-of (store_base t) Nothing y t u c.store_base.ensures.step ∙ (ap (λ (r : SeatView g.row.K.Denot). r.who) c.give_direct.ensures.same.1 ∙ who-of (direct_quit alg t) Nothing s t p c.direct_quit.ensures.step))) in
-    shown-of (λ (n : ℕ) (v w : Known). answers.Commits good f n (ReadOnly d.local.start) v w) h e d.number w.view d.local c.leave.new.local c.desc.view_is (ap own_of c.leave.ensures.idle) name
-    (laws.tells-quit good f d.number d.local s.view i eager granted holds t clean time p.view a y.view q u.view b x.view k w.view o (subst (λ (p : Handle g.row.K.Denot). (known p).retains ≡ true) (sym c.desc.view_is) c.requires.kept) (ap (λ r. r.view) c.leave.ensures.left))
+    let a = (goal.at.returns-clause-commits g c).After-entry_rise in
+    let time = c.desc.inside.local.start + c.entry_rise.result in
+    shows g.K.MemRule.good c.args.stm.now (opens g a)
+    (λ (n : ℕ) (v w : Known). answers.Commits (g.K.MemRule.good c.args.stm.now.rule) c.args.stm.now.config n
+    (ReadOnly c.desc.inside.local.start) v w)
+    c.leave.new.seat.me.0.view c.leave.new.local (ap own_of c.leave.ensures.idle)
+    (laws.tells-quit (here g a) time (clean g a) (ap (λ (k : ℕ). c.desc.inside.local.start + k) c.entry_rise.ensures) _
+    (tells-of (direct_quit _ time) Nothing _ time _ c.direct_quit.ensures.step) _ c.give_direct.ensures.releases
+    _ (tells-of (store_base time) Nothing _ time _ c.store_base.ensures.step) _
+    (tells-of (store_done time) Nothing _ time _ c.store_done.ensures.step)
+    c.leave.new.seat.me.0.view (own_of c.desc.inside.local)
+    (ap (λ (k : Known). k.retains) (sym (opens g a).knows) ∙ c.requires.kept)
+    (ap (λ (y : SeatView g.row.K.Denot). y.view) c.leave.ensures.left))
 
 pub returns-clause-steps : goal.returns-clause-steps
 returns-clause-steps g c =
-    let f = c.args.stm.now.config in
-    let good = g.K.MemRule.good c.args.stm.now.rule in
-    let d = c.desc.inside in
-    let s = d.seat.me.0 in
-    let l = d.local in
-    let o = own_of d.local in
-    let h = handle_of d.seat o in
-    let e = c.args.desc.now in
-    let i = runs-of g.K.MemRule.good f c.args.stm.now.rule h e d.number d.local c.desc.view_is c.requires.stm.config c.requires.stm.rule c.requires.running c.desc.invariant.1 in
-    let eager = subst (λ (p : Handle g.row.K.Denot). (known p).alg ≡ OrecEager) (sym c.desc.view_is) c.requires.algorithm in
-    let granted = proving.was-granted good f d.number d.local s.view i eager o (subst (λ (p : Handle g.row.K.Denot). (known p).granted ≡ true) (sym c.desc.view_is) c.requires.granted) in
-    let holds = c.desc.invariant.1.holds in
-    let closes = laws.closes good f d.number d.local s.view i eager granted holds in
-    let here = laws.granted-here good f d.number d.local s.view i eager granted holds in
-    let name : caller_of s.who.role ≡ d.number = ap caller_of c.desc.invariant.0.named in
-    let within : length d.local.locks.items ≤ held_limit f (known h) = laws.held-within good f d.number d.local s.view i eager granted holds in
-    let first = ap (λ (p : Handle g.row.K.Denot). length (known p).trail) c.desc.view_is in
-    let held = ap (λ (p : Handle g.row.K.Denot). held_limit f (known p)) c.desc.view_is in
+    let a = (goal.at.returns-clause-steps g c).After-entry_rise in
+    let within : length c.desc.inside.local.locks.items ≤ held_limit c.args.stm.now.config
+    (known_of c.desc.inside.seat.me.0.view (own_of c.desc.inside.local)) = laws.held-within (here g a) in
+    let first = ap (λ (k : Known). length k.trail) (opens g a).knows in
+    let held = ap (held_limit c.args.stm.now.config) (opens g a).knows in
     let raised = ap (λ (y : SeatView g.row.K.Denot). length y.view.steps.trail) c.direct_quit.ensures.step.3 in
     let given = c.give_direct.ensures.steps in
     let based = ap (λ (y : SeatView g.row.K.Denot). length y.view.steps.trail) c.store_base.ensures.step.3 in

@@ -1,18 +1,23 @@
-use Rattle.std.proofs.Common.{◌≤◌, ◌≡◌, ◌<◌, ◌+◌, List, [], ◌∷◌, length, refl, sym, ap, ◌∙◌, subst, arith}
+use Rattle.std.proofs.Common.{◌≤◌, ◌≡◌, ◌+◌, List, [], ◌∷◌, length, refl, sym, ap, ◌∙◌, subst, arith, drop, true}
 use Rattle.stm_model.specs.declared.config.TheConstants.{CLOCK_LIMIT}
 use Rattle.rule_base.specs.declared.entries.Cell.{Cell}
 use Rattle.rule_base.specs.declared.seats.SeatView.{SeatView}
 use Rattle.rule_base.specs.declared.views.View.{View}
 use Rattle.rule_base.specs.Bridge.{items}
 use Rattle.rule_base.specs.Encodings.{free_record}
-use Rattle.rule_base.specs.History.{touches, without, Inside}
+use Rattle.rule_base.specs.History.{over, touches, without, Inside}
 use Rattle.rule_orec.specs.OrecSteps.{HasOrec}
 use Rattle.stm_gate.specs.Peeling.{drop-all, peeled, inside-without, no-items}
 use Rattle.alg_orec.specs.EagerEnding.{AllBelow}
 use Rattle.alg_orec.specs.Locking.{holding_still}
 use Rattle.alg_orec.proofs.EagerReleasing.{below-without}
 use Rattle.alg_orec.proofs.Releasing.{release_item, released-step}
+use Rattle.alg_orec.proofs.eager_ending.release_all_above.Goals.{After-item-r}
 use Rattle.alg_orec.proofs.eager_ending.release_all_above.Goals as goal
+
+-- the next item is one of those that are left
+next : (g : _) (c : After-item-r g) → (touches c.loop-i.seat.me.0.view.owned.held c.item-r.result.0 ≡ true) × (c.item-r.result.1 ≡ over c.loop-i.seat.me.0.view.owned.held c.item-r.result.0 0) × (items (without c.loop-i.seat.me.0.view.owned.held c.item-r.result.0) ≡ drop (c.loop-i.i + 1) c.args.local.now.locks.items)
+next g c = peeled c.args.local.now.locks.items c.loop-i.i c.loop-i.seat.me.0.view.owned.held c.item-r.result (omega (arith, c.loop-i-test.true, c.count-i-end.ensures.count)) c.count-i-end.ensures.once c.loop-i.invariant.left c.item-r.ensures
 
 pub loop-i-init : goal.loop-i-init
 loop-i-init g c = let k = c.requires.view in record {
@@ -30,8 +35,7 @@ loop-i-init g c = let k = c.requires.view in record {
 pub overflow_add-version : goal.overflow_add-version
 overflow_add-version g c =
     let i = c.loop-i.invariant in
-    let low : c.loop-i.i < length c.args.local.now.locks.items = omega (arith, c.loop-i-test.true, c.count-i-end.ensures.count) in
-    let p = peeled c.args.local.now.locks.items c.loop-i.i c.loop-i.seat.me.0.view.owned.held c.item-r.result low c.count-i-end.ensures.once i.left c.item-r.ensures in
+    let p = next g (goal.at.overflow_add-version g c).After-item-r in
     let within = i.below c.item-r.result.0 p.0 in
     let is = p.1 in
     omega arith
@@ -39,15 +43,13 @@ overflow_add-version g c =
 pub release_above-requires-clause-place : goal.release_above-requires-clause-place
 release_above-requires-clause-place g c =
     let i = c.loop-i.invariant in
-    let low : c.loop-i.i < length c.args.local.now.locks.items = omega (arith, c.loop-i-test.true, c.count-i-end.ensures.count) in
-    let p = peeled c.args.local.now.locks.items c.loop-i.i c.loop-i.seat.me.0.view.owned.held c.item-r.result low c.count-i-end.ensures.once i.left c.item-r.ensures in
+    let p = next g (goal.at.release_above-requires-clause-place g c).After-item-r in
     i.places c.item-r.result.0 p.0
 
 pub release_above-requires-clause-limit : goal.release_above-requires-clause-limit
 release_above-requires-clause-limit g c =
     let i = c.loop-i.invariant in
-    let low : c.loop-i.i < length c.args.local.now.locks.items = omega (arith, c.loop-i-test.true, c.count-i-end.ensures.count) in
-    let p = peeled c.args.local.now.locks.items c.loop-i.i c.loop-i.seat.me.0.view.owned.held c.item-r.result low c.count-i-end.ensures.once i.left c.item-r.ensures in
+    let p = next g (goal.at.release_above-requires-clause-limit g c).After-item-r in
     let within = i.below c.item-r.result.0 p.0 in
     let is = p.1 in
     omega arith
@@ -56,8 +58,7 @@ pub release_above-requires-clause-view : goal.release_above-requires-clause-view
 release_above-requires-clause-view g c =
     let k = c.requires.view in
     let i = c.loop-i.invariant in
-    let low : c.loop-i.i < length c.args.local.now.locks.items = omega (arith, c.loop-i-test.true, c.count-i-end.ensures.count) in
-    let p = peeled c.args.local.now.locks.items c.loop-i.i c.loop-i.seat.me.0.view.owned.held c.item-r.result low c.count-i-end.ensures.once i.left c.item-r.ensures in
+    let p = next g (goal.at.release_above-requires-clause-view g c).After-item-r in
     let is = ap (λ (y : SeatView g.row.K.Denot). y.view) i.seat in
     record {
       gives = record {
@@ -81,17 +82,16 @@ loop-i-preserved g c =
     let step = c.release_above.ensures.step in
     let same = c.release_above.ensures.same in
     let r = c.item-r.result.0 in
-    let next = c.item-r.result.1 + 1 in
-    let low : c.loop-i.i < length c.args.local.now.locks.items = omega (arith, c.loop-i-test.true, c.count-i-end.ensures.count) in
-    let p = peeled c.args.local.now.locks.items c.loop-i.i s.view.owned.held c.item-r.result low c.count-i-end.ensures.once i.left c.item-r.ensures in
+    let above = c.item-r.result.1 + 1 in
+    let p = next g (goal.at.loop-i-preserved g c).After-item-r in
     let held : t.view.owned.held ≡ without s.view.owned.held r = ap (λ (y : SeatView g.row.K.Denot). y.view.owned.held) step.3 in
     record {
       table = same.0 ∙ i.table;
       id = same.1 ∙ i.id;
       steps = (let l = ap (λ (y : SeatView g.row.K.Denot). length y.view.steps.trail) step.3 in let q = i.steps in omega arith);
       bare = same.2 ∙ i.bare;
-      more = release_item r next ∷ i.more;
-      seat = released-step c.args.seat.now.me.0 s t i.more r next (free_record next) step.0 i.seat step.3;
+      more = release_item r above ∷ i.more;
+      seat = released-step c.args.seat.now.me.0 s t i.more r above (free_record above) step.0 i.seat step.3;
       left = ap items held ∙ p.2;
       places = subst (λ (cs : List Cell). Inside c.args.stm.now.config.records cs) (sym held) (inside-without c.args.stm.now.config.records r s.view.owned.held i.places);
       below = subst (AllBelow CLOCK_LIMIT) (sym held) (below-without CLOCK_LIMIT s.view.owned.held r i.below);

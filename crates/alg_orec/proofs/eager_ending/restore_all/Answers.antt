@@ -1,13 +1,18 @@
-use Rattle.std.proofs.Common.{◌≤◌, ◌≡◌, ◌<◌, List, [], ◌∷◌, length, refl, sym, ap, ◌∙◌, subst, arith}
+use Rattle.std.proofs.Common.{◌≤◌, ◌≡◌, List, [], ◌∷◌, length, refl, sym, ap, ◌∙◌, subst, arith, drop, true, ◌+◌}
 use Rattle.rule_base.specs.declared.entries.Cell.{Cell}
 use Rattle.rule_base.specs.declared.seats.SeatView.{SeatView}
 use Rattle.rule_base.specs.Bridge.{items}
-use Rattle.rule_base.specs.History.{without, Inside}
+use Rattle.rule_base.specs.History.{over, touches, without, Inside}
 use Rattle.rule_orec.specs.OrecSteps.{HasOrec}
 use Rattle.stm_gate.specs.Peeling.{drop-all, peeled, inside-without, no-items}
 use Rattle.alg_orec.specs.EagerEnding.{restoring}
 use Rattle.alg_orec.proofs.EagerReleasing.{restore_item, restored-step}
+use Rattle.alg_orec.proofs.eager_ending.restore_all.Goals.{After-item-a}
 use Rattle.alg_orec.proofs.eager_ending.restore_all.Goals as goal
+
+-- the next item is one of those that are left
+next : (g : _) (c : After-item-a g) → (touches c.loop-i.seat.me.0.view.owned.undo c.item-a.result.0 ≡ true) × (c.item-a.result.1 ≡ over c.loop-i.seat.me.0.view.owned.undo c.item-a.result.0 0) × (items (without c.loop-i.seat.me.0.view.owned.undo c.item-a.result.0) ≡ drop (c.loop-i.i + 1) c.args.local.now.undo.items)
+next g c = peeled c.args.local.now.undo.items c.loop-i.i c.loop-i.seat.me.0.view.owned.undo c.item-a.result (omega (arith, c.loop-i-test.true, c.count-i-end.ensures.count)) c.count-i-end.ensures.once c.loop-i.invariant.left c.item-a.ensures
 
 pub loop-i-init : goal.loop-i-init
 loop-i-init g c = let k = c.requires.view in record {
@@ -25,16 +30,14 @@ loop-i-init g c = let k = c.requires.view in record {
 pub restore-requires-clause-place : goal.restore-requires-clause-place
 restore-requires-clause-place g c =
     let i = c.loop-i.invariant in
-    let low : c.loop-i.i < length c.args.local.now.undo.items = omega (arith, c.loop-i-test.true, c.count-i-end.ensures.count) in
-    let p = peeled c.args.local.now.undo.items c.loop-i.i c.loop-i.seat.me.0.view.owned.undo c.item-a.result low c.count-i-end.ensures.once i.left c.item-a.ensures in
+    let p = next g (goal.at.restore-requires-clause-place g c).After-item-a in
     i.words c.item-a.result.0 p.0
 
 pub restore-requires-clause-view : goal.restore-requires-clause-view
 restore-requires-clause-view g c =
     let k = c.requires.view in
     let i = c.loop-i.invariant in
-    let low : c.loop-i.i < length c.args.local.now.undo.items = omega (arith, c.loop-i-test.true, c.count-i-end.ensures.count) in
-    let p = peeled c.args.local.now.undo.items c.loop-i.i c.loop-i.seat.me.0.view.owned.undo c.item-a.result low c.count-i-end.ensures.once i.left c.item-a.ensures in
+    let p = next g (goal.at.restore-requires-clause-view g c).After-item-a in
     let is = ap (λ (y : SeatView g.row.K.Denot). y.view) i.seat in
     record {
       has = subst HasOrec (sym is) (record { runs = record { phase = k.has.runs.phase; algorithm = k.has.runs.algorithm; plain = k.has.runs.plain }; inside = k.has.inside });
@@ -51,8 +54,7 @@ loop-i-preserved g c =
     let same = c.restore.ensures.same in
     let a = c.item-a.result.0 in
     let x = c.item-a.result.1 in
-    let low : c.loop-i.i < length c.args.local.now.undo.items = omega (arith, c.loop-i-test.true, c.count-i-end.ensures.count) in
-    let p = peeled c.args.local.now.undo.items c.loop-i.i s.view.owned.undo c.item-a.result low c.count-i-end.ensures.once i.left c.item-a.ensures in
+    let p = next g (goal.at.loop-i-preserved g c).After-item-a in
     let undo : t.view.owned.undo ≡ without s.view.owned.undo a = ap (λ (y : SeatView g.row.K.Denot). y.view.owned.undo) step.3 in
     record {
       table = same.0 ∙ i.table;

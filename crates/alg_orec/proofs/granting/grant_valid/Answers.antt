@@ -1,6 +1,5 @@
-use Rattle.std.proofs.Common.{ℕ, ◌<◌, ◌≤◌, ◌-◌, ap, arith, rules, subst, sym}
+use Rattle.std.proofs.Common.{ℕ, ap, rules, subst, sym}
 use Rattle.std.specs.Prelude.{◌%◌}
-use Rattle.stm_model.specs.declared.config.TheConstants.{CLOCK_LIMIT}
 use Rattle.stm_model.specs.declared.stop.Cause.TheVariants as causes
 use Rattle.rule_base.specs.InstallSteps.{settle}
 use Rattle.rule_base.specs.Ranks.{home_of}
@@ -11,174 +10,66 @@ use Rattle.stm_rule.specs.StandLemmas.{tells-of}
 use Rattle.steps_orec.specs.RecordFindings.{FindsClock, FindsGrant}
 use Rattle.steps_orec.specs.Validating.{to_validate}
 use Rattle.tx_answers.specs.declared.answers.Irrev.TheVariants as irrevs
-use Rattle.alg_orec.specs.Granting.{IsNotGranted}
-use Rattle.alg_orec.proofs.GrantingLaws as laws
+use Rattle.alg_orec.specs.Granting.{IsNotPromoted}
+use Rattle.alg_orec.proofs.PromotingLaws as laws
 use Rattle.alg_orec.proofs.Validity as validity
 use Rattle.alg_orec.proofs.granting.grant_valid.Goals as goal
 
 pub settle-time-requires-clause-view : goal.settle-time-requires-clause-view
 settle-time-requires-clause-view g c =
-    let f = c.args.stm.now.config in
-    let good = g.K.MemRule.good c.args.stm.now.rule in
-    let n = c.args.caller in
-    let low = c.requires.caller in
-    let l = c.args.local.now in
-    let s = c.args.seat.now.me.0 in
-    let v = s.view in
-    let can = c.requires.attempt in
-    laws.may-settle good f n low l v can
+    laws.may-settle (g.K.MemRule.good c.args.stm.now.rule) _ _ c.requires.caller _ _ c.requires.attempt
 
-pub returns-then-time-ge-CLOCK_LIMIT-clause-grants : goal.returns-then-time-ge-CLOCK_LIMIT-clause-grants
-returns-then-time-ge-CLOCK_LIMIT-clause-grants g c =
-    let f = c.args.stm.now.config in
-    let good = g.K.MemRule.good c.args.stm.now.rule in
-    let n = c.args.caller in
-    let low = c.requires.caller in
-    let l = c.args.local.now in
-    let s = c.args.seat.now.me.0 in
-    let v = s.view in
-    let can = c.requires.attempt in
-    let time = c.settle-time.result in
-    let p = c.settle-time.new.seat.me.0 in
-    let first = tells-of settle FindsWithin s time p c.settle-time.ensures.step in
-    let high : CLOCK_LIMIT ≤ time = search rules in
-    laws.full-settled good f n low l v can time p.view first high
+pub returns-then-time-ge-CLOCK_LIMIT-clause-promotes : goal.returns-then-time-ge-CLOCK_LIMIT-clause-promotes
+returns-then-time-ge-CLOCK_LIMIT-clause-promotes g c =
+    let first = tells-of settle FindsWithin _ _ _ c.settle-time.ensures.step in
+    laws.full-settled (g.K.MemRule.good c.args.stm.now.rule) _ _ c.requires.caller _ _ c.requires.attempt _ _ first (search rules)
 
 pub clock-requires-clause-view : goal.clock-requires-clause-view
 clock-requires-clause-view g c =
-    let f = c.args.stm.now.config in
-    let good = g.K.MemRule.good c.args.stm.now.rule in
-    let n = c.args.caller in
-    let low = c.requires.caller in
-    let l = c.args.local.now in
-    let s = c.args.seat.now.me.0 in
-    let v = s.view in
-    let can = c.requires.attempt in
-    let time = c.settle-time.result in
-    let p = c.settle-time.new.seat.me.0 in
-    let first = tells-of settle FindsWithin s time p c.settle-time.ensures.step in
-    (laws.may-validate good f n low l v can time p.view first).opens
+    let first = tells-of settle FindsWithin _ _ _ c.settle-time.ensures.step in
+    (laws.may-validate (g.K.MemRule.good c.args.stm.now.rule) _ _ c.requires.caller _ _ c.requires.attempt _ _ first).opens
 
 pub pass_before-requires-clause-view : goal.pass_before-requires-clause-view
 pass_before-requires-clause-view g c =
     let f = c.args.stm.now.config in
-    let good = g.K.MemRule.good c.args.stm.now.rule in
-    let rule = good_of g.K.MemRule.good f c.args.stm.now.rule in
-    let n = c.args.caller in
-    let low = c.requires.caller in
-    let l = c.args.local.now in
-    let s = c.args.seat.now.me.0 in
-    let v = s.view in
-    let can = c.requires.attempt in
-    let time = c.settle-time.result in
-    let p = c.settle-time.new.seat.me.0 in
-    let first = tells-of settle FindsWithin s time p c.settle-time.ensures.step in
-    let now = c.clock.result in
-    let q = c.clock.new.seat.me.0 in
-    let second = tells-of (orec_clock (to_validate (home_of f) p.view)) (FindsClock f) p now q c.clock.ensures.step in
-    let j = c.count-last.result - 1 in
-    let may = laws.may-validate good f n low l v can time p.view first in
-    let last = laws.is-last good f n low l v can time p.view first j (omega (arith, c.count-last.ensures.count, c.requires.some)) (omega (arith, c.count-last.ensures.count)) in
-    validity.may-start rule f n low l p.view may j now last q.view second
+    let first = tells-of settle FindsWithin _ _ _ c.settle-time.ensures.step in
+    let second = tells-of (orec_clock (to_validate (home_of f) c.settle-time.new.seat.me.0.view)) (FindsClock f) _ _ _ c.clock.ensures.step in
+    let may = laws.may-validate (g.K.MemRule.good c.args.stm.now.rule) _ _ c.requires.caller _ _ c.requires.attempt _ _ first in
+    validity.may-start (good_of g.K.MemRule.good f c.args.stm.now.rule) _ _ c.requires.caller _ _ may _ _ c.requires.last _ second
 
-pub returns-in-Err-clause-grants : goal.returns-in-Err-clause-grants
-returns-in-Err-clause-grants g c =
+pub returns-in-Err-clause-promotes : goal.returns-in-Err-clause-promotes
+returns-in-Err-clause-promotes g c =
     let f = c.args.stm.now.config in
-    let good = g.K.MemRule.good c.args.stm.now.rule in
-    let rule = good_of g.K.MemRule.good f c.args.stm.now.rule in
-    let n = c.args.caller in
-    let low = c.requires.caller in
-    let l = c.args.local.now in
-    let s = c.args.seat.now.me.0 in
-    let v = s.view in
-    let can = c.requires.attempt in
-    let time = c.settle-time.result in
-    let p = c.settle-time.new.seat.me.0 in
-    let first = tells-of settle FindsWithin s time p c.settle-time.ensures.step in
-    let now = c.clock.result in
-    let q = c.clock.new.seat.me.0 in
-    let second = tells-of (orec_clock (to_validate (home_of f) p.view)) (FindsClock f) p now q c.clock.ensures.step in
-    let j = c.count-last.result - 1 in
-    let may = laws.may-validate good f n low l v can time p.view first in
-    let last = laws.is-last good f n low l v can time p.view first j (omega (arith, c.count-last.ensures.count, c.requires.some)) (omega (arith, c.count-last.ensures.count)) in
-    let u = c.pass_before.new.seat.me.0 in
-    laws.refused-reads good f n low l v can time p.view first c.in-Err.cause u.view (validity.refused-before rule f n low l p.view may j now last q.view second c.in-Err.cause u.view c.in-Err.ensures.passes)
+    let first = tells-of settle FindsWithin _ _ _ c.settle-time.ensures.step in
+    let second = tells-of (orec_clock (to_validate (home_of f) c.settle-time.new.seat.me.0.view)) (FindsClock f) _ _ _ c.clock.ensures.step in
+    let may = laws.may-validate (g.K.MemRule.good c.args.stm.now.rule) _ _ c.requires.caller _ _ c.requires.attempt _ _ first in
+    laws.refused-reads (g.K.MemRule.good c.args.stm.now.rule) _ _ c.requires.caller _ _ c.requires.attempt _ _ first _ _
+    (validity.refused-before (good_of g.K.MemRule.good f c.args.stm.now.rule) _ _ c.requires.caller _ _ may _ _ c.requires.last _ second _ _ c.in-Err.ensures.passes)
 
 pub grant-word-requires-clause-view : goal.grant-word-requires-clause-view
 grant-word-requires-clause-view g c =
     let f = c.args.stm.now.config in
-    let good = g.K.MemRule.good c.args.stm.now.rule in
-    let n = c.args.caller in
-    let low = c.requires.caller in
-    let l = c.args.local.now in
-    let s = c.args.seat.now.me.0 in
-    let v = s.view in
-    let can = c.requires.attempt in
-    let time = c.settle-time.result in
-    let p = c.settle-time.new.seat.me.0 in
-    let first = tells-of settle FindsWithin s time p c.settle-time.ensures.step in
-    let now = c.clock.result in
-    let q = c.clock.new.seat.me.0 in
-    let second = tells-of (orec_clock (to_validate (home_of f) p.view)) (FindsClock f) p now q c.clock.ensures.step in
-    let j = c.count-last.result - 1 in
-    let last = laws.is-last good f n low l v can time p.view first j (omega (arith, c.count-last.ensures.count, c.requires.some)) (omega (arith, c.count-last.ensures.count)) in
-    let u = c.pass_before.new.seat.me.0 in
-    let h = c.in_default.ensures.passes in
-    let b = c.item-b.result.0 in
-    laws.may-grant good f n low l v can time p.view first j now last q.view second u.view h b (ap (λ (w : ℕ × ℕ). w.0) c.item-b.ensures)
+    let first = tells-of settle FindsWithin _ _ _ c.settle-time.ensures.step in
+    let second = tells-of (orec_clock (to_validate (home_of f) c.settle-time.new.seat.me.0.view)) (FindsClock f) _ _ _ c.clock.ensures.step in
+    laws.may-grant (g.K.MemRule.good c.args.stm.now.rule) _ _ c.requires.caller _ _ c.requires.attempt _ _ first _ _ c.requires.last _ second _ c.in_default.ensures.passes
+    c.item-b.result.0 (ap (λ (w : ℕ × ℕ). w.0) c.item-b.ensures)
 
-pub returns-in-Err-judge-clause-grants : goal.returns-in-Err-judge-clause-grants
-returns-in-Err-judge-clause-grants g c =
+pub returns-in-Err-judge-clause-promotes : goal.returns-in-Err-judge-clause-promotes
+returns-in-Err-judge-clause-promotes g c =
     let f = c.args.stm.now.config in
-    let good = g.K.MemRule.good c.args.stm.now.rule in
-    let rule = good_of g.K.MemRule.good f c.args.stm.now.rule in
-    let n = c.args.caller in
-    let low = c.requires.caller in
-    let l = c.args.local.now in
-    let s = c.args.seat.now.me.0 in
-    let v = s.view in
-    let can = c.requires.attempt in
-    let time = c.settle-time.result in
-    let p = c.settle-time.new.seat.me.0 in
-    let first = tells-of settle FindsWithin s time p c.settle-time.ensures.step in
-    let now = c.clock.result in
-    let q = c.clock.new.seat.me.0 in
-    let second = tells-of (orec_clock (to_validate (home_of f) p.view)) (FindsClock f) p now q c.clock.ensures.step in
-    let j = c.count-last.result - 1 in
-    let last = laws.is-last good f n low l v can time p.view first j (omega (arith, c.count-last.ensures.count, c.requires.some)) (omega (arith, c.count-last.ensures.count)) in
-    let u = c.pass_before.new.seat.me.0 in
-    let h = c.in_default.ensures.passes in
-    let b = c.item-b.result.0 in
-    let x = c.grant-word.result in
-    let w = c.grant-word.new.seat.me.0 in
-    let t = tells-of (orec_grant (b % f.records) b) (FindsGrant rule f n (b % f.records)) u x w c.grant-word.ensures.step in
-    subst (λ (y : causes.the_data). IsNotGranted good f n (irrevs.Conflict y) l v l w.view) (sym c.in-Err-judge.ensures.0)
-    (laws.refused-last good f n low l v can time p.view first j now last q.view second u.view h b x w.view (ap (λ (w : ℕ × ℕ). w.0) c.item-b.ensures) c.in-Err-judge.ensures.1 t)
+    let r = c.item-b.result.0 % f.records in
+    let first = tells-of settle FindsWithin _ _ _ c.settle-time.ensures.step in
+    let second = tells-of (orec_clock (to_validate (home_of f) c.settle-time.new.seat.me.0.view)) (FindsClock f) _ _ _ c.clock.ensures.step in
+    let t = tells-of (orec_grant r c.item-b.result.0) (FindsGrant (good_of g.K.MemRule.good f c.args.stm.now.rule) f c.args.caller r) _ _ _ c.grant-word.ensures.step in
+    subst (λ (y : causes.the_data). IsNotPromoted f c.args.caller (irrevs.Conflict y) c.args.local.now c.args.seat.now.me.0.view c.args.local.now c.grant-word.new.seat.me.0.view) (sym c.in-Err-judge.ensures.0)
+    (laws.refused-last (g.K.MemRule.good c.args.stm.now.rule) _ _ c.requires.caller _ _ c.requires.attempt _ _ first _ _ c.requires.last _ second _ c.in_default.ensures.passes c.item-b.result.0 _ _ t c.in-Err-judge.ensures.1 (ap (λ (w : ℕ × ℕ). w.0) c.item-b.ensures))
 
-pub returns-clause-grants : goal.returns-clause-grants
-returns-clause-grants g c =
+pub returns-clause-promotes : goal.returns-clause-promotes
+returns-clause-promotes g c =
     let f = c.args.stm.now.config in
-    let good = g.K.MemRule.good c.args.stm.now.rule in
-    let rule = good_of g.K.MemRule.good f c.args.stm.now.rule in
-    let n = c.args.caller in
-    let low = c.requires.caller in
-    let l = c.args.local.now in
-    let s = c.args.seat.now.me.0 in
-    let v = s.view in
-    let can = c.requires.attempt in
-    let time = c.settle-time.result in
-    let p = c.settle-time.new.seat.me.0 in
-    let first = tells-of settle FindsWithin s time p c.settle-time.ensures.step in
-    let now = c.clock.result in
-    let q = c.clock.new.seat.me.0 in
-    let second = tells-of (orec_clock (to_validate (home_of f) p.view)) (FindsClock f) p now q c.clock.ensures.step in
-    let j = c.count-last.result - 1 in
-    let last = laws.is-last good f n low l v can time p.view first j (omega (arith, c.count-last.ensures.count, c.requires.some)) (omega (arith, c.count-last.ensures.count)) in
-    let u = c.pass_before.new.seat.me.0 in
-    let h = c.in_default.ensures.passes in
-    let b = c.item-b.result.0 in
-    let x = c.grant-word.result in
-    let w = c.grant-word.new.seat.me.0 in
-    let t = tells-of (orec_grant (b % f.records) b) (FindsGrant rule f n (b % f.records)) u x w c.grant-word.ensures.step in
-    let under : time < CLOCK_LIMIT = search rules in
-    laws.granted-last good f n low l v can time p.view first j now last q.view second u.view h b x w.view under c.in_default-judge.ensures.0 c.in_default-judge.ensures.1 t
+    let r = c.item-b.result.0 % f.records in
+    let first = tells-of settle FindsWithin _ _ _ c.settle-time.ensures.step in
+    let second = tells-of (orec_clock (to_validate (home_of f) c.settle-time.new.seat.me.0.view)) (FindsClock f) _ _ _ c.clock.ensures.step in
+    let t = tells-of (orec_grant r c.item-b.result.0) (FindsGrant (good_of g.K.MemRule.good f c.args.stm.now.rule) f c.args.caller r) _ _ _ c.grant-word.ensures.step in
+    laws.granted-last (g.K.MemRule.good c.args.stm.now.rule) _ _ c.requires.caller _ _ c.requires.attempt _ _ first _ _ c.requires.last _ second _ c.in_default.ensures.passes c.item-b.result.0 _ _ t
+    c.in_default-judge.ensures.0 c.in_default-judge.ensures.1 (search rules)

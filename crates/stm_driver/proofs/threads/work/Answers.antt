@@ -1,14 +1,14 @@
 use Rattle.std.proofs.Common.{sym, ap, ◌∙◌}
 use Rattle.stm_trace.specs.Places.{clock_of}
 use Rattle.stm_driver.proofs.ScheduleLaws.{self-same, worker-trans}
-use Rattle.stm_driver.proofs.ThreadLaws.{halts-between, halts-limit, idle-through, paid-full, paid-next, paid-over, paid-self, paid-starved}
+use Rattle.stm_driver.proofs.ThreadLaws.{halts-between, halts-limit, idle-through, covered-full, covered-next, covered-over, covered-self, covered-starved}
 use Rattle.stm_driver.proofs.threads.work.Goals as goal
 
 pub loop-init : goal.loop-init
-loop-init g c = record { next = tt; ends = tt; sound = c.requires.sound; same = self-same c.args.w.now; paid = paid-self c.args.stm.now c.args.w.now }
+loop-init g c = record { next = tt; ends = tt; sound = c.requires.sound; same = self-same c.args.w.now; covered = covered-self c.args.stm.now c.args.w.now }
 
-pub returns-in-Err-clause-paid : goal.returns-in-Err-clause-paid
-returns-in-Err-clause-paid g c = paid-starved (g.K.MemRule.good c.args.stm.now.rule) c.args.stm.now c.args.w.now c.loop.w c.turn.new.self c.in-Err.ensures.turned c.loop.invariant.paid
+pub returns-in-Err-clause-covered : goal.returns-in-Err-clause-covered
+returns-in-Err-clause-covered g c = covered-starved (g.K.MemRule.good c.args.stm.now.rule) c.args.stm.now c.args.w.now c.loop.w c.turn.new.self c.in-Err.ensures.turned c.loop.invariant.covered
 
 pub returns-in-Idle-clause-same : goal.returns-in-Idle-clause-same
 returns-in-Idle-clause-same g c = worker-trans c.args.w.now c.loop.w c.turn.new.self c.loop.invariant.same c.in-Ok.ensures.turned.same
@@ -17,9 +17,9 @@ pub returns-in-Idle-clause-through : goal.returns-in-Idle-clause-through
 returns-in-Idle-clause-through g c =
     idle-through (g.K.MemRule.good c.args.stm.now.rule) c.args.stm.now c.loop.w c.turn.new.self c.in-Ok.said c.in-Ok.ensures.turned c.in-Idle.is
 
-pub returns-in-Idle-clause-paid : goal.returns-in-Idle-clause-paid
-returns-in-Idle-clause-paid g c =
-    paid-over (g.K.MemRule.good c.args.stm.now.rule) c.args.stm.now c.args.w.now c.loop.w c.turn.new.self c.in-Ok.said c.loop.invariant.sound c.in-Ok.ensures.turned c.loop.invariant.paid (ap clock_of c.in-Idle.is)
+pub returns-in-Idle-clause-covered : goal.returns-in-Idle-clause-covered
+returns-in-Idle-clause-covered g c =
+    covered-over (g.K.MemRule.good c.args.stm.now.rule) c.args.stm.now c.args.w.now c.loop.w c.turn.new.self c.in-Ok.said c.loop.invariant.sound c.in-Ok.ensures.turned c.loop.invariant.covered (ap clock_of c.in-Idle.is)
 
 pub returns-in-Some-full_clock : goal.returns-in-Some-full_clock
 returns-in-Some-full_clock g c =
@@ -35,7 +35,7 @@ returns-in-Some-full_clock g c =
       same = worker-trans c.args.w.now u w c.loop.invariant.same t.same;
       between = halts-between good stm u w c.in-Ok.said c.in-Some-full_clock.clock c.loop.invariant.sound t full;
       through = limit;
-      paid = paid-full good stm c.args.w.now u w c.in-Ok.said c.loop.invariant.sound t c.loop.invariant.paid c.in-Some-full_clock.clock full limit.2;
+      covered = covered-full good stm c.args.w.now u w c.in-Ok.said c.loop.invariant.sound t c.loop.invariant.covered c.in-Some-full_clock.clock full limit.2;
     }
 
 pub loop-preserved : goal.loop-preserved
@@ -48,5 +48,5 @@ loop-preserved g c =
       ends = tt;
       sound = t.sound;
       same = worker-trans c.args.w.now u w c.loop.invariant.same t.same;
-      paid = paid-next (g.K.MemRule.good c.args.stm.now.rule) c.args.stm.now c.args.w.now u w c.in-Ok.said c.loop.invariant.sound t c.loop.invariant.paid (sym c.full_clock.ensures ∙ c.in_default-full_clock.is);
+      covered = covered-next (g.K.MemRule.good c.args.stm.now.rule) c.args.stm.now c.args.w.now u w c.in-Ok.said c.loop.invariant.sound t c.loop.invariant.covered (sym c.full_clock.ensures ∙ c.in_default-full_clock.is);
     }

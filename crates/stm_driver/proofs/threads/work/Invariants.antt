@@ -1,5 +1,5 @@
 use Rattle.stm_worker.specs.Workers.{IsSame, Sound}
-use Rattle.stm_driver.proofs.ThreadLaws.{KeepsPaid}
+use Rattle.stm_driver.proofs.ThreadLaws.{KeepsCovered}
 use Rattle.stm_driver.proofs.threads.work.Given as goal
 
 abbrev pub invariant-loop : goal.invariant-loop
@@ -8,5 +8,5 @@ invariant-loop g l = record {
   ends : (goal.iterator-loop g).is_finite l.iterator';
   sound : Sound (g.K.MemRule.good l.stm.rule) l.stm l.w;
   same : IsSame l.fn.w l.w;
-  paid : KeepsPaid l.stm l.fn.w l.w;
+  covered : KeepsCovered l.stm l.fn.w l.w;
 }

@@ -32,7 +32,7 @@ invariant_of-desc g c =
     let who : c.install.new.seat.me.0.who ≡ c.desc.inside.seat.me.0.who = who-of (install c.desc.inside.number c.desc.inside.local.fence c.args.alg) Nothing c.store_done.new.seat.me.0 word c.install.new.seat.me.0 c.install.ensures.step ∙ (who-of (store_done c.settle_for-clock.result) Nothing c.store_base.new.seat.me.0 c.settle_for-clock.result c.store_done.new.seat.me.0 c.store_done.ensures.step ∙ (who-of (store_base c.settle_for-clock.result) Nothing c.settle_for-clock.new.seat.me.0 c.settle_for-clock.result c.store_base.new.seat.me.0 c.store_base.ensures.step ∙ ap (λ (p : SeatView g.row.K.Denot). p.who) c.settle_for-clock.ensures.rest)) in
     let bare : c.install.new.seat.me.0.gathered ≡ c.desc.inside.seat.me.0.gathered = ap (λ (p : SeatView g.row.K.Denot). p.gathered) c.install.ensures.step.3 ∙ (ap (λ (p : SeatView g.row.K.Denot). p.gathered) c.store_done.ensures.step.3 ∙ (ap (λ (p : SeatView g.row.K.Denot). p.gathered) c.store_base.ensures.step.3 ∙ ap (λ (p : SeatView g.row.K.Denot). p.gathered) c.settle_for-clock.ensures.rest)) in
     let after = closing-installed c.desc.inside.seat.me.0.who.config.callers c.desc.inside.number c.desc.inside.local.fence c.args.alg c.desc.inside.local c.settle_for-clock.result c.desc.inside.seat.me.0.view c.settle_for-clock.new.seat.me.0.view c.store_base.new.seat.me.0.view c.store_done.new.seat.me.0.view c.install.new.seat.me.0.view
-    (closing-of (good_by g.K.MemRule.good c.desc.inside.seat.me.0.who.rule) c.desc.inside.seat.me.0.who.config c.desc.inside.number c.desc.inside.local c.desc.inside.seat.me.0.view holds.phase c.desc.invariant.1) c.requires.built c.settle_for-clock.ensures.settles (tells-of (store_base c.settle_for-clock.result) Nothing _ c.settle_for-clock.result _ c.store_base.ensures.step) (tells-of (store_done c.settle_for-clock.result) Nothing _ c.settle_for-clock.result _ c.store_done.ensures.step) (tells-of (install c.desc.inside.number c.desc.inside.local.fence c.args.alg) Nothing _ word _ c.install.ensures.step) in (
+    (closing-of (good_by g.K.MemRule.good c.desc.inside.seat.me.0.who.rule) c.desc.inside.seat.me.0.who.config c.desc.inside.number c.desc.inside.local c.desc.inside.seat.me.0.view holds.phase c.desc.invariant.1) c.settle_for-clock.ensures.settles (tells-of (store_base c.settle_for-clock.result) Nothing _ c.settle_for-clock.result _ c.store_base.ensures.step) (tells-of (store_done c.settle_for-clock.result) Nothing _ c.settle_for-clock.result _ c.store_done.ensures.step) (tells-of (install c.desc.inside.number c.desc.inside.local.fence c.args.alg) Nothing _ word _ c.install.ensures.step) in (
       record {
         named = ap (λ (p : Who g.row.K.Denot). p.role) who ∙ c.desc.invariant.0.named;
         low = subst (λ (p : Who g.row.K.Denot). c.desc.inside.number < p.config.callers) (sym who) c.desc.invariant.0.low;

@@ -1,6 +1,5 @@
 use Rattle.std.proofs.Common.{false, ℕ, ◌≡◌, ◌≢◌, ◌<◌, ◌∙◌, refl, subst, sym, ap, rules}
 use Rattle.std.specs.Prelude.{◌^◌, Ok, Err}
-use Rattle.stm_model.specs.Algorithms.{is_built}
 use Rattle.rule_base.specs.declared.seats.SeatView.{SeatView}
 use Rattle.rule_base.specs.declared.views.Phase.TheVariants.{Idle}
 use Rattle.rule_base.specs.Encodings.{alg_of, holder_of}
@@ -55,9 +54,6 @@ begin_under-requires-clause-view g c =
     let zero : holder_of gate ≡ 0 = search rules in
     subst (λ (a : Alg). CanBegin a t.view) (sym c.alg_of-algorithm.ensures)
     (can-begin (g.K.MemRule.good c.args.stm.now.rule) f d.number gate v.view s.view t.view out zero (tells-of (announce d.number) Nothing v 1 s c.announce.ensures.step) (tells-of load_gate (FindsGate f d.number) s gate t c.load_gate-gate.ensures.step))
-
-pub begin_under-requires-clause-built : goal.begin_under-requires-clause-built
-begin_under-requires-clause-built g c = ap is_built c.alg_of-algorithm.ensures ∙ c.load_gate-gate.ensures.step.1.built
 
 pub returns-in-Ok-clause-begins : goal.returns-in-Ok-clause-begins
 returns-in-Ok-clause-begins g c =

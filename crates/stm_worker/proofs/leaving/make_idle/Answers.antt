@@ -24,7 +24,7 @@ returns-in-Between g c =
 pub returns-in-Inside : goal.returns-in-Inside
 returns-in-Inside g c =
     let e = c.end_attempt.ensures in
-    made-idle (g.K.MemRule.good c.args.stm.now.rule) c.args.stm.now c.args.w.now c.requires c.end_attempt.new.desc e.same e.idle e.pays e.keeps (λ b. absurd (let x = sym c.in-Inside.is ∙ b in cc))
+    made-idle (g.K.MemRule.good c.args.stm.now.rule) c.args.stm.now c.args.w.now c.requires c.end_attempt.new.desc e.same e.idle e.owes e.keeps (λ b. absurd (let x = sym c.in-Inside.is ∙ b in cc))
 
 -- what was closed is given up
 opened : {K : Type 0} (good : List ℕ → Type 0) (stm : Stm K) (v : Worker K) → Sound good stm v → (d : Handle K) → IsSameCaller v.desc d → HoldsClosed (known v.desc) → Stays (known v.desc) (known d) → (v.phase ≡ Between → ⊥) → MadeIdle good stm v (record v { desc = d })

@@ -13,8 +13,8 @@ store-requires g c =
     let z = t.table.shared.table_id in
     let r = c.requires in
     let kind = core_kind g.D.Stepping.caller g.D.Stepping.step in
-    let word : ℕ = c.offset.result in
-    let here = c.offset.ensures ∙ ap (λ p. offset t.config p) r.place.0 in
+    let word : ℕ = c.place.result in
+    let here = c.place.ensures ∙ ap (λ p. offset t.config p) r.place.0 in
     let room = subst (λ p. InRange t.config p) r.place.0 r.place.1 in (
       r.seat.0,
       inside t.config kind word z.words here room t.sized.0,

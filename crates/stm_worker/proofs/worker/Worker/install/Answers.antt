@@ -4,7 +4,7 @@ use Rattle.stm_trace.specs.Turns.{MaySay}
 use Rattle.tx_answers.specs.Known.{caller_of}
 use Rattle.stm_tx.specs.Descs.{known}
 use Rattle.stm_worker.specs.Workers.{Turned}
-use Rattle.stm_worker.proofs.StandLaws.{same-twice, must-built}
+use Rattle.stm_worker.proofs.StandLaws.{same-twice}
 use Rattle.stm_worker.proofs.TurnLaws.{turned-switched, turned-besides, closed-now, quiet-now}
 use Rattle.stm_worker.proofs.worker.Worker.install.Goals as goal
 
@@ -40,11 +40,3 @@ install-requires-clause-quiet g c =
     let u = c.args.self.now in
     let s = c.requires.sound in
     quiet-now good stm u s c.requires.quiet
-
-pub install-requires-clause-built : goal.install-requires-clause-built
-install-requires-clause-built g c =
-    let good = g.K.MemRule.good c.args.stm.now.rule in
-    let stm = c.args.stm.now in
-    let u = c.args.self.now in
-    let s = c.requires.sound in
-    must-built good stm.config.words u.regions.now (caller_of u.desc.who.role) c.args.alg u.chosen u.items_left.now c.requires.to s.fits

@@ -20,7 +20,7 @@ returns-in-Ok g c =
     let u = c.args.self.now in
     let s = c.requires.sound in
     record {
-      turned = turned-operated good stm u s c.operate.new.desc c.operate.ensures.same c.args.op c.in-Ok.reply c.tail-self.result c.operate.new.out (u.wrote || c.writes.result) c.requires.comes c.requires.plain c.tail-self.ensures (ap (λ b. u.wrote || b) c.writes.ensures)
+      turned = turned-operated good stm u s c.operate.new.desc c.operate.ensures.same c.args.op c.in-Ok.reply c.args.later c.operate.new.out (u.wrote || c.writes.result) c.requires.comes c.requires.plain c.requires.later (ap (λ b. u.wrote || b) c.writes.ensures)
           c.in-Ok.ensures.goes.0 c.in-Ok.ensures.goes.1 c.in-Ok.ensures.gave c.in-Ok.ensures.explained c.in-Ok.ensures.told;
     }
 

@@ -4,6 +4,9 @@ use Rattle.tx_sums.specs.Sums.{IsSumMap, value, value_at, position_of, got_in}
 use Rattle.tx_sums.proofs.SumPuts.{got-none, got-some}
 use Rattle.tx_sums.proofs.sum_map.SumMap.get.Goals as goal
 
+pub find-requires-clause-well : goal.find-requires-clause-well
+find-requires-clause-well g c = λ m fine len ex. let h = c.requires.well m fine len ex in (h.0, h.1.shape)
+
 pub returns-then-position-eq0-clause-reply : goal.returns-then-position-eq0-clause-reply
 returns-then-position-eq0-clause-reply g c =
     let r = c.args.self.now in

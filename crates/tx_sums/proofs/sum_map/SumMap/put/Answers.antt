@@ -13,6 +13,9 @@ use Rattle.tx_sums.proofs.SumCalls.{does-then}
 use Rattle.tx_sums.proofs.sum_map.SumMap.put.Goals.{In_ok-write-in-Some-3, In_ok-mend-in-Some}
 use Rattle.tx_sums.proofs.sum_map.SumMap.put.Goals as goal
 
+pub find-requires-clause-well : goal.find-requires-clause-well
+find-requires-clause-well g c = λ m fine len ex. let h = c.requires.well m fine len ex in (h.0, h.1.shape)
+
 -- THE VALUE REPLACED
 pub replace-requires-clause-well : goal.replace-requires-clause-well
 replace-requires-clause-well g c = λ m fine len ex.

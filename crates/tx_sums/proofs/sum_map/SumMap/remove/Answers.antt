@@ -9,6 +9,9 @@ use Rattle.tx_sums.proofs.SumCalls.{does-then, does-both}
 use Rattle.tx_sums.proofs.SumTakes.{emptied-of, remove-none, remove-some}
 use Rattle.tx_sums.proofs.sum_map.SumMap.remove.Goals as goal
 
+pub find-requires-clause-well : goal.find-requires-clause-well
+find-requires-clause-well g c = λ m fine len ex. let h = c.requires.well m fine len ex in (h.0, h.1.shape)
+
 pub returns-then-position-eq0-clause-reply : goal.returns-then-position-eq0-clause-reply
 returns-then-position-eq0-clause-reply g c =
     let r = c.args.self.now in

@@ -10,7 +10,7 @@ use Rattle.tx_sums.proofs.sum_map.SumMap.take_least.Goals.{In_ok-least, In_ok-va
 use Rattle.tx_sums.proofs.sum_map.SumMap.take_least.Goals as goal
 
 pub leftmost-requires-clause-well : goal.leftmost-requires-clause-well
-leftmost-requires-clause-well g c = λ m fine len ex. let h = c.requires.well m fine len ex in record { well = h.well; at = h.right }
+leftmost-requires-clause-well g c = λ m fine len ex. let h = c.requires.well m fine len ex in record { well = (h.well.0, h.well.1.shape); at = h.right }
 
 found : (g : _) (c : In_ok-least g) → Shows (g.A.Access.good c.args.acc.now) (g.A.Access.words c.args.acc.now) (g.A.Access.log c.args.acc.now) (g.A.Access.log c.leftmost.new.acc) (Leaving c.args.self.now (g.A.Access.words c.args.acc.now) c.args.cell c.args.greater c.in_ok-least.least)
 found g c =

@@ -4,10 +4,10 @@ use Rattle.stm_model.specs.Overlays.{overlay-length}
 use Rattle.tx_effects.specs.Effects.{Shows, changed}
 use Rattle.tx_effects.specs.EffectLaws.{shows-read, shown, same-trans}
 use Rattle.tx_tree.specs.ShapeWalks.{cell-inside}
-use Rattle.tx_sums.specs.Sums.{pool, IsSumMap, HasRight, IsEmptied, left_at, right_at, spliced, least_taken, taken_in}
-use Rattle.tx_sums.proofs.SumWalks.{Walks, walks-shown, walks-turns, walks-end, wrote-here}
+use Rattle.tx_sums.specs.Sums.{pool, IsSumMap, HasRight, IsEmptied, left_at, right_at, least_taken, taken_in}
+use Rattle.tx_sums.proofs.SumWalks.{Walks, walks-end, wrote-here}
 use Rattle.tx_sums.proofs.SumCalls.{does-then}
-use Rattle.tx_sums.proofs.SumTakes.{Cutting, emptied-used, out-right, out-left, out-both}
+use Rattle.tx_sums.proofs.SumTakes.{Cutting, walks-cut, emptied-used, out-right, out-left, out-both}
 use Rattle.tx_sums.proofs.sum_map.SumMap.take_out.Goals.{In_ok-greater, In_ok-splice, In_ok-splice-2}
 use Rattle.tx_sums.proofs.sum_map.SumMap.take_out.Goals as goal
 
@@ -31,20 +31,9 @@ read-links g c =
 right-out-right : (g : _) (c : In_ok-splice g) → Shows (g.A.Access.good c.args.acc.now) (g.A.Access.words c.args.acc.now) (g.A.Access.log c.args.acc.now) (g.A.Access.log c.read-2.new.self) (Cutting c.args.self.now (g.A.Access.words c.args.acc.now) c.args.cell c.args.link c.in_ok-lesser.lesser c.in_ok-greater.greater)
     → Walks (g.A.Access.good c.args.acc.now) (g.A.Access.words c.args.acc.now) (g.A.Access.log c.args.acc.now) (g.A.Access.log c.splice.new.acc) (λ m z. (taken_in c.args.self.now c.args.cell c.args.link m ≡ changed true z) × IsSumMap c.args.self.now z)
 right-out-right g c reads =
-    let good = g.A.Access.good c.args.acc.now in
-    let words = g.A.Access.words c.args.acc.now in
-    let log = g.A.Access.log c.args.acc.now in
-    let r = c.args.self.now in
-    let x = c.args.cell in
-    let e = c.args.link in
-    let u = c.in_ok-lesser.lesser in
-    let v = c.in_ok-greater.greater in
     let w = c.requires.within in
-    let Q = λ (m : List ℕ). Cutting r words x e u v m in
-    let ws = c.in_ok-greater.ensures.value.0 ∙ c.in_ok-lesser.ensures.value.0 in
-    let w0 = walks-shown good words log (g.A.Access.log c.read-2.new.self) Q (λ m z. Q m × (z ≡ m)) reads ws (λ m h. (h, refl)) in
-    walks-turns good words log (g.A.Access.log c.read-2.new.self) (g.A.Access.log c.splice.new.acc) (λ m z. Q m × (z ≡ m)) (λ m z. (taken_in r x e m ≡ changed true z) × IsSumMap r z) (spliced r x e v) w0 c.in_ok-splice.ensures.turns
-    (λ m z h. let l = h.0.long in subst (λ i. (taken_in r x e m ≡ changed true (spliced r x e v i)) × IsSumMap r (spliced r x e v i)) (sym h.1) (out-right r m x e u v h.0.well (omega arith) h.0.left c.if-lesser-eq0.true h.0.right))
+    walks-cut (g.A.Access.good c.args.acc.now) (g.A.Access.words c.args.acc.now) (g.A.Access.log c.args.acc.now) (g.A.Access.log c.read-2.new.self) (g.A.Access.log c.splice.new.acc) c.args.self.now c.args.cell c.args.link c.in_ok-lesser.lesser c.in_ok-greater.greater c.in_ok-greater.greater reads (c.in_ok-greater.ensures.value.0 ∙ c.in_ok-lesser.ensures.value.0) c.in_ok-splice.ensures.turns
+    (λ m h. let l = h.long in out-right c.args.self.now m c.args.cell c.args.link _ _ h.well (omega arith) h.left c.if-lesser-eq0.true h.right)
 
 pub returns-then-lesser-eq0-clause-reply : goal.returns-then-lesser-eq0-clause-reply
 returns-then-lesser-eq0-clause-reply g c =
@@ -63,21 +52,10 @@ returns-then-lesser-eq0-clause-well g c =
 left-out-left : (g : _) (c : In_ok-splice-2 g) → Shows (g.A.Access.good c.args.acc.now) (g.A.Access.words c.args.acc.now) (g.A.Access.log c.args.acc.now) (g.A.Access.log c.read-2.new.self) (Cutting c.args.self.now (g.A.Access.words c.args.acc.now) c.args.cell c.args.link c.in_ok-lesser.lesser c.in_ok-greater.greater)
     → Walks (g.A.Access.good c.args.acc.now) (g.A.Access.words c.args.acc.now) (g.A.Access.log c.args.acc.now) (g.A.Access.log c.splice-then-greater-eq0.new.acc) (λ m z. (taken_in c.args.self.now c.args.cell c.args.link m ≡ changed true z) × IsSumMap c.args.self.now z)
 left-out-left g c reads =
-    let good = g.A.Access.good c.args.acc.now in
-    let words = g.A.Access.words c.args.acc.now in
-    let log = g.A.Access.log c.args.acc.now in
-    let r = c.args.self.now in
-    let x = c.args.cell in
-    let e = c.args.link in
-    let u = c.in_ok-lesser.lesser in
-    let v = c.in_ok-greater.greater in
     let w = c.requires.within in
-    let d : u ≢ 0 = (let z = c.if-lesser-eq0.false in λ i. absurd (omega arith)) in
-    let Q = λ (m : List ℕ). Cutting r words x e u v m in
-    let ws = c.in_ok-greater.ensures.value.0 ∙ c.in_ok-lesser.ensures.value.0 in
-    let w0 = walks-shown good words log (g.A.Access.log c.read-2.new.self) Q (λ m z. Q m × (z ≡ m)) reads ws (λ m h. (h, refl)) in
-    walks-turns good words log (g.A.Access.log c.read-2.new.self) (g.A.Access.log c.splice-then-greater-eq0.new.acc) (λ m z. Q m × (z ≡ m)) (λ m z. (taken_in r x e m ≡ changed true z) × IsSumMap r z) (spliced r x e u) w0 c.in_ok-splice-2.ensures.turns
-    (λ m z h. let l = h.0.long in subst (λ i. (taken_in r x e m ≡ changed true (spliced r x e u i)) × IsSumMap r (spliced r x e u i)) (sym h.1) (out-left r m x e u v h.0.well (omega arith) h.0.left d h.0.right c.if-greater-eq0.true))
+    let z = c.if-lesser-eq0.false in
+    walks-cut (g.A.Access.good c.args.acc.now) (g.A.Access.words c.args.acc.now) (g.A.Access.log c.args.acc.now) (g.A.Access.log c.read-2.new.self) (g.A.Access.log c.splice-then-greater-eq0.new.acc) c.args.self.now c.args.cell c.args.link c.in_ok-lesser.lesser c.in_ok-greater.greater c.in_ok-lesser.lesser reads (c.in_ok-greater.ensures.value.0 ∙ c.in_ok-lesser.ensures.value.0) c.in_ok-splice-2.ensures.turns
+    (λ m h. let l = h.long in out-left c.args.self.now m c.args.cell c.args.link _ _ h.well (omega arith) h.left (λ i. absurd (omega arith)) h.right c.if-greater-eq0.true)
 
 pub returns-then-greater-eq0-clause-reply : goal.returns-then-greater-eq0-clause-reply
 returns-then-greater-eq0-clause-reply g c =

@@ -1,0 +1,107 @@
+-- What the marks of an attempt of OrecLazy come to.
+use Rattle.std.proofs.Common.{ℕ, ◌≡◌, ◌<◌, ◌≤◌, ◌+◌, ◌-◌, List, [], ◌∷◌, ◌++◌, length, take, Bool, true, false, refl, sym, ap, ◌∙◌, arith, subst}
+use Rattle.std.specs.Prelude.{◌||◌, not}
+use Rattle.stm_model.specs.Algorithms.{has_records}
+use Rattle.stm_model.specs.declared.alg.Alg.{Alg}
+use Rattle.stm_model.specs.declared.alg.Alg.TheVariants.{OrecLazy}
+use Rattle.stm_model.specs.declared.config.Config.{Config}
+use Rattle.stm_model.specs.Memories.{is_empty, Once}
+use Rattle.rule_base.specs.declared.entries.Cell.{Cell}
+use Rattle.rule_base.specs.declared.views.View.{View}
+use Rattle.rule_base.specs.Bridge.{items}
+use Rattle.stm_rule.specs.declared.local.Local.{Local}
+use Rattle.stm_rule.specs.Attempts.{Keeps, Stands, own_of}
+use Rattle.stm_rule.specs.RecordsKept.{IsLazy, IsWriteSet, HasMarks}
+use Rattle.tx_answers.specs.declared.answers.Check.TheVariants.{Marked}
+use Rattle.tx_answers.specs.declared.answers.Roll.TheVariants.{Rolled}
+use Rattle.tx_answers.specs.Answers.{Checks, Rolls}
+use Rattle.tx_answers.specs.Known.{Known, known_of, written_under, keeps_records}
+use Rattle.tx_logs.specs.declared.marks.TheConstants.{MAX_MARKS}
+use Rattle.tx_logs.specs.LogStates.{LogState, rolled}
+use Rattle.stm_gate.specs.MarkLaws.{marks-take, marks-more}
+use Rattle.alg_orec.proofs.Cells.{items-cells}
+use Rattle.alg_orec.proofs.NestingOpening.{GoesOn, inside-with, stands-with, marks-log, rolls-log}
+use Rattle.alg_orec.proofs.Proving.{lazy-of}
+
+-- an attempt that was not promoted
+module _ {good : List ℕ → Type 0} {c : Config} {n : ℕ} {l : Local} {v : View} {q : Known} (a : GoesOn good c n l v q) (named : q.alg ≡ OrecLazy) (plain : l.granted ≡ false) where
+  lazy : v.gate.algorithm ≡ OrecLazy
+  lazy = ap (λ (p : Known). p.alg) (sym a.knows) ∙ named
+
+  pub kept : IsLazy c l v
+  kept = lazy-of good c n l v a.inside (sym a.inside.named ∙ lazy) plain
+
+  abbrev k : IsLazy c l v
+  k = kept
+
+  abbrev with_log : LogState → Bool → ℕ → Local
+  with_log log wrote d = record l { writes = log; wrote = wrote; depth = d }
+
+  written-now : (log : LogState) (wrote : Bool) (d : ℕ) → Once log.items → written_under v.gate.algorithm v.gate.granted v (own_of (with_log log wrote d)) ≡ log.items
+  written-now log wrote d once = (λ j. written_under (lazy j) (k.optimistic.ungranted j) v (own_of (with_log log wrote d))) ∙ items-cells log.items once
+
+  set-before : IsWriteSet c l.fence l.writes.items
+  set-before = record { once = k.buffers.once; inside = k.buffers.inside; small = k.buffers.small; apart = k.buffers.apart }
+
+  keeps-with : (log : LogState) (wrote : Bool) (d : ℕ) → IsWriteSet c l.fence log.items → wrote ≡ not (is_empty log.items) → HasMarks c l.fence log.marks d → Keeps c l.algorithm l.granted (with_log log wrote d) v
+  keeps-with log wrote d set some marks = subst (λ (a : Alg). Keeps c a l.granted (with_log log wrote d) v) (sym (sym a.inside.named ∙ lazy)) (subst (λ (b : Bool). Keeps c OrecLazy b (with_log log wrote d) v) (sym plain) keeps)
+    where
+      keeps : IsLazy c (with_log log wrote d) v
+      keeps = record {
+        optimistic = k.optimistic;
+        buffers = record { wrote = some; once = set.once; inside = set.inside; small = set.small; apart = set.apart };
+        inside = k.inside;
+        lazy = k.lazy;
+        open_yet = k.open_yet;
+        unraised = k.unraised;
+        unplaced = k.unplaced;
+        undone = k.undone;
+        repaid = k.repaid;
+        unsampled = k.unsampled;
+        unchecked = k.unchecked;
+        reads = k.reads;
+        locks = k.locks;
+        places = k.places;
+        few = (let e : length l.locks.items ≡ 0 = ap length k.locks ∙ ap (λ (cs : List Cell). length (items cs)) (k.open_handed a.quiet) in omega arith);
+        versions = k.versions;
+        open_handed = k.open_handed;
+        locked = λ e. absurd (let f : false ≡ true = sym a.quiet ∙ e in cc);
+        committing = λ e. absurd (let f : false ≡ true = sym a.quiet ∙ e in cc);
+        marked = marks;
+        olds = λ e. absurd (let f : false ≡ true = sym a.quiet ∙ e in cc);
+        sole = k.sole;
+      }
+
+  -- the same was written
+  keeps-same : (log : LogState) (d : ℕ) → log.items ≡ l.writes.items → HasMarks c l.fence log.marks d → Keeps c l.algorithm l.granted (record l { writes = log; depth = d }) v
+  keeps-same log d same = keeps-with log l.wrote d (subst (IsWriteSet c l.fence) (sym same) set-before) (k.buffers.wrote ∙ ap (λ (ws : List (ℕ × ℕ)). not (is_empty ws)) (sym same))
+
+  -- A MARK
+  pub marks : (log : LogState) → log ≡ record l.writes { marks = l.writes.marks ++ l.writes.items ∷ [] } → l.depth < MAX_MARKS → Checks (Marked (l.depth + 1)) q (known_of v (own_of (record l { writes = log; depth = l.depth + 1 })))
+  marks = marks-log a k.marked.count (written-now l.writes l.wrote l.depth k.buffers.once)
+
+  pub stands-marked : (log : LogState) → log ≡ record l.writes { marks = l.writes.marks ++ l.writes.items ∷ [] } → Stands good c n (record l { writes = log; depth = l.depth + 1 }) v
+  stands-marked log is = stands-with a log l.wrote (l.depth + 1) (ap (λ (q : LogState). q.len) is) (keeps-same log (l.depth + 1) (ap (λ (q : LogState). q.items) is)
+      (subst (λ (ms : List (List (ℕ × ℕ))). HasMarks c l.fence ms (l.depth + 1)) (sym (ap (λ (q : LogState). q.marks) is)) (marks-more c l.fence l.writes.marks l.depth l.writes.items k.marked set-before)))
+
+  -- A RELEASE
+  pub stands-released : (log : LogState) (d : ℕ) → 1 ≤ d → d ≤ l.depth → log ≡ record l.writes { marks = take (d - 1) l.writes.marks } → Stands good c n (record l { writes = log; depth = d - 1 }) v
+  stands-released log d low high is = stands-with a log l.wrote (d - 1) (ap (λ (q : LogState). q.len) is) (keeps-same log (d - 1) (ap (λ (q : LogState). q.items) is)
+      (subst (λ (ms : List (List (ℕ × ℕ))). HasMarks c l.fence ms (d - 1)) (sym (ap (λ (q : LogState). q.marks) is)) (marks-take c l.fence l.writes.marks l.depth (d - 1) k.marked (omega arith))))
+
+  -- A ROLL BACK
+  module _ (log : LogState) (wrote : Bool) (d : ℕ) (low : 1 ≤ d) (high : d ≤ l.depth) (is : log ≡ rolled d l.writes) (some : wrote ≡ not (is_empty log.items)) where
+    abbrev m : Local
+    m = with_log log wrote d
+
+    set : IsWriteSet c l.fence log.items
+    set = subst (IsWriteSet c l.fence) (sym (ap (λ (q : LogState). q.items) is)) (k.marked.sound (d - 1) (let h = k.marked.count in omega arith))
+
+    keeps : Keeps c l.algorithm l.granted m v
+    keeps = keeps-with log wrote d set some (subst (λ (ms : List (List (ℕ × ℕ))). HasMarks c l.fence ms d) (sym (ap (λ (q : LogState). q.marks) is)) (marks-take c l.fence l.writes.marks l.depth d k.marked high))
+
+    pub stands-rolled : Stands good c n (record l { writes = log; wrote = wrote; depth = d }) v
+    stands-rolled = stands-with a log wrote d (ap (λ (q : LogState). q.len) is) keeps
+
+    pub rolls-back : Rolls good c n d Rolled (known_of v (own_of l)) (known_of v (own_of (record l { writes = log; wrote = wrote; depth = d })))
+    rolls-back = rolls-log a (ap has_records lazy) plain log l.undo wrote d l.retains v.owned.in_place v.owned.undo [] is (let h = k.marked.count in omega arith) refl (ap (λ (a : Alg). keeps_records a || l.retains) (sym lazy)) (written-now log wrote d set.once) (inside-with a log wrote d keeps)

@@ -1,0 +1,157 @@
+//! The end of an attempt: its commit, and what cancels it.
+ghost use Rattle.stm_rule.specs.Counting.{TakesAtMost};
+ghost use Rattle.tx_answers.specs.Counting.{AddsAtMost};
+ghost use Rattle.std.specs.Prelude.{◌≡◌, ℕ, ◌<◌, ◌≤◌, true, false, ◌+◌, ◌*◌, length};
+ghost use Rattle.stm_model.specs.declared.alg.Alg.TheVariants.{OrecLazy};
+ghost use Rattle.stm_rule.specs.Attempts.{IsFenceOf, own_of, Stands, ended};
+ghost use Rattle.stm_rule.specs.Callers.{IsOf, IsSameCaller, IsSeatOf};
+ghost use Rattle.stm_gate.specs.Knowing.{known, number};
+ghost use Rattle.stm_rule.specs.Kept.{IsSameSeat, view_of};
+ghost use Rattle.tx_answers.specs.Answers.{KeepsRule, Commits, Cancels};
+ghost use Rattle.tx_answers.specs.Known.{known_of};
+ghost use Rattle.alg_orec.specs.Committing.{CanCommit, Prepares, CanFinish};
+ghost use Rattle.alg_orec.specs.Ending.{GivesUp};
+
+use crate::lazy_ending::roll_back;
+use crate::locking::{lock_all, release_all, write_back_all};
+use crate::validate::validate;
+use steps_orec::lazy;
+use stm_gate::direct::direct_commit;
+use stm_gate::leave::leave;
+use stm_model::config::CLOCK_LIMIT;
+use stm_model::rule::MemRule;
+use stm_model::stop::Cause;
+use stm_rule::desc::Desc;
+use stm_rule::local::Local;
+use stm_rule::stm::{Stm, Token};
+use tx_answers::answers::{Cancel, Commit};
+
+/// Commits the attempt: what it wrote becomes one entry of the history, unless another transaction came in between.
+/// Where it wrote nothing, one step, two where it holds the gate; else those of `commit_writes`.
+pub fn commit<K: MemRule>(desc: &mut Desc<K>, stm: &Stm<K>) -> Commit
+    requires stm { IsOf desc.old stm.now }
+    requires running { (known desc.old).running ≡ true }
+    requires algorithm { (known desc.old).alg ≡ OrecLazy }
+    requires keeps { KeepsRule (K.good stm.now.rule) stm.now.config (number desc.old) (known desc.old) }
+    ensures same { IsSameCaller desc.old desc.new }
+    ensures commits { Commits (K.good stm.now.rule) stm.now.config (number desc.old) result (known desc.old) (known desc.new) }
+    ensures steps { AddsAtMost (5 + (known desc.old).reads_limit + 4 * (known desc.old).writes_limit) (known desc.old) (known desc.new) }
+{
+    if desc.local.granted {
+        return direct_commit(desc, stm);
+    }
+    let caller = desc.number;
+    if !desc.local.wrote {
+        let time = desc.local.start;
+        leave(&mut desc.seat, &mut desc.local, stm, caller);
+        return Commit::ReadOnly { time };
+    }
+    commit_writes(&mut desc.seat, &mut desc.local, stm, caller)
+}
+
+/// Takes the attempt back, unless it is irrevocable. The steps of a rollback.
+pub fn cancel<K: MemRule>(desc: &mut Desc<K>, stm: &Stm<K>) -> Cancel
+    requires stm { IsOf desc.old stm.now }
+    requires running { (known desc.old).running ≡ true }
+    requires algorithm { (known desc.old).alg ≡ OrecLazy }
+    ensures same { IsSameCaller desc.old desc.new }
+    ensures cancels { Cancels (K.good stm.now.rule) stm.now.config (number desc.old) result (known desc.old) (known desc.new) }
+    ensures steps { AddsAtMost (2 + (known desc.old).writes_limit) (known desc.old) (known desc.new) }
+{
+    if desc.local.granted {
+        return Cancel::Irrevocable;
+    }
+    let caller = desc.number;
+    let time = desc.local.start;
+    roll_back(&mut desc.seat, &mut desc.local, stm, caller);
+    Cancel::Cancelled { time }
+}
+
+/// Commits what the attempt wrote, or goes on with a commit that answered Again. The steps of `prepare`, one for the
+/// entry, and one for each word and each record.
+pub(crate) fn commit_writes<K: MemRule>(
+    seat: &mut Token<K>,
+    local: &mut Local,
+    stm: &Stm<K>,
+    caller: usize,
+) -> Commit
+    requires seat { IsSeatOf stm.now caller seat.old }
+    requires caller { caller < stm.now.config.callers }
+    requires attempt { CanCommit (K.good stm.now.rule) stm.now.config caller local.old (view_of seat.old) }
+    requires keeps { KeepsRule (K.good stm.now.rule) stm.now.config caller (known_of (view_of seat.old) (own_of local.old)) }
+    ensures same { IsSameSeat seat.old seat.new × (seat.new.me.0 ≡ record seat.old.me.0 { view = view_of seat.new }) }
+    ensures commits { Commits (K.good stm.now.rule) stm.now.config caller result (known_of (view_of seat.old) (own_of local.old)) (known_of (view_of seat.new) (own_of local.new)) }
+    ensures stands { Stands (K.good stm.now.rule) stm.now.config caller local.new (view_of seat.new) }
+    ensures steps { TakesAtMost (5 + local.old.reads.len + 4 * local.old.writes.len) (view_of seat.old) (view_of seat.new) }
+{
+    if let Err(cause) = prepare(seat, local, stm, caller) {
+        roll_back(seat, local, stm, caller);
+        return Commit::Conflict(cause);
+    }
+    let start = local.start;
+    if start >= CLOCK_LIMIT {
+        let clock = lazy::limit(stm, seat, caller);
+        roll_back(seat, local, stm, caller);
+        return Commit::ClockFull { clock };
+    }
+    let now = lazy::commit(stm, seat, caller, start, &local.writes);
+    if now != start {
+        local.committing = true;
+        return Commit::Again {
+            word: 0,
+            had: start,
+            now,
+        };
+    }
+    finish(seat, local, stm, caller, start + 1);
+    Commit::Committed { time: start + 1 }
+}
+
+/// Takes the records of what was written, in the first call of a commit, and validates where one was newer than the
+/// start, and in a later call.
+fn prepare<K: MemRule>(
+    seat: &mut Token<K>,
+    local: &mut Local,
+    stm: &Stm<K>,
+    caller: usize,
+) -> Result<(), Cause>
+    requires seat { IsSeatOf stm.now caller seat.old }
+    requires caller { caller < stm.now.config.callers }
+    requires attempt { CanCommit (K.good stm.now.rule) stm.now.config caller local.old (view_of seat.old) }
+    ensures same { IsSameSeat seat.old seat.new × (seat.new.me.0 ≡ record seat.old.me.0 { view = view_of seat.new }) }
+    ensures prepares { Prepares (K.good stm.now.rule) stm.now.config caller result local.old (view_of seat.old) local.new (view_of seat.new) }
+    ensures steps { TakesAtMost (1 + local.old.reads.len + 2 * local.old.writes.len) (view_of seat.old) (view_of seat.new) }
+{
+    if local.committing {
+        return validate(seat, local, stm, caller);
+    }
+    let newest = lock_all(seat, local, stm, caller)?;
+    if newest > local.start {
+        return validate(seat, local, stm, caller);
+    }
+    Ok(())
+}
+
+/// Stores what was written in the heap, gives the records back, and ends the attempt, whose entry has this time.
+fn finish<K: MemRule>(
+    seat: &mut Token<K>,
+    local: &mut Local,
+    stm: &Stm<K>,
+    caller: usize,
+    time: u64,
+)
+    requires seat { IsSeatOf stm.now caller seat.old }
+    requires caller { caller < stm.now.config.callers }
+    requires limit { time ≤ CLOCK_LIMIT }
+    requires view { CanFinish stm.now.config time local.old (view_of seat.old) }
+    requires fence { IsFenceOf local.old (view_of seat.old) }
+    ensures same { IsSameSeat seat.old seat.new × (seat.new.me.0 ≡ record seat.old.me.0 { view = view_of seat.new }) }
+    ensures finishes { GivesUp caller (view_of seat.old) (view_of seat.new) }
+    ensures idle { local.new ≡ ended (record local.old { committing = false }) }
+    ensures steps { TakesAtMost (2 + local.old.writes.len + length local.old.locks.items) (view_of seat.old) (view_of seat.new) }
+{
+    write_back_all(seat, local, stm, caller);
+    release_all(seat, local, stm, caller, time);
+    local.committing = false;
+    leave(seat, local, stm, caller);
+}
