@@ -1,8 +1,8 @@
-//! The law of payments, at a rule.
+//! The law of rises, at a rule.
 use stm_model::rule::AnyMem;
-use stm_worker::laws::turns_pay;
+use stm_worker::laws::turns_cover;
 
 #[test]
 fn holds_for_any_memory() {
-    turns_pay(&AnyMem);
+    turns_cover(&AnyMem);
 }
