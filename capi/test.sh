@@ -36,11 +36,13 @@ found=
 for cc in gcc clang; do
     has $cc || continue
     found=yes
-    for example in bank misuse cost whole; do
+    for example in bank misuse cost whole alone stops; do
         try "$cc doesn't compile $example.c" $cc -std=c11 -O2 -Wall -Wextra -Werror -pedantic -I"$here/include" "$here/examples/$example.c" "$archive" -lpthread -o "$room/$example-$cc"
     done
     try "misuse.c by $cc" "$room/misuse-$cc"
     try "whole.c by $cc" "$room/whole-$cc"
+    try "alone.c by $cc: a call that must be alone didn't come through, or looked back" "$room/alone-$cc"
+    try "stops.c by $cc: a body that stopped left something" "$room/stops-$cc"
     try "cost.c by $cc" "$room/cost-$cc" bank OrecLazy 2 2000
     for algorithm in CGL TML OrecLazy OrecEager RingSW Serial; do
         for threads in 3 15; do

@@ -31,7 +31,8 @@ static void outside(uint32_t status)
     IS(nekchhaul_drop_marks(&c[0], 1), status);
     IS(v != 77 || depth != 77, 0);
 }
-static void inside(uint32_t status)
+/* The calls for a caller in no attempt; where it `gives`, it has closed the gate to give its range back. */
+static void inside(uint32_t status, int gives)
 {
     uint64_t v = 77, words[4] = { 77, 77, 77, 77 };
     IS(nekchhaul_begin(&c[0]), status);
@@ -39,10 +40,10 @@ static void inside(uint32_t status)
     IS(nekchhaul_fence(&c[0], 0, 1), status);
     IS(nekchhaul_direct_read(&c[0], 0, &v), status);
     IS(nekchhaul_direct_write(&c[0], 0, 1), status);
-    IS(nekchhaul_give_back(&c[0]), status);
+    if (!gives) IS(nekchhaul_give_back(&c[0]), status);
     IS(nekchhaul_close(&c[0], words, 4), status);
     IS(nekchhaul_learn(&c[0], &c[1]), status);
-    IS(nekchhaul_learn(&c[1], &c[0]), status);
+    if (!gives) IS(nekchhaul_learn(&c[1], &c[0]), status); /* else c[1] is in an attempt */
     IS(nekchhaul_reserve(&c[0], 8, 8), status);
     IS(nekchhaul_release(&c[0]), status);
     IS(v != 77 || words[0] != 77, 0);
@@ -81,7 +82,7 @@ static void attempts(void)
     nekchhaul_state_of state;
     nekchhaul_cause cause;
     IS(nekchhaul_begin(&c[0]), 0);
-    inside(NEKCHHAUL_IN_ATTEMPT);
+    inside(NEKCHHAUL_IN_ATTEMPT, 0);
     IS(nekchhaul_read(&c[0], 4, &v), NEKCHHAUL_ADDRESS);
     IS(nekchhaul_read(&c[0], SIZE_MAX, &v), NEKCHHAUL_ADDRESS);
     IS(nekchhaul_write(&c[0], 4, 1), NEKCHHAUL_ADDRESS);
@@ -111,7 +112,8 @@ static void attempts(void)
     IS(nekchhaul_state(&c[0], &state), 0);
     IS(state.stand != 1 || state.algorithm != NEKCHHAUL_OREC_LAZY || !state.irrevocable || state.marks || state.range, 0);
     IS(nekchhaul_begin(&c[1]), NEKCHHAUL_GATE_CLOSED);
-    IS(nekchhaul_switch(&c[1], NEKCHHAUL_TML), NEKCHHAUL_BUSY);
+    IS(nekchhaul_switch(&c[1], NEKCHHAUL_TML), NEKCHHAUL_GATE_CLOSED);
+    IS(nekchhaul_reopen(&c[1]), NEKCHHAUL_NOT_CLOSING);
     IS(nekchhaul_commit(&c[0]), 0);
     outside(NEKCHHAUL_NO_ATTEMPT);
     IS(nekchhaul_switch(&c[0], NEKCHHAUL_OREC_EAGER), 0);
@@ -150,6 +152,7 @@ static void ranges(void)
 {
     uint64_t v = 77, words[5] = { 77, 77, 77, 77, 77 };
     nekchhaul_cause cause;
+    nekchhaul_state_of state;
     IS(nekchhaul_fence(&c[0], 0, 0), NEKCHHAUL_ADDRESS);
     IS(nekchhaul_fence(&c[0], 4, 1), NEKCHHAUL_ADDRESS);
     IS(nekchhaul_fence(&c[0], SIZE_MAX, 2), NEKCHHAUL_ADDRESS);
@@ -170,10 +173,21 @@ static void ranges(void)
     IS(nekchhaul_read(&c[1], 1, &v), NEKCHHAUL_FENCED);
     IS(nekchhaul_write(&c[1], 1, 1), NEKCHHAUL_FENCED);
     IS(nekchhaul_read(&c[1], 2, &v), 0);
+    IS(nekchhaul_state(&c[1], &state), 0);
+    IS(state.stand != 1 || state.range != 2, 0);
     IS(nekchhaul_give_back(&c[0]), NEKCHHAUL_BUSY);
     IS(nekchhaul_why(&c[0], &cause), 0);
     IS(cause.status != NEKCHHAUL_BUSY || cause.first != 1, 0);
+    IS(nekchhaul_state(&c[0], &state), 0);
+    IS(state.stand != 3 || state.range != 1, 0);
+    inside(NEKCHHAUL_CLOSING, 1);
+    outside(NEKCHHAUL_CLOSING);
+    IS(nekchhaul_give_back(&c[0]), NEKCHHAUL_BUSY);
+    IS(nekchhaul_reopen(&c[0]), 0);
+    IS(nekchhaul_reopen(&c[0]), NEKCHHAUL_NOT_CLOSING);
+    IS(nekchhaul_give_back(&c[0]), NEKCHHAUL_BUSY);
     IS(nekchhaul_commit(&c[1]), 0);
+    IS(nekchhaul_begin(&c[1]), NEKCHHAUL_GATE_CLOSED);
     IS(nekchhaul_give_back(&c[0]), 0);
     IS(nekchhaul_close(&c[0], words, 3), NEKCHHAUL_ROOM);
     IS(words[0] != 77, 0);
@@ -230,15 +244,52 @@ static void loops(void)
     IS(nekchhaul_open(&sizes, NEKCHHAUL_SERIAL, c, 2), 0);
     IS(nekchhaul_atomically(&c[0], misuses, &far), NEKCHHAUL_ADDRESS);
     IS(nekchhaul_atomically(&c[0], stops, &word), NEKCHHAUL_STOP + 3);
+    IS(nekchhaul_take_range(&c[1], 1, 1), 0);
+    IS(nekchhaul_atomically(&c[0], stops, &word), NEKCHHAUL_RANGE_TAKEN);
+    IS(nekchhaul_atomically(&c[1], stops, &word), NEKCHHAUL_RANGE_TAKEN);
+    IS(nekchhaul_return_range(&c[1]), 0);
     IS(nekchhaul_install(&c[0], NEKCHHAUL_CGL), 0);
-    IS(nekchhaul_atomically(&c[0], misuses, &far), NEKCHHAUL_IRREVOCABLE);
-    IS(nekchhaul_atomically(&c[0], stops, &word), NEKCHHAUL_IRREVOCABLE);
-    IS(nekchhaul_close(&c[1], words, 4), 0);
+    IS(nekchhaul_atomically(&c[0], stops, &word), NEKCHHAUL_UNCANCELLABLE);
+    IS(nekchhaul_atomically_for_good(&c[0], misuses, &far), NEKCHHAUL_IRREVOCABLE);
+    IS(nekchhaul_install(&c[0], NEKCHHAUL_TML), 0);
+    IS(nekchhaul_atomically(&c[0], stops, &word), NEKCHHAUL_UNCANCELLABLE);
+    IS(nekchhaul_atomically_for_good(&c[0], stops, &word), NEKCHHAUL_IRREVOCABLE);
+    IS(nekchhaul_take_range(&c[1], 1, 1), 0);
+    IS(nekchhaul_atomically_for_good(&c[0], stops, &word), NEKCHHAUL_RANGE_TAKEN);
+    IS(nekchhaul_return_range(&c[1]), 0);
+    IS(nekchhaul_begin(&c[0]), 0);
+    IS(nekchhaul_install_within(&c[1], NEKCHHAUL_SERIAL, 3), NEKCHHAUL_BUSY);
+    IS(nekchhaul_take_range_within(&c[1], 1, 1, 2), NEKCHHAUL_BUSY);
+    IS(nekchhaul_end_within(&c[1], words, 4, 1), NEKCHHAUL_BUSY);
+    IS(nekchhaul_reopen(&c[1]), NEKCHHAUL_NOT_CLOSING);
+    IS(nekchhaul_commit(&c[0]), 0);
+    IS(nekchhaul_end(&c[1], words, 4), 0);
     IS(words[0] != 8, 0);
     nekchhaul_caller moved = nekchhaul_move(&c[1]);
     IS(nekchhaul_begin(&c[1]), NEKCHHAUL_NO_CALLER);
     IS(nekchhaul_release(&moved), 0);
     IS(nekchhaul_release(&c[0]), 0);
+}
+
+/* At the clock's limit a range isn't given back: its words are read directly, all others by attempts. */
+static void full_clock(void)
+{
+    nekchhaul_sizes s = sizes;
+    uint64_t v = 77;
+    s.clock = (uint64_t)1 << 62;
+    IS(nekchhaul_open(&s, NEKCHHAUL_OREC_LAZY, c, 2), 0);
+    IS(nekchhaul_take_range(&c[0], 1, 2), 0);
+    IS(nekchhaul_direct_write(&c[0], 1, 9), 0);
+    IS(nekchhaul_return_range(&c[0]), NEKCHHAUL_CLOCK_FULL);
+    IS(nekchhaul_direct_read(&c[0], 1, &v), 0);
+    IS(v != 9, 0);
+    IS(nekchhaul_begin(&c[0]), 0);
+    IS(nekchhaul_read(&c[0], 1, &v), NEKCHHAUL_FENCED);
+    IS(nekchhaul_read(&c[0], 3, &v), 0);
+    IS(v != 0, 0);
+    IS(nekchhaul_commit(&c[0]), 0);
+    IS(nekchhaul_release(&c[0]), 0);
+    IS(nekchhaul_release(&c[1]), 0);
 }
 
 int main(void)
@@ -248,7 +299,7 @@ int main(void)
     nekchhaul_cause cause;
     IS(nekchhaul_version(), 65536u * NEKCHHAUL_VERSION_MAJOR + NEKCHHAUL_VERSION_MINOR);
     outside(NEKCHHAUL_NO_CALLER);
-    inside(NEKCHHAUL_NO_CALLER);
+    inside(NEKCHHAUL_NO_CALLER, 0);
     IS(nekchhaul_state(&c[0], &state), NEKCHHAUL_NO_CALLER);
     IS(nekchhaul_why(&c[0], &cause), NEKCHHAUL_NO_CALLER);
     opening();
@@ -267,5 +318,6 @@ int main(void)
     IS(nekchhaul_release(&c[0]), NEKCHHAUL_NO_CALLER);
     IS(nekchhaul_release(&c[1]), 0);
     loops();
+    full_clock();
     return wrong;
 }

@@ -32,7 +32,7 @@
 #include <stdint.h>
 
 #define NEKCHHAUL_VERSION_MAJOR 1
-#define NEKCHHAUL_VERSION_MINOR 0
+#define NEKCHHAUL_VERSION_MINOR 1
 
 #ifdef __cplusplus
 extern "C" {
@@ -52,13 +52,16 @@ typedef enum nekchhaul_status {
     NEKCHHAUL_CONFLICT = 1,     /* over: another transaction came in between */
     NEKCHHAUL_GATE_CLOSED = 2,  /* another caller switches, is irrevocable, or takes a range: pause, and ask again */
     NEKCHHAUL_HELD = 3,         /* of begin: another attempt has the lock: pause, and begin again */
-    NEKCHHAUL_BUSY = 4,         /* others are in attempts: pause, and ask again */
+    NEKCHHAUL_BUSY = 4,         /* others are in attempts: pause, and ask again. Of switch, fence, give_back and close: the
+                                   gate stays closed meanwhile, so that no attempt begins; the same call goes on */
     NEKCHHAUL_AGAIN = 5,        /* of commit: another commit was faster: commit again, or cancel */
     NEKCHHAUL_LOG_FULL = 6,     /* over: a log has its length: reserve, or become irrevocable first */
-    NEKCHHAUL_CLOCK_FULL = 7,   /* over: the clock is at 2^62: close this memory, and open another */
+    NEKCHHAUL_CLOCK_FULL = 7,   /* over: the clock is at 2^62, and nothing more is committed: close this memory, and open
+                                   another. Of give_back: the range stays with its caller (docs/C.md: how to get at the words) */
     NEKCHHAUL_IRREVOCABLE = 8,  /* of cancel and roll_to: the attempt can only be committed */
     NEKCHHAUL_DEEP = 9,         /* of checkpoint: 8 marks stand */
-    NEKCHHAUL_RANGE_TAKEN = 10, /* of fence and close: a range is out of the transactions already */
+    NEKCHHAUL_RANGE_TAKEN = 10, /* of fence and close: a range is out of the transactions already. Of nekchhaul_atomically and
+                                   nekchhaul_atomically_for_good: one is out, and the body wasn't run */
 
     /* What doesn't fit. Nothing has changed. */
     NEKCHHAUL_NO_CALLER = 16,   /* the handle is all zero: never opened, or released */
@@ -82,17 +85,21 @@ typedef enum nekchhaul_status {
     NEKCHHAUL_SIZE_CALLERS = 36,
     NEKCHHAUL_SIZE_LOGS = 37,
     NEKCHHAUL_SIZE_CLOCK = 38,
-    NEKCHHAUL_STRANGER = 39     /* of learn: the callers are not of one memory */
+    NEKCHHAUL_STRANGER = 39,    /* of learn: the callers are not of one memory */
+    NEKCHHAUL_CLOSING = 40,     /* the caller has closed the gate for a call that answered BUSY: only that call with the same
+                                   arguments goes on, or reopen gives it up */
+    NEKCHHAUL_NOT_CLOSING = 41  /* of reopen: the caller hasn't closed the gate */
 } nekchhaul_status;
 
-/* The algorithms. docs/ALGORITHMS.md says which to choose. */
+/* The algorithms. docs/ALGORITHMS.md says which to choose. Under all but CGL and TML an attempt can be cancelled until it
+ * is made irrevocable. */
 typedef enum nekchhaul_algorithm {
-    NEKCHHAUL_CGL = 0,        /* one lock; an attempt can't be cancelled */
-    NEKCHHAUL_TML = 1,        /* one sequence lock: for many readers */
+    NEKCHHAUL_CGL = 0,        /* one lock; an attempt can never be cancelled */
+    NEKCHHAUL_TML = 1,        /* one sequence lock: for many readers; after its first write an attempt can't be cancelled */
     NEKCHHAUL_OREC_LAZY = 2,  /* ownership records, taken at the commit */
     NEKCHHAUL_OREC_EAGER = 3, /* ownership records, taken at the first write; no marks */
     NEKCHHAUL_RING_SW = 4,    /* a ring of write filters */
-    NEKCHHAUL_SERIAL = 5      /* one lock, with an undo log: an attempt can be cancelled */
+    NEKCHHAUL_SERIAL = 5      /* one lock, with an undo log */
 } nekchhaul_algorithm;
 
 /* The sizes of a memory. */
@@ -115,10 +122,12 @@ typedef struct nekchhaul_caller {
 /* Where a caller stands. */
 typedef struct nekchhaul_state_of {
     size_t marks;         /* how many stand */
-    uint32_t stand;       /* 0 in no attempt, 1 in one, 2 in the middle of its commit */
+    uint32_t stand;       /* 0 in no attempt, 1 in one, 2 in the middle of its commit, 3 with the gate closed for a call
+                             that answered BUSY */
     uint32_t algorithm;   /* of the attempt; 0 where there is none */
     uint32_t irrevocable; /* 1 where the attempt can only be committed */
-    uint32_t range;       /* 1 where it has a range out of the transactions */
+    uint32_t range;       /* 1 where it has a range out of the transactions; and 2 more where one was out as its attempt
+                             began, of which it can't read or write a word */
 } nekchhaul_state_of;
 
 /* What came in the way of a caller last, by its status:
@@ -133,8 +142,7 @@ typedef struct nekchhaul_state_of {
  *   AGAIN         the word `first`, 0 the clock and 1 the lock, was `second` and is `third`
  *   LOG_FULL, DEEP    `first` is the limit
  *   CLOCK_FULL    `first` is the clock
- *   RANGE_TAKEN   `first` is the gate's word
- * A refused nekchhaul_switch leaves it as it was. */
+ *   RANGE_TAKEN   `first` is the gate's word */
 typedef struct nekchhaul_cause {
     uint32_t status;
     uint32_t kind;
@@ -157,8 +165,8 @@ uint32_t nekchhaul_read(nekchhaul_caller *caller, size_t address, uint64_t *valu
 
 /* Reads the words at `count` addresses, in turn, into the first places of `values`, of which there are `places`: one
  * crossing for many reads. It answers as nekchhaul_read does for the first that is refused, and ROOM where there are fewer
- * places than addresses; behind any answer but 0 the values are of no use. A misuse behind the first address leaves the
- * words before it read. */
+ * places than addresses. The places from there on, and those after the last address, are as they were; after any answer
+ * but 0 the values are of no use. A misuse after the first address leaves the words before it read. */
 uint32_t nekchhaul_read_many(nekchhaul_caller *caller, const size_t *addresses, size_t count, uint64_t *values, size_t places) NEKCHHAUL_CALL;
 
 /* Writes a word, for this attempt until it commits. CONFLICT, LOG_FULL, CLOCK_FULL; NO_ATTEMPT, COMMITTING, ADDRESS,
@@ -175,8 +183,19 @@ uint32_t nekchhaul_cancel(nekchhaul_caller *caller) NEKCHHAUL_CALL;
  * with BUSY ask again, with GATE_CLOSED cancel it. CONFLICT, CLOCK_FULL; NO_ATTEMPT, COMMITTING. */
 uint32_t nekchhaul_become_irrevocable(nekchhaul_caller *caller) NEKCHHAUL_CALL;
 
-/* Installs an algorithm, for attempts that begin from then on. BUSY; ALGORITHM, IN_ATTEMPT. */
+/* THE CALLS THAT MUST BE ALONE: nekchhaul_switch, nekchhaul_fence, nekchhaul_give_back and nekchhaul_close. Each closes the
+ * gate, so that no attempt of others begins, and looks once whether those that run have ended. Where one hasn't, the answer
+ * is BUSY, and the gate stays closed: the same call with the same arguments looks on from there, and each other caller is
+ * seen idle once. So it comes through as soon as the attempts that ran have ended, however many are to begin. Meanwhile the
+ * others' begins and such calls answer GATE_CLOSED, and all other calls of this caller answer CLOSING; nekchhaul_reopen
+ * gives up. GATE_CLOSED: another caller has the gate; then this one holds nothing. nekchhaul_install and its like, below,
+ * call until done. */
+
+/* Installs an algorithm, for attempts that begin from then on. GATE_CLOSED, BUSY; ALGORITHM, IN_ATTEMPT, CLOSING. */
 uint32_t nekchhaul_switch(nekchhaul_caller *caller, uint32_t algorithm) NEKCHHAUL_CALL;
+
+/* Gives up the call that answered BUSY: the gate is open again. IN_ATTEMPT, NOT_CLOSING. */
+uint32_t nekchhaul_reopen(nekchhaul_caller *caller) NEKCHHAUL_CALL;
 
 /* Marks what the attempt has written; `depth` counts the marks. DEEP; NO_ATTEMPT, COMMITTING. */
 uint32_t nekchhaul_checkpoint(nekchhaul_caller *caller, size_t *depth) NEKCHHAUL_CALL;
@@ -189,21 +208,21 @@ uint32_t nekchhaul_roll_to(nekchhaul_caller *caller, size_t depth) NEKCHHAUL_CAL
 uint32_t nekchhaul_drop_marks(nekchhaul_caller *caller, size_t depth) NEKCHHAUL_CALL;
 
 /* Takes `count` words from `from` on out of the transactions: this caller alone reads and writes them until it gives
- * them back. GATE_CLOSED, BUSY, RANGE_TAKEN; IN_ATTEMPT, HOLDS_RANGE, ADDRESS. */
+ * them back. GATE_CLOSED, BUSY, RANGE_TAKEN; IN_ATTEMPT, HOLDS_RANGE, ADDRESS, CLOSING. */
 uint32_t nekchhaul_fence(nekchhaul_caller *caller, size_t from, size_t count) NEKCHHAUL_CALL;
 
-/* Reads and writes a word of the caller's range, outside attempts. IN_ATTEMPT, NO_RANGE. */
+/* Reads and writes a word of the caller's range, outside attempts. IN_ATTEMPT, NO_RANGE, CLOSING. */
 uint32_t nekchhaul_direct_read(nekchhaul_caller *caller, size_t address, uint64_t *value) NEKCHHAUL_CALL;
 uint32_t nekchhaul_direct_write(nekchhaul_caller *caller, size_t address, uint64_t value) NEKCHHAUL_CALL;
 
 /* Gives the range back; what was written there takes effect at one moment. GATE_CLOSED, BUSY, CLOCK_FULL; IN_ATTEMPT,
- * NO_RANGE. */
+ * NO_RANGE, CLOSING. */
 uint32_t nekchhaul_give_back(nekchhaul_caller *caller) NEKCHHAUL_CALL;
 
 /* Ends the memory: takes all its words out of the transactions for good, and writes them to the first places of
  * `words`. They are the memory after all that was committed, by all callers. From then on every read and write of every
  * caller is FENCED; release the callers. `count` is how many places there are, at least as many as words.
- * GATE_CLOSED, BUSY, RANGE_TAKEN; IN_ATTEMPT, HOLDS_RANGE, ROOM. */
+ * GATE_CLOSED, BUSY, RANGE_TAKEN; IN_ATTEMPT, HOLDS_RANGE, ROOM, CLOSING. */
 uint32_t nekchhaul_close(nekchhaul_caller *caller, uint64_t *words, size_t count) NEKCHHAUL_CALL;
 
 /* Makes the caller's logs longer, each 1 to 4,096. MEMORY, and then all is as before; IN_ATTEMPT, LOGS. */
@@ -219,7 +238,7 @@ uint32_t nekchhaul_state(nekchhaul_caller *caller, nekchhaul_state_of *state) NE
 uint32_t nekchhaul_why(nekchhaul_caller *caller, nekchhaul_cause *cause) NEKCHHAUL_CALL;
 
 /* Lets a caller go that is in no attempt; the handle is no caller then. A range that it has stays out of the
- * transactions. IN_ATTEMPT. */
+ * transactions. IN_ATTEMPT, CLOSING. */
 uint32_t nekchhaul_release(nekchhaul_caller *caller) NEKCHHAUL_CALL;
 
 /* ---- From here on it is C, and not proved. ------------------------------------------------------------------------ */
@@ -238,8 +257,11 @@ static inline nekchhaul_caller nekchhaul_move(nekchhaul_caller *from)
 enum { NEKCHHAUL_STOP = 256 };
 typedef uint32_t (*nekchhaul_body)(nekchhaul_caller *caller, void *argument);
 
-/* Ends an attempt that is to leave no trace. Where it can only be committed (always under CGL, and once irrevocable), it
- * is, and the answer is IRREVOCABLE: what it wrote stands. */
+/* An answer of nekchhaul_atomically alone: the memory's algorithm, CGL or TML, can't take writes back. The body wasn't run. */
+enum { NEKCHHAUL_UNCANCELLABLE = 48 };
+
+/* Ends an attempt that is to leave no trace. Where it can only be committed (always under CGL, under TML after its first
+ * write, and once irrevocable), it is, and the answer is IRREVOCABLE: what it wrote stands. */
 static inline uint32_t nekchhaul_abandon(nekchhaul_caller *caller)
 {
     uint32_t s = nekchhaul_cancel(caller);
@@ -250,11 +272,33 @@ static inline uint32_t nekchhaul_abandon(nekchhaul_caller *caller)
     return s;
 }
 
-/* Begins; where it is to be `sure`, the attempt is irrevocable with 0. Else no attempt is open. */
+/* Begins an attempt for a body that may stop: with 0 it can be cancelled whatever the body does. Else none is open:
+ * RANGE_TAKEN where a range is out, since the body might stop at a word of it; UNCANCELLABLE. */
+static inline uint32_t nekchhaul_enter_lightly(nekchhaul_caller *caller)
+{
+    nekchhaul_state_of at;
+    uint32_t s = nekchhaul_begin(caller);
+    if (s != NEKCHHAUL_OK) return s;
+    if ((s = nekchhaul_state(caller, &at)) != NEKCHHAUL_OK) return s;
+    if (at.range & 2) s = NEKCHHAUL_RANGE_TAKEN;
+    else if (at.irrevocable || at.algorithm == NEKCHHAUL_TML) s = NEKCHHAUL_UNCANCELLABLE;
+    if (s != NEKCHHAUL_OK) (void)nekchhaul_abandon(caller); /* which has done nothing */
+    return s;
+}
+
+/* Begins an attempt for a body that never stops; where it is to be `sure`, the attempt is irrevocable with 0. Else none is
+ * open: RANGE_TAKEN as above. */
 static inline uint32_t nekchhaul_enter(nekchhaul_caller *caller, int sure, struct nekchhaul_pause *pause)
 {
+    nekchhaul_state_of at;
     uint32_t s = nekchhaul_begin(caller);
-    if (s != NEKCHHAUL_OK || !sure) return s;
+    if (s != NEKCHHAUL_OK) return s;
+    if ((s = nekchhaul_state(caller, &at)) != NEKCHHAUL_OK) return s;
+    if (at.range & 2) {
+        (void)nekchhaul_abandon(caller);
+        return NEKCHHAUL_RANGE_TAKEN;
+    }
+    if (!sure) return s;
     while ((s = nekchhaul_become_irrevocable(caller)) == NEKCHHAUL_BUSY) nekchhaul_wait(pause);
     if (s == NEKCHHAUL_GATE_CLOSED) (void)!nekchhaul_cancel(caller);
     return s;
@@ -266,6 +310,17 @@ static inline uint32_t nekchhaul_leave(nekchhaul_caller *caller, struct nekchhau
     uint32_t s;
     while ((s = nekchhaul_commit(caller)) == NEKCHHAUL_AGAIN) nekchhaul_wait(pause);
     return s;
+}
+
+/* After a full log: makes the logs twice as long as that one was. LOG_FULL where it had 4,096 items; MEMORY. */
+static inline uint32_t nekchhaul_lengthen(nekchhaul_caller *caller)
+{
+    nekchhaul_cause why;
+    uint32_t s = nekchhaul_why(caller, &why);
+    if (s != NEKCHHAUL_OK) return s;
+    if (why.first >= 4096) return NEKCHHAUL_LOG_FULL;
+    size_t length = why.first > 2048 ? 4096 : (size_t)(2 * why.first);
+    return nekchhaul_reserve(caller, length, length);
 }
 
 /* The count of failed attempts after one more, which ended so; one that didn't begin isn't counted, and a log that was
@@ -282,13 +337,46 @@ static inline void nekchhaul_pause_after(struct nekchhaul_pause *pause, uint32_t
     else nekchhaul_wait(pause);
 }
 
-/* Runs `body` in attempts until one commits (0), it stops (its answer), a call didn't fit (its status, from 16 on), or
- * the clock is full. After 16 attempts that failed, or a full log, the next asks to be irrevocable first. It waits, by
- * pausing the processor and yielding. With any answer no attempt is open; where the body stops, or makes a call that
- * doesn't fit, in an attempt that can't be cancelled, the answer is IRREVOCABLE, and what it wrote stands: a runtime
- * whose users may abort installs Serial in the place of CGL. A body is left by its return alone, never by longjmp, and
- * uses no other caller of the same memory. */
+/* What is done after an attempt of a body that may stop, which ended so: 0 to try again; else the answer. */
+static inline uint32_t nekchhaul_retry_lightly(nekchhaul_caller *caller, uint32_t status, struct nekchhaul_pause *pause)
+{
+    if (status >= NEKCHHAUL_NO_CALLER || status == NEKCHHAUL_CLOCK_FULL || status == NEKCHHAUL_RANGE_TAKEN) return status;
+    if (status == NEKCHHAUL_LOG_FULL) return nekchhaul_lengthen(caller);
+    if (status == NEKCHHAUL_CONFLICT) nekchhaul_wait_longer(pause);
+    else nekchhaul_pause_after(pause, status);
+    return NEKCHHAUL_OK;
+}
+
+/* Runs `body` in attempts until one commits (0), it stops (its answer), a call didn't fit (its status, from 16 on), the
+ * clock is full, or a log of 4,096 items is. A body that stops leaves nothing: its attempts are never made irrevocable, and
+ * where the algorithm can't take writes back, CGL or TML, the answer is UNCANCELLABLE, and it isn't run. Nor is it while a
+ * range is out, the caller's own or another's: RANGE_TAKEN, so that no body meets FENCED. A full log is made longer, and
+ * after a conflict the pauses grow. It waits, by pausing the processor and yielding. With any answer no attempt is open. A
+ * body is left by its return alone, never by longjmp, and uses no other caller of the same memory. */
 static inline uint32_t nekchhaul_atomically(nekchhaul_caller *caller, nekchhaul_body body, void *argument)
+{
+    struct nekchhaul_pause pause = NEKCHHAUL_PAUSE_INIT;
+    for (;;) {
+        uint32_t s = nekchhaul_enter_lightly(caller);
+        if (s == NEKCHHAUL_OK) {
+            s = body(caller, argument);
+            if (s == NEKCHHAUL_OK) {
+                s = nekchhaul_leave(caller, &pause);
+                if (s == NEKCHHAUL_OK) return s;
+            } else if (nekchhaul_abandon(caller) == NEKCHHAUL_IRREVOCABLE) {
+                return NEKCHHAUL_IRREVOCABLE; /* the body itself had made it so */
+            }
+        }
+        s = nekchhaul_retry_lightly(caller, s, &pause);
+        if (s != NEKCHHAUL_OK) return s;
+    }
+}
+
+/* The same of a body that never stops: it comes through under every algorithm, since after 16 attempts that failed, or a full
+ * log, the next asks to be irrevocable first. Where it does stop, or makes a call that doesn't fit, in an attempt that can't
+ * be cancelled, the answer is IRREVOCABLE, and what it wrote until then stands. While a range is out the answer is
+ * RANGE_TAKEN, and it isn't run. */
+static inline uint32_t nekchhaul_atomically_for_good(nekchhaul_caller *caller, nekchhaul_body body, void *argument)
 {
     struct nekchhaul_pause pause = NEKCHHAUL_PAUSE_INIT;
     unsigned failed = 0;
@@ -303,19 +391,82 @@ static inline uint32_t nekchhaul_atomically(nekchhaul_caller *caller, nekchhaul_
                 return NEKCHHAUL_IRREVOCABLE;
             }
         }
-        if (s >= NEKCHHAUL_NO_CALLER || s == NEKCHHAUL_CLOCK_FULL) return s;
+        if (s >= NEKCHHAUL_NO_CALLER || s == NEKCHHAUL_CLOCK_FULL || s == NEKCHHAUL_RANGE_TAKEN) return s;
         failed = nekchhaul_failed(failed, s);
         nekchhaul_pause_after(&pause, s);
     }
 }
 
-/* Installs an algorithm, and waits while others are in the way. */
-static inline uint32_t nekchhaul_install(nekchhaul_caller *caller, uint32_t algorithm)
+/* Whether a call that must be alone is to be made again after it answered so: others are in the way, and of `tries` (0: no
+ * end of them) one is left. After the last the gate is open again. */
+static inline int nekchhaul_is_to_go_on(nekchhaul_caller *caller, uint32_t status, unsigned long *tries, struct nekchhaul_pause *pause)
+{
+    if (status != NEKCHHAUL_BUSY && status != NEKCHHAUL_GATE_CLOSED) return 0;
+    if (*tries == 1) {
+        if (status == NEKCHHAUL_BUSY) (void)!nekchhaul_reopen(caller);
+        return 0;
+    }
+    if (*tries) --*tries;
+    nekchhaul_wait(pause);
+    return 1;
+}
+
+/* The calls that must be alone, made until others are out of the way, or this often: 0 for as often as need be. After the
+ * last of so many the answer is BUSY or GATE_CLOSED, and the gate is open again. */
+static inline uint32_t nekchhaul_install_within(nekchhaul_caller *caller, uint32_t algorithm, unsigned long tries)
 {
     struct nekchhaul_pause pause = NEKCHHAUL_PAUSE_INIT;
     uint32_t s;
-    while ((s = nekchhaul_switch(caller, algorithm)) == NEKCHHAUL_BUSY) nekchhaul_wait(&pause);
+    do s = nekchhaul_switch(caller, algorithm);
+    while (nekchhaul_is_to_go_on(caller, s, &tries, &pause));
     return s;
+}
+
+static inline uint32_t nekchhaul_take_range_within(nekchhaul_caller *caller, size_t from, size_t count, unsigned long tries)
+{
+    struct nekchhaul_pause pause = NEKCHHAUL_PAUSE_INIT;
+    uint32_t s;
+    do s = nekchhaul_fence(caller, from, count);
+    while (nekchhaul_is_to_go_on(caller, s, &tries, &pause));
+    return s;
+}
+
+static inline uint32_t nekchhaul_return_range_within(nekchhaul_caller *caller, unsigned long tries)
+{
+    struct nekchhaul_pause pause = NEKCHHAUL_PAUSE_INIT;
+    uint32_t s;
+    do s = nekchhaul_give_back(caller);
+    while (nekchhaul_is_to_go_on(caller, s, &tries, &pause));
+    return s;
+}
+
+static inline uint32_t nekchhaul_end_within(nekchhaul_caller *caller, uint64_t *words, size_t count, unsigned long tries)
+{
+    struct nekchhaul_pause pause = NEKCHHAUL_PAUSE_INIT;
+    uint32_t s;
+    do s = nekchhaul_close(caller, words, count);
+    while (nekchhaul_is_to_go_on(caller, s, &tries, &pause));
+    return s;
+}
+
+static inline uint32_t nekchhaul_install(nekchhaul_caller *caller, uint32_t algorithm)
+{
+    return nekchhaul_install_within(caller, algorithm, 0);
+}
+
+static inline uint32_t nekchhaul_take_range(nekchhaul_caller *caller, size_t from, size_t count)
+{
+    return nekchhaul_take_range_within(caller, from, count, 0);
+}
+
+static inline uint32_t nekchhaul_return_range(nekchhaul_caller *caller)
+{
+    return nekchhaul_return_range_within(caller, 0);
+}
+
+static inline uint32_t nekchhaul_end(nekchhaul_caller *caller, uint64_t *words, size_t count)
+{
+    return nekchhaul_end_within(caller, words, count, 0);
 }
 
 #ifdef __cplusplus

@@ -4,6 +4,7 @@
 
 #include "nekchhaul.h"
 
+#include <optional>
 #include <stdexcept>
 #include <string>
 #include <type_traits>
@@ -14,8 +15,9 @@ namespace nekchhaul {
 
 enum class algorithm : uint32_t { cgl, tml, orec_lazy, orec_eager, ring_sw, serial };
 
-// A status that ends a transaction for good: a misuse, a full clock, or IRREVOCABLE, where a body stopped or misused an
-// attempt that can't be cancelled.
+// A status that ends a transaction for good: a misuse, a full clock, a log of 4,096 items that is full, UNCANCELLABLE or
+// RANGE_TAKEN, where the body wasn't run, or IRREVOCABLE, where one that was to go through misused an attempt that can't be
+// cancelled.
 struct error : std::runtime_error {
     uint32_t status;
     explicit error(uint32_t s) : std::runtime_error("nekchhaul status " + std::to_string(s)), status(s) {}
@@ -68,7 +70,37 @@ class caller {
     void let_go()
     {
         (void)nekchhaul_abandon(&handle_);
+        (void)!nekchhaul_reopen(&handle_); // which has answered BUSY, and was given up
         (void)!nekchhaul_release(&handle_);
+    }
+
+    // Runs the body in the attempt that is open, and commits. With 0 `keep` has taken what it answered; else no attempt is open.
+    // An exception of the body's own abandons the attempt and goes on.
+    template <class F, class K> uint32_t run(F &body, K &&keep, nekchhaul_pause &pause)
+    {
+        try {
+            attempt a(&handle_);
+            if constexpr (std::is_void_v<std::invoke_result_t<F &, attempt &>>) body(a);
+            else keep(body(a));
+            return nekchhaul_leave(&handle_, &pause);
+        } catch (const attempt::over &o) {
+            return nekchhaul_abandon(&handle_) == NEKCHHAUL_IRREVOCABLE ? static_cast<uint32_t>(NEKCHHAUL_IRREVOCABLE) : o.status;
+        } catch (...) {
+            (void)nekchhaul_abandon(&handle_);
+            throw;
+        }
+    }
+
+    // Tries, by `once(keep)`, until one of the attempts took effect, and gives what its body answered.
+    template <class R, class T> static R until_done(T &&once)
+    {
+        if constexpr (std::is_void_v<R>) {
+            while (!once([] {})) {}
+        } else {
+            std::optional<R> answer;
+            while (!once([&](R &&r) { answer.emplace(std::move(r)); })) {}
+            return std::move(*answer);
+        }
     }
 
 public:
@@ -97,48 +129,64 @@ public:
         if (uint32_t s = nekchhaul_learn(&handle_, &from.handle_)) throw error(s);
     }
 
+    // Takes `count` words from `from` on out of the transactions, once the others' attempts have ended, for this caller to
+    // read and write directly, and gives them back.
+    void take_range(size_t from, size_t count)
+    {
+        if (uint32_t s = nekchhaul_take_range(&handle_, from, count)) throw error(s);
+    }
+    uint64_t direct_read(size_t address)
+    {
+        uint64_t value = 0;
+        if (uint32_t s = nekchhaul_direct_read(&handle_, address, &value)) throw error(s);
+        return value;
+    }
+    void direct_write(size_t address, uint64_t value)
+    {
+        if (uint32_t s = nekchhaul_direct_write(&handle_, address, value)) throw error(s);
+    }
+    void return_range()
+    {
+        if (uint32_t s = nekchhaul_return_range(&handle_)) throw error(s);
+    }
+
     // The memory after all that was committed; every read and write is refused from then on.
     std::vector<uint64_t> close(size_t words)
     {
         std::vector<uint64_t> out(words);
         if (out.empty()) throw error(NEKCHHAUL_ROOM);
-        nekchhaul_pause pause = NEKCHHAUL_PAUSE_INIT;
-        uint32_t s;
-        while ((s = nekchhaul_close(&handle_, out.data(), out.size())) == NEKCHHAUL_BUSY || s == NEKCHHAUL_GATE_CLOSED) nekchhaul_wait(&pause);
-        if (s) throw error(s);
+        if (uint32_t s = nekchhaul_end(&handle_, out.data(), out.size())) throw error(s);
         return out;
     }
 
-    // What the body answers in the attempt that committed. An exception of the body's own cancels the attempt and goes on;
-    // where it can't be cancelled, it is committed, and the exception goes on too.
+    // What the body answers in the attempt that committed. A body may stop, by an exception of its own: that goes on, and the
+    // attempt has left nothing. So no attempt of it is made irrevocable; under CGL and TML, which can't take writes back, it
+    // isn't run, and the error is UNCANCELLABLE; nor is it while a range is out, and the error is RANGE_TAKEN.
     template <class F> auto atomically(F &&body) -> std::invoke_result_t<F &, attempt &>
     {
-        using R = std::invoke_result_t<F &, attempt &>;
         nekchhaul_pause pause = NEKCHHAUL_PAUSE_INIT;
-        for (unsigned failed = 0;;) {
+        return until_done<std::invoke_result_t<F &, attempt &>>([&](auto &&keep) {
+            uint32_t s = nekchhaul_enter_lightly(&handle_);
+            if (s == NEKCHHAUL_OK && (s = run(body, keep, pause)) == NEKCHHAUL_OK) return true;
+            if (s == NEKCHHAUL_IRREVOCABLE || (s = nekchhaul_retry_lightly(&handle_, s, &pause))) throw error(s);
+            return false;
+        });
+    }
+
+    // The same of a body that never stops, and that comes through under every algorithm: after 16 attempts that failed, or a
+    // full log, the next is irrevocable. Where it throws all the same in such an attempt, what it wrote until then stands.
+    template <class F> auto atomically_for_good(F &&body) -> std::invoke_result_t<F &, attempt &>
+    {
+        nekchhaul_pause pause = NEKCHHAUL_PAUSE_INIT;
+        unsigned failed = 0;
+        return until_done<std::invoke_result_t<F &, attempt &>>([&](auto &&keep) {
             uint32_t s = nekchhaul_enter(&handle_, failed >= 16, &pause);
-            if (s == NEKCHHAUL_OK) {
-                try {
-                    attempt a(&handle_);
-                    if constexpr (std::is_void_v<R>) {
-                        body(a);
-                        if ((s = nekchhaul_leave(&handle_, &pause)) == NEKCHHAUL_OK) return;
-                    } else {
-                        R r = body(a);
-                        if ((s = nekchhaul_leave(&handle_, &pause)) == NEKCHHAUL_OK) return r;
-                    }
-                } catch (const attempt::over &o) {
-                    s = nekchhaul_abandon(&handle_) == NEKCHHAUL_IRREVOCABLE ? static_cast<uint32_t>(NEKCHHAUL_IRREVOCABLE) : o.status;
-                    if (s == NEKCHHAUL_IRREVOCABLE) throw error(s);
-                } catch (...) {
-                    (void)nekchhaul_abandon(&handle_);
-                    throw;
-                }
-            }
-            if (s >= NEKCHHAUL_NO_CALLER || s == NEKCHHAUL_CLOCK_FULL) throw error(s);
+            if (s == NEKCHHAUL_OK && (s = run(body, keep, pause)) == NEKCHHAUL_OK) return true;
+            if (s >= NEKCHHAUL_NO_CALLER || s == NEKCHHAUL_CLOCK_FULL || s == NEKCHHAUL_IRREVOCABLE || s == NEKCHHAUL_RANGE_TAKEN) throw error(s);
             failed = nekchhaul_failed(failed, s);
             nekchhaul_pause_after(&pause, s);
-        }
+            return false;
+        });
     }
 };
 

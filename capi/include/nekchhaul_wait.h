@@ -27,6 +27,12 @@ static inline void nekchhaul_wait(struct nekchhaul_pause *p)
     nekchhaul_pause_up_to(p, 10);
 }
 
+/* Another transaction came in between, again and again: the pauses go on growing. */
+static inline void nekchhaul_wait_longer(struct nekchhaul_pause *p)
+{
+    nekchhaul_pause_up_to(p, 16);
+}
+
 /* Another caller's attempt has the lock: each change of hands costs more than a short transaction. */
 static inline void nekchhaul_wait_for_lock(struct nekchhaul_pause *p)
 {

@@ -14,7 +14,7 @@ fn trade(mut mine: Caller, mut x: u64) {
         let from = x as usize % ACCOUNTS;
         let to = (from + 1 + (x >> 20) as usize % (ACCOUNTS - 1)) % ACCOUNTS;
         let amount = (x >> 40) % 100;
-        mine.atomically(|t| {
+        mine.atomically_for_good(|t| {
             let (payer, payee) = (t.read(from)?, t.read(to)?);
             if payer >= amount {
                 t.write(from, payer - amount)?;
@@ -31,7 +31,7 @@ fn main() {
         let sizes = Sizes { words: ACCOUNTS, records: 64, ring: 64, reads: 128, writes: 64, clock: 0 };
         let mut callers = open(&sizes, algorithm, 4).unwrap();
         let mut auditor = callers.pop().unwrap();
-        auditor.atomically(|t| (0..ACCOUNTS).try_for_each(|i| t.write(i, BALANCE))).unwrap();
+        auditor.atomically_for_good(|t| (0..ACCOUNTS).try_for_each(|i| t.write(i, BALANCE))).unwrap();
         for trader in &mut callers {
             trader.learn(&mut auditor).unwrap();
         }
@@ -42,7 +42,7 @@ fn main() {
                 scope.spawn(move || trade(mine, 88172645463325252 + i as u64));
             }
             for i in 0..1000 {
-                auditor.atomically(|t| t.read_many(&all, &mut balances)).unwrap();
+                auditor.atomically_for_good(|t| t.read_many(&all, &mut balances)).unwrap();
                 assert_eq!(balances.iter().sum::<u64>(), ACCOUNTS as u64 * BALANCE);
                 if i % 64 == 0 {
                     auditor.install(ALL[(n + i / 64 + 1) % 6]).unwrap();
@@ -52,6 +52,14 @@ fn main() {
         auditor.install(Algorithm::Serial).unwrap();
         assert_eq!(auditor.atomically(|t| t.read(ACCOUNTS)), Err(Status::ADDRESS));
         assert_eq!(auditor.atomically(|t| t.write(0, 0).and(Err::<(), _>(Status(Status::STOP)))), Err(Status(Status::STOP)));
+        auditor.install(Algorithm::Tml).unwrap();
+        assert_eq!(auditor.atomically(|_| Ok(())), Err(Status::UNCANCELLABLE));
+        auditor.take_range(0, 1).unwrap();
+        let word = auditor.direct_read(0).unwrap();
+        auditor.direct_write(0, word).unwrap();
+        assert_eq!(auditor.atomically(|_| Ok(())), Err(Status::RANGE_TAKEN));
+        assert_eq!(auditor.atomically_for_good(|_| Ok(())), Err(Status::RANGE_TAKEN));
+        auditor.return_range().unwrap();
         assert_eq!(auditor.close(ACCOUNTS).unwrap().iter().sum::<u64>(), ACCOUNTS as u64 * BALANCE);
     }
 }

@@ -1,7 +1,7 @@
 //! Safe bindings to Nekchhaul, a verified software transactional memory. Not proved; the calls of the archive are.
 //!
 //! A [`Caller`] may go to another thread, and is used through `&mut` alone. [`Caller::atomically`] runs a transaction
-//! until it commits.
+//! until it commits, or leaves nothing; [`Caller::atomically_for_good`] runs one that never stops.
 //!
 //! ```no_run
 //! use nekchhaul::{open, Algorithm, Sizes};
@@ -24,6 +24,28 @@ use std::thread;
 struct Handle {
     tag: u64,
     at: *mut u8,
+}
+
+/// Where a caller stands, as in `nekchhaul.h`.
+#[repr(C)]
+#[derive(Default)]
+struct State {
+    marks: usize,
+    stand: u32,
+    algorithm: u32,
+    irrevocable: u32,
+    range: u32,
+}
+
+/// What came in its way last, as in `nekchhaul.h`.
+#[repr(C)]
+#[derive(Default)]
+struct Why {
+    status: u32,
+    kind: u32,
+    first: u64,
+    second: u64,
+    third: u64,
 }
 
 /// The sizes of a memory, as in `nekchhaul.h`.
@@ -54,6 +76,14 @@ extern "C" {
     fn nekchhaul_cancel(caller: *mut Handle) -> u32;
     fn nekchhaul_become_irrevocable(caller: *mut Handle) -> u32;
     fn nekchhaul_switch(caller: *mut Handle, algorithm: u32) -> u32;
+    fn nekchhaul_reopen(caller: *mut Handle) -> u32;
+    fn nekchhaul_fence(caller: *mut Handle, from: usize, count: usize) -> u32;
+    fn nekchhaul_direct_read(caller: *mut Handle, address: usize, value: *mut u64) -> u32;
+    fn nekchhaul_direct_write(caller: *mut Handle, address: usize, value: u64) -> u32;
+    fn nekchhaul_give_back(caller: *mut Handle) -> u32;
+    fn nekchhaul_reserve(caller: *mut Handle, reads: usize, writes: usize) -> u32;
+    fn nekchhaul_state(caller: *mut Handle, state: *mut State) -> u32;
+    fn nekchhaul_why(caller: *mut Handle, why: *mut Why) -> u32;
     fn nekchhaul_checkpoint(caller: *mut Handle, depth: *mut usize) -> u32;
     fn nekchhaul_roll_to(caller: *mut Handle, depth: usize) -> u32;
     fn nekchhaul_learn(to: *mut Handle, from: *mut Handle) -> u32;
@@ -69,6 +99,8 @@ pub struct Status(
 );
 
 impl Status {
+    /// Another transaction came in between.
+    pub const CONFLICT: Status = Status(1);
     /// Another caller holds the gate.
     pub const GATE_CLOSED: Status = Status(2);
     /// Another attempt has the lock.
@@ -83,12 +115,16 @@ impl Status {
     pub const CLOCK_FULL: Status = Status(7);
     /// The attempt can only be committed.
     pub const IRREVOCABLE: Status = Status(8);
+    /// A range is out of the transactions.
+    pub const RANGE_TAKEN: Status = Status(10);
     /// The address isn't there.
     pub const ADDRESS: Status = Status(20);
     /// The word is out of the transactions.
     pub const FENCED: Status = Status(25);
     /// The callers are not of one memory.
     pub const STRANGER: Status = Status(39);
+    /// Of [`Caller::atomically`]: the memory's algorithm, CGL or TML, can't take writes back. The body wasn't run.
+    pub const UNCANCELLABLE: Status = Status(48);
     /// From here on a body's own: the transaction is cancelled, and that is answered.
     pub const STOP: u32 = 256;
 
@@ -199,29 +235,84 @@ pub fn open(sizes: &Sizes, algorithm: Algorithm, count: usize) -> Result<Vec<Cal
 }
 
 impl Caller {
-    /// Installs an algorithm, and waits while others are in the way.
-    pub fn install(&mut self, algorithm: Algorithm) -> Result<(), Status> {
+    /// Makes a call that must be alone until others are out of its way: it closes the gate, and goes on from there.
+    fn until_alone(&mut self, mut call: impl FnMut(&mut Handle) -> u32) -> Result<(), Status> {
         let mut pause = Pause(5);
         loop {
-            // SAFETY: the handle is this caller's alone.
-            match Status(unsafe { nekchhaul_switch(&mut self.0, algorithm as u32) }) {
-                Status::BUSY => pause.wait(10),
+            match Status(call(&mut self.0)) {
+                Status::BUSY | Status::GATE_CLOSED => pause.wait(10),
                 status => return told(status.0),
             }
         }
     }
 
-    /// Runs a transaction until it commits, and answers what it does. After 16 attempts that failed, or a full log, the
-    /// next is irrevocable. A status from 16 on, of a call that doesn't fit or of the body's own from `Status::STOP` on,
-    /// cancels it and is answered; where the attempt can't be cancelled it is committed, and `IRREVOCABLE` is answered.
+    /// Installs an algorithm, once the others' attempts have ended.
+    pub fn install(&mut self, algorithm: Algorithm) -> Result<(), Status> {
+        // SAFETY: the handle is this caller's alone.
+        self.until_alone(|handle| unsafe { nekchhaul_switch(handle, algorithm as u32) })
+    }
+
+    /// Takes words out of the transactions, once the others' attempts have ended, for this caller alone.
+    pub fn take_range(&mut self, from: usize, count: usize) -> Result<(), Status> {
+        // SAFETY: the handle is this caller's alone.
+        self.until_alone(|handle| unsafe { nekchhaul_fence(handle, from, count) })
+    }
+
+    /// Reads a word of its range.
+    pub fn direct_read(&mut self, address: usize) -> Result<u64, Status> {
+        let mut value = 0;
+        // SAFETY: both lead to objects of their own.
+        told(unsafe { nekchhaul_direct_read(&mut self.0, address, &mut value) })?;
+        Ok(value)
+    }
+
+    /// Writes a word of its range.
+    pub fn direct_write(&mut self, address: usize, value: u64) -> Result<(), Status> {
+        // SAFETY: the handle is this caller's alone.
+        told(unsafe { nekchhaul_direct_write(&mut self.0, address, value) })
+    }
+
+    /// Gives its range back, once the others' attempts have ended.
+    pub fn return_range(&mut self) -> Result<(), Status> {
+        // SAFETY: the handle is this caller's alone.
+        self.until_alone(|handle| unsafe { nekchhaul_give_back(handle) })
+    }
+
+    /// Runs a transaction until it commits, and answers what it does. It may stop: by a status of its own, from
+    /// `Status::STOP` on, by a panic, or by that of a call which doesn't fit. Then it has left nothing. So no attempt of it
+    /// is made irrevocable, and under CGL and TML, which can't take writes back, it isn't run: the answer is
+    /// `UNCANCELLABLE`. Nor is it while a range is out, the caller's own or another's: `RANGE_TAKEN`. A full log is made
+    /// longer, up to 4,096 items, and then answered as `LOG_FULL`.
     pub fn atomically<T>(&mut self, mut body: impl FnMut(&mut Attempt<'_>) -> Result<T, Status>) -> Result<T, Status> {
-        let (mut pause, mut failed) = (Pause(5), 0u32);
+        let mut pause = Pause(5);
         loop {
-            let status = match self.attempt(&mut body, failed >= 16, &mut pause) {
+            let status = match self.attempt(&mut body, Kind::Lightly, &mut pause) {
                 Ok(answer) => return Ok(answer),
                 Err(status) => status,
             };
-            if status.is_final() || status == Status::IRREVOCABLE {
+            match status {
+                Status::LOG_FULL => self.lengthen()?,
+                Status::CONFLICT => pause.wait(16),
+                Status::IRREVOCABLE | Status::RANGE_TAKEN => return Err(status),
+                _ if status.is_final() => return Err(status),
+                _ => pause.after(status),
+            }
+        }
+    }
+
+    /// The same of a transaction that never stops: it comes through under every algorithm, since after 16 attempts that
+    /// failed, or a full log, the next is irrevocable. Where it does stop in an attempt that can't be cancelled, that is
+    /// committed as far as it came, and `IRREVOCABLE` is answered. While a range is out it isn't run, and the answer is
+    /// `RANGE_TAKEN`.
+    pub fn atomically_for_good<T>(&mut self, mut body: impl FnMut(&mut Attempt<'_>) -> Result<T, Status>) -> Result<T, Status> {
+        let (mut pause, mut failed) = (Pause(5), 0u32);
+        loop {
+            let kind = if failed >= 16 { Kind::Sure } else { Kind::ForGood };
+            let status = match self.attempt(&mut body, kind, &mut pause) {
+                Ok(answer) => return Ok(answer),
+                Err(status) => status,
+            };
+            if status.is_final() || status == Status::IRREVOCABLE || status == Status::RANGE_TAKEN {
                 return Err(status);
             }
             failed = match status {
@@ -233,16 +324,42 @@ impl Caller {
         }
     }
 
+    /// Makes the logs twice as long as the one was that is full.
+    fn lengthen(&mut self) -> Result<(), Status> {
+        let mut why = Why::default();
+        // SAFETY: both lead to objects of their own.
+        told(unsafe { nekchhaul_why(&mut self.0, &mut why) })?;
+        if why.first >= 4096 {
+            return Err(Status::LOG_FULL);
+        }
+        let length = (2 * why.first as usize).min(4096);
+        // SAFETY: the handle is this caller's alone.
+        told(unsafe { nekchhaul_reserve(&mut self.0, length, length) })
+    }
+
+    /// Whether a body of this kind may run in the attempt that has begun.
+    fn may_run(&mut self, kind: Kind) -> Result<(), Status> {
+        let mut state = State::default();
+        // SAFETY: both lead to objects of their own.
+        told(unsafe { nekchhaul_state(&mut self.0, &mut state) })?;
+        match kind {
+            _ if state.range & 2 != 0 => Err(Status::RANGE_TAKEN),
+            Kind::Lightly if state.irrevocable == 1 || state.algorithm == Algorithm::Tml as u32 => Err(Status::UNCANCELLABLE),
+            _ => Ok(()),
+        }
+    }
+
     fn attempt<T>(
         &mut self,
         body: &mut impl FnMut(&mut Attempt<'_>) -> Result<T, Status>,
-        sure: bool,
+        kind: Kind,
         pause: &mut Pause,
     ) -> Result<T, Status> {
         // SAFETY: the handle is this caller's alone, here and below.
         told(unsafe { nekchhaul_begin(&mut self.0) })?;
         let open = Open(self);
-        while sure {
+        open.0.may_run(kind)?;
+        while kind == Kind::Sure {
             match Status(unsafe { nekchhaul_become_irrevocable(&mut open.0.0) }) {
                 Status(0) => break,
                 Status::BUSY => pause.wait(10),
@@ -282,18 +399,25 @@ impl Caller {
         told(unsafe { nekchhaul_learn(&mut self.0, &mut from.0) })
     }
 
-    /// Ends the memory, which has so many words: they are the memory after all that was committed. From then on each
-    /// read and write of each caller is `FENCED`.
+    /// Ends the memory, which has so many words, once the others' attempts have ended: they are the memory after all that
+    /// was committed. From then on each read and write of each caller is `FENCED`.
     pub fn close(&mut self, words: usize) -> Result<Vec<u64>, Status> {
-        let (mut out, mut pause) = (vec![0; words], Pause(5));
-        loop {
-            // SAFETY: the slice is the vector's own.
-            match Status(unsafe { nekchhaul_close(&mut self.0, out.as_mut_ptr(), words) }) {
-                Status::BUSY | Status::GATE_CLOSED => pause.wait(10),
-                status => return told(status.0).map(|()| out),
-            }
-        }
+        let mut out = vec![0; words];
+        // SAFETY: the slice is the vector's own.
+        self.until_alone(|handle| unsafe { nekchhaul_close(handle, out.as_mut_ptr(), words) })?;
+        Ok(out)
     }
+}
+
+/// What a body is to an attempt.
+#[derive(Clone, Copy, PartialEq, Eq)]
+enum Kind {
+    /// It may stop.
+    Lightly,
+    /// It never stops.
+    ForGood,
+    /// It never stops, and the attempt is to be irrevocable before it begins.
+    Sure,
 }
 
 /// An attempt that may be open: it is abandoned where a body panics.
@@ -309,6 +433,9 @@ impl Drop for Caller {
     fn drop(&mut self) {
         self.abandon();
         // SAFETY: the handle is this caller's alone, and no caller from here on.
-        unsafe { nekchhaul_release(&mut self.0) };
+        unsafe {
+            nekchhaul_reopen(&mut self.0);
+            nekchhaul_release(&mut self.0);
+        }
     }
 }

@@ -64,7 +64,6 @@ module _ (v : View) (more : List TrailItem) {w u : View} {start : ℕ} {seen : L
       later = (let b = start_is in omega arith);
       installs = ap (λ (y : View). reverse y.steps.installs) path;
       depth = refl;
-      retains = refl;
     };
     start = subst (λ (a : Alg). StartMoves a (known_of v o) (known_of u p)) (sym named) moves;
     granted = ap (λ (y : View). granted_under y.gate.algorithm y.gate y.lock) path;

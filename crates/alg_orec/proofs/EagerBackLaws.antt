@@ -4,6 +4,7 @@ use Rattle.std.specs.Prelude.{Some, ltb, if◌then◌else◌}
 use Rattle.stm_model.specs.declared.config.Config.{Config}
 use Rattle.stm_model.specs.declared.config.TheConstants.{CLOCK_LIMIT}
 use Rattle.stm_model.specs.Memories.{item_at}
+use Rattle.rule_base.specs.declared.entries.Cell.{Cell}
 use Rattle.rule_base.specs.declared.layout.At.TheVariants.{Clock}
 use Rattle.rule_base.specs.declared.views.Act.TheVariants.{Raise}
 use Rattle.rule_base.specs.declared.views.TrailItem.{TrailItem}
@@ -21,15 +22,26 @@ use Rattle.stm_gate.specs.Peeling.{no-items}
 use Rattle.stm_rule.specs.declared.local.Local.{Local}
 use Rattle.stm_rule.specs.Attempts.{IsOutside}
 use Rattle.steps_orec.specs.RecordFindings.{FindsClock}
-use Rattle.alg_orec.specs.EagerEnding.{restoring, CanRestoreAll, RestoresAll, IsNewest, CanReleaseAbove, CanGiveBack, GivesBack, CanTakeBack, TakesBack}
+use Rattle.alg_orec.specs.EagerEnding.{restoring, AllBelow, CanRestoreAll, RestoresAll, IsNewest, CanReleaseAbove, CanGiveBack, GivesBack, CanTakeBack, TakesBack}
 use Rattle.alg_orec.specs.Locking.{holding_still, ReleasesAll}
 
-length-none : (ws : List (ℕ × ℕ)) → length ws ≡ 0 → ws ≡ []
+pub length-none : (ws : List (ℕ × ℕ)) → length ws ≡ 0 → ws ≡ []
 length-none [] e = refl
 length-none (w ∷ ws) e = absurd (omega arith)
 
+-- THE NEWEST of the versions that the records had
+module _ (ws : List (ℕ × ℕ)) (held : List Cell) (is : ws ≡ items held) (x : ℕ) (top : IsNewest x ws) where
+  pub newest-most : (r : ℕ) → touches held r ≡ true → over held r 0 ≤ x
+  newest-most r t = top.0 r (over held r 0) (ap (item_at r) is ∙ item-touched held r t)
+
+  pub newest-one : 0 < length ws → (r : ℕ) × (touches held r ≡ true) × (over held r 0 ≡ x)
+  newest-one some = let p = top.1 some in let q = item-some held p.0 x (sym (ap (item_at p.0) is) ∙ p.1) in (p.0, q.0, q.1)
+
+  pub newest-low : 0 < length ws → AllBelow CLOCK_LIMIT held → x < CLOCK_LIMIT
+  newest-low some below = let o = newest-one some in let b = below o.0 o.1 in let e = o.2 in omega arith
+
 -- the clock was found, and raised where it was lower
-abbrev lift_item : ℕ → ℕ → TrailItem
+abbrev pub lift_item : ℕ → ℕ → TrailItem
 lift_item least found = record { place = Clock; act = Raise least; found = Some found }
 
 module _ (c : Config) (l : Local) (v : View) (k : CanGiveBack c l v) where
@@ -38,21 +50,22 @@ module _ (c : Config) (l : Local) (v : View) (k : CanGiveBack c l v) where
   gives-none none = record { owned = v.owned; rises = v.steps.rises; more = []; is = refl; handed = no-items v.owned.held (sym k.locks ∙ length-none l.locks.items none); rose = (omega arith, omega arith); level = λ e. refl }
 
   pub may-restore : CanRestoreAll c l v
-  may-restore = record { has = k.opens.has; undo = k.undo; words = k.words }
+  may-restore = record { has = k.opens.has; undo = k.undo; undoable = k.undoable; words = k.words }
 
   module _ (some : 0 < length l.locks.items) (x : ℕ) (top : IsNewest x l.locks.items) (u : View) (h : RestoresAll v u) where
     most : (r : ℕ) → touches v.owned.held r ≡ true → over v.owned.held r 0 ≤ x
-    most r t = top.0 r (over v.owned.held r 0) (ap (item_at r) k.locks ∙ item-touched v.owned.held r t)
+    most = newest-most l.locks.items v.owned.held k.locks x top
 
     one : (r : ℕ) × (touches v.owned.held r ≡ true) × (over v.owned.held r 0 ≡ x)
-    one = let p = top.1 some in let q = item-some v.owned.held p.0 x (sym (ap (item_at p.0) k.locks) ∙ p.1) in (p.0, q.0, q.1)
+    one = newest-one l.locks.items v.owned.held k.locks x top some
 
     pub low : x < CLOCK_LIMIT
-    low = let b = k.below one.0 one.1 in let e = one.2 in omega arith
+    low = newest-low l.locks.items v.owned.held k.locks x top some k.below
 
     pub may-lift : (least : ℕ) → least ≡ x + 1 → CanOrecLift least u
     may-lift least is = subst (CanOrecLift least) (sym h.is) (record {
       has = record { runs = record { phase = k.opens.has.runs.phase; algorithm = k.opens.has.runs.algorithm; plain = k.opens.has.runs.plain }; inside = k.opens.has.inside };
+      restored = refl;
       uncalm = λ calm. (let b = k.earlier calm one.0 one.1 in let e = one.2 in omega arith);
       limit = (let b = low in omega arith);
       above = λ r t. (let m = most r t in omega arith);
@@ -61,13 +74,13 @@ module _ (c : Config) (l : Local) (v : View) (k : CanGiveBack c l v) where
 
     module _ (least found : ℕ) (w : View) (t : Tells (orec_lift least) (FindsClock c) u found w) where
       abbrev restored : View
-      restored = restoring v h.in_place [] h.more
+      restored = restoring v [] h.more
 
       abbrev raised : Bool → ℕ
       raised b = if b then v.steps.rises + 1 else v.steps.rises
 
       abbrev risen : Bool → View
-      risen b = record v { owned = record v.owned { in_place = h.in_place; undo = []; raised = true }; steps = record v.steps { rises = raised b; trail = lift_item least found ∷ (h.more ++ v.steps.trail) } }
+      risen b = record v { owned = record v.owned { in_place = []; undo = []; raised = true }; steps = record v.steps { rises = raised b; trail = lift_item least found ∷ (h.more ++ v.steps.trail) } }
 
       lift_path : w ≡ risen (ltb found least)
       lift_path = t.2 ∙ (ap (λ (y : View). record y { owned = lifted y.owned; steps = record (if ltb found least then record y.steps { rises = y.steps.rises + 1 } else y.steps) { trail = lift_item least found ∷ (if ltb found least then record y.steps { rises = y.steps.rises + 1 } else y.steps).trail } }) h.is ∙ by (ltb found least))
@@ -90,11 +103,11 @@ module _ (c : Config) (l : Local) (v : View) (k : CanGiveBack c l v) where
 
       pub gives-all : (z : View) → ReleasesAll w z → GivesBack v z
       gives-all z q = record {
-        owned = record v.owned { in_place = h.in_place; undo = []; raised = true; held = [] };
+        owned = record v.owned { in_place = []; undo = []; raised = true; held = [] };
         rises = raised (ltb found least);
         more = q.more ++ lift_item least found ∷ h.more;
         is = q.is ∙ (ap (λ (y : View). holding_still y [] q.more) lift_path
-            ∙ ap (λ (s : List TrailItem). record v { owned = record v.owned { in_place = h.in_place; undo = []; raised = true; held = [] }; steps = record v.steps { rises = raised (ltb found least); trail = s } }) (sym (append_assoc q.more (lift_item least found ∷ h.more) v.steps.trail)));
+            ∙ ap (λ (s : List TrailItem). record v { owned = record v.owned { in_place = []; undo = []; raised = true; held = [] }; steps = record v.steps { rises = raised (ltb found least); trail = s } }) (sym (append_assoc q.more (lift_item least found ∷ h.more) v.steps.trail)));
         handed = refl;
         rose = by (ltb found least);
         level = λ e. absurd (let f : l.locks.items ≡ [] = k.locks ∙ ap items e in let g = ap (λ (ws : List (ℕ × ℕ)). length ws) f in omega arith);

@@ -79,6 +79,7 @@ module _ {good : List ℕ → Type 0} {c : Config} {n : ℕ} {l : Local} {v : Vi
       opens = record { has = record { runs = record { phase = p.inside.phase; algorithm = ap has_records p.eager; plain = k.optimistic.ungranted }; inside = k.inside }; open_yet = k.open_yet };
       repaid = k.repaid;
       undo = ap (λ (q : LogState). q.items) undo ∙ k.undo;
+      undoable = k.undoable;
       words = k.old_words;
       locks = ap (λ (q : LogState). q.items) locks ∙ k.locks;
       places = k.places;
@@ -96,12 +97,12 @@ module _ {good : List ℕ → Type 0} {c : Config} {n : ℕ} {l : Local} {v : Vi
   pub may-take-here : CanTakeBack c l v
   may-take-here = may-take l v.check [] refl refl
 
-  clean : (o : Own) → o.retains ≡ l.retains → has_written (known_of v o) ≡ false → v.owned.held ≡ []
-  clean o same e = let f = proving.no-or (wrote (known_of v o)) o.retains e in proving.none-held c l v k (sym (proving.wrote-known c l v k p.eager v o refl refl) ∙ f.0) (sym same ∙ f.1)
+  pub clean : (o : Own) → has_written (known_of v o) ≡ false → v.owned.held ≡ []
+  clean o = proving.never-held c l v k p.eager v o refl refl
 
   -- CANCEL
-  pub tells-cancelled : (z : View) (o : Own) → o.retains ≡ l.retains → TakesBack n v z → Cancels good c n (Cancelled l.start) (known_of v o) (known_of z (with_commit false o))
-  tells-cancelled z o same g = (
+  pub tells-cancelled : (z : View) (o : Own) → TakesBack n v z → Cancels good c n (Cancelled l.start) (known_of v o) (known_of z (with_commit false o))
+  tells-cancelled z o g = (
     record { ends = ends-own v z o (with_commit false o) refl refl q.ends; made = q.made; is_start = q.is_start; seen = q.seen; kept = q.kept; sees = q.sees },
     (let a = rose.0 in let e = rises in omega arith),
     (let a = rose.1 in let e = rises in omega arith),
@@ -115,11 +116,11 @@ module _ {good : List ℕ → Type 0} {c : Config} {n : ℕ} {l : Local} {v : Vi
       rises = ap (λ (y : View). y.steps.rises) g.is
 
       rose : (v.steps.rises_at_begin ≤ g.before.steps.rises) × (g.before.steps.rises ≤ v.steps.rises_at_begin + quit_rise v.gate.algorithm (has_written (known_of v o)))
-      rose = proving.rose n v v z o p.eager k.optimistic.ungranted k.optimistic.rises refl (clean o same) g
+      rose = proving.rose n v v z o p.eager k.optimistic.ungranted k.optimistic.rises refl (clean o) g
 
   -- where it was rolled back and wrote nothing else
-  pub tells-unwritten : l.wrote ≡ false → (z : View) (o : Own) → o.retains ≡ l.retains → TakesBack n v z → Commits good c n (commits.ReadOnly l.start) (known_of v o) (known_of z (with_commit false o))
-  tells-unwritten unwritten z o same g = let t = tells-cancelled z o same g in (t.0, (t.1, t.2), proving.wrote-known c l v k p.eager v o refl refl ∙ unwritten)
+  pub tells-unwritten : l.wrote ≡ false → (z : View) (o : Own) → TakesBack n v z → Commits good c n (commits.ReadOnly l.start) (known_of v o) (known_of z (with_commit false o))
+  tells-unwritten unwritten z o g = let t = tells-cancelled z o g in (t.0, (t.1, t.2), proving.wrote-known c l v k p.eager v o refl refl ∙ unwritten)
 
   pub may-commit : l.wrote ≡ true → Stands good c n l v → CanCommitPlaced good c n l v
   may-commit wrote stands = record { inside = p.inside; eager = sym p.inside.named ∙ p.eager; plain = p.plain; wrote = wrote; running = running-by good c n l v p.inside.phase stands; holds = stands.holds; lengths = stands.lengths }
@@ -155,7 +156,7 @@ pub own-again : (l m : Local) → m ≡ record l { start = m.start } → (P : Ow
 own-again l m is P p = subst (λ (q : Local). P (own_of (record q { committing = true }))) (sym is) p
 
 -- an attempt that ended leaves a descriptor that stands
-pub ended-stands : (good : List ℕ → Type 0) (c : Config) (n : ℕ) (q : Local) (z : View) → HasRoom c q → IsOutside z → Stands good c n (attempts.ended q) z
+pub ended-stands : (good : List ℕ → Type 0) (c : Config) (n : ℕ) (q : Local) (z : View) → HasRoom q → IsOutside z → Stands good c n (attempts.ended q) z
 ended-stands good c n q z lengths out = record { holds = sym out.reopened; lengths = lengths; by = out }
 
 -- what stands of the attempt, at the call
@@ -178,9 +179,6 @@ module _ {good : List ℕ → Type 0} {c : Config} {n : ℕ} {l : Local} {v : Vi
   wrote_is : (o : Own) → wrote (known_of v o) ≡ true
   wrote_is o = proving.wrote-known c l v kept eager v o refl refl ∙ can.wrote
 
-  some : (o : Own) → wrote (known_of v o) ≡ false → v.owned.held ≡ []
-  some o e = absurd (let f : true ≡ false = sym (wrote_is o) ∙ e in cc)
-
   -- THE VALIDATION
   pub may-validate : CanValidate c l v
   may-validate = record {
@@ -201,7 +199,7 @@ module _ {good : List ℕ → Type 0} {c : Config} {n : ℕ} {l : Local} {v : Vi
 
   pub tells-full : (o : Own) (clock : ℕ) (u z : View) → CLOCK_LIMIT ≤ l.start → Tells orec_limit (FindsClock c) v clock u → TakesBack n u z → Commits good c n (commits.ClockFull clock) (known_of v o) (known_of z (with_commit false o))
   tells-full o clock u z high t g = let f = proving.ended-by n u z g in (
-    proving.quits-back n v u z o eager kept.optimistic.ungranted kept.optimistic.rises (ap (λ (y : View). y.steps.rises) t.2) (λ e. ap (λ (y : View). y.owned.held) t.2 ∙ some o (proving.no-or (wrote (known_of v o)) o.retains e).0) g
+    proving.quits-back n v u z o eager kept.optimistic.ungranted kept.optimistic.rises (ap (λ (y : View). y.steps.rises) t.2) (λ e. ap (λ (y : View). y.owned.held) t.2 ∙ clean here o e) g
         (subst (IsUnmade v) (sym t.2) (record { carried = record { named = refl; base = refl; installs = refl; fence = refl; trail = (load_of Clock clock ∷ [], refl) }; history = refl })),
     ap asks_at_commit eager,
     wrote_is o,
@@ -228,7 +226,7 @@ module _ {good : List ℕ → Type 0} {c : Config} {n : ℕ} {l : Local} {v : Vi
     ready = record {
       open_yet = kept.open_yet;
       unraised = kept.unraised;
-      covered = kept.covered;
+      covered = λ a t. kept.covered a (kept.undoable a t);
       backed = λ a t. absurd cc;
       backs = λ a d. refl;
       there = λ a d t. refl;
@@ -386,7 +384,8 @@ module _ {good : List ℕ → Type 0} {c : Config} {n : ℕ} {l : Local} {v : Vi
         small = kept.small;
         old_words = kept.old_words;
         covered = kept.covered;
-        short = kept.short;
+        shorter = kept.shorter;
+        most = kept.most;
         few = kept.few;
         places = kept.places;
         olds = olds;
@@ -511,7 +510,7 @@ module _ {good : List ℕ → Type 0} {c : Config} {n : ℕ} {l : Local} {v : Vi
 
   pub tells-stopped : (o : Own) (cause : causes.the_data) (m : Local) (u z : View) → IsOverrun good c n cause l v m u → TakesBack n u z → Commits good c n (commits.Conflict cause) (known_of v o) (known_of z (with_commit false o))
   tells-stopped o cause m u z h g = let t = proving.ended-by n u z g in (
-    proving.quits-back n v u z o eager kept.optimistic.ungranted kept.optimistic.rises (ap (λ (y : View). y.steps.rises) h.is) (λ e. ap (λ (y : View). y.owned.held) h.is ∙ some o (proving.no-or (wrote (known_of v o)) o.retains e).0) g
+    proving.quits-back n v u z o eager kept.optimistic.ungranted kept.optimistic.rises (ap (λ (y : View). y.steps.rises) h.is) (λ e. ap (λ (y : View). y.owned.held) h.is ∙ clean here o e) g
         (subst (IsUnmade v) (sym h.is) (record { carried = record { named = refl; base = refl; installs = refl; fence = refl; trail = (h.more, refl) }; history = refl })),
     proving.conflicts-later c n None cause (known_of v o) (known_of u o) (known_of z (with_commit false o)) (ap has_records eager) t.0 t.1 (h.conflicts o o),
     h.others,
@@ -537,12 +536,14 @@ module _ {good : List ℕ → Type 0} {c : Config} {n : ℕ} {l : Local} {v : Vi
     lengths = (
       ap (λ (q : Local). q.writes.len) r.local ∙ (can.lengths.0 ∙ sym (ap (λ (q : Local). q.undo.len) r.local)),
       (let a = ap (λ (q : Local). q.locks.len) r.local in let b = can.lengths.1 in let e = ap (λ (q : Local). q.undo.len) r.local in omega arith),
-      (let a = ap (λ (q : Local). q.locks.len) r.local in let b = can.lengths.2 in omega arith),
     );
   }
 
   log_at : (o p : Own) (y : View) → y.gate ≡ v.gate → y.attempt.reads ≡ v.attempt.reads → y.owned.in_place ≡ v.owned.in_place → (known_of y p).log ≡ (known_of v o).log
   log_at o p y gate reads placed = λ j. record { reads = items (reads j); writes = (proving.written c l v at_call named y p gate placed ∙ sym (proving.written c l v at_call named v o refl refl)) j }
+
+  kept_at : (o p : Own) (y : View) → y.gate ≡ v.gate → y.owned.undo ≡ v.owned.undo → (known_of y p).kept ≡ (known_of v o).kept
+  kept_at o p y gate same = proving.kept-here c l v at_call named y p gate same ∙ sym (proving.kept-here c l v at_call named v o refl refl)
 
   begins : v.attempt.start ≤ m.start
   begins = let a = can.inside.start in let b = can.inside.front in let d = (r.grows (own_of l)).front_rose in let f : w.history.front ≡ m.start = ap (λ (y : View). y.history.front) r.is in omega arith
@@ -557,7 +558,7 @@ module _ {good : List ℕ → Type 0} {c : Config} {n : ℕ} {l : Local} {v : Vi
     start = (let a = begins in let b : w.attempt.start ≡ m.start = ap (λ (y : View). y.attempt.start) r.is in omega arith);
     log = log_at o o w (ap (λ (y : View). y.gate) r.is) (ap (λ (y : View). y.attempt.reads) r.is) (ap (λ (y : View). y.owned.in_place) r.is);
     granted = ap (λ (y : View). granted_under y.gate.algorithm y.gate y.lock) r.is;
-    retains = refl;
+    kept = kept_at o o w (ap (λ (y : View). y.gate) r.is) (ap (λ (y : View). y.owned.undo) r.is);
   }
 
   pub keeps-ready : (o : Own) → KeepsRule good c n (known_of v o) → KeepsRule good c n (known_of w o)
@@ -599,6 +600,7 @@ module _ {good : List ℕ → Type 0} {c : Config} {n : ℕ} {l : Local} {v : Vi
       again.goes-on v r.more r.is now still_path OrecEager o named can.inside.phase begins (r.grows o) (again.start-moves v r.more r.is now still_path o l.start can.inside.start r.start),
       refl,
       log_at o p u (ap (λ (y : View). y.gate) path) (ap (λ (y : View). y.attempt.reads) path) (ap (λ (y : View). y.owned.in_place) path),
+      kept_at o p u (ap (λ (y : View). y.gate) path) (ap (λ (y : View). y.owned.undo) path),
       opaque-inside good c n (record m { committing = true }) u p stays-again,
       again.is-again v r.more r.is now still_path c n o (ap has_records named) apart (λ g. r.again (sym mid ∙ g) o),
       refused-others can-ready low now u apart t,

@@ -1,42 +1,49 @@
 -- What the commit of a promoted attempt of OrecEager comes to, which gives its records back.
 use Rattle.std.proofs.Common.{ℕ, ◌≡◌, ◌<◌, ◌≤◌, ◌+◌, List, [], ◌∷◌, ◌++◌, length, Bool, true, false, refl, sym, ap, ◌∙◌, arith, subst, append_assoc}
-use Rattle.std.specs.Prelude.{None, not, ◌||◌, if◌then◌else◌}
-use Rattle.stm_model.specs.Algorithms.{closes_gate, entry_rise, has_records, quit_rise}
+use Rattle.std.specs.Prelude.{None, max, ltb, not, if◌then◌else◌}
+use Rattle.stm_model.specs.Algorithms.{closes_gate, entry_rise, has_records}
 use Rattle.stm_model.specs.AlgorithmLaws.{entry-some}
 use Rattle.stm_model.specs.declared.alg.Alg.{Alg}
 use Rattle.stm_model.specs.declared.alg.Alg.TheVariants.{OrecEager}
 use Rattle.stm_model.specs.declared.config.Config.{Config}
+use Rattle.stm_model.specs.declared.config.TheConstants.{CLOCK_LIMIT}
 use Rattle.stm_model.specs.Memories.{is_empty}
 use Rattle.rule_base.specs.declared.layout.At.{At}
 use Rattle.rule_base.specs.declared.layout.At.TheVariants.{Clock, Base, Done}
 use Rattle.rule_base.specs.declared.views.Act.TheVariants.{Store}
+use Rattle.rule_base.specs.declared.views.Phase.TheVariants.{In}
 use Rattle.rule_base.specs.declared.views.SeenHistory.{SeenHistory}
 use Rattle.rule_base.specs.declared.views.TrailItem.{TrailItem}
 use Rattle.rule_base.specs.declared.views.View.{View}
 use Rattle.rule_base.specs.Bridge.{items, of_words}
+use Rattle.rule_base.specs.History.{Inside}
 use Rattle.rule_base.specs.InstallSteps.{store_base, store_done, CanMark}
 use Rattle.rule_base.specs.Own.{Own}
 use Rattle.rule_base.specs.StepKinds.{Nothing, Tells, view_after}
 use Rattle.rule_base.specs.World.{World}
+use Rattle.rule_orec.specs.OrecOwning.{lifted}
 use Rattle.rule_seq.specs.CglSteps.{Commits, cgl_entry}
 use Rattle.rule_promoted.specs.PromotedSteps.{direct_commit}
 use Rattle.stm_gate.specs.InnerLaws.{written-granted}
 use Rattle.stm_gate.specs.Leaving.{CanLeave, left}
-use Rattle.stm_gate.specs.LeavingLaws.{Carried, commits-left, ended-raised}
+use Rattle.stm_gate.specs.LeavingLaws.{Carried, IsRaised, commits-left, ended-raised}
 use Rattle.stm_gate.specs.Logging.{wrote-some}
 use Rattle.stm_gate.specs.Opacity.{opaque-inside}
-use Rattle.stm_gate.specs.DirectLaws as direct
-use Rattle.rule_promoted.specs.QuittingSteps.{direct_quit, CanDirectQuit}
+use Rattle.stm_gate.specs.Peeling.{no-items}
+use Rattle.steps_orec.specs.RecordFindings.{FindsStill}
+use Rattle.rule_promoted.specs.RaisingSteps.{direct_lift, CanDirectLift}
 use Rattle.stm_rule.specs.declared.local.Local.{Local}
 use Rattle.stm_rule.specs.Attempts.{Keeps, IsInside}
 use Rattle.stm_rule.specs.EagerKept.{IsEagerPromoted}
 use Rattle.tx_answers.specs.declared.answers.Commit.TheVariants.{ReadOnly}
-use Rattle.tx_answers.specs.Answers.{CommitsAt, EndsAt}
+use Rattle.tx_answers.specs.Answers.{CommitsAt}
 use Rattle.tx_answers.specs.Answers as answers
 use Rattle.tx_answers.specs.Known.{known_of, granted_under, written_under, wrote, has_written}
 use Rattle.alg_orec.proofs.CommitOpening.{Promoted}
-use Rattle.alg_orec.proofs.CountingLaws.{records-within}
-use Rattle.alg_orec.specs.EagerCommitting.{CanGiveDirect}
+use Rattle.alg_orec.proofs.EagerBackLaws.{length-none, lift_item, newest-low, newest-most, newest-one}
+use Rattle.alg_orec.proofs.EagerProving.{none-saved, rose-by}
+use Rattle.alg_orec.specs.EagerCommitting.{CanGiveDirect, CanGiveAbove, GivesAbove}
+use Rattle.alg_orec.specs.EagerEnding.{AllBelow, IsNewest}
 use Rattle.alg_orec.specs.Locking.{holding_still, ReleasesAll}
 
 abbrev stored : At → ℕ → TrailItem
@@ -76,38 +83,60 @@ module _ {good : List ℕ → Type 0} {c : Config} {n : ℕ} {l : Local} {v : Vi
       by true q = absurd (let f : true ≡ false = sym (wrote-known o true q) ∙ e in cc)
       by false q = refl
 
-  -- it holds no more records than contracts see that it may
-  pub held-within : length l.locks.items ≤ (if l.retains then c.records else l.undo.len)
-  held-within = by l.retains refl
-    where
-      by : (b : Bool) → l.retains ≡ b → length l.locks.items ≤ (if b then c.records else l.undo.len)
-      by true q = records-within c.records v.owned.held l.locks.items k.locks k.places
-      by false q = k.few q
-
-  -- who holds a record and wrote nothing was rolled back
-  pub was-rolled : l.wrote ≡ false → 0 < length l.locks.items → l.retains ≡ true
-  was-rolled clean some = by l.retains refl
-    where
-      by : (b : Bool) → l.retains ≡ b → b ≡ true
-      by true q = refl
-      by false q = absurd (let e : length l.locks.items ≡ 0 = ap length (k.locks ∙ ap items (k.disowned clean q)) in omega arith)
-
-  -- where it wrote nothing
-  pub may-leave : l.wrote ≡ false → v.owned.held ≡ [] → CanLeave v
-  may-leave clean handed = record {
+  -- WHERE IT WROTE NOTHING it may hold records of writes that were taken back
+  pub may-give-above : l.wrote ≡ false → CanGiveAbove c l v
+  may-give-above clean = record {
     phase = i.phase;
-    unlocked = k.unlocked;
-    unfixed = k.unfixed;
-    disowned = handed;
-    unwritten = k.unwritten;
-    uncommitted = k.uncommitted;
-    ungranted = λ e. absurd (let f : true ≡ false = sym (sym p.holds ∙ k.holds) ∙ e in cc);
-    plain = λ e. i.unentered;
-    unstored = λ e. k.clean clean;
-    marked = λ e q. absurd (let f : true ≡ false = sym q ∙ i.unentered in cc);
+    granted = k.granted;
+    eager = eager;
+    unwritten = k.clean clean;
+    unentered = i.unentered;
+    front = i.front ∙ sym i.start;
+    locks = k.locks;
+    places = k.places;
+    below = k.below;
   }
 
-  -- the clock was raised to t, whatever history it has seen then; its records are given back, and BASE and DONE have t
+  module _ (y : View) (q : GivesAbove v y) where
+    pub may-leave : CanLeave y
+    may-leave = record {
+      phase = ap (λ (u : View). u.gate.phase) q.is ∙ i.phase;
+      unlocked = ap (λ (u : View). u.lock.taken) q.is ∙ k.unlocked;
+      unfixed = ap (λ (u : View). u.lock.irrevocable) q.is ∙ k.unfixed;
+      disowned = q.handed;
+      unwritten = ap (λ (u : View). u.tml.writer) q.is ∙ k.unwritten;
+      uncommitted = ap (λ (u : View). u.ring_commit.committed) q.is ∙ k.uncommitted;
+      ungranted = λ e. absurd (let f : true ≡ false = sym (ap (λ (u : View). u.gate.holds) q.is ∙ (sym p.holds ∙ k.holds)) ∙ e in cc);
+      plain = λ e. q.unentered;
+      unstored = λ e. q.unstored;
+      marked = λ e r. absurd (let f : true ≡ false = sym r ∙ q.unentered in cc);
+    }
+
+    pub tells-read_only : l.wrote ≡ false → (w : View) (o : Own) → w ≡ left n y → answers.Commits good c n (ReadOnly l.start) (known_of v o) (known_of w o)
+    tells-read_only clean w o is = subst (λ (u : View). answers.Commits good c n (ReadOnly l.start) (known_of v o) (known_of u o)) (sym is) (
+      ended-raised n good c l.start y.history.front v y o raised_by q.later (sym i.start) (opaque-inside good c n l v o i),
+      (
+        let a = q.rose.0 in let r = k.rises in omega arith,
+        rose-by v.gate.algorithm (has_written (known_of v o)) v.steps.rises_at_begin y.steps.rises eager
+            (let a = q.rose.1 in let r = k.rises in omega arith)
+            (λ e. q.level (k.disowned (none-saved v o eager e)) ∙ k.rises),
+      ),
+      wrote-known o false clean,
+    )
+      where
+        raised_by : IsRaised y.history.front v y
+        raised_by = record {
+          carried = record {
+            named = ap (λ (u : View). u.gate.algorithm) q.is;
+            base = ap (λ (u : View). u.steps.rises_at_begin) q.is;
+            installs = ap (λ (u : View). u.steps.installs) q.is;
+            fence = ap (λ (u : View). u.fence) q.is;
+            trail = (q.more, q.trail);
+          };
+          history = ap (λ (u : View). u.history) q.is;
+        }
+
+  -- WITH AN ENTRY: the clock was raised to t, its records are given back, and BASE and DONE have t
   abbrev pub raised : ℕ → SeenHistory → View
   raised t h = record v {
     history = h;
@@ -206,47 +235,90 @@ module _ {good : List ℕ → Type 0} {c : Config} {n : ℕ} {l : Local} {v : Vi
       }) (let m = entry-some l.algorithm in let b = i.start in omega arith)
       (let m = entry-some l.algorithm in let b = i.front in omega arith) (k.dirty dirty) (written-here o))
 
-  -- where it wrote nothing, but holds records: with no entry
-  abbrev pub unentered : ℕ → SeenHistory
-  unentered t = record v.history { front = t }
+-- the clock is above the versions that its records had, and no entry was made
+pub record IsLifted (c : Config) (l : Local) (v : View) : Type 0 where
+  pub phase : v.gate.phase ≡ In
+  pub granted : v.gate.granted ≡ true
+  pub eager : v.gate.algorithm ≡ OrecEager
+  pub unentered : v.attempt.entered ≡ false
+  pub raised : v.owned.raised ≡ true
+  pub locks : l.locks.items ≡ items v.owned.held
+  pub places : Inside c.records v.owned.held
+  pub below : AllBelow CLOCK_LIMIT v.owned.held
 
-  module _ (t : ℕ) (clean : l.wrote ≡ false) (time : t ≡ l.start + entry_rise l.algorithm) where
-    pub may-quit : CanDirectQuit l.algorithm t v
-    may-quit = direct.may-quit good c n l.algorithm t l v refl time clean closes granted-here i
+-- THE RECORDS of a promoted attempt that wrote nothing are given back without an entry
+module _ (c : Config) (l : Local) (v : View) (k : CanGiveAbove c l v) where
+  pub gives-none : length l.locks.items ≡ 0 → GivesAbove v v
+  gives-none none = record {
+    is = refl;
+    more = [];
+    trail = refl;
+    handed = no-items v.owned.held (sym k.locks ∙ length-none l.locks.items none);
+    unstored = k.unwritten;
+    unentered = k.unentered;
+    later = omega arith;
+    rose = (omega arith, omega arith);
+    level = λ e. refl;
+  }
 
-    pub tells-quit : (s : View) (a : Tells (direct_quit l.algorithm t) Nothing v t s) (y : View) (q : ReleasesAll s y)
-        (u : View) (b : Tells (store_base t) Nothing y t u) (x : View) (d : Tells (store_done t) Nothing u t x)
-        → (w : View) (o : Own) → o.retains ≡ true → w ≡ left n x → answers.Commits good c n (ReadOnly l.start)
-        (known_of v o) (known_of w o)
-    tells-quit s a y q u b x d w o kept is = (
-      ends,
-      (
-        let r = rises in let e = one in omega arith,
-        let r = rises in let e = one in let f = rose in omega
-            arith,
-      ),
-      wrote-known o false clean,
-    )
-      where
-        z : View
-        z = last t (unentered t) s a.2 y q u b x d
+  module _ (some : 0 < length l.locks.items) (x : ℕ) (top : IsNewest x l.locks.items) where
+    pub may-lift : (least : ℕ) → least ≡ x + 1 → CanDirectLift least v
+    may-lift least is = let one = newest-one l.locks.items v.owned.held k.locks x top some in record {
+      phase = k.phase;
+      granted = k.granted;
+      named = k.eager;
+      unwritten = k.unwritten;
+      unentered = k.unentered;
+      limit = (let b = newest-low l.locks.items v.owned.held k.locks x top some k.below in omega arith);
+      above = λ r t. (let m = newest-most l.locks.items v.owned.held k.locks x top r t in omega arith);
+      greatest = (one.0, one.1, (let e = one.2 in omega arith));
+    }
 
-        z_path : w ≡ left n z
-        z_path = is ∙ ap (left n) (path t (unentered t) s a.2 y q u b x d)
+    module _ (least found : ℕ) (w : View) (t : Tells (direct_lift least) (FindsStill c) v found w) where
+      abbrev raised_to : Bool → ℕ
+      raised_to b = if b then v.steps.rises + 1 else v.steps.rises
 
-        ends : EndsAt good c n l.start (known_of v o) (known_of w o)
-        ends = subst (λ (m : View). EndsAt good c n l.start (known_of v o) (known_of m o)) (sym z_path)
-            (ended-raised n good c l.start t v z o
-            (record { carried = carried t (unentered t) s a.2 y q u b x d; history = refl })
-            (let m = entry-some l.algorithm in let b = i.front in omega arith) (sym i.start)
-            (opaque-inside good c n l v o i))
+      abbrev pub risen : Bool → View
+      risen b = record v {
+        history = record v.history { front = max found least };
+        gate = record v.gate { time = max found least; rebased = false; completed = false };
+        attempt = record { start = max found least; reads = []; stores = []; entered = false };
+        owned = lifted v.owned;
+        steps = record v.steps { rises = raised_to b; trail = lift_item least found ∷ v.steps.trail };
+      }
 
-        rises : w.steps.rises ≡ v.steps.rises_at_begin + entry_rise l.algorithm
-        rises = ap (λ (m : View). m.steps.rises) z_path ∙ ap (λ (m : ℕ). m + entry_rise l.algorithm) k.rises
+      lift_path : w ≡ risen (ltb found least)
+      lift_path = t.2 ∙ by (ltb found least)
+        where
+          by : (b : Bool) → record v {
+            history = record v.history { front = max found least };
+            gate = record v.gate { time = max found least; rebased = false; completed = false };
+            attempt = record { start = max found least; reads = []; stores = []; entered = false };
+            owned = lifted v.owned;
+            steps = record (if b then record v.steps { rises = v.steps.rises + 1 } else v.steps) { trail = lift_item least found ∷ (if b then record v.steps { rises = v.steps.rises + 1 } else v.steps).trail };
+          } ≡ risen b
+          by true = refl
+          by false = refl
 
-        rose : quit_rise v.gate.algorithm (has_written (known_of v o)) ≡ 1
-        rose = ap (λ (b : Bool). quit_rise v.gate.algorithm (b || o.retains)) (wrote-known o false clean)
-            ∙ ((λ j. quit_rise (eager j) (kept j)))
+      pub lift-trail : w.steps.trail ≡ lift_item least found ∷ v.steps.trail
+      lift-trail = ap (λ (y : View). y.steps.trail) lift_path
 
-        one : entry_rise l.algorithm ≡ 1
-        one = ap entry_rise (sym i.named ∙ eager)
+      pub is-lifted : IsLifted c l w
+      is-lifted = subst (IsLifted c l) (sym lift_path) (record { phase = k.phase; granted = k.granted; eager = k.eager; unentered = refl; raised = refl; locks = k.locks; places = k.places; below = k.below })
+
+      pub gives-above : (z : View) → ReleasesAll w z → GivesAbove v z
+      gives-above z q = subst (GivesAbove v) (sym (q.is ∙ ap (λ (y : View). holding_still y [] q.more) lift_path)) (record {
+        is = refl;
+        more = q.more ++ lift_item least found ∷ [];
+        trail = sym (append_assoc q.more (lift_item least found ∷ []) v.steps.trail);
+        handed = refl;
+        unstored = refl;
+        unentered = refl;
+        later = (let s = t.1.started in let f = k.front in omega arith);
+        rose = by (ltb found least);
+        level = λ e. absurd (let f : length l.locks.items ≡ 0 = ap length (k.locks ∙ ap items e) in omega arith);
+      })
+        where
+          by : (b : Bool) → (v.steps.rises ≤ raised_to b) × (raised_to b ≤ v.steps.rises + 1)
+          by true = (omega arith, omega arith)
+          by false = (omega arith, omega arith)

@@ -12,12 +12,12 @@ use Rattle.stm_rule.specs.declared.local.Local.{Local}
 use Rattle.stm_rule.specs.Attempts.{Stands, ended, own_of}
 use Rattle.stm_rule.specs.EagerKept.{IsEager}
 use Rattle.tx_answers.specs.declared.answers.Irrev.TheVariants as irrevs
-use Rattle.tx_answers.specs.Known.{known_of, wrote, has_written}
+use Rattle.tx_answers.specs.Known.{known_of, has_written}
 use Rattle.stm_gate.specs.Granting.{Grants}
 use Rattle.stm_gate.specs.Peeling.{no-items}
 use Rattle.alg_orec.specs.EagerEnding.{CanTakeBack, TakesBack}
 use Rattle.alg_orec.specs.Granting.{CanPromote, IsPromoted, IsNotPromoted}
-use Rattle.alg_orec.proofs.EagerProving.{eager-of, ended-by, length-none, no-or, no-writes, none-held, quits-back, wrote-known}
+use Rattle.alg_orec.proofs.EagerProving.{eager-of, ended-by, held-within, length-none, never-held, no-writes, none-held, quits-back}
 use Rattle.alg_orec.proofs.GrantOpening.{CanGrant}
 use Rattle.alg_orec.proofs.GrantOpening as opening
 
@@ -49,6 +49,7 @@ module _ {good : List ℕ → Type 0} {c : Config} {n : ℕ} {l : Local} {v : Vi
       opens = record { has = record { runs = record { phase = can.inside.phase; algorithm = ap has_records can.under; plain = k.optimistic.ungranted }; inside = k.inside }; open_yet = k.open_yet };
       repaid = k.repaid;
       undo = k.undo;
+      undoable = k.undoable;
       words = k.old_words;
       locks = k.locks;
       places = k.places;
@@ -68,7 +69,7 @@ module _ {good : List ℕ → Type 0} {c : Config} {n : ℕ} {l : Local} {v : Vi
       (quits-back n v u z (own_of l) can.under k.optimistic.ungranted k.optimistic.rises (ap (λ (y : View). y.steps.rises) q.is) unheld g (opening.unmade can refl q)) (ended-by n u z g)
     where
       unheld : has_written (known_of v (own_of l)) ≡ false → u.owned.held ≡ []
-      unheld e = let p = no-or (wrote (known_of v (own_of l))) l.retains e in ap (λ (y : View). y.owned.held) q.is ∙ none-held c l v k (sym (wrote-known c l v k can.under v (own_of l) refl refl) ∙ p.0) p.1
+      unheld e = ap (λ (y : View). y.owned.held) q.is ∙ never-held c l v k can.under v (own_of l) refl refl e
 
   -- THE GRANT: what was written stays in place
   module _ {m : Local} {w : View} (r : IsPromoted good c l v m w) where
@@ -92,8 +93,9 @@ module _ {good : List ℕ → Type 0} {c : Config} {n : ℕ} {l : Local} {v : Vi
       uncommitted = k.optimistic.uncommitted;
       locks = k.locks;
       places = k.places;
+      below = k.below;
       disowned = none-held c l v k;
-      few = λ never. let f = k.few never in let m = k.short in omega arith;
+      few = held-within c l v k;
       clean = stores-none;
       dirty = stores-some;
       rises = k.optimistic.rises;
@@ -101,4 +103,4 @@ module _ {good : List ℕ → Type 0} {c : Config} {n : ℕ} {l : Local} {v : Vi
     })
 
     pub tells-granted : (p : Local) → p ≡ promoted → Grants good c n irrevs.Granted (known_of v (own_of l)) (known_of w (own_of p))
-    tells-granted p local = opening.tells-promoted can refl r.seen m.start r.more v.owned.in_place l.writes r.moves r.found refl k.optimistic.ungranted p w local r.is
+    tells-granted p local = opening.tells-promoted can refl r.seen m.start r.more v.owned.in_place l.writes r.moves r.found refl (λ none. none) k.optimistic.ungranted p w local r.is

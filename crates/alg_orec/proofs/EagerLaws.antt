@@ -29,7 +29,7 @@ use Rattle.stm_rule.specs.EagerKept.{IsEager}
 use Rattle.steps_orec.specs.RecordFindings.{FindsStart}
 use Rattle.tx_answers.specs.declared.answers.Read.TheVariants as answers
 use Rattle.tx_answers.specs.Answers.{HasRead, Quits}
-use Rattle.tx_answers.specs.Known.{known_of, is_irrevocable, wrote, has_written}
+use Rattle.tx_answers.specs.Known.{known_of, is_irrevocable, has_written}
 use Rattle.tx_logs.specs.LogStates.{LogState}
 use Rattle.stm_gate.specs.Logging.{put-new}
 use Rattle.stm_gate.specs.Starts.{CanBegin, StartsAt}
@@ -92,6 +92,7 @@ module _ (good : List ℕ → Type 0) (c : Config) (n : ℕ) (l : Local) (v : Vi
         opens = record { has = record { runs = record { phase = i.phase; algorithm = ap has_records eager; plain = ungranted }; inside = k.inside }; open_yet = k.open_yet };
         repaid = k.repaid;
         undo = ap (λ (q : LogState). q.items) undo ∙ k.undo;
+        undoable = k.undoable;
         words = k.old_words;
         locks = ap (λ (q : LogState). q.items) locks ∙ k.locks;
         places = k.places;
@@ -110,7 +111,7 @@ module _ (good : List ℕ → Type 0) (c : Config) (n : ℕ) (l : Local) (v : Vi
     may-take-here = subst (CanTakeBack c l) (sym (reads.here reading)) (may-take l v.attempt.start v.history.seen v.attempt.reads v.sample v.check [] refl refl)
 
     clean : (u : View) → u.gate ≡ v.gate → u.owned ≡ v.owned → has_written (known_of u o) ≡ false → u.owned.held ≡ []
-    clean u gate owned e = let p = proving.no-or (wrote (known_of u o)) l.retains e in ap (λ (h : Ownership). h.held) owned ∙ proving.none-held c l v k (sym (proving.wrote-known c l v k eager u o gate (ap (λ (h : Ownership). h.in_place) owned)) ∙ p.0) p.1
+    clean u gate owned e = ap (λ (h : Ownership). h.held) owned ∙ proving.never-held c l v k eager u o gate (ap (λ (h : Ownership). h.undo) owned) e
 
     -- the attempt ended from a view that the load came to
     pub quits-moved : (start : ℕ) (seen : List Entry) (rs : List Cell) (sample : Sample) (check : Validation) (more : List TrailItem) (w : View) → MayMove rule c n start seen more v → TakesBack n (moved v start seen rs sample check more) w → Quits (known_of v o) (known_of w o)
@@ -166,7 +167,8 @@ module _ (good : List ℕ → Type 0) (c : Config) (n : ℕ) (l : Local) (v : Vi
           small = k.small;
           old_words = k.old_words;
           covered = k.covered;
-          short = k.short;
+          shorter = k.shorter;
+          most = k.most;
           few = k.few;
           places = k.places;
           olds = λ r t. (let o = k.olds r t in let s = i.start in let b = reads.begins reading start seen more moves in omega arith);
@@ -210,13 +212,14 @@ tells-started good c n v can clock w t = reads.tells-started good c n OrecEager 
   writes = refl;
   undo = refl;
   wrote = refl;
-  undoable = refl;
+  undoable = λ a e. absurd cc;
+  shorter = omega arith;
+  most = omega arith;
   words = λ a e. absurd cc;
   small = λ a d e. e;
   old_words = λ a e. absurd cc;
   covered = λ a e. absurd cc;
-  short = omega arith;
-  few = λ never. omega arith;
+  few = omega arith;
   places = λ a e. absurd cc;
   olds = λ r e. absurd cc;
   below = λ r e. absurd cc;

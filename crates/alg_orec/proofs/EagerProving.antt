@@ -1,15 +1,17 @@
 -- What stands of an attempt of OrecEager, and what its end comes to as seen from before.
 use Rattle.std.proofs.Common.{ℕ, ◌≡◌, ◌≤◌, ◌+◌, List, [], ◌∷◌, ◌++◌, length, Bool, true, false, refl, sym, ap, ◌∙◌, arith, subst}
-use Rattle.std.specs.Prelude.{Option, not, ◌&&◌, ◌||◌, if◌then◌else◌}
+use Rattle.std.specs.Prelude.{Option, not, ◌&&◌, ◌||◌}
 use Rattle.stm_model.specs.Algorithms.{has_records, closes_gate, irrevocable_under, quit_rise}
 use Rattle.stm_model.specs.declared.alg.Alg.{Alg}
 use Rattle.stm_model.specs.declared.alg.Alg.TheVariants.{OrecEager}
 use Rattle.stm_model.specs.declared.config.Config.{Config}
 use Rattle.stm_model.specs.declared.stop.Cause.TheVariants as causes
 use Rattle.stm_model.specs.Memories.{is_empty}
+use Rattle.rule_base.specs.declared.entries.Cell.{Cell}
+use Rattle.rule_base.specs.declared.views.GateView.{GateView}
 use Rattle.rule_base.specs.declared.views.TrailItem.{TrailItem}
 use Rattle.rule_base.specs.declared.views.View.{View}
-use Rattle.rule_base.specs.Bridge.{items}
+use Rattle.rule_base.specs.Bridge.{addresses, items}
 use Rattle.rule_base.specs.Own.{Own}
 use Rattle.stm_gate.specs.LeavingLaws.{IsUnmade, quits-left, trail-left}
 use Rattle.stm_gate.specs.Peeling.{no-items}
@@ -18,8 +20,7 @@ use Rattle.stm_rule.specs.Attempts.{Keeps, IsInside}
 use Rattle.stm_rule.specs.EagerKept.{IsEager}
 use Rattle.tx_answers.specs.Answers.{Quits}
 use Rattle.tx_answers.specs.Causes.{Conflicts}
-use Rattle.tx_answers.specs.Known.{Known, known_of, granted_under, written_under, is_irrevocable, wrote, has_written}
-use Rattle.alg_orec.proofs.CountingLaws.{records-within}
+use Rattle.tx_answers.specs.Known.{Known, known_of, granted_under, kept_under, written_under, is_irrevocable, is_none, wrote, has_written}
 use Rattle.alg_orec.proofs.Proving.{conflicts-by-records, quits-own, unmade-trans, with_commit}
 use Rattle.alg_orec.specs.EagerEnding.{TakesBack}
 
@@ -35,32 +36,47 @@ is-none : (ws : List (ℕ × ℕ)) → is_empty ws ≡ true → length ws ≡ 0
 is-none [] e = refl
 is-none (w ∷ ws) e = absurd cc
 
--- who has not written neither writes nor was rolled back
-pub no-or : (a b : Bool) → a || b ≡ false → (a ≡ false) × (b ≡ false)
+no-or : (a b : Bool) → a || b ≡ false → (a ≡ false) × (b ≡ false)
 no-or false b e = (refl, e)
 no-or true b e = absurd cc
+
+none-kept : (ks : List ℕ) → is_none ks ≡ true → ks ≡ []
+none-kept [] e = refl
+none-kept (k ∷ ks) e = absurd cc
+
+no-addresses : (ws : List (ℕ × ℕ)) → addresses ws ≡ [] → ws ≡ []
+no-addresses [] e = refl
+no-addresses (w ∷ ws) e = absurd cc
 
 pub length-none : (ws : List (ℕ × ℕ)) → length ws ≤ 0 → ws ≡ []
 length-none [] l = refl
 length-none (w ∷ ws) l = absurd (omega arith)
 
+-- who, as contracts see it, never wrote has no old value
+pub none-saved : (w : View) (p : Own) → w.gate.algorithm ≡ OrecEager → has_written (known_of w p) ≡ false → w.owned.undo ≡ []
+none-saved w p eager e = no-items w.owned.undo (no-addresses (items w.owned.undo) (ap (λ (a : Alg). kept_under a w p) (sym eager) ∙ none-kept (known_of w p).kept (no-not (is_none (known_of w p).kept) (no-or (wrote (known_of w p)) (not (is_none (known_of w p).kept)) e).1)))
+
 module _ (c : Config) (l : Local) (v : View) (k : IsEager c l v) where
-  -- who wrote nothing has nothing to restore, and holds nothing unless it was rolled back
+  -- who wrote nothing has nothing in place, and holds nothing unless it was rolled back
   pub no-writes : l.wrote ≡ false → length l.writes.items ≡ 0
   no-writes clean = is-none l.writes.items (no-not (is_empty l.writes.items) (sym k.wrote ∙ clean))
 
-  pub none-held : l.wrote ≡ false → l.retains ≡ false → v.owned.held ≡ []
-  none-held clean never = no-items v.owned.held (sym k.locks ∙ length-none l.locks.items (let e = no-writes clean in let f = k.few never in omega arith))
+  pub none-held : v.owned.undo ≡ [] → v.owned.held ≡ []
+  none-held none = no-items v.owned.held (sym k.locks ∙ length-none l.locks.items (let e : length l.undo.items ≡ 0 = ap length (k.undo ∙ ap items none) in let f = k.few in omega arith))
 
-  -- it holds no more records than contracts see that it may
-  pub held-within : length l.locks.items ≤ (if l.retains then c.records else l.undo.len)
-  held-within = by l.retains refl
-    where
-      by : (b : Bool) → l.retains ≡ b → length l.locks.items ≤ (if b then c.records else l.undo.len)
-      by true q = records-within c.records v.owned.held l.locks.items k.locks k.places
-      by false q = let f = k.few q in let s = k.short in omega arith
+  -- it holds no more records than its undo log may have items
+  pub held-within : length l.locks.items ≤ l.undo.len
+  held-within = let f = k.few in let m = k.most in omega arith
 
   module _ (eager : v.gate.algorithm ≡ OrecEager) where
+    -- what has an item in the undo log
+    pub kept-here : (w : View) (p : Own) → w.gate ≡ v.gate → w.owned.undo ≡ v.owned.undo → (known_of w p).kept ≡ addresses (items v.owned.undo)
+    kept-here w p gate same = (λ j. kept_under (gate j).algorithm w p) ∙ ((λ j. kept_under (eager j) w p) ∙ ap (λ (cs : List Cell). addresses (items cs)) same)
+
+    -- and who never wrote holds nothing
+    pub never-held : (w : View) (p : Own) → w.gate ≡ v.gate → w.owned.undo ≡ v.owned.undo → has_written (known_of w p) ≡ false → v.owned.held ≡ []
+    never-held w p gate same e = none-held (sym same ∙ none-saved w p (ap (λ (g : GateView). g.algorithm) gate ∙ eager) e)
+
     -- what was written lies in place
     pub written : (w : View) (p : Own) → w.gate ≡ v.gate → w.owned.in_place ≡ v.owned.in_place → written_under w.gate.algorithm w.gate.granted w p ≡ l.writes.items
     written w p gate same = (λ j. written_under (gate j).algorithm (gate j).granted w p) ∙ ((λ j. written_under (eager j) (k.optimistic.ungranted j) w p) ∙ (ap items same ∙ sym k.writes))
@@ -104,7 +120,7 @@ pub ended-by : (n : ℕ) (u z : View) → TakesBack n u z → (more : List Trail
 ended-by n u z g = let t = trail-left n u g.before g.unmade.carried in (t.0, ap (λ (y : View). y.steps.trail) g.is ∙ t.1)
 
 -- by how much the clock was raised
-rose-by : (a : Alg) (b : Bool) (base rises : ℕ) → a ≡ OrecEager → rises ≤ base + 1 → (b ≡ false → rises ≡ base) → rises ≤ base + quit_rise a b
+pub rose-by : (a : Alg) (b : Bool) (base rises : ℕ) → a ≡ OrecEager → rises ≤ base + 1 → (b ≡ false → rises ≡ base) → rises ≤ base + quit_rise a b
 rose-by a true base rises e one none = let q : quit_rise a true ≡ 1 = ap (λ (k : Alg). quit_rise k true) e in omega arith
 rose-by a false base rises e one none = let z = none refl in omega arith
 

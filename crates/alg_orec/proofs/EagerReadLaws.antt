@@ -43,12 +43,13 @@ use Rattle.tx_answers.specs.declared.answers.Read.TheVariants as reads
 use Rattle.tx_answers.specs.Answers.{GoesOn, HasRead, Quits, StartMoves, write_rise}
 use Rattle.tx_answers.specs.Causes.{Conflicts, has_item, reads_full}
 use Rattle.tx_answers.specs.Evidence.{Found}
-use Rattle.tx_answers.specs.Known.{Known, caller_of, known_of, is_irrevocable, has_written}
+use Rattle.tx_answers.specs.Known.{Known, caller_of, known_of, is_irrevocable, is_none, has_written}
 use Rattle.tx_answers.specs.KnownLaws.{grows-trans}
 use Rattle.alg_orec.proofs.EagerCalls.{RunsEager}
 use Rattle.alg_orec.proofs.EagerLaws as laws
 use Rattle.alg_orec.proofs.EagerProving.{ended-by, written}
 use Rattle.alg_orec.proofs.EagerTakingLaws as taking
+use Rattle.stm_gate.specs.KeptLaws.{kept-same}
 use Rattle.alg_orec.proofs.LoadLaws.{free-word, untouched-loads}
 use Rattle.alg_orec.proofs.RecordReads as records
 use Rattle.alg_orec.proofs.LockingLaws.{unheld-of}
@@ -63,8 +64,12 @@ moves-on u v w more t late s a (inr f) = inr (found-earlier Clock w.start u v w 
 moves-on u v w more t late s (inl e) (inl f) = inl (f ∙ e)
 moves-on u v w more t late s (inr e) (inl f) = inr (subst (λ (x : ℕ). Found Clock x u w) (sym f) (found-later Clock v.start u v w e late s))
 
+-- who reads under OrecEager doesn't raise the clock
+level-reads : (v u : Known) → v.alg ≡ OrecEager → GoesOn v u → u.rises ≡ v.rises
+level-reads v u eager a = let low = a.continues.rises.0 in let high = a.continues.rises.1 in let e : write_rise v.alg (is_irrevocable v) ≡ 0 = ap (λ (r : Alg). write_rise r (is_irrevocable v)) eager in omega arith
+
 -- an attempt of OrecEager that went on, with its log as it was
-module _ (v u : Known) (eager : v.alg ≡ OrecEager) (a : GoesOn v u) (log : u.log ≡ v.log) where
+module _ (v u : Known) (eager : v.alg ≡ OrecEager) (a : GoesOn v u) (log : u.log ≡ v.log) (kept : u.kept ≡ v.kept) where
   same-irrevocable : is_irrevocable u ≡ is_irrevocable v
   same-irrevocable = λ j. irrevocable_under (a.continues.alg j) (a.granted j) (not (is_empty (log j).writes))
 
@@ -92,7 +97,6 @@ module _ (v u : Known) (eager : v.alg ≡ OrecEager) (a : GoesOn v u) (log : u.l
         later = (let x = k.later in let y = q.later in omega arith);
         installs = q.installs ∙ k.installs;
         depth = q.depth ∙ k.depth;
-        retains = q.retains ∙ k.retains;
       };
       start = subst (λ (r : Alg). StartMoves r v w) (sym eager) (moves-on v u w k.grows.more k.grows.trail q.grows.more q.grows.trail (subst (λ (r : Alg). StartMoves r v u) eager a.start) (subst (λ (r : Alg). StartMoves r u w) (k.alg ∙ eager) b.start));
       granted = b.granted ∙ a.granted;
@@ -110,7 +114,7 @@ module _ (v u : Known) (eager : v.alg ≡ OrecEager) (a : GoesOn v u) (log : u.l
       made = b.made ∙ k.made;
       rises = (
         let e = k.base in let r = b.rises.0 in omega arith,
-        let e = k.base in let r = b.rises.1 in let q : quit_rise u.alg (has_written u) ≡ quit_rise v.alg (has_written v) = (λ j. quit_rise (k.alg j) (not (is_empty (log j).writes) || k.retains j)) in omega arith,
+        let e = k.base in let r = b.rises.1 in let q : quit_rise u.alg (has_written u) ≡ quit_rise v.alg (has_written v) = (λ j. quit_rise (k.alg j) (not (is_empty (log j).writes) || not (is_none (kept j)))) in omega arith,
       );
       revocable = sym same-irrevocable ∙ b.revocable;
     }
@@ -127,21 +131,24 @@ module _ (good : List ℕ → Type 0) (c : Config) (n a word x : ℕ) where
       found = f.2
 
       goes : GoesOn v u
-      goes = goes-then v s eager found.goes found.log u l.goes
+      goes = goes-then v s eager found.goes found.log found.kept u l.goes
 
       log : u.log ≡ v.log
       log = l.log ∙ found.log
 
+      kept : u.kept ≡ v.kept
+      kept = l.kept ∙ found.kept
+
       room : reads_full a v ≡ false
-      room = sym (same-room v s eager found.goes found.log a) ∙ found.fresh.room
+      room = sym (same-room v s eager found.goes found.log found.kept a) ∙ found.fresh.room
 
       trail : u.trail ≡ load_of (Heap a) x ∷ (f.0 ++ load_of (Record at) word ∷ v.trail)
       trail = l.trail ∙ ap (λ (t : List TrailItem). load_of (Heap a) x ∷ t) (found.trail ∙ append_assoc f.0 (load_of (Record at) word ∷ []) v.trail)
 
       by : (r : reads.the_data) → Confirms good c n a word x r u w → HasRead good c n a r v w
-      by (reads.Value y) q = subst (λ (z : ℕ). HasRead good c n a (reads.Value z) v w) (sym q.0) (let h = q.1 in (goes-then v u eager goes log w h.0, h.1, subst (λ (g : Log). Reads g a x w.log) log h.2, h.3, h.4, room))
+      by (reads.Value y) q = subst (λ (z : ℕ). HasRead good c n a (reads.Value z) v w) (sym q.0) (let h = q.1 in (goes-then v u eager goes log kept w h.0, h.1, subst (λ (g : Log). Reads g a x w.log) log h.2, h.3, h.4, room, h.6 ∙ level-reads v u eager goes, h.7 ∙ kept))
       by (reads.Conflict cause) q = (
-        quits-then v u eager goes log w q.quits,
+        quits-then v u eager goes log kept w q.quits,
         subst (λ (z : Cause). Conflicts c n (Some a) z v w) (sym q.is) (
           ap has_records eager,
           (a, refl, inl refl),
@@ -221,7 +228,8 @@ module _ (good : List ℕ → Type 0) (c : Config) (n : ℕ) (l : Local) (v : Vi
     goes = goes;
     uncommitted = runs.quiet;
     log = log;
-    fresh = still-new (known_of v o) (known_of w o) runs.eager goes log a new.unwritten new.unread new.room;
+    kept = kept-same v.gate.algorithm v w o o refl refl refl;
+    fresh = still-new (known_of v o) (known_of w o) runs.eager goes log (kept-same v.gate.algorithm v w o o refl refl refl) a new.unwritten new.unread new.room;
     opaque = opaque-inside good c n (record l { start = start; reads = l.reads }) w o (stays start seen sample check more moves);
     trail = refl;
   }

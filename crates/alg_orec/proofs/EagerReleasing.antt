@@ -8,34 +8,84 @@ use Rattle.rule_base.specs.declared.layout.At.TheVariants.{Heap}
 use Rattle.rule_base.specs.declared.seats.SeatView.{SeatView}
 use Rattle.rule_base.specs.declared.views.Act.TheVariants.{Store}
 use Rattle.rule_base.specs.declared.views.TrailItem.{TrailItem}
+use Rattle.rule_base.specs.Bridge.{items}
+use Rattle.rule_base.specs.BridgeLemmas.{item-some}
 use Rattle.rule_base.specs.History.{over, touches, without}
 use Rattle.rule_base.specs.HistoryLemmas.{touches-without, over-without}
 use Rattle.rule_base.specs.StepKinds.{view_after}
 use Rattle.rule_base.specs.World.{World}
 use Rattle.rule_orec.specs.OrecSteps.{orec_restore}
 use Rattle.rule_promoted.specs.PromotedSteps.{direct_release}
-use Rattle.stm_gate.specs.Peeling.{drop-all}
+use Rattle.rule_promoted.specs.RaisingSteps.{direct_up}
+use Rattle.stm_gate.specs.Peeling.{drop-all, untouched-none}
+use Rattle.tx_answers.specs.Causes.{has_item, is_some}
 use Rattle.alg_orec.specs.EagerEnding.{restoring, AllBelow, IsNewest}
 use Rattle.alg_orec.specs.Locking.{holding_still}
 use Rattle.alg_orec.proofs.Releasing.{release_item}
+
+-- each item has its own value at its address
+item-here : (ws : List (ℕ × ℕ)) (i : ℕ) (p : ℕ × ℕ) → i < length ws → Once ws → p ≡ get_or ws i (0, 0) → item_at p.0 ws ≡ Some p.1
+item-here [] i p low once e = absurd (omega arith)
+item-here (w ∷ ws) zero p low once e = subst (λ (q : ℕ × ℕ). item_at q.0 (w ∷ ws) ≡ Some q.1) (sym e) (let here : (w.0 == w.0) ≡ true = grind (arith, nat_tests) in rw here refl)
+item-here (w ∷ ws) (suc i) p low once e = by (w.0 == p.0) refl (item-here ws i p (omega arith) once.1 e)
+  where
+    by : (b : Bool) → (w.0 == p.0) ≡ b → item_at p.0 ws ≡ Some p.1 → (if b then Some w.1 else item_at p.0 ws) ≡ Some p.1
+    by true q h = absurd (let s : w.0 ≡ p.0 = grind (arith, nat_tests) in let f : None ≡ Some p.1 = sym once.0 ∙ (ap (λ (k : ℕ). item_at k ws) s ∙ h) in cc)
+    by false q h = h
 
 -- a word that is restored
 abbrev pub restore_item : ℕ → ℕ → TrailItem
 restore_item a x = record { place = Heap a; act = Store x; found = None }
 
-pub restored-step : {K : Type 0} → (first s t : SeatView K) (in_place : List Cell) (more : List TrailItem) (a x y : ℕ) (m : World) → s ≡ record first { view = restoring first.view in_place s.view.owned.undo more } → t ≡ record s { view = view_after (orec_restore a x) m s.view y }
-    → t ≡ record first { view = restoring first.view (without in_place a) t.view.owned.undo (restore_item a x ∷ more) }
-restored-step {K} first s t in_place more a x y m e p = p ∙ (ap (λ (z : SeatView K). record z { view = view_after (orec_restore a x) m z.view y }) e
-    ∙ (λ i. record first { view = restoring first.view (without in_place a) (sym undo i) (restore_item a x ∷ more) }))
+pub restored-step : {K : Type 0} → (first s t : SeatView K) (more : List TrailItem) (a x y : ℕ) (m : World) → s ≡ record first { view = restoring first.view s.view.owned.in_place more } → t ≡ record s { view = view_after (orec_restore a x) m s.view y }
+    → t ≡ record first { view = restoring first.view t.view.owned.in_place (restore_item a x ∷ more) }
+restored-step {K} first s t more a x y m e p = p ∙ (ap (λ (z : SeatView K). record z { view = view_after (orec_restore a x) m z.view y }) e
+    ∙ (λ i. record first { view = restoring first.view (sym in_place i) (restore_item a x ∷ more) }))
   where
-    undo : t.view.owned.undo ≡ without s.view.owned.undo a
-    undo = ap (λ (z : SeatView K). z.view.owned.undo) p
+    in_place : t.view.owned.in_place ≡ without s.view.owned.in_place a
+    in_place = ap (λ (z : SeatView K). z.view.owned.in_place) p
+
+-- an item's old value is that of its address
+pub old-value : (us : List (ℕ × ℕ)) (i : ℕ) (undo : List Cell) (p : ℕ × ℕ) → i < length us → Once us → us ≡ items undo → p ≡ get_or us i (0, 0) → (touches undo p.0 ≡ true) × (p.1 ≡ over undo p.0 0)
+old-value us i undo p low once is at = let t = item-some undo p.0 p.1 (sym (ap (item_at p.0) is) ∙ item-here us i p low once at) in (t.0, sym t.1)
+
+-- what is still in place is in the rest of the undo log
+abbrev pub IsAhead : ℕ → List (ℕ × ℕ) → List Cell → Type 0
+IsAhead i us in_place = (a : ℕ) → touches in_place a ≡ true → has_item a (drop i us) ≡ true
+
+pub ahead-more : (us : List (ℕ × ℕ)) (i : ℕ) (in_place : List Cell) (p : ℕ × ℕ) → i < length us → p ≡ get_or us i (0, 0) → IsAhead i us in_place → IsAhead (i + 1) us (without in_place p.0)
+ahead-more us i in_place p low at ahead a t = by (p.0 == a) refl (sym (touches-without in_place p.0 a) ∙ t)
+  where
+    next : suc i ≡ i + 1
+    next = omega arith
+
+    whole : drop i us ≡ p ∷ drop (i + 1) us
+    whole = drop-cons us i (0, 0) low ∙ ((λ j. sym at j ∷ drop (suc i) us) ∙ ap (λ (k : ℕ). p ∷ drop k us) next)
+
+    by : (q : Bool) → (p.0 == a) ≡ q → (if p.0 == a then false else touches in_place a) ≡ true → has_item a (drop (i + 1) us) ≡ true
+    by true q e = absurd (let f : false ≡ true = rw q at e in cc)
+    by false q e =
+        let f : touches in_place a ≡ true = rw q at e in
+        let h : is_some (if p.0 == a then Some p.1 else item_at a (drop (i + 1) us)) ≡ true = sym (ap (has_item a) whole) ∙ ahead a f in
+        rw q at h
+
+pub ahead-none : (us : List (ℕ × ℕ)) (i : ℕ) (in_place : List Cell) → length us ≤ i → IsAhead i us in_place → in_place ≡ []
+ahead-none us i in_place all ahead = untouched-none in_place (λ a t. let e : has_item a (drop i us) ≡ false = ap (has_item a) (drop-all us i all) in let no : true ≡ false = sym (ahead a t) ∙ e in cc)
 
 -- a record that a promoted attempt gives back
 pub direct-step : {K : Type 0} → (first s t : SeatView K) (more : List TrailItem) (r time x : ℕ) (m : World) → s ≡ record first { view = holding_still first.view s.view.owned.held more } → t ≡ record s { view = view_after (direct_release r time) m s.view x }
     → t ≡ record first { view = holding_still first.view t.view.owned.held (release_item r time ∷ more) }
 direct-step {K} first s t more r time x m e p = p ∙ (ap (λ (z : SeatView K). record z { view = view_after (direct_release r time) m z.view x }) e
     ∙ (λ i. record first { view = holding_still first.view (sym held i) (release_item r time ∷ more) }))
+  where
+    held : t.view.owned.held ≡ without s.view.owned.held r
+    held = ap (λ (z : SeatView K). z.view.owned.held) p
+
+-- or gives back one later than it was
+pub up-step : {K : Type 0} → (first s t : SeatView K) (more : List TrailItem) (r version x : ℕ) (m : World) → s ≡ record first { view = holding_still first.view s.view.owned.held more } → t ≡ record s { view = view_after (direct_up r version) m s.view x }
+    → t ≡ record first { view = holding_still first.view t.view.owned.held (release_item r version ∷ more) }
+up-step {K} first s t more r version x m e p = p ∙ (ap (λ (z : SeatView K). record z { view = view_after (direct_up r version) m z.view x }) e
+    ∙ (λ i. record first { view = holding_still first.view (sym held i) (release_item r version ∷ more) }))
   where
     held : t.view.owned.held ≡ without s.view.owned.held r
     held = ap (λ (z : SeatView K). z.view.owned.held) p
@@ -50,17 +100,7 @@ below-without limit held a h r t = by (a == r) refl (sym (touches-without held a
         let same : over (without held a) r 0 ≡ over held r 0 = over-without held a r 0 ∙ ap (λ (b : Bool). if b then 0 else over held r 0) q in
         let low = h r f in omega arith
 
--- THE NEWEST VERSION. Each item has its own value at its address
-item-here : (ws : List (ℕ × ℕ)) (i : ℕ) (p : ℕ × ℕ) → i < length ws → Once ws → p ≡ get_or ws i (0, 0) → item_at p.0 ws ≡ Some p.1
-item-here [] i p low once e = absurd (omega arith)
-item-here (w ∷ ws) zero p low once e = subst (λ (q : ℕ × ℕ). item_at q.0 (w ∷ ws) ≡ Some q.1) (sym e) (let here : (w.0 == w.0) ≡ true = grind (arith, nat_tests) in rw here refl)
-item-here (w ∷ ws) (suc i) p low once e = by (w.0 == p.0) refl (item-here ws i p (omega arith) once.1 e)
-  where
-    by : (b : Bool) → (w.0 == p.0) ≡ b → item_at p.0 ws ≡ Some p.1 → (if b then Some w.1 else item_at p.0 ws) ≡ Some p.1
-    by true q h = absurd (let s : w.0 ≡ p.0 = grind (arith, nat_tests) in let f : None ≡ Some p.1 = sym once.0 ∙ (ap (λ (k : ℕ). item_at k ws) s ∙ h) in cc)
-    by false q h = h
-
--- what was found of the first i items
+-- THE NEWEST VERSION: what was found of the first i items
 pub record NewestSo (x i : ℕ) (ws : List (ℕ × ℕ)) : Type 0 where
   pub start : i ≡ 0 → x ≡ 0
   pub most : (r version : ℕ) → item_at r ws ≡ Some version → (version ≤ x) ⊎ (item_at r (drop i ws) ≡ Some version)

@@ -1,6 +1,6 @@
 -- What a roll back in place of OrecEager comes to.
 use Rattle.std.proofs.Common.{ℕ, ◌≡◌, ◌<◌, ◌≤◌, List, ◌∷◌, ◌++◌, length, take, Bool, true, false, refl, sym, ap, ◌∙◌, arith, subst, append_assoc}
-use Rattle.std.specs.Prelude.{◌^◌, ◌==◌, ◌||◌, not, if◌then◌else◌}
+use Rattle.std.specs.Prelude.{◌^◌, ◌==◌, not, if◌then◌else◌}
 use Rattle.std.proofs.lemmas.List.{length-take-le}
 use Rattle.stm_model.specs.Algorithms.{has_records}
 use Rattle.stm_model.specs.declared.alg.Alg.{Alg}
@@ -11,46 +11,35 @@ use Rattle.rule_base.specs.declared.entries.Cell.{Cell}
 use Rattle.rule_base.specs.declared.seats.SeatView.{SeatView}
 use Rattle.rule_base.specs.declared.views.TrailItem.{TrailItem}
 use Rattle.rule_base.specs.declared.views.View.{View}
-use Rattle.rule_base.specs.Bridge.{items}
+use Rattle.rule_base.specs.Bridge.{addresses, items}
 use Rattle.rule_base.specs.History.{over, touches, without, Inside, Small}
 use Rattle.rule_base.specs.HistoryLemmas.{over-without}
 use Rattle.rule_base.specs.StepKinds.{view_after}
 use Rattle.rule_base.specs.World.{World}
-use Rattle.rule_orec.specs.OrecSteps.{HasOpen, orec_place, orec_restore}
+use Rattle.rule_orec.specs.OrecSteps.{HasOpen, orec_place}
 use Rattle.stm_rule.specs.declared.local.Local.{Local}
-use Rattle.stm_rule.specs.Attempts.{addresses, own_of, HasRoom, IsInside, Keeps, Stands}
+use Rattle.stm_rule.specs.Attempts.{own_of, IsInside, Keeps, Stands}
 use Rattle.stm_rule.specs.EagerKept.{IsEager}
 use Rattle.tx_answers.specs.declared.answers.Roll.TheVariants.{Rolled}
-use Rattle.tx_answers.specs.Answers.{Rolls}
+use Rattle.tx_answers.specs.Answers.{Rolls, kept_rolled}
 use Rattle.tx_answers.specs.Causes.{has_item}
-use Rattle.tx_answers.specs.Known.{Known, known_of, written_under, keeps_records}
+use Rattle.tx_answers.specs.Known.{Known, known_of, kept_under, written_under}
 use Rattle.tx_logs.specs.LogStates.{LogState, rolled, firsts}
 use Rattle.stm_gate.specs.Peeling.{has-touched}
-use Rattle.stm_gate.specs.RollItems.{has-by, length-by, has-take, addresses-firsts, addresses-take, first-addresses, first-fewer}
+use Rattle.stm_gate.specs.RollItems.{has-by, has-take, first-addresses, first-fewer}
 use Rattle.stm_gate.specs.Told.{stands-on}
 use Rattle.alg_orec.proofs.EagerNestingLaws.{kept}
 use Rattle.alg_orec.proofs.EagerProving.{plain-of}
 use Rattle.alg_orec.proofs.EagerReleasing.{restore_item}
 use Rattle.alg_orec.proofs.NestingOpening.{GoesOn, inside-at, rolls-log}
 use Rattle.alg_orec.specs.EagerEnding.{restoring}
-use Rattle.alg_orec.specs.EagerNesting.{RestoresBehind, CanPlaceAgain, PlacesAgain}
+use Rattle.alg_orec.specs.EagerNesting.{CanRestoreBehind, RestoresBehind, CanPlaceAgain, PlacesAgain}
 
--- THE STEPS, with what is in place and to be restored behind them
-pub behind-step : {K : Type 0} → (first s t : SeatView K) (more : List TrailItem) (a x y : ℕ) (m : World) → s ≡ record first { view = restoring first.view s.view.owned.in_place s.view.owned.undo more } → t ≡ record s { view = view_after (orec_restore a x) m s.view y }
-    → t ≡ record first { view = restoring first.view t.view.owned.in_place t.view.owned.undo (restore_item a x ∷ more) }
-behind-step {K} first s t more a x y m e p = p ∙ (ap (λ (z : SeatView K). record z { view = view_after (orec_restore a x) m z.view y }) e
-    ∙ (λ j. record first { view = restoring first.view (sym in_place j) (sym undo j) (restore_item a x ∷ more) }))
-  where
-    in_place : t.view.owned.in_place ≡ without s.view.owned.in_place a
-    in_place = ap (λ (z : SeatView K). z.view.owned.in_place) p
-
-    undo : t.view.owned.undo ≡ without s.view.owned.undo a
-    undo = ap (λ (z : SeatView K). z.view.owned.undo) p
-
-pub again-step : {K : Type 0} → (first s t : SeatView K) (more : List TrailItem) (a x y : ℕ) (m : World) → s ≡ record first { view = restoring first.view s.view.owned.in_place first.view.owned.undo more } → t ≡ record s { view = view_after (orec_place a x) m s.view y }
-    → t ≡ record first { view = restoring first.view t.view.owned.in_place first.view.owned.undo (restore_item a x ∷ more) }
+-- a word is stored again
+pub again-step : {K : Type 0} → (first s t : SeatView K) (more : List TrailItem) (a x y : ℕ) (m : World) → s ≡ record first { view = restoring first.view s.view.owned.in_place more } → t ≡ record s { view = view_after (orec_place a x) m s.view y }
+    → t ≡ record first { view = restoring first.view t.view.owned.in_place (restore_item a x ∷ more) }
 again-step {K} first s t more a x y m e p = p ∙ (ap (λ (z : SeatView K). record z { view = view_after (orec_place a x) m z.view y }) e
-    ∙ (λ j. record first { view = restoring first.view (sym in_place j) first.view.owned.undo (restore_item a x ∷ more) }))
+    ∙ (λ j. record first { view = restoring first.view (sym in_place j) (restore_item a x ∷ more) }))
   where
     in_place : t.view.owned.in_place ≡ record { at = a; value = x } ∷ s.view.owned.in_place
     in_place = ap (λ (z : SeatView K). z.view.owned.in_place) p
@@ -72,38 +61,48 @@ module _ {good : List ℕ → Type 0} {c : Config} {n : ℕ} {l : Local} {v : Vi
   k : IsEager c l v
   k = kept a named plain
 
-  -- the undo log has the addresses of the words in place
-  undoable : addresses l.undo.items ≡ addresses (items v.owned.in_place)
-  undoable = addresses-firsts l.undo.items ∙ (k.undoable ∙ (sym (addresses-firsts l.writes.items) ∙ ap addresses k.writes))
+  pub marked : length l.writes.marks ≡ l.depth
+  marked = k.marked
+
+  -- no more words are written than the undo log may have items
+  pub within : length l.writes.items ≤ l.undo.len
+  within = let a = k.shorter in let b = k.most in omega arith
+
+  pub may-restore : CanRestoreBehind c.words l.undo.items l.writes.items v
+  may-restore = record {
+    has = record { runs = record { phase = a.inside.phase; algorithm = ap has_records eager; plain = k.optimistic.ungranted }; inside = k.inside };
+    undo = k.undo;
+    placed = k.writes;
+    undoable = k.undoable;
+    within = k.old_words;
+    small = k.small;
+  }
 
   module _ (log : LogState) (d : ℕ) (low : 1 ≤ d) (high : d ≤ l.depth) (is : log ≡ rolled d l.writes) (prefix : firsts log.items ≡ take (length log.items) (firsts l.writes.items)) where
     abbrev left : ℕ
     left = length log.items
 
-    fewer : left ≤ length l.writes.items
+    pub fewer : left ≤ length l.writes.items
     fewer = first-fewer log.items l.writes.items prefix
 
-    pub left-low : left ≤ length l.undo.items
-    left-low = let e = length-by l.undo.items (items v.owned.in_place) undoable in let g = ap length k.writes in let f = fewer in omega arith
-
-    of-place : addresses log.items ≡ addresses (take left (items v.owned.in_place))
-    of-place = first-addresses log.items l.writes.items prefix ∙ ap (λ (ws : List (ℕ × ℕ)). addresses (take left ws)) k.writes
-
-    of-undo : addresses (take left l.undo.items) ≡ addresses log.items
-    of-undo = addresses-take left l.undo.items (items v.owned.in_place) undoable ∙ sym of-place
+    of-place : addresses log.items ≡ addresses (take left l.writes.items)
+    of-place = first-addresses log.items l.writes.items prefix
 
     was-placed : (a : ℕ) → has_item a log.items ≡ true → touches v.owned.in_place a ≡ true
-    was-placed a h = has-touched a v.owned.in_place ∙ has-take a left (items v.owned.in_place) (sym (has-by a log.items (take left (items v.owned.in_place)) of-place) ∙ h)
+    was-placed a h = has-touched a v.owned.in_place ∙ (ap (has_item a) (sym k.writes) ∙ has-take a left l.writes.items (sym (has-by a log.items (take left l.writes.items) of-place) ∙ h))
 
     -- the first words are stored still
-    module _ (u : View) (back : RestoresBehind c.words left l.undo.items v u) where
+    module _ (u : View) (back : RestoresBehind left l.writes.items v u) where
+      undo-same : u.owned.undo ≡ v.owned.undo
+      undo-same = ap (λ (y : View). y.owned.undo) back.is
+
       pub may-place-again : CanPlaceAgain c.words log.items u
       may-place-again = record {
         opens = opens-still;
         eager = ap (λ (y : View). y.owned.eager) back.is ∙ k.eager;
-        within = back.within;
+        within = subst (λ (cs : List Cell). Inside c.words cs) (sym undo-same) k.old_words;
         placed = of-place ∙ ap addresses (sym back.in_place);
-        undoable = λ a h. has-touched a u.owned.undo ∙ (ap (has_item a) back.undo ∙ (has-by a (take left l.undo.items) log.items of-undo ∙ h));
+        undoable = λ a h. ap (λ (cs : List Cell). touches cs a) undo-same ∙ k.undoable a (was-placed a h);
         small = back.small;
       }
         where
@@ -111,31 +110,28 @@ module _ {good : List ℕ → Type 0} {c : Config} {n : ℕ} {l : Local} {v : Vi
           opens-still = subst HasOpen (sym back.is) (record { has = record { runs = record { phase = a.inside.phase; algorithm = ap has_records eager; plain = k.optimistic.ungranted }; inside = k.inside }; open_yet = k.open_yet })
 
       -- and have the values that they had at the mark
-      module _ (w : View) (again : PlacesAgain log.items u w) (cut : LogState) (cut-is : cut ≡ record l.undo { items = take left l.undo.items }) (wrote : Bool) (some : wrote ≡ not (is_empty log.items)) where
+      module _ (w : View) (again : PlacesAgain log.items u w) (wrote : Bool) (some : wrote ≡ not (is_empty log.items)) where
         abbrev m : Local
-        m = record l { writes = log; undo = cut; wrote = wrote; depth = d; retains = true }
+        m = record l { writes = log; wrote = wrote; depth = d }
 
         abbrev more : List TrailItem
         more = again.more ++ back.more
 
-        abbrev after : List Cell → List Cell → View
-        after in_place undo = restoring v in_place undo more
+        abbrev after : List Cell → View
+        after in_place = restoring v in_place more
 
-        undo-same : w.owned.undo ≡ u.owned.undo
-        undo-same = ap (λ (y : View). y.owned.undo) again.is
+        path : w ≡ after w.owned.in_place
+        path = again.is ∙ ((λ j. restoring (back.is j) w.owned.in_place again.more)
+            ∙ (λ j. record v { owned = record v.owned { in_place = w.owned.in_place }; steps = record v.steps { trail = sym (append_assoc again.more back.more v.steps.trail) j } }))
 
-        path : w ≡ after w.owned.in_place w.owned.undo
-        path = again.is ∙ ((λ j. restoring (back.is j) w.owned.in_place u.owned.undo again.more)
-            ∙ (λ j. record v { owned = record v.owned { in_place = w.owned.in_place; undo = sym undo-same j }; steps = record v.steps { trail = sym (append_assoc again.more back.more v.steps.trail) j } }))
-
-        keeps-at : (in_place undo : List Cell) → items in_place ≡ log.items → Small in_place → items undo ≡ take left l.undo.items → Inside c.words undo → Keeps c l.algorithm l.granted m (after in_place undo)
-        keeps-at in_place undo placed small undone within =
-            subst (λ (a : Alg). Keeps c a l.granted m (after in_place undo)) (sym (sym a.inside.named ∙ eager)) (subst (λ (b : Bool). Keeps c OrecEager b m (after in_place undo)) (sym plain) keeps)
+        keeps-at : (in_place : List Cell) → items in_place ≡ log.items → Small in_place → Keeps c l.algorithm l.granted m (after in_place)
+        keeps-at in_place placed small =
+            subst (λ (a : Alg). Keeps c a l.granted m (after in_place)) (sym (sym a.inside.named ∙ eager)) (subst (λ (b : Bool). Keeps c OrecEager b m (after in_place)) (sym plain) keeps)
           where
             of-now : (a : ℕ) → touches in_place a ≡ true → touches v.owned.in_place a ≡ true
             of-now a t = was-placed a (ap (has_item a) (sym placed) ∙ (sym (has-touched a in_place) ∙ t))
 
-            keeps : IsEager c m (after in_place undo)
+            keeps : IsEager c m (after in_place)
             keeps = record {
               optimistic = record { unlocked = k.optimistic.unlocked; unfixed = k.optimistic.unfixed; unwritten = k.optimistic.unwritten; uncommitted = k.optimistic.uncommitted; ungranted = k.optimistic.ungranted; uncalm = k.optimistic.uncalm; unstored = k.optimistic.unstored; rises = k.optimistic.rises };
               inside = k.inside;
@@ -146,15 +142,16 @@ module _ {good : List ℕ → Type 0} {c : Config} {n : ℕ} {l : Local} {v : Vi
               reads = k.reads;
               locks = k.locks;
               writes = sym placed;
-              undo = ap (λ (q : LogState). q.items) cut-is ∙ sym undone;
+              undo = k.undo;
               wrote = some;
-              undoable = ap (λ (q : LogState). firsts q.items) cut-is ∙ (sym (addresses-firsts (take left l.undo.items)) ∙ (of-undo ∙ addresses-firsts log.items));
+              undoable = λ a t. k.undoable a (of-now a t);
+              shorter = (let f = fewer in let h = k.shorter in omega arith);
+              most = k.most;
               words = λ a t. k.words a (of-now a t);
               small = small;
-              old_words = within;
-              covered = λ a t. k.covered a (of-now a t);
-              short = (let e = ap (λ (q : LogState). q.len) cut-is in let f = fewer in let g = k.short in omega arith);
-              few = λ never. absurd (let no : true ≡ false = never in cc);
+              old_words = k.old_words;
+              covered = k.covered;
+              few = k.few;
               places = k.places;
               olds = k.olds;
               below = k.below;
@@ -163,17 +160,17 @@ module _ {good : List ℕ → Type 0} {c : Config} {n : ℕ} {l : Local} {v : Vi
               sole = k.sole;
             }
 
-        inside : IsInside good c n m (after w.owned.in_place w.owned.undo)
-        inside = inside-at a log cut wrote d true w.owned.in_place w.owned.undo more
-            (keeps-at w.owned.in_place w.owned.undo again.in_place again.small (ap items undo-same ∙ back.undo) (subst (λ (cs : List Cell). Inside c.words cs) (sym undo-same) back.within))
+        inside : IsInside good c n m (after w.owned.in_place)
+        inside = inside-at a log wrote d w.owned.in_place more (keeps-at w.owned.in_place again.in_place again.small)
 
-        pub stands-rolled : Stands good c n (record l { writes = log; undo = cut; wrote = wrote; depth = d; retains = true }) w
-        stands-rolled = stands-on good c n l m v w a.inside.phase a.stands refl refl room (ap (λ (y : View). y.gate.holds) path) (subst (λ (y : View). IsInside good c n m y) (sym path) inside)
-          where
-            room : HasRoom c m
-            room = let short = ap (λ (y : LogState). y.len) cut-is in let h = a.stands.lengths.1 in (ap (λ (y : LogState). y.len) is ∙ (a.stands.lengths.0 ∙ sym short), omega arith, a.stands.lengths.2)
+        pub stands-rolled : Stands good c n (record l { writes = log; wrote = wrote; depth = d }) w
+        stands-rolled = stands-on good c n l m v w a.inside.phase a.stands refl refl (ap (λ (y : LogState). y.len) is ∙ a.stands.lengths.0, a.stands.lengths.1) (ap (λ (y : View). y.gate.holds) path) (subst (λ (y : View). IsInside good c n m y) (sym path) inside)
 
-        pub rolls-back : Rolls good c n d Rolled (known_of v (own_of l)) (known_of w (own_of (record l { writes = log; undo = cut; wrote = wrote; depth = d; retains = true })))
+        pub rolls-back : Rolls good c n d Rolled (known_of v (own_of l)) (known_of w (own_of (record l { writes = log; wrote = wrote; depth = d })))
         rolls-back = subst (λ (y : View). Rolls good c n d Rolled (known_of v (own_of l)) (known_of y (own_of m))) (sym path)
-            (rolls-log a (ap has_records eager) plain log cut wrote d true w.owned.in_place w.owned.undo more is (let h = k.marked in omega arith) (ap (λ (q : LogState). q.len) cut-is) (ap (λ (a : Alg). keeps_records a || l.retains) (sym eager))
-            ((λ j. written_under (eager j) (k.optimistic.ungranted j) (after w.owned.in_place w.owned.undo) (own_of m)) ∙ again.in_place) inside)
+            (rolls-log a (ap has_records eager) plain log wrote d w.owned.in_place more is (let h = k.marked in omega arith) kept-still
+            ((λ j. written_under (eager j) (k.optimistic.ungranted j) (after w.owned.in_place) (own_of m)) ∙ again.in_place) inside)
+          where
+            kept-still : (known_of (after w.owned.in_place) (own_of m)).kept ≡ kept_rolled v.gate.algorithm (known_of v (own_of l)).kept (known_of (after w.owned.in_place) (own_of m)).log.writes
+            kept-still = ap (λ (b : Alg). kept_under b (after w.owned.in_place) (own_of m)) eager
+                ∙ sym (λ j. kept_rolled (eager j) (kept_under (eager j) v (own_of l)) (known_of (after w.owned.in_place) (own_of m)).log.writes)

@@ -1,9 +1,8 @@
 -- What a write of OrecEager comes to.
-use Rattle.std.proofs.Common.{ℕ, suc, ◌≡◌, ◌≢◌, ◌<◌, ◌≤◌, List, [], ◌∷◌, ◌++◌, length, Bool, true, false, refl, sym, ap, ◌∙◌, arith, subst, inl, inr, append_assoc, length-append}
-use Rattle.std.specs.Prelude.{◌^◌, ◌⊎◌, ◌==◌, ◌&&◌, not, map, if◌then◌else◌, Option, Some, None, IsSome}
+use Rattle.std.proofs.Common.{ℕ, ◌≡◌, ◌≢◌, ◌<◌, ◌≤◌, ◌+◌, List, [], ◌∷◌, ◌++◌, length, Bool, true, false, refl, sym, ap, ◌∙◌, arith, subst, inl, inr, append_assoc, length-append}
+use Rattle.std.specs.Prelude.{◌^◌, ◌⊎◌, ◌==◌, ◌&&◌, not, if◌then◌else◌, Option, Some, None}
 use Rattle.std.proofs.lemmas.Bool.Decides.{nat_tests}
 use Rattle.std.proofs.lemmas.List.Elements.{Contains-append_right}
-use Rattle.std.proofs.lemmas.Nat.{mod_below}
 use Rattle.stm_model.specs.Algorithms.{has_records, logs_writes, asks_at_write}
 use Rattle.stm_model.specs.declared.alg.Alg.{Alg}
 use Rattle.stm_model.specs.declared.alg.Alg.TheVariants.{OrecEager}
@@ -21,31 +20,32 @@ use Rattle.rule_base.specs.declared.views.Sample.{Sample}
 use Rattle.rule_base.specs.declared.views.TrailItem.{TrailItem}
 use Rattle.rule_base.specs.declared.views.Validation.{Validation}
 use Rattle.rule_base.specs.declared.views.View.{View}
-use Rattle.rule_base.specs.Bridge.{items, of_words}
-use Rattle.rule_base.specs.History.{touches, Inside}
+use Rattle.rule_base.specs.Bridge.{addresses, items, of_words}
+use Rattle.rule_base.specs.History.{member, touches, Inside}
 use Rattle.rule_base.specs.HistoryLemmas.{inside-more, small-more}
 use Rattle.rule_base.specs.Own.{Own}
 use Rattle.rule_base.specs.Ranks.{home_of}
 use Rattle.rule_base.specs.StepKinds.{Nothing, Tells}
 use Rattle.rule_orec.specs.OrecSteps.{orec_place, CanOrecPlace}
+use Rattle.stm_gate.specs.KeptLaws.{cells-longer, cells-shorter, kept-put, kept-there, length-addresses, member-item}
 use Rattle.stm_gate.specs.Leaving.{left}
 use Rattle.stm_gate.specs.LeavingLaws.{trail-left, finds-full, found-later}
 use Rattle.stm_gate.specs.Logging.{put-new}
 use Rattle.stm_gate.specs.Opacity.{opaque-at}
+use Rattle.stm_gate.specs.Peeling.{has-touched}
 use Rattle.stm_rule.specs.declared.local.Local.{Local}
 use Rattle.stm_rule.specs.Attempts.{own_of, IsInside, HasRoom}
 use Rattle.stm_rule.specs.Attempts as attempts
 use Rattle.stm_rule.specs.EagerKept.{IsEager}
 use Rattle.tx_answers.specs.declared.answers.Write.{Write}
 use Rattle.tx_answers.specs.declared.answers.Write.TheVariants as writes
-use Rattle.tx_answers.specs.Answers.{HasWritten, StartMoves}
+use Rattle.tx_answers.specs.Answers.{HasWritten, StartMoves, kept_with}
 use Rattle.tx_answers.specs.Causes.{Conflicts, has_item, is_some, writes_full}
 use Rattle.tx_answers.specs.Evidence.{Found}
-use Rattle.tx_answers.specs.Known.{Grows, known_of, written_under, is_in, is_closing}
+use Rattle.tx_answers.specs.Known.{Grows, known_of, kept_under, written_under, is_in, is_closing, is_irrevocable}
 use Rattle.tx_logs.specs.declared.push.Push.{Push}
 use Rattle.tx_logs.specs.declared.push.Push.TheVariants as pushes
 use Rattle.tx_logs.specs.LogStates.{LogState, Pushes}
-use Rattle.alg_orec.proofs.CountingLaws.{fewer-records}
 use Rattle.alg_orec.proofs.EagerCalls.{RunsEager}
 use Rattle.alg_orec.proofs.EagerLaws as laws
 use Rattle.alg_orec.proofs.EagerProving as proving
@@ -55,48 +55,6 @@ use Rattle.alg_orec.specs.EagerEnding.{AllBelow, CanTakeBack, TakesBack}
 use Rattle.alg_orec.specs.EagerTaking.{AllSeen, CanTake, HasTaken, FindsLimit, RefusesTake, CanStoreFirst, StoresFirst}
 use Rattle.alg_orec.specs.Loading.{MayMove, RefusesRead}
 use Rattle.alg_orec.specs.Validating.{load_of}
-
--- THE ADDRESSES of two logs
-map-last : (ws : List (ℕ × ℕ)) (p : ℕ × ℕ) → map (λ (w : ℕ × ℕ). w.0) (ws ++ p ∷ []) ≡ map (λ (w : ℕ × ℕ). w.0) ws ++ p.0 ∷ []
-map-last [] p = refl
-map-last (w ∷ ws) p = ap (λ (l : List ℕ). w.0 ∷ l) (map-last ws p)
-
-length-map : (ws : List (ℕ × ℕ)) → length (map (λ (w : ℕ × ℕ). w.0) ws) ≡ length ws
-length-map [] = refl
-length-map (w ∷ ws) = ap suc (length-map ws)
-
-same-length : (us ws : List (ℕ × ℕ)) → map (λ (w : ℕ × ℕ). w.0) us ≡ map (λ (w : ℕ × ℕ). w.0) ws → length us ≡ length ws
-same-length us ws e = sym (length-map us) ∙ (ap length e ∙ length-map ws)
-
-same-has : (a : ℕ) (us ws : List (ℕ × ℕ)) → map (λ (w : ℕ × ℕ). w.0) us ≡ map (λ (w : ℕ × ℕ). w.0) ws → is_some (item_at a us) ≡ is_some (item_at a ws)
-same-has a [] [] e = refl
-same-has a [] (w ∷ ws) e = absurd cc
-same-has a (u ∷ us) [] e = absurd cc
-same-has a (u ∷ us) (w ∷ ws) e = by (u.0 == a) refl (w.0 == a) refl (same-has a us ws cc)
-  where
-    here : u.0 ≡ w.0
-    here = cc
-
-    by : (p : Bool) → (u.0 == a) ≡ p → (q : Bool) → (w.0 == a) ≡ q → is_some (item_at a us) ≡ is_some (item_at a ws) → is_some (if p then Some u.1 else item_at a us) ≡ is_some (if q then Some w.1 else item_at a ws)
-    by true p true q r = refl
-    by true p false q r = absurd (let h = here in grind (arith, nat_tests))
-    by false p true q r = absurd (let h = here in grind (arith, nat_tests))
-    by false p false q r = r
-
-none-of : (m : Option ℕ) → is_some m ≡ false → m ≡ None
-none-of None e = refl
-none-of (Some x) e = absurd cc
-
-pub none-there : (a : ℕ) (us ws : List (ℕ × ℕ)) → map (λ (w : ℕ × ℕ). w.0) us ≡ map (λ (w : ℕ × ℕ). w.0) ws → item_at a ws ≡ None → item_at a us ≡ None
-none-there a us ws e none = none-of (item_at a us) (same-has a us ws e ∙ ap is_some none)
-
-put-firsts : (a x : ℕ) (ws : List (ℕ × ℕ)) → is_some (item_at a ws) ≡ true → map (λ (w : ℕ × ℕ). w.0) (put a x ws) ≡ map (λ (w : ℕ × ℕ). w.0) ws
-put-firsts a x [] e = absurd cc
-put-firsts a x (w ∷ ws) e = by (w.0 == a) refl e (put-firsts a x ws)
-  where
-    by : (p : Bool) → (w.0 == a) ≡ p → is_some (if p then Some w.1 else item_at a ws) ≡ true → (is_some (item_at a ws) ≡ true → map (λ (k : ℕ × ℕ). k.0) (put a x ws) ≡ map (λ (k : ℕ × ℕ). k.0) ws) → map (λ (k : ℕ × ℕ). k.0) (if p then (a, x) ∷ ws else w ∷ put a x ws) ≡ w.0 ∷ map (λ (k : ℕ × ℕ). k.0) ws
-    by true p f rec = let s : a ≡ w.0 = grind (arith, nat_tests) in ap (λ (k : ℕ). k ∷ map (λ (j : ℕ × ℕ). j.0) ws) s
-    by false p f rec = ap (λ (k : List ℕ). w.0 ∷ k) (rec f)
 
 pub held-some : (cs : List Cell) (ws : List (ℕ × ℕ)) (a : ℕ) → ws ≡ items cs → is_some (item_at a ws) ≡ true → touches cs a ≡ true
 held-some cs ws a is e = by (item_at a ws) refl e
@@ -112,10 +70,6 @@ some-put a x (w ∷ ws) = by (w.0 == a)
     by : (b : Bool) → is_empty (if b then (a, x) ∷ ws else w ∷ put a x ws) ≡ false
     by true = refl
     by false = refl
-
-pub is-some-of : (m : Option ℕ) → IsSome m → is_some m ≡ true
-is-some-of None h = absurd cc
-is-some-of (Some x) h = refl
 
 -- two steps of a seat, one after the other
 pub seat-then : {K : Type 0} → (s u w : SeatView K) → u ≡ record s { view = u.view } → w ≡ record u { view = w.view } → w ≡ record s { view = w.view }
@@ -147,15 +101,15 @@ module _ (good : List ℕ → Type 0) (c : Config) (n : ℕ) (l : Local) (v : Vi
     pub more : List TrailItem
     pub is : w ≡ stored v q.start seen held sample check a x undo more
     pub moves : MayMove rule c n q.start seen more v
-    pub its : touches held (home_of c a) ≡ true
-    pub keeps : (r : ℕ) → touches v.owned.held r ≡ true → touches held r ≡ true
     pub locks : q.locks.items ≡ items held
     pub writes : q.writes.items ≡ put a x l.writes.items
     pub undos : q.undo.items ≡ items undo
-    pub undoable : map (λ (k : ℕ × ℕ). k.0) q.undo.items ≡ map (λ (k : ℕ × ℕ). k.0) q.writes.items
+    pub undoable : (b : ℕ) → touches (record { at = a; value = x } ∷ v.owned.in_place) b ≡ true → touches undo b ≡ true
+    pub covered : (b : ℕ) → touches undo b ≡ true → touches held (home_of c b) ≡ true
+    pub kept : addresses (items undo) ≡ kept_with a (known_of v (own_of l))
     pub old_words : Inside c.words undo
-    pub short : length q.writes.items ≤ q.undo.len
-    pub few : l.retains ≡ false → length q.locks.items ≤ length q.writes.items
+    pub most : length q.undo.items ≤ q.undo.len
+    pub few : length q.locks.items ≤ length q.undo.items
     pub places : Inside c.records held
     pub olds : AllSeen q.start held
     pub below : AllBelow CLOCK_LIMIT held
@@ -186,42 +140,57 @@ module _ (good : List ℕ → Type 0) (c : Config) (n : ℕ) (l : Local) (v : Vi
     here-written : (known_of v o).log.writes ≡ l.writes.items
     here-written = laws.written-here good c n l v runs
 
+    -- WHAT IS KEPT, as contracts see it, is what the undo log has
+    kept-here : (known_of v o).kept ≡ addresses (items v.owned.undo)
+    kept-here = proving.kept-here c l v k eager v o refl refl
+
+    pub is-kept : (a : ℕ) → member (known_of v o).kept a ≡ is_some (item_at a l.undo.items)
+    is-kept a = ap (λ (ks : List ℕ). member ks a) kept-here ∙ (member-item a (items v.owned.undo) ∙ ap (has_item a) (sym k.undo))
+
+    logged-touched : (a : ℕ) (b : Bool) → is_some (item_at a l.undo.items) ≡ b → touches v.owned.undo a ≡ b
+    logged-touched a b e = has-touched a v.owned.undo ∙ (ap (has_item a) (sym k.undo) ∙ e)
+
+    -- a word that is written has an item
+    pub written-logged : (a : ℕ) → is_some (item_at a l.writes.items) ≡ true → is_some (item_at a l.undo.items) ≡ true
+    written-logged a there = ap (has_item a) k.undo ∙ (sym (has-touched a v.owned.undo) ∙ k.undoable a (held-some v.owned.in_place l.writes.items a k.writes there))
+
+    logs : logs_writes v.gate.algorithm ≡ true
+    logs = ap logs_writes eager
+
+    revocable : is_irrevocable (known_of v o) ≡ false
+    revocable = laws.revocable good c n l v runs
+
     -- by whether the undo log has its length
-    filled : (a : ℕ) (m : Option ℕ) (b : Bool) → item_at a l.writes.items ≡ m → (length l.writes.items == l.undo.len) ≡ b → writes_full a (known_of v o) ≡ (not (is_some m) && b)
-    filled a m b at count = (λ j. logs_writes (eager j) && (not (laws.revocable good c n l v runs j) && (not (has_item a (here-written j)) && (length (here-written j) == l.undo.len))))
-        ∙ ap (λ (q : Option ℕ). not (is_some q) && (length l.writes.items == l.undo.len)) at ∙ ap (λ (q : Bool). not (is_some m) && q) count
+    filled : (a : ℕ) (m b : Bool) → is_some (item_at a l.undo.items) ≡ m → (length l.undo.items == l.undo.len) ≡ b → writes_full a (known_of v o) ≡ (not m && b)
+    filled a m b at count = λ j. logs j && (not (revocable j) && (not ((is-kept a ∙ at) j) && (ap (λ (k : ℕ). k == l.undo.len) size ∙ count) j))
+      where
+        size : length (known_of v o).kept ≡ length l.undo.items
+        size = ap (λ (ks : List ℕ). length ks) kept-here ∙ (length-addresses (items v.owned.undo) ∙ ap (λ (ws : List (ℕ × ℕ)). length ws) (sym k.undo))
 
-    level : length l.undo.items ≡ length l.writes.items
-    level = same-length l.undo.items l.writes.items k.undoable
+    pub room-free : (a : ℕ) → item_at a l.undo.items ≡ None → length l.undo.items ≢ l.undo.len → writes_full a (known_of v o) ≡ false
+    room-free a none room = filled a false false (ap is_some none) (grind (arith, nat_tests))
 
-    pub room-free : (a : ℕ) → item_at a l.writes.items ≡ None → length l.undo.items ≢ l.undo.len → writes_full a (known_of v o) ≡ false
-    room-free a none room = filled a None false none (let e = level in let f : length l.writes.items ≢ l.undo.len = (λ s. room (e ∙ s)) in grind (arith, nat_tests))
-
-    pub room-again : (a : ℕ) → is_some (item_at a l.writes.items) ≡ true → writes_full a (known_of v o) ≡ false
-    room-again a there = filled a (item_at a l.writes.items) (length l.writes.items == l.undo.len) refl refl ∙ ap (λ (b : Bool). not b && (length l.writes.items == l.undo.len)) there
+    pub room-again : (a : ℕ) → is_some (item_at a l.undo.items) ≡ true → writes_full a (known_of v o) ≡ false
+    room-again a there = filled a true (length l.undo.items == l.undo.len) there refl
 
     -- THE REFUSALS
-    pub writes-full : (a x : ℕ) (w : View) → item_at a l.writes.items ≡ None → length l.undo.items ≡ l.undo.len → TakesBack n v w → HasWritten good c n a x (writes.Full l.undo.len) (known_of v o) (known_of w o)
-    writes-full a x w none full g = (laws.quits-here good c n l v runs w g, filled a None true none (let e = level in let f : length l.writes.items ≡ l.undo.len = sym e ∙ full in grind (arith, nat_tests)), refl)
+    pub writes-full : (a x : ℕ) (w : View) → item_at a l.undo.items ≡ None → length l.undo.items ≡ l.undo.len → TakesBack n v w → HasWritten good c n a x (writes.Full l.undo.len) (known_of v o) (known_of w o)
+    writes-full a x w none full g = (laws.quits-here good c n l v runs w g, filled a false true (ap is_some none) (grind (arith, nat_tests)), refl)
 
-    pub may-take : (a : ℕ) → a < c.words → 0 < c.records → HasRoom c l → item_at a l.writes.items ≡ None → length l.undo.items ≢ l.undo.len → length l.undo.items ≤ l.undo.len → CanTake c a l v
-    may-take a low records lengths none room most = let can = laws.may-load good c n l v runs a low none in record {
+    pub may-take : (a : ℕ) → a < c.words → 0 < c.records → HasRoom l → item_at a l.writes.items ≡ None → length l.undo.items ≢ l.undo.len → CanTake c a l v
+    may-take a low records lengths none room = let most = k.most in let can = laws.may-load good c n l v runs a low none in record {
       can = can.can;
       unraised = k.unraised;
       olds = can.olds;
       below = k.below;
       places = k.places;
-      room = λ unheld. has-room unheld l.retains refl;
+      room = λ unheld. (let f = k.few in let g = lengths.1 in let h : length l.undo.items < l.undo.len = grind (arith, room, most) in omega arith);
       records = records;
       front = can.front;
       inside = low;
     }
-      where
-        has-room : touches v.owned.held (home_of c a) ≡ false → (b : Bool) → l.retains ≡ b → length l.locks.items < l.locks.len
-        has-room unheld false never = (let e = level in let f = k.few never in let g = lengths.1 in let h : length l.undo.items < l.undo.len = grind (arith, room, most) in omega arith)
-        has-room unheld true kept = (let g = lengths.2 in let h = fewer-records c.records (home_of c a) v.owned.held l.locks.items k.locks k.places (mod_below a c.records records) unheld in omega arith)
 
-    pub writes-refused : (a x : ℕ) (cause : Cause) (m : Local) (u w : View) → item_at a l.writes.items ≡ None → length l.undo.items ≢ l.undo.len → RefusesRead rule c n a cause l v m u → TakesBack n u w → HasWritten good c n a x (writes.Conflict cause) (known_of v o) (known_of w o)
+    pub writes-refused : (a x : ℕ) (cause : Cause) (m : Local) (u w : View) → item_at a l.undo.items ≡ None → length l.undo.items ≢ l.undo.len → RefusesRead rule c n a cause l v m u → TakesBack n u w → HasWritten good c n a x (writes.Conflict cause) (known_of v o) (known_of w o)
     writes-refused a x cause m u w none room h g = (
       laws.quits-moved good c n l v runs m.start h.seen v.attempt.reads u.sample u.check h.more w h.moves (subst (λ (y : View). TakesBack n y w) h.is g),
       subst (λ (y : View). Conflicts c n (Some a) cause (known_of v o) (known_of y o)) (sym g.is)
@@ -236,7 +205,7 @@ module _ (good : List ℕ → Type 0) (c : Config) (n : ℕ) (l : Local) (v : Vi
     pub may-take-full : (clock : ℕ) (m : Local) (u : View) → FindsLimit rule c n clock l v m u → CanTakeBack c m u
     may-take-full clock m u h = subst (CanTakeBack c m) (sym h.is) (laws.may-take good c n l v runs m m.start h.seen v.attempt.reads u.sample u.check h.more (ap (λ (q : Local). q.locks) h.local) (ap (λ (q : Local). q.undo) h.local))
 
-    pub writes-limit : (a x clock : ℕ) (m : Local) (u w : View) → item_at a l.writes.items ≡ None → length l.undo.items ≢ l.undo.len → FindsLimit rule c n clock l v m u → TakesBack n u w → HasWritten good c n a x (writes.ClockFull clock) (known_of v o) (known_of w o)
+    pub writes-limit : (a x clock : ℕ) (m : Local) (u w : View) → item_at a l.undo.items ≡ None → length l.undo.items ≢ l.undo.len → FindsLimit rule c n clock l v m u → TakesBack n u w → HasWritten good c n a x (writes.ClockFull clock) (known_of v o) (known_of w o)
     writes-limit a x clock m u w none room h g = let more = proving.ended-by n u w g in (
       laws.quits-moved good c n l v runs m.start h.seen v.attempt.reads u.sample u.check h.more w h.moves (subst (λ (y : View). TakesBack n y w) h.is g),
       ap asks_at_write eager,
@@ -257,34 +226,34 @@ module _ (good : List ℕ → Type 0) (c : Config) (n : ℕ) (l : Local) (v : Vi
     may-take-refusal a (writes.Full limit) m u h = absurd h
     may-take-refusal a (writes.ClockFull clock) m u h = may-take-full clock m u h
 
-    pub writes-refusal : (a x : ℕ) (refusal : Write) (m : Local) (u w : View) → item_at a l.writes.items ≡ None → length l.undo.items ≢ l.undo.len → RefusesTake rule c n a refusal l v m u → TakesBack n u w → HasWritten good c n a x refusal (known_of v o) (known_of w o)
+    pub writes-refusal : (a x : ℕ) (refusal : Write) (m : Local) (u w : View) → item_at a l.undo.items ≡ None → length l.undo.items ≢ l.undo.len → RefusesTake rule c n a refusal l v m u → TakesBack n u w → HasWritten good c n a x refusal (known_of v o) (known_of w o)
     writes-refusal a x writes.Done m u w none room h g = absurd h
     writes-refusal a x (writes.Conflict cause) m u w none room h g = writes-refused a x cause m u w none room h g
     writes-refusal a x (writes.Full limit) m u w none room h g = absurd h
     writes-refusal a x (writes.ClockFull clock) m u w none room h g = writes-limit a x clock m u w none room h g
 
     -- THE STORES: of a word under a record that was taken, or was held
-    pub may-store : (a : ℕ) (m : Local) (u : View) → fenced v.gate.fence a ≡ false → HasRoom c l → item_at a l.writes.items ≡ None → length l.undo.items ≢ l.undo.len → length l.undo.items ≤ l.undo.len → HasTaken rule c n a l v m u → CanStoreFirst c a m u
-    may-store a m u spared lengths none room most h = subst (λ (y : View). CanStoreFirst c a m y) (sym h.is) (subst (λ (q : Local). CanStoreFirst c a q (laws_taken)) (sym h.local) (record {
+    pub may-store : (a : ℕ) (m : Local) (u : View) → fenced v.gate.fence a ≡ false → HasRoom l → item_at a l.writes.items ≡ None → item_at a l.undo.items ≡ None → length l.undo.items ≢ l.undo.len → HasTaken rule c n a l v m u → CanStoreFirst c a m u
+    may-store a m u spared lengths none new room h = subst (λ (y : View). CanStoreFirst c a m y) (sym h.is) (subst (λ (q : Local). CanStoreFirst c a q (laws_taken)) (sym h.local) (record {
       opens = record { has = record { runs = record { phase = i.phase; algorithm = ap has_records eager; plain = ungranted }; inside = k.inside }; open_yet = k.open_yet };
       eager = k.eager;
       spared = spared;
       held = h.its;
       unwritten = unheld-of v.owned.in_place l.writes.items a k.writes none;
-      fresh = none-there a l.undo.items l.writes.items k.undoable none;
+      fresh = new;
       unlogged = none;
       undo_room = low;
-      room = (let e = level in let g = lengths.0 in let f = low in omega arith);
+      room = (let e = k.shorter in let g = lengths.0 in let f = low in omega arith);
     }))
       where
         low : length l.undo.items < l.undo.len
-        low = grind (arith, room, most)
+        low = let most = k.most in grind (arith, room, most)
 
         laws_taken : View
         laws_taken = record v { history = record v.history { seen = h.seen; front = m.start }; attempt = record v.attempt { start = m.start }; owned = record v.owned { held = h.held }; sample = h.sample; check = h.check; steps = record v.steps { trail = h.more ++ v.steps.trail } }
 
-    pub stores-first : (a x : ℕ) (m q : Local) (u w : View) → a < c.words → item_at a l.writes.items ≡ None → length l.undo.items < l.undo.len → HasTaken rule c n a l v m u → StoresFirst a x m u q w → Stores a x q w
-    stores-first a x m q u w low none space h s = record {
+    pub stores-first : (a x : ℕ) (m q : Local) (u w : View) → a < c.words → item_at a l.writes.items ≡ None → item_at a l.undo.items ≡ None → length l.undo.items < l.undo.len → HasTaken rule c n a l v m u → StoresFirst a x m u q w → Stores a x q w
+    stores-first a x m q u w low none new space h s = record {
       local = by;
       seen = h.seen;
       held = h.held;
@@ -295,15 +264,15 @@ module _ (good : List ℕ → Type 0) (c : Config) (n : ℕ) (l : Local) (v : Vi
       is = s.is ∙ (ap (λ (y : View). record y { owned = record y.owned { in_place = record { at = a; value = x } ∷ y.owned.in_place; undo = record { at = a; value = s.old } ∷ y.owned.undo }; steps = record y.steps { trail = s.more ++ y.steps.trail } }) h.is
           ∙ ((λ j. stored_at (sym start_is j) (sym (append_assoc s.more h.more v.steps.trail) j))));
       moves = moves_all;
-      its = h.its;
-      keeps = h.keeps;
       locks = ap (λ (k : Local). k.locks.items) s.local ∙ h.locks;
       writes = ap (λ (k : Local). k.writes.items) s.local ∙ (ap (λ (k : Local). k.writes.items ++ (a, x) ∷ []) h.local ∙ sym (put-new a x l.writes.items none));
-      undos = undo_items ∙ (ap (λ (ws : List (ℕ × ℕ)). ws ++ (a, s.old) ∷ []) k.undo ∙ sym (put-new a s.old (items v.owned.undo) (sym (ap (item_at a) k.undo) ∙ none-there a l.undo.items l.writes.items k.undoable none)));
-      undoable = ap (map (λ (p : ℕ × ℕ). p.0)) undo_items ∙ (map-last l.undo.items (a, s.old) ∙ (ap (λ (ks : List ℕ). ks ++ a ∷ []) k.undoable ∙ (sym (map-last l.writes.items (a, x)) ∙ sym (ap (map (λ (p : ℕ × ℕ). p.0)) write_items))));
+      undos = undo_items ∙ (ap (λ (ws : List (ℕ × ℕ)). ws ++ (a, s.old) ∷ []) k.undo ∙ sym undo_more);
+      undoable = undoable;
+      covered = covered;
+      kept = kept-put a s.old (items v.owned.undo) (known_of v o) logs revocable kept-here;
       old_words = inside-more c.words (record { at = a; value = s.old }) v.owned.undo low k.old_words;
-      short = (let e = ap (λ (ws : List (ℕ × ℕ)). length ws) write_items in let f = length-append l.writes.items ((a, x) ∷ []) in let b = level in let d = ap (λ (p : Local). p.undo.len) s.local in let g = ap (λ (p : Local). p.undo.len) h.local in omega arith);
-      few = λ never. (let e = ap (λ (ws : List (ℕ × ℕ)). length ws) write_items in let f = length-append l.writes.items ((a, x) ∷ []) in let g = h.few in let b = k.few never in let d = ap (λ (p : Local). length p.locks.items) s.local in omega arith);
+      most = (let e = more_undo in let d = ap (λ (p : Local). p.undo.len) s.local in let g = ap (λ (p : Local). p.undo.len) h.local in omega arith);
+      few = (let e = more_undo in let g = h.few in let b = k.few in let d = ap (λ (p : Local). length p.locks.items) s.local in omega arith);
       places = h.places;
       olds = λ r t. (let b = h.olds r t in let e = start_is in omega arith);
       below = h.below;
@@ -319,8 +288,25 @@ module _ (good : List ℕ → Type 0) (c : Config) (n : ℕ) (l : Local) (v : Vi
         undo_items : q.undo.items ≡ l.undo.items ++ (a, s.old) ∷ []
         undo_items = ap (λ (p : Local). p.undo.items) s.local ∙ ap (λ (p : Local). p.undo.items ++ (a, s.old) ∷ []) h.local
 
-        write_items : q.writes.items ≡ l.writes.items ++ (a, x) ∷ []
-        write_items = ap (λ (p : Local). p.writes.items) s.local ∙ ap (λ (p : Local). p.writes.items ++ (a, x) ∷ []) h.local
+        more_undo : length q.undo.items ≡ length l.undo.items + 1
+        more_undo = ap (λ (ws : List (ℕ × ℕ)). length ws) undo_items ∙ length-append l.undo.items ((a, s.old) ∷ [])
+
+        undo_more : put a s.old (items v.owned.undo) ≡ items v.owned.undo ++ (a, s.old) ∷ []
+        undo_more = put-new a s.old (items v.owned.undo) (sym (ap (item_at a) k.undo) ∙ new)
+
+        undoable : (b : ℕ) → touches (record { at = a; value = x } ∷ v.owned.in_place) b ≡ true → touches (record { at = a; value = s.old } ∷ v.owned.undo) b ≡ true
+        undoable b t = by (a == b) t
+          where
+            by : (d : Bool) → (if d then true else touches v.owned.in_place b) ≡ true → (if d then true else touches v.owned.undo b) ≡ true
+            by true f = refl
+            by false f = k.undoable b f
+
+        covered : (b : ℕ) → touches (record { at = a; value = s.old } ∷ v.owned.undo) b ≡ true → touches h.held (home_of c b) ≡ true
+        covered b t = by (a == b) refl t
+          where
+            by : (d : Bool) → (a == b) ≡ d → (if d then true else touches v.owned.undo b) ≡ true → touches h.held (home_of c b) ≡ true
+            by true e f = let same : a ≡ b = grind (arith, nat_tests) in subst (λ (z : ℕ). touches h.held (home_of c z) ≡ true) same h.its
+            by false e f = h.keeps (home_of c b) (k.covered b f)
 
         stored_at : ℕ → List TrailItem → View
         stored_at start trail = record v {
@@ -344,20 +330,17 @@ module _ (good : List ℕ → Type 0) (c : Config) (n : ℕ) (l : Local) (v : Vi
         by = s.local ∙ ap (λ (p : Local). record p { undo = record m.undo { items = m.undo.items ++ (a, s.old) ∷ [] }; writes = record m.writes { items = m.writes.items ++ (a, x) ∷ [] }; wrote = true }) h.local
             ∙ sym (λ j. record l { start = ap (λ (p : Local). p.start) s.local j; locks = ap (λ (p : Local). p.locks) s.local j; undo = ap (λ (p : Local). p.undo) s.local j; writes = ap (λ (p : Local). p.writes) s.local j; wrote = true })
 
-    pub may-place : (a : ℕ) → is_some (item_at a l.writes.items) ≡ true → CanOrecPlace a v
+    pub may-place : (a : ℕ) → is_some (item_at a l.undo.items) ≡ true → CanOrecPlace a v
     may-place a there = record {
       opens = record { has = record { runs = record { phase = i.phase; algorithm = ap has_records eager; plain = ungranted }; inside = k.inside }; open_yet = k.open_yet };
       eager = k.eager;
-      undoable = held-some v.owned.undo l.undo.items a k.undo (same-has a l.undo.items l.writes.items k.undoable ∙ there);
+      undoable = logged-touched a true there;
     }
 
-    wrote-there : (a : ℕ) (ws : List (ℕ × ℕ)) → is_some (item_at a ws) ≡ true → is_empty ws ≡ false
-    wrote-there a [] e = absurd cc
-    wrote-there a (w ∷ ws) e = refl
-
-    pub stores-again : (a x : ℕ) (log : LogState) (p : Push) (w : View) → is_some (item_at a l.writes.items) ≡ true → Tells (orec_place a x) Nothing v x w → Pushes l.writes a (put a x l.writes.items) p log → Stores a x (record l { writes = log }) w
-    stores-again a x log pushes.Done w there t push = record {
-      local = λ j. record l { writes = log; wrote = (k.wrote ∙ ap not (wrote-there a l.writes.items there)) j };
+    -- of a word whose old value is kept
+    pub stores-again : (a x : ℕ) (log : LogState) (p : Push) (w : View) → HasRoom l → is_some (item_at a l.undo.items) ≡ true → Tells (orec_place a x) Nothing v x w → Pushes l.writes a (put a x l.writes.items) p log → Stores a x (record l { writes = log; wrote = true }) w
+    stores-again a x log pushes.Done w room there t push = record {
+      local = refl;
       seen = v.history.seen;
       held = v.owned.held;
       sample = v.sample;
@@ -366,15 +349,15 @@ module _ (good : List ℕ → Type 0) (c : Config) (n : ℕ) (l : Local) (v : Vi
       more = record { place = Heap a; act = Store x; found = None } ∷ [];
       is = t.2 ∙ (λ j. record v { history = record v.history { front = i.front j }; attempt = record v.attempt { start = i.start j }; owned = record v.owned { in_place = record { at = a; value = x } ∷ v.owned.in_place }; steps = record v.steps { trail = record { place = Heap a; act = Store x; found = None } ∷ v.steps.trail } });
       moves = inl (sym i.start, refl);
-      its = k.covered a (held-some v.owned.in_place l.writes.items a k.writes there);
-      keeps = λ r e. e;
       locks = k.locks;
       writes = ap (λ (q : LogState). q.items) push.1;
       undos = k.undo;
-      undoable = k.undoable ∙ sym (ap (λ (q : LogState). map (λ (e : ℕ × ℕ). e.0) q.items) push.1 ∙ put-firsts a x l.writes.items there);
+      undoable = λ b t. by b (a == b) refl t;
+      covered = k.covered;
+      kept = sym kept-here ∙ sym (kept-there a (known_of v o) (is-kept a ∙ there));
       old_words = k.old_words;
-      short = (let e = ap (λ (q : LogState). length q.items) push.1 in let f = same-length (put a x l.writes.items) l.writes.items (put-firsts a x l.writes.items there) in let g = k.short in omega arith);
-      few = λ never. (let e = ap (λ (q : LogState). length q.items) push.1 in let f = same-length (put a x l.writes.items) l.writes.items (put-firsts a x l.writes.items there) in let g = k.few never in omega arith);
+      most = k.most;
+      few = k.few;
       places = k.places;
       olds = k.olds;
       below = k.below;
@@ -383,7 +366,15 @@ module _ (good : List ℕ → Type 0) (c : Config) (n : ℕ) (l : Local) (v : Vi
       marks = ap (λ (q : LogState). q.marks) push.1;
       locks_len = refl;
     }
-    stores-again a x log (pushes.Full limit) w there t push = absurd (let e : false ≡ true = sym (ap is_some push.0) ∙ there in cc)
+      where
+        by : (b : ℕ) (d : Bool) → (a == b) ≡ d → (if d then true else touches v.owned.in_place b) ≡ true → touches v.owned.undo b ≡ true
+        by b true e f = let same : a ≡ b = grind (arith, nat_tests) in subst (λ (z : ℕ). touches v.owned.undo z ≡ true) same (logged-touched a true there)
+        by b false e f = k.undoable b f
+    stores-again a x log (pushes.Full limit) w room there t push = absurd (
+        let new = cells-shorter a v.owned.in_place v.owned.undo k.undoable (logged-touched a true there) (unheld-of v.owned.in_place l.writes.items a k.writes push.0) in
+        let ws = ap (λ (ws : List (ℕ × ℕ)). length ws) k.writes in
+        let us = ap (λ (ws : List (ℕ × ℕ)). length ws) k.undo in
+        let full = push.1 in let most = k.most in let same = room.0 in omega arith)
 
     -- WHAT IS TOLD
     module _ (a x : ℕ) (q : Local) (w : View) (s : Stores a x q w) where
@@ -407,7 +398,7 @@ module _ (good : List ℕ → Type 0) (c : Config) (n : ℕ) (l : Local) (v : Vi
       pub writes-done : writes_full a (known_of v o) ≡ false → HasWritten good c n a x writes.Done (known_of v o) (known_of w p)
       writes-done room = subst (λ (z : View). HasWritten good c n a x writes.Done (known_of v o) (known_of z p)) (sym s.is) (
         record {
-          continues = record { running = ap is_in i.phase; closing = ap is_closing i.phase; made = refl; grows = grown; alg = refl; fence = refl; base = refl; rises = (omega arith, omega arith); later = records.begins (laws.reading good c n l v runs) q.start s.seen s.more s.moves; installs = refl; depth = ap (λ (d : Local). d.depth) s.local; retains = ap (λ (d : Local). d.retains) s.local };
+          continues = record { running = ap is_in i.phase; closing = ap is_closing i.phase; made = refl; grows = grown; alg = refl; fence = refl; base = refl; rises = (omega arith, omega arith); later = records.begins (laws.reading good c n l v runs) q.start s.seen s.more s.moves; installs = refl; depth = ap (λ (d : Local). d.depth) s.local };
           start = subst (λ (b : Alg). StartMoves b (known_of v o) (known_of y p)) (sym eager) (start-moves s.moves);
           granted = refl;
           holds = refl;
@@ -418,14 +409,8 @@ module _ (good : List ℕ → Type 0) (c : Config) (n : ℕ) (l : Local) (v : Vi
         (refl, λ b. ap (item_at b) wrote-put),
         opaque-at good c n y p q.start refl refl (records.legal-at (laws.reading good c n l v runs) q.start s.seen s.more s.moves) (records.below-at (laws.reading good c n l v runs) q.start s.seen s.more s.moves) (records.sees-at (laws.reading good c n l v runs) q.start s.seen s.more s.moves) i.reads_inside,
         room,
+        ap (λ (b : Alg). kept_under b y p) eager ∙ s.kept,
       )
-
-      covered : (b : ℕ) → touches (record { at = a; value = x } ∷ v.owned.in_place) b ≡ true → touches s.held (home_of c b) ≡ true
-      covered b t = by (a == b) refl t
-        where
-          by : (d : Bool) → (a == b) ≡ d → (if d then true else touches v.owned.in_place b) ≡ true → touches s.held (home_of c b) ≡ true
-          by true e f = let same : a ≡ b = grind (arith, nat_tests) in subst (λ (z : ℕ). touches s.held (home_of c z) ≡ true) same s.its
-          by false e f = s.keeps (home_of c b) (k.covered b f)
 
       abbrev kept : Local
       kept = record l { start = q.start; locks = q.locks; undo = q.undo; writes = q.writes; wrote = true }
@@ -459,11 +444,12 @@ module _ (good : List ℕ → Type 0) (c : Config) (n : ℕ) (l : Local) (v : Vi
           undo = s.undos;
           wrote = ap not (sym (ap is_empty s.writes ∙ some-put a x l.writes.items));
           undoable = s.undoable;
+          shorter = shorter;
+          most = s.most;
           words = inside-more c.words (record { at = a; value = x }) v.owned.in_place low k.words;
           small = small-more (record { at = a; value = x }) v.owned.in_place small k.small;
           old_words = s.old_words;
-          covered = covered;
-          short = s.short;
+          covered = s.covered;
           few = s.few;
           places = s.places;
           olds = s.olds;
@@ -474,8 +460,15 @@ module _ (good : List ℕ → Type 0) (c : Config) (n : ℕ) (l : Local) (v : Vi
         });
       }))
         where
+          shorter : length q.writes.items ≤ length q.undo.items
+          shorter =
+              let all = cells-longer (record { at = a; value = x } ∷ v.owned.in_place) s.undo s.undoable in
+              let ws = ap (λ (ws : List (ℕ × ℕ)). length ws) (s.writes ∙ ap (put a x) k.writes) in
+              let us = ap (λ (ws : List (ℕ × ℕ)). length ws) s.undos in
+              omega arith
+
           keeps-eager : IsEager c kept y → attempts.Keeps c kept.algorithm kept.granted kept y
           keeps-eager d = subst (λ (b : Alg). attempts.Keeps c b l.granted kept y) (sym (sym i.named ∙ eager)) (subst (λ (b : Bool). attempts.Keeps c OrecEager b kept y) (sym runs.plain) d)
 
-      pub lengths-stored : HasRoom c l → HasRoom c q
-      lengths-stored same = let u = s.undo_len in let k = s.locks_len in (s.writes_len ∙ (same.0 ∙ sym u), (let h = same.1 in omega arith), (let h = same.2 in omega arith))
+      pub lengths-stored : HasRoom l → HasRoom q
+      lengths-stored same = let u = s.undo_len in let k = s.locks_len in (s.writes_len ∙ (same.0 ∙ sym u), (let h = same.1 in omega arith))

@@ -1,5 +1,5 @@
 -- What a call that grants knows of its attempt, of OrecLazy or OrecEager alike, and what it tells of it.
-use Rattle.std.proofs.Common.{ℕ, ◌≡◌, List, ◌++◌, Bool, true, false, refl, sym, ap, ◌∙◌, arith, subst}
+use Rattle.std.proofs.Common.{ℕ, ◌≡◌, List, [], ◌++◌, Bool, true, false, refl, sym, ap, ◌∙◌, arith, subst}
 use Rattle.std.specs.Prelude.{◌&&◌, Contains, None}
 use Rattle.stm_model.specs.Algorithms.{has_records, asks_at_grant, closes_gate, irrevocable_under}
 use Rattle.stm_model.specs.declared.alg.Alg.{Alg}
@@ -25,7 +25,7 @@ use Rattle.steps_orec.specs.RecordFindings.{Moves}
 use Rattle.tx_logs.specs.LogStates.{LogState}
 use Rattle.tx_answers.specs.declared.answers.Irrev.TheVariants as irrevs
 use Rattle.tx_answers.specs.Answers.{BecomesIrrevocable, Irrevs, Quits, Waits}
-use Rattle.tx_answers.specs.Known.{Known, IsRunning, known_of, caller_of, granted_under, written_under, is_irrevocable, is_in, is_closing, wrote}
+use Rattle.tx_answers.specs.Known.{Known, IsRunning, known_of, caller_of, granted_under, kept_under, written_under, is_irrevocable, is_in, is_closing, wrote}
 use Rattle.stm_gate.specs.Granting.{IsAlone, Grants, irrevs-after, irrevocable-already}
 use Rattle.stm_gate.specs.Knowing.{known, number}
 use Rattle.stm_gate.specs.LeavingLaws.{IsUnmade, found-later, finds-full}
@@ -149,7 +149,7 @@ module _ {alg : Alg} {good : List ℕ → Type 0} {c : Config} {n : ℕ} {l : Lo
     abbrev y : View
     y = record (promoted_at v seen t more) { attempt = record { start = t; reads = v.attempt.reads; stores = stores; entered = false } }
 
-    pub stands-promoted : Stands good c n l v → HasRoom c promoted → (m : Local) (w : View) → m ≡ promoted → w ≡ y → Keeps c alg true promoted y → Stands good c n m w
+    pub stands-promoted : Stands good c n l v → HasRoom promoted → (m : Local) (w : View) → m ≡ promoted → w ≡ y → Keeps c alg true promoted y → Stands good c n m w
     stands-promoted s room m w local is keeps = subst (λ (q : Local). Stands good c n q w) (sym local) (subst (Stands good c n promoted) (sym is) (stands-on good c n l promoted v y i.phase s refl refl room refl (record {
       phase = i.phase;
       named = i.named;
@@ -168,9 +168,9 @@ module _ {alg : Alg} {good : List ℕ → Type 0} {c : Config} {n : ℕ} {l : Lo
       keeps = subst (λ (a : Alg). Keeps c a true promoted y) (sym can.named) keeps;
     })))
 
-    pub tells-promoted : Contains more (load_of Clock t) → written_under alg true y (own_of promoted) ≡ written_under alg false v (own_of l) → v.gate.granted ≡ false → (m : Local) (w : View) → m ≡ promoted → w ≡ y
+    pub tells-promoted : Contains more (load_of Clock t) → written_under alg true y (own_of promoted) ≡ written_under alg false v (own_of l) → (kept_under alg v (own_of l) ≡ [] → kept_under alg y (own_of promoted) ≡ []) → v.gate.granted ≡ false → (m : Local) (w : View) → m ≡ promoted → w ≡ y
         → Grants good c n irrevs.Granted (known_of v (own_of l)) (known_of w (own_of m))
-    tells-promoted found written ungranted m w local is = subst (λ (q : Local). BecomesIrrevocable good c n (known_of v o) (known_of w (own_of q))) (sym local) (subst (λ (q : View). BecomesIrrevocable good c n (known_of v o) (known_of q p)) (sym is) (record {
+    tells-promoted found written kept ungranted m w local is = subst (λ (q : Local). BecomesIrrevocable good c n (known_of v o) (known_of w (own_of q))) (sym local) (subst (λ (q : View). BecomesIrrevocable good c n (known_of v o) (known_of q p)) (sym is) (record {
       continues = record {
         running = ap is_in i.phase;
         closing = ap is_closing i.phase;
@@ -194,10 +194,10 @@ module _ {alg : Alg} {good : List ℕ → Type 0} {c : Config} {n : ℕ} {l : Lo
         later = (let a = i.start in let b = i.front in let d = moves.front in omega arith);
         installs = refl;
         depth = refl;
-        retains = refl;
       };
       still = refl;
       uncommitted = can.free;
+      kept = λ none. ap (λ (a : Alg). kept_under a y p) can.under ∙ kept (ap (λ (a : Alg). kept_under a v o) (sym can.under) ∙ none);
       log = (λ j. record { reads = items v.attempt.reads; writes = written_under (can.under j) true y p }) ∙ ((λ j. record { reads = items v.attempt.reads; writes = written j })
           ∙ (λ j. record { reads = items v.attempt.reads; writes = written_under (sym can.under j) (sym ungranted j) v o }));
       irrevocable = irrevocable-is v.gate.algorithm has-here y.gate y.lock (wrote (known_of y p));

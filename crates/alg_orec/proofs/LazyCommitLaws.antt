@@ -42,7 +42,7 @@ use Rattle.alg_orec.specs.Committing.{CanCommit, readied, IsOfRecord, Owed, IsRe
 use Rattle.alg_orec.specs.Ending.{CanRollBack}
 use Rattle.alg_orec.specs.Locking.{holding_still, lock_item, CanLockAll, WasFree, IsRefused, Holds, LocksEach, StopsLocking}
 use Rattle.alg_orec.specs.Validating.{load_of, OnlyLoads, CanValidate, Refuses, IsFoundStale, IsHeldNewer, IsStale, IsValid, Validates}
-use Rattle.alg_orec.proofs.Cells.{items-cells}
+use Rattle.stm_gate.specs.Cells.{items-cells}
 use Rattle.alg_orec.proofs.Proving.{lazy-of}
 
 -- loads change no word

@@ -38,7 +38,7 @@ use Rattle.steps_orec.specs.OthersLaws.{clock-others}
 use Rattle.steps_orec.specs.RecordFindings.{FindsClock, FindsCommit, Enters}
 use Rattle.tx_answers.specs.Answers.{Quits, Commits, CommitsAt, KeepsRule, entry}
 use Rattle.tx_answers.specs.declared.answers.Commit.TheVariants as commits
-use Rattle.tx_answers.specs.Known.{Grows, known_of, fenced_of, granted_under, written_under, is_in, is_closing, wrote, zeros}
+use Rattle.tx_answers.specs.Known.{Grows, known_of, fenced_of, granted_under, kept_under, written_under, is_in, is_closing, wrote, zeros}
 use Rattle.stm_gate.specs.LeavingLaws.{IsUnmade, found-later, finds-full}
 use Rattle.stm_gate.specs.Opacity.{opaque-inside}
 use Rattle.alg_orec.specs.Committing.{CanCommit, CanFinish, readied, IsReady, IsStopped}
@@ -46,7 +46,8 @@ use Rattle.alg_orec.specs.Ending.{CanRollBack, GivesUp}
 use Rattle.alg_orec.specs.Validating.{load_of}
 use Rattle.alg_orec.proofs.AgainLaws as again
 use Rattle.alg_orec.proofs.AgainLaws.{tried}
-use Rattle.alg_orec.proofs.Cells.{items-cells, cells-some}
+use Rattle.stm_gate.specs.Cells.{items-cells, cells-some}
+use Rattle.stm_gate.specs.KeptLaws.{kept-same}
 use Rattle.alg_orec.proofs.LazyCommitLaws as laws
 use Rattle.alg_orec.proofs.Proving.{Leads, conflicts-later, lazy-of, with_commit, quits-back, ended-by, quits-leads, full-leads, commits-leads}
 
@@ -62,14 +63,13 @@ not-yes true e = absurd cc
 not-yes false e = refl
 
 -- an attempt that ended leaves a descriptor that stands
-pub ended-stands : (good : List ℕ → Type 0) (c : Config) (n : ℕ) (q : Local) (z : View) → HasRoom c q → IsOutside z → Stands good c n (ended q) z
+pub ended-stands : (good : List ℕ → Type 0) (c : Config) (n : ℕ) (q : Local) (z : View) → HasRoom q → IsOutside z → Stands good c n (ended q) z
 ended-stands good c n q z lengths out = record { holds = sym out.reopened; lengths = lengths; by = out }
 
-pub stopped-lengths : (c : Config) (l m : Local) → m ≡ record l { locks = m.locks } → m.locks.len ≡ l.locks.len → HasRoom c l → HasRoom c m
-stopped-lengths c l m is len same = let e = ap (λ (q : Local). q.undo.len) is in (
+pub stopped-lengths : (l m : Local) → m ≡ record l { locks = m.locks } → m.locks.len ≡ l.locks.len → HasRoom l → HasRoom m
+stopped-lengths l m is len same = let e = ap (λ (q : Local). q.undo.len) is in (
   ap (λ (q : Local). q.writes.len) is ∙ (same.0 ∙ sym e),
   (let h = same.1 in omega arith),
-  (let h = same.2 in omega arith),
 )
 
 module _ (good : List ℕ → Type 0) (c : Config) (n : ℕ) (low : n < c.callers) where
@@ -271,7 +271,6 @@ module _ (good : List ℕ → Type 0) (c : Config) (n : ℕ) (low : n < c.caller
       lengths = (
         ap (λ (q : Local). q.writes.len) r.local ∙ (can.lengths.0 ∙ sym (ap (λ (q : Local). q.undo.len) r.local)),
         (let a = r.len in let b = can.lengths.1 in let e = ap (λ (q : Local). q.undo.len) r.local in omega arith),
-        (let a = r.len in let b = can.lengths.2 in omega arith),
       );
     }
 
@@ -295,7 +294,7 @@ module _ (good : List ℕ → Type 0) (c : Config) (n : ℕ) (low : n < c.caller
       start = (let a = begins in let b : w.attempt.start ≡ m.start = ap (λ (y : View). y.attempt.start) r.is in omega arith);
       log = log_at o w refl (ap (λ (y : View). y.gate) r.is) (ap (λ (y : View). y.attempt.reads) r.is);
       granted = ap (λ (y : View). granted_under y.gate.algorithm y.gate y.lock) r.is;
-      retains = refl;
+      kept = ap (λ (y : View). kept_under y.gate.algorithm w o) r.is ∙ kept-same v.gate.algorithm v w o o refl (ap (λ (y : View). y.owned.undo) r.is) (ap (λ (y : View). y.lock.undo) r.is);
     }
 
     pub keeps-ready : KeepsRule good c n (known_of v o) → KeepsRule good c n (known_of w o)
@@ -336,6 +335,7 @@ module _ (good : List ℕ → Type 0) (c : Config) (n : ℕ) (low : n < c.caller
         again.goes-on v r.more r.is now still_path OrecLazy o named can.inside.phase begins (r.grows o) (again.start-moves v r.more r.is now still_path o l.start can.inside.start r.start),
         refl,
         log_at p u refl (ap (λ (y : View). y.gate) path) (ap (λ (y : View). y.attempt.reads) path),
+        ap (λ (y : View). kept_under y.gate.algorithm u p) path ∙ kept-same v.gate.algorithm v u o p refl (ap (λ (y : View). y.owned.undo) path) (ap (λ (y : View). y.lock.undo) path),
         opaque-inside good c n in_commit u p stays-again,
         again.is-again v r.more r.is now still_path c n o (ap has_records named) apart (λ g. r.again (sym mid ∙ g) o),
         refused-others in_commit w can-ready o buffered now u apart t,

@@ -23,7 +23,7 @@ use Rattle.stm_gate.specs.Granting.{Grants}
 use Rattle.alg_orec.specs.Ending.{CanRollBack, GivesUp}
 use Rattle.alg_orec.specs.Granting.{CanPromote, promoted_at, IsPromoted, IsNotPromoted, CanStoreAll, StoresAll}
 use Rattle.alg_orec.specs.Validating.{load_of}
-use Rattle.alg_orec.proofs.Cells.{items-cells, cells-some}
+use Rattle.stm_gate.specs.Cells.{items-cells, cells-some}
 use Rattle.alg_orec.proofs.GrantOpening.{CanGrant}
 use Rattle.alg_orec.proofs.GrantOpening as opening
 use Rattle.alg_orec.proofs.Proving.{lazy-of, quits-back, ended-by}
@@ -132,4 +132,4 @@ module _ {good : List ℕ → Type 0} {c : Config} {n : ℕ} {l : Local} {v : Vi
 
     pub tells-granted : (p : Local) → p ≡ promoted → Grants good c n irrevs.Granted (known_of v (own_of l)) (known_of w (own_of p))
     tells-granted p local = opening.tells-promoted can refl r.seen m.start (st.more ++ r.more) (cells_of l.writes.items) (emptied l.writes) r.moves
-        (Contains-append_right st.more r.more (load_of Clock m.start) r.found) refl k.optimistic.ungranted p w local path
+        (Contains-append_right st.more r.more (load_of Clock m.start) r.found) refl (λ none. refl) k.optimistic.ungranted p w local path

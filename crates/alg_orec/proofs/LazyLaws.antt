@@ -15,8 +15,8 @@ use Rattle.rule_base.specs.declared.views.TrailItem.{TrailItem}
 use Rattle.rule_base.specs.declared.views.Validation.{Validation}
 use Rattle.rule_base.specs.declared.views.View.{View}
 use Rattle.rule_base.specs.Encodings.{fenced}
-use Rattle.rule_base.specs.Bridge.{items, of_words}
-use Rattle.rule_base.specs.History.{Inside, Small}
+use Rattle.rule_base.specs.Bridge.{addresses, items, of_words}
+use Rattle.rule_base.specs.History.{member, Inside, Small}
 use Rattle.rule_base.specs.HistoryLemmas.{inside-more}
 use Rattle.rule_base.specs.Own.{Own}
 use Rattle.rule_base.specs.StepKinds.{Tells}
@@ -29,17 +29,18 @@ use Rattle.stm_rule.specs.RecordsKept.{Apart, cells_of, IsLazy, HasMarks}
 use Rattle.steps_orec.specs.RecordFindings.{FindsStart}
 use Rattle.tx_answers.specs.declared.answers.Read.TheVariants as answers
 use Rattle.tx_answers.specs.declared.answers.Write.TheVariants as writes
-use Rattle.tx_answers.specs.Answers.{HasRead, HasWritten, Quits, StartMoves}
-use Rattle.tx_answers.specs.Causes.{has_item, is_some, writes_full}
-use Rattle.tx_answers.specs.Known.{known_of, granted_under, written_under, is_irrevocable, is_in, is_closing}
+use Rattle.tx_answers.specs.Answers.{HasRead, HasWritten, Quits, StartMoves, kept_with}
+use Rattle.tx_answers.specs.Causes.{is_some, writes_full}
+use Rattle.tx_answers.specs.Known.{known_of, granted_under, kept_under, written_under, is_irrevocable, is_in, is_closing}
 use Rattle.tx_answers.specs.KnownLaws.{grows-same}
 use Rattle.tx_logs.specs.declared.push.Push.TheVariants as pushes
 use Rattle.tx_logs.specs.LogStates.{LogState, Pushes}
+use Rattle.stm_gate.specs.KeptLaws.{kept-put, length-addresses, member-item}
 use Rattle.stm_gate.specs.Logging.{put-new}
 use Rattle.stm_gate.specs.Opacity.{opaque-inside}
 use Rattle.stm_gate.specs.Starts.{CanBegin, StartsAt}
-use Rattle.alg_orec.proofs.Cells.{items-cells}
-use Rattle.alg_orec.proofs.CellLogs.{once-put, inside-put, small-put, apart-put, some-put}
+use Rattle.stm_gate.specs.Cells.{items-cells}
+use Rattle.stm_gate.specs.CellLogs.{once-put, inside-put, small-put, apart-put, some-put}
 use Rattle.alg_orec.proofs.RecordReads as reads
 use Rattle.alg_orec.proofs.RecordReads.{IsReading}
 use Rattle.alg_orec.specs.Ending.{GivesUp}
@@ -143,11 +144,15 @@ module _ (good : List ℕ → Type 0) (c : Config) (n : ℕ) (l : Local) (v : Vi
         keeps-lazy : IsLazy c q u → attempts.Keeps c q.algorithm q.granted q u
         keeps-lazy p = subst (λ (b : Alg). attempts.Keeps c b l.granted q u) (sym (sym i.named ∙ lazy)) (subst (λ (b : Bool). attempts.Keeps c OrecLazy b q u) (sym plain) p)
 
+    -- what is kept is what the write log has
+    kept-here : (known_of v o).kept ≡ addresses l.writes.items
+    kept-here = ap (λ (b : Alg). kept_under b v o) lazy ∙ ap addresses (items-cells l.writes.items k.buffers.once)
+
     -- WRITE: the log has room
     pub writes-done : (a x : ℕ) (log : LogState) → a < c.words → x < 2 ^ 64 → log ≡ record l.writes { items = put a x l.writes.items } → writes_full a (known_of v o) ≡ false → HasWritten good c n a x writes.Done (known_of v o) (known_of v (own_of (record l { writes = log; wrote = true })))
     writes-done a x log low small is room = (
       record {
-        continues = record { running = ap is_in i.phase; closing = ap is_closing i.phase; made = refl; grows = grows-same (known_of v o) (known_of v p) refl refl [] refl refl refl refl; alg = refl; fence = refl; base = refl; rises = (omega arith, omega arith); later = omega arith; installs = refl; depth = refl; retains = refl };
+        continues = record { running = ap is_in i.phase; closing = ap is_closing i.phase; made = refl; grows = grows-same (known_of v o) (known_of v p) refl refl [] refl refl refl refl; alg = refl; fence = refl; base = refl; rises = (omega arith, omega arith); later = omega arith; installs = refl; depth = refl };
         start = subst (λ (b : Alg). StartMoves b (known_of v o) (known_of v p)) (sym lazy) (inl refl);
         granted = refl;
         holds = refl;
@@ -158,17 +163,28 @@ module _ (good : List ℕ → Type 0) (c : Config) (n : ℕ) (l : Local) (v : Vi
       (refl, λ b. ap (item_at b) (wrote-put ∙ ap (put a x) (sym written-here))),
       opaque-inside good c n l v p i,
       room,
+      kept-put-here,
     )
       where
         p : Own
         p = own_of (record l { writes = log; wrote = true })
+
+        kept-put-here : (known_of v p).kept ≡ kept_with a (known_of v o)
+        kept-put-here = ap (λ (b : Alg). kept_under b v p) lazy ∙ (ap (λ (q : LogState). addresses (items (cells_of q.items))) is
+            ∙ (ap addresses (items-cells (put a x l.writes.items) (once-put a x l.writes.items k.buffers.once)) ∙ kept-put a x l.writes.items (known_of v o) (ap logs_writes lazy) revocable kept-here))
 
         wrote-put : written_under v.gate.algorithm v.gate.granted v p ≡ put a x l.writes.items
         wrote-put = (λ j. written_under (lazy j) (ungranted j) v p) ∙ (ap (λ (q : LogState). items (cells_of q.items)) is ∙ items-cells (put a x l.writes.items) (once-put a x l.writes.items k.buffers.once))
 
     -- by whether the write log has its length
     filled : (a : ℕ) (m : Option ℕ) (b : Bool) → l.writes.len ≡ l.undo.len → item_at a l.writes.items ≡ m → (length l.writes.items == l.writes.len) ≡ b → writes_full a (known_of v o) ≡ (not (is_some m) && b)
-    filled a m b len at count = (λ j. logs_writes (lazy j) && (not (revocable j) && (not (has_item a (written-here j)) && (length (written-here j) == sym len j)))) ∙ ap (λ (q : Option ℕ). not (is_some q) && (length l.writes.items == l.writes.len)) at ∙ ap (λ (q : Bool). not (is_some m) && q) count
+    filled a m b len at count = λ j. logs_writes (lazy j) && (not (revocable j) && (not (there j) && room j))
+      where
+        there : member (known_of v o).kept a ≡ is_some m
+        there = ap (λ (ks : List ℕ). member ks a) kept-here ∙ (member-item a l.writes.items ∙ ap is_some at)
+
+        room : (length (known_of v o).kept == l.undo.len) ≡ b
+        room = (λ j. length (kept-here j) == sym len j) ∙ (ap (λ (q : ℕ). q == l.writes.len) (length-addresses l.writes.items) ∙ count)
 
     pub room-of : (a : ℕ) (ws : List (ℕ × ℕ)) (log : LogState) → l.writes.len ≡ l.undo.len → Pushes l.writes a ws pushes.Done log → writes_full a (known_of v o) ≡ false
     room-of a ws log len p = by (item_at a l.writes.items) refl (length l.writes.items == l.writes.len) refl p.0

@@ -1,6 +1,6 @@
 -- What the marks of an attempt of OrecLazy come to.
-use Rattle.std.proofs.Common.{ℕ, ◌≡◌, ◌<◌, ◌≤◌, ◌+◌, ◌-◌, List, [], ◌∷◌, ◌++◌, length, take, Bool, true, false, refl, sym, ap, ◌∙◌, arith, subst}
-use Rattle.std.specs.Prelude.{◌||◌, not}
+use Rattle.std.proofs.Common.{ℕ, ◌≡◌, ◌<◌, ◌≤◌, ◌+◌, ◌-◌, List, [], ◌∷◌, ◌++◌, length, Bool, true, false, sym, ap, ◌∙◌, arith, subst}
+use Rattle.std.specs.Prelude.{not}
 use Rattle.stm_model.specs.Algorithms.{has_records}
 use Rattle.stm_model.specs.declared.alg.Alg.{Alg}
 use Rattle.stm_model.specs.declared.alg.Alg.TheVariants.{OrecLazy}
@@ -12,15 +12,13 @@ use Rattle.rule_base.specs.Bridge.{items}
 use Rattle.stm_rule.specs.declared.local.Local.{Local}
 use Rattle.stm_rule.specs.Attempts.{Keeps, Stands, own_of}
 use Rattle.stm_rule.specs.RecordsKept.{IsLazy, IsWriteSet, HasMarks}
-use Rattle.tx_answers.specs.declared.answers.Check.TheVariants.{Marked}
 use Rattle.tx_answers.specs.declared.answers.Roll.TheVariants.{Rolled}
-use Rattle.tx_answers.specs.Answers.{Checks, Rolls}
-use Rattle.tx_answers.specs.Known.{Known, known_of, written_under, keeps_records}
-use Rattle.tx_logs.specs.declared.marks.TheConstants.{MAX_MARKS}
+use Rattle.tx_answers.specs.Answers.{Rolls, kept_rolled}
+use Rattle.tx_answers.specs.Known.{Known, known_of, kept_under, written_under}
 use Rattle.tx_logs.specs.LogStates.{LogState, rolled}
-use Rattle.stm_gate.specs.MarkLaws.{marks-take, marks-more}
-use Rattle.alg_orec.proofs.Cells.{items-cells}
-use Rattle.alg_orec.proofs.NestingOpening.{GoesOn, inside-with, stands-with, marks-log, rolls-log}
+use Rattle.stm_gate.specs.MarkLaws.{marks-take}
+use Rattle.stm_gate.specs.Cells.{items-cells}
+use Rattle.alg_orec.proofs.NestingOpening.{GoesOn, inside-with, stands-with, rolls-log}
 use Rattle.alg_orec.proofs.Proving.{lazy-of}
 
 -- an attempt that was not promoted
@@ -72,23 +70,6 @@ module _ {good : List ℕ → Type 0} {c : Config} {n : ℕ} {l : Local} {v : Vi
         sole = k.sole;
       }
 
-  -- the same was written
-  keeps-same : (log : LogState) (d : ℕ) → log.items ≡ l.writes.items → HasMarks c l.fence log.marks d → Keeps c l.algorithm l.granted (record l { writes = log; depth = d }) v
-  keeps-same log d same = keeps-with log l.wrote d (subst (IsWriteSet c l.fence) (sym same) set-before) (k.buffers.wrote ∙ ap (λ (ws : List (ℕ × ℕ)). not (is_empty ws)) (sym same))
-
-  -- A MARK
-  pub marks : (log : LogState) → log ≡ record l.writes { marks = l.writes.marks ++ l.writes.items ∷ [] } → l.depth < MAX_MARKS → Checks (Marked (l.depth + 1)) q (known_of v (own_of (record l { writes = log; depth = l.depth + 1 })))
-  marks = marks-log a k.marked.count (written-now l.writes l.wrote l.depth k.buffers.once)
-
-  pub stands-marked : (log : LogState) → log ≡ record l.writes { marks = l.writes.marks ++ l.writes.items ∷ [] } → Stands good c n (record l { writes = log; depth = l.depth + 1 }) v
-  stands-marked log is = stands-with a log l.wrote (l.depth + 1) (ap (λ (q : LogState). q.len) is) (keeps-same log (l.depth + 1) (ap (λ (q : LogState). q.items) is)
-      (subst (λ (ms : List (List (ℕ × ℕ))). HasMarks c l.fence ms (l.depth + 1)) (sym (ap (λ (q : LogState). q.marks) is)) (marks-more c l.fence l.writes.marks l.depth l.writes.items k.marked set-before)))
-
-  -- A RELEASE
-  pub stands-released : (log : LogState) (d : ℕ) → 1 ≤ d → d ≤ l.depth → log ≡ record l.writes { marks = take (d - 1) l.writes.marks } → Stands good c n (record l { writes = log; depth = d - 1 }) v
-  stands-released log d low high is = stands-with a log l.wrote (d - 1) (ap (λ (q : LogState). q.len) is) (keeps-same log (d - 1) (ap (λ (q : LogState). q.items) is)
-      (subst (λ (ms : List (List (ℕ × ℕ))). HasMarks c l.fence ms (d - 1)) (sym (ap (λ (q : LogState). q.marks) is)) (marks-take c l.fence l.writes.marks l.depth (d - 1) k.marked (omega arith))))
-
   -- A ROLL BACK
   module _ (log : LogState) (wrote : Bool) (d : ℕ) (low : 1 ≤ d) (high : d ≤ l.depth) (is : log ≡ rolled d l.writes) (some : wrote ≡ not (is_empty log.items)) where
     abbrev m : Local
@@ -104,4 +85,8 @@ module _ {good : List ℕ → Type 0} {c : Config} {n : ℕ} {l : Local} {v : Vi
     stands-rolled = stands-with a log wrote d (ap (λ (q : LogState). q.len) is) keeps
 
     pub rolls-back : Rolls good c n d Rolled (known_of v (own_of l)) (known_of v (own_of (record l { writes = log; wrote = wrote; depth = d })))
-    rolls-back = rolls-log a (ap has_records lazy) plain log l.undo wrote d l.retains v.owned.in_place v.owned.undo [] is (let h = k.marked.count in omega arith) refl (ap (λ (a : Alg). keeps_records a || l.retains) (sym lazy)) (written-now log wrote d set.once) (inside-with a log wrote d keeps)
+    rolls-back = rolls-log a (ap has_records lazy) plain log wrote d v.owned.in_place [] is (let h = k.marked.count in omega arith) kept-now (written-now log wrote d set.once) (inside-with a log wrote d keeps)
+      where
+        kept-now : (known_of v (own_of m)).kept ≡ kept_rolled v.gate.algorithm (known_of v (own_of l)).kept (known_of v (own_of m)).log.writes
+        kept-now = ap (λ (b : Alg). kept_under b v (own_of m)) lazy
+            ∙ sym (λ j. kept_rolled (lazy j) (known_of v (own_of l)).kept (written_under (lazy j) (k.optimistic.ungranted j) v (own_of m)))

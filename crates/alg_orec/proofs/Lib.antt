@@ -3,14 +3,12 @@ pub mod ReadItems
 pub mod Passing
 pub mod Validity
 pub mod LoadLaws
-pub mod CellLogs
 pub mod RecordReads
 pub mod LazyLaws
 pub mod NestingOpening
 pub mod LazyNestingLaws
 pub mod ReadCalls
 pub mod Releasing
-pub mod Cells
 pub mod LockingLaws
 pub mod Proving
 pub mod LazyCommitLaws

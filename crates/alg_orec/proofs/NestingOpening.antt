@@ -1,6 +1,5 @@
 -- What a call on the marks of an attempt knows of it, of OrecLazy or OrecEager alike, and what it tells.
-use Rattle.std.proofs.Common.{ℕ, ◌≡◌, ◌<◌, ◌≤◌, ◌+◌, ◌-◌, List, [], ◌∷◌, ◌++◌, length, take, Bool, true, false, refl, sym, ap, ◌∙◌, subst}
-use Rattle.std.specs.Prelude.{◌||◌}
+use Rattle.std.proofs.Common.{ℕ, ◌≡◌, ◌<◌, ◌≤◌, ◌+◌, ◌-◌, List, [], ◌∷◌, ◌++◌, length, Bool, true, false, refl, sym, ap, ◌∙◌}
 use Rattle.stm_model.specs.Algorithms.{has_records}
 use Rattle.stm_model.specs.declared.alg.Alg.{Alg}
 use Rattle.stm_model.specs.declared.config.Config.{Config}
@@ -12,17 +11,14 @@ use Rattle.rule_base.specs.Bridge.{items}
 use Rattle.rule_base.specs.Own.{Own}
 use Rattle.stm_rule.specs.declared.local.Local.{Local}
 use Rattle.stm_rule.specs.declared.stm.Stm.{Stm}
-use Rattle.stm_rule.specs.Attempts.{Keeps, Stands, good_by, own_of, IsInside, IsPromoted}
+use Rattle.stm_rule.specs.Attempts.{Keeps, Stands, good_by, own_of, IsInside}
 use Rattle.stm_rule.specs.Callers.{Handle}
-use Rattle.stm_rule.specs.EagerKept.{IsEagerPromoted}
 use Rattle.stm_rule.specs.RecordsKept.{cells_of}
 use Rattle.stm_rule.specs.StandLemmas.{inside-of}
-use Rattle.tx_answers.specs.declared.answers.Check.TheVariants.{Marked}
 use Rattle.tx_answers.specs.declared.answers.Roll.TheVariants.{Rolled}
-use Rattle.tx_answers.specs.Answers.{Checks, Releases, Rolls}
-use Rattle.tx_answers.specs.Known.{Known, IsRunning, known_of, written_under, is_irrevocable, is_in, is_closing, keeps_records}
+use Rattle.tx_answers.specs.Answers.{Rolls, kept_rolled}
+use Rattle.tx_answers.specs.Known.{Known, IsRunning, known_of, written_under, is_irrevocable, is_in, is_closing}
 use Rattle.tx_answers.specs.KnownLaws.{grows-same}
-use Rattle.tx_logs.specs.declared.marks.TheConstants.{MAX_MARKS}
 use Rattle.tx_logs.specs.LogStates.{LogState, rolled}
 use Rattle.stm_gate.specs.Knowing.{known}
 use Rattle.stm_gate.specs.MarkLaws.{written-same}
@@ -31,7 +27,8 @@ use Rattle.stm_gate.specs.Opening.{Opened}
 use Rattle.stm_gate.specs.Standing.{in-of}
 use Rattle.stm_gate.specs.Told.{stands-on}
 use Rattle.alg_orec.specs.EagerEnding.{restoring}
-use Rattle.alg_orec.proofs.GrantOpening.{both, granted-known}
+use Rattle.alg_orec.proofs.GrantOpening.{granted-known}
+use Rattle.stm_gate.specs.KeptLaws.{kept-same}
 
 -- the attempt goes on, and k is what contracts see of it
 pub record GoesOn (good : List ℕ → Type 0) (c : Config) (n : ℕ) (l : Local) (v : View) (k : Known) : Type 0 where
@@ -60,11 +57,11 @@ module _ {good : List ℕ → Type 0} {c : Config} {n : ℕ} {l : Local} {v : Vi
   i : IsInside good c n l v
   i = a.inside
 
-  -- with other logs and at another depth, where this is in place and to be restored, after these steps
-  pub inside-at : (log cut : LogState) (wrote : Bool) (d : ℕ) (retains : Bool) (in_place undo : List Cell) (more : List TrailItem)
-      → Keeps c l.algorithm l.granted (record l { writes = log; undo = cut; wrote = wrote; depth = d; retains = retains }) (restoring v in_place undo more)
-      → IsInside good c n (record l { writes = log; undo = cut; wrote = wrote; depth = d; retains = retains }) (restoring v in_place undo more)
-  inside-at log cut wrote d retains in_place undo more keeps = record {
+  -- with another log of writes and at another depth, where this is in place after these steps
+  pub inside-at : (log : LogState) (wrote : Bool) (d : ℕ) (in_place : List Cell) (more : List TrailItem)
+      → Keeps c l.algorithm l.granted (record l { writes = log; wrote = wrote; depth = d }) (restoring v in_place more)
+      → IsInside good c n (record l { writes = log; wrote = wrote; depth = d }) (restoring v in_place more)
+  inside-at log wrote d in_place more keeps = record {
     phase = i.phase;
     named = i.named;
     disowned = i.disowned;
@@ -82,49 +79,32 @@ module _ {good : List ℕ → Type 0} {c : Config} {n : ℕ} {l : Local} {v : Vi
     keeps = keeps;
   }
 
-  -- with another log of writes, and at another depth
+  -- where nothing moved
   pub inside-with : (log : LogState) (wrote : Bool) (d : ℕ) → Keeps c l.algorithm l.granted (record l { writes = log; wrote = wrote; depth = d }) v → IsInside good c n (record l { writes = log; wrote = wrote; depth = d }) v
-  inside-with log wrote d keeps = inside-at log l.undo wrote d l.retains v.owned.in_place v.owned.undo [] keeps
+  inside-with log wrote d keeps = inside-at log wrote d v.owned.in_place [] keeps
 
   pub stands-with : (log : LogState) (wrote : Bool) (d : ℕ) → log.len ≡ l.writes.len → Keeps c l.algorithm l.granted (record l { writes = log; wrote = wrote; depth = d }) v → Stands good c n (record l { writes = log; wrote = wrote; depth = d }) v
-  stands-with log wrote d len keeps = stands-on good c n l (record l { writes = log; wrote = wrote; depth = d }) v v i.phase a.stands refl refl (len ∙ a.stands.lengths.0, a.stands.lengths.1, a.stands.lengths.2) refl (inside-with log wrote d keeps)
+  stands-with log wrote d len keeps = stands-on good c n l (record l { writes = log; wrote = wrote; depth = d }) v v i.phase a.stands refl refl (len ∙ a.stands.lengths.0, a.stands.lengths.1) refl (inside-with log wrote d keeps)
 
   -- what is written stays where the log has the same items
   known-with : (log : LogState) (d : ℕ) → log.items ≡ l.writes.items → known_of v (own_of (record l { writes = log; depth = d })) ≡ record (known_of v (own_of l)) { depth = d; marks = log.marks }
   known-with log d same = ap (λ (ws : List (ℕ × ℕ)). let q : Known = record (known_of v (own_of (record l { writes = log; depth = d }))) { log = record { reads = items v.attempt.reads; writes = ws } } in q)
       (written-same v.gate.algorithm v.gate.granted v (own_of l) (own_of (record l { writes = log; depth = d })) (ap cells_of same))
+      ∙ ap (λ (ks : List ℕ). let q : Known = record (known_of v (own_of (record l { writes = log; depth = d }))) { log = (known_of v (own_of l)).log; kept = ks } in q) (kept-same v.gate.algorithm v v (own_of l) (own_of (record l { writes = log; depth = d })) (ap cells_of same) refl refl)
 
-  -- UNTIL IT IS IRREVOCABLE the log of what it wrote has the marks
-  module _ (count : length l.writes.marks ≡ l.depth) (before : written_under v.gate.algorithm v.gate.granted v (own_of l) ≡ l.writes.items) where
-    pub marks-log : (log : LogState) → log ≡ record l.writes { marks = l.writes.marks ++ l.writes.items ∷ [] } → l.depth < MAX_MARKS → Checks (Marked (l.depth + 1)) k (known_of v (own_of (record l { writes = log; depth = l.depth + 1 })))
-    marks-log log is low = subst (λ (q : Known). Checks (Marked (l.depth + 1)) q (known_of v (own_of (record l { writes = log; depth = l.depth + 1 })))) (sym a.knows) (
-      low,
-      refl,
-      record {
-        is = known-with log (l.depth + 1) (ap (λ (q : LogState). q.items) is);
-        marks = λ r. (count, ap (λ (q : LogState). q.marks) is ∙ ap (λ (ws : List (ℕ × ℕ)). l.writes.marks ++ ws ∷ []) (sym before));
-      },
-    )
-
-  pub releases-log : (log : LogState) (d : ℕ) → log ≡ record l.writes { marks = take (d - 1) l.writes.marks } → Releases d k (known_of v (own_of (record l { writes = log; depth = d - 1 })))
-  releases-log log d is = subst (λ (q : Known). Releases d q (known_of v (own_of (record l { writes = log; depth = d - 1 })))) (sym a.knows) (record {
-    is = known-with log (d - 1) (ap (λ (q : LogState). q.items) is);
-    marks = λ r. ap (λ (q : LogState). q.marks) is;
-  })
-
-  pub rolls-log : has_records v.gate.algorithm ≡ true → l.granted ≡ false → (log cut : LogState) (wrote : Bool) (d : ℕ) (retains : Bool) (in_place undo : List Cell) (more : List TrailItem) → log ≡ rolled d l.writes → d ≤ length l.writes.marks → cut.len ≡ l.undo.len
-      → retains ≡ (keeps_records v.gate.algorithm || l.retains)
-      → written_under v.gate.algorithm v.gate.granted (restoring v in_place undo more) (own_of (record l { writes = log; undo = cut; wrote = wrote; depth = d; retains = retains })) ≡ log.items
-      → IsInside good c n (record l { writes = log; undo = cut; wrote = wrote; depth = d; retains = retains }) (restoring v in_place undo more)
-      → Rolls good c n d Rolled (known_of v (own_of l)) (known_of (restoring v in_place undo more) (own_of (record l { writes = log; undo = cut; wrote = wrote; depth = d; retains = retains })))
-  rolls-log has plain log cut wrote d retains in_place undo more is within short kept written inside = (
+  pub rolls-log : has_records v.gate.algorithm ≡ true → l.granted ≡ false → (log : LogState) (wrote : Bool) (d : ℕ) (in_place : List Cell) (more : List TrailItem) → log ≡ rolled d l.writes → d ≤ length l.writes.marks
+      → (known_of (restoring v in_place more) (own_of (record l { writes = log; wrote = wrote; depth = d }))).kept ≡ kept_rolled v.gate.algorithm (known_of v (own_of l)).kept (known_of (restoring v in_place more) (own_of (record l { writes = log; wrote = wrote; depth = d }))).log.writes
+      → written_under v.gate.algorithm v.gate.granted (restoring v in_place more) (own_of (record l { writes = log; wrote = wrote; depth = d })) ≡ log.items
+      → IsInside good c n (record l { writes = log; wrote = wrote; depth = d }) (restoring v in_place more)
+      → Rolls good c n d Rolled (known_of v (own_of l)) (known_of (restoring v in_place more) (own_of (record l { writes = log; wrote = wrote; depth = d })))
+  rolls-log has plain log wrote d in_place more is within kept written inside = (
     record {
       stays = record {
         running = ap is_in i.phase;
         uncommitted = a.quiet;
         closing = ap is_closing i.phase;
         made = refl;
-        grows = grows-same (known_of v (own_of l)) (known_of (restoring v in_place undo more) (own_of m)) refl refl more refl refl short refl;
+        grows = grows-same (known_of v (own_of l)) (known_of (restoring v in_place more) (own_of m)) refl refl more refl refl refl refl;
         alg = refl;
         fence = refl;
         base = refl;
@@ -139,15 +119,15 @@ module _ {good : List ℕ → Type 0} {c : Config} {n : ℕ} {l : Local} {v : Vi
       reads = refl;
       writes = written ∙ ap (λ (q : LogState). q.items) is;
       depth = refl;
-      retains = kept;
+      kept = kept;
       marks = ap (λ (q : LogState). q.marks) is;
-      opaque = opaque-inside good c n m (restoring v in_place undo more) (own_of m) inside;
+      opaque = opaque-inside good c n m (restoring v in_place more) (own_of m) inside;
     },
     granted-known good c n l v i has ∙ plain,
   )
     where
       m : Local
-      m = record l { writes = log; undo = cut; wrote = wrote; depth = d; retains = retains }
+      m = record l { writes = log; wrote = wrote; depth = d }
 
   -- ONCE IRREVOCABLE a mark is a number
   module _ (alg : Alg) (has : has_records alg ≡ true) (named : k.alg ≡ alg) (granted : l.granted ≡ true) where
@@ -159,40 +139,3 @@ module _ {good : List ℕ → Type 0} {c : Config} {n : ℕ} {l : Local} {v : Vi
 
     pub irrevocable-now : is_irrevocable k ≡ true
     irrevocable-now = ap is_irrevocable a.knows ∙ irrevocable
-
-    pub stands-deeper : (d : ℕ) → Stands good c n (record l { depth = d }) v
-    stands-deeper d = stands-with l.writes l.wrote d refl (subst (λ (b : Bool). Keeps c l.algorithm b deeper v) (sym granted)
-        (both (λ (a : Alg). Keeps c a true l v → Keeps c a true deeper v) lazy eager l.algorithm (ap has_records (sym i.named) ∙ has-here) (subst (λ (b : Bool). Keeps c l.algorithm b l v) granted i.keeps)))
-      where
-        deeper : Local
-        deeper = record l { depth = d }
-
-        lazy : IsPromoted l v → IsPromoted deeper v
-        lazy p = record { granted = p.granted; calm = p.calm; holds = p.holds; clear = p.clear; clean = p.clean; dirty = p.dirty; rises = p.rises; limit = p.limit }
-
-        eager : IsEagerPromoted c l v → IsEagerPromoted c deeper v
-        eager p = record {
-          granted = p.granted;
-          calm = p.calm;
-          holds = p.holds;
-          unlocked = p.unlocked;
-          unfixed = p.unfixed;
-          unwritten = p.unwritten;
-          uncommitted = p.uncommitted;
-          locks = p.locks;
-          places = p.places;
-          disowned = p.disowned;
-          few = p.few;
-          clean = p.clean;
-          dirty = p.dirty;
-          rises = p.rises;
-          limit = p.limit;
-        }
-
-    pub marks-number : l.depth < MAX_MARKS → Checks (Marked (l.depth + 1)) k (known_of v (own_of (record l { depth = l.depth + 1 })))
-    marks-number low = subst (λ (q : Known). Checks (Marked (l.depth + 1)) q (known_of v (own_of (record l { depth = l.depth + 1 })))) (sym a.knows)
-        (low, refl, record { is = known-with l.writes (l.depth + 1) refl; marks = λ r. absurd (let z : true ≡ false = sym irrevocable ∙ r in cc) })
-
-    pub releases-number : (d : ℕ) → Releases d k (known_of v (own_of (record l { depth = d - 1 })))
-    releases-number d = subst (λ (q : Known). Releases d q (known_of v (own_of (record l { depth = d - 1 })))) (sym a.knows)
-        (record { is = known-with l.writes (d - 1) refl; marks = λ r. absurd (let z : true ≡ false = sym irrevocable ∙ r in cc) })

@@ -15,7 +15,7 @@ use Rattle.rule_base.specs.Own.{Own}
 use Rattle.tx_answers.specs.Answers.{Quits, Ends, CommitsAt, entry}
 use Rattle.tx_answers.specs.Causes.{Conflicts, FindsFull}
 use Rattle.tx_answers.specs.Evidence.{FoundAsWas, FoundMoved}
-use Rattle.tx_answers.specs.Known.{Known, Grows, known_of, granted_under, wrote, has_written}
+use Rattle.tx_answers.specs.Known.{Known, Grows, known_of, granted_under, is_none, wrote, has_written}
 use Rattle.tx_answers.specs.KnownLaws.{grows-trans}
 use Rattle.stm_rule.specs.declared.local.Local.{Local}
 use Rattle.stm_rule.specs.Attempts.{Keeps, IsInside, own_of}
@@ -51,7 +51,7 @@ pub record Leads (v w : Known) : Type 0 where
   pub start : v.start ≤ w.start
   pub log : w.log ≡ v.log
   pub granted : w.granted ≡ v.granted
-  pub retains : w.retains ≡ v.retains
+  pub kept : w.kept ≡ v.kept
 
 wrote-leads : (v w : Known) → Leads v w → wrote w ≡ wrote v
 wrote-leads v w a = ap (λ (l : Log). not (is_empty l.writes)) a.log
@@ -63,7 +63,7 @@ pub quits-leads : (u v w : Known) → Leads u v → Quits v w → Quits u w
 quits-leads u v w a b = record {
   ends = ends-leads u v w a b.ends;
   made = b.made ∙ a.made;
-  rises = (let e = a.base in let r = b.rises.0 in omega arith, let e = a.base in let r = b.rises.1 in let q : quit_rise v.alg (has_written v) ≡ quit_rise u.alg (has_written u) = (λ j. quit_rise (a.alg j) (wrote-leads u v a j || a.retains j)) in omega arith);
+  rises = (let e = a.base in let r = b.rises.0 in omega arith, let e = a.base in let r = b.rises.1 in let q : quit_rise v.alg (has_written v) ≡ quit_rise u.alg (has_written u) = (λ j. quit_rise (a.alg j) (wrote-leads u v a j || not (is_none (a.kept j)))) in omega arith);
   revocable = sym (λ j. irrevocable_under (a.alg j) (a.granted j) (wrote-leads u v a j)) ∙ b.revocable;
 }
 

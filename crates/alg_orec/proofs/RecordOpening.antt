@@ -31,7 +31,7 @@ module _ {K : Type 0} (good : K → List ℕ → Type 0) (stm : Stm K) where
     unread at none = ap (item_at at) a.reading.reads ∙ of-view good stm a.opening (λ n v. item_at at v.log.reads ≡ None) none
 
     -- after the call the seat is w, and q are the descriptor's fields
-    pub stays-tied : {y : View} (q : Local) (w : SeatView K × List (ℕ × Unit {0})) → w.0 ≡ record me.0 { view = y } → w.1 ≡ me.1 → q.running ≡ l.running → q.holds ≡ l.holds → HasRoom stm.config q → w.0.view.gate.holds ≡ me.0.view.gate.holds → IsInside (good stm.rule) stm.config n q w.0.view
+    pub stays-tied : {y : View} (q : Local) (w : SeatView K × List (ℕ × Unit {0})) → w.0 ≡ record me.0 { view = y } → w.1 ≡ me.1 → q.running ≡ l.running → q.holds ≡ l.holds → HasRoom q → w.0.view.gate.holds ≡ me.0.view.gate.holds → IsInside (good stm.rule) stm.config n q w.0.view
         → IsTied n w × Stands (good_by good w.0.who.rule) w.0.who.config n q w.0.view
     stays-tied q w seated empty running held lengths gate inside = (
       record {

@@ -19,7 +19,7 @@ use Rattle.rule_base.specs.declared.views.Sample.{Sample}
 use Rattle.rule_base.specs.declared.views.TrailItem.{TrailItem}
 use Rattle.rule_base.specs.declared.views.Validation.{Validation}
 use Rattle.rule_base.specs.declared.views.View.{View}
-use Rattle.rule_base.specs.Bridge.{items, of_words, public_history}
+use Rattle.rule_base.specs.Bridge.{addresses, items, of_words, public_history}
 use Rattle.rule_base.specs.History.{word_now, Below, Explains, Inside, Legal}
 use Rattle.rule_base.specs.HistoryLemmas.{inside-more}
 use Rattle.rule_base.specs.Own.{Own}
@@ -36,7 +36,7 @@ use Rattle.tx_answers.specs.declared.answers.Read.TheVariants as reads
 use Rattle.tx_answers.specs.Answers.{HasRead, Quits, GoesOn, StartMoves, start_word}
 use Rattle.tx_answers.specs.Causes.{has_item, is_some, reads_full}
 use Rattle.tx_answers.specs.Evidence.{Found}
-use Rattle.tx_answers.specs.Known.{Known, Grows, known_of, granted_under, written_under, is_irrevocable, is_in, is_closing, has_written}
+use Rattle.tx_answers.specs.Known.{Known, Grows, known_of, granted_under, kept_under, written_under, is_irrevocable, is_in, is_closing, is_none, has_written}
 use Rattle.tx_answers.specs.KnownLaws.{grows-same, grows-trans}
 use Rattle.tx_logs.specs.LogStates.{LogState}
 use Rattle.stm_gate.specs.InnerLaws.{goes-inner}
@@ -45,6 +45,7 @@ use Rattle.stm_gate.specs.LeavingLaws.{IsUnmade, quits-left, trail-left}
 use Rattle.stm_gate.specs.Logging.{put-new}
 use Rattle.stm_gate.specs.Opacity.{opaque-at, opaque-inside, later-seen}
 use Rattle.stm_gate.specs.Starts.{CanBegin, IsFresh, StartsAt}
+use Rattle.stm_gate.specs.KeptLaws.{kept-same}
 use Rattle.alg_orec.proofs.Proving.{conflicts-by-records}
 use Rattle.alg_orec.specs.Loading.{moved, MayMove, RefusesRead, HasLoaded}
 use Rattle.alg_orec.specs.Validating.{load_of}
@@ -131,6 +132,8 @@ module _ {good : List ℕ → Type 0} {c : Config} {n : ℕ} {l : Local} {v : Vi
     small,
     opaque-inside good c n l v o i,
     has-room at x (inl own),
+    refl,
+    refl,
   )
 
   pub reads-old : (at x : ℕ) → item_at at l.writes.items ≡ None → item_at at l.reads.items ≡ Some x → x < 2 ^ 64 → HasRead good c n at (reads.Value x) (known_of v o) (known_of v o)
@@ -145,6 +148,8 @@ module _ {good : List ℕ → Type 0} {c : Config} {n : ℕ} {l : Local} {v : Vi
     small,
     opaque-inside good c n l v o i,
     has-room at x (inr old),
+    refl,
+    refl,
   )
 
   -- where nothing was loaded
@@ -226,7 +231,6 @@ module _ {good : List ℕ → Type 0} {c : Config} {n : ℕ} {l : Local} {v : Vi
           later = begins;
           installs = refl;
           depth = refl;
-          retains = refl;
         };
         start = start-by v.gate.algorithm (known_of v o) (known_of u o) orec (start-moves moves);
         granted = refl;
@@ -253,7 +257,7 @@ module _ {good : List ℕ → Type 0} {c : Config} {n : ℕ} {l : Local} {v : Vi
           as-here = written-here ∙ sym (written u refl refl)
 
           q : Quits (known_of u o) (known_of (left n before) o)
-          q = quits-left n u before o unmade (rises.0, subst (λ (ws : List (ℕ × ℕ)). before.steps.rises ≤ v.steps.rises_at_begin + quit_rise v.gate.algorithm (not (is_empty ws) || l.retains)) as-here rises.1)
+          q = quits-left n u before o unmade (rises.0, subst (λ (b : Bool). before.steps.rises ≤ v.steps.rises_at_begin + quit_rise v.gate.algorithm b) (λ j. not (is_empty (as-here j)) || not (is_none (sym (kept-same v.gate.algorithm v u o o refl refl refl) j))) rises.1)
               (promoted-by v.gate.algorithm v.gate v.lock (not (is_empty (known_of u o).log.writes)) orec ∙ ungranted)
 
       -- or it stands there, and its descriptor has what was read
@@ -306,6 +310,8 @@ module _ {good : List ℕ → Type 0} {c : Config} {n : ℕ} {l : Local} {v : Vi
     small,
     opaque-at good c n y o m.start refl refl h.legal h.below h.sees (inside-more c.words (record { at = at; value = x }) v.attempt.reads low i.reads_inside),
     full-by at false unwritten unread (grind (arith, nat_tests)),
+    refl,
+    kept-same v.gate.algorithm v y o o refl refl refl,
   )
     where
       y : View
@@ -367,6 +373,7 @@ module _ (good : List ℕ → Type 0) (c : Config) (n : ℕ) (alg : Alg) (orec :
         found = subst (λ (p : At). Found p clock (known_of v o) (known_of y o)) (sym (starts-at-clock alg orec)) (_ ∷ [], refl, Load, (0, omega arith, refl));
         is = refl;
         fresh = b.front;
+        bare = bare o fresh;
         log = (λ j. record { reads = []; writes = written_under (can.named j) (can.ungranted j) y o }) ∙ ap (λ (ws : List (ℕ × ℕ)). record { reads = []; writes = ws }) (writes o fresh);
         granted = granted-by v.gate.algorithm v.gate v.lock (here-orec orec) ∙ can.ungranted;
         opaque = opaque-at good c n y o clock refl refl b.legal b.below (λ a. refl) (λ a e. absurd cc);
@@ -376,6 +383,14 @@ module _ (good : List ℕ → Type 0) (c : Config) (n : ℕ) (alg : Alg) (orec :
         here-orec : IsOrec alg → IsOrec v.gate.algorithm
         here-orec (inl e) = inl (can.named ∙ e)
         here-orec (inr e) = inr (can.named ∙ e)
+
+        -- neither log has an item yet
+        bare : (o : Own) → IsFresh o → (known_of y o).kept ≡ []
+        bare o fresh = by v.gate.algorithm (here-orec orec)
+          where
+            by : (a : Alg) → IsOrec a → kept_under a y o ≡ []
+            by a (inl e) = ap (λ (b : Alg). kept_under b y o) e ∙ ap (λ (cs : List Cell). addresses (items cs)) fresh.1
+            by a (inr e) = ap (λ (b : Alg). kept_under b y o) e
 
         grown : (o : Own) → Grows (known_of v o) (known_of y o)
         grown o = let q = later-seen t.0.history v.history.front clock b.below b.front in record {

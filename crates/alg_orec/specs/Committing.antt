@@ -33,7 +33,7 @@ pub record CanCommit (good : List ℕ → Type 0) (c : Config) (n : ℕ) (l : Lo
   pub wrote : l.wrote ≡ true
   pub running : l.running ≡ true
   pub holds : l.holds ≡ v.gate.holds
-  pub lengths : HasRoom c l
+  pub lengths : HasRoom l
 
 -- the view after the records were taken, and the reads validated
 abbrev pub readied : View → List Entry → ℕ → List Cell → Bool → Validation → List TrailItem → View

@@ -1,11 +1,13 @@
 -- What the parts of the commit of an attempt of OrecEager that wrote ask and tell.
-use Rattle.std.specs.Prelude.{ℕ, ◌≡◌, ◌<◌, ◌++◌, ◌⊎◌, Bool, true, false, List, None, Result, Ok, Err}
+use Rattle.std.specs.Prelude.{ℕ, ◌≡◌, ◌+◌, ◌<◌, ◌≤◌, ◌++◌, ◌⊎◌, Bool, true, false, List, [], None, Result, Ok, Err}
 use Rattle.stm_model.specs.Algorithms.{has_records}
 use Rattle.stm_model.specs.declared.alg.Alg.TheVariants.{OrecEager}
 use Rattle.stm_model.specs.declared.config.Config.{Config}
+use Rattle.stm_model.specs.declared.config.TheConstants.{CLOCK_LIMIT}
 use Rattle.stm_model.specs.declared.stop.Cause.{Cause}
 use Rattle.rule_base.specs.declared.entries.Entry.{Entry}
 use Rattle.rule_base.specs.declared.layout.At.TheVariants.{Clock}
+use Rattle.rule_base.specs.declared.views.Phase.TheVariants.{In}
 use Rattle.rule_base.specs.declared.views.TrailItem.{TrailItem}
 use Rattle.rule_base.specs.declared.views.Validation.{Validation}
 use Rattle.rule_base.specs.declared.views.View.{View}
@@ -18,6 +20,7 @@ use Rattle.tx_answers.specs.Causes.{Conflicts}
 use Rattle.tx_answers.specs.Evidence.{Found}
 use Rattle.tx_answers.specs.Known.{Grows, known_of}
 use Rattle.alg_orec.specs.Committing.{readied}
+use Rattle.alg_orec.specs.EagerEnding.{AllBelow}
 
 -- an attempt of OrecEager that wrote, and was not promoted
 pub record CanCommitPlaced (good : List ℕ → Type 0) (c : Config) (n : ℕ) (l : Local) (v : View) : Type 0 where
@@ -27,7 +30,7 @@ pub record CanCommitPlaced (good : List ℕ → Type 0) (c : Config) (n : ℕ) (
   pub wrote : l.wrote ≡ true
   pub running : l.running ≡ true
   pub holds : l.holds ≡ v.gate.holds
-  pub lengths : HasRoom c l
+  pub lengths : HasRoom l
 
 module _ (good : List ℕ → Type 0) (c : Config) (n : ℕ) where
   -- the reads are valid at the start, which is the clock loaded in this call where the call before answered Again
@@ -55,6 +58,36 @@ module _ (good : List ℕ → Type 0) (c : Config) (n : ℕ) where
   abbrev pub Revalidates : Result (Unit {0}) Cause → Local → View → Local → View → Type 0
   Revalidates (Ok _) l v m w = IsRevalidated l v m w
   Revalidates (Err cause) l v m w = IsOverrun cause l v m w
+
+-- a promoted attempt that wrote nothing, and may hold records of writes that were taken back
+pub record CanGiveAbove (c : Config) (l : Local) (v : View) : Type 0 where
+  pub phase : v.gate.phase ≡ In
+  pub granted : v.gate.granted ≡ true
+  pub eager : v.gate.algorithm ≡ OrecEager
+  pub unwritten : v.attempt.stores ≡ []
+  pub unentered : v.attempt.entered ≡ false
+  pub front : v.history.front ≡ v.attempt.start
+  pub locks : l.locks.items ≡ items v.owned.held
+  pub places : Inside c.records v.owned.held
+  pub below : AllBelow CLOCK_LIMIT v.owned.held
+
+-- it holds none any more; where it did, the clock may have been raised by one, without an entry
+pub record GivesAbove (v w : View) : Type 0 where
+  pub is : w ≡ record v {
+    history = record v.history { front = w.history.front };
+    gate = record v.gate { time = w.gate.time; rebased = w.gate.rebased; completed = w.gate.completed };
+    attempt = w.attempt;
+    owned = w.owned;
+    steps = record v.steps { rises = w.steps.rises; trail = w.steps.trail };
+  }
+  pub more : List TrailItem
+  pub trail : w.steps.trail ≡ more ++ v.steps.trail
+  pub handed : w.owned.held ≡ []
+  pub unstored : w.attempt.stores ≡ []
+  pub unentered : w.attempt.entered ≡ false
+  pub later : v.history.front ≤ w.history.front
+  pub rose : (v.steps.rises ≤ w.steps.rises) × (w.steps.rises ≤ v.steps.rises + 1)
+  pub level : v.owned.held ≡ [] → w.steps.rises ≡ v.steps.rises
 
 -- a promoted attempt whose entry was made at t
 pub record CanGiveDirect (c : Config) (t : ℕ) (l : Local) (v : View) : Type 0 where

@@ -15,21 +15,25 @@ use Rattle.stm_gate.specs.LeavingLaws.{IsUnmade}
 use Rattle.stm_rule.specs.declared.local.Local.{Local}
 use Rattle.stm_rule.specs.Attempts.{IsOutside}
 
+-- what the words were is in the undo log wherever the attempt stored, and may be there of stores that were taken back
+abbrev pub Undoable : View → Type 0
+Undoable v = (a : ℕ) → touches v.owned.in_place a ≡ true → touches v.owned.undo a ≡ true
+
 -- the descriptor has what the words were where the attempt stored
 pub record CanRestoreAll (c : Config) (l : Local) (v : View) : Type 0 where
   pub has : HasOrec v
   pub undo : l.undo.items ≡ items v.owned.undo
+  pub undoable : Undoable v
   pub words : Inside c.words v.owned.undo
 
--- the view with these values in place, and these to be restored, and with these steps added
-abbrev pub restoring : View → List Cell → List Cell → List TrailItem → View
-restoring v in_place undo more = record v { owned = record v.owned { in_place = in_place; undo = undo }; steps = record v.steps { trail = more ++ v.steps.trail } }
+-- the view with these values in place, and with these steps added
+abbrev pub restoring : View → List Cell → List TrailItem → View
+restoring v in_place more = record v { owned = record v.owned { in_place = in_place }; steps = record v.steps { trail = more ++ v.steps.trail } }
 
 -- the words are as they were
 pub record RestoresAll (v w : View) : Type 0 where
-  pub in_place : List Cell
   pub more : List TrailItem
-  pub is : w ≡ restoring v in_place [] more
+  pub is : w ≡ restoring v [] more
 
 -- none of the items has a greater value, and where there is one, one has this
 abbrev pub IsNewest : ℕ → List (ℕ × ℕ) → Type 0
@@ -55,6 +59,7 @@ pub record CanGiveBack (c : Config) (l : Local) (v : View) : Type 0 where
   pub opens : HasOpen v
   pub repaid : v.owned.back ≡ []
   pub undo : l.undo.items ≡ items v.owned.undo
+  pub undoable : Undoable v
   pub words : Inside c.words v.owned.undo
   pub locks : l.locks.items ≡ items v.owned.held
   pub places : Inside c.records v.owned.held

@@ -2,28 +2,26 @@
 use Rattle.std.specs.Prelude.{ℕ, ◌≡◌, true, List, take}
 use Rattle.rule_base.specs.declared.views.TrailItem.{TrailItem}
 use Rattle.rule_base.specs.declared.views.View.{View}
-use Rattle.rule_base.specs.Bridge.{items}
+use Rattle.rule_base.specs.Bridge.{addresses, items}
 use Rattle.rule_base.specs.History.{touches, Inside, Small}
 use Rattle.rule_orec.specs.OrecSteps.{HasOrec, HasOpen}
-use Rattle.stm_rule.specs.Attempts.{addresses}
 use Rattle.tx_answers.specs.Causes.{has_item}
-use Rattle.alg_orec.specs.EagerEnding.{restoring}
+use Rattle.alg_orec.specs.EagerEnding.{restoring, Undoable}
 
--- these are the old values of all words that the attempt has stored, in their order
-pub record CanRestoreBehind (words : ℕ) (us : List (ℕ × ℕ)) (v : View) : Type 0 where
+-- these are the old values of the words that the attempt has stored, now or before they were taken back, and these the words that are stored, in their order
+pub record CanRestoreBehind (words : ℕ) (us ws : List (ℕ × ℕ)) (v : View) : Type 0 where
   pub has : HasOrec v
   pub undo : us ≡ items v.owned.undo
-  pub undoable : addresses us ≡ addresses (items v.owned.in_place)
+  pub placed : ws ≡ items v.owned.in_place
+  pub undoable : Undoable v
   pub within : Inside words v.owned.undo
   pub small : Small v.owned.in_place
 
--- of the words stored the first so many are left
-pub record RestoresBehind (words left : ℕ) (us : List (ℕ × ℕ)) (v w : View) : Type 0 where
+-- of the words stored the first so many are left; the old values of all are kept
+pub record RestoresBehind (left : ℕ) (ws : List (ℕ × ℕ)) (v w : View) : Type 0 where
   pub more : List TrailItem
-  pub is : w ≡ restoring v w.owned.in_place w.owned.undo more
-  pub undo : items w.owned.undo ≡ take left us
-  pub in_place : items w.owned.in_place ≡ take left (items v.owned.in_place)
-  pub within : Inside words w.owned.undo
+  pub is : w ≡ restoring v w.owned.in_place more
+  pub in_place : items w.owned.in_place ≡ take left ws
   pub small : Small w.owned.in_place
 
 -- the words of these items, and no others, are stored, and each may be stored again
@@ -38,6 +36,6 @@ pub record CanPlaceAgain (words : ℕ) (ws : List (ℕ × ℕ)) (v : View) : Typ
 -- they have these values
 pub record PlacesAgain (ws : List (ℕ × ℕ)) (v w : View) : Type 0 where
   pub more : List TrailItem
-  pub is : w ≡ restoring v w.owned.in_place v.owned.undo more
+  pub is : w ≡ restoring v w.owned.in_place more
   pub in_place : items w.owned.in_place ≡ ws
   pub small : Small w.owned.in_place

@@ -65,6 +65,7 @@ module _ (good : List ℕ → Type 0) (c : Config) (n a : ℕ) where
     pub goes : GoesOn v w
     pub uncommitted : w.committing ≡ false
     pub log : w.log ≡ v.log
+    pub kept : w.kept ≡ v.kept
     pub fresh : IsNew a w
     pub opaque : IsOpaque good c n w
     pub trail : w.trail ≡ more ++ v.trail

@@ -1,21 +1,21 @@
-//! The end of an attempt of OrecEager: its commit, and what cancels it.
+//! How an attempt of OrecEager commits that wrote, or was promoted.
 ghost use Rattle.stm_rule.specs.Counting.{TakesAtMost};
 ghost use Rattle.tx_answers.specs.Counting.{AddsAtMost};
-ghost use Rattle.std.specs.Prelude.{length, ◌≡◌, ℕ, ◌<◌, ◌≤◌, true, false, ◌+◌, ◌*◌};
+ghost use Rattle.std.specs.Prelude.{length, ◌≡◌, ℕ, ◌<◌, ◌≤◌, true, false, ◌+◌};
 ghost use Rattle.stm_model.specs.declared.alg.Alg.TheVariants.{OrecEager};
 ghost use Rattle.stm_rule.specs.Attempts.{own_of, Stands};
 ghost use Rattle.stm_rule.specs.Callers.{IsOf, IsSameCaller, IsSeatOf};
 ghost use Rattle.stm_gate.specs.Knowing.{known, number};
 ghost use Rattle.stm_rule.specs.Kept.{IsSameSeat, view_of};
-ghost use Rattle.tx_answers.specs.Answers.{KeepsRule, Commits, Cancels};
-ghost use Rattle.tx_answers.specs.Known.{held_limit, known_of, wrote};
-ghost use Rattle.alg_orec.specs.EagerCommitting.{CanCommitPlaced, Revalidates, CanGiveDirect};
+ghost use Rattle.tx_answers.specs.Answers.{KeepsRule, Commits};
+ghost use Rattle.tx_answers.specs.Known.{known_of};
+ghost use Rattle.alg_orec.specs.EagerCommitting.{CanCommitPlaced, Revalidates, CanGiveDirect, CanGiveAbove, GivesAbove};
 ghost use Rattle.alg_orec.specs.Locking.{ReleasesAll};
 
-use crate::eager_ending::take_back;
+use crate::eager_ending::{newest, take_back};
 use crate::locking::release_all;
 use crate::validate::validate;
-use steps_orec::promoting::direct_release;
+use steps_orec::promoting::{direct_lift, direct_release, direct_release_above};
 use steps_orec::{eager, lazy};
 use stm_gate::leave::leave;
 use stm_model::config::CLOCK_LIMIT;
@@ -24,57 +24,11 @@ use stm_model::stop::Cause;
 use stm_rule::desc::Desc;
 use stm_rule::local::Local;
 use stm_rule::stm::{Stm, Token};
-use tx_answers::answers::{Cancel, Commit};
-
-/// Commits the attempt: what it wrote becomes one entry of the history, unless another transaction came in between.
-/// Where it wrote nothing, one step, two where it holds the gate, and those of a rollback where it was rolled back; else
-/// those of `commit_placed`, or of `commit_direct`.
-pub fn commit<K: MemRule>(desc: &mut Desc<K>, stm: &Stm<K>) -> Commit
-    requires stm { IsOf desc.old stm.now }
-    requires running { (known desc.old).running ≡ true }
-    requires algorithm { (known desc.old).alg ≡ OrecEager }
-    requires keeps { KeepsRule (K.good stm.now.rule) stm.now.config (number desc.old) (known desc.old) }
-    ensures same { IsSameCaller desc.old desc.new }
-    ensures commits { Commits (K.good stm.now.rule) stm.now.config (number desc.old) result (known desc.old) (known desc.new) }
-    ensures steps { AddsAtMost (5 + (known desc.old).reads_limit + (known desc.old).writes_limit + held_limit stm.now.config (known desc.old)) (known desc.old) (known desc.new) }
-{
-    if desc.local.granted {
-        return commit_direct(desc, stm);
-    }
-    let caller = desc.number;
-    if !desc.local.wrote {
-        let time = desc.local.start;
-        if desc.local.locks.count() == 0 {
-            leave(&mut desc.seat, &mut desc.local, stm, caller);
-        } else {
-            take_back(&mut desc.seat, &mut desc.local, stm, caller);
-        }
-        return Commit::ReadOnly { time };
-    }
-    commit_placed(&mut desc.seat, &mut desc.local, stm, caller)
-}
-
-/// Takes the attempt back, unless it is irrevocable. The steps of a rollback.
-pub fn cancel<K: MemRule>(desc: &mut Desc<K>, stm: &Stm<K>) -> Cancel
-    requires stm { IsOf desc.old stm.now }
-    requires running { (known desc.old).running ≡ true }
-    requires algorithm { (known desc.old).alg ≡ OrecEager }
-    ensures same { IsSameCaller desc.old desc.new }
-    ensures cancels { Cancels (K.good stm.now.rule) stm.now.config (number desc.old) result (known desc.old) (known desc.new) }
-    ensures steps { AddsAtMost (3 + (known desc.old).writes_limit + held_limit stm.now.config (known desc.old)) (known desc.old) (known desc.new) }
-{
-    if desc.local.granted {
-        return Cancel::Irrevocable;
-    }
-    let caller = desc.number;
-    let time = desc.local.start;
-    take_back(&mut desc.seat, &mut desc.local, stm, caller);
-    Cancel::Cancelled { time }
-}
+use tx_answers::answers::Commit;
 
 /// Commits what lies in place, or goes on with a commit that answered Again: those of a validation then, one step for
 /// the entry and one for each record.
-fn commit_placed<K: MemRule>(
+pub(crate) fn commit_placed<K: MemRule>(
     seat: &mut Token<K>,
     local: &mut Local,
     stm: &Stm<K>,
@@ -135,8 +89,9 @@ fn revalidate<K: MemRule>(
 }
 
 /// Commits what a promoted attempt stored, gives its records back at the time of the entry, stores it in BASE and in
-/// DONE, and reopens the gate. Five steps, and one for each record; two where it wrote nothing.
-fn commit_direct<K: MemRule>(desc: &mut Desc<K>, stm: &Stm<K>) -> Commit
+/// DONE, and reopens the gate. Five steps, and one for each record; two, and those of `give_above`, where nothing is
+/// written.
+pub(crate) fn commit_direct<K: MemRule>(desc: &mut Desc<K>, stm: &Stm<K>) -> Commit
     requires stm { IsOf desc.old stm.now }
     requires running { (known desc.old).running ≡ true }
     requires algorithm { (known desc.old).alg ≡ OrecEager }
@@ -144,14 +99,12 @@ fn commit_direct<K: MemRule>(desc: &mut Desc<K>, stm: &Stm<K>) -> Commit
     requires keeps { KeepsRule (K.good stm.now.rule) stm.now.config (number desc.old) (known desc.old) }
     ensures same { IsSameCaller desc.old desc.new }
     ensures commits { Commits (K.good stm.now.rule) stm.now.config (number desc.old) result (known desc.old) (known desc.new) }
-    ensures steps { AddsAtMost (5 + held_limit stm.now.config (known desc.old)) (known desc.old) (known desc.new) }
+    ensures steps { AddsAtMost (5 + (known desc.old).writes_limit) (known desc.old) (known desc.new) }
 {
     let caller = desc.number;
     let start = desc.local.start;
     if !desc.local.wrote {
-        if desc.local.locks.count() > 0 {
-            return quit_direct(desc, stm);
-        }
+        give_above(&mut desc.seat, &desc.local, stm, caller);
         leave(&mut desc.seat, &mut desc.local, stm, caller);
         return Commit::ReadOnly { time: start };
     }
@@ -165,29 +118,26 @@ fn commit_direct<K: MemRule>(desc: &mut Desc<K>, stm: &Stm<K>) -> Commit
     Commit::Committed { time }
 }
 
-/// Ends a promoted attempt that was rolled back and wrote nothing else: it raises the clock with no entry, gives its
-/// records back at that number, stores it in BASE and in DONE, and reopens the gate. Five steps, and one for each record.
-fn quit_direct<K: MemRule>(desc: &mut Desc<K>, stm: &Stm<K>) -> Commit
-    requires stm { IsOf desc.old stm.now }
-    requires running { (known desc.old).running ≡ true }
-    requires algorithm { (known desc.old).alg ≡ OrecEager }
-    requires granted { (known desc.old).granted ≡ true }
-    requires unwritten { wrote (known desc.old) ≡ false }
-    requires kept { (known desc.old).retains ≡ true }
-    ensures same { IsSameCaller desc.old desc.new }
-    ensures commits { Commits (K.good stm.now.rule) stm.now.config (number desc.old) result (known desc.old) (known desc.new) }
-    ensures steps { AddsAtMost (5 + held_limit stm.now.config (known desc.old)) (known desc.old) (known desc.new) }
+/// Gives back the records of a promoted attempt that has nothing written, whose writes were all taken back before, as a
+/// rollback does: it raises the clock above the versions that they had, and gives each back one later than it was. BASE
+/// and DONE stay, since it makes no entry. No step where no record is held; else one, and one for each.
+fn give_above<K: MemRule>(seat: &mut Token<K>, local: &Local, stm: &Stm<K>, caller: usize)
+    requires seat { IsSeatOf stm.now caller seat.old }
+    requires caller { caller < stm.now.config.callers }
+    requires view { CanGiveAbove stm.now.config local.now (view_of seat.old) }
+    ensures same { IsSameSeat seat.old seat.new × (seat.new.me.0 ≡ record seat.old.me.0 { view = view_of seat.new }) }
+    ensures gives { GivesAbove (view_of seat.old) (view_of seat.new) }
+    ensures steps { TakesAtMost (1 + length local.now.locks.items) (view_of seat.old) (view_of seat.new) }
 {
-    let caller = desc.number;
-    let start = desc.local.start;
-    let alg = desc.local.algorithm;
-    let time = start + alg.entry_rise();
-    stm.direct_quit(&mut desc.seat, caller, alg, time);
-    give_direct(&mut desc.seat, &desc.local, stm, caller, time);
-    stm.store_base(&mut desc.seat, caller, time);
-    stm.store_done(&mut desc.seat, caller, time);
-    leave(&mut desc.seat, &mut desc.local, stm, caller);
-    Commit::ReadOnly { time: start }
+    if local.locks.count() == 0 {
+        return;
+    }
+    let least = newest(local) + 1;
+    direct_lift(stm, seat, caller, least);
+    for i in 0..local.locks.count() {
+        let (r, version) = local.locks.item(i);
+        direct_release_above(stm, seat, caller, r, version + 1);
+    }
 }
 
 /// Gives back the records of a promoted attempt, each with this time as its version. A step for each.

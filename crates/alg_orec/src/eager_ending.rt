@@ -74,7 +74,7 @@ fn restore_all<K: MemRule>(seat: &mut Token<K>, local: &Local, stm: &Stm<K>, cal
 }
 
 /// The newest version that a record had which the attempt holds; 0 where it holds none.
-fn newest(local: &Local) -> u64
+pub(crate) fn newest(local: &Local) -> u64
     ensures { IsNewest result local.now.locks.items }
 {
     let mut newest = 0;

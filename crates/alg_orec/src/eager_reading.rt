@@ -6,7 +6,7 @@ ghost use Rattle.rule_base.specs.declared.layout.At.TheVariants.{Heap};
 ghost use Rattle.stm_model.specs.Memories.{item_at};
 ghost use Rattle.stm_model.specs.declared.alg.Alg.TheVariants.{OrecEager};
 ghost use Rattle.stm_rule.specs.Callers.{IsOf, IsSameCaller};
-ghost use Rattle.tx_answers.specs.Known.{held_limit, IsRunning};
+ghost use Rattle.tx_answers.specs.Known.{IsRunning};
 ghost use Rattle.rule_base.specs.Encodings.{fenced};
 ghost use Rattle.stm_gate.specs.Knowing.{known, number};
 ghost use Rattle.alg_orec.specs.EagerReading.{IsNew, HasSample, IsLoaded, LoadsSampled, GoesOnReading, Samples, Confirms};
@@ -38,7 +38,7 @@ pub fn sample<K: MemRule>(desc: &mut Desc<K>, stm: &Stm<K>, a: usize) -> Result<
     requires spared { fenced (known desc.old).fence a ≡ false }
     ensures same { IsSameCaller desc.old desc.new }
     ensures samples { Samples (K.good stm.now.rule) stm.now.config (number desc.old) a result desc.old desc.new }
-    ensures steps { MatchResult result (λ _. AddsAtMost (2 + (known desc.old).reads_limit) (known desc.old) (known desc.new)) (λ _. AddsAtMost (5 + (known desc.old).reads_limit + (known desc.old).writes_limit + held_limit stm.now.config (known desc.old)) (known desc.old) (known desc.new)) }
+    ensures steps { MatchResult result (λ _. AddsAtMost (2 + (known desc.old).reads_limit) (known desc.old) (known desc.new)) (λ _. AddsAtMost (5 + (known desc.old).reads_limit + 2 * (known desc.old).writes_limit) (known desc.old) (known desc.new)) }
 {
     let caller = desc.number;
     let limit = desc.local.reads.len();
@@ -91,7 +91,7 @@ pub fn confirm<K: MemRule>(desc: &mut Desc<K>, stm: &Stm<K>, a: usize, word: u64
     requires spared { fenced (known desc.old).fence a ≡ false }
     ensures same { IsSameCaller desc.old desc.new }
     ensures confirms { Confirms (K.good stm.now.rule) stm.now.config (number desc.old) a word x result (known desc.old) (known desc.new) }
-    ensures steps { AddsAtMost (4 + (known desc.old).writes_limit + held_limit stm.now.config (known desc.old)) (known desc.old) (known desc.new) }
+    ensures steps { AddsAtMost (4 + 2 * (known desc.old).writes_limit) (known desc.old) (known desc.new) }
 {
     let caller = desc.number;
     let after = records::confirm(stm, &mut desc.seat, caller, a);

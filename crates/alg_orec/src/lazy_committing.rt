@@ -1,13 +1,10 @@
-//! The end of an attempt: its commit, and what cancels it.
+//! How an attempt of OrecLazy that wrote commits.
 ghost use Rattle.stm_rule.specs.Counting.{TakesAtMost};
-ghost use Rattle.tx_answers.specs.Counting.{AddsAtMost};
-ghost use Rattle.std.specs.Prelude.{◌≡◌, ℕ, ◌<◌, ◌≤◌, true, false, ◌+◌, ◌*◌, length};
-ghost use Rattle.stm_model.specs.declared.alg.Alg.TheVariants.{OrecLazy};
+ghost use Rattle.std.specs.Prelude.{◌≡◌, ℕ, ◌<◌, ◌≤◌, false, ◌+◌, ◌*◌, length};
 ghost use Rattle.stm_rule.specs.Attempts.{IsFenceOf, own_of, Stands, ended};
-ghost use Rattle.stm_rule.specs.Callers.{IsOf, IsSameCaller, IsSeatOf};
-ghost use Rattle.stm_gate.specs.Knowing.{known, number};
+ghost use Rattle.stm_rule.specs.Callers.{IsSeatOf};
 ghost use Rattle.stm_rule.specs.Kept.{IsSameSeat, view_of};
-ghost use Rattle.tx_answers.specs.Answers.{KeepsRule, Commits, Cancels};
+ghost use Rattle.tx_answers.specs.Answers.{KeepsRule, Commits};
 ghost use Rattle.tx_answers.specs.Known.{known_of};
 ghost use Rattle.alg_orec.specs.Committing.{CanCommit, Prepares, CanFinish};
 ghost use Rattle.alg_orec.specs.Ending.{GivesUp};
@@ -16,56 +13,13 @@ use crate::lazy_ending::roll_back;
 use crate::locking::{lock_all, release_all, write_back_all};
 use crate::validate::validate;
 use steps_orec::lazy;
-use stm_gate::direct::direct_commit;
 use stm_gate::leave::leave;
 use stm_model::config::CLOCK_LIMIT;
 use stm_model::rule::MemRule;
 use stm_model::stop::Cause;
-use stm_rule::desc::Desc;
 use stm_rule::local::Local;
 use stm_rule::stm::{Stm, Token};
-use tx_answers::answers::{Cancel, Commit};
-
-/// Commits the attempt: what it wrote becomes one entry of the history, unless another transaction came in between.
-/// Where it wrote nothing, one step, two where it holds the gate; else those of `commit_writes`.
-pub fn commit<K: MemRule>(desc: &mut Desc<K>, stm: &Stm<K>) -> Commit
-    requires stm { IsOf desc.old stm.now }
-    requires running { (known desc.old).running ≡ true }
-    requires algorithm { (known desc.old).alg ≡ OrecLazy }
-    requires keeps { KeepsRule (K.good stm.now.rule) stm.now.config (number desc.old) (known desc.old) }
-    ensures same { IsSameCaller desc.old desc.new }
-    ensures commits { Commits (K.good stm.now.rule) stm.now.config (number desc.old) result (known desc.old) (known desc.new) }
-    ensures steps { AddsAtMost (5 + (known desc.old).reads_limit + 4 * (known desc.old).writes_limit) (known desc.old) (known desc.new) }
-{
-    if desc.local.granted {
-        return direct_commit(desc, stm);
-    }
-    let caller = desc.number;
-    if !desc.local.wrote {
-        let time = desc.local.start;
-        leave(&mut desc.seat, &mut desc.local, stm, caller);
-        return Commit::ReadOnly { time };
-    }
-    commit_writes(&mut desc.seat, &mut desc.local, stm, caller)
-}
-
-/// Takes the attempt back, unless it is irrevocable. The steps of a rollback.
-pub fn cancel<K: MemRule>(desc: &mut Desc<K>, stm: &Stm<K>) -> Cancel
-    requires stm { IsOf desc.old stm.now }
-    requires running { (known desc.old).running ≡ true }
-    requires algorithm { (known desc.old).alg ≡ OrecLazy }
-    ensures same { IsSameCaller desc.old desc.new }
-    ensures cancels { Cancels (K.good stm.now.rule) stm.now.config (number desc.old) result (known desc.old) (known desc.new) }
-    ensures steps { AddsAtMost (2 + (known desc.old).writes_limit) (known desc.old) (known desc.new) }
-{
-    if desc.local.granted {
-        return Cancel::Irrevocable;
-    }
-    let caller = desc.number;
-    let time = desc.local.start;
-    roll_back(&mut desc.seat, &mut desc.local, stm, caller);
-    Cancel::Cancelled { time }
-}
+use tx_answers::answers::Commit;
 
 /// Commits what the attempt wrote, or goes on with a commit that answered Again. The steps of `prepare`, one for the
 /// entry, and one for each word and each record.

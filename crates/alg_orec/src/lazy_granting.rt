@@ -4,7 +4,6 @@ ghost use Rattle.stm_model.specs.declared.alg.Alg.TheVariants.{OrecLazy};
 ghost use Rattle.stm_rule.specs.Callers.{IsOf, IsSameCaller, IsSeatOf};
 ghost use Rattle.stm_rule.specs.Kept.{IsSameSeat, view_of};
 ghost use Rattle.stm_rule.specs.Counting.{TakesAtMost};
-ghost use Rattle.tx_answers.specs.Answers.{Irrevs};
 ghost use Rattle.tx_answers.specs.Counting.{AddsAtMost};
 ghost use Rattle.tx_answers.specs.Known.{IsRunning, is_irrevocable};
 ghost use Rattle.stm_gate.specs.Knowing.{known, number};
@@ -13,35 +12,14 @@ ghost use Rattle.alg_orec.specs.Granting.{CanStoreAll, StoresAll};
 
 use crate::granting::grant_reads;
 use crate::lazy_ending::roll_back;
-use stm_gate::promote::{Promotion, promote};
 use stm_model::rule::MemRule;
 use stm_rule::desc::Desc;
 use stm_rule::local::Local;
 use stm_rule::stm::{Stm, Token};
 use tx_answers::answers::Irrev;
 
-/// Makes the attempt irrevocable, where it is alone and all that it read is valid at the clock: what it wrote is stored
-/// then. The steps of a promotion, those of a validation and one more, and one for each word.
-pub fn become_irrevocable<K: MemRule>(desc: &mut Desc<K>, stm: &Stm<K>) -> Irrev
-    requires stm { IsOf desc.old stm.now }
-    requires running { IsRunning (known desc.old) }
-    requires algorithm { (known desc.old).alg ≡ OrecLazy }
-    ensures same { IsSameCaller desc.old desc.new }
-    ensures irrevs { Irrevs (K.good stm.now.rule) stm.now.config (number desc.old) result (known desc.old) (known desc.new) }
-    ensures steps { AddsAtMost (6 + stm.now.config.callers + (known desc.old).reads_limit + (known desc.old).writes_limit) (known desc.old) (known desc.new) }
-{
-    if desc.local.granted {
-        return Irrev::Granted;
-    }
-    match promote(desc, stm) {
-        Promotion::Alone => grant(desc, stm),
-        Promotion::Busy { caller, status } => Irrev::Busy { caller, status },
-        Promotion::Taken { gate } => Irrev::Taken { gate },
-    }
-}
-
 /// Validates for an attempt that is alone, and stores what it wrote.
-fn grant<K: MemRule>(desc: &mut Desc<K>, stm: &Stm<K>) -> Irrev
+pub(crate) fn grant<K: MemRule>(desc: &mut Desc<K>, stm: &Stm<K>) -> Irrev
     requires stm { IsOf desc.old stm.now }
     requires running { IsRunning (known desc.old) }
     requires algorithm { (known desc.old).alg ≡ OrecLazy }

@@ -1,69 +1,135 @@
 //! OrecEager: versioned ownership records as under OrecLazy, but a write takes its record at once and stores in place,
 //! with what was there before in an undo log, as in the write-through of Felber, Fetzer and Riegel ("Dynamic Performance
 //! Tuning of Word-Based Software Transactional Memory", 2008).
-ghost use Rattle.stm_rule.specs.Counting.{TakesAtMost};
+//!
+//! Invariant (`IsEager`): what was written lies in place, under records that the attempt holds and that were no newer than
+//! its start when it took them. The undo log has the memory's value of each word that it stored, also of those that were
+//! rolled back to a mark since; it holds no more records than that log has items. The rest is as under OrecLazy.
 ghost use Rattle.tx_answers.specs.Counting.{AddsAtMost};
-ghost use Rattle.std.specs.Prelude.{◌≡◌, ℕ, ◌<◌, None, Some, IsSome, true, false, ◌+◌, ◌*◌};
+ghost use Rattle.std.specs.Prelude.{◌≡◌, ℕ, ◌<◌, None, true, false, ◌+◌, ◌*◌};
 ghost use Rattle.stm_model.specs.Memories.{item_at};
-ghost use Rattle.stm_model.specs.declared.alg.Alg.TheVariants.{OrecEager};
-ghost use Rattle.stm_rule.specs.Callers.{IsOf, IsSameCaller, IsSeatOf};
-ghost use Rattle.stm_rule.specs.Kept.{IsSameSeat, view_of};
+ghost use Rattle.stm_rule.specs.Callers.{IsOf, IsSameCaller};
 ghost use Rattle.tx_answers.specs.Answers.{HasRead, HasWritten};
-ghost use Rattle.tx_answers.specs.Known.{held_limit, IsRunning};
+ghost use Rattle.tx_answers.specs.Known.{IsRunning};
 ghost use Rattle.rule_base.specs.Encodings.{fenced};
+ghost use Rattle.rule_base.specs.History.{member};
 ghost use Rattle.stm_gate.specs.Knowing.{known, number};
-ghost use Rattle.stm_gate.specs.Starts.{CanBegin, Starts};
 ghost use Rattle.alg_orec.specs.EagerReading.{IsNew, HoldsRecord};
 
-pub use crate::eager_committing::{cancel, commit};
+use crate::eager_committing::{commit_direct, commit_placed};
 use crate::eager_ending::take_back;
-pub use crate::eager_granting::become_irrevocable;
+use crate::eager_granting::grant;
+use crate::eager_nesting::roll_in_place;
 use crate::eager_reading::{confirm, load, sample};
 use crate::eager_taking::{store_first, take_record};
+use alg_calls::algorithm::Algorithm;
 use steps_orec::eager::{own_load, place};
 use steps_orec::reading;
 use stm_gate::direct::{direct_load, direct_store};
+use stm_gate::leave::leave;
+use stm_gate::promote::{Promotion, promote};
+use stm_model::alg::Alg;
 use stm_model::rule::MemRule;
 use stm_rule::desc::Desc;
 use stm_rule::stm::{Stm, Token};
-use tx_answers::answers::{Begin, Read, Write};
+use tx_answers::answers::{Begin, Cancel, Commit, Irrev, Read, Roll, Write};
 
-/// Loads the clock as the start, which it answers. One step.
-pub fn begin<K: MemRule>(seat: &mut Token<K>, stm: &Stm<K>, caller: usize) -> Result<u64, Begin>
-    requires seat { IsSeatOf stm.now caller seat.old }
-    requires caller { caller < stm.now.config.callers }
-    requires view { CanBegin OrecEager (view_of seat.old) }
-    ensures same { IsSameSeat seat.old seat.new × (seat.new.me.0 ≡ record seat.old.me.0 { view = view_of seat.new }) }
-    ensures begins { Starts (K.good stm.now.rule) stm.now.config caller OrecEager result (view_of seat.old) (view_of seat.new) }
-    ensures steps { TakesAtMost 1 (view_of seat.old) (view_of seat.new) }
-{
-    Ok(reading::begin(stm, seat, caller))
-}
+/// OrecEager.
+pub struct OrecEager;
 
-/// Answers what it wrote or has read at the word, with no step; else loads it: one step where the attempt holds the
-/// record, else three, and those of a validation where the record is newer than the start; then those of a rollback
-/// where that ends the attempt.
-#[inline(always)]
-pub fn read<K: MemRule>(desc: &mut Desc<K>, stm: &Stm<K>, a: usize) -> Read
-    requires stm { IsOf desc.old stm.now }
-    requires running { IsRunning (known desc.old) }
-    requires algorithm { (known desc.old).alg ≡ OrecEager }
-    requires inside { a < stm.now.config.words }
-    requires spared { fenced (known desc.old).fence a ≡ false }
-    ensures same { IsSameCaller desc.old desc.new }
-    ensures read { HasRead (K.good stm.now.rule) stm.now.config (number desc.old) a result (known desc.old) (known desc.new) }
-    ensures steps { AddsAtMost (7 + (known desc.old).reads_limit + (known desc.old).writes_limit + held_limit stm.now.config (known desc.old)) (known desc.old) (known desc.new) }
-{
-    if desc.local.granted {
-        return direct_load(desc, stm, a);
+impl Algorithm for OrecEager {
+    ghost use Rattle.stm_model.specs.declared.alg.Alg.TheVariants.{OrecEager};
+
+    ghost alg = { OrecEager };
+
+    /// Loads the clock as the start, which it answers. One step.
+    fn begin<K: MemRule>(seat: &mut Token<K>, stm: &Stm<K>, caller: usize) -> Result<u64, Begin> {
+        Ok(reading::begin(stm, seat, caller))
     }
-    if let Some(x) = desc.local.writes.find(a) {
-        return Read::Value(x);
+
+    /// Answers what it wrote or has read at the word, with no step; else loads it: one step where the attempt holds the
+    /// record, else three, and those of a validation where the record is newer than the start; then those of a rollback
+    /// where that ends the attempt.
+    #[inline(always)]
+    fn read<K: MemRule>(desc: &mut Desc<K>, stm: &Stm<K>, a: usize) -> Read {
+        if desc.local.granted {
+            return direct_load(desc, stm, a);
+        }
+        if let Some(x) = desc.local.writes.find(a) {
+            return Read::Value(x);
+        }
+        if let Some(x) = desc.local.reads.find(a) {
+            return Read::Value(x);
+        }
+        first_read(desc, stm, a)
     }
-    if let Some(x) = desc.local.reads.find(a) {
-        return Read::Value(x);
+
+    /// Stores the word in place, under its record, which the attempt takes first where it doesn't hold it: one step
+    /// where it wrote there before, else two, three more to take the record, and those of a validation where that is
+    /// newer than the start; then those of a rollback where that ends the attempt.
+    #[inline(always)]
+    fn write<K: MemRule>(desc: &mut Desc<K>, stm: &Stm<K>, a: usize, x: u64) -> Write {
+        if desc.local.granted {
+            return direct_store(desc, stm, a, x);
+        }
+        if desc.local.writes.find(a).is_some() {
+            return write_again(desc, stm, a, x);
+        }
+        first_write(desc, stm, a, x)
     }
-    first_read(desc, stm, a)
+
+    /// Commits the attempt: what it wrote becomes one entry of the history, unless another transaction came in between.
+    /// Where it wrote nothing, one step, two where it holds the gate, and those of a rollback where it was rolled back;
+    /// else those of `commit_placed`, or of `commit_direct`.
+    fn commit<K: MemRule>(desc: &mut Desc<K>, stm: &Stm<K>) -> Commit {
+        if desc.local.granted {
+            return commit_direct(desc, stm);
+        }
+        let caller = desc.number;
+        if !desc.local.wrote {
+            let time = desc.local.start;
+            if desc.local.locks.count() == 0 {
+                leave(&mut desc.seat, &mut desc.local, stm, caller);
+            } else {
+                take_back(&mut desc.seat, &mut desc.local, stm, caller);
+            }
+            return Commit::ReadOnly { time };
+        }
+        commit_placed(&mut desc.seat, &mut desc.local, stm, caller)
+    }
+
+    /// Takes the attempt back, unless it is irrevocable. The steps of a rollback.
+    fn cancel<K: MemRule>(desc: &mut Desc<K>, stm: &Stm<K>) -> Cancel {
+        if desc.local.granted {
+            return Cancel::Irrevocable;
+        }
+        let caller = desc.number;
+        let time = desc.local.start;
+        take_back(&mut desc.seat, &mut desc.local, stm, caller);
+        Cancel::Cancelled { time }
+    }
+
+    /// Makes the attempt irrevocable, where it is alone and all that it read is valid at the clock: what it wrote stays
+    /// in place. The steps of a promotion, and those of a validation and one more.
+    fn become_irrevocable<K: MemRule>(desc: &mut Desc<K>, stm: &Stm<K>) -> Irrev {
+        if desc.local.granted {
+            return Irrev::Granted;
+        }
+        match promote(desc, stm) {
+            Promotion::Alone => grant(desc, stm),
+            Promotion::Busy { caller, status } => Irrev::Busy { caller, status },
+            Promotion::Taken { gate } => Irrev::Taken { gate },
+        }
+    }
+
+    /// Rolls the attempt back to mark `depth`: its writes since are as if they had not been made, its reads are read.
+    /// The marks above that one are gone. One step for each word that it had stored.
+    fn roll_to<K: MemRule>(desc: &mut Desc<K>, stm: &Stm<K>, depth: usize) -> Roll {
+        if desc.local.granted {
+            return Roll::Irrevocable;
+        }
+        roll_in_place(desc, stm, depth)
+    }
 }
 
 /// Loads the word, which was neither written nor read before, and logs it.
@@ -71,7 +137,7 @@ pub fn read<K: MemRule>(desc: &mut Desc<K>, stm: &Stm<K>, a: usize) -> Read
 fn first_read<K: MemRule>(desc: &mut Desc<K>, stm: &Stm<K>, a: usize) -> Read
     requires stm { IsOf desc.old stm.now }
     requires running { IsRunning (known desc.old) }
-    requires algorithm { (known desc.old).alg ≡ OrecEager }
+    requires algorithm { (known desc.old).alg ≡ Alg.OrecEager }
     requires revocable { (known desc.old).granted ≡ false }
     requires unwritten { item_at a (known desc.old).log.writes ≡ None }
     requires unread { item_at a (known desc.old).log.reads ≡ None }
@@ -79,7 +145,7 @@ fn first_read<K: MemRule>(desc: &mut Desc<K>, stm: &Stm<K>, a: usize) -> Read
     requires spared { fenced (known desc.old).fence a ≡ false }
     ensures same { IsSameCaller desc.old desc.new }
     ensures read { HasRead (K.good stm.now.rule) stm.now.config (number desc.old) a result (known desc.old) (known desc.new) }
-    ensures steps { AddsAtMost (7 + (known desc.old).reads_limit + (known desc.old).writes_limit + held_limit stm.now.config (known desc.old)) (known desc.old) (known desc.new) }
+    ensures steps { AddsAtMost (7 + (known desc.old).reads_limit + 2 * (known desc.old).writes_limit) (known desc.old) (known desc.new) }
 {
     match sample(desc, stm, a) {
         Ok(Some(word)) => {
@@ -96,7 +162,7 @@ fn first_read<K: MemRule>(desc: &mut Desc<K>, stm: &Stm<K>, a: usize) -> Read
 fn read_held<K: MemRule>(desc: &mut Desc<K>, stm: &Stm<K>, a: usize) -> Read
     requires stm { IsOf desc.old stm.now }
     requires running { IsRunning (known desc.old) }
-    requires algorithm { (known desc.old).alg ≡ OrecEager }
+    requires algorithm { (known desc.old).alg ≡ Alg.OrecEager }
     requires revocable { (known desc.old).granted ≡ false }
     requires fresh { IsNew a (known desc.old) }
     requires held { HoldsRecord stm.now.config a desc.old.view }
@@ -111,37 +177,14 @@ fn read_held<K: MemRule>(desc: &mut Desc<K>, stm: &Stm<K>, a: usize) -> Read
     Read::Value(x)
 }
 
-/// Stores the word in place, under its record, which the attempt takes first where it doesn't hold it: one step where it
-/// wrote there before, else two, three more to take the record, and those of a validation where that is newer than the
-/// start; then those of a rollback where that ends the attempt.
-#[inline(always)]
-pub fn write<K: MemRule>(desc: &mut Desc<K>, stm: &Stm<K>, a: usize, x: u64) -> Write
-    requires stm { IsOf desc.old stm.now }
-    requires running { IsRunning (known desc.old) }
-    requires algorithm { (known desc.old).alg ≡ OrecEager }
-    requires inside { a < stm.now.config.words }
-    requires spared { fenced (known desc.old).fence a ≡ false }
-    ensures same { IsSameCaller desc.old desc.new }
-    ensures write { HasWritten (K.good stm.now.rule) stm.now.config (number desc.old) a x result (known desc.old) (known desc.new) }
-    ensures steps { AddsAtMost (7 + (known desc.old).reads_limit + (known desc.old).writes_limit + held_limit stm.now.config (known desc.old)) (known desc.old) (known desc.new) }
-{
-    if desc.local.granted {
-        return direct_store(desc, stm, a, x);
-    }
-    if desc.local.writes.find(a).is_some() {
-        return write_again(desc, stm, a, x);
-    }
-    first_write(desc, stm, a, x)
-}
-
-/// Stores the word where the attempt wrote before. One step.
+/// Stores the word where the attempt wrote before, though the write may have been taken back. One step.
 #[inline(never)]
 fn write_again<K: MemRule>(desc: &mut Desc<K>, stm: &Stm<K>, a: usize, x: u64) -> Write
     requires stm { IsOf desc.old stm.now }
     requires running { IsRunning (known desc.old) }
-    requires algorithm { (known desc.old).alg ≡ OrecEager }
+    requires algorithm { (known desc.old).alg ≡ Alg.OrecEager }
     requires revocable { (known desc.old).granted ≡ false }
-    requires written { IsSome (item_at a (known desc.old).log.writes) }
+    requires saved { member (known desc.old).kept a ≡ true }
     requires inside { a < stm.now.config.words }
     requires spared { fenced (known desc.old).fence a ≡ false }
     ensures same { IsSameCaller desc.old desc.new }
@@ -150,23 +193,28 @@ fn write_again<K: MemRule>(desc: &mut Desc<K>, stm: &Stm<K>, a: usize, x: u64) -
 {
     place(stm, &mut desc.seat, desc.number, a, x);
     desc.local.writes.push(a, x);
+    desc.local.wrote = true;
     Write::Done
 }
 
-/// Takes the record where the attempt doesn't hold it, keeps what the word was, and stores it.
+/// Takes the record where the attempt doesn't hold it, keeps what the word was unless that is kept already, and stores it.
 #[inline(never)]
 fn first_write<K: MemRule>(desc: &mut Desc<K>, stm: &Stm<K>, a: usize, x: u64) -> Write
     requires stm { IsOf desc.old stm.now }
     requires running { IsRunning (known desc.old) }
-    requires algorithm { (known desc.old).alg ≡ OrecEager }
+    requires algorithm { (known desc.old).alg ≡ Alg.OrecEager }
     requires revocable { (known desc.old).granted ≡ false }
     requires unwritten { item_at a (known desc.old).log.writes ≡ None }
     requires inside { a < stm.now.config.words }
     requires spared { fenced (known desc.old).fence a ≡ false }
     ensures same { IsSameCaller desc.old desc.new }
     ensures write { HasWritten (K.good stm.now.rule) stm.now.config (number desc.old) a x result (known desc.old) (known desc.new) }
-    ensures steps { AddsAtMost (7 + (known desc.old).reads_limit + (known desc.old).writes_limit + held_limit stm.now.config (known desc.old)) (known desc.old) (known desc.new) }
+    ensures steps { AddsAtMost (7 + (known desc.old).reads_limit + 2 * (known desc.old).writes_limit) (known desc.old) (known desc.new) }
 {
+    // An address whose write was taken back has its item still, and its record.
+    if desc.local.undo.find(a).is_some() {
+        return write_again(desc, stm, a, x);
+    }
     let caller = desc.number;
     let limit = desc.local.undo.len();
     if desc.local.undo.count() == limit {

@@ -1,71 +1,139 @@
 //! OrecLazy, after the versioned locks of Dice, Shalev and Shavit ("Transactional Locking II", 2006): each word belongs
-//! to a record with the time of its last write. A read loads the record before and behind the word; what is written
-//! stays with the descriptor until the commit, which takes the records.
-ghost use Rattle.std.specs.Prelude.{◌≡◌, ℕ, ◌<◌, ◌+◌, length, None, false, ◌*◌};
+//! to a record with the time of its last write. A read loads the record before and after the word; what is written stays
+//! with the descriptor until the commit, which takes the records. A start is extended as in Riegel, Felber and Fetzer ("A
+//! Lazy Snapshot Algorithm with Eager Validation", 2006).
+//!
+//! Invariant (`IsLazy`; `OrecRule` of rule_orec): a free record's version is no older than the last entry that wrote one of
+//! its words, as far as entries are later than BASE, and those words are the memory's. What the attempt read is the memory
+//! at its start. It holds records in the middle of its commit alone, and then those of all words that it wrote.
+ghost use Rattle.std.specs.Prelude.{◌≡◌, ℕ, ◌<◌, ◌+◌, None, false};
 ghost use Rattle.stm_rule.specs.Counting.{TakesAtMost};
 ghost use Rattle.tx_answers.specs.Counting.{AddsAtMost};
 ghost use Rattle.stm_model.specs.Memories.{item_at};
-ghost use Rattle.stm_model.specs.declared.alg.Alg.TheVariants.{OrecLazy};
 ghost use Rattle.stm_rule.specs.Callers.{IsOf, IsSameCaller, IsSeatOf};
 ghost use Rattle.stm_rule.specs.Kept.{IsSameSeat, good_of, view_of};
-ghost use Rattle.tx_answers.specs.Answers.{HasRead, HasWritten};
+ghost use Rattle.tx_answers.specs.Answers.{HasRead};
 ghost use Rattle.tx_answers.specs.Known.{IsRunning};
 ghost use Rattle.rule_base.specs.Encodings.{fenced};
 ghost use Rattle.stm_gate.specs.Knowing.{known, number};
-ghost use Rattle.stm_gate.specs.Starts.{CanBegin, Starts};
 ghost use Rattle.alg_orec.specs.Loading.{CanLoadValid, LoadsValid};
 
-pub use crate::lazy_committing::{cancel, commit};
+use crate::lazy_committing::commit_writes;
 use crate::lazy_ending::roll_back;
-pub use crate::lazy_granting::become_irrevocable;
+use crate::lazy_granting::grant;
 use crate::records::record_of;
 use crate::sampling::sample_valid;
+use alg_calls::algorithm::Algorithm;
 use steps_orec::reading;
 use steps_orec::reading::load;
-use stm_gate::direct::{direct_load, direct_store};
+use stm_gate::direct::{direct_commit, direct_load, direct_store};
+use stm_gate::leave::leave;
+use stm_gate::promote::{Promotion, promote};
+use stm_model::alg::Alg;
 use stm_model::rule::MemRule;
 use stm_model::stop::Cause;
 use stm_rule::desc::Desc;
 use stm_rule::local::Local;
 use stm_rule::stm::{Stm, Token};
-use tx_answers::answers::{Begin, Read, Write};
+use tx_answers::answers::{Begin, Cancel, Commit, Irrev, Read, Roll, Write};
 use tx_logs::push::Push;
 
-/// Loads the clock as the start, which it answers. One step.
-pub fn begin<K: MemRule>(seat: &mut Token<K>, stm: &Stm<K>, caller: usize) -> Result<u64, Begin>
-    requires seat { IsSeatOf stm.now caller seat.old }
-    requires caller { caller < stm.now.config.callers }
-    requires view { CanBegin OrecLazy (view_of seat.old) }
-    ensures same { IsSameSeat seat.old seat.new × (seat.new.me.0 ≡ record seat.old.me.0 { view = view_of seat.new }) }
-    ensures begins { Starts (K.good stm.now.rule) stm.now.config caller OrecLazy result (view_of seat.old) (view_of seat.new) }
-    ensures steps { TakesAtMost 1 (view_of seat.old) (view_of seat.new) }
-{
-    Ok(reading::begin(stm, seat, caller))
-}
+/// OrecLazy.
+pub struct OrecLazy;
 
-/// Answers what it wrote or has read at the word, with no step; else loads it. Three steps, and those of a validation
-/// where its record is newer than the start; then those of a rollback where that ends the attempt.
-#[inline(always)]
-pub fn read<K: MemRule>(desc: &mut Desc<K>, stm: &Stm<K>, a: usize) -> Read
-    requires stm { IsOf desc.old stm.now }
-    requires running { IsRunning (known desc.old) }
-    requires algorithm { (known desc.old).alg ≡ OrecLazy }
-    requires inside { a < stm.now.config.words }
-    requires spared { fenced (known desc.old).fence a ≡ false }
-    ensures same { IsSameCaller desc.old desc.new }
-    ensures read { HasRead (K.good stm.now.rule) stm.now.config (number desc.old) a result (known desc.old) (known desc.new) }
-    ensures steps { AddsAtMost (6 + (known desc.old).reads_limit) (known desc.old) (known desc.new) }
-{
-    if desc.local.granted {
-        return direct_load(desc, stm, a);
+impl Algorithm for OrecLazy {
+    ghost use Rattle.stm_model.specs.declared.alg.Alg.TheVariants.{OrecLazy};
+
+    ghost alg = { OrecLazy };
+
+    /// Loads the clock as the start, which it answers. One step.
+    fn begin<K: MemRule>(seat: &mut Token<K>, stm: &Stm<K>, caller: usize) -> Result<u64, Begin> {
+        Ok(reading::begin(stm, seat, caller))
     }
-    if let Some(x) = desc.local.writes.find(a) {
-        return Read::Value(x);
+
+    /// Answers what it wrote or has read at the word, with no step; else loads it. Three steps, and those of a
+    /// validation where its record is newer than the start; then those of a rollback where that ends the attempt.
+    #[inline(always)]
+    fn read<K: MemRule>(desc: &mut Desc<K>, stm: &Stm<K>, a: usize) -> Read {
+        if desc.local.granted {
+            return direct_load(desc, stm, a);
+        }
+        if let Some(x) = desc.local.writes.find(a) {
+            return Read::Value(x);
+        }
+        if let Some(x) = desc.local.reads.find(a) {
+            return Read::Value(x);
+        }
+        first_read(desc, stm, a)
     }
-    if let Some(x) = desc.local.reads.find(a) {
-        return Read::Value(x);
+
+    /// Logs what is to be written: it lies with the descriptor until the commit. No step, but for those of a rollback
+    /// where the log is full.
+    #[inline(always)]
+    fn write<K: MemRule>(desc: &mut Desc<K>, stm: &Stm<K>, a: usize, x: u64) -> Write {
+        if desc.local.granted {
+            return direct_store(desc, stm, a, x);
+        }
+        if let Push::Full { limit } = desc.local.writes.push(a, x) {
+            let caller = desc.number;
+            roll_back(&mut desc.seat, &mut desc.local, stm, caller);
+            return Write::Full { limit };
+        }
+        desc.local.wrote = true;
+        Write::Done
     }
-    first_read(desc, stm, a)
+
+    /// Commits the attempt: what it wrote becomes one entry of the history, unless another transaction came in between.
+    /// Where it wrote nothing, one step, two where it holds the gate; else those of `commit_writes`.
+    fn commit<K: MemRule>(desc: &mut Desc<K>, stm: &Stm<K>) -> Commit {
+        if desc.local.granted {
+            return direct_commit(desc, stm);
+        }
+        let caller = desc.number;
+        if !desc.local.wrote {
+            let time = desc.local.start;
+            leave(&mut desc.seat, &mut desc.local, stm, caller);
+            return Commit::ReadOnly { time };
+        }
+        commit_writes(&mut desc.seat, &mut desc.local, stm, caller)
+    }
+
+    /// Takes the attempt back, unless it is irrevocable. The steps of a rollback.
+    fn cancel<K: MemRule>(desc: &mut Desc<K>, stm: &Stm<K>) -> Cancel {
+        if desc.local.granted {
+            return Cancel::Irrevocable;
+        }
+        let caller = desc.number;
+        let time = desc.local.start;
+        roll_back(&mut desc.seat, &mut desc.local, stm, caller);
+        Cancel::Cancelled { time }
+    }
+
+    /// Makes the attempt irrevocable, where it is alone and all that it read is valid at the clock: what it wrote is
+    /// stored then. The steps of a promotion, those of a validation and one more, and one for each word.
+    fn become_irrevocable<K: MemRule>(desc: &mut Desc<K>, stm: &Stm<K>) -> Irrev {
+        if desc.local.granted {
+            return Irrev::Granted;
+        }
+        match promote(desc, stm) {
+            Promotion::Alone => grant(desc, stm),
+            Promotion::Busy { caller, status } => Irrev::Busy { caller, status },
+            Promotion::Taken { gate } => Irrev::Taken { gate },
+        }
+    }
+
+    /// Rolls the attempt back to mark `depth`: its writes since are as if they had not been made, its reads are read.
+    /// The marks above that one are gone.
+    fn roll_to<K: MemRule>(desc: &mut Desc<K>, stm: &Stm<K>, depth: usize) -> Roll {
+        let _ = stm;
+        if desc.local.granted {
+            return Roll::Irrevocable;
+        }
+        desc.local.writes.roll_to(depth);
+        desc.local.wrote = desc.local.writes.count() > 0;
+        desc.local.depth = depth;
+        Roll::Rolled
+    }
 }
 
 /// Loads the word, which was neither written nor read before, and logs it.
@@ -73,7 +141,7 @@ pub fn read<K: MemRule>(desc: &mut Desc<K>, stm: &Stm<K>, a: usize) -> Read
 fn first_read<K: MemRule>(desc: &mut Desc<K>, stm: &Stm<K>, a: usize) -> Read
     requires stm { IsOf desc.old stm.now }
     requires running { IsRunning (known desc.old) }
-    requires algorithm { (known desc.old).alg ≡ OrecLazy }
+    requires algorithm { (known desc.old).alg ≡ Alg.OrecLazy }
     requires revocable { (known desc.old).granted ≡ false }
     requires unwritten { item_at a (known desc.old).log.writes ≡ None }
     requires unread { item_at a (known desc.old).log.reads ≡ None }
@@ -131,29 +199,4 @@ fn load_valid<K: MemRule>(
         });
     }
     Ok(x)
-}
-
-/// Logs what is to be written: it lies with the descriptor until the commit. No step, but for those of a rollback where
-/// the log is full.
-#[inline(always)]
-pub fn write<K: MemRule>(desc: &mut Desc<K>, stm: &Stm<K>, a: usize, x: u64) -> Write
-    requires stm { IsOf desc.old stm.now }
-    requires running { IsRunning (known desc.old) }
-    requires algorithm { (known desc.old).alg ≡ OrecLazy }
-    requires inside { a < stm.now.config.words }
-    requires spared { fenced (known desc.old).fence a ≡ false }
-    ensures same { IsSameCaller desc.old desc.new }
-    ensures write { HasWritten (K.good stm.now.rule) stm.now.config (number desc.old) a x result (known desc.old) (known desc.new) }
-    ensures steps { AddsAtMost 2 (known desc.old) (known desc.new) }
-{
-    if desc.local.granted {
-        return direct_store(desc, stm, a, x);
-    }
-    if let Push::Full { limit } = desc.local.writes.push(a, x) {
-        let caller = desc.number;
-        roll_back(&mut desc.seat, &mut desc.local, stm, caller);
-        return Write::Full { limit };
-    }
-    desc.local.wrote = true;
-    Write::Done
 }

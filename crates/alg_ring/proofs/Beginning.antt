@@ -10,14 +10,15 @@ use Rattle.rule_base.specs.declared.layout.At.TheVariants.{Done}
 use Rattle.rule_base.specs.declared.layout.TheConstants.{SLOT_WORDS}
 use Rattle.rule_base.specs.declared.views.Act.TheVariants.{Load}
 use Rattle.rule_base.specs.declared.views.View.{View}
-use Rattle.rule_base.specs.Bridge.{items, of_words, public_history}
+use Rattle.rule_base.specs.Bridge.{items, of_words, public_history, addresses}
 use Rattle.rule_base.specs.History.{upto}
 use Rattle.rule_base.specs.StepKinds.{Tells, view_after}
 use Rattle.rule_ring.specs.RingSteps.{ring_begin, CanRingBegin, RingBegins}
 use Rattle.rule_ring.specs.SlotFilter.{slot_filter}
 use Rattle.stm_rule.specs.Attempts.{no_filter}
 use Rattle.steps_ring.specs.RingFindings.{FindsStart}
-use Rattle.tx_answers.specs.Known.{granted_under, written_under}
+use Rattle.tx_answers.specs.Known.{granted_under, written_under, kept_under}
+use Rattle.rule_base.specs.declared.entries.Cell.{Cell}
 use Rattle.stm_gate.specs.Opacity.{opaque-at, later-seen}
 use Rattle.stm_gate.specs.Starts.{CanBegin, StartsAt}
 use Rattle.alg_ring.proofs.Seen.{upto-upto}
@@ -91,6 +92,7 @@ module _ (good : List ℕ → Type 0) (c : Config) (n : ℕ) (v : View) (can : C
       is = refl;
       fresh = b.front;
       log = λ j. record { reads = []; writes = ((λ i. written_under (can.named i) (can.ungranted i) y o) ∙ ap items fresh.1) j };
+      bare = ap (λ (a : Alg). kept_under a y o) can.named ∙ ap (λ (cs : List Cell). addresses (items cs)) fresh.1;
       granted = ap (λ (a : Alg). granted_under a v.gate v.lock) can.named ∙ can.ungranted;
       opaque = opaque-at good c n y o done refl refl b.legal b.below (λ a. refl) (λ a e. absurd cc);
     };

@@ -24,6 +24,7 @@ use Rattle.tx_answers.specs.declared.answers.Commit.TheVariants as commits
 use Rattle.tx_answers.specs.Answers.{Commits, StartMoves}
 use Rattle.tx_answers.specs.Known.{known_of, written_under, is_in, is_closing, wrote}
 use Rattle.tx_answers.specs.KnownLaws.{grows-same}
+use Rattle.stm_gate.specs.KeptLaws.{kept-same}
 use Rattle.stm_gate.specs.Leaving.{left}
 use Rattle.stm_gate.specs.LeavingLaws.{unmade-refl, ended-left}
 use Rattle.stm_gate.specs.Opacity.{opaque-inside}
@@ -133,7 +134,6 @@ module _ (good : List ℕ → Type 0) (c : Config) (n : ℕ) (l : Local) (v : Vi
             later = omega arith;
             installs = refl;
             depth = refl;
-            retains = refl;
           };
           start = subst (λ (b : Alg). StartMoves b (known_of v (own_of l)) (known_of again_at (own_of in_commit))) (sym a.named) (inl refl);
           granted = refl;
@@ -143,6 +143,7 @@ module _ (good : List ℕ → Type 0) (c : Config) (n : ℕ) (l : Local) (v : Vi
         },
         refl,
         (λ j. record { reads = items v.attempt.reads; writes = ((λ h. written_under (a.named h) (k.optimistic.ungranted h) again_at (own_of in_commit)) ∙ sym (attempt.written-is good c n l v a plain)) j }),
+        kept-same v.gate.algorithm v again_at (own_of l) (own_of in_commit) refl refl refl,
         opaque-inside good c n in_commit again_at (own_of in_commit) stays-again,
         inr (refl, a.named, refl, ((λ s. some (sym s)), tried n found ∷ [], refl, taken_lock n, (0, omega arith, refl)), t.1 some),
         (let q = t.1 some in let e = q.1 in let d = q.2 in omega arith),

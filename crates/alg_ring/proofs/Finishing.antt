@@ -59,7 +59,7 @@ pub freed-is : {K : Type 0} (s t : SeatView K) → SeatTells ring_free Nothing s
 freed-is {K} s t h = ap (λ (y : SeatView K). y.view) h.3
 
 -- the lock is free and the attempt has left: what was decided is told
-pub finishes : (good : List ℕ → Type 0) (c : Config) (n : ℕ) (answer : Commit) (l m : Local) (v u w : View) → IsDecided good c n answer v l u → HasRoom c l → w ≡ left n (freed u) → m ≡ ended l → IsOutside w → StandsTold good c n (Commits good c n answer) l v m w
+pub finishes : (good : List ℕ → Type 0) (c : Config) (n : ℕ) (answer : Commit) (l m : Local) (v u w : View) → IsDecided good c n answer v l u → HasRoom l → w ≡ left n (freed u) → m ≡ ended l → IsOutside w → StandsTold good c n (Commits good c n answer) l v m w
 finishes good c n answer l m v u w d lengths end idle out = subst (λ (k : Local). StandsTold good c n (Commits good c n answer) l v k w) (sym idle) (record {
   stands = record { holds = sym out.reopened; lengths = lengths; by = out };
   told = subst (λ (y : View). Commits good c n answer (known_of v (own_of l)) (known_of y (own_of l))) (sym end) d.commits;

@@ -36,6 +36,7 @@ use Rattle.tx_answers.specs.Answers.{Quits, IsOpaque}
 use Rattle.tx_answers.specs.Evidence.{Found}
 use Rattle.tx_answers.specs.Known.{Known, Grows, IsRunning, known_of, fenced_of, granted_under, written_under, is_irrevocable, is_in, is_closing, wrote}
 use Rattle.tx_answers.specs.KnownLaws.{grows-same, grows-trans}
+use Rattle.stm_gate.specs.KeptLaws.{kept-same}
 use Rattle.stm_gate.specs.Granting.{IsAlone, Grants}
 use Rattle.stm_gate.specs.Knowing.{known, number}
 use Rattle.stm_gate.specs.Leaving.{CanLeave, left, last_steps}
@@ -287,11 +288,11 @@ module _ (good : List ℕ → Type 0) (c : Config) (n : ℕ) (l : Local) (v : Vi
             later = (let a : x.attempt.start ≡ start = ap (λ (y : View). y.attempt.start) stored-path in let b : w.attempt.start ≡ v.attempt.start = ap (λ (y : View). y.attempt.start) settled-path in let d = p.0.later in omega arith);
             installs = ap (λ (y : View). reverse y.steps.installs) stored-path;
             depth = refl;
-            retains = refl;
           };
           still = ap (λ (y : View). y.steps.rises) stored-path;
           uncommitted = can.free;
           log = ap (λ (y : View). (known_of y o).log) stored-path ∙ ((λ j. record { reads = items v.attempt.reads; writes = written_under (named j) true (promoted_at ws more) o }) ∙ (λ j. record { reads = items v.attempt.reads; writes = sym (attempt.written-is good c n l v can.attempt can.plain) j }));
+          kept = λ e. ap (λ (y : View). (known_of y o).kept) stored-path ∙ (kept-same v.gate.algorithm v (promoted_at ws more) o o refl refl refl ∙ e);
           irrevocable = ap (λ (y : View). is_irrevocable (known_of y o)) stored-path ∙ ap (λ (a : Alg). irrevocable_under a (granted_under a (granted_at clock v.gate) v.lock) (wrote (known_of (promoted_at ws more) o))) named;
           opaque = subst (λ (y : View). IsOpaque good c n (known_of y o)) (sym stored-path) (opaque-at good c n (promoted_at ws more) o start refl refl p.0.sees.begins.legal p.0.sees.begins.below sees-promoted i.reads_inside);
           before = λ e. absurd (let f : true ≡ false = sym e ∙ revocable in cc);

@@ -7,7 +7,6 @@ pub mod Checks
 pub mod Beginning
 pub mod Ending
 pub mod Buffering
-pub mod CellsOf
 pub mod FilterWords
 pub mod Refuting
 pub mod Reading

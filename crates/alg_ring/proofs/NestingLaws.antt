@@ -10,23 +10,25 @@ use Rattle.stm_model.specs.Memories.{is_empty, Once}
 use Rattle.rule_base.specs.declared.layout.TheConstants.{SLOT_WORDS}
 use Rattle.rule_base.specs.declared.views.View.{View}
 use Rattle.rule_base.specs.Bridge.{items}
+use Rattle.rule_base.specs.Bridge as bridge
 use Rattle.stm_rule.specs.declared.local.Local.{Local}
 use Rattle.stm_rule.specs.Attempts.{own_of, no_filter, IsInside, IsPromoted}
 use Rattle.stm_rule.specs.Attempts as attempts
 use Rattle.rule_ring.specs.SlotFilter.{slot_filter}
 use Rattle.stm_rule.specs.RecordsKept.{cells_of, IsWriteSet, HasMarks}
 use Rattle.stm_rule.specs.RingKept.{IsRing}
-use Rattle.tx_answers.specs.Answers.{IsMarked, IsRolled, Releases}
-use Rattle.tx_answers.specs.Known.{Known, known_of, granted_under, written_under, is_irrevocable, is_in, is_closing, keeps_records}
+use Rattle.tx_answers.specs.Answers.{IsRolled, kept_rolled}
+use Rattle.tx_answers.specs.Known.{Known, known_of, granted_under, kept_under, written_under, is_irrevocable, is_in, is_closing}
 use Rattle.tx_answers.specs.KnownLaws.{grows-same}
 use Rattle.tx_logs.specs.Filters.{address_word, filter_word}
 use Rattle.tx_logs.specs.LogStates.{LogState, rolled}
-use Rattle.stm_gate.specs.MarkLaws.{written-same, marks-take, marks-more}
+use Rattle.stm_gate.specs.KeptLaws.{kept-same}
+use Rattle.stm_gate.specs.MarkLaws.{marks-take}
 use Rattle.stm_gate.specs.Opacity.{opaque-inside}
 use Rattle.alg_ring.specs.Filtering.{IsFilterOf}
 use Rattle.alg_ring.proofs.Beginning.{no-word}
 use Rattle.alg_ring.proofs.FilterWords.{addresses, or-swap, slot-cells}
-use Rattle.alg_ring.proofs.CellsOf.{items-cells}
+use Rattle.stm_gate.specs.Cells.{items-cells}
 
 -- THE FILTER of a log, one item after the other
 filter-last : (ws : List (ℕ × ℕ)) (w : ℕ × ℕ) (i : ℕ) → filter_word (addresses (ws ++ w ∷ [])) i ≡ bit_or (address_word w.0 i) (filter_word (addresses ws) i)
@@ -77,15 +79,6 @@ module _ (good : List ℕ → Type 0) (c : Config) (n : ℕ) (l : Local) (v : Vi
     promoted : IsPromoted l v
     promoted = subst (λ (b : Bool). attempts.Keeps c RingSw b l v) irrevocable (subst (λ (a : Alg). attempts.Keeps c a l.granted l v) (sym i.named ∙ ring) i.keeps)
 
-    pub stays-deeper : IsInside good c n (record l { depth = d }) v
-    stays-deeper = let p = promoted in inside-with l.writes l.stored l.wrote d (keeps-promoted (record { granted = p.granted; calm = p.calm; holds = p.holds; clear = p.clear; clean = p.clean; dirty = p.dirty; rises = p.rises; limit = p.limit }))
-      where
-        keeps-promoted : IsPromoted deeper v → attempts.Keeps c deeper.algorithm deeper.granted deeper v
-        keeps-promoted q = subst (λ (a : Alg). attempts.Keeps c a l.granted deeper v) (sym (sym i.named ∙ ring)) (subst (λ (b : Bool). attempts.Keeps c RingSw b deeper v) (sym irrevocable) q)
-
-    pub same-deeper : known_of v (own_of (record l { depth = d })) ≡ record (known_of v (own_of l)) { depth = d }
-    same-deeper = ap (λ (ws : List (ℕ × ℕ)). let k : Known = record (known_of v (own_of deeper)) { log = record { reads = items v.attempt.reads; writes = ws } } in k) (written-same v.gate.algorithm v.gate.granted v (own_of l) (own_of deeper) refl)
-
     pub irrevocable-known : is_irrevocable (known_of v (own_of l)) ≡ true
     irrevocable-known = (λ j. irrevocable_under (ring j) (granted_under (ring j) v.gate v.lock) (not (is_empty (known_of v (own_of l)).log.writes))) ∙ promoted.granted
 
@@ -124,26 +117,9 @@ module _ (good : List ℕ → Type 0) (c : Config) (n : ℕ) (l : Local) (v : Vi
         keeps-ring p = subst (λ (a : Alg). attempts.Keeps c a l.granted (with_log log stored wrote d) v) (sym (sym i.named ∙ ring)) (subst (λ (b : Bool). attempts.Keeps c RingSw b (with_log log stored wrote d) v) (sym plain) p)
 
     -- what is known with another log
-    known-with : (log : LogState) (stored : List ℕ) (wrote : Bool) (d : ℕ) (ws : List (ℕ × ℕ)) → Once log.items → log.items ≡ ws
+    known-with : (log : LogState) (stored : List ℕ) (wrote : Bool) (d : ℕ) (ws : List (ℕ × ℕ)) → Once log.items → log.items ≡ ws → log.items ≡ l.writes.items
         → known_of v (own_of (record l { writes = log; stored = stored; wrote = wrote; depth = d })) ≡ record (known_of v (own_of l)) { log = record { reads = items v.attempt.reads; writes = ws }; depth = d; marks = log.marks }
-    known-with log stored wrote d ws once is = ap (λ (xs : List (ℕ × ℕ)). let q : Known = record (known_of v (own_of (with_log log stored wrote d))) { log = record { reads = items v.attempt.reads; writes = xs } } in q) (written-now log stored wrote d once ∙ is)
-
-    -- A MARK
-    pub marks-now : (log : LogState) → log ≡ record l.writes { marks = l.writes.marks ++ l.writes.items ∷ [] } → IsMarked (known_of v (own_of l)) (known_of v (own_of (record l { writes = log; depth = l.depth + 1 })))
-    marks-now log is = record {
-      is = known-with log l.stored l.wrote (l.depth + 1) (known_of v (own_of l)).log.writes (subst Once (sym same) k.buffers.once) (same ∙ sym written-before);
-      marks = λ r. (k.marked.count, ap (λ (q : LogState). q.marks) is ∙ ap (λ (ws : List (ℕ × ℕ)). l.writes.marks ++ ws ∷ []) (sym written-before));
-    }
-      where
-        same : log.items ≡ l.writes.items
-        same = ap (λ (q : LogState). q.items) is
-
-    pub stays-marked : (log : LogState) → log ≡ record l.writes { marks = l.writes.marks ++ l.writes.items ∷ [] } → IsInside good c n (record l { writes = log; depth = l.depth + 1 }) v
-    stays-marked log is = stays-with log l.stored l.wrote (l.depth + 1) (subst (IsWriteSet c l.fence) (sym same) set-before) (k.buffers.wrote ∙ ap (λ (ws : List (ℕ × ℕ)). not (is_empty ws)) (sym same))
-        (subst (λ (ms : List (List (ℕ × ℕ))). HasMarks c l.fence ms (l.depth + 1)) (sym (ap (λ (q : LogState). q.marks) is)) (marks-more c l.fence l.writes.marks l.depth l.writes.items k.marked set-before)) (subst (IsFilterOf l.stored) (sym same) k.stored)
-      where
-        same : log.items ≡ l.writes.items
-        same = ap (λ (q : LogState). q.items) is
+    known-with log stored wrote d ws once is same = λ j. let q : Known = record (known_of v (own_of (with_log log stored wrote d))) { log = record { reads = items v.attempt.reads; writes = (written-now log stored wrote d once ∙ is) j }; kept = kept-same v.gate.algorithm v v (own_of l) (own_of (with_log log stored wrote d)) (ap cells_of same) refl refl j } in q
 
     -- A ROLL BACK
     module _ (log : LogState) (stored : List ℕ) (wrote : Bool) (d : ℕ) (low : 1 ≤ d) (high : d ≤ l.depth) (is : log ≡ rolled d l.writes) (words : IsFilterOf stored log.items) (some : wrote ≡ not (is_empty log.items)) where
@@ -178,22 +154,7 @@ module _ (good : List ℕ → Type 0) (c : Config) (n : ℕ) (l : Local) (v : Vi
         reads = refl;
         writes = written-now log stored wrote d set.once ∙ ap (λ (q : LogState). q.items) is;
         depth = refl;
-        retains = ap (λ (a : Alg). keeps_records a || l.retains) (sym ring);
+        kept = ap (λ (a : Alg). kept_under a v (own_of m)) ring ∙ (ap bridge.addresses (items-cells log.items set.once) ∙ (ap bridge.addresses (sym (written-now log stored wrote d set.once)) ∙ ap (λ (a : Alg). kept_rolled a (known_of v (own_of l)).kept (known_of v (own_of m)).log.writes) (sym ring)));
         marks = ap (λ (q : LogState). q.marks) is;
         opaque = opaque-inside good c n m v (own_of m) stays-rolled;
-      }
-
-    -- A RELEASE
-    module _ (log : LogState) (d : ℕ) (low : 1 ≤ d) (high : d ≤ l.depth) (is : log ≡ record l.writes { marks = take (d - 1) l.writes.marks }) where
-      same-items : log.items ≡ l.writes.items
-      same-items = ap (λ (q : LogState). q.items) is
-
-      pub stays-released : IsInside good c n (record l { writes = log; depth = d - 1 }) v
-      stays-released = stays-with log l.stored l.wrote (d - 1) (subst (IsWriteSet c l.fence) (sym same-items) set-before) (k.buffers.wrote ∙ ap (λ (ws : List (ℕ × ℕ)). not (is_empty ws)) (sym same-items))
-          (subst (λ (ms : List (List (ℕ × ℕ))). HasMarks c l.fence ms (d - 1)) (sym (ap (λ (q : LogState). q.marks) is)) (marks-take c l.fence l.writes.marks l.depth (d - 1) k.marked (omega arith))) (subst (IsFilterOf l.stored) (sym same-items) k.stored)
-
-      pub releases-now : Releases d (known_of v (own_of l)) (known_of v (own_of (record l { writes = log; depth = d - 1 })))
-      releases-now = record {
-        is = known-with log l.stored l.wrote (d - 1) (known_of v (own_of l)).log.writes (subst Once (sym same-items) k.buffers.once) (same-items ∙ sym written-before);
-        marks = λ r. ap (λ (q : LogState). q.marks) is;
       }

@@ -32,6 +32,7 @@ use Rattle.tx_answers.specs.declared.answers.Read.TheVariants.{Value, Conflict}
 use Rattle.tx_answers.specs.Answers.{HasRead, GoesOn, Quits, StartMoves}
 use Rattle.tx_answers.specs.Causes.{Conflicts, has_item, reads_full}
 use Rattle.tx_answers.specs.Known.{Grows, known_of, written_under, is_irrevocable, is_in, is_closing}
+use Rattle.stm_gate.specs.KeptLaws.{kept-same}
 use Rattle.stm_gate.specs.Leaving.{left, last_steps}
 use Rattle.stm_gate.specs.LeavingLaws.{quits-left}
 use Rattle.stm_gate.specs.Logging.{log_of, reads-logged}
@@ -140,7 +141,7 @@ module _ (good : List ℕ → Type 0) (c : Config) (n a : ℕ) (l : Local) (v : 
 
         goes : GoesOn (known_of v o) (known_of after o)
         goes = record {
-          continues = record { running = ap is_in i.phase; closing = ap is_closing i.phase; made = refl; grows = grown; alg = refl; fence = refl; base = refl; rises = (omega arith, omega arith); later = p.later; installs = refl; depth = refl; retains = refl };
+          continues = record { running = ap is_in i.phase; closing = ap is_closing i.phase; made = refl; grows = grown; alg = refl; fence = refl; base = refl; rises = (omega arith, omega arith); later = p.later; installs = refl; depth = refl };
           start = subst (λ (b : Alg). StartMoves b (known_of v o) (known_of after o)) (sym named) start-moves;
           granted = refl;
           holds = refl;
@@ -177,6 +178,8 @@ module _ (good : List ℕ → Type 0) (c : Config) (n a : ℕ) (l : Local) (v : 
           small,
           opaque-at good c n after o start refl refl p.sees.begins.legal p.sees.begins.below p.sees.sees (inside-more c.words (record { at = a; value = x }) v.attempt.reads low i.reads_inside),
           never-full o,
+          refl,
+          kept-same v.gate.algorithm v after o o refl refl refl,
         )
 
       pub loads-value : a < c.words → item_at a l.writes.items ≡ None → x < 2 ^ 64 → LoadsNew good c n a (Value x) l v m w

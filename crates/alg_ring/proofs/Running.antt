@@ -16,7 +16,7 @@ use Rattle.stm_rule.specs.StandLemmas.{inside-of}
 use Rattle.tx_answers.specs.Known.{known_of, granted_under, written_under, is_irrevocable, wrote}
 use Rattle.stm_gate.specs.Standing.{in-of}
 use Rattle.alg_ring.specs.Calls.{HasAttempt}
-use Rattle.alg_ring.proofs.CellsOf.{items-cells}
+use Rattle.stm_gate.specs.Cells.{items-cells}
 use Rattle.alg_ring.proofs.Ending as ending
 
 module _ (good : List ℕ → Type 0) (c : Config) (n : ℕ) (l : Local) (v : View) (a : HasAttempt good c n l v) where

@@ -9,8 +9,8 @@ use Rattle.stm_model.specs.declared.alg.Alg.TheVariants.{RingSw}
 use Rattle.stm_model.specs.declared.config.Config.{Config}
 use Rattle.rule_base.specs.declared.views.View.{View}
 use Rattle.rule_base.specs.Encodings.{fenced}
-use Rattle.rule_base.specs.Bridge.{items}
-use Rattle.rule_base.specs.History.{Inside, Small}
+use Rattle.rule_base.specs.Bridge.{items, addresses}
+use Rattle.rule_base.specs.History.{Inside, Small, member}
 use Rattle.rule_base.specs.Own.{Own}
 use Rattle.rule_ring.specs.SlotFilter.{slot_filter}
 use Rattle.tx_logs.specs.declared.push.Push.TheVariants as pushes
@@ -24,13 +24,15 @@ use Rattle.tx_answers.specs.declared.answers.Read.TheVariants as reads
 use Rattle.tx_answers.specs.declared.answers.Write.TheVariants as writes
 use Rattle.tx_answers.specs.Answers.{HasRead, HasWritten, Quits, StartMoves}
 use Rattle.tx_answers.specs.Causes.{has_item, is_some, reads_full, writes_full}
-use Rattle.tx_answers.specs.Known.{known_of, written_under, is_irrevocable, is_in, is_closing}
+use Rattle.tx_answers.specs.Known.{known_of, written_under, is_irrevocable, is_in, is_closing, kept_under}
 use Rattle.tx_answers.specs.KnownLaws.{grows-same}
+use Rattle.stm_gate.specs.KeptLaws.{kept-put, member-item, length-addresses}
 use Rattle.stm_gate.specs.InnerLaws.{goes-inner}
 use Rattle.stm_gate.specs.Leaving.{left}
 use Rattle.stm_gate.specs.LeavingLaws.{unmade-refl, quits-left}
 use Rattle.stm_gate.specs.Opacity.{opaque-inside}
-use Rattle.alg_ring.proofs.CellsOf.{items-cells, once-put, inside-put, small-put, apart-put, some-put}
+use Rattle.stm_gate.specs.Cells.{items-cells}
+use Rattle.stm_gate.specs.CellLogs.{once-put, inside-put, small-put, apart-put, some-put}
 use Rattle.alg_ring.proofs.Ending.{revocable}
 use Rattle.alg_ring.proofs.FilterWords.{slot-put}
 
@@ -44,6 +46,9 @@ module _ (good : List ℕ → Type 0) (c : Config) (n a : ℕ) (l : Local) (v : 
 
   written-here : (known_of v o).log.writes ≡ l.writes.items
   written-here = written o ∙ items-cells l.writes.items k.buffers.once
+
+  kept-here : (known_of v o).kept ≡ addresses l.writes.items
+  kept-here = ap (λ (b : Alg). kept_under b v o) named ∙ ap addresses (items-cells l.writes.items k.buffers.once)
 
   never-full : reads_full a (known_of v o) ≡ false
   never-full = ap (λ (b : Alg). has_read_log b && (not (is_irrevocable (known_of v o)) && (not (has_item a (known_of v o).log.writes) && (not (has_item a (known_of v o).log.reads) && (length (known_of v o).log.reads == o.reads_limit))))) named
@@ -60,6 +65,8 @@ module _ (good : List ℕ → Type 0) (c : Config) (n a : ℕ) (l : Local) (v : 
     small,
     opaque-inside good c n l v o i,
     never-full,
+    refl,
+    refl,
   )
 
   -- THE LOG HAS ROOM
@@ -73,7 +80,7 @@ module _ (good : List ℕ → Type 0) (c : Config) (n a : ℕ) (l : Local) (v : 
     pub writes-done : writes_full a (known_of v o) ≡ false → HasWritten good c n a x writes.Done (known_of v o) (known_of v (own_of m))
     writes-done room = (
       record {
-        continues = record { running = ap is_in i.phase; closing = ap is_closing i.phase; made = refl; grows = grows-same (known_of v o) (known_of v (own_of m)) refl refl [] refl refl refl refl; alg = refl; fence = refl; base = refl; rises = (omega arith, omega arith); later = omega arith; installs = refl; depth = refl; retains = refl };
+        continues = record { running = ap is_in i.phase; closing = ap is_closing i.phase; made = refl; grows = grows-same (known_of v o) (known_of v (own_of m)) refl refl [] refl refl refl refl; alg = refl; fence = refl; base = refl; rises = (omega arith, omega arith); later = omega arith; installs = refl; depth = refl };
         start = subst (λ (b : Alg). StartMoves b (known_of v o) (known_of v (own_of m))) (sym named) (inl refl);
         granted = refl;
         holds = refl;
@@ -84,6 +91,8 @@ module _ (good : List ℕ → Type 0) (c : Config) (n a : ℕ) (l : Local) (v : 
       (refl, λ b. ap (item_at b) (wrote-put ∙ ap (put a x) (sym written-here))),
       opaque-inside good c n l v (own_of m) i,
       room,
+      ap (λ (b : Alg). kept_under b v (own_of m)) named ∙ (ap (λ (ws : List (ℕ × ℕ)). addresses (items (cells_of ws))) put_is
+          ∙ (ap addresses (items-cells (put a x l.writes.items) (once-put a x l.writes.items k.buffers.once)) ∙ kept-put a x l.writes.items (known_of v o) (ap logs_writes named) (revocable good c n l v i named k o) kept-here)),
     )
       where
         wrote-put : written_under v.gate.algorithm v.gate.granted v (own_of m) ≡ put a x l.writes.items
@@ -129,7 +138,7 @@ module _ (good : List ℕ → Type 0) (c : Config) (n a : ℕ) (l : Local) (v : 
 
   -- by whether the write log has its length
   filled : (m : Option ℕ) (b : Bool) → l.writes.len ≡ l.undo.len → item_at a l.writes.items ≡ m → (length l.writes.items == l.writes.len) ≡ b → writes_full a (known_of v o) ≡ (not (is_some m) && b)
-  filled m b len at count = (λ j. logs_writes (named j) && (not (revocable good c n l v i named k o j) && (not (has_item a (written-here j)) && (length (written-here j) == sym len j)))) ∙ ap (λ (q : Option ℕ). not (is_some q) && (length l.writes.items == l.writes.len)) at ∙ ap (λ (q : Bool). not (is_some m) && q) count
+  filled m b len at count = (λ j. logs_writes (named j) && (not (revocable good c n l v i named k o j) && (not (member (kept-here j) a) && (length (kept-here j) == sym len j)))) ∙ (λ j. not (member-item a l.writes.items j) && (length-addresses l.writes.items j == l.writes.len)) ∙ ap (λ (q : Option ℕ). not (is_some q) && (length l.writes.items == l.writes.len)) at ∙ ap (λ (q : Bool). not (is_some m) && q) count
 
   pub room-of : (ws : List (ℕ × ℕ)) (log : LogState) → l.writes.len ≡ l.undo.len → Pushes l.writes a ws pushes.Done log → writes_full a (known_of v o) ≡ false
   room-of ws log len p = by (item_at a l.writes.items) refl (length l.writes.items == l.writes.len) refl p.0

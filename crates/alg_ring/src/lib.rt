@@ -4,5 +4,5 @@
 #![tactic(auto)]
 
 pub mod check;
-pub mod nesting;
+mod nesting;
 pub mod ring;

@@ -1,70 +1,139 @@
-//! The calls of an attempt of RingSW. It writes into its write log, and reads the heap: behind each word it checks
+//! RingSW, after the ring with a single writer of Spear, Michael and von Praun ("RingSTM: Scalable Transactions with a
+//! Single Atomic Instruction", 2008). An attempt writes into its write log and reads the heap: after each word it checks
 //! that no entry since its start wrote what it has read.
+//!
+//! Invariant (`IsRing`; `RingRule` of rule_ring): a slot holds the filter of what entry e wrote as long as the clock is less
+//! than e + ring - 1. The heap is the memory at DONE, under what the holder of the lock has written back. The read filter
+//! has each address that the attempt loaded, and what it read is the memory at its start.
 ghost use Rattle.stm_rule.specs.Counting.{TakesAtMost};
 ghost use Rattle.tx_answers.specs.Counting.{AddsAtMost};
 ghost use Rattle.std.specs.Prelude.{◌≡◌, ℕ, ◌<◌, true, false, None, ◌+◌, ◌*◌, ◌-◌};
 ghost use Rattle.rule_base.specs.History.{Inside};
 ghost use Rattle.stm_model.specs.Memories.{item_at};
-ghost use Rattle.stm_model.specs.declared.alg.Alg.TheVariants.{RingSw};
 ghost use Rattle.stm_rule.specs.Attempts.{IsInside};
 ghost use Rattle.stm_rule.specs.Callers.{IsOf, IsSameCaller, IsSeatOf};
 ghost use Rattle.stm_rule.specs.Kept.{IsSameSeat, view_of};
 ghost use Rattle.stm_rule.specs.RecordsKept.{Apart, cells_of};
-ghost use Rattle.tx_answers.specs.Answers.{HasRead, HasWritten, KeepsRule, Commits, Cancels, Irrevs};
+ghost use Rattle.tx_answers.specs.Answers.{Commits};
 ghost use Rattle.tx_answers.specs.Known.{IsRunning, is_irrevocable};
 ghost use Rattle.stm_gate.specs.Granting.{IsAlone, Grants};
 ghost use Rattle.rule_base.specs.Encodings.{fenced};
 ghost use Rattle.stm_gate.specs.Knowing.{known, number};
-ghost use Rattle.stm_gate.specs.Starts.{CanBegin, Starts};
 ghost use Rattle.alg_ring.specs.Calls.{LoadsNew, HasWrites, StandsTold, Turns, CanFinish, Finishes, Decides, CanEnter, Enters, CanWriteBack, WritesBack, Stores};
 
 use crate::check::{check, check_to_grant};
+use crate::nesting::filter_of;
+use alg_calls::algorithm::Algorithm;
 use rule_base::layout::SLOT_WORDS;
 use steps_ring::{committing as steps, reading as loads};
 use stm_gate::direct::{direct_commit, direct_load, direct_store};
 use stm_gate::leave::leave;
 use stm_gate::promote::{Promotion, promote};
+use stm_model::alg::Alg;
 use stm_model::config::CLOCK_LIMIT;
 use stm_model::rule::MemRule;
 use stm_rule::desc::Desc;
 use stm_rule::local::Local;
 use stm_rule::stm::{Stm, Token};
-use tx_answers::answers::{Begin, Cancel, Commit, Irrev, Read, Write};
+use tx_answers::answers::{Begin, Cancel, Commit, Irrev, Read, Roll, Write};
 use tx_logs::push::Push;
-use tx_logs::write_log::WriteLog;
+use tx_logs::write_log::{MAX_MARKS, WriteLog};
 
-/// Loads DONE, the start, which it answers. One step.
-pub fn begin<K: MemRule>(seat: &mut Token<K>, stm: &Stm<K>, caller: usize) -> Result<u64, Begin>
-    requires seat { IsSeatOf stm.now caller seat.old }
-    requires caller { caller < stm.now.config.callers }
-    requires view { CanBegin RingSw (view_of seat.old) }
-    ensures same { IsSameSeat seat.old seat.new × (seat.new.me.0 ≡ record seat.old.me.0 { view = view_of seat.new }) }
-    ensures begins { Starts (K.good stm.now.rule) stm.now.config caller RingSw result (view_of seat.old) (view_of seat.new) }
-    ensures steps { TakesAtMost 1 (view_of seat.old) (view_of seat.new) }
-{
-    Ok(loads::begin(stm, seat, caller))
-}
+/// RingSW.
+pub struct RingSw;
 
-/// The own write, if there is one, with no step. Else it loads the word and checks: two steps where the clock is the
-/// start, and at most four and one for each slot word that is needed.
-#[inline(always)]
-pub fn read<K: MemRule>(desc: &mut Desc<K>, stm: &Stm<K>, a: usize) -> Read
-    requires stm { IsOf desc.old stm.now }
-    requires running { IsRunning (known desc.old) }
-    requires algorithm { (known desc.old).alg ≡ RingSw }
-    requires inside { a < stm.now.config.words }
-    requires spared { fenced (known desc.old).fence a ≡ false }
-    ensures same { IsSameCaller desc.old desc.new }
-    ensures read { HasRead (K.good stm.now.rule) stm.now.config (number desc.old) a result (known desc.old) (known desc.new) }
-    ensures steps { AddsAtMost (6 + 16 * (stm.now.config.ring - 1)) (known desc.old) (known desc.new) }
-{
-    if desc.local.granted {
-        return direct_load(desc, stm, a);
+impl Algorithm for RingSw {
+    ghost use Rattle.stm_model.specs.declared.alg.Alg.TheVariants.{RingSw};
+
+    ghost alg = { RingSw };
+
+    /// Loads DONE, the start, which it answers. One step.
+    fn begin<K: MemRule>(seat: &mut Token<K>, stm: &Stm<K>, caller: usize) -> Result<u64, Begin> {
+        Ok(loads::begin(stm, seat, caller))
     }
-    if let Some(x) = desc.local.writes.find(a) {
-        return Read::Value(x);
+
+    /// The own write, if there is one, with no step. Else it loads the word and checks: two steps where the clock is
+    /// the start, and at most four and one for each slot word that is needed.
+    #[inline(always)]
+    fn read<K: MemRule>(desc: &mut Desc<K>, stm: &Stm<K>, a: usize) -> Read {
+        if desc.local.granted {
+            return direct_load(desc, stm, a);
+        }
+        if let Some(x) = desc.local.writes.find(a) {
+            return Read::Value(x);
+        }
+        load_new(&mut desc.seat, &mut desc.local, stm, desc.number, a)
     }
-    load_new(&mut desc.seat, &mut desc.local, stm, desc.number, a)
+
+    /// Adds the write to the write log. No step; a full log ends the attempt, which takes one, two where it holds the
+    /// gate.
+    #[inline(always)]
+    fn write<K: MemRule>(desc: &mut Desc<K>, stm: &Stm<K>, a: usize, x: u64) -> Write {
+        if desc.local.granted {
+            return direct_store(desc, stm, a, x);
+        }
+        if let Push::Full { limit } = desc.local.writes.push(a, x) {
+            leave(&mut desc.seat, &mut desc.local, stm, desc.number);
+            return Write::Full { limit };
+        }
+        desc.local.stored.add(a);
+        desc.local.wrote = true;
+        Write::Done
+    }
+
+    /// Where the attempt wrote, it takes the lock and commits; `Again` comes where another caller has it. `turn` and
+    /// `finish` are its two parts. One step where it wrote nothing, two where it holds the gate.
+    fn commit<K: MemRule>(desc: &mut Desc<K>, stm: &Stm<K>) -> Commit {
+        if desc.local.granted {
+            return direct_commit(desc, stm);
+        }
+        let caller = desc.number;
+        if !desc.local.wrote {
+            let time = desc.local.start;
+            leave(&mut desc.seat, &mut desc.local, stm, caller);
+            return Commit::ReadOnly { time };
+        }
+        commit_writes(&mut desc.seat, &mut desc.local, stm, caller)
+    }
+
+    /// Ends the attempt, unless it is irrevocable. One step, two where it holds the gate.
+    fn cancel<K: MemRule>(desc: &mut Desc<K>, stm: &Stm<K>) -> Cancel {
+        if desc.local.granted {
+            return Cancel::Irrevocable;
+        }
+        let caller = desc.number;
+        let time = desc.local.start;
+        leave(&mut desc.seat, &mut desc.local, stm, caller);
+        Cancel::Cancelled { time }
+    }
+
+    /// Promotes the attempt where it is alone and its check passes. The steps of a promotion and of a check, one more,
+    /// and one for each item of the write log.
+    fn become_irrevocable<K: MemRule>(desc: &mut Desc<K>, stm: &Stm<K>) -> Irrev {
+        if desc.local.granted {
+            return Irrev::Granted;
+        }
+        match promote(desc, stm) {
+            Promotion::Alone => grant(desc, stm),
+            Promotion::Busy { caller, status } => Irrev::Busy { caller, status },
+            Promotion::Taken { gate } => Irrev::Taken { gate },
+        }
+    }
+
+    /// Rolls the attempt back to mark `depth`: its writes since are as if they had not been made, its reads are read.
+    /// The marks above that one are gone. The filter of what is to be stored is made anew, from the items that are
+    /// left.
+    fn roll_to<K: MemRule>(desc: &mut Desc<K>, stm: &Stm<K>, depth: usize) -> Roll {
+        let _ = stm;
+        if desc.local.granted {
+            return Roll::Irrevocable;
+        }
+        desc.local.writes.roll_to(depth);
+        desc.local.stored = filter_of(&desc.local.writes);
+        desc.local.wrote = desc.local.writes.count() > 0;
+        desc.local.depth = depth;
+        Roll::Rolled
+    }
 }
 
 /// Loads a word that the attempt has not written, and checks. A conflict has ended the attempt.
@@ -79,7 +148,7 @@ fn load_new<K: MemRule>(
     requires seat { IsSeatOf stm.now caller seat.old }
     requires caller { caller < stm.now.config.callers }
     requires attempt { IsInside (K.good stm.now.rule) stm.now.config caller local.old (view_of seat.old) }
-    requires ring { (local.old.algorithm ≡ RingSw) × (local.old.granted ≡ false) × (local.old.holds ≡ (view_of seat.old).gate.holds) }
+    requires ring { (local.old.algorithm ≡ Alg.RingSw) × (local.old.granted ≡ false) × (local.old.holds ≡ (view_of seat.old).gate.holds) }
     requires inside { a < stm.now.config.words }
     requires spared { fenced (view_of seat.old).gate.fence a ≡ false }
     requires fresh { item_at a local.old.writes.items ≡ None }
@@ -99,53 +168,6 @@ fn load_new<K: MemRule>(
             Read::Conflict(cause)
         }
     }
-}
-
-/// Adds the write to the write log. No step; a full log ends the attempt, which takes one, two where it holds the gate.
-#[inline(always)]
-pub fn write<K: MemRule>(desc: &mut Desc<K>, stm: &Stm<K>, a: usize, x: u64) -> Write
-    requires stm { IsOf desc.old stm.now }
-    requires running { IsRunning (known desc.old) }
-    requires algorithm { (known desc.old).alg ≡ RingSw }
-    requires inside { a < stm.now.config.words }
-    requires spared { fenced (known desc.old).fence a ≡ false }
-    ensures same { IsSameCaller desc.old desc.new }
-    ensures write { HasWritten (K.good stm.now.rule) stm.now.config (number desc.old) a x result (known desc.old) (known desc.new) }
-    ensures steps { AddsAtMost 2 (known desc.old) (known desc.new) }
-{
-    if desc.local.granted {
-        return direct_store(desc, stm, a, x);
-    }
-    if let Push::Full { limit } = desc.local.writes.push(a, x) {
-        leave(&mut desc.seat, &mut desc.local, stm, desc.number);
-        return Write::Full { limit };
-    }
-    desc.local.stored.add(a);
-    desc.local.wrote = true;
-    Write::Done
-}
-
-/// Where the attempt wrote, it takes the lock and commits; `Again` comes where another caller has it. `turn` and
-/// `finish` are its two parts. One step where it wrote nothing, two where it holds the gate.
-pub fn commit<K: MemRule>(desc: &mut Desc<K>, stm: &Stm<K>) -> Commit
-    requires stm { IsOf desc.old stm.now }
-    requires running { (known desc.old).running ≡ true }
-    requires algorithm { (known desc.old).alg ≡ RingSw }
-    requires keeps { KeepsRule (K.good stm.now.rule) stm.now.config (number desc.old) (known desc.old) }
-    ensures same { IsSameCaller desc.old desc.new }
-    ensures commits { Commits (K.good stm.now.rule) stm.now.config (number desc.old) result (known desc.old) (known desc.new) }
-    ensures steps { AddsAtMost (10 + (known desc.old).writes_limit + 16 * stm.now.config.ring) (known desc.old) (known desc.new) }
-{
-    if desc.local.granted {
-        return direct_commit(desc, stm);
-    }
-    let caller = desc.number;
-    if !desc.local.wrote {
-        let time = desc.local.start;
-        leave(&mut desc.seat, &mut desc.local, stm, caller);
-        return Commit::ReadOnly { time };
-    }
-    commit_writes(&mut desc.seat, &mut desc.local, stm, caller)
 }
 
 /// Commits what the attempt wrote. The steps of `turn`, and where it has its turn those of `finish`.
@@ -284,49 +306,11 @@ fn write_back<K: MemRule>(seat: &mut Token<K>, writes: &WriteLog, stm: &Stm<K>, 
     }
 }
 
-/// Ends the attempt, unless it is irrevocable. One step, two where it holds the gate.
-pub fn cancel<K: MemRule>(desc: &mut Desc<K>, stm: &Stm<K>) -> Cancel
-    requires stm { IsOf desc.old stm.now }
-    requires running { (known desc.old).running ≡ true }
-    requires algorithm { (known desc.old).alg ≡ RingSw }
-    ensures same { IsSameCaller desc.old desc.new }
-    ensures cancels { Cancels (K.good stm.now.rule) stm.now.config (number desc.old) result (known desc.old) (known desc.new) }
-    ensures steps { AddsAtMost 2 (known desc.old) (known desc.new) }
-{
-    if desc.local.granted {
-        return Cancel::Irrevocable;
-    }
-    let caller = desc.number;
-    let time = desc.local.start;
-    leave(&mut desc.seat, &mut desc.local, stm, caller);
-    Cancel::Cancelled { time }
-}
-
-/// Promotes the attempt where it is alone and its check passes. The steps of a promotion and of a check, one more, and
-/// one for each item of the write log.
-pub fn become_irrevocable<K: MemRule>(desc: &mut Desc<K>, stm: &Stm<K>) -> Irrev
-    requires stm { IsOf desc.old stm.now }
-    requires running { IsRunning (known desc.old) }
-    requires algorithm { (known desc.old).alg ≡ RingSw }
-    ensures same { IsSameCaller desc.old desc.new }
-    ensures irrevs { Irrevs (K.good stm.now.rule) stm.now.config (number desc.old) result (known desc.old) (known desc.new) }
-    ensures steps { AddsAtMost (8 + stm.now.config.callers + (known desc.old).writes_limit + 16 * (stm.now.config.ring - 1)) (known desc.old) (known desc.new) }
-{
-    if desc.local.granted {
-        return Irrev::Granted;
-    }
-    match promote(desc, stm) {
-        Promotion::Alone => grant(desc, stm),
-        Promotion::Busy { caller, status } => Irrev::Busy { caller, status },
-        Promotion::Taken { gate } => Irrev::Taken { gate },
-    }
-}
-
 /// Loads the clock for an attempt that is alone, and checks: where that passes, what was written goes into the heap.
 fn grant<K: MemRule>(desc: &mut Desc<K>, stm: &Stm<K>) -> Irrev
     requires stm { IsOf desc.old stm.now }
     requires running { IsRunning (known desc.old) }
-    requires algorithm { (known desc.old).alg ≡ RingSw }
+    requires algorithm { (known desc.old).alg ≡ Alg.RingSw }
     requires revocable { is_irrevocable (known desc.old) ≡ false }
     requires alone { IsAlone stm.now.config.callers (number desc.old) desc.old.view }
     ensures same { IsSameCaller desc.old desc.new }

@@ -7,6 +7,7 @@ use Rattle.stm_model.specs.declared.alg.Alg.{Alg}
 use Rattle.stm_model.specs.declared.alg.Alg.TheVariants.{Cgl, Tml, OrecLazy, OrecEager, RingSw, Serial}
 use Rattle.stm_model.specs.declared.config.Config.{Config}
 use Rattle.stm_model.specs.declared.config.TheConstants.{CLOCK_LIMIT}
+use Rattle.rule_base.specs.declared.entries.Cell.{Cell}
 use Rattle.rule_base.specs.declared.layout.At.{At}
 use Rattle.rule_base.specs.declared.layout.At.TheVariants.{Clock, Lock}
 use Rattle.rule_base.specs.declared.views.Act.TheVariants.{Load, Store, Exchange}
@@ -14,7 +15,7 @@ use Rattle.rule_base.specs.declared.views.GateView.{GateView}
 use Rattle.rule_base.specs.declared.views.LockView.{LockView}
 use Rattle.rule_base.specs.declared.views.TrailItem.{TrailItem}
 use Rattle.rule_base.specs.declared.views.View.{View}
-use Rattle.rule_base.specs.Bridge.{of_words, public_history}
+use Rattle.rule_base.specs.Bridge.{addresses, items, of_words, public_history}
 use Rattle.rule_base.specs.Encodings.{taken_lock}
 use Rattle.rule_base.specs.Own.{Own}
 use Rattle.rule_base.specs.StepKinds.{Nothing, Tells, view_after}
@@ -26,7 +27,7 @@ use Rattle.tx_answers.specs.declared.answers.Begin.TheVariants.{Held, ClockFull}
 use Rattle.tx_answers.specs.Answers.{IsHeld, start_word}
 use Rattle.tx_answers.specs.Causes.{NamesOther}
 use Rattle.tx_answers.specs.Evidence.{Found}
-use Rattle.tx_answers.specs.Known.{Known, Grows, known_of, granted_under}
+use Rattle.tx_answers.specs.Known.{Known, Grows, known_of, granted_under, kept_under}
 use Rattle.tx_answers.specs.KnownLaws.{grows-same}
 use Rattle.stm_gate.specs.Opacity.{opaque-at, later-seen}
 use Rattle.stm_gate.specs.LeavingLaws.{finds-full}
@@ -56,6 +57,14 @@ ungranted Tml g l t e s = absurd cc
 ungranted OrecLazy g l t e s = absurd cc
 ungranted OrecEager g l t e s = absurd cc
 ungranted RingSw g l t e s = absurd cc
+
+bare : (a : Alg) (v : View) (o : Own) → takes_lock a ≡ true → v.lock.undo ≡ [] → kept_under a v o ≡ []
+bare Cgl v o t e = refl
+bare Serial v o t e = ap (λ (cs : List Cell). addresses (items cs)) e
+bare Tml v o t e = absurd cc
+bare OrecLazy v o t e = absurd cc
+bare OrecEager v o t e = absurd cc
+bare RingSw v o t e = absurd cc
 
 asked : (b : Bool) → (b || (false || false)) ≡ true → b ≡ true
 asked true e = refl
@@ -153,7 +162,9 @@ module _ (good : List ℕ → Type 0) (c : Config) (n : ℕ) (a : Alg) (locks : 
         dirty = λ e. absurd cc;
         irrevocable = ap (λ b. irrevocable_under b false false) can.named;
         undone = λ e. refl;
-        undoable = λ e. refl;
+        undoable = λ e b p. absurd cc;
+        shorter = λ e. omega arith;
+        most = λ e. omega arith;
         within = λ e p. absurd cc;
         writes = λ e. refl;
         marked = λ e. refl;
@@ -171,6 +182,7 @@ module _ (good : List ℕ → Type 0) (c : Config) (n : ℕ) (a : Alg) (locks : 
       is = refl;
       fresh = b.front;
       log = ap (λ ws. record { reads = []; writes = ws }) (written-plain v.gate.algorithm v.gate.granted u o (ap takes_lock can.named ∙ locks));
+      bare = bare v.gate.algorithm u o (ap takes_lock can.named ∙ locks) refl;
       granted = ungranted v.gate.algorithm v.gate u.lock (ap takes_lock can.named ∙ locks) can.ungranted refl;
       opaque = opaque-at good c n u o clock refl refl b.legal b.below (λ e. refl) (λ e p. absurd cc);
     };

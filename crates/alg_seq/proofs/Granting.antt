@@ -17,7 +17,7 @@ use Rattle.stm_rule.specs.declared.local.Local.{Local}
 use Rattle.stm_rule.specs.Attempts.{IsInside}
 use Rattle.tx_answers.specs.Answers.{BecomesIrrevocable}
 use Rattle.tx_answers.specs.Evidence.{Found}
-use Rattle.tx_answers.specs.Known.{known_of, is_in, is_closing, granted_under, is_irrevocable, wrote}
+use Rattle.tx_answers.specs.Known.{known_of, kept_under, is_in, is_closing, granted_under, is_irrevocable, wrote}
 use Rattle.tx_answers.specs.KnownLaws.{grows-same}
 use Rattle.alg_seq.specs.Storing.{IsClocked}
 use Rattle.alg_seq.proofs.Locked.{written-plain, still-opaque}
@@ -51,11 +51,11 @@ tells-granted good c n l v i serial clock u o settled revocable low t = subst (�
     later = le_refl v.attempt.start;
     installs = refl;
     depth = refl;
-    retains = refl;
   };
   still = refl;
   uncommitted = settled;
   log = ap (λ (ws : List (ℕ × ℕ)). record { reads = items v.attempt.reads; writes = ws }) (written-plain v.gate.algorithm v.gate.granted w o locks-by ∙ sym (written-plain v.gate.algorithm v.gate.granted v o locks-by));
+  kept = λ e. ap (λ a. kept_under a w o) serial-by;
   irrevocable = ap (λ a. irrevocable_under a (granted_under a v.gate w.lock) (wrote (known_of w o))) serial-by;
   opaque = still-opaque good c n l v o i w refl refl refl;
   before = λ e. absurd (let no : true ≡ false = sym e ∙ not_yet in cc);

@@ -30,11 +30,12 @@ use Rattle.stm_rule.specs.Attempts.{IsInside, IsLocked, Keeps}
 use Rattle.tx_answers.specs.declared.answers.Read.TheVariants.{Value}
 use Rattle.tx_answers.specs.declared.answers.Write.TheVariants.{Done}
 use Rattle.tx_answers.specs.Answers as answers
-use Rattle.tx_answers.specs.Answers.{GoesOn, HasRead, HasWritten, KeepsRule, CommitsAt, EndsAt, RisesWithout}
+use Rattle.tx_answers.specs.Answers.{kept_with, GoesOn, HasRead, HasWritten, KeepsRule, CommitsAt, EndsAt, RisesWithout}
 use Rattle.tx_answers.specs.Causes.{has_item, reads_full, writes_full}
-use Rattle.tx_answers.specs.Known.{Known, known_of, fenced_of, granted_under, written_under, is_in, is_closing, is_irrevocable, wrote}
+use Rattle.tx_answers.specs.Known.{Known, known_of, fenced_of, granted_under, written_under, kept_under, is_in, is_closing, is_irrevocable, wrote}
 use Rattle.tx_answers.specs.KnownLaws.{grows-same}
 use Rattle.stm_gate.specs.InnerLaws.{start-stays}
+use Rattle.stm_gate.specs.KeptLaws.{kept-same}
 use Rattle.stm_gate.specs.Leaving.{left}
 use Rattle.stm_gate.specs.LeavingLaws.{IsUnmade, IsMade, ended-left, commits-left}
 use Rattle.stm_gate.specs.Logging.{reads-logged, inside-logged, wrote-some}
@@ -128,7 +129,6 @@ goes-on v w o inside i = record {
     later = (let e = i.start in omega arith);
     installs = ap reverse i.installs;
     depth = refl;
-    retains = refl;
   };
   start = start-stays v.gate.algorithm (known_of v o) (known_of w o) i.start;
   granted = ap (λ (g : GateView). granted_under g.algorithm g w.lock) i.gate ∙ granted-same v.gate.algorithm v.gate v.lock w.lock i.irrevocable;
@@ -158,16 +158,18 @@ module _ (good : List ℕ → Type 0) (c : Config) (n : ℕ) where
     t.1.small,
     opaque-at good c n u o l.start i.start i.front i.legal i.below t.1.sees (inside-logged c.words v.attempt a x low i.reads_inside),
     reads-free a (known_of v o) locks,
+    refl,
+    kept-same v.gate.algorithm v u o o refl refl refl,
   )
     where
       u : View
       u = view_after (load_heap a) t.0 v x
 
   -- a store puts its word into the log
-  pub tells-store : (a x : ℕ) (v w : View) (o : Own) (m : World) → v.gate.phase ≡ In → takes_lock v.gate.algorithm ≡ true → o.committing ≡ false → writes_full a (known_of v o) ≡ false
+  pub tells-store : (a x : ℕ) (v w : View) (o : Own) (m : World) → v.gate.phase ≡ In → takes_lock v.gate.algorithm ≡ true → o.committing ≡ false → writes_full a (known_of v o) ≡ false → kept_under w.gate.algorithm (view_after (store_heap a x) m w x) o ≡ kept_with a (known_of v o)
       → IsLogged v w → w.attempt ≡ v.attempt → ((u : View) → u.history ≡ v.history → u.attempt.start ≡ v.attempt.start → u.attempt.reads ≡ v.attempt.reads → answers.IsOpaque good c n (known_of u o))
       → HasWritten good c n a x Done (known_of v o) (known_of (view_after (store_heap a x) m w x) o)
-  tells-store a x v w o m inside locks settled room i same opaque = (
+  tells-store a x v w o m inside locks settled room kept i same opaque = (
     goes-on v u o inside (record { history = i.history; gate = i.gate; irrevocable = i.irrevocable; fence = i.fence; start = i.start; rises = i.rises; base = i.base; installs = i.installs; trail = (record { place = Heap a; act = Store x; found = None } ∷ i.trail.0, ap (λ t. record { place = Heap a; act = Store x; found = None } ∷ t) i.trail.1) }),
     settled,
     subst (λ (ws : List (ℕ × ℕ)). logs.Writes (known_of v o).log a x (record { reads = items u.attempt.reads; writes = ws })) (sym (written-plain w.gate.algorithm w.gate.granted u o (ap (λ (g : GateView). takes_lock g.algorithm) i.gate ∙ locks)))
@@ -175,6 +177,7 @@ module _ (good : List ℕ → Type 0) (c : Config) (n : ℕ) where
         (subst (λ (t : Attempt). logs.Writes (record { reads = items v.attempt.reads; writes = items v.attempt.stores }) a x (record { reads = items t.reads; writes = put a x (items t.stores) })) (sym same) (refl, λ b. refl))),
     opaque u i.history i.start (ap (λ (t : Attempt). t.reads) same),
     room,
+    kept,
   )
     where
       u : View
@@ -201,11 +204,11 @@ module _ (good : List ℕ → Type 0) (c : Config) (n : ℕ) where
       later = le_refl v.attempt.start;
       installs = refl;
       depth = refl;
-      retains = refl;
     };
     still = refl;
     uncommitted = settled;
     log = refl;
+    kept = λ e. e;
     irrevocable = irrevocable;
     opaque = opaque-inside good c n l v o i;
     before = λ e. refl;

@@ -1,6 +1,6 @@
 -- What the marks of an attempt of CGL, TML or Serial come to.
-use Rattle.std.proofs.Common.{ℕ, zero, suc, ◌≡◌, ◌≤◌, ◌+◌, ◌-◌, List, [], ◌∷◌, ◌++◌, length, get_or, take, Bool, true, false, refl, sym, ap, ◌∙◌, arith, subst, length-append}
-use Rattle.std.specs.Prelude.{◌||◌, replicate}
+use Rattle.std.proofs.Common.{ℕ, ◌≡◌, ◌≤◌, ◌+◌, ◌-◌, List, [], ◌∷◌, ◌++◌, length, get_or, take, Bool, true, false, refl, sym, ap, ◌∙◌, arith, subst}
+use Rattle.std.specs.Prelude.{replicate}
 use Rattle.std.proofs.lemmas.List.{length-replicate, get_or-replicate, take-replicate, length-take-le}
 use Rattle.stm_model.specs.Algorithms.{irrevocable_under}
 use Rattle.stm_model.specs.declared.alg.Alg.{Alg}
@@ -9,13 +9,13 @@ use Rattle.stm_model.specs.declared.config.Config.{Config}
 use Rattle.rule_base.specs.declared.entries.Cell.{Cell}
 use Rattle.rule_base.specs.declared.views.TrailItem.{TrailItem}
 use Rattle.rule_base.specs.declared.views.View.{View}
-use Rattle.rule_base.specs.Bridge.{items}
+use Rattle.rule_base.specs.Bridge.{addresses, items}
 use Rattle.rule_base.specs.Own.{Own}
 use Rattle.stm_rule.specs.declared.local.Local.{Local}
 use Rattle.stm_rule.specs.Attempts.{own_of, IsInside, IsLocked}
 use Rattle.stm_rule.specs.Attempts as attempts
-use Rattle.tx_answers.specs.Answers.{IsMarked, IsRolled, Releases}
-use Rattle.tx_answers.specs.Known.{Known, known_of, granted_under, written_under, is_irrevocable, is_in, is_closing, keeps_records}
+use Rattle.tx_answers.specs.Answers.{kept_rolled, IsRolled}
+use Rattle.tx_answers.specs.Known.{Known, known_of, kept_under, written_under, is_irrevocable, is_in, is_closing}
 use Rattle.tx_answers.specs.KnownLaws.{grows-same}
 use Rattle.tx_logs.specs.LogStates.{LogState, rolled}
 use Rattle.stm_gate.specs.Opacity.{opaque-inside}
@@ -32,13 +32,6 @@ HasDepth OrecEager marks d = length marks ≡ d
 HasDepth RingSw marks d = length marks ≡ d
 HasDepth Serial marks d = length marks ≡ d
 
-replicate-more : (d : ℕ) → replicate d [] ++ [] ∷ [] ≡ (let ws : List (List (ℕ × ℕ)) = replicate (d + 1) [] in ws)
-replicate-more zero = refl
-replicate-more (suc d) = ap (λ (ws : List (List (ℕ × ℕ))). [] ∷ ws) (replicate-more d) ∙ ap (λ (k : ℕ). replicate k []) next
-  where
-    next : suc (d + 1) ≡ suc d + 1
-    next = omega arith
-
 -- what lies in the heap is known whatever the descriptor keeps
 written-own : (a : Alg) → is_sequential a ≡ true → (granted : Bool) (v : View) (o : Own) → written_under a granted v o ≡ items v.attempt.stores
 written-own Cgl s granted v o = refl
@@ -48,21 +41,29 @@ written-own OrecLazy s granted v o = absurd cc
 written-own OrecEager s granted v o = absurd cc
 written-own RingSw s granted v o = absurd cc
 
--- none of them holds records
-retains-none : (a : Alg) → is_sequential a ≡ true → (retains : Bool) → retains ≡ (keeps_records a || retains)
-retains-none Cgl s retains = refl
-retains-none Tml s retains = refl
-retains-none Serial s retains = refl
-retains-none OrecLazy s retains = absurd cc
-retains-none OrecEager s retains = absurd cc
-retains-none RingSw s retains = absurd cc
+-- so is what has an item there, and a roll back leaves it
+kept-own : (a : Alg) → is_sequential a ≡ true → (v w : View) (o p : Own) → w.lock.undo ≡ v.lock.undo → kept_under a w p ≡ kept_under a v o
+kept-own Cgl s v w o p e = refl
+kept-own Tml s v w o p e = refl
+kept-own Serial s v w o p e = ap (λ (cs : List Cell). addresses (items cs)) e
+kept-own OrecLazy s v w o p e = absurd cc
+kept-own OrecEager s v w o p e = absurd cc
+kept-own RingSw s v w o p e = absurd cc
 
--- AN ATTEMPT with other logs and at another depth, where this is stored and to be restored, after these steps
-module _ (good : List ℕ → Type 0) (c : Config) (n : ℕ) (l : Local) (v : View) (i : IsInside good c n l v) (log cut : LogState) (wrote : Bool) (d : ℕ) (stores undo : List Cell) (more : List TrailItem) where
+kept-stays : (a : Alg) → is_sequential a ≡ true → (ks : List ℕ) (ws : List (ℕ × ℕ)) → kept_rolled a ks ws ≡ ks
+kept-stays Cgl s ks ws = refl
+kept-stays Tml s ks ws = refl
+kept-stays Serial s ks ws = refl
+kept-stays OrecLazy s ks ws = absurd cc
+kept-stays OrecEager s ks ws = absurd cc
+kept-stays RingSw s ks ws = absurd cc
+
+-- AN ATTEMPT with another write log and at another depth, where this is stored, after these steps
+module _ (good : List ℕ → Type 0) (c : Config) (n : ℕ) (l : Local) (v : View) (i : IsInside good c n l v) (log : LogState) (wrote : Bool) (d : ℕ) (stores : List Cell) (more : List TrailItem) where
   abbrev other : Local
-  other = record l { writes = log; undo = cut; wrote = wrote; depth = d }
+  other = record l { writes = log; wrote = wrote; depth = d }
 
-  pub inside-at : attempts.Keeps c l.algorithm l.granted other (taken v stores undo more) → IsInside good c n other (taken v stores undo more)
+  pub inside-at : attempts.Keeps c l.algorithm l.granted other (taken v stores more) → IsInside good c n other (taken v stores more)
   inside-at keeps = record {
     phase = i.phase;
     named = i.named;
@@ -82,23 +83,22 @@ module _ (good : List ℕ → Type 0) (c : Config) (n : ℕ) (l : Local) (v : Vi
   }
 
   -- it was rolled back to mark d
-  pub rolls-at : l.committing ≡ false → log ≡ rolled d l.writes → d ≤ length l.writes.marks → cut.len ≡ l.undo.len → granted_under v.gate.algorithm v.gate (taken v stores undo more).lock ≡ granted_under v.gate.algorithm v.gate v.lock
-      → l.retains ≡ (keeps_records v.gate.algorithm || l.retains) → written_under v.gate.algorithm v.gate.granted (taken v stores undo more) (own_of other) ≡ log.items → IsInside good c n other (taken v stores undo more)
-      → IsRolled good c n d (known_of v (own_of l)) (known_of (taken v stores undo more) (own_of other))
-  rolls-at quiet is within short granted retains written inside = record {
+  pub rolls-at : l.committing ≡ false → log ≡ rolled d l.writes → d ≤ length l.writes.marks → is_sequential v.gate.algorithm ≡ true → written_under v.gate.algorithm v.gate.granted (taken v stores more) (own_of other) ≡ log.items → IsInside good c n other (taken v stores more)
+      → IsRolled good c n d (known_of v (own_of l)) (known_of (taken v stores more) (own_of other))
+  rolls-at quiet is within sequential written inside = record {
     stays = record {
       running = ap is_in i.phase;
       uncommitted = quiet;
       closing = ap is_closing i.phase;
       made = refl;
-      grows = grows-same (known_of v (own_of l)) (known_of (taken v stores undo more) (own_of other)) refl refl more refl refl short refl;
+      grows = grows-same (known_of v (own_of l)) (known_of (taken v stores more) (own_of other)) refl refl more refl refl refl refl;
       alg = refl;
       fence = refl;
       base = refl;
       rises = refl;
       start = refl;
       installs = refl;
-      granted = granted;
+      granted = refl;
       holds = refl;
       checked = refl;
     };
@@ -106,9 +106,9 @@ module _ (good : List ℕ → Type 0) (c : Config) (n : ℕ) (l : Local) (v : Vi
     reads = refl;
     writes = written ∙ ap (λ (q : LogState). q.items) is;
     depth = refl;
-    retains = retains;
+    kept = kept-own v.gate.algorithm sequential v (taken v stores more) (own_of l) (own_of other) refl ∙ sym (kept-stays v.gate.algorithm sequential (known_of v (own_of l)).kept (known_of (taken v stores more) (own_of other)).log.writes);
     marks = ap (λ (q : LogState). q.marks) is;
-    opaque = opaque-inside good c n other (taken v stores undo more) (own_of other) inside;
+    opaque = opaque-inside good c n other (taken v stores more) (own_of other) inside;
   }
 
 module _ (good : List ℕ → Type 0) (c : Config) (n : ℕ) (l : Local) (v : View) (i : IsInside good c n l v) (sequential : is_sequential v.gate.algorithm ≡ true) where
@@ -144,6 +144,8 @@ module _ (good : List ℕ → Type 0) (c : Config) (n : ℕ) (l : Local) (v : Vi
       irrevocable = p.irrevocable;
       undone = p.undone;
       undoable = p.undoable;
+      shorter = λ e. (let less = p.shorter e in let f = ap length same in omega arith);
+      most = p.most;
       within = p.within;
       writes = λ e. same ∙ p.writes e;
       marked = count;
@@ -179,17 +181,13 @@ module _ (good : List ℕ → Type 0) (c : Config) (n : ℕ) (l : Local) (v : Vi
     keeps-with RingSw g e f k = absurd (let no : false ≡ true = is-other RingSw e in cc)
 
     pub stays-with : IsInside good c n (record l { writes = log; depth = d }) v
-    stays-with = inside-at good c n l v i log l.undo l.wrote d v.attempt.stores v.lock.undo [] (keeps-with l.algorithm l.granted refl refl i.keeps)
+    stays-with = inside-at good c n l v i log l.wrote d v.attempt.stores [] (keeps-with l.algorithm l.granted refl refl i.keeps)
 
   pub known-with : (log : LogState) (d : ℕ) → known_of v (own_of (record l { writes = log; depth = d })) ≡ record (known_of v (own_of l)) { depth = d; marks = log.marks }
-  known-with log d = ap (λ (ws : List (ℕ × ℕ)). let k : Known = record (known_of v (own_of (with_log log d))) { log = record { reads = items v.attempt.reads; writes = ws } } in k)
-      (written (own_of (with_log log d)) ∙ sym (written (own_of l)))
+  known-with log d = λ j. let k : Known = record (known_of v (own_of (with_log log d))) { log = record { reads = items v.attempt.reads; writes = (written (own_of (with_log log d)) ∙ sym (written (own_of l))) j }; kept = kept-own v.gate.algorithm sequential v v (own_of l) (own_of (with_log log d)) refl j } in k
 
   -- ONCE IRREVOCABLE a mark is a number
   module _ (irrevocable : irrevocable_under l.algorithm l.granted l.wrote ≡ true) (d : ℕ) where
-    pub stays-deeper : IsInside good c n (record l { depth = d }) v
-    stays-deeper = stays-with l.writes d refl (λ e. absurd (let no : true ≡ false = sym irrevocable ∙ e in cc))
-
     pub deeper-marked : is_irrevocable (known_of v (own_of l)) ≡ true
     deeper-marked = irrevocable-known ∙ irrevocable
 
@@ -201,18 +199,18 @@ module _ (good : List ℕ → Type 0) (c : Config) (n : ℕ) (l : Local) (v : Vi
     clean-at : (a : Alg) (g : Bool) → l.algorithm ≡ a → l.granted ≡ g → irrevocable_under a g l.wrote ≡ false
     clean-at a g e f = (λ j. irrevocable_under (sym e j) (sym f j) l.wrote) ∙ plain
 
-    depth-at : (a : Alg) (g : Bool) → l.algorithm ≡ a → l.granted ≡ g → attempts.Keeps c a g l v → HasDepth a l.writes.marks l.depth × (length l.writes.marks ≡ l.depth) × (l.writes.items ≡ items v.attempt.stores) × HasDepth a (l.writes.marks ++ l.writes.items ∷ []) (l.depth + 1)
+    depth-at : (a : Alg) (g : Bool) → l.algorithm ≡ a → l.granted ≡ g → attempts.Keeps c a g l v → HasDepth a l.writes.marks l.depth × (length l.writes.marks ≡ l.depth) × (l.writes.items ≡ items v.attempt.stores)
     depth-at Cgl g e f k = absurd (let no : true ≡ false = clean-at Cgl g e f in cc)
     depth-at Tml true e f k = absurd (let no : true ≡ false = clean-at Tml true e f in cc)
     depth-at Tml false e f k =
         let w : l.wrote ≡ false = clean-at Tml false e f in
-        (k.marked w, ap length (k.marked w) ∙ length-replicate l.depth [], k.unbuffered ∙ ap items (sym (k.clean w)), (λ j. k.marked w j ++ k.unbuffered j ∷ []) ∙ replicate-more l.depth)
-    depth-at Serial g e f k = let r = sym (sym plain ∙ sym k.irrevocable) in let count = k.marked r in let size = length-append l.writes.marks (l.writes.items ∷ []) in (count, count, k.writes r, omega arith)
+        (k.marked w, ap length (k.marked w) ∙ length-replicate l.depth [], k.unbuffered ∙ ap items (sym (k.clean w)))
+    depth-at Serial g e f k = let r = sym (sym plain ∙ sym k.irrevocable) in let count = k.marked r in (count, count, k.writes r)
     depth-at OrecLazy g e f k = absurd (let no : false ≡ true = is-other OrecLazy e in cc)
     depth-at OrecEager g e f k = absurd (let no : false ≡ true = is-other OrecEager e in cc)
     depth-at RingSw g e f k = absurd (let no : false ≡ true = is-other RingSw e in cc)
 
-    stands : HasDepth l.algorithm l.writes.marks l.depth × (length l.writes.marks ≡ l.depth) × (l.writes.items ≡ items v.attempt.stores) × HasDepth l.algorithm (l.writes.marks ++ l.writes.items ∷ []) (l.depth + 1)
+    stands : HasDepth l.algorithm l.writes.marks l.depth × (length l.writes.marks ≡ l.depth) × (l.writes.items ≡ items v.attempt.stores)
     stands = depth-at l.algorithm l.granted refl refl i.keeps
 
     pub count : length l.writes.marks ≡ l.depth
@@ -228,37 +226,6 @@ module _ (good : List ℕ → Type 0) (c : Config) (n : ℕ) (l : Local) (v : Vi
     depth-take OrecEager d h low = length-take-le d l.writes.marks (omega arith)
     depth-take RingSw d h low = length-take-le d l.writes.marks (omega arith)
     depth-take Serial d h low = length-take-le d l.writes.marks (omega arith)
-
-    -- who can be rolled back, and isn't of Serial, is of TML
-    pub reads-only : (l.algorithm ≡ Serial → ⊥) → l.algorithm ≡ Tml
-    reads-only h = by l.algorithm refl h
-      where
-        by : (a : Alg) → l.algorithm ≡ a → (a ≡ Serial → ⊥) → l.algorithm ≡ Tml
-        by Tml e h = e
-        by Serial e h = absurd (h refl)
-        by Cgl e h = absurd (let no : true ≡ false = clean-at Cgl l.granted e refl in cc)
-        by OrecLazy e h = absurd (let no : false ≡ true = is-other OrecLazy e in cc)
-        by OrecEager e h = absurd (let no : false ≡ true = is-other OrecEager e in cc)
-        by RingSw e h = absurd (let no : false ≡ true = is-other RingSw e in cc)
-
-    -- A MARK
-    module _ (log : LogState) (is : log ≡ record l.writes { marks = l.writes.marks ++ l.writes.items ∷ [] }) where
-      pub stays-marked : IsInside good c n (record l { writes = log; depth = l.depth + 1 }) v
-      stays-marked = stays-with log (l.depth + 1) (ap (λ (q : LogState). q.items) is) (λ p. subst (λ (ms : List (List (ℕ × ℕ))). HasDepth l.algorithm ms (l.depth + 1)) (sym (ap (λ (q : LogState). q.marks) is)) stands.3)
-
-      pub marks-now : IsMarked (known_of v (own_of l)) (known_of v (own_of (record l { writes = log; depth = l.depth + 1 })))
-      marks-now = record {
-        is = known-with log (l.depth + 1);
-        marks = λ r. (count, ap (λ (q : LogState). q.marks) is ∙ ap (λ (ws : List (ℕ × ℕ)). l.writes.marks ++ ws ∷ []) (sym written-before));
-      }
-
-    -- A RELEASE
-    module _ (log : LogState) (d : ℕ) (low : 1 ≤ d) (high : d ≤ l.depth) (is : log ≡ record l.writes { marks = take (d - 1) l.writes.marks }) where
-      pub stays-released : IsInside good c n (record l { writes = log; depth = d - 1 }) v
-      stays-released = stays-with log (d - 1) (ap (λ (q : LogState). q.items) is) (λ p. subst (λ (ms : List (List (ℕ × ℕ))). HasDepth l.algorithm ms (d - 1)) (sym (ap (λ (q : LogState). q.marks) is)) (depth-take l.algorithm (d - 1) stands.0 (omega arith)))
-
-      pub releases-now : Releases d (known_of v (own_of l)) (known_of v (own_of (record l { writes = log; depth = d - 1 })))
-      releases-now = record { is = known-with log (d - 1); marks = λ r. ap (λ (q : LogState). q.marks) is }
 
     -- A ROLL BACK of a reader of TML
     module _ (tml : l.algorithm ≡ Tml) (quiet : l.committing ≡ false) (log : LogState) (d : ℕ) (low : 1 ≤ d) (high : d ≤ l.depth) (is : log ≡ rolled d l.writes) where
@@ -281,5 +248,5 @@ module _ (good : List ℕ → Type 0) (c : Config) (n : ℕ) (l : Local) (v : Vi
       stays-rolled = stays-with log d (ap (λ (q : LogState). q.items) is ∙ (empty ∙ sym nothing.0)) (λ p. subst (λ (ms : List (List (ℕ × ℕ))). HasDepth l.algorithm ms d) (sym (ap (λ (q : LogState). q.marks) is)) (depth-take l.algorithm d stands.0 high))
 
       pub rolls-back : IsRolled good c n d (known_of v (own_of l)) (known_of v (own_of (record l { writes = log; depth = d })))
-      rolls-back = rolls-at good c n l v i log l.undo l.wrote d v.attempt.stores v.lock.undo [] quiet is (let h = count in omega arith) refl refl (retains-none v.gate.algorithm sequential l.retains)
+      rolls-back = rolls-at good c n l v i log l.wrote d v.attempt.stores [] quiet is (let h = count in omega arith) sequential
           (written (own_of (with_log log d)) ∙ (nothing.1 ∙ sym (ap (λ (q : LogState). q.items) is ∙ empty))) stays-rolled

@@ -39,12 +39,13 @@ use Rattle.tx_answers.specs.declared.answers.Commit.TheVariants.{ReadOnly}
 use Rattle.tx_answers.specs.declared.answers.Irrev.TheVariants as irrevs
 use Rattle.tx_answers.specs.declared.answers.Read.TheVariants as reads
 use Rattle.tx_answers.specs.declared.answers.Write.TheVariants as writes
-use Rattle.tx_answers.specs.Answers.{write_rise, HasRead, HasWritten, KeepsRule, Commits, CommitsAt, Cancels, Quits, BecomesIrrevocable}
+use Rattle.tx_answers.specs.Answers.{write_rise, kept_with, HasRead, HasWritten, KeepsRule, Commits, CommitsAt, Cancels, Quits, BecomesIrrevocable}
 use Rattle.tx_answers.specs.Evidence.{Found}
 use Rattle.tx_answers.specs.Causes.{reads_full, writes_full}
-use Rattle.tx_answers.specs.Known.{known_of, granted_under, written_under, is_irrevocable, wrote, is_in, is_closing}
+use Rattle.tx_answers.specs.Known.{known_of, kept_under, granted_under, written_under, is_irrevocable, wrote, is_in, is_closing}
 use Rattle.tx_answers.specs.KnownLaws.{grows-same}
 use Rattle.stm_gate.specs.InnerLaws.{goes-inner, start-stays, no-log-full}
+use Rattle.stm_gate.specs.KeptLaws.{kept-same, kept-unlogged}
 use Rattle.stm_gate.specs.Leaving.{CanLeave, left}
 use Rattle.stm_gate.specs.LeavingLaws.{IsUnmade, unmade-refl, ended-left, quits-left, commits-left, found-left, finds-full}
 use Rattle.stm_gate.specs.Logging.{reads-logged, inside-logged, wrote-some}
@@ -82,6 +83,9 @@ module _ (good : List ℕ → Type 0) (c : Config) (n : ℕ) where
     never-full : (a : ℕ) → (reads_full a (known_of v o) ≡ false) × (writes_full a (known_of v o) ≡ false)
     never-full a = no-log-full a (known_of v o) (ap has_read_log tml) (ap logs_writes tml)
 
+    kept-now : (a : ℕ) (y : View) → y.gate ≡ v.gate → y.owned ≡ v.owned → y.lock ≡ v.lock → (known_of y o).kept ≡ kept_with a (known_of v o)
+    kept-now a y gate owned lock = (λ j. kept_under (gate j).algorithm y o) ∙ (kept-same v.gate.algorithm v y o o refl (ap (λ (q : Ownership). q.undo) owned) (ap (λ (q : LockView). q.undo) lock) ∙ sym (kept-unlogged a (known_of v o) (ap logs_writes tml)))
+
     -- the read is one of the log
     reads-here : (a x : ℕ) (rs : List Cell) (w : View) → w.attempt.reads ≡ rs → w.attempt.stores ≡ v.attempt.stores → logged v.attempt a x ≡ rs → x ≡ over v.attempt.stores a (word_now v.history.seen a)
         → Reads (known_of v o).log a x (record { reads = items w.attempt.reads; writes = written_under v.gate.algorithm v.gate.granted w o })
@@ -111,6 +115,8 @@ module _ (good : List ℕ → Type 0) (c : Config) (n : ℕ) where
       small,
       opaque-at good c n u o l.start i.start i.front i.legal i.below (t.1.sees writes).sees (inside-logged c.words v.attempt a x low i.reads_inside),
       (never-full a).0,
+      refl,
+      kept-same v.gate.algorithm v u o o refl refl refl,
     )
       where
         u : View
@@ -165,6 +171,8 @@ module _ (good : List ℕ → Type 0) (c : Config) (n : ℕ) where
       small,
       opaque-at good c n u o l.start i.start i.front i.legal i.below sees (inside-more c.words (record { at = a; value = x }) v.attempt.reads low i.reads_inside),
       (never-full a).0,
+      refl,
+      kept-same v.gate.algorithm v u o o refl refl refl,
     )
       where
         now : clock ≡ v.attempt.start
@@ -371,7 +379,6 @@ module _ (good : List ℕ → Type 0) (c : Config) (n : ℕ) where
           later = omega arith;
           installs = refl;
           depth = refl;
-          retains = refl;
         };
         start = start-stays v.gate.algorithm (known_of v o) (known_of y o) refl;
         granted = refl;
@@ -383,6 +390,7 @@ module _ (good : List ℕ → Type 0) (c : Config) (n : ℕ) where
       (refl, λ b. ap (item_at b) (written-here y ∙ ap (put a x) (sym (written-here v)))),
       opaque-at good c n y o l.start i.start i.front i.legal i.below i.sees i.reads_inside,
       (never-full a).1,
+      kept-now a y refl refl refl,
     )
       where
         y : View
@@ -399,6 +407,7 @@ module _ (good : List ℕ → Type 0) (c : Config) (n : ℕ) where
       (refl, λ b. ap (item_at b) (written-here y ∙ ap (put a x) (sym (written-here v)))),
       opaque-at good c n y o l.start i.start i.front i.legal i.below i.sees i.reads_inside,
       (never-full a).1,
+      kept-now a y refl refl refl,
     )
       where
         y : View
@@ -510,11 +519,11 @@ module _ (good : List ℕ → Type 0) (c : Config) (n : ℕ) where
         later = omega arith;
         installs = refl;
         depth = refl;
-        retains = refl;
       };
       still = refl;
       uncommitted = quiet;
       log = λ j. record { reads = items v.attempt.reads; writes = (ap (λ (q : Alg). written_under q true y o) tml ∙ sym (written-here v)) j };
+      kept = λ e. ap (λ (q : Alg). kept_under q y o) tml;
       irrevocable = ap (λ (q : Alg). irrevocable_under q (granted_under q y.gate y.lock) (not (is_empty (written_under q true y o)))) tml;
       opaque = opaque-at good c n y o l.start i.start i.front i.legal i.below i.sees i.reads_inside;
       before = λ e. absurd (let f : true ≡ false = sym e ∙ revocable clean in cc);
@@ -640,6 +649,7 @@ module _ (good : List ℕ → Type 0) (c : Config) (n : ℕ) (v : View) (can : C
       is = refl;
       fresh = b.front;
       log = λ j. record { reads = []; writes = ap (λ (a : Alg). written_under a v.gate.granted y o) can.named j };
+      bare = ap (λ (a : Alg). kept_under a y o) can.named;
       granted = ap (λ (a : Alg). granted_under a v.gate v.lock) can.named ∙ can.ungranted;
       opaque = opaque-at good c n y o clock refl refl b.legal b.below (λ a. refl) (λ a e. absurd cc);
     };

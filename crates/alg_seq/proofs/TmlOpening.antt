@@ -1,5 +1,8 @@
 -- What a call of TML knows of its attempt.
-use Rattle.std.proofs.Common.{ℕ, ◌≡◌, List, false, sym, ap, ◌∙◌}
+use Rattle.std.proofs.Common.{ℕ, ◌≡◌, List, true, false, sym, ap, ◌∙◌}
+use Rattle.std.specs.Prelude.{not, ◌||◌}
+use Rattle.stm_model.specs.Algorithms.{asks_at_commit}
+use Rattle.stm_model.specs.declared.alg.Alg.{Alg}
 use Rattle.stm_model.specs.declared.alg.Alg.TheVariants.{Tml}
 use Rattle.stm_model.specs.declared.config.Config.{Config}
 use Rattle.rule_base.specs.declared.seats.Who.{Who}
@@ -9,7 +12,7 @@ use Rattle.stm_rule.specs.declared.stm.Stm.{Stm}
 use Rattle.stm_rule.specs.Attempts.{IsInside, own_of}
 use Rattle.stm_rule.specs.Callers.{Handle}
 use Rattle.stm_rule.specs.StandLemmas.{inside-of}
-use Rattle.tx_answers.specs.Known.{Known, IsRunning, is_irrevocable}
+use Rattle.tx_answers.specs.Known.{Known, is_irrevocable}
 use Rattle.stm_gate.specs.Knowing.{known}
 use Rattle.stm_gate.specs.Opening.{Opened}
 use Rattle.stm_gate.specs.PromotingLaws.{revocable-tml}
@@ -23,9 +26,9 @@ pub record Revocable (good : List ℕ → Type 0) (c : Config) (n : ℕ) (l : Lo
   pub plain : l.granted ≡ false
   pub clean : l.wrote ≡ false
 
-module _ {K : Type 0} (good : K → List ℕ → Type 0) (stm : Stm K) {e : Handle K} {who : Who K} {v : View} {n : ℕ} {l : Local} (a : Opened good stm e who v n l) (runs : IsRunning (known e)) (tml : (known e).alg ≡ Tml) where
+module _ {K : Type 0} (good : K → List ℕ → Type 0) (stm : Stm K) {e : Handle K} {who : Who K} {v : View} {n : ℕ} {l : Local} (a : Opened good stm e who v n l) (runs : (known e).running ≡ true) (tml : (known e).alg ≡ Tml) where
   pub inside : IsInside (good stm.rule) stm.config n l v
-  inside = inside-of (good stm.rule) stm.config n l v (in-of v.gate.phase (ap (λ (k : Known). k.running) (sym a.knows) ∙ runs.0)) a.stands
+  inside = inside-of (good stm.rule) stm.config n l v (in-of v.gate.phase (ap (λ (k : Known). k.running) (sym a.knows) ∙ runs)) a.stands
 
   pub named : v.gate.algorithm ≡ Tml
   named = ap (λ (k : Known). k.alg) (sym a.knows) ∙ tml
@@ -33,7 +36,7 @@ module _ {K : Type 0} (good : K → List ℕ → Type 0) (stm : Stm K) {e : Hand
   -- it was not promoted
   pub plain : l.granted ≡ false → InTml (good stm.rule) stm.config n l v (own_of l)
   plain ungranted = record {
-    quiet = ap (λ (k : Known). k.committing) (sym a.knows) ∙ runs.1;
+    quiet = inside.steady (ap (λ (b : Alg). not (asks_at_commit b) || l.granted) (sym inside.named ∙ named));
     inside = inside;
     named = named;
     keeps = tml-of (good stm.rule) stm.config n l v inside named ungranted;

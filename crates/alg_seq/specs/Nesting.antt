@@ -4,11 +4,10 @@ use Rattle.stm_model.specs.declared.alg.Alg.{Alg}
 use Rattle.stm_model.specs.declared.alg.Alg.TheVariants.{Cgl, Tml, OrecLazy, OrecEager, RingSw, Serial}
 use Rattle.rule_base.specs.declared.views.TrailItem.{TrailItem}
 use Rattle.rule_base.specs.declared.views.View.{View}
-use Rattle.rule_base.specs.Bridge.{items}
+use Rattle.rule_base.specs.Bridge.{addresses, items}
 use Rattle.rule_base.specs.Encodings.{fenced}
 use Rattle.rule_base.specs.History.{touches, Inside}
 use Rattle.rule_seq.specs.CglSteps.{HasLock}
-use Rattle.stm_rule.specs.Attempts.{addresses}
 use Rattle.tx_answers.specs.Causes.{has_item}
 
 -- the algorithms of one lock or one clock word
@@ -20,21 +19,20 @@ is_sequential OrecEager = false
 is_sequential RingSw = false
 is_sequential Serial = true
 
--- these are the old values of all words that the attempt has stored, in their order
-pub record HasOlds (words : ℕ) (us : List (ℕ × ℕ)) (v : View) : Type 0 where
+-- these are the words that the attempt has stored, and the undo log has an old value of each
+pub record HasOlds (words : ℕ) (us ws : List (ℕ × ℕ)) (v : View) : Type 0 where
   pub has : HasLock v
   pub started : v.lock.started ≡ true
   pub undone : us ≡ items v.lock.undo
-  pub undoable : addresses us ≡ addresses (items v.attempt.stores)
+  pub stored : ws ≡ items v.attempt.stores
+  pub undoable : (a : ℕ) → touches v.attempt.stores a ≡ true → touches v.lock.undo a ≡ true
   pub within : Inside words v.lock.undo
 
 -- of the words stored the first so many are left
-pub record IsTakenBack (words left : ℕ) (us : List (ℕ × ℕ)) (v w : View) : Type 0 where
+pub record IsTakenBack (left : ℕ) (v w : View) : Type 0 where
   pub more : List TrailItem
-  pub is : w ≡ record v { attempt = record v.attempt { stores = w.attempt.stores }; lock = record v.lock { undo = w.lock.undo }; steps = record v.steps { trail = more ++ v.steps.trail } }
-  pub undo : items w.lock.undo ≡ take left us
+  pub is : w ≡ record v { attempt = record v.attempt { stores = w.attempt.stores }; steps = record v.steps { trail = more ++ v.steps.trail } }
   pub stores : items w.attempt.stores ≡ take left (items v.attempt.stores)
-  pub within : Inside words w.lock.undo
 
 -- the words of these items, and no others, are stored, and each may be stored again
 pub record CanStoreAgain (words : ℕ) (ws : List (ℕ × ℕ)) (v : View) : Type 0 where

@@ -1,22 +1,21 @@
 -- What stands between the parts of a call of the algorithms of one lock.
-use Rattle.std.specs.Prelude.{ℕ, ◌≡◌, ◌<◌, ◌≤◌, ◌^◌, ◌++◌, true, false, List, length, None, Result, Ok, Err}
+use Rattle.std.specs.Prelude.{ℕ, ◌≡◌, ◌<◌, ◌≤◌, ◌^◌, ◌++◌, if◌then◌else◌, Bool, true, false, List, [], ◌∷◌, length, None, Result, Ok, Err}
 use Rattle.stm_model.specs.declared.config.TheConstants.{CLOCK_LIMIT}
 use Rattle.stm_model.specs.Memories.{item_at, put}
 use Rattle.rule_base.specs.declared.layout.At.TheVariants.{Clock}
 use Rattle.rule_base.specs.declared.views.TrailItem.{TrailItem}
-use Rattle.rule_base.specs.Bridge.{items}
-use Rattle.tx_logs.specs.declared.push.Push.{Push}
-use Rattle.tx_logs.specs.declared.push.Push.TheVariants as pushes
+use Rattle.rule_base.specs.Bridge.{addresses, items}
+use Rattle.tx_logs.specs.LogStates.{LogState}
 use Rattle.tx_answers.specs.Evidence.{Found}
 use Rattle.stm_model.specs.declared.config.Config.{Config}
 use Rattle.rule_base.specs.declared.views.View.{View}
-use Rattle.rule_base.specs.History.{touches, Inside}
+use Rattle.rule_base.specs.History.{member, touches, Inside}
 use Rattle.rule_base.specs.Own.{Own}
 use Rattle.rule_base.specs.StepKinds.{view_after}
 use Rattle.rule_base.specs.World.{World}
 use Rattle.rule_seq.specs.CglSteps.{store_heap, CanStoreHeap}
 use Rattle.stm_rule.specs.declared.local.Local.{Local}
-use Rattle.stm_rule.specs.Attempts.{IsInside, IsOutside, addresses, ended}
+use Rattle.stm_rule.specs.Attempts.{IsInside, IsOutside, ended}
 use Rattle.stm_gate.specs.Leaving.{left}
 use Rattle.stm_gate.specs.LeavingLaws.{IsUnmade}
 use Rattle.tx_answers.specs.declared.answers.Write.{Write}
@@ -42,7 +41,7 @@ abbrev pub HasClock : Result (Unit {0}) ℕ → Local → View → View → Type
 HasClock (Ok _) l v w = IsClocked v w × (l.start < CLOCK_LIMIT)
 HasClock (Err clock) l v w = IsClocked v w × (l.wrote ≡ false) × (CLOCK_LIMIT ≤ clock) × ((o : Own) → Found Clock clock (known_of v o) (known_of w o))
 
--- the undo log has the old value at a, and the write log the new one
+-- the undo log has an old value at a, and the write log the new one
 pub record HasLogged (words a x : ℕ) (l : Local) (v : View) (m : Local) (w : View) : Type 0 where
   pub local : m ≡ record l { undo = m.undo; writes = m.writes }
   pub undo_len : m.undo.len ≡ l.undo.len
@@ -53,13 +52,16 @@ pub record HasLogged (words a x : ℕ) (l : Local) (v : View) (m : Local) (w : V
   pub undone : m.undo.items ≡ items w.lock.undo
   pub logged : touches w.lock.undo a ≡ true
   pub within : Inside words w.lock.undo
-  pub undoable : addresses m.undo.items ≡ addresses (put a x (items v.attempt.stores))
+  -- what it had it keeps, and an address that is new comes behind the others
+  pub covers : (b : ℕ) → touches v.lock.undo b ≡ true → touches w.lock.undo b ≡ true
+  pub kept : addresses (items w.lock.undo) ≡ (if member (addresses (items v.lock.undo)) a then addresses (items v.lock.undo) else addresses (items v.lock.undo) ++ a ∷ [])
+  pub most : length m.undo.items ≤ m.undo.len
   pub writes : m.writes.items ≡ put a x (items v.attempt.stores)
-  pub room : item_at a l.writes.items ≡ None → length l.writes.items < l.writes.len
 
-abbrev pub Logs : ℕ → ℕ → ℕ → Push → Local → View → Local → View → Type 0
-Logs words a x pushes.Done l v m w = HasLogged words a x l v m w
-Logs words a x (pushes.Full limit) l v m w = (m ≡ l) × (w ≡ v) × (item_at a l.writes.items ≡ None) × (length l.writes.items ≡ l.writes.len) × (limit ≡ l.writes.len)
+-- whether the undo log has an item for the address, or room for one
+abbrev pub HasPlace : Bool → ℕ → LogState → Type 0
+HasPlace true a l = item_at a l.items ≡ None → length l.items < l.len
+HasPlace false a l = (item_at a l.items ≡ None) × (length l.items ≡ l.len)
 
 -- what a descriptor keeps of an attempt whose log is under way
 abbrev pub IsOwn : Local → Own → Type 0

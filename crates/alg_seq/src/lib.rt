@@ -1,9 +1,8 @@
-//! The algorithms of one lock or one clock word. Each file has the same functions in the same order:
-//! begin, read, write, commit, cancel, become_irrevocable.
+//! The algorithms of one lock or one clock word, each a type whose calls (`Algorithm` of alg_calls) stand in one order:
+//! begin, read, write, commit, cancel, become_irrevocable, roll_to.
 #![tactic(auto)]
 
 pub mod cgl;
-mod lock;
-pub mod nesting;
+mod nesting;
 pub mod serial;
 pub mod tml;

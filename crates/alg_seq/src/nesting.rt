@@ -1,103 +1,25 @@
-//! Marks in an attempt of CGL, TML or Serial. An irrevocable one can't be rolled back, so its marks are numbers: an
-//! attempt of CGL is so from its begin on, of TML from its first write on, of Serial once it is granted. Until then one
-//! of TML has nothing to take back, and one of Serial stores the words back in place.
+//! A roll back in place, for an attempt of Serial that is not irrevocable: the words that it stored since a mark have the
+//! values again that they had there.
 ghost use Rattle.stm_rule.specs.Counting.{TakesAtMost};
 ghost use Rattle.tx_answers.specs.Counting.{AddsAtMost};
-ghost use Rattle.std.specs.Prelude.{◌≡◌, ℕ, ◌≤◌, ◌-◌, true, false, length};
-ghost use Rattle.stm_model.specs.Memories.{Once};
+ghost use Rattle.std.specs.Prelude.{◌≡◌, ℕ, ◌≤◌, ◌-◌, false, length};
 ghost use Rattle.stm_model.specs.declared.alg.Alg.TheVariants.{Serial};
 ghost use Rattle.stm_rule.specs.Callers.{IsOf, IsSameCaller, IsSeatOf};
 ghost use Rattle.stm_rule.specs.Kept.{IsSameSeat, view_of};
-ghost use Rattle.tx_answers.specs.Answers.{Checks, Rolls, Releases};
+ghost use Rattle.tx_answers.specs.Answers.{Rolls};
 ghost use Rattle.tx_answers.specs.Known.{IsRunning, is_irrevocable};
 ghost use Rattle.stm_gate.specs.Knowing.{known, number};
-ghost use Rattle.alg_seq.specs.Nesting.{is_sequential, HasOlds, IsTakenBack, CanStoreAgain, IsStoredAgain};
+ghost use Rattle.alg_seq.specs.Nesting.{HasOlds, IsTakenBack, CanStoreAgain, IsStoredAgain};
 
-use stm_model::alg::Alg;
 use stm_model::rule::MemRule;
 use stm_rule::desc::Desc;
 use stm_rule::stm::{Stm, Token};
-use tx_answers::answers::{Check, Roll};
+use tx_answers::answers::Roll;
 use tx_logs::undo_log::UndoLog;
-use tx_logs::write_log::{MAX_MARKS, WriteLog};
-
-/// Makes a mark at what the attempt has written; once it is irrevocable, a mark that can't be rolled back to. No step.
-pub fn checkpoint<K: MemRule>(desc: &mut Desc<K>) -> Check
-    requires running { IsRunning (known desc.old) }
-    requires algorithm { is_sequential (known desc.old).alg ≡ true }
-    ensures same { IsSameCaller desc.old desc.new }
-    ensures checks { Checks result (known desc.old) (known desc.new) }
-    ensures steps { AddsAtMost 0 (known desc.old) (known desc.new) }
-{
-    let depth = desc.local.depth;
-    if depth >= MAX_MARKS {
-        return Check::Deep { limit: MAX_MARKS };
-    }
-    let irrevocable = desc
-        .local
-        .algorithm
-        .irrevocable_under(desc.local.granted, desc.local.wrote);
-    if irrevocable {
-        desc.local.depth = depth + 1;
-        return Check::Marked { depth: depth + 1 };
-    }
-    desc.local.writes.mark();
-    desc.local.depth = depth + 1;
-    Check::Marked { depth: depth + 1 }
-}
-
-/// Rolls the attempt back to mark `depth`: its writes since are as if they had not been made, its reads are read. The
-/// marks above that one are gone. One step for each word that it had stored.
-pub fn roll_to<K: MemRule>(desc: &mut Desc<K>, stm: &Stm<K>, depth: usize) -> Roll
-    requires stm { IsOf desc.old stm.now }
-    requires running { IsRunning (known desc.old) }
-    requires algorithm { is_sequential (known desc.old).alg ≡ true }
-    requires low { 1 ≤ depth }
-    requires high { depth ≤ (known desc.old).depth }
-    ensures same { IsSameCaller desc.old desc.new }
-    ensures rolls { Rolls (K.good stm.now.rule) stm.now.config (number desc.old) depth result (known desc.old) (known desc.new) }
-    ensures steps { AddsAtMost (known desc.old).writes_limit (known desc.old) (known desc.new) }
-{
-    let irrevocable = desc
-        .local
-        .algorithm
-        .irrevocable_under(desc.local.granted, desc.local.wrote);
-    if irrevocable {
-        return Roll::Irrevocable;
-    }
-    if let Alg::Serial = desc.local.algorithm {
-        return roll_in_place(desc, stm, depth);
-    }
-    // A reader of TML has nothing to take back.
-    desc.local.writes.roll_to(depth);
-    desc.local.depth = depth;
-    Roll::Rolled
-}
-
-/// Drops the marks from `depth` on, and keeps what was written since. No step.
-pub fn release<K: MemRule>(desc: &mut Desc<K>, depth: usize)
-    requires running { IsRunning (known desc.old) }
-    requires algorithm { is_sequential (known desc.old).alg ≡ true }
-    requires low { 1 ≤ depth }
-    requires high { depth ≤ (known desc.old).depth }
-    ensures same { IsSameCaller desc.old desc.new }
-    ensures releases { Releases depth (known desc.old) (known desc.new) }
-    ensures steps { AddsAtMost 0 (known desc.old) (known desc.new) }
-{
-    let irrevocable = desc
-        .local
-        .algorithm
-        .irrevocable_under(desc.local.granted, desc.local.wrote);
-    if irrevocable {
-        desc.local.depth = depth - 1;
-        return;
-    }
-    desc.local.writes.release(depth);
-    desc.local.depth = depth - 1;
-}
+use tx_logs::write_log::WriteLog;
 
 /// Rolls an attempt of Serial back: the words that it stored since the mark have the values again that they had there.
-fn roll_in_place<K: MemRule>(desc: &mut Desc<K>, stm: &Stm<K>, depth: usize) -> Roll
+pub(crate) fn roll_in_place<K: MemRule>(desc: &mut Desc<K>, stm: &Stm<K>, depth: usize) -> Roll
     requires stm { IsOf desc.old stm.now }
     requires running { IsRunning (known desc.old) }
     requires algorithm { (known desc.old).alg ≡ Serial }
@@ -109,39 +31,45 @@ fn roll_in_place<K: MemRule>(desc: &mut Desc<K>, stm: &Stm<K>, depth: usize) -> 
     ensures steps { AddsAtMost (known desc.old).writes_limit (known desc.old) (known desc.new) }
 {
     let caller = desc.number;
+    let left = desc.local.writes.count_at(depth);
+    take_back(
+        &mut desc.seat,
+        stm,
+        caller,
+        &desc.local.undo,
+        &desc.local.writes,
+        left,
+    );
     desc.local.writes.roll_to(depth);
-    let count = desc.local.writes.count();
-    take_back(&mut desc.seat, stm, caller, &desc.local.undo, count);
     store_again(&mut desc.seat, stm, caller, &desc.local.writes);
-    desc.local.undo.truncate(count);
-    desc.local.wrote = count > 0;
+    desc.local.wrote = left > 0;
     desc.local.depth = depth;
     Roll::Rolled
 }
 
-/// Stores the old values back of all words but the first `left` that the attempt has stored, the last first. One step
-/// for each.
-fn take_back<K: MemRule>(
+/// Stores the old values back of all words that the attempt has stored but the first `left`, the last first. Their items
+/// stay in the undo log. One step for each.
+pub fn take_back<K: MemRule>(
     seat: &mut Token<K>,
     stm: &Stm<K>,
     caller: usize,
     undo: &UndoLog,
+    writes: &WriteLog,
     left: usize,
 )
     requires seat { IsSeatOf stm.now caller seat.old }
-    requires olds { HasOlds stm.now.config.words undo.now.items (view_of seat.old) }
-    requires left { left ≤ length undo.now.items }
+    requires olds { HasOlds stm.now.config.words undo.now.items writes.now.items (view_of seat.old) }
     ensures same { IsSameSeat seat.old seat.new × (seat.new.me.0 ≡ record seat.old.me.0 { view = view_of seat.new }) }
-    ensures back { IsTakenBack stm.now.config.words left undo.now.items (view_of seat.old) (view_of seat.new) }
-    ensures once { Once undo.now.items }
-    ensures within { length undo.now.items ≤ undo.now.len }
-    ensures steps { TakesAtMost (length undo.now.items - left) (view_of seat.old) (view_of seat.new) }
+    ensures back { IsTakenBack left (view_of seat.old) (view_of seat.new) }
+    ensures steps { TakesAtMost (length writes.now.items - left) (view_of seat.old) (view_of seat.new) }
 {
-    let mut count = undo.count();
+    let mut count = writes.count();
     while count > left {
         count -= 1;
-        let (a, x) = undo.item(count);
-        stm.take_back(seat, caller, a, x);
+        let (a, _) = writes.item(count);
+        if let Some(x) = undo.find(a) {
+            stm.take_back(seat, caller, a, x);
+        }
     }
 }
 

@@ -207,13 +207,9 @@ pub(crate) fn judge(alloc: Global, scripts: &[Script], report: &[u8]) -> Result<
             line.push(*byte)?;
             continue;
         }
-        if has_bad_byte(line.as_slice()) {
-            return Ok(Finding::Faulty {
-                line: number,
-                code: 2,
-            });
-        }
-        if !reader.takes(alloc, str::from_utf8(line.as_slice())?)? {
+        if has_bad_byte(line.as_slice())
+            || !reader.takes(alloc, str::from_utf8(line.as_slice())?)?
+        {
             return Ok(Finding::Faulty {
                 line: number,
                 code: 12,
@@ -225,8 +221,10 @@ pub(crate) fn judge(alloc: Global, scripts: &[Script], report: &[u8]) -> Result<
     if line.is_empty() && matches!(reader.next, Next::Nothing) {
         return replay(alloc, scripts, &reader);
     }
-    let code = if has_bad_byte(line.as_slice()) { 2 } else { 3 };
-    Ok(Finding::Faulty { line: number, code })
+    Ok(Finding::Faulty {
+        line: number,
+        code: 3,
+    })
 }
 
 /// Replays the rows of a report.

@@ -105,3 +105,9 @@ module _ {S : Type 0} (left : S → Option (List ℕ)) (faults : S → ℕ) (sou
     IsOutcome ReadFault = Wrote ReadFault
     IsOutcome WriteFault = WroteSome
     IsOutcome Memory = WroteNothing
+
+    -- the exit status is that of what came
+    pub record Exits (exit : ℕ) : Type 0 where
+      pub status : Status
+      pub outcome : IsOutcome status
+      pub is : exit ≡ exit_code_of status

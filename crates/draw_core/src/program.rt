@@ -1,21 +1,31 @@
 //! The program: `draw` over a runtime's standard input and output.
+ghost use Rattle.std.specs.Prelude.{◌≡◌};
+ghost use Rattle.std.specs.Process.{exit_status};
+ghost use Rattle.draw_core.specs.Outcomes.{Exits, exit_code_of};
 
 use crate::draw::draw;
 use crate::status::Status;
-use std::alloc::AllocGlobal;
+use std::alloc::{AllocGlobal, Global};
 use std::env::{self, Env};
 use std::io::{self, ErrorKind, Input, Print};
 use std::process::ExitCode;
 use stm_io::adapters::{ReadSource, WriteSink};
+use stm_io::ends::{Sink, Source};
 
 /// Draws what standard input has to standard output, and answers the status as exit status.
 pub fn program<R: Env + AllocGlobal + Input + Print>(rt: &R) -> ExitCode {
-    let status = match words(rt) {
+    match words(rt) {
         Ok(words) => answer(rt, words),
         // an argument that isn't UTF-8 is a word too
         Err(ErrorKind::InvalidData) => answer(rt, 2),
-        Err(_) => Status::Memory,
-    };
+        Err(_) => ending(Status::Memory),
+    }
+}
+
+/// The status as exit status.
+fn ending(status: Status) -> ExitCode
+    ensures { exit_status result ≡ exit_code_of status }
+{
     ExitCode::from(status.exit_code())
 }
 
@@ -32,8 +42,17 @@ fn words<R: Env + AllocGlobal>(rt: &R) -> Result<usize, ErrorKind> {
     }
 }
 
-fn answer<R: AllocGlobal + Input + Print>(rt: &R, words: usize) -> Status {
+/// Draws what standard input has to standard output.
+fn answer<R: AllocGlobal + Input + Print>(rt: &R, words: usize) -> ExitCode {
     let mut source = ReadSource::new(rt.reader());
     let mut sink = WriteSink::new(io::writer(rt));
-    draw(rt.alloc(), words, &mut source, &mut sink)
+    exits(rt.alloc(), words, &mut source, &mut sink)
+}
+
+/// Draws over a source and a sink. The exit status is that of what was read and written.
+fn exits<S: Source, K: Sink>(alloc: Global, words: usize, source: &mut S, sink: &mut K) -> ExitCode
+    ensures { Exits S.left S.faults source.old source.new words K.held K.faults sink.old sink.new (exit_status result) }
+{
+    let status = draw(alloc, words, source, sink);
+    ending(status)
 }

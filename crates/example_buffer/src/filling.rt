@@ -8,11 +8,11 @@ ghost use Rattle.stm_tx.specs.Descs.{known};
 ghost use Rattle.example_buffer.specs.Fillings.{writes_of};
 
 use crate::buffer::Buffer;
-use crate::waiting::be_alone;
 use std::sync::Wait;
 use stm_tx::fencing::{direct_write, fence, give_back};
 use stm_tx::gate::reopen;
 use stm_tx::{Desc, Fence, Give, Stm};
+use tx_atomic::switching::close_alone;
 
 /// Fills the buffer with `x`. Answers whether it is back: it isn't where the clock was found at its limit. Readers see
 /// the whole of it from then on, and nothing of it before.
@@ -47,7 +47,7 @@ fn take<R: Wait>(rt: &R, desc: &mut Desc<Buffer>, stm: &Stm<Buffer>) -> bool
     ensures words { result ≡ true → (a : ℕ) → fenced (known desc.new).fenced.number a ≡ is_within 0 4 a }
     ensures unwritten { result ≡ true → (known desc.new).fenced.log.writes ≡ [] }
 {
-    be_alone(rt, desc, stm);
+    close_alone(rt, desc, stm);
     match fence(desc, stm, 0, 4) {
         Fence::Fenced => {
             reopen(desc, stm);
@@ -91,7 +91,7 @@ fn give<R: Wait>(rt: &R, desc: &mut Desc<Buffer>, stm: &Stm<Buffer>, x: u64) -> 
     ensures idle { IsIdle (known desc.new) }
     ensures back { result ≡ true → (known desc.new).fenced.held ≡ false }
 {
-    be_alone(rt, desc, stm);
+    close_alone(rt, desc, stm);
     match give_back(desc, stm) {
         Give::Committed { .. } | Give::Unchanged => {
             reopen(desc, stm);

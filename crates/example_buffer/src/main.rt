@@ -4,7 +4,6 @@
 mod buffer;
 mod day;
 mod filling;
-mod waiting;
 
 use crate::buffer::Sight;
 use crate::day::run;

@@ -5,7 +5,7 @@ use Rattle.std.specs.List.{range_with_len}
 use Rattle.std.proofs.lemmas.Bool.Decides.{nat_tests}
 use Rattle.std.proofs.lemmas.List.Sums.{sum_by-append, sum_by-cons, sum_by-set}
 use Rattle.std.proofs.Math.Nat.{suc-mul}
-use Rattle.tx_start.specs.declared.memory.Answer.{Answer}
+use Rattle.nekchhaul.specs.Answer.{Answer}
 use Rattle.example_jobs.specs.declared.hands.Hand.{Hand}
 use Rattle.example_jobs.specs.declared.plan.Plan.{Plan}
 use Rattle.example_jobs.specs.Days.{IsMerge, times, quota, first_job, given_from}

@@ -6,16 +6,16 @@ use Rattle.std.proofs.lemmas.Bool.Decides.{nat_tests}
 use Rattle.std.proofs.lemmas.List.{get_or-map, length-map, length-replicate}
 use Rattle.std.proofs.lemmas.List.Sums.{sum_by-cons}
 use Rattle.std.proofs.Math.ListN.{get_or-eq_default}
-use Rattle.stm_model.specs.declared.alg.Alg.{Alg}
-use Rattle.stm_model.specs.Histories.{IsLegal, made_by, memory_at, memory_after}
-use Rattle.stm_model.specs.HistoryLaws.{Within, memory_at-all}
-use Rattle.stm_rule.specs.Closings.{Ended}
-use Rattle.tx_answers.specs.Known.{Known}
-use Rattle.tx_queue.specs.Queues.{IsQueue, QueueFits, contents, count, front, values_from}
-use Rattle.tx_queue.specs.Statements.{PutsLast, GetsFirst, ZerosAreEmpty}
-use Rattle.tx_start.specs.declared.memory.Answer.{Answer}
-use Rattle.tx_start.specs.declared.memory.Outcome.{Outcome}
-use Rattle.tx_start.specs.Stories.{IsStory}
+use Rattle.nekchhaul.specs.Alg.{Alg}
+use Rattle.nekchhaul.specs.Histories.{IsLegal, made_by, memory_at, memory_after}
+use Rattle.nekchhaul.specs.HistoryLaws.{Within, memory_at-all}
+use Rattle.nekchhaul.specs.Closings.{Ended}
+use Rattle.nekchhaul.specs.Known.{Known}
+use Rattle.nekchhaul.specs.Queues.{IsQueue, QueueFits, contents, count, front, values_from}
+use Rattle.nekchhaul.specs.QueueStatements.{PutsLast, GetsFirst, ZerosAreEmpty}
+use Rattle.nekchhaul.specs.Answer.{Answer}
+use Rattle.nekchhaul.specs.Outcome.{Outcome}
+use Rattle.nekchhaul.specs.Stories.{IsStory}
 use Rattle.example_jobs.specs.declared.hands.Hand.{Hand}
 use Rattle.example_jobs.specs.declared.plan.Plan.{Plan}
 use Rattle.example_jobs.specs.Days.{IsPlan, IsWhole, IsDay, EachTakenOnce, queue_of, quota, given_by, given_from, given_in, taken_by, taken_in, left_in, sum_taken, times, times_in}

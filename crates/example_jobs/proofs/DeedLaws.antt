@@ -3,22 +3,22 @@ use Rattle.std.proofs.Common.{ℕ, zero, suc, ◌≡◌, ◌<◌, ◌+◌, ◌^�
 use Rattle.std.specs.Prelude.{◌⊎◌, ◌==◌, leb, if◌then◌else◌, not}
 use Rattle.std.specs.List.{range_with_len}
 use Rattle.std.proofs.lemmas.List.{append-nil}
-use Rattle.stm_model.specs.declared.config.Config.{Config}
-use Rattle.stm_model.specs.Histories.{Entry, memory_at}
-use Rattle.stm_model.specs.HistoryLaws.{length-memory_at}
-use Rattle.stm_model.specs.Memories.{is_empty}
+use Rattle.nekchhaul.specs.Config.{Config}
+use Rattle.nekchhaul.specs.Histories.{Entry, memory_at}
+use Rattle.nekchhaul.specs.HistoryLaws.{length-memory_at}
+use Rattle.nekchhaul.specs.Memories.{is_empty}
 use Rattle.std.proofs.lemmas.List.{length-replicate}
-use Rattle.tx_answers.specs.declared.answers.Commit.TheVariants.{Committed, ReadOnly}
-use Rattle.tx_answers.specs.Answers.{Commits, entry}
-use Rattle.tx_answers.specs.Known.{Known, no_log, zeros}
-use Rattle.tx_answers.specs.KnownLaws.{carries-refl}
-use Rattle.tx_atomic.specs.Attempts.{TookEffect}
-use Rattle.tx_atomic.specs.MomentLaws.{happened}
-use Rattle.tx_atomic.specs.Moments.{Happened}
-use Rattle.tx_effects.specs.Effects.{Effect, Does, DoesOver, unchanged, changed}
-use Rattle.tx_queue.specs.declared.queue.Put.TheVariants.{Added, NoRoom}
-use Rattle.tx_queue.specs.declared.queue.Queue.{Queue}
-use Rattle.tx_queue.specs.Queues.{IsQueue, count, front, cell, enqueued, dequeued, put_in, got_in}
+use Rattle.nekchhaul.specs.Commit.TheVariants.{Committed, ReadOnly}
+use Rattle.nekchhaul.specs.Answers.{Commits, entry}
+use Rattle.nekchhaul.specs.Known.{Known, no_log, zeros}
+use Rattle.nekchhaul.specs.KnownLaws.{carries-refl}
+use Rattle.nekchhaul.specs.Attempts.{TookEffect}
+use Rattle.nekchhaul.specs.MomentLaws.{happened}
+use Rattle.nekchhaul.specs.Moments.{Happened}
+use Rattle.nekchhaul.specs.Effects.{Effect, Does, DoesOver, unchanged, changed}
+use Rattle.nekchhaul.specs.Put.TheVariants.{Added, NoRoom}
+use Rattle.nekchhaul.specs.Queue.{Queue}
+use Rattle.nekchhaul.specs.Queues.{IsQueue, count, front, cell, enqueued, dequeued, put_in, got_in}
 use Rattle.example_jobs.specs.Deeds.{AreDeeds, HasDone, log_of}
 
 module _ (q : Queue) (words : ℕ) where

@@ -3,16 +3,16 @@ use Rattle.std.proofs.Common.{ℕ, zero, suc, ◌≡◌, ◌≢◌, ◌<◌, ◌
 use Rattle.std.specs.Prelude.{◌==◌, leb, if◌then◌else◌, All}
 use Rattle.std.proofs.lemmas.Bool.Decides.{nat_tests}
 use Rattle.std.proofs.lemmas.List.{append-nil}
-use Rattle.stm_model.specs.Histories.{Entry, Ascending, made_by, memory_at, memory_after}
-use Rattle.stm_model.specs.HistoryLaws.{memory_at-early, memory_at-past, memory_at-first}
-use Rattle.stm_model.specs.Memories.{overlay, Explains}
-use Rattle.stm_model.specs.Overlays.{overlay-length}
-use Rattle.tx_answers.specs.Known.{no_log}
-use Rattle.tx_effects.specs.Effects.{Does}
-use Rattle.tx_queue.specs.declared.queue.Put.TheVariants.{Added, NoRoom}
-use Rattle.tx_queue.specs.declared.queue.Queue.{Queue}
-use Rattle.tx_queue.specs.Queues.{IsQueue, QueueFits, contents, put_in, got_in}
-use Rattle.tx_queue.specs.Statements.{PutsLast, GetsFirst}
+use Rattle.nekchhaul.specs.Histories.{Entry, Ascending, made_by, memory_at, memory_after}
+use Rattle.nekchhaul.specs.HistoryLaws.{memory_at-early, memory_at-past, memory_at-first}
+use Rattle.nekchhaul.specs.Memories.{overlay, Explains}
+use Rattle.nekchhaul.specs.Overlays.{overlay-length}
+use Rattle.nekchhaul.specs.Known.{no_log}
+use Rattle.nekchhaul.specs.Effects.{Does}
+use Rattle.nekchhaul.specs.Put.TheVariants.{Added, NoRoom}
+use Rattle.nekchhaul.specs.Queue.{Queue}
+use Rattle.nekchhaul.specs.Queues.{IsQueue, QueueFits, contents, put_in, got_in}
+use Rattle.nekchhaul.specs.QueueStatements.{PutsLast, GetsFirst}
 use Rattle.example_jobs.specs.Days.{IsMerge}
 use Rattle.example_jobs.specs.Deeds.{AreDeeds, Gives, Takes, log_of}
 

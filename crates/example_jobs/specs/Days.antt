@@ -1,10 +1,10 @@
 -- What a day of work comes to.
 use Rattle.std.specs.Prelude.{ℕ, suc, ◌≡◌, ◌<◌, ◌≤◌, ◌+◌, ◌*◌, ◌^◌, ◌==◌, ltb, if◌then◌else◌, List, [], ◌∷◌, ◌++◌, length, map, sum, sum_by, count_by, slice_index_or, slice_set}
 use Rattle.std.specs.List.{range_with_len}
-use Rattle.tx_queue.specs.declared.queue.Queue.{Queue}
-use Rattle.tx_queue.specs.Queues.{contents}
-use Rattle.tx_start.specs.declared.memory.Answer.{Answer}
-use Rattle.tx_start.specs.declared.memory.Outcome.{Outcome}
+use Rattle.nekchhaul.specs.Queue.{Queue}
+use Rattle.nekchhaul.specs.Queues.{contents}
+use Rattle.nekchhaul.specs.Answer.{Answer}
+use Rattle.nekchhaul.specs.Outcome.{Outcome}
 use Rattle.example_jobs.specs.declared.hands.Hand.{Hand}
 use Rattle.example_jobs.specs.declared.plan.Plan.{Plan}
 

@@ -1,12 +1,12 @@
 -- What callers do to the queue, by their entries in the history.
 use Rattle.std.specs.Prelude.{ℕ, ◌≡◌, ◌<◌, ◌^◌, ◌⊎◌, List, [], ◌∷◌, ◌++◌, Option, Some, None}
-use Rattle.stm_model.specs.Histories.{Entry}
-use Rattle.stm_model.specs.Logs.{Log}
-use Rattle.tx_answers.specs.Known.{no_log}
-use Rattle.tx_effects.specs.Effects.{DoesOver}
-use Rattle.tx_queue.specs.declared.queue.Put.TheVariants.{Added}
-use Rattle.tx_queue.specs.declared.queue.Queue.{Queue}
-use Rattle.tx_queue.specs.Queues.{IsQueue, put_in, got_in}
+use Rattle.nekchhaul.specs.Histories.{Entry}
+use Rattle.nekchhaul.specs.Logs.{Log}
+use Rattle.nekchhaul.specs.Known.{no_log}
+use Rattle.nekchhaul.specs.Effects.{DoesOver}
+use Rattle.nekchhaul.specs.Put.TheVariants.{Added}
+use Rattle.nekchhaul.specs.Queue.{Queue}
+use Rattle.nekchhaul.specs.Queues.{IsQueue, put_in, got_in}
 
 -- what a transaction read and wrote
 abbrev pub log_of : Entry → Log

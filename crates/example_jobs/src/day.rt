@@ -6,14 +6,11 @@ ghost use Rattle.example_jobs.specs.Days.{IsPlan, IsDay, EachTakenOnce, IsWhole,
 use crate::hands::{Hand, Shift};
 use crate::jobs::Jobs;
 use crate::plan::Plan;
+use nekchhaul::queue::{Queue, contents_change, queues_are_apart};
+use nekchhaul::{Alg, Answer, NewError, Outcome, sizes, with_memory};
 use std::alloc::Global;
 use std::sync::Wait;
 use std::thread::Threads;
-use stm_tx::{Alg, NewError};
-use tx_queue::laws::{contents_change, queues_are_apart};
-use tx_queue::queue::Queue;
-use tx_start::memory::{Answer, Outcome, with_memory};
-use tx_start::sizes::sizes;
 
 /// A day of work by this plan under this algorithm, each caller on a thread of its own.
 ///

@@ -1,19 +1,17 @@
 //! What a caller does: it gives the jobs that are its own, or takes its share of them.
 ghost use Rattle.std.specs.Prelude.{◌≡◌, ◌≤◌, ◌<◌, ◌+◌, ◌^◌, [], ◌∷◌, if◌then◌else◌};
 ghost use Rattle.std.specs.List.{range_with_len};
-ghost use Rattle.tx_queue.specs.Queues.{QueueFits};
-ghost use Rattle.stm_tx.specs.Descs.{known};
-ghost use Rattle.tx_atomic.specs.Callers.{HasWorked};
+ghost use Rattle.nekchhaul.specs.Queues.{QueueFits};
+ghost use Rattle.nekchhaul.specs.Descs.{known};
+ghost use Rattle.nekchhaul.specs.Callers.{HasWorked};
 ghost use Rattle.example_jobs.specs.Deeds.{HasDone, listed};
 
 use crate::jobs::{Give, Jobs, Take};
 use crate::plan::Plan;
+use nekchhaul::queue::Put;
+use nekchhaul::{Backoff, Caller, Job};
 use std::alloc::Global;
 use std::sync::Wait;
-use tx_backoff::Backoff;
-use tx_queue::queue::Put;
-use tx_start::caller::Caller;
-use tx_start::job::Job;
 
 /// So often a caller comes again where the queue has no room, or no job.
 const PATIENCE: u32 = 1_000_000;
@@ -34,7 +32,7 @@ pub struct Shift {
 
 impl<R: Wait> Job<R, Jobs> for Shift {
     ghost use Rattle.std.specs.Prelude.{◌≡◌, ◌≤◌};
-    ghost use Rattle.tx_queue.specs.Queues.{QueueFits};
+    ghost use Rattle.nekchhaul.specs.Queues.{QueueFits};
     ghost use Rattle.example_jobs.specs.Days.{IsPlan, given_by, quota};
     ghost use Rattle.example_jobs.specs.Deeds.{HasDone};
 

@@ -1,8 +1,7 @@
 //! The queue of jobs: its rule, and its two transactions.
 
-use stm_tx::{Access, MemRule, Stop};
-use tx_atomic::transaction::Transaction;
-use tx_queue::queue::{Put, Queue};
+use nekchhaul::queue::{Put, Queue};
+use nekchhaul::{Access, MemRule, Stop, Transaction};
 
 /// The rule: the queue of the jobs that wait is well formed.
 #[derive(Clone, Copy, Drop, Debug, PartialEq, Eq)]
@@ -11,7 +10,7 @@ pub struct Jobs {
 }
 
 impl MemRule for Jobs {
-    ghost use Rattle.tx_queue.specs.Queues.{IsQueue};
+    ghost use Rattle.nekchhaul.specs.Queues.{IsQueue};
 
     ghost good = { λ jobs memory. IsQueue jobs.waiting memory };
 }
@@ -23,9 +22,9 @@ pub struct Give {
 }
 
 impl Transaction<Jobs> for Give {
-    ghost use Rattle.tx_answers.specs.Known.{no_log};
-    ghost use Rattle.tx_effects.specs.Effects.{DoesOver};
-    ghost use Rattle.tx_queue.specs.Queues.{IsQueue, QueueFits, put_in};
+    ghost use Rattle.nekchhaul.specs.Known.{no_log};
+    ghost use Rattle.nekchhaul.specs.Effects.{DoesOver};
+    ghost use Rattle.nekchhaul.specs.Queues.{IsQueue, QueueFits, put_in};
 
     type Output = Put;
 
@@ -44,9 +43,9 @@ impl Transaction<Jobs> for Give {
 pub struct Take;
 
 impl Transaction<Jobs> for Take {
-    ghost use Rattle.tx_answers.specs.Known.{no_log};
-    ghost use Rattle.tx_effects.specs.Effects.{DoesOver};
-    ghost use Rattle.tx_queue.specs.Queues.{IsQueue, QueueFits, got_in};
+    ghost use Rattle.nekchhaul.specs.Known.{no_log};
+    ghost use Rattle.nekchhaul.specs.Effects.{DoesOver};
+    ghost use Rattle.nekchhaul.specs.Queues.{IsQueue, QueueFits, got_in};
 
     type Output = Option<u32>;
 

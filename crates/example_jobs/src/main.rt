@@ -8,8 +8,8 @@ mod plan;
 
 use crate::day::{is_done, sum_of, work_off};
 use crate::plan::Plan;
+use nekchhaul::ALGORITHMS;
 use std::process::ExitCode;
-use stm_tx::ALGORITHMS;
 
 const PLAN: Plan = Plan {
     producers: 4,

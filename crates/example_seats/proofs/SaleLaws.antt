@@ -3,21 +3,21 @@ use Rattle.std.proofs.Common.{ℕ, zero, suc, ◌≡◌, ◌≤◌, ◌+◌, Lis
 use Rattle.std.specs.Prelude.{if◌then◌else◌, not, ◌==◌}
 use Rattle.std.proofs.lemmas.Bool.Decides.{nat_tests}
 use Rattle.std.proofs.lemmas.List.{length-replicate}
-use Rattle.stm_model.specs.declared.config.Config.{Config}
-use Rattle.stm_model.specs.Histories.{Entry, made_by}
-use Rattle.stm_model.specs.HistoryLaws.{length-memory_at}
-use Rattle.stm_model.specs.Logs.{Log}
-use Rattle.stm_model.specs.Memories.{is_empty}
-use Rattle.stm_rule.specs.Callers.{BeginsHistory}
-use Rattle.tx_effects.specs.declared.insert.Insert.{Insert}
-use Rattle.tx_effects.specs.declared.insert.Insert.TheVariants.{Added, Present}
-use Rattle.tx_effects.specs.Effects.{Does, DoesOver, unchanged}
-use Rattle.tx_effects.specs.Keys.{has, free_from}
-use Rattle.tx_tree.specs.Trees.{IsTree, keys, tag, inserted_by, inserted_in}
-use Rattle.tx_answers.specs.Known.{Known, Grows, no_log}
-use Rattle.tx_atomic.specs.Attempts.{TookEffect}
-use Rattle.tx_atomic.specs.Moments.{Happened}
-use Rattle.tx_atomic.specs.MomentLaws.{happened}
+use Rattle.nekchhaul.specs.Config.{Config}
+use Rattle.nekchhaul.specs.Histories.{Entry, made_by}
+use Rattle.nekchhaul.specs.HistoryLaws.{length-memory_at}
+use Rattle.nekchhaul.specs.Logs.{Log}
+use Rattle.nekchhaul.specs.Memories.{is_empty}
+use Rattle.nekchhaul.specs.Handles.{BeginsHistory}
+use Rattle.nekchhaul.specs.Insert.{Insert}
+use Rattle.nekchhaul.specs.Insert.TheVariants.{Added, Present}
+use Rattle.nekchhaul.specs.Effects.{Does, DoesOver, unchanged}
+use Rattle.nekchhaul.specs.Keys.{has, free_from}
+use Rattle.nekchhaul.specs.Trees.{IsTree, keys, tag, inserted_by, inserted_in}
+use Rattle.nekchhaul.specs.Known.{Known, Grows, no_log}
+use Rattle.nekchhaul.specs.Attempts.{TookEffect}
+use Rattle.nekchhaul.specs.Moments.{Happened}
+use Rattle.nekchhaul.specs.MomentLaws.{happened}
 use Rattle.example_seats.specs.declared.hall.Seats.{Seats}
 use Rattle.example_seats.specs.declared.sale.TheConstants.{CONFIG, HALL}
 use Rattle.example_seats.specs.Sales.{Answered, free_hall, hall_at, seats_taken}

@@ -1,10 +1,10 @@
 -- What a sale comes to.
 use Rattle.std.specs.Prelude.{ℕ, suc, ◌≡◌, ◌≤◌, ◌+◌, List, length, replicate, Option, Some, None, IfSome}
-use Rattle.stm_model.specs.Histories.{Entry, IsLegal, memory_at}
-use Rattle.stm_model.specs.HistoryLaws.{Within}
-use Rattle.tx_effects.specs.declared.insert.Insert.{Insert}
-use Rattle.tx_effects.specs.declared.insert.Insert.TheVariants.{Added, Present, NoRoom}
-use Rattle.tx_tree.specs.Trees.{IsTree, inserted_in}
+use Rattle.nekchhaul.specs.Histories.{Entry, IsLegal, memory_at}
+use Rattle.nekchhaul.specs.HistoryLaws.{Within}
+use Rattle.nekchhaul.specs.Insert.{Insert}
+use Rattle.nekchhaul.specs.Insert.TheVariants.{Added, Present, NoRoom}
+use Rattle.nekchhaul.specs.Trees.{IsTree, inserted_in}
 use Rattle.example_seats.specs.declared.sale.Sale.{Sale}
 use Rattle.example_seats.specs.declared.sale.TheConstants.{HALL}
 

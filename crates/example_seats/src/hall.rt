@@ -1,9 +1,7 @@
 //! A hall: its rule, and its one transaction.
 
-use stm_tx::{Access, MemRule, Stop};
-use tx_atomic::transaction::Transaction;
-use tx_effects::insert::Insert;
-use tx_tree::tree::Tree;
+use nekchhaul::tree::{Insert, Tree};
+use nekchhaul::{Access, MemRule, Stop, Transaction};
 
 /// The rule: the set of the seats that are taken is well formed.
 #[derive(Clone, Copy, Drop, Debug, PartialEq, Eq)]
@@ -12,7 +10,7 @@ pub struct Seats {
 }
 
 impl MemRule for Seats {
-    ghost use Rattle.tx_tree.specs.Trees.{IsTree};
+    ghost use Rattle.nekchhaul.specs.Trees.{IsTree};
 
     ghost good = { λ seats memory. IsTree seats.taken memory };
 }
@@ -24,9 +22,9 @@ pub struct Take {
 }
 
 impl Transaction<Seats> for Take {
-    ghost use Rattle.tx_answers.specs.Known.{no_log};
-    ghost use Rattle.tx_effects.specs.Effects.{DoesOver};
-    ghost use Rattle.tx_tree.specs.Trees.{IsTree, TreeFits, inserted_in};
+    ghost use Rattle.nekchhaul.specs.Known.{no_log};
+    ghost use Rattle.nekchhaul.specs.Effects.{DoesOver};
+    ghost use Rattle.nekchhaul.specs.Trees.{IsTree, TreeFits, inserted_in};
 
     type Output = Insert;
 

@@ -5,8 +5,8 @@ mod hall;
 mod sale;
 
 use crate::sale::sell;
+use nekchhaul::tree::Insert;
 use std::process::ExitCode;
-use tx_effects::insert::Insert;
 
 fn told(came: Option<Insert>) -> &'static str {
     match came {

@@ -3,14 +3,10 @@ ghost use Rattle.std.specs.Prelude.{IfOk};
 ghost use Rattle.example_seats.specs.Sales.{IsSale};
 
 use crate::hall::{Seats, Take};
+use nekchhaul::tree::{Insert, Tree, trees_are_apart};
+use nekchhaul::{Config, NewError, Pace, Stm, atomically, close};
 use std::alloc::Global;
 use std::sync::Wait;
-use stm_tx::{Config, NewError, Stm, close};
-use tx_atomic::atomically::atomically;
-use tx_atomic::pace::Pace;
-use tx_effects::insert::Insert;
-use tx_tree::laws::trees_are_apart;
-use tx_tree::tree::Tree;
 
 /// The hall: a tree of n cells takes 1 + 3n words.
 const HALL: Tree = Tree { at: 0, cells: 10 };

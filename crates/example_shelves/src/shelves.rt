@@ -105,7 +105,7 @@ impl Transaction<AnyMem> for Store {
         match wholly(&shelves, rule, memory, room)? {
             Outcome::Done(shelf) => Ok(Stored::On(shelf)),
             Outcome::GaveWay => Ok(Stored::Nowhere),
-            Outcome::NoRoom { .. } => Ok(Stored::Refused),
+            Outcome::NoRoom { .. } | Outcome::NoMemory => Ok(Stored::Refused),
         }
     }
 }

@@ -61,6 +61,7 @@ fn other_call(
             Some(alg) => said(alloc, caller.switch(alg))?,
             None => return Ok(None),
         },
+        "reopen" => said(alloc, caller.reopen())?,
         "checkpoint" => said(alloc, caller.checkpoint())?,
         "roll_to" => said(alloc, caller.roll_to(at))?,
         "drop_marks" => said(alloc, caller.drop_marks(at))?,

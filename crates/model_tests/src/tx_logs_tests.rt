@@ -38,10 +38,6 @@ fn a_log_finds_its_addresses_below_and_above_eight_items(rt: HostRuntime) -> Res
     assert_eq!(rt; log.find(5), Some(0));
     let count = log.count();
     assert!(rt; count == 12);
-    log.truncate(6);
-    assert_eq!(rt; log.find(64 * 5 + 5), Some(5));
-    assert_eq!(rt; log.find(64 * 6 + 5), None);
-    assert_eq!(rt; log.probes(64 * 6 + 5), 7);
     Ok(())
 }
 

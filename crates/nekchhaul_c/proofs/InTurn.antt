@@ -1,5 +1,6 @@
 -- One read more behind those that were made.
-use Rattle.std.proofs.Common.{ℕ, zero, suc, ◌≡◌, ◌≢◌, ◌<◌, ◌≤◌, ◌+◌, ◌∙◌, List, [], ◌∷◌, ◌++◌, length, take, get_or, set, refl, sym, ap, subst, arith}
+use Rattle.std.specs.Prelude.{slice_index}
+use Rattle.std.proofs.Common.{get_or-set_other, ℕ, zero, suc, ◌≡◌, ◌≢◌, ◌<◌, ◌≤◌, ◌+◌, ◌∙◌, List, [], ◌∷◌, ◌++◌, length, take, get_or, set, refl, sym, ap, subst, arith}
 use Rattle.std.specs.Prelude.{Result, Ok, Err}
 use Rattle.tx_answers.specs.declared.answers.Read.{Read}
 use Rattle.tx_answers.specs.declared.answers.Read.TheVariants.{Value}
@@ -38,13 +39,22 @@ pub same-after : (a : ℕ) (r : Result Read Misuse) (m k n : Member) → IsSameM
 same-after a (Ok answer) m k n s h = record { stm = h.1.stm ∙ s.stm; caller = record { table = h.1.caller.table ∙ s.caller.table; who = h.1.caller.who ∙ s.caller.who } }
 same-after a (Err e) m k n s h = subst (IsSameMember m) (sym h.1) s
 
-pub stopped : (n : ℕ) (at old xs : List ℕ) (status : ℕ) (r : Result Read Misuse) (m k o : Member) → n < length at → length at ≤ length old → IsSameMember m k → ReadsInTurn (take n at) (take n xs) m k → ReadTells (get_or at n 0) r k o
+-- the places from n on are as they were
+abbrev pub IsKeptFrom : ℕ → List ℕ → List ℕ → Type 0
+IsKeptFrom n old xs = (i : ℕ) → n ≤ i → slice_index xs i ≡ slice_index old i
+
+pub kept-more : (n x : ℕ) (old xs : List ℕ) → IsKeptFrom n old xs → IsKeptFrom (n + 1) old (set xs n x)
+kept-more n x old xs h = λ i le. let ne : i ≢ n = omega (arith, le) in rw get_or-set_other (h i (omega (arith, le)))
+
+pub stopped : (n : ℕ) (at old xs : List ℕ) (status : ℕ) (r : Result Read Misuse) (m k o : Member) → n < length at → length at ≤ length old → length xs ≡ length old → IsKeptFrom n old xs → IsSameMember m k → ReadsInTurn (take n at) (take n xs) m k → ReadTells (get_or at n 0) r k o
     → status ≡ read_code r → status ≢ 0 → ReadManySays at old xs status m o
-stopped n at old xs status r m k o low room same read tells number high = record {
+stopped n at old xs status r m k o low room long kept same read tells number high = record {
   same = same-after (get_or at n 0) r m k o same tells;
+  long = long;
+  beyond = λ i le. kept i (omega (arith, le, low));
   room = λ lt. absurd (omega (arith, lt, room));
   read = λ z. absurd (high z);
-  stops = λ le ne. record { count = n; low = low; before = k; read = read; answer = r; number = number; tells = tells };
+  stops = λ le ne. record { count = n; low = low; before = k; read = read; beyond = kept; answer = r; number = number; tells = tells };
 }
 
 pub misuse-high : (e : Misuse) → misuse_code e ≡ 0 → ⊥
@@ -60,3 +70,5 @@ misuse-high wrong.Depth h = cc
 misuse-high wrong.Logs h = cc
 misuse-high wrong.Room h = cc
 misuse-high wrong.Stranger h = cc
+misuse-high wrong.Closing h = cc
+misuse-high wrong.NotClosing h = cc

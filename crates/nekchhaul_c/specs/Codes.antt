@@ -1,5 +1,5 @@
 -- The numbers of the answers.
-use Rattle.std.specs.Prelude.{ℕ, Bool, true, false, Result, Ok, Err}
+use Rattle.std.specs.Prelude.{ℕ, Result, Ok, Err}
 use Rattle.stm_model.specs.declared.memory.Memory.{Memory}
 use Rattle.stm_rule.specs.declared.refusal.NewError.{NewError}
 use Rattle.stm_rule.specs.declared.refusal.NewError.TheVariants as sizes
@@ -41,6 +41,8 @@ misuse_code wrong.Depth = 30
 misuse_code wrong.Logs = 31
 misuse_code wrong.Room = 32
 misuse_code wrong.Stranger = 39
+misuse_code wrong.Closing = 40
+misuse_code wrong.NotClosing = 41
 
 abbrev pub refusal_code : Refusal → ℕ
 refusal_code (refusals.Conflict cause) = 1
@@ -103,11 +105,6 @@ grant_code (Ok (grants.Conflict cause)) = 1
 grant_code (Ok (grants.ClockFull clock)) = 7
 grant_code (Err e) = misuse_code e
 
-abbrev pub switch_code : Result Bool Misuse → ℕ
-switch_code (Ok true) = 0
-switch_code (Ok false) = 4
-switch_code (Err e) = misuse_code e
-
 abbrev pub mark_code : Result Check Misuse → ℕ
 mark_code (Ok (checks.Marked depth)) = 0
 mark_code (Ok (checks.Deep limit)) = 9
@@ -164,4 +161,4 @@ size_code sizes.Memory = 23
 abbrev pub open_code : OpenError → ℕ
 open_code (opens.Refused e) = size_code e
 open_code opens.Memory = 23
-open_code opens.Busy = 4
+open_code (opens.Busy e) = 4

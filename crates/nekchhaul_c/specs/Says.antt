@@ -2,13 +2,14 @@
 use Rattle.std.specs.Prelude.{ℕ, ◌≡◌, ◌==◌, if◌then◌else◌, List, length, Option, Some, None, Result, IfErr}
 use Rattle.stm_model.specs.declared.alg.Alg.{Alg}
 use Rattle.stm_model.specs.declared.alg.Alg.TheVariants.{Cgl, Tml, OrecLazy, OrecEager, RingSw, Serial}
-use Rattle.nekchhaul_c.specs.Codes.{done_code, switch_code, taken_code}
+use Rattle.nekchhaul_c.specs.Codes.{done_code, misuse_code, taken_code}
+use Rattle.tx_checked.specs.declared.errand.Errand.TheVariants.{Switch}
 use Rattle.tx_checked.specs.declared.member.Member.{Member}
 use Rattle.tx_checked.specs.declared.misuse.Misuse.{Misuse}
 use Rattle.tx_checked.specs.declared.refusal.Refusal.{Refusal}
 use Rattle.tx_checked.specs.Learning.{HasLearned, TellsKin, meeting}
 use Rattle.tx_checked.specs.Members.{IsUntouched}
-use Rattle.tx_checked.specs.Misuses.{outside, ending}
+use Rattle.tx_checked.specs.Misuses.{doing, outside, ending}
 use Rattle.tx_checked.specs.Endings.{HasEnded}
 use Rattle.tx_checked.specs.Tells.{Tells, HasSwitched}
 
@@ -27,12 +28,12 @@ Says {A = A} code wrong Told k m n = (r : Result A Misuse) × (k ≡ code r) × 
 abbrev pub SaysWord : {A : Type 0} → (Result A Misuse → ℕ) → (Result A Misuse → ℕ → ℕ) → ℕ → ℕ → (Member → Option Misuse) → (Member → Member → A → Type 0) → ℕ → Member → Member → Type 0
 SaysWord {A = A} code word old new wrong Told k m n = (r : Result A Misuse) × (k ≡ code r) × (new ≡ word r old) × Tells (wrong m) (Told m n) m n r
 
--- only a caller in no attempt is let go, and then the handle holds none
+-- only a caller in no attempt that hasn't closed the gate is let go, and then the handle holds none
 abbrev pub LetsGo : ℕ → Option Member → Option Member → Type 0
 LetsGo k None None = k ≡ 16
 LetsGo k None (Some n) = ⊥
 LetsGo k (Some m) None = (k ≡ 0) × (outside m ≡ None)
-LetsGo k (Some m) (Some n) = (k ≡ 18) × (n ≡ m)
+LetsGo k (Some m) (Some n) = (e : Misuse) × (k ≡ misuse_code e) × (outside m ≡ Some e) × (n ≡ m)
 
 -- algorithms by their number
 abbrev pub algorithm_numbered : ℕ → Option Alg
@@ -40,7 +41,7 @@ algorithm_numbered n = if n == 0 then Some Cgl else (if n == 1 then Some Tml els
 
 abbrev pub InstallSays : Option Alg → ℕ → Option Member → Option Member → Type 0
 InstallSays None k old new = (k ≡ 21) × (new ≡ old)
-InstallSays (Some alg) k old new = Holds (k ≡ 16) (Says switch_code outside (HasSwitched alg) k) old new
+InstallSays (Some alg) k old new = Holds (k ≡ 16) (Says taken_code (doing (Switch alg)) (HasSwitched alg) k) old new
 
 abbrev pub SwitchSays : ℕ → ℕ → Option Member → Option Member → Type 0
 SwitchSays number k old new = InstallSays (algorithm_numbered number) k old new

@@ -1,5 +1,5 @@
 -- What C is shown of a caller.
-use Rattle.std.specs.Prelude.{ℕ, ◌≡◌, ◌&&◌, is_some, Option, Some, None}
+use Rattle.std.specs.Prelude.{ℕ, ◌≡◌, ◌&&◌, ◌+◌, ◌*◌, is_some, Option, Some, None}
 use Rattle.core.specs.Int.{from_bool}
 use Rattle.nekchhaul_c.specs.declared.asking.State.{State}
 use Rattle.nekchhaul_c.specs.declared.asking.Why.{Why}
@@ -13,18 +13,18 @@ use Rattle.tx_answers.specs.declared.answers.TxState.TheVariants as states
 use Rattle.tx_checked.specs.declared.member.Member.{Member}
 use Rattle.tx_checked.specs.declared.refusal.Refusal.{Refusal}
 use Rattle.tx_checked.specs.declared.refusal.Refusal.TheVariants as refusals
-use Rattle.tx_checked.specs.Members.{known_to}
+use Rattle.tx_checked.specs.Members.{is_beside, known_to}
 
 -- a caller is asked, and stays as it is
 abbrev pub Shows : ℕ → (Member → Type 0) → Member → Member → Type 0
 Shows k Shown m n = (k ≡ 0) × (n ≡ m) × Shown m
 
--- 0 in no attempt, 1 in one, 2 in the middle of its commit
+-- 0 in no attempt, 1 in one, 2 in the middle of its commit, 3 with the gate closed
 abbrev pub stand_number : TxState → ℕ
 stand_number states.Idle = 0
 stand_number (states.Running alg) = 1
 stand_number (states.Committing alg) = 2
-stand_number (states.Closing alg) = 0
+stand_number (states.Closing alg) = 3
 
 abbrev pub state_algorithm : TxState → ℕ
 state_algorithm states.Idle = 0
@@ -38,7 +38,7 @@ state_shown m = let v = known_to m in record {
   stand = stand_number (state_of v);
   algorithm = state_algorithm (state_of v);
   irrevocable = from_bool (v.running && is_irrevocable v);
-  range = from_bool (is_some m.range);
+  range = from_bool (is_some m.range) + 2 * from_bool (is_beside v);
 }
 
 abbrev pub shown : ℕ → ℕ → ℕ → ℕ → ℕ → Why

@@ -17,9 +17,9 @@ use tx_checked::refusal::Refusal;
 /// The version of this interface: 65,536 times the major number, and the minor one.
 #[unsafe(no_mangle)]
 pub extern "C" fn nekchhaul_version() -> u32
-    ensures { result ≡ 65536 }
+    ensures { result ≡ 65537 }
 {
-    65536
+    65537
 }
 
 /// Makes the caller's logs longer.
@@ -46,13 +46,13 @@ pub extern "C" fn nekchhaul_reserve(
 pub struct State {
     /// How many marks stand.
     pub marks: usize,
-    /// 0 in no attempt, 1 in one, 2 in the middle of its commit.
+    /// 0 in no attempt, 1 in one, 2 in the middle of its commit, 3 with the gate closed for a call that isn't done.
     pub stand: u32,
     /// The algorithm of its attempt, or 0.
     pub algorithm: u32,
     /// 1 where its attempt can only be committed.
     pub irrevocable: u32,
-    /// 1 where it has a range out of the transactions.
+    /// 1 where it has a range out of the transactions, and 2 more where one was out as its attempt began.
     pub range: u32,
 }
 
@@ -78,7 +78,7 @@ fn state_of(member: &Member) -> State
         stand: stand_of(state),
         algorithm: algorithm_of(state),
         irrevocable: u32::from(member.is_irrevocable()),
-        range: u32::from(member.range.is_some()),
+        range: u32::from(member.range.is_some()) + 2 * u32::from(member.is_beside()),
     }
 }
 
@@ -86,9 +86,10 @@ fn stand_of(state: TxState) -> u32
     ensures { result ≡ stand_number state }
 {
     match state {
-        TxState::Idle | TxState::Closing(_) => 0,
+        TxState::Idle => 0,
         TxState::Running(_) => 1,
         TxState::Committing(_) => 2,
+        TxState::Closing(_) => 3,
     }
 }
 

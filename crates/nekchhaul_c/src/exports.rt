@@ -1,15 +1,15 @@
 //! The calls of an attempt, and the gate, for C.
 ghost use Rattle.std.specs.Prelude.{◌≡◌};
-ghost use Rattle.nekchhaul_c.specs.Codes.{begin_code, read_code, read_value, write_code, commit_code, cancel_code, grant_code, switch_code};
+ghost use Rattle.nekchhaul_c.specs.Codes.{begin_code, read_code, read_value, write_code, commit_code, cancel_code, grant_code, taken_code, done_code};
 ghost use Rattle.nekchhaul_c.specs.Says.{Holds, LetsGo, Says, SaysWord, SwitchSays, algorithm_numbered};
-ghost use Rattle.tx_checked.specs.Misuses.{outside, inside, running, access};
-ghost use Rattle.tx_checked.specs.Tells.{HasBegun, HasReadWord, HasWrittenWord, HasCommitted, HasCancelled, IsIrrevocable, HasSwitched};
+ghost use Rattle.tx_checked.specs.declared.errand.Errand.TheVariants.{Switch};
+ghost use Rattle.tx_checked.specs.Misuses.{outside, doing, reopening, inside, running, access};
+ghost use Rattle.tx_checked.specs.Tells.{HasBegun, HasReadWord, HasWrittenWord, HasCommitted, HasCancelled, IsIrrevocable, HasSwitched, HasReopened};
 
 use crate::handle::Handle;
 use crate::status;
 use std::alloc::Global;
 use stm_model::alg::Alg;
-use tx_checked::stand::Stand;
 
 /// Tries to begin an attempt.
 #[unsafe(no_mangle)]
@@ -100,7 +100,7 @@ pub extern "C" fn nekchhaul_become_irrevocable(alloc: Global, caller: &mut Handl
     answer
 }
 
-/// Installs an algorithm, by its number, where no other caller is in the way.
+/// Installs an algorithm, by its number, once no other caller is in an attempt.
 #[unsafe(no_mangle)]
 pub extern "C" fn nekchhaul_switch(alloc: Global, caller: &mut Handle, algorithm: u32) -> u32
     ensures { SwitchSays algorithm result caller.old.inside caller.new.inside }
@@ -112,12 +112,25 @@ pub extern "C" fn nekchhaul_switch(alloc: Global, caller: &mut Handle, algorithm
 }
 
 fn install(alloc: Global, caller: &mut Handle, alg: Alg) -> u32
-    ensures { Holds (result ≡ 16) (Says switch_code outside (HasSwitched alg) result) caller.old.inside caller.new.inside }
+    ensures { Holds (result ≡ 16) (Says taken_code (doing (Switch alg)) (HasSwitched alg) result) caller.old.inside caller.new.inside }
 {
     let Some(mut member) = caller.take(alloc) else {
         return status::NO_CALLER;
     };
-    let answer = status::of_switch(member.switch(alg));
+    let answer = status::of_taken(member.switch(alg));
+    caller.hold(member);
+    answer
+}
+
+/// Gives up the call for which the caller has closed the gate.
+#[unsafe(no_mangle)]
+pub extern "C" fn nekchhaul_reopen(alloc: Global, caller: &mut Handle) -> u32
+    ensures { Holds (result ≡ 16) (Says done_code reopening HasReopened result) caller.old.inside caller.new.inside }
+{
+    let Some(mut member) = caller.take(alloc) else {
+        return status::NO_CALLER;
+    };
+    let answer = status::of_done(member.reopen());
     caller.hold(member);
     answer
 }
@@ -137,7 +150,7 @@ pub(crate) fn algorithm_of(number: u32) -> Option<Alg>
     }
 }
 
-/// Lets a caller go that is in no attempt. The memory goes with the last of its callers.
+/// Lets a caller go that is in no attempt and hasn't closed the gate. The memory goes with the last of its callers.
 #[unsafe(no_mangle)]
 pub extern "C" fn nekchhaul_release(alloc: Global, caller: &mut Handle) -> u32
     ensures { LetsGo result caller.old.inside caller.new.inside }
@@ -145,10 +158,14 @@ pub extern "C" fn nekchhaul_release(alloc: Global, caller: &mut Handle) -> u32
     let Some(member) = caller.take(alloc) else {
         return status::NO_CALLER;
     };
-    let Stand::Idle = member.stand else {
-        caller.hold(member);
-        return status::IN_ATTEMPT;
-    };
-    drop(member);
-    status::OK
+    match member.may_leave() {
+        Ok(()) => {
+            drop(member);
+            status::OK
+        }
+        Err(misuse) => {
+            caller.hold(member);
+            status::of_misuse(misuse)
+        }
+    }
 }

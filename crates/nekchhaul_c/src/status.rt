@@ -1,7 +1,7 @@
 //! The numbers by which C learns what a call came to. They are never given another meaning: `capi/include/nekchhaul.h`
 //! has them too.
 ghost use Rattle.std.specs.Prelude.{◌≡◌};
-ghost use Rattle.nekchhaul_c.specs.Codes.{misuse_code, refusal_code, begin_code, read_code, read_value, write_code, commit_code, cancel_code, grant_code, switch_code, mark_code, mark_value, roll_code, done_code, word_code, word_value, taken_code, given_code, reserved_code, open_code};
+ghost use Rattle.nekchhaul_c.specs.Codes.{misuse_code, refusal_code, begin_code, read_code, read_value, write_code, commit_code, cancel_code, grant_code, mark_code, mark_value, roll_code, done_code, word_code, word_value, taken_code, given_code, reserved_code, open_code};
 
 use stm_model::memory::Memory;
 use stm_rule::refusal::NewError;
@@ -76,6 +76,10 @@ pub(crate) const SIZE_CLOCK: u32 = 38;
 
 pub(crate) const STRANGER: u32 = 39;
 
+pub(crate) const CLOSING: u32 = 40;
+
+pub(crate) const NOT_CLOSING: u32 = 41;
+
 pub(crate) fn of_misuse(misuse: Misuse) -> u32
     ensures { result ≡ misuse_code misuse }
 {
@@ -92,6 +96,8 @@ pub(crate) fn of_misuse(misuse: Misuse) -> u32
         Misuse::Logs => LOGS,
         Misuse::Room => ROOM,
         Misuse::Stranger => STRANGER,
+        Misuse::Closing => CLOSING,
+        Misuse::NotClosing => NOT_CLOSING,
     }
 }
 
@@ -197,16 +203,6 @@ pub(crate) fn of_grant(answer: Result<Irrev, Misuse>) -> u32
     }
 }
 
-pub(crate) fn of_switch(answer: Result<bool, Misuse>) -> u32
-    ensures { result ≡ switch_code answer }
-{
-    match answer {
-        Ok(true) => OK,
-        Ok(false) => BUSY,
-        Err(misuse) => of_misuse(misuse),
-    }
-}
-
 pub(crate) fn of_mark(answer: Result<Check, Misuse>) -> u32
     ensures { result ≡ mark_code answer }
 {
@@ -307,6 +303,6 @@ pub(crate) fn of_open(error: OpenError) -> u32
         OpenError::Refused(NewError::Logs) => SIZE_LOGS,
         OpenError::Refused(NewError::Clock) => SIZE_CLOCK,
         OpenError::Refused(NewError::Memory) | OpenError::Memory => MEMORY,
-        OpenError::Busy => BUSY,
+        OpenError::Busy(_) => BUSY,
     }
 }

@@ -34,9 +34,7 @@ pub struct Counts {
     pub back: AtomicUsize,
     /// Those that committed and had found something wrong.
     pub wrong: AtomicUsize,
-    /// 1 while the caller that takes the range waits for the others to be idle.
-    pub asks: AtomicUsize,
-    /// 1 once it is through.
+    /// 1 once the caller that takes the range is through.
     pub through: AtomicUsize,
 }
 
@@ -47,7 +45,6 @@ impl Counts {
             out: AtomicUsize::new(0),
             back: AtomicUsize::new(0),
             wrong: AtomicUsize::new(0),
-            asks: AtomicUsize::new(0),
             through: AtomicUsize::new(0),
         }
     }
@@ -61,18 +58,6 @@ impl Counts {
             &self.back
         };
         count.fetch_add(1, Ordering::SeqCst);
-    }
-
-    pub fn ask(&self) {
-        self.asks.store(1, Ordering::SeqCst);
-    }
-
-    pub fn thank(&self) {
-        self.asks.store(0, Ordering::SeqCst);
-    }
-
-    pub fn is_asked(&self) -> bool {
-        self.asks.load(Ordering::SeqCst) > 0
     }
 
     pub fn is_through(&self) -> bool {

@@ -80,18 +80,14 @@ pub fn attempt<R: Wait>(rt: &R, member: &mut Member, from: usize, to: usize) -> 
     if end(rt, member) { Some(sight) } else { None }
 }
 
-/// Makes attempts, each from another word to another one, until the caller that takes the range is through. Who asks for
-/// idle callers gets them: else three that are always at work would keep it from ever being alone.
+/// Makes attempts, each from another word to another one, until the caller that takes the range is through. It never makes
+/// room for that one.
 pub fn move_often<R: Wait>(rt: &R, member: &mut Member, counts: &Counts) {
     let mut backoff = Backoff::new();
     let mut i: usize = 0;
     for _ in rt.forever() {
         if counts.is_through() {
             return;
-        }
-        if counts.is_asked() {
-            backoff.wait();
-            continue;
         }
         match attempt(rt, member, i % 8, i / 8 % 8) {
             Some(sight) => {

@@ -13,5 +13,3 @@ pub record Own : Type 0 where
   -- how many marks stand; and while the attempt can be taken back, what it had written at each, the oldest first
   pub depth : ℕ
   pub marks : List (List (ℕ × ℕ))
-  -- it was rolled back to a mark in place, and may hold records of what was taken back
-  pub retains : Bool

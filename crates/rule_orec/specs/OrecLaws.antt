@@ -456,7 +456,7 @@ module _ (good : (ℕ → ℕ) → Type 0) (c : Config) where
     }
 
     orec_lifts-next : (least : ℕ) (w : World) → OrecWorld good c w → CanOrecLift least (w.views n) → Nexts (orec_scene w) (scene_put w (world_after (orec_lift least) n w) n (view_after (orec_lift least) w (w.views n) w.clock))
-    orec_lifts-next least w r may = owning.lift-kept (home_of c) c.words (orec_scene w) n (max w.clock least) may.has.inside (grind (arith, nat_tests)) (λ q t. let k = may.above q t in grind (arith, nat_tests)) (full-world w r)
+    orec_lifts-next least w r may = owning.lift-kept (home_of c) c.words (orec_scene w) n (max w.clock least) may.has.inside may.restored (grind (arith, nat_tests)) (λ q t. let k = may.above q t in grind (arith, nat_tests)) (full-world w r)
 
     pub orec_lifts : (least : ℕ) → n < c.callers → StepLaw (OrecWorld good c) (orec_lift least) Nothing n (CanOrecLift least)
     orec_lifts least low w r may = record {

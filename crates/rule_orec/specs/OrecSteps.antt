@@ -335,7 +335,7 @@ pub record CanOrecPlace (a : ℕ) (v : View) : Type 0 where
   pub eager : v.owned.eager ≡ true
   pub undoable : touches v.owned.undo a ≡ true
 
--- store the old value back
+-- store the old value back; it stays in the undo log
 abbrev pub orec_restore : ℕ → ℕ → StepKind
 orec_restore a x = record {
   place = Heap a;
@@ -363,6 +363,8 @@ orec_lift least = record {
 
 pub record CanOrecLift (least : ℕ) (v : View) : Type 0 where
   pub has : HasOrec v
+  -- what was stored in place is restored: no old value is needed any more
+  pub restored : v.owned.in_place ≡ []
   -- who knows the clock as the gate's holder doesn't raise it: its validation failed at a later number than its start
   pub uncalm : v.gate.calm ≡ true → least ≤ v.gate.time
   pub limit : least ≤ CLOCK_LIMIT
@@ -370,12 +372,12 @@ pub record CanOrecLift (least : ℕ) (v : View) : Type 0 where
   -- the least number that does: the greatest old version and one more
   pub greatest : (r : ℕ) × (touches v.owned.held r ≡ true) × (least ≡ over v.owned.held r 0 + 1)
 
--- PROMOTION. The attempt is promoted at the number of its validation: what it stored in place becomes its stores, and nothing can be taken back
+-- PROMOTION. The attempt is promoted at the number of its validation: what it stored in place becomes its stores, and nothing can be taken back; the undo log tells of which records it may hold still
 abbrev pub direct_attempt : ℕ → View → Attempt
 direct_attempt t v = record { start = t; reads = v.attempt.reads; stores = v.owned.in_place; entered = false }
 
 abbrev pub direct_owned : Ownership → Ownership
-direct_owned o = record o { in_place = []; undo = []; back = [] }
+direct_owned o = record o { in_place = []; back = [] }
 
 -- load the record of the last read to validate, with the clock settled
 abbrev pub orec_grant : ℕ → ℕ → StepKind

@@ -3,6 +3,6 @@ pub mod PromotedSteps
 pub mod PromotedLaws
 pub mod OrecGranted
 pub mod PromotedRuns
-pub mod QuittingSteps
-pub mod QuittingLaws
+pub mod RaisingSteps
+pub mod RaisingLaws
 pub mod ReleaseRanks

@@ -13,6 +13,7 @@ use Rattle.rule_base.specs.RunScene.{run_scene}
 use Rattle.rule_base.specs.World.{World, put}
 use Rattle.rule_promoted.specs.PromotedRule.{direct_view, direct_scene, DirectRule, suit_scene, OrecSuits, Suits, DirectRuns}
 use Rattle.rule_promoted.specs.PromotedLaws.{direct_scene-own, suit_scene-own}
+use Rattle.rule_orec.specs.OrecLaws.{taken-rec}
 use Rattle.rule_orec.specs.OrecRule.{OrecScene, orec_scene, Own, rank}
 use Rattle.rule_orec.specs.OrecRely.{Full, owner-in}
 use Rattle.rule_orec.specs.OrecSteps.{direct_attempt, direct_owned, HasStores}
@@ -70,6 +71,8 @@ orec-granted c alg n t w x v has is clock heap history base records attempt owne
       uncommitted = d;
       olds = own.owned.olds;
       older = λ e. absurd cc;
+      raised = λ e r h. own.owned.raised r e h;
+      locked = λ r h. (taken-rec (w.records r) n (own.owned.held r h)).0;
     }
       where
         same : (r : ℕ) (k : Rec) → rank_one (w.views n).owned r k ≡ rank_one (direct_owned (w.views n).owned) r k

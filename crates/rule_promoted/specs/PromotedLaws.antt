@@ -11,7 +11,7 @@ use Rattle.rule_base.specs.declared.views.Ownership.{Ownership}
 use Rattle.rule_base.specs.declared.views.View.{View}
 use Rattle.rule_base.specs.History.{over, touches, without, word_now, Inside, Below, upto, Follows, last_write}
 use Rattle.rule_base.specs.RunScene.{run_view, run_scene}
-use Rattle.rule_base.specs.Encodings.{free_record}
+use Rattle.rule_base.specs.Encodings.{free_record, is_owned}
 use Rattle.rule_base.specs.StepKinds.{view_after, world_after, Nothing, StepLaw}
 use Rattle.rule_base.specs.World.{World, put, parts}
 use Rattle.rule_base.specs.HistoryLemmas.{touches-without, over-without, word_at-all, inside-more, small-more, below-more, upto-all, legal-good, legal-small}
@@ -47,8 +47,9 @@ pub record Alike (s t : SuitScene) : Type 0 where
   -- the clock doesn't fall, and rises with the entry
   pub clock : s.clock ≤ t.clock
   pub entered : t.own.attempt.entered ≡ true → (s.own.attempt.entered ≡ true) ⊎ (s.clock < t.clock)
-  -- what it holds it held, with that old version
-  pub held : (r : ℕ) → touches t.own.owned.held r ≡ true → (touches s.own.owned.held r ≡ true) × (over t.own.owned.held r 0 ≡ over s.own.owned.held r 0)
+  -- what it holds it held, with that old version, and the word is the same
+  pub held : (r : ℕ) → touches t.own.owned.held r ≡ true → (touches s.own.owned.held r ≡ true) × (over t.own.owned.held r 0 ≡ over s.own.owned.held r 0) × (t.records r ≡ s.records r)
+  pub raised : t.own.owned.raised ≡ s.own.owned.raised
   pub committed : t.own.owned.committed ≡ s.own.owned.committed
 
 orec-alike : (home : ℕ → ℕ) (s t : SuitScene) → Alike s t → OrecSuits home s → OrecSuits home t
@@ -57,6 +58,8 @@ orec-alike home s t l k = record {
   uncommitted = l.committed ∙ k.uncommitted;
   olds = λ r h. let p = l.held r h in let same = p.1 in let old = k.olds r p.0 in let up = l.clock in omega arith;
   older = λ e r h. let p = l.held r h in let same = p.1 in ⊎_elim (λ was. let old = k.older was r p.0 in let up = l.clock in omega arith) (λ up. let old = k.olds r p.0 in omega arith) (l.entered e);
+  raised = λ e r h. let p = l.held r h in let same = p.1 in let old = k.raised (sym l.raised ∙ e) r p.0 in let up = l.clock in omega arith;
+  locked = λ r h. let p = l.held r h in ap is_owned p.2 ∙ k.locked r p.0;
 }
   where
     go : (t.history ≡ s.history) × (t.records ≡ s.records) × (t.own.owned ≡ s.own.owned) × (s.own.attempt.entered ≡ false) → (a : ℕ) → t.base < last_write t.history a → 2 * last_write t.history a ≤ rank_one t.own.owned (home a) (rec_of (t.records (home a)))
@@ -159,7 +162,7 @@ module _ (good : (ℕ → ℕ) → Type 0) (c : Config) (alg : Alg) (n : ℕ) wh
           stores_small = d.stores_small;
           unlocked = d.unlocked;
         });
-        suits = subst (Suits (home_of c) alg) (sym (suit_scene-own w x n v refl)) (suits-later (home_of c) alg (suit_scene n w) (record (suit_scene n w) { own = suit_view v }) refl (record { tml = refl; base = le_refl w.base; stamps = λ e. (refl, refl, refl, e); clock = le_refl w.clock; entered = λ e. inl e; held = λ r t. (t, refl); committed = refl }) r.runs.suits);
+        suits = subst (Suits (home_of c) alg) (sym (suit_scene-own w x n v refl)) (suits-later (home_of c) alg (suit_scene n w) (record (suit_scene n w) { own = suit_view v }) refl (record { tml = refl; base = le_refl w.base; stamps = λ e. (refl, refl, refl, e); clock = le_refl w.clock; entered = λ e. inl e; held = λ r t. (t, refl, refl); raised = refl; committed = refl }) r.runs.suits);
         ring = λ e. subst (RingKeeps c.ring n) (sym (scene_put w x n v refl refl refl refl refl refl refl refl refl)) (keeps-put c.ring n n (run_scene w) w.heap (run_view v) refl (λ d. absurd (d refl)) (r.runs.ring e));
       };
     };
@@ -195,7 +198,7 @@ module _ (good : (ℕ → ℕ) → Type 0) (c : Config) (alg : Alg) (n : ℕ) wh
           stores_small = small-more (record { at = a; value = k }) (w.views n).attempt.stores may.small d.stores_small;
           unlocked = d.unlocked;
         });
-        suits = subst (Suits (home_of c) alg) (sym (suit_scene-own w x n v refl)) (suits-later (home_of c) alg (suit_scene n w) (record (suit_scene n w) { own = suit_view v }) refl (record { tml = refl; base = le_refl w.base; stamps = λ e. (refl, refl, refl, e); clock = le_refl w.clock; entered = λ e. inl e; held = λ r t. (t, refl); committed = refl }) r.runs.suits);
+        suits = subst (Suits (home_of c) alg) (sym (suit_scene-own w x n v refl)) (suits-later (home_of c) alg (suit_scene n w) (record (suit_scene n w) { own = suit_view v }) refl (record { tml = refl; base = le_refl w.base; stamps = λ e. (refl, refl, refl, e); clock = le_refl w.clock; entered = λ e. inl e; held = λ r t. (t, refl, refl); raised = refl; committed = refl }) r.runs.suits);
         ring = λ e. subst (RingKeeps c.ring n) (sym (scene_put w x n v refl refl refl refl refl refl refl refl refl)) (keeps-put c.ring n n (run_scene w) (put w.heap a k) (run_view v) refl (λ d. absurd (d refl)) (r.runs.ring e));
       };
     };
@@ -232,7 +235,7 @@ module _ (good : (ℕ → ℕ) → Type 0) (c : Config) (alg : Alg) (n : ℕ) wh
           stores_small = λ a d l. l;
           unlocked = d.unlocked;
         });
-        suits = subst (Suits (home_of c) alg) (sym (suit_scene-own w x n v refl)) (suits-ticked (home_of c) alg (suit_scene n w) (record { clock = t; base = w.base; records = w.records; history = e ∷ w.history; own = suit_view v }) next (record { tml = refl; base = le_refl w.base; stamps = λ f. absurd cc; clock = (let k = later in omega arith); entered = λ f. inr later; held = λ r t. (t, refl); committed = refl }) r.runs.suits);
+        suits = subst (Suits (home_of c) alg) (sym (suit_scene-own w x n v refl)) (suits-ticked (home_of c) alg (suit_scene n w) (record { clock = t; base = w.base; records = w.records; history = e ∷ w.history; own = suit_view v }) next (record { tml = refl; base = le_refl w.base; stamps = λ f. absurd cc; clock = (let k = later in omega arith); entered = λ f. inr later; held = λ r t. (t, refl, refl); raised = refl; committed = refl }) r.runs.suits);
         ring = λ q. let o = r.runs.ring q in record {
           base = le_trans o.base (let k = later in omega arith);
           done = le_trans o.done (let k = later in omega arith);
@@ -298,7 +301,7 @@ module _ (good : (ℕ → ℕ) → Type 0) (c : Config) (alg : Alg) (n : ℕ) wh
       records = records-given w x n q t v refl refl refl refl refl (subst (λ (k : ℕ). t ≤ k) d.start (subst (λ (k : ℕ). t ≤ k) may.time (le_refl t))) r.records;
       runs = record {
         direct = subst (DirectRule c.words) (sym (direct_scene-own w x n v refl)) (record { stored = d.stored; start = d.start; front = d.front; sees = d.sees; reads_inside = d.reads_inside; stores_inside = d.stores_inside; stores_small = d.stores_small; unlocked = d.unlocked });
-        suits = subst (Suits (home_of c) alg) (sym (suit_scene-own w x n v refl)) (suits-later (home_of c) alg (suit_scene n w) (record { clock = w.clock; base = w.base; records = put w.records q (free_record t); history = w.history; own = suit_view v }) refl (record { tml = refl; base = le_refl w.base; stamps = λ f. absurd (let k : true ≡ false = sym may.entered ∙ f in cc); clock = le_refl w.clock; entered = λ f. inl may.entered; held = less; committed = refl }) r.runs.suits);
+        suits = subst (Suits (home_of c) alg) (sym (suit_scene-own w x n v refl)) (suits-later (home_of c) alg (suit_scene n w) (record { clock = w.clock; base = w.base; records = put w.records q (free_record t); history = w.history; own = suit_view v }) refl (record { tml = refl; base = le_refl w.base; stamps = λ f. absurd (let k : true ≡ false = sym may.entered ∙ f in cc); clock = le_refl w.clock; entered = λ f. inl may.entered; held = less; raised = refl; committed = refl }) r.runs.suits);
         ring = λ e. let o = r.runs.ring e in record {
           base = o.base;
           done = o.done;
@@ -324,6 +327,10 @@ module _ (good : (ℕ → ℕ) → Type 0) (c : Config) (alg : Alg) (n : ℕ) wh
       d : DirectRule c.words (direct_scene n w)
       d = r.runs.direct
 
-      -- what is held still was held
-      less : (r : ℕ) → touches (without (w.views n).owned.held q) r ≡ true → (touches (w.views n).owned.held r ≡ true) × (over (without (w.views n).owned.held q) r 0 ≡ over (w.views n).owned.held r 0)
-      less r h = (grind (arith, h, touches-without (w.views n).owned.held q r), grind (arith, h, touches-without (w.views n).owned.held q r, over-without (w.views n).owned.held q r 0))
+      -- what is held still was held, and its word is the same
+      less : (r : ℕ) → touches (without (w.views n).owned.held q) r ≡ true → (touches (w.views n).owned.held r ≡ true) × (over (without (w.views n).owned.held q) r 0 ≡ over (w.views n).owned.held r 0) × (put w.records q (free_record t) r ≡ w.records r)
+      less r h = (
+        grind (arith, h, touches-without (w.views n).owned.held q r),
+        grind (arith, h, touches-without (w.views n).owned.held q r, over-without (w.views n).owned.held q r 0),
+        grind (arith, h, touches-without (w.views n).owned.held q r),
+      )

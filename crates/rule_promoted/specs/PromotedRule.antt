@@ -9,6 +9,7 @@ use Rattle.rule_base.specs.declared.views.LockView.{LockView}
 use Rattle.rule_base.specs.declared.views.TmlView.{TmlView}
 use Rattle.rule_base.specs.declared.views.Ownership.{Ownership}
 use Rattle.rule_base.specs.declared.views.View.{View}
+use Rattle.rule_base.specs.Encodings.{is_owned}
 use Rattle.rule_base.specs.History.{over, touches, word_now, last_write, Inside, Small, Explains}
 use Rattle.rule_base.specs.Ranks.{rec_of, rank_one, home_of}
 use Rattle.rule_base.specs.RunScene.{RunScene}
@@ -80,6 +81,9 @@ pub record OrecSuits (home : ℕ → ℕ) (s : SuitScene) : Type 0 where
   pub uncommitted : s.own.owned.committed ≡ false
   pub olds : (r : ℕ) → touches s.own.owned.held r ≡ true → over s.own.owned.held r 0 ≤ s.clock
   pub older : s.own.attempt.entered ≡ true → (r : ℕ) → touches s.own.owned.held r ≡ true → over s.own.owned.held r 0 < s.clock
+  -- older too once it has raised the clock without an entry; and the word of what it holds is an own lock: given back one later than it was, no stamp falls
+  pub raised : s.own.owned.raised ≡ true → (r : ℕ) → touches s.own.owned.held r ≡ true → over s.own.owned.held r 0 < s.clock
+  pub locked : (r : ℕ) → touches s.own.owned.held r ≡ true → is_owned (s.records r) ≡ true
 
 -- by the algorithm: of its own part; under CGL and Serial nothing is promoted
 abbrev pub Suits : (ℕ → ℕ) → Alg → SuitScene → Type 0

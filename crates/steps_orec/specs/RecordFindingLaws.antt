@@ -10,6 +10,9 @@ use Rattle.rule_base.specs.Encodings.{owner_of, version_of, fenced}
 use Rattle.rule_base.specs.History.{over, touches, word_at, upto, Below, Legal}
 use Rattle.rule_base.specs.HistoryLemmas.{below-upto, legal-upto, upto-all, word_now-upto}
 use Rattle.rule_base.specs.Ranks.{rec_of, home_of}
+use Rattle.rule_base.specs.Regime.{Regime}
+use Rattle.rule_base.specs.RegimeLemmas.{regime-granted}
+use Rattle.rule_base.specs.RunScene.{run_scene}
 use Rattle.rule_base.specs.StepKinds.{StepLaw}
 use Rattle.rule_base.specs.World.{World}
 use Rattle.rule_orec.specs.OrecLaws.{full-world, passed-at, rec-free}
@@ -19,12 +22,14 @@ use Rattle.rule_orec.specs.OrecRule.{orec_scene, orec_view, Own}
 use Rattle.rule_orec.specs.OrecSteps.{HasOrec, passes, orec_entry, orec_begin, CanOrecBegin, orec_sample, CanOrecSample, orec_confirm, CanOrecConfirm, orec_clock, CanOrecClock, orec_clock_all, orec_pass, CanOrecPass, orec_last, CanOrecLast, orec_look, orec_limit, orec_lock, CanOrecLock, orec_commit, CanOrecCommit, orec_lift, CanOrecLift, orec_grant, CanOrecGrant, orec_grant_all, CanOrecGrantAll}
 use Rattle.stm_rule.specs.BesideLaws.{sole-of, uncalm}
 use Rattle.stm_rule.specs.Frames.{as-left, is-caller, orec-world}
-use Rattle.stm_rule.specs.Product.{Whole}
+use Rattle.rule_promoted.specs.PromotedRule.{DirectRuns}
+use Rattle.rule_promoted.specs.RaisingSteps.{direct_lift, CanDirectLift}
+use Rattle.stm_rule.specs.Product.{Runs, Whole}
 use Rattle.rule_base.specs.Fence.{veil}
-use Rattle.stm_rule.specs.Lifted.{orec_grants, orec_grants_all, orec_begins, orec_samples, orec_confirms, orec_clocks, orec_clocks_all, orec_passes, orec_lasts, orec_looks, orec_limits, orec_locks, orec_commits, orec_lifts}
+use Rattle.stm_rule.specs.Lifted.{orec_grants, orec_grants_all, orec_begins, orec_samples, orec_confirms, orec_clocks, orec_clocks_all, orec_passes, orec_lasts, orec_looks, orec_limits, orec_locks, orec_commits, orec_lifts, direct_lifts}
 use Rattle.stm_rule.specs.Lifting.{AreSpared}
 use Rattle.stm_rule.specs.RecordLaws.{fails}
-use Rattle.steps_orec.specs.RecordFindings.{FindsRecord, FindsClock, Moves, FindsStart, FindsAgain, FindsRead, FindsLast, FindsGrant, FindsAll, FindsCommit}
+use Rattle.steps_orec.specs.RecordFindings.{FindsRecord, FindsClock, FindsStill, Moves, FindsStart, FindsAgain, FindsRead, FindsLast, FindsGrant, FindsAll, FindsCommit}
 
 upto-upto : (h : List Entry) (f g : ℕ) → g ≤ f → upto (upto h f) g ≡ upto h g
 upto-upto [] f g l = refl
@@ -144,6 +149,17 @@ module _ (good : (ℕ → ℕ) → Type 0) (c : Config) (n : ℕ) where
 
   pub lifts_beside : (least : ℕ) → n < c.callers → StepLaw (Whole good c) (orec_lift least) (FindsClock c) n (CanOrecLift least)
   lifts_beside least low w g may = let o = orec_lifts good c n least low w g may in record { rule = o.rule; advances = o.advances; shown = clock-found w g may.has }
+
+  -- a promoted attempt raises the clock from its start
+  pub direct_lifts_beside : (least : ℕ) → n < c.callers → StepLaw (Whole good c) (direct_lift least) (FindsStill c) n (CanDirectLift least)
+  direct_lifts_beside least low w g may = let o = direct_lifts good c n least low w g may in record {
+    rule = o.rule;
+    advances = o.advances;
+    shown = record { started = sym runs.direct.start; sole = sole-of good c n (veil w) g.core may.phase; within = g.core.history.limit };
+  }
+    where
+      runs : DirectRuns c (w.views n).gate.algorithm n (run_scene (veil w))
+      runs = subst (λ (r : Regime). Runs c r (run_scene (veil w))) (regime-granted c (veil w) n g.core.gate g.core.install may.granted) g.core.running
 
   pub grants_beside : (r b : ℕ) → StepLaw (Whole good c) (orec_grant r b) (FindsGrant good c n r) n (CanOrecGrant (home_of c) c.words r b)
   grants_beside r b w g may = let o = orec_grants good c n r b w g may in

@@ -34,6 +34,12 @@ pub record FindsClock (c : Config) (w : World) (v : View) (x : ℕ) : Type 0 whe
   -- a record that the caller holds was free at no later number
   pub olds : (r : ℕ) → touches v.owned.held r ≡ true → over v.owned.held r 0 ≤ x
 
+-- the clock under a promoted attempt: it is the start still
+pub record FindsStill (c : Config) (w : World) (v : View) (x : ℕ) : Type 0 where
+  pub started : x ≡ v.attempt.start
+  pub sole : FindsSole c w v x
+  pub within : x ≤ CLOCK_LIMIT
+
 -- The start may move to this number, of which this is the history: it is legal, begins with what was seen before, and leaves a memory that explains all reads.
 pub record Moves (good : (ℕ → ℕ) → Type 0) (c : Config) (history : List Entry) (v : View) (start : ℕ) : Type 0 where
   pub legal : Legal good c history

@@ -4,8 +4,9 @@ ghost use Rattle.rule_base.specs.Ranks.{home_of};
 ghost use Rattle.rule_base.specs.StepKinds.{Nothing};
 ghost use Rattle.rule_orec.specs.OrecSteps.{orec_grant, CanOrecGrant, orec_grant_all, CanOrecGrantAll};
 ghost use Rattle.rule_promoted.specs.PromotedSteps.{direct_release, CanDirectRelease};
+ghost use Rattle.rule_promoted.specs.RaisingSteps.{direct_lift, CanDirectLift, direct_up, CanDirectUp};
 ghost use Rattle.std.specs.Prelude.{◌<◌, ◌≤◌, ℕ, ◌≡◌};
-ghost use Rattle.steps_orec.specs.RecordFindings.{FindsAll, FindsGrant};
+ghost use Rattle.steps_orec.specs.RecordFindings.{FindsAll, FindsGrant, FindsStill};
 ghost use Rattle.stm_rule.specs.Callers.{IsSeatOf};
 ghost use Rattle.stm_rule.specs.Kept.{good_of, SeatTells, IsSameSeat, view_of};
 
@@ -60,4 +61,39 @@ pub fn direct_release<K: MemRule>(
     ensures step { SeatTells (direct_release r time) Nothing seat.old.me.0 (free_record time) seat.new.me.0 }
 {
     stm.store_as::<Brand, (usize, u64)>(seat, At::Record(r), free_record(time), &(caller, time));
+}
+
+/// Raises the clock to `least`, the greatest old version and one more, where it is lower, for a promoted attempt that
+/// holds records and wrote nothing; it makes no entry. Answers the clock found.
+pub fn direct_lift<K: MemRule>(stm: &Stm<K>, seat: &mut Token<K>, caller: usize, least: u64) -> u64
+    requires seat { IsSeatOf stm.now caller seat.old }
+    requires caller { caller < stm.now.config.callers }
+    requires view { CanDirectLift least (view_of seat.old) }
+    ensures same { IsSameSeat seat.old seat.new }
+    ensures step { SeatTells (direct_lift least) (FindsStill stm.now.config) seat.old.me.0 result seat.new.me.0 }
+{
+    stm.raise_as::<Brand, usize>(seat, At::Clock, least, &caller)
+}
+
+/// Gives record `r` back where a promoted attempt has no entry, free with its old version and one more.
+pub fn direct_release_above<K: MemRule>(
+    stm: &Stm<K>,
+    seat: &mut Token<K>,
+    caller: usize,
+    r: usize,
+    version: u64,
+)
+    requires seat { IsSeatOf stm.now caller seat.old }
+    requires place { r < stm.now.config.records }
+    requires limit { version ≤ CLOCK_LIMIT }
+    requires view { CanDirectUp r version (view_of seat.old) }
+    ensures same { IsSameSeat seat.old seat.new }
+    ensures step { SeatTells (direct_up r version) Nothing seat.old.me.0 (free_record version) seat.new.me.0 }
+{
+    stm.store_as::<Brand, (usize, u64)>(
+        seat,
+        At::Record(r),
+        free_record(version),
+        &(caller, version),
+    );
 }

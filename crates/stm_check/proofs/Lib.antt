@@ -12,3 +12,4 @@ pub mod ConfirmedLaws
 pub mod CheckLaws
 pub mod FindingLaws
 pub mod BehindLaws
+pub mod FaultLaws

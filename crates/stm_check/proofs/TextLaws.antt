@@ -8,13 +8,13 @@ use Rattle.stm_script.specs.declared.report.Kind.{Kind}
 use Rattle.stm_script.specs.declared.report.Kind.TheVariants.{W, R, C}
 use Rattle.stm_script.specs.declared.report.Report.{Report}
 use Rattle.stm_script.specs.declared.report.Row.{Row}
-use Rattle.stm_text.specs.Lines.{lines_of, words_of, any_bad, number_of}
+use Rattle.stm_text.specs.Lines.{lines_of, words_of, number_of}
 use Rattle.stm_text.specs.Reports.{spaced, emitted, letter_of, row_line, row_lines, memory_line, memory_lines, report_bytes, IsWord, RowFits}
 use Rattle.stm_text.specs.Texts.{joined, line}
 use Rattle.stm_text.specs.Decimals.{StartsDigit, digits-decimal}
 use Rattle.stm_text.specs.LineLaws.{lines_of-first}
 use Rattle.stm_text.specs.Numbers.{number_of-decimal}
-use Rattle.stm_text.specs.WordLaws.{seen, AllVisible, visible-decimal, joined-good, joined-lacks, words_of-joined}
+use Rattle.stm_text.specs.WordLaws.{seen, AllVisible, visible-decimal, joined-lacks, words_of-joined}
 use Rattle.stm_check.specs.declared.reading.TheConstants.{MAX_REPORT}
 use Rattle.stm_check.specs.declared.table.Place.{Place}
 use Rattle.stm_check.specs.declared.table.Place.TheVariants.{Title, Rows, Words, Behind}
@@ -159,10 +159,10 @@ line-read d k w ws rest e seen is =
     let bytes : List ℕ = joined (w ∷ ws) in
     let cut : line (w ∷ ws) ++ rest ≡ bytes ++ 10 ∷ rest = append_assoc bytes (10 ∷ []) rest in
     let first : lines_of (line (w ∷ ws) ++ rest) ≡ record { bytes = bytes; ended = true } ∷ lines_of rest = ap lines_of cut ∙ lines_of-first bytes rest (joined-lacks (w ∷ ws) seen) in
-    ap (read d k) first ∙ ap (λ r. go_on r k (λ f. read f (k + 1) (lines_of rest))) (line-by d bytes (w ∷ ws) e (joined-good (w ∷ ws) seen) (words_of-joined w ws seen) is)
+    ap (read d k) first ∙ ap (λ r. go_on r k (λ f. read f (k + 1) (lines_of rest))) (line-by d bytes (w ∷ ws) e (words_of-joined w ws seen) is)
   where
-    line-by : (d : Reading) (bytes : List ℕ) (ws : List (List ℕ)) (e : Reading) → any_bad bytes ≡ false → words_of bytes ≡ ws → step_by d.place d ws ≡ Some e → line_of d (record { bytes = bytes; ended = true }) ≡ Ok e
-    line-by d bytes ws e good words is = rw (good, words, is) refl
+    line-by : (d : Reading) (bytes : List ℕ) (ws : List (List ℕ)) (e : Reading) → words_of bytes ≡ ws → step_by d.place d ws ≡ Some e → line_of d (record { bytes = bytes; ended = true }) ≡ Ok e
+    line-by d bytes ws e words is = rw (words, is) refl
 
 -- a report, read as far as this
 abbrev at : Place → List Row → List (ℕ × ℕ) → Reading

@@ -9,8 +9,8 @@ use Rattle.stm_script.specs.declared.report.Kind.{Kind}
 use Rattle.stm_script.specs.declared.report.Kind.TheVariants.{W, R, C}
 use Rattle.stm_script.specs.declared.report.Report.{Report}
 use Rattle.stm_script.specs.declared.report.Row.{Row}
-use Rattle.stm_text.specs.declared.code.TheConstants.{BYTES, UNENDED, LONG_REPORT}
-use Rattle.stm_text.specs.Lines.{Line, lines_of, words_of, any_bad, number_of}
+use Rattle.stm_text.specs.declared.code.TheConstants.{UNENDED, LONG_REPORT}
+use Rattle.stm_text.specs.Lines.{Line, lines_of, words_of, number_of}
 use Rattle.stm_text.specs.Reports.{letter_of, row_line, row_lines, memory_line, memory_lines, report_bytes, IsWord, RowFits}
 use Rattle.stm_text.specs.Texts.{line}
 use Rattle.stm_text.specs.Giving.{Gives, gives-with, given}
@@ -285,14 +285,13 @@ line-by-says : (d : Reading) (l : Line) (o : Option Reading) → l.ended ≡ tru
 line-by-says d l None e h = tt
 line-by-says d l (Some x) e h = (e, h)
 
-line-if : (d : Reading) (l : Line) (bad : Bool) (t : Bool) → l.ended ≡ t → Says (Grows d.place d (words_of l.bytes)) (step_by d.place d (words_of l.bytes))
-    → Gives (LineGrows d l) (if bad then Err BYTES else (if t then line_by (step_by d.place d (words_of l.bytes)) else Err UNENDED))
-line-if d l true t e h = tt
-line-if d l false true e h = line-by-says d l (step_by d.place d (words_of l.bytes)) e h
-line-if d l false false e h = tt
+line-if : (d : Reading) (l : Line) (t : Bool) → l.ended ≡ t → Says (Grows d.place d (words_of l.bytes)) (step_by d.place d (words_of l.bytes))
+    → Gives (LineGrows d l) (if t then line_by (step_by d.place d (words_of l.bytes)) else Err UNENDED)
+line-if d l true e h = line-by-says d l (step_by d.place d (words_of l.bytes)) e h
+line-if d l false e h = tt
 
 line-says : (d : Reading) (l : Line) → Sound d.place d → Gives (LineGrows d l) (line_of d l)
-line-says d l s = line-if d l (any_bad l.bytes) l.ended refl (step-says d.place d (words_of l.bytes) refl s)
+line-says d l s = line-if d l l.ended refl (step-says d.place d (words_of l.bytes) refl s)
 
 -- the text so far and the lines to come are the report's
 abbrev IsWhole : Reading → List Line → Report → Type 0

@@ -4,10 +4,10 @@ use Rattle.stm_script.specs.declared.report.Kind.{Kind}
 use Rattle.stm_script.specs.declared.report.Kind.TheVariants.{W, R, C}
 use Rattle.stm_script.specs.declared.report.Report.{Report}
 use Rattle.stm_script.specs.declared.report.Row.{Row}
-use Rattle.stm_text.specs.declared.code.TheConstants.{BYTES, UNENDED, REPORT, LONG_REPORT}
+use Rattle.stm_text.specs.declared.code.TheConstants.{UNENDED, REPORT, LONG_REPORT}
 use Rattle.stm_text.specs.declared.parse.ParseError.{ParseError}
 use Rattle.stm_text.specs.declared.parse.ParseError.TheVariants.{Fault, Memory as OutOfMemory}
-use Rattle.stm_text.specs.Lines.{Line, lines_of, words_of, any_bad, number_of}
+use Rattle.stm_text.specs.Lines.{Line, lines_of, words_of, number_of}
 use Rattle.stm_check.specs.declared.table.Place.{Place}
 use Rattle.stm_check.specs.declared.table.Place.TheVariants.{Title, Rows, Words, Behind}
 use Rattle.stm_check.specs.declared.reading.TheConstants.{MAX_REPORT}
@@ -101,13 +101,13 @@ step_by Words d (w ∷ v ∷ ws) = one_word d (w ∷ v ∷ ws)
 step_by Words d [] = None
 step_by Behind d ws = None
 
--- what a line leads to, or its lowest code
+-- what a line leads to; a wrong byte stands in no word and in no number, so a line that has one leads nowhere
 abbrev pub line_by : Option Reading → Result Reading ℕ
 line_by (Some d) = Ok d
 line_by None = Err REPORT
 
 abbrev pub line_of : Reading → Line → Result Reading ℕ
-line_of d l = if any_bad l.bytes then Err BYTES else (if l.ended then line_by (step_by d.place d (words_of l.bytes)) else Err UNENDED)
+line_of d l = if l.ended then line_by (step_by d.place d (words_of l.bytes)) else Err UNENDED
 
 abbrev pub whole_by : Place → Reading → Option Report
 whole_by Behind d = Some (record { rows = d.rows; memory = d.memory })

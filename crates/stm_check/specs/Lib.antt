@@ -5,3 +5,4 @@ pub mod Standing
 pub mod Grammar
 pub mod Texts
 pub mod Checks
+pub mod Limits

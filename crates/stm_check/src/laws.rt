@@ -1,5 +1,6 @@
 //! Laws of the definitions, each the contract of a function.
 ghost use Rattle.stm_check.specs.Checks.{OneFindingPerText};
+ghost use Rattle.stm_check.specs.Limits.{LimitsAre, ReportFaultsAre};
 ghost use Rattle.stm_check.specs.Texts.{ReportIsRead, ReportIsWritten, ReplayedIsReadable, ReplayedIsConfirmed, BehindIsConfirmed};
 
 use stm_text::laws::{built_workloads_fit, text_is_built, text_is_read, text_is_written};
@@ -7,6 +8,16 @@ use stm_text::laws::{built_workloads_fit, text_is_built, text_is_read, text_is_w
 /// A text has one finding: where it has a fault, that fault has one line, and one code.
 pub fn one_finding_per_text()
     ensures { OneFindingPerText }
+{}
+
+/// The greatest numbers of bytes are these.
+pub fn limits_are()
+    ensures { LimitsAre }
+{}
+
+/// A report's text has no faults but these three.
+pub fn report_faults_are()
+    ensures { ReportFaultsAre }
 {}
 
 /// The text of a report is read as that report.

@@ -1,7 +1,7 @@
 //! Reports, read from their text.
 ghost use Rattle.std.specs.Prelude.{◌≡◌, ◌≤◌, length, if◌then◌else◌};
-ghost use Rattle.stm_text.specs.Lines.{lines_of, any_bad, Lacks};
-ghost use Rattle.stm_text.specs.declared.code.TheConstants.{BYTES, UNENDED, REPORT};
+ghost use Rattle.stm_text.specs.Lines.{lines_of, Lacks};
+ghost use Rattle.stm_text.specs.declared.code.TheConstants.{UNENDED, REPORT};
 ghost use Rattle.stm_check.specs.Grammar.{opening, read, report_of, finished, whole, Answers};
 
 use crate::table::{Draft, WordsError};
@@ -37,12 +37,6 @@ fn read_lines(alloc: Global, text: &[u8]) -> Result<Report, ParseError>
     let mut number = 1usize;
     while let Some(i) = lines::find(b'\n', rest) {
         let line = &rest[..i];
-        if lines::is_any_bad(line) {
-            return Err(ParseError::Fault {
-                line: number,
-                code: code::BYTES,
-            });
-        }
         match draft.take(alloc, line) {
             Ok(()) => {}
             Err(WordsError::Memory) => return Err(ParseError::Memory),
@@ -61,12 +55,6 @@ fn read_lines(alloc: Global, text: &[u8]) -> Result<Report, ParseError>
 fn finish(draft: Draft, number: usize, rest: &[u8]) -> Result<Report, ParseError>
     ensures { Lacks 10 rest.now → Answers result (read draft number (lines_of rest.now)) }
 {
-    if lines::is_any_bad(rest) {
-        return Err(ParseError::Fault {
-            line: number,
-            code: code::BYTES,
-        });
-    }
     if !rest.is_empty() {
         return Err(ParseError::Fault {
             line: number,

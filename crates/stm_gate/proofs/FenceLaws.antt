@@ -33,9 +33,10 @@ use Rattle.tx_answers.specs.Answers.{HoldsClosed, entry}
 use Rattle.tx_answers.specs.Fences.{TakesRange, ReadsDirect, WritesDirect, GivesAt, Gives}
 use Rattle.tx_answers.specs.Fences as fences
 use Rattle.tx_answers.specs.declared.answers.Give.TheVariants.{Unchanged, ClockFull}
-use Rattle.tx_answers.specs.Known.{known_of, written_under, granted_under, is_in, is_closing, is_settled, zeros}
+use Rattle.tx_answers.specs.Known.{known_of, kept_under, written_under, granted_under, is_in, is_closing, is_settled, zeros}
 use Rattle.tx_answers.specs.KnownLaws.{grows-same, ascending-append, within-append}
 use Rattle.stm_gate.specs.InnerLaws.{granted-same}
+use Rattle.stm_gate.specs.KeptLaws.{kept-same}
 use Rattle.stm_gate.specs.LeavingLaws.{finds-full}
 use Rattle.stm_gate.specs.Logging.{item-touched}
 use Rattle.stm_gate.specs.Opacity.{later-seen}
@@ -85,6 +86,7 @@ beside v u o history gate lock attempt owned steps = λ i. record (known_of u o)
   checked = (gate i).checked;
   settled = is_settled (gate i);
   granted = granted_under (gate i).algorithm (gate i) (lock i);
+  kept = ((λ j. kept_under (gate j).algorithm u o) ∙ kept-same v.gate.algorithm v u o o refl (ap (λ t. t.undo) owned) (ap (λ t. t.undo) lock)) i;
   rises = (steps i).rises;
   base = (steps i).rises_at_begin;
   installs = reverse (steps i).installs;

@@ -98,7 +98,7 @@ closing-flags good c n l v closing s = go l.running l.holds refl refl s.by
     go false true a b k = (a, b)
     go false false a b k = absurd (let e : Idle ≡ Closing = sym k.phase ∙ closing in cc)
 
-pub stands-closing : (good : List ℕ → Type 0) (c : Config) (n : ℕ) (l : Local) (v : View) (running holds : Bool) → (running ≡ false) × (holds ≡ true) → HasRoom c l → IsClosing c.callers n (record l { running = running; holds = holds }) v → Stands good c n (record l { running = running; holds = holds }) v
+pub stands-closing : (good : List ℕ → Type 0) (c : Config) (n : ℕ) (l : Local) (v : View) (running holds : Bool) → (running ≡ false) × (holds ≡ true) → HasRoom l → IsClosing c.callers n (record l { running = running; holds = holds }) v → Stands good c n (record l { running = running; holds = holds }) v
 stands-closing good c n l v true holds flags lengths k = absurd (let e : true ≡ false = flags.0 in cc)
 stands-closing good c n l v false false flags lengths k = absurd (let e : false ≡ true = flags.1 in cc)
 stands-closing good c n l v false true flags lengths k = record { holds = sym k.holds; lengths = lengths; by = k }

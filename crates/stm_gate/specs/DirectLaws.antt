@@ -18,7 +18,6 @@ use Rattle.rule_base.specs.InstallSteps.{store_base, store_done, CanMark}
 use Rattle.rule_seq.specs.CglSteps.{Loads, logged}
 use Rattle.rule_seq.specs.CglSteps as steps
 use Rattle.rule_promoted.specs.PromotedSteps.{direct_load, direct_store, direct_commit, CanDirectCommit}
-use Rattle.rule_promoted.specs.QuittingSteps.{CanDirectQuit}
 use Rattle.stm_rule.specs.declared.local.Local.{Local}
 use Rattle.stm_rule.specs.Attempts.{IsInside}
 use Rattle.tx_answers.specs.declared.answers.Commit.TheVariants.{ReadOnly}
@@ -27,6 +26,7 @@ use Rattle.tx_answers.specs.declared.answers.Write.TheVariants.{Done}
 use Rattle.tx_answers.specs.Answers.{HasRead, HasWritten, KeepsRule, Commits, CommitsAt}
 use Rattle.tx_answers.specs.Known.{known_of, granted_under, written_under, is_irrevocable, wrote}
 use Rattle.stm_gate.specs.InnerLaws.{goes-inner, written-granted, irrevocable-granted, never-full}
+use Rattle.stm_gate.specs.KeptLaws.{kept-same, kept-irrevocable}
 use Rattle.stm_gate.specs.Leaving.{left}
 use Rattle.stm_gate.specs.LeavingLaws.{unmade-refl, ended-left, commits-left}
 use Rattle.stm_gate.specs.Logging.{reads-logged, inside-logged, wrote-some}
@@ -52,6 +52,8 @@ module _ (good : List ℕ → Type 0) (c : Config) (n : ℕ) where
     t.1.small,
     opaque-at good c n u o l.start i.start i.front i.legal i.below t.1.sees (inside-logged c.words v.attempt a x low i.reads_inside),
     (never-full a (known_of v o) (irrevocable-known v o closes granted)).0,
+    refl,
+    kept-same v.gate.algorithm v u o o refl refl refl,
   )
     where
       u : View
@@ -68,6 +70,7 @@ module _ (good : List ℕ → Type 0) (c : Config) (n : ℕ) where
     (refl, λ b. ap (item_at b) (written u ∙ ap (put a x) (sym (written v)))),
     opaque-at good c n u o l.start i.start i.front i.legal i.below i.sees i.reads_inside,
     (never-full a (known_of v o) (irrevocable-known v o closes granted)).1,
+    kept-same v.gate.algorithm v u o o refl refl refl ∙ sym (kept-irrevocable a (known_of v o) (irrevocable-known v o closes granted)),
   )
     where
       u : View
@@ -116,11 +119,6 @@ module _ (good : List ℕ → Type 0) (c : Config) (n : ℕ) where
 
       written : written_under v.gate.algorithm v.gate.granted v o ≡ items v.attempt.stores
       written = written-here l v o closes granted i
-
-  -- and so may one that wrote nothing, without an entry
-  pub may-quit : (alg : Alg) (t : ℕ) (l : Local) (v : View) → l.algorithm ≡ alg → t ≡ l.start + entry_rise alg → l.wrote ≡ false → closes_gate v.gate.algorithm ≡ true → granted_under v.gate.algorithm v.gate v.lock ≡ true → IsInside good c n l v → CanDirectQuit alg t v
-  may-quit alg t l v named time clean closes granted i = let p = (promoted-of good c n l v i closes granted).2 in
-      record { phase = i.phase; granted = p.granted; named = i.named ∙ named; time = due alg t l v time i; limit = within alg t l v named time p; unwritten = p.clean clean }
 
   pub tells-commit : (alg : Alg) (t : ℕ) (l : Local) (v s u y w : View) (o : Own) → l.algorithm ≡ alg → t ≡ l.start + entry_rise alg → l.wrote ≡ true → closes_gate v.gate.algorithm ≡ true → granted_under v.gate.algorithm v.gate v.lock ≡ true → IsInside good c n l v
       → Tells (direct_commit n alg t) (steps.Commits rule c n t) v t s → Tells (store_base t) Nothing s t u → Tells (store_done t) Nothing u t y → w ≡ left n y

@@ -21,7 +21,7 @@ use Rattle.tx_answers.specs.Answers.{BecomesIrrevocable, Quits, Waits, Irrevs}
 use Rattle.tx_answers.specs.Causes.{Conflicts, FindsFull, IsAnothers, IsNewer, has_item, read_filter}
 use Rattle.tx_answers.specs.Evidence.{Found, FoundAsWas, FoundMoved, Untouched}
 use Rattle.tx_answers.specs.SlotEvidence.{FindsFirst, clock_load}
-use Rattle.tx_answers.specs.Known.{Known, Grows, known_of, is_irrevocable, is_in, is_closing, has_written}
+use Rattle.tx_answers.specs.Known.{Known, Grows, known_of, is_irrevocable, is_in, is_closing, is_none, has_written}
 use Rattle.tx_answers.specs.KnownLaws.{grows-same, grows-trans}
 use Rattle.stm_gate.specs.LeavingLaws.{found-earlier}
 use Rattle.stm_gate.specs.Opacity.{opaque-inside}
@@ -71,7 +71,7 @@ module _ (good : List ℕ → Type 0) (c : Config) (n : ℕ) where
   quits-after u v w a b = let k = a.continues in record {
     ends = record { idle = b.ends.idle; grows = grows-trans u v w k.grows b.ends.grows; alg = b.ends.alg ∙ k.alg; base = b.ends.base ∙ k.base; installs = b.ends.installs ∙ k.installs };
     made = b.made ∙ k.made;
-    rises = (let e = k.base in let r = b.rises.0 in omega arith, let e = k.base in let r = b.rises.1 in let q : quit_rise v.alg (has_written v) ≡ quit_rise u.alg (has_written u) = (λ j. quit_rise (k.alg j) (not (is_empty (a.log j).writes) || k.retains j)) in omega arith);
+    rises = (let e = k.base in let r = b.rises.0 in omega arith, let e = k.base in let r = b.rises.1 in let q : quit_rise v.alg (has_written v) ≡ quit_rise u.alg (has_written u) = (λ j. quit_rise (k.alg j) (not (is_empty (a.log j).writes) || not (is_none (a.kept j)))) in omega arith);
     revocable = a.revocable;
   }
 
@@ -123,11 +123,11 @@ module _ (good : List ℕ → Type 0) (c : Config) (n : ℕ) where
           later = (let x = k.later in let y = q.later in omega arith);
           installs = q.installs ∙ k.installs;
           depth = q.depth ∙ k.depth;
-          retains = q.retains ∙ k.retains;
         };
         still = b.still ∙ a.still;
         uncommitted = b.uncommitted;
         log = b.log ∙ a.log;
+        kept = λ e. b.kept (a.kept ∙ e);
         irrevocable = b.irrevocable;
         opaque = b.opaque;
         before = λ e. absurd (let f : true ≡ false = sym e ∙ a.revocable in cc);
@@ -154,11 +154,11 @@ module _ (good : List ℕ → Type 0) (c : Config) (n : ℕ) where
       later = omega arith;
       installs = refl;
       depth = refl;
-      retains = refl;
     };
     still = refl;
     uncommitted = quiet;
     log = refl;
+    kept = λ e. e;
     irrevocable = irrevocable;
     opaque = opaque-inside good c n l v o i;
     before = λ e. refl;

@@ -11,6 +11,7 @@ use Rattle.rule_base.specs.declared.views.SeenHistory.{SeenHistory}
 use Rattle.rule_base.specs.declared.views.TrailItem.{TrailItem}
 use Rattle.rule_base.specs.declared.views.View.{View}
 use Rattle.rule_base.specs.Bridge.{items, public_history}
+use Rattle.rule_base.specs.History.{member}
 use Rattle.rule_base.specs.Own.{Own}
 use Rattle.tx_answers.specs.Answers.{StartMoves, GoesOn}
 use Rattle.tx_answers.specs.Causes.{has_item, reads_full, writes_full}
@@ -51,7 +52,6 @@ goes-inner v w o inside i = record {
     later = (let e = i.start in omega arith);
     installs = ap reverse i.installs;
     depth = refl;
-    retains = refl;
   };
   start = start-stays v.gate.algorithm (known_of v o) (known_of w o) i.start;
   granted = λ k. granted_under (i.gate k).algorithm (i.gate k) (i.lock k);
@@ -106,12 +106,12 @@ and-no false = refl
 pub never-full : (a : ℕ) (v : Known) → is_irrevocable v ≡ true → (reads_full a v ≡ false) × (writes_full a v ≡ false)
 never-full a v irrevocable = (
   ap (λ b. has_read_log v.alg && (not b && (not (has_item a v.log.writes) && (not (has_item a v.log.reads) && (length v.log.reads == v.reads_limit))))) irrevocable ∙ and-no (has_read_log v.alg),
-  ap (λ b. logs_writes v.alg && (not b && (not (has_item a v.log.writes) && (length v.log.writes == v.writes_limit)))) irrevocable ∙ and-no (logs_writes v.alg),
+  ap (λ b. logs_writes v.alg && (not b && (not (member v.kept a) && (length v.kept == v.writes_limit)))) irrevocable ∙ and-no (logs_writes v.alg),
 )
 
 -- nor does one of an algorithm without logs
 pub no-log-full : (a : ℕ) (v : Known) → has_read_log v.alg ≡ false → logs_writes v.alg ≡ false → (reads_full a v ≡ false) × (writes_full a v ≡ false)
 no-log-full a v r w = (
   ap (λ b. b && (not (is_irrevocable v) && (not (has_item a v.log.writes) && (not (has_item a v.log.reads) && (length v.log.reads == v.reads_limit))))) r,
-  ap (λ b. b && (not (is_irrevocable v) && (not (has_item a v.log.writes) && (length v.log.writes == v.writes_limit)))) w,
+  ap (λ b. b && (not (is_irrevocable v) && (not (member v.kept a) && (length v.kept == v.writes_limit)))) w,
 )

@@ -4,6 +4,7 @@ pub mod Leaving
 pub mod Promoting
 pub mod Logging
 pub mod Peeling
+pub mod KeptLaws
 pub mod Opacity
 pub mod LeavingLaws
 pub mod Standing
@@ -19,3 +20,5 @@ pub mod DirectLaws
 pub mod MarkLaws
 pub mod Irrevocable
 pub mod RollItems
+pub mod Cells
+pub mod CellLogs

@@ -27,9 +27,10 @@ use Rattle.stm_rule.specs.Findings.{FindsGate, FindsTaken}
 use Rattle.tx_answers.specs.declared.answers.Look.TheVariants as looks
 use Rattle.tx_answers.specs.Answers.{Waits, IsOpaque, OfUnseen}
 use Rattle.tx_answers.specs.Evidence.{Untouched}
-use Rattle.tx_answers.specs.Known.{known_of, granted_under, written_under, is_irrevocable, is_in, is_closing}
+use Rattle.tx_answers.specs.Known.{known_of, granted_under, written_under, kept_under, is_irrevocable, is_in, is_closing}
 use Rattle.tx_answers.specs.KnownLaws.{grows-same}
 use Rattle.stm_gate.specs.InnerLaws.{granted-same}
+use Rattle.stm_gate.specs.KeptLaws.{kept-same}
 use Rattle.stm_gate.specs.LeavingLaws.{found-earlier}
 use Rattle.stm_gate.specs.Logging.{wrote-some}
 use Rattle.stm_gate.specs.Looking.{looked, LooksOn, LooksUntil}
@@ -126,12 +127,12 @@ module _ (c : Config) (n : ℕ) where
         later = omega arith;
         installs = refl;
         depth = refl;
-        retains = refl;
       };
       still = refl;
       uncommitted = quiet;
       start = refl;
       log = λ i. record { reads = items v.attempt.reads; writes = ((λ j. written_under (algorithm j) (granted j) y o) ∙ written-gated v.gate.algorithm v.gate.granted v g (more ++ v.steps.trail) o) i };
+      kept = (λ j. kept_under (algorithm j) y o) ∙ kept-same v.gate.algorithm v y o o refl refl refl;
       opaque = record { legal = q.legal; reach = q.reach; sees = q.sees; kept = q.kept; explained = q.explained };
       granted = (λ j. granted_under (algorithm j) g v.lock) ∙ granted-same v.gate.algorithm g v.gate v.lock granted;
       revocable = revocable;
@@ -235,11 +236,12 @@ module _ (c : Config) (n : ℕ) where
       undo = k.undo;
       wrote = k.wrote;
       undoable = k.undoable;
+      shorter = k.shorter;
+      most = k.most;
       words = k.words;
       small = k.small;
       old_words = k.old_words;
       covered = k.covered;
-      short = k.short;
       few = k.few;
       places = k.places;
       olds = k.olds;

@@ -6,10 +6,9 @@ use Rattle.std.proofs.lemmas.Bool.Decides.{nat_tests}
 use Rattle.std.proofs.lemmas.List.{append-nil, length-take, length-map, take-map}
 use Rattle.stm_model.specs.Memories.{item_at, put, Once}
 use Rattle.rule_base.specs.declared.entries.Cell.{Cell}
-use Rattle.rule_base.specs.Bridge.{items}
+use Rattle.rule_base.specs.Bridge.{addresses, items}
 use Rattle.rule_base.specs.BridgeLemmas.{item-some}
 use Rattle.rule_base.specs.History.{touches, over, without}
-use Rattle.stm_rule.specs.Attempts.{addresses}
 use Rattle.tx_answers.specs.Causes.{has_item, is_some}
 use Rattle.tx_logs.specs.LogStates.{firsts}
 use Rattle.stm_gate.specs.Peeling.{minus, items-without, drop-all}

@@ -27,7 +27,7 @@ pub record CanBegin (alg : Alg) (v : View) : Type 0 where
 
 -- an idle descriptor keeps nothing of an attempt
 abbrev pub IsFresh : Own → Type 0
-IsFresh o = (o.committing ≡ false) × (o.buffered ≡ []) × (o.depth ≡ 0) × (o.marks ≡ []) × (o.retains ≡ false)
+IsFresh o = (o.committing ≡ false) × (o.buffered ≡ []) × (o.depth ≡ 0) × (o.marks ≡ [])
 
 -- what no begin changes
 pub record KeepsCaller (v w : Known) : Type 0 where
@@ -49,6 +49,7 @@ module _ (good : List ℕ → Type 0) (c : Config) (n : ℕ) (alg : Alg) where
     pub is : w.start ≡ start
     pub fresh : v.front ≤ start
     pub log : w.log ≡ no_log
+    pub bare : w.kept ≡ []
     pub granted : w.granted ≡ false
     pub opaque : IsOpaque good c n w
 

@@ -28,10 +28,10 @@ running-by good c n l v inside s = go l.running l.holds s.by
     go false false s = absurd (let e : Idle ≡ In = sym s.phase ∙ inside in cc)
 
 -- an attempt of a descriptor goes on
-pub stands-in : {K : Type 0} → (good : K → List ℕ → Type 0) (c : Config) (rule : K) (who : Who K) (n : ℕ) (l : Local) (v : View) → who.config ≡ c → who.rule ≡ Some rule → l.running ≡ true → l.holds ≡ v.gate.holds → HasRoom who.config l → IsInside (good rule) c n l v → Stands (good_by good who.rule) who.config n l v
+pub stands-in : {K : Type 0} → (good : K → List ℕ → Type 0) (c : Config) (rule : K) (who : Who K) (n : ℕ) (l : Local) (v : View) → who.config ≡ c → who.rule ≡ Some rule → l.running ≡ true → l.holds ≡ v.gate.holds → HasRoom l → IsInside (good rule) c n l v → Stands (good_by good who.rule) who.config n l v
 stands-in {K} good c rule who n l v config value running holds lengths i =
     subst (λ (r : Option K). Stands (good_by good r) who.config n l v) (sym value) (subst (λ (f : Config). Stands (good rule) f n l v) (sym config)
-    (record { holds = holds; lengths = subst (λ (f : Config). HasRoom f l) config lengths; by = subst (λ (r : Bool). StandsBy (good rule) c n l r l.holds v) (sym running) i }))
+    (record { holds = holds; lengths = lengths; by = subst (λ (r : Bool). StandsBy (good rule) c n l r l.holds v) (sym running) i }))
 
 -- d was the descriptor e at the call, t is its seat after it, and m its fields
 pub told : {K : Type 0} → (P : ℕ → Known → Known → Type 0) (d e : Handle K) (n : ℕ) (t : SeatView K) (m : Local) → d ≡ e → t.who ≡ d.who → d.who.role ≡ Caller n
@@ -41,7 +41,7 @@ told {K} P d e n t m same who role p = subst (λ (h : Handle K). P (number h) (k
     (subst (λ (r : Role). P (caller_of r) (known d) (known_of t.view (own_of m))) (sym role) p))
 
 -- a running attempt that goes on stands
-pub stands-on : (good : List ℕ → Type 0) (c : Config) (n : ℕ) (l m : Local) (v w : View) → v.gate.phase ≡ In → Stands good c n l v → m.running ≡ l.running → m.holds ≡ l.holds → HasRoom c m → w.gate.holds ≡ v.gate.holds → IsInside good c n m w → Stands good c n m w
+pub stands-on : (good : List ℕ → Type 0) (c : Config) (n : ℕ) (l m : Local) (v w : View) → v.gate.phase ≡ In → Stands good c n l v → m.running ≡ l.running → m.holds ≡ l.holds → HasRoom m → w.gate.holds ≡ v.gate.holds → IsInside good c n m w → Stands good c n m w
 stands-on good c n l m v w inside s running held lengths gate i = record {
   holds = held ∙ (s.holds ∙ sym gate);
   lengths = lengths;

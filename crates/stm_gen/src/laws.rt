@@ -1,7 +1,13 @@
 //! Laws of the definitions, each the contract of a function.
+ghost use Rattle.stm_gen.specs.Limits.{LimitsAre};
 ghost use Rattle.stm_gen.specs.Summaries.{SummaryIsCounted, SummaryTellsMemory};
 
 use tx_cells::laws::{chains_are_apart, contents_change};
+
+/// The numbers of generated workloads are these.
+pub fn limits_are()
+    ensures { LimitsAre }
+{}
 
 /// Every report that replays a generated workload has the same summary, whatever the order in which its
 /// callers came: it is known by counting the transactions.

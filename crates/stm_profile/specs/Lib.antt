@@ -1,3 +1,4 @@
 pub mod Profiles
 pub mod Policies
 pub mod PolicyWords
+pub mod Limits

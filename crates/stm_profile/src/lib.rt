@@ -3,6 +3,7 @@
 #![tactic(auto)]
 
 pub mod choosing;
+pub mod laws;
 pub mod numbers;
 pub mod outcome;
 pub mod policy;

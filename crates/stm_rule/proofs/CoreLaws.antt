@@ -14,7 +14,7 @@ use Rattle.rule_base.specs.World.{World}
 use Rattle.rule_seq.specs.CglRuns.CglStep.{acquires_lock, loads_start, loads_heap, stores_heap, stores_clock, frees_lock, loads_undo, loads_limit, takes_back}
 use Rattle.rule_seq.specs.TmlRuns.TmlStep.{tml_begins, tml_loads, tml_agains, tml_writes, tml_stores, tml_commits}
 use Rattle.stm_rule.specs.CoreRuns.{CoreStep, core_kind, CoreMay, CoreOpens, CoreCommits, CoreInstalls, CorePromotes, CoreRings, one_of_each, two_by_ring}
-use Rattle.stm_rule.specs.CoreRuns.CoreStep.{announces, loads_gate, departs, aims, takes_gate, checks, reopens, settles, evens_clock, stores_base, stores_done, installs, of_cgl, of_tml, looks_gate, seizes, grants, direct_loads, direct_stores, direct_commits, direct_quits, returns, fences, fence_loads, fence_stores, fence_commits, unfences, hears, loads_end, of_ring, look_grants, move_grants, of_orec, orec_grants, orec_grants_all, direct_releases}
+use Rattle.stm_rule.specs.CoreRuns.CoreStep.{announces, loads_gate, departs, aims, takes_gate, checks, reopens, settles, evens_clock, stores_base, stores_done, installs, of_cgl, of_tml, looks_gate, seizes, grants, direct_loads, direct_stores, direct_commits, direct_lifts, direct_ups, returns, fences, fence_loads, fence_stores, fence_commits, unfences, hears, loads_end, of_ring, look_grants, move_grants, of_orec, orec_grants, orec_grants_all, direct_releases}
 use Rattle.rule_orec.specs.OrecRuns.OrecStep.{orec_begins, orec_samples, orec_loads, orec_confirms, orec_clocks, orec_clocks_all, orec_passes, orec_lasts, orec_looks, orec_limits, orec_locks, orec_commits, orec_writes_back, orec_times, orec_olds, orec_ups, orec_own_loads, orec_saves, orec_places, orec_restores, orec_lifts}
 use Rattle.stm_rule.specs.FencingLaws as fencing
 use Rattle.stm_rule.specs.GivingLaws as giving
@@ -103,7 +103,8 @@ one_step good c n (direct_releases q t) w r m = kept_by (lifted.direct_releases 
 one_step good c n (direct_loads a) w r m = kept_by (lifted.direct_loads good c n a w r m.1)
 one_step good c n (direct_stores a x) w r m = kept_by (lifted.direct_stores good c n a x w r m.1)
 one_step good c n (direct_commits alg t) w r m = kept_by (lifted.direct_commits good c n alg t m.0 w r m.1)
-one_step good c n (direct_quits alg t) w r m = kept_by (lifted.direct_quits good c n alg t m.0 w r m.1)
+one_step good c n (direct_lifts least) w r m = kept_by (lifted.direct_lifts good c n least m.0 w r m.1)
+one_step good c n (direct_ups q version) w r m = kept_by (lifted.direct_ups good c n q version w r m.1)
 one_step good c n (returns fence alg) w r m = kept_by (lifted.returns good c n fence alg w r m.1)
 one_step good c n (fences from count alg) w r m = kept_by (fencing.fences good c n from count alg w r m.1)
 one_step good c n (fence_loads a) w r m = kept_by (fencing.fence_loads good c n a w r m.1)

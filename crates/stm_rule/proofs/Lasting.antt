@@ -14,7 +14,7 @@ use Rattle.rule_seq.specs.CglRuns.CglStep.{acquires_lock, loads_start, loads_hea
 use Rattle.rule_seq.specs.TmlRuns.TmlStep.{tml_begins, tml_loads, tml_agains, tml_writes, tml_stores, tml_commits}
 use Rattle.rule_ring.specs.RingRuns.RingStep.{ring_begins, ring_loads, ring_looks, ring_words, ring_agains, ring_moves, ring_locks, ring_ticks, ring_slots, ring_enters, ring_writes, ring_dones, ring_frees}
 use Rattle.stm_rule.specs.CoreRuns.{CoreStep, core_kind, CoreMay}
-use Rattle.stm_rule.specs.CoreRuns.CoreStep.{announces, loads_gate, departs, aims, takes_gate, checks, reopens, settles, evens_clock, stores_base, stores_done, installs, of_cgl, of_tml, of_ring, looks_gate, seizes, grants, look_grants, move_grants, direct_loads, direct_stores, direct_commits, direct_quits, returns, fences, fence_loads, fence_stores, fence_commits, unfences, hears, loads_end, of_orec, orec_grants, orec_grants_all, direct_releases}
+use Rattle.stm_rule.specs.CoreRuns.CoreStep.{announces, loads_gate, departs, aims, takes_gate, checks, reopens, settles, evens_clock, stores_base, stores_done, installs, of_cgl, of_tml, of_ring, looks_gate, seizes, grants, look_grants, move_grants, direct_loads, direct_stores, direct_commits, direct_lifts, direct_ups, returns, fences, fence_loads, fence_stores, fence_commits, unfences, hears, loads_end, of_orec, orec_grants, orec_grants_all, direct_releases}
 use Rattle.stm_rule.specs.Product.{Whole}
 use Rattle.stm_rule.specs.Quiescence.{RestLasts, GrantedLasts}
 use Rattle.stm_rule.specs.RestLaws.{quiet-rests, granted-rests}
@@ -101,7 +101,8 @@ module _ (good : (ℕ → ℕ) → Type 0) (c : Config) where
   stands m (direct_loads a) w g out apart may = (refl, refl)
   stands m (direct_stores a x) w g out apart may = (refl, refl)
   stands m (direct_commits alg t) w g out apart may = absurd (out (g.core.install.promoted m may.1.granted).1)
-  stands m (direct_quits alg t) w g out apart may = absurd (out (g.core.install.promoted m may.1.granted).1)
+  stands m (direct_lifts least) w g out apart may = absurd (out (g.core.install.promoted m may.1.granted).1)
+  stands m (direct_ups r version) w g out apart may = (refl, refl)
   stands m (returns fence alg) w g out apart may = (refl, refl)
   stands m (fences from count alg) w g out apart may = (refl, refl)
   stands m (fence_loads a) w g out apart may = (refl, refl)

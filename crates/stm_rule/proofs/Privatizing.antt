@@ -12,7 +12,7 @@ use Rattle.rule_seq.specs.TmlRuns.TmlStep.{tml_begins, tml_loads, tml_agains, tm
 use Rattle.rule_ring.specs.RingRuns.RingStep.{ring_begins, ring_loads, ring_looks, ring_words, ring_agains, ring_moves, ring_locks, ring_ticks, ring_slots, ring_enters, ring_writes, ring_dones, ring_frees}
 use Rattle.rule_orec.specs.OrecRuns.OrecStep.{orec_begins, orec_samples, orec_loads, orec_confirms, orec_clocks, orec_clocks_all, orec_passes, orec_lasts, orec_looks, orec_limits, orec_locks, orec_commits, orec_writes_back, orec_times, orec_olds, orec_ups, orec_own_loads, orec_saves, orec_places, orec_restores, orec_lifts}
 use Rattle.stm_rule.specs.CoreRuns.{CoreStep, core_kind, CoreMay}
-use Rattle.stm_rule.specs.CoreRuns.CoreStep.{announces, loads_gate, departs, aims, takes_gate, checks, reopens, settles, evens_clock, stores_base, stores_done, installs, of_cgl, of_tml, looks_gate, seizes, grants, direct_loads, direct_stores, direct_commits, direct_quits, returns, fences, fence_loads, fence_stores, fence_commits, unfences, hears, loads_end, of_ring, look_grants, move_grants, of_orec, orec_grants, orec_grants_all, direct_releases}
+use Rattle.stm_rule.specs.CoreRuns.CoreStep.{announces, loads_gate, departs, aims, takes_gate, checks, reopens, settles, evens_clock, stores_base, stores_done, installs, of_cgl, of_tml, looks_gate, seizes, grants, direct_loads, direct_stores, direct_commits, direct_lifts, direct_ups, returns, fences, fence_loads, fence_stores, fence_commits, unfences, hears, loads_end, of_ring, look_grants, move_grants, of_orec, orec_grants, orec_grants_all, direct_releases}
 use Rattle.stm_rule.specs.NoteRuns.{Shared, Deed, note_at, after_deed, SharedRule, MayDo}
 use Rattle.stm_rule.specs.NoteRuns.Deed.{steps, tells, learns}
 use Rattle.stm_rule.specs.Privatization.{IsBeside, LeavesAlone, is_direct, gives_back, AllLeaveAlone, RangeIsPrivate}
@@ -98,7 +98,8 @@ module _ (good : (ℕ → ℕ) → Type 0) (c : Config) where
   beside m (direct_loads a) w g may plain = spared good c m w a g (g.core.install.promoted m may.1.0.granted).1 may.1.1
   beside m (direct_stores a x) w g may plain = spared good c m w a g (g.core.install.promoted m may.1.0.granted).1 may.1.1
   beside m (direct_commits alg time) w g may plain = tt
-  beside m (direct_quits alg time) w g may plain = tt
+  beside m (direct_lifts least) w g may plain = tt
+  beside m (direct_ups r version) w g may plain = tt
   beside m (returns fence alg) w g may plain = tt
   beside m (fences from count alg) w g may plain = tt
   beside m (fence_loads a) w g may plain = absurd (no (plain may.1.holds))
@@ -183,7 +184,8 @@ module _ (good : (ℕ → ℕ) → Type 0) (c : Config) where
   still m (direct_loads a) w g may has kept = (has, refl)
   still m (direct_stores a x) w g may has kept = (has, refl)
   still m (direct_commits alg time) w g may has kept = (has, refl)
-  still m (direct_quits alg time) w g may has kept = (has, refl)
+  still m (direct_lifts least) w g may has kept = (has, refl)
+  still m (direct_ups r version) w g may has kept = (has, refl)
   still m (returns fence alg) w g may has kept = (has, refl)
   still m (fences from count alg) w g may has kept =
       let none : fence_of w.gate ≡ 0 = g.core.gate.guarded m (g.core.gate.closing m may.1.phase) ∙ may.1.free in

@@ -1,10 +1,11 @@
 -- No step lets the stamp of a record fall.
-use Rattle.std.proofs.Common.{◌≡◌, ℕ, ◌≤◌, Bool, true, false, refl, sym, subst, ◌∙◌, arith}
+use Rattle.std.proofs.Common.{◌≡◌, ◌≢◌, ℕ, ◌≤◌, Bool, true, false, refl, sym, subst, ap, ◌∙◌, arith}
 use Rattle.std.specs.Prelude.{if◌then◌else◌, ltb}
 use Rattle.stm_model.specs.declared.config.Config.{Config}
 use Rattle.stm_model.specs.declared.config.TheConstants.{CLOCK_LIMIT}
 use Rattle.rule_base.specs.declared.views.Ownership.{Ownership}
 use Rattle.rule_base.specs.declared.views.View.{View}
+use Rattle.rule_base.specs.History.{touches}
 use Rattle.rule_base.specs.Ranks.{Rec, rec_of, home_of}
 use Rattle.rule_base.specs.Ranks.Rec.{Free, Taken}
 use Rattle.rule_base.specs.StepKinds.{StepKind, answer, view_after, world_after}
@@ -18,7 +19,7 @@ use Rattle.rule_orec.specs.OrecRule.{OrecView, orec_view, OrecScene, orec_scene,
 use Rattle.rule_orec.specs.OrecRuns.OrecStep.{orec_begins, orec_samples, orec_loads, orec_confirms, orec_clocks, orec_clocks_all, orec_passes, orec_lasts, orec_looks, orec_limits, orec_locks, orec_commits, orec_writes_back, orec_times, orec_olds, orec_ups, orec_own_loads, orec_saves, orec_places, orec_restores, orec_lifts}
 use Rattle.rule_orec.specs.OrecSteps.{passes, direct_owned}
 use Rattle.stm_rule.specs.CoreRuns.{CoreStep, core_kind, CoreMay}
-use Rattle.stm_rule.specs.CoreRuns.CoreStep.{announces, loads_gate, departs, aims, takes_gate, checks, reopens, settles, evens_clock, stores_base, stores_done, installs, looks_gate, seizes, grants, orec_grants, orec_grants_all, direct_loads, direct_stores, direct_commits, direct_quits, returns, fences, fence_loads, fence_stores, fence_commits, unfences, hears, loads_end, of_cgl, of_tml, of_orec, direct_releases, of_ring, look_grants, move_grants}
+use Rattle.stm_rule.specs.CoreRuns.CoreStep.{announces, loads_gate, departs, aims, takes_gate, checks, reopens, settles, evens_clock, stores_base, stores_done, installs, looks_gate, seizes, grants, orec_grants, orec_grants_all, direct_loads, direct_stores, direct_commits, direct_lifts, direct_ups, returns, fences, fence_loads, fence_stores, fence_commits, unfences, hears, loads_end, of_cgl, of_tml, of_orec, direct_releases, of_ring, look_grants, move_grants}
 use Rattle.rule_ring.specs.RingRuns.RingStep.{ring_begins, ring_loads, ring_looks, ring_words, ring_agains, ring_moves, ring_locks, ring_ticks, ring_slots, ring_enters, ring_writes, ring_dones, ring_frees}
 use Rattle.stm_rule.specs.Frames.{orec-world}
 use Rattle.rule_base.specs.Fence.{veil}
@@ -34,7 +35,8 @@ use Rattle.rule_base.specs.RegimeLemmas.{regime-granted}
 use Rattle.rule_base.specs.RunScene.{run_scene}
 use Rattle.rule_promoted.specs.PromotedRule.{Suits, OrecSuits, DirectRuns, suit_scene}
 use Rattle.rule_promoted.specs.PromotedSteps.{direct_release, CanDirectRelease}
-use Rattle.rule_promoted.specs.ReleaseRanks.{release-ranks}
+use Rattle.rule_promoted.specs.RaisingSteps.{direct_up, CanDirectUp}
+use Rattle.rule_promoted.specs.ReleaseRanks.{release-ranks, entry-covers, next-covers}
 use Rattle.stm_rule.specs.Stamping.{CoreStamps}
 
 rank-view : (vs : ℕ → OrecView) (n q : ℕ) (v : OrecView) (k : Rec) → v.owned.held ≡ (vs n).owned.held → v.owned.eager ≡ (vs n).owned.eager → v.owned.committed ≡ (vs n).owned.committed → v.owned.time ≡ (vs n).owned.time → rank_of vs q k ≤ rank_of (put vs n v) q k
@@ -54,22 +56,34 @@ held_by false o = (refl, refl, refl, refl)
 by-veil : (kind : StepKind) (n : ℕ) (w : World) → Spares kind n w → ((r : ℕ) → rank (orec_scene (veil w)) r ≤ rank (orec_scene (world_after kind n (veil w))) r) → (r : ℕ) → rank (orec_scene w) r ≤ rank (orec_scene (world_after kind n w)) r
 by-veil kind n w s k r = subst (λ (y : World). rank (orec_scene w) r ≤ rank (orec_scene y) r) s.world (k r)
 
--- a promoted attempt gives back what it alone holds, with the number to which it raised the clock
-given_back : (good : (ℕ → ℕ) → Type 0) (c : Config) (n q time : ℕ) (w : World) → Core good c w → CanDirectRelease q time (w.views n) → (r : ℕ) → rank (orec_scene w) r ≤ rank (orec_scene (world_after (direct_release q time) n w)) r
-given_back good c n q time w g may = release-ranks (home_of c) n q time w (records (w.views n).gate.algorithm may.algorithm d.suits) g.records
-    (λ m other t. nobody-else good c n w g (λ k low apart. g.install.alone n k (g.install.promoted n may.granted).0 low apart) m other (g.records.inside m q t))
-    may.entered may.held (may.time ∙ d.direct.start)
-  where
-    d : DirectRuns c (w.views n).gate.algorithm n (run_scene w)
-    d = subst (λ (r : Regime). Runs c r (run_scene w)) (regime-granted c w n g.gate g.install may.granted) g.running
+-- a promoted attempt of the records gives back what it alone holds, as high as it owes
+module _ (good : (ℕ → ℕ) → Type 0) (c : Config) (n : ℕ) (w : World) (g : Core good c w) (granted : (w.views n).gate.granted ≡ true) (recorded : has_records (w.views n).gate.algorithm ≡ true) where
+  runs : DirectRuns c (w.views n).gate.algorithm n (run_scene w)
+  runs = subst (λ (r : Regime). Runs c r (run_scene w)) (regime-granted c w n g.gate g.install granted) g.running
 
-    records : (a : Alg) → has_records a ≡ true → Suits (home_of c) a (suit_scene n w) → OrecSuits (home_of c) (suit_scene n w)
-    records Cgl e k = absurd cc
-    records Tml e k = absurd cc
-    records OrecLazy e k = k
-    records OrecEager e k = k
-    records RingSw e k = absurd cc
-    records Serial e k = absurd cc
+  suits : OrecSuits (home_of c) (suit_scene n w)
+  suits = by (w.views n).gate.algorithm recorded runs.suits
+    where
+      by : (a : Alg) → has_records a ≡ true → Suits (home_of c) a (suit_scene n w) → OrecSuits (home_of c) (suit_scene n w)
+      by Cgl e k = absurd cc
+      by Tml e k = absurd cc
+      by OrecLazy e k = k
+      by OrecEager e k = k
+      by RingSw e k = absurd cc
+      by Serial e k = absurd cc
+
+  alone : (q m : ℕ) → m ≢ n → touches (w.views m).owned.held q ≡ true → ⊥
+  alone q m other t = nobody-else good c n w g (λ k low apart. g.install.alone n k (g.install.promoted n granted).0 low apart) m other (g.records.inside m q t)
+
+-- with the number of its entry
+given_back : (good : (ℕ → ℕ) → Type 0) (c : Config) (n q time : ℕ) (w : World) → Core good c w → CanDirectRelease q time (w.views n) → (r : ℕ) → rank (orec_scene w) r ≤ rank (orec_scene (world_after (direct_release q time) n w)) r
+given_back good c n q time w g may = release-ranks n q time w (world_after (direct_release q time) n w) (view_after (direct_release q time) w (w.views n) (answer (direct_release q time) w)) refl refl refl g.records (alone good c n w g may.granted may.algorithm q)
+    (entry-covers (home_of c) n q time w (suits good c n w g may.granted may.algorithm) may.held g.records may.entered (may.time ∙ (runs good c n w g may.granted may.algorithm).direct.start))
+
+-- or one later than it was
+given_up : (good : (ℕ → ℕ) → Type 0) (c : Config) (n q version : ℕ) (w : World) → Core good c w → CanDirectUp q version (w.views n) → (r : ℕ) → rank (orec_scene w) r ≤ rank (orec_scene (world_after (direct_up q version) n w)) r
+given_up good c n q version w g may = release-ranks n q version w (world_after (direct_up q version) n w) (view_after (direct_up q version) w (w.views n) (answer (direct_up q version) w)) refl refl refl g.records (alone good c n w g may.granted (ap has_records may.named) q)
+    (next-covers (home_of c) n q version w (suits good c n w g may.granted (ap has_records may.named)) may.held may.next)
 
 core_ranks : (good : (ℕ → ℕ) → Type 0) (c : Config) (n : ℕ) (s : CoreStep) (w : World) → Whole good c w → CoreMay good c n s (w.views n) → (r : ℕ) → rank (orec_scene w) r ≤ rank (orec_scene (world_after (core_kind n s) n w)) r
 core_ranks good c n announces w g m = level w (world_after (core_kind n announces) n w) n (view_after (core_kind n announces) w (w.views n) (answer (core_kind n announces) w)) refl refl refl refl refl refl
@@ -92,7 +106,7 @@ core_ranks good c n orec_grants_all w g m = let k = held_by (ltb w.clock CLOCK_L
 core_ranks good c n (direct_loads a) w g m = level w (world_after (core_kind n (direct_loads a)) n w) n (view_after (core_kind n (direct_loads a)) w (w.views n) (answer (core_kind n (direct_loads a)) w)) refl refl refl refl refl refl
 core_ranks good c n (direct_stores a x) w g m = level w (world_after (core_kind n (direct_stores a x)) n w) n (view_after (core_kind n (direct_stores a x)) w (w.views n) (answer (core_kind n (direct_stores a x)) w)) refl refl refl refl refl refl
 core_ranks good c n (direct_commits alg time) w g m = level w (world_after (core_kind n (direct_commits alg time)) n w) n (view_after (core_kind n (direct_commits alg time)) w (w.views n) (answer (core_kind n (direct_commits alg time)) w)) refl refl refl refl refl refl
-core_ranks good c n (direct_quits alg time) w g m = level w (world_after (core_kind n (direct_quits alg time)) n w) n (view_after (core_kind n (direct_quits alg time)) w (w.views n) (answer (core_kind n (direct_quits alg time)) w)) refl refl refl refl refl refl
+core_ranks good c n (direct_lifts least) w g m = level w (world_after (core_kind n (direct_lifts least)) n w) n (view_after (core_kind n (direct_lifts least)) w (w.views n) (answer (core_kind n (direct_lifts least)) w)) refl refl refl refl refl refl
 core_ranks good c n (returns fence alg) w g m = level w (world_after (core_kind n (returns fence alg)) n w) n (view_after (core_kind n (returns fence alg)) w (w.views n) (answer (core_kind n (returns fence alg)) w)) refl refl refl refl refl refl
 core_ranks good c n (fences from count alg) w g m = level w (world_after (core_kind n (fences from count alg)) n w) n (view_after (core_kind n (fences from count alg)) w (w.views n) (answer (core_kind n (fences from count alg)) w)) refl refl refl refl refl refl
 core_ranks good c n (fence_loads a) w g m = level w (world_after (core_kind n (fence_loads a)) n w) n (view_after (core_kind n (fence_loads a)) w (w.views n) (answer (core_kind n (fence_loads a)) w)) refl refl refl refl refl refl
@@ -153,6 +167,7 @@ core_ranks good c n (of_ring ring_frees) w g m = level w (world_after (core_kind
 core_ranks good c n look_grants w g m = level w (world_after (core_kind n look_grants) n w) n (view_after (core_kind n look_grants) w (w.views n) (answer (core_kind n look_grants) w)) refl refl refl refl refl refl
 core_ranks good c n move_grants w g m = level w (world_after (core_kind n move_grants) n w) n (view_after (core_kind n move_grants) w (w.views n) (answer (core_kind n move_grants) w)) refl refl refl refl refl refl
 core_ranks good c n (direct_releases q time) w g m = by-veil (core_kind n (direct_releases q time)) n w (sparing.direct_releases good c n q time w g m.1) (given_back good c n q time (veil w) g.core m.1)
+core_ranks good c n (direct_ups q version) w g m = by-veil (core_kind n (direct_ups q version)) n w (sparing.direct_ups good c n q version w g m.1) (given_up good c n q version (veil w) g.core m.1)
 
 pub core_stamps_lem : (good : (ℕ → ℕ) → Type 0) (c : Config) → CoreStamps good c
 core_stamps_lem good c n s w g m r = stamp-grows (orec_scene w) (orec_scene (world_after (core_kind n s) n w)) r (core_ranks good c n s w g m r)

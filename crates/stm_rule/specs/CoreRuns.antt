@@ -18,7 +18,7 @@ use Rattle.rule_base.specs.declared.entries.Cell.{Cell}
 use Rattle.rule_ring.specs.SlotFilter.{slot_filter}
 use Rattle.rule_seq.specs.CglRuns.{CglStep, cgl_kind, MayAs}
 use Rattle.rule_promoted.specs.PromotedSteps.{tml_grant, CanTmlGrant, ring_look_grant, CanRingGrant, ring_move_grant, CanRingMoveGrant, direct_load, CanDirectLoad, direct_store, CanDirectStore, direct_commit, CanDirectCommit, direct_release, CanDirectRelease}
-use Rattle.rule_promoted.specs.QuittingSteps.{direct_quit, CanDirectQuit}
+use Rattle.rule_promoted.specs.RaisingSteps.{direct_lift, CanDirectLift, direct_up, CanDirectUp}
 use Rattle.rule_seq.specs.TmlRuns.{TmlStep, tml_kind, TmlMayAs}
 use Rattle.rule_seq.specs.CglRuns.CglStep.{acquires_lock, loads_start, loads_heap, stores_heap, stores_clock, frees_lock, loads_undo, loads_limit, takes_back}
 use Rattle.rule_seq.specs.TmlRuns.TmlStep.{tml_begins, tml_loads, tml_agains, tml_writes, tml_stores, tml_commits}
@@ -67,7 +67,8 @@ pub data CoreStep : Type 0 where
   direct_loads : (a : ℕ) → CoreStep
   direct_stores : (a x : ℕ) → CoreStep
   direct_commits : (alg : Alg) (time : ℕ) → CoreStep
-  direct_quits : (alg : Alg) (time : ℕ) → CoreStep
+  direct_lifts : (least : ℕ) → CoreStep
+  direct_ups : (r version : ℕ) → CoreStep
   returns : (fence : ℕ) (alg : Alg) → CoreStep
   fences : (from count : ℕ) (alg : Alg) → CoreStep
   fence_loads : (a : ℕ) → CoreStep
@@ -105,7 +106,8 @@ core_kind n (direct_releases r time) = direct_release r time
 core_kind n (direct_loads a) = direct_load a
 core_kind n (direct_stores a x) = direct_store a x
 core_kind n (direct_commits alg time) = direct_commit n alg time
-core_kind n (direct_quits alg time) = direct_quit alg time
+core_kind n (direct_lifts least) = direct_lift least
+core_kind n (direct_ups r version) = direct_up r version
 core_kind n (returns fence alg) = return_gate fence alg
 core_kind n (fences from count alg) = fence n (fence_number n from count) alg
 core_kind n (fence_loads a) = fence_load a
@@ -155,7 +157,8 @@ module _ (good : (ℕ → ℕ) → Type 0) (c : Config) where
   CoreMayAs n (direct_loads a) v = CanDirectLoad c.words a v × IsSpared a v
   CoreMayAs n (direct_stores a x) v = CanDirectStore c.words a x v × IsSpared a v
   CoreMayAs n (direct_commits alg time) v = CanDirectCommit good alg time v
-  CoreMayAs n (direct_quits alg time) v = CanDirectQuit alg time v
+  CoreMayAs n (direct_lifts least) v = CanDirectLift least v
+  CoreMayAs n (direct_ups r version) v = CanDirectUp r version v
   CoreMayAs n (returns fence alg) v = CanReturn fence alg v
   CoreMayAs n (fences from count alg) v = CanFence c n from count alg v
   CoreMayAs n (fence_loads a) v = CanFenceLoad a v

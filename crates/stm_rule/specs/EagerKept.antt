@@ -1,5 +1,5 @@
 -- What stands of a view by the descriptor's fields in an attempt of OrecEager, until it is promoted and afterwards.
-use Rattle.std.specs.Prelude.{ℕ, ◌≡◌, ◌≢◌, ◌≤◌, ◌<◌, ◌+◌, not, true, false, [], length, map}
+use Rattle.std.specs.Prelude.{ℕ, ◌≡◌, ◌≢◌, ◌≤◌, ◌<◌, ◌+◌, not, true, false, [], length}
 use Rattle.stm_model.specs.Algorithms.{entry_rise}
 use Rattle.stm_model.specs.declared.config.Config.{Config}
 use Rattle.stm_model.specs.declared.config.TheConstants.{CLOCK_LIMIT}
@@ -24,15 +24,16 @@ pub record IsEager (c : Config) (l : Local) (v : View) : Type 0 where
   pub writes : l.writes.items ≡ items v.owned.in_place
   pub undo : l.undo.items ≡ items v.owned.undo
   pub wrote : l.wrote ≡ not (is_empty l.writes.items)
-  -- the undo log has an item for each address that was written, in their order
-  pub undoable : map (λ w. w.0) l.undo.items ≡ map (λ w. w.0) l.writes.items
+  -- the undo log has an item for each address that was written, and keeps those of writes that were taken back
+  pub undoable : (a : ℕ) → touches v.owned.in_place a ≡ true → touches v.owned.undo a ≡ true
+  pub shorter : length l.writes.items ≤ length l.undo.items
+  pub most : length l.undo.items ≤ l.undo.len
   pub words : Inside c.words v.owned.in_place
   pub small : Small v.owned.in_place
   pub old_words : Inside c.words v.owned.undo
-  -- the record of each is held; there are no more records than words unless it was rolled back, and each was free at a number of the clock that its start has seen
-  pub covered : (a : ℕ) → touches v.owned.in_place a ≡ true → touches v.owned.held (home_of c a) ≡ true
-  pub short : length l.writes.items ≤ l.undo.len
-  pub few : l.retains ≡ false → length l.locks.items ≤ length l.writes.items
+  -- the record of each item is held; no more records are held than there are items, and each was free at a number of the clock that its start has seen
+  pub covered : (a : ℕ) → touches v.owned.undo a ≡ true → touches v.owned.held (home_of c a) ≡ true
+  pub few : length l.locks.items ≤ length l.undo.items
   pub places : Inside c.records v.owned.held
   pub olds : (r : ℕ) → touches v.owned.held r ≡ true → over v.owned.held r 0 ≤ l.start
   -- below the limit, so the clock can be raised above it
@@ -54,9 +55,10 @@ pub record IsEagerPromoted (c : Config) (l : Local) (v : View) : Type 0 where
   pub uncommitted : v.ring_commit.committed ≡ false
   pub locks : l.locks.items ≡ items v.owned.held
   pub places : Inside c.records v.owned.held
-  -- it holds records only where it wrote, or was rolled back
-  pub disowned : l.wrote ≡ false → l.retains ≡ false → v.owned.held ≡ []
-  pub few : l.retains ≡ false → length l.locks.items ≤ l.undo.len
+  pub below : (r : ℕ) → touches v.owned.held r ≡ true → over v.owned.held r 0 < CLOCK_LIMIT
+  -- it holds records only where it wrote, though that may have been taken back since
+  pub disowned : v.owned.undo ≡ [] → v.owned.held ≡ []
+  pub few : length l.locks.items ≤ l.undo.len
   pub clean : l.wrote ≡ false → v.attempt.stores ≡ []
   pub dirty : l.wrote ≡ true → v.attempt.stores ≢ []
   pub rises : v.steps.rises ≡ v.steps.rises_at_begin

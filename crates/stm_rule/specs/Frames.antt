@@ -190,13 +190,12 @@ pub record LeavesGate (kind : StepKind) (n : ℕ) : Type 0 where
   pub marks : (w : World) → ((world_after kind n w).base ≡ w.base) × ((world_after kind n w).done ≡ w.done)
   pub trail : (w : World) → (kind.after w (w.views n) (answer kind w)).steps.trail ≡ (w.views n).steps.trail
 
--- the step raises the clock to t, and what the caller knows as the gate's holder is of that time; it leaves the other words alone
-pub record RaisesClock (kind : StepKind) (n t : ℕ) : Type 0 where
-  pub clock : (w : World) → (world_after kind n w).clock ≡ t
+-- the step raises the clock, and what the caller knows as the gate's holder is of its new time; it leaves the other words alone
+pub record RaisesClock (kind : StepKind) (n : ℕ) : Type 0 where
   pub gate : (w : World) → (world_after kind n w).gate ≡ w.gate
   pub status : (w : World) → (world_after kind n w).status ≡ w.status
   pub records : (w : World) → (world_after kind n w).records ≡ w.records
-  pub view : (w : World) → (kind.after w (w.views n) (answer kind w)).gate ≡ record (w.views n).gate { time = t; rebased = false; completed = false }
+  pub view : (w : World) → (kind.after w (w.views n) (answer kind w)).gate ≡ record (w.views n).gate { time = (world_after kind n w).clock; rebased = false; completed = false }
   pub marks : (w : World) → ((world_after kind n w).base ≡ w.base) × ((world_after kind n w).done ≡ w.done)
   pub trail : (w : World) → (kind.after w (w.views n) (answer kind w)).steps.trail ≡ (w.views n).steps.trail
 
@@ -391,18 +390,18 @@ module _ (good : (ℕ → ℕ) → Type 0) (c : Config) (kind : StepKind) (shows
       record { runs = Running a; is = regime-inside c w n g.gate g.install i.0 i.2 ∙ ap Running i.1; inside = i.0; raised = λ e t. g.raised e n (entered (sym i.1 ∙ (sym (g.gate.named n i.0) ∙ e)) w t); law = law; stands = calms w g i.0 (clock w g may) })
 
   -- a step of a promoted attempt that leaves the clock alone
-  pub by-direct : LeavesGate kind n → ((w : World) → (world_after kind n w).clock ≡ w.clock) → ((v : View) → May v → v.gate.granted ≡ true) → ((a : Alg) → StepLaw (RunWorld (Runs c (Promoted a n)) good c) kind shows n May) → StepLaw (Core good c) kind shows n May
+  pub by-direct : LeavesGate kind n → ((w : World) → (world_after kind n w).clock ≡ w.clock) → ((v : View) → May v → v.gate.granted ≡ true) → ((v : View) → May v → StepLaw (RunWorld (Runs c (Promoted v.gate.algorithm n)) good c) kind shows n May) → StepLaw (Core good c) kind shows n May
   by-direct leaves clock inside law = by-attempt good c kind shows n May leaves (λ w g may.
-      record { runs = Promoted (w.views n).gate.algorithm n; is = regime-granted c w n g.gate g.install (inside (w.views n) may); inside = (g.install.promoted n (inside (w.views n) may)).1; raised = λ e t. (g.install.promoted n (inside (w.views n) may)).0; law = law (w.views n).gate.algorithm; stands = inr (clock w) })
+      record { runs = Promoted (w.views n).gate.algorithm n; is = regime-granted c w n g.gate g.install (inside (w.views n) may); inside = (g.install.promoted n (inside (w.views n) may)).1; raised = λ e t. (g.install.promoted n (inside (w.views n) may)).0; law = law (w.views n) may; stands = inr (clock w) })
 
 -- a step by which a promoted attempt raises the clock, with an entry or without one
-pub by-raise : (good : (ℕ → ℕ) → Type 0) (c : Config) (kind : StepKind) (shows : World → View → ℕ → Type 0) (n t : ℕ) (May : View → Type 0) (alg : Alg) → RaisesClock kind n t → ((v : View) → May v → (v.gate.granted ≡ true) × (v.gate.algorithm ≡ alg)) → StepLaw (RunWorld (Runs c (Promoted alg n)) good c) kind shows n May → StepLaw (Core good c) kind shows n May
-by-raise good c kind shows n t May alg raises inside law w g may = record {
+pub by-raise : (good : (ℕ → ℕ) → Type 0) (c : Config) (kind : StepKind) (shows : World → View → ℕ → Type 0) (n : ℕ) (May : View → Type 0) (alg : Alg) → RaisesClock kind n → ((v : View) → May v → (v.gate.granted ≡ true) × (v.gate.algorithm ≡ alg)) → StepLaw (RunWorld (Runs c (Promoted alg n)) good c) kind shows n May → StepLaw (Core good c) kind shows n May
+by-raise good c kind shows n May alg raises inside law w g may = record {
   rule = record {
     history = o.rule.history;
     steps = o.rule.steps;
     gate = gate-marked c.callers w x n v refl (raises.status w) (raises.gate w) (known (λ q. q.phase)) (known (λ q. q.present)) (known (λ q. q.algorithm)) (known (λ q. q.fence)) (known (λ q. q.aim)) (known (λ q. q.holds)) (known (λ q. q.checked)) g.gate;
-    install = ticked-install c w x n t v refl (raises.clock w) (raises.marks w).0 (raises.marks w).1 (raises.view w) (subst (λ (k : ℕ). w.clock ≤ k) (raises.clock w) o.advances.clock) calm g.gate g.install;
+    install = ticked-install c w x n x.clock v refl refl (raises.marks w).0 (raises.marks w).1 (raises.view w) o.advances.clock calm g.gate g.install;
     records = o.rule.records;
     lock = o.rule.lock;
     attempts = o.rule.attempts;
@@ -421,7 +420,7 @@ by-raise good c kind shows n t May alg raises inside law w g may = record {
     v = view_after kind w (w.views n) (answer kind w)
 
     -- a part of what the caller knows of the gate that the time is not in
-    known : {A : Type 0} (part : GateView → A) → part v.gate ≡ part (record (w.views n).gate { time = t; rebased = false; completed = false })
+    known : {A : Type 0} (part : GateView → A) → part v.gate ≡ part (record (w.views n).gate { time = x.clock; rebased = false; completed = false })
     known part = ap part (raises.view w)
 
     calm : (w.views n).gate.calm ≡ true

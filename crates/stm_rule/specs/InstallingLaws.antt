@@ -78,7 +78,8 @@ module _ (good : (ℕ → ℕ) → Type 0) (c : Config) (n : ℕ) where
               stamps = λ e. (moved.history, moved.records, ap (λ (f : ℕ → RunView). (f n).owned) views, own_entered e);
               clock = moved.clock;
               entered = λ e. inl (sym (ap (λ (f : ℕ → RunView). (f n).attempt.entered) views) ∙ e);
-              held = λ r t. (ap (λ (f : ℕ → RunView). touches (f n).owned.held r) (sym views) ∙ t, ap (λ (f : ℕ → RunView). over (f n).owned.held r 0) views);
+              held = λ r t. (ap (λ (f : ℕ → RunView). touches (f n).owned.held r) (sym views) ∙ t, ap (λ (f : ℕ → RunView). over (f n).owned.held r 0) views, ap (λ (f : ℕ → ℕ). f r) moved.records);
+              raised = ap (λ (f : ℕ → RunView). (f n).owned.raised) views;
               committed = ap (λ (f : ℕ → RunView). (f n).owned.committed) views;
             }) d.suits;
             ring = λ q. let k = d.ring q in record {

@@ -8,7 +8,7 @@ use Rattle.rule_base.specs.StepKinds.{Nothing, StepLaw}
 use Rattle.rule_base.specs.declared.entries.Cell.{Cell}
 use Rattle.rule_orec.specs.OrecSteps.{CanOrecBegin, CanOrecClock, CanOrecCommit, CanOrecConfirm, CanOrecGrant, CanOrecGrantAll, CanOrecLast, CanOrecLift, CanOrecLoad, CanOrecLock, CanOrecOld, CanOrecOwnLoad, CanOrecPass, CanOrecPlace, CanOrecRestore, CanOrecSample, CanOrecSave, CanOrecTime, CanOrecUp, CanOrecWriteBack, HasOrec, OrecClocks, OrecConfirms, OrecOwnLoads, orec_begin, orec_clock, orec_clock_all, orec_commit, orec_confirm, orec_grant, orec_grant_all, orec_last, orec_lift, orec_limit, orec_load, orec_lock, orec_look, orec_own_load, orec_pass, orec_place, orec_release, orec_restore, orec_sample, orec_save, orec_write_back}
 use Rattle.rule_promoted.specs.PromotedSteps.{CanDirectCommit, CanDirectLoad, CanDirectRelease, CanDirectStore, CanRingGrant, CanRingMoveGrant, CanTmlGrant, direct_commit, direct_load, direct_release, direct_store, ring_look_grant, ring_move_grant, tml_grant}
-use Rattle.rule_promoted.specs.QuittingSteps.{direct_quit, CanDirectQuit}
+use Rattle.rule_promoted.specs.RaisingSteps.{direct_lift, CanDirectLift, direct_up, CanDirectUp}
 use Rattle.rule_ring.specs.RingSteps.{CanRingAgain, CanRingBegin, CanRingDone, CanRingEnter, CanRingFree, CanRingLoad, CanRingLock, CanRingLook, CanRingMove, CanRingSlot, CanRingWord, CanRingWrite, HasTurn, RingBegins, RingEnters, RingLooks, RingMoves, ring_again, ring_begin, ring_done, ring_enter, ring_free, ring_load, ring_lock, ring_look, ring_move, ring_slot, ring_tick, ring_word, ring_write}
 use Rattle.rule_ring.specs.SlotFilter.{slot_filter}
 use Rattle.rule_seq.specs.CglSteps.{Begins, CanFreeLock, CanLoadHeap, CanLoadLimit, CanLoadStart, CanLoadUndo, CanStoreClock, CanStoreHeap, CanTakeBack, CanTakeLock, Commits, Loads, LoadsLimit, free_lock, load_heap, load_limit, load_start, load_undo, store_clock, store_heap, take_back, take_lock}
@@ -152,8 +152,11 @@ module _ (good : (ℕ → ℕ) → Type 0) (c : Config) (n : ℕ) where
   pub direct_commits : (alg : Alg) (t : ℕ) → n < c.callers → StepLaw (Whole good c) (direct_commit n alg t) (Commits good c n t) n (CanDirectCommit good alg t)
   direct_commits alg t low = lift good c (direct_commit n alg t) (Commits good c n t) (Commits good c n t) n (CanDirectCommit good alg t) (sparing_more.direct_commits good c n alg t) (λ w g may s. record { legal = s.legal; below = s.below; seen = s.seen }) (promotion.direct_commits good c n alg t low)
 
-  pub direct_quits : (alg : Alg) (t : ℕ) → n < c.callers → StepLaw (Whole good c) (direct_quit alg t) Nothing n (CanDirectQuit alg t)
-  direct_quits alg t low = lift good c (direct_quit alg t) Nothing Nothing n (CanDirectQuit alg t) (sparing_more.direct_quits good c n alg t) (λ w g may s. s) (promotion.direct_quits good c n alg t low)
+  pub direct_lifts : (least : ℕ) → n < c.callers → StepLaw (Whole good c) (direct_lift least) Nothing n (CanDirectLift least)
+  direct_lifts least low = lift good c (direct_lift least) Nothing Nothing n (CanDirectLift least) (sparing_more.direct_lifts good c n least) (λ w g may s. s) (promotion.direct_lifts good c n least low)
+
+  pub direct_ups : (r version : ℕ) → StepLaw (Whole good c) (direct_up r version) Nothing n (CanDirectUp r version)
+  direct_ups r version = lift good c (direct_up r version) Nothing Nothing n (CanDirectUp r version) (sparing_more.direct_ups good c n r version) (λ w g may s. s) (promotion.direct_ups good c n r version)
 
   pub orec_grants : (q b : ℕ) → StepLaw (Whole good c) (orec_grant q b) (OrecFails n) n (CanOrecGrant (home_of c) c.words q b)
   orec_grants q b = lift good c (orec_grant q b) (OrecFails n) (OrecFails n) n (CanOrecGrant (home_of c) c.words q b) (sparing_more.orec_grants good c n q b) (λ w g may s. record { own = s.own; later = s.later }) (promotion.orec_grants good c n q b)

@@ -38,17 +38,18 @@ use Rattle.rule_seq.specs.AttemptLemmas.{busy-owned, busy-tml, busy-writer, busy
 use Rattle.rule_seq.specs.CglSteps.{Loads, Commits}
 use Rattle.rule_seq.specs.LockLemmas.{lock_scene-kept}
 use Rattle.rule_seq.specs.LockRule.{LockRule, lock_scene}
+use Rattle.rule_seq.specs.RunWorld.{RunWorld}
 use Rattle.rule_promoted.specs.PromotedLaws.{tml-granted}
 use Rattle.rule_promoted.specs.PromotedLaws as direct
 use Rattle.rule_promoted.specs.PromotedRule.{DirectRuns}
 use Rattle.rule_promoted.specs.PromotedSteps.{tml_grants, tml_grant, CanTmlGrant, direct_load, CanDirectLoad, direct_store, CanDirectStore, direct_commit, CanDirectCommit, direct_release, CanDirectRelease}
-use Rattle.rule_promoted.specs.QuittingSteps.{direct_quit, CanDirectQuit}
-use Rattle.rule_promoted.specs.QuittingLaws as quitting
+use Rattle.rule_promoted.specs.RaisingSteps.{direct_lift, CanDirectLift, direct_up, CanDirectUp}
+use Rattle.rule_promoted.specs.RaisingLaws as raising
 use Rattle.stm_rule.specs.ClosingLaws.{regime-handed}
 use Rattle.stm_rule.specs.Findings.{NamesOther, FindsHolder, FindsTaken, OrecFails}
 use Rattle.stm_rule.specs.Alone.{alone-kept}
 use Rattle.stm_rule.specs.Raised.{raised-put}
-use Rattle.stm_rule.specs.Frames.{by-gate, by-running, by-direct, by-raise, ungranted, ungiven-out, same-horizon, owner-holds, none-apart, orec-world}
+use Rattle.stm_rule.specs.Frames.{by-gate, by-running, by-direct, by-raise, risen-trail, ungranted, ungiven-out, same-horizon, owner-holds, none-apart, orec-world}
 use Rattle.stm_rule.specs.Laws.{closer}
 use Rattle.stm_rule.specs.RecordLaws.{fails}
 use Rattle.stm_rule.specs.Product.{Runs, Core}
@@ -160,16 +161,20 @@ module _ (good : (ℕ → ℕ) → Type 0) (c : Config) (n : ℕ) where
       )
 
   pub direct_loads : (a : ℕ) → StepLaw (Core good c) (direct_load a) (Loads good c a) n (CanDirectLoad c.words a)
-  direct_loads a = by-direct good c (direct_load a) (Loads good c a) n (CanDirectLoad c.words a) (record { gate = λ w. refl; status = λ w. refl; view = λ w. refl; marks = λ w. (refl, refl); trail = λ w. refl }) (λ w. refl) (λ v m. m.granted) (λ alg. direct.direct_loads good c alg n a)
+  direct_loads a = by-direct good c (direct_load a) (Loads good c a) n (CanDirectLoad c.words a) (record { gate = λ w. refl; status = λ w. refl; view = λ w. refl; marks = λ w. (refl, refl); trail = λ w. refl }) (λ w. refl) (λ v m. m.granted) (λ v m. direct.direct_loads good c v.gate.algorithm n a)
 
   pub direct_stores : (a x : ℕ) → StepLaw (Core good c) (direct_store a x) Nothing n (CanDirectStore c.words a x)
-  direct_stores a x = by-direct good c (direct_store a x) Nothing n (CanDirectStore c.words a x) (record { gate = λ w. refl; status = λ w. refl; view = λ w. refl; marks = λ w. (refl, refl); trail = λ w. refl }) (λ w. refl) (λ v m. m.granted) (λ alg. direct.direct_stores good c alg n a x)
+  direct_stores a x = by-direct good c (direct_store a x) Nothing n (CanDirectStore c.words a x) (record { gate = λ w. refl; status = λ w. refl; view = λ w. refl; marks = λ w. (refl, refl); trail = λ w. refl }) (λ w. refl) (λ v m. m.granted) (λ v m. direct.direct_stores good c v.gate.algorithm n a x)
 
   pub direct_commits : (alg : Alg) (t : ℕ) → n < c.callers → StepLaw (Core good c) (direct_commit n alg t) (Commits good c n t) n (CanDirectCommit good alg t)
-  direct_commits alg t low = by-raise good c (direct_commit n alg t) (Commits good c n t) n t (CanDirectCommit good alg t) alg (record { clock = λ w. refl; gate = λ w. refl; status = λ w. refl; records = λ w. refl; view = λ w. refl; marks = λ w. (refl, refl); trail = λ w. refl }) (λ v m. (m.granted, m.named)) (direct.direct_commits good c alg n t low)
+  direct_commits alg t low = by-raise good c (direct_commit n alg t) (Commits good c n t) n (CanDirectCommit good alg t) alg (record { gate = λ w. refl; status = λ w. refl; records = λ w. refl; view = λ w. refl; marks = λ w. (refl, refl); trail = λ w. refl }) (λ v m. (m.granted, m.named)) (direct.direct_commits good c alg n t low)
 
-  pub direct_quits : (alg : Alg) (t : ℕ) → n < c.callers → StepLaw (Core good c) (direct_quit alg t) Nothing n (CanDirectQuit alg t)
-  direct_quits alg t low = by-raise good c (direct_quit alg t) Nothing n t (CanDirectQuit alg t) alg (record { clock = λ w. refl; gate = λ w. refl; status = λ w. refl; records = λ w. refl; view = λ w. refl; marks = λ w. (refl, refl); trail = λ w. refl }) (λ v m. (m.granted, m.named)) (quitting.direct_quits good c alg n t low)
+  pub direct_lifts : (least : ℕ) → n < c.callers → StepLaw (Core good c) (direct_lift least) Nothing n (CanDirectLift least)
+  direct_lifts least low = by-raise good c (direct_lift least) Nothing n (CanDirectLift least) OrecEager (record { gate = λ w. refl; status = λ w. refl; records = λ w. refl; view = λ w. refl; marks = λ w. (refl, refl); trail = λ w. risen-trail (ltb w.clock least) (w.views n) ((w.views n).steps.rises + 1) }) (λ v m. (m.granted, m.named)) (raising.direct_lifts good c n least low)
+
+  pub direct_ups : (r version : ℕ) → StepLaw (Core good c) (direct_up r version) Nothing n (CanDirectUp r version)
+  direct_ups r version = by-direct good c (direct_up r version) Nothing n (CanDirectUp r version) (record { gate = λ w. refl; status = λ w. refl; view = λ w. refl; marks = λ w. (refl, refl); trail = λ w. refl }) (λ w. refl) (λ v m. m.granted)
+      (λ v m. subst (λ (a : Alg). StepLaw (RunWorld (Runs c (Promoted a n)) good c) (direct_up r version) Nothing n (CanDirectUp r version)) (sym m.named) (raising.direct_ups good c n r version))
 
   -- nobody else is inside the records
   none_inside : (w : World) → Core good c w → HasChecked c.callers n (w.views n) → (m : ℕ) → m ≢ n → (w.views m).owned.inside ≡ true → ⊥
@@ -325,7 +330,7 @@ module _ (good : (ℕ → ℕ) → Type 0) (c : Config) (n : ℕ) where
       )
 
   pub direct_releases : (q t : ℕ) → StepLaw (Core good c) (direct_release q t) Nothing n (CanDirectRelease q t)
-  direct_releases q t = by-direct good c (direct_release q t) Nothing n (CanDirectRelease q t) (record { gate = λ w. refl; status = λ w. refl; view = λ w. refl; marks = λ w. (refl, refl); trail = λ w. refl }) (λ w. refl) (λ v m. m.granted) (λ alg. direct.direct_releases good c alg n q t)
+  direct_releases q t = by-direct good c (direct_release q t) Nothing n (CanDirectRelease q t) (record { gate = λ w. refl; status = λ w. refl; view = λ w. refl; marks = λ w. (refl, refl); trail = λ w. refl }) (λ w. refl) (λ v m. m.granted) (λ v m. direct.direct_releases good c v.gate.algorithm n q t)
 
   -- THE RETURN: after a promoted attempt its algorithm starts from rest; an attempt that wasn't promoted leaves what runs
   pub returns : (fence : ℕ) (alg : Alg) → StepLaw (Core good c) (return_gate fence alg) Nothing n (CanReturn fence alg)

@@ -27,7 +27,7 @@ use Rattle.rule_seq.specs.TmlRule.{tml_part, TmlRule}
 use Rattle.rule_orec.specs.OrecOwning.{holding, entered_at}
 use Rattle.rule_orec.specs.OrecSteps.{orec_begin, CanOrecBegin, orec_sample, CanOrecSample, orec_load, CanOrecLoad, orec_confirm, CanOrecConfirm, orec_clock, CanOrecClock, orec_clock_all, passes, orec_pass, CanOrecPass, orec_last, CanOrecLast, HasOrec, orec_look, orec_limit, orec_lock, CanOrecLock, orec_entry, orec_commit, CanOrecCommit, orec_write_back, CanOrecWriteBack, orec_release, CanOrecTime, CanOrecOld, CanOrecUp, orec_own_load, CanOrecOwnLoad, orec_save, CanOrecSave, orec_place, CanOrecPlace, orec_restore, CanOrecRestore, orec_lift, CanOrecLift, direct_attempt, direct_owned, orec_grant, CanOrecGrant, orec_grant_all, CanOrecGrantAll}
 use Rattle.rule_promoted.specs.PromotedSteps.{tml_grants, tml_grant, CanTmlGrant, ring_look_grant, CanRingGrant, ring_move_grant, CanRingMoveGrant, direct_load, CanDirectLoad, direct_store, CanDirectStore, direct_commit, CanDirectCommit, direct_release, CanDirectRelease}
-use Rattle.rule_promoted.specs.QuittingSteps.{direct_quit, CanDirectQuit}
+use Rattle.rule_promoted.specs.RaisingSteps.{direct_lift, CanDirectLift, direct_up, CanDirectUp}
 use Rattle.rule_ring.specs.RingRule.{ring_part, RingRule}
 use Rattle.rule_ring.specs.RingSteps.{RunsRing, no_turn, ring_begin, CanRingBegin, ring_load, CanRingLoad, read_in, ring_look, CanRingLook, ring_word, CanRingWord, ring_again, CanRingAgain, moved, ring_move, CanRingMove, ring_lock, CanRingLock, HasTurn, ring_tick, ring_slot, CanRingSlot, ring_entry, ring_enter, CanRingEnter, ring_write, CanRingWrite, ring_done, CanRingDone, ring_free, CanRingFree}
 use Rattle.rule_ring.specs.SlotFilter.{slot_filter}
@@ -189,7 +189,7 @@ module _ (good : (ℕ → ℕ) → Type 0) (c : Config) (n : ℕ) where
   orec_restores a x w g may = let out = g.fence.apart n a may.has.runs.phase (grind (arith, may.logged, may.has.inside)) in record { world = spared-store w n a x (view_after (orec_restore a x) w (w.views n) x) out; fence = refl; heap = λ b e. spared-heap (fence_of w.gate) a x w.heap out b e; word = λ b e. refl; own = refl; apart = λ b p o. grind (arith, g.fence.apart n b p, o, touches-without (w.views n).owned.in_place a b, touches-without (w.views n).owned.undo a b) }
 
   pub orec_lifts : (least : ℕ) → (w : World) → Whole good c w → CanOrecLift least (w.views n) → Spares (orec_lift least) n w
-  orec_lifts least w g may = record { world = refl; fence = refl; heap = λ b e. refl; word = λ b e. refl; own = refl; apart = λ a p o. g.fence.apart n a p o }
+  orec_lifts least w g may = record { world = refl; fence = refl; heap = λ b e. refl; word = λ b e. refl; own = refl; apart = λ a p o. grind (arith, g.fence.apart n a p, o) }
 
   pub grants : (w : World) → Whole good c w → CanTmlGrant c.callers n (w.views n) → Spares tml_grant n w
   grants w g may = record { world = refl; fence = refl; heap = λ b e. refl; word = λ b e. refl; own = refl; apart = λ a p o. go (tml_grants w.clock (w.views n)) a p o }
@@ -256,5 +256,8 @@ module _ (good : (ℕ → ℕ) → Type 0) (c : Config) (n : ℕ) where
       wrote : (a : ℕ) → touches (w.views n).attempt.stores a ≡ true → fenced (fence_of w.gate) a ≡ false
       wrote a e = g.fence.apart n a may.phase (grind (arith, e, may.granted))
 
-  pub direct_quits : (alg : Alg) (t : ℕ) → (w : World) → Whole good c w → CanDirectQuit alg t (w.views n) → Spares (direct_quit alg t) n w
-  direct_quits alg t w g may = record { world = refl; fence = refl; heap = λ b e. refl; word = λ b e. refl; own = refl; apart = λ a p o. grind (arith, g.fence.apart n a p, o) }
+  pub direct_lifts : (least : ℕ) → (w : World) → Whole good c w → CanDirectLift least (w.views n) → Spares (direct_lift least) n w
+  direct_lifts least w g may = record { world = refl; fence = refl; heap = λ b e. refl; word = λ b e. refl; own = refl; apart = λ a p o. grind (arith, g.fence.apart n a p, o) }
+
+  pub direct_ups : (r version : ℕ) → (w : World) → Whole good c w → CanDirectUp r version (w.views n) → Spares (direct_up r version) n w
+  direct_ups r version w g may = record { world = refl; fence = refl; heap = λ b e. refl; word = λ b e. refl; own = refl; apart = λ a p o. g.fence.apart n a p o }

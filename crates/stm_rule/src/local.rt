@@ -30,9 +30,8 @@ pub struct Local {
     pub next: usize,
     /// How many marks stand.
     pub depth: usize,
-    /// OrecEager: whether the attempt was rolled back to a mark, and may hold records of what was taken back.
-    pub retains: bool,
-    /// What stood in the heap before the attempt's first write of each address, while it can be taken back.
+    /// What stood in the heap before the attempt's first write of each address, while it can be taken back. An address
+    /// whose write is rolled back to a mark keeps its item, and under OrecEager its record.
     pub undo: UndoLog,
     /// What the attempt read under the record algorithms, of words that it had not yet written.
     pub reads: ReadLog,
@@ -46,12 +45,12 @@ pub struct Local {
 }
 
 impl Local {
-    /// No attempt runs, and the gate isn't closed. It takes the room of a read log, of the logs of writes and of that of
-    /// the records held, each of its length, 1 to 4,096.
-    pub fn idle(alloc: Global, reads: usize, writes: usize, locks: usize) -> Result<Local, Memory>
-        requires low { (1 ≤ reads) × (1 ≤ writes) × (1 ≤ locks) }
-        requires high { (reads ≤ 4096) × (writes ≤ 4096) × (locks ≤ 4096) }
-        ensures { IfOk result (λ l. l ≡ idle_local reads writes locks) }
+    /// No attempt runs, and the gate isn't closed. It takes the room of a read log, and of the logs of writes and of
+    /// records held, which are as long as each other, each 1 to 4,096.
+    pub fn idle(alloc: Global, reads: usize, writes: usize) -> Result<Local, Memory>
+        requires low { (1 ≤ reads) × (1 ≤ writes) }
+        requires high { (reads ≤ 4096) × (writes ≤ 4096) }
+        ensures { IfOk result (λ l. l ≡ idle_local reads writes) }
     {
         Ok(Local {
             running: false,
@@ -64,11 +63,10 @@ impl Local {
             holds: false,
             next: 0,
             depth: 0,
-            retains: false,
             undo: UndoLog::new(alloc, writes)?,
             reads: ReadLog::new(alloc, reads)?,
             writes: WriteLog::new(alloc, writes)?,
-            locks: UndoLog::new(alloc, locks)?,
+            locks: UndoLog::new(alloc, writes)?,
             loaded: Filter::new(),
             stored: Filter::new(),
         })
@@ -85,7 +83,6 @@ impl Local {
         self.wrote = false;
         self.granted = false;
         self.depth = 0;
-        self.retains = false;
         self.undo.renew();
         self.reads.renew();
         self.writes.renew();

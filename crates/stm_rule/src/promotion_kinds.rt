@@ -5,7 +5,6 @@ ghost use Rattle.rule_base.specs.GateSteps.{look_gate, CanLookGate, seize, CanSe
 ghost use Rattle.rule_base.specs.StepKinds.{Nothing};
 ghost use Rattle.rule_seq.specs.CglSteps.{Loads, Commits};
 ghost use Rattle.rule_promoted.specs.PromotedSteps.{tml_grant, CanTmlGrant, direct_load, CanDirectLoad, direct_store, CanDirectStore, direct_commit, CanDirectCommit};
-ghost use Rattle.rule_promoted.specs.QuittingSteps.{direct_quit, CanDirectQuit};
 ghost use Rattle.std.specs.Prelude.{◌<◌, ℕ, ◌≡◌, ◌^◌};
 ghost use Rattle.stm_rule.specs.Callers.{IsSeatOf};
 ghost use Rattle.stm_rule.specs.Findings.{FindsGate, FindsTaken, FindsSole};
@@ -87,18 +86,6 @@ impl<K: MemRule> Stm<K> {
         requires view { CanDirectCommit (good_of K.good self.now.config self.now.rule) alg time (view_of seat.old) }
         ensures same { IsSameSeat seat.old seat.new }
         ensures step { SeatTells (direct_commit caller alg time) (Commits (good_of K.good self.now.config self.now.rule) self.now.config caller time) seat.old.me.0 time seat.new.me.0 }
-    {
-        self.store_as::<Brand, (usize, Alg)>(seat, At::Clock, time, &(caller, alg));
-    }
-
-    /// Stores the clock for a promoted attempt that wrote nothing but holds records, and makes no entry: each record can
-    /// then be given back at `time`.
-    pub fn direct_quit(&self, seat: &mut Token<K>, caller: usize, alg: Alg, time: u64)
-        requires seat { IsSeatOf self.now caller seat.old }
-        requires caller { caller < self.now.config.callers }
-        requires view { CanDirectQuit alg time (view_of seat.old) }
-        ensures same { IsSameSeat seat.old seat.new }
-        ensures step { SeatTells (direct_quit alg time) Nothing seat.old.me.0 time seat.new.me.0 }
     {
         self.store_as::<Brand, (usize, Alg)>(seat, At::Clock, time, &(caller, alg));
     }

@@ -1,6 +1,6 @@
 //! The calls of a caller, and what they come to in a word.
 
-use tx_answers::answers::{Begin, Cancel, Commit, Irrev, Read, Write};
+use tx_answers::answers::{Begin, Cancel, Check, Commit, Irrev, Read, Roll, Write};
 use tx_checked::member::Member;
 use tx_checked::misuse::Misuse;
 
@@ -13,6 +13,9 @@ pub enum Move {
     Commit,
     Cancel,
     Promote,
+    Mark,
+    /// To the first mark.
+    RollBack,
 }
 
 /// What a call came to.
@@ -40,6 +43,8 @@ pub fn play(caller: &mut Member, step: Move) -> Answer {
         Move::Commit => of_commit(caller.commit()),
         Move::Cancel => of_cancel(caller.cancel()),
         Move::Promote => of_promotion(caller.become_irrevocable()),
+        Move::Mark => of_mark(caller.checkpoint()),
+        Move::RollBack => of_roll(caller.roll_to(1)),
     }
 }
 
@@ -96,6 +101,22 @@ fn of_promotion(answer: Result<Irrev, Misuse>) -> Answer {
         Ok(Irrev::Taken { .. }) => Answer::Taken,
         Ok(Irrev::Conflict(_)) => Answer::Conflict,
         Ok(Irrev::ClockFull { .. }) => Answer::ClockFull,
+        Err(_) => Answer::Misplaced,
+    }
+}
+
+fn of_mark(answer: Result<Check, Misuse>) -> Answer {
+    match answer {
+        Ok(Check::Marked { .. }) => Answer::Done,
+        Ok(Check::Deep { .. }) => Answer::Full,
+        Err(_) => Answer::Misplaced,
+    }
+}
+
+fn of_roll(answer: Result<Roll, Misuse>) -> Answer {
+    match answer {
+        Ok(Roll::Rolled) => Answer::Done,
+        Ok(Roll::Irrevocable) => Answer::Irrevocable,
         Err(_) => Answer::Misplaced,
     }
 }

@@ -2,7 +2,7 @@
 //! caller's step in the middle of it.
 //!
 //! A word of moves has the caller's number and what it calls: b `try_begin`, r `read` and w `write` of a word,
-//! c `commit`, x `cancel`, p `try_irrevocable`. `0p` while caller 1 is in an attempt answers Busy, and leaves caller 0 the
+//! c `commit`, x `cancel`, p `try_irrevocable`, m `checkpoint`, u `roll_to` mark 1. `0p` while caller 1 is in an attempt answers Busy, and leaves caller 0 the
 //! gate, which it has to reopen at its end.
 use crate::caller::{Answer, Move, play};
 use crate::counting::{begin_count, end_count};
@@ -30,7 +30,7 @@ const MEMORY: Config = Config {
 /// is counted.
 pub type Case = (&'static str, Alg, bool, &'static str, &'static str);
 
-pub const CASES: [Case; 36] = [
+pub const CASES: [Case; 38] = [
     ("CGL try_begin", Alg::Cgl, true, "", "0b"),
     ("CGL read", Alg::Cgl, false, "0b", "0r1"),
     ("CGL write", Alg::Cgl, false, "0b", "0w1"),
@@ -42,6 +42,13 @@ pub const CASES: [Case; 36] = [
     ("Serial write", Alg::Serial, false, "0b 0w1 0w2 0w3", "0w4"),
     ("Serial commit", Alg::Serial, false, "0b 0w1", "0c"),
     ("Serial cancel", Alg::Serial, false, "0b 0w1 0w2 0w3", "0x"),
+    (
+        "Serial cancel",
+        Alg::Serial,
+        false,
+        "0b 0m 0w1 0u 0w2 0u 0w3 0u 0w1 0w2 0w3",
+        "0x",
+    ),
     ("Serial try_irrevocable", Alg::Serial, true, "0b", "0p"),
     ("TML try_begin", Alg::Tml, false, "1b 1w1", "0b"),
     ("TML read", Alg::Tml, false, "0b 1b 0p 1w2", "0r1"),
@@ -112,6 +119,13 @@ pub const CASES: [Case; 36] = [
         Alg::OrecEager,
         false,
         "0b 0w4 0w5 0w6 1b 0p",
+        "0x",
+    ),
+    (
+        "OrecEager cancel",
+        Alg::OrecEager,
+        false,
+        "0b 0m 0w4 0u 0w5 0u 0w6 0u 0w4 0w5 0w6 1b 0p",
         "0x",
     ),
     (
@@ -202,6 +216,8 @@ fn parse(word: &[u8]) -> Move {
         Some(b'w') => Move::Write(a),
         Some(b'c') => Move::Commit,
         Some(b'p') => Move::Promote,
+        Some(b'm') => Move::Mark,
+        Some(b'u') => Move::RollBack,
         _ => Move::Cancel,
     }
 }

@@ -12,3 +12,4 @@ pub mod Numbers
 pub mod WordLaws
 pub mod Giving
 pub mod Reading
+pub mod Limits

@@ -2,7 +2,7 @@
 
 /// The text is longer than 16,777,216 bytes. On line 0, before all others.
 pub const LONG: u32 = 1;
-/// The line has a byte outside 32 to 126.
+/// A workload's line has a byte outside 32 to 126.
 pub const BYTES: u32 = 2;
 /// The line has no LF; or the text ends before `done`, a report before `end`, on the line after the last.
 pub const UNENDED: u32 = 3;
@@ -24,8 +24,8 @@ pub const ORDER: u32 = 9;
 pub const MANY: u32 = 10;
 /// A byte after the `done` line: on the line after it, before all others of that line.
 pub const EXTRA: u32 = 11;
-/// A line that isn't in the form of a report, or that may not stand here: a `mem` line of value 0 or of an address not
-/// above that of the `mem` line before it, a line behind `end`.
+/// A line that isn't in the form of a report, as one with a byte outside 32 to 126, or that may not stand here: a `mem`
+/// line of value 0 or of an address not above that of the `mem` line before it, a line behind `end`.
 pub const REPORT: u32 = 12;
 /// The report is longer than 134,217,728 bytes. On line 0, before all others.
 pub const LONG_REPORT: u32 = 13;

@@ -1,10 +1,21 @@
 //! Laws of the definitions, each the contract of a function.
 ghost use Rattle.stm_text.specs.Reports.{OneReportPerText};
 ghost use Rattle.stm_text.specs.Built.{BuiltWorkloadsFit};
+ghost use Rattle.stm_text.specs.Limits.{CodesAre, LimitsAre};
 ghost use Rattle.stm_text.specs.Parting.{TextIsParted};
 ghost use Rattle.stm_text.specs.Texts.{TextIsRead, TextIsWritten, TextIsBuilt};
 
 use tx_regions::laws::version_one_is_laid_out;
+
+/// The limits of workloads are these numbers.
+pub fn limits_are()
+    ensures { LimitsAre }
+{}
+
+/// The codes of faults are these numbers.
+pub fn codes_are()
+    ensures { CodesAre }
+{}
 
 /// Two reports of one text are the same.
 pub fn one_report_per_text()

@@ -1,6 +1,6 @@
 //! Bytes of a line: words and numbers.
 ghost use Rattle.std.specs.Prelude.{◌≡◌, ◌<◌, ◌≤◌, ◌+◌, ◌∷◌, MatchOption, take, drop, length, bytes_eq, not, ltb, ◌||◌, ◌↔◌, ℕ, false, slice_index, IfSome};
-ghost use Rattle.stm_text.specs.Lines.{any_bad, number_of, number_from, Lacks};
+ghost use Rattle.stm_text.specs.Lines.{number_of, number_from, Lacks};
 ghost use Rattle.stm_text.specs.WordLaws.{Visible};
 ghost use Rattle.std.specs.Int.{bit_at};
 ghost use Rattle.stm_text.specs.Reading.{is_visible, end_of, EndsBy};
@@ -131,18 +131,6 @@ pub fn is(word: &[u8], name: &[u8]) -> bool
     ensures { result ≡ bytes_eq word.now name.now }
 {
     word.len() == name.len() && name.starts_with(word)
-}
-
-/// Whether a byte of the line is outside 32 to 126.
-pub fn is_any_bad(line: &[u8]) -> bool
-    ensures { result ≡ any_bad line.now }
-{
-    // no way out before the end: so the compiler looks at many bytes at once
-    let mut bad = false;
-    for b in line {
-        bad |= *b < 32 || 126 < *b;
-    }
-    bad
 }
 
 /// The number that a word is: decimal, without sign and leading zeros, below 2^64.

@@ -140,5 +140,5 @@ module _ (good : List ℕ → Type 0) (c : Config) (n : ℕ) (h : Header) (at : 
     fair-commit (commits.Committed time) w t = is.wrote ∙ t.wrote
     fair-commit (commits.ReadOnly time) w t = is.wrote ∙ t.2
     fair-commit (commits.Conflict cause) w t = (revocable t.0.revocable, others t.2, cause-of Option.None cause w t.1, is.wrote ∙ t.3)
-    fair-commit (commits.Again word had now) w t = (revocable t.6, others t.5, fair-again word had now w t.4, is.wrote ∙ t.7)
+    fair-commit (commits.Again word had now) w t = (revocable t.7, others t.6, fair-again word had now w t.5, is.wrote ∙ t.8)
     fair-commit (commits.ClockFull clock) w t = (revocable t.0.revocable, t.3.limit, ap asks_at_commit is.alg ∙ t.1, is.wrote ∙ t.2)

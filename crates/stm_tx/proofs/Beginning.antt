@@ -73,7 +73,7 @@ module _ (good : List ℕ → Type 0) (c : Config) (n : ℕ) where
     fresh = b.fresh;
     log = b.log;
     unmarked = b.unmarked;
-    recordless = b.recordless;
+    bare = b.bare;
     opaque = b.opaque;
     granted = b.granted;
     holds = b.holds;
@@ -145,7 +145,7 @@ module _ (good : List ℕ → Type 0) (c : Config) (n : ℕ) where
           fresh = (let f = q.fresh in let s = q.is in let e : t.history.front ≡ v.history.front = same (λ y. y.history.front) in omega arith);
           log = q.log;
           unmarked = (fresh.2, fresh.3);
-          recordless = fresh.4;
+          bare = q.bare;
           opaque = q.opaque;
           granted = q.granted;
           holds = b.reopened;

@@ -1,3 +1,4 @@
 pub mod Beginning
 pub mod Stopping
 pub mod CostLaws
+pub mod MarkLaws

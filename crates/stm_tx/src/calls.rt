@@ -13,9 +13,13 @@ ghost use Rattle.stm_gate.specs.Starts.{CanBegin, Starts};
 ghost use Rattle.rule_base.specs.Encodings.{fenced};
 ghost use Rattle.stm_tx.specs.Descs.{Reserves, known, number};
 
-use alg_orec::{orec_eager, orec_lazy};
-use alg_ring::ring;
-use alg_seq::{cgl, serial, tml};
+use alg_calls::algorithm::Algorithm;
+use alg_orec::orec_eager::OrecEager;
+use alg_orec::orec_lazy::OrecLazy;
+use alg_ring::ring::RingSw;
+use alg_seq::cgl::Cgl;
+use alg_seq::serial::Serial;
+use alg_seq::tml::Tml;
 use rule_base::words::{alg_of, fence_of, holder_of};
 use std::alloc::Global;
 use stm_model::alg::Alg;
@@ -77,12 +81,12 @@ fn begin_under<K: MemRule>(
     ensures steps { TakesAtMost 3 (view_of seat.old) (view_of seat.new) }
 {
     match algorithm {
-        Alg::Cgl => cgl::begin(seat, stm, caller),
-        Alg::Tml => tml::begin(seat, stm, caller),
-        Alg::Serial => serial::begin(seat, stm, caller),
-        Alg::OrecLazy => orec_lazy::begin(seat, stm, caller),
-        Alg::OrecEager => orec_eager::begin(seat, stm, caller),
-        Alg::RingSw => ring::begin(seat, stm, caller),
+        Alg::Cgl => Cgl::begin(seat, stm, caller),
+        Alg::Tml => Tml::begin(seat, stm, caller),
+        Alg::Serial => Serial::begin(seat, stm, caller),
+        Alg::OrecLazy => OrecLazy::begin(seat, stm, caller),
+        Alg::OrecEager => OrecEager::begin(seat, stm, caller),
+        Alg::RingSw => RingSw::begin(seat, stm, caller),
     }
 }
 
@@ -104,12 +108,12 @@ pub fn read<K: MemRule>(desc: &mut Desc<K>, stm: &Stm<K>, a: usize) -> Read
     ensures steps { AddsAtMost (costs stm.now.config (known desc.old)).read (known desc.old) (known desc.new) }
 {
     match desc.local.algorithm {
-        Alg::Cgl => cgl::read(desc, stm, a),
-        Alg::Tml => tml::read(desc, stm, a),
-        Alg::Serial => serial::read(desc, stm, a),
-        Alg::OrecLazy => orec_lazy::read(desc, stm, a),
-        Alg::OrecEager => orec_eager::read(desc, stm, a),
-        Alg::RingSw => ring::read(desc, stm, a),
+        Alg::Cgl => Cgl::read(desc, stm, a),
+        Alg::Tml => Tml::read(desc, stm, a),
+        Alg::Serial => Serial::read(desc, stm, a),
+        Alg::OrecLazy => OrecLazy::read(desc, stm, a),
+        Alg::OrecEager => OrecEager::read(desc, stm, a),
+        Alg::RingSw => RingSw::read(desc, stm, a),
     }
 }
 
@@ -129,12 +133,12 @@ pub fn write<K: MemRule>(desc: &mut Desc<K>, stm: &Stm<K>, a: usize, x: u64) -> 
     ensures steps { AddsAtMost (costs stm.now.config (known desc.old)).write (known desc.old) (known desc.new) }
 {
     match desc.local.algorithm {
-        Alg::Cgl => cgl::write(desc, stm, a, x),
-        Alg::Tml => tml::write(desc, stm, a, x),
-        Alg::Serial => serial::write(desc, stm, a, x),
-        Alg::OrecLazy => orec_lazy::write(desc, stm, a, x),
-        Alg::OrecEager => orec_eager::write(desc, stm, a, x),
-        Alg::RingSw => ring::write(desc, stm, a, x),
+        Alg::Cgl => Cgl::write(desc, stm, a, x),
+        Alg::Tml => Tml::write(desc, stm, a, x),
+        Alg::Serial => Serial::write(desc, stm, a, x),
+        Alg::OrecLazy => OrecLazy::write(desc, stm, a, x),
+        Alg::OrecEager => OrecEager::write(desc, stm, a, x),
+        Alg::RingSw => RingSw::write(desc, stm, a, x),
     }
 }
 
@@ -157,12 +161,12 @@ pub fn commit<K: MemRule>(desc: &mut Desc<K>, stm: &Stm<K>) -> Commit
     ensures steps { AddsAtMost (costs stm.now.config (known desc.old)).commit (known desc.old) (known desc.new) }
 {
     match desc.local.algorithm {
-        Alg::Cgl => cgl::commit(desc, stm),
-        Alg::Tml => tml::commit(desc, stm),
-        Alg::Serial => serial::commit(desc, stm),
-        Alg::OrecLazy => orec_lazy::commit(desc, stm),
-        Alg::OrecEager => orec_eager::commit(desc, stm),
-        Alg::RingSw => ring::commit(desc, stm),
+        Alg::Cgl => Cgl::commit(desc, stm),
+        Alg::Tml => Tml::commit(desc, stm),
+        Alg::Serial => Serial::commit(desc, stm),
+        Alg::OrecLazy => OrecLazy::commit(desc, stm),
+        Alg::OrecEager => OrecEager::commit(desc, stm),
+        Alg::RingSw => RingSw::commit(desc, stm),
     }
 }
 
@@ -177,12 +181,12 @@ pub fn cancel<K: MemRule>(desc: &mut Desc<K>, stm: &Stm<K>) -> Cancel
     ensures steps { AddsAtMost (costs stm.now.config (known desc.old)).cancel (known desc.old) (known desc.new) }
 {
     match desc.local.algorithm {
-        Alg::Cgl => cgl::cancel(desc, stm),
-        Alg::Tml => tml::cancel(desc, stm),
-        Alg::Serial => serial::cancel(desc, stm),
-        Alg::OrecLazy => orec_lazy::cancel(desc, stm),
-        Alg::OrecEager => orec_eager::cancel(desc, stm),
-        Alg::RingSw => ring::cancel(desc, stm),
+        Alg::Cgl => Cgl::cancel(desc, stm),
+        Alg::Tml => Tml::cancel(desc, stm),
+        Alg::Serial => Serial::cancel(desc, stm),
+        Alg::OrecLazy => OrecLazy::cancel(desc, stm),
+        Alg::OrecEager => OrecEager::cancel(desc, stm),
+        Alg::RingSw => RingSw::cancel(desc, stm),
     }
 }
 
@@ -199,12 +203,12 @@ pub fn try_irrevocable<K: MemRule>(desc: &mut Desc<K>, stm: &Stm<K>) -> Irrev
     ensures steps { AddsAtMost (costs stm.now.config (known desc.old)).irrevocable (known desc.old) (known desc.new) }
 {
     match desc.local.algorithm {
-        Alg::Cgl => cgl::become_irrevocable(desc, stm),
-        Alg::Tml => tml::become_irrevocable(desc, stm),
-        Alg::Serial => serial::become_irrevocable(desc, stm),
-        Alg::OrecLazy => orec_lazy::become_irrevocable(desc, stm),
-        Alg::OrecEager => orec_eager::become_irrevocable(desc, stm),
-        Alg::RingSw => ring::become_irrevocable(desc, stm),
+        Alg::Cgl => Cgl::become_irrevocable(desc, stm),
+        Alg::Tml => Tml::become_irrevocable(desc, stm),
+        Alg::Serial => Serial::become_irrevocable(desc, stm),
+        Alg::OrecLazy => OrecLazy::become_irrevocable(desc, stm),
+        Alg::OrecEager => OrecEager::become_irrevocable(desc, stm),
+        Alg::RingSw => RingSw::become_irrevocable(desc, stm),
     }
 }
 
@@ -233,16 +237,13 @@ pub fn reserve<K: MemRule>(
         writes: longer_writes,
         locks,
         ..
-    } = Local::idle(alloc, reads, writes, writes)?;
+    } = Local::idle(alloc, reads, writes)?;
     if desc.local.reads.len() < reads {
         desc.local.reads = longer_reads;
     }
     if desc.local.undo.len() < writes {
         desc.local.undo = undo;
         desc.local.writes = longer_writes;
-    }
-    // it has room for every record already
-    if desc.local.locks.len() < writes {
         desc.local.locks = locks;
     }
     Ok(())

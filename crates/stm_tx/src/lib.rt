@@ -10,6 +10,12 @@ pub mod live;
 pub mod nesting;
 pub mod serving;
 
+pub use alg_orec::orec_eager::OrecEager;
+pub use alg_orec::orec_lazy::OrecLazy;
+pub use alg_ring::ring::RingSw;
+pub use alg_seq::cgl::Cgl;
+pub use alg_seq::serial::Serial;
+pub use alg_seq::tml::Tml;
 pub use stm_gate::gate;
 pub use stm_model::access::Access;
 pub use stm_model::alg::{ALGORITHMS, Alg};

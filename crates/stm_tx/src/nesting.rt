@@ -1,6 +1,7 @@
 //! Closed nesting by marks: the calls of a running attempt that mark where it stands, and roll it back to there. None of
 //! them takes memory, none waits, and all return. They leave the attempt running. Its marks end with its first commit
 //! call, and with the attempt.
+ghost use Rattle.alg_calls.specs.Costs.{roll_steps};
 ghost use Rattle.std.specs.Prelude.{◌≡◌, ℕ, ◌≤◌, true, if◌then◌else◌, ◌&&◌, not, ◌+◌, length};
 ghost use Rattle.stm_rule.specs.Callers.{IsOf, IsSameCaller};
 ghost use Rattle.tx_answers.specs.Answers.{Checks, Rolls, Releases};
@@ -9,29 +10,43 @@ ghost use Rattle.tx_answers.specs.Known.{IsRunning};
 ghost use Rattle.stm_tx.specs.Descs.{known, number};
 ghost use Rattle.stm_tx.specs.Nesting.{live_marks, RollsToMark};
 
-use alg_orec::{eager_nesting as eager, lazy_nesting as lazy};
-use alg_ring::nesting as ring;
-use alg_seq::nesting as sequential;
+use alg_calls::algorithm::Algorithm;
+use alg_orec::orec_eager::OrecEager;
+use alg_orec::orec_lazy::OrecLazy;
+use alg_ring::ring::RingSw;
+use alg_seq::cgl::Cgl;
+use alg_seq::serial::Serial;
+use alg_seq::tml::Tml;
 use stm_model::alg::Alg;
 use stm_model::rule::MemRule;
 use stm_rule::desc::Desc;
 use stm_rule::stm::Stm;
 use tx_answers::answers::{Check, Roll};
+use tx_logs::write_log::MAX_MARKS;
 
-/// Makes a mark at what the attempt has written: `depth` counts those that stand. `Deep` comes exactly where 8 stand,
-/// and changes nothing. No step.
+/// Makes a mark at what the attempt has written: `depth` counts those that stand. Once the attempt is irrevocable a mark
+/// is a number, since it can't be rolled back to. `Deep` comes exactly where 8 stand, and changes nothing. No step.
 pub fn checkpoint<K: MemRule>(desc: &mut Desc<K>) -> Check
     requires running { IsRunning (known desc.old) }
     ensures same { IsSameCaller desc.old desc.new }
     ensures checks { Checks result (known desc.old) (known desc.new) }
     ensures steps { AddsAtMost 0 (known desc.old) (known desc.new) }
 {
-    match desc.local.algorithm {
-        Alg::OrecLazy => lazy::checkpoint(desc),
-        Alg::OrecEager => eager::checkpoint(desc),
-        Alg::RingSw => ring::checkpoint(desc),
-        _ => sequential::checkpoint(desc),
+    let depth = desc.local.depth;
+    if depth >= MAX_MARKS {
+        return Check::Deep { limit: MAX_MARKS };
     }
+    let irrevocable = desc
+        .local
+        .algorithm
+        .irrevocable_under(desc.local.granted, desc.local.wrote);
+    if irrevocable {
+        desc.local.depth = depth + 1;
+        return Check::Marked { depth: depth + 1 };
+    }
+    desc.local.writes.mark();
+    desc.local.depth = depth + 1;
+    Check::Marked { depth: depth + 1 }
 }
 
 /// Rolls the attempt back to mark `depth`: what it has written is what it had written there, and what it has read stays
@@ -45,13 +60,15 @@ pub fn roll_to<K: MemRule>(desc: &mut Desc<K>, stm: &Stm<K>, depth: usize) -> Ro
     requires high { depth ≤ (known desc.old).depth }
     ensures same { IsSameCaller desc.old desc.new }
     ensures rolls { Rolls (K.good stm.now.rule) stm.now.config (number desc.old) depth result (known desc.old) (known desc.new) }
-    ensures steps { AddsAtMost (known desc.old).writes_limit (known desc.old) (known desc.new) }
+    ensures steps { AddsAtMost (roll_steps (known desc.old).alg (known desc.old).writes_limit) (known desc.old) (known desc.new) }
 {
     match desc.local.algorithm {
-        Alg::OrecLazy => lazy::roll_to(desc, stm, depth),
-        Alg::OrecEager => eager::roll_to(desc, stm, depth),
-        Alg::RingSw => ring::roll_to(desc, stm, depth),
-        _ => sequential::roll_to(desc, stm, depth),
+        Alg::Cgl => Cgl::roll_to(desc, stm, depth),
+        Alg::Tml => Tml::roll_to(desc, stm, depth),
+        Alg::Serial => Serial::roll_to(desc, stm, depth),
+        Alg::OrecLazy => OrecLazy::roll_to(desc, stm, depth),
+        Alg::OrecEager => OrecEager::roll_to(desc, stm, depth),
+        Alg::RingSw => RingSw::roll_to(desc, stm, depth),
     }
 }
 
@@ -64,12 +81,16 @@ pub fn release<K: MemRule>(desc: &mut Desc<K>, depth: usize)
     ensures releases { Releases depth (known desc.old) (known desc.new) }
     ensures steps { AddsAtMost 0 (known desc.old) (known desc.new) }
 {
-    match desc.local.algorithm {
-        Alg::OrecLazy => lazy::release(desc, depth),
-        Alg::OrecEager => eager::release(desc, depth),
-        Alg::RingSw => ring::release(desc, depth),
-        _ => sequential::release(desc, depth),
+    let irrevocable = desc
+        .local
+        .algorithm
+        .irrevocable_under(desc.local.granted, desc.local.wrote);
+    if irrevocable {
+        desc.local.depth = depth - 1;
+        return;
     }
+    desc.local.writes.release(depth);
+    desc.local.depth = depth - 1;
 }
 
 /// How many marks stand: none outside a running attempt. No step.

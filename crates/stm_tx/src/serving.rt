@@ -10,9 +10,9 @@ ghost use Rattle.stm_tx.specs.Costs.{costs};
 ghost use Rattle.stm_tx.specs.Descs.{known, number};
 
 use crate::calls;
-use alg_orec::{orec_eager, orec_lazy};
-use alg_ring::ring;
-use alg_seq::{cgl, serial, tml};
+use alg_calls::algorithm::Algorithm;
+use alg_seq::cgl::Cgl;
+use std::marker::PhantomData;
 use stm_model::alg::Alg;
 use stm_model::rule::MemRule;
 use stm_rule::desc::Desc;
@@ -59,7 +59,7 @@ impl Calls for AnyAlgorithm {
     #[inline(always)]
     fn read<K: MemRule>(&self, desc: &mut Desc<K>, stm: &Stm<K>, a: usize) -> Read {
         match desc.local.algorithm {
-            Alg::Cgl => cgl::read(desc, stm, a),
+            Alg::Cgl => Cgl::read(desc, stm, a),
             _ => calls::read(desc, stm, a),
         }
     }
@@ -67,128 +67,35 @@ impl Calls for AnyAlgorithm {
     #[inline(always)]
     fn write<K: MemRule>(&self, desc: &mut Desc<K>, stm: &Stm<K>, a: usize, x: u64) -> Write {
         match desc.local.algorithm {
-            Alg::Cgl => cgl::write(desc, stm, a, x),
+            Alg::Cgl => Cgl::write(desc, stm, a, x),
             _ => calls::write(desc, stm, a, x),
         }
     }
 }
 
-/// Serves attempts under CGL.
-#[derive(Clone, Copy, Drop, Debug, PartialEq, Eq)]
-pub struct OnlyCgl;
+/// Serves attempts under one algorithm.
+#[derive(Drop)]
+pub struct Only<A: Algorithm> {
+    of: PhantomData<A>,
+}
 
-impl Calls for OnlyCgl {
-    ghost use Rattle.stm_model.specs.declared.alg.Alg.TheVariants.{Cgl};
-
-    ghost acts_as = { λ alg. Cgl };
-
-    #[inline(always)]
-    fn read<K: MemRule>(&self, desc: &mut Desc<K>, stm: &Stm<K>, a: usize) -> Read {
-        cgl::read(desc, stm, a)
-    }
-
-    #[inline(always)]
-    fn write<K: MemRule>(&self, desc: &mut Desc<K>, stm: &Stm<K>, a: usize, x: u64) -> Write {
-        cgl::write(desc, stm, a, x)
+impl<A: Algorithm> Only<A> {
+    /// The one that there is.
+    pub fn new() -> Only<A> {
+        Only { of: PhantomData }
     }
 }
 
-/// Serves attempts under TML.
-#[derive(Clone, Copy, Drop, Debug, PartialEq, Eq)]
-pub struct OnlyTml;
-
-impl Calls for OnlyTml {
-    ghost use Rattle.stm_model.specs.declared.alg.Alg.TheVariants.{Tml};
-
-    ghost acts_as = { λ alg. Tml };
+impl<A: Algorithm> Calls for Only<A> {
+    ghost acts_as = { λ alg. A.alg };
 
     #[inline(always)]
     fn read<K: MemRule>(&self, desc: &mut Desc<K>, stm: &Stm<K>, a: usize) -> Read {
-        tml::read(desc, stm, a)
+        A::read(desc, stm, a)
     }
 
     #[inline(always)]
     fn write<K: MemRule>(&self, desc: &mut Desc<K>, stm: &Stm<K>, a: usize, x: u64) -> Write {
-        tml::write(desc, stm, a, x)
-    }
-}
-
-/// Serves attempts under Serial.
-#[derive(Clone, Copy, Drop, Debug, PartialEq, Eq)]
-pub struct OnlySerial;
-
-impl Calls for OnlySerial {
-    ghost use Rattle.stm_model.specs.declared.alg.Alg.TheVariants.{Serial};
-
-    ghost acts_as = { λ alg. Serial };
-
-    #[inline(always)]
-    fn read<K: MemRule>(&self, desc: &mut Desc<K>, stm: &Stm<K>, a: usize) -> Read {
-        serial::read(desc, stm, a)
-    }
-
-    #[inline(always)]
-    fn write<K: MemRule>(&self, desc: &mut Desc<K>, stm: &Stm<K>, a: usize, x: u64) -> Write {
-        serial::write(desc, stm, a, x)
-    }
-}
-
-/// Serves attempts under OrecLazy.
-#[derive(Clone, Copy, Drop, Debug, PartialEq, Eq)]
-pub struct OnlyOrecLazy;
-
-impl Calls for OnlyOrecLazy {
-    ghost use Rattle.stm_model.specs.declared.alg.Alg.TheVariants.{OrecLazy};
-
-    ghost acts_as = { λ alg. OrecLazy };
-
-    #[inline(always)]
-    fn read<K: MemRule>(&self, desc: &mut Desc<K>, stm: &Stm<K>, a: usize) -> Read {
-        orec_lazy::read(desc, stm, a)
-    }
-
-    #[inline(always)]
-    fn write<K: MemRule>(&self, desc: &mut Desc<K>, stm: &Stm<K>, a: usize, x: u64) -> Write {
-        orec_lazy::write(desc, stm, a, x)
-    }
-}
-
-/// Serves attempts under OrecEager.
-#[derive(Clone, Copy, Drop, Debug, PartialEq, Eq)]
-pub struct OnlyOrecEager;
-
-impl Calls for OnlyOrecEager {
-    ghost use Rattle.stm_model.specs.declared.alg.Alg.TheVariants.{OrecEager};
-
-    ghost acts_as = { λ alg. OrecEager };
-
-    #[inline(always)]
-    fn read<K: MemRule>(&self, desc: &mut Desc<K>, stm: &Stm<K>, a: usize) -> Read {
-        orec_eager::read(desc, stm, a)
-    }
-
-    #[inline(always)]
-    fn write<K: MemRule>(&self, desc: &mut Desc<K>, stm: &Stm<K>, a: usize, x: u64) -> Write {
-        orec_eager::write(desc, stm, a, x)
-    }
-}
-
-/// Serves attempts under RingSW.
-#[derive(Clone, Copy, Drop, Debug, PartialEq, Eq)]
-pub struct OnlyRingSw;
-
-impl Calls for OnlyRingSw {
-    ghost use Rattle.stm_model.specs.declared.alg.Alg.TheVariants.{RingSw};
-
-    ghost acts_as = { λ alg. RingSw };
-
-    #[inline(always)]
-    fn read<K: MemRule>(&self, desc: &mut Desc<K>, stm: &Stm<K>, a: usize) -> Read {
-        ring::read(desc, stm, a)
-    }
-
-    #[inline(always)]
-    fn write<K: MemRule>(&self, desc: &mut Desc<K>, stm: &Stm<K>, a: usize, x: u64) -> Write {
-        ring::write(desc, stm, a, x)
+        A::write(desc, stm, a, x)
     }
 }

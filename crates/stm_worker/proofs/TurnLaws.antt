@@ -7,7 +7,8 @@ use Rattle.std.specs.Borrow.{Bor}
 use Rattle.stm_model.specs.Algorithms.{irrevocable_under}
 use Rattle.stm_model.specs.AlgorithmLaws.{granted-irrevocable, irrevocable-wrote}
 use Rattle.stm_model.specs.Configs.{IsConfig}
-use Rattle.stm_model.specs.Logs.{IsExplained}
+use Rattle.stm_model.specs.Logs.{IsExplained, Log}
+use Rattle.stm_model.specs.Memories.{is_empty}
 use Rattle.stm_model.specs.declared.alg.Alg.{Alg}
 use Rattle.stm_model.specs.declared.stop.Stop.{Stop}
 use Rattle.stm_model.specs.declared.stop.Stop.TheVariants as stops
@@ -30,7 +31,7 @@ use Rattle.stm_rule.specs.declared.stm.Stm.{Stm}
 use Rattle.rule_base.specs.declared.views.View.{View}
 use Rattle.tx_answers.specs.Answers.{BeginsAt, Continues, HoldsClosed, Quits, Stays}
 use Rattle.tx_answers.specs.Answers as answers
-use Rattle.tx_answers.specs.Known.{Known, Grows, IsIdle, IsRunning, caller_of, is_irrevocable, known_of}
+use Rattle.tx_answers.specs.Known.{Known, Grows, IsIdle, IsUnrolled, IsRunning, caller_of, is_irrevocable, known_of}
 use Rattle.tx_answers.specs.Known as knows
 use Rattle.tx_answers.specs.KnownLaws.{Carries, IsStillIn, grows-same, grows-trans}
 use Rattle.tx_answers.specs.declared.answers.Begin.TheVariants.{Begun}
@@ -275,7 +276,7 @@ module _ {K : Type 0} (good : List ℕ → Type 0) (stm : Stm K) (u : Worker K) 
           going = subst (λ ops. Going good stm.config.words u.regions.now (script_at u.items_left.now) ops (known d) alg false o false) (sym is) going;
           here = here;
           unfenced = h.unfenced s.plain;
-          recordless = h.recordless;
+          unrolled = λ e. h.bare;
           committing = λ e. absurd (let f : true ≡ false = sym e ∙ h.committing in cc);
           waits = λ e f. refl;
         })
@@ -314,7 +315,7 @@ module _ {K : Type 0} (good : List ℕ → Type 0) (stm : Stm K) (u : Worker K) 
           going = going;
           here = at.here;
           unfenced = still.fence ∙ at.unfenced;
-          recordless = still.retains ∙ at.recordless;
+          unrolled = still.unrolled at.unrolled;
           committing = λ e. absurd (let f : true ≡ false = sym e ∙ runs.1 in cc);
           waits = λ e off. absurd (let now = and-left u.must (irrevocable (place_of u)) comes.1 e in let later = ap (irrevocable_under u.alg u.granted) was ∙ irrevocable-wrote u.alg u.granted u.wrote (writes op reply) now in let f : true ≡ false = sym later ∙ off in cc);
         })
@@ -362,7 +363,7 @@ module _ {K : Type 0} (good : List ℕ → Type 0) (stm : Stm K) (u : Worker K) 
           going = going;
           here = at.here;
           unfenced = ap (λ (v : Known). v.fence) knows ∙ at.unfenced;
-          recordless = ap (λ (v : Known). v.retains) knows ∙ at.recordless;
+          unrolled = subst IsUnrolled (sym knows) at.unrolled;
           committing = λ e. absurd (let f = (at.committing (sym (ap (λ (v : Known). v.committing) knows) ∙ e)).0 in subst (Next Cancel) f comes.2);
           waits = at.waits;
         }))
@@ -378,7 +379,7 @@ module _ {K : Type 0} (good : List ℕ → Type 0) (stm : Stm K) (u : Worker K) 
             going = subst (λ v. Going good stm.config.words u.regions.now (script_at u.items_left.now) u.operations_left.now v u.alg u.granted u.out u.wrote) (sym knows) at.going;
             here = at.here;
             unfenced = ap (λ (v : Known). v.fence) knows ∙ at.unfenced;
-            recordless = ap (λ (v : Known). v.retains) knows ∙ at.recordless;
+            unrolled = subst IsUnrolled (sym knows) at.unrolled;
             committing = λ e. at.committing (sym (ap (λ (v : Known). v.committing) knows) ∙ e);
             waits = at.waits;
           }));
@@ -402,7 +403,7 @@ module _ {K : Type 0} (good : List ℕ → Type 0) (stm : Stm K) (u : Worker K) 
           going = going-later good stm.config.words u.regions.now (script_at u.items_left.now) u.operations_left.now (known u.desc) (known d) u.alg u.granted true u.out u.wrote at.going h.log h.continues.alg h.opaque.explained (certain ∙ sym h.irrevocable) (λ off. absurd (let f : true ≡ false = sym h.irrevocable ∙ off in cc));
           here = at.here;
           unfenced = h.continues.fence ∙ at.unfenced;
-          recordless = h.continues.retains ∙ at.recordless;
+          unrolled = λ e. h.kept (at.unrolled (ap (λ (g : Log). not (is_empty g.writes)) (sym h.log) ∙ e));
           committing = λ e. absurd (let f : true ≡ false = sym e ∙ h.uncommitted in cc);
           waits = λ e off. absurd (let f : true ≡ false = sym certain ∙ off in cc);
         })
@@ -419,7 +420,7 @@ module _ {K : Type 0} (good : List ℕ → Type 0) (stm : Stm K) (u : Worker K) 
           going = subst (λ x. Going good stm.config.words u.regions.now (script_at u.items_left.now) x (known d) u.alg true o u.wrote) (sym is) step;
           here = at.here;
           unfenced = h.continues.fence ∙ at.unfenced;
-          recordless = h.continues.retains ∙ at.recordless;
+          unrolled = λ e. h.kept (at.unrolled (ap (λ (g : Log). not (is_empty g.writes)) (sym h.log) ∙ e));
           committing = λ e. absurd (let f : true ≡ false = sym e ∙ h.uncommitted in cc);
           waits = λ e off. absurd (let f : true ≡ false = sym certain ∙ off in cc);
         })
@@ -431,25 +432,25 @@ module _ {K : Type 0} (good : List ℕ → Type 0) (stm : Stm K) (u : Worker K) 
     asked-now r o e is told = asked-at (place_of (record u { desc = d })) r.now o is (ap (λ (x : Output). x.replies) told) (ap (λ (x : Output). x.emits) told) ∙ (ap (granted_at false) place-now ∙ sym (ap (λ b. granted_at b (place_of u)) e))
 
     -- the attempt waits to be alone, or to commit
-    waits-on : (b : Bool) → u.phase ≡ Inside → Continues (known u.desc) (known d) → (known d).log ≡ (known u.desc).log → (known d).granted ≡ (known u.desc).granted → answers.IsOpaque good stm.config (caller_of u.desc.who.role) (known d)
+    waits-on : (b : Bool) → u.phase ≡ Inside → Continues (known u.desc) (known d) → (known d).log ≡ (known u.desc).log → (known d).kept ≡ (known u.desc).kept → (known d).granted ≡ (known u.desc).granted → answers.IsOpaque good stm.config (caller_of u.desc.who.role) (known d)
         → ((known d).committing ≡ true → (u.operations_left.now ≡ []) × (is_forced (place_of u) ≡ false)) → Sound good stm (record u { desc = d; passed = b })
-    waits-on b inside h log grant opaque committing =
+    waits-on b inside h log kept grant opaque committing =
         let at = attempt-now inside in
         let same_irrevocable : is_irrevocable (known d) ≡ is_irrevocable (known u.desc) = λ i. irrevocable_under (h.alg i) (grant i) (knows.wrote (record (known u.desc) { log = log i })) in
         stays-in u.alg u.operations_left u.out u.wrote u.granted u.must b u.failed inside h.running h.made h.later refl s.counted (record {
           going = going-later good stm.config.words u.regions.now (script_at u.items_left.now) u.operations_left.now (known u.desc) (known d) u.alg u.granted u.granted u.out u.wrote at.going log h.alg opaque.explained (at.going.irrevocable ∙ sym same_irrevocable) (λ off. sym same_irrevocable ∙ off);
           here = at.here;
           unfenced = h.fence ∙ at.unfenced;
-          recordless = h.retains ∙ at.recordless;
+          unrolled = λ e. kept ∙ at.unrolled (ap (λ (g : Log). not (is_empty g.writes)) (sym log) ∙ e);
           committing = committing;
           waits = at.waits;
         })
 
     pub busied : u.phase ≡ Inside → answers.Waits good stm.config (caller_of u.desc.who.role) (known u.desc) (known d) → Sound good stm (record u { desc = d; passed = u.passed })
-    busied inside h = waits-on u.passed inside h.continues h.log h.granted h.opaque (λ e. absurd (let f : true ≡ false = sym e ∙ h.uncommitted in cc))
+    busied inside h = waits-on u.passed inside h.continues h.log h.kept h.granted h.opaque (λ e. absurd (let f : true ≡ false = sym e ∙ h.uncommitted in cc))
 
-    pub again : (b : Bool) → u.phase ≡ Inside → u.operations_left.now ≡ [] → is_forced (place_of u) ≡ false → answers.GoesOn (known u.desc) (known d) → (known d).log ≡ (known u.desc).log → answers.IsOpaque good stm.config (caller_of u.desc.who.role) (known d) → Sound good stm (record u { desc = d; passed = b })
-    again b inside none free h log opaque = waits-on b inside h.continues log h.granted opaque (λ e. (none, free))
+    pub again : (b : Bool) → u.phase ≡ Inside → u.operations_left.now ≡ [] → is_forced (place_of u) ≡ false → answers.GoesOn (known u.desc) (known d) → (known d).log ≡ (known u.desc).log → (known d).kept ≡ (known u.desc).kept → answers.IsOpaque good stm.config (caller_of u.desc.who.role) (known d) → Sound good stm (record u { desc = d; passed = b })
+    again b inside none free h log kept opaque = waits-on b inside h.continues log kept h.granted opaque (λ e. (none, free))
 
     pub same-place : (b : Bool) → place_of (record u { desc = d; passed = b }) ≡ place_of u
     same-place b = place-now
@@ -610,7 +611,7 @@ module _ {K : Type 0} (good : List ℕ → Type 0) (stm : Stm K) (u : Worker K) 
 -- whoever took the same steps is outside in the same way
 pub outside : {K : Type 0} (d e : Handle K) → e.view ≡ d.view → IsOutside (known d) (known e)
 outside d e same =
-    subst (λ (v : View). known_of v e.own ≡ record (known d) { committing = e.own.committing; log = (known_of v e.own).log; depth = e.own.depth; marks = e.own.marks; retains = e.own.retains; reads_limit = e.own.reads_limit; writes_limit = e.own.writes_limit }) (sym same) refl
+    subst (λ (v : View). known_of v e.own ≡ record (known d) { committing = e.own.committing; log = (known_of v e.own).log; depth = e.own.depth; marks = e.own.marks; kept = (known_of v e.own).kept; reads_limit = e.own.reads_limit; writes_limit = e.own.writes_limit }) (sym same) refl
 
 -- each call's turn
 module _ {K : Type 0} (good : List ℕ → Type 0) (stm : Stm K) (u : Worker K) (s : Sound good stm u) (d : Handle K) (same : IsSameCaller u.desc d) where
@@ -720,7 +721,7 @@ module _ {K : Type 0} (good : List ℕ → Type 0) (stm : Stm K) (u : Worker K) 
   turned-again word had now b inside none free h =
       turned-by good stm u s MaySay (TryCommit (Again word had now)) _ stm.ranges (λ m. m) (inside, free, none) (runs-now good stm u s inside) h (same-place good stm u s d same h.0.continues.grows b)
       (still-same good stm u s d same h.0.continues.grows b)
-      (again good stm u s d same h.0.continues.grows b inside none free h.0 h.2 h.3)
+      (again good stm u s d same h.0.continues.grows b inside none free h.0 h.2 h.3 h.4)
 
   pub turned-committed : (t : ℕ) (b : Bool) (w : Worker K) → u.phase ≡ Inside → u.operations_left.now ≡ [] → is_forced (place_of u) ≡ false → answers.CommitsAt good stm.config (caller_of u.desc.who.role) t (known u.desc) (known d) → EndsWith W t (record u { desc = d; passed = b }) w
       → Turned good stm MaySay u (TryCommit (Committed t)) w

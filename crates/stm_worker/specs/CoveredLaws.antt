@@ -20,7 +20,7 @@ use Rattle.stm_script.specs.declared.report.Kind.TheVariants.{W, R, C}
 use Rattle.stm_script.specs.declared.workload.Item.{Item}
 use Rattle.stm_script.specs.declared.workload.Item.TheVariants.{Tx, Switch, Reserve}
 use Rattle.tx_answers.specs.Answers.{Quits, Stays}
-use Rattle.tx_answers.specs.Known.{Known, caller_of, is_irrevocable, has_written}
+use Rattle.tx_answers.specs.Known.{Known, caller_of, is_irrevocable, is_none, has_written}
 use Rattle.tx_answers.specs.declared.answers.Begin.TheVariants as begins
 use Rattle.tx_answers.specs.declared.answers.Cancel.TheVariants as cancels
 use Rattle.tx_answers.specs.declared.answers.CloseGate.TheVariants as closes
@@ -111,7 +111,7 @@ module _ {K : Type 0} (good : List ℕ → Type 0) (stm : Stm K) (u : Worker K) 
 
   -- an attempt that must become irrevocable and is not yet has written nothing
   unwritten : u.phase ≡ Inside → u.must ≡ true → is_irrevocable (known u.desc) ≡ false → has_written (known u.desc) ≡ false
-  unwritten e must off = let a = under e in (λ j. (sym a.going.writer ∙ a.waits must (a.going.irrevocable ∙ off)) j || a.recordless j)
+  unwritten e must off = let a = under e in let clean = sym a.going.writer ∙ a.waits must (a.going.irrevocable ∙ off) in (λ j. clean j || not (is_none (a.unrolled clean j)))
 
   -- an operation stops no attempt that must not fail
   unforced : (op : Op) (stop : Stop) (x : Known) → Comes op (place_of u) → StoppedBy good stm.config (caller_of u.desc.who.role) op stop (known u.desc) x → u.must ≡ false
@@ -198,7 +198,7 @@ module _ {K : Type 0} (good : List ℕ → Type 0) (stm : Stm K) (u : Worker K) 
         let i = t.1.0 in
         let c = t.2.1 in
         way-covered x (quit_rise y.alg (has_written y)) e c.0.ends.idle.1 (let r = c.2 in let b = i.continues.base in omega arith) (quit-low y.alg (has_written y))
-        (λ must. quit-none y.alg (has_written y) ((λ j. not (is_empty (i.log j).writes) || i.continues.retains j) ∙ unwritten e must i.revocable))
+        (λ must. quit-none y.alg (has_written y) ((λ j. not (is_empty (i.log j).writes) || not (is_none (i.kept j))) ∙ unwritten e must i.revocable))
     irrevocable-covered (irrevs.Conflict cause) x e t = refused-covered x e t.0
     irrevocable-covered (irrevs.ClockFull clock) x e t = quit-covered x (quit_rise (known u.desc).alg (has_written (known u.desc))) e t.0.ends.idle.1 t.0.rises.1 (quit-low (known u.desc).alg (has_written (known u.desc)))
 

@@ -27,7 +27,7 @@ use Rattle.stm_script.specs.Reports.{scripts_of, script_of, zeros}
 use Rattle.stm_rule.specs.Callers.{Handle, IsOf, IsSameCaller}
 use Rattle.stm_rule.specs.declared.stm.Stm.{Stm}
 use Rattle.tx_answers.specs.Answers.{HoldsClosed, SeesQuiet}
-use Rattle.tx_answers.specs.Known.{Known, IsIdle, caller_of, owed}
+use Rattle.tx_answers.specs.Known.{Known, IsIdle, IsUnrolled, caller_of, owed}
 use Rattle.stm_tx.specs.Descs.{known}
 use Rattle.stm_trace.specs.declared.said.Phase.{Phase}
 use Rattle.stm_trace.specs.declared.said.Phase.TheVariants.{Between, Inside, Closing, Quiet}
@@ -198,8 +198,8 @@ pub record IsUnderWay {K : Type 0} (good : List ℕ → Type 0) (words : ℕ) (w
   pub here : BeforeTx w.items_left.now
   -- no range of words is out of the transactions
   pub unfenced : (known w.desc).fence ≡ 0
-  -- it was not rolled back, so it holds no more than it wrote
-  pub recordless : (known w.desc).retains ≡ false
+  -- it was not rolled back: where it wrote nothing, it keeps nothing
+  pub unrolled : IsUnrolled (known w.desc)
   pub committing : (known w.desc).committing ≡ true → (w.operations_left.now ≡ []) × ((w.must && not (irrevocable (place_of w))) ≡ false)
   pub waits : w.must ≡ true → irrevocable (place_of w) ≡ false → w.wrote ≡ false
 

@@ -1,4 +1,4 @@
-//! Tests of the structures over a plain memory: tx_places, tx_queue, tx_sums, tx_regions.
+//! Tests of the structures over a plain memory: tx_places, tx_layout, tx_queue, tx_sums, tx_regions.
 #![tactic(auto)]
 
 #[cfg(test)]

@@ -3,7 +3,7 @@ use Rattle.std.proofs.Common.{ℕ, ◌≡◌, ◌<◌, ◌≤◌, ◌+◌, ◌-�
 use Rattle.std.proofs.lemmas.Grind.{get_or-set_at}
 use Rattle.std.proofs.lemmas.List.{take-set-le}
 use Rattle.std.proofs.Math.ListN.{length-set}
-use Rattle.tx_start.specs.WordLaws.{sum-set}
+use Rattle.nekchhaul.specs.WordLaws.{sum-set}
 use Rattle.token_bucket.specs.declared.bucket.Limiter.{Limiter}
 use Rattle.token_bucket.specs.Buckets.{IsFair, handed_out}
 

@@ -1,6 +1,6 @@
 -- Token buckets in a memory, and what a wish for tokens does to them.
 use Rattle.std.specs.Prelude.{ℕ, ◌≡◌, ◌<◌, ◌≤◌, ◌+◌, ◌-◌, ◌&&◌, if◌then◌else◌, leb, min, List, take, sum, slice_index, slice_set}
-use Rattle.tx_effects.specs.Effects.{Effect, changed}
+use Rattle.nekchhaul.specs.Effects.{Effect, changed}
 use Rattle.token_bucket.specs.declared.bucket.Limiter.{Limiter}
 use Rattle.token_bucket.specs.declared.bucket.Wish.{Wish}
 

@@ -2,8 +2,7 @@
 ghost use Rattle.std.specs.Prelude.{◌≡◌, ◌≤◌, ◌+◌};
 ghost use Rattle.token_bucket.specs.Buckets.{granted};
 
-use stm_tx::{Access, MemRule, Stop};
-use tx_atomic::transaction::Transaction;
+use nekchhaul::{Access, MemRule, Stop, Transaction};
 
 /// Buckets of this capacity, one for each of 16 clients. Word `n` of their memory has what client `n` was handed, word
 /// `16 + n` its tokens, and word 32 what all were handed.
@@ -44,8 +43,8 @@ impl Wish {
 
 impl Transaction<Limiter> for Wish {
     ghost use Rattle.std.specs.Prelude.{◌<◌, ◌≡◌};
-    ghost use Rattle.tx_effects.specs.Effects.{DoesOver};
-    ghost use Rattle.tx_answers.specs.Known.{no_log};
+    ghost use Rattle.nekchhaul.specs.Effects.{DoesOver};
+    ghost use Rattle.nekchhaul.specs.Known.{no_log};
     ghost use Rattle.token_bucket.specs.Buckets.{IsFair, wished_in};
 
     type Output = u64;

@@ -2,22 +2,18 @@
 #![tactic(auto)]
 
 ghost use Rattle.std.specs.Prelude.{◌≡◌, ◌<◌, [], ◌∷◌, length, slice_index, slice_index_or, IfOk};
-ghost use Rattle.stm_model.specs.declared.alg.Alg.TheVariants.{OrecLazy, Tml};
+ghost use Rattle.nekchhaul.specs.Alg.TheVariants.{OrecLazy, Tml};
 ghost use Rattle.token_bucket.specs.declared.TheConstants.{LIMITER};
 ghost use Rattle.token_bucket.specs.Buckets.{IsFair};
 
 mod bucket;
 
 use crate::bucket::{Limiter, Wish};
+use nekchhaul::{Alg, Caller, Job, NewError, Outcome, sizes, with_memory};
 use std::alloc::Global;
 use std::process::ExitCode;
 use std::sync::Wait;
 use std::thread::Threads;
-use stm_tx::{Alg, NewError};
-use tx_start::caller::Caller;
-use tx_start::job::Job;
-use tx_start::memory::{Outcome, with_memory};
-use tx_start::sizes::sizes;
 
 const LIMITER: Limiter = Limiter { capacity: 100 };
 
@@ -27,7 +23,7 @@ struct Serve;
 
 impl<R: Wait> Job<R, Limiter> for Serve {
     ghost use Rattle.std.specs.Prelude.{◌≡◌, ◌++◌, [], ◌∷◌};
-    ghost use Rattle.stm_model.specs.declared.alg.Alg.TheVariants.{Tml};
+    ghost use Rattle.nekchhaul.specs.Alg.TheVariants.{Tml};
 
     type Output = usize;
 

@@ -1,6 +1,6 @@
 -- When each answer comes, and what stands after it.
-use Rattle.std.specs.Prelude.{ℕ, ◌≡◌, ◌||◌, ◌≢◌, ◌<◌, ◌≤◌, ◌+◌, ◌%◌, ◌^◌, ◌⊎◌, max, min, Some, None, Bool, true, false, List, [], ◌∷◌, ◌++◌, ◌-◌, length, get_or, take}
-use Rattle.stm_model.specs.Algorithms.{asks_at_begin, asks_at_write, asks_at_commit, asks_at_grant, closes_gate, entry_rise, quit_rise, install_rise}
+use Rattle.std.specs.Prelude.{ℕ, ◌≡◌, ◌||◌, ◌≢◌, ◌<◌, ◌≤◌, ◌+◌, ◌%◌, ◌^◌, ◌⊎◌, max, min, not, if◌then◌else◌, Some, None, Bool, true, false, List, [], ◌∷◌, ◌++◌, ◌-◌, length, get_or, take}
+use Rattle.stm_model.specs.Algorithms.{asks_at_begin, asks_at_write, asks_at_commit, asks_at_grant, closes_gate, entry_rise, logs_writes, quit_rise, install_rise}
 use Rattle.stm_model.specs.declared.alg.Alg.{Alg}
 use Rattle.stm_model.specs.declared.alg.Alg.TheVariants.{Cgl, Tml, OrecLazy, OrecEager, RingSw, Serial}
 use Rattle.stm_model.specs.declared.config.Config.{Config}
@@ -12,6 +12,7 @@ use Rattle.rule_base.specs.declared.layout.At.{At}
 use Rattle.rule_base.specs.declared.layout.At.TheVariants.{Clock, Lock, Gate, Done, Status}
 use Rattle.rule_base.specs.declared.views.Phase.TheVariants.{Closing}
 use Rattle.rule_base.specs.declared.views.TrailItem.{TrailItem}
+use Rattle.rule_base.specs.Bridge.{addresses}
 use Rattle.rule_base.specs.Encodings.{holder_of, alg_of, fence_of}
 use Rattle.rule_base.specs.History.{member}
 use Rattle.tx_answers.specs.declared.answers.Begin.{Begin}
@@ -38,7 +39,7 @@ use Rattle.tx_answers.specs.declared.answers.Write.{Write}
 use Rattle.tx_answers.specs.declared.answers.Write.TheVariants.{Done, Conflict, Full, ClockFull}
 use Rattle.tx_answers.specs.Causes.{FindsFull, NamesOther, Conflicts, IsAgain, reads_full, writes_full}
 use Rattle.tx_answers.specs.Evidence.{Found}
-use Rattle.tx_answers.specs.Known.{Known, Grows, IsIdle, is_irrevocable, keeps_records, wrote, has_written, no_log, zeros}
+use Rattle.tx_answers.specs.Known.{Known, Grows, IsIdle, is_irrevocable, wrote, has_written, no_log, zeros}
 
 -- the entry that a commit makes of the log: the caller has made this many before
 abbrev pub entry : ℕ → ℕ → ℕ → Log → Entry
@@ -80,6 +81,19 @@ write_rise OrecEager irrevocable = 0
 write_rise RingSw irrevocable = 0
 write_rise Serial irrevocable = 0
 
+-- what has an item after a write of a: once irrevocable, and under who keeps no such log, nothing more
+abbrev pub kept_with : ℕ → Known → List ℕ
+kept_with a v = if not (logs_writes v.alg) || (is_irrevocable v || member v.kept a) then v.kept else v.kept ++ a ∷ []
+
+-- what has an item after a roll back to where this was written: an undo log keeps its items, a write log has those of its mark
+abbrev pub kept_rolled : Alg → List ℕ → List (ℕ × ℕ) → List ℕ
+kept_rolled Cgl kept writes = kept
+kept_rolled Tml kept writes = kept
+kept_rolled OrecLazy kept writes = addresses writes
+kept_rolled OrecEager kept writes = kept
+kept_rolled RingSw kept writes = addresses writes
+kept_rolled Serial kept writes = kept
+
 -- the attempt stays open, with or without the gate
 pub record Continues (v w : Known) : Type 0 where
   pub running : w.running ≡ true
@@ -93,7 +107,6 @@ pub record Continues (v w : Known) : Type 0 where
   pub later : v.start ≤ w.start
   pub installs : w.installs ≡ v.installs
   pub depth : w.depth ≡ v.depth
-  pub retains : w.retains ≡ v.retains
 
 -- the attempt stays open, and all but its log and its marks is as it was
 pub record StaysOpen (v w : Known) : Type 0 where
@@ -209,7 +222,7 @@ module _ (good : List ℕ → Type 0) (c : Config) (n : ℕ) where
     pub fresh : v.front ≤ w.start
     pub log : w.log ≡ no_log
     pub unmarked : (w.depth ≡ 0) × (w.marks ≡ [])
-    pub recordless : w.retains ≡ false
+    pub bare : w.kept ≡ []
     pub opaque : IsOpaque w
     pub granted : w.granted ≡ false
     pub holds : w.holds ≡ false
@@ -242,13 +255,13 @@ module _ (good : List ℕ → Type 0) (c : Config) (n : ℕ) where
 
   -- what `read` of a tells: Full comes exactly where the log needs room that it hasn't
   abbrev pub HasRead : ℕ → Read → Known → Known → Type 0
-  HasRead a (Value x) v w = GoesOn v w × (w.committing ≡ false) × Reads v.log a x w.log × (x < 2 ^ 64) × IsOpaque w × (reads_full a v ≡ false)
+  HasRead a (Value x) v w = GoesOn v w × (w.committing ≡ false) × Reads v.log a x w.log × (x < 2 ^ 64) × IsOpaque w × (reads_full a v ≡ false) × (w.rises ≡ v.rises) × (w.kept ≡ v.kept)
   HasRead a (Conflict cause) v w = Quits v w × Conflicts c n (Some a) cause v w × HasOthers × (reads_full a v ≡ false)
   HasRead a (Full limit) v w = Quits v w × (reads_full a v ≡ true) × (limit ≡ v.reads_limit)
 
   -- what `write` of x at a tells
   abbrev pub HasWritten : ℕ → ℕ → Write → Known → Known → Type 0
-  HasWritten a x Done v w = GoesOn v w × (w.committing ≡ false) × Writes v.log a x w.log × IsOpaque w × (writes_full a v ≡ false)
+  HasWritten a x Done v w = GoesOn v w × (w.committing ≡ false) × Writes v.log a x w.log × IsOpaque w × (writes_full a v ≡ false) × (w.kept ≡ kept_with a v)
   HasWritten a x (Conflict cause) v w = Quits v w × Conflicts c n (Some a) cause v w × HasOthers × (writes_full a v ≡ false)
   HasWritten a x (Full limit) v w = Quits v w × (writes_full a v ≡ true) × (limit ≡ v.writes_limit)
   HasWritten a x (ClockFull clock) v w = Quits v w × (asks_at_write v.alg ≡ true) × FindsFull clock v w × (writes_full a v ≡ false)
@@ -261,7 +274,7 @@ module _ (good : List ℕ → Type 0) (c : Config) (n : ℕ) where
     pub writes : w.log.writes ≡ get_or v.marks (d - 1) []
     pub depth : w.depth ≡ d
     pub marks : w.marks ≡ take d v.marks
-    pub retains : w.retains ≡ (keeps_records v.alg || v.retains)
+    pub kept : w.kept ≡ kept_rolled v.alg v.kept w.log.writes
     pub opaque : IsOpaque w
 
   -- what `roll_to` mark d tells
@@ -301,7 +314,7 @@ module _ (good : List ℕ → Type 0) (c : Config) (n : ℕ) where
   Commits (ReadOnly time) v w = EndsAt time v w × RisesWithout v w × (wrote v ≡ false)
   Commits (Conflict cause) v w = Quits v w × Conflicts c n None cause v w × HasOthers × (wrote v ≡ true)
   Commits (Again word had now) v w =
-      GoesOn v w × (w.committing ≡ true) × (w.log ≡ v.log) × IsOpaque w × IsAgain c n word had now v w × HasOthers × (is_irrevocable v ≡ false) × (wrote v ≡ true)
+      GoesOn v w × (w.committing ≡ true) × (w.log ≡ v.log) × (w.kept ≡ v.kept) × IsOpaque w × IsAgain c n word had now v w × HasOthers × (is_irrevocable v ≡ false) × (wrote v ≡ true)
   Commits (ClockFull clock) v w = Quits v w × (asks_at_commit v.alg ≡ true) × (wrote v ≡ true) × FindsFull clock v w
 
   -- what `cancel` tells
@@ -326,6 +339,7 @@ module _ (good : List ℕ → Type 0) (c : Config) (n : ℕ) where
     pub still : w.rises ≡ v.rises
     pub uncommitted : w.committing ≡ false
     pub log : w.log ≡ v.log
+    pub kept : v.kept ≡ [] → w.kept ≡ []
     pub irrevocable : is_irrevocable w ≡ true
     pub opaque : IsOpaque w
     pub before : is_irrevocable v ≡ true → w ≡ v
@@ -339,6 +353,7 @@ module _ (good : List ℕ → Type 0) (c : Config) (n : ℕ) where
     pub uncommitted : w.committing ≡ false
     pub start : w.start ≡ v.start
     pub log : w.log ≡ v.log
+    pub kept : w.kept ≡ v.kept
     pub opaque : IsOpaque w
     pub granted : w.granted ≡ v.granted
     pub revocable : is_irrevocable v ≡ false

@@ -9,6 +9,7 @@ use Rattle.stm_model.specs.declared.stop.Cause.TheVariants as causes
 use Rattle.stm_model.specs.Memories.{item_at}
 use Rattle.rule_base.specs.declared.layout.At.TheVariants.{Clock, Lock, Record}
 use Rattle.rule_base.specs.Encodings.{is_owned, owner_of, version_of}
+use Rattle.rule_base.specs.History.{member}
 use Rattle.tx_logs.specs.Filters.{filter_word}
 use Rattle.tx_answers.specs.Evidence.{Found, Refused, FoundAsWas, FoundMoved}
 use Rattle.tx_answers.specs.Known.{Known, is_irrevocable}
@@ -34,7 +35,7 @@ reads_full a v = has_read_log v.alg && (not (is_irrevocable v) && (not (has_item
 
 -- a write of a needs an item more than the write or undo log may have
 abbrev pub writes_full : ℕ → Known → Bool
-writes_full a v = logs_writes v.alg && (not (is_irrevocable v) && (not (has_item a v.log.writes) && (length v.log.writes == v.writes_limit)))
+writes_full a v = logs_writes v.alg && (not (is_irrevocable v) && (not (member v.kept a) && (length v.kept == v.writes_limit)))
 
 -- c is the memory's configuration, and n the caller; the call asks for this address, if for any
 module _ (c : Config) (n : ℕ) where

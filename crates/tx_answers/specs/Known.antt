@@ -3,7 +3,6 @@ use Rattle.std.specs.Prelude.{ℕ, ◌≡◌, ◌≤◌, ◌+◌, ◌&&◌, ◌|
 use Rattle.stm_model.specs.Algorithms.{irrevocable_under}
 use Rattle.stm_model.specs.declared.alg.Alg.{Alg}
 use Rattle.stm_model.specs.declared.alg.Alg.TheVariants.{Cgl, Tml, OrecLazy, OrecEager, RingSw, Serial}
-use Rattle.stm_model.specs.declared.config.Config.{Config}
 use Rattle.stm_model.specs.Histories.{Entry, Ascending}
 use Rattle.stm_model.specs.HistoryLaws.{Within}
 use Rattle.stm_model.specs.Logs.{Log}
@@ -19,7 +18,7 @@ use Rattle.rule_base.specs.declared.views.Phase.{Phase}
 use Rattle.rule_base.specs.declared.views.Phase.TheVariants.{Idle, Announced, Turned, Aiming, In, Closing}
 use Rattle.rule_base.specs.declared.views.TrailItem.{TrailItem}
 use Rattle.rule_base.specs.declared.views.View.{View}
-use Rattle.rule_base.specs.Bridge.{items, public_history}
+use Rattle.rule_base.specs.Bridge.{addresses, items, public_history}
 use Rattle.rule_base.specs.Own.{Own}
 use Rattle.tx_answers.specs.declared.answers.TxState.{TxState}
 use Rattle.tx_answers.specs.declared.answers.TxState.TheVariants as states
@@ -67,8 +66,8 @@ pub record Known : Type 0 where
   -- how many marks stand; and while the attempt can be taken back, what it had written at each, the oldest first
   pub depth : ℕ
   pub marks : List (List (ℕ × ℕ))
-  -- it was rolled back to a mark under OrecEager, and may hold records of what was taken back
-  pub retains : Bool
+  -- the addresses that have an item in its write or undo log, the oldest first: a roll back takes none out of an undo log
+  pub kept : List ℕ
   -- how many items its read log, and its write or undo log, may have
   pub reads_limit : ℕ
   pub writes_limit : ℕ
@@ -128,6 +127,15 @@ written_under RingSw false v own = items own.buffered
 written_under RingSw true v own = items v.attempt.stores
 written_under Serial granted v own = items v.attempt.stores
 
+-- the addresses with an item in the log that limits what the attempt may write: the write log of who buffers, the undo log of who stores in place
+abbrev pub kept_under : Alg → View → Own → List ℕ
+kept_under Cgl v own = []
+kept_under Tml v own = []
+kept_under OrecLazy v own = addresses (items own.buffered)
+kept_under OrecEager v own = addresses (items v.owned.undo)
+kept_under RingSw v own = addresses (items own.buffered)
+kept_under Serial v own = addresses (items v.lock.undo)
+
 abbrev pub fenced_of : FenceView → Fenced
 fenced_of f = record {
   held = f.holds;
@@ -161,11 +169,15 @@ known_of v own = record {
   log = record { reads = items v.attempt.reads; writes = written_under v.gate.algorithm v.gate.granted v own };
   depth = own.depth;
   marks = own.marks;
-  retains = own.retains;
+  kept = kept_under v.gate.algorithm v own;
   reads_limit = own.reads_limit;
   writes_limit = own.writes_limit;
   fenced = fenced_of v.fence;
 }
+
+abbrev pub is_none : List ℕ → Bool
+is_none [] = true
+is_none (a ∷ more) = false
 
 -- a caller's number
 abbrev pub caller_of : Role → ℕ
@@ -191,26 +203,17 @@ IsRunning v = (v.running ≡ true) × (v.committing ≡ false)
 abbrev pub state_of : Known → TxState
 state_of v = if v.running then (if v.committing then states.Committing v.alg else states.Running v.alg) else (if v.closing then states.Closing v.alg else states.Idle)
 
--- who rolls back under this algorithm keeps the records of what is taken back
-abbrev pub keeps_records : Alg → Bool
-keeps_records Cgl = false
-keeps_records Tml = false
-keeps_records OrecLazy = false
-keeps_records OrecEager = true
-keeps_records RingSw = false
-keeps_records Serial = false
-
 -- the attempt wrote something
 abbrev pub wrote : Known → Bool
 wrote v = not (is_empty v.log.writes)
 
 -- the attempt wrote something, or did so before it was rolled back
 abbrev pub has_written : Known → Bool
-has_written v = wrote v || v.retains
+has_written v = wrote v || not (is_none v.kept)
 
--- how many records it may hold at once: no more than words written, unless it was rolled back
-abbrev pub held_limit : Config → Known → ℕ
-held_limit c v = if v.retains then c.records else v.writes_limit
+-- it was not rolled back to before its first write
+abbrev pub IsUnrolled : Known → Type 0
+IsUnrolled v = wrote v ≡ false → v.kept ≡ []
 
 abbrev pub is_irrevocable : Known → Bool
 is_irrevocable v = irrevocable_under v.alg v.granted (wrote v)

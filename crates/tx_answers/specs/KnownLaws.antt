@@ -14,7 +14,7 @@ use Rattle.rule_base.specs.declared.views.Phase.{Phase}
 use Rattle.rule_base.specs.declared.views.Phase.TheVariants.{Idle, Announced, Turned, Aiming, In, Closing}
 use Rattle.rule_base.specs.declared.views.TrailItem.{TrailItem}
 use Rattle.tx_answers.specs.Answers.{GoesOn, Quits}
-use Rattle.tx_answers.specs.Known.{Known, Grows, owed, is_in, is_closing, is_irrevocable, wrote, has_written}
+use Rattle.tx_answers.specs.Known.{Known, Grows, owed, is_in, is_closing, is_irrevocable, wrote, has_written, IsUnrolled}
 
 -- an attempt that goes on was there before, toward the others as it was
 pub record IsStillIn (v w : Known) : Type 0 where
@@ -24,7 +24,7 @@ pub record IsStillIn (v w : Known) : Type 0 where
   pub holds : w.holds ≡ v.holds
   pub depth : w.depth ≡ v.depth
   pub marks : w.marks ≡ v.marks
-  pub retains : w.retains ≡ v.retains
+  pub unrolled : IsUnrolled v → IsUnrolled w
   pub fence : w.fence ≡ v.fence
 
 -- what stays of a caller through an attempt, however it ends but by a commit
@@ -69,7 +69,7 @@ grows-trans u v w a b =
     }
 
 pub carries-refl : (v : Known) → Carries v v
-carries-refl v = record { made = refl; grows = grows-same v v refl refl [] refl refl refl refl; closing = refl; alg = refl; installs = refl; base = refl; owes = omega arith; going = λ r. record { running = r; start = le_refl v.start; granted = refl; holds = refl; depth = refl; marks = refl; retains = refl; fence = refl }; irrevocable = λ r i. (r, i) }
+carries-refl v = record { made = refl; grows = grows-same v v refl refl [] refl refl refl refl; closing = refl; alg = refl; installs = refl; base = refl; owes = omega arith; going = λ r. record { running = r; start = le_refl v.start; granted = refl; holds = refl; depth = refl; marks = refl; unrolled = λ u. u; fence = refl }; irrevocable = λ r i. (r, i) }
 
 pub carries-trans : (u v w : Known) → Carries u v → Carries v w → Carries u w
 carries-trans u v w a b = record {
@@ -80,7 +80,7 @@ carries-trans u v w a b = record {
   installs = b.installs ∙ a.installs;
   base = b.base ∙ a.base;
   owes = (let x = a.owes in let y = b.owes in omega arith);
-  going = λ r. let y = b.going r in let x = a.going y.running in record { running = x.running; start = (let m = x.start in let n = y.start in omega arith); granted = y.granted ∙ x.granted; holds = y.holds ∙ x.holds; depth = y.depth ∙ x.depth; marks = y.marks ∙ x.marks; retains = y.retains ∙ x.retains; fence = y.fence ∙ x.fence };
+  going = λ r. let y = b.going r in let x = a.going y.running in record { running = x.running; start = (let m = x.start in let n = y.start in omega arith); granted = y.granted ∙ x.granted; holds = y.holds ∙ x.holds; depth = y.depth ∙ x.depth; marks = y.marks ∙ x.marks; unrolled = λ u. y.unrolled (x.unrolled u); fence = y.fence ∙ x.fence };
   irrevocable = λ r i. let m = a.irrevocable r i in b.irrevocable m.0 m.1;
 }
 
@@ -97,8 +97,8 @@ writes-some l k a x w =
 irrevocable-along : (v w : Known) (some : Bool) → w.alg ≡ v.alg → w.granted ≡ v.granted → wrote w ≡ some → irrevocable_under v.alg v.granted some ≡ true → is_irrevocable w ≡ true
 irrevocable-along v w some alg granted is h = (λ i. irrevocable_under (alg i) (granted i) (is i)) ∙ h
 
-carries-goes : (v w : Known) → v.running ≡ true → v.closing ≡ false → GoesOn v w → (is_irrevocable v ≡ true → is_irrevocable w ≡ true) → Carries v w
-carries-goes v w running closing g irrevocable = let k = g.continues in record {
+carries-goes : (v w : Known) → v.running ≡ true → v.closing ≡ false → GoesOn v w → (IsUnrolled v → IsUnrolled w) → (is_irrevocable v ≡ true → is_irrevocable w ≡ true) → Carries v w
+carries-goes v w running closing g unrolled irrevocable = let k = g.continues in record {
   made = k.made;
   grows = k.grows;
   closing = k.closing ∙ sym closing;
@@ -106,7 +106,7 @@ carries-goes v w running closing g irrevocable = let k = g.continues in record {
   installs = k.installs;
   base = k.base;
   owes = owed-goes v w k.running running k.base;
-  going = λ r. record { running = running; start = k.later; granted = g.granted; holds = g.holds; depth = k.depth; marks = g.marks; retains = k.retains; fence = k.fence };
+  going = λ r. record { running = running; start = k.later; granted = g.granted; holds = g.holds; depth = k.depth; marks = g.marks; unrolled = unrolled; fence = k.fence };
   irrevocable = λ r i. (k.running, irrevocable i);
 }
   where
@@ -114,7 +114,7 @@ carries-goes v w running closing g irrevocable = let k = g.continues in record {
     owed-goes v w now before b = grind (arith, now, before, b)
 
 pub carries-wrote : (v w : Known) (a x : ℕ) → v.running ≡ true → v.closing ≡ false → GoesOn v w → Writes v.log a x w.log → Carries v w
-carries-wrote v w a x running closing g writes = carries-goes v w running closing g (λ h. irrevocable-along v w true g.continues.alg g.granted (writes-some v.log w.log a x writes) (irrevocable-writer v.alg v.granted (wrote v) h))
+carries-wrote v w a x running closing g writes = carries-goes v w running closing g (λ u none. absurd (let some = writes-some v.log w.log a x writes in let no : true ≡ false = sym some ∙ none in cc)) (λ h. irrevocable-along v w true g.continues.alg g.granted (writes-some v.log w.log a x writes) (irrevocable-writer v.alg v.granted (wrote v) h))
 
 pub carries-quits : (v w : Known) → v.running ≡ true → v.closing ≡ false → Quits v w → Carries v w
 carries-quits v w running closing q = record {

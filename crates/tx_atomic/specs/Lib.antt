@@ -7,3 +7,4 @@ pub mod Tries
 pub mod TryLaws
 pub mod Moments
 pub mod MomentLaws
+pub mod Switches

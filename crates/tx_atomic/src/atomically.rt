@@ -12,11 +12,11 @@ use crate::attempts::attempt;
 use crate::observer::Observer;
 use crate::pace::Pacing;
 use crate::tally::Ended;
-use crate::transaction::Transaction;
 use std::sync::Wait;
 use stm_model::rule::MemRule;
 use stm_rule::desc::Desc;
 use stm_rule::stm::Stm;
+use tx_transaction::transaction::Transaction;
 
 /// After so many attempts of a transaction that another caller was in the way of, the next ones ask to be
 /// irrevocable before they do anything.

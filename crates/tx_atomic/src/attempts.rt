@@ -13,7 +13,6 @@ use crate::noting::Noting;
 use crate::observer::Observer;
 use crate::pace::Pacing;
 use crate::tally::Ended;
-use crate::transaction::Transaction;
 use std::sync::Wait;
 use stm_model::alg::Alg;
 use stm_model::rule::MemRule;
@@ -22,10 +21,10 @@ use stm_rule::stm::Stm;
 use stm_tx::calls::{algorithm, cancel, commit, try_begin, try_irrevocable};
 use stm_tx::fencing::fence_seen;
 use stm_tx::live::Live;
-use stm_tx::serving::{
-    Calls, OnlyCgl, OnlyOrecEager, OnlyOrecLazy, OnlyRingSw, OnlySerial, OnlyTml,
-};
+use stm_tx::serving::{Calls, Only};
+use stm_tx::{Cgl, OrecEager, OrecLazy, RingSw, Serial, Tml};
 use tx_answers::answers::{Begin, Commit, Irrev};
+use tx_transaction::transaction::Transaction;
 
 /// Tries a transaction once, irrevocably where `irrevocable` says so. Answers what the transaction does, where the
 /// attempt committed; else it left no trace. An irrevocable attempt fails only before it does anything.
@@ -212,12 +211,48 @@ fn act<K: MemRule, T: Transaction<K>, O: Observer>(
     ensures irrevocable { OnOk result (is_irrevocable (known desc.old) ≡ true → is_irrevocable (known desc.new) ≡ true) }
 {
     match algorithm(desc) {
-        Alg::Cgl => act_by(&Noting::of(OnlyCgl), desc, stm, pace, transaction),
-        Alg::Tml => act_by(&Noting::of(OnlyTml), desc, stm, pace, transaction),
-        Alg::Serial => act_by(&Noting::of(OnlySerial), desc, stm, pace, transaction),
-        Alg::OrecLazy => act_by(&Noting::of(OnlyOrecLazy), desc, stm, pace, transaction),
-        Alg::OrecEager => act_by(&Noting::of(OnlyOrecEager), desc, stm, pace, transaction),
-        Alg::RingSw => act_by(&Noting::of(OnlyRingSw), desc, stm, pace, transaction),
+        Alg::Cgl => act_by(
+            &Noting::of(Only::<Cgl>::new()),
+            desc,
+            stm,
+            pace,
+            transaction,
+        ),
+        Alg::Tml => act_by(
+            &Noting::of(Only::<Tml>::new()),
+            desc,
+            stm,
+            pace,
+            transaction,
+        ),
+        Alg::Serial => act_by(
+            &Noting::of(Only::<Serial>::new()),
+            desc,
+            stm,
+            pace,
+            transaction,
+        ),
+        Alg::OrecLazy => act_by(
+            &Noting::of(Only::<OrecLazy>::new()),
+            desc,
+            stm,
+            pace,
+            transaction,
+        ),
+        Alg::OrecEager => act_by(
+            &Noting::of(Only::<OrecEager>::new()),
+            desc,
+            stm,
+            pace,
+            transaction,
+        ),
+        Alg::RingSw => act_by(
+            &Noting::of(Only::<RingSw>::new()),
+            desc,
+            stm,
+            pace,
+            transaction,
+        ),
     }
 }
 

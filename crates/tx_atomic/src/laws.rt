@@ -1,8 +1,8 @@
 //! Laws of transactions, as the contracts of functions that do nothing.
 ghost use Rattle.tx_atomic.specs.Moments.{HaveMoments};
 
-use crate::transaction::Transaction;
 use stm_model::rule::MemRule;
+use tx_transaction::transaction::Transaction;
 
 /// Each transaction that took effect (`took` of `atomically`) has its moment in the history that begins with what its
 /// caller has seen since, as that which `close` tells of does: behind all that the caller had seen before it, the memory

@@ -1,6 +1,8 @@
 //! A transaction as a value, and its run until it commits. A user names this crate and stm_tx.
 #![tactic(auto)]
 
+pub use tx_transaction::transaction;
+
 pub mod atomically;
 pub mod attempts;
 pub mod laws;
@@ -9,5 +11,4 @@ pub mod observer;
 pub mod pace;
 pub mod switching;
 pub mod tally;
-pub mod transaction;
 pub mod waiting;

@@ -1,9 +1,12 @@
-//! Another algorithm for a memory.
-ghost use Rattle.std.specs.Prelude.{◌≡◌, ◌≤◌, ◌+◌, ◌∷◌, ◌++◌, [], true, if◌then◌else◌};
+//! Another algorithm for a memory, and how a caller comes to be alone with it.
+ghost use Rattle.std.specs.Prelude.{◌≡◌, ◌≤◌, ◌+◌, ◌∷◌, ◌++◌, [], true, OnOk, OnErr, IfErr};
 ghost use Rattle.stm_model.specs.Algorithms.{install_rise};
+ghost use Rattle.stm_rule.specs.Callers.{IsOf, IsSameCaller};
+ghost use Rattle.tx_answers.specs.Answers.{HoldsClosed, SeesQuiet};
 ghost use Rattle.tx_answers.specs.Known.{Grows};
-ghost use Rattle.stm_tx.specs.Descs.{known};
+ghost use Rattle.stm_tx.specs.Descs.{known, number};
 ghost use Rattle.tx_atomic.specs.Callers.{IsReady, IsThrough};
+ghost use Rattle.tx_atomic.specs.Switches.{IsHindered};
 
 use std::sync::Wait;
 use stm_model::alg::Alg;
@@ -14,7 +17,65 @@ use stm_tx::gate::{close_gate, install, look, reopen};
 use tx_answers::answers::{CloseGate, Look};
 use tx_backoff::Backoff;
 
-/// Installs an algorithm, once: attempts that begin from then on run under it. Waits while others are in attempts.
+/// Who was in the way of a caller that was to be alone.
+#[derive(Clone, Copy, Drop, Debug, PartialEq, Eq)]
+pub enum Hindrance {
+    /// Another caller has closed the gate: this is its word.
+    Taken { gate: u64 },
+    /// This caller was in an attempt: its status word.
+    Busy { caller: usize, status: u64 },
+}
+
+/// Closes the gate, and waits until all others are out of their attempts: none begins from the closing on. The caller is
+/// alone then, and holds the gate: it may install an algorithm, take a range out of the transactions or give it back, and
+/// is to reopen the gate.
+pub fn close_alone<R: Wait, K: MemRule>(rt: &R, desc: &mut Desc<K>, stm: &Stm<K>)
+    requires ready { IsReady stm.now desc.old }
+    ensures same { IsSameCaller desc.old desc.new }
+    ensures closing { HoldsClosed (known desc.new) }
+    ensures quiet { SeesQuiet (K.good stm.now.rule) stm.now.config (number desc.new) (known desc.new) }
+    ensures grew { Grows (known desc.old) (known desc.new) }
+    ensures made { (known desc.new).made ≡ (known desc.old).made }
+    ensures rises { (known desc.new).rises ≡ (known desc.old).rises }
+    ensures installs { (known desc.new).installs ≡ (known desc.old).installs }
+{
+    let mut backoff = Backoff::new();
+    for _ in rt.forever() {
+        match close_gate(desc, stm) {
+            CloseGate::Closed => {
+                see_others_leave(rt, desc, stm);
+                return;
+            }
+            CloseGate::Taken { .. } => backoff.wait(),
+        }
+    }
+    unreachable!()
+}
+
+/// Waits, with the gate closed, until all others were seen out of their attempts, each once.
+fn see_others_leave<R: Wait, K: MemRule>(rt: &R, desc: &mut Desc<K>, stm: &Stm<K>)
+    requires stm { IsOf desc.old stm.now }
+    requires closing { HoldsClosed (known desc.old) }
+    ensures same { IsSameCaller desc.old desc.new }
+    ensures closing { HoldsClosed (known desc.new) }
+    ensures quiet { SeesQuiet (K.good stm.now.rule) stm.now.config (number desc.new) (known desc.new) }
+    ensures grew { Grows (known desc.old) (known desc.new) }
+    ensures made { (known desc.new).made ≡ (known desc.old).made }
+    ensures rises { (known desc.new).rises ≡ (known desc.old).rises }
+    ensures installs { (known desc.new).installs ≡ (known desc.old).installs }
+{
+    let mut backoff = Backoff::new();
+    for _ in rt.forever() {
+        match look(desc, stm) {
+            Look::Quiet => return,
+            Look::Busy { .. } => backoff.wait(),
+        }
+    }
+    unreachable!()
+}
+
+/// Installs an algorithm, once: attempts that begin from then on run under it. Closes the gate for it, and waits while
+/// others are in attempts: those go on, and none begins.
 pub fn switch_to<R: Wait, K: MemRule>(rt: &R, desc: &mut Desc<K>, stm: &Stm<K>, alg: Alg)
     requires ready { IsReady stm.now desc.old }
     ensures through { IsThrough desc.old desc.new }
@@ -23,36 +84,44 @@ pub fn switch_to<R: Wait, K: MemRule>(rt: &R, desc: &mut Desc<K>, stm: &Stm<K>, 
     ensures rises { ((known desc.old).rises ≤ (known desc.new).rises) × ((known desc.new).rises ≤ (known desc.old).rises + install_rise alg) }
     ensures installs { (known desc.new).installs ≡ (known desc.old).installs ++ alg ∷ [] }
 {
-    let mut backoff = Backoff::new();
-    for _ in rt.forever() {
-        if try_switch(desc, stm, alg) {
-            return;
-        }
-        backoff.wait();
-    }
+    close_alone(rt, desc, stm);
+    install(desc, stm, alg);
+    reopen(desc, stm);
 }
 
-/// Installs an algorithm, where no other caller is in the way. Answers whether it did.
-pub fn try_switch<K: MemRule>(desc: &mut Desc<K>, stm: &Stm<K>, alg: Alg) -> bool
+/// Installs an algorithm where one look finds all others out of their attempts; else the gate is open as before, and no
+/// algorithm was installed. It doesn't wait.
+///
+/// # Errors
+/// Who was in the way.
+pub fn switch_at_one_look<K: MemRule>(
+    desc: &mut Desc<K>,
+    stm: &Stm<K>,
+    alg: Alg,
+) -> Result<(), Hindrance>
     requires ready { IsReady stm.now desc.old }
     ensures through { IsThrough desc.old desc.new }
     ensures grew { Grows (known desc.old) (known desc.new) }
     ensures made { (known desc.new).made ≡ (known desc.old).made }
-    ensures rises { ((known desc.old).rises ≤ (known desc.new).rises) × ((known desc.new).rises ≤ (if result then (known desc.old).rises + install_rise alg else (known desc.old).rises)) }
-    ensures installs { (known desc.new).installs ≡ (if result then (known desc.old).installs ++ alg ∷ [] else (known desc.old).installs) }
+    ensures rises { OnOk result (((known desc.old).rises ≤ (known desc.new).rises) × ((known desc.new).rises ≤ (known desc.old).rises + install_rise alg)) }
+    ensures still { OnErr result ((known desc.new).rises ≡ (known desc.old).rises) }
+    ensures installs { OnOk result ((known desc.new).installs ≡ (known desc.old).installs ++ alg ∷ []) }
+    ensures none { OnErr result ((known desc.new).installs ≡ (known desc.old).installs) }
+    ensures hindered { IfErr result (λ e. IsHindered (K.good stm.now.rule) stm.now.config (number desc.old) e (known desc.old) (known desc.new)) }
 {
-    let CloseGate::Closed = close_gate(desc, stm) else {
-        return false;
-    };
+    match close_gate(desc, stm) {
+        CloseGate::Closed => {}
+        CloseGate::Taken { gate } => return Err(Hindrance::Taken { gate }),
+    }
     match look(desc, stm) {
         Look::Quiet => {
             install(desc, stm, alg);
             reopen(desc, stm);
-            true
+            Ok(())
         }
-        Look::Busy { .. } => {
+        Look::Busy { caller, status } => {
             reopen(desc, stm);
-            false
+            Err(Hindrance::Busy { caller, status })
         }
     }
 }

@@ -14,12 +14,12 @@ ghost use Rattle.tx_atomic.specs.Callers.{IsReady, IsThrough, Took};
 use crate::atomically::atomically;
 use crate::observer::Observer;
 use crate::pace::Pacing;
-use crate::transaction::Transaction;
 use std::sync::Wait;
 use stm_model::rule::MemRule;
 use stm_rule::desc::Desc;
 use stm_rule::stm::Stm;
 use tx_backoff::Backoff;
+use tx_transaction::transaction::Transaction;
 
 /// Runs a transaction until it commits with an answer, and answers that. It took effect once, as in [`atomically`]; the
 /// attempts that answered None before left no entry. The pauses between these grow. The pace counts each of them as a

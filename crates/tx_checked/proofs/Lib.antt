@@ -4,3 +4,4 @@ pub mod Giving
 pub mod Held
 pub mod Mails
 pub mod Newcomers
+pub mod Refused

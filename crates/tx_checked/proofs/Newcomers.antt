@@ -1,6 +1,6 @@
 -- Callers of a memory that was just opened.
-use Rattle.std.proofs.Common.{ℕ, zero, suc, ◌≡◌, ◌<◌, ◌+◌, ◌∙◌, Bool, true, List, [], ◌∷◌, ◌++◌, length, get_or, set, refl, sym, ap, arith, subst}
-use Rattle.std.specs.Prelude.{All, if◌then◌else◌}
+use Rattle.std.proofs.Common.{ℕ, zero, suc, ◌≡◌, ◌<◌, ◌+◌, ◌∙◌, List, [], ◌∷◌, ◌++◌, length, get_or, set, refl, sym, ap, arith, subst}
+use Rattle.std.specs.Prelude.{All, Result, Ok, Err, OnOk, IfErr}
 use Rattle.std.proofs.lemmas.List.{get_or-map, length-map}
 use Rattle.rule_base.specs.declared.views.View.{View}
 use Rattle.stm_model.specs.declared.alg.Alg.{Alg}
@@ -9,11 +9,15 @@ use Rattle.stm_model.specs.declared.rule.AnyMem.{AnyMem}
 use Rattle.stm_rule.specs.declared.stm.Stm.{Stm}
 use Rattle.stm_rule.specs.Callers.{Handle, IsOf, AllOpened}
 use Rattle.stm_tx.specs.Descs.{known, number}
-use Rattle.tx_answers.specs.Known.{IsIdle, known_of, caller_of}
+use Rattle.tx_answers.specs.Known.{Known, IsIdle, known_of, caller_of}
+use Rattle.tx_atomic.specs.declared.switching.Hindrance.{Hindrance}
+use Rattle.tx_atomic.specs.declared.switching.Hindrance.TheVariants.{Taken, Busy}
+use Rattle.tx_atomic.specs.Switches.{IsHindered}
 use Rattle.tx_atomic.specs.Callers.{IsReady, IsThrough}
 use Rattle.tx_atomic.specs.CallerLaws.{through}
 use Rattle.tx_checked.specs.declared.member.Member.{Member}
-use Rattle.tx_checked.specs.Ready.{IsFresh, AreFresh, IsUnused, AreNew, desc_in, descs_in}
+use Rattle.tx_checked.specs.Stands.{Any}
+use Rattle.tx_checked.specs.Ready.{IsFresh, AreFresh, IsOpenHindered, IsUnused, AreNew, desc_in, descs_in}
 
 -- a caller that has done nothing at all
 record IsOpened (stm : Stm AnyMem) (i : ℕ) (d : Handle AnyMem) : Type 0 where
@@ -22,6 +26,7 @@ record IsOpened (stm : Stm AnyMem) (i : ℕ) (d : Handle AnyMem) : Type 0 where
   number : number d ≡ i
   made : (known d).made ≡ []
   installs : (known d).installs ≡ []
+  trail : (known d).trail ≡ []
 
 module _ (stm : Stm AnyMem) where
   opened : (n i : ℕ) (ds : List (Handle AnyMem)) (x : Handle AnyMem) → AllOpened stm n ds → i < length ds → IsOpened stm (n + i) (get_or ds i x)
@@ -32,6 +37,7 @@ module _ (stm : Stm AnyMem) where
     number = ap caller_of h.1 ∙ here;
     made = ap (λ (v : View). (known_of v d.own).made) h.2;
     installs = ap (λ (v : View). (known_of v d.own).installs) h.2;
+    trail = ap (λ (v : View). (known_of v d.own).trail) h.2;
   }
   opened n (suc i) (d ∷ ds) x h lt = let next : suc n + i ≡ n + suc i = omega arith in subst (λ k. IsOpened stm k (get_or ds i x)) next (opened (suc n) i ds x h.4 (omega (arith, lt)))
 
@@ -39,23 +45,47 @@ module _ (stm : Stm AnyMem) where
   opened-ready ds x h some = let one = opened 0 0 ds x h some in record { own = one.own; idle = one.idle }
 
   -- the first has installed the algorithm
-  pub one-installed : (alg : Alg) (did : Bool) (ds : List (Handle AnyMem)) (x d e : Handle AnyMem) → AllOpened stm 0 ds → d ≡ get_or ds 0 x → IsThrough d e → (known e).made ≡ (known d).made
-      → did ≡ true → (known e).installs ≡ (if did then (known d).installs ++ alg ∷ [] else (known d).installs) → AreFresh stm alg (set ds 0 e)
-  one-installed alg did [] x d e h at t made so installs i y lt = absurd (omega (arith, lt))
-  one-installed alg did (f ∷ ds) x d e h at t made so installs zero y lt = let one = opened 0 0 (f ∷ ds) x h (omega arith) in let t' = subst (λ (g : Handle AnyMem). IsThrough g e) at t in record {
+  one-installed : (alg : Alg) (ds : List (Handle AnyMem)) (x d e : Handle AnyMem) → AllOpened stm 0 ds → d ≡ get_or ds 0 x → IsThrough d e → (known e).made ≡ (known d).made
+      → (known e).installs ≡ (known d).installs ++ alg ∷ [] → AreFresh stm alg (set ds 0 e)
+  one-installed alg [] x d e h at t made installs i y lt = absurd (omega (arith, lt))
+  one-installed alg (f ∷ ds) x d e h at t made installs zero y lt = let one = opened 0 0 (f ∷ ds) x h (omega arith) in let t' = subst (λ (g : Handle AnyMem). IsThrough g e) at t in record {
     own = through stm f e one.own t';
     idle = t.idle;
     number = ap (λ q. caller_of q.role) t'.same.who ∙ one.number;
     made = made ∙ (ap (λ (g : Handle AnyMem). (known g).made) at ∙ one.made);
-    installs = installs ∙ (ap (λ (b : Bool). if b then (known d).installs ++ alg ∷ [] else (known d).installs) so ∙ ap (λ (l : List Alg). l ++ alg ∷ []) (ap (λ (g : Handle AnyMem). (known g).installs) at ∙ one.installs));
+    installs = installs ∙ ap (λ (l : List Alg). l ++ alg ∷ []) (ap (λ (g : Handle AnyMem). (known g).installs) at ∙ one.installs);
   }
-  one-installed alg did (f ∷ ds) x d e h at t made so installs (suc i) y lt = let one = opened 0 (suc i) (f ∷ ds) y h (omega (arith, lt)) in let here : 0 + suc i ≡ suc i = omega arith in record {
+  one-installed alg (f ∷ ds) x d e h at t made installs (suc i) y lt = let one = opened 0 (suc i) (f ∷ ds) y h (omega (arith, lt)) in let here : 0 + suc i ≡ suc i = omega arith in record {
     own = one.own;
     idle = one.idle;
     number = one.number ∙ here;
     made = one.made;
     installs = one.installs;
   }
+
+  pub first-fresh : (r : Result (Unit {0}) Hindrance) (alg : Alg) (ds : List (Handle AnyMem)) (x d e : Handle AnyMem) → AllOpened stm 0 ds → d ≡ get_or ds 0 x → IsThrough d e → (known e).made ≡ (known d).made
+      → OnOk r ((known e).installs ≡ (known d).installs ++ alg ∷ []) → OnOk r (AreFresh stm alg (set ds 0 e))
+  first-fresh (Ok u) alg ds x d e h at t made installs = one-installed alg ds x d e h at t made installs
+  first-fresh (Err q) alg ds x d e h at t made installs = tt
+
+  has-others : (n : ℕ) (q : Hindrance) (v w : Known) → IsHindered Any stm.config n q v w → 1 < stm.config.callers
+  has-others n (Taken gate) v w h = h.3
+  has-others n (Busy caller status) v w h = h.3.1.other.2
+
+  -- or was hindered, having taken no step before
+  pub first-hindered : (r : Result (Unit {0}) Hindrance) (ds : List (Handle AnyMem)) (x d e : Handle AnyMem) → AllOpened stm 0 ds → 0 < length ds → d ≡ get_or ds 0 x
+      → IfErr r (λ q. IsHindered Any stm.config (number d) q (known d) (known e)) → IfErr r (λ q. (1 < stm.config.callers) × IsOpenHindered stm.config q)
+  first-hindered (Ok u) ds x d e h some at hindered = tt
+  first-hindered (Err q) ds x d e h some at hindered = let one = opened 0 0 ds x h some in (
+    has-others (number d) q (known d) (known e) hindered,
+    record {
+      v = known d;
+      w = known e;
+      made = ap (λ (g : Handle AnyMem). (known g).made) at ∙ one.made;
+      trail = ap (λ (g : Handle AnyMem). (known g).trail) at ∙ one.trail;
+      hindered = subst (λ n. IsHindered Any stm.config n q (known d) (known e)) (ap number at ∙ one.number) hindered;
+    },
+  )
 
   pub fresh-ready : (alg : Alg) (ds : List (Handle AnyMem)) → AreFresh stm alg ds → All (IsReady stm) ds
   fresh-ready alg ds h = λ i d lt. let one = h i d lt in record { own = one.own; idle = one.idle }

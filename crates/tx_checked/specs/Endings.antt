@@ -2,9 +2,13 @@
 use Rattle.std.specs.Prelude.{ℕ, ◌≡◌, ◌<◌, ◌≤◌, ◌++◌, List, None, true, slice_index, Result, Ok, Err}
 use Rattle.stm_model.specs.Histories.{Entry, memory_after, IsLegal}
 use Rattle.tx_answers.specs.Known.{zeros}
+use Rattle.tx_checked.specs.Alone.{IsTakeRefused}
+use Rattle.tx_checked.specs.declared.errand.Errand.TheVariants.{End}
 use Rattle.tx_checked.specs.declared.member.Member.{Member}
 use Rattle.tx_checked.specs.declared.refusal.Refusal.{Refusal}
-use Rattle.tx_checked.specs.Members.{config_of, known_to}
+use Rattle.tx_checked.specs.declared.stand.Stand.TheVariants.{Idle}
+use Rattle.tx_checked.specs.Errands.{is_closing, stand_after}
+use Rattle.tx_checked.specs.Members.{config_of, known_to, number_of}
 use Rattle.tx_checked.specs.Ranges.{GrowsBeside, IsLeft}
 use Rattle.tx_checked.specs.Stands.{Any}
 
@@ -20,8 +24,9 @@ pub record EndsAs (m n : Member) (old ws : List ℕ) : Type 0 where
   pub grew : GrowsBeside (known_to m) (known_to n)
   pub made : (known_to n).made ≡ (known_to m).made
   pub range : n.range ≡ None
+  pub stand : n.stand ≡ Idle
   pub refusal : n.refusal ≡ m.refusal
 
 abbrev pub HasEnded : Member → Member → List ℕ → List ℕ → Result (Unit {0}) Refusal → Type 0
 HasEnded m n old ws (Ok r) = EndsAs m n old ws
-HasEnded m n old ws (Err e) = IsLeft e m n × (ws ≡ old)
+HasEnded m n old ws (Err e) = IsLeft e (stand_after End e) m n × IsTakeRefused (config_of m) (number_of m) (is_closing m.stand) 0 (config_of m).words e (known_to m) (known_to n) × (ws ≡ old)

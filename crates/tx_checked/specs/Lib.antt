@@ -1,4 +1,6 @@
 pub mod Stands
+pub mod Errands
+pub mod Alone
 pub mod Mails
 pub mod Learning
 pub mod Members

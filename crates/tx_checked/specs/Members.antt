@@ -1,5 +1,5 @@
 -- What contracts say of a caller with its memory.
-use Rattle.std.specs.Prelude.{ℕ, ◌≡◌}
+use Rattle.std.specs.Prelude.{ℕ, Bool, not, ◌≡◌, ◌==◌, ◌&&◌}
 use Rattle.std.specs.Arc.{arc_value}
 use Rattle.stm_model.specs.declared.config.Config.{Config}
 use Rattle.stm_rule.specs.Callers.{IsSameCaller}
@@ -15,6 +15,10 @@ number_of m = number m.desc
 
 abbrev pub known_to : Member → Known
 known_to m = known m.desc
+
+-- a range was out of the transactions as its attempt began
+abbrev pub is_beside : Known → Bool
+is_beside v = v.running && not (v.fence == 0)
 
 -- the same caller of the same memory
 pub record IsSameMember (m n : Member) : Type 0 where

@@ -10,10 +10,15 @@ use Rattle.tx_answers.specs.declared.answers.Give.{Give}
 use Rattle.tx_answers.specs.declared.answers.Give.TheVariants as gives
 use Rattle.tx_answers.specs.Fences.{ReadsDirect, WritesDirect, is_within}
 use Rattle.tx_answers.specs.Known.{Known, Grows, no_log, zeros}
+use Rattle.tx_checked.specs.Alone.{IsHeldUp, IsTakeRefused, FindsFullAt}
+use Rattle.tx_checked.specs.declared.errand.Errand.TheVariants as errands
 use Rattle.tx_checked.specs.declared.member.Member.{Member}
 use Rattle.tx_checked.specs.declared.member.Range.{Range}
 use Rattle.tx_checked.specs.declared.refusal.Refusal.{Refusal}
 use Rattle.tx_checked.specs.declared.refusal.Refusal.TheVariants as refusals
+use Rattle.tx_checked.specs.declared.stand.Stand.{Stand}
+use Rattle.tx_checked.specs.declared.stand.Stand.TheVariants.{Idle}
+use Rattle.tx_checked.specs.Errands.{is_closing, stand_after}
 use Rattle.tx_checked.specs.Members.{config_of, known_to, number_of}
 use Rattle.tx_checked.specs.Stands.{Any}
 
@@ -47,17 +52,19 @@ GivesBack c n (gives.Committed time) v w = GivesAt c n time v w
 GivesBack c n gives.Unchanged v w = (w.made ≡ v.made) × (is_empty v.fenced.log.writes ≡ true)
 GivesBack c n (gives.ClockFull clock) v w = (w.made ≡ v.made) × (w.fenced ≡ v.fenced) × (CLOCK_LIMIT ≤ clock)
 
--- nothing was taken or given, for what is written down
-pub record IsLeft (e : Refusal) (m n : Member) : Type 0 where
-  pub grew : GrowsBeside (known_to m) (known_to n)
+-- nothing was taken, given or installed, for what is written down, and it stands so
+pub record IsLeft (e : Refusal) (s : Stand) (m n : Member) : Type 0 where
+  pub grew : Grows (known_to m) (known_to n)
   pub made : (known_to n).made ≡ (known_to m).made
-  pub fenced : (known_to n).fenced ≡ (known_to m).fenced
+  pub rises : (known_to n).rises ≡ (known_to m).rises
+  pub installs : (known_to n).installs ≡ (known_to m).installs
+  pub stand : n.stand ≡ s
   pub range : n.range ≡ m.range
   pub refusal : n.refusal ≡ Some e
 
 abbrev pub HasTaken : ℕ → ℕ → Member → Member → Result (Unit {0}) Refusal → Type 0
-HasTaken from count m n (Ok r) = TakesOut (config_of m) from count (known_to m) (known_to n) × GrowsBeside (known_to m) (known_to n) × ((known_to n).made ≡ (known_to m).made) × (n.range ≡ Some (record { from = from; count = count })) × (n.refusal ≡ m.refusal)
-HasTaken from count m n (Err e) = IsLeft e m n
+HasTaken from count m n (Ok r) = TakesOut (config_of m) from count (known_to m) (known_to n) × GrowsBeside (known_to m) (known_to n) × ((known_to n).made ≡ (known_to m).made) × (n.stand ≡ Idle) × (n.range ≡ Some (record { from = from; count = count })) × (n.refusal ≡ m.refusal)
+HasTaken from count m n (Err e) = IsLeft e (stand_after (errands.Take from count) e) m n × IsTakeRefused (config_of m) (number_of m) (is_closing m.stand) from count e (known_to m) (known_to n)
 
 abbrev pub range_after : Give → Option Range → Option Range
 range_after (gives.Committed time) r = None
@@ -70,8 +77,8 @@ give_refusal gives.Unchanged old = old
 give_refusal (gives.ClockFull clock) old = Some (refusals.ClockFull clock)
 
 abbrev pub HasGiven : Member → Member → Result Give Refusal → Type 0
-HasGiven m n (Ok r) = GivesBack (config_of m) (number_of m) r (known_to m) (known_to n) × GrowsBeside (known_to m) (known_to n) × (n.range ≡ range_after r m.range) × (n.refusal ≡ give_refusal r m.refusal)
-HasGiven m n (Err e) = IsLeft e m n
+HasGiven m n (Ok r) = GivesBack (config_of m) (number_of m) r (known_to m) (known_to n) × FindsFullAt (config_of m) (number_of m) (is_closing m.stand) r (known_to m) (known_to n) × GrowsBeside (known_to m) (known_to n) × (n.stand ≡ Idle) × (n.range ≡ range_after r m.range) × (n.refusal ≡ give_refusal r m.refusal)
+HasGiven m n (Err e) = IsLeft e (stand_after errands.Give e) m n × IsHeldUp (config_of m) (number_of m) (is_closing m.stand) e (known_to m) (known_to n)
 
 abbrev pub HasReadDirect : ℕ → Member → Member → ℕ → Type 0
 HasReadDirect a m n x = ReadsDirect Any (config_of m) (number_of m) a x (known_to m) (known_to n) × (n.range ≡ m.range) × (n.refusal ≡ m.refusal)

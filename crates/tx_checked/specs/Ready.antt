@@ -7,12 +7,15 @@ use Rattle.stm_rule.specs.declared.stm.Stm.{Stm}
 use Rattle.stm_rule.specs.Callers.{Handle, IsOf}
 use Rattle.stm_rule.specs.Refusals.{first_fault, IsRefusal}
 use Rattle.stm_tx.specs.Descs.{known, number}
-use Rattle.tx_answers.specs.Known.{IsIdle}
+use Rattle.tx_answers.specs.Known.{Known, IsIdle}
+use Rattle.tx_atomic.specs.declared.switching.Hindrance.{Hindrance}
+use Rattle.tx_atomic.specs.Switches.{IsHindered}
 use Rattle.tx_checked.specs.declared.member.Member.{Member}
 use Rattle.tx_checked.specs.declared.opening.OpenError.{OpenError}
 use Rattle.tx_checked.specs.declared.opening.OpenError.TheVariants as opens
 use Rattle.tx_checked.specs.declared.stand.Stand.TheVariants.{Idle}
 use Rattle.tx_checked.specs.Members.{config_of, known_to, number_of}
+use Rattle.tx_checked.specs.Stands.{Any}
 
 -- the first of the callers installed the algorithm
 abbrev pub installed : Alg → ℕ → List Alg
@@ -53,8 +56,16 @@ pub record IsNew (c : Config) (alg : Alg) (i : ℕ) (m : Member) : Type 0 where
 abbrev pub AreNew : Config → Alg → List Member → Type 0
 AreNew c alg ms = (i : ℕ) (m : Member) → i < length ms → IsNew c alg i (get_or ms i m)
 
--- where no number is at fault, memory was refused or the gate taken
+-- a caller that has taken no step was to install the algorithm, and another was in the way
+pub record IsOpenHindered (c : Config) (e : Hindrance) : Type 0 where
+  pub v : Known
+  pub w : Known
+  pub made : v.made ≡ []
+  pub trail : v.trail ≡ []
+  pub hindered : IsHindered Any c 0 e v w
+
+-- where no number is at fault, memory was refused, or another was in the way of the install, which one caller alone never meets
 abbrev pub IsOpenError : Config → OpenError → Type 0
 IsOpenError c (opens.Refused e) = IsRefusal c e
 IsOpenError c opens.Memory = first_fault c ≡ None
-IsOpenError c opens.Busy = first_fault c ≡ None
+IsOpenError c (opens.Busy e) = (first_fault c ≡ None) × (1 < c.callers) × IsOpenHindered c e

@@ -1,11 +1,13 @@
 -- Where a caller stands, as its user may ask.
 use Rattle.std.specs.Prelude.{ℕ, ◌≡◌, ◌≤◌, ◌+◌, true, Option, Some, List}
 use Rattle.rule_base.specs.Encodings.{fenced}
+use Rattle.tx_answers.specs.Answers.{HoldsClosed}
 use Rattle.tx_answers.specs.Fences.{is_within}
 use Rattle.tx_answers.specs.Known.{Known, Fenced, IsIdle, IsRunning}
+use Rattle.tx_checked.specs.declared.errand.Errand.{Errand}
 use Rattle.tx_checked.specs.declared.member.Range.{Range}
 use Rattle.tx_checked.specs.declared.stand.Stand.{Stand}
-use Rattle.tx_checked.specs.declared.stand.Stand.TheVariants.{Idle, Running, Beside, Committing}
+use Rattle.tx_checked.specs.declared.stand.Stand.TheVariants.{Idle, Running, Beside, Committing, Closing}
 
 -- every memory is good
 abbrev pub Any : List ℕ → Type 0
@@ -13,7 +15,7 @@ Any memory = Unit {0}
 
 -- only an attempt that is `Beside` a range may have to leave words alone
 abbrev pub StandsAs : Stand → Known → Type 0
-StandsAs s v = (s ≡ Idle → IsIdle v) × (s ≡ Running → IsRunning v × (v.fence ≡ 0)) × (s ≡ Beside → IsRunning v) × (s ≡ Committing → v.running ≡ true)
+StandsAs s v = (s ≡ Idle → IsIdle v) × (s ≡ Running → IsRunning v × (v.fence ≡ 0)) × (s ≡ Beside → IsRunning v) × (s ≡ Committing → v.running ≡ true) × ((e : Errand) → s ≡ Closing e → HoldsClosed v)
 
 -- what is written down of a caller's range is true
 abbrev pub IsRangeOf : Range → ℕ → Fenced → Type 0

@@ -1,10 +1,10 @@
 -- What the calls tell: what stm_tx tells, and what is written down of a refusal.
-use Rattle.std.specs.Prelude.{ℕ, ◌≡◌, ◌≤◌, ◌+◌, Bool, if◌then◌else◌, Option, Some, None, Result, Ok, Err, [], ◌∷◌, ◌++◌}
+use Rattle.std.specs.Prelude.{ℕ, ◌≡◌, ◌≤◌, ◌+◌, Option, Some, None, Result, Ok, Err, [], ◌∷◌, ◌++◌}
 use Rattle.stm_model.specs.Algorithms.{install_rise}
 use Rattle.stm_model.specs.declared.alg.Alg.{Alg}
 use Rattle.stm_model.specs.declared.memory.Memory.{Memory}
 use Rattle.stm_tx.specs.Descs.{Reserves}
-use Rattle.tx_answers.specs.Answers.{Begins, HasRead, HasWritten, Commits, Cancels, Irrevs, Checks, Rolls, Releases}
+use Rattle.tx_answers.specs.Answers.{Begins, HasRead, HasWritten, Commits, Cancels, Irrevs, Checks, Rolls, Releases, Reopens}
 use Rattle.tx_answers.specs.declared.answers.Begin.{Begin}
 use Rattle.tx_answers.specs.declared.answers.Begin.TheVariants as begins
 use Rattle.tx_answers.specs.declared.answers.Cancel.{Cancel}
@@ -22,11 +22,16 @@ use Rattle.tx_answers.specs.declared.answers.Roll.TheVariants as rolls
 use Rattle.tx_answers.specs.declared.answers.Write.{Write}
 use Rattle.tx_answers.specs.declared.answers.Write.TheVariants as writes
 use Rattle.tx_answers.specs.Known.{Known, Grows}
+use Rattle.tx_checked.specs.Alone.{IsHeldUp}
+use Rattle.tx_checked.specs.declared.errand.Errand.TheVariants.{Switch}
 use Rattle.tx_checked.specs.declared.member.Member.{Member}
 use Rattle.tx_checked.specs.declared.misuse.Misuse.{Misuse}
 use Rattle.tx_checked.specs.declared.refusal.Refusal.{Refusal}
 use Rattle.tx_checked.specs.declared.refusal.Refusal.TheVariants as refusals
+use Rattle.tx_checked.specs.declared.stand.Stand.TheVariants.{Idle}
+use Rattle.tx_checked.specs.Errands.{is_closing, stand_after}
 use Rattle.tx_checked.specs.Members.{IsSameMember, config_of, known_to, number_of}
+use Rattle.tx_checked.specs.Ranges.{IsLeft}
 use Rattle.tx_checked.specs.Stands.{Any}
 
 -- a call that fits is made, of the same caller; one that doesn't is answered by what is wrong with it, and changes nothing
@@ -91,16 +96,20 @@ module _ (a x : ℕ) (m n : Member) where
   abbrev pub HasWrittenWord : Write → Type 0
   HasWrittenWord r = HasWritten Any (config_of m) (number_of m) a x r (known_to m) (known_to n) × (n.range ≡ m.range) × (n.refusal ≡ write_refusal r m.refusal)
 
--- what a switch tells: it installed that algorithm or none, and committed nothing
-pub record Switches (alg : Alg) (did : Bool) (v w : Known) : Type 0 where
+-- what a switch tells: it installed that algorithm, once, and committed nothing
+pub record Switches (alg : Alg) (v w : Known) : Type 0 where
   pub grew : Grows v w
   pub made : w.made ≡ v.made
-  pub rises : (v.rises ≤ w.rises) × (w.rises ≤ (if did then v.rises + install_rise alg else v.rises))
-  pub installs : w.installs ≡ (if did then v.installs ++ alg ∷ [] else v.installs)
+  pub rises : (v.rises ≤ w.rises) × (w.rises ≤ v.rises + install_rise alg)
+  pub installs : w.installs ≡ v.installs ++ alg ∷ []
 
--- installed or not, nothing is refused for good
-abbrev pub HasSwitched : Alg → Member → Member → Bool → Type 0
-HasSwitched alg m n did = Switches alg did (known_to m) (known_to n) × (n.range ≡ m.range) × (n.refusal ≡ m.refusal)
+abbrev pub HasSwitched : Alg → Member → Member → Result (Unit {0}) Refusal → Type 0
+HasSwitched alg m n (Ok r) = Switches alg (known_to m) (known_to n) × (n.stand ≡ Idle) × (n.range ≡ m.range) × (n.refusal ≡ m.refusal)
+HasSwitched alg m n (Err e) = IsLeft e (stand_after (Switch alg) e) m n × IsHeldUp (config_of m) (number_of m) (is_closing m.stand) e (known_to m) (known_to n)
+
+-- the gate is open again, and nothing else has changed
+abbrev pub HasReopened : Member → Member → Unit {0} → Type 0
+HasReopened m n r = Reopens Any (config_of m) (number_of m) (known_to m) (known_to n) × (n.stand ≡ Idle) × (n.range ≡ m.range) × (n.refusal ≡ m.refusal)
 
 abbrev pub mark_refusal : Check → Option Refusal → Option Refusal
 mark_refusal (checks.Marked depth) old = old

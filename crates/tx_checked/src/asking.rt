@@ -1,7 +1,7 @@
 //! What a caller with its memory is asked, and how its logs are made longer.
 ghost use Rattle.std.specs.Prelude.{◌≡◌, ◌&&◌};
 ghost use Rattle.tx_answers.specs.Known.{is_irrevocable, state_of};
-ghost use Rattle.tx_checked.specs.Members.{known_to};
+ghost use Rattle.tx_checked.specs.Members.{is_beside, known_to};
 ghost use Rattle.tx_checked.specs.Misuses.{reserving};
 ghost use Rattle.tx_checked.specs.Tells.{Tells, HasReserved};
 
@@ -11,6 +11,7 @@ use std::alloc::Global;
 use stm_model::config::MAX_LOG;
 use stm_model::memory::Memory;
 use stm_tx::calls;
+use stm_tx::fencing::fence_seen;
 use tx_answers::answers::TxState;
 
 impl Member {
@@ -26,6 +27,16 @@ impl Member {
         ensures { result ≡ ((known_to self.now).running && is_irrevocable (known_to self.now)) }
     {
         calls::is_irrevocable(&self.desc)
+    }
+
+    /// Whether a range was out of the transactions as its attempt began: it can't read or write a word of that.
+    pub fn is_beside(&self) -> bool
+        ensures { result ≡ is_beside (known_to self.now) }
+    {
+        match fence_seen(&self.desc) {
+            Some(_) => true,
+            None => false,
+        }
     }
 
     /// Makes its logs longer, as `stm_tx::calls::reserve` does.

@@ -1,11 +1,17 @@
 //! The calls of an attempt, for a caller with its memory.
-ghost use Rattle.std.specs.Prelude.{◌≡◌, ◌++◌, ◌∷◌, [], if◌then◌else◌};
-ghost use Rattle.stm_tx.specs.Descs.{known};
-ghost use Rattle.tx_answers.specs.Known.{IsRunning};
+ghost use Rattle.std.specs.Prelude.{◌≡◌, true, false, OnOk, OnErr, IfErr};
+ghost use Rattle.stm_rule.specs.Callers.{IsOf, IsSameCaller};
+ghost use Rattle.stm_tx.specs.Descs.{known, number};
+ghost use Rattle.tx_answers.specs.Answers.{HoldsClosed};
+ghost use Rattle.tx_answers.specs.Known.{Grows, IsIdle, IsRunning};
+ghost use Rattle.tx_checked.specs.Alone.{IsHeldUp};
+ghost use Rattle.tx_checked.specs.declared.errand.Errand.TheVariants.{Switch};
 ghost use Rattle.tx_checked.specs.Stands.{StandsAs};
-ghost use Rattle.tx_checked.specs.Misuses.{outside, inside, running};
-ghost use Rattle.tx_checked.specs.Tells.{Tells, HasBegun, HasCommitted, HasCancelled, IsIrrevocable, HasSwitched};
+ghost use Rattle.tx_checked.specs.Misuses.{outside, doing, reopening, inside, running};
+ghost use Rattle.tx_checked.specs.Tells.{Tells, HasBegun, HasCommitted, HasCancelled, IsIrrevocable, Switches, HasSwitched, HasReopened};
 
+use crate::alone::close_alone;
+use crate::errand::Errand;
 use crate::member::Member;
 use crate::misuse::Misuse;
 use crate::refusal::Refusal;
@@ -13,10 +19,11 @@ use crate::stand::Stand;
 use stm_model::alg::Alg;
 use stm_model::rule::AnyMem;
 use stm_rule::desc::Desc;
+use stm_rule::stm::Stm;
 use stm_tx::calls;
 use stm_tx::fencing::fence_seen;
+use stm_tx::gate::{install, reopen};
 use tx_answers::answers::{Begin, Cancel, Commit, Irrev};
-use tx_atomic::switching::try_switch;
 
 /// Where a caller stands whose attempt has begun.
 fn stand_of(desc: &Desc<AnyMem>) -> Stand
@@ -132,11 +139,57 @@ impl Member {
         }
     }
 
-    /// Installs an algorithm, where no other caller is in the way. Answers whether it did.
-    pub fn switch(&mut self, alg: Alg) -> Result<bool, Misuse>
-        ensures { Tells (outside self.old) (HasSwitched alg self.old self.new) self.old self.new result }
+    /// Installs an algorithm, once no other caller is in an attempt. `Busy` leaves the gate closed: the same call goes on
+    /// from there, and `reopen` gives it up.
+    pub fn switch(&mut self, alg: Alg) -> Result<Result<(), Refusal>, Misuse>
+        ensures { Tells (doing (Switch alg) self.old) (HasSwitched alg self.old self.new) self.old self.new result }
     {
-        self.is_outside()?;
-        Ok(try_switch(&mut self.desc, &self.stm, alg))
+        let closing = self.may_do(Errand::Switch(alg))?;
+        match install_alone(&mut self.desc, &self.stm, closing, alg) {
+            Ok(()) => {
+                self.stand = Stand::Idle;
+                Ok(Ok(()))
+            }
+            Err(refusal) => {
+                self.stand = Errand::Switch(alg).stand_after(refusal);
+                self.refusal = Some(refusal);
+                Ok(Err(refusal))
+            }
+        }
     }
+
+    /// Gives up the call for which the caller has closed the gate: the gate is open again.
+    pub fn reopen(&mut self) -> Result<(), Misuse>
+        ensures { Tells (reopening self.old) (HasReopened self.old self.new) self.old self.new result }
+    {
+        self.is_closing()?;
+        reopen(&mut self.desc, &self.stm);
+        self.stand = Stand::Idle;
+        Ok(())
+    }
+}
+
+/// Installs an algorithm, and reopens the gate.
+fn install_alone(
+    desc: &mut Desc<AnyMem>,
+    stm: &Stm<AnyMem>,
+    closing: bool,
+    alg: Alg,
+) -> Result<(), Refusal>
+    requires stm { IsOf desc.old stm.now }
+    requires idle { closing ≡ false → IsIdle (known desc.old) }
+    requires closed { closing ≡ true → HoldsClosed (known desc.old) }
+    ensures same { IsSameCaller desc.old desc.new }
+    ensures idle { OnOk result (IsIdle (known desc.new)) }
+    ensures switched { OnOk result (Switches alg (known desc.old) (known desc.new)) }
+    ensures grew { Grows (known desc.old) (known desc.new) }
+    ensures made { (known desc.new).made ≡ (known desc.old).made }
+    ensures rises { OnErr result ((known desc.new).rises ≡ (known desc.old).rises) }
+    ensures installs { OnErr result ((known desc.new).installs ≡ (known desc.old).installs) }
+    ensures held_up { IfErr result (λ e. IsHeldUp stm.now.config (number desc.old) closing e (known desc.old) (known desc.new)) }
+{
+    close_alone(desc, stm, closing)?;
+    install(desc, stm, alg);
+    reopen(desc, stm);
+    Ok(())
 }

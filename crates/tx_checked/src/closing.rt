@@ -1,20 +1,24 @@
 //! The end of a memory, for one of its callers.
-ghost use Rattle.std.specs.Prelude.{◌≡◌, ℕ, ◌<◌, ◌≤◌, None, Some, [], true, length, slice_index, OnOk, IfErr};
+ghost use Rattle.std.specs.Prelude.{◌≡◌, ℕ, ◌<◌, ◌≤◌, None, Some, [], true, false, length, slice_index, OnOk, IfOk, IfErr};
 ghost use Rattle.rule_base.specs.Encodings.{fenced};
 ghost use Rattle.stm_model.specs.Histories.{memory_after};
 ghost use Rattle.stm_rule.specs.Callers.{IsOf, IsSameCaller};
 ghost use Rattle.stm_tx.specs.Descs.{known};
+ghost use Rattle.tx_answers.specs.Answers.{HoldsClosed};
 ghost use Rattle.tx_answers.specs.Known.{IsIdle, zeros};
 ghost use Rattle.tx_checked.specs.Endings.{HasEnded};
+ghost use Rattle.tx_checked.specs.Errands.{is_closing};
 ghost use Rattle.tx_checked.specs.Members.{config_of, known_to};
-ghost use Rattle.tx_checked.specs.Misuses.{ending, taking};
+ghost use Rattle.tx_checked.specs.Misuses.{ending};
 ghost use Rattle.tx_checked.specs.Ranges.{GrowsBeside};
 ghost use Rattle.tx_checked.specs.Tells.{Tells};
 
+use crate::errand::Errand;
 use crate::member::Member;
 use crate::misuse::Misuse;
 use crate::ranges::take_out;
 use crate::refusal::Refusal;
+use crate::stand::Stand;
 use stm_model::rule::AnyMem;
 use stm_rule::desc::Desc;
 use stm_rule::stm::Stm;
@@ -43,29 +47,34 @@ fn copy_out(desc: &mut Desc<AnyMem>, stm: &Stm<AnyMem>, words: &mut [u64])
 }
 
 impl Member {
-    /// Takes all words out of the transactions for good, where no other caller is in the way and no range is out, and
-    /// hands them out: they are the memory after all that was committed. No attempt reads or writes a word from then on.
+    /// Takes all words out of the transactions for good, once no other caller is in an attempt and where no range is out,
+    /// and hands them out: they are the memory after all that was committed. No attempt reads or writes a word from then
+    /// on. `Busy` leaves the gate closed: the call goes on from there, and `reopen` gives it up.
     pub fn end(&mut self, words: &mut [u64]) -> Result<Result<(), Refusal>, Misuse>
         ensures tells { Tells (ending (length words.old) self.old) (HasEnded self.old self.new words.old words.new) self.old self.new result }
         ensures misuse { IfErr result (λ _. words.new ≡ words.old) }
     {
-        self.may_end(words.len())?;
+        let closing = self.may_end(words.len())?;
         let count = self.stm.config.words;
-        match take_out(&mut self.desc, &self.stm, 0, count) {
+        match take_out(&mut self.desc, &self.stm, closing, 0, count) {
             Ok(()) => {
+                self.stand = Stand::Idle;
                 copy_out(&mut self.desc, &self.stm, words);
                 Ok(Ok(()))
             }
             Err(refusal) => {
+                self.stand = Errand::End.stand_after(refusal);
                 self.refusal = Some(refusal);
                 Ok(Err(refusal))
             }
         }
     }
 
-    /// Whether it may take all words, and there is room for them.
-    fn may_end(&self, room: usize) -> Result<(), Misuse>
-        ensures ok { OnOk result (IsIdle (known_to self.now)) }
+    /// Whether it may take all words, and there is room for them: the answer is whether the gate was closed for it before.
+    fn may_end(&self, room: usize) -> Result<bool, Misuse>
+        ensures idle { IfOk result (λ closing. closing ≡ false → IsIdle (known_to self.now)) }
+        ensures closed { IfOk result (λ closing. closing ≡ true → HoldsClosed (known_to self.now)) }
+        ensures is { IfOk result (λ closing. closing ≡ is_closing self.now.stand) }
         ensures takes { OnOk result ((config_of self.now).fence ≡ true) }
         ensures none { OnOk result (self.now.range ≡ None) }
         ensures some { OnOk result (1 ≤ (config_of self.now).words) }
@@ -73,10 +82,10 @@ impl Member {
         ensures fits { OnOk result (ending room self.now ≡ None) }
         ensures wrong { IfErr result (λ e. ending room self.now ≡ Some e) }
     {
-        self.may_take(0, self.stm.config.words)?;
+        let closing = self.may_take(Errand::End, 0, self.stm.config.words)?;
         if self.stm.config.words > room {
             return Err(Misuse::Room);
         }
-        Ok(())
+        Ok(closing)
     }
 }

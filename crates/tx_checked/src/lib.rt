@@ -3,9 +3,11 @@
 #![tactic(auto)]
 
 pub mod access;
+mod alone;
 pub mod asking;
 pub mod calls;
 pub mod closing;
+pub mod errand;
 pub mod learning;
 pub mod mail;
 pub mod marks;

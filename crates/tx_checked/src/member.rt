@@ -20,7 +20,8 @@ pub struct Range {
     pub count: usize,
 }
 
-/// A caller with its share of the memory and of its mail, which are freed with the last of them.
+/// A caller with its share of the memory and of its mail, which are freed with the last of them. One that `may_leave`
+/// doesn't let go isn't dropped: others would wait for it for ever.
 #[derive(Drop)]
 pub struct Member {
     pub stm: Arc<Stm<AnyMem>, Global>,

@@ -27,4 +27,9 @@ pub enum Misuse {
     Room,
     /// The two callers are not of one memory.
     Stranger,
+    /// The caller has closed the gate for a call that answered `Busy`: only that call with the same arguments goes on,
+    /// or `reopen` gives it up.
+    Closing,
+    /// It asks for a caller that has closed the gate, and this one hasn't.
+    NotClosing,
 }

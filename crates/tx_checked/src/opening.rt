@@ -1,10 +1,10 @@
 //! The opening of a memory with its callers.
-ghost use Rattle.std.specs.Prelude.{◌≡◌, ◌<◌, All, IsTrue, None, length, IfOk, IfErr, OnOk};
+ghost use Rattle.std.specs.Prelude.{◌≡◌, ◌<◌, All, None, length, IfOk, IfErr, OnOk};
 ghost use Rattle.std.specs.Arc.{arc_value};
 ghost use Rattle.stm_rule.specs.Callers.{AllOpened, IsOf};
 ghost use Rattle.stm_rule.specs.Refusals.{first_fault};
 ghost use Rattle.tx_atomic.specs.Callers.{IsReady};
-ghost use Rattle.tx_checked.specs.Ready.{AreFresh, AreNew, IsUnused, IsOpenError, descs_in};
+ghost use Rattle.tx_checked.specs.Ready.{AreFresh, AreNew, IsUnused, IsOpenError, IsOpenHindered, descs_in};
 
 use crate::mail::Mail;
 use crate::member::Member;
@@ -19,7 +19,7 @@ use stm_rule::desc::Desc;
 use stm_rule::refusal::NewError;
 use stm_rule::stm::Stm;
 use thiserror::Error;
-use tx_atomic::switching::try_switch;
+use tx_atomic::switching::{Hindrance, switch_at_one_look};
 
 /// Why a memory was not opened.
 #[derive(Clone, Copy, Debug, Drop, PartialEq, Eq, Error)]
@@ -29,13 +29,13 @@ pub enum OpenError {
     #[error("memory was refused")]
     Memory,
     #[error("the algorithm could not be installed")]
-    Busy,
+    Busy(Hindrance),
 }
 
 /// Opens a memory of zeros, under the algorithm, and answers its callers, in order.
 ///
 /// # Errors
-/// Those of `Stm::new`. `Busy` where the algorithm could not be installed.
+/// Those of `Stm::new`. `Busy` where another caller was in the way of the install.
 pub fn open(alloc: Global, config: Config, alg: Alg) -> Result<Vec<Member>, OpenError>
     ensures count { IfOk result (λ members. length members.items ≡ config.callers) }
     ensures new { IfOk result (λ members. AreNew config alg members.items) }
@@ -46,8 +46,9 @@ pub fn open(alloc: Global, config: Config, alg: Alg) -> Result<Vec<Member>, Open
         Ok(opened) => opened,
         Err(error) => return Err(OpenError::Refused(error)),
     };
-    if descs.len() == 0 || !install_first(&stm, &mut descs, alg) {
-        return Err(OpenError::Busy);
+    match install_first(&stm, &mut descs, alg) {
+        Ok(()) => {}
+        Err(hindrance) => return Err(OpenError::Busy(hindrance)),
     }
     let Ok(mail) = Mail::new(alloc, &descs[0], descs.len()) else {
         return Err(OpenError::Memory);
@@ -65,13 +66,18 @@ pub fn open(alloc: Global, config: Config, alg: Alg) -> Result<Vec<Member>, Open
 }
 
 /// Has the first of the callers install an algorithm.
-fn install_first(stm: &Stm<AnyMem>, descs: &mut Vec<Desc<AnyMem>>, alg: Alg) -> bool
+fn install_first(
+    stm: &Stm<AnyMem>,
+    descs: &mut Vec<Desc<AnyMem>>,
+    alg: Alg,
+) -> Result<(), Hindrance>
     requires opened { AllOpened stm.now 0 descs.old.items }
     requires some { 0 < length descs.old.items }
-    ensures fresh { IsTrue result → AreFresh stm.now alg descs.new.items }
+    ensures fresh { OnOk result (AreFresh stm.now alg descs.new.items) }
+    ensures hindered { IfErr result (λ e. (1 < stm.now.config.callers) × IsOpenHindered stm.now.config e) }
     ensures count { length descs.new.items ≡ length descs.old.items }
 {
-    try_switch(&mut descs[0], stm, alg)
+    switch_at_one_look(&mut descs[0], stm, alg)
 }
 
 /// A member for each descriptor, in their order.

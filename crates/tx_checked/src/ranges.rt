@@ -1,85 +1,57 @@
 //! Privatization, for a caller with its memory: it takes a range of words out of the transactions, reads and writes
 //! there directly, and gives it back.
-ghost use Rattle.std.specs.Prelude.{◌≡◌, ◌≤◌, ◌+◌, None, Some, true, OnOk, OnErr, IfOk, IfErr};
+ghost use Rattle.std.specs.Prelude.{◌≡◌, ◌≤◌, ◌+◌, None, Some, true, false, OnOk, OnErr, IfOk, IfErr};
 ghost use Rattle.rule_base.specs.Encodings.{fenced};
 ghost use Rattle.stm_rule.specs.Callers.{IsOf, IsSameCaller};
 ghost use Rattle.stm_tx.specs.Descs.{known, number};
-ghost use Rattle.tx_answers.specs.Answers.{HoldsClosed, SeesQuiet};
+ghost use Rattle.tx_answers.specs.Answers.{HoldsClosed};
 ghost use Rattle.tx_answers.specs.Fences.{is_within};
 ghost use Rattle.tx_answers.specs.Known.{Grows, IsIdle};
+ghost use Rattle.tx_checked.specs.Alone.{IsHeldUp, IsTakeRefused, FindsFullAt};
+ghost use Rattle.tx_checked.specs.Errands.{is_closing};
 ghost use Rattle.tx_checked.specs.Members.{config_of, known_to};
-ghost use Rattle.tx_checked.specs.Misuses.{taking, giving, in_range};
+ghost use Rattle.tx_checked.specs.Misuses.{taking, taking_for, giving, in_range};
 ghost use Rattle.tx_checked.specs.Ranges.{GrowsBeside, TakesOut, HasTaken, GivesBack, HasGiven, HasReadDirect, HasWrittenDirect};
-ghost use Rattle.tx_checked.specs.Stands.{Any};
 ghost use Rattle.tx_checked.specs.Tells.{Tells};
 
+use crate::alone::close_alone;
+use crate::errand::Errand;
 use crate::member::{Member, Range};
 use crate::misuse::Misuse;
 use crate::refusal::Refusal;
+use crate::stand::Stand;
 use stm_model::rule::AnyMem;
 use stm_rule::desc::Desc;
 use stm_rule::stm::Stm;
 use stm_tx::fencing;
-use stm_tx::gate::{close_gate, look, reopen};
-use tx_answers::answers::{CloseGate, Fence, Give, Look};
+use stm_tx::gate::reopen;
+use tx_answers::answers::{Fence, Give};
 
-/// Closes the gate and sees all others idle; else leaves the gate as it was, and answers what was in the way.
-fn close_alone(desc: &mut Desc<AnyMem>, stm: &Stm<AnyMem>) -> Result<(), Refusal>
-    requires stm { IsOf desc.old stm.now }
-    requires idle { IsIdle (known desc.old) }
-    ensures same { IsSameCaller desc.old desc.new }
-    ensures grew { Grows (known desc.old) (known desc.new) }
-    ensures made { (known desc.new).made ≡ (known desc.old).made }
-    ensures closed { OnOk result (HoldsClosed (known desc.new)) }
-    ensures quiet { OnOk result (SeesQuiet Any stm.now.config (number desc.old) (known desc.new)) }
-    ensures idle { OnErr result (IsIdle (known desc.new)) }
-{
-    match close_gate(desc, stm) {
-        CloseGate::Closed => look_alone(desc, stm),
-        CloseGate::Taken { gate } => Err(Refusal::GateClosed { gate }),
-    }
-}
-
-/// Sees all others idle, with the gate closed; else reopens it, and answers who was not.
-fn look_alone(desc: &mut Desc<AnyMem>, stm: &Stm<AnyMem>) -> Result<(), Refusal>
-    requires stm { IsOf desc.old stm.now }
-    requires closed { HoldsClosed (known desc.old) }
-    ensures same { IsSameCaller desc.old desc.new }
-    ensures grew { Grows (known desc.old) (known desc.new) }
-    ensures made { (known desc.new).made ≡ (known desc.old).made }
-    ensures closed { OnOk result (HoldsClosed (known desc.new)) }
-    ensures quiet { OnOk result (SeesQuiet Any stm.now.config (number desc.old) (known desc.new)) }
-    ensures idle { OnErr result (IsIdle (known desc.new)) }
-{
-    match look(desc, stm) {
-        Look::Quiet => Ok(()),
-        Look::Busy { caller, status } => {
-            reopen(desc, stm);
-            Err(Refusal::Busy { caller, status })
-        }
-    }
-}
-
-/// Takes words out of the transactions.
+/// Takes words out of the transactions, and reopens the gate.
 pub(crate) fn take_out(
     desc: &mut Desc<AnyMem>,
     stm: &Stm<AnyMem>,
+    closing: bool,
     from: usize,
     count: usize,
 ) -> Result<(), Refusal>
     requires stm { IsOf desc.old stm.now }
-    requires idle { IsIdle (known desc.old) }
+    requires idle { closing ≡ false → IsIdle (known desc.old) }
+    requires closed { closing ≡ true → HoldsClosed (known desc.old) }
     requires takes { stm.now.config.fence ≡ true }
     requires some { 1 ≤ count }
     requires inside { from + count ≤ stm.now.config.words }
     ensures same { IsSameCaller desc.old desc.new }
-    ensures idle { IsIdle (known desc.new) }
-    ensures grew { GrowsBeside (known desc.old) (known desc.new) }
+    ensures idle { OnOk result (IsIdle (known desc.new)) }
+    ensures grew { OnOk result (GrowsBeside (known desc.old) (known desc.new)) }
     ensures made { (known desc.new).made ≡ (known desc.old).made }
     ensures taken { OnOk result (TakesOut stm.now.config from count (known desc.old) (known desc.new)) }
-    ensures kept { OnErr result ((known desc.new).fenced ≡ (known desc.old).fenced) }
+    ensures kept { OnErr result (Grows (known desc.old) (known desc.new)) }
+    ensures rises { OnErr result ((known desc.new).rises ≡ (known desc.old).rises) }
+    ensures installs { OnErr result ((known desc.new).installs ≡ (known desc.old).installs) }
+    ensures refused { IfErr result (λ e. IsTakeRefused stm.now.config (number desc.old) closing from count e (known desc.old) (known desc.new)) }
 {
-    close_alone(desc, stm)?;
+    close_alone(desc, stm, closing)?;
     let answer = fencing::fence(desc, stm, from, count);
     reopen(desc, stm);
     match answer {
@@ -89,35 +61,41 @@ pub(crate) fn take_out(
 }
 
 impl Member {
-    /// Takes `count` words from `from` on out of the transactions, for this caller alone, where no other caller is in
-    /// the way and no range is out.
+    /// Takes `count` words from `from` on out of the transactions, for this caller alone, once no other caller is in an
+    /// attempt and where no range is out. `Busy` leaves the gate closed: the same call goes on from there, and `reopen`
+    /// gives it up.
     pub fn fence(&mut self, from: usize, count: usize) -> Result<Result<(), Refusal>, Misuse>
         ensures { Tells (taking from count self.old) (HasTaken from count self.old self.new) self.old self.new result }
     {
-        self.may_take(from, count)?;
-        match take_out(&mut self.desc, &self.stm, from, count) {
+        let errand = Errand::Take { from, count };
+        let closing = self.may_take(errand, from, count)?;
+        match take_out(&mut self.desc, &self.stm, closing, from, count) {
             Ok(()) => {
+                self.stand = Stand::Idle;
                 self.range = Some(Range { from, count });
                 Ok(Ok(()))
             }
             Err(refusal) => {
+                self.stand = errand.stand_after(refusal);
                 self.refusal = Some(refusal);
                 Ok(Err(refusal))
             }
         }
     }
 
-    /// Whether it may take this range.
-    pub(crate) fn may_take(&self, from: usize, count: usize) -> Result<(), Misuse>
-        ensures ok { OnOk result (IsIdle (known_to self.now)) }
+    /// Whether it may take this range for that call: the answer is whether the gate was closed for it before.
+    pub(crate) fn may_take(&self, errand: Errand, from: usize, count: usize) -> Result<bool, Misuse>
+        ensures idle { IfOk result (λ closing. closing ≡ false → IsIdle (known_to self.now)) }
+        ensures closed { IfOk result (λ closing. closing ≡ true → HoldsClosed (known_to self.now)) }
+        ensures is { IfOk result (λ closing. closing ≡ is_closing self.now.stand) }
         ensures takes { OnOk result ((config_of self.now).fence ≡ true) }
         ensures none { OnOk result (self.now.range ≡ None) }
         ensures some { OnOk result (1 ≤ count) }
         ensures within { OnOk result (from + count ≤ (config_of self.now).words) }
-        ensures fits { OnOk result (taking from count self.now ≡ None) }
-        ensures wrong { IfErr result (λ e. taking from count self.now ≡ Some e) }
+        ensures fits { OnOk result (taking_for errand from count self.now ≡ None) }
+        ensures wrong { IfErr result (λ e. taking_for errand from count self.now ≡ Some e) }
     {
-        self.is_outside()?;
+        let closing = self.may_do(errand)?;
         if !self.stm.config.fence {
             return Err(Misuse::NoRanges);
         }
@@ -128,19 +106,21 @@ impl Member {
         if count == 0 || count > words || from > words - count {
             return Err(Misuse::Address);
         }
-        Ok(())
+        Ok(closing)
     }
 
-    /// Its range, where it is in no attempt.
-    fn own_range(&self) -> Result<Range, Misuse>
-        ensures ok { OnOk result (IsIdle (known_to self.now)) }
-        ensures some { IfOk result (λ r. self.now.range ≡ Some r) }
+    /// Whether it may give a range back: the answer is whether the gate was closed for it before.
+    fn may_give(&self) -> Result<bool, Misuse>
+        ensures idle { IfOk result (λ closing. closing ≡ false → IsIdle (known_to self.now)) }
+        ensures closed { IfOk result (λ closing. closing ≡ true → HoldsClosed (known_to self.now)) }
+        ensures is { IfOk result (λ closing. closing ≡ is_closing self.now.stand) }
+        ensures held { OnOk result ((known_to self.now).fenced.held ≡ true) }
         ensures fits { OnOk result (giving self.now ≡ None) }
         ensures wrong { IfErr result (λ e. giving self.now ≡ Some e) }
     {
-        self.is_outside()?;
+        let closing = self.may_do(Errand::Give)?;
         match self.range {
-            Some(range) => Ok(range),
+            Some(_) => Ok(closing),
             None => Err(Misuse::NoRange),
         }
     }
@@ -153,7 +133,10 @@ impl Member {
         ensures fits { OnOk result (in_range a self.now ≡ None) }
         ensures wrong { IfErr result (λ e. in_range a self.now ≡ Some e) }
     {
-        let range = self.own_range()?;
+        self.is_outside()?;
+        let Some(range) = self.range else {
+            return Err(Misuse::NoRange);
+        };
         if a < range.from || a - range.from >= range.count {
             return Err(Misuse::NoRange);
         }
@@ -177,25 +160,32 @@ impl Member {
         Ok(())
     }
 
-    /// Gives its range back, where no other caller is in the way, with what it wrote there as one entry of the history.
+    /// Gives its range back, once no other caller is in an attempt, with what it wrote there as one entry of the history.
+    /// `Busy` leaves the gate closed: the same call goes on from there, and `reopen` gives it up. A clock at its limit
+    /// leaves the range to the caller: nothing more is committed to this memory, so what it and the others read from then
+    /// on is the memory's last.
     pub fn give_back(&mut self) -> Result<Result<Give, Refusal>, Misuse>
         ensures { Tells (giving self.old) (HasGiven self.old self.new) self.old self.new result }
     {
-        self.own_range()?;
-        match put_back(&mut self.desc, &self.stm) {
+        let closing = self.may_give()?;
+        match put_back(&mut self.desc, &self.stm, closing) {
             Ok(Give::Committed { time }) => {
+                self.stand = Stand::Idle;
                 self.range = None;
                 Ok(Ok(Give::Committed { time }))
             }
             Ok(Give::Unchanged) => {
+                self.stand = Stand::Idle;
                 self.range = None;
                 Ok(Ok(Give::Unchanged))
             }
             Ok(Give::ClockFull { clock }) => {
+                self.stand = Stand::Idle;
                 self.refusal = Some(Refusal::ClockFull { clock });
                 Ok(Ok(Give::ClockFull { clock }))
             }
             Err(refusal) => {
+                self.stand = Errand::Give.stand_after(refusal);
                 self.refusal = Some(refusal);
                 Ok(Err(refusal))
             }
@@ -203,19 +193,24 @@ impl Member {
     }
 }
 
-/// Gives a caller's range back.
-fn put_back(desc: &mut Desc<AnyMem>, stm: &Stm<AnyMem>) -> Result<Give, Refusal>
+/// Gives a caller's range back, and reopens the gate.
+fn put_back(desc: &mut Desc<AnyMem>, stm: &Stm<AnyMem>, closing: bool) -> Result<Give, Refusal>
     requires stm { IsOf desc.old stm.now }
-    requires idle { IsIdle (known desc.old) }
+    requires idle { closing ≡ false → IsIdle (known desc.old) }
+    requires closed { closing ≡ true → HoldsClosed (known desc.old) }
     requires held { (known desc.old).fenced.held ≡ true }
     ensures same { IsSameCaller desc.old desc.new }
-    ensures idle { IsIdle (known desc.new) }
-    ensures grew { GrowsBeside (known desc.old) (known desc.new) }
+    ensures idle { OnOk result (IsIdle (known desc.new)) }
+    ensures grew { OnOk result (GrowsBeside (known desc.old) (known desc.new)) }
     ensures given { IfOk result (λ r. GivesBack stm.now.config (number desc.old) r (known desc.old) (known desc.new)) }
-    ensures kept { OnErr result ((known desc.new).fenced ≡ (known desc.old).fenced) }
+    ensures full { IfOk result (λ r. FindsFullAt stm.now.config (number desc.old) closing r (known desc.old) (known desc.new)) }
+    ensures kept { OnErr result (Grows (known desc.old) (known desc.new)) }
     ensures made { OnErr result ((known desc.new).made ≡ (known desc.old).made) }
+    ensures rises { OnErr result ((known desc.new).rises ≡ (known desc.old).rises) }
+    ensures installs { OnErr result ((known desc.new).installs ≡ (known desc.old).installs) }
+    ensures held_up { IfErr result (λ e. IsHeldUp stm.now.config (number desc.old) closing e (known desc.old) (known desc.new)) }
 {
-    close_alone(desc, stm)?;
+    close_alone(desc, stm, closing)?;
     let answer = fencing::give_back(desc, stm);
     reopen(desc, stm);
     Ok(answer)

@@ -1,4 +1,5 @@
 //! Where a caller stands.
+use crate::errand::Errand;
 
 /// Where a caller stands between two calls.
 #[derive(Clone, Copy, Drop, Debug, PartialEq, Eq)]
@@ -11,4 +12,7 @@ pub enum Stand {
     Beside,
     /// In an attempt, whose commit answered `Again`.
     Committing,
+    /// In no attempt, with the gate closed for this call, which answered `Busy`: no attempt of others begins until the
+    /// call is done or given up.
+    Closing(Errand),
 }

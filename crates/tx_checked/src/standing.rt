@@ -1,11 +1,14 @@
 //! Whether a call fits where the caller stands.
-ghost use Rattle.std.specs.Prelude.{◌≡◌, ◌<◌, None, Some, true, false, OnOk, IfErr};
+ghost use Rattle.std.specs.Prelude.{◌≡◌, ◌<◌, None, Some, true, false, OnOk, IfOk, IfErr};
 ghost use Rattle.std.specs.Arc.{arc_value};
 ghost use Rattle.rule_base.specs.Encodings.{fenced};
+ghost use Rattle.tx_answers.specs.Answers.{HoldsClosed};
 ghost use Rattle.tx_answers.specs.Known.{IsIdle, IsRunning};
+ghost use Rattle.tx_checked.specs.Errands.{is_closing};
 ghost use Rattle.tx_checked.specs.Members.{known_to};
-ghost use Rattle.tx_checked.specs.Misuses.{outside, inside, running, access};
+ghost use Rattle.tx_checked.specs.Misuses.{outside, doing, reopening, inside, running, access};
 
+use crate::errand::Errand;
 use crate::member::Member;
 use crate::misuse::Misuse;
 use crate::stand::Stand;
@@ -21,7 +24,51 @@ impl Member {
         match self.stand {
             Stand::Idle => Ok(()),
             Stand::Running | Stand::Beside | Stand::Committing => Err(Misuse::InAttempt),
+            Stand::Closing(_) => Err(Misuse::Closing),
         }
+    }
+
+    /// Whether a call that must be alone with the memory may be made: the answer is whether the gate was closed for it
+    /// before.
+    pub(crate) fn may_do(&self, errand: Errand) -> Result<bool, Misuse>
+        ensures idle { IfOk result (λ closing. closing ≡ false → IsIdle (known_to self.now)) }
+        ensures closed { IfOk result (λ closing. closing ≡ true → HoldsClosed (known_to self.now)) }
+        ensures is { IfOk result (λ closing. closing ≡ is_closing self.now.stand) }
+        ensures fits { OnOk result (doing errand self.now ≡ None) }
+        ensures wrong { IfErr result (λ e. doing errand self.now ≡ Some e) }
+    {
+        match self.stand {
+            Stand::Idle => Ok(false),
+            Stand::Running | Stand::Beside | Stand::Committing => Err(Misuse::InAttempt),
+            Stand::Closing(other) => {
+                if errand.is_same(other) {
+                    Ok(true)
+                } else {
+                    Err(Misuse::Closing)
+                }
+            }
+        }
+    }
+
+    /// Whether it has closed the gate for a call that isn't done.
+    pub(crate) fn is_closing(&self) -> Result<(), Misuse>
+        ensures ok { OnOk result (HoldsClosed (known_to self.now)) }
+        ensures fits { OnOk result (reopening self.now ≡ None) }
+        ensures wrong { IfErr result (λ e. reopening self.now ≡ Some e) }
+    {
+        match self.stand {
+            Stand::Idle => Err(Misuse::NotClosing),
+            Stand::Running | Stand::Beside | Stand::Committing => Err(Misuse::InAttempt),
+            Stand::Closing(_) => Ok(()),
+        }
+    }
+
+    /// Whether it may be let go: in an attempt, or with the gate closed, others would wait for it for ever.
+    pub fn may_leave(&self) -> Result<(), Misuse>
+        ensures fits { OnOk result (outside self.now ≡ None) }
+        ensures wrong { IfErr result (λ e. outside self.now ≡ Some e) }
+    {
+        self.is_outside()
     }
 
     /// Whether it is in an attempt.
@@ -33,6 +80,7 @@ impl Member {
         match self.stand {
             Stand::Idle => Err(Misuse::NoAttempt),
             Stand::Running | Stand::Beside | Stand::Committing => Ok(()),
+            Stand::Closing(_) => Err(Misuse::Closing),
         }
     }
 
@@ -46,6 +94,7 @@ impl Member {
             Stand::Idle => Err(Misuse::NoAttempt),
             Stand::Running | Stand::Beside => Ok(()),
             Stand::Committing => Err(Misuse::Committing),
+            Stand::Closing(_) => Err(Misuse::Closing),
         }
     }
 
@@ -60,6 +109,7 @@ impl Member {
         match self.stand {
             Stand::Idle => Err(Misuse::NoAttempt),
             Stand::Committing => Err(Misuse::Committing),
+            Stand::Closing(_) => Err(Misuse::Closing),
             Stand::Running => {
                 if a < self.stm.config.words {
                     Ok(())

@@ -1,15 +1,15 @@
 -- The marks of a log beside its items: what a write, a mark, a roll back and a release make of both.
-use Rattle.std.proofs.Common.{ℕ, ◌≡◌, ◌<◌, ◌≤◌, ◌+◌, ◌-◌, List, [], ◌∷◌, ◌++◌, length, get_or, set, take, map, Bool, true, false, inl, inr, refl, sym, ap, ◌∙◌, subst, arith}
+use Rattle.std.proofs.Common.{ℕ, zero, suc, ◌≡◌, ◌<◌, ◌≤◌, ◌+◌, ◌-◌, List, [], ◌∷◌, ◌++◌, length, get_or, set, take, map, Bool, true, false, inl, inr, refl, sym, ap, ◌∙◌, subst, arith}
 use Rattle.std.specs.Prelude.{Option, Some, None, IsSome, is_some, ◌==◌, if◌then◌else◌}
 use Rattle.std.proofs.lemmas.Bool.{cases_order}
-use Rattle.std.proofs.lemmas.List.{length-map, take-map, length-take-le, take_more, take_more_set, length-set, get_or-set_same, get_or-set_other, set-get_or}
+use Rattle.std.proofs.lemmas.List.{get_or-take, length-map, take-map, length-take-le, take_more, take_more_set, length-set, get_or-set_same, get_or-set_other, set-get_or}
 use Rattle.std.proofs.Math.Seq.{take-length, get_or-append_seam, take-append_seam}
 use Rattle.stm_model.specs.Memories.{item_at, put, Once}
 use Rattle.tx_logs.specs.declared.marks.Mark.{Mark}
 use Rattle.tx_logs.specs.declared.push.Push.{Push}
 use Rattle.tx_logs.specs.declared.push.Push.TheVariants.{Done, Full}
 use Rattle.tx_logs.specs.LogStates.{LogState, Pushes, firsts}
-use Rattle.tx_logs.specs.Marks.{value_or, old_or, at_mark, marked, Covers, Saves, Tied, Rooms, keep_some, saved, emptied_mark, merged, blank_mark, CanMerge}
+use Rattle.tx_logs.specs.Marks.{value_or, old_or, at_mark, at_first, marked, Covers, Saves, Tied, Rooms, keep_some, saved, emptied_mark, merged, blank_mark, CanMerge}
 use Rattle.tx_logs.proofs.MarkLemmas.{at-saved, saves-saved, at-merged, old-none, marked-last, tied-last, tied-more, length-marked, keep_all-fits, some-take}
 
 -- the last mark and those below it
@@ -24,6 +24,17 @@ top-marked ms d ws some l = ap (λ (ns : List Mark). marked ns ws) (top-split ms
 
 pub length-marks : (ms : List Mark) (d : ℕ) (ws : List (ℕ × ℕ)) → d ≤ length ms → length (marked (take d ms) ws) ≡ d
 length-marks ms d ws l = length-marked (take d ms) ws ∙ length-take-le d ms l
+
+-- how many items there were at a mark
+counted : (ms : List Mark) (k : ℕ) (ws : List (ℕ × ℕ)) → k < length ms → Tied ms ws → length (get_or (marked ms ws) k []) ≡ (get_or ms k blank_mark).count
+counted [] k ws l t = absurd (omega arith)
+counted (m ∷ ms) zero ws l t = length-take-le m.count (map (old_or m.olds.items) (at_first ms ws)) (let n = length-map (at_first ms ws) (old_or m.olds.items) in let h = t.0.count in omega arith)
+counted (m ∷ ms) (suc k) ws l t = counted ms k ws (omega arith) t.1
+
+pub count-marked : (ms : List Mark) (d k : ℕ) (ws : List (ℕ × ℕ)) → k < d → d ≤ length ms → Tied (take d ms) ws → length (get_or (marked (take d ms) ws) k []) ≡ (get_or ms k blank_mark).count
+count-marked ms d k ws low high t =
+    counted (take d ms) k ws (let n = length-take-le d ms high in omega arith) t
+    ∙ ap (λ (m : Mark). m.count) (get_or-take d ms k blank_mark low)
 
 -- another last mark, of other items, with the same items at it
 pub swap-top : (ms : List Mark) (d : ℕ) (n : Mark) (ws ys : List (ℕ × ℕ)) → 0 < d → d ≤ length ms → Tied (take d ms) ws → Saves n ys → at_mark n ys ≡ at_mark (get_or ms (d - 1) blank_mark) ws

@@ -65,14 +65,6 @@ impl UndoLog {
         self.log.set_last(v);
     }
 
-    /// Takes all items but the first `count` away, which are no more than there are. One lookup for each that goes.
-    pub fn truncate(&mut self, count: usize)
-        requires { count ≤ length self.old.items }
-        ensures { self.new ≡ record self.old { items = take count self.old.items } }
-    {
-        self.log.truncate(count);
-    }
-
     /// The value at the address, if it is in the log. One lookup, and none in an empty log.
     #[inline(always)]
     pub fn find(&self, a: usize) -> Option<u64>

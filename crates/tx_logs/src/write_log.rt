@@ -117,6 +117,16 @@ impl WriteLog {
         self.depth += 1;
     }
 
+    /// How many items there were at mark `depth`, which stands: so many are left where it is rolled back to that one.
+    pub fn count_at(&self, depth: usize) -> usize
+        requires low { 1 ≤ depth }
+        requires high { depth ≤ length self.now.marks }
+        ensures { result ≡ length (get_or self.now.marks (depth - 1) []) }
+    {
+        let _count = self.log.count();
+        self.marks[depth - 1].count
+    }
+
     /// Drops the last mark, and keeps what was written since.
     fn drop_mark(&mut self)
         requires { 0 < length self.old.marks }

@@ -6,7 +6,7 @@ use Rattle.std.proofs.lemmas.Bool.Decides.{nat_tests}
 use Rattle.std.proofs.lemmas.Map.Steps.{length-le_from_distinct_below}
 use Rattle.stm_model.specs.Memories.{item_at, Once}
 use Rattle.tx_logs.specs.LogStates.{firsts}
-use Rattle.tx_parts.specs.Laying.{Within}
+use Rattle.tx_parts.specs.Laying.{Within, Overflows}
 
 absent-cons : (a : ℕ) (w : ℕ × ℕ) (ws : List (ℕ × ℕ)) (t : Bool) → (w.0 == a) ≡ t → (if t then Some w.1 else item_at a ws) ≡ None
     → (item_at a ws ≡ None → AllByRecursion (λ (y : ℕ). (a == y) ≡ false) (firsts ws)) → AllByRecursion (λ (y : ℕ). (a == y) ≡ false) (firsts (w ∷ ws))
@@ -34,8 +34,12 @@ as-many : (ws : List (ℕ × ℕ)) → length (firsts ws) ≡ length ws
 as-many [] = refl
 as-many (w ∷ ws) = let e = as-many ws in omega arith
 
-pub room-left : (n a : ℕ) (ws : List (ℕ × ℕ)) → a < n → Within n (firsts ws) → Once ws → item_at a ws ≡ None → length ws < n
+room-left : (n a : ℕ) (ws : List (ℕ × ℕ)) → a < n → Within n (firsts ws) → Once ws → item_at a ws ≡ None → length ws < n
 room-left n a ws low w o none =
     let h = length-le_from_distinct_below (a ∷ firsts ws) n (distinct ((a, 0) ∷ ws) (none, o)) (below n (a ∷ firsts ws) (low, w)) in
     let e = as-many ws in
     omega arith
+
+-- so the memory has more words than there was room for
+pub overflows-short : (n len : ℕ) (ws : List (ℕ × ℕ)) → Within n (firsts ws) → Once ws → Overflows n len ws → len < n
+overflows-short n len ws w o f = subst (λ (k : ℕ). k < n) f.0 (room-left n f.1 ws f.2 w o f.3)

@@ -1,13 +1,14 @@
 -- What parts of a transaction leave of its log.
-use Rattle.std.specs.Prelude.{ℕ, ◌≡◌, ◌<◌, ◌≤◌, ◌++◌, ◌⊎◌, Bool, true, false, List, [], ◌∷◌, Option, Some, None, IsSome, Result, Ok, Err}
+use Rattle.std.specs.Prelude.{ℕ, ◌≡◌, ◌<◌, ◌++◌, ◌⊎◌, Bool, true, false, List, [], ◌∷◌, Option, Some, None, IsSome, Result, Ok, Err, length}
 use Rattle.stm_model.specs.declared.stop.Stop.{Stop}
 use Rattle.stm_model.specs.declared.stop.Stop.TheVariants.{Full}
 use Rattle.stm_model.specs.Memories.{item_at, put}
 use Rattle.stm_model.specs.Logs.{Log, SameMemories, IsExplained, Keeps}
 use Rattle.tx_logs.specs.LogStates.{LogState, firsts}
-use Rattle.tx_parts.specs.declared.whole.Crowded.{Crowded}
+use Rattle.tx_parts.specs.declared.whole.Undone.{Undone}
+use Rattle.tx_parts.specs.declared.whole.Undone.TheVariants as undone
 use Rattle.tx_parts.specs.declared.wholly.Outcome.{Outcome}
-use Rattle.tx_parts.specs.declared.wholly.Outcome.TheVariants.{Done, GaveWay, NoRoom}
+use Rattle.tx_parts.specs.declared.wholly.Outcome.TheVariants.{Done, GaveWay, NoRoom, NoMemory}
 
 -- the items written over a list, one after the other
 abbrev pub laid : List (ℕ × ℕ) → List (ℕ × ℕ) → List (ℕ × ℕ)
@@ -67,20 +68,27 @@ abbrev pub Comes : {T : Type 0} → (List ℕ → Type 0) → ℕ → ℕ → (O
 Comes good words len tells (Done r) l k = ((j : Log) × tells (Some r) l j × SameLog j k) × ReadsMore l k × (Keeps good words l → Keeps good words k)
 Comes good words len tells GaveWay l k = ((gave : Log) × tells None l gave × (k ≡ back_to l gave)) × OnlyReads l k
 Comes good words len tells (NoRoom limit) l k = OnlyReads l k × (limit ≡ len) × (limit < words)
+Comes good words len tells NoMemory l k = ⊥
 
 -- this word was read, and nothing else
 abbrev pub one_read : ℕ → ℕ → Log
 one_read a v = record { reads = (a, v) ∷ []; writes = [] }
 
--- what came of a part that is a whole transaction, behind the read of this word; where memory was refused for its log it had room for nothing
+-- what came of a part that is a whole transaction, with room for so many words, behind the read of this word; where memory was refused for its log, nothing else was done
 abbrev pub ComesFirst : {T : Type 0} → (List ℕ → Type 0) → ℕ → ℕ → ℕ → (Option T → Log → Log → Type 0) → Outcome T → Log → Type 0
-ComesFirst good words first room tells came k = (v : ℕ) × (len : ℕ) × (len ≤ room) × Comes good words len tells came (one_read first v) k
+ComesFirst good words first room tells NoMemory k = (v : ℕ) × (k ≡ one_read first v)
+ComesFirst good words first room tells came k = (v : ℕ) × Comes good words room tells came (one_read first v) k
 
 -- the same where None stands for a part that gave way
-abbrev pub ComesAwaited : {T : Type 0} → (List ℕ → Type 0) → ℕ → ℕ → ℕ → (Option T → Log → Log → Type 0) → Option (Result T Crowded) → Log → Type 0
+abbrev pub ComesAwaited : {T : Type 0} → (List ℕ → Type 0) → ℕ → ℕ → ℕ → (Option T → Log → Log → Type 0) → Option (Result T Undone) → Log → Type 0
 ComesAwaited good words first room tells None k = (k.writes ≡ []) × ComesFirst good words first room tells GaveWay k
 ComesAwaited good words first room tells (Some (Ok done)) k = ComesFirst good words first room tells (Done done) k
-ComesAwaited good words first room tells (Some (Err crowded)) k = ComesFirst good words first room tells (NoRoom crowded.limit) k
+ComesAwaited good words first room tells (Some (Err (undone.NoRoom limit))) k = ComesFirst good words first room tells (NoRoom limit) k
+ComesAwaited good words first room tells (Some (Err undone.NoMemory)) k = ComesFirst good words first room tells NoMemory k
+
+-- the items are as many words as there is room for, and one more was to be written
+abbrev pub Overflows : ℕ → ℕ → List (ℕ × ℕ) → Type 0
+Overflows words len items = (length items ≡ len) × (a : ℕ) × (a < words) × (item_at a items ≡ None)
 
 -- an access with a log of writes over it; why it was stopped, and whether that was for want of room
 pub record Top (B : Type 0) : Type 0 where
@@ -97,7 +105,8 @@ module _ {B : Type 0} (good : B → List ℕ → Type 0) (words : B → ℕ) (st
   pub record Stands (b : B) (room : LogState) (stopped : Option Stop) (crowded : Bool) : Type 0 where
     pub passes : crowded ≡ false → stops b ≡ stopped
     pub goes : crowded ≡ true → (stops b ≡ None) × IsFull room.len stopped
-    pub short : crowded ≡ true → room.len < words b
+    pub full : crowded ≡ true → Overflows (words b) room.len room.items
+    pub knew : crowded ≡ true → IsExplained (good b) (words b) (log b)
     pub seen : stopped ≡ None → IsExplained (good b) (words b) (log b)
     pub within : Within (words b) (firsts room.items)
 

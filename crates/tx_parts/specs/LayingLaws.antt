@@ -1,12 +1,13 @@
 -- Laws of what is laid over a log.
 use Rattle.std.proofs.Common.{ℕ, zero, suc, ◌≡◌, ◌<◌, ◌≤◌, ◌+◌, List, [], ◌∷◌, ◌++◌, length, take, get_or, Bool, true, false, refl, sym, ap, ◌∙◌, arith, subst, append-nil, append_assoc}
-use Rattle.std.specs.Prelude.{Option, Some, None, Result, Ok, Err, IfOk, OnOk, IfSome, IfNone, MatchOption, ◌==◌, if◌then◌else◌}
+use Rattle.std.proofs.Math.Nat.{le-max_right}
+use Rattle.std.specs.Prelude.{max, Option, Some, None, Result, Ok, Err, IfOk, OnOk, IfSome, IfNone, MatchOption, ◌==◌, if◌then◌else◌}
 use Rattle.std.proofs.lemmas.Bool.Decides.{nat_tests}
 use Rattle.stm_model.specs.declared.stop.Stop.{Stop}
 use Rattle.stm_model.specs.Memories.{item_at, put, Once, Explains, overlay}
 use Rattle.stm_model.specs.Overlays.{overlay-same}
 use Rattle.stm_model.specs.PlainLaws.{put-item}
-use Rattle.stm_model.specs.Logs.{Log, IsLog, Reads, Writes, SameMemories, Keeps}
+use Rattle.stm_model.specs.Logs.{Log, IsLog, Reads, Writes, SameMemories, IsExplained, Keeps}
 use Rattle.tx_logs.specs.LogStates.{firsts}
 use Rattle.tx_parts.specs.Laying.{laid, over, IsFull, Top, Within, ReadsMore, SameLog, Lays, OnlyReads, OnTop}
 
@@ -167,6 +168,14 @@ pub keeps-more : (good : List ℕ → Type 0) (words : ℕ) (l k : Log) → Only
 keeps-more good words l k more keeps m ok long sees =
     subst (λ (ws : List (ℕ × ℕ)). good (overlay m ws)) (sym more.1) (keeps m ok long (explains-front m l.reads more.0.0 (subst (Explains m) more.0.1 sees)))
 
+-- where the same was read, as good a memory explains it
+pub explained-on : (good good' : List ℕ → Type 0) (words words' : ℕ) (l k : Log) → SameMemories good good' → words' ≡ words → k.reads ≡ l.reads → IsExplained good words l → IsExplained good' words' k
+explained-on good good' words words' l k same w e h = (h.0, (same h.0).0 h.1, h.2 ∙ sym w, subst (Explains h.0) (sym e) h.3)
+
+-- and what kept the rule keeps it
+pub keeps-on : (good : List ℕ → Type 0) (words words' : ℕ) (l k : Log) → words' ≡ words → k ≡ l → Keeps good words l → Keeps good words' k
+keeps-on good words words' l k w e h = subst (λ (n : ℕ). Keeps good n k) (sym w) (subst (Keeps good words) (sym e) h)
+
 -- what is so of an answer
 pub answer-then : {T E : Type 0} (r : Result (Option T) E) (F G : T → Type 0) → IfOk r (λ o. IfSome o F) → ((t : T) → F t → G t) → IfOk r (λ o. IfSome o G)
 answer-then (Ok (Some t)) F G h f = f t h
@@ -178,6 +187,10 @@ ok-then (Ok t) F G W w h f = f t w h
 ok-then (Err e) F G W w h f = h
 
 -- what lies below goes on, whether there was room or not
-pub goes-either : (b o : Option Stop) (len words : ℕ) (full : Option ℕ) → IfSome full (λ limit. (b ≡ None) × (limit ≡ len) × (limit < words)) → IfNone full (b ≡ o) → o ≡ None → b ≡ None
-goes-either b o len words None some none goes = none ∙ goes
-goes-either b o len words (Some limit) some none goes = some.0
+pub goes-either : (b o : Option Stop) (len words : ℕ) (P : Type 0) (full : Option ℕ) → IfSome full (λ limit. (b ≡ None) × (limit ≡ len) × (limit < words) × P) → IfNone full (b ≡ o) → o ≡ None → b ≡ None
+goes-either b o len words P None some none goes = none ∙ goes
+goes-either b o len words P (Some limit) some none goes = some.0
+
+-- marks for the deeper of two parts are enough for the second
+pub room-second : (d e a b most : ℕ) → e ≡ d → d + max a b ≤ most → e + b ≤ most
+room-second d e a b most same fits = let le : b ≤ max a b = le-max_right a b in omega (arith, same, fits, le)

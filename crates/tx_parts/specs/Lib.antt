@@ -1,2 +1,3 @@
 pub mod Laying
 pub mod LayingLaws
+pub mod ToldLaws

@@ -61,9 +61,10 @@ impl<A: Access> Overlay<A> {
 
     /// For how many words there was room, where it was stopped for want of more.
     pub(crate) fn no_room(&self) -> Option<usize>
-        ensures some { IfSome result (λ limit. (A.stopped self.now.below ≡ None) × (limit ≡ self.now.room.len) × (limit < A.words self.now.below)) }
+        ensures some { IfSome result (λ limit. (A.stopped self.now.below ≡ None) × (limit ≡ self.now.room.len) × (limit < A.words self.now.below) × IsExplained (A.good self.now.below) (A.words self.now.below) (A.log self.now.below)) }
         ensures none { IfNone result (A.stopped self.now.below ≡ self.now.stopped) }
     {
+        let _count = self.room.count();
         if self.crowded {
             Some(self.room.len())
         } else {

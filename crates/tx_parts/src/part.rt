@@ -1,14 +1,15 @@
 //! A part of a transaction, as a value.
 ghost use Rattle.std.specs.Prelude.{◌≡◌, ◌≤◌, ◌+◌, None, Some, IfOk, OnOk, IfErr, IfSome};
-ghost use Rattle.stm_model.specs.Logs.{Keeps, SameMemories};
+ghost use Rattle.stm_model.specs.Logs.{Keeps, SameMemories, IsExplained};
 ghost use Rattle.tx_logs.specs.declared.marks.TheConstants.{MAX_MARKS};
 
 use crate::nesting::Nesting;
 use stm_model::rule::MemRule;
 use stm_model::stop::Stop;
 
-/// What one part of a transaction does, from whatever was done before. None where it gives way: on this memory it can't
-/// be done.
+/// What one part of a transaction does, from whatever was done before, which keeps the rule. None where it gives way: on
+/// this memory it can't be done. Where it is done, it leaves the rule kept: so it may call structures, and others may
+/// behind it.
 pub trait Part<K: MemRule> {
     ghost use Rattle.std.specs.Prelude.{ℕ, Option};
     ghost use Rattle.stm_model.specs.Logs.{Log};
@@ -31,10 +32,13 @@ pub trait Part<K: MemRule> {
     fn run<N: Nesting>(&self, rule: &K, memory: &mut N) -> Result<Option<Self::Output>, Stop>
         requires going { N.stopped memory.old ≡ None }
         requires good { SameMemories (N.good memory.old) (K.good rule.now) }
+        requires explained { IsExplained (N.good memory.old) (N.words memory.old) (N.log memory.old) }
+        requires sound { Keeps (K.good rule.now) (N.words memory.old) (N.log memory.old) }
         requires fits { fits self.now rule.now (N.words memory.old) }
         requires shallow { N.depth memory.old + depth self.now ≤ MAX_MARKS }
-        ensures kept { IfOk result (λ o. IfSome o (λ r. Keeps (K.good rule.now) (N.words memory.old) (N.log memory.old) → Keeps (K.good rule.now) (N.words memory.old) (N.log memory.new))) }
+        ensures kept { IfOk result (λ o. IfSome o (λ r. Keeps (K.good rule.now) (N.words memory.old) (N.log memory.new))) }
         ensures tells { IfOk result (λ o. tells self.now rule.now (N.words memory.old) o (N.log memory.old) (N.log memory.new)) }
+        ensures explained { OnOk result (IsExplained (N.good memory.new) (N.words memory.new) (N.log memory.new)) }
         ensures goes { OnOk result (N.stopped memory.new ≡ None) }
         ensures stops { IfErr result (λ s. N.stopped memory.new ≡ Some s) }
         ensures keeps { N.keeps memory.old memory.new };

@@ -7,8 +7,8 @@ use std::alloc::Global;
 use stm_model::access::Access;
 use stm_model::rule::MemRule;
 use stm_model::stop::Stop;
-use tx_atomic::transaction::Transaction;
 use tx_logs::write_log::WriteLog;
+use tx_transaction::transaction::Transaction;
 
 /// The transaction that is this part, done wholly or not at all.
 #[derive(Clone, Copy, Drop, Debug)]
@@ -31,20 +31,23 @@ impl<K: MemRule, P: Part<K>> Transaction<K> for Whole<P> {
 
     ghost tells = { λ it rule words came log. ComesFirst (K.good rule) words it.first it.room (P.tells it.part rule words) came log };
 
-    /// `NoRoom` of 0 words where memory was refused for the part's log.
+    /// `NoMemory` where memory was refused for the part's log.
     fn run<A: Access>(&self, rule: &K, memory: &mut A) -> Result<Outcome<P::Output>, Stop> {
         memory.read(self.first)?;
         let Ok(room) = WriteLog::new(self.alloc, self.room) else {
-            return Ok(Outcome::NoRoom { limit: 0 });
+            return Ok(Outcome::NoMemory);
         };
         wholly(&self.part, rule, memory, room)
     }
 }
 
-/// A part wrote more words than there was room for.
+/// Why a part was neither done nor gave way.
 #[derive(Clone, Copy, Drop, Debug, PartialEq, Eq)]
-pub struct Crowded {
-    pub limit: usize,
+pub enum Undone {
+    /// It wrote more words than there was room for.
+    NoRoom { limit: usize },
+    /// There was no memory for its log.
+    NoMemory,
 }
 
 /// The same for a caller that waits until the part is done: None where it gives way, as `until_some` asks.
@@ -57,7 +60,7 @@ impl<K: MemRule, P: Part<K>> Transaction<K> for Awaited<P> {
     ghost use Rattle.std.specs.Prelude.{◌<◌, ◌≤◌};
     ghost use Rattle.tx_parts.specs.Laying.{ComesAwaited};
 
-    type Output = Option<Result<P::Output, Crowded>>;
+    type Output = Option<Result<P::Output, Undone>>;
 
     ghost fits = { λ it rule words. P.fits it.whole.part rule words × (P.depth it.whole.part ≤ MAX_MARKS) × (it.whole.first < words) × (1 ≤ it.whole.room) × (it.whole.room ≤ 4096) };
 
@@ -67,11 +70,12 @@ impl<K: MemRule, P: Part<K>> Transaction<K> for Awaited<P> {
         &self,
         rule: &K,
         memory: &mut A,
-    ) -> Result<Option<Result<P::Output, Crowded>>, Stop> {
+    ) -> Result<Option<Result<P::Output, Undone>>, Stop> {
         match self.whole.run(rule, memory)? {
             Outcome::Done(done) => Ok(Some(Ok(done))),
             Outcome::GaveWay => Ok(None),
-            Outcome::NoRoom { limit } => Ok(Some(Err(Crowded { limit }))),
+            Outcome::NoRoom { limit } => Ok(Some(Err(Undone::NoRoom { limit }))),
+            Outcome::NoMemory => Ok(Some(Err(Undone::NoMemory))),
         }
     }
 }

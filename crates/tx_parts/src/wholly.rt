@@ -1,6 +1,6 @@
 //! A part that is done wholly or not at all.
 ghost use Rattle.std.specs.Prelude.{◌≡◌, ◌≤◌, [], None, Some, IfOk, OnOk, IfErr};
-ghost use Rattle.stm_model.specs.Logs.{SameMemories, IsExplained};
+ghost use Rattle.stm_model.specs.Logs.{SameMemories, IsExplained, Keeps};
 ghost use Rattle.tx_logs.specs.declared.marks.TheConstants.{MAX_MARKS};
 ghost use Rattle.tx_parts.specs.Laying.{Comes};
 
@@ -21,6 +21,8 @@ pub enum Outcome<T> {
     GaveWay,
     /// It wrote more words than there was room for, and left no trace but what it read.
     NoRoom { limit: usize },
+    /// There was no memory for its log, so it wasn't begun. `wholly`, which is given the log, never answers this.
+    NoMemory,
 }
 
 /// Does a part wholly or not at all: what it writes lies in `room`, an empty log, until it is done, and only then goes
@@ -38,10 +40,13 @@ pub fn wholly<K: MemRule, P: Part<K>, A: Access>(
     requires going { A.stopped memory.old ≡ None }
     requires good { SameMemories (A.good memory.old) (K.good rule.now) }
     requires seen { IsExplained (A.good memory.old) (A.words memory.old) (A.log memory.old) }
+    requires sound { Keeps (K.good rule.now) (A.words memory.old) (A.log memory.old) }
     requires fits { P.fits part.now rule.now (A.words memory.old) }
     requires shallow { P.depth part.now ≤ MAX_MARKS }
     requires empty { (room.items ≡ []) × (room.marks ≡ []) }
     ensures comes { IfOk result (λ o. Comes (K.good rule.now) (A.words memory.old) room.len (P.tells part.now rule.now (A.words memory.old)) o (A.log memory.old) (A.log memory.new)) }
+    ensures kept { OnOk result (Keeps (K.good rule.now) (A.words memory.old) (A.log memory.new)) }
+    ensures explained { OnOk result (IsExplained (A.good memory.new) (A.words memory.new) (A.log memory.new)) }
     ensures goes { OnOk result (A.stopped memory.new ≡ None) }
     ensures stops { IfErr result (λ s. A.stopped memory.new ≡ Some s) }
     ensures good { SameMemories (A.good memory.old) (A.good memory.new) }
@@ -70,10 +75,14 @@ fn run_apart<K: MemRule, P: Part<K>, A: Access>(
 ) -> Result<Outcome<P::Output>, Stop>
     requires going { overlay.old.stopped ≡ None }
     requires good { SameMemories (A.good overlay.old.below) (K.good rule.now) }
+    requires sound { Keeps (K.good rule.now) (A.words overlay.old.below) (A.log overlay.old.below) }
+    requires seen { IsExplained (A.good overlay.old.below) (A.words overlay.old.below) (A.log overlay.old.below) }
     requires fits { P.fits part.now rule.now (A.words overlay.old.below) }
     requires shallow { P.depth part.now ≤ MAX_MARKS }
     requires empty { (overlay.old.room.items ≡ []) × (overlay.old.room.marks ≡ []) }
     ensures comes { IfOk result (λ o. Comes (K.good rule.now) (A.words overlay.old.below) overlay.old.room.len (P.tells part.now rule.now (A.words overlay.old.below)) o (A.log overlay.old.below) (A.log overlay.new.below)) }
+    ensures kept { OnOk result (Keeps (K.good rule.now) (A.words overlay.old.below) (A.log overlay.new.below)) }
+    ensures explained { OnOk result (IsExplained (A.good overlay.new.below) (A.words overlay.new.below) (A.log overlay.new.below)) }
     ensures goes { OnOk result (A.stopped overlay.new.below ≡ None) }
     ensures stops { IfErr result (λ s. A.stopped overlay.new.below ≡ Some s) }
     ensures good { SameMemories (A.good overlay.old.below) (A.good overlay.new.below) }

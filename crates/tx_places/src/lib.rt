@@ -2,4 +2,5 @@
 #![tactic(auto)]
 
 pub mod place;
+pub mod places;
 pub mod word;

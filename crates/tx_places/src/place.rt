@@ -1,6 +1,7 @@
 //! A place for a value, which is one word.
-ghost use Rattle.std.specs.Prelude.{◌≡◌, ◌<◌, ℕ, None, Some, IfOk, OnOk, IfErr};
+ghost use Rattle.std.specs.Prelude.{◌≡◌, ◌<◌, ℕ, None, Some, IfOk, OnOk, IfErr, length, slice_index};
 ghost use Rattle.stm_model.specs.Logs.{Reads, Writes, SameMemories, IsExplained, IsReadStop};
+ghost use Rattle.tx_places.specs.Codes.{Stands, Updates};
 
 use crate::word::Word;
 use std::marker::PhantomData;
@@ -9,6 +10,7 @@ use stm_model::stop::Stop;
 
 /// The word at `at`, as a value of `T`. A memory of zeros has there the value whose word is 0.
 #[derive(Drop)]
+#[derive_where(Clone, Copy, Debug, PartialEq, Eq)]
 pub struct Place<T> {
     pub at: usize,
     of: PhantomData<T>,
@@ -31,7 +33,7 @@ impl<T: Word> Place<T> {
     pub fn get<A: Access>(&self, memory: &mut A) -> Result<T, Stop>
         requires going { A.stopped memory.old ≡ None }
         requires within { self.now.at < A.words memory.old }
-        ensures value { IfOk result (λ v. (word : ℕ) × Reads (A.log memory.old) self.now.at word (A.log memory.new) × ((x : T) → T.fits x → word ≡ T.code x → v ≡ x)) }
+        ensures value { IfOk result (λ v. (word : ℕ) × Reads (A.log memory.old) self.now.at word (A.log memory.new) × Stands T.fits T.code word v) }
         ensures explained { OnOk result (IsExplained (A.good memory.new) (A.words memory.new) (A.log memory.new)) }
         ensures goes { OnOk result (A.stopped memory.new ≡ None) }
         ensures stops { IfErr result (λ s. A.stopped memory.new ≡ Some s) }
@@ -48,10 +50,10 @@ impl<T: Word> Place<T> {
     ///
     /// # Errors
     /// The Stop of the access.
-    pub fn set<A: Access>(&self, memory: &mut A, value: &T) -> Result<(), Stop>
+    pub fn set<A: Access>(&self, memory: &mut A, value: T) -> Result<(), Stop>
         requires going { A.stopped memory.old ≡ None }
         requires within { self.now.at < A.words memory.old }
-        ensures value { OnOk result (Writes (A.log memory.old) self.now.at (T.code value.now) (A.log memory.new) × T.fits value.now) }
+        ensures value { OnOk result (Writes (A.log memory.old) self.now.at (T.code value) (A.log memory.new) × T.fits value) }
         ensures explained { OnOk result (IsExplained (A.good memory.new) (A.words memory.new) (A.log memory.new)) }
         ensures goes { OnOk result (A.stopped memory.new ≡ None) }
         ensures stops { IfErr result (λ s. A.stopped memory.new ≡ Some s) }
@@ -60,5 +62,33 @@ impl<T: Word> Place<T> {
         ensures keeps { A.keeps memory.old memory.new }
     {
         memory.write(self.at, value.to_word())
+    }
+    /// Reads the value and writes what `by` makes of it, which it returns.
+    ///
+    /// # Errors
+    /// The Stop of the access.
+    pub fn update<A: Access, F: Fn(T) -> T>(&self, memory: &mut A, by: F) -> Result<T, Stop>
+        requires going { A.stopped memory.old ≡ None }
+        requires within { self.now.at < A.words memory.old }
+        requires callable { F.IsAlwaysCallable by }
+        ensures value { IfOk result (λ v. Updates T.fits T.code (F.post by) self.now.at (A.log memory.old) v (A.log memory.new)) }
+        ensures explained { OnOk result (IsExplained (A.good memory.new) (A.words memory.new) (A.log memory.new)) }
+        ensures goes { OnOk result (A.stopped memory.new ≡ None) }
+        ensures stops { IfErr result (λ s. A.stopped memory.new ≡ Some s) }
+        ensures good { SameMemories (A.good memory.old) (A.good memory.new) }
+        ensures words { A.words memory.new ≡ A.words memory.old }
+        ensures keeps { A.keeps memory.old memory.new }
+    {
+        let value = by(self.get(memory)?);
+        self.set(memory, value)?;
+        Ok(value)
+    }
+
+    /// The value at this place of a memory whose words these are.
+    pub fn value_in(&self, words: &[u64]) -> T
+        requires within { self.now.at < length words.now }
+        ensures { Stands T.fits T.code (slice_index words.now self.now.at) result }
+    {
+        T::of_word(words[self.at])
     }
 }

@@ -2,12 +2,13 @@
 ghost use Rattle.std.specs.Prelude.{◌≡◌};
 
 /// Values that a word holds, each by a word of its own.
-pub trait Word: Drop {
+pub trait Word: Copy + Drop {
     ghost use Rattle.std.specs.Prelude.{ℕ};
 
-    // the values that there are, and the word of each
-    ghost fits: { Self → Type 0 };
+    // the values that there are: where nothing is said, all
+    ghost fits: { Self → Type 0 } = { λ x. Unit {0} };
 
+    // the word of each
     ghost code: { Self → ℕ };
 
     /// The value's word.
@@ -49,8 +50,6 @@ impl Word for u64 {
 
 impl Word for bool {
     ghost use Rattle.std.specs.Prelude.{if◌then◌else◌};
-
-    ghost fits = { λ x. Unit {0} };
 
     ghost code = { λ x. if x then 1 else 0 };
 

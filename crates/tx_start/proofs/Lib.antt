@@ -1,1 +1,2 @@
 mod LeftLaws
+mod RepeatLaws

@@ -1,4 +1,5 @@
 pub mod Lefts
+pub mod Repeats
 pub mod Stories
 pub mod StoryLaws
-pub mod WordLaws
+pub use Rattle.tx_transaction.specs.WordLaws

@@ -24,13 +24,14 @@ pub struct Caller<'a, R: Wait, K: MemRule> {
 }
 
 impl<'a, R: Wait, K: MemRule> Caller<'a, R, K> {
-    ghost use Rattle.std.specs.Prelude.{◌≡◌, ℕ, ◌∷◌, ◌++◌, [], IfSome, IfNone, Some, None};
+    ghost use Rattle.std.specs.Prelude.{◌≡◌, ◌≤◌, ◌<◌, ℕ, ◌∷◌, ◌++◌, [], IfSome, IfNone, Some, None};
     ghost use Rattle.stm_model.specs.Logs.{Log};
     ghost use Rattle.stm_tx.specs.Descs.{known, number};
     ghost use Rattle.tx_atomic.specs.Callers.{HasWorked};
     ghost use Rattle.tx_atomic.specs.Attempts.{TookEffect};
     ghost use Rattle.tx_answers.specs.Causes.{FindsFull};
-    ghost use Rattle.tx_atomic.specs.Tallies.{CommitsRise};
+    ghost use Rattle.tx_atomic.specs.Tallies.{CommitsRise, CommitsStay};
+    ghost use Rattle.tx_start.specs.Repeats.{MadeAll, Answered, Rounds, raised};
 
     /// The caller's number, from 0 on.
     pub fn number(&self) -> usize
@@ -46,6 +47,7 @@ impl<'a, R: Wait, K: MemRule> Caller<'a, R, K> {
         ensures same { self.new.stm ≡ self.old.stm }
         ensures took { IfSome result (λ r. TookEffect (K.good self.old.stm.now.rule) self.old.stm.now.config (number self.old.desc) (T.tells transaction.now self.old.stm.now.rule self.old.stm.now.config.words r) (known self.old.desc).front (known self.old.desc) (known self.new.desc)) }
         ensures counted { IfSome result (λ r. CommitsRise self.old.pace.tally self.new.pace.tally) }
+        ensures uncounted { IfNone result (CommitsStay self.old.pace.tally self.new.pace.tally) }
         ensures none { IfNone result ((known self.new.desc).made ≡ (known self.old.desc).made) }
         ensures full { IfNone result ((clock : ℕ) × FindsFull clock (known self.old.desc) (known self.new.desc)) }
         ensures installs { (known self.new.desc).installs ≡ (known self.old.desc).installs }
@@ -93,8 +95,8 @@ impl<'a, R: Wait, K: MemRule> Caller<'a, R, K> {
         switch_to(self.rt, &mut self.desc, self.stm, alg);
     }
 
-    /// Runs so many transactions, one behind the other, and answers how many took effect: fewer only where the clock
-    /// was found at its limit. `f` makes that of a round, the first of which is 0.
+    /// Runs so many transactions, one after another, and answers how many took effect: fewer only where the clock was
+    /// found at its limit. `f` makes that of a round, the first of which is 0.
     pub fn repeat<T: Transaction<K> + Drop, F: Fn(usize) -> T>(
         &mut self,
         rounds: usize,
@@ -104,12 +106,38 @@ impl<'a, R: Wait, K: MemRule> Caller<'a, R, K> {
         requires fits { (round : ℕ) (t : T) → F.post f.now round t → T.fits t self.old.stm.now.rule self.old.stm.now.config.words }
         ensures worked { HasWorked self.old.desc self.new.desc }
         ensures same { self.new.stm ≡ self.old.stm }
+        ensures count { result ≤ rounds }
+        ensures took { MadeAll (Rounds (λ k t. F.post f.now k t) (λ t r log. T.tells t self.old.stm.now.rule self.old.stm.now.config.words r log)) (known self.old.desc).made result (known self.new.desc).made }
+        ensures counted { self.new.pace.tally.commits ≡ raised self.old.pace.tally.commits result }
+        ensures full { result < rounds → (clock : ℕ) × FindsFull clock (known self.old.desc) (known self.new.desc) }
         ensures installs { (known self.new.desc).installs ≡ (known self.old.desc).installs }
     {
         for round in 0..rounds {
             let transaction = f(round);
-            if self.run(&transaction).is_none() {
-                return round;
+            match self.run(&transaction) {
+                Some(_) => {}
+                None => return round,
+            }
+        }
+        rounds
+    }
+
+    /// Runs one transaction so many times, and answers how often it took effect: fewer times only where the clock was
+    /// found at its limit.
+    pub fn times<T: Transaction<K>>(&mut self, rounds: usize, transaction: &T) -> usize
+        requires fits { T.fits transaction.now self.old.stm.now.rule self.old.stm.now.config.words }
+        ensures worked { HasWorked self.old.desc self.new.desc }
+        ensures same { self.new.stm ≡ self.old.stm }
+        ensures count { result ≤ rounds }
+        ensures took { MadeAll (Answered (T.tells transaction.now self.old.stm.now.rule self.old.stm.now.config.words)) (known self.old.desc).made result (known self.new.desc).made }
+        ensures counted { self.new.pace.tally.commits ≡ raised self.old.pace.tally.commits result }
+        ensures full { result < rounds → (clock : ℕ) × FindsFull clock (known self.old.desc) (known self.new.desc) }
+        ensures installs { (known self.new.desc).installs ≡ (known self.old.desc).installs }
+    {
+        for round in 0..rounds {
+            match self.run(transaction) {
+                Some(_) => {}
+                None => return round,
             }
         }
         rounds

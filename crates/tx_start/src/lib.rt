@@ -6,4 +6,6 @@ pub mod caller;
 pub mod job;
 pub mod memory;
 pub mod sizes;
+pub mod times;
+pub mod update;
 mod working;

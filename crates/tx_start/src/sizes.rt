@@ -1,5 +1,5 @@
 //! The sizes of a memory, where nothing asks for others.
-ghost use Rattle.std.specs.Prelude.{◌≡◌, ◌≤◌, false};
+ghost use Rattle.std.specs.Prelude.{◌≡◌, ◌≤◌, false, min};
 ghost use Rattle.stm_model.specs.Configs.{IsConfig};
 
 use stm_tx::Config;
@@ -11,6 +11,10 @@ pub fn sizes(words: usize, callers: usize) -> Config
     requires callers { (1 ≤ callers) × (callers ≤ 32) }
     ensures words { result.words ≡ words }
     ensures callers { result.callers ≡ callers }
+    ensures records { result.records ≡ min words 1024 }
+    ensures ring { result.ring ≡ 16 }
+    ensures logs { (result.reads ≡ 64) × (result.writes ≡ 64) }
+    ensures clock { result.clock ≡ 0 }
     ensures unfenced { result.fence ≡ false }
     ensures fit { IsConfig result }
 {

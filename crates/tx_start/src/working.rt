@@ -1,5 +1,5 @@
 //! The callers at work, and what each leaves.
-ghost use Rattle.std.specs.Prelude.{◌≡◌, ◌≤◌, ◌<◌, ℕ, [], map, length, vec_len, vec_capacity, slice_index_or, IfOk, All};
+ghost use Rattle.std.specs.Prelude.{◌≡◌, ◌≤◌, ◌<◌, ℕ, [], map, length, vec_len, vec_capacity, slice_index_or, IfErr, IfOk, All};
 ghost use Rattle.stm_rule.specs.Callers.{Handle};
 ghost use Rattle.tx_atomic.specs.Callers.{IsReady};
 ghost use Rattle.tx_start.specs.declared.working.Left.{Left};
@@ -30,6 +30,7 @@ pub(crate) fn work_all<
     requires ready { All (IsReady stm.now) descs.items }
     requires needs { J.needs job.now stm.now.rule stm.now.config.words }
     ensures count { IfOk result (λ left. length left.items ≡ length descs.items) }
+    ensures refused { IfErr result (λ e. e ≡ NewError.Memory) }
     ensures done { IfOk result (λ left. (i : ℕ) (d : Left K J.Output) (e : Handle K) → i < length descs.items → Works (J.tells job.now stm.now.rule stm.now.config.words) (slice_index_or descs.items i e) (slice_index_or left.items i d)) }
 {
     let job_of = |desc|

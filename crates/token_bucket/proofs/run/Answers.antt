@@ -1,7 +1,7 @@
 use Rattle.std.proofs.Common.{◌+◌, ◌∙◌, [], ◌∷◌, ◌++◌, refl, ap, arith}
-use Rattle.stm_model.specs.declared.alg.Alg.TheVariants.{Tml}
-use Rattle.tx_effects.specs.EffectLaws.{zero-at}
-use Rattle.tx_start.specs.StoryLaws.{by-stories}
+use Rattle.nekchhaul.specs.Alg.TheVariants.{Tml}
+use Rattle.nekchhaul.specs.EffectLaws.{zero-at}
+use Rattle.nekchhaul.specs.StoryLaws.{by-stories}
 use Rattle.token_bucket.proofs.run.Goals as goal
 
 pub with_memory-requires-clause-good : goal.with_memory-requires-clause-good

@@ -1,5 +1,6 @@
-use Rattle.std.proofs.Common.{ℕ, ◌≡◌, ◌+◌, length, arith, sym, ap, ◌∙◌, refl, false, rules, ◌≤◌}
+use Rattle.std.proofs.Common.{ℕ, ◌+◌, length, arith, sym, ap, ◌∙◌, refl, rules}
 use Rattle.rule_base.specs.declared.seats.SeatView.{SeatView}
+use Rattle.rule_base.specs.declared.views.View.{View}
 use Rattle.rule_base.specs.InstallSteps.{store_base, store_done}
 use Rattle.rule_base.specs.StepKinds.{Nothing}
 use Rattle.rule_seq.specs.CglSteps.{Commits}
@@ -10,13 +11,11 @@ use Rattle.stm_rule.specs.StandLemmas.{tells-of}
 use Rattle.tx_answers.specs.declared.answers.Commit.TheVariants.{Committed, ReadOnly}
 use Rattle.tx_answers.specs.Answers.{KeepsRule}
 use Rattle.tx_answers.specs.Answers as answers
-use Rattle.tx_answers.specs.Known.{Known, wrote, held_limit, known_of}
+use Rattle.tx_answers.specs.Known.{Known}
 use Rattle.stm_gate.specs.DirectLaws as direct
 use Rattle.stm_gate.specs.Opening.{Opened, opened, of-view, shows}
-use Rattle.stm_gate.specs.Peeling.{no-items}
 use Rattle.alg_orec.proofs.CommitOpening.{Promoted, promoted}
 use Rattle.alg_orec.proofs.EagerDirectLaws as laws
-use Rattle.alg_orec.proofs.EagerProving.{length-none}
 use Rattle.alg_orec.proofs.eager_committing.commit_direct.Goals.{After-desc}
 use Rattle.alg_orec.proofs.eager_committing.commit_direct.Goals as goal
 
@@ -30,15 +29,18 @@ here : (g : _) (c : After-desc g) → Promoted (g.K.MemRule.good c.args.stm.now.
 here g c = promoted g.K.MemRule.good c.args.stm.now (opens g c) c.requires.running c.requires.algorithm
     c.requires.granted
 
+pub give_above-requires-clause-view : goal.give_above-requires-clause-view
+give_above-requires-clause-view g c =
+    laws.may-give-above (here g (goal.at.give_above-requires-clause-view g c).After-desc) (search rules)
+
 pub leave-requires-clause-view : goal.leave-requires-clause-view
 leave-requires-clause-view g c =
-    let p = here g (goal.at.leave-requires-clause-view g c).After-desc in
-    let none : length c.desc.inside.local.locks.items ≡ 0 =
-    (let h = c.if-count-gt0.false in let e = c.count.ensures.count in omega arith) in
-    laws.may-leave p (search rules) (no-items _ (sym (laws.k p).locks ∙ length-none _ (omega arith)))
+    laws.may-leave (here g (goal.at.leave-requires-clause-view g c).After-desc) _ c.give_above.ensures.gives
 
 pub leave-requires-clause-named : goal.leave-requires-clause-named
-leave-requires-clause-named g c = sym (here g (goal.at.leave-requires-clause-named g c).After-desc).inside.named
+leave-requires-clause-named g c =
+    sym (here g (goal.at.leave-requires-clause-named g c).After-desc).inside.named
+    ∙ sym (ap (λ (y : View). y.gate.algorithm) c.give_above.ensures.gives.is)
 
 pub returns-then-not-desc-clause-commits : goal.returns-then-not-desc-clause-commits
 returns-then-not-desc-clause-commits g c =
@@ -48,18 +50,8 @@ returns-then-not-desc-clause-commits g c =
     (λ (n : ℕ) (v w : Known). answers.Commits (g.K.MemRule.good c.args.stm.now.rule) c.args.stm.now.config n
     (ReadOnly c.desc.inside.local.start) v w)
     c.leave.new.seat.me.0.view c.leave.new.local (ap own_of c.leave.ensures.idle)
-    (direct.tells-read_only _ _ _ _ _ _ _ (search rules) (laws.closes p) (laws.granted-here p) p.inside
+    (laws.tells-read_only p _ c.give_above.ensures.gives (search rules) _ (own_of c.desc.inside.local)
     (ap (λ (y : SeatView g.row.K.Denot). y.view) c.leave.ensures.left))
-
-pub quit_direct-requires-clause-unwritten : goal.quit_direct-requires-clause-unwritten
-quit_direct-requires-clause-unwritten g c =
-    let a = (goal.at.quit_direct-requires-clause-unwritten g c).After-desc in
-    ap wrote (opens g a).knows ∙ laws.wrote-known (here g a) (own_of c.desc.inside.local) false (search rules)
-
-pub quit_direct-requires-clause-kept : goal.quit_direct-requires-clause-kept
-quit_direct-requires-clause-kept g c =
-    let a = (goal.at.quit_direct-requires-clause-kept g c).After-desc in
-    ap (λ (k : Known). k.retains) (opens g a).knows ∙ laws.was-rolled (here g a) (search rules) (search rules)
 
 pub direct_commit-requires-clause-view : goal.direct_commit-requires-clause-view
 direct_commit-requires-clause-view g c =
@@ -117,10 +109,9 @@ returns-clause-commits g c =
 pub returns-clause-steps : goal.returns-clause-steps
 returns-clause-steps g c =
     let a = (goal.at.returns-clause-steps g c).After-desc in
-    let within : length c.desc.inside.local.locks.items ≤ held_limit c.args.stm.now.config
-    (known_of c.desc.inside.seat.me.0.view (own_of c.desc.inside.local)) = laws.held-within (here g a) in
+    let within = (laws.k (here g a)).few in
     let first = ap (λ (k : Known). length k.trail) (opens g a).knows in
-    let held = ap (held_limit c.args.stm.now.config) (opens g a).knows in
+    let words = ap (λ (k : Known). k.writes_limit) (opens g a).knows in
     let entered = ap (λ (y : SeatView g.row.K.Denot). length y.view.steps.trail) c.direct_commit.ensures.step.3 in
     let given = c.give_direct.ensures.steps in
     let based = ap (λ (y : SeatView g.row.K.Denot). length y.view.steps.trail) c.store_base.ensures.step.3 in

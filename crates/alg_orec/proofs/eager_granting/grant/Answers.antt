@@ -3,9 +3,9 @@ use Rattle.stm_model.specs.declared.alg.Alg.TheVariants.{OrecEager}
 use Rattle.rule_base.specs.declared.seats.SeatView.{SeatView}
 use Rattle.stm_rule.specs.declared.local.Local.{Local}
 use Rattle.stm_rule.specs.Attempts.{own_of}
-use Rattle.stm_rule.specs.Callers.{Handle, handle_of}
+use Rattle.stm_rule.specs.Callers.{Handle}
 use Rattle.tx_answers.specs.declared.answers.Irrev.TheVariants as irrevs
-use Rattle.tx_answers.specs.Known.{Known, known_of, held_limit}
+use Rattle.tx_answers.specs.Known.{Known, known_of}
 use Rattle.stm_gate.specs.Granting.{Grants}
 use Rattle.stm_gate.specs.Knowing.{known}
 use Rattle.stm_gate.specs.Opening.{opened, stands-after, tells-of}
@@ -72,10 +72,8 @@ returns-in-Err-clause-steps g c =
     let f = c.args.stm.now.config in
     let a = opened g.K.MemRule.good c.args.stm.now c.desc.inside.number c.desc.inside.local c.desc.view_is refl c.desc.invariant.0.named c.desc.invariant.0.low c.desc.invariant.1 c.requires.stm in
     let can = can-grant g.K.MemRule.good c.args.stm.now a c.requires.running OrecEager refl c.requires.algorithm c.requires.revocable c.requires.alone in
-    let h = handle_of c.desc.inside.seat (own_of c.desc.inside.local) in
-    let within : length c.desc.inside.local.locks.items ≤ held_limit f (known h) = held-within f c.desc.inside.local c.desc.inside.seat.me.0.view (eager-of _ f _ _ _ can.inside can.named can.plain) in
+    let within : length c.desc.inside.local.locks.items ≤ c.desc.inside.local.undo.len = held-within f c.desc.inside.local c.desc.inside.seat.me.0.view (eager-of _ f _ _ _ can.inside can.named can.plain) in
     let first = ap (λ (p : Handle g.row.K.Denot). length (known p).trail) c.desc.view_is in
-    let held = ap (λ (p : Handle g.row.K.Denot). held_limit f (known p)) c.desc.view_is in
     let words = ap (λ (p : Handle g.row.K.Denot). (known p).writes_limit) c.desc.view_is in
     let reads = ap (λ (p : Handle g.row.K.Denot). (known p).reads_limit) c.desc.view_is in
     let locks = ap (λ (x : Local). length x.locks.items) c.in-Err.ensures.promotes.local in

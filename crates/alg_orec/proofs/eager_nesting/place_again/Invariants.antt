@@ -12,7 +12,7 @@ invariant-loop-i g l = record {
   id : l.seat.id ≡ l.initial.seat.id;
   bare : l.seat.me.1 ≡ l.initial.seat.me.1;
   more : List TrailItem;
-  seat : l.seat.me.0 ≡ record l.initial.seat.me.0 { view = restoring l.initial.seat.me.0.view l.seat.me.0.view.owned.in_place l.initial.seat.me.0.view.owned.undo more };
+  seat : l.seat.me.0 ≡ record l.initial.seat.me.0 { view = restoring l.initial.seat.me.0.view l.seat.me.0.view.owned.in_place more };
   in_place : items l.seat.me.0.view.owned.in_place ≡ take l.i l.writes.items ++ drop l.i (items l.initial.seat.me.0.view.owned.in_place);
   small : Small l.seat.me.0.view.owned.in_place;
   steps : TakesAtMost l.i l.initial.seat.me.0.view l.seat.me.0.view;

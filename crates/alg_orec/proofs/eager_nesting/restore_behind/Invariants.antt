@@ -1,7 +1,8 @@
 use Rattle.std.proofs.Common.{◌≡◌, ◌≤◌, ◌+◌, ◌-◌, List, length, take}
+use Rattle.std.specs.Prelude.{◌⊎◌}
 use Rattle.rule_base.specs.declared.views.TrailItem.{TrailItem}
 use Rattle.rule_base.specs.Bridge.{items}
-use Rattle.rule_base.specs.History.{Inside, Small}
+use Rattle.rule_base.specs.History.{Small}
 use Rattle.alg_orec.specs.EagerEnding.{restoring}
 use Rattle.alg_orec.proofs.eager_nesting.restore_behind.Given as goal
 
@@ -11,14 +12,12 @@ invariant-loop-count g l = record {
   id : l.seat.id ≡ l.initial.seat.id;
   bare : l.seat.me.1 ≡ l.initial.seat.me.1;
   more : List TrailItem;
-  seat : l.seat.me.0 ≡ record l.initial.seat.me.0 { view = restoring l.initial.seat.me.0.view l.seat.me.0.view.owned.in_place l.seat.me.0.view.owned.undo more };
-  undo : items l.seat.me.0.view.owned.undo ≡ take l.count l.undo.items;
-  in_place : items l.seat.me.0.view.owned.in_place ≡ take l.count (items l.initial.seat.me.0.view.owned.in_place);
-  within : Inside l.stm.config.words l.seat.me.0.view.owned.undo;
+  seat : l.seat.me.0 ≡ record l.initial.seat.me.0 { view = restoring l.initial.seat.me.0.view l.seat.me.0.view.owned.in_place more };
+  in_place : items l.seat.me.0.view.owned.in_place ≡ take l.count l.writes.items;
   small : Small l.seat.me.0.view.owned.in_place;
-  low : l.left ≤ l.count;
-  high : l.count ≤ length l.undo.items;
-  steps : length l.seat.me.0.view.steps.trail + l.count ≤ length l.initial.seat.me.0.view.steps.trail + length l.undo.items;
+  low : (l.left ≤ l.count) ⊎ (l.count ≡ length l.writes.items);
+  high : l.count ≤ length l.writes.items;
+  steps : length l.seat.me.0.view.steps.trail + l.count ≤ length l.initial.seat.me.0.view.steps.trail + length l.writes.items;
 }
 
 abbrev pub decreases-loop-count : goal.decreases-loop-count

@@ -1,4 +1,4 @@
-use Rattle.std.proofs.Common.{ℕ, ◌≡◌, ap, refl, rules, arith, length, [], ◌∷◌, ◌++◌}
+use Rattle.std.proofs.Common.{ℕ, ap, refl, rules, arith, length}
 use Rattle.std.specs.Prelude.{◌%◌}
 use Rattle.stm_model.specs.declared.stop.Cause.TheVariants as causes
 use Rattle.rule_base.specs.declared.seats.SeatView.{SeatView}

@@ -64,7 +64,7 @@ invariant_of-desc-in-Ok g c =
     let undo = ap (λ (y : Local). y.undo.len) sampled.local in
     let locks = ap (λ (y : Local). y.locks.len) sampled.local in
     stays-tied _ _ o.call c.sample_valid.new.local c.sample_valid.new.seat.me c.sample_valid.ensures.same.1 c.sample_valid.ensures.same.0.2 (ap (λ (y : Local). y.running) sampled.local) (ap (λ (y : Local). y.holds) sampled.local)
-    (ap (λ (y : Local). y.writes.len) sampled.local ∙ (o.lengths.0 ∙ sym undo), (let r = o.lengths.1 in omega arith), (let r = o.lengths.2 in omega arith)) (ap (λ (y : View). y.gate.holds) sampled.is)
+    (ap (λ (y : Local). y.writes.len) sampled.local ∙ (o.lengths.0 ∙ sym undo), (let r = o.lengths.1 in omega arith)) (ap (λ (y : View). y.gate.holds) sampled.is)
     (laws.stays-sampled _ _ _ _ _ o.runs c.args.a c.in-Ok.word _ _ sampled)
 
 pub returns-in-Ok-clause-samples : goal.returns-in-Ok-clause-samples

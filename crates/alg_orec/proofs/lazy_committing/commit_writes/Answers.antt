@@ -76,7 +76,7 @@ returns-in-Err-clause-stands g c =
     subst (λ (q : Local). Stands (g.K.MemRule.good c.args.stm.now.rule) c.args.stm.now.config c.args.caller q
     c.roll_back.new.seat.me.0.view) (sym c.roll_back.ensures.idle)
     (laws.ended-stands _ _ _ (record m { committing = false }) _
-    (laws.stopped-lengths c.args.stm.now.config c.args.local.now m s.local s.len c.requires.attempt.lengths)
+    (laws.stopped-lengths c.args.local.now m s.local s.len c.requires.attempt.lengths)
     c.roll_back.ensures.gives_up.outside)
 
 pub limit-clock-requires-clause-view : goal.limit-clock-requires-clause-view

@@ -1,4 +1,4 @@
-use Rattle.std.proofs.Common.{ℕ, rules, ◌≡◌, [], ◌∷◌, ◌++◌, refl}
+use Rattle.std.proofs.Common.{ℕ, rules}
 use Rattle.rule_base.specs.declared.views.View.{View}
 use Rattle.rule_orec.specs.OrecSteps.{orec_own_load, OrecOwnLoads}
 use Rattle.stm_rule.specs.Attempts.{own_of}

@@ -100,7 +100,7 @@ invariant_of-desc-in-Ok g c =
     let tied = c.desc.invariant.0 in
     let undo = ap (λ (y : Local). y.undo.len) moved in
     let locks = ap (λ (y : Local). y.locks.len) moved in
-    let lengths : HasRoom s.who.config q = (ap (λ (y : Local). y.writes.len) moved ∙ (c.desc.invariant.1.lengths.0 ∙ sym undo), (let r = c.desc.invariant.1.lengths.1 in omega arith), (let r = c.desc.invariant.1.lengths.2 in omega arith)) in (
+    let lengths : HasRoom q = (ap (λ (y : Local). y.writes.len) moved ∙ (c.desc.invariant.1.lengths.0 ∙ sym undo), (let r = c.desc.invariant.1.lengths.1 in omega arith)) in (
       record {
         named = ap (λ (y : Who g.row.K.Denot). y.role) who ∙ tied.named;
         low = subst (λ (y : Who g.row.K.Denot). d.number < y.config.callers) (sym who) tied.low;
@@ -108,7 +108,7 @@ invariant_of-desc-in-Ok g c =
         empty = c.load_valid.ensures.same.0.2 ∙ tied.empty;
       },
       stands-in g.K.MemRule.good f c.args.stm.now.rule u.who d.number q u.view (ap (λ (y : Who g.row.K.Denot). y.config) who ∙ config) (ap (λ (y : Who g.row.K.Denot). y.rule) who ∙ value) running
-          (ap (λ (y : Local). y.holds) moved ∙ (c.desc.invariant.1.holds ∙ sym (ap (λ (y : View). y.gate.holds) loaded.is))) (subst (λ (y : Who g.row.K.Denot). HasRoom y.config q) (sym who) lengths)
+          (ap (λ (y : Local). y.holds) moved ∙ (c.desc.invariant.1.holds ∙ sym (ap (λ (y : View). y.gate.holds) loaded.is))) (subst (λ (y : Who g.row.K.Denot). HasRoom q) (sym who) lengths)
           (laws.stays-read good f d.number d.local s.view i lazy plain quiet k a x m u.view c.push_new.new.self c.requires.inside unread is loaded),
     )
 

@@ -11,7 +11,7 @@ invariant-loop-i g l = record {
   id : l.seat.id ≡ l.initial.seat.id;
   bare : l.seat.me.1 ≡ l.initial.seat.me.1;
   more : List TrailItem;
-  seat : l.seat.me.0 ≡ record l.initial.seat.me.0 { view = taken l.initial.seat.me.0.view l.seat.me.0.view.attempt.stores l.initial.seat.me.0.view.lock.undo more };
+  seat : l.seat.me.0 ≡ record l.initial.seat.me.0 { view = taken l.initial.seat.me.0.view l.seat.me.0.view.attempt.stores more };
   stores : items l.seat.me.0.view.attempt.stores ≡ take l.i l.writes.items ++ drop l.i (items l.initial.seat.me.0.view.attempt.stores);
   steps : TakesAtMost l.i l.initial.seat.me.0.view l.seat.me.0.view;
 }

@@ -1,5 +1,5 @@
 use Rattle.std.proofs.Common.{◌≡◌, ◌<◌, ℕ, true, get_or}
-use Rattle.tx_start.specs.declared.memory.Answer.{Answer}
+use Rattle.nekchhaul.specs.Answer.{Answer}
 use Rattle.example_jobs.specs.declared.hands.Hand.{Hand}
 use Rattle.example_jobs.proofs.day.is_done.Given as goal
 

@@ -1,14 +1,14 @@
 use Rattle.std.proofs.Common.{ℕ, ◌≡◌, ◌<◌, ◌≤◌, ◌+◌, ◌∙◌, [], Result, Ok, Err, length, get_or, replicate, subst, sym}
 use Rattle.std.specs.Prelude.{IfOk}
-use Rattle.stm_model.specs.declared.alg.Alg.{Alg}
-use Rattle.stm_model.specs.declared.config.Config.{Config}
-use Rattle.stm_model.specs.Histories.{IsLegal, made_by, memory_at}
-use Rattle.stm_model.specs.HistoryLaws.{Within}
-use Rattle.tx_queue.specs.Queues.{IsQueue}
-use Rattle.tx_queue.specs.Statements.{PutsLast, GetsFirst, ZerosAreEmpty}
-use Rattle.tx_start.specs.declared.memory.Answer.{Answer}
-use Rattle.tx_start.specs.declared.memory.Outcome.{Outcome}
-use Rattle.tx_start.specs.Stories.{IsStory}
+use Rattle.nekchhaul.specs.Alg.{Alg}
+use Rattle.nekchhaul.specs.Config.{Config}
+use Rattle.nekchhaul.specs.Histories.{IsLegal, made_by, memory_at}
+use Rattle.nekchhaul.specs.HistoryLaws.{Within}
+use Rattle.nekchhaul.specs.Queues.{IsQueue}
+use Rattle.nekchhaul.specs.QueueStatements.{PutsLast, GetsFirst, ZerosAreEmpty}
+use Rattle.nekchhaul.specs.Answer.{Answer}
+use Rattle.nekchhaul.specs.Outcome.{Outcome}
+use Rattle.nekchhaul.specs.Stories.{IsStory}
 use Rattle.example_jobs.specs.declared.hands.Hand.{Hand}
 use Rattle.example_jobs.specs.declared.plan.Plan.{Plan}
 use Rattle.example_jobs.specs.Days.{IsPlan, IsWhole, IsDay, queue_of}

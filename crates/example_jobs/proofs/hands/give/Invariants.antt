@@ -1,6 +1,6 @@
 use Rattle.std.proofs.Common.{◌≡◌}
-use Rattle.stm_tx.specs.Descs.{known}
-use Rattle.tx_atomic.specs.Callers.{HasWorked}
+use Rattle.nekchhaul.specs.Descs.{known}
+use Rattle.nekchhaul.specs.Callers.{HasWorked}
 use Rattle.example_jobs.proofs.hands.give.Given as goal
 
 abbrev pub invariant-loop : goal.invariant-loop

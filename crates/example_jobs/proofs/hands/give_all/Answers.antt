@@ -1,8 +1,8 @@
 use Rattle.std.proofs.Common.{◌+◌, [], ◌∷◌, ◌∙◌, refl, subst, sym}
 use Rattle.std.specs.List.{range_with_len}
 use Rattle.std.proofs.lemmas.List.{append-nil}
-use Rattle.stm_tx.specs.Descs.{known}
-use Rattle.tx_atomic.specs.CallerLaws.{worked-refl, worked-trans}
+use Rattle.nekchhaul.specs.Descs.{known}
+use Rattle.nekchhaul.specs.CallerLaws.{worked-refl, worked-trans}
 use Rattle.example_jobs.specs.Deeds.{HasDone}
 use Rattle.example_jobs.proofs.DeedLaws.{done-none, done-then, range-more}
 use Rattle.example_jobs.proofs.hands.give_all.Goals as goal

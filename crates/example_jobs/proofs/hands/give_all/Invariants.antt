@@ -1,7 +1,7 @@
 use Rattle.std.proofs.Common.{◌≡◌, []}
 use Rattle.std.specs.List.{range_with_len}
-use Rattle.stm_tx.specs.Descs.{known}
-use Rattle.tx_atomic.specs.Callers.{HasWorked}
+use Rattle.nekchhaul.specs.Descs.{known}
+use Rattle.nekchhaul.specs.Callers.{HasWorked}
 use Rattle.example_jobs.specs.Deeds.{HasDone}
 use Rattle.example_jobs.proofs.hands.give_all.Given as goal
 

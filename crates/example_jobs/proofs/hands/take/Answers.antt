@@ -1,10 +1,10 @@
 use Rattle.std.proofs.Common.{rules, ℕ, [], ◌∷◌, ◌∙◌, Option, subst}
-use Rattle.stm_tx.specs.Descs.{known, number}
-use Rattle.tx_answers.specs.Known.{no_log}
-use Rattle.tx_atomic.specs.Attempts.{TookEffect}
-use Rattle.tx_atomic.specs.CallerLaws.{worked-refl, worked-trans}
-use Rattle.tx_effects.specs.Effects.{DoesOver}
-use Rattle.tx_queue.specs.Queues.{IsQueue, got_in}
+use Rattle.nekchhaul.specs.Descs.{known, number}
+use Rattle.nekchhaul.specs.Known.{no_log}
+use Rattle.nekchhaul.specs.Attempts.{TookEffect}
+use Rattle.nekchhaul.specs.CallerLaws.{worked-refl, worked-trans}
+use Rattle.nekchhaul.specs.Effects.{DoesOver}
+use Rattle.nekchhaul.specs.Queues.{IsQueue, got_in}
 use Rattle.example_jobs.specs.Deeds.{HasDone}
 use Rattle.example_jobs.proofs.DeedLaws.{took, no-job}
 use Rattle.example_jobs.proofs.hands.take.Goals as goal

@@ -1,7 +1,7 @@
 use Rattle.std.proofs.Common.{ℕ, List, arith, [], ◌∷◌, ◌∙◌, refl, subst, sym}
 use Rattle.std.proofs.lemmas.List.{append-nil}
-use Rattle.stm_tx.specs.Descs.{known}
-use Rattle.tx_atomic.specs.CallerLaws.{worked-refl, worked-trans}
+use Rattle.nekchhaul.specs.Descs.{known}
+use Rattle.nekchhaul.specs.CallerLaws.{worked-refl, worked-trans}
 use Rattle.example_jobs.specs.Deeds.{HasDone}
 use Rattle.example_jobs.proofs.DeedLaws.{done-none, done-then}
 use Rattle.example_jobs.proofs.hands.take_share.Goals as goal

@@ -1,12 +1,12 @@
 use Rattle.std.proofs.Common.{◌≡◌, ◌≤◌, ◌+◌, [], ◌∷◌, ◌++◌, length, length-append, replicate, sym, ap, ◌∙◌, arith, subst, append_assoc}
-use Rattle.stm_model.specs.declared.config.Config.{Config}
-use Rattle.stm_model.specs.Histories.{IsLegal, made_by, memory_at}
-use Rattle.stm_rule.specs.Callers.{AllOpened}
-use Rattle.stm_rule.specs.Closings.{AllTold}
-use Rattle.tx_answers.specs.KnownLaws.{carries-refl}
-use Rattle.tx_tree.specs.Trees.{IsTree}
-use Rattle.stm_tx.specs.Descs.{known, number}
-use Rattle.tx_atomic.specs.CallerLaws.{closed-made, closed-seen, opened-made}
+use Rattle.nekchhaul.specs.Config.{Config}
+use Rattle.nekchhaul.specs.Histories.{IsLegal, made_by, memory_at}
+use Rattle.nekchhaul.specs.Handles.{AllOpened}
+use Rattle.nekchhaul.specs.Closings.{AllTold}
+use Rattle.nekchhaul.specs.KnownLaws.{carries-refl}
+use Rattle.nekchhaul.specs.Trees.{IsTree}
+use Rattle.nekchhaul.specs.Descs.{known, number}
+use Rattle.nekchhaul.specs.CallerLaws.{closed-made, closed-seen, opened-made}
 use Rattle.example_seats.specs.declared.hall.Seats.{Seats}
 use Rattle.example_seats.specs.declared.sale.TheConstants.{CONFIG, HALL}
 use Rattle.example_seats.proofs.SaleLaws.{of-two, wished}

@@ -7,7 +7,7 @@ use Rattle.rule_base.specs.GateSteps.{announce, load_gate, depart}
 use Rattle.rule_base.specs.StepKinds.{Nothing}
 use Rattle.stm_model.specs.declared.alg.Alg.{Alg}
 use Rattle.stm_rule.specs.declared.local.Local.{Local}
-use Rattle.stm_rule.specs.Attempts.{Stands, IsInside, begun, own_of, good_by, HasRoom}
+use Rattle.stm_rule.specs.Attempts.{Stands, IsInside, begun, own_of, good_by}
 use Rattle.stm_rule.specs.Callers.{Handle, handle_of}
 use Rattle.stm_rule.specs.Findings.{FindsGate}
 use Rattle.stm_rule.specs.StandLemmas.{tells-of, outside-of}
@@ -77,7 +77,7 @@ returns-in-Ok-clause-begins g c =
     (subst (λ (k : Alg). Begins good f d.number (Begun k) (known_of v.view o) (known_of w.view p)) (sym e)
     (begins-fresh good f d.number (alg_of gate) v.view w.view o p (sym (ap (λ (l : Local). l.reads.len) c.begin.ensures)) (sym (ap (λ (l : Local). l.undo.len) c.begin.ensures))
     (tells-begun good f d.number gate v.view s.view t.view p (tells-of (announce d.number) Nothing v 1 s c.announce.ensures.step) (tells-of load_gate (FindsGate f d.number) s gate t c.load_gate-gate.ensures.step)
-    c.in-Ok.start w.view d.local zero (subst (λ k. k < 2 ^ 48) c.fence_of-desc-inside.ensures.fence c.fence_of-desc-inside.ensures.fits) (c.desc.invariant.1.holds ∙ out.reopened) (ap (λ (l : Local). l.committing) c.begin.ensures, ap (λ (l : Local). cells_of l.writes.items) c.begin.ensures, ap (λ (l : Local). l.depth) c.begin.ensures, ap (λ (l : Local). l.writes.marks) c.begin.ensures, ap (λ (l : Local). l.retains) c.begin.ensures) starts)))
+    c.in-Ok.start w.view d.local zero (subst (λ k. k < 2 ^ 48) c.fence_of-desc-inside.ensures.fence c.fence_of-desc-inside.ensures.fits) (c.desc.invariant.1.holds ∙ out.reopened) (ap (λ (l : Local). l.committing) c.begin.ensures, ap (λ (l : Local). cells_of l.writes.items) c.begin.ensures, ap (λ (l : Local). l.depth) c.begin.ensures, ap (λ (l : Local). l.writes.marks) c.begin.ensures) starts)))
 
 pub returns-in-Err-clause-begins : goal.returns-in-Err-clause-begins
 returns-in-Err-clause-begins g c =
@@ -130,6 +130,6 @@ invariant_of-desc-in-Ok g c =
         empty = c.in-Ok.ensures.same.0.2 ∙ (c.load_gate-gate.ensures.same.2 ∙ (c.announce.ensures.same.2 ∙ tied.empty));
       },
       subst (λ (m : Local). Stands (good_by g.K.MemRule.good w.who.rule) w.who.config d.number m w.view) (sym c.begin.ensures)
-          (stands-in g.K.MemRule.good f c.args.stm.now.rule w.who d.number (begun a start l) w.view config value refl (free ∙ sym starts.reopened) (subst (λ (y : Who g.row.K.Denot). HasRoom y.config (begun a start l)) (sym who) c.desc.invariant.1.lengths)
+          (stands-in g.K.MemRule.good f c.args.stm.now.rule w.who d.number (begun a start l) w.view config value refl (free ∙ sym starts.reopened) c.desc.invariant.1.lengths
           (subst (λ (k : Alg). IsInside good f d.number (begun k start l) w.view) (sym e) inside)),
     )

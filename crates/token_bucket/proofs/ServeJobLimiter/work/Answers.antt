@@ -1,4 +1,4 @@
-use Rattle.tx_atomic.specs.CallerLaws.{worked-trans}
+use Rattle.nekchhaul.specs.CallerLaws.{worked-trans}
 use Rattle.token_bucket.proofs.ServeJobLimiter.work.Goals as goal
 
 pub returns-clause-worked : goal.returns-clause-worked

@@ -1,4 +1,4 @@
-use Rattle.std.proofs.Common.{◌∙◌, ap, refl, subst}
+use Rattle.std.proofs.Common.{◌∙◌, ap, arith, refl, subst}
 use Rattle.std.specs.Prelude.{All}
 use Rattle.stm_model.specs.declared.config.Config.{Config}
 use Rattle.stm_model.specs.declared.rule.AnyMem.{AnyMem}
@@ -12,4 +12,12 @@ returns-in-Ok-enlist-clause-new c =
     let members = c.in-Ok-enlist.members.items in
     let sizes = ap (λ (s : Stm AnyMem). s.config) c.in-Ok-new-2.ensures.ok ∙ c.in-Ok.ensures.stm.0 in
     let unused = subst (λ (k : Config). All (IsUnused k) members) sizes c.in-Ok-enlist.ensures.unused in
-    all-new c.in-Ok.opened.0 c.args.config c.args.alg c.install_first.new.descs.items members (c.if-not-install_first.ensures.fresh refl) c.in-Ok-enlist.ensures.descs unused
+    all-new c.in-Ok.opened.0 c.args.config c.args.alg c.install_first.new.descs.items members c.in-Ok-install_first.ensures.fresh c.in-Ok-enlist.ensures.descs unused
+
+pub install_first-requires-clause-some : goal.install_first-requires-clause-some
+install_first-requires-clause-some c =
+    let stm = c.in-Ok.opened.0 in
+    let count = c.in-Ok.ensures.descs.1 in
+    let asked = ap (λ (k : Config). k.callers) c.in-Ok.ensures.stm.0 in
+    let least = stm.ranges.callers.0 in
+    omega arith

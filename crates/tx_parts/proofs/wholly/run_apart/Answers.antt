@@ -1,8 +1,8 @@
-use Rattle.std.proofs.Common.{ℕ, ◌≡◌, List, length, sym, ap, ◌∙◌, subst, arith}
+use Rattle.std.proofs.Common.{ℕ, ◌≡◌, List, length, ap, ◌∙◌, subst, arith}
 use Rattle.std.specs.Prelude.{Some, None}
-use Rattle.stm_model.specs.Logs.{Log, Keeps}
+use Rattle.stm_model.specs.Logs.{Log}
 use Rattle.tx_parts.specs.Laying.{over}
-use Rattle.tx_parts.specs.LayingLaws.{keeps-like, goes-either}
+use Rattle.tx_parts.specs.LayingLaws.{keeps-like, keeps-more, goes-either}
 use Rattle.tx_parts.proofs.wholly.run_apart.Goals as goal
 
 pub run-came-requires-clause-shallow : goal.run-came-requires-clause-shallow
@@ -27,7 +27,7 @@ returns-in_ok-settle-in-Ok-Some-clause-comes g c =
     rw c.in-Ok-Some.field-0-is (
       (j, subst (λ (q : Log). g.P.Part.tells c.args.part.now c.args.rule.now words (Some c.in-Ok-Some.done) q j) first told, same),
       (only.0.0, same.0 ∙ only.0.1),
-      λ h. keeps-like good words j k same (kept (subst (Keeps good words) (sym first) h)),
+      λ h. keeps-like good words j k same kept,
     )
 
 pub returns-in-Ok-None-clause-comes : goal.returns-in-Ok-None-clause-comes
@@ -47,4 +47,28 @@ returns-in-Ok-None-clause-comes g c =
 pub returns-in-Ok-None-clause-goes : goal.returns-in-Ok-None-clause-goes
 returns-in-Ok-None-clause-goes g c =
     let t = c.run-came.new.memory in
-    goes-either (g.A.Access.stopped t.below) t.stopped t.room.len (g.A.Access.words t.below) c.no_room-full.result c.no_room-full.ensures.some c.no_room-full.ensures.none c.in-Ok-None.ensures.goes
+    goes-either (g.A.Access.stopped t.below) t.stopped t.room.len (g.A.Access.words t.below) _ c.no_room-full.result c.no_room-full.ensures.some c.no_room-full.ensures.none c.in-Ok-None.ensures.goes
+
+pub returns-in_ok-settle-in-Ok-Some-clause-kept : goal.returns-in_ok-settle-in-Ok-Some-clause-kept
+returns-in_ok-settle-in-Ok-Some-clause-kept g c =
+    let a = g.A.Access in
+    let t = c.run-came.new.memory in
+    let kept = rw c.in-Ok-Some.field-0-is at c.in-Ok-Some.ensures.kept in
+    keeps-like (g.K.MemRule.good c.args.rule.now) (a.words c.args.overlay.now.below) (over t.room.items (a.log t.below)) (a.log c.settle.new.self.below) c.in_ok-settle-in-Ok-Some.ensures.lays kept
+
+pub returns-in-Ok-None-clause-kept : goal.returns-in-Ok-None-clause-kept
+returns-in-Ok-None-clause-kept g c =
+    let a = g.A.Access in
+    let s = c.args.overlay.now in
+    let came = c.in-Ok-None.ensures in
+    keeps-more (g.K.MemRule.good c.args.rule.now) (a.words s.below) (a.log s.below) (a.log c.run-came.new.memory.below) (came.keeps.1.marks came.goes).2 c.requires.sound
+
+pub returns-in-Some-clause-kept : goal.returns-in-Some-clause-kept
+returns-in-Some-clause-kept g c =
+    let a = g.A.Access in
+    let s = c.args.overlay.now in
+    let full = rw c.in-Some.is at c.no_room-full.ensures.some in
+    keeps-more (g.K.MemRule.good c.args.rule.now) (a.words s.below) (a.log s.below) (a.log c.run-came.new.memory.below) (c.in-Err.ensures.keeps.1.reads full.0).1 c.requires.sound
+
+pub returns-in-Some-clause-explained : goal.returns-in-Some-clause-explained
+returns-in-Some-clause-explained g c = (rw c.in-Some.is at c.no_room-full.ensures.some).3

@@ -3,7 +3,7 @@ use Rattle.std.specs.List.{range_with_len}
 use Rattle.std.proofs.lemmas.Bool.Decides.{nat_tests}
 use Rattle.std.proofs.lemmas.Nat.{mul-le}
 use Rattle.std.proofs.Math.Nat.{suc-mul}
-use Rattle.stm_tx.specs.Descs.{known}
+use Rattle.nekchhaul.specs.Descs.{known}
 use Rattle.example_jobs.specs.declared.plan.Plan.{Plan}
 use Rattle.example_jobs.specs.Days.{IsPlan, first_job, quota}
 use Rattle.example_jobs.specs.Deeds.{HasDone}

@@ -1,8 +1,8 @@
 use Rattle.std.proofs.Common.{◌≤◌, ◌+◌, ◌-◌, ◌∙◌, [], ◌∷◌, refl, arith, rules}
-use Rattle.tx_effects.specs.EffectLaws.{same-trans}
-use Rattle.tx_effects.specs.FreshLaws.{keeps-by}
+use Rattle.nekchhaul.specs.EffectLaws.{same-trans}
+use Rattle.nekchhaul.specs.FreshLaws.{keeps-by}
 use Rattle.token_bucket.specs.Buckets.{IsFair, wished_in}
-use Rattle.tx_start.specs.WordLaws.{known, does-write, part-of-sum}
+use Rattle.nekchhaul.specs.WordLaws.{known, does-write, part-of-sum}
 use Rattle.token_bucket.proofs.BucketLaws.{out-fair}
 use Rattle.token_bucket.proofs.bucket.WishTransactionLimiter.run.Goals as goal
 

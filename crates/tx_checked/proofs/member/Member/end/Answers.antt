@@ -24,7 +24,7 @@ returns-in-Ok-clause-tells c =
     let old = c.args.words.now in
     let new = c.copy_out.new.words in
     let history = v.fenced.seen in (
-      c.in_ok-may_end.ensures.fits,
+      c.in_ok-closing.ensures.fits,
       record { stm = refl; caller = record { table = copied.same.table ∙ took.same.table; who = copied.same.who ∙ took.same.who } },
       record {
         history = history;
@@ -36,7 +36,8 @@ returns-in-Ok-clause-tells c =
         out = copied.held;
         grew = beside-trans u v w took.grew copied.grew;
         made = copied.made ∙ took.made;
-        range = c.in_ok-may_end.ensures.none;
+        range = c.in_ok-closing.ensures.none;
+        stand = refl;
         refusal = refl;
       },
     )

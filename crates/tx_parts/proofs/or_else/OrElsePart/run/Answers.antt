@@ -1,8 +1,8 @@
-use Rattle.std.proofs.Common.{ℕ, List, ◌≡◌, ◌++◌, sym, ap, ◌∙◌, subst, inr, rules}
+use Rattle.std.proofs.Common.{ℕ, List, ◌≡◌, ◌+◌, ◌++◌, sym, ap, ◌∙◌, subst, inr, rules}
 use Rattle.std.specs.Prelude.{None}
 use Rattle.stm_model.specs.Logs.{Log, Keeps}
 use Rattle.tx_parts.specs.Laying.{ReadsMore, OnlyReads, EitherTells, back_to}
-use Rattle.tx_parts.specs.LayingLaws.{keeps-more, answer-then, ok-then}
+use Rattle.tx_parts.specs.LayingLaws.{keeps-more, answer-then, ok-then, room-second}
 use Rattle.tx_parts.proofs.or_else.OrElsePart.run.Goals as goal
 
 pub returns-clause-tells : goal.returns-clause-tells
@@ -34,21 +34,38 @@ returns-clause-tells g c =
       subst (λ (l : Log). g.Q.Part.tells c.args.self.now.second c.args.rule.now (g.N.Access.words z0) o l (log z4)) from (subst (λ (w : ℕ). g.Q.Part.tells c.args.self.now.second c.args.rule.now w o (log z3) (log z4)) words t),
     ))
 
-pub returns-clause-kept : goal.returns-clause-kept
-returns-clause-kept g c =
+pub run-requires-2-clause-sound : goal.run-requires-2-clause-sound
+run-requires-2-clause-sound g c =
     let log = g.N.Access.log in
+    let words = g.N.Access.words in
     let z0 = c.args.memory.now in
     let z1 = c.mark.new.self in
     let z2 = c.run.new.memory in
     let z3 = c.roll_back.new.self in
-    let z4 = c.run-2.new.memory in
     let good = g.K.MemRule.good c.args.rule.now in
     let kept = c.in_ok-done.ensures.keeps in
-    let words : g.N.Access.words z3 ≡ g.N.Access.words z0 = c.roll_back.ensures.words ∙ (g.met.N.Nesting.keeps_words z1 z2 kept ∙ c.mark.ensures.words) in
+    let same : words z3 ≡ words z0 = c.roll_back.ensures.words ∙ (g.met.N.Nesting.keeps_words z1 z2 kept ∙ c.mark.ensures.words) in
     let more = g.met.N.Nesting.keeps_reads z1 z2 kept c.in_ok-done.ensures.goes in
-    let reads : ReadsMore (log z0) (log z3) = (more.0, c.roll_back.ensures.reads ∙ (more.1 ∙ ap (λ (l : Log). l.reads ++ more.0) c.mark.ensures.log)) in
-    let only : OnlyReads (log z0) (log z3) = (reads, c.roll_back.ensures.writes z0 z1 c.mark.ensures.opens kept) in
-    answer-then c.run-2.result (λ r. Keeps good (g.N.Access.words z3) (log z3) → Keeps good (g.N.Access.words z3) (log z4))
-    (λ r. Keeps good (g.N.Access.words z0) (log z0) → Keeps good (g.N.Access.words z0) (log z4))
-    c.run-2.ensures.kept
-    (λ r f k. subst (λ (w : ℕ). Keeps good w (log z4)) words (f (subst (λ (w : ℕ). Keeps good w (log z3)) (sym words) (keeps-more good (g.N.Access.words z0) (log z0) (log z3) only k))))
+    let only : OnlyReads (log z0) (log z3) = ((more.0, c.roll_back.ensures.reads ∙ (more.1 ∙ ap (λ (l : Log). l.reads ++ more.0) c.mark.ensures.log)), c.roll_back.ensures.writes z0 z1 c.mark.ensures.opens kept) in
+    subst (λ (w : ℕ). Keeps good w (log z3)) (sym same) (keeps-more good (words z0) (log z0) (log z3) only c.requires.sound)
+
+pub run-requires-2-clause-shallow : goal.run-requires-2-clause-shallow
+run-requires-2-clause-shallow g c =
+    let z0 = c.args.memory.now in
+    let z1 = c.mark.new.self in
+    let z3 = c.roll_back.new.self in
+    let same = g.met.N.Nesting.keeps_depth z0 z3 (c.roll_back.ensures.keeps z0 z1 c.mark.ensures.opens c.in_ok-done.ensures.keeps) c.roll_back.ensures.goes in
+    let s = c.requires.shallow in
+    room-second (g.N.Nesting.depth z0) (g.N.Nesting.depth z3) (g.P.Part.depth c.args.self.now.first + 1) (g.Q.Part.depth c.args.self.now.second) _ same s
+
+pub returns-clause-kept : goal.returns-clause-kept
+returns-clause-kept g c =
+    let words = g.N.Access.words in
+    let z0 = c.args.memory.now in
+    let z1 = c.mark.new.self in
+    let z2 = c.run.new.memory in
+    let z3 = c.roll_back.new.self in
+    let good = g.K.MemRule.good c.args.rule.now in
+    let same : words z3 ≡ words z0 = c.roll_back.ensures.words ∙ (g.met.N.Nesting.keeps_words z1 z2 c.in_ok-done.ensures.keeps ∙ c.mark.ensures.words) in
+    answer-then c.run-2.result (λ r. Keeps good (words z3) (g.N.Access.log c.run-2.new.memory)) (λ r. Keeps good (words z0) (g.N.Access.log c.run-2.new.memory)) c.run-2.ensures.kept
+    (λ r k. subst (λ (w : ℕ). Keeps good w (g.N.Access.log c.run-2.new.memory)) same k)

@@ -14,7 +14,8 @@ invariant_of-self g c =
     record {
       passes = λ e. c.in-Ok.ensures.goes ∙ sym going;
       goes = λ e. not-crowded s.room.len s.stopped (c.self.invariant.goes e).1 going;
-      short = λ e. not-crowded s.room.len s.stopped (c.self.invariant.goes e).1 going;
+      full = λ e. not-crowded s.room.len s.stopped (c.self.invariant.goes e).1 going;
+      knew = λ e. not-crowded s.room.len s.stopped (c.self.invariant.goes e).1 going;
       seen = λ e. c.in-Ok.ensures.explained;
       within = subst (λ (l : LogState). Within (a.words b) (firsts l.items)) (sym c.clear.ensures) tt;
     }
@@ -27,7 +28,8 @@ invariant_of-self-in-Err g c =
     record {
       passes = λ e. c.in-Err.ensures.stops;
       goes = λ e. not-crowded s.room.len s.stopped (c.self.invariant.goes e).1 going;
-      short = λ e. not-crowded s.room.len s.stopped (c.self.invariant.goes e).1 going;
+      full = λ e. not-crowded s.room.len s.stopped (c.self.invariant.goes e).1 going;
+      knew = λ e. not-crowded s.room.len s.stopped (c.self.invariant.goes e).1 going;
       seen = λ e. absurd (no-stop (Some c.in-Err.stop) c.in-Err.stop refl e);
       within = subst (λ (n : ℕ). Within n (firsts s.room.items)) (sym c.write_through.ensures.words) c.self.invariant.within;
     }

@@ -1,9 +1,9 @@
-use Rattle.std.proofs.Common.{ℕ, ◌<◌, length, sym, ap, subst, rules}
+use Rattle.std.proofs.Common.{ℕ, ◌≡◌, ◌<◌, sym, ap, ◌∙◌, subst, rules}
+use Rattle.std.specs.Prelude.{None}
 use Rattle.stm_model.specs.Logs.{Writes}
 use Rattle.tx_logs.specs.LogStates.{LogState, firsts}
-use Rattle.tx_parts.specs.Laying.{over, Top, IsFull, Within}
-use Rattle.tx_parts.specs.LayingLaws.{writes-top, within-put}
-use Rattle.tx_parts.proofs.RoomLaws.{room-left}
+use Rattle.tx_parts.specs.Laying.{over, Top, IsFull, Overflows, Within}
+use Rattle.tx_parts.specs.LayingLaws.{writes-top, within-put, not-crowded}
 use Rattle.tx_parts.proofs.overlay.OverlayAccess.write.Goals as goal
 
 pub invariant_of-self : goal.invariant_of-self
@@ -11,12 +11,14 @@ invariant_of-self g c =
     let i = c.self.invariant in
     let s = c.self.inside in
     let words = g.A.Access.words s.below in
+    let going : s.stopped ≡ None = ap (λ (t : Top g.row.A.Denot). t.stopped) c.self.view_is ∙ c.requires.going in
     let is = c.in-Done.ensures.1 in
     let low : c.args.a < words = subst (λ (t : Top g.row.A.Denot). c.args.a < g.A.Access.words t.below) (sym c.self.view_is) c.requires.within in
     record {
       passes = i.passes;
       goes = λ e. ((i.goes e).0, subst (λ (n : ℕ). IsFull n s.stopped) (sym (ap (λ (l : LogState). l.len) is)) (i.goes e).1);
-      short = λ e. subst (λ (n : ℕ). n < words) (sym (ap (λ (l : LogState). l.len) is)) (i.short e);
+      full = λ e. not-crowded s.room.len s.stopped (i.goes e).1 going;
+      knew = i.knew;
       seen = i.seen;
       within = subst (λ (l : LogState). Within words (firsts l.items)) (sym is) (within-put words c.args.a c.args.v s.room.items low i.within);
     }
@@ -26,14 +28,15 @@ invariant_of-self-in-Full g c =
     let i = c.self.invariant in
     let s = c.self.inside in
     let words = g.A.Access.words s.below in
+    let going : s.stopped ≡ None = ap (λ (t : Top g.row.A.Denot). t.stopped) c.self.view_is ∙ c.requires.going in
     let f = c.in-Full.ensures in
     let low : c.args.a < words = subst (λ (t : Top g.row.A.Denot). c.args.a < g.A.Access.words t.below) (sym c.self.view_is) c.requires.within in
-    let less : length s.room.items < words = room-left words c.args.a s.room.items low i.within c.count-count.ensures.once f.0 in
-    let short : c.push.new.self.len < words = subst (λ (l : LogState). l.len < words) (sym f.3) (subst (λ (n : ℕ). n < words) f.1 less) in
+    let full : Overflows words c.push.new.self.len c.push.new.self.items = subst (λ (l : LogState). Overflows words l.len l.items) (sym f.3) (f.1, c.args.a, low, f.0) in
     record {
       passes = search rules;
       goes = search rules;
-      short = λ e. short;
+      full = λ e. full;
+      knew = λ e. i.seen going;
       seen = search rules;
       within = search rules;
     }

@@ -1,4 +1,4 @@
-use Rattle.std.proofs.Common.{ℕ, ◌≡◌, sym, subst, inl, inr, rules}
+use Rattle.std.proofs.Common.{ℕ, ◌≡◌, subst, inl, inr, rules}
 use Rattle.std.specs.Prelude.{Some, None}
 use Rattle.stm_model.specs.Logs.{Keeps}
 use Rattle.tx_parts.proofs.then.ThenPart.run.Goals as goal
@@ -38,9 +38,8 @@ returns-clause-kept g c =
     let z2 = c.run-2.new.memory in
     let good = g.K.MemRule.good c.args.rule.now in
     let same : words z1 ≡ words z0 = g.met.N.Nesting.keeps_words z0 z1 c.in_ok-first.ensures.keeps in
-    let one : Keeps good (words z0) (log z0) → Keeps good (words z0) (log z1) = search (rules, c.in_ok-first.ensures.kept) in
-    let two : Keeps good (words z1) (log z1) → Keeps good (words z1) (log z2) = search (rules, c.in_ok-second.ensures.kept) in
-    λ h. subst (λ (w : ℕ). Keeps good w (log z2)) same (two (subst (λ (w : ℕ). Keeps good w (log z1)) (sym same) (one h)))
+    let two : Keeps good (words z1) (log z2) = search (rules, c.in_ok-second.ensures.kept) in
+    subst (λ (w : ℕ). Keeps good w (log z2)) same two
 
 pub returns-clause-tells : goal.returns-clause-tells
 returns-clause-tells g c =

@@ -1,0 +1,15 @@
+use Rattle.std.proofs.Common.{refl, inr}
+use Rattle.rule_orec.specs.OrecSteps.{orec_begin}
+use Rattle.stm_rule.specs.Kept.{good_of}
+use Rattle.stm_rule.specs.StandLemmas.{tells-of}
+use Rattle.steps_orec.specs.RecordFindings.{FindsStart}
+use Rattle.alg_orec.proofs.EagerLaws.{tells-started}
+use Rattle.alg_orec.proofs.RecordReads.{may-begin}
+use Rattle.alg_orec.proofs.orec_eager.OrecEagerAlgorithm.begin.Goals as goal
+
+pub begin-requires-clause-view : goal.begin-requires-clause-view
+begin-requires-clause-view g c = may-begin _ (inr refl) c.args.seat.now.me.0.view c.requires.view
+
+pub returns-clause-begins : goal.returns-clause-begins
+returns-clause-begins g c = tells-started (g.K.MemRule.good c.args.stm.now.rule) _ c.args.caller _ c.requires.view _ _
+    (tells-of orec_begin (FindsStart (good_of g.K.MemRule.good c.args.stm.now.config c.args.stm.now.rule) c.args.stm.now.config) _ _ _ c.begin.ensures.step)

@@ -1,0 +1,11 @@
+use Rattle.mailbox.proofs.OrderLaws.{takes-receive, come-in-order, come-once}
+use Rattle.mailbox.proofs.laws.messages_come_in_order.Goals as goal
+
+pub returns-clause-receive : goal.returns-clause-receive
+returns-clause-receive c = takes-receive
+
+pub returns-clause-order : goal.returns-clause-order
+returns-clause-order c = come-in-order
+
+pub returns-clause-once : goal.returns-clause-once
+returns-clause-once c = come-once

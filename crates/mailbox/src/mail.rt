@@ -1,0 +1,94 @@
+//! The mailbox: its rule, and its parts.
+
+use stm_model::rule::MemRule;
+use stm_model::stop::Stop;
+use tx_parts::nesting::Nesting;
+use tx_parts::part::Part;
+use tx_queue::laws::{contents_change, queues_are_apart};
+use tx_queue::queue::{Put, Queue};
+
+/// A mailbox of two queues with so many cells each: the urgent messages, and behind their words the others.
+///
+/// As a rule: both are well formed.
+#[derive(Clone, Copy, Drop, Debug, PartialEq, Eq)]
+pub struct Mailbox {
+    pub cells: usize,
+}
+
+impl MemRule for Mailbox {
+    ghost use Rattle.mailbox.specs.Mail.{IsMailbox};
+
+    ghost good = { λ mailbox memory. IsMailbox mailbox memory };
+}
+
+impl Mailbox {
+    ghost use Rattle.std.specs.Prelude.{◌≡◌, ◌<◌, ◌^◌, ◌+◌, ℕ};
+    ghost use Rattle.mailbox.specs.Mail.{queue_of, Fits};
+
+    /// The queue of the urgent messages, or of the others.
+    pub fn queue(&self, urgent: bool) -> Queue
+        requires fits { self.now.cells + 2 < 2 ^ 64 }
+        ensures { result ≡ queue_of self.now urgent }
+    {
+        if urgent {
+            Queue::new(0, self.cells)
+        } else {
+            Queue::new(self.cells + 2, self.cells)
+        }
+    }
+}
+
+/// Puts a message behind the others of its kind. It gives way where there is no room.
+#[derive(Clone, Copy, Drop, Debug, PartialEq, Eq)]
+pub struct Post {
+    pub urgent: bool,
+    pub message: u32,
+}
+
+impl Part<Mailbox> for Post {
+    ghost use Rattle.tx_parts.specs.ToldLaws.{Told};
+    ghost use Rattle.mailbox.specs.Mail.{IsMailbox, Fits, Posts};
+
+    type Output = ();
+
+    ghost fits = { λ it mailbox words. Fits mailbox words };
+
+    ghost depth = { λ it. 0 };
+
+    ghost tells = { λ it mailbox words came before after. Told (IsMailbox mailbox) words (Posts mailbox it.urgent it.message came) before after };
+
+    fn run<N: Nesting>(&self, mailbox: &Mailbox, memory: &mut N) -> Result<Option<()>, Stop> {
+        contents_change();
+        queues_are_apart();
+        match mailbox.queue(self.urgent).put(memory, self.message)? {
+            Put::Added => Ok(Some(())),
+            Put::NoRoom => Ok(None),
+        }
+    }
+}
+
+/// Takes the first message of a kind out. It gives way where there is none.
+#[derive(Clone, Copy, Drop, Debug, PartialEq, Eq)]
+pub struct Take {
+    pub urgent: bool,
+}
+
+impl Part<Mailbox> for Take {
+    ghost use Rattle.tx_parts.specs.ToldLaws.{Told};
+    ghost use Rattle.mailbox.specs.Mail.{IsMailbox, Fits, Takes};
+
+    type Output = u32;
+
+    ghost fits = { λ it mailbox words. Fits mailbox words };
+
+    ghost depth = { λ it. 0 };
+
+    ghost tells = { λ it mailbox words came before after. Told (IsMailbox mailbox) words (Takes mailbox it.urgent came) before after };
+
+    fn run<N: Nesting>(&self, mailbox: &Mailbox, memory: &mut N) -> Result<Option<u32>, Stop> {
+        contents_change();
+        queues_are_apart();
+        let message = mailbox.queue(self.urgent).get(memory)?;
+        Ok(message)
+    }
+}

@@ -1,0 +1,7 @@
+use Rattle.stm_rule.specs.CoreRuns.CoreStep.{direct_ups}
+use Rattle.rule_base.specs.StepKinds.{Nothing}
+use Rattle.steps_orec.specs.Picking.{record_of}
+use Rattle.steps_orec.proofs.promoting.direct_release_above.Given as goal
+
+abbrev pub ghosts-store_as : goal.ghosts-store_as
+ghosts-store_as g a = record { step = direct_ups (record_of a.at) a.said.now.1; shows = Nothing; caller = a.said.now.0 }

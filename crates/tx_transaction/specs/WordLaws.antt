@@ -1,0 +1,78 @@
+-- Laws for a transaction that reads some words and then writes some: from its calls to what it promises.
+use Rattle.std.proofs.Common.{ℕ, ◌≡◌, ◌<◌, ◌≤◌, ◌+◌, ◌∙◌, List, [], ◌∷◌, length, get_or, set, take, sum, sym, ap, arith, subst, length-take-le, get_or-take}
+use Rattle.std.proofs.lemmas.List.Sums.{sum_by-set, get_or-le-sum_by}
+use Rattle.std.proofs.Math.Seq.{take-set-lt}
+use Rattle.stm_model.specs.Logs.{Log, Reads, Writes, SameMemories, IsExplained}
+use Rattle.stm_model.specs.Memories.{overlay, written, Explains}
+use Rattle.stm_model.specs.Overlays.{reads-see}
+use Rattle.tx_effects.specs.Effects.{Effect, unchanged, changed, DoesOver, Shows, Turns}
+use Rattle.tx_effects.specs.EffectLaws.{does-stay, does-change, turns-write, turns-then}
+use Rattle.tx_effects.specs.FreshLaws.{nothing, IsSound, sound-first, has-effect}
+
+-- one call after the other: each read is of a word of the memory, and found this
+abbrev pub AllRead : ℕ → Log → List (ℕ × ℕ) → Log → Type 0
+AllRead words l [] k = l ≡ k
+AllRead words l (r ∷ rs) k = (r.0 < words) × (j : Log) × Reads l r.0 r.1 j × AllRead words j rs k
+
+abbrev pub AllWritten : Log → List (ℕ × ℕ) → Log → Type 0
+AllWritten l [] k = l ≡ k
+AllWritten l (w ∷ ws) k = (j : Log) × Writes l w.0 w.1 j × AllWritten j ws k
+
+only-read : (words : ℕ) (l : Log) (rs : List (ℕ × ℕ)) (k : Log) → AllRead words l rs k → k.writes ≡ l.writes
+only-read words l [] k read = ap (λ (j : Log). j.writes) (sym read)
+only-read words l (r ∷ rs) k read = only-read words read.1 rs k read.3 ∙ read.2.0
+
+-- what explains the log after reads has what they found
+found : (words : ℕ) (m : List ℕ) (l : Log) (rs : List (ℕ × ℕ)) (k : Log) → length m ≡ words → AllRead words l rs k → Explains m k.reads → Explains m l.reads × Explains (overlay m l.writes) rs
+found words m l [] k len read ex = (subst (λ (j : Log). Explains m j.reads) (sym read) ex, tt)
+found words m l (r ∷ rs) k len read ex =
+    let more = found words m read.1 rs k len read.3 ex in
+    let here = reads-see m l r.0 r.1 read.1 (subst (λ n. r.0 < n) (sym len) read.0) read.2 more.0 in
+    (here.0, (here.1, subst (λ ws. Explains (overlay m ws) rs) read.2.0 more.1))
+
+turns-all : (l : Log) (w : ℕ × ℕ) (ws : List (ℕ × ℕ)) (k : Log) → AllWritten l (w ∷ ws) k → Turns l k (λ m. written m (w ∷ ws))
+turns-all l w [] k wrote = subst (λ (j : Log). Turns l j (λ m. set m w.0 w.1)) wrote.2 (turns-write l wrote.0 w.0 w.1 wrote.1)
+turns-all l w (x ∷ ws) k wrote = turns-then l wrote.0 k (λ m. set m w.0 w.1) (λ m. written m (x ∷ ws)) (turns-write l wrote.0 w.0 w.1 wrote.1) (turns-all wrote.0 x ws k wrote.2)
+
+-- an attempt that had done nothing, under the rule, read these words
+module _ (rule good : List ℕ → Type 0) (words : ℕ) (same : SameMemories good rule) (l : Log) (fresh : l ≡ nothing) (rs : List (ℕ × ℕ)) (k : Log) (read : AllRead words l rs k) where
+  shows : Shows good words l k (λ m. Explains m rs)
+  shows = λ m g len ex. found words m l rs k len read ex
+
+  -- what is so of each memory under the rule that has these words is so
+  pub known : (good' : List ℕ → Type 0) (words' : ℕ) → SameMemories good good' → words' ≡ words → IsExplained good' words' k → (Q : Type 0) → ((m : List ℕ) → IsSound rule words m → Explains m rs → Q) → Q
+  known good' words' also count seen Q then =
+      let fine = (also seen.0).1 seen.1 in
+      let len = seen.2 ∙ count in
+      let s = shows seen.0 fine len seen.3 in
+      then (overlay seen.0 l.writes) (sound-first rule good words same l fresh seen.0 fine len s.0) s.1
+
+  -- where nothing was written
+  pub does-read : {A : Type 0} (effect : List ℕ → Effect A) (reply : A) → ((m : List ℕ) → IsSound rule words m → Explains m rs → effect m ≡ unchanged reply m) → DoesOver rule words effect nothing reply k
+  does-read effect reply is =
+      has-effect rule good words same l fresh effect reply k
+      (does-stay good words l effect k reply (IsSound rule words) (sound-first rule good words same l fresh) (only-read words l rs k read) (λ m. Explains m rs) shows is)
+
+  -- and where these words were written then
+  pub does-write : {A : Type 0} (effect : List ℕ → Effect A) (reply : A) (w : ℕ × ℕ) (ws : List (ℕ × ℕ)) (j : Log) → AllWritten k (w ∷ ws) j
+      → ((m : List ℕ) → IsSound rule words m → Explains m rs → effect m ≡ changed reply (written m (w ∷ ws))) → DoesOver rule words effect nothing reply j
+  does-write effect reply w ws j wrote is =
+      has-effect rule good words same l fresh effect reply j
+      (does-change good words l effect k j reply (IsSound rule words) (sound-first rule good words same l fresh) (only-read words l rs k read) (λ m. Explains m rs) shows (λ m. written m (w ∷ ws)) (turns-all k w ws j wrote) is)
+
+-- a word of the first n is a part of their sum, which a write of it changes by as much
+module _ (m : List ℕ) (n a : ℕ) (lt : a < n) (le : n ≤ length m) where
+  at : get_or (take n m) a 0 ≡ get_or m a 0
+  at = get_or-take n m a 0 lt
+
+  long : length (take n m) ≡ n
+  long = length-take-le n m le
+
+  pub part-of-sum : get_or m a 0 ≤ sum (take n m)
+  part-of-sum = let part = get_or-le-sum_by (λ x. x) (take n m) a 0 (omega (arith, long, lt)) in omega (arith, part, at)
+
+  pub sum-set : (v : ℕ) → sum (take n (set m a v)) + get_or m a 0 ≡ sum (take n m) + v
+  sum-set v =
+      let same : sum (take n (set m a v)) ≡ sum (set (take n m) a v) = ap sum (take-set-lt n m a v lt) in
+      let moved = sum_by-set (λ x. x) (take n m) a v 0 (omega (arith, long, lt)) in
+      omega (arith, same, moved, at)
