@@ -39,5 +39,5 @@ commit-requires-clause-keeps c =
 pub returns-in-Again-clause-idle : goal.returns-in-Again-clause-idle
 returns-in-Again-clause-idle c =
     let again = c.in-Again.ensures.commits in
-    let revocable = still-revocable (known c.if-has_room.desc) (known c.commit.new.desc) again.0.continues.alg again.0.granted again.2 again.6 in
+    let revocable = still-revocable (known c.if-has_room.desc) (known c.commit.new.desc) again.0.continues.alg again.0.granted again.2 again.7 in
     cancels-idle (HasRoom c.args.stm.now.rule.room) c.args.stm.now.config (number c.commit.new.desc) c.cancel.result (known c.commit.new.desc) (known c.cancel.new.desc) revocable c.cancel.ensures.cancels
