@@ -9,11 +9,12 @@ use stm_model::stop::Cause;
 use tx_atomic::observer::Observer;
 use tx_atomic::tally::Ended;
 
-const WORKLOADS: [Workload; 4] = [
+const WORKLOADS: [Workload; 5] = [
     Workload::Bank,
     Workload::Hash,
     Workload::List,
     Workload::Count,
+    Workload::Sum,
 ];
 
 #[test]
@@ -27,11 +28,14 @@ fn each_memory_is_right(rt: HostRuntime) -> Result<(), Fail> {
                 count: 100,
                 seed: 5,
                 reads: 2_048,
+                switches: 4,
                 conflicts: true,
             };
             let report = run(&rt, rt.alloc(), &plan)?;
             assert!(rt; report.right);
             assert_eq!(rt; report.tally.commits, 100);
+            assert_eq!(rt; report.looks.switches, 4);
+            assert!(rt; report.looks.all >= 4);
         }
     }
     Ok(())
@@ -47,6 +51,7 @@ fn a_sum_past_the_log_is_promoted(rt: HostRuntime) -> Result<(), Fail> {
         count: 2_000,
         seed: 5,
         reads: 256,
+        switches: 0,
         conflicts: false,
     };
     let report = run(&rt, rt.alloc(), &plan)?;
@@ -63,6 +68,7 @@ const PLAN: Plan = Plan {
     count: 1_000,
     seed: 7,
     reads: 2_048,
+    switches: 0,
     conflicts: false,
 };
 
@@ -96,6 +102,17 @@ const LINES: &[(&[&str], Option<Plan>)] = &[
             conflicts: true,
             ..PLAN
         }),
+    ),
+    (
+        &["stm_perf", "bank", "TML", "4", "1000", "7", "switches", "9"],
+        Some(Plan {
+            switches: 9,
+            ..PLAN
+        }),
+    ),
+    (
+        &["stm_perf", "bank", "TML", "4", "1000", "7", "switches"],
+        None,
     ),
     (&["stm_perf", "bank", "TML", "33", "1000", "7"], None),
     (&["stm_perf", "bank", "TML", "4", "0", "7"], None),

@@ -5,16 +5,16 @@ use Rattle.std.proofs.lemmas.List.{length-replicate, take-set-le}
 use Rattle.std.proofs.lemmas.List.Sums.{sum_by-set, get_or-le-sum_by, sum_by_more, sum_by_more_le}
 use Rattle.std.proofs.Math.ListN.{length-set}
 use Rattle.std.proofs.Math.Seq.{take-set-lt}
-use Rattle.stm_model.specs.declared.config.Config.{Config}
-use Rattle.stm_model.specs.HistoryLaws.{length-memory_at}
-use Rattle.stm_model.specs.Logs.{Log, Reads, Writes, SameMemories, IsExplained, Keeps}
-use Rattle.stm_model.specs.Memories.{overlay}
-use Rattle.stm_rule.specs.Callers.{Handle}
-use Rattle.stm_rule.specs.Closings.{Closes, Ended}
-use Rattle.tx_answers.specs.Known.{no_log}
-use Rattle.tx_effects.specs.Effects.{Effect, unchanged, changed, Under, Shows, DoesOver}
-use Rattle.tx_effects.specs.EffectLaws.{shows-read, shown, does-stay, does-change, turns-write, turns-then}
-use Rattle.tx_effects.specs.FreshLaws.{sound-first, has-effect}
+use Rattle.nekchhaul.specs.Config.{Config}
+use Rattle.nekchhaul.specs.HistoryLaws.{length-memory_at}
+use Rattle.nekchhaul.specs.Logs.{Log, Reads, Writes, SameMemories, IsExplained, Keeps}
+use Rattle.nekchhaul.specs.Memories.{overlay}
+use Rattle.nekchhaul.specs.Handles.{Handle}
+use Rattle.nekchhaul.specs.Closings.{Closes, Ended}
+use Rattle.nekchhaul.specs.Known.{no_log}
+use Rattle.nekchhaul.specs.Effects.{Effect, unchanged, changed, Under, Shows, DoesOver}
+use Rattle.nekchhaul.specs.EffectLaws.{shows-read, shown, does-stay, does-change, turns-write, turns-then}
+use Rattle.nekchhaul.specs.FreshLaws.{sound-first, has-effect}
 use Rattle.example_bank.specs.declared.bank.Bank.{Bank}
 use Rattle.example_bank.specs.Banks.{balances, paid_in, IsBalanced, HasEffect, opened_in, moved_in, audited_in}
 

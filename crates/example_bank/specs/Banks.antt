@@ -1,8 +1,8 @@
 -- A bank in a memory, and what its transactions do.
 use Rattle.std.specs.Prelude.{ℕ, ◌≡◌, ◌<◌, ◌+◌, ◌-◌, ◌⊎◌, Bool, true, false, if◌then◌else◌, leb, List, take, sum, slice_index, slice_set}
-use Rattle.stm_model.specs.Logs.{Log}
-use Rattle.tx_answers.specs.Known.{no_log}
-use Rattle.tx_effects.specs.Effects.{Effect, unchanged, changed, DoesOver}
+use Rattle.nekchhaul.specs.Logs.{Log}
+use Rattle.nekchhaul.specs.Known.{no_log}
+use Rattle.nekchhaul.specs.Effects.{Effect, unchanged, changed, DoesOver}
 use Rattle.example_bank.specs.declared.bank.Bank.{Bank}
 
 -- the balances of the accounts, which are the first words

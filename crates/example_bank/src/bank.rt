@@ -1,7 +1,6 @@
 //! A bank: its rule, and its three transactions.
 
-use stm_tx::{Access, MemRule, Stop};
-use tx_atomic::transaction::Transaction;
+use nekchhaul::{Access, MemRule, Stop, Transaction};
 
 /// A bank with so many accounts and this capital. Its memory has a word for each balance, and one more for what was
 /// paid in.

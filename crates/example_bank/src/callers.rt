@@ -1,14 +1,11 @@
 //! What callers do.
 ghost use Rattle.std.specs.Prelude.{◌≡◌, ◌⊎◌};
-ghost use Rattle.tx_atomic.specs.Callers.{IsReady, IsThrough};
+ghost use Rattle.nekchhaul.specs.Callers.{IsReady, IsThrough};
 ghost use Rattle.example_bank.specs.Banks.{Fits};
 
 use crate::bank::{Audit, Bank, Open, Transfer};
+use nekchhaul::{Alg, Desc, Pace, Stm, atomically, switch_to};
 use std::sync::Wait;
-use stm_tx::{Alg, Desc, Stm};
-use tx_atomic::atomically::atomically;
-use tx_atomic::pace::Pace;
-use tx_atomic::switching::switch_to;
 
 /// How often each caller moves money, and how often the auditor adds it up.
 const TRANSFERS: usize = 1_000;

@@ -7,8 +7,8 @@ mod callers;
 mod run;
 
 use crate::run::run;
+use nekchhaul::ALGORITHMS;
 use std::process::ExitCode;
-use stm_tx::ALGORITHMS;
 
 fn main(rt: HostRuntime) -> ExitCode {
     for alg in ALGORITHMS {

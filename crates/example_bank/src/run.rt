@@ -1,17 +1,17 @@
 //! The bank from its opening to its close.
 ghost use Rattle.std.specs.Prelude.{◌≡◌, ◌<◌, ◌+◌, ◌⊎◌, ℕ, false, length, slice_index_or, sum, All, IfOk};
-ghost use Rattle.stm_rule.specs.Callers.{Handle};
-ghost use Rattle.tx_atomic.specs.Callers.{AllReady, IsReady, IsThrough};
+ghost use Rattle.nekchhaul.specs.Handles.{Handle};
+ghost use Rattle.nekchhaul.specs.Callers.{AllReady, IsReady, IsThrough};
 ghost use Rattle.example_bank.specs.declared.bank.Bank.{Bank};
 ghost use Rattle.example_bank.specs.Banks.{Fits, IsBalanced, balances};
 
 use crate::bank::Bank;
 use crate::callers::{audit, work};
+use nekchhaul::{Alg, Config, Desc, NewError, Stm, close};
 use std::alloc::Global;
 use std::sync::Wait;
 use std::thread;
 use std::thread::Threads;
-use stm_tx::{Alg, Config, Desc, NewError, Stm, close};
 
 const BANK: Bank = Bank {
     accounts: 8,

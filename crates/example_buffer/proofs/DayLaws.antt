@@ -1,15 +1,15 @@
 -- What a look is told, what a filling leaves, and where a look stands in the day's history.
 use Rattle.std.proofs.Common.{ℕ, ◌≡◌, ◌≤◌, List, [], ◌∷◌, Option, Some, None, IfSome, length, refl, sym, ap, ◌∙◌, arith, subst}
 use Rattle.std.specs.Prelude.{slice_index}
-use Rattle.stm_model.specs.declared.config.Config.{Config}
-use Rattle.stm_model.specs.Histories.{Entry, memory_at}
-use Rattle.stm_model.specs.Logs.{Log, Reads, Keeps, IsExplained}
-use Rattle.stm_model.specs.Memories.{overlay, Explains}
-use Rattle.stm_rule.specs.Callers.{BeginsHistory}
-use Rattle.tx_answers.specs.Known.{Known, Grows, no_log}
-use Rattle.tx_atomic.specs.Attempts.{TookEffect}
-use Rattle.tx_atomic.specs.Moments.{Happened}
-use Rattle.tx_atomic.specs.MomentLaws.{happened}
+use Rattle.nekchhaul.specs.Config.{Config}
+use Rattle.nekchhaul.specs.Histories.{Entry, memory_at}
+use Rattle.nekchhaul.specs.Logs.{Log, Reads, Keeps, IsExplained}
+use Rattle.nekchhaul.specs.Memories.{overlay, Explains}
+use Rattle.nekchhaul.specs.Handles.{BeginsHistory}
+use Rattle.nekchhaul.specs.Known.{Known, Grows, no_log}
+use Rattle.nekchhaul.specs.Attempts.{TookEffect}
+use Rattle.nekchhaul.specs.Moments.{Happened}
+use Rattle.nekchhaul.specs.MomentLaws.{happened}
 use Rattle.example_buffer.specs.declared.buffer.Sight.{Sight}
 use Rattle.example_buffer.specs.declared.day.TheConstants.{CONFIG}
 use Rattle.example_buffer.specs.Fillings.{IsFilling, Saw, SeenWhole, filling, writes_of}

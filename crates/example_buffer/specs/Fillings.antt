@@ -1,9 +1,9 @@
 -- The buffer and its fillings, and what a day comes to.
 use Rattle.std.specs.Prelude.{ℕ, ◌≡◌, ◌≤◌, List, [], ◌∷◌, replicate, slice_index, IfSome}
-use Rattle.stm_model.specs.Histories.{Entry, IsLegal, memory_at}
-use Rattle.stm_model.specs.HistoryLaws.{Within}
-use Rattle.stm_model.specs.Logs.{Log}
-use Rattle.stm_model.specs.Memories.{Explains}
+use Rattle.nekchhaul.specs.Histories.{Entry, IsLegal, memory_at}
+use Rattle.nekchhaul.specs.HistoryLaws.{Within}
+use Rattle.nekchhaul.specs.Logs.{Log}
+use Rattle.nekchhaul.specs.Memories.{Explains}
 use Rattle.example_buffer.specs.declared.buffer.Sight.{Sight}
 use Rattle.example_buffer.specs.declared.day.Day.{Day}
 

@@ -1,7 +1,6 @@
 //! A buffer: its rule, and the transaction that looks at it.
 
-use stm_tx::{Access, MemRule, Stop};
-use tx_atomic::transaction::Transaction;
+use nekchhaul::{Access, MemRule, Stop, Transaction};
 
 /// A memory of four words that is one buffer.
 #[derive(Clone, Copy, Drop, Debug, PartialEq, Eq)]

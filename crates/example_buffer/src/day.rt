@@ -4,11 +4,9 @@ ghost use Rattle.example_buffer.specs.Fillings.{IsDay};
 
 use crate::buffer::{Buffer, Look, Sight};
 use crate::filling::refill;
+use nekchhaul::{Config, Pace, Stm, atomically, close};
 use std::alloc::Global;
 use std::sync::Wait;
-use stm_tx::{Config, Stm, close};
-use tx_atomic::atomically::atomically;
-use tx_atomic::pace::Pace;
 
 const CONFIG: Config = Config {
     words: 4,

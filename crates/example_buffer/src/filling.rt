@@ -1,18 +1,18 @@
 //! The worker: it takes the buffer out of the transactions, fills it by direct writes, and gives it back.
 ghost use Rattle.std.specs.Prelude.{◌≡◌, ◌≤◌, ℕ, [], true, false};
-ghost use Rattle.rule_base.specs.Encodings.{fenced};
-ghost use Rattle.stm_rule.specs.Callers.{IsOf, IsSameCaller};
-ghost use Rattle.tx_answers.specs.Fences.{is_within};
-ghost use Rattle.tx_answers.specs.Known.{IsIdle};
-ghost use Rattle.stm_tx.specs.Descs.{known};
+ghost use Rattle.nekchhaul.specs.Encodings.{fenced};
+ghost use Rattle.nekchhaul.specs.Handles.{IsOf, IsSameCaller};
+ghost use Rattle.nekchhaul.specs.Fences.{is_within};
+ghost use Rattle.nekchhaul.specs.Known.{IsIdle};
+ghost use Rattle.nekchhaul.specs.Descs.{known};
 ghost use Rattle.example_buffer.specs.Fillings.{writes_of};
 
 use crate::buffer::Buffer;
+use nekchhaul::calls::fencing::{direct_write, fence, give_back};
+use nekchhaul::calls::gate::reopen;
+use nekchhaul::calls::{Fence, Give};
+use nekchhaul::{Desc, Stm, close_alone};
 use std::sync::Wait;
-use stm_tx::fencing::{direct_write, fence, give_back};
-use stm_tx::gate::reopen;
-use stm_tx::{Desc, Fence, Give, Stm};
-use tx_atomic::switching::close_alone;
 
 /// Fills the buffer with `x`. Answers whether it is back: it isn't where the clock was found at its limit. Readers see
 /// the whole of it from then on, and nothing of it before.

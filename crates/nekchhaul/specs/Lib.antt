@@ -9,7 +9,9 @@ pub use Rattle.stm_rule.specs.Callers as Handles
 pub use Rattle.stm_rule.specs.Closings
 pub use Rattle.stm_rule.specs.Refusals
 pub use Rattle.tx_answers.specs.Answers
+pub use Rattle.rule_base.specs.Encodings
 pub use Rattle.tx_answers.specs.Causes
+pub use Rattle.tx_answers.specs.Fences
 pub use Rattle.tx_answers.specs.Known
 pub use Rattle.tx_answers.specs.KnownLaws
 pub use Rattle.tx_answers.specs.declared.answers.Commit

@@ -23,6 +23,7 @@ pub use tx_atomic::tally::{Ended, Tally};
 pub use tx_atomic::transaction::Transaction;
 pub use tx_atomic::waiting::until_some;
 pub use tx_backoff::Backoff;
+pub use tx_checked as checked;
 pub use tx_layout::laws::layouts_hand_out_apart;
 pub use tx_layout::layout::Layout;
 pub use tx_layout::records::Records;

@@ -7,15 +7,17 @@ ghost use Rattle.perf_core.specs.Places.{FitsPlace};
 
 use crate::conflicts::Conflicts;
 use crate::drawing::draw;
+use crate::looks::Looks;
 use crate::outcome::Outcome;
 use crate::place::Place;
-use crate::plan::Workload;
+use crate::plan::{Plan, Workload};
 use rand_core::SeedableRng;
 use rand_pcg::Pcg32;
 use std::sync::Wait;
-use stm_tx::{Desc, Stm};
+use stm_tx::{Alg, Desc, Stm};
 use tx_atomic::atomically::atomically;
 use tx_atomic::pace::Pacing;
+use tx_atomic::switching::switch_to;
 
 /// A caller, with its own random numbers.
 #[derive(Drop)]
@@ -27,10 +29,19 @@ pub struct Caller {
     pub outcome: Outcome,
     /// How many transactions it is to commit.
     pub share: u32,
+    /// How often it is to switch before them, and what these switches took.
+    pub switches: u32,
+    pub looks: Looks,
 }
 
 impl Caller {
-    pub fn new(desc: Desc<Place>, share: u32, seed: u64, conflicts: Conflicts) -> Caller
+    pub fn new(
+        desc: Desc<Place>,
+        share: u32,
+        switches: u32,
+        seed: u64,
+        conflicts: Conflicts,
+    ) -> Caller
         ensures { result.desc ≡ desc }
     {
         Caller {
@@ -39,11 +50,38 @@ impl Caller {
             pace: Pacing::observed(conflicts),
             outcome: Outcome::new(),
             share,
+            switches,
+            looks: Looks::new(),
+        }
+    }
+
+    /// Switches as often as it is to, and commits its share of transactions.
+    pub fn work<R: Wait>(&mut self, rt: &R, stm: &Stm<Place>, plan: &Plan)
+        requires stm { IsOf self.old.desc stm.now }
+        requires idle { IsIdle (known self.old.desc) }
+        requires place { FitsPlace stm.now }
+        ensures same { IsSameCaller self.old.desc self.new.desc }
+        ensures idle { IsIdle (known self.new.desc) }
+    {
+        self.switch(rt, stm, plan.alg);
+        self.commit(rt, stm, plan.workload);
+    }
+
+    /// Installs the algorithm anew, as often as it is to.
+    fn switch<R: Wait>(&mut self, rt: &R, stm: &Stm<Place>, alg: Alg)
+        requires stm { IsOf self.old.desc stm.now }
+        requires idle { IsIdle (known self.old.desc) }
+        ensures same { IsSameCaller self.old.desc self.new.desc }
+        ensures idle { IsIdle (known self.new.desc) }
+    {
+        for _ in 0..self.switches {
+            let looks = switch_to(rt, &mut self.desc, stm, alg);
+            self.looks.note(looks);
         }
     }
 
     /// Commits its share of transactions. It ends early where the clock was found at its limit.
-    pub fn work<R: Wait>(&mut self, rt: &R, stm: &Stm<Place>, workload: Workload)
+    fn commit<R: Wait>(&mut self, rt: &R, stm: &Stm<Place>, workload: Workload)
         requires stm { IsOf self.old.desc stm.now }
         requires idle { IsIdle (known self.old.desc) }
         requires place { FitsPlace stm.now }

@@ -10,7 +10,7 @@ pub fn is_right(words: &[u64], plan: &Plan, commits: u64, outcome: &Outcome) -> 
         return false;
     }
     match plan.workload {
-        Workload::Bank => outcome.wrong == 0 && has_all_money(words),
+        Workload::Bank | Workload::Sum => outcome.wrong == 0 && has_all_money(words),
         Workload::Hash => has_keys(words, 16, outcome),
         Workload::List => has_keys(words, 1, outcome),
         Workload::Count => words.first() == Some(&commits),

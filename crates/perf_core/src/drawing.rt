@@ -26,6 +26,7 @@ pub fn draw(draws: &mut Pcg32, workload: Workload) -> Job
         Workload::Hash => on_set(draws, word % 100, 5),
         Workload::List => on_set(draws, word % 100, 10),
         Workload::Count => Job::Add { account: 0 },
+        Workload::Sum => Job::Sum { accounts: ACCOUNTS },
     }
 }
 

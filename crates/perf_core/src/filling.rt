@@ -32,7 +32,7 @@ pub fn fill<R: Wait>(
     // the callers' kind of pace, so that an attempt is compiled once for both
     let mut pace = Pacing::observed(Conflicts::none(alloc));
     match workload {
-        Workload::Bank => fill_accounts(rt, desc, stm, &mut pace),
+        Workload::Bank | Workload::Sum => fill_accounts(rt, desc, stm, &mut pace),
         Workload::Hash | Workload::List => fill_set(rt, desc, stm, &mut pace),
         Workload::Count => {}
     }

@@ -8,6 +8,7 @@ pub mod conflicts;
 pub mod drawing;
 pub mod filling;
 pub mod jobs;
+pub mod looks;
 pub mod opening;
 pub mod outcome;
 pub mod place;

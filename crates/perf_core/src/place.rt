@@ -35,7 +35,9 @@ impl Place {
     {
         chains_are_apart();
         let region = match workload {
-            Workload::Bank | Workload::Count => Region::Counter(Counter::new(0, ACCOUNTS)),
+            Workload::Bank | Workload::Count | Workload::Sum => Region::Counter(Counter::new(
+                0, ACCOUNTS,
+            )),
             Workload::Hash => Region::Hash(Hash::new(0, CELLS)),
             Workload::List => Region::List(List::new(0, CELLS)),
         };

@@ -28,6 +28,8 @@ pub enum Workload {
     List,
     /// Each adds 1 to one word.
     Count,
+    /// Each is the sum of all 1,024 accounts.
+    Sum,
 }
 
 impl Workload {
@@ -38,6 +40,7 @@ impl Workload {
             Workload::Hash => "hash",
             Workload::List => "list",
             Workload::Count => "count",
+            Workload::Sum => "sum",
         }
     }
 }
@@ -54,6 +57,8 @@ pub struct Plan {
     pub seed: u64,
     /// The length of the read log, 1 to 4,096.
     pub reads: usize,
+    /// How often the first caller installs the algorithm anew before its transactions, while the others do theirs.
+    pub switches: u32,
     /// Whether the words that conflict most are named.
     pub conflicts: bool,
 }
@@ -64,6 +69,7 @@ fn workload_of(word: &str) -> Option<Workload> {
         "hash" => Some(Workload::Hash),
         "list" => Some(Workload::List),
         "count" => Some(Workload::Count),
+        "sum" => Some(Workload::Sum),
         _ => None,
     }
 }
@@ -78,22 +84,34 @@ fn algorithm_of(word: &str) -> Option<Alg> {
 }
 
 /// The run that the words ask for, the first of them the program's name: `WORKLOAD ALGORITHM THREADS COUNT SEED`,
-/// a read log's length where it is not to be 2,048, and `conflicts` where the words that conflict most are to be named.
-/// Numbers are decimal, without sign and leading zeros.
+/// a read log's length where it is not to be 2,048, `switches N` where the first caller is to switch so often, and
+/// `conflicts` where the words that conflict most are to be named. Numbers are decimal, without sign and leading zeros.
 pub fn plan_of(words: &[&str]) -> Option<Plan> {
     match words {
         [words @ .., "conflicts"] => {
-            let plan = run_of(words)?;
+            let plan = switching_of(words)?;
             Some(Plan {
                 conflicts: true,
                 ..plan
             })
         }
-        _ => run_of(words),
+        _ => switching_of(words),
     }
 }
 
 /// The run that is asked for without that word.
+fn switching_of(words: &[&str]) -> Option<Plan> {
+    match words {
+        [words @ .., "switches", often] => {
+            let switches = number_up_to(u32::MAX, often)?;
+            let plan = run_of(words)?;
+            Some(Plan { switches, ..plan })
+        }
+        _ => run_of(words),
+    }
+}
+
+/// The run that is asked for without switches.
 fn run_of(words: &[&str]) -> Option<Plan> {
     match words {
         [_, kind, alg, threads, count, seed] => of(kind, alg, threads, count, seed, READS),
@@ -113,6 +131,7 @@ fn of(kind: &str, alg: &str, threads: &str, count: &str, seed: &str, reads: usiz
         count: number_up_to(u32::MAX, count)?,
         seed: number(seed)?,
         reads,
+        switches: 0,
         conflicts: false,
     })
 }

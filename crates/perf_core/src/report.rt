@@ -1,6 +1,7 @@
-//! What a run came to, as two lines of text, and one for each word that is named.
+//! What a run came to, as two lines of text, one where there were switches, and one for each word that is named.
 
 use crate::conflicts::Conflicts;
+use crate::looks::Looks;
 use crate::plan::Plan;
 use std::fmt::{self, Display, Formatter, Write};
 use tx_atomic::tally::Tally;
@@ -12,6 +13,8 @@ pub struct Report {
     pub tally: Tally,
     /// Whether the memory was what the transactions leave.
     pub right: bool,
+    /// What the switches took that the plan asks for.
+    pub looks: Looks,
     /// What the callers met, word by word; nothing where the plan doesn't ask for it.
     pub conflicts: Conflicts,
 }
@@ -20,7 +23,7 @@ impl Display for Report {
     fn fmt<W: Write>(&self, f: &mut Formatter<W>) -> fmt::Result {
         self.fmt_run(f)?;
         self.fmt_tally(f)?;
-        write!(f, "{}", self.conflicts)
+        write!(f, "{}{}", self.looks, self.conflicts)
     }
 }
 

@@ -9,10 +9,11 @@ ghost use Rattle.perf_core.specs.Places.{FitsPlace};
 use crate::caller::Caller;
 use crate::checks::is_right;
 use crate::conflicts::Conflicts;
+use crate::looks::Looks;
 use crate::opening::open;
 use crate::outcome::Outcome;
 use crate::place::Place;
-use crate::plan::{Plan, Workload};
+use crate::plan::Plan;
 use crate::report::Report;
 use crossbeam_utils::CachePadded;
 use std::alloc::Global;
@@ -35,8 +36,8 @@ pub fn run<R: Threads + Wait + Sync>(
     let room = Vec::with_capacity(alloc, descs.len())?;
     let none_met = Conflicts::new(alloc, plan.conflicts)?;
     let mut callers = hire(alloc, descs, plan)?;
-    work_all(rt, callers.as_mut_slice(), &stm, plan.workload);
-    let (tally, outcome) = told_by(callers.as_slice());
+    work_all(rt, callers.as_mut_slice(), &stm, plan);
+    let (tally, outcome, looks) = told_by(callers.as_slice());
     let conflicts = met_by(callers.as_slice(), none_met);
     let descs = dismiss(callers, room);
     match close(alloc, stm, descs) {
@@ -46,6 +47,7 @@ pub fn run<R: Threads + Wait + Sync>(
                 plan: *plan,
                 tally,
                 right,
+                looks,
                 conflicts,
             })
         }
@@ -70,7 +72,9 @@ fn hire(
         let share = (plan.count / threads).saturating_add(extra);
         let seed = plan.seed.wrapping_mul(32).wrapping_add(number);
         let conflicts = Conflicts::new(alloc, plan.conflicts)?;
-        callers.push_reserved(CachePadded::new(Caller::new(desc, share, seed, conflicts)));
+        let switches = if number == 0 { plan.switches } else { 0 };
+        let caller = Caller::new(desc, share, switches, seed, conflicts);
+        callers.push_reserved(CachePadded::new(caller));
     }
     Ok(callers)
 }
@@ -80,7 +84,7 @@ fn work_all<R: Threads + Wait + Sync>(
     rt: &R,
     callers: &mut [CachePadded<Caller>],
     stm: &Stm<Place>,
-    workload: Workload,
+    plan: &Plan,
 )
     requires some { 0 < length callers.old }
     requires ready { All (λ caller. IsReady stm.now (desc_in caller)) callers.old }
@@ -93,28 +97,30 @@ fn work_all<R: Threads + Wait + Sync>(
         rt,
         callers,
         threads,
-        &|_, caller| { work(rt, caller, stm, workload) },
+        &|_, caller| { work(rt, caller, stm, plan) },
     );
 }
 
-fn work<R: Wait>(rt: &R, caller: &mut CachePadded<Caller>, stm: &Stm<Place>, workload: Workload)
+fn work<R: Wait>(rt: &R, caller: &mut CachePadded<Caller>, stm: &Stm<Place>, plan: &Plan)
     requires ready { IsReady stm.now (desc_in caller.old) }
     requires place { FitsPlace stm.now }
     ensures { IsThrough (desc_in caller.old) (desc_in caller.new) }
 {
     let caller = &mut **caller;
-    caller.work(rt, stm, workload);
+    caller.work(rt, stm, plan);
 }
 
 /// What all callers counted.
-fn told_by(callers: &[CachePadded<Caller>]) -> (Tally, Outcome) {
+fn told_by(callers: &[CachePadded<Caller>]) -> (Tally, Outcome, Looks) {
     let mut tally = Tally::new();
     let mut outcome = Outcome::new();
+    let mut looks = Looks::new();
     for caller in callers {
         tally = tally.with(&caller.pace.tally);
         outcome = outcome.with(&caller.outcome);
+        looks = looks.with(&caller.looks);
     }
-    (tally, outcome)
+    (tally, outcome, looks)
 }
 
 /// What all callers met, added to none.

@@ -1,4 +1,4 @@
-//! `stm_perf WORKLOAD ALGORITHM THREADS COUNT SEED [READS]`: so many transactions, to be timed from outside.
+//! `stm_perf WORKLOAD ALGORITHM THREADS COUNT SEED [READS] [switches N] [conflicts]`: so many transactions, to be timed from outside.
 #![tactic(auto)]
 
 use perf_core::program::program;

@@ -370,6 +370,35 @@ fn counts_callers_by_mode(rt: HostRuntime) -> Result<(), Fail> {
     Ok(())
 }
 
+/// The least and the greatest that a line may ask for.
+const LINES_TAKEN: &[(usize, &str)] = &[
+    (2, "words 65536"),
+    (3, "callers 32"),
+    (4, "records 1"),
+    (4, "records 4096"),
+    (5, "ring 2"),
+    (5, "ring 64"),
+    (6, "reads 1"),
+    (6, "reads 4096"),
+    (7, "writes 1"),
+    (7, "writes 4096"),
+    (8, "clock 4611686018427387904"),
+    (12, "add 7 18446744073709551615"),
+];
+
+#[test]
+fn takes_the_least_and_the_greatest(rt: HostRuntime) -> Result<(), Fail> {
+    for (line, other) in LINES_TAKEN {
+        let text = with_line(rt.alloc(), *line, other)?;
+        assert_eq!(rt;
+            fault(rt.alloc(), text.as_bytes(), Mode::Run),
+            None,
+            "{other}"
+        );
+    }
+    Ok(())
+}
+
 /// The header, and a line so many times.
 fn repeated(
     alloc: Global,

@@ -237,6 +237,55 @@ fn keeps_plain_addresses_out_of_regions(rt: HostRuntime) -> Result<(), Fail> {
     Ok(())
 }
 
+/// A text of version 2 whose regions are these lines, with no transaction.
+fn with_regions(alloc: Global, count: usize, regions: &str) -> Result<String, AllocError> {
+    let mut text = String::new(alloc);
+    for line in LINES.iter().take(9) {
+        text.push_str(line)?;
+        text.push_str("\n")?;
+    }
+    text.push_str(format!(in alloc; "regions {count}\n{regions}policy fixed\ndone\n")?.as_str())?;
+    Ok(text)
+}
+
+/// One region of each kind, of the greatest size and of one more.
+const SIZES: &[(&str, Option<(usize, u32)>)] = &[
+    ("region counter 0 64\n", None),
+    ("region counter 0 65\n", Some((11, 6))),
+    ("region list 0 4096\n", None),
+    ("region list 0 4097\n", Some((11, 6))),
+    ("region hash 0 4096\n", None),
+    ("region hash 0 4097\n", Some((11, 6))),
+    ("region tree 0 4096\n", None),
+    ("region tree 0 4097\n", Some((11, 6))),
+    ("region queue 0 4096\n", None),
+    ("region queue 0 4097\n", Some((11, 6))),
+    ("region summap 0 4096\n", None),
+    ("region summap 0 4097\n", Some((11, 6))),
+];
+
+#[test]
+fn bounds_the_size_of_a_region(rt: HostRuntime) -> Result<(), Fail> {
+    for (region, found) in SIZES {
+        let text = with_regions(rt.alloc(), 1, region)?;
+        assert_eq!(rt; fault(rt.alloc(), text.as_bytes()), *found, "{region}");
+    }
+    Ok(())
+}
+
+#[test]
+fn takes_sixteen_regions(rt: HostRuntime) -> Result<(), Fail> {
+    for (count, found) in [(16, None), (17, Some((10, 6)))] {
+        let mut regions = String::new(rt.alloc());
+        for i in 0..count {
+            regions.push_str(format!(in rt.alloc(); "region counter {i} 1\n")?.as_str())?;
+        }
+        let text = with_regions(rt.alloc(), count, regions.as_str())?;
+        assert_eq!(rt; fault(rt.alloc(), text.as_bytes()), found, "{text}");
+    }
+    Ok(())
+}
+
 const RESERVES_REFUSED: &[(usize, &str, u32)] = &[
     (22, "reserve 1 512", 4),
     (22, "reserve 1 512 4096 1", 4),

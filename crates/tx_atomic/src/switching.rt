@@ -28,8 +28,8 @@ pub enum Hindrance {
 
 /// Closes the gate, and waits until all others are out of their attempts: none begins from the closing on. The caller is
 /// alone then, and holds the gate: it may install an algorithm, take a range out of the transactions or give it back, and
-/// is to reopen the gate.
-pub fn close_alone<R: Wait, K: MemRule>(rt: &R, desc: &mut Desc<K>, stm: &Stm<K>)
+/// is to reopen the gate. Answers how many looks at the others it took, one where none was in an attempt.
+pub fn close_alone<R: Wait, K: MemRule>(rt: &R, desc: &mut Desc<K>, stm: &Stm<K>) -> u64
     requires ready { IsReady stm.now desc.old }
     ensures same { IsSameCaller desc.old desc.new }
     ensures closing { HoldsClosed (known desc.new) }
@@ -42,18 +42,15 @@ pub fn close_alone<R: Wait, K: MemRule>(rt: &R, desc: &mut Desc<K>, stm: &Stm<K>
     let mut backoff = Backoff::new();
     for _ in rt.forever() {
         match close_gate(desc, stm) {
-            CloseGate::Closed => {
-                see_others_leave(rt, desc, stm);
-                return;
-            }
+            CloseGate::Closed => return see_others_leave(rt, desc, stm),
             CloseGate::Taken { .. } => backoff.wait(),
         }
     }
     unreachable!()
 }
 
-/// Waits, with the gate closed, until all others were seen out of their attempts, each once.
-fn see_others_leave<R: Wait, K: MemRule>(rt: &R, desc: &mut Desc<K>, stm: &Stm<K>)
+/// Waits, with the gate closed, until all others were seen out of their attempts, each once. Answers how many looks it took.
+fn see_others_leave<R: Wait, K: MemRule>(rt: &R, desc: &mut Desc<K>, stm: &Stm<K>) -> u64
     requires stm { IsOf desc.old stm.now }
     requires closing { HoldsClosed (known desc.old) }
     ensures same { IsSameCaller desc.old desc.new }
@@ -65,9 +62,11 @@ fn see_others_leave<R: Wait, K: MemRule>(rt: &R, desc: &mut Desc<K>, stm: &Stm<K
     ensures installs { (known desc.new).installs ≡ (known desc.old).installs }
 {
     let mut backoff = Backoff::new();
+    let mut looks: u64 = 0;
     for _ in rt.forever() {
+        looks = looks.saturating_add(1);
         match look(desc, stm) {
-            Look::Quiet => return,
+            Look::Quiet => return looks,
             Look::Busy { .. } => backoff.wait(),
         }
     }
@@ -75,8 +74,8 @@ fn see_others_leave<R: Wait, K: MemRule>(rt: &R, desc: &mut Desc<K>, stm: &Stm<K
 }
 
 /// Installs an algorithm, once: attempts that begin from then on run under it. Closes the gate for it, and waits while
-/// others are in attempts: those go on, and none begins.
-pub fn switch_to<R: Wait, K: MemRule>(rt: &R, desc: &mut Desc<K>, stm: &Stm<K>, alg: Alg)
+/// others are in attempts: those go on, and none begins. Answers how many looks at the others it took.
+pub fn switch_to<R: Wait, K: MemRule>(rt: &R, desc: &mut Desc<K>, stm: &Stm<K>, alg: Alg) -> u64
     requires ready { IsReady stm.now desc.old }
     ensures through { IsThrough desc.old desc.new }
     ensures grew { Grows (known desc.old) (known desc.new) }
@@ -84,9 +83,10 @@ pub fn switch_to<R: Wait, K: MemRule>(rt: &R, desc: &mut Desc<K>, stm: &Stm<K>, 
     ensures rises { ((known desc.old).rises ≤ (known desc.new).rises) × ((known desc.new).rises ≤ (known desc.old).rises + install_rise alg) }
     ensures installs { (known desc.new).installs ≡ (known desc.old).installs ++ alg ∷ [] }
 {
-    close_alone(rt, desc, stm);
+    let looks = close_alone(rt, desc, stm);
     install(desc, stm, alg);
     reopen(desc, stm);
+    looks
 }
 
 /// Installs an algorithm where one look finds all others out of their attempts; else the gate is open as before, and no

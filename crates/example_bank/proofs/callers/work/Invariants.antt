@@ -1,6 +1,6 @@
-use Rattle.stm_rule.specs.Callers.{IsSameCaller}
-use Rattle.tx_answers.specs.Known.{IsIdle}
-use Rattle.stm_tx.specs.Descs.{known}
+use Rattle.nekchhaul.specs.Handles.{IsSameCaller}
+use Rattle.nekchhaul.specs.Known.{IsIdle}
+use Rattle.nekchhaul.specs.Descs.{known}
 use Rattle.example_bank.proofs.callers.work.Given as goal
 
 abbrev pub invariant-loop : goal.invariant-loop

@@ -1,6 +1,6 @@
 use Rattle.std.proofs.Common.{◌≡◌, length, sym, ap, subst, arith}
-use Rattle.tx_atomic.specs.Callers.{AllReady}
-use Rattle.tx_atomic.specs.CallerLaws.{opened-ready, came-back}
+use Rattle.nekchhaul.specs.Callers.{AllReady}
+use Rattle.nekchhaul.specs.CallerLaws.{opened-ready, came-back}
 use Rattle.example_bank.proofs.run.run.Goals as goal
 
 pub serve-audited-requires-clause-ready : goal.serve-audited-requires-clause-ready

@@ -1,6 +1,6 @@
 use Rattle.std.proofs.Common.{◌∙◌, arith}
 use Rattle.std.proofs.Math.ListN.{length-set}
-use Rattle.tx_atomic.specs.CallerLaws.{ready-at, ready-all, ready-each, ready-set}
+use Rattle.nekchhaul.specs.CallerLaws.{ready-at, ready-all, ready-each, ready-set}
 use Rattle.example_bank.proofs.run.serve.Goals as goal
 
 pub work_all-requires-clause-ready : goal.work_all-requires-clause-ready

@@ -1,7 +1,7 @@
 use Rattle.std.proofs.Common.{◌≡◌, ◌∙◌, ℕ, List, length, sum, sym, ap, subst}
 use Rattle.std.specs.Prelude.{◌⊎◌}
 use Rattle.example_bank.specs.Banks.{IsBalanced, balances}
-use Rattle.tx_atomic.specs.CallerLaws.{ready-idle}
+use Rattle.nekchhaul.specs.CallerLaws.{ready-idle}
 use Rattle.example_bank.proofs.BankLaws.{closed-sound, sound-sum}
 use Rattle.example_bank.proofs.run.settle.Goals as goal
 

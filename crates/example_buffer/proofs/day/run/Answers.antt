@@ -1,10 +1,10 @@
 use Rattle.std.proofs.Common.{◌≡◌, ◌≤◌, ◌++◌, [], ◌∷◌, replicate, ap, ◌∙◌, arith, subst}
-use Rattle.stm_model.specs.declared.config.Config.{Config}
-use Rattle.stm_model.specs.Histories.{IsLegal, memory_at}
-use Rattle.stm_rule.specs.Closings.{AllTold}
-use Rattle.tx_answers.specs.KnownLaws.{carries-refl}
-use Rattle.stm_tx.specs.Descs.{known, number}
-use Rattle.tx_atomic.specs.CallerLaws.{closed-seen}
+use Rattle.nekchhaul.specs.Config.{Config}
+use Rattle.nekchhaul.specs.Histories.{IsLegal, memory_at}
+use Rattle.nekchhaul.specs.Closings.{AllTold}
+use Rattle.nekchhaul.specs.KnownLaws.{carries-refl}
+use Rattle.nekchhaul.specs.Descs.{known, number}
+use Rattle.nekchhaul.specs.CallerLaws.{closed-seen}
 use Rattle.example_buffer.specs.declared.day.TheConstants.{CONFIG}
 use Rattle.example_buffer.specs.Fillings.{IsFilling}
 use Rattle.example_buffer.proofs.DayLaws.{seen}

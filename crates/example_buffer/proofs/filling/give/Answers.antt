@@ -1,5 +1,5 @@
 use Rattle.std.proofs.Common.{◌∙◌, ℕ, List, ap}
-use Rattle.stm_model.specs.Memories.{overlay}
+use Rattle.nekchhaul.specs.Memories.{overlay}
 use Rattle.example_buffer.proofs.DayLaws.{filled, filling-good}
 use Rattle.example_buffer.proofs.filling.give.Goals as goal
 

@@ -1,7 +1,7 @@
 use Rattle.std.proofs.Common.{◌≡◌, ◌≤◌, ◌<◌, ◌+◌, ◌⊎◌, ◌∙◌, ℕ, List, sum, take, get_or, refl, ap, arith}
-use Rattle.stm_model.specs.Logs.{Log}
-use Rattle.tx_effects.specs.EffectLaws.{does-stay, shows-read, shown, same-trans}
-use Rattle.tx_effects.specs.FreshLaws.{reads-keep}
+use Rattle.nekchhaul.specs.Logs.{Log}
+use Rattle.nekchhaul.specs.EffectLaws.{does-stay, shows-read, shown, same-trans}
+use Rattle.nekchhaul.specs.FreshLaws.{reads-keep}
 use Rattle.example_bank.specs.Banks.{IsBalanced, balances, audited_in}
 use Rattle.example_bank.proofs.BankLaws.{IsMemoryOf, IsSound, sound, bank-effect, part, part-next, audited-is, whole}
 use Rattle.example_bank.proofs.bank.AuditTransactionBank.run.Goals as goal

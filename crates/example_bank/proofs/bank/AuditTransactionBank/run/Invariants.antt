@@ -1,6 +1,6 @@
 use Rattle.std.proofs.Common.{◌≡◌, ◌<◌, None, sum, take}
-use Rattle.stm_model.specs.Logs.{SameMemories, IsExplained}
-use Rattle.tx_effects.specs.Effects.{Shows}
+use Rattle.nekchhaul.specs.Logs.{SameMemories, IsExplained}
+use Rattle.nekchhaul.specs.Effects.{Shows}
 use Rattle.example_bank.specs.Banks.{balances}
 use Rattle.example_bank.proofs.BankLaws.{IsSound}
 use Rattle.example_bank.proofs.bank.AuditTransactionBank.run.Given as goal

@@ -1,5 +1,5 @@
 use Rattle.std.proofs.Common.{◌∙◌, true, false, arith}
-use Rattle.tx_effects.specs.FreshLaws.{keeps-by}
+use Rattle.nekchhaul.specs.FreshLaws.{keeps-by}
 use Rattle.example_bank.specs.Banks.{IsBalanced, opened_in}
 use Rattle.example_bank.proofs.BankLaws.{finds-open, opens, opened-balanced}
 use Rattle.example_bank.proofs.bank.OpenTransactionBank.run.Goals as goal

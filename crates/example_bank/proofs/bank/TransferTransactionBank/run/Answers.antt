@@ -1,6 +1,6 @@
 use Rattle.std.proofs.Common.{◌≤◌, ◌+◌, ◌∙◌, true, false, arith}
-use Rattle.tx_effects.specs.EffectLaws.{same-trans}
-use Rattle.tx_effects.specs.FreshLaws.{keeps-by}
+use Rattle.nekchhaul.specs.EffectLaws.{same-trans}
+use Rattle.nekchhaul.specs.FreshLaws.{keeps-by}
 use Rattle.example_bank.specs.Banks.{IsBalanced, moved_in}
 use Rattle.example_bank.proofs.BankLaws.{both-within, stays, moves, moved-balanced}
 use Rattle.example_bank.proofs.bank.TransferTransactionBank.run.Goals as goal
