@@ -29,7 +29,6 @@ use Rattle.rule_base.specs.Notes.{after_seat_load, learned_history, learned_view
 use Rattle.rule_base.specs.Seating.{IsSeen}
 use Rattle.rule_base.specs.StepKinds.{view_after, world_after, Nothing, StepLaw}
 use Rattle.rule_base.specs.StepsLemmas.{steps-kept, steps-seated}
-use Rattle.rule_base.specs.StepsRule.{steps_scene, StepsRule}
 use Rattle.rule_base.specs.World.{World, put, horizon}
 use Rattle.rule_seq.specs.AttemptLemmas.{attempts-after, attempts-stay, idle-busy}
 use Rattle.rule_seq.specs.CglSteps.{take_lock, CanTakeLock, load_start, CanLoadStart, Begins, load_heap, CanLoadHeap, Loads, store_heap, CanStoreHeap, store_clock, CanStoreClock, Commits, free_lock, CanFreeLock, load_undo, CanLoadUndo, load_limit, CanLoadLimit, take_back, CanTakeBack, LoadsLimit}
