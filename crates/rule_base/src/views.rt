@@ -28,7 +28,8 @@ pub enum Act {
     Raise(u64),
 }
 
-/// A step that was taken: the word, the act, and what a load, an exchange or a fetch_max found there.
+/// A step that was taken: the word, the act, and what a load, an exchange or a fetch_max found there. Nobody is told what
+/// the load of a split or a join of seats finds.
 pub struct TrailItem {
     pub place: At,
     pub act: Act,

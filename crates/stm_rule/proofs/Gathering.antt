@@ -117,16 +117,15 @@ module _ {K : Type 0} where
       ap shown is ∙ shown_append ds (d ∷ []) ∙ ap (λ (r : Role). shown ds ++ claimed r d.view []) role ∙ ap (λ (v : View). shown ds ++ record { caller = m; view = v } ∷ []) (sym view) ∙ ap (λ (l : List Gathered). shown ds ++ (l ++ record { caller = m; view = s.view } ∷ [])) (sym bare)
 
   -- and after another was gathered, one more
-  pub shown_next : (all old ds : List (Handle K)) (d : Handle K) (s t s' : SeatView K) (m k : ℕ) → shown all ≡ shown old ++ (s.gathered ++ record { caller = m; view = s.view } ∷ []) → old ≡ ds ++ d ∷ [] → d.who.role ≡ Caller k → t.who.role ≡ Caller k → t.view ≡ d.view → t.gathered ≡ [] → s' ≡ gathers s t
-      → shown all ≡ shown ds ++ (s'.gathered ++ record { caller = m; view = s'.view } ∷ [])
-  shown_next all old ds d s t s' m k before is role their view bare next =
-      let own : List Gathered = record { caller = m; view = s.view } ∷ [] in
+  pub shown_next : (all old ds : List (Handle K)) (d : Handle K) (s t s' : SeatView K) (m k : ℕ) (own : View) → shown all ≡ shown old ++ (s.gathered ++ record { caller = m; view = own } ∷ []) → old ≡ ds ++ d ∷ [] → d.who.role ≡ Caller k → t.who.role ≡ Caller k → t.view ≡ d.view → t.gathered ≡ [] → s' ≡ gathers s t
+      → shown all ≡ shown ds ++ (s'.gathered ++ record { caller = m; view = own } ∷ [])
+  shown_next all old ds d s t s' m k own before is role their view bare next =
+      let last : List Gathered = record { caller = m; view = own } ∷ [] in
       let one : List Gathered = record { caller = k; view = d.view } ∷ [] in
       let olds : shown old ≡ shown ds ++ one = ap shown is ∙ shown_append ds (d ∷ []) ∙ ap (λ (r : Role). shown ds ++ claimed r d.view []) role in
       let joined : s'.gathered ≡ one ++ s.gathered = ap (λ (q : SeatView K). q.gathered) next ∙ ap (λ (r : Role). claimed r t.view t.gathered ++ s.gathered) their ∙ ap (λ (v : View). record { caller = k; view = v } ∷ (t.gathered ++ s.gathered)) view ∙ ap (λ (l : List Gathered). record { caller = k; view = d.view } ∷ (l ++ s.gathered)) bare in
-      let same : s'.view ≡ s.view = ap (λ (q : SeatView K). q.view) next in
-      before ∙ ap (λ (l : List Gathered). l ++ (s.gathered ++ own)) olds ∙ regroup (shown ds) one s.gathered own
-      ∙ ap (λ (l : List Gathered). shown ds ++ (l ++ own)) (sym joined) ∙ ap (λ (v : View). shown ds ++ (s'.gathered ++ record { caller = m; view = v } ∷ [])) (sym same)
+      before ∙ ap (λ (l : List Gathered). l ++ (s.gathered ++ last)) olds ∙ regroup (shown ds) one s.gathered last
+      ∙ ap (λ (l : List Gathered). shown ds ++ (l ++ last)) (sym joined)
     where
       regroup : (a b x y : List Gathered) → (a ++ b) ++ (x ++ y) ≡ a ++ ((b ++ x) ++ y)
       regroup a b x y = simp append_assoc

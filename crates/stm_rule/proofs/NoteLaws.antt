@@ -4,15 +4,15 @@ use Rattle.stm_model.specs.declared.config.Config.{Config}
 use Rattle.rule_base.specs.declared.views.SeenHistory.{SeenHistory}
 use Rattle.rule_base.specs.declared.views.View.{View}
 use Rattle.rule_base.specs.Fence.{veil}
-use Rattle.stm_rule.specs.Lifting.{learns-whole}
+use Rattle.stm_rule.specs.Lifting.{learns-whole, loads_seat-whole}
 use Rattle.rule_base.specs.SeatLemmas.{seen-later}
 use Rattle.rule_base.specs.Seating.{IsSeen}
 use Rattle.rule_base.specs.StepKinds.{Advances, world_after}
 use Rattle.rule_base.specs.World.{World}
 use Rattle.stm_rule.specs.CoreRuns.{core_kind}
 use Rattle.stm_rule.specs.Laws as laws
-use Rattle.stm_rule.specs.NoteRuns.{Shared, Deed, note_at, notes_without, after_deed, AllSeen, SharedRule, MayDo, CoreKeepsAlong}
-use Rattle.stm_rule.specs.NoteRuns.Deed.{steps, tells, learns}
+use Rattle.stm_rule.specs.NoteRuns.{Shared, Deed, note_at, notes_without, after_load, after_deed, AllSeen, SharedRule, MayDo, CoreKeepsAlong}
+use Rattle.stm_rule.specs.NoteRuns.Deed.{steps, tells, learns, gathers}
 use Rattle.stm_rule.proofs.CoreLaws.{one_step}
 
 all_later : (w x : World) (ks : List SeenHistory) → Advances w x → AllSeen w ks → AllSeen x ks
@@ -41,11 +41,15 @@ module _ (good : (ℕ → ℕ) → Type 0) (c : Config) where
       record { rule = o.0; seen = all_later x.world (world_after (core_kind n step) n x.world) x.notes o.1 r.seen }
   one_deed n tells x r may =
       let s = laws.tells good c n (veil x.world) r.rule.core may in
-      record { rule = r.rule; seen = (record { front = s.front; within = s.within; seen = s.seen }, r.seen) }
+      record {
+        rule = loads_seat-whole good c n x.world r.rule;
+        seen = (record { front = s.front; within = s.within; seen = s.seen }, all_put x.world (after_load n x.world).views x.notes r.seen);
+      }
   one_deed n (learns i) x r may = record {
     rule = learns-whole good c n x.world (note_at x.notes i) r.rule (seen_at x.world x.notes i may.0 r.seen) may.1;
     seen = all_put x.world (after_deed n (learns i) x).world.views (notes_without x.notes i) (all_without x.world x.notes i r.seen);
   }
+  one_deed n gathers x r may = record { rule = loads_seat-whole good c n x.world r.rule; seen = all_put x.world (after_load n x.world).views x.notes r.seen }
 
   pub core_keeps_along_lem : CoreKeepsAlong good c
   core_keeps_along_lem [] x r a zero = r

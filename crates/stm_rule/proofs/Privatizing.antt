@@ -1,12 +1,13 @@
 -- While a caller has a range out of the transactions, no other deed is in it.
 use Rattle.std.proofs.Common.{◌≡◌, ℕ, ◌+◌, [], ◌∷◌, true, false, refl, sym, subst, ap, ◌∙◌, arith}
 use Rattle.stm_model.specs.declared.config.Config.{Config}
+use Rattle.rule_base.specs.declared.views.FenceView.{FenceView}
 use Rattle.rule_base.specs.declared.views.View.{View}
 use Rattle.rule_base.specs.Encodings.{fence_of, fence_owner}
-use Rattle.rule_base.specs.Notes.{learned_history}
+use Rattle.rule_base.specs.Notes.{after_seat_load, learned_view}
 use Rattle.rule_base.specs.PutLemmas.{put-all}
 use Rattle.rule_base.specs.StepKinds.{answer, view_after}
-use Rattle.rule_base.specs.World.{World}
+use Rattle.rule_base.specs.World.{World, put}
 use Rattle.rule_seq.specs.CglRuns.CglStep.{acquires_lock, loads_start, loads_heap, stores_heap, stores_clock, frees_lock, loads_undo, loads_limit, takes_back}
 use Rattle.rule_seq.specs.TmlRuns.TmlStep.{tml_begins, tml_loads, tml_agains, tml_writes, tml_stores, tml_commits}
 use Rattle.rule_ring.specs.RingRuns.RingStep.{ring_begins, ring_loads, ring_looks, ring_words, ring_agains, ring_moves, ring_locks, ring_ticks, ring_slots, ring_enters, ring_writes, ring_dones, ring_frees}
@@ -14,7 +15,7 @@ use Rattle.rule_orec.specs.OrecRuns.OrecStep.{orec_begins, orec_samples, orec_lo
 use Rattle.stm_rule.specs.CoreRuns.{CoreStep, core_kind, CoreMay}
 use Rattle.stm_rule.specs.CoreRuns.CoreStep.{announces, loads_gate, departs, aims, takes_gate, checks, reopens, settles, evens_clock, stores_base, stores_done, installs, of_cgl, of_tml, looks_gate, seizes, grants, direct_loads, direct_stores, direct_commits, direct_lifts, direct_ups, returns, fences, fence_loads, fence_stores, fence_commits, unfences, hears, loads_end, of_ring, look_grants, move_grants, of_orec, orec_grants, orec_grants_all, direct_releases}
 use Rattle.stm_rule.specs.NoteRuns.{Shared, Deed, note_at, after_deed, SharedRule, MayDo}
-use Rattle.stm_rule.specs.NoteRuns.Deed.{steps, tells, learns}
+use Rattle.stm_rule.specs.NoteRuns.Deed.{steps, tells, learns, gathers}
 use Rattle.stm_rule.specs.Privatization.{IsBeside, LeavesAlone, is_direct, gives_back, AllLeaveAlone, RangeIsPrivate}
 use Rattle.stm_rule.specs.Product.{Whole}
 use Rattle.stm_rule.specs.Sparing.{spared}
@@ -206,6 +207,13 @@ module _ (good : (ℕ → ℕ) → Type 0) (c : Config) where
   alone n m (steps s) x r may has plain = subst (λ k. IsBeside k (core_kind m s).place) (r.rule.fence.mine n has).1 (beside m s x.world r.rule may (λ held. plain (one-holder m n x.world r.rule held has)))
   alone n m tells x r may has plain = tt
   alone n m (learns i) x r may has plain = tt
+  alone n m gathers x r may has plain = tt
+
+  -- a caller's view changes, but not what it knows of its range
+  same-fence : (n m : ℕ) (w : World) (v : View) → v.fence ≡ (w.views m).fence → (w.views n).fence.holds ≡ true → ((put w.views m v n).fence.holds ≡ true) × ((put w.views m v n).fence.number ≡ (w.views n).fence.number)
+  same-fence n m w v own has =
+      let same : (put w.views m v n).fence ≡ (w.views n).fence = put-all w.views m v (λ k u. u.fence ≡ (w.views k).fence) own (λ k d. refl) n in
+      (ap (λ (f : FenceView). f.holds) same ∙ has, ap (λ (f : FenceView). f.number) same)
 
   -- the holder's range stands until it gives it back
   after : (n m : ℕ) (d : Deed) (x : Shared) → SharedRule good c x → MayDo good c m d x → (x.world.views n).fence.holds ≡ true → (m ≡ n → gives_back d ≡ false)
@@ -216,13 +224,9 @@ module _ (good : (ℕ → ℕ) → Type 0) (c : Config) where
     where
       vs : ℕ → View
       vs = x.world.views
-  after n m tells x r may has kept = (has, refl)
-  after n m (learns i) x r may has kept = put-all vs m (record (vs m) { history = learned_history (vs m).history (note_at x.notes i) }) (λ k v. k ≡ n → (v.fence.holds ≡ true) × (v.fence.number ≡ (vs n).fence.number))
-      (λ e. (subst (λ j. (vs j).fence.holds ≡ true) (sym e) has, ap (λ j. (vs j).fence.number) e))
-      (λ k d e. (subst (λ j. (vs j).fence.holds ≡ true) (sym e) has, ap (λ j. (vs j).fence.number) e)) n refl
-    where
-      vs : ℕ → View
-      vs = x.world.views
+  after n m tells x r may has kept = same-fence n m x.world (after_seat_load (x.world.views m)) refl has
+  after n m (learns i) x r may has kept = same-fence n m x.world (learned_view (x.world.views m) (note_at x.notes i)) refl has
+  after n m gathers x r may has kept = same-fence n m x.world (after_seat_load (x.world.views m)) refl has
 
   pub range_is_private_lem : RangeIsPrivate good c
   range_is_private_lem n [] x r a has keeps = tt

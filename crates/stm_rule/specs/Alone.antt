@@ -7,10 +7,13 @@ use Rattle.rule_base.specs.declared.layout.At.{At}
 use Rattle.rule_base.specs.declared.layout.At.TheVariants.{Clock, Lock, Gate, Base, Done, Status, Record, Slot, Heap}
 use Rattle.rule_base.specs.declared.views.Act.{Act}
 use Rattle.rule_base.specs.declared.views.Act.TheVariants.{Load, Store, Exchange, Raise}
+use Rattle.rule_base.specs.declared.views.Steps.{Steps}
 use Rattle.rule_base.specs.declared.views.TrailItem.{TrailItem}
 use Rattle.rule_base.specs.declared.views.View.{View}
 use Rattle.rule_base.specs.StepKinds.{StepKind, after_act, answer, answer_of, found_in, view_after, world_after, word_after}
-use Rattle.rule_base.specs.World.{World, fetch, write}
+use Rattle.rule_base.specs.Notes.{after_seat_load}
+use Rattle.rule_base.specs.PutLemmas.{put-all}
+use Rattle.rule_base.specs.World.{World, fetch, put, write}
 
 -- the word that a step left, as far as the trail tells it
 abbrev pub left_by : Act → Option ℕ → Option ℕ
@@ -80,6 +83,12 @@ left-is w (Record q) (Exchange old new) r x e l = records-here w q (word_after (
 left-is w (Record q) (Raise least) r x e l = records-here w q (word_after (Raise least) (w.records q)) r e ∙ some-is (word_after (Raise least) (w.records q)) x l
 left-is w (Slot s) act r x e l = absurd cc
 left-is w (Heap a) act r x e l = absurd cc
+
+-- the load of a split or a join is of no record
+pub alone-seated : (c : Config) (w : World) (n : ℕ) (v : View) → v.steps ≡ (after_seat_load (w.views n)).steps → Alone c w → Alone c (record w { views = put w.views n v })
+alone-seated c w n v own a sole r x e =
+    let same : left_at r (put w.views n v 0).steps.trail ≡ left_at r (w.views 0).steps.trail = put-all w.views n v (λ m u. left_at r u.steps.trail ≡ left_at r (w.views m).steps.trail) (ap (λ (s : Steps). left_at r s.trail) own) (λ m d. refl) 0 in
+    a sole r x (sym same ∙ e)
 
 module _ (c : Config) (kind : StepKind) (n : ℕ) (w : World) where
   -- a step of caller 0, or one that leaves the records

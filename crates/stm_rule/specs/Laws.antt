@@ -5,7 +5,6 @@ use Rattle.stm_model.specs.declared.config.Config.{Config}
 use Rattle.rule_base.specs.declared.views.Phase.{Phase}
 use Rattle.rule_base.specs.declared.views.Phase.TheVariants.{Idle, Announced, Turned, Aiming, In, Closing}
 use Rattle.rule_base.specs.declared.views.SeenHistory.{SeenHistory}
-use Rattle.rule_base.specs.declared.views.Steps.{Steps}
 use Rattle.rule_base.specs.declared.views.View.{View}
 use Rattle.rule_base.specs.GateSteps.{announce, CanAnnounce, load_gate, CanLoadGate, departed, depart, CanDepart}
 use Rattle.rule_base.specs.Encodings.{holder_of}
@@ -26,12 +25,10 @@ use Rattle.rule_base.specs.declared.entries.Entry.{Entry}
 use Rattle.rule_base.specs.HistoryRule.{KnowsHistory}
 use Rattle.rule_base.specs.HistoryLemmas.{upto-begins}
 use Rattle.rule_base.specs.HistoryRuleLemmas.{advances-same, history-kept, history-ended, history-learned}
-use Rattle.rule_base.specs.Notes.{learned_history}
+use Rattle.rule_base.specs.Notes.{after_seat_load, learned_history, learned_view}
 use Rattle.rule_base.specs.Seating.{IsSeen}
 use Rattle.rule_base.specs.StepKinds.{view_after, world_after, Nothing, StepLaw}
-use Rattle.rule_base.specs.StepsLemmas.{steps-kept}
-use Rattle.rule_base.specs.StepsRule.{steps_scene, StepsRule}
-use Rattle.rule_base.specs.PutLemmas.{parts-kept}
+use Rattle.rule_base.specs.StepsLemmas.{steps-kept, steps-seated}
 use Rattle.rule_base.specs.World.{World, put, horizon}
 use Rattle.rule_seq.specs.AttemptLemmas.{attempts-after, attempts-stay, idle-busy}
 use Rattle.rule_seq.specs.CglSteps.{take_lock, CanTakeLock, load_start, CanLoadStart, Begins, load_heap, CanLoadHeap, Loads, store_heap, CanStoreHeap, store_clock, CanStoreClock, Commits, free_lock, CanFreeLock, load_undo, CanLoadUndo, load_limit, CanLoadLimit, take_back, CanTakeBack, LoadsLimit}
@@ -41,7 +38,7 @@ use Rattle.rule_seq.specs.TmlSteps.{tml_begin, CanTmlBegin, TmlBegins, tml_load,
 use Rattle.rule_seq.specs.LockRule.{LockRule}
 use Rattle.rule_seq.specs.LockLemmas.{lock_scene-kept, lock-phase}
 use Rattle.stm_rule.specs.NoteSteps.{hear, Hears, load_end, CanLoadEnd, EndsAt}
-use Rattle.stm_rule.specs.Alone.{left_at, alone-kept}
+use Rattle.stm_rule.specs.Alone.{alone-kept, alone-seated}
 use Rattle.stm_rule.specs.Raised.{raised-put}
 use Rattle.stm_rule.specs.Findings.{NamesOther, FindsLock, FindsHolder}
 use Rattle.stm_rule.specs.Frames.{risen-trail, front-within, is-caller, unlocked, unwritten, outside, unheld, by-cgl, by-gate, by-running-of, unread, uncommitted, unentered, outside-records, bare, none-apart}
@@ -233,11 +230,32 @@ module _ (good : (ℕ → ℕ) → Type 0) (c : Config) (n : ℕ) where
       settled true e = absurd (unentered good c w n g (ap may_hold idle) e)
       settled false e = e
 
-  -- learning a note is no step, but changes what the caller knows
-  pub learns : (w : World) (k : SeenHistory) → Core good c w → IsSeen w k → (w.views n).gate.phase ≡ Idle → Core good c (record w { views = put w.views n (record (w.views n) { history = learned_history (w.views n).history k }) })
+  -- the load of a split or a join leaves all but the caller's trail
+  pub loads_seat : (w : World) → Core good c w → Core good c (record w { views = put w.views n (after_seat_load (w.views n)) })
+  loads_seat w g = record {
+    history = history-kept good c w x n v refl refl refl refl g.history;
+    steps = steps-seated c w n v refl g.steps;
+    gate = subst (GateRule c.callers) (sym (gate_scene-kept w x n v refl refl refl refl)) g.gate;
+    install = subst (InstallRule c) (sym (install_scene-kept w x n v refl refl refl refl refl)) g.install;
+    records = records-stay w x n v refl (le_refl w.clock) refl refl refl g.records;
+    lock = subst LockRule (sym (lock_scene-kept w x n v refl refl refl refl)) g.lock;
+    attempts = attempts-stay w x n v refl refl refl refl g.attempts;
+    running = runs-stays c (regime w) (regime x) (run_scene w) (run_scene x) (regime-kept w x n v refl refl refl) (run_scene-kept w x n v refl refl refl refl refl refl refl refl refl refl) g.running;
+    alone = alone-seated c w n v refl g.alone;
+    raised = raised-put w x n v refl (λ e. e) (λ e k. g.raised e n k) g.raised;
+  }
+    where
+      v : View
+      v = after_seat_load (w.views n)
+
+      x : World
+      x = record w { views = put w.views n (after_seat_load (w.views n)) }
+
+  -- learning a note changes what the caller knows, and the load of the join is in its trail
+  pub learns : (w : World) (k : SeenHistory) → Core good c w → IsSeen w k → (w.views n).gate.phase ≡ Idle → Core good c (record w { views = put w.views n (learned_view (w.views n) k) })
   learns w k g seen may = record {
     history = history-learned good c w x n v k refl refl refl refl seen.seen seen.within g.history;
-    steps = subst (StepsRule c) (sym path) g.steps;
+    steps = steps-seated c w n v refl g.steps;
     gate = subst (GateRule c.callers) (sym (gate_scene-kept w x n v refl refl refl refl)) g.gate;
     install = subst (InstallRule c) (sym (install_scene-kept w x n v refl refl refl refl refl)) g.install;
     records = records-stay w x n v refl (le_refl w.clock) refl refl refl g.records;
@@ -245,18 +263,15 @@ module _ (good : (ℕ → ℕ) → Type 0) (c : Config) (n : ℕ) where
     attempts = attempts-stay w x n v refl refl refl refl g.attempts;
     running = runs-stays c (regime w) (regime x) (record (run_scene w) { views = put (run_scene w).views n (run_view v) }) (run_scene x) (regime-kept w x n v refl refl refl) (run_scene-put w x n v refl refl refl refl refl refl refl refl refl) (runs-leave c (regime w) (run_scene w) n (run_view v) (record { was = idle; out = record { unlocked = idle.unlocked; unwritten = idle.unwritten; uncommitted = idle.uncommitted }; tml = outside good c w n g out; owned = outside-records good c w n g out; bare = bare good c w n g out; apart = none-apart good c w n g (bare good c w n g out); unread = unread good c w n g out; entered = refl }) (low (nat_le k.front (w.views n).history.front) refl)
         (λ a e. out (g.install.promoted n (granted-regime c w n g.gate g.install a e)).1) g.running);
-    alone = λ sole r x e. g.alone sole r x (ap (λ (f : ℕ → Steps). left_at r (f 0).trail) (sym (parts-kept (λ (u : View). u.steps) w.views n v refl)) ∙ e);
+    alone = alone-seated c w n v refl g.alone;
     raised = raised-put w x n v refl (λ e. e) (λ e k. g.raised e n k) g.raised;
   }
     where
       v : View
-      v = record (w.views n) { history = learned_history (w.views n).history k }
+      v = learned_view (w.views n) k
 
       x : World
-      x = record w { views = put w.views n (record (w.views n) { history = learned_history (w.views n).history k }) }
-
-      path : steps_scene x ≡ steps_scene w
-      path = λ i. record { clock = w.clock; views = parts-kept (λ (u : View). u.steps) w.views n v refl i }
+      x = record w { views = put w.views n (learned_view (w.views n) k) }
 
       out : (w.views n).gate.phase ≡ In → ⊥
       out e = let i : Idle ≡ In = sym may ∙ e in cc

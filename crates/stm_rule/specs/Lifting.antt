@@ -13,7 +13,7 @@ use Rattle.rule_base.specs.PutLemmas.{put-else}
 use Rattle.rule_base.specs.StepKinds.{StepKind, Advances, answer, view_after, world_after, StepLaw}
 use Rattle.rule_base.specs.World.{World, put}
 use Rattle.rule_base.specs.declared.views.SeenHistory.{SeenHistory}
-use Rattle.rule_base.specs.Notes.{learned_history}
+use Rattle.rule_base.specs.Notes.{after_seat_load, learned_view}
 use Rattle.rule_base.specs.Seating.{IsSeen}
 use Rattle.stm_rule.specs.Laws as laws
 use Rattle.stm_rule.specs.Product.{Core, Whole}
@@ -72,9 +72,16 @@ spared-gate w n gate v same = ap (λ k. record w { gate = gate; heap = veiled k 
 pub spared-entry : (w : World) (n clock : ℕ) (e : Entry) (v : View) → ((a : ℕ) → touches e.writes a ≡ true → fenced (fence_of w.gate) a ≡ false) → record (veil w) { clock = clock; history = e ∷ w.history; views = put w.views n v } ≡ veil (record w { clock = clock; history = e ∷ w.history; views = put w.views n v })
 spared-entry w n clock e v apart = ap (λ (f : ℕ → ℕ). record w { clock = clock; heap = f; history = e ∷ w.history; views = put w.views n v }) (veiled-entry (fence_of w.gate) w.heap w.history e apart)
 
--- learning a note leaves the range alone
-pub learns-whole : (good : (ℕ → ℕ) → Type 0) (c : Config) (n : ℕ) (w : World) (k : SeenHistory) → Whole good c w → IsSeen w k → (w.views n).gate.phase ≡ Idle → Whole good c (record w { views = put w.views n (record (w.views n) { history = learned_history (w.views n).history k }) })
+-- the load of a split or a join leaves the range alone
+pub loads_seat-whole : (good : (ℕ → ℕ) → Type 0) (c : Config) (n : ℕ) (w : World) → Whole good c w → Whole good c (record w { views = put w.views n (after_seat_load (w.views n)) })
+loads_seat-whole good c n w g = record {
+  core = laws.loads_seat good c n (veil w) g.core;
+  fence = fence-stays c w (record w { views = put w.views n (after_seat_load (w.views n)) }) n (after_seat_load (w.views n)) refl refl (le_refl w.clock) (λ a e. refl) (λ a e. refl) (λ f l. refl) refl (λ a p o. g.fence.apart n a p o) g.fence;
+}
+
+-- and so does learning a note
+pub learns-whole : (good : (ℕ → ℕ) → Type 0) (c : Config) (n : ℕ) (w : World) (k : SeenHistory) → Whole good c w → IsSeen w k → (w.views n).gate.phase ≡ Idle → Whole good c (record w { views = put w.views n (learned_view (w.views n) k) })
 learns-whole good c n w k g seen idle = record {
   core = laws.learns good c n (veil w) k g.core (record { front = seen.front; within = seen.within; seen = seen.seen }) idle;
-  fence = fence-stays c w (record w { views = put w.views n (record (w.views n) { history = learned_history (w.views n).history k }) }) n (record (w.views n) { history = learned_history (w.views n).history k }) refl refl (le_refl w.clock) (λ a e. refl) (λ a e. refl) (λ f l. refl) refl (λ a p o. g.fence.apart n a p o) g.fence;
+  fence = fence-stays c w (record w { views = put w.views n (learned_view (w.views n) k) }) n (learned_view (w.views n) k) refl refl (le_refl w.clock) (λ a e. refl) (λ a e. refl) (λ f l. refl) refl (λ a p o. g.fence.apart n a p o) g.fence;
 }

@@ -7,7 +7,7 @@ use Rattle.rule_base.specs.Encodings.{fenced}
 use Rattle.stm_rule.specs.CoreRuns.{core_kind}
 use Rattle.stm_rule.specs.CoreRuns.CoreStep.{fence_loads, fence_stores, unfences}
 use Rattle.stm_rule.specs.NoteRuns.{Shared, Deed, SharedRule, AllMay}
-use Rattle.stm_rule.specs.NoteRuns.Deed.{steps, tells, learns}
+use Rattle.stm_rule.specs.NoteRuns.Deed.{steps, tells, learns, gathers}
 
 -- the place is no word of the fence's range
 abbrev pub IsBeside : ℕ → At → Type 0
@@ -19,6 +19,7 @@ abbrev pub LeavesAlone : ℕ → ℕ → Deed → Type 0
 LeavesAlone fence m (steps step) = IsBeside fence (core_kind m step).place
 LeavesAlone fence m tells = Unit {0}
 LeavesAlone fence m (learns note) = Unit {0}
+LeavesAlone fence m gathers = Unit {0}
 
 -- a load or a store of the range by the caller that has it
 abbrev pub is_direct : Deed → Bool
