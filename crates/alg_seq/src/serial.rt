@@ -13,7 +13,6 @@ ghost use Rattle.alg_seq.specs.Storing.{GivesUp, KeepsOld, HasClock, HasLogged, 
 
 use crate::nesting::{roll_in_place, take_back};
 use alg_calls::algorithm::Algorithm;
-use stm_gate::kept::is_kept;
 use stm_gate::leave::leave;
 use stm_model::alg::Alg;
 use stm_model::config::CLOCK_LIMIT;
@@ -210,10 +209,9 @@ fn log_old<K: MemRule>(
     ensures logs { HasLogged stm.now.config.words a x local.old (view_of seat.old) local.new (view_of seat.new) }
     ensures steps { TakesAtMost 1 (view_of seat.old) (view_of seat.new) }
 {
-    let kept = is_kept(local, a);
     let count = local.writes.count();
     let _ = local.writes.push(a, x);
-    if local.writes.count() > count && !kept {
+    if local.writes.count() > count && local.undo.find(a).is_none() {
         let old = stm.load_undo(seat, caller, a);
         let _ = local.undo.push(a, old);
     }
