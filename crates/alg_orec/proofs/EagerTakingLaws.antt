@@ -77,6 +77,7 @@ module _ (good : (ℕ → ℕ) → Type 0) (c : Config) (n a : ℕ) (l : Local) 
     more = load_of (Heap a) x ∷ [];
     is = t.2 ∙ (λ i. record v { history = record v.history { front = can.front i }; attempt = record v.attempt { start = can.can.start i; reads = record { at = a; value = x } ∷ v.attempt.reads }; sample = no_sample; check = no_check; steps = record v.steps { trail = load_of (Heap a) x ∷ v.steps.trail } });
     moves = inl (sym can.can.start, refl);
+    owed = inl (sym can.can.start);
     sees = t.1.sees.sees;
     legal = t.1.sees.legal;
     below = (let b = t.1.sees.below in subst (λ (s : ℕ). Below v.history.seen (s + 1)) can.can.start b);

@@ -124,8 +124,8 @@ module _ (good : (ℕ → ℕ) → Type 0) (c : Config) (n : ℕ) (low : n < c.c
     newer free late = newer-others c n low t.0 v x r t.1 free can.can.level (let s = can.can.start in omega arith)
 
     -- a validation is owed
-    shown : (more : List TrailItem) → is_owned x ≡ false → l.start < version_of x → ShowsNewer c a (more ++ load_of (Record r) x ∷ []) v
-    shown more free late = (x, Contains-append_right more (load_of (Record r) x ∷ []) (load_of (Record r) x) (0, omega arith, refl), free, (let s = can.can.start in omega arith))
+    is-newer : (more : List TrailItem) → is_owned x ≡ false → l.start < version_of x → ShowsNewer c a (more ++ load_of (Record r) x ∷ []) v
+    is-newer more free late = (x, Contains-append_right more (load_of (Record r) x ∷ []) (load_of (Record r) x) (0, omega arith, refl), free, (let s = can.can.start in omega arith))
 
     pub sampled-new : (m : Local) (w : View) → is_owned x ≡ false → l.start < version_of x → IsValid c n good l u m w → HasSampled good c n a x l v m w
     sampled-new m w free late h = by (subst (λ (y : View). IsValid c n good l y m w) (path false free) h)
@@ -140,7 +140,7 @@ module _ (good : (ℕ → ℕ) → Type 0) (c : Config) (n : ℕ) (low : n < c.c
           free = free;
           old = k.sampled refl;
           moves = inr (k.found, (let q = k.moves in record { legal = q.legal; below = q.below; seen = q.seen; front = q.front; limit = q.limit; sees = q.sees }), newer free late);
-          owed = inr (shown k.more free late);
+          owed = inr (is-newer k.more free late);
           next = inr (newer free late);
         })
           where
@@ -185,7 +185,7 @@ module _ (good : (ℕ → ℕ) → Type 0) (c : Config) (n : ℕ) (low : n < c.c
                 trail = ap (λ (s : List TrailItem). (s ++ load_of (Record r) x ∷ []) ++ v.steps.trail) f.last;
                 untouched = untouched-loads (Record index) (f.early ++ load_of (Record r) x ∷ []) (loads-append f.early (load_of (Record r) x ∷ []) (early f.last) (refl, tt));
               },
-              inr (newer-shown c a more v last o p refl (shown k.more free late), (k.a, k.home, has-read v.attempt.reads k.a k.read), stale f.stale),
+              inr (newer-shown c a more v last o p refl (is-newer k.more free late), (k.a, k.home, has-read v.attempt.reads k.a k.read), stale f.stale),
             )
               where
                 early : k.more ≡ load_of (Record index) word ∷ f.early → OnlyLoads f.early
