@@ -16,11 +16,12 @@ use Rattle.rule_base.specs.Bridge.{public_history}
 use Rattle.rule_base.specs.Own.{Own}
 use Rattle.stm_gate.specs.LeavingLaws.{found-later}
 use Rattle.tx_answers.specs.Answers.{StartMoves, GoesOn}
-use Rattle.tx_answers.specs.Causes.{IsAgain}
+use Rattle.tx_answers.specs.Causes.{IsAgain, OwesValidation}
+use Rattle.tx_answers.specs.Causes.Asked.{ToCommit}
 use Rattle.tx_answers.specs.Evidence.{Found}
 use Rattle.tx_answers.specs.Known.{Grows, known_of, fenced_of, granted_under, is_in, is_closing}
 use Rattle.tx_answers.specs.KnownLaws.{grows-same, grows-trans}
-use Rattle.alg_orec.proofs.Proving.{with_commit}
+use Rattle.alg_orec.proofs.Proving.{owes-later, with_commit}
 use Rattle.alg_orec.specs.Committing.{readied}
 
 -- the exchange of the clock, which found another number
@@ -43,11 +44,11 @@ module _ (v : View) (more : List TrailItem) {w u : View} {start : ℕ} {seen : L
   later o f = found-later Clock start (known_of v o) (known_of w o) (known_of u (with_commit true o)) f
       (tried start now ∷ []) (ap (λ (y : View). y.steps.trail) still)
 
-  pub goes-on : (alg : Alg) (o : Own) → v.gate.algorithm ≡ alg → v.gate.phase ≡ In → v.attempt.start ≤ start → Grows
+  pub goes-on : (c : Config) (alg : Alg) (o : Own) → v.gate.algorithm ≡ alg → v.gate.phase ≡ In → v.attempt.start ≤ start → Grows
       (known_of v o) (known_of w o)
-      → StartMoves alg (known_of v o) (known_of u (with_commit true o)) → GoesOn (known_of v o)
+      → StartMoves c ToCommit alg (known_of v o) (known_of u (with_commit true o)) → GoesOn c ToCommit (known_of v o)
       (known_of u (with_commit true o))
-  goes-on alg o named inside rose grows moves = record {
+  goes-on c alg o named inside rose grows moves = record {
     continues = record {
       running = ap is_in phase;
       closing = ap is_closing phase;
@@ -65,7 +66,7 @@ module _ (v : View) (more : List TrailItem) {w u : View} {start : ℕ} {seen : L
       installs = ap (λ (y : View). reverse y.steps.installs) path;
       depth = refl;
     };
-    start = subst (λ (a : Alg). StartMoves a (known_of v o) (known_of u p)) (sym named) moves;
+    start = subst (λ (a : Alg). StartMoves c ToCommit a (known_of v o) (known_of u p)) (sym named) moves;
     granted = ap (λ (y : View). granted_under y.gate.algorithm y.gate y.lock) path;
     holds = ap (λ (y : View). y.gate.holds) path;
     checked = ap (λ (y : View). y.gate.checked) path;
@@ -79,13 +80,16 @@ module _ (v : View) (more : List TrailItem) {w u : View} {start : ℕ} {seen : L
       phase = ap (λ (y : View). y.gate.phase) path ∙ inside
 
   -- the start is as it was, or the clock that a validation found
-  pub start-moves : (o : Own) (old : ℕ) → v.attempt.start ≡ old → (start ≡ old) ⊎
-      ((p : Own) → Found Clock start (known_of v p) (known_of w p))
-      → (u.attempt.start ≡ v.attempt.start) ⊎ Found Clock u.attempt.start (known_of v o)
-      (known_of u (with_commit true o))
-  start-moves o old was (inl s) = inl (start_is ∙ (s ∙ sym was))
-  start-moves o old was (inr f) = inr (subst (λ (x : ℕ). Found Clock x (known_of v o) (known_of u (with_commit true o)))
-      (sym start_is) (later o (f o)))
+  pub start-moves : (c : Config) (o : Own) (old : ℕ) → v.attempt.start ≡ old → (start ≡ old) ⊎
+      (Found Clock start (known_of v o) (known_of w o) × OwesValidation c ToCommit (known_of v o) (known_of w o))
+      → (u.attempt.start ≡ v.attempt.start) ⊎ (Found Clock u.attempt.start (known_of v o)
+      (known_of u (with_commit true o)) × OwesValidation c ToCommit (known_of v o) (known_of u (with_commit true o)))
+  start-moves c o old was (inl s) = inl (start_is ∙ (s ∙ sym was))
+  start-moves c o old was (inr f) = inr (
+    subst (λ (x : ℕ). Found Clock x (known_of v o) (known_of u (with_commit true o))) (sym start_is) (later o f.0),
+    owes-later c ToCommit (known_of v o) (known_of w o) (known_of u (with_commit true o)) (tried start now ∷ [])
+        (ap (λ (y : View). y.steps.trail) still) f.1,
+  )
 
   pub is-again : (c : Config) (n : ℕ) (o : Own) → has_records v.gate.algorithm ≡ true → now ≢ start
       → (o.committing ≡ true → Found Clock start (known_of v o) (known_of w o))

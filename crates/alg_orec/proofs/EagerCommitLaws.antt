@@ -1,5 +1,5 @@
 -- What the ends of an attempt of OrecEager come to: its commit, and what cancels it.
-use Rattle.std.proofs.Common.{ℕ, ◌≡◌, ◌≢◌, ◌<◌, ◌≤◌, ◌+◌, List, [], ◌∷◌, ◌++◌, length, Bool, true, false, refl, sym, ap, ◌∙◌, arith, subst, inl, inr, append_assoc}
+use Rattle.std.proofs.Common.{ℕ, ◌≡◌, ◌≢◌, ◌<◌, ◌≤◌, ◌+◌, List, [], ◌∷◌, ◌++◌, length, Bool, true, false, refl, sym, ap, ◌∙◌, arith, subst, inl, inr, append_assoc, ⊎_elim}
 use Rattle.std.specs.Prelude.{◌⊎◌, ◌==◌, ◌%◌, ◌||◌, not, reverse, if◌then◌else◌, None, Result, Ok, Err}
 use Rattle.std.proofs.lemmas.Bool.Decides.{nat_tests}
 use Rattle.stm_model.specs.Algorithms.{has_records, asks_at_commit, entry_rise, quit_rise}
@@ -44,7 +44,8 @@ use Rattle.steps_orec.specs.RecordFindings.{FindsClock, FindsCommit, Enters}
 use Rattle.tx_answers.specs.declared.answers.Cancel.TheVariants.{Cancelled}
 use Rattle.tx_answers.specs.declared.answers.Commit.TheVariants as commits
 use Rattle.tx_answers.specs.Answers.{KeepsRule, Commits, CommitsAt, Cancels, EndsAt, entry}
-use Rattle.tx_answers.specs.Causes.{Conflicts, NamesOther, has_item, is_some}
+use Rattle.tx_answers.specs.Causes.{Conflicts, IsStaleAt, has_item, is_some}
+use Rattle.tx_answers.specs.Causes.Asked.{ToCommit}
 use Rattle.tx_answers.specs.Evidence.{Found}
 use Rattle.tx_answers.specs.Known.{Grows, known_of, granted_under, written_under, wrote, has_written}
 use Rattle.tx_answers.specs.KnownLaws.{grows-same}
@@ -417,8 +418,8 @@ module _ {good : List ℕ → Type 0} {c : Config} {n : ℕ} {l : Local} {v : Vi
   }
 
   -- or the reads are valid
-  pub revalidates-valid : (m : Local) (w : View) → IsValid c n rule l v m w → IsRevalidated good c n l v m w
-  revalidates-valid m w h = record {
+  pub revalidates-valid : l.committing ≡ true → (m : Local) (w : View) → IsValid c n rule l v m w → IsRevalidated good c n l v m w
+  revalidates-valid mid m w h = record {
     local = h.local;
     seen = h.history;
     loaded = false;
@@ -427,7 +428,7 @@ module _ {good : List ℕ → Type 0} {c : Config} {n : ℕ} {l : Local} {v : Vi
     is = h.is;
     stays = subst (λ (z : View). IsInside good c n m z) (sym h.is) (subst (λ (d : Local). IsInside good c n d y) (sym h.local) stays);
     grows = λ p. subst (λ (z : View). Grows (known_of v p) (known_of z p)) (sym h.is) (grown p);
-    start = inr found;
+    start = inr (found, mid);
     again = λ e. found;
   }
     where
@@ -455,14 +456,14 @@ module _ {good : List ℕ → Type 0} {c : Config} {n : ℕ} {l : Local} {v : Vi
       stays = stays-at m.start l.committing h.history false no_check h.more h.moves.legal h.moves.below h.moves.sees h.olds (λ one. h.sole one ∙ ap (λ (t : ℕ). c.clock + t) kept.optimistic.rises)
 
   -- or one isn't
-  pub revalidates-stale : (cause : causes.the_data) (m : Local) (w : View) → m ≡ l → Refuses c n cause v w → IsOverrun good c n cause l v m w
-  revalidates-stale (causes.Clock had now) m w same h = absurd h
-  revalidates-stale (causes.Record index word start) m w same h = record {
+  pub revalidates-stale : l.committing ≡ true → (cause : causes.the_data) (m : Local) (w : View) → m ≡ l → Refuses c n cause v w → IsOverrun good c n cause l v m w
+  revalidates-stale mid (causes.Clock had now) m w same h = absurd h
+  revalidates-stale mid (causes.Record index word start) m w same h = record {
     local = same;
     check = w.check;
     more = h.more;
     is = h.is;
-    conflicts = λ p q. subst (λ (z : View). Conflicts c n None (causes.Record index word start) (known_of v p) (known_of z q)) (sym h.is) (told p q h.why);
+    conflicts = λ p q same_mid. subst (λ (z : View). Conflicts c n ToCommit (causes.Record index word start) (known_of v p) (known_of z q)) (sym h.is) (told p q (same_mid ∙ mid) h.why);
     others = many h.why;
   }
     where
@@ -476,14 +477,13 @@ module _ {good : List ℕ → Type 0} {c : Config} {n : ℕ} {l : Local} {v : Vi
       many (inl f) = f.others
       many (inr f) = absurd (mine f)
 
-      told : (p q : Own) → IsFoundStale c n index word start h.more v ⊎ IsHeldNewer c n index word start v → Conflicts c n None (causes.Record index word start) (known_of v p) (known_of y q)
-      told p q (inr f) = absurd (mine f)
-      told p q (inl f) = (
+      told : (p q : Own) → p.committing ≡ true → IsFoundStale c n index word start h.more v ⊎ IsHeldNewer c n index word start v → Conflicts c n ToCommit (causes.Record index word start) (known_of v p) (known_of y q)
+      told p q owed (inr f) = absurd (mine f)
+      told p q owed (inl f) = (
         ap has_records eager,
         h.start,
-        (h.a, h.home, inr (inl read)),
         record { early = f.early; act = Load; late = []; trail = ap (λ (s : List TrailItem). s ++ v.steps.trail) f.last; untouched = untouched-loads (Record index) f.early (early f.last) },
-        stale f.stale,
+        inr (inl owed, (h.a, h.home, read), subst (λ (s : ℕ). IsStaleAt c n s word) h.start f.stale),
       )
         where
           read : has_item h.a (items v.attempt.reads) ≡ true
@@ -491,28 +491,23 @@ module _ {good : List ℕ → Type 0} {c : Config} {n : ℕ} {l : Local} {v : Vi
 
           early : h.more ≡ load_of (Record index) word ∷ f.early → OnlyLoads f.early
           early e = (subst OnlyLoads e h.loads).1
+  revalidates-stale mid (causes.Moved index before after) m w same h = absurd h
+  revalidates-stale mid (causes.Filter time bits) m w same h = absurd h
+  revalidates-stale mid (causes.Overrun start clock) m w same h = absurd h
 
-          stale : ((is_owned word ≡ true) × NamesOther c n (1 + owner_of word)) ⊎ ((is_owned word ≡ false) × (start < version_of word))
-              → ((is_owned word ≡ true) × NamesOther c n (1 + owner_of word)) ⊎ ((is_owned word ≡ false) × (start < version_of word) × ((b : ℕ) × (index ≡ b % c.records) × (has_item b (items v.attempt.reads) ≡ true)))
-          stale (inl s) = inl s
-          stale (inr s) = inr (s.0, s.1, (h.a, h.home, read))
-  revalidates-stale (causes.Moved index before after) m w same h = absurd h
-  revalidates-stale (causes.Filter time bits) m w same h = absurd h
-  revalidates-stale (causes.Overrun start clock) m w same h = absurd h
-
-  pub revalidates : (r : Result (Unit {0}) causes.the_data) (m : Local) (w : View) → Validates c n rule r l v m w → Revalidates good c n r l v m w
-  revalidates (Ok u) m w h = revalidates-valid m w h
-  revalidates (Err cause) m w h = revalidates-stale cause m w h.0 h.1
+  pub revalidates : l.committing ≡ true → (r : Result (Unit {0}) causes.the_data) (m : Local) (w : View) → Validates c n rule r l v m w → Revalidates good c n r l v m w
+  revalidates mid (Ok u) m w h = revalidates-valid mid m w h
+  revalidates mid (Err cause) m w h = revalidates-stale mid cause m w h.0 h.1
 
   -- and the attempt is taken back
   pub may-take-overrun : (cause : causes.the_data) (m : Local) (w : View) → IsOverrun good c n cause l v m w → CanTakeBack c m w
   may-take-overrun cause m w h = subst (λ (d : Local). CanTakeBack c d w) (sym h.local) (subst (CanTakeBack c l) (sym h.is) (may-take here l h.check h.more refl refl))
 
-  pub tells-stopped : (o : Own) (cause : causes.the_data) (m : Local) (u z : View) → IsOverrun good c n cause l v m u → TakesBack n u z → Commits good c n (commits.Conflict cause) (known_of v o) (known_of z (with_commit false o))
-  tells-stopped o cause m u z h g = let t = proving.ended-by n u z g in (
+  pub tells-stopped : (o : Own) → o.committing ≡ l.committing → (cause : causes.the_data) (m : Local) (u z : View) → IsOverrun good c n cause l v m u → TakesBack n u z → Commits good c n (commits.Conflict cause) (known_of v o) (known_of z (with_commit false o))
+  tells-stopped o mid cause m u z h g = let t = proving.ended-by n u z g in (
     proving.quits-back n v u z o eager kept.optimistic.ungranted kept.optimistic.rises (ap (λ (y : View). y.steps.rises) h.is) (λ e. ap (λ (y : View). y.owned.held) h.is ∙ clean here o e) g
         (subst (IsUnmade v) (sym h.is) (record { carried = record { named = refl; base = refl; installs = refl; fence = refl; trail = (h.more, refl) }; history = refl })),
-    proving.conflicts-later c n None cause (known_of v o) (known_of u o) (known_of z (with_commit false o)) (ap has_records eager) t.0 t.1 (h.conflicts o o),
+    proving.conflicts-later c n ToCommit cause (known_of v o) (known_of u o) (known_of z (with_commit false o)) (ap has_records eager) t.0 t.1 (h.conflicts o o mid),
     h.others,
     wrote_is o,
   )
@@ -597,7 +592,7 @@ module _ {good : List ℕ → Type 0} {c : Config} {n : ℕ} {l : Local} {v : Vi
 
     pub tells-again : n < c.callers → (o : Own) → o.committing ≡ l.committing → Commits good c n (commits.Again 0 m.start now) (known_of v o) (known_of u (with_commit true o))
     tells-again low o mid = (
-      again.goes-on v r.more r.is now still_path OrecEager o named can.inside.phase begins (r.grows o) (again.start-moves v r.more r.is now still_path o l.start can.inside.start r.start),
+      again.goes-on v r.more r.is now still_path c OrecEager o named can.inside.phase begins (r.grows o) (again.start-moves v r.more r.is now still_path c o l.start can.inside.start (⊎_elim (λ s. inl s) (λ f. inr (f.0 o, inl (mid ∙ f.1))) r.start)),
       refl,
       log_at o p u (ap (λ (y : View). y.gate) path) (ap (λ (y : View). y.attempt.reads) path) (ap (λ (y : View). y.owned.in_place) path),
       kept_at o p u (ap (λ (y : View). y.gate) path) (ap (λ (y : View). y.owned.undo) path),

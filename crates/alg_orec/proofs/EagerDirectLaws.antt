@@ -76,13 +76,6 @@ module _ {good : List ℕ → Type 0} {c : Config} {n : ℕ} {l : Local} {v : Vi
   wrote-known o true q = ap (λ (ws : List (ℕ × ℕ)). not (is_empty ws)) (written-here o) ∙ ap not (wrote-some v.attempt.stores (k.dirty q))
   wrote-known o false q = ap (λ (ws : List (ℕ × ℕ)). not (is_empty ws)) (written-here o ∙ ap items (k.clean q))
 
-  pub unwritten-here : (o : Own) → wrote (known_of v o) ≡ false → l.wrote ≡ false
-  unwritten-here o e = by l.wrote refl
-    where
-      by : (b : Bool) → l.wrote ≡ b → b ≡ false
-      by true q = absurd (let f : true ≡ false = sym (wrote-known o true q) ∙ e in cc)
-      by false q = refl
-
   -- WHERE IT WROTE NOTHING it may hold records of writes that were taken back
   pub may-give-above : l.wrote ≡ false → CanGiveAbove c l v
   may-give-above clean = record {

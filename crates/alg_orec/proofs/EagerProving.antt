@@ -1,6 +1,6 @@
 -- What stands of an attempt of OrecEager, and what its end comes to as seen from before.
 use Rattle.std.proofs.Common.{ℕ, ◌≡◌, ◌≤◌, ◌+◌, List, [], ◌∷◌, ◌++◌, length, Bool, true, false, refl, sym, ap, ◌∙◌, arith, subst}
-use Rattle.std.specs.Prelude.{Option, not, ◌&&◌, ◌||◌}
+use Rattle.std.specs.Prelude.{not, ◌&&◌, ◌||◌}
 use Rattle.stm_model.specs.Algorithms.{has_records, closes_gate, irrevocable_under, quit_rise}
 use Rattle.stm_model.specs.declared.alg.Alg.{Alg}
 use Rattle.stm_model.specs.declared.alg.Alg.TheVariants.{OrecEager}
@@ -19,7 +19,7 @@ use Rattle.stm_rule.specs.declared.local.Local.{Local}
 use Rattle.stm_rule.specs.Attempts.{Keeps, IsInside}
 use Rattle.stm_rule.specs.EagerKept.{IsEager}
 use Rattle.tx_answers.specs.Answers.{Quits}
-use Rattle.tx_answers.specs.Causes.{Conflicts}
+use Rattle.tx_answers.specs.Causes.{Asked, Conflicts}
 use Rattle.tx_answers.specs.Known.{Known, known_of, granted_under, kept_under, written_under, is_irrevocable, is_none, wrote, has_written}
 use Rattle.alg_orec.proofs.Proving.{conflicts-by-records, quits-own, unmade-trans, with_commit}
 use Rattle.alg_orec.specs.EagerEnding.{TakesBack}
@@ -112,7 +112,7 @@ module _ (good : List ℕ → Type 0) (c : Config) (n : ℕ) (l : Local) (v : Vi
       (λ j. irrevocable_under (eager j) (granted_under (eager j) v.gate v.lock) (wrote (known_of v o))) ∙ here
 
 -- more steps were taken
-pub conflicts-later : (c : Config) (n : ℕ) (asked : Option ℕ) (cause : causes.the_data) (v u w : Known) → has_records v.alg ≡ true → (more : List TrailItem) → w.trail ≡ more ++ u.trail → Conflicts c n asked cause v u → Conflicts c n asked cause v w
+pub conflicts-later : (c : Config) (n : ℕ) (asked : Asked) (cause : causes.the_data) (v u w : Known) → has_records v.alg ≡ true → (more : List TrailItem) → w.trail ≡ more ++ u.trail → Conflicts c n asked cause v u → Conflicts c n asked cause v w
 conflicts-later = conflicts-by-records
 
 -- until it ended

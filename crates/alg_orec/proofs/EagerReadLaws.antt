@@ -1,5 +1,5 @@
 -- What the parts of a read of OrecEager come to, and what they come to together.
-use Rattle.std.proofs.Common.{ℕ, ◌≡◌, ◌≢◌, ◌<◌, List, [], ◌∷◌, ◌++◌, length, Bool, true, false, refl, sym, ap, ◌∙◌, arith, subst, inl, inr, append_assoc}
+use Rattle.std.proofs.Common.{ℕ, ◌≡◌, ◌≢◌, ◌<◌, ◌≤◌, List, [], ◌∷◌, ◌++◌, length, Bool, true, false, refl, sym, ap, ◌∙◌, arith, subst, inl, inr, append_assoc}
 use Rattle.std.specs.Prelude.{◌%◌, ◌⊎◌, ◌==◌, ◌&&◌, not, if◌then◌else◌, Some, None, Err, ◌||◌}
 use Rattle.std.proofs.lemmas.Bool.Decides.{nat_tests}
 use Rattle.std.proofs.lemmas.List.Elements.{Contains-append_left}
@@ -41,7 +41,8 @@ use Rattle.steps_orec.specs.RecordFindings.{FindsAgain}
 use Rattle.tx_answers.specs.declared.answers.Read.{Read}
 use Rattle.tx_answers.specs.declared.answers.Read.TheVariants as reads
 use Rattle.tx_answers.specs.Answers.{GoesOn, HasRead, Quits, StartMoves, write_rise}
-use Rattle.tx_answers.specs.Causes.{Conflicts, has_item, reads_full}
+use Rattle.tx_answers.specs.Causes.{Asked, Conflicts, FindsNewer, has_item, reads_full}
+use Rattle.tx_answers.specs.Causes.Asked.{ForWord}
 use Rattle.tx_answers.specs.Evidence.{Found}
 use Rattle.tx_answers.specs.Known.{Known, caller_of, known_of, is_irrevocable, is_none, has_written}
 use Rattle.tx_answers.specs.KnownLaws.{grows-trans}
@@ -55,21 +56,24 @@ use Rattle.alg_orec.proofs.RecordReads as records
 use Rattle.alg_orec.proofs.LockingLaws.{unheld-of}
 use Rattle.alg_orec.specs.EagerEnding.{CanTakeBack, TakesBack}
 use Rattle.alg_orec.specs.EagerReading.{IsNew, HasSample, IsSampled, IsLoaded, LoadsSampled, GoesOnReading, FindsFree, FindsMoved, Samples, Confirms}
-use Rattle.alg_orec.specs.Loading.{CanLoadValid, moved, sampled_at, MayMove, HasSampled, HasLoaded}
+use Rattle.alg_orec.specs.Loading.{CanLoadValid, moved, sampled_at, MayMove, MovesOwed, HasSampled, HasLoaded}
 use Rattle.alg_orec.specs.Validating.{load_of}
 
 -- THE PARTS TOGETHER: a start that moved, and moved on
-moves-on : (u v w : Known) → (more : List TrailItem) → v.trail ≡ more ++ u.trail → (late : List TrailItem) → w.trail ≡ late ++ v.trail → (v.start ≡ u.start) ⊎ Found Clock v.start u v → (w.start ≡ v.start) ⊎ Found Clock w.start v w → (w.start ≡ u.start) ⊎ Found Clock w.start u w
-moves-on u v w more t late s a (inr f) = inr (found-earlier Clock w.start u v w f more t)
-moves-on u v w more t late s (inl e) (inl f) = inl (f ∙ e)
-moves-on u v w more t late s (inr e) (inl f) = inr (subst (λ (x : ℕ). Found Clock x u w) (sym f) (found-later Clock v.start u v w e late s))
+abbrev MovesBy : Config → ℕ → Known → Known → Type 0
+MovesBy c at v w = (w.start ≡ v.start) ⊎ (Found Clock w.start v w × FindsNewer c at v w)
+
+moves-on : (c : Config) (at : ℕ) (u v w : Known) → u.start ≤ v.start → (more : List TrailItem) → v.trail ≡ more ++ u.trail → (late : List TrailItem) → w.trail ≡ late ++ v.trail → MovesBy c at u v → MovesBy c at v w → MovesBy c at u w
+moves-on c at u v w low more t late s a (inr f) = let d = f.1 in inr (found-earlier Clock w.start u v w f.0 more t, (d.0, found-earlier (Record (at % c.records)) d.0 u v w d.1 more t, d.2, (let e = d.3 in omega arith)))
+moves-on c at u v w low more t late s (inl e) (inl f) = inl (f ∙ e)
+moves-on c at u v w low more t late s (inr e) (inl f) = let d = e.1 in inr (subst (λ (x : ℕ). Found Clock x u w) (sym f) (found-later Clock v.start u v w e.0 late s), (d.0, found-later (Record (at % c.records)) d.0 u v w d.1 late s, d.2, d.3))
 
 -- who reads under OrecEager doesn't raise the clock
-level-reads : (v u : Known) → v.alg ≡ OrecEager → GoesOn v u → u.rises ≡ v.rises
+level-reads : {c : Config} {asked : Asked} → (v u : Known) → v.alg ≡ OrecEager → GoesOn c asked v u → u.rises ≡ v.rises
 level-reads v u eager a = let low = a.continues.rises.0 in let high = a.continues.rises.1 in let e : write_rise v.alg (is_irrevocable v) ≡ 0 = ap (λ (r : Alg). write_rise r (is_irrevocable v)) eager in omega arith
 
 -- an attempt of OrecEager that went on, with its log as it was
-module _ (v u : Known) (eager : v.alg ≡ OrecEager) (a : GoesOn v u) (log : u.log ≡ v.log) (kept : u.kept ≡ v.kept) where
+module _ {c : Config} {at : ℕ} (v u : Known) (eager : v.alg ≡ OrecEager) (a : GoesOn c (ForWord at) v u) (log : u.log ≡ v.log) (kept : u.kept ≡ v.kept) where
   same-irrevocable : is_irrevocable u ≡ is_irrevocable v
   same-irrevocable = λ j. irrevocable_under (a.continues.alg j) (a.granted j) (not (is_empty (log j).writes))
 
@@ -80,7 +84,7 @@ module _ (v u : Known) (eager : v.alg ≡ OrecEager) (a : GoesOn v u) (log : u.l
   still-new b unwritten unread room = record { unwritten = ap (λ (g : Log). item_at b g.writes) log ∙ unwritten; unread = ap (λ (g : Log). item_at b g.reads) log ∙ unread; room = same-room b ∙ room }
 
   module _ (w : Known) where
-    pub goes-then : GoesOn u w → GoesOn v w
+    pub goes-then : GoesOn c (ForWord at) u w → GoesOn c (ForWord at) v w
     goes-then b = let k = a.continues in let q = b.continues in record {
       continues = record {
         running = q.running;
@@ -98,7 +102,7 @@ module _ (v u : Known) (eager : v.alg ≡ OrecEager) (a : GoesOn v u) (log : u.l
         installs = q.installs ∙ k.installs;
         depth = q.depth ∙ k.depth;
       };
-      start = subst (λ (r : Alg). StartMoves r v w) (sym eager) (moves-on v u w k.grows.more k.grows.trail q.grows.more q.grows.trail (subst (λ (r : Alg). StartMoves r v u) eager a.start) (subst (λ (r : Alg). StartMoves r u w) (k.alg ∙ eager) b.start));
+      start = subst (λ (r : Alg). StartMoves c (ForWord at) r v w) (sym eager) (moves-on c at v u w k.later k.grows.more k.grows.trail q.grows.more q.grows.trail (subst (λ (r : Alg). StartMoves c (ForWord at) r v u) eager a.start) (subst (λ (r : Alg). StartMoves c (ForWord at) r u w) (k.alg ∙ eager) b.start));
       granted = b.granted ∙ a.granted;
       holds = b.holds ∙ a.holds;
       checked = b.checked ∙ a.checked;
@@ -130,7 +134,7 @@ module _ (good : List ℕ → Type 0) (c : Config) (n a word x : ℕ) where
       found : GoesOnReading good c n a (f.0 ++ load_of (Record at) word ∷ []) v s
       found = f.2
 
-      goes : GoesOn v u
+      goes : GoesOn c (ForWord a) v u
       goes = goes-then v s eager found.goes found.log found.kept u l.goes
 
       log : u.log ≡ v.log
@@ -149,9 +153,9 @@ module _ (good : List ℕ → Type 0) (c : Config) (n a word x : ℕ) where
       by (reads.Value y) q = subst (λ (z : ℕ). HasRead good c n a (reads.Value z) v w) (sym q.0) (let h = q.1 in (goes-then v u eager goes log kept w h.0, h.1, subst (λ (g : Log). Reads g a x w.log) log h.2, h.3, h.4, room, h.6 ∙ level-reads v u eager goes, h.7 ∙ kept))
       by (reads.Conflict cause) q = (
         quits-then v u eager goes log kept w q.quits,
-        subst (λ (z : Cause). Conflicts c n (Some a) z v w) (sym q.is) (
+        subst (λ (z : Cause). Conflicts c n (ForWord a) z v w) (sym q.is) (
           ap has_records eager,
-          (a, refl, inl refl),
+          refl,
           record {
             apart = q.apart;
             early = [];
@@ -223,8 +227,8 @@ module _ (good : List ℕ → Type 0) (c : Config) (n : ℕ) (l : Local) (v : Vi
   stays start seen sample check more moves = laws.stays-moved good c n l v runs start seen v.attempt.reads sample check more l.reads moves (records.legal-at (laws.reading good c n l v runs) start seen more moves) (records.below-at (laws.reading good c n l v runs) start seen more moves) (records.sees-at (laws.reading good c n l v runs) start seen more moves) i.reads_inside k.reads
 
   -- it goes on where it came to, and has yet to read a
-  reads-on : (a start : ℕ) (seen : List Entry) (sample : Sample) (check : Validation) (more : List TrailItem) → MayMove rule c n start seen more v → IsNew a (known_of v o) → GoesOnReading good c n a more (known_of v o) (known_of (moved v start seen v.attempt.reads sample check more) o)
-  reads-on a start seen sample check more moves new = record {
+  reads-on : (a start : ℕ) (seen : List Entry) (sample : Sample) (check : Validation) (more : List TrailItem) → MayMove rule c n start seen more v → MovesOwed c a start more v → IsNew a (known_of v o) → GoesOnReading good c n a more (known_of v o) (known_of (moved v start seen v.attempt.reads sample check more) o)
+  reads-on a start seen sample check more moves owed new = record {
     goes = goes;
     uncommitted = runs.quiet;
     log = log;
@@ -237,8 +241,8 @@ module _ (good : List ℕ → Type 0) (c : Config) (n : ℕ) (l : Local) (v : Vi
       w : View
       w = moved v start seen v.attempt.reads sample check more
 
-      goes : GoesOn (known_of v o) (known_of w o)
-      goes = records.goes-moved (laws.reading good c n l v runs) start seen more moves v.attempt.reads sample check
+      goes : GoesOn c (ForWord a) (known_of v o) (known_of w o)
+      goes = records.goes-moved (laws.reading good c n l v runs) start seen more moves v.attempt.reads sample check a owed
 
       log : (known_of w o).log ≡ (known_of v o).log
       log = λ j. record { reads = items v.attempt.reads; writes = (written c l v k runs.eager w o refl refl ∙ sym (written c l v k runs.eager v o refl refl)) j }
@@ -266,7 +270,7 @@ module _ (good : List ℕ → Type 0) (c : Config) (n : ℕ) (l : Local) (v : Vi
     stays-sampled = subst (λ (q : Local). IsInside good c n q w) (sym h.local) (subst (λ (y : View). IsInside good c n (record l { start = m.start }) y) (sym h.is) (stays m.start h.seen (sampled_at a (version_of word)) w.check all moves))
 
     pub finds-free : IsNew a (known_of v o) → FindsFree good c n a word (known_of v o) (known_of w o)
-    finds-free new = (h.late, h.loads, subst (λ (y : View). GoesOnReading good c n a all (known_of v o) (known_of y o)) (sym h.is) (reads-on a m.start h.seen (sampled_at a (version_of word)) w.check all moves new))
+    finds-free new = (h.late, h.loads, subst (λ (y : View). GoesOnReading good c n a all (known_of v o) (known_of y o)) (sym h.is) (reads-on a m.start h.seen (sampled_at a (version_of word)) w.check all moves h.owed new))
 
     pub is-sampled : IsSampled c a word w
     is-sampled = subst (IsSampled c a word) (sym h.is) (record {
@@ -297,7 +301,7 @@ module _ (good : List ℕ → Type 0) (c : Config) (n : ℕ) (l : Local) (v : Vi
     stays-loaded = subst (IsInside good c n l) (sym load_path) (stays l.start v.history.seen sample_loaded v.check loading (inl (sym i.start, refl)))
 
     pub reads-loaded : IsNew a (known_of v o) → GoesOnReading good c n a loading (known_of v o) (known_of w o)
-    reads-loaded new = subst (λ (y : View). GoesOnReading good c n a loading (known_of v o) (known_of y o)) (sym load_path) (reads-on a l.start v.history.seen sample_loaded v.check loading (inl (sym i.start, refl)) new)
+    reads-loaded new = subst (λ (y : View). GoesOnReading good c n a loading (known_of v o) (known_of y o)) (sym load_path) (reads-on a l.start v.history.seen sample_loaded v.check loading (inl (sym i.start, refl)) (inl (sym i.start)) new)
 
     pub is-loaded : LoadsSampled c a x v w
     is-loaded word s = subst (IsLoaded c a word x) (sym t.2) (record { loaded = refl; from = s.has.from; before = s.before; value = refl; left = s.left })
@@ -331,6 +335,7 @@ module _ (good : List ℕ → Type 0) (c : Config) (n : ℕ) (l : Local) (v : Vi
         more = again;
         is = path true here ∙ (λ j. moved v l.start v.history.seen (reading (h.from j) (h.value j)) no_sample no_check again);
         moves = inl (sym i.start, refl);
+        owed = inl (sym i.start);
         sees = subst (λ (rs : List Cell). Explains (word_now v.history.seen) rs) (λ j. reading (h.from j) (h.value j)) (subst (λ (b : Bool). Explains (word_now v.history.seen) (read_if b)) here t.1.confirms.sees.sees);
         legal = i.legal;
         below = i.below;

@@ -33,18 +33,20 @@ use Rattle.rule_base.specs.StepKinds.{Nothing, Tells, view_after}
 use Rattle.rule_orec.specs.OrecOwning.{holding}
 use Rattle.rule_orec.specs.OrecReading.{no_check, no_sample}
 use Rattle.rule_orec.specs.OrecSteps.{HasOpen, orec_limit, orec_lock, CanOrecLock, orec_own_load, CanOrecOwnLoad, OrecOwnLoads, orec_save, CanOrecSave, orec_place, CanOrecPlace}
+use Rattle.stm_gate.specs.LeavingLaws.{found-earlier}
 use Rattle.stm_gate.specs.Logging.{put-new}
 use Rattle.stm_rule.specs.Alone.{left_at}
 use Rattle.stm_rule.specs.declared.local.Local.{Local}
 use Rattle.steps_orec.specs.OthersLaws.{left-found, moved-others}
 use Rattle.steps_orec.specs.RecordFindings.{FindsClock, FindsRecord}
-use Rattle.tx_answers.specs.Causes.{Conflicts, Concerns, IsAnothers, IsNewer, has_item}
+use Rattle.tx_answers.specs.Causes.{Conflicts, IsInTheWay}
+use Rattle.tx_answers.specs.Causes.Asked.{ForWord}
 use Rattle.tx_answers.specs.Evidence.{Untouched}
-use Rattle.tx_answers.specs.Known.{known_of, written_under}
+use Rattle.tx_answers.specs.Known.{known_of}
 use Rattle.tx_logs.specs.declared.push.Push.{Push}
 use Rattle.tx_logs.specs.declared.push.Push.TheVariants as pushes
 use Rattle.tx_logs.specs.LogStates.{LogState, Pushes, keep}
-use Rattle.alg_orec.proofs.LoadLaws.{free-word, untouched-loads}
+use Rattle.alg_orec.proofs.LoadLaws.{free-word, owed-earlier, owed-later, untouched-loads}
 use Rattle.alg_orec.proofs.LockingLaws.{pushes-new, held-of}
 use Rattle.alg_orec.specs.EagerTaking.{CanLoadWord, CanTake, HasTaken, FindsLimit, CanStoreFirst, StoresFirst}
 use Rattle.alg_orec.specs.Loading.{CanLoadValid, moved, sampled_at, MayMove, HasSampled, RefusesRead, HasLoaded}
@@ -75,6 +77,7 @@ module _ (good : (ℕ → ℕ) → Type 0) (c : Config) (n a : ℕ) (l : Local) 
     more = load_of (Heap a) x ∷ [];
     is = t.2 ∙ (λ i. record v { history = record v.history { front = can.front i }; attempt = record v.attempt { start = can.can.start i; reads = record { at = a; value = x } ∷ v.attempt.reads }; sample = no_sample; check = no_check; steps = record v.steps { trail = load_of (Heap a) x ∷ v.steps.trail } });
     moves = inl (sym can.can.start, refl);
+    owed = inl (sym can.can.start);
     sees = t.1.sees.sees;
     legal = t.1.sees.legal;
     below = (let b = t.1.sees.below in subst (λ (s : ℕ). Below v.history.seen (s + 1)) can.can.start b);
@@ -101,6 +104,7 @@ module _ {c : Config} {a : ℕ} {l : Local} {v : View} (can : CanTake c a l v) w
     more = [];
     is = stays v.sample v.check [];
     moves = inl (sym can.can.start, refl);
+    owed = inl (sym can.can.start);
     its = held;
     keeps = λ q t. t;
     locks = can.can.locks;
@@ -170,47 +174,27 @@ module _ {good : (ℕ → ℕ) → Type 0} {c : Config} {n a : ℕ} {l : Local} 
   no-alg : (b : Alg) → v.gate.algorithm ≡ b → has_records b ≡ false → ⊥
   no-alg b e none = let f : true ≡ false = sym can.can.opens.has.runs.algorithm ∙ (ap has_records e ∙ none) in absurd cc
 
-  written-timed : (b : Alg) (g : Bool) (o : Own) → written_under b g timed o ≡ written_under b g v o
-  written-timed Cgl g o = refl
-  written-timed Tml g o = refl
-  written-timed OrecLazy true o = refl
-  written-timed OrecLazy false o = refl
-  written-timed OrecEager true o = refl
-  written-timed OrecEager false o = refl
-  written-timed RingSw true o = refl
-  written-timed RingSw false o = refl
-  written-timed Serial g o = refl
-
-  concerns : (index : ℕ) (o : Own) → Concerns c n (Some a) index (known_of timed o) → Concerns c n (Some a) index (known_of v o)
-  concerns index o k = (k.0, k.1, by k.2)
-    where
-      by : (Some a ≡ Some k.0) ⊎ ((has_item k.0 (known_of timed o).log.reads ≡ true) ⊎ (has_item k.0 (known_of timed o).log.writes ≡ true)) → (Some a ≡ Some k.0) ⊎ ((has_item k.0 (known_of v o).log.reads ≡ true) ⊎ (has_item k.0 (known_of v o).log.writes ≡ true))
-      by (inl e) = inl e
-      by (inr (inl e)) = inr (inl e)
-      by (inr (inr e)) = inr (inr (sym (ap (has_item k.0) (written-timed v.gate.algorithm v.gate.granted o)) ∙ e))
-
-  conflicts-earlier : (cause : Cause) (o p : Own) (w : View) → Conflicts c n (Some a) cause (known_of timed o) (known_of w p) → Conflicts c n (Some a) cause (known_of v o) (known_of w p)
+  conflicts-earlier : (cause : Cause) (o p : Own) (w : View) → Conflicts c n (ForWord a) cause (known_of timed o) (known_of w p) → Conflicts c n (ForWord a) cause (known_of v o) (known_of w p)
   conflicts-earlier (causes.Clock had now) o p w k = absurd (no-alg Tml k.0 refl)
   conflicts-earlier (causes.Record index word start) o p w k = (
     k.0,
     k.1,
-    concerns index o k.2,
     record {
-      early = k.3.early ++ load_of Clock clock ∷ [];
-      act = k.3.act;
-      late = k.3.late;
-      trail = k.3.trail ∙ ap (λ (q : List TrailItem). k.3.late ++ record { place = Record index; act = k.3.act; found = Some word } ∷ q) (join k.3.early);
-      untouched = untouched-append (Record index) k.3.early (load_of Clock clock ∷ []) k.3.untouched ((λ e. refl), tt);
+      early = k.2.early ++ load_of Clock clock ∷ [];
+      act = k.2.act;
+      late = k.2.late;
+      trail = k.2.trail ∙ ap (λ (q : List TrailItem). k.2.late ++ record { place = Record index; act = k.2.act; found = Some word } ∷ q) (join k.2.early);
+      untouched = untouched-append (Record index) k.2.early (load_of Clock clock ∷ []) k.2.untouched ((λ e. refl), tt);
     },
-    why k.4,
+    way k.3,
   )
     where
-      why : IsAnothers c n (Some a) word ⊎ IsNewer c n (Some a) index word start (known_of timed o) → IsAnothers c n (Some a) word ⊎ IsNewer c n (Some a) index word start (known_of v o)
-      why (inl x) = inl x
-      why (inr x) = inr (x.0, x.1, (x.2.0, x.2.1, x.2.2))
+      way : IsInTheWay c n (ForWord a) index word (known_of timed o) (known_of w p) → IsInTheWay c n (ForWord a) index word (known_of v o) (known_of w p)
+      way (inl x) = inl x
+      way (inr x) = let f = x.0 in inr ((f.0, found-earlier (Record r) f.0 (known_of v o) (known_of timed o) (known_of w p) f.1 (load_of Clock clock ∷ []) refl, f.2, f.3), x.1, x.2)
   conflicts-earlier (causes.Moved index before after) o p w k = (
     k.0,
-    concerns index o k.1,
+    k.1,
     record {
       apart = k.2.apart;
       early = k.2.early ++ load_of Clock clock ∷ [];
@@ -323,7 +307,7 @@ module _ {good : (ℕ → ℕ) → Type 0} {c : Config} {n a : ℕ} {l : Local} 
         moves = moves_all;
         why = λ o p. (
           can.can.opens.has.runs.algorithm,
-          (a, refl, inl refl),
+          refl,
           record {
             apart = λ e. apart (sym e);
             early = load_of Clock clock ∷ [];
@@ -360,6 +344,7 @@ module _ {good : (ℕ → ℕ) → Type 0} {c : Config} {n a : ℕ} {l : Local} 
         more = step ∷ all;
         is = lock_path true here;
         moves = moves_all;
+        owed = owed-later c a m.start all (step ∷ []) v (owed-earlier c a m.start late (load_of Clock clock ∷ []) v h.owed);
         its = (let q : (r == r) ≡ true = grind (arith, nat_tests) in ap (λ (b : Bool). if b then true else touches v.owned.held r) q);
         keeps = λ q e. by-keeps (r == q) q e;
         locks = ap (λ (q : LogState). q.items) new_is ∙ (ap (λ (ws : List (ℕ × ℕ)). ws ++ (r, version_of word) ∷ []) locks_is ∙ sym (put-new r (version_of word) (items v.owned.held) none));

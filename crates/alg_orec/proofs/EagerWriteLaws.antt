@@ -40,7 +40,8 @@ use Rattle.stm_rule.specs.EagerKept.{IsEager}
 use Rattle.tx_answers.specs.declared.answers.Write.{Write}
 use Rattle.tx_answers.specs.declared.answers.Write.TheVariants as writes
 use Rattle.tx_answers.specs.Answers.{HasWritten, StartMoves, kept_with}
-use Rattle.tx_answers.specs.Causes.{Conflicts, has_item, is_some, writes_full}
+use Rattle.tx_answers.specs.Causes.{Conflicts, FindsNewer, has_item, is_some, writes_full}
+use Rattle.tx_answers.specs.Causes.Asked.{ForWord}
 use Rattle.tx_answers.specs.Evidence.{Found}
 use Rattle.tx_answers.specs.Known.{Grows, known_of, kept_under, written_under, is_in, is_closing, is_irrevocable}
 use Rattle.tx_logs.specs.declared.push.Push.{Push}
@@ -49,11 +50,12 @@ use Rattle.tx_logs.specs.LogStates.{LogState, Pushes}
 use Rattle.alg_orec.proofs.EagerCalls.{RunsEager}
 use Rattle.alg_orec.proofs.EagerLaws as laws
 use Rattle.alg_orec.proofs.EagerProving as proving
+use Rattle.alg_orec.proofs.LoadLaws.{owed-later}
 use Rattle.alg_orec.proofs.RecordReads as records
 use Rattle.alg_orec.proofs.LockingLaws.{held-of, unheld-of}
 use Rattle.alg_orec.specs.EagerEnding.{AllBelow, CanTakeBack, TakesBack}
 use Rattle.alg_orec.specs.EagerTaking.{AllSeen, CanTake, HasTaken, FindsLimit, RefusesTake, CanStoreFirst, StoresFirst}
-use Rattle.alg_orec.specs.Loading.{MayMove, RefusesRead}
+use Rattle.alg_orec.specs.Loading.{MayMove, MovesOwed, RefusesRead}
 use Rattle.alg_orec.specs.Validating.{load_of}
 
 pub held-some : (cs : List Cell) (ws : List (ℕ × ℕ)) (a : ℕ) → ws ≡ items cs → is_some (item_at a ws) ≡ true → touches cs a ≡ true
@@ -101,6 +103,7 @@ module _ (good : List ℕ → Type 0) (c : Config) (n : ℕ) (l : Local) (v : Vi
     pub more : List TrailItem
     pub is : w ≡ stored v q.start seen held sample check a x undo more
     pub moves : MayMove rule c n q.start seen more v
+    pub owed : MovesOwed c a q.start more v
     pub locks : q.locks.items ≡ items held
     pub writes : q.writes.items ≡ put a x l.writes.items
     pub undos : q.undo.items ≡ items undo
@@ -193,8 +196,8 @@ module _ (good : List ℕ → Type 0) (c : Config) (n : ℕ) (l : Local) (v : Vi
     pub writes-refused : (a x : ℕ) (cause : Cause) (m : Local) (u w : View) → item_at a l.undo.items ≡ None → length l.undo.items ≢ l.undo.len → RefusesRead rule c n a cause l v m u → TakesBack n u w → HasWritten good c n a x (writes.Conflict cause) (known_of v o) (known_of w o)
     writes-refused a x cause m u w none room h g = (
       laws.quits-moved good c n l v runs m.start h.seen v.attempt.reads u.sample u.check h.more w h.moves (subst (λ (y : View). TakesBack n y w) h.is g),
-      subst (λ (y : View). Conflicts c n (Some a) cause (known_of v o) (known_of y o)) (sym g.is)
-          (proving.conflicts-later c n (Some a) cause (known_of v o) (known_of u o) (known_of (left n g.before) o) (ap has_records eager) more.0 more.1 (h.why o o)),
+      subst (λ (y : View). Conflicts c n (ForWord a) cause (known_of v o) (known_of y o)) (sym g.is)
+          (proving.conflicts-later c n (ForWord a) cause (known_of v o) (known_of u o) (known_of (left n g.before) o) (ap has_records eager) more.0 more.1 (h.why o o)),
       h.others,
       room-free a none room,
     )
@@ -264,6 +267,7 @@ module _ (good : List ℕ → Type 0) (c : Config) (n : ℕ) (l : Local) (v : Vi
       is = s.is ∙ (ap (λ (y : View). record y { owned = record y.owned { in_place = record { at = a; value = x } ∷ y.owned.in_place; undo = record { at = a; value = s.old } ∷ y.owned.undo }; steps = record y.steps { trail = s.more ++ y.steps.trail } }) h.is
           ∙ ((λ j. stored_at (sym start_is j) (sym (append_assoc s.more h.more v.steps.trail) j))));
       moves = moves_all;
+      owed = owed-later c a q.start h.more s.more v (subst (λ (t : ℕ). MovesOwed c a t h.more v) (sym start_is) h.owed);
       locks = ap (λ (k : Local). k.locks.items) s.local ∙ h.locks;
       writes = ap (λ (k : Local). k.writes.items) s.local ∙ (ap (λ (k : Local). k.writes.items ++ (a, x) ∷ []) h.local ∙ sym (put-new a x l.writes.items none));
       undos = undo_items ∙ (ap (λ (ws : List (ℕ × ℕ)). ws ++ (a, s.old) ∷ []) k.undo ∙ sym undo_more);
@@ -349,6 +353,7 @@ module _ (good : List ℕ → Type 0) (c : Config) (n : ℕ) (l : Local) (v : Vi
       more = record { place = Heap a; act = Store x; found = None } ∷ [];
       is = t.2 ∙ (λ j. record v { history = record v.history { front = i.front j }; attempt = record v.attempt { start = i.start j }; owned = record v.owned { in_place = record { at = a; value = x } ∷ v.owned.in_place }; steps = record v.steps { trail = record { place = Heap a; act = Store x; found = None } ∷ v.steps.trail } });
       moves = inl (sym i.start, refl);
+      owed = inl (sym i.start);
       locks = k.locks;
       writes = ap (λ (q : LogState). q.items) push.1;
       undos = k.undo;
@@ -388,9 +393,10 @@ module _ (good : List ℕ → Type 0) (c : Config) (n : ℕ) (l : Local) (v : Vi
       grown = let g = records.grown (laws.reading good c n l v runs) q.start s.seen s.more s.moves v.attempt.reads s.sample s.check p (ap (λ (d : Local). d.reads.len) s.local) s.undo_len in
           record { later = g.later; is = g.is; ascending = g.ascending; up_to = g.up_to; front_rose = g.front_rose; more = g.more; trail = g.trail; reads_limit = g.reads_limit; writes_limit = g.writes_limit; fenced = g.fenced }
 
-      start-moves : MayMove rule c n q.start s.seen s.more v → (q.start ≡ v.attempt.start) ⊎ Found Clock q.start (known_of v o) (known_of y p)
-      start-moves (inl e) = inl e.0
-      start-moves (inr e) = inr (s.more, refl, Load, e.0)
+      start-moves : MayMove rule c n q.start s.seen s.more v → MovesOwed c a q.start s.more v → (q.start ≡ v.attempt.start) ⊎ (Found Clock q.start (known_of v o) (known_of y p) × FindsNewer c a (known_of v o) (known_of y p))
+      start-moves (inl e) d = inl e.0
+      start-moves (inr e) (inl d) = inl d
+      start-moves (inr e) (inr d) = inr ((s.more, refl, Load, e.0), records.newer-shown c a s.more v y o p refl d)
 
       wrote-put : written_under v.gate.algorithm v.gate.granted y p ≡ put a x (known_of v o).log.writes
       wrote-put = (λ j. written_under (eager j) (ungranted j) y p) ∙ ap (put a x) (sym k.writes ∙ sym here-written)
@@ -399,7 +405,7 @@ module _ (good : List ℕ → Type 0) (c : Config) (n : ℕ) (l : Local) (v : Vi
       writes-done room = subst (λ (z : View). HasWritten good c n a x writes.Done (known_of v o) (known_of z p)) (sym s.is) (
         record {
           continues = record { running = ap is_in i.phase; closing = ap is_closing i.phase; made = refl; grows = grown; alg = refl; fence = refl; base = refl; rises = (omega arith, omega arith); later = records.begins (laws.reading good c n l v runs) q.start s.seen s.more s.moves; installs = refl; depth = ap (λ (d : Local). d.depth) s.local };
-          start = subst (λ (b : Alg). StartMoves b (known_of v o) (known_of y p)) (sym eager) (start-moves s.moves);
+          start = subst (λ (b : Alg). StartMoves c (ForWord a) b (known_of v o) (known_of y p)) (sym eager) (start-moves s.moves s.owed);
           granted = refl;
           holds = refl;
           checked = refl;

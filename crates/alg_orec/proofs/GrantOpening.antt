@@ -25,6 +25,7 @@ use Rattle.steps_orec.specs.RecordFindings.{Moves}
 use Rattle.tx_logs.specs.LogStates.{LogState}
 use Rattle.tx_answers.specs.declared.answers.Irrev.TheVariants as irrevs
 use Rattle.tx_answers.specs.Answers.{BecomesIrrevocable, Irrevs, Quits, Waits}
+use Rattle.tx_answers.specs.Causes.Asked.{ToPromote}
 use Rattle.tx_answers.specs.Known.{Known, IsRunning, known_of, caller_of, granted_under, kept_under, written_under, is_irrevocable, is_in, is_closing, wrote}
 use Rattle.stm_gate.specs.Granting.{IsAlone, Grants, irrevs-after, irrevocable-already}
 use Rattle.stm_gate.specs.Knowing.{known, number}
@@ -134,7 +135,7 @@ module _ {alg : Alg} {good : List ℕ → Type 0} {c : Config} {n : ℕ} {l : Lo
         by irrevs.Granted why = absurd why
         by (irrevs.Busy caller status) why = absurd why
         by (irrevs.Taken gate) why = absurd why
-        by (irrevs.Conflict cause) why = (quits, conflicts-later c n None cause (known_of v o) (known_of u o) (known_of z (with_commit false o)) has-here t.0 t.1 (why.0 o), why.1)
+        by (irrevs.Conflict cause) why = (quits, conflicts-later c n ToPromote cause (known_of v o) (known_of u o) (known_of z (with_commit false o)) has-here t.0 t.1 (why.0 o), why.1)
         by (irrevs.ClockFull clock) why = (
           quits,
           both (λ (a : Alg). asks_at_grant a ≡ true) refl refl v.gate.algorithm has-here,

@@ -31,14 +31,15 @@ use Rattle.tx_logs.specs.LogStates.{LogState}
 use Rattle.stm_rule.specs.declared.local.Local.{Local}
 use Rattle.stm_rule.specs.Attempts.{Keeps, IsInside, own_of}
 use Rattle.stm_rule.specs.RecordsKept.{cells_of, IsLazy}
-use Rattle.tx_answers.specs.Causes.{Conflicts, NamesOther, IsAnothers, IsNewer, has_item}
+use Rattle.tx_answers.specs.Causes.{Conflicts, IsStaleAt, OwesValidation, has_item}
+use Rattle.tx_answers.specs.Causes.Asked.{ToCommit}
 use Rattle.tx_answers.specs.Evidence.{Found, Untouched}
 use Rattle.tx_answers.specs.Known.{Grows, known_of, granted_under, written_under, is_irrevocable, wrote}
 use Rattle.tx_answers.specs.KnownLaws.{grows-same}
 use Rattle.stm_gate.specs.LeavingLaws.{IsUnmade}
 use Rattle.stm_gate.specs.Opacity.{later-seen}
 use Rattle.stm_gate.specs.Peeling.{has-touched}
-use Rattle.alg_orec.specs.Committing.{CanCommit, readied, IsOfRecord, Owed, IsReady, IsStopped, Prepares}
+use Rattle.alg_orec.specs.Committing.{CanCommit, readied, Owed, IsReady, IsStopped, Prepares}
 use Rattle.alg_orec.specs.Ending.{CanRollBack}
 use Rattle.alg_orec.specs.Locking.{holding_still, lock_item, CanLockAll, WasFree, IsRefused, Holds, LocksEach, StopsLocking}
 use Rattle.alg_orec.specs.Validating.{load_of, OnlyLoads, CanValidate, Refuses, IsFoundStale, IsHeldNewer, IsStale, IsValid, Validates}
@@ -202,7 +203,6 @@ module _ (good : List ℕ → Type 0) (c : Config) (n : ℕ) (low : n < c.caller
     grows = λ o. subst (λ (y : View). Grows (known_of v o) (known_of y o)) (sym h.is) (grows-same (known_of v o) (known_of (holding_still v u.owned.held e.more) o) refl refl e.more refl refl refl refl);
     start = inl start;
     again = λ g o. absurd (let f : true ≡ false = sym g ∙ first in cc);
-    owed = inl start;
   }
     where
       h : Holds c n l v m u e.more
@@ -233,9 +233,8 @@ module _ (good : List ℕ → Type 0) (c : Config) (n : ℕ) (low : n < c.caller
         valid.moves.legal valid.moves.below (subst (Explains (word_now valid.history)) (ap (λ (y : View). y.attempt.reads) h.is) valid.moves.sees)
         (λ one. let s = valid.sole one in let r = ap (λ (y : View). y.steps.rises) h.is in let b = k.optimistic.rises in omega arith)));
     grows = λ o. subst (λ (y : View). Grows (known_of v o) (known_of y o)) (sym path) (grown o);
-    start = inr found;
+    start = inr (found, due);
     again = λ g. found;
-    owed = inr due;
   }
     where
       whole : q ≡ record l { start = q.start; locks = q.locks }
@@ -281,9 +280,8 @@ module _ (good : List ℕ → Type 0) (c : Config) (n : ℕ) (low : n < c.caller
     gate = ap (λ (y : View). y.gate) h.is;
     unmade = subst (IsUnmade v) (sym h.is) (record { carried = record { named = refl; base = refl; installs = refl; fence = refl; trail = (s.last ++ s.before, refl) }; history = refl });
     rises = ap (λ (y : View). y.steps.rises) h.is;
-    conflicts = λ o e. why cause o e s.last trail s.why;
+    conflicts = λ o e mid. why cause o e s.last trail s.why;
     others = others_of cause s.last s.why;
-    owed = inl (s.a, home_of c s.a, s.written, refl, named_of cause s.last s.why);
   }
     where
       h : Holds c n l v m u (s.last ++ s.before)
@@ -295,12 +293,11 @@ module _ (good : List ℕ → Type 0) (c : Config) (n : ℕ) (low : n < c.caller
       records : has_records v.gate.algorithm ≡ true
       records = ap has_records lazy
 
-      why : (cause : causes.the_data) (o : Own) → o.buffered ≡ cells_of l.writes.items → (last : List TrailItem) → u.steps.trail ≡ (last ++ s.before) ++ v.steps.trail → IsRefused c n (home_of c s.a) cause l.start last → Conflicts c n None cause (known_of v o) (known_of u o)
+      why : (cause : causes.the_data) (o : Own) → o.buffered ≡ cells_of l.writes.items → (last : List TrailItem) → u.steps.trail ≡ (last ++ s.before) ++ v.steps.trail → IsRefused c n (home_of c s.a) cause l.start last → Conflicts c n ToCommit cause (known_of v o) (known_of u o)
       why (causes.Clock had now) o e last t f = absurd f
       why (causes.Record index word start) o e last t f = (
         records,
         f.1 ∙ sym i.start,
-        (s.a, f.0, inr (inr (has_written o s.a e s.written))),
         record {
           early = s.before;
           act = Load;
@@ -308,11 +305,11 @@ module _ (good : List ℕ → Type 0) (c : Config) (n : ℕ) (low : n < c.caller
           trail = t ∙ ap (λ (is : List TrailItem). (is ++ s.before) ++ v.steps.trail) f.2.last ∙ ap (λ (r : ℕ). record { place = Record r; act = Load; found = Some word } ∷ (s.before ++ v.steps.trail)) (sym f.0);
           untouched = subst (λ (r : ℕ). Untouched (Record r) s.before) (sym f.0) s.untouched;
         },
-        inl (f.2.owned, f.2.other),
+        inl ((s.a, f.0, has_written o s.a e s.written), (f.2.owned, f.2.other)),
       )
       why (causes.Moved index before after) o e last t f = let g = f.1 in (
         records,
-        (s.a, f.0, inr (inr (has_written o s.a e s.written))),
+        (s.a, f.0, has_written o s.a e s.written),
         record {
           apart = g.apart;
           early = s.before;
@@ -326,13 +323,6 @@ module _ (good : List ℕ → Type 0) (c : Config) (n : ℕ) (low : n < c.caller
       )
       why (causes.Filter time bits) o e last t f = absurd f
       why (causes.Overrun start clock) o e last t f = absurd f
-
-      named_of : (cause : causes.the_data) (last : List TrailItem) → IsRefused c n (home_of c s.a) cause l.start last → IsOfRecord cause (home_of c s.a)
-      named_of (causes.Clock had now) last f = f
-      named_of (causes.Record index word start) last f = f.0
-      named_of (causes.Moved index before after) last f = f.0
-      named_of (causes.Filter time bits) last f = f
-      named_of (causes.Overrun start clock) last f = f
 
       others_of : (cause : causes.the_data) (last : List TrailItem) → IsRefused c n (home_of c s.a) cause l.start last → 1 < c.callers
       others_of (causes.Clock had now) last f = absurd f
@@ -350,21 +340,23 @@ module _ (good : List ℕ → Type 0) (c : Config) (n : ℕ) (low : n < c.caller
     stale_path : (index word start : ℕ) (s : IsStale c n index word start u w) → w ≡ record (holding_still v u.owned.held (s.more ++ more)) { check = w.check }
     stale_path index word start s = s.is ∙ (ap (λ (y : View). record y { check = w.check; steps = record y.steps { trail = s.more ++ y.steps.trail } }) h.is ∙ ap (λ (t : List TrailItem). record (holding_still v u.owned.held []) { check = w.check; steps = record v.steps { trail = t } }) (sym (append_assoc s.more more v.steps.trail)))
 
-    stale-conflicts : (index word start : ℕ) → IsStale c n index word start u w → (o : Own) → Conflicts c n None (causes.Record index word start) (known_of v o) (known_of w o) × (1 < c.callers)
-    stale-conflicts index word start s o = by s.why
+    stale-conflicts : (index word start : ℕ) → IsStale c n index word start u w → (o : Own) → OwesValidation c ToCommit (known_of v o) (known_of w o) → Conflicts c n ToCommit (causes.Record index word start) (known_of v o) (known_of w o) × (1 < c.callers)
+    stale-conflicts index word start s o due = by s.why
       where
         trail : w.steps.trail ≡ (s.more ++ more) ++ v.steps.trail
         trail = ap (λ (y : View). y.steps.trail) (stale_path index word start s)
 
+        from : start ≡ v.attempt.start
+        from = s.start ∙ (start_is ∙ sym i.start)
+
         read : has_item s.a (items v.attempt.reads) ≡ true
         read = sym (has-touched s.a v.attempt.reads) ∙ (ap (λ (y : View). touches y.attempt.reads s.a) (sym h.is) ∙ s.read)
 
-        by : IsFoundStale c n index word start s.more u ⊎ IsHeldNewer c n index word start u → Conflicts c n None (causes.Record index word start) (known_of v o) (known_of w o) × (1 < c.callers)
+        by : IsFoundStale c n index word start s.more u ⊎ IsHeldNewer c n index word start u → Conflicts c n ToCommit (causes.Record index word start) (known_of v o) (known_of w o) × (1 < c.callers)
         by (inl f) = (
           (
             ap has_records lazy,
-            s.start ∙ (start_is ∙ sym i.start),
-            (s.a, s.home, inr (inl read)),
+            from,
             record {
               early = f.early ++ more;
               act = Load;
@@ -372,19 +364,14 @@ module _ (good : List ℕ → Type 0) (c : Config) (n : ℕ) (low : n < c.caller
               trail = trail ∙ ap (λ (is : List TrailItem). (is ++ more) ++ v.steps.trail) f.last;
               untouched = untouched-loads (Record index) f.early more (subst OnlyLoads f.last s.loads).1 (apart index f.unheld);
             },
-            stale f.stale,
+            inr (due, (s.a, s.home, read), subst (λ (t : ℕ). IsStaleAt c n t word) from f.stale),
           ),
           f.others,
         )
-          where
-            stale : ((is_owned word ≡ true) × NamesOther c n (1 + owner_of word)) ⊎ ((is_owned word ≡ false) × (start < version_of word)) → IsAnothers c n None word ⊎ IsNewer c n None index word start (known_of v o)
-            stale (inl x) = inl x
-            stale (inr x) = inr (x.0, x.1, (s.a, s.home, read))
         by (inr f) = let newer : l.start < over u.owned.held index 0 = (let a = f.newer in let b = s.start in let d = start_is in omega arith) in let g = free index f.held newer in (
           (
             ap has_records lazy,
-            s.start ∙ (start_is ∙ sym i.start),
-            (s.a, s.home, inr (inl read)),
+            from,
             record {
               early = g.early;
               act = Load;
@@ -392,7 +379,7 @@ module _ (good : List ℕ → Type 0) (c : Config) (n : ℕ) (low : n < c.caller
               trail = trail ∙ (ap (λ (is : List TrailItem). (s.more ++ is) ++ v.steps.trail) g.is ∙ (ap (λ (x : ℕ). (s.more ++ (g.late ++ load_of (Record index) x ∷ g.early)) ++ v.steps.trail) (sym f.word) ∙ apart_lists s.more g.late g.early v.steps.trail (load_of (Record index) word)));
               untouched = g.untouched;
             },
-            inr (ap is_owned f.word ∙ is_owned-free (over u.owned.held index 0), (let a = f.newer in let b : version_of word ≡ over u.owned.held index 0 = ap version_of f.word ∙ version_of-free (over u.owned.held index 0) in omega arith), (s.a, s.home, read)),
+            inr (due, (s.a, s.home, read), inr (ap is_owned f.word ∙ is_owned-free (over u.owned.held index 0), (let a = f.newer in let e = from in let b : version_of word ≡ over u.owned.held index 0 = ap version_of f.word ∙ version_of-free (over u.owned.held index 0) in omega arith))),
           ),
           others-by n c.callers low (λ one. let a = sole index f.held newer one in let b = k.sole one in let d = k.optimistic.rises in omega arith),
         )
@@ -407,9 +394,8 @@ module _ (good : List ℕ → Type 0) (c : Config) (n : ℕ) (low : n < c.caller
       gate = ap (λ (y : View). y.gate) path;
       unmade = subst (IsUnmade v) (sym path) (record { carried = record { named = refl; base = refl; installs = refl; fence = refl; trail = (s.more ++ more, refl) }; history = refl });
       rises = ap (λ (y : View). y.steps.rises) path;
-      conflicts = λ o e. (stale-conflicts index word start s o).0;
-      others = (stale-conflicts index word start s (own_of l)).1;
-      owed = inr due;
+      conflicts = λ o e mid. (stale-conflicts index word start s o (due o e mid)).0;
+      others = (stale-conflicts index word start s (own_of l) (due (own_of l) refl refl)).1;
     }
     stopped-validating (causes.Moved index before after) due s = absurd s
     stopped-validating (causes.Filter time bits) due s = absurd s
@@ -440,11 +426,13 @@ module _ (good : List ℕ → Type 0) (c : Config) (n : ℕ) (low : n < c.caller
       (λ z. absurd (omega arith))
       (λ f. inr (
         f.0,
-        free_record newest,
         has_written o f.0 buffered f.1,
-        (late ++ e.more, path, Load, Contains-append_right late e.more (load_of (Record (home_of c f.0)) (free_record newest)) f.2),
-        is_owned-free newest,
-        (let a : version_of (free_record newest) ≡ newest = version_of-free newest in let b = i.start in omega arith),
+        (
+          free_record newest,
+          (late ++ e.more, path, Load, Contains-append_right late e.more (load_of (Record (home_of c f.0)) (free_record newest)) f.2),
+          is_owned-free newest,
+          (let a : version_of (free_record newest) ≡ newest = version_of-free newest in let b = i.start in omega arith),
+        ),
       ))
       e.found
     where

@@ -1,5 +1,5 @@
 -- What the exchange of the clock in a commit of OrecLazy comes to, and the end behind it.
-use Rattle.std.proofs.Common.{ℕ, ◌≡◌, ◌≢◌, ◌<◌, ◌≤◌, ◌+◌, List, [], ◌∷◌, ◌++◌, length, Bool, true, false, refl, sym, ap, ◌∙◌, arith, subst, append_assoc}
+use Rattle.std.proofs.Common.{ℕ, ◌≡◌, ◌≢◌, ◌<◌, ◌≤◌, ◌+◌, List, [], ◌∷◌, ◌++◌, length, Bool, true, false, refl, sym, ap, ◌∙◌, arith, subst, append_assoc, ⊎_elim, inl, inr}
 use Rattle.std.specs.Prelude.{None, ◌==◌, if◌then◌else◌, not, reverse}
 use Rattle.std.proofs.lemmas.Bool.Decides.{nat_tests}
 use Rattle.stm_model.specs.Algorithms.{has_records, asks_at_commit, entry_rise}
@@ -38,6 +38,7 @@ use Rattle.steps_orec.specs.OthersLaws.{clock-others}
 use Rattle.steps_orec.specs.RecordFindings.{FindsClock, FindsCommit, Enters}
 use Rattle.tx_answers.specs.Answers.{Quits, Commits, CommitsAt, KeepsRule, entry}
 use Rattle.tx_answers.specs.declared.answers.Commit.TheVariants as commits
+use Rattle.tx_answers.specs.Causes.Asked.{ToCommit}
 use Rattle.tx_answers.specs.Known.{Grows, known_of, fenced_of, granted_under, kept_under, written_under, is_in, is_closing, wrote, zeros}
 use Rattle.stm_gate.specs.LeavingLaws.{IsUnmade, found-later, finds-full}
 use Rattle.stm_gate.specs.Opacity.{opaque-inside}
@@ -91,10 +92,10 @@ module _ (good : List ℕ → Type 0) (c : Config) (n : ℕ) (low : n < c.caller
     quits-here : (u z : View) → IsUnmade v u → u.steps.rises ≡ v.steps.rises → GivesUp n u z → Quits (known_of v o) (known_of z (with_commit false o))
     quits-here u z m rises g = quits-back n v u z o lazy k.optimistic.ungranted k.optimistic.rises m rises g
 
-    pub tells-stopped : (cause : causes.the_data) (m : Local) (u z : View) → IsStopped good c n cause l v m u → GivesUp n u z → Commits good c n (commits.Conflict cause) (known_of v o) (known_of z (with_commit false o))
-    tells-stopped cause m u z s g = let t = ended-by n u z g in (
+    pub tells-stopped : o.committing ≡ l.committing → (cause : causes.the_data) (m : Local) (u z : View) → IsStopped good c n cause l v m u → GivesUp n u z → Commits good c n (commits.Conflict cause) (known_of v o) (known_of z (with_commit false o))
+    tells-stopped mid cause m u z s g = let t = ended-by n u z g in (
       quits-here u z s.unmade s.rises g,
-      conflicts-later c n None cause (known_of v o) (known_of u o) (known_of z (with_commit false o)) lazy t.0 t.1 (s.conflicts o e),
+      conflicts-later c n ToCommit cause (known_of v o) (known_of u o) (known_of z (with_commit false o)) lazy t.0 t.1 (s.conflicts o e mid),
       s.others,
       laws.wrote_is good c n low l v can o e,
     )
@@ -332,7 +333,7 @@ module _ (good : List ℕ → Type 0) (c : Config) (n : ℕ) (low : n < c.caller
 
       pub tells-again : o.committing ≡ l.committing → Commits good c n (commits.Again 0 m.start now) (known_of v o) (known_of u (with_commit true o))
       tells-again mid = (
-        again.goes-on v r.more r.is now still_path OrecLazy o named can.inside.phase begins (r.grows o) (again.start-moves v r.more r.is now still_path o l.start can.inside.start r.start),
+        again.goes-on v r.more r.is now still_path c OrecLazy o named can.inside.phase begins (r.grows o) (again.start-moves v r.more r.is now still_path c o l.start can.inside.start (⊎_elim (λ s. inl s) (λ f. inr (f.0 o, f.1 o e mid)) r.start)),
         refl,
         log_at p u refl (ap (λ (y : View). y.gate) path) (ap (λ (y : View). y.attempt.reads) path),
         ap (λ (y : View). kept_under y.gate.algorithm u p) path ∙ kept-same v.gate.algorithm v u o p refl (ap (λ (y : View). y.owned.undo) path) (ap (λ (y : View). y.lock.undo) path),

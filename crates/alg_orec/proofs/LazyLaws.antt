@@ -31,6 +31,7 @@ use Rattle.tx_answers.specs.declared.answers.Read.TheVariants as answers
 use Rattle.tx_answers.specs.declared.answers.Write.TheVariants as writes
 use Rattle.tx_answers.specs.Answers.{HasRead, HasWritten, Quits, StartMoves, kept_with}
 use Rattle.tx_answers.specs.Causes.{is_some, writes_full}
+use Rattle.tx_answers.specs.Causes.Asked.{ForWord}
 use Rattle.tx_answers.specs.Known.{known_of, granted_under, kept_under, written_under, is_irrevocable, is_in, is_closing}
 use Rattle.tx_answers.specs.KnownLaws.{grows-same}
 use Rattle.tx_logs.specs.declared.push.Push.TheVariants as pushes
@@ -153,7 +154,7 @@ module _ (good : List ℕ → Type 0) (c : Config) (n : ℕ) (l : Local) (v : Vi
     writes-done a x log low small is room = (
       record {
         continues = record { running = ap is_in i.phase; closing = ap is_closing i.phase; made = refl; grows = grows-same (known_of v o) (known_of v p) refl refl [] refl refl refl refl; alg = refl; fence = refl; base = refl; rises = (omega arith, omega arith); later = omega arith; installs = refl; depth = refl };
-        start = subst (λ (b : Alg). StartMoves b (known_of v o) (known_of v p)) (sym lazy) (inl refl);
+        start = subst (λ (b : Alg). StartMoves c (ForWord a) b (known_of v o) (known_of v p)) (sym lazy) (inl refl);
         granted = refl;
         holds = refl;
         checked = refl;

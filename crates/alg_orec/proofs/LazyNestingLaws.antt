@@ -38,9 +38,6 @@ module _ {good : List ℕ → Type 0} {c : Config} {n : ℕ} {l : Local} {v : Vi
   written-now : (log : LogState) (wrote : Bool) (d : ℕ) → Once log.items → written_under v.gate.algorithm v.gate.granted v (own_of (with_log log wrote d)) ≡ log.items
   written-now log wrote d once = (λ j. written_under (lazy j) (k.optimistic.ungranted j) v (own_of (with_log log wrote d))) ∙ items-cells log.items once
 
-  set-before : IsWriteSet c l.fence l.writes.items
-  set-before = record { once = k.buffers.once; inside = k.buffers.inside; small = k.buffers.small; apart = k.buffers.apart }
-
   keeps-with : (log : LogState) (wrote : Bool) (d : ℕ) → IsWriteSet c l.fence log.items → wrote ≡ not (is_empty log.items) → HasMarks c l.fence log.marks d → Keeps c l.algorithm l.granted (with_log log wrote d) v
   keeps-with log wrote d set some marks = subst (λ (a : Alg). Keeps c a l.granted (with_log log wrote d) v) (sym (sym a.inside.named ∙ lazy)) (subst (λ (b : Bool). Keeps c OrecLazy b (with_log log wrote d) v) (sym plain) keeps)
     where

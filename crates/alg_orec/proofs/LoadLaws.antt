@@ -28,17 +28,28 @@ use Rattle.stm_rule.specs.Alone.{left_at}
 use Rattle.stm_rule.specs.declared.local.Local.{Local}
 use Rattle.steps_orec.specs.OthersLaws.{left-found, owned-others, newer-others, moved-others}
 use Rattle.steps_orec.specs.RecordFindings.{FindsRecord, FindsAgain}
-use Rattle.tx_answers.specs.Causes.{Conflicts, NamesOther, has_item, is_some}
+use Rattle.tx_answers.specs.Causes.{Conflicts, IsStaleAt, has_item, is_some}
+use Rattle.tx_answers.specs.Causes.Asked.{ForWord}
 use Rattle.tx_answers.specs.Evidence.{Untouched, changes}
 use Rattle.tx_answers.specs.Known.{known_of}
 use Rattle.alg_orec.proofs.Passing.{loads-append}
-use Rattle.alg_orec.specs.Loading.{CanLoadValid, moved, sampled_at, MayMove, HasSampled, RefusesRead, HasLoaded}
+use Rattle.alg_orec.proofs.RecordReads.{newer-shown}
+use Rattle.alg_orec.specs.Loading.{CanLoadValid, moved, sampled_at, MayMove, MovesOwed, ShowsNewer, HasSampled, RefusesRead, HasLoaded}
 use Rattle.alg_orec.specs.Validating.{load_of, OnlyLoads, CanValidate, IsFoundStale, IsHeldNewer, IsStale, Refuses, IsValid}
 
 -- loads change no word
 pub untouched-loads : (p : At) (is : List TrailItem) → OnlyLoads is → Untouched p is
 untouched-loads p [] l = tt
 untouched-loads p (i ∷ is) l = ((λ e. ap (λ (a : Act). changes a i.found) l.0), untouched-loads p is l.1)
+
+-- what owed a validation, with steps behind it or before it
+pub owed-later : (c : Config) (a start : ℕ) (more late : List TrailItem) (v : View) → MovesOwed c a start more v → MovesOwed c a start (late ++ more) v
+owed-later c a start more late v (inl e) = inl e
+owed-later c a start more late v (inr s) = inr (s.0, Contains-append_right late more (load_of (Record (a % c.records)) s.0) s.1, s.2, s.3)
+
+pub owed-earlier : (c : Config) (a start : ℕ) (more early : List TrailItem) (v : View) → MovesOwed c a start more v → MovesOwed c a start (more ++ early) v
+owed-earlier c a start more early v (inl e) = inl e
+owed-earlier c a start more early v (inr s) = inr (s.0, Contains-append_left more early (load_of (Record (a % c.records)) s.0) s.1, s.2, s.3)
 
 -- an address that was read has an item
 has-read : (reads : List Cell) (a : ℕ) → touches reads a ≡ true → has_item a (items reads) ≡ true
@@ -77,9 +88,8 @@ module _ (good : (ℕ → ℕ) → Type 0) (c : Config) (n : ℕ) (low : n < c.c
       why = λ o p. (
         can.can.opens.has.runs.algorithm,
         sym can.can.start,
-        (a, refl, inl refl),
         record { early = []; act = Load; late = []; trail = refl; untouched = tt },
-        inl (owned, t.1.others owned can.unheld),
+        inl (refl, (owned, t.1.others owned can.unheld)),
       );
       others = owned-others c n low t.0 v x r t.1 owned can.unheld;
     })
@@ -95,6 +105,7 @@ module _ (good : (ℕ → ℕ) → Type 0) (c : Config) (n : ℕ) (low : n < c.c
       free = free;
       old = old;
       moves = inl (sym can.can.start, refl);
+      owed = inl (sym can.can.start);
       next = inl refl;
     })
 
@@ -112,6 +123,10 @@ module _ (good : (ℕ → ℕ) → Type 0) (c : Config) (n : ℕ) (low : n < c.c
     newer : is_owned x ≡ false → l.start < version_of x → 1 < c.callers
     newer free late = newer-others c n low t.0 v x r t.1 free can.can.level (let s = can.can.start in omega arith)
 
+    -- a validation is owed
+    is-newer : (more : List TrailItem) → is_owned x ≡ false → l.start < version_of x → ShowsNewer c a (more ++ load_of (Record r) x ∷ []) v
+    is-newer more free late = (x, Contains-append_right more (load_of (Record r) x ∷ []) (load_of (Record r) x) (0, omega arith, refl), free, (let s = can.can.start in omega arith))
+
     pub sampled-new : (m : Local) (w : View) → is_owned x ≡ false → l.start < version_of x → IsValid c n good l u m w → HasSampled good c n a x l v m w
     sampled-new m w free late h = by (subst (λ (y : View). IsValid c n good l y m w) (path false free) h)
       where
@@ -125,6 +140,7 @@ module _ (good : (ℕ → ℕ) → Type 0) (c : Config) (n : ℕ) (low : n < c.c
           free = free;
           old = k.sampled refl;
           moves = inr (k.found, (let q = k.moves in record { legal = q.legal; below = q.below; seen = q.seen; front = q.front; limit = q.limit; sees = q.sees }), newer free late);
+          owed = inr (is-newer k.more free late);
           next = inr (newer free late);
         })
           where
@@ -158,11 +174,10 @@ module _ (good : (ℕ → ℕ) → Type 0) (c : Config) (n : ℕ) (low : n < c.c
             flat : record (sampled false) { check = w.check; steps = record v.steps { trail = k.more ++ load_of (Record r) x ∷ v.steps.trail } } ≡ last
             flat = ap (λ (s : List TrailItem). record (sampled false) { check = w.check; steps = record v.steps { trail = s } }) (sym (append_assoc k.more (load_of (Record r) x ∷ []) v.steps.trail)) ∙ stays (sampled_at a (version_of x)) w.check more
 
-            why : (o p : Own) → IsFoundStale c n index word start k.more (sampled false) ⊎ IsHeldNewer c n index word start (sampled false) → Conflicts c n (Some a) (causes.Record index word start) (known_of v o) (known_of last p)
+            why : (o p : Own) → IsFoundStale c n index word start k.more (sampled false) ⊎ IsHeldNewer c n index word start (sampled false) → Conflicts c n (ForWord a) (causes.Record index word start) (known_of v o) (known_of last p)
             why o p (inl f) = (
               can.can.opens.has.runs.algorithm,
               k.start,
-              (k.a, k.home, inr (inl (has-read v.attempt.reads k.a k.read))),
               record {
                 early = f.early ++ load_of (Record r) x ∷ [];
                 act = Load;
@@ -170,16 +185,14 @@ module _ (good : (ℕ → ℕ) → Type 0) (c : Config) (n : ℕ) (low : n < c.c
                 trail = ap (λ (s : List TrailItem). (s ++ load_of (Record r) x ∷ []) ++ v.steps.trail) f.last;
                 untouched = untouched-loads (Record index) (f.early ++ load_of (Record r) x ∷ []) (loads-append f.early (load_of (Record r) x ∷ []) (early f.last) (refl, tt));
               },
-              stale f.stale,
+              inr (newer-shown c a more v last o p refl (is-newer k.more free late), (k.a, k.home, has-read v.attempt.reads k.a k.read), stale f.stale),
             )
               where
                 early : k.more ≡ load_of (Record index) word ∷ f.early → OnlyLoads f.early
                 early e = (subst OnlyLoads e k.loads).1
 
-                stale : ((is_owned word ≡ true) × NamesOther c n (1 + owner_of word)) ⊎ ((is_owned word ≡ false) × (start < version_of word))
-                    → ((is_owned word ≡ true) × NamesOther c n (1 + owner_of word)) ⊎ ((is_owned word ≡ false) × (start < version_of word) × ((b : ℕ) × (index ≡ b % c.records) × (has_item b (items v.attempt.reads) ≡ true)))
-                stale (inl s) = inl s
-                stale (inr s) = inr (s.0, s.1, (k.a, k.home, has-read v.attempt.reads k.a k.read))
+                stale : IsStaleAt c n start word → IsStaleAt c n v.attempt.start word
+                stale = subst (λ (s : ℕ). IsStaleAt c n s word) k.start
             why o p (inr f) = absurd (let old = can.olds index f.held in let s = k.start in let late = f.newer in omega arith)
     refused-stale (causes.Moved index before after) w free late q = absurd q
     refused-stale (causes.Filter time bits) w free late q = absurd q
@@ -234,6 +247,7 @@ module _ (good : (ℕ → ℕ) → Type 0) (c : Config) (n : ℕ) (low : n < c.c
           more = after;
           is = refl;
           moves = moves;
+          owed = owed-later c a m.start before (load_of (Record r) y ∷ load_of (Heap a) x ∷ []) v h.owed;
           sees = subst (λ (b : Bool). Explains (word_now h.seen) (if b then record { at = a; value = x } ∷ v.attempt.reads else v.attempt.reads)) here shown.confirms.sees.sees;
           legal = shown.confirms.sees.legal;
           below = shown.confirms.sees.below;
@@ -251,7 +265,7 @@ module _ (good : (ℕ → ℕ) → Type 0) (c : Config) (n : ℕ) (low : n < c.c
           moves = moves;
           why = λ o p. (
             can.can.opens.has.runs.algorithm,
-            (a, refl, inl refl),
+            refl,
             record {
               apart = λ e. apart (sym e);
               early = [];

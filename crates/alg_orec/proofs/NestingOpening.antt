@@ -86,12 +86,6 @@ module _ {good : List ℕ → Type 0} {c : Config} {n : ℕ} {l : Local} {v : Vi
   pub stands-with : (log : LogState) (wrote : Bool) (d : ℕ) → log.len ≡ l.writes.len → Keeps c l.algorithm l.granted (record l { writes = log; wrote = wrote; depth = d }) v → Stands good c n (record l { writes = log; wrote = wrote; depth = d }) v
   stands-with log wrote d len keeps = stands-on good c n l (record l { writes = log; wrote = wrote; depth = d }) v v i.phase a.stands refl refl (len ∙ a.stands.lengths.0, a.stands.lengths.1) refl (inside-with log wrote d keeps)
 
-  -- what is written stays where the log has the same items
-  known-with : (log : LogState) (d : ℕ) → log.items ≡ l.writes.items → known_of v (own_of (record l { writes = log; depth = d })) ≡ record (known_of v (own_of l)) { depth = d; marks = log.marks }
-  known-with log d same = ap (λ (ws : List (ℕ × ℕ)). let q : Known = record (known_of v (own_of (record l { writes = log; depth = d }))) { log = record { reads = items v.attempt.reads; writes = ws } } in q)
-      (written-same v.gate.algorithm v.gate.granted v (own_of l) (own_of (record l { writes = log; depth = d })) (ap cells_of same))
-      ∙ ap (λ (ks : List ℕ). let q : Known = record (known_of v (own_of (record l { writes = log; depth = d }))) { log = (known_of v (own_of l)).log; kept = ks } in q) (kept-same v.gate.algorithm v v (own_of l) (own_of (record l { writes = log; depth = d })) (ap cells_of same) refl refl)
-
   pub rolls-log : has_records v.gate.algorithm ≡ true → l.granted ≡ false → (log : LogState) (wrote : Bool) (d : ℕ) (in_place : List Cell) (more : List TrailItem) → log ≡ rolled d l.writes → d ≤ length l.writes.marks
       → (known_of (restoring v in_place more) (own_of (record l { writes = log; wrote = wrote; depth = d }))).kept ≡ kept_rolled v.gate.algorithm (known_of v (own_of l)).kept (known_of (restoring v in_place more) (own_of (record l { writes = log; wrote = wrote; depth = d }))).log.writes
       → written_under v.gate.algorithm v.gate.granted (restoring v in_place more) (own_of (record l { writes = log; wrote = wrote; depth = d })) ≡ log.items

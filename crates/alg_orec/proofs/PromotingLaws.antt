@@ -33,7 +33,8 @@ use Rattle.stm_rule.specs.Findings.{FindsWithin, OrecFails}
 use Rattle.steps_orec.specs.RecordFindings.{FindsRecord, FindsClock, FindsAll, FindsGrant, Moves}
 use Rattle.steps_orec.specs.Validating.{to_validate}
 use Rattle.tx_answers.specs.declared.answers.Irrev.TheVariants as irrevs
-use Rattle.tx_answers.specs.Causes.{Conflicts, NamesOther, IsAnothers, IsNewer, has_item}
+use Rattle.tx_answers.specs.Causes.{Conflicts, IsStaleAt, has_item}
+use Rattle.tx_answers.specs.Causes.Asked.{ToPromote}
 use Rattle.tx_answers.specs.Known.{known_of}
 use Rattle.alg_orec.specs.EagerEnding.{AllBelow}
 use Rattle.alg_orec.specs.Granting.{CanPromote, loaded_at, IsPromoted, IsNotPromoted}
@@ -167,12 +168,11 @@ module _ (good : List ℕ → Type 0) (c : Config) (n : ℕ) (low : n < c.caller
         by (inr f) = absurd (held-newer index word start w q f)
 
     -- a read that isn't valid, as found since the clock was loaded
-    found-conflicts : (index word start : ℕ) (w : View) (q : IsStale c n index word start s w) → IsFoundStale c n index word start q.more s → (o : Own) → Conflicts c n None (causes.Record index word start) (known_of v o) (known_of w o) × (1 < c.callers)
+    found-conflicts : (index word start : ℕ) (w : View) (q : IsStale c n index word start s w) → IsFoundStale c n index word start q.more s → (o : Own) → Conflicts c n ToPromote (causes.Record index word start) (known_of v o) (known_of w o) × (1 < c.callers)
     found-conflicts index word start w q f o = (
       (
         ready.opens.has.runs.algorithm,
-        q.start ∙ ap (λ (y : View). y.attempt.start) settled_path,
-        (q.a, q.home, inr (inl read)),
+        from,
         record {
           early = f.early ++ load_of Clock time ∷ [];
           act = Load;
@@ -180,7 +180,7 @@ module _ (good : List ℕ → Type 0) (c : Config) (n : ℕ) (low : n < c.caller
           trail = trail ∙ (ap (λ (is : List TrailItem). is ++ (load_of Clock time ∷ v.steps.trail)) f.last ∙ ap (λ (is : List TrailItem). load_of (Record index) word ∷ is) (sym (append_assoc f.early (load_of Clock time ∷ []) v.steps.trail)));
           untouched = untouched-loads (Record index) f.early (load_of Clock time ∷ []) (subst OnlyLoads f.last q.loads).1 ((λ e. refl), tt);
         },
-        stale f.stale,
+        inr (tt, (q.a, q.home, read), subst (λ (t : ℕ). IsStaleAt c n t word) from f.stale),
       ),
       f.others,
     )
@@ -191,14 +191,13 @@ module _ (good : List ℕ → Type 0) (c : Config) (n : ℕ) (low : n < c.caller
         read : has_item q.a (items v.attempt.reads) ≡ true
         read = sym (has-touched q.a v.attempt.reads) ∙ (sym (ap (λ (y : View). touches y.attempt.reads q.a) settled_path) ∙ q.read)
 
-        stale : ((is_owned word ≡ true) × NamesOther c n (1 + owner_of word)) ⊎ ((is_owned word ≡ false) × (start < version_of word)) → IsAnothers c n None word ⊎ IsNewer c n None index word start (known_of v o)
-        stale (inl x) = inl x
-        stale (inr x) = inr (x.0, x.1, (q.a, q.home, read))
+        from : start ≡ v.attempt.start
+        from = q.start ∙ ap (λ (y : View). y.attempt.start) settled_path
 
-    stale-conflicts : (index word start : ℕ) (w : View) → IsStale c n index word start s w → (o : Own) → Conflicts c n None (causes.Record index word start) (known_of v o) (known_of w o) × (1 < c.callers)
+    stale-conflicts : (index word start : ℕ) (w : View) → IsStale c n index word start s w → (o : Own) → Conflicts c n ToPromote (causes.Record index word start) (known_of v o) (known_of w o) × (1 < c.callers)
     stale-conflicts index word start w q o = by q.why
       where
-        by : IsFoundStale c n index word start q.more s ⊎ IsHeldNewer c n index word start s → Conflicts c n None (causes.Record index word start) (known_of v o) (known_of w o) × (1 < c.callers)
+        by : IsFoundStale c n index word start q.more s ⊎ IsHeldNewer c n index word start s → Conflicts c n ToPromote (causes.Record index word start) (known_of v o) (known_of w o) × (1 < c.callers)
         by (inl f) = found-conflicts index word start w q f o
         by (inr f) = absurd (held-newer index word start w q f)
 
@@ -322,7 +321,7 @@ module _ (good : List ℕ → Type 0) (c : Config) (n : ℕ) (low : n < c.caller
             is = by-loads w (last_at t.0.history (b % c.records) x false) loads stale_path refl;
             earlier = λ calm. seen-below w.gate.time (let d = stale-later (b % c.records) x l.start alike stays in let e : w.gate.time ≡ time = ap (λ (y : View). y.gate.time) stale_path in omega arith);
             why = (
-              (λ o. conflicts-later c n None (causes.Record (b % c.records) x l.start) (known_of v o) (known_of alike o) (known_of w o) ready.opens.has.runs.algorithm [] same-trail (stale-conflicts (b % c.records) x l.start alike stays o).0),
+              (λ o. conflicts-later c n ToPromote (causes.Record (b % c.records) x l.start) (known_of v o) (known_of alike o) (known_of w o) ready.opens.has.runs.algorithm [] same-trail (stale-conflicts (b % c.records) x l.start alike stays o).0),
               (stale-conflicts (b % c.records) x l.start alike stays (own_of l)).1,
             );
           }

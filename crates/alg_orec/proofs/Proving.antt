@@ -1,5 +1,5 @@
 -- What a call found, as seen after more steps and from before.
-use Rattle.std.proofs.Common.{ℕ, ◌≡◌, ◌≤◌, ◌+◌, List, [], ◌∷◌, ◌++◌, Bool, true, false, refl, sym, ap, ◌∙◌, arith, subst, append_assoc, length}
+use Rattle.std.proofs.Common.{ℕ, ◌≡◌, ◌≤◌, ◌+◌, List, [], ◌∷◌, ◌++◌, Bool, true, false, refl, sym, ap, ◌∙◌, arith, subst, append_assoc, length, inl, inr}
 use Rattle.std.specs.Prelude.{Option, not, ◌||◌}
 use Rattle.stm_model.specs.Algorithms.{entry_rise, has_records, quit_rise, irrevocable_under}
 use Rattle.stm_model.specs.declared.alg.Alg.{Alg}
@@ -13,14 +13,15 @@ use Rattle.rule_base.specs.declared.views.TrailItem.{TrailItem}
 use Rattle.rule_base.specs.declared.views.View.{View}
 use Rattle.rule_base.specs.Own.{Own}
 use Rattle.tx_answers.specs.Answers.{Quits, Ends, CommitsAt, entry}
-use Rattle.tx_answers.specs.Causes.{Conflicts, FindsFull}
+use Rattle.tx_answers.specs.Causes.{Asked, Conflicts, FindsFull, FindsNewer, IsInTheWay, OwesValidation}
+use Rattle.tx_answers.specs.Causes.Asked.{ForWord, ToCommit, ToPromote}
 use Rattle.tx_answers.specs.Evidence.{FoundAsWas, FoundMoved}
 use Rattle.tx_answers.specs.Known.{Known, Grows, known_of, granted_under, is_none, wrote, has_written}
 use Rattle.tx_answers.specs.KnownLaws.{grows-trans}
 use Rattle.stm_rule.specs.declared.local.Local.{Local}
 use Rattle.stm_rule.specs.Attempts.{Keeps, IsInside, own_of}
 use Rattle.stm_rule.specs.RecordsKept.{IsLazy}
-use Rattle.stm_gate.specs.LeavingLaws.{IsUnmade, quits-left, trail-left, found-earlier}
+use Rattle.stm_gate.specs.LeavingLaws.{IsUnmade, quits-left, trail-left, found-earlier, found-later}
 use Rattle.alg_orec.specs.Ending.{GivesUp}
 
 -- more steps were taken
@@ -30,10 +31,24 @@ as-was-later p x v u w more t f = record { early = f.early; act = f.act; late = 
 pub moved-later : (p : At) (x y : ℕ) (v u w : Known) (more : List TrailItem) → w.trail ≡ more ++ u.trail → FoundMoved p x y v u → FoundMoved p x y v w
 moved-later p x y v u w more t f = record { apart = f.apart; early = f.early; middle = f.middle; act = f.act; late = more ++ f.late; trail = t ∙ (ap (λ (s : List TrailItem). more ++ s) f.trail ∙ sym (append_assoc more f.late _)); untouched = f.untouched; refused = f.refused }
 
-module _ (c : Config) (n : ℕ) (asked : Option ℕ) where
+-- what owed a validation
+newer-later : (c : Config) (a : ℕ) (v u w : Known) (more : List TrailItem) → w.trail ≡ more ++ u.trail → FindsNewer c a v u → FindsNewer c a v w
+newer-later c a v u w more t k = (k.0, found-later _ k.0 v u w k.1 more t, k.2, k.3)
+
+pub owes-later : (c : Config) (asked : Asked) (v u w : Known) (more : List TrailItem) → w.trail ≡ more ++ u.trail → OwesValidation c asked v u → OwesValidation c asked v w
+owes-later c (ForWord a) v u w more t k = newer-later c a v u w more t k
+owes-later c ToCommit v u w more t (inl k) = inl k
+owes-later c ToCommit v u w more t (inr k) = inr (k.0, k.1, newer-later c k.0 v u w more t k.2)
+owes-later c ToPromote v u w more t k = tt
+
+module _ (c : Config) (n : ℕ) (asked : Asked) where
   pub conflicts-by-records : (cause : causes.the_data) (v u w : Known) → has_records v.alg ≡ true → (more : List TrailItem) → w.trail ≡ more ++ u.trail → Conflicts c n asked cause v u → Conflicts c n asked cause v w
   conflicts-by-records (causes.Clock had now) v u w has more t k = absurd (let e : true ≡ false = sym has ∙ ap has_records k.0 in cc)
-  conflicts-by-records (causes.Record index word start) v u w has more t k = (k.0, k.1, k.2, as-was-later _ word v u w more t k.3, k.4)
+  conflicts-by-records (causes.Record index word start) v u w has more t k = (k.0, k.1, as-was-later _ word v u w more t k.2, way k.3)
+    where
+      way : IsInTheWay c n asked index word v u → IsInTheWay c n asked index word v w
+      way (inl x) = inl x
+      way (inr x) = inr (owes-later c asked v u w more t x.0, x.1, x.2)
   conflicts-by-records (causes.Moved index before after) v u w has more t k = (k.0, k.1, moved-later _ before after v u w more t k.2)
   conflicts-by-records (causes.Filter time bits) v u w has more t k = absurd (let e : true ≡ false = sym has ∙ ap has_records k.0 in cc)
   conflicts-by-records (causes.Overrun start clock) v u w has more t k = absurd (let e : true ≡ false = sym has ∙ ap has_records k.0 in cc)

@@ -34,7 +34,8 @@ use Rattle.stm_rule.specs.RecordsKept.{IsOptimistic}
 use Rattle.steps_orec.specs.RecordFindings.{FindsStart}
 use Rattle.tx_answers.specs.declared.answers.Read.TheVariants as reads
 use Rattle.tx_answers.specs.Answers.{HasRead, Quits, GoesOn, StartMoves, start_word}
-use Rattle.tx_answers.specs.Causes.{has_item, is_some, reads_full}
+use Rattle.tx_answers.specs.Causes.{Asked, FindsNewer, OwesValidation, has_item, is_some, reads_full}
+use Rattle.tx_answers.specs.Causes.Asked.{ForWord}
 use Rattle.tx_answers.specs.Evidence.{Found}
 use Rattle.tx_answers.specs.Known.{Known, Grows, known_of, granted_under, kept_under, written_under, is_irrevocable, is_in, is_closing, is_none, has_written}
 use Rattle.tx_answers.specs.KnownLaws.{grows-same, grows-trans}
@@ -47,7 +48,7 @@ use Rattle.stm_gate.specs.Opacity.{opaque-at, opaque-inside, later-seen}
 use Rattle.stm_gate.specs.Starts.{CanBegin, IsFresh, StartsAt}
 use Rattle.stm_gate.specs.KeptLaws.{kept-same}
 use Rattle.alg_orec.proofs.Proving.{conflicts-by-records}
-use Rattle.alg_orec.specs.Loading.{moved, MayMove, RefusesRead, HasLoaded}
+use Rattle.alg_orec.specs.Loading.{moved, MayMove, MovesOwed, ShowsNewer, RefusesRead, HasLoaded}
 use Rattle.alg_orec.specs.Validating.{load_of}
 
 and-no : (b : Bool) → (b && false) ≡ false
@@ -70,9 +71,13 @@ promoted-by : (a : Alg) (g : GateView) (k : LockView) (wrote : Bool) → IsOrec 
 promoted-by a g k wrote (inl e) = λ j. irrevocable_under (e j) (granted_under (e j) g k) wrote
 promoted-by a g k wrote (inr e) = λ j. irrevocable_under (e j) (granted_under (e j) g k) wrote
 
-pub start-by : (a : Alg) (v w : Known) → IsOrec a → (w.start ≡ v.start) ⊎ Found Clock w.start v w → StartMoves a v w
-start-by a v w (inl e) m = subst (λ (b : Alg). StartMoves b v w) (sym e) m
-start-by a v w (inr e) m = subst (λ (b : Alg). StartMoves b v w) (sym e) m
+pub start-by : (c : Config) (asked : Asked) (a : Alg) (v w : Known) → IsOrec a → (w.start ≡ v.start) ⊎ (Found Clock w.start v w × OwesValidation c asked v w) → StartMoves c asked a v w
+start-by c asked a v w (inl e) m = subst (λ (b : Alg). StartMoves c asked b v w) (sym e) m
+start-by c asked a v w (inr e) m = subst (λ (b : Alg). StartMoves c asked b v w) (sym e) m
+
+-- what its steps show of the record, as contracts see it
+pub newer-shown : (c : Config) (a : ℕ) (more : List TrailItem) (v w : View) (o p : Own) → w.steps.trail ≡ more ++ v.steps.trail → ShowsNewer c a more v → FindsNewer c a (known_of v o) (known_of w p)
+newer-shown c a more v w o p t s = (s.0, (more, t, Load, s.1), s.2, s.3)
 
 -- an attempt that was not promoted, between two of its calls
 pub record IsReading (good : List ℕ → Type 0) (c : Config) (n : ℕ) (l : Local) (v : View) : Type 0 where
@@ -117,7 +122,7 @@ module _ {good : List ℕ → Type 0} {c : Config} {n : ℕ} {l : Local} {v : Vi
   full-by at b unwritten unread count = (λ j. logs-reads v.gate.algorithm orec j && (not (revocable j) && (not (is_some ((ap (item_at at) written-here ∙ unwritten) j)) && (not (is_some ((ap (item_at at) (sym a.reads) ∙ unread) j)) && (length (sym a.reads j) == l.reads.len))))) ∙ count
 
   -- READ, of what was written or read before
-  stays : GoesOn (known_of v o) (known_of v o)
+  stays : {asked : Asked} → GoesOn c asked (known_of v o) (known_of v o)
   stays = goes-inner v v o i.phase (record { history = refl; gate = refl; lock = refl; fence = refl; start = refl; rises = refl; base = refl; installs = refl; trail = ([], refl) })
 
   -- the log of reads after a read of x, by what was written and read there
@@ -217,8 +222,8 @@ module _ {good : List ℕ → Type 0} {c : Config} {n : ℕ} {l : Local} {v : Vi
             fenced = refl;
           }
 
-      pub goes-moved : GoesOn (known_of v o) (known_of u o)
-      goes-moved = record {
+      pub goes-moved : (at : ℕ) → MovesOwed c at start more v → GoesOn c (ForWord at) (known_of v o) (known_of u o)
+      goes-moved at owed = record {
         continues = record {
           running = ap is_in i.phase;
           closing = ap is_closing i.phase;
@@ -232,16 +237,17 @@ module _ {good : List ℕ → Type 0} {c : Config} {n : ℕ} {l : Local} {v : Vi
           installs = refl;
           depth = refl;
         };
-        start = start-by v.gate.algorithm (known_of v o) (known_of u o) orec (start-moves moves);
+        start = start-by c (ForWord at) v.gate.algorithm (known_of v o) (known_of u o) orec (start-moves moves owed);
         granted = refl;
         holds = refl;
         checked = refl;
         marks = refl;
       }
         where
-          start-moves : MayMove rule c n start seen more v → (start ≡ v.attempt.start) ⊎ Found Clock start (known_of v o) (known_of u o)
-          start-moves (inl s) = inl s.0
-          start-moves (inr s) = inr (more, refl, Load, s.0)
+          start-moves : MayMove rule c n start seen more v → MovesOwed c at start more v → (start ≡ v.attempt.start) ⊎ (Found Clock start (known_of v o) (known_of u o) × FindsNewer c at (known_of v o) (known_of u o))
+          start-moves (inl s) d = inl s.0
+          start-moves (inr s) (inl d) = inl d
+          start-moves (inr s) (inr d) = inr ((more, refl, Load, s.0), newer-shown c at more v u o o refl d)
 
       -- the attempt ended from there
       pub quits-moved : (before : View) → IsUnmade u before → (v.steps.rises_at_begin ≤ before.steps.rises) × (before.steps.rises ≤ v.steps.rises_at_begin + quit_rise v.gate.algorithm (has_written (known_of v o)))
@@ -291,7 +297,7 @@ module _ {good : List ℕ → Type 0} {c : Config} {n : ℕ} {l : Local} {v : Vi
       → HasRead good c n at (reads.Conflict cause) (known_of v o) (known_of (left n before) o)
   reads-refused at cause m w before unwritten unread room h unmade quits = let more = trail-left n w before unmade.carried in (
     quits,
-    conflicts-by-records c n (Some at) cause (known_of v o) (known_of w o) (known_of (left n before) o) (owns-records v.gate.algorithm orec) more.0 more.1 (h.why o o),
+    conflicts-by-records c n (ForWord at) cause (known_of v o) (known_of w o) (known_of (left n before) o) (owns-records v.gate.algorithm orec) more.0 more.1 (h.why o o),
     h.others,
     full-by at false unwritten unread (grind (arith, nat_tests)),
   )
@@ -300,7 +306,7 @@ module _ {good : List ℕ → Type 0} {c : Config} {n : ℕ} {l : Local} {v : Vi
   pub reads-new : (at x : ℕ) (m : Local) (w : View) → x < 2 ^ 64 → at < c.words → item_at at l.writes.items ≡ None → item_at at l.reads.items ≡ None → length l.reads.items ≢ l.reads.len → HasLoaded rule c n at x l v m w
       → HasRead good c n at (reads.Value x) (known_of v o) (known_of w o)
   reads-new at x m w small low unwritten unread room h = subst (λ (y : View). HasRead good c n at (reads.Value x) (known_of v o) (known_of y o)) (sym h.is) (
-    goes-moved m.start h.seen h.more h.moves (record { at = at; value = x } ∷ v.attempt.reads) no_sample no_check,
+    goes-moved m.start h.seen h.more h.moves (record { at = at; value = x } ∷ v.attempt.reads) no_sample no_check at h.owed,
     quiet,
     (
       written y refl refl ∙ sym written-here,

@@ -1,5 +1,5 @@
 -- What the parts of the commit of an attempt of OrecEager that wrote ask and tell.
-use Rattle.std.specs.Prelude.{ℕ, ◌≡◌, ◌+◌, ◌<◌, ◌≤◌, ◌++◌, ◌⊎◌, Bool, true, false, List, [], None, Result, Ok, Err}
+use Rattle.std.specs.Prelude.{ℕ, ◌≡◌, ◌+◌, ◌<◌, ◌≤◌, ◌++◌, ◌⊎◌, Bool, true, false, List, [], Result, Ok, Err}
 use Rattle.stm_model.specs.Algorithms.{has_records}
 use Rattle.stm_model.specs.declared.alg.Alg.TheVariants.{OrecEager}
 use Rattle.stm_model.specs.declared.config.Config.{Config}
@@ -17,6 +17,7 @@ use Rattle.rule_base.specs.Own.{Own}
 use Rattle.stm_rule.specs.declared.local.Local.{Local}
 use Rattle.stm_rule.specs.Attempts.{IsInside, HasRoom}
 use Rattle.tx_answers.specs.Causes.{Conflicts}
+use Rattle.tx_answers.specs.Causes.Asked.{ToCommit}
 use Rattle.tx_answers.specs.Evidence.{Found}
 use Rattle.tx_answers.specs.Known.{Grows, known_of}
 use Rattle.alg_orec.specs.Committing.{readied}
@@ -43,7 +44,8 @@ module _ (good : List ℕ → Type 0) (c : Config) (n : ℕ) where
     pub is : w ≡ readied v seen m.start v.owned.held loaded check more
     pub stays : IsInside good c n m w
     pub grows : (o : Own) → Grows (known_of v o) (known_of w o)
-    pub start : (m.start ≡ l.start) ⊎ ((o : Own) → Found Clock m.start (known_of v o) (known_of w o))
+    -- the start moves only where a validation was owed
+    pub start : (m.start ≡ l.start) ⊎ (((o : Own) → Found Clock m.start (known_of v o) (known_of w o)) × (l.committing ≡ true))
     pub again : l.committing ≡ true → (o : Own) → Found Clock m.start (known_of v o) (known_of w o)
 
   -- or one is not
@@ -52,7 +54,7 @@ module _ (good : List ℕ → Type 0) (c : Config) (n : ℕ) where
     pub check : Validation
     pub more : List TrailItem
     pub is : w ≡ record v { check = check; steps = record v.steps { trail = more ++ v.steps.trail } }
-    pub conflicts : (o p : Own) → Conflicts c n None cause (known_of v o) (known_of w p)
+    pub conflicts : (o p : Own) → o.committing ≡ l.committing → Conflicts c n ToCommit cause (known_of v o) (known_of w p)
     pub others : 1 < c.callers
 
   abbrev pub Revalidates : Result (Unit {0}) Cause → Local → View → Local → View → Type 0

@@ -17,6 +17,7 @@ use Rattle.tx_answers.specs.declared.answers.Read.{Read}
 use Rattle.tx_answers.specs.declared.answers.Read.TheVariants as reads
 use Rattle.tx_answers.specs.Answers.{HasOthers, HasRead, GoesOn, IsOpaque, Quits}
 use Rattle.tx_answers.specs.Causes.{reads_full}
+use Rattle.tx_answers.specs.Causes.Asked.{ForWord}
 use Rattle.tx_answers.specs.Known.{Known}
 use Rattle.alg_orec.specs.Validating.{load_of, OnlyLoads}
 
@@ -62,7 +63,7 @@ module _ (c : Config) (a : ℕ) where
 module _ (good : List ℕ → Type 0) (c : Config) (n a : ℕ) where
   -- the attempt goes on after these steps, and has yet to read a
   pub record GoesOnReading (more : List TrailItem) (v w : Known) : Type 0 where
-    pub goes : GoesOn v w
+    pub goes : GoesOn c (ForWord a) v w
     pub uncommitted : w.committing ≡ false
     pub log : w.log ≡ v.log
     pub kept : w.kept ≡ v.kept

@@ -19,7 +19,7 @@ use Rattle.stm_rule.specs.declared.local.Local.{Local}
 use Rattle.tx_answers.specs.declared.answers.Write.{Write}
 use Rattle.tx_answers.specs.declared.answers.Write.TheVariants as writes
 use Rattle.alg_orec.specs.EagerEnding.{AllBelow}
-use Rattle.alg_orec.specs.Loading.{MayMove, RefusesRead, moved}
+use Rattle.alg_orec.specs.Loading.{MayMove, MovesOwed, RefusesRead, moved}
 use Rattle.alg_orec.specs.Validating.{CanValidate, load_of}
 
 -- each record that is held was free at a version that the start has seen
@@ -70,6 +70,7 @@ module _ (good : (ℕ → ℕ) → Type 0) (c : Config) (n : ℕ) where
     pub more : List TrailItem
     pub is : w ≡ taken v m.start seen held sample check more
     pub moves : MayMove good c n m.start seen more v
+    pub owed : MovesOwed c a m.start more v
     pub its : touches held (home_of c a) ≡ true
     pub keeps : (r : ℕ) → touches v.owned.held r ≡ true → touches held r ≡ true
     pub locks : m.locks.items ≡ items held

@@ -1,5 +1,5 @@
 -- What the parts of a promotion of OrecLazy or OrecEager ask and tell.
-use Rattle.std.specs.Prelude.{ℕ, ◌≡◌, ◌<◌, ◌≤◌, ◌++◌, true, false, List, [], Contains, None, Result, Ok, Err}
+use Rattle.std.specs.Prelude.{ℕ, ◌≡◌, ◌<◌, ◌≤◌, ◌++◌, true, false, List, [], Contains, Result, Ok, Err}
 use Rattle.stm_model.specs.declared.config.Config.{Config}
 use Rattle.stm_model.specs.declared.config.TheConstants.{CLOCK_LIMIT}
 use Rattle.rule_base.specs.declared.entries.Entry.{Entry}
@@ -19,6 +19,7 @@ use Rattle.stm_gate.specs.Granting.{IsAlone}
 use Rattle.tx_answers.specs.declared.answers.Irrev.{Irrev}
 use Rattle.tx_answers.specs.declared.answers.Irrev.TheVariants as irrevs
 use Rattle.tx_answers.specs.Causes.{Conflicts}
+use Rattle.tx_answers.specs.Causes.Asked.{ToPromote}
 use Rattle.tx_answers.specs.Evidence.{Found}
 use Rattle.tx_answers.specs.Known.{known_of}
 use Rattle.alg_orec.specs.EagerEnding.{AllBelow}
@@ -71,7 +72,7 @@ module _ (c : Config) (n : ℕ) where
   RefusesGrant irrevs.Granted v w = ⊥
   RefusesGrant (irrevs.Busy caller status) v w = ⊥
   RefusesGrant (irrevs.Taken gate) v w = ⊥
-  RefusesGrant (irrevs.Conflict cause) v w = ((o : Own) → Conflicts c n None cause (known_of v o) (known_of w o)) × (1 < c.callers)
+  RefusesGrant (irrevs.Conflict cause) v w = ((o : Own) → Conflicts c n ToPromote cause (known_of v o) (known_of w o)) × (1 < c.callers)
   RefusesGrant (irrevs.ClockFull clock) v w = (CLOCK_LIMIT ≤ clock) × ((o : Own) → Found Clock clock (known_of v o) (known_of w o))
 
   -- and is to be taken back: a clock that it knows is above the versions of what it holds

@@ -1,5 +1,5 @@
 -- What the parts of a read ask and tell.
-use Rattle.std.specs.Prelude.{ℕ, ◌≡◌, ◌+◌, ◌<◌, ◌≤◌, ◌%◌, ◌⊎◌, true, false, List, [], ◌∷◌, ◌++◌, Contains, Some, Result, Ok, Err}
+use Rattle.std.specs.Prelude.{ℕ, ◌≡◌, ◌+◌, ◌<◌, ◌≤◌, ◌%◌, ◌⊎◌, true, false, List, [], ◌∷◌, ◌++◌, Contains, Result, Ok, Err}
 use Rattle.stm_model.specs.declared.config.Config.{Config}
 use Rattle.stm_model.specs.declared.stop.Cause.{Cause}
 use Rattle.rule_base.specs.declared.entries.Cell.{Cell}
@@ -17,6 +17,7 @@ use Rattle.rule_orec.specs.OrecReading.{no_check, no_sample}
 use Rattle.stm_rule.specs.declared.local.Local.{Local}
 use Rattle.steps_orec.specs.RecordFindings.{Moves}
 use Rattle.tx_answers.specs.Causes.{Conflicts}
+use Rattle.tx_answers.specs.Causes.Asked.{ForWord}
 use Rattle.tx_answers.specs.Known.{known_of}
 use Rattle.alg_orec.specs.Validating.{CanValidate, OnlyLoads, load_of}
 
@@ -42,6 +43,14 @@ moved v start seen reads sample check more = record v {
 abbrev pub sampled_at : ℕ → ℕ → Sample
 sampled_at a version = record { sampled = true; loaded = false; from = a; version = version; value = 0 }
 
+-- one of these steps found the record of a free, and newer than the start
+abbrev pub ShowsNewer : Config → ℕ → List TrailItem → View → Type 0
+ShowsNewer c a more v = (word : ℕ) × Contains more (load_of (Record (a % c.records)) word) × (is_owned word ≡ false) × (v.attempt.start < version_of word)
+
+-- the start moved only where that is so: a validation was owed
+abbrev pub MovesOwed : Config → ℕ → ℕ → List TrailItem → View → Type 0
+MovesOwed c a start more v = (start ≡ v.attempt.start) ⊎ ShowsNewer c a more v
+
 module _ (good : (ℕ → ℕ) → Type 0) (c : Config) (n : ℕ) where
   -- the start stayed; or it moved to a clock that was loaded, which an older one alone does where there are others
   abbrev pub MayMove : ℕ → List Entry → List TrailItem → View → Type 0
@@ -57,6 +66,7 @@ module _ (good : (ℕ → ℕ) → Type 0) (c : Config) (n : ℕ) where
     pub free : is_owned word ≡ false
     pub old : version_of word ≤ m.start
     pub moves : MayMove m.start seen late v
+    pub owed : MovesOwed c a m.start (late ++ load_of (Record (a % c.records)) word ∷ []) v
     -- what came after that load was of a validation
     pub next : (late ≡ []) ⊎ (1 < c.callers)
 
@@ -67,7 +77,7 @@ module _ (good : (ℕ → ℕ) → Type 0) (c : Config) (n : ℕ) where
     pub more : List TrailItem
     pub is : w ≡ moved v m.start seen v.attempt.reads w.sample w.check more
     pub moves : MayMove m.start seen more v
-    pub why : (o p : Own) → Conflicts c n (Some a) cause (known_of v o) (known_of w p)
+    pub why : (o p : Own) → Conflicts c n (ForWord a) cause (known_of v o) (known_of w p)
     pub others : 1 < c.callers
 
   abbrev pub Samples : ℕ → Result ℕ Cause → Local → View → Local → View → Type 0
@@ -81,6 +91,7 @@ module _ (good : (ℕ → ℕ) → Type 0) (c : Config) (n : ℕ) where
     pub more : List TrailItem
     pub is : w ≡ moved v m.start seen (record { at = a; value = x } ∷ v.attempt.reads) no_sample no_check more
     pub moves : MayMove m.start seen more v
+    pub owed : MovesOwed c a m.start more v
     pub sees : Explains (word_now seen) (record { at = a; value = x } ∷ v.attempt.reads)
     pub legal : Legal good c seen
     pub below : Below seen (m.start + 1)

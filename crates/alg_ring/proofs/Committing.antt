@@ -22,6 +22,7 @@ use Rattle.stm_rule.specs.Findings.{FindsLock}
 use Rattle.stm_rule.specs.RingKept.{IsRing}
 use Rattle.tx_answers.specs.declared.answers.Commit.TheVariants as commits
 use Rattle.tx_answers.specs.Answers.{Commits, StartMoves}
+use Rattle.tx_answers.specs.Causes.Asked.{ToCommit}
 use Rattle.tx_answers.specs.Known.{known_of, written_under, is_in, is_closing, wrote}
 use Rattle.tx_answers.specs.KnownLaws.{grows-same}
 use Rattle.stm_gate.specs.KeptLaws.{kept-same}
@@ -135,7 +136,7 @@ module _ (good : List ℕ → Type 0) (c : Config) (n : ℕ) (l : Local) (v : Vi
             installs = refl;
             depth = refl;
           };
-          start = subst (λ (b : Alg). StartMoves b (known_of v (own_of l)) (known_of again_at (own_of in_commit))) (sym a.named) (inl refl);
+          start = subst (λ (b : Alg). StartMoves c ToCommit b (known_of v (own_of l)) (known_of again_at (own_of in_commit))) (sym a.named) (inl refl);
           granted = refl;
           holds = refl;
           checked = refl;

@@ -35,6 +35,7 @@ use Rattle.steps_ring.specs.RingFindings.{FindsTick}
 use Rattle.tx_answers.specs.declared.answers.Commit.{Commit}
 use Rattle.tx_answers.specs.declared.answers.Commit.TheVariants as commits
 use Rattle.tx_answers.specs.Answers.{Commits, CommitsAt, Quits, entry}
+use Rattle.tx_answers.specs.Causes.Asked.{ToCommit}
 use Rattle.tx_answers.specs.Known.{Grows, known_of}
 use Rattle.tx_answers.specs.KnownLaws.{grows-same, grows-trans, ascending-append, within-append}
 use Rattle.stm_gate.specs.Leaving.{left, last_steps}
@@ -168,7 +169,7 @@ module _ (good : List ℕ → Type 0) (c : Config) (n : ℕ) (l : Local) (v w : 
     pub decides-conflict : n < c.callers → (cause : Cause) (x : View) → Fails good c cause l.loaded u x → IsDecided good c n (commits.Conflict cause) v l x
     decides-conflict low cause x f = unmade (commits.Conflict cause) f.read clock (f.more ++ early) x failed (λ quits. (
       quits,
-      refuted c n None (known_of v o) (known_of (left n (freed (ticked_at f.read clock (f.more ++ early)))) o) l.loaded u.attempt.start f.clock (last ++ lock_freed ∷ []) f.loads early cause named (sym (ap (λ (z : View). z.attempt.start) ticked)) k.read
+      refuted c n ToCommit (known_of v o) (known_of (left n (freed (ticked_at f.read clock (f.more ++ early)))) o) l.loaded u.attempt.start f.clock (last ++ lock_freed ∷ []) f.loads early cause named (sym (ap (λ (z : View). z.attempt.start) ticked)) k.read
           (ap (λ (s : List TrailItem). last ++ lock_freed ∷ s) (append_assoc f.more early v.steps.trail) ∙ (sym (append_assoc last (lock_freed ∷ []) (f.more ++ (early ++ v.steps.trail))) ∙ ap (λ (m : List TrailItem). (last ++ lock_freed ∷ []) ++ (m ++ (early ++ v.steps.trail))) f.parts)) f.refutes,
       (let d = f.others in omega arith),
       turn.has.wrote,

@@ -1,6 +1,6 @@
 -- What the steps come to by which an attempt that is alone is promoted.
 use Rattle.std.proofs.Common.{ℕ, ◌≡◌, ◌<◌, ◌≤◌, List, [], ◌∷◌, ◌++◌, Bool, true, false, refl, sym, ap, ◌∙◌, arith, subst, append_assoc}
-use Rattle.std.specs.Prelude.{None, Ok, not, ◌&&◌, if◌then◌else◌, reverse}
+use Rattle.std.specs.Prelude.{Ok, not, ◌&&◌, if◌then◌else◌, reverse}
 use Rattle.std.proofs.lemmas.List.{append-nil}
 use Rattle.stm_model.specs.Algorithms.{has_records, asks_at_grant, closes_gate, entry_rise, irrevocable_under}
 use Rattle.stm_model.specs.declared.alg.Alg.{Alg}
@@ -33,6 +33,7 @@ use Rattle.stm_rule.specs.RecordsKept.{Apart, Buffers, cells_of}
 use Rattle.stm_rule.specs.RingKept.{IsRing}
 use Rattle.tx_answers.specs.declared.answers.Irrev.TheVariants as irrevs
 use Rattle.tx_answers.specs.Answers.{Quits, IsOpaque}
+use Rattle.tx_answers.specs.Causes.Asked.{ToPromote}
 use Rattle.tx_answers.specs.Evidence.{Found}
 use Rattle.tx_answers.specs.Known.{Known, Grows, IsRunning, known_of, fenced_of, granted_under, written_under, is_irrevocable, is_in, is_closing, wrote}
 use Rattle.tx_answers.specs.KnownLaws.{grows-same, grows-trans}
@@ -176,7 +177,7 @@ module _ (good : List ℕ → Type 0) (c : Config) (n : ℕ) (l : Local) (v : Vi
       pub tells-conflict : n < c.callers → (y : View) → y ≡ left n u → Grants good c n (irrevs.Conflict cause) (known_of v o) (known_of y o)
       tells-conflict low y end = subst (λ (z : View). Grants good c n (irrevs.Conflict cause) (known_of v o) (known_of z o)) (sym (end ∙ ap (left n) failed-path)) (
         quits-settled clock f.read (f.more ++ clock_found clock ∷ []),
-        refuted c n None (known_of v o) (known_of (left n (settled_at clock f.read (f.more ++ clock_found clock ∷ []))) o) l.loaded w.attempt.start f.clock last f.loads (clock_found clock ∷ []) cause named (sym (ap (λ (z : View). z.attempt.start) settled-path)) k.read
+        refuted c n ToPromote (known_of v o) (known_of (left n (settled_at clock f.read (f.more ++ clock_found clock ∷ []))) o) l.loaded w.attempt.start f.clock last f.loads (clock_found clock ∷ []) cause named (sym (ap (λ (z : View). z.attempt.start) settled-path)) k.read
             (ap (λ (s : List TrailItem). last ++ s) (append_assoc f.more (clock_found clock ∷ []) v.steps.trail) ∙ ap (λ (m : List TrailItem). last ++ (m ++ clock_found clock ∷ v.steps.trail)) f.parts) f.refutes,
         (let d = f.others in omega arith),
       )

@@ -90,14 +90,8 @@ module _ (good : List ℕ → Type 0) (c : Config) (n : ℕ) (l : Local) (v : Vi
     pub written-now : (log : LogState) (stored : List ℕ) (wrote : Bool) (d : ℕ) → Once log.items → written_under v.gate.algorithm v.gate.granted v (own_of (record l { writes = log; stored = stored; wrote = wrote; depth = d })) ≡ log.items
     written-now log stored wrote d once = (λ j. written_under (ring j) (k.optimistic.ungranted j) v (own_of (with_log log stored wrote d))) ∙ items-cells log.items once
 
-    pub written-before : written_under v.gate.algorithm v.gate.granted v (own_of l) ≡ l.writes.items
-    written-before = written-now l.writes l.stored l.wrote l.depth k.buffers.once
-
     pub revocable : is_irrevocable (known_of v (own_of l)) ≡ false
     revocable = (λ j. irrevocable_under (ring j) (granted_under (ring j) v.gate v.lock) (not (is_empty (known_of v (own_of l)).log.writes))) ∙ k.optimistic.ungranted
-
-    pub set-before : IsWriteSet c l.fence l.writes.items
-    set-before = record { once = k.buffers.once; inside = k.buffers.inside; small = k.buffers.small; apart = k.buffers.apart }
 
     pub stays-with : (log : LogState) (stored : List ℕ) (wrote : Bool) (d : ℕ) → IsWriteSet c l.fence log.items → wrote ≡ not (is_empty log.items) → HasMarks c l.fence log.marks d → IsFilterOf stored log.items
         → IsInside good c n (record l { writes = log; stored = stored; wrote = wrote; depth = d }) v
@@ -115,11 +109,6 @@ module _ (good : List ℕ → Type 0) (c : Config) (n : ℕ) (l : Local) (v : Vi
       where
         keeps-ring : IsRing c (with_log log stored wrote d) v → attempts.Keeps c l.algorithm l.granted (with_log log stored wrote d) v
         keeps-ring p = subst (λ (a : Alg). attempts.Keeps c a l.granted (with_log log stored wrote d) v) (sym (sym i.named ∙ ring)) (subst (λ (b : Bool). attempts.Keeps c RingSw b (with_log log stored wrote d) v) (sym plain) p)
-
-    -- what is known with another log
-    known-with : (log : LogState) (stored : List ℕ) (wrote : Bool) (d : ℕ) (ws : List (ℕ × ℕ)) → Once log.items → log.items ≡ ws → log.items ≡ l.writes.items
-        → known_of v (own_of (record l { writes = log; stored = stored; wrote = wrote; depth = d })) ≡ record (known_of v (own_of l)) { log = record { reads = items v.attempt.reads; writes = ws }; depth = d; marks = log.marks }
-    known-with log stored wrote d ws once is same = λ j. let q : Known = record (known_of v (own_of (with_log log stored wrote d))) { log = record { reads = items v.attempt.reads; writes = (written-now log stored wrote d once ∙ is) j }; kept = kept-same v.gate.algorithm v v (own_of l) (own_of (with_log log stored wrote d)) (ap cells_of same) refl refl j } in q
 
     -- A ROLL BACK
     module _ (log : LogState) (stored : List ℕ) (wrote : Bool) (d : ℕ) (low : 1 ≤ d) (high : d ≤ l.depth) (is : log ≡ rolled d l.writes) (words : IsFilterOf stored log.items) (some : wrote ≡ not (is_empty log.items)) where

@@ -31,6 +31,7 @@ use Rattle.stm_rule.specs.RingKept.{IsRing}
 use Rattle.tx_answers.specs.declared.answers.Read.TheVariants.{Value, Conflict}
 use Rattle.tx_answers.specs.Answers.{HasRead, GoesOn, Quits, StartMoves}
 use Rattle.tx_answers.specs.Causes.{Conflicts, has_item, reads_full}
+use Rattle.tx_answers.specs.Causes.Asked.{ForWord}
 use Rattle.tx_answers.specs.Known.{Grows, known_of, written_under, is_irrevocable, is_in, is_closing}
 use Rattle.stm_gate.specs.KeptLaws.{kept-same}
 use Rattle.stm_gate.specs.Leaving.{left, last_steps}
@@ -133,16 +134,16 @@ module _ (good : List ℕ → Type 0) (c : Config) (n a : ℕ) (l : Local) (v : 
           fenced = refl;
         }
 
-        start-moves : StartMoves RingSw (known_of v o) (known_of after o)
+        start-moves : StartMoves c (ForWord a) RingSw (known_of v o) (known_of after o)
         start-moves = ⊎_elim (λ e. inl e) (λ q. inr (q.0, q.1, found Clock q.0 q.2, found Done q.1 q.3, q.4)) p.moves
           where
             found : FindsAll p.more (known_of v o) (known_of after o)
             found = finds-between (known_of v o) (known_of after o) [] p.more (item ∷ []) refl
 
-        goes : GoesOn (known_of v o) (known_of after o)
+        goes : GoesOn c (ForWord a) (known_of v o) (known_of after o)
         goes = record {
           continues = record { running = ap is_in i.phase; closing = ap is_closing i.phase; made = refl; grows = grown; alg = refl; fence = refl; base = refl; rises = (omega arith, omega arith); later = p.later; installs = refl; depth = refl };
-          start = subst (λ (b : Alg). StartMoves b (known_of v o) (known_of after o)) (sym named) start-moves;
+          start = subst (λ (b : Alg). StartMoves c (ForWord a) b (known_of v o) (known_of after o)) (sym named) start-moves;
           granted = refl;
           holds = refl;
           checked = refl;
@@ -198,8 +199,8 @@ module _ (good : List ℕ → Type 0) (c : Config) (n a : ℕ) (l : Local) (v : 
         quits = quits-left n v failed o (record { carried = record { named = refl; base = refl; installs = refl; fence = refl; trail = (q.more ++ item ∷ [], sym (append_assoc q.more (item ∷ []) v.steps.trail)) }; history = refl })
             (let r = k.optimistic.rises in (omega arith, omega arith)) (revocable good c n l v i named k o)
 
-        why : Conflicts c n (Some a) cause (known_of v o) (known_of (left n failed) o)
-        why = refuted c n (Some a) (known_of v o) (known_of (left n failed) o) filter v.attempt.start q.clock last q.loads (item ∷ []) cause named refl
+        why : Conflicts c n (ForWord a) cause (known_of v o) (known_of (left n failed) o)
+        why = refuted c n (ForWord a) (known_of v o) (known_of (left n failed) o) filter v.attempt.start q.clock last q.loads (item ∷ []) cause named refl
             (λ j less. words j less ∙ ap (bit_or (address_word a j)) (k.read j less))
             (ap (λ (m : List TrailItem). last ++ (m ++ item ∷ v.steps.trail)) q.parts)
             q.refutes

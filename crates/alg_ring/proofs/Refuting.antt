@@ -1,6 +1,6 @@
 -- What a check that failed tells the caller: another entry came in between.
 use Rattle.std.proofs.Common.{ℕ, ◌≡◌, ◌<◌, List, [], ◌∷◌, ◌++◌, refl, sym, ap, ◌∙◌, arith, subst, ⊎_elim, append_assoc}
-use Rattle.std.specs.Prelude.{Option, slice_index, bit_and}
+use Rattle.std.specs.Prelude.{slice_index, bit_and}
 use Rattle.stm_model.specs.declared.alg.Alg.TheVariants.{RingSw}
 use Rattle.stm_model.specs.declared.config.Config.{Config}
 use Rattle.stm_model.specs.declared.stop.Cause.{Cause}
@@ -10,7 +10,7 @@ use Rattle.rule_base.specs.declared.layout.At.TheVariants.{Clock}
 use Rattle.rule_base.specs.declared.layout.TheConstants.{SLOT_WORDS}
 use Rattle.rule_base.specs.declared.views.Act.TheVariants.{Load}
 use Rattle.rule_base.specs.declared.views.TrailItem.{TrailItem}
-use Rattle.tx_answers.specs.Causes.{Conflicts, read_filter}
+use Rattle.tx_answers.specs.Causes.{Asked, Conflicts, read_filter}
 use Rattle.tx_answers.specs.Evidence.{Found}
 use Rattle.tx_answers.specs.SlotEvidence.{InTrail, FirstMet, FindsFirst, clock_load}
 use Rattle.tx_answers.specs.Known.{Known}
@@ -51,7 +51,7 @@ module _ (ring start clock time bits : ℕ) (f g : ℕ → ℕ) (same : (i : ℕ
     least = λ e a b. let l = m.least e a b in record { slot = l.slot; part = l.part; low = l.low; loaded = l.loaded; none = sym (part-by f g l.slot same l.part l.low) ∙ l.none };
   }
 
-module _ (c : Config) (n : ℕ) (asked : Option ℕ) (v w : Known) (filter : List ℕ) (start clock : ℕ) (late loads early : List TrailItem) where
+module _ (c : Config) (n : ℕ) (asked : Asked) (v w : Known) (filter : List ℕ) (start clock : ℕ) (late loads early : List TrailItem) where
   abbrev pub FailedBy : Type 0
   FailedBy = w.trail ≡ late ++ ((loads ++ clock_load clock ∷ []) ++ (early ++ v.trail))
 

@@ -24,6 +24,7 @@ use Rattle.tx_answers.specs.declared.answers.Read.TheVariants as reads
 use Rattle.tx_answers.specs.declared.answers.Write.TheVariants as writes
 use Rattle.tx_answers.specs.Answers.{HasRead, HasWritten, Quits, StartMoves}
 use Rattle.tx_answers.specs.Causes.{has_item, is_some, reads_full, writes_full}
+use Rattle.tx_answers.specs.Causes.Asked.{ForWord}
 use Rattle.tx_answers.specs.Known.{known_of, written_under, is_irrevocable, is_in, is_closing, kept_under}
 use Rattle.tx_answers.specs.KnownLaws.{grows-same}
 use Rattle.stm_gate.specs.KeptLaws.{kept-put, member-item, length-addresses}
@@ -81,7 +82,7 @@ module _ (good : List ℕ → Type 0) (c : Config) (n a : ℕ) (l : Local) (v : 
     writes-done room = (
       record {
         continues = record { running = ap is_in i.phase; closing = ap is_closing i.phase; made = refl; grows = grows-same (known_of v o) (known_of v (own_of m)) refl refl [] refl refl refl refl; alg = refl; fence = refl; base = refl; rises = (omega arith, omega arith); later = omega arith; installs = refl; depth = refl };
-        start = subst (λ (b : Alg). StartMoves b (known_of v o) (known_of v (own_of m))) (sym named) (inl refl);
+        start = subst (λ (b : Alg). StartMoves c (ForWord a) b (known_of v o) (known_of v (own_of m))) (sym named) (inl refl);
         granted = refl;
         holds = refl;
         checked = refl;

@@ -31,7 +31,7 @@ use Rattle.tx_answers.specs.declared.answers.Read.TheVariants.{Value}
 use Rattle.tx_answers.specs.declared.answers.Write.TheVariants.{Done}
 use Rattle.tx_answers.specs.Answers as answers
 use Rattle.tx_answers.specs.Answers.{kept_with, GoesOn, HasRead, HasWritten, KeepsRule, CommitsAt, EndsAt, RisesWithout}
-use Rattle.tx_answers.specs.Causes.{has_item, reads_full, writes_full}
+use Rattle.tx_answers.specs.Causes.{Asked, has_item, reads_full, writes_full}
 use Rattle.tx_answers.specs.Known.{Known, known_of, fenced_of, granted_under, written_under, kept_under, is_in, is_closing, is_irrevocable, wrote}
 use Rattle.tx_answers.specs.KnownLaws.{grows-same}
 use Rattle.stm_gate.specs.InnerLaws.{start-stays}
@@ -115,8 +115,8 @@ pub record IsLogged (v w : View) : Type 0 where
 pub logged-refl : (v : View) → IsLogged v v
 logged-refl v = record { history = refl; gate = refl; irrevocable = refl; fence = refl; start = refl; rises = refl; base = refl; installs = refl; trail = ([], refl) }
 
-pub goes-on : (v w : View) (o : Own) → v.gate.phase ≡ In → IsLogged v w → GoesOn (known_of v o) (known_of w o)
-goes-on v w o inside i = record {
+pub goes-on : {c : Config} {asked : Asked} → (v w : View) (o : Own) → v.gate.phase ≡ In → IsLogged v w → GoesOn c asked (known_of v o) (known_of w o)
+goes-on {c} {asked} v w o inside i = record {
   continues = record {
     running = ap (λ (g : GateView). is_in g.phase) i.gate ∙ ap is_in inside;
     closing = ap (λ (g : GateView). is_closing g.phase) i.gate ∙ ap is_closing inside;
@@ -130,7 +130,7 @@ goes-on v w o inside i = record {
     installs = ap reverse i.installs;
     depth = refl;
   };
-  start = start-stays v.gate.algorithm (known_of v o) (known_of w o) i.start;
+  start = start-stays c asked v.gate.algorithm (known_of v o) (known_of w o) i.start;
   granted = ap (λ (g : GateView). granted_under g.algorithm g w.lock) i.gate ∙ granted-same v.gate.algorithm v.gate v.lock w.lock i.irrevocable;
   holds = ap (λ (g : GateView). g.holds) i.gate;
   checked = ap (λ (g : GateView). g.checked) i.gate;

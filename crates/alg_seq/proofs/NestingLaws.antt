@@ -183,9 +183,6 @@ module _ (good : List ℕ → Type 0) (c : Config) (n : ℕ) (l : Local) (v : Vi
     pub stays-with : IsInside good c n (record l { writes = log; depth = d }) v
     stays-with = inside-at good c n l v i log l.wrote d v.attempt.stores [] (keeps-with l.algorithm l.granted refl refl i.keeps)
 
-  pub known-with : (log : LogState) (d : ℕ) → known_of v (own_of (record l { writes = log; depth = d })) ≡ record (known_of v (own_of l)) { depth = d; marks = log.marks }
-  known-with log d = λ j. let k : Known = record (known_of v (own_of (with_log log d))) { log = record { reads = items v.attempt.reads; writes = (written (own_of (with_log log d)) ∙ sym (written (own_of l))) j }; kept = kept-own v.gate.algorithm sequential v v (own_of l) (own_of (with_log log d)) refl j } in k
-
   -- ONCE IRREVOCABLE a mark is a number
   module _ (irrevocable : irrevocable_under l.algorithm l.granted l.wrote ≡ true) (d : ℕ) where
     pub deeper-marked : is_irrevocable (known_of v (own_of l)) ≡ true
@@ -215,9 +212,6 @@ module _ (good : List ℕ → Type 0) (c : Config) (n : ℕ) (l : Local) (v : Vi
 
     pub count : length l.writes.marks ≡ l.depth
     count = stands.1
-
-    pub written-before : written_under v.gate.algorithm v.gate.granted v (own_of l) ≡ l.writes.items
-    written-before = written (own_of l) ∙ sym stands.2
 
     depth-take : (a : Alg) (d : ℕ) → HasDepth a l.writes.marks l.depth → d ≤ l.depth → HasDepth a (take d l.writes.marks) d
     depth-take Tml d h low = ap (take d) h ∙ take-replicate d l.depth [] low

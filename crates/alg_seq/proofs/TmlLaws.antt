@@ -42,6 +42,7 @@ use Rattle.tx_answers.specs.declared.answers.Write.TheVariants as writes
 use Rattle.tx_answers.specs.Answers.{write_rise, kept_with, HasRead, HasWritten, KeepsRule, Commits, CommitsAt, Cancels, Quits, BecomesIrrevocable}
 use Rattle.tx_answers.specs.Evidence.{Found}
 use Rattle.tx_answers.specs.Causes.{reads_full, writes_full}
+use Rattle.tx_answers.specs.Causes.Asked.{ForWord}
 use Rattle.tx_answers.specs.Known.{known_of, kept_under, granted_under, written_under, is_irrevocable, wrote, is_in, is_closing}
 use Rattle.tx_answers.specs.KnownLaws.{grows-same}
 use Rattle.stm_gate.specs.InnerLaws.{goes-inner, start-stays, no-log-full}
@@ -380,7 +381,7 @@ module _ (good : List ℕ → Type 0) (c : Config) (n : ℕ) where
           installs = refl;
           depth = refl;
         };
-        start = start-stays v.gate.algorithm (known_of v o) (known_of y o) refl;
+        start = start-stays c (ForWord a) v.gate.algorithm (known_of v o) (known_of y o) refl;
         granted = refl;
         holds = refl;
         checked = refl;

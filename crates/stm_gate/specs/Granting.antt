@@ -18,8 +18,9 @@ use Rattle.stm_rule.specs.Attempts.{IsInside}
 use Rattle.tx_answers.specs.declared.answers.Irrev.{Irrev}
 use Rattle.tx_answers.specs.declared.answers.Irrev.TheVariants as irrevs
 use Rattle.tx_answers.specs.Answers.{BecomesIrrevocable, Quits, Waits, Irrevs}
-use Rattle.tx_answers.specs.Causes.{Conflicts, FindsFull, IsAnothers, IsNewer, has_item, read_filter}
-use Rattle.tx_answers.specs.Evidence.{Found, FoundAsWas, FoundMoved, Untouched}
+use Rattle.tx_answers.specs.Causes.{Conflicts, FindsFull, IsInTheWay, IsStaleAt, has_item, read_filter}
+use Rattle.tx_answers.specs.Causes.Asked.{ToPromote}
+use Rattle.tx_answers.specs.Evidence.{Found, FoundAsWas, Untouched}
 use Rattle.tx_answers.specs.SlotEvidence.{FindsFirst, clock_load}
 use Rattle.tx_answers.specs.Known.{Known, Grows, known_of, is_irrevocable, is_in, is_closing, is_none, has_written}
 use Rattle.tx_answers.specs.KnownLaws.{grows-same, grows-trans}
@@ -46,25 +47,13 @@ as-was-earlier r x u v w s f = record {
   untouched = untouched-append (Record r) f.early s.0 f.untouched (s.2 r);
 }
 
-moved-earlier : (r x y : ℕ) (u v w : Known) → SparesRecords u v → FoundMoved (Record r) x y v w → FoundMoved (Record r) x y u w
-moved-earlier r x y u v w s f = record {
-  apart = f.apart;
-  early = f.early ++ s.0;
-  middle = f.middle;
-  act = f.act;
-  late = f.late;
-  trail = f.trail ∙ ap (λ (t : List TrailItem). f.late ++ record { place = Record r; act = f.act; found = Some y } ∷ (f.middle ++ record { place = Record r; act = Load; found = Some x } ∷ t)) (ap (λ (t : List TrailItem). f.early ++ t) s.1 ∙ sym (append_assoc f.early s.0 u.trail));
-  untouched = f.untouched;
-  refused = f.refused;
-}
-
 module _ (good : List ℕ → Type 0) (c : Config) (n : ℕ) where
   -- what becomes of an attempt that is alone
   abbrev pub Grants : Irrev → Known → Known → Type 0
   Grants irrevs.Granted v w = BecomesIrrevocable good c n v w
   Grants (irrevs.Busy caller status) v w = ⊥
   Grants (irrevs.Taken gate) v w = ⊥
-  Grants (irrevs.Conflict cause) v w = Quits v w × Conflicts c n None cause v w × (1 < c.callers)
+  Grants (irrevs.Conflict cause) v w = Quits v w × Conflicts c n ToPromote cause v w × (1 < c.callers)
   Grants (irrevs.ClockFull clock) v w = Quits v w × (asks_at_grant v.alg ≡ true) × FindsFull clock v w
 
   quits-after : (u v w : Known) → Waits good c n u v → Quits v w → Quits u w
@@ -78,8 +67,8 @@ module _ (good : List ℕ → Type 0) (c : Config) (n : ℕ) where
   found-before : (place : At) (x : ℕ) (u v w : Known) → Waits good c n u v → Found place x v w → Found place x u w
   found-before place x u v w a f = found-earlier place x u v w f a.continues.grows.more a.continues.grows.trail
 
-  first-after : (time bits : ℕ) (u v w : Known) → Waits good c n u v → FindsFirst c.ring v.start (read_filter c n None v.log.reads) time bits v w → FindsFirst c.ring u.start (read_filter c n None u.log.reads) time bits u w
-  first-after time bits u v w a f = subst (λ (g : Log). FindsFirst c.ring u.start (read_filter c n None g.reads) time bits u w) a.log (subst (λ (s : ℕ). FindsFirst c.ring s (read_filter c n None v.log.reads) time bits u w) a.start (record {
+  first-after : (time bits : ℕ) (u v w : Known) → Waits good c n u v → FindsFirst c.ring v.start (read_filter c n ToPromote v.log.reads) time bits v w → FindsFirst c.ring u.start (read_filter c n ToPromote u.log.reads) time bits u w
+  first-after time bits u v w a f = subst (λ (g : Log). FindsFirst c.ring u.start (read_filter c n ToPromote g.reads) time bits u w) a.log (subst (λ (s : ℕ). FindsFirst c.ring s (read_filter c n ToPromote v.log.reads) time bits u w) a.start (record {
     early = f.early ++ k.more;
     clock = f.clock;
     loads = f.loads;
@@ -93,17 +82,17 @@ module _ (good : List ℕ → Type 0) (c : Config) (n : ℕ) where
       k : Grows u v
       k = a.continues.grows
 
-  abbrev ConcernsLog : ℕ → Log → Type 0
-  ConcernsLog index g = (a : ℕ) × (index ≡ a % c.records) × ((None ≡ Some a) ⊎ ((has_item a g.reads ≡ true) ⊎ (has_item a g.writes ≡ true)))
-
-  conflicts-after : (cause : causes.the_data) (u v w : Known) → Waits good c n u v → SparesRecords u v → Conflicts c n None cause v w → Conflicts c n None cause u w
+  conflicts-after : (cause : causes.the_data) (u v w : Known) → Waits good c n u v → SparesRecords u v → Conflicts c n ToPromote cause v w → Conflicts c n ToPromote cause u w
   conflicts-after (causes.Clock had now) u v w a s b = (sym a.continues.alg ∙ b.0, b.1 ∙ a.start, b.2, found-before Clock now u v w a b.3)
-  conflicts-after (causes.Record index word start) u v w a s b = (ap has_records (sym a.continues.alg) ∙ b.0, b.1 ∙ a.start, subst (ConcernsLog index) a.log b.2, as-was-earlier index word u v w s b.3, why b.4)
+  conflicts-after (causes.Record index word start) u v w a s b = (ap has_records (sym a.continues.alg) ∙ b.0, b.1 ∙ a.start, as-was-earlier index word u v w s b.2, way b.3)
     where
-      why : IsAnothers c n None word ⊎ IsNewer c n None index word start v → IsAnothers c n None word ⊎ IsNewer c n None index word start u
-      why (inl x) = inl x
-      why (inr x) = inr (x.0, x.1, (x.2.0, x.2.1, sym (ap (λ (g : Log). has_item x.2.0 g.reads) a.log) ∙ x.2.2))
-  conflicts-after (causes.Moved index before after) u v w a s b = (ap has_records (sym a.continues.alg) ∙ b.0, subst (ConcernsLog index) a.log b.1, moved-earlier index before after u v w s b.2)
+      stale : IsStaleAt c n v.start word → IsStaleAt c n u.start word
+      stale = subst (λ (t : ℕ). IsStaleAt c n t word) a.start
+
+      way : IsInTheWay c n ToPromote index word v w → IsInTheWay c n ToPromote index word u w
+      way (inl x) = absurd x.0
+      way (inr x) = inr (tt, (x.1.0, x.1.1, sym (ap (λ (g : Log). has_item x.1.0 g.reads) a.log) ∙ x.1.2), stale x.2)
+  conflicts-after (causes.Moved index before after) u v w a s b = absurd b.1
   conflicts-after (causes.Filter time bits) u v w a s b = (sym a.continues.alg ∙ b.0, first-after time bits u v w a b.1)
   conflicts-after (causes.Overrun start clock) u v w a s b = (sym a.continues.alg ∙ b.0, b.1 ∙ a.start, found-before Clock clock u v w a b.2, b.3)
 

@@ -4,6 +4,7 @@ use Rattle.std.specs.Prelude.{not, reverse, length, ◌&&◌, ◌==◌}
 use Rattle.stm_model.specs.Algorithms.{closes_gate, irrevocable_under, has_read_log, logs_writes}
 use Rattle.stm_model.specs.declared.alg.Alg.{Alg}
 use Rattle.stm_model.specs.declared.alg.Alg.TheVariants.{Cgl, Tml, OrecLazy, OrecEager, RingSw, Serial}
+use Rattle.stm_model.specs.declared.config.Config.{Config}
 use Rattle.rule_base.specs.declared.views.GateView.{GateView}
 use Rattle.rule_base.specs.declared.views.LockView.{LockView}
 use Rattle.rule_base.specs.declared.views.Phase.TheVariants.{In}
@@ -14,7 +15,7 @@ use Rattle.rule_base.specs.Bridge.{items, public_history}
 use Rattle.rule_base.specs.History.{member}
 use Rattle.rule_base.specs.Own.{Own}
 use Rattle.tx_answers.specs.Answers.{StartMoves, GoesOn}
-use Rattle.tx_answers.specs.Causes.{has_item, reads_full, writes_full}
+use Rattle.tx_answers.specs.Causes.{Asked, has_item, reads_full, writes_full}
 use Rattle.tx_answers.specs.Known.{Known, known_of, fenced_of, granted_under, written_under, is_in, is_closing, is_irrevocable}
 use Rattle.tx_answers.specs.KnownLaws.{grows-same}
 
@@ -30,16 +31,16 @@ pub record IsInner (v w : View) : Type 0 where
   pub trail : (more : List TrailItem) × (w.steps.trail ≡ more ++ v.steps.trail)
 
 -- a start may stay
-pub start-stays : (a : Alg) (v w : Known) → w.start ≡ v.start → StartMoves a v w
-start-stays Cgl v w e = e
-start-stays Tml v w e = e
-start-stays OrecLazy v w e = inl e
-start-stays OrecEager v w e = inl e
-start-stays RingSw v w e = inl e
-start-stays Serial v w e = e
+pub start-stays : (c : Config) (asked : Asked) (a : Alg) (v w : Known) → w.start ≡ v.start → StartMoves c asked a v w
+start-stays c asked Cgl v w e = e
+start-stays c asked Tml v w e = e
+start-stays c asked OrecLazy v w e = inl e
+start-stays c asked OrecEager v w e = inl e
+start-stays c asked RingSw v w e = inl e
+start-stays c asked Serial v w e = e
 
-pub goes-inner : (v w : View) (o : Own) → v.gate.phase ≡ In → IsInner v w → GoesOn (known_of v o) (known_of w o)
-goes-inner v w o inside i = record {
+pub goes-inner : {c : Config} {asked : Asked} → (v w : View) (o : Own) → v.gate.phase ≡ In → IsInner v w → GoesOn c asked (known_of v o) (known_of w o)
+goes-inner {c} {asked} v w o inside i = record {
   continues = record {
     running = ap (λ (g : GateView). is_in g.phase) i.gate ∙ ap is_in inside;
     closing = ap (λ (g : GateView). is_closing g.phase) i.gate ∙ ap is_closing inside;
@@ -53,7 +54,7 @@ goes-inner v w o inside i = record {
     installs = ap reverse i.installs;
     depth = refl;
   };
-  start = start-stays v.gate.algorithm (known_of v o) (known_of w o) i.start;
+  start = start-stays c asked v.gate.algorithm (known_of v o) (known_of w o) i.start;
   granted = λ k. granted_under (i.gate k).algorithm (i.gate k) (i.lock k);
   holds = ap (λ (g : GateView). g.holds) i.gate;
   checked = ap (λ (g : GateView). g.checked) i.gate;

@@ -140,13 +140,6 @@ pub addresses-firsts : (ws : List (ℕ × ℕ)) → addresses ws ≡ firsts ws
 addresses-firsts [] = refl
 addresses-firsts (w ∷ ws) = ap (λ (l : List ℕ). w.0 ∷ l) (addresses-firsts ws)
 
-pub addresses-take : (k : ℕ) (us ws : List (ℕ × ℕ)) → addresses us ≡ addresses ws → addresses (take k us) ≡ addresses (take k ws)
-addresses-take zero us ws e = refl
-addresses-take (suc k) [] [] e = refl
-addresses-take (suc k) [] (w ∷ ws) e = absurd cc
-addresses-take (suc k) (u ∷ us) [] e = absurd cc
-addresses-take (suc k) (u ∷ us) (w ∷ ws) e = let head : u.0 ≡ w.0 = cc in let tail : addresses us ≡ addresses ws = cc in (λ j. head j ∷ addresses-take k us ws tail j)
-
 -- items whose addresses are the first of others
 pub first-addresses : (ns ws : List (ℕ × ℕ)) → firsts ns ≡ take (length ns) (firsts ws) → addresses ns ≡ addresses (take (length ns) ws)
 first-addresses ns ws e = addresses-firsts ns ∙ (e ∙ (take-map (λ (w : ℕ × ℕ). w.0) (length ns) ws ∙ sym (addresses-firsts (take (length ns) ws))))

@@ -5,6 +5,7 @@
 pub mod direct;
 pub mod fence;
 pub mod gate;
+pub mod kept;
 pub mod leave;
 pub mod looking;
 pub mod promote;

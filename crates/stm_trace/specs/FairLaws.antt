@@ -1,8 +1,8 @@
 -- What the calls tell is fair: from the clauses of the answers to the table of turns.
 use Rattle.std.proofs.Common.{ℕ, ◌≡◌, ◌≢◌, ◌<◌, ◌%◌, ◌⊎◌, Bool, true, false, refl, ap, ◌∙◌, arith, inl, inr, ⊎_elim, List}
-use Rattle.std.specs.Prelude.{◌&&◌, Option}
+use Rattle.std.specs.Prelude.{◌&&◌}
 use Rattle.std.proofs.lemmas.Nat.{mod_below}
-use Rattle.rule_base.specs.Encodings.{holder_of}
+use Rattle.rule_base.specs.Encodings.{holder_of, is_owned, owner_of}
 use Rattle.stm_model.specs.Algorithms.{has_records, has_read_log, logs_writes, closes_gate, asks_at_write, asks_at_commit, asks_at_grant}
 use Rattle.stm_model.specs.Configs.{IsConfig}
 use Rattle.stm_model.specs.declared.config.Config.{Config}
@@ -13,7 +13,8 @@ use Rattle.stm_model.specs.declared.stop.Stop.TheVariants as stops
 use Rattle.stm_script.specs.declared.op.Op.{Op}
 use Rattle.stm_script.specs.declared.workload.Header.{Header}
 use Rattle.tx_answers.specs.Answers.{Begins, Commits, Cancels, Closes, Looks, Irrevs, Stops}
-use Rattle.tx_answers.specs.Causes.{Conflicts, IsAgain, NamesOther, Concerns}
+use Rattle.tx_answers.specs.Causes.{Asked, Conflicts, IsAgain, IsAnothers, NamesOther, Needs}
+use Rattle.tx_answers.specs.Causes.Asked.{ForWord, ToCommit, ToPromote}
 use Rattle.tx_answers.specs.Known.{Known, is_irrevocable, wrote}
 use Rattle.tx_answers.specs.declared.answers.Begin.{Begin}
 use Rattle.tx_answers.specs.declared.answers.Begin.TheVariants as begins
@@ -76,24 +77,29 @@ module _ (good : List ℕ → Type 0) (c : Config) (n : ℕ) (h : Header) (at : 
       let o = t.1.other in let below = o.0 in let same = sizes.3 in
       (others o.2, omega (arith, below, same), (λ e. o.1 (e ∙ caller)), above-zero status t.1.announced)
 
-  in-range : (asked : Option ℕ) (index : ℕ) (v : Known) → Concerns c n asked index v → index < h.records
-  in-range asked index v k =
+  in-range : (a index : ℕ) → index ≡ a % c.records → index < h.records
+  in-range a index is =
       let some = ranges.records.0 in
-      let low : k.0 % c.records < c.records = mod_below k.0 c.records (omega (arith, some)) in
-      let is = k.1 in let same = sizes.1 in omega (arith, low, is, same)
+      let low : a % c.records < c.records = mod_below a c.records (omega (arith, some)) in
+      let same = sizes.1 in omega (arith, low, is, same)
+
+  needed : (asked : Asked) (index : ℕ) (v : Known) → Needs c asked index v → index < h.records
+  needed (ForWord a) index v k = in-range a index k
+  needed ToCommit index v k = in-range k.0 index k.1
+  needed ToPromote index v k = absurd k
 
   module _ (v : Known) (is : IsPlaceIn v at) where
-    pub fair-cause : (asked : Option ℕ) (cause : Cause) (w : Known) → Conflicts c n asked cause v w → IsFairCause h at cause
+    pub fair-cause : (asked : Asked) (cause : Cause) (w : Known) → Conflicts c n asked cause v w → IsFairCause h at cause
     fair-cause asked (Clock had now) w t = (is.alg ∙ t.0, t.2)
     fair-cause asked (Record index word start) w t = (
       ap has_records is.alg ∙ t.0,
-      in-range asked index v t.2,
-      ⊎_elim
-          (λ o. inl (o.0, (λ e. let k = o.1.2 in let j = o.1.3 in k (omega (arith, e, j, caller)))))
-          (λ o. inr (o.0, o.1))
-          t.4,
+      ⊎_elim (λ o. needed asked index v o.0) (λ o. in-range o.1.0 index o.1.1) t.3,
+      ⊎_elim (λ o. inl (anothers o.1)) (λ o. ⊎_elim (λ x. inl (anothers x)) (λ x. inr (x.0, (let lt = x.1 in let e = t.1 in omega (arith, lt, e)))) o.2) t.3,
     )
-    fair-cause asked (Moved index before after) w t = (ap has_records is.alg ∙ t.0, in-range asked index v t.1, t.2.apart)
+      where
+        anothers : IsAnothers c n word → (is_owned word ≡ true) × (owner_of word ≢ at.caller)
+        anothers o = (o.0, (λ e. let k = o.1.2 in let j = o.1.3 in k (omega (arith, e, j, caller))))
+    fair-cause asked (Moved index before after) w t = (ap has_records is.alg ∙ t.0, needed asked index v t.1, t.2.apart)
     fair-cause asked (Filter time bits) w t = (is.alg ∙ t.0, (let lt = t.1.first.since in omega (arith, lt)), t.1.first.meets.some)
     fair-cause asked (Overrun start clock) w t = (is.alg ∙ t.0, (let le = t.3 in let same = sizes.2 in omega (arith, le, same)))
 
@@ -101,7 +107,7 @@ module _ (good : List ℕ → Type 0) (c : Config) (n : ℕ) (h : Header) (at : 
     module _ (reads : v.reads_limit ≡ at.reads_limit) (writes : v.writes_limit ≡ at.writes_limit) where
       pub fair-stop : (op : Op) (a : ℕ) (stop : Stop) (w : Known) → ((clock : ℕ) → stop ≡ stops.ClockFull clock → may_write op ≡ true) → Stops good c n a stop v w
           → (irrevocable at ≡ false) × IsFairStop h at op stop
-      fair-stop op a (stops.Conflict cause) w may t = (is.revocable t.0.revocable, (others t.2, fair-cause (Option.Some a) cause w t.1))
+      fair-stop op a (stops.Conflict cause) w may t = (is.revocable t.0.revocable, (others t.2, fair-cause (ForWord a) cause w t.1))
       fair-stop op a (stops.Full limit) w may t = (
         is.revocable t.0.revocable,
         ⊎_elim
@@ -112,7 +118,7 @@ module _ (good : List ℕ → Type 0) (c : Config) (n : ℕ) (h : Header) (at : 
       fair-stop op a (stops.ClockFull clock) w may t = (is.revocable t.0.revocable, (t.2.limit, ap asks_at_write is.alg ∙ t.1, may clock refl))
 
   module _ (v : Known) (is : IsPlaceOf v at) where
-    cause-of : (asked : Option ℕ) (cause : Cause) (w : Known) → Conflicts c n asked cause v w → IsFairCause h at cause
+    cause-of : (asked : Asked) (cause : Cause) (w : Known) → Conflicts c n asked cause v w → IsFairCause h at cause
     cause-of asked cause w t = fair-cause v (record { alg = is.alg; revocable = λ e. is.irrevocable ∙ e }) asked cause w t
 
     fair-again : (word had now : ℕ) (w : Known) → IsAgain c n word had now v w → turns.IsFairAgain h at word had now
@@ -133,12 +139,12 @@ module _ (good : List ℕ → Type 0) (c : Config) (n : ℕ) (h : Header) (at : 
         let o = t.2.other in let below = o.0 in let same = sizes.3 in
         ((revocable t.0.revocable, ap closes_gate is.alg ∙ t.0.closes, others o.2), omega (arith, below, same), (λ e. o.1 (e ∙ caller)), above-zero status t.2.announced)
     fair-irrevocable (irrevs.Taken gate) w t = ((revocable t.0.revocable, ap closes_gate is.alg ∙ t.0.closes, others t.5), names-other (holder_of gate) t.4)
-    fair-irrevocable (irrevs.Conflict cause) w t = (revocable t.0.revocable, others t.2, cause-of Option.None cause w t.1)
+    fair-irrevocable (irrevs.Conflict cause) w t = (revocable t.0.revocable, others t.2, cause-of ToPromote cause w t.1)
     fair-irrevocable (irrevs.ClockFull clock) w t = (revocable t.0.revocable, t.2.limit, ap asks_at_grant is.alg ∙ t.1)
 
     pub fair-commit : (r : Commit) (w : Known) → Commits good c n r v w → IsFair h at (TryCommit r)
     fair-commit (commits.Committed time) w t = is.wrote ∙ t.wrote
     fair-commit (commits.ReadOnly time) w t = is.wrote ∙ t.2
-    fair-commit (commits.Conflict cause) w t = (revocable t.0.revocable, others t.2, cause-of Option.None cause w t.1, is.wrote ∙ t.3)
+    fair-commit (commits.Conflict cause) w t = (revocable t.0.revocable, others t.2, cause-of ToCommit cause w t.1, is.wrote ∙ t.3)
     fair-commit (commits.Again word had now) w t = (revocable t.7, others t.6, fair-again word had now w t.5, is.wrote ∙ t.8)
     fair-commit (commits.ClockFull clock) w t = (revocable t.0.revocable, t.3.limit, ap asks_at_commit is.alg ∙ t.1, is.wrote ∙ t.2)

@@ -91,7 +91,8 @@ fn begin_under<K: MemRule>(
 }
 
 /// Reads the word at `a`: the attempt's last write of it, else what it read there before, else the memory at its
-/// start. It asks for a running attempt. All answers but a value end the attempt.
+/// start. It asks for a running attempt. All answers but a value end the attempt. Under OrecLazy and OrecEager the
+/// start moves, and the record of another word refuses it, only where that of `a` was found free and newer than the start.
 ///
 /// One step under CGL and Serial and in an attempt that was promoted; under TML two before the first write, and
 /// three or four where the attempt ends. Under OrecLazy and OrecEager none for a word that it wrote or read before,
@@ -118,7 +119,7 @@ pub fn read<K: MemRule>(desc: &mut Desc<K>, stm: &Stm<K>, a: usize) -> Read
 }
 
 /// Writes `x` to the word at `a`, for this attempt until it commits. It asks for a running attempt. All answers but
-/// `Done` end the attempt.
+/// `Done` end the attempt. Under OrecEager the start moves, and another word's record refuses it, as for `read`.
 ///
 /// None under OrecLazy and RingSW, whose writes wait for the commit. One under CGL and in an attempt that was
 /// promoted; three at most under TML and Serial, and where Serial takes it back two more and one for each word that
@@ -145,7 +146,9 @@ pub fn write<K: MemRule>(desc: &mut Desc<K>, stm: &Stm<K>, a: usize, x: u64) -> 
 /// Commits the attempt. An attempt that wrote asks that it keeps the memory rule.
 ///
 /// `Committed` comes only where the attempt wrote, `ReadOnly` only where it did not. All answers but `Again` leave
-/// the descriptor idle; behind `Again` the attempt is to be committed again or cancelled.
+/// the descriptor idle; behind `Again` the attempt is to be committed again or cancelled. Under OrecLazy and OrecEager the
+/// start moves, and the record of a word that was only read refuses it, only behind an earlier `Again`, or where the record
+/// of a word that it wrote was found free and newer than the start.
 ///
 /// Three steps at most under CGL, TML and Serial, five where the attempt was promoted, and one or two where it wrote
 /// nothing. Under OrecLazy three for each record and one for each word that it wrote, two, and a validation where

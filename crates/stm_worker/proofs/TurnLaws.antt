@@ -31,6 +31,7 @@ use Rattle.stm_rule.specs.declared.stm.Stm.{Stm}
 use Rattle.rule_base.specs.declared.views.View.{View}
 use Rattle.tx_answers.specs.Answers.{BeginsAt, Continues, HoldsClosed, Quits, Stays}
 use Rattle.tx_answers.specs.Answers as answers
+use Rattle.tx_answers.specs.Causes.Asked.{ToCommit}
 use Rattle.tx_answers.specs.Known.{Known, Grows, IsIdle, IsUnrolled, IsRunning, caller_of, is_irrevocable, known_of}
 use Rattle.tx_answers.specs.Known as knows
 use Rattle.tx_answers.specs.KnownLaws.{Carries, IsStillIn, grows-same, grows-trans}
@@ -449,7 +450,7 @@ module _ {K : Type 0} (good : List ℕ → Type 0) (stm : Stm K) (u : Worker K) 
     pub busied : u.phase ≡ Inside → answers.Waits good stm.config (caller_of u.desc.who.role) (known u.desc) (known d) → Sound good stm (record u { desc = d; passed = u.passed })
     busied inside h = waits-on u.passed inside h.continues h.log h.kept h.granted h.opaque (λ e. absurd (let f : true ≡ false = sym e ∙ h.uncommitted in cc))
 
-    pub again : (b : Bool) → u.phase ≡ Inside → u.operations_left.now ≡ [] → is_forced (place_of u) ≡ false → answers.GoesOn (known u.desc) (known d) → (known d).log ≡ (known u.desc).log → (known d).kept ≡ (known u.desc).kept → answers.IsOpaque good stm.config (caller_of u.desc.who.role) (known d) → Sound good stm (record u { desc = d; passed = b })
+    pub again : (b : Bool) → u.phase ≡ Inside → u.operations_left.now ≡ [] → is_forced (place_of u) ≡ false → answers.GoesOn stm.config ToCommit (known u.desc) (known d) → (known d).log ≡ (known u.desc).log → (known d).kept ≡ (known u.desc).kept → answers.IsOpaque good stm.config (caller_of u.desc.who.role) (known d) → Sound good stm (record u { desc = d; passed = b })
     again b inside none free h log kept opaque = waits-on b inside h.continues log kept h.granted opaque (λ e. (none, free))
 
     pub same-place : (b : Bool) → place_of (record u { desc = d; passed = b }) ≡ place_of u

@@ -37,7 +37,8 @@ use Rattle.tx_answers.specs.declared.answers.Read.{Read}
 use Rattle.tx_answers.specs.declared.answers.Read.TheVariants.{Value, Conflict, Full}
 use Rattle.tx_answers.specs.declared.answers.Write.{Write}
 use Rattle.tx_answers.specs.declared.answers.Write.TheVariants.{Done, Conflict, Full, ClockFull}
-use Rattle.tx_answers.specs.Causes.{FindsFull, NamesOther, Conflicts, IsAgain, reads_full, writes_full}
+use Rattle.tx_answers.specs.Causes.{Asked, FindsFull, NamesOther, Conflicts, IsAgain, OwesValidation, reads_full, writes_full}
+use Rattle.tx_answers.specs.Causes.Asked.{ForWord, ToCommit, ToPromote}
 use Rattle.tx_answers.specs.Evidence.{Found}
 use Rattle.tx_answers.specs.Known.{Known, Grows, IsIdle, is_irrevocable, wrote, has_written, no_log, zeros}
 
@@ -62,14 +63,14 @@ start_word OrecEager = Clock
 start_word RingSw = Done
 start_word Serial = Clock
 
--- how a start may move in a call: not at all; to a clock that was loaded and up to which all reads are valid; up to DONE, within the clock
-abbrev pub StartMoves : Alg → Known → Known → Type 0
-StartMoves Cgl v w = w.start ≡ v.start
-StartMoves Tml v w = w.start ≡ v.start
-StartMoves OrecLazy v w = (w.start ≡ v.start) ⊎ Found Clock w.start v w
-StartMoves OrecEager v w = (w.start ≡ v.start) ⊎ Found Clock w.start v w
-StartMoves RingSw v w = (w.start ≡ v.start) ⊎ ((clock done : ℕ) × Found Clock clock v w × Found Done done v w × (w.start ≡ max v.start (min done clock)))
-StartMoves Serial v w = w.start ≡ v.start
+-- how a start may move in a call: not at all; where a validation was owed, to a clock that was loaded and up to which all reads are valid; up to DONE, within the clock
+abbrev pub StartMoves : Config → Asked → Alg → Known → Known → Type 0
+StartMoves c asked Cgl v w = w.start ≡ v.start
+StartMoves c asked Tml v w = w.start ≡ v.start
+StartMoves c asked OrecLazy v w = (w.start ≡ v.start) ⊎ (Found Clock w.start v w × OwesValidation c asked v w)
+StartMoves c asked OrecEager v w = (w.start ≡ v.start) ⊎ (Found Clock w.start v w × OwesValidation c asked v w)
+StartMoves c asked RingSw v w = (w.start ≡ v.start) ⊎ ((clock done : ℕ) × Found Clock clock v w × Found Done done v w × (w.start ≡ max v.start (min done clock)))
+StartMoves c asked Serial v w = w.start ≡ v.start
 
 -- by how much at most a call raises the clock that leaves the attempt open: TML's first write makes it odd, and the attempt irrevocable
 abbrev pub write_rise : Alg → Bool → ℕ
@@ -125,10 +126,10 @@ pub record StaysOpen (v w : Known) : Type 0 where
   pub holds : w.holds ≡ v.holds
   pub checked : w.checked ≡ v.checked
 
--- the attempt stays open, and as it was toward the others
-pub record GoesOn (v w : Known) : Type 0 where
+-- the attempt stays open after what was asked of it, and as it was toward the others
+pub record GoesOn (c : Config) (asked : Asked) (v w : Known) : Type 0 where
   pub continues : Continues v w
-  pub start : StartMoves v.alg v w
+  pub start : StartMoves c asked v.alg v w
   pub granted : w.granted ≡ v.granted
   pub holds : w.holds ≡ v.holds
   pub checked : w.checked ≡ v.checked
@@ -248,21 +249,21 @@ module _ (good : List ℕ → Type 0) (c : Config) (n : ℕ) where
 
   -- a read or a write of a ended the attempt by this stop
   abbrev pub Stops : ℕ → Stop → Known → Known → Type 0
-  Stops a (stops.Conflict cause) v w = Quits v w × Conflicts c n (Some a) cause v w × HasOthers
+  Stops a (stops.Conflict cause) v w = Quits v w × Conflicts c n (ForWord a) cause v w × HasOthers
   Stops a (stops.Full limit) v w =
       Quits v w × (((reads_full a v ≡ true) × (limit ≡ v.reads_limit)) ⊎ ((writes_full a v ≡ true) × (limit ≡ v.writes_limit)))
   Stops a (stops.ClockFull clock) v w = Quits v w × (asks_at_write v.alg ≡ true) × FindsFull clock v w
 
   -- what `read` of a tells: Full comes exactly where the log needs room that it hasn't
   abbrev pub HasRead : ℕ → Read → Known → Known → Type 0
-  HasRead a (Value x) v w = GoesOn v w × (w.committing ≡ false) × Reads v.log a x w.log × (x < 2 ^ 64) × IsOpaque w × (reads_full a v ≡ false) × (w.rises ≡ v.rises) × (w.kept ≡ v.kept)
-  HasRead a (Conflict cause) v w = Quits v w × Conflicts c n (Some a) cause v w × HasOthers × (reads_full a v ≡ false)
+  HasRead a (Value x) v w = GoesOn c (ForWord a) v w × (w.committing ≡ false) × Reads v.log a x w.log × (x < 2 ^ 64) × IsOpaque w × (reads_full a v ≡ false) × (w.rises ≡ v.rises) × (w.kept ≡ v.kept)
+  HasRead a (Conflict cause) v w = Quits v w × Conflicts c n (ForWord a) cause v w × HasOthers × (reads_full a v ≡ false)
   HasRead a (Full limit) v w = Quits v w × (reads_full a v ≡ true) × (limit ≡ v.reads_limit)
 
   -- what `write` of x at a tells
   abbrev pub HasWritten : ℕ → ℕ → Write → Known → Known → Type 0
-  HasWritten a x Done v w = GoesOn v w × (w.committing ≡ false) × Writes v.log a x w.log × IsOpaque w × (writes_full a v ≡ false) × (w.kept ≡ kept_with a v)
-  HasWritten a x (Conflict cause) v w = Quits v w × Conflicts c n (Some a) cause v w × HasOthers × (writes_full a v ≡ false)
+  HasWritten a x Done v w = GoesOn c (ForWord a) v w × (w.committing ≡ false) × Writes v.log a x w.log × IsOpaque w × (writes_full a v ≡ false) × (w.kept ≡ kept_with a v)
+  HasWritten a x (Conflict cause) v w = Quits v w × Conflicts c n (ForWord a) cause v w × HasOthers × (writes_full a v ≡ false)
   HasWritten a x (Full limit) v w = Quits v w × (writes_full a v ≡ true) × (limit ≡ v.writes_limit)
   HasWritten a x (ClockFull clock) v w = Quits v w × (asks_at_write v.alg ≡ true) × FindsFull clock v w × (writes_full a v ≡ false)
 
@@ -312,9 +313,9 @@ module _ (good : List ℕ → Type 0) (c : Config) (n : ℕ) where
   abbrev pub Commits : Commit → Known → Known → Type 0
   Commits (Committed time) v w = CommitsAt time v w
   Commits (ReadOnly time) v w = EndsAt time v w × RisesWithout v w × (wrote v ≡ false)
-  Commits (Conflict cause) v w = Quits v w × Conflicts c n None cause v w × HasOthers × (wrote v ≡ true)
+  Commits (Conflict cause) v w = Quits v w × Conflicts c n ToCommit cause v w × HasOthers × (wrote v ≡ true)
   Commits (Again word had now) v w =
-      GoesOn v w × (w.committing ≡ true) × (w.log ≡ v.log) × (w.kept ≡ v.kept) × IsOpaque w × IsAgain c n word had now v w × HasOthers × (is_irrevocable v ≡ false) × (wrote v ≡ true)
+      GoesOn c ToCommit v w × (w.committing ≡ true) × (w.log ≡ v.log) × (w.kept ≡ v.kept) × IsOpaque w × IsAgain c n word had now v w × HasOthers × (is_irrevocable v ≡ false) × (wrote v ≡ true)
   Commits (ClockFull clock) v w = Quits v w × (asks_at_commit v.alg ≡ true) × (wrote v ≡ true) × FindsFull clock v w
 
   -- what `cancel` tells
@@ -365,7 +366,7 @@ module _ (good : List ℕ → Type 0) (c : Config) (n : ℕ) where
   Irrevs grants.Granted v w = BecomesIrrevocable v w
   Irrevs (grants.Busy caller status) v w = Waits v w × (w.holds ≡ true) × IsBusy caller status v w
   Irrevs (grants.Taken gate) v w = Waits v w × (w.holds ≡ v.holds) × (w.checked ≡ v.checked) × Found Gate gate v w × NamesOther c n (holder_of gate) × HasOthers
-  Irrevs (grants.Conflict cause) v w = Quits v w × Conflicts c n None cause v w × HasOthers
+  Irrevs (grants.Conflict cause) v w = Quits v w × Conflicts c n ToPromote cause v w × HasOthers
   Irrevs (grants.ClockFull clock) v w = Quits v w × (asks_at_grant v.alg ≡ true) × FindsFull clock v w
 
   -- the gate was loaded open, and is closed; nobody is seen yet

@@ -37,32 +37,61 @@ reads_full a v = has_read_log v.alg && (not (is_irrevocable v) && (not (has_item
 abbrev pub writes_full : ℕ → Known → Bool
 writes_full a v = logs_writes v.alg && (not (is_irrevocable v) && (not (member v.kept a) && (length v.kept == v.writes_limit)))
 
--- c is the memory's configuration, and n the caller; the call asks for this address, if for any
+-- what a call asked of the attempt: the word at an address, its commit, or its promotion
+pub data Asked : Type 0 where
+  ForWord : ℕ → Asked
+  ToCommit : Asked
+  ToPromote : Asked
+
+-- c is the memory's configuration
+module _ (c : Config) where
+  -- the record of the address was found free, and newer than the start
+  abbrev pub FindsNewer : ℕ → Known → Known → Type 0
+  FindsNewer a v w = (word : ℕ) × Found (Record (a % c.records)) word v w × (is_owned word ≡ false) × (v.start < version_of word)
+
+  -- A VALIDATION IS OWED where the record of the word asked for was newer; in a commit where that of a word written was, or the call before answered Again; in each promotion
+  abbrev pub OwesValidation : Asked → Known → Known → Type 0
+  OwesValidation (ForWord a) v w = FindsNewer a v w
+  OwesValidation ToCommit v w = (v.committing ≡ true) ⊎ ((a : ℕ) × (has_item a v.log.writes ≡ true) × FindsNewer a v w)
+  OwesValidation ToPromote v w = Unit {0}
+
+  -- the call needs the record itself: it is that of the word asked for, or in a commit of a word that was written
+  abbrev pub Needs : Asked → ℕ → Known → Type 0
+  Needs (ForWord a) index v = index ≡ a % c.records
+  Needs ToCommit index v = (a : ℕ) × (index ≡ a % c.records) × (has_item a v.log.writes ≡ true)
+  Needs ToPromote index v = ⊥
+
+  -- it is the record of a word that was read
+  abbrev pub IsOfRead : ℕ → Known → Type 0
+  IsOfRead index v = (a : ℕ) × (index ≡ a % c.records) × (has_item a v.log.reads ≡ true)
+
+-- n is the caller
 module _ (c : Config) (n : ℕ) where
   -- the number, where it isn't 0, names another caller
   abbrev pub NamesOther : ℕ → Type 0
   NamesOther x = (k : ℕ) × (k < c.callers) × (k ≢ n) × (x ≡ 1 + k)
 
-  module _ (asked : Option ℕ) where
-    -- the record is that of the address asked for, or of one that was read or written
-    abbrev pub Concerns : ℕ → Known → Type 0
-    Concerns index v = (a : ℕ) × (index ≡ a % c.records) × ((asked ≡ Some a) ⊎ ((has_item a v.log.reads ≡ true) ⊎ (has_item a v.log.writes ≡ true)))
+  -- another caller owns the record
+  abbrev pub IsAnothers : ℕ → Type 0
+  IsAnothers word = (is_owned word ≡ true) × NamesOther (1 + owner_of word)
 
-    -- another caller owns the record
-    abbrev pub IsAnothers : ℕ → Type 0
-    IsAnothers word = (is_owned word ≡ true) × NamesOther (1 + owner_of word)
+  -- another caller owns it, or it is newer than the start
+  abbrev pub IsStaleAt : ℕ → ℕ → Type 0
+  IsStaleAt start word = IsAnothers word ⊎ ((is_owned word ≡ false) × (start < version_of word))
 
-    -- the record is of an address that was read, and newer than the start
-    abbrev pub IsNewer : ℕ → ℕ → ℕ → Known → Type 0
-    IsNewer index word start v = (is_owned word ≡ false) × (start < version_of word) × ((a : ℕ) × (index ≡ a % c.records) × (has_item a v.log.reads ≡ true))
+  module _ (asked : Asked) where
+    -- the record is in the way: the call needs it, and another caller owns it; or a validation was owed, and it vouches no more for a word that was read
+    abbrev pub IsInTheWay : ℕ → ℕ → Known → Known → Type 0
+    IsInTheWay index word v w = (Needs c asked index v × IsAnothers word) ⊎ (OwesValidation c asked v w × IsOfRead c index v × IsStaleAt v.start word)
 
     -- the addresses whose words the attempt loaded, the one asked for included
     abbrev pub addresses : List (ℕ × ℕ) → List ℕ
     addresses reads = map (λ (r : ℕ × ℕ). r.0) reads
 
-    abbrev pub loaded_by : Option ℕ → List (ℕ × ℕ) → List ℕ
-    loaded_by None reads = addresses reads
-    loaded_by (Some a) reads = a ∷ addresses reads
+    abbrev pub loaded_by : Asked → List (ℕ × ℕ) → List ℕ
+    loaded_by (ForWord a) reads = a ∷ addresses reads
+    loaded_by ToCommit reads = addresses reads
+    loaded_by ToPromote reads = addresses reads
 
     -- the filter of these addresses
     abbrev pub read_filter : List (ℕ × ℕ) → ℕ → ℕ
@@ -72,8 +101,8 @@ module _ (c : Config) (n : ℕ) where
     abbrev pub Conflicts : Cause → Known → Known → Type 0
     Conflicts (causes.Clock had now) v w = (v.alg ≡ Tml) × (had ≡ v.start) × (had ≢ now) × Found Clock now v w
     Conflicts (causes.Record index word start) v w =
-        (has_records v.alg ≡ true) × (start ≡ v.start) × Concerns index v × FoundAsWas (Record index) word v w × (IsAnothers word ⊎ IsNewer index word start v)
-    Conflicts (causes.Moved index before after) v w = (has_records v.alg ≡ true) × Concerns index v × FoundMoved (Record index) before after v w
+        (has_records v.alg ≡ true) × (start ≡ v.start) × FoundAsWas (Record index) word v w × IsInTheWay index word v w
+    Conflicts (causes.Moved index before after) v w = (has_records v.alg ≡ true) × Needs c asked index v × FoundMoved (Record index) before after v w
     Conflicts (causes.Filter time bits) v w = (v.alg ≡ RingSw) × FindsFirst c.ring v.start (read_filter v.log.reads) time bits v w
     Conflicts (causes.Overrun start clock) v w = (v.alg ≡ RingSw) × (start ≡ v.start) × Found Clock clock v w × (start + c.ring ≤ clock)
 

@@ -5,6 +5,7 @@ use Rattle.std.proofs.lemmas.Bool.Decides.{nat_tests}
 use Rattle.std.proofs.lemmas.List.{append-nil}
 use Rattle.stm_model.specs.Algorithms.{irrevocable_under}
 use Rattle.stm_model.specs.AlgorithmLaws.{quit-low, irrevocable-writer}
+use Rattle.stm_model.specs.declared.config.Config.{Config}
 use Rattle.stm_model.specs.Histories.{Entry, Ascending}
 use Rattle.stm_model.specs.HistoryLaws.{Within}
 use Rattle.stm_model.specs.Logs.{Log, Writes}
@@ -14,6 +15,7 @@ use Rattle.rule_base.specs.declared.views.Phase.{Phase}
 use Rattle.rule_base.specs.declared.views.Phase.TheVariants.{Idle, Announced, Turned, Aiming, In, Closing}
 use Rattle.rule_base.specs.declared.views.TrailItem.{TrailItem}
 use Rattle.tx_answers.specs.Answers.{GoesOn, Quits}
+use Rattle.tx_answers.specs.Causes.{Asked}
 use Rattle.tx_answers.specs.Known.{Known, Grows, owed, is_in, is_closing, is_irrevocable, wrote, has_written, IsUnrolled}
 
 -- an attempt that goes on was there before, toward the others as it was
@@ -97,7 +99,7 @@ writes-some l k a x w =
 irrevocable-along : (v w : Known) (some : Bool) → w.alg ≡ v.alg → w.granted ≡ v.granted → wrote w ≡ some → irrevocable_under v.alg v.granted some ≡ true → is_irrevocable w ≡ true
 irrevocable-along v w some alg granted is h = (λ i. irrevocable_under (alg i) (granted i) (is i)) ∙ h
 
-carries-goes : (v w : Known) → v.running ≡ true → v.closing ≡ false → GoesOn v w → (IsUnrolled v → IsUnrolled w) → (is_irrevocable v ≡ true → is_irrevocable w ≡ true) → Carries v w
+carries-goes : {c : Config} {asked : Asked} → (v w : Known) → v.running ≡ true → v.closing ≡ false → GoesOn c asked v w → (IsUnrolled v → IsUnrolled w) → (is_irrevocable v ≡ true → is_irrevocable w ≡ true) → Carries v w
 carries-goes v w running closing g unrolled irrevocable = let k = g.continues in record {
   made = k.made;
   grows = k.grows;
@@ -113,7 +115,7 @@ carries-goes v w running closing g unrolled irrevocable = let k = g.continues in
     owed-goes : (v w : Known) → w.running ≡ true → v.running ≡ true → w.base ≡ v.base → owed w ≤ owed v
     owed-goes v w now before b = grind (arith, now, before, b)
 
-pub carries-wrote : (v w : Known) (a x : ℕ) → v.running ≡ true → v.closing ≡ false → GoesOn v w → Writes v.log a x w.log → Carries v w
+pub carries-wrote : {c : Config} {asked : Asked} → (v w : Known) (a x : ℕ) → v.running ≡ true → v.closing ≡ false → GoesOn c asked v w → Writes v.log a x w.log → Carries v w
 carries-wrote v w a x running closing g writes = carries-goes v w running closing g (λ u none. absurd (let some = writes-some v.log w.log a x writes in let no : true ≡ false = sym some ∙ none in cc)) (λ h. irrevocable-along v w true g.continues.alg g.granted (writes-some v.log w.log a x writes) (irrevocable-writer v.alg v.granted (wrote v) h))
 
 pub carries-quits : (v w : Known) → v.running ≡ true → v.closing ≡ false → Quits v w → Carries v w

@@ -58,7 +58,7 @@ returns-in-Err-clause-commits g c =
     let z = c.take_back.new.seat.me.0.view in
     subst (P z) (sym c.take_back.ensures.idle) (subst (λ (q : Local). P z (ended (record q { committing = false })))
     (sym c.in-Err.ensures.revalidates.local)
-    (laws.tells-stopped c.requires.attempt (own_of c.args.local.now) c.in-Err.cause _ _ z c.in-Err.ensures.revalidates
+    (laws.tells-stopped c.requires.attempt (own_of c.args.local.now) refl c.in-Err.cause _ _ z c.in-Err.ensures.revalidates
     c.take_back.ensures.takes_back))
 
 pub returns-in-Err-clause-stands : goal.returns-in-Err-clause-stands

@@ -6,7 +6,7 @@ pub validate-requires-clause-view : goal.validate-requires-clause-view
 validate-requires-clause-view g c = laws.may-validate c.requires.attempt
 
 pub returns-then-local-clause-revalidates : goal.returns-then-local-clause-revalidates
-returns-then-local-clause-revalidates g c = laws.revalidates c.requires.attempt c.validate.result _ _
+returns-then-local-clause-revalidates g c = laws.revalidates c.requires.attempt (search rules) c.validate.result _ _
     c.validate.ensures.validates
 
 pub returns-clause-revalidates : goal.returns-clause-revalidates

@@ -66,7 +66,7 @@ returns-in-Err-clause-commits g c =
     let P = λ (p : Own). answers.Commits (g.K.MemRule.good c.args.stm.now.rule) c.args.stm.now.config c.args.caller
     (commits.Conflict c.in-Err.cause) (known_of c.args.seat.now.me.0.view (own_of l)) (known_of z p) in
     subst (λ (q : Local). P (own_of q)) (sym c.roll_back.ensures.idle) (own-stopped l c.prepare.new.local s.local P
-    (laws.tells-stopped _ _ _ c.requires.caller _ _ c.requires.attempt (own_of l) refl c.in-Err.cause _ _ z s
+    (laws.tells-stopped _ _ _ c.requires.caller _ _ c.requires.attempt (own_of l) refl refl c.in-Err.cause _ _ z s
     c.roll_back.ensures.gives_up))
 
 pub returns-in-Err-clause-stands : goal.returns-in-Err-clause-stands
