@@ -44,7 +44,7 @@ use Rattle.tx_answers.specs.Answers.{GoesOn, HasRead, Quits, StartMoves, write_r
 use Rattle.tx_answers.specs.Causes.{Conflicts, has_item, reads_full}
 use Rattle.tx_answers.specs.Evidence.{Found}
 use Rattle.tx_answers.specs.Known.{Known, caller_of, known_of, is_irrevocable, is_none, has_written}
-use Rattle.tx_answers.specs.KnownLaws.{grows-trans}
+use Rattle.tx_answers.specs.KnownLaws.{grows-trans, lock-trans}
 use Rattle.alg_orec.proofs.EagerCalls.{RunsEager}
 use Rattle.alg_orec.proofs.EagerLaws as laws
 use Rattle.alg_orec.proofs.EagerProving.{ended-by, written}
@@ -97,6 +97,7 @@ module _ (v u : Known) (eager : v.alg ≡ OrecEager) (a : GoesOn v u) (log : u.l
         later = (let x = k.later in let y = q.later in omega arith);
         installs = q.installs ∙ k.installs;
         depth = q.depth ∙ k.depth;
+        locked = lock-trans v u w k.alg k.locked q.locked;
       };
       start = subst (λ (r : Alg). StartMoves r v w) (sym eager) (moves-on v u w k.grows.more k.grows.trail q.grows.more q.grows.trail (subst (λ (r : Alg). StartMoves r v u) eager a.start) (subst (λ (r : Alg). StartMoves r u w) (k.alg ∙ eager) b.start));
       granted = b.granted ∙ a.granted;
