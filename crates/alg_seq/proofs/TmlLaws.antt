@@ -660,7 +660,7 @@ module _ (good : List ℕ → Type 0) (c : Config) (n : ℕ) (v : View) (can : C
       bare = ap (λ (a : Alg). kept_under a y o) can.named;
       granted = ap (λ (a : Alg). granted_under a v.gate v.lock) can.named ∙ can.ungranted;
       opaque = opaque-at good c n y o clock refl refl b.legal b.below (λ a. refl) (λ a e. absurd cc);
-      locked = ap (λ (a : Alg). locked_under a v.lock.taken v.tml.writer) can.named ∙ can.clear.unwritten;
+      locked = ap (λ (a : Alg). locked_under a v.lock.taken false) can.named;
       took = λ e. absurd cc;
     };
   })
