@@ -19,7 +19,7 @@ use Rattle.tx_answers.specs.Answers.{StartMoves, GoesOn}
 use Rattle.tx_answers.specs.Causes.{IsAgain, OwesValidation}
 use Rattle.tx_answers.specs.Causes.Asked.{ToCommit}
 use Rattle.tx_answers.specs.Evidence.{Found}
-use Rattle.tx_answers.specs.Known.{Grows, known_of, fenced_of, granted_under, is_in, is_closing}
+use Rattle.tx_answers.specs.Known.{Grows, known_of, fenced_of, granted_under, is_in, is_closing, locked_under}
 use Rattle.tx_answers.specs.KnownLaws.{grows-same, grows-trans}
 use Rattle.alg_orec.proofs.Proving.{owes-later, with_commit}
 use Rattle.alg_orec.specs.Committing.{readied}
@@ -65,6 +65,7 @@ module _ (v : View) (more : List TrailItem) {w u : View} {start : ℕ} {seen : L
       later = (let b = start_is in omega arith);
       installs = ap (λ (y : View). reverse y.steps.installs) path;
       depth = refl;
+      locked = inl (ap (λ (y : View). locked_under y.gate.algorithm y.lock.taken y.tml.writer) path);
     };
     start = subst (λ (a : Alg). StartMoves c ToCommit a (known_of v o) (known_of u p)) (sym named) moves;
     granted = ap (λ (y : View). granted_under y.gate.algorithm y.gate y.lock) path;

@@ -137,7 +137,7 @@ module _ (c : Config) (l : Local) (v : View) (k : CanTakeBack c l v) (u : View) 
   takes-back n z out is = record {
     outside = out;
     before = u;
-    unmade = subst (IsUnmade v) (sym h.is) (record { carried = record { named = refl; base = refl; installs = refl; fence = refl; trail = (h.more, refl) }; history = refl });
+    unmade = subst (IsUnmade v) (sym h.is) (record { carried = record { named = refl; base = refl; installs = refl; fence = refl; trail = (h.more, refl); unlocked = k.unlocked; unwritten = k.unwritten }; history = refl });
     rose = subst (λ (y : View). (v.steps.rises ≤ y.steps.rises) × (y.steps.rises ≤ v.steps.rises + 1)) (sym h.is) h.rose;
     level = λ e. ap (λ (y : View). y.steps.rises) h.is ∙ h.level e;
     is = is;

@@ -62,6 +62,7 @@ use Rattle.alg_orec.specs.EagerCommitting.{CanCommitPlaced, IsRevalidated, IsOve
 use Rattle.alg_orec.specs.EagerEnding.{CanTakeBack, TakesBack}
 use Rattle.alg_orec.specs.Locking.{OwesNothing, holding_still, ReleasesAll}
 use Rattle.alg_orec.specs.Validating.{load_of, OnlyLoads, CanValidate, HasVersions, IsFoundStale, IsHeldNewer, Refuses, IsValid, Validates}
+use Rattle.stm_gate.specs.InnerLaws.{unlocked-of}
 
 module _ {good : List ℕ → Type 0} {c : Config} {n : ℕ} {l : Local} {v : View} (p : Unpromoted good c n l v) where
   pub k : IsEager c l v
@@ -144,7 +145,7 @@ module _ {good : List ℕ → Type 0} {c : Config} {n : ℕ} {l : Local} {v : Vi
 
     pub tells-read_only : (z : View) (o : Own) → z ≡ left n v → Commits good c n (commits.ReadOnly l.start) (known_of v o) (known_of z o)
     tells-read_only z o is = subst (λ (y : View). Commits good c n (commits.ReadOnly l.start) (known_of v o) (known_of y o)) (sym is) (
-      ended-left n good c l.start v v o (unmade-refl v) (sym p.inside.start) (opaque-inside good c n l v o p.inside),
+      ended-left n good c l.start v v o (unmade-refl v k.optimistic.unlocked k.optimistic.unwritten) (sym p.inside.start) (opaque-inside good c n l v o p.inside),
       (let r = k.optimistic.rises in omega arith, let r = k.optimistic.rises in omega arith),
       proving.wrote-known c l v k p.eager v o refl refl ∙ unwritten,
     )
@@ -201,7 +202,7 @@ module _ {good : List ℕ → Type 0} {c : Config} {n : ℕ} {l : Local} {v : Vi
   pub tells-full : (o : Own) (clock : ℕ) (u z : View) → CLOCK_LIMIT ≤ l.start → Tells orec_limit (FindsClock c) v clock u → TakesBack n u z → Commits good c n (commits.ClockFull clock) (known_of v o) (known_of z (with_commit false o))
   tells-full o clock u z high t g = let f = proving.ended-by n u z g in (
     proving.quits-back n v u z o eager kept.optimistic.ungranted kept.optimistic.rises (ap (λ (y : View). y.steps.rises) t.2) (λ e. ap (λ (y : View). y.owned.held) t.2 ∙ clean here o e) g
-        (subst (IsUnmade v) (sym t.2) (record { carried = record { named = refl; base = refl; installs = refl; fence = refl; trail = (load_of Clock clock ∷ [], refl) }; history = refl })),
+        (subst (IsUnmade v) (sym t.2) (record { carried = record { named = refl; base = refl; installs = refl; fence = refl; trail = (load_of Clock clock ∷ [], refl); unlocked = kept.optimistic.unlocked; unwritten = kept.optimistic.unwritten }; history = refl })),
     ap asks_at_commit eager,
     wrote_is o,
     finds-full clock v z o (with_commit false o) (let a = t.1.started in let b = i.start in omega arith)
@@ -306,7 +307,7 @@ module _ {good : List ℕ → Type 0} {c : Config} {n : ℕ} {l : Local} {v : Vi
 
       pub tells-committed : (o : Own) (z : View) → z ≡ left n y → CommitsAt good c n (l.start + 1) (known_of v o) (known_of z (with_commit false o))
       tells-committed o z is = subst (λ (x : View). CommitsAt good c n (l.start + 1) (known_of v o) (known_of x (with_commit false o))) (sym (is ∙ ap (left n) y_path)) (record {
-        ends = record { idle = (refl, refl, refl, refl); grows = grown; alg = refl; base = refl; installs = refl };
+        ends = record { idle = (refl, refl, refl, refl, unlocked-of v.gate.algorithm v.lock.taken v.tml.writer kept.optimistic.unlocked kept.optimistic.unwritten); grows = grown; alg = refl; base = refl; installs = refl };
         rises = (let f = kept.optimistic.rises in let d : entry_rise v.gate.algorithm ≡ 1 = ap entry_rise eager in omega arith);
         wrote = wrote_is o;
         made = ap (λ (x : public.Entry). public_history v.history.made ++ x ∷ []) as_entry;
@@ -328,7 +329,7 @@ module _ {good : List ℕ → Type 0} {c : Config} {n : ℕ} {l : Local} {v : Vi
           as_entry = λ j. record { time = l.start + 1; caller = n; number = sym (length-public_history v.history.made) j; reads = items v.attempt.reads; writes = sym (written_is o) j }
 
           trail : (more : List TrailItem) × ((left n gives).steps.trail ≡ more ++ gives.steps.trail)
-          trail = trail-left n gives gives (record { named = refl; base = refl; installs = refl; fence = refl; trail = ([], refl) })
+          trail = trail-left n gives gives (record { named = refl; base = refl; installs = refl; fence = refl; trail = ([], refl); unlocked = kept.optimistic.unlocked; unwritten = kept.optimistic.unwritten })
 
           grown : Grows (known_of v o) (known_of (left n gives) (with_commit false o))
           grown = record {
@@ -506,7 +507,7 @@ module _ {good : List ℕ → Type 0} {c : Config} {n : ℕ} {l : Local} {v : Vi
   pub tells-stopped : (o : Own) → o.committing ≡ l.committing → (cause : causes.the_data) (m : Local) (u z : View) → IsOverrun good c n cause l v m u → TakesBack n u z → Commits good c n (commits.Conflict cause) (known_of v o) (known_of z (with_commit false o))
   tells-stopped o mid cause m u z h g = let t = proving.ended-by n u z g in (
     proving.quits-back n v u z o eager kept.optimistic.ungranted kept.optimistic.rises (ap (λ (y : View). y.steps.rises) h.is) (λ e. ap (λ (y : View). y.owned.held) h.is ∙ clean here o e) g
-        (subst (IsUnmade v) (sym h.is) (record { carried = record { named = refl; base = refl; installs = refl; fence = refl; trail = (h.more, refl) }; history = refl })),
+        (subst (IsUnmade v) (sym h.is) (record { carried = record { named = refl; base = refl; installs = refl; fence = refl; trail = (h.more, refl); unlocked = kept.optimistic.unlocked; unwritten = kept.optimistic.unwritten }; history = refl })),
     proving.conflicts-later c n ToCommit cause (known_of v o) (known_of u o) (known_of z (with_commit false o)) (ap has_records eager) t.0 t.1 (h.conflicts o o mid),
     h.others,
     wrote_is o,

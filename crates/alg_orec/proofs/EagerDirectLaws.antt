@@ -125,6 +125,8 @@ module _ {good : List ℕ → Type 0} {c : Config} {n : ℕ} {l : Local} {v : Vi
             installs = ap (λ (u : View). u.steps.installs) q.is;
             fence = ap (λ (u : View). u.fence) q.is;
             trail = (q.more, q.trail);
+            unlocked = ap (λ (u : View). u.lock.taken) q.is ∙ k.unlocked;
+            unwritten = ap (λ (u : View). u.tml.writer) q.is ∙ k.unwritten;
           };
           history = ap (λ (u : View). u.history) q.is;
         }
@@ -203,6 +205,8 @@ module _ {good : List ℕ → Type 0} {c : Config} {n : ℕ} {l : Local} {v : Vi
               ap (λ (r : List TrailItem). stored Done t ∷ stored Base t ∷ r)
                   (sym (append_assoc q.more (stored Clock t ∷ []) v.steps.trail)),
             );
+            unlocked = k.unlocked;
+            unwritten = k.unwritten;
           }
 
   -- with an entry

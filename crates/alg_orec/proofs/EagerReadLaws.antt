@@ -45,7 +45,7 @@ use Rattle.tx_answers.specs.Causes.{Asked, Conflicts, FindsNewer, has_item, read
 use Rattle.tx_answers.specs.Causes.Asked.{ForWord}
 use Rattle.tx_answers.specs.Evidence.{Found}
 use Rattle.tx_answers.specs.Known.{Known, caller_of, known_of, is_irrevocable, is_none, has_written}
-use Rattle.tx_answers.specs.KnownLaws.{grows-trans}
+use Rattle.tx_answers.specs.KnownLaws.{grows-trans, lock-trans}
 use Rattle.alg_orec.proofs.EagerCalls.{RunsEager}
 use Rattle.alg_orec.proofs.EagerLaws as laws
 use Rattle.alg_orec.proofs.EagerProving.{ended-by, written}
@@ -101,6 +101,7 @@ module _ {c : Config} {at : ℕ} (v u : Known) (eager : v.alg ≡ OrecEager) (a 
         later = (let x = k.later in let y = q.later in omega arith);
         installs = q.installs ∙ k.installs;
         depth = q.depth ∙ k.depth;
+        locked = lock-trans v u w k.alg k.locked q.locked;
       };
       start = subst (λ (r : Alg). StartMoves c (ForWord at) r v w) (sym eager) (moves-on c at v u w k.later k.grows.more k.grows.trail q.grows.more q.grows.trail (subst (λ (r : Alg). StartMoves c (ForWord at) r v u) eager a.start) (subst (λ (r : Alg). StartMoves c (ForWord at) r u w) (k.alg ∙ eager) b.start));
       granted = b.granted ∙ a.granted;

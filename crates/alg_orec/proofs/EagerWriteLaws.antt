@@ -5,7 +5,7 @@ use Rattle.std.proofs.lemmas.Bool.Decides.{nat_tests}
 use Rattle.std.proofs.lemmas.List.Elements.{Contains-append_right}
 use Rattle.stm_model.specs.Algorithms.{has_records, logs_writes, asks_at_write}
 use Rattle.stm_model.specs.declared.alg.Alg.{Alg}
-use Rattle.stm_model.specs.declared.alg.Alg.TheVariants.{OrecEager}
+use Rattle.stm_model.specs.declared.alg.Alg.TheVariants.{OrecEager, Tml}
 use Rattle.stm_model.specs.declared.config.Config.{Config}
 use Rattle.stm_model.specs.declared.config.TheConstants.{CLOCK_LIMIT}
 use Rattle.stm_model.specs.declared.stop.Cause.{Cause}
@@ -404,7 +404,7 @@ module _ (good : List ℕ → Type 0) (c : Config) (n : ℕ) (l : Local) (v : Vi
       pub writes-done : writes_full a (known_of v o) ≡ false → HasWritten good c n a x writes.Done (known_of v o) (known_of w p)
       writes-done room = subst (λ (z : View). HasWritten good c n a x writes.Done (known_of v o) (known_of z p)) (sym s.is) (
         record {
-          continues = record { running = ap is_in i.phase; closing = ap is_closing i.phase; made = refl; grows = grown; alg = refl; fence = refl; base = refl; rises = (omega arith, omega arith); later = records.begins (laws.reading good c n l v runs) q.start s.seen s.more s.moves; installs = refl; depth = ap (λ (d : Local). d.depth) s.local };
+          continues = record { running = ap is_in i.phase; closing = ap is_closing i.phase; made = refl; grows = grown; alg = refl; fence = refl; base = refl; rises = (omega arith, omega arith); later = records.begins (laws.reading good c n l v runs) q.start s.seen s.more s.moves; installs = refl; depth = ap (λ (d : Local). d.depth) s.local; locked = inl refl };
           start = subst (λ (b : Alg). StartMoves c (ForWord a) b (known_of v o) (known_of y p)) (sym eager) (start-moves s.moves s.owed);
           granted = refl;
           holds = refl;
@@ -416,6 +416,7 @@ module _ (good : List ℕ → Type 0) (c : Config) (n : ℕ) (l : Local) (v : Vi
         opaque-at good c n y p q.start refl refl (records.legal-at (laws.reading good c n l v runs) q.start s.seen s.more s.moves) (records.below-at (laws.reading good c n l v runs) q.start s.seen s.more s.moves) (records.sees-at (laws.reading good c n l v runs) q.start s.seen s.more s.moves) i.reads_inside,
         room,
         ap (λ (b : Alg). kept_under b y p) eager ∙ s.kept,
+        λ tml free. absurd (let no : OrecEager ≡ Tml = sym eager ∙ tml in cc),
       )
 
       abbrev kept : Local

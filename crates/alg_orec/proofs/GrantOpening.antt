@@ -1,5 +1,5 @@
 -- What a call that grants knows of its attempt, of OrecLazy or OrecEager alike, and what it tells of it.
-use Rattle.std.proofs.Common.{ℕ, ◌≡◌, List, [], ◌++◌, Bool, true, false, refl, sym, ap, ◌∙◌, arith, subst}
+use Rattle.std.proofs.Common.{ℕ, ◌≡◌, List, [], ◌++◌, Bool, true, false, refl, sym, ap, ◌∙◌, arith, subst, inl}
 use Rattle.std.specs.Prelude.{◌&&◌, Contains, None}
 use Rattle.stm_model.specs.Algorithms.{has_records, asks_at_grant, closes_gate, irrevocable_under}
 use Rattle.stm_model.specs.declared.alg.Alg.{Alg}
@@ -39,6 +39,7 @@ use Rattle.alg_orec.specs.Granting.{promoted_at, RefusesGrant, IsNotPromoted}
 use Rattle.alg_orec.specs.Validating.{load_of}
 use Rattle.alg_orec.proofs.EagerProving.{conflicts-later}
 use Rattle.alg_orec.proofs.Proving.{with_commit}
+use Rattle.stm_rule.specs.RecordsKept.{IsOptimistic}
 
 -- what holds of both holds of an algorithm with records
 pub both : (P : Alg → Type 0) → P OrecLazy → P OrecEager → (a : Alg) → has_records a ≡ true → P a
@@ -109,6 +110,17 @@ module _ {alg : Alg} {good : List ℕ → Type 0} {c : Config} {n : ℕ} {l : Lo
   has-here : has_records v.gate.algorithm ≡ true
   has-here = ap has_records can.under ∙ has
 
+  optimistic : IsOptimistic v
+  optimistic = by alg has (subst (λ (a : Alg). Keeps c a false l v) can.named (subst (λ (b : Bool). Keeps c l.algorithm b l v) can.plain i.keeps))
+    where
+      by : (a : Alg) → has_records a ≡ true → Keeps c a false l v → IsOptimistic v
+      by Cgl e k = absurd cc
+      by Tml e k = absurd cc
+      by OrecLazy e k = k.optimistic
+      by OrecEager e k = k.optimistic
+      by RingSw e k = absurd cc
+      by Serial e k = absurd cc
+
   -- IT ISN'T PROMOTED: what the rollback asks
   module _ {refusal : irrevs.the_data} {m : Local} {u : View} (q : IsNotPromoted c n refusal l v m u) where
     pub holds-kept : l.holds ≡ v.gate.holds → m.holds ≡ u.gate.holds
@@ -121,7 +133,7 @@ module _ {alg : Alg} {good : List ℕ → Type 0} {c : Config} {n : ℕ} {l : Lo
     fence-kept = subst (λ (x : Local). IsFenceOf x u) (sym q.local) (record { is = ap (λ (y : View). y.gate.fence) q.is ∙ i.spared.is; fits = i.spared.fits })
 
     pub unmade : IsUnmade v u
-    unmade = subst (IsUnmade v) (sym q.is) (record { carried = record { named = refl; base = refl; installs = refl; fence = refl; trail = (q.more, refl) }; history = refl })
+    unmade = subst (IsUnmade v) (sym q.is) (record { carried = record { named = refl; base = refl; installs = refl; fence = refl; trail = (q.more, refl); unlocked = optimistic.unlocked; unwritten = optimistic.unwritten }; history = refl })
 
     -- and what is told after it
     pub tells-refused : (z : View) (p : Local) → p ≡ ended (record m { committing = false }) → Quits (known_of v (own_of l)) (known_of z (with_commit false (own_of l))) → (more : List TrailItem) × (z.steps.trail ≡ more ++ u.steps.trail)
@@ -195,6 +207,7 @@ module _ {alg : Alg} {good : List ℕ → Type 0} {c : Config} {n : ℕ} {l : Lo
         later = (let a = i.start in let b = i.front in let d = moves.front in omega arith);
         installs = refl;
         depth = refl;
+        locked = inl refl;
       };
       still = refl;
       uncommitted = can.free;

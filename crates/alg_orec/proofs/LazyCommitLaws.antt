@@ -278,7 +278,7 @@ module _ (good : List ℕ → Type 0) (c : Config) (n : ℕ) (low : n < c.caller
     few = h.few;
     can = can-roll m u u.owned.held v.check (s.last ++ s.before) h.is h.locks h.places h.versions;
     gate = ap (λ (y : View). y.gate) h.is;
-    unmade = subst (IsUnmade v) (sym h.is) (record { carried = record { named = refl; base = refl; installs = refl; fence = refl; trail = (s.last ++ s.before, refl) }; history = refl });
+    unmade = subst (IsUnmade v) (sym h.is) (record { carried = record { named = refl; base = refl; installs = refl; fence = refl; trail = (s.last ++ s.before, refl); unlocked = k.optimistic.unlocked; unwritten = k.optimistic.unwritten }; history = refl });
     rises = ap (λ (y : View). y.steps.rises) h.is;
     conflicts = λ o e mid. why cause o e s.last trail s.why;
     others = others_of cause s.last s.why;
@@ -392,7 +392,7 @@ module _ (good : List ℕ → Type 0) (c : Config) (n : ℕ) (low : n < c.caller
       few = h.few;
       can = can-roll m w u.owned.held w.check (s.more ++ more) path h.locks h.places h.versions;
       gate = ap (λ (y : View). y.gate) path;
-      unmade = subst (IsUnmade v) (sym path) (record { carried = record { named = refl; base = refl; installs = refl; fence = refl; trail = (s.more ++ more, refl) }; history = refl });
+      unmade = subst (IsUnmade v) (sym path) (record { carried = record { named = refl; base = refl; installs = refl; fence = refl; trail = (s.more ++ more, refl); unlocked = k.optimistic.unlocked; unwritten = k.optimistic.unwritten }; history = refl });
       rises = ap (λ (y : View). y.steps.rises) path;
       conflicts = λ o e mid. (stale-conflicts index word start s o (due o e mid)).0;
       others = (stale-conflicts index word start s (own_of l) (due (own_of l) refl refl)).1;

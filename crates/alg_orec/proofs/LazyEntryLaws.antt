@@ -39,7 +39,7 @@ use Rattle.steps_orec.specs.RecordFindings.{FindsClock, FindsCommit, Enters}
 use Rattle.tx_answers.specs.Answers.{Quits, Commits, CommitsAt, KeepsRule, entry}
 use Rattle.tx_answers.specs.declared.answers.Commit.TheVariants as commits
 use Rattle.tx_answers.specs.Causes.Asked.{ToCommit}
-use Rattle.tx_answers.specs.Known.{Grows, known_of, fenced_of, granted_under, kept_under, written_under, is_in, is_closing, wrote, zeros}
+use Rattle.tx_answers.specs.Known.{Grows, known_of, fenced_of, granted_under, kept_under, written_under, is_in, is_closing, wrote, zeros, locked_under}
 use Rattle.stm_gate.specs.LeavingLaws.{IsUnmade, found-later, finds-full}
 use Rattle.stm_gate.specs.Opacity.{opaque-inside}
 use Rattle.alg_orec.specs.Committing.{CanCommit, CanFinish, readied, IsReady, IsStopped}
@@ -51,6 +51,7 @@ use Rattle.stm_gate.specs.Cells.{items-cells, cells-some}
 use Rattle.stm_gate.specs.KeptLaws.{kept-same}
 use Rattle.alg_orec.proofs.LazyCommitLaws as laws
 use Rattle.alg_orec.proofs.Proving.{Leads, conflicts-later, lazy-of, with_commit, quits-back, ended-by, quits-leads, full-leads, commits-leads}
+use Rattle.stm_gate.specs.InnerLaws.{unlocked-of}
 
 over-twice : (cs : List Cell) (a d : ℕ) → over cs a (over cs a d) ≡ over cs a d
 over-twice cs a d = by (touches cs a) refl
@@ -109,7 +110,7 @@ module _ (good : List ℕ → Type 0) (c : Config) (n : ℕ) (low : n < c.caller
 
     pub tells-full : (clock : ℕ) (u z : View) → CLOCK_LIMIT ≤ l.start → Tells orec_limit (FindsClock c) v clock u → GivesUp n u z → Commits good c n (commits.ClockFull clock) (known_of v o) (known_of z (with_commit false o))
     tells-full clock u z high t g = let f = ended-by n u z g in (
-      quits-here u z (subst (IsUnmade v) (sym t.2) (record { carried = record { named = refl; base = refl; installs = refl; fence = refl; trail = (load_of Clock clock ∷ [], refl) }; history = refl })) (ap (λ (y : View). y.steps.rises) t.2) g,
+      quits-here u z (subst (IsUnmade v) (sym t.2) (record { carried = record { named = refl; base = refl; installs = refl; fence = refl; trail = (load_of Clock clock ∷ [], refl); unlocked = k.optimistic.unlocked; unwritten = k.optimistic.unwritten }; history = refl })) (ap (λ (y : View). y.steps.rises) t.2) g,
       ap asks_at_commit lazy,
       laws.wrote_is good c n low l v can o e,
       finds-full clock v z o (with_commit false o) (let a = t.1.started in let b = i.start in omega arith)
@@ -233,8 +234,8 @@ module _ (good : List ℕ → Type 0) (c : Config) (n : ℕ) (low : n < c.caller
         risen : z.steps.rises ≡ v.steps.rises_at_begin + entry_rise v.gate.algorithm
         risen = let a = ap (λ (y : View). y.steps.rises) g.is in let b = g.rises in let d : u.steps.rises ≡ v.steps.rises + 1 = ap (λ (y : View). y.steps.rises) path in let f = k.optimistic.rises in let q : entry_rise v.gate.algorithm ≡ 1 = ap entry_rise lazy in omega arith
 
-        ap4 : (z.gate.phase ≡ Idle) × (is_in z.gate.phase ≡ false) × (is_closing z.gate.phase ≡ false) × (z.gate.holds ≡ false)
-        ap4 = (g.outside.phase, ap is_in g.outside.phase, ap is_closing g.outside.phase, g.outside.reopened)
+        ap4 : (z.gate.phase ≡ Idle) × (is_in z.gate.phase ≡ false) × (is_closing z.gate.phase ≡ false) × (z.gate.holds ≡ false) × (locked_under z.gate.algorithm z.lock.taken z.tml.writer ≡ false)
+        ap4 = (g.outside.phase, ap is_in g.outside.phase, ap is_closing g.outside.phase, g.outside.reopened, unlocked-of z.gate.algorithm z.lock.taken z.tml.writer g.outside.clear.unlocked g.outside.clear.unwritten)
 
         grown : Grows (known_of v o) (known_of z (with_commit false o))
         grown = let f = ended-by n u z g in let h : z.history.front ≡ l.start + 1 = ap (λ (h : SeenHistory). h.front) history in record {

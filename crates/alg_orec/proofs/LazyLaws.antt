@@ -153,7 +153,7 @@ module _ (good : List ℕ → Type 0) (c : Config) (n : ℕ) (l : Local) (v : Vi
     pub writes-done : (a x : ℕ) (log : LogState) → a < c.words → x < 2 ^ 64 → log ≡ record l.writes { items = put a x l.writes.items } → writes_full a (known_of v o) ≡ false → HasWritten good c n a x writes.Done (known_of v o) (known_of v (own_of (record l { writes = log; wrote = true })))
     writes-done a x log low small is room = (
       record {
-        continues = record { running = ap is_in i.phase; closing = ap is_closing i.phase; made = refl; grows = grows-same (known_of v o) (known_of v p) refl refl [] refl refl refl refl; alg = refl; fence = refl; base = refl; rises = (omega arith, omega arith); later = omega arith; installs = refl; depth = refl };
+        continues = record { running = ap is_in i.phase; closing = ap is_closing i.phase; made = refl; grows = grows-same (known_of v o) (known_of v p) refl refl [] refl refl refl refl; alg = refl; fence = refl; base = refl; rises = (omega arith, omega arith); later = omega arith; installs = refl; depth = refl; locked = inl refl };
         start = subst (λ (b : Alg). StartMoves c (ForWord a) b (known_of v o) (known_of v p)) (sym lazy) (inl refl);
         granted = refl;
         holds = refl;
@@ -165,6 +165,7 @@ module _ (good : List ℕ → Type 0) (c : Config) (n : ℕ) (l : Local) (v : Vi
       opaque-inside good c n l v p i,
       room,
       kept-put-here,
+      λ tml free. absurd (let no : OrecLazy ≡ Tml = sym lazy ∙ tml in cc),
     )
       where
         p : Own

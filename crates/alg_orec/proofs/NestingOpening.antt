@@ -108,6 +108,7 @@ module _ {good : List ℕ → Type 0} {c : Config} {n : ℕ} {l : Local} {v : Vi
         granted = refl;
         holds = refl;
         checked = refl;
+        locked = refl;
       };
       within = within;
       reads = refl;

@@ -126,6 +126,8 @@ unmade-trans u v w a b = record {
     installs = b.carried.installs ∙ a.carried.installs;
     fence = b.carried.fence ∙ a.carried.fence;
     trail = (b.carried.trail.0 ++ a.carried.trail.0, b.carried.trail.1 ∙ (ap (λ (t : List TrailItem). b.carried.trail.0 ++ t) a.carried.trail.1 ∙ sym (append_assoc b.carried.trail.0 a.carried.trail.0 u.steps.trail)));
+    unlocked = b.carried.unlocked;
+    unwritten = b.carried.unwritten;
   };
   history = b.history ∙ a.history;
 }

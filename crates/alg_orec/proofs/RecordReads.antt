@@ -2,7 +2,7 @@
 use Rattle.std.proofs.Common.{ℕ, ◌≡◌, ◌≢◌, ◌<◌, ◌≤◌, ◌+◌, List, [], ◌∷◌, ◌++◌, length, Bool, true, false, refl, sym, ap, ◌∙◌, arith, subst, inl, inr}
 use Rattle.std.specs.Prelude.{◌^◌, ◌⊎◌, ◌==◌, ◌&&◌, ◌||◌, not, Option, Some, None, MatchOption}
 use Rattle.std.proofs.lemmas.Bool.Decides.{nat_tests}
-use Rattle.stm_model.specs.Algorithms.{closes_gate, has_records, has_read_log, irrevocable_under, quit_rise}
+use Rattle.stm_model.specs.Algorithms.{closes_gate, has_records, has_read_log, irrevocable_under, quit_rise, takes_lock}
 use Rattle.stm_model.specs.declared.alg.Alg.{Alg}
 use Rattle.stm_model.specs.declared.alg.Alg.TheVariants.{OrecLazy, OrecEager}
 use Rattle.stm_model.specs.declared.config.Config.{Config}
@@ -40,7 +40,7 @@ use Rattle.tx_answers.specs.Evidence.{Found}
 use Rattle.tx_answers.specs.Known.{Known, Grows, known_of, granted_under, kept_under, written_under, is_irrevocable, is_in, is_closing, is_none, has_written}
 use Rattle.tx_answers.specs.KnownLaws.{grows-same, grows-trans}
 use Rattle.tx_logs.specs.LogStates.{LogState}
-use Rattle.stm_gate.specs.InnerLaws.{goes-inner}
+use Rattle.stm_gate.specs.InnerLaws.{goes-inner, unlocked-of}
 use Rattle.stm_gate.specs.Leaving.{left}
 use Rattle.stm_gate.specs.LeavingLaws.{IsUnmade, quits-left, trail-left}
 use Rattle.stm_gate.specs.Logging.{put-new}
@@ -70,6 +70,10 @@ owns-records a (inr e) = ap has_records e
 promoted-by : (a : Alg) (g : GateView) (k : LockView) (wrote : Bool) → IsOrec a → irrevocable_under a (granted_under a g k) wrote ≡ g.granted
 promoted-by a g k wrote (inl e) = λ j. irrevocable_under (e j) (granted_under (e j) g k) wrote
 promoted-by a g k wrote (inr e) = λ j. irrevocable_under (e j) (granted_under (e j) g k) wrote
+
+takes-none : (a : Alg) → IsOrec a → takes_lock a ≡ false
+takes-none a (inl e) = ap takes_lock e
+takes-none a (inr e) = ap takes_lock e
 
 pub start-by : (c : Config) (asked : Asked) (a : Alg) (v w : Known) → IsOrec a → (w.start ≡ v.start) ⊎ (Found Clock w.start v w × OwesValidation c asked v w) → StartMoves c asked a v w
 start-by c asked a v w (inl e) m = subst (λ (b : Alg). StartMoves c asked b v w) (sym e) m
@@ -123,7 +127,7 @@ module _ {good : List ℕ → Type 0} {c : Config} {n : ℕ} {l : Local} {v : Vi
 
   -- READ, of what was written or read before
   stays : {asked : Asked} → GoesOn c asked (known_of v o) (known_of v o)
-  stays = goes-inner v v o i.phase (record { history = refl; gate = refl; lock = refl; fence = refl; start = refl; rises = refl; base = refl; installs = refl; trail = ([], refl) })
+  stays = goes-inner v v o i.phase (record { history = refl; gate = refl; lock = refl; writer = refl; fence = refl; start = refl; rises = refl; base = refl; installs = refl; trail = ([], refl) })
 
   -- the log of reads after a read of x, by what was written and read there
   abbrev logged : ℕ → ℕ → List (ℕ × ℕ) → Option ℕ → Option ℕ → Type 0
@@ -236,6 +240,7 @@ module _ {good : List ℕ → Type 0} {c : Config} {n : ℕ} {l : Local} {v : Vi
           later = begins;
           installs = refl;
           depth = refl;
+          locked = inl refl;
         };
         start = start-by c (ForWord at) v.gate.algorithm (known_of v o) (known_of u o) orec (start-moves moves owed);
         granted = refl;
@@ -383,6 +388,8 @@ module _ (good : List ℕ → Type 0) (c : Config) (n : ℕ) (alg : Alg) (orec :
         log = (λ j. record { reads = []; writes = written_under (can.named j) (can.ungranted j) y o }) ∙ ap (λ (ws : List (ℕ × ℕ)). record { reads = []; writes = ws }) (writes o fresh);
         granted = granted-by v.gate.algorithm v.gate v.lock (here-orec orec) ∙ can.ungranted;
         opaque = opaque-at good c n y o clock refl refl b.legal b.below (λ a. refl) (λ a e. absurd cc);
+        locked = unlocked-of v.gate.algorithm v.lock.taken v.tml.writer can.clear.unlocked can.clear.unwritten ∙ sym (takes-none alg orec);
+        took = λ e. absurd (let f : false ≡ true = sym (takes-none alg orec) ∙ e in cc);
       };
     })
       where

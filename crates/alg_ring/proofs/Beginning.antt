@@ -22,6 +22,7 @@ use Rattle.rule_base.specs.declared.entries.Cell.{Cell}
 use Rattle.stm_gate.specs.Opacity.{opaque-at, later-seen}
 use Rattle.stm_gate.specs.Starts.{CanBegin, StartsAt}
 use Rattle.alg_ring.proofs.Seen.{upto-upto}
+use Rattle.stm_gate.specs.InnerLaws.{unlocked-of}
 
 -- the filter of no address
 pub no-word : (i : ℕ) → i < SLOT_WORDS → slice_index no_filter i ≡ slot_filter.word [] i
@@ -95,6 +96,8 @@ module _ (good : List ℕ → Type 0) (c : Config) (n : ℕ) (v : View) (can : C
       bare = ap (λ (a : Alg). kept_under a y o) can.named ∙ ap (λ (cs : List Cell). addresses (items cs)) fresh.1;
       granted = ap (λ (a : Alg). granted_under a v.gate v.lock) can.named ∙ can.ungranted;
       opaque = opaque-at good c n y o done refl refl b.legal b.below (λ a. refl) (λ a e. absurd cc);
+      locked = unlocked-of v.gate.algorithm v.lock.taken v.tml.writer can.clear.unlocked can.clear.unwritten;
+      took = λ e. absurd cc;
     };
   })
     where

@@ -47,7 +47,7 @@ module _ (good : List ℕ → Type 0) (c : Config) (n : ℕ) (l : Local) (v : Vi
   -- NOTHING WAS WRITTEN
   pub tells-read_only : (w : View) → l.wrote ≡ false → w ≡ left n v → Commits good c n (commits.ReadOnly l.start) (known_of v (own_of l)) (known_of w (own_of l))
   tells-read_only w clean is = subst (λ (y : View). Commits good c n (commits.ReadOnly l.start) (known_of v (own_of l)) (known_of y (own_of l))) (sym is) (
-    ended-left n good c l.start v v (own_of l) (unmade-refl v) (sym i.start) (opaque-inside good c n l v (own_of l) i),
+    ended-left n good c l.start v v (own_of l) (unmade-refl v k.optimistic.unlocked k.optimistic.unwritten) (sym i.start) (opaque-inside good c n l v (own_of l) i),
     (let r = k.optimistic.rises in omega arith, let r = k.optimistic.rises in omega arith),
     attempt.wrote-is good c n l v a plain ∙ clean,
   )
@@ -135,6 +135,7 @@ module _ (good : List ℕ → Type 0) (c : Config) (n : ℕ) (l : Local) (v : Vi
             later = omega arith;
             installs = refl;
             depth = refl;
+            locked = inl refl;
           };
           start = subst (λ (b : Alg). StartMoves c ToCommit b (known_of v (own_of l)) (known_of again_at (own_of in_commit))) (sym a.named) (inl refl);
           granted = refl;

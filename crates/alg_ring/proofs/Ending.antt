@@ -51,7 +51,7 @@ module _ (good : List ℕ → Type 0) (c : Config) (n : ℕ) (l : Local) (v : Vi
 
     pub tells-cancelled : (o : Own) (w : View) → w ≡ left n v → Cancels good c n (Cancelled l.start) (known_of v o) (known_of w o)
     tells-cancelled o w is = subst (λ (y : View). Cancels good c n (Cancelled l.start) (known_of v o) (known_of y o)) (sym is) (
-      ended-left n good c l.start v v o (unmade-refl v) (sym i.start) (opaque-inside good c n l v o i),
+      ended-left n good c l.start v v o (unmade-refl v k.optimistic.unlocked k.optimistic.unwritten) (sym i.start) (opaque-inside good c n l v o i),
       (let r = k.optimistic.rises in omega arith),
       (let r = k.optimistic.rises in omega arith),
       revocable o,

@@ -46,6 +46,7 @@ use Rattle.alg_ring.specs.Checking.{CanCheck, Checks, Fails, passed_at}
 use Rattle.alg_ring.proofs.Checked.{passes-grows}
 use Rattle.alg_ring.proofs.Refuting.{refuted}
 use Rattle.alg_ring.proofs.Running as attempt
+use Rattle.stm_gate.specs.InnerLaws.{unlocked-of}
 
 abbrev pub clock_found : ℕ → TrailItem
 clock_found clock = record { place = Clock; act = Load; found = Some clock }
@@ -134,7 +135,7 @@ module _ (good : List ℕ → Type 0) (c : Config) (n : ℕ) (l : Local) (v w : 
   unmade : (answer : Commit) (read : RingRead) (clock : ℕ) (more : List TrailItem) (u : View) → u ≡ ticked_at read clock more
       → (Quits (known_of v o) (known_of (left n (freed (ticked_at read clock more))) o) → Commits good c n answer (known_of v o) (known_of (left n (freed (ticked_at read clock more))) o)) → IsDecided good c n answer v l u
   unmade answer read clock more u is told = subst (IsDecided good c n answer v l) (sym is) (decided answer v.history v.attempt read (ticking clock) v.steps.rises more i.unentered k.optimistic.unstored (λ e. absurd cc) (told (
-      quits-left n v (freed (ticked_at read clock more)) o (record { carried = record { named = refl; base = refl; installs = refl; fence = refl; trail = (lock_freed ∷ more, refl) }; history = refl })
+      quits-left n v (freed (ticked_at read clock more)) o (record { carried = record { named = refl; base = refl; installs = refl; fence = refl; trail = (lock_freed ∷ more, refl); unlocked = refl; unwritten = k.optimistic.unwritten }; history = refl })
       (let r = k.optimistic.rises in (omega arith, omega arith)) turn.has.revocable)))
 
   pub may-tick : HasTurn w
@@ -247,7 +248,7 @@ module _ (good : List ℕ → Type 0) (c : Config) (n : ℕ) (l : Local) (v w : 
         commits-at : (more : List TrailItem) → CommitsAt good c n (clock + 1) (known_of v o) (known_of (left n (freed (behind true [] more))) o)
         commits-at more = let rose = grows.front_rose in record {
           ends = record {
-            idle = (refl, refl, refl, refl);
+            idle = (refl, refl, refl, refl, unlocked-of v.gate.algorithm false v.tml.writer refl k.optimistic.unwritten);
             grows = record {
               later = grows.later ++ made ∷ [];
               is = ap (λ (h : List Entry). public_history h ++ made ∷ []) (sym e.shown.seen) ∙ (ap (λ (h : List public.Entry). h ++ made ∷ []) grows.is ∙ append_assoc (public_history v.history.seen) grows.later (made ∷ []));

@@ -1,5 +1,5 @@
 -- What the steps come to by which an attempt that is alone is promoted.
-use Rattle.std.proofs.Common.{ℕ, ◌≡◌, ◌<◌, ◌≤◌, List, [], ◌∷◌, ◌++◌, Bool, true, false, refl, sym, ap, ◌∙◌, arith, subst, append_assoc}
+use Rattle.std.proofs.Common.{ℕ, ◌≡◌, ◌<◌, ◌≤◌, List, [], ◌∷◌, ◌++◌, Bool, true, false, refl, sym, ap, ◌∙◌, arith, subst, append_assoc, inl}
 use Rattle.std.specs.Prelude.{Ok, not, ◌&&◌, if◌then◌else◌, reverse}
 use Rattle.std.proofs.lemmas.List.{append-nil}
 use Rattle.stm_model.specs.Algorithms.{has_records, asks_at_grant, closes_gate, entry_rise, irrevocable_under}
@@ -35,7 +35,7 @@ use Rattle.tx_answers.specs.declared.answers.Irrev.TheVariants as irrevs
 use Rattle.tx_answers.specs.Answers.{Quits, IsOpaque}
 use Rattle.tx_answers.specs.Causes.Asked.{ToPromote}
 use Rattle.tx_answers.specs.Evidence.{Found}
-use Rattle.tx_answers.specs.Known.{Known, Grows, IsRunning, known_of, fenced_of, granted_under, written_under, is_irrevocable, is_in, is_closing, wrote}
+use Rattle.tx_answers.specs.Known.{Known, Grows, IsRunning, known_of, fenced_of, granted_under, written_under, is_irrevocable, is_in, is_closing, wrote, locked_under}
 use Rattle.tx_answers.specs.KnownLaws.{grows-same, grows-trans}
 use Rattle.stm_gate.specs.KeptLaws.{kept-same}
 use Rattle.stm_gate.specs.Granting.{IsAlone, Grants}
@@ -124,7 +124,7 @@ module _ (good : List ℕ → Type 0) (c : Config) (n : ℕ) (l : Local) (v : Vi
   }
 
   quits-settled : (clock : ℕ) (read : RingRead) (more : List TrailItem) → Quits (known_of v o) (known_of (left n (settled_at clock read more)) o)
-  quits-settled clock read more = quits-left n v (settled_at clock read more) o (record { carried = record { named = refl; base = refl; installs = refl; fence = refl; trail = (more, refl) }; history = refl }) (let r = k.optimistic.rises in (omega arith, omega arith)) revocable
+  quits-settled clock read more = quits-left n v (settled_at clock read more) o (record { carried = record { named = refl; base = refl; installs = refl; fence = refl; trail = (more, refl); unlocked = k.optimistic.unlocked; unwritten = k.optimistic.unwritten }; history = refl }) (let r = k.optimistic.rises in (omega arith, omega arith)) revocable
 
   module _ (clock : ℕ) (w : View) (t : Tells settle FindsWithin v clock w) where
     settled-path : w ≡ settled_at clock v.ring_read (clock_found clock ∷ [])
@@ -289,6 +289,7 @@ module _ (good : List ℕ → Type 0) (c : Config) (n : ℕ) (l : Local) (v : Vi
             later = (let a : x.attempt.start ≡ start = ap (λ (y : View). y.attempt.start) stored-path in let b : w.attempt.start ≡ v.attempt.start = ap (λ (y : View). y.attempt.start) settled-path in let d = p.0.later in omega arith);
             installs = ap (λ (y : View). reverse y.steps.installs) stored-path;
             depth = refl;
+            locked = inl (ap (λ (y : View). locked_under y.gate.algorithm y.lock.taken y.tml.writer) stored-path);
           };
           still = ap (λ (y : View). y.steps.rises) stored-path;
           uncommitted = can.free;

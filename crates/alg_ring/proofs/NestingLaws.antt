@@ -138,6 +138,7 @@ module _ (good : List ℕ → Type 0) (c : Config) (n : ℕ) (l : Local) (v : Vi
           granted = refl;
           holds = refl;
           checked = refl;
+          locked = refl;
         };
         within = (let h = k.marked.count in omega arith);
         reads = refl;

@@ -142,7 +142,7 @@ module _ (good : List ℕ → Type 0) (c : Config) (n a : ℕ) (l : Local) (v : 
 
         goes : GoesOn c (ForWord a) (known_of v o) (known_of after o)
         goes = record {
-          continues = record { running = ap is_in i.phase; closing = ap is_closing i.phase; made = refl; grows = grown; alg = refl; fence = refl; base = refl; rises = (omega arith, omega arith); later = p.later; installs = refl; depth = refl };
+          continues = record { running = ap is_in i.phase; closing = ap is_closing i.phase; made = refl; grows = grown; alg = refl; fence = refl; base = refl; rises = (omega arith, omega arith); later = p.later; installs = refl; depth = refl; locked = inl refl };
           start = subst (λ (b : Alg). StartMoves c (ForWord a) b (known_of v o) (known_of after o)) (sym named) start-moves;
           granted = refl;
           holds = refl;
@@ -196,7 +196,7 @@ module _ (good : List ℕ → Type 0) (c : Config) (n a : ℕ) (l : Local) (v : 
 
       module _ (o : Own) where
         quits : Quits (known_of v o) (known_of (left n failed) o)
-        quits = quits-left n v failed o (record { carried = record { named = refl; base = refl; installs = refl; fence = refl; trail = (q.more ++ item ∷ [], sym (append_assoc q.more (item ∷ []) v.steps.trail)) }; history = refl })
+        quits = quits-left n v failed o (record { carried = record { named = refl; base = refl; installs = refl; fence = refl; trail = (q.more ++ item ∷ [], sym (append_assoc q.more (item ∷ []) v.steps.trail)); unlocked = k.optimistic.unlocked; unwritten = k.optimistic.unwritten }; history = refl })
             (let r = k.optimistic.rises in (omega arith, omega arith)) (revocable good c n l v i named k o)
 
         why : Conflicts c n (ForWord a) cause (known_of v o) (known_of (left n failed) o)

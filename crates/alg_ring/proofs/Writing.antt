@@ -5,7 +5,7 @@ use Rattle.std.proofs.lemmas.Bool.Decides.{nat_tests}
 use Rattle.stm_model.specs.Algorithms.{has_read_log, logs_writes}
 use Rattle.stm_model.specs.Memories.{item_at, put, is_empty, Once}
 use Rattle.stm_model.specs.declared.alg.Alg.{Alg}
-use Rattle.stm_model.specs.declared.alg.Alg.TheVariants.{RingSw}
+use Rattle.stm_model.specs.declared.alg.Alg.TheVariants.{RingSw, Tml}
 use Rattle.stm_model.specs.declared.config.Config.{Config}
 use Rattle.rule_base.specs.declared.views.View.{View}
 use Rattle.rule_base.specs.Encodings.{fenced}
@@ -56,7 +56,7 @@ module _ (good : List ℕ → Type 0) (c : Config) (n a : ℕ) (l : Local) (v : 
 
   pub reads-own : (x : ℕ) → item_at a l.writes.items ≡ Some x → x < 2 ^ 64 → HasRead good c n a (reads.Value x) (known_of v o) (known_of v o)
   reads-own x own small = (
-    goes-inner v v o i.phase (record { history = refl; gate = refl; lock = refl; fence = refl; start = refl; rises = refl; base = refl; installs = refl; trail = ([], refl) }),
+    goes-inner v v o i.phase (record { history = refl; gate = refl; lock = refl; writer = refl; fence = refl; start = refl; rises = refl; base = refl; installs = refl; trail = ([], refl) }),
     quiet,
     (
       refl,
@@ -81,7 +81,7 @@ module _ (good : List ℕ → Type 0) (c : Config) (n a : ℕ) (l : Local) (v : 
     pub writes-done : writes_full a (known_of v o) ≡ false → HasWritten good c n a x writes.Done (known_of v o) (known_of v (own_of m))
     writes-done room = (
       record {
-        continues = record { running = ap is_in i.phase; closing = ap is_closing i.phase; made = refl; grows = grows-same (known_of v o) (known_of v (own_of m)) refl refl [] refl refl refl refl; alg = refl; fence = refl; base = refl; rises = (omega arith, omega arith); later = omega arith; installs = refl; depth = refl };
+        continues = record { running = ap is_in i.phase; closing = ap is_closing i.phase; made = refl; grows = grows-same (known_of v o) (known_of v (own_of m)) refl refl [] refl refl refl refl; alg = refl; fence = refl; base = refl; rises = (omega arith, omega arith); later = omega arith; installs = refl; depth = refl; locked = inl refl };
         start = subst (λ (b : Alg). StartMoves c (ForWord a) b (known_of v o) (known_of v (own_of m))) (sym named) (inl refl);
         granted = refl;
         holds = refl;
@@ -94,6 +94,7 @@ module _ (good : List ℕ → Type 0) (c : Config) (n a : ℕ) (l : Local) (v : 
       room,
       ap (λ (b : Alg). kept_under b v (own_of m)) named ∙ (ap (λ (ws : List (ℕ × ℕ)). addresses (items (cells_of ws))) put_is
           ∙ (ap addresses (items-cells (put a x l.writes.items) (once-put a x l.writes.items k.buffers.once)) ∙ kept-put a x l.writes.items (known_of v o) (ap logs_writes named) (revocable good c n l v i named k o) kept-here)),
+      λ tml free. absurd (let no : RingSw ≡ Tml = sym named ∙ tml in cc),
     )
       where
         wrote-put : written_under v.gate.algorithm v.gate.granted v (own_of m) ≡ put a x l.writes.items
@@ -155,4 +156,4 @@ module _ (good : List ℕ → Type 0) (c : Config) (n a : ℕ) (l : Local) (v : 
   writes-refused x limit ws log w len p is = (subst (λ (y : View). Quits (known_of v o) (known_of y o)) (sym is) quits, filled None true len p.0 (let e = p.1 in grind (arith, nat_tests)), p.2 ∙ len)
     where
       quits : Quits (known_of v o) (known_of (left n v) o)
-      quits = quits-left n v v o (unmade-refl v) (let r = k.optimistic.rises in (omega arith, omega arith)) (revocable good c n l v i named k o)
+      quits = quits-left n v v o (unmade-refl v k.optimistic.unlocked k.optimistic.unwritten) (let r = k.optimistic.rises in (omega arith, omega arith)) (revocable good c n l v i named k o)

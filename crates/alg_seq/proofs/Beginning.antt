@@ -27,7 +27,7 @@ use Rattle.tx_answers.specs.declared.answers.Begin.TheVariants.{Held, ClockFull}
 use Rattle.tx_answers.specs.Answers.{IsHeld, start_word}
 use Rattle.tx_answers.specs.Causes.{NamesOther}
 use Rattle.tx_answers.specs.Evidence.{Found}
-use Rattle.tx_answers.specs.Known.{Known, Grows, known_of, granted_under, kept_under}
+use Rattle.tx_answers.specs.Known.{Known, Grows, known_of, granted_under, kept_under, locked_under}
 use Rattle.tx_answers.specs.KnownLaws.{grows-same}
 use Rattle.stm_gate.specs.Opacity.{opaque-at, later-seen}
 use Rattle.stm_gate.specs.LeavingLaws.{finds-full}
@@ -65,6 +65,14 @@ bare Tml v o t e = absurd cc
 bare OrecLazy v o t e = absurd cc
 bare OrecEager v o t e = absurd cc
 bare RingSw v o t e = absurd cc
+
+holds-taken : (a : Alg) (writer : Bool) → takes_lock a ≡ true → locked_under a true writer ≡ true
+holds-taken Cgl writer t = refl
+holds-taken Serial writer t = refl
+holds-taken Tml writer t = absurd cc
+holds-taken OrecLazy writer t = absurd cc
+holds-taken OrecEager writer t = absurd cc
+holds-taken RingSw writer t = absurd cc
 
 asked : (b : Bool) → (b || (false || false)) ≡ true → b ≡ true
 asked true e = refl
@@ -185,6 +193,8 @@ module _ (good : List ℕ → Type 0) (c : Config) (n : ℕ) (a : Alg) (locks : 
       bare = bare v.gate.algorithm u o (ap takes_lock can.named ∙ locks) refl;
       granted = ungranted v.gate.algorithm v.gate u.lock (ap takes_lock can.named ∙ locks) can.ungranted refl;
       opaque = opaque-at good c n u o clock refl refl b.legal b.below (λ e. refl) (λ e p. absurd cc);
+      locked = holds-taken v.gate.algorithm v.tml.writer (ap takes_lock can.named ∙ locks) ∙ sym locks;
+      took = λ e. (record { place = Clock; act = Load; found = Some clock } ∷ record { place = Lock; act = Exchange 0 (taken_lock n); found = Some 0 } ∷ [], refl, (1, omega arith, refl));
     };
   })
     where

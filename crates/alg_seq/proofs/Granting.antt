@@ -1,5 +1,5 @@
 -- Serial: what the grant comes to.
-use Rattle.std.proofs.Common.{ℕ, ◌≡◌, ◌<◌, ◌≤◌, List, [], ◌∷◌, Bool, true, false, refl, sym, ap, ◌∙◌, arith, subst, le_refl}
+use Rattle.std.proofs.Common.{ℕ, ◌≡◌, ◌<◌, ◌≤◌, List, [], ◌∷◌, Bool, true, false, refl, sym, ap, ◌∙◌, arith, subst, le_refl, inl}
 use Rattle.std.specs.Prelude.{Some, ltb, if◌then◌else◌}
 use Rattle.std.proofs.lemmas.Bool.Decides.{nat_tests}
 use Rattle.stm_model.specs.Algorithms.{closes_gate, irrevocable_under, takes_lock}
@@ -51,6 +51,7 @@ tells-granted good c n l v i serial clock u o settled revocable low t = subst (�
     later = le_refl v.attempt.start;
     installs = refl;
     depth = refl;
+    locked = inl refl;
   };
   still = refl;
   uncommitted = settled;

@@ -179,7 +179,7 @@ module _ (good : List ℕ → Type 0) (c : Config) (n : ℕ) (l : Local) (v : Vi
     written = λ o own p. tells-store good c n a x v w o p i.phase locks own.0
         (room-by a o revocable (own.1 ∙ h.undo_len) place)
         (ap (λ (alg : Alg). kept_under alg (view_after (store_heap a x) p w x) o) (ap (λ (y : View). y.gate.algorithm) path ∙ named) ∙ (h.kept ∙ (ap (λ (y : View). if member (addresses (items y.lock.undo)) a then addresses (items y.lock.undo) else addresses (items y.lock.undo) ++ a ∷ []) k.is ∙ sym (kept-plain a (known_of v o) (ap logs_writes named) (revocable-by o ∙ rev) ∙ ap (λ (alg : Alg). if member (kept_under alg v o) a then kept_under alg v o else kept_under alg v o ++ a ∷ []) named))))
-        (subst (λ (y : View). IsLogged v y) (sym path) (record { history = refl; gate = refl; irrevocable = ap (λ (y : View). y.lock.irrevocable) flat ∙ ap (λ (y : View). y.lock.irrevocable) k.is; fence = refl; start = refl; rises = refl; base = refl; installs = refl; trail = (more, refl) }))
+        (subst (λ (y : View). IsLogged v y) (sym path) (record { history = refl; gate = refl; irrevocable = ap (λ (y : View). y.lock.irrevocable) flat ∙ ap (λ (y : View). y.lock.irrevocable) k.is; taken = ap (λ (y : View). y.lock.taken) flat ∙ ap (λ (y : View). y.lock.taken) k.is; writer = refl; fence = refl; start = refl; rises = refl; base = refl; installs = refl; trail = (more, refl) }))
         (ap (λ (y : View). y.attempt) path) (still-opaque good c n l v o i);
   }
     where
@@ -203,6 +203,8 @@ module _ (good : List ℕ → Type 0) (c : Config) (n : ℕ) (l : Local) (v : Vi
       installs = m.carried.installs ∙ ap (λ (y : View). y.steps.installs) k.is;
       fence = m.carried.fence ∙ ap (λ (y : View). y.fence) k.is;
       trail = (m.carried.trail.0 ++ k.more, m.carried.trail.1 ∙ (ap (λ (y : View). m.carried.trail.0 ++ y.steps.trail) k.is ∙ sym (append_assoc m.carried.trail.0 k.more v.steps.trail)));
+      unlocked = m.carried.unlocked;
+      unwritten = m.carried.unwritten;
     };
     history = m.history ∙ ap (λ (y : View). y.history) k.is;
   }

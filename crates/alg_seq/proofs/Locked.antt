@@ -1,5 +1,5 @@
 -- What the steps of an attempt that has the lock come to, as its caller knows it.
-use Rattle.std.proofs.Common.{ℕ, ◌≡◌, ◌<◌, ◌+◌, List, [], ◌∷◌, ◌++◌, Bool, true, false, refl, sym, ap, ◌∙◌, arith, subst, le_refl}
+use Rattle.std.proofs.Common.{ℕ, ◌≡◌, ◌<◌, ◌+◌, List, [], ◌∷◌, ◌++◌, Bool, true, false, refl, sym, ap, ◌∙◌, arith, subst, le_refl, inl}
 use Rattle.std.specs.Prelude.{Some, None, reverse, not, length, ◌&&◌, ◌||◌, ◌==◌}
 use Rattle.stm_model.specs.Algorithms.{takes_lock, has_read_log, entry_rise, asks_at_begin}
 use Rattle.stm_model.specs.declared.alg.Alg.{Alg}
@@ -32,7 +32,7 @@ use Rattle.tx_answers.specs.declared.answers.Write.TheVariants.{Done}
 use Rattle.tx_answers.specs.Answers as answers
 use Rattle.tx_answers.specs.Answers.{kept_with, GoesOn, HasRead, HasWritten, KeepsRule, CommitsAt, EndsAt, RisesWithout}
 use Rattle.tx_answers.specs.Causes.{Asked, has_item, reads_full, writes_full}
-use Rattle.tx_answers.specs.Known.{Known, known_of, fenced_of, granted_under, written_under, kept_under, is_in, is_closing, is_irrevocable, wrote}
+use Rattle.tx_answers.specs.Known.{Known, known_of, fenced_of, granted_under, locked_under, written_under, kept_under, is_in, is_closing, is_irrevocable, wrote}
 use Rattle.tx_answers.specs.KnownLaws.{grows-same}
 use Rattle.stm_gate.specs.InnerLaws.{start-stays}
 use Rattle.stm_gate.specs.KeptLaws.{kept-same}
@@ -105,6 +105,8 @@ pub record IsLogged (v w : View) : Type 0 where
   pub history : w.history ≡ v.history
   pub gate : w.gate ≡ v.gate
   pub irrevocable : w.lock.irrevocable ≡ v.lock.irrevocable
+  pub taken : w.lock.taken ≡ v.lock.taken
+  pub writer : w.tml.writer ≡ v.tml.writer
   pub fence : w.fence ≡ v.fence
   pub start : w.attempt.start ≡ v.attempt.start
   pub rises : w.steps.rises ≡ v.steps.rises
@@ -113,7 +115,7 @@ pub record IsLogged (v w : View) : Type 0 where
   pub trail : (more : List TrailItem) × (w.steps.trail ≡ more ++ v.steps.trail)
 
 pub logged-refl : (v : View) → IsLogged v v
-logged-refl v = record { history = refl; gate = refl; irrevocable = refl; fence = refl; start = refl; rises = refl; base = refl; installs = refl; trail = ([], refl) }
+logged-refl v = record { history = refl; gate = refl; irrevocable = refl; taken = refl; writer = refl; fence = refl; start = refl; rises = refl; base = refl; installs = refl; trail = ([], refl) }
 
 pub goes-on : {c : Config} {asked : Asked} → (v w : View) (o : Own) → v.gate.phase ≡ In → IsLogged v w → GoesOn c asked (known_of v o) (known_of w o)
 goes-on {c} {asked} v w o inside i = record {
@@ -129,6 +131,7 @@ goes-on {c} {asked} v w o inside i = record {
     later = (let e = i.start in omega arith);
     installs = ap reverse i.installs;
     depth = refl;
+    locked = inl (λ k. locked_under (i.gate k).algorithm (i.taken k) (i.writer k));
   };
   start = start-stays c asked v.gate.algorithm (known_of v o) (known_of w o) i.start;
   granted = ap (λ (g : GateView). granted_under g.algorithm g w.lock) i.gate ∙ granted-same v.gate.algorithm v.gate v.lock w.lock i.irrevocable;
@@ -150,7 +153,7 @@ module _ (good : List ℕ → Type 0) (c : Config) (n : ℕ) where
   pub tells-read : (a x : ℕ) (l : Local) (v w : View) (o : Own) → a < c.words → IsInside good c n l v → takes_lock v.gate.algorithm ≡ true → o.committing ≡ false → Tells (load_heap a) (Loads rule c a) v x w
       → HasRead good c n a (Value x) (known_of v o) (known_of w o)
   tells-read a x l v w o low i locks settled t = subst (λ (u : View). HasRead good c n a (Value x) (known_of v o) (known_of u o)) (sym t.2) (
-    goes-on v u o i.phase (record { history = refl; gate = refl; irrevocable = refl; fence = refl; start = refl; rises = refl; base = refl; installs = refl; trail = (record { place = Heap a; act = Load; found = Some x } ∷ [], refl) }),
+    goes-on v u o i.phase (record { history = refl; gate = refl; irrevocable = refl; taken = refl; writer = refl; fence = refl; start = refl; rises = refl; base = refl; installs = refl; trail = (record { place = Heap a; act = Load; found = Some x } ∷ [], refl) }),
     settled,
     subst (λ (ws : List (ℕ × ℕ)). Reads (known_of v o).log a x (record { reads = items u.attempt.reads; writes = ws })) (sym (written-plain v.gate.algorithm v.gate.granted u o locks))
         (subst (λ (ws : List (ℕ × ℕ)). Reads (record { reads = items v.attempt.reads; writes = ws }) a x (record { reads = items u.attempt.reads; writes = items v.attempt.stores })) (sym (written-plain v.gate.algorithm v.gate.granted v o locks))
@@ -170,7 +173,7 @@ module _ (good : List ℕ → Type 0) (c : Config) (n : ℕ) where
       → IsLogged v w → w.attempt ≡ v.attempt → ((u : View) → u.history ≡ v.history → u.attempt.start ≡ v.attempt.start → u.attempt.reads ≡ v.attempt.reads → answers.IsOpaque good c n (known_of u o))
       → HasWritten good c n a x Done (known_of v o) (known_of (view_after (store_heap a x) m w x) o)
   tells-store a x v w o m inside locks settled room kept i same opaque = (
-    goes-on v u o inside (record { history = i.history; gate = i.gate; irrevocable = i.irrevocable; fence = i.fence; start = i.start; rises = i.rises; base = i.base; installs = i.installs; trail = (record { place = Heap a; act = Store x; found = None } ∷ i.trail.0, ap (λ t. record { place = Heap a; act = Store x; found = None } ∷ t) i.trail.1) }),
+    goes-on v u o inside (record { history = i.history; gate = i.gate; irrevocable = i.irrevocable; taken = i.taken; writer = i.writer; fence = i.fence; start = i.start; rises = i.rises; base = i.base; installs = i.installs; trail = (record { place = Heap a; act = Store x; found = None } ∷ i.trail.0, ap (λ t. record { place = Heap a; act = Store x; found = None } ∷ t) i.trail.1) }),
     settled,
     subst (λ (ws : List (ℕ × ℕ)). logs.Writes (known_of v o).log a x (record { reads = items u.attempt.reads; writes = ws })) (sym (written-plain w.gate.algorithm w.gate.granted u o (ap (λ (g : GateView). takes_lock g.algorithm) i.gate ∙ locks)))
         (subst (λ (ws : List (ℕ × ℕ)). logs.Writes (record { reads = items v.attempt.reads; writes = ws }) a x (record { reads = items w.attempt.reads; writes = put a x (items w.attempt.stores) })) (sym (written-plain v.gate.algorithm v.gate.granted v o locks))
@@ -178,10 +181,14 @@ module _ (good : List ℕ → Type 0) (c : Config) (n : ℕ) where
     opaque u i.history i.start (ap (λ (t : Attempt). t.reads) same),
     room,
     kept,
+    λ tml free. absurd (apart v.gate.algorithm locks (ap (λ (g : GateView). g.algorithm) (sym i.gate) ∙ tml)),
   )
     where
       u : View
       u = view_after (store_heap a x) m w x
+
+      apart : (b : Alg) → takes_lock b ≡ true → b ≡ Tml → ⊥
+      apart b e is = let no : takes_lock Tml ≡ true = ap takes_lock (sym is) ∙ e in cc
 
   pub still-opaque : (l : Local) (v : View) (o : Own) → IsInside good c n l v → (u : View) → u.history ≡ v.history → u.attempt.start ≡ v.attempt.start → u.attempt.reads ≡ v.attempt.reads → answers.IsOpaque good c n (known_of u o)
   still-opaque l v o i u history start reads = opaque-at good c n u o l.start (start ∙ i.start) (ap (λ (h : SeenHistory). h.front) history ∙ i.front)
@@ -204,6 +211,7 @@ module _ (good : List ℕ → Type 0) (c : Config) (n : ℕ) where
       later = le_refl v.attempt.start;
       installs = refl;
       depth = refl;
+      locked = inl refl;
     };
     still = refl;
     uncommitted = settled;
@@ -241,7 +249,7 @@ module _ (good : List ℕ → Type 0) (c : Config) (n : ℕ) where
   )
     where
       unmade : IsUnmade v (view_after free_lock t.0 v 0)
-      unmade = record { carried = record { named = refl; base = refl; installs = refl; fence = refl; trail = (record { place = Lock; act = Store 0; found = None } ∷ [], refl) }; history = refl }
+      unmade = record { carried = record { named = refl; base = refl; installs = refl; fence = refl; trail = (record { place = Lock; act = Store 0; found = None } ∷ [], refl); unlocked = refl; unwritten = (locked l v locks i).unwritten }; history = refl }
 
   pub tells-committed : (l : Local) (v s u : View) (o : Own) → IsInside good c n l v → takes_lock v.gate.algorithm ≡ true → l.wrote ≡ true → Tells (store_clock n (l.start + 1)) (Commits rule c n (l.start + 1)) v (l.start + 1) s → Tells free_lock Nothing s 0 u
       → CommitsAt good c n (l.start + 1) (known_of v o) (known_of (left n u) o)
@@ -257,7 +265,7 @@ module _ (good : List ℕ → Type 0) (c : Config) (n : ℕ) where
 
       made : v.steps.rises ≡ v.steps.rises_at_begin → IsMade n (l.start + 1) r.0.history v last
       made rises = record {
-        carried = record { named = refl; base = refl; installs = refl; fence = refl; trail = (record { place = Lock; act = Store 0; found = None } ∷ record { place = Clock; act = Store (l.start + 1); found = None } ∷ [], refl) };
+        carried = record { named = refl; base = refl; installs = refl; fence = refl; trail = (record { place = Lock; act = Store 0; found = None } ∷ record { place = Clock; act = Store (l.start + 1); found = None } ∷ [], refl); unlocked = refl; unwritten = (locked l v locks i).unwritten };
         history = refl;
         rises = (let one = entry-one v.gate.algorithm locks in omega arith);
       }

@@ -1,5 +1,5 @@
 -- What the steps of the calls of TML come to.
-use Rattle.std.proofs.Common.{ℕ, ◌≡◌, ◌≢◌, ◌<◌, ◌≤◌, ◌+◌, List, [], ◌∷◌, ◌++◌, Bool, true, false, refl, sym, ap, ◌∙◌, arith, subst}
+use Rattle.std.proofs.Common.{ℕ, ◌≡◌, ◌≢◌, ◌<◌, ◌≤◌, ◌+◌, List, [], ◌∷◌, ◌++◌, Bool, true, false, refl, sym, ap, ◌∙◌, arith, subst, inl, inr}
 use Rattle.std.proofs.lemmas.Bool.Decides.{nat_tests}
 use Rattle.std.specs.Prelude.{◌==◌, ◌%◌, ◌^◌, ltb, if◌then◌else◌, not, ◌&&◌, ◌||◌, Some, None}
 use Rattle.stm_model.specs.Algorithms.{entry_rise, irrevocable_under, has_read_log, has_records, logs_writes, closes_gate, asks_at_write, asks_at_commit, asks_at_grant}
@@ -43,7 +43,7 @@ use Rattle.tx_answers.specs.Answers.{write_rise, kept_with, HasRead, HasWritten,
 use Rattle.tx_answers.specs.Evidence.{Found}
 use Rattle.tx_answers.specs.Causes.{reads_full, writes_full}
 use Rattle.tx_answers.specs.Causes.Asked.{ForWord}
-use Rattle.tx_answers.specs.Known.{known_of, kept_under, granted_under, written_under, is_irrevocable, wrote, is_in, is_closing}
+use Rattle.tx_answers.specs.Known.{known_of, kept_under, granted_under, locked_under, written_under, is_irrevocable, wrote, is_in, is_closing}
 use Rattle.tx_answers.specs.KnownLaws.{grows-same}
 use Rattle.stm_gate.specs.InnerLaws.{goes-inner, start-stays, no-log-full}
 use Rattle.stm_gate.specs.KeptLaws.{kept-same, kept-unlogged}
@@ -87,6 +87,10 @@ module _ (good : List ℕ → Type 0) (c : Config) (n : ℕ) where
     kept-now : (a : ℕ) (y : View) → y.gate ≡ v.gate → y.owned ≡ v.owned → y.lock ≡ v.lock → (known_of y o).kept ≡ kept_with a (known_of v o)
     kept-now a y gate owned lock = (λ j. kept_under (gate j).algorithm y o) ∙ (kept-same v.gate.algorithm v y o o refl (ap (λ (q : Ownership). q.undo) owned) (ap (λ (q : LockView). q.undo) lock) ∙ sym (kept-unlogged a (known_of v o) (ap logs_writes tml)))
 
+    -- the writer has the clock
+    locked-now : (y : View) → y.tml.writer ≡ true → locked_under v.gate.algorithm y.lock.taken y.tml.writer ≡ true
+    locked-now y writer = ap (λ (a : Alg). locked_under a y.lock.taken y.tml.writer) tml ∙ writer
+
     -- the read is one of the log
     reads-here : (a x : ℕ) (rs : List Cell) (w : View) → w.attempt.reads ≡ rs → w.attempt.stores ≡ v.attempt.stores → logged v.attempt a x ≡ rs → x ≡ over v.attempt.stores a (word_now v.history.seen a)
         → Reads (known_of v o).log a x (record { reads = items w.attempt.reads; writes = written_under v.gate.algorithm v.gate.granted w o })
@@ -110,7 +114,7 @@ module _ (good : List ℕ → Type 0) (c : Config) (n : ℕ) where
     -- a writer reads in place
     pub tells-in_place : (a x : ℕ) (w : View) → x < 2 ^ 64 → a < c.words → l.wrote ≡ true → Tells (tml_load a) (TmlLoads rule c a) v x w → HasRead good c n a (reads.Value x) (known_of v o) (known_of w o)
     tells-in_place a x w small low dirty t = subst (λ (u : View). HasRead good c n a (reads.Value x) (known_of v o) (known_of u o)) (sym (load_path a x w true dirty t)) (
-      goes-inner v u o i.phase (record { history = refl; gate = refl; lock = refl; fence = refl; start = refl; rises = refl; base = refl; installs = refl; trail = (_ ∷ [], refl) }),
+      goes-inner v u o i.phase (record { history = refl; gate = refl; lock = refl; writer = refl; fence = refl; start = refl; rises = refl; base = refl; installs = refl; trail = (_ ∷ [], refl) }),
       quiet,
       reads-here a x (logged v.attempt a x) u refl refl refl (t.1.value writes),
       small,
@@ -166,7 +170,7 @@ module _ (good : List ℕ → Type 0) (c : Config) (n : ℕ) where
     pub tells-read : (a x clock : ℕ) (s w : View) → x < 2 ^ 64 → a < c.words → l.wrote ≡ false → clock ≡ l.start → Tells (tml_load a) (TmlLoads rule c a) v x s → Tells tml_again (FindsAgain rule c) s clock w
         → HasRead good c n a (reads.Value x) (known_of v o) (known_of w o)
     tells-read a x clock s w small low clean same t r = subst (λ (y : View). HasRead good c n a (reads.Value x) (known_of v o) (known_of y o)) (sym (again_path a x clock s w true here clean t r)) (
-      goes-inner v u o i.phase (record { history = refl; gate = refl; lock = refl; fence = refl; start = refl; rises = refl; base = refl; installs = refl; trail = (_ ∷ _ ∷ [], refl) }),
+      goes-inner v u o i.phase (record { history = refl; gate = refl; lock = refl; writer = refl; fence = refl; start = refl; rises = refl; base = refl; installs = refl; trail = (_ ∷ _ ∷ [], refl) }),
       quiet,
       reads-here a x (record { at = a; value = x } ∷ v.attempt.reads) u refl refl (ap (λ (cs : List Cell). if touches cs a then v.attempt.reads else record { at = a; value = x } ∷ v.attempt.reads) none) (value ∙ ap (λ (cs : List Cell). over cs a (word_now v.history.seen a)) (sym none)),
       small,
@@ -201,7 +205,7 @@ module _ (good : List ℕ → Type 0) (c : Config) (n : ℕ) where
     pub tells-conflict : (a x clock : ℕ) (s u w : View) → n < c.callers → l.wrote ≡ false → clock ≢ l.start → Tells (tml_load a) (TmlLoads rule c a) v x s → Tells tml_again (FindsAgain rule c) s clock u → w ≡ left n u
         → HasRead good c n a (reads.Conflict (causes.Clock l.start clock)) (known_of v o) (known_of w o)
     tells-conflict a x clock s u w low clean apart t r is = subst (λ (y : View). HasRead good c n a (reads.Conflict (causes.Clock l.start clock)) (known_of v o) (known_of y o)) (sym (is ∙ ap (left n) (again_path a x clock s u false here clean t r))) (
-      quits-here y clean (record { carried = record { named = refl; base = refl; installs = refl; fence = refl; trail = (_ ∷ _ ∷ [], refl) }; history = refl }) refl,
+      quits-here y clean (record { carried = record { named = refl; base = refl; installs = refl; fence = refl; trail = (_ ∷ _ ∷ [], refl); unlocked = k.unlocked; unwritten = k.writer ∙ clean }; history = refl }) refl,
       (tml, sym i.start, (λ e. apart (sym e)), found-left n Clock clock v y o o (_ ∷ _ ∷ [], refl, Load, (0, omega arith, refl))),
       others clock low clean apart shown.sole,
       (never-full a).0,
@@ -266,7 +270,7 @@ module _ (good : List ℕ → Type 0) (c : Config) (n : ℕ) where
     -- the clock was found elsewhere: before the exchange, by it, or at its limit
     pub refused-asked : (a x clock : ℕ) (s w : View) → n < c.callers → l.wrote ≡ false → clock ≢ l.start → Tells tml_again (FindsAgain rule c) v clock s → w ≡ left n s → HasWritten good c n a x (writes.Conflict (causes.Clock l.start clock)) (known_of v o) (known_of w o)
     refused-asked a x clock s w low clean apart r is = subst (λ (y : View). HasWritten good c n a x (writes.Conflict (causes.Clock l.start clock)) (known_of v o) (known_of y o)) (sym (is ∙ ap (left n) (asked_path clock s r))) (
-      quits-here y clean (record { carried = record { named = refl; base = refl; installs = refl; fence = refl; trail = (_ ∷ [], refl) }; history = refl }) refl,
+      quits-here y clean (record { carried = record { named = refl; base = refl; installs = refl; fence = refl; trail = (_ ∷ [], refl); unlocked = k.unlocked; unwritten = k.writer ∙ clean }; history = refl }) refl,
       (tml, sym i.start, (λ e. apart (sym e)), found-left n Clock clock v y o o (_ ∷ [], refl, Load, (0, omega arith, refl))),
       others clock low clean apart r.1.sole,
       (never-full a).1,
@@ -277,7 +281,7 @@ module _ (good : List ℕ → Type 0) (c : Config) (n : ℕ) where
 
     pub refused-full : (a x clock : ℕ) (s w : View) → l.wrote ≡ false → CLOCK_LIMIT ≤ clock → Tells tml_again (FindsAgain rule c) v clock s → w ≡ left n s → HasWritten good c n a x (writes.ClockFull clock) (known_of v o) (known_of w o)
     refused-full a x clock s w clean high r is = subst (λ (y : View). HasWritten good c n a x (writes.ClockFull clock) (known_of v o) (known_of y o)) (sym (is ∙ ap (left n) (asked_path clock s r))) (
-      quits-here y clean (record { carried = record { named = refl; base = refl; installs = refl; fence = refl; trail = (_ ∷ [], refl) }; history = refl }) refl,
+      quits-here y clean (record { carried = record { named = refl; base = refl; installs = refl; fence = refl; trail = (_ ∷ [], refl); unlocked = k.unlocked; unwritten = k.writer ∙ clean }; history = refl }) refl,
       ap asks_at_write tml,
       finds-full clock v (left n y) o o high (found-left n Clock clock v y o o (_ ∷ [], refl, Load, (0, omega arith, refl))),
       (never-full a).1,
@@ -292,7 +296,7 @@ module _ (good : List ℕ → Type 0) (c : Config) (n : ℕ) where
     pub refused-tried : (a x clock found : ℕ) (s u w : View) → n < c.callers → l.wrote ≡ false → found ≢ l.start → Tells tml_again (FindsAgain rule c) v clock s → Tells (tml_write l.start) (FindsSole c) s found u → w ≡ left n u
         → HasWritten good c n a x (writes.Conflict (causes.Clock l.start found)) (known_of v o) (known_of w o)
     refused-tried a x clock found s u w low clean apart r t is = subst (λ (y : View). HasWritten good c n a x (writes.Conflict (causes.Clock l.start found)) (known_of v o) (known_of y o)) (sym (is ∙ ap (left n) (tried_path clock found s u false (grind (arith, nat_tests)) r t))) (
-      quits-here y clean (record { carried = record { named = refl; base = refl; installs = refl; fence = refl; trail = (_ ∷ _ ∷ [], refl) }; history = refl }) refl,
+      quits-here y clean (record { carried = record { named = refl; base = refl; installs = refl; fence = refl; trail = (_ ∷ _ ∷ [], refl); unlocked = k.unlocked; unwritten = k.writer ∙ clean }; history = refl }) refl,
       (tml, sym i.start, (λ e. apart (sym e)), found-left n Clock found v y o o (_ ∷ _ ∷ [], refl, Exchange l.start (l.start + 1), (0, omega arith, refl))),
       others found low clean apart (subst (λ (y : View). FindsSole c t.0 y found) (asked_path clock s r) t.1),
       (never-full a).1,
@@ -380,6 +384,7 @@ module _ (good : List ℕ → Type 0) (c : Config) (n : ℕ) where
           later = omega arith;
           installs = refl;
           depth = refl;
+          locked = inr (tml, locked-now y refl);
         };
         start = start-stays c (ForWord a) v.gate.algorithm (known_of v o) (known_of y o) refl;
         granted = refl;
@@ -392,6 +397,7 @@ module _ (good : List ℕ → Type 0) (c : Config) (n : ℕ) where
       opaque-at good c n y o l.start i.start i.front i.legal i.below i.sees i.reads_inside,
       (never-full a).1,
       kept-now a y refl refl refl,
+      λ t free. locked-now y refl,
     )
       where
         y : View
@@ -401,14 +407,15 @@ module _ (good : List ℕ → Type 0) (c : Config) (n : ℕ) where
     put_holds a x clock found s u w same r t p = ap (λ (y : View). y.gate.holds) (put_path a x clock found s u w same r t p)
 
     -- a writer stores in place
-    pub tells-stored : (a x : ℕ) (w : View) → Tells (tml_store a x) Nothing v x w → HasWritten good c n a x writes.Done (known_of v o) (known_of w o)
-    tells-stored a x w t = subst (λ (y : View). HasWritten good c n a x writes.Done (known_of v o) (known_of y o)) (sym t.2) (
-      goes-inner v y o i.phase (record { history = refl; gate = refl; lock = refl; fence = refl; start = refl; rises = refl; base = refl; installs = refl; trail = (_ ∷ [], refl) }),
+    pub tells-stored : (a x : ℕ) (w : View) → l.wrote ≡ true → Tells (tml_store a x) Nothing v x w → HasWritten good c n a x writes.Done (known_of v o) (known_of w o)
+    tells-stored a x w dirty t = subst (λ (y : View). HasWritten good c n a x writes.Done (known_of v o) (known_of y o)) (sym t.2) (
+      goes-inner v y o i.phase (record { history = refl; gate = refl; lock = refl; writer = refl; fence = refl; start = refl; rises = refl; base = refl; installs = refl; trail = (_ ∷ [], refl) }),
       quiet,
       (refl, λ b. ap (item_at b) (written-here y ∙ ap (put a x) (sym (written-here v)))),
       opaque-at good c n y o l.start i.start i.front i.legal i.below i.sees i.reads_inside,
       (never-full a).1,
       kept-now a y refl refl refl,
+      λ t free. locked-now y (k.writer ∙ dirty),
     )
       where
         y : View
@@ -420,11 +427,11 @@ module _ (good : List ℕ → Type 0) (c : Config) (n : ℕ) where
 
     pub tells-read_only : (w : View) → l.wrote ≡ false → w ≡ left n v → Commits good c n (ReadOnly l.start) (known_of v o) (known_of w o)
     tells-read_only w clean is = subst (λ (y : View). Commits good c n (ReadOnly l.start) (known_of v o) (known_of y o)) (sym is)
-        (ended-left n good c l.start v v o (unmade-refl v) (sym i.start) (opaque-inside good c n l v o i), (let r = clean_rises clean in omega arith, let r = clean_rises clean in omega arith), unwritten clean)
+        (ended-left n good c l.start v v o (unmade-refl v k.unlocked (k.writer ∙ clean)) (sym i.start) (opaque-inside good c n l v o i), (let r = clean_rises clean in omega arith, let r = clean_rises clean in omega arith), unwritten clean)
 
     pub tells-cancelled : (w : View) → l.wrote ≡ false → w ≡ left n v → Cancels good c n (Cancelled l.start) (known_of v o) (known_of w o)
     tells-cancelled w clean is = subst (λ (y : View). Cancels good c n (Cancelled l.start) (known_of v o) (known_of y o)) (sym is)
-        (ended-left n good c l.start v v o (unmade-refl v) (sym i.start) (opaque-inside good c n l v o i), (let r = clean_rises clean in omega arith), (let r = clean_rises clean in omega arith), revocable clean)
+        (ended-left n good c l.start v v o (unmade-refl v k.unlocked (k.writer ∙ clean)) (sym i.start) (opaque-inside good c n l v o i), (let r = clean_rises clean in omega arith), (let r = clean_rises clean in omega arith), revocable clean)
 
     pub may-commit : (t : ℕ) → t ≡ l.start + 2 → l.wrote ≡ true → KeepsRule good c n (known_of v o) → CanTmlCommit rule t v
     may-commit t time dirty keeps = record {
@@ -442,7 +449,7 @@ module _ (good : List ℕ → Type 0) (c : Config) (n : ℕ) where
     pub tells-committed : (t : ℕ) (u w : View) → t ≡ l.start + 2 → l.wrote ≡ true → Tells (tml_commit n t) (steps.Commits rule c n t) v t u → w ≡ left n u → CommitsAt good c n t (known_of v o) (known_of w o)
     tells-committed t u w time dirty a is = subst (λ (y : View). CommitsAt good c n t (known_of v o) (known_of y o)) (sym (is ∙ ap (left n) a.2))
         (commits-left n good c t a.0 v (view_after (tml_commit n t) a.0 v t) o a.1 (record {
-          carried = record { named = refl; base = refl; installs = refl; fence = refl; trail = (_ ∷ [], refl) };
+          carried = record { named = refl; base = refl; installs = refl; fence = refl; trail = (_ ∷ [], refl); unlocked = k.unlocked; unwritten = refl };
           history = refl;
           rises = (let r : v.steps.rises ≡ v.steps.rises_at_begin + 1 = k.rises ∙ ap (λ (b : Bool). v.steps.rises_at_begin + (if b then 1 else 0)) dirty in let e : entry_rise v.gate.algorithm ≡ 2 = ap entry_rise tml in omega arith);
         }) (let q = i.start in omega arith) (let q = i.front in omega arith) (k.dirty dirty) (written-here v))
@@ -488,7 +495,7 @@ module _ (good : List ℕ → Type 0) (c : Config) (n : ℕ) where
 
     pub grants-full : (clock : ℕ) (u w : View) → l.wrote ≡ false → CLOCK_LIMIT ≤ clock → Tells tml_grant (FindsSole c) v clock u → w ≡ left n u → Grants good c n (irrevs.ClockFull clock) (known_of v o) (known_of w o)
     grants-full clock u w clean high t is = subst (λ (y : View). Grants good c n (irrevs.ClockFull clock) (known_of v o) (known_of y o)) (sym (is ∙ ap (left n) (grant_path clock u false (full_no clock high) t))) (
-      quits-here y clean (record { carried = record { named = refl; base = refl; installs = refl; fence = refl; trail = (_ ∷ [], refl) }; history = refl }) refl,
+      quits-here y clean (record { carried = record { named = refl; base = refl; installs = refl; fence = refl; trail = (_ ∷ [], refl); unlocked = k.unlocked; unwritten = k.writer ∙ clean }; history = refl }) refl,
       ap asks_at_grant tml,
       finds-full clock v (left n y) o o high (found-left n Clock clock v y o o (_ ∷ [], refl, Load, (0, omega arith, refl))),
     )
@@ -498,7 +505,7 @@ module _ (good : List ℕ → Type 0) (c : Config) (n : ℕ) where
 
     pub grants-moved : (clock : ℕ) (u w : View) → n < c.callers → l.wrote ≡ false → clock ≢ l.start → Tells tml_grant (FindsSole c) v clock u → w ≡ left n u → Grants good c n (irrevs.Conflict (causes.Clock l.start clock)) (known_of v o) (known_of w o)
     grants-moved clock u w low clean apart t is = subst (λ (y : View). Grants good c n (irrevs.Conflict (causes.Clock l.start clock)) (known_of v o) (known_of y o)) (sym (is ∙ ap (left n) (grant_path clock u false (moved_no clock apart) t))) (
-      quits-here y clean (record { carried = record { named = refl; base = refl; installs = refl; fence = refl; trail = (_ ∷ [], refl) }; history = refl }) refl,
+      quits-here y clean (record { carried = record { named = refl; base = refl; installs = refl; fence = refl; trail = (_ ∷ [], refl); unlocked = k.unlocked; unwritten = k.writer ∙ clean }; history = refl }) refl,
       (tml, sym i.start, (λ e. apart (sym e)), found-left n Clock clock v y o o (_ ∷ [], refl, Load, (0, omega arith, refl))),
       others clock low clean apart t.1,
     )
@@ -520,6 +527,7 @@ module _ (good : List ℕ → Type 0) (c : Config) (n : ℕ) where
         later = omega arith;
         installs = refl;
         depth = refl;
+        locked = inl refl;
       };
       still = refl;
       uncommitted = quiet;
@@ -653,6 +661,8 @@ module _ (good : List ℕ → Type 0) (c : Config) (n : ℕ) (v : View) (can : C
       bare = ap (λ (a : Alg). kept_under a y o) can.named;
       granted = ap (λ (a : Alg). granted_under a v.gate v.lock) can.named ∙ can.ungranted;
       opaque = opaque-at good c n y o clock refl refl b.legal b.below (λ a. refl) (λ a e. absurd cc);
+      locked = ap (λ (a : Alg). locked_under a v.lock.taken false) can.named;
+      took = λ e. absurd cc;
     };
   })
     where

@@ -20,7 +20,7 @@ module _ {K : Type 0} (stm : Stm K) (alg : Alg) where
 
   new-first : (d : Handle K) → d.view ≡ first_view stm.config → d.own ≡ idle_own stm.config → IsNew [] (known d)
   unfolding first
-  new-first d view own = subst (IsNew []) (sym (is-first d view own)) (record { idle = (refl, refl, refl, refl); done = record { made = refl; rises = omega arith; installs = refl } })
+  new-first d view own = subst (IsNew []) (sym (is-first d view own)) (record { idle = (refl, refl, refl, refl, refl); done = record { made = refl; rises = omega arith; installs = refl } })
 
   long-first : (d : Handle K) → d.view ≡ first_view stm.config → d.own ≡ idle_own stm.config → HasLengths stm.config (known d)
   unfolding first

@@ -21,7 +21,7 @@ use Rattle.tx_answers.specs.Answers.{Closes, ClosesGate, Stays}
 use Rattle.tx_answers.specs.Causes.{NamesOther}
 use Rattle.tx_answers.specs.Known.{known_of, is_in, is_closing, is_settled}
 use Rattle.tx_answers.specs.KnownLaws.{grows-same}
-use Rattle.stm_gate.specs.InnerLaws.{ungranted-of}
+use Rattle.stm_gate.specs.InnerLaws.{ungranted-of, unlocked-of}
 use Rattle.rule_base.specs.GateSteps.{reopen}
 
 two : (k n callers : ℕ) → k < callers → n < callers → k ≢ n → 1 < callers
@@ -35,7 +35,7 @@ module _ (good : List ℕ → Type 0) (c : Config) (n : ℕ) where
       → Closes good c n (Taken gate) (known_of v o) (known_of w o)
   tells-taken gate v s t w o low out other a l d = subst (λ (y : View). Closes good c n (Taken gate) (known_of v o) (known_of y o)) (sym path) (
     record {
-      idle = (ap (λ b. departed (if b then Aiming else Turned)) apart, ap (λ b. is_in (departed (if b then Aiming else Turned))) apart, ap (λ b. is_closing (departed (if b then Aiming else Turned))) apart, out.reopened);
+      idle = (ap (λ b. departed (if b then Aiming else Turned)) apart, ap (λ b. is_in (departed (if b then Aiming else Turned))) apart, ap (λ b. is_closing (departed (if b then Aiming else Turned))) apart, out.reopened, unlocked-of last.gate.algorithm v.lock.taken v.tml.writer out.clear.unlocked out.clear.unwritten);
       made = refl;
       grows = grows-same (known_of v o) (known_of last o) refl refl (record { place = Status n; act = Store 0; found = None } ∷ record { place = Gate; act = Load; found = Some gate } ∷ record { place = Status n; act = Store announced; found = None } ∷ []) refl refl refl refl;
       rises = refl;
@@ -68,7 +68,7 @@ module _ (good : List ℕ → Type 0) (c : Config) (n : ℕ) where
       → Closes good c n (Taken found) (known_of v o) (known_of w o)
   tells-refused gate found v s t u w o low out other a l k d = subst (λ (y : View). Closes good c n (Taken found) (known_of v o) (known_of y o)) (sym path) (
     record {
-      idle = (ap (λ b. departed (taken_gate (looked a.0 l.0 v gate) gate b).phase) apart, ap (λ b. is_in (departed (taken_gate (looked a.0 l.0 v gate) gate b).phase)) apart, ap (λ b. is_closing (departed (taken_gate (looked a.0 l.0 v gate) gate b).phase)) apart, ap (λ b. (taken_gate (looked a.0 l.0 v gate) gate b).holds) apart ∙ out.reopened);
+      idle = (ap (λ b. departed (taken_gate (looked a.0 l.0 v gate) gate b).phase) apart, ap (λ b. is_in (departed (taken_gate (looked a.0 l.0 v gate) gate b).phase)) apart, ap (λ b. is_closing (departed (taken_gate (looked a.0 l.0 v gate) gate b).phase)) apart, ap (λ b. (taken_gate (looked a.0 l.0 v gate) gate b).holds) apart ∙ out.reopened, unlocked-of last.gate.algorithm v.lock.taken v.tml.writer out.clear.unlocked out.clear.unwritten);
       made = refl;
       grows = grows-same (known_of v o) (known_of last o) refl refl (record { place = Status n; act = Store 0; found = None } ∷ record { place = Gate; act = Exchange gate (gate_word (fence_of gate) (1 + n) (alg_of gate)); found = Some found } ∷ record { place = Gate; act = Load; found = Some gate } ∷ record { place = Status n; act = Store announced; found = None } ∷ []) refl refl refl refl;
       rises = refl;
@@ -100,6 +100,7 @@ module _ (good : List ℕ → Type 0) (c : Config) (n : ℕ) where
       closing = ap (λ b. is_closing (departed (at b).phase)) here;
       holds = ap (λ b. (at b).holds) here;
       ungranted = ungranted-of last.gate.algorithm last.gate v.lock (ap (λ b. (at b).granted) here ∙ out.ungranted) out.clear.unfixed;
+      unlocked = unlocked-of last.gate.algorithm v.lock.taken v.tml.writer out.clear.unlocked out.clear.unwritten;
     };
     made = refl;
     grows = grows-same (known_of v o) (known_of last o) refl refl (record { place = Status n; act = Store 0; found = None } ∷ record { place = Gate; act = Exchange gate (gate_word (fence_of gate) (1 + n) (alg_of gate)); found = Some found } ∷ record { place = Gate; act = Load; found = Some gate } ∷ record { place = Status n; act = Store announced; found = None } ∷ []) refl refl refl refl;
@@ -125,9 +126,9 @@ module _ (good : List ℕ → Type 0) (c : Config) (n : ℕ) where
       path : w ≡ last
       path = d.2 ∙ ap (λ y. view_after (depart n) d.0 y 0) (k.2 ∙ ap (λ y. view_after (take_gate n gate) k.0 y found) (l.2 ∙ ap (λ y. view_after aim l.0 y gate) a.2))
 
-  pub tells-reopened : (fence : ℕ) (alg : Alg) (v w : View) (o : Own) → Tells (reopen fence alg) Nothing v (gate_word fence 0 alg) w → Stays (known_of v o) (known_of w o)
-  tells-reopened fence alg v w o t = subst (λ (y : View). Stays (known_of v o) (known_of y o)) (sym t.2) (record {
-    idle = (refl, refl, refl, refl);
+  pub tells-reopened : (fence : ℕ) (alg : Alg) (v w : View) (o : Own) → (known_of v o).locked ≡ false → Tells (reopen fence alg) Nothing v (gate_word fence 0 alg) w → Stays (known_of v o) (known_of w o)
+  tells-reopened fence alg v w o unlocked t = subst (λ (y : View). Stays (known_of v o) (known_of y o)) (sym t.2) (record {
+    idle = (refl, refl, refl, refl, unlocked);
     made = refl;
     grows = grows-same (known_of v o) (known_of (view_after (reopen fence alg) t.0 v (gate_word fence 0 alg)) o) refl refl (record { place = Gate; act = Store (gate_word fence 0 alg); found = None } ∷ []) refl refl refl refl;
     rises = refl;

@@ -33,7 +33,7 @@ use Rattle.tx_answers.specs.Answers.{HoldsClosed, entry}
 use Rattle.tx_answers.specs.Fences.{TakesRange, ReadsDirect, WritesDirect, GivesAt, Gives}
 use Rattle.tx_answers.specs.Fences as fences
 use Rattle.tx_answers.specs.declared.answers.Give.TheVariants.{Unchanged, ClockFull}
-use Rattle.tx_answers.specs.Known.{known_of, kept_under, written_under, granted_under, is_in, is_closing, is_settled, zeros}
+use Rattle.tx_answers.specs.Known.{known_of, kept_under, written_under, granted_under, locked_under, is_in, is_closing, is_settled, zeros}
 use Rattle.tx_answers.specs.KnownLaws.{grows-same, ascending-append, within-append}
 use Rattle.stm_gate.specs.InnerLaws.{granted-same}
 use Rattle.stm_gate.specs.KeptLaws.{kept-same}
@@ -71,9 +71,9 @@ written-same RingSw true v u o attempt owned = ap (λ t. items t.stores) attempt
 written-same Serial granted v u o attempt owned = ap (λ t. items t.stores) attempt
 
 -- of a step in the range its caller knows that, and nothing else, anew
-beside : (v u : View) (o : Own) → u.history ≡ v.history → u.gate ≡ v.gate → u.lock ≡ v.lock → u.attempt ≡ v.attempt → u.owned ≡ v.owned
+beside : (v u : View) (o : Own) → u.history ≡ v.history → u.gate ≡ v.gate → u.lock ≡ v.lock → u.tml ≡ v.tml → u.attempt ≡ v.attempt → u.owned ≡ v.owned
     → u.steps ≡ record v.steps { trail = u.steps.trail } → known_of u o ≡ record (known_of v o) { top = (known_of u o).top; trail = (known_of u o).trail; fenced = (known_of u o).fenced }
-beside v u o history gate lock attempt owned steps = λ i. record (known_of u o) {
+beside v u o history gate lock tml attempt owned steps = λ i. record (known_of u o) {
   made = public_history (history i).made;
   seen = public_history (history i).seen;
   front = (history i).front;
@@ -92,6 +92,7 @@ beside v u o history gate lock attempt owned steps = λ i. record (known_of u o)
   installs = reverse (steps i).installs;
   start = (attempt i).start;
   log = record { reads = items (attempt i).reads; writes = written i };
+  locked = locked_under (gate i).algorithm (lock i).taken (tml i).writer;
 }
   where
     written : written_under u.gate.algorithm u.gate.granted u o ≡ written_under v.gate.algorithm v.gate.granted v o
@@ -105,7 +106,7 @@ module _ (good : List ℕ → Type 0) (c : Config) (n : ℕ) where
       → Tells (fence n (fence_number n from count) alg) (FindsPast rule c) v (gate_word (fence_number n from count) (1 + n) alg) w → TakesRange good c n from count (known_of v o) (known_of w o)
   tells-fenced from count alg v w o low few h free t = let more = later-seen t.0.history v.history.front t.0.clock t.1.below t.1.front in subst (λ (y : View). TakesRange good c n from count (known_of v o) (known_of y o)) (sym t.2) (record {
     closed = record {
-      holds = record { phase = h.phase; running = h.running; closing = h.closing; holds = h.holds; ungranted = granted-same v.gate.algorithm last.gate v.gate v.lock refl ∙ h.ungranted };
+      holds = record { phase = h.phase; running = h.running; closing = h.closing; holds = h.holds; ungranted = granted-same v.gate.algorithm last.gate v.gate v.lock refl ∙ h.ungranted; unlocked = h.unlocked };
       grows = grows-same (known_of v o) (record (known_of last o) { fenced = (known_of v o).fenced }) refl refl (record { place = Gate; act = Store (gate_word (fence_number n from count) (1 + n) alg); found = None } ∷ []) refl refl refl refl;
       checked = refl;
       alg = refl;
@@ -129,7 +130,7 @@ module _ (good : List ℕ → Type 0) (c : Config) (n : ℕ) where
 
   pub tells-direct_read : (a x : ℕ) (v w : View) (o : Own) → a < c.words → Tells (fence_load a) (FenceLoads a) v x w → ReadsDirect good c n a x (known_of v o) (known_of w o)
   tells-direct_read a x v w o low t = subst (λ (y : View). ReadsDirect good c n a x (known_of v o) (known_of y o)) (sym t.2) (record {
-    stays = record { is = beside v (view_after (fence_load a) t.0 v x) o refl refl refl refl refl refl; item = record { place = Heap a; act = Load; found = Some x }; trail = refl };
+    stays = record { is = beside v (view_after (fence_load a) t.0 v x) o refl refl refl refl refl refl refl; item = record { place = Heap a; act = Load; found = Some x }; trail = refl };
     range = refl;
     value = by (touches v.fence.stores a) refl;
   })
@@ -148,7 +149,7 @@ module _ (good : List ℕ → Type 0) (c : Config) (n : ℕ) where
 
   pub tells-direct_write : (a x : ℕ) (v w : View) (o : Own) → Tells (fence_store a x) Nothing v x w → WritesDirect good c n a x (known_of v o) (known_of w o)
   tells-direct_write a x v w o t = subst (λ (y : View). WritesDirect good c n a x (known_of v o) (known_of y o)) (sym t.2) (record {
-    stays = record { is = beside v (view_after (fence_store a x) t.0 v x) o refl refl refl refl refl refl; item = record { place = Heap a; act = Store x; found = None }; trail = refl };
+    stays = record { is = beside v (view_after (fence_store a x) t.0 v x) o refl refl refl refl refl refl refl; item = record { place = Heap a; act = Store x; found = None }; trail = refl };
     range = refl;
   })
 
@@ -160,7 +161,7 @@ module _ (good : List ℕ → Type 0) (c : Config) (n : ℕ) where
   tells-unchanged alg v w o h none t = subst (λ (y : View). Gives good c n Unchanged (known_of v o) (known_of y o)) (sym t.2) (
     record {
       closed = record {
-        holds = record { phase = h.phase; running = h.running; closing = h.closing; holds = h.holds; ungranted = granted-same v.gate.algorithm last.gate v.gate v.lock refl ∙ h.ungranted };
+        holds = record { phase = h.phase; running = h.running; closing = h.closing; holds = h.holds; ungranted = granted-same v.gate.algorithm last.gate v.gate v.lock refl ∙ h.ungranted; unlocked = h.unlocked };
         grows = grows-same (known_of v o) (record (known_of last o) { fenced = (known_of v o).fenced }) refl refl (record { place = Gate; act = Store (gate_word 0 (1 + n) alg); found = None } ∷ []) refl refl refl refl;
         checked = refl;
         alg = refl;
@@ -182,7 +183,7 @@ module _ (good : List ℕ → Type 0) (c : Config) (n : ℕ) where
   tells-full t alg v w o h some high s = subst (λ (y : View). Gives good c n (ClockFull t) (known_of v o) (known_of y o)) (sym s.2) (
     record {
       closed = record {
-        holds = record { phase = h.phase; running = h.running; closing = h.closing; holds = h.holds; ungranted = granted-same v.gate.algorithm last.gate v.gate v.lock refl ∙ h.ungranted };
+        holds = record { phase = h.phase; running = h.running; closing = h.closing; holds = h.holds; ungranted = granted-same v.gate.algorithm last.gate v.gate v.lock refl ∙ h.ungranted; unlocked = h.unlocked };
         grows = grows-same (known_of v o) (record (known_of last o) { fenced = (known_of v o).fenced }) refl refl (record { place = Clock; act = Load; found = Some t } ∷ []) refl refl refl refl;
         checked = refl;
         alg = refl;
@@ -252,7 +253,7 @@ module _ (good : List ℕ → Type 0) (c : Config) (n : ℕ) where
       → Tells (unfence n l.algorithm) Nothing z (gate_word 0 (1 + n) l.algorithm) w → GivesAt good c n time (known_of v o) (known_of w o)
   tells-given t time l v s u y z w o k h some a b d e f = subst (λ (x : View). GivesAt good c n time (known_of v o) (known_of x o)) (sym path) (record {
     closed = record {
-      holds = record { phase = h.phase; running = h.running; closing = h.closing; holds = h.holds; ungranted = granted-same v.gate.algorithm given.gate v.gate v.lock refl ∙ h.ungranted };
+      holds = record { phase = h.phase; running = h.running; closing = h.closing; holds = h.holds; ungranted = granted-same v.gate.algorithm given.gate v.gate v.lock refl ∙ h.ungranted; unlocked = h.unlocked };
       grows = record {
         later = before.0 ++ made ∷ [];
         is = ap (λ (q : List public.Entry). q ++ made ∷ []) before.1 ∙ (append_assoc (public_history (upto b.0.history v.history.front)) before.0 (made ∷ []) ∙ ap (λ (q : List Entry). public_history q ++ (before.0 ++ made ∷ [])) (sym shown.seen));

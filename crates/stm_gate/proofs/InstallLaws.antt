@@ -16,12 +16,12 @@ use Rattle.rule_base.specs.Own.{Own}
 use Rattle.rule_base.specs.StepKinds.{Nothing, Tells, view_after}
 use Rattle.rule_base.specs.declared.views.Phase.TheVariants.{Idle, In, Closing}
 use Rattle.stm_rule.specs.declared.local.Local.{Local}
-use Rattle.stm_rule.specs.Attempts.{IsClosing, HasRoom, StandsBy, Stands}
+use Rattle.stm_rule.specs.Attempts.{IsClear, IsClosing, HasRoom, StandsBy, Stands}
 use Rattle.stm_rule.specs.Findings.{FindsWithin}
 use Rattle.tx_answers.specs.Answers.{HoldsClosed, Installs, SeesQuiet}
 use Rattle.tx_answers.specs.Known.{known_of}
 use Rattle.tx_answers.specs.KnownLaws.{grows-same}
-use Rattle.stm_gate.specs.InnerLaws.{ungranted-of}
+use Rattle.stm_gate.specs.InnerLaws.{ungranted-of, unlocked-of}
 use Rattle.stm_gate.specs.Installing.{Settles}
 
 pub settles-so : (alg : Alg) (t : ℕ) (v w : View) → (begins_even alg ≡ true → t % 2 ≡ 0) → Tells settle FindsWithin v t w → Settles alg t v w
@@ -39,11 +39,11 @@ settles-even alg t v s w odd tml a b = record {
 }
 
 module _ (good : List ℕ → Type 0) (c : Config) (n : ℕ) where
-  pub tells-installed : (fence : ℕ) (alg : Alg) (t : ℕ) (v s u y w : View) (o : Own) → HoldsClosed (known_of v o) → SeesQuiet good c n (known_of v o) → v.gate.granted ≡ false → v.lock.irrevocable ≡ false → Settles alg t v s
+  pub tells-installed : (fence : ℕ) (alg : Alg) (t : ℕ) (v s u y w : View) (o : Own) → HoldsClosed (known_of v o) → SeesQuiet good c n (known_of v o) → v.gate.granted ≡ false → IsClear v → Settles alg t v s
       → Tells (store_base t) Nothing s t u → Tells (store_done t) Nothing u t y → Tells (install n fence alg) Nothing y (gate_word fence (1 + n) alg) w → Installs good c n alg (known_of v o) (known_of w o)
-  tells-installed fence alg t v s u y w o h quiet ungranted unfixed z a b d = subst (λ (x : View). Installs good c n alg (known_of v o) (known_of x o)) (sym path) (record {
+  tells-installed fence alg t v s u y w o h quiet ungranted clear z a b d = subst (λ (x : View). Installs good c n alg (known_of v o) (known_of x o)) (sym path) (record {
     closed = record {
-      holds = record { phase = h.phase; running = h.running; closing = h.closing; holds = h.holds; ungranted = ungranted-of alg last.gate v.lock ungranted unfixed };
+      holds = record { phase = h.phase; running = h.running; closing = h.closing; holds = h.holds; ungranted = ungranted-of alg last.gate v.lock ungranted clear.unfixed; unlocked = unlocked-of alg v.lock.taken v.tml.writer clear.unlocked clear.unwritten };
       made = refl;
       grows = grows-same (known_of v o) (known_of last o) refl refl (three ++ z.more) (sym (append_assoc three z.more v.steps.trail)) refl refl refl;
       checked = λ k e. e;
@@ -53,6 +53,7 @@ module _ (good : List ℕ → Type 0) (c : Config) (n : ℕ) where
     named = refl;
     rises = (z.least, z.most);
     installs = reverse-append (alg ∷ []) v.steps.installs;
+    fence = refl;
   })
     where
       at : View

@@ -44,7 +44,7 @@ module _ (good : List ℕ → Type 0) (c : Config) (n : ℕ) where
   pub tells-load : (a x : ℕ) (l : Local) (v w : View) (o : Own) → o.committing ≡ false → a < c.words → closes_gate v.gate.algorithm ≡ true → granted_under v.gate.algorithm v.gate v.lock ≡ true → IsInside good c n l v
       → Tells (direct_load a) (Loads rule c a) v x w → HasRead good c n a (Value x) (known_of v o) (known_of w o)
   tells-load a x l v w o quiet low closes granted i t = subst (λ (u : View). HasRead good c n a (Value x) (known_of v o) (known_of u o)) (sym t.2) (
-    goes-inner v u o i.phase (record { history = refl; gate = refl; lock = refl; fence = refl; start = refl; rises = refl; base = refl; installs = refl; trail = (_ ∷ [], refl) }),
+    goes-inner v u o i.phase (record { history = refl; gate = refl; lock = refl; writer = refl; fence = refl; start = refl; rises = refl; base = refl; installs = refl; trail = (_ ∷ [], refl) }),
     quiet,
     subst (λ (ws : List (ℕ × ℕ)). Reads (record { reads = items v.attempt.reads; writes = ws }) a x (record { reads = items (logged v.attempt a x); writes = written_under v.gate.algorithm v.gate.granted u o })) (sym (written v))
         (subst (λ (ws : List (ℕ × ℕ)). Reads (record { reads = items v.attempt.reads; writes = items v.attempt.stores }) a x (record { reads = items (logged v.attempt a x); writes = ws })) (sym (written u))
@@ -65,12 +65,13 @@ module _ (good : List ℕ → Type 0) (c : Config) (n : ℕ) where
   pub tells-store : (a x : ℕ) (l : Local) (v w : View) (o : Own) → o.committing ≡ false → closes_gate v.gate.algorithm ≡ true → granted_under v.gate.algorithm v.gate v.lock ≡ true → IsInside good c n l v
       → Tells (direct_store a x) Nothing v x w → HasWritten good c n a x Done (known_of v o) (known_of w o)
   tells-store a x l v w o quiet closes granted i t = subst (λ (u : View). HasWritten good c n a x Done (known_of v o) (known_of u o)) (sym t.2) (
-    goes-inner v u o i.phase (record { history = refl; gate = refl; lock = refl; fence = refl; start = refl; rises = refl; base = refl; installs = refl; trail = (_ ∷ [], refl) }),
+    goes-inner v u o i.phase (record { history = refl; gate = refl; lock = refl; writer = refl; fence = refl; start = refl; rises = refl; base = refl; installs = refl; trail = (_ ∷ [], refl) }),
     quiet,
     (refl, λ b. ap (item_at b) (written u ∙ ap (put a x) (sym (written v)))),
     opaque-at good c n u o l.start i.start i.front i.legal i.below i.sees i.reads_inside,
     (never-full a (known_of v o) (irrevocable-known v o closes granted)).1,
     kept-same v.gate.algorithm v u o o refl refl refl ∙ sym (kept-irrevocable a (known_of v o) (irrevocable-known v o closes granted)),
+    λ tml free. absurd (let no : true ≡ false = sym granted ∙ free in cc),
   )
     where
       u : View
@@ -86,7 +87,7 @@ module _ (good : List ℕ → Type 0) (c : Config) (n : ℕ) where
   pub tells-read_only : (l : Local) (v w : View) (o : Own) → l.wrote ≡ false → closes_gate v.gate.algorithm ≡ true → granted_under v.gate.algorithm v.gate v.lock ≡ true → IsInside good c n l v → w ≡ left n v
       → Commits good c n (ReadOnly l.start) (known_of v o) (known_of w o)
   tells-read_only l v w o clean closes granted i is = subst (λ (u : View). Commits good c n (ReadOnly l.start) (known_of v o) (known_of u o)) (sym is) (
-    ended-left n good c l.start v v o (unmade-refl v) (sym i.start) (opaque-inside good c n l v o i),
+    ended-left n good c l.start v v o (unmade-refl v p.unlocked p.unwritten) (sym i.start) (opaque-inside good c n l v o i),
     (let r = p.rises in omega arith, let r = p.rises in omega arith),
     ap (λ (ws : List (ℕ × ℕ)). not (is_empty ws)) (written-here l v o closes granted i ∙ ap items (p.clean clean)),
   )
@@ -125,7 +126,7 @@ module _ (good : List ℕ → Type 0) (c : Config) (n : ℕ) where
       → CommitsAt good c n t (known_of v o) (known_of w o)
   tells-commit alg t l v s u y w o named time dirty closes granted i a b d is = subst (λ (x : View). CommitsAt good c n t (known_of v o) (known_of x o)) (sym path)
       (commits-left n good c t a.0 v last o a.1 (record {
-        carried = record { named = refl; base = refl; installs = refl; fence = refl; trail = (_ ∷ _ ∷ _ ∷ [], refl) };
+        carried = record { named = refl; base = refl; installs = refl; fence = refl; trail = (_ ∷ _ ∷ _ ∷ [], refl); unlocked = p.unlocked; unwritten = p.unwritten };
         history = refl;
         rises = (let r = p.rises in let e : entry_rise v.gate.algorithm ≡ entry_rise alg = ap entry_rise (i.named ∙ named) in omega arith);
       }) (let m = entry-some alg in let k = i.start in omega arith) (let m = entry-some alg in let k = i.front in omega arith) (p.dirty dirty) (written-here l v o closes granted i))

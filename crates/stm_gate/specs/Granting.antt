@@ -23,7 +23,7 @@ use Rattle.tx_answers.specs.Causes.Asked.{ToPromote}
 use Rattle.tx_answers.specs.Evidence.{Found, FoundAsWas, Untouched}
 use Rattle.tx_answers.specs.SlotEvidence.{FindsFirst, clock_load}
 use Rattle.tx_answers.specs.Known.{Known, Grows, known_of, is_irrevocable, is_in, is_closing, is_none, has_written}
-use Rattle.tx_answers.specs.KnownLaws.{grows-same, grows-trans}
+use Rattle.tx_answers.specs.KnownLaws.{grows-same, grows-trans, lock-trans}
 use Rattle.stm_gate.specs.LeavingLaws.{found-earlier}
 use Rattle.stm_gate.specs.Opacity.{opaque-inside}
 use Rattle.stm_gate.specs.Promoting.{SparesRecords}
@@ -112,6 +112,7 @@ module _ (good : List ℕ → Type 0) (c : Config) (n : ℕ) where
           later = (let x = k.later in let y = q.later in omega arith);
           installs = q.installs ∙ k.installs;
           depth = q.depth ∙ k.depth;
+          locked = lock-trans u v w k.alg k.locked q.locked;
         };
         still = b.still ∙ a.still;
         uncommitted = b.uncommitted;
@@ -143,6 +144,7 @@ module _ (good : List ℕ → Type 0) (c : Config) (n : ℕ) where
       later = omega arith;
       installs = refl;
       depth = refl;
+      locked = inl refl;
     };
     still = refl;
     uncommitted = quiet;

@@ -16,13 +16,14 @@ use Rattle.rule_base.specs.History.{member}
 use Rattle.rule_base.specs.Own.{Own}
 use Rattle.tx_answers.specs.Answers.{StartMoves, GoesOn}
 use Rattle.tx_answers.specs.Causes.{Asked, has_item, reads_full, writes_full}
-use Rattle.tx_answers.specs.Known.{Known, known_of, fenced_of, granted_under, written_under, is_in, is_closing, is_irrevocable}
+use Rattle.tx_answers.specs.Known.{Known, known_of, fenced_of, granted_under, locked_under, written_under, is_in, is_closing, is_irrevocable}
 use Rattle.tx_answers.specs.KnownLaws.{grows-same}
 
 pub record IsInner (v w : View) : Type 0 where
   pub history : w.history ≡ v.history
   pub gate : w.gate ≡ v.gate
   pub lock : w.lock ≡ v.lock
+  pub writer : w.tml.writer ≡ v.tml.writer
   pub fence : w.fence ≡ v.fence
   pub start : w.attempt.start ≡ v.attempt.start
   pub rises : w.steps.rises ≡ v.steps.rises
@@ -53,6 +54,7 @@ goes-inner {c} {asked} v w o inside i = record {
     later = (let e = i.start in omega arith);
     installs = ap reverse i.installs;
     depth = refl;
+    locked = inl (λ k. locked_under (i.gate k).algorithm (i.lock k).taken (i.writer k));
   };
   start = start-stays c asked v.gate.algorithm (known_of v o) (known_of w o) i.start;
   granted = λ k. granted_under (i.gate k).algorithm (i.gate k) (i.lock k);
@@ -77,6 +79,14 @@ ungranted-of OrecLazy g l e f = e
 ungranted-of OrecEager g l e f = e
 ungranted-of RingSw g l e f = e
 ungranted-of Serial g l e f = f
+
+pub unlocked-of : (a : Alg) (taken writer : Bool) → taken ≡ false → writer ≡ false → locked_under a taken writer ≡ false
+unlocked-of Cgl taken writer e f = e
+unlocked-of Tml taken writer e f = f
+unlocked-of OrecLazy taken writer e f = e
+unlocked-of OrecEager taken writer e f = e
+unlocked-of RingSw taken writer e f = e
+unlocked-of Serial taken writer e f = e
 
 -- a granted attempt's writes lie in the heap
 pub written-granted : (a : Alg) (granted : Bool) (v : View) (o : Own) → granted ≡ true → written_under a granted v o ≡ items v.attempt.stores

@@ -26,16 +26,19 @@ use Rattle.tx_answers.specs.Answers.{Ends, Quits, EndsAt, CommitsAt, IsOpaque, e
 use Rattle.tx_answers.specs.Causes.{FindsFull}
 use Rattle.tx_answers.specs.Evidence.{Found}
 use Rattle.tx_answers.specs.Known.{Known, Grows, known_of, fenced_of, is_irrevocable, has_written, written_under, zeros, clock_in, top_of}
+use Rattle.stm_gate.specs.InnerLaws.{unlocked-of}
 use Rattle.stm_gate.specs.Leaving.{last_steps, left}
 use Rattle.stm_gate.specs.Logging.{wrote-some}
 
--- from v to u the caller's algorithm, base, installs and fence stayed, and its trail grew
+-- from v to u the caller's algorithm, base, installs and fence stayed, its trail grew, and it has no lock
 pub record Carried (v u : View) : Type 0 where
   pub named : u.gate.algorithm ≡ v.gate.algorithm
   pub base : u.steps.rises_at_begin ≡ v.steps.rises_at_begin
   pub installs : u.steps.installs ≡ v.steps.installs
   pub fence : u.fence ≡ v.fence
   pub trail : (more : List TrailItem) × (u.steps.trail ≡ more ++ v.steps.trail)
+  pub unlocked : u.lock.taken ≡ false
+  pub unwritten : u.tml.writer ≡ false
 
 -- and no entry was made or seen
 pub record IsUnmade (v u : View) : Type 0 where
@@ -53,8 +56,8 @@ pub record IsMade (n t : ℕ) (before : List Entry) (v u : View) : Type 0 where
   pub history : u.history ≡ record v.history { made = cgl_entry n t v ∷ v.history.made; seen = cgl_entry n t v ∷ before; front = t }
   pub rises : u.steps.rises ≡ v.steps.rises_at_begin + entry_rise v.gate.algorithm
 
-pub unmade-refl : (v : View) → IsUnmade v v
-unmade-refl v = record { carried = record { named = refl; base = refl; installs = refl; fence = refl; trail = ([], refl) }; history = refl }
+pub unmade-refl : (v : View) → v.lock.taken ≡ false → v.tml.writer ≡ false → IsUnmade v v
+unmade-refl v unlocked unwritten = record { carried = record { named = refl; base = refl; installs = refl; fence = refl; trail = ([], refl); unlocked = unlocked; unwritten = unwritten }; history = refl }
 
 unmade-raised : (v u : View) → IsUnmade v u → IsRaised v.history.front v u
 unmade-raised v u m = record { carried = m.carried; history = m.history }
@@ -98,7 +101,7 @@ module _ (n : ℕ) where
   found-left place x v u o p f = found-later place x (known_of v o) (known_of u p) (known_of (left n u) p) f (last_steps n u.gate.holds u.gate.fence u.gate.algorithm) refl
 
   pub ends-left : (v u : View) (o : Own) → Carried v u → Grows (known_of v o) (known_of (left n u) o) → Ends (known_of v o) (known_of (left n u) o)
-  ends-left v u o c grows = record { idle = (refl, refl, refl, refl); grows = grows; alg = c.named; base = c.base; installs = ap reverse c.installs }
+  ends-left v u o c grows = record { idle = (refl, refl, refl, refl, unlocked-of u.gate.algorithm u.lock.taken u.tml.writer c.unlocked c.unwritten); grows = grows; alg = c.named; base = c.base; installs = ap reverse c.installs }
 
   raised-ends : (t : ℕ) (v u : View) (o : Own) → IsRaised t v u → v.history.front ≤ t → Ends (known_of v o) (known_of (left n u) o)
   raised-ends t v u o m up = let k = trail-left v u m.carried in ends-left v u o m.carried (record {

@@ -130,7 +130,7 @@ module _ (c : Config) (n : ℕ) where
     pub looked-closed : (u w : View) (o : Own) → HoldsClosed (known_of u o) → LooksOn u w → Looked good c n (known_of u o) (known_of w o)
     looked-closed u w o h a = subst (λ (y : View). Looked good c n (known_of u o) (known_of y o)) (sym a.is) (record {
       closed = record {
-        holds = record { phase = h.phase; running = h.running; closing = h.closing; holds = h.holds; ungranted = granted-same u.gate.algorithm (record u.gate { checked = a.checked }) u.gate u.lock refl ∙ h.ungranted };
+        holds = record { phase = h.phase; running = h.running; closing = h.closing; holds = h.holds; ungranted = granted-same u.gate.algorithm (record u.gate { checked = a.checked }) u.gate u.lock refl ∙ h.ungranted; unlocked = h.unlocked };
         made = refl;
         grows = grows-same (known_of u o) (known_of (looked u a.checked (a.more ++ u.steps.trail)) o) refl refl a.more refl refl refl refl;
         checked = a.kept;
@@ -140,6 +140,7 @@ module _ (c : Config) (n : ℕ) where
       alg = refl;
       rises = refl;
       installs = refl;
+      fence = refl;
     })
 
     pub looks-closed : (r : Look) (u w : View) (o p : Own) → p ≡ o → HoldsClosed (known_of u o) → LooksUntil c n good r u w → Looks good c n r (known_of u o) (known_of w p)

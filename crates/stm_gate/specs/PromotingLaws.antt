@@ -1,5 +1,5 @@
 -- What the steps by which an attempt comes to be alone come to.
-use Rattle.std.proofs.Common.{ℕ, ◌≡◌, ◌≢◌, ◌<◌, ◌+◌, List, [], ◌∷◌, ◌++◌, Bool, true, false, refl, sym, ap, ◌∙◌, arith, subst, append_assoc}
+use Rattle.std.proofs.Common.{ℕ, ◌≡◌, ◌≢◌, ◌<◌, ◌+◌, List, [], ◌∷◌, ◌++◌, Bool, true, false, refl, sym, ap, ◌∙◌, arith, subst, append_assoc, inl}
 use Rattle.std.proofs.lemmas.Bool.Decides.{nat_tests}
 use Rattle.std.specs.Prelude.{Some, None, not, ◌==◌, ◌&&◌, ◌||◌, if◌then◌else◌}
 use Rattle.stm_model.specs.Algorithms.{closes_gate, irrevocable_under}
@@ -27,7 +27,7 @@ use Rattle.stm_rule.specs.Findings.{FindsGate, FindsTaken}
 use Rattle.tx_answers.specs.declared.answers.Look.TheVariants as looks
 use Rattle.tx_answers.specs.Answers.{Waits, IsOpaque, OfUnseen}
 use Rattle.tx_answers.specs.Evidence.{Untouched}
-use Rattle.tx_answers.specs.Known.{known_of, granted_under, written_under, kept_under, is_irrevocable, is_in, is_closing}
+use Rattle.tx_answers.specs.Known.{known_of, granted_under, locked_under, written_under, kept_under, is_irrevocable, is_in, is_closing}
 use Rattle.tx_answers.specs.KnownLaws.{grows-same}
 use Rattle.stm_gate.specs.InnerLaws.{granted-same}
 use Rattle.stm_gate.specs.KeptLaws.{kept-same}
@@ -127,6 +127,7 @@ module _ (c : Config) (n : ℕ) where
         later = omega arith;
         installs = refl;
         depth = refl;
+        locked = inl (ap (λ (a : Alg). locked_under a v.lock.taken v.tml.writer) algorithm);
       };
       still = refl;
       uncommitted = quiet;

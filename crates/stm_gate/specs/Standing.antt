@@ -62,13 +62,15 @@ module _ {K : Type 0} where
 pub record IsDirect (l : Local) (v : View) : Type 0 where
   pub granted : v.gate.granted ≡ true
   pub calm : v.gate.calm ≡ true
+  pub unlocked : v.lock.taken ≡ false
+  pub unwritten : v.tml.writer ≡ false
   pub clean : l.wrote ≡ false → v.attempt.stores ≡ []
   pub dirty : l.wrote ≡ true → v.attempt.stores ≢ []
   pub rises : v.steps.rises ≡ v.steps.rises_at_begin
   pub limit : l.start + entry_rise l.algorithm ≤ CLOCK_LIMIT
 
 direct-of : (l : Local) (v : View) → IsPromoted l v → IsDirect l v
-direct-of l v p = record { granted = p.granted; calm = p.calm; clean = p.clean; dirty = p.dirty; rises = p.rises; limit = p.limit }
+direct-of l v p = record { granted = p.granted; calm = p.calm; unlocked = p.clear.unlocked; unwritten = p.clear.unwritten; clean = p.clean; dirty = p.dirty; rises = p.rises; limit = p.limit }
 
 module _ (good : List ℕ → Type 0) (c : Config) (n : ℕ) (l : Local) (v : View) where
   closed_alg : (a : Alg) → closes_gate a ≡ true → (gate : GateView) (lock : LockView) → granted_under a gate lock ≡ true → gate.granted ≡ true
@@ -90,7 +92,7 @@ module _ (good : List ℕ → Type 0) (c : Config) (n : ℕ) (l : Local) (v : Vi
   by-alg Tml false e g k = absurd cc
   by-alg OrecLazy true e g k = direct-of l v k
   by-alg OrecLazy false e g k = absurd cc
-  by-alg OrecEager true e g k = record { granted = k.granted; calm = k.calm; clean = k.clean; dirty = k.dirty; rises = k.rises; limit = k.limit }
+  by-alg OrecEager true e g k = record { granted = k.granted; calm = k.calm; unlocked = k.unlocked; unwritten = k.unwritten; clean = k.clean; dirty = k.dirty; rises = k.rises; limit = k.limit }
   by-alg OrecEager false e g k = absurd cc
   by-alg RingSw true e g k = direct-of l v k
   by-alg RingSw false e g k = absurd cc

@@ -1,10 +1,12 @@
 -- What the begin of an algorithm asks and tells, where the caller is not between two calls.
 use Rattle.std.specs.Prelude.{ℕ, ◌≡◌, ◌<◌, ◌≤◌, true, false, List, [], Result, Ok, Err}
-use Rattle.stm_model.specs.Algorithms.{asks_at_begin}
+use Rattle.stm_model.specs.Algorithms.{asks_at_begin, takes_lock}
 use Rattle.stm_model.specs.declared.alg.Alg.{Alg}
 use Rattle.stm_model.specs.declared.config.Config.{Config}
+use Rattle.rule_base.specs.declared.layout.At.TheVariants.{Lock}
 use Rattle.rule_base.specs.declared.views.Phase.TheVariants.{In}
 use Rattle.rule_base.specs.declared.views.View.{View}
+use Rattle.rule_base.specs.Encodings.{taken_lock}
 use Rattle.rule_base.specs.Own.{Own}
 use Rattle.stm_rule.specs.declared.local.Local.{Local}
 use Rattle.stm_rule.specs.Attempts.{IsFenceOf, IsClear, IsInside, begun}
@@ -12,7 +14,7 @@ use Rattle.tx_answers.specs.declared.answers.Begin.{Begin}
 use Rattle.tx_answers.specs.declared.answers.Begin.TheVariants.{Begun, Closed, Held, ClockFull}
 use Rattle.tx_answers.specs.Answers.{HasOthers, IsHeld, IsOpaque, start_word}
 use Rattle.tx_answers.specs.Causes.{FindsFull}
-use Rattle.tx_answers.specs.Evidence.{Found}
+use Rattle.tx_answers.specs.Evidence.{Found, Exchanged}
 use Rattle.tx_answers.specs.Known.{Known, Grows, known_of, no_log}
 
 -- the caller found the gate open under this algorithm
@@ -52,6 +54,9 @@ module _ (good : List ℕ → Type 0) (c : Config) (n : ℕ) (alg : Alg) where
     pub bare : w.kept ≡ []
     pub granted : w.granted ≡ false
     pub opaque : IsOpaque good c n w
+    -- with a lock, it was found free, and is held
+    pub locked : w.locked ≡ takes_lock alg
+    pub took : takes_lock alg ≡ true → Exchanged Lock 0 (taken_lock n) v w
 
   pub record StartsAt (start : ℕ) (v w : View) : Type 0 where
     pub inside : (l : Local) → IsFenceOf l w → l.holds ≡ false → IsInside good c n (begun alg start l) w

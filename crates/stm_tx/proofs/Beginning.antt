@@ -1,6 +1,7 @@
 -- What the steps of a try to begin come to.
-use Rattle.std.proofs.Common.{ℕ, ◌≡◌, ◌≢◌, ◌<◌, List, [], ◌∷◌, ◌++◌, true, false, refl, sym, ap, ◌∙◌, arith, subst}
+use Rattle.std.proofs.Common.{ℕ, ◌≡◌, ◌≢◌, ◌<◌, List, [], ◌∷◌, ◌++◌, true, false, refl, sym, ap, ◌∙◌, arith, subst, append_assoc}
 use Rattle.std.proofs.lemmas.Bool.Decides.{nat_tests}
+use Rattle.std.proofs.lemmas.List.Elements.{Contains-append_left}
 use Rattle.std.specs.Prelude.{◌^◌, ◌==◌, if◌then◌else◌, Some, None, reverse}
 use Rattle.stm_model.specs.Algorithms.{asks_at_begin}
 use Rattle.stm_model.specs.declared.alg.Alg.{Alg}
@@ -8,11 +9,11 @@ use Rattle.stm_model.specs.declared.alg.Alg.TheVariants.{Cgl, Tml, OrecLazy, Ore
 use Rattle.stm_model.specs.declared.config.Config.{Config}
 use Rattle.rule_base.specs.declared.layout.At.{At}
 use Rattle.rule_base.specs.declared.layout.At.TheVariants.{Clock, Lock, Gate, Status}
-use Rattle.rule_base.specs.declared.views.Act.TheVariants.{Load, Store}
+use Rattle.rule_base.specs.declared.views.Act.TheVariants.{Load, Store, Exchange}
 use Rattle.rule_base.specs.declared.views.Phase.TheVariants.{In, Turned}
 use Rattle.rule_base.specs.declared.views.TrailItem.{TrailItem}
 use Rattle.rule_base.specs.declared.views.View.{View}
-use Rattle.rule_base.specs.Encodings.{holder_of, alg_of, fence_of, announced}
+use Rattle.rule_base.specs.Encodings.{holder_of, alg_of, fence_of, announced, taken_lock}
 use Rattle.rule_base.specs.GateSteps.{announce, load_gate, depart, departed}
 use Rattle.rule_base.specs.Own.{Own}
 use Rattle.rule_base.specs.StepKinds.{Nothing, Tells, view_after}
@@ -24,14 +25,23 @@ use Rattle.tx_answers.specs.declared.answers.Begin.{Begin}
 use Rattle.tx_answers.specs.declared.answers.Begin.TheVariants.{Begun, Closed, Held, ClockFull}
 use Rattle.tx_answers.specs.Answers.{Begins, BeginsAt, FindsOpen, Stays, IsHeld, start_word}
 use Rattle.tx_answers.specs.Causes.{NamesOther}
-use Rattle.tx_answers.specs.Evidence.{Found}
-use Rattle.tx_answers.specs.Known.{Grows, known_of, is_in, is_closing}
+use Rattle.tx_answers.specs.Evidence.{Found, Exchanged}
+use Rattle.tx_answers.specs.Known.{Known, Grows, known_of, is_in, is_closing}
 use Rattle.tx_answers.specs.KnownLaws.{grows-same, grows-trans}
+use Rattle.stm_gate.specs.InnerLaws.{unlocked-of}
 use Rattle.stm_gate.specs.LeavingLaws.{found-later, found-earlier, finds-full}
 use Rattle.stm_gate.specs.Starts.{CanBegin, Waits, IsFresh, StartsAt, Refuses}
 
 two : (k n callers : ℕ) → k < callers → n < callers → k ≢ n → 1 < callers
 two k n callers a b apart = grind arith
+
+-- an exchange from a later moment on, as seen from before
+exchanged-earlier : (p : At) (old new : ℕ) (u v w : Known) → Exchanged p old new v w → (more : List TrailItem) → v.trail ≡ more ++ u.trail → Exchanged p old new u w
+exchanged-earlier p old new u v w f more t = (
+  f.0 ++ more,
+  f.1 ∙ (ap (λ s. f.0 ++ s) t ∙ sym (append_assoc f.0 more u.trail)),
+  Contains-append_left f.0 more (record { place = p; act = Exchange old new; found = Some old }) f.2,
+)
 
 module _ (good : List ℕ → Type 0) (c : Config) (n : ℕ) where
   abbrev pub looked : World → World → View → ℕ → View
@@ -80,13 +90,15 @@ module _ (good : List ℕ → Type 0) (c : Config) (n : ℕ) where
     rises = b.rises;
     base = b.base;
     installs = b.installs;
+    locked = b.locked;
+    took = b.took;
   }
 
   pub tells-closed : (gate : ℕ) (v s t w : View) (o : Own) → n < c.callers → IsOutside v → holder_of gate ≢ 0 → Tells (announce n) Nothing v 1 s → Tells load_gate (FindsGate c n) s gate t → Tells (depart n) Nothing t 0 w
       → Begins good c n (Closed gate) (known_of v o) (known_of w o)
   tells-closed gate v s t w o low out other a l d = subst (λ (y : View). Begins good c n (Closed gate) (known_of v o) (known_of y o)) (sym path) (
     record {
-      idle = (ap (λ b. departed (if b then In else Turned)) apart, ap (λ b. is_in (departed (if b then In else Turned))) apart, ap (λ b. is_closing (departed (if b then In else Turned))) apart, out.reopened);
+      idle = (ap (λ b. departed (if b then In else Turned)) apart, ap (λ b. is_in (departed (if b then In else Turned))) apart, ap (λ b. is_closing (departed (if b then In else Turned))) apart, out.reopened, unlocked-of last.gate.algorithm v.lock.taken v.tml.writer out.clear.unlocked out.clear.unwritten);
       made = refl;
       grows = grows-same (known_of v o) (known_of last o) refl refl (record { place = Status n; act = Store 0; found = None } ∷ first_steps gate) refl refl refl refl;
       rises = refl;
@@ -152,6 +164,8 @@ module _ (good : List ℕ → Type 0) (c : Config) (n : ℕ) where
           rises = q.keeps.rises ∙ same (λ y. y.steps.rises);
           base = sym b.rises ∙ (q.keeps.rises ∙ same (λ y. y.steps.rises));
           installs = q.keeps.installs ∙ same (λ y. reverse y.steps.installs);
+          locked = q.locked;
+          took = λ takes. exchanged-earlier Lock 0 (taken_lock n) (known_of v o) (known_of t o) (known_of w o) (q.took takes) (first_steps gate) trail-looked;
         }
 
     -- a refusal, after the caller has departed
@@ -161,7 +175,7 @@ module _ (good : List ℕ → Type 0) (c : Config) (n : ℕ) where
 
       pub stays : Waits (alg_of gate) t u → Stays (known_of v o) (known_of w o)
       stays b = let q = b.keeps o in subst (λ (y : View). Stays (known_of v o) (known_of y o)) (sym d.2) (record {
-        idle = (ap departed b.can.phase, ap (λ p. is_in (departed p)) b.can.phase, ap (λ p. is_closing (departed p)) b.can.phase, b.can.reopened);
+        idle = (ap departed b.can.phase, ap (λ p. is_in (departed p)) b.can.phase, ap (λ p. is_closing (departed p)) b.can.phase, b.can.reopened, unlocked-of u.gate.algorithm u.lock.taken u.tml.writer b.can.clear.unlocked b.can.clear.unwritten);
         made = q.made ∙ same (λ y. (known_of y o).made);
         grows = grows-trans (known_of v o) (known_of u o) (known_of (view_after (depart n) d.0 u 0) o) (grows-trans (known_of v o) (known_of t o) (known_of u o) grows-looked q.grows)
             (grows-same (known_of u o) (known_of (view_after (depart n) d.0 u 0) o) refl refl (record { place = Status n; act = Store 0; found = None } ∷ []) refl refl refl refl);

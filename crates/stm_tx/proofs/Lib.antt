@@ -2,3 +2,4 @@ pub mod Beginning
 pub mod Stopping
 pub mod CostLaws
 pub mod MarkLaws
+pub mod FixedLaws

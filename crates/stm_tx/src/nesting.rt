@@ -104,8 +104,8 @@ pub fn marks<K: MemRule>(desc: &Desc<K>) -> usize
     }
 }
 
-/// The law of a mark: where an attempt is marked, goes on, and is rolled back to that mark, what it has written is what
-/// it had written there.
+/// The law of a mark: where an attempt is marked, goes on, maybe with further marks, and is rolled back to that mark, what
+/// it has written is what it had written there.
 pub fn rolls_to_its_mark<K: MemRule>()
     ensures { (rule : K) → RollsToMark (K.good rule) }
 {}

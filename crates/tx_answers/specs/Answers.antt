@@ -1,6 +1,6 @@
 -- When each answer comes, and what stands after it.
 use Rattle.std.specs.Prelude.{ℕ, ◌≡◌, ◌||◌, ◌≢◌, ◌<◌, ◌≤◌, ◌+◌, ◌%◌, ◌^◌, ◌⊎◌, max, min, not, if◌then◌else◌, Some, None, Bool, true, false, List, [], ◌∷◌, ◌++◌, ◌-◌, length, get_or, take}
-use Rattle.stm_model.specs.Algorithms.{asks_at_begin, asks_at_write, asks_at_commit, asks_at_grant, closes_gate, entry_rise, logs_writes, quit_rise, install_rise}
+use Rattle.stm_model.specs.Algorithms.{asks_at_begin, asks_at_write, asks_at_commit, asks_at_grant, closes_gate, entry_rise, logs_writes, quit_rise, install_rise, takes_lock}
 use Rattle.stm_model.specs.declared.alg.Alg.{Alg}
 use Rattle.stm_model.specs.declared.alg.Alg.TheVariants.{Cgl, Tml, OrecLazy, OrecEager, RingSw, Serial}
 use Rattle.stm_model.specs.declared.config.Config.{Config}
@@ -13,7 +13,7 @@ use Rattle.rule_base.specs.declared.layout.At.TheVariants.{Clock, Lock, Gate, Do
 use Rattle.rule_base.specs.declared.views.Phase.TheVariants.{Closing}
 use Rattle.rule_base.specs.declared.views.TrailItem.{TrailItem}
 use Rattle.rule_base.specs.Bridge.{addresses}
-use Rattle.rule_base.specs.Encodings.{holder_of, alg_of, fence_of}
+use Rattle.rule_base.specs.Encodings.{holder_of, alg_of, fence_of, taken_lock}
 use Rattle.rule_base.specs.History.{member}
 use Rattle.tx_answers.specs.declared.answers.Begin.{Begin}
 use Rattle.tx_answers.specs.declared.answers.Begin.TheVariants.{Begun, Closed, Held, ClockFull}
@@ -39,7 +39,7 @@ use Rattle.tx_answers.specs.declared.answers.Write.{Write}
 use Rattle.tx_answers.specs.declared.answers.Write.TheVariants.{Done, Conflict, Full, ClockFull}
 use Rattle.tx_answers.specs.Causes.{Asked, FindsFull, NamesOther, Conflicts, IsAgain, OwesValidation, reads_full, writes_full}
 use Rattle.tx_answers.specs.Causes.Asked.{ForWord, ToCommit, ToPromote}
-use Rattle.tx_answers.specs.Evidence.{Found}
+use Rattle.tx_answers.specs.Evidence.{Found, Exchanged}
 use Rattle.tx_answers.specs.Known.{Known, Grows, IsIdle, is_irrevocable, wrote, has_written, no_log, zeros}
 
 -- the entry that a commit makes of the log: the caller has made this many before
@@ -82,6 +82,10 @@ write_rise OrecEager irrevocable = 0
 write_rise RingSw irrevocable = 0
 write_rise Serial irrevocable = 0
 
+-- who wrote under TML, and wasn't promoted, has made the clock odd
+abbrev pub WritesLocked : Known → Type 0
+WritesLocked w = w.alg ≡ Tml → w.granted ≡ false → w.locked ≡ true
+
 -- what has an item after a write of a: once irrevocable, and under who keeps no such log, nothing more
 abbrev pub kept_with : ℕ → Known → List ℕ
 kept_with a v = if not (logs_writes v.alg) || (is_irrevocable v || member v.kept a) then v.kept else v.kept ++ a ∷ []
@@ -94,6 +98,10 @@ kept_rolled OrecLazy kept writes = addresses writes
 kept_rolled OrecEager kept writes = kept
 kept_rolled RingSw kept writes = addresses writes
 kept_rolled Serial kept writes = kept
+
+-- who holds the lock keeps it, and none is taken, but the clock by TML's first write
+abbrev pub KeepsLock : Known → Known → Type 0
+KeepsLock v w = (w.locked ≡ v.locked) ⊎ ((v.alg ≡ Tml) × (w.locked ≡ true))
 
 -- the attempt stays open, with or without the gate
 pub record Continues (v w : Known) : Type 0 where
@@ -108,6 +116,7 @@ pub record Continues (v w : Known) : Type 0 where
   pub later : v.start ≤ w.start
   pub installs : w.installs ≡ v.installs
   pub depth : w.depth ≡ v.depth
+  pub locked : KeepsLock v w
 
 -- the attempt stays open, and all but its log and its marks is as it was
 pub record StaysOpen (v w : Known) : Type 0 where
@@ -125,6 +134,7 @@ pub record StaysOpen (v w : Known) : Type 0 where
   pub granted : w.granted ≡ v.granted
   pub holds : w.holds ≡ v.holds
   pub checked : w.checked ≡ v.checked
+  pub locked : w.locked ≡ v.locked
 
 -- the attempt stays open after what was asked of it, and as it was toward the others
 pub record GoesOn (c : Config) (asked : Asked) (v w : Known) : Type 0 where
@@ -157,6 +167,7 @@ pub record HoldsClosed (w : Known) : Type 0 where
   pub closing : w.closing ≡ true
   pub holds : w.holds ≡ true
   pub ungranted : w.granted ≡ false
+  pub unlocked : w.locked ≡ false
 
 -- a call on the gate that the caller holds, but for what it is for: no caller seen idle is forgotten
 pub record KeepsClosed (v w : Known) : Type 0 where
@@ -230,6 +241,9 @@ module _ (good : List ℕ → Type 0) (c : Config) (n : ℕ) where
     pub rises : w.rises ≡ v.rises
     pub base : w.base ≡ v.rises
     pub installs : w.installs ≡ v.installs
+    -- an algorithm with a lock found it free, and holds it
+    pub locked : w.locked ≡ takes_lock alg
+    pub took : takes_lock alg ≡ true → Exchanged Lock 0 (taken_lock n) v w
 
   -- another caller has the lock, or under TML the clock
   abbrev pub IsHeld : Alg → ℕ → Known → Known → Type 0
@@ -262,7 +276,7 @@ module _ (good : List ℕ → Type 0) (c : Config) (n : ℕ) where
 
   -- what `write` of x at a tells
   abbrev pub HasWritten : ℕ → ℕ → Write → Known → Known → Type 0
-  HasWritten a x Done v w = GoesOn c (ForWord a) v w × (w.committing ≡ false) × Writes v.log a x w.log × IsOpaque w × (writes_full a v ≡ false) × (w.kept ≡ kept_with a v)
+  HasWritten a x Done v w = GoesOn c (ForWord a) v w × (w.committing ≡ false) × Writes v.log a x w.log × IsOpaque w × (writes_full a v ≡ false) × (w.kept ≡ kept_with a v) × WritesLocked w
   HasWritten a x (Conflict cause) v w = Quits v w × Conflicts c n (ForWord a) cause v w × HasOthers × (writes_full a v ≡ false)
   HasWritten a x (Full limit) v w = Quits v w × (writes_full a v ≡ true) × (limit ≡ v.writes_limit)
   HasWritten a x (ClockFull clock) v w = Quits v w × (asks_at_write v.alg ≡ true) × FindsFull clock v w × (writes_full a v ≡ false)
@@ -393,13 +407,14 @@ module _ (good : List ℕ → Type 0) (c : Config) (n : ℕ) where
     pub alg : w.alg ≡ v.alg
     pub rises : w.rises ≡ v.rises
     pub installs : w.installs ≡ v.installs
+    pub fence : w.fence ≡ v.fence
 
   -- what `look` tells
   abbrev pub Looks : Look → Known → Known → Type 0
   Looks looks.Quiet v w = Looked v w × SeesQuiet w
   Looks (looks.Busy caller status) v w = Looked v w × IsBusy caller status v w
 
-  -- what `install` does: the gate stays closed, under this algorithm, with BASE and DONE at the clock
+  -- what `install` does: the gate stays closed, with its fence, under this algorithm, with BASE and DONE at the clock
   pub record Installs (alg : Alg) (v w : Known) : Type 0 where
     pub closed : KeepsClosed v w
     pub quiet : SeesQuiet w
@@ -407,6 +422,7 @@ module _ (good : List ℕ → Type 0) (c : Config) (n : ℕ) where
     pub named : w.alg ≡ alg
     pub rises : (v.rises ≤ w.rises) × (w.rises ≤ v.rises + install_rise alg)
     pub installs : w.installs ≡ v.installs ++ alg ∷ []
+    pub fence : w.fence ≡ v.fence
 
   -- what `reopen` does
   abbrev pub Reopens : Known → Known → Type 0

@@ -10,6 +10,10 @@ use Rattle.tx_answers.specs.Known.{Known}
 abbrev pub Found : At → ℕ → Known → Known → Type 0
 Found place n v w = (more : List TrailItem) × (w.trail ≡ more ++ v.trail) × (act : Act) × Contains more (record { place = place; act = act; found = Some n })
 
+-- an exchange between the two found the number that it wanted, and stored this one
+abbrev pub Exchanged : At → ℕ → ℕ → Known → Known → Type 0
+Exchanged place old new v w = (more : List TrailItem) × (w.trail ≡ more ++ v.trail) × Contains more (record { place = place; act = Exchange old new; found = Some old })
+
 -- an exchange between the two wanted a number, and found another one
 abbrev pub Refused : At → ℕ → ℕ → Known → Known → Type 0
 Refused place wanted n v w = (wanted ≢ n) × (more : List TrailItem) × (w.trail ≡ more ++ v.trail) × (new : ℕ) × Contains more (record { place = place; act = Exchange wanted new; found = Some n })

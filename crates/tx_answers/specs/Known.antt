@@ -72,6 +72,8 @@ pub record Known : Type 0 where
   pub reads_limit : ℕ
   pub writes_limit : ℕ
   pub fenced : Fenced
+  -- it holds the lock, beside which nobody else has it: the lock word, or under TML the odd clock
+  pub locked : Bool
 
 abbrev pub is_in : Phase → Bool
 is_in Idle = false
@@ -114,6 +116,15 @@ granted_under OrecLazy gate lock = gate.granted
 granted_under OrecEager gate lock = gate.granted
 granted_under RingSw gate lock = gate.granted
 granted_under Serial gate lock = lock.irrevocable
+
+-- what an attempt locks all others out by: the lock that it took, or under TML that it is the writer
+abbrev pub locked_under : Alg → Bool → Bool → Bool
+locked_under Cgl taken writer = taken
+locked_under Tml taken writer = writer
+locked_under OrecLazy taken writer = taken
+locked_under OrecEager taken writer = taken
+locked_under RingSw taken writer = taken
+locked_under Serial taken writer = taken
 
 -- what an attempt wrote: it lies in the heap, under a record that it holds, or still with the descriptor; once granted in the heap
 abbrev pub written_under : Alg → Bool → View → Own → List (ℕ × ℕ)
@@ -173,6 +184,7 @@ known_of v own = record {
   reads_limit = own.reads_limit;
   writes_limit = own.writes_limit;
   fenced = fenced_of v.fence;
+  locked = locked_under v.gate.algorithm v.lock.taken v.tml.writer;
 }
 
 abbrev pub is_none : List ℕ → Bool
@@ -192,9 +204,9 @@ no_log = record { reads = []; writes = [] }
 abbrev pub zeros : ℕ → List ℕ
 zeros words = replicate words 0
 
--- in no attempt, and without the gate
+-- in no attempt, and without the gate and the lock
 abbrev pub IsIdle : Known → Type 0
-IsIdle v = (v.phase ≡ Idle) × (v.running ≡ false) × (v.closing ≡ false) × (v.holds ≡ false)
+IsIdle v = (v.phase ≡ Idle) × (v.running ≡ false) × (v.closing ≡ false) × (v.holds ≡ false) × (v.locked ≡ false)
 
 -- in an attempt that is not in the middle of its commit
 abbrev pub IsRunning : Known → Type 0

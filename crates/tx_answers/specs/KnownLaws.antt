@@ -1,5 +1,5 @@
 -- Laws of what a caller knows.
-use Rattle.std.proofs.Common.{ℕ, ◌≡◌, ◌≤◌, ◌+◌, List, [], ◌∷◌, ◌++◌, refl, sym, ap, ◌∙◌, arith, append_assoc, le_refl, Bool, true, false}
+use Rattle.std.proofs.Common.{ℕ, ◌≡◌, ◌≤◌, ◌+◌, List, [], ◌∷◌, ◌++◌, refl, sym, ap, ◌∙◌, arith, append_assoc, le_refl, Bool, true, false, inl, inr}
 use Rattle.std.specs.Prelude.{Some, not, ◌==◌, if◌then◌else◌}
 use Rattle.std.proofs.lemmas.Bool.Decides.{nat_tests}
 use Rattle.std.proofs.lemmas.List.{append-nil}
@@ -14,7 +14,7 @@ use Rattle.stm_model.specs.PlainLaws.{put-item}
 use Rattle.rule_base.specs.declared.views.Phase.{Phase}
 use Rattle.rule_base.specs.declared.views.Phase.TheVariants.{Idle, Announced, Turned, Aiming, In, Closing}
 use Rattle.rule_base.specs.declared.views.TrailItem.{TrailItem}
-use Rattle.tx_answers.specs.Answers.{GoesOn, Quits}
+use Rattle.tx_answers.specs.Answers.{GoesOn, KeepsLock, Quits}
 use Rattle.tx_answers.specs.Causes.{Asked}
 use Rattle.tx_answers.specs.Known.{Known, Grows, owed, is_in, is_closing, is_irrevocable, wrote, has_written, IsUnrolled}
 
@@ -85,6 +85,11 @@ carries-trans u v w a b = record {
   going = λ r. let y = b.going r in let x = a.going y.running in record { running = x.running; start = (let m = x.start in let n = y.start in omega arith); granted = y.granted ∙ x.granted; holds = y.holds ∙ x.holds; depth = y.depth ∙ x.depth; marks = y.marks ∙ x.marks; unrolled = λ u. y.unrolled (x.unrolled u); fence = y.fence ∙ x.fence };
   irrevocable = λ r i. let m = a.irrevocable r i in b.irrevocable m.0 m.1;
 }
+
+pub lock-trans : (u v w : Known) → v.alg ≡ u.alg → KeepsLock u v → KeepsLock v w → KeepsLock u w
+lock-trans u v w alg (inl a) (inl b) = inl (b ∙ a)
+lock-trans u v w alg (inr a) (inl b) = inr (a.0, b ∙ a.1)
+lock-trans u v w alg a (inr b) = inr (sym alg ∙ b.0, b.1)
 
 some-item : (a x : ℕ) (ws : List (ℕ × ℕ)) → item_at a ws ≡ Some x → not (is_empty ws) ≡ true
 some-item a x [] h = absurd cc

@@ -6,3 +6,4 @@ pub mod Causes
 pub mod Answers
 pub mod KnownLaws
 pub mod Fences
+pub mod Limits

@@ -35,7 +35,7 @@ module _ {K : Type 0} (stm : Stm K) where
   -- those of a new memory
   pub opened-ready : (n : ℕ) (ds : List (Handle K)) → AllOpened stm n ds → AllReady stm n ds
   opened-ready n [] h = tt
-  opened-ready n (d ∷ ds) h = (h.0, h.1, subst (λ (v : View). IsIdle (known_of v d.own)) (sym h.2) (refl, refl, refl, refl), opened-ready (suc n) ds h.4)
+  opened-ready n (d ∷ ds) h = (h.0, h.1, subst (λ (v : View). IsIdle (known_of v d.own)) (sym h.2) (refl, refl, refl, refl, refl), opened-ready (suc n) ds h.4)
 
   -- as `close` asks for them, where the memory takes no fences
   pub ready-idle : stm.config.fence ≡ false → (n : ℕ) (ds : List (Handle K)) → AllReady stm n ds → AllIdle stm n ds

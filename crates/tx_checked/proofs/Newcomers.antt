@@ -33,7 +33,7 @@ module _ (stm : Stm AnyMem) where
   opened n i [] x h lt = absurd (omega arith)
   opened n zero (d ∷ ds) x h lt = let here : n ≡ n + 0 = omega arith in record {
     own = h.0;
-    idle = subst (λ (v : View). IsIdle (known_of v d.own)) (sym h.2) (refl, refl, refl, refl);
+    idle = subst (λ (v : View). IsIdle (known_of v d.own)) (sym h.2) (refl, refl, refl, refl, refl);
     number = ap caller_of h.1 ∙ here;
     made = ap (λ (v : View). (known_of v d.own).made) h.2;
     installs = ap (λ (v : View). (known_of v d.own).installs) h.2;

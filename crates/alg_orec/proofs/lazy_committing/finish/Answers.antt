@@ -57,6 +57,8 @@ returns-clause-finishes g c =
           installs = ap (λ (y : View). y.steps.installs) q.is ∙ ap (λ (y : View). y.steps.installs) p.is;
           fence = ap (λ (y : View). y.fence) q.is ∙ ap (λ (y : View). y.fence) p.is;
           trail = (q.more ++ p.more, ap (λ (y : View). y.steps.trail) q.is ∙ (ap (λ (y : View). q.more ++ y.steps.trail) p.is ∙ sym (append_assoc q.more p.more v.steps.trail)));
+          unlocked = ap (λ (y : View). y.lock.taken) q.is ∙ (ap (λ (y : View). y.lock.taken) p.is ∙ c.requires.view.unlocked);
+          unwritten = ap (λ (y : View). y.tml.writer) q.is ∙ (ap (λ (y : View). y.tml.writer) p.is ∙ c.requires.view.unwritten);
         };
         history = ap (λ (y : View). y.history) q.is ∙ ap (λ (y : View). y.history) p.is;
       };

@@ -118,7 +118,7 @@ returns-clause-gives_up g c =
     record {
       outside = c.leave.ensures.outside;
       before = s.view;
-      unmade = subst (λ (y : View). IsUnmade v y) (sym is) (record { carried = record { named = refl; base = refl; installs = refl; fence = refl; trail = (i.more, refl) }; history = refl });
+      unmade = subst (λ (y : View). IsUnmade v y) (sym is) (record { carried = record { named = refl; base = refl; installs = refl; fence = refl; trail = (i.more, refl); unlocked = c.requires.view.unlocked; unwritten = c.requires.view.unwritten }; history = refl });
       rises = ap (λ (y : View). y.steps.rises) is;
       is = ap (λ (y : SeatView g.row.K.Denot). y.view) c.leave.ensures.left;
     }

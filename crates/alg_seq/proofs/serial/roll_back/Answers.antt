@@ -34,7 +34,7 @@ returns-clause-gives_up g c =
     record {
       outside = c.leave.ensures.outside;
       before = c.free_lock.new.seat.me.0.view;
-      unmade = subst (λ (y : View). IsUnmade c.args.seat.now.me.0.view y) (sym (t.2 ∙ ap (λ (y : View). view_after free_lock t.0 y 0) is)) (record { carried = record { named = refl; base = refl; installs = refl; fence = refl; trail = (record { place = Lock; act = Store 0; found = None } ∷ c.take_back.ensures.back.more, refl) }; history = refl });
+      unmade = subst (λ (y : View). IsUnmade c.args.seat.now.me.0.view y) (sym (t.2 ∙ ap (λ (y : View). view_after free_lock t.0 y 0) is)) (record { carried = record { named = refl; base = refl; installs = refl; fence = refl; trail = (record { place = Lock; act = Store 0; found = None } ∷ c.take_back.ensures.back.more, refl); unlocked = refl; unwritten = (locked (g.K.MemRule.good c.args.stm.now.rule) c.args.stm.now.config c.args.caller c.args.local.now c.args.seat.now.me.0.view (ap takes_lock (c.requires.attempt.named ∙ c.requires.serial.0)) c.requires.attempt).unwritten }; history = refl });
       rises = ap (λ (y : View). y.steps.rises) (t.2 ∙ ap (λ (y : View). view_after free_lock t.0 y 0) is);
       is = ap (λ (y : SeatView g.row.K.Denot). y.view) c.leave.ensures.left;
     }
