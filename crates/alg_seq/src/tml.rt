@@ -6,12 +6,16 @@
 //! stores of the one writer, whose start is the clock less one. What a reader read is the memory at its start.
 ghost use Rattle.tx_answers.specs.Counting.{AddsAtMost};
 ghost use Rattle.std.specs.Prelude.{◌≡◌, ℕ, ◌<◌, false};
-ghost use Rattle.stm_rule.specs.Callers.{IsOf, IsSameCaller};
+ghost use Rattle.stm_rule.specs.Attempts.{IsFenceOf, IsOutside, ended};
+ghost use Rattle.stm_rule.specs.Callers.{IsOf, IsSameCaller, IsSeatOf};
+ghost use Rattle.stm_rule.specs.Counting.{TakesAtMost};
+ghost use Rattle.stm_rule.specs.Kept.{IsSameSeat, view_of};
 ghost use Rattle.tx_answers.specs.Answers.{HasWritten};
 ghost use Rattle.tx_answers.specs.Known.{IsRunning, is_irrevocable};
 ghost use Rattle.rule_base.specs.Encodings.{fenced};
 ghost use Rattle.stm_gate.specs.Knowing.{known, number};
 ghost use Rattle.stm_gate.specs.Granting.{IsAlone, Grants};
+ghost use Rattle.stm_gate.specs.Leaving.{CanLeave, left};
 
 use alg_calls::algorithm::Algorithm;
 use stm_gate::direct::{direct_commit, direct_load, direct_store};
@@ -22,6 +26,7 @@ use stm_model::config::CLOCK_LIMIT;
 use stm_model::rule::MemRule;
 use stm_model::stop::Cause;
 use stm_rule::desc::Desc;
+use stm_rule::local::Local;
 use stm_rule::stm::{Stm, Token};
 use tx_answers::answers::{Begin, Cancel, Commit, Irrev, Read, Roll, Write};
 
@@ -49,17 +54,16 @@ impl Algorithm for Tml {
         if desc.local.granted {
             return direct_load(desc, stm, a);
         }
-        let caller = desc.number;
-        let x = stm.tml_load(&mut desc.seat, caller, a);
+        let x = stm.tml_load(&mut desc.seat, desc.number, a);
         if desc.local.wrote {
             return Read::Value(x);
         }
-        let start = desc.local.start;
-        let clock = stm.tml_again(&mut desc.seat, caller);
-        if clock != start {
-            leave(&mut desc.seat, &mut desc.local, stm, caller);
+        let clock = stm.tml_again(&mut desc.seat, desc.number);
+        if clock != desc.local.start {
+            let caller = desc.number;
+            withdraw(&mut desc.seat, &mut desc.local, stm, caller);
             return Read::Conflict(Cause::Clock {
-                had: start,
+                had: desc.local.start,
                 now: clock,
             });
         }
@@ -82,6 +86,7 @@ impl Algorithm for Tml {
 
     /// Makes the clock even again where the attempt wrote. Two steps, three where it holds the gate; one and two
     /// where it wrote nothing.
+    #[inline(always)]
     fn commit<K: MemRule>(desc: &mut Desc<K>, stm: &Stm<K>) -> Commit {
         if desc.local.granted {
             return direct_commit(desc, stm);
@@ -145,7 +150,7 @@ impl Algorithm for Tml {
 }
 
 /// Makes the clock odd where it is still the start, and stores the word.
-#[inline(never)]
+#[inline(always)]
 fn first_write<K: MemRule>(desc: &mut Desc<K>, stm: &Stm<K>, a: usize, x: u64) -> Write
     requires stm { IsOf desc.old stm.now }
     requires running { IsRunning (known desc.old) }
@@ -161,19 +166,19 @@ fn first_write<K: MemRule>(desc: &mut Desc<K>, stm: &Stm<K>, a: usize, x: u64) -
     let start = desc.local.start;
     let clock = stm.tml_again(&mut desc.seat, caller);
     if clock != start {
-        leave(&mut desc.seat, &mut desc.local, stm, caller);
+        withdraw(&mut desc.seat, &mut desc.local, stm, caller);
         return Write::Conflict(Cause::Clock {
             had: start,
             now: clock,
         });
     }
     if clock >= CLOCK_LIMIT {
-        leave(&mut desc.seat, &mut desc.local, stm, caller);
+        withdraw(&mut desc.seat, &mut desc.local, stm, caller);
         return Write::ClockFull { clock };
     }
     let found = stm.tml_write(&mut desc.seat, caller, start);
     if found != start {
-        leave(&mut desc.seat, &mut desc.local, stm, caller);
+        withdraw(&mut desc.seat, &mut desc.local, stm, caller);
         return Write::Conflict(Cause::Clock {
             had: start,
             now: found,
@@ -182,6 +187,25 @@ fn first_write<K: MemRule>(desc: &mut Desc<K>, stm: &Stm<K>, a: usize, x: u64) -
     stm.tml_store(&mut desc.seat, caller, a, x);
     desc.local.wrote = true;
     Write::Done
+}
+
+/// Leaves, where an access is refused. Apart, so that the access stands in line. One step, two where it holds the gate.
+#[cold]
+#[inline(never)]
+fn withdraw<K: MemRule>(seat: &mut Token<K>, local: &mut Local, stm: &Stm<K>, caller: usize)
+    requires seat { IsSeatOf stm.now caller seat.old }
+    requires caller { caller < stm.now.config.callers }
+    requires view { CanLeave (view_of seat.old) }
+    requires holds { local.old.holds ≡ (view_of seat.old).gate.holds }
+    requires fence { IsFenceOf local.old (view_of seat.old) }
+    requires named { local.old.algorithm ≡ (view_of seat.old).gate.algorithm }
+    ensures same { IsSameSeat seat.old seat.new }
+    ensures left { seat.new.me.0 ≡ record seat.old.me.0 { view = left caller (view_of seat.old) } }
+    ensures outside { IsOutside (view_of seat.new) }
+    ensures idle { local.new ≡ ended local.old }
+    ensures steps { TakesAtMost 2 (view_of seat.old) (view_of seat.new) }
+{
+    leave(seat, local, stm, caller);
 }
 
 /// Loads the clock for a reader that is alone: it is promoted where that is its start, below the limit.

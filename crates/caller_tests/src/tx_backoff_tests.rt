@@ -21,4 +21,8 @@ fn pauses_longer_and_starts_over(rt: HostRuntime) {
     assert_eq!(rt; backoff, waited(6));
     backoff.reset();
     assert_eq!(rt; backoff, Backoff::new());
+    backoff.wait_at_commit();
+    assert_ne!(rt; backoff, Backoff::new());
+    backoff.reset();
+    assert_eq!(rt; backoff, Backoff::new());
 }

@@ -54,6 +54,7 @@ impl<'a, K: MemRule, C: Calls> Access for Live<'a, K, C> {
         match as_read(self.calls.read(self.desc, self.stm, a)) {
             Ok(value) => Ok(value),
             Err(stop) => {
+                self.calls.refused(a);
                 self.stopped = Some(stop);
                 Err(stop)
             }
@@ -65,6 +66,7 @@ impl<'a, K: MemRule, C: Calls> Access for Live<'a, K, C> {
         match as_write(self.calls.write(self.desc, self.stm, a, v)) {
             Ok(()) => Ok(()),
             Err(stop) => {
+                self.calls.refused(a);
                 self.stopped = Some(stop);
                 Err(stop)
             }

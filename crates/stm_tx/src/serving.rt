@@ -1,9 +1,9 @@
-//! Reads and writes by the algorithms that they serve. Code that is generic in them is compiled once for each
+//! Reads, writes and commits by the algorithms that they serve. Code that is generic in them is compiled once for each
 //! algorithm, with direct calls.
-ghost use Rattle.std.specs.Prelude.{◌≡◌, ◌<◌, false};
+ghost use Rattle.std.specs.Prelude.{◌≡◌, ◌<◌, true, false};
 ghost use Rattle.rule_base.specs.Encodings.{fenced};
 ghost use Rattle.stm_rule.specs.Callers.{IsOf, IsSameCaller};
-ghost use Rattle.tx_answers.specs.Answers.{HasRead, HasWritten};
+ghost use Rattle.tx_answers.specs.Answers.{HasRead, HasWritten, KeepsRule, Commits};
 ghost use Rattle.tx_answers.specs.Counting.{AddsAtMost};
 ghost use Rattle.tx_answers.specs.Known.{IsRunning};
 ghost use Rattle.stm_tx.specs.Costs.{costs};
@@ -17,14 +17,14 @@ use stm_model::alg::Alg;
 use stm_model::rule::MemRule;
 use stm_rule::desc::Desc;
 use stm_rule::stm::Stm;
-use tx_answers::answers::{Read, Write};
+use tx_answers::answers::{Commit, Read, Write};
 
-/// Reads and writes of attempts under the algorithms that it serves. What they do, and what they cost, is said at
-/// `calls::read` and `calls::write`.
+/// Reads, writes and commits of attempts under the algorithms that it serves. What they do, and what they cost, is said at
+/// `calls::read`, `calls::write` and `calls::commit`.
 pub trait Calls {
     ghost use Rattle.stm_model.specs.declared.alg.Alg.{Alg};
 
-    // whose reads and writes it makes in an attempt under this algorithm: it serves those that are their own
+    // whose calls it makes in an attempt under this algorithm: it serves those that are their own
     ghost acts_as: { Alg → Alg };
 
     fn read<K: MemRule>(&self, desc: &mut Desc<K>, stm: &Stm<K>, a: usize) -> Read
@@ -46,6 +46,22 @@ pub trait Calls {
         ensures same { IsSameCaller desc.old desc.new }
         ensures write { HasWritten (K.good stm.now.rule) stm.now.config (number desc.old) a x result (known desc.old) (known desc.new) }
         ensures steps { AddsAtMost (costs stm.now.config (known desc.old)).write (known desc.old) (known desc.new) };
+
+    fn commit<K: MemRule>(&self, desc: &mut Desc<K>, stm: &Stm<K>) -> Commit
+        requires stm { IsOf desc.old stm.now }
+        requires running { (known desc.old).running ≡ true }
+        requires served { acts_as (known desc.old).alg ≡ (known desc.old).alg }
+        requires keeps { KeepsRule (K.good stm.now.rule) stm.now.config (number desc.old) (known desc.old) }
+        ensures same { IsSameCaller desc.old desc.new }
+        ensures commits { Commits (K.good stm.now.rule) stm.now.config (number desc.old) result (known desc.old) (known desc.new) }
+        ensures steps { AddsAtMost (costs stm.now.config (known desc.old)).commit (known desc.old) (known desc.new) };
+
+    /// Is told that the read or write of the word at `a` was refused: so who keeps the address does nothing at an access that
+    /// was served.
+    #[inline]
+    fn refused(&self, a: usize) {
+        let _ = a;
+    }
 }
 
 /// Serves all, and looks at each call which algorithm the attempt runs under. An access of CGL is one load or store, less
@@ -70,6 +86,11 @@ impl Calls for AnyAlgorithm {
             Alg::Cgl => Cgl::write(desc, stm, a, x),
             _ => calls::write(desc, stm, a, x),
         }
+    }
+
+    #[inline(always)]
+    fn commit<K: MemRule>(&self, desc: &mut Desc<K>, stm: &Stm<K>) -> Commit {
+        calls::commit(desc, stm)
     }
 }
 
@@ -97,5 +118,10 @@ impl<A: Algorithm> Calls for Only<A> {
     #[inline(always)]
     fn write<K: MemRule>(&self, desc: &mut Desc<K>, stm: &Stm<K>, a: usize, x: u64) -> Write {
         A::write(desc, stm, a, x)
+    }
+
+    #[inline(always)]
+    fn commit<K: MemRule>(&self, desc: &mut Desc<K>, stm: &Stm<K>) -> Commit {
+        A::commit(desc, stm)
     }
 }

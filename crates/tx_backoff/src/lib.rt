@@ -18,46 +18,62 @@ const SHORTEST_AT_LOCK: u32 = 10;
 
 const LONGEST_AT_LOCK: u32 = 14;
 
+/// The shortest pause of a caller that another was faster than at a commit. That one is done, and the caller holds what it
+/// has taken while it waits.
+const SHORTEST_AT_COMMIT: u32 = 0;
+
 /// Pauses, each twice as long as the one before up to the longest. A wait takes no step on the memory.
 #[derive(Clone, Copy, Drop, Debug, PartialEq, Eq)]
 pub struct Backoff {
     /// The next pause, as a power of two.
     next: u32,
+    /// The next one at a commit.
+    at_commit: u32,
 }
 
 impl Backoff {
     pub fn new() -> Backoff {
-        Backoff { next: SHORTEST }
+        Backoff {
+            next: SHORTEST,
+            at_commit: SHORTEST_AT_COMMIT,
+        }
     }
 
     /// Another caller was faster, or has closed the gate: pauses 32, 64 and at last 1,024 times, and from then on lets
     /// another thread run behind each pause.
     pub fn wait(&mut self) {
-        self.pause(LONGEST);
+        self.next = pause(self.next, LONGEST);
     }
 
     /// Another caller's attempt has the lock, or has made the clock odd: pauses 1,024, 2,048 and at last 16,384 times,
     /// and lets another thread run behind each pause.
     pub fn wait_for_lock(&mut self) {
-        self.next = self.next.max(SHORTEST_AT_LOCK);
-        self.pause(LONGEST_AT_LOCK);
+        self.next = pause(self.next.max(SHORTEST_AT_LOCK), LONGEST_AT_LOCK);
+    }
+
+    /// Another caller was faster at the commit, which may be tried again: pauses once, 2 times and at last 1,024 times, and
+    /// from then on lets another thread run behind each pause.
+    pub fn wait_at_commit(&mut self) {
+        self.at_commit = pause(self.at_commit, LONGEST);
     }
 
     /// The caller got on: the next pause is the shortest.
     pub fn reset(&mut self) {
         self.next = SHORTEST;
+        self.at_commit = SHORTEST_AT_COMMIT;
     }
+}
 
-    fn pause(&mut self, longest: u32)
-        requires { longest ≤ LONGEST_AT_LOCK }
-    {
-        let now = self.next.min(longest);
-        for _ in 0..1u32 << now {
-            hint::spin_loop();
-        }
-        if now >= LONGEST {
-            thread::yield_now();
-        }
-        self.next = longest.min(now + 1);
+/// Pauses, and answers the pause after this one.
+fn pause(next: u32, longest: u32) -> u32
+    requires { longest ≤ LONGEST_AT_LOCK }
+{
+    let now = next.min(longest);
+    for _ in 0..1u32 << now {
+        hint::spin_loop();
     }
+    if now >= LONGEST {
+        thread::yield_now();
+    }
+    longest.min(now + 1)
 }

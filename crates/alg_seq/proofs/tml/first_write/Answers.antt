@@ -21,8 +21,8 @@ tml_again-clock-requires-clause-view g c =
     let p = revocable g.K.MemRule.good c.args.stm.now (opened g.K.MemRule.good c.args.stm.now c.desc.inside.number c.desc.inside.local c.desc.view_is refl c.desc.invariant.0.named c.desc.invariant.0.low c.desc.invariant.1 c.requires.stm) c.requires.running.0 c.requires.algorithm c.requires.revocable in
     laws.may-ask _ _ _ p.attempt p.clean
 
-pub leave-requires-clause-view : goal.leave-requires-clause-view
-leave-requires-clause-view g c =
+pub withdraw-requires-clause-view : goal.withdraw-requires-clause-view
+withdraw-requires-clause-view g c =
     let p = revocable g.K.MemRule.good c.args.stm.now (opened g.K.MemRule.good c.args.stm.now c.desc.inside.number c.desc.inside.local c.desc.view_is refl c.desc.invariant.0.named c.desc.invariant.0.low c.desc.invariant.1 c.requires.stm) c.requires.running.0 c.requires.algorithm c.requires.revocable in
     laws.may-leave-asked _ _ _ p.attempt _ _ p.clean (tells-of tml_again (FindsAgain _ _) _ _ _ c.tml_again-clock.ensures.step)
 
@@ -30,23 +30,23 @@ pub returns-then-clock-start-clause-write : goal.returns-then-clock-start-clause
 returns-then-clock-start-clause-write g c =
     let a = opened g.K.MemRule.good c.args.stm.now c.desc.inside.number c.desc.inside.local c.desc.view_is refl c.desc.invariant.0.named c.desc.invariant.0.low c.desc.invariant.1 c.requires.stm in
     let p = revocable g.K.MemRule.good c.args.stm.now a c.requires.running.0 c.requires.algorithm c.requires.revocable in
-    shows _ _ a (λ (n : ℕ) (v w : Known). HasWritten (g.K.MemRule.good c.args.stm.now.rule) c.args.stm.now.config n c.args.a c.args.x (writes.Conflict (causes.Clock c.desc.inside.local.start c.tml_again-clock.result)) v w) c.leave.new.seat.me.0.view c.leave.new.local (ap own_of c.leave.ensures.idle)
-    (laws.refused-asked _ _ _ p.attempt c.args.a c.args.x _ _ _ a.low p.clean (search rules) (tells-of tml_again (FindsAgain _ _) _ _ _ c.tml_again-clock.ensures.step) (ap (λ q. q.view) c.leave.ensures.left))
+    shows _ _ a (λ (n : ℕ) (v w : Known). HasWritten (g.K.MemRule.good c.args.stm.now.rule) c.args.stm.now.config n c.args.a c.args.x (writes.Conflict (causes.Clock c.desc.inside.local.start c.tml_again-clock.result)) v w) c.withdraw.new.seat.me.0.view c.withdraw.new.local (ap own_of c.withdraw.ensures.idle)
+    (laws.refused-asked _ _ _ p.attempt c.args.a c.args.x _ _ _ a.low p.clean (search rules) (tells-of tml_again (FindsAgain _ _) _ _ _ c.tml_again-clock.ensures.step) (ap (λ q. q.view) c.withdraw.ensures.left))
 
 pub returns-then-clock-ge-CLOCK_LIMIT-clause-write : goal.returns-then-clock-ge-CLOCK_LIMIT-clause-write
 returns-then-clock-ge-CLOCK_LIMIT-clause-write g c =
     let a = opened g.K.MemRule.good c.args.stm.now c.desc.inside.number c.desc.inside.local c.desc.view_is refl c.desc.invariant.0.named c.desc.invariant.0.low c.desc.invariant.1 c.requires.stm in
     let p = revocable g.K.MemRule.good c.args.stm.now a c.requires.running.0 c.requires.algorithm c.requires.revocable in
-    shows _ _ a (λ (n : ℕ) (v w : Known). HasWritten (g.K.MemRule.good c.args.stm.now.rule) c.args.stm.now.config n c.args.a c.args.x (writes.ClockFull c.tml_again-clock.result) v w) c.leave-then-clock-ge-CLOCK_LIMIT.new.seat.me.0.view c.leave-then-clock-ge-CLOCK_LIMIT.new.local (ap own_of c.leave-then-clock-ge-CLOCK_LIMIT.ensures.idle)
-    (laws.refused-full _ _ _ p.attempt c.args.a c.args.x _ _ _ p.clean (search rules) (tells-of tml_again (FindsAgain _ _) _ _ _ c.tml_again-clock.ensures.step) (ap (λ q. q.view) c.leave-then-clock-ge-CLOCK_LIMIT.ensures.left))
+    shows _ _ a (λ (n : ℕ) (v w : Known). HasWritten (g.K.MemRule.good c.args.stm.now.rule) c.args.stm.now.config n c.args.a c.args.x (writes.ClockFull c.tml_again-clock.result) v w) c.withdraw-then-clock-ge-CLOCK_LIMIT.new.seat.me.0.view c.withdraw-then-clock-ge-CLOCK_LIMIT.new.local (ap own_of c.withdraw-then-clock-ge-CLOCK_LIMIT.ensures.idle)
+    (laws.refused-full _ _ _ p.attempt c.args.a c.args.x _ _ _ p.clean (search rules) (tells-of tml_again (FindsAgain _ _) _ _ _ c.tml_again-clock.ensures.step) (ap (λ q. q.view) c.withdraw-then-clock-ge-CLOCK_LIMIT.ensures.left))
 
 pub tml_write-found-requires-clause-view : goal.tml_write-found-requires-clause-view
 tml_write-found-requires-clause-view g c =
     let p = revocable g.K.MemRule.good c.args.stm.now (opened g.K.MemRule.good c.args.stm.now c.desc.inside.number c.desc.inside.local c.desc.view_is refl c.desc.invariant.0.named c.desc.invariant.0.low c.desc.invariant.1 c.requires.stm) c.requires.running.0 c.requires.algorithm c.requires.revocable in
     laws.may-try _ _ _ p.attempt _ _ p.clean (search rules) (search rules) (tells-of tml_again (FindsAgain _ _) _ _ _ c.tml_again-clock.ensures.step)
 
-pub leave-requires-then-found-start-clause-view : goal.leave-requires-then-found-start-clause-view
-leave-requires-then-found-start-clause-view g c =
+pub withdraw-requires-then-found-start-clause-view : goal.withdraw-requires-then-found-start-clause-view
+withdraw-requires-then-found-start-clause-view g c =
     let p = revocable g.K.MemRule.good c.args.stm.now (opened g.K.MemRule.good c.args.stm.now c.desc.inside.number c.desc.inside.local c.desc.view_is refl c.desc.invariant.0.named c.desc.invariant.0.low c.desc.invariant.1 c.requires.stm) c.requires.running.0 c.requires.algorithm c.requires.revocable in
     laws.may-leave-tried _ _ _ p.attempt _ _ _ _ p.clean (search rules) (tells-of tml_again (FindsAgain _ _) _ _ _ c.tml_again-clock.ensures.step) (tells-of (tml_write c.desc.inside.local.start) (FindsSole c.args.stm.now.config) _ _ _ c.tml_write-found.ensures.step)
 
@@ -54,8 +54,8 @@ pub returns-then-found-start-clause-write : goal.returns-then-found-start-clause
 returns-then-found-start-clause-write g c =
     let a = opened g.K.MemRule.good c.args.stm.now c.desc.inside.number c.desc.inside.local c.desc.view_is refl c.desc.invariant.0.named c.desc.invariant.0.low c.desc.invariant.1 c.requires.stm in
     let p = revocable g.K.MemRule.good c.args.stm.now a c.requires.running.0 c.requires.algorithm c.requires.revocable in
-    shows _ _ a (λ (n : ℕ) (v w : Known). HasWritten (g.K.MemRule.good c.args.stm.now.rule) c.args.stm.now.config n c.args.a c.args.x (writes.Conflict (causes.Clock c.desc.inside.local.start c.tml_write-found.result)) v w) c.leave-then-found-start.new.seat.me.0.view c.leave-then-found-start.new.local (ap own_of c.leave-then-found-start.ensures.idle)
-    (laws.refused-tried _ _ _ p.attempt c.args.a c.args.x _ _ _ _ _ a.low p.clean (search rules) (tells-of tml_again (FindsAgain _ _) _ _ _ c.tml_again-clock.ensures.step) (tells-of (tml_write c.desc.inside.local.start) (FindsSole c.args.stm.now.config) _ _ _ c.tml_write-found.ensures.step) (ap (λ q. q.view) c.leave-then-found-start.ensures.left))
+    shows _ _ a (λ (n : ℕ) (v w : Known). HasWritten (g.K.MemRule.good c.args.stm.now.rule) c.args.stm.now.config n c.args.a c.args.x (writes.Conflict (causes.Clock c.desc.inside.local.start c.tml_write-found.result)) v w) c.withdraw-then-found-start.new.seat.me.0.view c.withdraw-then-found-start.new.local (ap own_of c.withdraw-then-found-start.ensures.idle)
+    (laws.refused-tried _ _ _ p.attempt c.args.a c.args.x _ _ _ _ _ a.low p.clean (search rules) (tells-of tml_again (FindsAgain _ _) _ _ _ c.tml_again-clock.ensures.step) (tells-of (tml_write c.desc.inside.local.start) (FindsSole c.args.stm.now.config) _ _ _ c.tml_write-found.ensures.step) (ap (λ q. q.view) c.withdraw-then-found-start.ensures.left))
 
 pub invariant_of-desc-2 : goal.invariant_of-desc-2
 invariant_of-desc-2 g c =
