@@ -339,14 +339,16 @@ static inline uint32_t nekchhaul_may_run(nekchhaul_caller *caller, int may_stop)
     if (s != NEKCHHAUL_OK) return s;
     if (at.stand == 0) return NEKCHHAUL_NO_ATTEMPT;
     if (at.range & 2) return NEKCHHAUL_RANGE_TAKEN;
-    return may_stop && (at.irrevocable || at.algorithm == NEKCHHAUL_TML) ? NEKCHHAUL_UNCANCELLABLE : NEKCHHAUL_OK;
+    if (may_stop && (at.irrevocable || at.algorithm == NEKCHHAUL_TML)) return NEKCHHAUL_UNCANCELLABLE;
+    return NEKCHHAUL_OK;
 }
 
 /* Runs a body as a part of the attempt that is open; with any answer but 0 that has ended. */
 static inline uint32_t nekchhaul_run(nekchhaul_caller *caller, nekchhaul_body body, void *argument)
 {
     uint32_t s = body(caller, argument);
-    return s != NEKCHHAUL_OK && nekchhaul_abandon(caller) == NEKCHHAUL_IRREVOCABLE ? (uint32_t)NEKCHHAUL_IRREVOCABLE : s;
+    if (s != NEKCHHAUL_OK && nekchhaul_abandon(caller) == NEKCHHAUL_IRREVOCABLE) return NEKCHHAUL_IRREVOCABLE;
+    return s;
 }
 
 /* What nekchhaul_atomically (where it `may_stop`) and nekchhaul_atomically_for_good do with a body inside a body of the same
