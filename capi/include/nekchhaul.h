@@ -309,6 +309,13 @@ NEKCHHAUL_INLINE const char *nekchhaul_status_name(uint32_t status)
 #undef NEKCHHAUL_NAME
 }
 
+/* Sizes to begin with, for so many words: 1,024 records, 64 ring slots, logs of 64 items, which the loops below lengthen. */
+NEKCHHAUL_INLINE nekchhaul_sizes nekchhaul_sizes_of(size_t words)
+{
+    nekchhaul_sizes sizes = { words, 1024, 64, 64, 64, 0 };
+    return sizes;
+}
+
 /* Hands a caller on: what stood there is no caller then. */
 NEKCHHAUL_INLINE nekchhaul_caller nekchhaul_move(nekchhaul_caller *from)
 {
