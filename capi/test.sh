@@ -46,6 +46,9 @@ compare numbers crate "the header has other numbers than crates/nekchhaul_c/src/
 { sed 's/ .*//' "$room/numbers" && echo UNCANCELLABLE && echo RETRY; } | sort >"$room/statuses"
 sed -n 's/^ *NEKCHHAUL_NAME(\([A-Z_]*\))$/\1/p' "$header" | sort >"$room/named"
 compare statuses named "a status has no name in nekchhaul_status_name"
+sed -n '/^```c$/,/^```$/{/^```/d;p;}' "$here/../docs/C.md" >"$room/shown"
+sed 1d "$here/examples/whole.c" >"$room/whole"
+compare shown whole "docs/C.md has another program than examples/whole.c"
 
 # compiled COMPILER SOURCE FLAG..: by that compiler, without a warning
 compiled() {
