@@ -138,6 +138,8 @@ fi
 if has python3 && has groff; then
     try "the manual page" groff -man -ww -z "$at/share/man/man3/nekchhaul.3"
     [ ! -s "$room/log" ] || fail "the manual page"
+    sed -n 's/^\.SS //p' "$at/share/man/man3/nekchhaul.3" | tr ' ' '\n' | grep '^nekchhaul_' | sort >"$room/paged"
+    compare declared paged "the manual page has other functions than the header"
 fi
 
 # What a call costs; valgrind sees each access of the library to the heap, and what is not freed; the thread sanitizer here

@@ -2,7 +2,8 @@
  *
  * A memory has words of 64 bits, and callers. A caller is a handle, by which one thread at a time runs attempts at
  * transactions: nekchhaul_begin, then nekchhaul_read and nekchhaul_write, then nekchhaul_commit. The whole program of
- * docs/C.md shows how; nekchhaul_atomically, below, runs a transaction until it commits.
+ * docs/C.md shows how; nekchhaul_atomically, below, runs a transaction until it commits. The library is for processors of
+ * x86-64-v2.
  *
  * ANSWERS. Every call returns, whatever was called before, and answers a nekchhaul_status. 0 is done. 1 to 15 say what
  * came in the way of the transaction. 16 and up say that the call didn't fit, or that no memory was opened: then nothing
