@@ -10,7 +10,6 @@
 set -eu
 here=$(cd "$(dirname "$0")" && pwd)
 crates=$here/../crates
-kit=${RATTLE_KIT:-$(dirname "$(rt doc)")}
 to=$here/build
 flags=
 room=$(mktemp -d)
@@ -60,6 +59,7 @@ if [ "${NEKCHHAUL_ARCHIVE:-}" ]; then
     ar x "$NEKCHHAUL_ARCHIVE"
     rm -f functions.o
 else
+    kit=${RATTLE_KIT:-$(dirname "$(rt doc)")}
     case ${1:-} in
     --unproved) follow "$here/unproved" nekchhaul_c.o ;;
     --asan) flags=-fsanitize=address to=$to/asan && follow "$here/unproved" nekchhaul_c.o address ;;
@@ -86,6 +86,8 @@ mkdir -p "$to"
 rm -f "$to"/libnekchhaul.*
 ld -r -o "$room/nekchhaul.o" ./*.o
 objcopy -w --keep-global-symbol='nekchhaul_*' "$room/nekchhaul.o"
+# (older runtimes of the thread sanitizer have these by the C library's names alone)
+for name in memcpy memmove memset; do objcopy --redefine-sym __tsan_$name=$name "$room/nekchhaul.o"; done
 # shellcheck disable=SC2086
 "$cc" -std=c11 -O2 -fPIC $flags -c "$here/functions.c" -o "$room/functions.o"
 ar rcs "$to/libnekchhaul.a" "$room/nekchhaul.o" "$room/functions.o"
