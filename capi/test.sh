@@ -85,8 +85,10 @@ for compiler in gcc clang; do
         done
     done
 done
+cxx=
 for compiler in g++ clang++; do
     has $compiler || continue
+    cxx=$compiler
     for example in bank calls counters; do
         compiled $compiler $example.cpp -std=c++17
         ran $example.cpp-$compiler
@@ -119,7 +121,7 @@ if has pkg-config; then
         try "that program" env LD_LIBRARY_PATH="$at/lib" "$room/outside/whole"
     done
 fi
-if has cmake && has make && has g++; then
+if has cmake && has make && [ "$cxx" ]; then
     cat >"$room/outside/CMakeLists.txt" <<'END'
 cmake_minimum_required(VERSION 3.13)
 project(outside C CXX)
