@@ -426,7 +426,8 @@ static inline void nekchhaul_pause_after(struct nekchhaul_pause *pause, uint32_t
 static inline uint32_t nekchhaul_retry_lightly(nekchhaul_caller *caller, uint32_t status, struct nekchhaul_pause *pause)
 {
     if (status == NEKCHHAUL_LOG_FULL) return nekchhaul_lengthen(caller);
-    if (status == NEKCHHAUL_CONFLICT || status == NEKCHHAUL_RETRY) nekchhaul_wait_longer(pause);
+    if (status == NEKCHHAUL_CONFLICT) nekchhaul_wait_longer(pause);
+    else if (status == NEKCHHAUL_RETRY) nekchhaul_wait(pause);
     else if (nekchhaul_is_final(status)) return status;
     else nekchhaul_pause_after(pause, status);
     return NEKCHHAUL_OK;
@@ -436,7 +437,7 @@ static inline uint32_t nekchhaul_retry_lightly(nekchhaul_caller *caller, uint32_
  * clock is full, a log of 4,096 items is, or it asks for a ninth mark (DEEP). A body that stops leaves nothing: its attempts
  * are never made irrevocable, and where the algorithm can't take writes back, CGL or TML, the answer is UNCANCELLABLE, and it
  * isn't run. Nor is it while a range is out, the caller's own or another's: RANGE_TAKEN, so that no body meets FENCED. A full
- * log is made longer, and after a conflict or RETRY the pauses grow. It waits, by pausing the processor and yielding. With any
+ * log is made longer, and after a conflict the pauses grow. It waits, by pausing the processor and yielding. With any
  * answer no attempt is open. A body is left by its return alone, never by longjmp, and uses no other caller of the same memory.
  * Inside a body of the same caller it is nekchhaul_join. */
 NEKCHHAUL_INLINE uint32_t nekchhaul_atomically(nekchhaul_caller *caller, nekchhaul_body body, void *argument)
@@ -449,7 +450,6 @@ NEKCHHAUL_INLINE uint32_t nekchhaul_atomically(nekchhaul_caller *caller, nekchha
         if (s == NEKCHHAUL_OK) {
             s = nekchhaul_run(caller, body, argument);
             if (s == NEKCHHAUL_OK && (s = nekchhaul_leave(caller, &pause)) == NEKCHHAUL_OK) return s;
-            if (s == NEKCHHAUL_IRREVOCABLE) return s; /* the body itself had made it so */
         }
         s = nekchhaul_retry_lightly(caller, s, &pause);
         if (s != NEKCHHAUL_OK) return s;
