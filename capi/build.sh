@@ -1,24 +1,39 @@
 #!/bin/sh
-# build.sh: makes capi/build/libnekchhaul.a, of the proved static library nekchhaul_c and the kit's heap.
-# Needs `rt` of the Rattle kit, and ar. `rt lib` proves what isn't proved yet, which from nothing takes as long as the
-# libraries below it. Behind `rt ci` in a fresh checkout, whose proved libraries `rt lib` would make anew, the archive is
-# built over those, which proves nekchhaul_c alone. NEKCHHAUL_ARCHIVE=FILE takes that archive in place of what is proved
-# here, and says so.
+# build.sh [--unproved | --asan | --tsan]: makes capi/build/libnekchhaul.a and libnekchhaul.so.1, of the proved static library
+# nekchhaul_c, the kit's heap, and the C functions of nekchhaul.h. Needs `rt` of the Rattle kit, a C compiler and binutils.
+#
+# `rt lib` proves what isn't proved yet, which from nothing takes hours. Behind `rt ci` in a fresh checkout, whose proved
+# libraries `rt lib` would make anew, the library is built over those, which proves nekchhaul_c alone. `--unproved` proves
+# nothing and takes a minute or two, for trying; `nekchhaul_version` tells the two apart. It needs Python 3. `--asan` and `--tsan`
+# are unproved builds that the address or the thread sanitizer sees into, as capi/build/asan/libnekchhaul.a and
+# capi/build/tsan/libnekchhaul.a. NEKCHHAUL_ARCHIVE=FILE takes an archive made before in place of a build, and says so.
 set -eu
 here=$(cd "$(dirname "$0")" && pwd)
 crates=$here/../crates
-kit=${RATTLE_KIT:-$(dirname "$(rt doc)")}
-mkdir -p "$here/build"
+to=$here/build
+flags=
 room=$(mktemp -d)
 trap 'rm -rf "$room"' EXIT
+began=$(date +%s)
+say() { echo "build.sh: $(($(date +%s) - began)) s: $*"; }
+fail() {
+    echo "build.sh: $*" >&2
+    exit 1
+}
 
-if [ -n "${NEKCHHAUL_ARCHIVE:-}" ]; then
-    echo "build.sh: takes $NEKCHHAUL_ARCHIVE, of which nothing is known" >&2
-    cp "$NEKCHHAUL_ARCHIVE" "$here/build/libnekchhaul.a"
-    exit 0
-fi
+# Keeps a command's output, shows the lines that tell how far it is, and fails with all of it.
+follow() {
+    { "$@" 2>&1 || echo "status $?"; } | while IFS= read -r line; do
+        echo "$line" >>"$room/log"
+        case $line in rt:* | "  "the\ *) say "${line#rt: }" ;; esac
+    done
+    if tail -n 1 "$room/log" 2>/dev/null | grep -q '^status '; then
+        cat "$room/log" >&2
+        fail "nothing was built"
+    fi
+}
 
-# Builds the archive over the libraries that `rt ci` has just proved.
+# Builds the library over the libraries that `rt ci` has just proved.
 over_proved() {
     set -- --extern "std=$kit/rlibs/std.rlib"
     for name in $(sed -n 's/^nekchhaul_c staticlib: //p' "$crates/../crates.txt"); do
@@ -26,23 +41,60 @@ over_proved() {
         set -- "$@" --extern "$name=$rlib"
     done
     for rlib in ../*/out/rlib; do set -- "$@" -L "dependency=$rlib"; done
+    mkdir -p out
     "$kit/bin/rattle" build --crate-name nekchhaul_c src/lib.rt --crate-type staticlib --links nekchhaul_c= "$@" -L "dependency=$kit/rlibs" \
         --antt-project "$kit/rattle/logic/antt-project.json" --logic-built "$kit/logic_built" --toolchain "$kit/toolchain" --backend llvm \
         --jobs "$(nproc)" -o out/libnekchhaul_c.a
 }
 
-cd "$crates/nekchhaul_c"
-if [ -d ../tx_checked/out/rlib/tx_checked.rlib ] && ! ls ../*/out/rlib/stamp >"$room/stamps" 2>/dev/null; then
-    over_proved >"$room/log" 2>&1 || failed=yes
+cc=${CC:-}
+for name in gcc clang cc; do
+    [ "$cc" ] || ! command -v $name >/dev/null || cc=$name
+done
+[ "$cc" ] || fail "no C compiler is there"
+mkdir -p "$room/objects"
+cd "$room/objects"
+if [ "${NEKCHHAUL_ARCHIVE:-}" ]; then
+    echo "build.sh: takes $NEKCHHAUL_ARCHIVE, of which nothing is known" >&2
+    ar x "$NEKCHHAUL_ARCHIVE"
+    rm -f functions.o
 else
-    rt lib >"$room/log" 2>&1 || failed=yes
+    kit=${RATTLE_KIT:-$(dirname "$(rt doc)")}
+    case ${1:-} in
+    --unproved) follow "$here/unproved" nekchhaul_c.o ;;
+    --asan) flags=-fsanitize=address to=$to/asan && follow "$here/unproved" nekchhaul_c.o address ;;
+    --tsan) flags=-fsanitize=thread to=$to/tsan && follow "$here/unproved" nekchhaul_c.o thread ;;
+    "")
+        cd "$crates/nekchhaul_c"
+        if [ -d ../tx_checked/out/rlib/tx_checked.rlib ] && ! ls ../*/out/rlib/stamp >"$room/stamps" 2>/dev/null; then
+            say "proves nekchhaul_c, over the libraries of rt ci"
+            follow over_proved
+        else
+            say "proves what isn't proved yet"
+            follow rt lib
+        fi
+        cd "$room/objects"
+        ar x "$crates/nekchhaul_c/out/libnekchhaul_c.a"
+        ;;
+    *) fail "takes --unproved, --asan or --tsan" ;;
+    esac
+    ar x "$kit/c/liblibc_c.a" heap.pic.o
 fi
-if [ "${failed:-}" ]; then
-    cat "$room/log" >&2
-    exit 1
+
+# One object with the names of the header alone.
+mkdir -p "$to"
+rm -f "$to"/libnekchhaul.*
+ld -r -o "$room/nekchhaul.o" ./*.o
+objcopy -w --keep-global-symbol='nekchhaul_*' "$room/nekchhaul.o"
+# (older runtimes of the thread sanitizer have these by the C library's names alone)
+for name in memcpy memmove memset; do objcopy --redefine-sym __tsan_$name=$name "$room/nekchhaul.o"; done
+# shellcheck disable=SC2086
+"$cc" -std=c11 -O2 -fPIC $flags -c "$here/functions.c" -o "$room/functions.o"
+ar rcs "$to/libnekchhaul.a" "$room/nekchhaul.o" "$room/functions.o"
+say "$to/libnekchhaul.a is made, for processors of x86-64-v2 (2009 and later)"
+if [ ! "$flags" ]; then
+    "$cc" -shared -Wl,-soname,libnekchhaul.so.1 -Wl,--version-script="$here/nekchhaul.map" -Wl,-Bsymbolic -Wl,-z,defs "$room/nekchhaul.o" \
+        "$room/functions.o" -o "$to/libnekchhaul.so.1"
+    ln -s libnekchhaul.so.1 "$to/libnekchhaul.so"
+    say "$to/libnekchhaul.so.1 is made"
 fi
-cd "$room"
-ar x "$crates/nekchhaul_c/out/libnekchhaul_c.a"
-ar x "$kit/c/liblibc_c.a" heap.pic.o
-rm -f "$here/build/libnekchhaul.a"
-ar rcs "$here/build/libnekchhaul.a" ./*.o

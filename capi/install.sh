@@ -1,15 +1,27 @@
 #!/bin/sh
-# install.sh: puts the headers, the archive and the pkg-config file below PREFIX, /usr/local if it is not given; DESTDIR
-# goes before it. Run build.sh first.
+# install.sh: puts the headers, the archive and the shared library, and what pkg-config, CMake and man need, below PREFIX,
+# /usr/local if it is not given; DESTDIR goes before it. What is installed may be moved. Run build.sh first.
 set -eu
 here=$(cd "$(dirname "$0")" && pwd)
 prefix=${PREFIX:-/usr/local}
+case $prefix in /*) ;; *) prefix=$PWD/$prefix ;; esac
 to=${DESTDIR:-}$prefix
-[ -f "$here/build/libnekchhaul.a" ] || {
+[ -f "$here/build/libnekchhaul.so.1" ] || {
     echo "install.sh: run build.sh first" >&2
     exit 1
 }
-mkdir -p "$to/include" "$to/lib/pkgconfig"
+version=$(sed -n 's/^#define NEKCHHAUL_VERSION_M[A-Z]* //p' "$here/include/nekchhaul.h" | tr '\n' .)0
+mkdir -p "$to/include" "$to/lib/pkgconfig" "$to/lib/cmake/nekchhaul" "$to/share/man/man3"
 cp "$here"/include/*.h "$here"/include/*.hpp "$to/include/"
-cp "$here/build/libnekchhaul.a" "$to/lib/"
-sed "s|@prefix@|$prefix|" "$here/nekchhaul.pc.in" >"$to/lib/pkgconfig/nekchhaul.pc"
+cp -P "$here"/build/libnekchhaul.* "$to/lib/"
+for name in nekchhaul nekchhaul-static; do
+    sed "s/@version@/$version/" "$here/install/$name.pc" >"$to/lib/pkgconfig/$name.pc"
+done
+for name in nekchhaulConfig nekchhaulConfigVersion; do
+    sed "s/@version@/$version/" "$here/install/$name.cmake" >"$to/lib/cmake/nekchhaul/$name.cmake"
+done
+if command -v python3 >/dev/null; then
+    python3 "$here/install/man" "$here/include/nekchhaul.h" >"$to/share/man/man3/nekchhaul.3"
+else
+    echo "install.sh: no manual page, which python3 would make" >&2
+fi

@@ -1,9 +1,11 @@
 #!/bin/sh
-# test.sh: builds the archive, and tries all that is C, C++ and Rust here with each compiler that is there. Silent where
-# all goes well; else the last line says what did not, and the status is 1. Needs `rt` and one C compiler; a fresh
-# Debian or Ubuntu has one after `apt-get install gcc`.
+# test.sh [--unproved | --asan | --tsan]: builds the library (build.sh says how), and tries all that is C, C++, Rust and Python
+# here with each compiler that is there. Silent where all goes well; else the last line says what did not, and the status is 1.
+# Needs what build.sh does; a fresh Debian or Ubuntu has it after `apt-get install gcc`. With --asan or --tsan the examples
+# in C and C++ run over a library that the sanitizer sees into, and nothing else.
 set -eu
 here=$(cd "$(dirname "$0")" && pwd)
+build=$here/build
 room=$(mktemp -d)
 trap 'rm -rf "$room"' EXIT
 has() { command -v "$1" >/dev/null 2>&1; }
@@ -19,72 +21,141 @@ try() {
     "$@" >"$room/log" 2>&1 || fail "$what"
 }
 
-"$here/build.sh" || exit 1
-archive=$here/build/libnekchhaul.a
+flags=
+case ${1:-} in
+--asan) flags="-g -fsanitize=address,undefined" build=$build/asan ;;
+--tsan) flags="-g -fsanitize=thread" build=$build/tsan ;;
+esac
+"$here/build.sh" "$@" >"$room/log" || fail "build.sh"
+archive=$build/libnekchhaul.a
 
-# The header's names are those of the archive, and its numbers those of the crate.
-numbers() { sed -n 's/^ *NEKCHHAUL_\([A-Z_]*\) = \([0-9]*\).*/\1 \2/p' | sort; }
-sed -n 's/^ *uint32_t \(nekchhaul_[a-z_]*\)(.*).*;.*/\1/p; s/^uint32_t \(nekchhaul_[a-z_]*\)(.*).*;.*/\1/p' "$here/include/nekchhaul.h" | sort -u >"$room/declared"
-nm -g "$archive" | sed -n 's/.* T \(nekchhaul_[a-z_]*\)$/\1/p' | sort -u >"$room/exported"
-try "the header declares other names than the archive has" diff "$room/declared" "$room/exported"
-sed -n '/typedef enum nekchhaul_status/,/} nekchhaul_status;/p' "$here/include/nekchhaul.h" | numbers >"$room/header"
+# The header's names are those of the archive, its numbers those of the crate, and each number has its name.
+compare() {
+    try "$3" diff "$room/$1" "$room/$2"
+}
+header=$here/include/nekchhaul.h
+{
+    sed -n 's/^uint32_t \(nekchhaul_[a-z_]*\)(.*).*;.*/\1/p' "$header"
+    sed -n 's/^NEKCHHAUL_INLINE .*\b\(nekchhaul_[a-z_]*\)(.*/\1/p' "$header"
+} | sort >"$room/declared"
+nm -g "$archive" | sed -n 's/.* T \(.*\)$/\1/p' | sort >"$room/exported"
+compare declared exported "the header declares other names than the archive has"
+sed -n '/typedef enum nekchhaul_status/,/} nekchhaul_status;/s/^ *NEKCHHAUL_\([A-Z_]*\) = \([0-9]*\).*/\1 \2/p' "$header" | sort >"$room/numbers"
 sed -n 's/^pub(crate) const \([A-Z_]*\): u32 = \([0-9]*\);/\1 \2/p' "$here/../crates/nekchhaul_c/src/status.rt" | sort >"$room/crate"
-try "the header has other numbers than crates/nekchhaul_c/src/status.rt" diff "$room/header" "$room/crate"
+compare numbers crate "the header has other numbers than crates/nekchhaul_c/src/status.rt"
+{ sed 's/ .*//' "$room/numbers" && echo UNCANCELLABLE && echo RETRY; } | sort >"$room/statuses"
+sed -n 's/^ *NEKCHHAUL_NAME(\([A-Z_]*\))$/\1/p' "$header" | sort >"$room/named"
+compare statuses named "a status has no name in nekchhaul_status_name"
+sed -n '/^```c$/,/^```$/{/^```/d;p;}' "$here/../docs/C.md" >"$room/shown"
+sed 1d "$here/examples/whole.c" >"$room/whole"
+compare shown whole "docs/C.md has another program than examples/whole.c"
 
-# Each example by each compiler, each algorithm, with and without switches, on 4 and on 16 threads.
-found=
-for cc in gcc clang; do
-    has $cc || continue
-    found=yes
-    for example in bank misuse cost whole alone stops; do
-        try "$cc doesn't compile $example.c" $cc -std=c11 -O2 -Wall -Wextra -Werror -pedantic -I"$here/include" "$here/examples/$example.c" "$archive" -lpthread -o "$room/$example-$cc"
+# compiled COMPILER SOURCE FLAG..: by that compiler, without a warning
+compiled() {
+    compiler=$1 source=$2
+    shift 2
+    # shellcheck disable=SC2086
+    try "$compiler doesn't compile $source" "$compiler" "$@" -O2 -Wall -Wextra -Werror -pedantic $flags -I"$here/include" "$here/examples/$source" "$archive" \
+        -lpthread -o "$room/$source-$compiler"
+}
+# ran PROGRAM WORD..: where it doesn't fail
+ran() {
+    program=$1
+    shift
+    try "$program $*" "$room/$program" "$@"
+}
+share=1
+[ ! "$flags" ] || share=20
+cc=
+for compiler in gcc clang; do
+    has $compiler || continue
+    [ "$cc" ] || cc=$compiler
+    for example in misuse whole nested alone stops cost bank; do
+        compiled $compiler $example.c -std=c11
     done
-    try "misuse.c by $cc" "$room/misuse-$cc"
-    try "whole.c by $cc" "$room/whole-$cc"
-    try "alone.c by $cc: a call that must be alone didn't come through, or looked back" "$room/alone-$cc"
-    try "stops.c by $cc: a body that stopped left something" "$room/stops-$cc"
-    try "cost.c by $cc" "$room/cost-$cc" bank OrecLazy 2 2000
+    for example in misuse whole nested alone stops; do
+        ran $example.c-$compiler
+    done
+    ran cost.c-$compiler bank OrecLazy 2 2000
     for algorithm in CGL TML OrecLazy OrecEager RingSW Serial; do
         for threads in 3 15; do
-            try "bank.c by $cc under $algorithm with $threads traders" "$room/bank-$cc" $algorithm plain $threads
-            try "bank.c by $cc, switching from $algorithm, with $threads traders" "$room/bank-$cc" $algorithm switching $threads
+            for how in plain switching; do
+                ran bank.c-$compiler $algorithm $how $threads $share
+            done
         done
     done
 done
-[ "$found" ] || { echo "capi/test.sh: no C compiler is there" >&2; exit 1; }
-for cxx in g++ clang++; do
-    has $cxx || continue
-    try "$cxx doesn't compile bank.cpp" $cxx -std=c++17 -O2 -Wall -Wextra -Werror -pedantic -I"$here/include" "$here/examples/bank.cpp" "$archive" -lpthread -o "$room/bank-$cxx"
-    try "bank.cpp by $cxx" "$room/bank-$cxx"
+cxx=
+for compiler in g++ clang++; do
+    has $compiler || continue
+    cxx=$compiler
+    for example in bank calls counters; do
+        compiled $compiler $example.cpp -std=c++17
+        ran $example.cpp-$compiler
+    done
 done
-if has rustc && rustc --version >/dev/null 2>&1; then
-    try "rustc doesn't compile rust/src/lib.rs" rustc --edition 2021 -O -D warnings --crate-type rlib --crate-name nekchhaul "$here/rust/src/lib.rs" -L "$here/build" -l static=nekchhaul -o "$room/libnekchhaul.rlib"
-    try "rustc doesn't compile rust/examples/bank.rs" rustc --edition 2021 -O -D warnings "$here/rust/examples/bank.rs" --extern "nekchhaul=$room/libnekchhaul.rlib" -L "$here/build" -o "$room/bank-rust"
-    try "bank.rs" "$room/bank-rust"
+[ ! "$flags" ] || exit 0
+
+# The shared library, by Python; what Rust has, by cargo.
+nm -D --defined-only "$build/libnekchhaul.so.1" | sed -n 's/.* T \([^@]*\).*/\1/p' | sort >"$room/shared"
+compare declared shared "the shared library has other names than the header declares"
+has python3 && try "python/bank.py" env NEKCHHAUL_LIB="$build" python3 -B "$here/python/bank.py"
+if has cargo && cargo --version >/dev/null 2>&1; then
+    cp -r "$here/rust" "$room/rust"
+    cargo_in() { try "cargo $*" env -C "$room/rust" NEKCHHAUL_LIB="$build" RUSTFLAGS="-D warnings" RUSTDOCFLAGS="-D warnings" CARGO_NET_OFFLINE=true cargo "$@"; }
+    cargo_in test
+    cargo_in run --example bank
+    cargo_in doc
+    ! cargo clippy --version >/dev/null 2>&1 || cargo_in clippy --all-targets -- -D warnings
 fi
 
-# A program outside the repository, by what install.sh puts there.
-cc=gcc
-has gcc || cc=clang
+# Programs outside the repository, by what install.sh puts below a relative prefix with a blank and a sign of sed's in it.
 mkdir "$room/outside"
-cp "$here/examples/whole.c" "$room/outside/"
-try "install.sh" env PREFIX="$room/prefix" DESTDIR= "$here/install.sh"
+cp "$here/examples/whole.c" "$here/examples/counters.cpp" "$room/outside/"
+try "install.sh" env -C "$room" PREFIX="a & b" DESTDIR= "$here/install.sh"
+at="$room/a & b"
 if has pkg-config; then
-    flags=$(PKG_CONFIG_PATH=$room/prefix/lib/pkgconfig pkg-config --cflags --libs nekchhaul) || fail "pkg-config"
-else
-    flags="-I$room/prefix/include -L$room/prefix/lib -lnekchhaul"
+    for package in nekchhaul nekchhaul-static; do
+        flags=$(PKG_CONFIG_PATH="$at/lib/pkgconfig" pkg-config --cflags --libs $package) || fail "pkg-config"
+        try "a program by pkg-config of $package" sh -c "$cc -std=c11 -Wall -Wextra -Werror $room/outside/whole.c $flags -o $room/outside/whole"
+        try "that program" env LD_LIBRARY_PATH="$at/lib" "$room/outside/whole"
+    done
 fi
-# shellcheck disable=SC2086
-try "a program outside the repository" $cc -std=c11 -Wall -Wextra -Werror "$room/outside/whole.c" $flags -o "$room/outside/whole"
-try "that program" "$room/outside/whole"
+if has cmake && has make && [ "$cxx" ]; then
+    cat >"$room/outside/CMakeLists.txt" <<'END'
+cmake_minimum_required(VERSION 3.13)
+project(outside C CXX)
+find_package(nekchhaul 1.0 REQUIRED)
+add_executable(shared whole.c)
+target_link_libraries(shared nekchhaul::nekchhaul)
+add_executable(static counters.cpp)
+set_property(TARGET static PROPERTY CXX_STANDARD 17)
+target_link_libraries(static nekchhaul::static pthread)
+END
+    try "cmake" cmake -S "$room/outside" -B "$room/made" -DCMAKE_PREFIX_PATH="$at"
+    try "cmake --build" cmake --build "$room/made"
+    try "a program by CMake, with the shared library" "$room/made/shared"
+    try "a program by CMake, with the archive" "$room/made/static"
+fi
+if has python3 && has groff; then
+    try "the manual page" groff -man -ww -z "$at/share/man/man3/nekchhaul.3"
+    [ ! -s "$room/log" ] || fail "the manual page"
+    sed -n 's/^\.SS //p' "$at/share/man/man3/nekchhaul.3" | tr ' ' '\n' | grep '^nekchhaul_' | sort >"$room/paged"
+    compare declared paged "the manual page has other functions than the header"
+fi
 
-# valgrind sees each access of the archive to the heap, and what is not freed; the thread sanitizer sees the accesses of
-# the C code alone, since the archive isn't compiled for it.
+# What a call costs; valgrind sees each access of the library to the heap, and what is not freed; the thread sanitizer here
+# those of the C code alone.
+if has python3; then
+    try "the table of docs/C.md" "$here/instructions"
+    ! has valgrind || try "instructions of a call" env CC=$cc "$here/instructions" "$archive" "$here/include"
+fi
 if has valgrind; then
-    try "valgrind over misuse.c" valgrind -q --error-exitcode=9 --leak-check=full --errors-for-leak-kinds=all "$room/misuse-$cc"
-    try "valgrind over bank.c" valgrind -q --error-exitcode=9 --leak-check=full --errors-for-leak-kinds=definite "$room/bank-$cc" OrecLazy switching 3 100
+    try "valgrind over misuse.c" valgrind -q --error-exitcode=9 --leak-check=full --errors-for-leak-kinds=all "$room/misuse.c-$cc"
+    try "valgrind over bank.c" valgrind -q --error-exitcode=9 --leak-check=full --errors-for-leak-kinds=definite "$room/bank.c-$cc" OrecLazy switching 3 100
 fi
 if echo 'int main(void) { return 0; }' >"$room/one.c" && $cc -fsanitize=thread "$room/one.c" -o "$room/one" 2>/dev/null && "$room/one" 2>/dev/null; then
-    try "bank.c for the thread sanitizer" $cc -std=c11 -O1 -g -fsanitize=thread -I"$here/include" "$here/examples/bank.c" "$archive" -lpthread -o "$room/bank-tsan"
-    try "the thread sanitizer over bank.c" "$room/bank-tsan" OrecLazy switching 3 10
+    flags="-g -fsanitize=thread"
+    compiled $cc bank.c -std=c11
+    ran bank.c-$cc OrecLazy switching 3 10
 fi

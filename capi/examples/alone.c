@@ -1,6 +1,8 @@
 /* Calls that must be alone come through while others are always in attempts: switches, ranges and closes, beside 2 callers in
- * transactions of 1,000 reads and beside 4 in transactions of 100, under each algorithm. Writes how many looks a call took;
- * what it refuses is a look that goes back to a caller that was seen idle. */
+ * transactions of 1,000 reads and beside 4 in transactions of 100, under each algorithm. Such a call waits for the attempts
+ * that ran as it closed the gate, and for no others, so of the attempts that end between its first answer BUSY and its last
+ * look there is at most one for each caller. Writes how many looks and how many attempts a call took; refuses a call that saw
+ * more attempts end, and a look that goes back to a caller that was seen idle. */
 #include "nekchhaul.h"
 
 #include <pthread.h>
@@ -10,14 +12,25 @@
 #include <string.h>
 
 enum { WORDS = 1024, TIMES = 100, CLOSES = 10, MOST = 5 };
+static const char *const names[] = { "CGL", "TML", "OrecLazy", "OrecEager", "RingSW", "Serial" };
 
+/* On two cache lines of its own: the counters are its thread's, and the caller that closes the gate reads them. */
 struct reader {
-    nekchhaul_caller caller;
+    _Alignas(128) nekchhaul_caller caller;
     size_t reads;
     atomic_int *end;
+    atomic_ulong begun, ended; /* attempts */
 };
 
-static atomic_ulong begun; /* attempts, of all readers */
+/* What calls of one kind took. */
+struct cost {
+    unsigned long looks, attempts;
+};
+
+static void count(atomic_ulong *counter)
+{
+    atomic_store_explicit(counter, atomic_load_explicit(counter, memory_order_relaxed) + 1, memory_order_relaxed);
+}
 
 /* One attempt, by hand: the header's loops run no body beside a range. */
 static void read_once(struct reader *r, struct nekchhaul_pause *pause)
@@ -28,12 +41,13 @@ static void read_once(struct reader *r, struct nekchhaul_pause *pause)
         nekchhaul_pause_after(pause, s);
         return;
     }
-    atomic_fetch_add(&begun, 1);
+    count(&r->begun);
     for (size_t i = 0; !s && i < r->reads; i++) s = nekchhaul_read(&r->caller, i, &v);
     if (!s) s = nekchhaul_write(&r->caller, WORDS - 1, 1);
     if (!s) s = nekchhaul_leave(&r->caller, pause);
     if (s == NEKCHHAUL_FENCED) (void)nekchhaul_abandon(&r->caller); /* the memory has ended */
     else if (s > NEKCHHAUL_CONFLICT) abort();
+    count(&r->ended);
 }
 
 static void *read_on(void *argument)
@@ -44,31 +58,62 @@ static void *read_on(void *argument)
     return NULL;
 }
 
-/* Waits until a reader has begun once more, so that the call comes beside attempts. */
-static void let_begin(void)
+static unsigned long begun_of(struct reader *all, size_t readers)
 {
-    unsigned long before = atomic_load(&begun);
-    struct nekchhaul_pause pause = NEKCHHAUL_PAUSE_INIT;
-    while (atomic_load(&begun) == before) nekchhaul_wait(&pause);
+    unsigned long sum = 0;
+    for (size_t i = 0; i < readers; i++) sum += atomic_load_explicit(&all[i].begun, memory_order_relaxed);
+    return sum;
 }
 
-/* Goes on until the call is done, and counts the looks. Each caller that is in the way comes no earlier than the last one. */
-#define LOOKS(call)                                                                                             \
-    do {                                                                                                        \
-        struct nekchhaul_pause pause = NEKCHHAUL_PAUSE_INIT;                                                    \
-        uint64_t last = 0;                                                                                      \
-        uint32_t s;                                                                                             \
-        let_begin();                                                                                            \
-        while ((s = (call)) == NEKCHHAUL_BUSY || s == NEKCHHAUL_GATE_CLOSED) {                                  \
-            nekchhaul_cause why;                                                                                \
-            if (nekchhaul_why(me, &why) || (s == NEKCHHAUL_BUSY && why.first < last)) abort();                  \
-            last = s == NEKCHHAUL_BUSY ? why.first : 0;                                                         \
-            looks++;                                                                                            \
-            nekchhaul_wait(&pause);                                                                             \
-        }                                                                                                       \
-        looks++;                                                                                                \
-        if (s) abort();                                                                                         \
-    } while (0)
+static unsigned long ended_of(struct reader *all, size_t readers)
+{
+    unsigned long sum = 0;
+    for (size_t i = 0; i < readers; i++) sum += atomic_load_explicit(&all[i].ended, memory_order_relaxed);
+    return sum;
+}
+
+/* Waits until a reader has begun once more, so that the call comes beside attempts. */
+static void let_begin(struct reader *all, size_t readers)
+{
+    unsigned long before = begun_of(all, readers);
+    struct nekchhaul_pause pause = NEKCHHAUL_PAUSE_INIT;
+    while (begun_of(all, readers) == before) nekchhaul_wait(&pause);
+}
+
+enum call { SWITCH, FENCE, GIVE_BACK, CLOSE };
+
+static uint32_t make(nekchhaul_caller *me, enum call call, uint32_t algorithm)
+{
+    static uint64_t words[WORDS];
+    switch (call) {
+    case SWITCH: return nekchhaul_switch(me, algorithm);
+    case FENCE: return nekchhaul_fence(me, WORDS - 2, 1);
+    case GIVE_BACK: return nekchhaul_give_back(me);
+    default: return nekchhaul_close(me, words, WORDS);
+    }
+}
+
+/* Goes on until the call is done. While it answers BUSY the gate is closed, and each caller in the way comes no earlier than
+ * the last one. */
+static void until_done(nekchhaul_caller *me, struct reader *all, size_t readers, enum call call, uint32_t algorithm, struct cost *cost)
+{
+    struct nekchhaul_pause pause = NEKCHHAUL_PAUSE_INIT;
+    unsigned long closed = 0, looked = 0;
+    uint64_t last = 0;
+    uint32_t s;
+    let_begin(all, readers);
+    for (int busy = 0; cost->looks++, (s = make(me, call, algorithm)) == NEKCHHAUL_BUSY; busy = 1) {
+        nekchhaul_cause why;
+        looked = ended_of(all, readers);
+        if (!busy) closed = looked;
+        if (nekchhaul_why(me, &why) || why.first < last) abort();
+        last = why.first;
+        nekchhaul_wait(&pause);
+        looked = ended_of(all, readers);
+    }
+    if (s || looked - closed > readers) abort();
+    cost->attempts += looked - closed;
+}
 
 static void open_all(uint32_t algorithm, size_t readers, size_t reads, nekchhaul_caller *me, struct reader *all, pthread_t *threads, atomic_int *end)
 {
@@ -81,6 +126,8 @@ static void open_all(uint32_t algorithm, size_t readers, size_t reads, nekchhaul
         all[i].caller = nekchhaul_move(&callers[i + 1]);
         all[i].reads = reads;
         all[i].end = end;
+        atomic_store(&all[i].begun, 0);
+        atomic_store(&all[i].ended, 0);
         if (pthread_create(&threads[i], NULL, read_on, &all[i])) abort();
     }
 }
@@ -96,32 +143,28 @@ static void let_all_go(size_t readers, nekchhaul_caller *me, struct reader *all,
 
 static void beside(uint32_t algorithm, size_t readers, size_t reads)
 {
-    static uint64_t words[WORDS];
     struct reader all[MOST];
     pthread_t threads[MOST];
     nekchhaul_caller mine, *me = &mine;
     atomic_int end = 0;
-    unsigned long looks = 0, switches, ranges;
+    struct cost switches = { 0, 0 }, ranges = { 0, 0 }, closes = { 0, 0 };
     open_all(algorithm, readers, reads, me, all, threads, &end);
-    for (int i = 0; i < TIMES; i++) LOOKS(nekchhaul_switch(me, algorithm));
-    switches = looks;
-    looks = 0;
+    for (int i = 0; i < TIMES; i++) until_done(me, all, readers, SWITCH, algorithm, &switches);
     for (int i = 0; i < TIMES; i++) {
-        LOOKS(nekchhaul_fence(me, WORDS - 2, 1));
+        until_done(me, all, readers, FENCE, algorithm, &ranges);
         if (nekchhaul_direct_write(me, WORDS - 2, (uint64_t)i)) abort();
-        LOOKS(nekchhaul_give_back(me));
+        until_done(me, all, readers, GIVE_BACK, algorithm, &ranges);
     }
-    ranges = looks;
-    looks = 0;
     let_all_go(readers, me, all, threads, &end);
     for (int i = 0; i < CLOSES; i++) {
         atomic_store(&end, 0);
         open_all(algorithm, readers, reads, me, all, threads, &end);
-        LOOKS(nekchhaul_close(me, words, WORDS));
+        until_done(me, all, readers, CLOSE, algorithm, &closes);
         let_all_go(readers, me, all, threads, &end);
     }
-    printf("algorithm %u, %zu callers of %zu reads: looks a switch %.1f, a range %.1f, a close %.1f\n", (unsigned)algorithm, readers, reads,
-           (double)switches / TIMES, (double)ranges / (2 * TIMES), (double)looks / CLOSES);
+    printf("%s, %zu callers of %zu reads: looks and attempts a switch %.1f %.1f, a range's call %.1f %.1f, a close %.1f %.1f\n", names[algorithm], readers,
+           reads, (double)switches.looks / TIMES, (double)switches.attempts / TIMES, (double)ranges.looks / (2 * TIMES),
+           (double)ranges.attempts / (2 * TIMES), (double)closes.looks / CLOSES, (double)closes.attempts / CLOSES);
 }
 
 int main(void)

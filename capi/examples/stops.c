@@ -1,5 +1,5 @@
 /* Bodies that stop leave nothing: 8 threads make 400,000 transfers, of which one in eight stops after its first write, under
- * each algorithm, and then while another caller switches. The sum at the end is the capital. */
+ * each algorithm, and then while another caller switches 60 times. The sum at the end is the capital. */
 #include "nekchhaul.h"
 
 #include <pthread.h>
@@ -8,7 +8,7 @@
 #include <stdlib.h>
 #include <string.h>
 
-enum { ACCOUNTS = 64, BALANCE = 1000, THREADS = 8, TRANSFERS = 50000, STOPS = NEKCHHAUL_STOP + 1 };
+enum { ACCOUNTS = 64, BALANCE = 1000, THREADS = 8, TRANSFERS = 50000, SWITCHES = 60, STOPS = NEKCHHAUL_STOP + 1 };
 
 struct transfer {
     size_t from, to;
@@ -17,13 +17,15 @@ struct transfer {
 };
 
 struct trader {
-    nekchhaul_caller caller;
+    _Alignas(128) nekchhaul_caller caller;
+    atomic_ulong done; /* transfers, for the caller that switches */
     uint64_t seed;
     unsigned long refused, wrong;
     unsigned most;
 };
 
-static atomic_int trading;
+static struct trader traders[THREADS];
+static atomic_int switching; /* and the traders go on meanwhile */
 
 static uint32_t move(nekchhaul_caller *caller, void *argument)
 {
@@ -49,7 +51,8 @@ static uint64_t draw(uint64_t *seed)
 static void *trade(void *argument)
 {
     struct trader *t = argument;
-    for (int i = 0; i < TRANSFERS; i++) {
+    for (unsigned long i = 0; i < TRANSFERS || atomic_load(&switching); i++) {
+        atomic_store_explicit(&t->done, i + 1, memory_order_relaxed);
         struct transfer m = { draw(&t->seed) % ACCOUNTS, draw(&t->seed) % ACCOUNTS, i % 8 == 0, 0 };
         uint32_t s = nekchhaul_atomically(&t->caller, move, &m);
         if (s == NEKCHHAUL_UNCANCELLABLE) {
@@ -63,22 +66,30 @@ static void *trade(void *argument)
     return NULL;
 }
 
-static void *install_all(void *argument)
+static unsigned long done_by_all(void)
 {
-    nekchhaul_caller *caller = argument;
-    for (uint32_t i = 0; atomic_load(&trading); i++) {
+    unsigned long sum = 0;
+    for (size_t i = 0; i < THREADS; i++) sum += atomic_load_explicit(&traders[i].done, memory_order_relaxed);
+    return sum;
+}
+
+/* Switches each time that so many more transfers are done, so that each algorithm has its share of them. */
+static void *install_all(void *caller)
+{
+    for (uint32_t i = 0; i < SWITCHES; i++) {
         struct nekchhaul_pause pause = NEKCHHAUL_PAUSE_INIT;
         if (nekchhaul_install(caller, i % 6)) abort();
-        for (int k = 0; k < 64; k++) nekchhaul_wait(&pause);
+        unsigned long until = done_by_all() + THREADS * TRANSFERS / SWITCHES;
+        while (done_by_all() < until) nekchhaul_wait(&pause);
     }
+    atomic_store(&switching, 0);
     return NULL;
 }
 
-static int run(uint32_t algorithm, int switching)
+static int run(uint32_t algorithm, int switches)
 {
     nekchhaul_sizes sizes = { ACCOUNTS, 64, 64, 1, 1, 0 };
     nekchhaul_caller callers[THREADS + 1];
-    struct trader traders[THREADS];
     pthread_t threads[THREADS], installer;
     uint64_t words[ACCOUNTS], sum = 0;
     unsigned long refused = 0, wrong = 0;
@@ -89,16 +100,15 @@ static int run(uint32_t algorithm, int switching)
     for (size_t i = 0; i < ACCOUNTS; i++)
         if (nekchhaul_direct_write(&callers[THREADS], i, BALANCE)) abort();
     if (nekchhaul_return_range(&callers[THREADS])) abort();
-    atomic_store(&trading, 1);
+    atomic_store(&switching, switches);
     for (size_t i = 0; i < THREADS; i++) {
-        traders[i] = (struct trader){ nekchhaul_move(&callers[i]), 88172645463325252u + 977 * i, 0, 0, 0 };
+        traders[i] = (struct trader){ nekchhaul_move(&callers[i]), 0, 88172645463325252u + 977 * i, 0, 0, 0 };
         if (pthread_create(&threads[i], NULL, trade, &traders[i])) abort();
     }
-    if (switching && pthread_create(&installer, NULL, install_all, &callers[THREADS])) abort();
+    if (switches && pthread_create(&installer, NULL, install_all, &callers[THREADS])) abort();
     for (size_t i = 0; i < THREADS; i++)
         if (pthread_join(threads[i], NULL)) abort();
-    atomic_store(&trading, 0);
-    if (switching && pthread_join(installer, NULL)) abort();
+    if (switches && pthread_join(installer, NULL)) abort();
     if (nekchhaul_end(&callers[THREADS], words, ACCOUNTS)) abort();
     for (size_t i = 0; i < ACCOUNTS; i++) sum += words[i];
     for (size_t i = 0; i < THREADS; i++) {
@@ -109,8 +119,10 @@ static int run(uint32_t algorithm, int switching)
     }
     if (nekchhaul_release(&callers[THREADS])) abort();
     printf("algorithm %u%s: sum %llu, refused before they ran %lu, most attempts at one transfer %u\n", (unsigned)algorithm,
-           switching ? ", switching" : "", (unsigned long long)sum, refused, most);
-    return wrong || sum != (uint64_t)ACCOUNTS * BALANCE || (!switching && refused != (algorithm <= NEKCHHAUL_TML ? (unsigned long)THREADS * TRANSFERS : 0));
+           switches ? ", switching" : "", (unsigned long long)sum, refused, most);
+    unsigned long all = done_by_all();
+    int as_expected = switches ? 0 < refused && refused < all : refused == (algorithm <= NEKCHHAUL_TML ? all : 0);
+    return wrong || sum != (uint64_t)ACCOUNTS * BALANCE || !as_expected;
 }
 
 int main(void)

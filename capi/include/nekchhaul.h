@@ -2,7 +2,8 @@
  *
  * A memory has words of 64 bits, and callers. A caller is a handle, by which one thread at a time runs attempts at
  * transactions: nekchhaul_begin, then nekchhaul_read and nekchhaul_write, then nekchhaul_commit. The whole program of
- * docs/C.md shows how; nekchhaul_atomically, below, runs a transaction until it commits.
+ * docs/C.md shows how; nekchhaul_atomically, below, runs a transaction until it commits. The library is for processors of
+ * x86-64-v2.
  *
  * ANSWERS. Every call returns, whatever was called before, and answers a nekchhaul_status. 0 is done. 1 to 15 say what
  * came in the way of the transaction. 16 and up say that the call didn't fit, or that no memory was opened: then nothing
@@ -149,8 +150,10 @@ typedef struct nekchhaul_cause {
     uint64_t first, second, third;
 } nekchhaul_cause;
 
-/* NEKCHHAUL_VERSION_MAJOR and _MINOR of the archive, as 65,536 * major + minor. */
+/* NEKCHHAUL_VERSION_MAJOR and _MINOR of the archive, as 65,536 * major + minor; and NEKCHHAUL_UNPROVED more where it is one
+ * of `capi/build.sh --unproved`, for trying. */
 uint32_t nekchhaul_version(void);
+#define NEKCHHAUL_UNPROVED 0x80000000u
 
 /* Opens a memory of zeros under an algorithm, and makes `count` callers of it, 1 to 32. Answers ALGORITHM, HOLDS_CALLER,
  * SIZE_WORDS to SIZE_CLOCK, MEMORY, or BUSY where the algorithm couldn't be installed; then no handle has changed. */
@@ -243,8 +246,79 @@ uint32_t nekchhaul_release(nekchhaul_caller *caller) NEKCHHAUL_CALL;
 
 /* ---- From here on it is C, and not proved. ------------------------------------------------------------------------ */
 
+/* The library has those of these functions that are for its users as its own too, for callers that have no C compiler. */
+#ifndef NEKCHHAUL_INLINE
+#define NEKCHHAUL_INLINE static inline
+#endif
+
+/* What a body answers: 0 to commit, the status that a call gave it to have it run again where that serves, RETRY to have it
+ * run again once others have come further, or NEKCHHAUL_STOP + n to cancel and have that answered. */
+typedef uint32_t (*nekchhaul_body)(nekchhaul_caller *caller, void *argument);
+
+/* Answers of the loops below, and of bodies. */
+enum {
+    NEKCHHAUL_UNCANCELLABLE = 48, /* the attempt couldn't take writes back (always under CGL and TML). The body wasn't run */
+    NEKCHHAUL_RETRY = 49,         /* of a body */
+    NEKCHHAUL_STOP = 256          /* of a body, and more */
+};
+
+/* The name of a status without its first word, "CONFLICT" of NEKCHHAUL_CONFLICT; of a number that is no status "STOP" from
+ * NEKCHHAUL_STOP on, else "UNKNOWN". */
+NEKCHHAUL_INLINE const char *nekchhaul_status_name(uint32_t status)
+{
+#define NEKCHHAUL_NAME(name) case NEKCHHAUL_##name: return #name;
+    switch (status) {
+    NEKCHHAUL_NAME(OK)
+    NEKCHHAUL_NAME(CONFLICT)
+    NEKCHHAUL_NAME(GATE_CLOSED)
+    NEKCHHAUL_NAME(HELD)
+    NEKCHHAUL_NAME(BUSY)
+    NEKCHHAUL_NAME(AGAIN)
+    NEKCHHAUL_NAME(LOG_FULL)
+    NEKCHHAUL_NAME(CLOCK_FULL)
+    NEKCHHAUL_NAME(IRREVOCABLE)
+    NEKCHHAUL_NAME(DEEP)
+    NEKCHHAUL_NAME(RANGE_TAKEN)
+    NEKCHHAUL_NAME(NO_CALLER)
+    NEKCHHAUL_NAME(NO_ATTEMPT)
+    NEKCHHAUL_NAME(IN_ATTEMPT)
+    NEKCHHAUL_NAME(COMMITTING)
+    NEKCHHAUL_NAME(ADDRESS)
+    NEKCHHAUL_NAME(ALGORITHM)
+    NEKCHHAUL_NAME(MEMORY)
+    NEKCHHAUL_NAME(HOLDS_CALLER)
+    NEKCHHAUL_NAME(FENCED)
+    NEKCHHAUL_NAME(HOLDS_RANGE)
+    NEKCHHAUL_NAME(NO_RANGES)
+    NEKCHHAUL_NAME(NO_RANGE)
+    NEKCHHAUL_NAME(DEPTH)
+    NEKCHHAUL_NAME(LOGS)
+    NEKCHHAUL_NAME(ROOM)
+    NEKCHHAUL_NAME(SIZE_WORDS)
+    NEKCHHAUL_NAME(SIZE_RECORDS)
+    NEKCHHAUL_NAME(SIZE_RING)
+    NEKCHHAUL_NAME(SIZE_CALLERS)
+    NEKCHHAUL_NAME(SIZE_LOGS)
+    NEKCHHAUL_NAME(SIZE_CLOCK)
+    NEKCHHAUL_NAME(STRANGER)
+    NEKCHHAUL_NAME(CLOSING)
+    NEKCHHAUL_NAME(NOT_CLOSING)
+    NEKCHHAUL_NAME(UNCANCELLABLE)
+    NEKCHHAUL_NAME(RETRY)
+    default: return status >= NEKCHHAUL_STOP ? "STOP" : "UNKNOWN";
+    }
+#undef NEKCHHAUL_NAME
+}
+
+/* Sizes to begin with, for so many words: 1,024 records, 64 ring slots, logs of 64 items, which the loops below lengthen. */
+NEKCHHAUL_INLINE nekchhaul_sizes nekchhaul_sizes_of(size_t words)
+{
+    nekchhaul_sizes sizes = { words, 1024, 64, 64, 64, 0 };
+    return sizes;
+}
+
 /* Hands a caller on: what stood there is no caller then. */
-static inline nekchhaul_caller nekchhaul_move(nekchhaul_caller *from)
+NEKCHHAUL_INLINE nekchhaul_caller nekchhaul_move(nekchhaul_caller *from)
 {
     nekchhaul_caller to = *from;
     from->tag_ = 0;
@@ -252,17 +326,9 @@ static inline nekchhaul_caller nekchhaul_move(nekchhaul_caller *from)
     return to;
 }
 
-/* What a body answers: 0 to commit, the status that a call gave it to have it run again where that serves, or
- * NEKCHHAUL_STOP + n to cancel and have that answered. */
-enum { NEKCHHAUL_STOP = 256 };
-typedef uint32_t (*nekchhaul_body)(nekchhaul_caller *caller, void *argument);
-
-/* An answer of nekchhaul_atomically alone: the memory's algorithm, CGL or TML, can't take writes back. The body wasn't run. */
-enum { NEKCHHAUL_UNCANCELLABLE = 48 };
-
 /* Ends an attempt that is to leave no trace. Where it can only be committed (always under CGL, under TML after its first
  * write, and once irrevocable), it is, and the answer is IRREVOCABLE: what it wrote stands. */
-static inline uint32_t nekchhaul_abandon(nekchhaul_caller *caller)
+NEKCHHAUL_INLINE uint32_t nekchhaul_abandon(nekchhaul_caller *caller)
 {
     uint32_t s = nekchhaul_cancel(caller);
     if (s == NEKCHHAUL_IRREVOCABLE) {
@@ -272,33 +338,43 @@ static inline uint32_t nekchhaul_abandon(nekchhaul_caller *caller)
     return s;
 }
 
-/* Begins an attempt for a body that may stop: with 0 it can be cancelled whatever the body does. Else none is open:
- * RANGE_TAKEN where a range is out, since the body might stop at a word of it; UNCANCELLABLE. */
-static inline uint32_t nekchhaul_enter_lightly(nekchhaul_caller *caller)
+/* Whether a body may run in the attempt that is open: NO_ATTEMPT where none is; RANGE_TAKEN where a range is out, since the
+ * body might stop at a word of it; of one that `may_stop` UNCANCELLABLE. */
+static inline uint32_t nekchhaul_may_run(nekchhaul_caller *caller, int may_stop)
 {
     nekchhaul_state_of at;
-    uint32_t s = nekchhaul_begin(caller);
+    uint32_t s = nekchhaul_state(caller, &at);
     if (s != NEKCHHAUL_OK) return s;
-    if ((s = nekchhaul_state(caller, &at)) != NEKCHHAUL_OK) return s;
-    if (at.range & 2) s = NEKCHHAUL_RANGE_TAKEN;
-    else if (at.irrevocable || at.algorithm == NEKCHHAUL_TML) s = NEKCHHAUL_UNCANCELLABLE;
-    if (s != NEKCHHAUL_OK) (void)nekchhaul_abandon(caller); /* which has done nothing */
+    if (at.stand == 0) return NEKCHHAUL_NO_ATTEMPT;
+    if (at.range & 2) return NEKCHHAUL_RANGE_TAKEN;
+    if (may_stop && (at.irrevocable || at.algorithm == NEKCHHAUL_TML)) return NEKCHHAUL_UNCANCELLABLE;
+    return NEKCHHAUL_OK;
+}
+
+/* Runs a body as a part of the attempt that is open; with any answer but 0 that has ended. */
+static inline uint32_t nekchhaul_run(nekchhaul_caller *caller, nekchhaul_body body, void *argument)
+{
+    uint32_t s = body(caller, argument);
+    if (s != NEKCHHAUL_OK && nekchhaul_abandon(caller) == NEKCHHAUL_IRREVOCABLE) return NEKCHHAUL_IRREVOCABLE;
     return s;
 }
 
-/* Begins an attempt for a body that never stops; where it is to be `sure`, the attempt is irrevocable with 0. Else none is
- * open: RANGE_TAKEN as above. */
-static inline uint32_t nekchhaul_enter(nekchhaul_caller *caller, int sure, struct nekchhaul_pause *pause)
+/* What nekchhaul_atomically (where it `may_stop`) and nekchhaul_atomically_for_good do with a body inside a body of the same
+ * caller: it is a part of the attempt that is open. With UNCANCELLABLE, RANGE_TAKEN or NO_ATTEMPT it wasn't run, and the
+ * attempt is as it was; with any other answer but 0 the attempt has ended, and the body around hands that answer on. */
+NEKCHHAUL_INLINE uint32_t nekchhaul_join(nekchhaul_caller *caller, int may_stop, nekchhaul_body body, void *argument)
 {
-    nekchhaul_state_of at;
-    uint32_t s = nekchhaul_begin(caller);
-    if (s != NEKCHHAUL_OK) return s;
-    if ((s = nekchhaul_state(caller, &at)) != NEKCHHAUL_OK) return s;
-    if (at.range & 2) {
-        (void)nekchhaul_abandon(caller);
-        return NEKCHHAUL_RANGE_TAKEN;
-    }
-    if (!sure) return s;
+    uint32_t s = nekchhaul_may_run(caller, may_stop);
+    return s == NEKCHHAUL_OK ? nekchhaul_run(caller, body, argument) : s;
+}
+
+/* Begins an attempt for a body that never stops or, where it `may_stop`, one that can be cancelled whatever the body does.
+ * Where it is to be `sure`, it is irrevocable with 0. Else none is open. */
+static inline uint32_t nekchhaul_enter(nekchhaul_caller *caller, int may_stop, int sure, struct nekchhaul_pause *pause)
+{
+    uint32_t s = nekchhaul_may_run(caller, may_stop);
+    if (s != NEKCHHAUL_OK) (void)nekchhaul_abandon(caller); /* which has done nothing */
+    if (s != NEKCHHAUL_OK || !sure) return s;
     while ((s = nekchhaul_become_irrevocable(caller)) == NEKCHHAUL_BUSY) nekchhaul_wait(pause);
     if (s == NEKCHHAUL_GATE_CLOSED) (void)!nekchhaul_cancel(caller);
     return s;
@@ -323,6 +399,15 @@ static inline uint32_t nekchhaul_lengthen(nekchhaul_caller *caller)
     return nekchhaul_reserve(caller, length, length);
 }
 
+/* Whether it would be in vain to run a body again. */
+static inline int nekchhaul_is_final(uint32_t status)
+{
+    switch (status) {
+    case NEKCHHAUL_CLOCK_FULL: case NEKCHHAUL_IRREVOCABLE: case NEKCHHAUL_DEEP: case NEKCHHAUL_RANGE_TAKEN: return 1;
+    default: return status >= NEKCHHAUL_NO_CALLER;
+    }
+}
+
 /* The count of failed attempts after one more, which ended so; one that didn't begin isn't counted, and a log that was
  * too short will be so again. */
 static inline unsigned nekchhaul_failed(unsigned failed, uint32_t status)
@@ -340,32 +425,31 @@ static inline void nekchhaul_pause_after(struct nekchhaul_pause *pause, uint32_t
 /* What is done after an attempt of a body that may stop, which ended so: 0 to try again; else the answer. */
 static inline uint32_t nekchhaul_retry_lightly(nekchhaul_caller *caller, uint32_t status, struct nekchhaul_pause *pause)
 {
-    if (status >= NEKCHHAUL_NO_CALLER || status == NEKCHHAUL_CLOCK_FULL || status == NEKCHHAUL_RANGE_TAKEN) return status;
     if (status == NEKCHHAUL_LOG_FULL) return nekchhaul_lengthen(caller);
     if (status == NEKCHHAUL_CONFLICT) nekchhaul_wait_longer(pause);
+    else if (status == NEKCHHAUL_RETRY) nekchhaul_wait(pause);
+    else if (nekchhaul_is_final(status)) return status;
     else nekchhaul_pause_after(pause, status);
     return NEKCHHAUL_OK;
 }
 
 /* Runs `body` in attempts until one commits (0), it stops (its answer), a call didn't fit (its status, from 16 on), the
- * clock is full, or a log of 4,096 items is. A body that stops leaves nothing: its attempts are never made irrevocable, and
- * where the algorithm can't take writes back, CGL or TML, the answer is UNCANCELLABLE, and it isn't run. Nor is it while a
- * range is out, the caller's own or another's: RANGE_TAKEN, so that no body meets FENCED. A full log is made longer, and
- * after a conflict the pauses grow. It waits, by pausing the processor and yielding. With any answer no attempt is open. A
- * body is left by its return alone, never by longjmp, and uses no other caller of the same memory. */
-static inline uint32_t nekchhaul_atomically(nekchhaul_caller *caller, nekchhaul_body body, void *argument)
+ * clock is full, a log of 4,096 items is, or it asks for a ninth mark (DEEP). A body that stops leaves nothing: its attempts
+ * are never made irrevocable, and where the algorithm can't take writes back, CGL or TML, the answer is UNCANCELLABLE, and it
+ * isn't run. Nor is it while a range is out, the caller's own or another's: RANGE_TAKEN, so that no body meets FENCED. A full
+ * log is made longer, and after a conflict the pauses grow. It waits, by pausing the processor and yielding. With any
+ * answer no attempt is open. A body is left by its return alone, never by longjmp, and uses no other caller of the same memory.
+ * Inside a body of the same caller it is nekchhaul_join. */
+NEKCHHAUL_INLINE uint32_t nekchhaul_atomically(nekchhaul_caller *caller, nekchhaul_body body, void *argument)
 {
     struct nekchhaul_pause pause = NEKCHHAUL_PAUSE_INIT;
     for (;;) {
-        uint32_t s = nekchhaul_enter_lightly(caller);
+        uint32_t s = nekchhaul_begin(caller);
+        if (s == NEKCHHAUL_IN_ATTEMPT) return nekchhaul_join(caller, 1, body, argument);
+        if (s == NEKCHHAUL_OK) s = nekchhaul_enter(caller, 1, 0, &pause);
         if (s == NEKCHHAUL_OK) {
-            s = body(caller, argument);
-            if (s == NEKCHHAUL_OK) {
-                s = nekchhaul_leave(caller, &pause);
-                if (s == NEKCHHAUL_OK) return s;
-            } else if (nekchhaul_abandon(caller) == NEKCHHAUL_IRREVOCABLE) {
-                return NEKCHHAUL_IRREVOCABLE; /* the body itself had made it so */
-            }
+            s = nekchhaul_run(caller, body, argument);
+            if (s == NEKCHHAUL_OK && (s = nekchhaul_leave(caller, &pause)) == NEKCHHAUL_OK) return s;
         }
         s = nekchhaul_retry_lightly(caller, s, &pause);
         if (s != NEKCHHAUL_OK) return s;
@@ -376,25 +460,56 @@ static inline uint32_t nekchhaul_atomically(nekchhaul_caller *caller, nekchhaul_
  * log, the next asks to be irrevocable first. Where it does stop, or makes a call that doesn't fit, in an attempt that can't
  * be cancelled, the answer is IRREVOCABLE, and what it wrote until then stands. While a range is out the answer is
  * RANGE_TAKEN, and it isn't run. */
-static inline uint32_t nekchhaul_atomically_for_good(nekchhaul_caller *caller, nekchhaul_body body, void *argument)
+NEKCHHAUL_INLINE uint32_t nekchhaul_atomically_for_good(nekchhaul_caller *caller, nekchhaul_body body, void *argument)
 {
     struct nekchhaul_pause pause = NEKCHHAUL_PAUSE_INIT;
     unsigned failed = 0;
     for (;;) {
-        uint32_t s = nekchhaul_enter(caller, failed >= 16, &pause);
+        uint32_t s = nekchhaul_begin(caller);
+        if (s == NEKCHHAUL_IN_ATTEMPT) return nekchhaul_join(caller, 0, body, argument);
+        if (s == NEKCHHAUL_OK) s = nekchhaul_enter(caller, 0, failed >= 16, &pause);
         if (s == NEKCHHAUL_OK) {
-            s = body(caller, argument);
-            if (s == NEKCHHAUL_OK) {
-                s = nekchhaul_leave(caller, &pause);
-                if (s == NEKCHHAUL_OK) return s;
-            } else if (nekchhaul_abandon(caller) == NEKCHHAUL_IRREVOCABLE) {
-                return NEKCHHAUL_IRREVOCABLE;
-            }
+            s = nekchhaul_run(caller, body, argument);
+            if (s == NEKCHHAUL_OK && (s = nekchhaul_leave(caller, &pause)) == NEKCHHAUL_OK) return s;
         }
-        if (s >= NEKCHHAUL_NO_CALLER || s == NEKCHHAUL_CLOCK_FULL || s == NEKCHHAUL_RANGE_TAKEN) return s;
+        if (nekchhaul_is_final(s)) return s;
         failed = nekchhaul_failed(failed, s);
         nekchhaul_pause_after(&pause, s);
     }
+}
+
+/* Sets a mark for a body whose writes are to be rolled back alone where it stops. UNCANCELLABLE, RANGE_TAKEN, NO_ATTEMPT;
+ * DEEP, COMMITTING. */
+static inline uint32_t nekchhaul_nest(nekchhaul_caller *caller, size_t *depth)
+{
+    uint32_t s = nekchhaul_may_run(caller, 1);
+    return s == NEKCHHAUL_OK ? nekchhaul_checkpoint(caller, depth) : s;
+}
+
+/* What such a body came to: with 0 the mark is dropped; else all that was written since is rolled back, and the answer is
+ * that status, or IRREVOCABLE where the body has made the attempt so. */
+static inline uint32_t nekchhaul_unnest(nekchhaul_caller *caller, size_t depth, uint32_t status)
+{
+    if (status == NEKCHHAUL_OK) return nekchhaul_drop_marks(caller, depth);
+    uint32_t s = nekchhaul_roll_to(caller, depth);
+    if (s == NEKCHHAUL_OK) (void)!nekchhaul_drop_marks(caller, depth);
+    return s == NEKCHHAUL_IRREVOCABLE ? s : status;
+}
+
+/* Inside a body: runs another, of which nothing is left where it answers anything but 0. Where that is RETRY, STOP or a
+ * misuse, the attempt goes on without it; a status below 16 is handed on. It takes a mark, of which 8 stand at most. */
+NEKCHHAUL_INLINE uint32_t nekchhaul_nested(nekchhaul_caller *caller, nekchhaul_body body, void *argument)
+{
+    size_t depth = 0;
+    uint32_t s = nekchhaul_nest(caller, &depth);
+    return s == NEKCHHAUL_OK ? nekchhaul_unnest(caller, depth, body(caller, argument)) : s;
+}
+
+/* Inside a body: runs `first`, and where it answers RETRY `second` in its place. */
+NEKCHHAUL_INLINE uint32_t nekchhaul_or_else(nekchhaul_caller *caller, nekchhaul_body first, nekchhaul_body second, void *argument)
+{
+    uint32_t s = nekchhaul_nested(caller, first, argument);
+    return s == NEKCHHAUL_RETRY ? nekchhaul_nested(caller, second, argument) : s;
 }
 
 /* Whether a call that must be alone is to be made again after it answered so: others are in the way, and of `tries` (0: no
@@ -413,7 +528,7 @@ static inline int nekchhaul_is_to_go_on(nekchhaul_caller *caller, uint32_t statu
 
 /* The calls that must be alone, made until others are out of the way, or this often: 0 for as often as need be. After the
  * last of so many the answer is BUSY or GATE_CLOSED, and the gate is open again. */
-static inline uint32_t nekchhaul_install_within(nekchhaul_caller *caller, uint32_t algorithm, unsigned long tries)
+NEKCHHAUL_INLINE uint32_t nekchhaul_install_within(nekchhaul_caller *caller, uint32_t algorithm, unsigned long tries)
 {
     struct nekchhaul_pause pause = NEKCHHAUL_PAUSE_INIT;
     uint32_t s;
@@ -422,7 +537,7 @@ static inline uint32_t nekchhaul_install_within(nekchhaul_caller *caller, uint32
     return s;
 }
 
-static inline uint32_t nekchhaul_take_range_within(nekchhaul_caller *caller, size_t from, size_t count, unsigned long tries)
+NEKCHHAUL_INLINE uint32_t nekchhaul_take_range_within(nekchhaul_caller *caller, size_t from, size_t count, unsigned long tries)
 {
     struct nekchhaul_pause pause = NEKCHHAUL_PAUSE_INIT;
     uint32_t s;
@@ -431,7 +546,7 @@ static inline uint32_t nekchhaul_take_range_within(nekchhaul_caller *caller, siz
     return s;
 }
 
-static inline uint32_t nekchhaul_return_range_within(nekchhaul_caller *caller, unsigned long tries)
+NEKCHHAUL_INLINE uint32_t nekchhaul_return_range_within(nekchhaul_caller *caller, unsigned long tries)
 {
     struct nekchhaul_pause pause = NEKCHHAUL_PAUSE_INIT;
     uint32_t s;
@@ -440,7 +555,7 @@ static inline uint32_t nekchhaul_return_range_within(nekchhaul_caller *caller, u
     return s;
 }
 
-static inline uint32_t nekchhaul_end_within(nekchhaul_caller *caller, uint64_t *words, size_t count, unsigned long tries)
+NEKCHHAUL_INLINE uint32_t nekchhaul_end_within(nekchhaul_caller *caller, uint64_t *words, size_t count, unsigned long tries)
 {
     struct nekchhaul_pause pause = NEKCHHAUL_PAUSE_INIT;
     uint32_t s;
@@ -449,22 +564,22 @@ static inline uint32_t nekchhaul_end_within(nekchhaul_caller *caller, uint64_t *
     return s;
 }
 
-static inline uint32_t nekchhaul_install(nekchhaul_caller *caller, uint32_t algorithm)
+NEKCHHAUL_INLINE uint32_t nekchhaul_install(nekchhaul_caller *caller, uint32_t algorithm)
 {
     return nekchhaul_install_within(caller, algorithm, 0);
 }
 
-static inline uint32_t nekchhaul_take_range(nekchhaul_caller *caller, size_t from, size_t count)
+NEKCHHAUL_INLINE uint32_t nekchhaul_take_range(nekchhaul_caller *caller, size_t from, size_t count)
 {
     return nekchhaul_take_range_within(caller, from, count, 0);
 }
 
-static inline uint32_t nekchhaul_return_range(nekchhaul_caller *caller)
+NEKCHHAUL_INLINE uint32_t nekchhaul_return_range(nekchhaul_caller *caller)
 {
     return nekchhaul_return_range_within(caller, 0);
 }
 
-static inline uint32_t nekchhaul_end(nekchhaul_caller *caller, uint64_t *words, size_t count)
+NEKCHHAUL_INLINE uint32_t nekchhaul_end(nekchhaul_caller *caller, uint64_t *words, size_t count)
 {
     return nekchhaul_end_within(caller, words, count, 0);
 }

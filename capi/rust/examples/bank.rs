@@ -1,10 +1,9 @@
 //! The bank in Rust.
-use nekchhaul::{open, Algorithm, Caller, Sizes, Status};
+use nekchhaul::{open, Algorithm, Caller, Sizes};
 use std::thread;
 
 const ACCOUNTS: usize = 64;
 const BALANCE: u64 = 1000;
-const ALL: [Algorithm; 6] = [Algorithm::Cgl, Algorithm::Tml, Algorithm::OrecLazy, Algorithm::OrecEager, Algorithm::RingSw, Algorithm::Serial];
 
 fn trade(mut mine: Caller, mut x: u64) {
     for _ in 0..30_000 {
@@ -27,7 +26,7 @@ fn trade(mut mine: Caller, mut x: u64) {
 }
 
 fn main() {
-    for (n, algorithm) in ALL.into_iter().enumerate() {
+    for (n, algorithm) in Algorithm::ALL.into_iter().enumerate() {
         let sizes = Sizes { words: ACCOUNTS, records: 64, ring: 64, reads: 128, writes: 64, clock: 0 };
         let mut callers = open(&sizes, algorithm, 4).unwrap();
         let mut auditor = callers.pop().unwrap();
@@ -45,21 +44,10 @@ fn main() {
                 auditor.atomically_for_good(|t| t.read_many(&all, &mut balances)).unwrap();
                 assert_eq!(balances.iter().sum::<u64>(), ACCOUNTS as u64 * BALANCE);
                 if i % 64 == 0 {
-                    auditor.install(ALL[(n + i / 64 + 1) % 6]).unwrap();
+                    auditor.install(Algorithm::ALL[(n + i / 64 + 1) % 6]).unwrap();
                 }
             }
         });
-        auditor.install(Algorithm::Serial).unwrap();
-        assert_eq!(auditor.atomically(|t| t.read(ACCOUNTS)), Err(Status::ADDRESS));
-        assert_eq!(auditor.atomically(|t| t.write(0, 0).and(Err::<(), _>(Status(Status::STOP)))), Err(Status(Status::STOP)));
-        auditor.install(Algorithm::Tml).unwrap();
-        assert_eq!(auditor.atomically(|_| Ok(())), Err(Status::UNCANCELLABLE));
-        auditor.take_range(0, 1).unwrap();
-        let word = auditor.direct_read(0).unwrap();
-        auditor.direct_write(0, word).unwrap();
-        assert_eq!(auditor.atomically(|_| Ok(())), Err(Status::RANGE_TAKEN));
-        assert_eq!(auditor.atomically_for_good(|_| Ok(())), Err(Status::RANGE_TAKEN));
-        auditor.return_range().unwrap();
         assert_eq!(auditor.close(ACCOUNTS).unwrap().iter().sum::<u64>(), ACCOUNTS as u64 * BALANCE);
     }
 }

@@ -1,0 +1,187 @@
+// Each call of nekchhaul.hpp, and what it refuses. Ends with 0, or prints the lines that went wrong.
+#include "nekchhaul.hpp"
+
+#include <cstdio>
+
+namespace nh = nekchhaul;
+
+namespace {
+int wrong;
+
+#define IS(what) do { if (!(what)) { std::printf("calls.cpp:%d: not so: %s\n", __LINE__, #what); wrong = 1; } } while (0)
+
+// The status of the error that it ends with; 0 where it ends well.
+template <class F> uint32_t status_of(F &&call)
+{
+    try {
+        call();
+        return NEKCHHAUL_OK;
+    } catch (const nh::error &e) {
+        return e.status;
+    }
+}
+
+struct thrown {
+    int number;
+};
+
+void words(nh::caller &c)
+{
+    nh::layout l;
+    auto number = l.place<double>();
+    auto letters = l.array<char>(2);
+    struct pair { uint32_t a; int16_t b; };
+    auto two = l.place<pair>();
+    IS(l.size() == 4);
+    c.atomically([&](auto &t) {
+        t.write(number, -2.5);
+        t.write(letters[1], 'x');
+        t.write(two, pair{7, -3});
+    });
+    IS(c.atomically([&](auto &t) { return t.read(number); }) == -2.5);
+    IS(c.atomically([&](auto &t) { return t.read(letters[0]) == 0 && t.read(letters[1]) == 'x'; }));
+    IS(c.atomically([&](auto &t) { return t.read(two).b; }) == -3);
+    IS(status_of([&] { (void)letters[2]; }) == NEKCHHAUL_ADDRESS);
+    c.take_range(0, 1);
+    c.direct_write(number, c.direct_read(number) * 2);
+    c.return_range();
+    IS(c.atomically([&](auto &t) { return t.read(number); }) == -5.0);
+}
+
+void marks(nh::caller &c)
+{
+    c.atomically([&](auto &t) {
+        t.write(0, 1);
+        size_t one = t.checkpoint();
+        t.write(0, 2);
+        size_t two = t.checkpoint();
+        t.write(0, 3);
+        IS(t.state().marks == 2);
+        t.roll_to(two);
+        IS(t.read(0) == 2);
+        t.drop_marks(two);
+        t.roll_to(one);
+        IS(t.read(0) == 1 && t.state().marks == 1);
+    });
+    IS(status_of([&] { c.atomically([&](auto &t) { t.roll_to(1); }); }) == NEKCHHAUL_DEPTH);
+    IS(status_of([&] { c.atomically([&](auto &t) { for (;;) t.checkpoint(); }); }) == NEKCHHAUL_DEEP);
+}
+
+void nesting(nh::caller &c)
+{
+    // a part that stops leaves nothing, and the rest may go on
+    c.atomically([&](auto &t) {
+        t.write(0, 5);
+        try {
+            t.nested([](auto &inner) {
+                inner.write(0, 6);
+                inner.write(1, 6);
+                throw thrown{1};
+            });
+        } catch (const thrown &) {
+        }
+        t.write(2, t.read(0));
+    });
+    IS((c.atomically([&](auto &t) { return t.read_many({0, 1, 2}); }) == std::vector<uint64_t>{5, 0, 5}));
+    // an inner transaction is a part of the outer one: where it stops, all does, and a body that goes on is refused
+    try {
+        c.atomically([&](auto &t) {
+            t.write(0, 7);
+            c.atomically([](auto &inner) { inner.write(1, 7); });
+            c.atomically([](auto &) { throw thrown{2}; });
+        });
+        IS(false);
+    } catch (const thrown &e) {
+        IS(e.number == 2);
+    }
+    IS(status_of([&] {
+        c.atomically([&](auto &t) {
+            t.write(0, 8);
+            try {
+                c.atomically([](auto &) { throw thrown{3}; });
+            } catch (const thrown &) {
+            }
+            c.atomically([](auto &inner) { inner.write(1, 8); });
+        });
+    }) == NEKCHHAUL_NO_ATTEMPT);
+    IS((c.atomically([&](auto &t) { return t.read_many({0, 1}); }) == std::vector<uint64_t>{5, 0}));
+    IS(c.atomically([&](auto &t) {
+        return t.or_else([](nh::attempt &first) -> int { first.write(0, 9); first.retry(); }, [](auto &second) { return static_cast<int>(second.read(0)); });
+    }) == 5);
+    int runs = 0;
+    c.atomically([&](auto &t) {
+        if (++runs < 20) t.retry();
+    });
+    IS(runs == 20);
+}
+
+void that_never_stop(nh::caller &c)
+{
+    for (auto a : {nh::algorithm::cgl, nh::algorithm::tml}) {
+        c.install(a);
+        IS(status_of([&] { c.atomically([](auto &) {}); }) == NEKCHHAUL_UNCANCELLABLE);
+        c.atomically_for_good([&](auto &t) {
+            t.write(0, 1);
+            IS(status_of([&] { c.atomically([](auto &inner) { inner.write(0, 2); }); }) == NEKCHHAUL_UNCANCELLABLE);
+            IS(status_of([&] { t.nested([](auto &inner) { inner.write(0, 3); }); }) == NEKCHHAUL_UNCANCELLABLE);
+            c.atomically_for_good([](auto &inner) { inner.write(1, 4); });
+        });
+        IS((c.atomically_for_good([&](auto &t) { return t.read_many({0, 1}); }) == std::vector<uint64_t>{1, 4}));
+        IS(status_of([&] { c.atomically_for_good([](auto &t) { t.write(0, 5); t.retry(); }); }) == NEKCHHAUL_IRREVOCABLE);
+    }
+    c.install(nh::algorithm::orec_lazy);
+    c.atomically([&](auto &t) {
+        t.become_irrevocable();
+        IS(t.state().irrevocable == 1);
+        IS(status_of([&] { c.atomically([](auto &) {}); }) == NEKCHHAUL_UNCANCELLABLE);
+    });
+    IS(status_of([&] { c.atomically([](auto &t) { t.become_irrevocable(); t.read(1000); }); }) == NEKCHHAUL_IRREVOCABLE);
+}
+
+void others(nh::caller &c, nh::caller &other)
+{
+    c.learn(other);
+    c.learn(c);
+    IS(c.state().stand == 0 && c.atomically([](auto &t) { return t.state().stand; }) == 1);
+    c.reserve(8, 8);
+    IS(status_of([&] { c.reserve(0, 8); }) == NEKCHHAUL_LOGS);
+    IS(nekchhaul_begin(other.get()) == NEKCHHAUL_OK);
+    IS(status_of([&] { c.install(nh::algorithm::serial, 3); }) == NEKCHHAUL_BUSY);
+    IS(c.why().status == NEKCHHAUL_BUSY && c.state().stand == 0);
+    IS(status_of([&] { c.take_range(0, 1, 2); }) == NEKCHHAUL_BUSY);
+    IS(status_of([&] { c.close(4, 1); }) == NEKCHHAUL_BUSY);
+    IS(nekchhaul_commit(other.get()) == NEKCHHAUL_OK);
+    c.take_range(0, 2);
+    IS(status_of([&] { other.atomically([](auto &) {}); }) == NEKCHHAUL_RANGE_TAKEN);
+    IS(status_of([&] { (void)c.direct_read(2); }) == NEKCHHAUL_NO_RANGE);
+    c.direct_write(1, 11);
+    c.return_range();
+    try {
+        c.atomically([](auto &t) { t.read(4); });
+        IS(false);
+    } catch (const nh::error &e) {
+        IS(e.status == NEKCHHAUL_ADDRESS && std::string(e.what()) == "nekchhaul: ADDRESS");
+    }
+    nh::caller moved = std::move(c);
+    IS(status_of([&] { c.state(); }) == NEKCHHAUL_NO_CALLER);
+    IS(moved.close(4).at(1) == 11);
+    IS(status_of([&] { moved.atomically([](auto &) {}); }) == NEKCHHAUL_RANGE_TAKEN);
+}
+} // namespace
+
+int main()
+{
+    for (auto a : {nh::algorithm::orec_lazy, nh::algorithm::orec_eager, nh::algorithm::ring_sw, nh::algorithm::serial}) {
+        auto callers = nh::open({4, 16, 16, 16, 16, 0}, a, 2);
+        words(callers[0]);
+        callers[0].atomically([](auto &t) { for (size_t i = 0; i < 4; i++) t.write(i, 0); });
+        marks(callers[0]);
+        callers[0].atomically([](auto &t) { t.write(0, 0); });
+        nesting(callers[0]);
+        that_never_stop(callers[0]);
+        others(callers[0], callers[1]);
+    }
+    IS(status_of([] { nh::open({1, 1, 2, 1, 1, 0}, nh::algorithm::serial, 0); }) == NEKCHHAUL_SIZE_CALLERS);
+    IS(status_of([] { nh::open({0, 1, 2, 1, 1, 0}, nh::algorithm::serial, 1); }) == NEKCHHAUL_SIZE_WORDS);
+    return wrong;
+}

@@ -1,0 +1,96 @@
+#!/usr/bin/env python3
+"""A bank of threads: they move money while an auditor adds all up, and then what a body that stops leaves. Prints nothing where
+all is right."""
+import random
+import threading
+
+import nekchhaul
+from nekchhaul import Algorithm
+
+ACCOUNTS, BALANCE, TRADERS, TRADES = 16, 1000, 3, 300
+
+
+class Poor(Exception):
+    """The payer has less than that."""
+
+
+def transfer(caller, payer, payee, amount):
+    def pay(t):
+        had = t.read(payer)
+        t.write(payer, had - amount if had >= amount else 0)
+        if had < amount:
+            raise Poor
+
+    def move(t):
+        t.write(payee, t.read(payee) + amount)
+        caller.atomically(pay)  # a part of this transaction
+
+    caller.atomically(move)
+
+
+def trade(caller, seed):
+    draws = random.Random(seed)
+    for _ in range(TRADES):
+        try:
+            transfer(caller, *draws.sample(range(ACCOUNTS), 2), draws.randrange(BALANCE))
+        except Poor:
+            pass
+
+
+def balances(t):
+    return [t.read(account) for account in range(ACCOUNTS)]
+
+
+def bank(algorithm):
+    auditor, *traders = nekchhaul.open(ACCOUNTS, algorithm, 1 + TRADERS)
+    auditor.take_range(0, ACCOUNTS)
+    for account in range(ACCOUNTS):
+        auditor.direct_write(account, BALANCE)
+    assert auditor.direct_read(0) == BALANCE
+    auditor.return_range()
+    threads = [threading.Thread(target=trade, args=(caller, seed)) for seed, caller in enumerate(traders)]
+    for thread in threads:
+        thread.start()
+    while any(thread.is_alive() for thread in threads):
+        assert sum(auditor.atomically(balances)) == ACCOUNTS * BALANCE
+    for thread in threads:
+        thread.join()
+    assert sum(auditor.close(ACCOUNTS)) == ACCOUNTS * BALANCE
+
+
+def is_refused(status, call, *arguments):
+    try:
+        call(*arguments)
+    except nekchhaul.Error as error:
+        return str(error) == status
+    return False
+
+
+def parts():
+    caller, other = nekchhaul.open(3, callers=2)
+
+    def outer(t):
+        t.write(0, 1)
+        try:
+            t.nested(lambda inner: (inner.write(1, 1), 1 // 0))
+        except ZeroDivisionError:
+            pass
+        caller.atomically(lambda inner: inner.write(2, t.read(1) + 7))
+        return t.or_else(lambda inner: inner.write(0, 9) or inner.retry(), lambda inner: inner.read(0))
+
+    assert caller.atomically(outer) == 1
+    waits = threading.Thread(target=lambda: other.atomically(lambda t: t.read(1) or t.retry()))
+    waits.start()
+    caller.atomically(lambda t: t.write(1, 4))
+    waits.join()
+    assert is_refused("ADDRESS", caller.atomically, lambda t: t.read(3))
+    caller.install(Algorithm.TML)
+    assert is_refused("UNCANCELLABLE", caller.atomically, lambda t: None)
+    caller.atomically_for_good(lambda t: t.write(0, 2))
+    assert other.close(3) == [2, 4, 7]
+    assert is_refused("SIZE_WORDS", nekchhaul.open, 0)
+
+
+for of in (Algorithm.OREC_LAZY, Algorithm.OREC_EAGER, Algorithm.RING_SW, Algorithm.SERIAL):
+    bank(of)
+parts()

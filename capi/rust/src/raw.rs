@@ -1,0 +1,90 @@
+//! The calls of `nekchhaul.h`, and its types.
+use std::ffi::{c_char, c_ulong, c_void};
+
+/// A handle, as the library has it.
+#[repr(C)]
+pub(crate) struct Handle {
+    tag: u64,
+    at: *mut u8,
+}
+
+impl Handle {
+    pub(crate) const NONE: Handle = Handle { tag: 0, at: std::ptr::null_mut() };
+}
+
+/// The sizes of a memory, as in `nekchhaul.h`.
+#[repr(C)]
+#[derive(Clone, Copy, Debug, PartialEq, Eq)]
+pub struct Sizes {
+    /// 1 to 1,048,576.
+    pub words: usize,
+    /// Ownership records, 1 to 4,096.
+    pub records: usize,
+    /// Ring slots, 2 to 64.
+    pub ring: usize,
+    /// A read log's length, 1 to 4,096.
+    pub reads: usize,
+    /// A write log's length, 1 to 4,096.
+    pub writes: usize,
+    /// 0, or the clock of a memory that went before.
+    pub clock: u64,
+}
+
+#[repr(C)]
+#[derive(Default)]
+pub(crate) struct State {
+    pub(crate) marks: usize,
+    pub(crate) stand: u32,
+    pub(crate) algorithm: u32,
+    pub(crate) irrevocable: u32,
+    pub(crate) range: u32,
+}
+
+#[repr(C)]
+#[derive(Default)]
+pub(crate) struct Why {
+    pub(crate) status: u32,
+    pub(crate) kind: u32,
+    pub(crate) first: u64,
+    pub(crate) second: u64,
+    pub(crate) third: u64,
+}
+
+pub(crate) type Body = unsafe extern "C" fn(caller: *mut Handle, argument: *mut c_void) -> u32;
+pub(crate) type Loop = unsafe extern "C" fn(caller: *mut Handle, body: Body, argument: *mut c_void) -> u32;
+
+extern "C" {
+    pub(crate) fn nekchhaul_open(sizes: *const Sizes, algorithm: u32, callers: *mut Handle, count: usize) -> u32;
+    pub(crate) fn nekchhaul_begin(caller: *mut Handle) -> u32;
+    pub(crate) fn nekchhaul_read(caller: *mut Handle, address: usize, value: *mut u64) -> u32;
+    pub(crate) fn nekchhaul_read_many(caller: *mut Handle, addresses: *const usize, count: usize, values: *mut u64, places: usize) -> u32;
+    pub(crate) fn nekchhaul_write(caller: *mut Handle, address: usize, value: u64) -> u32;
+    pub(crate) fn nekchhaul_commit(caller: *mut Handle) -> u32;
+    pub(crate) fn nekchhaul_become_irrevocable(caller: *mut Handle) -> u32;
+    pub(crate) fn nekchhaul_reopen(caller: *mut Handle) -> u32;
+    pub(crate) fn nekchhaul_checkpoint(caller: *mut Handle, depth: *mut usize) -> u32;
+    pub(crate) fn nekchhaul_roll_to(caller: *mut Handle, depth: usize) -> u32;
+    pub(crate) fn nekchhaul_drop_marks(caller: *mut Handle, depth: usize) -> u32;
+    pub(crate) fn nekchhaul_direct_read(caller: *mut Handle, address: usize, value: *mut u64) -> u32;
+    pub(crate) fn nekchhaul_direct_write(caller: *mut Handle, address: usize, value: u64) -> u32;
+    pub(crate) fn nekchhaul_reserve(caller: *mut Handle, reads: usize, writes: usize) -> u32;
+    pub(crate) fn nekchhaul_learn(to: *mut Handle, from: *mut Handle) -> u32;
+    pub(crate) fn nekchhaul_state(caller: *mut Handle, state: *mut State) -> u32;
+    pub(crate) fn nekchhaul_why(caller: *mut Handle, why: *mut Why) -> u32;
+    pub(crate) fn nekchhaul_release(caller: *mut Handle) -> u32;
+}
+
+// What the header has in C; the library has it too.
+extern "C" {
+    pub(crate) fn nekchhaul_status_name(status: u32) -> *const c_char;
+    pub(crate) fn nekchhaul_sizes_of(words: usize) -> Sizes;
+    pub(crate) fn nekchhaul_abandon(caller: *mut Handle) -> u32;
+    pub(crate) fn nekchhaul_join(caller: *mut Handle, may_stop: i32, body: Body, argument: *mut c_void) -> u32;
+    pub(crate) fn nekchhaul_atomically(caller: *mut Handle, body: Body, argument: *mut c_void) -> u32;
+    pub(crate) fn nekchhaul_atomically_for_good(caller: *mut Handle, body: Body, argument: *mut c_void) -> u32;
+    pub(crate) fn nekchhaul_nested(caller: *mut Handle, body: Body, argument: *mut c_void) -> u32;
+    pub(crate) fn nekchhaul_install_within(caller: *mut Handle, algorithm: u32, tries: c_ulong) -> u32;
+    pub(crate) fn nekchhaul_take_range_within(caller: *mut Handle, from: usize, count: usize, tries: c_ulong) -> u32;
+    pub(crate) fn nekchhaul_return_range_within(caller: *mut Handle, tries: c_ulong) -> u32;
+    pub(crate) fn nekchhaul_end_within(caller: *mut Handle, words: *mut u64, count: usize, tries: c_ulong) -> u32;
+}

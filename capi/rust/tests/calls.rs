@@ -1,0 +1,231 @@
+//! Each call, and what it refuses, under each algorithm that can take writes back.
+use nekchhaul::{open, Algorithm, Attempt, Caller, Layout, Sizes, Status};
+use std::panic::{catch_unwind, AssertUnwindSafe};
+use std::thread;
+
+const CANCEL: [Algorithm; 4] = [Algorithm::OrecLazy, Algorithm::OrecEager, Algorithm::RingSw, Algorithm::Serial];
+
+/// Two callers of a memory of four words, under each of these algorithms.
+fn callers() -> impl Iterator<Item = [Caller; 2]> {
+    CANCEL.into_iter().map(|algorithm| {
+        let mut both = open(&Sizes { words: 4, records: 16, ring: 16, reads: 8, writes: 8, clock: 0 }, algorithm, 2).unwrap().into_iter();
+        [both.next().unwrap(), both.next().unwrap()]
+    })
+}
+
+fn words(c: &mut Caller) -> [u64; 4] {
+    let mut found = [0; 4];
+    c.atomically(|t| t.read_many(&[0, 1, 2, 3], &mut found)).unwrap();
+    found
+}
+
+#[test]
+fn typed_words_have_what_was_written() {
+    let mut layout = Layout::new();
+    let (double, float, flag) = (layout.place::<f64>(), layout.place::<f32>(), layout.place::<bool>());
+    let numbers = layout.array::<i16>(3);
+    let mut c = open(&Sizes::of(layout.words()), Algorithm::OrecLazy, 1).unwrap().remove(0);
+    c.atomically(|t| {
+        assert!(!t.get(flag)?);
+        t.set(double, -2.5)?;
+        t.set(float, 0.25)?;
+        t.set(flag, true)?;
+        numbers.iter().zip(-1..).try_for_each(|(word, n)| t.set(word, n))
+    })
+    .unwrap();
+    assert_eq!(c.atomically(|t| Ok((t.get(double)?, t.get(float)?, t.get(flag)?))), Ok((-2.5, 0.25, true)));
+    assert_eq!(c.atomically(|t| numbers.iter().map(|word| t.get(word)).collect()), Ok(vec![-1, 0, 1]));
+    assert_eq!((numbers.len(), numbers.is_empty(), numbers.at(2).address()), (3, false, 5));
+    assert!(catch_unwind(|| numbers.at(3)).is_err());
+    c.take_range(0, 1).unwrap();
+    let had = c.direct_get(double).unwrap();
+    c.direct_set(double, 2.0 * had).unwrap();
+    c.return_range().unwrap();
+    assert_eq!(c.atomically(|t| t.get(double)), Ok(-5.0));
+}
+
+#[test]
+fn a_body_that_stops_leaves_nothing() {
+    for [mut c, _] in callers() {
+        let stop = c.atomically(|t| t.write(0, 1).and(Err::<(), _>(Status::stop(5)))).unwrap_err();
+        assert_eq!((stop.stopped(), stop.to_string().as_str()), (Some(5), "nekchhaul: STOP + 5"));
+        assert!(catch_unwind(AssertUnwindSafe(|| c.atomically(|t| -> Result<(), Status> {
+            t.write(0, 1)?;
+            panic!("a body's own")
+        })))
+        .is_err());
+        assert_eq!(c.atomically(|t| t.write(0, 1).and(t.read(4))), Err(Status::ADDRESS));
+        assert_eq!(words(&mut c), [0; 4]);
+        let mut runs = 0;
+        c.atomically(|t| {
+            runs += 1;
+            t.write(1, runs)?;
+            if runs < 20 { t.retry() } else { Ok(()) }
+        })
+        .unwrap();
+        assert_eq!(words(&mut c), [0, 20, 0, 0]);
+    }
+}
+
+#[test]
+fn inner_bodies_stand_or_fall_with_the_outer_one() {
+    for [mut c, _] in callers() {
+        c.atomically(|t| {
+            t.write(0, 1)?;
+            t.atomically(|t| t.write(1, 1))?;
+            t.atomically_for_good(|t| t.write(2, 1))
+        })
+        .unwrap();
+        assert_eq!(words(&mut c), [1, 1, 1, 0]);
+        // a body that goes on after its inner one stopped is refused
+        let outer = c.atomically(|t| {
+            t.write(0, 2)?;
+            assert_eq!(t.atomically(|t| t.write(1, 2).and(Err::<(), _>(Status::stop(0)))), Err(Status::stop(0)));
+            t.atomically(|t| t.write(2, 2))
+        });
+        assert_eq!(outer, Err(Status::NO_ATTEMPT));
+        assert_eq!(words(&mut c), [1, 1, 1, 0]);
+        let panics = |t: &mut Attempt<'_>| -> Result<(), Status> {
+            t.write(1, 3)?;
+            panic!("an inner body's own")
+        };
+        c.atomically(|t| {
+            t.write(0, 3)?;
+            assert!(catch_unwind(AssertUnwindSafe(|| t.nested(panics))).is_err());
+            assert_eq!(t.nested(|t| t.write(2, 3).and(Err::<(), _>(Status::stop(1)))), Err(Status::stop(1)));
+            assert_eq!(t.nested(|t| t.write(2, 3).and(t.read(9))), Err(Status::ADDRESS));
+            t.nested(|t| t.write(3, 3))
+        })
+        .unwrap();
+        assert_eq!(words(&mut c), [3, 1, 1, 3]);
+        assert_eq!(c.atomically(|t| t.or_else(|t| t.write(0, 4).and(t.retry()), |t| t.read(0))), Ok(3));
+        assert_eq!(c.atomically(|t| t.or_else(|t| t.retry(), |_| Err::<(), _>(Status::stop(2)))), Err(Status::stop(2)));
+    }
+}
+
+#[test]
+fn marks() {
+    for [mut c, _] in callers() {
+        c.atomically(|t| {
+            t.write(0, 1)?;
+            let one = t.checkpoint()?;
+            t.write(0, 2)?;
+            let two = t.checkpoint()?;
+            t.write(0, 3)?;
+            t.roll_to(two)?;
+            assert_eq!((t.read(0)?, t.state()?.marks), (2, 2));
+            t.drop_marks(two)?;
+            t.roll_to(one)?;
+            assert_eq!((t.read(0)?, t.state()?.marks), (1, 1));
+            Ok(())
+        })
+        .unwrap();
+        assert_eq!(c.atomically(|t| t.roll_to(1)), Err(Status::DEPTH));
+        assert_eq!(c.atomically(|t| loop { t.checkpoint()?; } as Result<(), Status>), Err(Status::DEEP));
+    }
+}
+
+#[test]
+fn bodies_that_may_stop_are_not_run_where_writes_stand() {
+    for algorithm in [Algorithm::Cgl, Algorithm::Tml] {
+        let mut c = open(&Sizes::of(4), algorithm, 1).unwrap().remove(0);
+        assert_eq!(c.atomically(|_| -> Result<(), Status> { unreachable!() }), Err(Status::UNCANCELLABLE));
+        c.atomically_for_good(|t| {
+            t.write(0, 1)?;
+            assert_eq!(t.atomically(|_| -> Result<(), Status> { unreachable!() }), Err(Status::UNCANCELLABLE));
+            assert_eq!(t.nested(|_| -> Result<(), Status> { unreachable!() }), Err(Status::UNCANCELLABLE));
+            t.atomically_for_good(|t| t.write(1, 1))
+        })
+        .unwrap();
+        assert_eq!(c.atomically_for_good(|t| t.write(2, 1).and(t.retry::<()>())), Err(Status::IRREVOCABLE));
+        assert_eq!(c.close(4), Ok(vec![1, 1, 1, 0]));
+    }
+    for [mut c, _] in callers() {
+        let stopped = c.atomically(|t| {
+            t.become_irrevocable()?;
+            assert!(t.state()?.irrevocable);
+            Err::<(), _>(Status::stop(0))
+        });
+        assert_eq!(stopped, Err(Status::IRREVOCABLE));
+    }
+}
+
+#[test]
+fn attempts_by_hand() {
+    for [mut c, mut other] in callers() {
+        let mut begun = c.begin().unwrap();
+        begun.write(0, 1).unwrap();
+        assert_eq!(begun.read(0), Ok(1));
+        begun.commit().unwrap();
+        let mut begun = c.begin().unwrap();
+        begun.write(0, 2).unwrap();
+        begun.cancel().unwrap();
+        c.begin().unwrap().write(0, 3).unwrap();
+        assert_eq!(words(&mut c), [1, 0, 0, 0]);
+        other.take_range(0, 1).unwrap();
+        let mut beside = c.begin().unwrap();
+        assert_eq!(beside.read(0), Err(Status::FENCED));
+        assert!(beside.state().unwrap().is_beside_range);
+        assert_eq!(beside.atomically(|t| t.read(1)), Err(Status::RANGE_TAKEN));
+        beside.write(1, 4).unwrap();
+        beside.commit().unwrap();
+        assert_eq!(c.atomically(|_| Ok(())), Err(Status::RANGE_TAKEN));
+        assert!(other.state().unwrap().has_range);
+        other.direct_write(0, 5).unwrap();
+        assert_eq!((other.direct_read(0), other.direct_read(1)), (Ok(5), Err(Status::NO_RANGE)));
+        other.return_range().unwrap();
+        assert_eq!(words(&mut c), [5, 4, 0, 0]);
+    }
+}
+
+#[test]
+fn calls_that_must_be_alone() {
+    for [mut c, mut other] in callers() {
+        let begun = other.begin().unwrap();
+        assert_eq!(c.install_within(Algorithm::Tml, 3), Err(Status::BUSY));
+        assert_eq!(c.why().unwrap().unwrap().status, Status::BUSY);
+        assert_eq!(c.take_range_within(0, 1, 2), Err(Status::BUSY));
+        assert_eq!(c.close_within(4, 1), Err(Status::BUSY));
+        begun.commit().unwrap();
+        c.install(Algorithm::Serial).unwrap();
+        assert_eq!(other.atomically(|t| Ok(t.state()?.algorithm)), Ok(Some(Algorithm::Serial)));
+        assert_eq!(other.state().unwrap().algorithm, None);
+        c.take_range(1, 2).unwrap();
+        assert_eq!(c.take_range(0, 1), Err(Status::HOLDS_RANGE));
+        let beside = other.begin().unwrap();
+        assert_eq!(c.return_range_within(2), Err(Status::BUSY));
+        drop(beside);
+        c.return_range().unwrap();
+        c.learn(&mut other).unwrap();
+        c.reserve(16, 16).unwrap();
+        assert_eq!(c.reserve(0, 16), Err(Status::LOGS));
+        assert_eq!(c.close(3), Err(Status::ROOM));
+        assert_eq!(c.close(4), Ok(vec![0; 4]));
+        assert_eq!(other.atomically(|_| Ok(())), Err(Status::RANGE_TAKEN));
+    }
+    assert!(open(&Sizes { words: 0, ..Sizes::of(1) }, Algorithm::Cgl, 1).is_err());
+    assert!(open(&Sizes::of(1), Algorithm::Cgl, 0).is_err());
+    let [mut a, mut b] = [1, 2].map(|n| open(&Sizes::of(1), Algorithm::Cgl, n).unwrap().remove(0));
+    assert_eq!(a.learn(&mut b), Err(Status::STRANGER));
+}
+
+/// A queue of one place: who puts waits until it is empty, who takes until it is full.
+#[test]
+fn retry_waits_for_others() {
+    for [mut giver, mut taker] in callers() {
+        thread::scope(|scope| {
+            scope.spawn(move || {
+                for n in 1..=100 {
+                    giver.atomically(|t| if t.read(0)? == 0 { t.write(0, n) } else { t.retry() }).unwrap();
+                }
+            });
+            for n in 1..=100 {
+                let got = taker.atomically(|t| match t.read(0)? {
+                    0 => t.retry(),
+                    there => t.write(0, 0).map(|()| there),
+                });
+                assert_eq!(got, Ok(n));
+            }
+        });
+    }
+}
