@@ -23,16 +23,16 @@ Holds a v = ((closes_gate a ≡ true) × (v.gate.granted ≡ true)) ⊎ (((takes
 
 holds-by : (a : Alg) (v : View) (some : Bool) → irrevocable_under a (granted_under a v.gate v.lock) some ≡ true → ((b : Bool) → granted_under a v.gate v.lock ≡ b → closes_gate a ≡ true → b ≡ false → locked_under a v.lock.taken v.tml.writer ≡ true)
     → (closes_gate a ≡ false → locked_under a v.lock.taken v.tml.writer ≡ true) → Holds a v
-holds-by Cgl v some i open closed = inr (inl (refl, closed refl))
-holds-by Serial v some i open closed = inr (inl (refl, closed refl))
-holds-by OrecLazy v some i open closed = inl (refl, i)
-holds-by OrecEager v some i open closed = inl (refl, i)
-holds-by RingSw v some i open closed = inl (refl, i)
-holds-by Tml v some i open closed = by v.gate.granted refl
+holds-by Cgl v some i plain closed = inr (inl (refl, closed refl))
+holds-by Serial v some i plain closed = inr (inl (refl, closed refl))
+holds-by OrecLazy v some i plain closed = inl (refl, i)
+holds-by OrecEager v some i plain closed = inl (refl, i)
+holds-by RingSw v some i plain closed = inl (refl, i)
+holds-by Tml v some i plain closed = by v.gate.granted refl
   where
     by : (b : Bool) → v.gate.granted ≡ b → Holds Tml v
     by true e = inl (refl, e)
-    by false e = inr (inr (refl, open false e refl refl))
+    by false e = inr (inr (refl, plain false e refl refl))
 
 -- no algorithm closes the gate for its attempts and has a lock
 apart : (a : Alg) → closes_gate a ≡ true → takes_lock a ≡ true → ⊥
