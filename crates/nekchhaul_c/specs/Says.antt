@@ -7,8 +7,7 @@ use Rattle.tx_checked.specs.declared.errand.Errand.TheVariants.{Switch}
 use Rattle.tx_checked.specs.declared.member.Member.{Member}
 use Rattle.tx_checked.specs.declared.misuse.Misuse.{Misuse}
 use Rattle.tx_checked.specs.declared.refusal.Refusal.{Refusal}
-use Rattle.tx_checked.specs.Learning.{HasLearned, TellsKin, meeting}
-use Rattle.tx_checked.specs.Members.{IsUntouched}
+use Rattle.tx_checked.specs.Learning.{HasLearned, IsAsked, TellsKin, meeting}
 use Rattle.tx_checked.specs.Misuses.{doing, outside, ending}
 use Rattle.tx_checked.specs.Endings.{HasEnded}
 use Rattle.tx_checked.specs.Tells.{Tells, HasSwitched}
@@ -52,7 +51,7 @@ EndSays old new k m n = (r : Result (Result (Unit {0}) Refusal) Misuse) × (k �
 
 -- of a call on two callers: m is to learn from f
 abbrev pub LearnTells : ℕ → Member → Member → Member → Member → Type 0
-LearnTells k m n f g = (r : Result (Unit {0}) Misuse) × (k ≡ done_code r) × TellsKin (meeting m f) (HasLearned m n) m n r × IsUntouched f g
+LearnTells k m n f g = (r : Result (Unit {0}) Misuse) × (k ≡ done_code r) × TellsKin (meeting m f) (HasLearned m n) m n r × IsAsked (meeting m f) f g
 
 -- where one of the two handles holds no caller, none is touched
 abbrev pub LearnSays : ℕ → Option Member → Option Member → Option Member → Option Member → Type 0
