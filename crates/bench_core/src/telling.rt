@@ -1,0 +1,69 @@
+//! What is told on standard error beside a status: no part of what `bench` writes.
+use crate::status::Status;
+use std::alloc::{AllocError, Global};
+use stm_faults::report::checked_fault;
+use stm_faults::workload::workload_fault;
+
+/// What `words` may be, the program's name aside.
+const COMMANDS: &str = "the commands, which read from standard input and write to standard output:
+  run [--policy P]  runs the workload that is read, with a thread for each caller, and writes its report
+  step              runs it on one thread, in the turns of its schedule, and writes the trace and the report
+  gen N T SEED      runs N transactions (1 to 50000) of T callers (1 to 32) drawn from SEED, and writes the summary
+  check             reads a workload and behind it a report, and says whether the report replays the workload
+P is fixed, round:N with N from 1 to 65536, expert, or state:N with N from 1 to 16. An example:
+  bin/stm_bench run < examples/three-transactions.stm
+The formats, exit statuses and fault codes stand in docs/FORMATS.md.";
+
+/// What there is to tell of a status: of these words, where `text` is what was read.
+///
+/// # Errors
+/// Memory, where it is refused.
+pub(crate) fn told(
+    alloc: Global,
+    words: &[&str],
+    status: Status,
+    text: &[u8],
+) -> Result<Option<String>, AllocError> {
+    let said = match status {
+        Status::Ok => return Ok(None),
+        Status::Usage => COMMANDS.to_string(alloc)?,
+        Status::Refused { line, code } => refused(alloc, words, text, line, code)?,
+        Status::ReadFault => "standard input could not be read".to_string(alloc)?,
+        Status::WriteFault => "standard output could not be written to the end".to_string(alloc)?,
+        Status::Memory => "memory was refused, and nothing was written".to_string(alloc)?,
+        Status::ClockFull { clock } => {
+            format!(in alloc;
+                "a call found the clock at its limit, {clock}; the line `clock C` of the workload leaves too little below it"
+            )?
+        }
+        Status::No { line } => {
+            format!(in alloc;
+                "line {line} is the first at which the report doesn't replay the workload"
+            )?
+        }
+    };
+    Ok(Some(said))
+}
+
+/// What is wrong with a text that was refused.
+fn refused(
+    alloc: Global,
+    words: &[&str],
+    text: &[u8],
+    line: usize,
+    code: u32,
+) -> Result<String, AllocError> {
+    if asks_check(words) {
+        checked_fault(alloc, text, line, code)
+    } else {
+        workload_fault(alloc, text, line, code)
+    }
+}
+
+/// Whether the words ask for `check`, if they ask for anything.
+fn asks_check(words: &[&str]) -> bool {
+    match words.get(1) {
+        Some(word) => *word == "check",
+        None => false,
+    }
+}

@@ -1,0 +1,28 @@
+//! What is told on standard error beside a status: no part of what `draw` writes.
+use crate::reading::MOST_DRAWN;
+use crate::status::Status;
+use std::alloc::{AllocError, Global};
+use stm_faults::trace::trace_fault;
+
+/// What there is to tell of a status, where `text` is what was read.
+///
+/// # Errors
+/// Memory, where it is refused.
+pub(crate) fn told(
+    alloc: Global,
+    status: Status,
+    text: &[u8],
+) -> Result<Option<String>, AllocError> {
+    let said = match status {
+        Status::Ok => return Ok(None),
+        Status::Usage =>
+            "it takes no words: it reads what `stm_bench step` writes from standard input, and writes its picture to standard output, as bin/stm_bench step < docs/pictures/conflict.stm | bin/stm_draw > conflict.svg".to_string(
+                alloc,
+            )?,
+        Status::Refused { line } => trace_fault(alloc, text, line, MOST_DRAWN)?,
+        Status::ReadFault => "standard input could not be read".to_string(alloc)?,
+        Status::WriteFault => "standard output could not be written to the end".to_string(alloc)?,
+        Status::Memory => "memory was refused, and nothing was written".to_string(alloc)?,
+    };
+    Ok(Some(said))
+}
