@@ -1,7 +1,7 @@
 //! What is told on standard error beside a status: no part of what `bench` writes.
 use crate::status::Status;
 use std::alloc::{AllocError, Global};
-use stm_faults::report::checked_fault;
+use stm_faults::report::{checked_fault, wrong_line};
 use stm_faults::workload::workload_fault;
 
 /// What `words` may be, the program's name aside.
@@ -36,11 +36,7 @@ pub(crate) fn told(
                 "a call found the clock at its limit, {clock}; the line `clock C` of the workload leaves too little below it"
             )?
         }
-        Status::No { line } => {
-            format!(in alloc;
-                "line {line} is the first at which the report doesn't replay the workload"
-            )?
-        }
+        Status::No { line } => wrong_line(alloc, text, line)?,
     };
     Ok(Some(said))
 }

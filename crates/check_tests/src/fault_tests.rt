@@ -3,7 +3,7 @@ use std::alloc::Global;
 use std::process::Abort;
 use std::test::Fail;
 use stm_check::checking::{Finding, MOST_CHECKED, check};
-use stm_faults::report::checked_fault;
+use stm_faults::report::{checked_fault, wrong_line};
 use stm_faults::trace::trace_fault;
 use stm_faults::workload::workload_fault;
 use stm_text::parse::{Mode, ParseError, parse};
@@ -336,6 +336,22 @@ fn the_other_faults_are_told(rt: HostRuntime) -> Result<(), Fail> {
     assert_eq!(rt;
         said_of_check(alloc, text.as_str())?.as_str(),
         "line 16: the workload ends before its line `done`; here stands `tx C`, `switch C ALG`, `schedule`, `done`"
+    );
+    Ok(())
+}
+
+#[test]
+fn a_report_that_does_not_replay_is_told(rt: HostRuntime) -> Result<(), Fail> {
+    let alloc = rt.alloc();
+    let mut text = changed(alloc, ONE, 0, "")?;
+    text.push_str(changed(alloc, REPORT, 2, "W 1 0 0 : 2")?.as_str())?;
+    assert_eq!(rt;
+        wrong_line(alloc, text.as_bytes(), 16)?.as_str(),
+        "in the report, after the workload's 14 lines: line 2, `W 1 0 0 : 2`: the row's kind, replies or emits aren't those of its script on the memory that the rows above leave; or it isn't its caller's next, or not in the order of place, W before R and C, caller and number; or it is a second W row of one place"
+    );
+    assert_eq!(rt;
+        wrong_line(alloc, text.as_bytes(), 17)?.as_str(),
+        "in the report, after the workload's 14 lines: line 3, `mem 3 1`: a transaction has no row above, or the memory that the rows leave has another word here"
     );
     Ok(())
 }

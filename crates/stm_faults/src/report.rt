@@ -47,6 +47,42 @@ pub fn checked_fault(
     Ok(said)
 }
 
+/// What is wrong with a workload and a report of which `check` says `no` with this line: the line of the report, what
+/// stands on it, and what may be wrong there.
+///
+/// # Errors
+/// Memory, where it is refused.
+pub fn wrong_line(alloc: Global, text: &[u8], line: usize) -> Result<String, AllocError> {
+    let mut said = String::new(alloc);
+    let (head, behind) = part_at_done(text);
+    let above = count_lines(head);
+    let number = line.saturating_sub(above);
+    let (place, rest) = place_of(behind, number);
+    let bytes = first_line(rest);
+    write!(said, "in the report, after the workload's {above} lines: ")?;
+    put_line(&mut said, number, bytes)?;
+    let (word, _) = first_word(bytes);
+    if place == Place::Rows && !lines::is(word, b"mem") && !lines::is(word, b"end") {
+        put_wrong_row(&mut said)?;
+    } else {
+        said.push_str(
+            "a transaction has no row above, or the memory that the rows leave has another word here",
+        )?;
+    }
+    Ok(said)
+}
+
+/// Appends what may be wrong with a row.
+fn put_wrong_row(said: &mut String) -> Result<(), AllocError> {
+    said.push_str(
+        "the row's kind, replies or emits aren't those of its script on the memory that the rows above leave; or ",
+    )?;
+    said.push_str(
+        "it isn't its caller's next, or not in the order of place, W before R and C, caller and number; or it is a ",
+    )?;
+    said.push_str("second W row of one place")
+}
+
 /// Appends what is wrong with a line of a report's text.
 pub(crate) fn put_report_fault(
     said: &mut String,
