@@ -148,9 +148,12 @@ fn put_forms(
 fn put_form(said: &mut String, spot: &Spot, form: &'static str) -> Result<(), AllocError> {
     write!(said, "`{form}`")?;
     let (_, mut rest) = first_word(form.as_bytes());
-    while !rest.is_empty() {
-        let (word, behind) = first_word(lines::past(rest, 0));
-        put_letter(said, spot, word)?;
+    for _ in 0..form.len() {
+        if rest.is_empty() {
+            break;
+        }
+        let (letter, behind) = first_word(lines::past(rest, 0));
+        put_letter(said, spot, letter)?;
         rest = behind;
     }
     Ok(())

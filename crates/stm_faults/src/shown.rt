@@ -1,5 +1,4 @@
 //! Lines of a text, and how they are shown.
-ghost use Rattle.std.specs.Prelude.{◌≤◌, length};
 
 use std::alloc::AllocError;
 use stm_text::lines;
@@ -8,9 +7,7 @@ use stm_text::lines;
 const COLUMNS: usize = 60;
 
 /// What stands from a line on, counted from 1; nothing where the text ends above it.
-pub(crate) fn from_line(text: &[u8], line: usize) -> &[u8]
-    ensures { length result.now ≤ length text.now }
-{
+pub(crate) fn from_line(text: &[u8], line: usize) -> &[u8] {
     let mut rest = text;
     for _ in 1..line {
         match lines::find(b'\n', rest) {
