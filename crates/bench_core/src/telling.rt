@@ -12,7 +12,8 @@ const COMMANDS: &str = "the commands, which read from standard input and write t
   check             reads a workload and behind it a report, and says whether the report replays the workload
 P is fixed, round:N with N from 1 to 65536, expert, or state:N with N from 1 to 16. An example:
   bin/stm_bench run < examples/three-transactions.stm
-The formats, exit statuses and fault codes stand in docs/FORMATS.md.";
+It reads workloads of the versions 1 and 2 and reports of version 1. The formats, exit statuses and fault codes stand in
+docs/FORMATS.md.";
 
 /// What there is to tell of a status: of these words, where `text` is what was read.
 ///
