@@ -50,7 +50,7 @@ fn arguments<R: Env + AllocGlobal>(rt: &R) -> Result<Vec<String>, ErrorKind> {
 
 /// Ends where memory for the words was refused.
 fn refused<R: AllocGlobal + Eprint>(rt: &R) -> ExitCode {
-    tell(rt, &[], Status::Memory, &[]);
+    tell(rt, &[], Status::Memory, None);
     ending(Status::Memory)
 }
 
@@ -89,7 +89,7 @@ fn exits<R: Threads + Wait + Sync, S: Source, K: Sink>(
 
 /// Tells on standard error what a status means, where there is something to tell and memory to say it; nothing is known
 /// of whether it is read.
-fn tell<R: AllocGlobal + Eprint>(rt: &R, words: &[&str], status: Status, text: &[u8]) {
+fn tell<R: AllocGlobal + Eprint>(rt: &R, words: &[&str], status: Status, text: Option<&[u8]>) {
     if let Ok(Some(said)) = told(rt.alloc(), words, status, text) {
         let _written = eprintln!(rt; "stm_bench: {said}");
     }

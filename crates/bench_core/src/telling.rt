@@ -15,7 +15,8 @@ P is fixed, round:N with N from 1 to 65536, expert, or state:N with N from 1 to 
 It reads workloads of the versions 1 and 2 and reports of version 1. The formats, exit statuses and fault codes stand in
 docs/FORMATS.md.";
 
-/// What there is to tell of a status: of these words, where `text` is what was read.
+/// What there is to tell of a status: of these words, where `text` is what was read. Without the text nothing is told of
+/// its faults.
 ///
 /// # Errors
 /// Memory, where it is refused.
@@ -23,21 +24,24 @@ pub(crate) fn told(
     alloc: Global,
     words: &[&str],
     status: Status,
-    text: &[u8],
+    text: Option<&[u8]>,
 ) -> Result<Option<String>, AllocError> {
-    let said = match status {
-        Status::Ok => return Ok(None),
-        Status::Usage => COMMANDS.to_string(alloc)?,
-        Status::Refused { line, code } => refused(alloc, words, text, line, code)?,
-        Status::ReadFault => "standard input could not be read".to_string(alloc)?,
-        Status::WriteFault => "standard output could not be written to the end".to_string(alloc)?,
-        Status::Memory => "memory was refused, and nothing was written".to_string(alloc)?,
-        Status::ClockFull { clock } => {
+    let said = match (status, text) {
+        (Status::Ok, _) => return Ok(None),
+        (Status::Usage, _) => COMMANDS.to_string(alloc)?,
+        (Status::Refused { line, code }, Some(text)) => refused(alloc, words, text, line, code)?,
+        (Status::No { line }, Some(text)) => wrong_line(alloc, text, line)?,
+        (Status::Refused { .. } | Status::No { .. }, None) => return Ok(None),
+        (Status::ReadFault, _) => "standard input could not be read".to_string(alloc)?,
+        (Status::WriteFault, _) => {
+            "standard output could not be written to the end".to_string(alloc)?
+        }
+        (Status::Memory, _) => "memory was refused, and nothing was written".to_string(alloc)?,
+        (Status::ClockFull { clock }, _) => {
             format!(in alloc;
                 "a call found the clock at its limit, {clock}; the line `clock C` of the workload leaves too little below it"
             )?
         }
-        Status::No { line } => wrong_line(alloc, text, line)?,
     };
     Ok(Some(said))
 }

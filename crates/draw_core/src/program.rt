@@ -22,7 +22,7 @@ pub fn program<R: Env + AllocGlobal + Input + Print + Eprint>(rt: &R) -> ExitCod
         // an argument that isn't UTF-8 is a word too
         Err(ErrorKind::InvalidData) => answer(rt, 2),
         Err(_) => {
-            tell(rt, Status::Memory, &[]);
+            tell(rt, Status::Memory, None);
             ending(Status::Memory)
         }
     }
@@ -72,7 +72,7 @@ fn exits<S: Source, K: Sink>(
 
 /// Tells on standard error what a status means, where there is something to tell and memory to say it; nothing is known
 /// of whether it is read.
-fn tell<R: AllocGlobal + Eprint>(rt: &R, status: Status, text: &[u8]) {
+fn tell<R: AllocGlobal + Eprint>(rt: &R, status: Status, text: Option<&[u8]>) {
     if let Ok(Some(said)) = told(rt.alloc(), status, text) {
         let _written = eprintln!(rt; "stm_draw: {said}");
     }

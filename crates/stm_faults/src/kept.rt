@@ -1,6 +1,4 @@
 //! A source that keeps what is taken from it.
-ghost use Rattle.std.specs.Prelude.{◌≡◌, ◌≤◌};
-
 use std::alloc::Global;
 use stm_io::ends::{Failed, Source};
 
@@ -26,11 +24,11 @@ impl<S> Kept<S> {
         }
     }
 
-    /// What was taken, and nothing where memory for it was refused.
-    pub fn text(&self) -> &[u8] {
+    /// What was taken, where memory for it was there.
+    pub fn text(&self) -> Option<&[u8]> {
         match &self.text {
-            Some(text) => text.as_slice(),
-            None => &[],
+            Some(text) => Some(text.as_slice()),
+            None => None,
         }
     }
 

@@ -1,5 +1,4 @@
 //! Lines of a text, and how they are shown.
-
 use std::alloc::AllocError;
 use stm_text::lines;
 

@@ -1,6 +1,6 @@
 //! The fault of a workload's text, in a sentence.
 use crate::form::{form_of, put_expected};
-use crate::shown::{first_line, from_line, is_ended, put_bytes, put_line, put_wrong_byte};
+use crate::shown::{first_line, from_line, put_bytes, put_line, put_wrong_byte};
 use crate::spot::{Place, Spot, second_word, spot_of};
 use std::alloc::{AllocError, Global};
 use stm_check::words::first_word;
@@ -40,7 +40,9 @@ fn put_fault(said: &mut String, text: &[u8], line: usize, code: u32) -> Result<(
     put_line(said, line, bytes)?;
     match code {
         code::BYTES => put_bytes_fault(said, bytes),
-        code::UNENDED => put_unended(said, rest),
+        code::UNENDED => {
+            said.push_str("the line has no LF, and each line of a workload ends with one")
+        }
         code::EXTRA => said.push_str("nothing follows the line `done`"),
         _ => put_line_fault(said, text, &spot, bytes, code),
     }
@@ -80,14 +82,6 @@ fn put_line_fault(
 fn put_bytes_fault(said: &mut String, bytes: &[u8]) -> Result<(), AllocError> {
     let _is_told = put_wrong_byte(said, bytes)?;
     Ok(())
-}
-
-/// Appends what is wrong with the last line, which has no LF.
-fn put_unended(said: &mut String, rest: &[u8]) -> Result<(), AllocError> {
-    if is_ended(rest) {
-        return Ok(());
-    }
-    said.push_str("the line has no LF, and each line of a workload ends with one")
 }
 
 /// Whether a schedule was refused that `step` takes.
