@@ -2,5 +2,6 @@ pub mod Apart
 pub mod Messages
 pub mod Outcomes
 pub mod Statuses
+pub mod Exits
 pub mod Checks
 pub mod Confirming

@@ -1,28 +1,34 @@
 //! The program: `bench` over a runtime's arguments, standard input and standard output.
 ghost use Rattle.std.specs.Prelude.{◌≡◌};
 ghost use Rattle.std.specs.Process.{exit_status};
+ghost use Rattle.bench_core.specs.Exits.{Exits};
 ghost use Rattle.bench_core.specs.Statuses.{exit_code_of};
 
 use crate::bench::bench;
 use crate::status::Status;
-use std::alloc::AllocGlobal;
+use crate::telling::told;
+use std::alloc::{AllocGlobal, Global};
 use std::env::{self, Env};
-use std::io::{self, ErrorKind, Input, Print};
+use std::io::{self, Eprint, ErrorKind, Input, Print};
 use std::process::ExitCode;
 use std::sync::Wait;
 use std::thread::Threads;
+use stm_faults::kept::Kept;
 use stm_io::adapters::{ReadSource, WriteSink};
+use stm_io::ends::{Sink, Source};
 use stm_worker::turnstile::Open;
 
-/// Does what the arguments ask, over standard input and output, and answers the status as exit status.
-pub fn program<R: Env + AllocGlobal + Input + Print + Threads + Wait + Sync>(rt: &R) -> ExitCode {
-    let status = match arguments(rt) {
+/// Does what the arguments ask, over standard input and output, and answers the status as exit status. Once all is
+/// written, standard error says why, where the status isn't `Ok`.
+pub fn program<R: Env + AllocGlobal + Input + Print + Eprint + Threads + Wait + Sync>(
+    rt: &R,
+) -> ExitCode {
+    match arguments(rt) {
         Ok(words) => answer(rt, words.as_slice()),
         // an argument that isn't UTF-8 is a word of no command
         Err(ErrorKind::InvalidData) => answer(rt, &[]),
-        Err(_) => Status::Memory,
-    };
-    ending(status)
+        Err(_) => refused(rt),
+    }
 }
 
 /// The status as exit status.
@@ -42,27 +48,49 @@ fn arguments<R: Env + AllocGlobal>(rt: &R) -> Result<Vec<String>, ErrorKind> {
     }
 }
 
+/// Ends where memory for the words was refused.
+fn refused<R: AllocGlobal + Eprint>(rt: &R) -> ExitCode {
+    tell(rt, &[], Status::Memory, None);
+    ending(Status::Memory)
+}
+
 /// Runs the command over standard input and output.
-fn answer<R: AllocGlobal + Input + Print + Threads + Wait + Sync>(
+fn answer<R: AllocGlobal + Input + Print + Eprint + Threads + Wait + Sync>(
     rt: &R,
     arguments: &[String],
-) -> Status {
+) -> ExitCode {
     let mut words = Vec::new(rt.alloc());
     for argument in arguments {
         if words.push(argument.as_str()).is_err() {
-            return Status::Memory;
+            return refused(rt);
         }
     }
-    let mut source = ReadSource::new(rt.reader());
+    let mut source = Kept::new(rt.alloc(), ReadSource::new(rt.reader()));
     let mut sink = WriteSink::new(io::writer(rt));
+    let (status, exit) = exits(rt, rt.alloc(), words.as_slice(), &mut source, &mut sink);
+    tell(rt, words.as_slice(), status, source.text());
+    exit
+}
+
+/// Runs the command over a source and a sink. The exit status is that of what was read and written.
+fn exits<R: Threads + Wait + Sync, S: Source, K: Sink>(
+    rt: &R,
+    alloc: Global,
+    words: &[&str],
+    source: &mut S,
+    sink: &mut K,
+) -> (Status, ExitCode)
+    ensures { Exits S.left S.faults source.old source.new words.now K.held K.faults sink.old sink.new result.0 (exit_status result.1) }
+{
     let mut last = None;
-    bench(
-        rt,
-        rt.alloc(),
-        words.as_slice(),
-        &mut source,
-        &mut sink,
-        &Open,
-        &mut last,
-    )
+    let status = bench(rt, alloc, words, source, sink, &Open, &mut last);
+    (status, ending(status))
+}
+
+/// Tells on standard error what a status means, where there is something to tell and memory to say it; nothing is known
+/// of whether it is read.
+fn tell<R: AllocGlobal + Eprint>(rt: &R, words: &[&str], status: Status, text: Option<&[u8]>) {
+    if let Ok(Some(said)) = told(rt.alloc(), words, status, text) {
+        let _written = eprintln!(rt; "stm_bench: {said}");
+    }
 }

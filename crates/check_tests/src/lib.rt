@@ -4,6 +4,8 @@
 #[cfg(test)]
 mod damage_tests;
 #[cfg(test)]
+mod fault_tests;
+#[cfg(test)]
 mod plain_replay;
 #[cfg(test)]
 mod verdict_tests;

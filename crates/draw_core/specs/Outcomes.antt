@@ -107,7 +107,6 @@ module _ {S : Type 0} (left : S → Option (List ℕ)) (faults : S → ℕ) (sou
     IsOutcome Memory = WroteNothing
 
     -- the exit status is that of what came
-    pub record Exits (exit : ℕ) : Type 0 where
-      pub status : Status
+    pub record Exits (status : Status) (exit : ℕ) : Type 0 where
       pub outcome : IsOutcome status
       pub is : exit ≡ exit_code_of status

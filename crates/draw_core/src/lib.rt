@@ -11,4 +11,5 @@ mod said;
 pub mod shape;
 pub mod status;
 mod style;
+mod telling;
 mod writing;

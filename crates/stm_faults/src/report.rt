@@ -1,0 +1,155 @@
+//! The fault of a report's text, in a sentence.
+use crate::shown::{first_line, is_ended, put_line, put_wrong_byte};
+use crate::workload::workload_fault;
+use std::alloc::{AllocError, Global};
+use stm_check::reading::MAX_REPORT;
+use stm_check::words::first_word;
+use stm_text::parting::{count_lines, part_at_done};
+use stm_text::{code, lines};
+
+/// What may stand on a line of a report.
+#[derive(Clone, Copy, Drop, Debug, PartialEq, Eq)]
+enum Place {
+    Title,
+    /// A row, a word of the memory or `end`.
+    Rows,
+    /// A word of the memory or `end`.
+    Words,
+    /// Nothing.
+    Behind,
+}
+
+/// What is wrong with a text that `check` refuses with this line and this code: the part that the line is in, the line
+/// there, what stands on it, and what may stand there.
+///
+/// # Errors
+/// Memory, where it is refused.
+pub fn checked_fault(
+    alloc: Global,
+    text: &[u8],
+    line: usize,
+    code: u32,
+) -> Result<String, AllocError> {
+    let mut said = String::new(alloc);
+    if code == code::LONG_REPORT {
+        write!(said, "the report has more than {MAX_REPORT} bytes")?;
+        return Ok(said);
+    }
+    let (head, behind) = part_at_done(text);
+    let above = count_lines(head);
+    // a workload that has no fault ends with that line
+    let is_whole = head.ends_with(b"done\n");
+    if line <= above || !is_whole {
+        return workload_fault(alloc, head, line, code);
+    }
+    write!(said, "in the report, after the workload's {above} lines: ")?;
+    put_report_fault(&mut said, behind, line - above)?;
+    Ok(said)
+}
+
+/// What is wrong with a workload and a report of which `check` says `no` with this line: the line of the report, what
+/// stands on it, and what may be wrong there.
+///
+/// # Errors
+/// Memory, where it is refused.
+pub fn wrong_line(alloc: Global, text: &[u8], line: usize) -> Result<String, AllocError> {
+    let mut said = String::new(alloc);
+    let (head, behind) = part_at_done(text);
+    let above = count_lines(head);
+    let number = line.saturating_sub(above);
+    let (place, rest) = place_of(behind, number);
+    let bytes = first_line(rest);
+    write!(said, "in the report, after the workload's {above} lines: ")?;
+    put_line(&mut said, number, bytes)?;
+    let (word, _) = first_word(bytes);
+    if place == Place::Rows && !lines::is(word, b"mem") && !lines::is(word, b"end") {
+        put_wrong_row(&mut said)?;
+    } else {
+        said.push_str(
+            "a transaction has no row above, or the memory that the rows leave has another word here",
+        )?;
+    }
+    Ok(said)
+}
+
+/// Appends what may be wrong with a row.
+fn put_wrong_row(said: &mut String) -> Result<(), AllocError> {
+    said.push_str(
+        "the row's kind, replies or emits aren't those of its script on the memory that the rows above leave; or ",
+    )?;
+    said.push_str(
+        "it isn't its caller's next, or not in the order of place, W before R and C, caller and number; or it is a ",
+    )?;
+    said.push_str("second W row of one place")
+}
+
+/// Appends what is wrong with a line of a report's text.
+pub(crate) fn put_report_fault(
+    said: &mut String,
+    report: &[u8],
+    line: usize,
+) -> Result<(), AllocError> {
+    let (place, rest) = place_of(report, line);
+    if rest.is_empty() {
+        write!(said, "line {line}: the report ends before its line `end`")?;
+        return put_expected(said, place);
+    }
+    let bytes = first_line(rest);
+    put_line(said, line, bytes)?;
+    if !is_ended(rest) {
+        return said.push_str("the line has no LF, and each line of a report ends with one");
+    }
+    if put_wrong_byte(said, bytes)? {
+        return Ok(());
+    }
+    said.push_str("the line isn't in its form")?;
+    put_expected(said, place)
+}
+
+/// Where a line of a report stands, counted from 1, where the lines above have no fault; and what stands from it on.
+fn place_of(report: &[u8], line: usize) -> (Place, &[u8]) {
+    let mut place = Place::Title;
+    let mut rest = report;
+    for _ in 1..line {
+        match lines::find(b'\n', rest) {
+            Some(i) => {
+                let (word, _) = first_word(first_line(rest));
+                place = after(place, word);
+                rest = lines::past(rest, i);
+            }
+            None => return (place, &[]),
+        }
+    }
+    (place, rest)
+}
+
+/// Where the line stands behind one that begins with this word.
+fn after(place: Place, word: &[u8]) -> Place {
+    match place {
+        Place::Title => Place::Rows,
+        Place::Rows | Place::Words => {
+            if lines::is(word, b"end") {
+                Place::Behind
+            } else if lines::is(word, b"mem") {
+                Place::Words
+            } else {
+                place
+            }
+        }
+        Place::Behind => place,
+    }
+}
+
+/// Appends what may stand on a line.
+fn put_expected(said: &mut String, place: Place) -> Result<(), AllocError> {
+    said.push_str(match place {
+        Place::Title => "; here stands `report 1`",
+        Place::Rows => {
+            "; here stands a row, `K PLACE CALLER SEQ : REPLIES` with K one of W, R, C, and after it ` ! EMITS` where there are emits; or `mem ADDRESS VALUE`, or `end`"
+        }
+        Place::Words => {
+            "; here stands `mem ADDRESS VALUE`, the address above that of the line before and the value not 0, or `end`"
+        }
+        Place::Behind => "; nothing follows `end`",
+    })
+}
