@@ -73,9 +73,10 @@ for compiler in gcc clang; do
     for example in misuse whole nested alone stops cost bank; do
         compiled $compiler $example.c -std=c11
     done
-    for example in misuse whole nested alone stops; do
+    for example in misuse whole nested stops; do
         ran $example.c-$compiler
     done
+    [ $compiler != $cc ] || ran alone.c-$compiler # which tries the library, and not the header
     ran cost.c-$compiler bank OrecLazy 2 2000
     for algorithm in CGL TML OrecLazy OrecEager RingSW Serial; do
         for threads in 3 15; do
