@@ -90,7 +90,7 @@ cxx=
 for compiler in g++ clang++; do
     has $compiler || continue
     cxx=$compiler
-    for example in bank calls counters; do
+    for example in bank calls counters parts; do
         compiled $compiler $example.cpp -std=c++17
         ran $example.cpp-$compiler
     done
