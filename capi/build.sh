@@ -52,11 +52,13 @@ for name in gcc clang cc; do
     [ "$cc" ] || ! command -v $name >/dev/null || cc=$name
 done
 [ "$cc" ] || fail "no C compiler is there"
+given=${NEKCHHAUL_ARCHIVE:-}
+case $given in "" | /*) ;; *) given=$PWD/$given ;; esac
 mkdir -p "$room/objects"
 cd "$room/objects"
-if [ "${NEKCHHAUL_ARCHIVE:-}" ]; then
-    echo "build.sh: takes $NEKCHHAUL_ARCHIVE, of which nothing is known" >&2
-    ar x "$NEKCHHAUL_ARCHIVE"
+if [ "$given" ]; then
+    echo "build.sh: takes $given, of which nothing is known" >&2
+    ar x "$given"
     rm -f functions.o
 else
     kit=${RATTLE_KIT:-$(dirname "$(rt doc)")}

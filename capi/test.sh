@@ -71,16 +71,17 @@ for compiler in gcc clang; do
     has $compiler || continue
     [ "$cc" ] || cc=$compiler
     for example in misuse whole nested alone stops cost bank; do
-        compiled $compiler $example.c -std=c11
+        compiled "$compiler" $example.c -std=c11
     done
-    for example in misuse whole nested alone stops; do
-        ran $example.c-$compiler
+    for example in misuse whole nested stops; do
+        ran "$example.c-$compiler"
     done
-    ran cost.c-$compiler bank OrecLazy 2 2000
+    [ "$compiler" != "$cc" ] || ran "alone.c-$compiler" # which tries the library, and not the header
+    ran "cost.c-$compiler" bank OrecLazy 2 2000
     for algorithm in CGL TML OrecLazy OrecEager RingSW Serial; do
         for threads in 3 15; do
             for how in plain switching; do
-                ran bank.c-$compiler $algorithm $how $threads $share
+                ran "bank.c-$compiler" $algorithm $how $threads $share
             done
         done
     done
@@ -89,9 +90,9 @@ cxx=
 for compiler in g++ clang++; do
     has $compiler || continue
     cxx=$compiler
-    for example in bank calls counters; do
-        compiled $compiler $example.cpp -std=c++17
-        ran $example.cpp-$compiler
+    for example in bank calls counters parts; do
+        compiled "$compiler" $example.cpp -std=c++17
+        ran "$example.cpp-$compiler"
     done
 done
 [ ! "$flags" ] || exit 0
@@ -156,6 +157,6 @@ if has valgrind; then
 fi
 if echo 'int main(void) { return 0; }' >"$room/one.c" && $cc -fsanitize=thread "$room/one.c" -o "$room/one" 2>/dev/null && "$room/one" 2>/dev/null; then
     flags="-g -fsanitize=thread"
-    compiled $cc bank.c -std=c11
-    ran bank.c-$cc OrecLazy switching 3 10
+    compiled "$cc" bank.c -std=c11
+    ran "bank.c-$cc" OrecLazy switching 3 10
 fi

@@ -439,7 +439,7 @@ static inline uint32_t nekchhaul_retry_lightly(nekchhaul_caller *caller, uint32_
  * isn't run. Nor is it while a range is out, the caller's own or another's: RANGE_TAKEN, so that no body meets FENCED. A full
  * log is made longer, and after a conflict the pauses grow. It waits, by pausing the processor and yielding. With any
  * answer no attempt is open. A body is left by its return alone, never by longjmp, and uses no other caller of the same memory.
- * Inside a body of the same caller it is nekchhaul_join. */
+ * While an attempt of the caller is open, of a body's or by nekchhaul_begin, it is nekchhaul_join. */
 NEKCHHAUL_INLINE uint32_t nekchhaul_atomically(nekchhaul_caller *caller, nekchhaul_body body, void *argument)
 {
     struct nekchhaul_pause pause = NEKCHHAUL_PAUSE_INIT;

@@ -120,20 +120,24 @@ impl Attempt<'_> {
 
 /// An attempt that was begun by [`crate::Caller::begin`]: it goes on beside a range. Where it is dropped it leaves no trace, unless it
 /// can only be committed; then it is.
-pub struct Begun<'a>(Attempt<'a>);
+pub struct Begun<'a> {
+    attempt: Attempt<'a>,
+    is_open: &'a mut bool,
+}
 
 impl<'a> Begun<'a> {
-    pub(crate) fn new(handle: &'a mut Handle) -> Result<Begun<'a>, Status> {
+    pub(crate) fn new(handle: &'a mut Handle, is_open: &'a mut bool) -> Result<Begun<'a>, Status> {
         // SAFETY: the handle is this caller's alone.
         told(unsafe { raw::nekchhaul_begin(handle) })?;
-        Ok(Begun(Attempt(handle)))
+        *is_open = true;
+        Ok(Begun { attempt: Attempt(handle), is_open })
     }
 
     /// Commits: with `Ok` it took effect at one moment.
     pub fn commit(self) -> Result<(), Status> {
         loop {
             // SAFETY: the handle is this attempt's alone.
-            match told(unsafe { raw::nekchhaul_commit(self.0 .0) }) {
+            match told(unsafe { raw::nekchhaul_commit(self.attempt.0) }) {
                 Err(Status::AGAIN) => thread::yield_now(),
                 answer => return answer,
             }
@@ -143,7 +147,7 @@ impl<'a> Begun<'a> {
     /// Ends it without a trace. `IRREVOCABLE` where it could only be committed: what it wrote stands.
     pub fn cancel(self) -> Result<(), Status> {
         // SAFETY: the handle is this attempt's alone.
-        told(unsafe { raw::nekchhaul_abandon(self.0 .0) })
+        told(unsafe { raw::nekchhaul_abandon(self.attempt.0) })
     }
 }
 
@@ -151,20 +155,21 @@ impl<'a> Deref for Begun<'a> {
     type Target = Attempt<'a>;
 
     fn deref(&self) -> &Attempt<'a> {
-        &self.0
+        &self.attempt
     }
 }
 
 impl<'a> DerefMut for Begun<'a> {
     fn deref_mut(&mut self) -> &mut Attempt<'a> {
-        &mut self.0
+        &mut self.attempt
     }
 }
 
 impl Drop for Begun<'_> {
     fn drop(&mut self) {
         // SAFETY: the handle is this attempt's alone. Where it has ended this is refused.
-        unsafe { raw::nekchhaul_abandon(self.0 .0) };
+        unsafe { raw::nekchhaul_abandon(self.attempt.0) };
+        *self.is_open = false;
     }
 }
 

@@ -122,7 +122,11 @@ pub struct Cause {
 }
 
 /// A caller of a memory. It cancels an attempt that was left open, and lets itself go, when it is dropped.
-pub struct Caller(Handle);
+pub struct Caller {
+    handle: Handle,
+    /// Whether a [`Begun`] has been left without being dropped.
+    is_open: bool,
+}
 
 // SAFETY: a caller may go to another thread, which orders the two; it is used through `&mut` alone, so it isn't `Sync` by
 // anything that it offers.
@@ -133,13 +137,14 @@ pub fn open(sizes: &Sizes, algorithm: Algorithm, count: usize) -> Result<Vec<Cal
     let mut handles: Vec<Handle> = (0..count).map(|_| Handle::NONE).collect();
     // SAFETY: the slice is the handles' own.
     told(unsafe { raw::nekchhaul_open(sizes, algorithm as u32, handles.as_mut_ptr(), count) })?;
-    Ok(handles.into_iter().map(Caller).collect())
+    Ok(handles.into_iter().map(|handle| Caller { handle, is_open: false }).collect())
 }
 
 impl Caller {
     fn run<T>(&mut self, body: impl FnMut(&mut Attempt<'_>) -> Result<T, Status>, with: raw::Loop) -> Result<T, Status> {
+        self.let_go();
         // SAFETY: the loops run the body with this handle and argument, while they run.
-        attempt::run(&mut self.0, body, |caller, body, argument| unsafe { with(caller, body, argument) })
+        attempt::run(&mut self.handle, body, |caller, body, argument| unsafe { with(caller, body, argument) })
     }
 
     /// Runs a transaction until it commits, and answers what it does. It may stop: by [`Status::stop`], by a panic, or by what a
@@ -159,7 +164,17 @@ impl Caller {
 
     /// Begins an attempt by hand, if it can be begun at once. It may go on beside a range that is out.
     pub fn begin(&mut self) -> Result<Begun<'_>, Status> {
-        Begun::new(&mut self.0)
+        self.let_go();
+        Begun::new(&mut self.handle, &mut self.is_open)
+    }
+
+    /// Ends an attempt whose [`Begun`] was forgotten, so that nothing joins it.
+    fn let_go(&mut self) {
+        if self.is_open {
+            // SAFETY: the handle is this caller's alone.
+            unsafe { raw::nekchhaul_abandon(&mut self.handle) };
+            self.is_open = false;
+        }
     }
 
     /// Installs an algorithm, once the others' attempts have ended.
@@ -170,7 +185,7 @@ impl Caller {
     /// The same in so many tries, 0 for no end of them: `BUSY` or `GATE_CLOSED` after the last.
     pub fn install_within(&mut self, algorithm: Algorithm, tries: c_ulong) -> Result<(), Status> {
         // SAFETY: the handle is this caller's alone, here and below.
-        told(unsafe { raw::nekchhaul_install_within(&mut self.0, algorithm as u32, tries) })
+        told(unsafe { raw::nekchhaul_install_within(&mut self.handle, algorithm as u32, tries) })
     }
 
     /// Takes words out of the transactions, once the others' attempts have ended, for this caller alone.
@@ -181,7 +196,7 @@ impl Caller {
     /// The same in so many tries, as [`Caller::install_within`].
     pub fn take_range_within(&mut self, from: usize, count: usize, tries: c_ulong) -> Result<(), Status> {
         // SAFETY: as above.
-        told(unsafe { raw::nekchhaul_take_range_within(&mut self.0, from, count, tries) })
+        told(unsafe { raw::nekchhaul_take_range_within(&mut self.handle, from, count, tries) })
     }
 
     /// Gives its range back, once the others' attempts have ended.
@@ -192,7 +207,7 @@ impl Caller {
     /// The same in so many tries, as [`Caller::install_within`].
     pub fn return_range_within(&mut self, tries: c_ulong) -> Result<(), Status> {
         // SAFETY: as above.
-        told(unsafe { raw::nekchhaul_return_range_within(&mut self.0, tries) })
+        told(unsafe { raw::nekchhaul_return_range_within(&mut self.handle, tries) })
     }
 
     /// Ends the memory, which has so many words, once the others' attempts have ended: they are the memory after all that
@@ -205,7 +220,7 @@ impl Caller {
     pub fn close_within(&mut self, words: usize, tries: c_ulong) -> Result<Vec<u64>, Status> {
         let mut out = vec![0; words];
         // SAFETY: the slice is the vector's own.
-        told(unsafe { raw::nekchhaul_end_within(&mut self.0, out.as_mut_ptr(), words, tries) })?;
+        told(unsafe { raw::nekchhaul_end_within(&mut self.handle, out.as_mut_ptr(), words, tries) })?;
         Ok(out)
     }
 
@@ -213,14 +228,14 @@ impl Caller {
     pub fn direct_read(&mut self, address: usize) -> Result<u64, Status> {
         let mut value = 0;
         // SAFETY: both lead to objects of their own.
-        told(unsafe { raw::nekchhaul_direct_read(&mut self.0, address, &mut value) })?;
+        told(unsafe { raw::nekchhaul_direct_read(&mut self.handle, address, &mut value) })?;
         Ok(value)
     }
 
     /// Writes a word of its range.
     pub fn direct_write(&mut self, address: usize, value: u64) -> Result<(), Status> {
         // SAFETY: as above.
-        told(unsafe { raw::nekchhaul_direct_write(&mut self.0, address, value) })
+        told(unsafe { raw::nekchhaul_direct_write(&mut self.handle, address, value) })
     }
 
     /// Reads a typed word of its range.
@@ -236,25 +251,25 @@ impl Caller {
     /// Makes its logs longer, each 1 to 4,096.
     pub fn reserve(&mut self, reads: usize, writes: usize) -> Result<(), Status> {
         // SAFETY: as above.
-        told(unsafe { raw::nekchhaul_reserve(&mut self.0, reads, writes) })
+        told(unsafe { raw::nekchhaul_reserve(&mut self.handle, reads, writes) })
     }
 
     /// Takes in what another caller of the same memory has seen.
     pub fn learn(&mut self, from: &mut Caller) -> Result<(), Status> {
         // SAFETY: the two handles are these callers' alone.
-        told(unsafe { raw::nekchhaul_learn(&mut self.0, &mut from.0) })
+        told(unsafe { raw::nekchhaul_learn(&mut self.handle, &mut from.handle) })
     }
 
     /// Where it stands.
     pub fn state(&mut self) -> Result<State, Status> {
-        State::of(&mut self.0)
+        State::of(&mut self.handle)
     }
 
     /// What came in its way last.
     pub fn why(&mut self) -> Result<Option<Cause>, Status> {
         let mut why = raw::Why::default();
         // SAFETY: both lead to objects of their own.
-        told(unsafe { raw::nekchhaul_why(&mut self.0, &mut why) })?;
+        told(unsafe { raw::nekchhaul_why(&mut self.handle, &mut why) })?;
         let raw::Why { status, kind, first, second, third } = why;
         Ok(told(status).err().map(|status| Cause { status, kind, first, second, third }))
     }
@@ -264,9 +279,9 @@ impl Drop for Caller {
     fn drop(&mut self) {
         // SAFETY: the handle is this caller's alone, and no caller from here on.
         unsafe {
-            raw::nekchhaul_abandon(&mut self.0);
-            raw::nekchhaul_reopen(&mut self.0);
-            raw::nekchhaul_release(&mut self.0);
+            raw::nekchhaul_abandon(&mut self.handle);
+            raw::nekchhaul_reopen(&mut self.handle);
+            raw::nekchhaul_release(&mut self.handle);
         }
     }
 }

@@ -161,6 +161,9 @@ fn attempts_by_hand() {
         begun.write(0, 2).unwrap();
         begun.cancel().unwrap();
         c.begin().unwrap().write(0, 3).unwrap();
+        let mut forgotten = c.begin().unwrap();
+        forgotten.write(0, 4).unwrap();
+        std::mem::forget(forgotten);
         assert_eq!(words(&mut c), [1, 0, 0, 0]);
         other.take_range(0, 1).unwrap();
         let mut beside = c.begin().unwrap();
