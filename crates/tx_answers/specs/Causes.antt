@@ -1,5 +1,5 @@
 -- Why a call was refused: what must have been so for each cause, by the steps of the call.
-use Rattle.std.specs.Prelude.{ℕ, ◌≡◌, ◌≢◌, ◌<◌, ◌≤◌, ◌+◌, ◌*◌, ◌%◌, ◌⊎◌, ◌==◌, ◌&&◌, not, Option, Some, None, Bool, true, false, List, ◌∷◌, length, map}
+use Rattle.std.specs.Prelude.{ℕ, ◌≡◌, ◌≢◌, ◌<◌, ◌≤◌, ◌+◌, ◌%◌, ◌⊎◌, ◌==◌, ◌&&◌, not, Option, Some, None, Bool, true, false, List, ◌∷◌, length, map}
 use Rattle.stm_model.specs.Algorithms.{has_records, has_read_log, logs_writes}
 use Rattle.stm_model.specs.declared.alg.Alg.TheVariants.{Tml, RingSw}
 use Rattle.stm_model.specs.declared.config.Config.{Config}
