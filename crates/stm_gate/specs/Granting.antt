@@ -1,6 +1,6 @@
 -- What comes of an attempt that is alone, and of the call in which it came to be so.
 use Rattle.std.proofs.Common.{ℕ, ◌≡◌, ◌<◌, List, [], ◌∷◌, ◌++◌, true, false, refl, sym, ap, ◌∙◌, arith, subst, append_assoc, inl, inr}
-use Rattle.std.specs.Prelude.{◌||◌, ◌%◌, ◌⊎◌, Some, None, not}
+use Rattle.std.specs.Prelude.{◌||◌, Some, not}
 use Rattle.stm_model.specs.Algorithms.{asks_at_grant, closes_gate, has_records, irrevocable_under, quit_rise}
 use Rattle.stm_model.specs.declared.config.Config.{Config}
 use Rattle.stm_model.specs.declared.stop.Cause.TheVariants as causes
@@ -8,7 +8,6 @@ use Rattle.stm_model.specs.Logs.{Log}
 use Rattle.stm_model.specs.Memories.{is_empty}
 use Rattle.rule_base.specs.declared.layout.At.{At}
 use Rattle.rule_base.specs.declared.layout.At.TheVariants.{Clock, Record}
-use Rattle.rule_base.specs.declared.views.Act.TheVariants.{Load}
 use Rattle.rule_base.specs.declared.views.TrailItem.{TrailItem}
 use Rattle.rule_base.specs.declared.views.View.{View}
 use Rattle.rule_base.specs.InstallSteps.{HasChecked}

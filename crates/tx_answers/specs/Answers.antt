@@ -1,5 +1,5 @@
 -- When each answer comes, and what stands after it.
-use Rattle.std.specs.Prelude.{ℕ, ◌≡◌, ◌||◌, ◌≢◌, ◌<◌, ◌≤◌, ◌+◌, ◌%◌, ◌^◌, ◌⊎◌, max, min, not, if◌then◌else◌, Some, None, Bool, true, false, List, [], ◌∷◌, ◌++◌, ◌-◌, length, get_or, take}
+use Rattle.std.specs.Prelude.{ℕ, ◌≡◌, ◌||◌, ◌≢◌, ◌<◌, ◌≤◌, ◌+◌, ◌%◌, ◌^◌, ◌⊎◌, max, min, not, if◌then◌else◌, Bool, true, false, List, [], ◌∷◌, ◌++◌, ◌-◌, length, get_or, take}
 use Rattle.stm_model.specs.Algorithms.{asks_at_begin, asks_at_write, asks_at_commit, asks_at_grant, closes_gate, entry_rise, logs_writes, quit_rise, install_rise, takes_lock}
 use Rattle.stm_model.specs.declared.alg.Alg.{Alg}
 use Rattle.stm_model.specs.declared.alg.Alg.TheVariants.{Cgl, Tml, OrecLazy, OrecEager, RingSw, Serial}

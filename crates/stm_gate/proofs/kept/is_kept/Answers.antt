@@ -1,4 +1,4 @@
-use Rattle.std.proofs.Common.{length, ◌≡◌, ◌≤◌, sym, ap, arith}
+use Rattle.std.proofs.Common.{length, ◌≤◌, sym, ap, arith}
 use Rattle.std.specs.Prelude.{is_some}
 use Rattle.stm_gate.specs.KeptLaws.{kept-none}
 use Rattle.stm_gate.proofs.kept.is_kept.Goals as goal
