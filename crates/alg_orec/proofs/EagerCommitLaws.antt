@@ -1,6 +1,6 @@
 -- What the ends of an attempt of OrecEager come to: its commit, and what cancels it.
 use Rattle.std.proofs.Common.{ℕ, ◌≡◌, ◌≢◌, ◌<◌, ◌≤◌, ◌+◌, List, [], ◌∷◌, ◌++◌, length, Bool, true, false, refl, sym, ap, ◌∙◌, arith, subst, inl, inr, append_assoc, ⊎_elim}
-use Rattle.std.specs.Prelude.{◌⊎◌, ◌==◌, ◌%◌, ◌||◌, not, reverse, if◌then◌else◌, None, Result, Ok, Err}
+use Rattle.std.specs.Prelude.{◌⊎◌, ◌==◌, ◌||◌, not, reverse, if◌then◌else◌, Result, Ok, Err}
 use Rattle.std.proofs.lemmas.Bool.Decides.{nat_tests}
 use Rattle.stm_model.specs.Algorithms.{has_records, asks_at_commit, entry_rise, quit_rise}
 use Rattle.stm_model.specs.declared.alg.Alg.{Alg}
@@ -21,7 +21,6 @@ use Rattle.rule_base.specs.declared.views.Validation.{Validation}
 use Rattle.rule_base.specs.declared.views.View.{View}
 use Rattle.rule_base.specs.Bridge.{items, of_words, public_entry, public_history}
 use Rattle.rule_base.specs.BridgeLemmas.{item-some, keeps-cells, legal-public, length-public_history}
-use Rattle.rule_base.specs.Encodings.{is_owned, owner_of, version_of}
 use Rattle.rule_base.specs.History.{over, touches, word_now, Below, Explains, Legal}
 use Rattle.rule_base.specs.Own.{Own}
 use Rattle.rule_base.specs.Ranks.{home_of}

@@ -1,6 +1,6 @@
 -- What a call that grants knows of its attempt, of OrecLazy or OrecEager alike, and what it tells of it.
 use Rattle.std.proofs.Common.{ℕ, ◌≡◌, List, [], ◌++◌, Bool, true, false, refl, sym, ap, ◌∙◌, arith, subst, inl}
-use Rattle.std.specs.Prelude.{◌&&◌, Contains, None}
+use Rattle.std.specs.Prelude.{◌&&◌, Contains}
 use Rattle.stm_model.specs.Algorithms.{has_records, asks_at_grant, closes_gate, irrevocable_under}
 use Rattle.stm_model.specs.declared.alg.Alg.{Alg}
 use Rattle.stm_model.specs.declared.alg.Alg.TheVariants.{Cgl, Tml, OrecLazy, OrecEager, RingSw, Serial}

@@ -1,6 +1,6 @@
 -- What the steps of a commit of OrecLazy come to.
 use Rattle.std.proofs.Common.{ℕ, ◌≡◌, ◌<◌, ◌≤◌, ◌+◌, List, [], ◌∷◌, ◌++◌, length, Bool, true, false, refl, sym, ap, ◌∙◌, arith, subst, append_assoc, inl, inr, ⊎_elim}
-use Rattle.std.specs.Prelude.{Some, None, ◌||◌, ◌⊎◌, not, Result, Ok, Err}
+use Rattle.std.specs.Prelude.{Some, ◌||◌, ◌⊎◌, not, Result, Ok, Err}
 use Rattle.std.proofs.lemmas.Bool.Decides.{nat_tests}
 use Rattle.std.proofs.lemmas.List.Elements.{Contains-append_left, Contains-append_right}
 use Rattle.stm_model.specs.Algorithms.{has_records, asks_at_commit, irrevocable_under}
@@ -20,7 +20,7 @@ use Rattle.rule_base.specs.declared.views.Validation.{Validation}
 use Rattle.rule_base.specs.declared.views.View.{View}
 use Rattle.rule_base.specs.Bridge.{items, of_words, public_history}
 use Rattle.rule_base.specs.BridgeLemmas.{item-some}
-use Rattle.rule_base.specs.Encodings.{free_record, owned_record, is_owned, owner_of, version_of}
+use Rattle.rule_base.specs.Encodings.{free_record, owned_record, is_owned, version_of}
 use Rattle.rule_base.specs.EncodingLemmas.{is_owned-free, version_of-free}
 use Rattle.rule_base.specs.History.{over, touches, word_now, upto, Inside, Below, Explains, Legal}
 use Rattle.rule_base.specs.Own.{Own}

@@ -1,6 +1,6 @@
 -- What the exchange of the clock in a commit of OrecLazy comes to, and the end behind it.
 use Rattle.std.proofs.Common.{ℕ, ◌≡◌, ◌≢◌, ◌<◌, ◌≤◌, ◌+◌, List, [], ◌∷◌, ◌++◌, length, Bool, true, false, refl, sym, ap, ◌∙◌, arith, subst, append_assoc, ⊎_elim, inl, inr}
-use Rattle.std.specs.Prelude.{None, ◌==◌, if◌then◌else◌, not, reverse}
+use Rattle.std.specs.Prelude.{◌==◌, if◌then◌else◌, not, reverse}
 use Rattle.std.proofs.lemmas.Bool.Decides.{nat_tests}
 use Rattle.stm_model.specs.Algorithms.{has_records, asks_at_commit, entry_rise}
 use Rattle.stm_model.specs.declared.alg.Alg.TheVariants.{OrecLazy}

@@ -1,5 +1,5 @@
 -- What the marks of an attempt of OrecLazy come to.
-use Rattle.std.proofs.Common.{ℕ, ◌≡◌, ◌<◌, ◌≤◌, ◌+◌, ◌-◌, List, [], ◌∷◌, ◌++◌, length, Bool, true, false, sym, ap, ◌∙◌, arith, subst}
+use Rattle.std.proofs.Common.{ℕ, ◌≡◌, ◌≤◌, ◌-◌, List, [], length, Bool, true, false, sym, ap, ◌∙◌, arith, subst}
 use Rattle.std.specs.Prelude.{not}
 use Rattle.stm_model.specs.Algorithms.{has_records}
 use Rattle.stm_model.specs.declared.alg.Alg.{Alg}

@@ -1,6 +1,6 @@
 -- What the steps of a load come to.
 use Rattle.std.proofs.Common.{ℕ, ◌≡◌, ◌≢◌, ◌<◌, ◌≤◌, ◌+◌, List, [], ◌∷◌, ◌++◌, Bool, true, false, refl, sym, ap, ◌∙◌, arith, subst, inl, inr, append_assoc}
-use Rattle.std.specs.Prelude.{◌%◌, ◌⊎◌, ◌==◌, if◌then◌else◌, Some}
+use Rattle.std.specs.Prelude.{◌%◌, ◌⊎◌, ◌==◌, if◌then◌else◌}
 use Rattle.std.proofs.lemmas.Bool.Decides.{nat_tests}
 use Rattle.std.proofs.lemmas.List.Elements.{Contains-append_left, Contains-append_right}
 use Rattle.stm_model.specs.declared.config.Config.{Config}
@@ -16,7 +16,7 @@ use Rattle.rule_base.specs.declared.views.TrailItem.{TrailItem}
 use Rattle.rule_base.specs.declared.views.Validation.{Validation}
 use Rattle.rule_base.specs.declared.views.View.{View}
 use Rattle.rule_base.specs.Bridge.{items}
-use Rattle.rule_base.specs.Encodings.{free_record, is_owned, owner_of, version_of}
+use Rattle.rule_base.specs.Encodings.{free_record, is_owned, version_of}
 use Rattle.rule_base.specs.History.{touches, word_now, Explains}
 use Rattle.rule_base.specs.Own.{Own}
 use Rattle.rule_base.specs.Ranks.{home_of}

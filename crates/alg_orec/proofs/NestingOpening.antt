@@ -1,5 +1,5 @@
 -- What a call on the marks of an attempt knows of it, of OrecLazy or OrecEager alike, and what it tells.
-use Rattle.std.proofs.Common.{ℕ, ◌≡◌, ◌<◌, ◌≤◌, ◌+◌, ◌-◌, List, [], ◌∷◌, ◌++◌, length, Bool, true, false, refl, sym, ap, ◌∙◌}
+use Rattle.std.proofs.Common.{ℕ, ◌≡◌, ◌≤◌, ◌-◌, List, [], length, Bool, true, false, refl, sym, ap, ◌∙◌}
 use Rattle.stm_model.specs.Algorithms.{has_records}
 use Rattle.stm_model.specs.declared.alg.Alg.{Alg}
 use Rattle.stm_model.specs.declared.config.Config.{Config}
@@ -13,7 +13,6 @@ use Rattle.stm_rule.specs.declared.local.Local.{Local}
 use Rattle.stm_rule.specs.declared.stm.Stm.{Stm}
 use Rattle.stm_rule.specs.Attempts.{Keeps, Stands, good_by, own_of, IsInside}
 use Rattle.stm_rule.specs.Callers.{Handle}
-use Rattle.stm_rule.specs.RecordsKept.{cells_of}
 use Rattle.stm_rule.specs.StandLemmas.{inside-of}
 use Rattle.tx_answers.specs.declared.answers.Roll.TheVariants.{Rolled}
 use Rattle.tx_answers.specs.Answers.{Rolls, kept_rolled}
@@ -21,14 +20,12 @@ use Rattle.tx_answers.specs.Known.{Known, IsRunning, known_of, written_under, is
 use Rattle.tx_answers.specs.KnownLaws.{grows-same}
 use Rattle.tx_logs.specs.LogStates.{LogState, rolled}
 use Rattle.stm_gate.specs.Knowing.{known}
-use Rattle.stm_gate.specs.MarkLaws.{written-same}
 use Rattle.stm_gate.specs.Opacity.{opaque-inside}
 use Rattle.stm_gate.specs.Opening.{Opened}
 use Rattle.stm_gate.specs.Standing.{in-of}
 use Rattle.stm_gate.specs.Told.{stands-on}
 use Rattle.alg_orec.specs.EagerEnding.{restoring}
 use Rattle.alg_orec.proofs.GrantOpening.{granted-known}
-use Rattle.stm_gate.specs.KeptLaws.{kept-same}
 
 -- the attempt goes on, and k is what contracts see of it
 pub record GoesOn (good : List ℕ → Type 0) (c : Config) (n : ℕ) (l : Local) (v : View) (k : Known) : Type 0 where

@@ -17,7 +17,7 @@ use Rattle.rule_base.specs.declared.views.Validation.{Validation}
 use Rattle.rule_base.specs.declared.views.View.{View}
 use Rattle.rule_base.specs.Bridge.{items, of_words}
 use Rattle.rule_base.specs.BridgeLemmas.{item-some}
-use Rattle.rule_base.specs.Encodings.{is_owned, owner_of, version_of}
+use Rattle.rule_base.specs.Encodings.{is_owned, version_of}
 use Rattle.rule_base.specs.GateSteps.{granted_at}
 use Rattle.rule_base.specs.History.{over, touches, Inside, Small}
 use Rattle.rule_base.specs.InstallSteps.{settle, CanSettle}

@@ -1,6 +1,6 @@
 -- What a call found, as seen after more steps and from before.
 use Rattle.std.proofs.Common.{ℕ, ◌≡◌, ◌≤◌, ◌+◌, List, [], ◌∷◌, ◌++◌, Bool, true, false, refl, sym, ap, ◌∙◌, arith, subst, append_assoc, length, inl, inr}
-use Rattle.std.specs.Prelude.{Option, not, ◌||◌}
+use Rattle.std.specs.Prelude.{not, ◌||◌}
 use Rattle.stm_model.specs.Algorithms.{entry_rise, has_records, quit_rise, irrevocable_under}
 use Rattle.stm_model.specs.declared.alg.Alg.{Alg}
 use Rattle.stm_model.specs.declared.alg.Alg.TheVariants.{OrecLazy}
