@@ -1,12 +1,14 @@
--- PRIVATIZATION: while a caller has a range of words out of the transactions, nobody else loads or stores a word of it.
+-- PRIVATIZATION: while a caller has a range of words out of the transactions, nobody else loads or stores a word of it; and what its reads there are of is the one history.
 use Rattle.std.specs.Prelude.{ℕ, ◌≡◌, Bool, true, false, List, [], ◌∷◌}
 use Rattle.stm_model.specs.declared.config.Config.{Config}
 use Rattle.rule_base.specs.declared.layout.At.{At}
 use Rattle.rule_base.specs.declared.layout.At.TheVariants.{Heap}
 use Rattle.rule_base.specs.Encodings.{fenced}
+use Rattle.rule_base.specs.Bridge.{public_history}
+use Rattle.stm_rule.specs.Callers.{BeginsHistory}
 use Rattle.stm_rule.specs.CoreRuns.{core_kind}
 use Rattle.stm_rule.specs.CoreRuns.CoreStep.{fence_loads, fence_stores, unfences}
-use Rattle.stm_rule.specs.NoteRuns.{Shared, Deed, SharedRule, AllMay}
+use Rattle.stm_rule.specs.NoteRuns.{Shared, Deed, SharedRule, AllMay, after_deeds}
 use Rattle.stm_rule.specs.NoteRuns.Deed.{steps, tells, learns, gathers}
 
 -- the place is no word of the fence's range
@@ -45,3 +47,8 @@ AllLeaveAlone fence n (d ∷ ds) = ((d.0 ≡ n → is_direct d.1 ≡ false) → 
 -- THE PRIVATIZATION LAW: whatever deeds any callers do from where caller n has a range, each allowed where it comes, until n gives it back: nobody loads or stores a word of it but n, and n in no attempt
 abbrev pub RangeIsPrivate : ((ℕ → ℕ) → Type 0) → Config → Type 0
 RangeIsPrivate good c = (n : ℕ) (deeds : List (ℕ × Deed)) (x : Shared) → SharedRule good c x → AllMay good c deeds x → (x.world.views n).fence.holds ≡ true → KeepsRange n deeds → AllLeaveAlone (x.world.views n).fence.number n deeds
+
+-- THE HISTORY OF A RANGE: whatever deeds any callers do from where caller n has a range, each allowed where it comes, what had been committed as n took it begins the history after them, which is the one that closing tells
+abbrev pub RangeIsHistory : ((ℕ → ℕ) → Type 0) → Config → Type 0
+RangeIsHistory good c = (n : ℕ) (deeds : List (ℕ × Deed)) (x : Shared) → SharedRule good c x → AllMay good c deeds x → (x.world.views n).fence.holds ≡ true
+    → BeginsHistory (public_history (x.world.views n).fence.past.seen) (x.world.views n).fence.past.front (public_history (after_deeds good c deeds x).world.history)

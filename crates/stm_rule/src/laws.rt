@@ -10,7 +10,7 @@ ghost use Rattle.stm_rule.specs.CoreRuns.{CoreOpens, CoreCommits, CoreInstalls, 
 ghost use Rattle.stm_rule.specs.Irrevocable.{OneIrrevocable};
 ghost use Rattle.stm_rule.specs.Kept.{good_of};
 ghost use Rattle.stm_rule.specs.NoteRuns.{CoreKeepsAlong};
-ghost use Rattle.stm_rule.specs.Privatization.{RangeIsPrivate};
+ghost use Rattle.stm_rule.specs.Privatization.{RangeIsHistory, RangeIsPrivate};
 ghost use Rattle.stm_rule.specs.Stamping.{CoreStamps};
 ghost use Rattle.stm_rule.specs.Quiescence.{GrantedLasts, GrantedRests, HolderAlone, InstalledRests, QuietRests, RestLasts};
 
@@ -62,6 +62,12 @@ pub fn one_irrevocable<K: MemRule>()
 /// and it in no attempt.
 pub fn range_is_private<K: MemRule>()
     ensures { (rule : K) (c : Config) → RangeIsPrivate (good_of K.good c rule) c }
+{}
+
+/// What had been committed as a caller took a range of words out of the transactions begins the one history, whatever
+/// any callers do afterwards.
+pub fn range_is_history<K: MemRule>()
+    ensures { (rule : K) (c : Config) → RangeIsHistory (good_of K.good c rule) c }
 {}
 
 /// And so is a run that switches the algorithm twice, with a commit of TML, a promoted one and one of Serial. Right
