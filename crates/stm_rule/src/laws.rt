@@ -17,8 +17,8 @@ ghost use Rattle.stm_rule.specs.Quiescence.{GrantedLasts, GrantedRests, HolderAl
 use stm_model::config::Config;
 use stm_model::rule::MemRule;
 
-/// Whatever steps of the core any callers take, and whatever notes they tell and learn between them, each
-/// allowed where it comes, the rule holds after each, and each note is a prefix of the history.
+/// Whatever steps of the core any callers take, and whatever notes they tell and learn and seats they take in between
+/// them, each allowed where it comes, the rule holds after each, and each note is a prefix of the history.
 pub fn core_keeps_along<K: MemRule>()
     ensures { (rule : K) (c : Config) → CoreKeepsAlong (good_of K.good c rule) c }
 {}
