@@ -1,6 +1,6 @@
 -- What the marks of an attempt of RingSW come to.
 use Rattle.std.proofs.Common.{ℕ, suc, ◌≡◌, ◌<◌, ◌≤◌, ◌+◌, ◌-◌, List, [], ◌∷◌, ◌++◌, length, get_or, take, Bool, true, false, refl, sym, ap, ◌∙◌, arith, subst}
-use Rattle.std.specs.Prelude.{◌||◌, not, slice_index, bit_or}
+use Rattle.std.specs.Prelude.{not, slice_index, bit_or}
 use Rattle.std.proofs.Math.Seq.{take-suc}
 use Rattle.stm_model.specs.Algorithms.{irrevocable_under}
 use Rattle.stm_model.specs.declared.alg.Alg.{Alg}
@@ -18,11 +18,10 @@ use Rattle.rule_ring.specs.SlotFilter.{slot_filter}
 use Rattle.stm_rule.specs.RecordsKept.{cells_of, IsWriteSet, HasMarks}
 use Rattle.stm_rule.specs.RingKept.{IsRing}
 use Rattle.tx_answers.specs.Answers.{IsRolled, kept_rolled}
-use Rattle.tx_answers.specs.Known.{Known, known_of, granted_under, kept_under, written_under, is_irrevocable, is_in, is_closing}
+use Rattle.tx_answers.specs.Known.{known_of, granted_under, kept_under, written_under, is_irrevocable, is_in, is_closing}
 use Rattle.tx_answers.specs.KnownLaws.{grows-same}
 use Rattle.tx_logs.specs.Filters.{address_word, filter_word}
 use Rattle.tx_logs.specs.LogStates.{LogState, rolled}
-use Rattle.stm_gate.specs.KeptLaws.{kept-same}
 use Rattle.stm_gate.specs.MarkLaws.{marks-take}
 use Rattle.stm_gate.specs.Opacity.{opaque-inside}
 use Rattle.alg_ring.specs.Filtering.{IsFilterOf}
