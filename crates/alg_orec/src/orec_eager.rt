@@ -26,7 +26,6 @@ use alg_calls::algorithm::Algorithm;
 use steps_orec::eager::{own_load, place};
 use steps_orec::reading;
 use stm_gate::direct::{direct_load, direct_store};
-use stm_gate::kept::is_kept;
 use stm_gate::leave::leave;
 use stm_gate::promote::{Promotion, promote};
 use stm_model::alg::Alg;
@@ -213,7 +212,7 @@ fn first_write<K: MemRule>(desc: &mut Desc<K>, stm: &Stm<K>, a: usize, x: u64) -
     ensures steps { AddsAtMost (7 + (known desc.old).reads_limit + 2 * (known desc.old).writes_limit) (known desc.old) (known desc.new) }
 {
     // An address whose write was taken back has its item still, and its record.
-    if is_kept(&desc.local, a) {
+    if desc.local.undo.find(a).is_some() {
         return write_again(desc, stm, a, x);
     }
     let caller = desc.number;

@@ -92,14 +92,6 @@ kept-shorter a ws us once h there new = kept-longer ((a, 0) ∷ ws) us (none-of 
         by true q e = let same : a ≡ b = grind (arith, nat_tests) in ap (λ (k : ℕ). has_item k us) (sym same) ∙ there
         by false q e = h b e
 
--- so an address that isn't in the one is none of a log that is no longer
-pub kept-none : (a : ℕ) (ws us : List (ℕ × ℕ)) → Once ws → AreKept ws us → item_at a ws ≡ None → length us ≤ length ws → item_at a us ≡ None
-kept-none a ws us once h new short = by (item_at a us) refl
-  where
-    by : (o : Option ℕ) → item_at a us ≡ o → o ≡ None
-    by None e = refl
-    by (Some x) e = absurd (let long = kept-shorter a ws us once h (ap is_some e) (ap is_some new) in omega arith)
-
 -- the same, of cells
 pub touched-kept : (ws us : List Cell) → ((a : ℕ) → touches ws a ≡ true → touches us a ≡ true) → AreKept (items ws) (items us)
 touched-kept ws us h a t = sym (has-touched a us) ∙ h a (has-touched a ws ∙ t)

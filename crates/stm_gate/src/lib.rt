@@ -5,7 +5,6 @@
 pub mod direct;
 pub mod fence;
 pub mod gate;
-pub mod kept;
 pub mod leave;
 pub mod looking;
 pub mod promote;

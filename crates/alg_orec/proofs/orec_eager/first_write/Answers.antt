@@ -25,10 +25,6 @@ opened g c = opens-eager g.K.MemRule.good c.args.stm.now c.desc.inside.number c.
 unlogged : (g : _) (c : After-desc g) → item_at c.args.a c.desc.inside.local.writes.items ≡ None
 unlogged g c = unwritten _ _ (opened g c).call c.args.a c.requires.unwritten
 
--- each word that is written has its old value
-pub is_kept-requires : goal.is_kept-requires
-is_kept-requires g c = record { kept = laws.written-logged _ _ _ _ _ (opened g (goal.at.is_kept-requires g c).After-desc).runs }
-
 pub write_again-requires-clause-saved : goal.write_again-requires-clause-saved
 write_again-requires-clause-saved g c =
     let o = opened g (goal.at.write_again-requires-clause-saved g c).After-desc in
