@@ -1,8 +1,6 @@
-use Rattle.std.proofs.Common.{◌∙◌, sym, subst, rules}
+use Rattle.std.proofs.Common.{◌∙◌, rules}
 use Rattle.stm_tx.specs.Descs.{known, number}
 use Rattle.tx_atomic.specs.AttemptLaws.{stopped-idle}
-use Rattle.tx_atomic.specs.declared.tally.Ended.{Ended}
-use Rattle.tx_atomic.specs.Tries.{IsStopped}
 use Rattle.tx_atomic.specs.TryLaws.{stopped}
 use Rattle.tx_atomic.proofs.attempts.act.Goals as goal
 
@@ -34,4 +32,4 @@ pub returns-in-Err-clause-stopped : goal.returns-in-Err-clause-stopped
 returns-in-Err-clause-stopped g c =
     let stm = c.args.stm.now in
     let is = stopped (g.K.MemRule.good stm.rule) stm.config (number c.args.desc.now) _ _ (known c.args.desc.now) _ c.in-Err.ensures.stops c.in-Err.ensures.keeps.0.1 in
-    subst (λ (e : Ended). IsStopped (g.K.MemRule.good stm.rule) stm.config (number c.args.desc.now) e (known c.args.desc.now) _) (sym (c.refuse.ensures.last ∙ c.by.ensures)) is
+    rw (c.refuse.ensures.last ∙ c.by.ensures) is

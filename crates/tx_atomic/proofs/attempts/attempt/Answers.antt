@@ -14,11 +14,11 @@ returns-in_err-open-clause-tried g c =
     let p = err_from_is_err_and c.from_residual.result c.from_residual.ensures.1 in
     rw p.1 c.in_err-open.ensures.tried
 
-pub returns-in_ok-open-clause-grew : goal.returns-in_ok-open-clause-grew
-returns-in_ok-open-clause-grew g c = grows-trans (known c.args.desc.now) (known c.open.new.desc) (known c.run.new.desc) c.open.ensures.grew c.run.ensures.grew
+pub returns-clause-grew : goal.returns-clause-grew
+returns-clause-grew g c = grows-trans (known c.args.desc.now) (known c.open.new.desc) (known c.run.new.desc) c.open.ensures.grew c.run.ensures.grew
 
-pub returns-in_ok-open-clause-took : goal.returns-in_ok-open-clause-took
-returns-in_ok-open-clause-took g c =
+pub returns-clause-took : goal.returns-clause-took
+returns-clause-took g c =
     let stm = c.args.stm.now in
     let good = g.K.MemRule.good stm.rule in
     let u = known c.args.desc.now in
@@ -29,11 +29,11 @@ returns-in_ok-open-clause-took g c =
     let now = subst (λ n. TookEffect good stm.config n tells v.start v w) (same-number c.args.desc.now c.open.new.desc c.open.ensures.same) took in
     took-since good stm.config (number c.args.desc.now) tells v.start u.front u v w c.open.ensures.made c.open.ensures.grew c.in_ok-open.ensures.later now) c.run.ensures.took
 
-pub returns-in_ok-open-clause-none : goal.returns-in_ok-open-clause-none
-returns-in_ok-open-clause-none g c = on_err_weaker c.run.result (λ made. made ∙ c.open.ensures.made) c.run.ensures.none
+pub returns-clause-none : goal.returns-clause-none
+returns-clause-none g c = on_err_weaker c.run.result (λ made. made ∙ c.open.ensures.made) c.run.ensures.none
 
-pub returns-in_ok-open-clause-tried : goal.returns-in_ok-open-clause-tried
-returns-in_ok-open-clause-tried g c =
+pub returns-clause-tried : goal.returns-clause-tried
+returns-clause-tried g c =
     let stm = c.args.stm.now in
     let good = g.K.MemRule.good stm.rule in
     let v = known c.open.new.desc in
@@ -43,5 +43,5 @@ returns-in_ok-open-clause-tried g c =
     let runs = subst (λ n. MatchResult c.run.result (λ _. Runs good stm.config n None v w r t) (λ _. Runs good stm.config n (Some c.run.new.pace.last) v w r t)) (same-number c.args.desc.now c.open.new.desc c.open.ensures.same) c.run.ensures.runs in
     tried-ran good stm.config (number c.args.desc.now) c.run.result c.args.irrevocable c.run.new.pace.last (known c.args.desc.now) v w c.args.pace.now.tally r t c.in_ok-open.ensures.irrevocable c.run.ensures.unrefused c.in_ok-open.ensures.opens runs
 
-pub returns-in_ok-open-clause-unrefused : goal.returns-in_ok-open-clause-unrefused
-returns-in_ok-open-clause-unrefused g c = on_err_weaker c.run.result (λ no irrevocable. let yes = c.in_ok-open.ensures.irrevocable irrevocable in absurd cc) c.run.ensures.unrefused
+pub returns-clause-unrefused : goal.returns-clause-unrefused
+returns-clause-unrefused g c = on_err_weaker c.run.result (λ no irrevocable. let yes = c.in_ok-open.ensures.irrevocable irrevocable in absurd cc) c.run.ensures.unrefused

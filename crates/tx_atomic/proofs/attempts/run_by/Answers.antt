@@ -39,21 +39,21 @@ returns-in_err-end-clause-runs g c =
     rw p.1 runs
 
 -- what an attempt was not behind its work it was not before
-before : (a b : Bool) → (a ≡ true → b ≡ true) → b ≡ false → a ≡ false
-before true b stays no = let yes = stays refl in absurd cc
-before false b stays no = refl
+was_not : (a b : Bool) → (a ≡ true → b ≡ true) → b ≡ false → a ≡ false
+was_not true b stays is = let yes : b ≡ true = stays refl in let wrong : true ≡ false = sym yes ∙ is in absurd cc
+was_not false b stays is = refl
 
 pub returns-in_err-end-clause-unrefused : goal.returns-in_err-end-clause-unrefused
 returns-in_err-end-clause-unrefused g c =
-    let no = before _ _ c.in_ok-output.ensures.irrevocable c.in_err-end.ensures.unrefused in
+    let plain = was_not _ _ c.in_ok-output.ensures.irrevocable c.in_err-end.ensures.unrefused in
     let p = err_from_is_err_and c.from_residual-in_err-end.result c.from_residual-in_err-end.ensures.1 in
-    rw p.1 no
+    rw p.1 plain
 
-pub returns-in_ok-end-clause-grew : goal.returns-in_ok-end-clause-grew
-returns-in_ok-end-clause-grew g c = grows-trans (known c.args.desc.now) (known c.act.new.desc) (known c.end.new.desc) c.act.ensures.grew c.end.ensures.grew
+pub returns-clause-grew : goal.returns-clause-grew
+returns-clause-grew g c = grows-trans (known c.args.desc.now) (known c.act.new.desc) (known c.end.new.desc) c.act.ensures.grew c.end.ensures.grew
 
-pub returns-in_ok-end-clause-runs : goal.returns-in_ok-end-clause-runs
-returns-in_ok-end-clause-runs g c =
+pub returns-clause-runs : goal.returns-clause-runs
+returns-clause-runs g c =
     let stm = c.args.stm.now in
     let good = g.K.MemRule.good stm.rule in
     let x = known c.act.new.desc in
@@ -61,8 +61,8 @@ returns-in_ok-end-clause-runs g c =
     let here = subst (λ i. Finishes good stm.config i None x w c.act.new.pace.tally c.end.new.pace.tally) (same-number c.args.desc.now c.act.new.desc c.act.ensures.same) c.in_ok-end.ensures.finishes in
     record { acted = x; acts = c.act.ensures.grew; finishes = subst (λ (t : Tally). Finishes good stm.config (number c.args.desc.now) None x w t c.end.new.pace.tally) c.act.ensures.uncounted here }
 
-pub returns-in_ok-end-clause-took : goal.returns-in_ok-end-clause-took
-returns-in_ok-end-clause-took g c =
+pub returns-clause-took : goal.returns-clause-took
+returns-clause-took g c =
     let stm = c.args.stm.now in
     let good = g.K.MemRule.good stm.rule in
     let u = known c.args.desc.now in
