@@ -32,4 +32,4 @@ pub returns-in-Err-clause-stopped : goal.returns-in-Err-clause-stopped
 returns-in-Err-clause-stopped g c =
     let stm = c.args.stm.now in
     let is = stopped (g.K.MemRule.good stm.rule) stm.config (number c.args.desc.now) _ _ (known c.args.desc.now) _ c.in-Err.ensures.stops c.in-Err.ensures.keeps.0.1 in
-    rw (c.refuse.ensures.last ∙ c.by.ensures) is
+    rw (c.refuse.ensures.last ∙ c.by.ensures) (search (rules, is))
