@@ -15,12 +15,14 @@ pub fn draw(draws: &mut Pcg32, workload: Workload) -> Job
     match workload {
         Workload::Bank => {
             if word % 256 == 0 {
-                return Job::Sum { accounts: ACCOUNTS };
+                return Job::Sum {
+                    accounts: ACCOUNTS as u32,
+                };
             }
             Job::Move {
                 from: account(draws),
                 to: account(draws),
-                amount: u64::from(draws.next_word() % 100),
+                amount: draws.next_word() % 100,
             }
         }
         Workload::Hash => on_set(draws, word % 100, 5),
@@ -31,10 +33,10 @@ pub fn draw(draws: &mut Pcg32, workload: Workload) -> Job
 }
 
 /// One of the accounts.
-fn account(draws: &mut Pcg32) -> usize
+fn account(draws: &mut Pcg32) -> u32
     ensures { result < ACCOUNTS }
 {
-    draws.next_word() as usize % ACCOUNTS
+    draws.next_word() % ACCOUNTS as u32
 }
 
 /// An insertion or a removal of a key in `each` of a hundred cases, by a number below a hundred; else a lookup.

@@ -50,10 +50,10 @@ fn fill_accounts<R: Wait>(
     ensures same { IsSameCaller desc.old desc.new }
     ensures idle { IsIdle (known desc.new) }
 {
-    for account in 0..ACCOUNTS {
+    for account in 0..ACCOUNTS as u32 {
         let job = Job::Store {
             account,
-            value: BALANCE,
+            value: BALANCE as u32,
         };
         atomically(rt, desc, stm, pace, &job);
     }

@@ -8,6 +8,7 @@ ghost use Rattle.tx_regions.specs.Regions.{WellFormed};
 ghost use Rattle.perf_core.specs.Jobs.{RegionFits, JobFits};
 
 use crate::place::Place;
+use crate::plan::BALANCE;
 use stm_model::access::Access;
 use stm_model::stop::Stop;
 use tx_atomic::transaction::Transaction;
@@ -16,17 +17,18 @@ use tx_cells::list::List;
 use tx_effects::insert::Insert;
 use tx_regions::region::Region;
 
-/// A transaction. One that is not for the region of its memory does nothing.
+/// A transaction. One that is not for the region of its memory does nothing. Its numbers are short, so that little is written
+/// and read for each that is drawn.
 #[derive(Clone, Copy, Drop, Debug, PartialEq, Eq)]
 pub enum Job {
     /// The value goes to the account.
-    Store { account: usize, value: u64 },
+    Store { account: u32, value: u32 },
     /// The amount goes from one account to another, if the first has as much. Sums wrap modulo 2^64.
-    Move { from: usize, to: usize, amount: u64 },
-    /// The sum of the first so many accounts, modulo 2^64.
-    Sum { accounts: usize },
+    Move { from: u32, to: u32, amount: u32 },
+    /// Whether the first so many accounts have together what they began with, modulo 2^64.
+    Sum { accounts: u32 },
     /// The account gains 1.
-    Add { account: usize },
+    Add { account: u32 },
     Contains(u32),
     Insert(u32),
     Remove(u32),
@@ -36,9 +38,10 @@ pub enum Job {
 #[derive(Clone, Copy, Drop, Debug, PartialEq, Eq)]
 pub enum Came {
     Done,
-    Summed(u64),
     Inserted,
     Removed,
+    /// The accounts had together something else than they began with.
+    Wrong,
 }
 
 /// What it comes to is told by the answer, of which nothing is proved.
@@ -92,14 +95,16 @@ fn on_accounts<A: Access>(memory: &mut A, job: Job) -> Result<Came, Stop>
 {
     match job {
         Job::Store { account, value } => {
-            memory.write(account, value)?;
+            memory.write(account as usize, u64::from(value))?;
             Ok(Came::Done)
         }
-        Job::Move { from, to, amount } => move_between(memory, from, to, amount),
-        Job::Sum { accounts } => sum(memory, accounts),
+        Job::Move { from, to, amount } => {
+            move_between(memory, from as usize, to as usize, u64::from(amount))
+        }
+        Job::Sum { accounts } => sum(memory, accounts as usize),
         Job::Add { account } => {
-            let found = memory.read(account)?;
-            memory.write(account, found.wrapping_add(1))?;
+            let found = memory.read(account as usize)?;
+            memory.write(account as usize, found.wrapping_add(1))?;
             Ok(Came::Done)
         }
         Job::Contains(_) | Job::Insert(_) | Job::Remove(_) => Ok(Came::Done),
@@ -145,7 +150,15 @@ fn sum<A: Access>(memory: &mut A, accounts: usize) -> Result<Came, Stop>
         let found = memory.read(account)?;
         sum = sum.wrapping_add(found);
     }
-    Ok(Came::Summed(sum))
+    Ok(summed(sum, accounts))
+}
+
+fn summed(sum: u64, accounts: usize) -> Came {
+    if sum == BALANCE.wrapping_mul(accounts as u64) {
+        Came::Done
+    } else {
+        Came::Wrong
+    }
 }
 
 /// The jobs on a list.

@@ -190,3 +190,9 @@ module _ (good : List ℕ → Type 0) (c : Config) (n : ℕ) where
     pub waits : FindsAgain again u before
     pub last : EndsBy ended before w
     pub counted : t ≡ noted_times again ends.Again s
+
+  -- it did what it does, and asked to commit; or what it did was refused
+  pub record Runs (ended : Option Ended) (u w : Known) (s t : Tally) : Type 0 where
+    pub acted : Known
+    pub acts : Grows u acted
+    pub finishes : Finishes ended acted w s t

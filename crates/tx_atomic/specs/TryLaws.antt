@@ -1,6 +1,7 @@
 -- Laws of what came of attempts.
 use Rattle.std.proofs.Common.{ℕ, zero, suc, ◌≡◌, ◌≢◌, ◌<◌, ◌≤◌, ◌+◌, ◌∙◌, List, [], ◌∷◌, ◌++◌, Bool, true, false, refl, sym, ap, subst, arith, inl, inr, append_assoc}
-use Rattle.std.specs.Prelude.{◌⊎◌, ◌||◌, leb, min, Option, Some, None}
+use Rattle.std.specs.Prelude.{◌⊎◌, ◌||◌, leb, min, Option, Some, None, Ok, Err, OnErr, MatchResult}
+use Rattle.std.specs.declared.result.Result.{Result}
 use Rattle.std.proofs.lemmas.Bool.Decides.{nat_tests}
 use Rattle.std.proofs.lemmas.List.Elements.{Contains-append_left}
 use Rattle.stm_model.specs.declared.config.Config.{Config}
@@ -19,7 +20,7 @@ use Rattle.tx_answers.specs.declared.answers.Irrev.TheVariants as grants
 use Rattle.tx_answers.specs.Answers.{Begins, Commits, Irrevs, Stops}
 use Rattle.tx_answers.specs.Causes.{FindsFull}
 use Rattle.tx_answers.specs.Evidence.{Found}
-use Rattle.tx_answers.specs.Known.{Known, Grows}
+use Rattle.tx_answers.specs.Known.{Known, Grows, is_irrevocable}
 use Rattle.tx_answers.specs.KnownLaws.{carries-refl, grows-trans}
 use Rattle.stm_tx.specs.Descs.{Since}
 use Rattle.tx_atomic.specs.declared.tally.Ended.{Ended}
@@ -28,7 +29,7 @@ use Rattle.tx_atomic.specs.declared.tally.Tally.{Tally}
 use Rattle.tx_atomic.specs.Attempts.{ended_by}
 use Rattle.tx_atomic.specs.AttemptLaws.{irrevs-grow, commits-grow}
 use Rattle.tx_atomic.specs.Tallies.{failed_next, noted, noted_times}
-use Rattle.tx_atomic.specs.Tries.{Try, IsRefused, EndsBy, FindsBusy, FindsAgain, WasTried, WereTried, AllFailed, Tried, Ran, Failing, Opens, Asks, IsStopped, Finishes, counted_all, counted, counted_end, waited, ran_full, was_crossed, any_full, crossed, is_due}
+use Rattle.tx_atomic.specs.Tries.{Try, IsRefused, EndsBy, FindsBusy, FindsAgain, WasTried, WereTried, AllFailed, Tried, Ran, Failing, Opens, Asks, IsStopped, Runs, counted_all, counted, counted_end, waited, ran_full, was_crossed, any_full, crossed, is_due}
 
 pub grows-refl : (v : Known) → Grows v v
 grows-refl v = (carries-refl v).grows
@@ -155,19 +156,23 @@ module _ (good : List ℕ → Type 0) (c : Config) (n : ℕ) where
   opens-plain false u w t is g = record { busy = 0; begun = w; begins = g; asked = w; waits = refl; goes = grows-refl w; counted = refl }
 
   -- what it did was refused
-  pub tried-stopped : (irrevocable : Bool) (e : Ended) (u v w : Known) (s t : Tally) → (irrevocable ≡ true → ⊥) → Opens good c n irrevocable u v s t → IsStopped good c n e v w → Tried good c n irrevocable (Some e) u w s t
-  tried-stopped true e u v w s t never o x = absurd (never refl)
-  tried-stopped false e u v w s t never o x = record { busy = o.busy; again = 0; was = record { begun = o.begun; begins = o.begins; asked = o.asked; busy = o.waits; acted = x.before; acts = grows-trans o.asked v x.before o.goes x.goes; before = x.before; again = refl; last = x.last }; counted = o.counted }
-
-  -- its commit was
-  pub tried-uncommitted : (irrevocable : Bool) (e : Ended) (u v x w : Known) (r s t : Tally) → (irrevocable ≡ true → ⊥) → Opens good c n irrevocable u v r s → Grows v x → Finishes good c n (Some e) x w s t → Tried good c n irrevocable (Some e) u w r t
-  tried-uncommitted true e u v x w r s t never o g f = absurd (never refl)
-  tried-uncommitted false e u v x w r s t never o g f = record { busy = o.busy; again = f.again; was = record { begun = o.begun; begins = o.begins; asked = o.asked; busy = o.waits; acted = x; acts = grows-trans o.asked v x o.goes g; before = f.before; again = f.waits; last = f.last }; counted = f.counted ∙ ap (noted_times f.again ends.Again) o.counted }
+  pub runs-stopped : (e : Ended) (u w : Known) (s t : Tally) → t ≡ s → IsStopped good c n e u w → Runs good c n (Some e) u w s t
+  runs-stopped e u w s t same x = record { acted = x.before; acts = x.goes; finishes = record { again = 0; before = x.before; waits = refl; last = x.last; counted = same } }
 
   -- it committed
-  pub tried-done : (irrevocable : Bool) (u v x w : Known) (r s t : Tally) → Opens good c n irrevocable u v r s → Grows v x → Finishes good c n None x w s t → Tried good c n irrevocable None u w r t
-  tried-done true u v x w r s t o g f = record { busy = o.busy; again = f.again; was = record { begun = o.begun; begins = o.begins; asked = o.asked; busy = o.waits; acted = x; acts = grows-trans o.asked v x o.goes g; before = f.before; again = f.waits; last = f.last }; counted = f.counted ∙ ap (noted_times f.again ends.Again) o.counted }
-  tried-done false u v x w r s t o g f = record { busy = o.busy; again = f.again; was = record { begun = o.begun; begins = o.begins; asked = o.asked; busy = o.waits; acted = x; acts = grows-trans o.asked v x o.goes g; before = f.before; again = f.waits; last = f.last }; counted = f.counted ∙ ap (noted_times f.again ends.Again) o.counted }
+  pub tried-done : (irrevocable : Bool) (u v w : Known) (r s t : Tally) → Opens good c n irrevocable u v r s → Runs good c n None v w s t → Tried good c n irrevocable None u w r t
+  tried-done true u v w r s t o x = let f = x.finishes in record { busy = o.busy; again = f.again; was = record { begun = o.begun; begins = o.begins; asked = o.asked; busy = o.waits; acted = x.acted; acts = grows-trans o.asked v x.acted o.goes x.acts; before = f.before; again = f.waits; last = f.last }; counted = f.counted ∙ ap (noted_times f.again ends.Again) o.counted }
+  tried-done false u v w r s t o x = let f = x.finishes in record { busy = o.busy; again = f.again; was = record { begun = o.begun; begins = o.begins; asked = o.asked; busy = o.waits; acted = x.acted; acts = grows-trans o.asked v x.acted o.goes x.acts; before = f.before; again = f.waits; last = f.last }; counted = f.counted ∙ ap (noted_times f.again ends.Again) o.counted }
+
+  -- it was refused
+  pub tried-refused : (irrevocable : Bool) (e : Ended) (u v w : Known) (r s t : Tally) → (irrevocable ≡ true → ⊥) → Opens good c n irrevocable u v r s → Runs good c n (Some e) v w s t → Tried good c n irrevocable (Some e) u w r t
+  tried-refused true e u v w r s t never o x = absurd (never refl)
+  tried-refused false e u v w r s t never o x = let f = x.finishes in record { busy = o.busy; again = f.again; was = record { begun = o.begun; begins = o.begins; asked = o.asked; busy = o.waits; acted = x.acted; acts = grows-trans o.asked v x.acted o.goes x.acts; before = f.before; again = f.waits; last = f.last }; counted = f.counted ∙ ap (noted_times f.again ends.Again) o.counted }
+
+  -- either, by what the attempt answered
+  pub tried-ran : {A E : Type 0} (result : Result A E) (irrevocable : Bool) (e : Ended) (u v w : Known) (r s t : Tally) → (irrevocable ≡ true → is_irrevocable v ≡ true) → OnErr result (is_irrevocable v ≡ false) → Opens good c n irrevocable u v r s → MatchResult result (λ _. Runs good c n None v w s t) (λ _. Runs good c n (Some e) v w s t) → MatchResult result (λ _. Tried good c n irrevocable None u w r t) (λ _. Tried good c n irrevocable (Some e) u w r t)
+  tried-ran (Ok x) irrevocable e u v w r s t stays unrefused o runs = tried-done irrevocable u v w r s t o runs
+  tried-ran (Err y) irrevocable e u v w r s t stays unrefused o runs = tried-refused irrevocable e u v w r s t (λ is. let yes : is_irrevocable v ≡ true = stays is in let no : is_irrevocable v ≡ false = unrefused in let wrong : true ≡ false = sym yes ∙ no in absurd cc) o runs
 
   -- one call more that left it going, made by the same caller
   pub busy-more : (k m : ℕ) (r : Irrev) (caller status : ℕ) (u v w : Known) → m ≡ n → FindsBusy good c n k u v → r ≡ grants.Busy caller status → Irrevs good c m r v w → FindsBusy good c n (suc k) u w

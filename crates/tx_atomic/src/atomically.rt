@@ -10,7 +10,7 @@ ghost use Rattle.tx_atomic.specs.Tries.{Ran};
 
 use crate::attempts::attempt;
 use crate::observer::Observer;
-use crate::pace::Pacing;
+use crate::pace::{Pacing, Refused};
 use crate::tally::Ended;
 use std::sync::Wait;
 use stm_model::rule::MemRule;
@@ -54,9 +54,9 @@ pub fn atomically<R: Wait, K: MemRule, T: Transaction<K>, O: Observer>(
                 pace.get_on();
                 return Some(output);
             }
-            Err(ended) => match ended {
+            Err(Refused) => match pace.last {
                 Ended::ClockFull => return None,
-                _ => {
+                ended => {
                     pace.wait(ended);
                     failed = failed_next(failed, ended);
                 }

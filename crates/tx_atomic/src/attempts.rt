@@ -7,11 +7,11 @@ ghost use Rattle.stm_tx.specs.Descs.{known, number};
 ghost use Rattle.tx_atomic.specs.Tallies.{CommitsStay};
 ghost use Rattle.tx_atomic.specs.Attempts.{IsFresh, MayCommit, TookEffect, IsEarly};
 ghost use Rattle.tx_atomic.specs.Callers.{IsReady, IsThrough, Took};
-ghost use Rattle.tx_atomic.specs.Tries.{Tried, Opens, Asks, IsRefused, IsStopped, Finishes};
+ghost use Rattle.tx_atomic.specs.Tries.{Tried, Opens, Asks, IsRefused, IsStopped, Finishes, Runs};
 
 use crate::noting::Noting;
 use crate::observer::Observer;
-use crate::pace::Pacing;
+use crate::pace::{Pacing, Refused};
 use crate::tally::Ended;
 use std::sync::Wait;
 use stm_model::alg::Alg;
@@ -26,11 +26,14 @@ use stm_tx::{Cgl, OrecEager, OrecLazy, RingSw, Serial, Tml};
 use tx_answers::answers::{Begin, Commit, Irrev};
 use tx_transaction::transaction::Transaction;
 
+/// The word that a commit names where another holds the lock; else it names the clock, which moved.
+const LOCK: u64 = 1;
+
 /// Tries a transaction once, irrevocably where `irrevocable` says so. Answers what the transaction does, where the
 /// attempt committed; else it left no trace. An irrevocable attempt fails only before it does anything.
 ///
 /// # Errors
-/// How the attempt ended.
+/// The attempt was refused, as `last` of the pace says.
 #[inline(never)]
 pub fn attempt<R: Wait, K: MemRule, T: Transaction<K>, O: Observer>(
     rt: &R,
@@ -39,7 +42,7 @@ pub fn attempt<R: Wait, K: MemRule, T: Transaction<K>, O: Observer>(
     pace: &mut Pacing<O>,
     transaction: &T,
     irrevocable: bool,
-) -> Result<T::Output, Ended>
+) -> Result<T::Output, Refused>
     requires ready { IsReady stm.now desc.old }
     requires fits { T.fits transaction.now stm.now.rule stm.now.config.words }
     ensures through { IsThrough desc.old desc.new }
@@ -48,24 +51,11 @@ pub fn attempt<R: Wait, K: MemRule, T: Transaction<K>, O: Observer>(
     ensures took { IfOk result (λ r. Took K.good (T.tells transaction.now) stm.now desc.old r desc.new) }
     ensures none { OnErr result ((known desc.new).made ≡ (known desc.old).made) }
     ensures installs { (known desc.new).installs ≡ (known desc.old).installs }
-    ensures tried { MatchResult result (λ r. Tried (K.good stm.now.rule) stm.now.config (number desc.old) irrevocable None (known desc.old) (known desc.new) pace.old.tally pace.new.tally) (λ e. Tried (K.good stm.now.rule) stm.now.config (number desc.old) irrevocable (Some e) (known desc.old) (known desc.new) pace.old.tally pace.new.tally) }
-    ensures unrefused { IfErr result (λ e. irrevocable ≡ true → IsEarly e) }
+    ensures tried { MatchResult result (λ r. Tried (K.good stm.now.rule) stm.now.config (number desc.old) irrevocable None (known desc.old) (known desc.new) pace.old.tally pace.new.tally) (λ e. Tried (K.good stm.now.rule) stm.now.config (number desc.old) irrevocable (Some pace.new.last) (known desc.old) (known desc.new) pace.old.tally pace.new.tally) }
+    ensures unrefused { OnErr result (irrevocable ≡ true → IsEarly pace.new.last) }
 {
-    match open(rt, desc, stm, pace, irrevocable) {
-        Ok(()) => {}
-        Err(ended) => {
-            pace.tell(ended, None);
-            return Err(ended);
-        }
-    }
-    let output = act(desc, stm, pace, transaction)?;
-    match end(rt, desc, stm, pace) {
-        Ok(()) => Ok(output),
-        Err(ended) => {
-            pace.tell(ended, None);
-            Err(ended)
-        }
-    }
+    open(rt, desc, stm, pace, irrevocable)?;
+    run(rt, desc, stm, pace, transaction)
 }
 
 /// Begins, and asks to be irrevocable where `irrevocable` says so.
@@ -75,7 +65,7 @@ fn open<R: Wait, K: MemRule, O: Observer>(
     stm: &Stm<K>,
     pace: &mut Pacing<O>,
     irrevocable: bool,
-) -> Result<(), Ended>
+) -> Result<(), Refused>
     requires stm { IsOf desc.old stm.now }
     requires idle { IsIdle (known desc.old) }
     ensures same { IsSameCaller desc.old desc.new }
@@ -88,10 +78,10 @@ fn open<R: Wait, K: MemRule, O: Observer>(
     ensures over { OnErr result (IsIdle (known desc.new)) }
     ensures installs { (known desc.new).installs ≡ (known desc.old).installs }
     ensures opens { OnOk result (Opens (K.good stm.now.rule) stm.now.config (number desc.old) irrevocable (known desc.old) (known desc.new) pace.old.tally pace.new.tally) }
-    ensures tried { IfErr result (λ e. Tried (K.good stm.now.rule) stm.now.config (number desc.old) irrevocable (Some e) (known desc.old) (known desc.new) pace.old.tally pace.new.tally) }
-    ensures early { IfErr result IsEarly }
+    ensures tried { OnErr result (Tried (K.good stm.now.rule) stm.now.config (number desc.old) irrevocable (Some pace.new.last) (known desc.old) (known desc.new) pace.old.tally pace.new.tally) }
+    ensures early { OnErr result (IsEarly pace.new.last) }
 {
-    begin(desc, stm)?;
+    begin(desc, stm, pace)?;
     if irrevocable {
         promote(rt, desc, stm, pace)?;
     }
@@ -99,30 +89,35 @@ fn open<R: Wait, K: MemRule, O: Observer>(
 }
 
 /// Begins. While a range of words is out of the transactions no attempt goes on.
-fn begin<K: MemRule>(desc: &mut Desc<K>, stm: &Stm<K>) -> Result<(), Ended>
+fn begin<K: MemRule, O: Observer>(
+    desc: &mut Desc<K>,
+    stm: &Stm<K>,
+    pace: &mut Pacing<O>,
+) -> Result<(), Refused>
     requires stm { IsOf desc.old stm.now }
     requires idle { IsIdle (known desc.old) }
     ensures same { IsSameCaller desc.old desc.new }
     ensures made { (known desc.new).made ≡ (known desc.old).made }
     ensures grew { Grows (known desc.old) (known desc.new) }
+    ensures uncounted { pace.new.tally ≡ pace.old.tally }
     ensures fresh { OnOk result (IsFresh (known desc.new)) }
     ensures later { OnOk result ((known desc.old).front ≤ (known desc.new).start) }
     ensures over { OnErr result (IsIdle (known desc.new)) }
     ensures installs { (known desc.new).installs ≡ (known desc.old).installs }
-    ensures refused { IfErr result (λ e. IsRefused (K.good stm.now.rule) stm.now.config (number desc.old) e (known desc.old) (known desc.new)) }
-    ensures early { IfErr result IsEarly }
+    ensures refused { OnErr result (IsRefused (K.good stm.now.rule) stm.now.config (number desc.old) pace.new.last (known desc.old) (known desc.new)) }
+    ensures early { OnErr result (IsEarly pace.new.last) }
 {
     match try_begin(desc, stm) {
         Begin::Begun(_) => {
             if fence_seen(desc).is_some() {
                 turn_back(desc, stm);
-                return Err(Ended::Fenced);
+                return Err(pace.refuse(Ended::Fenced, None));
             }
             Ok(())
         }
-        Begin::Closed { .. } => Err(Ended::Closed),
-        Begin::Held { .. } => Err(Ended::Held),
-        Begin::ClockFull { .. } => Err(Ended::ClockFull),
+        Begin::Closed { .. } => Err(pace.refuse(Ended::Closed, None)),
+        Begin::Held { .. } => Err(pace.refuse(Ended::Held, None)),
+        Begin::ClockFull { .. } => Err(pace.refuse(Ended::ClockFull, None)),
     }
 }
 
@@ -148,7 +143,7 @@ fn promote<R: Wait, K: MemRule, O: Observer>(
     desc: &mut Desc<K>,
     stm: &Stm<K>,
     pace: &mut Pacing<O>,
-) -> Result<(), Ended>
+) -> Result<(), Refused>
     requires stm { IsOf desc.old stm.now }
     requires fresh { IsFresh (known desc.old) }
     ensures same { IsSameCaller desc.old desc.new }
@@ -160,8 +155,8 @@ fn promote<R: Wait, K: MemRule, O: Observer>(
     ensures irrevocable { OnOk result (is_irrevocable (known desc.new) ≡ true) }
     ensures over { OnErr result (IsIdle (known desc.new)) }
     ensures installs { (known desc.new).installs ≡ (known desc.old).installs }
-    ensures asks { MatchResult result (λ r. Asks (K.good stm.now.rule) stm.now.config (number desc.old) None (known desc.old) (known desc.new) pace.old.tally pace.new.tally) (λ e. Asks (K.good stm.now.rule) stm.now.config (number desc.old) (Some e) (known desc.old) (known desc.new) pace.old.tally pace.new.tally) }
-    ensures early { IfErr result IsEarly }
+    ensures asks { MatchResult result (λ r. Asks (K.good stm.now.rule) stm.now.config (number desc.old) None (known desc.old) (known desc.new) pace.old.tally pace.new.tally) (λ e. Asks (K.good stm.now.rule) stm.now.config (number desc.old) (Some pace.new.last) (known desc.old) (known desc.new) pace.old.tally pace.new.tally) }
+    ensures early { OnErr result (IsEarly pace.new.last) }
 {
     for _ in rt.forever() {
         match try_irrevocable(desc, stm) {
@@ -176,94 +171,87 @@ fn promote<R: Wait, K: MemRule, O: Observer>(
             Irrev::Taken { .. } => {
                 // its holder waits for this very attempt to end
                 cancel(desc, stm);
-                return Err(Ended::Taken);
+                return Err(pace.refuse(Ended::Taken, None));
             }
-            Irrev::Conflict(cause) => return Err(Ended::Conflict(cause)),
-            Irrev::ClockFull { .. } => return Err(Ended::ClockFull),
+            Irrev::Conflict(cause) => return Err(pace.refuse(Ended::Conflict(cause), None)),
+            Irrev::ClockFull { .. } => return Err(pace.refuse(Ended::ClockFull, None)),
         }
     }
     unreachable!()
 }
 
-/// Does the transaction in a running attempt. It is compiled once for each algorithm, so that the algorithm is looked up
-/// once an attempt, and not at each read and write.
+/// Does the transaction in a running attempt, and commits it. It is compiled once for each algorithm, so that the algorithm
+/// is looked up once an attempt, and not at each call.
 #[inline(always)]
-fn act<K: MemRule, T: Transaction<K>, O: Observer>(
+fn run<R: Wait, K: MemRule, T: Transaction<K>, O: Observer>(
+    rt: &R,
     desc: &mut Desc<K>,
     stm: &Stm<K>,
     pace: &mut Pacing<O>,
     transaction: &T,
-) -> Result<T::Output, Ended>
+) -> Result<T::Output, Refused>
     requires stm { IsOf desc.old stm.now }
     requires fresh { IsFresh (known desc.old) }
     requires fits { T.fits transaction.now stm.now.rule stm.now.config.words }
     ensures same { IsSameCaller desc.old desc.new }
-    ensures made { (known desc.new).made ≡ (known desc.old).made }
+    ensures idle { IsIdle (known desc.new) }
     ensures grew { Grows (known desc.old) (known desc.new) }
-    ensures uncounted { pace.new.tally ≡ pace.old.tally }
-    ensures later { OnOk result ((known desc.old).start ≤ (known desc.new).start) }
-    ensures may { OnOk result (MayCommit (K.good stm.now.rule) stm.now.config (known desc.new)) }
-    ensures tells { IfOk result (λ r. T.tells transaction.now stm.now.rule stm.now.config.words r (known desc.new).log) }
-    ensures over { OnErr result (IsIdle (known desc.new)) }
+    ensures uncounted { CommitsStay pace.old.tally pace.new.tally }
+    ensures took { IfOk result (λ r. TookEffect (K.good stm.now.rule) stm.now.config (number desc.old) (T.tells transaction.now stm.now.rule stm.now.config.words r) (known desc.old).start (known desc.old) (known desc.new)) }
+    ensures none { OnErr result ((known desc.new).made ≡ (known desc.old).made) }
     ensures installs { (known desc.new).installs ≡ (known desc.old).installs }
-    ensures stopped { IfErr result (λ e. IsStopped (K.good stm.now.rule) stm.now.config (number desc.old) e (known desc.old) (known desc.new)) }
+    ensures runs { MatchResult result (λ r. Runs (K.good stm.now.rule) stm.now.config (number desc.old) None (known desc.old) (known desc.new) pace.old.tally pace.new.tally) (λ e. Runs (K.good stm.now.rule) stm.now.config (number desc.old) (Some pace.new.last) (known desc.old) (known desc.new) pace.old.tally pace.new.tally) }
     ensures unrefused { OnErr result (is_irrevocable (known desc.old) ≡ false) }
-    ensures irrevocable { OnOk result (is_irrevocable (known desc.old) ≡ true → is_irrevocable (known desc.new) ≡ true) }
 {
     match algorithm(desc) {
-        Alg::Cgl => act_by(
-            &Noting::of(Only::<Cgl>::new()),
-            desc,
-            stm,
-            pace,
-            transaction,
-        ),
-        Alg::Tml => act_by(
-            &Noting::of(Only::<Tml>::new()),
-            desc,
-            stm,
-            pace,
-            transaction,
-        ),
-        Alg::Serial => act_by(
-            &Noting::of(Only::<Serial>::new()),
-            desc,
-            stm,
-            pace,
-            transaction,
-        ),
-        Alg::OrecLazy => act_by(
-            &Noting::of(Only::<OrecLazy>::new()),
-            desc,
-            stm,
-            pace,
-            transaction,
-        ),
-        Alg::OrecEager => act_by(
-            &Noting::of(Only::<OrecEager>::new()),
-            desc,
-            stm,
-            pace,
-            transaction,
-        ),
-        Alg::RingSw => act_by(
-            &Noting::of(Only::<RingSw>::new()),
-            desc,
-            stm,
-            pace,
-            transaction,
-        ),
+        Alg::Cgl => run_by(Only::<Cgl>::new(), rt, desc, stm, pace, transaction),
+        Alg::Tml => run_by(Only::<Tml>::new(), rt, desc, stm, pace, transaction),
+        Alg::Serial => run_by(Only::<Serial>::new(), rt, desc, stm, pace, transaction),
+        Alg::OrecLazy => run_by(Only::<OrecLazy>::new(), rt, desc, stm, pace, transaction),
+        Alg::OrecEager => run_by(Only::<OrecEager>::new(), rt, desc, stm, pace, transaction),
+        Alg::RingSw => run_by(Only::<RingSw>::new(), rt, desc, stm, pace, transaction),
     }
 }
 
+/// The same by these calls.
+#[inline(always)]
+fn run_by<R: Wait, K: MemRule, T: Transaction<K>, C: Calls + Drop, O: Observer>(
+    calls: C,
+    rt: &R,
+    desc: &mut Desc<K>,
+    stm: &Stm<K>,
+    pace: &mut Pacing<O>,
+    transaction: &T,
+) -> Result<T::Output, Refused>
+    requires stm { IsOf desc.old stm.now }
+    requires fresh { IsFresh (known desc.old) }
+    requires served { C.acts_as (known desc.old).alg ≡ (known desc.old).alg }
+    requires fits { T.fits transaction.now stm.now.rule stm.now.config.words }
+    ensures same { IsSameCaller desc.old desc.new }
+    ensures idle { IsIdle (known desc.new) }
+    ensures grew { Grows (known desc.old) (known desc.new) }
+    ensures uncounted { CommitsStay pace.old.tally pace.new.tally }
+    ensures took { IfOk result (λ r. TookEffect (K.good stm.now.rule) stm.now.config (number desc.old) (T.tells transaction.now stm.now.rule stm.now.config.words r) (known desc.old).start (known desc.old) (known desc.new)) }
+    ensures none { OnErr result ((known desc.new).made ≡ (known desc.old).made) }
+    ensures installs { (known desc.new).installs ≡ (known desc.old).installs }
+    ensures runs { MatchResult result (λ r. Runs (K.good stm.now.rule) stm.now.config (number desc.old) None (known desc.old) (known desc.new) pace.old.tally pace.new.tally) (λ e. Runs (K.good stm.now.rule) stm.now.config (number desc.old) (Some pace.new.last) (known desc.old) (known desc.new) pace.old.tally pace.new.tally) }
+    ensures unrefused { OnErr result (is_irrevocable (known desc.old) ≡ false) }
+{
+    let noting = Noting::of(calls);
+    let output = act(&noting, desc, stm, pace, transaction)?;
+    end(&noting.calls, rt, desc, stm, pace)?;
+    Ok(output)
+}
+
 /// Does the transaction in a running attempt, by these reads and writes.
-fn act_by<K: MemRule, T: Transaction<K>, C: Calls, O: Observer>(
+#[inline(always)]
+fn act<K: MemRule, T: Transaction<K>, C: Calls, O: Observer>(
     calls: &Noting<C>,
     desc: &mut Desc<K>,
     stm: &Stm<K>,
     pace: &mut Pacing<O>,
     transaction: &T,
-) -> Result<T::Output, Ended>
+) -> Result<T::Output, Refused>
     requires stm { IsOf desc.old stm.now }
     requires fresh { IsFresh (known desc.old) }
     requires served { C.acts_as (known desc.old).alg ≡ (known desc.old).alg }
@@ -273,11 +261,12 @@ fn act_by<K: MemRule, T: Transaction<K>, C: Calls, O: Observer>(
     ensures grew { Grows (known desc.old) (known desc.new) }
     ensures uncounted { pace.new.tally ≡ pace.old.tally }
     ensures later { OnOk result ((known desc.old).start ≤ (known desc.new).start) }
+    ensures algorithm { OnOk result ((known desc.new).alg ≡ (known desc.old).alg) }
     ensures may { OnOk result (MayCommit (K.good stm.now.rule) stm.now.config (known desc.new)) }
     ensures tells { IfOk result (λ r. T.tells transaction.now stm.now.rule stm.now.config.words r (known desc.new).log) }
     ensures over { OnErr result (IsIdle (known desc.new)) }
     ensures installs { (known desc.new).installs ≡ (known desc.old).installs }
-    ensures stopped { IfErr result (λ e. IsStopped (K.good stm.now.rule) stm.now.config (number desc.old) e (known desc.old) (known desc.new)) }
+    ensures stopped { OnErr result (IsStopped (K.good stm.now.rule) stm.now.config (number desc.old) pace.new.last (known desc.old) (known desc.new)) }
     ensures unrefused { OnErr result (is_irrevocable (known desc.old) ≡ false) }
     ensures irrevocable { OnOk result (is_irrevocable (known desc.old) ≡ true → is_irrevocable (known desc.new) ≡ true) }
 {
@@ -289,22 +278,21 @@ fn act_by<K: MemRule, T: Transaction<K>, C: Calls, O: Observer>(
     };
     match transaction.run(&stm.rule, &mut memory) {
         Ok(output) => Ok(output),
-        Err(stop) => {
-            let ended = Ended::by(stop);
-            pace.tell(ended, calls.at.get());
-            Err(ended)
-        }
+        Err(stop) => Err(pace.refuse(Ended::by(stop), calls.at.get())),
     }
 }
 
 /// Commits, again and again where another was faster.
-fn end<R: Wait, K: MemRule, O: Observer>(
+#[inline(always)]
+fn end<R: Wait, K: MemRule, C: Calls, O: Observer>(
+    calls: &C,
     rt: &R,
     desc: &mut Desc<K>,
     stm: &Stm<K>,
     pace: &mut Pacing<O>,
-) -> Result<(), Ended>
+) -> Result<(), Refused>
     requires stm { IsOf desc.old stm.now }
+    requires served { C.acts_as (known desc.old).alg ≡ (known desc.old).alg }
     requires may { MayCommit (K.good stm.now.rule) stm.now.config (known desc.old) }
     ensures same { IsSameCaller desc.old desc.new }
     ensures idle { IsIdle (known desc.new) }
@@ -313,18 +301,18 @@ fn end<R: Wait, K: MemRule, O: Observer>(
     ensures took { OnOk result (TookEffect (K.good stm.now.rule) stm.now.config (number desc.old) (λ l. l ≡ (known desc.old).log) (known desc.old).start (known desc.old) (known desc.new)) }
     ensures none { OnErr result ((known desc.new).made ≡ (known desc.old).made) }
     ensures installs { (known desc.new).installs ≡ (known desc.old).installs }
-    ensures finishes { MatchResult result (λ r. Finishes (K.good stm.now.rule) stm.now.config (number desc.old) None (known desc.old) (known desc.new) pace.old.tally pace.new.tally) (λ e. Finishes (K.good stm.now.rule) stm.now.config (number desc.old) (Some e) (known desc.old) (known desc.new) pace.old.tally pace.new.tally) }
+    ensures finishes { MatchResult result (λ r. Finishes (K.good stm.now.rule) stm.now.config (number desc.old) None (known desc.old) (known desc.new) pace.old.tally pace.new.tally) (λ e. Finishes (K.good stm.now.rule) stm.now.config (number desc.old) (Some pace.new.last) (known desc.old) (known desc.new) pace.old.tally pace.new.tally) }
     ensures unrefused { OnErr result (is_irrevocable (known desc.old) ≡ false) }
 {
     for _ in rt.forever() {
-        match commit(desc, stm) {
+        match calls.commit(desc, stm) {
             Commit::Committed { .. } | Commit::ReadOnly { .. } => return Ok(()),
-            Commit::Again { .. } => {
+            Commit::Again { word, .. } => {
                 pace.tell(Ended::Again, None);
-                pace.wait(Ended::Again);
+                pace.wait_at_commit(word == LOCK);
             }
-            Commit::Conflict(cause) => return Err(Ended::Conflict(cause)),
-            Commit::ClockFull { .. } => return Err(Ended::ClockFull),
+            Commit::Conflict(cause) => return Err(pace.refuse(Ended::Conflict(cause), None)),
+            Commit::ClockFull { .. } => return Err(pace.refuse(Ended::ClockFull, None)),
         }
     }
     unreachable!()

@@ -1,4 +1,4 @@
-//! Reads and writes that keep the address at which one was refused.
+//! Calls that keep the address at which a read or a write was refused.
 ghost use Rattle.std.specs.Prelude.{◌≡◌};
 
 use std::cell::Cell;
@@ -6,9 +6,9 @@ use stm_model::rule::MemRule;
 use stm_rule::desc::Desc;
 use stm_rule::stm::Stm;
 use stm_tx::serving::Calls;
-use tx_answers::answers::{Read, Write};
+use tx_answers::answers::{Commit, Read, Write};
 
-/// The reads and writes of others, and the address of that which was refused last.
+/// The calls of others, and the address of the read or write that was refused last.
 #[derive(Drop)]
 pub struct Noting<C: Calls> {
     pub calls: C,
@@ -16,7 +16,7 @@ pub struct Noting<C: Calls> {
 }
 
 impl<C: Calls> Noting<C> {
-    /// These reads and writes, of which none was refused yet.
+    /// These calls, of which none was refused yet.
     pub fn of(calls: C) -> Noting<C> {
         Noting {
             calls,
@@ -30,21 +30,21 @@ impl<C: Calls> Calls for Noting<C> {
 
     #[inline(always)]
     fn read<K: MemRule>(&self, desc: &mut Desc<K>, stm: &Stm<K>, a: usize) -> Read {
-        let answer = self.calls.read(desc, stm, a);
-        match answer {
-            Read::Value(_) => {}
-            _ => self.at.set(Some(a)),
-        }
-        answer
+        self.calls.read(desc, stm, a)
     }
 
     #[inline(always)]
     fn write<K: MemRule>(&self, desc: &mut Desc<K>, stm: &Stm<K>, a: usize, x: u64) -> Write {
-        let answer = self.calls.write(desc, stm, a, x);
-        match answer {
-            Write::Done => {}
-            _ => self.at.set(Some(a)),
-        }
-        answer
+        self.calls.write(desc, stm, a, x)
+    }
+
+    #[inline(always)]
+    fn commit<K: MemRule>(&self, desc: &mut Desc<K>, stm: &Stm<K>) -> Commit {
+        self.calls.commit(desc, stm)
+    }
+
+    #[inline]
+    fn refused(&self, a: usize) {
+        self.at.set(Some(a));
     }
 }

@@ -11,7 +11,14 @@ pub struct Pacing<O> {
     pub backoff: Backoff,
     pub tally: Tally,
     pub observer: O,
+    /// What an attempt was last refused by.
+    pub last: Ended,
 }
+
+/// An attempt was refused: `last` of its pacing says what by. It stands there and not here, so that an attempt that commits
+/// makes no room for it.
+#[derive(Clone, Copy, Drop, Debug, PartialEq, Eq)]
+pub struct Refused;
 
 /// The pace of a caller that no one observes.
 pub type Pace = Pacing<()>;
@@ -38,18 +45,31 @@ impl<O> Pacing<O> {
             backoff: Backoff::new(),
             tally: Tally::new(),
             observer,
+            last: Ended::Closed,
         }
     }
 }
 
 impl<O: Observer> Pacing<O> {
     ghost use Rattle.tx_atomic.specs.Tallies.{CommitsStay, with_commit, with_promotion, noted};
+    ghost use Rattle.tx_atomic.specs.declared.tally.Ended.TheVariants.{Again};
 
     /// Tells the observer what an attempt or a call of it was refused by, and where.
     pub fn tell(&mut self, ended: Ended, at: Option<usize>)
         ensures { self.new.tally ≡ self.old.tally }
     {
         self.observer.refused(ended, at);
+    }
+
+    /// Tells the observer what an attempt was refused by, and where, and keeps it.
+    #[cold]
+    pub fn refuse(&mut self, ended: Ended, at: Option<usize>) -> Refused
+        ensures tally { self.new.tally ≡ self.old.tally }
+        ensures last { self.new.last ≡ ended }
+    {
+        self.tell(ended, at);
+        self.last = ended;
+        Refused
     }
 
     /// Counts what an attempt or a call of it came to, and pauses: longer where a lock was held.
@@ -61,6 +81,19 @@ impl<O: Observer> Pacing<O> {
         match ended {
             Ended::Held => self.backoff.wait_for_lock(),
             _ => self.backoff.wait(),
+        }
+    }
+
+    /// Counts that another was faster at the commit, and pauses: shortly, unless that one holds the lock yet.
+    pub fn wait_at_commit(&mut self, locked: bool)
+        ensures noted { self.new.tally ≡ noted Again self.old.tally }
+        ensures commits { CommitsStay self.old.tally self.new.tally }
+    {
+        self.tally.note(Ended::Again);
+        if locked {
+            self.backoff.wait();
+        } else {
+            self.backoff.wait_at_commit();
         }
     }
 

@@ -24,7 +24,7 @@ loop-preserved g c =
     let v = known c.loop.desc in
     let w = known c.attempt.new.desc in
     let inv = c.loop.invariant in
-    let ended = c.in-Err.ended in
+    let ended = c.attempt.new.pace.last in
     let tried = subst (λ n. Tried good stm.config n (leb 16 c.loop.failed) (Some ended) v w c.loop.pace.tally c.attempt.new.pace.tally) (same-number c.args.desc.now c.loop.desc inv.same) c.in-Err.ensures.tried in
     let failing = failing-more good stm.config (number c.args.desc.now) c.loop.failed (leb 16 c.loop.failed) ended (known c.args.desc.now) v w c.args.pace.now.tally c.loop.pace.tally c.attempt.new.pace.tally c.in_default.not-ClockFull refl inv.failing tried in
     search (rules, grew, failing)

@@ -1,8 +1,8 @@
-use Rattle.std.proofs.Common.{rules}
+use Rattle.std.proofs.Common.{◌∙◌, rules}
 use Rattle.stm_tx.specs.Descs.{known, number}
 use Rattle.tx_atomic.specs.AttemptLaws.{stopped-idle}
 use Rattle.tx_atomic.specs.TryLaws.{stopped}
-use Rattle.tx_atomic.proofs.attempts.act_by.Goals as goal
+use Rattle.tx_atomic.proofs.attempts.act.Goals as goal
 
 pub invariant_of-memory-clause-own : goal.invariant_of-memory-clause-own
 invariant_of-memory-clause-own g c = c.requires.stm
@@ -32,4 +32,4 @@ pub returns-in-Err-clause-stopped : goal.returns-in-Err-clause-stopped
 returns-in-Err-clause-stopped g c =
     let stm = c.args.stm.now in
     let is = stopped (g.K.MemRule.good stm.rule) stm.config (number c.args.desc.now) _ _ (known c.args.desc.now) _ c.in-Err.ensures.stops c.in-Err.ensures.keeps.0.1 in
-    search (rules, is)
+    rw (c.refuse.ensures.last ∙ c.by.ensures) (search (rules, is))

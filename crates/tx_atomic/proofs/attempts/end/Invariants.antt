@@ -13,6 +13,7 @@ invariant-loop g l = record {
   ends : (goal.iterator-loop g).is_finite l.iterator';
   same : IsSameCaller l.fn.desc l.desc;
   running : (known l.desc).running ≡ true;
+  alg : (known l.desc).alg ≡ (known l.fn.desc).alg;
   log : (known l.desc).log ≡ (known l.fn.desc).log;
   irrevocable : is_irrevocable (known l.desc) ≡ is_irrevocable (known l.fn.desc);
   grew : Grows (known l.fn.desc) (known l.desc);

@@ -1,0 +1,80 @@
+use Rattle.std.proofs.Common.{◌≡◌, ◌∙◌, Bool, true, false, refl, sym, subst, arith}
+use Rattle.std.specs.Prelude.{◌⊎◌, Some, None}
+use Rattle.std.proofs.lemmas.Result.{err_from_is_err_and}
+use Rattle.tx_answers.specs.declared.answers.Commit.TheVariants.{Committed, ReadOnly}
+use Rattle.tx_answers.specs.Answers.{Commits}
+use Rattle.tx_answers.specs.KnownLaws.{grows-trans}
+use Rattle.stm_model.specs.declared.alg.Alg.{Alg}
+use Rattle.stm_tx.specs.Descs.{known, number}
+use Rattle.tx_atomic.specs.AttemptLaws.{same-number}
+use Rattle.tx_atomic.specs.Tries.{Finishes, Runs}
+use Rattle.tx_atomic.specs.declared.tally.Tally.{Tally}
+use Rattle.tx_atomic.specs.TryLaws.{runs-stopped}
+use Rattle.tx_atomic.proofs.attempts.run_by.Goals as goal
+
+pub end-requires-clause-served : goal.end-requires-clause-served
+end-requires-clause-served g c = subst (λ (a : Alg). g.C.Calls.acts_as a ≡ a) (sym c.in_ok-output.ensures.algorithm) c.requires.served
+
+pub returns-in_err-output-clause-runs : goal.returns-in_err-output-clause-runs
+returns-in_err-output-clause-runs g c =
+    let stm = c.args.stm.now in
+    let runs = runs-stopped (g.K.MemRule.good stm.rule) stm.config (number c.args.desc.now) c.act.new.pace.last (known c.args.desc.now) (known c.act.new.desc) c.args.pace.now.tally c.act.new.pace.tally c.act.ensures.uncounted c.in_err-output.ensures.stopped in
+    let p = err_from_is_err_and c.from_residual.result c.from_residual.ensures.1 in
+    rw p.1 runs
+
+pub returns-in_err-end-clause-grew : goal.returns-in_err-end-clause-grew
+returns-in_err-end-clause-grew g c = grows-trans (known c.args.desc.now) (known c.act.new.desc) (known c.end.new.desc) c.act.ensures.grew c.end.ensures.grew
+
+pub returns-in_err-end-clause-runs : goal.returns-in_err-end-clause-runs
+returns-in_err-end-clause-runs g c =
+    let stm = c.args.stm.now in
+    let good = g.K.MemRule.good stm.rule in
+    let x = known c.act.new.desc in
+    let w = known c.end.new.desc in
+    let last = c.end.new.pace.last in
+    let here = subst (λ i. Finishes good stm.config i (Some last) x w c.act.new.pace.tally c.end.new.pace.tally) (same-number c.args.desc.now c.act.new.desc c.act.ensures.same) c.in_err-end.ensures.finishes in
+    let finishes = subst (λ (t : Tally). Finishes good stm.config (number c.args.desc.now) (Some last) x w t c.end.new.pace.tally) c.act.ensures.uncounted here in
+    let runs : Runs good stm.config (number c.args.desc.now) (Some last) (known c.args.desc.now) w c.args.pace.now.tally c.end.new.pace.tally = record { acted = x; acts = c.act.ensures.grew; finishes = finishes } in
+    let p = err_from_is_err_and c.from_residual-in_err-end.result c.from_residual-in_err-end.ensures.1 in
+    rw p.1 runs
+
+-- what an attempt was not behind its work it was not before
+was_not : (a b : Bool) → (a ≡ true → b ≡ true) → b ≡ false → a ≡ false
+was_not true b stays is = let yes : b ≡ true = stays refl in let wrong : true ≡ false = sym yes ∙ is in absurd cc
+was_not false b stays is = refl
+
+pub returns-in_err-end-clause-unrefused : goal.returns-in_err-end-clause-unrefused
+returns-in_err-end-clause-unrefused g c =
+    let plain = was_not _ _ c.in_ok-output.ensures.irrevocable c.in_err-end.ensures.unrefused in
+    let p = err_from_is_err_and c.from_residual-in_err-end.result c.from_residual-in_err-end.ensures.1 in
+    rw p.1 plain
+
+pub returns-clause-grew : goal.returns-clause-grew
+returns-clause-grew g c = grows-trans (known c.args.desc.now) (known c.act.new.desc) (known c.end.new.desc) c.act.ensures.grew c.end.ensures.grew
+
+pub returns-clause-runs : goal.returns-clause-runs
+returns-clause-runs g c =
+    let stm = c.args.stm.now in
+    let good = g.K.MemRule.good stm.rule in
+    let x = known c.act.new.desc in
+    let w = known c.end.new.desc in
+    let here = subst (λ i. Finishes good stm.config i None x w c.act.new.pace.tally c.end.new.pace.tally) (same-number c.args.desc.now c.act.new.desc c.act.ensures.same) c.in_ok-end.ensures.finishes in
+    record { acted = x; acts = c.act.ensures.grew; finishes = subst (λ (t : Tally). Finishes good stm.config (number c.args.desc.now) None x w t c.end.new.pace.tally) c.act.ensures.uncounted here }
+
+pub returns-clause-took : goal.returns-clause-took
+returns-clause-took g c =
+    let stm = c.args.stm.now in
+    let good = g.K.MemRule.good stm.rule in
+    let u = known c.args.desc.now in
+    let v = known c.act.new.desc in
+    let w = known c.end.new.desc in
+    let t = c.in_ok-end.ensures.took in
+    record {
+      before = t.before;
+      told = subst (λ l. g.T.Transaction.tells c.args.transaction.now stm.rule stm.config.words c.in_ok-output.output l) (sym t.told) c.in_ok-output.ensures.tells;
+      made = t.made ∙ c.act.ensures.made;
+      grows = grows-trans u v t.before c.act.ensures.grew t.grows;
+      later = (let b = c.in_ok-output.ensures.later in let d = t.later in omega (arith, b, d));
+      time = t.time;
+      commits = subst (λ n. Commits good stm.config n (Committed t.time) t.before w ⊎ Commits good stm.config n (ReadOnly t.time) t.before w) (same-number c.args.desc.now c.act.new.desc c.act.ensures.same) t.commits;
+    }
