@@ -1,5 +1,5 @@
 //! A whole small program over the names of this crate alone: two stocks on a shelf that has room for so many
-//! pieces. `docs/LIBRARY.md` walks through it.
+//! pieces.
 ghost use Rattle.std.specs.Prelude.{◌≡◌, ◌<◌, true, false};
 ghost use Rattle.stm_rule.specs.Callers.{IsOf, IsSameCaller};
 ghost use Rattle.tx_answers.specs.Known.{IsIdle, IsRunning, no_log};

@@ -15,9 +15,7 @@ pub fn draw(draws: &mut Pcg32, workload: Workload) -> Job
     match workload {
         Workload::Bank => {
             if word % 256 == 0 {
-                return Job::Sum {
-                    accounts: ACCOUNTS as u32,
-                };
+                return sum_of_all();
             }
             Job::Move {
                 from: account(draws),
@@ -28,7 +26,15 @@ pub fn draw(draws: &mut Pcg32, workload: Workload) -> Job
         Workload::Hash => on_set(draws, word % 100, 5),
         Workload::List => on_set(draws, word % 100, 10),
         Workload::Count => Job::Add { account: 0 },
-        Workload::Sum => Job::Sum { accounts: ACCOUNTS },
+        Workload::Sum => sum_of_all(),
+    }
+}
+
+fn sum_of_all() -> Job
+    ensures { JobFits ACCOUNTS result }
+{
+    Job::Sum {
+        accounts: ACCOUNTS as u32,
     }
 }
 
