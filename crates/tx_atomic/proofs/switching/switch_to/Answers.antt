@@ -5,5 +5,5 @@ use Rattle.tx_atomic.proofs.switching.switch_to.Goals as goal
 pub returns-clause-grew : goal.returns-clause-grew
 returns-clause-grew g c =
     let u = known c.args.desc.now in
-    let installed = grows-trans u (known c.close_alone.new.desc) (known c.install.new.desc) c.close_alone.ensures.grew c.install.ensures.installs.closed.grows in
+    let installed = grows-trans u (known c.close_alone-looks.new.desc) (known c.install.new.desc) c.close_alone-looks.ensures.grew c.install.ensures.installs.closed.grows in
     grows-trans u (known c.install.new.desc) (known c.reopen.new.desc) installed c.reopen.ensures.reopens.grows
