@@ -151,16 +151,32 @@ fn finds_the_first_busy<K: MemRule>(stm: &Stm<K>, desc: &mut Desc<K>) -> Option<
     requires desc { IsOf desc.old stm.now }
     requires idle { IsIdle (known desc.old) }
 {
-    let busy = Look::Busy {
-        caller: 0,
-        status: 1,
-    };
     let CloseGate::Closed = close_gate(desc, stm) else {
         return None;
     };
-    let is_busy = look(desc, stm) == busy && look(desc, stm) == busy && look(desc, stm) == busy;
+    let Look::Busy {
+        caller: 0,
+        status: 1,
+    } = look(desc, stm)
+    else {
+        return None;
+    };
+    let Look::Busy {
+        caller: 0,
+        status: 1,
+    } = look(desc, stm)
+    else {
+        return None;
+    };
+    let Look::Busy {
+        caller: 0,
+        status: 1,
+    } = look(desc, stm)
+    else {
+        return None;
+    };
     reopen(desc, stm);
-    Some(is_busy && state(desc) == TxState::Idle)
+    Some(state(desc) == TxState::Idle)
 }
 
 /// What comes of two callers, or of three, of a new memory.
