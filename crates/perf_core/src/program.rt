@@ -9,7 +9,7 @@ use std::process::ExitCode;
 use std::sync::Wait;
 use std::thread::Threads;
 
-/// What the words may be, told where they are others.
+/// What the words of the command line may be.
 const USAGE: &str =
     "usage: stm_perf WORKLOAD ALGORITHM THREADS COUNT SEED [READS] [switches N] [conflicts]
   WORKLOAD   bank, hash, list, count or sum
@@ -22,70 +22,55 @@ const USAGE: &str =
   conflicts  names the words that conflict most
 example: stm_perf bank OrecLazy 4 1000000 1";
 
-/// Why a run has no report, or a wrong one.
-#[derive(Clone, Copy, Drop, Debug, PartialEq, Eq)]
-enum Fault {
-    /// The memory wasn't what its transactions leave.
-    Wrong,
-    /// The arguments are out of the grammar.
-    Usage,
-    /// Standard output failed.
-    Output,
-    /// Memory was refused.
-    Memory,
-}
-
-impl Fault {
-    fn status(self) -> u8 {
-        match self {
-            Fault::Wrong => 1,
-            Fault::Usage => 2,
-            Fault::Output => 4,
-            Fault::Memory => 5,
-        }
-    }
-
-    /// What is told of it on standard error.
-    fn sentence(self) -> &'static str {
-        match self {
-            Fault::Wrong => "stm_perf: the memory is not what the transactions leave",
-            Fault::Usage => USAGE,
-            Fault::Output => "stm_perf: standard output failed",
-            Fault::Memory => "stm_perf: memory was refused",
-        }
-    }
-}
-
 /// Runs what the arguments ask for. Exit status 0 where the memory was what the transactions leave, 1 where it was
-/// not, 2 for arguments out of the grammar, 4 where standard output failed, and 5 where memory was refused; standard error
-/// has a sentence then.
+/// not, 2 for arguments out of the grammar, 4 where standard output failed, and 5 where memory was refused. Standard
+/// error says which.
 pub fn program<R: Env + AllocGlobal + Print + Eprint + Threads + Wait + Sync>(rt: &R) -> ExitCode {
-    match told(rt) {
-        Ok(()) => ExitCode::from(0),
-        Err(fault) => {
-            // where standard error fails, too, the status says it
-            let _ = eprintln!(rt; "{}", fault.sentence());
-            ExitCode::from(fault.status())
-        }
+    let status = asked(rt);
+    if let Some(said) = told(status) {
+        let _written = eprintln!(rt; "stm_perf: {said}");
+    }
+    ExitCode::from(status)
+}
+
+/// The exit status of what the arguments ask for.
+fn asked<R: Env + AllocGlobal + Print + Threads + Wait + Sync>(rt: &R) -> u8 {
+    let Ok(arguments) = env::args(rt) else {
+        return 2;
+    };
+    let Ok(arguments) = arguments.collect::<Vec<String>>(rt.alloc()) else {
+        return 5;
+    };
+    status(rt, arguments.as_slice())
+}
+
+/// What there is to tell of an exit status.
+fn told(status: u8) -> Option<&'static str> {
+    match status {
+        1 => Some("the memory isn't what the transactions leave"),
+        2 => Some(USAGE),
+        4 => Some("standard output could not be written to the end"),
+        5 => Some("memory was refused"),
+        _ => None,
     }
 }
 
-/// Runs it, and writes the report.
-fn told<R: Env + AllocGlobal + Print + Threads + Wait + Sync>(rt: &R) -> Result<(), Fault> {
-    let arguments = env::args(rt).map_err(|_| Fault::Usage)?;
-    let arguments = arguments
-        .collect::<Vec<String>>(rt.alloc())
-        .map_err(|_| Fault::Memory)?;
-    let mut words = Vec::with_capacity(rt.alloc(), arguments.len()).map_err(|_| Fault::Memory)?;
-    for argument in &arguments {
-        words.push_reserved(argument.as_str());
+/// The exit status of a run of these arguments.
+fn status<R: AllocGlobal + Print + Threads + Wait + Sync>(rt: &R, arguments: &[String]) -> u8 {
+    let mut words = Vec::new(rt.alloc());
+    for argument in arguments {
+        if words.push(argument.as_str()).is_err() {
+            return 5;
+        }
     }
-    let plan = plan_of(words.as_slice()).ok_or(Fault::Usage)?;
-    let report = run(rt, rt.alloc(), &plan).map_err(|_| Fault::Memory)?;
-    println!(rt; "{report}").map_err(|_| Fault::Output)?;
-    if report.right {
-        Ok(())
-    } else {
-        Err(Fault::Wrong)
+    let Some(plan) = plan_of(words.as_slice()) else {
+        return 2;
+    };
+    let Ok(report) = run(rt, rt.alloc(), &plan) else {
+        return 5;
+    };
+    if println!(rt; "{report}").is_err() {
+        return 4;
     }
+    if report.right { 0 } else { 1 }
 }
