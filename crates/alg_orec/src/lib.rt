@@ -1,5 +1,6 @@
-//! Versioned ownership records: OrecLazy takes them at the commit, OrecEager where it writes. Each is a type
-//! whose calls (`Algorithm` of alg_calls) stand in the order of all algorithms.
+//! The algorithms of versioned ownership records, after Dice, Shalev and Shavit ("Transactional Locking II", 2006):
+//! OrecLazy buffers its writes and takes the records at the commit, OrecEager takes them where it writes in place. Each
+//! is a type whose calls (`Algorithm` of alg_calls) stand in the order of all algorithms.
 #![tactic(auto)]
 
 mod eager_committing;

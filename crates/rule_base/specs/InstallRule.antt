@@ -1,4 +1,8 @@
--- BASE and DONE, and what who installs an algorithm knows, under every algorithm.
+-- BASE, DONE and the caller that is alone (`calm`), under every algorithm: both words lie between the opening clock and
+-- the clock, and while a caller is calm the clock is the number that it knows. So an install, a promotion or a
+-- give-back that stores the clock in BASE and DONE takes nothing back. Without `alone` and `time` the clock could rise
+-- between its load and that store. Without `rebased` and `completed` the gate could name the next algorithm too early.
+-- Without `promoted` and `giving` their flags could outlast what they stand for.
 use Rattle.std.specs.Prelude.{ℕ, ◌≡◌, ◌≢◌, ◌<◌, ◌≤◌, true}
 use Rattle.stm_model.specs.declared.config.Config.{Config}
 use Rattle.rule_base.specs.declared.views.GateView.{GateView}

@@ -1,4 +1,8 @@
--- The clauses of the two record algorithms: each word belongs to a record, whose version vouches for the entries that wrote it, and who stores there owns the record.
+-- OrecLazy and OrecEager: each word belongs to a record, whose version vouches for the entries that wrote its words,
+-- and a caller stores only in words whose record it owns. The reads of an attempt are of the memory at its start.
+-- Without `stamped` a record that is as it was sampled could hide an entry. Without `clean` and `mixed` a load under a
+-- free record could find a value of no entry. Without `vouched` and `olds` a record released with its old version could
+-- hide an entry. Without `place_undo` and `undone` an abort could leave a dirty word.
 use Rattle.std.specs.Prelude.{ℕ, ◌≡◌, ◌+◌, ◌*◌, ◌<◌, ◌≤◌, if◌then◌else◌, true, false, List}
 use Rattle.rule_base.specs.declared.entries.Entry.{Entry}
 use Rattle.stm_model.specs.declared.config.Config.{Config}

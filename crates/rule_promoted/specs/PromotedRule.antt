@@ -1,4 +1,8 @@
--- The clauses of a promoted attempt, under each algorithm that promotes: it is alone, and works in place.
+-- A promoted attempt, under each algorithm that promotes: it works in place, so the heap is the memory under its
+-- stores; its start and its front are the clock, and its reads are of the memory. That it is alone is said by the
+-- clauses of the gate and of installs. Without `stored` and `sees` its entry needn't be legal. Without `unlocked` it
+-- could give the gate back and keep the lock. `Suits` is what its algorithm needs to go on afterwards: without it a
+-- record could be released below its stamp, or TML go on with an odd clock.
 use Rattle.std.specs.Prelude.{ℕ, ◌≡◌, ◌%◌, ◌*◌, ◌<◌, ◌≤◌, true, false, List}
 use Rattle.stm_model.specs.declared.alg.Alg.{Alg}
 use Rattle.stm_model.specs.declared.alg.Alg.TheVariants.{Cgl, Tml, OrecLazy, OrecEager, RingSw, Serial}

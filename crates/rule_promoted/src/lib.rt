@@ -1,4 +1,5 @@
-//! The clauses of a promoted attempt, above those of the algorithms, with the laws of its steps.
+//! The clauses of a promoted attempt, which is alone and works in place, with the laws of its steps; and what each
+//! algorithm needs to go on after it.
 #![tactic(auto)]
 
 pub mod laws;

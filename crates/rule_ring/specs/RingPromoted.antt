@@ -1,4 +1,6 @@
--- What RingSW takes back when a promoted attempt is over.
+-- What RingSW needs to go on after a promoted attempt: until the attempt's entry the slots have their filters and DONE
+-- is the clock, and at no time has another caller seen more than DONE. Without `slots` a check could later pass an
+-- entry that wrote what was read. Without `fresh` another could begin before what it has seen.
 use Rattle.std.proofs.Common.{◌≡◌, ◌≢◌, ℕ, ◌+◌, ◌<◌, ◌≤◌, true, false, refl, sym, ◌∙◌}
 use Rattle.rule_base.specs.declared.layout.TheConstants.{SLOT_WORDS}
 use Rattle.rule_base.specs.PutLemmas.{put-all}

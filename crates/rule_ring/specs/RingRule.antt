@@ -1,4 +1,8 @@
--- The clauses of RingSW: readers check the slots of the entries since their start, and one committer at a time adds its entry, writes it back and then moves DONE.
+-- RingSW: readers check the slots of the entries since their start, and one committer at a time adds its entry, writes
+-- it back and then moves DONE. A start is at most DONE, and the reads are of the memory at it. Without `slots` and
+-- `since` a check could pass an entry that wrote what was read. Without `clean` and `behind` a reader could take a word
+-- that isn't written back yet for the memory's last. Without `fresh` and `level` an attempt could begin before what its
+-- caller has seen.
 use Rattle.std.specs.Prelude.{ℕ, ◌≡◌, ◌≤◌, ◌<◌, ◌+◌, List, [], Bool, true, false, not, if◌then◌else◌}
 use Rattle.rule_base.specs.declared.entries.Entry.{Entry}
 use Rattle.stm_model.specs.declared.config.Config.{Config}

@@ -1,4 +1,7 @@
--- Who is outside an attempt is inside none of an algorithm, under every algorithm: at rest an attempt's clauses speak of nobody.
+-- Attempts, under every algorithm: a caller that has a part in an algorithm by a flag of its view is in its attempt by
+-- its phase. So at rest the clauses of an algorithm speak of nobody, and an install may put others in their place.
+-- Without `busy` a flag that outlasts its attempt would make them speak of a caller outside. Without `entered` BASE and
+-- DONE could miss a time that the gate's holder gave the clock.
 use Rattle.std.specs.Prelude.{ℕ, ◌≡◌, Bool, true, if◌then◌else◌}
 use Rattle.rule_base.specs.declared.views.Phase.{Phase}
 use Rattle.rule_base.specs.declared.views.Phase.TheVariants.{In}

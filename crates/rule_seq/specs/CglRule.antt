@@ -1,4 +1,8 @@
--- The clauses of CGL and Serial: one attempt at a time, in place in the heap. Serial's can be taken back until it is irrevocable, CGL's is irrevocable from its beginning.
+-- CGL and Serial: one attempt at a time has the lock, and works in place in the heap. Serial's can be aborted until it
+-- is irrevocable, CGL's is irrevocable from its beginning. While the lock is free the heap is the memory; while it is
+-- taken the heap is the memory under the holder's stores. Without `free` the next holder could begin with a dirty heap.
+-- Without `start` and `sees` the holder's entry needn't be the next one, or legal. Without `undone` and `covered` an
+-- abort could leave a dirty word.
 use Rattle.std.specs.Prelude.{ℕ, ◌≡◌, List, [], true, false}
 use Rattle.rule_base.specs.declared.entries.Entry.{Entry}
 use Rattle.stm_model.specs.declared.config.Config.{Config}

@@ -1,4 +1,7 @@
--- The clauses of TML: readers check the clock after each load, and one writer works in place while the clock is odd.
+-- TML: readers check the clock after each load, and one writer works in place while the clock is odd. With no writer
+-- the clock is even and the heap is the memory. Without `free` a reader could load a word of a writer that is gone.
+-- Without `pending` the check would show nothing of the word loaded. Without `even` and `odd` a start could be a
+-- writer's clock. Without `below` the writer's time needn't be the next, and without `one` two could store in the heap.
 use Rattle.std.specs.Prelude.{ℕ, ◌≡◌, ◌≤◌, ◌<◌, ◌+◌, ◌%◌, List, [], true, false}
 use Rattle.rule_base.specs.declared.entries.Entry.{Entry}
 use Rattle.stm_model.specs.declared.config.Config.{Config}

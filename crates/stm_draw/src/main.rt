@@ -1,4 +1,5 @@
-//! The program: standard input, standard output, and the status as exit status.
+//! `stm_draw` draws the trace of a schedule as a picture. All that it does is draw_core's `program`: here it gets the
+//! real standard input and output, and the exit status.
 #![tactic(auto)]
 
 use draw_core::program::program;

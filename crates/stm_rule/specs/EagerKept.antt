@@ -1,4 +1,7 @@
--- What stands of a view by the descriptor's fields in an attempt of OrecEager, until it is promoted and afterwards.
+-- An attempt of OrecEager until it is promoted, and afterwards: what it wrote lies in place, under records that it
+-- holds, and its undo log has the old values. Without `reads` a validation could leave out a read. Without `undoable`
+-- and `covered` an abort could leave a dirty word, or store in one whose record another caller holds. Without `below`
+-- the clock couldn't be raised above an old version.
 use Rattle.std.specs.Prelude.{ℕ, ◌≡◌, ◌≢◌, ◌≤◌, ◌<◌, ◌+◌, not, true, false, [], length}
 use Rattle.stm_model.specs.Algorithms.{entry_rise}
 use Rattle.stm_model.specs.declared.config.Config.{Config}

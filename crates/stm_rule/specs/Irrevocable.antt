@@ -1,4 +1,5 @@
--- At most one attempt is irrevocable.
+-- At most one attempt is irrevocable: a promoted one is alone, the lock names one caller, TML has one writer, and all
+-- attempts are of the algorithm that the gate names. Without it two attempts that must both commit could conflict.
 use Rattle.std.proofs.Common.{◌≡◌, ℕ, Bool, true, false, eqb, refl, sym, subst, ap, ◌∙◌, ⊎_elim}
 use Rattle.std.specs.Prelude.{◌⊎◌}
 use Rattle.std.proofs.lemmas.Bool.{eqb-true, eqb-false}

@@ -1,4 +1,6 @@
--- The one rule of the shared words: the clauses of each part, side by side.
+-- THE INVARIANT of the shared words, on which every promise rests: the clauses of each part, side by side. The head of
+-- each part's file says what breaks without it, and docs/RULE.md goes through them. The core is said of the world under
+-- the veil, so no algorithm's clause knows of fences.
 use Rattle.std.specs.Prelude.{ℕ, ◌≡◌, ◌≤◌, ◌%◌, true, false}
 use Rattle.stm_model.specs.declared.alg.Alg.{Alg}
 use Rattle.rule_base.specs.History.{word_now}

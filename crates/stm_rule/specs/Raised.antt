@@ -1,4 +1,6 @@
--- Under RingSW, who raised the clock as the gate's holder knows it as its own: all others are idle.
+-- Under RingSW a caller that raised the clock as the gate's holder is calm: all others are idle, and the clock is its
+-- own. Without this clause DONE needn't be the clock at rest: some other caller could have raised the clock and not
+-- have stored DONE yet.
 use Rattle.std.proofs.Common.{◌≡◌, ℕ, true, sym, subst}
 use Rattle.stm_model.specs.declared.alg.Alg.TheVariants.{RingSw}
 use Rattle.rule_base.specs.declared.views.View.{View}

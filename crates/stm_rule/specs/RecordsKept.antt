@@ -1,4 +1,6 @@
--- What stands of a view by the descriptor's fields in an attempt of OrecLazy, until it is promoted.
+-- An attempt of OrecLazy until it is promoted: the descriptor's logs are what its view says was read, is held and is to
+-- be written. Without `reads` a validation could leave out a read. Without `locks` the commit could leave a record
+-- locked. Without `buffers` it could write a word outside the memory, or one in a fence's range.
 use Rattle.std.specs.Prelude.{ℕ, ◌≡◌, ◌≤◌, ◌+◌, not, true, false, List, [], ◌∷◌, ◌++◌, ◌<◌, length, get_or}
 use Rattle.stm_model.specs.declared.config.Config.{Config}
 use Rattle.stm_model.specs.declared.config.TheConstants.{CLOCK_LIMIT}

@@ -1,4 +1,6 @@
--- What stands of a view by the descriptor's fields in an attempt of RingSW, until it is promoted.
+-- An attempt of RingSW until it is promoted: the descriptor's filters have the addresses that it loaded and those that
+-- it is to write. Without `loaded` its check could pass an entry that wrote what it read. Without `stored` the slot of
+-- its own entry would hide a write from the checks of others.
 use Rattle.std.specs.Prelude.{ℕ, ◌≡◌, ◌+◌, ◌<◌, true, false, map, slice_index}
 use Rattle.stm_model.specs.declared.config.Config.{Config}
 use Rattle.rule_base.specs.declared.layout.TheConstants.{SLOT_WORDS}

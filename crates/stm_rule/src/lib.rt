@@ -1,4 +1,6 @@
-//! The one rule over the shared table: opening, descriptors, notes, steps, closing.
+//! The shared table, under the invariant of all rule crates together (`specs/Product.antt`): opening and closing a
+//! memory, descriptors, notes, and a function for each kind of step at the gate, the lock and the clock, of promotions
+//! and of fences. The step law stands in `laws`: each kind of step keeps the invariant, in every list of steps.
 #![tactic(auto)]
 
 pub mod closing;

@@ -1,4 +1,5 @@
-//! Texts: workloads read from their text, and reports written as theirs.
+//! The text forms of workloads and reports: the grammar, a parser that finds a workload or the first fault of its text,
+//! and the text of a report.
 #![tactic(auto)]
 
 pub mod code;

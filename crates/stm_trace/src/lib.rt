@@ -1,4 +1,5 @@
-//! The step mode, told: what one turn of a caller says, its line of text, and which lines are the trace of a workload.
+//! Traces: what a caller's turn says under `step`, its line of text, and which lists of lines are the trace of a
+//! workload (the table of turns).
 #![tactic(auto)]
 
 pub mod laws;

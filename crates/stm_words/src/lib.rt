@@ -1,4 +1,5 @@
-//! The command line, read by clap: the words, and what they ask for.
+//! The command line of `stm_bench`, read by clap: which words ask for a command, and for which. Words ask for one
+//! command at most.
 #![tactic(auto)]
 
 pub mod command;

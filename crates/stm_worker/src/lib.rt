@@ -1,4 +1,5 @@
-//! A caller's worker: what the caller is to do, and the one call that it makes a turn.
+//! One caller of a workload: its transactions and switches in order, and the turn, in which it makes one call on the
+//! memory and says what that answered. Its contract ties each answer to the table of turns, and each row to its script.
 #![tactic(auto)]
 
 pub mod laws;

@@ -1,4 +1,5 @@
-//! How a caller waits while another stands in its way.
+//! Backoff: how long a caller pauses while another is in its way, before it tries again. A pause takes no step on the
+//! memory, and no promise rests on its length.
 #![tactic(auto)]
 
 ghost use Rattle.std.specs.Prelude.{◌≤◌};
