@@ -1,4 +1,7 @@
--- The one range of words that a caller may take out of the transactions: what lies there, and the heap as all others see it.
+-- The one range of words that a caller may take out of the transactions, and the heap as all others see it (the veil).
+-- In the range lies the memory under its caller's stores, and that memory is the one at which the range was taken.
+-- Without `mine` and `owner` two callers could have a range. Without `stored`, `still` and `sees` the entry of a
+-- give-back needn't be legal. Without `apart` an attempt that aborts or writes back could store in the range.
 use Rattle.std.specs.Prelude.{ℕ, ◌≡◌, ◌+◌, ◌<◌, ◌≤◌, ◌||◌, ◌&&◌, if◌then◌else◌, Bool, true, false, List}
 use Rattle.rule_base.specs.declared.entries.Cell.{Cell}
 use Rattle.rule_base.specs.declared.entries.Entry.{Entry}
