@@ -39,9 +39,9 @@ pub(crate) fn take_back<K: MemRule>(
     leave(seat, local, stm, caller);
 }
 
-/// Restores the words, raises the clock above the versions that the records had, and gives each back one later than it
-/// was: who sampled it before finds it changed. No step where no record is held; else one, and one for each word and
-/// each record.
+/// Restores the words, raises the clock above the versions that the records had, and releases each one version later,
+/// so earlier readers see a changed version. No step where no record is held; else one, and one for each word and each
+/// record.
 fn give_back<K: MemRule>(seat: &mut Token<K>, local: &Local, stm: &Stm<K>, caller: usize)
     requires seat { IsSeatOf stm.now caller seat.old }
     requires caller { caller < stm.now.config.callers }

@@ -77,7 +77,7 @@ pub fn load<K: MemRule>(desc: &mut Desc<K>, stm: &Stm<K>, a: usize) -> u64
     reading::load(stm, &mut desc.seat, desc.number, a)
 }
 
-/// Loads the record again, which `sample` found as `word`, behind the word, which `load` found as `x`. Where the record
+/// Loads the record again, which `sample` found as `word`, after the word, which `load` found as `x`. Where the record
 /// is as it was, `x` is read, and logged; else the attempt ends. One step, then those of a rollback.
 #[inline(always)]
 pub fn confirm<K: MemRule>(desc: &mut Desc<K>, stm: &Stm<K>, a: usize, word: u64, x: u64) -> Read

@@ -1,4 +1,4 @@
-//! The records of a commit: each is taken before the entry, and given back behind it.
+//! The records of a commit: each is taken before the entry, and given back after it.
 ghost use Rattle.stm_rule.specs.Counting.{TakesAtMost};
 ghost use Rattle.std.specs.Prelude.{◌≡◌, ℕ, ◌<◌, ◌≤◌, ◌+◌, length, None, ◌*◌, ◌%◌};
 ghost use Rattle.stm_model.specs.Memories.{item_at};
@@ -15,8 +15,8 @@ use stm_model::stop::Cause;
 use stm_rule::local::Local;
 use stm_rule::stm::{Stm, Token};
 
-/// Takes the record of each address that was written, in the order of the first writes. Answers a version that none of
-/// them was newer than: the newest, or 0. Two steps for each record.
+/// Takes the record of each address that was written, in the order of the first writes. Returns the newest version
+/// found, or 0. Two steps for each record.
 pub(crate) fn lock_all<K: MemRule>(
     seat: &mut Token<K>,
     local: &mut Local,

@@ -22,7 +22,7 @@ pub(crate) fn record_of(records: usize, a: usize) -> usize
     if a < records { a } else { a % records }
 }
 
-/// The version that the record of the word at `a` had, where the attempt holds that record. No step.
+/// If held, the version of `a`'s record before it was locked. No step.
 #[inline(always)]
 pub(crate) fn held(local: &Local, records: usize, a: usize) -> Option<u64>
     requires { 0 < records }
@@ -44,7 +44,7 @@ pub(crate) fn sample<K: MemRule>(stm: &Stm<K>, seat: &mut Token<K>, caller: usiz
     reading::sample(stm, seat, caller, r, a)
 }
 
-/// Loads the record again, behind the word: where it is as sampled, the word is read. Answers the record's word.
+/// Loads the record again, after the word: where it is as sampled, the word is read. Answers the record's word.
 #[inline(always)]
 pub(crate) fn confirm<K: MemRule>(stm: &Stm<K>, seat: &mut Token<K>, caller: usize, a: usize) -> u64
     requires seat { IsSeatOf stm.now caller seat.old }

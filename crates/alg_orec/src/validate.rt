@@ -45,7 +45,7 @@ pub(crate) fn validate<K: MemRule>(
     Ok(())
 }
 
-/// The last of the reads for which no record vouches that the attempt holds.
+/// The last read whose record this attempt does not hold.
 pub(crate) fn last_to_validate(local: &Local, records: usize) -> Option<usize>
     requires records { 0 < records }
     requires versions { HasVersions local.now }

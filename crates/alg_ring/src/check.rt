@@ -75,7 +75,7 @@ fn later_start(start: u64, clock: u64, done: u64) -> u64
     start.max(done.min(clock))
 }
 
-/// Loads the slots of the times from the start to the clock, and the clock behind them: a slot that a later entry may
+/// Loads the slots of the times from the start to the clock, and the clock after them: a slot that a later entry may
 /// have taken tells nothing.
 #[cold]
 #[inline(never)]

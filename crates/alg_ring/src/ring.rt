@@ -292,7 +292,7 @@ fn enter<K: MemRule>(seat: &mut Token<K>, local: &Local, stm: &Stm<K>, caller: u
     steps::enter(stm, seat, caller, time);
 }
 
-/// Stores what the attempt wrote, behind its entry.
+/// Stores what the attempt wrote, after its entry.
 fn write_back<K: MemRule>(seat: &mut Token<K>, writes: &WriteLog, stm: &Stm<K>, caller: usize)
     requires seat { IsSeatOf stm.now caller seat.old }
     requires back { CanWriteBack stm.now.config writes.now (view_of seat.old) }

@@ -47,7 +47,7 @@ impl Algorithm for Tml {
         Ok(clock)
     }
 
-    /// Loads the word, and the clock behind it where the attempt has not written: another number than the start
+    /// Loads the word, and the clock after it where the attempt has not written: another number than the start
     /// ends the attempt. Two steps, four at most.
     #[inline(always)]
     fn read<K: MemRule>(desc: &mut Desc<K>, stm: &Stm<K>, a: usize) -> Read {

@@ -34,7 +34,7 @@ pub fn check(
     Ok(())
 }
 
-/// The header of version 2 behind its line `words`, by the rest of it, and a body: both in one line.
+/// The header of version 2 after its line `words`, by the rest of it, and a body: both in one line.
 pub fn workload_two(alloc: Global, words: usize, rest: &str, body: &str) -> Result<String, Fail> {
     let mut text = String::new(alloc);
     write!(&mut text, "stm 2\nwords {words}\n")?;
@@ -46,7 +46,7 @@ pub fn workload_two(alloc: Global, words: usize, rest: &str, body: &str) -> Resu
     Ok(text)
 }
 
-/// The words of a command line: the program's name, and those of this line behind it.
+/// The words of a command line: the program's name, and those of this line after it.
 pub fn command_line<'a>(alloc: Global, line: &'a str) -> Result<Vec<&'a str>, Fail> {
     let mut words = Vec::new(alloc);
     words.push("stm_bench")?;

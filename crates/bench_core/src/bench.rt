@@ -32,8 +32,8 @@ const MOST_READ: usize = 16777217;
 /// under the policy, and writes the report to `sink`, whole once it is made; `step` runs them in the turns of the
 /// text's schedule, and writes the trace before the report. `gen` reads nothing: it runs the workload of N
 /// transactions, 1 to 50,000, of T callers, 1 to 32, that is drawn from SEED, as `run` does, and writes its summary.
-/// `check` reads a workload's text and, behind its line `done`, a report, and writes whether the report replays the
-/// workload. Every other end writes one line, under `step` at a full clock behind the trace so far, or with `Memory`
+/// `check` reads a workload's text and, after its line `done`, a report, and writes whether the report replays the
+/// workload. Every other end writes one line, under `step` at a full clock after the trace so far, or with `Memory`
 /// nothing; see [`Status`].
 ///
 /// `ClockFull`, and `Ok` of every command but `check`, leave in `last` the closed memory of this call's run; every

@@ -120,7 +120,7 @@ pub(crate) fn summarize<R: Threads + Wait + Sync, G: Turnstile + Sync>(
     }
 }
 
-/// A text, and another behind it.
+/// Concatenates two texts.
 fn behind(mut text: Vec<u8>, mut other: Vec<u8>) -> Result<Vec<u8>, Memory>
     ensures { IfOk result (λ t. t.items ≡ text.items ++ other.items) }
 {

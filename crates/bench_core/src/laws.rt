@@ -3,7 +3,7 @@ ghost use Rattle.bench_core.specs.Confirming.{RunIsConfirmed};
 
 use stm_check::laws::behind_is_confirmed;
 
-/// Of a workload's text, and behind it what `run` wrote of it at status 0, `check` says yes, where what was written isn't
+/// Of a workload's text, and after it what `run` wrote of it at status 0, `check` says yes, where what was written isn't
 /// longer than a report may be.
 pub fn run_is_confirmed()
     ensures { RunIsConfirmed }

@@ -4,11 +4,11 @@ ghost use Rattle.std.specs.Prelude.{◌≡◌};
 /// How a call of `bench` ended, and what it wrote by that.
 #[derive(Clone, Copy, Drop, Debug, PartialEq, Eq)]
 pub enum Status {
-    /// The report, under `step` behind the trace; under `gen` the summary; under `check` `yes`.
+    /// The report, under `step` after the trace; under `gen` the summary; under `check` `yes`.
     Ok,
     /// The usage line: the words aren't a command.
     Usage,
-    /// `refused L C name`: the text read isn't a workload, or under `check` not a workload and behind it a report;
+    /// `refused L C name`: the text read isn't a workload, or under `check` not a workload and after it a report;
     /// `line` and `code` are those of its first fault. Lines count from 1; line 0 stands for the whole text, under
     /// `check` for the whole of the part that is too long.
     Refused { line: usize, code: u32 },

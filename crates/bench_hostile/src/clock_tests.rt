@@ -9,7 +9,7 @@ use std::thread::Threads;
 
 const FULL: Status = Status::ClockFull { clock: LIMIT };
 
-/// At a clock one below the limit: the algorithm, the transaction behind one that wrote, and its last lines.
+/// At a clock one below the limit: the algorithm, the transaction after one that wrote, and its last lines.
 const SECONDS: [(&str, &str, &str); 12] = [
     ("OrecLazy", "write 0 2", "0 write 2 / 0 commit clockfull"),
     ("RingSW", "write 0 2", "0 write 2 / 0 commit clockfull"),
@@ -92,7 +92,7 @@ fn room(name: &str, clock: u64) -> usize {
     if name == "TML" { left / 2 } else { left }
 }
 
-/// Checks a trace that a full clock ends: it has so many commits, each later than the one before and none behind
+/// Checks a trace that a full clock ends: it has so many commits, each later than the one before and none after
 /// the limit, and one line that found the clock full, the last one.
 fn check_trace(rt: &impl Abort, held: &str, room: usize) -> Result<(), Fail> {
     let mut commits = 0usize;

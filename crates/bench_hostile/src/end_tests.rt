@@ -49,7 +49,7 @@ const GEN: &[&str] = &["stm_bench", "gen", "8", "2", "1"];
 const NONE: &[&str] = &["stm_bench"];
 
 /// A command, the header's changes and body of the text that it reads, its status, and the lines that it writes. Under
-/// `check` the report stands behind the body.
+/// `check` the report stands after the body.
 const TALKS: [(&[&str], &str, &str, Status, &str); 7] = [
     (RUN, "", ADDS, Status::Ok, ADDS_REPORT),
     (STEP, "alg TML / callers 2", HELD, Status::Ok, HELD_TRACE),
@@ -107,7 +107,7 @@ fn try_taking(
     Ok(())
 }
 
-/// What a talk comes to where no put is made behind so many bytes.
+/// What a talk comes to where no put is made after so many bytes.
 fn cut<'a>(talk: &Talk<'a>, room: usize) -> (Status, &'a [u8]) {
     match talk.said.as_bytes().get(..room) {
         Some(said) if room < talk.said.len() => (Status::WriteFault, said),
@@ -115,7 +115,7 @@ fn cut<'a>(talk: &Talk<'a>, room: usize) -> (Status, &'a [u8]) {
     }
 }
 
-/// Tries the talk with the put behind so many bytes failing: by a writer of one byte a call, by one that then takes
+/// Tries the talk with the put after so many bytes failing: by a writer of one byte a call, by one that then takes
 /// nothing, and by a sink that has no more room.
 fn try_putting(
     rt: &(impl Threads + Wait + Abort + Sync),

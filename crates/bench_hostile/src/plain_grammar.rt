@@ -31,7 +31,7 @@ pub(crate) enum Place {
     End,
 }
 
-/// The lines behind the header: where each may stand, its first word, whether it needs structures, and a letter for
+/// The lines after the header: where each may stand, its first word, whether it needs structures, and a letter for
 /// each word that follows: a caller, an address, a number, a stripe, a key, turns, or (`A`) an algorithm.
 pub(crate) const FORMS: &[(Place, &str, bool, &str)] = &[
     (Place::Items, "tx", false, "c"),
@@ -98,7 +98,7 @@ const KINDS: [(&str, u64, u64, u64); 6] = [
     ("summap", 4096, 5, 1),
 ];
 
-/// A region: its kind by its place among them, its first word, the word behind its last, and its size.
+/// A region: its kind by its place among them, its first word, the word after its last, and its size.
 #[derive(Clone, Copy, Drop)]
 struct Region {
     kind: usize,
@@ -260,7 +260,7 @@ impl Reader {
         }
     }
 
-    /// Of the header of version 2 behind `alg`.
+    /// Of the header of version 2 after `alg`.
     fn layout_fault(&self, words: &[&str]) -> u32 {
         let is_over = self.line > 10 && self.regions.len() as u64 >= self.count;
         match words {

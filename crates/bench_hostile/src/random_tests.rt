@@ -7,7 +7,7 @@ use std::alloc::Global;
 use std::test::Fail;
 use stm_text::parse::{Mode, ParseError, parse};
 
-/// The lines of the header: those that may stand there, and behind them some that may not.
+/// The lines of the header: those that may stand there, and after them some that may not.
 const HEADER: [(usize, &[&str]); 10] = [
     (1, &["stm 1", "stm 01", "stm", "Stm 1"]),
     (2, &["words 1030", "words 8", "words 0", "words 1048577"]),
@@ -28,7 +28,7 @@ const HEADER: [(usize, &[&str]); 10] = [
     (2, &["structs on", "structs off", "structs 1"]),
 ];
 
-/// The words that may stand for a letter of [`FORMS`], and behind them some that may not, or not always.
+/// The words that may stand for a letter of [`FORMS`], and after them some that may not, or not always.
 const WORDS: [(u8, usize, &[&str]); 7] = [
     (b'c', 2, &["0", "1", "2", "7", "01", "-1"]),
     (b'A', 3, &["CGL", "Serial", "OrecEager", "orec", "0"]),
@@ -81,7 +81,7 @@ fn put_operand(draws: &mut Pcg32, kind: u8, text: &mut String) -> Result<(), Fai
     Ok(())
 }
 
-/// Writes a line that may stand at this place, now and then any line; and answers the place behind it. A line that ends
+/// Writes a line that may stand at this place, now and then any line; and answers the place after it. A line that ends
 /// the items is rarer, so that most texts have many.
 fn put_line(
     alloc: Global,
@@ -107,7 +107,7 @@ fn put_line(
     Ok(behind(place, name))
 }
 
-/// The place behind a line of this name.
+/// The place after a line of this name.
 fn behind(place: Place, name: &str) -> Place {
     match (place, name) {
         (Place::Items, "tx") => Place::Script,

@@ -50,7 +50,7 @@ const JUDGED: &[(&str, Status, &str)] = &[
     ),
 ];
 
-/// A workload's text, and a report's lines behind it.
+/// A workload's text, and a report's lines after it.
 fn both(alloc: Global, changes: &str, body: &str, report: &str) -> Result<String, Fail> {
     let mut text = workload(alloc, changes, body)?;
     text.push_str(lines(alloc, report)?.as_str())?;

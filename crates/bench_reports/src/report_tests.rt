@@ -186,7 +186,7 @@ fn says_why_there_is_no_report(rt: HostRuntime) -> Result<(), Fail> {
     Ok(())
 }
 
-/// The command, the lines of the header that differ, the text behind it, and its first fault.
+/// The command, the lines of the header that differ, the text after it, and its first fault.
 type Fault = (
     &'static str,
     &'static str,

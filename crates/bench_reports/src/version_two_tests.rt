@@ -85,7 +85,7 @@ fn refuses_texts(rt: HostRuntime) -> Result<(), Fail> {
     Ok(())
 }
 
-/// With logs of one place: a transaction that takes two is full, and one behind longer logs isn't.
+/// With logs of one place: a transaction that takes two is full, and one after longer logs isn't.
 #[test]
 fn lengthens_logs(rt: HostRuntime) -> Result<(), Fail> {
     let alloc = rt.alloc();
@@ -104,7 +104,7 @@ fn lengthens_logs(rt: HostRuntime) -> Result<(), Fail> {
     Ok(())
 }
 
-/// Under `step` the text's policy has caller 0 take a switch behind a transaction.
+/// Under `step` the text's policy has caller 0 take a switch after a transaction.
 #[test]
 fn switches_by_the_texts_policy(rt: HostRuntime) -> Result<(), Fail> {
     let alloc = rt.alloc();

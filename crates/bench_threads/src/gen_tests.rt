@@ -5,7 +5,7 @@ use bench_core::status::Status;
 use std::sync::atomic::{AtomicUsize, Ordering};
 use std::test::Fail;
 
-/// The words behind the program's name, and the summary that is written.
+/// The words after the program's name, and the summary that is written.
 const SUMMARIES: &[(&str, &str)] = &[
     (
         "gen 8 2 1",

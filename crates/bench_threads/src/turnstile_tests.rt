@@ -80,7 +80,7 @@ impl Turnstile for Meeting {
     }
 }
 
-/// Under TML an attempt is alone from its first write to its commit. So whoever passes behind the write, which
+/// Under TML an attempt is alone from its first write to its commit. So whoever passes after the write, which
 /// here is the last operation, and before the commit meets nobody; at any other place callers meet.
 #[test]
 fn passes_between_the_last_operation_and_the_commit(rt: HostRuntime) -> Result<(), Fail> {

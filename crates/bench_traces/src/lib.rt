@@ -1,4 +1,4 @@
-//! Tests of `bench`: traces of `step`, in the turns of a schedule, and the reports behind them.
+//! Tests of `bench`: traces of `step`, in the turns of a schedule, and the reports after them.
 #![tactic(auto)]
 
 #[cfg(test)]

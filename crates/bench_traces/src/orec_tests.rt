@@ -29,7 +29,7 @@ const LAZY_TRACES: &[Case] = &[
         "tx 0 {read 1; write 0 5} / tx 1 {write 2 6} / tx 2 {write 1 7} / schedule / go 0 3 / go 1 3 / go 0 1 / go 2 3 / go 0 1",
         "0 begin OrecLazy / 0 read 0 / 0 write 5 / 1 begin OrecLazy / 1 write 6 / 1 commit committed 1 / 0 commit again 0 0 1 / 2 begin OrecLazy / 2 write 7 / 2 commit committed 2 / 0 commit conflict record 1 4 0 / finish / 0 begin OrecLazy / 0 read 7 / 0 write 5 / 0 commit committed 3 / report 1 / W 1 1 0 : 6 / W 2 2 0 : 7 / W 3 0 0 : 7 5 / mem 0 5 / mem 1 7 / mem 2 6 / end",
     ),
-    // a commit under way is cancelled behind the schedule, and gives its record back
+    // a commit under way is cancelled after the schedule, and gives its record back
     (
         "alg OrecLazy / callers 2",
         "tx 0 {write 0 5} / tx 1 {write 1 6} / schedule / go 0 2 / go 1 3 / go 0 1",
@@ -64,7 +64,7 @@ const LAZY_TRACES: &[Case] = &[
         "tx 0 {write 0 5} / tx 1 {write 1 6} / switch 1 TML / tx 2 {read 0} / schedule / go 0 2 / go 1 3 / go 0 1 / go 1 2 / go 2 1 / go 0 1 / go 1 2",
         "0 begin OrecLazy / 0 write 5 / 1 begin OrecLazy / 1 write 6 / 1 commit committed 1 / 0 commit again 0 0 1 / 1 close closed / 1 look busy 0 1 / 2 begin closed 514 / 0 commit committed 2 / 1 look quiet / 1 install TML / finish / 2 begin TML / 2 read 5 / 2 commit readonly 2 / report 1 / W 1 1 0 : 6 / W 2 0 0 : 5 / R 2 2 0 : 5 / mem 0 5 / mem 1 6 / end",
     ),
-    // a full write log: the attempt behind it is irrevocable and needs none
+    // a full write log: the attempt after it is irrevocable and needs none
     (
         "alg OrecLazy / writes 2",
         "tx 0 {write 0 1; write 1 2; write 2 3; irrev; emit 2}",
@@ -175,7 +175,7 @@ const TURNS: &[(&str, &str, &[u64])] = &[
     ),
 ];
 
-/// Wherever a schedule is cut, what it left open is ended, and all is done behind it.
+/// Wherever a schedule is cut, what it left open is ended, and all is done after it.
 #[test]
 fn ends_what_a_cut_schedule_left(rt: HostRuntime) -> Result<(), Fail> {
     for (changes, items, turns) in TURNS {

@@ -28,7 +28,7 @@ struct Stage {
     count: usize,
 }
 
-/// The memory behind each row that wrote, the first that of the opening.
+/// The memory after each row that wrote, the first that of the opening.
 #[derive(Drop)]
 struct Moments {
     words: [[u64; 4]; 32],
@@ -114,7 +114,7 @@ fn has_moment(script: &[Op; 4], moments: &Moments, said: &[u64]) -> bool {
     false
 }
 
-/// What came of a trace: whether each reply has its moment, and how many attempts ended without a row behind a reply.
+/// What came of a trace: whether each reply has its moment, and how many attempts ended without a row after a reply.
 #[derive(Drop)]
 struct Finding {
     right: bool,
@@ -171,7 +171,7 @@ fn take_in(
     }
 }
 
-/// The memory behind a row that wrote is the next moment's.
+/// The memory after a row that wrote is the next moment's.
 fn settle(script: &[Op; 4], moments: &mut Moments) {
     let mut words = moments.words[moments.last % 32];
     for op in script.iter() {

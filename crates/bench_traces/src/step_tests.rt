@@ -1,4 +1,4 @@
-//! `step` over a text: the trace, and what stands behind it.
+//! `step` over a text: the trace, and what stands after it.
 use bench_cases::Status;
 use bench_cases::cases::{Case, check};
 use std::alloc::Global;
@@ -32,13 +32,13 @@ const TRACES: &[Case] = &[
         "tx 0 / end / schedule / go 0 3",
         "0 begin CGL / 0 commit readonly 0 / 0 idle / finish / report 1 / R 0 0 0 : / end",
     ),
-    // a switch waits for the others, is given up behind the schedule, and done again
+    // a switch waits for the others, is given up after the schedule, and done again
     (
         "alg CGL / callers 2",
         "tx 0 {write 0 5; cancel} / switch 1 CGL / tx 1 {read 0} / schedule / go 0 2 / go 1 2 / go 0 2 / go 1 1",
         "0 begin CGL / 0 write 5 / 1 close closed / 1 look busy 0 1 / 0 cancel irrevocable / 0 commit committed 1 / 1 look quiet / finish / 1 reopen / 1 close closed / 1 look quiet / 1 install CGL / 1 begin CGL / 1 read 5 / 1 commit readonly 1 / report 1 / W 1 0 0 : 5 0 / R 1 1 0 : 5 / mem 0 5 / end",
     ),
-    // an open attempt goes on to its end behind the schedule
+    // an open attempt goes on to its end after the schedule
     (
         "alg CGL / callers 2",
         "tx 0 {read 0} / tx 1 {read 0} / schedule / go 0 1 / go 1 1",
@@ -68,7 +68,7 @@ const TRACES: &[Case] = &[
         "tx 0 {read 0; irrev; write 1 5; emit 1} / tx 1 {read 2; irrev; write 2 3} / schedule / go 0 2 / go 1 2 / go 0 1 / go 1 1 / go 0 4",
         "0 begin TML / 0 read 0 / 1 begin TML / 1 read 0 / 0 irrev busy 1 1 / 1 irrev taken 257 / 0 irrev granted / 0 write 5 / 0 emit 5 / 0 commit committed 2 / finish / 1 begin TML / 1 read 0 / 1 irrev granted / 1 write 3 / 1 commit committed 4 / report 1 / W 2 0 0 : 0 1 5 5 ! 5 / W 4 1 0 : 0 1 3 / mem 1 5 / mem 2 3 / end",
     ),
-    // an undo log of one item: the attempt behind it asks to be irrevocable, and its reply is no operation's
+    // an undo log of one item: the attempt after it asks to be irrevocable, and its reply is no operation's
     (
         "alg Serial / writes 1",
         "tx 0 {write 0 1; write 1 2}",
@@ -129,7 +129,7 @@ fn ends_a_trace_at_a_full_clock(rt: HostRuntime) -> Result<(), Fail> {
     )
 }
 
-/// Each algorithm, the time of a first commit under it, and that of a commit behind its install at the clock 1, and
+/// Each algorithm, the time of a first commit under it, and that of a commit after its install at the clock 1, and
 /// at 2.
 const ALGS: &[(&str, u64, u64, u64)] = &[
     ("CGL", 1, 2, 3),
@@ -141,7 +141,7 @@ const ALGS: &[(&str, u64, u64, u64)] = &[
     ("Serial", 1, 2, 3),
 ];
 
-/// Caller 0 commits, installs each algorithm behind caller 1's attempt, and commits again; caller 1 reads before
+/// Caller 0 commits, installs each algorithm after caller 1's attempt, and commits again; caller 1 reads before
 /// and after.
 fn installs_each(
     rt: &(impl Threads + Wait + Abort + Sync),

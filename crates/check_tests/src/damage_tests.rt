@@ -12,7 +12,7 @@ const WRONG: &[u8; 26] = b"\0\t\n !:-0123456789WRCmenx\x7f\xff";
 const HEADER: &str =
     "stm 1 / words 8 / callers 32 / records 4 / ring 4 / reads 256 / writes 256 / clock 0 / alg CGL / structs off";
 
-/// The lines behind the header of a workload, a report that replays it, and how many of the reports that differ from it
+/// The lines after the header of a workload, a report that replays it, and how many of the reports that differ from it
 /// by one character are found right, found wrong, and not in the form of a report.
 const REPORTS: [(&str, &str, [usize; 3]); 3] = [
     (
@@ -39,7 +39,7 @@ fn lines(alloc: Global, line: &str) -> Result<String, Fail> {
     Ok(text)
 }
 
-/// What a plain replay finds of a report behind this text, with the text's lines counted.
+/// What a plain replay finds of a report after this text, with the text's lines counted.
 fn judged(alloc: Global, text: &str, scripts: &[Script], report: &[u8]) -> Result<Finding, Fail> {
     let above = text.lines().count();
     Ok(match judge(alloc, scripts, report)? {

@@ -177,7 +177,7 @@ const FAULTS_TWO: [(usize, &str, &str); 7] = [
     ),
 ];
 
-/// What stands in the place of a line of [`REPORT`], behind [`ONE`], and what is said of it.
+/// What stands in the place of a line of [`REPORT`], after [`ONE`], and what is said of it.
 const FAULTS_REPORT: [(usize, &str, &str); 6] = [
     (
         1,

@@ -1,4 +1,4 @@
-//! Tests of stm_check: workloads and the reports behind them, right, wrong and damaged.
+//! Tests of stm_check: workloads and the reports after them, right, wrong and damaged.
 #![tactic(auto)]
 
 #[cfg(test)]

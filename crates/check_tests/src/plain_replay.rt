@@ -193,7 +193,7 @@ impl Reader {
     }
 }
 
-/// What a report comes to behind a workload with these transactions: its lines count from 1.
+/// What a report comes to after a workload with these transactions: its lines count from 1.
 pub(crate) fn judge(alloc: Global, scripts: &[Script], report: &[u8]) -> Result<Finding, Fail> {
     let mut reader = Reader {
         next: Next::Title,
@@ -275,7 +275,7 @@ fn compare_words(memory: &[u64; 8], told: &[(u64, u64)], first: usize) -> Findin
     }
 }
 
-/// Whether a row may stand behind another in a report: by place, W rows first and one of a place, then by caller, then
+/// Whether a row may stand after another in a report: by place, W rows first and one of a place, then by caller, then
 /// by number.
 fn follows(row: &Row, above: Option<&Row>) -> bool {
     let Some(last) = above else {
@@ -287,7 +287,7 @@ fn follows(row: &Row, above: Option<&Row>) -> bool {
     key >= (place, is_other, last.caller, last.seq) && !(both_write && row.place == place)
 }
 
-/// The memory behind a row, where it says what its script does.
+/// The memory after a row, where it says what its script does.
 fn run_row(
     alloc: Global,
     scripts: &[Script],

@@ -1,4 +1,4 @@
-//! The verdict on a workload of three transactions and the reports that may stand behind it.
+//! The verdict on a workload of three transactions and the reports that may stand after it.
 use std::alloc::{AllocError, Global};
 use std::test::Fail;
 use stm_check::checking::{Finding, MOST_CHECKED, check};
@@ -107,7 +107,7 @@ const FINDINGS: &[(&str, Finding)] = &[
     ),
 ];
 
-/// The workload, and the lines that stand in one behind it.
+/// The workload, and the lines that stand in one after it.
 fn with_report(alloc: Global, line: &str) -> Result<String, AllocError> {
     let mut text = String::new(alloc);
     text.push_str(WORKLOAD)?;

@@ -73,7 +73,7 @@ impl Transaction<Bank> for Transfer {
 }
 
 /// Adds all balances up: nothing before the bank opens, and its capital from then on. It finds so whatever others do
-/// meanwhile, and also where the attempt is refused behind it.
+/// meanwhile, and also where the attempt is refused after it.
 #[derive(Clone, Copy, Drop, Debug, PartialEq, Eq)]
 pub struct Audit;
 

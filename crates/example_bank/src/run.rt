@@ -53,7 +53,7 @@ pub fn run<R: Threads + Wait + Sync>(rt: &R, alloc: Global, alg: Alg) -> Result<
     Ok(Report { audited, total })
 }
 
-/// Has each caller do its work, on a thread of its own, and adds the balances up behind them.
+/// Has each caller do its work, on a thread of its own, and adds the balances up after them.
 fn serve<R: Threads + Wait + Sync>(
     rt: &R,
     descs: &mut [Desc<Bank>],

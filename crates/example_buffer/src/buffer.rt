@@ -20,7 +20,7 @@ pub struct Sight {
     pub last: u64,
 }
 
-/// Looks at both ends of the buffer. They are of one filling, also where the attempt is refused behind it.
+/// Looks at both ends of the buffer. They are of one filling, also where the attempt is refused after it.
 #[derive(Clone, Copy, Drop, Debug, PartialEq, Eq)]
 pub struct Look;
 

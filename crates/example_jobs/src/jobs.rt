@@ -15,7 +15,7 @@ impl MemRule for Jobs {
     ghost good = { λ jobs memory. IsQueue jobs.waiting memory };
 }
 
-/// Puts a job behind the last one, if there is room: `Added` then.
+/// Puts a job after the last one, if there is room: `Added` then.
 #[derive(Clone, Copy, Drop, Debug, PartialEq, Eq)]
 pub struct Give {
     pub job: u32,

@@ -7,7 +7,7 @@ use tx_parts::part::Part;
 use tx_queue::laws::{contents_change, queues_are_apart};
 use tx_queue::queue::{Put, Queue};
 
-/// A mailbox of two queues with so many cells each: the urgent messages, and behind their words the others.
+/// A mailbox of two queues with so many cells each: the urgent messages, and after their words the others.
 ///
 /// As a rule: both are well formed.
 #[derive(Clone, Copy, Drop, Debug, PartialEq, Eq)]
@@ -38,7 +38,7 @@ impl Mailbox {
     }
 }
 
-/// Puts a message behind the others of its kind. It gives way where there is no room.
+/// Puts a message after the others of its kind. It gives way where there is no room.
 #[derive(Clone, Copy, Drop, Debug, PartialEq, Eq)]
 pub struct Post {
     pub urgent: bool,

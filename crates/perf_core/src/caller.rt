@@ -1,4 +1,4 @@
-//! A caller: its transactions one behind the other, each tried until it commits.
+//! A caller: its transactions one after the other, each tried until it commits.
 ghost use Rattle.std.specs.Prelude.{◌≡◌, ◌≤◌};
 ghost use Rattle.stm_rule.specs.Callers.{IsOf, IsSameCaller};
 ghost use Rattle.tx_answers.specs.Known.{IsIdle};

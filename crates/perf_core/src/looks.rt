@@ -38,7 +38,7 @@ impl Looks {
     }
 }
 
-/// A line behind a line break; nothing where nobody switched.
+/// A line after a line break; nothing where nobody switched.
 impl Display for Looks {
     fn fmt<W: Write>(&self, f: &mut Formatter<W>) -> fmt::Result {
         let Looks {

@@ -47,7 +47,7 @@ fn work_all<R: Threads + Wait + Sync>(rt: &R, members: &mut [Member], counts: &C
     );
 }
 
-/// What is found behind all work under an algorithm.
+/// What is found after all work under an algorithm.
 fn run<R: Threads + Wait + Sync>(
     rt: &R,
     alloc: Global,

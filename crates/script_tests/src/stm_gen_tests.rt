@@ -8,7 +8,7 @@ use stm_model::alg::Alg;
 use stm_script::op::Op;
 use stm_script::workload::Item;
 
-/// The callers and the first operations of the transactions behind the opening one.
+/// The callers and the first operations of the transactions after the opening one.
 const DRAWN: &[(usize, Op)] = &[
     (0, Op::Move(38, 46, 17)),
     (1, Op::Move(0, 59, 80)),
@@ -20,7 +20,7 @@ const DRAWN: &[(usize, Op)] = &[
     (1, Op::ListInsert(1, 1)),
 ];
 
-/// Checks the transactions behind the opening one.
+/// Checks the transactions after the opening one.
 fn check_drawn(rt: &impl Abort, items: &[Item]) {
     assert_eq!(rt; items.len(), 9);
     for (item, wanted) in items.iter().skip(1).zip(DRAWN) {
@@ -43,7 +43,7 @@ fn first_op(item: &Item) -> Option<(usize, Op)> {
     }
 }
 
-/// Where the switches stand, and what they install: they go round the cycle, one behind each sixteenth transaction.
+/// Where the switches stand, and what they install: they go round the cycle, one after each sixteenth transaction.
 const SWITCHES: &[(usize, Alg)] = &[
     (17, Alg::OrecEager),
     (34, Alg::RingSw),

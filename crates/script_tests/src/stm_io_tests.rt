@@ -153,7 +153,7 @@ fn read_source_reads(rt: HostRuntime) -> Result<(), Fail> {
     Ok(())
 }
 
-/// Reads up to the fault, and what is behind it.
+/// Reads up to the fault, and what is after it.
 fn read_on(
     rt: &impl Abort,
     alloc: Global,

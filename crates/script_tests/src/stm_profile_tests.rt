@@ -42,7 +42,7 @@ fn fifteen_conflicts_stay_and_one_more_moves(rt: HostRuntime) -> Result<(), Fail
     Ok(())
 }
 
-/// The algorithm that the policy chooses behind attempts of these counts.
+/// The algorithm that the policy chooses after attempts of these counts.
 fn chosen(alloc: Global, policy: Policy, counts: [usize; 4], alg: Alg) -> Result<Alg, Memory> {
     let profile = noted(alloc, counts)?;
     Ok(choose(policy, &profile, alg))

@@ -5,7 +5,7 @@ use stm_profile::policy::Policy;
 use stm_words::command::Command;
 use stm_words::reading::read_words;
 
-/// Lines behind the program's name, and what they ask for.
+/// Lines after the program's name, and what they ask for.
 const COMMANDS: &[(&str, Command)] = &[
     (
         "run",
@@ -101,7 +101,7 @@ const REFUSED: &[&str] = &[
     "run step",
 ];
 
-/// The words of a command line: the program's name, and those of this line behind it.
+/// The words of a command line: the program's name, and those of this line after it.
 fn words<'a>(alloc: Global, line: &'a str) -> Result<Vec<&'a str>, AllocError> {
     let mut words = Vec::new(alloc);
     words.push("stm_bench")?;

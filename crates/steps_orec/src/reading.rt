@@ -53,7 +53,7 @@ pub fn load<K: MemRule>(stm: &Stm<K>, seat: &mut Token<K>, caller: usize, a: usi
     stm.load_as::<Brand, usize>(seat, At::Heap(a), &caller)
 }
 
-/// Loads record `r` again, behind the word: where it is as sampled, the word is read. Answers the record's word.
+/// Loads record `r` again, after the word: where it is as sampled, the word is read. Answers the record's word.
 pub fn confirm<K: MemRule>(stm: &Stm<K>, seat: &mut Token<K>, caller: usize, r: usize) -> u64
     requires seat { IsSeatOf stm.now caller seat.old }
     requires place { r < stm.now.config.records }

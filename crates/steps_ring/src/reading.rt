@@ -72,7 +72,7 @@ pub fn word<K: MemRule>(
     stm.load_as::<Brand, (usize, u64, usize)>(seat, At::Slot(first + index), &(caller, time, index))
 }
 
-/// Loads the clock behind the slots, and answers it.
+/// Loads the clock after the slots, and answers it.
 pub fn again<K: MemRule>(stm: &Stm<K>, seat: &mut Token<K>, caller: usize) -> u64
     requires seat { IsSeatOf stm.now caller seat.old }
     requires view { CanRingAgain (view_of seat.old) }

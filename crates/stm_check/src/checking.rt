@@ -19,7 +19,7 @@ pub const MOST_CHECKED: usize = 150_994_945;
 /// What a check of a text comes to. Lines count from 1 in the whole text.
 #[derive(Clone, Copy, Drop, Debug, PartialEq, Eq)]
 pub enum Finding {
-    /// A workload, and behind its line `done` a report that replays it.
+    /// A workload, and after its line `done` a report that replays it.
     Yes,
     /// A workload and a report that doesn't replay it: the first line at fault.
     No { line: usize },
@@ -28,7 +28,7 @@ pub enum Finding {
     Faulty { line: usize, code: u32 },
 }
 
-/// Checks a text that is a workload up to its first line `done`, and a report behind that line. A schedule is read past.
+/// Checks a text that is a workload up to its first line `done`, and a report after that line. A schedule is read past.
 /// A fault of the workload comes before one of the report.
 ///
 /// # Errors

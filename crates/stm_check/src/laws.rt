@@ -44,7 +44,7 @@ pub fn replayed_is_confirmed()
     built_workloads_fit();
 }
 
-/// The text of a report that replays the workload of a text, and whose numbers are words of the machine, written behind
+/// The text of a report that replays the workload of a text, and whose numbers are words of the machine, written after
 /// that text, is found to replay it, where it isn't too long.
 pub fn behind_is_confirmed()
     ensures { BehindIsConfirmed }

@@ -12,7 +12,7 @@ use stm_model::plain::PlainWord;
 use stm_model::stop::Stop;
 
 /// A memory as `Plain`, which remembers the words that were written, so that a commit and a cancel go over these
-/// alone. It never stops; behind `new` it takes no memory.
+/// alone. It never stops; after `new` it takes no memory.
 #[derive(Drop)]
 pub struct Ledger {
     words: Vec<PlainWord>,

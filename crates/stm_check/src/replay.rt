@@ -29,7 +29,7 @@ pub struct Cursor {
     pub seq: usize,
 }
 
-/// Where a check stands behind some rows.
+/// Where a check stands after some rows.
 #[derive(Drop)]
 pub struct Standing {
     /// The memory that they leave.
@@ -40,7 +40,7 @@ pub struct Standing {
     pub wrote: Option<u64>,
 }
 
-/// Where the row is its caller's next: its script, and the item behind it.
+/// Where the row is its caller's next: its script, and the item after it.
 fn next_of<'a>(
     workload: &'a Workload,
     standing: &Standing,
@@ -62,7 +62,7 @@ fn next_of<'a>(
     next_script(workload.items.as_slice(), row.caller, cursor.item)
 }
 
-/// Goes on past a row, whose script has been run: the next item of its caller is `item` or behind it.
+/// Goes on past a row, whose script has been run: the next item of its caller is `item` or after it.
 fn pass(standing: &mut Standing, row: &Row, item: usize)
     requires caller { row.now.caller < length standing.old.cursors.items }
     requires seq { row.now.seq + 1 < 2 ^ 64 }
@@ -80,8 +80,8 @@ fn pass(standing: &mut Standing, row: &Row, item: usize)
     }
 }
 
-/// Whether a row has no fault behind the rows above it. Where it hasn't, its script has been run, and the check stands
-/// behind the row.
+/// Whether a row has no fault after the rows above it. Where it hasn't, its script has been run, and the check stands
+/// after the row.
 ///
 /// # Errors
 /// Memory, where it is refused.
@@ -152,7 +152,7 @@ fn all_have_rows(workload: &Workload, standing: &Standing, above: &[Row]) -> boo
     true
 }
 
-/// How many words two tellings of a memory have alike from the first on.
+/// Length of the common prefix.
 fn alike(told: &[(usize, u64)], left: &[(usize, u64)]) -> usize
     ensures alike { result ≡ alike told.now left.now }
     ensures told { result ≤ length told.now }
@@ -172,7 +172,7 @@ fn alike(told: &[(usize, u64)], left: &[(usize, u64)]) -> usize
     told.len()
 }
 
-/// The verdict, where no row has a fault: the lines behind the rows.
+/// The verdict, where no row has a fault: the lines after the rows.
 ///
 /// # Errors
 /// Memory, where it is refused.

@@ -7,7 +7,7 @@ use stm_script::lists::Script;
 use stm_script::op::Op;
 use stm_script::workload::Item;
 
-/// The next script of a caller, from the item `from` on, and the item behind it. Goes over the items between.
+/// The next script of a caller, from the item `from` on, and the item after it. Goes over the items between.
 pub fn next_script(items: &[Item], caller: usize, from: usize) -> Option<(usize, &Script)>
     requires { from ≤ length items.now }
     ensures within { IfSome result (λ next. next.0 ≤ length items.now) }

@@ -30,7 +30,7 @@ fn tail(line: &[u8], i: usize) -> &[u8]
     &line[i..]
 }
 
-/// The next word, where there is one, and the rest behind it.
+/// The next word, where there is one, and the rest after it.
 pub fn next_word(rest: &[u8]) -> Result<(&[u8], &[u8]), WordsError>
     ensures some { IfOk result (λ n. words_left rest.now ≡ n.0.now ∷ words_left n.1.now) }
     ensures shorter { IfOk result (λ n. length n.1.now < length rest.now) }
@@ -78,7 +78,7 @@ fn numbers(alloc: Global, from: &[u8]) -> Result<Words, WordsError>
     Ok(Words::new(found))
 }
 
-/// The replies, and behind a `!` the emits. Memory may be refused.
+/// The replies, and after a `!` the emits. Memory may be refused.
 fn outputs(alloc: Global, from: &[u8]) -> Result<(Words, Words), WordsError>
     ensures { Tells result (outputs_of (words_left from.now)) }
 {

@@ -63,7 +63,7 @@ pub fn drive<R: Wait, K: MemRule>(
     round(rt, alloc, stm, runners, Until::NothingLeft, trace)
 }
 
-/// Each caller's turns until it stands so: one caller behind the other.
+/// Each caller's turns until it stands so: one caller after the other.
 fn round<R: Wait, K: MemRule>(
     rt: &R,
     alloc: Global,
@@ -86,7 +86,7 @@ fn round<R: Wait, K: MemRule>(
     Ok(())
 }
 
-/// The caller's turns until it stands so, behind what it gives up.
+/// The caller's turns until it stands so, after what it gives up.
 fn turns_of_caller<R: Wait, K: MemRule>(
     rt: &R,
     alloc: Global,

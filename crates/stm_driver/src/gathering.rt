@@ -77,9 +77,8 @@ impl OwnRows {
     }
 }
 
-/// Moves the rows of all lists to the end of `to`, where there is room for them: always the row that comes last in a
-/// report of those that end a list. Where each list stands in the order of a report, they come in the reverse of it, and
-/// a sort takes one pass.
+/// Moves the rows of all lists to the end of `to`, where there is room for them: a k-way merge from the back. Where
+/// each list stands in the order of a report, they come in the reverse of it, and a sort takes one pass.
 pub fn gather(lists: &mut [OwnRows], to: &mut Vec<Row>)
     requires { vec_len to.old + length (joined lists.old) ≤ vec_capacity to.old }
     ensures { IsPermutation (to.old.items ++ joined lists.old) to.new.items }

@@ -148,8 +148,7 @@ fn seat_all<'a, K: MemRule>(
     Ok(runners)
 }
 
-/// How the turns of all ended: where memory was refused to any of them by that, and else by the clock that the first of
-/// those found that found it at its limit.
+/// How the turns of all ended. Out of memory wins; otherwise the first caller's full clock.
 pub fn how_ended<K: MemRule>(runners: &[CachePadded<Runner<K>>]) -> Result<(), Halt>
     ensures { result ≡ how_all runners.now }
 {

@@ -130,7 +130,7 @@ fn put_operations(said: &mut String, spot: &Spot) -> Result<(), AllocError> {
     Ok(())
 }
 
-/// Appends forms, behind what parts them from those before.
+/// Appends forms, after what parts them from those before.
 fn put_forms(
     said: &mut String,
     parting: &'static str,

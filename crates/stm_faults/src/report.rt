@@ -123,7 +123,7 @@ fn place_of(report: &[u8], line: usize) -> (Place, &[u8]) {
     (place, rest)
 }
 
-/// Where the line stands behind one that begins with this word.
+/// Where the line stands after one that begins with this word.
 fn after(place: Place, word: &[u8]) -> Place {
     match place {
         Place::Title => Place::Rows,

@@ -74,7 +74,7 @@ fn may_stand(byte: u8) -> bool {
     32 <= byte && byte <= 126
 }
 
-/// What a byte is called, behind its number.
+/// What a byte is called, after its number.
 fn named(byte: u8) -> &'static str {
     match byte {
         b'\t' => ", a tab",

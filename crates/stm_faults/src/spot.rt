@@ -102,7 +102,7 @@ impl Spot {
     }
 }
 
-/// The second word of a line, of which this stands from the space behind the first one on.
+/// The second word of a line, of which this stands from the space after the first one on.
 pub(crate) fn second_word(rest: &[u8]) -> &[u8] {
     if rest.is_empty() {
         return rest;
@@ -128,7 +128,7 @@ fn region_of(left: u64) -> Place {
     }
 }
 
-/// Where the line behind that of an item stands, by its first word.
+/// Where the line after that of an item stands, by its first word.
 fn after_item(word: &[u8]) -> Place {
     if lines::is(word, b"tx") {
         Place::Ops
@@ -139,7 +139,7 @@ fn after_item(word: &[u8]) -> Place {
     }
 }
 
-/// Where the line behind that of an operation stands.
+/// Where the line after that of an operation stands.
 fn after_operation(word: &[u8]) -> Place {
     if lines::is(word, b"end") {
         Place::Items

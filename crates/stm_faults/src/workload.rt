@@ -104,7 +104,7 @@ fn wrong_word(spot: &Spot, bytes: &[u8]) -> &'static str {
     "it has a word that isn't allowed here, too many words or too few"
 }
 
-/// Whether a space stands beside another, before the first word or behind the last.
+/// Whether a space stands beside another, before the first word or after the last.
 fn has_wrong_space(bytes: &[u8]) -> bool {
     let mut is_space = true;
     for byte in bytes {

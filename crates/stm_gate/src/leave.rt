@@ -11,9 +11,8 @@ use stm_model::rule::MemRule;
 use stm_rule::local::Local;
 use stm_rule::stm::{Stm, Token};
 
-/// Ends an attempt of which nothing is left in the lock, the records or the clock; a promoted one that made
-/// an entry has stored its time in BASE and in DONE before. It leaves the descriptor's fields idle, is always
-/// done, and takes two steps at most.
+/// Ends an attempt that holds no lock, record or clock; a promoted one that made an entry has stored its time in BASE
+/// and in DONE before. It leaves the descriptor's fields idle, is always done, and takes two steps at most.
 pub fn leave<K: MemRule>(seat: &mut Token<K>, local: &mut Local, stm: &Stm<K>, caller: usize)
     requires seat { IsSeatOf stm.now caller seat.old }
     requires caller { caller < stm.now.config.callers }

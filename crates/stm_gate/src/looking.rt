@@ -41,7 +41,7 @@ fn first_unseen<K: MemRule>(desc: &Desc<K>) -> usize
     desc.local.next
 }
 
-/// Looks at one caller, behind those already seen, and answers its status: 0 is idle. The own caller
+/// Looks at one caller, after those already seen, and answers its status: 0 is idle. The own caller
 /// counts as idle.
 fn look_at<K: MemRule>(desc: &mut Desc<K>, stm: &Stm<K>, other: usize) -> u64
     requires stm { IsOf desc.old stm.now }

@@ -19,7 +19,7 @@ use stm_script::op::{COUNTER, LIST, Op};
 use stm_script::workload::{Gos, Header, Item, Items, Version, Workload};
 use tx_regions::region::Regions;
 
-/// The most transactions behind the opening one.
+/// The most transactions after the opening one.
 pub const MOST_TRANSACTIONS: u32 = 50_000;
 /// The accounts are the words 0 to 63.
 pub const ACCOUNTS: u32 = 64;

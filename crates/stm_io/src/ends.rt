@@ -16,7 +16,7 @@ pub trait Source {
     ghost faults: { Self → ℕ };
 
     /// Takes at most `buf.len()` bytes off what is left and puts them at the front of `buf`.
-    /// Returns how many. The bytes of `buf` behind them may have changed.
+    /// Returns how many. The bytes of `buf` after them may have changed.
     ///
     /// 0 on a buffer that isn't empty is the end of the input.
     ///

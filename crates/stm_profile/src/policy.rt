@@ -8,9 +8,9 @@ use crate::numbers::number_up_to;
 use std::str::FromStr;
 use thiserror::Error;
 
-/// The greatest number behind `round:`.
+/// The greatest number after `round:`.
 pub const MOST_ROUND: u32 = 65_536;
-/// The greatest number behind `state:`.
+/// The greatest number after `state:`.
 pub const MOST_STATE: u32 = 16;
 
 /// When a caller changes the algorithm, and to which; see [`choose`](crate::choosing::choose).
@@ -79,7 +79,7 @@ fn named(word: &str) -> Option<Policy>
     }
 }
 
-/// The policy of a name and of the number behind its colon.
+/// The policy of a name and of the number after its colon.
 fn numbered(name: &str, digits: &str) -> Option<Policy>
     ensures { MatchOption result (IsNoneNumbered name.now digits.now) (IsWordOf (name.now ++ 58 ∷ digits.now)) }
 {

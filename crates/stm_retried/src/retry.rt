@@ -151,7 +151,7 @@ fn close_twice(
     }
 }
 
-/// The words 5, 6, 7 and 0 of a memory that was closed, where at most one allocation is refused behind its opening.
+/// The words 5, 6, 7 and 0 of a memory that was closed, where at most one allocation is refused after its opening.
 pub fn run(alloc: Global) -> Result<Vec<u64>, Failure> {
     let Ok((stm, mut descs)) = Stm::new(alloc, SHORT, AnyMem) else {
         return Err(Failure::Memory);

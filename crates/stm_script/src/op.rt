@@ -52,7 +52,7 @@ pub enum Op {
     TreeContains(usize, u32),
     /// `tmin r`: replies the least key of the tree + 1, or 0 where it has none.
     TreeLeast(usize),
-    /// `qput r v`: puts a value below 2^32 behind the last one of the queue; replies 1 where it was added, and 2
+    /// `qput r v`: puts a value below 2^32 after the last one of the queue; replies 1 where it was added, and 2
     /// where every cell has one.
     QueuePut(usize, u32),
     /// `qget r`: takes the queue's first value; replies it + 1, or 0 where the queue is empty.

@@ -22,7 +22,7 @@ pub const MAX_KEY: u64 = 4_294_967_295;
 pub const MAX_WORDS_ONE: usize = 65_536;
 /// In version 1 with structures on, the words from this one on are theirs.
 pub const STRUCTS_BEGIN: usize = 64;
-/// The first word behind theirs, and so the least number of words that structures take there.
+/// First address after the structures, and so the least number of words where they are on.
 pub const STRUCTS_END: usize = 1_024;
 /// The stripes of version 1's counter.
 pub const STRIPES: usize = 4;

@@ -150,7 +150,7 @@ fn count_notes(stm: &Stm<AnyMem>, first: &mut Desc<AnyMem>, second: &mut Desc<An
     end_count();
 }
 
-/// Counts `checkpoint`, `roll_to` behind three writes, and `release`, in an attempt that has just begun. Answers whether
+/// Counts `checkpoint`, `roll_to` after three writes, and `release`, in an attempt that has just begun. Answers whether
 /// each came to something.
 fn count_marks(caller: &mut Member) -> bool {
     begin_count();

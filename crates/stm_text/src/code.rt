@@ -15,7 +15,7 @@ pub const RANGE: u32 = 6;
 /// No such algorithm, or one that isn't built.
 pub const ALG: u32 = 7;
 /// In version 1: structures on with fewer than 1,024 words; with them on, a plain address among their words; with them
-/// off, an operation on one. In version 2: a region that ends behind the heap or begins before the one above it ends; a
+/// off, an operation on one. In version 2: a region that ends past the heap or begins before the one above it ends; a
 /// plain address in a region; an operation whose region is for another structure.
 pub const REGION: u32 = 8;
 /// An `emit` without an earlier `irrev` in its transaction.
@@ -25,7 +25,7 @@ pub const MANY: u32 = 10;
 /// A byte after the `done` line: on the line after it, before all others of that line.
 pub const EXTRA: u32 = 11;
 /// A line that isn't in the form of a report, as one with a byte outside 32 to 126, or that may not stand here: a `mem`
-/// line of value 0 or of an address not above that of the `mem` line before it, a line behind `end`.
+/// line of value 0 or of an address not above that of the `mem` line before it, a line after `end`.
 pub const REPORT: u32 = 12;
 /// The report is longer than 134,217,728 bytes. On line 0, before all others.
 pub const LONG_REPORT: u32 = 13;

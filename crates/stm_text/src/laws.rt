@@ -37,7 +37,7 @@ pub fn text_is_built()
     ensures { TextIsBuilt }
 {}
 
-/// A text is parted behind the first of its lines that is `done`.
+/// A text is parted after the first of its lines that is `done`.
 pub fn text_is_parted()
     ensures { TextIsParted }
 {}

@@ -20,7 +20,7 @@ pub fn find(b: u8, s: &[u8]) -> Option<usize>
     None
 }
 
-/// What stands behind the byte at `i`.
+/// What stands after the byte at `i`.
 pub fn past(s: &[u8], i: usize) -> &[u8]
     requires { i < length s.now }
     ensures { result.now ≡ drop (i + 1) s.now }

@@ -1,11 +1,11 @@
-//! A text that goes on behind its first line `done`.
+//! A text that goes on after its first line `done`.
 ghost use Rattle.std.specs.Prelude.{◌≡◌, ◌≤◌, length};
 ghost use Rattle.stm_text.specs.Lines.{lines_of};
 ghost use Rattle.stm_text.specs.Parting.{to_done, behind_done};
 
 use crate::lines;
 
-/// A text up to and with its first line `done`, and what stands behind that line; the whole text and nothing where there
+/// A text up to and with its first line `done`, and what stands after that line; the whole text and nothing where there
 /// is no such line.
 pub fn part_at_done(text: &[u8]) -> (&[u8], &[u8])
     ensures head { result.0.now ≡ to_done text.now }

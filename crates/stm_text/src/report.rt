@@ -147,7 +147,7 @@ fn put_emits(text: &mut Vec<u8>, emits: &[u64]) -> Result<(), AllocError>
     put_numbers(text, emits)
 }
 
-/// Each behind a space.
+/// Each after a space.
 fn put_numbers(text: &mut Vec<u8>, numbers: &[u64]) -> Result<(), AllocError>
     ensures fits { OnOk result (All IsWord numbers.now) }
     ensures text { OnOk result (text.new.items ≡ text.old.items ++ spaced numbers.now) }
@@ -158,7 +158,7 @@ fn put_numbers(text: &mut Vec<u8>, numbers: &[u64]) -> Result<(), AllocError>
     Ok(())
 }
 
-/// A space, and the number behind it.
+/// A space, and the number after it.
 #[inline(always)]
 fn put_number(text: &mut Vec<u8>, n: u64) -> Result<(), AllocError>
     ensures { OnOk result (text.new.items ≡ text.old.items ++ (32 ∷ decimal n)) }

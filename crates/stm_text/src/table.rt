@@ -156,7 +156,7 @@ fn structures(words: usize, w: &[u8], v: &[u8]) -> Result<bool, u32>
     }
 }
 
-/// A word, parted behind its first six bytes: the name of a policy with its colon, and its number.
+/// A word, parted after its first six bytes: the name of a policy with its colon, and its number.
 fn parted(word: &[u8]) -> (&[u8], &[u8])
     ensures name { result.0.now ≡ take 6 word.now }
     ensures number { result.1.now ≡ drop 6 word.now }
@@ -168,7 +168,7 @@ fn parted(word: &[u8]) -> (&[u8], &[u8])
     }
 }
 
-/// The policy of a name with its colon, and of the number behind it.
+/// The policy of a name with its colon, and of the number after it.
 fn numbered_policy(name: &[u8], number: &[u8]) -> Result<Policy, u32>
     ensures { result ≡ numbered_policy name.now number.now }
 {
@@ -730,7 +730,7 @@ fn four_words_two(draft: &Draft, w: &[u8], a: &[u8], b: &[u8], v: &[u8]) -> Resu
     Err(code::WORD)
 }
 
-/// What the first line of a text does after those before it, or its lowest code; and where it has none, what stands behind
+/// What the first line of a text does after those before it, or its lowest code; and where it has none, what stands after
 /// that line.
 pub fn step_of<'t>(mode: Mode, draft: &Draft, text: &'t [u8]) -> (Result<Step, u32>, &'t [u8])
     ensures step { result.0 ≡ judged (by_words mode draft.now) (lines_of text.now) }

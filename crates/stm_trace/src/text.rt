@@ -186,7 +186,7 @@ fn put_alg(text: &mut String, words: &str, alg: Alg) -> Result<(), AllocError>
     text.push_str(alg.name())
 }
 
-/// Words, and a number behind them; two; three.
+/// Words, and a number after them; two; three.
 fn put_one(text: &mut String, words: &str, a: u64) -> Result<(), AllocError>
     ensures { OnOk result (string_bytes text.new ≡ string_bytes text.old ++ (words.now ++ spaced (a ∷ []))) }
 {

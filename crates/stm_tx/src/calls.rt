@@ -146,13 +146,13 @@ pub fn write<K: MemRule>(desc: &mut Desc<K>, stm: &Stm<K>, a: usize, x: u64) -> 
 /// Commits the attempt. An attempt that wrote asks that it keeps the memory rule.
 ///
 /// `Committed` comes only where the attempt wrote, `ReadOnly` only where it did not. All answers but `Again` leave
-/// the descriptor idle; behind `Again` the attempt is to be committed again or cancelled. Under OrecLazy and OrecEager the
-/// start moves, and the record of a word that was only read refuses it, only behind an earlier `Again`, or where the record
+/// the descriptor idle; after `Again` the attempt is to be committed again or cancelled. Under OrecLazy and OrecEager the
+/// start moves, and the record of a word that was only read refuses it, only after an earlier `Again`, or where the record
 /// of a word that it wrote was found free and newer than the start.
 ///
 /// Three steps at most under CGL, TML and Serial, five where the attempt was promoted, and one or two where it wrote
 /// nothing. Under OrecLazy three for each record and one for each word that it wrote, two, and a validation where
-/// such a record was newer than the start and behind `Again`; under OrecEager one for each record, and two. Under
+/// such a record was newer than the start and after `Again`; under OrecEager one for each record, and two. Under
 /// RingSW 22, one for each word that it wrote, and the check of a read.
 #[inline(always)]
 pub fn commit<K: MemRule>(desc: &mut Desc<K>, stm: &Stm<K>) -> Commit

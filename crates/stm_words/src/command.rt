@@ -21,6 +21,6 @@ pub enum Command {
         callers: u32,
         seed: u64,
     },
-    /// `check`: the workload that is read, and the report behind it.
+    /// `check`: the workload that is read, and the report after it.
     Check,
 }

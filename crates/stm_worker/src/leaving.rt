@@ -1,4 +1,4 @@
-//! How a worker leaves what it has open: behind a schedule, and before the memory is closed.
+//! How a worker leaves what it has open: after a schedule, and before the memory is closed.
 ghost use Rattle.std.specs.Prelude.{◌≡◌, ◌≤◌, [], true, MatchBool, MatchOption};
 ghost use Rattle.stm_rule.specs.Callers.{IsOf, IsSameCaller};
 ghost use Rattle.tx_answers.specs.Answers.{KeepsRule};

@@ -15,7 +15,7 @@ use stm_script::workload::Item;
 pub(crate) struct Room {
     /// For the replies of the next transaction.
     pub(crate) out: Replies,
-    /// For those of the transactions behind it, the last one's first.
+    /// For those of the transactions after it, the last one's first.
     pub(crate) spare: Vec<Replies>,
     pub(crate) rows: Vec<Row>,
     pub(crate) profile: Profile,
@@ -43,7 +43,7 @@ impl Room {
     }
 }
 
-/// Empty room for the replies of each transaction, the last one's first, behind an empty one of no room.
+/// Empty room for the replies of each transaction, the last one's first, after an empty one of no room.
 fn rooms(alloc: Global, items: &[Item]) -> Result<Vec<Replies>, Memory>
     ensures { IfOk result (λ spare. spare.items ≡ spares items.now) }
 {

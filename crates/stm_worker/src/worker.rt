@@ -74,7 +74,7 @@ pub struct Worker<'a, K: MemRule> {
     /// The regions of the memory.
     pub regions: &'a Regions,
     pub rows: Vec<Row>,
-    /// Empty room for the replies of the transactions behind the next one, the last one's first.
+    /// Empty room for the replies of the transactions after the next one, the last one's first.
     pub spare: Vec<Replies>,
     /// When the caller switches besides where its items say so.
     pub policy: Policy,
@@ -271,7 +271,7 @@ impl<'a, K: MemRule> Worker<'a, K> {
         Ok(Said::Reply(op, reply))
     }
 
-    /// The operation that is the next call, and those behind it: the next one of the open attempt, where that is no
+    /// The operation that is the next call, and those after it: the next one of the open attempt, where that is no
     /// cancel and no irrev and need not wait until the attempt is irrevocable.
     #[inline(always)]
     fn next_operation(&self) -> Option<(Op, &'a [Op])>
@@ -294,8 +294,8 @@ impl<'a, K: MemRule> Worker<'a, K> {
         }
     }
 
-    /// The next call, where it is no operation on the memory. It is in line so that a turn sets aside no room for
-    /// an answer before it knows which call is next.
+    /// The next call, where it is no operation on the memory. Inlined so that no stack is reserved for an answer until
+    /// the call is chosen.
     #[inline(always)]
     fn other_call<G: Turnstile>(
         &mut self,
@@ -596,7 +596,7 @@ impl<'a, K: MemRule> Worker<'a, K> {
     }
 
     /// Installs the algorithm, and opens the gate again. A switch that the policy asked for is none of the items,
-    /// and behind it the profile begins anew.
+    /// and after it the profile begins anew.
     fn install(&mut self, stm: &Stm<K>, alg: Alg)
         requires sound { Sound (K.good stm.now.rule) stm.now self.old }
         requires quiet { self.old.phase ≡ Phase.Quiet }
@@ -665,7 +665,7 @@ impl<'a, K: MemRule> Worker<'a, K> {
         self.chosen = self.asked();
     }
 
-    /// The switch that the policy asks for behind a transaction: to another algorithm than that of its last
+    /// The switch that the policy asks for after a transaction: to another algorithm than that of its last
     /// attempt.
     fn asked(&self) -> Option<Alg>
         ensures { result ≡ asked_by self.now.policy self.now.profile self.now.alg }
@@ -673,8 +673,8 @@ impl<'a, K: MemRule> Worker<'a, K> {
         other_than(self.alg, choose(self.policy, &self.profile, self.alg))
     }
 
-    /// The attempt has ended without a row, by this stop. A log that was too short for it will be so again, so
-    /// that the next attempt must become irrevocable.
+    /// The attempt has ended without a row, by this stop. A retry would overflow the same log, so after a full one the
+    /// next attempt must become irrevocable.
     #[inline(never)]
     fn stop(&mut self, stop: Stop)
         requires { IsCounted self.old.failed self.old.must }

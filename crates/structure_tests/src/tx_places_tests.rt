@@ -9,7 +9,7 @@ use tx_layout::layout::Layout;
 use tx_places::place::Place;
 use tx_places::word::Word;
 
-/// What a place holds behind the value that is put there.
+/// What a place holds after the value that is put there.
 fn again<T: Word, A: Access>(acc: &mut A, at: usize, value: T) -> Result<T, Stop>
     requires going { A.stopped acc.old ≡ None }
     requires within { at < A.words acc.old }

@@ -117,7 +117,7 @@ fn goes_round<A: Access>(acc: &mut A, queue: &Queue) -> Result<[bool; 7], Stop>
     ])
 }
 
-/// The words of a queue at 1 that went round: its front is cell 2, and the cells behind it are 0 and 1.
+/// The words of a queue at 1 that went round: its front is cell 2, and the cells after it are 0 and 1.
 const ROUND: &[u64] = &[0, 2, 3, 13, 14, 12, 0];
 
 #[test]

@@ -437,7 +437,7 @@ const MANY: &[Repeated] = &[
     ("tx 0\n", "read 0\n", 4096, "end\ndone\n", None),
     ("tx 0\n", "read 0\n", 4096, "read 0\n", Some((4108, 10))),
     ("tx 0\n", "read 0\n", 4096, "read 8\n", Some((4108, 6))),
-    // an `emit` that comes too early is one operation too many only behind an `irrev`
+    // an `emit` that comes too early is one operation too many only after an `irrev`
     (
         "tx 0\nread 0\n",
         "read 0\n",
@@ -676,7 +676,7 @@ const PARTED: &[(&str, &str, usize, usize)] = &[
     ("", "", 0, 0),
 ];
 
-/// A text is parted behind its first line `done`, and its lines are counted, the last one also without an LF.
+/// A text is parted after its first line `done`, and its lines are counted, the last one also without an LF.
 #[test]
 fn parts_a_text(rt: HostRuntime) {
     for (text, wanted, above, below) in PARTED {

@@ -23,7 +23,7 @@ use tx_transaction::transaction::Transaction;
 const MOST_FAILED: u32 = 16;
 
 /// Runs a transaction until it commits, and answers what it does. It took effect once, as the last thing that the
-/// caller did and behind all that it had seen: no attempt that failed before left a trace. None where the clock was
+/// caller did and after all that it had seen: no attempt that failed before left a trace. None where the clock was
 /// found at its limit, 2^62, and then no attempt took effect: close the memory, and open another. The pace counts it
 /// where it took effect.
 #[inline(always)]

@@ -121,8 +121,7 @@ fn begin<K: MemRule, O: Observer>(
     }
 }
 
-/// Ends an attempt that has done nothing, whatever its algorithm. Apart, so that the commit of those that go on stays in
-/// line where it is called.
+/// Ends an attempt that has done nothing, whatever its algorithm. Kept out of line so the hot commit can be inlined.
 #[cold]
 fn turn_back<K: MemRule>(desc: &mut Desc<K>, stm: &Stm<K>) -> Commit
     requires stm { IsOf desc.old stm.now }

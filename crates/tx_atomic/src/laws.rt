@@ -5,7 +5,7 @@ use stm_model::rule::MemRule;
 use tx_transaction::transaction::Transaction;
 
 /// Each transaction that took effect (`took` of `atomically`) has its moment in the history that begins with what its
-/// caller has seen since, as that which `close` tells of does: behind all that the caller had seen before it, the memory
+/// caller has seen since, as that which `close` tells of does: after all that the caller had seen before it, the memory
 /// is good and explains what the transaction read; and what it wrote, if anything, makes it that of the next moment, and
 /// is its caller's one entry.
 pub fn transactions_have_moments<K: MemRule, T: Transaction<K>>(rule: &K, transaction: &T)

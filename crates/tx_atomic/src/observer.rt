@@ -4,7 +4,7 @@ use crate::tally::Ended;
 
 /// Is told each refusal of a caller's attempts. What it does with it has no effect on what a transaction promises.
 pub trait Observer {
-    /// Is told, on the caller's own thread, why an attempt ended without a commit, or what a call was refused by behind
+    /// Is told, on the caller's own thread, why an attempt ended without a commit, or what a call was refused by after
     /// which the attempt goes on (`Busy`, `Again`): once each, before the caller pauses. An attempt that ended is over, and
     /// has left no trace.
     ///

@@ -41,19 +41,19 @@ impl Backoff {
     }
 
     /// Another caller was faster, or has closed the gate: pauses 32, 64 and at last 1,024 times, and from then on lets
-    /// another thread run behind each pause.
+    /// another thread run after each pause.
     pub fn wait(&mut self) {
         self.next = pause(self.next, LONGEST);
     }
 
     /// Another caller's attempt has the lock, or has made the clock odd: pauses 1,024, 2,048 and at last 16,384 times,
-    /// and lets another thread run behind each pause.
+    /// and lets another thread run after each pause.
     pub fn wait_for_lock(&mut self) {
         self.next = pause(self.next.max(SHORTEST_AT_LOCK), LONGEST_AT_LOCK);
     }
 
     /// Another caller was faster at the commit, which may be tried again: pauses once, 2 times and at last 1,024 times, and
-    /// from then on lets another thread run behind each pause.
+    /// from then on lets another thread run after each pause.
     pub fn wait_at_commit(&mut self) {
         self.at_commit = pause(self.at_commit, LONGEST);
     }

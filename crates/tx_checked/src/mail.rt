@@ -1,5 +1,5 @@
-//! The mail of a memory: its callers lay notes there for each other. A note that is found there is of this memory, and so
-//! two callers are found to be of one memory where a note that one of them lays in its mail is found in the other's.
+//! The mail of a memory: its callers lay notes there for each other. A note that is found there is of this memory. Two
+//! callers share a memory if one finds the other's note in its mail.
 ghost use Rattle.std.specs.Prelude.{◌≡◌, ◌≢◌, ◌<◌, [], ◌∷◌, IfOk, IfSome, Option};
 ghost use Rattle.stm_model.specs.declared.rule.AnyMem.{AnyMem};
 ghost use Rattle.stm_rule.specs.Callers.{Handle};

@@ -102,7 +102,7 @@ pub fn look_up(
     }
 }
 
-/// Takes a bucket for a new item behind these, of an address that none of them has: the one at which its lookup ends. Where
+/// Takes a bucket for a new item after these, of an address that none of them has: the one at which its lookup ends. Where
 /// the first is open, no address is compared.
 #[inline(always)]
 pub fn take(index: &mut [Bucket], items: &[(usize, u64)], generation: u32, inverse: usize, a: usize)

@@ -1,5 +1,5 @@
 //! What a mark of a write log keeps: how many items there were, and what each of these was that was written since. Rolled
-//! back, the log has its first items with these values; what came behind them is gone.
+//! back, the log has its first items with these values; what came after them is gone.
 ghost use Rattle.std.specs.Prelude.{◌≡◌, ◌≤◌, ◌<◌, ◌-◌, [], IfOk, length, get_or, set};
 ghost use Rattle.tx_logs.specs.LogStates.{LogState, next_generation};
 ghost use Rattle.tx_logs.specs.Marks.{AreBlank, CanMerge, Saves, at_mark, emptied_mark, merged, saved, blank_mark};

@@ -1,5 +1,5 @@
 //! The common part of the logs of writes, which are mostly short: items of address and value, in the order in which the
-//! addresses came. A word of bits stands in front; behind it a short log is looked through, and a longer one has an index.
+//! addresses came. A word of bits stands in front; then a short log is looked through, and a longer one has an index.
 ghost use Rattle.std.specs.Prelude.{◌*◌, ◌≡◌, ◌≤◌, ◌<◌, ◌+◌, ◌-◌, ◌%◌, ◌^◌, [], None, IfOk, MatchResult, length, max, slice_index_or, take};
 ghost use Rattle.stm_model.specs.Memories.{item_at, Once};
 ghost use Rattle.tx_logs.specs.Probing.{IsProbed};
@@ -151,7 +151,7 @@ impl ShortLog {
         self.items[i]
     }
 
-    /// The generation, 1 to 4,294,967,295: 1 more at each `clear`, and 1 again behind the last.
+    /// The generation, 1 to 4,294,967,295: 1 more at each `clear`, and 1 again after the last.
     pub fn generation(&self) -> u32
         ensures { result ≡ self.now.generation }
     {

@@ -219,7 +219,7 @@ impl WriteLog {
         self.log.item(i)
     }
 
-    /// The generation, 1 to 4,294,967,295: 1 more at each `clear`, and 1 again behind the last.
+    /// The generation, 1 to 4,294,967,295: 1 more at each `clear`, and 1 again after the last.
     pub fn generation(&self) -> u32
         ensures { result ≡ self.now.generation }
     {

@@ -9,7 +9,7 @@ use stm_model::stop::Stop;
 
 /// What one part of a transaction does, from whatever was done before, which keeps the rule. None where it gives way: on
 /// this memory it can't be done. Where it is done, it leaves the rule kept: so it may call structures, and others may
-/// behind it.
+/// after it.
 pub trait Part<K: MemRule> {
     ghost use Rattle.std.specs.Prelude.{ℕ, Option};
     ghost use Rattle.stm_model.specs.Logs.{Log};
@@ -22,7 +22,7 @@ pub trait Part<K: MemRule> {
     // how deep the parts in it stand in one another: 0 for none
     ghost depth: { Self → ℕ };
 
-    // what is so of its answer, and of what had been read and written before it and behind it
+    // what is so of its answer, and of what had been read and written before it and after it
     ghost tells: { Self → K → ℕ → Option Self.Output → Log → Log → Type 0 };
 
     /// Does it.

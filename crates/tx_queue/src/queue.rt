@@ -19,7 +19,7 @@ pub enum Put {
 /// A queue of values below 2^32, first in, first out. The word `at` is the front, the index of the cell that has
 /// the first value; the next word is the number of values. Then come the `cells`, one word each.
 ///
-/// The cells are a ring: the values are in the cells from the front on, and behind the last cell comes the
+/// The cells are a ring: the values are in the cells from the front on, and after the last cell comes the
 /// first. A cell that holds no value is 0.
 #[derive(Clone, Copy, Drop, Debug, PartialEq, Eq)]
 pub struct Queue {
@@ -34,7 +34,7 @@ impl Queue {
         Queue { at, cells }
     }
 
-    /// The cell that many cells behind this one in the ring. It subtracts first, since the sum may not fit.
+    /// The cell that many cells after this one in the ring. It subtracts first, since the sum may not fit.
     fn advance(&self, cell: u64, by: u64) -> usize
         requires from { cell < self.now.cells }
         requires by { by ≤ self.now.cells }
@@ -48,7 +48,7 @@ impl Queue {
         }
     }
 
-    /// Puts the value behind the last one. Two reads and two writes where it answers `Added`, else one read.
+    /// Puts the value after the last one. Two reads and two writes where it answers `Added`, else one read.
     ///
     /// # Errors
     /// The Stop of the access.

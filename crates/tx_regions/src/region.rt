@@ -192,7 +192,7 @@ impl Regions {
         Ok(Regions { items })
     }
 
-    /// One more region, behind the others. Memory may be refused.
+    /// One more region, after the others. Memory may be refused.
     pub fn push(&mut self, region: Region) -> Result<(), AllocError>
         ensures { OnOk result (self.new ≡ self.old ++ region ∷ []) }
     {

@@ -18,7 +18,7 @@ pub trait Job<R: Wait, K: MemRule> {
     ghost needs: { Self → K → ℕ → Type 0 } = { λ job rule words. 0 < words };
 
     // what is so of a caller's answer: by the rule, the number of words, the caller's number, and what it knew before and
-    // behind its work. Where nothing is said: nothing
+    // after its work. Where nothing is said: nothing
     ghost tells: { Self → K → ℕ → ℕ → Self.Output → Known → Known → Type 0 } = { λ job rule words caller answer before after. Unit {0} };
 
     fn work(&self, caller: &mut Caller<'_, R, K>) -> Self::Output

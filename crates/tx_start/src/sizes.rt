@@ -4,7 +4,7 @@ ghost use Rattle.stm_model.specs.Configs.{IsConfig};
 
 use stm_tx::Config;
 
-/// Sizes for so many words and callers: a record for each word, up to 1,024; 16 ring slots; logs of 64 items, behind
+/// Sizes for so many words and callers: a record for each word, up to 1,024; 16 ring slots; logs of 64 items, after
 /// which an attempt is made irrevocable and needs none; the clock at 0; no fences.
 pub fn sizes(words: usize, callers: usize) -> Config
     requires words { (1 ≤ words) × (words ≤ 1048576) }

@@ -10,7 +10,7 @@ use stm_model::stop::Stop;
 /// What one transaction does to a memory under a rule.
 ///
 /// Its attempts see one memory each, however they end. So what it says of its answer holds of attempts too that are
-/// refused behind it, and it needs no test for what the rule excludes.
+/// refused after it, and it needs no test for what the rule excludes.
 pub trait Transaction<K: MemRule> {
     ghost use Rattle.std.specs.Prelude.{ℕ, ◌<◌};
     ghost use Rattle.stm_model.specs.Logs.{Log};
