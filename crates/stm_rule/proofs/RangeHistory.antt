@@ -30,10 +30,10 @@ module _ (good : (ℕ → ℕ) → Type 0) (c : Config) where
 
   pub range_is_history_lem : RangeIsHistory good c
   range_is_history_lem n ds x r a has =
-      let h = r.rule.fence.holder n has in
+      let p = r.rule.fence.past n in
       let f = (x.world.views n).fence.past.front in
-      let q = all-kept ds x r a f h.front in
+      let q = all-kept ds x r a f p.front in
       let w = (after_deeds good c ds x).world in
       let rest = upto-rest w.history (w.clock + 1) f q.1.rule.core.history.below in
-      let same : upto w.history f ≡ (x.world.views n).fence.past.seen = q.0 ∙ sym h.past in
+      let same : upto w.history f ≡ (x.world.views n).fence.past.seen = q.0 ∙ sym p.seen in
       (public_history rest.0, ap public_history (rest.1.0 ∙ ap (λ (l : List Entry). rest.0 ++ l) same) ∙ public_history-append rest.0 (x.world.views n).fence.past.seen, rest.1.1)
