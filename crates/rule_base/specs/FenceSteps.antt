@@ -108,12 +108,14 @@ pub record CanFenceCommit (good : (ℕ → ℕ) → Type 0) (alg : Alg) (t : ℕ
   pub wrote : v.fence.stores ≢ []
   pub keeps : KeepsFenced good v.fence
 
--- what the entry shows: a legal history up to it, of which the seat had seen a part
+-- what the entry shows: a legal history up to it, of which the seat had seen a part, and found a part as it took the range
 pub record FenceCommits (good : (ℕ → ℕ) → Type 0) (c : Config) (n t : ℕ) (w : World) (v : View) (x : ℕ) : Type 0 where
   pub legal : Legal good c (fence_entry n t v ∷ w.history)
   pub below : Below (fence_entry n t v ∷ w.history) (t + 1)
   pub seen : v.history.seen ≡ upto w.history v.history.front
   pub front : v.history.front < t
+  pub past : v.fence.past.seen ≡ upto w.history v.fence.past.front
+  pub past_front : v.fence.past.front < t
 
 -- store the gate, still held, without a fence
 abbrev pub unfence : ℕ → Alg → StepKind

@@ -99,6 +99,8 @@ module _ (good : (ℕ → ℕ) → Type 0) (c : Config) (n : ℕ) where
       below = (omega arith, below);
       seen = (g.core.history.known n).seen;
       front = (let f = (g.core.history.known n).front in let l = later in omega arith);
+      past = (g.fence.past n).seen;
+      past_front = (let f = (g.fence.past n).front in let l = later in omega arith);
     };
   }
     where
