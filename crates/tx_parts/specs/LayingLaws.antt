@@ -171,7 +171,7 @@ keeps-more good words l k more keeps m ok long sees =
 
 -- where the same was read, as good a memory explains it
 pub explained-on : (good good' : List ℕ → Type 0) (words words' : ℕ) (l k : Log) → SameMemories good good' → words' ≡ words → k.reads ≡ l.reads → IsExplained good words l → IsExplained good' words' k
-explained-on good good' words words' l k same w e h = (h.0, (same h.0).0 h.1, h.2 ∙ sym w, subst (Explains h.0) (sym e) h.3)
+explained-on good good' words words' l k same w e h = (h.0, (same h.0).0 h.1, h.2 ∙ sym w, subst (Explains h.0) (sym e) h.3, h.4)
 
 -- and what kept the rule keeps it
 pub keeps-on : (good : List ℕ → Type 0) (words words' : ℕ) (l k : Log) → words' ≡ words → k ≡ l → Under good words l good → Under good words' k good
