@@ -32,7 +32,7 @@ saw good words j sight fine some is =
 
 -- who writes nothing keeps the rule
 pub looks-keep : (good : List ℕ → Type 0) (words : ℕ) (j : Log) → j.writes ≡ [] → Keeps good words j
-looks-keep good words j none = λ m fine len ex. subst (λ (ws : List (ℕ × ℕ)). good (overlay m ws)) (sym none) fine
+looks-keep good words j none = λ m fine len ex small. subst (λ (ws : List (ℕ × ℕ)). good (overlay m ws)) (sym none) fine
 
 -- a filling leaves nothing of the one before it
 pub filled : (x : ℕ) (m : List ℕ) → length m ≡ 4 → overlay m (writes_of x) ≡ filling x

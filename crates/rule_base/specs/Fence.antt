@@ -51,13 +51,16 @@ pub record FenceScene : Type 0 where
 abbrev pub fence_scene : World → FenceScene
 fence_scene w = record { clock = w.clock; fence = fence_of w.gate; heap = w.heap; history = w.history; views = parts (λ (v : View). v.fence) w.views; phases = parts (λ (v : View). v.gate.phase) w.views; owed = parts owes w.views }
 
+-- what a caller found in the history as it last took a range: a prefix that no later entry enters
+pub record KnowsPast (s : FenceScene) (v : FenceView) : Type 0 where
+  pub seen : v.past.seen ≡ upto s.history v.past.front
+  pub front : v.past.front ≤ s.clock
+
 -- what stands of the caller whose fence it is
 pub record FenceHolder (s : FenceScene) (v : FenceView) : Type 0 where
   -- in the range lies the memory under its stores: its loads see them, and the give-back makes the heap the memory again
   pub stored : (a : ℕ) → fenced s.fence a ≡ true → s.heap a ≡ over v.stores a (word_now s.history a)
   -- the memory there is that at the fence still
-  pub past : v.past.seen ≡ upto s.history v.past.front
-  pub front : v.past.front ≤ s.clock
   pub still : (a : ℕ) → fenced s.fence a ≡ true → word_now s.history a ≡ word_now v.past.seen a
   -- its reads are of that memory, so the entry of a give-back is legal
   pub sees : Explains (word_now s.history) v.reads
@@ -77,5 +80,7 @@ pub record FenceRule (c : Config) (s : FenceScene) : Type 0 where
   -- its range lies in the memory
   pub inside : (a : ℕ) → fenced s.fence a ≡ true → a < c.words
   pub holder : (n : ℕ) → (s.views n).holds ≡ true → FenceHolder s (s.views n)
+  -- also of who gave its range back
+  pub past : (n : ℕ) → KnowsPast s (s.views n)
   -- no attempt stored there, nor has to
   pub apart : (n a : ℕ) → s.phases n ≡ In → s.owed n a ≡ true → fenced s.fence a ≡ false

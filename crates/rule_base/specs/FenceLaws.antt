@@ -13,7 +13,7 @@ use Rattle.rule_base.specs.declared.views.Phase.TheVariants.{In}
 use Rattle.rule_base.specs.declared.views.View.{View}
 use Rattle.rule_base.specs.Encodings.{fence_of, fence_owner, fence_number, fenced}
 use Rattle.rule_base.specs.EncodingLemmas.{fence_owner-number, fenced-inside, fenced-none}
-use Rattle.rule_base.specs.Fence.{veiled, veil, owes, FenceScene, fence_scene, FenceHolder, FenceRule}
+use Rattle.rule_base.specs.Fence.{veiled, veil, owes, FenceScene, fence_scene, KnowsPast, FenceHolder, FenceRule}
 use Rattle.rule_base.specs.FenceSteps.{no_fence}
 use Rattle.rule_base.specs.History.{over, touches, word_now, upto, Small, Explains, Below}
 use Rattle.rule_base.specs.HistoryLemmas.{over-miss, upto-all, small-more}
@@ -66,11 +66,9 @@ entry-apart fence h e apart a f = over-miss e.writes a (word_now h a) (clear (to
     clear false t = refl
 
 -- what stands of the holder, where the range and what lies there stay
-pub holder-stays : (s t : FenceScene) (v : FenceView) → t.fence ≡ s.fence → s.clock ≤ t.clock → ((a : ℕ) → fenced s.fence a ≡ true → t.heap a ≡ s.heap a) → ((a : ℕ) → fenced s.fence a ≡ true → word_now t.history a ≡ word_now s.history a) → ((f : ℕ) → f ≤ s.clock → upto t.history f ≡ upto s.history f) → FenceHolder s v → FenceHolder t v
-holder-stays s t v fence up heap word seen h = record {
+pub holder-stays : (s t : FenceScene) (v : FenceView) → t.fence ≡ s.fence → ((a : ℕ) → fenced s.fence a ≡ true → t.heap a ≡ s.heap a) → ((a : ℕ) → fenced s.fence a ≡ true → word_now t.history a ≡ word_now s.history a) → FenceHolder s v → FenceHolder t v
+holder-stays s t v fence heap word h = record {
   stored = λ a e. let f : fenced s.fence a ≡ true = ap (λ k. fenced k a) (sym fence) ∙ e in heap a f ∙ (h.stored a f ∙ ap (over v.stores a) (sym (word a f)));
-  past = h.past ∙ sym (seen v.past.front h.front);
-  front = (let l = h.front in omega arith);
   still = λ a e. let f : fenced s.fence a ≡ true = ap (λ k. fenced k a) (sym fence) ∙ e in word a f ∙ h.still a f;
   sees = λ a. go a (touches v.reads a) refl;
   reads_inside = λ a e. ap (λ k. fenced k a) fence ∙ h.reads_inside a e;
@@ -81,6 +79,10 @@ holder-stays s t v fence up heap word seen h = record {
     go : (a : ℕ) (b : Bool) → touches v.reads a ≡ b → over v.reads a (word_now t.history a) ≡ word_now t.history a
     go a true e = let w = word a (h.reads_inside a e) in subst (λ (k : ℕ). over v.reads a k ≡ k) (sym w) (h.sees a)
     go a false e = over-miss v.reads a (word_now t.history a) e
+
+-- later entries come later
+pub past-stays : (s t : FenceScene) (v : FenceView) → s.clock ≤ t.clock → ((f : ℕ) → f ≤ s.clock → upto t.history f ≡ upto s.history f) → KnowsPast s v → KnowsPast t v
+past-stays s t v up seen p = record { seen = p.seen ∙ sym (seen v.past.front p.front); front = (let l = p.front in omega arith) }
 
 module _ (c : Config) where
   fence_scene-put : (w x : World) (n : ℕ) (v : View) → x.views ≡ put w.views n v → fence_scene x ≡ record { clock = x.clock; fence = fence_of x.gate; heap = x.heap; history = x.history; views = put (fence_scene w).views n v.fence; phases = put (fence_scene w).phases n v.gate.phase; owed = put (fence_scene w).owed n (owes v) }
@@ -113,6 +115,9 @@ module _ (c : Config) where
     holder = put-all (fence_scene w).views n v.fence (λ m u. u.holds ≡ true → FenceHolder after u)
         (λ t. kept v.fence (subst (λ (u : FenceView). FenceHolder (fence_scene w) u) (sym own) (r.holder n (ap (λ (u : FenceView). u.holds) (sym own) ∙ t))))
         (λ m d t. kept (w.views m).fence (r.holder m t));
+    past = put-all (fence_scene w).views n v.fence (λ m u. KnowsPast after u)
+        (past-stays (fence_scene w) after v.fence up seen (subst (λ (u : FenceView). KnowsPast (fence_scene w) u) (sym own) (r.past n)))
+        (λ m d. past-stays (fence_scene w) after (w.views m).fence up seen (r.past m));
     apart = λ m a p o. ap (λ k. fenced k a) fence ∙ other m a (eqb m n) (λ e. eqb-true m n e) (λ e. eqb-false m n e) p o;
   })
     where
@@ -120,7 +125,7 @@ module _ (c : Config) where
       after = record { clock = x.clock; fence = fence_of x.gate; heap = x.heap; history = x.history; views = put (fence_scene w).views n v.fence; phases = put (fence_scene w).phases n v.gate.phase; owed = put (fence_scene w).owed n (owes v) }
 
       kept : (u : FenceView) → FenceHolder (fence_scene w) u → FenceHolder after u
-      kept u h = holder-stays (fence_scene w) after u fence up heap word seen h
+      kept u h = holder-stays (fence_scene w) after u fence heap word h
 
       here : (m : ℕ) → m ≡ n → {A : Type 0} (f : ℕ → A) (y : A) → put f n y m ≡ y
       here m e f y = grind (arith, e)
@@ -134,11 +139,12 @@ module _ (c : Config) where
   one-holder s m n r hm hn = let a = (r.mine m hm).0 in let b = (r.mine n hn).0 in omega arith
 
   -- A STEP OF THE HOLDER, which keeps its fence: what is said of it is made anew
-  pub fence-held : (w x : World) (n : ℕ) (v : View) → x.views ≡ put w.views n v → fence_of x.gate ≡ fence_of w.gate → (w.views n).fence.holds ≡ true → v.fence.holds ≡ true → v.fence.number ≡ (w.views n).fence.number
+  pub fence-held : (w x : World) (n : ℕ) (v : View) → x.views ≡ put w.views n v → fence_of x.gate ≡ fence_of w.gate → w.clock ≤ x.clock → ((f : ℕ) → f ≤ w.clock → upto x.history f ≡ upto w.history f) → (w.views n).fence.holds ≡ true → v.fence.holds ≡ true → v.fence.number ≡ (w.views n).fence.number
       → FenceHolder (record { clock = x.clock; fence = fence_of x.gate; heap = x.heap; history = x.history; views = put (fence_scene w).views n v.fence; phases = put (fence_scene w).phases n v.gate.phase; owed = put (fence_scene w).owed n (owes v) }) v.fence
+      → KnowsPast (record { clock = x.clock; fence = fence_of x.gate; heap = x.heap; history = x.history; views = put (fence_scene w).views n v.fence; phases = put (fence_scene w).phases n v.gate.phase; owed = put (fence_scene w).owed n (owes v) }) v.fence
       → v.gate.phase ≡ (w.views n).gate.phase → owes v ≡ owes (w.views n)
       → FenceRule c (fence_scene w) → FenceRule c (fence_scene x)
-  fence-held w x n v is fence has holds number holder phase owed r = subst (FenceRule c) (sym (fence_scene-put w x n v is)) (record {
+  fence-held w x n v is fence up seen has holds number holder past phase owed r = subst (FenceRule c) (sym (fence_scene-put w x n v is)) (record {
     mine = put-all (fence_scene w).views n v.fence (λ m u. u.holds ≡ true → (fence_owner (fence_of x.gate) ≡ 1 + m) × (fence_of x.gate ≡ u.number))
         (λ t. let k = r.mine n has in (ap fence_owner fence ∙ k.0, fence ∙ (k.1 ∙ sym number)))
         (λ m d t. absurd (d (one-holder (fence_scene w) m n r t has)));
@@ -152,6 +158,7 @@ module _ (c : Config) where
     holder = put-all (fence_scene w).views n v.fence (λ m u. u.holds ≡ true → FenceHolder after u)
         (λ t. holder)
         (λ m d t. absurd (d (one-holder (fence_scene w) m n r t has)));
+    past = put-all (fence_scene w).views n v.fence (λ m u. KnowsPast after u) past (λ m d. past-stays (fence_scene w) after (w.views m).fence up seen (r.past m));
     apart = put-all (fence_scene w).views n v.fence (λ m u. (a : ℕ) → after.phases m ≡ In → after.owed m a ≡ true → fenced (fence_of x.gate) a ≡ false)
         (λ a p o. ap (λ k. fenced k a) fence ∙ r.apart n a (sym (here n refl (fence_scene w).phases v.gate.phase ∙ phase) ∙ p) (ap (λ (f : ℕ → Bool). f a) (sym (here n refl (fence_scene w).owed (owes v) ∙ owed)) ∙ o))
         (λ m d a p o. ap (λ k. fenced k a) fence ∙ r.apart m a (sym (put-else (fence_scene w).phases n m v.gate.phase d) ∙ p) (ap (λ (f : ℕ → Bool). f a) (sym (put-else (fence_scene w).owed n m (owes v) d)) ∙ o));
@@ -183,8 +190,6 @@ module _ (c : Config) where
     holder = put-all (fence_scene w).views n v.fence (λ m u. u.holds ≡ true → FenceHolder after u)
         (λ t. subst (FenceHolder after) (sym own) (record {
           stored = λ a e. ap (λ (f : ℕ → ℕ). f a) heap ∙ (lies a ∙ ap (λ (h : List Entry). word_now h a) (sym history));
-          past = sym (ap (λ (h : List Entry). upto h w.clock) history ∙ upto-all w.history (w.clock + 1) w.clock below (le_refl (w.clock + 1)));
-          front = (let k = clock in omega arith);
           still = λ a e. ap (λ (h : List Entry). word_now h a) history;
           sees = λ a. refl;
           reads_inside = λ a e. absurd cc;
@@ -192,6 +197,12 @@ module _ (c : Config) where
           stores_small = λ a d l. l;
         }))
         (λ m d t. absurd (nobody m t));
+    past = put-all (fence_scene w).views n v.fence (λ m u. KnowsPast after u)
+        (subst (KnowsPast after) (sym own) (record {
+          seen = sym (ap (λ (h : List Entry). upto h w.clock) history ∙ upto-all w.history (w.clock + 1) w.clock below (le_refl (w.clock + 1)));
+          front = (let k = clock in omega arith);
+        }))
+        (λ m d. past-stays (fence_scene w) after (w.views m).fence (let k = clock in omega arith) (λ f l. ap (λ (h : List Entry). upto h f) history) (r.past m));
     apart = λ m a p o. absurd (out m p);
   })
     where
@@ -205,8 +216,8 @@ module _ (c : Config) where
       nobody m t = let k : fence_owner (fence_of w.gate) ≡ 1 + m = (r.mine m t).0 in let z : fence_owner (fence_of w.gate) ≡ fence_owner 0 = ap fence_owner was in let y : fence_owner 0 ≡ 0 = refl in omega arith
 
   -- THE FENCE GOES: the memory lies in its range
-  pub fence-goes : (w x : World) (n : ℕ) (v : View) → x.views ≡ put w.views n v → fence_of x.gate ≡ 0 → (w.views n).fence.holds ≡ true → v.fence.holds ≡ false → FenceRule c (fence_scene w) → FenceRule c (fence_scene x)
-  fence-goes w x n v is fence has gone r = subst (FenceRule c) (sym (fence_scene-put w x n v is)) (record {
+  pub fence-goes : (w x : World) (n : ℕ) (v : View) → x.views ≡ put w.views n v → fence_of x.gate ≡ 0 → x.clock ≡ w.clock → x.history ≡ w.history → (w.views n).fence.holds ≡ true → v.fence ≡ no_fence (w.views n).fence → FenceRule c (fence_scene w) → FenceRule c (fence_scene x)
+  fence-goes w x n v is fence clock history has own r = subst (FenceRule c) (sym (fence_scene-put w x n v is)) (record {
     mine = put-all (fence_scene w).views n v.fence (λ m u. u.holds ≡ true → (fence_owner (fence_of x.gate) ≡ 1 + m) × (fence_of x.gate ≡ u.number))
         (λ t. absurd (let f : true ≡ false = sym t ∙ gone in cc))
         (λ m d t. absurd (d (one-holder (fence_scene w) m n r t has)));
@@ -218,8 +229,17 @@ module _ (c : Config) where
     holder = put-all (fence_scene w).views n v.fence (λ m u. u.holds ≡ true → FenceHolder after u)
         (λ t. absurd (let f : true ≡ false = sym t ∙ gone in cc))
         (λ m d t. absurd (d (one-holder (fence_scene w) m n r t has)));
+    past = put-all (fence_scene w).views n v.fence (λ m u. KnowsPast after u)
+        (subst (KnowsPast after) (sym own) (record { seen = (kept n).seen; front = (kept n).front }))
+        (λ m d. kept m);
     apart = λ m a p o. ap (λ k. fenced k a) fence ∙ fenced-none a;
   })
     where
+      gone : v.fence.holds ≡ false
+      gone = ap (λ (u : FenceView). u.holds) own
+
       after : FenceScene
       after = record { clock = x.clock; fence = fence_of x.gate; heap = x.heap; history = x.history; views = put (fence_scene w).views n v.fence; phases = put (fence_scene w).phases n v.gate.phase; owed = put (fence_scene w).owed n (owes v) }
+
+      kept : (m : ℕ) → KnowsPast after (w.views m).fence
+      kept m = past-stays (fence_scene w) after (w.views m).fence (let k = clock in omega arith) (λ f l. ap (λ (h : List Entry). upto h f) history) (r.past m)

@@ -11,7 +11,7 @@ use Rattle.rule_base.specs.declared.views.FenceView.{FenceView}
 use Rattle.rule_base.specs.declared.views.Phase.TheVariants.{Closing}
 use Rattle.rule_base.specs.declared.views.View.{View}
 use Rattle.rule_base.specs.Encodings.{gate_word, fence_number, fenced}
-use Rattle.rule_base.specs.History.{over, touches, word_now, upto, Below, Legal}
+use Rattle.rule_base.specs.History.{over, touches, word_now, upto, AreWords, Below, Legal}
 use Rattle.rule_base.specs.InstallSteps.{HasChecked}
 use Rattle.rule_base.specs.StepKinds.{StepKind, same_history}
 use Rattle.rule_base.specs.declared.views.Act.TheVariants.{Load, Store}
@@ -93,9 +93,9 @@ fence_commit n alg t = record {
   grown = λ w v x. fence_entry n t v ∷ w.history;
 }
 
--- THE MEMORY RULE of a give-back: from every good memory that has in the range what it had at the fence, the stores lead to a good one
+-- THE MEMORY RULE of a give-back: from every good memory of words that has in the range what it had at the fence, the stores lead to a good one
 abbrev pub KeepsFenced : ((ℕ → ℕ) → Type 0) → FenceView → Type 0
-KeepsFenced good f = (m : ℕ → ℕ) → good m → ((a : ℕ) → fenced f.number a ≡ true → m a ≡ word_now f.past.seen a) → good (λ a. over f.stores a (m a))
+KeepsFenced good f = (m : ℕ → ℕ) → good m → ((a : ℕ) → fenced f.number a ≡ true → m a ≡ word_now f.past.seen a) → AreWords m → good (λ a. over f.stores a (m a))
 
 pub record CanFenceCommit (good : (ℕ → ℕ) → Type 0) (alg : Alg) (t : ℕ) (v : View) : Type 0 where
   pub phase : v.gate.phase ≡ Closing
@@ -108,12 +108,14 @@ pub record CanFenceCommit (good : (ℕ → ℕ) → Type 0) (alg : Alg) (t : ℕ
   pub wrote : v.fence.stores ≢ []
   pub keeps : KeepsFenced good v.fence
 
--- what the entry shows: a legal history up to it, of which the seat had seen a part
+-- what the entry shows: a legal history up to it, of which the seat had seen a part, and found a part as it took the range
 pub record FenceCommits (good : (ℕ → ℕ) → Type 0) (c : Config) (n t : ℕ) (w : World) (v : View) (x : ℕ) : Type 0 where
   pub legal : Legal good c (fence_entry n t v ∷ w.history)
   pub below : Below (fence_entry n t v ∷ w.history) (t + 1)
   pub seen : v.history.seen ≡ upto w.history v.history.front
   pub front : v.history.front < t
+  pub past : v.fence.past.seen ≡ upto w.history v.fence.past.front
+  pub past_front : v.fence.past.front < t
 
 -- store the gate, still held, without a fence
 abbrev pub unfence : ℕ → Alg → StepKind

@@ -114,6 +114,15 @@ module _ (good : (ℕ → ℕ) → Type 0) (c : Config) where
   legal-small [] a l = grind arith
   legal-small (e ∷ h) a l = l.0.writes_small a (word_now h a) (legal-small h a l.1)
 
+  -- at each time
+  pub small-always : (h : List Entry) (s a : ℕ) → Legal good c h → word_at h s a < 2 ^ 64
+  small-always [] s a l = grind arith
+  small-always (e ∷ h) s a l = by (nat_le e.time s) (small-always h s a l.1)
+    where
+      by : (x : Bool) → word_at h s a < 2 ^ 64 → (if x then over e.writes a (word_at h s a) else word_at h s a) < 2 ^ 64
+      by true low = l.0.writes_small a (word_at h s a) low
+      by false low = low
+
   -- what is seen of a legal history is legal
   pub legal-upto : (h : List Entry) (t f : ℕ) → Below h t → Legal good c h → Legal good c (upto h f)
   legal-upto [] t f b l = l

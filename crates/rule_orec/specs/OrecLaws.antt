@@ -13,7 +13,7 @@ use Rattle.rule_base.specs.EncodingLemmas.{is_owned-free, version_of-free, is_ow
 use Rattle.rule_base.specs.Encodings.{free_record, owned_record, is_owned, version_of, owner_of}
 use Rattle.rule_base.specs.History.{over, touches, word_at, word_now, Explains, Below, upto, Follows, Legal}
 use Rattle.rule_base.specs.HistoryRule.{HistoryRule, history_scene}
-use Rattle.rule_base.specs.HistoryLemmas.{word_at-all, word_now-upto, below-upto, legal-upto, legal-good}
+use Rattle.rule_base.specs.HistoryLemmas.{word_at-all, word_now-upto, below-upto, legal-upto, legal-good, legal-small}
 use Rattle.rule_base.specs.HistoryRuleLemmas.{advances-same, advances-entry, history-kept, history-seen, history-upto, history-raised, history-entry}
 use Rattle.rule_base.specs.PutLemmas.{put-all, parts-put, parts-kept}
 use Rattle.rule_base.specs.Ranks.{Rec, rec_of}
@@ -531,7 +531,7 @@ module _ (good : (ℕ → ℕ) → Type 0) (c : Config) where
               writes_inside = may.writes_inside;
               writes_small = may.writes_small;
               writes_some = may.wrote;
-              leaves = may.keeps (word_now w.history) (legal-good good c w.history r.history.legal) sees;
+              leaves = may.keeps (word_now w.history) (legal-good good c w.history r.history.legal) sees (λ a. legal-small good c w.history a r.history.legal);
             }
         go false q = both_of w (at false) (next false) refl (record { lock = refl; taken = refl; phase = refl; inside = refl; writer = refl }) may.has.runs.phase
             (history-kept good c w (at false) n (next false) refl refl refl refl r.history)

@@ -287,7 +287,7 @@ module _ (good : (ℕ → ℕ) → Type 0) (c : Config) (alg : Alg) (n : ℕ) wh
         writes_inside = d.stores_inside;
         writes_small = d.stores_small;
         writes_some = may.wrote;
-        leaves = may.keeps (word_now w.history) (legal-good good c w.history r.history.legal) d.sees;
+        leaves = may.keeps (word_now w.history) (legal-good good c w.history r.history.legal) d.sees (λ a. legal-small good c w.history a r.history.legal);
       }
 
   -- THE STORE OF A RECORD with the entry's time

@@ -8,7 +8,7 @@ use Rattle.stm_model.specs.declared.config.Config.{Config}
 use Rattle.rule_base.specs.declared.layout.TheConstants.{SLOT_WORDS}
 use Rattle.rule_base.specs.declared.views.View.{View}
 use Rattle.rule_base.specs.History.{over, touches, without, word_now, Explains, Below, upto, Follows}
-use Rattle.rule_base.specs.HistoryLemmas.{over-miss, over-hit, touches-without, over-without, word_at-all, upto-all, below-more, legal-good}
+use Rattle.rule_base.specs.HistoryLemmas.{over-miss, over-hit, touches-without, over-without, word_at-all, upto-all, below-more, legal-good, legal-small}
 use Rattle.rule_base.specs.HistoryRuleLemmas.{advances-same, advances-entry, history-kept, history-entry}
 use Rattle.rule_base.specs.PutLemmas.{put-all, put-here, put-else}
 use Rattle.rule_base.specs.RecordLemmas.{records-stay}
@@ -313,7 +313,7 @@ module _ (F : Filters) (good : (ℕ → ℕ) → Type 0) (c : Config) (n : ℕ) 
         writes_inside = may.writes_inside;
         writes_small = may.writes_small;
         writes_some = may.wrote;
-        leaves = may.keeps (word_now w.history) (legal-good good c w.history r.history.legal) sees;
+        leaves = may.keeps (word_now w.history) (legal-good good c w.history r.history.legal) sees (λ a. legal-small good c w.history a r.history.legal);
       }
 
   pub ring_writes : (a z : ℕ) → StepLaw (RingWorld F good c) (ring_write a z) Nothing n (CanRingWrite a z)

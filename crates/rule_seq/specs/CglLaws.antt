@@ -319,7 +319,7 @@ module _ (good : (ℕ → ℕ) → Type 0) (c : Config) (n : ℕ) where
         writes_inside = h.stores_inside;
         writes_small = h.stores_small;
         writes_some = may.wrote;
-        leaves = may.keeps (word_now w.history) (legal-good good c w.history r.history.legal) h.sees;
+        leaves = may.keeps (word_now w.history) (legal-good good c w.history r.history.legal) h.sees (λ a. legal-small good c w.history a r.history.legal);
       }
 
   pub frees_lock : StepLaw (CglWorld good c) free_lock Nothing n CanFreeLock

@@ -11,7 +11,7 @@ use Rattle.rule_base.specs.HistoryRule.{HistoryRule, history_scene}
 use Rattle.rule_base.specs.StepKinds.{view_after, world_after, Nothing, StepLaw}
 use Rattle.rule_base.specs.StepsRule.{StepsRule, steps_scene}
 use Rattle.rule_base.specs.World.{World, put, parts}
-use Rattle.rule_base.specs.HistoryLemmas.{word_at-all, upto-all, word_now-upto, below-upto, legal-upto, inside-more, small-more, legal-good}
+use Rattle.rule_base.specs.HistoryLemmas.{word_at-all, upto-all, word_now-upto, below-upto, legal-upto, inside-more, small-more, legal-good, legal-small}
 use Rattle.rule_base.specs.HistoryRuleLemmas.{advances-same, advances-entry, history-kept, history-seen, history-raised, history-entry}
 use Rattle.rule_base.specs.PutLemmas.{put-all, parts-put, parts-kept}
 use Rattle.rule_base.specs.RecordLemmas.{records-stay}
@@ -493,5 +493,5 @@ module _ (good : (ℕ → ℕ) → Type 0) (c : Config) (n : ℕ) where
         writes_inside = o.stores_inside;
         writes_small = o.stores_small;
         writes_some = may.wrote;
-        leaves = may.keeps (word_now w.history) (legal-good good c w.history r.history.legal) sees;
+        leaves = may.keeps (word_now w.history) (legal-good good c w.history r.history.legal) sees (λ a. legal-small good c w.history a r.history.legal);
       }

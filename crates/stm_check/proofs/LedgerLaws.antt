@@ -1,11 +1,11 @@
 -- Words written, and their addresses.
 use Rattle.std.proofs.Common.{ℕ, zero, suc, ◌≡◌, ◌≢◌, ◌<◌, ◌≤◌, ◌+◌, List, [], ◌∷◌, ◌++◌, length, get_or, set, replicate, Bool, true, false, refl, sym, ap, ◌∙◌, arith, subst, length-set, length-append, inl, inr}
-use Rattle.std.specs.Prelude.{All, Contains, map, Option, Some, None, is_some, ◌⊎◌, ◌==◌, ◌||◌, not}
+use Rattle.std.specs.Prelude.{◌^◌, All, Contains, map, Option, Some, None, is_some, ◌⊎◌, ◌==◌, ◌||◌, not}
 use Rattle.std.proofs.lemmas.Bool.Decides.{nat_tests}
 use Rattle.std.proofs.lemmas.List.{get_or-set_same, get_or-set_other}
 use Rattle.std.proofs.lemmas.List.Elements.{All-append, All-nil, All-head, All-tail, All-cons, Contains-push_cases, Contains-push, Contains-append_left}
 use Rattle.std.proofs.lemmas.List.Sums.{sum_by-set, sum_by-cons}
-use Rattle.stm_model.specs.Memories.{overlay}
+use Rattle.stm_model.specs.Memories.{AreWords, overlay}
 use Rattle.stm_model.specs.Plains.{openings, writes_from, own_writes, value_of, settled, forgotten, change_first, any_own}
 use Rattle.stm_model.specs.Settling.{length-change_first, openings-settled, openings-forgotten, writes-changed}
 use Rattle.stm_model.specs.declared.plain.PlainWord.{PlainWord}
@@ -172,6 +172,10 @@ pub zeros-own : (n a : ℕ) → (get_or (replicate n zero_word) a zero_word).own
 zeros-own zero a = refl
 zeros-own (suc n) zero = refl
 zeros-own (suc n) (suc a) = zeros-own n a
+
+pub zeros-words : (n : ℕ) → AreWords (openings (replicate n zero_word))
+zeros-words zero = All-nil (λ (v : ℕ). v < 2 ^ 64)
+zeros-words (suc n) = All-cons (λ (v : ℕ). v < 2 ^ 64) 0 (openings (replicate n zero_word)) (omega arith) (zeros-words n)
 
 pub zeros-touched : (n : ℕ) → AreTouched (replicate n zero_word) []
 zeros-touched n = record {

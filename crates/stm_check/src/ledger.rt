@@ -22,6 +22,8 @@ pub struct Ledger {
 
 impl Model for Ledger {
     ghost use Rattle.std.specs.Prelude.{List, length, vec_capacity, ◌≤◌};
+    ghost use Rattle.stm_model.specs.Memories.{AreWords};
+    ghost use Rattle.stm_model.specs.Plains.{openings};
     ghost use Rattle.stm_model.specs.declared.plain.PlainWord.{PlainWord};
     ghost use Rattle.stm_check.specs.Ledgers.{AreTouched};
 
@@ -29,7 +31,7 @@ impl Model for Ledger {
 
     ghost view = { λ l. l.words.items };
 
-    ghost invariant = { λ l. AreTouched l.words.items l.touched.items × (length l.words.items ≤ vec_capacity l.touched) };
+    ghost invariant = { λ l. AreTouched l.words.items l.touched.items × (length l.words.items ≤ vec_capacity l.touched) × AreWords (openings l.words.items) };
 }
 
 impl Ledger {

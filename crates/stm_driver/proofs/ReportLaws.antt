@@ -70,7 +70,7 @@ pub history-of : {K : Type 0} (good : List ℕ → Type 0) (w : Workload) → Fo
 history-of good w forms config sized ds ws closed c =
     let l = c.legal in
     let legal : IsLegal (AllWellFormed (regions_of w.header)) (zeros config.words) config.clock closed.history =
-    record { ascending = l.ascending; entries = l.entries; reads = l.reads; numbered = l.numbered; good_always = λ s. forms (memory_at s closed.history (zeros config.words)) (l.good_always s) } in
+    record { ascending = l.ascending; entries = l.entries; reads = l.reads; numbered = l.numbered; good_always = λ s. forms (memory_at s closed.history (zeros config.words)) (l.good_always s); words_always = l.words_always } in
     record {
       legal = subst (λ (x : Config). IsLegal (AllWellFormed (regions_of w.header)) (zeros x.words) x.clock closed.history) sized legal;
       times = c.times;

@@ -17,7 +17,7 @@ use Rattle.rule_base.specs.declared.layout.At.TheVariants.{Clock, Gate, Base, Do
 use Rattle.rule_base.specs.declared.views.Act.TheVariants.{Load, Store}
 use Rattle.rule_base.specs.declared.views.View.{View}
 use Rattle.rule_base.specs.Bridge.{words_of, items, of_words, public_entry, public_history}
-use Rattle.rule_base.specs.BridgeLemmas.{length-words_of, words_of-at, words_of-zeros, words_of-over, item-none, legal-public, length-public_history}
+use Rattle.rule_base.specs.BridgeLemmas.{length-words_of, words_of-at, words_of-words, words_of-zeros, words_of-over, item-none, legal-public, length-public_history}
 use Rattle.rule_base.specs.EncodingLemmas.{fence_from-number, fence_count-number}
 use Rattle.rule_base.specs.Encodings.{gate_word, fence_number, fenced}
 use Rattle.rule_base.specs.FenceSteps.{fence, fence_load, FenceLoads, fence_store, fence_entry, fence_commit, FenceCommits, CanFenceCommit, KeepsFenced, unfence, CanUnfence}
@@ -174,6 +174,7 @@ module _ (good : List ℕ → Type 0) (c : Config) (n : ℕ) where
     },
     (refl, refl),
     none,
+    (refl, refl),
   )
     where
       last : View
@@ -205,7 +206,7 @@ module _ (good : List ℕ → Type 0) (c : Config) (n : ℕ) where
 
   -- THE MEMORY RULE of a give-back, as the rule states it
   keeps-cells : (v : View) (o : Own) → is_empty (known_of v o).fenced.log.writes ≡ false → fences.KeepsFenced good c n (known_of v o) → KeepsFenced rule v.fence
-  keeps-cells v o some keeps m g h = subst good (words_of-over c.words m v.fence.stores) (keeps some (words_of c.words m) g (length-words_of c.words m) (λ a e. same a e (ltb a c.words) refl))
+  keeps-cells v o some keeps m g h small = subst good (words_of-over c.words m v.fence.stores) (keeps some (words_of c.words m) g (length-words_of c.words m) (λ a e. same a e (ltb a c.words) refl) (words_of-words c.words m small))
     where
       past : List ℕ
       past = memory_after (public_history v.fence.past.seen) (zeros c.words)
@@ -280,6 +281,10 @@ module _ (good : List ℕ → Type 0) (c : Config) (n : ℕ) where
     legal = legal-public good c (fence_entry n time v ∷ b.0.history) (time + 1) shown.below shown.legal;
     above = shown.front;
     front = refl;
+    since = since.0;
+    taken = since.1 ∙ ap (λ (q : List Entry). public_history q ++ since.0) (sym shown.past);
+    after = (since.2, shown.past_front);
+    found = (refl, refl);
   })
     where
       given : View
@@ -293,6 +298,10 @@ module _ (good : List ℕ → Type 0) (c : Config) (n : ℕ) where
 
       shown : FenceCommits rule c n time b.0 settled time
       shown = subst (λ (x : View). FenceCommits rule c n time b.0 x time) a.2 b.1
+
+      -- what had been committed since it took its range
+      since : (later : List public.Entry) × (public_history b.0.history ≡ public_history (upto b.0.history v.fence.past.front) ++ later) × Ascending v.fence.past.front later × Within (time - 1) later
+      since = let q = shown.past_front in later-seen b.0.history v.fence.past.front (time - 1) (subst (Below b.0.history) (let r : time ≡ (time - 1) + 1 = omega arith in r) shown.below.1) (omega arith)
 
       -- what had been committed since the caller last looked
       before : (later : List public.Entry) × (public_history b.0.history ≡ public_history (upto b.0.history v.history.front) ++ later) × Ascending v.history.front later × Within (time - 1) later

@@ -1,6 +1,6 @@
 -- Histories of committed transactions, oldest first, and the memory at a time.
 use Rattle.std.specs.Prelude.{ℕ, ◌≡◌, ◌≢◌, ◌<◌, ◌-◌, ◌==◌, suc, List, [], ◌∷◌, All, leb, if◌then◌else◌}
-use Rattle.stm_model.specs.Memories.{overlay, Once, Explains}
+use Rattle.stm_model.specs.Memories.{AreWords, overlay, Once, Explains}
 
 -- A committed transaction: when, by whom, how many its caller had committed before, what it read of words that it had not yet written, and what it wrote.
 pub record Entry : Type 0 where
@@ -48,3 +48,4 @@ pub record IsLegal (good : List ℕ → Type 0) (opening : List ℕ) (floor : �
   pub reads : All (λ e. Explains (memory_at (e.time - 1) history opening) e.reads) history
   pub numbered : (n : ℕ) → Numbered 0 (made_by n history)
   pub good_always : (s : ℕ) → good (memory_at s history opening)
+  pub words_always : (s : ℕ) → AreWords (memory_at s history opening)

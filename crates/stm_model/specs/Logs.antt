@@ -1,6 +1,6 @@
 -- What an attempt has read and written, and how a call changes it.
 use Rattle.std.specs.Prelude.{ℕ, ◌≡◌, List, [], ◌∷◌, ◌++◌, length, MatchOption}
-use Rattle.stm_model.specs.Memories.{overlay, item_at, put, Once, Explains}
+use Rattle.stm_model.specs.Memories.{AreWords, overlay, item_at, put, Once, Explains}
 use Rattle.stm_model.specs.Histories.{Entry, memory_at}
 use Rattle.stm_model.specs.declared.stop.Stop.{Stop}
 use Rattle.stm_model.specs.declared.stop.Stop.TheVariants.{Conflict, Full, ClockFull}
@@ -30,17 +30,17 @@ Writes l a v k = (k.reads ≡ l.reads) × ((b : ℕ) → item_at b k.writes ≡ 
 abbrev pub SameMemories : (List ℕ → Type 0) → (List ℕ → Type 0) → Type 0
 SameMemories before after = (m : List ℕ) → (before m → after m) × (after m → before m)
 
--- a good memory of this many words explains the log
+-- a good memory of this many words, each below 2^64, explains the log
 abbrev pub IsExplained : (List ℕ → Type 0) → ℕ → Log → Type 0
-IsExplained good words l = (m : List ℕ) × good m × (length m ≡ words) × Explains m l.reads
+IsExplained good words l = (m : List ℕ) × good m × (length m ≡ words) × Explains m l.reads × AreWords m
 
 -- an attempt that began at start has read only the memory after one prefix of the history (opacity, Guerraoui and Kapalka)
 abbrev pub Sees : ℕ → List Entry → List ℕ → Log → Type 0
 Sees start history opening l = Explains (memory_at start history opening) l.reads
 
--- from every good memory that explains the log, its writes lead to a good one
+-- from every good memory of words that explains the log, its writes lead to a good one
 abbrev pub Keeps : (List ℕ → Type 0) → ℕ → Log → Type 0
-Keeps good words l = (m : List ℕ) → good m → length m ≡ words → Explains m l.reads → good (overlay m l.writes)
+Keeps good words l = (m : List ℕ) → good m → length m ≡ words → Explains m l.reads → AreWords m → good (overlay m l.writes)
 
 -- a read never meets the clock's limit
 abbrev pub IsReadStop : Stop → Type 0

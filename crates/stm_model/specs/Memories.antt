@@ -1,7 +1,11 @@
 -- Memories, write sets, and what explains a read set.
-use Rattle.std.specs.Prelude.{ℕ, ◌≡◌, ◌==◌, if◌then◌else◌, List, [], ◌∷◌, slice_index, slice_set, Option, Some, None, Bool, true, false}
+use Rattle.std.specs.Prelude.{ℕ, ◌≡◌, ◌<◌, ◌^◌, ◌==◌, if◌then◌else◌, All, List, [], ◌∷◌, slice_index, slice_set, Option, Some, None, Bool, true, false}
 
 -- A memory is the list of its words. A read set and a write set are lists of address and value, with one item an address.
+
+-- each is a word
+abbrev pub AreWords : List ℕ → Type 0
+AreWords memory = All (λ v. v < 2 ^ 64) memory
 
 -- the memory under the writes; where a list had two items of one address, the earlier would count
 abbrev pub overlay : List ℕ → List (ℕ × ℕ) → List ℕ

@@ -2,7 +2,7 @@
 use Rattle.std.proofs.Common.{ℕ, zero, suc, ◌≡◌, ◌≢◌, ◌<◌, ◌+◌, List, [], ◌∷◌, ◌++◌, length, get_or, set, Bool, true, false, refl, sym, ap, ◌∙◌, arith}
 use Rattle.std.specs.Prelude.{Option, Some, None, ◌==◌, if◌then◌else◌, MatchOption}
 use Rattle.std.proofs.lemmas.Bool.Decides.{nat_tests}
-use Rattle.stm_model.specs.Memories.{item_at, put, Once, Explains}
+use Rattle.stm_model.specs.Memories.{AreWords, item_at, put, Once, Explains}
 use Rattle.stm_model.specs.Logs.{IsLog, Reads, Writes, IsExplained}
 use Rattle.stm_model.specs.Plains.{openings, reads_from, own_item, writes_from, plain_log}
 use Rattle.stm_model.specs.declared.plain.PlainWord.{PlainWord}
@@ -57,8 +57,8 @@ openings-explain : (m : List ℕ) (i : ℕ) (ws : List PlainWord) → ((a k : �
 openings-explain m i [] h = tt
 openings-explain m i (w ∷ ws) h = (h i 0 (omega arith) (omega arith), openings-explain m (suc i) ws (λ a k e lt. h a (suc k) (omega arith) (omega arith)))
 
-pub plain-explained : (ws : List PlainWord) → IsExplained (λ m. m ≡ openings ws) (length ws) (plain_log ws)
-plain-explained ws = (openings ws, refl, openings-length ws, openings-explain (openings ws) 0 ws (λ a k e lt. let q : a ≡ k = omega arith in rw q refl))
+pub plain-explained : (ws : List PlainWord) → AreWords (openings ws) → IsExplained (λ m. m ≡ openings ws) (length ws) (plain_log ws)
+plain-explained ws small = (openings ws, refl, openings-length ws, openings-explain (openings ws) 0 ws (λ a k e lt. let q : a ≡ k = omega arith in rw q refl), small)
 
 -- a word set without a change of its opening value
 pub openings-set : (ws : List PlainWord) (a : ℕ) (d w : PlainWord) → w.opening ≡ (get_or ws a d).opening → openings (set ws a w) ≡ openings ws

@@ -1,9 +1,10 @@
 -- Laws of a commit and a cancel over plain memory.
-use Rattle.std.proofs.Common.{ℕ, zero, suc, ◌≡◌, ◌<◌, ◌≤◌, ◌+◌, List, [], ◌∷◌, length, get_or, set, drop, Bool, true, false, refl, sym, ap, ◌∙◌, arith}
-use Rattle.std.specs.Prelude.{Option, Some, None, ltb, is_some, not, ◌||◌, MatchOption}
+use Rattle.std.proofs.Common.{ℕ, zero, suc, ◌≡◌, ◌<◌, ◌≤◌, ◌+◌, List, [], ◌∷◌, length, get_or, set, drop, Bool, true, false, refl, sym, ap, ◌∙◌, arith, subst}
+use Rattle.std.specs.Prelude.{◌^◌, Option, Some, None, ltb, is_some, not, ◌||◌, MatchOption}
 use Rattle.std.proofs.lemmas.List.{drop_more}
+use Rattle.std.proofs.lemmas.List.Elements.{All-set}
 use Rattle.std.proofs.lemmas.Bool.Decides.{nat_tests}
-use Rattle.stm_model.specs.Memories.{overlay, is_empty}
+use Rattle.stm_model.specs.Memories.{AreWords, overlay, is_empty}
 use Rattle.stm_model.specs.Overlays.{overlay-length, overlay-at_some, overlay-at_none, same_list, get_past}
 use Rattle.stm_model.specs.Plains.{openings, own_item, writes_from, own_writes, value_of, settled, forgotten, change_first, any_own}
 use Rattle.stm_model.specs.PlainLaws.{writes-at, openings-length}
@@ -121,3 +122,12 @@ any_own-end ws i b le h = or-none b (any_own (drop i ws)) (past ws i le) ∙ (h 
     or-none : (x y : Bool) → y ≡ false → x ≡ x || y
     or-none true y e = refl
     or-none false y e = sym e
+
+-- a word set whose opening value is a word
+pub openings-small : (ws : List PlainWord) (i : ℕ) (w : PlainWord) (v : ℕ) → AreWords (openings ws) → w.opening ≡ v → v < 2 ^ 64 → AreWords (openings (set ws i w))
+openings-small ws i w v small e lt = subst AreWords (sym (openings-put ws i w)) (All-set (λ (x : ℕ). x < 2 ^ 64) (openings ws) i w.opening (subst (λ (x : ℕ). x < 2 ^ 64) (sym e) lt) small)
+  where
+    openings-put : (ws : List PlainWord) (i : ℕ) (w : PlainWord) → openings (set ws i w) ≡ set (openings ws) i w.opening
+    openings-put [] i w = refl
+    openings-put (x ∷ ws) zero w = refl
+    openings-put (x ∷ ws) (suc i) w = ap (λ l. x.opening ∷ l) (openings-put ws i w)

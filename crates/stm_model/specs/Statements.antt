@@ -1,10 +1,15 @@
 -- What the law functions say.
-use Rattle.std.specs.Prelude.{ℕ, ◌≡◌, ◌^◌, List}
+use Rattle.std.specs.Prelude.{ℕ, ◌≡◌, ◌<◌, ◌^◌, All, List}
 use Rattle.stm_model.specs.declared.config.TheConstants.{MAX_WORDS, MAX_RECORDS, MIN_RING, MAX_RING, MAX_CALLERS, MAX_LOG, CLOCK_LIMIT}
-use Rattle.stm_model.specs.Memories.{overlay, written, Once}
+use Rattle.stm_model.specs.Memories.{AreWords, overlay, written, Once}
+use Rattle.stm_model.specs.Logs.{Log, Keeps}
 
 abbrev pub OverlayIsWritten : Type 0
 OverlayIsWritten = (memory : List ℕ) (ws : List (ℕ × ℕ)) → Once ws → overlay memory ws ≡ written memory ws
+
+-- writes of words keep each rule that holds of all memories of words: so a rule may rest on the size of a word
+abbrev pub WordsAreKept : (List ℕ → Type 0) → Type 0
+WordsAreKept good = (words : ℕ) (l : Log) → ((m : List ℕ) → AreWords m → good m) → All (λ (w : ℕ × ℕ). w.1 < 2 ^ 64) l.writes → Keeps good words l
 
 -- the limits of a configuration
 pub record LimitsAre : Type 0 where

@@ -1,6 +1,6 @@
 //! An access over plain memory, by one caller alone.
 ghost use Rattle.std.specs.Prelude.{◌≡◌, [], length, MatchOption, not};
-ghost use Rattle.stm_model.specs.Memories.{overlay, is_empty};
+ghost use Rattle.stm_model.specs.Memories.{AreWords, overlay, is_empty};
 ghost use Rattle.stm_model.specs.Plains.{openings, own_writes};
 
 use crate::access::Access;
@@ -37,15 +37,20 @@ pub struct Plain {
 
 impl Model for Plain {
     ghost use Rattle.std.specs.Prelude.{List};
+    ghost use Rattle.stm_model.specs.Memories.{AreWords};
+    ghost use Rattle.stm_model.specs.Plains.{openings};
     ghost use Rattle.stm_model.specs.declared.plain.PlainWord.{PlainWord};
 
     ghost Value = { List PlainWord };
 
     ghost view = { λ p. p.words.items };
+
+    ghost invariant = { λ p. AreWords (openings p.words.items) };
 }
 
 impl Plain {
     pub fn new(words: Vec<PlainWord>) -> Plain
+        requires words { AreWords (openings words.items) }
         ensures { result ≡ words.items }
     {
         Plain { words }

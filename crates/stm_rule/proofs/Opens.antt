@@ -131,6 +131,7 @@ opening_fence c = record {
   few = λ n e. absurd cc;
   inside = λ a e. absurd (let f : true ≡ false = sym e ∙ fenced-none a in cc);
   holder = λ n e. absurd cc;
+  past = λ n. record { seen = refl; front = le_refl c.clock };
   apart = λ n a p o. absurd cc;
 }
 

@@ -4,13 +4,20 @@ use Rattle.stm_model.specs.declared.config.Config.{Config}
 use Rattle.rule_base.specs.declared.entries.Entry.{Entry}
 use Rattle.rule_base.specs.Bridge.{public_history}
 use Rattle.rule_base.specs.BridgeLemmas.{public_history-append}
-use Rattle.rule_base.specs.History.{upto}
+use Rattle.rule_base.specs.History.{upto, Below}
 use Rattle.rule_base.specs.SeenLemmas.{upto-rest}
 use Rattle.stm_rule.specs.NoteRuns.{Shared, Deed, after_deed, after_deeds, SharedRule, MayDo, AllMay}
 use Rattle.stm_rule.specs.NoteRuns.Deed.{steps, tells, learns, gathers}
+use Rattle.stm_rule.specs.Callers.{BeginsHistory}
 use Rattle.stm_rule.specs.Privatization.{RangeIsHistory}
 use Rattle.stm_rule.proofs.CoreLaws.{one_step}
 use Rattle.stm_rule.proofs.NoteLaws.{one_deed}
+
+-- a prefix up to a front begins the history
+pub begins-history : (h seen : List Entry) (t front : ℕ) → Below h t → seen ≡ upto h front → BeginsHistory (public_history seen) front (public_history h)
+begins-history h seen t front below is =
+    let rest = upto-rest h t front below in
+    (public_history rest.0, ap public_history (rest.1.0 ∙ ap (λ (l : List Entry). rest.0 ++ l) (sym is)) ∙ public_history-append rest.0 seen, rest.1.1)
 
 module _ (good : (ℕ → ℕ) → Type 0) (c : Config) where
   -- a deed adds none but later entries
@@ -30,10 +37,8 @@ module _ (good : (ℕ → ℕ) → Type 0) (c : Config) where
 
   pub range_is_history_lem : RangeIsHistory good c
   range_is_history_lem n ds x r a has =
-      let h = r.rule.fence.holder n has in
+      let p = r.rule.fence.past n in
       let f = (x.world.views n).fence.past.front in
-      let q = all-kept ds x r a f h.front in
+      let q = all-kept ds x r a f p.front in
       let w = (after_deeds good c ds x).world in
-      let rest = upto-rest w.history (w.clock + 1) f q.1.rule.core.history.below in
-      let same : upto w.history f ≡ (x.world.views n).fence.past.seen = q.0 ∙ sym h.past in
-      (public_history rest.0, ap public_history (rest.1.0 ∙ ap (λ (l : List Entry). rest.0 ++ l) same) ∙ public_history-append rest.0 (x.world.views n).fence.past.seen, rest.1.1)
+      begins-history w.history (x.world.views n).fence.past.seen (w.clock + 1) f q.1.rule.core.history.below (p.seen ∙ sym q.0)

@@ -61,16 +61,14 @@ module _ (good : (ℕ → ℕ) → Type 0) (c : Config) (n : ℕ) where
         alone = alone-kept c (fence_load a) n w refl (λ sole. inr refl) g.core.alone;
         raised = raised-put w x n v refl (λ e. e) (λ e k. g.core.raised e n k) g.core.raised;
       };
-      fence = fence-held c w x n v refl refl may.holds may.holds refl (record {
+      fence = fence-held c w x n v refl refl (le_refl w.clock) (λ f l. refl) may.holds may.holds refl (record {
         stored = h.stored;
-        past = h.past;
-        front = h.front;
         still = h.still;
         sees = λ b. logged (touches (w.views n).fence.stores a) refl b;
         reads_inside = λ b e. listed (touches (w.views n).fence.stores a) b e;
         stores_inside = h.stores_inside;
         stores_small = h.stores_small;
-      }) refl refl g.fence;
+      }) (record { seen = (g.fence.past n).seen; front = (g.fence.past n).front }) refl refl g.fence;
     };
     advances = advances-same w x refl (le_refl w.clock) (le_refl w.done) refl;
     shown = h.stored a here ∙ ap (over (w.views n).fence.stores a) (h.still a here);
@@ -112,16 +110,14 @@ module _ (good : (ℕ → ℕ) → Type 0) (c : Config) (n : ℕ) where
         alone = alone-kept c (fence_store a k) n w refl (λ sole. inr refl) g.core.alone;
         raised = raised-put w x n v refl (λ e. e) (λ e j. g.core.raised e n j) g.core.raised;
       };
-      fence = fence-held c w x n v refl refl may.holds may.holds refl (record {
+      fence = fence-held c w x n v refl refl (le_refl w.clock) (λ f l. refl) may.holds may.holds refl (record {
         stored = λ b e. grind (arith, h.stored b e);
-        past = h.past;
-        front = h.front;
         still = h.still;
         sees = h.sees;
         reads_inside = h.reads_inside;
         stores_inside = λ b e. grind (arith, e, here, h.stores_inside b);
         stores_small = small-more (record { at = a; value = k }) (w.views n).fence.stores may.small h.stores_small;
-      }) refl refl g.fence;
+      }) (record { seen = (g.fence.past n).seen; front = (g.fence.past n).front }) refl refl g.fence;
     };
     advances = advances-same w x refl (le_refl w.clock) (le_refl w.done) refl;
     shown = tt;

@@ -17,7 +17,7 @@ use Rattle.rule_base.specs.FenceSteps.{fence_entry, fence_commit, CanFenceCommit
 use Rattle.rule_base.specs.GateLaws.{gate-marked, fence-gate, holder-closed, closed-fits}
 use Rattle.rule_base.specs.GateRule.{gate_scene, may_hold}
 use Rattle.rule_base.specs.History.{over, touches, word_now, Below, Follows}
-use Rattle.rule_base.specs.HistoryLemmas.{over-miss, below-more, upto-all, legal-good}
+use Rattle.rule_base.specs.HistoryLemmas.{over-miss, below-more, upto-all, legal-good, legal-small}
 use Rattle.rule_base.specs.HistoryRuleLemmas.{advances-entry, history-kept, history-entry}
 use Rattle.rule_base.specs.InstallLaws.{given-install, install-given}
 use Rattle.rule_base.specs.InstallSteps.{settle}
@@ -29,7 +29,7 @@ use Rattle.rule_base.specs.Regime.Regime.{Running, Giving}
 use Rattle.rule_base.specs.RegimeLemmas.{named-regime, plain-mode, regime-running, regime-giving}
 use Rattle.rule_base.specs.Rest.{IsQuiet}
 use Rattle.rule_base.specs.RunScene.{run_view, run_scene}
-use Rattle.rule_base.specs.StepKinds.{view_after, world_after, Nothing, StepLaw}
+use Rattle.rule_base.specs.StepKinds.{view_after, world_after, Nothing, Advances, StepLaw}
 use Rattle.rule_base.specs.StepsLemmas.{steps-kept, steps-raised}
 use Rattle.rule_base.specs.World.{World}
 use Rattle.rule_seq.specs.AttemptLemmas.{attempts-after}
@@ -84,23 +84,23 @@ module _ (good : (ℕ → ℕ) → Type 0) (c : Config) (n : ℕ) where
         alone = alone-kept c (fence_commit n alg t) n w refl (λ sole. inr refl) g.core.alone;
         raised = raised-put w x n v refl (λ f. f) (λ f k. may.calm) g.core.raised;
       };
-      fence = fence-held c w x n v refl refl may.holds may.holds refl (record {
+      fence = fence-held c w x n v refl refl up advances.seen may.holds may.holds refl (record {
         stored = h.stored;
-        past = sym (upto-all (e ∷ w.history) (t + 1) t (omega arith, below) (le_refl (t + 1)));
-        front = le_refl t;
         still = λ a f. refl;
         sees = λ a. refl;
         reads_inside = λ a f. absurd cc;
         stores_inside = λ a f. absurd cc;
         stores_small = λ a d l. l;
-      }) refl refl g.fence;
+      }) (record { seen = sym (upto-all (e ∷ w.history) (t + 1) t (omega arith, below) (le_refl (t + 1))); front = le_refl t }) refl refl g.fence;
     };
-    advances = advances-entry w x e refl later (le_refl t) (le_refl w.done) refl;
+    advances = advances;
     shown = record {
       legal = (follows, g.core.history.legal);
       below = (omega arith, below);
       seen = (g.core.history.known n).seen;
       front = (let f = (g.core.history.known n).front in let l = later in omega arith);
+      past = (g.fence.past n).seen;
+      past_front = (let f = (g.fence.past n).front in let l = later in omega arith);
     };
   }
     where
@@ -112,6 +112,9 @@ module _ (good : (ℕ → ℕ) → Type 0) (c : Config) (n : ℕ) where
 
       e : Entry
       e = fence_entry n t (w.views n)
+
+      advances : Advances w x
+      advances = advances-entry w x e refl later (le_refl t) (le_refl w.done) refl
 
       h : FenceHolder (fence_scene w) (w.views n).fence
       h = g.fence.holder n may.holds
@@ -153,7 +156,7 @@ module _ (good : (ℕ → ℕ) → Type 0) (c : Config) (n : ℕ) where
         writes_inside = λ a f. g.fence.inside a (h.stores_inside a f);
         writes_small = h.stores_small;
         writes_some = may.wrote;
-        leaves = may.keeps (word_now w.history) (legal-good good c w.history g.core.history.legal) (λ a f. h.still a (ours a f));
+        leaves = may.keeps (word_now w.history) (legal-good good c w.history g.core.history.legal) (λ a f. h.still a (ours a f)) (λ a. legal-small good c w.history a g.core.history.legal);
       }
 
       plain : (w.views n).gate.granted ≡ false
@@ -206,7 +209,7 @@ module _ (good : (ℕ → ℕ) → Type 0) (c : Config) (n : ℕ) where
         alone = alone-kept c (unfence n alg) n w refl (λ sole. inr refl) g.core.alone;
         raised = raised-put w x n v refl (λ f. same ∙ (sym named ∙ f)) (λ f k. absurd cc) g.core.raised;
       };
-      fence = fence-goes c w x n v refl unfenced may.holds refl g.fence;
+      fence = fence-goes c w x n v refl unfenced refl refl may.holds refl g.fence;
     };
     advances = record { clock = le_refl w.clock; horizon = same-horizon w x (named ∙ sym same) (le_refl w.clock) (le_refl w.done); seen = λ f l. refl };
     shown = tt;

@@ -3,7 +3,7 @@ use Rattle.std.proofs.Common.{ℕ, ◌≡◌, List, [], ◌∷◌, Bool, true, f
 use Rattle.std.specs.Prelude.{if◌then◌else◌}
 use Rattle.std.proofs.lemmas.List.Elements.{All-head, All-tail}
 use Rattle.stm_model.specs.Memories.{overlay}
-use Rattle.stm_model.specs.Logs.{Log, Keeps, SameMemories}
+use Rattle.stm_model.specs.Logs.{Log, SameMemories}
 use Rattle.stm_model.specs.Overlays.{overlay-length}
 use Rattle.tx_effects.specs.Effects.{Under}
 use Rattle.tx_regions.specs.Regions.{AllWellFormed}
@@ -16,7 +16,7 @@ use Rattle.stm_script.specs.Statements.{OperationsKeepRegions}
 use Rattle.stm_script.specs.Keeping.{KeepsGood, OpKeeps, ScriptKeeps}
 
 pub keeps-does : (good : List ℕ → Type 0) (words : ℕ) (effect : List ℕ → Effect) (l : Log) (reply : ℕ) (k : Log)
-    → DoesOver good words effect l reply k → KeepsGood good words (λ m. (effect m).memory) → Keeps good words l → Keeps good words k
+    → DoesOver good words effect l reply k → KeepsGood good words (λ m. (effect m).memory) → Under good words l good → Under good words k good
 keeps-does good words effect l reply k does rule h = λ m fine len ex.
     let d = does m fine len ex in
     subst good (sym d.left) (rule (overlay m l.writes) (h m fine len d.explained) (overlay-length m l.writes ∙ len))
@@ -35,7 +35,7 @@ keeps-before good words regions (op ∷ ops) h =
 
 -- an operation that keeps the rule
 pub keeps-op : (good : List ℕ → Type 0) (words : ℕ) (regions : List Region) (op : Op) (l : Log) (reply : ℕ) (k : Log)
-    → DoesOver good words (effect_of regions op) l reply k → OpKeeps good words regions op → Keeps good words l → Keeps good words k
+    → DoesOver good words (effect_of regions op) l reply k → OpKeeps good words regions op → Under good words l good → Under good words k good
 keeps-op good words regions op l reply k does each = keeps-does good words (effect_of regions op) l reply k does each.keeps
 
 -- an operation that fits leaves each region well formed under the log

@@ -57,7 +57,7 @@ gave-more good words regions xs op l before k now j after first more = λ m fine
 
 -- the same memories explain a log
 pub same-explained : (good now : List ℕ → Type 0) (words then : ℕ) (l : Log) → SameMemories good now → then ≡ words → IsExplained now then l → IsExplained good words l
-same-explained good now words then l same is h = (h.0, (same h.0).1 h.1, h.2 ∙ is, h.3)
+same-explained good now words then l same is h = (h.0, (same h.0).1 h.1, h.2 ∙ is, h.3, h.4)
 
 pub if-err : {A E : Type 0} (P : Type 0) (r : Result A E) → P → IfErr r (λ e. P)
 if-err P (Ok x) h = tt

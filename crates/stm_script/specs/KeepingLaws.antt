@@ -4,7 +4,8 @@ use Rattle.std.specs.Prelude.{ltb, if◌then◌else◌}
 use Rattle.std.proofs.Math.ListN.{length-set}
 use Rattle.std.proofs.lemmas.List.Elements.{All-head, All-tail}
 use Rattle.stm_model.specs.Memories.{overlay}
-use Rattle.stm_model.specs.Logs.{Log, Keeps}
+use Rattle.stm_model.specs.Logs.{Log}
+use Rattle.tx_effects.specs.Effects.{Under}
 use Rattle.stm_model.specs.Overlays.{overlay-length}
 use Rattle.stm_script.specs.declared.op.Op.{Op}
 use Rattle.stm_script.specs.declared.op.Op.TheVariants.{Read, Write, Add, Move, Emit, Irrev, Cancel, Count, Total, ListInsert, ListRemove, ListContains, ListLength, HashInsert, HashRemove, HashContains, TreeInsert, TreeRemove, TreeContains, TreeLeast, QueuePut, QueueGet, MapPut, MapRemove, MapGet, MapSum}
@@ -19,7 +20,7 @@ use Rattle.stm_script.specs.StructureLaws.{chain-insert-length, chain-remove-len
 use Rattle.stm_script.specs.Keeping.{KeepsGood, OpKeeps, ScriptKeeps}
 
 pub keeps-gave : (good : List ℕ → Type 0) (words : ℕ) (ran : List ℕ → Ran) (l : Log) (before : Output) (k : Log) (after : Output)
-    → GaveOver good words ran l before k after → KeepsGood good words (λ m. (ran m).memory) → Keeps good words l → Keeps good words k
+    → GaveOver good words ran l before k after → KeepsGood good words (λ m. (ran m).memory) → Under good words l good → Under good words k good
 keeps-gave good words ran l before k after gave rule h = λ m fine len ex.
     let d = gave m fine len ex in
     subst good (sym d.left) (rule (overlay m l.writes) (h m fine len d.explained) (overlay-length m l.writes ∙ len))

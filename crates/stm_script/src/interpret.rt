@@ -1,6 +1,6 @@
 //! Scripts over any access.
 ghost use Rattle.std.specs.Prelude.{◌≡◌, ◌<◌, ◌≤◌, ◌+◌, ◌++◌, ◌∷◌, [], ℕ, None, Some, All, IfOk, OnOk, IfErr, length, ltb, take};
-ghost use Rattle.stm_model.specs.Logs.{SameMemories, IsExplained, IsReadStop, Keeps};
+ghost use Rattle.stm_model.specs.Logs.{SameMemories, IsExplained, IsReadStop};
 ghost use Rattle.tx_effects.specs.Effects.{Under};
 ghost use Rattle.tx_regions.specs.Regions.{AllWellFormed};
 ghost use Rattle.stm_script.specs.Keeping.{ScriptKeeps};
@@ -69,7 +69,7 @@ fn perform_all<A: Access>(
     ensures gave { OnOk result (GaveOver (A.good acc.old) (A.words acc.old) (run regions.now ops.now) (A.log acc.old) out.old (A.log acc.new) out.new) }
     ensures gave_up_to { IfErr result (λ s. GaveUpTo (A.good acc.old) (A.words acc.old) regions.now ops.now (A.log acc.old) out.old out.new) }
     ensures explained { OnOk result (IsExplained (A.good acc.old) (A.words acc.old) (A.log acc.old) → IsExplained (A.good acc.new) (A.words acc.new) (A.log acc.new)) }
-    ensures keeps_rule { OnOk result (ScriptKeeps (A.good acc.old) (A.words acc.old) regions.now ops.now → Keeps (A.good acc.old) (A.words acc.old) (A.log acc.old) → Keeps (A.good acc.old) (A.words acc.old) (A.log acc.new)) }
+    ensures keeps_rule { OnOk result (ScriptKeeps (A.good acc.old) (A.words acc.old) regions.now ops.now → Under (A.good acc.old) (A.words acc.old) (A.log acc.old) (A.good acc.old) → Under (A.good acc.old) (A.words acc.old) (A.log acc.new) (A.good acc.old)) }
     ensures well { OnOk result (Under (A.good acc.new) (A.words acc.new) (A.log acc.new) (AllWellFormed regions.now)) }
     ensures kept_room { out.new.room ≡ out.old.room }
     ensures room { OnOk result ((n : ℕ) → HasRoom out.old (length ops.now + n) → HasRoom out.new n) }
@@ -124,7 +124,7 @@ pub fn interpret<A: Access>(
     ensures gave_up_to { IfErr result (λ s. GaveUpTo (A.good acc.old) (A.words acc.old) regions.now (up_to_end kind script.now) (A.log acc.old) out.old out.new) }
     ensures explained { OnOk result (IsExplained (A.good acc.old) (A.words acc.old) (A.log acc.old) → IsExplained (A.good acc.new) (A.words acc.new) (A.log acc.new)) }
     // what the caller owes for a commit stays met where each operation keeps the rule on memories
-    ensures keeps_rule { OnOk result (ScriptKeeps (A.good acc.old) (A.words acc.old) regions.now script.now → Keeps (A.good acc.old) (A.words acc.old) (A.log acc.old) → Keeps (A.good acc.old) (A.words acc.old) (A.log acc.new)) }
+    ensures keeps_rule { OnOk result (ScriptKeeps (A.good acc.old) (A.words acc.old) regions.now script.now → Under (A.good acc.old) (A.words acc.old) (A.log acc.old) (A.good acc.old) → Under (A.good acc.old) (A.words acc.old) (A.log acc.new) (A.good acc.old)) }
     ensures well { OnOk result (Under (A.good acc.new) (A.words acc.new) (A.log acc.new) (AllWellFormed regions.now)) }
     ensures kept_room { out.new.room ≡ out.old.room }
     ensures goes { OnOk result (A.stopped acc.new ≡ None) }

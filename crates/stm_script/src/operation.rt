@@ -1,6 +1,6 @@
 //! One operation over any access.
 ghost use Rattle.std.specs.Prelude.{◌≡◌, ◌<◌, ◌^◌, ◌+◌, ◌%◌, slice_index, None, Some, false, IfOk, OnOk, IfErr, length};
-ghost use Rattle.stm_model.specs.Logs.{SameMemories, IsExplained, IsReadStop, Keeps};
+ghost use Rattle.stm_model.specs.Logs.{SameMemories, IsExplained, IsReadStop};
 ghost use Rattle.tx_effects.specs.Effects.{Under};
 ghost use Rattle.tx_regions.specs.Regions.{AllWellFormed};
 ghost use Rattle.stm_script.specs.Keeping.{OpKeeps};
@@ -29,7 +29,7 @@ pub fn run_op<A: Access>(acc: &mut A, regions: &Regions, op: &Op) -> Result<u64,
     ensures explained { OnOk result (IsExplained (A.good acc.new) (A.words acc.new) (A.log acc.new)) }
     ensures well { OnOk result (Under (A.good acc.new) (A.words acc.new) (A.log acc.new) (AllWellFormed regions.now)) }
     // what the caller owes for a commit stays met where the operation keeps the rule on memories
-    ensures keeps_rule { OnOk result (OpKeeps (A.good acc.old) (A.words acc.old) regions.now op.now → Keeps (A.good acc.old) (A.words acc.old) (A.log acc.old) → Keeps (A.good acc.old) (A.words acc.old) (A.log acc.new)) }
+    ensures keeps_rule { OnOk result (OpKeeps (A.good acc.old) (A.words acc.old) regions.now op.now → Under (A.good acc.old) (A.words acc.old) (A.log acc.old) (A.good acc.old) → Under (A.good acc.old) (A.words acc.old) (A.log acc.new) (A.good acc.old)) }
     ensures goes { OnOk result (A.stopped acc.new ≡ None) }
     ensures stops { IfErr result (λ s. A.stopped acc.new ≡ Some s) }
     ensures cause { OnlyReads op.now → IfErr result IsReadStop }

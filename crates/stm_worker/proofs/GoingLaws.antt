@@ -4,7 +4,7 @@ use Rattle.std.proofs.lemmas.List.{append-nil, append_cancel_left}
 use Rattle.std.proofs.lemmas.List.Elements.{All-head, All-tail}
 use Rattle.std.specs.Prelude.{All, ◌==◌, ltb, slice_index, not, ◌||◌, if◌then◌else◌}
 use Rattle.stm_model.specs.declared.alg.Alg.{Alg}
-use Rattle.stm_model.specs.Logs.{Log, IsExplained, Keeps}
+use Rattle.stm_model.specs.Logs.{Log, IsExplained}
 use Rattle.stm_model.specs.Memories.{overlay, Explains, is_empty}
 use Rattle.stm_script.specs.declared.op.Op.{Op}
 use Rattle.stm_script.specs.declared.op.Op.TheVariants.{Read, Write, Add, Move, Emit, Irrev, Cancel, Count, Total, ListInsert, ListRemove, ListContains, ListLength, HashInsert, HashRemove, HashContains, TreeInsert, TreeRemove, TreeContains, TreeLeast, QueuePut, QueueGet, MapPut, MapRemove, MapGet, MapSum}
@@ -52,7 +52,7 @@ going-begun good words regions script v alg out fits rule room r e log ex named 
   rule = rule;
   room = (let a = ap length r in let b = ap length e in (omega (arith, a, room), omega (arith, b, room)));
   explained = ex;
-  keeps = subst (Keeps good words) (sym log) (λ m fine len x. fine);
+  keeps = subst (λ (l : Log). Under good words l good) (sym log) (λ m fine len x. fine);
   named = named;
   writer = sym (ap (λ (l : Log). not (is_empty l.writes)) log);
   irrevocable = (λ i. irrevocable_under (sym named i) (sym ungranted i) (sym (ap (λ (l : Log). not (is_empty l.writes)) log) i));
@@ -224,7 +224,7 @@ going-asked good words regions script rest v w alg was granted out next wrote g 
       rule = All-tail (OpKeeps good words regions) Irrev rest g.rule;
       room = room;
       explained = ex;
-      keeps = subst (Keeps good words) (sym log) g.keeps;
+      keeps = subst (λ (l : Log). Under good words l good) (sym log) g.keeps;
       named = same ∙ g.named;
       writer = g.writer ∙ ap (λ (l : Log). not (is_empty l.writes)) (sym log);
       irrevocable = irrevocable ∙ sym certain;
@@ -245,7 +245,7 @@ going-later good words regions script rest v w alg was granted out wrote g log s
   rule = g.rule;
   room = g.room;
   explained = ex;
-  keeps = subst (Keeps good words) (sym log) g.keeps;
+  keeps = subst (λ (l : Log). Under good words l good) (sym log) g.keeps;
   named = same ∙ g.named;
   writer = g.writer ∙ ap (λ (l : Log). not (is_empty l.writes)) (sym log);
   irrevocable = irrevocable;

@@ -3,7 +3,8 @@ use Rattle.std.specs.Prelude.{ℕ, ◌≡◌, Bool, true, false, List, [], ◌++
 use Rattle.stm_model.specs.Algorithms.{irrevocable_under}
 use Rattle.stm_model.specs.declared.alg.Alg.{Alg}
 use Rattle.stm_model.specs.Memories.{Explains}
-use Rattle.stm_model.specs.Logs.{Log, IsExplained, Keeps}
+use Rattle.stm_model.specs.Logs.{Log, IsExplained}
+use Rattle.tx_effects.specs.Effects.{Under}
 use Rattle.stm_script.specs.declared.op.Op.{Op}
 use Rattle.tx_regions.specs.declared.region.Region.{Region}
 use Rattle.stm_script.specs.Keeping.{ScriptKeeps}
@@ -27,7 +28,7 @@ pub record Going (good : List ℕ → Type 0) (words : ℕ) (regions : List Regi
   pub rule : ScriptKeeps good words regions rest
   pub room : HasRoom out (length rest)
   pub explained : IsExplained good words v.log
-  pub keeps : Keeps good words v.log
+  pub keeps : Under good words v.log good
   pub named : v.alg ≡ alg
   pub writer : wrote ≡ knows.wrote v
   -- what was said tells whether it can be cancelled

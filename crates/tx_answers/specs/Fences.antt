@@ -2,8 +2,8 @@
 use Rattle.std.specs.Prelude.{ℕ, ◌≡◌, ◌≢◌, ◌<◌, ◌≤◌, ◌+◌, Bool, true, false, if◌then◌else◌, nat_le, ltb, List, [], ◌∷◌, ◌++◌, length, slice_index, MatchOption}
 use Rattle.stm_model.specs.Algorithms.{entry_rise}
 use Rattle.stm_model.specs.declared.config.Config.{Config}
-use Rattle.stm_model.specs.Histories.{Entry, memory_after, IsLegal}
-use Rattle.stm_model.specs.Memories.{overlay, item_at, is_empty, put}
+use Rattle.stm_model.specs.Histories.{Entry, memory_after, Ascending, IsLegal}
+use Rattle.stm_model.specs.Memories.{AreWords, overlay, item_at, is_empty, put}
 use Rattle.rule_base.specs.declared.views.TrailItem.{TrailItem}
 use Rattle.rule_base.specs.Encodings.{gate_word, fence_number, fenced}
 use Rattle.tx_answers.specs.declared.answers.Fence.{Fence}
@@ -35,6 +35,10 @@ is_within from count a = if nat_le from a then ltb a (from + count) else false
 -- the caller has no range any more
 abbrev pub HasNone : Known → Type 0
 HasNone w = (w.fence ≡ 0) × (w.fenced.held ≡ false)
+
+-- what had been committed as it last took a range is as it was
+abbrev pub SameTaken : Known → Known → Type 0
+SameTaken v w = (w.fenced.seen ≡ v.fenced.seen) × (w.fenced.front ≡ v.fenced.front)
 
 -- good is what the user keeps true of memory; c is the memory's configuration, and n the caller
 module _ (good : List ℕ → Type 0) (c : Config) (n : ℕ) where
@@ -75,12 +79,12 @@ module _ (good : List ℕ → Type 0) (c : Config) (n : ℕ) where
     pub stays : StaysBeside v w
     pub range : w.fenced ≡ record v.fenced { log = record v.fenced.log { writes = put a x v.fenced.log.writes } }
 
-  -- what `give_back` asks where there were direct writes: from every good memory with the values that stood in the range as it was taken, they lead to a good one
+  -- what `give_back` asks where there were direct writes: from every good memory of words with the values that stood in the range as it was taken, they lead to a good one
   abbrev pub KeepsFenced : Known → Type 0
   KeepsFenced v = is_empty v.fenced.log.writes ≡ false → (m : List ℕ) → good m → length m ≡ c.words
-      → ((a : ℕ) → fenced v.fenced.number a ≡ true → slice_index m a ≡ slice_index (memory_taken v) a) → good (overlay m v.fenced.log.writes)
+      → ((a : ℕ) → fenced v.fenced.number a ≡ true → slice_index m a ≡ slice_index (memory_taken v) a) → AreWords m → good (overlay m v.fenced.log.writes)
 
-  -- the direct reads and writes are one entry of the caller, the latest of a legal history, and the range is back
+  -- the direct reads and writes are one entry of the caller, the latest of a legal history, and the range is back. What it found as it took the range begins that history, all of which it knows of its range now.
   pub record GivesAt (time : ℕ) (v w : Known) : Type 0 where
     pub closed : StaysClosed v w
     pub none : HasNone w
@@ -93,6 +97,10 @@ module _ (good : List ℕ → Type 0) (c : Config) (n : ℕ) where
     pub legal : IsLegal good (zeros c.words) c.clock w.seen
     pub above : v.front < time
     pub front : w.front ≡ time
+    pub since : List Entry
+    pub taken : before ≡ v.fenced.seen ++ since
+    pub after : Ascending v.fenced.front since × (v.fenced.front < time)
+    pub found : (w.fenced.seen ≡ w.seen) × (w.fenced.front ≡ time)
 
   -- no entry was made, and the clock is as it was
   pub record GivesNothing (v w : Known) : Type 0 where
@@ -105,5 +113,5 @@ module _ (good : List ℕ → Type 0) (c : Config) (n : ℕ) where
   -- what `give_back` tells: Unchanged comes exactly where there was no direct write, and ClockFull leaves the range to the caller
   abbrev pub Gives : Give → Known → Known → Type 0
   Gives (gives.Committed time) v w = GivesAt time v w
-  Gives gives.Unchanged v w = GivesNothing v w × HasNone w × (is_empty v.fenced.log.writes ≡ true)
+  Gives gives.Unchanged v w = GivesNothing v w × HasNone w × (is_empty v.fenced.log.writes ≡ true) × SameTaken v w
   Gives (gives.ClockFull clock) v w = GivesNothing v w × (w.fence ≡ v.fence) × (w.fenced ≡ v.fenced) × (is_empty v.fenced.log.writes ≡ false) × FindsFull clock v w

@@ -14,11 +14,11 @@ IsSound rule words m = rule m × (length m ≡ words)
 
 -- an effect that leads from memories under the rule to such keeps it
 pub keeps-by : {A : Type 0} (rule : List ℕ → Type 0) (words : ℕ) (effect : List ℕ → Effect A) (reply : A) (k : Log) → DoesOver rule words effect nothing reply k → ((m : List ℕ) → IsSound rule words m → rule (effect m).memory) → Keeps rule words k
-keeps-by rule words effect reply k does keeps = λ m g len ex. subst rule (sym (does m g len ex).left) (keeps m (g, len))
+keeps-by rule words effect reply k does keeps = λ m g len ex small. subst rule (sym (does m g len ex).left) (keeps m (g, len))
 
 -- an attempt that only read keeps every rule
 pub reads-keep : (rule : List ℕ → Type 0) (words : ℕ) (k : Log) → k.writes ≡ [] → Keeps rule words k
-reads-keep rule words k none = λ m g len ex. subst (λ ws. rule (overlay m ws)) (sym none) g
+reads-keep rule words k none = λ m g len ex small. subst (λ ws. rule (overlay m ws)) (sym none) g
 
 -- the access's good memories are those of the rule, and its attempt has done nothing yet
 module _ (rule good : List ℕ → Type 0) (words : ℕ) (same : SameMemories good rule) (l : Log) (fresh : l ≡ nothing) where

@@ -3,7 +3,8 @@ use Rattle.std.specs.Prelude.{ℕ, ◌≡◌, ◌<◌, ◌++◌, ◌⊎◌, Bool
 use Rattle.stm_model.specs.declared.stop.Stop.{Stop}
 use Rattle.stm_model.specs.declared.stop.Stop.TheVariants.{Full}
 use Rattle.stm_model.specs.Memories.{item_at, put}
-use Rattle.stm_model.specs.Logs.{Log, SameMemories, IsExplained, Keeps}
+use Rattle.stm_model.specs.Logs.{Log, SameMemories, IsExplained}
+use Rattle.tx_effects.specs.Effects.{Under}
 use Rattle.tx_logs.specs.LogStates.{LogState, firsts}
 use Rattle.tx_parts.specs.declared.whole.Undone.{Undone}
 use Rattle.tx_parts.specs.declared.whole.Undone.TheVariants as undone
@@ -65,7 +66,7 @@ IsFull len (Some stop) = ⊥
 
 -- What came of a part that had room for so many words, from the log before to the log behind. Where it was done, this is told of a log with the same writes, and it keeps the rule where what was done before does; else it only read; where it gave way that is told; and it lacks room only where the memory has more words than that.
 abbrev pub Comes : {T : Type 0} → (List ℕ → Type 0) → ℕ → ℕ → (Option T → Log → Log → Type 0) → Outcome T → Log → Log → Type 0
-Comes good words len tells (Done r) l k = ((j : Log) × tells (Some r) l j × SameLog j k) × ReadsMore l k × (Keeps good words l → Keeps good words k)
+Comes good words len tells (Done r) l k = ((j : Log) × tells (Some r) l j × SameLog j k) × ReadsMore l k × (Under good words l good → Under good words k good)
 Comes good words len tells GaveWay l k = ((gave : Log) × tells None l gave × (k ≡ back_to l gave)) × OnlyReads l k
 Comes good words len tells (NoRoom limit) l k = OnlyReads l k × (limit ≡ len) × (limit < words)
 Comes good words len tells NoMemory l k = ⊥

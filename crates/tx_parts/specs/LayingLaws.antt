@@ -7,7 +7,8 @@ use Rattle.stm_model.specs.declared.stop.Stop.{Stop}
 use Rattle.stm_model.specs.Memories.{item_at, put, Once, Explains, overlay}
 use Rattle.stm_model.specs.Overlays.{overlay-same}
 use Rattle.stm_model.specs.PlainLaws.{put-item}
-use Rattle.stm_model.specs.Logs.{Log, IsLog, Reads, Writes, SameMemories, IsExplained, Keeps}
+use Rattle.stm_model.specs.Logs.{Log, IsLog, Reads, Writes, SameMemories, IsExplained}
+use Rattle.tx_effects.specs.Effects.{Under}
 use Rattle.tx_logs.specs.LogStates.{firsts}
 use Rattle.tx_parts.specs.Laying.{laid, over, IsFull, Top, Within, ReadsMore, SameLog, Lays, OnlyReads, OnTop}
 
@@ -156,7 +157,7 @@ pub same-then : (a b c : List ℕ → Type 0) → SameMemories a b → SameMemor
 same-then a b c f g = λ m. ((λ h. (g m).0 ((f m).0 h)), (λ h. (f m).1 ((g m).1 h)))
 
 -- THE RULE
-pub keeps-like : (good : List ℕ → Type 0) (words : ℕ) (l k : Log) → SameLog l k → Keeps good words l → Keeps good words k
+pub keeps-like : (good : List ℕ → Type 0) (words : ℕ) (l k : Log) → SameLog l k → Under good words l good → Under good words k good
 keeps-like good words l k same keeps m ok long sees = subst good (sym (overlay-same m k.writes l.writes same.1)) (keeps m ok long (subst (Explains m) same.0 sees))
 
 pub explains-front : (m : List ℕ) (xs ys : List (ℕ × ℕ)) → Explains m (xs ++ ys) → Explains m xs
@@ -164,17 +165,17 @@ explains-front m [] ys e = tt
 explains-front m (x ∷ xs) ys e = (e.0, explains-front m xs ys e.1)
 
 -- who only read keeps the rule where he did before
-pub keeps-more : (good : List ℕ → Type 0) (words : ℕ) (l k : Log) → OnlyReads l k → Keeps good words l → Keeps good words k
+pub keeps-more : (good : List ℕ → Type 0) (words : ℕ) (l k : Log) → OnlyReads l k → Under good words l good → Under good words k good
 keeps-more good words l k more keeps m ok long sees =
     subst (λ (ws : List (ℕ × ℕ)). good (overlay m ws)) (sym more.1) (keeps m ok long (explains-front m l.reads more.0.0 (subst (Explains m) more.0.1 sees)))
 
 -- where the same was read, as good a memory explains it
 pub explained-on : (good good' : List ℕ → Type 0) (words words' : ℕ) (l k : Log) → SameMemories good good' → words' ≡ words → k.reads ≡ l.reads → IsExplained good words l → IsExplained good' words' k
-explained-on good good' words words' l k same w e h = (h.0, (same h.0).0 h.1, h.2 ∙ sym w, subst (Explains h.0) (sym e) h.3)
+explained-on good good' words words' l k same w e h = (h.0, (same h.0).0 h.1, h.2 ∙ sym w, subst (Explains h.0) (sym e) h.3, h.4)
 
 -- and what kept the rule keeps it
-pub keeps-on : (good : List ℕ → Type 0) (words words' : ℕ) (l k : Log) → words' ≡ words → k ≡ l → Keeps good words l → Keeps good words' k
-keeps-on good words words' l k w e h = subst (λ (n : ℕ). Keeps good n k) (sym w) (subst (Keeps good words) (sym e) h)
+pub keeps-on : (good : List ℕ → Type 0) (words words' : ℕ) (l k : Log) → words' ≡ words → k ≡ l → Under good words l good → Under good words' k good
+keeps-on good words words' l k w e h = subst (λ (n : ℕ). Under good n k good) (sym w) (subst (λ (l : Log). Under good words l good) (sym e) h)
 
 -- what is so of an answer
 pub answer-then : {T E : Type 0} (r : Result (Option T) E) (F G : T → Type 0) → IfOk r (λ o. IfSome o F) → ((t : T) → F t → G t) → IfOk r (λ o. IfSome o G)

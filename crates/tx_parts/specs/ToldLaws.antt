@@ -1,7 +1,7 @@
 -- What a part tells of the memory: laws from a structure's call to what a part tells and keeps, and from parts to the whole.
 use Rattle.std.proofs.Common.{ℕ, ◌≡◌, ◌∙◌, List, [], ◌∷◌, length, sym, ap, subst, inl, inr}
 use Rattle.std.specs.Prelude.{◌⊎◌, Option, Some, None, Ok, Err}
-use Rattle.stm_model.specs.Logs.{Log, SameMemories, Keeps}
+use Rattle.stm_model.specs.Logs.{Log, SameMemories}
 use Rattle.stm_model.specs.Memories.{overlay, Explains}
 use Rattle.stm_model.specs.Overlays.{overlay-same, overlay-length}
 use Rattle.tx_effects.specs.Effects.{Effect, DoesOver, Under}
@@ -21,12 +21,12 @@ more-explains m l k more ex = explains-front m l.reads more.0 (subst (Explains m
 
 module _ (good : List ℕ → Type 0) (words : ℕ) where
   -- what was done so far kept the rule: so what is seen is under it
-  pub under-rule : (seen : List ℕ → Type 0) (l : Log) (P : List ℕ → Type 0) → SameMemories seen good → Keeps good words l → ((m : List ℕ) → good m → P m) → Under seen words l P
+  pub under-rule : (seen : List ℕ → Type 0) (l : Log) (P : List ℕ → Type 0) → SameMemories seen good → Under good words l good → ((m : List ℕ) → good m → P m) → Under seen words l P
   under-rule seen l P same keeps then = λ m g len ex. then (overlay m l.writes) (keeps m ((same m).0 g) len ex)
 
-  module _ {A : Type 0} (seen : List ℕ → Type 0) (effect : List ℕ → Effect A) (l k : Log) (reply : A) (same : SameMemories seen good) (keeps : Keeps good words l) (does : DoesOver seen words effect l reply k) where
+  module _ {A : Type 0} (seen : List ℕ → Type 0) (effect : List ℕ → Effect A) (l k : Log) (reply : A) (same : SameMemories seen good) (keeps : Under good words l good) (does : DoesOver seen words effect l reply k) where
     -- a call whose effect leads from memories under the rule to such keeps it
-    pub keeps-does : ((m : List ℕ) → good m → length m ≡ words → good (effect m).memory) → Keeps good words k
+    pub keeps-does : ((m : List ℕ) → good m → length m ≡ words → good (effect m).memory) → Under good words k good
     keeps-does then = λ m g len ex. let d = does m ((same m).1 g) len ex in subst good (sym d.left) (then (overlay m l.writes) (keeps m g len d.explained) (overlay-length m l.writes ∙ len))
 
     -- and what is so of its effect under the rule is told

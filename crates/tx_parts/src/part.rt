@@ -1,6 +1,7 @@
 //! A part of a transaction, as a value.
 ghost use Rattle.std.specs.Prelude.{◌≡◌, ◌≤◌, ◌+◌, None, Some, IfOk, OnOk, IfErr, IfSome};
-ghost use Rattle.stm_model.specs.Logs.{Keeps, SameMemories, IsExplained};
+ghost use Rattle.stm_model.specs.Logs.{SameMemories, IsExplained};
+ghost use Rattle.tx_effects.specs.Effects.{Under};
 ghost use Rattle.tx_logs.specs.declared.marks.TheConstants.{MAX_MARKS};
 
 use crate::nesting::Nesting;
@@ -33,10 +34,10 @@ pub trait Part<K: MemRule> {
         requires going { N.stopped memory.old ≡ None }
         requires good { SameMemories (N.good memory.old) (K.good rule.now) }
         requires explained { IsExplained (N.good memory.old) (N.words memory.old) (N.log memory.old) }
-        requires sound { Keeps (K.good rule.now) (N.words memory.old) (N.log memory.old) }
+        requires sound { Under (K.good rule.now) (N.words memory.old) (N.log memory.old) (K.good rule.now) }
         requires fits { fits self.now rule.now (N.words memory.old) }
         requires shallow { N.depth memory.old + depth self.now ≤ MAX_MARKS }
-        ensures kept { IfOk result (λ o. IfSome o (λ r. Keeps (K.good rule.now) (N.words memory.old) (N.log memory.new))) }
+        ensures kept { IfOk result (λ o. IfSome o (λ r. Under (K.good rule.now) (N.words memory.old) (N.log memory.new) (K.good rule.now))) }
         ensures tells { IfOk result (λ o. tells self.now rule.now (N.words memory.old) o (N.log memory.old) (N.log memory.new)) }
         ensures explained { OnOk result (IsExplained (N.good memory.new) (N.words memory.new) (N.log memory.new)) }
         ensures goes { OnOk result (N.stopped memory.new ≡ None) }

@@ -1,6 +1,7 @@
 //! A part that is done wholly or not at all.
 ghost use Rattle.std.specs.Prelude.{◌≡◌, ◌≤◌, [], None, Some, IfOk, OnOk, IfErr};
-ghost use Rattle.stm_model.specs.Logs.{SameMemories, IsExplained, Keeps};
+ghost use Rattle.stm_model.specs.Logs.{SameMemories, IsExplained};
+ghost use Rattle.tx_effects.specs.Effects.{Under};
 ghost use Rattle.tx_logs.specs.declared.marks.TheConstants.{MAX_MARKS};
 ghost use Rattle.tx_parts.specs.Laying.{Comes};
 
@@ -40,12 +41,12 @@ pub fn wholly<K: MemRule, P: Part<K>, A: Access>(
     requires going { A.stopped memory.old ≡ None }
     requires good { SameMemories (A.good memory.old) (K.good rule.now) }
     requires seen { IsExplained (A.good memory.old) (A.words memory.old) (A.log memory.old) }
-    requires sound { Keeps (K.good rule.now) (A.words memory.old) (A.log memory.old) }
+    requires sound { Under (K.good rule.now) (A.words memory.old) (A.log memory.old) (K.good rule.now) }
     requires fits { P.fits part.now rule.now (A.words memory.old) }
     requires shallow { P.depth part.now ≤ MAX_MARKS }
     requires empty { (room.items ≡ []) × (room.marks ≡ []) }
     ensures comes { IfOk result (λ o. Comes (K.good rule.now) (A.words memory.old) room.len (P.tells part.now rule.now (A.words memory.old)) o (A.log memory.old) (A.log memory.new)) }
-    ensures kept { OnOk result (Keeps (K.good rule.now) (A.words memory.old) (A.log memory.new)) }
+    ensures kept { OnOk result (Under (K.good rule.now) (A.words memory.old) (A.log memory.new) (K.good rule.now)) }
     ensures explained { OnOk result (IsExplained (A.good memory.new) (A.words memory.new) (A.log memory.new)) }
     ensures goes { OnOk result (A.stopped memory.new ≡ None) }
     ensures stops { IfErr result (λ s. A.stopped memory.new ≡ Some s) }
@@ -75,13 +76,13 @@ fn run_apart<K: MemRule, P: Part<K>, A: Access>(
 ) -> Result<Outcome<P::Output>, Stop>
     requires going { overlay.old.stopped ≡ None }
     requires good { SameMemories (A.good overlay.old.below) (K.good rule.now) }
-    requires sound { Keeps (K.good rule.now) (A.words overlay.old.below) (A.log overlay.old.below) }
+    requires sound { Under (K.good rule.now) (A.words overlay.old.below) (A.log overlay.old.below) (K.good rule.now) }
     requires seen { IsExplained (A.good overlay.old.below) (A.words overlay.old.below) (A.log overlay.old.below) }
     requires fits { P.fits part.now rule.now (A.words overlay.old.below) }
     requires shallow { P.depth part.now ≤ MAX_MARKS }
     requires empty { (overlay.old.room.items ≡ []) × (overlay.old.room.marks ≡ []) }
     ensures comes { IfOk result (λ o. Comes (K.good rule.now) (A.words overlay.old.below) overlay.old.room.len (P.tells part.now rule.now (A.words overlay.old.below)) o (A.log overlay.old.below) (A.log overlay.new.below)) }
-    ensures kept { OnOk result (Keeps (K.good rule.now) (A.words overlay.old.below) (A.log overlay.new.below)) }
+    ensures kept { OnOk result (Under (K.good rule.now) (A.words overlay.old.below) (A.log overlay.new.below) (K.good rule.now)) }
     ensures explained { OnOk result (IsExplained (A.good overlay.new.below) (A.words overlay.new.below) (A.log overlay.new.below)) }
     ensures goes { OnOk result (A.stopped overlay.new.below ≡ None) }
     ensures stops { IfErr result (λ s. A.stopped overlay.new.below ≡ Some s) }

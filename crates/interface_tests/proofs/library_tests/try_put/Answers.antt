@@ -25,7 +25,7 @@ commit-requires-clause-keeps c =
     let right = c.in-Value-read.right in
     elim c.if-has_room.branch [
       | then-has_room+in-Done w ↦ subst (λ (d : Handle Shelf). wrote (known d) ≡ true → Keeps (HasRoom room) words (known d).log) (sym w.desc-is)
-          (λ some m fine len ex.
+          (λ some m fine len ex small.
           let k = (known w.write.new.desc).log in
           let stored : Writes l c.args.stock (w.if-stock-eq0.pieces + 1) k = w.in-Done.ensures.write.2 in
           let was = stocks-read m a b l left right none first second (omega (arith, len, long)) (subst (Explains m) stored.0 ex) in
@@ -33,7 +33,7 @@ commit-requires-clause-keeps c =
           elim w.if-stock-eq0.branch [ then-stock-eq0 v ↦ inl (v.if-stock-eq0.true, ap (λ x. x + 1) v.pieces-is) | else-stock-eq0 v ↦ inr ((let ne = v.if-stock-eq0.false in let lt = c.requires.stock.0 in omega arith), ap (λ x. x + 1) v.pieces-is) ] in
           stocks-put room c.args.stock (w.if-stock-eq0.pieces + 1) left right m l k (omega (arith, len, long)) was stored value (let lt = w.if-has_room.true in let is = c.from-room.ensures in omega arith))
       | else-has_room w ↦ subst (λ (d : Handle Shelf). wrote (known d) ≡ true → Keeps (HasRoom room) words (known d).log) (sym w.desc-is)
-          (λ some m fine len ex. subst (λ ws. HasRoom room (overlay m ws)) (sym (stocks-read m a b l left right none first second (omega (arith, len, long)) ex).2) fine)
+          (λ some m fine len ex small. subst (λ ws. HasRoom room (overlay m ws)) (sym (stocks-read m a b l left right none first second (omega (arith, len, long)) ex).2) fine)
     ]
 
 pub returns-in-Again-clause-idle : goal.returns-in-Again-clause-idle

@@ -1,7 +1,8 @@
 use Rattle.std.proofs.Common.{ℕ, ◌≡◌, refl, sym, ap, ◌∙◌, subst, List, length, inl, inr, arith, take}
 use Rattle.std.proofs.lemmas.List.Elements.{All-take}
 use Rattle.std.specs.Prelude.{◌⊎◌, All, OnOk, IfErr}
-use Rattle.stm_model.specs.Logs.{Keeps, IsReadStop}
+use Rattle.stm_model.specs.Logs.{IsReadStop}
+use Rattle.tx_effects.specs.Effects.{Under}
 use Rattle.tx_regions.specs.declared.region.Region.{Region}
 use Rattle.stm_script.specs.declared.report.Kind.{Kind}
 use Rattle.stm_script.specs.declared.report.Kind.TheVariants.{W, R}
@@ -45,7 +46,7 @@ returns-in-W g c =
       gave = subst (λ f. OnOk c.perform_all.result (GaveOver good words f log c.args.out.now then c.perform_all.new.out)) (sym whole) gave;
       gave_up_to = subst (λ ops. IfErr c.perform_all.result (λ s. GaveUpTo good words c.args.regions.now ops log c.args.out.now c.perform_all.new.out)) (same ∙ sym (ops-to-end c.args.kind c.args.script.now c.in-W.is)) p.gave_up_to;
       explained = p.explained;
-      keeps_rule = subst (λ ops. OnOk c.perform_all.result (ScriptKeeps good words c.args.regions.now ops → Keeps good words log → Keeps good words then)) same p.keeps_rule;
+      keeps_rule = subst (λ ops. OnOk c.perform_all.result (ScriptKeeps good words c.args.regions.now ops → Under good words log good → Under good words then good)) same p.keeps_rule;
       well = p.well;
       kept_room = p.kept_room;
       goes = p.goes;

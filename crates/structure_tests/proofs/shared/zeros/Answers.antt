@@ -1,9 +1,12 @@
 use Rattle.std.proofs.Common.{◌≡◌, List, replicate, sym, subst}
 use Rattle.stm_model.specs.declared.plain.PlainWord.{PlainWord}
-use Rattle.stm_model.specs.Memories.{overlay}
+use Rattle.stm_model.specs.Memories.{AreWords, overlay}
 use Rattle.stm_model.specs.Plains.{openings, own_writes}
-use Rattle.structure_tests.proofs.PlainZeros.{zero_word, zero-memory}
+use Rattle.structure_tests.proofs.PlainZeros.{zero_word, zero-words, zero-memory}
 use Rattle.structure_tests.proofs.shared.zeros.Goals as goal
+
+pub new-requires-clause-words : goal.new-requires-clause-words
+new-requires-clause-words c = subst (λ (ws : List PlainWord). AreWords (openings ws)) (sym (c.in_ok-vec.ensures.items_if_clones_equal (λ y e. e))) (zero-words c.args.words)
 
 pub returns-clause-zeros : goal.returns-clause-zeros
 returns-clause-zeros c =

@@ -1,5 +1,4 @@
 use Rattle.std.proofs.Common.{sym, subst}
-use Rattle.stm_model.specs.Logs.{Keeps}
 use Rattle.tx_effects.specs.Effects.{DoesOver, Under}
 use Rattle.tx_queue.specs.declared.queue.Queue.{Queue}
 use Rattle.tx_queue.specs.Queues.{IsQueue, got_in}
@@ -26,7 +25,7 @@ returns-clause-kept g c =
     let came = c.in_ok-message.message in
     let laws = c.queues_are_apart.ensures in
     let does = subst (λ (q : Queue). DoesOver (a.good z) (a.words z) (got_in q) (a.log z) came k) c.queue.ensures c.in_ok-message.ensures.reply in
-    if-some came (Keeps (IsMailbox box) (a.words z) k) (keeps-does (IsMailbox box) (a.words z) (a.good z) (got_in (queue_of box urgent)) (a.log z) k came c.requires.good c.requires.sound does
+    if-some came (Under (IsMailbox box) (a.words z) k (IsMailbox box)) (keeps-does (IsMailbox box) (a.words z) (a.good z) (got_in (queue_of box urgent)) (a.log z) k came c.requires.good c.requires.sound does
     (λ m well long. get-keeps box (a.words z) c.requires.fits laws.apart laws.within urgent m well long c.contents_change.ensures.gets))
 
 pub returns-clause-tells : goal.returns-clause-tells

@@ -2,13 +2,15 @@ use Rattle.std.proofs.Common.{◌≡◌, ◌-◌, ◌++◌, [], length, take, re
 use Rattle.std.specs.Prelude.{None}
 use Rattle.std.proofs.Math.Seq.{map-set_same}
 use Rattle.stm_model.specs.declared.plain.PlainWord.{PlainWord}
+use Rattle.stm_model.specs.Memories.{AreWords}
 use Rattle.stm_model.specs.Plains.{openings, forgotten}
+use Rattle.stm_model.specs.PlainLaws.{openings-set}
 use Rattle.stm_check.specs.Ledgers.{AreTouched}
 use Rattle.stm_check.proofs.LedgerLaws.{AreLeft, left-one, touched-none, forgotten-all}
 use Rattle.stm_check.proofs.ledger.Ledger.forget.Goals as goal
 
 pub loop-a-init : goal.loop-a-init
-loop-a-init c = record { same = refl; left = record { within = c.self.invariant.0.within; all = c.self.invariant.0.all }; room = c.self.invariant.1 }
+loop-a-init c = record { same = refl; left = record { within = c.self.invariant.0.within; all = c.self.invariant.0.all }; room = c.self.invariant.1; small = c.self.invariant.2 }
 
 pub loop-a-preserved : goal.loop-a-preserved
 loop-a-preserved c =
@@ -25,6 +27,7 @@ loop-a-preserved c =
       same = map-set_same forgotten ws a y w (ap forgotten c.index.ensures) ∙ inv.same;
       left = left-one ws c.pop.new.self.items a y (subst (AreLeft ws) popped.items inv.left) refl;
       room = omega arith;
+      small = subst AreWords (sym (openings-set ws a w y (ap (λ (x : PlainWord). x.opening) c.index.ensures))) inv.small;
     }
 
 is-gone : (c : goal.In_default) → c.pop.new.self.items ≡ []
@@ -37,7 +40,7 @@ pub invariant_of-self : goal.invariant_of-self
 invariant_of-self c =
     let cap = c.in_default.ensures.capacity in
     let room = c.loop-a.invariant.room in
-    (subst (AreTouched c.loop-a.self-inside.words.items) (sym (is-gone c)) (touched-none c.loop-a.self-inside.words.items (left-none c)), omega arith)
+    (subst (AreTouched c.loop-a.self-inside.words.items) (sym (is-gone c)) (touched-none c.loop-a.self-inside.words.items (left-none c)), omega arith, c.loop-a.invariant.small)
 
 pub returns-clause-opened : goal.returns-clause-opened
 returns-clause-opened c = (forgotten-all c.self.inside.words.items c.loop-a.self-inside.words.items c.loop-a.invariant.same (left-none c)).0 ∙ ap openings c.self.view_is

@@ -1,6 +1,7 @@
 use Rattle.std.proofs.Common.{◌≡◌, length, map}
 use Rattle.std.specs.Prelude.{vec_capacity, ◌≤◌}
-use Rattle.stm_model.specs.Plains.{forgotten}
+use Rattle.stm_model.specs.Memories.{AreWords}
+use Rattle.stm_model.specs.Plains.{openings, forgotten}
 use Rattle.stm_check.proofs.LedgerLaws.{AreLeft}
 use Rattle.stm_check.proofs.ledger.Ledger.forget.Given as goal
 
@@ -9,6 +10,7 @@ invariant-loop-a l = record {
   same : map forgotten l.self-inside.words.items ≡ map forgotten l.initial.self-inside.words.items;
   left : AreLeft l.self-inside.words.items l.self-inside.touched.items;
   room : length l.self-inside.words.items ≤ vec_capacity l.self-inside.touched;
+  small : AreWords (openings l.self-inside.words.items);
 }
 
 abbrev pub decreases-loop-a : goal.decreases-loop-a

@@ -1,8 +1,10 @@
-use Rattle.std.proofs.Common.{ℕ, ◌≡◌, [], List, length, replicate, ap, arith}
+use Rattle.std.proofs.Common.{ℕ, ◌≡◌, [], List, length, replicate, sym, ap, arith, subst}
 use Rattle.std.proofs.lemmas.List.{length-replicate}
+use Rattle.stm_model.specs.Memories.{AreWords}
+use Rattle.stm_model.specs.Plains.{openings}
 use Rattle.stm_model.specs.declared.plain.PlainWord.{PlainWord}
 use Rattle.stm_check.specs.Ledgers.{AreTouched, zero_word}
-use Rattle.stm_check.proofs.LedgerLaws.{zeros-touched}
+use Rattle.stm_check.proofs.LedgerLaws.{zeros-touched, zeros-words}
 use Rattle.stm_check.proofs.ledger.Ledger.new.Goals as goal
 
 fresh : (ws : List PlainWord) (touched : List ℕ) (n : ℕ) → ws ≡ replicate n zero_word → touched ≡ [] → AreTouched ws touched
@@ -14,4 +16,4 @@ invariant_of-result c =
     let k = c.in_ok-touched.ensures.capacity in
     let l = length-replicate c.args.words zero_word in
     let n = ap length v in
-    (fresh c.in_ok-words.words.items c.in_ok-touched.touched.items c.args.words v c.in_ok-touched.ensures.items, omega arith)
+    (fresh c.in_ok-words.words.items c.in_ok-touched.touched.items c.args.words v c.in_ok-touched.ensures.items, omega arith, subst (λ (ws : List PlainWord). AreWords (openings ws)) (sym v) (zeros-words c.args.words))

@@ -1,16 +1,16 @@
-use Rattle.std.proofs.Common.{◌≡◌, ◌-◌, ◌++◌, [], length, take, refl, sym, ap, ◌∙◌, subst, arith, length-set}
+use Rattle.std.proofs.Common.{◌≡◌, ◌-◌, ◌++◌, [], length, take, refl, sym, ap, ◌∙◌, subst, arith, rules, length-set}
 use Rattle.std.specs.Prelude.{None}
 use Rattle.std.proofs.Math.Seq.{map-set_same}
 use Rattle.stm_model.specs.declared.plain.PlainWord.{PlainWord}
 use Rattle.stm_model.specs.Plains.{openings, own_writes, settled}
 use Rattle.stm_model.specs.Memories.{overlay}
-use Rattle.stm_model.specs.Settling.{value-of}
+use Rattle.stm_model.specs.Settling.{value-of, openings-small}
 use Rattle.stm_check.specs.Ledgers.{AreTouched}
 use Rattle.stm_check.proofs.LedgerLaws.{AreLeft, left-one, touched-none, settled-all}
 use Rattle.stm_check.proofs.ledger.Ledger.settle.Goals as goal
 
 pub loop-a-init : goal.loop-a-init
-loop-a-init c = record { same = refl; left = record { within = c.self.invariant.0.within; all = c.self.invariant.0.all }; room = c.self.invariant.1 }
+loop-a-init c = record { same = refl; left = record { within = c.self.invariant.0.within; all = c.self.invariant.0.all }; room = c.self.invariant.1; small = c.self.invariant.2 }
 
 pub loop-a-preserved : goal.loop-a-preserved
 loop-a-preserved c =
@@ -27,6 +27,7 @@ loop-a-preserved c =
       same = map-set_same settled ws a y w (ap (λ v. let x : PlainWord = record { opening = v; own = None } in x) (value-of w c.value.result c.value.ensures) ∙ ap settled c.index.ensures) ∙ inv.same;
       left = left-one ws c.pop.new.self.items a y (subst (AreLeft ws) popped.items inv.left) refl;
       room = omega arith;
+      small = openings-small ws a y c.value.result inv.small refl (search rules);
     }
 
 is-gone : (c : goal.In_default) → c.pop.new.self.items ≡ []
@@ -39,7 +40,7 @@ pub invariant_of-self : goal.invariant_of-self
 invariant_of-self c =
     let cap = c.in_default.ensures.capacity in
     let room = c.loop-a.invariant.room in
-    (subst (AreTouched c.loop-a.self-inside.words.items) (sym (is-gone c)) (touched-none c.loop-a.self-inside.words.items (left-none c)), omega arith)
+    (subst (AreTouched c.loop-a.self-inside.words.items) (sym (is-gone c)) (touched-none c.loop-a.self-inside.words.items (left-none c)), omega arith, c.loop-a.invariant.small)
 
 pub returns-clause-settled : goal.returns-clause-settled
 returns-clause-settled c = (settled-all c.self.inside.words.items c.loop-a.self-inside.words.items c.loop-a.invariant.same (left-none c)).0 ∙ ap (λ l. overlay (openings l) (own_writes l)) c.self.view_is

@@ -2,7 +2,8 @@ use Rattle.std.proofs.Common.{◌≡◌, ◌<◌, List, length, sym, subst}
 use Rattle.std.specs.Prelude.{MatchOption}
 use Rattle.stm_model.specs.declared.plain.PlainWord.{PlainWord}
 use Rattle.stm_model.specs.Logs.{Reads}
-use Rattle.stm_model.specs.Plains.{plain_log}
+use Rattle.stm_model.specs.Memories.{AreWords}
+use Rattle.stm_model.specs.Plains.{openings, plain_log}
 use Rattle.stm_model.specs.PlainLaws.{plain-reads, plain-explained}
 use Rattle.stm_check.proofs.ledger.LedgerAccess.read.Goals as goal
 
@@ -14,4 +15,4 @@ returns-clause-value c =
     (plain-reads c.self.inside.words.items c.args.a c.index.result.now v (subst (λ (xs : List PlainWord). c.args.a < length xs) (sym c.self.view_is) c.requires.within) found)
 
 pub returns-clause-explained : goal.returns-clause-explained
-returns-clause-explained c = plain-explained c.args.self.now
+returns-clause-explained c = plain-explained c.args.self.now (subst (λ (ws : List PlainWord). AreWords (openings ws)) c.self.view_is c.self.invariant.2)

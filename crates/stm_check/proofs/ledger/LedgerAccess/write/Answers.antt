@@ -4,6 +4,7 @@ use Rattle.std.proofs.lemmas.List.{get_or_default}
 use Rattle.stm_check.specs.declared.ledger.Ledger.TheInside.{Inside}
 use Rattle.stm_model.specs.declared.plain.PlainWord.{PlainWord}
 use Rattle.stm_model.specs.Logs.{Writes}
+use Rattle.stm_model.specs.Memories.{AreWords}
 use Rattle.stm_model.specs.Plains.{plain_log, openings}
 use Rattle.stm_model.specs.PlainLaws.{plain-writes, plain-explained, openings-set}
 use Rattle.stm_check.specs.Ledgers.{AreTouched, zero_word}
@@ -51,8 +52,12 @@ room-then c = elim c.if-is_none.branch [
   | else-is_none w ↦ subst (λ (i : Inside). length i.words.items ≤ vec_capacity i.touched) (sym w.self-inside-is) c.self.invariant.1
 ]
 
+words-then : (c : goal.After-self-1) → AreWords (openings (set c.if-is_none.self-inside.words.items c.args.a (set_word c)))
+words-then c = subst (λ (ys : List PlainWord). AreWords (openings (set ys c.args.a (set_word c)))) (sym (same-words c))
+    (subst AreWords (sym (openings-set c.self.inside.words.items c.args.a c.index.result.now (set_word c) (ap (λ (w : PlainWord). w.opening) c.index.ensures))) c.self.invariant.2)
+
 pub invariant_of-self : goal.invariant_of-self
-invariant_of-self c = let r = room-then c in let l = length-set c.if-is_none.self-inside.words.items c.args.a (set_word c) in (touched-then c, omega arith)
+invariant_of-self c = let r = room-then c in let l = length-set c.if-is_none.self-inside.words.items c.args.a (set_word c) in (touched-then c, omega arith, words-then c)
 
 pub returns-clause-value : goal.returns-clause-value
 returns-clause-value c =
@@ -62,7 +67,7 @@ returns-clause-value c =
     (plain-writes ws c.args.a c.index.result.now (set_word c) c.args.v (within c) (ap (λ (w : PlainWord). w.opening) c.index.ensures) refl))
 
 pub returns-clause-explained : goal.returns-clause-explained
-returns-clause-explained c = plain-explained (set c.if-is_none.self-inside.words.items c.args.a (set_word c))
+returns-clause-explained c = plain-explained (set c.if-is_none.self-inside.words.items c.args.a (set_word c)) (words-then c)
 
 pub returns-clause-good : goal.returns-clause-good
 returns-clause-good c = λ m.

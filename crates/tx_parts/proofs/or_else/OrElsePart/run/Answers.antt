@@ -1,6 +1,7 @@
 use Rattle.std.proofs.Common.{ℕ, List, ◌≡◌, ◌+◌, ◌++◌, sym, ap, ◌∙◌, subst, inr, rules}
 use Rattle.std.specs.Prelude.{None}
-use Rattle.stm_model.specs.Logs.{Log, Keeps}
+use Rattle.stm_model.specs.Logs.{Log}
+use Rattle.tx_effects.specs.Effects.{Under}
 use Rattle.tx_parts.specs.Laying.{ReadsMore, OnlyReads, EitherTells, back_to}
 use Rattle.tx_parts.specs.LayingLaws.{keeps-more, answer-then, ok-then, room-second}
 use Rattle.tx_parts.proofs.or_else.OrElsePart.run.Goals as goal
@@ -47,7 +48,7 @@ run-requires-2-clause-sound g c =
     let same : words z3 ≡ words z0 = c.roll_back.ensures.words ∙ (g.met.N.Nesting.keeps_words z1 z2 kept ∙ c.mark.ensures.words) in
     let more = g.met.N.Nesting.keeps_reads z1 z2 kept c.in_ok-done.ensures.goes in
     let only : OnlyReads (log z0) (log z3) = ((more.0, c.roll_back.ensures.reads ∙ (more.1 ∙ ap (λ (l : Log). l.reads ++ more.0) c.mark.ensures.log)), c.roll_back.ensures.writes z0 z1 c.mark.ensures.opens kept) in
-    subst (λ (w : ℕ). Keeps good w (log z3)) (sym same) (keeps-more good (words z0) (log z0) (log z3) only c.requires.sound)
+    subst (λ (w : ℕ). Under good w (log z3) good) (sym same) (keeps-more good (words z0) (log z0) (log z3) only c.requires.sound)
 
 pub run-requires-2-clause-shallow : goal.run-requires-2-clause-shallow
 run-requires-2-clause-shallow g c =
@@ -67,5 +68,5 @@ returns-clause-kept g c =
     let z3 = c.roll_back.new.self in
     let good = g.K.MemRule.good c.args.rule.now in
     let same : words z3 ≡ words z0 = c.roll_back.ensures.words ∙ (g.met.N.Nesting.keeps_words z1 z2 c.in_ok-done.ensures.keeps ∙ c.mark.ensures.words) in
-    answer-then c.run-2.result (λ r. Keeps good (words z3) (g.N.Access.log c.run-2.new.memory)) (λ r. Keeps good (words z0) (g.N.Access.log c.run-2.new.memory)) c.run-2.ensures.kept
-    (λ r k. subst (λ (w : ℕ). Keeps good w (g.N.Access.log c.run-2.new.memory)) same k)
+    answer-then c.run-2.result (λ r. Under good (words z3) (g.N.Access.log c.run-2.new.memory) good) (λ r. Under good (words z0) (g.N.Access.log c.run-2.new.memory) good) c.run-2.ensures.kept
+    (λ r k. subst (λ (w : ℕ). Under good w (g.N.Access.log c.run-2.new.memory) good) same k)

@@ -1,6 +1,6 @@
 use Rattle.std.proofs.Common.{ℕ, ◌≡◌, subst, inl, inr, rules}
 use Rattle.std.specs.Prelude.{Some, None}
-use Rattle.stm_model.specs.Logs.{Keeps}
+use Rattle.tx_effects.specs.Effects.{Under}
 use Rattle.tx_parts.proofs.then.ThenPart.run.Goals as goal
 
 pub returns-in_default-clause-tells : goal.returns-in_default-clause-tells
@@ -38,8 +38,8 @@ returns-clause-kept g c =
     let z2 = c.run-2.new.memory in
     let good = g.K.MemRule.good c.args.rule.now in
     let same : words z1 ≡ words z0 = g.met.N.Nesting.keeps_words z0 z1 c.in_ok-first.ensures.keeps in
-    let two : Keeps good (words z1) (log z2) = search (rules, c.in_ok-second.ensures.kept) in
-    subst (λ (w : ℕ). Keeps good w (log z2)) same two
+    let two : Under good (words z1) (log z2) good = search (rules, c.in_ok-second.ensures.kept) in
+    subst (λ (w : ℕ). Under good w (log z2) good) same two
 
 pub returns-clause-tells : goal.returns-clause-tells
 returns-clause-tells g c =
