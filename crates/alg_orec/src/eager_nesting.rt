@@ -1,5 +1,8 @@
-//! Marks in an attempt of OrecEager, to which it can be rolled back until it is irrevocable: the words that it stored in
-//! place have the values again that they had at the mark. It goes on holding the records that it took.
+//! Marks in an attempt of OrecEager, to which it can be rolled back until it is irrevocable: the words that it stored
+//! in place have the values again that they had at the mark. It keeps the records that it took. Released at once, each
+//! would have to be raised above its old version and the clock with it, so an attempt's own roll back would make its
+//! reads stale. The undo log keeps its items too: their old values stay right, so a word written again needs no step to
+//! save it, and each record has an item that stands for it, which bounds the steps.
 ghost use Rattle.stm_rule.specs.Counting.{TakesAtMost};
 ghost use Rattle.std.specs.Prelude.{◌≡◌, ℕ, ◌≤◌, ◌-◌, false, length};
 ghost use Rattle.stm_model.specs.declared.alg.Alg.TheVariants.{OrecEager};

@@ -1,5 +1,6 @@
-//! A roll back in place, for an attempt of Serial that is not irrevocable: the words that it stored since a mark have the
-//! values again that they had there.
+//! A roll back in place, for an attempt of Serial that is not irrevocable: the words that it stored since a mark have
+//! the values again that they had there. It stores every word that is left, also those not written since: no more than
+//! a cancel takes, where telling them apart would cost a second journal.
 ghost use Rattle.stm_rule.specs.Counting.{TakesAtMost};
 ghost use Rattle.tx_answers.specs.Counting.{AddsAtMost};
 ghost use Rattle.std.specs.Prelude.{◌≡◌, ℕ, ◌≤◌, ◌-◌, false, length};

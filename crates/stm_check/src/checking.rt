@@ -28,7 +28,7 @@ pub enum Finding {
     Faulty { line: usize, code: u32 },
 }
 
-/// Checks a text that is a workload up to its first line `done`, and a report after that line. A schedule is read past.
+/// Checks a text that is a workload up to its first line `done`, and a report behind that line. A schedule is read past.
 /// A fault of the workload comes before one of the report.
 ///
 /// # Errors

@@ -80,8 +80,8 @@ fn pass(standing: &mut Standing, row: &Row, item: usize)
     }
 }
 
-/// Whether a row has no fault after the rows above it. Where it hasn't, its script has been run, and the check stands
-/// after the row.
+/// Whether a row has no fault behind the rows above it. Where it hasn't, its script has been run, and the check stands
+/// behind the row.
 ///
 /// # Errors
 /// Memory, where it is refused.
@@ -172,7 +172,7 @@ fn alike(told: &[(usize, u64)], left: &[(usize, u64)]) -> usize
     told.len()
 }
 
-/// The verdict, where no row has a fault: the lines after the rows.
+/// The verdict, where no row has a fault: the lines behind the rows.
 ///
 /// # Errors
 /// Memory, where it is refused.

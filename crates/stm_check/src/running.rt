@@ -106,7 +106,7 @@ fn is_told(ran: &Ran, row: &Row) -> bool
     row.emits.as_slice() == ran.emits.as_slice()
 }
 
-/// Whether the row tells what its script does on this memory. Where it does, the memory is then that after the row.
+/// Whether the row tells what its script does on this memory. Where it does, the memory is then that behind the row.
 ///
 /// # Errors
 /// Memory, where it is refused.

@@ -1,5 +1,7 @@
 //! The mail of a memory: its callers lay notes there for each other. A note that is found there is of this memory. Two
-//! callers share a memory if one finds the other's note in its mail.
+//! callers share a memory if one finds the other's note in its mail. They aren't compared by an identity: pointers into
+//! two blocks can't be compared, and a number for each memory would need a source that all memories share. A place is
+//! its teller's and its word says for whom a note lies there, so a call with a stranger disturbs nobody.
 ghost use Rattle.std.specs.Prelude.{◌≡◌, ◌≢◌, ◌<◌, [], ◌∷◌, IfOk, IfSome, Option};
 ghost use Rattle.stm_model.specs.declared.rule.AnyMem.{AnyMem};
 ghost use Rattle.stm_rule.specs.Callers.{Handle};

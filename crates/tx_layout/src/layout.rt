@@ -1,4 +1,5 @@
-//! Hands out the words of a memory.
+//! Hands out the words of a memory. A layout is a number, how many words it has handed out. So a program's goals are
+//! sums that the prover finds; a list would take memory and an error more.
 ghost use Rattle.std.specs.Prelude.{◌≡◌, ◌<◌, ◌≤◌, ◌+◌, ◌*◌};
 ghost use Rattle.tx_layout.specs.Layouts.{Gives};
 

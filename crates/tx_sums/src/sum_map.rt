@@ -1,4 +1,6 @@
-//! A map from keys to values with the sums of ranges of keys, over any access.
+//! A map from keys to values with the sums of ranges of keys, over any access. A range's sum is the difference of two
+//! sums from the least key on, each by one walk of at most four reads a cell; differences modulo 2^64 are right where
+//! sums wrap. A sum between bounds that cross reads a word all the same, so that its answer is of a memory too.
 ghost use Rattle.std.specs.Prelude.{◌≡◌, ◌<◌, ◌≤◌, ◌%◌, ◌^◌, true, None, Some, IfOk, OnOk, IfErr};
 ghost use Rattle.stm_model.specs.Logs.{SameMemories, IsExplained, IsReadStop};
 ghost use Rattle.tx_effects.specs.Effects.{DoesOver, Under, Shows, Turns};
