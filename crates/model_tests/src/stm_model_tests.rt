@@ -43,11 +43,15 @@ fn second(plain: &Plain) -> Option<u64> {
 
 #[test]
 fn commits_and_cancels(rt: HostRuntime) -> Result<(), Fail> {
-    let mut words = Vec::new(rt.alloc());
-    for opening in [5, u64::MAX] {
-        words.push(PlainWord { opening, own: None })?;
-    }
-    let mut plain = Plain::new(words);
+    let five = PlainWord {
+        opening: 5,
+        own: None,
+    };
+    let most = PlainWord {
+        opening: u64::MAX,
+        own: None,
+    };
+    let mut plain = Plain::new(vec![in rt.alloc(); five, most]?);
     assert_eq!(rt; plain.words().len(), 2);
     carry_twice(&rt, &mut plain);
     Ok(())

@@ -113,9 +113,6 @@ module _ (good : (ℕ → ℕ) → Type 0) (c : Config) (n : ℕ) where
       e : Entry
       e = fence_entry n t (w.views n)
 
-      advances : Advances w x
-      advances = advances-entry w x e refl later (le_refl t) (le_refl w.done) refl
-
       h : FenceHolder (fence_scene w) (w.views n).fence
       h = g.fence.holder n may.holds
 
@@ -139,6 +136,9 @@ module _ (good : (ℕ → ℕ) → Type 0) (c : Config) (n : ℕ) where
 
       up : w.clock ≤ t
       up = let k = later in omega arith
+
+      advances : Advances w x
+      advances = advances-entry w x e refl later (le_refl t) (le_refl w.done) refl
 
       below : Below w.history t
       below = below-more w.history (w.clock + 1) t g.core.history.below (let l = later in omega arith)

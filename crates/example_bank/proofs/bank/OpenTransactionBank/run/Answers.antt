@@ -15,10 +15,10 @@ returns-clause-tells g c =
     (let none = c.if-branch-ne0.false in omega arith) c.in_ok-write.ensures.value c.in_ok-write-2.ensures.value
 
 pub returns-then-branch-ne0-clause-kept : goal.returns-then-branch-ne0-clause-kept
-returns-then-branch-ne0-clause-kept g c = keeps-by (IsBalanced c.args.bank.now) _ (opened_in c.args.bank.now) false _ (returns-then-branch-ne0-clause-tells g c) (λ m s. opened-balanced c.args.bank.now m (s.0, s.1 ∙ c.requires.fits.0) c.requires.fits.1)
+returns-then-branch-ne0-clause-kept g c = keeps-by (IsBalanced c.args.bank.now) _ (opened_in c.args.bank.now) false _ (returns-then-branch-ne0-clause-tells g c) (λ m s small. opened-balanced c.args.bank.now m (s.0, s.1 ∙ c.requires.fits.0) c.requires.fits.1)
 
 pub returns-clause-kept : goal.returns-clause-kept
-returns-clause-kept g c = keeps-by (IsBalanced c.args.bank.now) _ (opened_in c.args.bank.now) true _ (returns-clause-tells g c) (λ m s. opened-balanced c.args.bank.now m (s.0, s.1 ∙ c.requires.fits.0) c.requires.fits.1)
+returns-clause-kept g c = keeps-by (IsBalanced c.args.bank.now) _ (opened_in c.args.bank.now) true _ (returns-clause-tells g c) (λ m s small. opened-balanced c.args.bank.now m (s.0, s.1 ∙ c.requires.fits.0) c.requires.fits.1)
 
 pub returns-clause-keeps : goal.returns-clause-keeps
 returns-clause-keeps g c =

@@ -39,10 +39,10 @@ pub returns-then-payer-self-clause-kept : goal.returns-then-payer-self-clause-ke
 returns-then-payer-self-clause-kept g c =
     let it = c.args.self.now in
     let fits = c.requires.fits in
-    keeps-by (IsBalanced c.args.arg2.now) _ (moved_in it.from it.to it.amount) false _ (returns-then-payer-self-clause-tells g c) (λ m s. moved-balanced c.args.arg2.now m (s.0, s.1 ∙ fits.0.0) it.from it.to it.amount fits.1 fits.2 fits.3)
+    keeps-by (IsBalanced c.args.arg2.now) _ (moved_in it.from it.to it.amount) false _ (returns-then-payer-self-clause-tells g c) (λ m s small. moved-balanced c.args.arg2.now m (s.0, s.1 ∙ fits.0.0) it.from it.to it.amount fits.1 fits.2 fits.3)
 
 pub returns-clause-kept : goal.returns-clause-kept
 returns-clause-kept g c =
     let it = c.args.self.now in
     let fits = c.requires.fits in
-    keeps-by (IsBalanced c.args.arg2.now) _ (moved_in it.from it.to it.amount) true _ (returns-clause-tells g c) (λ m s. moved-balanced c.args.arg2.now m (s.0, s.1 ∙ fits.0.0) it.from it.to it.amount fits.1 fits.2 fits.3)
+    keeps-by (IsBalanced c.args.arg2.now) _ (moved_in it.from it.to it.amount) true _ (returns-clause-tells g c) (λ m s small. moved-balanced c.args.arg2.now m (s.0, s.1 ∙ fits.0.0) it.from it.to it.amount fits.1 fits.2 fits.3)

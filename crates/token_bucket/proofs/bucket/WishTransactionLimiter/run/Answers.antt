@@ -46,4 +46,4 @@ returns-clause-tells g c =
 pub returns-clause-kept : goal.returns-clause-kept
 returns-clause-kept g c =
     keeps-by (IsFair c.args.limiter.now) _ (wished_in c.args.limiter.now c.args.self.now) _ _ (returns-clause-tells g c)
-    (λ m s. out-fair c.args.limiter.now m c.args.self.now.client _ _ s.0 (s.1 ∙ c.requires.fits.0) c.requires.fits.1 (let le = s.0.0 c.args.self.now.client c.requires.fits.1 in omega arith))
+    (λ m s small. out-fair c.args.limiter.now m c.args.self.now.client _ _ s.0 (s.1 ∙ c.requires.fits.0) c.requires.fits.1 (let le = s.0.0 c.args.self.now.client c.requires.fits.1 in omega arith))
