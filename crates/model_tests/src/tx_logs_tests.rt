@@ -41,6 +41,35 @@ fn a_log_finds_its_addresses_below_and_above_eight_items(rt: HostRuntime) -> Res
     Ok(())
 }
 
+/// Of 1,024 addresses in runs of 16, by how far the runs lie apart; and of addresses that aren't there.
+#[test]
+fn a_log_finds_its_addresses_in_strides(rt: HostRuntime) -> Result<(), Fail> {
+    let mut reads = ReadLog::new(rt.alloc(), 1024)?;
+    let mut writes = WriteLog::new(rt.alloc(), 1024)?;
+    for stride in [16, 64, 1000, 1024, 2048, 8192, 65_536, 1 << 40] {
+        reads.clear();
+        writes.clear();
+        for i in 0..1024 {
+            let a = strided(i, stride);
+            assert_eq!(rt; reads.find(a), None, "{stride}: {a}");
+            assert_eq!(rt; writes.find(a), None, "{stride}: {a}");
+            reads.push(a, i as u64);
+            writes.push(a, i as u64);
+        }
+        for i in 0..1024 {
+            let a = strided(i, stride);
+            assert_eq!(rt; reads.find(a), Some(i as u64), "{stride}: {a}");
+            assert_eq!(rt; writes.find(a), Some(i as u64), "{stride}: {a}");
+        }
+    }
+    Ok(())
+}
+
+/// The address with this number, of those in runs of 16 that begin a stride apart.
+fn strided(i: usize, stride: usize) -> usize {
+    (i / 16).wrapping_mul(stride).wrapping_add(i % 16)
+}
+
 #[test]
 fn the_generations_begin_again(rt: HostRuntime) -> Result<(), Fail> {
     let mut log = WriteLog::with_generation(rt.alloc(), 2, 4294967294)?;

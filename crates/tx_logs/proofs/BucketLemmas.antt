@@ -1,18 +1,20 @@
 -- Searches and changes of an index.
-use Rattle.std.proofs.Common.{ℕ, zero, suc, ◌≡◌, ◌≢◌, ◌<◌, ◌≤◌, ◌+◌, ◌-◌, ◌*◌, ◌%◌, ◌⊎◌, inl, inr, List, [], ◌∷◌, ◌++◌, length, get_or, set, take, drop, Bool, true, false, refl, sym, ap, ◌∙◌, subst, arith, length-append, length-drop}
+use Rattle.std.proofs.Common.{ℕ, zero, suc, ◌≡◌, ◌≢◌, ◌<◌, ◌≤◌, ◌+◌, ◌-◌, ◌*◌, ◌/◌, ◌%◌, ◌⊎◌, inl, inr, List, [], ◌∷◌, ◌++◌, length, get_or, set, take, drop, Bool, true, false, refl, sym, ap, ◌∙◌, subst, arith, length-append, length-drop}
 use Rattle.std.specs.Prelude.{nat_lt, Option, Some, None, MatchOption, ◌==◌, if◌then◌else◌}
 use Rattle.std.specs.List.{sum_by}
 use Rattle.std.proofs.lemmas.Bool.{cases_lt, cases_order}
 use Rattle.std.proofs.lemmas.Bool.Decides.{nat_tests}
 use Rattle.std.proofs.lemmas.Nat.{mod_below}
-use Rattle.std.proofs.Math.Nat.{mod-eq_of_lt, add-mod_left, mul-add-mod_self_right}
+use Rattle.std.proofs.Math.Nat.{div-lt_iff_lt-mul, mul-lt-mul_of_pos_right}
 use Rattle.std.proofs.lemmas.List.{append-nil, drop_all, length-set, length-take-le, get_or-set_same, get_or-set_other, get_or-drop, get_or-take, get_or_append_left, get_or-append_right, take_more}
 use Rattle.std.proofs.lemmas.List.Sums.{sum_by-append, sum_by-cons, sum_by-set, sum_by-take-drop}
 use Rattle.std.proofs.Math.Seq.{get_or-append_seam, take-length}
 use Rattle.stm_model.specs.Memories.{item_at, Once}
 use Rattle.tx_logs.specs.declared.index.Bucket.{Bucket}
 use Rattle.tx_logs.specs.declared.index.Lookup.{Lookup}
-use Rattle.tx_logs.specs.Buckets.{wrapped, blank, bucket_at, address_of, AllTaken, taken, Reaches, IsIndex, IsLookup}
+use Rattle.tx_logs.specs.declared.index.Homes.{Homes}
+use Rattle.tx_logs.specs.declared.index.Homes.TheVariants.{Mixed, Modulo}
+use Rattle.tx_logs.specs.Buckets.{home_of, wrapped, blank, bucket_at, address_of, AllTaken, taken, Reaches, IsIndex, IsLookup}
 use Rattle.tx_logs.proofs.ItemLemmas.{SameAddresses, none-other, none-where, once-same, once-more, once-less, once-apart}
 
 pub wrapped-low : (m x : ℕ) → x < m → wrapped m x ≡ x
@@ -34,6 +36,19 @@ wrapped-below m x h = elim (cases_lt x m) [
   | inl l ↦ rw (wrapped-low m x l) l
   | inr l ↦ rw (wrapped-high m x l) (omega arith)
 ]
+
+pub home-below : (homes : Homes) (buckets a : ℕ) → 0 < buckets → home_of homes buckets a < buckets
+home-below Mixed buckets a some =
+    let part : a * 11400714819323198485 % 18446744073709551616 / 4294967296 < 4294967296 = omega arith in
+    by (nat_lt a buckets) refl (scaled (a * 11400714819323198485 % 18446744073709551616 / 4294967296) part)
+  where
+    scaled : (x : ℕ) → x < 4294967296 → x * buckets / 4294967296 < buckets
+    scaled x l = (div-lt_iff_lt-mul (omega arith)).1 (let h : x * buckets < 4294967296 * buckets = mul-lt-mul_of_pos_right l some in omega arith)
+
+    by : (t : Bool) → nat_lt a buckets ≡ t → {n : ℕ} → n < buckets → (if t then a else n) < buckets
+    by true e l = grind (arith, nat_tests)
+    by false e l = l
+home-below Modulo buckets a some = mod_below a buckets some
 
 -- a list whose first d buckets are taken has d taken buckets
 front-taken : (g : ℕ) (bs : List Bucket) (d : ℕ) → d ≤ length bs → ((k : ℕ) → k < d → (get_or bs k blank).mark ≡ g) → d ≤ sum_by (taken g) bs
@@ -64,22 +79,22 @@ run-taken g bs h d lh ld t =
     omega (arith, sum_by-take-drop (taken g) bs h, sum_by-append (taken g) (drop h bs) (take h bs))
 
 -- what a search from the address's home has seen
-pub record IsSearch (g : ℕ) (items : List (ℕ × ℕ)) (bs : List Bucket) (a at distance : ℕ) : Type 0 where
+pub record IsSearch (homes : Homes) (g : ℕ) (items : List (ℕ × ℕ)) (bs : List Bucket) (a at distance : ℕ) : Type 0 where
   pub few : distance ≤ length items
-  pub at-is : at ≡ wrapped (length bs) (a % length bs + distance)
+  pub at-is : at ≡ wrapped (length bs) (home_of homes (length bs) a + distance)
   pub within : at < length bs
-  pub passed : AllTaken g bs (a % length bs) distance
-  pub others : (k : ℕ) → k < distance → address_of items (bucket_at bs (a % length bs + k)).item ≢ a
+  pub passed : AllTaken g bs (home_of homes (length bs) a) distance
+  pub others : (k : ℕ) → k < distance → address_of items (bucket_at bs (home_of homes (length bs) a + k)).item ≢ a
 
 pub here-is : (bs : List Bucket) (x : ℕ) → x < length bs → bucket_at bs x ≡ get_or bs x blank
 here-is bs x l = ap (λ y. get_or bs y blank) (wrapped-low (length bs) x l)
 
-last-is : (g : ℕ) (items : List (ℕ × ℕ)) (bs : List Bucket) (a at d : ℕ) → IsSearch g items bs a at d → bucket_at bs (a % length bs + d) ≡ get_or bs at blank
+last-is : {homes : Homes} (g : ℕ) (items : List (ℕ × ℕ)) (bs : List Bucket) (a at d : ℕ) → IsSearch homes g items bs a at d → bucket_at bs (home_of homes (length bs) a + d) ≡ get_or bs at blank
 last-is g items bs a at d s = ap (λ y. get_or bs y blank) (sym s.at-is)
 
 -- an open bucket ends the search: the address isn't there
-pub lookup-open : (g : ℕ) (items : List (ℕ × ℕ)) (bs : List Bucket) (a at d : ℕ) → IsIndex g items bs → IsSearch g items bs a at d → (get_or bs at blank).mark ≢ g → IsLookup g items bs a (record { at = at; distance = d; item = None })
-lookup-open g items bs a at d x s free = record {
+pub lookup-open : {homes : Homes} (g : ℕ) (items : List (ℕ × ℕ)) (bs : List Bucket) (a at d : ℕ) → IsIndex homes g items bs → IsSearch homes g items bs a at d → (get_or bs at blank).mark ≢ g → IsLookup homes g items bs a (record { at = at; distance = d; item = None })
+lookup-open {homes} g items bs a at d x s free = record {
   within = s.within;
   distance = s.few;
   at = s.at-is;
@@ -90,10 +105,10 @@ lookup-open g items bs a at d x s free = record {
   where
     absent : (i : ℕ) → i < length items → address_of items i ≢ a
     absent i l e =
-        let st = subst (λ b. Reaches g bs (b % length bs) i) e (x.reached i l) in
+        let st = subst (λ b. Reaches g bs (home_of homes (length bs) b) i) e (x.reached i l) in
         let is = ap (λ (p : Bucket). p.mark) (last-is g items bs a at d s) in
         elim (cases_order st.distance d) [
-          | inl same ↦ free (sym is ∙ subst (λ k. (bucket_at bs (a % length bs + k)).mark ≡ g) same st.mark)
+          | inl same ↦ free (sym is ∙ subst (λ k. (bucket_at bs (home_of homes (length bs) a + k)).mark ≡ g) same st.mark)
           | inr other ↦ elim other [
             | inl before ↦ s.others st.distance before (ap (address_of items) st.item ∙ e)
             | inr after ↦ free (sym is ∙ st.passed d after)
@@ -101,24 +116,24 @@ lookup-open g items bs a at d x s free = record {
         ]
 
 -- an open home ends it at once
-pub home-open : (g : ℕ) (items : List (ℕ × ℕ)) (bs : List Bucket) (a home : ℕ) → IsIndex g items bs → 0 < length bs → home ≡ a % length bs → (get_or bs home blank).mark ≢ g → IsLookup g items bs a (record { at = home; distance = 0; item = None })
-home-open g items bs a home x some is free =
-    let low : home < length bs = omega arith in
-    let first : home ≡ wrapped (length bs) (a % length bs + 0) = sym (ap (wrapped (length bs)) (omega arith) ∙ wrapped-low (length bs) home low) in
+pub home-open : {homes : Homes} (g : ℕ) (items : List (ℕ × ℕ)) (bs : List Bucket) (a home : ℕ) → IsIndex homes g items bs → 0 < length bs → home ≡ home_of homes (length bs) a → (get_or bs home blank).mark ≢ g → IsLookup homes g items bs a (record { at = home; distance = 0; item = None })
+home-open {homes} g items bs a home x some is free =
+    let low : home < length bs = omega (arith, home-below homes (length bs) a some) in
+    let first : home ≡ wrapped (length bs) (home_of homes (length bs) a + 0) = sym (ap (wrapped (length bs)) (omega arith) ∙ wrapped-low (length bs) home low) in
     lookup-open g items bs a home 0 x (record { few = omega arith; at-is = first; within = low; passed = λ k l. absurd (omega arith); others = λ k l. absurd (omega arith) }) free
 
-pub named : (g : ℕ) (items : List (ℕ × ℕ)) (bs : List Bucket) (x : ℕ) → IsIndex g items bs → x < length bs → (get_or bs x blank).mark ≡ g → (get_or bs x blank).item < length items
+pub named : {homes : Homes} (g : ℕ) (items : List (ℕ × ℕ)) (bs : List Bucket) (x : ℕ) → IsIndex homes g items bs → x < length bs → (get_or bs x blank).mark ≡ g → (get_or bs x blank).item < length items
 named g items bs x h l m =
     let e = here-is bs x l in
     let n : (bucket_at bs x).item < length items = h.names x l (ap (λ (p : Bucket). p.mark) e ∙ m) in
     omega (arith, ap (λ (p : Bucket). p.item) e)
 
 -- one bucket on
-pub search-goes : (g : ℕ) (items : List (ℕ × ℕ)) (bs : List Bucket) (a at d : ℕ) → IsIndex g items bs → length items < length bs → IsSearch g items bs a at d → (get_or bs at blank).mark ≡ g → address_of items (get_or bs at blank).item ≢ a → (next : ℕ) → next ≡ wrapped (length bs) (at + 1) → IsSearch g items bs a next (d + 1)
-search-goes g items bs a at d x room s mark other next is =
+pub search-goes : {homes : Homes} (g : ℕ) (items : List (ℕ × ℕ)) (bs : List Bucket) (a at d : ℕ) → IsIndex homes g items bs → length items < length bs → IsSearch homes g items bs a at d → (get_or bs at blank).mark ≡ g → address_of items (get_or bs at blank).item ≢ a → (next : ℕ) → next ≡ wrapped (length bs) (at + 1) → IsSearch homes g items bs a next (d + 1)
+search-goes {homes} g items bs a at d x room s mark other next is =
     let m = length bs in
-    let h = a % length bs in
-    let home : h < m = mod_below a (length bs) (omega (arith, s.within)) in
+    let h = home_of homes (length bs) a in
+    let home : h < m = home-below homes (length bs) a (omega (arith, s.within)) in
     let same = last-is g items bs a at d s in
     let passed : AllTaken g bs h (d + 1) = λ k l. elim (cases_lt k d) [ inl b ↦ s.passed k b | inr e ↦ (let z : k ≡ d = omega arith in subst (λ y. (bucket_at bs (h + y)).mark ≡ g) (sym z) (ap (λ (p : Bucket). p.mark) same ∙ mark)) ] in
     let others : (k : ℕ) → k < d + 1 → address_of items (bucket_at bs (h + k)).item ≢ a = λ k l. elim (cases_lt k d) [ inl b ↦ s.others k b | inr e ↦ (let z : k ≡ d = omega arith in subst (λ y. address_of items (bucket_at bs (h + y)).item ≢ a) (sym z) (λ f. other (sym (ap (λ (p : Bucket). address_of items p.item) same) ∙ f))) ] in
@@ -131,7 +146,7 @@ search-goes g items bs a at d x room s mark other next is =
     on m h d at lh ld e = grind (arith, nat_tests)
 
 -- where no bucket has the generation's mark, the log is empty
-pub index-empty : (g : ℕ) (bs : List Bucket) → ((x : ℕ) → x < length bs → (get_or bs x blank).mark < g) → IsIndex g [] bs
+pub index-empty : {homes : Homes} (g : ℕ) (bs : List Bucket) → ((x : ℕ) → x < length bs → (get_or bs x blank).mark < g) → IsIndex homes g [] bs
 index-empty g bs h = record {
   once = tt;
   reached = λ i l. absurd (omega arith);
@@ -172,7 +187,7 @@ reaches-set g bs at q x i l n s = record {
 }
 
 -- a taken bucket names an item, counted round the end too
-names-on : (g : ℕ) (items : List (ℕ × ℕ)) (bs : List Bucket) (y : ℕ) → IsIndex g items bs → y < length bs + length bs → (bucket_at bs y).mark ≡ g → (bucket_at bs y).item < length items
+names-on : {homes : Homes} (g : ℕ) (items : List (ℕ × ℕ)) (bs : List Bucket) (y : ℕ) → IsIndex homes g items bs → y < length bs + length bs → (bucket_at bs y).mark ≡ g → (bucket_at bs y).item < length items
 names-on g items bs y x low m =
     let w = wrapped-below (length bs) y low in
     let same : bucket_at bs (wrapped (length bs) y) ≡ bucket_at bs y = ap (λ (z : ℕ). get_or bs z blank) (wrapped-low (length bs) (wrapped (length bs) y) w) in
@@ -180,8 +195,8 @@ names-on g items bs y x low m =
     omega (arith, ap (λ (p : Bucket). p.item) same)
 
 -- a new item, at the open bucket where its search ended
-pub index-more : (g : ℕ) (items : List (ℕ × ℕ)) (bs : List Bucket) (a v at d : ℕ) → IsIndex g items bs → item_at a items ≡ None → at < length bs → d < length bs → at ≡ wrapped (length bs) (a % length bs + d) → AllTaken g bs (a % length bs) d → (bucket_at bs at).mark ≢ g → IsIndex g (items ++ (a, v) ∷ []) (set bs at (record { mark = g; item = length items }))
-index-more g items bs a v at d x new-here l ld is passed n = record {
+pub index-more : {homes : Homes} (g : ℕ) (items : List (ℕ × ℕ)) (bs : List Bucket) (a v at d : ℕ) → IsIndex homes g items bs → item_at a items ≡ None → at < length bs → d < length bs → at ≡ wrapped (length bs) (home_of homes (length bs) a + d) → AllTaken g bs (home_of homes (length bs) a) d → (bucket_at bs at).mark ≢ g → IsIndex homes g (items ++ (a, v) ∷ []) (set bs at (record { mark = g; item = length items }))
+index-more {homes} g items bs a v at d x new-here l ld is passed n = record {
   once = once-more items a v x.once new-here;
   reached = reached;
   names = names;
@@ -199,29 +214,29 @@ index-more g items bs a v at d x new-here l ld is passed n = record {
     size : length (set bs at q) ≡ length bs
     size = length-set bs at q
 
-    home : a % length bs < length bs
-    home = mod_below a (length bs) (omega arith)
+    home : home_of homes (length bs) a < length bs
+    home = home-below homes (length bs) a (omega arith)
 
-    passed-names : (k : ℕ) → k < d → (bucket_at bs (a % length bs + k)).item < length items
-    passed-names k b = names-on g items bs (a % length bs + k) x (let h = home in omega arith) (passed k b)
+    passed-names : (k : ℕ) → k < d → (bucket_at bs (home_of homes (length bs) a + k)).item < length items
+    passed-names k b = names-on g items bs (home_of homes (length bs) a + k) x (let h = home in omega arith) (passed k b)
 
-    new : Reaches g (set bs at q) (a % length bs) (length items)
+    new : Reaches g (set bs at q) (home_of homes (length bs) a) (length items)
     new =
-        let e = bucket-new bs at q (a % length bs + d) l (sym is) in record {
+        let e = bucket-new bs at q (home_of homes (length bs) a + d) l (sym is) in record {
           distance = d;
           within = rw size ld;
-          passed = λ k b. ap (λ (p : Bucket). p.mark) (bucket-set g bs at q (a % length bs + k) l n (passed k b)) ∙ passed k b;
-          earlier = λ k b. (let m = passed-names k b in omega (arith, ap (λ (p : Bucket). p.item) (bucket-set g bs at q (a % length bs + k) l n (passed k b))));
+          passed = λ k b. ap (λ (p : Bucket). p.mark) (bucket-set g bs at q (home_of homes (length bs) a + k) l n (passed k b)) ∙ passed k b;
+          earlier = λ k b. (let m = passed-names k b in omega (arith, ap (λ (p : Bucket). p.item) (bucket-set g bs at q (home_of homes (length bs) a + k) l n (passed k b))));
           mark = ap (λ (p : Bucket). p.mark) e;
           item = ap (λ (p : Bucket). p.item) e;
         }
 
-    moved : (x y i : ℕ) → x ≡ y → Reaches g (set bs at q) (y % length bs) i → Reaches g (set bs at q) (x % length bs) i
-    moved x y i e s = subst (λ z. Reaches g (set bs at q) (z % length bs) i) (sym e) s
+    moved : (x y i : ℕ) → x ≡ y → Reaches g (set bs at q) (home_of homes (length bs) y) i → Reaches g (set bs at q) (home_of homes (length bs) x) i
+    moved x y i e s = subst (λ z. Reaches g (set bs at q) (home_of homes (length bs) z) i) (sym e) s
 
-    reached : (i : ℕ) → i < length (items ++ (a, v) ∷ []) → Reaches g (set bs at q) (address_of (items ++ (a, v) ∷ []) i % length (set bs at q)) i
+    reached : (i : ℕ) → i < length (items ++ (a, v) ∷ []) → Reaches g (set bs at q) (home_of homes (length (set bs at q)) (address_of (items ++ (a, v) ∷ []) i)) i
     reached i b = elim (cases_lt i (length items)) [
-      | inl old ↦ rw size (moved _ (address_of items i) i (ap (λ (p : ℕ × ℕ). p.0) (get_or_append_left items ((a, v) ∷ []) (0, 0) i old)) (reaches-set g bs at q (address_of items i % length bs) i l n (x.reached i old)))
+      | inl old ↦ rw size (moved _ (address_of items i) i (ap (λ (p : ℕ × ℕ). p.0) (get_or_append_left items ((a, v) ∷ []) (0, 0) i old)) (reaches-set g bs at q (home_of homes (length bs) (address_of items i)) i l n (x.reached i old)))
       | inr e ↦ (let z : i ≡ length items = omega (arith, more) in rw (size, z) (moved _ a (length items) (ap (λ (p : ℕ × ℕ). p.0) (get_or-append_seam items (a, v) [] (0, 0))) new))
     ]
 
@@ -279,7 +294,7 @@ index-more g items bs a v at d x new-here l ld is passed n = record {
     few = omega (arith, more, x.few, at-most q, sum_by-set (taken g) bs at q blank l)
 
 -- another value for an item
-pub index-same : (g : ℕ) (items others : List (ℕ × ℕ)) (bs : List Bucket) → SameAddresses items others → IsIndex g items bs → IsIndex g others bs
+pub index-same : {homes : Homes} (g : ℕ) (items others : List (ℕ × ℕ)) (bs : List Bucket) → SameAddresses items others → IsIndex homes g items bs → IsIndex homes g others bs
 index-same g items others bs s x = record {
   once = once-same items others s x.once;
   reached = λ i l. (let e : address_of others i ≡ address_of items i = s.each i (omega (arith, s.size)) in rw e (x.reached i (omega (arith, s.size))));
@@ -299,25 +314,25 @@ set-same items i a v l e = record {
 }
 
 -- the same in the words of a search
-pub index-push : (g : ℕ) (items : List (ℕ × ℕ)) (bs : List Bucket) (a v : ℕ) (s : Lookup) → IsIndex g items bs → length items < length bs → IsLookup g items bs a s → s.item ≡ None → IsIndex g (items ++ (a, v) ∷ []) (set bs s.at (record { mark = g; item = length items }))
+pub index-push : {homes : Homes} (g : ℕ) (items : List (ℕ × ℕ)) (bs : List Bucket) (a v : ℕ) (s : Lookup) → IsIndex homes g items bs → length items < length bs → IsLookup homes g items bs a s → s.item ≡ None → IsIndex homes g (items ++ (a, v) ∷ []) (set bs s.at (record { mark = g; item = length items }))
 index-push g items bs a v s x room found e =
     let answer = subst (λ o. MatchOption o ((item_at a items ≡ None) × ((bucket_at bs s.at).mark ≢ g)) (λ i. (i < length items) × (address_of items i ≡ a) × ((bucket_at bs s.at).mark ≡ g) × ((bucket_at bs s.at).item ≡ i))) e found.answer in
     index-more g items bs a v s.at s.distance x answer.0 found.within (omega (arith, found.distance)) found.at found.passed answer.1
 
 -- and the bucket where it ends names it
-pub lookup-where : (g : ℕ) (items : List (ℕ × ℕ)) (bs : List Bucket) (a i : ℕ) (s : Lookup) → IsLookup g items bs a s → s.item ≡ Some i → (i < length items) × (address_of items i ≡ a) × ((bucket_at bs s.at).mark ≡ g) × ((bucket_at bs s.at).item ≡ i)
+pub lookup-where : {homes : Homes} (g : ℕ) (items : List (ℕ × ℕ)) (bs : List Bucket) (a i : ℕ) (s : Lookup) → IsLookup homes g items bs a s → s.item ≡ Some i → (i < length items) × (address_of items i ≡ a) × ((bucket_at bs s.at).mark ≡ g) × ((bucket_at bs s.at).item ≡ i)
 lookup-where g items bs a i s found e =
     subst (λ o. MatchOption o ((item_at a items ≡ None) × ((bucket_at bs s.at).mark ≢ g)) (λ i. (i < length items) × (address_of items i ≡ a) × ((bucket_at bs s.at).mark ≡ g) × ((bucket_at bs s.at).item ≡ i))) e found.answer
 
-pub lookup-found : (g : ℕ) (items : List (ℕ × ℕ)) (bs : List Bucket) (a i : ℕ) (s : Lookup) → IsLookup g items bs a s → s.item ≡ Some i → (i < length items) × (address_of items i ≡ a)
+pub lookup-found : {homes : Homes} (g : ℕ) (items : List (ℕ × ℕ)) (bs : List Bucket) (a i : ℕ) (s : Lookup) → IsLookup homes g items bs a s → s.item ≡ Some i → (i < length items) × (address_of items i ≡ a)
 lookup-found g items bs a i s found e = let h = lookup-where g items bs a i s found e in (h.0, h.1)
 
-pub lookup-new : (g : ℕ) (items : List (ℕ × ℕ)) (bs : List Bucket) (a : ℕ) (s : Lookup) → IsLookup g items bs a s → s.item ≡ None → item_at a items ≡ None
+pub lookup-new : {homes : Homes} (g : ℕ) (items : List (ℕ × ℕ)) (bs : List Bucket) (a : ℕ) (s : Lookup) → IsLookup homes g items bs a s → s.item ≡ None → item_at a items ≡ None
 lookup-new g items bs a s found e =
     (subst (λ o. MatchOption o ((item_at a items ≡ None) × ((bucket_at bs s.at).mark ≢ g)) (λ i. (i < length items) × (address_of items i ≡ a) × ((bucket_at bs s.at).mark ≡ g) × ((bucket_at bs s.at).item ≡ i))) e found.answer).0
 
 -- a greater generation leaves every bucket open
-pub raised : (g : ℕ) (items : List (ℕ × ℕ)) (bs : List Bucket) → IsIndex g items bs → IsIndex (g + 1) [] bs
+pub raised : {homes : Homes} (g : ℕ) (items : List (ℕ × ℕ)) (bs : List Bucket) → IsIndex homes g items bs → IsIndex homes (g + 1) [] bs
 raised g items bs x = index-empty (g + 1) bs (λ y l. (let m : (bucket_at bs y).mark ≤ g = x.latest y l in omega (arith, ap (λ (p : Bucket). p.mark) (here-is bs y l))))
 
 -- a slice of a whole list that was written leaves the written list
@@ -326,23 +341,9 @@ written-over new old n e f =
     let rest : drop (length new) old ≡ [] = drop_all (length new) old (omega arith) in
     rw (rest, append-nil new, f) (take-length new)
 
--- what is left of a after some whole turns
-rest-mod : (m q a : ℕ) → q * m ≤ a → (a - q * m) % m ≡ a % m
-rest-mod m q a h =
-    let e : q * m + (a - q * m) ≡ a = omega arith in
-    sym (mul-add-mod_self_right q m (a - q * m)) ∙ ap (λ x. x % m) e
-
-pub rest-is : (m q a : ℕ) → q * m ≤ a → a - q * m < m → a - q * m ≡ a % m
-rest-is m q a h l = sym (mod-eq_of_lt l) ∙ rest-mod m q a h
-
-pub rest-more : (m q a : ℕ) → q * m ≤ a → m ≤ a - q * m → a - q * m - m < m → a - q * m - m ≡ a % m
-rest-more m q a h o l =
-    let e : m + (a - q * m - m) ≡ a - q * m = omega arith in
-    sym (mod-eq_of_lt l) ∙ (sym (add-mod_left m (a - q * m - m)) ∙ (ap (λ x. x % m) e ∙ rest-mod m q a h))
-
 -- the last item goes, and its bucket is open
-pub index-pop : (g : ℕ) (items : List (ℕ × ℕ)) (bs : List Bucket) (a v at : ℕ) → IsIndex g (items ++ (a, v) ∷ []) bs → 0 < g → at < length bs → (bucket_at bs at).mark ≡ g → (bucket_at bs at).item ≡ length items → IsIndex g items (set bs at (record { mark = 0; item = 0 }))
-index-pop g items bs a v at x some l m is = record {
+pub index-pop : {homes : Homes} (g : ℕ) (items : List (ℕ × ℕ)) (bs : List Bucket) (a v at : ℕ) → IsIndex homes g (items ++ (a, v) ∷ []) bs → 0 < g → at < length bs → (bucket_at bs at).mark ≡ g → (bucket_at bs at).item ≡ length items → IsIndex homes g items (set bs at (record { mark = 0; item = 0 }))
+index-pop {homes} g items bs a v at x some l m is = record {
   once = once-less items a v x.once;
   reached = reached;
   names = names;
@@ -376,11 +377,11 @@ index-pop g items bs a v at x some l m is = record {
       item = ap (λ (p : Bucket). p.item) (spared (y + r.distance) (let e = r.item in omega arith)) ∙ r.item;
     }
 
-    reached : (i : ℕ) → i < length items → Reaches g (set bs at q) (address_of items i % length (set bs at q)) i
+    reached : (i : ℕ) → i < length items → Reaches g (set bs at q) (home_of homes (length (set bs at q)) (address_of items i)) i
     reached i b =
         let e : address_of (items ++ (a, v) ∷ []) i ≡ address_of items i = ap (λ (p : ℕ × ℕ). p.0) (get_or_append_left items ((a, v) ∷ []) (0, 0) i b) in
-        let r : Reaches g bs (address_of items i % length bs) i = subst (λ (z : ℕ). Reaches g bs (z % length bs) i) e (x.reached i (omega (arith, more))) in
-        rw size (kept (address_of items i % length bs) i b r)
+        let r : Reaches g bs (home_of homes (length bs) (address_of items i)) i = subst (λ (z : ℕ). Reaches g bs (home_of homes (length bs) z) i) e (x.reached i (omega (arith, more))) in
+        rw size (kept (home_of homes (length bs) (address_of items i)) i b r)
 
     old : (y : ℕ) → y < length (set bs at q) → (bucket_at (set bs at q) y).mark ≡ g → (y ≢ at) × (bucket_at (set bs at q) y ≡ bucket_at bs y)
     old y b t =
@@ -428,7 +429,7 @@ index-pop g items bs a v at x some l m is = record {
         omega (arith, more, x.few, none, o, sum_by-set (taken g) bs at q blank l)
 
 -- the lookup of an item's address ends at the bucket that names the item
-pub lookup-at : (g : ℕ) (items : List (ℕ × ℕ)) (bs : List Bucket) (a i : ℕ) (s : Lookup) → Once items → IsLookup g items bs a s → i < length items → address_of items i ≡ a → ((bucket_at bs s.at).mark ≡ g) × ((bucket_at bs s.at).item ≡ i)
+pub lookup-at : {homes : Homes} (g : ℕ) (items : List (ℕ × ℕ)) (bs : List Bucket) (a i : ℕ) (s : Lookup) → Once items → IsLookup homes g items bs a s → i < length items → address_of items i ≡ a → ((bucket_at bs s.at).mark ≡ g) × ((bucket_at bs s.at).item ≡ i)
 lookup-at g items bs a i s once found l e = by s.item refl
   where
     same : (j : ℕ) → j < length items → address_of items j ≡ a → j ≡ i
@@ -445,17 +446,17 @@ lookup-at g items bs a i s once found l e = by s.item refl
     by (Some j) f = let h = lookup-where g items bs a j s found f in (h.2, h.3 ∙ same j h.0 h.1)
 
 -- the same in the words of a lookup of the last item's address
-pub index-popped : (g : ℕ) (items : List (ℕ × ℕ)) (bs : List Bucket) (a last : ℕ) (s : Lookup) → IsIndex g items bs → 0 < g → last + 1 ≡ length items → IsLookup g items bs a s → address_of items last ≡ a → IsIndex g (take last items) (set bs s.at (record { mark = 0; item = 0 }))
-index-popped g items bs a last s x some size found e =
+pub index-popped : {homes : Homes} (g : ℕ) (items : List (ℕ × ℕ)) (bs : List Bucket) (a last : ℕ) (s : Lookup) → IsIndex homes g items bs → 0 < g → last + 1 ≡ length items → IsLookup homes g items bs a s → address_of items last ≡ a → IsIndex homes g (take last items) (set bs s.at (record { mark = 0; item = 0 }))
+index-popped {homes} g items bs a last s x some size found e =
     let h = lookup-at g items bs a last s x.once found (omega arith) e in
     let all : take last items ++ get_or items last (0, 0) ∷ [] ≡ items = sym (take_more items last (0, 0) (omega arith)) ∙ (ap (λ (k : ℕ). take k items) size ∙ take-length items) in
     let front : length (take last items) ≡ last = length-take-le last items (omega arith) in
-    index-pop g (take last items) bs (get_or items last (0, 0)).0 (get_or items last (0, 0)).1 s.at (subst (λ (ys : List (ℕ × ℕ)). IsIndex g ys bs) (sym all) x) some found.within h.0 (h.1 ∙ sym front)
+    index-pop g (take last items) bs (get_or items last (0, 0)).0 (get_or items last (0, 0)).1 s.at (subst (λ (ys : List (ℕ × ℕ)). IsIndex homes g ys bs) (sym all) x) some found.within h.0 (h.1 ∙ sym front)
 
 -- a new item of an address that none has, at the bucket where its lookup ends
-pub index-taken : (g : ℕ) (items : List (ℕ × ℕ)) (bs : List Bucket) (a v : ℕ) (s : Lookup) → IsIndex g items bs → length items < length bs → IsLookup g items bs a s → item_at a items ≡ None → IsIndex g (items ++ (a, v) ∷ []) (set bs s.at (record { mark = g; item = length items }))
-index-taken g items bs a v s x room found new = by s.item refl
+pub index-taken : {homes : Homes} (g : ℕ) (items : List (ℕ × ℕ)) (bs : List Bucket) (a v : ℕ) (s : Lookup) → IsIndex homes g items bs → length items < length bs → IsLookup homes g items bs a s → item_at a items ≡ None → IsIndex homes g (items ++ (a, v) ∷ []) (set bs s.at (record { mark = g; item = length items }))
+index-taken {homes} g items bs a v s x room found new = by s.item refl
   where
-    by : (o : Option ℕ) → s.item ≡ o → IsIndex g (items ++ (a, v) ∷ []) (set bs s.at (record { mark = g; item = length items }))
+    by : (o : Option ℕ) → s.item ≡ o → IsIndex homes g (items ++ (a, v) ∷ []) (set bs s.at (record { mark = g; item = length items }))
     by None e = index-push g items bs a v s x room found e
     by (Some i) e = let h = lookup-found g items bs a i s found e in absurd (none-other items a i new h.0 h.1)

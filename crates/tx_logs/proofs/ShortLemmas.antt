@@ -8,6 +8,7 @@ use Rattle.std.proofs.Math.Seq.{get_or-append_seam, take-length}
 use Rattle.std.proofs.lemmas.Nat.Bits.{bit_at-zero, bit_at_and, bit_at_or, bit_at-pow_same, bit_at-lt}
 use Rattle.stm_model.specs.Memories.{item_at, Once}
 use Rattle.tx_logs.specs.declared.index.Bucket.{Bucket}
+use Rattle.tx_logs.specs.declared.index.Homes.TheVariants.{Mixed}
 use Rattle.tx_logs.specs.Buckets.{address_of, IsIndex}
 use Rattle.tx_logs.specs.ShortLogs.{HasSeen, IsKept, IsPosition}
 use Rattle.tx_logs.proofs.ItemLemmas.{SameAddresses, none-where, item-here, once-same, once-more, once-less}
@@ -55,7 +56,7 @@ kept-same short seen g items others bs s k = record {
 }
 
 -- an empty log
-pub kept-empty : (short seen g : ℕ) (bs : List Bucket) → short ≤ 8 → IsIndex g [] bs → IsKept short seen g [] bs
+pub kept-empty : (short seen g : ℕ) (bs : List Bucket) → short ≤ 8 → IsIndex Mixed g [] bs → IsKept short seen g [] bs
 kept-empty short seen g bs most x = record {
   once = tt;
   front = λ i l. absurd (omega arith);
@@ -77,7 +78,7 @@ kept-more short seen g a v items bs l new k = record {
 }
 
 -- all items in the index
-pub kept-indexed : (seen g a v : ℕ) (items : List (ℕ × ℕ)) (bs : List Bucket) → HasSeen seen items → IsIndex g (items ++ (a, v) ∷ []) bs → IsKept 0 (bit_or seen (2 ^ (a % 64))) g (items ++ (a, v) ∷ []) bs
+pub kept-indexed : (seen g a v : ℕ) (items : List (ℕ × ℕ)) (bs : List Bucket) → HasSeen seen items → IsIndex Mixed g (items ++ (a, v) ∷ []) bs → IsKept 0 (bit_or seen (2 ^ (a % 64))) g (items ++ (a, v) ∷ []) bs
 kept-indexed seen g a v items bs h x = record {
   once = x.once;
   front = seen-more seen a v items h;
@@ -103,7 +104,7 @@ kept-less short seen g n items bs some e k = record {
   indexed = λ z. absurd (some z);
 }
 
-pub kept-less-indexed : (short seen g n : ℕ) (items : List (ℕ × ℕ)) (bs : List Bucket) → short ≡ 0 → n + 1 ≡ length items → HasSeen seen items → short ≤ 8 → IsIndex g (take n items) bs → IsKept short seen g (take n items) bs
+pub kept-less-indexed : (short seen g n : ℕ) (items : List (ℕ × ℕ)) (bs : List Bucket) → short ≡ 0 → n + 1 ≡ length items → HasSeen seen items → short ≤ 8 → IsIndex Mixed g (take n items) bs → IsKept short seen g (take n items) bs
 kept-less-indexed short seen g n items bs z e h most x = record {
   once = x.once;
   front = seen-take seen n items (omega arith) h;
@@ -114,7 +115,7 @@ kept-less-indexed short seen g n items bs z e h most x = record {
 }
 
 -- a greater generation leaves every bucket open
-pub kept-raised : (short seen g : ℕ) (items : List (ℕ × ℕ)) (bs : List Bucket) → IsKept short seen g items bs → IsIndex (g + 1) [] bs
+pub kept-raised : (short seen g : ℕ) (items : List (ℕ × ℕ)) (bs : List Bucket) → IsKept short seen g items bs → IsIndex Mixed (g + 1) [] bs
 kept-raised zero seen g items bs k = raised g items bs (k.indexed refl)
 kept-raised (suc s) seen g items bs k = raised g [] bs (k.blank (λ e. omega arith))
 

@@ -1,9 +1,16 @@
 -- The index of a log: what its buckets tell of the items, and what looking up an address finds there.
-use Rattle.std.specs.Prelude.{ℕ, ◌≡◌, ◌≢◌, ◌<◌, ◌≤◌, ◌+◌, ◌-◌, ◌%◌, ◌==◌, nat_lt, if◌then◌else◌, List, length, slice_index_or, MatchOption, None}
+use Rattle.std.specs.Prelude.{ℕ, ◌≡◌, ◌≢◌, ◌<◌, ◌≤◌, ◌+◌, ◌-◌, ◌*◌, ◌/◌, ◌%◌, ◌==◌, nat_lt, if◌then◌else◌, List, length, slice_index_or, MatchOption, None}
 use Rattle.std.specs.List.{sum_by}
 use Rattle.stm_model.specs.Memories.{item_at, Once}
 use Rattle.tx_logs.specs.declared.index.Bucket.{Bucket}
 use Rattle.tx_logs.specs.declared.index.Lookup.{Lookup}
+use Rattle.tx_logs.specs.declared.index.Homes.{Homes}
+use Rattle.tx_logs.specs.declared.index.Homes.TheVariants.{Mixed, Modulo}
+
+-- The bucket at which the lookup of address a begins. Mixed: an address below the number of buckets is its own; of others the upper 32 bits of a product modulo 2^64 are scaled to that number.
+abbrev pub home_of : Homes → ℕ → ℕ → ℕ
+home_of Mixed buckets a = if nat_lt a buckets then a else a * 11400714819323198485 % 18446744073709551616 / 4294967296 * buckets / 4294967296
+home_of Modulo buckets a = a % buckets
 
 -- Number x where the first bucket comes again after the last; x is below twice their number.
 abbrev pub wrapped : ℕ → ℕ → ℕ
@@ -34,22 +41,21 @@ pub record Reaches (g : ℕ) (bs : List Bucket) (x i : ℕ) : Type 0 where
   pub mark : (bucket_at bs (x + distance)).mark ≡ g
   pub item : (bucket_at bs (x + distance)).item ≡ i
 
--- The buckets are an index of the items: one item an address; each is reached from its home, the bucket whose number is its address modulo the number of
--- buckets, past earlier items alone; a taken bucket names an item, and no other names the same; no mark is later than the generation; no more buckets are
--- taken than there are items.
-pub record IsIndex (g : ℕ) (items : List (ℕ × ℕ)) (bs : List Bucket) : Type 0 where
+-- The buckets are an index of the items: one item an address; each is reached from its home, past earlier items alone; a taken bucket names an item, and no other names the same;
+-- no mark is later than the generation; no more buckets are taken than there are items.
+pub record IsIndex (homes : Homes) (g : ℕ) (items : List (ℕ × ℕ)) (bs : List Bucket) : Type 0 where
   pub once : Once items
-  pub reached : (i : ℕ) → i < length items → Reaches g bs (address_of items i % length bs) i
+  pub reached : (i : ℕ) → i < length items → Reaches g bs (home_of homes (length bs) (address_of items i)) i
   pub names : (x : ℕ) → x < length bs → (bucket_at bs x).mark ≡ g → (bucket_at bs x).item < length items
   pub single : (x y : ℕ) → x < length bs → y < length bs → (bucket_at bs x).mark ≡ g → (bucket_at bs y).mark ≡ g → (bucket_at bs x).item ≡ (bucket_at bs y).item → x ≡ y
   pub latest : (x : ℕ) → x < length bs → (bucket_at bs x).mark ≤ g
   pub few : sum_by (taken g) bs ≤ length items
 
 -- Looking up a goes from its home over taken buckets of other addresses, no more than there are items, to the bucket that names the item of a, or to an open one, and then no item has a.
-pub record IsLookup (g : ℕ) (items : List (ℕ × ℕ)) (bs : List Bucket) (a : ℕ) (found : Lookup) : Type 0 where
+pub record IsLookup (homes : Homes) (g : ℕ) (items : List (ℕ × ℕ)) (bs : List Bucket) (a : ℕ) (found : Lookup) : Type 0 where
   pub within : found.at < length bs
   pub distance : found.distance ≤ length items
-  pub at : found.at ≡ wrapped (length bs) (a % length bs + found.distance)
-  pub passed : AllTaken g bs (a % length bs) found.distance
-  pub others : (k : ℕ) → k < found.distance → address_of items (bucket_at bs (a % length bs + k)).item ≢ a
+  pub at : found.at ≡ wrapped (length bs) (home_of homes (length bs) a + found.distance)
+  pub passed : AllTaken g bs (home_of homes (length bs) a) found.distance
+  pub others : (k : ℕ) → k < found.distance → address_of items (bucket_at bs (home_of homes (length bs) a + k)).item ≢ a
   pub answer : MatchOption found.item ((item_at a items ≡ None) × ((bucket_at bs found.at).mark ≢ g)) (λ i. (i < length items) × (address_of items i ≡ a) × ((bucket_at bs found.at).mark ≡ g) × ((bucket_at bs found.at).item ≡ i))

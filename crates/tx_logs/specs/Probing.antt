@@ -1,22 +1,27 @@
--- How many buckets a lookup looks at, by the list of the items alone.
-use Rattle.std.specs.Prelude.{ℕ, ◌≡◌, ◌≢◌, ◌<◌, ◌+◌, ◌%◌, List, length, Option, Some, MatchOption}
-use Rattle.tx_logs.specs.Buckets.{wrapped, address_of}
+-- Where lookups go, by the list of the items alone.
+use Rattle.std.specs.Prelude.{ℕ, ◌≡◌, ◌≢◌, ◌<◌, ◌+◌, List, length, Option, Some, MatchOption}
+use Rattle.tx_logs.specs.declared.index.Homes.{Homes}
+use Rattle.tx_logs.specs.declared.index.Homes.TheVariants.{Modulo}
+use Rattle.tx_logs.specs.Buckets.{wrapped, home_of, address_of}
 
 -- the bucket so many behind the address's home
-abbrev pub behind_home : ℕ → ℕ → ℕ → ℕ
-behind_home buckets a k = wrapped buckets (a % buckets + k)
+abbrev pub behind_home : Homes → ℕ → ℕ → ℕ → ℕ
+behind_home homes buckets a k = wrapped buckets (home_of homes buckets a + k)
 
 -- which item each bucket has: item i the first from its address's home on that no earlier item has, and no other
-pub record HasBuckets (buckets : ℕ) (items : List (ℕ × ℕ)) (owner : ℕ → Option ℕ) : Type 0 where
-  pub placed : (i : ℕ) → i < length items → (d : ℕ) × (d < buckets) × (owner (behind_home buckets (address_of items i) d) ≡ Some i) × ((k : ℕ) → k < d → (j : ℕ) × (j < i) × (owner (behind_home buckets (address_of items i) k) ≡ Some j))
+pub record HasBuckets (homes : Homes) (buckets : ℕ) (items : List (ℕ × ℕ)) (owner : ℕ → Option ℕ) : Type 0 where
+  pub placed : (i : ℕ) → i < length items → (d : ℕ) × (d < buckets) × (owner (behind_home homes buckets (address_of items i) d) ≡ Some i) × ((k : ℕ) → k < d → (j : ℕ) × (j < i) × (owner (behind_home homes buckets (address_of items i) k) ≡ Some j))
   pub named : (x i : ℕ) → x < buckets → owner x ≡ Some i → i < length items
   pub single : (x y i : ℕ) → x < buckets → y < buckets → owner x ≡ Some i → owner y ≡ Some i → x ≡ y
 
--- a lookup of a looks at n buckets: from its home on those of other addresses, and last at that of its item, or at one that no item has
-pub record IsProbed (buckets : ℕ) (items : List (ℕ × ℕ)) (a n : ℕ) : Type 0 where
+-- a lookup of a passes so many buckets: from its home on those of other addresses, and ends at that of its item, or at one that no item has
+pub record Passes (homes : Homes) (buckets : ℕ) (items : List (ℕ × ℕ)) (a passed : ℕ) : Type 0 where
   pub owner : ℕ → Option ℕ
-  pub has : HasBuckets buckets items owner
-  pub passed : ℕ
-  pub is : n ≡ passed + 1
-  pub others : (k : ℕ) → k < passed → (j : ℕ) × (j < length items) × (owner (behind_home buckets a k) ≡ Some j) × (address_of items j ≢ a)
-  pub last : MatchOption (owner (behind_home buckets a passed)) (Unit {0}) (λ j. address_of items j ≡ a)
+  pub has : HasBuckets homes buckets items owner
+  pub within : passed < buckets
+  pub others : (k : ℕ) → k < passed → (j : ℕ) × (j < length items) × (owner (behind_home homes buckets a k) ≡ Some j) × (address_of items j ≢ a)
+  pub last : MatchOption (owner (behind_home homes buckets a passed)) (Unit {0}) (λ j. address_of items j ≡ a)
+
+-- with homes modulo the number of buckets a lookup of a looks at n buckets, the last among them
+abbrev pub IsProbed : ℕ → List (ℕ × ℕ) → ℕ → ℕ → Type 0
+IsProbed buckets items a n = (passed : ℕ) × (n ≡ passed + 1) × Passes Modulo buckets items a passed

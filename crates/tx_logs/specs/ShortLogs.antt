@@ -3,6 +3,7 @@ use Rattle.std.specs.Prelude.{ℕ, ◌≡◌, ◌≢◌, ◌<◌, ◌≤◌, ◌
 use Rattle.std.specs.Int.{bit_at}
 use Rattle.stm_model.specs.Memories.{item_at, Once}
 use Rattle.tx_logs.specs.declared.index.Bucket.{Bucket}
+use Rattle.tx_logs.specs.declared.index.Homes.TheVariants.{Mixed}
 use Rattle.tx_logs.specs.Buckets.{address_of, IsIndex}
 
 -- the word has the bit of each item's address
@@ -15,8 +16,8 @@ pub record IsKept (short seen g : ℕ) (items : List (ℕ × ℕ)) (bs : List Bu
   pub front : HasSeen seen items
   pub most : short ≤ 8
   pub few : short ≢ 0 → length items ≤ short
-  pub blank : short ≢ 0 → IsIndex g [] bs
-  pub indexed : short ≡ 0 → IsIndex g items bs
+  pub blank : short ≢ 0 → IsIndex Mixed g [] bs
+  pub indexed : short ≡ 0 → IsIndex Mixed g items bs
 
 -- the number of the address's item, or that of the items where none has it
 pub record IsPosition (a : ℕ) (items : List (ℕ × ℕ)) (i : ℕ) : Type 0 where

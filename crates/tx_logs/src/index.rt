@@ -1,10 +1,12 @@
-//! The index of a log: an open-addressing hash table of buckets, with linear probing. An address's home is
-//! the bucket whose number is the address modulo the number of buckets; a lookup goes on from there, from the
-//! last bucket to the first, up to the address or an open bucket. A bucket is taken where its mark is the
+//! The index of a log: an open-addressing hash table of buckets, with linear probing. A lookup goes on from the address's
+//! home, from the last bucket to the first, up to the address or an open bucket. A bucket is taken where its mark is the
 //! log's generation, so a log becomes empty by raising its generation.
-ghost use Rattle.std.specs.Prelude.{◌≡◌, ◌<◌, ◌≤◌, ◌%◌, ◌++◌, ◌∷◌, [], ℕ, None, length, slice_index_or};
+ghost use Rattle.std.specs.Prelude.{◌≡◌, ◌<◌, ◌≤◌, ◌++◌, ◌∷◌, [], ℕ, None, length, slice_index_or};
 ghost use Rattle.stm_model.specs.Memories.{item_at, Once};
-ghost use Rattle.tx_logs.specs.Buckets.{IsIndex, IsLookup, blank};
+ghost use Rattle.tx_logs.specs.Buckets.{IsIndex, IsLookup, blank, home_of};
+
+/// An odd number near 2^64 divided by the golden ratio: of its multiples, those of small numbers lie farthest apart.
+const GOLDEN: usize = 11400714819323198485;
 
 /// A bucket, and the item that it names while it is taken.
 #[derive(Clone, Copy, Drop, Debug, PartialEq, Eq)]
@@ -26,56 +28,47 @@ pub struct Lookup {
     pub item: Option<usize>,
 }
 
-/// The factor by which `home` guesses a quotient by this number of buckets.
-pub fn inverse_of(buckets: usize) -> usize
-    requires { 0 < buckets }
-{
-    4294967296 / buckets
+/// Where the lookups in an index begin.
+#[derive(Clone, Copy, Drop, Debug, PartialEq, Eq)]
+pub enum Homes {
+    /// By the high bits of a product with the address: addresses whose low bits agree come to lie apart.
+    Mixed,
+    /// At the bucket whose number is the address modulo the number of buckets.
+    Modulo,
 }
 
-/// The number of the bucket at which the lookup of `a` begins.
-///
-/// Below 2^32 an address costs a product and no division: the quotient is guessed as
-/// `a * inverse / 2^32`, which is at most one too low, and what is left is tested. A guess that fails the
-/// tests costs a division and nothing else, so the answer doesn't rest on `inverse`.
-#[inline]
-pub fn home(buckets: usize, inverse: usize, a: usize) -> usize
+/// The number of the bucket at which the lookup of `a` begins: an address below the number of buckets is its own home.
+#[inline(always)]
+pub fn home(homes: Homes, buckets: usize, a: usize) -> usize
     requires some { 0 < buckets }
     requires few { buckets ≤ 8192 }
-    ensures { result ≡ a % buckets }
+    ensures is { result ≡ home_of homes buckets a }
+    ensures within { result < buckets }
 {
     if a < buckets {
         return a;
     }
-    let quotient = a.wrapping_mul(inverse) / 4294967296;
-    let whole = quotient * buckets;
-    if whole <= a {
-        let rest = a - whole;
-        if rest < buckets {
-            return rest;
-        }
-        if rest - buckets < buckets {
-            return rest - buckets;
-        }
+    match homes {
+        Homes::Mixed => a.wrapping_mul(GOLDEN) / 4294967296 * buckets / 4294967296,
+        Homes::Modulo => a % buckets,
     }
-    a % buckets
 }
 
 /// Looks an address up. It looks at one bucket at least, and at one more than there are items at most.
 #[inline]
 pub fn look_up(
+    homes: Homes,
     index: &[Bucket],
     items: &[(usize, u64)],
     generation: u32,
-    inverse: usize,
     a: usize,
 ) -> Lookup
     requires few { length index.now ≤ 8192 }
-    requires indexed { IsIndex generation items.now index.now }
+    requires indexed { IsIndex homes generation items.now index.now }
     requires room { length items.now < length index.now }
-    ensures { IsLookup generation items.now index.now a result }
+    ensures { IsLookup homes generation items.now index.now a result }
 {
-    let mut at = home(index.len(), inverse, a);
+    let mut at = home(homes, index.len(), a);
     let mut distance = 0;
     loop {
         let bucket = index[at];
@@ -105,17 +98,17 @@ pub fn look_up(
 /// Takes a bucket for a new item after these, of an address that none of them has: the one at which its lookup ends. Where
 /// the first is open, no address is compared.
 #[inline(always)]
-pub fn take(index: &mut [Bucket], items: &[(usize, u64)], generation: u32, inverse: usize, a: usize)
+pub fn take(homes: Homes, index: &mut [Bucket], items: &[(usize, u64)], generation: u32, a: usize)
     requires few { length index.old ≤ 8192 }
-    requires indexed { IsIndex generation items.now index.old }
+    requires indexed { IsIndex homes generation items.now index.old }
     requires room { length items.now < length index.old }
     requires new { item_at a items.now ≡ None }
     ensures size { length index.new ≡ length index.old }
-    ensures indexed { (v : ℕ) → IsIndex generation (items.now ++ (a, v) ∷ []) index.new }
+    ensures indexed { (v : ℕ) → IsIndex homes generation (items.now ++ (a, v) ∷ []) index.new }
 {
-    let mut at = home(index.len(), inverse, a);
+    let mut at = home(homes, index.len(), a);
     if index[at].mark == generation {
-        at = look_up(index, items, generation, inverse, a).at;
+        at = look_up(homes, index, items, generation, a).at;
     }
     index[at] = Bucket {
         mark: generation,
@@ -124,16 +117,16 @@ pub fn take(index: &mut [Bucket], items: &[(usize, u64)], generation: u32, inver
 }
 
 /// Takes a bucket for each of the items, of which none has one.
-pub fn take_all(index: &mut [Bucket], items: &[(usize, u64)], generation: u32, inverse: usize)
+pub fn take_all(homes: Homes, index: &mut [Bucket], items: &[(usize, u64)], generation: u32)
     requires few { length index.old ≤ 8192 }
-    requires blank { IsIndex generation [] index.old }
+    requires blank { IsIndex homes generation [] index.old }
     requires room { length items.now < length index.old }
     requires once { Once items.now }
     ensures size { length index.new ≡ length index.old }
-    ensures indexed { IsIndex generation items.now index.new }
+    ensures indexed { IsIndex homes generation items.now index.new }
 {
     for i in 0..items.len() {
-        take(index, &items[..i], generation, inverse, items[i].0);
+        take(homes, index, &items[..i], generation, items[i].0);
     }
 }
 

@@ -5,7 +5,8 @@ ghost use Rattle.tx_logs.specs.Probing.{IsProbed};
 ghost use Rattle.tx_logs.specs.LogStates.{LogState, Pushes, empty_at, next_generation, pushed, renewed};
 ghost use Rattle.tx_logs.specs.ShortLogs.{IsPosition};
 
-use crate::index::{Bucket, clear_marks, home, inverse_of, look_up, take};
+use crate::index::{Bucket, Homes, clear_marks, home, look_up, take};
+use crate::probes::probes_among;
 use crate::push::{Push, Repeat};
 use std::alloc::Global;
 use std::marker::Model;
@@ -19,8 +20,6 @@ pub struct IndexedLog {
     index: Vec<Bucket>,
     generation: u32,
     len: usize,
-    /// What `home` needs for this number of buckets.
-    inverse: usize,
 }
 
 impl Model for IndexedLog {
@@ -30,10 +29,11 @@ impl Model for IndexedLog {
     ghost Value = { LogState };
 
     ghost use Rattle.tx_logs.specs.Buckets.{IsIndex};
+    ghost use Rattle.tx_logs.specs.declared.index.Homes.TheVariants.{Mixed};
 
     ghost view = { λ l. record { items = l.items.items; len = l.len; generation = l.generation; marks = [] } };
 
-    ghost invariant = { λ l. IsIndex l.generation l.items.items l.index.items × (length l.index.items ≡ 2 * l.len) × (length l.items.items ≤ l.len) × (1 ≤ l.len) × (l.len ≤ 4096) × (1 ≤ l.generation) × (l.len ≤ vec_capacity l.items) };
+    ghost invariant = { λ l. IsIndex Mixed l.generation l.items.items l.index.items × (length l.index.items ≡ 2 * l.len) × (length l.items.items ≤ l.len) × (1 ≤ l.len) × (l.len ≤ 4096) × (1 ≤ l.generation) × (l.len ≤ vec_capacity l.items) };
 }
 
 impl IndexedLog {
@@ -54,7 +54,6 @@ impl IndexedLog {
             index,
             generation,
             len,
-            inverse: inverse_of(2 * len),
         })
     }
 
@@ -67,7 +66,7 @@ impl IndexedLog {
         if self.items.is_empty() {
             return None;
         }
-        let home = home(self.index.len(), self.inverse, a);
+        let home = home(Homes::Mixed, self.index.len(), a);
         if self.index[home].mark != self.generation {
             return None;
         }
@@ -85,19 +84,19 @@ impl IndexedLog {
     fn position(&self, a: usize) -> usize
         ensures { IsPosition a self.now.items result }
     {
-        match look_up(&self.index, &self.items, self.generation, self.inverse, a).item {
+        match look_up(Homes::Mixed, &self.index, &self.items, self.generation, a).item {
             Some(i) => i,
             None => self.items.len(),
         }
     }
 
-    /// How many buckets a lookup of the address looks at: those from its home on that other addresses have, and one
-    /// more. At most the number of items plus 1.
+    /// How many buckets a lookup of the address would look at in an index by the address modulo the number of buckets: those
+    /// from its home on that other addresses have, and one more. At most the number of items plus 1. It makes that index.
     pub fn probes(&self, a: usize) -> usize
         ensures probed { IsProbed (2 * self.now.len) self.now.items a result }
         ensures high { result ≤ length self.now.items + 1 }
     {
-        look_up(&self.index, &self.items, self.generation, self.inverse, a).distance + 1
+        probes_among(self.index.len(), &self.items, a)
     }
 
     /// How many items there are, at most the length. No two have one address.
@@ -140,7 +139,7 @@ impl IndexedLog {
     pub fn push(&mut self, a: usize, v: u64, repeat: Repeat) -> Push
         ensures { Pushes self.old a (pushed repeat a v self.old.items) result self.new }
     {
-        let found = look_up(&self.index, &self.items, self.generation, self.inverse, a);
+        let found = look_up(Homes::Mixed, &self.index, &self.items, self.generation, a);
         if let Some(i) = found.item {
             return match repeat {
                 Repeat::Keep => Push::Done,
@@ -170,10 +169,10 @@ impl IndexedLog {
         ensures { self.new ≡ record self.old { items = self.old.items ++ (a, v) ∷ [] } }
     {
         take(
+            Homes::Mixed,
             &mut self.index,
             &self.items,
             self.generation,
-            self.inverse,
             a,
         );
         self.items.push_reserved((a, v));

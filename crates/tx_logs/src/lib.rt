@@ -8,6 +8,7 @@ pub mod index;
 pub mod indexed_log;
 pub mod laws;
 pub mod marks;
+pub mod probes;
 pub mod push;
 pub mod read_log;
 pub mod short_log;

@@ -6,7 +6,8 @@ ghost use Rattle.tx_logs.specs.Probing.{IsProbed};
 ghost use Rattle.tx_logs.specs.ShortLogs.{IsPosition};
 ghost use Rattle.tx_logs.specs.LogStates.{LogState, Pushes, empty_at, next_generation, pushed, renewed, with_last};
 
-use crate::index::{Bucket, clear_marks, inverse_of, look_up, take, take_all};
+use crate::index::{Bucket, Homes, clear_marks, look_up, take, take_all};
+use crate::probes::probes_among;
 use crate::push::{Push, Repeat};
 use std::alloc::Global;
 use std::marker::Model;
@@ -27,8 +28,6 @@ pub struct ShortLog {
     index: Vec<Bucket>,
     generation: u32,
     len: usize,
-    /// What `home` needs for this number of buckets.
-    inverse: usize,
 }
 
 impl Model for ShortLog {
@@ -64,7 +63,6 @@ impl ShortLog {
             index,
             generation,
             len,
-            inverse: inverse_of(2 * len),
         })
     }
 
@@ -97,31 +95,19 @@ impl ShortLog {
         if self.short != 0 {
             return look_through(&self.items, a);
         }
-        match look_up(&self.index, &self.items, self.generation, self.inverse, a).item {
+        match look_up(Homes::Mixed, &self.index, &self.items, self.generation, a).item {
             Some(i) => i,
             None => self.items.len(),
         }
     }
 
-    /// How many buckets a lookup of the address looks at in an index of the items: those from its home on that other
-    /// addresses have, and one more. At most the number of items plus 1.
+    /// How many buckets a lookup of the address would look at in an index by the address modulo the number of buckets: those
+    /// from its home on that other addresses have, and one more. At most the number of items plus 1. It makes that index.
     pub fn probes(&self, a: usize) -> usize
         ensures probed { IsProbed (2 * self.now.len) self.now.items a result }
         ensures high { result ≤ length self.now.items + 1 }
     {
-        if self.short != 0 {
-            return self.probes_of_short(a);
-        }
-        look_up(&self.index, &self.items, self.generation, self.inverse, a).distance + 1
-    }
-
-    /// The same for a short log, by an index that is made to be asked.
-    fn probes_of_short(&self, a: usize) -> usize
-        ensures probed { IsProbed (2 * self.now.len) self.now.items a result }
-        ensures high { result ≤ length self.now.items + 1 }
-    {
-        let mut room = [Bucket { mark: 0, item: 0 }; 8192];
-        probes_in(&mut room, self.index.len(), &self.items, self.inverse, a)
+        probes_among(self.index.len(), &self.items, a)
     }
 
     /// How many items there are, at most the length. No two have one address.
@@ -217,17 +203,17 @@ impl ShortLog {
         self.seen |= bit_of(a);
         if self.short == 0 {
             take(
+                Homes::Mixed,
                 &mut self.index,
                 &self.items,
                 self.generation,
-                self.inverse,
                 a,
             );
             self.items.push_reserved((a, v));
             return Push::Done;
         }
         self.items.push_reserved((a, v));
-        take_all(&mut self.index, &self.items, self.generation, self.inverse);
+        take_all(Homes::Mixed, &mut self.index, &self.items, self.generation);
         self.short = 0;
         Push::Done
     }
@@ -254,7 +240,7 @@ impl ShortLog {
             self.items.truncate(last);
             return;
         }
-        let found = look_up(&self.index, &self.items, self.generation, self.inverse, a);
+        let found = look_up(Homes::Mixed, &self.index, &self.items, self.generation, a);
         self.index[found.at] = Bucket { mark: 0, item: 0 };
         self.items.truncate(last);
     }
@@ -334,24 +320,4 @@ fn look_through(items: &[(usize, u64)], a: usize) -> usize
         }
     }
     items.len()
-}
-
-/// How many buckets a lookup of the address looks at in an index of the items, made in this room.
-fn probes_in(
-    room: &mut [Bucket; 8192],
-    buckets: usize,
-    items: &[(usize, u64)],
-    inverse: usize,
-    a: usize,
-) -> usize
-    requires few { buckets ≤ 8192 }
-    requires room { length items.now < buckets }
-    requires once { Once items.now }
-    ensures probed { IsProbed buckets items.now a result }
-    ensures high { result ≤ length items.now + 1 }
-{
-    let index = &mut room[..buckets];
-    clear_marks(index);
-    take_all(index, items, 1, inverse);
-    look_up(index, items, 1, inverse, a).distance + 1
 }

@@ -73,8 +73,8 @@ impl UndoLog {
         self.log.find(a)
     }
 
-    /// How many buckets a lookup of the address looks at: those from its home on that other addresses have, and one
-    /// more. At most the number of items plus 1.
+    /// How many buckets a lookup of the address would look at in an index by the address modulo the number of buckets: those
+    /// from its home on that other addresses have, and one more. At most the number of items plus 1.
     pub fn probes(&self, a: usize) -> usize
         ensures probed { IsProbed (2 * self.now.len) self.now.items a result }
         ensures high { result ≤ length self.now.items + 1 }

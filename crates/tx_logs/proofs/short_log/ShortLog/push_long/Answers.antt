@@ -1,6 +1,7 @@
 use Rattle.std.proofs.Common.{◌≡◌, ◌<◌, ◌++◌, [], ◌∷◌, length, length-append, sym, ap, ◌∙◌, arith}
 use Rattle.std.specs.Prelude.{None}
 use Rattle.stm_model.specs.Memories.{item_at}
+use Rattle.tx_logs.specs.declared.index.Homes.TheVariants.{Mixed}
 use Rattle.tx_logs.specs.Buckets.{IsIndex}
 use Rattle.tx_logs.specs.LogStates.{LogState}
 use Rattle.tx_logs.proofs.BucketLemmas.{written-over}
@@ -19,7 +20,7 @@ invariant_of-self c =
     let room : length xs < c.self.inside.len = omega (arith, c.if-count-self.false, c.len-count.ensures, c.self.inside.items.ok.0, i.3) in
     let size : length c.take.new.index ≡ length bs = c.take.ensures.size ∙ ap length c.deref_mut.ensures.value in
     let whole = written-over c.take.new.index bs c.self.inside.index.len size (sym c.deref_mut.ensures.len ∙ sym c.take.ensures.size) in
-    let more : IsIndex c.self.inside.generation (xs ++ (a, v) ∷ []) c.take.new.index = rw c.deref.ensures.value at (c.take.ensures.indexed v) in
+    let more : IsIndex Mixed c.self.inside.generation (xs ++ (a, v) ∷ []) c.take.new.index = rw c.deref.ensures.value at (c.take.ensures.indexed v) in
     rw (c.push_reserved.ensures.items, c.push_reserved.ensures.capacity, whole, c.bit_of.ensures, c.if-self-eq0.true)
     (kept-indexed c.self.inside.seen c.self.inside.generation a v xs c.take.new.index i.0.front more, omega arith, size ∙ i.2, omega (arith, length-append xs ((a, v) ∷ [])), i.4, i.5, i.6, i.7)
 
@@ -47,7 +48,7 @@ invariant_of-self-2 c =
     let room : length xs < c.self.inside.len = omega (arith, c.if-count-self.false, c.len-count.ensures, c.self.inside.items.ok.0, i.3) in
     let size : length c.take_all.new.index ≡ length bs = c.take_all.ensures.size ∙ ap length c.deref_mut-2.ensures.value in
     let whole = written-over c.take_all.new.index bs c.self.inside.index.len size (sym c.deref_mut-2.ensures.len ∙ sym c.take_all.ensures.size) in
-    let all : IsIndex c.self.inside.generation (xs ++ (a, v) ∷ []) c.take_all.new.index = rw (c.deref-2.ensures.value, c.push_reserved-2.ensures.items) at c.take_all.ensures.indexed in
+    let all : IsIndex Mixed c.self.inside.generation (xs ++ (a, v) ∷ []) c.take_all.new.index = rw (c.deref-2.ensures.value, c.push_reserved-2.ensures.items) at c.take_all.ensures.indexed in
     rw (c.push_reserved-2.ensures.items, c.push_reserved-2.ensures.capacity, whole, c.bit_of.ensures)
     (kept-indexed c.self.inside.seen c.self.inside.generation a v xs c.take_all.new.index i.0.front all, omega arith, size ∙ i.2, omega (arith, length-append xs ((a, v) ∷ [])), i.4, i.5, i.6, i.7)
 
