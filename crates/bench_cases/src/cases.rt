@@ -2,6 +2,7 @@
 //! said of it.
 use bench_core::bench::bench;
 use bench_core::status::Status;
+use bench_core::telling::told;
 use bench_core::{MemSink, MemSource, Open, Turnstile};
 use std::alloc::Global;
 use std::sync::Wait;
@@ -117,7 +118,32 @@ pub fn outcome(
     outcome_through(rt, alloc, words, text, takes, room, &Open)
 }
 
-/// The same, through this turnstile.
+/// What is told on standard error of such a call.
+pub fn told_of(
+    rt: &(impl Threads + Wait + Sync),
+    alloc: Global,
+    words: &[&str],
+    text: &str,
+    takes: &[u64],
+    room: usize,
+) -> Result<Option<String>, Fail> {
+    let mut source = MemSource::new(text.as_bytes().to_vec(alloc)?, takes.to_vec(alloc)?);
+    let mut sink = MemSink::new(alloc, room, Vec::new(alloc))?;
+    let mut why = None;
+    let status = bench(
+        rt,
+        alloc,
+        words,
+        &mut source,
+        &mut sink,
+        &Open,
+        &mut None,
+        &mut why,
+    );
+    Ok(told(alloc, status, why)?)
+}
+
+/// What [`outcome`] gives, through this turnstile.
 pub fn outcome_through(
     rt: &(impl Threads + Wait + Sync),
     alloc: Global,
@@ -138,6 +164,7 @@ pub fn outcome_through(
         &mut sink,
         turnstile,
         &mut last,
+        &mut None,
     );
     let held = String::from_utf8(sink.held().to_vec(alloc)?)?;
     Ok((status, held))

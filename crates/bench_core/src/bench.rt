@@ -11,6 +11,7 @@ use std::alloc::Global;
 use std::sync::Wait;
 use std::thread::Threads;
 use stm_check::checking::MOST_CHECKED;
+use stm_faults::workload::workload_fault;
 use stm_io::ends::{Failed, Sink, Source};
 use stm_io::whole::{ReadError, put_all, read_all};
 use stm_model::memory::Memory;
@@ -44,6 +45,8 @@ const MOST_READ: usize = 16777217;
 /// `rt` is the runtime value that waiting calls and threads take: a transaction that does not get the memory
 /// begins again, for as long as it takes. `turnstile` is passed right before an attempt's first commit; see
 /// [`Turnstile`].
+///
+/// `Refused` and `No` leave in `why` what is wrong with the text, in a sentence, where memory for it is there.
 pub fn bench<R: Threads + Wait + Sync, S: Source, K: Sink, G: Turnstile + Sync>(
     rt: &R,
     alloc: Global,
@@ -52,6 +55,7 @@ pub fn bench<R: Threads + Wait + Sync, S: Source, K: Sink, G: Turnstile + Sync>(
     sink: &mut K,
     turnstile: &G,
     last: &mut Option<Closed>,
+    why: &mut Option<String>,
 ) -> Status
     ensures { IsOutcome S.left S.faults source.old source.new words.now K.held K.faults sink.old sink.new last.old last.new result }
 {
@@ -61,6 +65,7 @@ pub fn bench<R: Threads + Wait + Sync, S: Source, K: Sink, G: Turnstile + Sync>(
     match put_all(sink, saying.text.as_slice()) {
         Ok(()) => {
             keep(last, saying.closed);
+            *why = saying.why;
             saying.status
         }
         Err(Failed) => Status::WriteFault,
@@ -93,6 +98,7 @@ fn saying_of_words<R: Threads + Wait + Sync, S: Source, G: Turnstile + Sync>(
             status: Status::Usage,
             text: messages::usage(alloc)?,
             closed: None,
+            why: None,
         });
     };
     match command {
@@ -124,17 +130,19 @@ fn saying_of_check<S: Source>(alloc: Global, source: &mut S) -> Result<Saying, M
     let read_fault = messages::read_fault(alloc)?;
     match read_all(alloc, source, MOST_CHECKED) {
         Ok(text) => {
-            let (status, text) = judge(alloc, text.as_slice())?;
+            let (status, text, why) = judge(alloc, text.as_slice())?;
             Ok(Saying {
                 status,
                 text,
                 closed: None,
+                why,
             })
         }
         Err(ReadError::Failed) => Ok(Saying {
             status: Status::ReadFault,
             text: read_fault,
             closed: None,
+            why: None,
         }),
         Err(ReadError::Memory) => Err(Memory),
     }
@@ -161,6 +169,7 @@ fn saying_of_source<R: Threads + Wait + Sync, S: Source, G: Turnstile + Sync>(
             status: Status::ReadFault,
             text: read_fault,
             closed: None,
+            why: None,
         }),
         Err(ReadError::Memory) => Err(Memory),
     }
@@ -186,6 +195,7 @@ fn saying_of_text<R: Threads + Wait + Sync, G: Turnstile + Sync>(
             status: Status::Refused { line, code },
             text: messages::refused(alloc, line, code)?,
             closed: None,
+            why: workload_fault(alloc, text, line, code).ok(),
         }),
         Err(ParseError::Memory) => Err(Memory),
     }

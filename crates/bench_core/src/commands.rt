@@ -26,12 +26,14 @@ use stm_text::report::{report_text, report_text_by};
 use stm_trace::text::trace_text;
 use stm_worker::turnstile::Turnstile;
 
-/// A status, the whole text that it writes, and the closed memory of a run.
+/// A status, the whole text that it writes, the closed memory of a run, and what is wrong with a text that was read, in a
+/// sentence, where memory for it is there.
 #[derive(Drop)]
 pub(crate) struct Saying {
     pub(crate) status: Status,
     pub(crate) text: Vec<u8>,
     pub(crate) closed: Option<Closed>,
+    pub(crate) why: Option<String>,
 }
 
 /// What is to be written of a workload under `run` and this policy.
@@ -52,11 +54,13 @@ pub(crate) fn report<R: Threads + Wait + Sync, G: Turnstile + Sync>(
             status: Status::Ok,
             text: report_text_by(rt, alloc, &report, callers)?,
             closed: Some(closed),
+            why: None,
         }),
         Outcome::ToLimit { clock, closed } => Ok(Saying {
             status: Status::ClockFull { clock },
             text: messages::clock_full(alloc, clock)?,
             closed: Some(closed),
+            why: None,
         }),
         Outcome::OutOfMemory { closed: _ } => Err(Memory),
     }
@@ -80,6 +84,7 @@ pub(crate) fn trace<R: Threads + Wait + Sync>(
                 report_text(alloc, &report)?,
             )?,
             closed: Some(closed),
+            why: None,
         }),
         Outcome::ToLimit { clock, closed } => Ok(Saying {
             status: Status::ClockFull { clock },
@@ -88,6 +93,7 @@ pub(crate) fn trace<R: Threads + Wait + Sync>(
                 messages::clock_full(alloc, clock)?,
             )?,
             closed: Some(closed),
+            why: None,
         }),
         Outcome::OutOfMemory { closed: _ } => Err(Memory),
     }
@@ -114,6 +120,7 @@ pub(crate) fn summarize<R: Threads + Wait + Sync, G: Turnstile + Sync>(
             status: Status::Ok,
             text: summary_text(alloc, &Summary::of(&report))?,
             closed: Some(closed),
+            why: None,
         }),
         Outcome::ToLimit { .. } => unreachable!(),
         Outcome::OutOfMemory { closed: _ } => Err(Memory),

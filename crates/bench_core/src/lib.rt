@@ -10,7 +10,7 @@ mod messages;
 mod parts;
 pub mod program;
 pub mod status;
-mod telling;
+pub mod telling;
 
 pub use stm_io::ends::{Sink, Source};
 pub use stm_io::memory::{MemSink, MemSource};

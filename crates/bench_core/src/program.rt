@@ -13,7 +13,6 @@ use std::io::{self, Eprint, ErrorKind, Input, Print};
 use std::process::ExitCode;
 use std::sync::Wait;
 use std::thread::Threads;
-use stm_faults::kept::Kept;
 use stm_io::adapters::{ReadSource, WriteSink};
 use stm_io::ends::{Sink, Source};
 use stm_worker::turnstile::Open;
@@ -50,7 +49,7 @@ fn arguments<R: Env + AllocGlobal>(rt: &R) -> Result<Vec<String>, ErrorKind> {
 
 /// Ends where memory for the words was refused.
 fn refused<R: AllocGlobal + Eprint>(rt: &R) -> ExitCode {
-    tell(rt, &[], Status::Memory, None);
+    tell(rt, Status::Memory, None);
     ending(Status::Memory)
 }
 
@@ -65,10 +64,18 @@ fn answer<R: AllocGlobal + Input + Print + Eprint + Threads + Wait + Sync>(
             return refused(rt);
         }
     }
-    let mut source = Kept::new(rt.alloc(), ReadSource::new(rt.reader()));
+    let mut source = ReadSource::new(rt.reader());
     let mut sink = WriteSink::new(io::writer(rt));
-    let (status, exit) = exits(rt, rt.alloc(), words.as_slice(), &mut source, &mut sink);
-    tell(rt, words.as_slice(), status, source.text());
+    let mut why = None;
+    let (status, exit) = exits(
+        rt,
+        rt.alloc(),
+        words.as_slice(),
+        &mut source,
+        &mut sink,
+        &mut why,
+    );
+    tell(rt, status, why);
     exit
 }
 
@@ -79,18 +86,19 @@ fn exits<R: Threads + Wait + Sync, S: Source, K: Sink>(
     words: &[&str],
     source: &mut S,
     sink: &mut K,
+    why: &mut Option<String>,
 ) -> (Status, ExitCode)
     ensures { Exits S.left S.faults source.old source.new words.now K.held K.faults sink.old sink.new result.0 (exit_status result.1) }
 {
     let mut last = None;
-    let status = bench(rt, alloc, words, source, sink, &Open, &mut last);
+    let status = bench(rt, alloc, words, source, sink, &Open, &mut last, why);
     (status, ending(status))
 }
 
 /// Tells on standard error what a status means, where there is something to tell and memory to say it; nothing is known
 /// of whether it is read.
-fn tell<R: AllocGlobal + Eprint>(rt: &R, words: &[&str], status: Status, text: Option<&[u8]>) {
-    if let Ok(Some(said)) = told(rt.alloc(), words, status, text) {
+fn tell<R: AllocGlobal + Eprint>(rt: &R, status: Status, why: Option<String>) {
+    if let Ok(Some(said)) = told(rt.alloc(), status, why) {
         let _written = eprintln!(rt; "stm_bench: {said}");
     }
 }

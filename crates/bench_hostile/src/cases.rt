@@ -68,7 +68,7 @@ pub(crate) fn status_over(
     sink: &mut impl Sink,
 ) -> (Status, bool) {
     let mut last = None;
-    let status = bench(rt, alloc, words, source, sink, &Open, &mut last);
+    let status = bench(rt, alloc, words, source, sink, &Open, &mut last, &mut None);
     (status, last.is_some())
 }
 

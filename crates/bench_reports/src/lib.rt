@@ -10,4 +10,6 @@ mod report_tests;
 #[cfg(test)]
 mod structure_tests;
 #[cfg(test)]
+mod telling_tests;
+#[cfg(test)]
 mod version_two_tests;

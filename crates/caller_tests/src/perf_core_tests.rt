@@ -2,6 +2,7 @@
 
 use perf_core::conflicts::Conflicts;
 use perf_core::plan::{Plan, Workload, plan_of};
+use perf_core::program::told;
 use perf_core::run::run;
 use std::test::Fail;
 use stm_model::alg::{ALGORITHMS, Alg};
@@ -167,5 +168,23 @@ fn no_word_is_named_unasked(rt: HostRuntime) -> Result<(), Fail> {
     conflicts.refused(Ended::Conflict(Cause::Clock { had: 0, now: 2 }), Some(3));
     let named = format!(in rt.alloc(); "{conflicts}")?;
     assert_eq!(rt; named.as_str(), "");
+    Ok(())
+}
+
+/// What is told of each exit status but 0.
+#[test]
+fn each_status_is_told(rt: HostRuntime) -> Result<(), Fail> {
+    let table = [
+        (0, None),
+        (1, Some("the memory isn't what the transactions leave")),
+        (4, Some("standard output could not be written to the end")),
+        (5, Some("memory was refused")),
+    ];
+    for (status, said) in table {
+        assert_eq!(rt; told(status), said, "{status}");
+    }
+    let usage = told(2).unwrap_or("");
+    assert!(rt; usage.starts_with("usage: stm_perf WORKLOAD ALGORITHM THREADS COUNT SEED"));
+    assert!(rt; usage.contains("example: stm_perf bank OrecLazy 4 1000000 1"));
     Ok(())
 }

@@ -69,7 +69,11 @@ fn compare(
     if whole.len() > MOST_CHECKED {
         return Err(Fail::new("a text that is too long"));
     }
-    assert_eq!(rt; check(alloc, whole.as_slice())?, finding, "{report:?}");
+    assert_eq!(rt;
+        check(alloc, whole.as_slice())?.finding,
+        finding,
+        "{report:?}"
+    );
     Ok(match finding {
         Finding::Yes => 0,
         Finding::No { .. } => 1,

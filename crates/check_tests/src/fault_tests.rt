@@ -211,6 +211,63 @@ const FAULTS_REPORT: [(usize, &str, &str); 6] = [
     ),
 ];
 
+/// A workload of three transactions, of which the second may be cancelled.
+const THREE: &str =
+    "stm 1 / words 8 / callers 2 / records 4 / ring 4 / reads 256 / writes 256 / clock 0 / alg CGL / structs off / tx 0 / add 3 1 / end / tx 0 / read 3 / cancel / end / tx 1 / add 3 1 / irrev / emit 3 / end / done";
+
+/// A report that doesn't replay [`THREE`], and what is said of it. The report `report 1 / W 1 0 0 : 1 / C 1 0 1 : 1 1 /
+/// W 2 1 0 : 2 1 2 ! 2 / mem 3 2 / end` does.
+const WRONG_REPORTS: [(&str, &str); 12] = [
+    (
+        "report 1 / W 1 0 0 : 2 / end",
+        "in the report, after the workload's 23 lines: line 2, `W 1 0 0 : 2`: wanted  W 1 0 0 : 1  by its script, on the memory that the rows above leave",
+    ),
+    (
+        "report 1 / R 1 0 0 : 1 / end",
+        "in the report, after the workload's 23 lines: line 2, `R 1 0 0 : 1`: wanted  W 1 0 0 : 1  by its script, on the memory that the rows above leave",
+    ),
+    (
+        "report 1 / C 1 0 0 : 1 / end",
+        "in the report, after the workload's 23 lines: line 2, `C 1 0 0 : 1`: wanted  W 1 0 0 : 1  by its script, on the memory that the rows above leave",
+    ),
+    (
+        "report 1 / W 1 0 0 : 1 / C 1 0 1 : 1 / end",
+        "in the report, after the workload's 23 lines: line 3, `C 1 0 1 : 1`: wanted  C 1 0 1 : 1 1  by its script, on the memory that the rows above leave",
+    ),
+    (
+        "report 1 / W 1 0 0 : 1 / C 1 0 1 : 1 1 / W 2 1 0 : 2 1 2 / end",
+        "in the report, after the workload's 23 lines: line 4, `W 2 1 0 : 2 1 2`: wanted  W 2 1 0 : 2 1 2 ! 2  by its script, on the memory that the rows above leave",
+    ),
+    (
+        "report 1 / W 1 0 0 : 1 / W 0 1 0 : 2 1 2 ! 2 / end",
+        "in the report, after the workload's 23 lines: line 3, `W 0 1 0 : 2 1 2 ! 2`: wanted a row that comes after the one above it: by place, W before R and C, then by caller, then by number",
+    ),
+    (
+        "report 1 / W 1 0 0 : 1 / W 1 1 0 : 2 1 2 ! 2 / end",
+        "in the report, after the workload's 23 lines: line 3, `W 1 1 0 : 2 1 2 ! 2`: wanted another place than that of the W row above it",
+    ),
+    (
+        "report 1 / W 1 0 0 : 1 / C 1 0 2 : 1 1 / end",
+        "in the report, after the workload's 23 lines: line 3, `C 1 0 2 : 1 1`: wanted its caller's transaction 1, which is next, if the workload has it",
+    ),
+    (
+        "report 1 / W 1 0 0 : 1 / W 2 1 0 : 2 1 2 ! 2 / mem 3 2 / end",
+        "in the report, after the workload's 23 lines: line 4, `mem 3 2`: transaction 1 of caller 0 has no row; transactions count from 0",
+    ),
+    (
+        "report 1 / W 1 0 0 : 1 / C 1 0 1 : 1 1 / W 2 1 0 : 2 1 2 ! 2 / mem 3 1 / end",
+        "in the report, after the workload's 23 lines: line 5, `mem 3 1`: wanted  mem 3 2  by the memory that the rows leave",
+    ),
+    (
+        "report 1 / W 1 0 0 : 1 / C 1 0 1 : 1 1 / W 2 1 0 : 2 1 2 ! 2 / end",
+        "in the report, after the workload's 23 lines: line 5, `end`: wanted  mem 3 2  by the memory that the rows leave",
+    ),
+    (
+        "report 1 / W 1 0 0 : 1 / C 1 0 1 : 1 1 / W 2 1 0 : 2 1 2 ! 2 / mem 3 2 / mem 4 1 / end",
+        "in the report, after the workload's 23 lines: line 6, `mem 4 1`: wanted  end  as no further word isn't 0",
+    ),
+];
+
 /// A text that isn't one that `step` writes, its first line at fault, and what is said of it.
 const FAULTS_TRACE: [(&str, usize, &str); 3] = [
     (
@@ -257,10 +314,22 @@ fn said_of_check(alloc: Global, text: &str) -> Result<String, Fail> {
     if MOST_CHECKED < text.len() {
         return Err(Fail::new("a text that is too long"));
     }
-    let Finding::Faulty { line, code } = check(alloc, text.as_bytes())? else {
+    let Finding::Faulty { line, code } = check(alloc, text.as_bytes())?.finding else {
         return Err(Fail::new("a text without a fault"));
     };
     Ok(checked_fault(alloc, text.as_bytes(), line, code)?)
+}
+
+/// What is said of a workload and a report that doesn't replay it.
+fn said_of_no(alloc: Global, text: &str) -> Result<String, Fail> {
+    if MOST_CHECKED < text.len() {
+        return Err(Fail::new("a text that is too long"));
+    }
+    let checked = check(alloc, text.as_bytes())?;
+    let (Finding::No { line }, Some(wanted)) = (checked.finding, checked.wanted) else {
+        return Err(Fail::new("a report that replays its workload"));
+    };
+    Ok(wrong_line(alloc, text.as_bytes(), line, wanted)?)
 }
 
 fn compare(
@@ -340,18 +409,14 @@ fn the_other_faults_are_told(rt: HostRuntime) -> Result<(), Fail> {
     Ok(())
 }
 
+/// What the replay wants in the place of a fault.
 #[test]
 fn a_report_that_does_not_replay_is_told(rt: HostRuntime) -> Result<(), Fail> {
     let alloc = rt.alloc();
-    let mut text = changed(alloc, ONE, 0, "")?;
-    text.push_str(changed(alloc, REPORT, 2, "W 1 0 0 : 2")?.as_str())?;
-    assert_eq!(rt;
-        wrong_line(alloc, text.as_bytes(), 16)?.as_str(),
-        "in the report, after the workload's 14 lines: line 2, `W 1 0 0 : 2`: the row's kind, replies or emits aren't those of its script on the memory that the rows above leave; or it isn't its caller's next, or not in the order of place, W before R and C, caller and number; or it is a second W row of one place"
-    );
-    assert_eq!(rt;
-        wrong_line(alloc, text.as_bytes(), 17)?.as_str(),
-        "in the report, after the workload's 14 lines: line 3, `mem 3 1`: a transaction has no row above, or the memory that the rows leave has another word here"
-    );
+    for (report, said) in WRONG_REPORTS {
+        let mut text = changed(alloc, THREE, 0, "")?;
+        text.push_str(changed(alloc, report, 0, "")?.as_str())?;
+        assert_eq!(rt; said_of_no(alloc, text.as_str())?.as_str(), said);
+    }
     Ok(())
 }

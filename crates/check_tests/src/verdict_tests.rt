@@ -121,7 +121,7 @@ fn check_short(alloc: Global, text: &[u8]) -> Result<Finding, Memory> {
     if text.len() > MOST_CHECKED {
         return Err(Memory);
     }
-    check(alloc, text)
+    Ok(check(alloc, text)?.finding)
 }
 
 /// What a report of this workload comes to.
@@ -130,7 +130,7 @@ fn verdict(alloc: Global, workload: &str, report: &[u8]) -> Result<Verdict, Pars
     let workload = parse(alloc, workload.as_bytes(), Mode::Run)?;
     let report = read_report(alloc, report)?;
     match replay(alloc, &workload, &report) {
-        Ok(verdict) => Ok(verdict),
+        Ok(judged) => Ok(judged.verdict),
         Err(Memory) => Err(ParseError::Memory),
     }
 }
@@ -163,10 +163,14 @@ fn finds_what_stands_in_no_line_of_a_report(rt: HostRuntime) -> Result<(), Fail>
         ),
     ];
     for (text, finding) in table {
-        assert_eq!(rt; check(rt.alloc(), text.as_bytes())?, finding, "{text}");
+        assert_eq!(rt;
+            check(rt.alloc(), text.as_bytes())?.finding,
+            finding,
+            "{text}"
+        );
     }
     let alone = Finding::Faulty { line: 21, code: 3 };
-    assert_eq!(rt; check(rt.alloc(), WORKLOAD.as_bytes())?, alone);
+    assert_eq!(rt; check(rt.alloc(), WORKLOAD.as_bytes())?.finding, alone);
     Ok(())
 }
 
@@ -278,7 +282,11 @@ fn runs_every_kind_of_row(rt: HostRuntime) -> Result<(), Fail> {
         let mut text = String::new(rt.alloc());
         text.push_str(workload)?;
         text.push_str(report)?;
-        assert_eq!(rt; check(rt.alloc(), text.as_bytes())?, finding, "{report}");
+        assert_eq!(rt;
+            check(rt.alloc(), text.as_bytes())?.finding,
+            finding,
+            "{report}"
+        );
     }
     Ok(())
 }

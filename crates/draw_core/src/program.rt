@@ -10,7 +10,6 @@ use std::alloc::{AllocGlobal, Global};
 use std::env::{self, Env};
 use std::io::{self, Eprint, ErrorKind, Input, Print};
 use std::process::ExitCode;
-use stm_faults::kept::Kept;
 use stm_io::adapters::{ReadSource, WriteSink};
 use stm_io::ends::{Sink, Source};
 
@@ -50,10 +49,11 @@ fn words<R: Env + AllocGlobal>(rt: &R) -> Result<usize, ErrorKind> {
 
 /// Draws what standard input has to standard output.
 fn answer<R: AllocGlobal + Input + Print + Eprint>(rt: &R, words: usize) -> ExitCode {
-    let mut source = Kept::new(rt.alloc(), ReadSource::new(rt.reader()));
+    let mut source = ReadSource::new(rt.reader());
     let mut sink = WriteSink::new(io::writer(rt));
-    let (status, exit) = exits(rt.alloc(), words, &mut source, &mut sink);
-    tell(rt, status, source.text());
+    let mut why = None;
+    let (status, exit) = exits(rt.alloc(), words, &mut source, &mut sink, &mut why);
+    tell(rt, status, why);
     exit
 }
 
@@ -63,17 +63,18 @@ fn exits<S: Source, K: Sink>(
     words: usize,
     source: &mut S,
     sink: &mut K,
+    why: &mut Option<String>,
 ) -> (Status, ExitCode)
     ensures { Exits S.left S.faults source.old source.new words K.held K.faults sink.old sink.new result.0 (exit_status result.1) }
 {
-    let status = draw(alloc, words, source, sink);
+    let status = draw(alloc, words, source, sink, why);
     (status, ending(status))
 }
 
 /// Tells on standard error what a status means, where there is something to tell and memory to say it; nothing is known
 /// of whether it is read.
-fn tell<R: AllocGlobal + Eprint>(rt: &R, status: Status, text: Option<&[u8]>) {
-    if let Ok(Some(said)) = told(rt.alloc(), status, text) {
+fn tell<R: AllocGlobal + Eprint>(rt: &R, status: Status, why: Option<String>) {
+    if let Ok(Some(said)) = told(rt.alloc(), status, why) {
         let _written = eprintln!(rt; "stm_draw: {said}");
     }
 }

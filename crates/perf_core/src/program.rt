@@ -45,7 +45,7 @@ fn asked<R: Env + AllocGlobal + Print + Threads + Wait + Sync>(rt: &R) -> u8 {
 }
 
 /// What there is to tell of an exit status.
-fn told(status: u8) -> Option<&'static str> {
+pub fn told(status: u8) -> Option<&'static str> {
     match status {
         1 => Some("the memory isn't what the transactions leave"),
         2 => Some(USAGE),

@@ -13,3 +13,4 @@ pub mod CheckLaws
 pub mod FindingLaws
 pub mod BehindLaws
 pub mod FaultLaws
+pub mod WantedLaws

@@ -19,8 +19,10 @@ use Rattle.stm_script.specs.Operations.{ScriptFits}
 use Rattle.stm_script.specs.Reports.{scripts_of, rows_of, regions_of, writers, writer_to}
 use Rattle.stm_script.specs.Workloads.{ItemFits, ItemsFit}
 use Rattle.stm_check.specs.declared.replay.Cursor.{Cursor}
-use Rattle.stm_check.specs.Verdicts.{IsRight, memory_after, AreRight, IsWrongAt, alike}
+use Rattle.stm_check.specs.Verdicts.{IsRight, memory_after, AreRight, alike}
 use Rattle.stm_check.specs.Standing.{IsAt, IsNext, wrote_after}
+use Rattle.stm_check.specs.Wanted.{WantsOf, WantsAt}
+use Rattle.stm_check.specs.declared.wanted.Wanted.{Wanted}
 use Rattle.stm_check.proofs.VerdictLaws.{rows-append, writers-append, append-nil, last-push}
 
 -- no transaction is of a caller beyond those of the header
@@ -178,17 +180,17 @@ right-more w rows i r m now lt at right is last h =
     let t : take (i + 1) rows ≡ take i rows ++ r ∷ [] = rw add-one (take-suc rows i r lt) ∙ ap (λ x. take i rows ++ x ∷ []) (sym at) in
     subst (λ l. AreRight w (take i rows) m l last) (sym d) (right, subst (λ k. AreRight w (take i rows ++ r ∷ []) k (drop (i + 1) rows) last) is (subst (λ l. AreRight w l now (drop (i + 1) rows) last) t h))
 
-pub wrong-more : (w : Workload) (rows : List Row) (i : ℕ) (r : Row) (m now : List ℕ) → i < length rows → r ≡ get_or rows i r → IsRight w (take i rows) m r → now ≡ memory_after w m r → (n : ℕ)
-    → IsWrongAt w (take (i + 1) rows) now (drop (i + 1) rows) n → IsWrongAt w (take i rows) m (drop i rows) (suc n)
-wrong-more w rows i r m now lt at right is n h =
+pub wants-more : (w : Workload) (rows : List Row) (i : ℕ) (r : Row) (m now : List ℕ) → i < length rows → r ≡ get_or rows i r → IsRight w (take i rows) m r → now ≡ memory_after w m r → (n : ℕ) (wanted : Wanted)
+    → WantsAt w (take (i + 1) rows) now (drop (i + 1) rows) n wanted → WantsAt w (take i rows) m (drop i rows) (suc n) wanted
+wants-more w rows i r m now lt at right is n wanted h =
     let d : drop i rows ≡ r ∷ drop (i + 1) rows = drop_more rows i r lt ∙ ap (λ x. x ∷ drop (i + 1) rows) (sym at) in
     let t : take (i + 1) rows ≡ take i rows ++ r ∷ [] = rw add-one (take-suc rows i r lt) ∙ ap (λ x. take i rows ++ x ∷ []) (sym at) in
-    subst (λ l. IsWrongAt w (take i rows) m l (suc n)) (sym d) (right, subst (λ k. IsWrongAt w (take i rows ++ r ∷ []) k (drop (i + 1) rows) n) is (subst (λ l. IsWrongAt w l now (drop (i + 1) rows) n) t h))
+    subst (λ l. WantsAt w (take i rows) m l (suc n) wanted) (sym d) (right, subst (λ k. WantsAt w (take i rows ++ r ∷ []) k (drop (i + 1) rows) n wanted) is (subst (λ l. WantsAt w l now (drop (i + 1) rows) n wanted) t h))
 
-pub wrong-here : (w : Workload) (rows : List Row) (i : ℕ) (r : Row) (m : List ℕ) → i < length rows → r ≡ get_or rows i r → (IsRight w (take i rows) m r → ⊥) → IsWrongAt w (take i rows) m (drop i rows) 0
-wrong-here w rows i r m lt at wrong =
+pub wants-here : (w : Workload) (rows : List Row) (i : ℕ) (r : Row) (m : List ℕ) (wanted : Wanted) → i < length rows → r ≡ get_or rows i r → WantsOf w (take i rows) m r wanted → WantsAt w (take i rows) m (drop i rows) 0 wanted
+wants-here w rows i r m wanted lt at wrong =
     let d : drop i rows ≡ r ∷ drop (i + 1) rows = drop_more rows i r lt ∙ ap (λ x. x ∷ drop (i + 1) rows) (sym at) in
-    subst (λ l. IsWrongAt w (take i rows) m l 0) (sym d) wrong
+    subst (λ l. WantsAt w (take i rows) m l 0 wanted) (sym d) wrong
 
 pub alike-short : (ps qs : List (ℕ × ℕ)) (i : ℕ) → length qs ≤ i → alike (drop i ps) (drop i qs) ≡ 0
 alike-short ps qs i le = ap (alike (drop i ps)) (drop-past qs i le) ∙ none (drop i ps)

@@ -1,5 +1,5 @@
 -- A workload and a report in one text, and what a check of it comes to.
-use Rattle.std.specs.Prelude.{ℕ, zero, suc, ◌≡◌, ◌+◌, List, Result, Ok, Err}
+use Rattle.std.specs.Prelude.{ℕ, zero, suc, ◌≡◌, ◌+◌, List, Option, None, MatchOption, Result, Ok, Err}
 use Rattle.stm_script.specs.declared.report.Report.{Report}
 use Rattle.stm_script.specs.declared.workload.Workload.{Workload}
 use Rattle.stm_text.specs.declared.parse.Mode.TheVariants.{Step as Stepwise}
@@ -9,6 +9,8 @@ use Rattle.stm_check.specs.Grammar.{report_of}
 use Rattle.stm_check.specs.Verdicts.{Judges}
 use Rattle.stm_check.specs.declared.checking.Finding.{Finding}
 use Rattle.stm_check.specs.declared.checking.Finding.TheVariants as findings
+use Rattle.stm_check.specs.Wanted.{IsWanted}
+use Rattle.stm_check.specs.declared.wanted.Wanted.{Wanted}
 use Rattle.stm_check.specs.declared.verdict.Verdict.TheVariants.{Yes, No}
 
 -- a line of the report, as one of a text with so many lines above it; line 0 stands for the whole report
@@ -54,6 +56,19 @@ abbrev pub Finds : List ℕ → Finding → Type 0
 Finds text findings.Yes = IsYes text
 Finds text (findings.No line) = IsNo text line
 Finds text (findings.Faulty line code) = IsFaulty text line code
+
+-- the text is a workload's and then a report's, and this is wanted on the report's first line at fault
+pub record IsWantedIn (text : List ℕ) (wanted : Wanted) : Type 0 where
+  pub workload : Workload
+  pub report : Report
+  pub reads : pair_of text ≡ Ok (workload, report)
+  pub wants : IsWanted workload report wanted
+
+-- something is wanted exactly where the report doesn't replay the workload
+abbrev pub FindsWanted : List ℕ → Finding → Option Wanted → Type 0
+FindsWanted text findings.Yes wanted = wanted ≡ None
+FindsWanted text (findings.No line) wanted = MatchOption wanted ⊥ (IsWantedIn text)
+FindsWanted text (findings.Faulty line code) wanted = wanted ≡ None
 
 -- a text has one finding: where one is right no other is
 abbrev pub OneFindingPerText : Type 0

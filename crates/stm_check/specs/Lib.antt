@@ -6,3 +6,4 @@ pub mod Grammar
 pub mod Texts
 pub mod Checks
 pub mod Limits
+pub mod Wanted

@@ -1,5 +1,5 @@
 -- A row that was run.
-use Rattle.std.specs.Prelude.{ℕ, ◌≡◌, Bool, true, false, List, [], length}
+use Rattle.std.specs.Prelude.{ℕ, ◌≡◌, Bool, true, false, List, [], length, if◌then◌else◌}
 use Rattle.stm_model.specs.declared.plain.PlainWord.{PlainWord}
 use Rattle.stm_model.specs.Memories.{overlay}
 use Rattle.stm_model.specs.Plains.{openings, own_writes}
@@ -8,7 +8,9 @@ use Rattle.tx_regions.specs.Regions.{AllWellFormed}
 use Rattle.stm_script.specs.declared.op.Op.{Op}
 use Rattle.stm_script.specs.declared.report.Kind.{Kind}
 use Rattle.stm_script.specs.declared.report.Kind.TheVariants.{W, R, C}
+use Rattle.stm_script.specs.declared.report.Row.{Row}
 use Rattle.stm_script.specs.Scripts.{run_row, has_cancel, has_irrev, before_cancel}
+use Rattle.stm_check.specs.declared.running.Ran.{Ran}
 
 -- KindFits has two parts: what the script says alone, and what was written
 abbrev pub CanEnd : Kind → List Op → Type 0
@@ -33,3 +35,13 @@ pub record IsBehind (regions : List Region) (script : List Op) (kind : Kind) (be
   pub settled : own_writes after ≡ []
   pub words : length after ≡ length before
   pub well : AllWellFormed regions (openings after)
+
+-- the kind of a row whose transaction wrote, or didn't, where it is cancelled only as this kind is
+abbrev pub ended_as : Kind → Bool → Kind
+ended_as W wrote = if wrote then W else R
+ended_as R wrote = if wrote then W else R
+ended_as C wrote = C
+
+-- the row of a transaction of this kind that ran so, in the place of another
+abbrev pub told_by : Ran → Kind → Row → Row
+told_by ran kind r = record { kind = ended_as kind ran.wrote; place = r.place; caller = r.caller; seq = r.seq; replies = ran.replies; emits = ran.emits }

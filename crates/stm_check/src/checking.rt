@@ -1,12 +1,14 @@
 //! A workload and a report in one text, checked.
-ghost use Rattle.std.specs.Prelude.{◌≡◌, ◌≤◌, ◌<◌, ◌+◌, ◌^◌, length, IfOk};
-ghost use Rattle.stm_check.specs.Checks.{Finds, shifted};
+ghost use Rattle.std.specs.Prelude.{◌≡◌, ◌≤◌, ◌<◌, ◌+◌, ◌^◌, length, None, IfOk};
+ghost use Rattle.stm_check.specs.Checks.{Finds, FindsWanted, shifted};
+ghost use Rattle.stm_check.specs.declared.checking.Finding.TheVariants.{Faulty};
 ghost use Rattle.stm_check.specs.declared.checking.TheConstants.{MOST_CHECKED};
 
 use crate::laws::report_is_written;
 use crate::reading::read_report;
 use crate::replay::replay;
 use crate::verdict::Verdict;
+use crate::wanted::Wanted;
 use std::alloc::Global;
 use stm_model::memory::Memory;
 use stm_text::laws::{built_workloads_fit, text_is_parted};
@@ -28,14 +30,35 @@ pub enum Finding {
     Faulty { line: usize, code: u32 },
 }
 
+/// A finding, and of a `No` what the replay wants on that line.
+#[derive(Drop, Debug)]
+pub struct Checked {
+    pub finding: Finding,
+    pub wanted: Option<Wanted>,
+}
+
+impl Checked {
+    /// Of a text that isn't a workload and a report.
+    fn faulty(line: usize, code: u32) -> Checked
+        ensures finding { result.finding ≡ Faulty line code }
+        ensures wanted { result.wanted ≡ None }
+    {
+        Checked {
+            finding: Finding::Faulty { line, code },
+            wanted: None,
+        }
+    }
+}
+
 /// Checks a text that is a workload up to its first line `done`, and a report behind that line. A schedule is read past.
 /// A fault of the workload comes before one of the report.
 ///
 /// # Errors
 /// Memory, where it is refused.
-pub fn check(alloc: Global, text: &[u8]) -> Result<Finding, Memory>
+pub fn check(alloc: Global, text: &[u8]) -> Result<Checked, Memory>
     requires { length text.now ≤ MOST_CHECKED }
-    ensures { IfOk result (Finds text.now) }
+    ensures finding { IfOk result (λ c. Finds text.now c.finding) }
+    ensures wanted { IfOk result (λ c. FindsWanted text.now c.finding c.wanted) }
 {
     built_workloads_fit();
     text_is_parted();
@@ -43,22 +66,26 @@ pub fn check(alloc: Global, text: &[u8]) -> Result<Finding, Memory>
     let (head, behind) = part_at_done(text);
     let workload = match parse(alloc, head, Mode::Step) {
         Ok(workload) => workload,
-        Err(ParseError::Fault { line, code }) => return Ok(Finding::Faulty { line, code }),
+        Err(ParseError::Fault { line, code }) => return Ok(Checked::faulty(line, code)),
         Err(ParseError::Memory) => return Err(Memory),
     };
     let above = count_lines(head);
     let report = match read_report(alloc, behind) {
         Ok(report) => report,
-        Err(ParseError::Fault { line, code }) => return Ok(Finding::Faulty {
-            line: shifted(above, line),
-            code,
-        }),
+        Err(ParseError::Fault { line, code }) => {
+            return Ok(Checked::faulty(shifted(above, line), code));
+        }
         Err(ParseError::Memory) => return Err(Memory),
     };
-    match replay(alloc, &workload, &report)? {
-        Verdict::Yes => Ok(Finding::Yes),
-        Verdict::No { line } => Ok(Finding::No { line: above + line }),
-    }
+    let judged = replay(alloc, &workload, &report)?;
+    let finding = match judged.verdict {
+        Verdict::Yes => Finding::Yes,
+        Verdict::No { line } => Finding::No { line: above + line },
+    };
+    Ok(Checked {
+        finding,
+        wanted: judged.wanted,
+    })
 }
 
 /// A line of the report, as one of a text that has so many lines above the report; line 0 stands for the whole report.

@@ -11,4 +11,5 @@ mod running;
 mod scripts;
 mod table;
 pub mod verdict;
+pub mod wanted;
 pub mod words;

@@ -1,16 +1,21 @@
 //! Reports, judged.
-ghost use Rattle.std.specs.Prelude.{◌≡◌, ◌<◌, ◌≤◌, ◌++◌, ◌∷◌, [], ℕ, ⊤, true, false, None, IfOk, IfSome, IfNone, Decides, length, slice_set, ◌+◌, ◌^◌};
+ghost use Rattle.std.specs.Prelude.{◌≡◌, ◌<◌, ◌≤◌, ◌++◌, ◌∷◌, [], ℕ, List, get_or, None, IfOk, IfSome, IfNone, MatchOption, length, slice_set, ◌+◌, ◌^◌};
 ghost use Rattle.stm_model.specs.Plains.{openings};
 ghost use Rattle.stm_script.specs.Reports.{regions_of, zeros, rows_of, scripts_of};
 ghost use Rattle.stm_script.specs.Workloads.{ItemsFit};
+ghost use Rattle.stm_script.specs.declared.report.Row.{Row};
+ghost use Rattle.stm_script.specs.declared.workload.Workload.{Workload};
 ghost use Rattle.stm_check.specs.Verdicts.{IsRight, AreRight, AllHaveRows, memory_after, alike, Judges};
 ghost use Rattle.stm_check.specs.Standing.{StandsBehind, IsNext, wrote_after};
+ghost use Rattle.stm_check.specs.Wanted.{WantsOf, Wants, word_of};
+ghost use Rattle.stm_check.specs.declared.wanted.Wanted.TheVariants.{End};
 
 use crate::ledger::Ledger;
 use crate::rows::{comes_after, is_apart};
-use crate::running::fits;
+use crate::running::wanted_row;
 use crate::scripts::next_script;
-use crate::verdict::Verdict;
+use crate::verdict::{Judged, Verdict};
+use crate::wanted::Wanted;
 use std::alloc::Global;
 use stm_model::memory::Memory;
 use stm_script::lists::Script;
@@ -80,41 +85,52 @@ fn pass(standing: &mut Standing, row: &Row, item: usize)
     }
 }
 
-/// Whether a row has no fault behind the rows above it. Where it hasn't, its script has been run, and the check stands
-/// behind the row.
+/// How many rows a caller has above.
+fn rows_had(standing: &Standing, caller: usize) -> usize
+    ensures { (w : Workload) (above : List Row) → StandsBehind w above standing.now → result ≡ length (rows_of caller above) }
+{
+    match standing.cursors.get(caller) {
+        Some(cursor) => cursor.seq,
+        None => 0,
+    }
+}
+
+/// What is wanted in the place of a row that has a fault behind the rows above it. Where it has none nothing is; then its
+/// script has been run, and the check stands behind the row.
 ///
 /// # Errors
 /// Memory, where it is refused.
-fn is_right(
+fn wanted_for(
     alloc: Global,
     workload: &Workload,
     regions: &Regions,
     standing: &mut Standing,
     above: &[Row],
     row: &Row,
-) -> Result<bool, Memory>
+) -> Result<Option<Wanted>, Memory>
     requires items { ItemsFit (regions_of workload.now.header) workload.now.header workload.now.items }
     requires regions { regions.now ≡ regions_of workload.now.header }
     requires count { length above.now + 1 < 2 ^ 64 }
     requires stands { StandsBehind workload.now above.now standing.old }
-    ensures right { IfOk result (λ b. Decides b (IsRight workload.now above.now (openings standing.old.ledger) row.now)) }
-    ensures stands { IfOk result (λ b. b ≡ true → StandsBehind workload.now (above.now ++ row.now ∷ []) standing.new) }
-    ensures memory { IfOk result (λ b. b ≡ true → openings standing.new.ledger ≡ memory_after workload.now (openings standing.old.ledger) row.now) }
+    ensures wanted { IfOk result (λ o. MatchOption o (IsRight workload.now above.now (openings standing.old.ledger) row.now) (WantsOf workload.now above.now (openings standing.old.ledger) row.now)) }
+    ensures stands { IfOk result (λ o. o ≡ None → StandsBehind workload.now (above.now ++ row.now ∷ []) standing.new) }
+    ensures memory { IfOk result (λ o. o ≡ None → openings standing.new.ledger ≡ memory_after workload.now (openings standing.old.ledger) row.now) }
 {
     if !comes_after(above, row) {
-        return Ok(false);
+        return Ok(Some(Wanted::Later));
     }
     if !is_apart(standing.wrote, row) {
-        return Ok(false);
+        return Ok(Some(Wanted::Apart));
     }
     let Some((item, script)) = next_of(workload, standing, above, row) else {
-        return Ok(false);
+        let seq = rows_had(standing, row.caller);
+        return Ok(Some(Wanted::Next { seq }));
     };
-    if !fits(alloc, &mut standing.ledger, regions, script, row)? {
-        return Ok(false);
+    if let Some(wanted) = wanted_row(alloc, &mut standing.ledger, regions, script, row)? {
+        return Ok(Some(Wanted::Row(wanted)));
     }
     pass(standing, row, item);
-    Ok(true)
+    Ok(None)
 }
 
 /// Where a check stands before the first row.
@@ -136,20 +152,20 @@ fn start(alloc: Global, workload: &Workload) -> Result<Standing, Memory>
     })
 }
 
-/// Whether each transaction has its row.
-fn all_have_rows(workload: &Workload, standing: &Standing, above: &[Row]) -> bool
+/// The first caller with a transaction that has no row, and the number of that one.
+fn missing(workload: &Workload, standing: &Standing, above: &[Row]) -> Option<(usize, usize)>
     requires items { ItemsFit (regions_of workload.now.header) workload.now.header workload.now.items }
     requires stands { StandsBehind workload.now above.now standing.now }
-    ensures { Decides result (AllHaveRows workload.now above.now) }
+    ensures { MatchOption result (AllHaveRows workload.now above.now) (λ t. (t.1 ≡ length (rows_of t.0 above.now)) × (t.1 < length (scripts_of t.0 workload.now.items))) }
 {
     let items = workload.items.as_slice();
     for caller in 0..standing.cursors.len() {
         let cursor = standing.cursors[caller];
         if let Some(_) = next_script(items, caller, cursor.item) {
-            return false;
+            return Some((caller, cursor.seq));
         }
     }
-    true
+    None
 }
 
 /// Length of the common prefix.
@@ -172,6 +188,20 @@ fn alike(told: &[(usize, u64)], left: &[(usize, u64)]) -> usize
     told.len()
 }
 
+/// The word of the memory on a line behind those that are alike, or `end`.
+fn wanted_word(left: &[(usize, u64)], same: usize) -> Wanted
+    ensures word { same < length left.now → result ≡ word_of (get_or left.now same (0, 0)) }
+    ensures end { length left.now ≤ same → result ≡ End }
+{
+    match left.get(same) {
+        Some((address, value)) => Wanted::Word {
+            address: *address,
+            value: *value,
+        },
+        None => Wanted::End,
+    }
+}
+
 /// The verdict, where no row has a fault: the lines behind the rows.
 ///
 /// # Errors
@@ -181,51 +211,59 @@ fn judge_end(
     workload: &Workload,
     report: &Report,
     standing: &Standing,
-) -> Result<Verdict, Memory>
+) -> Result<Judged, Memory>
     requires items { ItemsFit (regions_of workload.now.header) workload.now.header workload.now.items }
     requires stands { StandsBehind workload.now report.now.rows standing.now }
     requires right { AreRight workload.now [] (zeros workload.now.header.words) report.now.rows (openings standing.now.ledger) }
-    ensures { IfOk result (Judges workload.now report.now) }
+    ensures verdict { IfOk result (λ j. Judges workload.now report.now j.verdict) }
+    ensures wanted { IfOk result (λ j. Wants workload.now report.now j.verdict j.wanted) }
 {
     let rows = report.rows.as_slice();
     let behind = rows.len() + 2;
-    if !all_have_rows(workload, standing, rows) {
-        return Ok(Verdict::No { line: behind });
+    if let Some((caller, seq)) = missing(workload, standing, rows) {
+        return Ok(Judged::no(behind, Wanted::Missing { caller, seq }));
     }
     let values = standing.ledger.values(alloc)?;
     let left = pairs(alloc, &values)?;
     let told = report.memory.as_slice();
     let same = alike(told, left.as_slice());
     if same < told.len() {
-        return Ok(Verdict::No {
-            line: behind + same,
-        });
+        return Ok(Judged::no(behind + same, wanted_word(left.as_slice(), same)));
     }
     if same < left.as_slice().len() {
-        return Ok(Verdict::No {
-            line: behind + same,
-        });
+        return Ok(Judged::no(behind + same, wanted_word(left.as_slice(), same)));
     }
-    Ok(Verdict::Yes)
+    Ok(Judged {
+        verdict: Verdict::Yes,
+        wanted: None,
+    })
 }
 
-/// Whether the report replays the workload, and else its first line at fault, counted from the report's first as 1.
-/// Each row's script is run once, in as many steps as it has; all rows together go over the workload's items once for
-/// each caller, and over the memory's words once.
+/// Whether the report replays the workload, and else its first line at fault, counted from the report's first as 1, with
+/// what is wanted there. Each row's script is run once, in as many steps as it has; all rows together go over the
+/// workload's items once for each caller, and over the memory's words once.
 ///
 /// # Errors
 /// Memory, where it is refused.
-pub fn replay(alloc: Global, workload: &Workload, report: &Report) -> Result<Verdict, Memory>
+pub fn replay(alloc: Global, workload: &Workload, report: &Report) -> Result<Judged, Memory>
     requires items { ItemsFit (regions_of workload.now.header) workload.now.header workload.now.items }
-    ensures { IfOk result (Judges workload.now report.now) }
+    ensures verdict { IfOk result (λ j. Judges workload.now report.now j.verdict) }
+    ensures wanted { IfOk result (λ j. Wants workload.now report.now j.verdict j.wanted) }
 {
     let regions = workload.header.regions(alloc)?;
     let mut standing = start(alloc, workload)?;
     let rows = report.rows.as_slice();
     for i in 0..rows.len() {
         let above = &rows[..i];
-        if !is_right(alloc, workload, &regions, &mut standing, above, &rows[i])? {
-            return Ok(Verdict::No { line: i + 2 });
+        if let Some(wanted) = wanted_for(
+            alloc,
+            workload,
+            &regions,
+            &mut standing,
+            above,
+            &rows[i],
+        )? {
+            return Ok(Judged::no(i + 2, wanted));
         }
     }
     judge_end(alloc, workload, report, &standing)

@@ -1,9 +1,10 @@
 //! The script of one row, run.
-ghost use Rattle.std.specs.Prelude.{◌≡◌, [], true, Decides, IfOk, OnOk, length};
+ghost use Rattle.std.specs.Prelude.{◌≡◌, [], None, Decides, MatchOption, IfOk, OnOk, length};
 ghost use Rattle.stm_model.specs.Plains.{openings, own_writes};
 ghost use Rattle.tx_regions.specs.Regions.{AllWellFormed};
 ghost use Rattle.stm_script.specs.Operations.{ScriptFits};
-ghost use Rattle.stm_check.specs.Runs.{CanEnd, WroteAs, left_by, IsBehind};
+ghost use Rattle.stm_check.specs.Runs.{CanEnd, WroteAs, ended_as, left_by, told_by, IsBehind};
+ghost use Rattle.stm_check.specs.Wanted.{IsWantedFor};
 ghost use Rattle.stm_script.specs.Reports.{RowFits};
 ghost use Rattle.stm_script.specs.Scripts.{run_row};
 
@@ -44,6 +45,32 @@ struct Ran {
     replies: Words,
     emits: Words,
     wrote: bool,
+}
+
+impl Ran {
+    /// The row of a transaction of this kind that ran so, in the place of another.
+    fn into_row(self, kind: Kind, place: &Row) -> Row
+        ensures { result ≡ told_by self kind place.now }
+    {
+        Row {
+            kind: ended_as(kind, self.wrote),
+            place: place.place,
+            caller: place.caller,
+            seq: place.seq,
+            replies: self.replies,
+            emits: self.emits,
+        }
+    }
+}
+
+/// The kind of a row whose transaction wrote, or didn't, where it is cancelled only as this kind is.
+fn ended_as(kind: Kind, wrote: bool) -> Kind
+    ensures { result ≡ ended_as kind wrote }
+{
+    match kind {
+        Kind::C => Kind::C,
+        Kind::W | Kind::R => { if wrote { Kind::W } else { Kind::R } }
+    }
 }
 
 /// The transaction ends: the memory takes what it wrote, or not where it was cancelled.
@@ -106,26 +133,32 @@ fn is_told(ran: &Ran, row: &Row) -> bool
     row.emits.as_slice() == ran.emits.as_slice()
 }
 
-/// Whether the row tells what its script does on this memory. Where it does, the memory is then that behind the row.
+/// The row wanted in the place of one that doesn't tell what its script does on this memory. Where it does there is none,
+/// and the memory is then that behind the row.
 ///
 /// # Errors
 /// Memory, where it is refused.
-pub fn fits(
+pub fn wanted_row(
     alloc: Global,
     ledger: &mut Ledger,
     regions: &Regions,
     script: &Script,
     row: &Row,
-) -> Result<bool, Memory>
+) -> Result<Option<Row>, Memory>
     requires settled { own_writes ledger.old ≡ [] }
     requires well { AllWellFormed regions.now (openings ledger.old) }
     requires within { ScriptFits regions.now (length ledger.old) script.now }
-    ensures fits { IfOk result (λ b. Decides b (RowFits regions.now script.now row.now (openings ledger.old))) }
-    ensures after { IfOk result (λ b. b ≡ true → IsBehind regions.now script.now row.now.kind ledger.old ledger.new) }
+    ensures wanted { IfOk result (λ o. MatchOption o (RowFits regions.now script.now row.now (openings ledger.old)) (IsWantedFor regions.now script.now (openings ledger.old) row.now)) }
+    ensures after { IfOk result (λ o. o ≡ None → IsBehind regions.now script.now row.now.kind ledger.old ledger.new) }
 {
     if !can_end(row.kind, script) {
-        return Ok(false);
+        // a transaction that can't be cancelled commits
+        let ran = run(alloc, ledger, regions, script, Kind::W)?;
+        return Ok(Some(ran.into_row(Kind::W, row)));
     }
     let ran = run(alloc, ledger, regions, script, row.kind)?;
-    Ok(is_told(&ran, row))
+    if is_told(&ran, row) {
+        return Ok(None);
+    }
+    Ok(Some(ran.into_row(row.kind, row)))
 }

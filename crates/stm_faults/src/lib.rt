@@ -2,7 +2,6 @@
 #![tactic(auto)]
 
 mod form;
-pub mod kept;
 pub mod report;
 mod shown;
 mod spot;

@@ -1,10 +1,14 @@
 //! The fault of a report's text, in a sentence.
-use crate::shown::{first_line, is_ended, put_line, put_wrong_byte};
+use crate::shown::{first_line, from_line, is_ended, put_line, put_wrong_byte};
 use crate::workload::workload_fault;
 use std::alloc::{AllocError, Global};
 use stm_check::reading::MAX_REPORT;
+use stm_check::wanted::Wanted;
 use stm_check::words::first_word;
+use stm_model::memory::Memory;
+use stm_script::report::{Pairs, Report, Row, Rows};
 use stm_text::parting::{count_lines, part_at_done};
+use stm_text::report::report_text;
 use stm_text::{code, lines};
 
 /// What may stand on a line of a report.
@@ -48,39 +52,74 @@ pub fn checked_fault(
 }
 
 /// What is wrong with a workload and a report of which `check` says `no` with this line: the line of the report, what
-/// stands on it, and what may be wrong there.
+/// stands on it, and what the replay wants there.
 ///
 /// # Errors
 /// Memory, where it is refused.
-pub fn wrong_line(alloc: Global, text: &[u8], line: usize) -> Result<String, AllocError> {
+pub fn wrong_line(
+    alloc: Global,
+    text: &[u8],
+    line: usize,
+    wanted: Wanted,
+) -> Result<String, Memory> {
     let mut said = String::new(alloc);
     let (head, behind) = part_at_done(text);
     let above = count_lines(head);
     let number = line.saturating_sub(above);
-    let (place, rest) = place_of(behind, number);
-    let bytes = first_line(rest);
     write!(said, "in the report, after the workload's {above} lines: ")?;
-    put_line(&mut said, number, bytes)?;
-    let (word, _) = first_word(bytes);
-    if place == Place::Rows && !lines::is(word, b"mem") && !lines::is(word, b"end") {
-        put_wrong_row(&mut said)?;
-    } else {
-        said.push_str(
-            "a transaction has no row above, or the memory that the rows leave has another word here",
-        )?;
-    }
+    put_line(&mut said, number, first_line(from_line(behind, number)))?;
+    put_wanted(alloc, &mut said, wanted)?;
     Ok(said)
 }
 
-/// Appends what may be wrong with a row.
-fn put_wrong_row(said: &mut String) -> Result<(), AllocError> {
-    said.push_str(
-        "the row's kind, replies or emits aren't those of its script on the memory that the rows above leave; or ",
-    )?;
-    said.push_str(
-        "it isn't its caller's next, or not in the order of place, W before R and C, caller and number; or it is a ",
-    )?;
-    said.push_str("second W row of one place")
+/// Appends what the replay wants.
+fn put_wanted(alloc: Global, said: &mut String, wanted: Wanted) -> Result<(), Memory> {
+    match wanted {
+        Wanted::Later => said.push_str(
+            "wanted a row that comes after the one above it: by place, W before R and C, then by caller, then by number",
+        )?,
+        Wanted::Apart => said.push_str("wanted another place than that of the W row above it")?,
+        Wanted::Next { seq } => write!(
+            said,
+            "wanted its caller's transaction {seq}, which is next, if the workload has it"
+        )?,
+        Wanted::Row(row) => {
+            said.push_str("wanted  ")?;
+            put_row(alloc, said, row)?;
+            said.push_str("  by its script, on the memory that the rows above leave")?;
+        }
+        Wanted::Missing { caller, seq } => {
+            write!(
+                said,
+                "transaction {seq} of caller {caller} has no row; transactions count from 0"
+            )?;
+        }
+        Wanted::Word { address, value } => {
+            write!(
+                said,
+                "wanted  mem {address} {value}  by the memory that the rows leave"
+            )?;
+        }
+        Wanted::End => said.push_str("wanted  end  as no further word isn't 0")?,
+    }
+    Ok(())
+}
+
+/// Appends a row as a report has it.
+fn put_row(alloc: Global, said: &mut String, row: Row) -> Result<(), Memory> {
+    let mut rows = Vec::new(alloc);
+    if rows.push(row).is_err() {
+        return Err(Memory);
+    }
+    let report = Report {
+        rows: Rows::new(rows),
+        memory: Pairs::new(Vec::new(alloc)),
+    };
+    let text = report_text(alloc, &report)?;
+    for byte in first_line(from_line(text.as_slice(), 2)) {
+        said.push(char::from(*byte))?;
+    }
+    Ok(())
 }
 
 /// Appends what is wrong with a line of a report's text.

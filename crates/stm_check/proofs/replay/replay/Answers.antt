@@ -3,10 +3,13 @@ use Rattle.std.proofs.Math.Seq.{take_all}
 use Rattle.stm_model.specs.Plains.{openings}
 use Rattle.stm_script.specs.declared.report.Row.{Row}
 use Rattle.stm_script.specs.Reports.{zeros}
-use Rattle.stm_check.specs.Verdicts.{IsRight, AreRight, IsWrongAt, IsFirstFault}
+use Rattle.stm_check.specs.Verdicts.{IsRight, AreRight, IsFirstFault}
+use Rattle.stm_check.specs.Wanted.{WantsOf, WantsAt, IsWanted, Wants}
+use Rattle.stm_check.specs.declared.wanted.Wanted.{Wanted}
 use Rattle.stm_check.specs.Standing.{StandsBehind}
 use Rattle.stm_check.proofs.VerdictLaws.{fault-refutes}
-use Rattle.stm_check.proofs.StandingLaws.{right-more, wrong-more, wrong-here, take-row}
+use Rattle.stm_check.proofs.StandingLaws.{right-more, wants-more, wants-here, take-row}
+use Rattle.stm_check.proofs.WantedLaws.{wants-at}
 use Rattle.stm_check.proofs.replay.replay.Goals as goal
 
 pub loop-i-init : goal.loop-i-init
@@ -17,7 +20,7 @@ loop-i-init c =
     record {
       stands = c.in_ok-standing.ensures.stands;
       right = λ last h. subst (λ m. AreRight w [] m rows last) z h;
-      wrong = λ n h. subst (λ j. IsWrongAt w [] (zeros w.header.words) rows j) (let s : n ≡ 0 + n = omega arith in s) (subst (λ m. IsWrongAt w [] m rows n) z h);
+      wants = λ n wanted h. subst (λ j. WantsAt w [] (zeros w.header.words) rows j wanted) (let s : n ≡ 0 + n = omega arith in s) (subst (λ m. WantsAt w [] m rows n wanted) z h);
     }
 
 pub loop-i-preserved : goal.loop-i-preserved
@@ -28,35 +31,18 @@ loop-i-preserved c =
     let i = c.loop-i.i in
     let r = c.index-rows-i.result in
     let m = openings c.loop-i.standing.ledger in
-    let now = openings c.is_right.new.standing.ledger in
-    let k = c.in_ok-is_right.ensures in
-    let yes = c.if-not-branch.false in
-    let right : IsRight w (take i rows) m r = subst (λ (l : List Row). IsRight w (take i l) m r) e (k.right.0 yes) in
+    let now = openings c.wanted_for.new.standing.ledger in
+    let k = c.in_ok-wanted_for.ensures in
+    let yes = NONE in
+    let right : IsRight w (take i rows) m r = subst (λ (l : List Row). IsRight w (take i l) m r) e (none-right w (take i c.as_slice-rows.result.now) m r c.in_ok-wanted_for.field-0 yes k.wanted) in
     let at : r ≡ get_or rows i r = subst (λ (l : List Row). r ≡ get_or l i r) e c.index-rows-i.is in
     let lt : i < length rows = subst (λ (l : List Row). i < length l) e c.loop-i-test.true in
     let memory = k.memory yes in
     record {
-      stands = subst (λ (l : List Row). StandsBehind w l c.is_right.new.standing) (ap (λ (l : List Row). take i l ++ r ∷ []) e ∙ take-row rows i r lt at) (k.stands yes);
+      stands = subst (λ (l : List Row). StandsBehind w l c.wanted_for.new.standing) (ap (λ (l : List Row). take i l ++ r ∷ []) e ∙ take-row rows i r lt at) (k.stands yes);
       right = λ last h. c.loop-i.invariant.right last (right-more w rows i r m now lt at right memory last h);
-      wrong = λ n h. subst (λ j. IsWrongAt w [] (zeros w.header.words) rows j) (let s : i + suc n ≡ i + 1 + n = omega arith in s) (c.loop-i.invariant.wrong (suc n) (wrong-more w rows i r m now lt at right memory n h));
+      wants = λ n wanted h. subst (λ j. WantsAt w [] (zeros w.header.words) rows j wanted) (let s : i + suc n ≡ i + 1 + n = omega arith in s) (c.loop-i.invariant.wants (suc n) wanted (wants-more w rows i r m now lt at right memory n wanted h));
     }
-
-pub returns-then-not-branch : goal.returns-then-not-branch
-returns-then-not-branch c =
-    let w = c.args.workload.now in
-    let rows = c.args.report.now.rows in
-    let e = c.as_slice-rows.ensures in
-    let i = c.loop-i.i in
-    let r = c.index-rows-i.result in
-    let m = openings c.loop-i.standing.ledger in
-    let at : r ≡ get_or rows i r = subst (λ (l : List Row). r ≡ get_or l i r) e c.index-rows-i.is in
-    let lt : i < length rows = subst (λ (l : List Row). i < length l) e c.loop-i-test.true in
-    let wrong : IsRight w (take i rows) m r → ⊥ = λ h. clash c.in_ok-is_right.field-0 c.if-not-branch.true (c.in_ok-is_right.ensures.right.1 (subst (λ (l : List Row). IsRight w (take i l) m r) (sym e) h)) in
-    let fault : IsFirstFault w c.args.report.now (i + 2) = inl (i + 0, c.loop-i.invariant.wrong 0 (wrong-here w rows i r m lt at wrong), omega arith) in
-    (fault-refutes w c.args.report.now (i + 2) fault, fault)
-  where
-    clash : (b : Bool) → b ≡ false → b ≡ true → ⊥
-    clash b f t = cc
 
 pub judge_end-requires-clause-right : goal.judge_end-requires-clause-right
 judge_end-requires-clause-right c =

@@ -1,7 +1,9 @@
 use Rattle.std.proofs.Common.{ℕ, List, [], ◌+◌, take, drop}
 use Rattle.stm_model.specs.Plains.{openings}
 use Rattle.stm_script.specs.Reports.{zeros}
-use Rattle.stm_check.specs.Verdicts.{AreRight, IsWrongAt}
+use Rattle.stm_check.specs.Verdicts.{AreRight}
+use Rattle.stm_check.specs.Wanted.{WantsAt}
+use Rattle.stm_check.specs.declared.wanted.Wanted.{Wanted}
 use Rattle.stm_check.specs.Standing.{StandsBehind}
 use Rattle.stm_check.proofs.replay.replay.Given as goal
 
@@ -9,5 +11,5 @@ abbrev pub invariant-loop-i : goal.invariant-loop-i
 invariant-loop-i l = record {
   stands : StandsBehind l.workload (take l.i l.report.rows) l.standing;
   right : (last : List ℕ) → AreRight l.workload (take l.i l.report.rows) (openings l.standing.ledger) (drop l.i l.report.rows) last → AreRight l.workload [] (zeros l.workload.header.words) l.report.rows last;
-  wrong : (n : ℕ) → IsWrongAt l.workload (take l.i l.report.rows) (openings l.standing.ledger) (drop l.i l.report.rows) n → IsWrongAt l.workload [] (zeros l.workload.header.words) l.report.rows (l.i + n);
+  wants : (n : ℕ) (wanted : Wanted) → WantsAt l.workload (take l.i l.report.rows) (openings l.standing.ledger) (drop l.i l.report.rows) n wanted → WantsAt l.workload [] (zeros l.workload.header.words) l.report.rows (l.i + n) wanted;
 }

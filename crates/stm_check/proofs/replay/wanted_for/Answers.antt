@@ -8,7 +8,7 @@ use Rattle.stm_check.specs.Standing.{IsAt}
 use Rattle.std.specs.Prelude.{slice_index_or}
 use Rattle.std.proofs.lemmas.List.{length-set}
 use Rattle.stm_check.proofs.StandingLaws.{each-at, wrote-one, rows-beyond, rows-length}
-use Rattle.stm_check.proofs.replay.is_right.Goals as goal
+use Rattle.stm_check.proofs.replay.wanted_for.Goals as goal
 
 pub pass-requires-clause-seq : goal.pass-requires-clause-seq
 pass-requires-clause-seq c =

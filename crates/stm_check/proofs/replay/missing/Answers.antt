@@ -8,7 +8,7 @@ use Rattle.stm_script.specs.Workloads.{ItemsFit}
 use Rattle.stm_check.specs.Standing.{IsAt, StandsBehind}
 use Rattle.stm_check.specs.declared.replay.Standing.{Standing}
 use Rattle.stm_check.proofs.StandingLaws.{none-left, scripts-none}
-use Rattle.stm_check.proofs.replay.all_have_rows.Goals as goal
+use Rattle.stm_check.proofs.replay.missing.Goals as goal
 
 one-more : (w : Workload) (above : List Row) (k : ℕ) → ((n : ℕ) → n < k → length (rows_of n above) ≡ length (scripts_of n w.items)) → length (rows_of k above) ≡ length (scripts_of k w.items)
     → (n : ℕ) → n < k + 1 → length (rows_of n above) ≡ length (scripts_of n w.items)
@@ -37,8 +37,6 @@ loop-caller-preserved c =
     one-more w c.args.above.now k c.loop-caller.invariant (none-left w c.args.above.now k c.index-cursor.result.now at (ap (λ l. scripts_of k (drop c.index-cursor.result.now.item l)) (sym c.as_slice-items.ensures) ∙ c.in_default.ensures.script))
 
 pub returns : goal.returns
-returns c = (
-  (λ yes. all-of c.args.workload.now c.args.above.now c.args.standing.now c.loop-caller.caller c.requires.items c.requires.stands
-      (let k = c.len-caller-end.ensures in let s = c.requires.stands.callers in let t = c.loop-caller-test.false in omega arith) c.loop-caller.invariant),
-  (λ h. refl),
-)
+returns c =
+    all-of c.args.workload.now c.args.above.now c.args.standing.now c.loop-caller.caller c.requires.items c.requires.stands
+    (let k = c.len-caller-end.ensures in let s = c.requires.stands.callers in let t = c.loop-caller-test.false in omega arith) c.loop-caller.invariant
