@@ -8,7 +8,7 @@ use Rattle.stm_model.specs.Memories.{overlay, written, Explains}
 use Rattle.stm_model.specs.Overlays.{reads-see}
 use Rattle.tx_effects.specs.Effects.{Effect, unchanged, changed, DoesOver, Shows, Turns}
 use Rattle.tx_effects.specs.EffectLaws.{does-stay, does-change, turns-write, turns-then}
-use Rattle.tx_effects.specs.FreshLaws.{nothing, IsSound, sound-first, has-effect}
+use Rattle.tx_effects.specs.FreshLaws.{nothing, IsSound, reads-keep, sound-first, has-effect}
 
 -- one call after the other: each read is of a word of the memory, and found this
 abbrev pub AllRead : ℕ → Log → List (ℕ × ℕ) → Log → Type 0
@@ -64,6 +64,9 @@ module _ (rule good : List ℕ → Type 0) (words : ℕ) (same : SameMemories go
   does-read effect reply is =
       has-effect rule good words same l fresh effect reply k
       (does-stay good words l effect k reply (IsSound rule words) (sound-first rule good words same l fresh) (only-read words l rs k read) (λ m. Explains m rs) shows is)
+
+  pub keeps-read : Keeps rule words k
+  keeps-read = reads-keep rule words k (only-read words l rs k read ∙ ap (λ (i : Log). i.writes) fresh)
 
   -- and where these words were written then
   pub does-write : {A : Type 0} (effect : List ℕ → Effect A) (reply : A) (w : ℕ × ℕ) (ws : List (ℕ × ℕ)) (j : Log) → AllWritten k (w ∷ ws) j
