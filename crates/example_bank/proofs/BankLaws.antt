@@ -1,5 +1,5 @@
 -- Laws of a bank's memory.
-use Rattle.std.proofs.Common.{ℕ, ◌≡◌, ◌≢◌, ◌<◌, ◌≤◌, ◌+◌, ◌-◌, ◌⊎◌, List, [], length, get_or, set, take, sum, replicate, Bool, true, false, leb, refl, sym, ap, ◌∙◌, arith, subst, inl, inr, length-take-le, get_or-take, get_or-set_same, get_or-set_other, take_all}
+use Rattle.std.proofs.Common.{ℕ, ◌≡◌, ◌≢◌, ◌<◌, ◌≤◌, ◌+◌, ◌-◌, ◌⊎◌, List, [], length, get_or, set, take, sum, replicate, true, false, leb, refl, sym, ap, ◌∙◌, arith, subst, inl, inr, length-take-le, get_or-take, get_or-set_same, get_or-set_other, take_all}
 use Rattle.std.proofs.lemmas.Bool.Decides.{nat_tests}
 use Rattle.std.proofs.lemmas.List.{length-replicate, take-set-le}
 use Rattle.std.proofs.lemmas.List.Sums.{sum_by-set, get_or-le-sum_by, sum_by_more, sum_by_more_le}
@@ -7,13 +7,11 @@ use Rattle.std.proofs.Math.ListN.{length-set}
 use Rattle.std.proofs.Math.Seq.{take-set-lt}
 use Rattle.nekchhaul.specs.Config.{Config}
 use Rattle.nekchhaul.specs.HistoryLaws.{length-memory_at}
-use Rattle.nekchhaul.specs.Logs.{Log, Reads, Writes, SameMemories, IsExplained, Keeps}
-use Rattle.nekchhaul.specs.Memories.{overlay}
+use Rattle.nekchhaul.specs.Logs.{Log, SameMemories}
 use Rattle.nekchhaul.specs.Handles.{Handle}
 use Rattle.nekchhaul.specs.Closings.{Closes, Ended}
 use Rattle.nekchhaul.specs.Known.{no_log}
-use Rattle.nekchhaul.specs.Effects.{Effect, unchanged, changed, Under, Shows, DoesOver}
-use Rattle.nekchhaul.specs.EffectLaws.{shows-read, shown, does-stay, does-change, turns-write, turns-then}
+use Rattle.nekchhaul.specs.Effects.{Effect, unchanged, changed, Under, DoesOver}
 use Rattle.nekchhaul.specs.FreshLaws.{sound-first, has-effect}
 use Rattle.example_bank.specs.declared.bank.Bank.{Bank}
 use Rattle.example_bank.specs.Banks.{balances, paid_in, IsBalanced, HasEffect, opened_in, moved_in, audited_in}
@@ -92,7 +90,7 @@ module _ (bank : Bank) (m : List ℕ) (s : IsSound bank m) where
       let w = within in omega arith
 
   -- what one balance loses another gains
-  moved : (from to amount : ℕ) → from < bank.accounts → to < bank.accounts → from ≢ to → amount ≤ get_or m from 0
+  pub moved : (from to amount : ℕ) → from < bank.accounts → to < bank.accounts → from ≢ to → amount ≤ get_or m from 0
       → IsBalanced bank (set (set m from (get_or m from 0 - amount)) to (get_or m to 0 + amount))
   moved from to amount low high apart enough = (balanced, subst (λ p. (p ≡ 0) ⊎ (p ≡ bank.capital)) (sym paid) s.0.1)
     where
@@ -129,19 +127,8 @@ module _ (bank : Bank) (m : List ℕ) (s : IsSound bank m) where
       balanced : sum (take bank.accounts after) ≡ get_or after bank.accounts 0
       balanced = same ∙ (s.0.0 ∙ sym paid)
 
-  pub moved-balanced : (from to amount : ℕ) → from < bank.accounts → to < bank.accounts → from ≢ to → IsBalanced bank (moved_in from to amount m).memory
-  moved-balanced from to amount low high apart = by (leb amount (get_or m from 0)) refl
-    where
-      by : (b : Bool) → leb amount (get_or m from 0) ≡ b → IsBalanced bank (moved_in from to amount m).memory
-      by true e =
-          let enough : amount ≤ get_or m from 0 = grind (arith, nat_tests) in
-          subst (λ (f : Effect Bool). IsBalanced bank f.memory) (sym (moves-is m from to amount (get_or m from 0) (get_or m to 0) refl refl enough)) (moved from to amount low high apart enough)
-      by false e =
-          let short : get_or m from 0 < amount = grind (arith, nat_tests) in
-          subst (λ (f : Effect Bool). IsBalanced bank f.memory) (sym (stays-is m from to amount (get_or m from 0) refl short)) s.0
-
   -- an open bank has all its capital
-  opened : 0 < bank.accounts → paid_in bank m ≡ 0 → IsBalanced bank (set (set m bank.accounts bank.capital) 0 bank.capital)
+  pub opened : 0 < bank.accounts → paid_in bank m ≡ 0 → IsBalanced bank (set (set m bank.accounts bank.capital) 0 bank.capital)
   opened some shut = (total ∙ sym paid, inr paid)
     where
       xs : List ℕ
@@ -165,17 +152,6 @@ module _ (bank : Bank) (m : List ℕ) (s : IsSound bank m) where
       paid : get_or after bank.accounts 0 ≡ bank.capital
       paid = get_or-set_other (set m bank.accounts bank.capital) 0 bank.accounts bank.capital 0 (omega arith) ∙ get_or-set_same m bank.accounts bank.capital 0 (let e = s.1 in omega arith)
 
-  pub opened-balanced : 0 < bank.accounts → IsBalanced bank (opened_in bank m).memory
-  opened-balanced some = by (leb 1 (paid_in bank m)) refl
-    where
-      by : (b : Bool) → leb 1 (paid_in bank m) ≡ b → IsBalanced bank (opened_in bank m).memory
-      by true e =
-          let paid : 0 < paid_in bank m = grind (arith, nat_tests) in
-          subst (λ (f : Effect Bool). IsBalanced bank f.memory) (sym (open-is bank m (paid_in bank m) refl paid)) s.0
-      by false e =
-          let shut : paid_in bank m ≡ 0 = grind (arith, nat_tests) in
-          subst (λ (f : Effect Bool). IsBalanced bank f.memory) (sym (opens-is bank m (paid_in bank m) refl shut)) (opened some shut)
-
 module _ (bank : Bank) (good : List ℕ → Type 0) (words : ℕ) (of : IsMemoryOf bank good words) (l : Log) (fresh : l ≡ no_log) where
   -- what an attempt that wrote nothing yet knows
   pub sound : Under good words l (IsSound bank)
@@ -183,53 +159,6 @@ module _ (bank : Bank) (good : List ℕ → Type 0) (words : ℕ) (of : IsMemory
 
   pub bank-effect : {A : Type 0} (effect : List ℕ → Effect A) (reply : A) (k : Log) → DoesOver good words effect l reply k → HasEffect bank words effect reply k
   bank-effect effect reply k does = has-effect (IsBalanced bank) good words of.1 l fresh effect reply k does
-
-  -- the word behind the balances was read
-  paid-read : (a : Log) (paid : ℕ) → Reads l bank.accounts paid a → Shows good words l a (λ m. paid ≡ paid_in bank m)
-  paid-read a paid read = shows-read good words l l a (IsSound bank) (λ m. paid ≡ paid_in bank m) bank.accounts paid (λ m g len ex. (ex, sound m g len ex)) refl (let e = of.0 in omega arith) read (λ m p e. e)
-
-  pub finds-open : (a : Log) (paid : ℕ) → Reads l bank.accounts paid a → 0 < paid → HasEffect bank words (opened_in bank) false a
-  finds-open a paid read some =
-      bank-effect (opened_in bank) false a (does-stay good words l (opened_in bank) a false (IsSound bank) sound read.0 (λ m. paid ≡ paid_in bank m) (paid-read a paid read) (λ m p q. open-is bank m paid q some))
-
-  pub opens : (a b c : Log) (paid : ℕ) → Reads l bank.accounts paid a → paid ≡ 0 → Writes a bank.accounts bank.capital b → Writes b 0 bank.capital c → HasEffect bank words (opened_in bank) true c
-  opens a b c paid read none one two =
-      bank-effect (opened_in bank) true c
-      (does-change good words l (opened_in bank) a c true (IsSound bank) sound read.0 (λ m. paid ≡ paid_in bank m) (paid-read a paid read)
-      (λ m. set (set m bank.accounts bank.capital) 0 bank.capital)
-      (turns-then a b c (λ m. set m bank.accounts bank.capital) (λ m. set m 0 bank.capital) (turns-write a b bank.accounts bank.capital one) (turns-write b c 0 bank.capital two))
-      (λ m p q. opens-is bank m paid q none))
-
-  module _ (a b : Log) (from to payer payee : ℕ) (first : Reads l from payer a) (second : Reads a to payee b) (low : from < bank.accounts) (high : to < bank.accounts) where
-    -- both balances were read
-    abbrev Found : List ℕ → Type 0
-    Found m = (IsSound bank m × (payer ≡ get_or m from 0)) × (payee ≡ get_or m to 0)
-
-    found : Shows good words l b Found
-    found =
-        let one = shows-read good words l l a (IsSound bank) (λ m. IsSound bank m × (payer ≡ get_or m from 0)) from payer (λ m g len ex. (ex, sound m g len ex)) refl (let e = of.0 in omega arith) first (λ m p e. (p, e)) in
-        shows-read good words l a b (λ m. IsSound bank m × (payer ≡ get_or m from 0)) Found to payee one first.0 (let e = of.0 in omega arith) second (λ m p e. (p, e))
-
-    unwritten : b.writes ≡ l.writes
-    unwritten = second.0 ∙ first.0
-
-    -- together they are at most the capital
-    pub both-within : (good' : List ℕ → Type 0) (words' : ℕ) → SameMemories good good' → words' ≡ words → IsExplained good' words' b → from ≢ to → payer + payee ≤ bank.capital
-    both-within good' words' same w seen apart =
-        shown good words l b good' words' Found (payer + payee ≤ bank.capital) found same w seen
-        (λ m p. let two = two-parts bank m p.0.0 from to low high apart in let x = p.0.1 in let y = p.1 in omega arith)
-
-    pub stays : (amount : ℕ) → payer < amount → HasEffect bank words (moved_in from to amount) false b
-    stays amount short =
-        bank-effect (moved_in from to amount) false b (does-stay good words l (moved_in from to amount) b false (IsSound bank) sound unwritten Found found (λ m p q. stays-is m from to amount payer q.0.1 short))
-
-    pub moves : (c d : Log) (amount : ℕ) → amount ≤ payer → Writes b from (payer - amount) c → Writes c to (payee + amount) d → HasEffect bank words (moved_in from to amount) true d
-    moves c d amount enough one two =
-        bank-effect (moved_in from to amount) true d
-        (does-change good words l (moved_in from to amount) b d true (IsSound bank) sound unwritten Found found
-        (λ m. set (set m from (payer - amount)) to (payee + amount))
-        (turns-then b c d (λ m. set m from (payer - amount)) (λ m. set m to (payee + amount)) (turns-write b c from (payer - amount) one) (turns-write c d to (payee + amount) two))
-        (λ m p q. moves-is m from to amount payer payee q.0.1 q.1 enough))
 
 -- a closed memory is balanced
 pub closed-sound : (bank : Bank) (c : Config) (ds : List (Handle Bank)) (ws : List ℕ) (e : Ended) → Closes (IsBalanced bank) c ds ws e → c.words ≡ bank.accounts + 1 → IsSound bank ws

@@ -1,5 +1,6 @@
 //! A bank: its rule, and its three transactions.
 
+use nekchhaul::words::{read_two, write_two};
 use nekchhaul::{Access, MemRule, Stop, Transaction};
 
 /// A bank with so many accounts and this capital. Its memory has a word for each balance, and one more for what was
@@ -35,8 +36,7 @@ impl Transaction<Bank> for Open {
         if memory.read(bank.accounts)? != 0 {
             return Ok(false);
         }
-        memory.write(bank.accounts, bank.capital)?;
-        memory.write(0, bank.capital)?;
+        write_two(memory, (bank.accounts, bank.capital), (0, bank.capital))?;
         Ok(true)
     }
 }
@@ -60,14 +60,16 @@ impl Transaction<Bank> for Transfer {
     ghost tells = { λ it bank words moved log. HasEffect bank words (moved_in it.from it.to it.amount) moved log };
 
     fn run<A: Access>(&self, _: &Bank, memory: &mut A) -> Result<bool, Stop> {
-        let payer = memory.read(self.from)?;
-        let payee = memory.read(self.to)?;
+        let (payer, payee) = read_two(memory, self.from, self.to)?;
         if payer < self.amount {
             return Ok(false);
         }
-        memory.write(self.from, payer - self.amount)?;
         // this can't wrap: both balances are parts of one capital
-        memory.write(self.to, payee + self.amount)?;
+        write_two(
+            memory,
+            (self.from, payer - self.amount),
+            (self.to, payee + self.amount),
+        )?;
         Ok(true)
     }
 }

@@ -1,13 +1,13 @@
 -- Laws of the shelves: from what was read and written to where a piece landed.
 use Rattle.std.proofs.Common.{ℕ, zero, suc, ◌≡◌, ◌<◌, ◌≤◌, ◌+◌, ◌-◌, List, [], ◌∷◌, length, get_or, set, refl, sym, ap, ◌∙◌, subst, arith, inl, inr}
 use Rattle.std.specs.Prelude.{Option, Some, None, IsSome}
-use Rattle.stm_model.specs.Logs.{Log, Reads, Writes}
-use Rattle.stm_model.specs.Memories.{overlay, Explains}
-use Rattle.stm_model.specs.Overlays.{reads-see, writes-see, overlay-same}
-use Rattle.tx_answers.specs.Known.{no_log}
-use Rattle.tx_parts.specs.Laying.{EitherTells, Comes, ReadsMore}
-use Rattle.tx_parts.specs.LayingLaws.{explains-front}
-use Rattle.tx_parts.specs.declared.wholly.Outcome.TheVariants.{Done, GaveWay, NoRoom}
+use Rattle.nekchhaul.specs.Logs.{Log, Reads, Writes}
+use Rattle.nekchhaul.specs.Memories.{overlay, Explains}
+use Rattle.nekchhaul.specs.Overlays.{reads-see, writes-see, overlay-same}
+use Rattle.nekchhaul.specs.Known.{no_log}
+use Rattle.nekchhaul.specs.Laying.{EitherTells, Comes, ReadsMore}
+use Rattle.nekchhaul.specs.LayingLaws.{explains-front}
+use Rattle.nekchhaul.specs.PartOutcome.TheVariants.{Done, GaveWay, NoRoom}
 use Rattle.example_shelves.specs.declared.shelves.Stored.TheVariants.{On, NoPiece, Nowhere, Refused}
 use Rattle.example_shelves.specs.Shelves.{taken, room_on, IsFull, IsStored, Lands, Told}
 

@@ -1,7 +1,7 @@
 -- The pile and the shelves in a memory, and what storing a piece does to them.
 use Rattle.std.specs.Prelude.{ℕ, ◌≡◌, ◌<◌, ◌≤◌, ◌+◌, ◌-◌, ◌==◌, if◌then◌else◌, List, length, slice_index, slice_set, Option, Some, None}
-use Rattle.stm_model.specs.Logs.{Log}
-use Rattle.stm_model.specs.Memories.{overlay, Explains}
+use Rattle.nekchhaul.specs.Logs.{Log}
+use Rattle.nekchhaul.specs.Memories.{overlay, Explains}
 use Rattle.example_shelves.specs.declared.shelves.Stored.{Stored}
 use Rattle.example_shelves.specs.declared.shelves.Stored.TheVariants.{On, NoPiece, Nowhere, Refused}
 

@@ -5,14 +5,10 @@
 mod shelves;
 
 use crate::shelves::{Fill, Store};
+use nekchhaul::{ALGORITHMS, AnyMem, Caller, Job, sizes, with_memory};
 use std::alloc::Global;
 use std::process::ExitCode;
 use std::sync::Wait;
-use stm_tx::{ALGORITHMS, AnyMem};
-use tx_start::caller::Caller;
-use tx_start::job::Job;
-use tx_start::memory::with_memory;
-use tx_start::sizes::sizes;
 
 /// Piles five pieces up, and then stores a piece six times.
 #[derive(Drop)]
@@ -26,8 +22,6 @@ impl<R: Wait> Job<R, AnyMem> for Work {
     type Output = usize;
 
     ghost needs = { λ job rule words. 3 < words };
-
-    ghost tells = { λ job rule words caller answer before after. Unit {0} };
 
     fn work(&self, caller: &mut Caller<'_, R, AnyMem>) -> usize {
         caller.run(&Fill);

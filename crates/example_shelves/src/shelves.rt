@@ -1,12 +1,10 @@
 //! The pile is word 0, and the shelves are the words 1 to 3.
+use nekchhaul::parts::nesting::Nesting;
+use nekchhaul::parts::or_else::OrElse;
+use nekchhaul::parts::part::Part;
+use nekchhaul::parts::wholly::{PartOutcome, wholly};
+use nekchhaul::{Access, AnyMem, Stop, Transaction, WriteLog};
 use std::alloc::Global;
-use stm_tx::{Access, AnyMem, Stop};
-use tx_atomic::transaction::Transaction;
-use tx_logs::write_log::WriteLog;
-use tx_parts::nesting::Nesting;
-use tx_parts::or_else::OrElse;
-use tx_parts::part::Part;
-use tx_parts::wholly::{Outcome, wholly};
 
 /// A transaction: five pieces are on the pile.
 #[derive(Drop)]
@@ -79,7 +77,7 @@ pub struct Store {
 
 impl Transaction<AnyMem> for Store {
     ghost use Rattle.std.specs.Prelude.{◌<◌};
-    ghost use Rattle.tx_answers.specs.Known.{no_log};
+    ghost use Rattle.nekchhaul.specs.Known.{no_log};
     ghost use Rattle.example_shelves.specs.Shelves.{Told, IsStored};
 
     type Output = Stored;
@@ -103,9 +101,9 @@ impl Transaction<AnyMem> for Store {
             second: OnShelf { shelf: 3, room: 1 },
         };
         match wholly(&shelves, rule, memory, room)? {
-            Outcome::Done(shelf) => Ok(Stored::On(shelf)),
-            Outcome::GaveWay => Ok(Stored::Nowhere),
-            Outcome::NoRoom { .. } | Outcome::NoMemory => Ok(Stored::Refused),
+            PartOutcome::Done(shelf) => Ok(Stored::On(shelf)),
+            PartOutcome::GaveWay => Ok(Stored::Nowhere),
+            PartOutcome::NoRoom { .. } | PartOutcome::NoMemory => Ok(Stored::Refused),
         }
     }
 }

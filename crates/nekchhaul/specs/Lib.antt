@@ -32,6 +32,7 @@ pub use Rattle.tx_layout.specs.Layouts
 pub use Rattle.tx_parts.specs.Laying
 pub use Rattle.tx_parts.specs.LayingLaws
 pub use Rattle.tx_parts.specs.ToldLaws
+pub use Rattle.tx_parts.specs.declared.wholly.PartOutcome
 pub use Rattle.tx_places.specs.Codes
 pub use Rattle.tx_queue.specs.Queues
 pub use Rattle.tx_queue.specs.Statements as QueueStatements

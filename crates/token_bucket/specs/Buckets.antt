@@ -1,5 +1,6 @@
 -- Token buckets in a memory, and what a wish for tokens does to them.
-use Rattle.std.specs.Prelude.{ℕ, ◌≡◌, ◌<◌, ◌≤◌, ◌+◌, ◌-◌, ◌&&◌, if◌then◌else◌, leb, min, List, take, sum, slice_index, slice_set}
+use Rattle.std.specs.Prelude.{ℕ, ◌≡◌, ◌<◌, ◌≤◌, ◌+◌, ◌-◌, ◌&&◌, if◌then◌else◌, leb, min, List, [], ◌∷◌, take, sum, slice_index}
+use Rattle.nekchhaul.specs.Memories.{written}
 use Rattle.nekchhaul.specs.Effects.{Effect, changed}
 use Rattle.token_bucket.specs.declared.bucket.Limiter.{Limiter}
 use Rattle.token_bucket.specs.declared.bucket.Wish.{Wish}
@@ -11,13 +12,9 @@ IsFair limiter m = ((client : ℕ) → client < 16 → slice_index m (16 + clien
 abbrev pub granted : ℕ → ℕ → ℕ → ℕ
 granted amount tokens counted = if leb amount tokens && leb amount (18446744073709551615 - counted) then amount else 0
 
--- a bucket has so many tokens, of which so many are handed out and counted
-abbrev pub handed_out : ℕ → ℕ → ℕ → List ℕ → List ℕ
-handed_out client tokens given m = slice_set (slice_set (slice_set m (16 + client) (tokens - given)) client (slice_index m client + given)) 32 (slice_index m 32 + given)
-
 -- the bucket gains tokens, but not over its capacity, and hands out what is wished of it
 abbrev pub wished_in : Limiter → Wish → List ℕ → Effect ℕ
 wished_in limiter it m =
     let tokens = slice_index m (16 + it.client) + min it.more (limiter.capacity - slice_index m (16 + it.client)) in
     let given = granted it.amount tokens (slice_index m 32) in
-    changed given (handed_out it.client tokens given m)
+    changed given (written m ((16 + it.client, tokens - given) ∷ (it.client, slice_index m it.client + given) ∷ (32, slice_index m 32 + given) ∷ []))

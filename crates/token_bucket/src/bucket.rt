@@ -2,6 +2,7 @@
 ghost use Rattle.std.specs.Prelude.{◌≡◌, ◌≤◌, ◌+◌};
 ghost use Rattle.token_bucket.specs.Buckets.{granted};
 
+use nekchhaul::words::{read_three, write_three};
 use nekchhaul::{Access, MemRule, Stop, Transaction};
 
 /// Buckets of this capacity, one for each of 16 clients. Word `n` of their memory has what client `n` was handed, word
@@ -54,16 +55,17 @@ impl Transaction<Limiter> for Wish {
     ghost tells = { λ it limiter words given log. DoesOver (IsFair limiter) words (wished_in limiter it) no_log given log };
 
     fn run<A: Access>(&self, limiter: &Limiter, memory: &mut A) -> Result<u64, Stop> {
-        let found = memory.read(16 + self.client)?;
-        let handed = memory.read(self.client)?;
-        let counted = memory.read(32)?;
+        let (found, handed, counted) = read_three(memory, 16 + self.client, self.client, 32)?;
         // this can't wrap: no bucket is over its capacity
         let tokens = found + self.more.min(limiter.capacity - found);
         let given = self.granted(tokens, counted);
-        memory.write(16 + self.client, tokens - given)?;
         // nor can this: what one client was handed is a part of what was counted
-        memory.write(self.client, handed + given)?;
-        memory.write(32, counted + given)?;
+        write_three(
+            memory,
+            (16 + self.client, tokens - given),
+            (self.client, handed + given),
+            (32, counted + given),
+        )?;
         Ok(given)
     }
 }

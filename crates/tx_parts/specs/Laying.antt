@@ -8,8 +8,8 @@ use Rattle.tx_effects.specs.Effects.{Under}
 use Rattle.tx_logs.specs.LogStates.{LogState, firsts}
 use Rattle.tx_parts.specs.declared.whole.Undone.{Undone}
 use Rattle.tx_parts.specs.declared.whole.Undone.TheVariants as undone
-use Rattle.tx_parts.specs.declared.wholly.Outcome.{Outcome}
-use Rattle.tx_parts.specs.declared.wholly.Outcome.TheVariants.{Done, GaveWay, NoRoom, NoMemory}
+use Rattle.tx_parts.specs.declared.wholly.PartOutcome.{PartOutcome}
+use Rattle.tx_parts.specs.declared.wholly.PartOutcome.TheVariants.{Done, GaveWay, NoRoom, NoMemory}
 
 -- the items written over a list, one after the other
 abbrev pub laid : List (ℕ × ℕ) → List (ℕ × ℕ) → List (ℕ × ℕ)
@@ -65,7 +65,7 @@ IsFull len (Some (Full limit)) = limit ≡ len
 IsFull len (Some stop) = ⊥
 
 -- What came of a part that had room for so many words, from the log before to the log behind. Where it was done, this is told of a log with the same writes, and it keeps the rule where what was done before does; else it only read; where it gave way that is told; and it lacks room only where the memory has more words than that.
-abbrev pub Comes : {T : Type 0} → (List ℕ → Type 0) → ℕ → ℕ → (Option T → Log → Log → Type 0) → Outcome T → Log → Log → Type 0
+abbrev pub Comes : {T : Type 0} → (List ℕ → Type 0) → ℕ → ℕ → (Option T → Log → Log → Type 0) → PartOutcome T → Log → Log → Type 0
 Comes good words len tells (Done r) l k = ((j : Log) × tells (Some r) l j × SameLog j k) × ReadsMore l k × (Under good words l good → Under good words k good)
 Comes good words len tells GaveWay l k = ((gave : Log) × tells None l gave × (k ≡ back_to l gave)) × OnlyReads l k
 Comes good words len tells (NoRoom limit) l k = OnlyReads l k × (limit ≡ len) × (limit < words)
@@ -76,7 +76,7 @@ abbrev pub one_read : ℕ → ℕ → Log
 one_read a v = record { reads = (a, v) ∷ []; writes = [] }
 
 -- what came of a part that is a whole transaction, with room for so many words, behind the read of this word; where memory was refused for its log, nothing else was done
-abbrev pub ComesFirst : {T : Type 0} → (List ℕ → Type 0) → ℕ → ℕ → ℕ → (Option T → Log → Log → Type 0) → Outcome T → Log → Type 0
+abbrev pub ComesFirst : {T : Type 0} → (List ℕ → Type 0) → ℕ → ℕ → ℕ → (Option T → Log → Log → Type 0) → PartOutcome T → Log → Type 0
 ComesFirst good words first room tells NoMemory k = (v : ℕ) × (k ≡ one_read first v)
 ComesFirst good words first room tells came k = (v : ℕ) × Comes good words room tells came (one_read first v) k
 

@@ -8,7 +8,7 @@ use Rattle.tx_effects.specs.Effects.{Effect, DoesOver, Under}
 use Rattle.tx_effects.specs.FreshLaws.{nothing}
 use Rattle.tx_parts.specs.declared.whole.Undone.{Undone}
 use Rattle.tx_parts.specs.declared.whole.Undone.TheVariants.{NoRoom, NoMemory}
-use Rattle.tx_parts.specs.declared.wholly.Outcome.TheVariants.{Done}
+use Rattle.tx_parts.specs.declared.wholly.PartOutcome.TheVariants.{Done}
 use Rattle.tx_parts.specs.Laying.{EitherTells, Comes, ComesAwaited, ReadsMore}
 use Rattle.tx_parts.specs.LayingLaws.{explains-front}
 

@@ -2,7 +2,7 @@
 ghost use Rattle.tx_logs.specs.declared.marks.TheConstants.{MAX_MARKS};
 
 use crate::part::Part;
-use crate::wholly::{Outcome, wholly};
+use crate::wholly::{PartOutcome, wholly};
 use std::alloc::Global;
 use stm_model::access::Access;
 use stm_model::rule::MemRule;
@@ -25,17 +25,17 @@ impl<K: MemRule, P: Part<K>> Transaction<K> for Whole<P> {
     ghost use Rattle.std.specs.Prelude.{◌<◌, ◌≤◌};
     ghost use Rattle.tx_parts.specs.Laying.{ComesFirst};
 
-    type Output = Outcome<P::Output>;
+    type Output = PartOutcome<P::Output>;
 
     ghost fits = { λ it rule words. P.fits it.part rule words × (P.depth it.part ≤ MAX_MARKS) × (it.first < words) × (1 ≤ it.room) × (it.room ≤ 4096) };
 
     ghost tells = { λ it rule words came log. ComesFirst (K.good rule) words it.first it.room (P.tells it.part rule words) came log };
 
     /// `NoMemory` where memory was refused for the part's log.
-    fn run<A: Access>(&self, rule: &K, memory: &mut A) -> Result<Outcome<P::Output>, Stop> {
+    fn run<A: Access>(&self, rule: &K, memory: &mut A) -> Result<PartOutcome<P::Output>, Stop> {
         memory.read(self.first)?;
         let Ok(room) = WriteLog::new(self.alloc, self.room) else {
-            return Ok(Outcome::NoMemory);
+            return Ok(PartOutcome::NoMemory);
         };
         wholly(&self.part, rule, memory, room)
     }
@@ -72,10 +72,10 @@ impl<K: MemRule, P: Part<K>> Transaction<K> for Awaited<P> {
         memory: &mut A,
     ) -> Result<Option<Result<P::Output, Undone>>, Stop> {
         match self.whole.run(rule, memory)? {
-            Outcome::Done(done) => Ok(Some(Ok(done))),
-            Outcome::GaveWay => Ok(None),
-            Outcome::NoRoom { limit } => Ok(Some(Err(Undone::NoRoom { limit }))),
-            Outcome::NoMemory => Ok(Some(Err(Undone::NoMemory))),
+            PartOutcome::Done(done) => Ok(Some(Ok(done))),
+            PartOutcome::GaveWay => Ok(None),
+            PartOutcome::NoRoom { limit } => Ok(Some(Err(Undone::NoRoom { limit }))),
+            PartOutcome::NoMemory => Ok(Some(Err(Undone::NoMemory))),
         }
     }
 }

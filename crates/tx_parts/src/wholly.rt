@@ -15,7 +15,7 @@ use tx_logs::write_log::WriteLog;
 
 /// What came of a part.
 #[derive(Clone, Copy, Drop, Debug, PartialEq, Eq)]
-pub enum Outcome<T> {
+pub enum PartOutcome<T> {
     /// It was done.
     Done(T),
     /// It gave way, and left no trace but what it read.
@@ -37,7 +37,7 @@ pub fn wholly<K: MemRule, P: Part<K>, A: Access>(
     rule: &K,
     memory: &mut A,
     room: WriteLog,
-) -> Result<Outcome<P::Output>, Stop>
+) -> Result<PartOutcome<P::Output>, Stop>
     requires going { A.stopped memory.old ≡ None }
     requires good { SameMemories (A.good memory.old) (K.good rule.now) }
     requires seen { IsExplained (A.good memory.old) (A.words memory.old) (A.log memory.old) }
@@ -73,7 +73,7 @@ fn run_apart<K: MemRule, P: Part<K>, A: Access>(
     part: &P,
     rule: &K,
     overlay: &mut Overlay<A>,
-) -> Result<Outcome<P::Output>, Stop>
+) -> Result<PartOutcome<P::Output>, Stop>
     requires going { overlay.old.stopped ≡ None }
     requires good { SameMemories (A.good overlay.old.below) (K.good rule.now) }
     requires sound { Under (K.good rule.now) (A.words overlay.old.below) (A.log overlay.old.below) (K.good rule.now) }
@@ -95,11 +95,11 @@ fn run_apart<K: MemRule, P: Part<K>, A: Access>(
     match came {
         Ok(Some(done)) => {
             overlay.settle()?;
-            Ok(Outcome::Done(done))
+            Ok(PartOutcome::Done(done))
         }
-        Ok(None) => Ok(Outcome::GaveWay),
+        Ok(None) => Ok(PartOutcome::GaveWay),
         Err(stop) => match full {
-            Some(limit) => Ok(Outcome::NoRoom { limit }),
+            Some(limit) => Ok(PartOutcome::NoRoom { limit }),
             None => Err(stop),
         },
     }

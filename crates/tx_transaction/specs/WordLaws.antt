@@ -1,13 +1,14 @@
 -- Laws for a transaction that reads some words and then writes some: from its calls to what it promises.
 use Rattle.std.proofs.Common.{ℕ, ◌≡◌, ◌<◌, ◌≤◌, ◌+◌, ◌∙◌, List, [], ◌∷◌, length, get_or, set, take, sum, sym, ap, arith, subst, length-take-le, get_or-take}
+use Rattle.std.proofs.lemmas.List.{take-set-le}
 use Rattle.std.proofs.lemmas.List.Sums.{sum_by-set, get_or-le-sum_by}
 use Rattle.std.proofs.Math.Seq.{take-set-lt}
-use Rattle.stm_model.specs.Logs.{Log, Reads, Writes, SameMemories, IsExplained}
+use Rattle.stm_model.specs.Logs.{Log, Reads, Writes, SameMemories, IsExplained, Keeps}
 use Rattle.stm_model.specs.Memories.{overlay, written, Explains}
 use Rattle.stm_model.specs.Overlays.{reads-see}
 use Rattle.tx_effects.specs.Effects.{Effect, unchanged, changed, DoesOver, Shows, Turns}
 use Rattle.tx_effects.specs.EffectLaws.{does-stay, does-change, turns-write, turns-then}
-use Rattle.tx_effects.specs.FreshLaws.{nothing, IsSound, sound-first, has-effect}
+use Rattle.tx_effects.specs.FreshLaws.{nothing, IsSound, reads-keep, sound-first, has-effect}
 
 -- one call after the other: each read is of a word of the memory, and found this
 abbrev pub AllRead : ℕ → Log → List (ℕ × ℕ) → Log → Type 0
@@ -17,6 +18,10 @@ AllRead words l (r ∷ rs) k = (r.0 < words) × (j : Log) × Reads l r.0 r.1 j �
 abbrev pub AllWritten : Log → List (ℕ × ℕ) → Log → Type 0
 AllWritten l [] k = l ≡ k
 AllWritten l (w ∷ ws) k = (j : Log) × Writes l w.0 w.1 j × AllWritten j ws k
+
+-- a good memory of this many words has what was read
+abbrev pub IsKnown : (List ℕ → Type 0) → ℕ → List (ℕ × ℕ) → Type 0
+IsKnown good words rs = (m : List ℕ) × good m × (length m ≡ words) × Explains m rs
 
 only-read : (words : ℕ) (l : Log) (rs : List (ℕ × ℕ)) (k : Log) → AllRead words l rs k → k.writes ≡ l.writes
 only-read words l [] k read = ap (λ (j : Log). j.writes) (sym read)
@@ -29,6 +34,13 @@ found words m l (r ∷ rs) k len read ex =
     let more = found words m read.1 rs k len read.3 ex in
     let here = reads-see m l r.0 r.1 read.1 (subst (λ n. r.0 < n) (sym len) read.0) read.2 more.0 in
     (here.0, (here.1, subst (λ ws. Explains (overlay m ws) rs) read.2.0 more.1))
+
+-- where nothing was done before, what was read is known
+pub known-first : (good good' : List ℕ → Type 0) (words words' : ℕ) (l k : Log) (rs : List (ℕ × ℕ)) → AllRead words l rs k → SameMemories good good' → words' ≡ words → IsExplained good' words' k → l ≡ nothing → IsKnown good words rs
+known-first good good' words words' l k rs read same count seen fresh =
+    let len = seen.2 ∙ count in
+    let ex = (found words seen.0 l rs k len read seen.3).1 in
+    (seen.0, (same seen.0).1 seen.1, len, subst (λ (j : Log). Explains (overlay seen.0 j.writes) rs) fresh ex)
 
 turns-all : (l : Log) (w : ℕ × ℕ) (ws : List (ℕ × ℕ)) (k : Log) → AllWritten l (w ∷ ws) k → Turns l k (λ m. written m (w ∷ ws))
 turns-all l w [] k wrote = subst (λ (j : Log). Turns l j (λ m. set m w.0 w.1)) wrote.2 (turns-write l wrote.0 w.0 w.1 wrote.1)
@@ -53,12 +65,24 @@ module _ (rule good : List ℕ → Type 0) (words : ℕ) (same : SameMemories go
       has-effect rule good words same l fresh effect reply k
       (does-stay good words l effect k reply (IsSound rule words) (sound-first rule good words same l fresh) (only-read words l rs k read) (λ m. Explains m rs) shows is)
 
+  pub keeps-read : Keeps rule words k
+  keeps-read = reads-keep rule words k (only-read words l rs k read ∙ ap (λ (i : Log). i.writes) fresh)
+
   -- and where these words were written then
   pub does-write : {A : Type 0} (effect : List ℕ → Effect A) (reply : A) (w : ℕ × ℕ) (ws : List (ℕ × ℕ)) (j : Log) → AllWritten k (w ∷ ws) j
       → ((m : List ℕ) → IsSound rule words m → Explains m rs → effect m ≡ changed reply (written m (w ∷ ws))) → DoesOver rule words effect nothing reply j
   does-write effect reply w ws j wrote is =
       has-effect rule good words same l fresh effect reply j
       (does-change good words l effect k j reply (IsSound rule words) (sound-first rule good words same l fresh) (only-read words l rs k read) (λ m. Explains m rs) shows (λ m. written m (w ∷ ws)) (turns-all k w ws j wrote) is)
+
+  -- so it keeps the rule where each memory under the rule that has what was read is led to such
+  pub keeps-write : (w : ℕ × ℕ) (ws : List (ℕ × ℕ)) (j : Log) → AllWritten k (w ∷ ws) j → ((m : List ℕ) → IsSound rule words m → Explains m rs → rule (written m (w ∷ ws))) → Keeps rule words j
+  keeps-write w ws j wrote leads = λ m g len ex.
+      let turns = turns-all k w ws j wrote in
+      let s = shows m ((same m).1 g) len (turns.explains m ex) in
+      let before : overlay m k.writes ≡ m = ap (overlay m) (only-read words l rs k read) ∙ ap (λ (i : Log). overlay m i.writes) fresh in
+      let seen = subst (λ (i : Log). Explains (overlay m i.writes) rs) fresh s.1 in
+      subst rule (sym (turns.left m ∙ ap (λ (x : List ℕ). written x (w ∷ ws)) before)) (leads m (g, len) seen)
 
 -- a word of the first n is a part of their sum, which a write of it changes by as much
 module _ (m : List ℕ) (n a : ℕ) (lt : a < n) (le : n ≤ length m) where
@@ -76,3 +100,7 @@ module _ (m : List ℕ) (n a : ℕ) (lt : a < n) (le : n ≤ length m) where
       let same : sum (take n (set m a v)) ≡ sum (set (take n m) a v) = ap sum (take-set-lt n m a v lt) in
       let moved = sum_by-set (λ x. x) (take n m) a v 0 (omega (arith, long, lt)) in
       omega (arith, same, moved, at)
+
+-- and a write of a word past them leaves it
+pub sum-past : (m : List ℕ) (n a : ℕ) → n ≤ a → (v : ℕ) → sum (take n (set m a v)) ≡ sum (take n m)
+sum-past m n a past v = ap sum (take-set-le n m a v past)

@@ -3,6 +3,7 @@
 #![tactic(auto)]
 
 pub mod transaction;
+pub mod words;
 
 pub use stm_model::access::Access;
 pub use stm_model::rule::{AnyMem, MemRule};

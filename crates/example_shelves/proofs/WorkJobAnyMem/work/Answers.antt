@@ -1,4 +1,4 @@
-use Rattle.tx_atomic.specs.CallerLaws.{worked-trans}
+use Rattle.nekchhaul.specs.CallerLaws.{worked-trans}
 use Rattle.example_shelves.proofs.WorkJobAnyMem.work.Goals as goal
 
 pub returns-clause-worked : goal.returns-clause-worked

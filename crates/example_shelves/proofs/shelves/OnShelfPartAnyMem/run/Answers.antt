@@ -1,5 +1,5 @@
 use Rattle.std.proofs.Common.{ℕ, subst, arith}
-use Rattle.stm_model.specs.Logs.{Writes}
+use Rattle.nekchhaul.specs.Logs.{Writes}
 use Rattle.example_shelves.specs.ShelfLaws.{full-there, lands-there}
 use Rattle.example_shelves.proofs.shelves.OnShelfPartAnyMem.run.Goals as goal
 

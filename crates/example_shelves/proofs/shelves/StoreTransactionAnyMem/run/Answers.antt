@@ -1,5 +1,5 @@
 use Rattle.std.proofs.Common.{ℕ, ◌<◌, List, sym, subst, arith}
-use Rattle.tx_answers.specs.Known.{no_log}
+use Rattle.nekchhaul.specs.Known.{no_log}
 use Rattle.example_shelves.specs.declared.shelves.Stored.TheVariants.{On, Nowhere}
 use Rattle.example_shelves.specs.Shelves.{Told, IsStored}
 use Rattle.example_shelves.specs.ShelfLaws.{on-shelf, nowhere}

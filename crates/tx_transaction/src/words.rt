@@ -1,0 +1,102 @@
+//! Some words read or written one after the other, for transactions that read what they need and then write.
+ghost use Rattle.std.specs.Prelude.{◌≡◌, ◌<◌, [], ◌∷◌, None, Some, IfOk, OnOk, IfErr};
+ghost use Rattle.stm_model.specs.Logs.{SameMemories, IsExplained};
+ghost use Rattle.tx_effects.specs.FreshLaws.{nothing};
+ghost use Rattle.tx_transaction.specs.WordLaws.{AllRead, AllWritten, IsKnown};
+
+use stm_model::access::Access;
+use stm_model::stop::Stop;
+
+/// Reads two words. In an attempt that had done nothing some good memory has both.
+///
+/// # Errors
+/// The Stop of the access.
+pub fn read_two<A: Access>(memory: &mut A, a: usize, b: usize) -> Result<(u64, u64), Stop>
+    requires going { A.stopped memory.old ≡ None }
+    requires within { (a < A.words memory.old) × (b < A.words memory.old) }
+    ensures read { IfOk result (λ v. AllRead (A.words memory.old) (A.log memory.old) ((a, v.0) ∷ (b, v.1) ∷ []) (A.log memory.new)) }
+    ensures known { A.log memory.old ≡ nothing → IfOk result (λ v. IsKnown (A.good memory.old) (A.words memory.old) ((a, v.0) ∷ (b, v.1) ∷ [])) }
+    ensures explained { OnOk result (IsExplained (A.good memory.new) (A.words memory.new) (A.log memory.new)) }
+    ensures goes { OnOk result (A.stopped memory.new ≡ None) }
+    ensures stops { IfErr result (λ s. A.stopped memory.new ≡ Some s) }
+    ensures good { SameMemories (A.good memory.old) (A.good memory.new) }
+    ensures words { A.words memory.new ≡ A.words memory.old }
+    ensures keeps { A.keeps memory.old memory.new }
+{
+    let first = memory.read(a)?;
+    let second = memory.read(b)?;
+    Ok((first, second))
+}
+
+/// Reads three words, as `read_two` two.
+///
+/// # Errors
+/// The Stop of the access.
+pub fn read_three<A: Access>(
+    memory: &mut A,
+    a: usize,
+    b: usize,
+    c: usize,
+) -> Result<(u64, u64, u64), Stop>
+    requires going { A.stopped memory.old ≡ None }
+    requires within { (a < A.words memory.old) × (b < A.words memory.old) × (c < A.words memory.old) }
+    ensures read { IfOk result (λ v. AllRead (A.words memory.old) (A.log memory.old) ((a, v.0) ∷ (b, v.1) ∷ (c, v.2) ∷ []) (A.log memory.new)) }
+    ensures known { A.log memory.old ≡ nothing → IfOk result (λ v. IsKnown (A.good memory.old) (A.words memory.old) ((a, v.0) ∷ (b, v.1) ∷ (c, v.2) ∷ [])) }
+    ensures explained { OnOk result (IsExplained (A.good memory.new) (A.words memory.new) (A.log memory.new)) }
+    ensures goes { OnOk result (A.stopped memory.new ≡ None) }
+    ensures stops { IfErr result (λ s. A.stopped memory.new ≡ Some s) }
+    ensures good { SameMemories (A.good memory.old) (A.good memory.new) }
+    ensures words { A.words memory.new ≡ A.words memory.old }
+    ensures keeps { A.keeps memory.old memory.new }
+{
+    let first = memory.read(a)?;
+    let second = memory.read(b)?;
+    let third = memory.read(c)?;
+    Ok((first, second, third))
+}
+
+/// Writes two words, each an address and its value.
+///
+/// # Errors
+/// The Stop of the access.
+pub fn write_two<A: Access>(memory: &mut A, a: (usize, u64), b: (usize, u64)) -> Result<(), Stop>
+    requires going { A.stopped memory.old ≡ None }
+    requires within { (a.0 < A.words memory.old) × (b.0 < A.words memory.old) }
+    ensures wrote { OnOk result (AllWritten (A.log memory.old) (a ∷ b ∷ []) (A.log memory.new)) }
+    ensures explained { OnOk result (IsExplained (A.good memory.new) (A.words memory.new) (A.log memory.new)) }
+    ensures goes { OnOk result (A.stopped memory.new ≡ None) }
+    ensures stops { IfErr result (λ s. A.stopped memory.new ≡ Some s) }
+    ensures good { SameMemories (A.good memory.old) (A.good memory.new) }
+    ensures words { A.words memory.new ≡ A.words memory.old }
+    ensures keeps { A.keeps memory.old memory.new }
+{
+    memory.write(a.0, a.1)?;
+    memory.write(b.0, b.1)?;
+    Ok(())
+}
+
+/// Writes three words, as `write_two` two.
+///
+/// # Errors
+/// The Stop of the access.
+pub fn write_three<A: Access>(
+    memory: &mut A,
+    a: (usize, u64),
+    b: (usize, u64),
+    c: (usize, u64),
+) -> Result<(), Stop>
+    requires going { A.stopped memory.old ≡ None }
+    requires within { (a.0 < A.words memory.old) × (b.0 < A.words memory.old) × (c.0 < A.words memory.old) }
+    ensures wrote { OnOk result (AllWritten (A.log memory.old) (a ∷ b ∷ c ∷ []) (A.log memory.new)) }
+    ensures explained { OnOk result (IsExplained (A.good memory.new) (A.words memory.new) (A.log memory.new)) }
+    ensures goes { OnOk result (A.stopped memory.new ≡ None) }
+    ensures stops { IfErr result (λ s. A.stopped memory.new ≡ Some s) }
+    ensures good { SameMemories (A.good memory.old) (A.good memory.new) }
+    ensures words { A.words memory.new ≡ A.words memory.old }
+    ensures keeps { A.keeps memory.old memory.new }
+{
+    memory.write(a.0, a.1)?;
+    memory.write(b.0, b.1)?;
+    memory.write(c.0, c.1)?;
+    Ok(())
+}
