@@ -4,7 +4,7 @@ use Rattle.std.proofs.lemmas.List.{take-set-le}
 use Rattle.std.proofs.lemmas.List.Sums.{sum_by-set, get_or-le-sum_by}
 use Rattle.std.proofs.Math.Seq.{take-set-lt}
 use Rattle.stm_model.specs.Logs.{Log, Reads, Writes, SameMemories, IsExplained, Keeps}
-use Rattle.stm_model.specs.Memories.{overlay, written, Explains}
+use Rattle.stm_model.specs.Memories.{AreWords, overlay, written, Explains}
 use Rattle.stm_model.specs.Overlays.{reads-see}
 use Rattle.tx_effects.specs.Effects.{Effect, unchanged, changed, DoesOver, Shows, Turns}
 use Rattle.tx_effects.specs.EffectLaws.{does-stay, does-change, turns-write, turns-then}
@@ -75,14 +75,14 @@ module _ (rule good : List ℕ → Type 0) (words : ℕ) (same : SameMemories go
       has-effect rule good words same l fresh effect reply j
       (does-change good words l effect k j reply (IsSound rule words) (sound-first rule good words same l fresh) (only-read words l rs k read) (λ m. Explains m rs) shows (λ m. written m (w ∷ ws)) (turns-all k w ws j wrote) is)
 
-  -- so it keeps the rule where each memory under the rule that has what was read is led to such
-  pub keeps-write : (w : ℕ × ℕ) (ws : List (ℕ × ℕ)) (j : Log) → AllWritten k (w ∷ ws) j → ((m : List ℕ) → IsSound rule words m → Explains m rs → rule (written m (w ∷ ws))) → Keeps rule words j
-  keeps-write w ws j wrote leads = λ m g len ex.
+  -- so it keeps the rule where each memory of words under the rule that has what was read is led to one under the rule
+  pub keeps-write : (w : ℕ × ℕ) (ws : List (ℕ × ℕ)) (j : Log) → AllWritten k (w ∷ ws) j → ((m : List ℕ) → IsSound rule words m → Explains m rs → AreWords m → rule (written m (w ∷ ws))) → Keeps rule words j
+  keeps-write w ws j wrote leads = λ m g len ex small.
       let turns = turns-all k w ws j wrote in
       let s = shows m ((same m).1 g) len (turns.explains m ex) in
       let before : overlay m k.writes ≡ m = ap (overlay m) (only-read words l rs k read) ∙ ap (λ (i : Log). overlay m i.writes) fresh in
       let seen = subst (λ (i : Log). Explains (overlay m i.writes) rs) fresh s.1 in
-      subst rule (sym (turns.left m ∙ ap (λ (x : List ℕ). written x (w ∷ ws)) before)) (leads m (g, len) seen)
+      subst rule (sym (turns.left m ∙ ap (λ (x : List ℕ). written x (w ∷ ws)) before)) (leads m (g, len) seen small)
 
 -- a word of the first n is a part of their sum, which a write of it changes by as much
 module _ (m : List ℕ) (n a : ℕ) (lt : a < n) (le : n ≤ length m) where

@@ -28,4 +28,4 @@ returns-clause-kept g c =
     let bank = c.args.bank.now in
     let paid = c.in_ok-read.field-0 in
     keeps-write (IsBalanced bank) _ _ c.requires.good _ c.requires.fresh ((bank.accounts, paid) ∷ []) _ ((let fits = c.requires.fits in omega arith), _, c.in_ok-read.ensures.value, refl)
-    (bank.accounts, bank.capital) ((0, bank.capital) ∷ []) _ c.in_ok-write_two.ensures.wrote (λ m s ex. opened bank m (s.0, s.1 ∙ c.requires.fits.0) c.requires.fits.1 (let none = c.if-branch-ne0.false in let is = ex.0 in omega arith))
+    (bank.accounts, bank.capital) ((0, bank.capital) ∷ []) _ c.in_ok-write_two.ensures.wrote (λ m s ex small. opened bank m (s.0, s.1 ∙ c.requires.fits.0) c.requires.fits.1 (let none = c.if-branch-ne0.false in let is = ex.0 in omega arith))

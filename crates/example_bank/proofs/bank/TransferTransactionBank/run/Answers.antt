@@ -42,4 +42,4 @@ returns-clause-kept g c =
     let found = c.in_ok-payer in
     keeps-write (IsBalanced bank) _ _ c.requires.good _ c.requires.fresh ((it.from, found.payer) ∷ (it.to, found.payee) ∷ []) _ found.ensures.read
     (it.from, found.payer - it.amount) ((it.to, found.payee + it.amount) ∷ []) _ c.in_ok-write_two.ensures.wrote
-    (λ m s ex. rw (sym ex.0, sym ex.1.0) (moved bank m (s.0, s.1 ∙ fits.0.0) it.from it.to it.amount fits.1 fits.2 fits.3 (let enough = c.if-payer-self.false in let is = ex.0 in omega arith)))
+    (λ m s ex small. rw (sym ex.0, sym ex.1.0) (moved bank m (s.0, s.1 ∙ fits.0.0) it.from it.to it.amount fits.1 fits.2 fits.3 (let enough = c.if-payer-self.false in let is = ex.0 in omega arith)))
