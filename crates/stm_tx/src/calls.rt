@@ -99,6 +99,7 @@ fn begin_under<K: MemRule>(
 /// else three, one where it holds the record, and a validation where that is newer than the start: one and one a
 /// logged read. Under RingSW none for a word that it wrote, else two, and where the clock has moved two more and at
 /// most 16 for each time since the start.
+#[inline(always)]
 pub fn read<K: MemRule>(desc: &mut Desc<K>, stm: &Stm<K>, a: usize) -> Read
     requires stm { IsOf desc.old stm.now }
     requires running { IsRunning (known desc.old) }

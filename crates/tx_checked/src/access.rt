@@ -12,7 +12,7 @@ use tx_answers::answers::{Read, Write};
 
 impl Member {
     /// Reads the word at `a`, as `stm_tx::calls::read` does.
-    #[inline]
+    #[inline(always)]
     pub fn read(&mut self, a: usize) -> Result<Read, Misuse>
         ensures { Tells (access a self.old) (HasReadWord a self.old self.new) self.old self.new result }
     {
@@ -33,7 +33,7 @@ impl Member {
     }
 
     /// Writes `x` to the word at `a`, as `stm_tx::calls::write` does.
-    #[inline]
+    #[inline(always)]
     pub fn write(&mut self, a: usize, x: u64) -> Result<Write, Misuse>
         ensures { Tells (access a self.old) (HasWrittenWord a x self.old self.new) self.old self.new result }
     {
