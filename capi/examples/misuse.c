@@ -231,6 +231,9 @@ static void learning(void)
     }
     IS(nekchhaul_learn(&none, &c[0]), NEKCHHAUL_NO_CALLER);
     IS(nekchhaul_learn(&c[0], &none), NEKCHHAUL_NO_CALLER);
+    IS(nekchhaul_learn(&none, &none), NEKCHHAUL_NO_CALLER);
+    IS(nekchhaul_learn(&c[0], &c[0]), NEKCHHAUL_ONE_CALLER);
+    IS(nekchhaul_switch(&none, 77), NEKCHHAUL_NO_CALLER);
     IS(nekchhaul_state(&c[0], &state), 0);
     IS(state.stand, 0);
     for (int k = 0; k < 3; k++) IS(nekchhaul_release(&d[k]), 0);

@@ -68,7 +68,6 @@ extern "C" {
     pub(crate) fn nekchhaul_direct_read(caller: *mut Handle, address: usize, value: *mut u64) -> u32;
     pub(crate) fn nekchhaul_direct_write(caller: *mut Handle, address: usize, value: u64) -> u32;
     pub(crate) fn nekchhaul_reserve(caller: *mut Handle, reads: usize, writes: usize) -> u32;
-    pub(crate) fn nekchhaul_learn(to: *mut Handle, from: *mut Handle) -> u32;
     pub(crate) fn nekchhaul_state(caller: *mut Handle, state: *mut State) -> u32;
     pub(crate) fn nekchhaul_why(caller: *mut Handle, why: *mut Why) -> u32;
     pub(crate) fn nekchhaul_release(caller: *mut Handle) -> u32;
@@ -78,6 +77,7 @@ extern "C" {
 extern "C" {
     pub(crate) fn nekchhaul_status_name(status: u32) -> *const c_char;
     pub(crate) fn nekchhaul_sizes_of(words: usize) -> Sizes;
+    pub(crate) fn nekchhaul_learn(to: *mut Handle, from: *mut Handle) -> u32;
     pub(crate) fn nekchhaul_abandon(caller: *mut Handle) -> u32;
     pub(crate) fn nekchhaul_join(caller: *mut Handle, may_stop: i32, body: Body, argument: *mut c_void) -> u32;
     pub(crate) fn nekchhaul_atomically(caller: *mut Handle, body: Body, argument: *mut c_void) -> u32;
