@@ -150,6 +150,18 @@ typedef struct nekchhaul_cause {
     uint64_t first, second, third;
 } nekchhaul_cause;
 
+/* How often the calls of a caller came to what. A count at 2^64 - 1 goes on at 0. */
+typedef struct nekchhaul_counts_of {
+    uint64_t begun;     /* attempts that began */
+    uint64_t committed; /* attempts that committed what they wrote */
+    uint64_t read_only; /* attempts that committed, and wrote nothing */
+    uint64_t promoted;  /* answers 0 of become_irrevocable */
+    uint64_t full_logs; /* attempts that ended by LOG_FULL */
+    uint64_t waits;     /* answers GATE_CLOSED, HELD, BUSY and AGAIN */
+    uint64_t clock_conflicts; /* attempts that ended by CONFLICT, of kind 1 of nekchhaul_cause, and so on */
+    uint64_t record_conflicts, moved_conflicts, filter_conflicts, overrun_conflicts;
+} nekchhaul_counts_of;
+
 /* NEKCHHAUL_VERSION_MAJOR and _MINOR of the archive, as 65,536 * major + minor; and NEKCHHAUL_UNPROVED more where it is one
  * of `capi/build.sh --unproved`, for trying. */
 uint32_t nekchhaul_version(void);
@@ -237,6 +249,9 @@ uint32_t nekchhaul_learn_of_another(nekchhaul_caller *to, nekchhaul_caller *from
 /* Where the caller stands, and what came in its way last. */
 uint32_t nekchhaul_state(nekchhaul_caller *caller, nekchhaul_state_of *state) NEKCHHAUL_CALL;
 uint32_t nekchhaul_why(nekchhaul_caller *caller, nekchhaul_cause *cause) NEKCHHAUL_CALL;
+
+/* What the caller's calls came to since it was opened, counted without an atomic step. */
+uint32_t nekchhaul_counts(nekchhaul_caller *caller, nekchhaul_counts_of *counts) NEKCHHAUL_CALL;
 
 /* Lets a caller go that is in no attempt; the handle is no caller then. A range that it has stays out of the
  * transactions. IN_ATTEMPT, CLOSING. */

@@ -22,11 +22,13 @@ impl Member {
             Read::Conflict(cause) => {
                 self.stand = Stand::Idle;
                 self.refusal = Some(Refusal::Conflict(cause));
+                self.counts.refuse(Refusal::Conflict(cause));
                 Ok(Read::Conflict(cause))
             }
             Read::Full { limit } => {
                 self.stand = Stand::Idle;
                 self.refusal = Some(Refusal::LogFull { limit });
+                self.counts.refuse(Refusal::LogFull { limit });
                 Ok(Read::Full { limit })
             }
         }
@@ -43,11 +45,13 @@ impl Member {
             Write::Conflict(cause) => {
                 self.stand = Stand::Idle;
                 self.refusal = Some(Refusal::Conflict(cause));
+                self.counts.refuse(Refusal::Conflict(cause));
                 Ok(Write::Conflict(cause))
             }
             Write::Full { limit } => {
                 self.stand = Stand::Idle;
                 self.refusal = Some(Refusal::LogFull { limit });
+                self.counts.refuse(Refusal::LogFull { limit });
                 Ok(Write::Full { limit })
             }
             Write::ClockFull { clock } => {
