@@ -231,9 +231,50 @@ static void learning(void)
     }
     IS(nekchhaul_learn(&none, &c[0]), NEKCHHAUL_NO_CALLER);
     IS(nekchhaul_learn(&c[0], &none), NEKCHHAUL_NO_CALLER);
+    IS(nekchhaul_learn(&none, &none), NEKCHHAUL_NO_CALLER);
+    IS(nekchhaul_learn(&c[0], &c[0]), NEKCHHAUL_ONE_CALLER);
+    IS(nekchhaul_switch(&none, 77), NEKCHHAUL_NO_CALLER);
     IS(nekchhaul_state(&c[0], &state), 0);
     IS(state.stand, 0);
     for (int k = 0; k < 3; k++) IS(nekchhaul_release(&d[k]), 0);
+}
+
+/* What a caller's calls are counted as. */
+static void counting(void)
+{
+    const nekchhaul_sizes small = { 8, 8, 8, 2, 2, 0 };
+    const nekchhaul_counts_of want = { .begun = 5, .committed = 2, .read_only = 1, .promoted = 1, .full_logs = 1, .waits = 1, .record_conflicts = 1 };
+    nekchhaul_caller d[2], none = NEKCHHAUL_NO_CALLER_INIT;
+    nekchhaul_counts_of got;
+    uint64_t v;
+    memset(d, 0, sizeof d);
+    IS(nekchhaul_open(&small, NEKCHHAUL_OREC_LAZY, d, 2), 0);
+    IS(nekchhaul_begin(&d[0]), 0);
+    IS(nekchhaul_write(&d[0], 0, 1), 0);
+    IS(nekchhaul_commit(&d[0]), 0);
+    IS(nekchhaul_begin(&d[0]), 0);
+    IS(nekchhaul_commit(&d[0]), 0);
+    IS(nekchhaul_begin(&d[0]), 0);
+    IS(nekchhaul_read(&d[0], 0, &v), 0);
+    IS(nekchhaul_begin(&d[1]), 0);
+    for (size_t a = 0; a < 2; a++) IS(nekchhaul_write(&d[1], a, 2), 0);
+    IS(nekchhaul_commit(&d[1]), 0);
+    IS(nekchhaul_read(&d[0], 1, &v), NEKCHHAUL_CONFLICT);
+    IS(nekchhaul_begin(&d[0]), 0);
+    for (size_t a = 0; a < 2; a++) IS(nekchhaul_write(&d[0], a, 3), 0);
+    IS(nekchhaul_write(&d[0], 2, 3), NEKCHHAUL_LOG_FULL);
+    IS(nekchhaul_begin(&d[1]), 0);
+    IS(nekchhaul_switch(&d[0], NEKCHHAUL_CGL), NEKCHHAUL_BUSY);
+    IS(nekchhaul_reopen(&d[0]), 0);
+    IS(nekchhaul_cancel(&d[1]), 0);
+    IS(nekchhaul_begin(&d[0]), 0);
+    IS(nekchhaul_become_irrevocable(&d[0]), 0);
+    IS(nekchhaul_write(&d[0], 0, 4), 0);
+    IS(nekchhaul_commit(&d[0]), 0);
+    IS(nekchhaul_counts(&d[0], &got), 0);
+    IS(memcmp(&got, &want, sizeof want) != 0, 0);
+    IS(nekchhaul_counts(&none, &got), NEKCHHAUL_NO_CALLER);
+    for (int i = 0; i < 2; i++) IS(nekchhaul_release(&d[i]), 0);
 }
 
 /* What the header's loop answers, under an algorithm that can't cancel and under one that can. */
@@ -311,6 +352,7 @@ int main(void)
     IS(nekchhaul_switch(&c[0], 6), NEKCHHAUL_ALGORITHM);
     attempts();
     learning();
+    counting();
     conflicts();
     ranges();
     IS(nekchhaul_release(&c[0]), 0);

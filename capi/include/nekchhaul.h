@@ -11,8 +11,8 @@
  * waits. nekchhaul_open and nekchhaul_reserve alone take memory.
  *
  * OWNERSHIP. The two words of a handle are the caller's storage, and the library alone reads and writes them. A handle
- * that is all zero is no caller, and every call answers NEKCHHAUL_NO_CALLER for it. A handle is never copied:
- * nekchhaul_move hands it on. The memory is freed with the last of its callers that is released.
+ * that is all zero is no caller, and every call on it answers NEKCHHAUL_NO_CALLER, whatever else doesn't fit. A handle is
+ * never copied: nekchhaul_move hands it on. The memory is freed with the last of its callers that is released.
  *
  * THREADS. A handle is used by one thread at a time. It may go to another thread behind anything that orders the two: a
  * lock, a thread's start or its join. Different handles are used by as many threads at once as there are handles.
@@ -150,6 +150,18 @@ typedef struct nekchhaul_cause {
     uint64_t first, second, third;
 } nekchhaul_cause;
 
+/* How often the calls of a caller came to what. A count at 2^64 - 1 goes on at 0. */
+typedef struct nekchhaul_counts_of {
+    uint64_t begun;     /* attempts that began */
+    uint64_t committed; /* attempts that committed what they wrote */
+    uint64_t read_only; /* attempts that committed, and wrote nothing */
+    uint64_t promoted;  /* answers 0 of become_irrevocable */
+    uint64_t full_logs; /* attempts that ended by LOG_FULL */
+    uint64_t waits;     /* answers GATE_CLOSED, HELD, BUSY and AGAIN */
+    uint64_t clock_conflicts; /* attempts that ended by CONFLICT, of kind 1 of nekchhaul_cause, and so on */
+    uint64_t record_conflicts, moved_conflicts, filter_conflicts, overrun_conflicts;
+} nekchhaul_counts_of;
+
 /* NEKCHHAUL_VERSION_MAJOR and _MINOR of the archive, as 65,536 * major + minor; and NEKCHHAUL_UNPROVED more where it is one
  * of `capi/build.sh --unproved`, for trying. */
 uint32_t nekchhaul_version(void);
@@ -231,14 +243,15 @@ uint32_t nekchhaul_close(nekchhaul_caller *caller, uint64_t *words, size_t count
 /* Makes the caller's logs longer, each 1 to 4,096. MEMORY, and then all is as before; IN_ATTEMPT, LOGS. */
 uint32_t nekchhaul_reserve(nekchhaul_caller *caller, size_t reads, size_t writes) NEKCHHAUL_CALL;
 
-/* Has `to` take in what `from` has seen: an attempt of `to` that begins after this starts no earlier than anything that
- * `from` had seen. They are two handles, of callers of one memory, which this thread uses meanwhile; the clock of `to` is
- * read, and nothing else changes. IN_ATTEMPT, of either; STRANGER (docs/C.md says how the two are compared). */
-uint32_t nekchhaul_learn(nekchhaul_caller *to, nekchhaul_caller *from) NEKCHHAUL_CALL;
+/* nekchhaul_learn, below, of two handles that are known to be two. */
+uint32_t nekchhaul_learn_of_another(nekchhaul_caller *to, nekchhaul_caller *from) NEKCHHAUL_CALL;
 
 /* Where the caller stands, and what came in its way last. */
 uint32_t nekchhaul_state(nekchhaul_caller *caller, nekchhaul_state_of *state) NEKCHHAUL_CALL;
 uint32_t nekchhaul_why(nekchhaul_caller *caller, nekchhaul_cause *cause) NEKCHHAUL_CALL;
+
+/* What the caller's calls came to since it was opened, counted without an atomic step. */
+uint32_t nekchhaul_counts(nekchhaul_caller *caller, nekchhaul_counts_of *counts) NEKCHHAUL_CALL;
 
 /* Lets a caller go that is in no attempt; the handle is no caller then. A range that it has stays out of the
  * transactions. IN_ATTEMPT, CLOSING. */
@@ -255,10 +268,11 @@ uint32_t nekchhaul_release(nekchhaul_caller *caller) NEKCHHAUL_CALL;
  * run again once others have come further, or NEKCHHAUL_STOP + n to cancel and have that answered. */
 typedef uint32_t (*nekchhaul_body)(nekchhaul_caller *caller, void *argument);
 
-/* Answers of the loops below, and of bodies. */
+/* Answers of the functions below, and of bodies. */
 enum {
     NEKCHHAUL_UNCANCELLABLE = 48, /* the attempt couldn't take writes back (always under CGL and TML). The body wasn't run */
     NEKCHHAUL_RETRY = 49,         /* of a body */
+    NEKCHHAUL_ONE_CALLER = 50,    /* of learn: the two handles are one */
     NEKCHHAUL_STOP = 256          /* of a body, and more */
 };
 
@@ -305,6 +319,7 @@ NEKCHHAUL_INLINE const char *nekchhaul_status_name(uint32_t status)
     NEKCHHAUL_NAME(NOT_CLOSING)
     NEKCHHAUL_NAME(UNCANCELLABLE)
     NEKCHHAUL_NAME(RETRY)
+    NEKCHHAUL_NAME(ONE_CALLER)
     default: return status >= NEKCHHAUL_STOP ? "STOP" : "UNKNOWN";
     }
 #undef NEKCHHAUL_NAME
@@ -324,6 +339,15 @@ NEKCHHAUL_INLINE nekchhaul_caller nekchhaul_move(nekchhaul_caller *from)
     from->tag_ = 0;
     from->at_ = NULL;
     return to;
+}
+
+/* Has `to` take in what `from` has seen: an attempt of `to` that begins after this starts no earlier than anything that
+ * `from` had seen. They are two handles, of callers of one memory, which this thread uses meanwhile; the clock of `to` is
+ * read, and nothing else changes. IN_ATTEMPT, of either; STRANGER (docs/C.md says how the two are compared); ONE_CALLER. */
+NEKCHHAUL_INLINE uint32_t nekchhaul_learn(nekchhaul_caller *to, nekchhaul_caller *from)
+{
+    if (to != from) return nekchhaul_learn_of_another(to, from);
+    return to->tag_ ? (uint32_t)NEKCHHAUL_ONE_CALLER : (uint32_t)NEKCHHAUL_NO_CALLER;
 }
 
 /* Ends an attempt that is to leave no trace. Where it can only be committed (always under CGL, under TML after its first

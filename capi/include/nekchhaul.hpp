@@ -288,6 +288,12 @@ public:
         ask(nekchhaul_why(&handle_, &cause));
         return cause;
     }
+    nekchhaul_counts_of counts()
+    {
+        nekchhaul_counts_of counts;
+        ask(nekchhaul_counts(&handle_, &counts));
+        return counts;
+    }
 };
 
 inline std::vector<caller> open(const nekchhaul_sizes &sizes, algorithm a, size_t count)

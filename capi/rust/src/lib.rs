@@ -44,7 +44,7 @@ mod status;
 mod word;
 
 pub use attempt::{Attempt, Begun};
-pub use raw::Sizes;
+pub use raw::{Counts, Sizes};
 pub use status::Status;
 pub use word::{Layout, Value, Word, Words};
 
@@ -263,6 +263,14 @@ impl Caller {
     /// Where it stands.
     pub fn state(&mut self) -> Result<State, Status> {
         State::of(&mut self.handle)
+    }
+
+    /// What its calls came to, counted.
+    pub fn counts(&mut self) -> Result<Counts, Status> {
+        let mut counts = Counts::default();
+        // SAFETY: both lead to objects of their own.
+        told(unsafe { raw::nekchhaul_counts(&mut self.handle, &mut counts) })?;
+        Ok(counts)
     }
 
     /// What came in its way last.

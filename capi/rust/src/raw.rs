@@ -40,6 +40,34 @@ pub(crate) struct State {
     pub(crate) range: u32,
 }
 
+/// How often the calls of a caller came to what, as in `nekchhaul.h`.
+#[repr(C)]
+#[derive(Clone, Copy, Debug, Default, PartialEq, Eq)]
+pub struct Counts {
+    /// Attempts that began.
+    pub begun: u64,
+    /// Attempts that committed what they wrote.
+    pub committed: u64,
+    /// Attempts that committed, and wrote nothing.
+    pub read_only: u64,
+    /// Attempts that became irrevocable by a call.
+    pub promoted: u64,
+    /// Attempts that ended at a full log.
+    pub full_logs: u64,
+    /// Answers that ask to wait.
+    pub waits: u64,
+    /// Attempts that ended since the clock had moved.
+    pub clock_conflicts: u64,
+    /// Since a record was locked, or newer than the start.
+    pub record_conflicts: u64,
+    /// Since a record moved meanwhile.
+    pub moved_conflicts: u64,
+    /// Since an entry of the ring met the reads.
+    pub filter_conflicts: u64,
+    /// Since the ring no longer reached back to the start.
+    pub overrun_conflicts: u64,
+}
+
 #[repr(C)]
 #[derive(Default)]
 pub(crate) struct Why {
@@ -68,9 +96,9 @@ extern "C" {
     pub(crate) fn nekchhaul_direct_read(caller: *mut Handle, address: usize, value: *mut u64) -> u32;
     pub(crate) fn nekchhaul_direct_write(caller: *mut Handle, address: usize, value: u64) -> u32;
     pub(crate) fn nekchhaul_reserve(caller: *mut Handle, reads: usize, writes: usize) -> u32;
-    pub(crate) fn nekchhaul_learn(to: *mut Handle, from: *mut Handle) -> u32;
     pub(crate) fn nekchhaul_state(caller: *mut Handle, state: *mut State) -> u32;
     pub(crate) fn nekchhaul_why(caller: *mut Handle, why: *mut Why) -> u32;
+    pub(crate) fn nekchhaul_counts(caller: *mut Handle, counts: *mut Counts) -> u32;
     pub(crate) fn nekchhaul_release(caller: *mut Handle) -> u32;
 }
 
@@ -78,6 +106,7 @@ extern "C" {
 extern "C" {
     pub(crate) fn nekchhaul_status_name(status: u32) -> *const c_char;
     pub(crate) fn nekchhaul_sizes_of(words: usize) -> Sizes;
+    pub(crate) fn nekchhaul_learn(to: *mut Handle, from: *mut Handle) -> u32;
     pub(crate) fn nekchhaul_abandon(caller: *mut Handle) -> u32;
     pub(crate) fn nekchhaul_join(caller: *mut Handle, may_stop: i32, body: Body, argument: *mut c_void) -> u32;
     pub(crate) fn nekchhaul_atomically(caller: *mut Handle, body: Body, argument: *mut c_void) -> u32;

@@ -62,6 +62,8 @@ statuses! {
     UNCANCELLABLE = 48;
     /// Of a body: it is to be run again once others have come further.
     RETRY = 49;
+    /// Of `learn`: the two handles are one.
+    ONE_CALLER = 50;
 }
 
 /// The least number of a body's own.

@@ -1,4 +1,5 @@
 pub mod Codes
+pub mod Lends
 pub mod Opens
 pub mod Owned
 pub mod Reads

@@ -38,12 +38,10 @@ LetsGo k (Some m) (Some n) = (e : Misuse) × (k ≡ misuse_code e) × (outside m
 abbrev pub algorithm_numbered : ℕ → Option Alg
 algorithm_numbered n = if n == 0 then Some Cgl else (if n == 1 then Some Tml else (if n == 2 then Some OrecLazy else (if n == 3 then Some OrecEager else (if n == 4 then Some RingSw else (if n == 5 then Some Serial else None)))))
 
-abbrev pub InstallSays : Option Alg → ℕ → Option Member → Option Member → Type 0
-InstallSays None k old new = (k ≡ 21) × (new ≡ old)
-InstallSays (Some alg) k old new = Holds (k ≡ 16) (Says taken_code (doing (Switch alg)) (HasSwitched alg) k) old new
-
-abbrev pub SwitchSays : ℕ → ℕ → Option Member → Option Member → Type 0
-SwitchSays number k old new = InstallSays (algorithm_numbered number) k old new
+-- there is no such algorithm, and nothing has changed; or what a switch to it tells
+abbrev pub SwitchSays : Option Alg → ℕ → Member → Member → Type 0
+SwitchSays None k m n = (k ≡ 21) × (n ≡ m)
+SwitchSays (Some alg) k m n = Says taken_code (doing (Switch alg)) (HasSwitched alg) k m n
 
 -- the end of a memory; a misuse leaves the words as they were, as a refusal does
 abbrev pub EndSays : List ℕ → List ℕ → ℕ → Member → Member → Type 0

@@ -32,12 +32,10 @@ pub extern "C" fn nekchhaul_reserve(
 ) -> u32
     ensures { Holds (result ≡ 16) (Says reserved_code (reserving reads writes) (HasReserved reads writes) result) caller.old.inside caller.new.inside }
 {
-    let Some(mut member) = caller.take(alloc) else {
+    if !caller.is_held() {
         return status::NO_CALLER;
-    };
-    let answer = status::of_reserved(member.reserve(alloc, reads, writes));
-    caller.hold(member);
-    answer
+    }
+    status::of_reserved(caller.member().reserve(alloc, reads, writes))
 }
 
 /// Where a caller stands.
@@ -58,14 +56,13 @@ pub struct State {
 
 /// Where the caller stands. `state` is written only where the answer is 0.
 #[unsafe(no_mangle)]
-pub extern "C" fn nekchhaul_state(alloc: Global, caller: &mut Handle, state: &mut State) -> u32
+pub extern "C" fn nekchhaul_state(caller: &mut Handle, state: &mut State) -> u32
     ensures { Holds ((result ≡ 16) × (state.new ≡ state.old)) (Shows result (λ m. state.new ≡ state_shown m)) caller.old.inside caller.new.inside }
 {
-    let Some(member) = caller.take(alloc) else {
+    if !caller.is_held() {
         return status::NO_CALLER;
-    };
-    *state = state_of(&member);
-    caller.hold(member);
+    }
+    *state = state_of(caller.member());
     status::OK
 }
 
@@ -118,14 +115,13 @@ pub struct Why {
 
 /// What came in the way of the caller last. `why` is written only where the answer is 0.
 #[unsafe(no_mangle)]
-pub extern "C" fn nekchhaul_why(alloc: Global, caller: &mut Handle, why: &mut Why) -> u32
+pub extern "C" fn nekchhaul_why(caller: &mut Handle, why: &mut Why) -> u32
     ensures { Holds ((result ≡ 16) × (why.new ≡ why.old)) (Shows result (λ m. why.new ≡ why_of m.refusal)) caller.old.inside caller.new.inside }
 {
-    let Some(member) = caller.take(alloc) else {
+    if !caller.is_held() {
         return status::NO_CALLER;
-    };
-    *why = why_of(member.refusal);
-    caller.hold(member);
+    }
+    *why = why_of(caller.member().refusal);
     status::OK
 }
 

@@ -2,6 +2,7 @@
 #![tactic(auto)]
 
 mod asking;
+mod counting;
 mod exports;
 mod handle;
 mod learning;

@@ -7,44 +7,38 @@ ghost use Rattle.tx_checked.specs.Tells.{HasMarked, HasRolled, HasDropped};
 
 use crate::handle::Handle;
 use crate::status;
-use std::alloc::Global;
 
 /// Marks what the attempt has written. `depth` is written only where the answer is 0.
 #[unsafe(no_mangle)]
-pub extern "C" fn nekchhaul_checkpoint(alloc: Global, caller: &mut Handle, depth: &mut usize) -> u32
+pub extern "C" fn nekchhaul_checkpoint(caller: &mut Handle, depth: &mut usize) -> u32
     ensures { Holds ((result ≡ 16) × (depth.new ≡ depth.old)) (SaysWord mark_code mark_value depth.old depth.new running HasMarked result) caller.old.inside caller.new.inside }
 {
-    let Some(mut member) = caller.take(alloc) else {
+    if !caller.is_held() {
         return status::NO_CALLER;
-    };
-    let mark = member.checkpoint();
+    }
+    let mark = caller.member().checkpoint();
     status::put_depth(mark, depth);
-    caller.hold(member);
     status::of_mark(mark)
 }
 
 /// Rolls the attempt back to a mark.
 #[unsafe(no_mangle)]
-pub extern "C" fn nekchhaul_roll_to(alloc: Global, caller: &mut Handle, depth: usize) -> u32
+pub extern "C" fn nekchhaul_roll_to(caller: &mut Handle, depth: usize) -> u32
     ensures { Holds (result ≡ 16) (Says roll_code (at_mark depth) (HasRolled depth) result) caller.old.inside caller.new.inside }
 {
-    let Some(mut member) = caller.take(alloc) else {
+    if !caller.is_held() {
         return status::NO_CALLER;
-    };
-    let answer = status::of_roll(member.roll_to(depth));
-    caller.hold(member);
-    answer
+    }
+    status::of_roll(caller.member().roll_to(depth))
 }
 
 /// Drops the marks from one on.
 #[unsafe(no_mangle)]
-pub extern "C" fn nekchhaul_drop_marks(alloc: Global, caller: &mut Handle, depth: usize) -> u32
+pub extern "C" fn nekchhaul_drop_marks(caller: &mut Handle, depth: usize) -> u32
     ensures { Holds (result ≡ 16) (Says done_code (at_mark depth) (HasDropped depth) result) caller.old.inside caller.new.inside }
 {
-    let Some(mut member) = caller.take(alloc) else {
+    if !caller.is_held() {
         return status::NO_CALLER;
-    };
-    let answer = status::of_done(member.drop_marks(depth));
-    caller.hold(member);
-    answer
+    }
+    status::of_done(caller.member().drop_marks(depth))
 }

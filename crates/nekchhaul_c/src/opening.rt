@@ -1,5 +1,5 @@
 //! The opening of a memory, for C.
-ghost use Rattle.std.specs.Prelude.{◌≡◌, ◌≢◌, ◌≤◌, All, length, true, false, is_some, IfOk, IfErr};
+ghost use Rattle.std.specs.Prelude.{◌≡◌, ◌≢◌, ◌≤◌, All, length, true, false, IfOk, IfErr};
 ghost use Rattle.nekchhaul_c.specs.Opens.{insides, NoneHeld, EachNew, EachNewBoxed, EachNewUnder, IsOpenRefusal, config_for};
 ghost use Rattle.nekchhaul_c.specs.Says.{algorithm_numbered};
 ghost use Rattle.tx_checked.specs.Ready.{IsOpenError};
@@ -41,7 +41,7 @@ pub extern "C" fn nekchhaul_open(
     let Some(alg) = algorithm_of(algorithm) else {
         return status::ALGORITHM;
     };
-    if holds_one(alloc, callers) {
+    if holds_one(callers) {
         return status::HOLDS_CALLER;
     }
     let config = Config {
@@ -63,29 +63,15 @@ pub extern "C" fn nekchhaul_open(
     }
 }
 
-/// Whether the handle holds a caller.
-fn holds(alloc: Global, handle: &mut Handle) -> bool
-    ensures kept { handle.new.inside ≡ handle.old.inside }
-    ensures holds { result ≡ is_some handle.old.inside }
-{
-    match handle.take(alloc) {
-        Some(member) => {
-            handle.hold(member);
-            true
-        }
-        None => false,
-    }
-}
-
 /// Whether a handle holds a caller, which would be forgotten.
-fn holds_one(alloc: Global, callers: &mut [Handle]) -> bool
+fn holds_one(callers: &mut [Handle]) -> bool
     ensures kept { insides callers.new ≡ insides callers.old }
     ensures count { length callers.new ≡ length callers.old }
     ensures none { result ≡ false → NoneHeld callers.old }
     ensures some { result ≡ true → NoneHeld callers.old → ⊥ }
 {
     for i in 0..callers.len() {
-        if holds(alloc, &mut callers[i]) {
+        if callers[i].is_held() {
             return true;
         }
     }

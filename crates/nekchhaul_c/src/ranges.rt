@@ -7,85 +7,60 @@ ghost use Rattle.tx_checked.specs.Ranges.{HasTaken, HasGiven, HasReadDirect, Has
 
 use crate::handle::Handle;
 use crate::status;
-use std::alloc::Global;
 
 /// Takes a range of words out of the transactions.
 #[unsafe(no_mangle)]
-pub extern "C" fn nekchhaul_fence(
-    alloc: Global,
-    caller: &mut Handle,
-    from: usize,
-    count: usize,
-) -> u32
+pub extern "C" fn nekchhaul_fence(caller: &mut Handle, from: usize, count: usize) -> u32
     ensures { Holds (result ≡ 16) (Says taken_code (taking from count) (HasTaken from count) result) caller.old.inside caller.new.inside }
 {
-    let Some(mut member) = caller.take(alloc) else {
+    if !caller.is_held() {
         return status::NO_CALLER;
-    };
-    let answer = status::of_taken(member.fence(from, count));
-    caller.hold(member);
-    answer
+    }
+    status::of_taken(caller.member().fence(from, count))
 }
 
 /// Reads a word of the caller's range. `value` is written only where the answer is 0.
 #[unsafe(no_mangle)]
-pub extern "C" fn nekchhaul_direct_read(
-    alloc: Global,
-    caller: &mut Handle,
-    address: usize,
-    value: &mut u64,
-) -> u32
+pub extern "C" fn nekchhaul_direct_read(caller: &mut Handle, address: usize, value: &mut u64) -> u32
     ensures { Holds ((result ≡ 16) × (value.new ≡ value.old)) (SaysWord word_code word_value value.old value.new (in_range address) (HasReadDirect address) result) caller.old.inside caller.new.inside }
 {
-    let Some(mut member) = caller.take(alloc) else {
+    if !caller.is_held() {
         return status::NO_CALLER;
-    };
-    let word = member.direct_read(address);
+    }
+    let word = caller.member().direct_read(address);
     status::put_word(word, value);
-    caller.hold(member);
     status::of_word(word)
 }
 
 /// Writes a word of the caller's range.
 #[unsafe(no_mangle)]
-pub extern "C" fn nekchhaul_direct_write(
-    alloc: Global,
-    caller: &mut Handle,
-    address: usize,
-    value: u64,
-) -> u32
+pub extern "C" fn nekchhaul_direct_write(caller: &mut Handle, address: usize, value: u64) -> u32
     ensures { Holds (result ≡ 16) (Says done_code (in_range address) (HasWrittenDirect address value) result) caller.old.inside caller.new.inside }
 {
-    let Some(mut member) = caller.take(alloc) else {
+    if !caller.is_held() {
         return status::NO_CALLER;
-    };
-    let answer = status::of_done(member.direct_write(address, value));
-    caller.hold(member);
-    answer
+    }
+    status::of_done(caller.member().direct_write(address, value))
 }
 
 /// Gives the caller's range back.
 #[unsafe(no_mangle)]
-pub extern "C" fn nekchhaul_give_back(alloc: Global, caller: &mut Handle) -> u32
+pub extern "C" fn nekchhaul_give_back(caller: &mut Handle) -> u32
     ensures { Holds (result ≡ 16) (Says given_code giving HasGiven result) caller.old.inside caller.new.inside }
 {
-    let Some(mut member) = caller.take(alloc) else {
+    if !caller.is_held() {
         return status::NO_CALLER;
-    };
-    let answer = status::of_given(member.give_back());
-    caller.hold(member);
-    answer
+    }
+    status::of_given(caller.member().give_back())
 }
 
 /// Takes all words out of the transactions for good, and hands them out.
 #[unsafe(no_mangle)]
-pub extern "C" fn nekchhaul_close(alloc: Global, caller: &mut Handle, words: &mut [u64]) -> u32
+pub extern "C" fn nekchhaul_close(caller: &mut Handle, words: &mut [u64]) -> u32
     ensures { Holds ((result ≡ 16) × (words.new ≡ words.old)) (EndSays words.old words.new result) caller.old.inside caller.new.inside }
 {
-    let Some(mut member) = caller.take(alloc) else {
+    if !caller.is_held() {
         return status::NO_CALLER;
-    };
-    let answer = status::of_taken(member.end(words));
-    caller.hold(member);
-    answer
+    }
+    status::of_taken(caller.member().end(words))
 }

@@ -6,26 +6,22 @@ ghost use Rattle.tx_checked.specs.Members.{IsSameMember};
 
 use crate::handle::Handle;
 use crate::status;
-use std::alloc::Global;
 use tx_answers::answers::Read;
 use tx_checked::member::Member;
 
 /// Reads the words at these addresses, in turn, up to the first that is refused.
 #[unsafe(no_mangle)]
 pub extern "C" fn nekchhaul_read_many(
-    alloc: Global,
     caller: &mut Handle,
     addresses: &[usize],
     values: &mut [u64],
 ) -> u32
     ensures { Holds ((result ≡ 16) × (values.new ≡ values.old)) (ReadManySays addresses.now values.old values.new result) caller.old.inside caller.new.inside }
 {
-    let Some(mut member) = caller.take(alloc) else {
+    if !caller.is_held() {
         return status::NO_CALLER;
-    };
-    let answer = read_or_no_room(&mut member, addresses, values);
-    caller.hold(member);
-    answer
+    }
+    read_or_no_room(caller.member(), addresses, values)
 }
 
 fn read_or_no_room(member: &mut Member, addresses: &[usize], values: &mut [u64]) -> u32

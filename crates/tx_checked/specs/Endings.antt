@@ -26,6 +26,7 @@ pub record EndsAs (m n : Member) (old ws : List ℕ) : Type 0 where
   pub range : n.range ≡ None
   pub stand : n.stand ≡ Idle
   pub refusal : n.refusal ≡ m.refusal
+  pub counts : n.counts ≡ m.counts
 
 abbrev pub HasEnded : Member → Member → List ℕ → List ℕ → Result (Unit {0}) Refusal → Type 0
 HasEnded m n old ws (Ok r) = EndsAs m n old ws

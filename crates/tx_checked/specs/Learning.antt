@@ -19,7 +19,7 @@ meeting to from = or_else (outside to) (outside from)
 abbrev pub HasLearned : Member → Member → Unit {0} → Type 0
 HasLearned m n r =
     (note : Handle AnyMem) × IsOf note (arc_value m.stm) × (note.who.role ≡ Note) × Learns m.desc.view note.view n.desc.view × (n.desc.own ≡ m.desc.own) × TakesAtMost 2 m.desc.view n.desc.view
-    × (n.stand ≡ m.stand) × (n.range ≡ m.range) × (n.refusal ≡ m.refusal)
+    × (n.stand ≡ m.stand) × (n.range ≡ m.range) × (n.refusal ≡ m.refusal) × (n.counts ≡ m.counts)
 
 -- as of each call, but that one that fits may be of strangers; then nothing has changed
 abbrev pub TellsKin : Option Misuse → (Unit {0} → Type 0) → Member → Member → Result (Unit {0}) Misuse → Type 0
@@ -34,6 +34,7 @@ pub record HasTold (m n : Member) : Type 0 where
   pub stand : n.stand ≡ m.stand
   pub range : n.range ≡ m.range
   pub refusal : n.refusal ≡ m.refusal
+  pub counts : n.counts ≡ m.counts
 
 -- what becomes of the one that tells: where the call doesn't fit it isn't asked, and a stranger is told too, but doesn't learn
 abbrev pub IsAsked : Option Misuse → Member → Member → Type 0

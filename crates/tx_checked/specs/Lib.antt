@@ -1,6 +1,7 @@
 pub mod Stands
 pub mod Errands
 pub mod Alone
+pub mod Counting
 pub mod Mails
 pub mod Learning
 pub mod Members

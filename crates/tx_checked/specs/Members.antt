@@ -33,3 +33,4 @@ pub record IsUntouched (m n : Member) : Type 0 where
   pub stand : n.stand ≡ m.stand
   pub range : n.range ≡ m.range
   pub refusal : n.refusal ≡ m.refusal
+  pub counts : n.counts ≡ m.counts

@@ -11,6 +11,7 @@ use Rattle.tx_answers.specs.declared.answers.Give.TheVariants as gives
 use Rattle.tx_answers.specs.Fences.{ReadsDirect, WritesDirect, is_within}
 use Rattle.tx_answers.specs.Known.{Known, Grows, no_log, zeros}
 use Rattle.tx_checked.specs.Alone.{IsHeldUp, IsTakeRefused, FindsFullAt}
+use Rattle.tx_checked.specs.Counting.{after_refusal}
 use Rattle.tx_checked.specs.declared.errand.Errand.TheVariants as errands
 use Rattle.tx_checked.specs.declared.member.Member.{Member}
 use Rattle.tx_checked.specs.declared.member.Range.{Range}
@@ -61,9 +62,10 @@ pub record IsLeft (e : Refusal) (s : Stand) (m n : Member) : Type 0 where
   pub stand : n.stand ≡ s
   pub range : n.range ≡ m.range
   pub refusal : n.refusal ≡ Some e
+  pub counts : n.counts ≡ after_refusal e m.counts
 
 abbrev pub HasTaken : ℕ → ℕ → Member → Member → Result (Unit {0}) Refusal → Type 0
-HasTaken from count m n (Ok r) = TakesOut (config_of m) from count (known_to m) (known_to n) × GrowsBeside (known_to m) (known_to n) × ((known_to n).made ≡ (known_to m).made) × (n.stand ≡ Idle) × (n.range ≡ Some (record { from = from; count = count })) × (n.refusal ≡ m.refusal)
+HasTaken from count m n (Ok r) = TakesOut (config_of m) from count (known_to m) (known_to n) × GrowsBeside (known_to m) (known_to n) × ((known_to n).made ≡ (known_to m).made) × (n.stand ≡ Idle) × (n.range ≡ Some (record { from = from; count = count })) × (n.refusal ≡ m.refusal) × (n.counts ≡ m.counts)
 HasTaken from count m n (Err e) = IsLeft e (stand_after (errands.Take from count) e) m n × IsTakeRefused (config_of m) (number_of m) (is_closing m.stand) from count e (known_to m) (known_to n)
 
 abbrev pub range_after : Give → Option Range → Option Range
@@ -77,11 +79,11 @@ give_refusal gives.Unchanged old = old
 give_refusal (gives.ClockFull clock) old = Some (refusals.ClockFull clock)
 
 abbrev pub HasGiven : Member → Member → Result Give Refusal → Type 0
-HasGiven m n (Ok r) = GivesBack (config_of m) (number_of m) r (known_to m) (known_to n) × FindsFullAt (config_of m) (number_of m) (is_closing m.stand) r (known_to m) (known_to n) × GrowsBeside (known_to m) (known_to n) × (n.stand ≡ Idle) × (n.range ≡ range_after r m.range) × (n.refusal ≡ give_refusal r m.refusal)
+HasGiven m n (Ok r) = GivesBack (config_of m) (number_of m) r (known_to m) (known_to n) × FindsFullAt (config_of m) (number_of m) (is_closing m.stand) r (known_to m) (known_to n) × GrowsBeside (known_to m) (known_to n) × (n.stand ≡ Idle) × (n.range ≡ range_after r m.range) × (n.refusal ≡ give_refusal r m.refusal) × (n.counts ≡ m.counts)
 HasGiven m n (Err e) = IsLeft e (stand_after errands.Give e) m n × IsHeldUp (config_of m) (number_of m) (is_closing m.stand) e (known_to m) (known_to n)
 
 abbrev pub HasReadDirect : ℕ → Member → Member → ℕ → Type 0
-HasReadDirect a m n x = ReadsDirect Any (config_of m) (number_of m) a x (known_to m) (known_to n) × (n.range ≡ m.range) × (n.refusal ≡ m.refusal)
+HasReadDirect a m n x = ReadsDirect Any (config_of m) (number_of m) a x (known_to m) (known_to n) × (n.range ≡ m.range) × (n.refusal ≡ m.refusal) × (n.counts ≡ m.counts)
 
 abbrev pub HasWrittenDirect : ℕ → ℕ → Member → Member → Unit {0} → Type 0
-HasWrittenDirect a x m n r = WritesDirect Any (config_of m) (number_of m) a x (known_to m) (known_to n) × (n.range ≡ m.range) × (n.refusal ≡ m.refusal)
+HasWrittenDirect a x m n r = WritesDirect Any (config_of m) (number_of m) a x (known_to m) (known_to n) × (n.range ≡ m.range) × (n.refusal ≡ m.refusal) × (n.counts ≡ m.counts)

@@ -10,6 +10,7 @@ use Rattle.stm_tx.specs.Descs.{known, number}
 use Rattle.tx_answers.specs.Known.{Known, IsIdle}
 use Rattle.tx_atomic.specs.declared.switching.Hindrance.{Hindrance}
 use Rattle.tx_atomic.specs.Switches.{IsHindered}
+use Rattle.tx_checked.specs.Counting.{no_counts}
 use Rattle.tx_checked.specs.declared.member.Member.{Member}
 use Rattle.tx_checked.specs.declared.opening.OpenError.{OpenError}
 use Rattle.tx_checked.specs.declared.opening.OpenError.TheVariants as opens
@@ -45,6 +46,7 @@ pub record IsUnused (c : Config) (m : Member) : Type 0 where
   pub stand : m.stand ≡ Idle
   pub range : m.range ≡ None
   pub refusal : m.refusal ≡ None
+  pub counts : m.counts ≡ no_counts
 
 -- caller i of such a memory under the algorithm
 pub record IsNew (c : Config) (alg : Alg) (i : ℕ) (m : Member) : Type 0 where

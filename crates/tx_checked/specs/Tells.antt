@@ -23,6 +23,7 @@ use Rattle.tx_answers.specs.declared.answers.Write.{Write}
 use Rattle.tx_answers.specs.declared.answers.Write.TheVariants as writes
 use Rattle.tx_answers.specs.Known.{Known, Grows}
 use Rattle.tx_checked.specs.Alone.{IsHeldUp}
+use Rattle.tx_checked.specs.Counting.{after_begin, after_read, after_write, after_commit, after_grant}
 use Rattle.tx_checked.specs.declared.errand.Errand.TheVariants.{Switch}
 use Rattle.tx_checked.specs.declared.member.Member.{Member}
 use Rattle.tx_checked.specs.declared.misuse.Misuse.{Misuse}
@@ -77,24 +78,24 @@ grant_refusal (grants.ClockFull clock) old = Some (refusals.ClockFull clock)
 
 module _ (m n : Member) where
   abbrev pub HasBegun : Begin → Type 0
-  HasBegun r = Begins Any (config_of m) (number_of m) r (known_to m) (known_to n) × (n.range ≡ m.range) × (n.refusal ≡ begin_refusal r m.refusal)
+  HasBegun r = Begins Any (config_of m) (number_of m) r (known_to m) (known_to n) × (n.range ≡ m.range) × (n.refusal ≡ begin_refusal r m.refusal) × (n.counts ≡ after_begin r m.counts)
 
   abbrev pub HasCommitted : Commit → Type 0
-  HasCommitted r = Commits Any (config_of m) (number_of m) r (known_to m) (known_to n) × (n.range ≡ m.range) × (n.refusal ≡ commit_refusal r m.refusal)
+  HasCommitted r = Commits Any (config_of m) (number_of m) r (known_to m) (known_to n) × (n.range ≡ m.range) × (n.refusal ≡ commit_refusal r m.refusal) × (n.counts ≡ after_commit r m.counts)
 
   abbrev pub HasCancelled : Cancel → Type 0
-  HasCancelled r = Cancels Any (config_of m) (number_of m) r (known_to m) (known_to n) × (n.range ≡ m.range) × (n.refusal ≡ cancel_refusal r m.refusal)
+  HasCancelled r = Cancels Any (config_of m) (number_of m) r (known_to m) (known_to n) × (n.range ≡ m.range) × (n.refusal ≡ cancel_refusal r m.refusal) × (n.counts ≡ m.counts)
 
   abbrev pub IsIrrevocable : Irrev → Type 0
-  IsIrrevocable r = Irrevs Any (config_of m) (number_of m) r (known_to m) (known_to n) × (n.range ≡ m.range) × (n.refusal ≡ grant_refusal r m.refusal)
+  IsIrrevocable r = Irrevs Any (config_of m) (number_of m) r (known_to m) (known_to n) × (n.range ≡ m.range) × (n.refusal ≡ grant_refusal r m.refusal) × (n.counts ≡ after_grant r m.counts)
 
 module _ (a : ℕ) (m n : Member) where
   abbrev pub HasReadWord : Read → Type 0
-  HasReadWord r = HasRead Any (config_of m) (number_of m) a r (known_to m) (known_to n) × (n.range ≡ m.range) × (n.refusal ≡ read_refusal r m.refusal)
+  HasReadWord r = HasRead Any (config_of m) (number_of m) a r (known_to m) (known_to n) × (n.range ≡ m.range) × (n.refusal ≡ read_refusal r m.refusal) × (n.counts ≡ after_read r m.counts)
 
 module _ (a x : ℕ) (m n : Member) where
   abbrev pub HasWrittenWord : Write → Type 0
-  HasWrittenWord r = HasWritten Any (config_of m) (number_of m) a x r (known_to m) (known_to n) × (n.range ≡ m.range) × (n.refusal ≡ write_refusal r m.refusal)
+  HasWrittenWord r = HasWritten Any (config_of m) (number_of m) a x r (known_to m) (known_to n) × (n.range ≡ m.range) × (n.refusal ≡ write_refusal r m.refusal) × (n.counts ≡ after_write r m.counts)
 
 -- what a switch tells: it installed that algorithm, once, and committed nothing
 pub record Switches (alg : Alg) (v w : Known) : Type 0 where
@@ -104,12 +105,12 @@ pub record Switches (alg : Alg) (v w : Known) : Type 0 where
   pub installs : w.installs ≡ v.installs ++ alg ∷ []
 
 abbrev pub HasSwitched : Alg → Member → Member → Result (Unit {0}) Refusal → Type 0
-HasSwitched alg m n (Ok r) = Switches alg (known_to m) (known_to n) × (n.stand ≡ Idle) × (n.range ≡ m.range) × (n.refusal ≡ m.refusal)
+HasSwitched alg m n (Ok r) = Switches alg (known_to m) (known_to n) × (n.stand ≡ Idle) × (n.range ≡ m.range) × (n.refusal ≡ m.refusal) × (n.counts ≡ m.counts)
 HasSwitched alg m n (Err e) = IsLeft e (stand_after (Switch alg) e) m n × IsHeldUp (config_of m) (number_of m) (is_closing m.stand) e (known_to m) (known_to n)
 
 -- the gate is open again, and nothing else has changed
 abbrev pub HasReopened : Member → Member → Unit {0} → Type 0
-HasReopened m n r = Reopens Any (config_of m) (number_of m) (known_to m) (known_to n) × (n.stand ≡ Idle) × (n.range ≡ m.range) × (n.refusal ≡ m.refusal)
+HasReopened m n r = Reopens Any (config_of m) (number_of m) (known_to m) (known_to n) × (n.stand ≡ Idle) × (n.range ≡ m.range) × (n.refusal ≡ m.refusal) × (n.counts ≡ m.counts)
 
 abbrev pub mark_refusal : Check → Option Refusal → Option Refusal
 mark_refusal (checks.Marked depth) old = old
@@ -120,14 +121,14 @@ roll_refusal rolls.Rolled old = old
 roll_refusal rolls.Irrevocable old = Some refusals.Irrevocable
 
 abbrev pub HasMarked : Member → Member → Check → Type 0
-HasMarked m n r = Checks r (known_to m) (known_to n) × (n.range ≡ m.range) × (n.refusal ≡ mark_refusal r m.refusal)
+HasMarked m n r = Checks r (known_to m) (known_to n) × (n.range ≡ m.range) × (n.refusal ≡ mark_refusal r m.refusal) × (n.counts ≡ m.counts)
 
 abbrev pub HasRolled : ℕ → Member → Member → Roll → Type 0
-HasRolled d m n r = Rolls Any (config_of m) (number_of m) d r (known_to m) (known_to n) × (n.range ≡ m.range) × (n.refusal ≡ roll_refusal r m.refusal)
+HasRolled d m n r = Rolls Any (config_of m) (number_of m) d r (known_to m) (known_to n) × (n.range ≡ m.range) × (n.refusal ≡ roll_refusal r m.refusal) × (n.counts ≡ m.counts)
 
 abbrev pub HasDropped : ℕ → Member → Member → Unit {0} → Type 0
-HasDropped d m n r = Releases d (known_to m) (known_to n) × (n.range ≡ m.range) × (n.refusal ≡ m.refusal)
+HasDropped d m n r = Releases d (known_to m) (known_to n) × (n.range ≡ m.range) × (n.refusal ≡ m.refusal) × (n.counts ≡ m.counts)
 
 abbrev pub HasReserved : ℕ → ℕ → Member → Member → Result (Unit {0}) Memory → Type 0
-HasReserved reads writes m n (Ok r) = Reserves reads writes (known_to m) (known_to n) × (n.range ≡ m.range) × (n.refusal ≡ m.refusal)
+HasReserved reads writes m n (Ok r) = Reserves reads writes (known_to m) (known_to n) × (n.range ≡ m.range) × (n.refusal ≡ m.refusal) × (n.counts ≡ m.counts)
 HasReserved reads writes m n (Err e) = n ≡ m

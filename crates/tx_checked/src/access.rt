@@ -12,7 +12,7 @@ use tx_answers::answers::{Read, Write};
 
 impl Member {
     /// Reads the word at `a`, as `stm_tx::calls::read` does.
-    #[inline]
+    #[inline(always)]
     pub fn read(&mut self, a: usize) -> Result<Read, Misuse>
         ensures { Tells (access a self.old) (HasReadWord a self.old self.new) self.old self.new result }
     {
@@ -22,18 +22,20 @@ impl Member {
             Read::Conflict(cause) => {
                 self.stand = Stand::Idle;
                 self.refusal = Some(Refusal::Conflict(cause));
+                self.counts.refuse(Refusal::Conflict(cause));
                 Ok(Read::Conflict(cause))
             }
             Read::Full { limit } => {
                 self.stand = Stand::Idle;
                 self.refusal = Some(Refusal::LogFull { limit });
+                self.counts.refuse(Refusal::LogFull { limit });
                 Ok(Read::Full { limit })
             }
         }
     }
 
     /// Writes `x` to the word at `a`, as `stm_tx::calls::write` does.
-    #[inline]
+    #[inline(always)]
     pub fn write(&mut self, a: usize, x: u64) -> Result<Write, Misuse>
         ensures { Tells (access a self.old) (HasWrittenWord a x self.old self.new) self.old self.new result }
     {
@@ -43,11 +45,13 @@ impl Member {
             Write::Conflict(cause) => {
                 self.stand = Stand::Idle;
                 self.refusal = Some(Refusal::Conflict(cause));
+                self.counts.refuse(Refusal::Conflict(cause));
                 Ok(Write::Conflict(cause))
             }
             Write::Full { limit } => {
                 self.stand = Stand::Idle;
                 self.refusal = Some(Refusal::LogFull { limit });
+                self.counts.refuse(Refusal::LogFull { limit });
                 Ok(Write::Full { limit })
             }
             Write::ClockFull { clock } => {

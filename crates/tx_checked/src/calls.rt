@@ -45,14 +45,17 @@ impl Member {
         match calls::try_begin(&mut self.desc, &self.stm) {
             Begin::Begun(alg) => {
                 self.stand = stand_of(&self.desc);
+                self.counts.begun = self.counts.begun.wrapping_add(1);
                 Ok(Begin::Begun(alg))
             }
             Begin::Closed { gate } => {
                 self.refusal = Some(Refusal::GateClosed { gate });
+                self.counts.refuse(Refusal::GateClosed { gate });
                 Ok(Begin::Closed { gate })
             }
             Begin::Held { word } => {
                 self.refusal = Some(Refusal::Held { word });
+                self.counts.refuse(Refusal::Held { word });
                 Ok(Begin::Held { word })
             }
             Begin::ClockFull { clock } => {
@@ -70,20 +73,24 @@ impl Member {
         match calls::commit(&mut self.desc, &self.stm) {
             Commit::Committed { time } => {
                 self.stand = Stand::Idle;
+                self.counts.committed = self.counts.committed.wrapping_add(1);
                 Ok(Commit::Committed { time })
             }
             Commit::ReadOnly { time } => {
                 self.stand = Stand::Idle;
+                self.counts.read_only = self.counts.read_only.wrapping_add(1);
                 Ok(Commit::ReadOnly { time })
             }
             Commit::Conflict(cause) => {
                 self.stand = Stand::Idle;
                 self.refusal = Some(Refusal::Conflict(cause));
+                self.counts.refuse(Refusal::Conflict(cause));
                 Ok(Commit::Conflict(cause))
             }
             Commit::Again { word, had, now } => {
                 self.stand = Stand::Committing;
                 self.refusal = Some(Refusal::Again { word, had, now });
+                self.counts.refuse(Refusal::Again { word, had, now });
                 Ok(Commit::Again { word, had, now })
             }
             Commit::ClockFull { clock } => {
@@ -117,18 +124,24 @@ impl Member {
     {
         self.is_running()?;
         match calls::try_irrevocable(&mut self.desc, &self.stm) {
-            Irrev::Granted => Ok(Irrev::Granted),
+            Irrev::Granted => {
+                self.counts.promoted = self.counts.promoted.wrapping_add(1);
+                Ok(Irrev::Granted)
+            }
             Irrev::Busy { caller, status } => {
                 self.refusal = Some(Refusal::Busy { caller, status });
+                self.counts.refuse(Refusal::Busy { caller, status });
                 Ok(Irrev::Busy { caller, status })
             }
             Irrev::Taken { gate } => {
                 self.refusal = Some(Refusal::GateClosed { gate });
+                self.counts.refuse(Refusal::GateClosed { gate });
                 Ok(Irrev::Taken { gate })
             }
             Irrev::Conflict(cause) => {
                 self.stand = Stand::Idle;
                 self.refusal = Some(Refusal::Conflict(cause));
+                self.counts.refuse(Refusal::Conflict(cause));
                 Ok(Irrev::Conflict(cause))
             }
             Irrev::ClockFull { clock } => {
@@ -153,6 +166,7 @@ impl Member {
             Err(refusal) => {
                 self.stand = Errand::Switch(alg).stand_after(refusal);
                 self.refusal = Some(refusal);
+                self.counts.refuse(refusal);
                 Ok(Err(refusal))
             }
         }

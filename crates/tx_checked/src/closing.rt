@@ -65,6 +65,7 @@ impl Member {
             Err(refusal) => {
                 self.stand = Errand::End.stand_after(refusal);
                 self.refusal = Some(refusal);
+                self.counts.refuse(refusal);
                 Ok(Err(refusal))
             }
         }

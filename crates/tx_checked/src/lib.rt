@@ -7,6 +7,7 @@ mod alone;
 pub mod asking;
 pub mod calls;
 pub mod closing;
+pub mod counts;
 pub mod errand;
 pub mod learning;
 pub mod mail;

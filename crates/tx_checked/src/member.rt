@@ -4,6 +4,7 @@ ghost use Rattle.stm_rule.specs.Callers.{IsOf};
 ghost use Rattle.stm_tx.specs.Descs.{known};
 ghost use Rattle.tx_checked.specs.Stands.{StandsAs, HasRange};
 
+use crate::counts::Counts;
 use crate::mail::Mail;
 use crate::refusal::Refusal;
 use crate::stand::Stand;
@@ -31,6 +32,7 @@ pub struct Member {
     pub range: Option<Range>,
     /// What came in the way last.
     pub refusal: Option<Refusal>,
+    pub counts: Counts,
     pub ghost own: { IsOf desc (arc_value stm) },
     pub ghost mailed: { IsOf (arc_value mail).table.shared.key (arc_value stm) },
     pub ghost stands: { StandsAs stand (known desc) },

@@ -6,6 +6,7 @@ ghost use Rattle.stm_rule.specs.Refusals.{first_fault};
 ghost use Rattle.tx_atomic.specs.Callers.{IsReady};
 ghost use Rattle.tx_checked.specs.Ready.{AreFresh, AreNew, IsUnused, IsOpenError, IsOpenHindered, descs_in};
 
+use crate::counts::Counts;
 use crate::mail::Mail;
 use crate::member::Member;
 use crate::stand::Stand;
@@ -107,6 +108,7 @@ fn enlist(
             stand: Stand::Idle,
             range: None,
             refusal: None,
+            counts: Counts::none(),
         });
     }
     Ok(members)

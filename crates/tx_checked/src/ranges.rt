@@ -78,6 +78,7 @@ impl Member {
             Err(refusal) => {
                 self.stand = errand.stand_after(refusal);
                 self.refusal = Some(refusal);
+                self.counts.refuse(refusal);
                 Ok(Err(refusal))
             }
         }
@@ -187,6 +188,7 @@ impl Member {
             Err(refusal) => {
                 self.stand = Errand::Give.stand_after(refusal);
                 self.refusal = Some(refusal);
+                self.counts.refuse(refusal);
                 Ok(Err(refusal))
             }
         }

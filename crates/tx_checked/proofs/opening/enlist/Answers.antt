@@ -40,7 +40,7 @@ loop-desc-preserved c =
     record {
       ready = all-tail (IsReady stm) desc rest (subst (All (IsReady stm)) steps at.invariant.ready);
       descs = ap (λ l. l ++ rest) pushed ∙ (append_assoc (descs_in members) (desc ∷ []) rest ∙ (ap (λ l. descs_in members ++ l) (sym steps) ∙ at.invariant.descs));
-      unused = subst (All (IsUnused stm.config)) (sym c.push_reserved.ensures.items) (All-push (IsUnused stm.config) members _ at.invariant.unused (record { config = ap (λ (s : Stm AnyMem). s.config) c.in-Ok.ensures; stand = refl; range = refl; refusal = refl }));
+      unused = subst (All (IsUnused stm.config)) (sym c.push_reserved.ensures.items) (All-push (IsUnused stm.config) members _ at.invariant.unused (record { config = ap (λ (s : Stm AnyMem). s.config) c.in-Ok.ensures; stand = refl; range = refl; refusal = refl; counts = c.none.ensures }));
       len = (let was = at.invariant.len in let gone = c.in-Some.ensures.steps.1 in let short = ap length steps in omega arith);
       room = (let was = at.invariant.room in let more = c.push_reserved.ensures.len in let kept = c.push_reserved.ensures.capacity in let short = ap length steps in omega arith);
     }

@@ -39,5 +39,6 @@ returns-in-Ok-clause-tells c =
         range = c.in_ok-closing.ensures.none;
         stand = refl;
         refusal = refl;
+        counts = refl;
       },
     )
