@@ -24,18 +24,6 @@ ended_by (stops.Conflict cause) = ends.Conflict cause
 ended_by (stops.Full limit) = ends.Full
 ended_by (stops.ClockFull clock) = ends.ClockFull
 
--- an attempt that asked to be irrevocable first can fail so, before it does anything
-abbrev pub IsEarly : Ended → Type 0
-IsEarly ends.Closed = Unit {0}
-IsEarly ends.Held = Unit {0}
-IsEarly ends.Fenced = Unit {0}
-IsEarly (ends.Conflict cause) = Unit {0}
-IsEarly ends.Full = ⊥
-IsEarly ends.Busy = ⊥
-IsEarly ends.Taken = Unit {0}
-IsEarly ends.Again = ⊥
-IsEarly ends.ClockFull = Unit {0}
-
 -- from u to w one attempt took effect, and its commit was the last call: what it had read and written is such a log, and no attempt before it left an entry; it knew all that u had seen, and its start is no earlier than this
 pub record TookEffect (good : List ℕ → Type 0) (c : Config) (n : ℕ) (tells : Log → Type 0) (from : ℕ) (u w : Known) : Type 0 where
   pub before : Known

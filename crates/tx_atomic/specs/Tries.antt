@@ -79,22 +79,58 @@ is_due xs = any_full xs || leb 16 (crossed xs)
 
 -- good is what the user keeps true of memory; c is the memory's configuration, and n the caller
 module _ (good : List ℕ → Type 0) (c : Config) (n : ℕ) where
-  -- the answer of the call that ended an attempt so; no attempt ends for it may be tried again
-  abbrev pub IsRefused : Ended → Known → Known → Type 0
-  IsRefused ends.Closed v w = (gate : ℕ) × Begins good c n (begins.Closed gate) v w
-  IsRefused ends.Held v w = (word : ℕ) × Begins good c n (begins.Held word) v w
-  IsRefused ends.Fenced v w = (begun : Known) × (alg : Alg) × Begins good c n (begins.Begun alg) v begun × (begun.fence ≢ 0) × Grows begun w
-  IsRefused (ends.Conflict cause) v w = Irrevs good c n (grants.Conflict cause) v w ⊎ (((a : ℕ) × Stops good c n a (stops.Conflict cause) v w) ⊎ Commits good c n (commits.Conflict cause) v w)
-  IsRefused ends.Full v w = (a : ℕ) × (limit : ℕ) × Stops good c n a (stops.Full limit) v w
-  IsRefused ends.Busy v w = ⊥
-  IsRefused ends.Taken v w = (asked : Known) × (gate : ℕ) × Irrevs good c n (grants.Taken gate) v asked × Grows asked w
-  IsRefused ends.Again v w = ⊥
-  IsRefused ends.ClockFull v w = (clock : ℕ) × (Begins good c n (begins.ClockFull clock) v w ⊎ (Irrevs good c n (grants.ClockFull clock) v w ⊎ (((a : ℕ) × Stops good c n a (stops.ClockFull clock) v w) ⊎ Commits good c n (commits.ClockFull clock) v w)))
+  -- the attempt that was to begin didn't
+  abbrev pub EndsBegin : Ended → Known → Known → Type 0
+  EndsBegin ends.Closed v w = (gate : ℕ) × Begins good c n (begins.Closed gate) v w
+  EndsBegin ends.Held v w = (word : ℕ) × Begins good c n (begins.Held word) v w
+  EndsBegin ends.Fenced v w = (begun : Known) × (alg : Alg) × Begins good c n (begins.Begun alg) v begun × (begun.fence ≢ 0) × Grows begun w
+  EndsBegin (ends.Conflict cause) v w = ⊥
+  EndsBegin ends.Full v w = ⊥
+  EndsBegin ends.Busy v w = ⊥
+  EndsBegin ends.Taken v w = ⊥
+  EndsBegin ends.Again v w = ⊥
+  EndsBegin ends.ClockFull v w = (clock : ℕ) × Begins good c n (begins.ClockFull clock) v w
 
-  -- the answer of an attempt's last call
-  abbrev pub EndsBy : Option Ended → Known → Known → Type 0
-  EndsBy None v w = (time : ℕ) × (Commits good c n (commits.Committed time) v w ⊎ Commits good c n (commits.ReadOnly time) v w)
-  EndsBy (Some e) v w = IsRefused e v w
+  -- a call to be irrevocable was refused, and with it the attempt
+  abbrev pub EndsPromotion : Ended → Known → Known → Type 0
+  EndsPromotion ends.Closed v w = ⊥
+  EndsPromotion ends.Held v w = ⊥
+  EndsPromotion ends.Fenced v w = ⊥
+  EndsPromotion (ends.Conflict cause) v w = Irrevs good c n (grants.Conflict cause) v w
+  EndsPromotion ends.Full v w = ⊥
+  EndsPromotion ends.Busy v w = ⊥
+  EndsPromotion ends.Taken v w = (asked : Known) × (gate : ℕ) × Irrevs good c n (grants.Taken gate) v asked × Grows asked w
+  EndsPromotion ends.Again v w = ⊥
+  EndsPromotion ends.ClockFull v w = (clock : ℕ) × Irrevs good c n (grants.ClockFull clock) v w
+
+  -- a read or a write was
+  abbrev pub EndsAccess : Ended → Known → Known → Type 0
+  EndsAccess ends.Closed v w = ⊥
+  EndsAccess ends.Held v w = ⊥
+  EndsAccess ends.Fenced v w = ⊥
+  EndsAccess (ends.Conflict cause) v w = (a : ℕ) × Stops good c n a (stops.Conflict cause) v w
+  EndsAccess ends.Full v w = (a : ℕ) × (limit : ℕ) × Stops good c n a (stops.Full limit) v w
+  EndsAccess ends.Busy v w = ⊥
+  EndsAccess ends.Taken v w = ⊥
+  EndsAccess ends.Again v w = ⊥
+  EndsAccess ends.ClockFull v w = (a : ℕ) × (clock : ℕ) × Stops good c n a (stops.ClockFull clock) v w
+
+  -- a commit was
+  abbrev pub EndsCommit : Ended → Known → Known → Type 0
+  EndsCommit ends.Closed v w = ⊥
+  EndsCommit ends.Held v w = ⊥
+  EndsCommit ends.Fenced v w = ⊥
+  EndsCommit (ends.Conflict cause) v w = Commits good c n (commits.Conflict cause) v w
+  EndsCommit ends.Full v w = ⊥
+  EndsCommit ends.Busy v w = ⊥
+  EndsCommit ends.Taken v w = ⊥
+  EndsCommit ends.Again v w = ⊥
+  EndsCommit ends.ClockFull v w = (clock : ℕ) × Commits good c n (commits.ClockFull clock) v w
+
+  -- the last call of an attempt that ran: it committed, or it was refused
+  abbrev pub EndsRun : Option Ended → Known → Known → Type 0
+  EndsRun None v w = (time : ℕ) × (Commits good c n (commits.Committed time) v w ⊎ Commits good c n (commits.ReadOnly time) v w)
+  EndsRun (Some e) v w = EndsAccess e v w ⊎ EndsCommit e v w
 
   -- so many calls, one behind the other: each asked to be irrevocable and found another in an attempt; each asked to commit and another was faster
   abbrev pub FindsBusy : ℕ → Known → Known → Type 0
@@ -105,17 +141,50 @@ module _ (good : List ℕ → Type 0) (c : Config) (n : ℕ) where
   FindsAgain zero u w = w ≡ u
   FindsAgain (suc k) u w = (v : Known) × FindsAgain k u v × (word : ℕ) × (had : ℕ) × (now : ℕ) × Commits good c n (commits.Again word had now) v w
 
-  -- the attempt from u to w: it began, asked to be irrevocable, went on, asked to commit, and ended by its last call
-  pub record WasTried (x : Try) (u w : Known) : Type 0 where
+  -- an attempt began
+  abbrev pub HasBegun : Known → Known → Type 0
+  HasBegun v w = (alg : Alg) × Begins good c n (begins.Begun alg) v w
+
+  -- where it was to be irrevocable, that was granted by the last of its calls for it; else it made none
+  abbrev pub IsGranted : Bool → ℕ → Known → Known → Type 0
+  IsGranted true busy v w = (asked : Known) × FindsBusy busy v asked × Irrevs good c n grants.Granted asked w
+  IsGranted false busy v w = (busy ≡ 0) × (w ≡ v)
+
+  -- the attempt from u to w did not begin
+  pub record WasUnbegun (x : Try) (u w : Known) : Type 0 where
+    pub busy : x.busy ≡ 0
+    pub again : x.again ≡ 0
+    pub ended : Ended
+    pub is : x.ended ≡ Some ended
+    pub last : EndsBegin ended u w
+
+  -- it began, asked to be irrevocable before it did anything, and was refused
+  pub record WasUngranted (x : Try) (u w : Known) : Type 0 where
+    pub irrevocable : x.irrevocable ≡ true
     pub begun : Known
-    pub begins : Grows u begun
+    pub begins : HasBegun u begun
     pub asked : Known
     pub busy : FindsBusy x.busy begun asked
+    pub again : x.again ≡ 0
+    pub ended : Ended
+    pub is : x.ended ≡ Some ended
+    pub last : EndsPromotion ended asked w
+
+  -- it began, was made irrevocable where it was to be, went on, asked to commit, and ended by its last call: by a commit where it was irrevocable
+  pub record HasRun (x : Try) (u w : Known) : Type 0 where
+    pub begun : Known
+    pub begins : HasBegun u begun
+    pub opened : Known
+    pub granted : IsGranted x.irrevocable x.busy begun opened
     pub acted : Known
-    pub acts : Grows asked acted
+    pub acts : Grows opened acted
     pub before : Known
     pub again : FindsAgain x.again acted before
-    pub last : EndsBy x.ended before w
+    pub last : EndsRun x.ended before w
+    pub irrevocable : x.irrevocable ≡ true → has_committed x.ended ≡ true
+
+  abbrev pub WasTried : Try → Known → Known → Type 0
+  WasTried x u w = WasUnbegun x u w ⊎ (WasUngranted x u w ⊎ HasRun x u w)
 
   -- attempts from u to w, one behind the other, the latest first: each was to be irrevocable where those before it say so
   abbrev pub WereTried : List Try → Known → Known → Type 0
@@ -155,20 +224,31 @@ module _ (good : List ℕ → Type 0) (c : Config) (n : ℕ) where
     pub due : leb 16 failed ≡ is_due tries
     pub low : is_due tries ≡ false → failed ≡ crossed tries
 
+  -- so many runs from u to w, one behind the other, each of which committed, and the tally behind them
+  abbrev pub HaveRun : ℕ → Known → Known → Tally → Tally → Type 0
+  HaveRun zero u w s t = (w ≡ u) × (t ≡ s)
+  HaveRun (suc k) u w s t = (v : Known) × (r : Tally) × HaveRun k u v s r × Ran None v w r t
+
+  -- so many runs that committed, and behind them one of which the last attempt ended so
+  pub record RanAgain (last : Option Ended) (u w : Known) (s t : Tally) : Type 0 where
+    pub before : ℕ
+    pub since : Known
+    pub tally : Tally
+    pub runs : HaveRun before u since s tally
+    pub ran : Ran last since w tally t
+
   -- an attempt began, and was made irrevocable where it was to be
   pub record Opens (irrevocable : Bool) (u w : Known) (s t : Tally) : Type 0 where
     pub busy : ℕ
     pub begun : Known
-    pub begins : Grows u begun
-    pub asked : Known
-    pub waits : FindsBusy busy begun asked
-    pub goes : Grows asked w
+    pub begins : HasBegun u begun
+    pub granted : IsGranted irrevocable busy begun w
     pub counted : t ≡ (if irrevocable then with_promotion (noted_times busy ends.Busy s) else noted_times busy ends.Busy s)
 
   -- it asked to be irrevocable, and the last such call granted that or ended it
   abbrev pub AsksBy : Option Ended → Known → Known → Type 0
   AsksBy None v w = Irrevs good c n grants.Granted v w
-  AsksBy (Some e) v w = IsRefused e v w
+  AsksBy (Some e) v w = EndsPromotion e v w
 
   pub record Asks (ended : Option Ended) (u w : Known) (s t : Tally) : Type 0 where
     pub busy : ℕ
@@ -181,18 +261,26 @@ module _ (good : List ℕ → Type 0) (c : Config) (n : ℕ) where
   pub record IsStopped (e : Ended) (u w : Known) : Type 0 where
     pub before : Known
     pub goes : Grows u before
-    pub last : IsRefused e before w
+    pub last : EndsAccess e before w
 
   -- it asked to commit, and the last such call did or ended it
+  abbrev pub FinishesBy : Option Ended → Known → Known → Type 0
+  FinishesBy None v w = EndsRun None v w
+  FinishesBy (Some e) v w = EndsCommit e v w
+
   pub record Finishes (ended : Option Ended) (u w : Known) (s t : Tally) : Type 0 where
     pub again : ℕ
     pub before : Known
     pub waits : FindsAgain again u before
-    pub last : EndsBy ended before w
+    pub last : FinishesBy ended before w
     pub counted : t ≡ noted_times again ends.Again s
 
   -- it did what it does, and asked to commit; or what it did was refused
   pub record Runs (ended : Option Ended) (u w : Known) (s t : Tally) : Type 0 where
     pub acted : Known
     pub acts : Grows u acted
-    pub finishes : Finishes ended acted w s t
+    pub again : ℕ
+    pub before : Known
+    pub waits : FindsAgain again acted before
+    pub last : EndsRun ended before w
+    pub counted : t ≡ noted_times again ends.Again s

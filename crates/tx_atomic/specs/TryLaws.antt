@@ -1,6 +1,6 @@
 -- Laws of what came of attempts.
 use Rattle.std.proofs.Common.{ℕ, zero, suc, ◌≡◌, ◌≢◌, ◌<◌, ◌≤◌, ◌+◌, ◌∙◌, List, [], ◌∷◌, ◌++◌, Bool, true, false, refl, sym, ap, subst, arith, inl, inr, append_assoc}
-use Rattle.std.specs.Prelude.{◌⊎◌, ◌||◌, leb, min, Option, Some, None, Ok, Err, OnErr, MatchResult}
+use Rattle.std.specs.Prelude.{◌⊎◌, ◌&&◌, ◌||◌, if◌then◌else◌, leb, min, Option, Some, None, Ok, Err, OnErr, MatchResult}
 use Rattle.std.specs.declared.result.Result.{Result}
 use Rattle.std.proofs.lemmas.Bool.Decides.{nat_tests}
 use Rattle.std.proofs.lemmas.List.Elements.{Contains-append_left}
@@ -28,8 +28,8 @@ use Rattle.tx_atomic.specs.declared.tally.Ended.TheVariants as ends
 use Rattle.tx_atomic.specs.declared.tally.Tally.{Tally}
 use Rattle.tx_atomic.specs.Attempts.{ended_by}
 use Rattle.tx_atomic.specs.AttemptLaws.{irrevs-grow, commits-grow}
-use Rattle.tx_atomic.specs.Tallies.{failed_next, noted, noted_times}
-use Rattle.tx_atomic.specs.Tries.{Try, IsRefused, EndsBy, FindsBusy, FindsAgain, WasTried, WereTried, AllFailed, Tried, Ran, Failing, Opens, Asks, IsStopped, Runs, counted_all, counted, counted_end, waited, ran_full, was_crossed, any_full, crossed, is_due}
+use Rattle.tx_atomic.specs.Tallies.{failed_next, noted, noted_times, with_promotion}
+use Rattle.tx_atomic.specs.Tries.{Try, EndsBegin, EndsPromotion, EndsAccess, EndsCommit, EndsRun, FinishesBy, IsGranted, FindsBusy, FindsAgain, HasBegun, WasUnbegun, WasUngranted, HasRun, WasTried, WereTried, AllFailed, Tried, Ran, RanAgain, HaveRun, Failing, Opens, Asks, IsStopped, Finishes, Runs, has_committed, counted_all, counted, counted_end, waited, ran_full, was_crossed, any_full, crossed, is_due}
 
 pub grows-refl : (v : Known) → Grows v v
 grows-refl v = (carries-refl v).grows
@@ -39,6 +39,9 @@ found-earlier p x u v w g f = (f.0 ++ g.more, f.1 ∙ (ap (λ t. f.0 ++ t) g.tra
 
 pub full-earlier : (clock : ℕ) (u v w : Known) → Grows u v → FindsFull clock v w → FindsFull clock u w
 full-earlier clock u v w g f = record { limit = f.limit; found = found-earlier Clock clock u v w g f.found; top = f.top }
+
+some-same : {d e : Ended} → Some d ≡ Some e → d ≡ e
+some-same is = cc
 
 -- the count of those that another was in the way of says when the next one is due
 due-full : (s : ℕ) (any : Bool) (k : ℕ) → leb 16 s ≡ (any || leb 16 k) → ((any || leb 16 k) ≡ false → s ≡ k) → (leb 16 (min (s + 1) 4294967295) ≡ (any || leb 16 (1 + k))) × ((any || leb 16 (1 + k)) ≡ false → min (s + 1) 4294967295 ≡ 1 + k)
@@ -60,11 +63,15 @@ module _ (good : List ℕ → Type 0) (c : Config) (n : ℕ) where
   again-grows zero u v h = subst (λ (w : Known). Grows u w) (sym h) (grows-refl u)
   again-grows (suc k) u v h = commits-grow good c n (commits.Again h.2 h.3 h.4) u h.0 v (again-grows k u h.0 h.1) h.5
 
+  granted-grows : (irrevocable : Bool) (busy : ℕ) (u v : Known) → IsGranted good c n irrevocable busy u v → Grows u v
+  granted-grows true busy u v h = irrevs-grow good c n grants.Granted u h.0 v (busy-grows busy u h.0 h.1) h.2
+  granted-grows false busy u v h = subst (λ (w : Known). Grows u w) (sym h.1) (grows-refl u)
+
   -- an access that was stopped, as the end of its attempt
-  pub stop-refused : (a : ℕ) (stop : Stop) (v w : Known) → Stops good c n a stop v w → IsRefused good c n (ended_by stop) v w
-  stop-refused a (stops.Conflict cause) v w h = inr (inl (a, h))
+  stop-refused : (a : ℕ) (stop : Stop) (v w : Known) → Stops good c n a stop v w → EndsAccess good c n (ended_by stop) v w
+  stop-refused a (stops.Conflict cause) v w h = (a, h)
   stop-refused a (stops.Full limit) v w h = (a, limit, h)
-  stop-refused a (stops.ClockFull clock) v w h = (clock, inr (inr (inl (a, h))))
+  stop-refused a (stops.ClockFull clock) v w h = (a, clock, h)
 
   pub stopped : (stop : Stop) (o : Option Stop) (v w : Known) → o ≡ Some stop → Since good c n None v o w → IsStopped good c n (ended_by stop) v w
   stopped stop o v w is since =
@@ -72,24 +79,25 @@ module _ (good : List ℕ → Type 0) (c : Config) (n : ℕ) where
       record { before = at.before; goes = at.carries.grows; last = stop-refused at.address stop at.before w at.stops }
 
   -- a clock that ended an attempt was found in it
-  refused-full : (v w : Known) → IsRefused good c n ends.ClockFull v w → (clock : ℕ) × FindsFull clock v w
-  refused-full v w h = (h.0, by h.1) where
-    by : Begins good c n (begins.ClockFull h.0) v w ⊎ (Irrevs good c n (grants.ClockFull h.0) v w ⊎ (((a : ℕ) × Stops good c n a (stops.ClockFull h.0) v w) ⊎ Commits good c n (commits.ClockFull h.0) v w)) → FindsFull h.0 v w
-    by (inl b) = b.3
-    by (inr (inl b)) = b.2
-    by (inr (inr (inl b))) = b.1.2
-    by (inr (inr (inr b))) = b.3
+  clock-found : (x : Try) (u w : Known) → x.ended ≡ Some ends.ClockFull → WasTried good c n x u w → (clock : ℕ) × FindsFull clock u w
+  clock-found x u w full (inl t) = (h.0, h.1.3) where
+    h : EndsBegin good c n ends.ClockFull u w
+    h = let same : t.ended ≡ ends.ClockFull = some-same (sym t.is ∙ full) in subst (λ (e : Ended). EndsBegin good c n e u w) same t.last
+  clock-found x u w full (inr (inl t)) = (h.0, full-earlier h.0 u t.asked w (grows-trans u t.begun t.asked t.begins.1.grows (busy-grows x.busy t.begun t.asked t.busy)) h.1.2) where
+    h : EndsPromotion good c n ends.ClockFull t.asked w
+    h = let same : t.ended ≡ ends.ClockFull = some-same (sym t.is ∙ full) in subst (λ (e : Ended). EndsPromotion good c n e t.asked w) same t.last
+  clock-found x u w full (inr (inr t)) = by (subst (λ (o : Option Ended). EndsRun good c n o t.before w) full t.last) where
+    grew : Grows u t.before
+    grew =
+        let opened = grows-trans u t.begun t.opened t.begins.1.grows (granted-grows x.irrevocable x.busy t.begun t.opened t.granted) in
+        grows-trans u t.acted t.before (grows-trans u t.opened t.acted opened t.acts) (again-grows x.again t.acted t.before t.again)
 
-  before-grows : (x : Try) (u w : Known) (t : WasTried good c n x u w) → Grows u t.before
-  before-grows x u w t =
-      let asked = grows-trans u t.begun t.asked t.begins (busy-grows x.busy t.begun t.asked t.busy) in
-      let acted = grows-trans u t.asked t.acted asked t.acts in
-      grows-trans u t.acted t.before acted (again-grows x.again t.acted t.before t.again)
+    by : EndsAccess good c n ends.ClockFull t.before w ⊎ EndsCommit good c n ends.ClockFull t.before w → (clock : ℕ) × FindsFull clock u w
+    by (inl h) = (h.1, full-earlier h.1 u t.before w grew h.2.2)
+    by (inr h) = (h.0, full-earlier h.0 u t.before w grew h.1.3)
 
   pub tried-full : (irrevocable : Bool) (s t : Tally) (u w : Known) → Tried good c n irrevocable (Some ends.ClockFull) u w s t → (clock : ℕ) × FindsFull clock u w
-  tried-full irrevocable s t u w h =
-      let f = refused-full h.was.before w h.was.last in
-      (f.0, full-earlier f.0 u h.was.before w (before-grows _ u w h.was) f.1)
+  tried-full irrevocable s t u w h = clock-found _ u w refl h.was
 
   -- none was tried yet
   pub failing-none : (v : Known) (s : Tally) → Failing good c n 0 v v s s
@@ -135,44 +143,59 @@ module _ (good : List ℕ → Type 0) (c : Config) (n : ℕ) where
       this : Try
       this = record { irrevocable = irrevocable; busy = x.busy; again = x.again; ended = o }
 
+  -- runs, one behind the other
+  pub run-more : (k : ℕ) (u v w : Known) (r s t : Tally) → HaveRun good c n k u v r s → Ran good c n None v w s t → HaveRun good c n (suc k) u w r t
+  run-more k u v w r s t h ran = (v, s, h, ran)
+
+  pub ran-again : (last : Option Ended) (u v w : Known) (r s t : Tally) → (k : ℕ) × HaveRun good c n k u v r s → Ran good c n last v w s t → RanAgain good c n last u w r t
+  ran-again last u v w r s t h ran = record { before = h.0; since = v; tally = s; runs = h.1; ran = ran }
+
   -- an attempt from its parts: it didn't begin
-  pub tried-unbegun : (irrevocable : Bool) (e : Ended) (u w : Known) (t : Tally) → IsRefused good c n e u w → Tried good c n irrevocable (Some e) u w t t
-  tried-unbegun true e u w t h = record { busy = 0; again = 0; was = record { begun = u; begins = grows-refl u; asked = u; busy = refl; acted = u; acts = grows-refl u; before = u; again = refl; last = h }; counted = refl }
-  tried-unbegun false e u w t h = record { busy = 0; again = 0; was = record { begun = u; begins = grows-refl u; asked = u; busy = refl; acted = u; acts = grows-refl u; before = u; again = refl; last = h }; counted = refl }
+  pub tried-unbegun : (irrevocable : Bool) (e : Ended) (u w : Known) (t : Tally) → EndsBegin good c n e u w → Tried good c n irrevocable (Some e) u w t t
+  tried-unbegun true e u w t h = record { busy = 0; again = 0; was = inl (record { busy = refl; again = refl; ended = e; is = refl; last = h }); counted = refl }
+  tried-unbegun false e u w t h = record { busy = 0; again = 0; was = inl (record { busy = refl; again = refl; ended = e; is = refl; last = h }); counted = refl }
 
   -- it was not made irrevocable
-  pub tried-asked : (irrevocable : Bool) (e : Ended) (u v w : Known) (s t : Tally) → Grows u v → Asks good c n (Some e) v w s t → Tried good c n irrevocable (Some e) u w s t
-  tried-asked true e u v w s t g a = record { busy = a.busy; again = 0; was = record { begun = v; begins = g; asked = a.asked; busy = a.waits; acted = a.asked; acts = grows-refl a.asked; before = a.asked; again = refl; last = a.last }; counted = a.counted }
-  tried-asked false e u v w s t g a = record { busy = a.busy; again = 0; was = record { begun = v; begins = g; asked = a.asked; busy = a.waits; acted = a.asked; acts = grows-refl a.asked; before = a.asked; again = refl; last = a.last }; counted = a.counted }
+  pub tried-asked : (irrevocable : Bool) (e : Ended) (u v w : Known) (s t : Tally) → irrevocable ≡ true → HasBegun good c n u v → Asks good c n (Some e) v w s t → Tried good c n irrevocable (Some e) u w s t
+  tried-asked true e u v w s t is b a = record { busy = a.busy; again = 0; was = inr (inl (record { irrevocable = refl; begun = v; begins = b; asked = a.asked; busy = a.waits; again = refl; ended = e; is = refl; last = a.last })); counted = a.counted }
+  tried-asked false e u v w s t is b a = absurd cc
 
   -- it was
-  pub opens-asked : (irrevocable : Bool) (u v w : Known) (s t : Tally) → irrevocable ≡ true → Grows u v → Asks good c n None v w s t → Opens good c n irrevocable u w s t
-  opens-asked true u v w s t is g a = record { busy = a.busy; begun = v; begins = g; asked = a.asked; waits = a.waits; goes = a.last.continues.grows; counted = a.counted }
-  opens-asked false u v w s t is g a = absurd cc
+  pub opens-asked : (irrevocable : Bool) (u v w : Known) (s t : Tally) → irrevocable ≡ true → HasBegun good c n u v → Asks good c n None v w s t → Opens good c n irrevocable u w s t
+  opens-asked true u v w s t is b a = record { busy = a.busy; begun = v; begins = b; granted = (a.asked, a.waits, a.last); counted = a.counted }
+  opens-asked false u v w s t is b a = absurd cc
 
   -- it was not to be
-  pub opens-plain : (irrevocable : Bool) (u w : Known) (t : Tally) → irrevocable ≡ false → Grows u w → Opens good c n irrevocable u w t t
-  opens-plain true u w t is g = absurd cc
-  opens-plain false u w t is g = record { busy = 0; begun = w; begins = g; asked = w; waits = refl; goes = grows-refl w; counted = refl }
+  pub opens-plain : (irrevocable : Bool) (u w : Known) (t : Tally) → irrevocable ≡ false → HasBegun good c n u w → Opens good c n irrevocable u w t t
+  opens-plain true u w t is b = absurd cc
+  opens-plain false u w t is b = record { busy = 0; begun = w; begins = b; granted = (refl, refl); counted = refl }
 
   -- what it did was refused
   pub runs-stopped : (e : Ended) (u w : Known) (s t : Tally) → t ≡ s → IsStopped good c n e u w → Runs good c n (Some e) u w s t
-  runs-stopped e u w s t same x = record { acted = x.before; acts = x.goes; finishes = record { again = 0; before = x.before; waits = refl; last = x.last; counted = same } }
+  runs-stopped e u w s t same x = record { acted = x.before; acts = x.goes; again = 0; before = x.before; waits = refl; last = inl x.last; counted = same }
 
-  -- it committed
-  pub tried-done : (irrevocable : Bool) (u v w : Known) (r s t : Tally) → Opens good c n irrevocable u v r s → Runs good c n None v w s t → Tried good c n irrevocable None u w r t
-  tried-done true u v w r s t o x = let f = x.finishes in record { busy = o.busy; again = f.again; was = record { begun = o.begun; begins = o.begins; asked = o.asked; busy = o.waits; acted = x.acted; acts = grows-trans o.asked v x.acted o.goes x.acts; before = f.before; again = f.waits; last = f.last }; counted = f.counted ∙ ap (noted_times f.again ends.Again) o.counted }
-  tried-done false u v w r s t o x = let f = x.finishes in record { busy = o.busy; again = f.again; was = record { begun = o.begun; begins = o.begins; asked = o.asked; busy = o.waits; acted = x.acted; acts = grows-trans o.asked v x.acted o.goes x.acts; before = f.before; again = f.waits; last = f.last }; counted = f.counted ∙ ap (noted_times f.again ends.Again) o.counted }
+  -- it did what it does, and asked to commit
+  pub runs-finished : (o : Option Ended) (u v w : Known) (s t : Tally) → Grows u v → Finishes good c n o v w s t → Runs good c n o u w s t
+  runs-finished None u v w s t grew f = record { acted = v; acts = grew; again = f.again; before = f.before; waits = f.waits; last = f.last; counted = f.counted }
+  runs-finished (Some e) u v w s t grew f = record { acted = v; acts = grew; again = f.again; before = f.before; waits = f.waits; last = inr f.last; counted = f.counted }
 
-  -- it was refused
-  pub tried-refused : (irrevocable : Bool) (e : Ended) (u v w : Known) (r s t : Tally) → (irrevocable ≡ true → ⊥) → Opens good c n irrevocable u v r s → Runs good c n (Some e) v w s t → Tried good c n irrevocable (Some e) u w r t
-  tried-refused true e u v w r s t never o x = absurd (never refl)
-  tried-refused false e u v w r s t never o x = let f = x.finishes in record { busy = o.busy; again = f.again; was = record { begun = o.begun; begins = o.begins; asked = o.asked; busy = o.waits; acted = x.acted; acts = grows-trans o.asked v x.acted o.goes x.acts; before = f.before; again = f.waits; last = f.last }; counted = f.counted ∙ ap (noted_times f.again ends.Again) o.counted }
+  -- it ran
+  tried-run : (irrevocable : Bool) (o : Option Ended) (u v w : Known) (r s t : Tally) → (irrevocable ≡ true → has_committed o ≡ true) → Opens good c n irrevocable u v r s → Runs good c n o v w s t → Tried good c n irrevocable o u w r t
+  tried-run irrevocable o u v w r s t stays opens runs = record {
+    busy = opens.busy;
+    again = runs.again;
+    was = inr (inr (record { begun = opens.begun; begins = opens.begins; opened = v; granted = opens.granted; acted = runs.acted; acts = runs.acts; before = runs.before; again = runs.waits; last = runs.last; irrevocable = stays }));
+    counted = runs.counted ∙ ap (noted_times runs.again ends.Again) (opens.counted ∙ promoted irrevocable o stays);
+  }
+    where
+      promoted : (i : Bool) (p : Option Ended) → (i ≡ true → has_committed p ≡ true) → (if i then with_promotion (noted_times opens.busy ends.Busy r) else noted_times opens.busy ends.Busy r) ≡ (if i && has_committed p then with_promotion (noted_times opens.busy ends.Busy r) else noted_times opens.busy ends.Busy r)
+      promoted true p h = rw (h refl) refl
+      promoted false p h = refl
 
-  -- either, by what the attempt answered
+  -- by what the attempt answered
   pub tried-ran : {A E : Type 0} (result : Result A E) (irrevocable : Bool) (e : Ended) (u v w : Known) (r s t : Tally) → (irrevocable ≡ true → is_irrevocable v ≡ true) → OnErr result (is_irrevocable v ≡ false) → Opens good c n irrevocable u v r s → MatchResult result (λ _. Runs good c n None v w s t) (λ _. Runs good c n (Some e) v w s t) → MatchResult result (λ _. Tried good c n irrevocable None u w r t) (λ _. Tried good c n irrevocable (Some e) u w r t)
-  tried-ran (Ok x) irrevocable e u v w r s t stays unrefused o runs = tried-done irrevocable u v w r s t o runs
-  tried-ran (Err y) irrevocable e u v w r s t stays unrefused o runs = tried-refused irrevocable e u v w r s t (λ is. let yes : is_irrevocable v ≡ true = stays is in let no : is_irrevocable v ≡ false = unrefused in let wrong : true ≡ false = sym yes ∙ no in absurd cc) o runs
+  tried-ran (Ok x) irrevocable e u v w r s t stays unrefused o runs = tried-run irrevocable None u v w r s t (λ is. refl) o runs
+  tried-ran (Err y) irrevocable e u v w r s t stays unrefused o runs = tried-run irrevocable (Some e) u v w r s t (λ is. let yes : is_irrevocable v ≡ true = stays is in let no : is_irrevocable v ≡ false = unrefused in let wrong : true ≡ false = sym yes ∙ no in absurd cc) o runs
 
   -- one call more that left it going, made by the same caller
   pub busy-more : (k m : ℕ) (r : Irrev) (caller status : ℕ) (u v w : Known) → m ≡ n → FindsBusy good c n k u v → r ≡ grants.Busy caller status → Irrevs good c m r v w → FindsBusy good c n (suc k) u w
@@ -182,27 +205,27 @@ module _ (good : List ℕ → Type 0) (c : Config) (n : ℕ) where
   again-more k m r word had now u v w same h is x = (v, h, word, had, now, subst (λ i. Commits good c i (commits.Again word had now) v w) same (subst (λ a. Commits good c m a v w) is x))
 
   -- the answers that end an attempt
-  pub begin-closed : (r : Begin) (gate : ℕ) (v w : Known) → r ≡ begins.Closed gate → Begins good c n r v w → IsRefused good c n ends.Closed v w
+  pub begin-closed : (r : Begin) (gate : ℕ) (v w : Known) → r ≡ begins.Closed gate → Begins good c n r v w → EndsBegin good c n ends.Closed v w
   begin-closed r gate v w is h = (gate, subst (λ a. Begins good c n a v w) is h)
 
-  pub begin-held : (r : Begin) (word : ℕ) (v w : Known) → r ≡ begins.Held word → Begins good c n r v w → IsRefused good c n ends.Held v w
+  pub begin-held : (r : Begin) (word : ℕ) (v w : Known) → r ≡ begins.Held word → Begins good c n r v w → EndsBegin good c n ends.Held v w
   begin-held r word v w is h = (word, subst (λ a. Begins good c n a v w) is h)
 
-  pub begin-full : (r : Begin) (clock : ℕ) (v w : Known) → r ≡ begins.ClockFull clock → Begins good c n r v w → IsRefused good c n ends.ClockFull v w
-  begin-full r clock v w is h = (clock, inl (subst (λ a. Begins good c n a v w) is h))
+  pub begin-full : (r : Begin) (clock : ℕ) (v w : Known) → r ≡ begins.ClockFull clock → Begins good c n r v w → EndsBegin good c n ends.ClockFull v w
+  begin-full r clock v w is h = (clock, subst (λ a. Begins good c n a v w) is h)
 
-  pub begin-fenced : (r : Begin) (alg : Alg) (v x w : Known) → r ≡ begins.Begun alg → Begins good c n r v x → x.fence ≢ 0 → Grows x w → IsRefused good c n ends.Fenced v w
+  pub begin-fenced : (r : Begin) (alg : Alg) (v x w : Known) → r ≡ begins.Begun alg → Begins good c n r v x → x.fence ≢ 0 → Grows x w → EndsBegin good c n ends.Fenced v w
   begin-fenced r alg v x w is h some grows = (x, alg, subst (λ a. Begins good c n a v x) is h, some, grows)
 
-  pub grant-taken : (r : Irrev) (gate : ℕ) (v x w : Known) → r ≡ grants.Taken gate → Irrevs good c n r v x → Grows x w → IsRefused good c n ends.Taken v w
+  pub grant-taken : (r : Irrev) (gate : ℕ) (v x w : Known) → r ≡ grants.Taken gate → Irrevs good c n r v x → Grows x w → EndsPromotion good c n ends.Taken v w
   grant-taken r gate v x w is h grows = (x, gate, subst (λ a. Irrevs good c n a v x) is h, grows)
 
-  pub grant-full : (r : Irrev) (clock : ℕ) (v w : Known) → r ≡ grants.ClockFull clock → Irrevs good c n r v w → IsRefused good c n ends.ClockFull v w
-  grant-full r clock v w is h = (clock, inr (inl (subst (λ a. Irrevs good c n a v w) is h)))
+  pub grant-full : (r : Irrev) (clock : ℕ) (v w : Known) → r ≡ grants.ClockFull clock → Irrevs good c n r v w → EndsPromotion good c n ends.ClockFull v w
+  grant-full r clock v w is h = (clock, subst (λ a. Irrevs good c n a v w) is h)
 
-  pub commit-full : (r : Commit) (clock : ℕ) (v w : Known) → r ≡ commits.ClockFull clock → Commits good c n r v w → IsRefused good c n ends.ClockFull v w
-  commit-full r clock v w is h = (clock, inr (inr (inr (subst (λ a. Commits good c n a v w) is h))))
+  pub commit-full : (r : Commit) (clock : ℕ) (v w : Known) → r ≡ commits.ClockFull clock → Commits good c n r v w → EndsCommit good c n ends.ClockFull v w
+  commit-full r clock v w is h = (clock, subst (λ a. Commits good c n a v w) is h)
 
-  pub commit-done : (r : Commit) (v w : Known) → ((t : ℕ) × (r ≡ commits.Committed t)) ⊎ ((t : ℕ) × (r ≡ commits.ReadOnly t)) → Commits good c n r v w → EndsBy good c n None v w
+  pub commit-done : (r : Commit) (v w : Known) → ((t : ℕ) × (r ≡ commits.Committed t)) ⊎ ((t : ℕ) × (r ≡ commits.ReadOnly t)) → Commits good c n r v w → FinishesBy good c n None v w
   commit-done r v w (inl p) h = (p.0, inl (subst (λ a. Commits good c n a v w) p.1 h))
   commit-done r v w (inr p) h = (p.0, inr (subst (λ a. Commits good c n a v w) p.1 h))

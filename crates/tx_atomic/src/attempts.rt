@@ -5,9 +5,9 @@ ghost use Rattle.tx_answers.specs.Answers.{KeepsRule, Commits};
 ghost use Rattle.tx_answers.specs.Known.{Grows, IsIdle, is_irrevocable};
 ghost use Rattle.stm_tx.specs.Descs.{known, number};
 ghost use Rattle.tx_atomic.specs.Tallies.{CommitsStay};
-ghost use Rattle.tx_atomic.specs.Attempts.{IsFresh, MayCommit, TookEffect, IsEarly};
+ghost use Rattle.tx_atomic.specs.Attempts.{IsFresh, MayCommit, TookEffect};
 ghost use Rattle.tx_atomic.specs.Callers.{IsReady, IsThrough, Took};
-ghost use Rattle.tx_atomic.specs.Tries.{Tried, Opens, Asks, IsRefused, IsStopped, Finishes, Runs};
+ghost use Rattle.tx_atomic.specs.Tries.{Tried, Opens, Asks, HasBegun, EndsBegin, IsStopped, Finishes, Runs};
 
 use crate::noting::Noting;
 use crate::observer::Observer;
@@ -52,7 +52,6 @@ pub fn attempt<R: Wait, K: MemRule, T: Transaction<K>, O: Observer>(
     ensures none { OnErr result ((known desc.new).made ≡ (known desc.old).made) }
     ensures installs { (known desc.new).installs ≡ (known desc.old).installs }
     ensures tried { MatchResult result (λ r. Tried (K.good stm.now.rule) stm.now.config (number desc.old) irrevocable None (known desc.old) (known desc.new) pace.old.tally pace.new.tally) (λ e. Tried (K.good stm.now.rule) stm.now.config (number desc.old) irrevocable (Some pace.new.last) (known desc.old) (known desc.new) pace.old.tally pace.new.tally) }
-    ensures unrefused { OnErr result (irrevocable ≡ true → IsEarly pace.new.last) }
 {
     open(rt, desc, stm, pace, irrevocable)?;
     run(rt, desc, stm, pace, transaction)
@@ -79,7 +78,6 @@ fn open<R: Wait, K: MemRule, O: Observer>(
     ensures installs { (known desc.new).installs ≡ (known desc.old).installs }
     ensures opens { OnOk result (Opens (K.good stm.now.rule) stm.now.config (number desc.old) irrevocable (known desc.old) (known desc.new) pace.old.tally pace.new.tally) }
     ensures tried { OnErr result (Tried (K.good stm.now.rule) stm.now.config (number desc.old) irrevocable (Some pace.new.last) (known desc.old) (known desc.new) pace.old.tally pace.new.tally) }
-    ensures early { OnErr result (IsEarly pace.new.last) }
 {
     begin(desc, stm, pace)?;
     if irrevocable {
@@ -104,8 +102,8 @@ fn begin<K: MemRule, O: Observer>(
     ensures later { OnOk result ((known desc.old).front ≤ (known desc.new).start) }
     ensures over { OnErr result (IsIdle (known desc.new)) }
     ensures installs { (known desc.new).installs ≡ (known desc.old).installs }
-    ensures refused { OnErr result (IsRefused (K.good stm.now.rule) stm.now.config (number desc.old) pace.new.last (known desc.old) (known desc.new)) }
-    ensures early { OnErr result (IsEarly pace.new.last) }
+    ensures begins { OnOk result (HasBegun (K.good stm.now.rule) stm.now.config (number desc.old) (known desc.old) (known desc.new)) }
+    ensures refused { OnErr result (EndsBegin (K.good stm.now.rule) stm.now.config (number desc.old) pace.new.last (known desc.old) (known desc.new)) }
 {
     match try_begin(desc, stm) {
         Begin::Begun(_) => {
@@ -155,7 +153,6 @@ fn promote<R: Wait, K: MemRule, O: Observer>(
     ensures over { OnErr result (IsIdle (known desc.new)) }
     ensures installs { (known desc.new).installs ≡ (known desc.old).installs }
     ensures asks { MatchResult result (λ r. Asks (K.good stm.now.rule) stm.now.config (number desc.old) None (known desc.old) (known desc.new) pace.old.tally pace.new.tally) (λ e. Asks (K.good stm.now.rule) stm.now.config (number desc.old) (Some pace.new.last) (known desc.old) (known desc.new) pace.old.tally pace.new.tally) }
-    ensures early { OnErr result (IsEarly pace.new.last) }
 {
     for _ in rt.forever() {
         match try_irrevocable(desc, stm) {

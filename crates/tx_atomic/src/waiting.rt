@@ -8,8 +8,10 @@ ghost use Rattle.std.specs.Prelude.{◌≡◌, ℕ, [], IfSome, IfNone, Some, No
 ghost use Rattle.stm_model.specs.Logs.{Log};
 ghost use Rattle.tx_answers.specs.Causes.{FindsFull};
 ghost use Rattle.tx_answers.specs.Known.{Grows};
-ghost use Rattle.stm_tx.specs.Descs.{known};
+ghost use Rattle.stm_tx.specs.Descs.{known, number};
 ghost use Rattle.tx_atomic.specs.Callers.{IsReady, IsThrough, Took};
+ghost use Rattle.tx_atomic.specs.declared.tally.Ended.TheVariants.{ClockFull};
+ghost use Rattle.tx_atomic.specs.Tries.{RanAgain};
 
 use crate::atomically::atomically;
 use crate::observer::Observer;
@@ -42,6 +44,8 @@ pub fn until_some<R: Wait, K: MemRule, V: Drop, T: Transaction<K, Output = Optio
     ensures none { IfNone result ((known desc.new).made ≡ (known desc.old).made) }
     ensures full { IfNone result ((clock : ℕ) × FindsFull clock (known desc.old) (known desc.new)) }
     ensures installs { (known desc.new).installs ≡ (known desc.old).installs }
+    ensures ran { IfSome result (λ v. RanAgain (K.good stm.now.rule) stm.now.config (number desc.old) None (known desc.old) (known desc.new) pace.old.tally pace.new.tally) }
+    ensures gave_up { IfNone result (RanAgain (K.good stm.now.rule) stm.now.config (number desc.old) (Some ClockFull) (known desc.old) (known desc.new) pace.old.tally pace.new.tally) }
 {
     let mut backoff = Backoff::new();
     for _ in rt.forever() {

@@ -7,7 +7,7 @@ use Rattle.tx_answers.specs.KnownLaws.{carries-refl}
 use Rattle.stm_tx.specs.Fencing.{fence_seen}
 use Rattle.tx_atomic.specs.AttemptLaws.{commits-grow}
 use Rattle.tx_atomic.specs.declared.tally.Ended.{Ended}
-use Rattle.tx_atomic.specs.Tries.{IsRefused}
+use Rattle.tx_atomic.specs.Tries.{EndsBegin}
 use Rattle.tx_atomic.specs.TryLaws.{begin-closed, begin-held, begin-full, begin-fenced}
 use Rattle.tx_atomic.proofs.attempts.begin.Goals as goal
 
@@ -31,7 +31,7 @@ returns-then-is_some-clause-refused g c =
     let w = known c.turn_back.new.desc in
     let some : is_some {T = ℕ × ℕ} (fence_seen v) ≡ true = let found = c.fence_seen.ensures in let tested = c.is_some.ensures in let yes = c.if-is_some.true in cc in
     let refused = begin-fenced good stm.config (number c.args.desc.now) c.try_begin.result _ (known c.args.desc.now) v w c.in-Begun.is c.try_begin.ensures.begins (seen v some) (commits-grow good stm.config (number c.try_begin.new.desc) c.turn_back.result v v w (carries-refl v).grows c.turn_back.ensures.commits) in
-    subst (λ (e : Ended). IsRefused good stm.config (number c.args.desc.now) e (known c.args.desc.now) w) (sym c.refuse.ensures.last) refused
+    subst (λ (e : Ended). EndsBegin good stm.config (number c.args.desc.now) e (known c.args.desc.now) w) (sym c.refuse.ensures.last) refused
 
 pub returns-in-Closed-clause-refused : goal.returns-in-Closed-clause-refused
 returns-in-Closed-clause-refused g c =
@@ -39,7 +39,7 @@ returns-in-Closed-clause-refused g c =
     let good = g.K.MemRule.good stm.rule in
     let w = known c.try_begin.new.desc in
     let refused = begin-closed good stm.config (number c.args.desc.now) c.try_begin.result _ (known c.args.desc.now) w c.in-Closed.is c.try_begin.ensures.begins in
-    subst (λ (e : Ended). IsRefused good stm.config (number c.args.desc.now) e (known c.args.desc.now) w) (sym c.refuse-in-Closed.ensures.last) refused
+    subst (λ (e : Ended). EndsBegin good stm.config (number c.args.desc.now) e (known c.args.desc.now) w) (sym c.refuse-in-Closed.ensures.last) refused
 
 pub returns-in-Held-clause-refused : goal.returns-in-Held-clause-refused
 returns-in-Held-clause-refused g c =
@@ -47,7 +47,7 @@ returns-in-Held-clause-refused g c =
     let good = g.K.MemRule.good stm.rule in
     let w = known c.try_begin.new.desc in
     let refused = begin-held good stm.config (number c.args.desc.now) c.try_begin.result _ (known c.args.desc.now) w c.in-Held.is c.try_begin.ensures.begins in
-    subst (λ (e : Ended). IsRefused good stm.config (number c.args.desc.now) e (known c.args.desc.now) w) (sym c.refuse-in-Held.ensures.last) refused
+    subst (λ (e : Ended). EndsBegin good stm.config (number c.args.desc.now) e (known c.args.desc.now) w) (sym c.refuse-in-Held.ensures.last) refused
 
 pub returns-in-ClockFull-clause-refused : goal.returns-in-ClockFull-clause-refused
 returns-in-ClockFull-clause-refused g c =
@@ -55,4 +55,4 @@ returns-in-ClockFull-clause-refused g c =
     let good = g.K.MemRule.good stm.rule in
     let w = known c.try_begin.new.desc in
     let refused = begin-full good stm.config (number c.args.desc.now) c.try_begin.result _ (known c.args.desc.now) w c.in-ClockFull.is c.try_begin.ensures.begins in
-    subst (λ (e : Ended). IsRefused good stm.config (number c.args.desc.now) e (known c.args.desc.now) w) (sym c.refuse-in-ClockFull.ensures.last) refused
+    subst (λ (e : Ended). EndsBegin good stm.config (number c.args.desc.now) e (known c.args.desc.now) w) (sym c.refuse-in-ClockFull.ensures.last) refused

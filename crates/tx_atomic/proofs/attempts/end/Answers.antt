@@ -1,4 +1,4 @@
-use Rattle.std.proofs.Common.{ℕ, suc, ◌≡◌, ◌∙◌, List, rules, refl, ap, sym, subst, inl, inr}
+use Rattle.std.proofs.Common.{ℕ, suc, ◌≡◌, ◌∙◌, List, rules, refl, ap, sym, subst}
 use Rattle.std.specs.Prelude.{Option, Some, None}
 use Rattle.stm_model.specs.declared.config.Config.{Config}
 use Rattle.stm_model.specs.declared.alg.Alg.{Alg}
@@ -13,7 +13,7 @@ use Rattle.tx_atomic.specs.declared.tally.Ended.TheVariants as ends
 use Rattle.tx_atomic.specs.declared.tally.Ended.TheVariants.{Again}
 use Rattle.tx_atomic.specs.declared.tally.Tally.{Tally}
 use Rattle.tx_atomic.specs.Tallies.{noted, noted_times}
-use Rattle.tx_atomic.specs.Tries.{FindsAgain, EndsBy, Finishes}
+use Rattle.tx_atomic.specs.Tries.{FindsAgain, FinishesBy, Finishes}
 use Rattle.tx_atomic.specs.TryLaws.{again-more, commit-full, commit-done}
 use Rattle.tx_atomic.proofs.attempts.end.Goals as goal
 
@@ -52,11 +52,11 @@ loop-preserved g c =
     search (rules, grew, went, again)
 
 -- what came of the calls, and the last of them
-finishes : (good : List ℕ → Type 0) (config : Config) (n m : ℕ) (o : Option Ended) (u v w : Known) (s t : Tally) → m ≡ n → (k : ℕ) × FindsAgain good config n k u v × (t ≡ noted_times k Again s) → EndsBy good config m o v w → Finishes good config n o u w s t
-finishes good config n m o u v w s t same again h = record { again = again.0; before = v; waits = again.1; last = subst (λ i. EndsBy good config i o v w) same h; counted = again.2 }
+finishes : (good : List ℕ → Type 0) (config : Config) (n m : ℕ) (o : Option Ended) (u v w : Known) (s t : Tally) → m ≡ n → (k : ℕ) × FindsAgain good config n k u v × (t ≡ noted_times k Again s) → FinishesBy good config m o v w → Finishes good config n o u w s t
+finishes good config n m o u v w s t same again h = record { again = again.0; before = v; waits = again.1; last = subst (λ i. FinishesBy good config i o v w) same h; counted = again.2 }
 
 -- the same of a refusal, which the pacing keeps
-refused : (good : List ℕ → Type 0) (config : Config) (n m : ℕ) (e last : Ended) (u v w : Known) (s t t' : Tally) → last ≡ e → t' ≡ t → m ≡ n → (k : ℕ) × FindsAgain good config n k u v × (t ≡ noted_times k Again s) → EndsBy good config m (Some e) v w → Finishes good config n (Some last) u w s t'
+refused : (good : List ℕ → Type 0) (config : Config) (n m : ℕ) (e last : Ended) (u v w : Known) (s t t' : Tally) → last ≡ e → t' ≡ t → m ≡ n → (k : ℕ) × FindsAgain good config n k u v × (t ≡ noted_times k Again s) → FinishesBy good config m (Some e) v w → Finishes good config n (Some last) u w s t'
 refused good config n m e last u v w s t t' is kept same again h = subst (λ (d : Ended). Finishes good config n (Some d) u w s t') (sym is) (finishes good config n m (Some e) u v w s t' same (again.0, again.1, kept ∙ again.2) h)
 
 pub returns-in-Committed-clause-finishes : goal.returns-in-Committed-clause-finishes
@@ -67,7 +67,7 @@ returns-in-Committed-clause-finishes g c =
 pub returns-in-Conflict-clause-finishes : goal.returns-in-Conflict-clause-finishes
 returns-in-Conflict-clause-finishes g c =
     let stm = c.args.stm.now in
-    refused (g.K.MemRule.good stm.rule) stm.config (number c.args.desc.now) (number c.loop.desc) (ends.Conflict c.in-Conflict.cause) c.refuse.new.self.last (known c.args.desc.now) (known c.loop.desc) (known c.commit.new.desc) c.args.pace.now.tally c.loop.pace.tally c.refuse.new.self.tally c.refuse.ensures.last c.refuse.ensures.tally (same-number c.args.desc.now c.loop.desc c.loop.invariant.same) c.loop.invariant.again (inr (inr c.in-Conflict.ensures.commits))
+    refused (g.K.MemRule.good stm.rule) stm.config (number c.args.desc.now) (number c.loop.desc) (ends.Conflict c.in-Conflict.cause) c.refuse.new.self.last (known c.args.desc.now) (known c.loop.desc) (known c.commit.new.desc) c.args.pace.now.tally c.loop.pace.tally c.refuse.new.self.tally c.refuse.ensures.last c.refuse.ensures.tally (same-number c.args.desc.now c.loop.desc c.loop.invariant.same) c.loop.invariant.again c.in-Conflict.ensures.commits
 
 pub returns-in-ClockFull-clause-finishes : goal.returns-in-ClockFull-clause-finishes
 returns-in-ClockFull-clause-finishes g c =

@@ -37,7 +37,7 @@ returns-in_err-promote-clause-tried g c =
     let last = c.promote.new.pace.last in
     let here = subst (λ n. Asks good stm.config n (Some last) v w c.begin.new.pace.tally c.promote.new.pace.tally) (same-number c.args.desc.now c.begin.new.desc c.begin.ensures.same) c.in_err-promote.ensures.asks in
     let asks = subst (λ (t : Tally). Asks good stm.config (number c.args.desc.now) (Some last) v w t c.promote.new.pace.tally) c.begin.ensures.uncounted here in
-    let tried = tried-asked good stm.config (number c.args.desc.now) c.args.irrevocable last (known c.args.desc.now) v w c.args.pace.now.tally c.promote.new.pace.tally c.begin.ensures.grew asks in
+    let tried = tried-asked good stm.config (number c.args.desc.now) c.args.irrevocable last (known c.args.desc.now) v w c.args.pace.now.tally c.promote.new.pace.tally c.if-irrevocable.true c.in_ok-begin.ensures.begins asks in
     let p = err_from_is_err_and c.from_residual-in_err-promote.result c.from_residual-in_err-promote.ensures.1 in
     rw p.1 tried
 
@@ -49,12 +49,12 @@ returns-in_ok-promote-clause-opens g c =
     let w = known c.promote.new.desc in
     let here = subst (λ n. Asks good stm.config n None v w c.begin.new.pace.tally c.promote.new.pace.tally) (same-number c.args.desc.now c.begin.new.desc c.begin.ensures.same) c.in_ok-promote.ensures.asks in
     let asks = subst (λ (t : Tally). Asks good stm.config (number c.args.desc.now) None v w t c.promote.new.pace.tally) c.begin.ensures.uncounted here in
-    opens-asked good stm.config (number c.args.desc.now) c.args.irrevocable (known c.args.desc.now) v w c.args.pace.now.tally c.promote.new.pace.tally c.if-irrevocable.true c.begin.ensures.grew asks
+    opens-asked good stm.config (number c.args.desc.now) c.args.irrevocable (known c.args.desc.now) v w c.args.pace.now.tally c.promote.new.pace.tally c.if-irrevocable.true c.in_ok-begin.ensures.begins asks
 
 pub returns-else-irrevocable-clause-opens : goal.returns-else-irrevocable-clause-opens
 returns-else-irrevocable-clause-opens g c =
     let stm = c.args.stm.now in
     let good = g.K.MemRule.good stm.rule in
     let w = known c.begin.new.desc in
-    let opens = opens-plain good stm.config (number c.args.desc.now) c.args.irrevocable (known c.args.desc.now) w c.args.pace.now.tally c.if-irrevocable.false c.begin.ensures.grew in
+    let opens = opens-plain good stm.config (number c.args.desc.now) c.args.irrevocable (known c.args.desc.now) w c.args.pace.now.tally c.if-irrevocable.false c.in_ok-begin.ensures.begins in
     subst (λ (t : Tally). Opens good stm.config (number c.args.desc.now) c.args.irrevocable (known c.args.desc.now) w c.args.pace.now.tally t) (sym c.begin.ensures.uncounted) opens

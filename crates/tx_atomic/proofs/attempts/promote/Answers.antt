@@ -1,4 +1,4 @@
-use Rattle.std.proofs.Common.{ℕ, suc, ◌≡◌, ◌∙◌, List, rules, refl, ap, sym, subst, inl, inr}
+use Rattle.std.proofs.Common.{ℕ, suc, ◌≡◌, ◌∙◌, List, rules, refl, ap, sym, subst}
 use Rattle.std.specs.Prelude.{Some}
 use Rattle.stm_model.specs.declared.config.Config.{Config}
 use Rattle.tx_answers.specs.KnownLaws.{carries-refl}
@@ -12,7 +12,7 @@ use Rattle.tx_atomic.specs.declared.tally.Ended.TheVariants as ends
 use Rattle.tx_atomic.specs.declared.tally.Ended.TheVariants.{Busy}
 use Rattle.tx_atomic.specs.declared.tally.Tally.{Tally}
 use Rattle.tx_atomic.specs.Tallies.{noted, noted_times, with_promotion}
-use Rattle.tx_atomic.specs.Tries.{FindsBusy, IsRefused, Asks}
+use Rattle.tx_atomic.specs.Tries.{FindsBusy, EndsPromotion, Asks}
 use Rattle.tx_atomic.specs.TryLaws.{busy-more, grant-taken, grant-full}
 use Rattle.tx_atomic.proofs.attempts.promote.Goals as goal
 
@@ -48,8 +48,8 @@ loop-preserved g c =
     search (rules, grew, waits, busy)
 
 -- what came of the calls, and the last of them, which the pacing keeps
-asks : (good : List ℕ → Type 0) (config : Config) (n m : ℕ) (e last : Ended) (u v w : Known) (s t t' : Tally) → last ≡ e → t' ≡ t → m ≡ n → (k : ℕ) × FindsBusy good config n k u v × (t ≡ noted_times k Busy s) → IsRefused good config m e v w → Asks good config n (Some last) u w s t'
-asks good config n m e last u v w s t t' is kept same busy h = subst (λ (d : Ended). Asks good config n (Some d) u w s t') (sym is) (record { busy = busy.0; asked = v; waits = busy.1; last = subst (λ i. IsRefused good config i e v w) same h; counted = kept ∙ busy.2 })
+asks : (good : List ℕ → Type 0) (config : Config) (n m : ℕ) (e last : Ended) (u v w : Known) (s t t' : Tally) → last ≡ e → t' ≡ t → m ≡ n → (k : ℕ) × FindsBusy good config n k u v × (t ≡ noted_times k Busy s) → EndsPromotion good config m e v w → Asks good config n (Some last) u w s t'
+asks good config n m e last u v w s t t' is kept same busy h = subst (λ (d : Ended). Asks good config n (Some d) u w s t') (sym is) (record { busy = busy.0; asked = v; waits = busy.1; last = subst (λ i. EndsPromotion good config i e v w) same h; counted = kept ∙ busy.2 })
 
 pub returns-in-Granted-clause-asks : goal.returns-in-Granted-clause-asks
 returns-in-Granted-clause-asks g c =
@@ -77,7 +77,7 @@ returns-in-Taken-clause-asks g c =
 pub returns-in-Conflict-clause-asks : goal.returns-in-Conflict-clause-asks
 returns-in-Conflict-clause-asks g c =
     let stm = c.args.stm.now in
-    asks (g.K.MemRule.good stm.rule) stm.config (number c.args.desc.now) (number c.loop.desc) (ends.Conflict c.in-Conflict.cause) c.refuse-in-Conflict.new.self.last (known c.args.desc.now) (known c.loop.desc) (known c.try_irrevocable.new.desc) c.args.pace.now.tally c.loop.pace.tally c.refuse-in-Conflict.new.self.tally c.refuse-in-Conflict.ensures.last c.refuse-in-Conflict.ensures.tally (same-number c.args.desc.now c.loop.desc c.loop.invariant.same) c.loop.invariant.busy (inl c.in-Conflict.ensures.irrevs)
+    asks (g.K.MemRule.good stm.rule) stm.config (number c.args.desc.now) (number c.loop.desc) (ends.Conflict c.in-Conflict.cause) c.refuse-in-Conflict.new.self.last (known c.args.desc.now) (known c.loop.desc) (known c.try_irrevocable.new.desc) c.args.pace.now.tally c.loop.pace.tally c.refuse-in-Conflict.new.self.tally c.refuse-in-Conflict.ensures.last c.refuse-in-Conflict.ensures.tally (same-number c.args.desc.now c.loop.desc c.loop.invariant.same) c.loop.invariant.busy c.in-Conflict.ensures.irrevs
 
 pub returns-in-ClockFull-clause-asks : goal.returns-in-ClockFull-clause-asks
 returns-in-ClockFull-clause-asks g c =

@@ -7,9 +7,9 @@ use Rattle.tx_answers.specs.KnownLaws.{grows-trans}
 use Rattle.stm_model.specs.declared.alg.Alg.{Alg}
 use Rattle.stm_tx.specs.Descs.{known, number}
 use Rattle.tx_atomic.specs.AttemptLaws.{same-number}
-use Rattle.tx_atomic.specs.Tries.{Finishes, Runs}
+use Rattle.tx_atomic.specs.Tries.{Finishes}
 use Rattle.tx_atomic.specs.declared.tally.Tally.{Tally}
-use Rattle.tx_atomic.specs.TryLaws.{runs-stopped}
+use Rattle.tx_atomic.specs.TryLaws.{runs-stopped, runs-finished}
 use Rattle.tx_atomic.proofs.attempts.run_by.Goals as goal
 
 pub end-requires-clause-served : goal.end-requires-clause-served
@@ -34,7 +34,7 @@ returns-in_err-end-clause-runs g c =
     let last = c.end.new.pace.last in
     let here = subst (λ i. Finishes good stm.config i (Some last) x w c.act.new.pace.tally c.end.new.pace.tally) (same-number c.args.desc.now c.act.new.desc c.act.ensures.same) c.in_err-end.ensures.finishes in
     let finishes = subst (λ (t : Tally). Finishes good stm.config (number c.args.desc.now) (Some last) x w t c.end.new.pace.tally) c.act.ensures.uncounted here in
-    let runs : Runs good stm.config (number c.args.desc.now) (Some last) (known c.args.desc.now) w c.args.pace.now.tally c.end.new.pace.tally = record { acted = x; acts = c.act.ensures.grew; finishes = finishes } in
+    let runs = runs-finished good stm.config (number c.args.desc.now) (Some last) (known c.args.desc.now) x w c.args.pace.now.tally c.end.new.pace.tally c.act.ensures.grew finishes in
     let p = err_from_is_err_and c.from_residual-in_err-end.result c.from_residual-in_err-end.ensures.1 in
     rw p.1 runs
 
@@ -59,7 +59,7 @@ returns-clause-runs g c =
     let x = known c.act.new.desc in
     let w = known c.end.new.desc in
     let here = subst (λ i. Finishes good stm.config i None x w c.act.new.pace.tally c.end.new.pace.tally) (same-number c.args.desc.now c.act.new.desc c.act.ensures.same) c.in_ok-end.ensures.finishes in
-    record { acted = x; acts = c.act.ensures.grew; finishes = subst (λ (t : Tally). Finishes good stm.config (number c.args.desc.now) None x w t c.end.new.pace.tally) c.act.ensures.uncounted here }
+    runs-finished good stm.config (number c.args.desc.now) None (known c.args.desc.now) x w c.args.pace.now.tally c.end.new.pace.tally c.act.ensures.grew (subst (λ (t : Tally). Finishes good stm.config (number c.args.desc.now) None x w t c.end.new.pace.tally) c.act.ensures.uncounted here)
 
 pub returns-clause-took : goal.returns-clause-took
 returns-clause-took g c =

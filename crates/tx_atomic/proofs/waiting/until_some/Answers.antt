@@ -1,14 +1,20 @@
-use Rattle.std.proofs.Common.{rules, ◌∙◌, subst}
+use Rattle.std.proofs.Common.{ℕ, suc, rules, refl, ◌∙◌, subst}
 use Rattle.std.specs.Prelude.{Some, None}
 use Rattle.tx_answers.specs.KnownLaws.{carries-refl, grows-trans}
 use Rattle.stm_tx.specs.Descs.{known, number}
 use Rattle.tx_atomic.specs.Attempts.{TookEffect}
 use Rattle.tx_atomic.specs.AttemptLaws.{same-number, took-nothing, took-since}
-use Rattle.tx_atomic.specs.TryLaws.{full-earlier}
+use Rattle.tx_atomic.specs.declared.tally.Ended.TheVariants.{ClockFull}
+use Rattle.tx_atomic.specs.Tries.{Ran, HaveRun}
+use Rattle.tx_atomic.specs.TryLaws.{full-earlier, run-more, ran-again}
 use Rattle.tx_atomic.proofs.waiting.until_some.Goals as goal
 
 pub loop-init : goal.loop-init
-loop-init g c = let grew = (carries-refl (known c.args.desc.now)).grows in search (rules, grew)
+loop-init g c =
+    let stm = c.args.stm.now in
+    let grew = (carries-refl (known c.args.desc.now)).grows in
+    let runs : (k : ℕ) × HaveRun (g.K.MemRule.good stm.rule) stm.config (number c.args.desc.now) k (known c.args.desc.now) (known c.args.desc.now) c.args.pace.now.tally c.args.pace.now.tally = (0, refl, refl) in
+    search (rules, grew, runs)
 
 pub loop-preserved : goal.loop-preserved
 loop-preserved g c =
@@ -19,7 +25,12 @@ loop-preserved g c =
     let took = subst (λ r. TookEffect (g.K.MemRule.good stm.rule) stm.config (number c.loop.desc) (g.T.Transaction.tells c.args.transaction.now stm.rule stm.config.words r) v.front v w) c.in-Some-None.field-0-is c.in-Some-None.ensures.took in
     let grew = grows-trans (known c.args.desc.now) v w c.loop.invariant.grew c.atomically.ensures.grew in
     let made = took-nothing (g.K.MemRule.good stm.rule) stm.config (number c.loop.desc) tells v.front v w c.requires.waits took ∙ c.loop.invariant.made in
-    search (rules, grew, made)
+    let good = g.K.MemRule.good stm.rule in
+    let n = number c.args.desc.now in
+    let ran = subst (λ i. Ran good stm.config i None v w c.loop.pace.tally c.atomically.new.pace.tally) (same-number c.args.desc.now c.loop.desc c.loop.invariant.same) c.in-Some-None.ensures.ran in
+    let runs : (k : ℕ) × HaveRun good stm.config n k (known c.args.desc.now) w c.args.pace.now.tally c.atomically.new.pace.tally =
+        (suc c.loop.invariant.runs.0, run-more good stm.config n c.loop.invariant.runs.0 (known c.args.desc.now) v w c.args.pace.now.tally c.loop.pace.tally c.atomically.new.pace.tally c.loop.invariant.runs.1 ran) in
+    search (rules, grew, made, runs)
 
 pub returns-in-None-atomically-clause-grew : goal.returns-in-None-atomically-clause-grew
 returns-in-None-atomically-clause-grew g c =
@@ -46,3 +57,21 @@ returns-in-Some-Some-clause-took g c =
     let took = subst (λ r. TookEffect good stm.config (number c.loop.desc) (tells r) v.front v w) c.in-Some-Some.field-0-is c.in-Some-Some.ensures.took in
     let now = subst (λ n. TookEffect good stm.config n (tells (Some c.in-Some-Some.answer)) v.front v w) (same-number c.args.desc.now c.loop.desc inv.same) took in
     took-since good stm.config (number c.args.desc.now) (tells (Some c.in-Some-Some.answer)) v.front u.front u v w inv.made inv.grew inv.grew.front_rose now
+
+pub returns-in-None-atomically-clause-gave_up : goal.returns-in-None-atomically-clause-gave_up
+returns-in-None-atomically-clause-gave_up g c =
+    let stm = c.args.stm.now in
+    let good = g.K.MemRule.good stm.rule in
+    let v = known c.loop.desc in
+    let w = known c.atomically.new.desc in
+    let ran = subst (λ i. Ran good stm.config i (Some ClockFull) v w c.loop.pace.tally c.atomically.new.pace.tally) (same-number c.args.desc.now c.loop.desc c.loop.invariant.same) c.in-None-atomically.ensures.gave_up in
+    ran-again good stm.config (number c.args.desc.now) (Some ClockFull) (known c.args.desc.now) v w c.args.pace.now.tally c.loop.pace.tally c.atomically.new.pace.tally c.loop.invariant.runs ran
+
+pub returns-in-Some-Some-clause-ran : goal.returns-in-Some-Some-clause-ran
+returns-in-Some-Some-clause-ran g c =
+    let stm = c.args.stm.now in
+    let good = g.K.MemRule.good stm.rule in
+    let v = known c.loop.desc in
+    let w = known c.atomically.new.desc in
+    let ran = subst (λ i. Ran good stm.config i None v w c.loop.pace.tally c.atomically.new.pace.tally) (same-number c.args.desc.now c.loop.desc c.loop.invariant.same) c.in-Some-Some.ensures.ran in
+    ran-again good stm.config (number c.args.desc.now) None (known c.args.desc.now) v w c.args.pace.now.tally c.loop.pace.tally c.atomically.new.pace.tally c.loop.invariant.runs ran

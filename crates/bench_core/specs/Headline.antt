@@ -1,0 +1,63 @@
+-- THE HEADLINE, to be read aloud: what `run` at status 0 means, from the text read to the text written.
+--
+-- A memory ran the text's transactions, its callers on threads of their own, across every switch of algorithm; then it was closed. What is written is as if one thread had run them one after the other: the definitions say so, and stand where their names are imported from.
+--
+--   workload_of   the text is a workload, by the grammar                                    stm_text, Grammar.antt
+--   report_bytes  the text of a report                                                      stm_text, Reports.antt
+--   IsHistory     the committed writing transactions stand in one legal history: each once, in the order of its caller; each read what those before it had left (IsLegal), and every structure was well formed at every moment
+--                                                                                           stm_driver, Runs.antt; stm_model, Histories.antt
+--   Replays       one thread that runs the script of each row in turn gets what the row says, and ends with the report's memory; each transaction has one row, a caller's in the order of the text
+--                                                                                           stm_script, Reports.antt
+--   Shows         the report's writers are those of the history, in its order, and its memory is what the history leaves
+--                                                                                           stm_script, Reports.antt
+--   GoesAlong     each row is replayed on the memory after one prefix of the history: the one at its place
+--                                                                                           stm_driver, Along.antt
+--   AreInstalls   each caller installed the algorithms of its text and those that its policy asked for, and no other
+--                                                                                           stm_driver, Runs.antt
+--
+-- What every attempt reads, aborted ones too, and that an irrevocable one ends committed, is said of the calls that `run` makes (stm_tx): MODEL and PROMISES name those clauses.
+use Rattle.std.specs.Prelude.{ℕ, ◌≡◌, length, List, Option, Some, Ok}
+use Rattle.std.specs.Borrow.{Bor}
+use Rattle.stm_profile.specs.declared.policy.Policy.{Policy}
+use Rattle.stm_profile.specs.Policies.{ruling}
+use Rattle.stm_script.specs.declared.report.Report.{Report}
+use Rattle.stm_script.specs.declared.workload.Workload.{Workload}
+use Rattle.stm_script.specs.Reports.{Replays, Shows, regions_of, script_of, zeros}
+use Rattle.stm_text.specs.declared.parse.Mode.TheVariants.{Run}
+use Rattle.stm_text.specs.Grammar.{workload_of}
+use Rattle.stm_text.specs.Reports.{report_bytes}
+use Rattle.stm_io.specs.Ends.{IsText, Gained}
+use Rattle.stm_driver.specs.Along.{GoesAlong}
+use Rattle.stm_driver.specs.Runs.{AreInstalls, IsHistory}
+use Rattle.stm_rule.specs.Closings.{Ended}
+use Rattle.stm_words.specs.declared.command.Command.TheVariants as commands
+use Rattle.stm_words.specs.Asking.{Asks, texts_of}
+use Rattle.bench_core.specs.declared.status.Status.{Status}
+use Rattle.bench_core.specs.declared.status.Status.TheVariants.{Ok as Done}
+
+-- the run of this text under this policy wrote this, and left this closed memory
+pub record RanRight (policy : Policy) (text said : List ℕ) (closed : Ended) : Type 0 where
+  pub workload : Workload
+  pub parses : workload_of Run text ≡ Ok workload
+  pub history : IsHistory workload closed
+  pub report : Report
+  pub written : said ≡ report_bytes report
+  pub replays : Replays workload report
+  pub shows : Shows closed.history closed.opening closed.clock workload report
+  pub along : GoesAlong (regions_of workload.header) (script_of workload.items) closed.history (zeros workload.header.words) (zeros workload.header.words) report.rows
+  pub callers : length closed.installs ≡ workload.header.callers
+  pub installs : AreInstalls true (ruling policy workload.header.policy) workload report.rows 0 closed.installs
+
+module _ {S : Type 0} (left : S → Option (List ℕ)) (source : S) (words : List (Bor (List ℕ))) {K : Type 0} (held : K → Option (List ℕ)) (sink sink' : K) (last : Option Ended) where
+  -- where the words ask for `run` under this policy: a text was read, its run was right, and what it says was written whole
+  pub record ReadAndRan (policy : Policy) : Type 0 where
+    pub text : List ℕ
+    pub read : IsText 16777217 (left source) text
+    pub said : List ℕ
+    pub closed : Ended
+    pub right : RanRight policy text said closed
+    pub written : Gained (held sink) (held sink') said
+    pub leaves : last ≡ Some closed
+
+  abbrev pub Headline : Status → Type 0
+  Headline status = status ≡ Done → (policy : Policy) → Asks (texts_of words) (commands.Run policy) → ReadAndRan policy
