@@ -8,31 +8,33 @@ use Rattle.stm_text.specs.declared.parse.Mode.TheVariants.{Run}
 use Rattle.stm_words.specs.declared.command.Command.{Command}
 use Rattle.stm_words.specs.declared.command.Command.TheVariants as commands
 use Rattle.stm_words.specs.Asking.{Asks, texts_of}
-use Rattle.bench_core.specs.declared.status.Status.{Status}
 use Rattle.bench_core.specs.declared.status.Status.TheVariants.{Ok as Done}
 use Rattle.bench_core.specs.Headline.{RanRight, ReadAndRan, Headline}
-use Rattle.bench_core.specs.Outcomes.{IsOutcome, HasRead, RanToEnd, SaidOf, SaysFor, Wrote, kept, most_read}
+use Rattle.bench_core.specs.Outcomes.{HasRead, RanToEnd, SaidOf, SaysFor, Wrote, kept, most_read}
 
 right : (policy : Policy) (text : List ℕ) (closed : Option Ended) (said : List ℕ) → SaidOf Run policy text Done closed said → (c : Ended) × (closed ≡ Some c) × RanRight policy text said c
 right policy text None said was = absurd was.run
 right policy text (Some c) said was =
-    let ran : RanToEnd policy was.workload c said = was.run in
-    (c, refl, record {
-      workload = was.workload;
-      parses = was.parses;
-      history = ran.shown.history;
-      report = ran.report;
-      written = ran.is;
-      replays = ran.shown.replays;
-      shows = ran.shown.shows;
-      along = ran.shown.along;
-      callers = ran.shown.callers;
-      installs = ran.shown.installs;
-    })
+    let ran : RanToEnd policy was.workload c said = was.run in (
+      c,
+      refl,
+      record {
+        workload = was.workload;
+        parses = was.parses;
+        history = ran.shown.history;
+        report = ran.report;
+        written = ran.is;
+        replays = ran.shown.replays;
+        shows = ran.shown.shows;
+        along = ran.shown.along;
+        callers = ran.shown.callers;
+        installs = ran.shown.installs;
+      },
+    )
 
-module _ {S : Type 0} (left : S → Option (List ℕ)) (faults : S → ℕ) (source source' : S) (words : List (Bor (List ℕ))) {K : Type 0} (held : K → Option (List ℕ)) (broken : K → ℕ) (sink sink' : K) (last last' : Option Ended) where
-  wrote-right : Wrote left faults source source' words held broken sink sink' last last' Done → (policy : Policy) → Asks (texts_of words) (commands.Run policy) → ReadAndRan left source words held sink sink' last' policy
-  wrote-right w policy asks =
+module _ {S : Type 0} (left : S → Option (List ℕ)) (faults : S → ℕ) {K : Type 0} (held : K → Option (List ℕ)) (broken : K → ℕ) where
+  wrote-right : (source source' : S) (words : List (Bor (List ℕ))) (sink sink' : K) (last last' : Option Ended) (policy : Policy) → Asks (texts_of words) (commands.Run policy) → Wrote left faults source source' words held broken sink sink' last last' Done → ReadAndRan left source held sink sink' last' policy
+  wrote-right source source' words sink sink' last last' policy asks w =
       let same : commands.Run policy ≡ w.says.command = w.says.alone (commands.Run policy) asks in
       let says : HasRead left faults source source' most_read (λ text. SaidOf Run policy text Done w.closed w.said) = subst (λ (command : Command). SaysFor left faults source source' command Done w.closed w.said) (sym same) w.says.says in
       let ran = right policy says.text w.closed w.said says.of in
@@ -46,5 +48,5 @@ module _ {S : Type 0} (left : S → Option (List ℕ)) (faults : S → ℕ) (sou
         leaves = w.leaves ∙ ap (λ (o : Option Ended). kept o last) ran.1;
       }
 
-  pub headline : (status : Status) → IsOutcome left faults source source' words held broken sink sink' last last' status → Headline left source words held sink sink' last' status
-  headline status h is = wrote-right (subst (IsOutcome left faults source source' words held broken sink sink' last last') is h)
+  pub headline : Headline left faults held broken
+  headline source source' words sink sink' last last' policy asks outcome = wrote-right source source' words sink sink' last last' policy asks outcome

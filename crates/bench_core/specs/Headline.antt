@@ -1,4 +1,4 @@
--- THE HEADLINE, to be read aloud: what `run` at status 0 means, from the text read to the text written.
+-- THE HEADLINE, to be read aloud: what `run` at status 0 means, from the text read to the text written. `bench` promises it (`laws::run_is_right`, of its clause `IsOutcome`).
 --
 -- A memory ran the text's transactions, its callers on threads of their own, across every switch of algorithm; then it was closed. What is written is as if one thread had run them one after the other: the definitions say so, and stand where their names are imported from.
 --
@@ -32,8 +32,8 @@ use Rattle.stm_driver.specs.Runs.{AreInstalls, IsHistory}
 use Rattle.stm_rule.specs.Closings.{Ended}
 use Rattle.stm_words.specs.declared.command.Command.TheVariants as commands
 use Rattle.stm_words.specs.Asking.{Asks, texts_of}
-use Rattle.bench_core.specs.declared.status.Status.{Status}
 use Rattle.bench_core.specs.declared.status.Status.TheVariants.{Ok as Done}
+use Rattle.bench_core.specs.Outcomes.{IsOutcome}
 
 -- the run of this text under this policy wrote this, and left this closed memory
 pub record RanRight (policy : Policy) (text said : List ℕ) (closed : Ended) : Type 0 where
@@ -48,16 +48,18 @@ pub record RanRight (policy : Policy) (text said : List ℕ) (closed : Ended) : 
   pub callers : length closed.installs ≡ workload.header.callers
   pub installs : AreInstalls true (ruling policy workload.header.policy) workload report.rows 0 closed.installs
 
-module _ {S : Type 0} (left : S → Option (List ℕ)) (source : S) (words : List (Bor (List ℕ))) {K : Type 0} (held : K → Option (List ℕ)) (sink sink' : K) (last : Option Ended) where
-  -- where the words ask for `run` under this policy: a text was read, its run was right, and what it says was written whole
-  pub record ReadAndRan (policy : Policy) : Type 0 where
-    pub text : List ℕ
-    pub read : IsText 16777217 (left source) text
-    pub said : List ℕ
-    pub closed : Ended
-    pub right : RanRight policy text said closed
-    pub written : Gained (held sink) (held sink') said
-    pub leaves : last ≡ Some closed
+-- a text was read, its run under this policy was right, and what it says was written whole
+pub record ReadAndRan {S : Type 0} (left : S → Option (List ℕ)) (source : S) {K : Type 0} (held : K → Option (List ℕ)) (sink sink' : K) (last : Option Ended) (policy : Policy) : Type 0 where
+  pub text : List ℕ
+  pub read : IsText 16777217 (left source) text
+  pub said : List ℕ
+  pub closed : Ended
+  pub right : RanRight policy text said closed
+  pub written : Gained (held sink) (held sink') said
+  pub leaves : last ≡ Some closed
 
-  abbrev pub Headline : Status → Type 0
-  Headline status = status ≡ Done → (policy : Policy) → Asks (texts_of words) (commands.Run policy) → ReadAndRan policy
+-- so it is where the words asked for `run`, and the call answered status 0
+abbrev pub Headline : {S : Type 0} (left : S → Option (List ℕ)) (faults : S → ℕ) {K : Type 0} (held : K → Option (List ℕ)) (broken : K → ℕ) → Type 0
+Headline {S = S} left faults {K = K} held broken =
+    (source source' : S) (words : List (Bor (List ℕ))) (sink sink' : K) (last last' : Option Ended) (policy : Policy) → Asks (texts_of words) (commands.Run policy)
+    → IsOutcome left faults source source' words held broken sink sink' last last' Done → ReadAndRan left source held sink sink' last' policy

@@ -1,7 +1,9 @@
-//! A law of the definitions, the contract of a function.
+//! Laws of the definitions, the contracts of functions.
 ghost use Rattle.bench_core.specs.Confirming.{RunIsConfirmed};
+ghost use Rattle.bench_core.specs.Headline.{Headline};
 
 use stm_check::laws::behind_is_confirmed;
+use stm_io::ends::{Sink, Source};
 
 /// Of a workload's text, and after it what `run` wrote of it at status 0, `check` says yes, where what was written isn't
 /// longer than a report may be.
@@ -10,3 +12,8 @@ pub fn run_is_confirmed()
 {
     behind_is_confirmed();
 }
+
+/// What `bench` promises of `run` at status 0 is the headline.
+pub fn run_is_right<S: Source, K: Sink>()
+    ensures { Headline S.left S.faults K.held K.faults }
+{}
