@@ -140,7 +140,10 @@ fn draws_from_a_source_to_a_sink(rt: HostRuntime) -> Result<(), Fail> {
     let expected = picture(alloc, lines.as_slice())?;
     let mut source = MemSource::new(text.into_bytes(), Vec::new(alloc));
     let mut sink = MemSink::new(alloc, 65536, Vec::new(alloc))?;
-    assert_eq!(rt; draw(alloc, 1, &mut source, &mut sink, &mut None), Status::Ok);
+    assert_eq!(rt;
+        draw(alloc, 1, &mut source, &mut sink, &mut None),
+        Status::Ok
+    );
     assert_eq!(rt; sink.held(), expected.as_slice());
     Ok(())
 }
@@ -179,7 +182,10 @@ fn each_end_has_its_status(rt: HostRuntime) -> Result<(), Fail> {
         }
         let mut source = MemSource::new(text.as_bytes().to_vec(alloc)?, reads);
         let mut sink = MemSink::new(alloc, 65536, writes)?;
-        assert_eq!(rt; draw(alloc, *words, &mut source, &mut sink, &mut None), *status);
+        assert_eq!(rt;
+            draw(alloc, *words, &mut source, &mut sink, &mut None),
+            *status
+        );
         assert_eq!(rt; sink.held(), said.as_bytes(), "{said}");
     }
     Ok(())

@@ -5,8 +5,8 @@ use Rattle.stm_model.specs.Plains.{openings, own_writes}
 use Rattle.structure_tests.proofs.PlainZeros.{zero_word, zero-words, zero-memory}
 use Rattle.structure_tests.proofs.shared.zeros.Goals as goal
 
-pub new-requires-clause-words : goal.new-requires-clause-words
-new-requires-clause-words c = subst (λ (ws : List PlainWord). AreWords (openings ws)) (sym (c.in_ok-vec.ensures.items_if_clones_equal (λ y e. e))) (zero-words c.args.words)
+pub new-requires : goal.new-requires
+new-requires c = record { words = subst (λ (ws : List PlainWord). AreWords (openings ws)) (sym (c.in_ok-vec.ensures.items_if_clones_equal (λ y e. e))) (zero-words c.args.words) }
 
 pub returns-clause-zeros : goal.returns-clause-zeros
 returns-clause-zeros c =

@@ -29,7 +29,7 @@ loop-preserved g c =
     let n = number c.args.desc.now in
     let ran = subst (λ i. Ran good stm.config i None v w c.loop.pace.tally c.atomically.new.pace.tally) (same-number c.args.desc.now c.loop.desc c.loop.invariant.same) c.in-Some-None.ensures.ran in
     let runs : (k : ℕ) × HaveRun good stm.config n k (known c.args.desc.now) w c.args.pace.now.tally c.atomically.new.pace.tally =
-        (suc c.loop.invariant.runs.0, run-more good stm.config n c.loop.invariant.runs.0 (known c.args.desc.now) v w c.args.pace.now.tally c.loop.pace.tally c.atomically.new.pace.tally c.loop.invariant.runs.1 ran) in
+    (suc c.loop.invariant.runs.0, run-more good stm.config n c.loop.invariant.runs.0 (known c.args.desc.now) v w c.args.pace.now.tally c.loop.pace.tally c.atomically.new.pace.tally c.loop.invariant.runs.1 ran) in
     search (rules, grew, made, runs)
 
 pub returns-in-None-atomically-clause-grew : goal.returns-in-None-atomically-clause-grew
