@@ -20,8 +20,8 @@ shifted-requires c =
 pub replay-requires : goal.replay-requires
 replay-requires c = record { items = c.built_workloads_fit.ensures _ _ c.in-Ok.ensures.built }
 
-pub overflow_add-result : goal.overflow_add-result
-overflow_add-result c =
+pub overflow_add-finding : goal.overflow_add-finding
+overflow_add-finding c =
     let text = c.args.text.now in
     let report = c.in-Ok-read_report.report in
     let behind : length c.part_at_done.result.1.now ≡ length (behind_done text) = ap length c.part_at_done.ensures.rest in
@@ -30,6 +30,6 @@ overflow_add-result c =
     let above = c.count_lines-above.ensures.least in
     let most = c.requires in
     let written : length c.part_at_done.result.1.now ≡ length (report_bytes report) = ap length (c.report_is_written.ensures c.part_at_done.result.1.now report c.in-Ok-read_report.ensures).0 in
-    let judged = rw c.in-No.is at c.in_ok-replay.ensures in
+    let judged = rw c.in-No.is at c.in_ok-judged.ensures.verdict in
     let line : c.in-No.line ≤ 2 + length (report_bytes report) = judged-line c.in-Ok.workload report c.in-No.line judged.1 in
     omega arith

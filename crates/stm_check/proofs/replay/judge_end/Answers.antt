@@ -1,9 +1,16 @@
-use Rattle.std.proofs.Common.{ℕ, ◌≡◌, ◌<◌, ◌≤◌, ◌+◌, List, [], Bool, true, false, length, ◌∙◌, sym, ap, arith, subst, refl, inl, inr}
+use Rattle.std.proofs.Common.{ℕ, ◌≡◌, ◌<◌, ◌≤◌, ◌+◌, List, [], Bool, true, false, length, get_or, ◌∙◌, sym, ap, arith, subst, refl, inl, inr}
+use Rattle.std.specs.Prelude.{◌⊎◌, ltb, Option, Some, MatchOption}
+use Rattle.std.proofs.lemmas.Bool.Decides.{nat_tests}
 use Rattle.stm_model.specs.Plains.{openings}
 use Rattle.stm_script.specs.declared.report.Report.{Report}
 use Rattle.stm_script.specs.declared.workload.Workload.{Workload}
 use Rattle.stm_script.specs.Reports.{Replays, zeros, nonzero}
-use Rattle.stm_check.specs.Verdicts.{AreRight, AllHaveRows, IsFirstFault, alike}
+use Rattle.stm_check.specs.Verdicts.{AreRight, AllHaveRows, IsFirstFault, alike, Judges}
+use Rattle.stm_check.specs.Wanted.{IsItem, WantsBehind, IsWanted, Wants, word_of}
+use Rattle.stm_check.specs.declared.verdict.Verdict.{Verdict}
+use Rattle.stm_check.specs.declared.verdict.Verdict.TheVariants.{No}
+use Rattle.stm_check.specs.declared.wanted.Wanted.{Wanted}
+use Rattle.stm_check.specs.declared.wanted.Wanted.TheVariants as wants
 use Rattle.stm_check.proofs.VerdictLaws.{right-replays, fault-refutes}
 use Rattle.stm_check.proofs.StandingLaws.{alike-self, alike-same}
 use Rattle.stm_check.proofs.replay.judge_end.Goals as goal
@@ -26,43 +33,112 @@ told-not told left same s lt q = let e = alike-self told in let a = ap (alike to
 left-not : (told left : List (ℕ × ℕ)) (same : ℕ) → same ≡ alike told left → same < length left → told ≡ left → ⊥
 left-not told left same s lt q = let e = alike-self left in let a = ap (λ x. alike x left) q in absurd (omega arith)
 
-pub returns-then-not-all_have_rows : goal.returns-then-not-all_have_rows
-returns-then-not-all_have_rows c =
-    let w = c.args.workload.now in
-    let rows = c.as_slice-rows.ensures in
-    missing w c.args.report.now (openings c.args.standing.now.ledger) (length c.as_slice-rows.result.now) (length c.as_slice-rows.result.now + 2) c.requires.right
-    (λ all. absurd (clash c.all_have_rows.result c.if-not-all_have_rows.true (c.all_have_rows.ensures.1 (subst (AllHaveRows w) (sym rows) all))))
-    (ap length rows) refl
+wants-no : (w : Workload) (r : Report) (v : Verdict) (o : Option Wanted) (line : ℕ) (x : Wanted) → v ≡ No line → o ≡ Some x → IsWanted w r x → Wants w r v o
+wants-no w r v o line x p q h = subst (λ u. Wants w r u o) (sym p) (subst (λ m. MatchOption m ⊥ (IsWanted w r)) (sym q) h)
+
+-- what is wanted behind the rows, where the memory that they leave is told so
+abbrev WantsIn : Workload → Report → List (ℕ × ℕ) → Wanted → Type 0
+WantsIn w r left (wants.Word address value) = AllHaveRows w r.rows × IsItem left (alike r.memory left) (address, value)
+WantsIn w r left wants.End = AllHaveRows w r.rows × (alike r.memory left ≡ length left) × (length left < length r.memory)
+WantsIn w r left x = ⊥
+
+-- the word behind those that are alike, or the end
+behind-word : (w : Workload) (r : Report) (last : List ℕ) (left : List (ℕ × ℕ)) (same : ℕ) (x : Wanted) → AreRight w [] (zeros w.header.words) r.rows last → AllHaveRows w r.rows → left ≡ nonzero 0 last
+    → same ≡ alike r.memory left → same ≤ length left → (same < length left → x ≡ word_of (get_or left same (0, 0))) → (length left ≤ same → x ≡ wants.End) → (same < length r.memory) ⊎ (same < length left) → IsWanted w r x
+behind-word w r last left same x right all l s le word end more = inr (last, right, behind x (subst (λ k. WantsIn w r k x) l (by (ltb same (length left)) refl)))
   where
-    clash : (b : Bool) → b ≡ false → b ≡ true → ⊥
-    clash b f t = cc
+    behind : (y : Wanted) → WantsIn w r (nonzero 0 last) y → WantsBehind w r last y
+    behind (wants.Word address value) h = h
+    behind wants.End h = h
+    behind wants.Later h = absurd h
+    behind wants.Apart h = absurd h
+    behind (wants.Next seq) h = absurd h
+    behind (wants.Row want) h = absurd h
+    behind (wants.Missing caller seq) h = absurd h
 
-pub returns-then-same-told : goal.returns-then-same-told
-returns-then-same-told c =
+    short : length left ≤ same → (same < length r.memory) ⊎ (same < length left) → length left < length r.memory
+    short high (inl h) = omega arith
+    short high (inr h) = absurd (omega arith)
+
+    by : (b : Bool) → ltb same (length left) ≡ b → WantsIn w r left x
+    by true e =
+        let lt : same < length left = grind (arith, nat_tests) in
+        subst (WantsIn w r left) (sym (word lt)) (all, (subst (λ n. n < length left) s lt, ap (λ n. get_or left n (0, 0)) (sym s)))
+    by false e =
+        let high : length left ≤ same = grind (arith, nat_tests) in
+        subst (WantsIn w r left) (sym (end high)) (all, sym s ∙ (let q : same ≡ length left = omega arith in q), short high more)
+
+pub returns-in-Some-clause-verdict : goal.returns-in-Some-clause-verdict
+returns-in-Some-clause-verdict c =
+    let w = c.args.workload.now in
+    let rows = c.as_slice-rows.ensures in
+    let some = c.in-Some.ensures in
+    subst (Judges w c.args.report.now) (sym c.no.ensures.verdict)
+    (missing w c.args.report.now (openings c.args.standing.now.ledger) (length c.as_slice-rows.result.now) (length c.as_slice-rows.result.now + 2) c.requires.right
+    (λ all. let have : AllHaveRows w c.as_slice-rows.result.now = subst (AllHaveRows w) (sym rows) all in let own = have c.in-Some.caller in let at = some.0 in let lt = some.1 in absurd (omega arith))
+    (ap length rows) refl)
+
+pub returns-then-same-told-clause-verdict : goal.returns-then-same-told-clause-verdict
+returns-then-same-told-clause-verdict c =
     let w = c.args.workload.now in
     let rows = c.as_slice-rows.ensures in
     let left = c.in_ok-left.ensures ∙ ap (nonzero 0) (c.deref.ensures.value ∙ c.in_ok-values.ensures) in
-    let all = subst (AllHaveRows w) rows (c.all_have_rows.ensures.0 c.if-not-all_have_rows.false) in
-    differs w c.args.report.now (openings c.args.standing.now.ledger) c.as_slice-told.result.now c.as_slice.result.now (length c.as_slice-rows.result.now) c.alike-same.result (length c.as_slice-rows.result.now + 2 + c.alike-same.result)
-    c.requires.right all (ap length rows) c.as_slice-told.ensures (c.as_slice.ensures ∙ left) c.alike-same.ensures.alike (told-not c.as_slice-told.result.now c.as_slice.result.now c.alike-same.result c.alike-same.ensures.alike c.if-same-told.true) refl
+    let all = subst (AllHaveRows w) rows c.in_default.ensures in
+    subst (Judges w c.args.report.now) (sym c.no-then-same-told.ensures.verdict)
+    (differs w c.args.report.now (openings c.args.standing.now.ledger) c.as_slice-told.result.now c.as_slice.result.now (length c.as_slice-rows.result.now) c.alike-same.result (length c.as_slice-rows.result.now + 2 + c.alike-same.result)
+    c.requires.right all (ap length rows) c.as_slice-told.ensures (c.as_slice.ensures ∙ left) c.alike-same.ensures.alike (told-not c.as_slice-told.result.now c.as_slice.result.now c.alike-same.result c.alike-same.ensures.alike c.if-same-told.true) refl)
 
-pub returns-then-same-as_slice : goal.returns-then-same-as_slice
-returns-then-same-as_slice c =
+pub returns-then-same-as_slice-clause-verdict : goal.returns-then-same-as_slice-clause-verdict
+returns-then-same-as_slice-clause-verdict c =
     let w = c.args.workload.now in
     let rows = c.as_slice-rows.ensures in
     let left = c.in_ok-left.ensures ∙ ap (nonzero 0) (c.deref.ensures.value ∙ c.in_ok-values.ensures) in
-    let all = subst (AllHaveRows w) rows (c.all_have_rows.ensures.0 c.if-not-all_have_rows.false) in
+    let all = subst (AllHaveRows w) rows c.in_default.ensures in
     let two = c.as_slice-2.ensures ∙ sym c.as_slice.ensures in
     let shorter : c.alike-same.result < length c.as_slice.result.now = subst (λ (l : List (ℕ × ℕ)). c.alike-same.result < length l) two c.if-same-as_slice.true in
-    differs w c.args.report.now (openings c.args.standing.now.ledger) c.as_slice-told.result.now c.as_slice.result.now (length c.as_slice-rows.result.now) c.alike-same.result (length c.as_slice-rows.result.now + 2 + c.alike-same.result)
-    c.requires.right all (ap length rows) c.as_slice-told.ensures (c.as_slice.ensures ∙ left) c.alike-same.ensures.alike (left-not c.as_slice-told.result.now c.as_slice.result.now c.alike-same.result c.alike-same.ensures.alike shorter) refl
+    subst (Judges w c.args.report.now) (sym c.no-then-same-as_slice.ensures.verdict)
+    (differs w c.args.report.now (openings c.args.standing.now.ledger) c.as_slice-told.result.now c.as_slice.result.now (length c.as_slice-rows.result.now) c.alike-same.result (length c.as_slice-rows.result.now + 2 + c.alike-same.result)
+    c.requires.right all (ap length rows) c.as_slice-told.ensures (c.as_slice.ensures ∙ left) c.alike-same.ensures.alike (left-not c.as_slice-told.result.now c.as_slice.result.now c.alike-same.result c.alike-same.ensures.alike shorter) refl)
 
-pub returns : goal.returns
-returns c =
+pub returns-then-same-told-clause-wanted : goal.returns-then-same-told-clause-wanted
+returns-then-same-told-clause-wanted c =
+    let w = c.args.workload.now in
+    let rows = c.as_slice-rows.ensures in
+    let all = subst (AllHaveRows w) rows c.in_default.ensures in
+    let left = c.in_ok-left.ensures ∙ ap (nonzero 0) (c.deref.ensures.value ∙ c.in_ok-values.ensures) in
+    let told = c.as_slice-told.ensures in
+    let two = c.as_slice-then-same-told.ensures ∙ sym c.as_slice.ensures in
+    let x = c.wanted_word in
+    wants-no w c.args.report.now c.no-then-same-told.result.verdict c.no-then-same-told.result.wanted (length c.as_slice-rows.result.now + 2 + c.alike-same.result) x.result c.no-then-same-told.ensures.verdict c.no-then-same-told.ensures.wanted
+    (behind-word w c.args.report.now (openings c.args.standing.now.ledger) c.as_slice.result.now c.alike-same.result x.result c.requires.right all (c.as_slice.ensures ∙ left)
+    (c.alike-same.ensures.alike ∙ ap (λ t. alike t c.as_slice.result.now) told) c.alike-same.ensures.left
+    (subst (λ (l : List (ℕ × ℕ)). c.alike-same.result < length l → x.result ≡ word_of (get_or l c.alike-same.result (0, 0))) two x.ensures.word)
+    (subst (λ (l : List (ℕ × ℕ)). length l ≤ c.alike-same.result → x.result ≡ wants.End) two x.ensures.end)
+    (inl (subst (λ (l : List (ℕ × ℕ)). c.alike-same.result < length l) told c.if-same-told.true)))
+
+pub returns-then-same-as_slice-clause-wanted : goal.returns-then-same-as_slice-clause-wanted
+returns-then-same-as_slice-clause-wanted c =
+    let w = c.args.workload.now in
+    let rows = c.as_slice-rows.ensures in
+    let all = subst (AllHaveRows w) rows c.in_default.ensures in
+    let left = c.in_ok-left.ensures ∙ ap (nonzero 0) (c.deref.ensures.value ∙ c.in_ok-values.ensures) in
+    let told = c.as_slice-told.ensures in
+    let two = c.as_slice-then-same-as_slice.ensures ∙ sym c.as_slice.ensures in
+    let other = c.as_slice-2.ensures ∙ sym c.as_slice.ensures in
+    let x = c.wanted_word-then-same-as_slice in
+    wants-no w c.args.report.now c.no-then-same-as_slice.result.verdict c.no-then-same-as_slice.result.wanted (length c.as_slice-rows.result.now + 2 + c.alike-same.result) x.result c.no-then-same-as_slice.ensures.verdict c.no-then-same-as_slice.ensures.wanted
+    (behind-word w c.args.report.now (openings c.args.standing.now.ledger) c.as_slice.result.now c.alike-same.result x.result c.requires.right all (c.as_slice.ensures ∙ left)
+    (c.alike-same.ensures.alike ∙ ap (λ t. alike t c.as_slice.result.now) told) c.alike-same.ensures.left
+    (subst (λ (l : List (ℕ × ℕ)). c.alike-same.result < length l → x.result ≡ word_of (get_or l c.alike-same.result (0, 0))) two x.ensures.word)
+    (subst (λ (l : List (ℕ × ℕ)). length l ≤ c.alike-same.result → x.result ≡ wants.End) two x.ensures.end)
+    (inr (subst (λ (l : List (ℕ × ℕ)). c.alike-same.result < length l) other c.if-same-as_slice.true)))
+
+pub returns-clause-verdict : goal.returns-clause-verdict
+returns-clause-verdict c =
     let w = c.args.workload.now in
     let rows = c.as_slice-rows.ensures in
     let left = c.in_ok-left.ensures ∙ ap (nonzero 0) (c.deref.ensures.value ∙ c.in_ok-values.ensures) in
-    let all = subst (AllHaveRows w) rows (c.all_have_rows.ensures.0 c.if-not-all_have_rows.false) in
+    let all = subst (AllHaveRows w) rows c.in_default.ensures in
     let two = c.as_slice-2.ensures ∙ sym c.as_slice.ensures in
     let no-shorter : length c.as_slice.result.now ≤ c.alike-same.result = subst (λ (l : List (ℕ × ℕ)). length l ≤ c.alike-same.result) two c.if-same-as_slice.false in
     let e = c.alike-same.ensures.alike in
