@@ -13,7 +13,7 @@ pub loop-init : goal.loop-init
 loop-init g c =
     let stm = c.args.stm.now in
     let grew = (carries-refl (known c.args.desc.now)).grows in
-    let runs : (k : ℕ) × HaveRun (g.K.MemRule.good stm.rule) stm.config (number c.args.desc.now) k (known c.args.desc.now) (known c.args.desc.now) c.args.pace.now.tally c.args.pace.now.tally = (0, refl, refl) in
+    let runs : (k : ℕ) × HaveRun (g.K.MemRule.good stm.rule) stm.config (number c.args.desc.now) k (known c.args.desc.now) (known c.args.desc.now) c.args.pace.now.tally c.args.pace.now.tally = (0, (refl, refl)) in
     search (rules, grew, runs)
 
 pub loop-preserved : goal.loop-preserved
