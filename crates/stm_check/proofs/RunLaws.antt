@@ -2,7 +2,7 @@
 use Rattle.std.proofs.Common.{ℕ, ◌≡◌, List, [], ◌++◌, refl, sym, ap, ◌∙◌, length, subst}
 use Rattle.std.specs.Prelude.{not, ◌||◌}
 use Rattle.stm_model.specs.declared.plain.PlainWord.{PlainWord}
-use Rattle.stm_model.specs.Memories.{overlay, is_empty, Explains}
+use Rattle.stm_model.specs.Memories.{AreWords, overlay, is_empty, Explains}
 use Rattle.stm_model.specs.Logs.{SameMemories}
 use Rattle.stm_model.specs.Plains.{openings, own_writes, plain_log, reads_from}
 use Rattle.stm_model.specs.PlainLaws.{plain-explained, openings-length}
@@ -39,13 +39,13 @@ by-kind regions C ops m now after can r e w l =
     }
 
 pub gave-row : (regions : List Region) (kind : Kind) (ops : List Op) (old now : List PlainWord) (before after : Output) → CanEnd kind ops → own_writes old ≡ [] → before.replies ≡ [] → before.emits ≡ []
-    → SameMemories (λ m. m ≡ openings old) (λ m. m ≡ openings now)
+    → SameMemories (λ m. m ≡ openings old) (λ m. m ≡ openings now) → AreWords (openings now)
     → GaveOver (λ m. m ≡ openings old) (length old) (ran_to_end regions kind ops) (plain_log old) before (plain_log now) after
     → GaveRow regions kind ops (openings old) now after
-gave-row regions kind ops old now before after can settled none-r none-e same over =
+gave-row regions kind ops old now before after can settled none-r none-e same small over =
     let m = openings old in
     let same' : openings old ≡ openings now = (same m).0 refl in
-    let ex : Explains m (reads_from 0 now) = subst (λ k. Explains k (reads_from 0 now)) (sym same') (explained now) in
+    let ex : Explains m (reads_from 0 now) = subst (λ k. Explains k (reads_from 0 now)) (sym same') (explained now small) in
     let g = over m refl (openings-length old) ex in
     let under : overlay m (own_writes old) ≡ m = ap (overlay m) settled in
     by-kind regions kind ops m now after can
@@ -54,12 +54,12 @@ gave-row regions kind ops old now before after can settled none-r none-e same ov
     (g.wrote ∙ (ap (λ w. not (is_empty w) || (ran_to_end regions kind ops (overlay m (own_writes old))).wrote) settled ∙ ap (λ k. (ran_to_end regions kind ops k).wrote) under))
     (g.left ∙ ap (λ k. (ran_to_end regions kind ops k).memory) under)
   where
-    explained : (now : List PlainWord) → Explains (openings now) (reads_from 0 now)
-    explained now = let x = plain-explained now in subst (λ k. Explains k (reads_from 0 now)) x.1 x.3
+    explained : (now : List PlainWord) → AreWords (openings now) → Explains (openings now) (reads_from 0 now)
+    explained now small = let x = plain-explained now small in subst (λ k. Explains k (reads_from 0 now)) x.1 x.3
 
 -- the regions are well formed on what is left
-pub well-left : (regions : List Region) (kind : Kind) (old now : List PlainWord) → openings old ≡ openings now → AllWellFormed regions (openings old)
+pub well-left : (regions : List Region) (kind : Kind) (old now : List PlainWord) → openings old ≡ openings now → AreWords (openings now) → AllWellFormed regions (openings old)
     → Under (λ m. m ≡ openings now) (length now) (plain_log now) (AllWellFormed regions) → AllWellFormed regions (left_by kind (openings now) (own_writes now))
-well-left regions W old now same well under = let x = plain-explained now in subst (λ k. AllWellFormed regions (overlay k (own_writes now))) x.1 (under x.0 x.1 x.2 x.3)
-well-left regions R old now same well under = let x = plain-explained now in subst (λ k. AllWellFormed regions (overlay k (own_writes now))) x.1 (under x.0 x.1 x.2 x.3)
-well-left regions C old now same well under = subst (AllWellFormed regions) same well
+well-left regions W old now same small well under = let x = plain-explained now small in subst (λ k. AllWellFormed regions (overlay k (own_writes now))) x.1 (under x.0 x.1 x.2 x.3)
+well-left regions R old now same small well under = let x = plain-explained now small in subst (λ k. AllWellFormed regions (overlay k (own_writes now))) x.1 (under x.0 x.1 x.2 x.3)
+well-left regions C old now same small well under = subst (AllWellFormed regions) same well

@@ -1,6 +1,6 @@
 //! A memory on which one caller runs many transactions, one after the other.
 ghost use Rattle.std.specs.Prelude.{◌≡◌, ◌<◌, [], not, replicate, length, None, Some, IfOk, IfErr};
-ghost use Rattle.stm_model.specs.Memories.{overlay, is_empty};
+ghost use Rattle.stm_model.specs.Memories.{AreWords, overlay, is_empty};
 ghost use Rattle.stm_model.specs.Plains.{openings, own_writes};
 ghost use Rattle.stm_check.specs.Ledgers.{zero_word};
 
@@ -49,6 +49,13 @@ impl Ledger {
         let touched = Vec::with_capacity(alloc, words)?;
         let words = vec![in alloc; zero; words]?;
         Ok(Ledger { words, touched })
+    }
+
+    /// Its opening values are words of the machine.
+    pub fn has_words(&self)
+        ensures { AreWords (openings self.now) }
+    {
+        let _words = self.words.len();
     }
 
     /// Whether a word is written.

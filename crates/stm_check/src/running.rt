@@ -105,6 +105,7 @@ fn run(
     ensures wrote { IfOk result (λ r. r.wrote ≡ (run_row regions.now kind script.now (openings ledger.old)).wrote) }
     ensures after { OnOk result (IsBehind regions.now script.now kind ledger.old ledger.new) }
 {
+    ledger.has_words();
     let mut out = Replies::new(alloc, script.as_slice().len())?;
     match interpret(ledger, regions, script, kind, &mut out) {
         Ok(()) => {}
