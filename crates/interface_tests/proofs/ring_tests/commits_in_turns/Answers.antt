@@ -19,7 +19,7 @@ turn-requires-clause-wrote c =
       attempt = has-attempt any stm a c.requires.running c.requires.algorithm;
       revocable = ap is_irrevocable (sym a.knows) ∙ c.requires.revocable;
       wrote = ap wrote (sym a.knows) ∙ c.requires.wrote;
-      keeps = λ some m fine long ex. tt;
+      keeps = λ some m fine long ex small. tt;
     }
 
 pub invariant_of-first : goal.invariant_of-first
