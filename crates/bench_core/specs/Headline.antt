@@ -16,7 +16,7 @@
 --                                                                                           stm_driver, Runs.antt
 --
 -- What every attempt reads, aborted ones too, and that an irrevocable one ends committed, is said of the calls that `run` makes (stm_tx): MODEL and PROMISES name those clauses.
-use Rattle.std.specs.Prelude.{ℕ, ◌≡◌, length, List, Option, Some, Ok}
+use Rattle.std.specs.Prelude.{ℕ, ◌≡◌, true, length, List, Option, Some, Ok}
 use Rattle.std.specs.Borrow.{Bor}
 use Rattle.stm_profile.specs.declared.policy.Policy.{Policy}
 use Rattle.stm_profile.specs.Policies.{ruling}
