@@ -2,8 +2,8 @@ use Rattle.std.proofs.Common.{◌∙◌, refl, arith}
 use Rattle.nekchhaul.specs.CallerLaws.{worked-refl, worked-trans}
 use Rattle.example_mail.proofs.clerks.receive_all.Goals as goal
 
-pub returns-in_default-clause-worked : goal.returns-in_default-clause-worked
-returns-in_default-clause-worked g c = worked-refl c.args.caller.now.desc c.args.caller.now.idle
+pub returns-in_default : goal.returns-in_default
+returns-in_default g c = record { worked = worked-refl c.args.caller.now.desc c.args.caller.now.idle }
 
 pub loop-init : goal.loop-init
 loop-init g c = record {
@@ -21,5 +21,5 @@ loop-preserved g c = record {
   capacity = let was = c.loop.invariant.capacity in let same = c.push_reserved.ensures.capacity in omega (arith, was, same);
 }
 
-pub returns-in-None-clause-worked : goal.returns-in-None-clause-worked
-returns-in-None-clause-worked g c = worked-trans c.args.caller.now.desc c.loop.caller.desc c.receive.new.caller.desc c.loop.invariant.worked c.receive.ensures.worked.through c.receive.ensures.worked.grew
+pub returns-in-None : goal.returns-in-None
+returns-in-None g c = record { worked = worked-trans c.args.caller.now.desc c.loop.caller.desc c.receive.new.caller.desc c.loop.invariant.worked c.receive.ensures.worked.through c.receive.ensures.worked.grew }
