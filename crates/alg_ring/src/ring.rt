@@ -83,6 +83,7 @@ impl Algorithm for RingSw {
 
     /// Where the attempt wrote, it takes the lock and commits; `Again` comes where another caller has it. `turn` and
     /// `finish` are its two parts. One step where it wrote nothing, two where it holds the gate.
+    #[inline(always)]
     fn commit<K: MemRule>(desc: &mut Desc<K>, stm: &Stm<K>) -> Commit {
         if desc.local.granted {
             return direct_commit(desc, stm);
@@ -176,6 +177,7 @@ fn load_new<K: MemRule>(
 }
 
 /// Commits what the attempt wrote. The steps of `turn`, and where it has its turn those of `finish`.
+#[inline(always)]
 fn commit_writes<K: MemRule>(
     seat: &mut Token<K>,
     local: &mut Local,
@@ -224,6 +226,7 @@ pub fn turn<K: MemRule>(
 
 /// The second part of a commit, of an attempt that has its turn: all that follows the lock. The steps of a check, and
 /// 22, and one for each item of the write log.
+#[inline(never)]
 pub fn finish<K: MemRule>(
     seat: &mut Token<K>,
     local: &mut Local,
