@@ -187,6 +187,17 @@ module _ (good : List ℕ → Type 0) (c : Config) (start : ℕ) (filter : List 
       λ taken early ticked. sym e ∙ t.1.ticked taken ticked,
     )
 
+    pub may-scan : clock ≢ start → CanScan start clock filter w
+    may-scan d = subst (CanScan start clock filter) (sym (look-path clock w false (other-start d) t)) (record {
+      has = record { runs = record { phase = can.has.runs.phase; algorithm = can.has.runs.algorithm; plain = can.has.runs.plain }; inside = can.has.inside };
+      checking = refl;
+      unsure = refl;
+      start_is = can.start_is;
+      clock_is = refl;
+      later = (let l = t.1.looks.later in let e = can.start_is in omega arith);
+      watched = can.watched;
+    })
+
     pub check-fails : (cause : Cause) (u : View) → clock ≢ start → Scans c start clock (Err cause) filter w u → Checks good c (Err cause) filter v u
     check-fails cause u d s = fails-at t.0 clock cause w u can.start_is can.sole d t.1 (look-path clock w false (other-start d) t) s
 

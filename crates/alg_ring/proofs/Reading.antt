@@ -25,7 +25,7 @@ use Rattle.rule_ring.specs.RingSteps.{ring_load}
 use Rattle.rule_ring.specs.SlotFilter.{slot_filter}
 use Rattle.tx_logs.specs.Filters.{address_word}
 use Rattle.stm_rule.specs.declared.local.Local.{Local}
-use Rattle.stm_rule.specs.Attempts.{Keeps, IsInside, IsOutside, ended}
+use Rattle.stm_rule.specs.Attempts.{Keeps, IsFenceOf, IsInside, IsOutside, ended}
 use Rattle.stm_rule.specs.RecordsKept.{cells_of}
 use Rattle.stm_rule.specs.RingKept.{IsRing}
 use Rattle.tx_answers.specs.declared.answers.Read.TheVariants.{Value, Conflict}
@@ -34,14 +34,14 @@ use Rattle.tx_answers.specs.Causes.{Conflicts, has_item, reads_full}
 use Rattle.tx_answers.specs.Causes.Asked.{ForWord}
 use Rattle.tx_answers.specs.Known.{Grows, known_of, written_under, is_irrevocable, is_in, is_closing}
 use Rattle.stm_gate.specs.KeptLaws.{kept-same}
-use Rattle.stm_gate.specs.Leaving.{left, last_steps}
+use Rattle.stm_gate.specs.Leaving.{CanLeave, left, last_steps}
 use Rattle.stm_gate.specs.LeavingLaws.{quits-left}
 use Rattle.stm_gate.specs.Logging.{log_of, reads-logged}
 use Rattle.stm_gate.specs.Opacity.{opaque-at, later-seen}
 use Rattle.alg_ring.specs.Calls.{LoadsNew}
 use Rattle.alg_ring.specs.Checking.{CanCheck, Checks, Passes, passed_at, Fails}
 use Rattle.alg_ring.proofs.Buffering.{untouched-items}
-use Rattle.alg_ring.proofs.Ending.{revocable}
+use Rattle.alg_ring.proofs.Ending.{revocable, may-leave}
 use Rattle.alg_ring.proofs.FilterWords.{filter-put, slot-more}
 use Rattle.alg_ring.proofs.Refuting.{FindsAll, finds-between, refuted}
 use Rattle.alg_ring.proofs.Seen.{upto-upto}
@@ -193,6 +193,18 @@ module _ (good : List ℕ → Type 0) (c : Config) (n a : ℕ) (l : Local) (v : 
 
       abbrev failed : View
       failed = record v { ring_read = q.read; steps = record v.steps { trail = q.more ++ item ∷ v.steps.trail } }
+
+      -- nothing that stands against its end
+      abbrev pub MayEnd : View → Type 0
+      MayEnd z = CanLeave z × (l.holds ≡ z.gate.holds) × IsFenceOf (record l { loaded = filter }) z × (l.algorithm ≡ z.gate.algorithm)
+
+      pub may-end : l.holds ≡ v.gate.holds → MayEnd w
+      may-end holds = subst MayEnd (sym q.is) (
+        let m = may-leave good c n l v i named k in record { phase = m.phase; unlocked = m.unlocked; unfixed = m.unfixed; disowned = m.disowned; unwritten = m.unwritten; uncommitted = m.uncommitted; ungranted = m.ungranted; plain = m.plain; unstored = m.unstored; marked = m.marked },
+        holds,
+        record { is = i.spared.is; fits = i.spared.fits },
+        sym i.named,
+      )
 
       module _ (o : Own) where
         quits : Quits (known_of v o) (known_of (left n failed) o)

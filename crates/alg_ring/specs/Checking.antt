@@ -14,11 +14,13 @@ use Rattle.rule_base.specs.declared.views.View.{View}
 use Rattle.rule_base.specs.Bridge.{of_words}
 use Rattle.rule_base.specs.GateSteps.{granted_at}
 use Rattle.rule_base.specs.History.{upto, word_now, Explains}
+use Rattle.rule_base.specs.StepKinds.{Tells}
 use Rattle.rule_base.specs.World.{World}
 use Rattle.rule_promoted.specs.PromotedSteps.{CanRingGrant}
-use Rattle.rule_ring.specs.RingSteps.{HasRing, AllClear, CanRingMove, RingSees, read_in}
+use Rattle.rule_ring.specs.RingSteps.{HasRing, AllClear, CanRingMove, RingSees, read_in, ring_look}
 use Rattle.rule_ring.specs.SlotFilter.{slot_filter}
 use Rattle.rule_ring.specs.Slots.{slot_place, has_word, loaded_word}
+use Rattle.steps_ring.specs.RingFindings.{FindsLook}
 use Rattle.tx_logs.specs.Filters.{meets, lowest_common}
 use Rattle.tx_answers.specs.SlotEvidence.{InTrail, FirstMet, clock_load}
 
@@ -184,6 +186,10 @@ module _ (good : List ℕ → Type 0) (c : Config) where
   abbrev pub Checks : Result ℕ Cause → List ℕ → View → View → Type 0
   Checks (Ok start) filter v w = Passes v.gate start v w × (v.lock.taken ≡ true → v.ring_commit.committed ≡ false → v.ring_commit.ticked ≡ true → start ≡ v.ring_commit.clock)
   Checks (Err cause) filter v w = Fails cause filter v w
+
+  -- what `catch_up` tells: a check that loaded this clock and goes on comes to this
+  abbrev pub ChecksOn : ℕ → ℕ → Result ℕ Cause → List ℕ → View → View → Type 0
+  ChecksOn start clock answer filter v w = (before : View) → CanCheck c start filter before → Tells ring_look (FindsLook (of_words good c.words) c) before clock v → Checks answer filter before w
 
   -- what `check_to_grant` tells
   abbrev pub ChecksToGrant : Result ℕ Cause → List ℕ → View → View → Type 0

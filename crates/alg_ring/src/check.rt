@@ -1,7 +1,7 @@
 //! The check: whether an entry since the start wrote what the attempt read.
-ghost use Rattle.std.specs.Prelude.{◌≡◌, ℕ, ◌<◌, ◌+◌, ◌-◌, ◌*◌, max, min};
+ghost use Rattle.std.specs.Prelude.{◌≡◌, ◌≢◌, ℕ, ◌<◌, ◌+◌, ◌-◌, ◌*◌, max, min};
 ghost use Rattle.stm_rule.specs.Counting.{TakesAtMost};
-ghost use Rattle.alg_ring.specs.Checking.{CanScan, CanLoadSlot, LoadsPart, MeetsSlot, MeetsOne, Scans, Checks, CanCheck, ChecksToGrant, CanCheckToGrant};
+ghost use Rattle.alg_ring.specs.Checking.{CanScan, CanLoadSlot, LoadsPart, MeetsSlot, MeetsOne, Scans, Checks, ChecksOn, CanCheck, ChecksToGrant, CanCheckToGrant};
 ghost use Rattle.stm_rule.specs.Callers.{IsSeatOf};
 ghost use Rattle.stm_rule.specs.Kept.{IsSameSeat, view_of};
 
@@ -32,6 +32,27 @@ pub(crate) fn check<K: MemRule>(
     if clock == start {
         return Ok(start);
     }
+    catch_up(seat, stm, caller, start, clock, filter)
+}
+
+/// The rest of a check that found the clock elsewhere than the start. It stands in line, and apart from what comes before
+/// it, so that a check that passes at once makes no room for the answer of a scan.
+#[inline(always)]
+pub(crate) fn catch_up<K: MemRule>(
+    seat: &mut Token<K>,
+    stm: &Stm<K>,
+    caller: usize,
+    start: u64,
+    clock: u64,
+    filter: &Filter,
+) -> Result<u64, Cause>
+    requires seat { IsSeatOf stm.now caller seat.old }
+    requires apart { clock ≢ start }
+    requires view { CanScan start clock filter.now (view_of seat.old) }
+    ensures same { IsSameSeat seat.old seat.new × (seat.new.me.0 ≡ record seat.old.me.0 { view = view_of seat.new }) }
+    ensures checks { ChecksOn (K.good stm.now.rule) stm.now.config start clock result filter.now (view_of seat.old) (view_of seat.new) }
+    ensures steps { TakesAtMost (2 + 16 * (stm.now.config.ring - 1)) (view_of seat.old) (view_of seat.new) }
+{
     match scan(seat, stm, caller, start, clock, filter) {
         Err(cause) => Err(cause),
         Ok(()) => {

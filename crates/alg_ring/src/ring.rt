@@ -21,7 +21,7 @@ ghost use Rattle.rule_base.specs.Encodings.{fenced};
 ghost use Rattle.stm_gate.specs.Knowing.{known, number};
 ghost use Rattle.alg_ring.specs.Calls.{LoadsNew, HasWrites, StandsTold, Turns, CanFinish, Finishes, Decides, CanEnter, Enters, CanWriteBack, WritesBack, Stores};
 
-use crate::check::{check, check_to_grant};
+use crate::check::{catch_up, check, check_to_grant};
 use crate::nesting::filter_of;
 use alg_calls::algorithm::Algorithm;
 use rule_base::layout::SLOT_WORDS;
@@ -62,7 +62,7 @@ impl Algorithm for RingSw {
         if let Some(x) = desc.local.writes.find(a) {
             return Read::Value(x);
         }
-        load_new(&mut desc.seat, &mut desc.local, stm, desc.number, a)
+        load_new(&mut desc.seat, &mut desc.local, stm, &desc.number, a)
     }
 
     /// Adds the write to the write log. No step; a full log ends the attempt, which takes one, two where it holds the
@@ -83,6 +83,7 @@ impl Algorithm for RingSw {
 
     /// Where the attempt wrote, it takes the lock and commits; `Again` comes where another caller has it. `turn` and
     /// `finish` are its two parts. One step where it wrote nothing, two where it holds the gate.
+    #[inline(always)]
     fn commit<K: MemRule>(desc: &mut Desc<K>, stm: &Stm<K>) -> Commit {
         if desc.local.granted {
             return direct_commit(desc, stm);
@@ -136,41 +137,47 @@ impl Algorithm for RingSw {
     }
 }
 
-/// Loads a word that the attempt has not written, and checks. A conflict has ended the attempt.
+/// Loads a word that the attempt has not written, and checks. A conflict has ended the attempt. Who the caller
+/// is stands behind a reference, so that no read loads it before its check goes on.
 #[inline(always)]
 fn load_new<K: MemRule>(
     seat: &mut Token<K>,
     local: &mut Local,
     stm: &Stm<K>,
-    caller: usize,
+    caller: &usize,
     a: usize,
 ) -> Read
-    requires seat { IsSeatOf stm.now caller seat.old }
-    requires caller { caller < stm.now.config.callers }
-    requires attempt { IsInside (K.good stm.now.rule) stm.now.config caller local.old (view_of seat.old) }
+    requires seat { IsSeatOf stm.now caller.now seat.old }
+    requires caller { caller.now < stm.now.config.callers }
+    requires attempt { IsInside (K.good stm.now.rule) stm.now.config caller.now local.old (view_of seat.old) }
     requires ring { (local.old.algorithm ≡ Alg.RingSw) × (local.old.granted ≡ false) × (local.old.holds ≡ (view_of seat.old).gate.holds) }
     requires inside { a < stm.now.config.words }
     requires spared { fenced (view_of seat.old).gate.fence a ≡ false }
     requires fresh { item_at a local.old.writes.items ≡ None }
     ensures same { IsSameSeat seat.old seat.new × (seat.new.me.0 ≡ record seat.old.me.0 { view = view_of seat.new }) }
-    ensures loads { LoadsNew (K.good stm.now.rule) stm.now.config caller a result local.old (view_of seat.old) local.new (view_of seat.new) }
+    ensures loads { LoadsNew (K.good stm.now.rule) stm.now.config caller.now a result local.old (view_of seat.old) local.new (view_of seat.new) }
     ensures steps { TakesAtMost (6 + 16 * (stm.now.config.ring - 1)) (view_of seat.old) (view_of seat.new) }
 {
-    let x = loads::load(stm, seat, caller, a);
+    let x = loads::load(stm, seat, *caller, a);
     local.loaded.add(a);
-    match check(seat, stm, caller, local.start, &local.loaded) {
+    let clock = loads::look(stm, seat, *caller);
+    if clock == local.start {
+        return Read::Value(x);
+    }
+    match catch_up(seat, stm, *caller, local.start, clock, &local.loaded) {
         Ok(start) => {
             local.start = start;
             Read::Value(x)
         }
         Err(cause) => {
-            leave(seat, local, stm, caller);
+            leave(seat, local, stm, *caller);
             Read::Conflict(cause)
         }
     }
 }
 
 /// Commits what the attempt wrote. The steps of `turn`, and where it has its turn those of `finish`.
+#[inline(always)]
 fn commit_writes<K: MemRule>(
     seat: &mut Token<K>,
     local: &mut Local,
@@ -219,6 +226,7 @@ pub fn turn<K: MemRule>(
 
 /// The second part of a commit, of an attempt that has its turn: all that follows the lock. The steps of a check, and
 /// 22, and one for each item of the write log.
+#[inline(never)]
 pub fn finish<K: MemRule>(
     seat: &mut Token<K>,
     local: &mut Local,

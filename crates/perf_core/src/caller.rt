@@ -6,7 +6,7 @@ ghost use Rattle.stm_tx.specs.Descs.{known};
 ghost use Rattle.perf_core.specs.Places.{FitsPlace};
 
 use crate::conflicts::Conflicts;
-use crate::drawing::draw;
+use crate::drawing::{Bank, Count, Draw, Hash, List, Sum};
 use crate::looks::Looks;
 use crate::outcome::Outcome;
 use crate::place::Place;
@@ -80,7 +80,7 @@ impl Caller {
         }
     }
 
-    /// Commits its share of transactions. It ends early where the clock was found at its limit.
+    /// Commits its share of transactions of a workload.
     fn commit<R: Wait>(&mut self, rt: &R, stm: &Stm<Place>, workload: Workload)
         requires stm { IsOf self.old.desc stm.now }
         requires idle { IsIdle (known self.old.desc) }
@@ -88,8 +88,25 @@ impl Caller {
         ensures same { IsSameCaller self.old.desc self.new.desc }
         ensures idle { IsIdle (known self.new.desc) }
     {
+        match workload {
+            Workload::Bank => self.commit_drawn::<R, Bank>(rt, stm),
+            Workload::Hash => self.commit_drawn::<R, Hash>(rt, stm),
+            Workload::List => self.commit_drawn::<R, List>(rt, stm),
+            Workload::Count => self.commit_drawn::<R, Count>(rt, stm),
+            Workload::Sum => self.commit_drawn::<R, Sum>(rt, stm),
+        }
+    }
+
+    /// Commits its share of transactions, drawn so. It ends early where the clock was found at its limit.
+    fn commit_drawn<R: Wait, D: Draw>(&mut self, rt: &R, stm: &Stm<Place>)
+        requires stm { IsOf self.old.desc stm.now }
+        requires idle { IsIdle (known self.old.desc) }
+        requires place { FitsPlace stm.now }
+        ensures same { IsSameCaller self.old.desc self.new.desc }
+        ensures idle { IsIdle (known self.new.desc) }
+    {
         for _ in 0..self.share {
-            let job = draw(&mut self.draws, workload);
+            let job = D::draw(&mut self.draws);
             match atomically(rt, &mut self.desc, stm, &mut self.pace, &job) {
                 Some(came) => self.outcome.note(came),
                 None => return,

@@ -1,32 +1,79 @@
-//! Transactions drawn by chance.
+//! Transactions drawn by chance, by the workload. Code that is generic in that asks once what is to be drawn, and not for each
+//! transaction.
 ghost use Rattle.std.specs.Prelude.{◌<◌};
 ghost use Rattle.perf_core.specs.Jobs.{JobFits};
 
 use crate::jobs::Job;
-use crate::plan::{ACCOUNTS, KEYS, Workload};
+use crate::plan::{ACCOUNTS, KEYS};
 use rand_core::utils::NextWord;
 use rand_pcg::Pcg32;
 
-/// The next transaction of a workload.
-pub fn draw(draws: &mut Pcg32, workload: Workload) -> Job
-    ensures { JobFits ACCOUNTS result }
-{
-    let word = draws.next_word();
-    match workload {
-        Workload::Bank => {
-            if word % 256 == 0 {
-                return sum_of_all();
-            }
-            Job::Move {
-                from: account(draws),
-                to: account(draws),
-                amount: draws.next_word() % 100,
-            }
+/// How the transactions of a workload are drawn.
+pub trait Draw {
+    /// The next transaction.
+    fn draw(draws: &mut Pcg32) -> Job
+        ensures { JobFits ACCOUNTS result };
+}
+
+/// Moves between two accounts, and once in 256 the sum of all.
+pub struct Bank;
+
+/// Lookups, insertions and removals in a hash set.
+pub struct Hash;
+
+/// The same in a sorted list.
+pub struct List;
+
+/// Each adds to one word.
+pub struct Count;
+
+/// Each is the sum of all accounts.
+pub struct Sum;
+
+impl Draw for Bank {
+    #[inline]
+    fn draw(draws: &mut Pcg32) -> Job {
+        if draws.next_word() % 256 == 0 {
+            return sum_of_all();
         }
-        Workload::Hash => on_set(draws, word % 100, 5),
-        Workload::List => on_set(draws, word % 100, 10),
-        Workload::Count => Job::Add { account: 0 },
-        Workload::Sum => sum_of_all(),
+        Job::Move {
+            from: account(draws),
+            to: account(draws),
+            amount: draws.next_word() % 100,
+        }
+    }
+}
+
+impl Draw for Hash {
+    #[inline]
+    fn draw(draws: &mut Pcg32) -> Job {
+        let number = draws.next_word() % 100;
+        on_set(draws, number, 5)
+    }
+}
+
+impl Draw for List {
+    #[inline]
+    fn draw(draws: &mut Pcg32) -> Job {
+        let number = draws.next_word() % 100;
+        on_set(draws, number, 10)
+    }
+}
+
+impl Draw for Count {
+    #[inline]
+    fn draw(draws: &mut Pcg32) -> Job {
+        // a number is drawn for it as for each other
+        let _ = draws.next_word();
+        Job::Add { account: 0 }
+    }
+}
+
+impl Draw for Sum {
+    #[inline]
+    fn draw(draws: &mut Pcg32) -> Job {
+        let _ = draws.next_word();
+        sum_of_all()
     }
 }
 

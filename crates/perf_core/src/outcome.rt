@@ -21,8 +21,17 @@ impl Outcome {
         }
     }
 
-    /// Counts a transaction that committed.
+    /// Counts a transaction that committed. Most come to nothing that is counted.
+    #[inline]
     pub fn note(&mut self, came: Came) {
+        if came != Came::Done {
+            self.count(came);
+        }
+    }
+
+    #[cold]
+    #[inline(never)]
+    fn count(&mut self, came: Came) {
         match came {
             Came::Done => {}
             Came::Inserted => self.inserted = self.inserted.saturating_add(1),

@@ -1,5 +1,5 @@
 -- Laws of what came of attempts.
-use Rattle.std.proofs.Common.{ℕ, zero, suc, ◌≡◌, ◌≢◌, ◌<◌, ◌≤◌, ◌+◌, ◌∙◌, List, [], ◌∷◌, ◌++◌, Bool, true, false, refl, sym, ap, subst, arith, inl, inr, append_assoc}
+use Rattle.std.proofs.Common.{ℕ, zero, suc, ◌≡◌, ◌≢◌, ◌<◌, ◌+◌, ◌∙◌, List, [], ◌∷◌, ◌++◌, Bool, true, false, refl, sym, ap, subst, arith, inl, inr, append_assoc}
 use Rattle.std.specs.Prelude.{◌⊎◌, ◌&&◌, ◌||◌, if◌then◌else◌, leb, min, Option, Some, None, Ok, Err, OnErr, MatchResult}
 use Rattle.std.specs.declared.result.Result.{Result}
 use Rattle.std.proofs.lemmas.Bool.Decides.{nat_tests}
@@ -9,7 +9,6 @@ use Rattle.stm_model.specs.declared.stop.Stop.{Stop}
 use Rattle.stm_model.specs.declared.stop.Stop.TheVariants as stops
 use Rattle.rule_base.specs.declared.layout.At.{At}
 use Rattle.rule_base.specs.declared.layout.At.TheVariants.{Clock}
-use Rattle.rule_base.specs.declared.views.TrailItem.{TrailItem}
 use Rattle.stm_model.specs.declared.alg.Alg.{Alg}
 use Rattle.tx_answers.specs.declared.answers.Begin.{Begin}
 use Rattle.tx_answers.specs.declared.answers.Begin.TheVariants as begins
@@ -29,7 +28,7 @@ use Rattle.tx_atomic.specs.declared.tally.Tally.{Tally}
 use Rattle.tx_atomic.specs.Attempts.{ended_by}
 use Rattle.tx_atomic.specs.AttemptLaws.{irrevs-grow, commits-grow}
 use Rattle.tx_atomic.specs.Tallies.{failed_next, noted, noted_times, with_promotion}
-use Rattle.tx_atomic.specs.Tries.{Try, EndsBegin, EndsPromotion, EndsAccess, EndsCommit, EndsRun, FinishesBy, IsGranted, FindsBusy, FindsAgain, HasBegun, WasUnbegun, WasUngranted, HasRun, WasTried, WereTried, AllFailed, Tried, Ran, RanAgain, HaveRun, Failing, Opens, Asks, IsStopped, Finishes, Runs, has_committed, counted_all, counted, counted_end, waited, ran_full, was_crossed, any_full, crossed, is_due}
+use Rattle.tx_atomic.specs.Tries.{Try, EndsBegin, EndsPromotion, EndsAccess, EndsCommit, EndsRun, FinishesBy, IsGranted, FindsBusy, FindsAgain, HasBegun, WasTried, Tried, Ran, RanAgain, HaveRun, Failing, Opens, Asks, IsStopped, Finishes, Runs, has_committed, counted_end, waited, ran_full, was_crossed, any_full, crossed}
 
 pub grows-refl : (v : Known) → Grows v v
 grows-refl v = (carries-refl v).grows

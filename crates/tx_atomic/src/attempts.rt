@@ -119,16 +119,17 @@ fn begin<K: MemRule, O: Observer>(
     }
 }
 
-/// Ends an attempt that has done nothing, whatever its algorithm. Kept out of line so the hot commit can be inlined.
+/// Ends an attempt that has done nothing, whatever its algorithm. Kept out of line so the hot commit can be inlined, and
+/// without an answer so that no attempt makes room for it.
 #[cold]
-fn turn_back<K: MemRule>(desc: &mut Desc<K>, stm: &Stm<K>) -> Commit
+fn turn_back<K: MemRule>(desc: &mut Desc<K>, stm: &Stm<K>)
     requires stm { IsOf desc.old stm.now }
     requires running { (known desc.old).running ≡ true }
     requires keeps { KeepsRule (K.good stm.now.rule) stm.now.config (number desc.old) (known desc.old) }
     ensures same { IsSameCaller desc.old desc.new }
-    ensures commits { Commits (K.good stm.now.rule) stm.now.config (number desc.old) result (known desc.old) (known desc.new) }
+    ensures commits { (answer : Commit) × Commits (K.good stm.now.rule) stm.now.config (number desc.old) answer (known desc.old) (known desc.new) }
 {
-    commit(desc, stm)
+    commit(desc, stm);
 }
 
 /// Asks to be irrevocable until that is granted, or the attempt is over. While another is in an attempt it waits

@@ -1,7 +1,7 @@
 use Rattle.stm_rule.specs.Callers.{IsSameCaller}
 use Rattle.tx_answers.specs.Known.{IsIdle}
 use Rattle.stm_tx.specs.Descs.{known}
-use Rattle.perf_core.proofs.caller.Caller.commit.Given as goal
+use Rattle.perf_core.proofs.caller.Caller.commit_drawn.Given as goal
 
 abbrev pub invariant-loop : goal.invariant-loop
 invariant-loop g l = IsSameCaller l.fn.self.desc l.self.desc × IsIdle (known l.self.desc)
