@@ -1,6 +1,5 @@
 -- What the marks of an attempt of OrecEager come to.
-use Rattle.std.proofs.Common.{ℕ, ◌≡◌, ◌<◌, ◌≤◌, ◌+◌, ◌-◌, List, [], ◌∷◌, ◌++◌, false, sym, ap, ◌∙◌}
-use Rattle.std.specs.Prelude.{not}
+use Rattle.std.proofs.Common.{ℕ, ◌≡◌, List, false, sym, ap, ◌∙◌}
 use Rattle.stm_model.specs.declared.alg.Alg.TheVariants.{OrecEager}
 use Rattle.stm_model.specs.declared.config.Config.{Config}
 use Rattle.rule_base.specs.declared.views.View.{View}

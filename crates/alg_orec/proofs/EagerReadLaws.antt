@@ -1,5 +1,5 @@
 -- What the parts of a read of OrecEager come to, and what they come to together.
-use Rattle.std.proofs.Common.{ℕ, ◌≡◌, ◌≢◌, ◌<◌, ◌≤◌, List, [], ◌∷◌, ◌++◌, length, Bool, true, false, refl, sym, ap, ◌∙◌, arith, subst, inl, inr, append_assoc}
+use Rattle.std.proofs.Common.{ℕ, ◌≡◌, ◌≢◌, ◌<◌, ◌≤◌, ◌*◌, List, [], ◌∷◌, ◌++◌, length, Bool, true, false, refl, sym, ap, ◌∙◌, arith, subst, inl, inr, append_assoc}
 use Rattle.std.specs.Prelude.{◌%◌, ◌⊎◌, ◌==◌, ◌&&◌, not, if◌then◌else◌, Some, None, Err, ◌||◌}
 use Rattle.std.proofs.lemmas.Bool.Decides.{nat_tests}
 use Rattle.std.proofs.lemmas.List.Elements.{Contains-append_left}
@@ -52,11 +52,12 @@ use Rattle.alg_orec.proofs.EagerProving.{ended-by, written}
 use Rattle.alg_orec.proofs.EagerTakingLaws as taking
 use Rattle.stm_gate.specs.KeptLaws.{kept-same}
 use Rattle.alg_orec.proofs.LoadLaws.{free-word, untouched-loads}
+use Rattle.tx_logs.specs.Probing.{IsPlace}
 use Rattle.alg_orec.proofs.RecordReads as records
 use Rattle.alg_orec.proofs.LockingLaws.{unheld-of}
 use Rattle.alg_orec.specs.EagerEnding.{CanTakeBack, TakesBack}
 use Rattle.alg_orec.specs.EagerReading.{IsNew, HasSample, IsSampled, IsLoaded, LoadsSampled, GoesOnReading, FindsFree, FindsMoved, Samples, Confirms}
-use Rattle.alg_orec.specs.Loading.{CanLoadValid, moved, sampled_at, MayMove, MovesOwed, HasSampled, HasLoaded}
+use Rattle.alg_orec.specs.Loading.{CanLoadValid, HasPlace, moved, sampled_at, MayMove, MovesOwed, HasSampled, HasLoaded}
 use Rattle.alg_orec.specs.Validating.{load_of}
 
 -- THE PARTS TOGETHER: a start that moved, and moved on
@@ -71,6 +72,10 @@ moves-on c at u v w low more t late s (inr e) (inl f) = let d = e.1 in inr (subs
 -- who reads under OrecEager doesn't raise the clock
 level-reads : {c : Config} {asked : Asked} → (v u : Known) → v.alg ≡ OrecEager → GoesOn c asked v u → u.rises ≡ v.rises
 level-reads v u eager a = let low = a.continues.rises.0 in let high = a.continues.rises.1 in let e : write_rise v.alg (is_irrevocable v) ≡ 0 = ap (λ (r : Alg). write_rise r (is_irrevocable v)) eager in omega arith
+
+-- a place in the read log stays while the log does
+pub same-place : {c : Config} {asked : Asked} (a place : ℕ) (v u : Known) → GoesOn c asked v u → u.log ≡ v.log → HasPlace a place v → HasPlace a place u
+same-place a place v u goes log is = subst (λ (m : ℕ). IsPlace (2 * m) u.log.reads a place) (sym goes.continues.grows.reads_limit) (subst (λ (g : Log). IsPlace (2 * v.reads_limit) g.reads a place) (sym log) is)
 
 -- an attempt of OrecEager that went on, with its log as it was
 module _ {c : Config} {at : ℕ} (v u : Known) (eager : v.alg ≡ OrecEager) (a : GoesOn c (ForWord at) v u) (log : u.log ≡ v.log) (kept : u.kept ≡ v.kept) where

@@ -1,5 +1,5 @@
 -- What a call knows of an attempt with ownership records that it is given, and what it tells of it.
-use Rattle.std.proofs.Common.{ℕ, ◌≡◌, ◌<◌, List, false, sym, ap, ◌∙◌, subst}
+use Rattle.std.proofs.Common.{ℕ, ◌≡◌, ◌<◌, ◌*◌, List, false, sym, ap, ◌∙◌, subst}
 use Rattle.std.specs.Prelude.{None}
 use Rattle.stm_model.specs.Memories.{item_at}
 use Rattle.rule_base.specs.declared.seats.SeatView.{SeatView}
@@ -11,8 +11,10 @@ use Rattle.stm_rule.specs.Attempts.{HasRoom, IsInside, Stands, ended, good_by, o
 use Rattle.stm_rule.specs.Callers.{Handle, IsTied}
 use Rattle.tx_answers.specs.Known.{Known, known_of}
 use Rattle.stm_gate.specs.Knowing.{known, number}
-use Rattle.stm_gate.specs.Opening.{Opened, of-view, shows, stands-after}
+use Rattle.stm_gate.specs.Opening.{Opened, is-known, of-view, shows, stands-after}
 use Rattle.stm_gate.specs.Told.{stands-on}
+use Rattle.tx_logs.specs.Probing.{IsPlace}
+use Rattle.alg_orec.specs.Loading.{HasPlace}
 use Rattle.alg_orec.proofs.RecordReads.{IsReading, written-here}
 use Rattle.alg_orec.proofs.ReadCalls.{ended-moved, ended-own}
 
@@ -29,6 +31,13 @@ module _ {K : Type 0} (good : K → List ℕ → Type 0) (stm : Stm K) where
 
     pub unread : (at : ℕ) → item_at at (known e).log.reads ≡ None → item_at at l.reads.items ≡ None
     unread at none = ap (item_at at) a.reading.reads ∙ of-view good stm a.opening (λ n v. item_at at v.log.reads ≡ None) none
+
+    -- a place in the read log, by what contracts see of the attempt
+    pub place-here : (at place : ℕ) → HasPlace at place (known e) → IsPlace (2 * l.reads.len) l.reads.items at place
+    place-here at place is = subst (λ (xs : List (ℕ × ℕ)). IsPlace (2 * l.reads.len) xs at place) (sym a.reading.reads) (of-view good stm a.opening (λ n v. HasPlace at place v) is)
+
+    pub place-told : (at place : ℕ) → IsPlace (2 * l.reads.len) l.reads.items at place → HasPlace at place (known e)
+    place-told at place is = is-known good stm a.opening (λ n v. HasPlace at place v) (subst (λ (xs : List (ℕ × ℕ)). IsPlace (2 * l.reads.len) xs at place) a.reading.reads is)
 
     -- after the call the seat is w, and q are the descriptor's fields
     pub stays-tied : {y : View} (q : Local) (w : SeatView K × List (ℕ × Unit {0})) → w.0 ≡ record me.0 { view = y } → w.1 ≡ me.1 → q.running ≡ l.running → q.holds ≡ l.holds → HasRoom q → w.0.view.gate.holds ≡ me.0.view.gate.holds → IsInside (good stm.rule) stm.config n q w.0.view

@@ -1,5 +1,5 @@
 -- What the parts of a read ask and tell.
-use Rattle.std.specs.Prelude.{ℕ, ◌≡◌, ◌+◌, ◌<◌, ◌≤◌, ◌%◌, ◌⊎◌, true, false, List, [], ◌∷◌, ◌++◌, Contains, Result, Ok, Err}
+use Rattle.std.specs.Prelude.{ℕ, ◌≡◌, ◌+◌, ◌*◌, ◌<◌, ◌≤◌, ◌%◌, ◌⊎◌, true, false, List, [], ◌∷◌, ◌++◌, Contains, Result, Ok, Err}
 use Rattle.stm_model.specs.declared.config.Config.{Config}
 use Rattle.stm_model.specs.declared.stop.Cause.{Cause}
 use Rattle.rule_base.specs.declared.entries.Cell.{Cell}
@@ -18,8 +18,13 @@ use Rattle.stm_rule.specs.declared.local.Local.{Local}
 use Rattle.steps_orec.specs.RecordFindings.{Moves}
 use Rattle.tx_answers.specs.Causes.{Conflicts}
 use Rattle.tx_answers.specs.Causes.Asked.{ForWord}
-use Rattle.tx_answers.specs.Known.{known_of}
+use Rattle.tx_answers.specs.Known.{Known, known_of}
+use Rattle.tx_logs.specs.Probing.{IsPlace}
 use Rattle.alg_orec.specs.Validating.{CanValidate, OnlyLoads, load_of}
+
+-- where the index of what the attempt has read has a, or would have it
+abbrev pub HasPlace : ℕ → ℕ → Known → Type 0
+HasPlace a place v = IsPlace (2 * v.reads_limit) v.log.reads a place
 
 -- the attempt doesn't hold the record of a, and all that it holds were free at versions that its start has seen
 pub record CanLoadValid (c : Config) (a : ℕ) (l : Local) (v : View) : Type 0 where

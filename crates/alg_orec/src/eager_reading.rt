@@ -10,6 +10,7 @@ ghost use Rattle.tx_answers.specs.Known.{IsRunning};
 ghost use Rattle.rule_base.specs.Encodings.{fenced};
 ghost use Rattle.stm_gate.specs.Knowing.{known, number};
 ghost use Rattle.alg_orec.specs.EagerReading.{IsNew, HasSample, IsLoaded, LoadsSampled, GoesOnReading, Samples, Confirms};
+ghost use Rattle.alg_orec.specs.Loading.{HasPlace};
 ghost use Rattle.alg_orec.specs.Validating.{load_of};
 
 use crate::eager_ending::take_back;
@@ -21,6 +22,19 @@ use stm_model::stop::Cause;
 use stm_rule::desc::Desc;
 use stm_rule::stm::Stm;
 use tx_answers::answers::Read;
+
+/// Where the index of what the attempt has read has the word, or would have it, while nothing else is read. No step.
+#[inline(always)]
+pub fn read_place<K: MemRule>(desc: &Desc<K>, stm: &Stm<K>, a: usize) -> usize
+    requires stm { IsOf desc.now stm.now }
+    requires running { IsRunning (known desc.now) }
+    requires algorithm { (known desc.now).alg ≡ OrecEager }
+    requires revocable { (known desc.now).granted ≡ false }
+    ensures { HasPlace a result (known desc.now) }
+{
+    let _ = stm;
+    desc.local.reads.place(a)
+}
 
 /// Loads the record of a word that was neither written nor read before, and answers the record's word: it is free, at a
 /// version that the start has seen. None, with no step, where the attempt holds the record: then nobody else stores
@@ -78,15 +92,23 @@ pub fn load<K: MemRule>(desc: &mut Desc<K>, stm: &Stm<K>, a: usize) -> u64
 }
 
 /// Loads the record again, which `sample` found as `word`, after the word, which `load` found as `x`. Where the record
-/// is as it was, `x` is read, and logged; else the attempt ends. One step, then those of a rollback.
+/// is as it was, `x` is read, and logged at its place; else the attempt ends. One step, then those of a rollback.
 #[inline(always)]
-pub fn confirm<K: MemRule>(desc: &mut Desc<K>, stm: &Stm<K>, a: usize, word: u64, x: u64) -> Read
+pub fn confirm<K: MemRule>(
+    desc: &mut Desc<K>,
+    stm: &Stm<K>,
+    a: usize,
+    place: usize,
+    word: u64,
+    x: u64,
+) -> Read
     requires stm { IsOf desc.old stm.now }
     requires running { IsRunning (known desc.old) }
     requires algorithm { (known desc.old).alg ≡ OrecEager }
     requires revocable { (known desc.old).granted ≡ false }
     requires fresh { IsNew a (known desc.old) }
     requires loaded { IsLoaded stm.now.config a word x desc.old.view }
+    requires place { HasPlace a place (known desc.old) }
     requires inside { a < stm.now.config.words }
     requires spared { fenced (known desc.old).fence a ≡ false }
     ensures same { IsSameCaller desc.old desc.new }
@@ -103,6 +125,6 @@ pub fn confirm<K: MemRule>(desc: &mut Desc<K>, stm: &Stm<K>, a: usize, word: u64
             after,
         });
     }
-    desc.local.reads.push_new(a, x);
+    desc.local.reads.push_at(place, a, x);
     Read::Value(x)
 }

@@ -15,12 +15,13 @@ ghost use Rattle.rule_base.specs.Encodings.{fenced};
 ghost use Rattle.rule_base.specs.History.{member};
 ghost use Rattle.stm_gate.specs.Knowing.{known, number};
 ghost use Rattle.alg_orec.specs.EagerReading.{IsNew, HoldsRecord};
+ghost use Rattle.alg_orec.specs.Loading.{HasPlace};
 
 use crate::eager_committing::{commit_direct, commit_placed};
 use crate::eager_ending::take_back;
 use crate::eager_granting::grant;
 use crate::eager_nesting::roll_in_place;
-use crate::eager_reading::{confirm, load, sample};
+use crate::eager_reading::{confirm, load, read_place, sample};
 use crate::eager_taking::{store_first, take_record};
 use alg_calls::algorithm::Algorithm;
 use steps_orec::eager::{own_load, place};
@@ -58,10 +59,11 @@ impl Algorithm for OrecEager {
         if let Some(x) = desc.local.writes.find(a) {
             return Read::Value(x);
         }
-        if let Some(x) = desc.local.reads.find(a) {
+        let place = read_place(desc, stm, a);
+        if let Some(x) = desc.local.reads.at(place, a) {
             return Read::Value(x);
         }
-        first_read(desc, stm, a)
+        first_read(desc, stm, a, place)
     }
 
     /// Stores the word in place, under its record, which the attempt takes first where it doesn't hold it: one step
@@ -132,15 +134,16 @@ impl Algorithm for OrecEager {
     }
 }
 
-/// Loads the word, which was neither written nor read before, and logs it.
+/// Loads the word, which was neither written nor read before, and logs it at its place.
 #[inline(always)]
-fn first_read<K: MemRule>(desc: &mut Desc<K>, stm: &Stm<K>, a: usize) -> Read
+fn first_read<K: MemRule>(desc: &mut Desc<K>, stm: &Stm<K>, a: usize, place: usize) -> Read
     requires stm { IsOf desc.old stm.now }
     requires running { IsRunning (known desc.old) }
     requires algorithm { (known desc.old).alg ≡ Alg.OrecEager }
     requires revocable { (known desc.old).granted ≡ false }
     requires unwritten { item_at a (known desc.old).log.writes ≡ None }
     requires unread { item_at a (known desc.old).log.reads ≡ None }
+    requires place { HasPlace a place (known desc.old) }
     requires inside { a < stm.now.config.words }
     requires spared { fenced (known desc.old).fence a ≡ false }
     ensures same { IsSameCaller desc.old desc.new }
@@ -150,22 +153,24 @@ fn first_read<K: MemRule>(desc: &mut Desc<K>, stm: &Stm<K>, a: usize) -> Read
     match sample(desc, stm, a) {
         Ok(Some(word)) => {
             let x = load(desc, stm, a);
-            confirm(desc, stm, a, word, x)
+            confirm(desc, stm, a, place, word, x)
         }
-        Ok(None) => read_held(desc, stm, a),
+        Ok(None) => read_held(desc, stm, a, place),
         Err(refusal) => refusal,
     }
 }
 
-/// Loads the word under the own record with no look at that, since nobody else stores there, and logs it. One step.
+/// Loads the word under the own record with no look at that, since nobody else stores there, and logs it at
+/// its place. One step.
 #[inline]
-fn read_held<K: MemRule>(desc: &mut Desc<K>, stm: &Stm<K>, a: usize) -> Read
+fn read_held<K: MemRule>(desc: &mut Desc<K>, stm: &Stm<K>, a: usize, place: usize) -> Read
     requires stm { IsOf desc.old stm.now }
     requires running { IsRunning (known desc.old) }
     requires algorithm { (known desc.old).alg ≡ Alg.OrecEager }
     requires revocable { (known desc.old).granted ≡ false }
     requires fresh { IsNew a (known desc.old) }
     requires held { HoldsRecord stm.now.config a desc.old.view }
+    requires place { HasPlace a place (known desc.old) }
     requires inside { a < stm.now.config.words }
     requires spared { fenced (known desc.old).fence a ≡ false }
     ensures same { IsSameCaller desc.old desc.new }
@@ -173,7 +178,7 @@ fn read_held<K: MemRule>(desc: &mut Desc<K>, stm: &Stm<K>, a: usize) -> Read
     ensures steps { AddsAtMost 1 (known desc.old) (known desc.new) }
 {
     let x = own_load(stm, &mut desc.seat, desc.number, a);
-    desc.local.reads.push_new(a, x);
+    desc.local.reads.push_at(place, a, x);
     Read::Value(x)
 }
 

@@ -16,7 +16,7 @@ ghost use Rattle.tx_answers.specs.Answers.{HasRead};
 ghost use Rattle.tx_answers.specs.Known.{IsRunning};
 ghost use Rattle.rule_base.specs.Encodings.{fenced};
 ghost use Rattle.stm_gate.specs.Knowing.{known, number};
-ghost use Rattle.alg_orec.specs.Loading.{CanLoadValid, LoadsValid};
+ghost use Rattle.alg_orec.specs.Loading.{CanLoadValid, HasPlace, LoadsValid};
 
 use crate::lazy_committing::commit_writes;
 use crate::lazy_ending::roll_back;
@@ -61,10 +61,11 @@ impl Algorithm for OrecLazy {
         if let Some(x) = desc.local.writes.find(a) {
             return Read::Value(x);
         }
-        if let Some(x) = desc.local.reads.find(a) {
+        let place = desc.local.reads.place(a);
+        if let Some(x) = desc.local.reads.at(place, a) {
             return Read::Value(x);
         }
-        first_read(desc, stm, a)
+        first_read(desc, stm, a, place)
     }
 
     /// Logs what is to be written: it lies with the descriptor until the commit. No step, but for those of a rollback
@@ -136,15 +137,16 @@ impl Algorithm for OrecLazy {
     }
 }
 
-/// Loads the word, which was neither written nor read before, and logs it.
+/// Loads the word, which was neither written nor read before, and logs it at its place.
 #[inline(always)]
-fn first_read<K: MemRule>(desc: &mut Desc<K>, stm: &Stm<K>, a: usize) -> Read
+fn first_read<K: MemRule>(desc: &mut Desc<K>, stm: &Stm<K>, a: usize, place: usize) -> Read
     requires stm { IsOf desc.old stm.now }
     requires running { IsRunning (known desc.old) }
     requires algorithm { (known desc.old).alg ≡ Alg.OrecLazy }
     requires revocable { (known desc.old).granted ≡ false }
     requires unwritten { item_at a (known desc.old).log.writes ≡ None }
     requires unread { item_at a (known desc.old).log.reads ≡ None }
+    requires place { HasPlace a place (known desc.old) }
     requires inside { a < stm.now.config.words }
     requires spared { fenced (known desc.old).fence a ≡ false }
     ensures same { IsSameCaller desc.old desc.new }
@@ -159,7 +161,7 @@ fn first_read<K: MemRule>(desc: &mut Desc<K>, stm: &Stm<K>, a: usize) -> Read
     }
     match load_valid(&mut desc.seat, &mut desc.local, stm, caller, a) {
         Ok(x) => {
-            desc.local.reads.push_new(a, x);
+            desc.local.reads.push_at(place, a, x);
             Read::Value(x)
         }
         Err(cause) => {

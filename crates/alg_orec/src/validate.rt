@@ -15,9 +15,31 @@ use stm_rule::local::Local;
 use stm_rule::stm::{Stm, Token};
 
 /// Moves the start to the clock, where all reads are of the memory there. One step, and one for each read but those
-/// whose records the attempt holds in the place of versions that its start has seen.
-#[inline(never)]
+/// whose records the attempt holds in the place of versions that its start has seen. In line, so that the answer's room
+/// is set to 0 where a validation is owed, and not in each read and commit.
+#[inline(always)]
 pub(crate) fn validate<K: MemRule>(
+    seat: &mut Token<K>,
+    local: &mut Local,
+    stm: &Stm<K>,
+    caller: usize,
+) -> Result<(), Cause>
+    requires seat { IsSeatOf stm.now caller seat.old }
+    requires view { CanValidate stm.now.config local.old (view_of seat.old) }
+    requires caller { caller < stm.now.config.callers }
+    ensures same { IsSameSeat seat.old seat.new × (seat.new.me.0 ≡ record seat.old.me.0 { view = view_of seat.new }) }
+    ensures validates { Validates stm.now.config caller (good_of K.good stm.now.config stm.now.rule) result local.old (view_of seat.old) local.new (view_of seat.new) }
+    ensures steps { TakesAtMost (1 + local.old.reads.len) (view_of seat.old) (view_of seat.new) }
+{
+    match validate_reads(seat, local, stm, caller) {
+        Ok(()) => Ok(()),
+        Err(cause) => Err(cause),
+    }
+}
+
+/// The same, not in line.
+#[inline(never)]
+fn validate_reads<K: MemRule>(
     seat: &mut Token<K>,
     local: &mut Local,
     stm: &Stm<K>,

@@ -5,7 +5,7 @@ ghost use Rattle.tx_answers.specs.Known.{IsIdle};
 ghost use Rattle.stm_tx.specs.Descs.{known};
 
 use crate::calls_tests::switch;
-use alg_orec::eager_reading::{confirm, load, sample};
+use alg_orec::eager_reading::{confirm, load, read_place, sample};
 use std::alloc::Global;
 use std::test::Fail;
 use stm_model::alg::Alg;
@@ -62,7 +62,8 @@ fn reads_around_a_cancelled_write<K: MemRule>(
     let Cancel::Cancelled { time: 0 } = cancel(writer, stm) else {
         return None;
     };
-    let Read::Conflict(cause) = confirm(reader, stm, 2, word, x) else {
+    let place = read_place(reader, stm, 2);
+    let Read::Conflict(cause) = confirm(reader, stm, 2, place, word, x) else {
         return None;
     };
     let Begin::Begun(Alg::OrecEager) = try_begin(reader, stm) else {

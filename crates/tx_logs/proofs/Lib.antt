@@ -1,6 +1,7 @@
 pub mod ItemLemmas
 pub mod BucketLemmas
 pub mod ProbingLaws
+pub mod PlaceLemmas
 pub mod PushLemmas
 pub mod ShortLemmas
 pub mod FilterLemmas

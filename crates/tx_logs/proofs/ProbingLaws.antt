@@ -12,27 +12,27 @@ use Rattle.tx_logs.specs.Probing.{HasBuckets, Passes, IsProbed}
 use Rattle.tx_logs.proofs.BucketLemmas.{here-is, home-below, wrapped-below}
 
 module _ (homes : Homes) (g : ℕ) (items : List (ℕ × ℕ)) (bs : List Bucket) (x : IsIndex homes g items bs) where
-  abbrev item_of : Bucket → Option ℕ
+  abbrev pub item_of : Bucket → Option ℕ
   item_of b = if b.mark == g then Some b.item else None
 
-  abbrev owner : ℕ → Option ℕ
+  abbrev pub owner : ℕ → Option ℕ
   owner y = item_of (get_or bs y blank)
 
-  owns : (b : Bucket) → b.mark ≡ g → item_of b ≡ Some b.item
+  pub owns : (b : Bucket) → b.mark ≡ g → item_of b ≡ Some b.item
   owns b e = by (b.mark == g) (grind (arith, nat_tests))
     where
       by : (t : Bool) → t ≡ true → (if t then Some b.item else None) ≡ Some b.item
       by true q = refl
       by false q = absurd cc
 
-  owned : (b : Bucket) (i : ℕ) → item_of b ≡ Some i → (b.mark ≡ g) × (b.item ≡ i)
+  pub owned : (b : Bucket) (i : ℕ) → item_of b ≡ Some i → (b.mark ≡ g) × (b.item ≡ i)
   owned b i e = by (b.mark == g) refl e
     where
       by : (t : Bool) → (b.mark == g) ≡ t → (if t then Some b.item else None) ≡ Some i → (b.mark ≡ g) × (b.item ≡ i)
       by true q k = (grind (arith, nat_tests), cc)
       by false q k = absurd cc
 
-  disowned : (b : Bucket) → b.mark ≢ g → item_of b ≡ None
+  pub disowned : (b : Bucket) → b.mark ≢ g → item_of b ≡ None
   disowned b n = by (b.mark == g) refl
     where
       by : (t : Bool) → (b.mark == g) ≡ t → (if t then Some b.item else None) ≡ None

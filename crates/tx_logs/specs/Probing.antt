@@ -1,7 +1,7 @@
 -- Where lookups go, by the list of the items alone.
 use Rattle.std.specs.Prelude.{ℕ, ◌≡◌, ◌≢◌, ◌<◌, ◌+◌, List, length, Option, Some, MatchOption}
 use Rattle.tx_logs.specs.declared.index.Homes.{Homes}
-use Rattle.tx_logs.specs.declared.index.Homes.TheVariants.{Modulo}
+use Rattle.tx_logs.specs.declared.index.Homes.TheVariants.{Mixed, Modulo}
 use Rattle.tx_logs.specs.Buckets.{wrapped, home_of, address_of}
 
 -- the bucket so many behind the address's home
@@ -25,3 +25,7 @@ pub record Passes (homes : Homes) (buckets : ℕ) (items : List (ℕ × ℕ)) (a
 -- with homes modulo the number of buckets a lookup of a looks at n buckets, the last among them
 abbrev pub IsProbed : ℕ → List (ℕ × ℕ) → ℕ → ℕ → Type 0
 IsProbed buckets items a n = (passed : ℕ) × (n ≡ passed + 1) × Passes Modulo buckets items a passed
+
+-- where a lookup of a ends in the index by which a log finds its items; the items alone decide it
+abbrev pub IsPlace : ℕ → List (ℕ × ℕ) → ℕ → ℕ → Type 0
+IsPlace buckets items a place = (passed : ℕ) × (place ≡ behind_home Mixed buckets a passed) × Passes Mixed buckets items a passed

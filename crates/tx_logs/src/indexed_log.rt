@@ -1,11 +1,10 @@
 //! A log that grows long: items of address and value, in the order in which the addresses came, all found by an index.
 ghost use Rattle.std.specs.Prelude.{◌*◌, ◌≡◌, ◌≤◌, ◌<◌, ◌+◌, ◌++◌, ◌∷◌, ◌≢◌, [], IfOk, MatchResult, None, length, max, slice_index_or};
 ghost use Rattle.stm_model.specs.Memories.{item_at, Once};
-ghost use Rattle.tx_logs.specs.Probing.{IsProbed};
+ghost use Rattle.tx_logs.specs.Probing.{IsPlace, IsProbed};
 ghost use Rattle.tx_logs.specs.LogStates.{LogState, Pushes, empty_at, next_generation, pushed, renewed};
-ghost use Rattle.tx_logs.specs.ShortLogs.{IsPosition};
 
-use crate::index::{Bucket, Homes, clear_marks, home, look_up, take};
+use crate::index::{Bucket, Homes, clear_marks, home, look_up};
 use crate::probes::probes_among;
 use crate::push::{Push, Repeat};
 use std::alloc::Global;
@@ -57,37 +56,48 @@ impl IndexedLog {
         })
     }
 
-    /// The value at the address, if it is in the log. One lookup, and none in an empty log: it ends here where the first
-    /// bucket is open.
+    /// The value at the address, if it is in the log. One lookup.
     #[inline(always)]
     pub fn find(&self, a: usize) -> Option<u64>
         ensures { result ≡ item_at a self.now.items }
     {
-        if self.items.is_empty() {
-            return None;
-        }
-        let home = home(Homes::Mixed, self.index.len(), a);
-        if self.index[home].mark != self.generation {
-            return None;
-        }
-        let i = self.position(a);
-        let count = self.items.len();
-        if i == count {
-            return None;
-        }
-        Some(self.items[i].1)
+        let place = self.place(a);
+        self.at(place, a)
     }
 
-    /// The number of the address's item, or that of the items where none has it. It answers a number, since an option would
-    /// have its room set to 0 in each caller.
-    #[inline(never)]
-    fn position(&self, a: usize) -> usize
-        ensures { IsPosition a self.now.items result }
+    /// The number of the bucket at which the lookup of the address ends: that of its item, else an open one. It depends on
+    /// the items alone, so it stays while they stay. It ends here where the first bucket is open.
+    #[inline(always)]
+    pub fn place(&self, a: usize) -> usize
+        ensures { IsPlace (2 * self.now.len) self.now.items a result }
     {
-        match look_up(Homes::Mixed, &self.index, &self.items, self.generation, a).item {
-            Some(i) => i,
-            None => self.items.len(),
+        let home = home(Homes::Mixed, self.index.len(), a);
+        if self.index[home].mark != self.generation {
+            return home;
         }
+        self.place_from_home(a)
+    }
+
+    /// The same where the first bucket is taken. It answers a number, since a struct would have its room set to 0 in each
+    /// caller.
+    #[inline(never)]
+    fn place_from_home(&self, a: usize) -> usize
+        ensures { IsPlace (2 * self.now.len) self.now.items a result }
+    {
+        look_up(Homes::Mixed, &self.index, &self.items, self.generation, a).at
+    }
+
+    /// The value at the address whose place this is, if it is in the log. No lookup.
+    #[inline(always)]
+    pub fn at(&self, place: usize, a: usize) -> Option<u64>
+        requires { IsPlace (2 * self.now.len) self.now.items a place }
+        ensures { result ≡ item_at a self.now.items }
+    {
+        let _ = a;
+        if self.index[place].mark != self.generation {
+            return None;
+        }
+        Some(self.items[self.index[place].item as usize].1)
     }
 
     /// How many buckets a lookup of the address would look at in an index by the address modulo the number of buckets: those
@@ -161,20 +171,19 @@ impl IndexedLog {
         Push::Done
     }
 
-    /// Adds the value at an address that no item has, where there is room for it. It takes no memory.
+    /// Adds the value at an address that no item has, and whose place this is, where there is room for it. No lookup; it
+    /// takes no memory.
     #[inline(always)]
-    pub fn push_new(&mut self, a: usize, v: u64)
+    pub fn push_at(&mut self, place: usize, a: usize, v: u64)
+        requires place { IsPlace (2 * self.old.len) self.old.items a place }
         requires new { item_at a self.old.items ≡ None }
         requires room { length self.old.items ≢ self.old.len }
         ensures { self.new ≡ record self.old { items = self.old.items ++ (a, v) ∷ [] } }
     {
-        take(
-            Homes::Mixed,
-            &mut self.index,
-            &self.items,
-            self.generation,
-            a,
-        );
+        self.index[place] = Bucket {
+            mark: self.generation,
+            item: self.items.len() as u32,
+        };
         self.items.push_reserved((a, v));
     }
 

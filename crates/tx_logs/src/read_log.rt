@@ -1,7 +1,7 @@
 //! What an attempt has read.
 ghost use Rattle.std.specs.Prelude.{◌*◌, ◌≡◌, ◌≤◌, ◌<◌, ◌+◌, ◌++◌, ◌∷◌, ◌≢◌, [], IfOk, MatchResult, None, length, max, slice_index_or};
 ghost use Rattle.stm_model.specs.Memories.{item_at, Once};
-ghost use Rattle.tx_logs.specs.Probing.{IsProbed};
+ghost use Rattle.tx_logs.specs.Probing.{IsPlace, IsProbed};
 ghost use Rattle.tx_logs.specs.LogStates.{LogState, Pushes, empty_at, next_generation, renewed, keep};
 
 use crate::indexed_log::IndexedLog;
@@ -55,23 +55,42 @@ impl ReadLog {
         self.log.push(a, v, Repeat::Keep)
     }
 
-    /// Adds the value at an address that isn't in the log, where there is room for it. One lookup, which compares no address
-    /// where the first bucket is open.
-    #[inline(always)]
-    pub fn push_new(&mut self, a: usize, v: u64)
-        requires new { item_at a self.old.items ≡ None }
-        requires room { length self.old.items ≢ self.old.len }
-        ensures { self.new ≡ record self.old { items = self.old.items ++ (a, v) ∷ [] } }
-    {
-        self.log.push_new(a, v);
-    }
-
-    /// The value at the address, if it is in the log. One lookup, and none in an empty log.
+    /// The value at the address, if it is in the log. One lookup.
     #[inline]
     pub fn find(&self, a: usize) -> Option<u64>
         ensures { result ≡ item_at a self.now.items }
     {
         self.log.find(a)
+    }
+
+    /// The place in the index that the address has, or that a push would give it: it stays while the items stay, so a read
+    /// that finds nothing is logged with no second lookup. One lookup, which compares no address where the first bucket is
+    /// open.
+    #[inline(always)]
+    pub fn place(&self, a: usize) -> usize
+        ensures { IsPlace (2 * self.now.len) self.now.items a result }
+    {
+        self.log.place(a)
+    }
+
+    /// The value at the address whose place this is, if it is in the log. No lookup.
+    #[inline(always)]
+    pub fn at(&self, place: usize, a: usize) -> Option<u64>
+        requires { IsPlace (2 * self.now.len) self.now.items a place }
+        ensures { result ≡ item_at a self.now.items }
+    {
+        self.log.at(place, a)
+    }
+
+    /// Adds the value at an address that isn't in the log, and whose place this is, where there is room for it. No lookup.
+    #[inline(always)]
+    pub fn push_at(&mut self, place: usize, a: usize, v: u64)
+        requires place { IsPlace (2 * self.old.len) self.old.items a place }
+        requires new { item_at a self.old.items ≡ None }
+        requires room { length self.old.items ≢ self.old.len }
+        ensures { self.new ≡ record self.old { items = self.old.items ++ (a, v) ∷ [] } }
+    {
+        self.log.push_at(place, a, v);
     }
 
     /// How many buckets a lookup of the address would look at in an index by the address modulo the number of buckets: those

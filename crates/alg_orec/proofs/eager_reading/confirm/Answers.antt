@@ -14,7 +14,7 @@ use Rattle.tx_answers.specs.declared.answers.Read.TheVariants as reads
 use Rattle.tx_answers.specs.Known.{Known}
 use Rattle.stm_gate.specs.Opening.{of-view, of-seen}
 use Rattle.alg_orec.proofs.EagerOpening.{EagerOpening, answers-read, counts, opens-eager, stays-read}
-use Rattle.alg_orec.proofs.RecordOpening.{answers-ended}
+use Rattle.alg_orec.proofs.RecordOpening.{answers-ended, place-here}
 use Rattle.alg_orec.proofs.EagerReadLaws as laws
 use Rattle.alg_orec.specs.EagerReading.{IsNew, IsLoaded, Confirms}
 use Rattle.alg_orec.proofs.eager_reading.confirm.Goals.{After-desc, After-confirm-after}
@@ -53,17 +53,22 @@ returns-then-after-word-clause-confirms g c =
     answers-ended _ _ o.call (λ (n : ℕ) (v w : Known). Confirms (g.K.MemRule.good c.args.stm.now.rule) c.args.stm.now.config n c.args.a c.args.word c.args.x (reads.Conflict cause) v w) c.take_back.new.seat.me.0.view _ c.take_back.ensures.idle
     (laws.finds-moved _ _ _ _ _ o.runs _ _ _ c.requires.inside (loaded g at.After-desc) c.confirm-after.result _ (again g at.After-confirm-after) (search rules) o.call.opening.low _ c.take_back.ensures.takes_back)
 
-pub push_new-requires-clause-new : goal.push_new-requires-clause-new
-push_new-requires-clause-new g c = (fresh g (goal.at.push_new-requires-clause-new g c).After-desc).unread
+pub push_at-requires-clause-place : goal.push_at-requires-clause-place
+push_at-requires-clause-place g c =
+    let o = opened g (goal.at.push_at-requires-clause-place g c).After-desc in
+    place-here _ _ o.call c.args.a c.args.place c.requires.place
 
-pub push_new-requires-clause-room : goal.push_new-requires-clause-room
-push_new-requires-clause-room g c = (fresh g (goal.at.push_new-requires-clause-room g c).After-desc).room
+pub push_at-requires-clause-new : goal.push_at-requires-clause-new
+push_at-requires-clause-new g c = (fresh g (goal.at.push_at-requires-clause-new g c).After-desc).unread
+
+pub push_at-requires-clause-room : goal.push_at-requires-clause-room
+push_at-requires-clause-room g c = (fresh g (goal.at.push_at-requires-clause-room g c).After-desc).room
 
 pub invariant_of-desc-2 : goal.invariant_of-desc-2
 invariant_of-desc-2 g c =
     let at = goal.at.invariant_of-desc-2 g c in
     let o = opened g at.After-desc in
-    stays-read _ _ o c.args.a _ c.confirm-after.new.seat.me _ c.requires.inside (fresh g at.After-desc) c.push_new.ensures
+    stays-read _ _ o c.args.a _ c.confirm-after.new.seat.me _ c.requires.inside (fresh g at.After-desc) c.push_at.ensures
     (laws.loads-same _ _ _ _ _ o.runs _ _ _ c.requires.inside (loaded g at.After-desc) c.confirm-after.result _ (again g at.After-confirm-after) (search rules)) c.confirm-after.ensures.step.3 c.confirm-after.ensures.same.2
 
 pub returns-clause-confirms : goal.returns-clause-confirms
@@ -71,7 +76,7 @@ returns-clause-confirms g c =
     let at = goal.at.returns-clause-confirms g c in
     let o = opened g at.After-desc in (
       refl,
-      answers-read _ _ o c.args.a _ c.confirm-after.new.seat.me _ c.requires.inside (fresh g at.After-desc) c.push_new.ensures
+      answers-read _ _ o c.args.a _ c.confirm-after.new.seat.me _ c.requires.inside (fresh g at.After-desc) c.push_at.ensures
           (laws.loads-same _ _ _ _ _ o.runs _ _ _ c.requires.inside (loaded g at.After-desc) c.confirm-after.result _ (again g at.After-confirm-after) (search rules)) (search rules),
     )
 

@@ -8,6 +8,7 @@ use Rattle.tx_answers.specs.Known.{IsRunning}
 use Rattle.stm_gate.specs.Knowing.{known, number}
 use Rattle.alg_orec.proofs.EagerReadLaws as laws
 use Rattle.alg_orec.specs.EagerReading.{HoldsRecord, IsNew, Samples}
+use Rattle.alg_orec.specs.Loading.{HasPlace}
 use Rattle.alg_orec.proofs.orec_eager.first_read.Goals as goal
 
 pub load-x-requires-clause-running : goal.load-x-requires-clause-running
@@ -109,6 +110,17 @@ confirm-requires-clause-loaded g c =
     let sampled = subst (λ (m : Option ℕ). Samples good f (number d) c.args.a (Ok m) d s) c.in-Ok-Some.field-0-is c.in-Ok-Some.ensures.samples in
     c.load-x.ensures.loads c.in-Ok-Some.word sampled.1
 
+pub confirm-requires-clause-place : goal.confirm-requires-clause-place
+confirm-requires-clause-place g c =
+    let f = c.args.stm.now.config in
+    let good = g.K.MemRule.good c.args.stm.now.rule in
+    let d = c.args.desc.now in
+    let s = c.sample.new.desc in
+    let sampled = subst (λ (m : Option ℕ). Samples good f (number d) c.args.a (Ok m) d s) c.in-Ok-Some.field-0-is c.in-Ok-Some.ensures.samples in
+    let found = sampled.0.2 in
+    let e = c.load-x.ensures.goes in
+    laws.same-place c.args.a c.args.place (known s) (known c.load-x.new.desc) e.goes e.log (laws.same-place c.args.a c.args.place (known d) (known s) found.goes found.log c.requires.place)
+
 pub returns-in-Ok-Some-clause-read : goal.returns-in-Ok-Some-clause-read
 returns-in-Ok-Some-clause-read g c =
     let f = c.args.stm.now.config in
@@ -162,6 +174,15 @@ read_held-requires-clause-held g c =
     let s = c.sample.new.desc in
     let sampled = subst (λ (m : Option ℕ). Samples good f (number d) c.args.a (Ok m) d s) c.in-Ok-None.field-0-is c.in-Ok-None.ensures.samples in
     subst (λ (h : Handle g.row.K.Denot). HoldsRecord f c.args.a h.view) (sym sampled.0) sampled.1
+
+pub read_held-requires-clause-place : goal.read_held-requires-clause-place
+read_held-requires-clause-place g c =
+    let f = c.args.stm.now.config in
+    let good = g.K.MemRule.good c.args.stm.now.rule in
+    let d = c.args.desc.now in
+    let s = c.sample.new.desc in
+    let sampled = subst (λ (m : Option ℕ). Samples good f (number d) c.args.a (Ok m) d s) c.in-Ok-None.field-0-is c.in-Ok-None.ensures.samples in
+    subst (λ (h : Handle g.row.K.Denot). HasPlace c.args.a c.args.place (known h)) (sym sampled.0) c.requires.place
 
 pub returns-in-Ok-None-clause-read : goal.returns-in-Ok-None-clause-read
 returns-in-Ok-None-clause-read g c =

@@ -8,6 +8,7 @@ use Rattle.stm_rule.specs.StandLemmas.{tells-of}
 use Rattle.stm_gate.specs.Opening.{of-view, of-seen}
 use Rattle.alg_orec.proofs.EagerLaws as eager
 use Rattle.alg_orec.proofs.EagerOpening.{EagerOpening, answers-read, opens-eager, stays-read}
+use Rattle.alg_orec.proofs.RecordOpening.{place-here}
 use Rattle.alg_orec.proofs.EagerReadLaws as laws
 use Rattle.alg_orec.proofs.EagerTakingLaws as taking
 use Rattle.alg_orec.specs.EagerReading.{IsNew, HoldsRecord}
@@ -36,20 +37,25 @@ own_load-x-requires-clause-view g c =
     let at = (goal.at.own_load-x-requires-clause-view g c).After-desc in
     taking.may-own_load (good_of g.K.MemRule.good c.args.stm.now.config c.args.stm.now.rule) _ c.desc.inside.number _ _ _ (may-load g at) (of-seen _ _ (opened g at).call.opening (λ (n : ℕ) (v : View). HoldsRecord c.args.stm.now.config c.args.a v) c.requires.held)
 
-pub push_new-requires-clause-new : goal.push_new-requires-clause-new
-push_new-requires-clause-new g c = (fresh g (goal.at.push_new-requires-clause-new g c).After-desc).unread
+pub push_at-requires-clause-place : goal.push_at-requires-clause-place
+push_at-requires-clause-place g c =
+    let o = opened g (goal.at.push_at-requires-clause-place g c).After-desc in
+    place-here _ _ o.call c.args.a c.args.place c.requires.place
 
-pub push_new-requires-clause-room : goal.push_new-requires-clause-room
-push_new-requires-clause-room g c = (fresh g (goal.at.push_new-requires-clause-room g c).After-desc).room
+pub push_at-requires-clause-new : goal.push_at-requires-clause-new
+push_at-requires-clause-new g c = (fresh g (goal.at.push_at-requires-clause-new g c).After-desc).unread
+
+pub push_at-requires-clause-room : goal.push_at-requires-clause-room
+push_at-requires-clause-room g c = (fresh g (goal.at.push_at-requires-clause-room g c).After-desc).room
 
 pub invariant_of-desc : goal.invariant_of-desc
 invariant_of-desc g c =
     let at = goal.at.invariant_of-desc g c in
     let first = at.After-desc in
-    stays-read _ _ (opened g first) c.args.a _ c.own_load-x.new.seat.me _ c.requires.inside (fresh g first) c.push_new.ensures (loaded g at.After-own_load-x (may-load g first)) c.own_load-x.ensures.step.3 c.own_load-x.ensures.same.2
+    stays-read _ _ (opened g first) c.args.a _ c.own_load-x.new.seat.me _ c.requires.inside (fresh g first) c.push_at.ensures (loaded g at.After-own_load-x (may-load g first)) c.own_load-x.ensures.step.3 c.own_load-x.ensures.same.2
 
 pub returns-clause-read : goal.returns-clause-read
 returns-clause-read g c =
     let at = goal.at.returns-clause-read g c in
     let first = at.After-desc in
-    answers-read _ _ (opened g first) c.args.a _ c.own_load-x.new.seat.me _ c.requires.inside (fresh g first) c.push_new.ensures (loaded g at.After-own_load-x (may-load g first)) (search rules)
+    answers-read _ _ (opened g first) c.args.a _ c.own_load-x.new.seat.me _ c.requires.inside (fresh g first) c.push_at.ensures (loaded g at.After-own_load-x (may-load g first)) (search rules)

@@ -1,4 +1,4 @@
-use Rattle.std.proofs.Common.{ℕ, List, arith, ◌≡◌, ◌≢◌, ◌<◌, [], ◌∷◌, ◌++◌, length, subst, sym, ap, false, rules, ◌∙◌}
+use Rattle.std.proofs.Common.{ℕ, List, arith, ◌≡◌, ◌≢◌, ◌<◌, ◌*◌, [], ◌∷◌, ◌++◌, length, subst, sym, ap, false, rules, ◌∙◌}
 use Rattle.std.specs.Prelude.{◌^◌, None}
 use Rattle.stm_model.specs.declared.alg.Alg.TheVariants.{OrecLazy}
 use Rattle.stm_model.specs.Memories.{item_at}
@@ -17,6 +17,8 @@ use Rattle.tx_answers.specs.Known.{known_of}
 use Rattle.stm_gate.specs.Knowing.{known}
 use Rattle.stm_gate.specs.Standing.{runs-of}
 use Rattle.stm_gate.specs.Told.{told, running-by, stands-in}
+use Rattle.tx_logs.specs.Probing.{IsPlace}
+use Rattle.alg_orec.specs.Loading.{HasPlace}
 use Rattle.alg_orec.proofs.LazyLaws as laws
 use Rattle.alg_orec.proofs.ReadCalls as calls
 use Rattle.alg_orec.proofs.orec_lazy.first_read.Goals as goal
@@ -45,8 +47,26 @@ returns-then-count-limit-clause-read g c =
     (subst (λ (q : ℕ). HasRead good f d.number a (reads.Full q) (known_of s.view o) (known_of w.view o)) (sym c.len-limit.ensures)
     (laws.reads-full good f d.number d.local s.view i lazy plain quiet k a w.view unwritten unread count c.roll_back.ensures.gives_up)))
 
-pub push_new-requires-clause-new : goal.push_new-requires-clause-new
-push_new-requires-clause-new g c =
+pub push_at-requires-clause-place : goal.push_at-requires-clause-place
+push_at-requires-clause-place g c =
+    let f = c.args.stm.now.config in
+    let good = g.K.MemRule.good c.args.stm.now.rule in
+    let d = c.desc.inside in
+    let s = d.seat.me.0 in
+    let o = own_of d.local in
+    let h = handle_of d.seat o in
+    let e = c.args.desc.now in
+    let i = runs-of g.K.MemRule.good f c.args.stm.now.rule h e d.number d.local c.desc.view_is c.requires.stm.config c.requires.stm.rule c.requires.running.0 c.desc.invariant.1 in
+    let lazy = subst (λ (p : Handle g.row.K.Denot). (known p).alg ≡ OrecLazy) (sym c.desc.view_is) c.requires.algorithm in
+    let plain : d.local.granted ≡ false = calls.plain-of good f d.number d.local s.view i lazy o (subst (λ (p : Handle g.row.K.Denot). (known p).granted ≡ false) (sym c.desc.view_is) c.requires.revocable) in
+    let k = laws.lazy-of good f d.number d.local s.view i lazy plain in
+    let a = c.args.a in
+    let told = subst (λ (p : Handle g.row.K.Denot). HasPlace a c.args.place (known p)) (sym c.desc.view_is) c.requires.place in
+    let here = subst (λ (xs : List (ℕ × ℕ)). IsPlace (2 * d.local.reads.len) xs a c.args.place) (sym k.reads) told in
+    subst (λ (q : Local). IsPlace (2 * q.reads.len) q.reads.items a c.args.place) (sym c.in-Ok.ensures.loads.local) here
+
+pub push_at-requires-clause-new : goal.push_at-requires-clause-new
+push_at-requires-clause-new g c =
     let f = c.args.stm.now.config in
     let good = g.K.MemRule.good c.args.stm.now.rule in
     let d = c.desc.inside in
@@ -62,8 +82,8 @@ push_new-requires-clause-new g c =
     let unread : item_at a d.local.reads.items ≡ None = ap (item_at a) k.reads ∙ subst (λ (p : Handle g.row.K.Denot). item_at a (known p).log.reads ≡ None) (sym c.desc.view_is) c.requires.unread in
     ap (λ (q : Local). item_at a q.reads.items) c.in-Ok.ensures.loads.local ∙ unread
 
-pub push_new-requires-clause-room : goal.push_new-requires-clause-room
-push_new-requires-clause-room g c =
+pub push_at-requires-clause-room : goal.push_at-requires-clause-room
+push_at-requires-clause-room g c =
     let reads = c.desc.inside.local.reads in
     let room : length reads.items ≢ reads.len = search rules in
     subst (λ (q : Local). length q.reads.items ≢ q.reads.len) (sym c.in-Ok.ensures.loads.local) room
@@ -91,8 +111,8 @@ invariant_of-desc-in-Ok g c =
     let who = ap (λ (y : SeatView g.row.K.Denot). y.who) c.load_valid.ensures.same.1 in
     let x = c.in-Ok.x in
     let loaded = c.in-Ok.ensures.loads in
-    let is = c.push_new.ensures ∙ ap (λ (q : Local). record q.reads { items = q.reads.items ++ (a, x) ∷ [] }) loaded.local in
-    let q = record m { reads = c.push_new.new.self } in
+    let is = c.push_at.ensures ∙ ap (λ (q : Local). record q.reads { items = q.reads.items ++ (a, x) ∷ [] }) loaded.local in
+    let q = record m { reads = c.push_at.new.self } in
     let moved = loaded.local in
     let config = ap (λ (p : Handle g.row.K.Denot). p.who.config) c.desc.view_is ∙ c.requires.stm.config in
     let value = ap (λ (p : Handle g.row.K.Denot). p.who.rule) c.desc.view_is ∙ c.requires.stm.rule in
@@ -109,7 +129,7 @@ invariant_of-desc-in-Ok g c =
       },
       stands-in g.K.MemRule.good f c.args.stm.now.rule u.who d.number q u.view (ap (λ (y : Who g.row.K.Denot). y.config) who ∙ config) (ap (λ (y : Who g.row.K.Denot). y.rule) who ∙ value) running
           (ap (λ (y : Local). y.holds) moved ∙ (c.desc.invariant.1.holds ∙ sym (ap (λ (y : View). y.gate.holds) loaded.is))) (subst (λ (y : Who g.row.K.Denot). HasRoom q) (sym who) lengths)
-          (laws.stays-read good f d.number d.local s.view i lazy plain quiet k a x m u.view c.push_new.new.self c.requires.inside unread is loaded),
+          (laws.stays-read good f d.number d.local s.view i lazy plain quiet k a x m u.view c.push_at.new.self c.requires.inside unread is loaded),
     )
 
 pub returns-in-Ok-clause-read : goal.returns-in-Ok-clause-read
@@ -135,10 +155,10 @@ returns-in-Ok-clause-read g c =
     let who = ap (λ (y : SeatView g.row.K.Denot). y.who) c.load_valid.ensures.same.1 in
     let x = c.in-Ok.x in
     let loaded = c.in-Ok.ensures.loads in
-    let is = c.push_new.ensures ∙ ap (λ (q : Local). record q.reads { items = q.reads.items ++ (a, x) ∷ [] }) loaded.local in
+    let is = c.push_at.ensures ∙ ap (λ (q : Local). record q.reads { items = q.reads.items ++ (a, x) ∷ [] }) loaded.local in
     let small : x < 2 ^ 64 = search rules in
-    told (λ n v w. HasRead good f n a (reads.Value x) v w) h e d.number u (record m { reads = c.push_new.new.self }) c.desc.view_is who c.desc.invariant.0.named
-    (subst (λ (p : Own). HasRead good f d.number a (reads.Value x) (known_of s.view o) (known_of u.view p)) (sym (calls.own-read d.local m a x c.push_new.new.self loaded.local is))
+    told (λ n v w. HasRead good f n a (reads.Value x) v w) h e d.number u (record m { reads = c.push_at.new.self }) c.desc.view_is who c.desc.invariant.0.named
+    (subst (λ (p : Own). HasRead good f d.number a (reads.Value x) (known_of s.view o) (known_of u.view p)) (sym (calls.own-read d.local m a x c.push_at.new.self loaded.local is))
     (laws.reads-new good f d.number d.local s.view i lazy plain quiet k a x m u.view small c.requires.inside unwritten unread room loaded))
 
 pub returns-in-Err-clause-read : goal.returns-in-Err-clause-read

@@ -11,8 +11,8 @@ use Rattle.steps_orec.specs.RecordFindings.{FindsAll, FindsClock, FindsLast}
 use Rattle.steps_orec.specs.Validating.{to_validate}
 use Rattle.alg_orec.proofs.Validity as validity
 use Rattle.alg_orec.specs.Validating.{Refuses}
-use Rattle.alg_orec.proofs.validate.validate.Goals.{After-clock-now, After-last-word}
-use Rattle.alg_orec.proofs.validate.validate.Goals as goal
+use Rattle.alg_orec.proofs.validate.validate_reads.Goals.{After-clock-now, After-last-word}
+use Rattle.alg_orec.proofs.validate.validate_reads.Goals as goal
 
 timed : (g : _) (c : After-clock-now g) → Tells (orec_clock (to_validate (home_of c.args.stm.now.config) c.args.seat.now.me.0.view)) (FindsClock c.args.stm.now.config) c.args.seat.now.me.0.view c.clock-now.result c.clock-now.new.seat.me.0.view
 timed g c = tells-of (orec_clock (to_validate (home_of c.args.stm.now.config) c.args.seat.now.me.0.view)) (FindsClock c.args.stm.now.config) _ _ _ c.clock-now.ensures.step
