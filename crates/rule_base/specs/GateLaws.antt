@@ -50,6 +50,16 @@ is-caller-at callers s r n busy = go (ltb n callers) refl
     go true q = grind (arith, nat_tests)
     go false q = absurd (busy (r.far n (grind (arith, nat_tests))))
 
+-- who was seen idle rests still, where the caller that stepped rests or was seen by nobody
+seen-put : (views : ℕ → GateView) (n : ℕ) (v : GateView) → v.checked ≡ (views n).checked → ((m : ℕ) → member (views m).checked n ≡ true → rests v.phase ≡ true) → ((m k : ℕ) → member (views m).checked k ≡ true → rests (views k).phase ≡ true)
+    → (m k : ℕ) → member (put views n v m).checked k ≡ true → rests (put views n v k).phase ≡ true
+seen-put views n v same own seen m k e = put-all views n v (λ j u. member (views m).checked j ≡ true → rests u.phase ≡ true) (own m) (λ j d. seen m j) k
+    (subst (λ l. member l k ≡ true) (put-all views n v (λ j u. u.checked ≡ (views j).checked) same (λ j d. refl) m) e)
+
+-- a caller alone, while it isn't idle, knows the algorithm that the gate names
+pub sole-knows : (callers n : ℕ) (s : GateScene) → GateRule callers s → ((s.views n).phase ≡ Idle → ⊥) → callers ≡ 1 → alg_of s.gate ≡ (s.views n).algorithm
+sole-knows callers n s r busy one = let low = is-caller-at callers s r n busy in subst (λ k. alg_of s.gate ≡ (s.views k).algorithm) (omega arith) (r.sole one)
+
 module _ (callers : ℕ) where
   pub others-rest : (w : World) (n : ℕ) → HasChecked callers n (w.views n) → GateRule callers (gate_scene w) → (k : ℕ) → k ≢ n → rests (w.views k).gate.phase ≡ true
   others-rest w n quiet g = others-rest-at callers n (gate_scene w) quiet g
@@ -73,6 +83,7 @@ module _ (callers : ℕ) where
         held = λ m e. grind (arith, r.held m, e);
         guarded = λ m e. grind (arith, r.guarded m, e);
         formed = r.formed;
+        sole = λ e. grind (arith, r.sole e);
         aimed = λ m e. grind (arith, r.aimed m, e);
         few = r.few;
         far = λ m e. grind (arith, r.far m, e, low);
@@ -97,6 +108,7 @@ module _ (callers : ℕ) where
         held = λ m e. grind (arith, r.held m, r.holding m, e, announced);
         guarded = λ m e. grind (arith, r.guarded m, r.holding m, e, announced);
         formed = r.formed;
+        sole = λ e. grind (arith, r.sole e);
         aimed = λ m e. grind (arith, r.aimed m, e);
         few = r.few;
         far = λ m e. grind (arith, r.far m, r.far n, e, announced);
@@ -112,20 +124,21 @@ module _ (callers : ℕ) where
         quiet = λ m e. grind (arith, r.quiet m, e, silent);
         status = λ m. grind (arith, r.status m);
         absent = λ m e. grind (arith, r.absent m, e);
-        mine = λ m e. grind (arith, r.mine m, e);
+        mine = put-all s.views n (record (s.views n) { phase = p; present = false }) (λ m u. u.holds ≡ true → holder_of s.gate ≡ 1 + m) (r.mine n) (λ m d. r.mine m);
         owner = λ m e. grind (arith, r.owner m, e);
         holding = λ m e. grind (arith, r.holding m, e, hold);
         closing = λ m e. grind (arith, r.closing m, e, closing);
         checked = λ m k e. grind (arith, r.checked m k, e);
-        seen = λ m k e. grind (arith, r.seen m k, e, seen m);
+        seen = seen-put s.views n (record (s.views n) { phase = p; present = false }) refl seen r.seen;
         named = λ m e. grind (arith, r.named m, e, out);
         spared = λ m e. grind (arith, r.spared m, e, out);
         held = λ m e. grind (arith, r.held m, e);
         guarded = λ m e. grind (arith, r.guarded m, e);
         formed = r.formed;
+        sole = λ e. r.sole e ∙ sym (put-all s.views n (record (s.views n) { phase = p; present = false }) (λ m u. u.algorithm ≡ (s.views m).algorithm) refl (λ m d. refl) 0);
         aimed = λ m e. grind (arith, r.aimed m, e, unaimed);
         few = r.few;
-        far = λ m e. grind (arith, r.far m, e, far);
+        far = put-all s.views n (record (s.views n) { phase = p; present = false }) (λ m u. callers ≤ m → u.phase ≡ Idle) far (λ m d. r.far m);
       }
 
       by : (s : GateScene) (p : Phase) → (s.views n).phase ≡ p → departs p ≡ true → ((s.views n).phase ≡ In → (s.views n).holds ≡ false) → GateRule callers s
@@ -163,6 +176,7 @@ module _ (callers : ℕ) where
         held = λ m e. grind (arith, r.held m, r.holding m, e, announced);
         guarded = λ m e. grind (arith, r.guarded m, r.holding m, e, announced);
         formed = r.formed;
+        sole = λ e. grind (arith, r.sole e);
         aimed = λ m e. grind (arith, r.aimed m, e, open_word s r);
         few = r.few;
         far = λ m e. grind (arith, r.far m, r.far n, e, announced);
@@ -201,6 +215,7 @@ module _ (callers : ℕ) where
             held = λ m e. grind (arith, r.mine m, e, a, free);
             guarded = λ m e. grind (arith, r.mine m, e, f, free);
             formed = formed-gate (fence_of word) (1 + n) (alg_of word) (closed-fits callers s r n low);
+            sole = λ e. grind (arith, r.sole e, a, same);
             aimed = λ m e. grind (arith, r.aimed m, e, a, same, f, fence);
             few = r.few;
             far = λ m e. grind (arith, r.far m, e, low);
@@ -222,6 +237,7 @@ module _ (callers : ℕ) where
         held = λ m e. grind (arith, r.held m, e);
         guarded = λ m e. grind (arith, r.guarded m, e);
         formed = r.formed;
+        sole = λ e. grind (arith, r.sole e);
         aimed = λ m e. grind (arith, r.aimed m, e);
         few = r.few;
         far = λ m e. grind (arith, r.far m, e, low);
@@ -254,24 +270,29 @@ module _ (callers : ℕ) where
         quiet = λ m e. grind (arith, r.quiet m, e);
         status = λ m. grind (arith, r.status m);
         absent = λ m e. grind (arith, r.absent m, e);
-        mine = λ m e. grind (arith, r.mine m, e);
+        mine = put-all s.views n (record (s.views n) { checked = seen }) (λ m u. u.holds ≡ true → holder_of s.gate ≡ 1 + m) (r.mine n) (λ m d. r.mine m);
         owner = λ m e. grind (arith, r.owner m, e);
         holding = λ m e. grind (arith, r.holding m, e);
         closing = λ m e. grind (arith, r.closing m, e);
         checked = λ m j e. grind (arith, r.checked m j, e, holds);
-        seen = λ m j e. grind (arith, r.seen m j, e, rest j);
+        seen = λ m j e. put-all s.views n (record (s.views n) { checked = seen }) (λ i u. rests (s.views i).phase ≡ true → rests u.phase ≡ true) (λ h. h) (λ i d h. h) j (put-all s.views n (record (s.views n) { checked = seen }) (λ i u. member u.checked j ≡ true → rests (s.views j).phase ≡ true) (rest j) (λ i d. r.seen i j) m e);
         named = λ m e. grind (arith, r.named m, e);
         spared = λ m e. grind (arith, r.spared m, e);
         held = λ m e. grind (arith, r.held m, e);
         guarded = λ m e. grind (arith, r.guarded m, e);
         formed = r.formed;
+        sole = λ e. grind (arith, r.sole e);
         aimed = λ m e. grind (arith, r.aimed m, e);
         few = r.few;
         far = λ m e. grind (arith, r.far m, e);
       }
 
       one_more : (s : GateScene) (j : ℕ) → GateRule callers s → rests (s.views k).phase ≡ true → member (k ∷ (s.views n).checked) j ≡ true → rests (s.views j).phase ≡ true
-      one_more s j r rest e = grind (arith, r.seen n j, rest, e)
+      one_more s j r rest e = by (eqb j k) refl
+        where
+          by : (b : Bool) → eqb j k ≡ b → rests (s.views j).phase ≡ true
+          by true q = subst (λ i. rests (s.views i).phase ≡ true) (sym (eqb-true j k q)) rest
+          by false q = r.seen n j (grind (arith, e, q))
 
       go : (s : GateScene) (b : Bool) → (b ≡ true → s.status k ≡ 0) → GateRule callers s → (s.views n).holds ≡ true
           → GateRule callers (record s { views = put s.views n (record (s.views n) { checked = if b then k ∷ (s.views n).checked else (s.views n).checked }) })
@@ -302,6 +323,7 @@ module _ (callers : ℕ) where
             held = λ m e. grind (arith, r.held m, e, a, same);
             guarded = λ m e. grind (arith, r.guarded m, e, f, kept);
             formed = formed-gate fence 0 alg (omega arith);
+            sole = λ e. grind (arith, r.sole e, a, same);
             aimed = λ m e. grind (arith, r.aimed m, e, a, same, f, kept);
             few = r.few;
             far = λ m e. grind (arith, r.far m, e);
@@ -327,12 +349,13 @@ module _ (callers : ℕ) where
             holding = λ m e. grind (arith, r.holding m, e);
             closing = λ m e. grind (arith, r.closing m, e);
             checked = λ m k e. grind (arith, r.checked m k, e);
-            seen = λ m k e. grind (arith, r.seen m k, e);
+            seen = seen-put s.views n (record (s.views n) { algorithm = alg }) refl (λ m. r.seen m n) r.seen;
             named = λ m e. grind (arith, out m, e, a, closing);
             spared = λ m e. grind (arith, out m, e, closing);
             held = λ m e. grind (arith, r.mine m, r.mine n holds, e, a);
             guarded = λ m e. grind (arith, r.mine m, r.mine n holds, e, f);
             formed = formed-gate fence (1 + n) alg (closed-fits callers s r n low);
+            sole = λ e. grind (arith, a, low, e);
             aimed = λ m e. grind (arith, out m, e, closing);
             few = r.few;
             far = λ m e. grind (arith, r.far m, e);
@@ -367,6 +390,7 @@ module _ (callers : ℕ) where
             held = λ m e. grind (arith, r.mine m, r.mine n holds, e, a, named);
             guarded = λ m e. grind (arith, r.mine m, r.mine n holds, e, f);
             formed = formed-gate number (1 + n) alg (closed-fits callers s r n low);
+            sole = λ e. grind (arith, r.sole e, a, same);
             aimed = λ m e. grind (arith, out m, e, closing);
             few = r.few;
             far = λ m e. grind (arith, r.far m, e);
@@ -404,6 +428,7 @@ module _ (callers : ℕ) where
             held = λ m e. grind (arith, r.mine m, e, a, free, named);
             guarded = λ m e. grind (arith, r.mine m, e, f, free, own);
             formed = formed-gate fence (1 + n) alg (closed-fits callers s r n low);
+            sole = λ e. grind (arith, r.sole e, a, same);
             aimed = λ m e. grind (arith, r.aimed m, e, a, same, f, kept);
             few = r.few;
             far = λ m e. grind (arith, r.far m, e, inside);
@@ -441,6 +466,7 @@ module _ (callers : ℕ) where
             held = λ m e. grind (arith, r.held m, e, a, same);
             guarded = λ m e. grind (arith, r.guarded m, e, f, kept);
             formed = formed-gate fence 0 alg (omega arith);
+            sole = λ e. grind (arith, r.sole e, a, same);
             aimed = λ m e. grind (arith, r.aimed m, e, a, same, f, kept);
             few = r.few;
             far = λ m e. grind (arith, r.far m, e, inside);
@@ -460,17 +486,18 @@ module _ (callers : ℕ) where
         quiet = λ m e. grind (arith, r.quiet m, e, phase);
         status = put-all s.views n k (λ m u. s.status m ≡ (if u.present then announced else 0)) (r.status n ∙ ap (λ (b : Bool). if b then announced else 0) (sym present)) (λ m d. r.status m);
         absent = put-all s.views n k (λ m u. u.phase ≡ Idle → u.present ≡ false) (λ e. present ∙ r.absent n (sym phase ∙ e)) (λ m d. r.absent m);
-        mine = λ m e. grind (arith, r.mine m, e, holds);
+        mine = put-all s.views n k (λ m u. u.holds ≡ true → holder_of s.gate ≡ 1 + m) (λ e. r.mine n (sym holds ∙ e)) (λ m d. r.mine m);
         owner = λ m e. grind (arith, r.owner m, e, holds);
         holding = put-all s.views n k (λ m u. u.holds ≡ true → may_hold u.phase ≡ true) (λ e. ap may_hold phase ∙ r.holding n (sym holds ∙ e)) (λ m d. r.holding m);
         closing = λ m e. grind (arith, r.closing m, e, phase, holds);
         checked = λ m j e. grind (arith, r.checked m j, e, checked, holds);
-        seen = λ m j e. grind (arith, r.seen m j, e, checked, phase);
+        seen = seen-put s.views n k checked (λ m e. ap rests phase ∙ r.seen m n e) r.seen;
         named = λ m e. grind (arith, r.named m, e, phase, algorithm);
         spared = λ m e. grind (arith, r.spared m, e, phase, fence);
         held = λ m e. grind (arith, r.held m, e, holds, algorithm);
         guarded = λ m e. grind (arith, r.guarded m, e, holds, fence);
         formed = r.formed;
+        sole = λ e. grind (arith, r.sole e, algorithm);
         aimed = λ m e. grind (arith, r.aimed m, e, phase, aim);
         few = r.few;
         far = λ m e. grind (arith, r.far m, e, phase);

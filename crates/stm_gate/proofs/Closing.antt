@@ -40,6 +40,7 @@ module _ (good : List ℕ → Type 0) (c : Config) (n : ℕ) where
       grows = grows-same (known_of v o) (known_of last o) refl refl (record { place = Status n; act = Store 0; found = None } ∷ record { place = Gate; act = Load; found = Some gate } ∷ record { place = Status n; act = Store announced; found = None } ∷ []) refl refl refl refl;
       rises = refl;
       installs = refl;
+      sole = λ one. absurd (let many = two who.0 n c.callers who.1 low who.2 in omega arith);
     },
     (record { place = Status n; act = Store 0; found = None } ∷ record { place = Gate; act = Load; found = Some gate } ∷ record { place = Status n; act = Store announced; found = None } ∷ [], refl, Load, (1, omega arith, refl)),
     who,
@@ -73,6 +74,7 @@ module _ (good : List ℕ → Type 0) (c : Config) (n : ℕ) where
       grows = grows-same (known_of v o) (known_of last o) refl refl (record { place = Status n; act = Store 0; found = None } ∷ record { place = Gate; act = Exchange gate (gate_word (fence_of gate) (1 + n) (alg_of gate)); found = Some found } ∷ record { place = Gate; act = Load; found = Some gate } ∷ record { place = Status n; act = Store announced; found = None } ∷ []) refl refl refl refl;
       rises = refl;
       installs = refl;
+      sole = λ one. absurd (let many = two who.0 n c.callers who.1 low who.2 in omega arith);
     },
     (record { place = Status n; act = Store 0; found = None } ∷ record { place = Gate; act = Exchange gate (gate_word (fence_of gate) (1 + n) (alg_of gate)); found = Some found } ∷ record { place = Gate; act = Load; found = Some gate } ∷ record { place = Status n; act = Store announced; found = None } ∷ [], refl, Exchange gate (gate_word (fence_of gate) (1 + n) (alg_of gate)), (1, omega arith, refl)),
     who,
@@ -109,6 +111,7 @@ module _ (good : List ℕ → Type 0) (c : Config) (n : ℕ) where
     rises = refl;
     installs = refl;
     gate = (gate, (record { place = Status n; act = Store 0; found = None } ∷ record { place = Gate; act = Exchange gate (gate_word (fence_of gate) (1 + n) (alg_of gate)); found = Some found } ∷ record { place = Gate; act = Load; found = Some gate } ∷ record { place = Status n; act = Store announced; found = None } ∷ [], refl, Load, (2, omega arith, refl)), free, sym named);
+    sole = λ one. named ∙ (l.1.sole one ∙ ap (λ (y : View). y.gate.algorithm) a.2);
   })
     where
       here : (found == gate) ≡ true
@@ -126,11 +129,12 @@ module _ (good : List ℕ → Type 0) (c : Config) (n : ℕ) where
       path : w ≡ last
       path = d.2 ∙ ap (λ y. view_after (depart n) d.0 y 0) (k.2 ∙ ap (λ y. view_after (take_gate n gate) k.0 y found) (l.2 ∙ ap (λ y. view_after aim l.0 y gate) a.2))
 
-  pub tells-reopened : (fence : ℕ) (alg : Alg) (v w : View) (o : Own) → (known_of v o).locked ≡ false → Tells (reopen fence alg) Nothing v (gate_word fence 0 alg) w → Stays (known_of v o) (known_of w o)
-  tells-reopened fence alg v w o unlocked t = subst (λ (y : View). Stays (known_of v o) (known_of y o)) (sym t.2) (record {
+  pub tells-reopened : (fence : ℕ) (alg : Alg) (v w : View) (o : Own) → (known_of v o).locked ≡ false → Tells (reopen fence alg) Nothing v (gate_word fence 0 alg) w → Stays c (known_of v o) (known_of w o)
+  tells-reopened fence alg v w o unlocked t = subst (λ (y : View). Stays c (known_of v o) (known_of y o)) (sym t.2) (record {
     idle = (refl, refl, refl, refl, unlocked);
     made = refl;
     grows = grows-same (known_of v o) (known_of (view_after (reopen fence alg) t.0 v (gate_word fence 0 alg)) o) refl refl (record { place = Gate; act = Store (gate_word fence 0 alg); found = None } ∷ []) refl refl refl refl;
     rises = refl;
     installs = refl;
+    sole = λ one. refl;
   })

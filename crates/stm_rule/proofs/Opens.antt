@@ -80,6 +80,7 @@ opening_gate c config = record {
   spared = λ n e. absurd cc;
   guarded = λ n e. absurd cc;
   formed = refl;
+  sole = λ e. refl;
   aimed = λ n e. absurd cc;
   few = (let l = config.callers.1 in omega arith);
   far = λ n l. refl;

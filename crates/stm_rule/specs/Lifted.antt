@@ -1,6 +1,8 @@
 -- THE LAWS OF ALL KINDS, with a fence: each is the core's law, lifted.
-use Rattle.std.proofs.Common.{◌≡◌, ℕ, ◌<◌, List, [], Bool, true, subst}
-use Rattle.rule_base.specs.Encodings.{fence_of, gate_word}
+use Rattle.std.proofs.Common.{◌≡◌, ℕ, ◌∙◌, ◌<◌, List, [], Bool, subst, sym}
+use Rattle.rule_base.specs.Encodings.{alg_of, fence_of, gate_word}
+use Rattle.rule_base.specs.GateLaws.{sole-knows}
+use Rattle.rule_base.specs.GateRule.{gate_scene}
 use Rattle.rule_base.specs.GateSteps.{CanAim, CanAnnounce, CanCheck, CanDepart, CanLoadGate, CanLookGate, CanReopen, CanReturn, CanSeize, CanTakeGate, aim, announce, check, depart, load_gate, look_gate, reopen, return_gate, seize, take_gate}
 use Rattle.rule_base.specs.InstallSteps.{CanEvenClock, CanInstall, CanMark, CanSettle, Settles, even_clock, install, settle, store_base, store_done}
 use Rattle.rule_base.specs.Ranks.{home_of}
@@ -16,6 +18,7 @@ use Rattle.rule_seq.specs.TmlSteps.{CanTmlAgain, CanTmlBegin, CanTmlCommit, CanT
 use Rattle.stm_model.specs.declared.alg.Alg.{Alg}
 use Rattle.stm_rule.specs.Findings.{FindsAgain, FindsBegin, FindsGate, FindsHolder, FindsLock, FindsSole, FindsTaken, FindsWithin, OrecFails, OrecSettled}
 use Rattle.stm_rule.specs.NoteSteps.{CanLoadEnd, Ends, EndsAt, Hears, hear, load_end}
+use Rattle.rule_base.specs.declared.views.Phase.TheVariants.{Idle, Announced, In}
 use Rattle.rule_base.specs.declared.views.View.{View}
 use Rattle.stm_model.specs.declared.config.Config.{Config}
 use Rattle.rule_base.specs.Fence.{veiled, veil}
@@ -95,8 +98,12 @@ module _ (good : (ℕ → ℕ) → Type 0) (c : Config) (n : ℕ) where
   pub announces : n < c.callers → StepLaw (Whole good c) (announce n) Nothing n CanAnnounce
   announces low = lift good c (announce n) Nothing Nothing n CanAnnounce (sparing.announces good c n) (λ w g may s. s) (core.announces good c n low)
 
+  -- alone, it knows the algorithm that the gate names
+  alone : (w : World) → Whole good c w → ((w.views n).gate.phase ≡ Idle → ⊥) → c.callers ≡ 1 → alg_of w.gate ≡ (w.views n).gate.algorithm
+  alone w g busy = sole-knows c.callers n (gate_scene (veil w)) g.core.gate busy
+
   pub loads_gate : StepLaw (Whole good c) load_gate (FindsGate c n) n CanLoadGate
-  loads_gate = lift good c load_gate (FindsHolder c n) (FindsGate c n) n CanLoadGate (sparing.loads_gate good c n) (λ w g may s. record { closer = s; unfenced = g.fence.off }) (core.loads_gate good c n)
+  loads_gate = lift good c load_gate (FindsHolder c n) (FindsGate c n) n CanLoadGate (sparing.loads_gate good c n) (λ w g may s. record { closer = s; unfenced = g.fence.off; sole = alone w g (λ e. let k : Announced ≡ Idle = sym may ∙ e in cc) }) (core.loads_gate good c n)
 
   pub departs : StepLaw (Whole good c) (depart n) Nothing n CanDepart
   departs = lift good c (depart n) Nothing Nothing n CanDepart (sparing.departs good c n) (λ w g may s. s) (core.departs good c n)
@@ -108,7 +115,7 @@ module _ (good : (ℕ → ℕ) → Type 0) (c : Config) (n : ℕ) where
   loads_end = lift good c load_end EndsAt (Ends good c) n CanLoadEnd (sparing.loads_end good c n) (λ w g may s. record { rule = g; clock = s }) (core.loads_end good c n)
 
   pub aims : StepLaw (Whole good c) aim (FindsGate c n) n CanAim
-  aims = lift good c aim (FindsHolder c n) (FindsGate c n) n CanAim (sparing.aims good c n) (λ w g may s. record { closer = s; unfenced = g.fence.off }) (closing.aims good c n)
+  aims = lift good c aim (FindsHolder c n) (FindsGate c n) n CanAim (sparing.aims good c n) (λ w g may s. record { closer = s; unfenced = g.fence.off; sole = alone w g (λ e. let k : Announced ≡ Idle = sym may ∙ e in cc) }) (closing.aims good c n)
 
   pub takes_gate : (word : ℕ) → n < c.callers → StepLaw (Whole good c) (take_gate n word) (FindsTaken c n word) n (CanTakeGate word)
   takes_gate word low = lift good c (take_gate n word) (FindsTaken c n word) (FindsTaken c n word) n (CanTakeGate word) (sparing.takes_gate good c n word low) (λ w g may s. s) (closing.takes_gate good c n word low)
@@ -135,7 +142,7 @@ module _ (good : (ℕ → ℕ) → Type 0) (c : Config) (n : ℕ) where
   installs fence alg = lift good c (install n fence alg) Nothing Nothing n (CanInstall fence alg) (sparing.installs good c n fence alg) (λ w g may s. s) (installing.installs good c n fence alg)
 
   pub looks_gate : StepLaw (Whole good c) look_gate (FindsGate c n) n CanLookGate
-  looks_gate = lift good c look_gate (FindsHolder c n) (FindsGate c n) n CanLookGate (sparing.looks_gate good c n) (λ w g may s. record { closer = s; unfenced = g.fence.off }) (promotion.looks_gate good c n)
+  looks_gate = lift good c look_gate (FindsHolder c n) (FindsGate c n) n CanLookGate (sparing.looks_gate good c n) (λ w g may s. record { closer = s; unfenced = g.fence.off; sole = alone w g (λ e. let k : In ≡ Idle = sym may ∙ e in cc) }) (promotion.looks_gate good c n)
 
   pub seizes : (fence : ℕ) (alg : Alg) → StepLaw (Whole good c) (seize n fence alg) (FindsTaken c n (gate_word fence 0 alg)) n (CanSeize fence alg)
   seizes fence alg = lift good c (seize n fence alg) (FindsTaken c n (gate_word fence 0 alg)) (FindsTaken c n (gate_word fence 0 alg)) n (CanSeize fence alg) (sparing.seizes good c n fence alg) (λ w g may s. s) (promotion.seizes good c n fence alg)

@@ -1,12 +1,11 @@
 -- THE INVARIANT of the shared words, on which every promise rests: the clauses of each part, side by side. The head of
 -- each part's file says what breaks without it, and docs/RULE.md goes through them. The core is said of the world under
 -- the veil, so no algorithm's clause knows of fences.
-use Rattle.std.specs.Prelude.{ℕ, ◌≡◌, ◌≤◌, ◌%◌, true, false}
+use Rattle.std.specs.Prelude.{ℕ, ◌≡◌, ◌≤◌, ◌%◌, false}
 use Rattle.stm_model.specs.declared.alg.Alg.{Alg}
 use Rattle.rule_base.specs.History.{word_now}
 use Rattle.stm_model.specs.declared.alg.Alg.TheVariants.{Cgl, Tml, OrecLazy, OrecEager, RingSw, Serial}
 use Rattle.stm_model.specs.declared.config.Config.{Config}
-use Rattle.rule_base.specs.Encodings.{alg_of}
 use Rattle.rule_base.specs.Fence.{veil, fence_scene, FenceRule}
 use Rattle.rule_base.specs.GateRule.{gate_scene, GateRule}
 use Rattle.rule_base.specs.HistoryRule.{history_scene, HistoryRule}

@@ -79,6 +79,7 @@ module _ (good : List ℕ → Type 0) (c : Config) (n : ℕ) where
     fence = b.fence;
     unfenced = b.unfenced;
     named = b.named;
+    sole = b.sole;
     start = b.start;
     fresh = b.fresh;
     log = b.log;
@@ -103,6 +104,7 @@ module _ (good : List ℕ → Type 0) (c : Config) (n : ℕ) where
       grows = grows-same (known_of v o) (known_of last o) refl refl (record { place = Status n; act = Store 0; found = None } ∷ first_steps gate) refl refl refl refl;
       rises = refl;
       installs = refl;
+      sole = λ one. absurd (let many = two who.0 n c.callers who.1 low who.2 in omega arith);
     },
     (record { place = Status n; act = Store 0; found = None } ∷ first_steps gate, refl, Load, (1, omega arith, refl)),
     who,
@@ -138,6 +140,10 @@ module _ (good : List ℕ → Type 0) (c : Config) (n : ℕ) where
     pub trail-looked : (known_of t o).trail ≡ first_steps gate ++ (known_of v o).trail
     trail-looked = same (λ y. y.steps.trail)
 
+    -- alone, it knew the algorithm
+    knew : c.callers ≡ 1 → alg_of gate ≡ v.gate.algorithm
+    knew one = l.1.sole one ∙ ap (λ (y : View). y.gate.algorithm) a.2
+
     pub tells-begun : (start : ℕ) (w : View) (k : Local) → holder_of gate ≡ 0 → fence_of gate < 2 ^ 48 → k.holds ≡ false → IsFresh o → StartsAt good c n (alg_of gate) start t w → BeginsAt good c n (alg_of gate) (known_of v o) (known_of w o)
     tells-begun start w k zero fits free fresh b =
         let i = b.inside (record k { fence = fence_of gate }) (record { is = b.fence ∙ same (λ y. y.gate.fence); fits = fits }) free in
@@ -153,6 +159,7 @@ module _ (good : List ℕ → Type 0) (c : Config) (n : ℕ) where
           fence = (gate, found-later Gate gate (known_of v o) (known_of t o) (known_of w o) found-gate g.more g.trail, seen);
           unfenced = λ off. seen ∙ l.1.unfenced off;
           named = i.named;
+          sole = knew;
           start = subst (λ x. Found (start_word (alg_of gate)) x (known_of v o) (known_of w o)) (sym q.is) (found-earlier (start_word (alg_of gate)) start (known_of v o) (known_of t o) (known_of w o) q.found (first_steps gate) trail-looked);
           fresh = (let f = q.fresh in let s = q.is in let e : t.history.front ≡ v.history.front = same (λ y. y.history.front) in omega arith);
           log = q.log;
@@ -173,14 +180,15 @@ module _ (good : List ℕ → Type 0) (c : Config) (n : ℕ) where
       wider : (place : At) (x : ℕ) → Found place x (known_of t o) (known_of u o) → Found place x (known_of v o) (known_of w o)
       wider place x f = found-later place x (known_of v o) (known_of u o) (known_of w o) (found-earlier place x (known_of v o) (known_of t o) (known_of u o) f (first_steps gate) trail-looked) (record { place = Status n; act = Store 0; found = None } ∷ []) (ap (λ (y : View). y.steps.trail) d.2)
 
-      pub stays : Waits (alg_of gate) t u → Stays (known_of v o) (known_of w o)
-      stays b = let q = b.keeps o in subst (λ (y : View). Stays (known_of v o) (known_of y o)) (sym d.2) (record {
+      pub stays : Waits (alg_of gate) t u → Stays c (known_of v o) (known_of w o)
+      stays b = let q = b.keeps o in subst (λ (y : View). Stays c (known_of v o) (known_of y o)) (sym d.2) (record {
         idle = (ap departed b.can.phase, ap (λ p. is_in (departed p)) b.can.phase, ap (λ p. is_closing (departed p)) b.can.phase, b.can.reopened, unlocked-of u.gate.algorithm u.lock.taken u.tml.writer b.can.clear.unlocked b.can.clear.unwritten);
         made = q.made ∙ same (λ y. (known_of y o).made);
         grows = grows-trans (known_of v o) (known_of u o) (known_of (view_after (depart n) d.0 u 0) o) (grows-trans (known_of v o) (known_of t o) (known_of u o) grows-looked q.grows)
             (grows-same (known_of u o) (known_of (view_after (depart n) d.0 u 0) o) refl refl (record { place = Status n; act = Store 0; found = None } ∷ []) refl refl refl refl);
         rises = q.rises ∙ same (λ y. y.steps.rises);
         installs = q.installs ∙ same (λ y. reverse y.steps.installs);
+        sole = λ one. b.can.named ∙ knew one;
       })
 
       finds-open : holder_of gate ≡ 0 → Waits (alg_of gate) t u → FindsOpen good c n (alg_of gate) (known_of v o) (known_of w o)

@@ -53,8 +53,8 @@ Asks Idle v = Unit {0}
 Asks Dropped v = v.running ≡ true
 Asks Reopened v = v.running ≡ false
 
-stays-owed : (v w : Known) → v.running ≡ false → Stays v w → owed w ≤ owed v + 2
-stays-owed v w out h = let a = owed-out v out in let b = owed-out w h.idle.1 in let r = h.rises in omega arith
+stays-owed : (c : Config) (v w : Known) → v.running ≡ false → Stays c v w → owed w ≤ owed v + 2
+stays-owed c v w out h = let a = owed-out v out in let b = owed-out w h.idle.1 in let r = h.rises in omega arith
 
 pub quits-owed : (v w : Known) → v.running ≡ true → Quits v w → owed w ≤ owed v
 quits-owed v w inside h = let a = owed-in v inside in let b = owed-out w h.ends.idle.1 in let r = h.rises.1 in let l = quit-low v.alg (has_written v) in omega arith
@@ -84,9 +84,9 @@ module _ (good : List ℕ → Type 0) (c : Config) (n : ℕ) where
 
   pub tells-owed : (said : Said) (v w : Known) → Asks said v → Tells good c n said v w → owed w ≤ owed v + 2
   tells-owed (TryBegin (begins.Begun alg)) v w out t = let a = owed-out v out in let b = owed-in w t.running in let r = t.base in omega arith
-  tells-owed (TryBegin (begins.Closed gate)) v w out t = stays-owed v w out t.0
-  tells-owed (TryBegin (begins.Held word)) v w out t = stays-owed v w out t.0
-  tells-owed (TryBegin (begins.ClockFull clock)) v w out t = stays-owed v w out t.0
+  tells-owed (TryBegin (begins.Closed gate)) v w out t = stays-owed c v w out t.0
+  tells-owed (TryBegin (begins.Held word)) v w out t = stays-owed c v w out t.0
+  tells-owed (TryBegin (begins.ClockFull clock)) v w out t = stays-owed c v w out t.0
   tells-owed (Reply op reply) v w inside t = le-two (owed w) (owed v) t.0.owes
   tells-owed (Stopped op stop) v w inside t =
       let q = quits-owed t.before w t.running (stops-quits t.address stop t.before w t.stops) in let p = t.carries.owes in omega (arith, q, p)
@@ -105,7 +105,7 @@ module _ (good : List ℕ → Type 0) (c : Config) (n : ℕ) where
   tells-owed (TryCommit (commits.Again word had now)) v w inside t = goes-owed v w inside t.0.continues.running t.0.continues.base
   tells-owed (TryCommit (commits.ClockFull clock)) v w inside t = le-two (owed w) (owed v) (quits-owed v w inside t.0)
   tells-owed (TryClose closes.Closed) v w out t = let a = owed-out v out in let b = owed-out w t.holds.running in let r = t.rises in omega arith
-  tells-owed (TryClose (closes.Taken gate)) v w out t = stays-owed v w out t.0
+  tells-owed (TryClose (closes.Taken gate)) v w out t = stays-owed c v w out t.0
   tells-owed (Looked looks.Quiet) v w out t = let a = owed-out v out in let b = owed-out w t.0.closed.holds.running in let r = t.0.rises in omega arith
   tells-owed (Looked (looks.Busy caller status)) v w out t = let a = owed-out v out in let b = owed-out w t.0.closed.holds.running in let r = t.0.rises in omega arith
   tells-owed (Installed alg) v w out t =
@@ -114,7 +114,7 @@ module _ (good : List ℕ → Type 0) (c : Config) (n : ℕ) where
       let a = owed-out v out in let b = owed-out w (ap (λ (k : Known). k.running) t.1 ∙ out) in let r : w.rises ≡ v.rises = ap (λ (k : Known). k.rises) t.1 in omega arith
   tells-owed Idle v w any t = (let e : owed w ≡ owed v = ap owed t in omega (arith, e))
   tells-owed Dropped v w inside t = let x = t.1 in ends-owed v w (quit_rise v.alg (has_written v)) inside x.0.ends x.2 (let l = quit-low v.alg (has_written v) in omega arith)
-  tells-owed Reopened v w out t = stays-owed v w out t
+  tells-owed Reopened v w out t = stays-owed c v w out t
 
   pub tells-found : (said : Said) (v w : Known) → Tells good c n said v w → MatchOption (clock_of said) (Unit {0}) (λ clock. (2 ^ 62 ≤ clock) × Loaded w clock)
   tells-found (TryBegin (begins.Begun alg)) v w t = tt

@@ -627,7 +627,7 @@ module _ {K : Type 0} (good : List ℕ → Type 0) (stm : Stm K) (u : Worker K) 
       (began good stm u s d same h.grows alg r o between here is clear h)
 
   -- nothing began
-  pub turned-stayed : (said : Said) → u.phase ≡ Between → MaySay (place_of u) said → Asks said (known u.desc) → Tells good stm.config (caller_of u.desc.who.role) said (known u.desc) (known d) → place_of u ≡ after (place_of u) said → Stays (known u.desc) (known d)
+  pub turned-stayed : (said : Said) → u.phase ≡ Between → MaySay (place_of u) said → Asks said (known u.desc) → Tells good stm.config (caller_of u.desc.who.role) said (known u.desc) (known d) → place_of u ≡ after (place_of u) said → Stays stm.config (known u.desc) (known d)
       → Turned good stm MaySay u said (record u { desc = d })
   turned-stayed said between here asks told is h =
       let r = rest-between u.phase between in

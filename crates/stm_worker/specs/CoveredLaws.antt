@@ -134,7 +134,7 @@ module _ {K : Type 0} (good : List ℕ → Type 0) (stm : Stm K) (u : Worker K) 
     same-covered : (x : Known) → raised x ≡ raised (known u.desc) → Covered (uncovered + 0) each most all x (place_of u)
     same-covered x e = omega (arith, e, covers)
 
-    stays-covered : (x : Known) → u.phase ≡ Between → Stays (known u.desc) x → Covered (uncovered + 0) each most all x (place_of u)
+    stays-covered : (x : Known) → u.phase ≡ Between → Stays stm.config (known u.desc) x → Covered (uncovered + 0) each most all x (place_of u)
     stays-covered x e t = same-covered x (raised-out x t.idle.1 ∙ (t.rises ∙ sym (raised-out (known u.desc) (idles e))))
 
     goes-covered : (x : Known) → u.phase ≡ Inside → x.running ≡ true → x.base ≡ (known u.desc).base → Covered (uncovered + 0) each most all x (place_of u)

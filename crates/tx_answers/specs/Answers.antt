@@ -47,12 +47,14 @@ abbrev pub entry : ℕ → ℕ → ℕ → Log → Entry
 entry time caller number l = record { time = time; caller = caller; number = number; reads = l.reads; writes = l.writes }
 
 -- nothing began
-pub record Stays (v w : Known) : Type 0 where
+pub record Stays (c : Config) (v w : Known) : Type 0 where
   pub idle : IsIdle w
   pub made : w.made ≡ v.made
   pub grows : Grows v w
   pub rises : w.rises ≡ v.rises
   pub installs : w.installs ≡ v.installs
+  -- and the gate names the algorithm that a caller alone knew
+  pub sole : c.callers ≡ 1 → w.alg ≡ v.alg
 
 -- where a start is loaded
 abbrev pub start_word : Alg → At
@@ -230,6 +232,8 @@ module _ (good : List ℕ → Type 0) (c : Config) (n : ℕ) where
     pub fence : (word : ℕ) × Found Gate word v w × (w.fence ≡ fence_of word)
     pub unfenced : c.fence ≡ false → w.fence ≡ 0
     pub named : w.alg ≡ alg
+    -- with one caller that is the algorithm that it knew: nobody else has installed another
+    pub sole : c.callers ≡ 1 → alg ≡ v.alg
     pub start : Found (start_word alg) w.start v w
     pub fresh : v.front ≤ w.start
     pub log : w.log ≡ no_log
@@ -257,9 +261,9 @@ module _ (good : List ℕ → Type 0) (c : Config) (n : ℕ) where
   -- what `try_begin` tells
   abbrev pub Begins : Begin → Known → Known → Type 0
   Begins (Begun alg) v w = BeginsAt alg v w
-  Begins (Closed gate) v w = Stays v w × Found Gate gate v w × NamesOther c n (holder_of gate) × HasOthers
-  Begins (Held word) v w = Stays v w × FindsOpen w.alg v w × (0 < word) × IsHeld w.alg word v w × HasOthers
-  Begins (ClockFull clock) v w = Stays v w × FindsOpen w.alg v w × (asks_at_begin w.alg ≡ true) × FindsFull clock v w
+  Begins (Closed gate) v w = Stays c v w × Found Gate gate v w × NamesOther c n (holder_of gate) × HasOthers
+  Begins (Held word) v w = Stays c v w × FindsOpen w.alg v w × (0 < word) × IsHeld w.alg word v w × HasOthers
+  Begins (ClockFull clock) v w = Stays c v w × FindsOpen w.alg v w × (asks_at_begin w.alg ≡ true) × FindsFull clock v w
 
   -- a read or a write of a ended the attempt by this stop
   abbrev pub Stops : ℕ → Stop → Known → Known → Type 0
@@ -393,11 +397,12 @@ module _ (good : List ℕ → Type 0) (c : Config) (n : ℕ) where
     pub rises : w.rises ≡ v.rises
     pub installs : w.installs ≡ v.installs
     pub gate : FindsOpen w.alg v w
+    pub sole : c.callers ≡ 1 → w.alg ≡ v.alg
 
   -- what `close_gate` tells
   abbrev pub Closes : CloseGate → Known → Known → Type 0
   Closes gates.Closed v w = ClosesGate v w
-  Closes (gates.Taken gate) v w = Stays v w × Found Gate gate v w × NamesOther c n (holder_of gate) × HasOthers
+  Closes (gates.Taken gate) v w = Stays c v w × Found Gate gate v w × NamesOther c n (holder_of gate) × HasOthers
 
   -- what a look leaves alone: it goes on where the last one stopped
   pub record Looked (v w : Known) : Type 0 where
@@ -426,4 +431,4 @@ module _ (good : List ℕ → Type 0) (c : Config) (n : ℕ) where
 
   -- what `reopen` does
   abbrev pub Reopens : Known → Known → Type 0
-  Reopens v w = Stays v w
+  Reopens v w = Stays c v w

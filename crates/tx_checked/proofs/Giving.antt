@@ -11,7 +11,7 @@ use Rattle.tx_answers.specs.Known.{Known, Grows, Fenced, zeros}
 use Rattle.tx_checked.specs.Ranges.{GivesBack}
 use Rattle.tx_checked.specs.Stands.{Any}
 
-pub given : (c : Config) (n : ℕ) (r : Give) (u v w x : Known) → Grows u v → v.made ≡ u.made → Gives Any c n r v w → Stays w x → GivesBack c n r u x
+pub given : (c : Config) (n : ℕ) (r : Give) (u v w x : Known) → Grows u v → v.made ≡ u.made → Gives Any c n r v w → Stays c w x → GivesBack c n r u x
 given c n (Committed time) u v w x grew made g s =
     let same : entry time n (length v.made) v.fenced.log ≡ entry time n (length u.made) u.fenced.log = (λ i. entry time n (length (made i)) ((grew.fenced i).log)) in
     let le = grew.front_rose in let lt = g.above in let rose = s.grows.front_rose in let at = g.front in

@@ -27,7 +27,7 @@ returns-in-Inside g c =
     made-idle (g.K.MemRule.good c.args.stm.now.rule) c.args.stm.now c.args.w.now c.requires c.end_attempt.new.desc e.same e.idle e.owes e.keeps (λ b. absurd (let x = sym c.in-Inside.is ∙ b in cc))
 
 -- what was closed is given up
-opened : {K : Type 0} (good : List ℕ → Type 0) (stm : Stm K) (v : Worker K) → Sound good stm v → (d : Handle K) → IsSameCaller v.desc d → HoldsClosed (known v.desc) → Stays (known v.desc) (known d) → (v.phase ≡ Between → ⊥) → MadeIdle good stm v (record v { desc = d })
+opened : {K : Type 0} (good : List ℕ → Type 0) (stm : Stm K) (v : Worker K) → Sound good stm v → (d : Handle K) → IsSameCaller v.desc d → HoldsClosed (known v.desc) → Stays stm.config (known v.desc) (known d) → (v.phase ≡ Between → ⊥) → MadeIdle good stm v (record v { desc = d })
 opened good stm v s d same closed h other =
     let owes : owed (known v.desc) ≡ (known v.desc).rises = ap (λ b. if b then (known v.desc).base + 2 else (known v.desc).rises) closed.running in
     let rises = h.rises in
