@@ -44,7 +44,7 @@ pub record SumRead (words : ℕ) (l : Log) (start end total : ℕ) (k : Log) : T
 abbrev pub HasSum : (List ℕ → Type 0) → ℕ → ℕ → ℕ → ℕ → Type 0
 HasSum good words start end total = (m : List ℕ) × good m × (length m ≡ words) × (total ≡ sum_in start end m % 2 ^ 64)
 
-only-read : (words : ℕ) (l : Log) (rs : List (ℕ × ℕ)) (k : Log) → AllRead words l rs k → k.writes ≡ l.writes
+pub only-read : (words : ℕ) (l : Log) (rs : List (ℕ × ℕ)) (k : Log) → AllRead words l rs k → k.writes ≡ l.writes
 only-read words l [] k read = ap (λ (j : Log). j.writes) (sym read)
 only-read words l (r ∷ rs) k read = only-read words read.1 rs k read.3 ∙ read.2.0
 
@@ -143,6 +143,20 @@ module _ (rule good : List ℕ → Type 0) (words : ℕ) (same : SameMemories go
       let before : overlay m k.writes ≡ m = ap (overlay m) (only-read words l rs k read) ∙ ap (λ (i : Log). overlay m i.writes) fresh in
       let seen = subst (λ (i : Log). Explains (overlay m i.writes) rs) fresh s.1 in
       subst rule (sym (turns.left m ∙ ap (λ (x : List ℕ). written x (w ∷ ws)) before)) (leads m (g, len) seen small)
+
+-- such an attempt read a range's words, whose sum is a word in each memory under the rule
+module _ (rule good : List ℕ → Type 0) (words : ℕ) (same : SameMemories good rule) (l : Log) (fresh : l ≡ nothing) (start end total : ℕ) (k : Log) (r : SumRead words l start end total k) (low : end ≤ words) (fits : (m : List ℕ) → IsSound rule words m → sum_in start end m < 2 ^ 64) where
+  sum-at : (m : List ℕ) → IsSound rule words m → Explains m (placed start r.found) → total ≡ sum_in start end m
+  sum-at m s ex =
+      let is = sum-is words l start end total k r m ex (let long = s.1 in omega arith) in
+      let small = fits m s in omega arith
+
+  pub does-sum : DoesOver rule words (λ m. unchanged (sum_in start end m) m) nothing total k
+  does-sum = does-read rule good words same l fresh (placed start r.found) k r.read (λ m. unchanged (sum_in start end m) m) total (λ m s ex. ap (λ (x : ℕ). unchanged x m) (sym (sum-at m s ex)))
+
+  -- and what is so of each such sum is so of the answer
+  pub known-sum : (good' : List ℕ → Type 0) (words' : ℕ) → SameMemories good good' → words' ≡ words → IsExplained good' words' k → (P : ℕ → Type 0) → ((m : List ℕ) → IsSound rule words m → P (sum_in start end m)) → P total
+  known-sum good' words' also count seen P then = known rule good words same l fresh (placed start r.found) k r.read good' words' also count seen (P total) (λ m s ex. subst P (sym (sum-at m s ex)) (then m s))
 
 -- a word of the first n is a part of their sum, which a write of it changes by as much
 module _ (m : List ℕ) (n a : ℕ) (lt : a < n) (le : n ≤ length m) where

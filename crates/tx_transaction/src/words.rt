@@ -66,6 +66,7 @@ pub fn read_sum<A: Access>(memory: &mut A, range: Range<usize>) -> Result<u64, S
     requires within { (range.start < range.end) × (range.end ≤ A.words memory.old) }
     ensures read { IfOk result (λ sum. SumRead (A.words memory.old) (A.log memory.old) range.start range.end sum (A.log memory.new)) }
     ensures known { A.log memory.old ≡ nothing → IfOk result (λ sum. HasSum (A.good memory.old) (A.words memory.old) range.start range.end sum) }
+    ensures writes { OnOk result ((A.log memory.new).writes ≡ (A.log memory.old).writes) }
     ensures explained { OnOk result (IsExplained (A.good memory.new) (A.words memory.new) (A.log memory.new)) }
     ensures goes { OnOk result (A.stopped memory.new ≡ None) }
     ensures stops { IfErr result (λ s. A.stopped memory.new ≡ Some s) }

@@ -1,6 +1,6 @@
 use Rattle.std.proofs.Common.{ℕ, ◌≡◌, ◌∙◌, refl, arith, subst}
 use Rattle.tx_effects.specs.EffectLaws.{same-trans}
-use Rattle.tx_transaction.specs.WordLaws.{HasSum, sum-more, sum-known}
+use Rattle.tx_transaction.specs.WordLaws.{HasSum, only-read, placed, sum-more, sum-known}
 use Rattle.tx_transaction.proofs.words.read_sum.Goals as goal
 
 pub loop-a-preserved : goal.loop-a-preserved
@@ -25,3 +25,6 @@ returns-clause-known g c fresh =
     let is : c.loop-a.a ≡ c.args.range.end = omega arith in
     subst (λ (end : ℕ). HasSum (g.A.Access.good c.args.memory.now) (g.A.Access.words c.args.memory.now) c.args.range.start end c.loop-a.sum) is
     (sum-known _ _ _ _ _ _ _ _ _ all.read (omega arith) all.good all.words (all.explained (omega arith)) fresh)
+
+pub returns-clause-writes : goal.returns-clause-writes
+returns-clause-writes g c = let read = c.loop-a.invariant.read in only-read _ _ (placed c.args.range.start read.found) _ read.read
