@@ -1,9 +1,10 @@
 //! Some words read or written one after the other, for transactions that read what they need and then write.
-ghost use Rattle.std.specs.Prelude.{◌≡◌, ◌<◌, [], ◌∷◌, None, Some, IfOk, OnOk, IfErr};
+ghost use Rattle.std.specs.Prelude.{◌≡◌, ◌<◌, ◌≤◌, [], ◌∷◌, None, Some, IfOk, OnOk, IfErr};
 ghost use Rattle.stm_model.specs.Logs.{SameMemories, IsExplained};
 ghost use Rattle.tx_effects.specs.FreshLaws.{nothing};
-ghost use Rattle.tx_transaction.specs.WordLaws.{AllRead, AllWritten, IsKnown};
+ghost use Rattle.tx_transaction.specs.WordLaws.{AllRead, AllWritten, IsKnown, HasSum, SumRead};
 
+use std::ops::Range;
 use stm_model::access::Access;
 use stm_model::stop::Stop;
 
@@ -53,6 +54,32 @@ pub fn read_three<A: Access>(
     let second = memory.read(b)?;
     let third = memory.read(c)?;
     Ok((first, second, third))
+}
+
+/// Reads the words of this range one after the other, and answers their sum, modulo 2^64. In an attempt that had done
+/// nothing some good memory has it.
+///
+/// # Errors
+/// The Stop of the access.
+pub fn read_sum<A: Access>(memory: &mut A, range: Range<usize>) -> Result<u64, Stop>
+    requires going { A.stopped memory.old ≡ None }
+    requires within { (range.start < range.end) × (range.end ≤ A.words memory.old) }
+    ensures read { IfOk result (λ sum. SumRead (A.words memory.old) (A.log memory.old) range.start range.end sum (A.log memory.new)) }
+    ensures known { A.log memory.old ≡ nothing → IfOk result (λ sum. HasSum (A.good memory.old) (A.words memory.old) range.start range.end sum) }
+    ensures writes { OnOk result ((A.log memory.new).writes ≡ (A.log memory.old).writes) }
+    ensures explained { OnOk result (IsExplained (A.good memory.new) (A.words memory.new) (A.log memory.new)) }
+    ensures goes { OnOk result (A.stopped memory.new ≡ None) }
+    ensures stops { IfErr result (λ s. A.stopped memory.new ≡ Some s) }
+    ensures good { SameMemories (A.good memory.old) (A.good memory.new) }
+    ensures words { A.words memory.new ≡ A.words memory.old }
+    ensures keeps { A.keeps memory.old memory.new }
+{
+    let mut sum: u64 = 0;
+    for a in range.start..range.end {
+        let value = memory.read(a)?;
+        sum = sum.wrapping_add(value);
+    }
+    Ok(sum)
 }
 
 /// Writes two words, each an address and its value.
